@@ -1,0 +1,6 @@
+pub mod Words
+pub mod Places
+pub mod Rows
+pub mod Sound
+pub mod Slots
+pub mod Loaded
