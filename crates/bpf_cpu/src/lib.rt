@@ -2,7 +2,9 @@
 #![tactic(auto)]
 
 pub mod cpu;
+mod execute;
 pub mod outcome;
+mod step;
 
 pub use cpu::Cpu;
 pub use outcome::{Fault, Outcome, Turn};
