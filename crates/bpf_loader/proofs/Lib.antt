@@ -1,2 +1,2 @@
-pub mod Layout
-pub mod Soundness
+pub mod SlotLemmas
+pub mod SoundLemmas

@@ -1,4 +1,3 @@
-pub mod Words
 pub mod Places
 pub mod Rows
 pub mod Sound

@@ -80,6 +80,26 @@ goes_on (insn.Atomic w op b o s) = true
 goes_on (insn.LoadNumber d n) = true
 goes_on (insn.LoadMap d m) = true
 
+-- how many words further the next instruction begins, where a run may come to it
+abbrev pub stride : Insn → Option ℕ
+stride (insn.Alu w op d s) = Some 1
+stride (insn.Negate w d) = Some 1
+stride (insn.SignExtend e d s) = Some 1
+stride (insn.SwapBytes k w d) = Some 1
+stride (insn.Jump o) = None
+stride (insn.JumpLong o) = None
+stride (insn.JumpIf w c d s o) = Some 1
+stride (insn.CallHelper n) = Some 1
+stride (insn.CallLocal o) = Some 1
+stride insn.Exit = None
+stride (insn.Load z d b o) = Some 1
+stride (insn.LoadSigned z d b o) = Some 1
+stride (insn.StoreImmediate z b o v) = Some 1
+stride (insn.Store z b o s) = Some 1
+stride (insn.Atomic w op b o s) = Some 1
+stride (insn.LoadNumber d n) = Some 2
+stride (insn.LoadMap d m) = Some 2
+
 -- the helper that is called
 abbrev pub helper_of : Insn → Option ℕ
 helper_of (insn.CallHelper number) = Some number
