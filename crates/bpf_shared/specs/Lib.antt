@@ -1,4 +1,6 @@
+pub mod First
 pub mod Shape
+pub mod Refusals
 pub mod Bytes
 pub mod Store
 pub mod Events

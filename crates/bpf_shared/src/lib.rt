@@ -7,5 +7,5 @@ mod shapes;
 mod sharing;
 
 pub use events::{AtomicOp, Entry, Event, MapAnswer, Size, Span, ValuePlace};
-pub use shapes::{MapShape, StoreShape};
+pub use shapes::{MapShape, ShapeError, StoreShape};
 pub use sharing::{Shared, Worn};
