@@ -4,6 +4,7 @@
 pub mod cpu;
 mod execute;
 pub mod outcome;
+mod run;
 mod step;
 
 pub use cpu::Cpu;
