@@ -3,9 +3,11 @@
 
 pub mod cpu;
 mod execute;
+mod held;
 pub mod outcome;
 mod run;
 mod step;
 
 pub use cpu::Cpu;
+pub use held::HeldSpans;
 pub use outcome::{Fault, Outcome, Turn};

@@ -8,7 +8,7 @@ pub returns-in-Done-clause-steps : goal.returns-in-Done-clause-steps
 returns-in-Done-clause-steps g c =
     let inv = c.steps.invariant in
     made_all g.S.Shared.passes g.S.Shared.serves g.met.S.Shared.follows g.S.Shared.shapes c.args.program.now c.args.budget c.args.self.now c.args.shared.now
-        c.steps._step c.steps.shared c.step.new.shared c.steps.self c.step.new.self c.steps-test.true inv.number inv.shapes inv.under_way c.in-Done.outcome c.in-Done.ensures.step
+    c.steps._step c.steps.shared c.step.new.shared c.steps.self c.step.new.self c.steps-test.true inv.number inv.shapes inv.under_way c.in-Done.outcome c.in-Done.ensures.step
 
 pub steps-preserved : goal.steps-preserved
 steps-preserved g c =
