@@ -4,6 +4,7 @@
 pub mod cpu;
 mod execute;
 mod held;
+mod local_call;
 pub mod outcome;
 mod run;
 mod step;

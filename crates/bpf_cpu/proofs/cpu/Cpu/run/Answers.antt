@@ -5,7 +5,11 @@ use Rattle.bpf_shared.specs.declared.shapes.MapShape.{MapShape}
 use Rattle.bpf_shared.specs.Passage.{Calls}
 use Rattle.bpf_shared.specs.Chain.{Chain, chain_one, chain_join, chain_call}
 use Rattle.bpf_cpu.specs.Step.{Steps}
+use Rattle.bpf_cpu.proofs.RowLaws.{start_ready}
 use Rattle.bpf_cpu.proofs.cpu.Cpu.run.Goals as goal
+
+pub make_steps-outcome-requires-clause-ready : goal.make_steps-outcome-requires-clause-ready
+make_steps-outcome-requires-clause-ready g c = start_ready c.args.program.now c.args.self.now c.requires.fresh.0 c.requires.fresh.1 c.starts.ensures
 
 -- the run's begin, its steps and its end follow each other
 pub returns-in-Ok-clause-explained : goal.returns-in-Ok-clause-explained
