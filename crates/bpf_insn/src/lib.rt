@@ -1,10 +1,13 @@
 //! BPF instructions as values, and as bytes, after RFC 9669.
 #![tactic(auto)]
 
+mod codes;
 pub mod error;
 mod fault;
 pub mod instruction;
+mod operands;
 pub mod operation;
+mod reading;
 pub mod register;
 mod word;
 
