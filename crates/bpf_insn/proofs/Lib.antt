@@ -1,3 +1,6 @@
 pub mod Registers
 pub mod Fields
 pub mod Dispatch
+pub mod Spelling
+pub mod Cover
+pub mod Law
