@@ -1,48 +1,27 @@
 -- Each word is of a row, or is read as one of no row.
-use Rattle.std.proofs.Common.{◌≡◌, ◌≢◌, ℕ, ℤ, zero, suc, ◌+◌, ◌*◌, ◌/◌, ◌%◌, ◌^◌, ◌<◌, ◌≤◌, ◌⊎◌, inl, inr, cond, Bool, true, false, List, [], ◌∷◌, Option, Some, None, Result, Ok, Err, refl, sym, ap, subst, ◌∙◌, arith, rules}
-use Rattle.std.specs.Prelude.{FitsSigned, find, ◌&&◌, ◌||◌, ◌==◌}
+use Rattle.std.proofs.Common.{◌≡◌, ◌≢◌, ℕ, ◌/◌, ◌%◌, cond, Bool, true, false, List, [], ◌∷◌, Option, Some, None, Result, Err, refl, sym, arith}
+use Rattle.std.specs.Prelude.{find, ◌&&◌, ◌==◌}
 use Rattle.std.specs.Option.{ok_or}
-use Rattle.std.specs.Int.{w16, w32, cast_signed, cast_unsigned}
-use Rattle.std.proofs.lemmas.Bool.{eqb-true, eqb-false, eq-eqb, false≢true}
-use Rattle.bpf_insn.specs.Register.{number_of}
-use Rattle.bpf_insn.specs.Codes.{opcode_k, opcode_x, opcode_memory, alu_class, alu_code, negate_code, extension_opcode, extension_offset, swap_opcode, swap_bits, jump_class, condition_code, size_code, signed_size_code, atomic_size_code, memory_mode, signed_mode, atomic_mode, atomic_code}
-use Rattle.bpf_insn.specs.Table.{Field, Unused, Selects, Holds, Second, NoSecond, Wide, Row, row_of, offset_k, offset_x, words, word_count}
-use Rattle.bpf_insn.specs.Encoding.{value_of, first_word, second_word, IsFollowed, IsSpelled, Fits, window_at, word_at}
-use Rattle.bpf_insn.specs.Refusal.{Selected, IsOfRow, IsZeroed, IsZeroedSecond, IsClean, IsWhole, IsRegister, HasRegisters, Applies, IsFirst, number_of as rank_of}
-use Rattle.bpf_insn.specs.Lookup.{register_at, selects, alu_ops, alu_op_at, extensions, extension_at, byte_swaps, byte_swap_at, swap_widths, swap_width_at, conditions, condition_at, sizes, size_at, signed_sizes, signed_size_at, atomic_width_at, atomic_ops, atomic_op_at}
-use Rattle.bpf_insn.specs.Reading.{◌>>=◌, uses, wide_uses, is_blank, is_clean_second, is_clean, high_at, operands, registers_at, operands_at, is_told_by_offset, negate_at, swap_bytes_at, sign_extend_at, move_at, alu_immediate_at, alu_register_at, arithmetic_at, jump_at, jump_long_at, call_at, exit_at, jump_if_immediate_at, jump_if_register_at, jumps_at, load_at, load_signed_at, store_immediate_at, store_at, atomic_at, load_number_at, load_map_at, wide_at, loads_at, immediate_stores_at, stores_at, instruction_at}
-use Rattle.bpf_insn.specs.declared.register.Reg.{Reg}
-use Rattle.bpf_insn.specs.declared.register.Reg.TheVariants.{R0, R1}
+use Rattle.std.specs.Int.{w16, w32, cast_signed}
+use Rattle.std.proofs.lemmas.Bool.{eqb-true, eqb-false}
+use Rattle.bpf_insn.specs.Codes.{opcode_k, opcode_x, opcode_memory, alu_class, alu_code, negate_code, extension_opcode, extension_offset, swap_opcode, swap_bits, jump_class, condition_code, size_code, signed_size_code, atomic_size_code, atomic_code}
+use Rattle.bpf_insn.specs.Table.{Field, Unused, Selects, Holds, row_of, offset_k, offset_x}
+use Rattle.bpf_insn.specs.Refusal.{Selected, IsOfRow}
+use Rattle.bpf_insn.specs.Lookup.{selects, alu_ops, alu_op_at, extensions, extension_at, byte_swaps, byte_swap_at, swap_widths, swap_width_at, conditions, condition_at, sizes, size_at, signed_sizes, signed_size_at, atomic_width_at, atomic_ops, atomic_op_at}
+use Rattle.bpf_insn.specs.Reading.{◌>>=◌, negate_at, swap_bytes_at, sign_extend_at, move_at, alu_immediate_at, alu_register_at, arithmetic_at, call_at, jump_if_immediate_at, jump_if_register_at, jumps_at, load_at, load_signed_at, store_immediate_at, store_at, atomic_at, wide_at, loads_at, immediate_stores_at, stores_at, instruction_at}
+use Rattle.bpf_insn.specs.declared.register.Reg.TheVariants.{R0}
 use Rattle.bpf_insn.specs.declared.operation.Width.{Width}
 use Rattle.bpf_insn.specs.declared.operation.Width.TheVariants.{Bits32, Bits64}
 use Rattle.bpf_insn.specs.declared.operation.AluOp.{AluOp}
 use Rattle.bpf_insn.specs.declared.operation.AluOp.TheVariants as alu
-use Rattle.bpf_insn.specs.declared.operation.Condition.{Condition}
-use Rattle.bpf_insn.specs.declared.operation.Condition.TheVariants as condition
 use Rattle.bpf_insn.specs.declared.operation.SignExtension.{SignExtension}
-use Rattle.bpf_insn.specs.declared.operation.SignExtension.TheVariants.{From8To32, From16To32, From8To64, From16To64, From32To64}
-use Rattle.bpf_insn.specs.declared.operation.ByteSwap.{ByteSwap}
-use Rattle.bpf_insn.specs.declared.operation.ByteSwap.TheVariants.{ToLittle, ToBig, Reverse}
-use Rattle.bpf_insn.specs.declared.operation.SwapWidth.{SwapWidth}
-use Rattle.bpf_insn.specs.declared.operation.SwapWidth.TheVariants as swap_width
-use Rattle.bpf_insn.specs.declared.operation.Size.{Size}
-use Rattle.bpf_insn.specs.declared.operation.Size.TheVariants as size
-use Rattle.bpf_insn.specs.declared.operation.SignedSize.{SignedSize}
-use Rattle.bpf_insn.specs.declared.operation.SignedSize.TheVariants as signed_size
-use Rattle.bpf_insn.specs.declared.operation.AtomicOp.{AtomicOp}
-use Rattle.bpf_insn.specs.declared.operation.AtomicOp.TheVariants as atomic
-use Rattle.bpf_insn.specs.declared.instruction.Operand.{Operand}
 use Rattle.bpf_insn.specs.declared.instruction.Operand.TheVariants.{Immediate, Register}
 use Rattle.bpf_insn.specs.declared.instruction.Insn.{Insn}
 use Rattle.bpf_insn.specs.declared.instruction.Insn.TheVariants as insn
 use Rattle.bpf_insn.specs.declared.word.Word.{Word}
 use Rattle.bpf_insn.specs.declared.word.Window.{Window}
-use Rattle.bpf_insn.specs.declared.operands.Uses.{Uses}
-use Rattle.bpf_insn.specs.declared.operands.SecondUse.{SecondUse}
-use Rattle.bpf_insn.specs.declared.operands.SecondUse.TheVariants.{Absent, Zero, Number}
-use Rattle.bpf_insn.specs.declared.operands.Operands.{Operands}
 use Rattle.bpf_insn.specs.declared.fault.Fault.{Fault}
-use Rattle.bpf_insn.specs.declared.fault.Fault.TheVariants.{UnknownOpcode, ReservedNotZero, HalfWide, BadRegister}
+use Rattle.bpf_insn.specs.declared.fault.Fault.TheVariants.{UnknownOpcode}
 use Rattle.bpf_insn.proofs.Fields.{and_true}
 
 pub data Covered (w : Window) (r : Result Insn Fault) : Type 0 where
@@ -188,12 +167,12 @@ unfolding arithmetic_at
 cover_arithmetic width w c =
     cover_eq w (w.word.opcode / 16) 0xd _ _ (λ _. cover_swap_bytes w) (λ _.
     cover_eq w (w.word.opcode / 8 % 2) 0 _ _
-      (λ s. cover_eq w (w.word.opcode / 16) negate_code _ _
-        (λ e. cover_negate width w c s e)
-        (λ _. cover_alu_immediate width w c s))
-      (λ s. cover_eq w (w.word.opcode / 16) (alu_code alu.Mov) _ _
-        (λ e. cover_move width w (x_opcode w.word _ (alu_code alu.Mov) c s (sym e)))
-        (λ n. cover_alu_register width w c s n)))
+    (λ s. cover_eq w (w.word.opcode / 16) negate_code _ _
+    (λ e. cover_negate width w c s e)
+    (λ _. cover_alu_immediate width w c s))
+    (λ s. cover_eq w (w.word.opcode / 16) (alu_code alu.Mov) _ _
+    (λ e. cover_move width w (x_opcode w.word _ (alu_code alu.Mov) c s (sym e)))
+    (λ n. cover_alu_register width w c s n)))
 
 -- ---- jumps
 
@@ -202,8 +181,8 @@ unfolding call_at
 cover_call w e = cover_eq w _ _ _ _
     (λ z. OfRow (insn.CallHelper 0) (record { opcode = e; dst = tt; src = z; offset = tt; imm = tt }))
     (λ _. cover_eq w _ _ _ _
-      (λ z. OfRow (insn.CallLocal (cast_signed w32 0)) (record { opcode = e; dst = tt; src = z; offset = tt; imm = tt }))
-      (λ _. OfNone refl))
+    (λ z. OfRow (insn.CallLocal (cast_signed w32 0)) (record { opcode = e; dst = tt; src = z; offset = tt; imm = tt }))
+    (λ _. OfNone refl))
 
 cover_jump_immediate : (width : Width) (w : Window) → w.word.opcode % 8 ≡ jump_class width → w.word.opcode / 8 % 2 ≡ 0 → Covered w (jump_if_immediate_at width w)
 unfolding jump_if_immediate_at
@@ -256,8 +235,8 @@ unfolding wide_at
 cover_wide w = cover_eq w _ _ _ _ (λ e. cover_eq w _ _ _ _
     (λ z. OfRow (insn.LoadNumber R0 0) (record { opcode = e; dst = tt; src = z; offset = tt; imm = tt }))
     (λ _. cover_eq w _ _ _ _
-      (λ z. OfRow (insn.LoadMap R0 0) (record { opcode = e; dst = tt; src = z; offset = tt; imm = tt }))
-      (λ _. OfNone refl)))
+    (λ z. OfRow (insn.LoadMap R0 0) (record { opcode = e; dst = tt; src = z; offset = tt; imm = tt }))
+    (λ _. OfNone refl)))
     (λ _. OfNone refl)
 
 cover_loads : (w : Window) → w.word.opcode % 8 ≡ 1 → Covered w (loads_at w)

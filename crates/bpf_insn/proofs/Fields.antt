@@ -1,40 +1,14 @@
 -- What the checks of the fields of a word say of a row.
-use Rattle.std.proofs.Common.{◌≡◌, ◌≢◌, ℕ, ℤ, zero, suc, ◌+◌, ◌*◌, ◌/◌, ◌%◌, ◌^◌, ◌<◌, ◌≤◌, ◌⊎◌, inl, inr, cond, Bool, true, false, List, [], ◌∷◌, Option, Some, None, Result, Ok, Err, refl, sym, ap, subst, ◌∙◌, arith, rules}
-use Rattle.std.specs.Prelude.{FitsSigned, find, ◌&&◌, ◌||◌, ◌==◌}
+use Rattle.std.proofs.Common.{◌≡◌, ℕ, ◌<◌, ◌⊎◌, inl, inr, cond, Bool, true, false, Option, Some, None, Result, Ok, Err, refl, sym, ap, ◌∙◌}
+use Rattle.std.specs.Prelude.{◌&&◌, ◌||◌, ◌==◌}
 use Rattle.std.specs.Option.{ok_or}
-use Rattle.std.specs.Int.{w16, w32, cast_signed, cast_unsigned}
-use Rattle.std.proofs.lemmas.Bool.{eqb-true, eqb-false, eq-eqb, false≢true}
+use Rattle.std.proofs.lemmas.Bool.{eqb-true, eq-eqb}
 use Rattle.bpf_insn.specs.Register.{number_of}
-use Rattle.bpf_insn.specs.Codes.{opcode_k, opcode_x, opcode_memory, alu_class, alu_code, negate_code, extension_opcode, extension_offset, swap_opcode, swap_bits, jump_class, condition_code, size_code, signed_size_code, atomic_size_code, memory_mode, signed_mode, atomic_mode, atomic_code}
-use Rattle.bpf_insn.specs.Table.{Field, Unused, Selects, Holds, Second, NoSecond, Wide, Row, row_of, offset_k, offset_x, words, word_count}
-use Rattle.bpf_insn.specs.Encoding.{value_of, first_word, second_word, IsFollowed, IsSpelled, Fits, window_at, word_at}
-use Rattle.bpf_insn.specs.Refusal.{Selected, IsOfRow, IsZeroed, IsZeroedSecond, IsClean, IsWhole, IsRegister, HasRegisters, Applies, IsFirst, number_of as rank_of}
-use Rattle.bpf_insn.specs.Lookup.{register_at, selects, alu_ops, alu_op_at, extensions, extension_at, byte_swaps, byte_swap_at, swap_widths, swap_width_at, conditions, condition_at, sizes, size_at, signed_sizes, signed_size_at, atomic_width_at, atomic_ops, atomic_op_at}
-use Rattle.bpf_insn.specs.Reading.{◌>>=◌, uses, wide_uses, is_blank, is_clean_second, is_clean, high_at, operands, registers_at, operands_at, is_told_by_offset, negate_at, swap_bytes_at, sign_extend_at, move_at, alu_immediate_at, alu_register_at, arithmetic_at, jump_at, jump_long_at, call_at, exit_at, jump_if_immediate_at, jump_if_register_at, jumps_at, load_at, load_signed_at, store_immediate_at, store_at, atomic_at, load_number_at, load_map_at, wide_at, loads_at, immediate_stores_at, stores_at, instruction_at}
+use Rattle.bpf_insn.specs.Table.{Field, Unused, Selects, Holds, Second, NoSecond, Wide, Row}
+use Rattle.bpf_insn.specs.Refusal.{IsZeroed, IsZeroedSecond, IsClean, IsWhole}
+use Rattle.bpf_insn.specs.Lookup.{register_at}
+use Rattle.bpf_insn.specs.Reading.{◌>>=◌, is_blank, is_clean_second, is_clean, high_at, operands, registers_at, operands_at}
 use Rattle.bpf_insn.specs.declared.register.Reg.{Reg}
-use Rattle.bpf_insn.specs.declared.register.Reg.TheVariants.{R0, R1}
-use Rattle.bpf_insn.specs.declared.operation.Width.{Width}
-use Rattle.bpf_insn.specs.declared.operation.Width.TheVariants.{Bits32, Bits64}
-use Rattle.bpf_insn.specs.declared.operation.AluOp.{AluOp}
-use Rattle.bpf_insn.specs.declared.operation.AluOp.TheVariants as alu
-use Rattle.bpf_insn.specs.declared.operation.Condition.{Condition}
-use Rattle.bpf_insn.specs.declared.operation.Condition.TheVariants as condition
-use Rattle.bpf_insn.specs.declared.operation.SignExtension.{SignExtension}
-use Rattle.bpf_insn.specs.declared.operation.SignExtension.TheVariants.{From8To32, From16To32, From8To64, From16To64, From32To64}
-use Rattle.bpf_insn.specs.declared.operation.ByteSwap.{ByteSwap}
-use Rattle.bpf_insn.specs.declared.operation.ByteSwap.TheVariants.{ToLittle, ToBig, Reverse}
-use Rattle.bpf_insn.specs.declared.operation.SwapWidth.{SwapWidth}
-use Rattle.bpf_insn.specs.declared.operation.SwapWidth.TheVariants as swap_width
-use Rattle.bpf_insn.specs.declared.operation.Size.{Size}
-use Rattle.bpf_insn.specs.declared.operation.Size.TheVariants as size
-use Rattle.bpf_insn.specs.declared.operation.SignedSize.{SignedSize}
-use Rattle.bpf_insn.specs.declared.operation.SignedSize.TheVariants as signed_size
-use Rattle.bpf_insn.specs.declared.operation.AtomicOp.{AtomicOp}
-use Rattle.bpf_insn.specs.declared.operation.AtomicOp.TheVariants as atomic
-use Rattle.bpf_insn.specs.declared.instruction.Operand.{Operand}
-use Rattle.bpf_insn.specs.declared.instruction.Operand.TheVariants.{Immediate, Register}
-use Rattle.bpf_insn.specs.declared.instruction.Insn.{Insn}
-use Rattle.bpf_insn.specs.declared.instruction.Insn.TheVariants as insn
 use Rattle.bpf_insn.specs.declared.word.Word.{Word}
 use Rattle.bpf_insn.specs.declared.word.Window.{Window}
 use Rattle.bpf_insn.specs.declared.operands.Uses.{Uses}

@@ -4,3 +4,5 @@ pub mod Dispatch
 pub mod Spelling
 pub mod Cover
 pub mod Law
+pub mod Program
+pub mod Bytes

@@ -5,3 +5,4 @@ pub mod Encoding
 pub mod Refusal
 pub mod Lookup
 pub mod Reading
+pub mod Writing

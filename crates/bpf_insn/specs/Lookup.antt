@@ -1,5 +1,5 @@
 -- RFC 9669, sections 4 and 5, the other way round: the operation that has a number, if one has it.
-use Rattle.std.specs.Prelude.{ℕ, Bool, true, false, ◌==◌, ◌&&◌, List, [], ◌∷◌, find, Option, Some, None, slice_get}
+use Rattle.std.specs.Prelude.{ℕ, Bool, true, ◌==◌, ◌&&◌, List, [], ◌∷◌, find, Option, slice_get}
 use Rattle.bpf_insn.specs.Codes.{alu_code, condition_code, extension_opcode, extension_offset, swap_opcode, swap_bits, size_code, signed_size_code, atomic_size_code, atomic_code}
 use Rattle.bpf_insn.specs.Table.{Field, Unused, Selects, Holds, offset_k}
 use Rattle.bpf_insn.specs.declared.register.Reg.{Reg}

@@ -1,15 +1,16 @@
 -- One instruction read from its words, or the first thing that is wrong there: what the private
 -- functions of the decoder compute. That it is what the table says stands in proofs/Law.
-use Rattle.std.specs.Prelude.{◌≡◌, ℕ, ◌+◌, ◌*◌, ◌/◌, ◌%◌, ◌^◌, Bool, true, false, ◌==◌, ◌&&◌, ◌||◌, Option, Some, None, Result, Ok, Err, if◌then◌else◌}
+use Rattle.std.specs.Prelude.{ℕ, ◌+◌, ◌*◌, ◌/◌, ◌%◌, ◌^◌, Bool, true, false, ◌==◌, ◌&&◌, ◌||◌, Option, Some, None, Result, Ok, Err, if◌then◌else◌}
 use Rattle.std.specs.Int.{w16, w32, cast_signed}
 use Rattle.std.specs.Option.{ok_or}
 use Rattle.bpf_insn.specs.Lookup.{register_at, alu_op_at, extension_at, byte_swap_at, swap_width_at, condition_at, size_at, signed_size_at, atomic_width_at, atomic_op_at}
+use Rattle.bpf_insn.specs.Refusal.{error_at}
+use Rattle.bpf_insn.specs.declared.error.InsnError.{InsnError}
 use Rattle.bpf_insn.specs.declared.register.Reg.{Reg}
 use Rattle.bpf_insn.specs.declared.operation.Width.{Width}
 use Rattle.bpf_insn.specs.declared.operation.Width.TheVariants.{Bits32, Bits64}
 use Rattle.bpf_insn.specs.declared.operation.AluOp.{AluOp}
 use Rattle.bpf_insn.specs.declared.operation.AluOp.TheVariants as alu
-use Rattle.bpf_insn.specs.declared.instruction.Operand.{Operand}
 use Rattle.bpf_insn.specs.declared.instruction.Operand.TheVariants.{Immediate, Register}
 use Rattle.bpf_insn.specs.declared.instruction.Insn.{Insn}
 use Rattle.bpf_insn.specs.declared.instruction.Insn.TheVariants as insn
@@ -245,3 +246,8 @@ instruction_at w = if w.word.opcode % 8 == 0 then wide_at w
     else (if w.word.opcode % 8 == 5 then jumps_at Bits64 w
     else (if w.word.opcode % 8 == 6 then jumps_at Bits32 w
     else arithmetic_at Bits64 w))))))
+
+-- the same, with the pc in the refusal
+abbrev pub refused_at : ℕ → Result Insn Fault → Result Insn InsnError
+refused_at pc (Ok i) = Ok i
+refused_at pc (Err f) = Err (error_at f pc)

@@ -2,6 +2,8 @@
 #![tactic(auto)]
 
 mod codes;
+mod decoder;
+mod encoder;
 pub mod error;
 mod fault;
 pub mod instruction;
@@ -11,6 +13,8 @@ mod reading;
 pub mod register;
 mod word;
 
+pub use decoder::decode;
+pub use encoder::encode;
 pub use error::InsnError;
 pub use instruction::{Insn, Operand};
 pub use operation::{

@@ -1,10 +1,13 @@
 //! Arithmetic by its codes (RFC 9669, section 4.1).
 
-ghost use Rattle.std.specs.Prelude.{◌≡◌};
+ghost use Rattle.std.specs.Prelude.{◌≡◌, ◌<◌};
+ghost use Rattle.bpf_insn.specs.Codes.{alu_class, alu_code, extension_opcode, extension_offset};
+ghost use Rattle.bpf_insn.specs.Table.{offset_k, offset_x};
+ghost use Rattle.bpf_insn.specs.Encoding.{value_of};
 ghost use Rattle.bpf_insn.specs.Lookup.{alu_op_at, extension_at};
 ghost use Rattle.bpf_insn.specs.Reading.{is_told_by_offset};
 
-use crate::operation::{AluOp, SignExtension};
+use crate::operation::{AluOp, SignExtension, Width};
 
 impl AluOp {
     /// The operation of this code; of a division the offset says whether it is signed.
@@ -31,6 +34,38 @@ impl AluOp {
         }
     }
 
+    /// Its code, shared by unsigned and signed division.
+    pub(crate) fn code(self) -> u8
+        ensures value { result ≡ alu_code self }
+        ensures small { result < 16 }
+    {
+        match self {
+            AluOp::Add => 0x0,
+            AluOp::Sub => 0x1,
+            AluOp::Mul => 0x2,
+            AluOp::Div | AluOp::Sdiv => 0x3,
+            AluOp::Or => 0x4,
+            AluOp::And => 0x5,
+            AluOp::Lsh => 0x6,
+            AluOp::Rsh => 0x7,
+            AluOp::Mod | AluOp::Smod => 0x9,
+            AluOp::Xor => 0xa,
+            AluOp::Mov => 0xb,
+            AluOp::Arsh => 0xc,
+        }
+    }
+
+    /// Its offset.
+    pub(crate) fn offset(self) -> u16
+        ensures k { result ≡ value_of (offset_k self) }
+        ensures x { result ≡ value_of (offset_x self) }
+    {
+        match self {
+            AluOp::Sdiv | AluOp::Smod => 1,
+            _ => 0,
+        }
+    }
+
     /// The offset tells this operation from another.
     pub(crate) fn is_told_by_offset(self) -> bool
         ensures { result ≡ is_told_by_offset self }
@@ -52,6 +87,32 @@ impl SignExtension {
             (0xbf, 16) => Some(SignExtension::From16To64),
             (0xbf, 32) => Some(SignExtension::From32To64),
             _ => None,
+        }
+    }
+
+    /// Its opcode and its offset.
+    pub(crate) fn codes(self) -> (u8, u16)
+        ensures opcode { result.0 ≡ extension_opcode self }
+        ensures offset { result.1 ≡ extension_offset self }
+    {
+        match self {
+            SignExtension::From8To32 => (0xbc, 8),
+            SignExtension::From16To32 => (0xbc, 16),
+            SignExtension::From8To64 => (0xbf, 8),
+            SignExtension::From16To64 => (0xbf, 16),
+            SignExtension::From32To64 => (0xbf, 32),
+        }
+    }
+}
+
+impl Width {
+    /// ALU or ALU64.
+    pub(crate) fn alu_class(self) -> u8
+        ensures { result ≡ alu_class self }
+    {
+        match self {
+            Width::Bits32 => 4,
+            Width::Bits64 => 7,
         }
     }
 }

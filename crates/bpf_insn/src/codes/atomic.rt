@@ -1,6 +1,7 @@
 //! Atomic operations by their immediates and sizes (RFC 9669, section 5.3).
 
-ghost use Rattle.std.specs.Prelude.{◌≡◌};
+ghost use Rattle.std.specs.Prelude.{◌≡◌, ◌<◌};
+ghost use Rattle.bpf_insn.specs.Codes.{atomic_code, atomic_size_code};
 ghost use Rattle.bpf_insn.specs.Lookup.{atomic_op_at, atomic_width_at};
 
 use crate::operation::{AtomicOp, Width};
@@ -25,6 +26,23 @@ impl AtomicOp {
             _ => None,
         }
     }
+
+    pub(crate) fn code(self) -> u32
+        ensures { result ≡ atomic_code self }
+    {
+        match self {
+            AtomicOp::Add => 0x00,
+            AtomicOp::Or => 0x40,
+            AtomicOp::And => 0x50,
+            AtomicOp::Xor => 0xa0,
+            AtomicOp::FetchAdd => 0x01,
+            AtomicOp::FetchOr => 0x41,
+            AtomicOp::FetchAnd => 0x51,
+            AtomicOp::FetchXor => 0xa1,
+            AtomicOp::Exchange => 0xe1,
+            AtomicOp::CompareExchange => 0xf1,
+        }
+    }
 }
 
 impl Width {
@@ -37,6 +55,16 @@ impl Width {
             0 => Some(Width::Bits32),
             3 => Some(Width::Bits64),
             _ => None,
+        }
+    }
+
+    pub(crate) fn atomic_size(self) -> u8
+        ensures value { result ≡ atomic_size_code self }
+        ensures small { result < 4 }
+    {
+        match self {
+            Width::Bits32 => 0,
+            Width::Bits64 => 3,
         }
     }
 }

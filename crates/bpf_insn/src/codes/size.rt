@@ -1,6 +1,7 @@
 //! Sizes of loads and stores by their codes (RFC 9669, sections 5.1 and 5.2).
 
-ghost use Rattle.std.specs.Prelude.{◌≡◌};
+ghost use Rattle.std.specs.Prelude.{◌≡◌, ◌<◌};
+ghost use Rattle.bpf_insn.specs.Codes.{size_code, signed_size_code};
 ghost use Rattle.bpf_insn.specs.Lookup.{size_at, signed_size_at};
 
 use crate::operation::{SignedSize, Size};
@@ -19,6 +20,18 @@ impl Size {
             _ => None,
         }
     }
+
+    pub(crate) fn code(self) -> u8
+        ensures value { result ≡ size_code self }
+        ensures small { result < 4 }
+    {
+        match self {
+            Size::Word => 0,
+            Size::Half => 1,
+            Size::Byte => 2,
+            Size::Double => 3,
+        }
+    }
 }
 
 impl SignedSize {
@@ -32,6 +45,17 @@ impl SignedSize {
             1 => Some(SignedSize::Half),
             2 => Some(SignedSize::Byte),
             _ => None,
+        }
+    }
+
+    pub(crate) fn code(self) -> u8
+        ensures value { result ≡ signed_size_code self }
+        ensures small { result < 4 }
+    {
+        match self {
+            SignedSize::Word => 0,
+            SignedSize::Half => 1,
+            SignedSize::Byte => 2,
         }
     }
 }

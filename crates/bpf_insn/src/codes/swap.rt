@@ -1,6 +1,7 @@
 //! END by its opcodes and immediates (RFC 9669, section 4.2).
 
 ghost use Rattle.std.specs.Prelude.{◌≡◌};
+ghost use Rattle.bpf_insn.specs.Codes.{swap_opcode, swap_bits};
 ghost use Rattle.bpf_insn.specs.Lookup.{byte_swap_at, swap_width_at};
 
 use crate::operation::{ByteSwap, SwapWidth};
@@ -18,6 +19,16 @@ impl ByteSwap {
             _ => None,
         }
     }
+
+    pub(crate) fn opcode(self) -> u8
+        ensures { result ≡ swap_opcode self }
+    {
+        match self {
+            ByteSwap::ToLittle => 0xd4,
+            ByteSwap::ToBig => 0xdc,
+            ByteSwap::Reverse => 0xd7,
+        }
+    }
 }
 
 impl SwapWidth {
@@ -31,6 +42,16 @@ impl SwapWidth {
             32 => Some(SwapWidth::Bits32),
             64 => Some(SwapWidth::Bits64),
             _ => None,
+        }
+    }
+
+    pub(crate) fn bits(self) -> u32
+        ensures { result ≡ swap_bits self }
+    {
+        match self {
+            SwapWidth::Bits16 => 16,
+            SwapWidth::Bits32 => 32,
+            SwapWidth::Bits64 => 64,
         }
     }
 }
