@@ -1,6 +1,7 @@
 //! A virtual CPU: one step of a sound program, and a whole job, over any shared store.
 #![tactic(auto)]
 
+mod access;
 pub mod cpu;
 mod execute;
 mod held;

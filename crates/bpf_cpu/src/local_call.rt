@@ -3,9 +3,9 @@
 ghost use Rattle.std.specs.Prelude.{◌≡◌, ◌<◌, ◌+◌, ℕ, pos, ◌+ℤ◌};
 ghost use Rattle.bpf_cpu.specs.Row.{CallsLocal, Exits};
 
-use crate::cpu::{Cpu, frame_top};
+use crate::cpu::Cpu;
 use crate::outcome::{Fault, Outcome, Turn};
-use bpf_mem::frames::Caller;
+use bpf_mem::Caller;
 
 impl Cpu {
     /// Calls the function that begins this many words from the next instruction.
@@ -18,12 +18,11 @@ impl Cpu {
             return self.fault(Fault::CallDepth);
         }
         let [_, _, _, _, _, _, r6, r7, r8, r9, _] = self.registers;
-        let depth = self.memory.frames.depth();
         self.memory.frames.enter(Caller {
             return_pc: self.pc + 1,
             saved: [r6, r7, r8, r9],
         });
-        self.registers[10] = frame_top(depth);
+        self.registers[10] = self.memory.frames.top();
         self.jump(by);
         Turn::On
     }
@@ -32,8 +31,7 @@ impl Cpu {
     pub(crate) fn exit(&mut self) -> Turn
         ensures { Exits self.old result self.new }
     {
-        let depth = self.memory.frames.depth();
-        if depth == 1 {
+        if self.memory.frames.depth() == 1 {
             return Turn::Done(Outcome::Exit(self.registers[0]));
         }
         let caller = self.memory.frames.leave();
@@ -42,7 +40,7 @@ impl Cpu {
         self.registers[7] = r7;
         self.registers[8] = r8;
         self.registers[9] = r9;
-        self.registers[10] = frame_top(depth - 2);
+        self.registers[10] = self.memory.frames.top();
         self.pc = caller.return_pc;
         Turn::On
     }
