@@ -1,6 +1,4 @@
-use Rattle.std.proofs.Common.{◌≡◌, ℕ, List, ◌∙◌, subst, arith}
-use Rattle.bpf_shared.specs.declared.events.Event.{Event}
-use Rattle.bpf_cpu.specs.Step.{Steps}
+use Rattle.std.proofs.Common.{◌≡◌, ℕ, ◌∙◌, subst, arith}
 use Rattle.bpf_cpu.proofs.StepsLaws.{IsUnderWay, made_more, made_all, runs_out}
 use Rattle.bpf_cpu.proofs.cpu.Cpu.make_steps.Goals as goal
 
