@@ -1,9 +1,10 @@
 //! Instructions to bytes.
 
-ghost use Rattle.std.specs.Prelude.{◌≡◌, ◌++◌, OnOk, IfOk, IfErr, IfSome};
+ghost use Rattle.std.specs.Prelude.{◌≡◌, ◌++◌, FitsSigned, OnOk, IfOk, IfErr, IfSome};
+ghost use Rattle.std.specs.Int.{w16};
 ghost use Rattle.bpf_insn.specs.declared.error.InsnError.TheVariants as error;
 ghost use Rattle.bpf_insn.specs.declared.instruction.Insn.TheVariants as insn;
-ghost use Rattle.bpf_insn.specs.Table.{row_of};
+ghost use Rattle.bpf_insn.specs.Table.{Holds, row, register, offset as offset_field, row_of};
 ghost use Rattle.bpf_insn.specs.Encoding.{first_word, second_word, Fits, IsEncodedAs};
 ghost use Rattle.bpf_insn.specs.Writing.{insn_bytes, IsNarrow, IsWritable};
 
@@ -27,6 +28,21 @@ fn word(opcode: u8, dst: u8, src: u8, offset: u16, imm: u32) -> Word
     }
 }
 
+/// A word of two registers and an offset.
+fn with_registers(opcode: u8, dst: Reg, src: Reg, offset: i16, imm: u32) -> Word
+    ensures value { result ≡ first_word (row opcode (register dst) (register src) (offset_field offset) (Holds imm)) }
+    ensures fits { FitsSigned w16 offset }
+    ensures narrow { IsNarrow result }
+{
+    word(
+        opcode,
+        dst.number(),
+        src.number(),
+        offset.cast_unsigned(),
+        imm,
+    )
+}
+
 fn alu(width: Width, op: AluOp, dst: Reg, src: Operand) -> Word
     ensures value { result ≡ first_word (row_of (insn.Alu width op dst src)) }
     ensures fits { Fits (insn.Alu width op dst src) }
@@ -45,10 +61,12 @@ fn jump_if(width: Width, condition: Condition, dst: Reg, src: Operand, offset: i
     ensures narrow { IsNarrow result }
 {
     let opcode = width.jump_class() + 16 * condition.code();
-    let offset = offset.cast_unsigned();
     match src {
-        Operand::Immediate(imm) => word(opcode, dst.number(), 0, offset, imm.cast_unsigned()),
-        Operand::Register(src) => word(opcode + 8, dst.number(), src.number(), offset, 0),
+        Operand::Immediate(imm) => {
+            let offset = offset.cast_unsigned();
+            word(opcode, dst.number(), 0, offset, imm.cast_unsigned())
+        }
+        Operand::Register(src) => with_registers(opcode + 8, dst, src, offset, 0),
     }
 }
 
@@ -94,31 +112,13 @@ fn first_word(insn: Insn) -> Word
             dst,
             base,
             offset,
-        } => {
-            let opcode = 0x61 + 8 * size.code();
-            word(
-                opcode,
-                dst.number(),
-                base.number(),
-                offset.cast_unsigned(),
-                0,
-            )
-        }
+        } => with_registers(0x61 + 8 * size.code(), dst, base, offset, 0),
         Insn::LoadSigned {
             size,
             dst,
             base,
             offset,
-        } => {
-            let opcode = 0x81 + 8 * size.code();
-            word(
-                opcode,
-                dst.number(),
-                base.number(),
-                offset.cast_unsigned(),
-                0,
-            )
-        }
+        } => with_registers(0x81 + 8 * size.code(), dst, base, offset, 0),
         Insn::StoreImmediate {
             size,
             base,
@@ -126,45 +126,22 @@ fn first_word(insn: Insn) -> Word
             value,
         } => {
             let opcode = 0x62 + 8 * size.code();
-            word(
-                opcode,
-                base.number(),
-                0,
-                offset.cast_unsigned(),
-                value.cast_unsigned(),
-            )
+            let offset = offset.cast_unsigned();
+            word(opcode, base.number(), 0, offset, value.cast_unsigned())
         }
         Insn::Store {
             size,
             base,
             offset,
             src,
-        } => {
-            let opcode = 0x63 + 8 * size.code();
-            word(
-                opcode,
-                base.number(),
-                src.number(),
-                offset.cast_unsigned(),
-                0,
-            )
-        }
+        } => with_registers(0x63 + 8 * size.code(), base, src, offset, 0),
         Insn::Atomic {
             width,
             op,
             base,
             offset,
             src,
-        } => {
-            let opcode = 0xc3 + 8 * width.atomic_size();
-            word(
-                opcode,
-                base.number(),
-                src.number(),
-                offset.cast_unsigned(),
-                op.code(),
-            )
-        }
+        } => with_registers(0xc3 + 8 * width.atomic_size(), base, src, offset, op.code()),
         Insn::LoadNumber { dst, number } => {
             word(0x18, dst.number(), 0, 0, (number % 0x1_0000_0000) as u32)
         }

@@ -8,7 +8,7 @@ loop-pc-init c = rw c.new-insns.ensures.items (reached_start _ c.requires.whole)
 pub loop-pc-preserved : goal.loop-pc-preserved
 loop-pc-preserved c =
     let pushed : c.push.new.self.items ≡ c.loop-pc.insns.items ++ c.in_ok-insn.insn ∷ [] = search rules in
-    reached_next _ _ _ _ _ _ c.loop-pc.invariant (λ i. omega (arith, c.type_inv.bytes i)) c.loop-pc-test.true (sym c.in_ok-insn.was ∙ c.instruction_at.ensures) pushed c.words-pc.ensures
+    reached_next _ _ _ _ _ _ c.loop-pc.invariant (λ i. omega (arith, c.type_inv.bytes i)) c.loop-pc-test.true (sym c.in_ok-insn.was ∙ c.instruction_at.ensures) pushed (search rules)
 
 pub returns-in_err-insn-clause-only : goal.returns-in_err-insn-clause-only
 returns-in_err-insn-clause-only c is h =
