@@ -1,5 +1,5 @@
 -- No test of a store's shape applies exactly where the shape is in range.
-use Rattle.std.proofs.Common.{◌≡◌, ℕ, zero, suc, ◌+◌, ◌<◌, ◌≤◌, nat_lt, Bool, true, false, ◌||◌, List, [], ◌∷◌, ◌++◌, length, drop, get_or, Option, Some, None, slice_get, refl, ap, sym, ◌∙◌, arith}
+use Rattle.std.proofs.Common.{◌≡◌, ℕ, zero, suc, ◌+◌, ◌<◌, ◌≤◌, nat_lt, Bool, true, false, List, [], ◌∷◌, ◌++◌, length, drop, get_or, Some, None, slice_get, refl, ap, sym, ◌∙◌, arith}
 use Rattle.std.proofs.lemmas.Bool.Decides.{nat_tests}
 use Rattle.std.proofs.lemmas.List.{drop_more}
 use Rattle.bpf_shared.specs.declared.shapes.MapShape.{MapShape}
@@ -107,7 +107,7 @@ first_two true b ts e f = cc
 first_two false true ts e f = cc
 first_two false false ts e f = refl
 
-get_within : (hs : List MapShape) (m : ℕ) (d : MapShape) → m < length hs → slice_get hs m ≡ Some (get_or hs m d)
+pub get_within : (hs : List MapShape) (m : ℕ) (d : MapShape) → m < length hs → slice_get hs m ≡ Some (get_or hs m d)
 get_within [] m d l = absurd (omega arith)
 get_within (h ∷ hs) zero d l = refl
 get_within (h ∷ hs) (suc m) d l = get_within hs m d (omega arith)
