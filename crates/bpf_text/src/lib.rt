@@ -1,0 +1,11 @@
+//! Programs as text that people read and write: assembly text, and bytes as hex digits.
+#![tactic(auto)]
+
+pub mod error;
+pub mod hex_text;
+
+pub use error::TextError;
+pub use hex_text::{from_hex, to_hex};
+
+#[cfg(test)]
+mod tests;
