@@ -1,5 +1,6 @@
 -- The signs of the assembly language, each with its one spelling (our own choice).
-use Rattle.std.specs.Prelude.{ℕ, List, codes}
+use Rattle.std.specs.Prelude.{ℕ, List, [], ◌∷◌, codes, nat_eq, find, Option}
+use Rattle.std.specs.List.{starts_with}
 use Rattle.bpf_text.specs.declared.signs.Sign.{Sign}
 use Rattle.bpf_text.specs.declared.signs.Sign.TheVariants as sign
 
@@ -29,3 +30,11 @@ sign_text sign.Open = codes "("
 sign_text sign.Close = codes ")"
 sign_text sign.Comma = codes ","
 sign_text sign.Colon = codes ":"
+
+-- the signs, the longest first
+abbrev pub signs : List Sign
+signs = sign.ShlAssign ∷ sign.ShrAssign ∷ sign.AddAssign ∷ sign.SubAssign ∷ sign.MulAssign ∷ sign.DivAssign ∷ sign.OrAssign ∷ sign.AndAssign ∷ sign.RemAssign ∷ sign.XorAssign ∷ sign.Equal ∷ sign.NotEqual ∷ sign.AtLeast ∷ sign.AtMost ∷ sign.Assign ∷ sign.Above ∷ sign.Below ∷ sign.And ∷ sign.Plus ∷ sign.Minus ∷ sign.Star ∷ sign.Open ∷ sign.Close ∷ sign.Comma ∷ sign.Colon ∷ []
+
+-- the longest sign that the text begins with
+unfoldable pub sign_at : List ℕ → Option Sign
+sign_at text = find (λ s. starts_with nat_eq text (sign_text s)) signs

@@ -5,7 +5,11 @@ pub mod disassembly;
 pub mod error;
 pub mod hex_text;
 mod keywords;
+mod pieces;
+mod reading;
 mod signs;
+mod token;
+mod words;
 
 pub use disassembly::disassemble;
 pub use error::TextError;
