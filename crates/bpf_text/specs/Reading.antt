@@ -10,6 +10,8 @@ use Rattle.bpf_insn.specs.declared.operation.AluOp.{AluOp}
 use Rattle.bpf_insn.specs.declared.operation.AluOp.TheVariants as alu
 use Rattle.bpf_insn.specs.declared.operation.Condition.{Condition}
 use Rattle.bpf_insn.specs.declared.operation.Condition.TheVariants as cond
+use Rattle.bpf_insn.specs.declared.operation.ByteSwap.{ByteSwap}
+use Rattle.bpf_insn.specs.declared.operation.SwapWidth.{SwapWidth}
 use Rattle.bpf_insn.specs.declared.operation.SignExtension.{SignExtension}
 use Rattle.bpf_insn.specs.declared.operation.SignExtension.TheVariants as extend
 use Rattle.bpf_insn.specs.declared.operation.Size.TheVariants as size
@@ -179,9 +181,12 @@ abbrev pub ends : Insn → List Tok → Option Written
 ends i [] = plain i
 ends i (t ∷ ts) = None
 
+unfoldable pub alu_end : Width → Reg → AluOp → Operand → List Tok → Option Written
+alu_end w d op s ts = ends (insn.Alu w op d s) ts
+
 unfoldable pub alu_at : Width → Reg → Option AluOp → List Tok → Option Written
 alu_at w d None ts = None
-alu_at w d (Some op) ts = operand_at w ts >>= λ s. ends (insn.Alu w op d s.operand) s.rest
+alu_at w d (Some op) ts = operand_at w ts >>= λ s. alu_end w d op s.operand s.rest
 
 -- behind `(`
 unfoldable pub extend_at : Width → Reg → List Tok → Option Written
@@ -198,9 +203,12 @@ unfoldable pub load_at : Width → Reg → List Tok → Option Written
 load_at Bits32 d ts = None
 load_at Bits64 d ts = cell_at ts >>= λ c. loaded_at d c.size c.base c.offset c.rest
 
+unfoldable pub atomic_end : AtomicOp → Width → Reg → ℤ → Reg → List Tok → Option Written
+atomic_end op w b o s ts = ends (insn.Atomic w op b o s) ts
+
 -- behind an address, `, R)`
 unfoldable pub atomic_at : AtomicOp → Width → Reg → Reg → ℤ → List Tok → Option Written
-atomic_at op w d b o (Mark sign.Comma ∷ Register v s ∷ Mark sign.Close ∷ ts) = if same_width v w && same_register s d then ends (insn.Atomic w op b o d) ts else None
+atomic_at op w d b o (Mark sign.Comma ∷ Register v s ∷ Mark sign.Close ∷ ts) = if same_width v w && same_register s d then atomic_end op w b o d ts else None
 atomic_at op w d b o ts = None
 
 -- behind `= atomic_fetch_add`
@@ -215,7 +223,7 @@ exchange_at w d ts = None
 
 -- behind `r0 = cmpxchg_64(R + n, r0`
 unfoldable pub compared_at : Width → Reg → ℤ → List Tok → Option Written
-compared_at w b o (Mark sign.Comma ∷ Register v s ∷ Mark sign.Close ∷ ts) = if same_width v w then ends (insn.Atomic w atomic.CompareExchange b o s) ts else None
+compared_at w b o (Mark sign.Comma ∷ Register v s ∷ Mark sign.Close ∷ ts) = if same_width v w then atomic_end atomic.CompareExchange w b o s ts else None
 compared_at w b o ts = None
 
 -- behind `r0 = cmpxchg_64(R + n`
@@ -228,9 +236,9 @@ unfoldable pub compare_exchange_at : Width → Reg → List Tok → Option Writt
 compare_exchange_at w R0 (Mark sign.Open ∷ ts) = address_at ts >>= λ a. expected_at w a.base a.offset a.rest
 compare_exchange_at w d ts = None
 
-unfoldable pub swap_at : Width → Reg → Keyword → List Tok → Option Written
-swap_at Bits64 d (key.Swap k z) (Register Bits64 r ∷ ts) = if same_register r d then ends (insn.SwapBytes k z d) ts else None
-swap_at w d k ts = None
+unfoldable pub swap_at : Width → Reg → ByteSwap → SwapWidth → List Tok → Option Written
+swap_at Bits64 d k z (Register Bits64 r ∷ ts) = if same_register r d then ends (insn.SwapBytes k z d) ts else None
+swap_at w d k z ts = None
 
 unfoldable pub map_at : Width → Reg → List Tok → Option Written
 map_at Bits64 d (Number n ∷ ts) = ends (insn.LoadMap d n) ts
@@ -238,7 +246,7 @@ map_at w d ts = None
 
 -- behind `=` and a keyword
 unfoldable pub keyword_at : Width → Reg → Keyword → List Tok → Option Written
-keyword_at w d (key.Swap k z) ts = swap_at w d (key.Swap k z) ts
+keyword_at w d (key.Swap k z) ts = swap_at w d k z ts
 keyword_at w d key.Map ts = map_at w d ts
 keyword_at w d key.FetchAdd ts = fetch_at atomic.FetchAdd w d ts
 keyword_at w d key.FetchOr ts = fetch_at atomic.FetchOr w d ts
@@ -248,16 +256,24 @@ keyword_at w d (key.Exchange v) ts = if same_width v w then exchange_at w d ts e
 keyword_at w d (key.CompareExchange v) ts = if same_width v w then compare_exchange_at w d ts else None
 keyword_at w d k ts = None
 
+-- a number that is moved, where the line ends
+unfoldable pub moved_at : Width → Reg → ℤ → List Tok → Option Written
+moved_at w d z ts = ends (insn.Alu w alu.Mov d (operand.Immediate z)) ts
+
+-- behind `= n ll`
+unfoldable pub wide_at : Reg → ℕ → List Tok → Option Written
+wide_at d n ts = ends (insn.LoadNumber d n) ts
+
 -- behind `= -`
 unfoldable pub negative_at : Width → Reg → List Tok → Option Written
 negative_at w d (Register v r ∷ ts) = if same_width v w && same_register r d then ends (insn.Negate w d) ts else None
-negative_at w d (Number n ∷ ts) = ends (insn.Alu w alu.Mov d (operand.Immediate (neg_ℤ (pos n)))) ts
+negative_at w d (Number n ∷ ts) = moved_at w d (neg_ℤ (pos n)) ts
 negative_at w d ts = None
 
 -- behind `= n`
 unfoldable pub number_at : Width → Reg → ℕ → List Tok → Option Written
-number_at Bits64 d n (Word key.Wide ∷ ts) = ends (insn.LoadNumber d n) ts
-number_at w d n ts = ends (insn.Alu w alu.Mov d (operand.Immediate (pos n))) ts
+number_at Bits64 d n (Word key.Wide ∷ ts) = wide_at d n ts
+number_at w d n ts = moved_at w d (pos n) ts
 
 -- behind `=`
 unfoldable pub assigned_at : Width → Reg → List Tok → Option Written
@@ -291,7 +307,7 @@ store_at ts = cell_at ts >>= λ c. stored_at c.size c.base c.offset c.rest
 
 -- behind `lock *(u64 *)(R + n)`
 unfoldable pub locked_at : Width → Reg → ℤ → List Tok → Option Written
-locked_at w b o (Mark s ∷ Register Bits64 r ∷ ts) = locked_op s >>= λ op. ends (insn.Atomic w op b o r) ts
+locked_at w b o (Mark s ∷ Register Bits64 r ∷ ts) = locked_op s >>= λ op. atomic_end op w b o r ts
 locked_at w b o ts = None
 
 -- behind `lock`
