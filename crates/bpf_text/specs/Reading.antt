@@ -321,9 +321,12 @@ jump_at ts = target_at ts >>= λ g. Some (record { insn = insn.Jump g.distance; 
 unfoldable pub jump_long_at : List Tok → Option Written
 jump_long_at ts = target_at ts >>= λ g. Some (record { insn = insn.JumpLong g.distance; name = g.name })
 
+unfoldable pub branch_to : Width → Condition → Reg → Operand → Goal → Option Written
+branch_to w c d s g = Some (record { insn = insn.JumpIf w c d s g.distance; name = g.name })
+
 -- behind `if R C R`
 unfoldable pub branch_end : Width → Condition → Reg → Operand → List Tok → Option Written
-branch_end w c d s (Word key.Goto ∷ ts) = target_at ts >>= λ g. Some (record { insn = insn.JumpIf w c d s g.distance; name = g.name })
+branch_end w c d s (Word key.Goto ∷ ts) = target_at ts >>= λ g. branch_to w c d s g
 branch_end w c d s ts = None
 
 -- behind `if`
@@ -331,18 +334,30 @@ unfoldable pub branch_at : List Tok → Option Written
 branch_at (Register w d ∷ ts) = condition_at ts >>= λ t. operand_at w t.rest >>= λ s. branch_end w t.condition d s.operand s.rest
 branch_at ts = None
 
+unfoldable pub helper_at : ℕ → List Tok → Option Written
+helper_at n ts = ends (insn.CallHelper n) ts
+
+unfoldable pub call_local_at : List Tok → Option Written
+call_local_at ts = target_at ts >>= λ g. Some (record { insn = insn.CallLocal g.distance; name = g.name })
+
+-- behind `call`
 unfoldable pub call_at : List Tok → Option Written
-call_at (Number n ∷ ts) = ends (insn.CallHelper n) ts
-call_at ts = target_at ts >>= λ g. Some (record { insn = insn.CallLocal g.distance; name = g.name })
+call_at (Number n ∷ ts) = helper_at n ts
+call_at ts = call_local_at ts
+
+-- behind a line's first word
+unfoldable pub statement_at : Keyword → List Tok → Option Written
+statement_at key.Lock ts = lock_at ts
+statement_at key.If ts = branch_at ts
+statement_at key.Goto ts = jump_at ts
+statement_at key.GotoLong ts = jump_long_at ts
+statement_at key.Call ts = call_at ts
+statement_at key.Exit ts = ends insn.Exit ts
+statement_at k ts = None
 
 -- a line without its label
 unfoldable pub line_at : List Tok → Option Written
 line_at (Register w d ∷ ts) = register_at w d ts
 line_at (Mark sign.Star ∷ ts) = store_at ts
-line_at (Word key.Lock ∷ ts) = lock_at ts
-line_at (Word key.If ∷ ts) = branch_at ts
-line_at (Word key.Goto ∷ ts) = jump_at ts
-line_at (Word key.GotoLong ∷ ts) = jump_long_at ts
-line_at (Word key.Call ∷ ts) = call_at ts
-line_at (Word key.Exit ∷ ts) = ends insn.Exit ts
+line_at (Word k ∷ ts) = statement_at k ts
 line_at ts = None

@@ -4,7 +4,7 @@ ghost use Rattle.std.specs.Prelude.{◌≡◌, map, Some, None, pos, neg_ℤ};
 ghost use Rattle.bpf_insn.specs.declared.instruction.Insn.TheVariants as insn;
 ghost use Rattle.bpf_insn.specs.declared.instruction.Operand.TheVariants as operand;
 ghost use Rattle.bpf_text.specs.Look.{look, numeral_value};
-ghost use Rattle.bpf_text.specs.Reading.{plain, ends, alu_at, alu_end, extend_at, loaded_at, load_at, atomic_end, atomic_at, fetch_at, exchange_at, compared_at, expected_at, compare_exchange_at, swap_at, map_at, keyword_at, moved_at, wide_at, negative_at, number_at, assigned_at, register_at, stored_end, stored_at, store_at, locked_at, lock_at, jump_at, jump_long_at, branch_end, branch_at, call_at, line_at};
+ghost use Rattle.bpf_text.specs.Reading.{plain, ends, alu_at, alu_end, extend_at, loaded_at, load_at, atomic_end, atomic_at, fetch_at, exchange_at, compared_at, expected_at, compare_exchange_at, swap_at, map_at, keyword_at, moved_at, wide_at, negative_at, number_at, assigned_at, register_at, stored_end, stored_at, store_at, locked_at, lock_at, jump_at, jump_long_at, branch_to, branch_end, branch_at, helper_at, call_local_at, call_at, statement_at, line_at};
 ghost use Rattle.bpf_text.specs.Judging.{Judged, literal_value, operand_of, goal_of};
 
 use crate::keywords::Keyword;
@@ -530,6 +530,321 @@ fn register<'a>(width: Width, dst: Reg, tokens: &[Token<'a>]) -> Result<Draft<'a
             pieces::signed_op(*sign),
             rest,
         ),
+        _ => Err(LineError::BadLine),
+    }
+}
+
+/// Behind `*(u8 *)(R + n) = R`.
+#[tactic(auto, unfolding(crate::specs::Reading::stored_end))]
+fn stored_end<'a>(
+    size: Keyword,
+    base: Reg,
+    offset: Literal<'a>,
+    src: RawOperand<'a>,
+    tokens: &[Token<'a>],
+) -> Result<Draft<'a>, LineError>
+    ensures { Judged result (stored_end size base (literal_value offset.entry) (operand_of src.entry) (map look tokens.now)) }
+{
+    match (size, tokens) {
+        (Keyword::Unsigned(size), []) => {
+            let Some(offset) = offset.offset() else {
+                return Err(LineError::BadNumber);
+            };
+            let Some(src) = src.operand() else {
+                return Err(LineError::BadNumber);
+            };
+            match src {
+                Operand::Immediate(value) => plain(Insn::StoreImmediate {
+                    size,
+                    base,
+                    offset,
+                    value,
+                }),
+                Operand::Register(src) => plain(Insn::Store {
+                    size,
+                    base,
+                    offset,
+                    src,
+                }),
+            }
+        }
+        _ => Err(LineError::BadLine),
+    }
+}
+
+/// Behind `*(u8 *)(R + n)`.
+#[tactic(auto, unfolding(crate::specs::Reading::stored_at))]
+fn stored<'a>(
+    size: Keyword,
+    base: Reg,
+    offset: Literal<'a>,
+    tokens: &[Token<'a>],
+) -> Result<Draft<'a>, LineError>
+    ensures { Judged result (stored_at size base (literal_value offset.entry) (map look tokens.now)) }
+{
+    match tokens {
+        [Token::Mark(Sign::Assign), rest @ ..] => {
+            let Some((src, rest)) = pieces::operand(Width::Bits64, rest) else {
+                return Err(LineError::BadLine);
+            };
+            stored_end(size, base, offset, src, rest)
+        }
+        _ => Err(LineError::BadLine),
+    }
+}
+
+/// Behind `*`.
+#[tactic(auto, unfolding(crate::specs::Reading::store_at))]
+fn store<'a>(tokens: &[Token<'a>]) -> Result<Draft<'a>, LineError>
+    ensures { Judged result (store_at (map look tokens.now)) }
+{
+    let Some((size, base, offset, rest)) = pieces::cell(tokens) else {
+        return Err(LineError::BadLine);
+    };
+    stored(size, base, offset, rest)
+}
+
+/// Behind `lock *(u64 *)(R + n)`.
+#[tactic(auto, unfolding(crate::specs::Reading::locked_at))]
+fn locked<'a>(
+    width: Width,
+    base: Reg,
+    offset: Literal<'a>,
+    tokens: &[Token<'a>],
+) -> Result<Draft<'a>, LineError>
+    ensures { Judged result (locked_at width base (literal_value offset.entry) (map look tokens.now)) }
+{
+    match tokens {
+        [
+            Token::Mark(sign),
+            Token::Register(Width::Bits64, src),
+            rest @ ..,
+        ] => {
+            let Some(op) = pieces::locked_op(*sign) else {
+                return Err(LineError::BadLine);
+            };
+            atomic_end(op, width, base, offset, *src, rest)
+        }
+        _ => Err(LineError::BadLine),
+    }
+}
+
+/// Behind `lock`.
+#[tactic(auto, unfolding(crate::specs::Reading::lock_at))]
+fn lock<'a>(tokens: &[Token<'a>]) -> Result<Draft<'a>, LineError>
+    ensures { Judged result (lock_at (map look tokens.now)) }
+{
+    match tokens {
+        [Token::Mark(Sign::Star), rest @ ..] => {
+            let Some((size, base, offset, rest)) = pieces::cell(rest) else {
+                return Err(LineError::BadLine);
+            };
+            let Some(width) = pieces::cell_width(size) else {
+                return Err(LineError::BadLine);
+            };
+            locked(width, base, offset, rest)
+        }
+        _ => Err(LineError::BadLine),
+    }
+}
+
+/// Behind `goto`.
+#[tactic(auto, unfolding(crate::specs::Reading::jump_at))]
+fn jump<'a>(tokens: &[Token<'a>]) -> Result<Draft<'a>, LineError>
+    ensures { Judged result (jump_at (map look tokens.now)) }
+{
+    match pieces::target(tokens) {
+        Some(RawTarget::Distance(distance)) => {
+            let Some(offset) = distance.offset() else {
+                return Err(LineError::BadNumber);
+            };
+            plain(Insn::Jump { offset })
+        }
+        Some(RawTarget::Label(name)) => Ok(Draft {
+            insn: Insn::Jump { offset: 0 },
+            target: Some(name),
+        }),
+        None => Err(LineError::BadLine),
+    }
+}
+
+/// Behind `gotol`.
+#[tactic(auto, unfolding(crate::specs::Reading::jump_long_at))]
+fn jump_long<'a>(tokens: &[Token<'a>]) -> Result<Draft<'a>, LineError>
+    ensures { Judged result (jump_long_at (map look tokens.now)) }
+{
+    match pieces::target(tokens) {
+        Some(RawTarget::Distance(distance)) => {
+            let Some(offset) = distance.immediate() else {
+                return Err(LineError::BadNumber);
+            };
+            plain(Insn::JumpLong { offset })
+        }
+        Some(RawTarget::Label(name)) => Ok(Draft {
+            insn: Insn::JumpLong { offset: 0 },
+            target: Some(name),
+        }),
+        None => Err(LineError::BadLine),
+    }
+}
+
+/// A branch that its target ends.
+#[tactic(auto, unfolding(crate::specs::Reading::branch_to))]
+fn branch_to<'a>(
+    width: Width,
+    condition: Condition,
+    dst: Reg,
+    src: RawOperand<'a>,
+    target: RawTarget<'a>,
+) -> Result<Draft<'a>, LineError>
+    ensures { Judged result (branch_to width condition dst (operand_of src.entry) (goal_of target.entry)) }
+{
+    let Some(src) = src.operand() else {
+        return Err(LineError::BadNumber);
+    };
+    match target {
+        RawTarget::Distance(distance) => {
+            let Some(offset) = distance.offset() else {
+                return Err(LineError::BadNumber);
+            };
+            plain(Insn::JumpIf {
+                width,
+                condition,
+                dst,
+                src,
+                offset,
+            })
+        }
+        RawTarget::Label(name) => Ok(Draft {
+            insn: Insn::JumpIf {
+                width,
+                condition,
+                dst,
+                src,
+                offset: 0,
+            },
+            target: Some(name),
+        }),
+    }
+}
+
+/// Behind `if R == R`.
+#[tactic(auto, unfolding(crate::specs::Reading::branch_end))]
+fn branch_end<'a>(
+    width: Width,
+    condition: Condition,
+    dst: Reg,
+    src: RawOperand<'a>,
+    tokens: &[Token<'a>],
+) -> Result<Draft<'a>, LineError>
+    ensures { Judged result (branch_end width condition dst (operand_of src.entry) (map look tokens.now)) }
+{
+    match tokens {
+        [Token::Word(Keyword::Goto), rest @ ..] => {
+            let Some(target) = pieces::target(rest) else {
+                return Err(LineError::BadLine);
+            };
+            branch_to(width, condition, dst, src, target)
+        }
+        _ => Err(LineError::BadLine),
+    }
+}
+
+/// Behind `if`.
+#[tactic(auto, unfolding(crate::specs::Reading::branch_at))]
+fn branch<'a>(tokens: &[Token<'a>]) -> Result<Draft<'a>, LineError>
+    ensures { Judged result (branch_at (map look tokens.now)) }
+{
+    match tokens {
+        [Token::Register(width, dst), rest @ ..] => {
+            let Some((condition, rest)) = pieces::condition(rest) else {
+                return Err(LineError::BadLine);
+            };
+            let Some((src, rest)) = pieces::operand(*width, rest) else {
+                return Err(LineError::BadLine);
+            };
+            branch_end(*width, condition, *dst, src, rest)
+        }
+        _ => Err(LineError::BadLine),
+    }
+}
+
+/// Behind `call`, a number.
+#[tactic(auto, unfolding(crate::specs::Reading::helper_at))]
+fn call_helper<'a>(
+    radix: Radix,
+    digits: &'a [u8],
+    tokens: &[Token<'a>],
+) -> Result<Draft<'a>, LineError>
+    ensures { Judged result (helper_at (numeral_value radix digits.now) (map look tokens.now)) }
+{
+    match tokens {
+        [] => {
+            let Some(number) = pieces::natural(radix, digits) else {
+                return Err(LineError::BadNumber);
+            };
+            plain(Insn::CallHelper { number })
+        }
+        _ => Err(LineError::BadLine),
+    }
+}
+
+/// Behind `call`, a target.
+#[tactic(auto, unfolding(crate::specs::Reading::call_local_at))]
+fn call_local<'a>(tokens: &[Token<'a>]) -> Result<Draft<'a>, LineError>
+    ensures { Judged result (call_local_at (map look tokens.now)) }
+{
+    match pieces::target(tokens) {
+        Some(RawTarget::Distance(distance)) => {
+            let Some(offset) = distance.immediate() else {
+                return Err(LineError::BadNumber);
+            };
+            plain(Insn::CallLocal { offset })
+        }
+        Some(RawTarget::Label(name)) => Ok(Draft {
+            insn: Insn::CallLocal { offset: 0 },
+            target: Some(name),
+        }),
+        None => Err(LineError::BadLine),
+    }
+}
+
+/// Behind `call`.
+#[tactic(auto, unfolding(crate::specs::Reading::call_at))]
+fn call<'a>(tokens: &[Token<'a>]) -> Result<Draft<'a>, LineError>
+    ensures { Judged result (call_at (map look tokens.now)) }
+{
+    match tokens {
+        [Token::Number(radix, digits), rest @ ..] => call_helper(*radix, *digits, rest),
+        _ => call_local(tokens),
+    }
+}
+
+/// Behind a line's first word.
+#[tactic(auto, unfolding(crate::specs::Reading::statement_at))]
+fn statement<'a>(keyword: Keyword, tokens: &[Token<'a>]) -> Result<Draft<'a>, LineError>
+    ensures { Judged result (statement_at keyword (map look tokens.now)) }
+{
+    match keyword {
+        Keyword::Lock => lock(tokens),
+        Keyword::If => branch(tokens),
+        Keyword::Goto => jump(tokens),
+        Keyword::GotoLong => jump_long(tokens),
+        Keyword::Call => call(tokens),
+        Keyword::Exit => ends(Insn::Exit, tokens),
+        _ => Err(LineError::BadLine),
+    }
+}
+
+/// The instruction that a line's tokens are, its label taken off.
+#[tactic(auto, unfolding(crate::specs::Reading::line_at))]
+pub fn instruction<'a>(tokens: &[Token<'a>]) -> Result<Draft<'a>, LineError>
+    ensures { Judged result (line_at (map look tokens.now)) }
+{
+    match tokens {
+        [Token::Register(width, dst), rest @ ..] => register(*width, *dst, rest),
+        [Token::Mark(Sign::Star), rest @ ..] => store(rest),
+        [Token::Word(keyword), rest @ ..] => statement(*keyword, rest),
         _ => Err(LineError::BadLine),
     }
 }
