@@ -1,0 +1,64 @@
+-- The command line of `ebpf`, and the command that its words name. Our own choice.
+use Rattle.std.specs.Prelude.{◌≡◌, ◌<◌, ◌≤◌, ℕ, List, Option, Some, None, Ok, IfOk, codes, [], ◌∷◌, length, true}
+use Rattle.std.specs.Str.Parse.{digits_value, without_leading_plus}
+use Rattle.bpf_run.specs.declared.command_line.CommandError.{CommandError}
+use Rattle.bpf_run.specs.declared.command_line.CommandError.TheVariants as error
+use Rattle.hex.specs.Hex.{decode_of}
+use Rattle.clap.specs.Values.{IsUnsignedIn}
+use Rattle.clap.specs.Simple.{new_shape}
+use Rattle.clap.specs.Words.{App, Rule, Text, new_app, new_rule, with_rule, with_subcommand}
+use Rattle.clap.specs.declared.builder.value_parser.ValueParser.TheVariants.{Unsigned}
+
+-- `--budget N`: 0 to 1,000,000,000, and 1,000,000 where it is left out
+abbrev pub budget : Rule
+budget = record (new_rule (codes "budget")) {
+  long = Some (codes "budget");
+  value_names = 1;
+  parser = Some (Unsigned 0 1000000000);
+  defaults = codes "1000000" ∷ [];
+}
+
+-- `--ctx HEX`
+abbrev pub context : Rule
+context = record (new_rule (codes "ctx")) { long = Some (codes "ctx"); value_names = 1 }
+
+abbrev pub hex : App
+hex = with_rule (with_rule (new_app (codes "hex")) budget) context
+
+abbrev pub asm : App
+asm = new_app (codes "asm")
+
+abbrev pub disasm : App
+disasm = new_app (codes "disasm")
+
+-- the program, before its commands are added
+abbrev pub bare : App
+bare = record {
+  top = record (new_shape (codes "ebpf")) {
+    has_version = true;
+    subcommand_required = true;
+    disable_help_subcommand = true;
+  };
+  subs = [];
+}
+
+-- `ebpf hex`, `ebpf asm` and `ebpf disasm`, with `--help` and `--version`
+abbrev pub ebpf : App
+ebpf = with_subcommand (with_subcommand (with_subcommand bare hex.top) asm.top) disasm.top
+
+-- the budget that a text names: a number in the range, in decimal digits
+abbrev pub IsBudget : Option Text → ℕ → Type 0
+IsBudget None n = Unit {0}
+IsBudget (Some text) n = IsUnsignedIn 0 1000000000 text
+    → n ≡ digits_value 10 (without_leading_plus text)
+
+-- the context's bytes, two hex digits each; none where the option is left out
+abbrev pub IsContext : Option Text → List ℕ → Type 0
+IsContext None bytes = bytes ≡ []
+IsContext (Some digits) bytes = (decode_of digits ≡ Ok bytes) × (length bytes ≤ 4096)
+
+-- the digits are refused as a context; want of memory may stand in place of any answer
+abbrev pub RefusesContext : Option Text → CommandError → Type 0
+RefusesContext (Some digits) error.NotHex = IfOk (decode_of digits) (λ bytes. 4096 < length bytes)
+RefusesContext _ error.OutOfMemory = Unit {0}
+RefusesContext _ _ = ⊥

@@ -1,0 +1,11 @@
+//! The program `ebpf`: reads its words, does what they name, and nothing more.
+#![tactic(auto)]
+
+pub mod command;
+pub mod command_line;
+
+use std::io;
+
+fn main(rt: HostRuntime) -> io::Result<()> {
+    println!(rt; "r0=5")
+}
