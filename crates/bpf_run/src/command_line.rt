@@ -1,10 +1,10 @@
 //! The command line: what `clap` reads in the words, and the command that they name.
 
-ghost use Rattle.std.specs.Prelude.{◌≡◌, ◌≤◌, ◌⊎◌, [], false, codes, IfErr, IfOk, List, map, OnOk, Some, ℕ};
+ghost use Rattle.std.specs.Prelude.{◌≡◌, ◌≤◌, ◌⊎◌, [], false, codes, IfErr, IfOk, IsSomeAnd, List, map, OnOk, Some, ℕ};
 ghost use Rattle.clap.specs.Kinds.{FailsBy};
-ghost use Rattle.clap.specs.Words.{app_of, fault_of, first_value, found_of, one_text, rule_of, shape_of, subcommand_of, subcommand_rows_of};
+ghost use Rattle.clap.specs.Words.{app_of, fault_of, first_of, first_value, found_of, one_text, rows_of, rule_of, shape_of, subcommand_name_of, subcommand_of, subcommand_rows_of};
 ghost use Rattle.clap.specs.declared.builder.command.Command.TheViews.{out-Command as fields_of};
-ghost use Rattle.bpf_run.specs.CommandLine.{asm, bare, budget, context, disasm, ebpf, hex, IsBudget, IsContext, RefusesContext};
+ghost use Rattle.bpf_run.specs.CommandLine.{asm, bare, budget, context, disasm, ebpf, hex, IsBudget, IsCommandName, IsContext, Names, Refuses, RefusesContext};
 
 use crate::command::Command;
 use clap::error::ErrorKind;
@@ -101,9 +101,11 @@ fn ebpf_command<'a>(alloc: Global) -> Result<clap::Command<'a>, AllocError>
 fn matches_of<'a>(alloc: Global, words: &'a [&'a str]) -> Result<ArgMatches<'a>, clap::Error>
     ensures found { IfOk result (λ m. subcommand_rows_of m
         ≡ subcommand_of ebpf (map (λ s. s.now) words.entry.now)) }
+    ensures known { IfOk result (λ m. IsSomeAnd (subcommand_name_of m) IsCommandName) }
     ensures faults { FailsBy (fault_of ebpf (map (λ s. s.now) words.entry.now)) result }
 {
-    ebpf_command(alloc)?.try_get_matches_from(words)
+    let matches = ebpf_command(alloc)?.try_get_matches_from(words)?;
+    Ok(matches)
 }
 
 fn budget_of(options: &ArgMatches) -> u64
@@ -138,4 +140,45 @@ fn context_of(alloc: Global, options: &ArgMatches) -> Result<Vec<u8>, CommandErr
         Some(digits) => context_bytes(alloc, digits),
         None => Ok(Vec::new(alloc)),
     }
+}
+
+fn hex_of(alloc: Global, options: &ArgMatches) -> Result<Command, CommandError>
+    ensures named { IfOk result (Names (Some (codes "hex", rows_of (found_of options.now)))) }
+    ensures refused { IfErr result (RefusesContext (first_of (codes "ctx") (rows_of (found_of options.now)))) }
+{
+    let context = context_of(alloc, options)?;
+    let budget = budget_of(options);
+    Ok(Command::Hex { budget, context })
+}
+
+fn named(alloc: Global, name: &str, options: &ArgMatches) -> Result<Command, CommandError>
+    requires known { IsCommandName name.now }
+    ensures named { IfOk result (Names (Some (name.now, rows_of (found_of options.now)))) }
+    ensures refused { IfErr result (λ e. (e ≡ CommandError.OutOfMemory) ⊎ ((e ≡ CommandError.NotHex)
+        × (name.now ≡ codes "hex") × RefusesContext (first_of (codes "ctx") (rows_of (found_of options.now))) e)) }
+{
+    match name {
+        "hex" => hex_of(alloc, options),
+        "asm" => Ok(Command::Asm),
+        _ => Ok(Command::Disasm),
+    }
+}
+
+/// The command that the words name, of which the first is the program's name.
+pub fn command_of<'a>(alloc: Global, words: &'a [&'a str]) -> Result<Command, CommandError>
+    ensures accepted { OnOk result (fault_of ebpf (map (λ s. s.now) words.entry.now) ≡ []) }
+    ensures named { IfOk result (Names (subcommand_of ebpf (map (λ s. s.now) words.entry.now))) }
+    ensures refused { IfErr result (Refuses (map (λ s. s.now) words.entry.now)) }
+{
+    let matches = match matches_of(alloc, words) {
+        Ok(matches) => matches,
+        Err(error) if error.kind() == ErrorKind::OutOfMemory => {
+            return Err(CommandError::OutOfMemory);
+        }
+        Err(error) => return Err(CommandError::Shown(error)),
+    };
+    let Some((name, options)) = matches.subcommand() else {
+        unreachable!();
+    };
+    named(alloc, name, options)
 }
