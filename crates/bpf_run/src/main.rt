@@ -3,6 +3,8 @@
 
 pub mod command;
 pub mod command_line;
+pub mod input;
+pub mod output;
 
 use std::io;
 
