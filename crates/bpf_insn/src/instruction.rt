@@ -112,3 +112,18 @@ pub enum Insn {
         map: u32,
     },
 }
+
+impl Insn {
+    ghost use Rattle.std.specs.Prelude.{◌≡◌};
+    ghost use Rattle.bpf_insn.specs.Table.{words};
+
+    /// How many 8-byte words it has: two where it loads 64 bits of its own, else one.
+    pub fn words(&self) -> u32
+        ensures { result ≡ words self.now }
+    {
+        match self {
+            Insn::LoadNumber { .. } | Insn::LoadMap { .. } => 2,
+            _ => 1,
+        }
+    }
+}

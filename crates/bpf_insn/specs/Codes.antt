@@ -1,0 +1,148 @@
+-- RFC 9669, sections 3 to 5: the numbers by which words name operations.
+use Rattle.std.specs.Prelude.{ℕ, ◌+◌, ◌*◌}
+use Rattle.bpf_insn.specs.declared.operation.Width.{Width}
+use Rattle.bpf_insn.specs.declared.operation.Width.TheVariants.{Bits32, Bits64}
+use Rattle.bpf_insn.specs.declared.operation.AluOp.{AluOp}
+use Rattle.bpf_insn.specs.declared.operation.AluOp.TheVariants as alu
+use Rattle.bpf_insn.specs.declared.operation.Condition.{Condition}
+use Rattle.bpf_insn.specs.declared.operation.Condition.TheVariants as condition
+use Rattle.bpf_insn.specs.declared.operation.SignExtension.{SignExtension}
+use Rattle.bpf_insn.specs.declared.operation.SignExtension.TheVariants.{From8To32, From16To32, From8To64, From16To64, From32To64}
+use Rattle.bpf_insn.specs.declared.operation.ByteSwap.{ByteSwap}
+use Rattle.bpf_insn.specs.declared.operation.ByteSwap.TheVariants.{ToLittle, ToBig, Reverse}
+use Rattle.bpf_insn.specs.declared.operation.SwapWidth.{SwapWidth}
+use Rattle.bpf_insn.specs.declared.operation.SwapWidth.TheVariants as swap_width
+use Rattle.bpf_insn.specs.declared.operation.Size.{Size}
+use Rattle.bpf_insn.specs.declared.operation.Size.TheVariants as size
+use Rattle.bpf_insn.specs.declared.operation.SignedSize.{SignedSize}
+use Rattle.bpf_insn.specs.declared.operation.SignedSize.TheVariants as signed_size
+use Rattle.bpf_insn.specs.declared.operation.AtomicOp.{AtomicOp}
+use Rattle.bpf_insn.specs.declared.operation.AtomicOp.TheVariants as atomic
+
+-- ---- opcodes (sections 3.1, 4 and 5)
+
+-- arithmetic and jumps: the class in bits 0 to 2, bit 3 set where the operand is a register (X) and
+-- not an immediate (K), the code in bits 4 to 7
+abbrev pub opcode_k : ℕ → ℕ → ℕ
+opcode_k class code = class + 16 * code
+
+abbrev pub opcode_x : ℕ → ℕ → ℕ
+opcode_x class code = class + 8 + 16 * code
+
+-- loads and stores: the class in bits 0 to 2, the size in bits 3 and 4, the mode in bits 5 to 7
+abbrev pub opcode_memory : ℕ → ℕ → ℕ → ℕ
+opcode_memory class size mode = class + 8 * size + 32 * mode
+
+-- ---- arithmetic (sections 4.1 and 4.2)
+
+-- ALU and ALU64
+abbrev pub alu_class : Width → ℕ
+alu_class Bits32 = 4
+alu_class Bits64 = 7
+
+abbrev pub alu_code : AluOp → ℕ
+alu_code alu.Add = 0x0
+alu_code alu.Sub = 0x1
+alu_code alu.Mul = 0x2
+alu_code alu.Div = 0x3
+alu_code alu.Sdiv = 0x3
+alu_code alu.Or = 0x4
+alu_code alu.And = 0x5
+alu_code alu.Lsh = 0x6
+alu_code alu.Rsh = 0x7
+alu_code alu.Mod = 0x9
+alu_code alu.Smod = 0x9
+alu_code alu.Xor = 0xa
+alu_code alu.Mov = 0xb
+alu_code alu.Arsh = 0xc
+
+-- the code of NEG
+abbrev pub negate_code : ℕ
+negate_code = 0x8
+
+-- MOVSX: from how many bits is said by the offset, to how many by the class
+abbrev pub extension_opcode : SignExtension → ℕ
+extension_opcode From8To32 = opcode_x (alu_class Bits32) (alu_code alu.Mov)
+extension_opcode From16To32 = opcode_x (alu_class Bits32) (alu_code alu.Mov)
+extension_opcode From8To64 = opcode_x (alu_class Bits64) (alu_code alu.Mov)
+extension_opcode From16To64 = opcode_x (alu_class Bits64) (alu_code alu.Mov)
+extension_opcode From32To64 = opcode_x (alu_class Bits64) (alu_code alu.Mov)
+
+abbrev pub extension_offset : SignExtension → ℕ
+extension_offset From8To32 = 8
+extension_offset From16To32 = 16
+extension_offset From8To64 = 8
+extension_offset From16To64 = 16
+extension_offset From32To64 = 32
+
+-- END: in ALU bit 3 is the byte order, in ALU64 it is clear
+abbrev pub swap_opcode : ByteSwap → ℕ
+swap_opcode ToLittle = 0xd4
+swap_opcode ToBig = 0xdc
+swap_opcode Reverse = 0xd7
+
+abbrev pub swap_bits : SwapWidth → ℕ
+swap_bits swap_width.Bits16 = 16
+swap_bits swap_width.Bits32 = 32
+swap_bits swap_width.Bits64 = 64
+
+-- ---- jumps (section 4.3)
+
+-- JMP32 and JMP
+abbrev pub jump_class : Width → ℕ
+jump_class Bits32 = 6
+jump_class Bits64 = 5
+
+abbrev pub condition_code : Condition → ℕ
+condition_code condition.Eq = 0x1
+condition_code condition.Gt = 0x2
+condition_code condition.Ge = 0x3
+condition_code condition.Set = 0x4
+condition_code condition.Ne = 0x5
+condition_code condition.Sgt = 0x6
+condition_code condition.Sge = 0x7
+condition_code condition.Lt = 0xa
+condition_code condition.Le = 0xb
+condition_code condition.Slt = 0xc
+condition_code condition.Sle = 0xd
+
+-- ---- loads and stores (sections 5.1 to 5.3)
+
+abbrev pub size_code : Size → ℕ
+size_code size.Word = 0
+size_code size.Half = 1
+size_code size.Byte = 2
+size_code size.Double = 3
+
+abbrev pub signed_size_code : SignedSize → ℕ
+signed_size_code signed_size.Word = 0
+signed_size_code signed_size.Half = 1
+signed_size_code signed_size.Byte = 2
+
+-- atomic operations are on 4 or 8 bytes
+abbrev pub atomic_size_code : Width → ℕ
+atomic_size_code Bits32 = 0
+atomic_size_code Bits64 = 3
+
+-- the modes MEM, MEMSX and ATOMIC
+abbrev pub memory_mode : ℕ
+memory_mode = 3
+
+abbrev pub signed_mode : ℕ
+signed_mode = 4
+
+abbrev pub atomic_mode : ℕ
+atomic_mode = 6
+
+-- what an atomic operation does is said by the immediate; FETCH is its lowest bit
+abbrev pub atomic_code : AtomicOp → ℕ
+atomic_code atomic.Add = 0x00
+atomic_code atomic.Or = 0x40
+atomic_code atomic.And = 0x50
+atomic_code atomic.Xor = 0xa0
+atomic_code atomic.FetchAdd = 0x01
+atomic_code atomic.FetchOr = 0x41
+atomic_code atomic.FetchAnd = 0x51
+atomic_code atomic.FetchXor = 0xa1
+atomic_code atomic.Exchange = 0xe1
+atomic_code atomic.CompareExchange = 0xf1
