@@ -1,0 +1,115 @@
+-- What each row of the table (RFC 9669, sections 4 and 5) means for the soundness of a program.
+use Rattle.std.specs.Prelude.{ℕ, ◌≡◌, ◌⊎◌, ℤ, Bool, true, false, Option, Some, None}
+use Rattle.bpf_insn.specs.declared.register.Reg.{Reg}
+use Rattle.bpf_insn.specs.declared.register.Reg.TheVariants.{R0}
+use Rattle.bpf_insn.specs.declared.operation.AtomicOp.{AtomicOp}
+use Rattle.bpf_insn.specs.declared.operation.AtomicOp.TheVariants as atomic
+use Rattle.bpf_insn.specs.declared.instruction.Insn.{Insn}
+use Rattle.bpf_insn.specs.declared.instruction.Insn.TheVariants as insn
+
+-- an atomic operation with FETCH, and XCHG, put the old value in src; CMPXCHG puts it in R0 (section 5.3)
+abbrev pub fetched_into : AtomicOp → Reg → Option Reg
+fetched_into atomic.Add src = None
+fetched_into atomic.Or src = None
+fetched_into atomic.And src = None
+fetched_into atomic.Xor src = None
+fetched_into atomic.FetchAdd src = Some src
+fetched_into atomic.FetchOr src = Some src
+fetched_into atomic.FetchAnd src = Some src
+fetched_into atomic.FetchXor src = Some src
+fetched_into atomic.Exchange src = Some src
+fetched_into atomic.CompareExchange src = Some R0
+
+-- the register that the instruction puts its result in
+abbrev pub written : Insn → Option Reg
+written (insn.Alu w op dst s) = Some dst
+written (insn.Negate w dst) = Some dst
+written (insn.SignExtend e dst s) = Some dst
+written (insn.SwapBytes k w dst) = Some dst
+written (insn.Jump o) = None
+written (insn.JumpLong o) = None
+written (insn.JumpIf w c d s o) = None
+written (insn.CallHelper n) = Some R0
+written (insn.CallLocal o) = None
+written insn.Exit = None
+written (insn.Load z dst b o) = Some dst
+written (insn.LoadSigned z dst b o) = Some dst
+written (insn.StoreImmediate z b o v) = None
+written (insn.Store z b o s) = None
+written (insn.Atomic w op b o src) = fetched_into op src
+written (insn.LoadNumber dst n) = Some dst
+written (insn.LoadMap dst m) = Some dst
+
+-- the offset of a jump or a local call, in words from the next one
+abbrev pub jump_offset : Insn → Option ℤ
+jump_offset (insn.Alu w op d s) = None
+jump_offset (insn.Negate w d) = None
+jump_offset (insn.SignExtend e d s) = None
+jump_offset (insn.SwapBytes k w d) = None
+jump_offset (insn.Jump offset) = Some offset
+jump_offset (insn.JumpLong offset) = Some offset
+jump_offset (insn.JumpIf w c d s offset) = Some offset
+jump_offset (insn.CallHelper n) = None
+jump_offset (insn.CallLocal offset) = Some offset
+jump_offset insn.Exit = None
+jump_offset (insn.Load z d b o) = None
+jump_offset (insn.LoadSigned z d b o) = None
+jump_offset (insn.StoreImmediate z b o v) = None
+jump_offset (insn.Store z b o s) = None
+jump_offset (insn.Atomic w op b o s) = None
+jump_offset (insn.LoadNumber d n) = None
+jump_offset (insn.LoadMap d m) = None
+
+-- whether a run may come from this instruction to the next in the list: it is neither EXIT nor JA
+abbrev pub goes_on : Insn → Bool
+goes_on (insn.Alu w op d s) = true
+goes_on (insn.Negate w d) = true
+goes_on (insn.SignExtend e d s) = true
+goes_on (insn.SwapBytes k w d) = true
+goes_on (insn.Jump o) = false
+goes_on (insn.JumpLong o) = false
+goes_on (insn.JumpIf w c d s o) = true
+goes_on (insn.CallHelper n) = true
+goes_on (insn.CallLocal o) = true
+goes_on insn.Exit = false
+goes_on (insn.Load z d b o) = true
+goes_on (insn.LoadSigned z d b o) = true
+goes_on (insn.StoreImmediate z b o v) = true
+goes_on (insn.Store z b o s) = true
+goes_on (insn.Atomic w op b o s) = true
+goes_on (insn.LoadNumber d n) = true
+goes_on (insn.LoadMap d m) = true
+
+-- how many words further the next instruction begins, where a run may come to it
+abbrev pub stride : Insn → Option ℕ
+stride (insn.Alu w op d s) = Some 1
+stride (insn.Negate w d) = Some 1
+stride (insn.SignExtend e d s) = Some 1
+stride (insn.SwapBytes k w d) = Some 1
+stride (insn.Jump o) = None
+stride (insn.JumpLong o) = None
+stride (insn.JumpIf w c d s o) = Some 1
+stride (insn.CallHelper n) = Some 1
+stride (insn.CallLocal o) = Some 1
+stride insn.Exit = None
+stride (insn.Load z d b o) = Some 1
+stride (insn.LoadSigned z d b o) = Some 1
+stride (insn.StoreImmediate z b o v) = Some 1
+stride (insn.Store z b o s) = Some 1
+stride (insn.Atomic w op b o s) = Some 1
+stride (insn.LoadNumber d n) = Some 2
+stride (insn.LoadMap d m) = Some 2
+
+-- the helper that is called
+abbrev pub helper_of : Insn → Option ℕ
+helper_of (insn.CallHelper number) = Some number
+helper_of _ = None
+
+-- the map that is named
+abbrev pub map_of : Insn → Option ℕ
+map_of (insn.LoadMap d map) = Some map
+map_of _ = None
+
+-- the helpers of bpf-helpers(7) that this machine has: map_lookup_elem and get_smp_processor_id
+abbrev pub IsHelper : ℕ → Type 0
+IsHelper number = (number ≡ 1) ⊎ (number ≡ 8)

@@ -1,0 +1,64 @@
+-- The sizes of a store, and the addresses of its values.
+use Rattle.std.specs.Prelude.{◌≡◌, ℕ, ◌+◌, ◌*◌, ◌/◌, ◌<◌, ◌≤◌, List, length, slice_get, Some}
+use Rattle.bpf_shared.specs.declared.shapes.MapShape.{MapShape}
+use Rattle.bpf_shared.specs.declared.events.Span.{Span}
+
+-- how many CPUs there are, and the maps by their numbers
+pub record Shape : Type 0 where
+  pub cpus : ℕ
+  pub maps : List MapShape
+
+-- the sizes that a map may have (our own choice)
+pub record IsMapShape (h : MapShape) : Type 0 where
+  pub key : (1 ≤ h.key) × (h.key ≤ 64)
+  pub value : (1 ≤ h.value) × (h.value ≤ 256)
+  pub max : (1 ≤ h.max) × (h.max ≤ 65536)
+  pub spare : h.spare ≤ 65536
+
+-- the map of this number has this shape
+abbrev pub IsMap : List MapShape → ℕ → MapShape → Type 0
+IsMap maps m h = slice_get maps m ≡ Some h
+
+-- the sizes that a store may have (our own choice)
+pub record IsShape (s : Shape) : Type 0 where
+  pub cpus : (1 ≤ s.cpus) × (s.cpus ≤ 16)
+  pub count : length s.maps ≤ 16
+  pub each : (m : ℕ) (h : MapShape) → IsMap s.maps m h → IsMapShape h
+
+-- the map is there, and the key has its size
+abbrev pub IsKeyOf : List MapShape → ℕ → List ℕ → Type 0
+IsKeyOf maps m key = (h : MapShape) × IsMap maps m h × (length key ≡ h.key)
+
+-- a map has room for its keys' values, and for some that have left it
+abbrev pub elements : MapShape → ℕ
+elements h = h.max + h.spare
+
+-- from one element to the next: a value's size, rounded up to a multiple of eight
+abbrev pub stride : MapShape → ℕ
+stride h = (h.value + 7) / 8 * 8
+
+-- where the value in the i-th element of the m-th map lies (our own choice)
+abbrev pub element_span : ℕ → MapShape → ℕ → Span
+element_span m h i = record { at = 0x10_0000_0000 + 0x1000_0000 * m + i * stride h; size = h.value }
+
+-- the span is that of an element of this map
+abbrev pub IsElementSpan : List MapShape → ℕ → Span → Type 0
+IsElementSpan maps m p = (h : MapShape) × (i : ℕ) × IsMap maps m h × (i < elements h) × (p ≡ element_span m h i)
+
+-- no value lies below these addresses, or above them
+pub record IsValueSpan (p : Span) : Type 0 where
+  pub from : 0x10_0000_0000 ≤ p.at
+  pub to : p.at + p.size ≤ 0x11_0000_0000
+  pub size : (1 ≤ p.size) × (p.size ≤ 256)
+
+-- the address is in the span
+abbrev pub Holds : Span → ℕ → Type 0
+Holds p a = (p.at ≤ a) × (a < p.at + p.size)
+
+-- no address is in both
+abbrev pub IsApart : Span → Span → Type 0
+IsApart p q = (a : ℕ) → Holds p a → Holds q a → ⊥
+
+-- the n bytes from the address a on are in the span
+abbrev pub Covers : Span → ℕ → ℕ → Type 0
+Covers p a n = (p.at ≤ a) × (a + n ≤ p.at + p.size)
