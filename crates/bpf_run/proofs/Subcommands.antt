@@ -26,7 +26,7 @@ find_known : (words : List Text) (test : Shape → Bool) (subs : List Shape) →
 find_known words test [] known e = cc
 find_known words test (s ∷ rest) known e =
     elim (test s) as (λ b. is_some (option_map (λ s. rows_at s words) (cond b (Some s) (find test rest))) ≡ true
-        → NamesKnown (option_map (λ s. rows_at s words) (cond b (Some s) (find test rest)))) [
+    → NamesKnown (option_map (λ s. rows_at s words) (cond b (Some s) (find test rest)))) [
       | true ↦ λ _. known.0
       | false ↦ find_known words test rest known.1
     ] e

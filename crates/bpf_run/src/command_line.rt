@@ -44,10 +44,9 @@ fn context_option<'a>(alloc: Global) -> Arg<'a>
     ensures rule { rule_of result ≡ context }
     ensures own { result.global ≡ false }
 {
-    Arg::new(alloc, "ctx")
-        .long("ctx")
-        .value_name("HEX")
-        .help("The bytes of the context, at most 4096, two digits a byte")
+    Arg::new(alloc, "ctx").long("ctx").value_name("HEX").help(
+        "The bytes of the context, at most 4096, two digits a byte",
+    )
 }
 
 fn hex_command<'a>(alloc: Global) -> Result<clap::Command<'a>, AllocError>
@@ -64,16 +63,16 @@ fn asm_command<'a>(alloc: Global) -> clap::Command<'a>
     ensures shape { shape_of result ≡ asm.top }
     ensures own { (fields_of result).has_globals ≡ false }
 {
-    clap::Command::new(alloc, "asm")
-        .about("Turns assembly text into words, one line of 16 hex digits each")
+    clap::Command::new(alloc, "asm").about(
+        "Turns assembly text into words, one line of 16 hex digits each",
+    )
 }
 
 fn disasm_command<'a>(alloc: Global) -> clap::Command<'a>
     ensures shape { shape_of result ≡ disasm.top }
     ensures own { (fields_of result).has_globals ≡ false }
 {
-    clap::Command::new(alloc, "disasm")
-        .about("Turns words given as hex digits into assembly text")
+    clap::Command::new(alloc, "disasm").about("Turns words given as hex digits into assembly text")
 }
 
 /// The program itself, before its commands are added.

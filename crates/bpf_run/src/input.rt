@@ -3,7 +3,6 @@
 ghost use Rattle.std.specs.Prelude.{◌≡◌, ◌<◌, ◌≤◌, ◌≢◌, ◌+◌, ◌++◌, List, ℕ, Err, IfErr, IfOk, IfSome, OnOk, length};
 ghost use Rattle.std.specs.Io.KnownBytes.{Consumes, IsAtEnd};
 
-
 use std::alloc::Global;
 use std::io::Read;
 
@@ -17,6 +16,8 @@ const CHUNK: usize = 65_536;
 pub enum InputError {
     /// A read failed.
     Unread,
+    /// The bytes aren't UTF-8.
+    NotText,
     /// There are more than `MAX_INPUT` bytes.
     TooLong,
     OutOfMemory,

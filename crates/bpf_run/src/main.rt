@@ -5,6 +5,7 @@ pub mod command;
 pub mod command_line;
 pub mod input;
 pub mod output;
+pub mod refusal;
 
 use std::io;
 

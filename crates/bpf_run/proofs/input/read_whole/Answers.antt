@@ -28,8 +28,7 @@ loop-preserved g c =
     let known = c.read_more.new.input.ok.0 in
     let grown = ap length more.1 in
     let some = more.2 in
-    let kept = c.read_more.auto.room in
-    (
+    let kept = c.read_more.auto.room in (
       omega (arith, length-append c.loop.input.items more.0),
       omega arith,
       omega (
