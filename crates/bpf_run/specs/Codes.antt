@@ -8,6 +8,8 @@ use Rattle.bpf_loader.specs.declared.refusal.LoadError.{LoadError}
 use Rattle.bpf_loader.specs.declared.refusal.LoadError.TheVariants as load
 use Rattle.bpf_text.specs.declared.error.TextError.{TextError}
 use Rattle.bpf_text.specs.declared.error.TextError.TheVariants as text
+use Rattle.bpf_run.specs.declared.outcome.Fault.{Fault}
+use Rattle.bpf_run.specs.declared.outcome.Fault.TheVariants as fault
 use Rattle.bpf_run.specs.declared.input.InputError.{InputError}
 use Rattle.bpf_run.specs.declared.input.InputError.TheVariants as input
 use Rattle.bpf_run.specs.declared.refusal.Refusal.{Refusal}
@@ -59,3 +61,12 @@ code (refusal.Text error) = text_code error
 code (refusal.Insn error) = insn_code error
 code (refusal.Load error) = load_code error
 code refusal.OutOfMemory = codes "L9"
+
+-- of a run: F1 to F6
+abbrev pub fault_code : Fault → List ℕ
+fault_code fault.BadAddress = codes "F1"
+fault_code fault.Misaligned = codes "F2"
+fault_code fault.CallDepth = codes "F3"
+fault_code fault.NotAMap = codes "F4"
+fault_code fault.TooManyHeld = codes "F5"
+fault_code fault.Worn = codes "F6"

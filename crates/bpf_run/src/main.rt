@@ -5,7 +5,10 @@ pub mod command;
 pub mod command_line;
 pub mod input;
 pub mod output;
+pub mod outcome;
+pub mod perform;
 pub mod refusal;
+pub mod reply;
 
 use std::io;
 
