@@ -3,3 +3,4 @@ pub mod Rows
 pub mod Sound
 pub mod Slots
 pub mod Loaded
+pub mod Checks

@@ -1,0 +1,140 @@
+-- How the checks go on from one refusal to the next, and from one word to the next.
+use Rattle.std.proofs.Common.{◌≡◌, ◌≢◌, ℕ, ◌+◌, ◌<◌, ◌≤◌, inl, inr, List, [], Option, Some, None, cond, nat_eq, refl, sym, ap, subst, ◌∙◌, arith}
+use Rattle.std.proofs.lemmas.Int.{ints}
+use Rattle.std.specs.Prelude.{ℤ, pos, IsSomeAnd}
+use Rattle.std.proofs.lemmas.Bool.{cases_eq}
+use Rattle.bpf_insn.specs.declared.instruction.Insn.{Insn}
+use Rattle.bpf_insn.specs.Refusal.{max_words}
+use Rattle.bpf_loader.specs.declared.refusal.LoadError.{LoadError}
+use Rattle.bpf_loader.specs.declared.refusal.LoadError.TheVariants as error
+use Rattle.bpf_loader.specs.Places.{word_length, Begins, IsStart, IsOutside}
+use Rattle.bpf_loader.specs.Sound.{HasAt, Applies, IsSound, IsFirst, code, place}
+use Rattle.bpf_loader.specs.Checks.{IsClearBefore, IsClearAt, IsClearBelow, IsLeastAt}
+use Rattle.bpf_loader.proofs.SlotLemmas.{begins_unique, start_inside, words_some}
+
+-- the refusal with this number at this place
+abbrev pub error_at : ℕ → ℕ → LoadError
+error_at number pc =
+    cond (nat_eq number 1) error.Empty
+    (cond (nat_eq number 3) error.TooLong
+    (cond (nat_eq number 8) (error.WritesR10 pc)
+    (cond (nat_eq number 9) (error.JumpOut pc)
+    (cond (nat_eq number 10) (error.JumpIntoWide pc)
+    (cond (nat_eq number 11) (error.FallsOff pc)
+    (cond (nat_eq number 12) (error.UnknownHelper pc)
+    (cond (nat_eq number 13) (error.UnknownMap pc) error.OutOfMemory)))))))
+
+error_at_code : (e : LoadError) → error_at (code e) (place e) ≡ e
+error_at_code error.Empty = refl
+error_at_code error.TooLong = refl
+error_at_code (error.WritesR10 pc) = refl
+error_at_code (error.JumpOut pc) = refl
+error_at_code (error.JumpIntoWide pc) = refl
+error_at_code (error.FallsOff pc) = refl
+error_at_code (error.UnknownHelper pc) = refl
+error_at_code (error.UnknownMap pc) = refl
+error_at_code error.OutOfMemory = refl
+
+-- where the refusal with the next number doesn't apply, the checks go on to the one behind it
+pub clear_next : (maps : ℕ) (is : List Insn) (pc number : ℕ) → IsClearBelow maps is pc number → ¬ Applies maps is (error_at number pc) → IsClearBelow maps is pc (number + 1)
+clear_next maps is pc number clear not_here e applies at =
+    let from = clear e applies at in
+    elim (cases_eq number (code e)) [
+      | inl same ↦
+          let this : e ≡ error_at number pc = sym (error_at_code e) ∙ cc in
+          absurd (not_here (subst (Applies maps is) this applies))
+      | inr other ↦ omega arith
+    ]
+
+-- or doesn't hold of the instruction that begins there
+pub clear_past : (maps : ℕ) (is : List Insn) (pc number : ℕ) (i : Insn) (P : Insn → Type 0) → Begins is pc i → IsClearBelow maps is pc number → (Applies maps is (error_at number pc) → HasAt is pc P) → ¬ P i → IsClearBelow maps is pc (number + 1)
+clear_past maps is pc number i P b clear means not_it =
+    clear_next maps is pc number clear (λ applies. let has = means applies in not_it (subst P (begins_unique is pc has.0 i has.1 b) has.2))
+
+-- a fact that doesn't hold of the value in an option, or of which there is no value
+pub none_and_at : {A : Type 0} (P : A → Type 0) (o : Option A) (x : A) → Some x ≡ o → ¬ P x → ¬ IsSomeAnd o P
+none_and_at {A} P o x e wrong w = wrong (let Q = λ (v : Option A). IsSomeAnd v P in subst Q (sym e) w)
+
+pub none_and_none : {A : Type 0} (P : A → Type 0) (o : Option A) → None ≡ o → ¬ IsSomeAnd o P
+none_and_none {A} P o e w = let Q = λ (v : Option A). IsSomeAnd v P in subst Q (sym e) w
+
+pub some_and_at : {A : Type 0} (P : A → Type 0) (o : Option A) (x : A) → Some x ≡ o → P x → IsSomeAnd o P
+some_and_at {A} P o x e h = let Q = λ (v : Option A). IsSomeAnd v P in subst Q e h
+
+-- a target within the program
+pub not_outside : (is : List Insn) (t : ℤ) (to : ℕ) → pos to ≡ t → to < word_length is → ¬ IsOutside is t
+not_outside is t to e h w = elim w [ inl under ↦ omega (arith, ints) | inr over ↦ omega (arith, ints) ]
+
+-- a list in which an instruction begins isn't empty
+pub some_of_begins : (is : List Insn) (pc : ℕ) (i : Insn) → Begins is pc i → is ≢ []
+some_of_begins is pc i b e = omega (arith, start_inside is pc i b, words_some i, ap word_length e)
+
+-- refusals of a whole list come first
+pub clear_from : (maps : ℕ) (is : List Insn) (pc : ℕ) → is ≢ [] → word_length is ≤ max_words → IsClearBelow maps is pc 8
+clear_from maps is pc some short error.Empty applies at = absurd (some applies)
+clear_from maps is pc some short error.TooLong applies at = absurd (omega (arith, applies))
+clear_from maps is pc some short (error.WritesR10 q) applies at = omega arith
+clear_from maps is pc some short (error.JumpOut q) applies at = omega arith
+clear_from maps is pc some short (error.JumpIntoWide q) applies at = omega arith
+clear_from maps is pc some short (error.FallsOff q) applies at = omega arith
+clear_from maps is pc some short (error.UnknownHelper q) applies at = omega arith
+clear_from maps is pc some short (error.UnknownMap q) applies at = omega arith
+clear_from maps is pc some short error.OutOfMemory applies at = absurd applies
+
+-- a refusal that applies has a number below that of want of memory
+applies_code : (maps : ℕ) (is : List Insn) (e : LoadError) → Applies maps is e → code e < 14
+applies_code maps is error.Empty applies = omega arith
+applies_code maps is error.TooLong applies = omega arith
+applies_code maps is (error.WritesR10 q) applies = omega arith
+applies_code maps is (error.JumpOut q) applies = omega arith
+applies_code maps is (error.JumpIntoWide q) applies = omega arith
+applies_code maps is (error.FallsOff q) applies = omega arith
+applies_code maps is (error.UnknownHelper q) applies = omega arith
+applies_code maps is (error.UnknownMap q) applies = omega arith
+applies_code maps is error.OutOfMemory applies = absurd applies
+
+pub clear_at : (maps : ℕ) (is : List Insn) (pc : ℕ) → IsClearBelow maps is pc 14 → IsClearAt maps is pc
+clear_at maps is pc clear e applies at = omega (arith, clear e applies at, applies_code maps is e applies)
+
+start_along : (is : List Insn) (q pc : ℕ) → q ≡ pc → IsStart is q → IsStart is pc
+start_along is q pc e start = let P : ℕ → Type 0 = λ n. IsStart is n in subst P e start
+
+-- at a word where no instruction begins no refusal applies
+pub clear_second : (maps : ℕ) (is : List Insn) (pc : ℕ) → is ≢ [] → word_length is ≤ max_words → ¬ IsStart is pc → IsClearAt maps is pc
+clear_second maps is pc some short none error.Empty applies at = absurd (some applies)
+clear_second maps is pc some short none error.TooLong applies at = absurd (omega (arith, applies))
+clear_second maps is pc some short none (error.WritesR10 q) applies at = none (start_along is q pc at (applies.0, applies.1))
+clear_second maps is pc some short none (error.JumpOut q) applies at = none (start_along is q pc at (applies.0, applies.1))
+clear_second maps is pc some short none (error.JumpIntoWide q) applies at = none (start_along is q pc at (applies.0, applies.1))
+clear_second maps is pc some short none (error.FallsOff q) applies at = none (start_along is q pc at (applies.0, applies.1))
+clear_second maps is pc some short none (error.UnknownHelper q) applies at = none (start_along is q pc at (applies.0, applies.1))
+clear_second maps is pc some short none (error.UnknownMap q) applies at = none (start_along is q pc at (applies.0, applies.1))
+clear_second maps is pc some short none error.OutOfMemory applies at = applies
+
+-- a refusal that applies speaks of a word of the program
+within : (maps : ℕ) (is : List Insn) (e : LoadError) → is ≢ [] → word_length is ≤ max_words → Applies maps is e → place e < word_length is
+within maps is error.Empty some short applies = absurd (some applies)
+within maps is error.TooLong some short applies = absurd (omega (arith, applies))
+within maps is (error.WritesR10 q) some short applies = omega (arith, start_inside is q applies.0 applies.1, words_some applies.0)
+within maps is (error.JumpOut q) some short applies = omega (arith, start_inside is q applies.0 applies.1, words_some applies.0)
+within maps is (error.JumpIntoWide q) some short applies = omega (arith, start_inside is q applies.0 applies.1, words_some applies.0)
+within maps is (error.FallsOff q) some short applies = omega (arith, start_inside is q applies.0 applies.1, words_some applies.0)
+within maps is (error.UnknownHelper q) some short applies = omega (arith, start_inside is q applies.0 applies.1, words_some applies.0)
+within maps is (error.UnknownMap q) some short applies = omega (arith, start_inside is q applies.0 applies.1, words_some applies.0)
+within maps is error.OutOfMemory some short applies = absurd applies
+
+-- a program that is clear at each of its words is sound
+pub sound_of_clear : (maps : ℕ) (is : List Insn) → is ≢ [] → word_length is ≤ max_words → IsClearBefore maps is (word_length is) → IsSound maps is
+sound_of_clear maps is some short clear e applies =
+    absurd (omega (arith, clear e applies, within maps is e some short applies))
+
+pub clear_more : (maps : ℕ) (is : List Insn) (pc : ℕ) → IsClearBefore maps is pc → IsClearAt maps is pc → IsClearBefore maps is (pc + 1)
+clear_more maps is pc before here e applies = omega (arith, before e applies, here e applies)
+
+-- the refusal of the lowest number at the first word that isn't clear is the first
+pub first_of_least : (maps : ℕ) (is : List Insn) (pc : ℕ) (e : LoadError) → IsClearBefore maps is pc → IsLeastAt maps is pc e → IsFirst maps is e
+first_of_least maps is pc e before at = record {
+  applies = at.applies;
+  lowest = λ other applies. omega (arith, before other applies, at.at);
+  least = λ other applies same. at.least other applies (same ∙ at.at);
+}

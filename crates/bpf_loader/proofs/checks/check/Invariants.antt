@@ -1,0 +1,5 @@
+use Rattle.bpf_loader.specs.Checks.{IsClearBefore}
+use Rattle.bpf_loader.proofs.checks.check.Given as goal
+
+abbrev pub invariant-loop-pc : goal.invariant-loop-pc
+invariant-loop-pc l = IsClearBefore l.maps l.slots l.pc

@@ -1,0 +1,12 @@
+use Rattle.std.proofs.Common.{arith}
+use Rattle.bpf_loader.proofs.CheckLemmas.{clear_past, none_and_at, none_and_none}
+use Rattle.bpf_loader.proofs.checks.check_map.Goals as goal
+
+pub returns-else-map-maps-clause-ok : goal.returns-else-map-maps-clause-ok
+returns-else-map-maps-clause-ok c =
+    clear_past _ _ _ 13 _ _ c.requires.begins c.requires.clear (λ a. a)
+    (none_and_at _ _ _ c.in-Some.ensures (λ past. omega arith))
+
+pub returns-in_default-clause-ok : goal.returns-in_default-clause-ok
+returns-in_default-clause-ok c =
+    clear_past _ _ _ 13 _ _ c.requires.begins c.requires.clear (λ a. a) (none_and_none _ _ c.in_default.ensures)

@@ -1,0 +1,139 @@
+//! The checks of a program, word by word, at one word in the order of the refusals' numbers.
+
+ghost use Rattle.std.specs.Prelude.{◌≡◌, ◌≢◌, ◌≤◌, ◌<◌, ◌⊎◌, pos, ◌<ℤ◌, ◌≤ℤ◌, [], OnOk, IfErr, IfSome, IfNone};
+ghost use Rattle.bpf_insn.specs.Refusal.{max_words};
+ghost use Rattle.bpf_loader.specs.Places.{Begins, target, word_length};
+ghost use Rattle.bpf_loader.specs.Sound.{IsSound, IsFirst};
+ghost use Rattle.bpf_loader.specs.Checks.{IsClearAt, IsClearBelow, IsLeastAt};
+
+use crate::refusal::LoadError;
+use crate::rows::{goes_on, helper_of, is_helper, jump_offset, map_of, written};
+use crate::slots::Slots;
+use bpf_insn::instruction::Insn;
+use bpf_insn::register::Reg;
+
+fn check_write(slots: &Slots, maps: usize, pc: u32, insn: Insn) -> Result<(), LoadError>
+    requires begins { Begins slots.now pc insn }
+    requires clear { IsClearBelow maps slots.now pc 8 }
+    ensures ok { OnOk result (IsClearBelow maps slots.now pc 9) }
+    ensures err { IfErr result (IsLeastAt maps slots.now pc) }
+{
+    if written(insn) == Some(Reg::R10) {
+        return Err(LoadError::WritesR10(pc));
+    }
+    Ok(())
+}
+
+/// Where a jump leads; `None` where that is outside a program of this many words.
+fn target_within(pc: u32, offset: i32, words: usize) -> Option<usize>
+    requires { words ≤ max_words }
+    ensures target { IfSome result (λ to. pos to ≡ target pc offset) }
+    ensures inside { IfSome result (λ to. to < words) }
+    ensures outside { IfNone result
+        ((target pc offset <ℤ pos 0) ⊎ (pos words ≤ℤ target pc offset)) }
+{
+    let to = i64::from(pc) + 1 + i64::from(offset);
+    if 0 <= to && to < words as i64 {
+        Some(to as usize)
+    } else {
+        None
+    }
+}
+
+fn check_target(slots: &Slots, maps: usize, pc: u32, insn: Insn) -> Result<(), LoadError>
+    requires begins { Begins slots.now pc insn }
+    requires short { word_length slots.now ≤ max_words }
+    requires clear { IsClearBelow maps slots.now pc 9 }
+    ensures ok { OnOk result (IsClearBelow maps slots.now pc 11) }
+    ensures err { IfErr result (IsLeastAt maps slots.now pc) }
+{
+    let Some(offset) = jump_offset(insn) else {
+        return Ok(());
+    };
+    let Some(to) = target_within(pc, offset, slots.len()) else {
+        return Err(LoadError::JumpOut(pc));
+    };
+    match slots.get(to) {
+        Some(_) => Ok(()),
+        None => Err(LoadError::JumpIntoWide(pc)),
+    }
+}
+
+fn check_end(slots: &Slots, maps: usize, pc: u32, insn: Insn) -> Result<(), LoadError>
+    requires begins { Begins slots.now pc insn }
+    requires short { word_length slots.now ≤ max_words }
+    requires clear { IsClearBelow maps slots.now pc 11 }
+    ensures ok { OnOk result (IsClearBelow maps slots.now pc 12) }
+    ensures err { IfErr result (IsLeastAt maps slots.now pc) }
+{
+    if goes_on(insn) && pc as usize + insn.words() as usize == slots.len() {
+        return Err(LoadError::FallsOff(pc));
+    }
+    Ok(())
+}
+
+fn check_helper(slots: &Slots, maps: usize, pc: u32, insn: Insn) -> Result<(), LoadError>
+    requires begins { Begins slots.now pc insn }
+    requires clear { IsClearBelow maps slots.now pc 12 }
+    ensures ok { OnOk result (IsClearBelow maps slots.now pc 13) }
+    ensures err { IfErr result (IsLeastAt maps slots.now pc) }
+{
+    if let Some(number) = helper_of(insn) {
+        if !is_helper(number) {
+            return Err(LoadError::UnknownHelper(pc));
+        }
+    }
+    Ok(())
+}
+
+fn check_map(slots: &Slots, maps: usize, pc: u32, insn: Insn) -> Result<(), LoadError>
+    requires begins { Begins slots.now pc insn }
+    requires clear { IsClearBelow maps slots.now pc 13 }
+    ensures ok { OnOk result (IsClearBelow maps slots.now pc 14) }
+    ensures err { IfErr result (IsLeastAt maps slots.now pc) }
+{
+    if let Some(map) = map_of(insn) {
+        if map as usize >= maps {
+            return Err(LoadError::UnknownMap(pc));
+        }
+    }
+    Ok(())
+}
+
+fn check_insn(slots: &Slots, maps: usize, pc: u32, insn: Insn) -> Result<(), LoadError>
+    requires begins { Begins slots.now pc insn }
+    requires short { word_length slots.now ≤ max_words }
+    ensures ok { OnOk result (IsClearBelow maps slots.now pc 14) }
+    ensures err { IfErr result (IsLeastAt maps slots.now pc) }
+{
+    check_write(slots, maps, pc, insn)?;
+    check_target(slots, maps, pc, insn)?;
+    check_end(slots, maps, pc, insn)?;
+    check_helper(slots, maps, pc, insn)?;
+    check_map(slots, maps, pc, insn)
+}
+
+fn check_word(slots: &Slots, maps: usize, pc: usize) -> Result<(), LoadError>
+    requires inside { pc < word_length slots.now }
+    requires short { word_length slots.now ≤ max_words }
+    ensures ok { OnOk result (IsClearAt maps slots.now pc) }
+    ensures err { IfErr result (IsLeastAt maps slots.now pc) }
+{
+    match slots.get(pc) {
+        Some(insn) => check_insn(slots, maps, pc as u32, insn),
+        None => Ok(()),
+    }
+}
+
+/// Whether the program is sound where this many maps are given; else the first refusal that applies.
+pub fn check(slots: &Slots, maps: usize) -> Result<(), LoadError>
+    requires some { slots.now ≢ [] }
+    requires short { word_length slots.now ≤ max_words }
+    ensures sound { OnOk result (IsSound maps slots.now) }
+    ensures first { IfErr result (IsFirst maps slots.now) }
+{
+    for pc in 0..slots.len() {
+        check_word(slots, maps, pc)?;
+    }
+    Ok(())
+}

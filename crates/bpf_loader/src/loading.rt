@@ -1,0 +1,53 @@
+//! From a list of instructions to a program.
+
+ghost use Rattle.std.specs.Prelude.{◌≡◌, ◌≢◌, ◌≤◌, ◌<◌, length, IfOk, IfErr, OnOk, IfSome, IfNone, IsOkUnless};
+ghost use Rattle.bpf_insn.specs.Refusal.{max_words};
+ghost use Rattle.bpf_loader.specs.Places.{word_length};
+ghost use Rattle.bpf_loader.specs.Sound.{IsSound, IsFirst};
+
+use crate::checks::check;
+use crate::loaded::Program;
+use crate::refusal::LoadError;
+use crate::slots::Slots;
+use bpf_insn::instruction::Insn;
+use bpf_shared::MapShape;
+use std::alloc::Global;
+
+const MAX_WORDS: usize = 65536;
+
+/// How many words the instructions have; `None` where they are too many for a program.
+fn word_count(insns: &[Insn]) -> Option<usize>
+    ensures counted { IfSome result (λ n. n ≡ word_length insns.now) }
+    ensures short { IfSome result (λ n. n ≤ max_words) }
+    ensures long { IfNone result (max_words < word_length insns.now) }
+{
+    let mut words = 0;
+    for insn in insns {
+        words += insn.words() as usize;
+        if words > MAX_WORDS {
+            return None;
+        }
+    }
+    Some(words)
+}
+
+/// The program of these instructions, which may name as many maps as there are shapes.
+pub fn load(alloc: Global, insns: Vec<Insn>, shapes: &[MapShape]) -> Result<Program, LoadError>
+    ensures instructions { IfOk result (λ p. p.instructions ≡ insns.items) }
+    ensures maps { IfOk result (λ p. p.maps ≡ length shapes.now) }
+    ensures sound { OnOk result (IsSound (length shapes.now) insns.items) }
+    ensures refused { IfErr result
+        (λ e. e ≢ LoadError.OutOfMemory → IsFirst (length shapes.now) insns.items e) }
+    ensures accepted { IsSound (length shapes.now) insns.items
+        → IsOkUnless result LoadError.OutOfMemory }
+{
+    if insns.is_empty() {
+        return Err(LoadError::Empty);
+    }
+    let Some(words) = word_count(&insns) else {
+        return Err(LoadError::TooLong);
+    };
+    let slots = Slots::new(alloc, &insns, words).map_err(|_| LoadError::OutOfMemory)?;
+    check(&slots, shapes.len())?;
+    Ok(Program::new(slots, shapes.len()))
+}

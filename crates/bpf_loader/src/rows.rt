@@ -1,0 +1,89 @@
+//! What the rows of the table mean for the checks.
+
+ghost use Rattle.std.specs.Prelude.{◌≡◌, ◌↔◌, IsTrue};
+ghost use Rattle.bpf_loader.specs.Rows.{fetched_into, written, jump_offset, goes_on, helper_of, map_of, IsHelper};
+
+use bpf_insn::instruction::Insn;
+use bpf_insn::operation::AtomicOp;
+use bpf_insn::register::Reg;
+
+/// The register that an atomic operation puts the old value in.
+fn fetched_into(op: AtomicOp, src: Reg) -> Option<Reg>
+    ensures { result ≡ fetched_into op src }
+{
+    match op {
+        AtomicOp::Add | AtomicOp::Or | AtomicOp::And | AtomicOp::Xor => None,
+        AtomicOp::FetchAdd
+        | AtomicOp::FetchOr
+        | AtomicOp::FetchAnd
+        | AtomicOp::FetchXor
+        | AtomicOp::Exchange => Some(src),
+        AtomicOp::CompareExchange => Some(Reg::R0),
+    }
+}
+
+/// The register that an instruction puts its result in.
+pub fn written(insn: Insn) -> Option<Reg>
+    ensures { result ≡ written insn }
+{
+    match insn {
+        Insn::Alu { dst, .. }
+        | Insn::Negate { dst, .. }
+        | Insn::SignExtend { dst, .. }
+        | Insn::SwapBytes { dst, .. }
+        | Insn::Load { dst, .. }
+        | Insn::LoadSigned { dst, .. }
+        | Insn::LoadNumber { dst, .. }
+        | Insn::LoadMap { dst, .. } => Some(dst),
+        Insn::Atomic { op, src, .. } => fetched_into(op, src),
+        Insn::CallHelper { .. } => Some(Reg::R0),
+        _ => None,
+    }
+}
+
+/// By how many words an instruction may jump, from the word behind it.
+pub fn jump_offset(insn: Insn) -> Option<i32>
+    ensures { result ≡ jump_offset insn }
+{
+    match insn {
+        Insn::Jump { offset } => Some(i32::from(offset)),
+        Insn::JumpLong { offset } => Some(offset),
+        Insn::JumpIf { offset, .. } => Some(i32::from(offset)),
+        Insn::CallLocal { offset } => Some(offset),
+        _ => None,
+    }
+}
+
+/// Whether a run may come from this instruction to the next.
+pub fn goes_on(insn: Insn) -> bool
+    ensures { result ≡ goes_on insn }
+{
+    !matches!(insn, Insn::Jump { .. } | Insn::JumpLong { .. } | Insn::Exit)
+}
+
+/// The number of the helper that is called.
+pub fn helper_of(insn: Insn) -> Option<u32>
+    ensures { result ≡ helper_of insn }
+{
+    match insn {
+        Insn::CallHelper { number } => Some(number),
+        _ => None,
+    }
+}
+
+/// The number of the map that is named.
+pub fn map_of(insn: Insn) -> Option<u32>
+    ensures { result ≡ map_of insn }
+{
+    match insn {
+        Insn::LoadMap { map, .. } => Some(map),
+        _ => None,
+    }
+}
+
+/// Whether this machine has the helper.
+pub fn is_helper(number: u32) -> bool
+    ensures { IsTrue result ↔ IsHelper number }
+{
+    matches!(number, 1 | 8)
+}
