@@ -7,6 +7,7 @@ pub mod input;
 pub mod output;
 pub mod outcome;
 pub mod perform;
+pub mod pipeline;
 pub mod refusal;
 pub mod reply;
 
