@@ -1,3 +1,4 @@
 pub mod Options
 pub mod Subcommands
 pub mod KnownBytes
+pub mod ReplyLemmas

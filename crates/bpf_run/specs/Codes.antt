@@ -15,10 +15,9 @@ use Rattle.bpf_run.specs.declared.input.InputError.TheVariants as input
 use Rattle.bpf_run.specs.declared.refusal.Refusal.{Refusal}
 use Rattle.bpf_run.specs.declared.refusal.Refusal.TheVariants as refusal
 
--- of input: L7 to L10
+-- of input: L7, L9 and L10
 abbrev pub input_code : InputError → List ℕ
 input_code input.Unread = codes "L7"
-input_code input.NotText = codes "L8"
 input_code input.OutOfMemory = codes "L9"
 input_code input.TooLong = codes "L10"
 
@@ -57,6 +56,7 @@ load_code load.OutOfMemory = codes "E14"
 
 abbrev pub code : Refusal → List ℕ
 code (refusal.Input error) = input_code error
+code refusal.NotText = codes "L8"
 code (refusal.Text error) = text_code error
 code (refusal.Insn error) = insn_code error
 code (refusal.Load error) = load_code error

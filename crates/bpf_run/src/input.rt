@@ -16,8 +16,6 @@ const CHUNK: usize = 65_536;
 pub enum InputError {
     /// A read failed.
     Unread,
-    /// The bytes aren't UTF-8.
-    NotText,
     /// There are more than `MAX_INPUT` bytes.
     TooLong,
     OutOfMemory,

@@ -1,8 +1,9 @@
 //! From the text that was read to the reply: each command over the crates below.
 
 ghost use Rattle.std.specs.Prelude.{IfErr, IfOk};
-ghost use Rattle.bpf_run.specs.Commands.{IsDisassembled, IsWordsOf, RefusesWords};
+ghost use Rattle.bpf_run.specs.Commands.{IsAnswer, IsDisassembled, IsWordsOf, RefusesWords};
 
+use crate::command::Command;
 use crate::refusal::Refusal;
 use crate::reply::Reply;
 use bpf_insn::{Insn, decode};
@@ -29,5 +30,16 @@ pub fn disassembled(alloc: Global, text: &str) -> Reply
     match disassemble(alloc, &insns) {
         Ok(text) => Reply::Text(text),
         Err(error) => Reply::Refused(Refusal::Text(error)),
+    }
+}
+
+/// What a command replies to the text that it read.
+pub fn reply(alloc: Global, command: Command, text: &str) -> Reply
+    ensures { IsAnswer command text.now result }
+{
+    match command {
+        Command::Hex { .. } => Reply::Refused(Refusal::OutOfMemory),
+        Command::Asm => Reply::Refused(Refusal::OutOfMemory),
+        Command::Disasm => disassembled(alloc, text),
     }
 }

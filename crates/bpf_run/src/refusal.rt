@@ -10,6 +10,8 @@ use std::fmt;
 #[derive(Clone, Copy, PartialEq, Eq, Debug)]
 pub enum Refusal {
     Input(InputError),
+    /// The input isn't UTF-8.
+    NotText,
     /// The text of a program, or hex digits.
     Text(TextError),
     /// The words of a program.
@@ -32,7 +34,6 @@ impl fmt::Display for InputCode {
     fn fmt<W: fmt::Write>(&self, f: &mut fmt::Formatter<W>) -> fmt::Result {
         match self.0 {
             InputError::Unread => f.write_str("L7"),
-            InputError::NotText => f.write_str("L8"),
             InputError::OutOfMemory => f.write_str("L9"),
             InputError::TooLong => f.write_str("L10"),
         }
@@ -117,6 +118,7 @@ impl fmt::Display for Refusal {
     fn fmt<W: fmt::Write>(&self, f: &mut fmt::Formatter<W>) -> fmt::Result {
         match *self {
             Refusal::Input(error) => f.write_fmt(InputCode(error)),
+            Refusal::NotText => f.write_str("L8"),
             Refusal::Text(error) => f.write_fmt(TextCode(error)),
             Refusal::Insn(error) => f.write_fmt(InsnCode(error)),
             Refusal::Load(error) => f.write_fmt(LoadCode(error)),
