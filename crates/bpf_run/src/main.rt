@@ -73,3 +73,6 @@ fn main(rt: HostRuntime) -> ExitCode {
         Err(CommandError::OutOfMemory) => refuse(alloc, Refusal::OutOfMemory, &mut output),
     }
 }
+
+#[cfg(test)]
+mod tests;
