@@ -7,6 +7,7 @@ use Rattle.bpf_shared.specs.declared.events.MapAnswer.TheVariants.{Done, Invalid
 use Rattle.bpf_shared.specs.declared.events.Event.{Event}
 use Rattle.bpf_shared.specs.declared.events.Event.TheVariants.{Begin, End, Lookup, Update, Delete, Load, Store, Atomic}
 use Rattle.bpf_shared.specs.declared.shapes.MapShape.{MapShape}
+use Rattle.bpf_shared.specs.First.{first_of}
 use Rattle.bpf_shared.specs.Shape.{IsMap, IsKeyOf, elements, element_span, IsApart, Covers}
 use Rattle.bpf_shared.specs.Bytes.{bytes_in, number_of, low_bytes, part, with_part, after_atomic}
 use Rattle.bpf_shared.specs.Store.{Value, Plain, put, never, IsLive}
@@ -45,11 +46,6 @@ refusals s m h key flags =
     ∷ (Absent, (flags == 2) && not (has_key s m key))
     ∷ (Full, not (has_key s m key) && (len (s.maps m) == h.max))
     ∷ []
-
--- the first that applies
-abbrev pub first_of : List (MapAnswer × Bool) → Option MapAnswer
-first_of [] = None
-first_of (r ∷ rs) = if r.1 then Some r.0 else first_of rs
 
 -- where an update may be refused with this answer: Busy stands behind Invalid, NoMemory last
 abbrev pub MayRefuse : Plain → ℕ → MapShape → List ℕ → ℕ → MapAnswer → Type 0

@@ -1,4 +1,6 @@
+pub mod First
 pub mod Shape
+pub mod Refusals
 pub mod Bytes
 pub mod Store
 pub mod Events
@@ -6,3 +8,12 @@ pub mod Choice
 pub mod History
 pub mod Passage
 pub mod Chain
+pub mod Sound
+pub mod Puts
+pub mod Soundness
+pub mod Runs
+pub mod Rows
+pub mod Mapped
+pub mod Forgotten
+pub mod Seen
+pub mod Passages

@@ -2,10 +2,15 @@
 //! the one contract that every shared store meets.
 #![tactic(auto)]
 
+mod element;
 mod events;
+mod plain;
+mod runs;
 mod shapes;
 mod sharing;
+mod table;
 
 pub use events::{AtomicOp, Entry, Event, MapAnswer, Size, Span, ValuePlace};
-pub use shapes::{MapShape, StoreShape};
+pub use plain::PlainStore;
+pub use shapes::{MapShape, ShapeError, StoreShape};
 pub use sharing::{Shared, Worn};

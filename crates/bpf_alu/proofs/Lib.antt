@@ -1,0 +1,2 @@
+pub mod Bitwise
+pub mod Quotient

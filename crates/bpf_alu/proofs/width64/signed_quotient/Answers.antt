@@ -1,0 +1,10 @@
+-- A signed quotient fits the width, but for the smallest number by -1, which is its own two's complement.
+use Rattle.std.proofs.Common.{arith, w64, rules}
+use Rattle.bpf_alu.specs.Arithmetic.{arithmetic}
+use Rattle.bpf_alu.proofs.Quotient.{quotient_value}
+use Rattle.bpf_alu.proofs.width64.signed_quotient.Goals as goal
+
+pub returns : goal.returns
+unfolding arithmetic
+returns c =
+    quotient_value w64 c.args.a c.args.b _ c.cast_signed.result c.cast_signed-2.result (omega arith) (omega arith) (omega arith) c.cast_signed.ensures c.cast_signed-2.ensures (search rules) (search (rules, c.cast_unsigned.ensures))

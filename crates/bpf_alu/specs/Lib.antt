@@ -1,0 +1,4 @@
+pub mod Arithmetic
+pub mod Bytes
+pub mod Comparison
+pub mod Width

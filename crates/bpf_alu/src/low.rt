@@ -1,0 +1,27 @@
+//! The low bits of a register.
+
+ghost use Rattle.std.specs.Prelude.{◌≡◌, ◌%◌, ◌^◌};
+
+/// The low 8 bits.
+#[inline]
+pub fn low8(a: u64) -> u8
+    ensures { result ≡ a % 2 ^ 8 }
+{
+    (a % 0x100) as u8
+}
+
+/// The low 16 bits.
+#[inline]
+pub fn low16(a: u64) -> u16
+    ensures { result ≡ a % 2 ^ 16 }
+{
+    (a % 0x1_0000) as u16
+}
+
+/// The low 32 bits.
+#[inline]
+pub fn low32(a: u64) -> u32
+    ensures { result ≡ a % 2 ^ 32 }
+{
+    (a % 0x1_0000_0000) as u32
+}

@@ -1,0 +1,4 @@
+pub mod Held
+pub mod State
+pub mod Row
+pub mod Step

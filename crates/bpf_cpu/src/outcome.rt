@@ -1,0 +1,38 @@
+//! How a step answers, and how a job ends.
+
+/// Why a job can't go on. The printed codes F1 to F6 are those of the program `ebpf`.
+#[derive(Clone, Copy, PartialEq, Eq, Debug)]
+pub enum Fault {
+    /// F1: an accessed byte lies outside the context and the live frames.
+    BadAddress,
+    /// F2: the bytes are good, but the address isn't a multiple of the access's size.
+    Misaligned,
+    /// F3: a local call where eight frames are live.
+    CallDepth,
+    /// F4: a map helper whose R1 is no map.
+    NotAMap,
+    /// F5: a lookup answered the 257th distinct value of the run.
+    TooManyHeld,
+    /// F6: the run can't begin, since the CPU's run counter has its last value.
+    Worn,
+}
+
+/// How a job ends.
+#[derive(Clone, Copy, PartialEq, Eq, Debug)]
+pub enum Outcome {
+    /// EXIT in the program's first function, with R0.
+    Exit(u64),
+    /// A fault of the instruction at a pc.
+    Fault(Fault, u32),
+    /// The budget's steps are made; the pc is that of the next instruction.
+    OutOfBudget(u32),
+}
+
+/// What a step answers.
+#[derive(Clone, Copy, PartialEq, Eq, Debug)]
+pub enum Turn {
+    /// The job goes on.
+    On,
+    /// The job has ended.
+    Done(Outcome),
+}
