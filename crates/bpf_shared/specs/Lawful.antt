@@ -1,7 +1,10 @@
 -- Proofs of the laws.
-use Rattle.std.proofs.Common.{◌≡◌, ◌≢◌, ℕ, zero, suc, ◌+◌, ◌-◌, ◌<◌, ◌≤◌, Bool, true, false, cond, List, [], ◌∷◌, ◌++◌, length, take, drop, get_or, slice_index, Option, Some, None, ◌⊎◌, inl, inr, if◌then◌else◌, refl, sym, ap, subst, ◌∙◌, arith}
+use Rattle.std.proofs.Common.{◌≡◌, ◌≢◌, ℕ, zero, suc, ◌+◌, ◌-◌, ◌<◌, ◌≤◌, Bool, true, false, cond, List, [], ◌∷◌, ◌++◌, length, take, drop, length-append, append_assoc, get_or, slice_index, Option, Some, None, ◌⊎◌, inl, inr, if◌then◌else◌, refl, sym, ap, subst, ◌∙◌, arith}
 use Rattle.std.proofs.lemmas.Bool.{cases_order}
 use Rattle.std.proofs.lemmas.Cmp.{nat_list_cmp_total}
+use Rattle.std.proofs.Math.ListN.{get_or-append}
+use Rattle.std.proofs.Math.Seq.{drop-append_seam, take-append_seam}
+use Rattle.std.proofs.lemmas.List.{get_or-append_right, get_or-take, get_or-drop, length-take-le}
 use Rattle.std.specs.FinMap.{get, insert, get-insert}
 use Rattle.std.specs.Ordering.{nat_cmp, eq_by_cmp, is_eq}
 use Rattle.std.specs.Cmp.{tied_itself}
@@ -18,15 +21,15 @@ use Rattle.bpf_shared.specs.declared.events.MapAnswer.TheVariants.{Done, Invalid
 use Rattle.bpf_shared.specs.declared.shapes.MapShape.{MapShape}
 use Rattle.bpf_shared.specs.First.{first_of}
 use Rattle.bpf_shared.specs.Shape.{Shape, IsMap, Covers, elements, element_span}
-use Rattle.bpf_shared.specs.Bytes.{bytes_in, after_atomic}
+use Rattle.bpf_shared.specs.Bytes.{bytes_in, number_of, low_bytes, part, with_part, after_atomic}
 use Rattle.bpf_shared.specs.Store.{Keys, Value, Plain, put, Leads, IsLive}
-use Rattle.bpf_shared.specs.Events.{has_key, refusals, kept_after, updated, Updates, deleted, Deletes, Reaches, written, number_at, Allowed}
+use Rattle.bpf_shared.specs.Events.{looked_up, has_key, refusals, kept_after, updated, Updates, deleted, Deletes, Reaches, written, number_at, Allowed}
 use Rattle.bpf_shared.specs.Choice.{IsTaken, IsShort, IsLowestFree, Chosen, PlainlyAllowed}
 use Rattle.bpf_shared.specs.History.{Legal}
 use Rattle.bpf_shared.specs.Sound.{IsSound}
-use Rattle.bpf_shared.specs.Soundness.{as_made_sound, legal_sound, span-written}
-use Rattle.bpf_shared.specs.Puts.{put-same, put-other}
-use Rattle.bpf_shared.specs.Laws.{LegalIsSound, ValuesStay, RefusalsChangeNothing, MakesValue, UpdatesMakeValues, OneValueIsReached, asked, RepliesAreDetermined}
+use Rattle.bpf_shared.specs.Soundness.{as_made_sound, legal_sound, span-written, length-low_bytes}
+use Rattle.bpf_shared.specs.Puts.{equal_or_not, put-same, put-other}
+use Rattle.bpf_shared.specs.Laws.{LegalIsSound, ValuesStay, RefusalsChangeNothing, MakesValue, UpdatesMakeValues, OneValueIsReached, WritesTouchNamedBytes, asked, RepliesAreDetermined}
 
 pub legal_is_sound : LegalIsSound
 legal_is_sound h log s l = legal_sound _ s log (as_made_sound h) l
@@ -99,7 +102,7 @@ delete_stays s t m key Exists v u l = absurd u
 delete_stays s t m key Full v u l = absurd u
 delete_stays s t m key NoMemory v u l = absurd u
 
-looked_stays : (s : Plain) (c : ℕ) (o : Option ℕ) (v : ℕ) → v < s.made → Stays s (Rattle.bpf_shared.specs.Events.looked_up s c o) v
+looked_stays : (s : Plain) (c : ℕ) (o : Option ℕ) (v : ℕ) → v < s.made → Stays s (looked_up s c o) v
 looked_stays s c None v l = (l, refl)
 looked_stays s c (Some w) v l = (l, refl)
 
@@ -122,10 +125,58 @@ values_stay s t (e ∷ es) v h l =
 
 -- ---- one value is reached
 pub one_value_is_reached : OneValueIsReached
-one_value_is_reached s c d v w a n so l p q = elim (Rattle.bpf_shared.specs.Puts.equal_or_not v w) [
+one_value_is_reached s c d v w a n so l p q = elim (equal_or_not v w) [
   | inl e ↦ e
   | inr ne ↦ absurd (so.apart v w (inr (c, p.holds)) (inr (d, q.holds)) ne a (p.covers.0, (let k = p.covers.1 in omega arith)) (q.covers.0, (let k = q.covers.1 in omega arith)))
 ]
+
+-- ---- writes
+module _ (bs others : List ℕ) (i : ℕ) (l : i + length others ≤ length bs) where
+  front : length (take i bs) ≡ i
+  front = length-take-le i bs (omega arith)
+
+  whole : length (take i bs ++ others) ≡ i + length others
+  whole = length-append (take i bs) others ∙ ap (λ (n : ℕ). n + length others) front
+
+  -- a byte before them, a byte behind them, and they themselves
+  byte_before : (k : ℕ) → k < i → slice_index (with_part bs i others) k ≡ slice_index bs k
+  byte_before k h =
+      get_or-append (take i bs ++ others) (drop (i + length others) bs) 0 k (omega (arith, whole))
+      ∙ (get_or-append (take i bs) others 0 k (omega (arith, front)) ∙ get_or-take i bs k 0 h)
+
+  byte_behind : (k : ℕ) → i + length others ≤ k → slice_index (with_part bs i others) k ≡ slice_index bs k
+  byte_behind k h =
+      get_or-append_right (take i bs ++ others) (drop (i + length others) bs) (i + length others) k 0 whole h
+      ∙ (get_or-drop (i + length others) bs (k - (i + length others)) 0 ∙ ap (λ (n : ℕ). get_or bs n 0) (let e : i + length others + (k - (i + length others)) ≡ k = omega arith in e))
+
+  these_bytes : part (with_part bs i others) i (length others) ≡ others
+  these_bytes =
+      ap (λ (z : List ℕ). take (length others) (drop i z)) (append_assoc (take i bs) others (drop (i + length others) bs))
+      ∙ (ap (λ (n : ℕ). take (length others) (drop n (take i bs ++ (others ++ drop (i + length others) bs)))) (sym front)
+      ∙ (ap (take (length others)) (drop-append_seam (take i bs) (others ++ drop (i + length others) bs)) ∙ take-append_seam others (drop (i + length others) bs)))
+
+pub writes_touch_named_bytes : WritesTouchNamedBytes
+writes_touch_named_bytes s c v a n x so r =
+    let bs = (s.value v).bytes in
+    let i = a - (s.value v).span.at in
+    let low = low_bytes n x in
+    let low_size : length low ≡ n = length-low_bytes n x in
+    let size : length bs ≡ (s.value v).span.size = so.sizes v (so.live_made v (inr (c, r.holds))) in
+    let from : (s.value v).span.at ≤ a = r.covers.0 in
+    let to : a + n ≤ (s.value v).span.at + (s.value v).span.size = r.covers.1 in
+    let fits : i + length low ≤ length bs = omega arith in
+    let now : Value = record (s.value v) { bytes = with_part bs i low } in
+    let here : (written s v a n x).value v ≡ now = put-same s.value v v now refl in (
+      λ w ne. put-other s.value v w now ne,
+      λ b inside beside.
+          ap (λ (y : Value). slice_index y.bytes (b - y.span.at)) here
+          ∙ elim beside [
+            | inl k ↦ byte_before bs low i fits (b - (s.value v).span.at) (let h : (s.value v).span.at ≤ b = inside.0 in omega arith)
+            | inr k ↦ byte_behind bs low i fits (b - (s.value v).span.at) (let h : (s.value v).span.at ≤ b = inside.0 in omega arith)
+          ],
+      ap (λ (y : Value). number_of (part y.bytes (a - y.span.at) n)) here
+          ∙ (ap (λ (k : ℕ). number_of (part (with_part bs i low) i k)) (sym low_size) ∙ ap number_of (these_bytes bs low i fits)),
+    )
 
 some_bytes : (size : Size) → 0 < bytes_in size
 some_bytes Byte = omega arith
@@ -238,8 +289,8 @@ module _ (s : Plain) (so : IsSound s) (c : ℕ) (at : ℕ) (size : Size) where
       let found : x ≡ y = p.1.2 ∙ (ap (λ (v : ℕ). number_at s v at (bytes_in size)) (sym reached) ∙ sym q.1.2) in (
         found,
         p.1.3
-        ∙ (ap (λ (z : ℕ). written s p.1.0 at (bytes_in size) (after_atomic op (bytes_in size) z operand expected)) found
-        ∙ (ap (λ (v : ℕ). written s v at (bytes_in size) (after_atomic op (bytes_in size) y operand expected)) (sym reached) ∙ sym q.1.3)),
+            ∙ (ap (λ (z : ℕ). written s p.1.0 at (bytes_in size) (after_atomic op (bytes_in size) z operand expected)) found
+            ∙ (ap (λ (v : ℕ). written s v at (bytes_in size) (after_atomic op (bytes_in size) y operand expected)) (sym reached) ∙ sym q.1.3)),
       )
 
 -- the same call, with the reply of another event

@@ -7,6 +7,7 @@ use Rattle.bpf_shared.specs.declared.events.Event.TheVariants.{Begin, End, Looku
 use Rattle.bpf_shared.specs.declared.events.MapAnswer.{MapAnswer}
 use Rattle.bpf_shared.specs.declared.events.MapAnswer.TheVariants.{Done}
 use Rattle.bpf_shared.specs.Shape.{Shape, Holds, Covers}
+use Rattle.bpf_shared.specs.Bytes.{number_of, low_bytes}
 use Rattle.bpf_shared.specs.Store.{Plain, as_made, Leads}
 use Rattle.bpf_shared.specs.Events.{Allowed, Reaches, written, number_at}
 use Rattle.bpf_shared.specs.Choice.{PlainlyAllowed}
@@ -46,11 +47,12 @@ OneValueIsReached = (s : Plain) (c d v w a n : ℕ) → IsSound s → 0 < n → 
 abbrev pub byte_at : Plain → ℕ → ℕ → ℕ
 byte_at s v a = slice_index (s.value v).bytes (a - (s.value v).span.at)
 
--- a write changes the named bytes of one value alone
+-- a write changes the named bytes of one value alone, and they read as the number's low bytes
 abbrev pub WritesTouchNamedBytes : Type 0
 WritesTouchNamedBytes = (s : Plain) (c v a n x : ℕ) → IsSound s → Reaches s c v a n →
     ((w : ℕ) → w ≢ v → (written s v a n x).value w ≡ s.value w)
     × ((b : ℕ) → Holds (s.value v).span b → (b < a) ⊎ (a + n ≤ b) → byte_at (written s v a n x) v b ≡ byte_at s v b)
+    × (number_at (written s v a n x) v a n ≡ number_of (low_bytes n x))
 
 -- the call that an event answers: the event with a reply that says nothing
 abbrev pub asked : Event → Event

@@ -4,6 +4,7 @@
 
 mod element;
 mod events;
+pub mod laws;
 mod plain;
 mod runs;
 mod shapes;
