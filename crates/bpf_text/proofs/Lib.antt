@@ -2,3 +2,5 @@ pub mod HexLemmas
 pub mod FormText
 pub mod Numbers
 pub mod Scanning
+pub mod Chains
+pub mod Sound
