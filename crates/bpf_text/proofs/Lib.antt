@@ -4,3 +4,4 @@ pub mod Numbers
 pub mod Scanning
 pub mod Chains
 pub mod Sound
+pub mod Complete
