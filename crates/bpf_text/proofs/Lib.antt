@@ -5,3 +5,4 @@ pub mod Scanning
 pub mod Chains
 pub mod Sound
 pub mod Complete
+pub mod LabelLemmas
