@@ -5,6 +5,7 @@ pub mod disassembly;
 pub mod error;
 pub mod hex_text;
 mod keywords;
+mod labels;
 mod pieces;
 mod reading;
 mod signs;
