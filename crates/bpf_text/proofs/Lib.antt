@@ -6,3 +6,4 @@ pub mod Chains
 pub mod Sound
 pub mod Complete
 pub mod LabelLemmas
+pub mod BodyLemmas

@@ -11,3 +11,5 @@ pub mod Reading
 pub mod Judging
 pub mod Labels
 pub mod Assembly
+pub mod Sources
+pub mod Cutting
