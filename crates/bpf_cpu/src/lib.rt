@@ -13,3 +13,6 @@ mod step;
 pub use cpu::Cpu;
 pub use held::HeldSpans;
 pub use outcome::{Fault, Outcome, Turn};
+
+#[cfg(test)]
+mod tests;

@@ -47,6 +47,6 @@ drafted d = record { insn = d.insn; name = option_copied d.target }
 
 -- the line is read as the draft; has no form; has one, with a number that doesn't fit
 abbrev pub Judged : Result DraftValue LineError → Option Written → Type 0
-Judged (Ok d) read = read ≡ Some (drafted d)
+Judged (Ok d) read = (read ≡ Some (drafted d)) × Fits d.insn
 Judged (Err BadLine) read = read ≡ None
 Judged (Err BadNumber) read = IsSomeAnd read (λ i. Fits i.insn → ⊥)

@@ -1,13 +1,16 @@
 //! Programs as text that people read and write: assembly text, and bytes as hex digits.
 #![tactic(auto)]
 
+mod assembly;
 pub mod disassembly;
 pub mod error;
 pub mod hex_text;
 mod keywords;
+mod labels;
 mod pieces;
 mod reading;
 mod signs;
+mod source;
 mod token;
 mod words;
 
