@@ -12,4 +12,3 @@ pub mod Judging
 pub mod Labels
 pub mod Assembly
 pub mod Sources
-pub mod Cutting
