@@ -8,3 +8,9 @@ pub mod Choice
 pub mod History
 pub mod Passage
 pub mod Chain
+pub mod Sound
+pub mod Puts
+pub mod Soundness
+pub mod Rows
+pub mod Mapped
+pub mod Forgotten

@@ -2,9 +2,12 @@
 //! the one contract that every shared store meets.
 #![tactic(auto)]
 
+mod element;
 mod events;
+mod runs;
 mod shapes;
 mod sharing;
+mod table;
 
 pub use events::{AtomicOp, Entry, Event, MapAnswer, Size, Span, ValuePlace};
 pub use shapes::{MapShape, ShapeError, StoreShape};

@@ -98,4 +98,20 @@ impl StoreShape {
             maps,
         })
     }
+
+    /// How many CPUs there are.
+    pub fn cpus(&self) -> u8
+        ensures cpus { result ≡ self.now.cpus }
+        ensures in_range { IsShape self.now }
+    {
+        self.cpus
+    }
+
+    /// The maps, by their numbers.
+    pub fn maps(&self) -> &[MapShape]
+        ensures maps { result.now ≡ self.now.maps }
+        ensures in_range { IsShape self.now }
+    {
+        &self.maps
+    }
 }

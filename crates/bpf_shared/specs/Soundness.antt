@@ -1,0 +1,286 @@
+-- Each store that a legal history leads to is sound.
+use Rattle.std.proofs.Common.{◌≡◌, ◌≢◌, ℕ, ◌<◌, Bool, true, false, List, [], ◌∷◌, Option, Some, None, ◌⊎◌, inl, inr, if◌then◌else◌, refl, sym, ap, subst, ◌∙◌, arith}
+use Rattle.std.specs.FinMap.{get, insert, remove, get-empty}
+use Rattle.std.specs.Ordering.{nat_cmp}
+use Rattle.std.specs.Cmp.Lexicographic.{slice_cmp}
+use Rattle.bpf_shared.specs.declared.events.Span.{Span}
+use Rattle.bpf_shared.specs.declared.events.Event.{Event}
+use Rattle.bpf_shared.specs.declared.events.Entry.{Entry}
+use Rattle.bpf_shared.specs.declared.events.Event.TheVariants.{Begin, End, Lookup, Update, Delete, Load, Store, Atomic}
+use Rattle.bpf_shared.specs.declared.events.MapAnswer.{MapAnswer}
+use Rattle.bpf_shared.specs.declared.events.MapAnswer.TheVariants.{Done, Invalid, Busy, Exists, Absent, Full, NoMemory}
+use Rattle.bpf_shared.specs.declared.shapes.MapShape.{MapShape}
+use Rattle.bpf_shared.specs.Shape.{Shape, IsApart}
+use Rattle.bpf_shared.specs.Store.{Keys, Value, Plain, put, never, as_made, Leads, IsInMap, IsLive}
+use Rattle.bpf_shared.specs.Events.{entered, left, looked_up, kept_after, updated, Updates, deleted, Deletes, written, Allowed}
+use Rattle.bpf_shared.specs.History.{Legal, PlainlyLegal}
+use Rattle.bpf_shared.specs.Sound.{IsSound}
+use Rattle.bpf_shared.specs.Puts.{true_or_false, equal_or_not, put-same, put-other, put_cases, put_pair, insert_cases, remove_cases}
+
+holder_runs : (s : Plain) → IsSound s → (c v : ℕ) → s.held c v ≡ true → s.running c ≡ true
+holder_runs s so c v h = elim (true_or_false (s.running c)) [ inl r ↦ r | inr r ↦ let k = (so.idle c r v).0 in cc ]
+
+-- ---- as made
+pub as_made_sound : (h : Shape) → IsSound (as_made h)
+as_made_sound h = record {
+  held = λ c v e. cc;
+  idle = λ c r v. (refl, refl);
+  live_made = λ v l. absurd (nothing_live v l);
+  kept_made = λ v k. (let e : false ≡ true = k.1 in cc);
+  apart = λ v w p q ne. absurd (nothing_live v p);
+}
+  where
+    nothing_live : (v : ℕ) → IsLive (as_made h) v → ⊥
+    nothing_live v (inl p) = let k = sym (get-empty {X = ℕ} (slice_cmp nat_cmp) p.1.0) ∙ p.1.1 in cc
+    nothing_live v (inr p) = let e : false ≡ true = p.1 in cc
+
+-- ---- begin and end
+-- what is held or kept by none more, since this CPU's are gone
+still : (f : ℕ → ℕ → Bool) (c d v : ℕ) → put f c never d v ≡ true → (d ≢ c) × (f d v ≡ true)
+still f c d v h = elim (put_cases f c d never) [
+  | inl k ↦ absurd (let e : false ≡ true = sym (ap (λ (g : ℕ → Bool). g v) k.1) ∙ h in cc)
+  | inr k ↦ (k.0, sym (ap (λ (g : ℕ → Bool). g v) k.1) ∙ h)
+]
+
+others : (f : ℕ → ℕ → Bool) (c d v : ℕ) → d ≢ c → f d v ≡ true → put f c never d v ≡ true
+others f c d v ne h = ap (λ (g : ℕ → Bool). g v) (put-other f c d never ne) ∙ h
+
+none_more : (f : ℕ → ℕ → Bool) (c d v : ℕ) → f d v ≡ false → put f c never d v ≡ false
+none_more f c d v h = elim (put_cases f c d never) [ inl k ↦ ap (λ (g : ℕ → Bool). g v) k.1 | inr k ↦ ap (λ (g : ℕ → Bool). g v) k.1 ∙ h ]
+
+none_of : (f : ℕ → ℕ → Bool) (c v : ℕ) → put f c never c v ≡ false
+none_of f c v = ap (λ (g : ℕ → Bool). g v) (put-same f c c never refl)
+
+entered_live : (s : Plain) (c v : ℕ) → IsLive (entered s c) v → IsLive s v
+entered_live s c v (inl p) = inl p
+entered_live s c v (inr p) = inr (p.0, (still s.held c p.0 v p.1).1)
+
+pub entered_sound : (s : Plain) (c : ℕ) → IsSound s → IsSound (entered s c)
+entered_sound s c so = record {
+  held = λ d v h. so.held d v (still s.held c d v h).1;
+  idle = λ d r v. elim (put_cases s.running c d true) [
+    | inl k ↦ absurd (let e : true ≡ false = sym k.1 ∙ r in cc)
+    | inr k ↦ (let was = so.idle d (sym k.1 ∙ r) v in (none_more s.held c d v was.0, was.1))
+  ];
+  live_made = λ v l. so.live_made v (entered_live s c v l);
+  kept_made = so.kept_made;
+  apart = λ v w p q. so.apart v w (entered_live s c v p) (entered_live s c w q);
+}
+
+left_live : (s : Plain) (c v : ℕ) → IsLive (left s c) v → IsLive s v
+left_live s c v (inl p) = inl p
+left_live s c v (inr p) = inr (p.0, (still s.held c p.0 v p.1).1)
+
+pub left_sound : (s : Plain) (c : ℕ) → IsSound s → IsSound (left s c)
+left_sound s c so = record {
+  held = λ d v h. (let was = still s.held c d v h in elim (so.held d v was.1) [ inl p ↦ inl p | inr k ↦ inr (others s.kept c d v was.0 k) ]);
+  idle = λ d r v. elim (put_cases s.running c d false) [
+    | inl k ↦ (
+      ap (λ (x : ℕ). put s.held c never x v) k.0 ∙ none_of s.held c v,
+      ap (λ (x : ℕ). put s.kept c never x v) k.0 ∙ none_of s.kept c v,
+    )
+    | inr k ↦ (let was = so.idle d (sym k.1 ∙ r) v in (none_more s.held c d v was.0, none_more s.kept c d v was.1))
+  ];
+  live_made = λ v l. so.live_made v (left_live s c v l);
+  kept_made = λ v k. so.kept_made v (k.0, (still s.kept c k.0 v k.1).1);
+  apart = λ v w p q. so.apart v w (left_live s c v p) (left_live s c w q);
+}
+
+-- ---- lookups
+looked_live : (s : Plain) (c m v : ℕ) → IsInMap s m v → (w : ℕ) → IsLive (looked_up s c (Some v)) w → IsLive s w
+looked_live s c m v i w (inl p) = inl p
+looked_live s c m v i w (inr p) = elim (put_pair s.held c v p.0 w p.1) [ inl e ↦ inl (m, subst (IsInMap s m) (sym e.1) i) | inr h ↦ inr (p.0, h) ]
+
+looked_sound : (s : Plain) (c m v : ℕ) → IsInMap s m v → s.running c ≡ true → IsSound s → IsSound (looked_up s c (Some v))
+looked_sound s c m v i r so = record {
+  held = λ d w h. elim (put_pair s.held c v d w h) [ inl e ↦ inl (m, subst (IsInMap s m) (sym e.1) i) | inr k ↦ so.held d w k ];
+  idle = λ d h w. (
+    let ne : d ≢ c = λ e. (let k : s.running d ≡ true = ap s.running e ∙ r in cc) in
+        ap (λ (f : ℕ → Bool). f w) (put-other s.held c d (put (s.held c) v true) ne) ∙ (so.idle d h w).0,
+    (so.idle d h w).1,
+  );
+  live_made = λ w l. so.live_made w (looked_live s c m v i w l);
+  kept_made = so.kept_made;
+  apart = λ x y p q. so.apart x y (looked_live s c m v i x p) (looked_live s c m v i y q);
+}
+
+pub looked_up_sound : (s : Plain) (c m : ℕ) (key : List ℕ) (o : Option ℕ) → get (s.maps m) key ≡ o → s.running c ≡ true → IsSound s → IsSound (looked_up s c o)
+looked_up_sound s c m key None e r so = so
+looked_up_sound s c m key (Some v) e r so = looked_sound s c m v (key, e) r so
+
+-- ---- what is kept once a value left its map
+pub kept_still : (s : Plain) (o : Option ℕ) (c w : ℕ) → s.kept c w ≡ true → kept_after s o c w ≡ true
+kept_still s None c w h = h
+kept_still s (Some v) c w h = go (s.running c)
+  where
+    go : (r : Bool) → (if r then put (s.kept c) v true else s.kept c) w ≡ true
+    go true = elim (put_cases (s.kept c) v w true) [ inl k ↦ k.1 | inr k ↦ k.1 ∙ h ]
+    go false = h
+
+pub kept_now : (s : Plain) (o : Option ℕ) (c v : ℕ) → o ≡ Some v → s.running c ≡ true → kept_after s o c v ≡ true
+kept_now s o c v e r =
+    ap (λ (p : Option ℕ). kept_after s p c v) e
+    ∙ (ap (λ (b : Bool). (if b then put (s.kept c) v true else s.kept c) v) r ∙ put-same (s.kept c) v v true refl)
+
+kept_idle : (s : Plain) (o : Option ℕ) (c w : ℕ) → s.running c ≡ false → s.kept c w ≡ false → kept_after s o c w ≡ false
+kept_idle s None c w r h = h
+kept_idle s (Some v) c w r h = ap (λ (b : Bool). (if b then put (s.kept c) v true else s.kept c) w) r ∙ h
+
+pub kept_from : (s : Plain) (o : Option ℕ) (c w : ℕ) → kept_after s o c w ≡ true → (o ≡ Some w) ⊎ (s.kept c w ≡ true)
+kept_from s None c w h = inr h
+kept_from s (Some v) c w h = go (s.running c) h
+  where
+    go : (r : Bool) → (if r then put (s.kept c) v true else s.kept c) w ≡ true → (Some v ≡ Some w) ⊎ (s.kept c w ≡ true)
+    go true k = elim (put_cases (s.kept c) v w true) [ inl e ↦ inl (ap (λ (x : ℕ). Some x) (sym e.0)) | inr e ↦ inr (sym e.1 ∙ k) ]
+    go false k = inr k
+
+-- ---- a map changed at one key
+module _ (s : Plain) (m : ℕ) (key : List ℕ) (new : Keys) where
+  -- a value stays in its map, or it is the one that left
+  stays : ((q : List ℕ) → (q ≡ key) ⊎ (get new q ≡ get (s.maps m) q)) → (d : ℕ) (q : List ℕ) (v : ℕ) → Leads s d q v → (get (put s.maps m new d) q ≡ Some v) ⊎ (get (s.maps m) key ≡ Some v)
+  stays same d q v h = elim (put_cases s.maps m d new) [
+    | inr k ↦ inl (ap (λ (x : Keys). get x q) k.1 ∙ h)
+    | inl k ↦
+        let there : get (s.maps m) q ≡ Some v = ap (λ (x : ℕ). get (s.maps x) q) (sym k.0) ∙ h in
+        elim (same q) [
+          | inl e ↦ inr (ap (get (s.maps m)) (sym e) ∙ there)
+          | inr e ↦ inl (ap (λ (x : Keys). get x q) k.1 ∙ (e ∙ there))
+        ]
+  ]
+
+  -- and a value that is in it was there, or is what the key leads to now
+  was : (o : Option ℕ) → ((q : List ℕ) → (get new q ≡ o) ⊎ (get new q ≡ get (s.maps m) q)) → (d : ℕ) (q : List ℕ) (v : ℕ) → get (put s.maps m new d) q ≡ Some v → (o ≡ Some v) ⊎ Leads s d q v
+  was o same d q v h = elim (put_cases s.maps m d new) [
+    | inr k ↦ inr (sym (ap (λ (x : Keys). get x q) k.1) ∙ h)
+    | inl k ↦
+        let there : get new q ≡ Some v = sym (ap (λ (x : Keys). get x q) k.1) ∙ h in
+        elim (same q) [
+          | inl e ↦ inl (sym e ∙ there)
+          | inr e ↦ inr (ap (λ (x : ℕ). get (s.maps x) q) k.0 ∙ (sym e ∙ there))
+        ]
+  ]
+
+module _ (s : Plain) (m : ℕ) (key : List ℕ) (so : IsSound s) where
+  gone_made : (w : ℕ) → get (s.maps m) key ≡ Some w → w < s.made
+  gone_made w e = so.live_made w (inl (m, (key, e)))
+
+  keeps_made : (w : ℕ) → (c : ℕ) × (kept_after s (get (s.maps m) key) c w ≡ true) → w < s.made
+  keeps_made w k = elim (kept_from s (get (s.maps m) key) k.0 w k.1) [ inl e ↦ gone_made w e | inr e ↦ so.kept_made w (k.0, e) ]
+
+  deleted_was : (d w : ℕ) → IsInMap (deleted s m key) d w → IsInMap s d w
+  deleted_was d w p = (p.0, elim (was s m key (remove (s.maps m) key) None (λ q. elim (remove_cases (s.maps m) key q) [ inl e ↦ inl e.1 | inr e ↦ inr e ]) d p.0 w p.1) [ inl e ↦ cc | inr h ↦ h ])
+
+  deleted_live : (w : ℕ) → IsLive (deleted s m key) w → IsLive s w
+  deleted_live w (inl p) = inl (p.0, deleted_was p.0 w p.1)
+  deleted_live w (inr p) = inr p
+
+  pub deleted_sound : IsSound (deleted s m key)
+  deleted_sound = record {
+    held = λ c w h. elim (so.held c w h) [
+      | inr k ↦ inr (kept_still s (get (s.maps m) key) c w k)
+      | inl p ↦ elim (stays s m key (remove (s.maps m) key) (λ q. elim (remove_cases (s.maps m) key q) [ inl e ↦ inl e.0 | inr e ↦ inr e ]) p.0 p.1.0 w p.1.1) [
+        | inl l ↦ inl (p.0, (p.1.0, l))
+        | inr e ↦ inr (kept_now s (get (s.maps m) key) c w e (holder_runs s so c w h))
+      ]
+    ];
+    idle = λ c r w. ((so.idle c r w).0, kept_idle s (get (s.maps m) key) c w r (so.idle c r w).1);
+    live_made = λ w l. so.live_made w (deleted_live w l);
+    kept_made = keeps_made;
+    apart = λ v w p q. so.apart v w (deleted_live v p) (deleted_live w q);
+  }
+
+  module _ (x : Value) where
+    updated_was : (d w : ℕ) → IsInMap (updated s m key x) d w → (w ≡ s.made) ⊎ IsInMap s d w
+    updated_was d w p = elim (was s m key (insert (s.maps m) key s.made) (Some s.made) (λ q. elim (insert_cases (s.maps m) key s.made q) [ inl e ↦ inl e.1 | inr e ↦ inr e ]) d p.0 w p.1) [ inl e ↦ inl (let k : Some s.made ≡ Some w = e in cc) | inr h ↦ inr (p.0, h) ]
+
+    updated_live : (w : ℕ) → IsLive (updated s m key x) w → (w ≡ s.made) ⊎ IsLive s w
+    updated_live w (inl p) = elim (updated_was p.0 w p.1) [ inl e ↦ inl e | inr h ↦ inr (inl (p.0, h)) ]
+    updated_live w (inr p) = inr (inr p)
+
+    old_value : (w : ℕ) → IsLive s w → put s.value s.made x w ≡ s.value w
+    old_value w l = put-other s.value s.made w x (λ e. let k = so.live_made w l in omega arith)
+
+    back : (p q : Span) → IsApart p q → IsApart q p
+    back p q h = λ a i j. h a j i
+
+    pub updated_sound : ((v : ℕ) → IsLive s v → IsApart x.span (s.value v).span) → IsSound (updated s m key x)
+    updated_sound free = record {
+      held = λ c w h. elim (so.held c w h) [
+        | inr k ↦ inr (kept_still s (get (s.maps m) key) c w k)
+        | inl p ↦ elim (stays s m key (insert (s.maps m) key s.made) (λ q. elim (insert_cases (s.maps m) key s.made q) [ inl e ↦ inl e.0 | inr e ↦ inr e ]) p.0 p.1.0 w p.1.1) [
+          | inl l ↦ inl (p.0, (p.1.0, l))
+          | inr e ↦ inr (kept_now s (get (s.maps m) key) c w e (holder_runs s so c w h))
+        ]
+      ];
+      idle = λ c r w. ((so.idle c r w).0, kept_idle s (get (s.maps m) key) c w r (so.idle c r w).1);
+      live_made = λ w l. elim (updated_live w l) [ inl e ↦ omega arith | inr k ↦ (let b = so.live_made w k in omega arith) ];
+      kept_made = λ w k. (let b = keeps_made w k in omega arith);
+      apart = λ v w p q ne. elim (updated_live v p) [
+        | inl e ↦ elim (updated_live w q) [
+          | inl f ↦ absurd (ne (e ∙ sym f))
+          | inr l ↦ subst (λ (y : Value). IsApart y.span (put s.value s.made x w).span) (sym (put-same s.value s.made v x e))
+              (subst (λ (y : Value). IsApart x.span y.span) (sym (old_value w l)) (free w l))
+        ]
+        | inr l ↦ elim (updated_live w q) [
+          | inl f ↦ subst (λ (y : Value). IsApart (put s.value s.made x v).span y.span) (sym (put-same s.value s.made w x f))
+              (subst (λ (y : Value). IsApart y.span x.span) (sym (old_value v l)) (back x.span (s.value v).span (free v l)))
+          | inr k ↦ subst (λ (y : Value). IsApart y.span (put s.value s.made x w).span) (sym (old_value v l))
+              (subst (λ (y : Value). IsApart (s.value v).span y.span) (sym (old_value w k)) (so.apart v w l k ne))
+        ]
+      ];
+    }
+
+-- ---- writes
+pub span-written : (s : Plain) (v a n x w : ℕ) → ((written s v a n x).value w).span ≡ (s.value w).span
+span-written s v a n x w = go (equal_or_not w v)
+  where
+    go : (w ≡ v) ⊎ (w ≢ v) → ((written s v a n x).value w).span ≡ (s.value w).span
+    go (inl e) = ap (λ (y : Value). y.span) (put-same s.value v w _ e) ∙ ap (λ (k : ℕ). (s.value k).span) (sym e)
+    go (inr ne) = ap (λ (y : Value). y.span) (put-other s.value v w _ ne)
+
+pub written_sound : (s : Plain) (v a n x : ℕ) → IsSound s → IsSound (written s v a n x)
+written_sound s v a n x so = record {
+  held = so.held;
+  idle = so.idle;
+  live_made = so.live_made;
+  kept_made = so.kept_made;
+  apart = λ u w p q ne. subst (λ (y : Span). IsApart y ((written s v a n x).value w).span) (sym (span-written s v a n x u))
+      (subst (λ (y : Span). IsApart (s.value u).span y) (sym (span-written s v a n x w)) (so.apart u w p q ne));
+}
+
+-- ---- all events
+updates_sound : (s t : Plain) (m : ℕ) (h : MapShape) (key bytes : List ℕ) (flags : ℕ) (answer : MapAnswer) → IsSound s → Updates s m h key bytes flags answer t → IsSound t
+updates_sound s t m h key bytes flags Done so u = subst IsSound (sym u.1.2) (updated_sound s m key so (record { bytes = bytes; span = u.1.0 }) u.1.1.apart)
+updates_sound s t m h key bytes flags Invalid so u = subst IsSound (sym u.1) so
+updates_sound s t m h key bytes flags Busy so u = subst IsSound (sym u.1) so
+updates_sound s t m h key bytes flags Exists so u = subst IsSound (sym u.1) so
+updates_sound s t m h key bytes flags Absent so u = subst IsSound (sym u.1) so
+updates_sound s t m h key bytes flags Full so u = subst IsSound (sym u.1) so
+updates_sound s t m h key bytes flags NoMemory so u = subst IsSound (sym u.1) so
+
+deletes_sound : (s t : Plain) (m : ℕ) (key : List ℕ) (answer : MapAnswer) → IsSound s → Deletes s m key answer t → IsSound t
+deletes_sound s t m key Done so u = subst IsSound (sym u.1) (deleted_sound s m key so)
+deletes_sound s t m key Busy so u = subst IsSound (sym u) so
+deletes_sound s t m key Absent so u = subst IsSound (sym u.1) so
+deletes_sound s t m key Invalid so u = absurd u
+deletes_sound s t m key Exists so u = absurd u
+deletes_sound s t m key Full so u = absurd u
+deletes_sound s t m key NoMemory so u = absurd u
+
+pub allowed_sound : (s t : Plain) (c : ℕ) (e : Event) → IsSound s → Allowed s c e t → IsSound t
+allowed_sound s t c Begin so a = subst IsSound (sym a.2) (entered_sound s c so)
+allowed_sound s t c End so a = subst IsSound (sym a.1) (left_sound s c so)
+allowed_sound s t c (Lookup m key found) so a = subst IsSound (sym a.1.2) (looked_up_sound s c m key (get (s.maps m) key) refl a.0 so)
+allowed_sound s t c (Update m key bytes flags answer) so a = updates_sound s t m a.1.0 key bytes flags answer so a.1.4
+allowed_sound s t c (Delete m key answer) so a = deletes_sound s t m key answer so a.1.1
+allowed_sound s t c (Load at size found) so a = subst IsSound (sym a.1.3) so
+allowed_sound s t c (Store at size x) so a = subst IsSound (sym a.1.2) (written_sound s a.1.0 at _ x so)
+allowed_sound s t c (Atomic at size op operand expected found) so a = subst IsSound (sym a.1.3) (written_sound s a.1.0 at _ _ so)
+
+pub legal_sound : (s t : Plain) (log : List Entry) → IsSound s → Legal s log t → IsSound t
+legal_sound s t [] so l = subst IsSound l so
+legal_sound s t (e ∷ es) so l = legal_sound l.0 t es (allowed_sound s l.0 e.cpu e.event so l.1) l.2
+
+pub plainly_sound : (s t : Plain) (log : List Entry) → IsSound s → PlainlyLegal s log t → IsSound t
+plainly_sound s t [] so l = subst IsSound l so
+plainly_sound s t (e ∷ es) so l = plainly_sound l.0 t es (allowed_sound s l.0 e.cpu e.event so l.1.0) l.2
