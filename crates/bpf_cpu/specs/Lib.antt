@@ -1,3 +1,9 @@
 pub mod State
 pub mod Row
 pub mod Step
+pub mod Start
+pub mod Task
+pub mod Schedule
+pub mod Machine
+pub mod Lanes
+pub mod Work
