@@ -15,7 +15,7 @@ use Rattle.bpf_cpu.specs.declared.lane.Phase.{Phase}
 use Rattle.bpf_cpu.specs.declared.lane.Phase.TheVariants as phase
 use Rattle.bpf_cpu.specs.declared.lane.Hand.{Hand}
 use Rattle.bpf_cpu.specs.declared.lane.Lane.{Lane}
-use Rattle.bpf_cpu.specs.Start.{start}
+use Rattle.bpf_cpu.specs.State.{start}
 use Rattle.bpf_cpu.specs.Step.{IsReady}
 use Rattle.bpf_cpu.specs.Task.{Stage, Task, InHand, with_stage}
 use Rattle.bpf_cpu.specs.Work.{IsNext}

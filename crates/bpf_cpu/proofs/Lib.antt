@@ -8,3 +8,4 @@ pub mod WorkLaws
 pub mod BeginLaws
 pub mod ProceedLaws
 pub mod TurnLaws
+pub mod KeyLaws

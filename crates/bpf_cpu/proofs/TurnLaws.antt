@@ -8,7 +8,7 @@ use Rattle.bpf_cpu.specs.declared.cpu.Cpu.{Cpu}
 use Rattle.bpf_cpu.specs.declared.outcome.Outcome.{Outcome}
 use Rattle.bpf_cpu.specs.declared.machine.Turned.{Turned}
 use Rattle.bpf_cpu.specs.declared.machine.Turned.TheVariants.{Idle}
-use Rattle.bpf_cpu.specs.Start.{start}
+use Rattle.bpf_cpu.specs.State.{start}
 use Rattle.bpf_cpu.specs.Task.{Stage, Task, InHand, Waiting, IsAt, IsFree, NoneWaits, NoneWaitsBelow, with_stage}
 use Rattle.bpf_cpu.specs.Schedule.{World, Settles, GoesOn, TakesTurn}
 use Rattle.bpf_cpu.specs.Machine.{MachineState, Shows}

@@ -1,7 +1,7 @@
+pub mod Held
 pub mod State
 pub mod Row
 pub mod Step
-pub mod Start
 pub mod Task
 pub mod Schedule
 pub mod Machine

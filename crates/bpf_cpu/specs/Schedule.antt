@@ -13,7 +13,7 @@ use Rattle.bpf_cpu.specs.declared.outcome.Outcome.{Outcome}
 use Rattle.bpf_cpu.specs.declared.outcome.Outcome.TheVariants.{OutOfBudget}
 use Rattle.bpf_cpu.specs.declared.machine.Turned.{Turned}
 use Rattle.bpf_cpu.specs.declared.machine.Turned.TheVariants as turned
-use Rattle.bpf_cpu.specs.Start.{start}
+use Rattle.bpf_cpu.specs.State.{start}
 use Rattle.bpf_cpu.specs.Step.{Step}
 use Rattle.bpf_cpu.specs.Task.{Task, IsAt, IsFree, NoneWaitsBelow, NoneWaits, with_stage, Waiting, InHand, Ended}
 

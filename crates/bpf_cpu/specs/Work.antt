@@ -9,7 +9,7 @@ use Rattle.bpf_cpu.specs.declared.cpu.Cpu.{Cpu}
 use Rattle.bpf_cpu.specs.declared.machine.Turned.{Turned}
 use Rattle.bpf_cpu.specs.declared.machine.Work.{Work}
 use Rattle.bpf_cpu.specs.declared.machine.Work.TheVariants as work
-use Rattle.bpf_cpu.specs.Start.{start}
+use Rattle.bpf_cpu.specs.State.{start}
 use Rattle.bpf_cpu.specs.Task.{Stage, Task, IsAt, IsFree, NoneWaitsBelow, NoneWaits, with_stage, Waiting, InHand}
 use Rattle.bpf_cpu.specs.Schedule.{World, GoesOn}
 use Rattle.bpf_cpu.specs.Machine.{MachineState, Shows}

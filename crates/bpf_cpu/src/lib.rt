@@ -1,17 +1,23 @@
 //! A virtual CPU: one step of a sound program, and a whole job, over any shared store.
 #![tactic(auto)]
 
+mod access;
 pub mod cpu;
 mod execute;
+mod held;
 pub mod job;
 mod lane;
+mod local_call;
 pub mod machine;
 pub mod outcome;
 mod run;
-mod start;
 mod step;
 
 pub use cpu::Cpu;
+pub use held::HeldSpans;
 pub use job::Job;
 pub use machine::{Machine, Turned};
 pub use outcome::{Fault, Outcome, Turn};
+
+#[cfg(test)]
+mod tests;

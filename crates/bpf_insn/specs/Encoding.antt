@@ -21,8 +21,11 @@ word_at bytes = record {
 }
 
 -- the first word, and the second where the bytes have one
+abbrev pub next_at : List ℕ → Option Word
+next_at bytes = if nat_lt (length bytes) 16 then None else Some (word_at (drop 8 bytes))
+
 abbrev pub window_at : List ℕ → Window
-window_at bytes = record { word = word_at bytes; next = if nat_lt (length bytes) 16 then None else Some (word_at (drop 8 bytes)) }
+window_at bytes = record { word = word_at bytes; next = next_at bytes }
 
 -- the number that a field has, zero where it is unused
 abbrev pub value_of : Field → ℕ

@@ -1,16 +1,26 @@
 //! BPF instructions as values, and as bytes, after RFC 9669.
 #![tactic(auto)]
 
+mod codes;
+mod decoder;
+mod encoder;
 pub mod error;
 mod fault;
 pub mod instruction;
+mod operands;
 pub mod operation;
+mod reading;
 pub mod register;
 mod word;
 
+pub use decoder::decode;
+pub use encoder::encode;
 pub use error::InsnError;
 pub use instruction::{Insn, Operand};
 pub use operation::{
     AluOp, AtomicOp, ByteSwap, Condition, SignExtension, SignedSize, Size, SwapWidth, Width,
 };
 pub use register::Reg;
+
+#[cfg(test)]
+mod tests;

@@ -10,7 +10,8 @@ use Rattle.bpf_loader.specs.declared.refusal.LoadError.TheVariants as error
 use Rattle.bpf_loader.specs.Places.{word_length, Begins, IsStart, IsOutside}
 use Rattle.bpf_loader.specs.Sound.{HasAt, Applies, IsSound, IsFirst, code, place}
 use Rattle.bpf_loader.specs.Checks.{IsClearBefore, IsClearAt, IsClearBelow, IsLeastAt}
-use Rattle.bpf_loader.proofs.SlotLemmas.{begins_unique, start_inside, words_some}
+use Rattle.bpf_loader.proofs.MarkLemmas.{begins_unique}
+use Rattle.bpf_loader.proofs.WordLemmas.{start_inside, words_some}
 
 -- the refusal with this number at this place
 abbrev pub error_at : ℕ → ℕ → LoadError

@@ -1,3 +1,5 @@
+pub mod WordLemmas
+pub mod MarkLemmas
 pub mod SlotLemmas
 pub mod SoundLemmas
 pub mod CheckLemmas

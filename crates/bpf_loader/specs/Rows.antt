@@ -100,12 +100,12 @@ stride (insn.Atomic w op b o s) = Some 1
 stride (insn.LoadNumber d n) = Some 2
 stride (insn.LoadMap d m) = Some 2
 
--- the helper that is called
+-- the number of the helper that is called
 abbrev pub helper_of : Insn → Option ℕ
 helper_of (insn.CallHelper number) = Some number
 helper_of _ = None
 
--- the map that is named
+-- the number of the map that is named
 abbrev pub map_of : Insn → Option ℕ
 map_of (insn.LoadMap d map) = Some map
 map_of _ = None

@@ -12,6 +12,7 @@ use crate::slots::Slots;
 use bpf_insn::instruction::Insn;
 use bpf_insn::register::Reg;
 
+/// Refuses a write of R10.
 fn check_write(slots: &Slots, maps: usize, pc: u32, insn: Insn) -> Result<(), LoadError>
     requires begins { Begins slots.now pc insn }
     requires clear { IsClearBelow maps slots.now pc 8 }
@@ -40,6 +41,7 @@ fn target_within(pc: u32, offset: i32, words: usize) -> Option<usize>
     }
 }
 
+/// Refuses a jump or a local call that leads to no instruction.
 fn check_target(slots: &Slots, maps: usize, pc: u32, insn: Insn) -> Result<(), LoadError>
     requires begins { Begins slots.now pc insn }
     requires short { word_length slots.now ≤ max_words }
@@ -59,6 +61,7 @@ fn check_target(slots: &Slots, maps: usize, pc: u32, insn: Insn) -> Result<(), L
     }
 }
 
+/// Refuses a last instruction behind which a run would go on.
 fn check_end(slots: &Slots, maps: usize, pc: u32, insn: Insn) -> Result<(), LoadError>
     requires begins { Begins slots.now pc insn }
     requires short { word_length slots.now ≤ max_words }
@@ -72,6 +75,7 @@ fn check_end(slots: &Slots, maps: usize, pc: u32, insn: Insn) -> Result<(), Load
     Ok(())
 }
 
+/// Refuses a helper that there isn't.
 fn check_helper(slots: &Slots, maps: usize, pc: u32, insn: Insn) -> Result<(), LoadError>
     requires begins { Begins slots.now pc insn }
     requires clear { IsClearBelow maps slots.now pc 12 }
@@ -86,6 +90,7 @@ fn check_helper(slots: &Slots, maps: usize, pc: u32, insn: Insn) -> Result<(), L
     Ok(())
 }
 
+/// Refuses a map that there isn't.
 fn check_map(slots: &Slots, maps: usize, pc: u32, insn: Insn) -> Result<(), LoadError>
     requires begins { Begins slots.now pc insn }
     requires clear { IsClearBelow maps slots.now pc 13 }
@@ -100,6 +105,7 @@ fn check_map(slots: &Slots, maps: usize, pc: u32, insn: Insn) -> Result<(), Load
     Ok(())
 }
 
+/// Refuses the instruction at a pc by the lowest number that applies.
 fn check_insn(slots: &Slots, maps: usize, pc: u32, insn: Insn) -> Result<(), LoadError>
     requires begins { Begins slots.now pc insn }
     requires short { word_length slots.now ≤ max_words }
@@ -113,6 +119,7 @@ fn check_insn(slots: &Slots, maps: usize, pc: u32, insn: Insn) -> Result<(), Loa
     check_map(slots, maps, pc, insn)
 }
 
+/// The same at any word of the program.
 fn check_word(slots: &Slots, maps: usize, pc: usize) -> Result<(), LoadError>
     requires inside { pc < word_length slots.now }
     requires short { word_length slots.now ≤ max_words }

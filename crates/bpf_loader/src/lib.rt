@@ -7,6 +7,8 @@ pub mod loading;
 pub mod refusal;
 mod rows;
 mod slots;
+#[cfg(test)]
+mod tests;
 
 pub use loaded::Program;
 pub use loading::load;

@@ -107,7 +107,7 @@ first_two true b ts e f = cc
 first_two false true ts e f = cc
 first_two false false ts e f = refl
 
-get_within : (hs : List MapShape) (m : ℕ) (d : MapShape) → m < length hs → slice_get hs m ≡ Some (get_or hs m d)
+pub get_within : (hs : List MapShape) (m : ℕ) (d : MapShape) → m < length hs → slice_get hs m ≡ Some (get_or hs m d)
 get_within [] m d l = absurd (omega arith)
 get_within (h ∷ hs) zero d l = refl
 get_within (h ∷ hs) (suc m) d l = get_within hs m d (omega arith)

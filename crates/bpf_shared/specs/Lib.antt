@@ -11,6 +11,9 @@ pub mod Chain
 pub mod Sound
 pub mod Puts
 pub mod Soundness
+pub mod Runs
 pub mod Rows
 pub mod Mapped
 pub mod Forgotten
+pub mod Seen
+pub mod Passages

@@ -43,6 +43,9 @@ pub record Rows : Type 0 where
 abbrev pub no_rows : Rows
 no_rows = record { shape = record { key = 0; value = 0; max = 0; spare = 0; mask = 0 }; order = []; cells = [] }
 
+abbrev pub shape_of : Rows → MapShape
+shape_of t = t.shape
+
 abbrev pub cell : Rows → ℕ → Cell
 cell t i = slice_index_or t.cells i no_cell
 
@@ -67,6 +70,12 @@ pub record IsEmpty (h : MapShape) (t : Rows) : Type 0 where
   pub shape : t.shape ≡ h
   pub order : t.order ≡ []
   pub unused : (i : ℕ) → i < length t.cells → IsUnused h (cell t i)
+
+-- nothing is in the map, and no run is noted
+pub record IsBlank (t : Rows) : Type 0 where
+  pub order : t.order ≡ []
+  pub looked_up : (i c : ℕ) → slice_index (cell t i).looked_up c ≡ 0
+  pub left : (i c : ℕ) → slice_index (cell t i).left c ≡ 0
 
 -- the keys below the k-th are below the key, the others above it
 pub record IsGap (t : Rows) (key : List ℕ) (k : ℕ) : Type 0 where

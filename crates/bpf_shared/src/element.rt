@@ -1,5 +1,5 @@
 //! An element of a map of a `PlainStore`.
-ghost use Rattle.std.specs.Prelude.{◌≡◌, ◌<◌, IfOk};
+ghost use Rattle.std.specs.Prelude.{◌≡◌, ◌<◌, IfOk, length};
 ghost use Rattle.std.specs.Ordering.{nat_cmp};
 ghost use Rattle.std.specs.Cmp.Lexicographic.{slice_cmp};
 ghost use Rattle.bpf_shared.specs.Rows.{IsUnused, noted, forgotten};
@@ -54,7 +54,8 @@ impl Element {
     /// The CPU's run of this number looked the value up.
     pub fn look_up(&mut self, cpu: u8, run: u64)
         requires { cpu < 16 }
-        ensures { self.new ≡ noted cpu run self.old }
+        ensures noted { self.new ≡ noted cpu run self.old }
+        ensures wide { cpu < length self.old.looked_up }
     {
         self.looked_up[usize::from(cpu)] = run;
     }

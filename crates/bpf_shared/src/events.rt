@@ -2,7 +2,7 @@
 use std::collections::LinkedList;
 
 /// Where a value lies: an address, and a number of bytes.
-#[derive(Clone, Copy, PartialEq, Eq, Debug)]
+#[derive(Clone, Copy, PartialEq, Eq, Debug, Default)]
 pub struct Span {
     pub at: u64,
     pub size: u64,

@@ -4,11 +4,13 @@
 
 mod element;
 mod events;
+mod plain;
 mod runs;
 mod shapes;
 mod sharing;
 mod table;
 
 pub use events::{AtomicOp, Entry, Event, MapAnswer, Size, Span, ValuePlace};
+pub use plain::PlainStore;
 pub use shapes::{MapShape, ShapeError, StoreShape};
 pub use sharing::{Shared, Worn};

@@ -1,6 +1,6 @@
 //! A map of a `PlainStore`: its elements, and its keys in order.
 ghost use Rattle.std.specs.Prelude.{◌≡◌, ◌<◌, ◌≤◌, ℕ, IfOk, IfErr, IfSome, IfNone, length};
-ghost use Rattle.bpf_shared.specs.Shape.{IsMapShape, element_span};
+ghost use Rattle.bpf_shared.specs.Shape.{IsMapShape, IsValueSpan, elements, element_span};
 ghost use Rattle.bpf_shared.specs.Rows.{cell, key_at, IsLinked, IsEmpty, IsGap, noted_row, forgotten_rows};
 
 use crate::element::Element;
@@ -91,7 +91,8 @@ impl Table {
     pub fn look_up(&mut self, element: usize, cpu: u8, run: u64)
         requires element { element < length self.old.cells }
         requires cpu { cpu < 16 }
-        ensures { self.new ≡ noted_row element cpu run self.old }
+        ensures noted { self.new ≡ noted_row element cpu run self.old }
+        ensures wide { cpu < length (cell self.old element).looked_up }
     {
         self.elements[element].look_up(cpu, run);
     }
@@ -110,7 +111,9 @@ impl Table {
     pub fn span(&self, map: u8, element: usize) -> Span
         requires map { map < 16 }
         requires element { element < length self.now.cells }
-        ensures { result ≡ element_span map self.now.shape element }
+        ensures span { result ≡ element_span map self.now.shape element }
+        ensures in_range { IsValueSpan result }
+        ensures element { element < elements self.now.shape }
     {
         let stride = self.shape.value.next_multiple_of(8);
         Span {

@@ -1,5 +1,5 @@
 use Rattle.std.proofs.Common.{◌+◌, arith}
-use Rattle.bpf_loader.proofs.SlotLemmas.{counted_more, word_length-take}
+use Rattle.bpf_loader.proofs.WordLemmas.{counted_more, word_length-take}
 use Rattle.bpf_loader.proofs.loading.word_count.Goals as goal
 
 pub returns-then-words-gt-MAX_WORDS-clause-long : goal.returns-then-words-gt-MAX_WORDS-clause-long

@@ -1,6 +1,4 @@
-use Rattle.std.proofs.Common.{◌≡◌, ℕ, List, ◌∙◌, subst, arith}
-use Rattle.bpf_shared.specs.declared.events.Event.{Event}
-use Rattle.bpf_cpu.specs.Step.{Steps}
+use Rattle.std.proofs.Common.{◌≡◌, ℕ, ◌∙◌, subst, arith}
 use Rattle.bpf_cpu.proofs.StepsLaws.{IsUnderWay, made_more, made_all, runs_out}
 use Rattle.bpf_cpu.proofs.cpu.Cpu.make_steps.Goals as goal
 
@@ -8,7 +6,7 @@ pub returns-in-Done-clause-steps : goal.returns-in-Done-clause-steps
 returns-in-Done-clause-steps g c =
     let inv = c.steps.invariant in
     made_all g.S.Shared.passes g.S.Shared.serves g.met.S.Shared.follows g.S.Shared.shapes c.args.program.now c.args.budget c.args.self.now c.args.shared.now
-        c.steps._step c.steps.shared c.step.new.shared c.steps.self c.step.new.self c.steps-test.true inv.number inv.shapes inv.under_way c.in-Done.outcome c.in-Done.ensures.step
+    c.steps._step c.steps.shared c.step.new.shared c.steps.self c.step.new.self c.steps-test.true inv.number inv.shapes inv.under_way c.in-Done.outcome c.in-Done.ensures.step
 
 pub steps-preserved : goal.steps-preserved
 steps-preserved g c =

@@ -1,11 +1,14 @@
-use Rattle.std.proofs.Common.{◌≡◌, ℕ, Bool, true, List, [], ◌∷◌, ◌++◌, ◌∙◌, ap, inl, subst, refl}
-use Rattle.bpf_shared.specs.declared.events.Event.{Event}
+use Rattle.std.proofs.Common.{ℕ, List, [], ◌∷◌, ◌++◌, inl, subst, refl}
 use Rattle.bpf_shared.specs.declared.events.Event.TheVariants.{Begin, End}
 use Rattle.bpf_shared.specs.declared.shapes.MapShape.{MapShape}
 use Rattle.bpf_shared.specs.Passage.{Calls}
 use Rattle.bpf_shared.specs.Chain.{Chain, chain_one, chain_join, chain_call}
 use Rattle.bpf_cpu.specs.Step.{Steps}
+use Rattle.bpf_cpu.proofs.RowLaws.{start_ready}
 use Rattle.bpf_cpu.proofs.cpu.Cpu.run.Goals as goal
+
+pub make_steps-outcome-requires-clause-ready : goal.make_steps-outcome-requires-clause-ready
+make_steps-outcome-requires-clause-ready g c = start_ready c.args.program.now c.args.self.now c.requires.fresh.0 c.requires.fresh.1 c.starts.ensures
 
 -- the run's begin, its steps and its end follow each other
 pub returns-in-Ok-clause-explained : goal.returns-in-Ok-clause-explained
@@ -22,8 +25,7 @@ returns-in-Ok-clause-explained g c =
     let ended = c.end.ensures in
     let P : ℕ → Type 0 = λ k. Calls (g.S.Shared.passes x2 x3) (g.S.Shared.serves x2) k End in
     let last : Calls (g.S.Shared.passes x2 x3) (g.S.Shared.serves x2) cpu End = subst P c.make_steps-outcome.ensures.number ended.ended in
-    let Q : List MapShape → Type 0 = λ h. Steps h c.args.program.now c.args.budget c.args.self.now made.0 c.make_steps-outcome.result c.make_steps-outcome.new.self in
-    (
+    let Q : List MapShape → Type 0 = λ h. Steps h c.args.program.now c.args.budget c.args.self.now made.0 c.make_steps-outcome.result c.make_steps-outcome.new.self in (
       Begin ∷ (made.0 ++ End ∷ []),
       chain_call g.S.Shared.passes g.S.Shared.serves cpu g.met.S.Shared.follows x0 x2 x3 (Begin ∷ made.0) End c.requires.serves both last ended.same.1,
       inl (made.0, c.make_steps-outcome.new.self, refl, subst Q begun.same.0 made.2),

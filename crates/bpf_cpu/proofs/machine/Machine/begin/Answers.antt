@@ -11,7 +11,7 @@ use Rattle.bpf_cpu.specs.declared.lane.Lane.{Lane}
 use Rattle.bpf_cpu.specs.declared.lane.Listed.{Listed}
 use Rattle.bpf_cpu.specs.declared.lane.Phase.TheVariants.{Waiting}
 use Rattle.bpf_cpu.specs.Machine.{MachineState}
-use Rattle.bpf_cpu.specs.Start.{start}
+use Rattle.bpf_cpu.specs.State.{start}
 use Rattle.bpf_cpu.specs.Lanes.{IsFirst, lane, tasks_of}
 use Rattle.bpf_cpu.specs.Work.{IsNext, Begins}
 use Rattle.bpf_cpu.proofs.OwnEvents.{call_leads}

@@ -1,0 +1,73 @@
+//! The values that a CPU's run holds.
+
+ghost use Rattle.std.specs.Prelude.{◌≡◌, ◌<◌, ◌≤◌, [], ◌↔◌, length, IsTrue, true, false};
+ghost use Rattle.bpf_cpu.specs.Held.{has_span, with_span};
+
+use arrayvec::ArrayVec;
+use bpf_shared::Span;
+use std::marker::Model;
+
+/// How many values a run holds at most (our own choice).
+pub const MAX_HELD: usize = 256;
+
+/// The spans of the values that lookups of this run answered, each once, in the order of their first lookup.
+#[derive(Drop)]
+pub struct HeldSpans {
+    spans: ArrayVec<Span, MAX_HELD>,
+}
+
+impl Model for HeldSpans {
+    ghost use Rattle.std.specs.Prelude.{List, ◌≤◌, length};
+    ghost use Rattle.bpf_shared.specs.declared.events.Span.{Span};
+
+    ghost Value = { List Span };
+
+    ghost view = { λ h. h.spans.items };
+}
+
+impl HeldSpans {
+    /// No spans.
+    pub fn new() -> HeldSpans
+        ensures { result ≡ [] }
+    {
+        HeldSpans {
+            spans: ArrayVec::new(),
+        }
+    }
+
+    /// The spans.
+    #[inline]
+    pub fn spans(&self) -> &[Span]
+        ensures { result.now ≡ self.now }
+    {
+        &self.spans
+    }
+
+    /// Whether this span is one of them.
+    #[inline]
+    pub fn has(&self, span: Span) -> bool
+        ensures { result ≡ has_span self.now span }
+    {
+        self.spans
+            .iter()
+            .any(|held| held.at == span.at && held.size == span.size)
+    }
+
+    /// Whether one more span would be too many.
+    #[inline]
+    pub fn is_full(&self) -> bool
+        ensures { IsTrue result ↔ (256 ≤ length self.now) }
+    {
+        self.spans.len() == MAX_HELD
+    }
+
+    /// Holds this span too.
+    pub fn hold(&mut self, span: Span)
+        requires room { has_span self.old span ≡ false → length self.old < 256 }
+        ensures { self.new ≡ with_span self.old span }
+    {
+        if !self.has(span) {
+            self.spans.push(span);
+        }
+    }
+}

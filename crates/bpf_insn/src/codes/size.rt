@@ -1,0 +1,61 @@
+//! Sizes of loads and stores by their codes (RFC 9669, sections 5.1 and 5.2).
+
+ghost use Rattle.std.specs.Prelude.{◌≡◌, ◌<◌};
+ghost use Rattle.bpf_insn.specs.Codes.{size_code, signed_size_code};
+ghost use Rattle.bpf_insn.specs.Lookup.{size_at, signed_size_at};
+
+use crate::operation::{SignedSize, Size};
+
+impl Size {
+    /// The size of this code.
+    #[tactic(auto, unfolding(crate::specs::Lookup::size_at))]
+    pub(crate) fn from_code(code: u8) -> Option<Size>
+        ensures { result ≡ size_at code }
+    {
+        match code {
+            0 => Some(Size::Word),
+            1 => Some(Size::Half),
+            2 => Some(Size::Byte),
+            3 => Some(Size::Double),
+            _ => None,
+        }
+    }
+
+    pub(crate) fn code(self) -> u8
+        ensures value { result ≡ size_code self }
+        ensures small { result < 4 }
+    {
+        match self {
+            Size::Word => 0,
+            Size::Half => 1,
+            Size::Byte => 2,
+            Size::Double => 3,
+        }
+    }
+}
+
+impl SignedSize {
+    /// The size of this code: 8 bytes aren't extended.
+    #[tactic(auto, unfolding(crate::specs::Lookup::signed_size_at))]
+    pub(crate) fn from_code(code: u8) -> Option<SignedSize>
+        ensures { result ≡ signed_size_at code }
+    {
+        match code {
+            0 => Some(SignedSize::Word),
+            1 => Some(SignedSize::Half),
+            2 => Some(SignedSize::Byte),
+            _ => None,
+        }
+    }
+
+    pub(crate) fn code(self) -> u8
+        ensures value { result ≡ signed_size_code self }
+        ensures small { result < 4 }
+    {
+        match self {
+            SignedSize::Word => 0,
+            SignedSize::Half => 1,
+            SignedSize::Byte => 2,
+        }
+    }
+}

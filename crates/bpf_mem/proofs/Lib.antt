@@ -1,0 +1,4 @@
+pub mod AreaLemmas
+pub mod EditLemmas
+pub mod ReachLemmas
+pub mod WriteLemmas

@@ -1,0 +1,97 @@
+-- A write to the context or to a frame, seen by addresses.
+use Rattle.std.proofs.Common.{◌≡◌, ◌≢◌, ℕ, ◌+◌, ◌-◌, ◌/◌, ◌%◌, ◌<◌, ◌≤◌, List, [], length, take, drop, get_or, refl, sym, ap, ◌∙◌, arith, ◌⊎◌, inl, inr}
+use Rattle.std.proofs.Math.ListN.{set}
+use Rattle.std.specs.Prelude.{Some, option_and_then, slice_get}
+use Rattle.std.proofs.lemmas.Option.{slice_get-get_or}
+use Rattle.std.proofs.lemmas.List.{get_or-set_same}
+use Rattle.std.proofs.lemmas.List.Elements.{All-set}
+use Rattle.std.proofs.Math.ListN.{length-set}
+use Rattle.bpf_mem.specs.Bytes.{with_bytes}
+use Rattle.bpf_mem.specs.Addresses.{context_base, frame_base}
+use Rattle.bpf_mem.specs.Memory.{byte_at, Writes}
+use Rattle.bpf_mem.specs.declared.memory.PrivateMemory.{PrivateMemory}
+use Rattle.bpf_mem.proofs.AreaLemmas.{Sized, by_le, byte_at-parts, context_byte, frame_byte, context_byte-below, context_byte-at, frame_byte-below, frame_byte-at}
+use Rattle.bpf_mem.proofs.EditLemmas.{length-with_bytes, take-with_bytes, slice_get-with_bytes, slice_get-set_other, slice_get-set_same}
+use Rattle.bpf_mem.proofs.ReachLemmas.{context-bytes, frame-bytes}
+
+-- the byte at an address, where neither part has another one there
+same_byte : (old new : PrivateMemory) (a : ℕ) → frame_byte new a ≡ frame_byte old a → context_byte new a ≡ context_byte old a → byte_at new a ≡ byte_at old a
+same_byte old new a frames context = byte_at-parts new a ∙ rw (frames, context) (sym (byte_at-parts old a))
+
+same_frames : (old new : PrivateMemory) (a : ℕ) → new.frames.live ≡ old.frames.live → frame_byte new a ≡ frame_byte old a
+unfolding frame_byte
+same_frames old new a e = rw e
+
+same_context : (old new : PrivateMemory) (a : ℕ) → new.context ≡ old.context → context_byte new a ≡ context_byte old a
+unfolding context_byte
+same_context old new a e = rw e
+
+context-others : (old new : PrivateMemory) (o : ℕ) (bytes : List ℕ) → o + length bytes ≤ length old.context → new.context ≡ with_bytes old.context o bytes → (a : ℕ) → (a < context_base + o) ⊎ (context_base + o + length bytes ≤ a) → context_byte new a ≡ context_byte old a
+context-others old new o bytes h context a outside = by_le context_base a inside below
+  where
+    below : a < context_base → context_byte new a ≡ context_byte old a
+    below low = context_byte-below new a low ∙ sym (context_byte-below old a low)
+
+    inside : context_base ≤ a → context_byte new a ≡ context_byte old a
+    inside high =
+        let i = a - context_base in
+        let apart : (i < o) ⊎ (o + length bytes ≤ i) = elim outside [ inl before ↦ inl (omega arith) | inr after ↦ inr (omega arith) ] in
+        context_byte-at new a i (omega arith) ∙ ap (λ list. slice_get list i) context ∙ slice_get-with_bytes old.context o bytes i h apart ∙ sym (context_byte-at old a i (omega arith))
+
+pub Writes-context : (old new : PrivateMemory) (o : ℕ) (bytes : List ℕ) → length old.context ≤ 4096 → o + length bytes ≤ length old.context → new.context ≡ with_bytes old.context o bytes → new.frames.live ≡ old.frames.live → new.frames.callers ≡ old.frames.callers → Writes old (context_base + o) bytes new
+Writes-context old new o bytes small h context frames callers =
+    let n = length bytes in
+    let sized : o + n ≤ length new.context = omega (arith, ap length context, length-with_bytes old.context o bytes h) in
+    record {
+      written = context-bytes new (context_base + o) o n refl (omega arith) sized ∙ ap (λ list. Some (take n (drop o list))) context ∙ ap Some (take-with_bytes old.context o bytes h);
+      others = λ a outside. same_byte old new a (same_frames old new a frames) (context-others old new o bytes h context a outside);
+      depth = ap length frames;
+      callers = callers;
+    }
+
+-- the byte at an offset of some frame, where one frame is another but has the same byte there
+kept : (frames : List (List ℕ)) (d k i : ℕ) (frame : List ℕ) → d < length frames → (k ≡ d → slice_get frame i ≡ slice_get (get_or frames d []) i) → option_and_then (λ f. slice_get f i) (slice_get (set frames d frame) k) ≡ option_and_then (λ f. slice_get f i) (slice_get frames k)
+kept frames d k i frame live same =
+    by_le k d (λ low. by_le d k (λ high. equal (omega arith)) (λ below. apart (λ e. omega arith))) (λ above. apart (λ e. omega arith))
+  where
+    apart : k ≢ d → option_and_then (λ f. slice_get f i) (slice_get (set frames d frame) k) ≡ option_and_then (λ f. slice_get f i) (slice_get frames k)
+    apart h = rw (slice_get-set_other frames d k frame h)
+
+    equal : k ≡ d → option_and_then (λ f. slice_get f i) (slice_get (set frames d frame) k) ≡ option_and_then (λ f. slice_get f i) (slice_get frames k)
+    equal e = rw (e, slice_get-set_same frames d frame live, slice_get-get_or frames d [] live) (same e)
+
+frame-others : (old new : PrivateMemory) (d o : ℕ) (bytes : List ℕ) → Sized old.frames.live → Sized new.frames.live → d < length old.frames.live → o + length bytes ≤ 512 → new.frames.live ≡ set old.frames.live d (with_bytes (get_or old.frames.live d []) o bytes) → (a : ℕ) → (a < frame_base d + o) ⊎ (frame_base d + o + length bytes ≤ a) → frame_byte new a ≡ frame_byte old a
+frame-others old new d o bytes sized sized' live h frames a outside = by_le (frame_base 0) a inside below
+  where
+    below : a < frame_base 0 → frame_byte new a ≡ frame_byte old a
+    below low = frame_byte-below new a low ∙ sym (frame_byte-below old a low)
+
+    inside : frame_base 0 ≤ a → frame_byte new a ≡ frame_byte old a
+    inside high =
+        let k = (a - frame_base 0) / 0x1000 in
+        let i = (a - frame_base 0) % 0x1000 in
+        let frame = get_or old.frames.live d [] in
+        let apart : k ≡ d → (i < o) ⊎ (o + length bytes ≤ i) = λ e. elim outside [ inl before ↦ inl (omega arith) | inr after ↦ inr (omega arith) ] in
+        let same : k ≡ d → slice_get (with_bytes frame o bytes) i ≡ slice_get frame i =
+        λ e. slice_get-with_bytes frame o bytes i (omega (arith, sized d [] live)) (apart e) in
+        frame_byte-at new a k i sized' (omega arith) (omega arith)
+        ∙ ap (λ live. option_and_then (λ f. slice_get f i) (slice_get live k)) frames
+        ∙ kept old.frames.live d k i (with_bytes frame o bytes) live same
+        ∙ sym (frame_byte-at old a k i sized (omega arith) (omega arith))
+
+pub Writes-frame : (old new : PrivateMemory) (d o : ℕ) (bytes : List ℕ) → Sized old.frames.live → d < length old.frames.live → o + length bytes ≤ 512 → new.context ≡ old.context → new.frames.live ≡ set old.frames.live d (with_bytes (get_or old.frames.live d []) o bytes) → new.frames.callers ≡ old.frames.callers → Writes old (frame_base d + o) bytes new
+Writes-frame old new d o bytes sized live h context frames callers =
+    let n = length bytes in
+    let frame = get_or old.frames.live d [] in
+    let room : o + n ≤ length frame = omega (arith, sized d [] live) in
+    let count : length new.frames.live ≡ length old.frames.live = ap length frames ∙ length-set old.frames.live d (with_bytes frame o bytes) in
+    let sized' : Sized new.frames.live =
+    rw frames (All-set (λ f. length f ≡ 512) old.frames.live d (with_bytes frame o bytes) (length-with_bytes frame o bytes room ∙ sized d [] live) sized) in
+    let written : get_or new.frames.live d [] ≡ with_bytes frame o bytes =
+    ap (λ live. get_or live d []) frames ∙ get_or-set_same old.frames.live d (with_bytes frame o bytes) [] live in
+    record {
+      written = frame-bytes new (frame_base d + o) d o n sized' refl (omega arith) h ∙ ap (λ list. Some (take n (drop o list))) written ∙ ap Some (take-with_bytes frame o bytes room);
+      others = λ a outside. same_byte old new a (frame-others old new d o bytes sized sized' live h frames a outside) (same_context old new a context);
+      depth = count;
+      callers = callers;
+    }

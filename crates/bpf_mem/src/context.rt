@@ -1,0 +1,56 @@
+//! The context: the bytes that a program is given when it starts.
+
+ghost use Rattle.std.specs.Prelude.{◌≡◌, ◌+◌, ◌≤◌, length, vec_len};
+ghost use Rattle.bpf_mem.specs.Bytes.{length_of, bytes_of, with_bytes};
+
+use crate::bytes;
+use bpf_insn::operation::Size;
+use std::marker::Model;
+
+/// How many bytes a context has at most (our own choice).
+pub const MAX_CONTEXT: usize = 4096;
+
+/// 0 to 4,096 bytes.
+#[derive(Drop)]
+pub struct Context {
+    bytes: Vec<u8>,
+}
+
+impl Model for Context {
+    ghost use Rattle.std.specs.Prelude.{List, ℕ, ◌≤◌, length};
+
+    ghost Value = { List ℕ };
+
+    ghost view = { λ c. c.bytes.items };
+
+    ghost invariant = { λ c. length c.bytes.items ≤ 4096 };
+}
+
+impl Context {
+    /// The context of these bytes. It takes no memory.
+    pub fn new(bytes: Vec<u8>) -> Context
+        requires { vec_len bytes ≤ 4096 }
+        ensures { result ≡ bytes.items }
+    {
+        Context { bytes }
+    }
+
+    /// Its bytes.
+    #[inline]
+    pub fn bytes(&self) -> &[u8]
+        ensures value { result.now ≡ self.now }
+        ensures bounded { length self.now ≤ 4096 }
+    {
+        &self.bytes
+    }
+
+    /// Sets the bytes at an offset to the low bytes of a number.
+    #[inline]
+    pub(crate) fn store(&mut self, offset: usize, size: Size, value: u64)
+        requires { offset + length_of size ≤ length self.old }
+        ensures value { self.new ≡ with_bytes self.old offset (bytes_of (length_of size) value) }
+        ensures bounded { length self.old ≤ 4096 }
+    {
+        bytes::store(&mut self.bytes, offset, size, value);
+    }
+}

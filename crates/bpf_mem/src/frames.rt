@@ -1,0 +1,141 @@
+//! The stack: a frame for each function that hasn't returned, and what its caller gets back.
+
+ghost use Rattle.std.specs.Prelude.{◌≡◌, ◌+◌, ◌-◌, ◌*◌, ◌<◌, ◌≤◌, ◌↔◌, [], ◌∷◌, ◌++◌, length, take, slice_index_or, slice_set, IsTrue};
+ghost use Rattle.bpf_mem.specs.Addresses.{top_of};
+ghost use Rattle.bpf_mem.specs.Bytes.{length_of, bytes_of, with_bytes};
+ghost use Rattle.bpf_mem.specs.Stack.{IsStack, zeroed};
+
+use crate::bytes;
+use bpf_insn::operation::Size;
+use std::marker::Model;
+
+/// How many frames can be live at once (our own choice).
+pub const MAX_FRAMES: usize = 8;
+
+/// How many bytes a frame has, as in Linux.
+pub const FRAME_BYTES: usize = 512;
+
+/// What a local call keeps for its caller: where it goes on, and R6 to R9 (RFC 9669, section 2).
+#[derive(Clone, Copy, PartialEq, Eq, Debug)]
+pub struct Caller {
+    pub return_pc: u32,
+    pub saved: [u64; 4],
+}
+
+/// The live frames of one CPU, 1 to 8.
+#[derive(Drop)]
+pub struct Frames {
+    live: usize,
+    frames: [[u8; FRAME_BYTES]; MAX_FRAMES],
+    callers: [Caller; MAX_FRAMES],
+}
+
+impl Model for Frames {
+    ghost use Rattle.std.specs.Prelude.{◌-◌, take};
+    ghost use Rattle.bpf_mem.specs.Stack.{Stack};
+
+    ghost Value = { Stack };
+
+    ghost use Rattle.bpf_mem.specs.Frames.{IsSound};
+
+    ghost view = { λ s. record { live = take s.live s.frames; callers = take (s.live - 1) s.callers } };
+
+    ghost invariant = { IsSound };
+}
+
+/// A frame as a function finds it.
+#[inline]
+#[tactic(auto, unfolding(crate::specs::Stack::zeroed))]
+fn empty() -> [u8; FRAME_BYTES]
+    ensures { result ≡ zeroed }
+{
+    [0; FRAME_BYTES]
+}
+
+impl Frames {
+    /// One frame, zeroed.
+    pub fn new() -> Frames
+        ensures live { result.live ≡ zeroed ∷ [] }
+        ensures callers { result.callers ≡ [] }
+    {
+        Frames {
+            live: 1,
+            frames: [empty(); MAX_FRAMES],
+            callers: [Caller {
+                return_pc: 0,
+                saved: [0; 4],
+            }; MAX_FRAMES],
+        }
+    }
+
+    /// How many frames are live.
+    #[inline]
+    pub fn depth(&self) -> usize
+        ensures value { result ≡ length self.now.live }
+        ensures stack { IsStack self.now }
+    {
+        self.live
+    }
+
+    /// Whether no further frame can be entered.
+    #[inline]
+    pub fn is_full(&self) -> bool
+        ensures { IsTrue result ↔ (8 ≤ length self.now.live) }
+    {
+        self.live == MAX_FRAMES
+    }
+
+    /// The bytes of a frame.
+    #[inline]
+    pub(crate) fn frame(&self, depth: usize) -> &[u8]
+        requires { depth < length self.now.live }
+        ensures value { result.now ≡ slice_index_or self.now.live depth [] }
+        ensures stack { IsStack self.now }
+    {
+        let frames = &self.frames;
+        &frames[depth]
+    }
+
+    /// Sets the bytes at an offset of a frame to the low bytes of a number.
+    #[inline]
+    pub(crate) fn store(&mut self, depth: usize, offset: usize, size: Size, value: u64)
+        requires live { depth < length self.old.live }
+        requires within { offset + length_of size ≤ 512 }
+        ensures live { self.new.live ≡ slice_set self.old.live depth
+            (with_bytes (slice_index_or self.old.live depth []) offset (bytes_of (length_of size) value)) }
+        ensures callers { self.new.callers ≡ self.old.callers }
+        ensures stack { IsStack self.old }
+    {
+        let frames = &mut self.frames;
+        bytes::store(&mut frames[depth], offset, size, value);
+    }
+
+    /// The end of the newest frame, R10's value.
+    #[inline]
+    pub fn top(&self) -> u64
+        ensures { result ≡ top_of (length self.now.live) }
+    {
+        0x3_0000_0000 + 0x1000 * (self.live as u64 - 1) + 512
+    }
+
+    /// A new frame, zeroed, for a function that `caller` calls.
+    pub fn enter(&mut self, caller: Caller)
+        requires { length self.old.live < 8 }
+        ensures live { self.new.live ≡ self.old.live ++ zeroed ∷ [] }
+        ensures callers { self.new.callers ≡ self.old.callers ++ caller ∷ [] }
+    {
+        self.frames[self.live] = empty();
+        self.callers[self.live - 1] = caller;
+        self.live += 1;
+    }
+
+    /// Drops the newest frame; what its caller gets back.
+    pub fn leave(&mut self) -> Caller
+        requires { 1 < length self.old.live }
+        ensures live { self.new.live ≡ take (length self.old.live - 1) self.old.live }
+        ensures callers { self.old.callers ≡ self.new.callers ++ result ∷ [] }
+    {
+        self.live -= 1;
+        self.callers[self.live - 1]
+    }
+}

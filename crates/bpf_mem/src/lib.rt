@@ -1,0 +1,15 @@
+//! The private memory of one CPU: its stack frames and its context. No call takes memory.
+#![tactic(auto)]
+
+mod atomic;
+pub mod bytes;
+pub mod context;
+pub mod frames;
+pub mod memory;
+pub mod place;
+
+pub use bytes::{is_aligned, length, size_of_width};
+pub use context::Context;
+pub use frames::{Caller, Frames};
+pub use memory::PrivateMemory;
+pub use place::Place;

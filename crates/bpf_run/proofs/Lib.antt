@@ -1,0 +1,4 @@
+pub mod Options
+pub mod Subcommands
+pub mod KnownBytes
+pub mod ReplyLemmas

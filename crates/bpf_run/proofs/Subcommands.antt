@@ -1,0 +1,69 @@
+-- Where `clap` finds no fault, the words name one of the program's three commands.
+use Rattle.std.proofs.Common.{◌≡◌, ◌⊎◌, ℕ, List, [], ◌∷◌, Bool, true, false, Option, Some, None, option_map, is_some, codes, refl, inl, inr, cond}
+use Rattle.std.specs.Prelude.{IsSomeAnd, find}
+use Rattle.clap.specs.Kinds.{Kinds, or_else, check_kinds}
+use Rattle.clap.specs.Simple.{Shape, App, argument_words, built, entered, label_of, names_of, rows_at, subcommand_rows}
+use Rattle.clap.specs.Faults.{check_fault, defaults_fault, entered_fault, settle_fault, walk_fault}
+use Rattle.clap.specs.Walk.{Row, Text, answers_to, finished, nothing_held, settled, stop_after, walk, walk_from}
+use Rattle.clap.specs.Words.{fault_of, subcommand_name_of, subcommand_of, subcommand_rows_of}
+use Rattle.clap.specs.declared.parser.matches.ArgMatches.{ArgMatches}
+use Rattle.clap.specs.declared.parser.matches.ArgMatches.TheViews.{out-ArgMatches, out-SubCommand}
+use Rattle.clap.specs.declared.parser.matches.SubCommand.{SubCommand}
+use Rattle.std.specs.Prelude.{Box}
+use Rattle.std.specs.Box.{box_value}
+use Rattle.bpf_run.specs.CommandLine.{IsCommandName, ebpf}
+
+abbrev pub NamesKnown : Option (Text × List Row) → Type 0
+NamesKnown found = IsSomeAnd found (λ p. IsCommandName p.0)
+
+abbrev AllKnown : List Shape → Type 0
+AllKnown [] = Unit {0}
+AllKnown (s ∷ rest) = IsCommandName s.name × AllKnown rest
+
+find_known : (words : List Text) (test : Shape → Bool) (subs : List Shape) → AllKnown subs
+    → is_some (option_map (λ s. rows_at s words) (find test subs)) ≡ true
+    → NamesKnown (option_map (λ s. rows_at s words) (find test subs))
+find_known words test [] known e = cc
+find_known words test (s ∷ rest) known e =
+    elim (test s) as (λ b. is_some (option_map (λ s. rows_at s words) (cond b (Some s) (find test rest))) ≡ true
+    → NamesKnown (option_map (λ s. rows_at s words) (cond b (Some s) (find test rest)))) [
+      | true ↦ λ _. known.0
+      | false ↦ find_known words test rest known.1
+    ] e
+
+entered_known : (stop : Option (Text × List Text)) → is_some (entered (built ebpf) stop) ≡ true → NamesKnown (entered (built ebpf) stop)
+entered_known None e = cc
+entered_known (Some p) e = find_known p.1 (λ s. answers_to p.0 (label_of s)) (built ebpf).subs (inl refl, (inr (inl refl), (inr (inr refl), tt))) e
+
+last_free : (a b : Kinds) → or_else a b ≡ [] → b ≡ []
+last_free [] b e = e
+last_free (k ∷ ks) b e = cc
+
+has_command : (rows : List Row) (b : Bool) → check_fault (built ebpf).top rows b ≡ [] → b ≡ true
+has_command rows true e = refl
+has_command rows false e = cc
+
+pub names_known : (words : List Text) → fault_of ebpf words ≡ [] → NamesKnown (subcommand_of ebpf words)
+names_known words e =
+    let top = (built ebpf).top in
+    let names = names_of (built ebpf) in
+    let given = argument_words ebpf words in
+    let stop = stop_after top.rules names given in
+    let end = (walk top.rules names nothing_held given).held in
+    let last = check_fault top (finished top.rules end) (is_some (entered (built ebpf) stop)) in
+    let fourth = defaults_fault (settled top.rules end).rows top.rules in
+    let third = settle_fault top.rules top.args_override_self end in
+    let second = entered_fault (built ebpf) stop in
+    let first = walk_fault top names (walk_from nothing_held) given in
+    let after_first = last_free first (or_else second (or_else third (or_else fourth last))) e in
+    let after_second = last_free second (or_else third (or_else fourth last)) after_first in
+    let after_third = last_free third (or_else fourth last) after_second in
+    entered_known stop (has_command (finished top.rules end) (is_some (entered (built ebpf) stop)) (last_free fourth last after_third))
+
+-- the same of the name that the matches have
+pub name_known : (m : ArgMatches) (words : List Text) → fault_of ebpf words ≡ [] → subcommand_rows_of m ≡ subcommand_of ebpf words → IsSomeAnd (subcommand_name_of m) IsCommandName
+name_known m words e found = by_name (out-ArgMatches m).subcommand (rw found (names_known words e))
+  where
+    by_name : {Z : Type 0} (b : Option (Box SubCommand Z)) → NamesKnown (subcommand_rows b) → IsSomeAnd (option_map (λ b. (out-SubCommand (box_value b)).name.now) b) IsCommandName
+    by_name None h = h
+    by_name (Some b) h = h

@@ -1,0 +1,12 @@
+use Rattle.std.proofs.Common.{rules, ◌≡◌, [], List, map}
+use Rattle.clap.specs.Words.{Text, fault_of, subcommand_of, subcommand_rows_of}
+use Rattle.bpf_run.specs.CommandLine.{ebpf}
+use Rattle.bpf_run.proofs.Subcommands.{name_known}
+use Rattle.bpf_run.proofs.command_line.matches_of.Goals as goal
+
+pub returns-clause-known : goal.returns-clause-known
+returns-clause-known c =
+    let words : List Text = map (λ s. s.now) c.args.words.now in
+    let found : subcommand_rows_of c.in_ok-matches.matches ≡ subcommand_of ebpf words = search rules in
+    let free : fault_of ebpf words ≡ [] = search rules in
+    name_known c.in_ok-matches.matches words free found

@@ -1,0 +1,8 @@
+use Rattle.std.proofs.Common.{length, ◌≡◌, ◌≤◌}
+use Rattle.std.specs.Io.KnownBytes.{Consumes}
+use Rattle.bpf_run.proofs.input.read_whole.Given as goal
+
+-- each read so far brought a byte at least
+abbrev pub invariant-loop : goal.invariant-loop
+invariant-loop g l = (l.counter ≤ length l.input.items) × (length l.input.items ≤ 16777216) × (length l.chunk ≡ 65536)
+    × Consumes (g.R.Read.remaining l.initial.reader) (g.R.Read.remaining l.reader) l.input.items

@@ -1,0 +1,15 @@
+use Rattle.std.proofs.Common.{rules, ◌≡◌, ◌∙◌, ℕ, List, Err, ap, subst}
+use Rattle.bpf_run.specs.Commands.{IsReply}
+use Rattle.bpf_run.specs.declared.input.InputError.{InputError}
+use Rattle.bpf_run.proofs.ReplyLemmas.{replied, unread}
+use Rattle.bpf_run.proofs.perform.read_and_reply.Goals as goal
+
+pub returns-in-Ok-clause-reply : goal.returns-in-Ok-clause-reply
+returns-in-Ok-clause-reply g c =
+    let made = subst (λ (bytes : List ℕ). IsReply c.args.command bytes c.reply_to.result) c.deref.ensures.value c.reply_to.ensures in
+    replied (g.R.Read.remaining c.args.reader.now) c.args.command c.in-Ok.input.items c.reply_to.result c.in-Ok.ensures.whole made
+
+pub returns-in-Err-clause-reply : goal.returns-in-Err-clause-reply
+returns-in-Err-clause-reply g c =
+    unread (g.R.Read.remaining c.args.reader.now) c.args.command c.in-Err.error
+    (λ long. c.in-Err.ensures.too_long (ap (λ (e : InputError). Err e) long))

@@ -1,0 +1,50 @@
+-- What is printed of a reply, and the exit status. Our own choice.
+use Rattle.std.specs.Prelude.{◌≡◌, ℕ, ◌++◌, ◌⊎◌, List, Option, codes, string_bytes, take}
+use Rattle.std.specs.Fmt.{decimal}
+use Rattle.std.specs.Io.KnownBytes.{Appends}
+use Rattle.bpf_run.specs.declared.outcome.Outcome.{Outcome}
+use Rattle.bpf_run.specs.declared.outcome.Outcome.TheVariants as outcome
+use Rattle.bpf_run.specs.declared.reply.Reply.{Reply}
+use Rattle.bpf_run.specs.declared.reply.Reply.TheVariants as reply
+use Rattle.bpf_run.specs.declared.reply.Status.{Status}
+use Rattle.bpf_run.specs.declared.reply.Status.TheVariants as status
+use Rattle.bpf_run.specs.Codes.{code, fault_code}
+
+-- how a run ended
+abbrev pub line_of : Outcome → List ℕ
+line_of (outcome.Exit r0) = codes "r0=" ++ decimal r0
+line_of (outcome.Fault fault pc) = codes "fault " ++ fault_code fault ++ codes " at " ++ decimal pc
+line_of (outcome.OutOfBudget pc) = codes "out of budget at " ++ decimal pc
+
+-- the text that a reply prints
+abbrev pub text_of : Reply → List ℕ
+text_of (reply.Ended outcome) = line_of outcome ++ codes "\n"
+text_of (reply.Text text) = string_bytes text
+text_of (reply.Refused refusal) = codes "refused " ++ code refusal ++ codes "\n"
+
+-- how a program ends after it
+abbrev pub ended_status : Outcome → Status
+ended_status (outcome.Exit r0) = status.Done
+ended_status (outcome.Fault fault pc) = status.Stopped
+ended_status (outcome.OutOfBudget pc) = status.Stopped
+
+abbrev pub status_of : Reply → Status
+status_of (reply.Ended outcome) = ended_status outcome
+status_of (reply.Text text) = status.Done
+status_of (reply.Refused refusal) = status.Refused
+
+abbrev pub exit_code : Status → ℕ
+exit_code status.Done = 0
+exit_code status.Refused = 1
+exit_code status.Failed = 1
+exit_code status.Stopped = 3
+
+-- the text is written, and this status answered; or a write failed, and what is written is a beginning of the text
+abbrev pub IsWritten : List ℕ → Status → Option (List ℕ) → Option (List ℕ) → Status → Type 0
+IsWritten text meant old new result = (Appends old new text × (result ≡ meant))
+    ⊎ ((k : ℕ) × Appends old new (take k text) × (result ≡ status.Failed))
+
+-- the reply is written, or a refusal alone where its text found no memory
+abbrev pub Answers : Reply → Option (List ℕ) → Option (List ℕ) → Status → Type 0
+Answers r old new result = IsWritten (text_of r) (status_of r) old new result
+    ⊎ IsWritten (codes "refused L9\n") status.Refused old new result

@@ -1,0 +1,59 @@
+-- What each command replies to the text that it read.
+use Rattle.std.specs.Prelude.{◌≡◌, ◌≤◌, ◌<◌, ◌⊎◌, ℕ, List, IsUtf8, length, string_bytes}
+use Rattle.bpf_insn.specs.declared.instruction.Insn.{Insn}
+use Rattle.bpf_insn.specs.Encoding.{IsEncodedAs}
+use Rattle.bpf_insn.specs.Refusal.{IsRefused, IsSized}
+use Rattle.bpf_text.specs.Form.{canonical}
+use Rattle.bpf_text.specs.HexText.{IsHexOf}
+use Rattle.bpf_text.specs.declared.error.TextError.TheVariants as text_error
+use Rattle.bpf_run.specs.declared.command.Command.{Command}
+use Rattle.bpf_run.specs.declared.command.Command.TheVariants as command
+use Rattle.bpf_run.specs.declared.input.InputError.TheVariants as input_error
+use Rattle.bpf_run.specs.declared.refusal.Refusal.{Refusal}
+use Rattle.bpf_run.specs.declared.refusal.Refusal.TheVariants as refusal
+use Rattle.bpf_run.specs.declared.reply.Reply.{Reply}
+use Rattle.bpf_run.specs.declared.reply.Reply.TheVariants as reply
+
+-- the text has the words of these instructions as hex digits
+abbrev pub IsWordsOf : List ℕ → List Insn → Type 0
+IsWordsOf text is = (bytes : List ℕ) × IsHexOf text bytes × IsSized bytes × IsEncodedAs is bytes
+
+-- why it has not: it isn't the hex digits of bytes, or the bytes are no instructions; want of memory may stand in
+-- place of any answer
+abbrev pub RefusesWords : List ℕ → Refusal → Type 0
+RefusesWords text (refusal.Text text_error.NotHex) = (bytes : List ℕ) → ¬ IsHexOf text bytes
+RefusesWords text (refusal.Text text_error.OutOfMemory) = Unit {0}
+RefusesWords text (refusal.Insn error) = (bytes : List ℕ) × IsHexOf text bytes × IsRefused error bytes
+RefusesWords text _ = ⊥
+
+-- `disasm`: the canonical text of the instructions
+abbrev pub IsDisassembled : List ℕ → Reply → Type 0
+IsDisassembled text (reply.Text printed) = (is : List Insn) × IsWordsOf text is × (string_bytes printed ≡ canonical is)
+IsDisassembled text (reply.Refused r) = RefusesWords text r
+IsDisassembled text (reply.Ended outcome) = ⊥
+
+-- what a command replies to the text
+abbrev pub IsAnswer : Command → List ℕ → Reply → Type 0
+IsAnswer (command.Hex budget context) text r = Unit {0}
+IsAnswer command.Asm text r = Unit {0}
+IsAnswer command.Disasm text r = IsDisassembled text r
+
+-- ---- input
+
+-- the greatest number of bytes that are read as input
+abbrev pub max_input : ℕ
+max_input = 16777216
+
+-- why there is no text: a read failed, there is too much, or (of what isn't too much) it isn't UTF-8; want of memory may
+-- stand in place of any answer
+abbrev pub RefusesInput : List ℕ → Refusal → Type 0
+RefusesInput input (refusal.Input input_error.Unread) = Unit {0}
+RefusesInput input (refusal.Input input_error.TooLong) = max_input < length input
+RefusesInput input (refusal.Input input_error.OutOfMemory) = Unit {0}
+RefusesInput input refusal.NotText = (length input ≤ max_input) × ¬ IsUtf8 input
+RefusesInput input _ = ⊥
+
+-- what a command replies to the bytes that its reader has left
+abbrev pub IsReply : Command → List ℕ → Reply → Type 0
+IsReply c input r = ((e : Refusal) × (r ≡ reply.Refused e) × RefusesInput input e)
+    ⊎ ((length input ≤ max_input) × IsUtf8 input × IsAnswer c input r)

@@ -1,0 +1,4 @@
+pub mod Answer
+pub mod CommandLine
+pub mod Commands
+pub mod Codes

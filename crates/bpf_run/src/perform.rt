@@ -1,0 +1,76 @@
+//! A whole command: what it reads, does and writes.
+
+ghost use Rattle.std.specs.Prelude.{◌≤◌, ◌+◌, IfSome, List, length, ℕ};
+ghost use Rattle.std.specs.Io.KnownBytes.{Consumes};
+ghost use Rattle.bpf_run.specs.Answer.{Answers, IsWritten};
+ghost use Rattle.bpf_run.specs.Commands.{IsReply, max_input};
+ghost use Rattle.bpf_run.specs.declared.reply.Reply.{Reply};
+
+use crate::command::Command;
+use crate::input::read_whole;
+use crate::output::write_whole;
+use crate::pipeline::reply;
+use crate::refusal::Refusal;
+use crate::reply::{Reply, Status};
+use std::alloc::Global;
+use std::io::{Read, Write};
+
+fn write_text<W: Write>(writer: &mut W, text: &str, status: Status) -> Status
+    ensures { IsWritten text.now status (W.contents writer.old) (W.contents writer.new) result }
+{
+    match write_whole(writer, text.as_bytes()) {
+        Ok(()) => status,
+        Err(_) => Status::Failed,
+    }
+}
+
+/// Prints a reply. Its whole text is made before the first byte is written.
+pub fn answer<W: Write>(alloc: Global, reply: &Reply, writer: &mut W) -> Status
+    ensures { Answers reply.now (W.contents writer.old) (W.contents writer.new) result }
+{
+    if let Reply::Text(text) = reply {
+        return write_text(writer, text.as_str(), Status::Done);
+    }
+    match format!(in alloc; "{reply}") {
+        Ok(text) => write_text(writer, text.as_str(), reply.status()),
+        Err(_) => write_text(writer, "refused L9\n", Status::Refused),
+    }
+}
+
+fn reply_to(alloc: Global, command: Command, input: &[u8]) -> Reply
+    requires { length input.now ≤ max_input }
+    ensures { IsReply command input.now result }
+{
+    match str::from_utf8(input) {
+        Ok(text) => reply(alloc, command, text),
+        Err(_) => Reply::Refused(Refusal::NotText),
+    }
+}
+
+/// What the command replies to all that the reader has left.
+fn read_and_reply<R: Read>(alloc: Global, command: Command, reader: &mut R) -> Reply
+    ensures reply { IfSome (R.remaining reader.old) (λ input. IsReply command input result) }
+    ensures taken { (bytes : List ℕ) × Consumes (R.remaining reader.old) (R.remaining reader.new) bytes
+        × (length bytes ≤ max_input + 1) }
+{
+    match read_whole(alloc, reader) {
+        Ok(input) => reply_to(alloc, command, &input),
+        Err(error) => Reply::Refused(Refusal::Input(error)),
+    }
+}
+
+/// The whole command: reads all input, and writes the reply.
+pub fn perform<R: Read, W: Write>(
+    alloc: Global,
+    command: Command,
+    reader: &mut R,
+    writer: &mut W,
+) -> Status
+    ensures replies { (r : Reply) × IfSome (R.remaining reader.old) (λ input. IsReply command input r)
+        × Answers r (W.contents writer.old) (W.contents writer.new) result }
+    ensures taken { (bytes : List ℕ) × Consumes (R.remaining reader.old) (R.remaining reader.new) bytes
+        × (length bytes ≤ max_input + 1) }
+{
+    let made = read_and_reply(alloc, command, reader);
+    answer(alloc, &made, writer)
+}

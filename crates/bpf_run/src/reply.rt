@@ -1,0 +1,99 @@
+//! What the program answers: the text that it prints, and its exit status.
+
+use crate::outcome::{Fault, Outcome};
+use crate::refusal::Refusal;
+use std::fmt;
+
+/// How the program ends.
+#[derive(Clone, Copy, PartialEq, Eq, Debug)]
+pub enum Status {
+    /// What was asked for is printed.
+    Done,
+    /// A refusal is printed.
+    Refused,
+    /// The output couldn't be written.
+    Failed,
+    /// A program was run to a fault, or out of its budget.
+    Stopped,
+}
+
+impl Status {
+    ghost use Rattle.std.specs.Prelude.{◌≡◌};
+    ghost use Rattle.bpf_run.specs.Answer.{exit_code};
+
+    /// The exit status as a number.
+    pub fn code(self) -> u8
+        ensures { result ≡ exit_code self }
+    {
+        match self {
+            Status::Done => 0,
+            Status::Refused | Status::Failed => 1,
+            Status::Stopped => 3,
+        }
+    }
+}
+
+/// What a command comes to.
+#[derive(PartialEq, Eq, Debug, Drop)]
+pub enum Reply {
+    /// A program was run.
+    Ended(Outcome),
+    /// Whole lines.
+    Text(String),
+    Refused(Refusal),
+}
+
+impl Reply {
+    ghost use Rattle.std.specs.Prelude.{◌≡◌};
+    ghost use Rattle.bpf_run.specs.Answer.{status_of};
+
+    pub fn status(&self) -> Status
+        ensures { result ≡ status_of self.now }
+    {
+        match self {
+            Reply::Ended(Outcome::Exit(_)) | Reply::Text(_) => Status::Done,
+            Reply::Ended(_) => Status::Stopped,
+            Reply::Refused(_) => Status::Refused,
+        }
+    }
+}
+
+#[derive(Drop)]
+struct FaultCode(Fault);
+
+impl fmt::Display for FaultCode {
+    ghost use Rattle.std.specs.Prelude.{Some};
+    ghost use Rattle.bpf_run.specs.Codes.{fault_code};
+
+    ghost output = { λ x. Some (fault_code x.0) };
+
+    fn fmt<W: fmt::Write>(&self, f: &mut fmt::Formatter<W>) -> fmt::Result {
+        f.write_str(match self.0 {
+            Fault::BadAddress => "F1",
+            Fault::Misaligned => "F2",
+            Fault::CallDepth => "F3",
+            Fault::NotAMap => "F4",
+            Fault::TooManyHeld => "F5",
+            Fault::Worn => "F6",
+        })
+    }
+}
+
+impl fmt::Display for Reply {
+    ghost use Rattle.std.specs.Prelude.{Some};
+    ghost use Rattle.bpf_run.specs.Answer.{text_of};
+
+    ghost output = { λ x. Some (text_of x) };
+
+    fn fmt<W: fmt::Write>(&self, f: &mut fmt::Formatter<W>) -> fmt::Result {
+        match self {
+            Reply::Ended(Outcome::Exit(r0)) => write!(f, "r0={r0}\n"),
+            Reply::Ended(Outcome::Fault(fault, pc)) => {
+                write!(f, "fault {} at {pc}\n", FaultCode(*fault))
+            }
+            Reply::Ended(Outcome::OutOfBudget(pc)) => write!(f, "out of budget at {pc}\n"),
+            Reply::Text(text) => f.write_str(text.as_str()),
+            Reply::Refused(refusal) => write!(f, "refused {refusal}\n"),
+        }
+    }
+}

@@ -1,0 +1,4 @@
+pub mod HexLemmas
+pub mod FormText
+pub mod Numbers
+pub mod Scanning

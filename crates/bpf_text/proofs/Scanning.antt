@@ -1,0 +1,82 @@
+-- Cutting a line into tokens.
+use Rattle.std.proofs.Common.{◌≡◌, ℕ, ◌+◌, ◌<◌, ◌≤◌, suc, Bool, true, false, cond, List, [], ◌∷◌, ◌++◌, length, map, get_or, take, take_while, drop, drop-cons, append_assoc, append-nil, Option, Some, None, refl, sym, ap, ◌∙◌, subst, arith}
+use Rattle.std.specs.Prelude.{find, nat_eq, IfSome}
+use Rattle.std.specs.List.{starts_with}
+use Rattle.std.proofs.lemmas.List.{drop_all, map-append, drop-drop}
+use Rattle.std.proofs.lemmas.Slice.Eq.{bytes_eq-Decides}
+use Rattle.std.proofs.lemmas.List.{length-take}
+use Rattle.bpf_text.specs.declared.signs.Sign.{Sign}
+use Rattle.bpf_text.specs.declared.token.Token.{Token}
+use Rattle.bpf_text.specs.Signs.{sign_text, sign_at, signs}
+use Rattle.bpf_text.specs.Token.{Tok}
+use Rattle.bpf_text.specs.Tokens.{is_blank, after_blanks, front_tok, front_len, IsEnd, AreTokens, IsTokens}
+use Rattle.bpf_text.specs.Look.{look}
+
+-- ---- a sign is no longer than the text that it begins
+
+by_test : (p : Sign → Bool) (x s : Sign) (rest : Option Sign) (b : Bool) → p x ≡ b → (rest ≡ Some s → p s ≡ true) → cond b (Some x) rest ≡ Some s → p s ≡ true
+by_test p x s rest true h more e = let same : x ≡ s = cc in ap p (sym same) ∙ h
+by_test p x s rest false h more e = more e
+
+find-passes : (p : Sign → Bool) (ss : List Sign) (s : Sign) → find p ss ≡ Some s → p s ≡ true
+find-passes p [] s e = cc
+find-passes p (x ∷ xs) s e = by_test p x s (find p xs) (p x) refl (find-passes p xs s) e
+
+length-starts : (text xs : List ℕ) → starts_with nat_eq text xs ≡ true → length xs ≤ length text
+length-starts text xs e =
+    let same : xs ≡ take (length xs) text = (bytes_eq-Decides xs (take (length xs) text)).0 e in
+    omega (arith, ap length same, length-take (length xs) text)
+
+pub length-sign_at : (text : List ℕ) (s : Sign) → sign_at text ≡ Some s → length (sign_text s) ≤ length text
+unfolding sign_at
+length-sign_at text s e = length-starts text (sign_text s) (find-passes (λ s. starts_with nat_eq text (sign_text s)) signs s e)
+
+-- ---- the loop
+
+-- the line is these tokens, and then those of what stands at this place
+pub record Reached (line : List ℕ) (done : List Tok) (at : ℕ) : Type 0 where
+  pub on : (ts : List Tok) → AreTokens (drop at line) ts → IsTokens line (done ++ ts)
+
+pub reached_start : (line : List ℕ) (at : ℕ) → at ≡ length (take_while is_blank line) → Reached line [] at
+reached_start line at e = record { on = λ ts h. let P : ℕ → Type 0 = λ k. AreTokens (drop k line) ts in subst P e h }
+
+pub reached_next : (line : List ℕ) (done : List Tok) (at n next : ℕ) (t : Tok) → Reached line done at → (IsEnd (drop at line) → ⊥) → t ≡ front_tok (drop at line) → n ≡ front_len (drop at line) → next ≡ (at + n) + length (take_while is_blank (drop (at + n) line)) → Reached line (done ++ t ∷ []) next
+reached_next line done at n next t r more token len e = record { on = on }
+  where
+    place : drop next line ≡ after_blanks (drop (front_len (drop at line)) (drop at line))
+    place =
+        ap (λ k. drop k line) e
+        ∙ sym (drop-drop (length (take_while is_blank (drop (at + n) line))) (at + n) line)
+        ∙ ap after_blanks (sym (drop-drop n at line) ∙ ap (λ k. drop k (drop at line)) len)
+
+    on : (ts : List Tok) → AreTokens (drop next line) ts → IsTokens line ((done ++ t ∷ []) ++ ts)
+    on ts h =
+        let P : List ℕ → Type 0 = λ x. AreTokens x ts in
+        let Q : List Tok → Type 0 = λ us. IsTokens line us in
+        subst Q (sym (append_assoc done (t ∷ []) ts)) (r.on (t ∷ ts) (more, token, subst P place h))
+
+pub reached_end : (line : List ℕ) (done : List Tok) (at : ℕ) → Reached line done at → IsEnd (drop at line) → IsTokens line done
+reached_end line done at r e = let P : List Tok → Type 0 = λ us. IsTokens line us in subst P (append-nil done) (r.on [] e)
+
+pub ends_behind : (line : List ℕ) (at : ℕ) → length line ≤ at → IsEnd (drop at line)
+ends_behind line at h = rw (drop_all at line h) tt
+
+pub ends_at : (line : List ℕ) (at : ℕ) → at < length line → get_or line at 0 ≡ 59 → IsEnd (drop at line)
+ends_at line at h e = rw (drop-cons line at 0 h) e
+
+pub goes_on : (line : List ℕ) (at : ℕ) → at < length line → (get_or line at 0 ≡ 59 → ⊥) → IsEnd (drop at line) → ⊥
+goes_on line at h f e = let P : List ℕ → Type 0 = λ x. IsEnd x in f (subst P (drop-cons line at 0 h) e)
+
+pub pushed : (line : List ℕ) (old new : List Token) (t : Token) (at : ℕ) → new ≡ old ++ t ∷ [] → Reached line (map look old ++ look t ∷ []) at → Reached line (map look new) at
+pushed line old new t at e r = let P : List Tok → Type 0 = λ x. Reached line x at in subst P (sym (ap (map look) e ∙ map-append look old (t ∷ []))) r
+
+-- ---- a text has one list of tokens
+
+pub same_tokens : (ts us : List Tok) (text : List ℕ) → AreTokens text ts → AreTokens text us → us ≡ ts
+same_tokens [] [] text a b = refl
+same_tokens [] (u ∷ us) text a b = absurd (b.0 a)
+same_tokens (t ∷ ts) [] text a b = absurd (a.0 b)
+same_tokens (t ∷ ts) (u ∷ us) text a b =
+    let rest = same_tokens ts us (after_blanks (drop (front_len text) text)) a.2 b.2 in
+    let first : u ≡ t = b.1 ∙ sym a.1 in
+    ap (λ x. x ∷ us) first ∙ ap (λ x. t ∷ x) rest

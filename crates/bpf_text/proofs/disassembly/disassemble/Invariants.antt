@@ -1,0 +1,6 @@
+use Rattle.std.proofs.Common.{◌≡◌, ◌++◌, drop, string_bytes}
+use Rattle.bpf_text.specs.Form.{canonical}
+use Rattle.bpf_text.proofs.disassembly.disassemble.Given as goal
+
+abbrev pub invariant-loop-insn : goal.invariant-loop-insn
+invariant-loop-insn l = string_bytes l.text ++ canonical (drop l.insn-index l.program) ≡ canonical l.program

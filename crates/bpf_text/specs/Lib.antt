@@ -1,0 +1,11 @@
+pub mod HexText
+pub mod Names
+pub mod Signs
+pub mod Token
+pub mod Words
+pub mod Tokens
+pub mod Look
+pub mod Form
+pub mod Line
+pub mod Reading
+pub mod Judging

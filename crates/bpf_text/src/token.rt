@@ -1,0 +1,139 @@
+//! Lines cut into tokens.
+
+ghost use Rattle.std.specs.Prelude.{◌≡◌, ◌<◌, ◌≤◌, ◌+◌, length, take_while, drop, map, IfOk, IsOkUnless, IfSome, OnSome, MatchOption};
+ghost use Rattle.bpf_text.specs.Signs.{sign_at, sign_text};
+ghost use Rattle.bpf_text.specs.Tokens.{is_blank, word_len, front_tok, front_len, IsTokens};
+ghost use Rattle.bpf_text.specs.Look.{look};
+
+use crate::error::TextError;
+use crate::keywords::Keyword;
+use crate::signs::Sign;
+use crate::words::{self, Radix};
+use bpf_insn::{Reg, Width};
+use std::alloc::Global;
+
+/// A word by what it is, or a sign.
+#[derive(Clone, Copy)]
+pub enum Token<'a> {
+    Register(Width, Reg),
+    Word(Keyword),
+    Name(&'a [u8]),
+    /// Digits, of any size.
+    Number(Radix, &'a [u8]),
+    Mark(Sign),
+    /// What no form has: a word that begins with a digit and is no number, or a byte of no word and no sign.
+    Junk,
+}
+
+/// The signs, the longest first.
+const SIGNS: [Sign; 25] = [
+    Sign::ShlAssign,
+    Sign::ShrAssign,
+    Sign::AddAssign,
+    Sign::SubAssign,
+    Sign::MulAssign,
+    Sign::DivAssign,
+    Sign::OrAssign,
+    Sign::AndAssign,
+    Sign::RemAssign,
+    Sign::XorAssign,
+    Sign::Equal,
+    Sign::NotEqual,
+    Sign::AtLeast,
+    Sign::AtMost,
+    Sign::Assign,
+    Sign::Above,
+    Sign::Below,
+    Sign::And,
+    Sign::Plus,
+    Sign::Minus,
+    Sign::Star,
+    Sign::Open,
+    Sign::Close,
+    Sign::Comma,
+    Sign::Colon,
+];
+
+#[tactic(auto, unfolding(crate::specs::Signs::sign_at))]
+fn longest_sign(text: &[u8]) -> Option<Sign>
+    ensures { result ≡ sign_at text.now }
+{
+    SIGNS
+        .iter()
+        .copied()
+        .find(|s| text.starts_with(s.text().as_bytes()))
+}
+
+fn is_blank(byte: u8) -> bool
+    ensures { result ≡ is_blank byte }
+{
+    matches!(byte, b' ' | b'\t' | b'\r')
+}
+
+fn word_len(text: &[u8]) -> usize
+    ensures value { result ≡ word_len text.now }
+    ensures bound { result ≤ length text.now }
+{
+    text.iter().take_while(|b| words::is_word_byte(**b)).count()
+}
+
+fn blank_len(text: &[u8]) -> usize
+    ensures value { result ≡ length (take_while is_blank text.now) }
+    ensures bound { result ≤ length text.now }
+{
+    text.iter().take_while(|b| is_blank(**b)).count()
+}
+
+/// The token at the front, and its length.
+#[tactic(auto, unfolding(crate::specs::Tokens::front_tok, crate::specs::Tokens::front_len))]
+fn front<'a>(text: &'a [u8]) -> (Token<'a>, usize)
+    requires { 0 < length text.now }
+    ensures token { look result.0 ≡ front_tok text.now }
+    ensures len { result.1 ≡ front_len text.now }
+    ensures some { 0 < result.1 }
+    ensures bound { result.1 ≤ length text.now }
+{
+    let len = word_len(text);
+    if len > 0 {
+        return (words::classify(&text[..len]), len);
+    }
+    match longest_sign(text) {
+        Some(sign) => (Token::Mark(sign), sign.text().len()),
+        None => (Token::Junk, 1),
+    }
+}
+
+/// The token at a place of the line, and its length.
+fn front_at<'a>(line: &'a [u8], at: usize) -> (Token<'a>, usize)
+    requires { at < length line.now }
+    ensures token { look result.0 ≡ front_tok (drop at line.now) }
+    ensures len { result.1 ≡ front_len (drop at line.now) }
+    ensures some { 0 < result.1 }
+    ensures bound { at + result.1 ≤ length line.now }
+{
+    front(&line[at..])
+}
+
+/// The place behind the blanks.
+fn skip_blanks(line: &[u8], at: usize) -> usize
+    requires { at ≤ length line.now }
+    ensures value { result ≡ at + length (take_while is_blank (drop at line.now)) }
+    ensures bound { result ≤ length line.now }
+{
+    at + blank_len(&line[at..])
+}
+
+/// The tokens of a line. Fails by `OutOfMemory` alone.
+pub fn tokens_of<'a>(alloc: Global, line: &'a [u8]) -> Result<Vec<Token<'a>>, TextError>
+    ensures found { IfOk result (λ tokens. IsTokens line.now (map look tokens.items)) }
+    ensures memory { IsOkUnless result TextError.OutOfMemory }
+{
+    let mut tokens = Vec::new(alloc);
+    let mut at = blank_len(line);
+    while at < line.len() && line[at] != b';' {
+        let (token, len) = front_at(line, at);
+        tokens.push(token).map_err(|_| TextError::OutOfMemory)?;
+        at = skip_blanks(line, at + len);
+    }
+    Ok(tokens)
+}
