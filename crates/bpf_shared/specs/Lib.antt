@@ -17,3 +17,5 @@ pub mod Mapped
 pub mod Forgotten
 pub mod Seen
 pub mod Passages
+pub mod Laws
+pub mod Lawful

@@ -1,6 +1,8 @@
 -- What is true of each store that a legal history leads to.
-use Rattle.std.specs.Prelude.{◌≡◌, ℕ, ◌<◌, true, false, ◌≢◌, ◌⊎◌}
-use Rattle.bpf_shared.specs.Shape.{IsApart}
+use Rattle.std.specs.Prelude.{◌≡◌, ℕ, ◌<◌, ◌≤◌, true, false, ◌≢◌, ◌⊎◌, length}
+use Rattle.std.specs.FinMap.{len}
+use Rattle.bpf_shared.specs.declared.shapes.MapShape.{MapShape}
+use Rattle.bpf_shared.specs.Shape.{IsMap, IsApart}
 use Rattle.bpf_shared.specs.Store.{Plain, IsInMap, IsKept, IsLive}
 
 pub record IsSound (s : Plain) : Type 0 where
@@ -8,8 +10,12 @@ pub record IsSound (s : Plain) : Type 0 where
   pub held : (c v : ℕ) → s.held c v ≡ true → ((m : ℕ) × IsInMap s m v) ⊎ (s.kept c v ≡ true)
   -- a CPU that is in no run holds nothing, and nothing is kept for it
   pub idle : (c : ℕ) → s.running c ≡ false → (v : ℕ) → (s.held c v ≡ false) × (s.kept c v ≡ false)
+  -- no map has more keys than it may have
+  pub keys : (m : ℕ) (h : MapShape) → IsMap s.shape.maps m h → len (s.maps m) ≤ h.max
   -- only values that were made are in a map, held or kept
   pub live_made : (v : ℕ) → IsLive s v → v < s.made
   pub kept_made : (v : ℕ) → IsKept s v → v < s.made
+  -- a value has as many bytes as its span
+  pub sizes : (v : ℕ) → v < s.made → length (s.value v).bytes ≡ (s.value v).span.size
   -- two live values have no address in common
   pub apart : (v w : ℕ) → IsLive s v → IsLive s w → v ≢ w → IsApart (s.value v).span (s.value w).span

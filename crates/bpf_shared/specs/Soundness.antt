@@ -1,6 +1,9 @@
 -- Each store that a legal history leads to is sound.
-use Rattle.std.proofs.Common.{◌≡◌, ◌≢◌, ℕ, ◌<◌, Bool, true, false, List, [], ◌∷◌, Option, Some, None, ◌⊎◌, inl, inr, if◌then◌else◌, refl, sym, ap, subst, ◌∙◌, arith}
-use Rattle.std.specs.FinMap.{get, insert, remove, get-empty}
+use Rattle.std.proofs.Common.{◌≡◌, ◌≢◌, ℕ, zero, suc, ◌+◌, ◌-◌, ◌/◌, ◌<◌, ◌≤◌, nat_lt, Bool, true, false, not, cond, ◌&&◌, ◌==◌, List, [], ◌∷◌, ◌++◌, length, take, drop, length-append, length-drop, Option, Some, None, is_some, ◌⊎◌, inl, inr, if◌then◌else◌, refl, sym, ap, subst, ◌∙◌, arith}
+use Rattle.std.proofs.lemmas.Bool.Decides.{nat_tests}
+use Rattle.std.proofs.lemmas.Cmp.{nat_list_cmp_total}
+use Rattle.std.proofs.lemmas.List.{length-take-le}
+use Rattle.std.specs.FinMap.{get, insert, remove, len, contains_key, get-empty, len-empty, len-insert, len-remove}
 use Rattle.std.specs.Ordering.{nat_cmp}
 use Rattle.std.specs.Cmp.Lexicographic.{slice_cmp}
 use Rattle.bpf_shared.specs.declared.events.Span.{Span}
@@ -10,9 +13,11 @@ use Rattle.bpf_shared.specs.declared.events.Event.TheVariants.{Begin, End, Looku
 use Rattle.bpf_shared.specs.declared.events.MapAnswer.{MapAnswer}
 use Rattle.bpf_shared.specs.declared.events.MapAnswer.TheVariants.{Done, Invalid, Busy, Exists, Absent, Full, NoMemory}
 use Rattle.bpf_shared.specs.declared.shapes.MapShape.{MapShape}
-use Rattle.bpf_shared.specs.Shape.{Shape, IsApart}
+use Rattle.bpf_shared.specs.First.{first_of}
+use Rattle.bpf_shared.specs.Shape.{Shape, IsMap, IsApart}
+use Rattle.bpf_shared.specs.Bytes.{low_bytes, with_part}
 use Rattle.bpf_shared.specs.Store.{Keys, Value, Plain, put, never, as_made, Leads, IsInMap, IsLive}
-use Rattle.bpf_shared.specs.Events.{entered, left, looked_up, kept_after, updated, Updates, deleted, Deletes, written, Allowed}
+use Rattle.bpf_shared.specs.Events.{entered, left, looked_up, has_key, refusals, kept_after, updated, Updates, deleted, Deletes, Reaches, written, Allowed}
 use Rattle.bpf_shared.specs.History.{Legal, PlainlyLegal}
 use Rattle.bpf_shared.specs.Sound.{IsSound}
 use Rattle.bpf_shared.specs.Puts.{true_or_false, equal_or_not, put-same, put-other, put_cases, put_pair, insert_cases, remove_cases}
@@ -25,7 +30,9 @@ pub as_made_sound : (h : Shape) → IsSound (as_made h)
 as_made_sound h = record {
   held = λ c v e. cc;
   idle = λ c r v. (refl, refl);
+  keys = λ m h is. (let e = len-empty (slice_cmp nat_cmp) ℕ in omega arith);
   live_made = λ v l. absurd (nothing_live v l);
+  sizes = λ v l. absurd (omega arith);
   kept_made = λ v k. (let e : false ≡ true = k.1 in cc);
   apart = λ v w p q ne. absurd (nothing_live v p);
 }
@@ -62,6 +69,8 @@ entered_sound s c so = record {
     | inl k ↦ absurd (let e : true ≡ false = sym k.1 ∙ r in cc)
     | inr k ↦ (let was = so.idle d (sym k.1 ∙ r) v in (none_more s.held c d v was.0, was.1))
   ];
+  keys = so.keys;
+  sizes = so.sizes;
   live_made = λ v l. so.live_made v (entered_live s c v l);
   kept_made = so.kept_made;
   apart = λ v w p q. so.apart v w (entered_live s c v p) (entered_live s c w q);
@@ -81,6 +90,8 @@ left_sound s c so = record {
     )
     | inr k ↦ (let was = so.idle d (sym k.1 ∙ r) v in (none_more s.held c d v was.0, none_more s.kept c d v was.1))
   ];
+  keys = so.keys;
+  sizes = so.sizes;
   live_made = λ v l. so.live_made v (left_live s c v l);
   kept_made = λ v k. so.kept_made v (k.0, (still s.kept c k.0 v k.1).1);
   apart = λ v w p q. so.apart v w (left_live s c v p) (left_live s c w q);
@@ -99,6 +110,8 @@ looked_sound s c m v i r so = record {
         ap (λ (f : ℕ → Bool). f w) (put-other s.held c d (put (s.held c) v true) ne) ∙ (so.idle d h w).0,
     (so.idle d h w).1,
   );
+  keys = so.keys;
+  sizes = so.sizes;
   live_made = λ w l. so.live_made w (looked_live s c m v i w l);
   kept_made = so.kept_made;
   apart = λ x y p q. so.apart x y (looked_live s c m v i x p) (looked_live s c m v i y q);
@@ -174,6 +187,13 @@ module _ (s : Plain) (m : ℕ) (key : List ℕ) (so : IsSound s) where
   deleted_live w (inl p) = inl (p.0, deleted_was p.0 w p.1)
   deleted_live w (inr p) = inr p
 
+  fewer : (h : MapShape) → IsMap s.shape.maps m h → len (remove (s.maps m) key) ≤ h.max
+  fewer h is = go (contains_key (s.maps m) key) (len-remove nat_list_cmp_total (s.maps m) key) (so.keys m h is)
+    where
+      go : (b : Bool) → len (remove (s.maps m) key) ≡ cond b (len (s.maps m) - 1) (len (s.maps m)) → len (s.maps m) ≤ h.max → len (remove (s.maps m) key) ≤ h.max
+      go true e l = omega arith
+      go false e l = omega arith
+
   pub deleted_sound : IsSound (deleted s m key)
   deleted_sound = record {
     held = λ c w h. elim (so.held c w h) [
@@ -184,6 +204,11 @@ module _ (s : Plain) (m : ℕ) (key : List ℕ) (so : IsSound s) where
       ]
     ];
     idle = λ c r w. ((so.idle c r w).0, kept_idle s (get (s.maps m) key) c w r (so.idle c r w).1);
+    keys = λ d h is. elim (put_cases s.maps m d (remove (s.maps m) key)) [
+      | inl k ↦ subst (λ (x : Keys). len x ≤ h.max) (sym k.1) (fewer h (subst (λ (x : ℕ). IsMap s.shape.maps x h) k.0 is))
+      | inr k ↦ subst (λ (x : Keys). len x ≤ h.max) (sym k.1) (so.keys d h is)
+    ];
+    sizes = so.sizes;
     live_made = λ w l. so.live_made w (deleted_live w l);
     kept_made = keeps_made;
     apart = λ v w p q. so.apart v w (deleted_live v p) (deleted_live w q);
@@ -203,8 +228,24 @@ module _ (s : Plain) (m : ℕ) (key : List ℕ) (so : IsSound s) where
     back : (p q : Span) → IsApart p q → IsApart q p
     back p q h = λ a i j. h a j i
 
-    pub updated_sound : ((v : ℕ) → IsLive s v → IsApart x.span (s.value v).span) → IsSound (updated s m key x)
-    updated_sound free = record {
+    -- there is room for the key, if it is new
+    more : (h : MapShape) → (is_some (get (s.maps m) key) ≡ false → len (s.maps m) < h.max) → len (s.maps m) ≤ h.max → len (insert (s.maps m) key s.made) ≤ h.max
+    more h room l = go (is_some (get (s.maps m) key)) refl (len-insert nat_list_cmp_total (s.maps m) key s.made)
+      where
+        go : (b : Bool) → is_some (get (s.maps m) key) ≡ b → len (insert (s.maps m) key s.made) ≡ cond b (len (s.maps m)) (len (s.maps m) + 1) → len (insert (s.maps m) key s.made) ≤ h.max
+        go true t e = omega arith
+        go false t e = let k = room t in omega arith
+
+    pub updated_sound : ((v : ℕ) → IsLive s v → IsApart x.span (s.value v).span) → length x.bytes ≡ x.span.size → ((h : MapShape) → IsMap s.shape.maps m h → is_some (get (s.maps m) key) ≡ false → len (s.maps m) < h.max) → IsSound (updated s m key x)
+    updated_sound free size room = record {
+      keys = λ d h is. elim (put_cases s.maps m d (insert (s.maps m) key s.made)) [
+        | inl k ↦ (let here = subst (λ (z : ℕ). IsMap s.shape.maps z h) k.0 is in subst (λ (z : Keys). len z ≤ h.max) (sym k.1) (more h (room h here) (so.keys m h here)))
+        | inr k ↦ subst (λ (z : Keys). len z ≤ h.max) (sym k.1) (so.keys d h is)
+      ];
+      sizes = λ v l. elim (put_cases s.value s.made v x) [
+        | inl k ↦ subst (λ (y : Value). length y.bytes ≡ y.span.size) (sym k.1) size
+        | inr k ↦ subst (λ (y : Value). length y.bytes ≡ y.span.size) (sym k.1) (so.sizes v (let ne = k.0 in omega arith))
+      ];
       held = λ c w h. elim (so.held c w h) [
         | inr k ↦ inr (kept_still s (get (s.maps m) key) c w k)
         | inl p ↦ elim (stays s m key (insert (s.maps m) key s.made) (λ q. elim (insert_cases (s.maps m) key s.made q) [ inl e ↦ inl e.0 | inr e ↦ inr e ]) p.0 p.1.0 w p.1.1) [
@@ -238,10 +279,35 @@ span-written s v a n x w = go (equal_or_not w v)
     go (inl e) = ap (λ (y : Value). y.span) (put-same s.value v w _ e) ∙ ap (λ (k : ℕ). (s.value k).span) (sym e)
     go (inr ne) = ap (λ (y : Value). y.span) (put-other s.value v w _ ne)
 
-pub written_sound : (s : Plain) (v a n x : ℕ) → IsSound s → IsSound (written s v a n x)
-written_sound s v a n x so = record {
+pub length-low_bytes : (n x : ℕ) → length (low_bytes n x) ≡ n
+length-low_bytes zero x = refl
+length-low_bytes (suc n) x = ap suc (length-low_bytes n (x / 256))
+
+pub length-with_part : (bs : List ℕ) (i : ℕ) (others : List ℕ) → i + length others ≤ length bs → length (with_part bs i others) ≡ length bs
+length-with_part bs i others l =
+    let front = length-take-le i bs (omega arith) in
+    let back = length-drop (i + length others) bs in
+    let first = length-append (take i bs) others in
+    let whole = length-append (take i bs ++ others) (drop (i + length others) bs) in
+    omega arith
+
+length-written : (s : Plain) (v a n x : ℕ) → IsSound s → (c : ℕ) → Reaches s c v a n → length (with_part (s.value v).bytes (a - (s.value v).span.at) (low_bytes n x)) ≡ (s.value v).span.size
+length-written s v a n x so c r =
+    let size : length (s.value v).bytes ≡ (s.value v).span.size = so.sizes v (so.live_made v (inr (c, r.holds))) in
+    let low : length (low_bytes n x) ≡ n = length-low_bytes n x in
+    let from : (s.value v).span.at ≤ a = r.covers.0 in
+    let to : a + n ≤ (s.value v).span.at + (s.value v).span.size = r.covers.1 in
+    length-with_part (s.value v).bytes (a - (s.value v).span.at) (low_bytes n x) (omega arith) ∙ size
+
+pub written_sound : (s : Plain) (c v a n x : ℕ) → IsSound s → Reaches s c v a n → IsSound (written s v a n x)
+written_sound s c v a n x so r = record {
   held = so.held;
   idle = so.idle;
+  keys = so.keys;
+  sizes = λ w l. elim (put_cases s.value v w (record (s.value v) { bytes = with_part (s.value v).bytes (a - (s.value v).span.at) (low_bytes n x) })) [
+    | inl k ↦ subst (λ (y : Value). length y.bytes ≡ y.span.size) (sym k.1) (length-written s v a n x so c r)
+    | inr k ↦ subst (λ (y : Value). length y.bytes ≡ y.span.size) (sym k.1) (so.sizes w l)
+  ];
   live_made = so.live_made;
   kept_made = so.kept_made;
   apart = λ u w p q ne. subst (λ (y : Span). IsApart y ((written s v a n x).value w).span) (sym (span-written s v a n x u))
@@ -249,14 +315,31 @@ written_sound s v a n x so = record {
 }
 
 -- ---- all events
-updates_sound : (s t : Plain) (m : ℕ) (h : MapShape) (key bytes : List ℕ) (flags : ℕ) (answer : MapAnswer) → IsSound s → Updates s m h key bytes flags answer t → IsSound t
-updates_sound s t m h key bytes flags Done so u = subst IsSound (sym u.1.2) (updated_sound s m key so (record { bytes = bytes; span = u.1.0 }) u.1.1.apart)
-updates_sound s t m h key bytes flags Invalid so u = subst IsSound (sym u.1) so
-updates_sound s t m h key bytes flags Busy so u = subst IsSound (sym u.1) so
-updates_sound s t m h key bytes flags Exists so u = subst IsSound (sym u.1) so
-updates_sound s t m h key bytes flags Absent so u = subst IsSound (sym u.1) so
-updates_sound s t m h key bytes flags Full so u = subst IsSound (sym u.1) so
-updates_sound s t m h key bytes flags NoMemory so u = subst IsSound (sym u.1) so
+-- a new key that no test refuses finds room
+four_false : (a b c d : Bool) → first_of ((Invalid, a) ∷ (Exists, b) ∷ (Absent, c) ∷ (Full, d) ∷ []) ≡ None → d ≡ false
+four_false true b c d e = cc
+four_false false true c d e = cc
+four_false false false true d e = cc
+four_false false false false true e = cc
+four_false false false false false e = refl
+
+not_full : (s : Plain) (m : ℕ) (h : MapShape) (key : List ℕ) (flags : ℕ) → first_of (refusals s m h key flags) ≡ None → len (s.maps m) ≤ h.max → has_key s m key ≡ false → len (s.maps m) < h.max
+not_full s m h key flags e l new =
+    let last = four_false (nat_lt 2 flags) ((flags == 1) && has_key s m key) ((flags == 2) && not (has_key s m key)) (not (has_key s m key) && (len (s.maps m) == h.max)) e in
+    let apart : (len (s.maps m) == h.max) ≡ false = sym (ap (λ (b : Bool). not b && (len (s.maps m) == h.max)) new) ∙ last in
+    grind (arith, nat_tests)
+
+updates_sound : (s t : Plain) (m : ℕ) (h : MapShape) (key bytes : List ℕ) (flags : ℕ) (answer : MapAnswer) → IsSound s → IsMap s.shape.maps m h → length bytes ≡ h.value → Updates s m h key bytes flags answer t → IsSound t
+updates_sound s t m h key bytes flags Done so is size u =
+    subst IsSound (sym u.1.2) (updated_sound s m key so (record { bytes = bytes; span = u.1.0 }) u.1.1.apart
+    (size ∙ sym (ap (λ (q : Span). q.size) u.1.1.element.2))
+    (λ g here new. let same : g ≡ h = (let k : Some g ≡ Some h = sym here ∙ is in cc) in subst (λ (z : MapShape). len (s.maps m) < z.max) (sym same) (not_full s m h key flags u.0 (so.keys m h is) new)))
+updates_sound s t m h key bytes flags Invalid so is size u = subst IsSound (sym u.1) so
+updates_sound s t m h key bytes flags Busy so is size u = subst IsSound (sym u.1) so
+updates_sound s t m h key bytes flags Exists so is size u = subst IsSound (sym u.1) so
+updates_sound s t m h key bytes flags Absent so is size u = subst IsSound (sym u.1) so
+updates_sound s t m h key bytes flags Full so is size u = subst IsSound (sym u.1) so
+updates_sound s t m h key bytes flags NoMemory so is size u = subst IsSound (sym u.1) so
 
 deletes_sound : (s t : Plain) (m : ℕ) (key : List ℕ) (answer : MapAnswer) → IsSound s → Deletes s m key answer t → IsSound t
 deletes_sound s t m key Done so u = subst IsSound (sym u.1) (deleted_sound s m key so)
@@ -271,11 +354,11 @@ pub allowed_sound : (s t : Plain) (c : ℕ) (e : Event) → IsSound s → Allowe
 allowed_sound s t c Begin so a = subst IsSound (sym a.2) (entered_sound s c so)
 allowed_sound s t c End so a = subst IsSound (sym a.1) (left_sound s c so)
 allowed_sound s t c (Lookup m key found) so a = subst IsSound (sym a.1.2) (looked_up_sound s c m key (get (s.maps m) key) refl a.0 so)
-allowed_sound s t c (Update m key bytes flags answer) so a = updates_sound s t m a.1.0 key bytes flags answer so a.1.4
+allowed_sound s t c (Update m key bytes flags answer) so a = updates_sound s t m a.1.0 key bytes flags answer so a.1.1 a.1.3 a.1.4
 allowed_sound s t c (Delete m key answer) so a = deletes_sound s t m key answer so a.1.1
 allowed_sound s t c (Load at size found) so a = subst IsSound (sym a.1.3) so
-allowed_sound s t c (Store at size x) so a = subst IsSound (sym a.1.2) (written_sound s a.1.0 at _ x so)
-allowed_sound s t c (Atomic at size op operand expected found) so a = subst IsSound (sym a.1.3) (written_sound s a.1.0 at _ _ so)
+allowed_sound s t c (Store at size x) so a = subst IsSound (sym a.1.2) (written_sound s c a.1.0 at _ x so a.1.1)
+allowed_sound s t c (Atomic at size op operand expected found) so a = subst IsSound (sym a.1.3) (written_sound s c a.1.0 at _ _ so a.1.1)
 
 pub legal_sound : (s t : Plain) (log : List Entry) → IsSound s → Legal s log t → IsSound t
 legal_sound s t [] so l = subst IsSound l so

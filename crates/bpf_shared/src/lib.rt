@@ -4,6 +4,7 @@
 
 mod element;
 mod events;
+pub mod laws;
 mod plain;
 mod runs;
 mod shapes;
@@ -14,3 +15,6 @@ pub use events::{AtomicOp, Entry, Event, MapAnswer, Size, Span, ValuePlace};
 pub use plain::PlainStore;
 pub use shapes::{MapShape, ShapeError, StoreShape};
 pub use sharing::{Shared, Worn};
+
+#[cfg(test)]
+mod tests;

@@ -1,0 +1,5 @@
+use Rattle.bpf_shared.specs.Lawful.{updates_make_values as law}
+use Rattle.bpf_shared.proofs.laws.updates_make_values.Goals as goal
+
+pub returns : goal.returns
+returns c = law

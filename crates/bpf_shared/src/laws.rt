@@ -1,0 +1,40 @@
+//! What follows from the definitions of events and histories, as promises to the crates above.
+//!
+//! These functions do nothing: their contracts are the laws, which a proof cites.
+ghost use Rattle.bpf_shared.specs.Laws.{LegalIsSound, ValuesStay, RefusalsChangeNothing, UpdatesMakeValues, OneValueIsReached, WritesTouchNamedBytes, RepliesAreDetermined};
+
+/// Each store that a legal history leads to is sound: a held value is in a map or kept for the CPU
+/// that holds it, no two live values overlap, no map has too many keys.
+pub fn legal_is_sound()
+    ensures { LegalIsSound }
+{}
+
+/// No value vanishes, and none moves.
+pub fn values_stay()
+    ensures { ValuesStay }
+{}
+
+/// A refused update or deletion leaves the store as it was.
+pub fn refusals_change_nothing()
+    ensures { RefusalsChangeNothing }
+{}
+
+/// An update that is done makes a new value, and writes into no old one.
+pub fn updates_make_values()
+    ensures { UpdatesMakeValues }
+{}
+
+/// The bytes of one access lie in one held value.
+pub fn one_value_is_reached()
+    ensures { OneValueIsReached }
+{}
+
+/// A write touches the named bytes of one value, and no others.
+pub fn writes_touch_named_bytes()
+    ensures { WritesTouchNamedBytes }
+{}
+
+/// On one thread a call has one reply.
+pub fn replies_are_determined()
+    ensures { RepliesAreDetermined }
+{}

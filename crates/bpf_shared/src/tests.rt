@@ -1,0 +1,50 @@
+//! A run over any shared store, proved once from the contract alone, and made over the plain store.
+ghost use Rattle.std.specs.Prelude.{◌≡◌, true, false, [], ◌∷◌, IfOk, OnErr};
+ghost use Rattle.bpf_shared.specs.Shape.{IsKeyOf};
+ghost use Rattle.bpf_shared.specs.Chain.{Chain};
+
+use crate::{Event, MapShape, PlainStore, Shared, Span, StoreShape, Worn};
+use std::test::Fail;
+
+/// One run that looks one key up.
+fn look_up_once<S: Shared>(
+    store: &mut S,
+    cpu: u8,
+    map: u8,
+    key: &[u8],
+) -> Result<Option<Span>, Worn>
+    requires serves { S.serves store.old cpu ≡ true }
+    requires idle { S.running store.old cpu ≡ false }
+    requires key { IsKeyOf (S.shapes store.old) map key.now }
+    ensures events { IfOk result (λ answer. Chain S.passes S.serves cpu store.old store.new
+        (Event.Begin ∷ Event.Lookup map key.now answer ∷ Event.End ∷ [])) }
+    ensures worn { OnErr result (S.may_wear store.old cpu × S.passes store.old store.new []) }
+    ensures idle { S.running store.new cpu ≡ false }
+    ensures same { (S.shapes store.new ≡ S.shapes store.old) × (S.serves store.new ≡ S.serves store.old) }
+{
+    store.begin(cpu)?;
+    let answer = store.lookup(cpu, map, key);
+    store.end(cpu);
+    Ok(answer)
+}
+
+#[test]
+fn a_new_store_has_no_keys(rt: HostRuntime) -> Result<(), Fail> {
+    let map = MapShape {
+        key: 4,
+        value: 8,
+        max: 2,
+        spare: 1,
+        mask: 0xffff_ffff,
+    };
+    let shape = StoreShape::new(2, vec![in rt.alloc(); map]?)?;
+    assert_eq!(rt; shape.cpus(), 2);
+    assert_eq!(rt; shape.maps().len(), 1);
+    let mut store = PlainStore::new(rt.alloc(), shape)?;
+    assert_eq!(rt; store.shape(0), Some(map));
+    assert_eq!(rt; store.shape(1), None);
+    let key = [7, 0, 0, 0];
+    assert_eq!(rt; look_up_once(&mut store, 1, 0, &key)?, None);
+    assert_eq!(rt; look_up_once(&mut store, 1, 0, &key)?, None);
+    Ok(())
+}
