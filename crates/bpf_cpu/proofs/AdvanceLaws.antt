@@ -31,9 +31,9 @@ module _ (program : Loaded) (x y : Seen) (old new : Cpu) where
   step_leads turn n m end e is step =
       let P : ℕ → Type 0 = λ k. StepLeads program x y old k end new m in
       subst P (sym e) (λ s sound shows.
-        let r = chain_leads x y old.number step.0 step.1 s sound shows in
-        let Q : List MapShape → Type 0 = λ h. Step h program old step.0 turn new in
-        (r.0, (step.0, turn, subst Q (sym shows.maps) step.2, r.1, is, refl), r.2, r.3))
+      let r = chain_leads x y old.number step.0 step.1 s sound shows in
+      let Q : List MapShape → Type 0 = λ h. Step h program old step.0 turn new in
+      (r.0, (step.0, turn, subst Q (sym shows.maps) step.2, r.1, is, refl), r.2, r.3))
 
 -- the outcome of a job that goes on
 pub last_step : (m : ℕ) (new : Cpu) → m ≡ 0 → Some (OutOfBudget new.pc) ≡ outcome_after On m new

@@ -1,5 +1,5 @@
 -- A CPU's next job is begun.
-use Rattle.std.proofs.Common.{◌≡◌, ◌≢◌, ℕ, ◌<◌, ◌≤◌, ◌+◌, Bool, true, false, List, Option, Some, None, is_some, ◌⊎◌, inl, inr, length, refl, sym, ap, subst, ◌∙◌, arith}
+use Rattle.std.proofs.Common.{◌≡◌, ◌≢◌, ℕ, ◌<◌, ◌≤◌, ◌+◌, Bool, true, false, List, Option, Some, None, is_some, inl, inr, length, refl, sym, ap, subst, ◌∙◌, arith}
 use Rattle.std.specs.Prelude.{slice_get, slice_set}
 use Rattle.std.proofs.lemmas.Bool.{cases_lt}
 use Rattle.std.proofs.lemmas.List.{length-set}
@@ -17,20 +17,20 @@ use Rattle.bpf_cpu.specs.declared.lane.Hand.{Hand}
 use Rattle.bpf_cpu.specs.declared.lane.Lane.{Lane}
 use Rattle.bpf_cpu.specs.State.{start}
 use Rattle.bpf_cpu.specs.Step.{IsReady}
-use Rattle.bpf_cpu.specs.Task.{Stage, Task, InHand, with_stage}
+use Rattle.bpf_cpu.specs.Task.{Task, InHand, with_stage}
 use Rattle.bpf_cpu.specs.Work.{IsNext}
 use Rattle.bpf_cpu.specs.Lanes.{IsFirst, lane, stage_of, task_of, tasks_of, Fits, IsHand, IsBoard}
+use Rattle.bpf_cpu.proofs.RowLaws.{start_ready}
 use Rattle.bpf_cpu.proofs.ListLaws.{slice_get-set_same, slice_get-set_other}
 use Rattle.bpf_cpu.proofs.BoardLaws.{tasks_changed, board_changed}
 use Rattle.bpf_cpu.proofs.WorkLaws.{WaitsAt, waits_at, no_hand, is_next}
 
 -- a program's first instruction is there to start with
 pub ready_to_start : (program : Loaded) (number : ℕ) (context : List ℕ) → IsStart program.instructions 0 → IsReady program (start number context)
-ready_to_start program number context starts = starts
+ready_to_start program number context starts = start_ready program (start number context) context refl starts
 
 module _ (store : Seen) (programs : List Loaded) (jobs : List Listed) (lanes : List Lane) (board : IsBoard (has_cpu store) (is_running store) programs jobs lanes)
-  (c j : ℕ) (next : IsNext (tasks_of lanes jobs) c j) where
-
+    (c j : ℕ) (next : IsNext (tasks_of lanes jobs) c j) where
   at : WaitsAt (has_cpu store) (is_running store) programs jobs lanes board c j next.1.0 next.1.1
   at = waits_at (has_cpu store) (is_running store) programs jobs lanes board c j next.1.0 next.1.1 next.1.2
 
@@ -62,12 +62,14 @@ module _ (store : Seen) (programs : List Loaded) (jobs : List Listed) (lanes : L
     pub waiting : (v : _) × (e.phase ≡ phase.Waiting v) × (v.items ≡ next.1.1)
     waiting = (at.waits.0, subst (λ (x : Listed). x.phase ≡ phase.Waiting at.waits.0) same at.waits.1, at.waits.2)
 
+    pub short : (v : _) → e.phase ≡ phase.Waiting v → length v.items ≤ 4096
+    short = (board.each_job j e listed).short
+
     shown : next.1.0 ≡ task_of lanes e
     shown = at.shown ∙ ap (λ (x : Listed). task_of lanes x) same
 
     module _ (l : Lane) (was : lane lanes c ≡ l) (p : Phase) (in_hand : p ≡ phase.InHand) (state : Cpu) (started : state ≡ start c next.1.1) (n : ℕ)
-      (first : IsFirst (slice_set jobs j (record { cpu = e.cpu; program = e.program; budget = e.budget; phase = p })) c (j + 1) n) where
-
+        (first : IsFirst (slice_set jobs j (record { cpu = e.cpu; program = e.program; budget = e.budget; phase = p })) c (j + 1) n) where
       abbrev e' : Listed
       e' = record { cpu = e.cpu; program = e.program; budget = e.budget; phase = p }
 
@@ -97,8 +99,7 @@ module _ (store : Seen) (programs : List Loaded) (jobs : List Listed) (lanes : L
           ∙ ap (λ (t : Task). with_stage (tasks_of lanes jobs) j t (InHand (start c next.1.1) t.budget)) (sym shown)))
 
       module _ (after : Seen) (serves_same : has_cpu after ≡ has_cpu store) (running : is_running after ≡ put (is_running store) c true)
-        (program : Loaded) (loaded : slice_get programs e.program ≡ Some program) (starts : IsStart program.instructions 0) where
-
+          (program : Loaded) (loaded : slice_get programs e.program ≡ Some program) (starts : IsStart program.instructions 0) where
         held_now : (h : Hand) → Some h' ≡ Some h → IsHand programs (slice_set jobs j e') c h
         held_now h is =
             let same : h' ≡ h = cc in
@@ -117,10 +118,11 @@ module _ (store : Seen) (programs : List Loaded) (jobs : List Listed) (lanes : L
         pub begun_board : IsBoard (has_cpu after) (is_running after) programs (slice_set jobs j e') (slice_set lanes c l')
         begun_board =
             board_changed (has_cpu store) (has_cpu after) (is_running store) (is_running after) programs jobs lanes c j e e' l l' board listed of was refl refl refl alone moves
-              serves_same
-              (λ d ne. ap (λ (f : ℕ → Bool). f d) running ∙ put-other (is_running store) c d true ne)
-              (ap (λ (f : ℕ → Bool). f c) running ∙ put-same (is_running store) c c true refl)
-              (subst (λ (q : Phase). Fits l' j q) (sym in_hand) ((let a = first.above in omega arith), (h', refl, refl)))
-              held_now
-              (λ x there. first.found x (slice_get-set_other jobs j n e' (λ q. (let a = first.above in let b : n ≡ j = q in absurd (omega arith))) ∙ there))
-              (subst (λ (m : ℕ). n ≤ m) (length-set jobs j e') first.within)
+            serves_same
+            (λ d ne. ap (λ (f : ℕ → Bool). f d) running ∙ put-other (is_running store) c d true ne)
+            (ap (λ (f : ℕ → Bool). f c) running ∙ put-same (is_running store) c c true refl)
+            (subst (λ (q : Phase). Fits l' j q) (sym in_hand) ((let a = first.above in omega arith), (h', refl, refl)))
+            (λ v waits. (let no : phase.InHand ≡ phase.Waiting v = sym in_hand ∙ waits in cc))
+            held_now
+            (λ x there. first.found x (slice_get-set_other jobs j n e' (λ q. (let a = first.above in let b : n ≡ j = q in absurd (omega arith))) ∙ there))
+            (subst (λ (m : ℕ). n ≤ m) (length-set jobs j e') first.within)

@@ -1,31 +1,27 @@
 -- What a machine keeps of its jobs and CPUs, and what that shows.
-use Rattle.std.proofs.Common.{◌≡◌, ◌≢◌, ℕ, ◌<◌, ◌≤◌, Bool, true, false, List, [], Option, Some, None, is_some, ◌⊎◌, inl, inr, length, refl, sym, ap, subst, ◌∙◌, arith}
-use Rattle.std.specs.Prelude.{map, slice_get, slice_set, slice_index_or, option_map}
+use Rattle.std.proofs.Common.{◌≡◌, ◌≢◌, ℕ, ◌<◌, ◌≤◌, Bool, List, Some, is_some, inl, inr, length, refl, sym, ap, subst, ◌∙◌, arith}
+use Rattle.std.specs.Prelude.{slice_get, slice_set}
 use Rattle.std.proofs.lemmas.List.{length-set, get_or-set_same, get_or-set_other}
-use Rattle.std.proofs.lemmas.Option.{slice_get-map, slice_get_within, slice_get-get_or}
 use Rattle.bpf_shared.specs.Puts.{equal_or_not}
 use Rattle.bpf_loader.specs.Loaded.{Loaded}
-use Rattle.bpf_cpu.specs.declared.cpu.Cpu.{Cpu}
 use Rattle.bpf_cpu.specs.declared.lane.Listed.{Listed}
 use Rattle.bpf_cpu.specs.declared.lane.Phase.{Phase}
 use Rattle.bpf_cpu.specs.declared.lane.Phase.TheVariants as phase
 use Rattle.bpf_cpu.specs.declared.lane.Hand.{Hand}
 use Rattle.bpf_cpu.specs.declared.lane.Lane.{Lane}
-use Rattle.bpf_cpu.specs.Step.{IsReady}
-use Rattle.bpf_cpu.specs.Task.{Stage, Task, Waiting, InHand, Ended, IsAt, with_stage}
+use Rattle.bpf_cpu.specs.Task.{Stage, Task, with_stage}
 use Rattle.bpf_cpu.specs.Lanes.{lane, no_lane, stage_of, task_of, tasks_of, Fits, IsListed, IsHand, IsLane, IsBoard}
 use Rattle.bpf_cpu.proofs.ListLaws.{slice_get-set_same, slice_get-set_other, map-set_changed}
 
 -- ---- one job and its CPU's lane are changed
 module _ (serves serves' running running' : ℕ → Bool) (programs : List Loaded) (jobs : List Listed) (lanes : List Lane) (c j : ℕ) (e e' : Listed) (l l' : Lane)
-  (board : IsBoard serves running programs jobs lanes)
-  (listed : slice_get jobs j ≡ Some e) (of : e.cpu ≡ c) (was : lane lanes c ≡ l)
-  (cpu : e'.cpu ≡ e.cpu) (program : e'.program ≡ e.program) (budget : e'.budget ≡ e.budget)
-  -- no other job of the CPU is in hand
-  (alone : (h : Hand) → l.hand ≡ Some h → h.job ≡ j)
-  -- of the CPU's other jobs the same wait
-  (moves : (k : ℕ) (x : Listed) → k ≢ j → slice_get jobs k ≡ Some x → x.cpu ≡ c → (l.next ≤ k → l'.next ≤ k) × (k < l.next → k < l'.next)) where
-
+    (board : IsBoard serves running programs jobs lanes)
+    (listed : slice_get jobs j ≡ Some e) (of : e.cpu ≡ c) (was : lane lanes c ≡ l)
+    (cpu : e'.cpu ≡ e.cpu) (program : e'.program ≡ e.program) (budget : e'.budget ≡ e.budget)
+    -- no other job of the CPU is in hand
+    (alone : (h : Hand) → l.hand ≡ Some h → h.job ≡ j)
+    -- of the CPU's other jobs the same wait
+    (moves : (k : ℕ) (x : Listed) → k ≢ j → slice_get jobs k ≡ Some x → x.cpu ≡ c → (l.next ≤ k → l'.next ≤ k) × (k < l.next → k < l'.next)) where
   within : c < length lanes
   within = subst (λ (n : ℕ). n < length lanes) of (board.each_job j e listed).within
 
@@ -56,7 +52,7 @@ module _ (serves serves' running running' : ℕ → Bool) (programs : List Loade
         let before : lane lanes x.cpu ≡ l = ap (λ (d : ℕ). lane lanes d) own ∙ was in
         let fits : Fits l k x.phase = subst (λ (y : Lane). Fits y k x.phase) before (board.each_job k x at).fits in
         let same : stage_of (lane (slice_set lanes c l') x.cpu).hand x.phase ≡ stage_of (lane lanes x.cpu).hand x.phase =
-            ap (λ (y : Lane). stage_of y.hand x.phase) here ∙ (stage_still k x.phase ne fits ∙ ap (λ (y : Lane). stage_of y.hand x.phase) (sym before))
+        ap (λ (y : Lane). stage_of y.hand x.phase) here ∙ (stage_still k x.phase ne fits ∙ ap (λ (y : Lane). stage_of y.hand x.phase) (sym before))
         in
         ap (λ (s : Stage). record { cpu = x.cpu; program = x.program; budget = x.budget; stage = s }) same
     | inr other ↦ ap (λ (y : Lane). record { cpu = x.cpu; program = x.program; budget = x.budget; stage = stage_of y.hand x.phase }) (lane_elsewhere x.cpu other)
@@ -77,10 +73,9 @@ module _ (serves serves' running running' : ℕ → Bool) (programs : List Loade
 
   -- ---- it is kept
   module _ (serves_same : serves' ≡ serves) (elsewhere : (d : ℕ) → d ≢ c → running' d ≡ running d) (runs : running' c ≡ is_some l'.hand)
-    (fits : Fits l' j e'.phase)
-    (hand : (h : Hand) → l'.hand ≡ Some h → IsHand programs (slice_set jobs j e') c h)
-    (next : (x : Listed) → slice_get jobs l'.next ≡ Some x → x.cpu ≡ c) (inside : l'.next ≤ length jobs) where
-
+      (fits : Fits l' j e'.phase) (short : (v : _) → e'.phase ≡ phase.Waiting v → length v.items ≤ 4096)
+      (hand : (h : Hand) → l'.hand ≡ Some h → IsHand programs (slice_set jobs j e') c h)
+      (next : (x : Listed) → slice_get jobs l'.next ≡ Some x → x.cpu ≡ c) (inside : l'.next ≤ length jobs) where
     listed_here : IsListed serves' programs (slice_set lanes c l') j e'
     listed_here =
         let old = board.each_job j e listed in
@@ -90,6 +85,7 @@ module _ (serves serves' running running' : ℕ → Bool) (programs : List Loade
           served = ap (λ (f : ℕ → Bool). f e'.cpu) serves_same ∙ (ap (λ (n : ℕ). serves n) cpu ∙ old.served);
           within = (let below : e'.cpu < length lanes = subst (λ (n : ℕ). n < length lanes) (sym cpu) old.within in subst (λ (n : ℕ). e'.cpu < n) (sym (length-set lanes c l')) below);
           fits = subst (λ (y : Lane). Fits y j e'.phase) (sym at) fits;
+          short = short;
         }
 
     listed_still : (k : ℕ) (x : Listed) → k ≢ j → slice_get jobs k ≡ Some x → IsListed serves' programs (slice_set lanes c l') k x
@@ -107,6 +103,7 @@ module _ (serves serves' running running' : ℕ → Bool) (programs : List Loade
           served = ap (λ (f : ℕ → Bool). f x.cpu) serves_same ∙ old.served;
           within = subst (λ (n : ℕ). x.cpu < n) (sym (length-set lanes c l')) old.within;
           fits = same;
+          short = old.short;
         }
 
     each_job : (k : ℕ) (x : Listed) → slice_get (slice_set jobs j e') k ≡ Some x → IsListed serves' programs (slice_set lanes c l') k x

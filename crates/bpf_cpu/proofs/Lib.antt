@@ -9,3 +9,4 @@ pub mod BeginLaws
 pub mod ProceedLaws
 pub mod TurnLaws
 pub mod KeyLaws
+pub mod MadeLaws

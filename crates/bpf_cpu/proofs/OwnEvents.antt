@@ -1,5 +1,5 @@
 -- Over a `PlainStore` a CPU's events are all that a passage has, and they lead from store to store.
-use Rattle.std.proofs.Common.{◌≡◌, ◌≢◌, ℕ, ◌<◌, ◌≤◌, Bool, true, false, List, [], ◌∷◌, ◌++◌, Option, Some, None, ◌⊎◌, inl, inr, refl, sym, ap, subst, ◌∙◌, ◌==◌, if◌then◌else◌, length, eq-eqb, ne_eqb, arith}
+use Rattle.std.proofs.Common.{◌≡◌, ◌≢◌, ℕ, ◌<◌, Bool, true, false, List, [], ◌∷◌, Option, Some, None, inl, inr, refl, sym, ap, subst, ◌∙◌, if◌then◌else◌, length, eq-eqb, ne_eqb}
 use Rattle.std.specs.Prelude.{map}
 use Rattle.std.proofs.lemmas.Bool.{lt-ltb, cases_lt}
 use Rattle.std.proofs.lemmas.List.{get_or_past}
@@ -19,7 +19,8 @@ use Rattle.bpf_shared.specs.Chain.{Chain, chain_one}
 use Rattle.bpf_shared.specs.Sound.{IsSound}
 use Rattle.bpf_shared.specs.Soundness.{plainly_sound}
 use Rattle.bpf_shared.specs.Puts.{equal_or_not, put_cases}
-use Rattle.bpf_shared.specs.Seen.{Seen, has_cpu, runs_of, no_runs, Shows, Passes}
+use Rattle.bpf_shared.specs.Runs.{no_runs}
+use Rattle.bpf_shared.specs.Seen.{Seen, has_cpu, runs_of, Shows, Passes}
 
 -- each CPU that is in a run is one of the store's
 abbrev RunsWithin : Plain → Type 0
@@ -104,7 +105,7 @@ history_is_own s t c (x ∷ xs) within legal foreign =
     elim (equal_or_not x.cpu c) [
       | inl e ↦
           let others : (d : ℕ) → d < legal.0.shape.cpus → d ≢ c → events_of d xs ≡ [] =
-              λ d l ne. sym (events_of-elsewhere d x xs (λ q. ne (sym q ∙ e))) ∙ foreign d (subst (λ (h : Shape). d < h.cpus) kept.shape l) ne
+          λ d l ne. sym (events_of-elsewhere d x xs (λ q. ne (sym q ∙ e))) ∙ foreign d (subst (λ (h : Shape). d < h.cpus) kept.shape l) ne
           in
           let rest : xs ≡ map (entry c) (events_of c xs) = history_is_own legal.0 t c xs kept.within legal.2 others in
           let first : x ≡ entry c x.event = ap (λ (n : ℕ). entry n x.event) e in
@@ -129,7 +130,7 @@ pub chain_leads : (x y : Seen) (c : ℕ) (events : List Event) → Chain Passes 
 chain_leads x y c events chain s sound shows =
     let end = chain.passage s sound shows in
     let foreign : (d : ℕ) → d < s.shape.cpus → d ≢ c → events_of d chain.log ≡ [] =
-        λ d l ne. chain.foreign d (lt-ltb d (length x.runs) (subst (λ (n : ℕ). d < n) shows.cpus l)) ne
+    λ d l ne. chain.foreign d (lt-ltb d (length x.runs) (subst (λ (n : ℕ). d < n) shows.cpus l)) ne
     in
     let own : chain.log ≡ map (entry c) events = history_is_own s end.0 c chain.log (shown_within x s shows) end.1 foreign ∙ ap (λ (es : List Event). map (entry c) es) chain.own in
     (end.0, subst (λ (l : List Entry). PlainlyLegal s l end.0) own end.1, plainly_sound s end.0 chain.log sound end.1, end.2)

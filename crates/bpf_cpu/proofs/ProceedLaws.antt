@@ -1,5 +1,5 @@
 -- The job in a CPU's hand goes on, or ends.
-use Rattle.std.proofs.Common.{◌≡◌, ◌≢◌, ℕ, ◌<◌, ◌≤◌, ◌+◌, Bool, true, false, List, Option, Some, None, is_some, inl, inr, length, refl, sym, ap, subst, ◌∙◌, arith}
+use Rattle.std.proofs.Common.{◌≡◌, ℕ, ◌<◌, ◌≤◌, Bool, true, false, List, Option, Some, None, is_some, length, refl, sym, ap, subst, ◌∙◌}
 use Rattle.std.specs.Prelude.{slice_get, slice_set}
 use Rattle.std.proofs.lemmas.Option.{slice_get_within}
 use Rattle.bpf_shared.specs.Puts.{put-same, put-other}
@@ -20,7 +20,7 @@ use Rattle.bpf_cpu.specs.declared.lane.Phase.TheVariants as phase
 use Rattle.bpf_cpu.specs.declared.lane.Hand.{Hand}
 use Rattle.bpf_cpu.specs.declared.lane.Lane.{Lane}
 use Rattle.bpf_cpu.specs.Step.{IsReady}
-use Rattle.bpf_cpu.specs.Task.{Stage, Task, InHand, Ended, with_stage, IsAt}
+use Rattle.bpf_cpu.specs.Task.{Task, InHand, Ended, with_stage, IsAt}
 use Rattle.bpf_cpu.specs.Lanes.{lane, stage_of, task_of, tasks_of, Fits, IsHand, IsBoard}
 use Rattle.bpf_cpu.specs.Schedule.{World, Advances, GoesOn}
 use Rattle.bpf_cpu.specs.Machine.{Shows}
@@ -29,8 +29,7 @@ use Rattle.bpf_cpu.proofs.BoardLaws.{tasks_changed, board_changed}
 use Rattle.bpf_cpu.proofs.WorkLaws.{HandAt, hand_at}
 
 module _ (store : Seen) (programs : List Loaded) (jobs : List Listed) (lanes : List Lane) (board : IsBoard (has_cpu store) (is_running store) programs jobs lanes)
-  (c j : ℕ) (task : Task) (state : Cpu) (left : ℕ) (in_hand : IsAt (tasks_of lanes jobs) c j task (InHand state left)) where
-
+    (c j : ℕ) (task : Task) (state : Cpu) (left : ℕ) (in_hand : IsAt (tasks_of lanes jobs) c j task (InHand state left)) where
   at : HandAt (has_cpu store) (is_running store) programs jobs lanes board c j task state left
   at = hand_at (has_cpu store) (is_running store) programs jobs lanes board c j task state left in_hand
 
@@ -134,25 +133,26 @@ module _ (store : Seen) (programs : List Loaded) (jobs : List Listed) (lanes : L
             pub kept_board : (after : Seen) → has_cpu after ≡ has_cpu store → is_running after ≡ is_running store → IsBoard (has_cpu after) (is_running after) programs (slice_set jobs j e) (slice_set lanes c l')
             kept_board after serves_same running_same =
                 board_changed (has_cpu store) (has_cpu after) (is_running store) (is_running after) programs jobs lanes c j e e l l' board listed of was refl refl refl alone (λ k x ne there own. (λ a. a, λ b. b))
-                  serves_same
-                  (λ d ne. ap (λ (f : ℕ → Bool). f d) running_same)
-                  (ap (λ (f : ℕ → Bool). f c) running_same ∙ running)
-                  (subst (λ (p : Phase). Fits l' j p) (sym phase_was) (before, (h', refl, job ∙ told)))
-                  (λ x there. (
-                    let one : h' ≡ x = cc in
-                    let now : IsHand programs (slice_set jobs j e) c h' = record {
-                      job = e;
-                      listed = ap (λ (n : ℕ). slice_get (slice_set jobs j e) n) (job ∙ told) ∙ slice_get-set_same jobs j e e listed;
-                      of = of;
-                      in_hand = phase_was;
-                      number = number_same ∙ number;
-                      program = program;
-                      loaded = loaded;
-                      ready = still;
-                    } in
-                    subst (λ (y : Hand). IsHand programs (slice_set jobs j e) c y) one now))
-                  next_of
-                  inside
+                serves_same
+                (λ d ne. ap (λ (f : ℕ → Bool). f d) running_same)
+                (ap (λ (f : ℕ → Bool). f c) running_same ∙ running)
+                (subst (λ (p : Phase). Fits l' j p) (sym phase_was) (before, (h', refl, job ∙ told)))
+                (λ v waits. (let no : phase.InHand ≡ phase.Waiting v = sym phase_was ∙ waits in cc))
+                (λ x there. (
+                let one : h' ≡ x = cc in
+                let now : IsHand programs (slice_set jobs j e) c h' = record {
+                  job = e;
+                  listed = ap (λ (n : ℕ). slice_get (slice_set jobs j e) n) (job ∙ told) ∙ slice_get-set_same jobs j e e listed;
+                  of = of;
+                  in_hand = phase_was;
+                  number = number_same ∙ number;
+                  program = program;
+                  loaded = loaded;
+                  ready = still;
+                } in
+                subst (λ (y : Hand). IsHand programs (slice_set jobs j e) c y) one now))
+                next_of
+                inside
 
             -- in each world that the machine shows, the CPU goes on with the job, which stays in hand
             pub proceeds_kept : (after : Seen) → ((s : Plain) → IsSound s → seen.Shows store s → (t : Plain) × Advances program h.cpu.number s h.cpu h.left None t h'.cpu h'.left × IsSound t × seen.Shows after t)
@@ -160,8 +160,7 @@ module _ (store : Seen) (programs : List Loaded) (jobs : List Listed) (lanes : L
                 → (z : World) × GoesOn w c j task state left Ran z × Shows (record { store = after; programs = programs; jobs = tasks_of (slice_set lanes c l') (slice_set jobs j e) }) z
             proceeds_kept after advance w shows =
                 let r = advance w.store shows.sound shows.store in
-                let z : World = record w { store = r.0; jobs = with_stage w.jobs j task (InHand h'.cpu h'.left) } in
-                (
+                let z : World = record w { store = r.0; jobs = with_stage w.jobs j task (InHand h'.cpu h'.left) } in (
                   z,
                   (program, None, r.0, h'.cpu, h'.left, loaded_there w shows.programs, advances w.store None r.0 h'.cpu h'.left r.1, (refl, refl)),
                   record { store = r.3; sound = r.2; programs = shows.programs; jobs = ap (λ (ts : List Task). with_stage ts j task (InHand h'.cpu h'.left)) shows.jobs ∙ sym kept_tasks },
@@ -183,13 +182,14 @@ module _ (store : Seen) (programs : List Loaded) (jobs : List Listed) (lanes : L
             pub ended_board : (after : Seen) → has_cpu after ≡ has_cpu store → is_running after ≡ put (is_running store) c false → IsBoard (has_cpu after) (is_running after) programs (slice_set jobs j e'') (slice_set lanes c l'')
             ended_board after serves_same stopped =
                 board_changed (has_cpu store) (has_cpu after) (is_running store) (is_running after) programs jobs lanes c j e e'' l l'' board listed of was refl refl refl alone (λ k x ne there own. (λ a. a, λ b. b))
-                  serves_same
-                  (λ d ne. ap (λ (f : ℕ → Bool). f d) stopped ∙ put-other (is_running store) c d false ne)
-                  (ap (λ (f : ℕ → Bool). f c) stopped ∙ put-same (is_running store) c c false refl)
-                  before
-                  (λ x there. cc)
-                  next_of
-                  inside
+                serves_same
+                (λ d ne. ap (λ (f : ℕ → Bool). f d) stopped ∙ put-other (is_running store) c d false ne)
+                (ap (λ (f : ℕ → Bool). f c) stopped ∙ put-same (is_running store) c c false refl)
+                before
+                (λ v waits. cc)
+                (λ x there. cc)
+                next_of
+                inside
 
             -- in each world that the machine shows, the CPU goes on with the job, which ends
             pub proceeds_ended : (mid after : Seen) (new : Cpu) (rest : ℕ) → ((s : Plain) → IsSound s → seen.Shows store s → (t : Plain) × Advances program h.cpu.number s h.cpu h.left (Some outcome) t new rest × IsSound t × seen.Shows mid t)
@@ -199,8 +199,7 @@ module _ (store : Seen) (programs : List Loaded) (jobs : List Listed) (lanes : L
             proceeds_ended mid after new rest advance end w shows =
                 let r = advance w.store shows.sound shows.store in
                 let q = end r.0 r.2 r.3 in
-                let z : World = record w { store = q.0; jobs = with_stage w.jobs j task (Ended outcome) } in
-                (
+                let z : World = record w { store = q.0; jobs = with_stage w.jobs j task (Ended outcome) } in (
                   z,
                   (program, Some outcome, r.0, new, rest, loaded_there w shows.programs, advances w.store (Some outcome) r.0 new rest r.1, (q.0, q.1, refl, refl)),
                   record { store = q.3; sound = q.2; programs = shows.programs; jobs = ap (λ (ts : List Task). with_stage ts j task (Ended outcome)) shows.jobs ∙ sym ended_tasks },

@@ -1,16 +1,13 @@
 -- A turn of a CPU, from what it is to do and what doing it changes.
-use Rattle.std.proofs.Common.{◌≡◌, ℕ, List, Option, Some, None, inl, inr, refl, sym, ap, subst, ◌∙◌}
-use Rattle.std.specs.Prelude.{slice_get, slice_set}
-use Rattle.bpf_shared.specs.Store.{Plain}
-use Rattle.bpf_shared.specs.Choice.{PlainlyAllowed}
-use Rattle.bpf_shared.specs.declared.events.Event.TheVariants.{Begin}
+use Rattle.std.proofs.Common.{ℕ, ◌+◌, ◌<◌, ◌≤◌, List, [], ◌∷◌, ◌++◌, length, take, get_or, Option, Some, None, inl, inr, refl, sym, ap, subst, ◌∙◌}
+use Rattle.std.proofs.lemmas.List.{take_more, take_all}
 use Rattle.bpf_cpu.specs.declared.cpu.Cpu.{Cpu}
 use Rattle.bpf_cpu.specs.declared.outcome.Outcome.{Outcome}
 use Rattle.bpf_cpu.specs.declared.machine.Turned.{Turned}
 use Rattle.bpf_cpu.specs.declared.machine.Turned.TheVariants.{Idle}
 use Rattle.bpf_cpu.specs.State.{start}
 use Rattle.bpf_cpu.specs.Task.{Stage, Task, InHand, Waiting, IsAt, IsFree, NoneWaits, NoneWaitsBelow, with_stage}
-use Rattle.bpf_cpu.specs.Schedule.{World, Settles, GoesOn, TakesTurn}
+use Rattle.bpf_cpu.specs.Schedule.{World, Settles, GoesOn, TakesTurn, Runs}
 use Rattle.bpf_cpu.specs.Machine.{MachineState, Shows}
 use Rattle.bpf_cpu.specs.Work.{HasInHand, IsNext, Begins, Proceeds}
 use Rattle.bpf_cpu.proofs.ListLaws.{slice_get-set_same, set_twice}
@@ -66,7 +63,7 @@ turn_begins old mid new c j answer next begins proceeds w shows =
     let F : List Task → Type 0 = λ jobs. IsFree jobs c in
     let B : List Task → Type 0 = λ jobs. NoneWaitsBelow jobs c j in
     let goes : GoesOn begun c j task state task.budget answer r.0 =
-        (on.0, on.1, on.2, on.3, on.4, on.5, on.6, settles_over (record begun { store = on.2 }) c j task now on.3 on.4 on.1 answer r.0 on.7)
+    (on.0, on.1, on.2, on.3, on.4, on.5, on.6, settles_over (record begun { store = on.2 }) c j task now on.3 on.4 on.1 answer r.0 on.7)
     in
     (r.0, inr (inl (subst F (sym shows.jobs) next.0, (j, task, begins.1, run.0, subst P (sym shows.jobs) begins.2, subst B (sym shows.jobs) next.2, run.1, goes))), r.2)
 
@@ -75,3 +72,23 @@ turn_idle old c free none w shows =
     let F : List Task → Type 0 = λ jobs. IsFree jobs c in
     let N : List Task → Type 0 = λ jobs. NoneWaits jobs c in
     (w, inr (inr (subst F (sym shows.jobs) free, subst N (sym shows.jobs) none, refl, refl)), shows)
+
+-- ---- schedules
+runs_more : (w : World) (cs : List ℕ) (c : ℕ) (m : World) (answer : Turned) (z : World) → Runs w cs m → TakesTurn m c answer z → Runs w (cs ++ c ∷ []) z
+runs_more w [] c m answer z runs turn = (answer, z, subst (λ (x : World). TakesTurn x c answer z) runs turn, refl)
+runs_more w (d ∷ ds) c m answer z runs turn = (runs.0, runs.1, runs.2, runs_more runs.1 ds c m answer z runs.3 turn)
+
+-- the run of a schedule as far as a number of its turns, as machines show it
+abbrev pub RunsSo : MachineState → List ℕ → ℕ → MachineState → Type 0
+RunsSo old schedule n new = (w : World) → Shows old w → (z : World) × Runs w (take n schedule) z × Shows new z
+
+pub next_turn : (old mid new : MachineState) (schedule : List ℕ) (n : ℕ) (answer : Turned) → n < length schedule → RunsSo old schedule n mid
+    → ((w : World) → Shows mid w → (z : World) × TakesTurn w (get_or schedule n 0) answer z × Shows new z) → RunsSo old schedule (n + 1) new
+next_turn old mid new schedule n answer inside runs turn w shows =
+    let r = runs w shows in
+    let t = turn r.0 r.2 in
+    let all = runs_more w (take n schedule) (get_or schedule n 0) r.0 answer t.0 r.1 t.1 in
+    (t.0, subst (λ (cs : List ℕ). Runs w cs t.0) (sym (take_more schedule n 0 inside)) all, t.2)
+
+pub all_turns : (old new : MachineState) (schedule : List ℕ) (n : ℕ) → length schedule ≤ n → RunsSo old schedule n new → (w : World) → Shows old w → (z : World) × Runs w schedule z × Shows new z
+all_turns old new schedule n past runs w shows = let r = runs w shows in (r.0, subst (λ (cs : List ℕ). Runs w cs r.0) (take_all n schedule past) r.1, r.2)

@@ -1,6 +1,6 @@
 -- What is in hand and what waits, by what a machine keeps and by what it shows.
-use Rattle.std.proofs.Common.{◌≡◌, ◌≢◌, ℕ, ◌<◌, ◌≤◌, ◌+◌, Bool, true, false, List, [], Option, Some, None, is_some, ◌⊎◌, inl, inr, length, refl, sym, ap, subst, ◌∙◌, arith}
-use Rattle.std.specs.Prelude.{map, slice_get, slice_index_or, option_map}
+use Rattle.std.proofs.Common.{◌≡◌, ℕ, ◌<◌, ◌≤◌, Bool, List, Option, Some, None, inl, inr, length, refl, sym, ap, subst, ◌∙◌, arith}
+use Rattle.std.specs.Prelude.{slice_get, slice_index_or, option_map}
 use Rattle.std.proofs.lemmas.Option.{slice_get-map, slice_get_within, slice_get-get_or}
 use Rattle.std.proofs.lemmas.Bool.{cases_lt}
 use Rattle.std.proofs.lemmas.List.{get_or_read}
@@ -11,9 +11,9 @@ use Rattle.bpf_cpu.specs.declared.lane.Phase.{Phase}
 use Rattle.bpf_cpu.specs.declared.lane.Phase.TheVariants as phase
 use Rattle.bpf_cpu.specs.declared.lane.Hand.{Hand}
 use Rattle.bpf_cpu.specs.declared.lane.Lane.{Lane}
-use Rattle.bpf_cpu.specs.Task.{Stage, Task, Waiting, InHand, Ended, IsAt, IsFree, NoneWaitsBelow, NoneWaits}
-use Rattle.bpf_cpu.specs.Work.{HasInHand, IsNext}
-use Rattle.bpf_cpu.specs.Lanes.{lane, no_lane, stage_of, task_of, tasks_of, Fits, IsListed, IsHand, IsLane, IsBoard}
+use Rattle.bpf_cpu.specs.Task.{Stage, Task, Waiting, InHand, IsAt, IsFree, NoneWaitsBelow, NoneWaits}
+use Rattle.bpf_cpu.specs.Work.{HasInHand, IsState, IsNext}
+use Rattle.bpf_cpu.specs.Lanes.{lane, no_lane, stage_of, task_of, tasks_of, Fits, IsHand, IsBoard}
 
 -- the job behind a shown one
 record IsBehind (jobs : List Listed) (lanes : List Lane) (c j : ℕ) (task : Task) : Type 0 where
@@ -27,6 +27,7 @@ behind jobs lanes c j task stage at = go (slice_get jobs j) refl
   where
     shown : option_map (task_of lanes) (slice_get jobs j) ≡ Some task
     shown = sym (slice_get-map (task_of lanes) jobs j) ∙ at.listed
+
     go : (o : Option Listed) → slice_get jobs j ≡ o → IsBehind jobs lanes c j task
     go None e = let no : None ≡ Some task = sym (ap (λ (o : Option Listed). option_map (task_of lanes) o) e) ∙ shown in cc
     go (Some x) e =
@@ -92,15 +93,17 @@ module _ (serves running : ℕ → Bool) (programs : List Loaded) (jobs : List L
         is = (board.each_lane c within).hand h.0 held;
       }
 
-  pub has_hand : (h : Hand) → c < length lanes → (lane lanes c).hand ≡ Some h → HasInHand (tasks_of lanes jobs) c h.job
+  pub has_hand : (h : Hand) → c < length lanes → (lane lanes c).hand ≡ Some h → (task : Task) × IsAt (tasks_of lanes jobs) c h.job task (InHand h.cpu h.left)
   has_hand h within held =
       let is = (board.each_lane c within).hand h held in
-      let here : (lane lanes is.job.cpu).hand ≡ Some h = ap (λ (n : ℕ). (lane lanes n).hand) is.of ∙ held in
-      (task_of lanes is.job, h.cpu, h.left, record {
-        listed = shows_job jobs lanes h.job is.job is.listed;
-        of = is.of;
-        at = ap (λ (p : Phase). stage_of (lane lanes is.job.cpu).hand p) is.in_hand ∙ ap (λ (o : Option Hand). stage_of o phase.InHand) here;
-      })
+      let here : (lane lanes is.job.cpu).hand ≡ Some h = ap (λ (n : ℕ). (lane lanes n).hand) is.of ∙ held in (
+        task_of lanes is.job,
+        record {
+          listed = shows_job jobs lanes h.job is.job is.listed;
+          of = is.of;
+          at = ap (λ (p : Phase). stage_of (lane lanes is.job.cpu).hand p) is.in_hand ∙ ap (λ (o : Option Hand). stage_of o phase.InHand) here;
+        },
+      )
 
   pub is_free : (lane lanes c).hand ≡ None → IsFree (tasks_of lanes jobs) c
   is_free none j task state left at = let h = hand_at j task state left at in let no : None ≡ Some h.hand = sym none ∙ h.held in cc
@@ -110,7 +113,7 @@ module _ (serves running : ℕ → Bool) (programs : List Loaded) (jobs : List L
     where
       go : (o : Option Hand) → (lane lanes c).hand ≡ o → (lane lanes c).hand ≡ None
       go None e = e
-      go (Some h) e = let has = has_hand h within e in absurd (free h.job has.0 has.1 has.2 has.3)
+      go (Some h) e = let has = has_hand h within e in absurd (free h.job has.0 h.cpu h.left has.1)
 
   -- ---- waiting
   pub record WaitsAt (j : ℕ) (task : Task) (context : List ℕ) : Type 0 where
@@ -145,11 +148,15 @@ module _ (serves running : ℕ → Bool) (programs : List Loaded) (jobs : List L
       go x.phase refl fits
     where
       go : (p : Phase) → x.phase ≡ p → Fits (lane lanes c) (lane lanes c).next p → (task : Task) × (context : List ℕ) × IsAt (tasks_of lanes jobs) c (lane lanes c).next task (Waiting context)
-      go (phase.Waiting v) e fits = (task_of lanes x, v.items, record {
-        listed = shows_job jobs lanes (lane lanes c).next x at;
-        of = (board.each_lane c within).next x at;
-        at = ap (λ (p : Phase). stage_of (lane lanes x.cpu).hand p) e;
-      })
+      go (phase.Waiting v) e fits = (
+        task_of lanes x,
+        v.items,
+        record {
+          listed = shows_job jobs lanes (lane lanes c).next x at;
+          of = (board.each_lane c within).next x at;
+          at = ap (λ (p : Phase). stage_of (lane lanes x.cpu).hand p) e;
+        },
+      )
       go phase.InHand e fits = let l : (lane lanes c).next < (lane lanes c).next = fits.0 in absurd (omega arith)
       go (phase.Ended outcome) e fits = let l : (lane lanes c).next < (lane lanes c).next = fits in absurd (omega arith)
 
@@ -193,7 +200,13 @@ lane_read lanes c l within read = sym (get_or_read lanes c l within read no_lane
 -- what a lane that was read tells of its CPU
 module _ (serves running : ℕ → Bool) (programs : List Loaded) (jobs : List Listed) (lanes : List Lane) (board : IsBoard serves running programs jobs lanes) (c : ℕ) (l : Lane) (within : c < length lanes) (was : lane lanes c ≡ l) where
   pub work_in_hand : (h : Hand) → l.hand ≡ Some h → HasInHand (tasks_of lanes jobs) c h.job
-  work_in_hand h held = has_hand serves running programs jobs lanes board c h within (ap (λ (x : Lane). x.hand) was ∙ held)
+  work_in_hand h held = let has = has_hand serves running programs jobs lanes board c h within (ap (λ (x : Lane). x.hand) was ∙ held) in (has.0, h.cpu, h.left, has.1)
+
+  pub state_in_hand : (h : Hand) → l.hand ≡ Some h → IsState (tasks_of lanes jobs) c h.cpu
+  state_in_hand h held = let has = has_hand serves running programs jobs lanes board c h within (ap (λ (x : Lane). x.hand) was ∙ held) in (h.job, has.0, h.left, has.1)
+
+  pub work_free : l.hand ≡ None → IsFree (tasks_of lanes jobs) c
+  work_free none = is_free serves running programs jobs lanes board c (ap (λ (x : Lane). x.hand) was ∙ none)
 
   pub work_waiting : l.hand ≡ None → l.next < length jobs → IsNext (tasks_of lanes jobs) c l.next
   work_waiting none inside =
@@ -203,7 +216,8 @@ module _ (serves running : ℕ → Bool) (programs : List Loaded) (jobs : List L
       subst (λ (x : Lane). IsNext (tasks_of lanes jobs) c x.next) was (
         is_free serves running programs jobs lanes board c (ap (λ (x : Lane). x.hand) was ∙ none),
         next_waits serves running programs jobs lanes board c within (slice_index_or jobs l.next no_job) there,
-        none_waits_below serves running programs jobs lanes board c)
+        none_waits_below serves running programs jobs lanes board c,
+      )
 
   pub work_nothing : l.hand ≡ None → length jobs ≤ l.next → IsFree (tasks_of lanes jobs) c × NoneWaits (tasks_of lanes jobs) c
   work_nothing none past = (

@@ -1,6 +1,7 @@
 -- What a machine keeps of each job, and of each CPU.
 use Rattle.std.specs.Prelude.{◌≡◌, ℕ, ◌<◌, ◌≤◌, Bool, true, false, List, [], Option, Some, None, is_some, length, map, slice_get, slice_index_or}
 use Rattle.bpf_loader.specs.Loaded.{Loaded}
+use Rattle.bpf_cpu.specs.declared.job.Job.{Job}
 use Rattle.bpf_cpu.specs.declared.lane.Listed.{Listed}
 use Rattle.bpf_cpu.specs.declared.lane.Phase.{Phase}
 use Rattle.bpf_cpu.specs.declared.lane.Phase.TheVariants as phase
@@ -15,6 +16,10 @@ pub record IsFirst (jobs : List Listed) (cpu «from» n : ℕ) : Type 0 where
   pub within : n ≤ length jobs
   pub none : (k : ℕ) (x : Listed) → «from» ≤ k → k < n → slice_get jobs k ≡ Some x → x.cpu ≡ cpu → ⊥
   pub found : (x : Listed) → slice_get jobs n ≡ Some x → x.cpu ≡ cpu
+
+-- a job as it is listed at first
+abbrev pub listed : Job → Listed
+listed job = record { cpu = job.cpu; program = job.program; budget = job.budget; phase = phase.Waiting job.context }
 
 -- a CPU without work
 abbrev pub no_lane : Lane
@@ -49,6 +54,7 @@ pub record IsListed (serves : ℕ → Bool) (programs : List Loaded) (lanes : Li
   pub served : serves x.cpu ≡ true
   pub within : x.cpu < length lanes
   pub fits : Fits (lane lanes x.cpu) j x.phase
+  pub short : (context : _) → x.phase ≡ phase.Waiting context → length context.items ≤ 4096
 
 -- a job in hand
 pub record IsHand (programs : List Loaded) (jobs : List Listed) (cpu : ℕ) (h : Hand) : Type 0 where

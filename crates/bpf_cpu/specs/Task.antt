@@ -1,5 +1,6 @@
 -- The jobs of a machine, and how far each is.
-use Rattle.std.specs.Prelude.{◌≡◌, ℕ, ◌<◌, List, Some, slice_get, slice_set}
+use Rattle.std.specs.Prelude.{◌≡◌, ℕ, ◌<◌, List, Option, Some, None, option_and_then, slice_get, slice_set}
+use Rattle.bpf_cpu.specs.declared.job.Job.{Job}
 use Rattle.bpf_cpu.specs.declared.cpu.Cpu.{Cpu}
 use Rattle.bpf_cpu.specs.declared.outcome.Outcome.{Outcome}
 
@@ -16,6 +17,10 @@ pub record Task : Type 0 where
   pub program : ℕ
   pub budget : ℕ
   pub stage : Stage
+
+-- a job at first
+abbrev pub waiting : Job → Task
+waiting job = record { cpu = job.cpu; program = job.program; budget = job.budget; stage = Waiting job.context.items }
 
 -- the j-th job is one of this CPU's, in this stage
 pub record IsAt (jobs : List Task) (cpu j : ℕ) (task : Task) (stage : Stage) : Type 0 where
@@ -34,6 +39,15 @@ NoneWaitsBelow jobs cpu j = (k : ℕ) (task : Task) (context : List ℕ) → k <
 -- no job of the CPU waits
 abbrev pub NoneWaits : List Task → ℕ → Type 0
 NoneWaits jobs cpu = (j : ℕ) (task : Task) (context : List ℕ) → IsAt jobs cpu j task (Waiting context) → ⊥
+
+-- how the job has ended, if it has
+abbrev pub ended : Stage → Option Outcome
+ended (Waiting context) = None
+ended (InHand state left) = None
+ended (Ended outcome) = Some outcome
+
+abbrev pub outcome_at : List Task → ℕ → Option Outcome
+outcome_at jobs j = option_and_then (λ task. ended task.stage) (slice_get jobs j)
 
 -- the jobs with the j-th in another stage
 abbrev pub with_stage : List Task → ℕ → Task → Stage → List Task

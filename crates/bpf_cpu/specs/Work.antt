@@ -10,13 +10,17 @@ use Rattle.bpf_cpu.specs.declared.machine.Turned.{Turned}
 use Rattle.bpf_cpu.specs.declared.machine.Work.{Work}
 use Rattle.bpf_cpu.specs.declared.machine.Work.TheVariants as work
 use Rattle.bpf_cpu.specs.State.{start}
-use Rattle.bpf_cpu.specs.Task.{Stage, Task, IsAt, IsFree, NoneWaitsBelow, NoneWaits, with_stage, Waiting, InHand}
+use Rattle.bpf_cpu.specs.Task.{Task, IsAt, IsFree, NoneWaitsBelow, NoneWaits, with_stage, Waiting, InHand}
 use Rattle.bpf_cpu.specs.Schedule.{World, GoesOn}
 use Rattle.bpf_cpu.specs.Machine.{MachineState, Shows}
 
 -- the CPU has this job in hand
 abbrev pub HasInHand : List Task → ℕ → ℕ → Type 0
 HasInHand jobs cpu j = (task : Task) × (state : Cpu) × (left : ℕ) × IsAt jobs cpu j task (InHand state left)
+
+-- it has a job in hand, and is in this state
+abbrev pub IsState : List Task → ℕ → Cpu → Type 0
+IsState jobs cpu state = (j : ℕ) × (task : Task) × (left : ℕ) × IsAt jobs cpu j task (InHand state left)
 
 -- the CPU has none in hand, and this is its lowest that waits
 abbrev pub IsNext : List Task → ℕ → ℕ → Type 0

@@ -1,18 +1,20 @@
 //! What a machine keeps of each job, and of each CPU.
 
-ghost use Rattle.std.specs.Prelude.{◌≡◌, ◌<◌, ◌≤◌, ◌+◌, ℕ, true, length};
+ghost use Rattle.std.specs.Prelude.{◌≡◌, ◌<◌, ◌≤◌, ◌+◌, ℕ, true, [], length, map, All, IfOk, vec_len, vec_capacity};
 ghost use Rattle.bpf_shared.specs.Store.{Plain};
 ghost use Rattle.bpf_shared.specs.Sound.{IsSound};
 ghost use Rattle.bpf_shared.specs.Seen.{has_cpu, is_running};
 ghost use Rattle.bpf_shared.specs.Seen as seen;
 ghost use Rattle.bpf_cpu.specs.Step.{IsReady};
 ghost use Rattle.bpf_cpu.specs.Schedule.{Advances};
-ghost use Rattle.bpf_cpu.specs.Lanes.{IsFirst};
+ghost use Rattle.bpf_cpu.specs.Lanes.{IsFirst, lane, listed};
 
 use crate::cpu::Cpu;
+use crate::job::Job;
 use crate::outcome::{Outcome, Turn};
 use bpf_loader::Program;
 use bpf_shared::PlainStore;
+use std::alloc::{AllocError, Global};
 
 /// How far a job is.
 #[derive(Drop)]
@@ -60,6 +62,81 @@ pub(crate) fn first_job(jobs: &[Listed], cpu: u8, from: usize) -> usize
         job += 1;
     }
     job
+}
+
+/// How many CPUs there are up to the highest that has a job.
+pub(crate) fn count_cpus(jobs: &[Job]) -> usize
+    ensures above { All (λ job. job.cpu < result) jobs.now }
+    ensures few { result ≤ 256 }
+{
+    let mut count = 0;
+    for job in jobs {
+        count = count.max(job.cpu as usize + 1);
+    }
+    count
+}
+
+/// Room for so many jobs and CPUs.
+pub(crate) fn make_room(
+    alloc: Global,
+    jobs: usize,
+    cpus: usize,
+) -> Result<(Vec<Listed>, Vec<Lane>), AllocError>
+    ensures jobs { IfOk result (λ r. (r.0.items ≡ []) × (jobs ≤ vec_capacity r.0)) }
+    ensures cpus { IfOk result (λ r. (r.1.items ≡ []) × (cpus ≤ vec_capacity r.1)) }
+{
+    Ok((
+        Vec::with_capacity(alloc, jobs)?,
+        Vec::with_capacity(alloc, cpus)?,
+    ))
+}
+
+/// The jobs, all waiting.
+pub(crate) fn list_jobs(jobs: Vec<Job>, room: Vec<Listed>) -> Vec<Listed>
+    requires empty { room.items ≡ [] }
+    requires room { vec_len jobs ≤ vec_capacity room }
+    ensures { result.items ≡ map listed jobs.items }
+{
+    let mut list = room;
+    for job in jobs {
+        let Job {
+            cpu,
+            program,
+            budget,
+            context,
+        } = job;
+        let phase = Phase::Waiting(context);
+        match list.push(Listed {
+            cpu,
+            program,
+            budget,
+            phase,
+        }) {
+            Ok(()) => {}
+            Err(_) => unreachable!(),
+        }
+    }
+    list
+}
+
+/// So many CPUs, with nothing in hand.
+pub(crate) fn make_lanes(jobs: &[Listed], cpus: usize, room: Vec<Lane>) -> Vec<Lane>
+    requires empty { room.items ≡ [] }
+    requires room { cpus ≤ vec_capacity room }
+    requires few { cpus ≤ 256 }
+    ensures count { length result.items ≡ cpus }
+    ensures idle { (c : ℕ) → c < cpus → (lane result.items c).hand ≡ None }
+    ensures first { (c : ℕ) → c < cpus → IsFirst jobs.now c 0 (lane result.items c).next }
+{
+    let mut lanes = room;
+    for cpu in 0..cpus {
+        let next = first_job(jobs, cpu as u8, 0);
+        match lanes.push(Lane { hand: None, next }) {
+            Ok(()) => {}
+            Err(_) => unreachable!(),
+        }
+    }
+    lanes
 }
 
 impl Hand {

@@ -2,9 +2,10 @@
 
 use crate::cpu::Cpu;
 use crate::job::Job;
-use crate::lane::{Hand, Lane, Listed, Phase, first_job};
+use crate::lane::{
+    Hand, Lane, Listed, Phase, count_cpus, first_job, list_jobs, make_lanes, make_room,
+};
 use crate::outcome::Outcome;
-use crate::start::start;
 use bpf_loader::Program;
 use bpf_shared::{PlainStore, Shared};
 use std::alloc::Global;
@@ -20,6 +21,14 @@ pub enum Turned {
     Ended(usize, Outcome),
     /// It has no work.
     Idle,
+}
+
+/// What a machine was to be made of. There was no memory for more.
+#[derive(Drop)]
+pub struct Refused {
+    pub store: PlainStore,
+    pub programs: Vec<Program>,
+    pub jobs: Vec<Job>,
 }
 
 /// What a CPU is to do, with the number of the job.
@@ -53,10 +62,48 @@ impl Model for Machine {
 }
 
 impl Machine {
-    ghost use Rattle.std.specs.Prelude.{◌≡◌, ◌≢◌};
-    ghost use Rattle.bpf_cpu.specs.Schedule.{World, TakesTurn};
+    ghost use Rattle.std.specs.Prelude.{◌≡◌, ◌≢◌, ◌≤◌, ◌<◌, ◌⊎◌, ℕ, true, false, All, IfOk, IfErr, IfSome, IfNone, map, vec_len};
+    ghost use Rattle.bpf_shared.specs.Seen.{has_cpu, is_running};
+    ghost use Rattle.bpf_cpu.specs.Task.{IsFree, NoneWaits, outcome_at, waiting};
+    ghost use Rattle.bpf_cpu.specs.Schedule.{World, TakesTurn, Runs};
     ghost use Rattle.bpf_cpu.specs.Machine.{Shows};
-    ghost use Rattle.bpf_cpu.specs.Work.{Begins, Proceeds, IsWork, IsNext, HasInHand};
+    ghost use Rattle.bpf_cpu.specs.Work.{Begins, Proceeds, IsWork, IsNext, HasInHand, IsState};
+
+    /// A machine whose jobs all wait. It makes all the room that they will ever need.
+    pub fn new(
+        alloc: Global,
+        store: PlainStore,
+        programs: Vec<Program>,
+        jobs: Vec<Job>,
+    ) -> Result<Machine, Refused>
+        requires idle { (cpu : ℕ) → is_running store cpu ≡ false }
+        requires cpus { All (λ job. has_cpu store job.cpu ≡ true) jobs.items }
+        requires programs { All (λ job. job.program < vec_len programs) jobs.items }
+        requires contexts { All (λ job. vec_len job.context ≤ 4096) jobs.items }
+        ensures store { IfOk result (λ m. m.store ≡ store) }
+        ensures programs { IfOk result (λ m. m.programs ≡ programs.items) }
+        ensures jobs { IfOk result (λ m. m.jobs ≡ map waiting jobs.items) }
+        ensures refused { IfErr result (λ r. (r.store ≡ store) × (r.programs ≡ programs) × (r.jobs ≡ jobs)) }
+    {
+        let cpus = count_cpus(&jobs);
+        match make_room(alloc, jobs.len(), cpus) {
+            Ok((room, lanes)) => {
+                let listed = list_jobs(jobs, room);
+                let lanes = make_lanes(&listed, cpus, lanes);
+                Ok(Machine {
+                    store,
+                    programs,
+                    jobs: listed,
+                    lanes,
+                })
+            }
+            Err(_) => Err(Refused {
+                store,
+                programs,
+                jobs,
+            }),
+        }
+    }
 
     /// One turn of a CPU: it begins its lowest waiting job where it has none in hand, makes one step of it unless
     /// the budget is used up, and ends it where it has an outcome then. It takes no memory.
@@ -71,6 +118,64 @@ impl Machine {
                 self.proceed(cpu, job)
             }
             Work::Nothing => Turned::Idle,
+        }
+    }
+
+    /// The turns of a schedule, in order. A schedule is any list of CPU numbers.
+    pub fn turns(&mut self, schedule: &[u8])
+        ensures { (w : World) → Shows self.old w → (z : World) × Runs w schedule.now z × Shows self.new z }
+    {
+        for cpu in schedule {
+            self.turn(*cpu);
+        }
+    }
+
+    /// How a job ended, if it has.
+    pub fn outcome(&self, job: usize) -> Option<Outcome>
+        ensures { result ≡ outcome_at self.now.jobs job }
+    {
+        match self.jobs.get(job)?.phase {
+            Phase::Ended(outcome) => Some(outcome),
+            _ => None,
+        }
+    }
+
+    /// The store.
+    pub fn store(&self) -> &PlainStore
+        ensures { result.now ≡ self.now.store }
+    {
+        &self.store
+    }
+
+    /// The programs, as jobs number them.
+    pub fn programs(&self) -> &[Program]
+        ensures { result.now ≡ self.now.programs }
+    {
+        &self.programs
+    }
+
+    /// The job that a CPU has in hand, or else is to begin next.
+    pub fn job(&self, cpu: u8) -> Option<usize>
+        ensures job { IfSome result (λ j. HasInHand self.now.jobs cpu j ⊎ IsNext self.now.jobs cpu j) }
+        ensures idle { IfNone result (IsFree self.now.jobs cpu × NoneWaits self.now.jobs cpu) }
+    {
+        match self.work(cpu) {
+            Work::InHand(job) | Work::Waiting(job) => Some(job),
+            Work::Nothing => None,
+        }
+    }
+
+    /// The state of a CPU that has a job in hand.
+    pub fn cpu(&self, cpu: u8) -> Option<&Cpu>
+        ensures state { IfSome result (λ state. IsState self.now.jobs cpu state.now) }
+        ensures free { IfNone result (IsFree self.now.jobs cpu) }
+    {
+        let Some(lane) = self.lanes.get(cpu as usize) else {
+            return None;
+        };
+        match &lane.hand {
+            Some(hand) => Some(&hand.cpu),
+            None => None,
         }
     }
 
@@ -99,8 +204,12 @@ impl Machine {
         self.programs[listed.program].starts();
         match mem::replace(&mut listed.phase, Phase::InHand) {
             Phase::Waiting(context) => {
-                let cpu = start(cpu, context);
-                lane.hand = Some(Hand { job, cpu, left });
+                let start = Cpu::new(cpu, context);
+                lane.hand = Some(Hand {
+                    job,
+                    cpu: start,
+                    left,
+                });
             }
             _ => unreachable!(),
         }

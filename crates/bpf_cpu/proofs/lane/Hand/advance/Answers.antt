@@ -1,4 +1,4 @@
-use Rattle.std.proofs.Common.{◌≡◌, ◌≢◌, ℕ, suc, ◌-◌, Some, None, refl, arith}
+use Rattle.std.proofs.Common.{◌≡◌, suc, ◌-◌, Some, refl, arith}
 use Rattle.bpf_cpu.proofs.AdvanceLaws.{no_step_leads, step_leads, last_step, not_last_step}
 use Rattle.bpf_cpu.proofs.lane.Hand.advance.Goals as goal
 

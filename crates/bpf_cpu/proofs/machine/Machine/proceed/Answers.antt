@@ -1,13 +1,9 @@
-use Rattle.std.proofs.Common.{◌≡◌, ◌≢◌, ℕ, ◌<◌, ◌≤◌, List, Option, Some, None, length, refl, sym, ap, subst, ◌∙◌, Bool, true, false, arith}
-use Rattle.std.specs.Prelude.{slice_get, slice_index_or, slice_set}
+use Rattle.std.proofs.Common.{◌≡◌, ℕ, Some, None, length, refl, sym, ap, subst, ◌∙◌, Bool, true, false, arith}
+use Rattle.std.specs.Prelude.{slice_get, slice_set}
 use Rattle.std.proofs.lemmas.Option.{slice_get_read}
-use Rattle.bpf_shared.specs.Store.{Plain, put}
-use Rattle.bpf_shared.specs.Sound.{IsSound}
+use Rattle.bpf_shared.specs.Store.{put}
 use Rattle.bpf_shared.specs.Seen.{has_cpu, is_running}
 use Rattle.bpf_shared.specs.declared.events.Event.TheVariants.{End}
-use Rattle.bpf_loader.specs.Loaded.{Loaded}
-use Rattle.bpf_cpu.specs.declared.lane.Lane.{Lane}
-use Rattle.bpf_cpu.specs.declared.lane.Listed.{Listed}
 use Rattle.bpf_cpu.specs.declared.lane.Phase.TheVariants.{Ended}
 use Rattle.bpf_cpu.specs.declared.machine.Turned.TheVariants.{Ran}
 use Rattle.bpf_cpu.specs.declared.machine.Turned.TheVariants as turned
@@ -16,7 +12,7 @@ use Rattle.bpf_cpu.specs.Lanes.{lane, tasks_of}
 use Rattle.bpf_cpu.specs.Work.{HasInHand, Proceeds}
 use Rattle.bpf_cpu.proofs.OwnEvents.{call_leads}
 use Rattle.bpf_cpu.proofs.WorkLaws.{lane_read}
-use Rattle.bpf_cpu.proofs.ProceedLaws.{lane_within, job_within, serves, running, never_empty, told, number, program_within, ready, kept_board, ended_board, proceeds_kept, proceeds_ended}
+use Rattle.bpf_cpu.proofs.ProceedLaws.{lane_within, job_within, serves, running, never_empty, number, program_within, ready, kept_board, ended_board, proceeds_kept, proceeds_ended}
 use Rattle.bpf_cpu.proofs.machine.Machine.proceed.Goals as goal
 
 pub index_mut-lane-requires : goal.index_mut-lane-requires
@@ -145,7 +141,7 @@ returns-in-None-clause-proceeds c =
     let new : MachineState = record { store = c.advance.new.store; programs = m.programs.items; jobs = tasks_of (slice_set m.lanes.items c.args.cpu (record { hand = Some c.advance.new.self; next = l.next })) (slice_set m.jobs.items c.args.job e) } in
     let Q : MachineState → Type 0 = λ s. Proceeds s c.args.cpu c.args.job Ran new in
     subst Q c.self.view_is (λ task state left at w shows.
-      proceeds_kept m.store m.programs.items m.jobs.items m.lanes.items c.self.invariant c.args.cpu c.args.job task state left at l here h c.in-Some.is e listed program loaded c.advance.new.self c.advance.ensures.same.0 c.advance.ensures.same.1 c.advance.ensures.ready c.advance.new.store c.in-None.ensures.advance w shows)
+    proceeds_kept m.store m.programs.items m.jobs.items m.lanes.items c.self.invariant c.args.cpu c.args.job task state left at l here h c.in-Some.is e listed program loaded c.advance.new.self c.advance.ensures.same.0 c.advance.ensures.same.1 c.advance.ensures.ready c.advance.new.store c.in-None.ensures.advance w shows)
 
 pub returns-in-Some-advance-clause-proceeds : goal.returns-in-Some-advance-clause-proceeds
 returns-in-Some-advance-clause-proceeds c =
@@ -167,5 +163,5 @@ returns-in-Some-advance-clause-proceeds c =
     } in
     let Q : MachineState → Type 0 = λ s. Proceeds s c.args.cpu c.args.job (turned.Ended c.args.job c.in-Some-advance.outcome) new in
     subst Q c.self.view_is (λ task state left at w shows.
-      proceeds_ended m.store m.programs.items m.jobs.items m.lanes.items c.self.invariant c.args.cpu c.args.job task state left at l here h c.in-Some.is e listed program loaded c.in-Some-advance.outcome c.advance.new.store c.end.new.self c.advance.new.self.cpu c.advance.new.self.left c.in-Some-advance.ensures.advance
-        (call_leads c.advance.new.store c.end.new.self c.args.cpu End served c.end.ensures.ended c.end.ensures.same.1) w shows)
+    proceeds_ended m.store m.programs.items m.jobs.items m.lanes.items c.self.invariant c.args.cpu c.args.job task state left at l here h c.in-Some.is e listed program loaded c.in-Some-advance.outcome c.advance.new.store c.end.new.self c.advance.new.self.cpu c.advance.new.self.left c.in-Some-advance.ensures.advance
+    (call_leads c.advance.new.store c.end.new.self c.args.cpu End served c.end.ensures.ended c.end.ensures.same.1) w shows)
