@@ -1,3 +1,12 @@
 pub mod RowLaws
 pub mod StepsLaws
+pub mod OwnEvents
+pub mod AdvanceLaws
+pub mod ListLaws
+pub mod BoardLaws
+pub mod WorkLaws
+pub mod BeginLaws
+pub mod ProceedLaws
+pub mod TurnLaws
 pub mod KeyLaws
+pub mod MadeLaws

@@ -2,3 +2,8 @@ pub mod Held
 pub mod State
 pub mod Row
 pub mod Step
+pub mod Task
+pub mod Schedule
+pub mod Machine
+pub mod Lanes
+pub mod Work

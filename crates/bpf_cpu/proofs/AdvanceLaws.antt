@@ -1,0 +1,45 @@
+-- One step of a job in hand, over a `PlainStore`.
+use Rattle.std.proofs.Common.{◌≡◌, ◌≢◌, ℕ, zero, suc, List, Option, Some, None, refl, sym, subst, arith}
+use Rattle.bpf_shared.specs.declared.events.Event.{Event}
+use Rattle.bpf_shared.specs.declared.shapes.MapShape.{MapShape}
+use Rattle.bpf_shared.specs.Store.{Plain}
+use Rattle.bpf_shared.specs.Sound.{IsSound}
+use Rattle.bpf_shared.specs.Chain.{Chain}
+use Rattle.bpf_shared.specs.Seen.{Seen, has_cpu, shapes_of, Shows, Passes}
+use Rattle.bpf_loader.specs.Loaded.{Loaded}
+use Rattle.bpf_cpu.specs.declared.cpu.Cpu.{Cpu}
+use Rattle.bpf_cpu.specs.declared.outcome.Turn.{Turn}
+use Rattle.bpf_cpu.specs.declared.outcome.Turn.TheVariants.{On}
+use Rattle.bpf_cpu.specs.declared.outcome.Outcome.{Outcome}
+use Rattle.bpf_cpu.specs.declared.outcome.Outcome.TheVariants.{OutOfBudget}
+use Rattle.bpf_cpu.specs.Step.{Step}
+use Rattle.bpf_cpu.specs.Schedule.{Advances, outcome_after}
+use Rattle.bpf_cpu.proofs.OwnEvents.{chain_leads}
+
+-- from each plain store that the first value shows, the job's step leads to one that the second shows
+abbrev pub StepLeads : Loaded → Seen → Seen → Cpu → ℕ → Option Outcome → Cpu → ℕ → Type 0
+StepLeads program x y old n end new left =
+    (s : Plain) → IsSound s → Shows x s → (t : Plain) × Advances program old.number s old n end t new left × IsSound t × Shows y t
+
+module _ (program : Loaded) (x y : Seen) (old new : Cpu) where
+  pub no_step_leads : (n : ℕ) → n ≡ 0 → StepLeads program x x old n (Some (OutOfBudget old.pc)) old n
+  no_step_leads n e = let P : ℕ → Type 0 = λ k. StepLeads program x x old k (Some (OutOfBudget old.pc)) old k in subst P (sym e) (λ s sound shows. (s, (refl, refl, refl, refl), sound, shows))
+
+  pub step_leads : (turn : Turn) (n m : ℕ) (end : Option Outcome) → n ≡ suc m → end ≡ outcome_after turn m new
+      → (events : List Event) × Chain Passes has_cpu old.number x y events × Step (shapes_of x) program old events turn new
+      → StepLeads program x y old n end new m
+  step_leads turn n m end e is step =
+      let P : ℕ → Type 0 = λ k. StepLeads program x y old k end new m in
+      subst P (sym e) (λ s sound shows.
+      let r = chain_leads x y old.number step.0 step.1 s sound shows in
+      let Q : List MapShape → Type 0 = λ h. Step h program old step.0 turn new in
+      (r.0, (step.0, turn, subst Q (sym shows.maps) step.2, r.1, is, refl), r.2, r.3))
+
+-- the outcome of a job that goes on
+pub last_step : (m : ℕ) (new : Cpu) → m ≡ 0 → Some (OutOfBudget new.pc) ≡ outcome_after On m new
+last_step zero new e = refl
+last_step (suc m) new e = absurd (omega arith)
+
+pub not_last_step : (m : ℕ) (new : Cpu) → m ≢ 0 → None ≡ outcome_after On m new
+not_last_step zero new ne = absurd (ne refl)
+not_last_step (suc m) new ne = refl

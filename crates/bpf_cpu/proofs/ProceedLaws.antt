@@ -1,0 +1,206 @@
+-- The job in a CPU's hand goes on, or ends.
+use Rattle.std.proofs.Common.{◌≡◌, ℕ, ◌<◌, ◌≤◌, Bool, true, false, List, Option, Some, None, is_some, length, refl, sym, ap, subst, ◌∙◌}
+use Rattle.std.specs.Prelude.{slice_get, slice_set}
+use Rattle.std.proofs.lemmas.Option.{slice_get_within}
+use Rattle.bpf_shared.specs.Puts.{put-same, put-other}
+use Rattle.bpf_shared.specs.declared.events.Event.TheVariants.{End}
+use Rattle.bpf_shared.specs.Store.{Plain, put}
+use Rattle.bpf_shared.specs.Choice.{PlainlyAllowed}
+use Rattle.bpf_shared.specs.Sound.{IsSound}
+use Rattle.bpf_shared.specs.Seen.{Seen, has_cpu, is_running}
+use Rattle.bpf_shared.specs.Seen as seen
+use Rattle.bpf_cpu.specs.declared.machine.Turned.TheVariants.{Ran}
+use Rattle.bpf_cpu.specs.declared.machine.Turned.TheVariants as turned
+use Rattle.bpf_loader.specs.Loaded.{Loaded}
+use Rattle.bpf_cpu.specs.declared.cpu.Cpu.{Cpu}
+use Rattle.bpf_cpu.specs.declared.outcome.Outcome.{Outcome}
+use Rattle.bpf_cpu.specs.declared.lane.Listed.{Listed}
+use Rattle.bpf_cpu.specs.declared.lane.Phase.{Phase}
+use Rattle.bpf_cpu.specs.declared.lane.Phase.TheVariants as phase
+use Rattle.bpf_cpu.specs.declared.lane.Hand.{Hand}
+use Rattle.bpf_cpu.specs.declared.lane.Lane.{Lane}
+use Rattle.bpf_cpu.specs.Step.{IsReady}
+use Rattle.bpf_cpu.specs.Task.{Task, InHand, Ended, with_stage, IsAt}
+use Rattle.bpf_cpu.specs.Lanes.{lane, stage_of, task_of, tasks_of, Fits, IsHand, IsBoard}
+use Rattle.bpf_cpu.specs.Schedule.{World, Advances, GoesOn}
+use Rattle.bpf_cpu.specs.Machine.{Shows}
+use Rattle.bpf_cpu.proofs.ListLaws.{slice_get-set_same}
+use Rattle.bpf_cpu.proofs.BoardLaws.{tasks_changed, board_changed}
+use Rattle.bpf_cpu.proofs.WorkLaws.{HandAt, hand_at}
+
+module _ (store : Seen) (programs : List Loaded) (jobs : List Listed) (lanes : List Lane) (board : IsBoard (has_cpu store) (is_running store) programs jobs lanes)
+    (c j : ℕ) (task : Task) (state : Cpu) (left : ℕ) (in_hand : IsAt (tasks_of lanes jobs) c j task (InHand state left)) where
+  at : HandAt (has_cpu store) (is_running store) programs jobs lanes board c j task state left
+  at = hand_at (has_cpu store) (is_running store) programs jobs lanes board c j task state left in_hand
+
+  pub lane_within : c < length lanes
+  lane_within = at.within
+
+  pub job_within : j < length jobs
+  job_within = slice_get_within jobs j at.job at.listed
+
+  pub serves : has_cpu store c ≡ true
+  serves = subst (λ (n : ℕ). has_cpu store n ≡ true) at.of (board.each_job j at.job at.listed).served
+
+  pub running : is_running store c ≡ true
+  running = (board.each_lane c at.within).runs ∙ ap (λ (o : Option Hand). is_some o) at.held
+
+  module _ (l : Lane) (was : lane lanes c ≡ l) where
+    held : l.hand ≡ Some at.hand
+    held = ap (λ (x : Lane). x.hand) (sym was) ∙ at.held
+
+    pub never_empty : l.hand ≡ None → ⊥
+    never_empty none = let no : None ≡ Some at.hand = sym none ∙ held in cc
+
+    module _ (h : Hand) (has : l.hand ≡ Some h) where
+      hand_same : at.hand ≡ h
+      hand_same = let two : Some at.hand ≡ Some h = sym held ∙ has in cc
+
+      pub told : h.job ≡ j
+      told = subst (λ (x : Hand). x.job ≡ j) hand_same at.told
+
+      pub state_is : h.cpu ≡ state
+      state_is = subst (λ (x : Hand). x.cpu ≡ state) hand_same at.state_is
+
+      pub left_is : h.left ≡ left
+      left_is = subst (λ (x : Hand). x.left ≡ left) hand_same at.left_is
+
+      is : IsHand programs jobs c h
+      is = subst (λ (x : Hand). IsHand programs jobs c x) hand_same at.is
+
+      pub number : h.cpu.number ≡ c
+      number = is.number
+
+      module _ (e : Listed) (listed : slice_get jobs j ≡ Some e) where
+        same : at.job ≡ e
+        same = let two : Some at.job ≡ Some e = sym at.listed ∙ listed in cc
+
+        of : e.cpu ≡ c
+        of = subst (λ (x : Listed). x.cpu ≡ c) same at.of
+
+        pub program_within : e.program < length programs
+        program_within = (board.each_job j e listed).program
+
+        pub shown : task ≡ task_of lanes e
+        shown = at.shown ∙ ap (λ (x : Listed). task_of lanes x) same
+
+        hand_job : is.job ≡ e
+        hand_job = let two : Some is.job ≡ Some e = sym is.listed ∙ (ap (λ (n : ℕ). slice_get jobs n) told ∙ listed) in cc
+
+        phase_was : e.phase ≡ phase.InHand
+        phase_was = subst (λ (x : Listed). x.phase ≡ phase.InHand) hand_job is.in_hand
+
+        before : j < l.next
+        before =
+            let fits : Fits (lane lanes e.cpu) j phase.InHand = subst (λ (p : Phase). Fits (lane lanes e.cpu) j p) phase_was (board.each_job j e listed).fits in
+            subst (λ (x : Lane). j < x.next) was (subst (λ (n : ℕ). j < (lane lanes n).next) of fits.0)
+
+        alone : (x : Hand) → l.hand ≡ Some x → x.job ≡ j
+        alone x there = let two : Some h ≡ Some x = sym has ∙ there in let one : h ≡ x = cc in subst (λ (y : Hand). y.job ≡ j) one told
+
+        next_of : (x : Listed) → slice_get jobs l.next ≡ Some x → x.cpu ≡ c
+        next_of x there = (board.each_lane c at.within).next x (ap (λ (y : Lane). slice_get jobs y.next) was ∙ there)
+
+        inside : l.next ≤ length jobs
+        inside = subst (λ (y : Lane). y.next ≤ length jobs) was (board.each_lane c at.within).within
+
+        module _ (program : Loaded) (loaded : slice_get programs e.program ≡ Some program) where
+          program_same : is.program ≡ program
+          program_same = let two : Some is.program ≡ Some program = sym is.loaded ∙ (ap (λ (x : Listed). slice_get programs x.program) hand_job ∙ loaded) in cc
+
+          pub ready : IsReady program h.cpu
+          ready = subst (λ (p : Loaded). IsReady p h.cpu) program_same is.ready
+
+          loaded_there : (w : World) → w.programs ≡ programs → slice_get w.programs task.program ≡ Some program
+          loaded_there w same = ap (λ (ps : List Loaded). slice_get ps task.program) same ∙ (ap (λ (t : Task). slice_get programs t.program) shown ∙ loaded)
+
+          advances : (s : Plain) (end : Option Outcome) (t : Plain) (new : Cpu) (rest : ℕ) → Advances program h.cpu.number s h.cpu h.left end t new rest → Advances program c s state left end t new rest
+          advances s end t new rest a =
+              subst (λ (n : ℕ). Advances program c s state n end t new rest) left_is
+              (subst (λ (x : Cpu). Advances program c s x h.left end t new rest) state_is (subst (λ (n : ℕ). Advances program n s h.cpu h.left end t new rest) number a))
+
+          -- it stays in hand
+          module _ (h' : Hand) (job : h'.job ≡ h.job) (number_same : h'.cpu.number ≡ h.cpu.number) (still : IsReady program h'.cpu) where
+            abbrev l' : Lane
+            l' = record { hand = Some h'; next = l.next }
+
+            pub kept_tasks : tasks_of (slice_set lanes c l') (slice_set jobs j e) ≡ with_stage (tasks_of lanes jobs) j task (InHand h'.cpu h'.left)
+            kept_tasks =
+                tasks_changed (has_cpu store) (has_cpu store) (is_running store) (is_running store) programs jobs lanes c j e e l l' board listed of was refl refl refl alone (λ k x ne there own. (λ a. a, λ b. b))
+                ∙ (ap (λ (p : Phase). with_stage (tasks_of lanes jobs) j (task_of lanes e) (stage_of (Some h') p)) phase_was
+                ∙ ap (λ (t : Task). with_stage (tasks_of lanes jobs) j t (InHand h'.cpu h'.left)) (sym shown))
+
+            pub kept_board : (after : Seen) → has_cpu after ≡ has_cpu store → is_running after ≡ is_running store → IsBoard (has_cpu after) (is_running after) programs (slice_set jobs j e) (slice_set lanes c l')
+            kept_board after serves_same running_same =
+                board_changed (has_cpu store) (has_cpu after) (is_running store) (is_running after) programs jobs lanes c j e e l l' board listed of was refl refl refl alone (λ k x ne there own. (λ a. a, λ b. b))
+                serves_same
+                (λ d ne. ap (λ (f : ℕ → Bool). f d) running_same)
+                (ap (λ (f : ℕ → Bool). f c) running_same ∙ running)
+                (subst (λ (p : Phase). Fits l' j p) (sym phase_was) (before, (h', refl, job ∙ told)))
+                (λ v waits. (let no : phase.InHand ≡ phase.Waiting v = sym phase_was ∙ waits in cc))
+                (λ x there. (
+                let one : h' ≡ x = cc in
+                let now : IsHand programs (slice_set jobs j e) c h' = record {
+                  job = e;
+                  listed = ap (λ (n : ℕ). slice_get (slice_set jobs j e) n) (job ∙ told) ∙ slice_get-set_same jobs j e e listed;
+                  of = of;
+                  in_hand = phase_was;
+                  number = number_same ∙ number;
+                  program = program;
+                  loaded = loaded;
+                  ready = still;
+                } in
+                subst (λ (y : Hand). IsHand programs (slice_set jobs j e) c y) one now))
+                next_of
+                inside
+
+            -- in each world that the machine shows, the CPU goes on with the job, which stays in hand
+            pub proceeds_kept : (after : Seen) → ((s : Plain) → IsSound s → seen.Shows store s → (t : Plain) × Advances program h.cpu.number s h.cpu h.left None t h'.cpu h'.left × IsSound t × seen.Shows after t)
+                → (w : World) → Shows (record { store = store; programs = programs; jobs = tasks_of lanes jobs }) w
+                → (z : World) × GoesOn w c j task state left Ran z × Shows (record { store = after; programs = programs; jobs = tasks_of (slice_set lanes c l') (slice_set jobs j e) }) z
+            proceeds_kept after advance w shows =
+                let r = advance w.store shows.sound shows.store in
+                let z : World = record w { store = r.0; jobs = with_stage w.jobs j task (InHand h'.cpu h'.left) } in (
+                  z,
+                  (program, None, r.0, h'.cpu, h'.left, loaded_there w shows.programs, advances w.store None r.0 h'.cpu h'.left r.1, (refl, refl)),
+                  record { store = r.3; sound = r.2; programs = shows.programs; jobs = ap (λ (ts : List Task). with_stage ts j task (InHand h'.cpu h'.left)) shows.jobs ∙ sym kept_tasks },
+                )
+
+          -- it ends
+          module _ (outcome : Outcome) where
+            abbrev e'' : Listed
+            e'' = record { cpu = e.cpu; program = e.program; budget = e.budget; phase = phase.Ended outcome }
+
+            abbrev l'' : Lane
+            l'' = record { hand = None; next = l.next }
+
+            pub ended_tasks : tasks_of (slice_set lanes c l'') (slice_set jobs j e'') ≡ with_stage (tasks_of lanes jobs) j task (Ended outcome)
+            ended_tasks =
+                tasks_changed (has_cpu store) (has_cpu store) (is_running store) (is_running store) programs jobs lanes c j e e'' l l'' board listed of was refl refl refl alone (λ k x ne there own. (λ a. a, λ b. b))
+                ∙ ap (λ (t : Task). with_stage (tasks_of lanes jobs) j t (Ended outcome)) (sym shown)
+
+            pub ended_board : (after : Seen) → has_cpu after ≡ has_cpu store → is_running after ≡ put (is_running store) c false → IsBoard (has_cpu after) (is_running after) programs (slice_set jobs j e'') (slice_set lanes c l'')
+            ended_board after serves_same stopped =
+                board_changed (has_cpu store) (has_cpu after) (is_running store) (is_running after) programs jobs lanes c j e e'' l l'' board listed of was refl refl refl alone (λ k x ne there own. (λ a. a, λ b. b))
+                serves_same
+                (λ d ne. ap (λ (f : ℕ → Bool). f d) stopped ∙ put-other (is_running store) c d false ne)
+                (ap (λ (f : ℕ → Bool). f c) stopped ∙ put-same (is_running store) c c false refl)
+                before
+                (λ v waits. cc)
+                (λ x there. cc)
+                next_of
+                inside
+
+            -- in each world that the machine shows, the CPU goes on with the job, which ends
+            pub proceeds_ended : (mid after : Seen) (new : Cpu) (rest : ℕ) → ((s : Plain) → IsSound s → seen.Shows store s → (t : Plain) × Advances program h.cpu.number s h.cpu h.left (Some outcome) t new rest × IsSound t × seen.Shows mid t)
+                → ((s : Plain) → IsSound s → seen.Shows mid s → (t : Plain) × PlainlyAllowed s c End t × IsSound t × seen.Shows after t)
+                → (w : World) → Shows (record { store = store; programs = programs; jobs = tasks_of lanes jobs }) w
+                → (z : World) × GoesOn w c j task state left (turned.Ended j outcome) z × Shows (record { store = after; programs = programs; jobs = tasks_of (slice_set lanes c l'') (slice_set jobs j e'') }) z
+            proceeds_ended mid after new rest advance end w shows =
+                let r = advance w.store shows.sound shows.store in
+                let q = end r.0 r.2 r.3 in
+                let z : World = record w { store = q.0; jobs = with_stage w.jobs j task (Ended outcome) } in (
+                  z,
+                  (program, Some outcome, r.0, new, rest, loaded_there w shows.programs, advances w.store (Some outcome) r.0 new rest r.1, (q.0, q.1, refl, refl)),
+                  record { store = q.3; sound = q.2; programs = shows.programs; jobs = ap (λ (ts : List Task). with_stage ts j task (Ended outcome)) shows.jobs ∙ sym ended_tasks },
+                )

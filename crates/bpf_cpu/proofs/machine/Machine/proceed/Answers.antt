@@ -1,0 +1,167 @@
+use Rattle.std.proofs.Common.{◌≡◌, ℕ, Some, None, length, refl, sym, ap, subst, ◌∙◌, Bool, true, false, arith}
+use Rattle.std.specs.Prelude.{slice_get, slice_set}
+use Rattle.std.proofs.lemmas.Option.{slice_get_read}
+use Rattle.bpf_shared.specs.Store.{put}
+use Rattle.bpf_shared.specs.Seen.{has_cpu, is_running}
+use Rattle.bpf_shared.specs.declared.events.Event.TheVariants.{End}
+use Rattle.bpf_cpu.specs.declared.lane.Phase.TheVariants.{Ended}
+use Rattle.bpf_cpu.specs.declared.machine.Turned.TheVariants.{Ran}
+use Rattle.bpf_cpu.specs.declared.machine.Turned.TheVariants as turned
+use Rattle.bpf_cpu.specs.Machine.{MachineState}
+use Rattle.bpf_cpu.specs.Lanes.{lane, tasks_of}
+use Rattle.bpf_cpu.specs.Work.{HasInHand, Proceeds}
+use Rattle.bpf_cpu.proofs.OwnEvents.{call_leads}
+use Rattle.bpf_cpu.proofs.WorkLaws.{lane_read}
+use Rattle.bpf_cpu.proofs.ProceedLaws.{lane_within, job_within, serves, running, never_empty, number, program_within, ready, kept_board, ended_board, proceeds_kept, proceeds_ended}
+use Rattle.bpf_cpu.proofs.machine.Machine.proceed.Goals as goal
+
+pub index_mut-lane-requires : goal.index_mut-lane-requires
+index_mut-lane-requires c =
+    let m = c.self.inside in
+    let P : MachineState → Type 0 = λ s. HasInHand s.jobs c.args.cpu c.args.job in
+    let has = subst P (sym c.self.view_is) c.requires in
+    omega (arith, lane_within m.store m.programs.items m.jobs.items m.lanes.items c.self.invariant c.args.cpu c.args.job has.0 has.1 has.2 has.3, m.lanes.ok.0)
+
+pub unreachable-requires : goal.unreachable-requires
+unreachable-requires c =
+    let m = c.self.inside in
+    let P : MachineState → Type 0 = λ s. HasInHand s.jobs c.args.cpu c.args.job in
+    let has = subst P (sym c.self.view_is) c.requires in
+    let l = c.index_mut-lane.result.now in
+    let here : lane m.lanes.items c.args.cpu ≡ l = lane_read m.lanes.items c.args.cpu l (lane_within m.store m.programs.items m.jobs.items m.lanes.items c.self.invariant c.args.cpu c.args.job has.0 has.1 has.2 has.3) c.index_mut-lane.ensures.value in
+    never_empty m.store m.programs.items m.jobs.items m.lanes.items c.self.invariant c.args.cpu c.args.job has.0 has.1 has.2 has.3 l here c.in_default.is
+
+pub index_mut-listed-requires : goal.index_mut-listed-requires
+index_mut-listed-requires c =
+    let m = c.self.inside in
+    let P : MachineState → Type 0 = λ s. HasInHand s.jobs c.args.cpu c.args.job in
+    let has = subst P (sym c.self.view_is) c.requires in
+    omega (arith, job_within m.store m.programs.items m.jobs.items m.lanes.items c.self.invariant c.args.cpu c.args.job has.0 has.1 has.2 has.3, m.jobs.ok.0)
+
+pub index-requires : goal.index-requires
+index-requires c =
+    let m = c.self.inside in
+    let P : MachineState → Type 0 = λ s. HasInHand s.jobs c.args.cpu c.args.job in
+    let has = subst P (sym c.self.view_is) c.requires in
+    let l = c.index_mut-lane.result.now in
+    let here : lane m.lanes.items c.args.cpu ≡ l = lane_read m.lanes.items c.args.cpu l (lane_within m.store m.programs.items m.jobs.items m.lanes.items c.self.invariant c.args.cpu c.args.job has.0 has.1 has.2 has.3) c.index_mut-lane.ensures.value in
+    let h = c.in-Some.hand in
+    let e = c.index_mut-listed.result.now in
+    let listed : slice_get m.jobs.items c.args.job ≡ Some e = slice_get_read m.jobs.items (length m.jobs.items) c.args.job e refl (job_within m.store m.programs.items m.jobs.items m.lanes.items c.self.invariant c.args.cpu c.args.job has.0 has.1 has.2 has.3) c.index_mut-listed.ensures.value in
+    omega (arith, program_within m.store m.programs.items m.jobs.items m.lanes.items c.self.invariant c.args.cpu c.args.job has.0 has.1 has.2 has.3 l here h c.in-Some.is e listed, m.programs.ok.0)
+
+pub advance-requires-clause-ready : goal.advance-requires-clause-ready
+advance-requires-clause-ready c =
+    let m = c.self.inside in
+    let P : MachineState → Type 0 = λ s. HasInHand s.jobs c.args.cpu c.args.job in
+    let has = subst P (sym c.self.view_is) c.requires in
+    let l = c.index_mut-lane.result.now in
+    let here : lane m.lanes.items c.args.cpu ≡ l = lane_read m.lanes.items c.args.cpu l (lane_within m.store m.programs.items m.jobs.items m.lanes.items c.self.invariant c.args.cpu c.args.job has.0 has.1 has.2 has.3) c.index_mut-lane.ensures.value in
+    let h = c.in-Some.hand in
+    let e = c.index_mut-listed.result.now in
+    let listed : slice_get m.jobs.items c.args.job ≡ Some e = slice_get_read m.jobs.items (length m.jobs.items) c.args.job e refl (job_within m.store m.programs.items m.jobs.items m.lanes.items c.self.invariant c.args.cpu c.args.job has.0 has.1 has.2 has.3) c.index_mut-listed.ensures.value in
+    let program = c.index.result.now in
+    let loaded : slice_get m.programs.items e.program ≡ Some program = slice_get_read m.programs.items (length m.programs.items) e.program program refl (program_within m.store m.programs.items m.jobs.items m.lanes.items c.self.invariant c.args.cpu c.args.job has.0 has.1 has.2 has.3 l here h c.in-Some.is e listed) c.index.ensures in
+    ready m.store m.programs.items m.jobs.items m.lanes.items c.self.invariant c.args.cpu c.args.job has.0 has.1 has.2 has.3 l here h c.in-Some.is e listed program loaded
+
+pub advance-requires-clause-serves : goal.advance-requires-clause-serves
+advance-requires-clause-serves c =
+    let m = c.self.inside in
+    let P : MachineState → Type 0 = λ s. HasInHand s.jobs c.args.cpu c.args.job in
+    let has = subst P (sym c.self.view_is) c.requires in
+    let l = c.index_mut-lane.result.now in
+    let here : lane m.lanes.items c.args.cpu ≡ l = lane_read m.lanes.items c.args.cpu l (lane_within m.store m.programs.items m.jobs.items m.lanes.items c.self.invariant c.args.cpu c.args.job has.0 has.1 has.2 has.3) c.index_mut-lane.ensures.value in
+    let h = c.in-Some.hand in
+    ap (λ (n : ℕ). has_cpu m.store n) (number m.store m.programs.items m.jobs.items m.lanes.items c.self.invariant c.args.cpu c.args.job has.0 has.1 has.2 has.3 l here h c.in-Some.is) ∙ serves m.store m.programs.items m.jobs.items m.lanes.items c.self.invariant c.args.cpu c.args.job has.0 has.1 has.2 has.3
+
+pub advance-requires-clause-in_run : goal.advance-requires-clause-in_run
+advance-requires-clause-in_run c =
+    let m = c.self.inside in
+    let P : MachineState → Type 0 = λ s. HasInHand s.jobs c.args.cpu c.args.job in
+    let has = subst P (sym c.self.view_is) c.requires in
+    let l = c.index_mut-lane.result.now in
+    let here : lane m.lanes.items c.args.cpu ≡ l = lane_read m.lanes.items c.args.cpu l (lane_within m.store m.programs.items m.jobs.items m.lanes.items c.self.invariant c.args.cpu c.args.job has.0 has.1 has.2 has.3) c.index_mut-lane.ensures.value in
+    let h = c.in-Some.hand in
+    ap (λ (n : ℕ). is_running m.store n) (number m.store m.programs.items m.jobs.items m.lanes.items c.self.invariant c.args.cpu c.args.job has.0 has.1 has.2 has.3 l here h c.in-Some.is) ∙ running m.store m.programs.items m.jobs.items m.lanes.items c.self.invariant c.args.cpu c.args.job has.0 has.1 has.2 has.3
+
+pub invariant_of-self : goal.invariant_of-self
+invariant_of-self c =
+    let m = c.self.inside in
+    let P : MachineState → Type 0 = λ s. HasInHand s.jobs c.args.cpu c.args.job in
+    let has = subst P (sym c.self.view_is) c.requires in
+    let l = c.index_mut-lane.result.now in
+    let here : lane m.lanes.items c.args.cpu ≡ l = lane_read m.lanes.items c.args.cpu l (lane_within m.store m.programs.items m.jobs.items m.lanes.items c.self.invariant c.args.cpu c.args.job has.0 has.1 has.2 has.3) c.index_mut-lane.ensures.value in
+    let h = c.in-Some.hand in
+    let e = c.index_mut-listed.result.now in
+    let listed : slice_get m.jobs.items c.args.job ≡ Some e = slice_get_read m.jobs.items (length m.jobs.items) c.args.job e refl (job_within m.store m.programs.items m.jobs.items m.lanes.items c.self.invariant c.args.cpu c.args.job has.0 has.1 has.2 has.3) c.index_mut-listed.ensures.value in
+    let program = c.index.result.now in
+    let loaded : slice_get m.programs.items e.program ≡ Some program = slice_get_read m.programs.items (length m.programs.items) e.program program refl (program_within m.store m.programs.items m.jobs.items m.lanes.items c.self.invariant c.args.cpu c.args.job has.0 has.1 has.2 has.3 l here h c.in-Some.is e listed) c.index.ensures in
+    kept_board m.store m.programs.items m.jobs.items m.lanes.items c.self.invariant c.args.cpu c.args.job has.0 has.1 has.2 has.3 l here h c.in-Some.is e listed program loaded c.advance.new.self c.advance.ensures.same.0 c.advance.ensures.same.1 c.advance.ensures.ready c.advance.new.store c.advance.ensures.serves c.advance.ensures.running
+
+pub end-requires-clause-serves : goal.end-requires-clause-serves
+end-requires-clause-serves c =
+    let m = c.self.inside in
+    let P : MachineState → Type 0 = λ s. HasInHand s.jobs c.args.cpu c.args.job in
+    let has = subst P (sym c.self.view_is) c.requires in
+    ap (λ (f : _). f c.args.cpu) c.advance.ensures.serves ∙ serves m.store m.programs.items m.jobs.items m.lanes.items c.self.invariant c.args.cpu c.args.job has.0 has.1 has.2 has.3
+
+pub end-requires-clause-in_run : goal.end-requires-clause-in_run
+end-requires-clause-in_run c =
+    let m = c.self.inside in
+    let P : MachineState → Type 0 = λ s. HasInHand s.jobs c.args.cpu c.args.job in
+    let has = subst P (sym c.self.view_is) c.requires in
+    ap (λ (f : _). f c.args.cpu) c.advance.ensures.running ∙ running m.store m.programs.items m.jobs.items m.lanes.items c.self.invariant c.args.cpu c.args.job has.0 has.1 has.2 has.3
+
+pub invariant_of-self-in-Some-advance : goal.invariant_of-self-in-Some-advance
+invariant_of-self-in-Some-advance c =
+    let m = c.self.inside in
+    let P : MachineState → Type 0 = λ s. HasInHand s.jobs c.args.cpu c.args.job in
+    let has = subst P (sym c.self.view_is) c.requires in
+    let l = c.index_mut-lane.result.now in
+    let here : lane m.lanes.items c.args.cpu ≡ l = lane_read m.lanes.items c.args.cpu l (lane_within m.store m.programs.items m.jobs.items m.lanes.items c.self.invariant c.args.cpu c.args.job has.0 has.1 has.2 has.3) c.index_mut-lane.ensures.value in
+    let h = c.in-Some.hand in
+    let e = c.index_mut-listed.result.now in
+    let listed : slice_get m.jobs.items c.args.job ≡ Some e = slice_get_read m.jobs.items (length m.jobs.items) c.args.job e refl (job_within m.store m.programs.items m.jobs.items m.lanes.items c.self.invariant c.args.cpu c.args.job has.0 has.1 has.2 has.3) c.index_mut-listed.ensures.value in
+    let program = c.index.result.now in
+    let loaded : slice_get m.programs.items e.program ≡ Some program = slice_get_read m.programs.items (length m.programs.items) e.program program refl (program_within m.store m.programs.items m.jobs.items m.lanes.items c.self.invariant c.args.cpu c.args.job has.0 has.1 has.2 has.3 l here h c.in-Some.is e listed) c.index.ensures in
+    ended_board m.store m.programs.items m.jobs.items m.lanes.items c.self.invariant c.args.cpu c.args.job has.0 has.1 has.2 has.3 l here h c.in-Some.is e listed program loaded c.in-Some-advance.outcome c.end.new.self (c.end.ensures.same.1 ∙ c.advance.ensures.serves) (c.end.ensures.running ∙ ap (λ (f : ℕ → Bool). put f c.args.cpu false) c.advance.ensures.running)
+
+pub returns-in-None-clause-proceeds : goal.returns-in-None-clause-proceeds
+returns-in-None-clause-proceeds c =
+    let m = c.self.inside in
+    let P : MachineState → Type 0 = λ s. HasInHand s.jobs c.args.cpu c.args.job in
+    let has = subst P (sym c.self.view_is) c.requires in
+    let l = c.index_mut-lane.result.now in
+    let here : lane m.lanes.items c.args.cpu ≡ l = lane_read m.lanes.items c.args.cpu l (lane_within m.store m.programs.items m.jobs.items m.lanes.items c.self.invariant c.args.cpu c.args.job has.0 has.1 has.2 has.3) c.index_mut-lane.ensures.value in
+    let h = c.in-Some.hand in
+    let e = c.index_mut-listed.result.now in
+    let listed : slice_get m.jobs.items c.args.job ≡ Some e = slice_get_read m.jobs.items (length m.jobs.items) c.args.job e refl (job_within m.store m.programs.items m.jobs.items m.lanes.items c.self.invariant c.args.cpu c.args.job has.0 has.1 has.2 has.3) c.index_mut-listed.ensures.value in
+    let program = c.index.result.now in
+    let loaded : slice_get m.programs.items e.program ≡ Some program = slice_get_read m.programs.items (length m.programs.items) e.program program refl (program_within m.store m.programs.items m.jobs.items m.lanes.items c.self.invariant c.args.cpu c.args.job has.0 has.1 has.2 has.3 l here h c.in-Some.is e listed) c.index.ensures in
+    let new : MachineState = record { store = c.advance.new.store; programs = m.programs.items; jobs = tasks_of (slice_set m.lanes.items c.args.cpu (record { hand = Some c.advance.new.self; next = l.next })) (slice_set m.jobs.items c.args.job e) } in
+    let Q : MachineState → Type 0 = λ s. Proceeds s c.args.cpu c.args.job Ran new in
+    subst Q c.self.view_is (λ task state left at w shows.
+    proceeds_kept m.store m.programs.items m.jobs.items m.lanes.items c.self.invariant c.args.cpu c.args.job task state left at l here h c.in-Some.is e listed program loaded c.advance.new.self c.advance.ensures.same.0 c.advance.ensures.same.1 c.advance.ensures.ready c.advance.new.store c.in-None.ensures.advance w shows)
+
+pub returns-in-Some-advance-clause-proceeds : goal.returns-in-Some-advance-clause-proceeds
+returns-in-Some-advance-clause-proceeds c =
+    let m = c.self.inside in
+    let P : MachineState → Type 0 = λ s. HasInHand s.jobs c.args.cpu c.args.job in
+    let has = subst P (sym c.self.view_is) c.requires in
+    let l = c.index_mut-lane.result.now in
+    let here : lane m.lanes.items c.args.cpu ≡ l = lane_read m.lanes.items c.args.cpu l (lane_within m.store m.programs.items m.jobs.items m.lanes.items c.self.invariant c.args.cpu c.args.job has.0 has.1 has.2 has.3) c.index_mut-lane.ensures.value in
+    let h = c.in-Some.hand in
+    let e = c.index_mut-listed.result.now in
+    let listed : slice_get m.jobs.items c.args.job ≡ Some e = slice_get_read m.jobs.items (length m.jobs.items) c.args.job e refl (job_within m.store m.programs.items m.jobs.items m.lanes.items c.self.invariant c.args.cpu c.args.job has.0 has.1 has.2 has.3) c.index_mut-listed.ensures.value in
+    let program = c.index.result.now in
+    let loaded : slice_get m.programs.items e.program ≡ Some program = slice_get_read m.programs.items (length m.programs.items) e.program program refl (program_within m.store m.programs.items m.jobs.items m.lanes.items c.self.invariant c.args.cpu c.args.job has.0 has.1 has.2 has.3 l here h c.in-Some.is e listed) c.index.ensures in
+    let served : has_cpu c.advance.new.store c.args.cpu ≡ true = ap (λ (f : ℕ → Bool). f c.args.cpu) c.advance.ensures.serves ∙ serves m.store m.programs.items m.jobs.items m.lanes.items c.self.invariant c.args.cpu c.args.job has.0 has.1 has.2 has.3 in
+    let new : MachineState = record {
+      store = c.end.new.self;
+      programs = m.programs.items;
+      jobs = tasks_of (slice_set m.lanes.items c.args.cpu (record { hand = None; next = l.next })) (slice_set m.jobs.items c.args.job (record { cpu = e.cpu; program = e.program; budget = e.budget; phase = Ended c.in-Some-advance.outcome }));
+    } in
+    let Q : MachineState → Type 0 = λ s. Proceeds s c.args.cpu c.args.job (turned.Ended c.args.job c.in-Some-advance.outcome) new in
+    subst Q c.self.view_is (λ task state left at w shows.
+    proceeds_ended m.store m.programs.items m.jobs.items m.lanes.items c.self.invariant c.args.cpu c.args.job task state left at l here h c.in-Some.is e listed program loaded c.in-Some-advance.outcome c.advance.new.store c.end.new.self c.advance.new.self.cpu c.advance.new.self.left c.in-Some-advance.ensures.advance
+    (call_leads c.advance.new.store c.end.new.self c.args.cpu End served c.end.ensures.ended c.end.ensures.same.1) w shows)

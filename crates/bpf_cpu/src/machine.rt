@@ -1,0 +1,244 @@
+//! A machine: jobs on the CPUs of a plain store, on one thread, in the order of any schedule.
+
+use crate::cpu::Cpu;
+use crate::job::Job;
+use crate::lane::{
+    Hand, Lane, Listed, Phase, count_cpus, first_job, list_jobs, make_lanes, make_room,
+};
+use crate::outcome::Outcome;
+use bpf_loader::Program;
+use bpf_shared::{PlainStore, Shared};
+use std::alloc::Global;
+use std::marker::Model;
+use std::mem;
+
+/// What a turn of a CPU came to.
+#[derive(Clone, Copy, PartialEq, Eq, Debug)]
+pub enum Turned {
+    /// Its job goes on.
+    Ran,
+    /// This job of its ended so.
+    Ended(usize, Outcome),
+    /// It has no work.
+    Idle,
+}
+
+/// What a machine was to be made of. There was no memory for more.
+#[derive(Drop)]
+pub struct Refused {
+    pub store: PlainStore,
+    pub programs: Vec<Program>,
+    pub jobs: Vec<Job>,
+}
+
+/// What a CPU is to do, with the number of the job.
+enum Work {
+    InHand(usize),
+    Waiting(usize),
+    Nothing,
+}
+
+/// A plain store with programs, and jobs that run them, each on its CPU in the order of their list.
+#[derive(Drop)]
+pub struct Machine {
+    store: PlainStore,
+    programs: Vec<Program>,
+    jobs: Vec<Listed>,
+    /// By CPU. CPUs beyond them have no jobs.
+    lanes: Vec<Lane>,
+}
+
+impl Model for Machine {
+    ghost use Rattle.bpf_cpu.specs.Machine.{MachineState};
+
+    ghost Value = { MachineState };
+
+    ghost use Rattle.bpf_shared.specs.Seen.{has_cpu, is_running};
+    ghost use Rattle.bpf_cpu.specs.Lanes.{tasks_of, IsBoard};
+
+    ghost view = { λ m. record { store = m.store; programs = m.programs.items; jobs = tasks_of m.lanes.items m.jobs.items } };
+
+    ghost invariant = { λ m. IsBoard (has_cpu m.store) (is_running m.store) m.programs.items m.jobs.items m.lanes.items };
+}
+
+impl Machine {
+    ghost use Rattle.std.specs.Prelude.{◌≡◌, ◌≢◌, ◌≤◌, ◌<◌, ◌⊎◌, ℕ, true, false, All, IfOk, IfErr, IfSome, IfNone, map, vec_len};
+    ghost use Rattle.bpf_shared.specs.Seen.{has_cpu, is_running};
+    ghost use Rattle.bpf_cpu.specs.Task.{IsFree, NoneWaits, outcome_at, waiting};
+    ghost use Rattle.bpf_cpu.specs.Schedule.{World, TakesTurn, Runs};
+    ghost use Rattle.bpf_cpu.specs.Machine.{Shows};
+    ghost use Rattle.bpf_cpu.specs.Work.{Begins, Proceeds, IsWork, IsNext, HasInHand, IsState};
+
+    /// A machine whose jobs all wait. It makes all the room that they will ever need.
+    pub fn new(
+        alloc: Global,
+        store: PlainStore,
+        programs: Vec<Program>,
+        jobs: Vec<Job>,
+    ) -> Result<Machine, Refused>
+        requires idle { (cpu : ℕ) → is_running store cpu ≡ false }
+        requires cpus { All (λ job. has_cpu store job.cpu ≡ true) jobs.items }
+        requires programs { All (λ job. job.program < vec_len programs) jobs.items }
+        requires contexts { All (λ job. vec_len job.context ≤ 4096) jobs.items }
+        ensures store { IfOk result (λ m. m.store ≡ store) }
+        ensures programs { IfOk result (λ m. m.programs ≡ programs.items) }
+        ensures jobs { IfOk result (λ m. m.jobs ≡ map waiting jobs.items) }
+        ensures refused { IfErr result (λ r. (r.store ≡ store) × (r.programs ≡ programs) × (r.jobs ≡ jobs)) }
+    {
+        let cpus = count_cpus(&jobs);
+        match make_room(alloc, jobs.len(), cpus) {
+            Ok((room, lanes)) => {
+                let listed = list_jobs(jobs, room);
+                let lanes = make_lanes(&listed, cpus, lanes);
+                Ok(Machine {
+                    store,
+                    programs,
+                    jobs: listed,
+                    lanes,
+                })
+            }
+            Err(_) => Err(Refused {
+                store,
+                programs,
+                jobs,
+            }),
+        }
+    }
+
+    /// One turn of a CPU: it begins its lowest waiting job where it has none in hand, makes one step of it unless
+    /// the budget is used up, and ends it where it has an outcome then. It takes no memory.
+    pub fn turn(&mut self, cpu: u8) -> Turned
+        ensures turn { (w : World) → Shows self.old w → (z : World) × TakesTurn w cpu result z × Shows self.new z }
+        ensures idle { result ≡ Turned.Idle → self.new ≡ self.old }
+    {
+        match self.work(cpu) {
+            Work::InHand(job) => self.proceed(cpu, job),
+            Work::Waiting(job) => {
+                self.begin(cpu, job);
+                self.proceed(cpu, job)
+            }
+            Work::Nothing => Turned::Idle,
+        }
+    }
+
+    /// The turns of a schedule, in order. A schedule is any list of CPU numbers.
+    pub fn turns(&mut self, schedule: &[u8])
+        ensures { (w : World) → Shows self.old w → (z : World) × Runs w schedule.now z × Shows self.new z }
+    {
+        for cpu in schedule {
+            self.turn(*cpu);
+        }
+    }
+
+    /// How a job ended, if it has.
+    pub fn outcome(&self, job: usize) -> Option<Outcome>
+        ensures { result ≡ outcome_at self.now.jobs job }
+    {
+        match self.jobs.get(job)?.phase {
+            Phase::Ended(outcome) => Some(outcome),
+            _ => None,
+        }
+    }
+
+    /// The store.
+    pub fn store(&self) -> &PlainStore
+        ensures { result.now ≡ self.now.store }
+    {
+        &self.store
+    }
+
+    /// The programs, as jobs number them.
+    pub fn programs(&self) -> &[Program]
+        ensures { result.now ≡ self.now.programs }
+    {
+        &self.programs
+    }
+
+    /// The job that a CPU has in hand, or else is to begin next.
+    pub fn job(&self, cpu: u8) -> Option<usize>
+        ensures job { IfSome result (λ j. HasInHand self.now.jobs cpu j ⊎ IsNext self.now.jobs cpu j) }
+        ensures idle { IfNone result (IsFree self.now.jobs cpu × NoneWaits self.now.jobs cpu) }
+    {
+        match self.work(cpu) {
+            Work::InHand(job) | Work::Waiting(job) => Some(job),
+            Work::Nothing => None,
+        }
+    }
+
+    /// The state of a CPU that has a job in hand.
+    pub fn cpu(&self, cpu: u8) -> Option<&Cpu>
+        ensures state { IfSome result (λ state. IsState self.now.jobs cpu state.now) }
+        ensures free { IfNone result (IsFree self.now.jobs cpu) }
+    {
+        let Some(lane) = self.lanes.get(cpu as usize) else {
+            return None;
+        };
+        match &lane.hand {
+            Some(hand) => Some(&hand.cpu),
+            None => None,
+        }
+    }
+
+    /// What a CPU is to do.
+    fn work(&self, cpu: u8) -> Work
+        ensures { IsWork self.now.jobs cpu result }
+    {
+        let Some(lane) = self.lanes.get(cpu as usize) else {
+            return Work::Nothing;
+        };
+        match &lane.hand {
+            Some(hand) => Work::InHand(hand.job),
+            None if lane.next < self.jobs.len() => Work::Waiting(lane.next),
+            None => Work::Nothing,
+        }
+    }
+
+    /// Begins a CPU's next job.
+    fn begin(&mut self, cpu: u8, job: usize)
+        requires { IsNext self.old.jobs cpu job }
+        ensures { Begins self.old cpu job self.new }
+    {
+        let lane = &mut self.lanes[cpu as usize];
+        let listed = &mut self.jobs[job];
+        let left = listed.budget;
+        self.programs[listed.program].starts();
+        match mem::replace(&mut listed.phase, Phase::InHand) {
+            Phase::Waiting(context) => {
+                let start = Cpu::new(cpu, context);
+                lane.hand = Some(Hand {
+                    job,
+                    cpu: start,
+                    left,
+                });
+            }
+            _ => unreachable!(),
+        }
+        lane.next = first_job(&self.jobs, cpu, job + 1);
+        match self.store.begin(cpu) {
+            Ok(()) => {}
+            Err(_) => unreachable!(),
+        }
+    }
+
+    /// Goes on with the job that a CPU has in hand.
+    fn proceed(&mut self, cpu: u8, job: usize) -> Turned
+        requires { HasInHand self.old.jobs cpu job }
+        ensures proceeds { Proceeds self.old cpu job result self.new }
+        ensures works { result ≢ Turned.Idle }
+    {
+        let lane = &mut self.lanes[cpu as usize];
+        let Some(hand) = &mut lane.hand else {
+            unreachable!()
+        };
+        let listed = &mut self.jobs[job];
+        match hand.advance(&self.programs[listed.program], &mut self.store) {
+            None => Turned::Ran,
+            Some(outcome) => {
+                self.store.end(cpu);
+                listed.phase = Phase::Ended(outcome);
+                lane.hand = None;
+                Turned::Ended(job, outcome)
+            }
+        }
+    }
+}
