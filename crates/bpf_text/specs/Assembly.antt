@@ -1,5 +1,5 @@
 -- The assembly language: what a line is, what a label names, and what a whole text stands for (our own choice).
-use Rattle.std.specs.Prelude.{◌≡◌, ◌≢◌, ℕ, ◌+◌, ◌^◌, ◌==◌, ◌&&◌, nat_lt, nat_le, Bool, true, false, not, if◌then◌else◌, List, [], ◌∷◌, ◌++◌, Option, Some, None, is_some, Result, Ok, Err, ℤ, pos, ◌-ℤ◌}
+use Rattle.std.specs.Prelude.{◌≡◌, ◌≢◌, ℕ, ◌+◌, ◌^◌, ◌==◌, ◌&&◌, nat_lt, nat_le, Bool, true, false, not, if◌then◌else◌, List, [], ◌∷◌, ◌++◌, Option, Some, None, option_to_list, Result, Ok, Err, ℤ, pos, ◌-ℤ◌}
 use Rattle.std.specs.Str.{bytes_eq}
 use Rattle.bpf_insn.specs.Table.{words}
 use Rattle.bpf_insn.specs.Encoding.{Fits}
@@ -140,12 +140,8 @@ meaning_of labels line pc s = body_meaning labels (is_twice labels line s.label)
 
 -- ---- whole texts
 
-abbrev pub before : Option Insn → List Insn → List Insn
-before (Some i) is = i ∷ is
-before None is = is
-
 abbrev pub then_meaning : Result (Option Insn) TextError → Result (List Insn) TextError → Result (List Insn) TextError
-then_meaning (Ok i) (Ok is) = Ok (before i is)
+then_meaning (Ok i) (Ok is) = Ok (option_to_list i ++ is)
 then_meaning (Ok i) (Err e) = Err e
 then_meaning (Err e) r = Err e
 

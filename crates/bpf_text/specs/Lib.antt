@@ -12,3 +12,4 @@ pub mod Judging
 pub mod Labels
 pub mod Assembly
 pub mod Sources
+pub mod Cutting
