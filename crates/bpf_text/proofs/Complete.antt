@@ -1,18 +1,14 @@
 -- What is spelled is read: of the tokens of a form the reader makes its instruction.
-use Rattle.std.proofs.Common.{◌≡◌, ℕ, Bool, true, false, cond, ◌&&◌, List, [], ◌∷◌, ◌++◌, Option, Some, None, append-nil, refl, sym, ap, ◌∙◌, subst}
+use Rattle.std.proofs.Common.{◌≡◌, ℕ, Bool, true, false, List, [], ◌∷◌, ◌++◌, Option, Some, None, append-nil, refl, sym, ap, ◌∙◌}
 use Rattle.std.specs.Prelude.{ℤ, pos, neg_ℤ, map}
-use Rattle.std.proofs.lemmas.Bool.{and_parts}
 use Rattle.bpf_insn.specs.declared.register.Reg.{Reg}
 use Rattle.bpf_insn.specs.declared.register.Reg.TheVariants.{R0}
 use Rattle.bpf_insn.specs.declared.operation.Width.{Width}
 use Rattle.bpf_insn.specs.declared.operation.Width.TheVariants.{Bits32, Bits64}
 use Rattle.bpf_insn.specs.declared.operation.AluOp.{AluOp}
 use Rattle.bpf_insn.specs.declared.operation.AluOp.TheVariants as alu
-use Rattle.bpf_insn.specs.declared.operation.SignedSize.{SignedSize}
-use Rattle.bpf_insn.specs.declared.operation.SignedSize.TheVariants as signed_size
 use Rattle.bpf_insn.specs.declared.operation.SignExtension.{SignExtension}
 use Rattle.bpf_insn.specs.declared.operation.Size.{Size}
-use Rattle.bpf_insn.specs.declared.operation.Size.TheVariants as size
 use Rattle.bpf_insn.specs.declared.operation.SignExtension.TheVariants as extend
 use Rattle.bpf_insn.specs.declared.operation.ByteSwap.{ByteSwap}
 use Rattle.bpf_insn.specs.declared.operation.SwapWidth.{SwapWidth}
@@ -28,11 +24,11 @@ use Rattle.bpf_text.specs.declared.keywords.Keyword.{Keyword}
 use Rattle.bpf_text.specs.declared.keywords.Keyword.TheVariants as key
 use Rattle.bpf_text.specs.declared.signs.Sign.{Sign}
 use Rattle.bpf_text.specs.declared.signs.Sign.TheVariants as sign
-use Rattle.bpf_text.specs.Token.{Tok, Register, Word, Name, Number, Mark, Junk}
-use Rattle.bpf_text.specs.Form.{Item, Is, Blank, Signed, Natural, Hex, Offset, Target, Never, mark, reg, word, address, cell, cell_size, op_items, condition_items, operand_item, extended_width, extended_size, locked, fetched, atomic_items, form_of}
-use Rattle.bpf_text.specs.Line.{Written, Spells, IsSpelled, name_of, TokenThen, NaturalThen, NegatedThen, SignedThen, OffsetThen}
+use Rattle.bpf_text.specs.Token.{Tok, Register, Word, Name, Number, Mark}
+use Rattle.bpf_text.specs.Form.{Item, Is, Blank, Natural, Hex, Offset, Target, mark, reg, word, address, cell, cell_size, op_items, condition_items, operand_item, extended_width, extended_size, locked, fetched, atomic_items, form_of}
+use Rattle.bpf_text.specs.Line.{Written, Spells, name_of, TokenThen, NaturalThen, NegatedThen, SignedThen, OffsetThen}
 use Rattle.bpf_text.specs.Judging.{signed_of}
-use Rattle.bpf_text.specs.Reading.{◌>>=◌, Address, Cell, Second, Test, Goal, same_width, same_register, address_at, closed_at, pointer_at, cell_at, operand_at, label_at, target_at, plain_op, signed_op, locked_op, plain_condition, signed_condition, tested, condition_at, extension_of, cell_width, plain, ends, alu_end, alu_at, extend_at, loaded_at, load_at, atomic_end, atomic_at, fetch_at, exchange_at, compared_at, expected_at, compare_exchange_at, swap_at, map_at, keyword_at, moved_at, wide_at, negative_at, number_at, assigned_at, register_at, stored_end, stored_at, store_at, locked_at, lock_at, jump_at, jump_long_at, branch_to, branch_end, branch_at, helper_at, call_local_at, call_at, statement_at, line_at}
+use Rattle.bpf_text.specs.Reading.{Goal, address_at, closed_at, pointer_at, cell_at, operand_at, label_at, target_at, plain_op, signed_op, locked_op, plain_condition, signed_condition, condition_at, extension_of, cell_width, alu_end, alu_at, extend_at, loaded_at, load_at, atomic_end, atomic_at, fetch_at, exchange_at, compared_at, expected_at, compare_exchange_at, swap_at, map_at, keyword_at, moved_at, wide_at, negative_at, number_at, assigned_at, register_at, stored_end, stored_at, store_at, locked_at, lock_at, jump_at, jump_long_at, branch_to, branch_end, branch_at, helper_at, call_local_at, call_at, statement_at, line_at}
 use Rattle.bpf_text.proofs.Chains.{same_width-refl, same_register-refl}
 
 -- ---- the tokens that an item has at the front

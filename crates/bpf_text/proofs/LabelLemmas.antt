@@ -1,9 +1,8 @@
 -- The first line with each label.
-use Rattle.std.proofs.Common.{◌≡◌, ℕ, ◌+◌, List, [], ◌∷◌, ◌++◌, length, Option, Some, None, Bool, true, false, cond, is_some, refl, sym, ap, ◌∙◌, bytes_eq, arith}
+use Rattle.std.proofs.Common.{◌≡◌, ℕ, List, Option, Some, None, Bool, true, false, cond, is_some, refl, sym, ap, ◌∙◌, bytes_eq}
 use Rattle.std.proofs.lemmas.Slice.Eq.{bytes_eq-Decides}
 use Rattle.bpf_text.specs.declared.labels.Place.{Place}
 use Rattle.bpf_text.specs.Labels.{or_else}
-use Rattle.bpf_text.specs.Assembly.{Source, is_named, words_of, first_place}
 
 or_none : {A : Type 0} (o : Option A) → or_else o None ≡ o
 or_none (Some x) = refl

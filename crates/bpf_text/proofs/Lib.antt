@@ -7,3 +7,5 @@ pub mod Sound
 pub mod Complete
 pub mod LabelLemmas
 pub mod BodyLemmas
+pub mod LineCuts
+pub mod TextLemmas

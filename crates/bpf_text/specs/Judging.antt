@@ -1,6 +1,6 @@
 -- What the reader's functions answer, by what is read. Private functions cite this.
-use Rattle.std.specs.Prelude.{◌≡◌, ℕ, Option, Some, None, Result, Ok, Err, IsSomeAnd, ℤ, pos, neg_ℤ, Bool, true, false, FitsSigned, map, List}
-use Rattle.std.specs.Int.{w16, w32}
+use Rattle.std.specs.Prelude.{◌≡◌, ℕ, Option, Some, None, Result, Ok, Err, IsSomeAnd, ℤ, pos, neg_ℤ, Bool, true, false, FitsSigned}
+use Rattle.std.specs.Int.{w32}
 use Rattle.std.specs.Option.{option_copied}
 use Rattle.bpf_insn.specs.Encoding.{Fits}
 use Rattle.bpf_insn.specs.declared.instruction.Operand.{Operand}

@@ -1,9 +1,10 @@
 //! Assembly text as instructions.
 
-ghost use Rattle.std.specs.Prelude.{◌≡◌, ◌+◌, ◌<◌, ◌≤◌, ◌^◌, ◌⊎◌, ℕ, List, Some, None, map, length, drop, vec_len, IfOk, IfErr, OnOk, IsOkUnless, Ok, Err, if◌then◌else◌, take_while, ◌==◌, not};
+ghost use Rattle.std.specs.Prelude.{◌≡◌, ◌∷◌, ◌++◌, ◌*◌, ◌+◌, ◌<◌, ◌≤◌, ◌^◌, ◌⊎◌, ℕ, List, Some, None, map, length, drop, vec_len, IfOk, IfErr, OnOk, IsOkUnless, Ok, Err, if◌then◌else◌, take_while, ◌==◌, not};
 ghost use Rattle.bpf_insn.specs.Table.{words};
 ghost use Rattle.bpf_text.specs.Assembly.{reaches, distance_to, targeted, is_twice, is_other, at_target, unless_twice, meaning_of, words_of, lines_of, program_of, first_place, AreLines, Assembles};
 ghost use Rattle.bpf_text.specs.Labels.{found};
+ghost use Rattle.std.specs.Prelude.{MatchResult, option_to_list};
 ghost use Rattle.bpf_text.specs.Cutting.{in_line, lines_behind, rest_size};
 ghost use Rattle.bpf_text.specs.Sources.{source_of, body_of};
 ghost use Rattle.std.specs.Option.{option_copied};
@@ -170,4 +171,73 @@ fn first_line<'a>(text: &'a [u8]) -> (&'a [u8], Option<&'a [u8]>)
     } else {
         (text, None)
     }
+}
+
+/// A text's lines, and the first line with each label. Fails by `OutOfMemory` alone.
+fn sources<'a>(
+    alloc: Global,
+    text: &'a [u8],
+) -> Result<(Vec<SourceLine<'a>>, Labels<'a>), TextError>
+    ensures lines { IfOk result (λ r. AreLines (lines_of text.now) (map source_of r.0.items)) }
+    ensures labels { IfOk result (λ r. (q : List ℕ) → found r.1 q ≡ first_place (map source_of r.0.items) 0 0 q) }
+    ensures memory { IsOkUnless result TextError.OutOfMemory }
+{
+    let mut lines = Vec::new(alloc);
+    let mut labels = HashMap::new(alloc);
+    let mut pc: usize = 0;
+    let mut rest = Some(text);
+    while let Some(left) = rest {
+        let (line, behind) = first_line(left);
+        let source = source::source_line(alloc, line)?;
+        let place = Place {
+            line: lines.len(),
+            pc,
+        };
+        labels::note_line(&mut labels, source.label, place)?;
+        let size = words_of(&source.body);
+        lines.push(source).map_err(|_| TextError::OutOfMemory)?;
+        pc += size;
+        rest = behind;
+    }
+    Ok((lines, labels))
+}
+
+/// Puts an instruction, if there is one, behind the others.
+fn push_meant(insns: &mut Vec<Insn>, insn: Option<Insn>) -> Result<(), TextError>
+    ensures ok { OnOk result (insns.new.items ≡ insns.old.items ++ option_to_list insn) }
+    ensures memory { IsOkUnless result TextError.OutOfMemory }
+{
+    match insn {
+        Some(insn) => insns.push(insn).map_err(|_| TextError::OutOfMemory),
+        None => Ok(()),
+    }
+}
+
+/// What lines mean, or the first refusal.
+fn program(
+    alloc: Global,
+    lines: &[SourceLine<'_>],
+    labels: &Labels<'_>,
+) -> Result<Vec<Insn>, TextError>
+    requires { length lines.now < 2 ^ 63 }
+    ensures { MatchResult result (λ is. program_of (found labels.now) 0 0 (map source_of lines.now) ≡ Ok is.items) (λ e. (e ≡ TextError.OutOfMemory) ⊎ (program_of (found labels.now) 0 0 (map source_of lines.now) ≡ Err e)) }
+{
+    let mut insns = Vec::new(alloc);
+    let mut pc: usize = 0;
+    for (line, source) in lines.iter().enumerate() {
+        let meant = meaning(labels, line, pc, source)?;
+        push_meant(&mut insns, meant)?;
+        pc += words_of(&source.body);
+    }
+    Ok(insns)
+}
+
+/// The instructions that an assembly text stands for, or its lowest line that is refused, for the lowest of its reasons.
+/// Lines count from 1. `OutOfMemory` may stand in place of either.
+pub fn assemble(alloc: Global, text: &str) -> Result<Vec<Insn>, TextError>
+    ensures assembled { IfOk result (λ program. Assembles text.now (Ok program.items)) }
+    ensures refused { IfErr result (λ e. (e ≡ TextError.OutOfMemory) ⊎ Assembles text.now (Err e)) }
+{
+    let (lines, labels) = sources(alloc, text.as_bytes())?;
+    program(alloc, &lines, &labels)
 }

@@ -1,7 +1,7 @@
 //! Programs as text that people read and write: assembly text, and bytes as hex digits.
 #![tactic(auto)]
 
-mod assembly;
+pub mod assembly;
 pub mod disassembly;
 pub mod error;
 pub mod hex_text;
@@ -14,6 +14,7 @@ mod source;
 mod token;
 mod words;
 
+pub use assembly::assemble;
 pub use disassembly::disassemble;
 pub use error::TextError;
 pub use hex_text::{from_hex, to_hex};

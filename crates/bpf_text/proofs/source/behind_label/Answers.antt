@@ -1,4 +1,4 @@
-use Rattle.std.proofs.Common.{◌≤◌, List, [], ◌∷◌, length, map, ◌≡◌, ◌≢◌, arith}
+use Rattle.std.proofs.Common.{◌≤◌, List, [], ◌∷◌, length, map, ◌≢◌, arith}
 use Rattle.bpf_text.specs.declared.token.Token.{Token}
 use Rattle.bpf_text.specs.Look.{look}
 use Rattle.bpf_text.proofs.BodyLemmas.{body_code, body_refused}
