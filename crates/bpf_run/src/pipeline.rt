@@ -3,16 +3,17 @@
 ghost use Rattle.std.specs.Prelude.{◌≡◌, [], false, IfErr, IfOk, true};
 ghost use Rattle.bpf_loader.specs.Sound.{IsSound};
 ghost use Rattle.bpf_shared.specs.Seen.{has_cpu, is_running, shapes_of};
-ghost use Rattle.bpf_run.specs.Commands.{IsAnswer, IsDisassembled, IsRun, IsWordsOf, RefusesProgram, RefusesWords};
+ghost use Rattle.bpf_run.specs.Commands.{IsAnswer, IsAssembled, IsDisassembled, IsRun, IsWordsOf, RefusesProgram, RefusesWords};
 
 use crate::command::{Command, RunOptions};
+use crate::listing::word_lines;
 use crate::refusal::Refusal;
 use crate::reply::Reply;
 use bpf_cpu::Cpu;
-use bpf_insn::{Insn, decode};
+use bpf_insn::{Insn, decode, encode};
 use bpf_loader::{Program, load};
 use bpf_shared::{PlainStore, ShapeError, StoreShape};
-use bpf_text::{disassemble, from_hex};
+use bpf_text::{assemble, disassemble, from_hex};
 use std::alloc::Global;
 
 /// The instructions whose words the text has as hex digits.
@@ -60,8 +61,26 @@ fn run(alloc: Global, options: RunOptions, text: &str) -> Reply
     Reply::Ended(cpu.run(&program, &mut store, budget))
 }
 
+/// `ebpf asm`.
+fn assembled(alloc: Global, text: &str) -> Reply
+    ensures { IsAssembled text.now result }
+{
+    let insns = match assemble(alloc, text) {
+        Ok(insns) => insns,
+        Err(error) => return Reply::Refused(Refusal::Text(error)),
+    };
+    let bytes = match encode(alloc, &insns) {
+        Ok(bytes) => bytes,
+        Err(error) => return Reply::Refused(Refusal::Insn(error)),
+    };
+    match word_lines(alloc, &bytes) {
+        Ok(lines) => Reply::Text(lines),
+        Err(error) => Reply::Refused(Refusal::Text(error)),
+    }
+}
+
 /// `ebpf disasm`.
-pub fn disassembled(alloc: Global, text: &str) -> Reply
+fn disassembled(alloc: Global, text: &str) -> Reply
     ensures { IsDisassembled text.now result }
 {
     let insns = match instructions(alloc, text) {
@@ -80,7 +99,7 @@ pub fn reply(alloc: Global, command: Command, text: &str) -> Reply
 {
     match command {
         Command::Hex(options) => run(alloc, options, text),
-        Command::Asm => Reply::Refused(Refusal::OutOfMemory),
+        Command::Asm => assembled(alloc, text),
         Command::Disasm => disassembled(alloc, text),
     }
 }
