@@ -20,4 +20,6 @@ pub use machine::{Machine, Turned};
 pub use outcome::{Fault, Outcome, Turn};
 
 #[cfg(test)]
+mod schedules;
+#[cfg(test)]
 mod tests;
