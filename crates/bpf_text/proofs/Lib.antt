@@ -9,3 +9,5 @@ pub mod LabelLemmas
 pub mod BodyLemmas
 pub mod LineCuts
 pub mod TextLemmas
+pub mod Shown
+pub mod ReadBack
