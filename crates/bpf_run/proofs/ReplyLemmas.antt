@@ -1,7 +1,7 @@
 -- A reply to what was read is one to what the reader had left.
 use Rattle.std.proofs.Common.{◌≡◌, ◌<◌, ℕ, List, Option, Some, None, inl, length, refl, subst}
 use Rattle.std.specs.Prelude.{IfSome}
-use Rattle.bpf_run.specs.Commands.{IsReply, RefusesInput, max_input}
+use Rattle.bpf_run.specs.Commands.{IsReply, max_input}
 use Rattle.bpf_run.specs.declared.command.Command.{Command}
 use Rattle.bpf_run.specs.declared.input.InputError.{InputError}
 use Rattle.bpf_run.specs.declared.input.InputError.TheVariants as input_error

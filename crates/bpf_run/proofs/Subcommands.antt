@@ -1,8 +1,8 @@
 -- Where `clap` finds no fault, the words name one of the program's three commands.
-use Rattle.std.proofs.Common.{◌≡◌, ◌⊎◌, ℕ, List, [], ◌∷◌, Bool, true, false, Option, Some, None, option_map, is_some, codes, refl, inl, inr, cond}
+use Rattle.std.proofs.Common.{◌≡◌, List, [], ◌∷◌, Bool, true, false, Option, Some, None, option_map, is_some, refl, inl, inr, cond}
 use Rattle.std.specs.Prelude.{IsSomeAnd, find}
-use Rattle.clap.specs.Kinds.{Kinds, or_else, check_kinds}
-use Rattle.clap.specs.Simple.{Shape, App, argument_words, built, entered, label_of, names_of, rows_at, subcommand_rows}
+use Rattle.clap.specs.Kinds.{Kinds, or_else}
+use Rattle.clap.specs.Simple.{Shape, argument_words, built, entered, label_of, names_of, rows_at, subcommand_rows}
 use Rattle.clap.specs.Faults.{check_fault, defaults_fault, entered_fault, settle_fault, walk_fault}
 use Rattle.clap.specs.Walk.{Row, Text, answers_to, finished, nothing_held, settled, stop_after, walk, walk_from}
 use Rattle.clap.specs.Words.{fault_of, subcommand_name_of, subcommand_of, subcommand_rows_of}

@@ -44,7 +44,8 @@ abbrev pub IsWritten : List ℕ → Status → Option (List ℕ) → Option (Lis
 IsWritten text meant old new result = (Appends old new text × (result ≡ meant))
     ⊎ ((k : ℕ) × Appends old new (take k text) × (result ≡ status.Failed))
 
--- the reply is written, or a refusal alone where its text found no memory
+-- the reply is written; or a refusal alone, where the one line of a reply found no memory
 abbrev pub Answers : Reply → Option (List ℕ) → Option (List ℕ) → Status → Type 0
+Answers (reply.Text text) old new result = IsWritten (string_bytes text) status.Done old new result
 Answers r old new result = IsWritten (text_of r) (status_of r) old new result
     ⊎ IsWritten (codes "refused L9\n") status.Refused old new result

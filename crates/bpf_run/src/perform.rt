@@ -1,8 +1,8 @@
 //! A whole command: what it reads, does and writes.
 
-ghost use Rattle.std.specs.Prelude.{◌≤◌, ◌+◌, IfSome, List, length, ℕ};
+ghost use Rattle.std.specs.Prelude.{◌≤◌, ◌+◌, ◌⊎◌, codes, IfSome, List, length, ℕ};
 ghost use Rattle.std.specs.Io.KnownBytes.{Consumes};
-ghost use Rattle.bpf_run.specs.Answer.{Answers, IsWritten};
+ghost use Rattle.bpf_run.specs.Answer.{Answers, IsWritten, status_of, text_of};
 ghost use Rattle.bpf_run.specs.Commands.{IsReply, max_input};
 ghost use Rattle.bpf_run.specs.declared.reply.Reply.{Reply};
 
@@ -24,16 +24,24 @@ fn write_text<W: Write>(writer: &mut W, text: &str, status: Status) -> Status
     }
 }
 
-/// Prints a reply. Its whole text is made before the first byte is written.
-pub fn answer<W: Write>(alloc: Global, reply: &Reply, writer: &mut W) -> Status
-    ensures { Answers reply.now (W.contents writer.old) (W.contents writer.new) result }
+/// Prints a reply of one line, which is made before its first byte is written.
+fn write_line<W: Write>(alloc: Global, reply: &Reply, writer: &mut W) -> Status
+    ensures { IsWritten (text_of reply.now) (status_of reply.now) (W.contents writer.old) (W.contents writer.new) result
+        ⊎ IsWritten (codes "refused L9\n") Status.Refused (W.contents writer.old) (W.contents writer.new) result }
 {
-    if let Reply::Text(text) = reply {
-        return write_text(writer, text.as_str(), Status::Done);
-    }
     match format!(in alloc; "{reply}") {
         Ok(text) => write_text(writer, text.as_str(), reply.status()),
         Err(_) => write_text(writer, "refused L9\n", Status::Refused),
+    }
+}
+
+/// Prints a reply. Its whole text is made before its first byte is written.
+pub fn answer<W: Write>(alloc: Global, reply: &Reply, writer: &mut W) -> Status
+    ensures { Answers reply.now (W.contents writer.old) (W.contents writer.new) result }
+{
+    match reply {
+        Reply::Text(text) => write_text(writer, text.as_str(), Status::Done),
+        Reply::Ended(_) | Reply::Refused(_) => write_line(alloc, reply, writer),
     }
 }
 

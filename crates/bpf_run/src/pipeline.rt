@@ -39,6 +39,7 @@ fn no_maps(alloc: Global) -> Result<PlainStore, ShapeError>
     ensures maps { IfOk result (λ s. shapes_of s ≡ []) }
     ensures serves { IfOk result (λ s. has_cpu s 0 ≡ true) }
     ensures idle { IfOk result (λ s. is_running s 0 ≡ false) }
+    ensures memory { IfErr result (λ e. e ≡ ShapeError.OutOfMemory) }
 {
     let shape = StoreShape::new(1, Vec::new(alloc))?;
     let store = PlainStore::new(alloc, shape)?;

@@ -1,4 +1,4 @@
-use Rattle.std.proofs.Common.{rules, arith, ◌≡◌, ◌≤◌, ◌<◌, ◌+◌, ap, length, length-append, length-drop, length-take, drop, take}
+use Rattle.std.proofs.Common.{arith, ◌<◌, ap, length, length-append, length-drop, length-take, drop, take}
 use Rattle.bpf_run.proofs.KnownBytes.{consumed_more, longer, taken_more}
 use Rattle.bpf_run.proofs.input.read_whole.Goals as goal
 

@@ -1,4 +1,4 @@
-use Rattle.std.proofs.Common.{rules, ◌≡◌, ◌∙◌, ℕ, List, Err, ap, subst}
+use Rattle.std.proofs.Common.{ℕ, List, Err, ap, subst}
 use Rattle.bpf_run.specs.Commands.{IsReply}
 use Rattle.bpf_run.specs.declared.input.InputError.{InputError}
 use Rattle.bpf_run.proofs.ReplyLemmas.{replied, unread}

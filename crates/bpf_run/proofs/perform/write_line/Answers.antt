@@ -1,5 +1,5 @@
 use Rattle.std.proofs.Common.{inr}
-use Rattle.bpf_run.proofs.perform.answer.Goals as goal
+use Rattle.bpf_run.proofs.perform.write_line.Goals as goal
 
 pub returns-in-Err : goal.returns-in-Err
 returns-in-Err g c = inr c.write_text-in-Err.ensures
