@@ -20,10 +20,11 @@ word_at bytes = record {
   imm = little_number 4 (drop 4 bytes);
 }
 
--- the first word, and the second where the bytes have one
+-- the second word, where the bytes have one
 abbrev pub next_at : List ℕ → Option Word
 next_at bytes = if nat_lt (length bytes) 16 then None else Some (word_at (drop 8 bytes))
 
+-- the first word with the second
 abbrev pub window_at : List ℕ → Window
 window_at bytes = record { word = word_at bytes; next = next_at bytes }
 
@@ -46,7 +47,7 @@ abbrev pub IsFollowed : Second → Option Word → Type 0
 IsFollowed NoSecond next = Unit {0}
 IsFollowed (Wide n) next = next ≡ second_word (Wide n)
 
--- these words are the instruction
+-- these words are the instruction, and where it has one word, whatever follows it
 pub record IsSpelled (i : Insn) (w : Window) : Type 0 where
   pub first : w.word ≡ first_word (row_of i)
   pub second : IsFollowed (row_of i).second w.next

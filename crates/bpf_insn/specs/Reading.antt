@@ -1,5 +1,5 @@
 -- One instruction read from its words, or the first thing that is wrong there: what the private
--- functions of the decoder compute. That it is what the table says stands in proofs/Law.
+-- functions of the decoder compute. That it is what the table says is proved in proofs/Law.antt.
 use Rattle.std.specs.Prelude.{ℕ, ◌+◌, ◌*◌, ◌/◌, ◌%◌, ◌^◌, Bool, true, false, ◌==◌, ◌&&◌, ◌||◌, Option, Some, None, Result, Ok, Err, if◌then◌else◌}
 use Rattle.std.specs.Int.{w16, w32, cast_signed}
 use Rattle.std.specs.Option.{ok_or}

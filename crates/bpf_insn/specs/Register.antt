@@ -1,4 +1,4 @@
--- RFC 9669, section 2: registers are named by the numbers 0 to 10.
+-- RFC 9669, section 3.1: registers are named by the numbers 0 to 10.
 use Rattle.std.specs.Prelude.{ℕ}
 use Rattle.bpf_insn.specs.declared.register.Reg.{Reg}
 use Rattle.bpf_insn.specs.declared.register.Reg.TheVariants.{R0, R1, R2, R3, R4, R5, R6, R7, R8, R9, R10}

@@ -1,4 +1,4 @@
-//! The eleven registers (RFC 9669, section 2).
+//! The eleven registers (RFC 9669, section 3.1).
 
 ghost use Rattle.std.specs.Prelude.{◌≡◌, ◌≤◌, IsSome, IfSome};
 ghost use Rattle.bpf_insn.specs.Register.{number_of};

@@ -370,6 +370,12 @@ fn questions(rt: HostRuntime) -> Result<(), Fail> {
     Ok(())
 }
 
+/// A run fetches a slot a step, so slots are small.
+#[test]
+fn slots_are_small(rt: HostRuntime) {
+    assert_eq!(rt; size_of::<Insn>(), 16);
+}
+
 #[test]
 fn messages(rt: HostRuntime) -> Result<(), Fail> {
     let text = JumpOut(7).to_string(rt.alloc())?;

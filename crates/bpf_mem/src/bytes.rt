@@ -1,6 +1,6 @@
 //! Numbers in little-endian bytes.
 
-ghost use Rattle.std.specs.Prelude.{◌≡◌, ◌+◌, ◌%◌, ◌^◌, ◌*◌, ◌<◌, ◌≤◌, ◌++◌, ◌↔◌, length, take, drop, IsTrue};
+ghost use Rattle.std.specs.Prelude.{◌≡◌, ◌+◌, ◌^◌, ◌*◌, ◌<◌, ◌≤◌, ◌++◌, length, take, drop};
 ghost use Rattle.bpf_mem.specs.Bytes.{length_of, size_of, number_of, bytes_of, with_bytes};
 
 use bpf_insn::operation::{Size, Width};
@@ -28,19 +28,6 @@ pub fn size_of_width(width: Width) -> Size
     match width {
         Width::Bits32 => Size::Word,
         Width::Bits64 => Size::Double,
-    }
-}
-
-/// Whether an address is a multiple of a size.
-#[inline]
-pub fn is_aligned(address: u64, size: Size) -> bool
-    ensures { IsTrue result ↔ (address % length_of size ≡ 0) }
-{
-    match size {
-        Size::Byte => true,
-        Size::Half => address % 2 == 0,
-        Size::Word => address % 4 == 0,
-        Size::Double => address % 8 == 0,
     }
 }
 

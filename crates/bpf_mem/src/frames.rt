@@ -5,6 +5,7 @@ ghost use Rattle.bpf_mem.specs.Addresses.{top_of};
 ghost use Rattle.bpf_mem.specs.Bytes.{length_of, bytes_of, with_bytes};
 ghost use Rattle.bpf_mem.specs.Stack.{IsStack, zeroed};
 
+use crate::addresses::{FRAME_STRIDE, STACK_BASE};
 use crate::bytes;
 use bpf_insn::operation::Size;
 use std::marker::Model;
@@ -115,7 +116,7 @@ impl Frames {
     pub fn top(&self) -> u64
         ensures { result ≡ top_of (length self.now.live) }
     {
-        0x3_0000_0000 + 0x1000 * (self.live as u64 - 1) + 512
+        STACK_BASE + FRAME_STRIDE * (self.live as u64 - 1) + FRAME_BYTES as u64
     }
 
     /// A new frame, zeroed, for a function that `caller` calls.

@@ -1,6 +1,7 @@
 //! The private memory of one CPU: its stack frames and its context. No call takes memory.
 #![tactic(auto)]
 
+pub mod addresses;
 mod atomic;
 pub mod bytes;
 pub mod context;
@@ -8,8 +9,12 @@ pub mod frames;
 pub mod memory;
 pub mod place;
 
-pub use bytes::{is_aligned, length, size_of_width};
+pub use addresses::is_aligned;
+pub use bytes::{length, size_of_width};
 pub use context::Context;
 pub use frames::{Caller, Frames};
 pub use memory::PrivateMemory;
 pub use place::Place;
+
+#[cfg(test)]
+mod tests;

@@ -4,21 +4,13 @@ ghost use Rattle.std.specs.Prelude.{◌≡◌, ◌+◌, ◌-◌, ◌*◌, ◌^�
 ghost use Rattle.bpf_mem.specs.Bytes.{length_of, size_of, bytes_of};
 ghost use Rattle.bpf_mem.specs.Atomic.{modulus, updated};
 
+use crate::addresses::{CONTEXT_BASE, FRAME_STRIDE, STACK_BASE};
 use crate::atomic::updated;
 use crate::bytes::{length, load, size_of_width};
 use crate::context::Context;
 use crate::frames::{FRAME_BYTES, Frames};
 use crate::place::Place;
 use bpf_insn::operation::{AtomicOp, Size, Width};
-
-/// Where the context begins.
-pub const CONTEXT_BASE: u64 = 0x2_0000_0000;
-
-/// Where the oldest frame begins.
-pub const STACK_BASE: u64 = 0x3_0000_0000;
-
-/// How far each frame begins above the one before.
-pub const FRAME_STRIDE: u64 = 0x1000;
 
 /// The private memory of one CPU.
 #[derive(Drop)]

@@ -8,8 +8,8 @@ use Rattle.bpf_loader.specs.declared.refusal.LoadError.{LoadError}
 use Rattle.bpf_loader.specs.declared.refusal.LoadError.TheVariants as load
 use Rattle.bpf_text.specs.declared.error.TextError.{TextError}
 use Rattle.bpf_text.specs.declared.error.TextError.TheVariants as text
-use Rattle.bpf_run.specs.declared.outcome.Fault.{Fault}
-use Rattle.bpf_run.specs.declared.outcome.Fault.TheVariants as fault
+use Rattle.bpf_cpu.specs.declared.outcome.Fault.{Fault}
+use Rattle.bpf_cpu.specs.declared.outcome.Fault.TheVariants as fault
 use Rattle.bpf_run.specs.declared.input.InputError.{InputError}
 use Rattle.bpf_run.specs.declared.input.InputError.TheVariants as input
 use Rattle.bpf_run.specs.declared.refusal.Refusal.{Refusal}

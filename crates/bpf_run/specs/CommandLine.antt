@@ -73,9 +73,9 @@ RefusesContext _ _ = ⊥
 -- the command that `clap` finds in the words: a subcommand's name, and what is found of its options
 abbrev pub Names : Option (Text × List Row) → Command → Type 0
 Names None _ = ⊥
-Names (Some found) (command.Hex n bytes) = (found.0 ≡ codes "hex")
-    × IsBudget (one_of (codes "budget") found.1) n
-    × IsContext (first_of (codes "ctx") found.1) bytes.items
+Names (Some found) (command.Hex options) = (found.0 ≡ codes "hex")
+    × IsBudget (one_of (codes "budget") found.1) options.budget
+    × IsContext (first_of (codes "ctx") found.1) options.context.items
 Names (Some found) command.Asm = found.0 ≡ codes "asm"
 Names (Some found) command.Disasm = found.0 ≡ codes "disasm"
 

@@ -1,11 +1,19 @@
 -- What each command replies to the text that it read.
-use Rattle.std.specs.Prelude.{◌≡◌, ◌≤◌, ◌<◌, ◌⊎◌, ℕ, List, IsUtf8, length, string_bytes}
+use Rattle.std.specs.Prelude.{◌≡◌, ◌≢◌, ◌≤◌, ◌<◌, ◌⊎◌, ◌/◌, ℕ, List, [], Err, Ok, IsUtf8, length, string_bytes}
 use Rattle.bpf_insn.specs.declared.instruction.Insn.{Insn}
 use Rattle.bpf_insn.specs.Encoding.{IsEncodedAs}
 use Rattle.bpf_insn.specs.Refusal.{IsRefused, IsSized}
+use Rattle.bpf_loader.specs.Sound.{IsFirst, IsSound}
+use Rattle.bpf_loader.specs.declared.refusal.LoadError.TheVariants as load_error
+use Rattle.bpf_shared.specs.declared.events.Event.{Event}
+use Rattle.bpf_cpu.specs.State.{start}
+use Rattle.bpf_cpu.specs.Step.{Explains}
+use Rattle.bpf_insn.specs.declared.error.InsnError.TheVariants as insn_error
+use Rattle.bpf_text.specs.Assembly.{Assembles}
 use Rattle.bpf_text.specs.Form.{canonical}
 use Rattle.bpf_text.specs.HexText.{IsHexOf}
 use Rattle.bpf_text.specs.declared.error.TextError.TheVariants as text_error
+use Rattle.bpf_run.specs.Listing.{word_lines}
 use Rattle.bpf_run.specs.declared.command.Command.{Command}
 use Rattle.bpf_run.specs.declared.command.Command.TheVariants as command
 use Rattle.bpf_run.specs.declared.input.InputError.TheVariants as input_error
@@ -26,6 +34,31 @@ RefusesWords text (refusal.Text text_error.OutOfMemory) = Unit {0}
 RefusesWords text (refusal.Insn error) = (bytes : List ℕ) × IsHexOf text bytes × IsRefused error bytes
 RefusesWords text _ = ⊥
 
+-- `hex`: the first refusal that applies to the program, for no maps; else what explains how its run ends, on CPU 0
+abbrev pub RefusesProgram : List ℕ → Refusal → Type 0
+RefusesProgram text (refusal.Load error) = (is : List Insn) × IsWordsOf text is
+    × (error ≢ load_error.OutOfMemory → IsFirst 0 is error)
+RefusesProgram text r = RefusesWords text r
+
+abbrev pub IsRun : ℕ → List ℕ → List ℕ → Reply → Type 0
+IsRun budget context text (reply.Ended outcome) = (is : List Insn) × IsWordsOf text is × IsSound 0 is
+    × (events : List Event) × Explains ⊥ [] (record { instructions = is; maps = 0 }) budget (start 0 context) events outcome
+IsRun budget context text (reply.Refused refusal.OutOfMemory) = Unit {0}
+IsRun budget context text (reply.Refused r) = RefusesProgram text r
+IsRun budget context text (reply.Text printed) = ⊥
+
+-- `asm`: the words of the instructions that the text stands for, a line of 16 hex digits each
+abbrev pub RefusesAssembly : List ℕ → Refusal → Type 0
+RefusesAssembly text (refusal.Text error) = (error ≡ text_error.OutOfMemory) ⊎ Assembles text (Err error)
+RefusesAssembly text (refusal.Insn error) = error ≡ insn_error.OutOfMemory
+RefusesAssembly text _ = ⊥
+
+abbrev pub IsAssembled : List ℕ → Reply → Type 0
+IsAssembled text (reply.Text printed) = (is : List Insn) × (bytes : List ℕ) × Assembles text (Ok is) × IsEncodedAs is bytes
+    × (string_bytes printed ≡ word_lines (length bytes / 8) bytes)
+IsAssembled text (reply.Refused r) = RefusesAssembly text r
+IsAssembled text (reply.Ended outcome) = ⊥
+
 -- `disasm`: the canonical text of the instructions
 abbrev pub IsDisassembled : List ℕ → Reply → Type 0
 IsDisassembled text (reply.Text printed) = (is : List Insn) × IsWordsOf text is × (string_bytes printed ≡ canonical is)
@@ -34,8 +67,8 @@ IsDisassembled text (reply.Ended outcome) = ⊥
 
 -- what a command replies to the text
 abbrev pub IsAnswer : Command → List ℕ → Reply → Type 0
-IsAnswer (command.Hex budget context) text r = Unit {0}
-IsAnswer command.Asm text r = Unit {0}
+IsAnswer (command.Hex options) text r = IsRun options.budget options.context.items text r
+IsAnswer command.Asm text r = IsAssembled text r
 IsAnswer command.Disasm text r = IsDisassembled text r
 
 -- ---- input

@@ -1,4 +1,5 @@
 pub mod Answer
 pub mod CommandLine
 pub mod Commands
+pub mod Listing
 pub mod Codes

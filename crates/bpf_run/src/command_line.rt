@@ -6,7 +6,7 @@ ghost use Rattle.clap.specs.Words.{app_of, fault_of, first_of, first_value, foun
 ghost use Rattle.clap.specs.declared.builder.command.Command.TheViews.{out-Command as fields_of};
 ghost use Rattle.bpf_run.specs.CommandLine.{asm, bare, budget, context, disasm, ebpf, hex, IsBudget, IsCommandName, IsContext, Names, Refuses, RefusesContext};
 
-use crate::command::Command;
+use crate::command::{Command, RunOptions};
 use clap::error::ErrorKind;
 use clap::{Arg, ArgMatches, value_parser};
 use hex::FromHexError;
@@ -17,6 +17,19 @@ pub const MAX_BUDGET: u64 = 1_000_000_000;
 
 /// The greatest number of bytes of a context.
 pub const MAX_CONTEXT: usize = 4096;
+
+const OUTCOMES: &str = "\
+Prints r0=N, fault Fk at PC or out of budget at PC, where a PC counts words of 8 bytes from 0.
+R1 holds the address of the context. Blanks and line ends between digits are passed over.";
+
+const EXIT_STATUS: &str = "\
+All input is standard input, read whole first, and all answers go to standard output.
+
+Exit status:
+  0  the answer is printed
+  1  the input is refused, and the refusal printed, or the output failed
+  2  the command line is at fault
+  3  the program ended in a fault or out of budget";
 
 /// Why words name no command that can be done.
 #[derive(Debug, Drop)]
@@ -54,7 +67,8 @@ fn hex_command<'a>(alloc: Global) -> Result<clap::Command<'a>, AllocError>
     ensures own { IfOk result (λ c. (fields_of c).has_globals ≡ false) }
 {
     clap::Command::new(alloc, "hex")
-        .about("Runs a program given as hex digits, and prints r0")
+        .about("Runs a program given as hex digits, over no maps")
+        .after_help(OUTCOMES)
         .arg(budget_option(alloc))?
         .arg(context_option(alloc))
 }
@@ -64,7 +78,7 @@ fn asm_command<'a>(alloc: Global) -> clap::Command<'a>
     ensures own { (fields_of result).has_globals ≡ false }
 {
     clap::Command::new(alloc, "asm").about(
-        "Turns assembly text into words, one line of 16 hex digits each",
+        "Turns assembly text into words, one line of 16 hex digits a word",
     )
 }
 
@@ -81,7 +95,8 @@ fn bare_command<'a>(alloc: Global) -> clap::Command<'a>
 {
     clap::Command::new(alloc, "ebpf")
         .version("0.1.0")
-        .about("Runs BPF programs (RFC 9669). All input is standard input")
+        .about("Runs BPF programs (RFC 9669), and turns them into text and back")
+        .after_help(EXIT_STATUS)
         .subcommand_required(true)
         .disable_help_subcommand(true)
 }
@@ -147,7 +162,7 @@ fn hex_of(alloc: Global, options: &ArgMatches) -> Result<Command, CommandError>
 {
     let context = context_of(alloc, options)?;
     let budget = budget_of(options);
-    Ok(Command::Hex { budget, context })
+    Ok(Command::Hex(RunOptions { budget, context }))
 }
 
 fn named(alloc: Global, name: &str, options: &ArgMatches) -> Result<Command, CommandError>

@@ -4,7 +4,7 @@
 pub mod command;
 pub mod command_line;
 pub mod input;
-pub mod outcome;
+pub mod listing;
 pub mod output;
 pub mod perform;
 pub mod pipeline;

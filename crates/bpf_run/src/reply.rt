@@ -1,7 +1,7 @@
 //! What the program answers: the text that it prints, and its exit status.
 
-use crate::outcome::{Fault, Outcome};
 use crate::refusal::Refusal;
+use bpf_cpu::{Fault, Outcome};
 use std::fmt;
 
 /// How the program ends.

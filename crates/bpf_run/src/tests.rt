@@ -1,4 +1,7 @@
-use crate::command::Command;
+ghost use Rattle.std.specs.Prelude.{◌≤◌};
+
+use crate::command::{Command, RunOptions};
+use crate::command_line::{CommandError, command_of};
 use crate::input::MAX_INPUT;
 use crate::perform::perform;
 use crate::reply::Status;
@@ -82,6 +85,18 @@ fn taking(rt: &impl AllocGlobal, most: usize, room: usize) -> Sink {
     }
 }
 
+/// Runs `hex` over the words, and says whether it prints this, with this status.
+fn runs(rt: &HostRuntime, budget: u64, printed: &str, wanted: Status) -> bool
+    requires { budget ≤ 1000000000 }
+{
+    let context = Vec::new(rt.alloc());
+    let mut reader = giving(WORDS, 1000, false);
+    let mut writer = taking(rt, 1000, 1000);
+    let command = Command::Hex(RunOptions { budget, context });
+    let status = perform(rt.alloc(), command, &mut reader, &mut writer);
+    status == wanted && writer.taken.as_slice() == printed.as_bytes()
+}
+
 const WORDS: &[u8] = b"b700000005000000 9500000000000000\n";
 
 #[test]
@@ -91,7 +106,10 @@ fn reads_in_any_pieces(rt: HostRuntime) {
         let mut writer = taking(&rt, most, 1000);
         let status = perform(rt.alloc(), Command::Disasm, &mut reader, &mut writer);
         assert_eq!(rt; status, Status::Done, "{most} bytes a read");
-        assert!(rt; writer.taken.as_slice() == b"r0 = 5\nexit\n".as_slice(), "{most} bytes a read");
+        assert!(rt;
+            writer.taken.as_slice() == b"r0 = 5\nexit\n".as_slice(),
+            "{most} bytes a read"
+        );
     }
 }
 
@@ -102,20 +120,33 @@ fn refuses_what_is_not_read(rt: HostRuntime) {
         let mut writer = taking(&rt, 1000, 1000);
         let status = perform(rt.alloc(), Command::Disasm, &mut reader, &mut writer);
         assert_eq!(rt; status, Status::Refused, "after {length} bytes");
-        assert!(rt; writer.taken.as_slice() == b"refused L7\n".as_slice(), "after {length} bytes");
-        assert_eq!(rt; reader.reads, length + 1, "a failed read is not tried again");
+        assert!(rt;
+            writer.taken.as_slice() == b"refused L7\n".as_slice(),
+            "after {length} bytes"
+        );
+        assert_eq!(rt;
+            reader.reads,
+            length + 1,
+            "a failed read is not tried again"
+        );
     }
 }
 
 #[test]
 fn refuses_too_much(rt: HostRuntime) {
-    for (zeros, printed) in [(MAX_INPUT, "refused H1\n"), (MAX_INPUT + 1, "refused L10\n")] {
+    for (zeros, printed) in [
+        (MAX_INPUT, "refused H1\n"),
+        (MAX_INPUT + 1, "refused L10\n"),
+    ] {
         let mut reader = giving(b"", 1_000_000, false);
         reader.zeros = zeros;
         let mut writer = taking(&rt, 1000, 1000);
         let status = perform(rt.alloc(), Command::Disasm, &mut reader, &mut writer);
         assert_eq!(rt; status, Status::Refused);
-        assert!(rt; writer.taken.as_slice() == printed.as_bytes(), "{zeros} bytes");
+        assert!(rt;
+            writer.taken.as_slice() == printed.as_bytes(),
+            "{zeros} bytes"
+        );
     }
 }
 
@@ -138,7 +169,37 @@ fn tells_failed_output(rt: HostRuntime) {
             let status = perform(rt.alloc(), Command::Disasm, &mut reader, &mut writer);
             assert_eq!(rt; status, Status::Failed, "room for {room}");
             assert_eq!(rt; status.code(), 1);
-            assert!(rt; writer.taken.as_slice() == &printed[..room], "room for {room}");
+            assert!(rt;
+                writer.taken.as_slice() == &printed[..room],
+                "room for {room}"
+            );
         }
     }
+}
+
+#[test]
+fn runs_within_the_budget(rt: HostRuntime) {
+    assert!(rt; runs(&rt, 0, "out of budget at 0\n", Status::Stopped));
+    assert!(rt; runs(&rt, 1, "out of budget at 1\n", Status::Stopped));
+    assert!(rt; runs(&rt, 2, "r0=5\n", Status::Done));
+}
+
+#[test]
+fn names_commands(rt: HostRuntime) {
+    let named = command_of(rt.alloc(), &["ebpf", "asm"]);
+    assert!(rt; matches!(named, Ok(Command::Asm)));
+    let named = command_of(rt.alloc(), &["ebpf", "disasm"]);
+    assert!(rt; matches!(named, Ok(Command::Disasm)));
+    let named = command_of(rt.alloc(), &["ebpf", "hex"]);
+    assert!(rt;
+        matches!(&named, Ok(Command::Hex(options)) if options.budget == 1_000_000 && options.context.is_empty())
+    );
+    let named = command_of(rt.alloc(), &["ebpf", "hex", "--budget=2", "--ctx", "2A2b"]);
+    assert!(rt;
+        matches!(&named, Ok(Command::Hex(options)) if options.budget == 2 && options.context.as_slice() == b"*+".as_slice())
+    );
+    let named = command_of(rt.alloc(), &["ebpf", "hex", "--ctx", "2 2a"]);
+    assert!(rt; matches!(named, Err(CommandError::NotHex)));
+    let named = command_of(rt.alloc(), &["ebpf", "hex", "--budget", "1000000001"]);
+    assert!(rt; matches!(named, Err(CommandError::Shown(_))));
 }

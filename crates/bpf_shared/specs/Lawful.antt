@@ -1,5 +1,5 @@
 -- Proofs of the laws.
-use Rattle.std.proofs.Common.{◌≡◌, ◌≢◌, ℕ, zero, suc, ◌+◌, ◌-◌, ◌<◌, ◌≤◌, Bool, true, false, cond, List, [], ◌∷◌, ◌++◌, length, take, drop, length-append, append_assoc, get_or, slice_index, Option, Some, None, ◌⊎◌, inl, inr, if◌then◌else◌, refl, sym, ap, subst, ◌∙◌, arith}
+use Rattle.std.proofs.Common.{◌≡◌, ◌≢◌, ℕ, ◌+◌, ◌-◌, ◌<◌, ◌≤◌, Bool, true, cond, List, [], ◌∷◌, ◌++◌, length, take, drop, length-append, append_assoc, get_or, slice_index, Option, Some, None, ◌⊎◌, inl, inr, refl, sym, ap, subst, ◌∙◌, arith}
 use Rattle.std.proofs.lemmas.Bool.{cases_order}
 use Rattle.std.proofs.lemmas.Cmp.{nat_list_cmp_total}
 use Rattle.std.proofs.Math.ListN.{get_or-append}
@@ -14,18 +14,16 @@ use Rattle.bpf_shared.specs.declared.events.AtomicOp.{AtomicOp}
 use Rattle.bpf_shared.specs.declared.events.Size.{Size}
 use Rattle.bpf_shared.specs.declared.events.Size.TheVariants.{Byte, Half, Word, Double}
 use Rattle.bpf_shared.specs.declared.events.Event.{Event}
-use Rattle.bpf_shared.specs.declared.events.Entry.{Entry}
 use Rattle.bpf_shared.specs.declared.events.Event.TheVariants.{Begin, End, Lookup, Update, Delete, Load, Store, Atomic}
 use Rattle.bpf_shared.specs.declared.events.MapAnswer.{MapAnswer}
 use Rattle.bpf_shared.specs.declared.events.MapAnswer.TheVariants.{Done, Invalid, Busy, Exists, Absent, Full, NoMemory}
 use Rattle.bpf_shared.specs.declared.shapes.MapShape.{MapShape}
 use Rattle.bpf_shared.specs.First.{first_of}
-use Rattle.bpf_shared.specs.Shape.{Shape, IsMap, Covers, elements, element_span}
+use Rattle.bpf_shared.specs.Shape.{IsMap, element_span}
 use Rattle.bpf_shared.specs.Bytes.{bytes_in, number_of, low_bytes, part, with_part, after_atomic}
-use Rattle.bpf_shared.specs.Store.{Keys, Value, Plain, put, Leads, IsLive}
-use Rattle.bpf_shared.specs.Events.{looked_up, has_key, refusals, kept_after, updated, Updates, deleted, Deletes, Reaches, written, number_at, Allowed}
-use Rattle.bpf_shared.specs.Choice.{IsTaken, IsShort, IsLowestFree, Chosen, PlainlyAllowed}
-use Rattle.bpf_shared.specs.History.{Legal}
+use Rattle.bpf_shared.specs.Store.{Keys, Value, Plain}
+use Rattle.bpf_shared.specs.Events.{looked_up, refusals, updated, Updates, Deletes, Reaches, written, number_at, Allowed}
+use Rattle.bpf_shared.specs.Choice.{IsShort, IsLowestFree, Chosen, PlainlyAllowed}
 use Rattle.bpf_shared.specs.Sound.{IsSound}
 use Rattle.bpf_shared.specs.Soundness.{as_made_sound, legal_sound, span-written, length-low_bytes}
 use Rattle.bpf_shared.specs.Puts.{equal_or_not, put-same, put-other}

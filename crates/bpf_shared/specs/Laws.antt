@@ -1,12 +1,11 @@
 -- What follows from the definitions, of every legal history.
-use Rattle.std.specs.Prelude.{◌≡◌, ◌≢◌, ℕ, ◌+◌, ◌-◌, ◌*◌, ◌%◌, ◌^◌, ◌<◌, ◌≤◌, Bool, true, false, List, None, ◌⊎◌, slice_index}
-use Rattle.std.specs.FinMap.{get}
+use Rattle.std.specs.Prelude.{◌≡◌, ◌≢◌, ℕ, ◌+◌, ◌-◌, ◌<◌, ◌≤◌, List, None, ◌⊎◌, slice_index}
 use Rattle.bpf_shared.specs.declared.events.Event.{Event}
 use Rattle.bpf_shared.specs.declared.events.Entry.{Entry}
 use Rattle.bpf_shared.specs.declared.events.Event.TheVariants.{Begin, End, Lookup, Update, Delete, Load, Store, Atomic}
 use Rattle.bpf_shared.specs.declared.events.MapAnswer.{MapAnswer}
 use Rattle.bpf_shared.specs.declared.events.MapAnswer.TheVariants.{Done}
-use Rattle.bpf_shared.specs.Shape.{Shape, Holds, Covers}
+use Rattle.bpf_shared.specs.Shape.{Shape, IsIn}
 use Rattle.bpf_shared.specs.Bytes.{number_of, low_bytes}
 use Rattle.bpf_shared.specs.Store.{Plain, as_made, Leads}
 use Rattle.bpf_shared.specs.Events.{Allowed, Reaches, written, number_at}
@@ -51,7 +50,7 @@ byte_at s v a = slice_index (s.value v).bytes (a - (s.value v).span.at)
 abbrev pub WritesTouchNamedBytes : Type 0
 WritesTouchNamedBytes = (s : Plain) (c v a n x : ℕ) → IsSound s → Reaches s c v a n →
     ((w : ℕ) → w ≢ v → (written s v a n x).value w ≡ s.value w)
-    × ((b : ℕ) → Holds (s.value v).span b → (b < a) ⊎ (a + n ≤ b) → byte_at (written s v a n x) v b ≡ byte_at s v b)
+    × ((b : ℕ) → IsIn b (s.value v).span → (b < a) ⊎ (a + n ≤ b) → byte_at (written s v a n x) v b ≡ byte_at s v b)
     × (number_at (written s v a n x) v a n ≡ number_of (low_bytes n x))
 
 -- the call that an event answers: the event with a reply that says nothing

@@ -13,6 +13,7 @@ use Rattle.bpf_shared.specs.Runs.{no_runs}
 use Rattle.bpf_shared.specs.Rows.{Rows, no_rows, shape_of, Cell, cell, IsLinked, noted_row, forgotten_rows}
 use Rattle.bpf_shared.specs.Sound.{IsSound}
 
+-- what a `PlainStore` is to its callers
 pub record Seen : Type 0 where
   -- by CPU
   pub runs : List Runs

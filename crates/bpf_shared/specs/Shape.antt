@@ -45,19 +45,19 @@ element_span m h i = record { at = 0x10_0000_0000 + 0x1000_0000 * m + i * stride
 abbrev pub IsElementSpan : List MapShape → ℕ → Span → Type 0
 IsElementSpan maps m p = (h : MapShape) × (i : ℕ) × IsMap maps m h × (i < elements h) × (p ≡ element_span m h i)
 
--- no value lies below these addresses, or above them
+-- the span lies among the addresses of values, and is as long as a value may be
 pub record IsValueSpan (p : Span) : Type 0 where
   pub from : 0x10_0000_0000 ≤ p.at
   pub to : p.at + p.size ≤ 0x11_0000_0000
   pub size : (1 ≤ p.size) × (p.size ≤ 256)
 
 -- the address is in the span
-abbrev pub Holds : Span → ℕ → Type 0
-Holds p a = (p.at ≤ a) × (a < p.at + p.size)
+abbrev pub IsIn : ℕ → Span → Type 0
+IsIn a p = (p.at ≤ a) × (a < p.at + p.size)
 
 -- no address is in both
 abbrev pub IsApart : Span → Span → Type 0
-IsApart p q = (a : ℕ) → Holds p a → Holds q a → ⊥
+IsApart p q = (a : ℕ) → IsIn a p → IsIn a q → ⊥
 
 -- the n bytes from the address a on are in the span
 abbrev pub Covers : Span → ℕ → ℕ → Type 0

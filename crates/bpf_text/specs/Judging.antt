@@ -1,6 +1,6 @@
 -- What the reader's functions answer, by what is read. Private functions cite this.
-use Rattle.std.specs.Prelude.{◌≡◌, ℕ, Option, Some, None, Result, Ok, Err, IsSomeAnd, ℤ, pos, neg_ℤ, Bool, true, false, FitsSigned, map, List}
-use Rattle.std.specs.Int.{w16, w32}
+use Rattle.std.specs.Prelude.{◌≡◌, ℕ, Option, Some, None, Result, Ok, Err, IsSomeAnd, ℤ, pos, neg_ℤ, Bool, true, false, FitsSigned}
+use Rattle.std.specs.Int.{w32}
 use Rattle.std.specs.Option.{option_copied}
 use Rattle.bpf_insn.specs.Encoding.{Fits}
 use Rattle.bpf_insn.specs.declared.instruction.Operand.{Operand}
@@ -47,6 +47,6 @@ drafted d = record { insn = d.insn; name = option_copied d.target }
 
 -- the line is read as the draft; has no form; has one, with a number that doesn't fit
 abbrev pub Judged : Result DraftValue LineError → Option Written → Type 0
-Judged (Ok d) read = read ≡ Some (drafted d)
+Judged (Ok d) read = (read ≡ Some (drafted d)) × Fits d.insn
 Judged (Err BadLine) read = read ≡ None
 Judged (Err BadNumber) read = IsSomeAnd read (λ i. Fits i.insn → ⊥)

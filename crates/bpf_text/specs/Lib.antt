@@ -9,3 +9,7 @@ pub mod Form
 pub mod Line
 pub mod Reading
 pub mod Judging
+pub mod Labels
+pub mod Assembly
+pub mod Sources
+pub mod Cutting

@@ -3,7 +3,7 @@ use Rattle.std.specs.Prelude.{◌≡◌, ℕ, List, [], ◌∷◌, Option, Some,
 use Rattle.bpf_insn.specs.declared.instruction.Insn.{Insn}
 use Rattle.bpf_text.specs.declared.signs.Sign.TheVariants.{Plus, Minus}
 use Rattle.bpf_text.specs.Names.{register_text, keyword_text}
-use Rattle.bpf_text.specs.Token.{Tok, Register, Word, Name, Number, Mark, Junk}
+use Rattle.bpf_text.specs.Token.{Tok, Register, Word, Name, Number, Mark}
 use Rattle.bpf_text.specs.Form.{Item, Is, Blank, Signed, Natural, Hex, Offset, Target, Never, form_of}
 
 -- the name that a word is: any word that doesn't begin with a digit

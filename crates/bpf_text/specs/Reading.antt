@@ -1,6 +1,6 @@
 -- How one line's tokens are read, in the order of the reader. Private functions cite this; that it gives what the forms
 -- say, and all of it, is proved in proofs/Reads.
-use Rattle.std.specs.Prelude.{◌≡◌, ℕ, Bool, true, false, ◌==◌, ◌&&◌, if◌then◌else◌, List, [], ◌∷◌, Option, Some, None, option_and_then, ℤ, pos, neg_ℤ}
+use Rattle.std.specs.Prelude.{ℕ, Bool, true, false, ◌==◌, ◌&&◌, if◌then◌else◌, List, [], ◌∷◌, Option, Some, None, option_and_then, ℤ, pos, neg_ℤ}
 use Rattle.bpf_insn.specs.Register.{number_of}
 use Rattle.bpf_insn.specs.declared.register.Reg.{Reg}
 use Rattle.bpf_insn.specs.declared.register.Reg.TheVariants.{R0}
@@ -27,7 +27,7 @@ use Rattle.bpf_text.specs.declared.keywords.Keyword.{Keyword}
 use Rattle.bpf_text.specs.declared.keywords.Keyword.TheVariants as key
 use Rattle.bpf_text.specs.declared.signs.Sign.{Sign}
 use Rattle.bpf_text.specs.declared.signs.Sign.TheVariants as sign
-use Rattle.bpf_text.specs.Token.{Tok, Register, Word, Name, Number, Mark, Junk}
+use Rattle.bpf_text.specs.Token.{Tok, Register, Word, Number, Mark}
 use Rattle.bpf_text.specs.Line.{Written, name_of}
 
 infixl 10 ◌>>=◌

@@ -1,16 +1,20 @@
 //! Programs as text that people read and write: assembly text, and bytes as hex digits.
 #![tactic(auto)]
 
+pub mod assembly;
 pub mod disassembly;
 pub mod error;
 pub mod hex_text;
 mod keywords;
+mod labels;
 mod pieces;
 mod reading;
 mod signs;
+mod source;
 mod token;
 mod words;
 
+pub use assembly::assemble;
 pub use disassembly::disassemble;
 pub use error::TextError;
 pub use hex_text::{from_hex, to_hex};

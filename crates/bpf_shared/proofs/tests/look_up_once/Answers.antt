@@ -1,4 +1,4 @@
-use Rattle.std.proofs.Common.{◌≡◌, ℕ, Bool, true, [], ◌∷◌, ap, ◌∙◌}
+use Rattle.std.proofs.Common.{[], ◌∷◌}
 use Rattle.bpf_shared.specs.declared.events.Event.TheVariants.{Begin, End, Lookup}
 use Rattle.bpf_shared.specs.Chain.{chain_one, chain_call}
 use Rattle.bpf_shared.proofs.tests.look_up_once.Goals as goal

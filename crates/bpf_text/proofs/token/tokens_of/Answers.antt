@@ -1,4 +1,4 @@
-use Rattle.std.proofs.Common.{arith, rules, map, ◌++◌, ◌∷◌, [], ◌≡◌, ap, sym, subst, List}
+use Rattle.std.proofs.Common.{rules, map, ◌++◌, ◌∷◌, [], ◌≡◌, ap, sym, subst, List}
 use Rattle.bpf_text.specs.Look.{look}
 use Rattle.bpf_text.specs.Token.{Tok}
 use Rattle.bpf_text.proofs.Scanning.{Reached, pushed, reached_start, reached_next, reached_end, ends_behind, ends_at, goes_on}

@@ -1,0 +1,31 @@
+//! Words as text, a line each.
+
+ghost use Rattle.std.specs.Prelude.{◌≡◌, ◌++◌, ◌∷◌, ◌/◌, [], IfOk, IsOkUnless, OnOk, length, string_bytes};
+ghost use Rattle.hex.specs.Hex.{encode_lower};
+ghost use Rattle.bpf_run.specs.Listing.{word_lines};
+
+use bpf_text::{TextError, to_hex};
+use std::alloc::Global;
+
+/// Puts a word's digits and a line end behind the text.
+fn push_word(alloc: Global, text: &mut String, word: &[u8]) -> Result<(), TextError>
+    ensures line { OnOk result (string_bytes text.new ≡ string_bytes text.old ++ (encode_lower word.now ++ 10 ∷ [])) }
+    ensures memory { IsOkUnless result TextError.OutOfMemory }
+{
+    let digits = to_hex(alloc, word)?;
+    text.push_str(digits.as_str())
+        .map_err(|_| TextError::OutOfMemory)?;
+    text.push('\n').map_err(|_| TextError::OutOfMemory)
+}
+
+/// The words that the bytes make, a line of 16 hex digits each. Fails by `OutOfMemory` alone.
+pub fn word_lines(alloc: Global, bytes: &[u8]) -> Result<String, TextError>
+    ensures lines { IfOk result (λ text. string_bytes text ≡ word_lines (length bytes.now / 8) bytes.now) }
+    ensures memory { IsOkUnless result TextError.OutOfMemory }
+{
+    let mut text = String::new(alloc);
+    for word in 0..bytes.len() / 8 {
+        push_word(alloc, &mut text, &bytes[8 * word..8 * word + 8])?;
+    }
+    Ok(text)
+}

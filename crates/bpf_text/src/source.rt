@@ -1,0 +1,70 @@
+//! Lines as they are written: a label, and an instruction whose target may be a label's name.
+
+ghost use Rattle.std.specs.Prelude.{◌≡◌, map, IfOk, IsOkUnless};
+ghost use Rattle.std.specs.Option.{option_copied};
+ghost use Rattle.bpf_text.specs.Look.{look};
+ghost use Rattle.bpf_text.specs.Assembly.{label_of, unlabelled, IsBody, IsLine};
+ghost use Rattle.bpf_text.specs.Sources.{body_of, source_of};
+
+use crate::error::TextError;
+use crate::pieces;
+use crate::reading::{self, LineError};
+use crate::signs::Sign;
+use crate::token::{self, Token};
+use bpf_insn::Insn;
+use std::alloc::Global;
+
+/// What a line has besides its label.
+#[derive(Clone, Copy)]
+pub enum Body<'a> {
+    Empty,
+    /// An instruction, and the label that its target names, if it does.
+    Code(Insn, Option<&'a [u8]>),
+    Refused(LineError),
+}
+
+/// A line as it is written.
+#[derive(Clone, Copy)]
+pub struct SourceLine<'a> {
+    pub label: Option<&'a [u8]>,
+    pub body: Body<'a>,
+}
+
+/// A line's label, and what follows it.
+#[tactic(auto, unfolding(crate::specs::Assembly::label_of, crate::specs::Assembly::unlabelled))]
+fn labelled<'t, 'a>(tokens: &'t [Token<'a>]) -> (Option<&'a [u8]>, &'t [Token<'a>])
+    ensures label { option_copied result.0 ≡ label_of (map look tokens.now) }
+    ensures rest { map look result.1.now ≡ unlabelled (map look tokens.now) }
+{
+    match tokens {
+        [token, Token::Mark(Sign::Colon), rest @ ..] => match pieces::name(token) {
+            Some(name) => (Some(name), rest),
+            None => (None, tokens),
+        },
+        _ => (None, tokens),
+    }
+}
+
+/// What stands behind a line's label.
+fn behind_label<'a>(tokens: &[Token<'a>]) -> Body<'a>
+    ensures { IsBody (body_of result) (map look tokens.now) }
+{
+    match tokens {
+        [] => Body::Empty,
+        _ => match reading::instruction(tokens) {
+            Ok(draft) => Body::Code(draft.insn, draft.target),
+            Err(error) => Body::Refused(error),
+        },
+    }
+}
+
+/// Reads one line. Fails by `OutOfMemory` alone.
+pub fn source_line<'a>(alloc: Global, line: &'a [u8]) -> Result<SourceLine<'a>, TextError>
+    ensures read { IfOk result (λ s. IsLine line.now (source_of s)) }
+    ensures memory { IsOkUnless result TextError.OutOfMemory }
+{
+    let tokens = token::tokens_of(alloc, line)?;
+    let (label, rest) = labelled(&tokens);
+    let body = behind_label(rest);
+    Ok(SourceLine { label, body })
+}
