@@ -1,4 +1,4 @@
-use Rattle.std.proofs.Common.{◌≡◌, ◌⊎◌, ℕ, List, Option, Ok, Err, map, sym, subst}
+use Rattle.std.proofs.Common.{◌≡◌, ◌⊎◌, ℕ, List, Ok, Err, map, subst}
 use Rattle.std.specs.Prelude.{MatchResult}
 use Rattle.bpf_text.specs.declared.error.TextError.TheVariants.{OutOfMemory}
 use Rattle.bpf_text.specs.declared.source.SourceLine.{SourceLine}
