@@ -11,3 +11,4 @@ pub mod LineCuts
 pub mod TextLemmas
 pub mod Shown
 pub mod ReadBack
+pub mod Unique

@@ -4,7 +4,9 @@ ghost use Rattle.std.specs.Prelude.{◌≡◌, ◌∷◌, ◌++◌, ◌*◌, ◌
 ghost use Rattle.bpf_insn.specs.Table.{words};
 ghost use Rattle.bpf_text.specs.Assembly.{reaches, distance_to, targeted, is_twice, is_other, at_target, unless_twice, meaning_of, words_of, lines_of, program_of, first_place, AreLines, Assembles};
 ghost use Rattle.bpf_text.specs.Labels.{found};
-ghost use Rattle.std.specs.Prelude.{MatchResult, option_to_list};
+ghost use Rattle.std.specs.Prelude.{MatchResult, Result, option_to_list};
+ghost use Rattle.bpf_insn.specs.declared.instruction.Insn.{Insn};
+ghost use Rattle.bpf_text.specs.declared.error.TextError.{TextError};
 ghost use Rattle.bpf_text.specs.Cutting.{in_line, lines_behind, rest_size};
 ghost use Rattle.bpf_text.specs.Sources.{source_of, body_of};
 ghost use Rattle.std.specs.Option.{option_copied};
@@ -237,6 +239,8 @@ fn program(
 pub fn assemble(alloc: Global, text: &str) -> Result<Vec<Insn>, TextError>
     ensures assembled { IfOk result (λ program. Assembles text.now (Ok program.items)) }
     ensures refused { IfErr result (λ e. (e ≡ TextError.OutOfMemory) ⊎ Assembles text.now (Err e)) }
+    ensures only { (outcome : Result (List Insn) TextError) → Assembles text.now outcome
+        → MatchResult result (λ program. outcome ≡ Ok program.items) (λ e. (e ≡ TextError.OutOfMemory) ⊎ (outcome ≡ Err e)) }
 {
     let (lines, labels) = sources(alloc, text.as_bytes())?;
     program(alloc, &lines, &labels)

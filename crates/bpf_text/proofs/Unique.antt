@@ -1,0 +1,88 @@
+-- A text stands for one thing alone.
+use Rattle.std.proofs.Common.{◌≡◌, ℕ, List, [], ◌∷◌, Option, Some, None, Result, Ok, Err, refl, sym, ap, subst, ◌∙◌}
+use Rattle.std.proofs.Common.{◌⊎◌, inl, inr}
+use Rattle.std.specs.Prelude.{MatchResult}
+use mathlib.Core.Path.{fun_ext}
+use Rattle.bpf_text.specs.declared.labels.Place.{Place}
+use Rattle.bpf_text.specs.declared.error.TextError.TheVariants.{OutOfMemory}
+use Rattle.bpf_insn.specs.declared.instruction.Insn.{Insn}
+use Rattle.bpf_insn.specs.Encoding.{Fits}
+use Rattle.bpf_text.specs.declared.error.TextError.{TextError}
+use Rattle.bpf_text.specs.declared.reading.LineError.{LineError}
+use Rattle.bpf_text.specs.declared.reading.LineError.TheVariants.{BadLine, BadNumber}
+use Rattle.bpf_text.specs.Token.{Tok}
+use Rattle.bpf_text.specs.Tokens.{after_blanks}
+use Rattle.bpf_text.specs.Line.{Written, IsSpelled}
+use Rattle.bpf_text.specs.Reading.{line_at}
+use Rattle.bpf_text.specs.Assembly.{Source, IsBody, IsLine, AreLines, Assembles, label_of, unlabelled, lines_of, first_place, program_of}
+use Rattle.bpf_text.proofs.Complete.{line_complete}
+use Rattle.bpf_text.proofs.Scanning.{same_tokens}
+
+one_insn : (ts : List Tok) (i j : Written) → IsSpelled i ts → IsSpelled j ts → i ≡ j
+one_insn ts i j s t = let both : Some i ≡ Some j = sym (line_complete i.insn i.name ts s) ∙ line_complete j.insn j.name ts t in cc
+
+nothing_read : line_at [] ≡ None
+unfolding line_at
+nothing_read = refl
+
+not_nothing : (ts : List Tok) (i : Written) → IsSpelled i ts → ts ≡ [] → ⊥
+not_nothing ts i s e = let both : Some i ≡ None = sym (line_complete i.insn i.name ts s) ∙ ap line_at e ∙ nothing_read in cc
+
+one_body : (ts : List Tok) (a b : Result (Option Written) LineError) → IsBody a ts → IsBody b ts → a ≡ b
+one_body ts (Ok None) (Ok None) x y = refl
+one_body ts (Ok None) (Ok (Some j)) x y = absurd (not_nothing ts j y.0 x)
+one_body ts (Ok None) (Err BadNumber) x y = absurd (not_nothing ts y.0 y.1 x)
+one_body ts (Ok None) (Err BadLine) x y = absurd (y.0 x)
+one_body ts (Ok (Some i)) (Ok None) x y = absurd (not_nothing ts i x.0 y)
+one_body ts (Ok (Some i)) (Ok (Some j)) x y = ap (λ k. Ok (Some k)) (one_insn ts i j x.0 y.0)
+one_body ts (Ok (Some i)) (Err BadNumber) x y = let P : Written → Type 0 = λ k. Fits k.insn in absurd (y.2 (subst P (one_insn ts i y.0 x.0 y.1) x.1))
+one_body ts (Ok (Some i)) (Err BadLine) x y = absurd (y.1 i x.0)
+one_body ts (Err BadNumber) (Ok None) x y = absurd (not_nothing ts x.0 x.1 y)
+one_body ts (Err BadNumber) (Ok (Some j)) x y = let P : Written → Type 0 = λ k. Fits k.insn in absurd (x.2 (subst P (one_insn ts j x.0 y.0 x.1) y.1))
+one_body ts (Err BadNumber) (Err BadNumber) x y = refl
+one_body ts (Err BadNumber) (Err BadLine) x y = absurd (y.1 x.0 x.1)
+one_body ts (Err BadLine) (Ok None) x y = absurd (x.0 y)
+one_body ts (Err BadLine) (Ok (Some j)) x y = absurd (x.1 j y.0)
+one_body ts (Err BadLine) (Err BadNumber) x y = absurd (x.1 y.0 y.1)
+one_body ts (Err BadLine) (Err BadLine) x y = refl
+
+source : Option (List ℕ) → Result (Option Written) LineError → Source
+source label body = record { label = label; body = body }
+
+one_line : (line : List ℕ) (a b : Source) → IsLine line a → IsLine line b → a ≡ b
+unfolding source
+one_line line a b x y =
+    let tokens : y.tokens ≡ x.tokens = same_tokens x.tokens y.tokens (after_blanks line) x.cut_up y.cut_up in
+    let labels : a.label ≡ b.label = x.labelled ∙ ap label_of (sym tokens) ∙ sym y.labelled in
+    let P : List Tok → Type 0 = λ ts. IsBody b.body (unlabelled ts) in
+    let bodies : a.body ≡ b.body = one_body (unlabelled x.tokens) a.body b.body x.body (subst P tokens y.body) in
+    let first : source a.label a.body ≡ source b.label a.body = ap (λ l. source l a.body) labels in
+    let second : source b.label a.body ≡ source b.label b.body = ap (source b.label) bodies in
+    first ∙ second
+
+one_list : (ls : List (List ℕ)) (a b : List Source) → AreLines ls a → AreLines ls b → a ≡ b
+one_list [] [] [] x y = refl
+one_list [] [] (t ∷ ts) x y = absurd y
+one_list [] (s ∷ ss) b x y = absurd x
+one_list (l ∷ ls) [] b x y = absurd x
+one_list (l ∷ ls) (s ∷ ss) [] x y = absurd y
+one_list (l ∷ ls) (s ∷ ss) (t ∷ ts) x y = ap (λ z. z ∷ ss) (one_line l s t x.0 y.0) ∙ ap (λ z. t ∷ z) (one_list ls ss ts x.1 y.1)
+
+pub one_outcome : (text : List ℕ) (r q : Result (List Insn) TextError) → Assembles text r → Assembles text q → q ≡ r
+one_outcome text r q x y =
+    let same : y.sources ≡ x.sources = one_list (lines_of text) y.sources x.sources y.lines x.lines in
+    y.meant ∙ ap (λ ss. program_of (first_place ss 0 0) 0 0 ss) same ∙ sym x.meant
+
+-- what a call answers, by what it knows of the lines and the labels
+pub found_outcome : {V : Type 0} (items : V → List Insn) (text : List ℕ) (sources : List Source) (labels : List ℕ → Option Place) (result : Result V TextError) → AreLines (lines_of text) sources → ((q : List ℕ) → labels q ≡ first_place sources 0 0 q)
+    → MatchResult result (λ v. program_of labels 0 0 sources ≡ Ok (items v)) (λ e. (e ≡ OutOfMemory) ⊎ (program_of labels 0 0 sources ≡ Err e))
+    → (outcome : Result (List Insn) TextError) → Assembles text outcome → MatchResult result (λ v. outcome ≡ Ok (items v)) (λ e. (e ≡ OutOfMemory) ⊎ (outcome ≡ Err e))
+found_outcome {V} items text sources labels result lines same answer outcome h = by_result result answer
+  where
+    known : outcome ≡ program_of labels 0 0 sources
+    known = one_outcome text (program_of (first_place sources 0 0) 0 0 sources) outcome (record { sources = sources; lines = lines; meant = refl }) h ∙ ap (λ f. program_of f 0 0 sources) (sym (fun_ext same))
+
+    by_result : (r : Result V TextError) → MatchResult r (λ v. program_of labels 0 0 sources ≡ Ok (items v)) (λ e. (e ≡ OutOfMemory) ⊎ (program_of labels 0 0 sources ≡ Err e)) → MatchResult r (λ v. outcome ≡ Ok (items v)) (λ e. (e ≡ OutOfMemory) ⊎ (outcome ≡ Err e))
+    by_result (Ok v) e = known ∙ e
+    by_result (Err e) (inl memory) = inl memory
+    by_result (Err e) (inr refused) = inr (known ∙ refused)
