@@ -9,6 +9,6 @@ context_base = 0x200000000
 abbrev pub frame_base : ℕ → ℕ
 frame_base d = 0x300000000 + 0x1000 * d
 
--- the end of the newest of some frames, which R10 holds (RFC 9669, section 2)
+-- the end of the newest of some frames, which R10 holds (the calling convention of Linux)
 abbrev pub top_of : ℕ → ℕ
 top_of frames = frame_base (frames - 1) + 512

@@ -16,7 +16,7 @@ pub const MAX_FRAMES: usize = 8;
 /// How many bytes a frame has, as in Linux.
 pub const FRAME_BYTES: usize = 512;
 
-/// What a local call keeps for its caller: where it goes on, and R6 to R9 (RFC 9669, section 2).
+/// What a local call keeps for its caller: where it goes on, and R6 to R9 (the calling convention of Linux).
 #[derive(Clone, Copy, PartialEq, Eq, Debug)]
 pub struct Caller {
     pub return_pc: u32,
