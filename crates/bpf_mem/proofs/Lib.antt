@@ -1,4 +1,5 @@
 pub mod AreaLemmas
+pub mod Determined
 pub mod EditLemmas
 pub mod ReachLemmas
 pub mod WriteLemmas

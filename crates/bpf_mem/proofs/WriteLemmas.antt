@@ -1,7 +1,7 @@
 -- A write to the context or to a frame, seen by addresses.
-use Rattle.std.proofs.Common.{◌≡◌, ◌≢◌, ℕ, ◌+◌, ◌-◌, ◌/◌, ◌%◌, ◌<◌, ◌≤◌, List, [], length, take, drop, get_or, refl, sym, ap, ◌∙◌, arith, ◌⊎◌, inl, inr}
+use Rattle.std.proofs.Common.{◌≡◌, ◌≢◌, ℕ, zero, suc, ◌+◌, ◌-◌, ◌/◌, ◌%◌, ◌<◌, ◌≤◌, List, [], ◌∷◌, length, take, drop, get_or, refl, sym, ap, ◌∙◌, arith, ◌⊎◌, inl, inr}
 use Rattle.std.proofs.Math.ListN.{set}
-use Rattle.std.specs.Prelude.{Some, option_and_then, slice_get}
+use Rattle.std.specs.Prelude.{Some, map, option_and_then, slice_get}
 use Rattle.std.proofs.lemmas.Option.{slice_get-get_or}
 use Rattle.std.proofs.lemmas.List.{get_or-set_same}
 use Rattle.std.proofs.lemmas.List.Elements.{All-set}
@@ -45,7 +45,8 @@ Writes-context old new o bytes small h context frames callers =
     record {
       written = context-bytes new (context_base + o) o n refl (omega arith) sized ∙ ap (λ list. Some (take n (drop o list))) context ∙ ap Some (take-with_bytes old.context o bytes h);
       others = λ a outside. same_byte old new a (same_frames old new a frames) (context-others old new o bytes h context a outside);
-      depth = ap length frames;
+      frames = ap (λ fs. map length fs) frames;
+      context = ap length context ∙ length-with_bytes old.context o bytes h;
       callers = callers;
     }
 
@@ -79,6 +80,12 @@ frame-others old new d o bytes sized sized' live h frames a outside = by_le (fra
         ∙ kept old.frames.live d k i (with_bytes frame o bytes) live same
         ∙ sym (frame_byte-at old a k i sized (omega arith) (omega arith))
 
+-- the lengths of frames of which one is another of the same length
+lengths : (frames : List (List ℕ)) (d : ℕ) (frame : List ℕ) → length frame ≡ length (get_or frames d []) → map length (set frames d frame) ≡ map length frames
+lengths [] d frame e = refl
+lengths (f ∷ fs) zero frame e = ap (λ n. n ∷ map length fs) e
+lengths (f ∷ fs) (suc d) frame e = ap (λ ns. length f ∷ ns) (lengths fs d frame e)
+
 pub Writes-frame : (old new : PrivateMemory) (d o : ℕ) (bytes : List ℕ) → Sized old.frames.live → d < length old.frames.live → o + length bytes ≤ 512 → new.context ≡ old.context → new.frames.live ≡ set old.frames.live d (with_bytes (get_or old.frames.live d []) o bytes) → new.frames.callers ≡ old.frames.callers → Writes old (frame_base d + o) bytes new
 Writes-frame old new d o bytes sized live h context frames callers =
     let n = length bytes in
@@ -92,6 +99,7 @@ Writes-frame old new d o bytes sized live h context frames callers =
     record {
       written = frame-bytes new (frame_base d + o) d o n sized' refl (omega arith) h ∙ ap (λ list. Some (take n (drop o list))) written ∙ ap Some (take-with_bytes frame o bytes room);
       others = λ a outside. same_byte old new a (frame-others old new d o bytes sized sized' live h frames a outside) (same_context old new a context);
-      depth = count;
+      frames = ap (λ fs. map length fs) frames ∙ lengths old.frames.live d (with_bytes frame o bytes) (length-with_bytes frame o bytes room);
+      context = ap length context;
       callers = callers;
     }

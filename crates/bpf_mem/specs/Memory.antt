@@ -1,5 +1,5 @@
 -- The memory that a program reaches on its own, by addresses: its context and its live frames.
-use Rattle.std.specs.Prelude.{◌≡◌, ℕ, zero, suc, ◌+◌, ◌-◌, ◌<◌, ◌≤◌, ◌⊎◌, nat_lt, if◌then◌else◌, Option, Some, None, option_map, option_and_then, List, [], ◌∷◌, ◌++◌, length, slice_get}
+use Rattle.std.specs.Prelude.{◌≡◌, ℕ, zero, suc, ◌+◌, ◌-◌, ◌<◌, ◌≤◌, ◌⊎◌, nat_lt, if◌then◌else◌, Option, Some, None, option_map, option_and_then, List, [], ◌∷◌, ◌++◌, length, map, slice_get}
 use Rattle.std.specs.Option.{option_or}
 use Rattle.bpf_mem.specs.declared.memory.PrivateMemory.{PrivateMemory}
 use Rattle.bpf_mem.specs.Addresses.{context_base, frame_base}
@@ -46,5 +46,6 @@ number_at m address n = option_map number_of (bytes_at m address n)
 pub record Writes (old : PrivateMemory) (address : ℕ) (bytes : List ℕ) (new : PrivateMemory) : Type 0 where
   pub written : bytes_at new address (length bytes) ≡ Some bytes
   pub others : (other : ℕ) → (other < address) ⊎ (address + length bytes ≤ other) → byte_at new other ≡ byte_at old other
-  pub depth : length new.frames.live ≡ length old.frames.live
+  pub frames : map length new.frames.live ≡ map length old.frames.live
+  pub context : length new.context ≡ length old.context
   pub callers : new.frames.callers ≡ old.frames.callers

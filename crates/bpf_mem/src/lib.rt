@@ -6,6 +6,7 @@ mod atomic;
 pub mod bytes;
 pub mod context;
 pub mod frames;
+pub mod laws;
 pub mod memory;
 pub mod place;
 
