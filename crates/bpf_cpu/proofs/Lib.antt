@@ -10,3 +10,5 @@ pub mod ProceedLaws
 pub mod TurnLaws
 pub mod KeyLaws
 pub mod MadeLaws
+pub mod DeterminedRows
+pub mod DeterminedRuns

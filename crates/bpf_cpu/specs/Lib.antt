@@ -7,3 +7,4 @@ pub mod Schedule
 pub mod Machine
 pub mod Lanes
 pub mod Work
+pub mod Laws

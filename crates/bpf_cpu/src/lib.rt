@@ -7,6 +7,7 @@ mod execute;
 mod held;
 pub mod job;
 mod lane;
+pub mod laws;
 mod local_call;
 pub mod machine;
 pub mod outcome;

@@ -1,0 +1,209 @@
+-- Steps that begin alike, and whose store replies alike, go on alike.
+use Rattle.std.proofs.Common.{◌≡◌, ℕ, zero, suc, ◌≤◌, List, [], ◌∷◌, ◌++◌, length, inl, inr, refl, sym, ap, subst, ◌∙◌, arith, append-nil}
+use Rattle.std.specs.Prelude.{map, None, Some}
+use Rattle.std.proofs.lemmas.List.Elements.{All-nil, All-push}
+use Rattle.std.proofs.lemmas.List.{length-map, map-append}
+use Rattle.bpf_insn.specs.declared.instruction.Insn.{Insn}
+use Rattle.bpf_shared.specs.Laws.{asked, RepliesAreDetermined}
+use Rattle.bpf_shared.specs.declared.events.Event.{Event}
+use Rattle.bpf_shared.specs.declared.events.Event.TheVariants.{Begin, End}
+use Rattle.bpf_shared.specs.declared.events.Entry.{Entry}
+use Rattle.bpf_shared.specs.declared.shapes.MapShape.{MapShape}
+use Rattle.bpf_shared.specs.Store.{Plain}
+use Rattle.bpf_shared.specs.Sound.{IsSound}
+use Rattle.bpf_shared.specs.Soundness.{allowed_sound, plainly_sound}
+use Rattle.bpf_shared.specs.History.{PlainlyLegal, entry}
+use Rattle.bpf_loader.specs.Loaded.{Loaded}
+use Rattle.bpf_loader.specs.Laws.{OneInstructionBegins}
+use Rattle.bpf_mem.specs.Stack.{zeroed}
+use Rattle.bpf_mem.specs.Laws.{IsMemory, WritesAreDetermined}
+use Rattle.bpf_cpu.specs.declared.cpu.Cpu.{Cpu}
+use Rattle.bpf_cpu.specs.declared.outcome.Turn.{Turn}
+use Rattle.bpf_cpu.specs.declared.outcome.Turn.TheVariants.{On, Done}
+use Rattle.bpf_cpu.specs.declared.outcome.Outcome.{Outcome}
+use Rattle.bpf_cpu.specs.Row.{Helper, Row}
+use Rattle.bpf_cpu.specs.Step.{Step, Steps}
+use Rattle.bpf_cpu.specs.State.{start}
+use Rattle.bpf_cpu.specs.Laws.{StepsAreDetermined, OutcomesAreDetermined, NoMapsNoEvents, PlainStepsAreDetermined}
+use Rattle.bpf_cpu.proofs.DeterminedRows.{Agrees, row_agrees, same_last, whole_frame}
+
+-- ---- lists of events
+
+-- lists that begin with as many elements
+same_fronts : {A : Type 0} (xs ys rest more : List A) → length xs ≡ length ys → xs ++ rest ≡ ys ++ more → (xs ≡ ys) × (rest ≡ more)
+same_fronts [] [] rest more n e = (refl, e)
+same_fronts [] (y ∷ ys) rest more n e = absurd (omega arith)
+same_fronts (x ∷ xs) [] rest more n e = absurd (omega arith)
+same_fronts (x ∷ xs) (y ∷ ys) rest more n e =
+    let first : x ≡ y = cc in
+    let behind : xs ++ rest ≡ ys ++ more = cc in
+    let same = same_fronts xs ys rest more (omega arith) behind in
+    let fronts : xs ≡ ys = same.0 in
+    (cc, same.1)
+
+same_count : (xs ys : List Event) → map asked xs ≡ map asked ys → length xs ≡ length ys
+same_count xs ys e = sym (length-map xs asked) ∙ ap length e ∙ length-map ys asked
+
+module _ (law : WritesAreDetermined) (one : OneInstructionBegins) (shapes : List MapShape) (program : Loaded) where
+  -- ---- one step
+  step_agrees : (old new other : Cpu) (turn end : Turn) (events others : List Event) → IsMemory old.memory → Step shapes program old events turn new → Step shapes program old others end other → Agrees events others turn end new other
+  step_agrees old new other turn end events others sound a b =
+      let P = λ (i : Insn). Row shapes i old others end other in
+      let same = one program.instructions old.pc b.instruction a.instruction b.begins a.begins in
+      row_agrees law old new other turn end sound shapes a.instruction events others a.row (subst P same b.row)
+
+  -- ---- a chain of steps, given its events
+  -- a step that ends the job, and one that doesn't
+  never : (old new mid : Cpu) (end : Outcome) (events first rest : List Event) → IsMemory old.memory → events ≡ first ++ rest → Step shapes program old events (Done end) new → Step shapes program old first On mid → ⊥
+  never old new mid end events first rest sound e a b =
+      let agrees = step_agrees old new mid (Done end) On events first sound a b in
+      let parts = same_fronts events first [] rest (same_count events first agrees.asks) (append-nil events ∙ e) in
+      let turns : Done end ≡ On = (agrees.replied parts.0).turns in
+      cc
+
+  steps_once : (n : ℕ) (old new other : Cpu) (events : List Event) (end last : Outcome) → IsMemory old.memory → Steps shapes program n old events end new → Steps shapes program n old events last other → end ≡ last
+  steps_once zero old new other events end last sound a b = a.1 ∙ sym b.1
+  steps_once (suc n) old new other events end last sound (inl a) (inl b) =
+      let same = (step_agrees old new other (Done end) (Done last) events events sound a b).replied refl in
+      let turns : Done end ≡ Done last = same.turns in
+      cc
+  steps_once (suc n) old new other events end last sound (inl a) (inr b) = absurd (never old new b.2 end events b.0 b.1 sound b.3 a b.4)
+  steps_once (suc n) old new other events end last sound (inr a) (inl b) = absurd (never old other a.2 last events a.0 a.1 sound a.3 b a.4)
+  steps_once (suc n) old new other events end last sound (inr a) (inr b) =
+      let agrees = step_agrees old a.2 b.2 On On a.0 b.0 sound a.4 b.4 in
+      let parts = same_fronts a.0 b.0 a.1 b.1 (same_count a.0 b.0 agrees.asks) (sym a.3 ∙ b.3) in
+      let same = agrees.replied parts.0 in
+      let P : Cpu → Type 0 = λ mid. Steps shapes program n mid b.1 last other in
+      let Q : List Event → Type 0 = λ rest. Steps shapes program n a.2 rest last other in
+      steps_once n a.2 new other a.1 end last same.sound a.5 (subst Q (sym parts.1) (subst P (sym same.states) b.5))
+
+  -- ---- the same over a plain store, whose replies are determined too
+  module _ (replies : RepliesAreDetermined) where
+    same_replies : (c : ℕ) (events others : List Event) (s t u : Plain) → IsSound s → PlainlyLegal s (map (entry c) events) t → PlainlyLegal s (map (entry c) others) u → map asked events ≡ map asked others → (events ≡ others) × (t ≡ u)
+    same_replies c [] [] s t u sound a b e = (refl, sym a ∙ b)
+    same_replies c [] (f ∷ fs) s t u sound a b e = absurd cc
+    same_replies c (e ∷ es) [] s t u sound a b q = absurd cc
+    same_replies c (e ∷ es) (f ∷ fs) s t u sound a b q =
+        let first : asked e ≡ asked f = cc in
+        let behind : map asked es ≡ map asked fs = cc in
+        let one = replies s a.0 b.0 c e f sound a.1 b.1 first in
+        let P : Plain → Type 0 = λ m. PlainlyLegal m (map (entry c) fs) u in
+        let rest = same_replies c es fs a.0 t u (allowed_sound s a.0 c e sound a.1.0) a.2 (subst P (sym one.1) b.2) behind in
+        let front : e ≡ f = one.0 in
+        let back : es ≡ fs = rest.0 in
+        (cc, rest.1)
+
+    -- a history in two parts
+    cut : (xs ys : List Entry) (s t : Plain) → PlainlyLegal s (xs ++ ys) t → (m : Plain) × PlainlyLegal s xs m × PlainlyLegal m ys t
+    cut [] ys s t h = (s, refl, h)
+    cut (x ∷ xs) ys s t h = let rest = cut xs ys h.0 t h.2 in (rest.0, (h.0, h.1, rest.1), rest.2)
+
+    cut_events : (c : ℕ) (events first rest : List Event) (s t : Plain) → events ≡ first ++ rest → PlainlyLegal s (map (entry c) events) t → (m : Plain) × PlainlyLegal s (map (entry c) first) m × PlainlyLegal m (map (entry c) rest) t
+    cut_events c events first rest s t e h =
+        let P : List Entry → Type 0 = λ log. PlainlyLegal s log t in
+        cut (map (entry c) first) (map (entry c) rest) s t (subst P (ap (map (entry c)) e ∙ map-append (entry c) first rest) h)
+
+    stays_sound : (c : ℕ) (events : List Event) (s t : Plain) → IsSound s → PlainlyLegal s (map (entry c) events) t → IsSound t
+    stays_sound c events s t sound h = plainly_sound s t (map (entry c) events) sound h
+
+    plainly_never : (c : ℕ) (s t u : Plain) (old new mid : Cpu) (end : Outcome) (events first : List Event) → IsSound s → IsMemory old.memory → PlainlyLegal s (map (entry c) events) t → PlainlyLegal s (map (entry c) first) u → Step shapes program old events (Done end) new → Step shapes program old first On mid → ⊥
+    plainly_never c s t u old new mid end events first store sound g h a b =
+        let agrees = step_agrees old new mid (Done end) On events first sound a b in
+        let one = same_replies c events first s t u store g h agrees.asks in
+        let turns : Done end ≡ On = (agrees.replied one.0).turns in
+        cc
+
+    pub plain_steps_once : (n c : ℕ) (s t u : Plain) (old new other : Cpu) (events others : List Event) (end last : Outcome) → IsSound s → IsMemory old.memory
+        → Steps shapes program n old events end new → PlainlyLegal s (map (entry c) events) t
+        → Steps shapes program n old others last other → PlainlyLegal s (map (entry c) others) u
+        → (events ≡ others) × (end ≡ last) × (new ≡ other) × (t ≡ u)
+    plain_steps_once zero c s t u old new other events others end last store sound a g b h =
+        let P : List Event → Type 0 = λ es. PlainlyLegal s (map (entry c) es) t in
+        let Q : List Event → Type 0 = λ es. PlainlyLegal s (map (entry c) es) u in
+        (a.0 ∙ sym b.0, a.1 ∙ sym b.1, a.2 ∙ sym b.2, sym (subst P a.0 g) ∙ subst Q b.0 h)
+    plain_steps_once (suc n) c s t u old new other events others end last store sound (inl a) g (inl b) h =
+        let agrees = step_agrees old new other (Done end) (Done last) events others sound a b in
+        let one = same_replies c events others s t u store g h agrees.asks in
+        let same = agrees.replied one.0 in
+        let turns : Done end ≡ Done last = same.turns in
+        let ends : end ≡ last = cc in
+        (one.0, ends, same.states, one.1)
+    plain_steps_once (suc n) c s t u old new other events others end last store sound (inl a) g (inr b) h =
+        let parts = cut_events c others b.0 b.1 s u b.3 h in
+        absurd (plainly_never c s t parts.0 old new b.2 end events b.0 store sound g parts.1 a b.4)
+    plain_steps_once (suc n) c s t u old new other events others end last store sound (inr a) g (inl b) h =
+        let parts = cut_events c events a.0 a.1 s t a.3 g in
+        absurd (plainly_never c s u parts.0 old other a.2 last others a.0 store sound h parts.1 b a.4)
+    plain_steps_once (suc n) c s t u old new other events others end last store sound (inr a) g (inr b) h =
+        let left = cut_events c events a.0 a.1 s t a.3 g in
+        let right = cut_events c others b.0 b.1 s u b.3 h in
+        let agrees = step_agrees old a.2 b.2 On On a.0 b.0 sound a.4 b.4 in
+        let one = same_replies c a.0 b.0 s left.0 right.0 store left.1 right.1 agrees.asks in
+        let same = agrees.replied one.0 in
+        let P : Cpu → Type 0 = λ mid. Steps shapes program n mid b.1 last other in
+        let Q : Plain → Type 0 = λ m. PlainlyLegal m (map (entry c) b.1) u in
+        let rest = plain_steps_once n c left.0 t u a.2 new other a.1 b.1 end last (stays_sound c a.0 s left.0 store left.1) same.sound a.5 left.2 (subst P (sym same.states) b.5) (subst Q (sym one.1) right.2) in
+        let fronts : a.0 ≡ b.0 = one.0 in
+        let backs : a.1 ≡ b.1 = rest.0 in
+        (a.3 ∙ ap (λ es. es ++ a.1) fronts ∙ ap (λ es. b.0 ++ es) backs ∙ sym b.3, rest.1, rest.2, rest.3)
+
+-- ---- a whole job
+
+start_memory : (number : ℕ) (context : List ℕ) → length context ≤ 4096 → IsMemory (start number context).memory
+start_memory number context h = record {
+  stack = record {
+    some = omega arith;
+    bounded = omega arith;
+    sized = All-push (λ frame. length frame ≡ 512) [] zeroed (All-nil (λ (frame : List ℕ). length frame ≡ 512)) whole_frame;
+    paired = omega arith;
+  };
+  small = h;
+}
+
+-- the events between a run's begin and its end
+same_inside : (xs ys : List Event) → Begin ∷ (xs ++ End ∷ []) ≡ Begin ∷ (ys ++ End ∷ []) → xs ≡ ys
+same_inside xs ys e = let inside : xs ++ End ∷ [] ≡ ys ++ End ∷ [] = cc in (same_last xs ys End End inside).0
+
+pub steps_are_determined : WritesAreDetermined → OneInstructionBegins → StepsAreDetermined
+steps_are_determined law one shapes program old new other events others turn end sound a b =
+    let agrees = step_agrees law one shapes program old new other turn end events others sound a b in
+    (agrees.asks, λ e. let same = agrees.replied e in (same.turns, same.states))
+
+pub outcomes_are_determined : WritesAreDetermined → OneInstructionBegins → OutcomesAreDetermined
+outcomes_are_determined law one shapes program budget number context events end other h (inl a) (inl b) =
+    let inside = same_inside a.0 b.0 (sym a.2 ∙ b.2) in
+    let P : List Event → Type 0 = λ es. Steps shapes program budget (start number context) es other b.1 in
+    steps_once law one shapes program budget (start number context) a.1 b.1 a.0 end other (start_memory number context h) a.3 (subst P (sym inside) b.3)
+outcomes_are_determined law one shapes program budget number context events end other h (inl a) (inr b) =
+    let none : Begin ∷ (a.0 ++ End ∷ []) ≡ [] = sym a.2 ∙ b.0 in absurd cc
+outcomes_are_determined law one shapes program budget number context events end other h (inr a) (inl b) =
+    let none : Begin ∷ (b.0 ++ End ∷ []) ≡ [] = sym b.2 ∙ a.0 in absurd cc
+outcomes_are_determined law one shapes program budget number context events end other h (inr a) (inr b) = a.1 ∙ sym b.1
+
+-- ---- no maps
+
+no_map_event : (number : ℕ) (old new : Cpu) (turn : Turn) (events : List Event) → Helper [] number old events turn new → events ≡ []
+no_map_event number old new turn events (inl (called, inl none)) = none.1
+no_map_event number old new turn events (inl (called, inr (m, h, at, rest))) = let none : None ≡ Some h = at.1 in absurd cc
+no_map_event number old new turn events (inr row) = row.1
+
+no_row_event : (i : Insn) (old new : Cpu) (turn : Turn) (events : List Event) → Row [] i old events turn new → events ≡ []
+no_row_event i old new turn events (inl row) = row.0
+no_row_event i old new turn events (inr row) = no_map_event row.0 old new turn events row.2
+
+no_step_events : (program : Loaded) (n : ℕ) (old new : Cpu) (events : List Event) (end : Outcome) → Steps [] program n old events end new → events ≡ []
+no_step_events program zero old new events end a = a.0
+no_step_events program (suc n) old new events end (inl a) = no_row_event a.instruction old new (Done end) events a.row
+no_step_events program (suc n) old new events end (inr a) =
+    let first : a.0 ≡ [] = no_row_event a.4.instruction old a.2 On a.0 a.4.row in
+    let rest : a.1 ≡ [] = no_step_events program n a.2 new a.1 end a.5 in
+    a.3 ∙ ap (λ es. es ++ a.1) first ∙ rest
+
+pub no_maps_no_events : NoMapsNoEvents
+no_maps_no_events program budget old events end (inl a) =
+    a.2 ∙ ap (λ es. Begin ∷ (es ++ End ∷ [])) (no_step_events program budget old a.1 a.0 end a.3)
+no_maps_no_events program budget old events end (inr a) = absurd a.2
+
+pub plain_steps_are_determined : WritesAreDetermined → OneInstructionBegins → RepliesAreDetermined → PlainStepsAreDetermined
+plain_steps_are_determined law one replies shapes program budget c s t u old new other events others end last store sound a g b h =
+    plain_steps_once law one shapes program replies budget c s t u old new other events others end last store sound a g b h

@@ -1,0 +1,41 @@
+-- What follows from the definitions of steps and runs: what a store replies determines a run, and on one thread a run
+-- has one outcome.
+use Rattle.std.specs.Prelude.{◌≡◌, ℕ, ◌≤◌, List, [], ◌∷◌, length, map}
+use Rattle.bpf_shared.specs.declared.events.Event.{Event}
+use Rattle.bpf_shared.specs.declared.events.Event.TheVariants.{Begin, End}
+use Rattle.bpf_shared.specs.declared.shapes.MapShape.{MapShape}
+use Rattle.bpf_shared.specs.Store.{Plain}
+use Rattle.bpf_shared.specs.History.{PlainlyLegal, entry}
+use Rattle.bpf_shared.specs.Laws.{asked}
+use Rattle.bpf_shared.specs.Sound.{IsSound}
+use Rattle.bpf_loader.specs.Loaded.{Loaded}
+use Rattle.bpf_mem.specs.Laws.{IsMemory}
+use Rattle.bpf_cpu.specs.declared.cpu.Cpu.{Cpu}
+use Rattle.bpf_cpu.specs.declared.outcome.Turn.{Turn}
+use Rattle.bpf_cpu.specs.declared.outcome.Outcome.{Outcome}
+use Rattle.bpf_cpu.specs.State.{start}
+use Rattle.bpf_cpu.specs.Step.{Step, Steps, Explains}
+
+-- a step asks the store one thing; and where the reply is the same, it leaves one state
+abbrev pub StepsAreDetermined : Type 0
+StepsAreDetermined = (shapes : List MapShape) (program : Loaded) (old new other : Cpu) (events others : List Event) (turn end : Turn) → IsMemory old.memory
+    → Step shapes program old events turn new → Step shapes program old others end other
+    → (map asked events ≡ map asked others) × (events ≡ others → (turn ≡ end) × (new ≡ other))
+
+-- the same events explain one outcome, whether or not the run counter may be worn
+abbrev pub OutcomesAreDetermined : Type 0
+OutcomesAreDetermined = (shapes : List MapShape) (program : Loaded) (budget number : ℕ) (context : List ℕ) (events : List Event) (end other : Outcome) → length context ≤ 4096
+    → Explains (Unit {0}) shapes program budget (start number context) events end → Explains (Unit {0}) shapes program budget (start number context) events other
+    → end ≡ other
+
+-- where there is no map, a run that is not worn out has no events but its begin and its end
+abbrev pub NoMapsNoEvents : Type 0
+NoMapsNoEvents = (program : Loaded) (budget : ℕ) (old : Cpu) (events : List Event) (end : Outcome)
+    → Explains ⊥ [] program budget old events end → events ≡ Begin ∷ End ∷ []
+
+-- over a plain store, which no other CPU changes meanwhile, the steps of a run have one course
+abbrev pub PlainStepsAreDetermined : Type 0
+PlainStepsAreDetermined = (shapes : List MapShape) (program : Loaded) (budget c : ℕ) (s t u : Plain) (old new other : Cpu) (events others : List Event) (end last : Outcome) → IsSound s → IsMemory old.memory
+    → Steps shapes program budget old events end new → PlainlyLegal s (map (entry c) events) t
+    → Steps shapes program budget old others last other → PlainlyLegal s (map (entry c) others) u
+    → (events ≡ others) × (end ≡ last) × (new ≡ other) × (t ≡ u)

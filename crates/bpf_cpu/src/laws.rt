@@ -1,0 +1,34 @@
+//! What follows from the definitions of steps and runs, as promises to the crates above.
+//!
+//! These functions do nothing: their contracts are the laws, which a proof cites.
+ghost use Rattle.bpf_cpu.specs.Laws.{NoMapsNoEvents, OutcomesAreDetermined, PlainStepsAreDetermined, StepsAreDetermined};
+
+/// A step asks the store one thing, and where the reply is the same it leaves one state.
+pub fn steps_are_determined()
+    ensures { StepsAreDetermined }
+{
+    bpf_mem::laws::writes_are_determined();
+    bpf_loader::laws::one_instruction_begins();
+}
+
+/// The same events explain one outcome of a job.
+pub fn outcomes_are_determined()
+    ensures { OutcomesAreDetermined }
+{
+    bpf_mem::laws::writes_are_determined();
+    bpf_loader::laws::one_instruction_begins();
+}
+
+/// Where there is no map, a run has no events but its begin and its end.
+pub fn no_maps_no_events()
+    ensures { NoMapsNoEvents }
+{}
+
+/// On one thread, over a plain store, the steps of a run have one course.
+pub fn plain_steps_are_determined()
+    ensures { PlainStepsAreDetermined }
+{
+    bpf_mem::laws::writes_are_determined();
+    bpf_loader::laws::one_instruction_begins();
+    bpf_shared::laws::replies_are_determined();
+}
