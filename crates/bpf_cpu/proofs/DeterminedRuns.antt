@@ -46,7 +46,7 @@ same_count xs ys e = sym (length-map xs asked) ∙ ap length e ∙ length-map ys
 
 module _ (law : WritesAreDetermined) (one : OneInstructionBegins) (shapes : List MapShape) (program : Loaded) where
   -- ---- one step
-  step_agrees : (old new other : Cpu) (turn end : Turn) (events others : List Event) → IsMemory old.memory → Step shapes program old events turn new → Step shapes program old others end other → Agrees events others turn end new other
+  pub step_agrees : (old new other : Cpu) (turn end : Turn) (events others : List Event) → IsMemory old.memory → Step shapes program old events turn new → Step shapes program old others end other → Agrees events others turn end new other
   step_agrees old new other turn end events others sound a b =
       let P = λ (i : Insn). Row shapes i old others end other in
       let same = one program.instructions old.pc b.instruction a.instruction b.begins a.begins in
@@ -79,7 +79,7 @@ module _ (law : WritesAreDetermined) (one : OneInstructionBegins) (shapes : List
 
   -- ---- the same over a plain store, whose replies are determined too
   module _ (replies : RepliesAreDetermined) where
-    same_replies : (c : ℕ) (events others : List Event) (s t u : Plain) → IsSound s → PlainlyLegal s (map (entry c) events) t → PlainlyLegal s (map (entry c) others) u → map asked events ≡ map asked others → (events ≡ others) × (t ≡ u)
+    pub same_replies : (c : ℕ) (events others : List Event) (s t u : Plain) → IsSound s → PlainlyLegal s (map (entry c) events) t → PlainlyLegal s (map (entry c) others) u → map asked events ≡ map asked others → (events ≡ others) × (t ≡ u)
     same_replies c [] [] s t u sound a b e = (refl, sym a ∙ b)
     same_replies c [] (f ∷ fs) s t u sound a b e = absurd cc
     same_replies c (e ∷ es) [] s t u sound a b q = absurd cc
@@ -103,7 +103,7 @@ module _ (law : WritesAreDetermined) (one : OneInstructionBegins) (shapes : List
         let P : List Entry → Type 0 = λ log. PlainlyLegal s log t in
         cut (map (entry c) first) (map (entry c) rest) s t (subst P (ap (map (entry c)) e ∙ map-append (entry c) first rest) h)
 
-    stays_sound : (c : ℕ) (events : List Event) (s t : Plain) → IsSound s → PlainlyLegal s (map (entry c) events) t → IsSound t
+    pub stays_sound : (c : ℕ) (events : List Event) (s t : Plain) → IsSound s → PlainlyLegal s (map (entry c) events) t → IsSound t
     stays_sound c events s t sound h = plainly_sound s t (map (entry c) events) sound h
 
     plainly_never : (c : ℕ) (s t u : Plain) (old new mid : Cpu) (end : Outcome) (events first : List Event) → IsSound s → IsMemory old.memory → PlainlyLegal s (map (entry c) events) t → PlainlyLegal s (map (entry c) first) u → Step shapes program old events (Done end) new → Step shapes program old first On mid → ⊥
@@ -149,7 +149,7 @@ module _ (law : WritesAreDetermined) (one : OneInstructionBegins) (shapes : List
 
 -- ---- a whole job
 
-start_memory : (number : ℕ) (context : List ℕ) → length context ≤ 4096 → IsMemory (start number context).memory
+pub start_memory : (number : ℕ) (context : List ℕ) → length context ≤ 4096 → IsMemory (start number context).memory
 start_memory number context h = record {
   stack = record {
     some = omega arith;

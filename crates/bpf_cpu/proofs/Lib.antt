@@ -12,3 +12,4 @@ pub mod KeyLaws
 pub mod MadeLaws
 pub mod DeterminedRows
 pub mod DeterminedRuns
+pub mod DeterminedTurns

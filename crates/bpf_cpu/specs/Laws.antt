@@ -1,6 +1,6 @@
 -- What follows from the definitions of steps and runs: what a store replies determines a run, and on one thread a run
 -- has one outcome.
-use Rattle.std.specs.Prelude.{◌≡◌, ℕ, ◌≤◌, List, [], ◌∷◌, length, map}
+use Rattle.std.specs.Prelude.{◌≡◌, ℕ, ◌≤◌, List, [], ◌∷◌, Some, length, map, slice_get}
 use Rattle.bpf_shared.specs.declared.events.Event.{Event}
 use Rattle.bpf_shared.specs.declared.events.Event.TheVariants.{Begin, End}
 use Rattle.bpf_shared.specs.declared.shapes.MapShape.{MapShape}
@@ -14,6 +14,8 @@ use Rattle.bpf_cpu.specs.declared.cpu.Cpu.{Cpu}
 use Rattle.bpf_cpu.specs.declared.outcome.Turn.{Turn}
 use Rattle.bpf_cpu.specs.declared.outcome.Outcome.{Outcome}
 use Rattle.bpf_cpu.specs.State.{start}
+use Rattle.bpf_cpu.specs.Task.{Task, Waiting}
+use Rattle.bpf_cpu.specs.Schedule.{World, Runs}
 use Rattle.bpf_cpu.specs.Step.{Step, Steps, Explains}
 
 -- a step asks the store one thing; and where the reply is the same, it leaves one state
@@ -39,3 +41,14 @@ PlainStepsAreDetermined = (shapes : List MapShape) (program : Loaded) (budget c 
     → Steps shapes program budget old events end new → PlainlyLegal s (map (entry c) events) t
     → Steps shapes program budget old others last other → PlainlyLegal s (map (entry c) others) u
     → (events ≡ others) × (end ≡ last) × (new ≡ other) × (t ≡ u)
+
+-- ---- schedules
+
+-- a plain machine before its first turn: each job waits, with a context of at most 4,096 bytes
+pub record IsFresh (w : World) : Type 0 where
+  pub store : IsSound w.store
+  pub waits : (j : ℕ) (task : Task) → slice_get w.jobs j ≡ Some task → (context : List ℕ) × (task.stage ≡ Waiting context) × (length context ≤ 4096)
+
+-- a schedule has one run
+abbrev pub SchedulesAreDetermined : Type 0
+SchedulesAreDetermined = (w y z : World) (schedule : List ℕ) → IsFresh w → Runs w schedule y → Runs w schedule z → y ≡ z

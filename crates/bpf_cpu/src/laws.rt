@@ -1,7 +1,7 @@
 //! What follows from the definitions of steps and runs, as promises to the crates above.
 //!
 //! These functions do nothing: their contracts are the laws, which a proof cites.
-ghost use Rattle.bpf_cpu.specs.Laws.{NoMapsNoEvents, OutcomesAreDetermined, PlainStepsAreDetermined, StepsAreDetermined};
+ghost use Rattle.bpf_cpu.specs.Laws.{NoMapsNoEvents, OutcomesAreDetermined, PlainStepsAreDetermined, SchedulesAreDetermined, StepsAreDetermined};
 
 /// A step asks the store one thing, and where the reply is the same it leaves one state.
 pub fn steps_are_determined()
@@ -27,6 +27,15 @@ pub fn no_maps_no_events()
 /// On one thread, over a plain store, the steps of a run have one course.
 pub fn plain_steps_are_determined()
     ensures { PlainStepsAreDetermined }
+{
+    bpf_mem::laws::writes_are_determined();
+    bpf_loader::laws::one_instruction_begins();
+    bpf_shared::laws::replies_are_determined();
+}
+
+/// Over a plain store, a schedule has one run.
+pub fn schedules_are_determined()
+    ensures { SchedulesAreDetermined }
 {
     bpf_mem::laws::writes_are_determined();
     bpf_loader::laws::one_instruction_begins();
