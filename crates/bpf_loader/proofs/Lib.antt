@@ -3,3 +3,4 @@ pub mod MarkLemmas
 pub mod SlotLemmas
 pub mod SoundLemmas
 pub mod CheckLemmas
+pub mod Determined

@@ -4,3 +4,4 @@ pub mod Sound
 pub mod Slots
 pub mod Loaded
 pub mod Checks
+pub mod Laws

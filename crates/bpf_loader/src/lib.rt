@@ -2,6 +2,7 @@
 #![tactic(auto)]
 
 mod checks;
+pub mod laws;
 pub mod loaded;
 pub mod loading;
 pub mod refusal;

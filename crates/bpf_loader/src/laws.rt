@@ -1,0 +1,9 @@
+//! What follows from the definition of sound programs, as promises to the crates above.
+//!
+//! These functions do nothing: their contracts are the laws, which a proof cites.
+ghost use Rattle.bpf_loader.specs.Laws.{FirstIsDetermined};
+
+/// A list of instructions has one first refusal at most, and a sound one has none.
+pub fn first_is_determined()
+    ensures { FirstIsDetermined }
+{}
