@@ -6,3 +6,4 @@ pub mod Cover
 pub mod Law
 pub mod Program
 pub mod Bytes
+pub mod Determined

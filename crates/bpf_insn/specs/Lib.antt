@@ -6,3 +6,4 @@ pub mod Refusal
 pub mod Lookup
 pub mod Reading
 pub mod Writing
+pub mod Laws

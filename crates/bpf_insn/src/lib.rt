@@ -7,6 +7,7 @@ mod encoder;
 pub mod error;
 mod fault;
 pub mod instruction;
+pub mod laws;
 mod operands;
 pub mod operation;
 mod reading;

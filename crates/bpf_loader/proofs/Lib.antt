@@ -3,4 +3,5 @@ pub mod MarkLemmas
 pub mod SlotLemmas
 pub mod SoundLemmas
 pub mod CheckLemmas
-pub mod Determined
+pub mod DeterminedPlaces
+pub mod DeterminedRefusal

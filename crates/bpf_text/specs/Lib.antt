@@ -13,3 +13,4 @@ pub mod Labels
 pub mod Assembly
 pub mod Sources
 pub mod Cutting
+pub mod Laws

@@ -7,6 +7,7 @@ pub mod error;
 pub mod hex_text;
 mod keywords;
 mod labels;
+pub mod laws;
 mod pieces;
 mod reading;
 mod signs;

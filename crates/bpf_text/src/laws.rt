@@ -1,0 +1,9 @@
+//! What follows from the definition of assembly text, as promises to the crates above.
+//!
+//! These functions do nothing: their contracts are the laws, which a proof cites.
+ghost use Rattle.bpf_text.specs.Laws.{TextsAreDetermined};
+
+/// A text stands for one list of instructions alone, or is refused for one reason alone, and never both.
+pub fn texts_are_determined()
+    ensures { TextsAreDetermined }
+{}
