@@ -2,3 +2,4 @@ pub mod Options
 pub mod Subcommands
 pub mod KnownBytes
 pub mod ReplyLemmas
+pub mod OneReply

@@ -1,5 +1,5 @@
 -- What each command replies to the text that it read.
-use Rattle.std.specs.Prelude.{◌≡◌, ◌≢◌, ◌≤◌, ◌<◌, ◌⊎◌, ◌/◌, ℕ, List, [], Err, Ok, IsUtf8, length, string_bytes}
+use Rattle.std.specs.Prelude.{◌≡◌, ◌≢◌, ◌≤◌, ◌<◌, ◌⊎◌, ◌/◌, ℕ, List, [], All, Err, Ok, IsUtf8, length, string_bytes}
 use Rattle.bpf_insn.specs.declared.instruction.Insn.{Insn}
 use Rattle.bpf_insn.specs.Encoding.{IsEncodedAs}
 use Rattle.bpf_insn.specs.Refusal.{IsRefused, IsSized}
@@ -54,7 +54,7 @@ RefusesAssembly text (refusal.Insn error) = error ≡ insn_error.OutOfMemory
 RefusesAssembly text _ = ⊥
 
 abbrev pub IsAssembled : List ℕ → Reply → Type 0
-IsAssembled text (reply.Text printed) = (is : List Insn) × (bytes : List ℕ) × Assembles text (Ok is) × IsEncodedAs is bytes
+IsAssembled text (reply.Text printed) = (is : List Insn) × (bytes : List ℕ) × Assembles text (Ok is) × All (λ b. b < 256) bytes × IsEncodedAs is bytes
     × (string_bytes printed ≡ word_lines (length bytes / 8) bytes)
 IsAssembled text (reply.Refused r) = RefusesAssembly text r
 IsAssembled text (reply.Ended outcome) = ⊥

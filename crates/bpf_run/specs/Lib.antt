@@ -3,3 +3,4 @@ pub mod CommandLine
 pub mod Commands
 pub mod Listing
 pub mod Codes
+pub mod Laws

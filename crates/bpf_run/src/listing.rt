@@ -1,6 +1,6 @@
 //! Words as text, a line each.
 
-ghost use Rattle.std.specs.Prelude.{◌≡◌, ◌++◌, ◌∷◌, ◌/◌, [], IfOk, IsOkUnless, OnOk, length, string_bytes};
+ghost use Rattle.std.specs.Prelude.{◌≡◌, ◌<◌, ◌++◌, ◌∷◌, ◌/◌, [], All, IfOk, IsOkUnless, OnOk, length, string_bytes};
 ghost use Rattle.hex.specs.Hex.{encode_lower};
 ghost use Rattle.bpf_run.specs.Listing.{word_lines};
 
@@ -22,6 +22,7 @@ fn push_word(alloc: Global, text: &mut String, word: &[u8]) -> Result<(), TextEr
 pub fn word_lines(alloc: Global, bytes: &[u8]) -> Result<String, TextError>
     ensures lines { IfOk result (λ text. string_bytes text ≡ word_lines (length bytes.now / 8) bytes.now) }
     ensures memory { IsOkUnless result TextError.OutOfMemory }
+    ensures bytes { All (λ b. b < 256) bytes.now }
 {
     let mut text = String::new(alloc);
     for word in 0..bytes.len() / 8 {

@@ -4,6 +4,7 @@
 pub mod command;
 pub mod command_line;
 pub mod input;
+pub mod laws;
 pub mod listing;
 pub mod output;
 pub mod perform;

@@ -1,0 +1,213 @@
+-- The replies of one input print one text.
+use Rattle.std.proofs.Common.{◌≡◌, ◌≢◌, ◌<◌, ◌≤◌, ◌/◌, ℕ, List, [], length, inl, inr, refl, sym, ap, subst, ◌∙◌, arith, Ok, Err}
+use Rattle.std.specs.Prelude.{IsUtf8}
+use Rattle.bpf_insn.specs.declared.instruction.Insn.{Insn}
+use Rattle.bpf_insn.specs.Encoding.{IsEncodedAs}
+use Rattle.bpf_insn.specs.Refusal.{IsRefused}
+use Rattle.bpf_insn.specs.Laws.{WordsAreDetermined, EncodingsAreDetermined, RefusalsAreDetermined}
+use Rattle.bpf_insn.specs.declared.error.InsnError.{InsnError}
+use Rattle.bpf_insn.specs.declared.error.InsnError.TheVariants as insn_error
+use Rattle.bpf_loader.specs.Loaded.{Loaded}
+use Rattle.bpf_loader.specs.Sound.{IsFirst, IsSound}
+use Rattle.bpf_loader.specs.Laws.{FirstIsDetermined}
+use Rattle.bpf_loader.specs.declared.refusal.LoadError.{LoadError}
+use Rattle.bpf_loader.specs.declared.refusal.LoadError.TheVariants as load_error
+use Rattle.bpf_shared.specs.declared.events.Event.{Event}
+use Rattle.bpf_cpu.specs.declared.outcome.Outcome.{Outcome}
+use Rattle.bpf_cpu.specs.declared.cpu.Cpu.{Cpu}
+use Rattle.bpf_cpu.specs.State.{start}
+use Rattle.bpf_cpu.specs.Step.{Explains}
+use Rattle.bpf_cpu.specs.Laws.{OutcomesAreDetermined, NoMapsNoEvents}
+use Rattle.bpf_text.specs.Assembly.{Assembles}
+use Rattle.bpf_text.specs.Form.{canonical}
+use Rattle.bpf_text.specs.HexText.{IsHexOf}
+use Rattle.bpf_text.specs.Laws.{TextsAreDetermined}
+use Rattle.bpf_text.specs.declared.error.TextError.{TextError}
+use Rattle.bpf_text.specs.declared.error.TextError.TheVariants as text_error
+use Rattle.bpf_run.specs.Answer.{status_of, text_of}
+use Rattle.bpf_run.specs.Commands.{IsAnswer, IsAssembled, IsDisassembled, IsReply, IsRun, IsWordsOf, RefusesAssembly, RefusesInput, RefusesProgram, RefusesWords, max_input}
+use Rattle.bpf_run.specs.Laws.{IsOfInput, IsOutside, IsShort, RepliesAreDetermined}
+use Rattle.bpf_run.specs.Listing.{word_lines}
+use Rattle.bpf_run.specs.declared.command.Command.{Command}
+use Rattle.bpf_run.specs.declared.command.Command.TheVariants as command
+use Rattle.bpf_run.specs.declared.input.InputError.TheVariants as input_error
+use Rattle.bpf_run.specs.declared.refusal.Refusal.{Refusal}
+use Rattle.bpf_run.specs.declared.refusal.Refusal.TheVariants as refusal
+use Rattle.bpf_run.specs.declared.reply.Reply.{Reply}
+use Rattle.bpf_run.specs.declared.reply.Reply.TheVariants as reply
+
+-- they print the same
+abbrev pub PrintsAs : Reply → Reply → Type 0
+PrintsAs r s = (text_of r ≡ text_of s) × (status_of r ≡ status_of s)
+
+prints : (r s : Reply) → r ≡ s → PrintsAs r s
+prints r s e = (ap text_of e, ap status_of e)
+
+abbrev pub loaded : List Insn → Loaded
+loaded is = record { instructions = is; maps = 0 }
+
+-- a run whose counter can't be worn is one whose counter may be
+unworn : (program : Loaded) (budget : ℕ) (old : Cpu) (events : List Event) (outcome : Outcome) → Explains ⊥ [] program budget old events outcome → Explains (Unit {0}) [] program budget old events outcome
+unworn program budget old events outcome (inl runs) = inl runs
+unworn program budget old events outcome (inr worn) = absurd worn.2
+
+-- ---- what each kind of reply says of the text
+
+data OfWords (text : List ℕ) : Refusal → Type 0 where
+  NoDigits : ((bytes : List ℕ) → ¬ IsHexOf text bytes) → OfWords text (refusal.Text text_error.NotHex)
+  NoWords : (error : InsnError) (bytes : List ℕ) → IsHexOf text bytes → IsRefused error bytes → error ≢ insn_error.OutOfMemory → OfWords text (refusal.Insn error)
+
+data OfRun (budget : ℕ) (context text : List ℕ) : Reply → Type 0 where
+  Ran : (outcome : Outcome) (is : List Insn) (events : List Event) → IsWordsOf text is → IsSound 0 is
+      → Explains ⊥ [] (record { instructions = is; maps = 0 }) budget (start 0 context) events outcome → OfRun budget context text (reply.Ended outcome)
+  Unsound : (error : LoadError) (is : List Insn) → IsWordsOf text is → IsFirst 0 is error → OfRun budget context text (reply.Refused (refusal.Load error))
+  Unread : (r : Refusal) → OfWords text r → OfRun budget context text (reply.Refused r)
+
+data OfAssembly (text : List ℕ) : Reply → Type 0 where
+  Assembled : (printed : _) → IsAssembled text (reply.Text printed) → OfAssembly text (reply.Text printed)
+  NoAssembly : (error : TextError) → Assembles text (Err error) → OfAssembly text (reply.Refused (refusal.Text error))
+
+data OfListing (text : List ℕ) : Reply → Type 0 where
+  Listed : (printed : _) → IsDisassembled text (reply.Text printed) → OfListing text (reply.Text printed)
+  Unlisted : (r : Refusal) → OfWords text r → OfListing text (reply.Refused r)
+
+of_insn : (text : List ℕ) (error : InsnError) → RefusesWords text (refusal.Insn error) → ¬ IsOutside (refusal.Insn error) → OfWords text (refusal.Insn error)
+of_insn text insn_error.OutOfMemory h n = absurd (n tt)
+of_insn text error h n = NoWords error h.0 h.1 h.2 (λ e. cc)
+
+of_words : (text : List ℕ) (r : Refusal) → RefusesWords text r → ¬ IsOutside r → OfWords text r
+of_words text (refusal.Text text_error.NotHex) h n = NoDigits h
+of_words text (refusal.Text text_error.OutOfMemory) h n = absurd (n tt)
+of_words text (refusal.Insn error) h n = of_insn text error h n
+of_words text _ h n = absurd h
+
+of_program : (budget : ℕ) (context text : List ℕ) (r : Refusal) → RefusesProgram text r → ¬ IsOutside r → OfRun budget context text (reply.Refused r)
+of_program budget context text (refusal.Load load_error.OutOfMemory) h n = absurd (n tt)
+of_program budget context text (refusal.Load error) h n = Unsound error h.0 h.1 (h.2 (λ e. cc))
+of_program budget context text r h n = Unread r (of_words text r h n)
+
+of_run : (budget : ℕ) (context text : List ℕ) (r : Reply) → IsRun budget context text r → IsOfInput r → OfRun budget context text r
+of_run budget context text (reply.Ended outcome) h n = Ran outcome h.0 h.3 h.1 h.2 h.4
+of_run budget context text (reply.Refused refusal.OutOfMemory) h n = absurd (n tt)
+of_run budget context text (reply.Refused r) h n = of_program budget context text r h n
+of_run budget context text (reply.Text printed) h n = absurd h
+
+of_refused_text : (text : List ℕ) (error : TextError) → RefusesAssembly text (refusal.Text error) → ¬ IsOutside (refusal.Text error) → OfAssembly text (reply.Refused (refusal.Text error))
+of_refused_text text error (inl memory) n = absurd (n (subst (λ (e : TextError). IsOutside (refusal.Text e)) (sym memory) tt))
+of_refused_text text error (inr h) n = NoAssembly error h
+
+of_assembly : (text : List ℕ) (r : Reply) → IsAssembled text r → IsOfInput r → OfAssembly text r
+of_assembly text (reply.Text printed) h n = Assembled printed h
+of_assembly text (reply.Refused (refusal.Text error)) h n = of_refused_text text error h n
+of_assembly text (reply.Refused (refusal.Insn error)) h n = absurd (n (subst (λ (e : InsnError). IsOutside (refusal.Insn e)) (sym h) tt))
+of_assembly text (reply.Refused r) h n = absurd h
+of_assembly text (reply.Ended outcome) h n = absurd h
+
+of_listing : (text : List ℕ) (r : Reply) → IsDisassembled text r → IsOfInput r → OfListing text r
+of_listing text (reply.Text printed) h n = Listed printed h
+of_listing text (reply.Refused r) h n = Unlisted r (of_words text r h n)
+of_listing text (reply.Ended outcome) h n = absurd h
+
+data OfInput (c : Command) (input : List ℕ) : Reply → Type 0 where
+  TooLong : max_input < length input → OfInput c input (reply.Refused (refusal.Input input_error.TooLong))
+  NotText : length input ≤ max_input → ¬ IsUtf8 input → OfInput c input (reply.Refused refusal.NotText)
+  Answered : (r : Reply) → length input ≤ max_input → IsUtf8 input → IsAnswer c input r → OfInput c input r
+
+of_refusal : (c : Command) (input : List ℕ) (e : Refusal) → RefusesInput input e → ¬ IsOutside e → OfInput c input (reply.Refused e)
+of_refusal c input (refusal.Input input_error.Unread) h n = absurd (n tt)
+of_refusal c input (refusal.Input input_error.TooLong) h n = TooLong h
+of_refusal c input (refusal.Input input_error.OutOfMemory) h n = absurd (n tt)
+of_refusal c input refusal.NotText h n = NotText h.0 h.1
+of_refusal c input _ h n = absurd h
+
+of_input : (c : Command) (input : List ℕ) (r : Reply) → IsReply c input r → IsOfInput r → OfInput c input r
+of_input c input r (inl refused) n =
+    let made = of_refusal c input refused.0 refused.2 (subst IsOfInput refused.1 n) in
+    subst (OfInput c input) (sym refused.1) made
+of_input c input r (inr answered) n = Answered r answered.0 answered.1 answered.2
+
+module _ (words : WordsAreDetermined) (encodings : EncodingsAreDetermined) (refusals : RefusalsAreDetermined) (firsts : FirstIsDetermined) (texts : TextsAreDetermined) (outcomes : OutcomesAreDetermined) (events : NoMapsNoEvents) where
+  same_bytes : (text xs ys : List ℕ) → IsHexOf text xs → IsHexOf text ys → xs ≡ ys
+  same_bytes text xs ys a b = cc
+
+  same_words : (text : List ℕ) (is js : List Insn) → IsWordsOf text is → IsWordsOf text js → is ≡ js
+  same_words text is js a b =
+      let bytes = same_bytes text b.0 a.0 b.1 a.1 in
+      let P : List ℕ → Type 0 = λ bytes. IsEncodedAs js bytes in
+      words a.0 is js a.3 (subst P bytes b.3)
+
+  -- bytes that are refused are no instructions
+  no_words : (text : List ℕ) (is : List Insn) (r : Refusal) → OfWords text r → IsWordsOf text is → ⊥
+  no_words text is r (NoDigits none) a = none a.0 a.1
+  no_words text is r (NoWords error bytes digits refused n) a =
+      let P : List ℕ → Type 0 = λ bytes. IsRefused error bytes in
+      refusals.1 a.0 is error n a.2 a.3 (subst P (same_bytes text bytes a.0 digits a.1) refused)
+
+  one_refusal : (text : List ℕ) (r s : Refusal) → OfWords text r → OfWords text s → r ≡ s
+  one_refusal text r s (NoDigits none) (NoDigits never) = refl
+  one_refusal text r s (NoDigits none) (NoWords error bytes digits refused n) = absurd (none bytes digits)
+  one_refusal text r s (NoWords error bytes digits refused n) (NoDigits none) = absurd (none bytes digits)
+  one_refusal text r s (NoWords e xs a refused n) (NoWords f ys b denied m) =
+      let P : List ℕ → Type 0 = λ bytes. IsRefused f bytes in
+      ap refusal.Insn (refusals.0 xs e f n m refused (subst P (same_bytes text ys xs b a) denied))
+
+  one_run : (budget : ℕ) (context text : List ℕ) (r s : Reply) → length context ≤ 4096 → OfRun budget context text r → OfRun budget context text s → r ≡ s
+  one_run budget context text r s h (Ran x is es a sound runs) (Ran y js fs b safe goes) =
+      let P : List Insn → Type 0 = λ is. Explains ⊥ [] (loaded is) budget (start 0 context) fs y in
+      let other = subst P (same_words text js is b a) goes in
+      let alone = events (loaded is) budget (start 0 context) es x runs in
+      let alone' = events (loaded is) budget (start 0 context) fs y other in
+      let Q : List Event → Type 0 = λ es. Explains ⊥ [] (loaded is) budget (start 0 context) es y in
+      ap reply.Ended (outcomes [] (loaded is) budget 0 context es x y h (unworn (loaded is) budget (start 0 context) es x runs)
+      (unworn (loaded is) budget (start 0 context) es y (subst Q (alone' ∙ sym alone) other)))
+  one_run budget context text r s h (Ran x is es a sound runs) (Unsound error js b first) =
+      let P : List Insn → Type 0 = λ is. IsFirst 0 is error in
+      absurd (firsts.1 0 is error sound (subst P (same_words text js is b a) first))
+  one_run budget context text r s h (Ran x is es a sound runs) (Unread e b) = absurd (no_words text is e b a)
+  one_run budget context text r s h (Unsound error js b first) (Ran x is es a sound runs) =
+      let P : List Insn → Type 0 = λ is. IsFirst 0 is error in
+      absurd (firsts.1 0 is error sound (subst P (same_words text js is b a) first))
+  one_run budget context text r s h (Unsound e is a first) (Unsound f js b lowest) =
+      let P : List Insn → Type 0 = λ is. IsFirst 0 is f in
+      ap (λ error. reply.Refused (refusal.Load error)) (firsts.0 0 is e f first (subst P (same_words text js is b a) lowest))
+  one_run budget context text r s h (Unsound error is a first) (Unread e b) = absurd (no_words text is e b a)
+  one_run budget context text r s h (Unread e b) (Ran x is es a sound runs) = absurd (no_words text is e b a)
+  one_run budget context text r s h (Unread e b) (Unsound error is a first) = absurd (no_words text is e b a)
+  one_run budget context text r s h (Unread e a) (Unread f b) = ap reply.Refused (one_refusal text e f a b)
+
+  one_listing : (text : List ℕ) (r s : Reply) → OfListing text r → OfListing text s → PrintsAs r s
+  one_listing text r s (Listed p a) (Listed q b) = (a.2 ∙ ap canonical (same_words text a.0 b.0 a.1 b.1) ∙ sym b.2, refl)
+  one_listing text r s (Listed p a) (Unlisted e b) = absurd (no_words text a.0 e b a.1)
+  one_listing text r s (Unlisted e b) (Listed p a) = absurd (no_words text a.0 e b a.1)
+  one_listing text r s (Unlisted e a) (Unlisted f b) = prints r s (ap reply.Refused (one_refusal text e f a b))
+
+  one_assembly : (text : List ℕ) (r s : Reply) → OfAssembly text r → OfAssembly text s → PrintsAs r s
+  one_assembly text r s (Assembled p a) (Assembled q b) =
+      let both : Ok a.0 ≡ Ok b.0 = texts text (Ok a.0) (Ok b.0) a.2 b.2 in
+      let same : a.0 ≡ b.0 = cc in
+      let P : List Insn → Type 0 = λ is. IsEncodedAs is b.1 in
+      let bytes = encodings a.0 a.1 b.1 a.3 b.3 a.4 (subst P (sym same) b.4) in
+      (a.5 ∙ ap (λ bytes. word_lines (length bytes / 8) bytes) bytes ∙ sym b.5, refl)
+  one_assembly text r s (Assembled p a) (NoAssembly e b) = let both : Ok a.0 ≡ Err e = texts text (Ok a.0) (Err e) a.2 b in absurd cc
+  one_assembly text r s (NoAssembly e b) (Assembled p a) = let both : Ok a.0 ≡ Err e = texts text (Ok a.0) (Err e) a.2 b in absurd cc
+  one_assembly text r s (NoAssembly e a) (NoAssembly f b) = let both = texts text (Err e) (Err f) a b in let same : e ≡ f = cc in prints r s (ap (λ error. reply.Refused (refusal.Text error)) same)
+
+  one_answer : (c : Command) (text : List ℕ) (r s : Reply) → IsShort c → IsAnswer c text r → IsAnswer c text s → IsOfInput r → IsOfInput s → PrintsAs r s
+  one_answer (command.Hex options) text r s h a b n m =
+      prints r s (one_run options.budget options.context.items text r s h (of_run options.budget options.context.items text r a n) (of_run options.budget options.context.items text s b m))
+  one_answer command.Asm text r s h a b n m = one_assembly text r s (of_assembly text r a n) (of_assembly text s b m)
+  one_answer command.Disasm text r s h a b n m = one_listing text r s (of_listing text r a n) (of_listing text s b m)
+
+  one_input : (c : Command) (input : List ℕ) (r s : Reply) → IsShort c → OfInput c input r → OfInput c input s → IsOfInput r → IsOfInput s → PrintsAs r s
+  one_input c input r s h (TooLong long) (TooLong more) n m = prints r s refl
+  one_input c input r s h (TooLong long) (NotText fits other) n m = absurd (omega arith)
+  one_input c input r s h (TooLong long) (Answered q fits text b) n m = absurd (omega arith)
+  one_input c input r s h (NotText fits other) (TooLong long) n m = absurd (omega arith)
+  one_input c input r s h (NotText fits other) (NotText whole none) n m = prints r s refl
+  one_input c input r s h (NotText fits other) (Answered q whole text b) n m = absurd (other text)
+  one_input c input r s h (Answered q fits text a) (TooLong long) n m = absurd (omega arith)
+  one_input c input r s h (Answered q fits text a) (NotText whole other) n m = absurd (other text)
+  one_input c input r s h (Answered q fits text a) (Answered p whole known b) n m = one_answer c input r s h a b n m
+
+  pub replies_are_determined : RepliesAreDetermined
+  replies_are_determined c input r s h a b n m = one_input c input r s h (of_input c input r a n) (of_input c input s b m) n m

@@ -1,0 +1,39 @@
+-- What follows from the definitions: what a command prints is a function of the bytes that it reads.
+use Rattle.std.specs.Prelude.{◌≡◌, ℕ, ◌≤◌, List, length}
+use Rattle.bpf_insn.specs.declared.error.InsnError.TheVariants as insn_error
+use Rattle.bpf_loader.specs.declared.refusal.LoadError.TheVariants as load_error
+use Rattle.bpf_text.specs.declared.error.TextError.TheVariants as text_error
+use Rattle.bpf_run.specs.Answer.{status_of, text_of}
+use Rattle.bpf_run.specs.Commands.{IsReply}
+use Rattle.bpf_run.specs.declared.command.Command.{Command}
+use Rattle.bpf_run.specs.declared.command.Command.TheVariants as command
+use Rattle.bpf_run.specs.declared.input.InputError.TheVariants as input_error
+use Rattle.bpf_run.specs.declared.refusal.Refusal.{Refusal}
+use Rattle.bpf_run.specs.declared.refusal.Refusal.TheVariants as refusal
+use Rattle.bpf_run.specs.declared.reply.Reply.{Reply}
+use Rattle.bpf_run.specs.declared.reply.Reply.TheVariants as reply
+
+-- a refusal that any input may get: a read failed, or memory was refused
+abbrev pub IsOutside : Refusal → Type 0
+IsOutside (refusal.Input input_error.Unread) = Unit {0}
+IsOutside (refusal.Input input_error.OutOfMemory) = Unit {0}
+IsOutside (refusal.Text text_error.OutOfMemory) = Unit {0}
+IsOutside (refusal.Insn insn_error.OutOfMemory) = Unit {0}
+IsOutside (refusal.Load load_error.OutOfMemory) = Unit {0}
+IsOutside refusal.OutOfMemory = Unit {0}
+IsOutside _ = ⊥
+
+-- the reply is of the input
+abbrev pub IsOfInput : Reply → Type 0
+IsOfInput (reply.Refused r) = ¬ IsOutside r
+IsOfInput _ = Unit {0}
+
+-- the context has its greatest length at most
+abbrev pub IsShort : Command → Type 0
+IsShort (command.Hex options) = length options.context.items ≤ 4096
+IsShort _ = Unit {0}
+
+-- replies of one input print one text, with one exit status
+abbrev pub RepliesAreDetermined : Type 0
+RepliesAreDetermined = (c : Command) (input : List ℕ) (r s : Reply) → IsShort c → IsReply c input r → IsReply c input s → IsOfInput r → IsOfInput s
+    → (text_of r ≡ text_of s) × (status_of r ≡ status_of s)

@@ -1,0 +1,17 @@
+//! What follows from the definitions of replies.
+//!
+//! The function does nothing: its contract is the law.
+ghost use Rattle.bpf_run.specs.Laws.{RepliesAreDetermined};
+
+/// What a command prints is a function of the bytes that it reads, want of memory and failing reads aside.
+pub fn replies_are_determined()
+    ensures { RepliesAreDetermined }
+{
+    bpf_insn::laws::words_are_determined();
+    bpf_insn::laws::encodings_are_determined();
+    bpf_insn::laws::refusals_are_determined();
+    bpf_loader::laws::first_is_determined();
+    bpf_text::laws::texts_are_determined();
+    bpf_cpu::laws::outcomes_are_determined();
+    bpf_cpu::laws::no_maps_no_events();
+}
