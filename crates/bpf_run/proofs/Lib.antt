@@ -2,3 +2,5 @@ pub mod Options
 pub mod Subcommands
 pub mod KnownBytes
 pub mod ReplyLemmas
+pub mod Walks
+pub mod Budget
