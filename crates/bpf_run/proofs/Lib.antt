@@ -3,3 +3,5 @@ pub mod Subcommands
 pub mod KnownBytes
 pub mod ReplyLemmas
 pub mod OneReply
+pub mod Walks
+pub mod Budget

@@ -1,9 +1,13 @@
 -- An option's values among the rows that a parse found are those that the matches' getters give.
-use Rattle.std.proofs.Common.{List, ℕ, codes}
-use Rattle.clap.specs.Words.{first_of, first_value, one_of, one_text, rows_of}
+use Rattle.std.proofs.Common.{◌≡◌, ◌≤◌, ◌∙◌, List, ℕ, Option, Some, None, Result, Ok, Err, codes, refl, arith, subst}
+use Rattle.std.specs.Prelude.{IsSomeAnd}
+use Rattle.std.specs.Str.Parse.{ParsesUnsigned}
+use Rattle.clap.specs.Matches.{ReadsOne}
+use Rattle.clap.specs.Values.{IsUnsignedIn}
+use Rattle.clap.specs.Words.{Text, first_of, first_value, one_of, one_text, rows_of}
 use Rattle.clap.specs.declared.parser.matches.Found.{Found}
 use Rattle.clap.proofs.WalkLemmas.{first_value-rows, one_text-rows}
-use Rattle.bpf_run.specs.CommandLine.{IsBudget, IsContext, RefusesContext}
+use Rattle.bpf_run.specs.CommandLine.{HasBudget, IsBudget, IsContext, NamesBudget, RefusesContext}
 use Rattle.bpf_run.specs.declared.command_line.CommandError.{CommandError}
 
 pub context_in_rows : (f : Found) (bytes : List ℕ) → IsContext (first_value f (codes "ctx")) bytes → IsContext (first_of (codes "ctx") (rows_of f)) bytes
@@ -12,5 +16,25 @@ context_in_rows f bytes h = rw (← first_value-rows f (codes "ctx")) h
 pub no_context_in_rows : (f : Found) (e : CommandError) → RefusesContext (first_value f (codes "ctx")) e → RefusesContext (first_of (codes "ctx") (rows_of f)) e
 no_context_in_rows f e h = rw (← first_value-rows f (codes "ctx")) h
 
-pub budget_in_rows : (f : Found) (n : ℕ) → IsBudget (one_text f (codes "budget")) n → IsBudget (one_of (codes "budget") (rows_of f)) n
-budget_in_rows f n h = rw (← one_text-rows f (codes "budget")) h
+-- a getter that reads the text of a number gives the number
+module _ (E : Type 0) (Gives : Text → Result ℕ E → Type 0) (parses : (t : Text) (x : Result ℕ E) → Gives t x → ParsesUnsigned 64 10 t x) where
+  number_read : (text : Text) (n : Option ℕ) → IsUnsignedIn 0 1000000000 text → ReadsOne Gives text n → IsSomeAnd n (IsBudget (Some text))
+  number_read text None h g = absurd (parses text (Err g.0) g.1 (h.0, h.1))
+  number_read text (Some n) h g = (h, (parses text (Ok n) g).1)
+
+  text_read : (text : Option Text) (n : Option ℕ) → IsSomeAnd text (IsUnsignedIn 0 1000000000) → ((t : Text) → text ≡ Some t → ReadsOne Gives t n)
+      → IsSomeAnd n (IsBudget text)
+  text_read None n h read = absurd h
+  text_read (Some text) n h read = number_read text n h (read text refl)
+
+  pub budget_read : (f : Found) (n : Option ℕ) → HasBudget (rows_of f) → ((t : Text) → one_text f (codes "budget") ≡ Some t → ReadsOne Gives t n)
+      → IsSomeAnd n (NamesBudget (rows_of f))
+  budget_read f n h read = with_default n (text_read (one_of (codes "budget") (rows_of f)) n h.0 (λ t e. read t (one_text-rows f (codes "budget") ∙ e)))
+    where
+      with_default : (n : Option ℕ) → IsSomeAnd n (IsBudget (one_of (codes "budget") (rows_of f))) → IsSomeAnd n (NamesBudget (rows_of f))
+      with_default None b = absurd b
+      with_default (Some n) b = (b, λ e. (subst (λ o. IsBudget o n) (h.1 e) b).1)
+
+pub budget_limited : (text : Option Text) (n : ℕ) → IsBudget text n → n ≤ 1000000000
+budget_limited None n b = absurd b
+budget_limited (Some text) n b = omega arith

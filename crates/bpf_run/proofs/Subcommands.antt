@@ -1,7 +1,7 @@
 -- Where `clap` finds no fault, the words name one of the program's three commands.
 use Rattle.std.proofs.Common.{◌≡◌, List, [], ◌∷◌, Bool, true, false, Option, Some, None, option_map, is_some, refl, inl, inr, cond}
 use Rattle.std.specs.Prelude.{IsSomeAnd, find}
-use Rattle.clap.specs.Kinds.{Kinds, or_else}
+use Rattle.clap.specs.Kinds.{or_else}
 use Rattle.clap.specs.Simple.{Shape, argument_words, built, entered, label_of, names_of, rows_at, subcommand_rows}
 use Rattle.clap.specs.Faults.{check_fault, defaults_fault, entered_fault, settle_fault, walk_fault}
 use Rattle.clap.specs.Walk.{Row, Text, answers_to, finished, nothing_held, settled, stop_after, walk, walk_from}
@@ -12,6 +12,7 @@ use Rattle.clap.specs.declared.parser.matches.SubCommand.{SubCommand}
 use Rattle.std.specs.Prelude.{Box}
 use Rattle.std.specs.Box.{box_value}
 use Rattle.bpf_run.specs.CommandLine.{IsCommandName, ebpf}
+use Rattle.bpf_run.proofs.Walks.{last_free}
 
 abbrev pub NamesKnown : Option (Text × List Row) → Type 0
 NamesKnown found = IsSomeAnd found (λ p. IsCommandName p.0)
@@ -34,10 +35,6 @@ find_known words test (s ∷ rest) known e =
 entered_known : (stop : Option (Text × List Text)) → is_some (entered (built ebpf) stop) ≡ true → NamesKnown (entered (built ebpf) stop)
 entered_known None e = cc
 entered_known (Some p) e = find_known p.1 (λ s. answers_to p.0 (label_of s)) (built ebpf).subs (inl refl, (inr (inl refl), (inr (inr refl), tt))) e
-
-last_free : (a b : Kinds) → or_else a b ≡ [] → b ≡ []
-last_free [] b e = e
-last_free (k ∷ ks) b e = cc
 
 has_command : (rows : List Row) (b : Bool) → check_fault (built ebpf).top rows b ≡ [] → b ≡ true
 has_command rows true e = refl

@@ -1,5 +1,5 @@
 -- The command line of `ebpf`, and the command that its words name. Our own choice.
-use Rattle.std.specs.Prelude.{◌≡◌, ◌<◌, ◌≤◌, ◌⊎◌, ℕ, List, Option, Some, None, Ok, IfOk, IsSomeAnd, codes, [], ◌∷◌, length, true}
+use Rattle.std.specs.Prelude.{◌≡◌, ◌<◌, ◌≤◌, ◌⊎◌, ℕ, List, Option, Some, None, Ok, IfOk, IsSomeAnd, codes, [], ◌∷◌, length, true, false}
 use Rattle.std.specs.Str.Parse.{digits_value, without_leading_plus}
 use Rattle.clap.specs.Kinds.{IsAmong}
 use Rattle.bpf_run.specs.declared.command.Command.{Command}
@@ -9,6 +9,7 @@ use Rattle.bpf_run.specs.declared.command_line.CommandError.TheVariants as error
 use Rattle.hex.specs.Hex.{decode_of}
 use Rattle.clap.specs.Values.{IsUnsignedIn}
 use Rattle.clap.specs.Simple.{new_shape}
+use Rattle.clap.specs.Takes.{is_given}
 use Rattle.clap.specs.Words.{App, Row, Rule, Text, fault_of, first_of, kind_of, new_app, new_rule, one_of, subcommand_of, with_rule, with_subcommand}
 use Rattle.clap.specs.declared.builder.value_parser.ValueParser.TheVariants.{Unsigned}
 
@@ -53,11 +54,21 @@ ebpf = with_subcommand (with_subcommand (with_subcommand bare hex.top) asm.top) 
 abbrev pub IsCommandName : Text → Type 0
 IsCommandName name = (name ≡ codes "hex") ⊎ ((name ≡ codes "asm") ⊎ (name ≡ codes "disasm"))
 
+-- what is found of `--budget`: a number in the range, and the default where it isn't given
+abbrev pub HasBudget : List Row → Type 0
+HasBudget rows = IsSomeAnd (one_of (codes "budget") rows) (IsUnsignedIn 0 1000000000)
+    × (is_given (codes "budget") rows ≡ false → one_of (codes "budget") rows ≡ Some (codes "1000000"))
+
 -- the budget that a text names: a number in the range, in decimal digits
 abbrev pub IsBudget : Option Text → ℕ → Type 0
-IsBudget None n = Unit {0}
+IsBudget None n = ⊥
 IsBudget (Some text) n = IsUnsignedIn 0 1000000000 text
-    → n ≡ digits_value 10 (without_leading_plus text)
+    × (n ≡ digits_value 10 (without_leading_plus text))
+
+-- the budget that the options name: that of the text, and 1,000,000 where the option is left out
+abbrev pub NamesBudget : List Row → ℕ → Type 0
+NamesBudget rows n = IsBudget (one_of (codes "budget") rows) n
+    × (is_given (codes "budget") rows ≡ false → n ≡ 1000000)
 
 -- the context's bytes, two hex digits each; none where the option is left out
 abbrev pub IsContext : Option Text → List ℕ → Type 0
@@ -74,7 +85,7 @@ RefusesContext _ _ = ⊥
 abbrev pub Names : Option (Text × List Row) → Command → Type 0
 Names None _ = ⊥
 Names (Some found) (command.Hex options) = (found.0 ≡ codes "hex")
-    × IsBudget (one_of (codes "budget") found.1) options.budget
+    × NamesBudget found.1 options.budget
     × IsContext (first_of (codes "ctx") found.1) options.context.items
 Names (Some found) command.Asm = found.0 ≡ codes "asm"
 Names (Some found) command.Disasm = found.0 ≡ codes "disasm"

@@ -1,19 +1,16 @@
 //! The command line: what `clap` reads in the words, and the command that they name.
 
-ghost use Rattle.std.specs.Prelude.{◌≡◌, ◌≤◌, ◌⊎◌, [], false, codes, IfErr, IfOk, IsSomeAnd, List, map, OnOk, Some, ℕ};
+ghost use Rattle.std.specs.Prelude.{◌≡◌, ◌≤◌, ◌⊎◌, [], false, codes, IfErr, IfOk, IfSome, IsSomeAnd, List, map, OnOk, Some, ℕ};
 ghost use Rattle.clap.specs.Kinds.{FailsBy};
-ghost use Rattle.clap.specs.Words.{app_of, fault_of, first_of, first_value, found_of, one_text, rows_of, rule_of, shape_of, subcommand_name_of, subcommand_of, subcommand_rows_of};
+ghost use Rattle.clap.specs.Words.{app_of, fault_of, first_of, first_value, found_of, rows_of, rule_of, shape_of, subcommand_name_of, subcommand_of, subcommand_rows_of};
 ghost use Rattle.clap.specs.declared.builder.command.Command.TheViews.{out-Command as fields_of};
-ghost use Rattle.bpf_run.specs.CommandLine.{asm, bare, budget, context, disasm, ebpf, hex, IsBudget, IsCommandName, IsContext, Names, Refuses, RefusesContext};
+ghost use Rattle.bpf_run.specs.CommandLine.{asm, bare, budget, context, disasm, ebpf, HasBudget, hex, IsCommandName, IsContext, Names, NamesBudget, Refuses, RefusesContext};
 
 use crate::command::{Command, RunOptions};
 use clap::error::ErrorKind;
 use clap::{Arg, ArgMatches, value_parser};
 use hex::FromHexError;
 use std::alloc::{AllocError, Global};
-
-/// The greatest number of steps that a run may be given.
-pub const MAX_BUDGET: u64 = 1_000_000_000;
 
 /// The greatest number of bytes of a context.
 pub const MAX_CONTEXT: usize = 4096;
@@ -116,6 +113,8 @@ fn matches_of<'a>(alloc: Global, words: &'a [&'a str]) -> Result<ArgMatches<'a>,
     ensures found { IfOk result (λ m. subcommand_rows_of m
         ≡ subcommand_of ebpf (map (λ s. s.now) words.entry.now)) }
     ensures known { IfOk result (λ m. IsSomeAnd (subcommand_name_of m) IsCommandName) }
+    ensures checked { IfOk result (λ m. IfSome (subcommand_rows_of m)
+        (λ found. found.0 ≡ codes "hex" → HasBudget found.1)) }
     ensures faults { FailsBy (fault_of ebpf (map (λ s. s.now) words.entry.now)) result }
 {
     let matches = ebpf_command(alloc)?.try_get_matches_from(words)?;
@@ -123,12 +122,14 @@ fn matches_of<'a>(alloc: Global, words: &'a [&'a str]) -> Result<ArgMatches<'a>,
 }
 
 fn budget_of(options: &ArgMatches) -> u64
-    ensures given { IsBudget (one_text (found_of options.now) (codes "budget")) result }
-    ensures limited { result ≤ MAX_BUDGET }
+    requires checked { HasBudget (rows_of (found_of options.now)) }
+    ensures named { NamesBudget (rows_of (found_of options.now)) result }
+    ensures limited { result ≤ 1000000000 }
 {
-    // `clap` lets no other number through.
-    let given = options.get_one::<u64>("budget");
-    given.unwrap_or(MAX_BUDGET).min(MAX_BUDGET)
+    let Some(budget) = options.get_one::<u64>("budget") else {
+        unreachable!();
+    };
+    budget
 }
 
 fn context_bytes(alloc: Global, digits: &str) -> Result<Vec<u8>, CommandError>
@@ -157,6 +158,7 @@ fn context_of(alloc: Global, options: &ArgMatches) -> Result<Vec<u8>, CommandErr
 }
 
 fn hex_of(alloc: Global, options: &ArgMatches) -> Result<Command, CommandError>
+    requires checked { HasBudget (rows_of (found_of options.now)) }
     ensures named { IfOk result (Names (Some (codes "hex", rows_of (found_of options.now)))) }
     ensures refused { IfErr result (RefusesContext (first_of (codes "ctx") (rows_of (found_of options.now)))) }
 {
@@ -167,6 +169,7 @@ fn hex_of(alloc: Global, options: &ArgMatches) -> Result<Command, CommandError>
 
 fn named(alloc: Global, name: &str, options: &ArgMatches) -> Result<Command, CommandError>
     requires known { IsCommandName name.now }
+    requires checked { name.now ≡ codes "hex" → HasBudget (rows_of (found_of options.now)) }
     ensures named { IfOk result (Names (Some (name.now, rows_of (found_of options.now)))) }
     ensures refused { IfErr result (λ e. (e ≡ CommandError.OutOfMemory) ⊎ ((e ≡ CommandError.NotHex)
         × (name.now ≡ codes "hex") × RefusesContext (first_of (codes "ctx") (rows_of (found_of options.now))) e)) }

@@ -1,6 +1,8 @@
-use Rattle.std.proofs.Common.{rules, ◌≡◌, [], List, map}
+use Rattle.std.proofs.Common.{rules, ◌≡◌, [], List, map, subst, sym}
+use Rattle.std.specs.Prelude.{IfSome}
 use Rattle.clap.specs.Words.{Text, fault_of, subcommand_of, subcommand_rows_of}
 use Rattle.bpf_run.specs.CommandLine.{ebpf}
+use Rattle.bpf_run.proofs.Budget.{BudgetKnown, budget_known}
 use Rattle.bpf_run.proofs.Subcommands.{name_known}
 use Rattle.bpf_run.proofs.command_line.matches_of.Goals as goal
 
@@ -10,3 +12,10 @@ returns-clause-known c =
     let found : subcommand_rows_of c.in_ok-matches.matches ≡ subcommand_of ebpf words = search rules in
     let free : fault_of ebpf words ≡ [] = search rules in
     name_known c.in_ok-matches.matches words free found
+
+pub returns-clause-checked : goal.returns-clause-checked
+returns-clause-checked c =
+    let words : List Text = map (λ s. s.now) c.args.words.now in
+    let found : subcommand_rows_of c.in_ok-matches.matches ≡ subcommand_of ebpf words = search rules in
+    let free : fault_of ebpf words ≡ [] = search rules in
+    subst (λ o. IfSome o BudgetKnown) (sym found) (budget_known words free)
