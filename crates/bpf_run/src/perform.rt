@@ -1,13 +1,13 @@
 //! A whole command: what it reads, does and writes.
 
-ghost use Rattle.std.specs.Prelude.{◌≤◌, ◌+◌, ◌⊎◌, codes, IfSome, List, length, ℕ};
+ghost use Rattle.std.specs.Prelude.{◌≤◌, ◌≢◌, ◌+◌, ◌⊎◌, codes, IfSome, List, length, ℕ};
 ghost use Rattle.std.specs.Io.KnownBytes.{Consumes};
 ghost use Rattle.bpf_run.specs.Answer.{Answers, IsWritten, status_of, text_of};
 ghost use Rattle.bpf_run.specs.Commands.{IsReply, max_input};
 ghost use Rattle.bpf_run.specs.declared.reply.Reply.{Reply};
 
 use crate::command::Command;
-use crate::input::read_whole;
+use crate::input::{InputError, read_whole};
 use crate::output::write_whole;
 use crate::pipeline::reply;
 use crate::refusal::Refusal;
@@ -47,7 +47,8 @@ pub fn answer<W: Write>(alloc: Global, reply: &Reply, writer: &mut W) -> Status
 
 fn reply_to(alloc: Global, command: Command, input: &[u8]) -> Reply
     requires { length input.now ≤ max_input }
-    ensures { IsReply command input.now result }
+    ensures reply { IsReply command input.now result }
+    ensures own { (e : InputError) → result ≢ Reply.Refused (Refusal.Input e) }
 {
     match str::from_utf8(input) {
         Ok(text) => reply(alloc, command, text),
