@@ -26,7 +26,7 @@ use Rattle.bpf_text.specs.declared.error.TextError.{TextError}
 use Rattle.bpf_text.specs.declared.error.TextError.TheVariants as text_error
 use Rattle.bpf_run.specs.Answer.{status_of, text_of}
 use Rattle.bpf_run.specs.Commands.{IsAnswer, IsAssembled, IsDisassembled, IsReply, IsRun, IsWordsOf, RefusesAssembly, RefusesInput, RefusesProgram, RefusesWords, max_input}
-use Rattle.bpf_run.specs.Laws.{IsOfInput, IsOutside, IsShort, RepliesAreDetermined}
+use Rattle.bpf_run.specs.Laws.{IsOfInput, IsForAnyInput, HasShortContext, RepliesAreDetermined}
 use Rattle.bpf_run.specs.Listing.{word_lines}
 use Rattle.bpf_run.specs.declared.command.Command.{Command}
 use Rattle.bpf_run.specs.declared.command.Command.TheVariants as command
@@ -71,17 +71,17 @@ data OfListing (text : List ℕ) : Reply → Type 0 where
   Listed : (printed : _) → IsDisassembled text (reply.Text printed) → OfListing text (reply.Text printed)
   Unlisted : (r : Refusal) → OfWords text r → OfListing text (reply.Refused r)
 
-of_insn : (text : List ℕ) (error : InsnError) → RefusesWords text (refusal.Insn error) → ¬ IsOutside (refusal.Insn error) → OfWords text (refusal.Insn error)
+of_insn : (text : List ℕ) (error : InsnError) → RefusesWords text (refusal.Insn error) → ¬ IsForAnyInput (refusal.Insn error) → OfWords text (refusal.Insn error)
 of_insn text insn_error.OutOfMemory h n = absurd (n tt)
 of_insn text error h n = NoWords error h.0 h.1 h.2 (λ e. cc)
 
-of_words : (text : List ℕ) (r : Refusal) → RefusesWords text r → ¬ IsOutside r → OfWords text r
+of_words : (text : List ℕ) (r : Refusal) → RefusesWords text r → ¬ IsForAnyInput r → OfWords text r
 of_words text (refusal.Text text_error.NotHex) h n = NoDigits h
 of_words text (refusal.Text text_error.OutOfMemory) h n = absurd (n tt)
 of_words text (refusal.Insn error) h n = of_insn text error h n
 of_words text _ h n = absurd h
 
-of_program : (budget : ℕ) (context text : List ℕ) (r : Refusal) → RefusesProgram text r → ¬ IsOutside r → OfRun budget context text (reply.Refused r)
+of_program : (budget : ℕ) (context text : List ℕ) (r : Refusal) → RefusesProgram text r → ¬ IsForAnyInput r → OfRun budget context text (reply.Refused r)
 of_program budget context text (refusal.Load load_error.OutOfMemory) h n = absurd (n tt)
 of_program budget context text (refusal.Load error) h n = Unsound error h.0 h.1 (h.2 (λ e. cc))
 of_program budget context text r h n = Unread r (of_words text r h n)
@@ -92,14 +92,14 @@ of_run budget context text (reply.Refused refusal.OutOfMemory) h n = absurd (n t
 of_run budget context text (reply.Refused r) h n = of_program budget context text r h n
 of_run budget context text (reply.Text printed) h n = absurd h
 
-of_refused_text : (text : List ℕ) (error : TextError) → RefusesAssembly text (refusal.Text error) → ¬ IsOutside (refusal.Text error) → OfAssembly text (reply.Refused (refusal.Text error))
-of_refused_text text error (inl memory) n = absurd (n (subst (λ (e : TextError). IsOutside (refusal.Text e)) (sym memory) tt))
+of_refused_text : (text : List ℕ) (error : TextError) → RefusesAssembly text (refusal.Text error) → ¬ IsForAnyInput (refusal.Text error) → OfAssembly text (reply.Refused (refusal.Text error))
+of_refused_text text error (inl memory) n = absurd (n (subst (λ (e : TextError). IsForAnyInput (refusal.Text e)) (sym memory) tt))
 of_refused_text text error (inr h) n = NoAssembly error h
 
 of_assembly : (text : List ℕ) (r : Reply) → IsAssembled text r → IsOfInput r → OfAssembly text r
 of_assembly text (reply.Text printed) h n = Assembled printed h
 of_assembly text (reply.Refused (refusal.Text error)) h n = of_refused_text text error h n
-of_assembly text (reply.Refused (refusal.Insn error)) h n = absurd (n (subst (λ (e : InsnError). IsOutside (refusal.Insn e)) (sym h) tt))
+of_assembly text (reply.Refused (refusal.Insn error)) h n = absurd (n (subst (λ (e : InsnError). IsForAnyInput (refusal.Insn e)) (sym h) tt))
 of_assembly text (reply.Refused r) h n = absurd h
 of_assembly text (reply.Ended outcome) h n = absurd h
 
@@ -113,7 +113,7 @@ data OfInput (c : Command) (input : List ℕ) : Reply → Type 0 where
   NotText : length input ≤ max_input → ¬ IsUtf8 input → OfInput c input (reply.Refused refusal.NotText)
   Answered : (r : Reply) → length input ≤ max_input → IsUtf8 input → IsAnswer c input r → OfInput c input r
 
-of_refusal : (c : Command) (input : List ℕ) (e : Refusal) → RefusesInput input e → ¬ IsOutside e → OfInput c input (reply.Refused e)
+of_refusal : (c : Command) (input : List ℕ) (e : Refusal) → RefusesInput input e → ¬ IsForAnyInput e → OfInput c input (reply.Refused e)
 of_refusal c input (refusal.Input input_error.Unread) h n = absurd (n tt)
 of_refusal c input (refusal.Input input_error.TooLong) h n = TooLong h
 of_refusal c input (refusal.Input input_error.OutOfMemory) h n = absurd (n tt)
@@ -192,13 +192,13 @@ module _ (words : WordsAreDetermined) (encodings : EncodingsAreDetermined) (refu
   one_assembly text r s (NoAssembly e b) (Assembled p a) = let both : Ok a.0 ≡ Err e = texts text (Ok a.0) (Err e) a.2 b in absurd cc
   one_assembly text r s (NoAssembly e a) (NoAssembly f b) = let both = texts text (Err e) (Err f) a b in let same : e ≡ f = cc in prints r s (ap (λ error. reply.Refused (refusal.Text error)) same)
 
-  one_answer : (c : Command) (text : List ℕ) (r s : Reply) → IsShort c → IsAnswer c text r → IsAnswer c text s → IsOfInput r → IsOfInput s → PrintsAs r s
+  one_answer : (c : Command) (text : List ℕ) (r s : Reply) → HasShortContext c → IsAnswer c text r → IsAnswer c text s → IsOfInput r → IsOfInput s → PrintsAs r s
   one_answer (command.Hex options) text r s h a b n m =
       prints r s (one_run options.budget options.context.items text r s h (of_run options.budget options.context.items text r a n) (of_run options.budget options.context.items text s b m))
   one_answer command.Asm text r s h a b n m = one_assembly text r s (of_assembly text r a n) (of_assembly text s b m)
   one_answer command.Disasm text r s h a b n m = one_listing text r s (of_listing text r a n) (of_listing text s b m)
 
-  one_input : (c : Command) (input : List ℕ) (r s : Reply) → IsShort c → OfInput c input r → OfInput c input s → IsOfInput r → IsOfInput s → PrintsAs r s
+  one_input : (c : Command) (input : List ℕ) (r s : Reply) → HasShortContext c → OfInput c input r → OfInput c input s → IsOfInput r → IsOfInput s → PrintsAs r s
   one_input c input r s h (TooLong long) (TooLong more) n m = prints r s refl
   one_input c input r s h (TooLong long) (NotText fits other) n m = absurd (omega arith)
   one_input c input r s h (TooLong long) (Answered q fits text b) n m = absurd (omega arith)

@@ -14,26 +14,26 @@ use Rattle.bpf_run.specs.declared.reply.Reply.{Reply}
 use Rattle.bpf_run.specs.declared.reply.Reply.TheVariants as reply
 
 -- a refusal that any input may get: a read failed, or memory was refused
-abbrev pub IsOutside : Refusal → Type 0
-IsOutside (refusal.Input input_error.Unread) = Unit {0}
-IsOutside (refusal.Input input_error.OutOfMemory) = Unit {0}
-IsOutside (refusal.Text text_error.OutOfMemory) = Unit {0}
-IsOutside (refusal.Insn insn_error.OutOfMemory) = Unit {0}
-IsOutside (refusal.Load load_error.OutOfMemory) = Unit {0}
-IsOutside refusal.OutOfMemory = Unit {0}
-IsOutside _ = ⊥
+abbrev pub IsForAnyInput : Refusal → Type 0
+IsForAnyInput (refusal.Input input_error.Unread) = Unit {0}
+IsForAnyInput (refusal.Input input_error.OutOfMemory) = Unit {0}
+IsForAnyInput (refusal.Text text_error.OutOfMemory) = Unit {0}
+IsForAnyInput (refusal.Insn insn_error.OutOfMemory) = Unit {0}
+IsForAnyInput (refusal.Load load_error.OutOfMemory) = Unit {0}
+IsForAnyInput refusal.OutOfMemory = Unit {0}
+IsForAnyInput _ = ⊥
 
 -- the reply is of the input
 abbrev pub IsOfInput : Reply → Type 0
-IsOfInput (reply.Refused r) = ¬ IsOutside r
+IsOfInput (reply.Refused r) = ¬ IsForAnyInput r
 IsOfInput _ = Unit {0}
 
 -- the context has its greatest length at most
-abbrev pub IsShort : Command → Type 0
-IsShort (command.Hex options) = length options.context.items ≤ 4096
-IsShort _ = Unit {0}
+abbrev pub HasShortContext : Command → Type 0
+HasShortContext (command.Hex options) = length options.context.items ≤ 4096
+HasShortContext _ = Unit {0}
 
 -- replies of one input print one text, with one exit status
 abbrev pub RepliesAreDetermined : Type 0
-RepliesAreDetermined = (c : Command) (input : List ℕ) (r s : Reply) → IsShort c → IsReply c input r → IsReply c input s → IsOfInput r → IsOfInput s
+RepliesAreDetermined = (c : Command) (input : List ℕ) (r s : Reply) → HasShortContext c → IsReply c input r → IsReply c input s → IsOfInput r → IsOfInput s
     → (text_of r ≡ text_of s) × (status_of r ≡ status_of s)
