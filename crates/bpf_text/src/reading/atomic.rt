@@ -1,0 +1,236 @@
+//! Atomic operations: those that `lock` begins, and those whose result a register takes.
+
+ghost use Rattle.std.specs.Prelude.{map};
+ghost use Rattle.bpf_text.specs.Look.{look};
+ghost use Rattle.bpf_text.specs.Reading.{atomic_end, atomic_at, fetch_at, exchange_at, compared_at, expected_at, compare_exchange_at, locked_at, lock_at};
+ghost use Rattle.bpf_text.specs.Judging.{Judged, literal_value};
+
+use crate::pieces::{self, Literal};
+use crate::reading::{Draft, LineError, plain};
+use crate::signs::Sign;
+use crate::token::Token;
+use bpf_insn::{AtomicOp, Insn, Reg, Width};
+
+/// The atomic operation, where the line ends.
+#[tactic(auto, unfolding(crate::specs::Reading::atomic_end))]
+fn atomic_end<'a>(
+    op: AtomicOp,
+    width: Width,
+    base: Reg,
+    offset: Literal<'a>,
+    src: Reg,
+    tokens: &[Token<'a>],
+) -> Result<Draft<'a>, LineError>
+    ensures { Judged result (atomic_end op width base (literal_value offset.entry) src (map look tokens.now)) }
+{
+    match tokens {
+        [] => {
+            let Some(offset) = offset.offset() else {
+                return Err(LineError::BadNumber);
+            };
+            plain(Insn::Atomic {
+                width,
+                op,
+                base,
+                offset,
+                src,
+            })
+        }
+        _ => Err(LineError::BadLine),
+    }
+}
+
+/// Behind the place of an operation that fetches: `, R)`.
+#[tactic(auto, unfolding(crate::specs::Reading::atomic_at))]
+fn fetched<'a>(
+    op: AtomicOp,
+    width: Width,
+    dst: Reg,
+    base: Reg,
+    offset: Literal<'a>,
+    tokens: &[Token<'a>],
+) -> Result<Draft<'a>, LineError>
+    ensures { Judged result (atomic_at op width dst base (literal_value offset.entry) (map look tokens.now)) }
+{
+    match tokens {
+        [
+            Token::Mark(Sign::Comma),
+            Token::Register(w, src),
+            Token::Mark(Sign::Close),
+            rest @ ..,
+        ] => {
+            if pieces::same_width(*w, width) && pieces::same_register(*src, dst) {
+                atomic_end(op, width, base, offset, dst, rest)
+            } else {
+                Err(LineError::BadLine)
+            }
+        }
+        _ => Err(LineError::BadLine),
+    }
+}
+
+/// Behind `= atomic_fetch_add`.
+#[tactic(auto, unfolding(crate::specs::Reading::fetch_at))]
+pub(crate) fn fetch<'a>(
+    op: AtomicOp,
+    width: Width,
+    dst: Reg,
+    tokens: &[Token<'a>],
+) -> Result<Draft<'a>, LineError>
+    ensures { Judged result (fetch_at op width dst (map look tokens.now)) }
+{
+    match tokens {
+        [Token::Mark(Sign::Open), rest @ ..] => {
+            let Some((size, base, offset, rest)) = pieces::cell(rest) else {
+                return Err(LineError::BadLine);
+            };
+            let Some(w) = pieces::cell_width(size) else {
+                return Err(LineError::BadLine);
+            };
+            if pieces::same_width(w, width) {
+                fetched(op, width, dst, base, offset, rest)
+            } else {
+                Err(LineError::BadLine)
+            }
+        }
+        _ => Err(LineError::BadLine),
+    }
+}
+
+/// Behind `= xchg_64`.
+#[tactic(auto, unfolding(crate::specs::Reading::exchange_at))]
+pub(crate) fn exchange<'a>(
+    width: Width,
+    dst: Reg,
+    tokens: &[Token<'a>],
+) -> Result<Draft<'a>, LineError>
+    ensures { Judged result (exchange_at width dst (map look tokens.now)) }
+{
+    match tokens {
+        [Token::Mark(Sign::Open), rest @ ..] => {
+            let Some((base, offset, rest)) = pieces::address(rest) else {
+                return Err(LineError::BadLine);
+            };
+            fetched(AtomicOp::Exchange, width, dst, base, offset, rest)
+        }
+        _ => Err(LineError::BadLine),
+    }
+}
+
+/// Behind `cmpxchg_64(R + n, r0`.
+#[tactic(auto, unfolding(crate::specs::Reading::compared_at))]
+fn compared<'a>(
+    width: Width,
+    base: Reg,
+    offset: Literal<'a>,
+    tokens: &[Token<'a>],
+) -> Result<Draft<'a>, LineError>
+    ensures { Judged result (compared_at width base (literal_value offset.entry) (map look tokens.now)) }
+{
+    match tokens {
+        [
+            Token::Mark(Sign::Comma),
+            Token::Register(w, src),
+            Token::Mark(Sign::Close),
+            rest @ ..,
+        ] => {
+            if pieces::same_width(*w, width) {
+                let op = AtomicOp::CompareExchange;
+                atomic_end(op, width, base, offset, *src, rest)
+            } else {
+                Err(LineError::BadLine)
+            }
+        }
+        _ => Err(LineError::BadLine),
+    }
+}
+
+/// Behind `cmpxchg_64(R + n`.
+#[tactic(auto, unfolding(crate::specs::Reading::expected_at))]
+fn expected<'a>(
+    width: Width,
+    base: Reg,
+    offset: Literal<'a>,
+    tokens: &[Token<'a>],
+) -> Result<Draft<'a>, LineError>
+    ensures { Judged result (expected_at width base (literal_value offset.entry) (map look tokens.now)) }
+{
+    match tokens {
+        [
+            Token::Mark(Sign::Comma),
+            Token::Register(w, Reg::R0),
+            rest @ ..,
+        ] => {
+            if pieces::same_width(*w, width) {
+                compared(width, base, offset, rest)
+            } else {
+                Err(LineError::BadLine)
+            }
+        }
+        _ => Err(LineError::BadLine),
+    }
+}
+
+/// Behind `R = cmpxchg_64`.
+#[tactic(auto, unfolding(crate::specs::Reading::compare_exchange_at))]
+pub(crate) fn compare_exchange<'a>(
+    width: Width,
+    dst: Reg,
+    tokens: &[Token<'a>],
+) -> Result<Draft<'a>, LineError>
+    ensures { Judged result (compare_exchange_at width dst (map look tokens.now)) }
+{
+    match (dst, tokens) {
+        (Reg::R0, [Token::Mark(Sign::Open), rest @ ..]) => {
+            let Some((base, offset, rest)) = pieces::address(rest) else {
+                return Err(LineError::BadLine);
+            };
+            expected(width, base, offset, rest)
+        }
+        _ => Err(LineError::BadLine),
+    }
+}
+
+/// Behind `lock *(u64 *)(R + n)`.
+#[tactic(auto, unfolding(crate::specs::Reading::locked_at))]
+fn locked<'a>(
+    width: Width,
+    base: Reg,
+    offset: Literal<'a>,
+    tokens: &[Token<'a>],
+) -> Result<Draft<'a>, LineError>
+    ensures { Judged result (locked_at width base (literal_value offset.entry) (map look tokens.now)) }
+{
+    match tokens {
+        [
+            Token::Mark(sign),
+            Token::Register(Width::Bits64, src),
+            rest @ ..,
+        ] => {
+            let Some(op) = pieces::locked_op(*sign) else {
+                return Err(LineError::BadLine);
+            };
+            atomic_end(op, width, base, offset, *src, rest)
+        }
+        _ => Err(LineError::BadLine),
+    }
+}
+
+/// Behind `lock`.
+#[tactic(auto, unfolding(crate::specs::Reading::lock_at))]
+pub(crate) fn lock<'a>(tokens: &[Token<'a>]) -> Result<Draft<'a>, LineError>
+    ensures { Judged result (lock_at (map look tokens.now)) }
+{
+    match tokens {
+        [Token::Mark(Sign::Star), rest @ ..] => {
+            let Some((size, base, offset, rest)) = pieces::cell(rest) else {
+                return Err(LineError::BadLine);
+            };
+            let Some(width) = pieces::cell_width(size) else {
+                return Err(LineError::BadLine);
+            };
+            locked(width, base, offset, rest)
+        }
+        _ => Err(LineError::BadLine),
+    }
+}
