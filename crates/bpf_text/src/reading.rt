@@ -32,6 +32,7 @@ pub struct Draft<'a> {
     pub target: Option<&'a [u8]>,
 }
 
+/// An instruction whose target no label names.
 pub(crate) fn plain<'a>(insn: Insn) -> Result<Draft<'a>, LineError>
     ensures { Judged result (plain insn) }
 {
