@@ -3,9 +3,9 @@ use Rattle.std.proofs.Common.{◌≡◌, ◌≢◌, ℕ, zero, suc, List, Option
 use Rattle.bpf_shared.specs.declared.events.Event.{Event}
 use Rattle.bpf_shared.specs.declared.shapes.MapShape.{MapShape}
 use Rattle.bpf_shared.specs.Store.{Plain}
-use Rattle.bpf_shared.specs.Sound.{IsSound}
+use Rattle.bpf_shared.specs.Sound.{IsSoundStore}
 use Rattle.bpf_shared.specs.Chain.{Chain}
-use Rattle.bpf_shared.specs.Seen.{Seen, has_cpu, shapes_of, Shows, Passes}
+use Rattle.bpf_shared.specs.Contents.{Contents, has_cpu, shapes_of, StandsFor, Passes}
 use Rattle.bpf_loader.specs.Loaded.{Loaded}
 use Rattle.bpf_cpu.specs.declared.cpu.Cpu.{Cpu}
 use Rattle.bpf_cpu.specs.declared.outcome.Turn.{Turn}
@@ -17,11 +17,11 @@ use Rattle.bpf_cpu.specs.Schedule.{Advances, outcome_after}
 use Rattle.bpf_cpu.proofs.OwnEvents.{chain_leads}
 
 -- from each plain store that the first value shows, the job's step leads to one that the second shows
-abbrev pub StepLeads : Loaded → Seen → Seen → Cpu → ℕ → Option Outcome → Cpu → ℕ → Type 0
+abbrev pub StepLeads : Loaded → Contents → Contents → Cpu → ℕ → Option Outcome → Cpu → ℕ → Type 0
 StepLeads program x y old n end new left =
-    (s : Plain) → IsSound s → Shows x s → (t : Plain) × Advances program old.number s old n end t new left × IsSound t × Shows y t
+    (s : Plain) → IsSoundStore s → StandsFor x s → (t : Plain) × Advances program old.number s old n end t new left × IsSoundStore t × StandsFor y t
 
-module _ (program : Loaded) (x y : Seen) (old new : Cpu) where
+module _ (program : Loaded) (x y : Contents) (old new : Cpu) where
   pub no_step_leads : (n : ℕ) → n ≡ 0 → StepLeads program x x old n (Some (OutOfBudget old.pc)) old n
   no_step_leads n e = let P : ℕ → Type 0 = λ k. StepLeads program x x old k (Some (OutOfBudget old.pc)) old k in subst P (sym e) (λ s sound shows. (s, (refl, refl, refl, refl), sound, shows))
 

@@ -6,7 +6,7 @@ use Rattle.std.proofs.lemmas.List.{length-set}
 use Rattle.std.proofs.lemmas.Option.{slice_get_within}
 use Rattle.bpf_shared.specs.Store.{put}
 use Rattle.bpf_shared.specs.Puts.{put-same, put-other}
-use Rattle.bpf_shared.specs.Seen.{Seen, has_cpu, is_running}
+use Rattle.bpf_shared.specs.Contents.{Contents, has_cpu, is_running}
 use Rattle.bpf_loader.specs.Loaded.{Loaded}
 use Rattle.bpf_loader.specs.Places.{IsStart}
 use Rattle.bpf_cpu.specs.declared.cpu.Cpu.{Cpu}
@@ -29,7 +29,7 @@ use Rattle.bpf_cpu.proofs.WorkLaws.{WaitsAt, waits_at, no_hand, is_next}
 pub ready_to_start : (program : Loaded) (number : ℕ) (context : List ℕ) → IsStart program.instructions 0 → IsReady program (start number context)
 ready_to_start program number context starts = start_ready program (start number context) context refl starts
 
-module _ (store : Seen) (programs : List Loaded) (jobs : List Listed) (lanes : List Lane) (board : IsBoard (has_cpu store) (is_running store) programs jobs lanes)
+module _ (store : Contents) (programs : List Loaded) (jobs : List Listed) (lanes : List Lane) (board : IsBoard (has_cpu store) (is_running store) programs jobs lanes)
     (c j : ℕ) (next : IsNext (tasks_of lanes jobs) c j) where
   at : WaitsAt (has_cpu store) (is_running store) programs jobs lanes board c j next.1.0 next.1.1
   at = waits_at (has_cpu store) (is_running store) programs jobs lanes board c j next.1.0 next.1.1 next.1.2
@@ -98,7 +98,7 @@ module _ (store : Seen) (programs : List Loaded) (jobs : List Listed) (lanes : L
           ∙ (ap (λ (s : Cpu). with_stage (tasks_of lanes jobs) j (task_of lanes e) (InHand s e.budget)) started
           ∙ ap (λ (t : Task). with_stage (tasks_of lanes jobs) j t (InHand (start c next.1.1) t.budget)) (sym shown)))
 
-      module _ (after : Seen) (serves_same : has_cpu after ≡ has_cpu store) (running : is_running after ≡ put (is_running store) c true)
+      module _ (after : Contents) (serves_same : has_cpu after ≡ has_cpu store) (running : is_running after ≡ put (is_running store) c true)
           (program : Loaded) (loaded : slice_get programs e.program ≡ Some program) (starts : IsStart program.instructions 0) where
         held_now : (h : Hand) → Some h' ≡ Some h → IsHand programs (slice_set jobs j e') c h
         held_now h is =

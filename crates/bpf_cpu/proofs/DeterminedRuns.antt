@@ -4,13 +4,13 @@ use Rattle.std.specs.Prelude.{map, None, Some}
 use Rattle.std.proofs.lemmas.List.Elements.{All-nil, All-push}
 use Rattle.std.proofs.lemmas.List.{length-map, map-append}
 use Rattle.bpf_insn.specs.declared.instruction.Insn.{Insn}
-use Rattle.bpf_shared.specs.Laws.{asked, RepliesAreDetermined}
+use Rattle.bpf_shared.specs.Laws.{asked, CallsHaveOneReply}
 use Rattle.bpf_shared.specs.declared.events.Event.{Event}
 use Rattle.bpf_shared.specs.declared.events.Event.TheVariants.{Begin, End}
 use Rattle.bpf_shared.specs.declared.events.Entry.{Entry}
 use Rattle.bpf_shared.specs.declared.shapes.MapShape.{MapShape}
 use Rattle.bpf_shared.specs.Store.{Plain}
-use Rattle.bpf_shared.specs.Sound.{IsSound}
+use Rattle.bpf_shared.specs.Sound.{IsSoundStore}
 use Rattle.bpf_shared.specs.Soundness.{allowed_sound, plainly_sound}
 use Rattle.bpf_shared.specs.History.{PlainlyLegal, entry}
 use Rattle.bpf_loader.specs.Loaded.{Loaded}
@@ -78,8 +78,8 @@ module _ (law : WritesAreDetermined) (one : OneInstructionBegins) (shapes : List
       steps_once n a.2 new other a.1 end last same.sound a.5 (subst Q (sym parts.1) (subst P (sym same.states) b.5))
 
   -- ---- the same over a plain store, whose replies are determined too
-  module _ (replies : RepliesAreDetermined) where
-    pub same_replies : (c : ℕ) (events others : List Event) (s t u : Plain) → IsSound s → PlainlyLegal s (map (entry c) events) t → PlainlyLegal s (map (entry c) others) u → map asked events ≡ map asked others → (events ≡ others) × (t ≡ u)
+  module _ (replies : CallsHaveOneReply) where
+    pub same_replies : (c : ℕ) (events others : List Event) (s t u : Plain) → IsSoundStore s → PlainlyLegal s (map (entry c) events) t → PlainlyLegal s (map (entry c) others) u → map asked events ≡ map asked others → (events ≡ others) × (t ≡ u)
     same_replies c [] [] s t u sound a b e = (refl, sym a ∙ b)
     same_replies c [] (f ∷ fs) s t u sound a b e = absurd cc
     same_replies c (e ∷ es) [] s t u sound a b q = absurd cc
@@ -103,17 +103,17 @@ module _ (law : WritesAreDetermined) (one : OneInstructionBegins) (shapes : List
         let P : List Entry → Type 0 = λ log. PlainlyLegal s log t in
         cut (map (entry c) first) (map (entry c) rest) s t (subst P (ap (map (entry c)) e ∙ map-append (entry c) first rest) h)
 
-    pub stays_sound : (c : ℕ) (events : List Event) (s t : Plain) → IsSound s → PlainlyLegal s (map (entry c) events) t → IsSound t
+    pub stays_sound : (c : ℕ) (events : List Event) (s t : Plain) → IsSoundStore s → PlainlyLegal s (map (entry c) events) t → IsSoundStore t
     stays_sound c events s t sound h = plainly_sound s t (map (entry c) events) sound h
 
-    plainly_never : (c : ℕ) (s t u : Plain) (old new mid : Cpu) (end : Outcome) (events first : List Event) → IsSound s → IsMemory old.memory → PlainlyLegal s (map (entry c) events) t → PlainlyLegal s (map (entry c) first) u → Step shapes program old events (Done end) new → Step shapes program old first On mid → ⊥
+    plainly_never : (c : ℕ) (s t u : Plain) (old new mid : Cpu) (end : Outcome) (events first : List Event) → IsSoundStore s → IsMemory old.memory → PlainlyLegal s (map (entry c) events) t → PlainlyLegal s (map (entry c) first) u → Step shapes program old events (Done end) new → Step shapes program old first On mid → ⊥
     plainly_never c s t u old new mid end events first store sound g h a b =
         let agrees = step_agrees old new mid (Done end) On events first sound a b in
         let one = same_replies c events first s t u store g h agrees.asks in
         let turns : Done end ≡ On = (agrees.replied one.0).turns in
         cc
 
-    pub plain_steps_once : (n c : ℕ) (s t u : Plain) (old new other : Cpu) (events others : List Event) (end last : Outcome) → IsSound s → IsMemory old.memory
+    pub plain_steps_once : (n c : ℕ) (s t u : Plain) (old new other : Cpu) (events others : List Event) (end last : Outcome) → IsSoundStore s → IsMemory old.memory
         → Steps shapes program n old events end new → PlainlyLegal s (map (entry c) events) t
         → Steps shapes program n old others last other → PlainlyLegal s (map (entry c) others) u
         → (events ≡ others) × (end ≡ last) × (new ≡ other) × (t ≡ u)
@@ -204,6 +204,6 @@ no_maps_no_events program budget old events end (inl a) =
     a.2 ∙ ap (λ es. Begin ∷ (es ++ End ∷ [])) (no_step_events program budget old a.1 a.0 end a.3)
 no_maps_no_events program budget old events end (inr a) = absurd a.2
 
-pub plain_steps_are_determined : WritesAreDetermined → OneInstructionBegins → RepliesAreDetermined → PlainStepsAreDetermined
+pub plain_steps_are_determined : WritesAreDetermined → OneInstructionBegins → CallsHaveOneReply → PlainStepsAreDetermined
 plain_steps_are_determined law one replies shapes program budget c s t u old new other events others end last store sound a g b h =
     plain_steps_once law one shapes program replies budget c s t u old new other events others end last store sound a g b h

@@ -2,12 +2,12 @@
 use Rattle.std.proofs.Common.{◌≡◌, ◌≢◌, ℕ, zero, suc, ◌≤◌, List, [], ◌∷◌, length, Option, Some, None, inl, inr, refl, sym, ap, subst, ◌∙◌}
 use Rattle.std.specs.Prelude.{slice_get}
 use Rattle.std.proofs.lemmas.Bool.{cases_order}
-use Rattle.bpf_shared.specs.Laws.{RepliesAreDetermined}
+use Rattle.bpf_shared.specs.Laws.{CallsHaveOneReply}
 use Rattle.bpf_shared.specs.declared.events.Event.TheVariants.{Begin, End}
 use Rattle.bpf_shared.specs.Choice.{PlainlyAllowed}
 use Rattle.bpf_shared.specs.Puts.{equal_or_not}
 use Rattle.bpf_shared.specs.Store.{Plain}
-use Rattle.bpf_shared.specs.Sound.{IsSound}
+use Rattle.bpf_shared.specs.Sound.{IsSoundStore}
 use Rattle.bpf_shared.specs.Soundness.{allowed_sound}
 use Rattle.bpf_loader.specs.Loaded.{Loaded}
 use Rattle.bpf_loader.specs.Laws.{OneInstructionBegins}
@@ -25,7 +25,7 @@ use Rattle.bpf_cpu.proofs.ListLaws.{slice_get-set_same, slice_get-set_other}
 
 -- what is true of a plain machine between its turns
 pub record IsWorld (w : World) : Type 0 where
-  pub store : IsSound w.store
+  pub store : IsSoundStore w.store
   pub memory : (c j : ℕ) (task : Task) (state : Cpu) (left : ℕ) → IsAt w.jobs c j task (InHand state left) → IsMemory state.memory
   pub one : (c j k : ℕ) (task other : Task) (state now : Cpu) (left rest : ℕ) → IsAt w.jobs c j task (InHand state left) → IsAt w.jobs c k other (InHand now rest) → j ≡ k
   pub short : (c j : ℕ) (task : Task) (context : List ℕ) → IsAt w.jobs c j task (Waiting context) → length context ≤ 4096
@@ -55,20 +55,20 @@ changed jobs c j was before stage d k task now at new = elim (equal_or_not k j) 
     changed_task : Task → Stage → Task
     changed_task t stage = record t { stage = stage }
 
-module _ (law : WritesAreDetermined) (begins : OneInstructionBegins) (replies : RepliesAreDetermined) where
+module _ (law : WritesAreDetermined) (begins : OneInstructionBegins) (replies : CallsHaveOneReply) where
   -- ---- one step of a job in hand
   pub record OneAdvance (end last : Option Outcome) (t u : Plain) (new other : Cpu) (left rest : ℕ) : Type 0 where
     pub ends : end ≡ last
     pub stores : t ≡ u
     pub states : new ≡ other
     pub lefts : left ≡ rest
-    pub store : IsSound t
+    pub store : IsSoundStore t
     pub memory : IsMemory new.memory
 
-  one_advance : (program : Loaded) (c : ℕ) (s : Plain) (old : Cpu) (n : ℕ) (end last : Option Outcome) (t u : Plain) (new other : Cpu) (left rest : ℕ) → IsSound s → IsMemory old.memory
+  one_advance : (program : Loaded) (c : ℕ) (s : Plain) (old : Cpu) (n : ℕ) (end last : Option Outcome) (t u : Plain) (new other : Cpu) (left rest : ℕ) → IsSoundStore s → IsMemory old.memory
       → Advances program c s old n end t new left → Advances program c s old n last u other rest → OneAdvance end last t u new other left rest
   one_advance program c s old zero end last t u new other left rest store sound a b =
-      let P : Plain → Type 0 = IsSound in
+      let P : Plain → Type 0 = IsSoundStore in
       let Q : Cpu → Type 0 = λ c. IsMemory c.memory in
       record { ends = a.0 ∙ sym b.0; stores = a.1 ∙ sym b.1; states = a.2 ∙ sym b.2; lefts = a.3 ∙ sym b.3; store = subst P (sym a.1) store; memory = subst Q (sym a.2) sound }
   one_advance program c s old (suc n) end last t u new other left rest store sound a b =
@@ -93,16 +93,16 @@ module _ (law : WritesAreDetermined) (begins : OneInstructionBegins) (replies : 
   pub record OneSettled (w : World) (c j : ℕ) (task : Task) (answer other : Turned) (y z : World) : Type 0 where
     pub answers : answer ≡ other
     pub worlds : y ≡ z
-    pub store : IsSound y.store
+    pub store : IsSoundStore y.store
     pub stage : Stage
     pub kept : (state : Cpu) (left : ℕ) → stage ≡ InHand state left → IsMemory state.memory
     pub waits_not : (context : List ℕ) → stage ≡ Waiting context → ⊥
     pub jobs : y.jobs ≡ with_stage w.jobs j task stage
 
-  one_settled : (w : World) (c j : ℕ) (task : Task) (new : Cpu) (left : ℕ) (end : Option Outcome) (answer other : Turned) (y z : World) → IsSound w.store → IsMemory new.memory
+  one_settled : (w : World) (c j : ℕ) (task : Task) (new : Cpu) (left : ℕ) (end : Option Outcome) (answer other : Turned) (y z : World) → IsSoundStore w.store → IsMemory new.memory
       → Settles w c j task new left end answer y → Settles w c j task new left end other z → OneSettled w c j task answer other y z
   one_settled w c j task new left None answer other y z store memory a b =
-      let Q : World → Type 0 = λ w. IsSound w.store in
+      let Q : World → Type 0 = λ w. IsSoundStore w.store in
       record {
         answers = a.0 ∙ sym b.0;
         worlds = a.1 ∙ sym b.1;
@@ -114,7 +114,7 @@ module _ (law : WritesAreDetermined) (begins : OneInstructionBegins) (replies : 
       }
   one_settled w c j task new left (Some end) answer other y z store memory a b =
       let one = replies w.store a.0 b.0 c End End store a.1 b.1 refl in
-      let Q : World → Type 0 = λ w. IsSound w.store in
+      let Q : World → Type 0 = λ w. IsSoundStore w.store in
       record {
         answers = a.2 ∙ sym b.2;
         worlds = a.3 ∙ ap (λ (s : Plain). record w { store = s; jobs = with_stage w.jobs j task (Ended end) }) one.1 ∙ sym b.3;
@@ -125,7 +125,7 @@ module _ (law : WritesAreDetermined) (begins : OneInstructionBegins) (replies : 
         jobs = ap (λ (w : World). w.jobs) a.3;
       }
 
-  one_going : (w : World) (c j : ℕ) (task : Task) (old : Cpu) (left : ℕ) (answer other : Turned) (y z : World) → IsSound w.store → IsMemory old.memory
+  one_going : (w : World) (c j : ℕ) (task : Task) (old : Cpu) (left : ℕ) (answer other : Turned) (y z : World) → IsSoundStore w.store → IsMemory old.memory
       → GoesOn w c j task old left answer y → GoesOn w c j task old left other z → OneSettled w c j task answer other y z
   one_going w c j task old left answer other y z store memory a b =
       let listed : Some a.0 ≡ Some b.0 = sym a.5 ∙ b.5 in

@@ -11,16 +11,16 @@ use Rattle.bpf_shared.specs.declared.events.MapAnswer.TheVariants.{Done, Invalid
 use Rattle.bpf_shared.specs.declared.shapes.MapShape.{MapShape}
 use Rattle.bpf_shared.specs.Shape.{Shape}
 use Rattle.bpf_shared.specs.Store.{Plain, put}
-use Rattle.bpf_shared.specs.Events.{looked_up, Updates, Deletes, Allowed}
+use Rattle.bpf_shared.specs.Events.{after_lookup, Updates, Deletes, Allowed}
 use Rattle.bpf_shared.specs.History.{PlainlyLegal, events_of, entry}
 use Rattle.bpf_shared.specs.Choice.{PlainlyAllowed}
 use Rattle.bpf_shared.specs.Passage.{Calls}
 use Rattle.bpf_shared.specs.Chain.{Chain, chain_one}
-use Rattle.bpf_shared.specs.Sound.{IsSound}
+use Rattle.bpf_shared.specs.Sound.{IsSoundStore}
 use Rattle.bpf_shared.specs.Soundness.{plainly_sound}
 use Rattle.bpf_shared.specs.Puts.{equal_or_not, put_cases}
 use Rattle.bpf_shared.specs.Runs.{no_runs}
-use Rattle.bpf_shared.specs.Seen.{Seen, has_cpu, runs_of, Shows, Passes}
+use Rattle.bpf_shared.specs.Contents.{Contents, has_cpu, runs_of, StandsFor, Passes}
 
 -- each CPU that is in a run is one of the store's
 abbrev RunsWithin : Plain → Type 0
@@ -46,9 +46,9 @@ module _ (s : Plain) (c : ℕ) (within : RunsWithin s) (runs : s.running c ≡ t
   is t u e shape running =
       stays t (ap (λ (x : Plain). x.shape) e ∙ shape) (λ d q. ap (λ (f : ℕ → Bool). f d) (sym (ap (λ (x : Plain). x.running) e ∙ running)) ∙ q)
 
-  found : (t : Plain) (o : Option ℕ) → t ≡ looked_up s c o → Kept s c t
+  found : (t : Plain) (o : Option ℕ) → t ≡ after_lookup s c o → Kept s c t
   found t None e = is t s e refl refl
-  found t (Some v) e = is t (looked_up s c (Some v)) e refl refl
+  found t (Some v) e = is t (after_lookup s c (Some v)) e refl refl
 
   updated : (t : Plain) (m : ℕ) (h : MapShape) (key bytes : List ℕ) (flags : ℕ) (answer : MapAnswer) → Updates s m h key bytes flags answer t → Kept s c t
   updated t m h key bytes flags Done u = is t _ u.1.2 refl refl
@@ -116,17 +116,17 @@ history_is_own s t c (x ∷ xs) within legal foreign =
     ]
 
 -- ---- passages
-shown_within : (p : Seen) (s : Plain) → Shows p s → RunsWithin s
+shown_within : (p : Contents) (s : Plain) → StandsFor p s → RunsWithin s
 shown_within p s shows c runs = elim (cases_lt c (length p.runs)) [
   | inl l ↦ subst (λ (n : ℕ). c < n) (sym shows.cpus) l
   | inr g ↦ (let none : runs_of p c ≡ no_runs = get_or_past p.runs c no_runs g in let no : false ≡ true = sym (ap (λ (r : _). r.running) none) ∙ (sym (shows.running c) ∙ runs) in cc)
 ]
 
 -- from each plain store that the first value shows, the CPU's events lead to one that the second shows
-abbrev pub Leads : Seen → ℕ → List Event → Seen → Type 0
-Leads x c events y = (s : Plain) → IsSound s → Shows x s → (t : Plain) × PlainlyLegal s (map (entry c) events) t × IsSound t × Shows y t
+abbrev pub Leads : Contents → ℕ → List Event → Contents → Type 0
+Leads x c events y = (s : Plain) → IsSoundStore s → StandsFor x s → (t : Plain) × PlainlyLegal s (map (entry c) events) t × IsSoundStore t × StandsFor y t
 
-pub chain_leads : (x y : Seen) (c : ℕ) (events : List Event) → Chain Passes has_cpu c x y events → Leads x c events y
+pub chain_leads : (x y : Contents) (c : ℕ) (events : List Event) → Chain Passes has_cpu c x y events → Leads x c events y
 chain_leads x y c events chain s sound shows =
     let end = chain.passage s sound shows in
     let foreign : (d : ℕ) → d < s.shape.cpus → d ≢ c → events_of d chain.log ≡ [] =
@@ -136,8 +136,8 @@ chain_leads x y c events chain s sound shows =
     (end.0, subst (λ (l : List Entry). PlainlyLegal s l end.0) own end.1, plainly_sound s end.0 chain.log sound end.1, end.2)
 
 -- a call alone
-pub call_leads : (x y : Seen) (c : ℕ) (e : Event) → has_cpu x c ≡ true → Calls (Passes x y) (has_cpu x) c e → has_cpu y ≡ has_cpu x
-    → (s : Plain) → IsSound s → Shows x s → (t : Plain) × PlainlyAllowed s c e t × IsSound t × Shows y t
+pub call_leads : (x y : Contents) (c : ℕ) (e : Event) → has_cpu x c ≡ true → Calls (Passes x y) (has_cpu x) c e → has_cpu y ≡ has_cpu x
+    → (s : Plain) → IsSoundStore s → StandsFor x s → (t : Plain) × PlainlyAllowed s c e t × IsSoundStore t × StandsFor y t
 call_leads x y c e served call same s sound shows =
     let r = chain_leads x y c (e ∷ []) (chain_one Passes has_cpu c x y e served call same) s sound shows in
     (r.0, subst (λ (m : Plain). PlainlyAllowed s c e m) r.1.2 r.1.1, r.2, r.3)

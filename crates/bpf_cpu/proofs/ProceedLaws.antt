@@ -6,9 +6,9 @@ use Rattle.bpf_shared.specs.Puts.{put-same, put-other}
 use Rattle.bpf_shared.specs.declared.events.Event.TheVariants.{End}
 use Rattle.bpf_shared.specs.Store.{Plain, put}
 use Rattle.bpf_shared.specs.Choice.{PlainlyAllowed}
-use Rattle.bpf_shared.specs.Sound.{IsSound}
-use Rattle.bpf_shared.specs.Seen.{Seen, has_cpu, is_running}
-use Rattle.bpf_shared.specs.Seen as seen
+use Rattle.bpf_shared.specs.Sound.{IsSoundStore}
+use Rattle.bpf_shared.specs.Contents.{Contents, has_cpu, is_running}
+use Rattle.bpf_shared.specs.Contents as contents
 use Rattle.bpf_cpu.specs.declared.machine.Turned.TheVariants.{Ran}
 use Rattle.bpf_cpu.specs.declared.machine.Turned.TheVariants as turned
 use Rattle.bpf_loader.specs.Loaded.{Loaded}
@@ -28,7 +28,7 @@ use Rattle.bpf_cpu.proofs.ListLaws.{slice_get-set_same}
 use Rattle.bpf_cpu.proofs.BoardLaws.{tasks_changed, board_changed}
 use Rattle.bpf_cpu.proofs.WorkLaws.{HandAt, hand_at}
 
-module _ (store : Seen) (programs : List Loaded) (jobs : List Listed) (lanes : List Lane) (board : IsBoard (has_cpu store) (is_running store) programs jobs lanes)
+module _ (store : Contents) (programs : List Loaded) (jobs : List Listed) (lanes : List Lane) (board : IsBoard (has_cpu store) (is_running store) programs jobs lanes)
     (c j : ℕ) (task : Task) (state : Cpu) (left : ℕ) (in_hand : IsAt (tasks_of lanes jobs) c j task (InHand state left)) where
   at : HandAt (has_cpu store) (is_running store) programs jobs lanes board c j task state left
   at = hand_at (has_cpu store) (is_running store) programs jobs lanes board c j task state left in_hand
@@ -130,7 +130,7 @@ module _ (store : Seen) (programs : List Loaded) (jobs : List Listed) (lanes : L
                 ∙ (ap (λ (p : Phase). with_stage (tasks_of lanes jobs) j (task_of lanes e) (stage_of (Some h') p)) phase_was
                 ∙ ap (λ (t : Task). with_stage (tasks_of lanes jobs) j t (InHand h'.cpu h'.left)) (sym shown))
 
-            pub kept_board : (after : Seen) → has_cpu after ≡ has_cpu store → is_running after ≡ is_running store → IsBoard (has_cpu after) (is_running after) programs (slice_set jobs j e) (slice_set lanes c l')
+            pub kept_board : (after : Contents) → has_cpu after ≡ has_cpu store → is_running after ≡ is_running store → IsBoard (has_cpu after) (is_running after) programs (slice_set jobs j e) (slice_set lanes c l')
             kept_board after serves_same running_same =
                 board_changed (has_cpu store) (has_cpu after) (is_running store) (is_running after) programs jobs lanes c j e e l l' board listed of was refl refl refl alone (λ k x ne there own. (λ a. a, λ b. b))
                 serves_same
@@ -155,7 +155,7 @@ module _ (store : Seen) (programs : List Loaded) (jobs : List Listed) (lanes : L
                 inside
 
             -- in each world that the machine shows, the CPU goes on with the job, which stays in hand
-            pub proceeds_kept : (after : Seen) → ((s : Plain) → IsSound s → seen.Shows store s → (t : Plain) × Advances program h.cpu.number s h.cpu h.left None t h'.cpu h'.left × IsSound t × seen.Shows after t)
+            pub proceeds_kept : (after : Contents) → ((s : Plain) → IsSoundStore s → contents.StandsFor store s → (t : Plain) × Advances program h.cpu.number s h.cpu h.left None t h'.cpu h'.left × IsSoundStore t × contents.StandsFor after t)
                 → (w : World) → Shows (record { store = store; programs = programs; jobs = tasks_of lanes jobs }) w
                 → (z : World) × GoesOn w c j task state left Ran z × Shows (record { store = after; programs = programs; jobs = tasks_of (slice_set lanes c l') (slice_set jobs j e) }) z
             proceeds_kept after advance w shows =
@@ -179,7 +179,7 @@ module _ (store : Seen) (programs : List Loaded) (jobs : List Listed) (lanes : L
                 tasks_changed (has_cpu store) (has_cpu store) (is_running store) (is_running store) programs jobs lanes c j e e'' l l'' board listed of was refl refl refl alone (λ k x ne there own. (λ a. a, λ b. b))
                 ∙ ap (λ (t : Task). with_stage (tasks_of lanes jobs) j t (Ended outcome)) (sym shown)
 
-            pub ended_board : (after : Seen) → has_cpu after ≡ has_cpu store → is_running after ≡ put (is_running store) c false → IsBoard (has_cpu after) (is_running after) programs (slice_set jobs j e'') (slice_set lanes c l'')
+            pub ended_board : (after : Contents) → has_cpu after ≡ has_cpu store → is_running after ≡ put (is_running store) c false → IsBoard (has_cpu after) (is_running after) programs (slice_set jobs j e'') (slice_set lanes c l'')
             ended_board after serves_same stopped =
                 board_changed (has_cpu store) (has_cpu after) (is_running store) (is_running after) programs jobs lanes c j e e'' l l'' board listed of was refl refl refl alone (λ k x ne there own. (λ a. a, λ b. b))
                 serves_same
@@ -192,8 +192,8 @@ module _ (store : Seen) (programs : List Loaded) (jobs : List Listed) (lanes : L
                 inside
 
             -- in each world that the machine shows, the CPU goes on with the job, which ends
-            pub proceeds_ended : (mid after : Seen) (new : Cpu) (rest : ℕ) → ((s : Plain) → IsSound s → seen.Shows store s → (t : Plain) × Advances program h.cpu.number s h.cpu h.left (Some outcome) t new rest × IsSound t × seen.Shows mid t)
-                → ((s : Plain) → IsSound s → seen.Shows mid s → (t : Plain) × PlainlyAllowed s c End t × IsSound t × seen.Shows after t)
+            pub proceeds_ended : (mid after : Contents) (new : Cpu) (rest : ℕ) → ((s : Plain) → IsSoundStore s → contents.StandsFor store s → (t : Plain) × Advances program h.cpu.number s h.cpu h.left (Some outcome) t new rest × IsSoundStore t × contents.StandsFor mid t)
+                → ((s : Plain) → IsSoundStore s → contents.StandsFor mid s → (t : Plain) × PlainlyAllowed s c End t × IsSoundStore t × contents.StandsFor after t)
                 → (w : World) → Shows (record { store = store; programs = programs; jobs = tasks_of lanes jobs }) w
                 → (z : World) × GoesOn w c j task state left (turned.Ended j outcome) z × Shows (record { store = after; programs = programs; jobs = tasks_of (slice_set lanes c l'') (slice_set jobs j e'') }) z
             proceeds_ended mid after new rest advance end w shows =

@@ -7,7 +7,7 @@ use Rattle.bpf_shared.specs.declared.shapes.MapShape.{MapShape}
 use Rattle.bpf_shared.specs.Store.{Plain}
 use Rattle.bpf_shared.specs.History.{PlainlyLegal, entry}
 use Rattle.bpf_shared.specs.Laws.{asked}
-use Rattle.bpf_shared.specs.Sound.{IsSound}
+use Rattle.bpf_shared.specs.Sound.{IsSoundStore}
 use Rattle.bpf_loader.specs.Loaded.{Loaded}
 use Rattle.bpf_mem.specs.Laws.{IsMemory}
 use Rattle.bpf_cpu.specs.declared.cpu.Cpu.{Cpu}
@@ -37,7 +37,7 @@ NoMapsNoEvents = (program : Loaded) (budget : ℕ) (old : Cpu) (events : List Ev
 
 -- over a plain store, which no other CPU changes meanwhile, the steps of a run have one course
 abbrev pub PlainStepsAreDetermined : Type 0
-PlainStepsAreDetermined = (shapes : List MapShape) (program : Loaded) (budget c : ℕ) (s t u : Plain) (old new other : Cpu) (events others : List Event) (end last : Outcome) → IsSound s → IsMemory old.memory
+PlainStepsAreDetermined = (shapes : List MapShape) (program : Loaded) (budget c : ℕ) (s t u : Plain) (old new other : Cpu) (events others : List Event) (end last : Outcome) → IsSoundStore s → IsMemory old.memory
     → Steps shapes program budget old events end new → PlainlyLegal s (map (entry c) events) t
     → Steps shapes program budget old others last other → PlainlyLegal s (map (entry c) others) u
     → (events ≡ others) × (end ≡ last) × (new ≡ other) × (t ≡ u)
@@ -46,7 +46,7 @@ PlainStepsAreDetermined = (shapes : List MapShape) (program : Loaded) (budget c 
 
 -- a plain machine before its first turn: each job waits, with a context of at most 4,096 bytes
 pub record IsFresh (w : World) : Type 0 where
-  pub store : IsSound w.store
+  pub store : IsSoundStore w.store
   pub waits : (j : ℕ) (task : Task) → slice_get w.jobs j ≡ Some task → (context : List ℕ) × (task.stage ≡ Waiting context) × (length context ≤ 4096)
 
 -- a schedule has one run

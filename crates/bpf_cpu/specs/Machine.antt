@@ -1,20 +1,20 @@
 -- What callers see of a machine.
 use Rattle.std.specs.Prelude.{◌≡◌, List}
-use Rattle.bpf_shared.specs.Sound.{IsSound}
-use Rattle.bpf_shared.specs.Seen.{Seen}
-use Rattle.bpf_shared.specs.Seen as seen
+use Rattle.bpf_shared.specs.Sound.{IsSoundStore}
+use Rattle.bpf_shared.specs.Contents.{Contents}
+use Rattle.bpf_shared.specs.Contents as contents
 use Rattle.bpf_loader.specs.Loaded.{Loaded}
 use Rattle.bpf_cpu.specs.Task.{Task}
 use Rattle.bpf_cpu.specs.Schedule.{World}
 
 pub record MachineState : Type 0 where
-  pub store : Seen
+  pub store : Contents
   pub programs : List Loaded
   pub jobs : List Task
 
 -- the machine shows this world, whose store is one that a legal history may have left
 pub record Shows (m : MachineState) (w : World) : Type 0 where
-  pub store : seen.Shows m.store w.store
-  pub sound : IsSound w.store
+  pub store : contents.StandsFor m.store w.store
+  pub sound : IsSoundStore w.store
   pub programs : w.programs ≡ m.programs
   pub jobs : w.jobs ≡ m.jobs

@@ -3,8 +3,8 @@ use Rattle.std.specs.Prelude.{◌≡◌, ℕ, List}
 use Rattle.bpf_shared.specs.declared.events.Event.TheVariants.{Begin}
 use Rattle.bpf_shared.specs.Store.{Plain}
 use Rattle.bpf_shared.specs.Choice.{PlainlyAllowed}
-use Rattle.bpf_shared.specs.Sound.{IsSound}
-use Rattle.bpf_shared.specs.Seen as seen
+use Rattle.bpf_shared.specs.Sound.{IsSoundStore}
+use Rattle.bpf_shared.specs.Contents as contents
 use Rattle.bpf_cpu.specs.declared.cpu.Cpu.{Cpu}
 use Rattle.bpf_cpu.specs.declared.machine.Turned.{Turned}
 use Rattle.bpf_cpu.specs.declared.machine.Work.{Work}
@@ -37,7 +37,7 @@ Begins old cpu j new =
     (task : Task) × (context : List ℕ) × IsAt old.jobs cpu j task (Waiting context)
     × (new.programs ≡ old.programs)
     × (new.jobs ≡ with_stage old.jobs j task (InHand (start cpu context) task.budget))
-    × ((s : Plain) → IsSound s → seen.Shows old.store s → (t : Plain) × PlainlyAllowed s cpu Begin t × IsSound t × seen.Shows new.store t)
+    × ((s : Plain) → IsSoundStore s → contents.StandsFor old.store s → (t : Plain) × PlainlyAllowed s cpu Begin t × IsSoundStore t × contents.StandsFor new.store t)
 
 -- the CPU goes on with the j-th job, from this state and with so many steps left
 abbrev pub Proceeds : MachineState → ℕ → ℕ → Turned → MachineState → Type 0

@@ -30,7 +30,7 @@ pub fn plain_steps_are_determined()
 {
     bpf_mem::laws::writes_are_determined();
     bpf_loader::laws::one_instruction_begins();
-    bpf_shared::laws::replies_are_determined();
+    bpf_shared::laws::calls_have_one_reply();
 }
 
 /// Over a plain store, a schedule has one run.
@@ -39,5 +39,5 @@ pub fn schedules_are_determined()
 {
     bpf_mem::laws::writes_are_determined();
     bpf_loader::laws::one_instruction_begins();
-    bpf_shared::laws::replies_are_determined();
+    bpf_shared::laws::calls_have_one_reply();
 }

@@ -53,7 +53,7 @@ impl Model for Machine {
 
     ghost Value = { MachineState };
 
-    ghost use Rattle.bpf_shared.specs.Seen.{has_cpu, is_running};
+    ghost use Rattle.bpf_shared.specs.Contents.{has_cpu, is_running};
     ghost use Rattle.bpf_cpu.specs.Lanes.{tasks_of, IsBoard};
 
     ghost view = { λ m. record { store = m.store; programs = m.programs.items; jobs = tasks_of m.lanes.items m.jobs.items } };
@@ -63,7 +63,7 @@ impl Model for Machine {
 
 impl Machine {
     ghost use Rattle.std.specs.Prelude.{◌≡◌, ◌≢◌, ◌≤◌, ◌<◌, ◌⊎◌, ℕ, true, false, All, IfOk, IfErr, IfSome, IfNone, map, vec_len};
-    ghost use Rattle.bpf_shared.specs.Seen.{has_cpu, is_running};
+    ghost use Rattle.bpf_shared.specs.Contents.{has_cpu, is_running};
     ghost use Rattle.bpf_cpu.specs.Task.{IsFree, NoneWaits, outcome_at, waiting};
     ghost use Rattle.bpf_cpu.specs.Schedule.{World, TakesTurn, Runs};
     ghost use Rattle.bpf_cpu.specs.Machine.{Shows};

@@ -2,7 +2,7 @@
 
 ghost use Rattle.std.specs.Prelude.{◌≡◌, [], false, IfErr, IfOk, true};
 ghost use Rattle.bpf_loader.specs.Sound.{IsSound};
-ghost use Rattle.bpf_shared.specs.Seen.{has_cpu, is_running, shapes_of};
+ghost use Rattle.bpf_shared.specs.Contents.{has_cpu, is_running, shapes_of};
 ghost use Rattle.bpf_run.specs.Commands.{IsAnswer, IsAssembled, IsDisassembled, IsRun, IsWordsOf, RefusesProgram, RefusesWords};
 
 use crate::command::{Command, RunOptions};

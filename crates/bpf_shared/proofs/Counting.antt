@@ -8,21 +8,21 @@ use Rattle.bpf_shared.specs.declared.events.Event.TheVariants.{Begin, End}
 use Rattle.bpf_shared.specs.declared.shapes.MapShape.{MapShape}
 use Rattle.bpf_shared.specs.declared.runs.Runs.{Runs}
 use Rattle.bpf_shared.specs.Store.{Plain, put, never}
-use Rattle.bpf_shared.specs.Events.{entered, left}
-use Rattle.bpf_shared.specs.Sound.{IsSound}
+use Rattle.bpf_shared.specs.Events.{after_begin, after_end}
+use Rattle.bpf_shared.specs.Sound.{IsSoundStore}
 use Rattle.bpf_shared.specs.Puts.{equal_or_not, put-same, put-other, put_cases}
 use Rattle.bpf_shared.specs.Passage.{Calls, held_without}
 use Rattle.bpf_shared.specs.Runs.{no_runs}
 use Rattle.bpf_shared.specs.Rows.{Rows, no_rows, shape_of, Cell, cell, forgotten, forgotten_rows}
 use Rattle.bpf_shared.specs.Forgotten.{cell-forgotten, length-forgotten}
-use Rattle.bpf_shared.specs.Seen.{Seen, runs_of, rows, cell_of, shapes_of, has_cpu, is_running, is_run, holds, keeps, held_spans, IsUsed, Shows, Passes, IsStore, started, stopped, recounted}
+use Rattle.bpf_shared.specs.Contents.{Contents, runs_of, rows, cell_of, shapes_of, has_cpu, is_running, is_run, holds, keeps, held_spans, IsUsed, StandsFor, Passes, IsStore, started, stopped, recounted}
 use Rattle.bpf_shared.specs.Passages.{calls}
 use Rattle.bpf_shared.proofs.Showing.{SameContent, same_tables, linked_was, within_was, within_still, shows_after, held_spans-same, held_spans-without}
 
-abbrev pub with_runs : Seen → ℕ → Runs → Seen
+abbrev pub with_runs : Contents → ℕ → Runs → Contents
 with_runs p c r = record p { runs = set p.runs c r }
 
-module _ (p : Seen) (c : ℕ) (r : Runs) where
+module _ (p : Contents) (c : ℕ) (r : Runs) where
   pub runs-same : c < length p.runs → runs_of (with_runs p c r) c ≡ r
   runs-same l = get_or-set_same p.runs c r no_runs l
 
@@ -47,17 +47,17 @@ module _ (p : Seen) (c : ℕ) (r : Runs) where
   pub is_run-own : c < length p.runs → (run : ℕ) → is_run (with_runs p c r) c run ≡ (r.running && (run == r.count))
   is_run-own l run = ap (λ (x : Runs). x.running && (run == x.count)) (runs-same l)
 
-pub served : (p : Seen) (c : ℕ) → has_cpu p c ≡ true → c < length p.runs
+pub served : (p : Contents) (c : ℕ) → has_cpu p c ≡ true → c < length p.runs
 served p c h = grind (arith, nat_tests)
 
-idle_run : (p : Seen) (c run : ℕ) → is_running p c ≡ false → is_run p c run ≡ false
+idle_run : (p : Contents) (c run : ℕ) → is_running p c ≡ false → is_run p c run ≡ false
 idle_run p c run e = ap (λ (b : Bool). b && (run == (runs_of p c).count)) e
 
-not_idle : (p : Seen) (c run : ℕ) → is_running p c ≡ false → is_run p c run ≡ true → ⊥
+not_idle : (p : Contents) (c run : ℕ) → is_running p c ≡ false → is_run p c run ≡ true → ⊥
 not_idle p c run e h = let n = idle_run p c run e in cc
 
 -- ---- one CPU's run is over, or another begins
-module _ (p q : Seen) (c : ℕ) (same : SameContent p q) (other : (d m i : ℕ) → d ≢ c → (holds q d m i ≡ holds p d m i) × (keeps q d m i ≡ keeps p d m i)) (own : (m i : ℕ) → (holds q c m i ≡ false) × (keeps q c m i ≡ false)) where
+module _ (p q : Contents) (c : ℕ) (same : SameContent p q) (other : (d m i : ℕ) → d ≢ c → (holds q d m i ≡ holds p d m i) × (keeps q d m i ≡ keeps p d m i)) (own : (m i : ℕ) → (holds q c m i ≡ false) × (keeps q c m i ≡ false)) where
   held_was : (d m i : ℕ) → holds q d m i ≡ true → (d ≢ c) × (holds p d m i ≡ true)
   held_was d m i e = elim (equal_or_not d c) [
     | inl k ↦ absurd (let n = ap (λ (x : ℕ). holds q x m i) k ∙ (own m i).0 in cc)
@@ -79,7 +79,7 @@ module _ (p q : Seen) (c : ℕ) (same : SameContent p q) (other : (d m i : ℕ) 
   stays : (f : ℕ → ℕ → Bool) (d v : ℕ) → d ≢ c → f d v ≡ true → put f c never d v ≡ true
   stays f d v ne h = ap (λ (g : ℕ → Bool). g v) (put-other f c d never ne) ∙ h
 
-  pub released : (s : Plain) (h : Shows p s) (b : Bool) → is_running q ≡ put (is_running p) c b → Shows q (record s { running = put s.running c b; held = put s.held c never; kept = put s.kept c never })
+  pub released : (s : Plain) (h : StandsFor p s) (b : Bool) → is_running q ≡ put (is_running p) c b → StandsFor q (record s { running = put s.running c b; held = put s.held c never; kept = put s.kept c never })
   released s h b runs = shows_after p q same s h (put s.running c b) (put s.held c never) (put s.kept c never)
       (λ d. ap (λ (x : Bool). if d == c then b else x) (h.running d) ∙ sym (ap (λ (f : ℕ → Bool). f d) runs))
       (λ m i. elim [ inl l ↦ inl (linked_was p q same m i l) | inr k ↦ inr (k.0, elim k.1 [ inl e ↦ inl (kept_was k.0 m i e).1 | inr e ↦ inr (held_was k.0 m i e).1 ]) ])
@@ -92,7 +92,7 @@ module _ (p q : Seen) (c : ℕ) (same : SameContent p q) (other : (d m i : ℕ) 
   released_spans = held_spans-without p q same c (λ d m i ne. (other d m i ne).0) (λ m i. (own m i).0)
 
 -- ---- an end
-module _ (p : Seen) (c : ℕ) (serves : has_cpu p c ≡ true) where
+module _ (p : Contents) (c : ℕ) (serves : has_cpu p c ≡ true) where
   stopped_same : SameContent p (stopped p c)
   stopped_same = same_tables p (stopped p c) (length-set p.runs c (record (runs_of p c) { running = false })) refl
 
@@ -110,23 +110,23 @@ module _ (p : Seen) (c : ℕ) (serves : has_cpu p c ≡ true) where
 
   end_calls : is_running p c ≡ true → Calls (Passes p (stopped p c)) (has_cpu p) c End
   end_calls going = calls p (stopped p c) c End (λ s so h. (
-    left s c,
+    after_end s c,
     (h.running c ∙ going, refl),
     tt,
     released p (stopped p c) c stopped_same stopped_other stopped_own s h false (is_running-with p c (record (runs_of p c) { running = false }) (served p c serves)),
   ))
 
   -- what the code leaves is the store with the run ended
-  pub ended : (runs : List Runs) (tables : List Rows) (x : Runs) → ◌≡◌ {A = Seen} (record { runs = runs; tables = tables }) p → x ≡ get_or runs c x
-      → ◌≡◌ {A = Seen} (record { runs = set runs c (record { count = x.count; running = false }); tables = tables }) (stopped p c)
+  pub ended : (runs : List Runs) (tables : List Rows) (x : Runs) → ◌≡◌ {A = Contents} (record { runs = runs; tables = tables }) p → x ≡ get_or runs c x
+      → ◌≡◌ {A = Contents} (record { runs = set runs c (record { count = x.count; running = false }); tables = tables }) (stopped p c)
   ended runs tables x view read =
-      let inside : c < length runs = subst (λ (q : Seen). c < length q.runs) (sym view) (served p c serves) in
-      ap (λ (y : Runs). let q : Seen = record { runs = set runs c (record { count = y.count; running = false }); tables = tables } in q) (get_or_read runs c x inside read no_runs) ∙ ap (λ (q : Seen). stopped q c) view
+      let inside : c < length runs = subst (λ (q : Contents). c < length q.runs) (sym view) (served p c serves) in
+      ap (λ (y : Runs). let q : Contents = record { runs = set runs c (record { count = y.count; running = false }); tables = tables } in q) (get_or_read runs c x inside read no_runs) ∙ ap (λ (q : Contents). stopped q c) view
 
-  pub ended_calls : (n : Seen) → n ≡ stopped p c → is_running p c ≡ true → Calls (Passes p n) (has_cpu p) c End
-  ended_calls n e going = subst (λ (x : Seen). Calls (Passes p x) (has_cpu p) c End) (sym e) (end_calls going)
+  pub ended_calls : (n : Contents) → n ≡ stopped p c → is_running p c ≡ true → Calls (Passes p n) (has_cpu p) c End
+  ended_calls n e going = subst (λ (x : Contents). Calls (Passes p x) (has_cpu p) c End) (sym e) (end_calls going)
 
-  pub ended_held : (n : Seen) → n ≡ stopped p c → held_spans n ≡ held_without (held_spans p) c
+  pub ended_held : (n : Contents) → n ≡ stopped p c → held_spans n ≡ held_without (held_spans p) c
   ended_held n e = ap held_spans e ∙ released_spans p (stopped p c) c stopped_same stopped_other stopped_own
 
 -- ---- runs counted anew
@@ -135,14 +135,14 @@ shapes-forgotten c [] = refl
 shapes-forgotten c (t ∷ ts) = ap (λ (l : List MapShape). t.shape ∷ l) (shapes-forgotten c ts)
 
 -- as good as another store: it shows the same, and tells the same of runs and what they hold
-pub record IsAlike (p x : Seen) : Type 0 where
-  pub shows : (s : Plain) → Shows p s → Shows x s
+pub record IsAlike (p x : Contents) : Type 0 where
+  pub shows : (s : Plain) → StandsFor p s → StandsFor x s
   pub running : is_running x ≡ is_running p
   pub held : held_spans x ≡ held_spans p
   pub serves : has_cpu x ≡ has_cpu p
   pub shapes : shapes_of x ≡ shapes_of p
 
-module _ (p : Seen) (c : ℕ) (serves : has_cpu p c ≡ true) (idle : is_running p c ≡ false) where
+module _ (p : Contents) (c : ℕ) (serves : has_cpu p c ≡ true) (idle : is_running p c ≡ false) where
   rows-recounted : (m : ℕ) → rows (recounted p c) m ≡ forgotten_rows c (rows p m)
   rows-recounted m = get_or-map (forgotten_rows c) p.tables m no_rows
 
@@ -189,7 +189,7 @@ module _ (p : Seen) (c : ℕ) (serves : has_cpu p c ≡ true) (idle : is_running
   used-recounted m i (inl l) = inl (linked_was p (recounted p c) recounted_same m i l)
   used-recounted m i (inr k) = inr (k.0, elim k.1 [ inl e ↦ inl (sym (keeps-recounted k.0 m i) ∙ e) | inr e ↦ inr (sym (holds-recounted k.0 m i) ∙ e) ])
 
-  recounted_shows : (s : Plain) → Shows p s → Shows (recounted p c) s
+  recounted_shows : (s : Plain) → StandsFor p s → StandsFor (recounted p c) s
   recounted_shows s h = shows_after p (recounted p c) recounted_same s h s.running s.held s.kept
       (λ d. h.running d ∙ sym (running-recounted d))
       used-recounted
@@ -207,12 +207,12 @@ module _ (p : Seen) (c : ℕ) (serves : has_cpu p c ≡ true) (idle : is_running
     shapes = recounted_same.shapes;
   }
 
-  pub alike : (x : Seen) → (x ≡ p) ⊎ (x ≡ recounted p c) → IsAlike p x
+  pub alike : (x : Contents) → (x ≡ p) ⊎ (x ≡ recounted p c) → IsAlike p x
   alike x (inl e) = subst (IsAlike p) (sym e) (record { shows = λ s h. h; running = refl; held = refl; serves = refl; shapes = refl })
   alike x (inr e) = subst (IsAlike p) (sym e) recounted_alike
 
 -- ---- a begin
-kept-idle : (s : Plain) (c : ℕ) → IsSound s → s.running c ≡ false → put s.kept c never ≡ s.kept
+kept-idle : (s : Plain) (c : ℕ) → IsSoundStore s → s.running c ≡ false → put s.kept c never ≡ s.kept
 kept-idle s c so idle = λ k d v. go d v k
   where
     go : (d v : ℕ) → put s.kept c never d v ≡ s.kept d v
@@ -221,7 +221,7 @@ kept-idle s c so idle = λ k d v. go d v k
       | inr k ↦ ap (λ (f : ℕ → Bool). f v) k.1
     ]
 
-module _ (p : Seen) (c : ℕ) (is : IsStore p) (serves : has_cpu p c ≡ true) (idle : is_running p c ≡ false) where
+module _ (p : Contents) (c : ℕ) (is : IsStore p) (serves : has_cpu p c ≡ true) (idle : is_running p c ≡ false) where
   started_same : SameContent p (started p c)
   started_same = same_tables p (started p c) (length-set p.runs c (record { count = (runs_of p c).count + 1; running = true })) refl
 
@@ -237,9 +237,9 @@ module _ (p : Seen) (c : ℕ) (is : IsStore p) (serves : has_cpu p c ≡ true) (
   started_own : (m i : ℕ) → (holds (started p c) c m i ≡ false) × (keeps (started p c) c m i ≡ false)
   started_own m i = (not_yet (slice_index (cell_of p m i).looked_up c) (is.looked_up m i c), not_yet (slice_index (cell_of p m i).left c) (is.left m i c))
 
-  pub started_shows : (s : Plain) → IsSound s → Shows p s → Shows (started p c) (entered s c)
+  pub started_shows : (s : Plain) → IsSoundStore s → StandsFor p s → StandsFor (started p c) (after_begin s c)
   started_shows s so h =
-      subst (λ (k : ℕ → ℕ → Bool). Shows (started p c) (record s { running = put s.running c true; held = put s.held c never; kept = k })) (kept-idle s c so (h.running c ∙ idle))
+      subst (λ (k : ℕ → ℕ → Bool). StandsFor (started p c) (record s { running = put s.running c true; held = put s.held c never; kept = k })) (kept-idle s c so (h.running c ∙ idle))
       (released p (started p c) c started_same started_other started_own s h true (is_running-with p c (record { count = (runs_of p c).count + 1; running = true }) (served p c serves)))
 
   pub started_running : is_running (started p c) ≡ put (is_running p) c true
@@ -249,8 +249,8 @@ module _ (p : Seen) (c : ℕ) (is : IsStore p) (serves : has_cpu p c ≡ true) (
   started_held = released_spans p (started p c) c started_same started_other started_own
 
 -- the store p was made countable, as x, and the code counted the CPU's runs up
-module _ (p x : Seen) (c : ℕ) (serves : has_cpu p c ≡ true) (idle : is_running p c ≡ false) (made : (x ≡ p) ⊎ (x ≡ recounted p c)) (runs : List Runs) (tables : List Rows) (y : Runs) (view : ◌≡◌ {A = Seen} (record { runs = runs; tables = tables }) x) (read : y ≡ get_or runs c y) (store : IsStore (record { runs = runs; tables = tables })) where
-  abbrev counted_up : Seen
+module _ (p x : Contents) (c : ℕ) (serves : has_cpu p c ≡ true) (idle : is_running p c ≡ false) (made : (x ≡ p) ⊎ (x ≡ recounted p c)) (runs : List Runs) (tables : List Rows) (y : Runs) (view : ◌≡◌ {A = Contents} (record { runs = runs; tables = tables }) x) (read : y ≡ get_or runs c y) (store : IsStore (record { runs = runs; tables = tables })) where
+  abbrev counted_up : Contents
   counted_up = record { runs = set runs c (record { count = y.count + 1; running = true }); tables = tables }
 
   is_alike : IsAlike p x
@@ -267,15 +267,15 @@ module _ (p x : Seen) (c : ℕ) (serves : has_cpu p c ≡ true) (idle : is_runni
 
   is_started : counted_up ≡ started x c
   is_started =
-      let inside : c < length runs = subst (λ (q : Seen). c < length q.runs) (sym view) (served x c still_served) in
-      ap (λ (z : Runs). let q : Seen = record { runs = set runs c (record { count = z.count + 1; running = true }); tables = tables } in q) (get_or_read runs c y inside read no_runs) ∙ ap (λ (q : Seen). started q c) view
+      let inside : c < length runs = subst (λ (q : Contents). c < length q.runs) (sym view) (served x c still_served) in
+      ap (λ (z : Runs). let q : Contents = record { runs = set runs c (record { count = z.count + 1; running = true }); tables = tables } in q) (get_or_read runs c y inside read no_runs) ∙ ap (λ (q : Contents). started q c) view
 
   pub begun_calls : Calls (Passes p counted_up) (has_cpu p) c Begin
   begun_calls = calls p counted_up c Begin (λ s so h. (
-    entered s c,
+    after_begin s c,
     (subst (λ (k : ℕ). c < k) (sym h.cpus) (served p c serves), h.running c ∙ idle, refl),
     tt,
-    subst (λ (q : Seen). Shows q (entered s c)) (sym is_started) (started_shows x c is_store still_served still_idle s so (is_alike.shows s h)),
+    subst (λ (q : Contents). StandsFor q (after_begin s c)) (sym is_started) (started_shows x c is_store still_served still_idle s so (is_alike.shows s h)),
   ))
 
   pub begun_running : is_running counted_up ≡ put (is_running p) c true
@@ -293,7 +293,7 @@ none_noted [] c = refl
 none_noted (n ∷ ns) zero = refl
 none_noted (n ∷ ns) (suc c) = none_noted ns c
 
-pub recounted_store : (p : Seen) (c : ℕ) → IsStore p → c < length p.runs → IsStore (recounted p c)
+pub recounted_store : (p : Contents) (c : ℕ) → IsStore p → c < length p.runs → IsStore (recounted p c)
 recounted_store p c is l = record {
   cpus = subst (λ (n : ℕ). n ≤ 16) (sym (length-set p.runs c (record (runs_of p c) { count = 0 }))) is.cpus;
   maps = subst (λ (n : ℕ). n ≤ 16) (sym (length-map p.tables (forgotten_rows c))) is.maps;
@@ -314,8 +314,8 @@ recounted_store p c is l = record {
     ]
 
 -- what the code leaves is the store with its runs counted anew
-pub forgot : (p : Seen) (c : ℕ) (runs : List Runs) (tables now : List Rows) (x : Runs) → c < length runs → ◌≡◌ {A = Seen} (record { runs = runs; tables = tables }) p → x ≡ get_or runs c x → now ≡ map (forgotten_rows c) tables
-    → ◌≡◌ {A = Seen} (record { runs = set runs c (record { count = 0; running = x.running }); tables = now }) (recounted p c)
+pub forgot : (p : Contents) (c : ℕ) (runs : List Runs) (tables now : List Rows) (x : Runs) → c < length runs → ◌≡◌ {A = Contents} (record { runs = runs; tables = tables }) p → x ≡ get_or runs c x → now ≡ map (forgotten_rows c) tables
+    → ◌≡◌ {A = Contents} (record { runs = set runs c (record { count = 0; running = x.running }); tables = now }) (recounted p c)
 forgot p c runs tables now x inside view read e =
-    ap (λ (ts : List Rows). let q : Seen = record { runs = set runs c (record { count = 0; running = x.running }); tables = ts } in q) e
-    ∙ (ap (λ (y : Runs). let q : Seen = record { runs = set runs c (record { count = 0; running = y.running }); tables = map (forgotten_rows c) tables } in q) (get_or_read runs c x inside read no_runs) ∙ ap (λ (q : Seen). recounted q c) view)
+    ap (λ (ts : List Rows). let q : Contents = record { runs = set runs c (record { count = 0; running = x.running }); tables = ts } in q) e
+    ∙ (ap (λ (y : Runs). let q : Contents = record { runs = set runs c (record { count = 0; running = y.running }); tables = map (forgotten_rows c) tables } in q) (get_or_read runs c x inside read no_runs) ∙ ap (λ (q : Contents). recounted q c) view)

@@ -8,13 +8,13 @@ use Rattle.bpf_shared.specs.declared.events.Event.TheVariants.{Lookup}
 use Rattle.bpf_shared.specs.declared.shapes.MapShape.{MapShape}
 use Rattle.bpf_shared.specs.declared.runs.Runs.{Runs}
 use Rattle.bpf_shared.specs.Shape.{IsKeyOf, IsMap, element_span}
-use Rattle.bpf_shared.specs.Store.{Plain, Value, put, Leads}
-use Rattle.bpf_shared.specs.Events.{span_of, looked_up}
+use Rattle.bpf_shared.specs.Store.{Plain, Value, put, Finds}
+use Rattle.bpf_shared.specs.Events.{span_of, after_lookup}
 use Rattle.bpf_shared.specs.Puts.{equal_or_not, put_pair, put_pair-old, put_pair-new}
 use Rattle.bpf_shared.specs.Passage.{Calls, same_span, held_with}
 use Rattle.bpf_shared.specs.Runs.{no_runs}
 use Rattle.bpf_shared.specs.Rows.{Rows, no_rows, shape_of, Cell, no_cell, cell, IsLinked, noted, noted_row}
-use Rattle.bpf_shared.specs.Seen.{Seen, runs_of, rows, cell_of, span_at, shapes_of, has_cpu, is_running, is_run, holds, keeps, any_below, held_spans, IsUsed, Shows, Passes, IsStore, looked}
+use Rattle.bpf_shared.specs.Contents.{Contents, runs_of, rows, cell_of, span_at, shapes_of, has_cpu, is_running, is_run, holds, keeps, any_below, held_spans, IsUsed, StandsFor, Passes, IsStore, looked}
 use Rattle.bpf_shared.specs.Passages.{calls}
 use Rattle.bpf_shared.proofs.AnyBelow.{any_below_one}
 use Rattle.bpf_shared.proofs.Showing.{SameContent, linked_was, within_was, within_still, span-same, shows_after}
@@ -29,7 +29,7 @@ own_or_same true h = refl
 own_or_same false true = refl
 own_or_same false false = refl
 
-module _ (p : Seen) (c m i : ℕ) (mi : m < length p.tables) (ii : i < length (rows p m).cells) (ci : c < length (cell_of p m i).looked_up) where
+module _ (p : Contents) (c m i : ℕ) (mi : m < length p.tables) (ii : i < length (rows p m).cells) (ci : c < length (cell_of p m i).looked_up) where
   rows_there : rows (looked p c m i) m ≡ noted_row i c (runs_of p c).count (rows p m)
   rows_there = get_or-set_same p.tables m (noted_row i c (runs_of p c).count (rows p m)) no_rows mi
 
@@ -121,7 +121,7 @@ module _ (p : Seen) (c m i : ℕ) (mi : m < length p.tables) (ii : i < length (r
     holds_still : (d n j : ℕ) → holds p d n j ≡ true → holds (looked p c m i) d n j ≡ true
     holds_still d n j e = elim (holds_cases d n j) [ inl q ↦ same_place d n j q.0 q.1 q.2 ∙ holds_now going | inr q ↦ q ∙ e ]
 
-    looked_shows : (s : Plain) (h : Shows p s) → Shows (looked p c m i) (looked_up s c (Some (h.number m i)))
+    looked_shows : (s : Plain) (h : StandsFor p s) → StandsFor (looked p c m i) (after_lookup s c (Some (h.number m i)))
     looked_shows s h = shows_after p (looked p c m i) looked_same s h s.running (put s.held c (put (s.held c) (h.number m i) true)) s.kept
         h.running
         used_was
@@ -141,14 +141,14 @@ module _ (p : Seen) (c m i : ℕ) (mi : m < length p.tables) (ii : i < length (r
 
     pub looked_calls : (key : List ℕ) → IsKeyOf (shapes_of p) m key → (cell_of p m i).key ≡ key → Calls (Passes p (looked p c m i)) (has_cpu p) c (Lookup m key (Some (span_at p m i)))
     looked_calls key is keyed = calls p (looked p c m i) c (Lookup m key (Some (span_at p m i))) (λ s so h.
-        let leads : get (s.maps m) key ≡ Some (h.number m i) = subst (λ (k : List ℕ). Leads s m k (h.number m i)) keyed (h.leads m i linked) in (
-          looked_up s c (Some (h.number m i)),
+        let leads : get (s.maps m) key ≡ Some (h.number m i) = subst (λ (k : List ℕ). Finds s m k (h.number m i)) keyed (h.leads m i linked) in (
+          after_lookup s c (Some (h.number m i)),
           (
             h.running c ∙ going,
             (
               subst (λ (maps : List MapShape). IsKeyOf maps m key) (sym h.maps) is,
               sym (ap (span_of s) leads ∙ ap (λ (x : Value). Some x.span) (h.values m i (inl linked))),
-              ap (looked_up s c) (sym leads),
+              ap (after_lookup s c) (sym leads),
             ),
           ),
           tt,
@@ -193,22 +193,22 @@ module _ (p : Seen) (c m i : ℕ) (mi : m < length p.tables) (ii : i < length (r
             ∙ any_below_one (length p.tables) m (λ n. any_below (length (rows p n).cells) (λ j. holds p d n j && same_span x (span_at p n j))) (λ n. any_below (length (rows (looked p c m i) n).cells) (λ j. holds (looked p c m i) d n j && same_span x (span_at (looked p c m i) n j))) ((d == c) && same_span x (span_at p m i)) mi (in_map d x) (in_other d x)
 
 -- ---- a key that is not there
-pub unlooked_calls : (p : Seen) (c m : ℕ) (key : List ℕ) → is_running p c ≡ true → IsKeyOf (shapes_of p) m key → ((i : ℕ) → IsLinked (rows p m) i → (cell_of p m i).key ≡ key → ⊥)
+pub unlooked_calls : (p : Contents) (c m : ℕ) (key : List ℕ) → is_running p c ≡ true → IsKeyOf (shapes_of p) m key → ((i : ℕ) → IsLinked (rows p m) i → (cell_of p m i).key ≡ key → ⊥)
     → Calls (Passes p p) (has_cpu p) c (Lookup m key None)
 unlooked_calls p c m key going is absent = calls p p c (Lookup m key None) (λ s so h.
     let leads : get (s.maps m) key ≡ None = nowhere s h (get (s.maps m) key) refl in (
       s,
-      (h.running c ∙ going, (subst (λ (maps : List MapShape). IsKeyOf maps m key) (sym h.maps) is, sym (ap (span_of s) leads), ap (looked_up s c) (sym leads))),
+      (h.running c ∙ going, (subst (λ (maps : List MapShape). IsKeyOf maps m key) (sym h.maps) is, sym (ap (span_of s) leads), ap (after_lookup s c) (sym leads))),
       tt,
       h,
     ))
   where
-    nowhere : (s : Plain) → Shows p s → (o : Option ℕ) → get (s.maps m) key ≡ o → get (s.maps m) key ≡ None
+    nowhere : (s : Plain) → StandsFor p s → (o : Option ℕ) → get (s.maps m) key ≡ o → get (s.maps m) key ≡ None
     nowhere s h None e = e
     nowhere s h (Some v) e = let f = h.found m key v e in absurd (absent f.0 f.1 f.2)
 
 -- ---- what stays true of each store
-pub looked_store : (p : Seen) (c m i : ℕ) → IsStore p → m < length p.tables → i < length (rows p m).cells → c < length (cell_of p m i).looked_up → IsStore (looked p c m i)
+pub looked_store : (p : Contents) (c m i : ℕ) → IsStore p → m < length p.tables → i < length (rows p m).cells → c < length (cell_of p m i).looked_up → IsStore (looked p c m i)
 looked_store p c m i is mi ii ci = record {
   cpus = is.cpus;
   maps = subst (λ (n : ℕ). n ≤ 16) (sym (length-set p.tables m (noted_row i c (runs_of p c).count (rows p m)))) is.maps;
@@ -234,7 +234,7 @@ looked_store p c m i is mi ii ci = record {
 }
 
 -- ---- what the code reads and leaves
-pub map_there : (p : Seen) (m : ℕ) (key : List ℕ) → IsKeyOf (shapes_of p) m key → m < length p.tables
+pub map_there : (p : Contents) (m : ℕ) (key : List ℕ) → IsKeyOf (shapes_of p) m key → m < length p.tables
 map_there p m key is = let l = slice_get_within (shapes_of p) m is.0 is.1 in omega (arith, length-map p.tables shape_of, l)
 
 pub shape_at : (ts : List Rows) (m : ℕ) → m < length ts → IsMap (map shape_of ts) m (get_or ts m no_rows).shape
@@ -242,14 +242,14 @@ shape_at [] m l = absurd (omega arith)
 shape_at (t ∷ ts) zero l = refl
 shape_at (t ∷ ts) (suc m) l = shape_at ts m (omega arith)
 
-module _ (p : Seen) (c m i : ℕ) (runs : List Runs) (tables : List Rows) (view : ◌≡◌ {A = Seen} (record { runs = runs; tables = tables }) p) (mi : m < length p.tables) where
+module _ (p : Contents) (c m i : ℕ) (runs : List Runs) (tables : List Rows) (view : ◌≡◌ {A = Contents} (record { runs = runs; tables = tables }) p) (mi : m < length p.tables) where
   pub read_row : (t : Rows) → t ≡ get_or tables m t → t ≡ rows p m
-  read_row t read = get_or_read tables m t (subst (λ (q : Seen). m < length q.tables) (sym view) mi) read no_rows ∙ ap (λ (q : Seen). rows q m) view
+  read_row t read = get_or_read tables m t (subst (λ (q : Contents). m < length q.tables) (sym view) mi) read no_rows ∙ ap (λ (q : Contents). rows q m) view
 
   pub left : (x : Runs) (u n : Rows) → c < length p.runs → x ≡ get_or runs c x → u ≡ get_or tables m u → n ≡ noted_row i c x.count u
-      → ◌≡◌ {A = Seen} (record { runs = runs; tables = set tables m n }) (looked p c m i)
+      → ◌≡◌ {A = Contents} (record { runs = runs; tables = set tables m n }) (looked p c m i)
   left x u n ci read_run read e =
-      let run : x ≡ runs_of p c = get_or_read runs c x (subst (λ (q : Seen). c < length q.runs) (sym view) ci) read_run no_runs ∙ ap (λ (q : Seen). runs_of q c) view in
+      let run : x ≡ runs_of p c = get_or_read runs c x (subst (λ (q : Contents). c < length q.runs) (sym view) ci) read_run no_runs ∙ ap (λ (q : Contents). runs_of q c) view in
       let new : n ≡ noted_row i c (runs_of p c).count (rows p m) = e ∙ (ap (λ (y : Runs). noted_row i c y.count u) run ∙ ap (noted_row i c (runs_of p c).count) (read_row u read)) in
-      ap (λ (y : Rows). let q : Seen = record { runs = runs; tables = set tables m y } in q) new
-      ∙ ap (λ (q : Seen). let r : Seen = record { runs = q.runs; tables = set q.tables m (noted_row i c (runs_of p c).count (rows p m)) } in r) view
+      ap (λ (y : Rows). let q : Contents = record { runs = runs; tables = set tables m y } in q) new
+      ∙ ap (λ (q : Contents). let r : Contents = record { runs = q.runs; tables = set q.tables m (noted_row i c (runs_of p c).count (rows p m)) } in r) view

@@ -11,7 +11,7 @@ use Rattle.bpf_shared.specs.Store.{as_made}
 use Rattle.bpf_shared.specs.Passage.{same_span}
 use Rattle.bpf_shared.specs.Rows.{Rows, no_rows, Cell, no_cell, shape_of, IsUnused, IsEmpty, IsBlank, IsLinked}
 use Rattle.bpf_shared.specs.Runs.{no_runs}
-use Rattle.bpf_shared.specs.Seen.{Seen, runs_of, rows, cell_of, span_at, shapes_of, is_run, IsUsed, Shows, IsStore, IsMade}
+use Rattle.bpf_shared.specs.Contents.{Contents, runs_of, rows, cell_of, span_at, shapes_of, is_run, IsUsed, StandsFor, IsStore, IsMade}
 use Rattle.bpf_shared.proofs.AnyBelow.{any_below_none}
 
 no_rows_blank : IsBlank no_rows
@@ -39,7 +39,7 @@ pub shapes_push : (ts : List Rows) (t : Rows) → map shape_of (ts ++ t ∷ []) 
 shapes_push [] t = refl
 shapes_push (x ∷ xs) t = ap (λ (l : List MapShape). x.shape ∷ l) (shapes_push xs t)
 
-module _ (p : Seen) (runs : (c : ℕ) → runs_of p c ≡ no_runs) (tables : (m : ℕ) → IsBlank (rows p m)) where
+module _ (p : Contents) (runs : (c : ℕ) → runs_of p c ≡ no_runs) (tables : (m : ℕ) → IsBlank (rows p m)) where
   no_run : (c run : ℕ) → is_run p c run ≡ false
   no_run c run = ap (λ (x : Runs). x.running && (run == x.count)) (runs c)
 
@@ -53,7 +53,7 @@ module _ (p : Seen) (runs : (c : ℕ) → runs_of p c ≡ no_runs) (tables : (m 
     | inr e ↦ let f = no_run k.0 (slice_index (cell_of p m i).looked_up k.0) in cc
   ]
 
-  pub shows_made : (h : Shape) → length p.runs ≡ h.cpus → shapes_of p ≡ h.maps → Shows p (as_made h)
+  pub shows_made : (h : Shape) → length p.runs ≡ h.cpus → shapes_of p ≡ h.maps → StandsFor p (as_made h)
   shows_made h cpus maps = record {
     cpus = sym cpus;
     maps = sym maps;

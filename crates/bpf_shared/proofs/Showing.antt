@@ -3,15 +3,15 @@ use Rattle.std.proofs.Common.{◌≡◌, ◌≢◌, ℕ, ◌<◌, Bool, true, fa
 use Rattle.bpf_shared.specs.declared.events.Span.{Span}
 use Rattle.bpf_shared.specs.declared.shapes.MapShape.{MapShape}
 use Rattle.bpf_shared.specs.Shape.{element_span}
-use Rattle.bpf_shared.specs.Store.{Plain, Leads}
+use Rattle.bpf_shared.specs.Store.{Plain, Finds}
 use Rattle.bpf_shared.specs.Passage.{same_span, held_without}
 use Rattle.bpf_shared.specs.Puts.{equal_or_not}
 use Rattle.bpf_shared.specs.Rows.{Rows, IsLinked}
-use Rattle.bpf_shared.specs.Seen.{Seen, rows, cell_of, span_at, shapes_of, is_running, holds, keeps, any_below, held_spans, IsUsed, Shows}
+use Rattle.bpf_shared.specs.Contents.{Contents, rows, cell_of, span_at, shapes_of, is_running, holds, keeps, any_below, held_spans, IsUsed, StandsFor}
 use Rattle.bpf_shared.proofs.AnyBelow.{any_below_same, any_below_none}
 
 -- the same keys, bytes and places
-pub record SameContent (p q : Seen) : Type 0 where
+pub record SameContent (p q : Contents) : Type 0 where
   pub cpus : length q.runs ≡ length p.runs
   pub tables : length q.tables ≡ length p.tables
   pub shapes : shapes_of q ≡ shapes_of p
@@ -21,7 +21,7 @@ pub record SameContent (p q : Seen) : Type 0 where
   pub key : (m i : ℕ) → (cell_of q m i).key ≡ (cell_of p m i).key
   pub bytes : (m i : ℕ) → (cell_of q m i).bytes ≡ (cell_of p m i).bytes
 
-pub same_tables : (p : Seen) (q : Seen) → length q.runs ≡ length p.runs → q.tables ≡ p.tables → SameContent p q
+pub same_tables : (p : Contents) (q : Contents) → length q.runs ≡ length p.runs → q.tables ≡ p.tables → SameContent p q
 same_tables p q cpus e = record {
   cpus = cpus;
   tables = ap (length {A = Rows}) e;
@@ -33,7 +33,7 @@ same_tables p q cpus e = record {
   bytes = λ m i. ap (λ (ts : List Rows). (cell_of (record p { tables = ts }) m i).bytes) e;
 }
 
-module _ (p q : Seen) (same : SameContent p q) where
+module _ (p q : Contents) (same : SameContent p q) where
   pub span-same : (m i : ℕ) → span_at q m i ≡ span_at p m i
   span-same m i = ap (λ (h : MapShape). element_span m h i) (same.shape m)
 
@@ -50,20 +50,20 @@ module _ (p q : Seen) (same : SameContent p q) where
   within_still m i l = subst (λ (n : ℕ). i < n) (sym (same.count m)) l
 
   -- who runs, holds and keeps what is all that can change
-  pub shows_after : (s : Plain) (h : Shows p s) (running : ℕ → Bool) (held kept : ℕ → ℕ → Bool)
+  pub shows_after : (s : Plain) (h : StandsFor p s) (running : ℕ → Bool) (held kept : ℕ → ℕ → Bool)
       → ((c : ℕ) → running c ≡ is_running q c)
       → ((m i : ℕ) → IsUsed q m i → IsUsed p m i)
       → ((c v : ℕ) → held c v ≡ true → (m : ℕ) × (i : ℕ) × (i < length (rows q m).cells) × (holds q c m i ≡ true) × (v ≡ h.number m i))
       → ((c m i : ℕ) → i < length (rows q m).cells → holds q c m i ≡ true → held c (h.number m i) ≡ true)
       → ((c v : ℕ) → kept c v ≡ true → (m : ℕ) × (i : ℕ) × (i < length (rows q m).cells) × (keeps q c m i ≡ true) × (v ≡ h.number m i))
       → ((c m i : ℕ) → i < length (rows q m).cells → keeps q c m i ≡ true → kept c (h.number m i) ≡ true)
-      → Shows q (record s { running = running; held = held; kept = kept })
+      → StandsFor q (record s { running = running; held = held; kept = kept })
   shows_after s h running held kept runs used held_at held_back kept_at kept_back = record {
     cpus = h.cpus ∙ sym same.cpus;
     maps = h.maps ∙ sym same.shapes;
     running = runs;
     number = h.number;
-    leads = λ m i l. subst (λ (key : List ℕ). Leads s m key (h.number m i)) (sym (same.key m i)) (h.leads m i (linked_was m i l));
+    leads = λ m i l. subst (λ (key : List ℕ). Finds s m key (h.number m i)) (sym (same.key m i)) (h.leads m i (linked_was m i l));
     found = λ m key v l. (let f = h.found m key v l in (f.0, linked_still m f.0 f.1, same.key m f.0 ∙ f.2, f.3));
     counts = λ m. h.counts m ∙ ap (length {A = ℕ}) (sym (same.order m));
     values = λ m i u.

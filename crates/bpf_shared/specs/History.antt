@@ -12,17 +12,17 @@ abbrev pub entry : ℕ → Event → Entry
 entry c e = record { cpu = c; event = e }
 
 -- steps of this kind, one for each entry, lead from the first store to the second
-abbrev pub Steps : (Plain → ℕ → Event → Plain → Type 0) → Plain → List Entry → Plain → Type 0
-Steps step s [] t = s ≡ t
-Steps step s (e ∷ es) t = (m : Plain) × step s e.cpu e.event m × Steps step m es t
+abbrev pub History : (Plain → ℕ → Event → Plain → Type 0) → Plain → List Entry → Plain → Type 0
+History step s [] t = s ≡ t
+History step s (e ∷ es) t = (m : Plain) × step s e.cpu e.event m × History step m es t
 
 -- each event is allowed after those before it
 abbrev pub Legal : Plain → List Entry → Plain → Type 0
-Legal = Steps Allowed
+Legal = History Allowed
 
 -- the same, with the choices of a `PlainStore`
 abbrev pub PlainlyLegal : Plain → List Entry → Plain → Type 0
-PlainlyLegal = Steps PlainlyAllowed
+PlainlyLegal = History PlainlyAllowed
 
 -- a legal history begins with the store as made
 abbrev pub IsLegal : Shape → List Entry → Type 0

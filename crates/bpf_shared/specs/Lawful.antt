@@ -22,12 +22,12 @@ use Rattle.bpf_shared.specs.First.{first_of}
 use Rattle.bpf_shared.specs.Shape.{IsMap, element_span}
 use Rattle.bpf_shared.specs.Bytes.{bytes_in, number_of, low_bytes, part, with_part, after_atomic}
 use Rattle.bpf_shared.specs.Store.{Keys, Value, Plain}
-use Rattle.bpf_shared.specs.Events.{looked_up, refusals, updated, Updates, Deletes, Reaches, written, number_at, Allowed}
+use Rattle.bpf_shared.specs.Events.{after_lookup, refusals, after_update, Updates, Deletes, Reaches, after_write, number_in, Allowed}
 use Rattle.bpf_shared.specs.Choice.{IsShort, IsLowestFree, Chosen, PlainlyAllowed}
-use Rattle.bpf_shared.specs.Sound.{IsSound}
-use Rattle.bpf_shared.specs.Soundness.{as_made_sound, legal_sound, span-written, length-low_bytes}
+use Rattle.bpf_shared.specs.Sound.{IsSoundStore}
+use Rattle.bpf_shared.specs.Soundness.{as_made_sound, legal_sound, span-after_write, length-low_bytes}
 use Rattle.bpf_shared.specs.Puts.{equal_or_not, put-same, put-other}
-use Rattle.bpf_shared.specs.Laws.{LegalIsSound, ValuesStay, RefusalsChangeNothing, MakesValue, UpdatesMakeValues, OneValueIsReached, WritesTouchNamedBytes, asked, RepliesAreDetermined}
+use Rattle.bpf_shared.specs.Laws.{LegalIsSound, ValuesStay, RefusalsChangeNothing, MakesValue, UpdatesMakeValues, OneValueIsReached, WritesTouchNamedBytes, asked, CallsHaveOneReply}
 
 pub legal_is_sound : LegalIsSound
 legal_is_sound h log s l = legal_sound _ s log (as_made_sound h) l
@@ -64,8 +64,8 @@ leads_new k key n = get-insert nat_list_cmp_total k key n key ∙ ap (λ (b : Bo
     itself : (q : List ℕ) → eq_by_cmp (slice_cmp nat_cmp) q q ≡ true
     itself q = ap is_eq (tied_itself nat_list_cmp_total q)
 
-updated_makes : (s : Plain) (m : ℕ) (key : List ℕ) (x : Value) → MakesValue s m key x.bytes (updated s m key x)
-updated_makes s m key x = record {
+after_update_makes : (s : Plain) (m : ℕ) (key : List ℕ) (x : Value) → MakesValue s m key x.bytes (after_update s m key x)
+after_update_makes s m key x = record {
   next = refl;
   leads = ap (λ (k : Keys). get k key) (put-same s.maps m m (insert (s.maps m) key s.made) refl) ∙ leads_new (s.maps m) key s.made;
   bytes_new = ap (λ (y : Value). y.bytes) (put-same s.value s.made s.made x refl);
@@ -73,7 +73,7 @@ updated_makes s m key x = record {
 }
 
 pub updates_make_values : UpdatesMakeValues
-updates_make_values s t c m key bytes flags a = subst (MakesValue s m key bytes) (sym a.1.4.1.2) (updated_makes s m key (record { bytes = bytes; span = a.1.4.1.0 }))
+updates_make_values s t c m key bytes flags a = subst (MakesValue s m key bytes) (sym a.1.4.1.2) (after_update_makes s m key (record { bytes = bytes; span = a.1.4.1.0 }))
 
 -- ---- values stay
 abbrev Stays : Plain → Plain → ℕ → Type 0
@@ -83,7 +83,7 @@ same_stays : (s t : Plain) (v : ℕ) → t ≡ s → v < s.made → Stays s t v
 same_stays s t v e l = subst (λ (z : Plain). Stays s z v) (sym e) (l, refl)
 
 update_stays : (s t : Plain) (m : ℕ) (h : MapShape) (key bytes : List ℕ) (flags : ℕ) (answer : MapAnswer) (v : ℕ) → Updates s m h key bytes flags answer t → v < s.made → Stays s t v
-update_stays s t m h key bytes flags Done v u l = subst (λ (z : Plain). Stays s z v) (sym u.1.2) (omega arith, ap (λ (x : Value). x.span) ((updated_makes s m key (record { bytes = bytes; span = u.1.0 })).old v l))
+update_stays s t m h key bytes flags Done v u l = subst (λ (z : Plain). Stays s z v) (sym u.1.2) (omega arith, ap (λ (x : Value). x.span) ((after_update_makes s m key (record { bytes = bytes; span = u.1.0 })).old v l))
 update_stays s t m h key bytes flags Invalid v u l = same_stays s t v u.1 l
 update_stays s t m h key bytes flags Busy v u l = same_stays s t v u.1 l
 update_stays s t m h key bytes flags Exists v u l = same_stays s t v u.1 l
@@ -100,7 +100,7 @@ delete_stays s t m key Exists v u l = absurd u
 delete_stays s t m key Full v u l = absurd u
 delete_stays s t m key NoMemory v u l = absurd u
 
-looked_stays : (s : Plain) (c : ℕ) (o : Option ℕ) (v : ℕ) → v < s.made → Stays s (looked_up s c o) v
+looked_stays : (s : Plain) (c : ℕ) (o : Option ℕ) (v : ℕ) → v < s.made → Stays s (after_lookup s c o) v
 looked_stays s c None v l = (l, refl)
 looked_stays s c (Some w) v l = (l, refl)
 
@@ -111,8 +111,8 @@ event_stays s t c (Lookup m key answer) v a l = subst (λ (z : Plain). Stays s z
 event_stays s t c (Update m key bytes flags answer) v a l = update_stays s t m a.1.0 key bytes flags answer v a.1.4 l
 event_stays s t c (Delete m key answer) v a l = delete_stays s t m key answer v a.1.1 l
 event_stays s t c (Load at size found) v a l = same_stays s t v a.1.3 l
-event_stays s t c (Store at size x) v a l = subst (λ (z : Plain). Stays s z v) (sym a.1.2) (l, span-written s a.1.0 at _ _ v)
-event_stays s t c (Atomic at size op operand expected found) v a l = subst (λ (z : Plain). Stays s z v) (sym a.1.3) (l, span-written s a.1.0 at _ _ v)
+event_stays s t c (Store at size x) v a l = subst (λ (z : Plain). Stays s z v) (sym a.1.2) (l, span-after_write s a.1.0 at _ _ v)
+event_stays s t c (Atomic at size op operand expected found) v a l = subst (λ (z : Plain). Stays s z v) (sym a.1.3) (l, span-after_write s a.1.0 at _ _ v)
 
 pub values_stay : ValuesStay
 values_stay s t [] v h l = same_stays s t v (sym h) l
@@ -164,7 +164,7 @@ writes_touch_named_bytes s c v a n x so r =
     let to : a + n ≤ (s.value v).span.at + (s.value v).span.size = r.covers.1 in
     let fits : i + length low ≤ length bs = omega arith in
     let now : Value = record (s.value v) { bytes = with_part bs i low } in
-    let here : (written s v a n x).value v ≡ now = put-same s.value v v now refl in (
+    let here : (after_write s v a n x).value v ≡ now = put-same s.value v v now refl in (
       λ w ne. put-other s.value v w now ne,
       λ b inside beside.
           ap (λ (y : Value). slice_index y.bytes (b - y.span.at)) here
@@ -192,7 +192,7 @@ Lacking s m h key flags answer t = (answer ≡ NoMemory) × (first_of (refusals 
 
 abbrev Placed : Plain → ℕ → MapShape → List ℕ → List ℕ → ℕ → MapAnswer → Plain → Type 0
 Placed s m h key bytes flags answer t =
-    (answer ≡ Done) × (first_of (refusals s m h key flags) ≡ None) × ((i : ℕ) × IsLowestFree s m h i × (t ≡ updated s m key (record { bytes = bytes; span = element_span m h i })))
+    (answer ≡ Done) × (first_of (refusals s m h key flags) ≡ None) × ((i : ℕ) × IsLowestFree s m h i × (t ≡ after_update s m key (record { bytes = bytes; span = element_span m h i })))
 
 same_map : (s : Plain) (m : ℕ) (g h : MapShape) → IsMap s.shape.maps m g → IsMap s.shape.maps m h → g ≡ h
 same_map s m g h p q = let k : Some g ≡ Some h = sym p ∙ q in cc
@@ -202,7 +202,7 @@ placed s t c m h key bytes flags is u ch =
     let same : ch.0 ≡ h = same_map s m ch.0 h ch.2 is in
     let here : (t.value s.made).span ≡ u.1.0 = ap (λ (z : Plain). (z.value s.made).span) u.1.2 ∙ ap (λ (x : Value). x.span) (put-same s.value s.made s.made (record { bytes = bytes; span = u.1.0 }) refl) in
     let span : u.1.0 ≡ element_span m h ch.1 = sym here ∙ (ch.4 ∙ ap (λ (g : MapShape). element_span m g ch.1) same) in
-    (refl, u.0, (ch.1, subst (λ (g : MapShape). IsLowestFree s m g ch.1) same ch.3, u.1.2 ∙ ap (λ (p : Span). updated s m key (record { bytes = bytes; span = p })) span))
+    (refl, u.0, (ch.1, subst (λ (g : MapShape). IsLowestFree s m g ch.1) same ch.3, u.1.2 ∙ ap (λ (p : Span). after_update s m key (record { bytes = bytes; span = p })) span))
 
 outcome : (s t : Plain) (c m : ℕ) (h : MapShape) (key bytes : List ℕ) (flags : ℕ) (answer : MapAnswer) → IsMap s.shape.maps m h → Updates s m h key bytes flags answer t → Chosen s (Update m key bytes flags answer) t
     → Refused s m h key flags answer t ⊎ (Lacking s m h key flags answer t ⊎ Placed s m h key bytes flags answer t)
@@ -235,7 +235,7 @@ one_outcome s t u m h key bytes flags x y (inr (inr p)) (inl q) = absurd (let k 
 one_outcome s t u m h key bytes flags x y (inr (inr p)) (inr (inl q)) = absurd (p.2.1.free (q.2 p.2.0 p.2.1.inside))
 one_outcome s t u m h key bytes flags x y (inr (inr p)) (inr (inr q)) = (
   p.0 ∙ sym q.0,
-  p.2.2 ∙ (ap (λ (i : ℕ). updated s m key (record { bytes = bytes; span = element_span m h i })) (lowest_one s m h p.2.0 q.2.0 p.2.1 q.2.1) ∙ sym q.2.2),
+  p.2.2 ∙ (ap (λ (i : ℕ). after_update s m key (record { bytes = bytes; span = element_span m h i })) (lowest_one s m h p.2.0 q.2.0 p.2.1 q.2.1) ∙ sym q.2.2),
 )
 
 updates_once : (s t u : Plain) (c m : ℕ) (key bytes : List ℕ) (flags : ℕ) (x y : MapAnswer) → PlainlyAllowed s c (Update m key bytes flags x) t → PlainlyAllowed s c (Update m key bytes flags y) u → (x ≡ y) × (t ≡ u)
@@ -268,31 +268,31 @@ deletes_once s t u m key Absent Full p q a b = absurd q
 deletes_once s t u m key Absent NoMemory p q a b = absurd q
 
 -- accesses reach one value, so they find one number and leave one store
-module _ (s : Plain) (so : IsSound s) (c : ℕ) (at : ℕ) (size : Size) where
+module _ (s : Plain) (so : IsSoundStore s) (c : ℕ) (at : ℕ) (size : Size) where
   one_reached : (v w : ℕ) → Reaches s c v at (bytes_in size) → Reaches s c w at (bytes_in size) → w ≡ v
   one_reached v w p q = one_value_is_reached s c c w v at (bytes_in size) so (some_bytes size) q p
 
   loads_once : (t u : Plain) (x y : ℕ) → Allowed s c (Load at size x) t → Allowed s c (Load at size y) u → (x ≡ y) × (t ≡ u)
   loads_once t u x y p q = (
-    p.1.2 ∙ (ap (λ (v : ℕ). number_at s v at (bytes_in size)) (sym (one_reached p.1.0 q.1.0 p.1.1 q.1.1)) ∙ sym q.1.2),
+    p.1.2 ∙ (ap (λ (v : ℕ). number_in s v at (bytes_in size)) (sym (one_reached p.1.0 q.1.0 p.1.1 q.1.1)) ∙ sym q.1.2),
     p.1.3 ∙ sym q.1.3,
   )
 
   stores_once : (t u : Plain) (x : ℕ) → Allowed s c (Store at size x) t → Allowed s c (Store at size x) u → t ≡ u
-  stores_once t u x p q = p.1.2 ∙ (ap (λ (v : ℕ). written s v at (bytes_in size) x) (sym (one_reached p.1.0 q.1.0 p.1.1 q.1.1)) ∙ sym q.1.2)
+  stores_once t u x p q = p.1.2 ∙ (ap (λ (v : ℕ). after_write s v at (bytes_in size) x) (sym (one_reached p.1.0 q.1.0 p.1.1 q.1.1)) ∙ sym q.1.2)
 
   atomics_once : (t u : Plain) (op : AtomicOp) (operand expected x y : ℕ) → Allowed s c (Atomic at size op operand expected x) t → Allowed s c (Atomic at size op operand expected y) u → (x ≡ y) × (t ≡ u)
   atomics_once t u op operand expected x y p q =
       let reached = one_reached p.1.0 q.1.0 p.1.1 q.1.1 in
-      let found : x ≡ y = p.1.2 ∙ (ap (λ (v : ℕ). number_at s v at (bytes_in size)) (sym reached) ∙ sym q.1.2) in (
+      let found : x ≡ y = p.1.2 ∙ (ap (λ (v : ℕ). number_in s v at (bytes_in size)) (sym reached) ∙ sym q.1.2) in (
         found,
         p.1.3
-            ∙ (ap (λ (z : ℕ). written s p.1.0 at (bytes_in size) (after_atomic op (bytes_in size) z operand expected)) found
-            ∙ (ap (λ (v : ℕ). written s v at (bytes_in size) (after_atomic op (bytes_in size) y operand expected)) (sym reached) ∙ sym q.1.3)),
+            ∙ (ap (λ (z : ℕ). after_write s p.1.0 at (bytes_in size) (after_atomic op (bytes_in size) z operand expected)) found
+            ∙ (ap (λ (v : ℕ). after_write s v at (bytes_in size) (after_atomic op (bytes_in size) y operand expected)) (sym reached) ∙ sym q.1.3)),
       )
 
 -- the same call, with the reply of another event
-determined : (s t u : Plain) (c : ℕ) (e f : Event) → IsSound s → PlainlyAllowed s c e t → PlainlyAllowed s c f u → asked e ≡ asked f → (e ≡ f) × (t ≡ u)
+determined : (s t u : Plain) (c : ℕ) (e f : Event) → IsSoundStore s → PlainlyAllowed s c e t → PlainlyAllowed s c f u → asked e ≡ asked f → (e ≡ f) × (t ≡ u)
 determined s t u c Begin Begin so p q h = (refl, p.0.2 ∙ sym q.0.2)
 determined s t u c End End so p q h = (refl, p.0.1 ∙ sym q.0.1)
 determined s t u c (Lookup m key x) (Lookup n other y) so p q h =
@@ -325,5 +325,5 @@ determined s t u c (Atomic at size op operand expected x) (Atomic at' size' op' 
     (ap (λ (z : ℕ). Atomic at size op operand expected z) once.0 ∙ sym g, once.1)
 determined s t u c e f so p q h = absurd (cc)
 
-pub replies_are_determined : RepliesAreDetermined
-replies_are_determined = determined
+pub calls_have_one_reply : CallsHaveOneReply
+calls_have_one_reply = determined

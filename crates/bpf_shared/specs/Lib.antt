@@ -15,7 +15,7 @@ pub mod Runs
 pub mod Rows
 pub mod Mapped
 pub mod Forgotten
-pub mod Seen
+pub mod Contents
 pub mod Passages
 pub mod Laws
 pub mod Lawful

@@ -6,18 +6,18 @@ use Rattle.bpf_shared.specs.Shape.{Shape}
 use Rattle.bpf_shared.specs.Store.{Plain, as_made}
 use Rattle.bpf_shared.specs.Events.{Allowed}
 use Rattle.bpf_shared.specs.Choice.{Chosen}
-use Rattle.bpf_shared.specs.History.{Steps, Legal, PlainlyLegal}
+use Rattle.bpf_shared.specs.History.{History, Legal, PlainlyLegal}
 use Rattle.bpf_shared.specs.Passage.{Calls}
-use Rattle.bpf_shared.specs.Sound.{IsSound}
+use Rattle.bpf_shared.specs.Sound.{IsSoundStore}
 use Rattle.bpf_shared.specs.Soundness.{as_made_sound, plainly_sound}
-use Rattle.bpf_shared.specs.Seen.{Seen, has_cpu, Shows, Passes, IsMade}
+use Rattle.bpf_shared.specs.Contents.{Contents, has_cpu, StandsFor, Passes, IsMade}
 
 -- ---- histories follow each other
-pub steps-append : (step : Plain → ℕ → Event → Plain → Type 0) (s m t : Plain) (xs ys : List Entry) → Steps step s xs m → Steps step m ys t → Steps step s (xs ++ ys) t
-steps-append step s m t [] ys p q = subst (λ (z : Plain). Steps step z ys t) (sym p) q
+pub steps-append : (step : Plain → ℕ → Event → Plain → Type 0) (s m t : Plain) (xs ys : List Entry) → History step s xs m → History step m ys t → History step s (xs ++ ys) t
+steps-append step s m t [] ys p q = subst (λ (z : Plain). History step z ys t) (sym p) q
 steps-append step s m t (x ∷ xs) ys p q = (p.0, p.1, steps-append step p.0 m t xs ys p.2 q)
 
-pub steps_cut : (step : Plain → ℕ → Event → Plain → Type 0) (s t : Plain) (xs ys : List Entry) → Steps step s (xs ++ ys) t → (m : Plain) × Steps step s xs m × Steps step m ys t
+pub steps_cut : (step : Plain → ℕ → Event → Plain → Type 0) (s t : Plain) (xs ys : List Entry) → History step s (xs ++ ys) t → (m : Plain) × History step s xs m × History step m ys t
 steps_cut step s t [] ys p = (s, refl, p)
 steps_cut step s t (x ∷ xs) ys p = let r = steps_cut step p.0 t xs ys p.2 in (r.0, (p.0, p.1, r.1), r.2)
 
@@ -27,17 +27,17 @@ plainly_legal s t [] p = p
 plainly_legal s t (x ∷ xs) p = (p.0, p.1.0, plainly_legal p.0 t xs p.2)
 
 -- ---- passages
-pub passes_nothing : (x : Seen) → Passes x x []
+pub passes_nothing : (x : Contents) → Passes x x []
 passes_nothing x s so h = (s, refl, h)
 
-pub passes_follow : (x y z : Seen) (xs ys : List Entry) → Passes x y xs → Passes y z ys → Passes x z (xs ++ ys)
+pub passes_follow : (x y z : Contents) (xs ys : List Entry) → Passes x y xs → Passes y z ys → Passes x z (xs ++ ys)
 passes_follow x y z xs ys p q s so h =
     let r = p s so h in
     let t = q r.0 (plainly_sound s r.0 xs so r.1) r.2 in
     (t.0, steps-append _ s r.0 t.0 xs ys r.1 t.1, t.2)
 
 -- one event that is allowed is a call, since no CPU is left unserved
-pub calls : (old new : Seen) (c : ℕ) (e : Event) → ((s : Plain) → IsSound s → Shows old s → (t : Plain) × Allowed s c e t × Chosen s e t × Shows new t) → Calls (Passes old new) (has_cpu old) c e
+pub calls : (old new : Contents) (c : ℕ) (e : Event) → ((s : Plain) → IsSoundStore s → StandsFor old s → (t : Plain) × Allowed s c e t × Chosen s e t × StandsFor new t) → Calls (Passes old new) (has_cpu old) c e
 calls old new c e step = record {
   others = [];
   foreign = λ d h. refl;
@@ -45,5 +45,5 @@ calls old new c e step = record {
 }
 
 -- a passage from a store as made is a legal history
-pub history : (h : Shape) (x y : Seen) (log : List Entry) → IsMade h x → Passes x y log → (t : Plain) × PlainlyLegal (as_made h) log t × Shows y t
+pub history : (h : Shape) (x y : Contents) (log : List Entry) → IsMade h x → Passes x y log → (t : Plain) × PlainlyLegal (as_made h) log t × StandsFor y t
 history h x y log made p = p (as_made h) (as_made_sound h) made.shows

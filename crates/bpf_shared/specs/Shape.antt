@@ -34,12 +34,12 @@ abbrev pub elements : MapShape → ℕ
 elements h = h.max + h.spare
 
 -- from one element to the next: a value's size, rounded up to a multiple of eight
-abbrev pub stride : MapShape → ℕ
-stride h = (h.value + 7) / 8 * 8
+abbrev pub element_stride : MapShape → ℕ
+element_stride h = (h.value + 7) / 8 * 8
 
 -- where the value in the i-th element of the m-th map lies (our own choice)
 abbrev pub element_span : ℕ → MapShape → ℕ → Span
-element_span m h i = record { at = 0x10_0000_0000 + 0x1000_0000 * m + i * stride h; size = h.value }
+element_span m h i = record { at = 0x10_0000_0000 + 0x1000_0000 * m + i * element_stride h; size = h.value }
 
 -- the span is that of an element of this map
 abbrev pub IsElementSpan : List MapShape → ℕ → Span → Type 0

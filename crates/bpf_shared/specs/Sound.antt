@@ -5,7 +5,7 @@ use Rattle.bpf_shared.specs.declared.shapes.MapShape.{MapShape}
 use Rattle.bpf_shared.specs.Shape.{IsMap, IsApart}
 use Rattle.bpf_shared.specs.Store.{Plain, IsInMap, IsKept, IsLive}
 
-pub record IsSound (s : Plain) : Type 0 where
+pub record IsSoundStore (s : Plain) : Type 0 where
   -- a held value is in a map, or kept for the CPU that holds it
   pub held : (c v : ℕ) → s.held c v ≡ true → ((m : ℕ) × IsInMap s m v) ⊎ (s.kept c v ≡ true)
   -- a CPU that is in no run holds nothing, and nothing is kept for it

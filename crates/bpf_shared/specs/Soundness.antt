@@ -16,17 +16,17 @@ use Rattle.bpf_shared.specs.declared.shapes.MapShape.{MapShape}
 use Rattle.bpf_shared.specs.First.{first_of}
 use Rattle.bpf_shared.specs.Shape.{Shape, IsMap, IsApart}
 use Rattle.bpf_shared.specs.Bytes.{low_bytes, with_part}
-use Rattle.bpf_shared.specs.Store.{Keys, Value, Plain, put, never, as_made, Leads, IsInMap, IsLive}
-use Rattle.bpf_shared.specs.Events.{entered, left, looked_up, has_key, refusals, kept_after, updated, Updates, deleted, Deletes, Reaches, written, Allowed}
+use Rattle.bpf_shared.specs.Store.{Keys, Value, Plain, put, never, as_made, Finds, IsInMap, IsLive}
+use Rattle.bpf_shared.specs.Events.{after_begin, after_end, after_lookup, has_key, refusals, kept_after, after_update, Updates, after_delete, Deletes, Reaches, after_write, Allowed}
 use Rattle.bpf_shared.specs.History.{Legal, PlainlyLegal}
-use Rattle.bpf_shared.specs.Sound.{IsSound}
+use Rattle.bpf_shared.specs.Sound.{IsSoundStore}
 use Rattle.bpf_shared.specs.Puts.{true_or_false, equal_or_not, put-same, put-other, put_cases, put_pair, insert_cases, remove_cases}
 
-holder_runs : (s : Plain) → IsSound s → (c v : ℕ) → s.held c v ≡ true → s.running c ≡ true
+holder_runs : (s : Plain) → IsSoundStore s → (c v : ℕ) → s.held c v ≡ true → s.running c ≡ true
 holder_runs s so c v h = elim (true_or_false (s.running c)) [ inl r ↦ r | inr r ↦ let k = (so.idle c r v).0 in cc ]
 
 -- ---- as made
-pub as_made_sound : (h : Shape) → IsSound (as_made h)
+pub as_made_sound : (h : Shape) → IsSoundStore (as_made h)
 as_made_sound h = record {
   held = λ c v e. cc;
   idle = λ c r v. (refl, refl);
@@ -58,12 +58,12 @@ none_more f c d v h = elim (put_cases f c d never) [ inl k ↦ ap (λ (g : ℕ �
 none_of : (f : ℕ → ℕ → Bool) (c v : ℕ) → put f c never c v ≡ false
 none_of f c v = ap (λ (g : ℕ → Bool). g v) (put-same f c c never refl)
 
-entered_live : (s : Plain) (c v : ℕ) → IsLive (entered s c) v → IsLive s v
-entered_live s c v (inl p) = inl p
-entered_live s c v (inr p) = inr (p.0, (still s.held c p.0 v p.1).1)
+after_begin_live : (s : Plain) (c v : ℕ) → IsLive (after_begin s c) v → IsLive s v
+after_begin_live s c v (inl p) = inl p
+after_begin_live s c v (inr p) = inr (p.0, (still s.held c p.0 v p.1).1)
 
-pub entered_sound : (s : Plain) (c : ℕ) → IsSound s → IsSound (entered s c)
-entered_sound s c so = record {
+pub after_begin_sound : (s : Plain) (c : ℕ) → IsSoundStore s → IsSoundStore (after_begin s c)
+after_begin_sound s c so = record {
   held = λ d v h. so.held d v (still s.held c d v h).1;
   idle = λ d r v. elim (put_cases s.running c d true) [
     | inl k ↦ absurd (let e : true ≡ false = sym k.1 ∙ r in cc)
@@ -71,17 +71,17 @@ entered_sound s c so = record {
   ];
   keys = so.keys;
   sizes = so.sizes;
-  live_made = λ v l. so.live_made v (entered_live s c v l);
+  live_made = λ v l. so.live_made v (after_begin_live s c v l);
   kept_made = so.kept_made;
-  apart = λ v w p q. so.apart v w (entered_live s c v p) (entered_live s c w q);
+  apart = λ v w p q. so.apart v w (after_begin_live s c v p) (after_begin_live s c w q);
 }
 
-left_live : (s : Plain) (c v : ℕ) → IsLive (left s c) v → IsLive s v
-left_live s c v (inl p) = inl p
-left_live s c v (inr p) = inr (p.0, (still s.held c p.0 v p.1).1)
+after_end_live : (s : Plain) (c v : ℕ) → IsLive (after_end s c) v → IsLive s v
+after_end_live s c v (inl p) = inl p
+after_end_live s c v (inr p) = inr (p.0, (still s.held c p.0 v p.1).1)
 
-pub left_sound : (s : Plain) (c : ℕ) → IsSound s → IsSound (left s c)
-left_sound s c so = record {
+pub after_end_sound : (s : Plain) (c : ℕ) → IsSoundStore s → IsSoundStore (after_end s c)
+after_end_sound s c so = record {
   held = λ d v h. (let was = still s.held c d v h in elim (so.held d v was.1) [ inl p ↦ inl p | inr k ↦ inr (others s.kept c d v was.0 k) ]);
   idle = λ d r v. elim (put_cases s.running c d false) [
     | inl k ↦ (
@@ -92,17 +92,17 @@ left_sound s c so = record {
   ];
   keys = so.keys;
   sizes = so.sizes;
-  live_made = λ v l. so.live_made v (left_live s c v l);
+  live_made = λ v l. so.live_made v (after_end_live s c v l);
   kept_made = λ v k. so.kept_made v (k.0, (still s.kept c k.0 v k.1).1);
-  apart = λ v w p q. so.apart v w (left_live s c v p) (left_live s c w q);
+  apart = λ v w p q. so.apart v w (after_end_live s c v p) (after_end_live s c w q);
 }
 
 -- ---- lookups
-looked_live : (s : Plain) (c m v : ℕ) → IsInMap s m v → (w : ℕ) → IsLive (looked_up s c (Some v)) w → IsLive s w
+looked_live : (s : Plain) (c m v : ℕ) → IsInMap s m v → (w : ℕ) → IsLive (after_lookup s c (Some v)) w → IsLive s w
 looked_live s c m v i w (inl p) = inl p
 looked_live s c m v i w (inr p) = elim (put_pair s.held c v p.0 w p.1) [ inl e ↦ inl (m, subst (IsInMap s m) (sym e.1) i) | inr h ↦ inr (p.0, h) ]
 
-looked_sound : (s : Plain) (c m v : ℕ) → IsInMap s m v → s.running c ≡ true → IsSound s → IsSound (looked_up s c (Some v))
+looked_sound : (s : Plain) (c m v : ℕ) → IsInMap s m v → s.running c ≡ true → IsSoundStore s → IsSoundStore (after_lookup s c (Some v))
 looked_sound s c m v i r so = record {
   held = λ d w h. elim (put_pair s.held c v d w h) [ inl e ↦ inl (m, subst (IsInMap s m) (sym e.1) i) | inr k ↦ so.held d w k ];
   idle = λ d h w. (
@@ -117,9 +117,9 @@ looked_sound s c m v i r so = record {
   apart = λ x y p q. so.apart x y (looked_live s c m v i x p) (looked_live s c m v i y q);
 }
 
-pub looked_up_sound : (s : Plain) (c m : ℕ) (key : List ℕ) (o : Option ℕ) → get (s.maps m) key ≡ o → s.running c ≡ true → IsSound s → IsSound (looked_up s c o)
-looked_up_sound s c m key None e r so = so
-looked_up_sound s c m key (Some v) e r so = looked_sound s c m v (key, e) r so
+pub after_lookup_sound : (s : Plain) (c m : ℕ) (key : List ℕ) (o : Option ℕ) → get (s.maps m) key ≡ o → s.running c ≡ true → IsSoundStore s → IsSoundStore (after_lookup s c o)
+after_lookup_sound s c m key None e r so = so
+after_lookup_sound s c m key (Some v) e r so = looked_sound s c m v (key, e) r so
 
 -- ---- what is kept once a value left its map
 pub kept_still : (s : Plain) (o : Option ℕ) (c w : ℕ) → s.kept c w ≡ true → kept_after s o c w ≡ true
@@ -150,7 +150,7 @@ kept_from s (Some v) c w h = go (s.running c) h
 -- ---- a map changed at one key
 module _ (s : Plain) (m : ℕ) (key : List ℕ) (new : Keys) where
   -- a value stays in its map, or it is the one that left
-  stays : ((q : List ℕ) → (q ≡ key) ⊎ (get new q ≡ get (s.maps m) q)) → (d : ℕ) (q : List ℕ) (v : ℕ) → Leads s d q v → (get (put s.maps m new d) q ≡ Some v) ⊎ (get (s.maps m) key ≡ Some v)
+  stays : ((q : List ℕ) → (q ≡ key) ⊎ (get new q ≡ get (s.maps m) q)) → (d : ℕ) (q : List ℕ) (v : ℕ) → Finds s d q v → (get (put s.maps m new d) q ≡ Some v) ⊎ (get (s.maps m) key ≡ Some v)
   stays same d q v h = elim (put_cases s.maps m d new) [
     | inr k ↦ inl (ap (λ (x : Keys). get x q) k.1 ∙ h)
     | inl k ↦
@@ -162,7 +162,7 @@ module _ (s : Plain) (m : ℕ) (key : List ℕ) (new : Keys) where
   ]
 
   -- and a value that is in it was there, or is what the key leads to now
-  was : (o : Option ℕ) → ((q : List ℕ) → (get new q ≡ o) ⊎ (get new q ≡ get (s.maps m) q)) → (d : ℕ) (q : List ℕ) (v : ℕ) → get (put s.maps m new d) q ≡ Some v → (o ≡ Some v) ⊎ Leads s d q v
+  was : (o : Option ℕ) → ((q : List ℕ) → (get new q ≡ o) ⊎ (get new q ≡ get (s.maps m) q)) → (d : ℕ) (q : List ℕ) (v : ℕ) → get (put s.maps m new d) q ≡ Some v → (o ≡ Some v) ⊎ Finds s d q v
   was o same d q v h = elim (put_cases s.maps m d new) [
     | inr k ↦ inr (sym (ap (λ (x : Keys). get x q) k.1) ∙ h)
     | inl k ↦
@@ -173,19 +173,19 @@ module _ (s : Plain) (m : ℕ) (key : List ℕ) (new : Keys) where
         ]
   ]
 
-module _ (s : Plain) (m : ℕ) (key : List ℕ) (so : IsSound s) where
+module _ (s : Plain) (m : ℕ) (key : List ℕ) (so : IsSoundStore s) where
   gone_made : (w : ℕ) → get (s.maps m) key ≡ Some w → w < s.made
   gone_made w e = so.live_made w (inl (m, (key, e)))
 
   keeps_made : (w : ℕ) → (c : ℕ) × (kept_after s (get (s.maps m) key) c w ≡ true) → w < s.made
   keeps_made w k = elim (kept_from s (get (s.maps m) key) k.0 w k.1) [ inl e ↦ gone_made w e | inr e ↦ so.kept_made w (k.0, e) ]
 
-  deleted_was : (d w : ℕ) → IsInMap (deleted s m key) d w → IsInMap s d w
-  deleted_was d w p = (p.0, elim (was s m key (remove (s.maps m) key) None (λ q. elim (remove_cases (s.maps m) key q) [ inl e ↦ inl e.1 | inr e ↦ inr e ]) d p.0 w p.1) [ inl e ↦ cc | inr h ↦ h ])
+  after_delete_was : (d w : ℕ) → IsInMap (after_delete s m key) d w → IsInMap s d w
+  after_delete_was d w p = (p.0, elim (was s m key (remove (s.maps m) key) None (λ q. elim (remove_cases (s.maps m) key q) [ inl e ↦ inl e.1 | inr e ↦ inr e ]) d p.0 w p.1) [ inl e ↦ cc | inr h ↦ h ])
 
-  deleted_live : (w : ℕ) → IsLive (deleted s m key) w → IsLive s w
-  deleted_live w (inl p) = inl (p.0, deleted_was p.0 w p.1)
-  deleted_live w (inr p) = inr p
+  after_delete_live : (w : ℕ) → IsLive (after_delete s m key) w → IsLive s w
+  after_delete_live w (inl p) = inl (p.0, after_delete_was p.0 w p.1)
+  after_delete_live w (inr p) = inr p
 
   fewer : (h : MapShape) → IsMap s.shape.maps m h → len (remove (s.maps m) key) ≤ h.max
   fewer h is = go (contains_key (s.maps m) key) (len-remove nat_list_cmp_total (s.maps m) key) (so.keys m h is)
@@ -194,8 +194,8 @@ module _ (s : Plain) (m : ℕ) (key : List ℕ) (so : IsSound s) where
       go true e l = omega arith
       go false e l = omega arith
 
-  pub deleted_sound : IsSound (deleted s m key)
-  deleted_sound = record {
+  pub after_delete_sound : IsSoundStore (after_delete s m key)
+  after_delete_sound = record {
     held = λ c w h. elim (so.held c w h) [
       | inr k ↦ inr (kept_still s (get (s.maps m) key) c w k)
       | inl p ↦ elim (stays s m key (remove (s.maps m) key) (λ q. elim (remove_cases (s.maps m) key q) [ inl e ↦ inl e.0 | inr e ↦ inr e ]) p.0 p.1.0 w p.1.1) [
@@ -209,18 +209,18 @@ module _ (s : Plain) (m : ℕ) (key : List ℕ) (so : IsSound s) where
       | inr k ↦ subst (λ (x : Keys). len x ≤ h.max) (sym k.1) (so.keys d h is)
     ];
     sizes = so.sizes;
-    live_made = λ w l. so.live_made w (deleted_live w l);
+    live_made = λ w l. so.live_made w (after_delete_live w l);
     kept_made = keeps_made;
-    apart = λ v w p q. so.apart v w (deleted_live v p) (deleted_live w q);
+    apart = λ v w p q. so.apart v w (after_delete_live v p) (after_delete_live w q);
   }
 
   module _ (x : Value) where
-    updated_was : (d w : ℕ) → IsInMap (updated s m key x) d w → (w ≡ s.made) ⊎ IsInMap s d w
-    updated_was d w p = elim (was s m key (insert (s.maps m) key s.made) (Some s.made) (λ q. elim (insert_cases (s.maps m) key s.made q) [ inl e ↦ inl e.1 | inr e ↦ inr e ]) d p.0 w p.1) [ inl e ↦ inl (let k : Some s.made ≡ Some w = e in cc) | inr h ↦ inr (p.0, h) ]
+    after_update_was : (d w : ℕ) → IsInMap (after_update s m key x) d w → (w ≡ s.made) ⊎ IsInMap s d w
+    after_update_was d w p = elim (was s m key (insert (s.maps m) key s.made) (Some s.made) (λ q. elim (insert_cases (s.maps m) key s.made q) [ inl e ↦ inl e.1 | inr e ↦ inr e ]) d p.0 w p.1) [ inl e ↦ inl (let k : Some s.made ≡ Some w = e in cc) | inr h ↦ inr (p.0, h) ]
 
-    updated_live : (w : ℕ) → IsLive (updated s m key x) w → (w ≡ s.made) ⊎ IsLive s w
-    updated_live w (inl p) = elim (updated_was p.0 w p.1) [ inl e ↦ inl e | inr h ↦ inr (inl (p.0, h)) ]
-    updated_live w (inr p) = inr (inr p)
+    after_update_live : (w : ℕ) → IsLive (after_update s m key x) w → (w ≡ s.made) ⊎ IsLive s w
+    after_update_live w (inl p) = elim (after_update_was p.0 w p.1) [ inl e ↦ inl e | inr h ↦ inr (inl (p.0, h)) ]
+    after_update_live w (inr p) = inr (inr p)
 
     old_value : (w : ℕ) → IsLive s w → put s.value s.made x w ≡ s.value w
     old_value w l = put-other s.value s.made w x (λ e. let k = so.live_made w l in omega arith)
@@ -236,8 +236,8 @@ module _ (s : Plain) (m : ℕ) (key : List ℕ) (so : IsSound s) where
         go true t e = omega arith
         go false t e = let k = room t in omega arith
 
-    pub updated_sound : ((v : ℕ) → IsLive s v → IsApart x.span (s.value v).span) → length x.bytes ≡ x.span.size → ((h : MapShape) → IsMap s.shape.maps m h → is_some (get (s.maps m) key) ≡ false → len (s.maps m) < h.max) → IsSound (updated s m key x)
-    updated_sound free size room = record {
+    pub after_update_sound : ((v : ℕ) → IsLive s v → IsApart x.span (s.value v).span) → length x.bytes ≡ x.span.size → ((h : MapShape) → IsMap s.shape.maps m h → is_some (get (s.maps m) key) ≡ false → len (s.maps m) < h.max) → IsSoundStore (after_update s m key x)
+    after_update_sound free size room = record {
       keys = λ d h is. elim (put_cases s.maps m d (insert (s.maps m) key s.made)) [
         | inl k ↦ (let here = subst (λ (z : ℕ). IsMap s.shape.maps z h) k.0 is in subst (λ (z : Keys). len z ≤ h.max) (sym k.1) (more h (room h here) (so.keys m h here)))
         | inr k ↦ subst (λ (z : Keys). len z ≤ h.max) (sym k.1) (so.keys d h is)
@@ -254,15 +254,15 @@ module _ (s : Plain) (m : ℕ) (key : List ℕ) (so : IsSound s) where
         ]
       ];
       idle = λ c r w. ((so.idle c r w).0, kept_idle s (get (s.maps m) key) c w r (so.idle c r w).1);
-      live_made = λ w l. elim (updated_live w l) [ inl e ↦ omega arith | inr k ↦ (let b = so.live_made w k in omega arith) ];
+      live_made = λ w l. elim (after_update_live w l) [ inl e ↦ omega arith | inr k ↦ (let b = so.live_made w k in omega arith) ];
       kept_made = λ w k. (let b = keeps_made w k in omega arith);
-      apart = λ v w p q ne. elim (updated_live v p) [
-        | inl e ↦ elim (updated_live w q) [
+      apart = λ v w p q ne. elim (after_update_live v p) [
+        | inl e ↦ elim (after_update_live w q) [
           | inl f ↦ absurd (ne (e ∙ sym f))
           | inr l ↦ subst (λ (y : Value). IsApart y.span (put s.value s.made x w).span) (sym (put-same s.value s.made v x e))
               (subst (λ (y : Value). IsApart x.span y.span) (sym (old_value w l)) (free w l))
         ]
-        | inr l ↦ elim (updated_live w q) [
+        | inr l ↦ elim (after_update_live w q) [
           | inl f ↦ subst (λ (y : Value). IsApart (put s.value s.made x v).span y.span) (sym (put-same s.value s.made w x f))
               (subst (λ (y : Value). IsApart y.span x.span) (sym (old_value v l)) (back x.span (s.value v).span (free v l)))
           | inr k ↦ subst (λ (y : Value). IsApart y.span (put s.value s.made x w).span) (sym (old_value v l))
@@ -272,10 +272,10 @@ module _ (s : Plain) (m : ℕ) (key : List ℕ) (so : IsSound s) where
     }
 
 -- ---- writes
-pub span-written : (s : Plain) (v a n x w : ℕ) → ((written s v a n x).value w).span ≡ (s.value w).span
-span-written s v a n x w = go (equal_or_not w v)
+pub span-after_write : (s : Plain) (v a n x w : ℕ) → ((after_write s v a n x).value w).span ≡ (s.value w).span
+span-after_write s v a n x w = go (equal_or_not w v)
   where
-    go : (w ≡ v) ⊎ (w ≢ v) → ((written s v a n x).value w).span ≡ (s.value w).span
+    go : (w ≡ v) ⊎ (w ≢ v) → ((after_write s v a n x).value w).span ≡ (s.value w).span
     go (inl e) = ap (λ (y : Value). y.span) (put-same s.value v w _ e) ∙ ap (λ (k : ℕ). (s.value k).span) (sym e)
     go (inr ne) = ap (λ (y : Value). y.span) (put-other s.value v w _ ne)
 
@@ -291,27 +291,27 @@ length-with_part bs i others l =
     let whole = length-append (take i bs ++ others) (drop (i + length others) bs) in
     omega arith
 
-length-written : (s : Plain) (v a n x : ℕ) → IsSound s → (c : ℕ) → Reaches s c v a n → length (with_part (s.value v).bytes (a - (s.value v).span.at) (low_bytes n x)) ≡ (s.value v).span.size
-length-written s v a n x so c r =
+length-after_write : (s : Plain) (v a n x : ℕ) → IsSoundStore s → (c : ℕ) → Reaches s c v a n → length (with_part (s.value v).bytes (a - (s.value v).span.at) (low_bytes n x)) ≡ (s.value v).span.size
+length-after_write s v a n x so c r =
     let size : length (s.value v).bytes ≡ (s.value v).span.size = so.sizes v (so.live_made v (inr (c, r.holds))) in
     let low : length (low_bytes n x) ≡ n = length-low_bytes n x in
     let from : (s.value v).span.at ≤ a = r.covers.0 in
     let to : a + n ≤ (s.value v).span.at + (s.value v).span.size = r.covers.1 in
     length-with_part (s.value v).bytes (a - (s.value v).span.at) (low_bytes n x) (omega arith) ∙ size
 
-pub written_sound : (s : Plain) (c v a n x : ℕ) → IsSound s → Reaches s c v a n → IsSound (written s v a n x)
-written_sound s c v a n x so r = record {
+pub after_write_sound : (s : Plain) (c v a n x : ℕ) → IsSoundStore s → Reaches s c v a n → IsSoundStore (after_write s v a n x)
+after_write_sound s c v a n x so r = record {
   held = so.held;
   idle = so.idle;
   keys = so.keys;
   sizes = λ w l. elim (put_cases s.value v w (record (s.value v) { bytes = with_part (s.value v).bytes (a - (s.value v).span.at) (low_bytes n x) })) [
-    | inl k ↦ subst (λ (y : Value). length y.bytes ≡ y.span.size) (sym k.1) (length-written s v a n x so c r)
+    | inl k ↦ subst (λ (y : Value). length y.bytes ≡ y.span.size) (sym k.1) (length-after_write s v a n x so c r)
     | inr k ↦ subst (λ (y : Value). length y.bytes ≡ y.span.size) (sym k.1) (so.sizes w l)
   ];
   live_made = so.live_made;
   kept_made = so.kept_made;
-  apart = λ u w p q ne. subst (λ (y : Span). IsApart y ((written s v a n x).value w).span) (sym (span-written s v a n x u))
-      (subst (λ (y : Span). IsApart (s.value u).span y) (sym (span-written s v a n x w)) (so.apart u w p q ne));
+  apart = λ u w p q ne. subst (λ (y : Span). IsApart y ((after_write s v a n x).value w).span) (sym (span-after_write s v a n x u))
+      (subst (λ (y : Span). IsApart (s.value u).span y) (sym (span-after_write s v a n x w)) (so.apart u w p q ne));
 }
 
 -- ---- all events
@@ -329,41 +329,41 @@ not_full s m h key flags e l new =
     let apart : (len (s.maps m) == h.max) ≡ false = sym (ap (λ (b : Bool). not b && (len (s.maps m) == h.max)) new) ∙ last in
     grind (arith, nat_tests)
 
-updates_sound : (s t : Plain) (m : ℕ) (h : MapShape) (key bytes : List ℕ) (flags : ℕ) (answer : MapAnswer) → IsSound s → IsMap s.shape.maps m h → length bytes ≡ h.value → Updates s m h key bytes flags answer t → IsSound t
+updates_sound : (s t : Plain) (m : ℕ) (h : MapShape) (key bytes : List ℕ) (flags : ℕ) (answer : MapAnswer) → IsSoundStore s → IsMap s.shape.maps m h → length bytes ≡ h.value → Updates s m h key bytes flags answer t → IsSoundStore t
 updates_sound s t m h key bytes flags Done so is size u =
-    subst IsSound (sym u.1.2) (updated_sound s m key so (record { bytes = bytes; span = u.1.0 }) u.1.1.apart
+    subst IsSoundStore (sym u.1.2) (after_update_sound s m key so (record { bytes = bytes; span = u.1.0 }) u.1.1.apart
     (size ∙ sym (ap (λ (q : Span). q.size) u.1.1.element.2))
     (λ g here new. let same : g ≡ h = (let k : Some g ≡ Some h = sym here ∙ is in cc) in subst (λ (z : MapShape). len (s.maps m) < z.max) (sym same) (not_full s m h key flags u.0 (so.keys m h is) new)))
-updates_sound s t m h key bytes flags Invalid so is size u = subst IsSound (sym u.1) so
-updates_sound s t m h key bytes flags Busy so is size u = subst IsSound (sym u.1) so
-updates_sound s t m h key bytes flags Exists so is size u = subst IsSound (sym u.1) so
-updates_sound s t m h key bytes flags Absent so is size u = subst IsSound (sym u.1) so
-updates_sound s t m h key bytes flags Full so is size u = subst IsSound (sym u.1) so
-updates_sound s t m h key bytes flags NoMemory so is size u = subst IsSound (sym u.1) so
+updates_sound s t m h key bytes flags Invalid so is size u = subst IsSoundStore (sym u.1) so
+updates_sound s t m h key bytes flags Busy so is size u = subst IsSoundStore (sym u.1) so
+updates_sound s t m h key bytes flags Exists so is size u = subst IsSoundStore (sym u.1) so
+updates_sound s t m h key bytes flags Absent so is size u = subst IsSoundStore (sym u.1) so
+updates_sound s t m h key bytes flags Full so is size u = subst IsSoundStore (sym u.1) so
+updates_sound s t m h key bytes flags NoMemory so is size u = subst IsSoundStore (sym u.1) so
 
-deletes_sound : (s t : Plain) (m : ℕ) (key : List ℕ) (answer : MapAnswer) → IsSound s → Deletes s m key answer t → IsSound t
-deletes_sound s t m key Done so u = subst IsSound (sym u.1) (deleted_sound s m key so)
-deletes_sound s t m key Busy so u = subst IsSound (sym u) so
-deletes_sound s t m key Absent so u = subst IsSound (sym u.1) so
+deletes_sound : (s t : Plain) (m : ℕ) (key : List ℕ) (answer : MapAnswer) → IsSoundStore s → Deletes s m key answer t → IsSoundStore t
+deletes_sound s t m key Done so u = subst IsSoundStore (sym u.1) (after_delete_sound s m key so)
+deletes_sound s t m key Busy so u = subst IsSoundStore (sym u) so
+deletes_sound s t m key Absent so u = subst IsSoundStore (sym u.1) so
 deletes_sound s t m key Invalid so u = absurd u
 deletes_sound s t m key Exists so u = absurd u
 deletes_sound s t m key Full so u = absurd u
 deletes_sound s t m key NoMemory so u = absurd u
 
-pub allowed_sound : (s t : Plain) (c : ℕ) (e : Event) → IsSound s → Allowed s c e t → IsSound t
-allowed_sound s t c Begin so a = subst IsSound (sym a.2) (entered_sound s c so)
-allowed_sound s t c End so a = subst IsSound (sym a.1) (left_sound s c so)
-allowed_sound s t c (Lookup m key found) so a = subst IsSound (sym a.1.2) (looked_up_sound s c m key (get (s.maps m) key) refl a.0 so)
+pub allowed_sound : (s t : Plain) (c : ℕ) (e : Event) → IsSoundStore s → Allowed s c e t → IsSoundStore t
+allowed_sound s t c Begin so a = subst IsSoundStore (sym a.2) (after_begin_sound s c so)
+allowed_sound s t c End so a = subst IsSoundStore (sym a.1) (after_end_sound s c so)
+allowed_sound s t c (Lookup m key found) so a = subst IsSoundStore (sym a.1.2) (after_lookup_sound s c m key (get (s.maps m) key) refl a.0 so)
 allowed_sound s t c (Update m key bytes flags answer) so a = updates_sound s t m a.1.0 key bytes flags answer so a.1.1 a.1.3 a.1.4
 allowed_sound s t c (Delete m key answer) so a = deletes_sound s t m key answer so a.1.1
-allowed_sound s t c (Load at size found) so a = subst IsSound (sym a.1.3) so
-allowed_sound s t c (Store at size x) so a = subst IsSound (sym a.1.2) (written_sound s c a.1.0 at _ x so a.1.1)
-allowed_sound s t c (Atomic at size op operand expected found) so a = subst IsSound (sym a.1.3) (written_sound s c a.1.0 at _ _ so a.1.1)
+allowed_sound s t c (Load at size found) so a = subst IsSoundStore (sym a.1.3) so
+allowed_sound s t c (Store at size x) so a = subst IsSoundStore (sym a.1.2) (after_write_sound s c a.1.0 at _ x so a.1.1)
+allowed_sound s t c (Atomic at size op operand expected found) so a = subst IsSoundStore (sym a.1.3) (after_write_sound s c a.1.0 at _ _ so a.1.1)
 
-pub legal_sound : (s t : Plain) (log : List Entry) → IsSound s → Legal s log t → IsSound t
-legal_sound s t [] so l = subst IsSound l so
+pub legal_sound : (s t : Plain) (log : List Entry) → IsSoundStore s → Legal s log t → IsSoundStore t
+legal_sound s t [] so l = subst IsSoundStore l so
 legal_sound s t (e ∷ es) so l = legal_sound l.0 t es (allowed_sound s l.0 e.cpu e.event so l.1) l.2
 
-pub plainly_sound : (s t : Plain) (log : List Entry) → IsSound s → PlainlyLegal s log t → IsSound t
-plainly_sound s t [] so l = subst IsSound l so
+pub plainly_sound : (s t : Plain) (log : List Entry) → IsSoundStore s → PlainlyLegal s log t → IsSoundStore t
+plainly_sound s t [] so l = subst IsSoundStore l so
 plainly_sound s t (e ∷ es) so l = plainly_sound l.0 t es (allowed_sound s l.0 e.cpu e.event so l.1.0) l.2

@@ -50,12 +50,12 @@ as_made h = record {
 }
 
 -- the key leads to the value
-abbrev pub Leads : Plain → ℕ → List ℕ → ℕ → Type 0
-Leads s m key v = get (s.maps m) key ≡ Some v
+abbrev pub Finds : Plain → ℕ → List ℕ → ℕ → Type 0
+Finds s m key v = get (s.maps m) key ≡ Some v
 
 -- some key of the map leads to the value
 abbrev pub IsInMap : Plain → ℕ → ℕ → Type 0
-IsInMap s m v = (key : List ℕ) × Leads s m key v
+IsInMap s m v = (key : List ℕ) × Finds s m key v
 
 abbrev pub IsHeld : Plain → ℕ → Type 0
 IsHeld s v = (c : ℕ) × (s.held c v ≡ true)

@@ -1,7 +1,7 @@
 //! What follows from the definitions of events and histories, as promises to the crates above.
 //!
 //! These functions do nothing: their contracts are the laws, which a proof cites.
-ghost use Rattle.bpf_shared.specs.Laws.{LegalIsSound, ValuesStay, RefusalsChangeNothing, UpdatesMakeValues, OneValueIsReached, WritesTouchNamedBytes, RepliesAreDetermined};
+ghost use Rattle.bpf_shared.specs.Laws.{LegalIsSound, ValuesStay, RefusalsChangeNothing, UpdatesMakeValues, OneValueIsReached, WritesTouchNamedBytes, CallsHaveOneReply};
 
 /// Each store that a legal history leads to is sound: a held value is in a map or kept for the CPU
 /// that holds it, no two live values overlap, no map has too many keys.
@@ -35,6 +35,6 @@ pub fn writes_touch_named_bytes()
 {}
 
 /// On one thread a call has one reply.
-pub fn replies_are_determined()
-    ensures { RepliesAreDetermined }
+pub fn calls_have_one_reply()
+    ensures { CallsHaveOneReply }
 {}

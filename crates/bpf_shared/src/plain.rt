@@ -23,9 +23,9 @@ pub struct PlainStore {
 }
 
 impl Model for PlainStore {
-    ghost use Rattle.bpf_shared.specs.Seen.{Seen, IsStore};
+    ghost use Rattle.bpf_shared.specs.Contents.{Contents, IsStore};
 
-    ghost Value = { Seen };
+    ghost Value = { Contents };
 
     ghost view = { λ p. record { runs = p.runs.items; tables = p.tables.items } };
 
@@ -61,7 +61,7 @@ fn new_tables(alloc: Global, maps: &[MapShape]) -> Result<Vec<Table>, AllocError
 }
 
 impl PlainStore {
-    ghost use Rattle.bpf_shared.specs.Seen.{IsMade, has_cpu, is_running, runs_of, recounted};
+    ghost use Rattle.bpf_shared.specs.Contents.{IsMade, has_cpu, is_running, runs_of, recounted};
 
     /// A store with no keys, and no CPU in a run. Want of memory is its only refusal.
     pub fn new(alloc: Global, shape: StoreShape) -> Result<PlainStore, ShapeError>
@@ -99,7 +99,7 @@ impl PlainStore {
 }
 
 impl Shared for PlainStore {
-    ghost use Rattle.bpf_shared.specs.Seen.{shapes_of, has_cpu, is_running, held_spans, Passes};
+    ghost use Rattle.bpf_shared.specs.Contents.{shapes_of, has_cpu, is_running, held_spans, Passes};
     ghost use Rattle.bpf_shared.specs.Passages.{passes_nothing, passes_follow};
 
     ghost shapes = { shapes_of };

@@ -2,4 +2,4 @@ use Rattle.bpf_cpu.proofs.DeterminedRuns.{plain_steps_are_determined as law}
 use Rattle.bpf_cpu.proofs.laws.plain_steps_are_determined.Goals as goal
 
 pub returns : goal.returns
-returns c = law c.writes_are_determined.ensures c.one_instruction_begins.ensures c.replies_are_determined.ensures
+returns c = law c.writes_are_determined.ensures c.one_instruction_begins.ensures c.calls_have_one_reply.ensures

@@ -1,7 +1,7 @@
 use Rattle.std.proofs.Common.{◌≡◌, ℕ, Bool, true, List, [], ◌∷◌, ap, subst, sym, ◌∙◌, rules}
 use Rattle.bpf_shared.specs.declared.shapes.MapShape.{MapShape}
 use Rattle.bpf_shared.specs.Shape.{IsKeyOf}
-use Rattle.bpf_shared.specs.Seen.{has_cpu, shapes_of}
+use Rattle.bpf_shared.specs.Contents.{has_cpu, shapes_of}
 use Rattle.bpf_shared.proofs.tests.a_new_store_has_no_keys.Goals as goal
 
 pub look_up_once-requires-2-clause-serves : goal.look_up_once-requires-2-clause-serves

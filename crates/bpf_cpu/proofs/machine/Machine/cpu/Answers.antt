@@ -1,7 +1,7 @@
 use Rattle.std.proofs.Common.{◌≡◌, ◌<◌, ◌≤◌, List, length, sym, ap, subst, arith}
 use Rattle.std.specs.Prelude.{slice_index_or}
 use Rattle.std.proofs.lemmas.Bool.{ltb-true, ltb-false}
-use Rattle.bpf_shared.specs.Seen.{has_cpu, is_running}
+use Rattle.bpf_shared.specs.Contents.{has_cpu, is_running}
 use Rattle.bpf_cpu.specs.declared.lane.Lane.{Lane}
 use Rattle.bpf_cpu.specs.Task.{IsFree}
 use Rattle.bpf_cpu.specs.Machine.{MachineState}

@@ -2,7 +2,7 @@ use Rattle.std.proofs.Common.{◌≡◌, ℕ, Some, None, length, refl, sym, ap,
 use Rattle.std.specs.Prelude.{slice_get, slice_set}
 use Rattle.std.proofs.lemmas.Option.{slice_get_read}
 use Rattle.bpf_shared.specs.Store.{put}
-use Rattle.bpf_shared.specs.Seen.{has_cpu, is_running}
+use Rattle.bpf_shared.specs.Contents.{has_cpu, is_running}
 use Rattle.bpf_shared.specs.declared.events.Event.TheVariants.{End}
 use Rattle.bpf_cpu.specs.declared.lane.Phase.TheVariants.{Ended}
 use Rattle.bpf_cpu.specs.declared.machine.Turned.TheVariants.{Ran}

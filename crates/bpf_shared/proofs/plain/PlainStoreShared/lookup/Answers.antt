@@ -4,7 +4,7 @@ use Rattle.bpf_shared.specs.declared.events.Event.TheVariants.{Lookup}
 use Rattle.bpf_shared.specs.Shape.{elements, element_span}
 use Rattle.bpf_shared.specs.Passage.{Calls, held_with}
 use Rattle.bpf_shared.specs.Rows.{Rows, cell, IsLinked}
-use Rattle.bpf_shared.specs.Seen.{Seen, rows, cell_of, span_at, shapes_of, has_cpu, is_running, held_spans, Passes, IsStore, looked}
+use Rattle.bpf_shared.specs.Contents.{Contents, rows, cell_of, span_at, shapes_of, has_cpu, is_running, held_spans, Passes, IsStore, looked}
 use Rattle.bpf_shared.proofs.Counting.{served}
 use Rattle.bpf_shared.proofs.Looking.{map_there, shape_at, read_row, left, looked_calls, looked_held, looked_same, looked_store, unlooked_calls}
 use Rattle.bpf_shared.proofs.plain.PlainStoreShared.lookup.Goals as goal
@@ -21,12 +21,12 @@ returns-in_err-element-clause-found c =
 pub span-span-requires-clause-map : goal.span-span-requires-clause-map
 span-span-requires-clause-map c =
     let mi = map_there c.args.self.now c.args.map c.args.key.now c.requires.key in
-    omega (arith, mi, ap (λ (q : Seen). length q.tables) c.self.view_is, c.self.invariant.maps)
+    omega (arith, mi, ap (λ (q : Contents). length q.tables) c.self.view_is, c.self.invariant.maps)
 
 pub index_mut-requires : goal.index_mut-requires
 index_mut-requires c =
     let mi = map_there c.args.self.now c.args.map c.args.key.now c.requires.key in
-    omega (arith, mi, ap (λ (q : Seen). length q.tables) c.self.view_is, c.self.inside.tables.ok.0)
+    omega (arith, mi, ap (λ (q : Contents). length q.tables) c.self.view_is, c.self.inside.tables.ok.0)
 
 pub look_up-requires-clause-element : goal.look_up-requires-clause-element
 look_up-requires-clause-element c =
@@ -75,7 +75,7 @@ returns-clause-found c =
     let new = left p cpu m i runs tables c.self.view_is mi c.index.result.now c.index_mut.result.now c.look_up.new.self (served p cpu c.requires.serves) c.index.ensures c.index_mut.ensures.value c.look_up.ensures.noted in
     let span : c.span-span.result ≡ span_at p m i = c.span-span.ensures.span ∙ ap (λ (t : Rows). element_span m t.shape i) row in
     let keyed : (cell_of p m i).key ≡ c.args.key.now = subst (λ (t : Rows). (cell t i).key ≡ c.args.key.now) row c.in_ok-element.ensures.found.1 in
-    subst (λ (q : Seen). Calls (Passes p q) (has_cpu p) cpu (Lookup m c.args.key.now (Some c.span-span.result))) (sym new)
+    subst (λ (q : Contents). Calls (Passes p q) (has_cpu p) cpu (Lookup m c.args.key.now (Some c.span-span.result))) (sym new)
     (subst (λ (x : Span). Calls (Passes p (looked p cpu m i)) (has_cpu p) cpu (Lookup m c.args.key.now (Some x))) (sym span) (looked_calls p cpu m i mi ii ci going linked c.args.key.now c.requires.key keyed))
 
 pub returns-clause-held : goal.returns-clause-held

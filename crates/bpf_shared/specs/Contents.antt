@@ -6,51 +6,51 @@ use Rattle.bpf_shared.specs.declared.events.Entry.{Entry}
 use Rattle.bpf_shared.specs.declared.shapes.MapShape.{MapShape}
 use Rattle.bpf_shared.specs.declared.runs.Runs.{Runs}
 use Rattle.bpf_shared.specs.Shape.{Shape, element_span}
-use Rattle.bpf_shared.specs.Store.{Plain, as_made, Leads}
+use Rattle.bpf_shared.specs.Store.{Plain, as_made, Finds}
 use Rattle.bpf_shared.specs.History.{PlainlyLegal}
 use Rattle.bpf_shared.specs.Passage.{same_span}
 use Rattle.bpf_shared.specs.Runs.{no_runs}
 use Rattle.bpf_shared.specs.Rows.{Rows, no_rows, shape_of, Cell, cell, IsLinked, noted_row, forgotten_rows}
-use Rattle.bpf_shared.specs.Sound.{IsSound}
+use Rattle.bpf_shared.specs.Sound.{IsSoundStore}
 
 -- what a `PlainStore` is to its callers
-pub record Seen : Type 0 where
+pub record Contents : Type 0 where
   -- by CPU
   pub runs : List Runs
   -- by map
   pub tables : List Rows
 
-abbrev pub runs_of : Seen → ℕ → Runs
+abbrev pub runs_of : Contents → ℕ → Runs
 runs_of p c = slice_index_or p.runs c no_runs
 
-abbrev pub rows : Seen → ℕ → Rows
+abbrev pub rows : Contents → ℕ → Rows
 rows p m = slice_index_or p.tables m no_rows
 
-abbrev pub cell_of : Seen → ℕ → ℕ → Cell
+abbrev pub cell_of : Contents → ℕ → ℕ → Cell
 cell_of p m i = cell (rows p m) i
 
-abbrev pub span_at : Seen → ℕ → ℕ → Span
+abbrev pub span_at : Contents → ℕ → ℕ → Span
 span_at p m i = element_span m (rows p m).shape i
 
-abbrev pub shapes_of : Seen → List MapShape
+abbrev pub shapes_of : Contents → List MapShape
 shapes_of p = map shape_of p.tables
 
-abbrev pub has_cpu : Seen → ℕ → Bool
+abbrev pub has_cpu : Contents → ℕ → Bool
 has_cpu p c = nat_lt c (length p.runs)
 
-abbrev pub is_running : Seen → ℕ → Bool
+abbrev pub is_running : Contents → ℕ → Bool
 is_running p c = (runs_of p c).running
 
 -- the CPU is in the run of this number
-abbrev pub is_run : Seen → ℕ → ℕ → Bool
+abbrev pub is_run : Contents → ℕ → ℕ → Bool
 is_run p c run = is_running p c && (run == (runs_of p c).count)
 
 -- the CPU's run looked the element up
-abbrev pub holds : Seen → ℕ → ℕ → ℕ → Bool
+abbrev pub holds : Contents → ℕ → ℕ → ℕ → Bool
 holds p c m i = is_run p c (slice_index (cell_of p m i).looked_up c)
 
 -- the CPU is still in the run that it was in when the element left its map
-abbrev pub keeps : Seen → ℕ → ℕ → ℕ → Bool
+abbrev pub keeps : Contents → ℕ → ℕ → ℕ → Bool
 keeps p c m i = is_run p c (slice_index (cell_of p m i).left c)
 
 -- the test is true of some number below n
@@ -59,23 +59,23 @@ any_below zero f = false
 any_below (suc n) f = f n || any_below n f
 
 -- the span is that of an element that the CPU's run looked up
-abbrev pub held_spans : Seen → ℕ → Span → Bool
+abbrev pub held_spans : Contents → ℕ → Span → Bool
 held_spans p c q = any_below (length p.tables) (λ m. any_below (length (rows p m).cells) (λ i. holds p c m i && same_span q (span_at p m i)))
 
 -- the element is in the map, or some CPU keeps or holds it
-abbrev pub IsUsed : Seen → ℕ → ℕ → Type 0
+abbrev pub IsUsed : Contents → ℕ → ℕ → Type 0
 IsUsed p m i = IsLinked (rows p m) i ⊎ ((c : ℕ) × ((keeps p c m i ≡ true) ⊎ (holds p c m i ≡ true)))
 
 -- in each element that is in use lies a value of the plain store, and the two agree on keys, on
 -- bytes and spans of values in a map or kept, on what is kept, and on who runs and holds what
-pub record Shows (p : Seen) (s : Plain) : Type 0 where
+pub record StandsFor (p : Contents) (s : Plain) : Type 0 where
   pub cpus : s.shape.cpus ≡ length p.runs
   pub maps : s.shape.maps ≡ shapes_of p
   pub running : (c : ℕ) → s.running c ≡ is_running p c
   -- the value number in each element of each map
   pub number : ℕ → ℕ → ℕ
-  pub leads : (m i : ℕ) → IsLinked (rows p m) i → Leads s m (cell_of p m i).key (number m i)
-  pub found : (m : ℕ) (key : List ℕ) (v : ℕ) → Leads s m key v → (i : ℕ) × IsLinked (rows p m) i × ((cell_of p m i).key ≡ key) × (v ≡ number m i)
+  pub leads : (m i : ℕ) → IsLinked (rows p m) i → Finds s m (cell_of p m i).key (number m i)
+  pub found : (m : ℕ) (key : List ℕ) (v : ℕ) → Finds s m key v → (i : ℕ) × IsLinked (rows p m) i × ((cell_of p m i).key ≡ key) × (v ≡ number m i)
   pub counts : (m : ℕ) → len (s.maps m) ≡ length (rows p m).order
   pub values : (m i : ℕ) → IsUsed p m i → s.value (number m i) ≡ record { bytes = (cell_of p m i).bytes; span = span_at p m i }
   pub held : (c v : ℕ) → s.held c v ≡ true → (m : ℕ) × (i : ℕ) × (i < length (rows p m).cells) × (holds p c m i ≡ true) × (v ≡ number m i)
@@ -85,38 +85,38 @@ pub record Shows (p : Seen) (s : Plain) : Type 0 where
 
 -- from each plain store that the old value shows, as some legal history may have left it, the events
 -- are allowed, with the choices of a `PlainStore`, and lead to one that the new value shows
-abbrev pub Passes : Seen → Seen → List Entry → Type 0
-Passes old new log = (s : Plain) → IsSound s → Shows old s → (t : Plain) × PlainlyLegal s log t × Shows new t
+abbrev pub Passes : Contents → Contents → List Entry → Type 0
+Passes old new log = (s : Plain) → IsSoundStore s → StandsFor old s → (t : Plain) × PlainlyLegal s log t × StandsFor new t
 
 -- what each `PlainStore` keeps true: no run is noted that didn't begin yet
-pub record IsStore (p : Seen) : Type 0 where
+pub record IsStore (p : Contents) : Type 0 where
   pub cpus : length p.runs ≤ 16
   pub maps : length p.tables ≤ 16
   pub looked_up : (m i c : ℕ) → slice_index (cell_of p m i).looked_up c ≤ (runs_of p c).count
   pub left : (m i c : ℕ) → slice_index (cell_of p m i).left c ≤ (runs_of p c).count
 
 -- a store that was made with this shape
-pub record IsMade (h : Shape) (p : Seen) : Type 0 where
+pub record IsMade (h : Shape) (p : Contents) : Type 0 where
   pub shapes : shapes_of p ≡ h.maps
   pub serves : (c : ℕ) → has_cpu p c ≡ nat_lt c h.cpus
   pub idle : (c : ℕ) → is_running p c ≡ false
   pub holds_nothing : (c : ℕ) (q : Span) → held_spans p c q ≡ false
-  pub shows : Shows p (as_made h)
+  pub shows : StandsFor p (as_made h)
 
 -- ---- what calls leave
 
 -- the CPU is in its next run
-abbrev pub started : Seen → ℕ → Seen
+abbrev pub started : Contents → ℕ → Contents
 started p c = record p { runs = slice_set p.runs c (record { count = (runs_of p c).count + 1; running = true }) }
 
 -- the CPU is in no run
-abbrev pub stopped : Seen → ℕ → Seen
+abbrev pub stopped : Contents → ℕ → Contents
 stopped p c = record p { runs = slice_set p.runs c (record (runs_of p c) { running = false }) }
 
 -- the CPU is in no run, and its runs are counted anew
-abbrev pub recounted : Seen → ℕ → Seen
+abbrev pub recounted : Contents → ℕ → Contents
 recounted p c = record { runs = slice_set p.runs c (record (runs_of p c) { count = 0 }); tables = map (forgotten_rows c) p.tables }
 
 -- the CPU's run looked up the i-th element of the m-th map
-abbrev pub looked : Seen → ℕ → ℕ → ℕ → Seen
+abbrev pub looked : Contents → ℕ → ℕ → ℕ → Contents
 looked p c m i = record p { tables = slice_set p.tables m (noted_row i c (runs_of p c).count (rows p m)) }
