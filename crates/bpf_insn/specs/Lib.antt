@@ -6,4 +6,5 @@ pub mod Refusal
 pub mod Lookup
 pub mod Reading
 pub mod Writing
+pub mod First
 pub mod Laws
