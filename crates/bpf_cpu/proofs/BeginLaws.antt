@@ -5,7 +5,7 @@ use Rattle.std.proofs.lemmas.Bool.{cases_lt}
 use Rattle.std.proofs.lemmas.List.{length-set}
 use Rattle.std.proofs.lemmas.Option.{slice_get_within}
 use Rattle.bpf_shared.specs.Store.{put}
-use Rattle.bpf_shared.specs.Puts.{put-same, put-other}
+use Rattle.bpf_shared.proofs.Puts.{put-same, put-other}
 use Rattle.bpf_shared.specs.Contents.{Contents, has_cpu, is_running}
 use Rattle.bpf_loader.specs.Loaded.{Loaded}
 use Rattle.bpf_loader.specs.Places.{IsStart}

@@ -2,7 +2,7 @@
 use Rattle.std.proofs.Common.{◌≡◌, ◌≢◌, ℕ, ◌<◌, ◌≤◌, Bool, List, Some, is_some, inl, inr, length, refl, sym, ap, subst, ◌∙◌, arith}
 use Rattle.std.specs.Prelude.{slice_get, slice_set}
 use Rattle.std.proofs.lemmas.List.{length-set, get_or-set_same, get_or-set_other}
-use Rattle.bpf_shared.specs.Puts.{equal_or_not}
+use Rattle.bpf_shared.proofs.Puts.{equal_or_not}
 use Rattle.bpf_loader.specs.Loaded.{Loaded}
 use Rattle.bpf_cpu.specs.declared.lane.Listed.{Listed}
 use Rattle.bpf_cpu.specs.declared.lane.Phase.{Phase}

@@ -5,10 +5,10 @@ use Rattle.std.proofs.lemmas.Bool.{cases_order}
 use Rattle.bpf_shared.specs.Laws.{CallsHaveOneReply}
 use Rattle.bpf_shared.specs.declared.events.Event.TheVariants.{Begin, End}
 use Rattle.bpf_shared.specs.Choice.{PlainlyAllowed}
-use Rattle.bpf_shared.specs.Puts.{equal_or_not}
+use Rattle.bpf_shared.proofs.Puts.{equal_or_not}
 use Rattle.bpf_shared.specs.Store.{Plain}
 use Rattle.bpf_shared.specs.Sound.{IsSoundStore}
-use Rattle.bpf_shared.specs.Soundness.{allowed_sound}
+use Rattle.bpf_shared.proofs.Soundness.{allowed_sound}
 use Rattle.bpf_loader.specs.Loaded.{Loaded}
 use Rattle.bpf_loader.specs.Laws.{OneInstructionBegins}
 use Rattle.bpf_mem.specs.Laws.{IsMemory, WritesAreDetermined}

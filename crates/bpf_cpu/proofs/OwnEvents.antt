@@ -15,10 +15,10 @@ use Rattle.bpf_shared.specs.Events.{after_lookup, Updates, Deletes, Allowed}
 use Rattle.bpf_shared.specs.History.{PlainlyLegal, events_of, entry}
 use Rattle.bpf_shared.specs.Choice.{PlainlyAllowed}
 use Rattle.bpf_shared.specs.Passage.{Calls}
-use Rattle.bpf_shared.specs.Chain.{Chain, chain_one}
+use Rattle.bpf_shared.specs.Chain.{Chain}
+use Rattle.bpf_shared.proofs.Chains.{chain_one}
 use Rattle.bpf_shared.specs.Sound.{IsSoundStore}
-use Rattle.bpf_shared.specs.Soundness.{plainly_sound}
-use Rattle.bpf_shared.specs.Puts.{equal_or_not, put_cases}
+use Rattle.bpf_shared.proofs.Puts.{equal_or_not, put_cases}
 use Rattle.bpf_shared.specs.Runs.{no_runs}
 use Rattle.bpf_shared.specs.Contents.{Contents, has_cpu, runs_of, StandsFor, Passes}
 
@@ -133,7 +133,7 @@ chain_leads x y c events chain s sound shows =
     λ d l ne. chain.foreign d (lt-ltb d (length x.runs) (subst (λ (n : ℕ). d < n) shows.cpus l)) ne
     in
     let own : chain.log ≡ map (entry c) events = history_is_own s end.0 c chain.log (shown_within x s shows) end.1 foreign ∙ ap (λ (es : List Event). map (entry c) es) chain.own in
-    (end.0, subst (λ (l : List Entry). PlainlyLegal s l end.0) own end.1, plainly_sound s end.0 chain.log sound end.1, end.2)
+    (end.0, subst (λ (l : List Entry). PlainlyLegal s l end.0) own end.1, end.2, end.3)
 
 -- a call alone
 pub call_leads : (x y : Contents) (c : ℕ) (e : Event) → has_cpu x c ≡ true → Calls (Passes x y) (has_cpu x) c e → has_cpu y ≡ has_cpu x

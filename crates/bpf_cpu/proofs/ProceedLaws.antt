@@ -2,7 +2,7 @@
 use Rattle.std.proofs.Common.{◌≡◌, ℕ, ◌<◌, ◌≤◌, Bool, true, false, List, Option, Some, None, is_some, length, refl, sym, ap, subst, ◌∙◌}
 use Rattle.std.specs.Prelude.{slice_get, slice_set}
 use Rattle.std.proofs.lemmas.Option.{slice_get_within}
-use Rattle.bpf_shared.specs.Puts.{put-same, put-other}
+use Rattle.bpf_shared.proofs.Puts.{put-same, put-other}
 use Rattle.bpf_shared.specs.declared.events.Event.TheVariants.{End}
 use Rattle.bpf_shared.specs.Store.{Plain, put}
 use Rattle.bpf_shared.specs.Choice.{PlainlyAllowed}

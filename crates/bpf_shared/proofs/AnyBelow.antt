@@ -1,6 +1,6 @@
 -- Tests of some number below a bound.
 use Rattle.std.proofs.Common.{◌≡◌, ◌≢◌, ℕ, zero, suc, ◌<◌, Bool, true, false, ◌||◌, inl, inr, refl, ap, sym, ◌∙◌, arith}
-use Rattle.bpf_shared.specs.Puts.{equal_or_not}
+use Rattle.bpf_shared.proofs.Puts.{equal_or_not}
 use Rattle.bpf_shared.specs.Contents.{any_below}
 
 pub any_below_same : (n : ℕ) (f g : ℕ → Bool) → ((i : ℕ) → i < n → g i ≡ f i) → any_below n g ≡ any_below n f

@@ -10,13 +10,13 @@ use Rattle.bpf_shared.specs.declared.runs.Runs.{Runs}
 use Rattle.bpf_shared.specs.Store.{Plain, put, never}
 use Rattle.bpf_shared.specs.Events.{after_begin, after_end}
 use Rattle.bpf_shared.specs.Sound.{IsSoundStore}
-use Rattle.bpf_shared.specs.Puts.{equal_or_not, put-same, put-other, put_cases}
+use Rattle.bpf_shared.proofs.Puts.{equal_or_not, put-same, put-other, put_cases}
 use Rattle.bpf_shared.specs.Passage.{Calls, held_without}
 use Rattle.bpf_shared.specs.Runs.{no_runs}
 use Rattle.bpf_shared.specs.Rows.{Rows, no_rows, shape_of, Cell, cell, forgotten, forgotten_rows}
-use Rattle.bpf_shared.specs.Forgotten.{cell-forgotten, length-forgotten}
+use Rattle.bpf_shared.proofs.Forgotten.{cell-forgotten, length-forgotten}
 use Rattle.bpf_shared.specs.Contents.{Contents, runs_of, rows, cell_of, shapes_of, has_cpu, is_running, is_run, holds, keeps, held_spans, IsUsed, StandsFor, Passes, IsStore, started, stopped, recounted}
-use Rattle.bpf_shared.specs.Passages.{calls}
+use Rattle.bpf_shared.proofs.Passages.{calls}
 use Rattle.bpf_shared.proofs.Showing.{SameContent, same_tables, linked_was, within_was, within_still, shows_after, held_spans-same, held_spans-without}
 
 abbrev pub with_runs : Contents → ℕ → Runs → Contents

@@ -1,3 +1,10 @@
+pub mod Puts
+pub mod Soundness
+pub mod Lawful
+pub mod Chains
+pub mod Passages
+pub mod Mapped
+pub mod Forgotten
 pub mod Refusing
 pub mod Searching
 pub mod AnyBelow

@@ -10,12 +10,12 @@ use Rattle.bpf_shared.specs.declared.runs.Runs.{Runs}
 use Rattle.bpf_shared.specs.Shape.{IsKeyOf, IsMap, element_span}
 use Rattle.bpf_shared.specs.Store.{Plain, Value, put, Finds}
 use Rattle.bpf_shared.specs.Events.{span_of, after_lookup}
-use Rattle.bpf_shared.specs.Puts.{equal_or_not, put_pair, put_pair-old, put_pair-new}
+use Rattle.bpf_shared.proofs.Puts.{equal_or_not, put_pair, put_pair-old, put_pair-new}
 use Rattle.bpf_shared.specs.Passage.{Calls, same_span, held_with}
 use Rattle.bpf_shared.specs.Runs.{no_runs}
 use Rattle.bpf_shared.specs.Rows.{Rows, no_rows, shape_of, Cell, no_cell, cell, IsLinked, noted, noted_row}
 use Rattle.bpf_shared.specs.Contents.{Contents, runs_of, rows, cell_of, span_at, shapes_of, has_cpu, is_running, is_run, holds, keeps, any_below, held_spans, IsUsed, StandsFor, Passes, IsStore, looked}
-use Rattle.bpf_shared.specs.Passages.{calls}
+use Rattle.bpf_shared.proofs.Passages.{calls}
 use Rattle.bpf_shared.proofs.AnyBelow.{any_below_one}
 use Rattle.bpf_shared.proofs.Showing.{SameContent, linked_was, within_was, within_still, span-same, shows_after}
 

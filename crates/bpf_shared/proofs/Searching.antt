@@ -7,7 +7,7 @@ use Rattle.std.specs.Cmp.Lexicographic.{slice_cmp}
 use Rattle.std.proofs.lemmas.Bool.{cases_lt}
 use Rattle.std.proofs.lemmas.Cmp.{nat_list_cmp_total}
 use Rattle.std.proofs.lemmas.List.{get_or_read}
-use Rattle.bpf_shared.specs.Puts.{equal_or_not}
+use Rattle.bpf_shared.proofs.Puts.{equal_or_not}
 use Rattle.bpf_shared.specs.Rows.{Rows, Cell, no_cell, cell, key_at, IsLinked, IsTable, IsGap}
 
 -- the key that the code read

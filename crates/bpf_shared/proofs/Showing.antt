@@ -5,7 +5,7 @@ use Rattle.bpf_shared.specs.declared.shapes.MapShape.{MapShape}
 use Rattle.bpf_shared.specs.Shape.{element_span}
 use Rattle.bpf_shared.specs.Store.{Plain, Finds}
 use Rattle.bpf_shared.specs.Passage.{same_span, held_without}
-use Rattle.bpf_shared.specs.Puts.{equal_or_not}
+use Rattle.bpf_shared.proofs.Puts.{equal_or_not}
 use Rattle.bpf_shared.specs.Rows.{Rows, IsLinked}
 use Rattle.bpf_shared.specs.Contents.{Contents, rows, cell_of, span_at, shapes_of, is_running, holds, keeps, any_below, held_spans, IsUsed, StandsFor}
 use Rattle.bpf_shared.proofs.AnyBelow.{any_below_same, any_below_none}

@@ -86,7 +86,8 @@ pub record StandsFor (p : Contents) (s : Plain) : Type 0 where
 -- from each plain store that the old value shows, as some legal history may have left it, the events
 -- are allowed, with the choices of a `PlainStore`, and lead to one that the new value shows
 abbrev pub Passes : Contents → Contents → List Entry → Type 0
-Passes old new log = (s : Plain) → IsSoundStore s → StandsFor old s → (t : Plain) × PlainlyLegal s log t × StandsFor new t
+Passes old new log =
+    (s : Plain) → IsSoundStore s → StandsFor old s → (t : Plain) × PlainlyLegal s log t × IsSoundStore t × StandsFor new t
 
 -- what each `PlainStore` keeps true: no run is noted that didn't begin yet
 pub record IsStore (p : Contents) : Type 0 where

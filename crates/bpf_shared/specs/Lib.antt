@@ -9,13 +9,8 @@ pub mod History
 pub mod Passage
 pub mod Chain
 pub mod Sound
-pub mod Puts
-pub mod Soundness
 pub mod Runs
 pub mod Rows
-pub mod Mapped
-pub mod Forgotten
 pub mod Contents
-pub mod Passages
 pub mod Laws
-pub mod Lawful
+pub mod Lemmas

@@ -100,7 +100,7 @@ impl PlainStore {
 
 impl Shared for PlainStore {
     ghost use Rattle.bpf_shared.specs.Contents.{shapes_of, has_cpu, is_running, held_spans, Passes};
-    ghost use Rattle.bpf_shared.specs.Passages.{passes_nothing, passes_follow};
+    ghost use Rattle.bpf_shared.specs.Lemmas.Passages.{passes_nothing, passes_follow};
 
     ghost shapes = { shapes_of };
 

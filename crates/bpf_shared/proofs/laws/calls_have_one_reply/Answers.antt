@@ -1,4 +1,4 @@
-use Rattle.bpf_shared.specs.Lawful.{calls_have_one_reply as law}
+use Rattle.bpf_shared.proofs.Lawful.{calls_have_one_reply as law}
 use Rattle.bpf_shared.proofs.laws.calls_have_one_reply.Goals as goal
 
 pub returns : goal.returns

@@ -1,4 +1,4 @@
-use Rattle.bpf_shared.specs.Lawful.{refusals_change_nothing as law}
+use Rattle.bpf_shared.proofs.Lawful.{refusals_change_nothing as law}
 use Rattle.bpf_shared.proofs.laws.refusals_change_nothing.Goals as goal
 
 pub returns : goal.returns

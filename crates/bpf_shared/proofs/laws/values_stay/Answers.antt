@@ -1,4 +1,4 @@
-use Rattle.bpf_shared.specs.Lawful.{values_stay as law}
+use Rattle.bpf_shared.proofs.Lawful.{values_stay as law}
 use Rattle.bpf_shared.proofs.laws.values_stay.Goals as goal
 
 pub returns : goal.returns

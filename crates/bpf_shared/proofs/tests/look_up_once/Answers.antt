@@ -1,6 +1,6 @@
 use Rattle.std.proofs.Common.{[], ◌∷◌}
 use Rattle.bpf_shared.specs.declared.events.Event.TheVariants.{Begin, End, Lookup}
-use Rattle.bpf_shared.specs.Chain.{chain_one, chain_call}
+use Rattle.bpf_shared.proofs.Chains.{chain_one, chain_call}
 use Rattle.bpf_shared.proofs.tests.look_up_once.Goals as goal
 
 pub returns-clause-events : goal.returns-clause-events

@@ -2,7 +2,8 @@ use Rattle.std.proofs.Common.{ℕ, List, [], ◌∷◌, ◌++◌, inl, subst, re
 use Rattle.bpf_shared.specs.declared.events.Event.TheVariants.{Begin, End}
 use Rattle.bpf_shared.specs.declared.shapes.MapShape.{MapShape}
 use Rattle.bpf_shared.specs.Passage.{Calls}
-use Rattle.bpf_shared.specs.Chain.{Chain, chain_one, chain_join, chain_call}
+use Rattle.bpf_shared.specs.Chain.{Chain}
+use Rattle.bpf_shared.proofs.Chains.{chain_one, chain_join, chain_call}
 use Rattle.bpf_cpu.specs.Step.{Steps}
 use Rattle.bpf_cpu.proofs.RowLaws.{start_ready}
 use Rattle.bpf_cpu.proofs.cpu.Cpu.run.Goals as goal

@@ -25,8 +25,8 @@ use Rattle.bpf_shared.specs.Store.{Keys, Value, Plain}
 use Rattle.bpf_shared.specs.Events.{after_lookup, refusals, after_update, Updates, Deletes, Reaches, after_write, number_in, Allowed}
 use Rattle.bpf_shared.specs.Choice.{IsShort, IsLowestFree, Chosen, PlainlyAllowed}
 use Rattle.bpf_shared.specs.Sound.{IsSoundStore}
-use Rattle.bpf_shared.specs.Soundness.{as_made_sound, legal_sound, span-after_write, length-low_bytes}
-use Rattle.bpf_shared.specs.Puts.{equal_or_not, put-same, put-other}
+use Rattle.bpf_shared.proofs.Soundness.{as_made_sound, legal_sound, span-after_write, length-low_bytes}
+use Rattle.bpf_shared.proofs.Puts.{equal_or_not, put-same, put-other}
 use Rattle.bpf_shared.specs.Laws.{LegalIsSound, ValuesStay, RefusalsChangeNothing, MakesValue, UpdatesMakeValues, OneValueIsReached, WritesTouchNamedBytes, asked, CallsHaveOneReply}
 
 pub legal_is_sound : LegalIsSound

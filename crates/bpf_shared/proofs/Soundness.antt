@@ -20,7 +20,7 @@ use Rattle.bpf_shared.specs.Store.{Keys, Value, Plain, put, never, as_made, Find
 use Rattle.bpf_shared.specs.Events.{after_begin, after_end, after_lookup, has_key, refusals, kept_after, after_update, Updates, after_delete, Deletes, Reaches, after_write, Allowed}
 use Rattle.bpf_shared.specs.History.{Legal, PlainlyLegal}
 use Rattle.bpf_shared.specs.Sound.{IsSoundStore}
-use Rattle.bpf_shared.specs.Puts.{true_or_false, equal_or_not, put-same, put-other, put_cases, put_pair, insert_cases, remove_cases}
+use Rattle.bpf_shared.proofs.Puts.{true_or_false, equal_or_not, put-same, put-other, put_cases, put_pair, insert_cases, remove_cases}
 
 holder_runs : (s : Plain) → IsSoundStore s → (c v : ℕ) → s.held c v ≡ true → s.running c ≡ true
 holder_runs s so c v h = elim (true_or_false (s.running c)) [ inl r ↦ r | inr r ↦ let k = (so.idle c r v).0 in cc ]

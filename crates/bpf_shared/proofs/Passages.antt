@@ -1,0 +1,38 @@
+-- Passages of a `PlainStore`: one event, and what a passage from a store as made is.
+use Rattle.std.proofs.Common.{ℕ, List, [], ◌∷◌, ◌++◌, refl}
+use Rattle.bpf_shared.specs.declared.events.Event.{Event}
+use Rattle.bpf_shared.specs.declared.events.Entry.{Entry}
+use Rattle.bpf_shared.specs.Shape.{Shape}
+use Rattle.bpf_shared.specs.Store.{Plain, as_made}
+use Rattle.bpf_shared.specs.Events.{Allowed}
+use Rattle.bpf_shared.specs.Choice.{Chosen}
+use Rattle.bpf_shared.specs.History.{History, Legal, PlainlyLegal}
+use Rattle.bpf_shared.specs.Passage.{Calls}
+use Rattle.bpf_shared.specs.Sound.{IsSoundStore}
+use Rattle.bpf_shared.specs.Contents.{Contents, has_cpu, StandsFor, Passes, IsMade}
+use Rattle.bpf_shared.proofs.Soundness.{as_made_sound, allowed_sound}
+
+pub history_cut : (step : Plain → ℕ → Event → Plain → Type 0) (s t : Plain) (xs ys : List Entry)
+    → History step s (xs ++ ys) t → (m : Plain) × History step s xs m × History step m ys t
+history_cut step s t [] ys p = (s, refl, p)
+history_cut step s t (x ∷ xs) ys p = let r = history_cut step p.0 t xs ys p.2 in (r.0, (p.0, p.1, r.1), r.2)
+
+-- what a `PlainStore` may do, any store may
+pub plainly_legal : (s t : Plain) (log : List Entry) → PlainlyLegal s log t → Legal s log t
+plainly_legal s t [] p = p
+plainly_legal s t (x ∷ xs) p = (p.0, p.1.0, plainly_legal p.0 t xs p.2)
+
+-- one event that is allowed is a call, since no CPU is left unserved
+pub calls : (old new : Contents) (c : ℕ) (e : Event)
+    → ((s : Plain) → IsSoundStore s → StandsFor old s → (t : Plain) × Allowed s c e t × Chosen s e t × StandsFor new t)
+    → Calls (Passes old new) (has_cpu old) c e
+calls old new c e step = record {
+  others = [];
+  foreign = λ d h. refl;
+  passage = λ s so h. let r = step s so h in (r.0, (r.0, (r.1, r.2), refl), allowed_sound s r.0 c e so r.1, r.3);
+}
+
+-- a passage from a store as made is a legal history
+pub history : (h : Shape) (x y : Contents) (log : List Entry) → IsMade h x → Passes x y log
+    → (t : Plain) × PlainlyLegal (as_made h) log t × IsSoundStore t × StandsFor y t
+history h x y log made p = p (as_made h) (as_made_sound h) made.shows
