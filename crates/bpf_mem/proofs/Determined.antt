@@ -2,12 +2,12 @@
 use Rattle.std.proofs.Common.{◌≡◌, ℕ, zero, suc, ◌+◌, ◌-◌, ◌<◌, List, [], ◌∷◌, length, get_or, refl, sym, ap, ◌∙◌, arith, inl, inr}
 use Rattle.std.specs.Prelude.{Option, Some, None, map, option_and_then, option_map, slice_get}
 use Rattle.std.proofs.lemmas.List.{ext_get_or}
-use Rattle.std.proofs.lemmas.Option.{slice_get-get_or}
 use Rattle.bpf_mem.specs.declared.memory.PrivateMemory.{PrivateMemory}
 use Rattle.bpf_mem.specs.Addresses.{context_base, frame_base}
 use Rattle.bpf_mem.specs.Memory.{byte_at, bytes_at, Writes}
 use Rattle.bpf_mem.specs.declared.frames.Caller.{Caller}
 use Rattle.bpf_mem.specs.Laws.{IsMemory, WritesAreDetermined}
+use Rattle.bpf_base.proofs.Lists.{same_elements}
 use Rattle.bpf_mem.proofs.AreaLemmas.{by_le, byte_at-context, byte_at-frame}
 
 -- ---- the shape stays
@@ -75,14 +75,10 @@ same_bytes old new other a bytes w v b =
 
 -- ---- so the memories are
 
-same_list : (xs ys : List ℕ) → length xs ≡ length ys → ((k : ℕ) → k < length xs → slice_get xs k ≡ slice_get ys k) → xs ≡ ys
-same_list xs ys e each = ext_get_or 0 xs ys e (λ i h.
-    let both : Some (get_or xs i 0) ≡ Some (get_or ys i 0) = sym (slice_get-get_or xs i 0 h) ∙ each i h ∙ slice_get-get_or ys i 0 (omega arith) in cc)
-
 same_context : (m n : PrivateMemory) → IsMemory m → length m.context ≡ length n.context → ((b : ℕ) → byte_at m b ≡ byte_at n b) → m.context ≡ n.context
 same_context m n sound e each =
     let small = sound.small in
-    same_list m.context n.context e (λ k h. sym (byte_at-context m (context_base + k) k refl (omega arith)) ∙ each (context_base + k) ∙ byte_at-context n (context_base + k) k refl (omega arith))
+    same_elements 0 m.context n.context e (λ k h. sym (byte_at-context m (context_base + k) k refl (omega arith)) ∙ each (context_base + k) ∙ byte_at-context n (context_base + k) k refl (omega arith))
 
 same_frames : (m n : PrivateMemory) → IsMemory m → IsMemory n → length m.frames.live ≡ length n.frames.live → ((b : ℕ) → byte_at m b ≡ byte_at n b) → m.frames.live ≡ n.frames.live
 same_frames m n sound sound' e each = ext_get_or [] m.frames.live n.frames.live e frame
@@ -91,7 +87,7 @@ same_frames m n sound sound' e each = ext_get_or [] m.frames.live n.frames.live 
     frame d h =
         let sized = sound.stack.sized d [] h in
         let sized' = sound'.stack.sized d [] (omega arith) in
-        same_list (get_or m.frames.live d []) (get_or n.frames.live d []) (sized ∙ sym sized') (λ o k.
+        same_elements 0 (get_or m.frames.live d []) (get_or n.frames.live d []) (sized ∙ sym sized') (λ o k.
         sym (byte_at-frame m (frame_base d + o) d o sound.stack.sized refl h (omega arith)) ∙ each (frame_base d + o)
         ∙ byte_at-frame n (frame_base d + o) d o sound'.stack.sized refl (omega arith) (omega arith))
 

@@ -4,7 +4,7 @@ use Rattle.std.specs.Prelude.{Option, Some, None, option_and_then, option_map, s
 use Rattle.std.proofs.lemmas.Option.{slice_get_past, slice_get-get_or}
 use Rattle.std.proofs.lemmas.Bool.Decides.{nat_tests}
 use Rattle.bpf_mem.specs.declared.memory.PrivateMemory.{PrivateMemory}
-use Rattle.bpf_mem.specs.Bytes.{number_of}
+use Rattle.bpf_base.specs.Bytes.{little_endian}
 use Rattle.bpf_mem.specs.Addresses.{context_base, frame_base}
 use Rattle.bpf_mem.specs.Memory.{byte_at, bytes_at, number_at}
 use Rattle.bpf_mem.proofs.AreaLemmas.{Sized, byte_at-below, by_le, byte_at-context, byte_at-frame, byte_at-gap}
@@ -104,10 +104,10 @@ bytes_in_frame m d o n sized live h =
     let count : o + n - o ≡ n = omega arith in
     rw count (frame-bytes m (frame_base d + o) d o n sized refl live h)
 
-pub number_in_context : (m : PrivateMemory) (o n : ℕ) → length m.context ≤ 4096 → o + n ≤ length m.context → number_at m (context_base + o) n ≡ Some (number_of (take n (drop o m.context)))
+pub number_in_context : (m : PrivateMemory) (o n : ℕ) → length m.context ≤ 4096 → o + n ≤ length m.context → number_at m (context_base + o) n ≡ Some (little_endian (take n (drop o m.context)))
 number_in_context m o n small h =
-    ap (option_map number_of) (context-bytes m (context_base + o) o n refl (omega arith) h)
+    ap (option_map little_endian) (context-bytes m (context_base + o) o n refl (omega arith) h)
 
-pub number_in_frame : (m : PrivateMemory) (d o n : ℕ) → Sized m.frames.live → d < length m.frames.live → o + n ≤ 512 → number_at m (frame_base d + o) n ≡ Some (number_of (take n (drop o (get_or m.frames.live d []))))
+pub number_in_frame : (m : PrivateMemory) (d o n : ℕ) → Sized m.frames.live → d < length m.frames.live → o + n ≤ 512 → number_at m (frame_base d + o) n ≡ Some (little_endian (take n (drop o (get_or m.frames.live d []))))
 number_in_frame m d o n sized live h =
-    ap (option_map number_of) (frame-bytes m (frame_base d + o) d o n sized refl live h)
+    ap (option_map little_endian) (frame-bytes m (frame_base d + o) d o n sized refl live h)

@@ -6,12 +6,13 @@ use Rattle.std.proofs.lemmas.Option.{slice_get-get_or}
 use Rattle.std.proofs.lemmas.List.{get_or-set_same}
 use Rattle.std.proofs.lemmas.List.Elements.{All-set}
 use Rattle.std.proofs.Math.ListN.{length-set}
-use Rattle.bpf_mem.specs.Bytes.{with_bytes}
+use Rattle.bpf_base.specs.Bytes.{with_part}
 use Rattle.bpf_mem.specs.Addresses.{context_base, frame_base}
 use Rattle.bpf_mem.specs.Memory.{byte_at, Writes}
 use Rattle.bpf_mem.specs.declared.memory.PrivateMemory.{PrivateMemory}
 use Rattle.bpf_mem.proofs.AreaLemmas.{Sized, by_le, byte_at-parts, context_byte, frame_byte, context_byte-below, context_byte-at, frame_byte-below, frame_byte-at}
-use Rattle.bpf_mem.proofs.EditLemmas.{length-with_bytes, take-with_bytes, slice_get-with_bytes, slice_get-set_other, slice_get-set_same}
+use Rattle.bpf_base.proofs.Parts.{length-with_part, part-with_part, slice_get-with_part}
+use Rattle.bpf_base.proofs.Lists.{slice_get-set_other, slice_get-set_same}
 use Rattle.bpf_mem.proofs.ReachLemmas.{context-bytes, frame-bytes}
 
 -- the byte at an address, where neither part has another one there
@@ -26,7 +27,7 @@ same_context : (old new : PrivateMemory) (a : ℕ) → new.context ≡ old.conte
 unfolding context_byte
 same_context old new a e = rw e
 
-context-others : (old new : PrivateMemory) (o : ℕ) (bytes : List ℕ) → o + length bytes ≤ length old.context → new.context ≡ with_bytes old.context o bytes → (a : ℕ) → (a < context_base + o) ⊎ (context_base + o + length bytes ≤ a) → context_byte new a ≡ context_byte old a
+context-others : (old new : PrivateMemory) (o : ℕ) (bytes : List ℕ) → o + length bytes ≤ length old.context → new.context ≡ with_part old.context o bytes → (a : ℕ) → (a < context_base + o) ⊎ (context_base + o + length bytes ≤ a) → context_byte new a ≡ context_byte old a
 context-others old new o bytes h context a outside = by_le context_base a inside below
   where
     below : a < context_base → context_byte new a ≡ context_byte old a
@@ -36,17 +37,17 @@ context-others old new o bytes h context a outside = by_le context_base a inside
     inside high =
         let i = a - context_base in
         let apart : (i < o) ⊎ (o + length bytes ≤ i) = elim outside [ inl before ↦ inl (omega arith) | inr after ↦ inr (omega arith) ] in
-        context_byte-at new a i (omega arith) ∙ ap (λ list. slice_get list i) context ∙ slice_get-with_bytes old.context o bytes i h apart ∙ sym (context_byte-at old a i (omega arith))
+        context_byte-at new a i (omega arith) ∙ ap (λ list. slice_get list i) context ∙ slice_get-with_part old.context o bytes h i apart ∙ sym (context_byte-at old a i (omega arith))
 
-pub Writes-context : (old new : PrivateMemory) (o : ℕ) (bytes : List ℕ) → length old.context ≤ 4096 → o + length bytes ≤ length old.context → new.context ≡ with_bytes old.context o bytes → new.frames.live ≡ old.frames.live → new.frames.callers ≡ old.frames.callers → Writes old (context_base + o) bytes new
+pub Writes-context : (old new : PrivateMemory) (o : ℕ) (bytes : List ℕ) → length old.context ≤ 4096 → o + length bytes ≤ length old.context → new.context ≡ with_part old.context o bytes → new.frames.live ≡ old.frames.live → new.frames.callers ≡ old.frames.callers → Writes old (context_base + o) bytes new
 Writes-context old new o bytes small h context frames callers =
     let n = length bytes in
-    let sized : o + n ≤ length new.context = omega (arith, ap length context, length-with_bytes old.context o bytes h) in
+    let sized : o + n ≤ length new.context = omega (arith, ap length context, length-with_part old.context o bytes h) in
     record {
-      written = context-bytes new (context_base + o) o n refl (omega arith) sized ∙ ap (λ list. Some (take n (drop o list))) context ∙ ap Some (take-with_bytes old.context o bytes h);
+      written = context-bytes new (context_base + o) o n refl (omega arith) sized ∙ ap (λ list. Some (take n (drop o list))) context ∙ ap Some (part-with_part old.context o bytes h);
       others = λ a outside. same_byte old new a (same_frames old new a frames) (context-others old new o bytes h context a outside);
       frames = ap (λ fs. map length fs) frames;
-      context = ap length context ∙ length-with_bytes old.context o bytes h;
+      context = ap length context ∙ length-with_part old.context o bytes h;
       callers = callers;
     }
 
@@ -61,7 +62,7 @@ kept frames d k i frame live same =
     equal : k ≡ d → option_and_then (λ f. slice_get f i) (slice_get (set frames d frame) k) ≡ option_and_then (λ f. slice_get f i) (slice_get frames k)
     equal e = rw (e, slice_get-set_same frames d frame live, slice_get-get_or frames d [] live) (same e)
 
-frame-others : (old new : PrivateMemory) (d o : ℕ) (bytes : List ℕ) → Sized old.frames.live → Sized new.frames.live → d < length old.frames.live → o + length bytes ≤ 512 → new.frames.live ≡ set old.frames.live d (with_bytes (get_or old.frames.live d []) o bytes) → (a : ℕ) → (a < frame_base d + o) ⊎ (frame_base d + o + length bytes ≤ a) → frame_byte new a ≡ frame_byte old a
+frame-others : (old new : PrivateMemory) (d o : ℕ) (bytes : List ℕ) → Sized old.frames.live → Sized new.frames.live → d < length old.frames.live → o + length bytes ≤ 512 → new.frames.live ≡ set old.frames.live d (with_part (get_or old.frames.live d []) o bytes) → (a : ℕ) → (a < frame_base d + o) ⊎ (frame_base d + o + length bytes ≤ a) → frame_byte new a ≡ frame_byte old a
 frame-others old new d o bytes sized sized' live h frames a outside = by_le (frame_base 0) a inside below
   where
     below : a < frame_base 0 → frame_byte new a ≡ frame_byte old a
@@ -73,11 +74,11 @@ frame-others old new d o bytes sized sized' live h frames a outside = by_le (fra
         let i = (a - frame_base 0) % 0x1000 in
         let frame = get_or old.frames.live d [] in
         let apart : k ≡ d → (i < o) ⊎ (o + length bytes ≤ i) = λ e. elim outside [ inl before ↦ inl (omega arith) | inr after ↦ inr (omega arith) ] in
-        let same : k ≡ d → slice_get (with_bytes frame o bytes) i ≡ slice_get frame i =
-        λ e. slice_get-with_bytes frame o bytes i (omega (arith, sized d [] live)) (apart e) in
+        let same : k ≡ d → slice_get (with_part frame o bytes) i ≡ slice_get frame i =
+        λ e. slice_get-with_part frame o bytes (omega (arith, sized d [] live)) i (apart e) in
         frame_byte-at new a k i sized' (omega arith) (omega arith)
         ∙ ap (λ live. option_and_then (λ f. slice_get f i) (slice_get live k)) frames
-        ∙ kept old.frames.live d k i (with_bytes frame o bytes) live same
+        ∙ kept old.frames.live d k i (with_part frame o bytes) live same
         ∙ sym (frame_byte-at old a k i sized (omega arith) (omega arith))
 
 -- the lengths of frames of which one is another of the same length
@@ -86,20 +87,20 @@ lengths [] d frame e = refl
 lengths (f ∷ fs) zero frame e = ap (λ n. n ∷ map length fs) e
 lengths (f ∷ fs) (suc d) frame e = ap (λ ns. length f ∷ ns) (lengths fs d frame e)
 
-pub Writes-frame : (old new : PrivateMemory) (d o : ℕ) (bytes : List ℕ) → Sized old.frames.live → d < length old.frames.live → o + length bytes ≤ 512 → new.context ≡ old.context → new.frames.live ≡ set old.frames.live d (with_bytes (get_or old.frames.live d []) o bytes) → new.frames.callers ≡ old.frames.callers → Writes old (frame_base d + o) bytes new
+pub Writes-frame : (old new : PrivateMemory) (d o : ℕ) (bytes : List ℕ) → Sized old.frames.live → d < length old.frames.live → o + length bytes ≤ 512 → new.context ≡ old.context → new.frames.live ≡ set old.frames.live d (with_part (get_or old.frames.live d []) o bytes) → new.frames.callers ≡ old.frames.callers → Writes old (frame_base d + o) bytes new
 Writes-frame old new d o bytes sized live h context frames callers =
     let n = length bytes in
     let frame = get_or old.frames.live d [] in
     let room : o + n ≤ length frame = omega (arith, sized d [] live) in
-    let count : length new.frames.live ≡ length old.frames.live = ap length frames ∙ length-set old.frames.live d (with_bytes frame o bytes) in
+    let count : length new.frames.live ≡ length old.frames.live = ap length frames ∙ length-set old.frames.live d (with_part frame o bytes) in
     let sized' : Sized new.frames.live =
-    rw frames (All-set (λ f. length f ≡ 512) old.frames.live d (with_bytes frame o bytes) (length-with_bytes frame o bytes room ∙ sized d [] live) sized) in
-    let written : get_or new.frames.live d [] ≡ with_bytes frame o bytes =
-    ap (λ live. get_or live d []) frames ∙ get_or-set_same old.frames.live d (with_bytes frame o bytes) [] live in
+    rw frames (All-set (λ f. length f ≡ 512) old.frames.live d (with_part frame o bytes) (length-with_part frame o bytes room ∙ sized d [] live) sized) in
+    let written : get_or new.frames.live d [] ≡ with_part frame o bytes =
+    ap (λ live. get_or live d []) frames ∙ get_or-set_same old.frames.live d (with_part frame o bytes) [] live in
     record {
-      written = frame-bytes new (frame_base d + o) d o n sized' refl (omega arith) h ∙ ap (λ list. Some (take n (drop o list))) written ∙ ap Some (take-with_bytes frame o bytes room);
+      written = frame-bytes new (frame_base d + o) d o n sized' refl (omega arith) h ∙ ap (λ list. Some (take n (drop o list))) written ∙ ap Some (part-with_part frame o bytes room);
       others = λ a outside. same_byte old new a (frame-others old new d o bytes sized sized' live h frames a outside) (same_context old new a context);
-      frames = ap (λ fs. map length fs) frames ∙ lengths old.frames.live d (with_bytes frame o bytes) (length-with_bytes frame o bytes room);
+      frames = ap (λ fs. map length fs) frames ∙ lengths old.frames.live d (with_part frame o bytes) (length-with_part frame o bytes room);
       context = ap length context;
       callers = callers;
     }

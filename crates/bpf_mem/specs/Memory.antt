@@ -3,7 +3,7 @@ use Rattle.std.specs.Prelude.{◌≡◌, ℕ, zero, suc, ◌+◌, ◌-◌, ◌<�
 use Rattle.std.specs.Option.{option_or}
 use Rattle.bpf_mem.specs.declared.memory.PrivateMemory.{PrivateMemory}
 use Rattle.bpf_mem.specs.Addresses.{context_base, frame_base}
-use Rattle.bpf_mem.specs.Bytes.{number_of}
+use Rattle.bpf_base.specs.Bytes.{little_endian}
 
 -- bytes at consecutive addresses
 pub record Area : Type 0 where
@@ -40,7 +40,7 @@ bytes_at m address (suc n) =
 
 -- the number whose n bytes stand at an address
 abbrev pub number_at : PrivateMemory → ℕ → ℕ → Option ℕ
-number_at m address n = option_map number_of (bytes_at m address n)
+number_at m address n = option_map little_endian (bytes_at m address n)
 
 -- The new memory has these bytes at an address, and all else as the old one has it.
 pub record Writes (old : PrivateMemory) (address : ℕ) (bytes : List ℕ) (new : PrivateMemory) : Type 0 where

@@ -1,7 +1,8 @@
 //! Numbers in little-endian bytes.
 
 ghost use Rattle.std.specs.Prelude.{◌≡◌, ◌+◌, ◌^◌, ◌*◌, ◌<◌, ◌≤◌, ◌++◌, length, take, drop};
-ghost use Rattle.bpf_mem.specs.Bytes.{length_of, size_of, number_of, bytes_of, with_bytes};
+ghost use Rattle.bpf_base.specs.Bytes.{modulus, little_endian, low_bytes, part, with_part};
+ghost use Rattle.bpf_mem.specs.Bytes.{length_of, size_of};
 
 use bpf_insn::operation::{Size, Width};
 
@@ -35,8 +36,8 @@ pub fn size_of_width(width: Width) -> Size
 #[inline]
 pub(crate) fn load(bytes: &[u8], at: usize, size: Size) -> u64
     requires { at + length_of size ≤ length bytes.now }
-    ensures value { result ≡ number_of (take (length_of size) (drop at bytes.now)) }
-    ensures bounded { result < 2 ^ (8 * length_of size) }
+    ensures value { result ≡ little_endian (part bytes.now at (length_of size)) }
+    ensures bounded { result < modulus (length_of size) }
 {
     match size {
         Size::Byte => u64::from(bytes[at]),
@@ -64,7 +65,7 @@ pub(crate) fn load(bytes: &[u8], at: usize, size: Size) -> u64
 #[inline]
 pub(crate) fn store(bytes: &mut [u8], at: usize, size: Size, value: u64)
     requires { at + length_of size ≤ length bytes.old }
-    ensures { bytes.new ≡ with_bytes bytes.old at (bytes_of (length_of size) value) }
+    ensures { bytes.new ≡ with_part bytes.old at (low_bytes (length_of size) value) }
 {
     match size {
         Size::Byte => bytes[at] = (value % 0x100) as u8,

@@ -1,7 +1,8 @@
 //! The context: the bytes that a program is given when it starts.
 
 ghost use Rattle.std.specs.Prelude.{◌≡◌, ◌+◌, ◌≤◌, length, vec_len};
-ghost use Rattle.bpf_mem.specs.Bytes.{length_of, bytes_of, with_bytes};
+ghost use Rattle.bpf_base.specs.Bytes.{low_bytes, with_part};
+ghost use Rattle.bpf_mem.specs.Bytes.{length_of};
 
 use crate::bytes;
 use bpf_insn::operation::Size;
@@ -48,7 +49,7 @@ impl Context {
     #[inline]
     pub(crate) fn store(&mut self, offset: usize, size: Size, value: u64)
         requires { offset + length_of size ≤ length self.old }
-        ensures value { self.new ≡ with_bytes self.old offset (bytes_of (length_of size) value) }
+        ensures value { self.new ≡ with_part self.old offset (low_bytes (length_of size) value) }
         ensures bounded { length self.old ≤ 4096 }
     {
         bytes::store(&mut self.bytes, offset, size, value);

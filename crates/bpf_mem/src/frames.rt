@@ -2,7 +2,8 @@
 
 ghost use Rattle.std.specs.Prelude.{◌≡◌, ◌+◌, ◌-◌, ◌*◌, ◌<◌, ◌≤◌, ◌↔◌, [], ◌∷◌, ◌++◌, length, take, slice_index_or, slice_set, IsTrue};
 ghost use Rattle.bpf_mem.specs.Addresses.{top_of};
-ghost use Rattle.bpf_mem.specs.Bytes.{length_of, bytes_of, with_bytes};
+ghost use Rattle.bpf_base.specs.Bytes.{low_bytes, with_part};
+ghost use Rattle.bpf_mem.specs.Bytes.{length_of};
 ghost use Rattle.bpf_mem.specs.Stack.{IsStack, zeroed};
 
 use crate::addresses::{FRAME_STRIDE, STACK_BASE};
@@ -103,7 +104,7 @@ impl Frames {
         requires live { depth < length self.old.live }
         requires within { offset + length_of size ≤ 512 }
         ensures live { self.new.live ≡ slice_set self.old.live depth
-            (with_bytes (slice_index_or self.old.live depth []) offset (bytes_of (length_of size) value)) }
+            (with_part (slice_index_or self.old.live depth []) offset (low_bytes (length_of size) value)) }
         ensures callers { self.new.callers ≡ self.old.callers }
         ensures stack { IsStack self.old }
     {

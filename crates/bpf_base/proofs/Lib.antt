@@ -1,0 +1,4 @@
+pub mod Lists
+pub mod Mapped
+pub mod Numbers
+pub mod Parts

@@ -1,0 +1,3 @@
+pub mod Atomic
+pub mod Bytes
+pub mod Laws
