@@ -20,8 +20,9 @@ use Rattle.bpf_shared.specs.declared.events.Event.TheVariants as event
 use Rattle.bpf_shared.specs.declared.shapes.MapShape.{MapShape}
 use Rattle.bpf_mem.specs.declared.frames.Caller.{Caller}
 use Rattle.bpf_mem.specs.declared.memory.PrivateMemory.{PrivateMemory}
-use Rattle.bpf_mem.specs.Bytes.{length_of, size_of, bytes_of}
-use Rattle.bpf_mem.specs.Atomic.{updated}
+use Rattle.bpf_base.specs.Bytes.{low_bytes}
+use Rattle.bpf_mem.specs.Bytes.{length_of, size_of}
+use Rattle.bpf_mem.specs.Atomic.{number_left}
 use Rattle.bpf_loader.specs.Rows.{fetched_into}
 use Rattle.bpf_mem.specs.Memory.{Writes}
 use Rattle.bpf_mem.specs.Stack.{zeroed}
@@ -164,7 +165,7 @@ module _ (law : WritesAreDetermined) (old new other : Cpu) (turn end : Turn) (so
   operated w op s a (inr (inr j)) (inr (inr k)) =
       let x : k.0 ≡ j.0 = cc (j.1, k.1) in
       let done : ℕ → PrivateMemory → Cpu = λ n memory. record (remembering old memory) { registers = fetching (fetched_into op s) n old.registers } in
-      let P : ℕ → Type 0 = λ n. Writes old.memory a (bytes_of (length_of (size_of w)) (updated op w n (value old s) (slice_index old.registers 0))) k.4.0 in
+      let P : ℕ → Type 0 = λ n. Writes old.memory a (low_bytes (length_of (size_of w)) (number_left op w n (value old s) (slice_index old.registers 0))) k.4.0 in
       let one = law old.memory a _ j.4.0 k.4.0 sound j.4.1 (subst P x k.4.1) in
       makes (done j.0 j.4.0) j.3 k.3 j.4.2 (k.4.2 ∙ ap (λ n. done n k.4.0) x ∙ ap (done j.0) (sym one.1)) one.0
 

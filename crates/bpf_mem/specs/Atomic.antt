@@ -3,7 +3,6 @@ use Rattle.std.specs.Prelude.{ℕ}
 use Rattle.bpf_insn.specs.declared.operation.AtomicOp.{AtomicOp}
 use Rattle.bpf_insn.specs.declared.operation.AtomicOp.TheVariants.{Add, Or, And, Xor, FetchAdd, FetchOr, FetchAnd, FetchXor, Exchange, CompareExchange}
 use Rattle.bpf_insn.specs.declared.operation.Width.{Width}
-use Rattle.bpf_base.specs.Bytes.{modulus as numbers_of}
 use Rattle.bpf_base.specs.Atomic.{Change, number_after}
 use Rattle.bpf_base.specs.Atomic as change
 use Rattle.bpf_mem.specs.Bytes.{length_of, size_of}
@@ -21,10 +20,7 @@ change_of FetchXor = change.Xor
 change_of Exchange = change.Exchange
 change_of CompareExchange = change.CompareExchange
 
--- one more than the greatest number of a width
-abbrev pub modulus : Width → ℕ
-modulus width = numbers_of (length_of (size_of width))
-
 -- the number that is left where `before` stood
-abbrev pub updated : AtomicOp → Width → ℕ → ℕ → ℕ → ℕ
-updated op width before operand expected = number_after (change_of op) (length_of (size_of width)) before operand expected
+abbrev pub number_left : AtomicOp → Width → ℕ → ℕ → ℕ → ℕ
+number_left op width before operand expected =
+    number_after (change_of op) (length_of (size_of width)) before operand expected

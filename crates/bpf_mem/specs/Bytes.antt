@@ -1,10 +1,9 @@
--- How many bytes accesses have, and numbers as bytes.
+-- How many bytes accesses have.
 use Rattle.std.specs.Prelude.{ℕ}
 use Rattle.bpf_insn.specs.declared.operation.Size.{Size}
 use Rattle.bpf_insn.specs.declared.operation.Size.TheVariants.{Byte, Half, Word, Double}
 use Rattle.bpf_insn.specs.declared.operation.Width.{Width}
 use Rattle.bpf_insn.specs.declared.operation.Width.TheVariants.{Bits32, Bits64}
-pub use Rattle.bpf_base.specs.Bytes.{low_bytes as bytes_of}
 
 -- how many bytes a size has (RFC 9669, section 5)
 abbrev pub length_of : Size → ℕ

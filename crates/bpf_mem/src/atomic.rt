@@ -2,30 +2,38 @@
 
 ghost use Rattle.std.specs.Prelude.{◌≡◌, ◌<◌};
 ghost use Rattle.bpf_insn.specs.declared.operation.Width.TheVariants.{Bits32, Bits64};
-ghost use Rattle.bpf_mem.specs.Atomic.{modulus, updated};
+ghost use Rattle.bpf_base.specs.Bytes.{modulus};
+ghost use Rattle.bpf_mem.specs.Atomic.{number_left};
+ghost use Rattle.bpf_mem.specs.Bytes.{length_of, size_of};
 
 use bpf_insn::operation::{AtomicOp, Width};
 
 /// The number that is left where `before` stood.
 #[inline]
-pub(crate) fn updated(op: AtomicOp, width: Width, before: u64, operand: u64, expected: u64) -> u64
-    requires { before < modulus width }
-    ensures { result ≡ updated op width before operand expected }
+pub(crate) fn number_left(
+    op: AtomicOp,
+    width: Width,
+    before: u64,
+    operand: u64,
+    expected: u64,
+) -> u64
+    requires { before < modulus (length_of (size_of width)) }
+    ensures { result ≡ number_left op width before operand expected }
 {
     match width {
-        Width::Bits32 => u64::from(updated32(
+        Width::Bits32 => u64::from(number_left32(
             op,
             before as u32,
             (operand % 0x1_0000_0000) as u32,
             (expected % 0x1_0000_0000) as u32,
         )),
-        Width::Bits64 => updated64(op, before, operand, expected),
+        Width::Bits64 => number_left64(op, before, operand, expected),
     }
 }
 
 #[inline]
-fn updated32(op: AtomicOp, before: u32, operand: u32, expected: u32) -> u32
-    ensures { result ≡ updated op Bits32 before operand expected }
+fn number_left32(op: AtomicOp, before: u32, operand: u32, expected: u32) -> u32
+    ensures { result ≡ number_left op Bits32 before operand expected }
 {
     match op {
         AtomicOp::Add | AtomicOp::FetchAdd => before.wrapping_add(operand),
@@ -38,8 +46,8 @@ fn updated32(op: AtomicOp, before: u32, operand: u32, expected: u32) -> u32
 }
 
 #[inline]
-fn updated64(op: AtomicOp, before: u64, operand: u64, expected: u64) -> u64
-    ensures { result ≡ updated op Bits64 before operand expected }
+fn number_left64(op: AtomicOp, before: u64, operand: u64, expected: u64) -> u64
+    ensures { result ≡ number_left op Bits64 before operand expected }
 {
     match op {
         AtomicOp::Add | AtomicOp::FetchAdd => before.wrapping_add(operand),
