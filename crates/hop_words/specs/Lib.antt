@@ -1,1 +1,12 @@
 pub mod Home
+pub mod Layout
+pub mod Homes
+pub mod Content
+pub mod Ghost
+pub mod Rule
+pub mod Step
+pub mod Kinds
+pub mod Opens
+pub mod Seats
+pub mod SegContract
+pub mod Inside

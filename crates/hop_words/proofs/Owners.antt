@@ -1,0 +1,271 @@
+-- Claim bit, give bit, fill word, retire, see bits.
+use Rattle.std.proofs.Common.{◌≡◌, ◌≢◌, ℕ, ◌-◌, ◌/◌, ◌%◌, ◌^◌, ◌<◌, Bool, true, false, ◌&&◌, List, [], ◌∷◌, Option, ◌==◌, refl, ap, sym, subst, ◌∙◌, arith, eq-eqb, ne_eqb, ⊎_elim, inl, inr, ◌⊎◌, bit_and}
+use Rattle.std.proofs.lemmas.Nat.Bits.{bit_at_and, bit_at-lt, bit_at-pow_same, bit_at-pow_other, bit_at_not}
+use Rattle.std.proofs.Math.Pow.{pow-lt}
+use Rattle.std.specs.Int.{bit_at, w64}
+use native.Mathlib.Decide.{ℕ_discrete}
+use mathlib.Core.Logic.{dite}
+use Rattle.bpf_shared.specs.Store.{Value, put}
+use Rattle.bpf_shared.proofs.Puts.{put-same, put-other}
+use Rattle.hop_words.specs.declared.place.Place.{Place}
+use Rattle.hop_words.specs.declared.place.Place.TheVariants.{FreeBits, Stamp, KeyWord, ValueWord}
+use Rattle.hop_words.specs.declared.known.About.{About}
+use Rattle.hop_words.specs.declared.known.Known.{Known}
+use Rattle.hop_words.specs.declared.known.Fresh.{Fresh}
+use Rattle.hop_words.specs.declared.known.Lock.{Lock}
+use Rattle.hop_words.specs.Layout.{mem, put_at}
+use Rattle.hop_words.specs.Content.{Words, words_of, one_if}
+use Rattle.hop_words.specs.Ghost.{segment_in, Holder, Free, Filling, Leaving, Within, is_free, is_filling, is_leaving, Carries, lane, Era, Ghost, IsElement, Each}
+use Rattle.hop_words.specs.Rule.{Rule, times_fresh, Linked, Begins, Minded, Holds, Locking, Valued}
+use Rattle.hop_words.specs.Step.{Next, Steps}
+use Rattle.hop_words.specs.Kinds.{holding}
+use Rattle.hop_words.proofs.Small.{equal, here_or, put2-same, put2-other}
+use Rattle.hop_words.proofs.Histories.{prefix_refl}
+use Rattle.hop_words.proofs.Comes.{moved}
+use Rattle.hop_words.proofs.Segs.{agrees_on}
+use Rattle.hop_words.proofs.Locks.{put_here, put_else}
+
+-- ---- bits
+-- the bits of the elements, where one word of them changed at one bit
+pub bits_step : (a : About) (w : Place → ℕ) (holder : ℕ → ℕ → Holder) (m e x : ℕ) (y : Holder) → ((n d : ℕ) → IsElement a n d → bit_at (w (FreeBits n (d / 64))) (d % 64) ≡ one_if (is_free (holder n d)))
+    → ((j : ℕ) → j < 64 → j ≢ e % 64 → bit_at x j ≡ bit_at (w (FreeBits m (e / 64))) j) → bit_at x (e % 64) ≡ one_if (is_free y)
+    → (n d : ℕ) → IsElement a n d → bit_at (put_at w (FreeBits m (e / 64)) x (FreeBits n (d / 64))) (d % 64) ≡ one_if (is_free (put holder m (put (holder m) e y) n d))
+bits_step a w holder m e x y p others own n d l = ⊎_elim
+    (λ (h : (n ≡ m) × (d ≡ e)).
+    ap (λ (k : ℕ). bit_at k (d % 64)) ((λ j. put_at w (FreeBits m (e / 64)) x (FreeBits (h.0 j) (h.1 j / 64))) ∙ put_here w (FreeBits m (e / 64)) x)
+    ∙ (ap (λ (k : ℕ). bit_at x (k % 64)) h.1 ∙ (own ∙ ap (λ z. one_if (is_free z)) (sym (put2-same holder m e n d y h.0 h.1)))))
+    (λ (ne : n ≡ m → d ≢ e). ⊎_elim
+    (λ (h : (n ≡ m) × (d / 64 ≡ e / 64)).
+    let apart : d % 64 ≢ e % 64 = λ q. ne h.0 (let z = h.1 in omega arith) in
+    ap (λ (k : ℕ). bit_at k (d % 64)) ((λ j. put_at w (FreeBits m (e / 64)) x (FreeBits (h.0 j) (h.1 j))) ∙ put_here w (FreeBits m (e / 64)) x)
+    ∙ (others (d % 64) (omega arith) apart ∙ (ap (λ (k : ℕ). bit_at k (d % 64)) (λ j. w (FreeBits (sym h.0 j) (sym h.1 j))) ∙ (p n d l ∙ ap (λ z. one_if (is_free z)) (sym (put2-other holder m e n d y ne))))))
+    (λ (nw : n ≡ m → d / 64 ≢ e / 64).
+    ap (λ (k : ℕ). bit_at k (d % 64)) (put_else w (FreeBits m (e / 64)) (FreeBits n (d / 64)) x (λ q. nw (ap map_of q) (ap word_of q)))
+    ∙ (p n d l ∙ ap (λ z. one_if (is_free z)) (sym (put2-other holder m e n d y ne))))
+    (here_or m n (e / 64) (d / 64)))
+    (here_or m n e d)
+  where
+    map_of : Place → ℕ
+    map_of (FreeBits m i) = m
+    map_of p = 0
+
+    word_of : Place → ℕ
+    word_of (FreeBits m i) = i
+    word_of p = 0
+
+-- ---- holders that are in no map, before and after
+module _ (a : About) (holder : ℕ → ℕ → Holder) (m e : ℕ) (x y : Holder) (was : holder m e ≡ x) where
+  abbrev pub holder' : ℕ → ℕ → Holder
+  holder' = put holder m (put (holder m) e y)
+
+  pub linked_outside : (linked : ℕ → List ℕ → Option ℕ) → ((s : ℕ) → x ≡ Within s → ⊥) → ((s : ℕ) → y ≡ Within s → ⊥) → Linked a (segment_in a) linked holder → Linked a (segment_in a) linked holder'
+  linked_outside linked nx ny p = record {
+    within = λ n q d is. let k = p.within n q d is in (k.0, put2-other holder m e n d y (λ t u. nx _ (sym was ∙ ((λ j. holder (sym t j) (sym u j)) ∙ k.1))) ∙ k.1);
+    leads = λ n d s l is. ⊎_elim
+        (λ (h : (n ≡ m) × (d ≡ e)). absurd (ny s (sym (put2-same holder m e n d y h.0 h.1) ∙ is)))
+        (λ (ne : n ≡ m → d ≢ e). p.leads n d s l (sym (put2-other holder m e n d y ne) ∙ is))
+        (here_or m n e d);
+    once = p.once;
+  }
+
+  pub valued_outside : (words : ℕ → ℕ → ℕ → ℕ) (made : ℕ) (value : ℕ → Value) (held : ℕ → ℕ → Bool) (number : ℕ → ℕ → ℕ) → (Carries y → ⊥) → ((c : ℕ) → held c (number m e) ≡ true → Carries x → ⊥)
+      → Valued a words made value held holder number → Valued a words made value held holder' number
+  valued_outside words made value held number ny free p = record {
+    lies = λ n d l has. p.lies n d l (subst Carries (put2-other holder m e n d y (away n d has)) has);
+    older = λ n d l has. p.older n d l (subst Carries (put2-other holder m e n d y (away n d has)) has);
+    held_in = λ c v h. let k = p.held_in c v h in
+        (k.0, k.1, k.2, subst Carries (sym (put2-other holder m e k.0 k.1 y (λ t u. free c (ap (held c) ((λ j. number (sym t j) (sym u j)) ∙ k.4) ∙ h) (subst Carries ((λ j. holder (t j) (u j)) ∙ was) k.3)))) k.3, k.4);
+  }
+    where
+      away : (n d : ℕ) → Carries (holder' n d) → n ≡ m → d ≢ e
+      away n d has t u = ny (subst Carries (put2-same holder m e n d y t u) has)
+
+  pub locking_outside : (xw : Words) (stamp : ℕ → ℕ → ℕ) (eras : ℕ → ℕ → Era) (linked : ℕ → List ℕ → Option ℕ) (locks : ℕ → List Lock) → ((b : ℕ) → (locks b ≡ []) ⊎ ((t : ℕ) → Minded b t y → Minded b t x))
+      → Locking a (segment_in a) xw stamp eras linked holder locks → Locking a (segment_in a) xw stamp eras linked holder' locks
+  locking_outside xw stamp eras linked locks fewer p b = ⊎_elim
+      (λ (none : locks b ≡ []). subst (Each (Holds a (segment_in a) xw stamp eras linked holder' b)) (sym none) tt)
+      (λ (less : (t : ℕ) → Minded b t y → Minded b t x). go less (locks b) (p b))
+      (fewer b)
+    where
+      go : ((t : ℕ) → Minded b t y → Minded b t x) → (ks : List Lock) → Each (Holds a (segment_in a) xw stamp eras linked holder b) ks → Each (Holds a (segment_in a) xw stamp eras linked holder' b) ks
+      go less [] q = tt
+      go less (k ∷ ks) q = (
+        record {
+          inside = q.0.inside;
+          even = q.0.even;
+          locked = q.0.locked;
+          writer = q.0.writer;
+          dirty = q.0.dirty;
+          credit = q.0.credit;
+          untouched = q.0.untouched;
+          sized = q.0.sized;
+          copied = agrees_on k.map k.segment _ _ xw xw _ q.0.copied refl (λ j. refl) (λ j. refl) (λ d on. (mind k.map k.segment d on, refl, λ j. refl));
+          due = q.0.due;
+        },
+        go less ks q.1,
+      )
+        where
+          mind : (n t d : ℕ) → Minded b t (holder' n d) → Minded b t (holder n d)
+          mind n t d on = ⊎_elim
+              (λ (h : (n ≡ m) × (d ≡ e)). subst (Minded b t) (sym ((λ j. holder (h.0 j) (h.1 j)) ∙ was)) (less t (subst (Minded b t) (put2-same holder m e n d y h.0 h.1) on)))
+              (λ (ne : n ≡ m → d ≢ e). subst (Minded b t) (put2-other holder m e n d y ne) on)
+              (here_or m n e d)
+
+-- ---- claim bit
+mask_other : (x mask j : ℕ) → bit_at mask j ≡ 1 → bit_at (bit_and x mask) j ≡ bit_at x j
+mask_other x mask j one = bit_at_and x mask j ∙ (let z = bit_at-lt x j in let o = one in omega arith)
+
+mask_own : (x mask j : ℕ) → bit_at mask j ≡ 0 → bit_at (bit_and x mask) j ≡ 0
+mask_own x mask j none = bit_at_and x mask j ∙ (let o = none in omega arith)
+
+pub mask_bits : (b j : ℕ) → b < 64 → j < 64 → bit_at (2 ^ 64 - 1 - 2 ^ b) j ≡ 1 - bit_at (2 ^ b) j
+mask_bits b j lb lj = bit_at_not w64 (2 ^ b) j (pow-lt lb) lj
+
+module _ (a : About) (l : Known) (m e : ℕ) (at_e : IsElement a m e) (ws : List ℕ) (g : Ghost) (r : Rule a (mem a.shape ws) g) (is : lane g.lanes l.cpu ≡ l) (inside : l.cpu < a.shape.cpus) where
+  abbrev cw : Place → ℕ
+  cw = mem a.shape ws
+
+  abbrev mask : ℕ
+  mask = 2 ^ 64 - 1 - 2 ^ (e % 64)
+
+  abbrev new_fresh : Fresh
+  new_fresh = record { map = m; element = e; key = []; value = [] }
+
+  -- a free element becomes one that the lane fills
+  claim_next : l.locks ≡ [] → g.holder m e ≡ Free → Next a (put_at cw (FreeBits m (e / 64)) (bit_and (cw (FreeBits m (e / 64))) mask)) g l.cpu (λ l'. l' ≡ holding l m e)
+  claim_next unlocked was = record {
+    ghost = g2;
+    rule = record {
+      shaped = r.shaped;
+      logged = r.logged;
+      keyed = r.keyed;
+      worn = r.worn;
+      runs = r.runs;
+      batched = r.batched;
+      owned = record {
+        bits = bits_step a cw g.holder m e _ (Filling l.cpu) r.owned.bits
+            (λ j lj ne. mask_other (cw (FreeBits m (e / 64))) mask j (mask_bits (e % 64) j (omega arith) lj ∙ (let z = bit_at-pow_other (e % 64) j ne in omega arith)))
+            (mask_own (cw (FreeBits m (e / 64))) mask (e % 64) (mask_bits (e % 64) (e % 64) (omega arith) (omega arith) ∙ (let z = bit_at-pow_same (e % 64) in omega arith)));
+        fresh_is = λ b n d inb l2. ⊎_elim
+            (λ (t : b ≡ l.cpu). subst (λ z. times_fresh n d (put g.lanes.fresh l.cpu fresh2 z) ≡ one_if (is_filling z (holder2 n d))) (sym t) (ap (times_fresh n d) (put-same g.lanes.fresh l.cpu l.cpu fresh2 refl) ∙ own n d l2))
+            (λ (ne : b ≢ l.cpu). ap (times_fresh n d) (put-other g.lanes.fresh l.cpu b fresh2 ne) ∙ (r.owned.fresh_is b n d inb l2 ∙ sym (moved (λ z. one_if (is_filling b z)) g.holder m e Free (Filling l.cpu) was
+            (ap one_if (ne_eqb l.cpu b (λ (q : l.cpu ≡ b). ne (sym q)))) n d)))
+            (equal b l.cpu);
+        limbo_is = λ b n d inb l2. r.owned.limbo_is b n d inb l2 ∙ sym (moved (λ z. one_if (is_leaving b z)) g.holder m e Free (Filling l.cpu) was refl n d);
+      };
+      linked = linked_outside a g.holder m e Free (Filling l.cpu) was g.linked (λ s q. cc) (λ s q. cc) r.linked;
+      filled = λ c inc. ⊎_elim
+          (λ (t : c ≡ l.cpu). subst (Each Has) (sym (put-same g.lanes.fresh l.cpu c fresh2 t)) (((λ j lt. absurd (omega arith)), (λ j lt. absurd (omega arith))), r.filled l.cpu inside))
+          (λ (ne : c ≢ l.cpu). subst (Each Has) (sym (put-other g.lanes.fresh l.cpu c fresh2 ne)) (r.filled c inc))
+          (equal c l.cpu);
+      segments = r.segments;
+      locking = locking_outside a g.holder m e Free (Filling l.cpu) was (words_of cw) (λ n t. cw (Stamp n t)) g.eras g.linked g.lanes.locks
+          (λ b. ⊎_elim (λ (t : b ≡ l.cpu). inl (ap g.lanes.locks t ∙ (ap (λ (z : Known). z.locks) is ∙ unlocked))) (λ (ne : b ≢ l.cpu). inr (λ t on. absurd (ne (sym on)))) (equal b l.cpu)) r.locking;
+      reading = r.reading;
+      held = r.held;
+      valued = valued_outside a g.holder m e Free (Filling l.cpu) was _ g.last.made g.last.value g.last.held g.number (λ z. z) (λ c h z. z) r.valued;
+    };
+    others = λ d ne. rw (ne_eqb d l.cpu ne) refl;
+    longer = prefix_refl g.log;
+    says = rw (eq-eqb l.cpu l.cpu refl) (ap (λ (z : Known). record z { fresh = new_fresh ∷ z.fresh }) is);
+  }
+    where
+      fresh2 : List Fresh
+      fresh2 = new_fresh ∷ g.lanes.fresh l.cpu
+
+      holder2 : ℕ → ℕ → Holder
+      holder2 = put g.holder m (put (g.holder m) e (Filling l.cpu))
+
+      g2 : Ghost
+      g2 = record g { lanes = record g.lanes { fresh = put g.lanes.fresh l.cpu fresh2 }; holder = holder2 }
+
+      Has : Fresh → Type 0
+      Has y = Begins y.key (λ j. cw (KeyWord y.map y.element j)) × Begins y.value (λ j. cw (ValueWord y.map y.element j))
+
+      own : (n d : ℕ) → IsElement a n d → times_fresh n d fresh2 ≡ one_if (is_filling l.cpu (holder2 n d))
+      own n d l2 =
+          let q = r.owned.fresh_is l.cpu n d inside l2 in
+          ⊎_elim
+          (λ (t : (n ≡ m) × (d ≡ e)).
+          let one : one_if ((m == n) && (e == d)) ≡ 1 = rw (t.0, t.1, eq-eqb m m refl, eq-eqb e e refl) refl in
+          let zero_now : one_if (is_filling l.cpu (g.holder n d)) ≡ 0 = ap (λ z. one_if (is_filling l.cpu z)) ((λ j. g.holder (t.0 j) (t.1 j)) ∙ was) in
+          let new : one_if (is_filling l.cpu (holder2 n d)) ≡ 1 = ap (λ z. one_if (is_filling l.cpu z)) (put2-same g.holder m e n d (Filling l.cpu) t.0 t.1) ∙ ap one_if (eq-eqb l.cpu l.cpu refl) in
+          omega arith)
+          (λ (ne : n ≡ m → d ≢ e).
+          let none : one_if ((m == n) && (e == d)) ≡ 0 = differ n d ne in
+          let new : one_if (is_filling l.cpu (holder2 n d)) ≡ one_if (is_filling l.cpu (g.holder n d)) = ap (λ z. one_if (is_filling l.cpu z)) (put2-other g.holder m e n d (Filling l.cpu) ne) in
+          omega arith)
+          (here_or m n e d)
+        where
+          and_false : (z : Bool) → z && false ≡ false
+          and_false true = refl
+          and_false false = refl
+
+          differ : (n d : ℕ) → (n ≡ m → d ≢ e) → one_if ((m == n) && (e == d)) ≡ 0
+          differ n d ne = ap one_if (⊎_elim
+              (λ (t : n ≡ m). ap (λ (z : Bool). (m == n) && z) (ne_eqb e d (λ (q : e ≡ d). ne t (sym q))) ∙ and_false (m == n))
+              (λ (nd : n ≢ m). ap (λ (z : Bool). z && (e == d)) (ne_eqb m n (λ (q : m ≡ n). nd (sym q))))
+              (equal n m))
+
+  free_or : bit_at (cw (FreeBits m (e / 64))) (e % 64) ≡ 1 → g.holder m e ≡ Free
+  free_or one = go (g.holder m e) refl (sym (r.owned.bits m e at_e) ∙ one)
+    where
+      go : (x : Holder) → g.holder m e ≡ x → one_if (is_free (g.holder m e)) ≡ 1 → g.holder m e ≡ Free
+      go Free q o = q
+      go (Filling d) q o = absurd (let z : one_if (is_free (g.holder m e)) ≡ 0 = ap (λ y. one_if (is_free y)) q in omega arith)
+      go (Leaving d) q o = absurd (let z : one_if (is_free (g.holder m e)) ≡ 0 = ap (λ y. one_if (is_free y)) q in omega arith)
+      go (Within d) q o = absurd (let z : one_if (is_free (g.holder m e)) ≡ 0 = ap (λ y. one_if (is_free y)) q in omega arith)
+
+  -- a bit that was clear stays clear, and so do all others
+  miss_next : bit_at (cw (FreeBits m (e / 64))) (e % 64) ≡ 0 → (told : Known → Type 0) → told l → Next a (put_at cw (FreeBits m (e / 64)) (bit_and (cw (FreeBits m (e / 64))) mask)) g l.cpu told
+  miss_next none told t = record {
+    ghost = g;
+    rule = record {
+      shaped = r.shaped;
+      logged = r.logged;
+      keyed = r.keyed;
+      worn = r.worn;
+      runs = r.runs;
+      batched = r.batched;
+      owned = record {
+        bits = λ n d l2. subst (λ (h : ℕ → ℕ → Holder). bit_at (put_at cw (FreeBits m (e / 64)) (bit_and (cw (FreeBits m (e / 64))) mask) (FreeBits n (d / 64))) (d % 64) ≡ one_if (is_free (h n d))) again
+            (bits_step a cw g.holder m e _ (g.holder m e) r.owned.bits
+            (λ j lj ne. mask_other (cw (FreeBits m (e / 64))) mask j (mask_bits (e % 64) j (omega arith) lj ∙ (let z = bit_at-pow_other (e % 64) j ne in omega arith)))
+            (mask_own (cw (FreeBits m (e / 64))) mask (e % 64) (mask_bits (e % 64) (e % 64) (omega arith) (omega arith) ∙ (let z = bit_at-pow_same (e % 64) in omega arith)) ∙ (sym none ∙ r.owned.bits m e at_e))
+            n d l2);
+        fresh_is = r.owned.fresh_is;
+        limbo_is = r.owned.limbo_is;
+      };
+      linked = r.linked;
+      filled = r.filled;
+      segments = r.segments;
+      locking = r.locking;
+      reading = r.reading;
+      held = r.held;
+      valued = r.valued;
+    };
+    others = λ d ne. refl;
+    longer = prefix_refl g.log;
+    says = subst told (sym is) t;
+  }
+    where
+      again : put g.holder m (put (g.holder m) e (g.holder m e)) ≡ g.holder
+      again = λ i n d. ⊎_elim
+          (λ (h : (n ≡ m) × (d ≡ e)). put2-same g.holder m e n d (g.holder m e) h.0 h.1 ∙ (λ j. g.holder (sym h.0 j) (sym h.1 j)))
+          (λ (ne : n ≡ m → d ≢ e). put2-other g.holder m e n d (g.holder m e) ne)
+          (here_or m n e d) i
+
+pub claim_bit : (a : About) (l : Known) (m e : ℕ) → IsElement a m e → l.locks ≡ [] → Steps a l (FreeBits m (e / 64)) (λ n. bit_and n (2 ^ 64 - 1 - 2 ^ (e % 64)))
+    (λ ws n l'. (bit_at n (e % 64) ≡ 1 → l' ≡ holding l m e) × (bit_at n (e % 64) ≡ 0 → l' ≡ l))
+claim_bit a l m e at_e unlocked ws g sized r is inside fits = dite (ℕ_discrete (bit_at (w (FreeBits m (e / 64))) (e % 64)) 1)
+    (λ one. let n = claim_next a l m e at_e ws g r is inside unlocked (free_or a l m e at_e ws g r is inside one) in record {
+      ghost = n.ghost;
+      rule = n.rule;
+      others = n.others;
+      longer = n.longer;
+      says = ((λ _. n.says), (λ z. absurd (omega arith)));
+    })
+    (λ ne. miss_next a l m e at_e ws g r is inside (let z = bit_at-lt (w (FreeBits m (e / 64))) (e % 64) in grind arith) _ ((λ one. absurd (ne one)), (λ _. refl)))
+  where
+    w : Place → ℕ
+    w = mem a.shape ws

@@ -1,0 +1,377 @@
+-- Unlock: with what was written, with an answer that changed nothing, and with a replacement.
+use Rattle.std.proofs.Common.{◌≡◌, ◌≢◌, ℕ, ◌+◌, ◌/◌, ◌<◌, ◌≤◌, Bool, true, false, not, ◌&&◌, cond, List, [], ◌∷◌, ◌++◌, Option, Some, None, is_some, ◌==◌, length, set, take, slice_index, refl, ap, sym, subst, ◌∙◌, arith, eq-eqb, ne_eqb, ⊎_elim}
+use Rattle.std.proofs.lemmas.Bool.Decides.{nat_tests}
+use Rattle.std.proofs.lemmas.Cmp.{nat_list_cmp_total}
+use Rattle.std.specs.FinMap.{get, insert, len, len-insert}
+use Rattle.bpf_shared.specs.declared.events.Event.{Event}
+use Rattle.bpf_shared.specs.declared.events.Event.TheVariants.{Update}
+use Rattle.bpf_shared.specs.declared.events.Entry.{Entry}
+use Rattle.bpf_shared.specs.declared.events.MapAnswer.TheVariants.{Done}
+use Rattle.bpf_shared.specs.Shape.{element_span}
+use Rattle.bpf_shared.specs.Store.{Plain, Keys, Value, put}
+use Rattle.bpf_shared.specs.Events.{Allowed, after_update}
+use Rattle.bpf_shared.specs.History.{entry}
+use Rattle.bpf_shared.proofs.Puts.{put-same, put-other, insert_cases}
+use Rattle.hop_words.specs.declared.place.Place.{Place}
+use Rattle.hop_words.specs.declared.place.Place.TheVariants.{RunCount, KeyCount, FreeBits, Stamp, KeyWord, ValueWord}
+use Rattle.hop_words.specs.declared.known.About.{About}
+use Rattle.hop_words.specs.declared.known.Known.{Known}
+use Rattle.hop_words.specs.declared.known.Fresh.{Fresh}
+use Rattle.hop_words.specs.declared.known.Limbo.{Limbo}
+use Rattle.hop_words.specs.declared.known.Lock.{Lock}
+use Rattle.hop_words.specs.declared.known.Change.TheVariants.{Puts}
+use Rattle.hop_words.specs.Layout.{mem, put_at, words_for}
+use Rattle.hop_words.specs.Homes.{segment_of, spelled, word_of}
+use Rattle.hop_words.specs.Content.{words_of}
+use Rattle.hop_words.specs.Ghost.{segment_in, Holder, Filling, Leaving, Within, lane, Era, Ghost, shape_at, IsElement, Each, limbo_at}
+use Rattle.hop_words.specs.Rule.{Rule, Minded, put_key, changed, owed, Holds, numbered, Keyed, Owned, Linked, Begins, turns_of, done_in}
+use Rattle.hop_words.specs.Step.{Next, Steps}
+use Rattle.hop_words.specs.Kinds.{Replaces, Replaced, Answers, Answered, IsWritten, unlocking, with_gone}
+use Rattle.hop_words.proofs.Small.{equal_keys, equal, here_or, put2-same, put2-other, put_key-same, put_key-other, spelled_same, spelled_back}
+use Rattle.hop_words.proofs.Histories.{logged_event, prefix_refl, done_in-append}
+use Rattle.hop_words.proofs.Comes.{leads_new, in_hand, now_old, now_new, linked_comes, owned_comes, batched_comes, filled_rest, valued_comes}
+use Rattle.hop_words.proofs.Goes.{with_used, owned_goes, cut_old, linked_goes, batched_goes, valued_goes}
+use Rattle.hop_words.proofs.Locks.{holds, unlocked, unlock_new, unlock_same}
+use Rattle.hop_words.proofs.Effects.{Effect, effect_segments, effect_locking, effect_reading, effect_held, effect_worn}
+use Rattle.hop_words.proofs.CountUp.{four, and_false}
+use Rattle.hop_words.proofs.Stays.{saw, running_is, map_there, quiet_after, runs_quiet, place_for, shape_is, worn_more}
+
+-- ---- what took effect before is written now
+pub unlock_written : (a : About) (l : Known) (k : Lock) → l.locks ≡ k ∷ [] → owed k.change ≡ 1 → IsWritten a k → Steps a l (Stamp k.map k.segment) (λ _. k.stamp + 256) (λ ws n l'. l' ≡ unlocking l)
+unlock_written a l k held owes written ws g sized r is inside fits =
+    let w = mem a.shape ws in
+    let u = unlock_new a l k held w g r is inside owes written in
+    record {
+      ghost = unlocked a l k held w g r is inside u.0 (k.stamp + 256);
+      rule = u.1;
+      others = λ d ne. rw (ne_eqb d l.cpu ne) refl;
+      longer = prefix_refl g.log;
+      says = rw (eq-eqb l.cpu l.cpu refl) (ap (λ (x : Known). record x { locks = [] }) is);
+    }
+
+-- ---- nothing was changed, and nothing is answered: after an answer that took effect at the key count
+pub unlock_silent : (a : About) (l : Known) (k : Lock) → l.locks ≡ k ∷ [] → k.dirty ≡ false → Steps a l (Stamp k.map k.segment) (λ _. k.stamp) (λ ws n l'. l' ≡ unlocking l)
+unlock_silent a l k held clean ws g sized r is inside fits =
+    let w = mem a.shape ws in
+    let u = unlock_same a l k held w g r is inside clean in
+    record {
+      ghost = unlocked a l k held w g r is inside u.0 k.stamp;
+      rule = u.1;
+      others = λ d ne. rw (ne_eqb d l.cpu ne) refl;
+      longer = prefix_refl g.log;
+      says = rw (eq-eqb l.cpu l.cpu refl) (ap (λ (x : Known). record x { locks = [] }) is);
+    }
+
+-- ---- an event that leaves the store as it is, at whatever step
+abbrev pub noted_event : Ghost → ℕ → Event → Ghost
+noted_event g c e = record g { log = g.log ++ entry c e ∷ []; lanes = record g.lanes { seen = put g.lanes.seen c (g.log ++ entry c e ∷ []) } }
+
+pub event_rule : (a : About) (w : Place → ℕ) (g : Ghost) (r : Rule a w g) (l : Known) (inside : l.cpu < a.shape.cpus) (e : Event) → turns_of (e ∷ []) ≡ 0 → Allowed g.last l.cpu e g.last → Rule a w (noted_event g l.cpu e)
+event_rule a w g r l inside e quiet may = record {
+  shaped = r.shaped;
+  logged = logged_event a g.lanes.seen g.log g.last g.last l.cpu e r.logged inside may;
+  keyed = r.keyed;
+  worn = worn_more a _ g.eras g.log (entry l.cpu e) r.worn;
+  runs = quiet_after a (λ c. w (RunCount c)) g.log l.cpu e r.runs quiet;
+  batched = r.batched;
+  owned = r.owned;
+  linked = r.linked;
+  filled = r.filled;
+  segments = r.segments;
+  locking = r.locking;
+  reading = r.reading;
+  held = r.held;
+  valued = r.valued;
+}
+
+pub unlock_answer : (a : About) (l : Known) (k : Lock) (e : Event) → Answers a l k e → Steps a l (Stamp k.map k.segment) (λ _. k.stamp) (λ ws n l'. Answered a l k e l')
+unlock_answer a l k e i ws g sized r is inside fits = record {
+  ghost = unlocked a l2 k i.lock w g1 r1 is1 inside u.0 k.stamp;
+  rule = u.1;
+  others = λ d ne. rw (ne_eqb d l.cpu ne) refl;
+  longer = (entry l.cpu e ∷ [], refl);
+  says = subst (Answered a l k e) (sym after) (record { seen = saw a w g r l is inside e g.last may r1.logged; worn = worn_told; after = refl });
+}
+  where
+    w : Place → ℕ
+    w = mem a.shape ws
+
+    h : Holds a (segment_in a) (words_of w) (λ n t. w (Stamp n t)) g.eras g.linked g.holder l.cpu k
+    h = holds a l k i.lock w g r is
+
+    may : Allowed g.last l.cpu e g.last
+    may = i.allowed g.last h.due.0 (g.number k.map) (shape_is a w g r l is inside) (running_is a w g r l is inside i.runs) h.due.1
+        (λ q home. r.keyed.leads k.map q ∙ ap (numbered (g.number k.map)) (h.due.2 q home ∙ ap (λ y. changed y h.due.0 q) (h.untouched i.clean).1))
+
+    log' : List Entry
+    log' = g.log ++ entry l.cpu e ∷ []
+
+    worn_told : k.stamp / 256 ≤ a.version + done_in k.map log'
+    worn_told =
+        let b = r.worn k.map k.segment h.inside in
+        let o = h.locked in
+        let z = h.even in
+        let q : (k.stamp + 1) / 256 ≡ k.stamp / 256 = omega arith in
+        let y : w (Stamp k.map k.segment) / 256 ≡ (k.stamp + 1) / 256 = ap (λ (j : ℕ). j / 256) o in
+        let d = done_in-append k.map g.log (entry l.cpu e ∷ []) in
+        omega arith
+
+    l2 : Known
+    l2 = record l { seen = log' }
+
+    g1 : Ghost
+    g1 = noted_event g l.cpu e
+
+    r1 : Rule a w g1
+    r1 = event_rule a w g r l inside e i.quiet may
+
+    is1 : lane g1.lanes l.cpu ≡ l2
+    is1 = rw (eq-eqb l.cpu l.cpu refl) (ap (λ (x : Known). record x { seen = log' }) is)
+
+    u : (e : Era) × Rule a (put_at w (Stamp k.map k.segment) k.stamp) (unlocked a l2 k i.lock w g1 r1 is1 inside e k.stamp)
+    u = unlock_same a l2 k i.lock w g1 r1 is1 inside i.clean
+
+    after : lane (unlocked a l2 k i.lock w g1 r1 is1 inside u.0 k.stamp).lanes l.cpu ≡ record l { seen = log'; locks = [] }
+    after = rw (eq-eqb l.cpu l.cpu refl) (ap (λ (x : Known). record x { seen = log'; locks = [] }) is)
+
+-- ---- the replacement
+module _ (a : About) (l : Known) (k : Lock) (f : Fresh) (rest : List Fresh) (key bytes : List ℕ) (flags o : ℕ) (i : Replaces a l k f rest key bytes flags o)
+    (w : Place → ℕ) (g : Ghost) (r : Rule a w g) (is : lane g.lanes l.cpu ≡ l) (inside : l.cpu < a.shape.cpus) where
+  abbrev m : ℕ
+  m = k.map
+
+  abbrev s : ℕ
+  s = k.segment
+
+  abbrev e : ℕ
+  e = f.element
+
+  h : Holds a (segment_in a) (words_of w) (λ n t. w (Stamp n t)) g.eras g.linked g.holder l.cpu k
+  h = holds a l k i.lock w g r is
+
+  there : g.linked m key ≡ Some o
+  there = h.due.2 key i.home ∙ (ap (λ x. changed x h.due.0 key) i.nothing ∙ i.there h.due.0 h.due.1)
+
+  at_o : IsElement a m o
+  at_o = (r.linked.within m key o there).0
+
+  was_o : g.holder m o ≡ Within s
+  was_o = (r.linked.within m key o there).1 ∙ ap Within i.home
+
+  at_e : IsElement a m e
+  at_e = (h.inside.0, i.element)
+
+  hand : g.lanes.fresh l.cpu ≡ f ∷ rest
+  hand = ap (λ (x : Known). x.fresh) is ∙ i.hand
+
+  was_e : g.holder m e ≡ Filling l.cpu
+  was_e = in_hand a _ g.lanes.fresh g.lanes.limbo g.holder l.cpu m f rest r.owned inside at_e i.map hand
+
+  room : m < length (g.lanes.limbo l.cpu)
+  room = subst (λ (x : List Limbo). m < length x) (sym (ap (λ (x : Known). x.limbo) is)) i.room
+
+  not_o : e ≢ o
+  not_o q = let z : Filling l.cpu ≡ Within s = sym was_e ∙ (ap (g.holder m) q ∙ was_o) in cc
+
+  -- first the old element leaves, then the new one comes
+  abbrev holder1 : ℕ → ℕ → Holder
+  holder1 = put g.holder m (put (g.holder m) o (Leaving l.cpu))
+
+  abbrev linked1 : ℕ → List ℕ → Option ℕ
+  linked1 = put g.linked m (put_key (g.linked m) key None)
+
+  abbrev limbo1 : ℕ → List Limbo
+  limbo1 = put g.lanes.limbo l.cpu (set (g.lanes.limbo l.cpu) m (with_used (limbo_at (g.lanes.limbo l.cpu) m) o))
+
+  was1 : holder1 m e ≡ Filling l.cpu
+  was1 = put2-other g.holder m o m e (Leaving l.cpu) (λ _. not_o) ∙ was_e
+
+  none1 : linked1 m key ≡ None
+  none1 = ap (λ (x : List ℕ → Option ℕ). x key) (put-same g.linked m m (put_key (g.linked m) key None) refl) ∙ put_key-same (g.linked m) key key None refl
+
+  owned1 : Owned a (λ n j. w (FreeBits n j)) g.lanes.fresh limbo1 holder1
+  owned1 = owned_goes a l.cpu m o s key g.holder was_o _ g.lanes.fresh g.lanes.limbo r.owned inside at_o room
+
+  linked_1 : Linked a (segment_in a) linked1 holder1
+  linked_1 = linked_goes a l.cpu m o s key g.holder was_o g.linked r.linked there
+
+  abbrev holder2 : ℕ → ℕ → Holder
+  holder2 = put holder1 m (put (holder1 m) e (Within s))
+
+  abbrev linked2 : ℕ → List ℕ → Option ℕ
+  linked2 = put linked1 m (put_key (linked1 m) key (Some e))
+
+  abbrev number2 : ℕ → ℕ → ℕ
+  number2 = put g.number m (put (g.number m) e g.last.made)
+
+  linked_old : (n : ℕ) (q : List ℕ) → (n ≡ m → q ≢ key) → linked2 n q ≡ g.linked n q
+  linked_old n q ne = now_old a l.cpu m e s key holder1 was1 linked1 n q ne ∙ cut_old a l.cpu m o s key g.holder was_o g.linked n q ne
+
+  linked_new : (n : ℕ) (q : List ℕ) → n ≡ m → q ≡ key → linked2 n q ≡ Some e
+  linked_new = now_new a l.cpu m e s key holder1 was1 linked1
+
+  abbrev x : Value
+  x = record { bytes = bytes; span = element_span m (shape_at a m) e }
+
+  abbrev event : Event
+  event = Update m key bytes flags Done
+
+  abbrev last' : Plain
+  last' = after_update g.last m key x
+
+  get_some : get (g.last.maps m) key ≡ Some (g.number m o)
+  get_some = r.keyed.leads m key ∙ ap (numbered (g.number m)) there
+
+  keyed2 : Keyed a (λ j. w (KeyCount j)) last'.maps linked2 number2
+  keyed2 = record {
+    counted = λ n lt. ⊎_elim
+        (λ (t : n ≡ m). r.keyed.counted n lt ∙ (ap (λ j. len (g.last.maps j)) t ∙ (sym as_many ∙ ap (λ (y : Keys). len y) (sym (put-same g.last.maps m n (insert (g.last.maps m) key g.last.made) t)))))
+        (λ (ne : n ≢ m). r.keyed.counted n lt ∙ ap (λ (y : Keys). len y) (sym (put-other g.last.maps m n (insert (g.last.maps m) key g.last.made) ne)))
+        (equal n m);
+    leads = λ n q. ⊎_elim
+        (λ (t : n ≡ m). ap (λ (y : Keys). get y q) (put-same g.last.maps m n (insert (g.last.maps m) key g.last.made) t) ∙ ⊎_elim
+        (λ (u : q ≡ key). ap (get (insert (g.last.maps m) key g.last.made)) u ∙ (leads_new (g.last.maps m) key g.last.made ∙ (ap Some (sym (put2-same g.number m e n e g.last.made t refl)) ∙ ap (numbered (number2 n)) (sym (linked_new n q t u)))))
+        (λ (u : q ≢ key). ⊎_elim
+        (λ (z : (q ≡ key) × (get (insert (g.last.maps m) key g.last.made) q ≡ Some g.last.made)). absurd (u z.0))
+        (λ (z : get (insert (g.last.maps m) key g.last.made) q ≡ get (g.last.maps m) q). z)
+        (insert_cases (g.last.maps m) key g.last.made q) ∙ (ap (λ j. get (g.last.maps j) q) (sym t) ∙ old_leads n q (λ _. u)))
+        (equal_keys q key))
+        (λ (ne : n ≢ m). ap (λ (y : Keys). get y q) (put-other g.last.maps m n (insert (g.last.maps m) key g.last.made) ne) ∙ old_leads n q (λ t. absurd (ne t)))
+        (equal n m);
+  }
+    where
+      as_many : len (insert (g.last.maps m) key g.last.made) ≡ len (g.last.maps m)
+      as_many = len-insert nat_list_cmp_total (g.last.maps m) key g.last.made ∙ go (get (g.last.maps m) key) get_some
+        where
+          go : (y : Option ℕ) → y ≡ Some (g.number m o) → cond (is_some y) (len (g.last.maps m)) (len (g.last.maps m) + 1) ≡ len (g.last.maps m)
+          go None z = cc
+          go (Some v) z = refl
+
+      old_leads : (n : ℕ) (q : List ℕ) → (n ≡ m → q ≢ key) → get (g.last.maps n) q ≡ numbered (number2 n) (linked2 n q)
+      old_leads n q ne = r.keyed.leads n q ∙ (sym (number_kept n (g.linked n q) (λ d eq u t. not_e n d q eq t u)) ∙ ap (numbered (number2 n)) (sym (linked_old n q ne)))
+        where
+          not_e : (n d : ℕ) (q : List ℕ) → g.linked n q ≡ Some d → n ≡ m → d ≢ e
+          not_e n d q eq t u = let z : Within (segment_in a n q) ≡ Filling l.cpu = sym (r.linked.within n q d eq).1 ∙ ((λ j. g.holder (t j) (u j)) ∙ was_e) in cc
+
+          number_kept : (n : ℕ) (y : Option ℕ) → ((d : ℕ) → y ≡ Some d → d ≡ e → n ≡ m → ⊥) → numbered (number2 n) y ≡ numbered (g.number n) y
+          number_kept n None not = refl
+          number_kept n (Some d) not = ap Some (put2-other g.number m e n d g.last.made (λ t u. not d refl u t))
+
+  effect : Effect a l.cpu k (Puts key e) g.linked linked2 g.holder holder2
+  effect = record {
+    owes = refl;
+    keys = λ n t q ne home. linked_old n q (λ u v. ne u (sym home ∙ ((λ j. segment_of a.seed (shape_at a (u j)) (v j)) ∙ i.home)));
+    theirs = λ n t b d apart ne mind. ⊎_elim
+        (λ (u : (n ≡ m) × (d ≡ e)). absurd (ne u.0 (sym (subst (Minded b t) (put2-same holder1 m e n d (Within s) u.0 u.1) mind))))
+        (λ (nu : n ≡ m → d ≢ e). let mind1 = subst (Minded b t) (put2-other holder1 m e n d (Within s) nu) mind in ⊎_elim
+        (λ (u : (n ≡ m) × (d ≡ o)). absurd (apart (sym (subst (Minded b t) (put2-same g.holder m o n d (Leaving l.cpu) u.0 u.1) mind1))))
+        (λ (no : n ≡ m → d ≢ o). subst (Minded b t) (put2-other g.holder m o n d (Leaving l.cpu) no) mind1)
+        (here_or m n o d))
+        (here_or m n e d);
+    mine = λ d mind. ⊎_elim
+        (λ (u : d ≡ e). subst (Minded l.cpu s) (sym (ap (g.holder m) u ∙ was_e)) refl)
+        (λ (nu : d ≢ e). ⊎_elim
+        (λ (u : d ≡ o). subst (Minded l.cpu s) (sym (ap (g.holder m) u ∙ was_o)) refl)
+        (λ (no : d ≢ o). subst (Minded l.cpu s) (put2-other g.holder m o m d (Leaving l.cpu) (λ _. no)) (subst (Minded l.cpu s) (put2-other holder1 m e m d (Within s) (λ _. nu)) mind))
+        (equal d o))
+        (equal d e);
+    due = λ before same q home. ⊎_elim
+        (λ (u : q ≡ key). linked_new m q refl u ∙ sym (put_key-same before key q (Some e) u))
+        (λ (u : q ≢ key). linked_old m q (λ _. u) ∙ (same q home ∙ sym (put_key-other before key q (Some e) u)))
+        (equal_keys q key);
+  }
+
+  abbrev log' : List Entry
+  log' = g.log ++ entry l.cpu event ∷ []
+
+  abbrev lock' : Lock
+  lock' = record k { change = Puts key e; dirty = true }
+
+  abbrev g' : Ghost
+  g' = record {
+    log = log';
+    last = last';
+    lanes = record g.lanes { seen = put g.lanes.seen l.cpu log'; fresh = put g.lanes.fresh l.cpu rest; limbo = limbo1; locks = put g.lanes.locks l.cpu (lock' ∷ []) };
+    holder = holder2;
+    number = number2;
+    linked = linked2;
+    eras = put g.eras m (put (g.eras m) s (record { era = w (Stamp m s); writer = l.cpu; dirty = true; credit = 1; old = (g.eras m s).old }));
+  }
+
+  may : Allowed g.last l.cpu event last'
+  may = (
+    running_is a w g r l is inside i.runs,
+    (
+      shape_at a m,
+      map_there a w g r l is inside m h.inside.0,
+      i.key_size,
+      i.size,
+      (
+        four _ _ _ _ (⊎_elim (λ (q : flags ≡ 0). grind (arith, nat_tests)) (λ (q : flags ≡ 2). grind (arith, nat_tests)) i.flags_known)
+            (ap (λ (b : Bool). b && is_some (get (g.last.maps m) key)) (ne_eqb flags 1 (λ (q : flags ≡ 1). ⊎_elim (λ (p : flags ≡ 0). omega arith) (λ (p : flags ≡ 2). omega arith) i.flags_known)))
+            (ap (λ (y : Option ℕ). (flags == 2) && not (is_some y)) get_some ∙ and_false (flags == 2))
+            (ap (λ (y : Option ℕ). not (is_some y) && (len (g.last.maps m) == (shape_at a m).max)) get_some),
+        (element_span m (shape_at a m) e, place_for a w g r l is inside m e l.cpu at_e was_e, refl),
+      ),
+    ),
+  )
+
+  spelled_is : x ≡ record { bytes = take (shape_at a m).value (spelled (words_for (shape_at a m).value) (λ j. w (ValueWord m e j))); span = element_span m (shape_at a m) e }
+  spelled_is = ap (λ (b : List ℕ). record { bytes = b; span = element_span m (shape_at a m) e }) (sym (
+      ap (take (shape_at a m).value) (spelled_same (words_for (shape_at a m).value) (λ j. w (ValueWord m e j)) (word_of bytes) (λ j lt. words j lt ∙ i.value j lt))
+      ∙ (ap (λ (n : ℕ). take n (spelled (words_for (shape_at a m).value) (word_of bytes))) (sym i.size)
+      ∙ spelled_back (words_for (shape_at a m).value) bytes i.are_bytes (let z = i.size in omega arith))))
+    where
+      Has : Fresh → Type 0
+      Has y = Begins y.key (λ j. w (KeyWord y.map y.element j)) × Begins y.value (λ j. w (ValueWord y.map y.element j))
+
+      in_it : Has f
+      in_it = (subst (Each Has) hand (r.filled l.cpu inside)).0
+
+      words : (j : ℕ) → j < words_for (shape_at a m).value → w (ValueWord m e j) ≡ slice_index f.value j
+      words j lt = ap (λ (n : ℕ). w (ValueWord n e j)) (sym i.map) ∙ in_it.1 j (let z = i.filled in omega arith)
+
+  -- the event has taken effect, and the lock is still there
+  swap_rule : Rule a w g'
+  swap_rule = record {
+    shaped = r.shaped;
+    logged = logged_event a g.lanes.seen g.log g.last last' l.cpu event r.logged inside may;
+    keyed = keyed2;
+    worn = effect_worn a l k i.lock w g r is i.nothing (Puts key e) linked2 holder2 effect event (eq-eqb m m refl);
+    runs = runs_quiet a w g r l is inside (λ d. w (RunCount d)) event r.runs refl;
+    batched = batched_comes a l.cpu m e s key holder1 was1 _ _ _ g.lanes.fresh limbo1 g.last.held g.number g.last.made owned1
+        (batched_goes a l.cpu m o s key g.holder was_o _ _ g.lanes.limbo g.last.held g.number r.batched room inside);
+    owned = owned_comes a l.cpu m e s key holder1 was1 _ g.lanes.fresh limbo1 f rest owned1 i.map refl hand inside;
+    linked = linked_comes a l.cpu m e s key holder1 was1 linked1 linked_1 none1 at_e i.home;
+    filled = filled_rest a l.cpu m e s key holder1 was1 _ _ g.lanes.fresh f rest r.filled hand inside;
+    segments = effect_segments a l k i.lock w g r is i.nothing (Puts key e) linked2 holder2 effect;
+    locking = effect_locking a l k i.lock w g r is i.nothing (Puts key e) linked2 holder2 effect;
+    reading = effect_reading a l k i.lock w g r is i.nothing (Puts key e) linked2 holder2 effect;
+    held = effect_held a l k i.lock w g r is i.nothing (Puts key e) linked2 holder2 effect inside;
+    valued = valued_comes a l.cpu m e s key holder1 was1 _ g.last.made g.last.value g.last.held g.number x
+        (valued_goes a l.cpu m o s key g.holder was_o _ g.last.made g.last.value g.last.held g.number r.valued) spelled_is;
+  }
+
+  abbrev l2 : Known
+  l2 = record l { seen = log'; fresh = rest; limbo = with_gone l m o; locks = lock' ∷ [] }
+
+  is2 : lane g'.lanes l.cpu ≡ l2
+  is2 = rw (eq-eqb l.cpu l.cpu refl) (ap (λ (y : Known). record y { seen = log'; fresh = rest; limbo = set y.limbo m (with_used (limbo_at y.limbo m) o); locks = lock' ∷ [] }) is)
+
+  pub swap_next : Next a (put_at w (Stamp m s) (k.stamp + 256)) g l.cpu (Replaced a l k rest key bytes flags o)
+  swap_next =
+      let u = unlock_new a l2 lock' refl w g' swap_rule is2 inside refl i.written in
+      record {
+        ghost = unlocked a l2 lock' refl w g' swap_rule is2 inside u.0 (k.stamp + 256);
+        rule = u.1;
+        others = λ d ne. rw (ne_eqb d l.cpu ne) refl;
+        longer = (entry l.cpu event ∷ [], refl);
+        says = subst (Replaced a l k rest key bytes flags o) (sym (after u.0)) (record { seen = saw a w g r l is inside event last' may swap_rule.logged; after = refl });
+      }
+    where
+      after : (y : Era) → lane (unlocked a l2 lock' refl w g' swap_rule is2 inside y (k.stamp + 256)).lanes l.cpu ≡ record l { seen = log'; fresh = rest; limbo = with_gone l m o; locks = [] }
+      after y = rw (eq-eqb l.cpu l.cpu refl) (ap (λ (z : Known). record z { seen = log'; fresh = rest; limbo = set z.limbo m (with_used (limbo_at z.limbo m) o); locks = [] }) is)
+
+pub unlock_replaced : (a : About) (l : Known) (k : Lock) (f : Fresh) (rest : List Fresh) (key bytes : List ℕ) (flags o : ℕ) → Replaces a l k f rest key bytes flags o
+    → Steps a l (Stamp k.map k.segment) (λ _. k.stamp + 256) (λ ws n l'. Replaced a l k rest key bytes flags o l')
+unlock_replaced a l k f rest key bytes flags o i ws g sized r is inside fits = swap_next a l k f rest key bytes flags o i (mem a.shape ws) g r is inside

@@ -1,0 +1,100 @@
+-- What stands behind the words, and in no word: the history, what each CPU knows, and who has which element.
+use Rattle.std.specs.Prelude.{ℕ, ◌<◌, Bool, true, false, List, [], ◌∷◌, Option, length, ◌==◌, slice_index_or}
+use Rattle.bpf_shared.specs.declared.shapes.MapShape.{MapShape}
+use Rattle.bpf_shared.specs.declared.events.Entry.{Entry}
+use Rattle.bpf_shared.specs.Shape.{elements}
+use Rattle.bpf_shared.specs.Store.{Plain}
+use Rattle.hop_words.specs.declared.known.About.{About}
+use Rattle.hop_words.specs.declared.known.Known.{Known}
+use Rattle.hop_words.specs.declared.known.Fresh.{Fresh}
+use Rattle.hop_words.specs.declared.known.Limbo.{Limbo}
+use Rattle.hop_words.specs.declared.known.Lock.{Lock}
+use Rattle.hop_words.specs.declared.known.Reading.{Reading}
+use Rattle.hop_words.specs.declared.known.Tally.{Tally}
+use Rattle.hop_words.specs.Layout.{map_shape, segments}
+use Rattle.hop_words.specs.Homes.{segment_of}
+use Rattle.hop_words.specs.Content.{Words}
+
+-- an element is free, or one CPU fills it, or one CPU took it out of its map, or it is linked in one segment
+pub data Holder : Type 0 where
+  Free : Holder
+  Filling : ℕ → Holder
+  Leaving : ℕ → Holder
+  Within : ℕ → Holder
+
+abbrev pub is_free : Holder → Bool
+is_free Free = true
+is_free other = false
+
+abbrev pub is_filling : ℕ → Holder → Bool
+is_filling c (Filling d) = d == c
+is_filling c other = false
+
+abbrev pub is_leaving : ℕ → Holder → Bool
+is_leaving c (Leaving d) = d == c
+is_leaving c other = false
+
+-- a value of the plain store lies in the element
+abbrev pub Carries : Holder → Type 0
+Carries Free = ⊥
+Carries (Filling c) = ⊥
+Carries (Leaving c) = Unit {0}
+Carries (Within s) = Unit {0}
+
+-- what the CPUs know, field by field
+pub record Lanes : Type 0 where
+  pub seen : ℕ → List Entry
+  pub fresh : ℕ → List Fresh
+  pub limbo : ℕ → List Limbo
+  pub locks : ℕ → List Lock
+  pub readings : ℕ → List Reading
+  pub tally : ℕ → Tally
+
+abbrev pub lane : Lanes → ℕ → Known
+lane x c = record { cpu = c; seen = x.seen c; fresh = x.fresh c; limbo = x.limbo c; locks = x.locks c; readings = x.readings c; tally = x.tally c }
+
+-- of a segment: a number that never goes down, which is the stamp while no lock changed anything; who locks it; whether that
+-- CPU has to change the version; a Done event that the version doesn't count yet; and its words at rest
+pub record Era : Type 0 where
+  pub era : ℕ
+  pub writer : ℕ
+  pub dirty : Bool
+  pub credit : ℕ
+  pub old : Words
+
+pub record Ghost : Type 0 where
+  pub log : List Entry
+  pub last : Plain
+  pub lanes : Lanes
+  -- by map and element
+  pub holder : ℕ → ℕ → Holder
+  -- by map and element: the number of the value that lies in it
+  pub number : ℕ → ℕ → ℕ
+  -- by map and key: the element that the key leads to
+  pub linked : ℕ → List ℕ → Option ℕ
+  -- by map and segment
+  pub eras : ℕ → ℕ → Era
+
+abbrev pub shape_at : About → ℕ → MapShape
+shape_at a m = map_shape a.shape m
+
+abbrev pub IsElement : About → ℕ → ℕ → Type 0
+IsElement a m e = (m < length a.shape.maps) × (e < elements (shape_at a m))
+
+abbrev pub IsSegment : About → ℕ → ℕ → Type 0
+IsSegment a m s = (m < length a.shape.maps) × (s < segments (shape_at a m))
+
+-- the segment that a key is at home in
+abbrev pub segment_in : About → ℕ → List ℕ → ℕ
+segment_in a m key = segment_of a.seed (shape_at a m) key
+
+abbrev pub no_limbo : Limbo
+no_limbo = record { used = []; young = []; old = []; noted = [] }
+
+-- what the CPU has of a map
+abbrev pub limbo_at : List Limbo → ℕ → Limbo
+limbo_at xs m = slice_index_or xs m no_limbo
+
+abbrev pub Each : {A : Type 0} → (A → Type 0) → List A → Type 0
+Each P [] = Unit {0}
+Each P (x ∷ xs) = P x × Each P xs

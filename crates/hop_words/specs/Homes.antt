@@ -1,0 +1,25 @@
+-- Where a key is at home, and the words that bytes lie in.
+use Rattle.std.specs.Prelude.{ℕ, zero, suc, ◌+◌, ◌*◌, ◌/◌, ◌%◌, ◌^◌, ◌<◌, List, [], ◌∷◌, ◌++◌}
+use Rattle.bpf_shared.specs.declared.shapes.MapShape.{MapShape}
+use Rattle.bpf_shared.specs.Bytes.{number_of, low_bytes, part}
+use Rattle.hop_words.specs.Home.{home_of}
+use Rattle.hop_words.specs.Layout.{depth, power}
+
+abbrev pub segment_of : ℕ → MapShape → List ℕ → ℕ
+segment_of seed g key = home_of key seed g.mask % power (depth g)
+
+abbrev pub bucket_of : ℕ → MapShape → List ℕ → ℕ
+bucket_of seed g key = home_of key seed g.mask / 2 ^ 16 % 64
+
+abbrev pub AreBytes : List ℕ → Type 0
+AreBytes [] = Unit {0}
+AreBytes (b ∷ bs) = (b < 256) × AreBytes bs
+
+-- the k-th word of bytes: eight of them, the lowest first, and zeros behind the last
+abbrev pub word_of : List ℕ → ℕ → ℕ
+word_of bs k = number_of (part bs (8 * k) 8)
+
+-- the bytes of n words
+abbrev pub spelled : ℕ → (ℕ → ℕ) → List ℕ
+spelled zero f = []
+spelled (suc n) f = low_bytes 8 (f 0) ++ spelled n (λ k. f (k + 1))

@@ -1,0 +1,43 @@
+-- What contracts see of a table and of a CPU's right to step.
+use Rattle.std.specs.Prelude.{◌≡◌, ℕ, []}
+use Rattle.atomic_table.specs.Seated.{TableId}
+use Rattle.atomic_table.specs.Table.{Step, Me}
+use Rattle.hop_words.specs.declared.known.About.{About}
+use Rattle.hop_words.specs.declared.known.Known.{Known}
+use Rattle.hop_words.specs.declared.known.View.{View}
+use Rattle.hop_words.specs.declared.table.HopTable.TheInside.{Inside as InTable}
+use Rattle.hop_words.specs.declared.table.Lane.TheInside.{Inside as InStepper}
+use Rattle.hop_words.specs.Layout.{size}
+use Rattle.hop_words.specs.Rule.{solo}
+use Rattle.hop_words.specs.Step.{Tells, first_lane}
+use Rattle.hop_words.specs.Opens.{no_tally}
+
+pub record Shown : Type 0 where
+  pub id : TableId
+  pub about : About
+
+abbrev pub shown : InTable → Shown
+shown t = record { id = t.table.shared.table_id; about = t.table.shared.key }
+
+abbrev pub IsSized : InTable → Type 0
+IsSized t = (t.table.shared.table_id.words ≡ size t.table.shared.key.shape) × (t.table.shared.table_id.slots ≡ 0)
+
+pub record Standing : Type 0 where
+  pub table : TableId
+  pub lane : Known
+
+abbrev pub nobody : Known
+nobody = record { cpu = 0; seen = []; fresh = []; limbo = []; locks = []; readings = []; tally = no_tally }
+
+abbrev pub lane_of : InStepper → Known
+lane_of s = first_lane nobody s.seat.me.0.lanes
+
+abbrev pub standing : InStepper → Standing
+standing s = record { table = s.seat.table_id; lane = lane_of s }
+
+-- the seat has this one CPU, and no slot
+abbrev pub IsOne : InStepper → Type 0
+IsOne s = (s.seat.me ≡ (solo (lane_of s), [])) × ((lane_of s).cpu ≡ s.cpu)
+
+abbrev pub tells : (ℕ → Known → Type 0) → Step (Unit {0}) → Me (Unit {0}) View → ℕ → Me (Unit {0}) View → Type 0
+tells told st m n m' = Tells (first_lane nobody m.0.lanes).cpu told n m'

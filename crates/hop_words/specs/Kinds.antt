@@ -1,0 +1,304 @@
+-- The kinds of step: what each asks of the lane that makes it, and what it tells.
+use Rattle.std.specs.Prelude.{◌⊎◌, ◌≡◌, ℕ, ◌+◌, ◌*◌, ◌/◌, ◌%◌, ◌<◌, ◌≤◌, Bool, true, false, ◌||◌, List, [], ◌∷◌, ◌++◌, Option, Some, None, length, slice_index, slice_set, ◌==◌}
+use Rattle.bpf_shared.specs.declared.events.Entry.{Entry}
+use Rattle.bpf_shared.specs.declared.events.Event.{Event}
+use Rattle.bpf_shared.specs.declared.events.Event.TheVariants.{Begin, End, Lookup, Update, Delete}
+use Rattle.bpf_shared.specs.declared.events.MapAnswer.TheVariants.{Done}
+use Rattle.bpf_shared.specs.declared.events.Span.{Span}
+use Rattle.bpf_shared.specs.Shape.{elements, element_span}
+use Rattle.std.specs.FinMap.{get}
+use Rattle.bpf_shared.specs.Store.{Plain}
+use Rattle.bpf_shared.specs.Bytes.{number_of, low_bytes, part}
+use Rattle.bpf_shared.specs.Events.{Allowed}
+use Rattle.bpf_shared.specs.History.{IsLegal, events_of, entry}
+use Rattle.hop_words.specs.declared.known.About.{About}
+use Rattle.hop_words.specs.declared.known.Known.{Known}
+use Rattle.hop_words.specs.declared.known.Fresh.{Fresh}
+use Rattle.hop_words.specs.declared.place.Place.{Place}
+use Rattle.hop_words.specs.declared.known.Limbo.{Limbo}
+use Rattle.hop_words.specs.declared.known.Lock.{Lock}
+use Rattle.hop_words.specs.declared.known.Reading.{Reading}
+use Rattle.hop_words.specs.declared.known.Peek.{Peek}
+use Rattle.hop_words.specs.declared.known.Tally.{Tally}
+use Rattle.hop_words.specs.declared.known.Change.TheVariants.{Nothing, Puts, Drops}
+use Rattle.hop_words.specs.Layout.{words_for, at, size}
+use Rattle.hop_words.specs.Homes.{word_of, AreBytes}
+use Rattle.hop_words.specs.Content.{Words, IsShare}
+use Rattle.hop_words.specs.Ghost.{segment_in, shape_at, IsElement, Each, limbo_at}
+use Rattle.hop_words.specs.Rule.{turns_of, image, IsPeek, Begins, changed, numbered, done_in}
+
+-- by these events the CPU is in a run
+abbrev pub in_run : List Event → Bool
+in_run es = turns_of es % 2 == 1
+
+-- the event follows all that the lane had seen, and events of others
+pub record Saw (a : About) (l : Known) (e : Event) (seen : List Entry) : Type 0 where
+  pub others : List Entry
+  pub foreign : events_of l.cpu others ≡ []
+  pub after : seen ≡ l.seen ++ (others ++ entry l.cpu e ∷ [])
+  pub legal : IsLegal a.shape seen
+
+-- by all that the lock's words can show, the key isn't there
+abbrev pub IsAbsent : About → Lock → List ℕ → Type 0
+IsAbsent a k key = (before : List ℕ → Option ℕ) → IsShare a.seed (shape_at a k.map) (segment_in a k.map) (image a k.first) k.map k.segment before → before key ≡ None
+
+-- ---- count up: a new key, under the lock of its segment, before a word of it is written
+pub record Inserts (a : About) (l : Known) (k : Lock) (f : Fresh) (rest : List Fresh) (key bytes : List ℕ) (flags old : ℕ) : Type 0 where
+  pub lock : l.locks ≡ k ∷ []
+  pub nothing : k.change ≡ Nothing
+  pub hand : l.fresh ≡ f ∷ rest
+  pub map : f.map ≡ k.map
+  pub element : f.element < elements (shape_at a k.map)
+  pub home : segment_in a k.map key ≡ k.segment
+  pub key_size : length key ≡ (shape_at a k.map).key
+  pub size : length bytes ≡ (shape_at a k.map).value
+  pub are_bytes : AreBytes bytes
+  pub filled : length f.value ≡ words_for (shape_at a k.map).value
+  pub value : (i : ℕ) → i < words_for (shape_at a k.map).value → slice_index f.value i ≡ word_of bytes i
+  pub absent : IsAbsent a k key
+  pub flags_known : flags ≤ 1
+  pub room : old < (shape_at a k.map).max
+  pub runs : in_run (events_of l.cpu l.seen) ≡ true
+
+-- where the count is the one expected, the event takes effect, the element is the map's, and its words remain to be written
+pub record Inserted (a : About) (l : Known) (k : Lock) (f : Fresh) (rest : List Fresh) (key bytes : List ℕ) (flags : ℕ) (l' : Known) : Type 0 where
+  pub seen : Saw a l (Update k.map key bytes flags Done) l'.seen
+  pub after : l' ≡ record l { seen = l'.seen; fresh = rest; locks = record k { change = Puts key f.element; dirty = true } ∷ [] }
+
+-- ---- readings without a lock
+abbrev pub one_more : Tally → Tally
+one_more t = record t { disturbed = t.disturbed + 1 }
+
+abbrev pub noting : Known → ℕ → ℕ → ℕ → Known
+noting l m s n = record l { readings = record { map = m; segment = s; stamp = n; peeks = [] } ∷ [] }
+
+-- see stamp: an unlocked one is noted, a locked one is a disturbed reading
+abbrev pub StampSeen : Known → ℕ → ℕ → ℕ → Known → Type 0
+StampSeen l m s n l' = (n % 2 ≡ 0 → l' ≡ noting l m s n) × (n % 2 ≡ 1 → l' ≡ record l { tally = one_more l.tally })
+
+-- peek
+abbrev pub peeking : Known → Reading → Place → ℕ → Known
+peeking l r p n = record l { readings = record r { peeks = record { place = p; number = n } ∷ r.peeks } ∷ [] }
+
+abbrev pub AllPeeks : Words → Reading → Type 0
+AllPeeks x r = Each (λ (p : Peek). IsPeek x r.map r.segment p.place p.number) r.peeks
+
+-- what was peeked shows where the key leads: so it does in every segment of which all this was peeked
+abbrev pub Shown : About → Reading → List ℕ → Option ℕ → Type 0
+Shown a r key o = (x : Words) (f : List ℕ → Option ℕ) → IsShare a.seed (shape_at a r.map) (segment_in a r.map) x r.map r.segment f → AllPeeks x r → f key ≡ o
+
+abbrev pub span_at : About → ℕ → Option ℕ → Option Span
+span_at a m None = None
+span_at a m (Some e) = Some (element_span m (shape_at a m) e)
+
+-- see stamp again
+pub record Finds (a : About) (l : Known) (r : Reading) (key : List ℕ) (o : Option ℕ) : Type 0 where
+  pub reading : l.readings ≡ r ∷ []
+  pub key_size : length key ≡ (shape_at a r.map).key
+  pub home : segment_in a r.map key ≡ r.segment
+  pub shown : Shown a r key o
+  pub runs : in_run (events_of l.cpu l.seen) ≡ true
+
+pub record Found (a : About) (l : Known) (r : Reading) (key : List ℕ) (o : Option ℕ) (l' : Known) : Type 0 where
+  pub seen : Saw a l (Lookup r.map key (span_at a r.map o)) l'.seen
+  pub after : l' ≡ record l { seen = l'.seen; readings = [] }
+
+-- ---- lock
+abbrev pub has : ℕ → List ℕ → Bool
+has e [] = false
+has e (x ∷ xs) = (e == x) || has e xs
+
+abbrev pub locking : Known → ℕ → ℕ → ℕ → List ℕ → List ℕ → Known
+locking l m s n ws es = record l { locks = record { map = m; segment = s; stamp = n; first = ws; copy = ws; change = Nothing; known = es; dirty = false } ∷ []; tally = record l.tally { locks = l.tally.locks + 1 } }
+
+-- the segment is sound and has some content, and what the lane filled stands in the copy
+pub record Locked (a : About) (l : Known) (m s n : ℕ) (l' : Known) : Type 0 where
+  -- the elements to which keys lead here
+  pub known : List ℕ
+  pub words : List ℕ
+  pub sized : length words ≡ size a.shape
+  pub after : l' ≡ locking l m s n words known
+  pub content : List ℕ → Option ℕ
+  pub share : IsShare a.seed (shape_at a m) (segment_in a m) (image a words) m s content
+  pub filled : Each (λ (f : Fresh). Begins f.key ((image a words).key f.map f.element)) l.fresh
+  pub known_is : (e : ℕ) → has e known ≡ true → (e < elements (shape_at a m)) × ((key : List ℕ) × (content key ≡ Some e) × (segment_in a m key ≡ s))
+  -- an element in hand is none of them
+  pub apart : (f : Fresh) (rest : List Fresh) → l.fresh ≡ f ∷ rest → f.map ≡ m → has f.element known ≡ false
+  pub is_known : (key : List ℕ) (e : ℕ) → content key ≡ Some e → segment_in a m key ≡ s → (e < elements (shape_at a m)) × (has e known ≡ true)
+
+-- ---- write under lock
+abbrev pub writing : About → Known → Lock → Place → ℕ → Known
+writing a l k p n = record l { locks = record k { copy = slice_set k.copy (at a.shape p) n; dirty = true } ∷ [] }
+
+-- ---- unlock
+-- the copy is written: by what the words at the lock showed, it shows that with the change
+abbrev pub IsWritten : About → Lock → Type 0
+IsWritten a k = (before : List ℕ → Option ℕ) → IsShare a.seed (shape_at a k.map) (segment_in a k.map) (image a k.first) k.map k.segment before → IsShare a.seed (shape_at a k.map) (segment_in a k.map) (image a k.copy) k.map k.segment (changed k.change before)
+
+abbrev pub unlocking : Known → Known
+unlocking l = record l { locks = [] }
+
+-- the lane may write the link of the element: it fills it, or the element is linked in the locked segment
+abbrev pub MayLink : About → Known → Lock → ℕ → Type 0
+MayLink a l k e = (e < elements (shape_at a k.map))
+    × (((f : Fresh) × (rest : List Fresh) × (l.fresh ≡ f ∷ rest) × (f.map ≡ k.map) × (f.element ≡ e))
+    ⊎ ((before : List ℕ → Option ℕ) → IsShare a.seed (shape_at a k.map) (segment_in a k.map) (image a k.first) k.map k.segment before
+    → (key : List ℕ) × (changed k.change before key ≡ Some e) × (segment_in a k.map key ≡ k.segment)))
+
+-- by all that the lock's words can show, the key leads to this element
+abbrev pub LeadsTo : About → Lock → List ℕ → ℕ → Type 0
+LeadsTo a k key e = (before : List ℕ → Option ℕ) → IsShare a.seed (shape_at a k.map) (segment_in a k.map) (image a k.first) k.map k.segment before → before key ≡ Some e
+
+-- what the lane has of the map, with one more element in hand
+abbrev pub with_gone : Known → ℕ → ℕ → List Limbo
+with_gone l m e = slice_set l.limbo m (record (limbo_at l.limbo m) { used = e ∷ (limbo_at l.limbo m).used })
+
+-- ---- count down: a key that is there is gone, under the lock of its segment, before a word of it is written
+pub record Removes (a : About) (l : Known) (k : Lock) (key : List ℕ) (e : ℕ) : Type 0 where
+  pub lock : l.locks ≡ k ∷ []
+  pub nothing : k.change ≡ Nothing
+  pub home : segment_in a k.map key ≡ k.segment
+  pub key_size : length key ≡ (shape_at a k.map).key
+  pub there : LeadsTo a k key e
+  pub room : k.map < length l.limbo
+  pub runs : in_run (events_of l.cpu l.seen) ≡ true
+
+pub record Removed (a : About) (l : Known) (k : Lock) (key : List ℕ) (e : ℕ) (l' : Known) : Type 0 where
+  pub seen : Saw a l (Delete k.map key Done) l'.seen
+  pub after : l' ≡ record l { seen = l'.seen; limbo = with_gone l k.map e; locks = record k { change = Drops key; dirty = true } ∷ [] }
+
+-- ---- unlock where a replacement takes effect
+pub record Replaces (a : About) (l : Known) (k : Lock) (f : Fresh) (rest : List Fresh) (key bytes : List ℕ) (flags e : ℕ) : Type 0 where
+  pub lock : l.locks ≡ k ∷ []
+  pub nothing : k.change ≡ Nothing
+  pub hand : l.fresh ≡ f ∷ rest
+  pub map : f.map ≡ k.map
+  pub element : f.element < elements (shape_at a k.map)
+  pub home : segment_in a k.map key ≡ k.segment
+  pub key_size : length key ≡ (shape_at a k.map).key
+  pub size : length bytes ≡ (shape_at a k.map).value
+  pub are_bytes : AreBytes bytes
+  pub filled : length f.value ≡ words_for (shape_at a k.map).value
+  pub value : (i : ℕ) → i < words_for (shape_at a k.map).value → slice_index f.value i ≡ word_of bytes i
+  pub there : LeadsTo a k key e
+  pub written : (before : List ℕ → Option ℕ) → IsShare a.seed (shape_at a k.map) (segment_in a k.map) (image a k.first) k.map k.segment before
+      → IsShare a.seed (shape_at a k.map) (segment_in a k.map) (image a k.copy) k.map k.segment (changed (Puts key f.element) before)
+  pub flags_known : (flags ≡ 0) ⊎ (flags ≡ 2)
+  pub room : k.map < length l.limbo
+  pub runs : in_run (events_of l.cpu l.seen) ≡ true
+
+pub record Replaced (a : About) (l : Known) (k : Lock) (rest : List Fresh) (key bytes : List ℕ) (flags e : ℕ) (l' : Known) : Type 0 where
+  pub seen : Saw a l (Update k.map key bytes flags Done) l'.seen
+  pub after : l' ≡ record l { seen = l'.seen; fresh = rest; limbo = with_gone l k.map e; locks = [] }
+
+-- ---- unlock with the same version: an answer that changed nothing takes effect, whatever the store is that the lock's words can show
+pub record Answers (a : About) (l : Known) (k : Lock) (e : Event) : Type 0 where
+  pub lock : l.locks ≡ k ∷ []
+  pub clean : k.dirty ≡ false
+  pub quiet : turns_of (e ∷ []) ≡ 0
+  pub runs : in_run (events_of l.cpu l.seen) ≡ true
+  pub allowed : (s : Plain) (before : List ℕ → Option ℕ) (number : ℕ → ℕ) → s.shape ≡ a.shape → s.running l.cpu ≡ true → IsShare a.seed (shape_at a k.map) (segment_in a k.map) (image a k.first) k.map k.segment before
+      → ((q : List ℕ) → segment_in a k.map q ≡ k.segment → get (s.maps k.map) q ≡ numbered number (before q)) → Allowed s l.cpu e s
+
+-- and the version that was locked is paid for by Done events that were seen: so Busy tells of that many
+pub record Answered (a : About) (l : Known) (k : Lock) (e : Event) (l' : Known) : Type 0 where
+  pub seen : Saw a l e l'.seen
+  pub worn : k.stamp / 256 ≤ a.version + done_in k.map l'.seen
+  pub after : l' ≡ record l { seen = l'.seen; locks = [] }
+
+-- ---- values
+-- the spans that a CPU with these events has looked up in its run, beside others
+abbrev pub spans_of : List Span → List Event → List Span
+spans_of ps [] = ps
+spans_of ps (Begin ∷ es) = spans_of [] es
+spans_of ps (End ∷ es) = spans_of [] es
+spans_of ps (Lookup m key (Some p) ∷ es) = spans_of (p ∷ ps) es
+spans_of ps (e ∷ es) = spans_of ps es
+
+abbrev pub IsAmong : Span → List Span → Type 0
+IsAmong p [] = ⊥
+IsAmong p (q ∷ qs) = (p ≡ q) ⊎ IsAmong p qs
+
+-- the lane holds the value in this element, and these bytes of it lie in one word
+pub record Touches (a : About) (l : Known) (m e k o n : ℕ) : Type 0 where
+  pub element : IsElement a m e
+  pub word : k < words_for (shape_at a m).value
+  pub fits : o + n ≤ 8
+  pub within : 8 * k + o + n ≤ (shape_at a m).value
+  pub held : IsAmong (element_span m (shape_at a m) e) (spans_of [] (events_of l.cpu l.seen))
+  pub runs : in_run (events_of l.cpu l.seen) ≡ true
+
+abbrev pub value_at : About → ℕ → ℕ → ℕ → ℕ → ℕ
+value_at a m e k o = (element_span m (shape_at a m) e).at + (8 * k + o)
+
+-- the number that some bytes of a word read as
+abbrev pub found_in : ℕ → ℕ → ℕ → ℕ
+found_in x o n = number_of (part (low_bytes 8 x) o n)
+
+-- the event is this lane's last, and all else is as it was
+pub record Told (a : About) (l : Known) (e : Event) (l' : Known) : Type 0 where
+  pub seen : Saw a l e l'.seen
+  pub after : l' ≡ record l { seen = l'.seen }
+
+-- ---- count run
+-- the lane's own counter, by its own events
+abbrev pub count_of : About → Known → ℕ
+count_of a l = a.count + turns_of (events_of l.cpu l.seen)
+
+-- ---- see counter: of the CPU whose number comes next
+abbrev pub limbo_set : Known → ℕ → Limbo → Known
+limbo_set l m x = record l { limbo = slice_set l.limbo m x }
+
+abbrev pub noting_next : Known → ℕ → ℕ → Known
+noting_next l m n = limbo_set l m (record (limbo_at l.limbo m) { noted = (limbo_at l.limbo m).noted ++ n ∷ [] })
+
+-- the young batch becomes the old one, and the first counter is noted
+abbrev pub ageing : Known → ℕ → ℕ → Known
+ageing l m n = limbo_set l m (record (limbo_at l.limbo m) { young = []; old = (limbo_at l.limbo m).young; noted = n ∷ [] })
+
+-- a counter that is another now: its CPU holds nothing of the old batch, as one that was even
+abbrev pub cleared : Known → ℕ → ℕ → Known
+cleared l m d = limbo_set l m (record (limbo_at l.limbo m) { noted = slice_set (limbo_at l.limbo m).noted d 0 })
+
+-- ---- retire: the used element in hand goes to the young batch, in front
+abbrev pub retiring : Known → ℕ → ℕ → List ℕ → Known
+retiring l m e us = limbo_set l m (record (limbo_at l.limbo m) { used = us; young = e ∷ (limbo_at l.limbo m).young })
+
+-- ---- give bit, of the old batch: no running CPU may hold the element
+pub record Passed (a : About) (l : Known) (m e : ℕ) (es : List ℕ) : Type 0 where
+  pub old : (limbo_at l.limbo m).old ≡ e ∷ es
+  pub all : length (limbo_at l.limbo m).noted ≡ a.shape.cpus
+  pub even : (d : ℕ) → d < a.shape.cpus → slice_index (limbo_at l.limbo m).noted d % 2 ≡ 0
+
+abbrev pub giving_old : Known → ℕ → List ℕ → Known
+giving_old l m es = limbo_set l m (record (limbo_at l.limbo m) { old = es })
+
+-- ---- claim bit, give bit of an element in hand, fill word
+abbrev pub holding : Known → ℕ → ℕ → Known
+holding l m e = record l { fresh = record { map = m; element = e; key = []; value = [] } ∷ l.fresh }
+
+-- ---- see count, under the lock of a segment where the key isn't: at max the map is full
+pub record Counts (a : About) (l : Known) (k : Lock) (key bytes : List ℕ) (flags : ℕ) : Type 0 where
+  pub lock : l.locks ≡ k ∷ []
+  pub nothing : k.change ≡ Nothing
+  pub home : segment_in a k.map key ≡ k.segment
+  pub key_size : length key ≡ (shape_at a k.map).key
+  pub size : length bytes ≡ (shape_at a k.map).value
+  pub absent : IsAbsent a k key
+  pub flags_known : flags ≤ 1
+  pub runs : in_run (events_of l.cpu l.seen) ≡ true
+
+-- see count, where the flags are none of those known
+pub record Misflagged (a : About) (l : Known) (m : ℕ) (key bytes : List ℕ) (flags : ℕ) : Type 0 where
+  pub map : m < length a.shape.maps
+  pub key_size : length key ≡ (shape_at a m).key
+  pub size : length bytes ≡ (shape_at a m).value
+  pub unknown : 2 < flags
+  pub runs : in_run (events_of l.cpu l.seen) ≡ true
+
+-- ---- fill word
+abbrev pub filling_key : Known → Fresh → List Fresh → ℕ → Known
+filling_key l f rest n = record l { fresh = record f { key = f.key ++ n ∷ [] } ∷ rest }
+
+abbrev pub filling_value : Known → Fresh → List Fresh → ℕ → Known
+filling_value l f rest n = record l { fresh = record f { value = f.value ++ n ∷ [] } ∷ rest }
