@@ -28,8 +28,8 @@ use Rattle.bpf_run.specs.Answer.{status_of, text_of}
 use Rattle.bpf_run.specs.Commands.{IsAnswer, IsAssembled, IsDisassembled, IsReply, IsRun, IsWordsOf, RefusesAssembly, RefusesInput, RefusesProgram, RefusesWords, max_input}
 use Rattle.bpf_run.specs.Laws.{IsOfInput, IsForAnyInput, HasShortContext, RepliesAreDetermined}
 use Rattle.bpf_run.specs.Listing.{word_lines}
-use Rattle.bpf_run.specs.declared.command.Command.{Command}
-use Rattle.bpf_run.specs.declared.command.Command.TheVariants as command
+use Rattle.bpf_command.specs.declared.command.Command.{Command}
+use Rattle.bpf_command.specs.declared.command.Command.TheVariants as command
 use Rattle.bpf_run.specs.declared.input.InputError.TheVariants as input_error
 use Rattle.bpf_run.specs.declared.refusal.Refusal.{Refusal}
 use Rattle.bpf_run.specs.declared.refusal.Refusal.TheVariants as refusal

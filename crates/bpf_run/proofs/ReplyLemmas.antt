@@ -2,7 +2,7 @@
 use Rattle.std.proofs.Common.{◌≡◌, ◌<◌, ℕ, List, Option, Some, None, inl, length, refl, subst}
 use Rattle.std.specs.Prelude.{IfSome}
 use Rattle.bpf_run.specs.Commands.{IsReply, max_input}
-use Rattle.bpf_run.specs.declared.command.Command.{Command}
+use Rattle.bpf_command.specs.declared.command.Command.{Command}
 use Rattle.bpf_run.specs.declared.input.InputError.{InputError}
 use Rattle.bpf_run.specs.declared.input.InputError.TheVariants as input_error
 use Rattle.bpf_run.specs.declared.refusal.Refusal.TheVariants as refusal

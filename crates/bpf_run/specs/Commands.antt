@@ -14,8 +14,8 @@ use Rattle.bpf_text.specs.Form.{canonical}
 use Rattle.bpf_text.specs.HexText.{IsHexOf}
 use Rattle.bpf_text.specs.declared.error.TextError.TheVariants as text_error
 use Rattle.bpf_run.specs.Listing.{word_lines}
-use Rattle.bpf_run.specs.declared.command.Command.{Command}
-use Rattle.bpf_run.specs.declared.command.Command.TheVariants as command
+use Rattle.bpf_command.specs.declared.command.Command.{Command}
+use Rattle.bpf_command.specs.declared.command.Command.TheVariants as command
 use Rattle.bpf_run.specs.declared.input.InputError.TheVariants as input_error
 use Rattle.bpf_run.specs.declared.refusal.Refusal.{Refusal}
 use Rattle.bpf_run.specs.declared.refusal.Refusal.TheVariants as refusal

@@ -5,8 +5,8 @@ use Rattle.bpf_loader.specs.declared.refusal.LoadError.TheVariants as load_error
 use Rattle.bpf_text.specs.declared.error.TextError.TheVariants as text_error
 use Rattle.bpf_run.specs.Answer.{status_of, text_of}
 use Rattle.bpf_run.specs.Commands.{IsReply}
-use Rattle.bpf_run.specs.declared.command.Command.{Command}
-use Rattle.bpf_run.specs.declared.command.Command.TheVariants as command
+use Rattle.bpf_command.specs.declared.command.Command.{Command}
+use Rattle.bpf_command.specs.declared.command.Command.TheVariants as command
 use Rattle.bpf_run.specs.declared.input.InputError.TheVariants as input_error
 use Rattle.bpf_run.specs.declared.refusal.Refusal.{Refusal}
 use Rattle.bpf_run.specs.declared.refusal.Refusal.TheVariants as refusal

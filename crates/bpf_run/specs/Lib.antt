@@ -1,5 +1,4 @@
 pub mod Answer
-pub mod CommandLine
 pub mod Commands
 pub mod Listing
 pub mod Codes

@@ -1,8 +1,6 @@
 //! The program `ebpf`: reads its words, does what they name, and nothing more.
 #![tactic(auto)]
 
-pub mod command;
-pub mod command_line;
 pub mod input;
 pub mod laws;
 pub mod listing;
@@ -12,8 +10,8 @@ pub mod pipeline;
 pub mod refusal;
 pub mod reply;
 
+use bpf_command::{CommandError, command_of};
 use bpf_text::TextError;
-use command_line::{CommandError, command_of};
 use perform::{answer, perform};
 use refusal::Refusal;
 use reply::Reply;

@@ -6,12 +6,12 @@ ghost use Rattle.bpf_run.specs.Answer.{Answers, IsWritten, status_of, text_of};
 ghost use Rattle.bpf_run.specs.Commands.{IsReply, max_input};
 ghost use Rattle.bpf_run.specs.declared.reply.Reply.{Reply};
 
-use crate::command::Command;
 use crate::input::{InputError, read_whole};
 use crate::output::write_whole;
 use crate::pipeline::reply;
 use crate::refusal::Refusal;
 use crate::reply::{Reply, Status};
+use bpf_command::Command;
 use std::alloc::Global;
 use std::io::{Read, Write};
 

@@ -5,10 +5,10 @@ ghost use Rattle.bpf_loader.specs.Sound.{IsSound};
 ghost use Rattle.bpf_shared.specs.Contents.{has_cpu, is_running, shapes_of};
 ghost use Rattle.bpf_run.specs.Commands.{IsAnswer, IsAssembled, IsDisassembled, IsRun, IsWordsOf, RefusesProgram, RefusesWords};
 
-use crate::command::{Command, RunOptions};
 use crate::listing::word_lines;
 use crate::refusal::Refusal;
 use crate::reply::Reply;
+use bpf_command::{Command, RunOptions};
 use bpf_cpu::Cpu;
 use bpf_insn::{Insn, decode, encode};
 use bpf_loader::{Program, load};

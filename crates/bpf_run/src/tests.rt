@@ -1,10 +1,9 @@
 ghost use Rattle.std.specs.Prelude.{◌≤◌};
 
-use crate::command::{Command, RunOptions};
-use crate::command_line::{CommandError, command_of};
 use crate::input::MAX_INPUT;
 use crate::perform::perform;
 use crate::reply::Status;
+use bpf_command::{Command, CommandError, RunOptions, command_of};
 use std::io;
 use std::io::{ErrorKind, Read, Write};
 

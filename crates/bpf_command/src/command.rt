@@ -1,6 +1,13 @@
 //! What the program can be asked for.
 
 ghost use Rattle.std.specs.Prelude.{◌≤◌, vec_len};
+ghost use Rattle.bpf_command.specs.declared.command.TheConstants.{MAX_BUDGET, MAX_CONTEXT};
+
+/// The greatest number of steps that may be asked for.
+pub const MAX_BUDGET: u64 = 1_000_000_000;
+
+/// The greatest number of bytes of a context.
+pub const MAX_CONTEXT: usize = 4096;
 
 /// The options of `hex`, in their ranges.
 #[derive(PartialEq, Eq, Debug, Drop)]
@@ -8,8 +15,8 @@ pub struct RunOptions {
     /// The greatest number of steps.
     pub budget: u64,
     pub context: Vec<u8>,
-    ghost short: { budget ≤ 1000000000 },
-    ghost small: { vec_len context ≤ 4096 },
+    ghost limited: { budget ≤ MAX_BUDGET },
+    ghost small: { vec_len context ≤ MAX_CONTEXT },
 }
 
 /// A command with its options.

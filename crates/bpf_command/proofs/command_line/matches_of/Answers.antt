@@ -1,10 +1,10 @@
 use Rattle.std.proofs.Common.{rules, ◌≡◌, [], List, map, subst, sym}
 use Rattle.std.specs.Prelude.{IfSome}
 use Rattle.clap.specs.Words.{Text, fault_of, subcommand_of, subcommand_rows_of}
-use Rattle.bpf_run.specs.CommandLine.{ebpf}
-use Rattle.bpf_run.proofs.Budget.{BudgetKnown, budget_known}
-use Rattle.bpf_run.proofs.Subcommands.{name_known}
-use Rattle.bpf_run.proofs.command_line.matches_of.Goals as goal
+use Rattle.bpf_command.specs.CommandLine.{ebpf}
+use Rattle.bpf_command.proofs.Budget.{BudgetKnown, budget_known}
+use Rattle.bpf_command.proofs.Subcommands.{name_known}
+use Rattle.bpf_command.proofs.command_line.matches_of.Goals as goal
 
 pub returns-clause-known : goal.returns-clause-known
 returns-clause-known c =

@@ -15,8 +15,8 @@ use Rattle.clap.specs.declared.builder.value_parser.Reading.TheVariants.{AsWritt
 use Rattle.clap.specs.declared.builder.value_parser.ValueParser.TheVariants.{Unsigned}
 use Rattle.clap.specs.declared.parser.matches.ValueSource.TheVariants.{CommandLine, DefaultValue}
 use Rattle.clap.proofs.ValueTestLemmas.{accepts-Accepts}
-use Rattle.bpf_run.specs.CommandLine.{HasBudget, budget, context, ebpf, hex}
-use Rattle.bpf_run.proofs.Walks.{Keeps, first_free, last_free, settle_kept, walk_kept}
+use Rattle.bpf_command.specs.CommandLine.{HasBudget, budget, context, ebpf, hex}
+use Rattle.bpf_command.proofs.Walks.{Keeps, first_free, last_free, settle_kept, walk_kept}
 
 abbrev InRange : Text → Type 0
 InRange = IsUnsignedIn 0 1000000000

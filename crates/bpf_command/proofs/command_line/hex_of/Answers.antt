@@ -1,7 +1,7 @@
 use Rattle.std.proofs.Common.{rules, refl}
 use Rattle.clap.specs.Words.{found_of}
-use Rattle.bpf_run.proofs.Options.{context_in_rows, no_context_in_rows}
-use Rattle.bpf_run.proofs.command_line.hex_of.Goals as goal
+use Rattle.bpf_command.proofs.OptionRows.{context_in_rows, no_context_in_rows}
+use Rattle.bpf_command.proofs.command_line.hex_of.Goals as goal
 
 pub returns-in_err-context-clause-refused : goal.returns-in_err-context-clause-refused
 returns-in_err-context-clause-refused c = search (rules, no_context_in_rows)

@@ -2,9 +2,9 @@ use Rattle.std.proofs.Common.{codes, subst}
 use Rattle.std.specs.Prelude.{IsSomeAnd}
 use Rattle.std.specs.Str.Parse.{ParsesUnsigned, ExplainsUnsignedError, HasUnsignedDigitsIfOk}
 use Rattle.clap.specs.Words.{found_of, one_of, rows_of}
-use Rattle.bpf_run.specs.CommandLine.{NamesBudget}
-use Rattle.bpf_run.proofs.Options.{budget_limited, budget_read}
-use Rattle.bpf_run.proofs.command_line.budget_of.Goals as goal
+use Rattle.bpf_command.specs.CommandLine.{NamesBudget}
+use Rattle.bpf_command.proofs.OptionRows.{budget_limited, budget_read}
+use Rattle.bpf_command.proofs.command_line.budget_of.Goals as goal
 
 pub unreachable-requires : goal.unreachable-requires
 unreachable-requires c =

@@ -7,8 +7,9 @@ use Rattle.clap.specs.Values.{IsUnsignedIn}
 use Rattle.clap.specs.Words.{Text, first_of, first_value, one_of, one_text, rows_of}
 use Rattle.clap.specs.declared.parser.matches.Found.{Found}
 use Rattle.clap.proofs.WalkLemmas.{first_value-rows, one_text-rows}
-use Rattle.bpf_run.specs.CommandLine.{HasBudget, IsBudget, IsContext, NamesBudget, RefusesContext}
-use Rattle.bpf_run.specs.declared.command_line.CommandError.{CommandError}
+use Rattle.bpf_command.specs.CommandLine.{HasBudget, IsBudget, NamesBudget}
+use Rattle.bpf_command.specs.Names.{IsContext, RefusesContext}
+use Rattle.bpf_command.specs.declared.command_line.CommandError.{CommandError}
 
 pub context_in_rows : (f : Found) (bytes : List ℕ) → IsContext (first_value f (codes "ctx")) bytes → IsContext (first_of (codes "ctx") (rows_of f)) bytes
 context_in_rows f bytes h = rw (← first_value-rows f (codes "ctx")) h

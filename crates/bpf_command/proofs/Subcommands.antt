@@ -11,8 +11,8 @@ use Rattle.clap.specs.declared.parser.matches.ArgMatches.TheViews.{out-ArgMatche
 use Rattle.clap.specs.declared.parser.matches.SubCommand.{SubCommand}
 use Rattle.std.specs.Prelude.{Box}
 use Rattle.std.specs.Box.{box_value}
-use Rattle.bpf_run.specs.CommandLine.{IsCommandName, ebpf}
-use Rattle.bpf_run.proofs.Walks.{last_free}
+use Rattle.bpf_command.specs.CommandLine.{IsCommandName, ebpf}
+use Rattle.bpf_command.proofs.Walks.{last_free}
 
 abbrev pub NamesKnown : Option (Text × List Row) → Type 0
 NamesKnown found = IsSomeAnd found (λ p. IsCommandName p.0)

@@ -1,0 +1,66 @@
+-- The command line of `ebpf`, in clap's terms, and the budget that its words name. Our own choice.
+use Rattle.std.specs.Prelude.{◌≡◌, ◌⊎◌, ℕ, List, Option, Some, None, IsSomeAnd, codes, [], ◌∷◌, true, false}
+use Rattle.std.specs.Str.Parse.{digits_value, without_leading_plus}
+use Rattle.clap.specs.Simple.{new_shape}
+use Rattle.clap.specs.Takes.{is_given}
+use Rattle.clap.specs.Values.{IsUnsignedIn}
+use Rattle.clap.specs.Words.{App, Row, Rule, Text, new_app, new_rule, one_of, with_rule, with_subcommand}
+use Rattle.clap.specs.declared.builder.value_parser.ValueParser.TheVariants.{Unsigned}
+use Rattle.bpf_command.specs.declared.command.TheConstants.{MAX_BUDGET}
+
+-- `--budget N`: 0 to `MAX_BUDGET`, and 1,000,000 where it is left out
+abbrev pub budget : Rule
+budget = record (new_rule (codes "budget")) {
+  long = Some (codes "budget");
+  value_names = 1;
+  parser = Some (Unsigned 0 MAX_BUDGET);
+  defaults = codes "1000000" ∷ [];
+}
+
+-- `--ctx HEX`
+abbrev pub context : Rule
+context = record (new_rule (codes "ctx")) { long = Some (codes "ctx"); value_names = 1 }
+
+abbrev pub hex : App
+hex = with_rule (with_rule (new_app (codes "hex")) budget) context
+
+abbrev pub asm : App
+asm = new_app (codes "asm")
+
+abbrev pub disasm : App
+disasm = new_app (codes "disasm")
+
+-- the program, before its commands are added
+abbrev pub bare : App
+bare = record {
+  top = record (new_shape (codes "ebpf")) {
+    has_version = true;
+    subcommand_required = true;
+    disable_help_subcommand = true;
+  };
+  subs = [];
+}
+
+-- `ebpf hex`, `ebpf asm` and `ebpf disasm`, with `--help` and `--version`
+abbrev pub ebpf : App
+ebpf = with_subcommand (with_subcommand (with_subcommand bare hex.top) asm.top) disasm.top
+
+-- the name of one of the three
+abbrev pub IsCommandName : Text → Type 0
+IsCommandName name = (name ≡ codes "hex") ⊎ ((name ≡ codes "asm") ⊎ (name ≡ codes "disasm"))
+
+-- what is found of `--budget`: a number in the range, and the default where it isn't given
+abbrev pub HasBudget : List Row → Type 0
+HasBudget rows = IsSomeAnd (one_of (codes "budget") rows) (IsUnsignedIn 0 MAX_BUDGET)
+    × (is_given (codes "budget") rows ≡ false → one_of (codes "budget") rows ≡ Some (codes "1000000"))
+
+-- the budget that a text names: a number in the range, in decimal digits
+abbrev pub IsBudget : Option Text → ℕ → Type 0
+IsBudget None n = ⊥
+IsBudget (Some text) n = IsUnsignedIn 0 MAX_BUDGET text
+    × (n ≡ digits_value 10 (without_leading_plus text))
+
+-- the budget that the options name: that of the text, and 1,000,000 where the option is left out
+abbrev pub NamesBudget : List Row → ℕ → Type 0
+NamesBudget rows n = IsBudget (one_of (codes "budget") rows) n
+    × (is_given (codes "budget") rows ≡ false → n ≡ 1000000)

@@ -1,0 +1,39 @@
+-- The command that words name, or why they name none. Our own choice.
+use Rattle.std.specs.Prelude.{◌≡◌, ◌<◌, ◌≤◌, ℕ, List, Option, Some, None, Ok, IfOk, IsSomeAnd, codes, [], length}
+use Rattle.hex.specs.Hex.{decode_of}
+use Rattle.clap.specs.Kinds.{IsAmong}
+use Rattle.clap.specs.Words.{Row, Text, fault_of, first_of, kind_of, subcommand_of}
+use Rattle.bpf_command.specs.CommandLine.{NamesBudget, ebpf}
+use Rattle.bpf_command.specs.declared.command.Command.{Command}
+use Rattle.bpf_command.specs.declared.command.Command.TheVariants as command
+use Rattle.bpf_command.specs.declared.command.TheConstants.{MAX_CONTEXT}
+use Rattle.bpf_command.specs.declared.command_line.CommandError.{CommandError}
+use Rattle.bpf_command.specs.declared.command_line.CommandError.TheVariants as error
+
+-- the context's bytes, two hex digits each; none where the option is left out
+abbrev pub IsContext : Option Text → List ℕ → Type 0
+IsContext None bytes = bytes ≡ []
+IsContext (Some digits) bytes = (decode_of digits ≡ Ok bytes) × (length bytes ≤ MAX_CONTEXT)
+
+-- the digits are refused as a context; want of memory may stand in place of any answer
+abbrev pub RefusesContext : Option Text → CommandError → Type 0
+RefusesContext (Some digits) error.NotHex = IfOk (decode_of digits) (λ bytes. MAX_CONTEXT < length bytes)
+RefusesContext _ error.OutOfMemory = Unit {0}
+RefusesContext _ _ = ⊥
+
+-- the command that `clap` finds in the words: a subcommand's name, and what is found of its options
+abbrev pub Names : Option (Text × List Row) → Command → Type 0
+Names None _ = ⊥
+Names (Some found) (command.Hex options) = (found.0 ≡ codes "hex")
+    × NamesBudget found.1 options.budget
+    × IsContext (first_of (codes "ctx") found.1) options.context.items
+Names (Some found) command.Asm = found.0 ≡ codes "asm"
+Names (Some found) command.Disasm = found.0 ≡ codes "disasm"
+
+-- why words name no command: a fault that `clap` finds, or a context that is none
+abbrev pub Refuses : List Text → CommandError → Type 0
+Refuses words (error.Shown shown) = IsAmong (kind_of shown) (fault_of ebpf words)
+Refuses words error.NotHex = (fault_of ebpf words ≡ [])
+    × IsSomeAnd (subcommand_of ebpf words) (λ found. (found.0 ≡ codes "hex")
+    × RefusesContext (first_of (codes "ctx") found.1) error.NotHex)
+Refuses words error.OutOfMemory = Unit {0}

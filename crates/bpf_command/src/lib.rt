@@ -1,0 +1,9 @@
+//! The command line of `ebpf`: what `clap` is told of it, and the command that words name.
+#![tactic(auto)]
+
+pub mod command;
+pub mod command_line;
+mod options;
+
+pub use command::{Command, MAX_BUDGET, MAX_CONTEXT, RunOptions};
+pub use command_line::{CommandError, command_of};

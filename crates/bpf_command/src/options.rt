@@ -1,0 +1,93 @@
+//! What `clap` is told of the command line.
+
+ghost use Rattle.std.specs.Prelude.{◌≡◌, false, IfOk};
+ghost use Rattle.clap.specs.Words.{app_of, rule_of, shape_of};
+ghost use Rattle.clap.specs.declared.builder.command.Command.TheViews.{out-Command as fields_of};
+ghost use Rattle.bpf_command.specs.CommandLine.{asm, bare, budget, context, disasm, ebpf, hex};
+
+use crate::command::MAX_BUDGET;
+use clap::{Arg, Command, value_parser};
+use std::alloc::{AllocError, Global};
+
+const OUTCOMES: &str = "\
+Prints r0=N, fault Fk at PC or out of budget at PC, where a PC counts words of 8 bytes from 0.
+R1 holds the address of the context. Blanks and line ends between digits are passed over.";
+
+const EXIT_STATUS: &str = "\
+All input is standard input, read whole first, and all answers go to standard output.
+
+Exit status:
+  0  the answer is printed
+  1  the input is refused, and the refusal printed, or the output failed
+  2  the command line is at fault
+  3  the program ended in a fault or out of budget";
+
+fn budget_option<'a>(alloc: Global) -> Arg<'a>
+    ensures rule { rule_of result ≡ budget }
+    ensures own { result.global ≡ false }
+{
+    Arg::new(alloc, "budget")
+        .long("budget")
+        .value_name("N")
+        .value_parser(value_parser!(u64).range(0..=MAX_BUDGET as i64))
+        .default_value("1000000")
+        .help("The greatest number of steps, 0 to 1000000000")
+}
+
+fn context_option<'a>(alloc: Global) -> Arg<'a>
+    ensures rule { rule_of result ≡ context }
+    ensures own { result.global ≡ false }
+{
+    Arg::new(alloc, "ctx").long("ctx").value_name("HEX").help(
+        "The bytes of the context, at most 4096, two digits a byte",
+    )
+}
+
+fn hex_command<'a>(alloc: Global) -> Result<Command<'a>, AllocError>
+    ensures shape { IfOk result (λ c. shape_of c ≡ hex.top) }
+    ensures own { IfOk result (λ c. (fields_of c).has_globals ≡ false) }
+{
+    Command::new(alloc, "hex")
+        .about("Runs a program given as hex digits, over no maps")
+        .after_help(OUTCOMES)
+        .arg(budget_option(alloc))?
+        .arg(context_option(alloc))
+}
+
+fn asm_command<'a>(alloc: Global) -> Command<'a>
+    ensures shape { shape_of result ≡ asm.top }
+    ensures own { (fields_of result).has_globals ≡ false }
+{
+    Command::new(alloc, "asm").about(
+        "Turns assembly text into words, one line of 16 hex digits a word",
+    )
+}
+
+fn disasm_command<'a>(alloc: Global) -> Command<'a>
+    ensures shape { shape_of result ≡ disasm.top }
+    ensures own { (fields_of result).has_globals ≡ false }
+{
+    Command::new(alloc, "disasm").about("Turns words given as hex digits into assembly text")
+}
+
+/// The program itself, before its commands are added.
+fn bare_command<'a>(alloc: Global) -> Command<'a>
+    ensures app { app_of result ≡ bare }
+{
+    Command::new(alloc, "ebpf")
+        .version("0.1.0")
+        .about("Runs BPF programs (RFC 9669), and turns them into text and back")
+        .after_help(EXIT_STATUS)
+        .subcommand_required(true)
+        .disable_help_subcommand(true)
+}
+
+/// The command line of the whole program.
+pub fn ebpf_command<'a>(alloc: Global) -> Result<Command<'a>, AllocError>
+    ensures app { IfOk result (λ c. app_of c ≡ ebpf) }
+{
+    let with_hex = bare_command(alloc).subcommand(hex_command(alloc)?)?;
+    let with_asm = with_hex.subcommand(asm_command(alloc))?;
+    let whole = with_asm.subcommand(disasm_command(alloc))?;
+    Ok(whole)
+}
