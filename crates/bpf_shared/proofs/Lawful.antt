@@ -20,12 +20,16 @@ use Rattle.bpf_shared.specs.declared.events.MapAnswer.TheVariants.{Done, Invalid
 use Rattle.bpf_shared.specs.declared.shapes.MapShape.{MapShape}
 use Rattle.bpf_shared.specs.First.{first_of}
 use Rattle.bpf_shared.specs.Shape.{IsMap, element_span}
-use Rattle.bpf_shared.specs.Bytes.{bytes_in, number_of, low_bytes, part, with_part, after_atomic}
+use Rattle.bpf_base.specs.Bytes.{little_endian, low_bytes, part, with_part}
+use Rattle.bpf_base.specs.Atomic.{number_after}
+use Rattle.bpf_base.proofs.Numbers.{length-low_bytes}
+use Rattle.bpf_base.proofs.Parts.{part-with_part}
+use Rattle.bpf_shared.specs.Access.{bytes_in, change_of}
 use Rattle.bpf_shared.specs.Store.{Keys, Value, Plain}
 use Rattle.bpf_shared.specs.Events.{after_lookup, refusals, after_update, Updates, Deletes, Reaches, after_write, number_in, Allowed}
 use Rattle.bpf_shared.specs.Choice.{IsShort, IsLowestFree, Chosen, PlainlyAllowed}
 use Rattle.bpf_shared.specs.Sound.{IsSoundStore}
-use Rattle.bpf_shared.proofs.Soundness.{as_made_sound, legal_sound, span-after_write, length-low_bytes}
+use Rattle.bpf_shared.proofs.Soundness.{as_made_sound, legal_sound, span-after_write}
 use Rattle.bpf_shared.proofs.Puts.{equal_or_not, put-same, put-other}
 use Rattle.bpf_shared.specs.Laws.{LegalIsSound, ValuesStay, RefusalsChangeNothing, MakesValue, UpdatesMakeValues, OneValueIsReached, WritesTouchNamedBytes, asked, CallsHaveOneReply}
 
@@ -147,12 +151,6 @@ module _ (bs others : List ℕ) (i : ℕ) (l : i + length others ≤ length bs) 
       get_or-append_right (take i bs ++ others) (drop (i + length others) bs) (i + length others) k 0 whole h
       ∙ (get_or-drop (i + length others) bs (k - (i + length others)) 0 ∙ ap (λ (n : ℕ). get_or bs n 0) (let e : i + length others + (k - (i + length others)) ≡ k = omega arith in e))
 
-  these_bytes : part (with_part bs i others) i (length others) ≡ others
-  these_bytes =
-      ap (λ (z : List ℕ). take (length others) (drop i z)) (append_assoc (take i bs) others (drop (i + length others) bs))
-      ∙ (ap (λ (n : ℕ). take (length others) (drop n (take i bs ++ (others ++ drop (i + length others) bs)))) (sym front)
-      ∙ (ap (take (length others)) (drop-append_seam (take i bs) (others ++ drop (i + length others) bs)) ∙ take-append_seam others (drop (i + length others) bs)))
-
 pub writes_touch_named_bytes : WritesTouchNamedBytes
 writes_touch_named_bytes s c v a n x so r =
     let bs = (s.value v).bytes in
@@ -172,8 +170,8 @@ writes_touch_named_bytes s c v a n x so r =
             | inl k ↦ byte_before bs low i fits (b - (s.value v).span.at) (let h : (s.value v).span.at ≤ b = inside.0 in omega arith)
             | inr k ↦ byte_behind bs low i fits (b - (s.value v).span.at) (let h : (s.value v).span.at ≤ b = inside.0 in omega arith)
           ],
-      ap (λ (y : Value). number_of (part y.bytes (a - y.span.at) n)) here
-          ∙ (ap (λ (k : ℕ). number_of (part (with_part bs i low) i k)) (sym low_size) ∙ ap number_of (these_bytes bs low i fits)),
+      ap (λ (y : Value). little_endian (part y.bytes (a - y.span.at) n)) here
+          ∙ (ap (λ (k : ℕ). little_endian (part (with_part bs i low) i k)) (sym low_size) ∙ ap little_endian (part-with_part bs i low fits)),
     )
 
 some_bytes : (size : Size) → 0 < bytes_in size
@@ -287,8 +285,8 @@ module _ (s : Plain) (so : IsSoundStore s) (c : ℕ) (at : ℕ) (size : Size) wh
       let found : x ≡ y = p.1.2 ∙ (ap (λ (v : ℕ). number_in s v at (bytes_in size)) (sym reached) ∙ sym q.1.2) in (
         found,
         p.1.3
-            ∙ (ap (λ (z : ℕ). after_write s p.1.0 at (bytes_in size) (after_atomic op (bytes_in size) z operand expected)) found
-            ∙ (ap (λ (v : ℕ). after_write s v at (bytes_in size) (after_atomic op (bytes_in size) y operand expected)) (sym reached) ∙ sym q.1.3)),
+            ∙ (ap (λ (z : ℕ). after_write s p.1.0 at (bytes_in size) (number_after (change_of op) (bytes_in size) z operand expected)) found
+            ∙ (ap (λ (v : ℕ). after_write s v at (bytes_in size) (number_after (change_of op) (bytes_in size) y operand expected)) (sym reached) ∙ sym q.1.3)),
       )
 
 -- the same call, with the reply of another event

@@ -3,7 +3,6 @@ pub mod Soundness
 pub mod Lawful
 pub mod Chains
 pub mod Passages
-pub mod Mapped
 pub mod Forgotten
 pub mod Refusing
 pub mod Searching

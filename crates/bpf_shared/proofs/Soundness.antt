@@ -15,7 +15,9 @@ use Rattle.bpf_shared.specs.declared.events.MapAnswer.TheVariants.{Done, Invalid
 use Rattle.bpf_shared.specs.declared.shapes.MapShape.{MapShape}
 use Rattle.bpf_shared.specs.First.{first_of}
 use Rattle.bpf_shared.specs.Shape.{Shape, IsMap, IsApart}
-use Rattle.bpf_shared.specs.Bytes.{low_bytes, with_part}
+use Rattle.bpf_base.specs.Bytes.{low_bytes, with_part}
+use Rattle.bpf_base.proofs.Numbers.{length-low_bytes}
+use Rattle.bpf_base.proofs.Parts.{length-with_part}
 use Rattle.bpf_shared.specs.Store.{Keys, Value, Plain, put, never, as_made, Finds, IsInMap, IsLive}
 use Rattle.bpf_shared.specs.Events.{after_begin, after_end, after_lookup, has_key, refusals, kept_after, after_update, Updates, after_delete, Deletes, Reaches, after_write, Allowed}
 use Rattle.bpf_shared.specs.History.{Legal, PlainlyLegal}
@@ -278,18 +280,6 @@ span-after_write s v a n x w = go (equal_or_not w v)
     go : (w ≡ v) ⊎ (w ≢ v) → ((after_write s v a n x).value w).span ≡ (s.value w).span
     go (inl e) = ap (λ (y : Value). y.span) (put-same s.value v w _ e) ∙ ap (λ (k : ℕ). (s.value k).span) (sym e)
     go (inr ne) = ap (λ (y : Value). y.span) (put-other s.value v w _ ne)
-
-pub length-low_bytes : (n x : ℕ) → length (low_bytes n x) ≡ n
-length-low_bytes zero x = refl
-length-low_bytes (suc n) x = ap suc (length-low_bytes n (x / 256))
-
-pub length-with_part : (bs : List ℕ) (i : ℕ) (others : List ℕ) → i + length others ≤ length bs → length (with_part bs i others) ≡ length bs
-length-with_part bs i others l =
-    let front = length-take-le i bs (omega arith) in
-    let back = length-drop (i + length others) bs in
-    let first = length-append (take i bs) others in
-    let whole = length-append (take i bs ++ others) (drop (i + length others) bs) in
-    omega arith
 
 length-after_write : (s : Plain) (v a n x : ℕ) → IsSoundStore s → (c : ℕ) → Reaches s c v a n → length (with_part (s.value v).bytes (a - (s.value v).span.at) (low_bytes n x)) ≡ (s.value v).span.size
 length-after_write s v a n x so c r =

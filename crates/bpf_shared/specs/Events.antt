@@ -9,7 +9,9 @@ use Rattle.bpf_shared.specs.declared.events.Event.TheVariants.{Begin, End, Looku
 use Rattle.bpf_shared.specs.declared.shapes.MapShape.{MapShape}
 use Rattle.bpf_shared.specs.First.{first_of}
 use Rattle.bpf_shared.specs.Shape.{IsMap, IsKeyOf, elements, element_span, IsApart, Covers}
-use Rattle.bpf_shared.specs.Bytes.{bytes_in, number_of, low_bytes, part, with_part, after_atomic}
+use Rattle.bpf_base.specs.Bytes.{little_endian, low_bytes, part, with_part}
+use Rattle.bpf_base.specs.Atomic.{number_after}
+use Rattle.bpf_shared.specs.Access.{bytes_in, change_of}
 use Rattle.bpf_shared.specs.Store.{Value, Plain, put, never, IsLive}
 
 -- ---- runs
@@ -102,7 +104,7 @@ pub record Reaches (s : Plain) (c v a n : ℕ) : Type 0 where
 
 -- the number that these bytes read as
 abbrev pub number_in : Plain → ℕ → ℕ → ℕ → ℕ
-number_in s v a n = number_of (part (s.value v).bytes (a - (s.value v).span.at) n)
+number_in s v a n = little_endian (part (s.value v).bytes (a - (s.value v).span.at) n)
 
 -- these bytes become the low bytes of a number; all else stays
 abbrev pub after_write : Plain → ℕ → ℕ → ℕ → ℕ → Plain
@@ -127,7 +129,7 @@ Does s c (Store a size x) t =
     (v : ℕ) × Reaches s c v a (bytes_in size) × (t ≡ after_write s v a (bytes_in size) x)
 Does s c (Atomic a size op operand expected found) t =
     (v : ℕ) × Reaches s c v a (bytes_in size) × (found ≡ number_in s v a (bytes_in size))
-    × (t ≡ after_write s v a (bytes_in size) (after_atomic op (bytes_in size) found operand expected))
+    × (t ≡ after_write s v a (bytes_in size) (number_after (change_of op) (bytes_in size) found operand expected))
 
 -- what the plain store allows: a run begins where there is none, all else happens in a run
 abbrev pub Allowed : Plain → ℕ → Event → Plain → Type 0

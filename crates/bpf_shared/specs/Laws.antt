@@ -6,7 +6,7 @@ use Rattle.bpf_shared.specs.declared.events.Event.TheVariants.{Begin, End, Looku
 use Rattle.bpf_shared.specs.declared.events.MapAnswer.{MapAnswer}
 use Rattle.bpf_shared.specs.declared.events.MapAnswer.TheVariants.{Done}
 use Rattle.bpf_shared.specs.Shape.{Shape, IsIn}
-use Rattle.bpf_shared.specs.Bytes.{number_of, low_bytes}
+use Rattle.bpf_base.specs.Bytes.{little_endian, low_bytes}
 use Rattle.bpf_shared.specs.Store.{Plain, as_made, Finds}
 use Rattle.bpf_shared.specs.Events.{Allowed, Reaches, after_write, number_in}
 use Rattle.bpf_shared.specs.Choice.{PlainlyAllowed}
@@ -51,7 +51,7 @@ abbrev pub WritesTouchNamedBytes : Type 0
 WritesTouchNamedBytes = (s : Plain) (c v a n x : ℕ) → IsSoundStore s → Reaches s c v a n →
     ((w : ℕ) → w ≢ v → (after_write s v a n x).value w ≡ s.value w)
     × ((b : ℕ) → IsIn b (s.value v).span → (b < a) ⊎ (a + n ≤ b) → byte_at (after_write s v a n x) v b ≡ byte_at s v b)
-    × (number_in (after_write s v a n x) v a n ≡ number_of (low_bytes n x))
+    × (number_in (after_write s v a n x) v a n ≡ little_endian (low_bytes n x))
 
 -- the call that an event answers: the event with a reply that says nothing
 abbrev pub asked : Event → Event

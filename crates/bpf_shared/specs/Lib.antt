@@ -1,7 +1,7 @@
 pub mod First
 pub mod Shape
 pub mod Refusals
-pub mod Bytes
+pub mod Access
 pub mod Store
 pub mod Events
 pub mod Choice

@@ -29,6 +29,11 @@ pub record IsShape (s : Shape) : Type 0 where
 abbrev pub IsKeyOf : List MapShape → ℕ → List ℕ → Type 0
 IsKeyOf maps m key = (h : MapShape) × IsMap maps m h × (length key ≡ h.key)
 
+-- the map is there, and the key and the value have its sizes
+abbrev pub IsPairOf : List MapShape → ℕ → List ℕ → List ℕ → Type 0
+IsPairOf maps m key bytes =
+    (h : MapShape) × IsMap maps m h × (length key ≡ h.key) × (length bytes ≡ h.value)
+
 -- a map has room for its keys' values, and for some that have left it
 abbrev pub elements : MapShape → ℕ
 elements h = h.max + h.spare

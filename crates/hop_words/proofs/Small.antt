@@ -7,7 +7,7 @@ use mathlib.Core.Logic.{dite}
 use native.Mathlib.Decide.{ℕ_discrete, dec_lt}
 use Rattle.bpf_shared.specs.declared.shapes.MapShape.{MapShape}
 use Rattle.bpf_shared.specs.Shape.{Shape, IsMap, IsMapShape, IsShape, elements, element_stride, element_span, IsApart, IsIn}
-use Rattle.bpf_shared.specs.Bytes.{number_of, low_bytes}
+use Rattle.bpf_base.specs.Bytes.{little_endian, low_bytes}
 use Rattle.bpf_shared.specs.Store.{put}
 use Rattle.bpf_shared.proofs.Puts.{put-same, put-other}
 use Rattle.hop_words.specs.Layout.{map_shape, no_map}
@@ -140,14 +140,14 @@ spelled_same (suc n) f g e =
     let b = spelled_same n (λ k. f (k + 1)) (λ k. g (k + 1)) (λ k l. e (k + 1) (omega arith)) in
     λ i. a i ++ b i
 
-low_of : (k : ℕ) (bs : List ℕ) → AreBytes bs → length bs ≤ k → take (length bs) (low_bytes k (number_of bs)) ≡ bs
+low_of : (k : ℕ) (bs : List ℕ) → AreBytes bs → length bs ≤ k → take (length bs) (low_bytes k (little_endian bs)) ≡ bs
 low_of k [] b l = refl
 low_of zero (x ∷ bs) b l = absurd (omega arith)
 low_of (suc k) (x ∷ bs) b l =
     let small : x < 256 = b.0 in
-    let h : (x + 256 * number_of bs) % 256 ≡ x = grind arith in
-    let t : (x + 256 * number_of bs) / 256 ≡ number_of bs = grind arith in
-    let r : take (length bs) (low_bytes k ((x + 256 * number_of bs) / 256)) ≡ bs = ap (λ (n : ℕ). take (length bs) (low_bytes k n)) t ∙ low_of k bs b.1 (omega arith) in
+    let h : (x + 256 * little_endian bs) % 256 ≡ x = grind arith in
+    let t : (x + 256 * little_endian bs) / 256 ≡ little_endian bs = grind arith in
+    let r : take (length bs) (low_bytes k ((x + 256 * little_endian bs) / 256)) ≡ bs = ap (λ (n : ℕ). take (length bs) (low_bytes k n)) t ∙ low_of k bs b.1 (omega arith) in
     λ i. h i ∷ r i
 
 length-low : (n x : ℕ) → length (low_bytes n x) ≡ n
@@ -165,7 +165,7 @@ bytes_drop (suc n) [] b = tt
 bytes_drop (suc n) (x ∷ bs) b = bytes_drop n bs b.1
 
 word_later : (bs : List ℕ) (k : ℕ) → word_of bs (k + 1) ≡ word_of (drop 8 bs) k
-word_later bs k = ap (λ (l : List ℕ). number_of (take 8 l)) (ap (λ (n : ℕ). drop n bs) (let z : 8 * (k + 1) ≡ 8 + 8 * k = omega arith in z) ∙ sym (drop-drop (8 * k) 8 bs))
+word_later bs k = ap (λ (l : List ℕ). little_endian (take 8 l)) (ap (λ (n : ℕ). drop n bs) (let z : 8 * (k + 1) ≡ 8 + 8 * k = omega arith in z) ∙ sym (drop-drop (8 * k) 8 bs))
 
 -- the words of bytes spell these bytes
 pub spelled_back : (n : ℕ) (bs : List ℕ) → AreBytes bs → length bs ≤ 8 * n → take (length bs) (spelled n (word_of bs)) ≡ bs
@@ -177,15 +177,15 @@ spelled_back (suc n) bs b l = back_by (λ xs c k. spelled_back n xs c k)
     rest = spelled n (λ k. word_of bs (k + 1))
 
     first : List ℕ
-    first = low_bytes 8 (number_of (take 8 bs))
+    first = low_bytes 8 (little_endian (take 8 bs))
 
     len : length first ≡ 8
-    len = length-low 8 (number_of (take 8 bs))
+    len = length-low 8 (little_endian (take 8 bs))
 
     short : (8 < length bs → ⊥) → take (length bs) (first ++ rest) ≡ bs
     short nl =
         let all : take 8 bs ≡ bs = take_all 8 bs (grind arith) in
-        take-append-le (length bs) first rest (grind arith) ∙ (ap (λ (x : List ℕ). take (length bs) (low_bytes 8 (number_of x))) all ∙ low_of 8 bs b (grind arith))
+        take-append-le (length bs) first rest (grind arith) ∙ (ap (λ (x : List ℕ). take (length bs) (low_bytes 8 (little_endian x))) all ∙ low_of 8 bs b (grind arith))
 
     long : ((xs : List ℕ) → AreBytes xs → length xs ≤ 8 * n → take (length xs) (spelled n (word_of xs)) ≡ xs) → 8 < length bs → take (length bs) (first ++ rest) ≡ bs
     long again l8 =

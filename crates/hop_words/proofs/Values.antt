@@ -8,7 +8,9 @@ use Rattle.bpf_shared.specs.declared.events.Size.{Size}
 use Rattle.bpf_shared.specs.declared.events.AtomicOp.{AtomicOp}
 use Rattle.bpf_shared.specs.Shape.{element_span, Covers}
 use Rattle.bpf_shared.specs.Store.{Plain, Value, put}
-use Rattle.bpf_shared.specs.Bytes.{bytes_in, number_of, low_bytes, part, with_part, after_atomic}
+use Rattle.bpf_base.specs.Bytes.{little_endian, low_bytes, part, with_part}
+use Rattle.bpf_base.specs.Atomic.{number_after}
+use Rattle.bpf_shared.specs.Access.{bytes_in, change_of}
 use Rattle.bpf_shared.specs.Events.{Allowed, Reaches, number_in, after_write}
 use Rattle.bpf_shared.specs.History.{entry, events_of}
 use Rattle.bpf_shared.proofs.Puts.{put-same, put-other}
@@ -80,9 +82,9 @@ module _ (a : About) (l : Known) (m e k o b : ℕ) (i : Touches a l m e k o b) (
   offset_is = ap (λ s. value_at a m e k o - s.at) span_is ∙ omega arith
 
   found_is : found_in (w (ValueWord m e k)) o b ≡ number_in g.last v (value_at a m e k o) b
-  found_is = sym (ap (λ (n : ℕ). number_of (part (g.last.value v).bytes n b)) offset_is
-      ∙ (ap (λ (x : Value). number_of (part x.bytes (8 * k + o) b)) value_is
-      ∙ ap number_of (value_part (shape_at a m).value (words_for (shape_at a m).value) k o b (λ j. w (ValueWord m e j)) i.word i.fits i.within)))
+  found_is = sym (ap (λ (n : ℕ). little_endian (part (g.last.value v).bytes n b)) offset_is
+      ∙ (ap (λ (x : Value). little_endian (part x.bytes (8 * k + o) b)) value_is
+      ∙ ap little_endian (value_part (shape_at a m).value (words_for (shape_at a m).value) k o b (λ j. w (ValueWord m e j)) i.word i.fits i.within)))
 
   -- ---- a word some bytes of which become others
   module _ (x y : ℕ) (splices : low_bytes 8 x ≡ with_part (low_bytes 8 (w (ValueWord m e k))) o (low_bytes b y)) where
@@ -186,14 +188,14 @@ module _ (a : About) (l : Known) (m e k o b : ℕ) (i : Touches a l m e k o b) (
   may_store sz y n = (running_is a w g r l is inside i.runs, (v, subst (Reaches g.last l.cpu v (value_at a m e k o)) (sym n) reaches, ap (λ (c : ℕ). after_write g.last v (value_at a m e k o) c y) (sym n)))
 
   pub may_atomic : (sz : Size) (op : AtomicOp) (operand expected : ℕ) → bytes_in sz ≡ b → (let f = found_in (w (ValueWord m e k)) o b in
-      Allowed g.last l.cpu (Atomic (value_at a m e k o) sz op operand expected f) (after_write g.last v (value_at a m e k o) b (after_atomic op b f operand expected)))
+      Allowed g.last l.cpu (Atomic (value_at a m e k o) sz op operand expected f) (after_write g.last v (value_at a m e k o) b (number_after (change_of op) b f operand expected)))
   may_atomic sz op operand expected n = (
     running_is a w g r l is inside i.runs,
     (
       v,
       subst (Reaches g.last l.cpu v (value_at a m e k o)) (sym n) reaches,
       found_is ∙ ap (number_in g.last v (value_at a m e k o)) (sym n),
-      ap (λ (c : ℕ). after_write g.last v (value_at a m e k o) c (after_atomic op c (found_in (w (ValueWord m e k)) o b) operand expected)) (sym n),
+      ap (λ (c : ℕ). after_write g.last v (value_at a m e k o) c (number_after (change_of op) c (found_in (w (ValueWord m e k)) o b) operand expected)) (sym n),
     ),
   )
 
@@ -236,15 +238,15 @@ value_store_part a l m e k o sz old x y i splices ws g sized r is inside fits =
 
 -- the same for an atomic operation
 pub value_atomic_part : (a : About) (l : Known) (m e k o : ℕ) (sz : Size) (op : AtomicOp) (operand expected old x : ℕ) → Touches a l m e k o (bytes_in sz)
-    → low_bytes 8 x ≡ with_part (low_bytes 8 old) o (low_bytes (bytes_in sz) (after_atomic op (bytes_in sz) (found_in old o (bytes_in sz)) operand expected))
+    → low_bytes 8 x ≡ with_part (low_bytes 8 old) o (low_bytes (bytes_in sz) (number_after (change_of op) (bytes_in sz) (found_in old o (bytes_in sz)) operand expected))
     → Steps a l (ValueWord m e k) (λ n. either (n == old) x n) (λ ws n l'. (n ≡ old → Told a l (Atomic (value_at a m e k o) sz op operand expected (found_in old o (bytes_in sz))) l') × (n ≢ old → l' ≡ l))
 value_atomic_part a l m e k o sz op operand expected old x i splices ws g sized r is inside fits =
     let w = mem a.shape ws in
     let b = bytes_in sz in
     let ev = Atomic (value_at a m e k o) sz op operand expected in
     exchanged (w (ValueWord m e k)) old x (λ n. Next a (put_at w (ValueWord m e k) n) g l.cpu (λ l'. (w (ValueWord m e k) ≡ old → Told a l (ev (found_in old o b)) l') × (w (ValueWord m e k) ≢ old → l' ≡ l)))
-    (λ found. let n = write_next a l m e k o b i w g r is inside x (after_atomic op b (found_in (w (ValueWord m e k)) o b) operand expected)
-    (splices ∙ ap (λ (z : ℕ). with_part (low_bytes 8 z) o (low_bytes b (after_atomic op b (found_in z o b) operand expected))) (sym found)) (ev (found_in (w (ValueWord m e k)) o b)) refl (may_atomic a l m e k o b i w g r is inside sz op operand expected refl) in record {
+    (λ found. let n = write_next a l m e k o b i w g r is inside x (number_after (change_of op) b (found_in (w (ValueWord m e k)) o b) operand expected)
+    (splices ∙ ap (λ (z : ℕ). with_part (low_bytes 8 z) o (low_bytes b (number_after (change_of op) b (found_in z o b) operand expected))) (sym found)) (ev (found_in (w (ValueWord m e k)) o b)) refl (may_atomic a l m e k o b i w g r is inside sz op operand expected refl) in record {
       ghost = n.ghost;
       rule = n.rule;
       others = n.others;
@@ -255,10 +257,10 @@ value_atomic_part a l m e k o sz op operand expected old x i splices ws g sized 
 
 -- a fetch operation or a swap on a whole word
 pub value_fetch : (a : About) (l : Known) (m e k o : ℕ) (sz : Size) (op : AtomicOp) (operand expected : ℕ) (f : ℕ → ℕ) → Touches a l m e k o (bytes_in sz)
-    → ((n : ℕ) → n < 18446744073709551616 → low_bytes 8 (f n) ≡ with_part (low_bytes 8 n) o (low_bytes (bytes_in sz) (after_atomic op (bytes_in sz) (found_in n o (bytes_in sz)) operand expected)))
+    → ((n : ℕ) → n < 18446744073709551616 → low_bytes 8 (f n) ≡ with_part (low_bytes 8 n) o (low_bytes (bytes_in sz) (number_after (change_of op) (bytes_in sz) (found_in n o (bytes_in sz)) operand expected)))
     → Steps a l (ValueWord m e k) f (λ ws n l'. Told a l (Atomic (value_at a m e k o) sz op operand expected (found_in n o (bytes_in sz))) l')
 value_fetch a l m e k o sz op operand expected f i splices ws g sized r is inside fits =
     let w = mem a.shape ws in
     let n = w (ValueWord m e k) in
-    write_next a l m e k o (bytes_in sz) i w g r is inside (f n) (after_atomic op (bytes_in sz) (found_in n o (bytes_in sz)) operand expected) (splices n fits)
+    write_next a l m e k o (bytes_in sz) i w g r is inside (f n) (number_after (change_of op) (bytes_in sz) (found_in n o (bytes_in sz)) operand expected) (splices n fits)
     (Atomic (value_at a m e k o) sz op operand expected (found_in n o (bytes_in sz))) refl (may_atomic a l m e k o (bytes_in sz) i w g r is inside sz op operand expected refl)

@@ -5,7 +5,7 @@ use mathlib.Core.Logic.{dite}
 use Rattle.std.proofs.lemmas.List.{take-append-le, length-take-le, take-take, drop-append-le, drop-take}
 use Rattle.std.proofs.Math.Seq.{take-append-add, drop-append-add, drop-length}
 use Rattle.std.proofs.lemmas.List.{append-nil}
-use Rattle.bpf_shared.specs.Bytes.{low_bytes, part, with_part}
+use Rattle.bpf_base.specs.Bytes.{low_bytes, part, with_part}
 use Rattle.bpf_shared.specs.Store.{put}
 use Rattle.bpf_shared.proofs.Puts.{put-other}
 use Rattle.hop_words.specs.Homes.{spelled}

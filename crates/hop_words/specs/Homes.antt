@@ -1,7 +1,7 @@
 -- Where a key is at home, and the words that bytes lie in.
 use Rattle.std.specs.Prelude.{ℕ, zero, suc, ◌+◌, ◌*◌, ◌/◌, ◌%◌, ◌^◌, ◌<◌, List, [], ◌∷◌, ◌++◌}
 use Rattle.bpf_shared.specs.declared.shapes.MapShape.{MapShape}
-use Rattle.bpf_shared.specs.Bytes.{number_of, low_bytes, part}
+use Rattle.bpf_base.specs.Bytes.{little_endian, low_bytes, part}
 use Rattle.hop_words.specs.Home.{home_of}
 use Rattle.hop_words.specs.Layout.{depth, power}
 
@@ -17,7 +17,7 @@ AreBytes (b ∷ bs) = (b < 256) × AreBytes bs
 
 -- the k-th word of bytes: eight of them, the lowest first, and zeros behind the last
 abbrev pub word_of : List ℕ → ℕ → ℕ
-word_of bs k = number_of (part bs (8 * k) 8)
+word_of bs k = little_endian (part bs (8 * k) 8)
 
 -- the bytes of n words
 abbrev pub spelled : ℕ → (ℕ → ℕ) → List ℕ

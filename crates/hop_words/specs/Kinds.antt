@@ -8,7 +8,7 @@ use Rattle.bpf_shared.specs.declared.events.Span.{Span}
 use Rattle.bpf_shared.specs.Shape.{elements, element_span}
 use Rattle.std.specs.FinMap.{get}
 use Rattle.bpf_shared.specs.Store.{Plain}
-use Rattle.bpf_shared.specs.Bytes.{number_of, low_bytes, part}
+use Rattle.bpf_base.specs.Bytes.{little_endian, low_bytes, part}
 use Rattle.bpf_shared.specs.Events.{Allowed}
 use Rattle.bpf_shared.specs.History.{IsLegal, events_of, entry}
 use Rattle.hop_words.specs.declared.known.About.{About}
@@ -233,7 +233,7 @@ value_at a m e k o = (element_span m (shape_at a m) e).at + (8 * k + o)
 
 -- the number that some bytes of a word read as
 abbrev pub found_in : ℕ → ℕ → ℕ → ℕ
-found_in x o n = number_of (part (low_bytes 8 x) o n)
+found_in x o n = little_endian (part (low_bytes 8 x) o n)
 
 -- the event is this lane's last, and all else is as it was
 pub record Told (a : About) (l : Known) (e : Event) (l' : Known) : Type 0 where

@@ -1,6 +1,6 @@
 use Rattle.std.proofs.Common.{◌≡◌, ℕ, ◌<◌, length, map, inr, refl, subst, ap, sym, ◌∙◌, arith}
 use Rattle.std.proofs.lemmas.List.{with_items_is}
-use Rattle.bpf_shared.proofs.Mapped.{first_mapped, first_mapped_more, first_mapped-length}
+use Rattle.bpf_base.proofs.Mapped.{first_mapped, first_mapped_more, first_mapped-length}
 use Rattle.bpf_shared.specs.Rows.{Rows, forgotten_rows}
 use Rattle.bpf_shared.specs.Contents.{Contents, IsStore}
 use Rattle.bpf_shared.proofs.Counting.{served, forgot, recounted_store}

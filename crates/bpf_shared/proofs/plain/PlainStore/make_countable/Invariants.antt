@@ -1,6 +1,6 @@
 use Rattle.std.proofs.Common.{◌≡◌}
 use Rattle.bpf_shared.specs.Rows.{forgotten_rows}
-use Rattle.bpf_shared.proofs.Mapped.{first_mapped}
+use Rattle.bpf_base.proofs.Mapped.{first_mapped}
 use Rattle.bpf_shared.proofs.plain.PlainStore.make_countable.Given as goal
 
 abbrev pub invariant-loop-table : goal.invariant-loop-table

@@ -1,6 +1,6 @@
 use Rattle.std.proofs.Common.{◌≡◌, ℕ, List, length, map, subst, ap, sym, ◌∙◌, arith}
 use Rattle.std.proofs.lemmas.List.{with_items_is}
-use Rattle.bpf_shared.proofs.Mapped.{first_mapped, first_mapped_more, first_mapped-length}
+use Rattle.bpf_base.proofs.Mapped.{first_mapped, first_mapped_more, first_mapped-length}
 use Rattle.bpf_shared.specs.Rows.{Cell, forgotten, forgotten_rows, IsTable}
 use Rattle.bpf_shared.proofs.Forgotten.{forgotten_table}
 use Rattle.bpf_shared.proofs.table.Table.forget.Goals as goal

@@ -1,6 +1,6 @@
 use Rattle.std.proofs.Common.{◌≡◌}
 use Rattle.bpf_shared.specs.Rows.{forgotten}
-use Rattle.bpf_shared.proofs.Mapped.{first_mapped}
+use Rattle.bpf_base.proofs.Mapped.{first_mapped}
 use Rattle.bpf_shared.proofs.table.Table.forget.Given as goal
 
 abbrev pub invariant-loop-element : goal.invariant-loop-element
