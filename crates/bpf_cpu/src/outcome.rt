@@ -36,3 +36,23 @@ pub enum Turn {
     /// The job has ended.
     Done(Outcome),
 }
+
+/// A step's answer in one byte: the rest of it stands in the CPU that the step leaves.
+#[derive(Clone, Copy)]
+pub(crate) enum Next {
+    On,
+    Exit,
+    BadAddress,
+    Misaligned,
+    CallDepth,
+    NotAMap,
+    TooManyHeld,
+}
+
+/// What executing an instruction came to.
+pub(crate) enum Executed {
+    /// It is done.
+    Here(Next),
+    /// It calls the helper of this number, and nothing is done yet.
+    Helper(u32),
+}
