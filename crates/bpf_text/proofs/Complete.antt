@@ -24,11 +24,21 @@ use Rattle.bpf_text.specs.declared.keywords.Keyword.{Keyword}
 use Rattle.bpf_text.specs.declared.keywords.Keyword.TheVariants as key
 use Rattle.bpf_text.specs.declared.signs.Sign.{Sign}
 use Rattle.bpf_text.specs.declared.signs.Sign.TheVariants as sign
+use Rattle.bpf_insn.specs.declared.operation.ByteSwap.TheVariants as swap
+use Rattle.bpf_insn.specs.declared.operation.SwapWidth.TheVariants as bits
+use Rattle.bpf_insn.specs.declared.operation.Size.TheVariants as size
+use Rattle.bpf_insn.specs.declared.operation.SignedSize.TheVariants as signed_size
+use Rattle.bpf_text.specs.declared.atomics.AtomicForm.{AtomicForm}
+use Rattle.bpf_text.specs.declared.atomics.AtomicForm.TheVariants as form
+use Rattle.bpf_text.specs.declared.operators.Operator.{Operator}
+use Rattle.bpf_text.specs.declared.operators.Operator.TheVariants.{Plain, Signed as SignedBy}
+use Rattle.bpf_text.specs.Operators.{operator_of, comparison_of, atomic_form}
 use Rattle.bpf_text.specs.Token.{Tok, Register, Word, Name, Number, Mark}
-use Rattle.bpf_text.specs.Form.{Item, Is, Blank, Natural, Hex, Offset, Target, mark, reg, word, address, cell, cell_size, op_items, condition_items, operand_item, extended_width, extended_size, locked, fetched, atomic_items, form_of}
+use Rattle.bpf_text.specs.Form.{Item, Is, Blank, Natural, Hex, Offset, Target as TargetItem, mark, reg, word, address, cell, cell_size, operator_items, operand_item, extended_width, extended_size, locked, fetched, exchanged, compare_exchanged, atomic_items, form_of}
 use Rattle.bpf_text.specs.Line.{Written, Spells, name_of, TokenThen, NaturalThen, NegatedThen, SignedThen, OffsetThen}
-use Rattle.bpf_text.specs.Judging.{signed_of}
-use Rattle.bpf_text.specs.Reading.{Goal, address_at, closed_at, pointer_at, cell_at, operand_at, label_at, target_at, plain_op, signed_op, locked_op, plain_condition, signed_condition, condition_at, extension_of, cell_width, alu_end, alu_at, extend_at, loaded_at, load_at, atomic_end, atomic_at, fetch_at, exchange_at, compared_at, expected_at, compare_exchange_at, swap_at, map_at, keyword_at, moved_at, wide_at, negative_at, number_at, assigned_at, register_at, stored_end, stored_at, store_at, locked_at, lock_at, jump_at, jump_long_at, branch_to, branch_end, branch_at, helper_at, call_local_at, call_at, statement_at, line_at}
+use Rattle.bpf_text.specs.Reader.Judging.{signed_of}
+use Rattle.bpf_text.specs.Reader.Pieces.{Middle, operator_at, operation_named, condition_named, fetched_op, Target, address_at, closed_at, pointer_at, cell_at, operand_at, label_at, target_at, locked_op, extension_of, cell_width}
+use Rattle.bpf_text.specs.Reader.Lines.{fetched_at, operation_at, alu_end, alu_at, extend_at, loaded_at, load_at, atomic_end, atomic_at, fetch_at, exchange_at, compared_at, expected_at, compare_exchange_at, swap_at, map_at, keyword_at, moved_at, wide_at, negative_at, number_at, assigned_at, register_at, stored_end, stored_at, store_at, locked_at, lock_at, jump_at, jump_long_at, branch_to, branch_end, branch_at, helper_at, call_local_at, call_at, statement_at, line_at}
 use Rattle.bpf_text.proofs.Chains.{same_width-refl, same_register-refl}
 
 -- ---- the tokens that an item has at the front
@@ -143,37 +153,39 @@ unfolding target_at
 signed_target z true n rest e f = rw (f, e) refl
 signed_target z false n rest e f = rw (f, e) refl
 
-full_target : (z : ℤ) (name : Option (List ℕ)) (ts : List Tok) → Spells (Target z name ∷ []) ts → target_at ts ≡ Some (record { distance = z; name = name })
+full_target : (z : ℤ) (name : Option (List ℕ)) (ts : List Tok) → Spells (TargetItem z name ∷ []) ts → target_at ts ≡ Some (record { distance = z; name = name })
 full_target z None ts s =
     let n = offset_then z (Spells []) ts s in
     ap target_at n.tokens ∙ signed_target z n.negative n.size n.rest n.value n.follows
 full_target z (Some name) [] s = absurd s
 full_target z (Some name) (t ∷ ts) s = named_target z name t ts s.0 s.1 s.2
 
-full_condition : (c : Condition) (is : List Item) (ts : List Tok) → Spells (condition_items c ++ is) ts → (rest : List Tok) × (condition_at ts ≡ Some (record { condition = c; rest = rest })) × Spells is rest
-unfolding condition_at plain_condition signed_condition
-full_condition test.Eq is ts s = let f = tokens_then (Mark sign.Equal ∷ []) is ts s in (f.0, ap condition_at f.1, f.2)
-full_condition test.Gt is ts s = let f = tokens_then (Mark sign.Above ∷ []) is ts s in (f.0, ap condition_at f.1, f.2)
-full_condition test.Ge is ts s = let f = tokens_then (Mark sign.AtLeast ∷ []) is ts s in (f.0, ap condition_at f.1, f.2)
-full_condition test.Set is ts s = let f = tokens_then (Mark sign.And ∷ []) is ts s in (f.0, ap condition_at f.1, f.2)
-full_condition test.Ne is ts s = let f = tokens_then (Mark sign.NotEqual ∷ []) is ts s in (f.0, ap condition_at f.1, f.2)
-full_condition test.Sgt is ts s = let f = tokens_then (Word key.Signed ∷ Mark sign.Above ∷ []) is ts s in (f.0, ap condition_at f.1, f.2)
-full_condition test.Sge is ts s = let f = tokens_then (Word key.Signed ∷ Mark sign.AtLeast ∷ []) is ts s in (f.0, ap condition_at f.1, f.2)
-full_condition test.Lt is ts s = let f = tokens_then (Mark sign.Below ∷ []) is ts s in (f.0, ap condition_at f.1, f.2)
-full_condition test.Le is ts s = let f = tokens_then (Mark sign.AtMost ∷ []) is ts s in (f.0, ap condition_at f.1, f.2)
-full_condition test.Slt is ts s = let f = tokens_then (Word key.Signed ∷ Mark sign.Below ∷ []) is ts s in (f.0, ap condition_at f.1, f.2)
-full_condition test.Sle is ts s = let f = tokens_then (Word key.Signed ∷ Mark sign.AtMost ∷ []) is ts s in (f.0, ap condition_at f.1, f.2)
+full_operator : (o : Operator) (is : List Item) (ts : List Tok) → Spells (operator_items o ++ is) ts → (rest : List Tok) × (operator_at ts ≡ Some (record { operator = o; rest = rest })) × Spells is rest
+unfolding operator_at
+full_operator (Plain m) is ts s = let f = tokens_then (Mark m ∷ []) is ts s in (f.0, ap operator_at f.1, f.2)
+full_operator (SignedBy m) is ts s = let f = tokens_then (Word key.Signed ∷ Mark m ∷ []) is ts s in (f.0, ap operator_at f.1, f.2)
+
+-- each operation is found by how it is written
+named_operation : (op : AluOp) → operation_named (operator_of op) ≡ Some op
+unfolding operation_named
+named_operation alu.Add = refl
+named_operation op = refl
+
+named_condition : (c : Condition) → condition_named (comparison_of c) ≡ Some c
+unfolding condition_named
+named_condition test.Eq = refl
+named_condition c = refl
 
 -- ---- arithmetic
 
 abbrev line : Insn → Option Written
 line i = Some (record { insn = i; name = None })
 
-alu_by : (w : Width) (d : Reg) (op : AluOp) (src : Operand) (ts rest : List Tok) → operand_at w ts ≡ Some (record { operand = src; rest = rest }) → rest ≡ [] → alu_at w d (Some op) ts ≡ line (insn.Alu w op d src)
+alu_by : (w : Width) (d : Reg) (op : AluOp) (src : Operand) (ts rest : List Tok) → operand_at w ts ≡ Some (record { operand = src; rest = rest }) → rest ≡ [] → alu_at w d op ts ≡ line (insn.Alu w op d src)
 unfolding alu_at alu_end
 alu_by w d op src ts rest e f = rw (e, f) refl
 
-full_alu : (w : Width) (d : Reg) (op : AluOp) (src : Operand) (ts : List Tok) → Spells (operand_item w src ∷ []) ts → alu_at w d (Some op) ts ≡ line (insn.Alu w op d src)
+full_alu : (w : Width) (d : Reg) (op : AluOp) (src : Operand) (ts : List Tok) → Spells (operand_item w src ∷ []) ts → alu_at w d op ts ≡ line (insn.Alu w op d src)
 full_alu w d op src ts s = let f = full_operand w src [] ts s in alu_by w d op src ts f.0 f.1 f.2
 
 full_moved : (w : Width) (d : Reg) (z : ℤ) (negative : Bool) (n : ℕ) (rest : List Tok) → z ≡ signed_of negative n → rest ≡ [] → assigned_at w d (minus negative (Number n ∷ rest)) ≡ line (insn.Alu w alu.Mov d (operand.Immediate z))
@@ -182,34 +194,38 @@ full_moved w d z true n rest e f = rw (f, e) refl
 full_moved Bits32 d z false n rest e f = rw (f, e) refl
 full_moved Bits64 d z false n rest e f = rw (f, e) refl
 
-mov_register : (w : Width) (d r : Reg) (ts : List Tok) → assigned_at w d (Register w r ∷ ts) ≡ alu_at w d (Some alu.Mov) (Register w r ∷ ts)
+mov_register : (w : Width) (d r : Reg) (ts : List Tok) → assigned_at w d (Register w r ∷ ts) ≡ alu_at w d alu.Mov (Register w r ∷ ts)
 unfolding assigned_at
 mov_register w d r ts = refl
 
 full_mov : (w : Width) (d : Reg) (src : Operand) (ts : List Tok) → Spells (operand_item w src ∷ []) ts → assigned_at w d ts ≡ line (insn.Alu w alu.Mov d src)
 full_mov w d (operand.Register r) ts s =
     let first = token_then (Register w r) (Spells []) ts s in
-    ap (assigned_at w d) first.1 ∙ mov_register w d r first.0 ∙ ap (alu_at w d (Some alu.Mov)) (sym first.1) ∙ full_alu w d alu.Mov (operand.Register r) ts s
+    ap (assigned_at w d) first.1 ∙ mov_register w d r first.0 ∙ ap (alu_at w d alu.Mov) (sym first.1) ∙ full_alu w d alu.Mov (operand.Register r) ts s
 full_mov w d (operand.Immediate z) ts s =
     let n = signed_then z (Spells []) ts s in
     ap (assigned_at w d) n.tokens ∙ full_moved w d z n.negative n.size n.rest n.value n.follows
 
-full_op : (op : AluOp) (w : Width) (d : Reg) (src : Operand) (ts : List Tok) → Spells (op_items op ++ Blank ∷ operand_item w src ∷ []) ts → register_at w d ts ≡ line (insn.Alu w op d src)
-unfolding register_at plain_op signed_op
+-- behind another sign than `=`
+register_other : (w : Width) (d : Reg) (ts : List Tok) (m : Middle) → operator_at ts ≡ Some m → (m.operator ≡ Plain sign.Assign → ⊥) → register_at w d ts ≡ operation_at w d ts
+unfolding register_at operator_at
+register_other w d (Mark sign.Assign ∷ ts) m e n = absurd (n (let same : m ≡ record { operator = Plain sign.Assign; rest = ts } = cc in ap (λ x. x.operator) same))
+register_other w d ts m e n = refl
+
+operation_by : (w : Width) (d : Reg) (op : AluOp) (ts rest : List Tok) → operator_at ts ≡ Some (record { operator = operator_of op; rest = rest }) → operation_named (operator_of op) ≡ Some op → operation_at w d ts ≡ alu_at w d op rest
+unfolding operation_at
+operation_by w d op ts rest e f = rw (e, f) refl
+
+full_other : (op : AluOp) (w : Width) (d : Reg) (src : Operand) (ts : List Tok) → (operator_of op ≡ Plain sign.Assign → ⊥) → Spells (operator_items (operator_of op) ++ Blank ∷ operand_item w src ∷ []) ts
+    → register_at w d ts ≡ line (insn.Alu w op d src)
+full_other op w d src ts other s =
+    let f = full_operator (operator_of op) (Blank ∷ operand_item w src ∷ []) ts s in
+    register_other w d ts (record { operator = operator_of op; rest = f.0 }) f.1 other ∙ operation_by w d op ts f.0 f.1 (named_operation op) ∙ full_alu w d op src f.0 f.2
+
+full_op : (op : AluOp) (w : Width) (d : Reg) (src : Operand) (ts : List Tok) → Spells (operator_items (operator_of op) ++ Blank ∷ operand_item w src ∷ []) ts → register_at w d ts ≡ line (insn.Alu w op d src)
+unfolding register_at
 full_op alu.Mov w d src ts s = let f = tokens_then (Mark sign.Assign ∷ []) (operand_item w src ∷ []) ts s in ap (register_at w d) f.1 ∙ full_mov w d src f.0 f.2
-full_op alu.Add w d src ts s = let f = tokens_then (Mark sign.AddAssign ∷ []) (operand_item w src ∷ []) ts s in ap (register_at w d) f.1 ∙ full_alu w d alu.Add src f.0 f.2
-full_op alu.Sub w d src ts s = let f = tokens_then (Mark sign.SubAssign ∷ []) (operand_item w src ∷ []) ts s in ap (register_at w d) f.1 ∙ full_alu w d alu.Sub src f.0 f.2
-full_op alu.Mul w d src ts s = let f = tokens_then (Mark sign.MulAssign ∷ []) (operand_item w src ∷ []) ts s in ap (register_at w d) f.1 ∙ full_alu w d alu.Mul src f.0 f.2
-full_op alu.Div w d src ts s = let f = tokens_then (Mark sign.DivAssign ∷ []) (operand_item w src ∷ []) ts s in ap (register_at w d) f.1 ∙ full_alu w d alu.Div src f.0 f.2
-full_op alu.Sdiv w d src ts s = let f = tokens_then (Word key.Signed ∷ Mark sign.DivAssign ∷ []) (operand_item w src ∷ []) ts s in ap (register_at w d) f.1 ∙ full_alu w d alu.Sdiv src f.0 f.2
-full_op alu.Or w d src ts s = let f = tokens_then (Mark sign.OrAssign ∷ []) (operand_item w src ∷ []) ts s in ap (register_at w d) f.1 ∙ full_alu w d alu.Or src f.0 f.2
-full_op alu.And w d src ts s = let f = tokens_then (Mark sign.AndAssign ∷ []) (operand_item w src ∷ []) ts s in ap (register_at w d) f.1 ∙ full_alu w d alu.And src f.0 f.2
-full_op alu.Lsh w d src ts s = let f = tokens_then (Mark sign.ShlAssign ∷ []) (operand_item w src ∷ []) ts s in ap (register_at w d) f.1 ∙ full_alu w d alu.Lsh src f.0 f.2
-full_op alu.Rsh w d src ts s = let f = tokens_then (Mark sign.ShrAssign ∷ []) (operand_item w src ∷ []) ts s in ap (register_at w d) f.1 ∙ full_alu w d alu.Rsh src f.0 f.2
-full_op alu.Mod w d src ts s = let f = tokens_then (Mark sign.RemAssign ∷ []) (operand_item w src ∷ []) ts s in ap (register_at w d) f.1 ∙ full_alu w d alu.Mod src f.0 f.2
-full_op alu.Smod w d src ts s = let f = tokens_then (Word key.Signed ∷ Mark sign.RemAssign ∷ []) (operand_item w src ∷ []) ts s in ap (register_at w d) f.1 ∙ full_alu w d alu.Smod src f.0 f.2
-full_op alu.Xor w d src ts s = let f = tokens_then (Mark sign.XorAssign ∷ []) (operand_item w src ∷ []) ts s in ap (register_at w d) f.1 ∙ full_alu w d alu.Xor src f.0 f.2
-full_op alu.Arsh w d src ts s = let f = tokens_then (Word key.Signed ∷ Mark sign.ShrAssign ∷ []) (operand_item w src ∷ []) ts s in ap (register_at w d) f.1 ∙ full_alu w d alu.Arsh src f.0 f.2
+full_op op w d src ts s = full_other op w d src ts (λ e. cc) s
 
 -- ---- atomic operations
 
@@ -226,13 +242,25 @@ full_locked k op w b o r ts e s =
     let place = full_cell (cell_size w) b o tail front.0 front.2 in
     ap line_at front.1 ∙ locked_by k op w b o r front.0 place.0 e place.1 (tokens_end (Mark k ∷ Register Bits64 r ∷ []) place.0 place.2)
 
-fetched_by : (k : Keyword) (op : AtomicOp) (w : Width) (b : Reg) (o : ℤ) (r : Reg) (us rest : List Tok) → ((ts : List Tok) → keyword_at w r k ts ≡ fetch_at op w r ts) → cell_at us ≡ Some (record { size = cell_size w; base = b; offset = o; rest = rest })
+-- behind `=` and the name of a fetching operation
+keyword_fetched : (k : Keyword) (op : AtomicOp) (w : Width) (d : Reg) (ts : List Tok) → fetched_op k ≡ Some op → keyword_at w d k ts ≡ fetch_at op w d ts
+unfolding keyword_at fetched_at fetched_op
+keyword_fetched (key.Swap swap.ToLittle bits.Bits16) op w d ts e = cc
+keyword_fetched (key.Swap swap.ToBig bits.Bits16) op w d ts e = cc
+keyword_fetched (key.Swap swap.Reverse bits.Bits16) op w d ts e = cc
+keyword_fetched (key.Exchange Bits32) op w d ts e = cc
+keyword_fetched (key.CompareExchange Bits32) op w d ts e = cc
+keyword_fetched (key.Unsigned size.Byte) op w d ts e = cc
+keyword_fetched (key.Extended signed_size.Byte) op w d ts e = cc
+keyword_fetched k op w d ts e = cc
+
+fetched_by : (k : Keyword) (op : AtomicOp) (w : Width) (b : Reg) (o : ℤ) (r : Reg) (us rest : List Tok) → fetched_op k ≡ Some op → cell_at us ≡ Some (record { size = cell_size w; base = b; offset = o; rest = rest })
     → rest ≡ Mark sign.Comma ∷ Register w r ∷ Mark sign.Close ∷ [] → line_at (Register w r ∷ Mark sign.Assign ∷ Word k ∷ Mark sign.Open ∷ us) ≡ line (insn.Atomic w op b o r)
 unfolding line_at register_at assigned_at fetch_at atomic_at cell_width atomic_end
-fetched_by k op Bits32 b o r us rest e f g = e (Mark sign.Open ∷ us) ∙ rw (f, g, same_register-refl r) refl
-fetched_by k op Bits64 b o r us rest e f g = e (Mark sign.Open ∷ us) ∙ rw (f, g, same_register-refl r) refl
+fetched_by k op Bits32 b o r us rest e f g = keyword_fetched k op Bits32 r (Mark sign.Open ∷ us) e ∙ rw (f, g, same_register-refl r) refl
+fetched_by k op Bits64 b o r us rest e f g = keyword_fetched k op Bits64 r (Mark sign.Open ∷ us) e ∙ rw (f, g, same_register-refl r) refl
 
-full_fetched : (k : Keyword) (op : AtomicOp) (w : Width) (b : Reg) (o : ℤ) (r : Reg) (ts : List Tok) → ((us : List Tok) → keyword_at w r k us ≡ fetch_at op w r us) → Spells (fetched k w b o r) ts → line_at ts ≡ line (insn.Atomic w op b o r)
+full_fetched : (k : Keyword) (op : AtomicOp) (w : Width) (b : Reg) (o : ℤ) (r : Reg) (ts : List Tok) → fetched_op k ≡ Some op → Spells (fetched k w b o r) ts → line_at ts ≡ line (insn.Atomic w op b o r)
 full_fetched k op w b o r ts e s =
     let tail : List Item = mark sign.Comma ∷ Blank ∷ reg w r ∷ mark sign.Close ∷ [] in
     let front = tokens_then (Register w r ∷ Mark sign.Assign ∷ Word k ∷ Mark sign.Open ∷ []) (cell (cell_size w) b o tail) ts s in
@@ -245,7 +273,7 @@ unfolding line_at register_at assigned_at keyword_at exchange_at atomic_at atomi
 exchange_by Bits32 b o r us rest e f = rw (e, f, same_register-refl r) refl
 exchange_by Bits64 b o r us rest e f = rw (e, f, same_register-refl r) refl
 
-full_exchange : (w : Width) (b : Reg) (o : ℤ) (r : Reg) (ts : List Tok) → Spells (atomic_items atomic.Exchange w b o r) ts → line_at ts ≡ line (insn.Atomic w atomic.Exchange b o r)
+full_exchange : (w : Width) (b : Reg) (o : ℤ) (r : Reg) (ts : List Tok) → Spells (exchanged w b o r) ts → line_at ts ≡ line (insn.Atomic w atomic.Exchange b o r)
 full_exchange w b o r ts s =
     let tail : List Item = mark sign.Comma ∷ Blank ∷ reg w r ∷ mark sign.Close ∷ [] in
     let front = tokens_then (Register w r ∷ Mark sign.Assign ∷ Word (key.Exchange w) ∷ Mark sign.Open ∷ []) (address b o tail) ts s in
@@ -258,25 +286,33 @@ unfolding line_at register_at assigned_at keyword_at compare_exchange_at expecte
 compare_exchange_by Bits32 b o r us rest e f = rw (e, f) refl
 compare_exchange_by Bits64 b o r us rest e f = rw (e, f) refl
 
-full_compare_exchange : (w : Width) (b : Reg) (o : ℤ) (r : Reg) (ts : List Tok) → Spells (atomic_items atomic.CompareExchange w b o r) ts → line_at ts ≡ line (insn.Atomic w atomic.CompareExchange b o r)
+full_compare_exchange : (w : Width) (b : Reg) (o : ℤ) (r : Reg) (ts : List Tok) → Spells (compare_exchanged w b o r) ts → line_at ts ≡ line (insn.Atomic w atomic.CompareExchange b o r)
 full_compare_exchange w b o r ts s =
     let tail : List Item = mark sign.Comma ∷ Blank ∷ reg w R0 ∷ mark sign.Comma ∷ Blank ∷ reg w r ∷ mark sign.Close ∷ [] in
     let front = tokens_then (Register w R0 ∷ Mark sign.Assign ∷ Word (key.CompareExchange w) ∷ Mark sign.Open ∷ []) (address b o tail) ts s in
     let place = full_address b o tail front.0 front.2 in
     ap line_at front.1 ∙ compare_exchange_by w b o r front.0 place.0 place.1 (tokens_end (Mark sign.Comma ∷ Register w R0 ∷ Mark sign.Comma ∷ Register w r ∷ Mark sign.Close ∷ []) place.0 place.2)
 
-full_atomic : (op : AtomicOp) (w : Width) (b : Reg) (o : ℤ) (r : Reg) (ts : List Tok) → Spells (atomic_items op w b o r) ts → line_at ts ≡ line (insn.Atomic w op b o r)
-unfolding locked_op keyword_at
-full_atomic atomic.Add w b o r ts s = full_locked sign.AddAssign atomic.Add w b o r ts refl s
-full_atomic atomic.Or w b o r ts s = full_locked sign.OrAssign atomic.Or w b o r ts refl s
-full_atomic atomic.And w b o r ts s = full_locked sign.AndAssign atomic.And w b o r ts refl s
-full_atomic atomic.Xor w b o r ts s = full_locked sign.XorAssign atomic.Xor w b o r ts refl s
-full_atomic atomic.FetchAdd w b o r ts s = full_fetched key.FetchAdd atomic.FetchAdd w b o r ts (λ us. refl) s
-full_atomic atomic.FetchOr w b o r ts s = full_fetched key.FetchOr atomic.FetchOr w b o r ts (λ us. refl) s
-full_atomic atomic.FetchAnd w b o r ts s = full_fetched key.FetchAnd atomic.FetchAnd w b o r ts (λ us. refl) s
-full_atomic atomic.FetchXor w b o r ts s = full_fetched key.FetchXor atomic.FetchXor w b o r ts (λ us. refl) s
-full_atomic atomic.Exchange w b o r ts s = full_exchange w b o r ts s
-full_atomic atomic.CompareExchange w b o r ts s = full_compare_exchange w b o r ts s
+-- each atomic operation is found by its form
+abbrev IsNamed : AtomicOp → AtomicForm → Type 0
+IsNamed op (form.Locked k) = locked_op k ≡ Some op
+IsNamed op (form.Fetch k) = fetched_op k ≡ Some op
+IsNamed op form.Exchange = atomic.Exchange ≡ op
+IsNamed op form.CompareExchange = atomic.CompareExchange ≡ op
+
+named_atomic : (op : AtomicOp) → IsNamed op (atomic_form op)
+unfolding locked_op fetched_op
+named_atomic atomic.Add = refl
+named_atomic op = refl
+
+full_form : (op : AtomicOp) (f : AtomicForm) (w : Width) (b : Reg) (o : ℤ) (r : Reg) (ts : List Tok) → IsNamed op f → Spells (atomic_items f w b o r) ts → line_at ts ≡ line (insn.Atomic w op b o r)
+full_form op (form.Locked k) w b o r ts e s = full_locked k op w b o r ts e s
+full_form op (form.Fetch k) w b o r ts e s = full_fetched k op w b o r ts e s
+full_form op form.Exchange w b o r ts e s = full_exchange w b o r ts s ∙ ap (λ x. line (insn.Atomic w x b o r)) e
+full_form op form.CompareExchange w b o r ts e s = full_compare_exchange w b o r ts s ∙ ap (λ x. line (insn.Atomic w x b o r)) e
+
+full_atomic : (op : AtomicOp) (w : Width) (b : Reg) (o : ℤ) (r : Reg) (ts : List Tok) → Spells (atomic_items (atomic_form op) w b o r) ts → line_at ts ≡ line (insn.Atomic w op b o r)
+full_atomic op w b o r ts s = full_form op (atomic_form op) w b o r ts (named_atomic op) s
 
 -- ---- the other lines
 
@@ -322,19 +358,19 @@ swapped_by : (k : ByteSwap) (z : SwapWidth) (d : Reg) → line_at (Register Bits
 unfolding line_at register_at assigned_at keyword_at swap_at
 swapped_by k z d = rw same_register-refl refl
 
-branch_by : (w : Width) (c : Condition) (d : Reg) (src : Operand) (z : ℤ) (name : Option (List ℕ)) (us vs rest end : List Tok) → condition_at us ≡ Some (record { condition = c; rest = vs }) → operand_at w vs ≡ Some (record { operand = src; rest = rest }) → rest ≡ Word key.Goto ∷ end
+branch_by : (w : Width) (c : Condition) (d : Reg) (src : Operand) (z : ℤ) (name : Option (List ℕ)) (us vs rest end : List Tok) → operator_at us ≡ Some (record { operator = comparison_of c; rest = vs }) → condition_named (comparison_of c) ≡ Some c → operand_at w vs ≡ Some (record { operand = src; rest = rest }) → rest ≡ Word key.Goto ∷ end
     → target_at end ≡ Some (record { distance = z; name = name }) → line_at (Word key.If ∷ Register w d ∷ us) ≡ Some (record { insn = insn.JumpIf w c d src z; name = name })
 unfolding line_at statement_at branch_at branch_end branch_to
-branch_by w c d src z name us vs rest end e f g h = rw (e, f, g, h) refl
+branch_by w c d src z name us vs rest end e n f g h = rw (e, n, f, g, h) refl
 
 full_branch : (w : Width) (c : Condition) (d : Reg) (src : Operand) (z : ℤ) (name : Option (List ℕ)) (ts : List Tok) → Spells (form_of (insn.JumpIf w c d src z) name) ts → line_at ts ≡ Some (record { insn = insn.JumpIf w c d src z; name = name })
 full_branch w c d src z name ts s =
-    let goal : List Item = Blank ∷ word key.Goto ∷ Blank ∷ Target z name ∷ [] in
-    let front = tokens_then (Word key.If ∷ Register w d ∷ []) (condition_items c ++ Blank ∷ operand_item w src ∷ goal) ts s in
-    let test = full_condition c (Blank ∷ operand_item w src ∷ goal) front.0 front.2 in
+    let goal : List Item = Blank ∷ word key.Goto ∷ Blank ∷ TargetItem z name ∷ [] in
+    let front = tokens_then (Word key.If ∷ Register w d ∷ []) (operator_items (comparison_of c) ++ Blank ∷ operand_item w src ∷ goal) ts s in
+    let test = full_operator (comparison_of c) (Blank ∷ operand_item w src ∷ goal) front.0 front.2 in
     let second = full_operand w src goal test.0 test.2 in
-    let go = tokens_then (Word key.Goto ∷ []) (Target z name ∷ []) second.0 second.2 in
-    ap line_at front.1 ∙ branch_by w c d src z name front.0 test.0 second.0 go.0 test.1 second.1 go.1 (full_target z name go.0 go.2)
+    let go = tokens_then (Word key.Goto ∷ []) (TargetItem z name ∷ []) second.0 second.2 in
+    ap line_at front.1 ∙ branch_by w c d src z name front.0 test.0 second.0 go.0 test.1 (named_condition c) second.1 go.1 (full_target z name go.0 go.2)
 
 goto_by : (z : ℤ) (name : Option (List ℕ)) (us : List Tok) → target_at us ≡ Some (record { distance = z; name = name }) → line_at (Word key.Goto ∷ us) ≡ Some (record { insn = insn.Jump z; name = name })
 unfolding line_at statement_at jump_at
@@ -345,7 +381,7 @@ unfolding line_at statement_at jump_long_at
 goto_long_by z name us e = rw e refl
 
 -- a target that is a number has a sign before it
-call_target : (us : List Tok) (g : Goal) → target_at us ≡ Some g → call_at us ≡ call_local_at us
+call_target : (us : List Tok) (g : Target) → target_at us ≡ Some g → call_at us ≡ call_local_at us
 unfolding call_at target_at label_at
 call_target (Number n ∷ []) g e = cc
 call_target (Number n ∷ t ∷ ts) g e = cc
@@ -386,20 +422,20 @@ pos_same m n e = cc
 pub line_complete : (i : Insn) (name : Option (List ℕ)) (ts : List Tok) → Spells (form_of i name) ts → line_at ts ≡ Some (record { insn = i; name = name })
 unfolding stored_end loaded_at
 line_complete (insn.Alu w op d src) None ts s =
-    let first = token_then (Register w d) (Spells (op_items op ++ Blank ∷ operand_item w src ∷ [])) ts s in
+    let first = token_then (Register w d) (Spells (operator_items (operator_of op) ++ Blank ∷ operand_item w src ∷ [])) ts s in
     ap line_at first.1 ∙ register_line w d first.0 ∙ full_op op w d src first.0 first.2
 line_complete (insn.Negate w d) None ts s = ap line_at (tokens_end (Register w d ∷ Mark sign.Assign ∷ Mark sign.Minus ∷ Register w d ∷ []) ts s) ∙ negated_by w d
 line_complete (insn.SignExtend e d r) None ts s = ap line_at (tokens_end (Register (extended_width e) d ∷ Mark sign.Assign ∷ Mark sign.Open ∷ Word (key.Extended (extended_size e)) ∷ Mark sign.Close ∷ Register (extended_width e) r ∷ []) ts s) ∙ extended_by e d r
 line_complete (insn.SwapBytes k z d) None ts s = ap line_at (tokens_end (Register Bits64 d ∷ Mark sign.Assign ∷ Word (key.Swap k z) ∷ Register Bits64 d ∷ []) ts s) ∙ swapped_by k z d
-line_complete (insn.Jump z) name ts s = let first = token_then (Word key.Goto) (Spells (Target z name ∷ [])) ts s in ap line_at first.1 ∙ goto_by z name first.0 (full_target z name first.0 first.2)
-line_complete (insn.JumpLong z) name ts s = let first = token_then (Word key.GotoLong) (Spells (Target z name ∷ [])) ts s in ap line_at first.1 ∙ goto_long_by z name first.0 (full_target z name first.0 first.2)
+line_complete (insn.Jump z) name ts s = let first = token_then (Word key.Goto) (Spells (TargetItem z name ∷ [])) ts s in ap line_at first.1 ∙ goto_by z name first.0 (full_target z name first.0 first.2)
+line_complete (insn.JumpLong z) name ts s = let first = token_then (Word key.GotoLong) (Spells (TargetItem z name ∷ [])) ts s in ap line_at first.1 ∙ goto_long_by z name first.0 (full_target z name first.0 first.2)
 line_complete (insn.JumpIf w c d src z) name ts s = full_branch w c d src z name ts s
 line_complete (insn.CallHelper n) None ts s =
     let first = token_then (Word key.Call) (Spells (Natural n ∷ [])) ts s in
     let number = natural_then (pos n) (Spells []) first.0 first.2 in
     ap line_at (first.1 ∙ ap (λ x. Word key.Call ∷ x) (number.3 ∙ ap (λ x. Number number.0 ∷ x) number.4 ∙ ap (λ m. Number m ∷ []) (pos_same n number.0 number.2))) ∙ call_line (Number n ∷ []) ∙ helper_by n
 line_complete (insn.CallLocal z) name ts s =
-    let first = token_then (Word key.Call) (Spells (Target z name ∷ [])) ts s in
+    let first = token_then (Word key.Call) (Spells (TargetItem z name ∷ [])) ts s in
     let target = full_target z name first.0 first.2 in
     ap line_at first.1 ∙ call_line first.0 ∙ call_target first.0 _ target ∙ call_by z name first.0 target
 line_complete insn.Exit None ts s = ap line_at (tokens_end (Word key.Exit ∷ []) ts s) ∙ exit_line

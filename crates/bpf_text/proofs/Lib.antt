@@ -1,6 +1,9 @@
 pub mod HexLemmas
 pub mod FormText
-pub mod Numbers
+pub mod WideText
+pub mod DigitLemmas
+pub mod Finding
+pub mod LongestSign
 pub mod Scanning
 pub mod Chains
 pub mod Sound

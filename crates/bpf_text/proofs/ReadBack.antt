@@ -27,10 +27,16 @@ use Rattle.bpf_insn.specs.declared.instruction.Operand.TheVariants as operand
 use Rattle.bpf_insn.specs.declared.instruction.Insn.{Insn}
 use Rattle.bpf_insn.specs.declared.instruction.Insn.TheVariants as insn
 use Rattle.bpf_text.specs.declared.labels.Place.{Place}
-use Rattle.bpf_text.specs.Form.{form_of, line_of, canonical, op_items, condition_items, atomic_items}
+use Rattle.bpf_text.specs.Form.{form_of, line_of, canonical, operator_items, atomic_items}
+use Rattle.bpf_text.specs.Operators.{operator_of, comparison_of, atomic_form}
+use Rattle.bpf_text.specs.declared.atomics.AtomicForm.{AtomicForm}
+use Rattle.bpf_text.specs.declared.atomics.AtomicForm.TheVariants as form
+use Rattle.bpf_text.specs.declared.operators.Operator.{Operator}
+use Rattle.bpf_text.specs.declared.operators.Operator.TheVariants.{Plain, Signed as SignedBy}
 use Rattle.bpf_text.specs.Line.{Written}
-use Rattle.bpf_text.specs.Reading.{line_at, statement_at, register_at, plain_op, alu_at, lock_at, branch_at, jump_at, jump_long_at, call_at, call_local_at, target_at, label_at, store_at, cell_at}
-use Rattle.bpf_text.specs.Cutting.{in_line}
+use Rattle.bpf_text.specs.Reader.Pieces.{operator_at, operation_named, target_at, label_at, cell_at}
+use Rattle.bpf_text.specs.Reader.Lines.{line_at, statement_at, register_at, operation_at, lock_at, branch_at, jump_at, jump_long_at, call_at, call_local_at, store_at}
+use Rattle.bpf_text.specs.Reader.Cutting.{in_line}
 use Rattle.bpf_text.specs.Assembly.{Source, IsLine, AreLines, Assembles, lines_of, onto, label_of, unlabelled, IsBody, first_place, meaning_of, program_of}
 use Rattle.bpf_text.proofs.Complete.{line_complete}
 use Rattle.bpf_text.proofs.Shown.{shown, form_in_line, is_apart, AreSmall, SmallInteger}
@@ -49,7 +55,7 @@ branch_apart test.Eq w d (operand.Register r) o = refl
 branch_apart c w d (operand.Immediate n) o = refl
 branch_apart c w d (operand.Register r) o = refl
 
-atomic_apart : (op : AtomicOp) (w : Width) (b : Reg) (o : ℤ) (r : Reg) → is_apart (atomic_items op w b o r) ≡ true
+atomic_apart : (op : AtomicOp) (w : Width) (b : Reg) (o : ℤ) (r : Reg) → is_apart (atomic_items (atomic_form op) w b o r) ≡ true
 atomic_apart atomic.Add w b o r = refl
 atomic_apart op w b o r = refl
 
@@ -67,35 +73,27 @@ small32 : (z : ℤ) → FitsSigned w32 z → SmallInteger z
 small32 (pos n) h = omega (arith, ints, h)
 small32 (negsuc n) h = omega (arith, ints, h)
 
-op_small : (op : AluOp) (is : List Item) → AreSmall is → AreSmall (op_items op ++ is)
-op_small alu.Sdiv is h = (tt, (tt, h))
-op_small alu.Smod is h = (tt, (tt, h))
-op_small alu.Arsh is h = (tt, (tt, h))
-op_small op is h = (tt, h)
-
-condition_small : (c : Condition) (is : List Item) → AreSmall is → AreSmall (condition_items c ++ is)
-condition_small test.Sgt is h = (tt, (tt, h))
-condition_small test.Sge is h = (tt, (tt, h))
-condition_small test.Slt is h = (tt, (tt, h))
-condition_small test.Sle is h = (tt, (tt, h))
-condition_small c is h = (tt, h)
+operator_small : (o : Operator) (is : List Item) → AreSmall is → AreSmall (operator_items o ++ is)
+operator_small (Plain s) is h = (tt, h)
+operator_small (SignedBy s) is h = (tt, (tt, h))
 
 alu_small : (op : AluOp) (w : Width) (d : Reg) (s : Operand) → Fits (insn.Alu w op d s) → AreSmall (form_of (insn.Alu w op d s) None)
-alu_small op w d (operand.Immediate n) h = (tt, (tt, op_small op (Blank ∷ Signed n ∷ []) (tt, (small32 n h, tt))))
-alu_small op w d (operand.Register r) h = (tt, (tt, op_small op (Blank ∷ Is (Register w r) ∷ []) (tt, (tt, tt))))
+alu_small op w d (operand.Immediate n) h = (tt, (tt, operator_small (operator_of op) (Blank ∷ Signed n ∷ []) (tt, (small32 n h, tt))))
+alu_small op w d (operand.Register r) h = (tt, (tt, operator_small (operator_of op) (Blank ∷ Is (Register w r) ∷ []) (tt, (tt, tt))))
 
 branch_small : (c : Condition) (w : Width) (d : Reg) (s : Operand) (o : ℤ) → Fits (insn.JumpIf w c d s o) → AreSmall (form_of (insn.JumpIf w c d s o) None)
-branch_small c w d (operand.Immediate n) o h = (tt, (tt, (tt, (tt, condition_small c (Blank ∷ Signed n ∷ Blank ∷ Is (Word key.Goto) ∷ Blank ∷ Target o None ∷ []) (tt, (small32 n h.0, (tt, (tt, (tt, (small16 o h.1, tt))))))))))
-branch_small c w d (operand.Register r) o h = (tt, (tt, (tt, (tt, condition_small c (Blank ∷ Is (Register w r) ∷ Blank ∷ Is (Word key.Goto) ∷ Blank ∷ Target o None ∷ []) (tt, (tt, (tt, (tt, (tt, (small16 o h, tt))))))))))
+branch_small c w d (operand.Immediate n) o h = (tt, (tt, (tt, (tt, operator_small (comparison_of c) (Blank ∷ Signed n ∷ Blank ∷ Is (Word key.Goto) ∷ Blank ∷ Target o None ∷ []) (tt, (small32 n h.0, (tt, (tt, (tt, (small16 o h.1, tt))))))))))
+branch_small c w d (operand.Register r) o h = (tt, (tt, (tt, (tt, operator_small (comparison_of c) (Blank ∷ Is (Register w r) ∷ Blank ∷ Is (Word key.Goto) ∷ Blank ∷ Target o None ∷ []) (tt, (tt, (tt, (tt, (tt, (small16 o h, tt))))))))))
 
-atomic_small : (op : AtomicOp) (w : Width) (b : Reg) (o : ℤ) (r : Reg) → SmallInteger o → AreSmall (atomic_items op w b o r)
-atomic_small atomic.Add w b o r h = assumption h
-atomic_small op w b o r h = assumption h
+atomic_small : (f : AtomicForm) (w : Width) (b : Reg) (o : ℤ) (r : Reg) → SmallInteger o → AreSmall (atomic_items f w b o r)
+atomic_small (form.Locked s) w b o r h = assumption h
+atomic_small (form.Fetch k) w b o r h = assumption h
+atomic_small f w b o r h = assumption h
 
 form_small : (i : Insn) → Fits i → AreSmall (form_of i None)
 form_small (insn.Alu w op d s) h = alu_small op w d s h
 form_small (insn.JumpIf w c d s o) h = branch_small c w d s o h
-form_small (insn.Atomic w op b o r) h = atomic_small op w b o r (small16 o h)
+form_small (insn.Atomic w op b o r) h = atomic_small (atomic_form op) w b o r (small16 o h)
 form_small (insn.Jump o) h = let s = small16 o h in assumption s
 form_small (insn.JumpLong o) h = let s = small32 o h in assumption s
 form_small (insn.CallLocal o) h = let s = small32 o h in assumption s
@@ -125,7 +123,7 @@ no_jump us = let e = colon_target us in rw e (refl, refl, refl)
 
 -- no form has a colon behind its first token
 no_colon : (t : Tok) (us : List Tok) → line_at (t ∷ Mark sign.Colon ∷ us) ≡ None
-unfolding line_at statement_at register_at plain_op alu_at lock_at branch_at store_at cell_at
+unfolding line_at statement_at register_at operation_at operator_at operation_named lock_at branch_at store_at cell_at
 no_colon (Register w d) us = refl
 no_colon (Word key.Goto) us = (no_jump us).0
 no_colon (Word key.GotoLong) us = (no_jump us).1

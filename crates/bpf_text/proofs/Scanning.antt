@@ -1,35 +1,37 @@
 -- Cutting a line into tokens.
-use Rattle.std.proofs.Common.{◌≡◌, ℕ, ◌+◌, ◌<◌, ◌≤◌, Bool, true, false, cond, List, [], ◌∷◌, ◌++◌, length, map, get_or, take, take_while, drop, drop-cons, append_assoc, append-nil, Option, Some, refl, sym, ap, ◌∙◌, subst, arith}
-use Rattle.std.specs.Prelude.{find, nat_eq}
+use Rattle.std.proofs.Common.{◌≡◌, ℕ, ◌+◌, ◌<◌, ◌≤◌, true, List, [], ◌∷◌, ◌++◌, length, map, get_or, take, take_while, drop, drop-cons, append_assoc, append-nil, Option, Some, None, refl, sym, ap, ◌∙◌, subst, arith}
+use Rattle.std.specs.Prelude.{IfSome, nat_eq}
 use Rattle.std.specs.List.{starts_with}
 use Rattle.std.proofs.lemmas.List.{drop_all, map-append, drop-drop}
 use Rattle.std.proofs.lemmas.Slice.Eq.{bytes_eq-Decides}
 use Rattle.std.proofs.lemmas.List.{length-take}
 use Rattle.bpf_text.specs.declared.signs.Sign.{Sign}
 use Rattle.bpf_text.specs.declared.token.Token.{Token}
-use Rattle.bpf_text.specs.Signs.{sign_text, sign_at, signs}
+use Rattle.bpf_text.specs.Signs.{sign_text, sign_at}
+use Rattle.bpf_text.specs.declared.signs.TheConstants.{SIGNS}
+use Rattle.bpf_text.proofs.Finding.{found_by}
+use Rattle.bpf_text.proofs.LongestSign.{first_is_longest}
+use Rattle.bpf_text.specs.Reader.Pieces.{first_sign}
 use Rattle.bpf_text.specs.Token.{Tok}
 use Rattle.bpf_text.specs.Tokens.{is_blank, after_blanks, front_tok, front_len, IsEnd, AreTokens, IsTokens}
-use Rattle.bpf_text.specs.Look.{look}
+use Rattle.bpf_text.specs.Reader.Look.{look}
 
 -- ---- a sign is no longer than the text that it begins
-
-by_test : (p : Sign → Bool) (x s : Sign) (rest : Option Sign) (b : Bool) → p x ≡ b → (rest ≡ Some s → p s ≡ true) → cond b (Some x) rest ≡ Some s → p s ≡ true
-by_test p x s rest true h more e = let same : x ≡ s = cc in ap p (sym same) ∙ h
-by_test p x s rest false h more e = more e
-
-find-passes : (p : Sign → Bool) (ss : List Sign) (s : Sign) → find p ss ≡ Some s → p s ≡ true
-find-passes p [] s e = cc
-find-passes p (x ∷ xs) s e = by_test p x s (find p xs) (p x) refl (find-passes p xs s) e
 
 length-starts : (text xs : List ℕ) → starts_with nat_eq text xs ≡ true → length xs ≤ length text
 length-starts text xs e =
     let same : xs ≡ take (length xs) text = (bytes_eq-Decides xs (take (length xs) text)).0 e in
     omega (arith, ap length same, length-take (length xs) text)
 
+begins-longest : (text : List ℕ) (o : Option Sign) (s : Sign) → o ≡ Some s → IfSome o (λ t. starts_with nat_eq text (sign_text t) ≡ true) → starts_with nat_eq text (sign_text s) ≡ true
+begins-longest text (Some t) s e h = let same : t ≡ s = cc in ap (λ x. starts_with nat_eq text (sign_text x)) (sym same) ∙ h
+begins-longest text None s e h = cc
+
 pub length-sign_at : (text : List ℕ) (s : Sign) → sign_at text ≡ Some s → length (sign_text s) ≤ length text
-unfolding sign_at
-length-sign_at text s e = length-starts text (sign_text s) (find-passes (λ s. starts_with nat_eq text (sign_text s)) signs s e)
+length-sign_at text s e =
+    let begins = λ (s : Sign). starts_with nat_eq text (sign_text s) in
+    let found : IfSome (first_sign text) (λ t. begins t ≡ true) = found_by begins SIGNS (λ t. begins t ≡ true) (λ t h. h) in
+    length-starts text (sign_text s) (begins-longest text (first_sign text) s (first_is_longest text ∙ e) found)
 
 -- ---- the loop
 

@@ -1,11 +1,11 @@
 -- Canonical text has the tokens of its form.
-use Rattle.std.proofs.Common.{◌≡◌, ℕ, ◌+◌, ◌-◌, ◌^◌, ◌<◌, ◌≤◌, zero, suc, Bool, true, false, ◌==◌, ◌&&◌, nat_eq, List, [], ◌∷◌, ◌++◌, length, take, drop, take_while, append-nil, None, refl, sym, ap, subst, ◌∙◌, arith, add-one}
+use Rattle.std.proofs.Common.{◌≡◌, ℕ, ◌+◌, ◌-◌, ◌^◌, ◌<◌, ◌≤◌, zero, suc, Bool, true, false, ◌==◌, ◌&&◌, nat_eq, List, [], ◌∷◌, ◌++◌, length, take, drop, take_while, Some, None, refl, sym, ap, subst, ◌∙◌, arith, add-one}
 use Rattle.std.specs.Prelude.{ℤ, pos, negsuc, neg_ℤ, nat_lt, replicate}
 use Rattle.std.proofs.Math.Seq.{take-append_seam, drop-append_seam}
 use Rattle.std.specs.List.{list_all, prefix_len, starts_with}
 use Rattle.std.specs.Char.{digit_value}
 use Rattle.std.specs.Str.Parse.{digits_value, AllDigits, IsNumeral}
-use Rattle.std.specs.Fmt.{decimal, digits, padded_integral, format_spec, char_count}
+use Rattle.std.specs.Fmt.{decimal, digits}
 use Rattle.std.proofs.lemmas.Fmt.{decimal_is_IsNumeral, digits_is_IsNumeral}
 use Rattle.std.proofs.lemmas.Bool.{and_parts, eqb-true, lt-ltb, ltb-true}
 use Rattle.std.proofs.lemmas.Bool.Decides.{nat_tests}
@@ -25,9 +25,11 @@ use Rattle.bpf_text.specs.Names.{register_text, keyword_text}
 use Rattle.bpf_text.specs.Signs.{sign_text, sign_at}
 use Rattle.bpf_text.specs.Words.{is_word_byte, begins_with_digit, is_digit_of, numeral_tok, number_tok, register_of, keyword_of, word_tok}
 use Rattle.bpf_text.specs.Token.{Tok, Register, Word, Number, Mark}
-use Rattle.bpf_text.specs.Form.{Item, Is, Blank, Signed, Natural, Hex, Offset, Target, item_text, text_of}
+use Rattle.bpf_text.specs.Form.{Item, Is, Blank, Signed, Natural, Hex, Offset, Target, wide_text, item_text, text_of}
 use Rattle.bpf_text.specs.Line.{Spells}
-use Rattle.bpf_text.specs.Cutting.{in_line}
+use Rattle.bpf_text.proofs.LongestSign.{first_is_longest}
+use Rattle.bpf_text.specs.Reader.Pieces.{first_sign}
+use Rattle.bpf_text.specs.Reader.Cutting.{in_line}
 use Rattle.bpf_text.specs.Tokens.{is_blank, after_blanks, word_len, front_tok, front_len, IsEnd, AreTokens}
 
 -- ---- words
@@ -98,18 +100,32 @@ abbrev pub EndsSign : List ℕ → Type 0
 EndsSign [] = Unit {0}
 EndsSign (b ∷ bs) = (61 == b ≡ false) × (60 == b ≡ false) × (62 == b ≡ false)
 
+-- what the tokens are by the first sign
+abbrev Begins : Sign → List ℕ → Type 0
+Begins s text = first_sign text ≡ Some s
+
+sign_first : (s : Sign) (rest : List ℕ) → EndsSign rest → Begins s (sign_text s ++ rest)
+sign_first sign.ShlAssign [] e = refl
+sign_first s [] e = refl
+sign_first sign.Above (b ∷ bs) e = let x = e.0 in let z = e.2 in rw (x, z) refl
+sign_first sign.Below (b ∷ bs) e = let x = e.0 in let y = e.1 in rw (x, y) refl
+sign_first sign.Assign (b ∷ bs) e = let x = e.0 in rw x refl
+sign_first sign.And (b ∷ bs) e = let x = e.0 in rw x refl
+sign_first sign.Plus (b ∷ bs) e = let x = e.0 in rw x refl
+sign_first sign.Minus (b ∷ bs) e = let x = e.0 in rw x refl
+sign_first sign.Star (b ∷ bs) e = let x = e.0 in rw x refl
+sign_first s (b ∷ bs) e = refl
+
+marked : (s : Sign) (text : List ℕ) → word_len text ≡ 0 → sign_at text ≡ Some s → (front_tok text ≡ Mark s) × (front_len text ≡ length (sign_text s))
+unfolding front_tok front_len
+marked s text e f = rw (e, f) (refl, refl)
+
+sign_no_word : (s : Sign) (rest : List ℕ) → word_len (sign_text s ++ rest) ≡ 0
+sign_no_word sign.ShlAssign rest = refl
+sign_no_word s rest = refl
+
 pub sign_front : (s : Sign) (rest : List ℕ) → EndsSign rest → (front_tok (sign_text s ++ rest) ≡ Mark s) × (front_len (sign_text s ++ rest) ≡ length (sign_text s))
-unfolding front_tok front_len sign_at
-sign_front sign.ShlAssign [] e = (refl, refl)
-sign_front s [] e = (refl, refl)
-sign_front sign.Above (b ∷ bs) e = let x = e.0 in let z = e.2 in rw (x, z) (refl, refl)
-sign_front sign.Below (b ∷ bs) e = let x = e.0 in let y = e.1 in rw (x, y) (refl, refl)
-sign_front sign.Assign (b ∷ bs) e = let x = e.0 in rw x (refl, refl)
-sign_front sign.And (b ∷ bs) e = let x = e.0 in rw x (refl, refl)
-sign_front sign.Plus (b ∷ bs) e = let x = e.0 in rw x (refl, refl)
-sign_front sign.Minus (b ∷ bs) e = let x = e.0 in rw x (refl, refl)
-sign_front sign.Star (b ∷ bs) e = let x = e.0 in rw x (refl, refl)
-sign_front s (b ∷ bs) e = (refl, refl)
+sign_front s rest e = marked s (sign_text s ++ rest) (sign_no_word s rest) (sym (first_is_longest (sign_text s ++ rest)) ∙ sign_first s rest e)
 
 -- ---- one token
 
@@ -203,13 +219,6 @@ decimal_bytes n h = let d = decimal_is_IsNumeral n h in ((digit_bytes 10 (decima
 
 -- ---- sixteen hex digits
 
-abbrev wide_digits : ℕ → List ℕ
-wide_digits n = padded_integral (format_spec 32 0 4 16 (2 ^ 64 - 1)) false [] (digits 16 false n)
-
-padded_zeros : (ds : List ℕ) → (k : ℕ) × (padded_integral (format_spec 32 0 4 16 (2 ^ 64 - 1)) false [] ds ≡ replicate k 48 ++ ds)
-unfolding padded_integral
-padded_zeros ds = (16 - length ds - 0 - char_count [], ap (λ t. replicate (16 - length ds - 0 - char_count []) 48 ++ t) (append-nil ds))
-
 zeros_value : (k : ℕ) (ds : List ℕ) → digits_value 16 (replicate k 48 ++ ds) ≡ digits_value 16 ds
 zeros_value zero ds = refl
 zeros_value (suc k) ds = zeros_value k ds
@@ -226,20 +235,16 @@ hex_numeral : (hs : List ℕ) → 0 < length hs → AllDigits 16 hs → word_tok
 unfolding word_tok number_tok
 hex_numeral hs some all = numeral_by 16 hs some (digit_bytes 16 hs (omega arith) all).0
 
-abbrev hex_word : ℕ → List ℕ
-hex_word n = 48 ∷ 120 ∷ wide_digits n
-
-hex_facts : (n : ℕ) → n < 2 ^ 64 → (word_tok (hex_word n) ≡ Number n) × (list_all is_word_byte (hex_word n) ≡ true)
-hex_facts n small =
+wide_facts : (n : ℕ) → n < 2 ^ 64 → (word_tok (wide_text n) ≡ Number n) × (list_all is_word_byte (wide_text n) ≡ true)
+wide_facts n small =
     let d = digits_is_IsNumeral 16 false (omega arith) (omega arith) n (omega arith) in
     let ds = digits 16 false n in
-    let zeros = padded_zeros ds in
-    let hs = replicate zeros.0 48 ++ ds in
-    let padded = zeros.1 in
-    let all : AllDigits 16 hs = zeros_digits zeros.0 ds d.0.1 in
-    let some : 0 < length hs = zeros_long zeros.0 ds d.0.0 in (
-      ap (λ t. word_tok (48 ∷ 120 ∷ t)) padded ∙ hex_numeral hs some all ∙ ap Number (zeros_value zeros.0 ds ∙ d.1),
-      ap (λ t. list_all is_word_byte (48 ∷ 120 ∷ t)) padded ∙ (digit_bytes 16 hs (omega arith) all).1,
+    let zeros = 16 - length ds in
+    let hs = replicate zeros 48 ++ ds in
+    let all : AllDigits 16 hs = zeros_digits zeros ds d.0.1 in
+    let some : 0 < length hs = zeros_long zeros ds d.0.0 in (
+      hex_numeral hs some all ∙ ap Number (zeros_value zeros ds ∙ d.1),
+      (digit_bytes 16 hs (omega arith) all).1,
     )
 
 -- ---- items
@@ -389,7 +394,7 @@ shown (Natural n ∷ is) apart small =
 shown (Hex n ∷ is) apart small =
     let p = and_parts (word_stops is) (is_apart is) apart in
     let rest = shown is p.1 small.1 in
-    (Number n ∷ rest.0, (let h = hex_facts n small.0 in word_token (hex_word n) (text_of is) (Number n) rest.0 h.1 (omega arith) (word_stops-ends is p.0) h.0 rest.1), (refl, rest.2))
+    (Number n ∷ rest.0, (let h = wide_facts n small.0 in word_token (wide_text n) (text_of is) (Number n) rest.0 h.1 (omega arith) (word_stops-ends is p.0) h.0 rest.1), (refl, rest.2))
 shown (Offset (pos n) ∷ is) apart small =
     let p = and_parts (word_stops is) (is_apart is) apart in
     let rest = shown is p.1 small.1 in
@@ -442,7 +447,7 @@ item_in_lines (Is (Mark s)) is apart small = sign_in_lines s
 item_in_lines (Signed (pos n)) is apart small = word_in_lines (decimal n) (decimal_bytes n small).0
 item_in_lines (Signed (negsuc n)) is apart small = let fits : suc n < 2 ^ 64 = omega (arith, small) in word_in_lines (decimal (suc n)) (decimal_bytes (suc n) fits).0
 item_in_lines (Natural n) is apart small = word_in_lines (decimal n) (decimal_bytes n small).0
-item_in_lines (Hex n) is apart small = word_in_lines (hex_word n) (hex_facts n small).1
+item_in_lines (Hex n) is apart small = word_in_lines (wide_text n) (wide_facts n small).1
 item_in_lines (Offset (pos n)) is apart small = word_in_lines (decimal n) (decimal_bytes n small).0
 item_in_lines (Offset (negsuc n)) is apart small = word_in_lines (decimal (n + 1)) (decimal_bytes (n + 1) small).0
 item_in_lines (Target (pos n) None) is apart small = word_in_lines (decimal n) (decimal_bytes n small).0

@@ -23,10 +23,17 @@ use Rattle.bpf_text.specs.declared.keywords.Keyword.{Keyword}
 use Rattle.bpf_text.specs.declared.keywords.Keyword.TheVariants as key
 use Rattle.bpf_text.specs.declared.signs.Sign.{Sign}
 use Rattle.bpf_text.specs.declared.signs.Sign.TheVariants as sign
+use Rattle.bpf_text.specs.declared.atomics.AtomicForm.TheVariants as form
+use Rattle.bpf_text.specs.declared.operators.Operator.{Operator}
+use Rattle.bpf_text.specs.declared.operators.TheConstants.{OPERATIONS, CONDITIONS}
+use Rattle.bpf_text.specs.declared.atomics.TheConstants.{ATOMICS}
+use Rattle.bpf_text.specs.Operators.{operator_of, comparison_of, atomic_form}
 use Rattle.bpf_text.specs.Token.{Tok, Register, Word, Number, Mark}
-use Rattle.bpf_text.specs.Form.{Item, Blank, Signed, Target, mark, reg, word, address, cell, cell_size, op_items, condition_items, operand_item, extended_width, extended_size, locked, fetched, atomic_items}
+use Rattle.bpf_text.specs.Form.{Item, Blank, Signed, Target as TargetItem, mark, reg, word, address, cell, cell_size, operator_items, operand_item, extended_width, extended_size, atomic_items}
 use Rattle.bpf_text.specs.Line.{Written, Spells, IsSpelled, name_of}
-use Rattle.bpf_text.specs.Reading.{◌>>=◌, Address, Cell, Second, Test, Goal, same_width, same_register, address_at, closed_at, pointer_at, cell_at, operand_at, label_at, target_at, plain_op, signed_op, locked_op, plain_condition, signed_condition, tested, condition_at, extension_of, cell_width, ends, alu_end, alu_at, extend_at, loaded_at, load_at, atomic_end, atomic_at, fetch_at, exchange_at, compared_at, expected_at, compare_exchange_at, swap_at, map_at, keyword_at, moved_at, wide_at, negative_at, number_at, assigned_at, register_at, stored_end, stored_at, store_at, locked_at, lock_at, jump_at, jump_long_at, branch_to, branch_end, branch_at, helper_at, call_local_at, call_at, statement_at, line_at}
+use Rattle.bpf_text.specs.Reader.Pieces.{Middle, same_operator, operator_at, operation_named, condition_named, is_locked_by, is_fetched_by, fetched_op, ◌>>=◌, Address, Place, Second, Target, same_width, same_register, address_at, closed_at, pointer_at, cell_at, operand_at, label_at, target_at, locked_op, extension_of, cell_width}
+use Rattle.bpf_text.specs.Reader.Lines.{fetched_at, operation_at, ends, alu_end, alu_at, extend_at, loaded_at, load_at, atomic_end, atomic_at, fetch_at, exchange_at, compared_at, expected_at, compare_exchange_at, swap_at, map_at, keyword_at, moved_at, wide_at, negative_at, number_at, assigned_at, register_at, stored_end, stored_at, store_at, locked_at, lock_at, jump_at, jump_long_at, branch_to, branch_end, branch_at, helper_at, call_local_at, call_at, statement_at, line_at}
+use Rattle.bpf_text.proofs.Finding.{found_by, same_operator-true, is_locked_by-true, is_fetched_by-true}
 use Rattle.bpf_text.proofs.Chains.{IfSome-then, IfSome-if, IfSome-ends, same_width-true, same_register-true}
 
 -- ---- pieces, before whatever follows
@@ -40,7 +47,7 @@ address_sound (Register Bits64 b ∷ Mark sign.Plus ∷ Number n ∷ ts) = λ is
 address_sound (Register Bits64 b ∷ Mark sign.Minus ∷ Number n ∷ ts) = λ is s. (refl, (refl, s))
 address_sound ts = tt
 
-abbrev SpellsCell : List Tok → Cell → Type 0
+abbrev SpellsCell : List Tok → Place → Type 0
 SpellsCell ts c = (is : List Item) → Spells is c.rest → Spells (cell c.size c.base c.offset is) ts
 
 closed_sound : (k : Keyword) (b : Reg) (o : ℤ) (ts us : List Tok) → ((is : List Item) → Spells is us → Spells (address b o is) ts)
@@ -71,81 +78,47 @@ operand_sound w (Number n ∷ ts) = λ is s. (refl, s)
 operand_sound w (Mark sign.Minus ∷ Number n ∷ ts) = λ is s. (refl, s)
 operand_sound w ts = tt
 
-abbrev SpellsGoal : List Tok → Goal → Type 0
-SpellsGoal ts g = Spells (Target g.distance g.name ∷ []) ts
+abbrev SpellsTarget : List Tok → Target → Type 0
+SpellsTarget ts g = Spells (TargetItem g.distance g.name ∷ []) ts
 
-label_sound : (t : Tok) (o : Option (List ℕ)) → name_of t ≡ o → IfSome (label_at o) (SpellsGoal (t ∷ []))
+label_sound : (t : Tok) (o : Option (List ℕ)) → name_of t ≡ o → IfSome (label_at o) (SpellsTarget (t ∷ []))
 unfolding label_at
 label_sound t (Some name) e = (refl, e, refl)
 label_sound t None e = tt
 
-target_sound : (ts : List Tok) → IfSome (target_at ts) (SpellsGoal ts)
+target_sound : (ts : List Tok) → IfSome (target_at ts) (SpellsTarget ts)
 unfolding target_at
 target_sound (Mark sign.Plus ∷ Number n ∷ []) = (refl, refl)
 target_sound (Mark sign.Minus ∷ Number n ∷ []) = (refl, refl)
 target_sound (t ∷ []) = label_sound t (name_of t) refl
 target_sound ts = tt
 
--- ---- operations and conditions
+-- ---- operations, by how they are written
 
-abbrev SpellsOp : (List Tok → List Tok) → AluOp → Type 0
-SpellsOp pre op = (is : List Item) (us : List Tok) → Spells is us → Spells (op_items op ++ is) (pre us)
+abbrev SpellsMiddle : List Tok → Middle → Type 0
+SpellsMiddle ts m = (is : List Item) → Spells is m.rest → Spells (operator_items m.operator ++ is) ts
 
-plain_op_sound : (s : Sign) → IfSome (plain_op s) (SpellsOp (λ us. Mark s ∷ us))
-unfolding plain_op
-plain_op_sound sign.AddAssign = λ is us h. (refl, h)
-plain_op_sound sign.SubAssign = λ is us h. (refl, h)
-plain_op_sound sign.MulAssign = λ is us h. (refl, h)
-plain_op_sound sign.DivAssign = λ is us h. (refl, h)
-plain_op_sound sign.OrAssign = λ is us h. (refl, h)
-plain_op_sound sign.AndAssign = λ is us h. (refl, h)
-plain_op_sound sign.ShlAssign = λ is us h. (refl, h)
-plain_op_sound sign.ShrAssign = λ is us h. (refl, h)
-plain_op_sound sign.RemAssign = λ is us h. (refl, h)
-plain_op_sound sign.XorAssign = λ is us h. (refl, h)
-plain_op_sound s = tt
+operator_sound : (ts : List Tok) → IfSome (operator_at ts) (SpellsMiddle ts)
+unfolding operator_at
+operator_sound (Word key.Signed ∷ Mark s ∷ ts) = λ is h. (refl, (refl, h))
+operator_sound (Mark s ∷ ts) = λ is h. (refl, h)
+operator_sound ts = tt
 
-signed_op_sound : (s : Sign) → IfSome (signed_op s) (SpellsOp (λ us. Word key.Signed ∷ Mark s ∷ us))
-unfolding signed_op
-signed_op_sound sign.DivAssign = λ is us h. (refl, (refl, h))
-signed_op_sound sign.RemAssign = λ is us h. (refl, (refl, h))
-signed_op_sound sign.ShrAssign = λ is us h. (refl, (refl, h))
-signed_op_sound s = tt
+operation_sound : (o : Operator) → IfSome (operation_named o) (λ op. operator_of op ≡ o)
+unfolding operation_named
+operation_sound o = found_by (λ op. same_operator (operator_of op) o) OPERATIONS (λ op. operator_of op ≡ o) (λ op e. same_operator-true (operator_of op) o e)
 
-abbrev SpellsCondition : (List Tok → List Tok) → Condition → Type 0
-SpellsCondition pre c = (is : List Item) (us : List Tok) → Spells is us → Spells (condition_items c ++ is) (pre us)
+condition_sound : (o : Operator) → IfSome (condition_named o) (λ c. comparison_of c ≡ o)
+unfolding condition_named
+condition_sound o = found_by (λ c. same_operator (comparison_of c) o) CONDITIONS (λ c. comparison_of c ≡ o) (λ c e. same_operator-true (comparison_of c) o e)
 
-plain_condition_sound : (s : Sign) → IfSome (plain_condition s) (SpellsCondition (λ us. Mark s ∷ us))
-unfolding plain_condition
-plain_condition_sound sign.Equal = λ is us h. (refl, h)
-plain_condition_sound sign.Above = λ is us h. (refl, h)
-plain_condition_sound sign.AtLeast = λ is us h. (refl, h)
-plain_condition_sound sign.And = λ is us h. (refl, h)
-plain_condition_sound sign.NotEqual = λ is us h. (refl, h)
-plain_condition_sound sign.Below = λ is us h. (refl, h)
-plain_condition_sound sign.AtMost = λ is us h. (refl, h)
-plain_condition_sound s = tt
+locked_op_sound : (s : Sign) → IfSome (locked_op s) (λ op. atomic_form op ≡ form.Locked s)
+unfolding locked_op
+locked_op_sound s = found_by (λ op. is_locked_by (atomic_form op) s) ATOMICS (λ op. atomic_form op ≡ form.Locked s) (λ op e. is_locked_by-true (atomic_form op) s e)
 
-signed_condition_sound : (s : Sign) → IfSome (signed_condition s) (SpellsCondition (λ us. Word key.Signed ∷ Mark s ∷ us))
-unfolding signed_condition
-signed_condition_sound sign.Above = λ is us h. (refl, (refl, h))
-signed_condition_sound sign.AtLeast = λ is us h. (refl, (refl, h))
-signed_condition_sound sign.Below = λ is us h. (refl, (refl, h))
-signed_condition_sound sign.AtMost = λ is us h. (refl, (refl, h))
-signed_condition_sound s = tt
-
-abbrev SpellsTest : List Tok → Test → Type 0
-SpellsTest ts t = (is : List Item) → Spells is t.rest → Spells (condition_items t.condition ++ is) ts
-
-tested_sound : (o : Option Condition) (pre : List Tok → List Tok) (ts : List Tok) → IfSome o (SpellsCondition pre) → IfSome (tested o ts) (SpellsTest (pre ts))
-tested_sound (Some c) pre ts h = λ is s. h is ts s
-tested_sound None pre ts h = tt
-
-condition_sound : (ts : List Tok) → IfSome (condition_at ts) (SpellsTest ts)
-unfolding condition_at
-condition_sound (Word key.Signed ∷ Mark s ∷ ts) = tested_sound (signed_condition s) (λ us. Word key.Signed ∷ Mark s ∷ us) ts (signed_condition_sound s)
-condition_sound (Mark s ∷ ts) = tested_sound (plain_condition s) (λ us. Mark s ∷ us) ts (plain_condition_sound s)
-condition_sound ts = tt
+fetched_op_sound : (k : Keyword) → IfSome (fetched_op k) (λ op. atomic_form op ≡ form.Fetch k)
+unfolding fetched_op
+fetched_op_sound k = found_by (λ op. is_fetched_by (atomic_form op) k) ATOMICS (λ op. atomic_form op ≡ form.Fetch k) (λ op e. is_fetched_by-true (atomic_form op) k e)
 
 extension_sound : (w : Width) (z : SignedSize) → IfSome (extension_of w z) (λ e. (extended_width e ≡ w) × (extended_size e ≡ z))
 unfolding extension_of
@@ -170,12 +143,19 @@ cell_width_sound k = tt
 abbrev Reads : List Tok → Option Written → Type 0
 Reads ts o = IfSome o (λ i. IsSpelled i ts)
 
-alu_sound : (w : Width) (d : Reg) (o : Option AluOp) (pre : List Tok → List Tok) (ts : List Tok) → IfSome o (SpellsOp pre) → Reads (Register w d ∷ pre ts) (alu_at w d o ts)
+alu_sound : (w : Width) (d : Reg) (op : AluOp) (ts whole : List Tok) → ((is : List Item) → Spells is ts → Spells (operator_items (operator_of op) ++ is) whole)
+    → Reads (Register w d ∷ whole) (alu_at w d op ts)
 unfolding alu_at alu_end
-alu_sound w d None pre ts h = tt
-alu_sound w d (Some op) pre ts h =
-    IfSome-then (operand_at w ts) (λ s. alu_end w d op s.operand s.rest) (SpellsSecond w ts) (λ i. IsSpelled i (Register w d ∷ pre ts)) (operand_sound w ts)
-    (λ s spelled. IfSome-ends (insn.Alu w op d s.operand) s.rest (λ i. IsSpelled i (Register w d ∷ pre ts)) (λ e. (refl, h (Blank ∷ operand_item w s.operand ∷ []) ts (spelled [] e))))
+alu_sound w d op ts whole h =
+    IfSome-then (operand_at w ts) (λ s. alu_end w d op s.operand s.rest) (SpellsSecond w ts) (λ i. IsSpelled i (Register w d ∷ whole)) (operand_sound w ts)
+    (λ s spelled. IfSome-ends (insn.Alu w op d s.operand) s.rest (λ i. IsSpelled i (Register w d ∷ whole)) (λ e. (refl, h (Blank ∷ operand_item w s.operand ∷ []) (spelled [] e))))
+
+arithmetic_sound : (w : Width) (d : Reg) (ts : List Tok) → Reads (Register w d ∷ ts) (operation_at w d ts)
+unfolding operation_at
+arithmetic_sound w d ts =
+    IfSome-then (operator_at ts) (λ m. operation_named m.operator >>= λ op. alu_at w d op m.rest) (SpellsMiddle ts) (λ i. IsSpelled i (Register w d ∷ ts)) (operator_sound ts)
+    (λ m h. IfSome-then (operation_named m.operator) (λ op. alu_at w d op m.rest) (λ op. operator_of op ≡ m.operator) (λ i. IsSpelled i (Register w d ∷ ts)) (operation_sound m.operator)
+    (λ op e. alu_sound w d op m.rest ts (λ is s. let P : Operator → Type 0 = λ o. Spells (operator_items o ++ is) ts in subst P (sym e) (h is s))))
 
 moved_sound : (w : Width) (d : Reg) (z : ℤ) (pre : List Tok → List Tok) (ts : List Tok) → ((us : List Tok) → us ≡ [] → Spells (Signed z ∷ []) (pre us)) → Reads (Register w d ∷ Mark sign.Assign ∷ pre ts) (moved_at w d z ts)
 unfolding moved_at
@@ -223,12 +203,12 @@ load_sound Bits64 d ts =
 
 -- ---- atomic operations
 
-atomic_end_sound : (op : AtomicOp) (w : Width) (b : Reg) (o : ℤ) (s : Reg) (ts whole : List Tok) → (ts ≡ [] → Spells (atomic_items op w b o s) whole) → Reads whole (atomic_end op w b o s ts)
+atomic_end_sound : (op : AtomicOp) (w : Width) (b : Reg) (o : ℤ) (s : Reg) (ts whole : List Tok) → (ts ≡ [] → Spells (atomic_items (atomic_form op) w b o s) whole) → Reads whole (atomic_end op w b o s ts)
 unfolding atomic_end
 atomic_end_sound op w b o s ts whole h = IfSome-ends (insn.Atomic w op b o s) ts (λ i. IsSpelled i whole) h
 
 -- behind the place of an operation that fetches, `, R)`
-atomic_sound : (op : AtomicOp) (w : Width) (d b : Reg) (o : ℤ) (ts whole : List Tok) → (Spells (mark sign.Comma ∷ Blank ∷ reg w d ∷ mark sign.Close ∷ []) ts → Spells (atomic_items op w b o d) whole) → Reads whole (atomic_at op w d b o ts)
+atomic_sound : (op : AtomicOp) (w : Width) (d b : Reg) (o : ℤ) (ts whole : List Tok) → (Spells (mark sign.Comma ∷ Blank ∷ reg w d ∷ mark sign.Close ∷ []) ts → Spells (atomic_items (atomic_form op) w b o d) whole) → Reads whole (atomic_at op w d b o ts)
 unfolding atomic_at
 atomic_sound op w d b o (Mark sign.Comma ∷ Register v s ∷ Mark sign.Close ∷ ts) whole h =
     IfSome-if (same_width v w && same_register s d) (atomic_end op w b o d ts) (λ i. IsSpelled i whole)
@@ -237,10 +217,7 @@ atomic_sound op w d b o (Mark sign.Comma ∷ Register v s ∷ Mark sign.Close �
     (λ f. h (refl, (ap (λ x. Register x s) (same_width-true v w p.0) ∙ ap (Register w) (same_register-true s d p.1), (refl, f)))))
 atomic_sound op w d b o ts whole h = tt
 
-abbrev IsFetch : AtomicOp → Keyword → Type 0
-IsFetch op k = (w : Width) (b : Reg) (o : ℤ) (r : Reg) → atomic_items op w b o r ≡ fetched k w b o r
-
-fetch_sound : (op : AtomicOp) (k : Keyword) (w : Width) (d : Reg) (ts : List Tok) → IsFetch op k → Reads (Register w d ∷ Mark sign.Assign ∷ Word k ∷ ts) (fetch_at op w d ts)
+fetch_sound : (op : AtomicOp) (k : Keyword) (w : Width) (d : Reg) (ts : List Tok) → atomic_form op ≡ form.Fetch k → Reads (Register w d ∷ Mark sign.Assign ∷ Word k ∷ ts) (fetch_at op w d ts)
 unfolding fetch_at
 fetch_sound op k w d (Mark sign.Open ∷ ts) same =
     IfSome-then (cell_at ts) (λ c. cell_width c.size >>= λ v. cond (same_width v w) (atomic_at op w d c.base c.offset c.rest) None) (SpellsCell ts) Q (cell_sound ts)
@@ -251,7 +228,7 @@ fetch_sound op k w d (Mark sign.Open ∷ ts) same =
     let Tail : List Item = mark sign.Comma ∷ Blank ∷ reg w d ∷ mark sign.Close ∷ [] in
     let P : Keyword → Type 0 = λ x. Spells (cell x c.base c.offset Tail) ts in
     let F : List Item → Type 0 = λ is. Spells is whole in
-    subst F (sym (same w c.base c.offset d)) (refl, (refl, (refl, (refl, subst P sizes (h Tail tail)))))))))
+    subst F (sym (ap (λ f. atomic_items f w c.base c.offset d) same)) (refl, (refl, (refl, (refl, subst P sizes (h Tail tail)))))))))
   where
     whole : List Tok
     whole = Register w d ∷ Mark sign.Assign ∷ Word k ∷ Mark sign.Open ∷ ts
@@ -269,14 +246,14 @@ exchange_sound w d (Mark sign.Open ∷ ts) =
     (λ tail. (refl, (refl, (refl, (refl, h (mark sign.Comma ∷ Blank ∷ reg w d ∷ mark sign.Close ∷ []) tail))))))
 exchange_sound w d ts = tt
 
-compared_sound : (w : Width) (b : Reg) (o : ℤ) (ts whole : List Tok) → ((s : Reg) → Spells (mark sign.Comma ∷ Blank ∷ reg w s ∷ mark sign.Close ∷ []) ts → Spells (atomic_items atomic.CompareExchange w b o s) whole) → Reads whole (compared_at w b o ts)
+compared_sound : (w : Width) (b : Reg) (o : ℤ) (ts whole : List Tok) → ((s : Reg) → Spells (mark sign.Comma ∷ Blank ∷ reg w s ∷ mark sign.Close ∷ []) ts → Spells (atomic_items form.CompareExchange w b o s) whole) → Reads whole (compared_at w b o ts)
 unfolding compared_at
 compared_sound w b o (Mark sign.Comma ∷ Register v s ∷ Mark sign.Close ∷ ts) whole h =
     IfSome-if (same_width v w) (atomic_end atomic.CompareExchange w b o s ts) (λ i. IsSpelled i whole)
     (λ e. atomic_end_sound atomic.CompareExchange w b o s ts whole (λ f. h s (refl, (ap (λ x. Register x s) (same_width-true v w e), (refl, f)))))
 compared_sound w b o ts whole h = tt
 
-expected_sound : (w : Width) (b : Reg) (o : ℤ) (ts whole : List Tok) → ((s : Reg) → Spells (mark sign.Comma ∷ Blank ∷ reg w R0 ∷ mark sign.Comma ∷ Blank ∷ reg w s ∷ mark sign.Close ∷ []) ts → Spells (atomic_items atomic.CompareExchange w b o s) whole) → Reads whole (expected_at w b o ts)
+expected_sound : (w : Width) (b : Reg) (o : ℤ) (ts whole : List Tok) → ((s : Reg) → Spells (mark sign.Comma ∷ Blank ∷ reg w R0 ∷ mark sign.Comma ∷ Blank ∷ reg w s ∷ mark sign.Close ∷ []) ts → Spells (atomic_items form.CompareExchange w b o s) whole) → Reads whole (expected_at w b o ts)
 unfolding expected_at
 expected_sound w b o (Mark sign.Comma ∷ Register v R0 ∷ ts) whole h =
     IfSome-if (same_width v w) (compared_at w b o ts) (λ i. IsSpelled i whole)
@@ -307,24 +284,23 @@ unfolding map_at
 map_sound Bits64 d (Number n ∷ ts) = IfSome-ends (insn.LoadMap d n) ts (λ i. IsSpelled i (Register Bits64 d ∷ Mark sign.Assign ∷ Word key.Map ∷ Number n ∷ ts)) (λ e. (refl, (refl, (refl, (refl, e)))))
 map_sound w d ts = tt
 
+fetched_sound : (w : Width) (d : Reg) (k : Keyword) (ts : List Tok) → Reads (Register w d ∷ Mark sign.Assign ∷ Word k ∷ ts) (fetched_at w d k ts)
+unfolding fetched_at
+fetched_sound w d k ts =
+    IfSome-then (fetched_op k) (λ op. fetch_at op w d ts) (λ op. atomic_form op ≡ form.Fetch k) (λ i. IsSpelled i (Register w d ∷ Mark sign.Assign ∷ Word k ∷ ts)) (fetched_op_sound k)
+    (λ op same. fetch_sound op k w d ts same)
+
 keyword_sound : (w : Width) (d : Reg) (k : Keyword) (ts : List Tok) → Reads (Register w d ∷ Mark sign.Assign ∷ Word k ∷ ts) (keyword_at w d k ts)
 unfolding keyword_at
 keyword_sound w d (key.Swap k z) ts = swap_sound w d k z ts
 keyword_sound w d key.Map ts = map_sound w d ts
-keyword_sound w d key.FetchAdd ts = fetch_sound atomic.FetchAdd key.FetchAdd w d ts (λ w b o r. refl)
-keyword_sound w d key.FetchOr ts = fetch_sound atomic.FetchOr key.FetchOr w d ts (λ w b o r. refl)
-keyword_sound w d key.FetchAnd ts = fetch_sound atomic.FetchAnd key.FetchAnd w d ts (λ w b o r. refl)
-keyword_sound w d key.FetchXor ts = fetch_sound atomic.FetchXor key.FetchXor w d ts (λ w b o r. refl)
 keyword_sound w d (key.Exchange v) ts =
     IfSome-if (same_width v w) (exchange_at w d ts) (λ i. IsSpelled i (Register w d ∷ Mark sign.Assign ∷ Word (key.Exchange v) ∷ ts))
     (λ e. let P : Width → Type 0 = λ x. Reads (Register w d ∷ Mark sign.Assign ∷ Word (key.Exchange x) ∷ ts) (exchange_at w d ts) in subst P (sym (same_width-true v w e)) (exchange_sound w d ts))
 keyword_sound w d (key.CompareExchange v) ts =
     IfSome-if (same_width v w) (compare_exchange_at w d ts) (λ i. IsSpelled i (Register w d ∷ Mark sign.Assign ∷ Word (key.CompareExchange v) ∷ ts))
     (λ e. let P : Width → Type 0 = λ x. Reads (Register w d ∷ Mark sign.Assign ∷ Word (key.CompareExchange x) ∷ ts) (compare_exchange_at w d ts) in subst P (sym (same_width-true v w e)) (compare_exchange_sound w d ts))
-keyword_sound w d k ts = tt
-
-mov_sound : SpellsOp (λ us. Mark sign.Assign ∷ us) alu.Mov
-mov_sound = λ is us h. (refl, h)
+keyword_sound w d k ts = fetched_sound w d k ts
 
 assigned_sound : (w : Width) (d : Reg) (ts : List Tok) → Reads (Register w d ∷ Mark sign.Assign ∷ ts) (assigned_at w d ts)
 unfolding assigned_at
@@ -333,14 +309,12 @@ assigned_sound w d (Mark sign.Open ∷ ts) = extend_sound w d ts
 assigned_sound w d (Mark sign.Star ∷ ts) = load_sound w d ts
 assigned_sound w d (Word k ∷ ts) = keyword_sound w d k ts
 assigned_sound w d (Number n ∷ ts) = number_sound w d n ts
-assigned_sound w d ts = alu_sound w d (Some alu.Mov) (λ us. Mark sign.Assign ∷ us) ts mov_sound
+assigned_sound w d ts = alu_sound w d alu.Mov ts (Mark sign.Assign ∷ ts) (λ is s. (refl, s))
 
 register_sound : (w : Width) (d : Reg) (ts : List Tok) → Reads (Register w d ∷ ts) (register_at w d ts)
 unfolding register_at
 register_sound w d (Mark sign.Assign ∷ ts) = assigned_sound w d ts
-register_sound w d (Mark s ∷ ts) = alu_sound w d (plain_op s) (λ us. Mark s ∷ us) ts (plain_op_sound s)
-register_sound w d (Word key.Signed ∷ Mark s ∷ ts) = alu_sound w d (signed_op s) (λ us. Word key.Signed ∷ Mark s ∷ us) ts (signed_op_sound s)
-register_sound w d ts = tt
+register_sound w d ts = arithmetic_sound w d ts
 
 -- ---- the other lines
 
@@ -364,24 +338,13 @@ store_sound ts =
     IfSome-then (cell_at ts) (λ c. stored_at c.size c.base c.offset c.rest) (SpellsCell ts) (λ i. IsSpelled i (Mark sign.Star ∷ ts)) (cell_sound ts)
     (λ c h. stored_sound c.size c.base c.offset ts c.rest h)
 
-abbrev IsLocked : Sign → AtomicOp → Type 0
-IsLocked s op = (w : Width) (b : Reg) (o : ℤ) (r : Reg) → atomic_items op w b o r ≡ locked s w b o r
-
-locked_op_sound : (s : Sign) → IfSome (locked_op s) (IsLocked s)
-unfolding locked_op
-locked_op_sound sign.AddAssign = λ w b o r. refl
-locked_op_sound sign.OrAssign = λ w b o r. refl
-locked_op_sound sign.AndAssign = λ w b o r. refl
-locked_op_sound sign.XorAssign = λ w b o r. refl
-locked_op_sound s = tt
-
 locked_sound : (w : Width) (b : Reg) (o : ℤ) (ts us : List Tok) → ((is : List Item) → Spells is us → Spells (cell (cell_size w) b o is) ts) → Reads (Word key.Lock ∷ Mark sign.Star ∷ ts) (locked_at w b o us)
 unfolding locked_at
 locked_sound w b o ts (Mark s ∷ Register Bits64 r ∷ us) h =
-    IfSome-then (locked_op s) (λ op. atomic_end op w b o r us) (IsLocked s) (λ i. IsSpelled i (Word key.Lock ∷ Mark sign.Star ∷ ts)) (locked_op_sound s)
+    IfSome-then (locked_op s) (λ op. atomic_end op w b o r us) (λ op. atomic_form op ≡ form.Locked s) (λ i. IsSpelled i (Word key.Lock ∷ Mark sign.Star ∷ ts)) (locked_op_sound s)
     (λ op same. atomic_end_sound op w b o r us (Word key.Lock ∷ Mark sign.Star ∷ ts)
     (λ e. let F : List Item → Type 0 = λ is. Spells is (Word key.Lock ∷ Mark sign.Star ∷ ts) in
-    subst F (sym (same w b o r)) (refl, (refl, h (Blank ∷ mark s ∷ Blank ∷ reg Bits64 r ∷ []) (refl, (refl, e))))))
+    subst F (sym (ap (λ f. atomic_items f w b o r) same)) (refl, (refl, h (Blank ∷ mark s ∷ Blank ∷ reg Bits64 r ∷ []) (refl, (refl, e))))))
 locked_sound w b o ts us h = tt
 
 lock_sound : (ts : List Tok) → Reads (Word key.Lock ∷ ts) (lock_at ts)
@@ -394,30 +357,39 @@ lock_sound ts = tt
 
 jump_sound : (ts : List Tok) → Reads (Word key.Goto ∷ ts) (jump_at ts)
 unfolding jump_at
-jump_sound ts = IfSome-then (target_at ts) (λ g. Some (record { insn = insn.Jump g.distance; name = g.name })) (SpellsGoal ts) (λ i. IsSpelled i (Word key.Goto ∷ ts)) (target_sound ts) (λ g h. (refl, h))
+jump_sound ts = IfSome-then (target_at ts) (λ g. Some (record { insn = insn.Jump g.distance; name = g.name })) (SpellsTarget ts) (λ i. IsSpelled i (Word key.Goto ∷ ts)) (target_sound ts) (λ g h. (refl, h))
 
 jump_long_sound : (ts : List Tok) → Reads (Word key.GotoLong ∷ ts) (jump_long_at ts)
 unfolding jump_long_at
-jump_long_sound ts = IfSome-then (target_at ts) (λ g. Some (record { insn = insn.JumpLong g.distance; name = g.name })) (SpellsGoal ts) (λ i. IsSpelled i (Word key.GotoLong ∷ ts)) (target_sound ts) (λ g h. (refl, h))
+jump_long_sound ts = IfSome-then (target_at ts) (λ g. Some (record { insn = insn.JumpLong g.distance; name = g.name })) (SpellsTarget ts) (λ i. IsSpelled i (Word key.GotoLong ∷ ts)) (target_sound ts) (λ g h. (refl, h))
 
-branch_end_sound : (w : Width) (c : Condition) (d : Reg) (s : Operand) (ts whole : List Tok) → ((z : ℤ) (name : Option (List ℕ)) → Spells (Blank ∷ word key.Goto ∷ Blank ∷ Target z name ∷ []) ts → IsSpelled (record { insn = insn.JumpIf w c d s z; name = name }) whole) → Reads whole (branch_end w c d s ts)
+branch_end_sound : (w : Width) (c : Condition) (d : Reg) (s : Operand) (ts whole : List Tok) → ((z : ℤ) (name : Option (List ℕ)) → Spells (Blank ∷ word key.Goto ∷ Blank ∷ TargetItem z name ∷ []) ts → IsSpelled (record { insn = insn.JumpIf w c d s z; name = name }) whole) → Reads whole (branch_end w c d s ts)
 unfolding branch_end branch_to
-branch_end_sound w c d s (Word key.Goto ∷ ts) whole h = IfSome-then (target_at ts) (branch_to w c d s) (SpellsGoal ts) (λ i. IsSpelled i whole) (target_sound ts) (λ g spelled. h g.distance g.name (refl, spelled))
+branch_end_sound w c d s (Word key.Goto ∷ ts) whole h = IfSome-then (target_at ts) (branch_to w c d s) (SpellsTarget ts) (λ i. IsSpelled i whole) (target_sound ts) (λ g spelled. h g.distance g.name (refl, spelled))
 branch_end_sound w c d s ts whole h = tt
 
 branch_sound : (ts : List Tok) → Reads (Word key.If ∷ ts) (branch_at ts)
 unfolding branch_at
 branch_sound (Register w d ∷ ts) =
     let whole = Word key.If ∷ Register w d ∷ ts in
-    IfSome-then (condition_at ts) (λ t. operand_at w t.rest >>= λ s. branch_end w t.condition d s.operand s.rest) (SpellsTest ts) (λ i. IsSpelled i whole) (condition_sound ts)
-    (λ t h. IfSome-then (operand_at w t.rest) (λ s. branch_end w t.condition d s.operand s.rest) (SpellsSecond w t.rest) (λ i. IsSpelled i whole) (operand_sound w t.rest)
-    (λ s k. branch_end_sound w t.condition d s.operand s.rest whole
-    (λ z name spelled. (refl, (refl, h (Blank ∷ operand_item w s.operand ∷ Blank ∷ word key.Goto ∷ Blank ∷ Target z name ∷ []) (k (Blank ∷ word key.Goto ∷ Blank ∷ Target z name ∷ []) spelled))))))
+    IfSome-then (operator_at ts) (λ m. condition_named m.operator >>= λ c. operand_at w m.rest >>= λ s. branch_end w c d s.operand s.rest) (SpellsMiddle ts) (λ i. IsSpelled i whole) (operator_sound ts)
+    (λ t h. IfSome-then (condition_named t.operator) (λ c. operand_at w t.rest >>= λ s. branch_end w c d s.operand s.rest) (λ c. comparison_of c ≡ t.operator) (λ i. IsSpelled i whole) (condition_sound t.operator)
+    (λ c same. IfSome-then (operand_at w t.rest) (λ s. branch_end w c d s.operand s.rest) (SpellsSecond w t.rest) (λ i. IsSpelled i whole) (operand_sound w t.rest)
+    (λ s k. branch_end_sound w c d s.operand s.rest whole
+    (λ z name spelled. (
+      refl,
+      (
+        refl,
+        let others : List Item = Blank ∷ operand_item w s.operand ∷ Blank ∷ word key.Goto ∷ Blank ∷ TargetItem z name ∷ [] in
+            let P : Operator → Type 0 = λ o. Spells (operator_items o ++ others) ts in
+            subst P (sym same) (h others (k (Blank ∷ word key.Goto ∷ Blank ∷ TargetItem z name ∷ []) spelled)),
+      ),
+    )))))
 branch_sound ts = tt
 
 call_local_sound : (ts : List Tok) → Reads (Word key.Call ∷ ts) (call_local_at ts)
 unfolding call_local_at
-call_local_sound ts = IfSome-then (target_at ts) (λ g. Some (record { insn = insn.CallLocal g.distance; name = g.name })) (SpellsGoal ts) (λ i. IsSpelled i (Word key.Call ∷ ts)) (target_sound ts) (λ g h. (refl, h))
+call_local_sound ts = IfSome-then (target_at ts) (λ g. Some (record { insn = insn.CallLocal g.distance; name = g.name })) (SpellsTarget ts) (λ i. IsSpelled i (Word key.Call ∷ ts)) (target_sound ts) (λ g h. (refl, h))
 
 call_sound : (ts : List Tok) → Reads (Word key.Call ∷ ts) (call_at ts)
 unfolding call_at helper_at

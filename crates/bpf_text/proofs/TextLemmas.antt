@@ -6,9 +6,9 @@ use Rattle.bpf_insn.specs.declared.instruction.Insn.{Insn}
 use Rattle.bpf_text.specs.declared.error.TextError.{TextError}
 use Rattle.bpf_text.specs.declared.labels.Place.{Place}
 use Rattle.bpf_text.specs.declared.source.SourceLine.{SourceLine}
-use Rattle.bpf_text.specs.Labels.{or_else}
-use Rattle.bpf_text.specs.Sources.{source_of}
-use Rattle.bpf_text.specs.Cutting.{lines_behind}
+use Rattle.bpf_text.specs.Reader.Labels.{or_else}
+use Rattle.bpf_text.specs.Reader.Sources.{source_of}
+use Rattle.bpf_text.specs.Reader.Cutting.{lines_behind}
 use Rattle.bpf_text.specs.Assembly.{Source, IsLine, AreLines, lines_of, words_of, is_named, first_place, meaning_of, then_meaning, program_of}
 
 -- ---- lines

@@ -1,4 +1,5 @@
--- The assembly language: what a line is, what a label names, and what a whole text stands for (our own choice).
+-- The assembly language: what a line is, what a label names, and what a whole text stands for
+-- (our own choice).
 use Rattle.std.specs.Prelude.{◌≡◌, ◌≢◌, ℕ, ◌+◌, ◌^◌, ◌==◌, ◌&&◌, nat_lt, nat_le, Bool, true, false, not, if◌then◌else◌, List, [], ◌∷◌, ◌++◌, Option, Some, None, option_to_list, Result, Ok, Err, ℤ, pos, ◌-ℤ◌}
 use Rattle.std.specs.Str.{bytes_eq}
 use Rattle.bpf_insn.specs.Table.{words}
@@ -45,7 +46,8 @@ pub record Source : Type 0 where
   pub label : Option (List ℕ)
   pub body : Result (Option Written) LineError
 
--- nothing; an instruction whose numbers fit; one with a number that doesn't; something that no form has
+-- nothing; an instruction whose numbers fit; one with a number that doesn't; something that no
+-- form has
 abbrev pub IsBody : Result (Option Written) LineError → List Tok → Type 0
 IsBody (Ok None) ts = ts ≡ []
 IsBody (Ok (Some i)) ts = IsSpelled i ts × Fits i.insn
@@ -79,7 +81,9 @@ is_named name (Some l) = bytes_eq l name
 -- the first line with this label, lines and words being counted on from here
 abbrev pub first_place : List Source → ℕ → ℕ → List ℕ → Option Place
 first_place [] line pc name = None
-first_place (s ∷ ss) line pc name = if is_named name s.label then Some (record { line = line; pc = pc }) else first_place ss (line + 1) (pc + words_of s.body) name
+first_place (s ∷ ss) line pc name =
+    if is_named name s.label then Some (record { line = line; pc = pc })
+    else first_place ss (line + 1) (pc + words_of s.body) name
 
 -- a line before this one has the same label
 abbrev pub is_other : ℕ → Option Place → Bool
@@ -107,11 +111,13 @@ with_distance f None = None
 unfoldable pub targeted : Insn → ℕ → ℕ → Option Insn
 targeted (insn.Jump o) next to = with_distance insn.Jump (distance_to (2 ^ 15) next to)
 targeted (insn.JumpLong o) next to = with_distance insn.JumpLong (distance_to (2 ^ 31) next to)
-targeted (insn.JumpIf w c d s o) next to = with_distance (insn.JumpIf w c d s) (distance_to (2 ^ 15) next to)
+targeted (insn.JumpIf w c d s o) next to =
+    with_distance (insn.JumpIf w c d s) (distance_to (2 ^ 15) next to)
 targeted (insn.CallLocal o) next to = with_distance insn.CallLocal (distance_to (2 ^ 31) next to)
 targeted i next to = Some i
 
--- ---- what a line means, or the first refusal that applies, in the order of their numbers; lines count from 1
+-- ---- what a line means, or the first refusal that applies, in the order of their numbers;
+-- lines count from 1
 
 abbrev pub or_far : ℕ → Option Insn → Result (Option Insn) TextError
 or_far line (Some i) = Ok (Some i)
@@ -123,24 +129,29 @@ unless_twice false line r = r
 
 abbrev pub at_target : Bool → ℕ → ℕ → Insn → Option Place → Result (Option Insn) TextError
 at_target twice line pc i None = Err (refusal.UnknownLabel (line + 1))
-at_target twice line pc i (Some to) = unless_twice twice line (or_far line (targeted i (pc + words i) to.pc))
+at_target twice line pc i (Some to) =
+    unless_twice twice line (or_far line (targeted i (pc + words i) to.pc))
 
-abbrev pub named_meaning : (List ℕ → Option Place) → Bool → ℕ → ℕ → Insn → Option (List ℕ) → Result (Option Insn) TextError
+abbrev pub named_meaning : (List ℕ → Option Place) → Bool → ℕ → ℕ → Insn → Option (List ℕ)
+    → Result (Option Insn) TextError
 named_meaning labels twice line pc i None = unless_twice twice line (Ok (Some i))
 named_meaning labels twice line pc i (Some name) = at_target twice line pc i (labels name)
 
-abbrev pub body_meaning : (List ℕ → Option Place) → Bool → ℕ → ℕ → Result (Option Written) LineError → Result (Option Insn) TextError
+abbrev pub body_meaning : (List ℕ → Option Place) → Bool → ℕ → ℕ
+    → Result (Option Written) LineError → Result (Option Insn) TextError
 body_meaning labels twice line pc (Err BadLine) = Err (refusal.BadLine (line + 1))
 body_meaning labels twice line pc (Err BadNumber) = Err (refusal.BadNumber (line + 1))
 body_meaning labels twice line pc (Ok None) = unless_twice twice line (Ok None)
 body_meaning labels twice line pc (Ok (Some i)) = named_meaning labels twice line pc i.insn i.name
 
-unfoldable pub meaning_of : (List ℕ → Option Place) → ℕ → ℕ → Source → Result (Option Insn) TextError
+unfoldable pub meaning_of : (List ℕ → Option Place) → ℕ → ℕ → Source
+    → Result (Option Insn) TextError
 meaning_of labels line pc s = body_meaning labels (is_twice labels line s.label) line pc s.body
 
 -- ---- whole texts
 
-abbrev pub then_meaning : Result (Option Insn) TextError → Result (List Insn) TextError → Result (List Insn) TextError
+abbrev pub then_meaning : Result (Option Insn) TextError → Result (List Insn) TextError
+    → Result (List Insn) TextError
 then_meaning (Ok i) (Ok is) = Ok (option_to_list i ++ is)
 then_meaning (Ok i) (Err e) = Err e
 then_meaning (Err e) r = Err e
@@ -148,7 +159,9 @@ then_meaning (Err e) r = Err e
 -- what lines mean one after the other, or the first line's refusal
 abbrev pub program_of : (List ℕ → Option Place) → ℕ → ℕ → List Source → Result (List Insn) TextError
 program_of labels line pc [] = Ok []
-program_of labels line pc (s ∷ ss) = then_meaning (meaning_of labels line pc s) (program_of labels (line + 1) (pc + words_of s.body) ss)
+program_of labels line pc (s ∷ ss) =
+    then_meaning (meaning_of labels line pc s) (program_of labels (line + 1)
+    (pc + words_of s.body) ss)
 
 -- THE RELATION between a text and its instructions, or its refusal
 pub record Assembles (text : List ℕ) (outcome : Result (List Insn) TextError) : Type 0 where

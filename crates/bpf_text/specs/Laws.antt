@@ -4,6 +4,9 @@ use Rattle.bpf_insn.specs.declared.instruction.Insn.{Insn}
 use Rattle.bpf_text.specs.declared.error.TextError.{TextError}
 use Rattle.bpf_text.specs.Assembly.{Assembles}
 
--- a text stands for one list of instructions alone, or is refused for one reason alone, and never both
+-- a text stands for one list of instructions alone, or is refused for one reason alone, and
+-- never both
 abbrev pub TextsAreDetermined : Type 0
-TextsAreDetermined = (text : List ℕ) (r q : Result (List Insn) TextError) → Assembles text r → Assembles text q → r ≡ q
+TextsAreDetermined =
+    (text : List ℕ) (r q : Result (List Insn) TextError) → Assembles text r → Assembles text q
+    → r ≡ q

@@ -1,5 +1,5 @@
--- The words that the forms of the assembly language have (our own choice, after the notation of the Linux kernel's
--- BPF listings), each with its one spelling.
+-- The words that the forms of the assembly language have (our own choice, after the notation of
+-- the Linux kernel's BPF listings), each with its one spelling.
 use Rattle.std.specs.Prelude.{ℕ, List, codes}
 use Rattle.bpf_insn.specs.declared.register.Reg.{Reg}
 use Rattle.bpf_insn.specs.declared.register.Reg.TheVariants.{R0, R1, R2, R3, R4, R5, R6, R7, R8, R9, R10}

@@ -1,8 +1,9 @@
 -- The signs of the assembly language, each with its one spelling (our own choice).
-use Rattle.std.specs.Prelude.{ℕ, List, [], ◌∷◌, codes, nat_eq, find, Option}
+use Rattle.std.specs.Prelude.{ℕ, List, [], ◌∷◌, codes, nat_eq, nat_lt, length, filter, if◌then◌else◌, Option, Some, None}
 use Rattle.std.specs.List.{starts_with}
 use Rattle.bpf_text.specs.declared.signs.Sign.{Sign}
 use Rattle.bpf_text.specs.declared.signs.Sign.TheVariants as sign
+use Rattle.bpf_text.specs.declared.signs.TheConstants.{SIGNS}
 
 abbrev pub sign_text : Sign → List ℕ
 sign_text sign.ShlAssign = codes "<<="
@@ -31,10 +32,14 @@ sign_text sign.Close = codes ")"
 sign_text sign.Comma = codes ","
 sign_text sign.Colon = codes ":"
 
--- the signs, the longest first
-abbrev pub signs : List Sign
-signs = sign.ShlAssign ∷ sign.ShrAssign ∷ sign.AddAssign ∷ sign.SubAssign ∷ sign.MulAssign ∷ sign.DivAssign ∷ sign.OrAssign ∷ sign.AndAssign ∷ sign.RemAssign ∷ sign.XorAssign ∷ sign.Equal ∷ sign.NotEqual ∷ sign.AtLeast ∷ sign.AtMost ∷ sign.Assign ∷ sign.Above ∷ sign.Below ∷ sign.And ∷ sign.Plus ∷ sign.Minus ∷ sign.Star ∷ sign.Open ∷ sign.Close ∷ sign.Comma ∷ sign.Colon ∷ []
+-- of the signs that the text begins with the longest
+abbrev pub longer : Sign → Option Sign → Option Sign
+longer s None = Some s
+longer s (Some t) = if nat_lt (length (sign_text s)) (length (sign_text t)) then Some t else Some s
 
--- the longest sign that the text begins with
+abbrev pub longest : List Sign → Option Sign
+longest [] = None
+longest (s ∷ ss) = longer s (longest ss)
+
 unfoldable pub sign_at : List ℕ → Option Sign
-sign_at text = find (λ s. starts_with nat_eq text (sign_text s)) signs
+sign_at text = longest (filter (λ s. starts_with nat_eq text (sign_text s)) SIGNS)

@@ -5,8 +5,8 @@ use Rattle.bpf_insn.specs.declared.operation.Width.{Width}
 use Rattle.bpf_text.specs.declared.keywords.Keyword.{Keyword}
 use Rattle.bpf_text.specs.declared.signs.Sign.{Sign}
 
--- a word, by what it is: a register's name, a keyword, a number of any size, or any other name; a sign; junk, which no
--- form has
+-- a word, by what it is: a register's name, a keyword, a number of any size, or any other name;
+-- a sign; junk, which no form has
 pub data Tok : Type 0 where
   Register : Width → Reg → Tok
   Word : Keyword → Tok

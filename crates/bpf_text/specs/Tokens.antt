@@ -1,5 +1,6 @@
--- The tokens of a line: the longest word, or the longest sign, one after the other. Blanks (space, tab and CR) may stand
--- between them, and a comment from `;` behind them (our own choice).
+-- The tokens of a line: the longest word, or the longest sign, one after the other. Blanks
+-- (space, tab and CR) may stand between them, and a comment from `;` behind them (our own
+-- choice).
 use Rattle.std.specs.Prelude.{◌≡◌, ℕ, Bool, ◌==◌, ◌||◌, nat_lt, if◌then◌else◌, List, [], ◌∷◌, length, take_while, take, drop, Option, Some, None}
 use Rattle.bpf_text.specs.declared.signs.Sign.{Sign}
 use Rattle.bpf_text.specs.Signs.{sign_text, sign_at}
@@ -26,7 +27,9 @@ sign_len None = 1
 
 -- the token that a text begins with, and its length
 unfoldable pub front_tok : List ℕ → Tok
-front_tok text = if nat_lt 0 (word_len text) then word_tok (take (word_len text) text) else sign_tok (sign_at text)
+front_tok text =
+    if nat_lt 0 (word_len text) then word_tok (take (word_len text) text)
+    else sign_tok (sign_at text)
 
 unfoldable pub front_len : List ℕ → ℕ
 front_len text = if nat_lt 0 (word_len text) then word_len text else sign_len (sign_at text)
@@ -39,7 +42,9 @@ IsEnd (b ∷ bs) = b ≡ 59
 -- of a text that doesn't begin with a blank
 abbrev pub AreTokens : List ℕ → List Tok → Type 0
 AreTokens text [] = IsEnd text
-AreTokens text (t ∷ ts) = (IsEnd text → ⊥) × (t ≡ front_tok text) × AreTokens (after_blanks (drop (front_len text) text)) ts
+AreTokens text (t ∷ ts) =
+    (IsEnd text → ⊥) × (t ≡ front_tok text)
+    × AreTokens (after_blanks (drop (front_len text) text)) ts
 
 -- THE TOKENS of a line
 abbrev pub IsTokens : List ℕ → List Tok → Type 0

@@ -3,12 +3,12 @@
 ghost use Rattle.std.specs.Prelude.{◌≡◌, ◌∷◌, ◌++◌, ◌*◌, ◌+◌, ◌<◌, ◌≤◌, ◌^◌, ◌⊎◌, ℕ, List, Some, None, map, length, drop, vec_len, IfOk, IfErr, OnOk, IsOkUnless, Ok, Err, if◌then◌else◌, take_while, ◌==◌, not};
 ghost use Rattle.bpf_insn.specs.Table.{words};
 ghost use Rattle.bpf_text.specs.Assembly.{reaches, distance_to, targeted, is_twice, is_other, at_target, unless_twice, meaning_of, words_of, lines_of, program_of, first_place, AreLines, Assembles};
-ghost use Rattle.bpf_text.specs.Labels.{found};
+ghost use Rattle.bpf_text.specs.Reader.Labels.{found};
 ghost use Rattle.std.specs.Prelude.{MatchResult, Result, option_to_list};
 ghost use Rattle.bpf_insn.specs.declared.instruction.Insn.{Insn};
 ghost use Rattle.bpf_text.specs.declared.error.TextError.{TextError};
-ghost use Rattle.bpf_text.specs.Cutting.{in_line, lines_behind, rest_size};
-ghost use Rattle.bpf_text.specs.Sources.{source_of, body_of};
+ghost use Rattle.bpf_text.specs.Reader.Cutting.{in_line, lines_behind, rest_size};
+ghost use Rattle.bpf_text.specs.Reader.Sources.{source_of, body_of};
 ghost use Rattle.std.specs.Option.{option_copied};
 
 use crate::error::TextError;
@@ -222,7 +222,10 @@ fn program(
     labels: &Labels<'_>,
 ) -> Result<Vec<Insn>, TextError>
     requires { length lines.now < 2 ^ 63 }
-    ensures { MatchResult result (λ is. program_of (found labels.now) 0 0 (map source_of lines.now) ≡ Ok is.items) (λ e. (e ≡ TextError.OutOfMemory) ⊎ (program_of (found labels.now) 0 0 (map source_of lines.now) ≡ Err e)) }
+    ensures { MatchResult result
+        (λ is. program_of (found labels.now) 0 0 (map source_of lines.now) ≡ Ok is.items)
+        (λ e. (e ≡ TextError.OutOfMemory)
+        ⊎ (program_of (found labels.now) 0 0 (map source_of lines.now) ≡ Err e)) }
 {
     let mut insns = Vec::new(alloc);
     let mut pc: usize = 0;
@@ -234,7 +237,8 @@ fn program(
     Ok(insns)
 }
 
-/// The instructions that an assembly text stands for, or its lowest line that is refused, for the lowest of its reasons.
+/// The instructions that an assembly text stands for, or its lowest line that is refused, for
+/// the lowest of its reasons.
 /// Lines count from 1. `OutOfMemory` may stand in place of either.
 pub fn assemble(alloc: Global, text: &str) -> Result<Vec<Insn>, TextError>
     ensures assembled { IfOk result (λ program. Assembles text.now (Ok program.items)) }

@@ -37,7 +37,8 @@ pub fn to_hex(alloc: Global, bytes: &[u8]) -> Result<String, TextError>
     hex::encode(alloc, bytes).map_err(|_| TextError::OutOfMemory)
 }
 
-/// The bytes that the text's hex digits spell, of either case. Space, tab, CR and LF are passed over wherever they stand.
+/// The bytes that the text's hex digits spell, of either case. Space, tab, CR and LF are passed
+/// over wherever they stand.
 /// `NotHex` where any other byte or half a byte stands; else it fails by `OutOfMemory` alone.
 pub fn from_hex(alloc: Global, text: &str) -> Result<Vec<u8>, TextError>
     ensures spelled { IfOk result (λ bytes. IsHexOf text.now bytes.items) }

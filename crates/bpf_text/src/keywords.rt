@@ -1,12 +1,14 @@
-//! Words with a meaning of their own: keywords, and registers' names.
+//! Words with a meaning of their own.
 
 ghost use Rattle.std.specs.Prelude.{◌≡◌};
-ghost use Rattle.bpf_text.specs.Names.{keyword_text, register_text};
+ghost use Rattle.bpf_text.specs.Names.{keyword_text};
+ghost use Rattle.bpf_text.specs.Words.{keyword_of};
+ghost use Rattle.bpf_text.specs.Reader.Pieces.{same_keyword};
 
-use bpf_insn::{ByteSwap, Reg, SignedSize, Size, SwapWidth, Width};
+use bpf_insn::{ByteSwap, SignedSize, Size, SwapWidth, Width};
 
 /// A word that forms have.
-#[derive(Clone, Copy, PartialEq, Eq, Debug)]
+#[derive(Clone, Copy)]
 pub enum Keyword {
     /// Before the sign of a signed operation.
     Signed,
@@ -31,6 +33,43 @@ pub enum Keyword {
     Exchange(Width),
     CompareExchange(Width),
 }
+
+/// All keywords.
+const KEYWORDS: [Keyword; 33] = [
+    Keyword::Signed,
+    Keyword::If,
+    Keyword::Goto,
+    Keyword::GotoLong,
+    Keyword::Call,
+    Keyword::Exit,
+    Keyword::Wide,
+    Keyword::Map,
+    Keyword::Lock,
+    Keyword::Unsigned(Size::Byte),
+    Keyword::Unsigned(Size::Half),
+    Keyword::Unsigned(Size::Word),
+    Keyword::Unsigned(Size::Double),
+    Keyword::Extended(SignedSize::Byte),
+    Keyword::Extended(SignedSize::Half),
+    Keyword::Extended(SignedSize::Word),
+    Keyword::Swap(ByteSwap::ToLittle, SwapWidth::Bits16),
+    Keyword::Swap(ByteSwap::ToLittle, SwapWidth::Bits32),
+    Keyword::Swap(ByteSwap::ToLittle, SwapWidth::Bits64),
+    Keyword::Swap(ByteSwap::ToBig, SwapWidth::Bits16),
+    Keyword::Swap(ByteSwap::ToBig, SwapWidth::Bits32),
+    Keyword::Swap(ByteSwap::ToBig, SwapWidth::Bits64),
+    Keyword::Swap(ByteSwap::Reverse, SwapWidth::Bits16),
+    Keyword::Swap(ByteSwap::Reverse, SwapWidth::Bits32),
+    Keyword::Swap(ByteSwap::Reverse, SwapWidth::Bits64),
+    Keyword::FetchAdd,
+    Keyword::FetchOr,
+    Keyword::FetchAnd,
+    Keyword::FetchXor,
+    Keyword::Exchange(Width::Bits32),
+    Keyword::Exchange(Width::Bits64),
+    Keyword::CompareExchange(Width::Bits32),
+    Keyword::CompareExchange(Width::Bits64),
+];
 
 impl Keyword {
     /// How it is spelled.
@@ -59,6 +98,12 @@ impl Keyword {
             Keyword::CompareExchange(Width::Bits32) => "cmpxchg_32",
             Keyword::CompareExchange(Width::Bits64) => "cmpxchg_64",
         }
+    }
+
+    pub fn is_same(self, other: Keyword) -> bool
+        ensures { result ≡ same_keyword self other }
+    {
+        self.text().as_bytes() == other.text().as_bytes()
     }
 }
 
@@ -99,32 +144,13 @@ fn swap_text(swap: ByteSwap, width: SwapWidth) -> &'static str
     }
 }
 
-/// A register's name: `r` for all 64 bits, `w` for the low 32.
-pub fn register_text(width: Width, register: Reg) -> &'static str
-    ensures { result.now ≡ register_text width register }
+/// The keyword with this spelling.
+#[tactic(auto, unfolding(crate::specs::Words::keyword_of))]
+pub fn keyword_named(word: &[u8]) -> Option<Keyword>
+    ensures { result ≡ keyword_of word.now }
 {
-    match (width, register) {
-        (Width::Bits64, Reg::R0) => "r0",
-        (Width::Bits64, Reg::R1) => "r1",
-        (Width::Bits64, Reg::R2) => "r2",
-        (Width::Bits64, Reg::R3) => "r3",
-        (Width::Bits64, Reg::R4) => "r4",
-        (Width::Bits64, Reg::R5) => "r5",
-        (Width::Bits64, Reg::R6) => "r6",
-        (Width::Bits64, Reg::R7) => "r7",
-        (Width::Bits64, Reg::R8) => "r8",
-        (Width::Bits64, Reg::R9) => "r9",
-        (Width::Bits64, Reg::R10) => "r10",
-        (Width::Bits32, Reg::R0) => "w0",
-        (Width::Bits32, Reg::R1) => "w1",
-        (Width::Bits32, Reg::R2) => "w2",
-        (Width::Bits32, Reg::R3) => "w3",
-        (Width::Bits32, Reg::R4) => "w4",
-        (Width::Bits32, Reg::R5) => "w5",
-        (Width::Bits32, Reg::R6) => "w6",
-        (Width::Bits32, Reg::R7) => "w7",
-        (Width::Bits32, Reg::R8) => "w8",
-        (Width::Bits32, Reg::R9) => "w9",
-        (Width::Bits32, Reg::R10) => "w10",
-    }
+    KEYWORDS
+        .iter()
+        .copied()
+        .find(|k| k.text().as_bytes() == word)
 }

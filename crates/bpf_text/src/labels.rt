@@ -3,7 +3,7 @@
 ghost use Rattle.std.specs.Prelude.{◌≡◌, Some, None, cond, OnOk, IsOkUnless, ℕ, List, Option, if◌then◌else◌};
 ghost use Rattle.std.specs.Str.{bytes_eq};
 ghost use Rattle.std.specs.Option.{option_copied};
-ghost use Rattle.bpf_text.specs.Labels.{found, or_else};
+ghost use Rattle.bpf_text.specs.Reader.Labels.{found, or_else};
 ghost use Rattle.bpf_text.specs.Assembly.{is_named, is_twice};
 
 use crate::error::TextError;
@@ -28,7 +28,9 @@ pub fn place_of(labels: &Labels<'_>, name: &[u8]) -> Option<Place>
 
 /// Notes a line with this label, where none was noted before.
 pub fn note<'a>(labels: &mut Labels<'a>, name: &'a [u8], place: Place) -> Result<(), TextError>
-    ensures first { OnOk result ((q : List ℕ) → found labels.new q ≡ or_else (found labels.old q) (if bytes_eq name.now q then Some place else None)) }
+    ensures first { OnOk result ((q : List ℕ)
+        → found labels.new q ≡ or_else (found labels.old q) (if bytes_eq name.now q
+        then Some place else None)) }
     ensures memory { IsOkUnless result TextError.OutOfMemory }
 {
     if place_of(labels, name).is_some() {
@@ -46,7 +48,9 @@ pub fn note_line<'a>(
     label: Option<&'a [u8]>,
     place: Place,
 ) -> Result<(), TextError>
-    ensures first { OnOk result ((q : List ℕ) → found labels.new q ≡ or_else (found labels.old q) (if is_named q (option_copied label.entry) then Some place else None)) }
+    ensures first { OnOk result ((q : List ℕ)
+        → found labels.new q ≡ or_else (found labels.old q) (if is_named q
+        (option_copied label.entry) then Some place else None)) }
     ensures memory { IsOkUnless result TextError.OutOfMemory }
 {
     match label {

@@ -3,7 +3,8 @@
 //! These functions do nothing: their contracts are the laws, which a proof cites.
 ghost use Rattle.bpf_text.specs.Laws.{TextsAreDetermined};
 
-/// A text stands for one list of instructions alone, or is refused for one reason alone, and never both.
+/// A text stands for one list of instructions alone, or is refused for one reason alone, and
+/// never both.
 pub fn texts_are_determined()
     ensures { TextsAreDetermined }
 {}

@@ -2,14 +2,18 @@
 #![tactic(auto)]
 
 pub mod assembly;
+mod atomics;
 pub mod disassembly;
 pub mod error;
 pub mod hex_text;
 mod keywords;
 mod labels;
 pub mod laws;
-mod pieces;
+mod numbers;
+mod operators;
+mod printing;
 mod reading;
+mod registers;
 mod signs;
 mod source;
 mod token;

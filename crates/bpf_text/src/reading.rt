@@ -1,15 +1,19 @@
 //! One line's tokens read as an instruction.
 
 ghost use Rattle.std.specs.Prelude.{map};
-ghost use Rattle.bpf_text.specs.Look.{look};
-ghost use Rattle.bpf_text.specs.Reading.{plain, ends, statement_at, line_at};
-ghost use Rattle.bpf_text.specs.Judging.{Judged};
+ghost use Rattle.bpf_text.specs.Reader.Look.{look};
+ghost use Rattle.bpf_text.specs.Reader.Lines.{plain, ends, statement_at, line_at};
+ghost use Rattle.bpf_text.specs.Reader.Judging.{Judged};
 
+mod address;
 mod arithmetic;
 mod assignment;
 mod atomic;
 mod jump;
 mod memory;
+mod operand;
+mod operator;
+mod target;
 
 use crate::keywords::Keyword;
 use crate::signs::Sign;
@@ -17,7 +21,7 @@ use crate::token::Token;
 use bpf_insn::Insn;
 
 /// Why a line is refused.
-#[derive(Clone, Copy, PartialEq, Eq, Debug)]
+#[derive(Clone, Copy)]
 pub enum LineError {
     /// It has none of the forms.
     BadLine,
@@ -50,7 +54,7 @@ pub(crate) fn ends<'a>(insn: Insn, tokens: &[Token<'a>]) -> Result<Draft<'a>, Li
 }
 
 /// Behind a line's first word.
-#[tactic(auto, unfolding(crate::specs::Reading::statement_at))]
+#[tactic(auto, unfolding(crate::specs::Reader::Lines::statement_at))]
 fn statement<'a>(keyword: Keyword, tokens: &[Token<'a>]) -> Result<Draft<'a>, LineError>
     ensures { Judged result (statement_at keyword (map look tokens.now)) }
 {
@@ -66,7 +70,7 @@ fn statement<'a>(keyword: Keyword, tokens: &[Token<'a>]) -> Result<Draft<'a>, Li
 }
 
 /// The instruction that a line's tokens are, its label taken off.
-#[tactic(auto, unfolding(crate::specs::Reading::line_at))]
+#[tactic(auto, unfolding(crate::specs::Reader::Lines::line_at))]
 pub fn instruction<'a>(tokens: &[Token<'a>]) -> Result<Draft<'a>, LineError>
     ensures { Judged result (line_at (map look tokens.now)) }
 {

@@ -1,10 +1,11 @@
 //! The signs of the assembly language.
 
 ghost use Rattle.std.specs.Prelude.{◌≡◌};
-ghost use Rattle.bpf_text.specs.Signs.{sign_text};
+ghost use Rattle.bpf_text.specs.Signs.{sign_text, sign_at};
+ghost use Rattle.bpf_text.specs.Reader.Pieces.{same_sign, first_sign};
 
 /// A sign that forms have.
-#[derive(Clone, Copy, PartialEq, Eq, Debug)]
+#[derive(Clone, Copy)]
 pub enum Sign {
     ShlAssign,
     ShrAssign,
@@ -32,6 +33,35 @@ pub enum Sign {
     Comma,
     Colon,
 }
+
+/// The signs, the longest first.
+const SIGNS: [Sign; 25] = [
+    Sign::ShlAssign,
+    Sign::ShrAssign,
+    Sign::AddAssign,
+    Sign::SubAssign,
+    Sign::MulAssign,
+    Sign::DivAssign,
+    Sign::OrAssign,
+    Sign::AndAssign,
+    Sign::RemAssign,
+    Sign::XorAssign,
+    Sign::Equal,
+    Sign::NotEqual,
+    Sign::AtLeast,
+    Sign::AtMost,
+    Sign::Assign,
+    Sign::Above,
+    Sign::Below,
+    Sign::And,
+    Sign::Plus,
+    Sign::Minus,
+    Sign::Star,
+    Sign::Open,
+    Sign::Close,
+    Sign::Comma,
+    Sign::Colon,
+];
 
 impl Sign {
     /// How it is spelled.
@@ -66,4 +96,27 @@ impl Sign {
             Sign::Colon => ":",
         }
     }
+
+    pub fn is_same(self, other: Sign) -> bool
+        ensures { result ≡ same_sign self other }
+    {
+        self.text().as_bytes() == other.text().as_bytes()
+    }
+}
+
+/// The first of the signs that the text begins with.
+fn first_sign(text: &[u8]) -> Option<Sign>
+    ensures { result ≡ first_sign text.now }
+{
+    SIGNS
+        .iter()
+        .copied()
+        .find(|s| text.starts_with(s.text().as_bytes()))
+}
+
+/// The longest sign that the text begins with.
+pub fn longest_sign(text: &[u8]) -> Option<Sign>
+    ensures { result ≡ sign_at text.now }
+{
+    first_sign(text)
 }

@@ -2,15 +2,15 @@
 
 ghost use Rattle.std.specs.Prelude.{◌≡◌, map, IfOk, IsOkUnless};
 ghost use Rattle.std.specs.Option.{option_copied};
-ghost use Rattle.bpf_text.specs.Look.{look};
+ghost use Rattle.bpf_text.specs.Reader.Look.{look};
 ghost use Rattle.bpf_text.specs.Assembly.{label_of, unlabelled, IsBody, IsLine};
-ghost use Rattle.bpf_text.specs.Sources.{body_of, source_of};
+ghost use Rattle.bpf_text.specs.Reader.Sources.{body_of, source_of};
 
 use crate::error::TextError;
-use crate::pieces;
 use crate::reading::{self, LineError};
 use crate::signs::Sign;
 use crate::token::{self, Token};
+use crate::words;
 use bpf_insn::Insn;
 use std::alloc::Global;
 
@@ -37,7 +37,7 @@ fn labelled<'t, 'a>(tokens: &'t [Token<'a>]) -> (Option<&'a [u8]>, &'t [Token<'a
     ensures rest { map look result.1.now ≡ unlabelled (map look tokens.now) }
 {
     match tokens {
-        [token, Token::Mark(Sign::Colon), rest @ ..] => match pieces::name(token) {
+        [token, Token::Mark(Sign::Colon), rest @ ..] => match words::name(token) {
             Some(name) => (Some(name), rest),
             None => (None, tokens),
         },

@@ -1,14 +1,15 @@
 //! Lines cut into tokens.
 
 ghost use Rattle.std.specs.Prelude.{◌≡◌, ◌<◌, ◌≤◌, ◌+◌, length, take_while, drop, map, IfOk, IsOkUnless, IfSome, OnSome, MatchOption};
-ghost use Rattle.bpf_text.specs.Signs.{sign_at, sign_text};
+ghost use Rattle.bpf_text.specs.Signs.{sign_text};
 ghost use Rattle.bpf_text.specs.Tokens.{is_blank, word_len, front_tok, front_len, IsTokens};
-ghost use Rattle.bpf_text.specs.Look.{look};
+ghost use Rattle.bpf_text.specs.Reader.Look.{look};
 
 use crate::error::TextError;
 use crate::keywords::Keyword;
-use crate::signs::Sign;
-use crate::words::{self, Radix};
+use crate::numbers::Radix;
+use crate::signs::{self, Sign};
+use crate::words;
 use bpf_insn::{Reg, Width};
 use std::alloc::Global;
 
@@ -21,47 +22,9 @@ pub enum Token<'a> {
     /// Digits, of any size.
     Number(Radix, &'a [u8]),
     Mark(Sign),
-    /// What no form has: a word that begins with a digit and is no number, or a byte of no word and no sign.
+    /// What no form has: a word that begins with a digit and is no number, or a byte of no
+    /// word and no sign.
     Junk,
-}
-
-/// The signs, the longest first.
-const SIGNS: [Sign; 25] = [
-    Sign::ShlAssign,
-    Sign::ShrAssign,
-    Sign::AddAssign,
-    Sign::SubAssign,
-    Sign::MulAssign,
-    Sign::DivAssign,
-    Sign::OrAssign,
-    Sign::AndAssign,
-    Sign::RemAssign,
-    Sign::XorAssign,
-    Sign::Equal,
-    Sign::NotEqual,
-    Sign::AtLeast,
-    Sign::AtMost,
-    Sign::Assign,
-    Sign::Above,
-    Sign::Below,
-    Sign::And,
-    Sign::Plus,
-    Sign::Minus,
-    Sign::Star,
-    Sign::Open,
-    Sign::Close,
-    Sign::Comma,
-    Sign::Colon,
-];
-
-#[tactic(auto, unfolding(crate::specs::Signs::sign_at))]
-fn longest_sign(text: &[u8]) -> Option<Sign>
-    ensures { result ≡ sign_at text.now }
-{
-    SIGNS
-        .iter()
-        .copied()
-        .find(|s| text.starts_with(s.text().as_bytes()))
 }
 
 fn is_blank(byte: u8) -> bool
@@ -97,7 +60,7 @@ fn front<'a>(text: &'a [u8]) -> (Token<'a>, usize)
     if len > 0 {
         return (words::classify(&text[..len]), len);
     }
-    match longest_sign(text) {
+    match signs::longest_sign(text) {
         Some(sign) => (Token::Mark(sign), sign.text().len()),
         None => (Token::Junk, 1),
     }

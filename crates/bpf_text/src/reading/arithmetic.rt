@@ -1,19 +1,21 @@
 //! Operations on a register, sign extensions and byte swaps.
 
-ghost use Rattle.std.specs.Prelude.{map};
-ghost use Rattle.bpf_text.specs.Look.{look};
-ghost use Rattle.bpf_text.specs.Reading.{alu_at, alu_end, extend_at, swap_at};
-ghost use Rattle.bpf_text.specs.Judging.{Judged, operand_of};
+ghost use Rattle.std.specs.Prelude.{◌≡◌, map};
+ghost use Rattle.bpf_text.specs.Reader.Look.{look};
+ghost use Rattle.bpf_text.specs.Reader.Lines.{alu_at, alu_end, operation_at, extend_at, swap_at};
+ghost use Rattle.bpf_text.specs.Reader.Pieces.{extension_of};
+ghost use Rattle.bpf_text.specs.Reader.Judging.{Judged, operand_of};
 
 use crate::keywords::Keyword;
-use crate::pieces::{self, RawOperand};
-use crate::reading::{Draft, LineError, ends, plain};
+use crate::reading::operand::{self, RawOperand};
+use crate::reading::{Draft, LineError, ends, operator, plain};
 use crate::signs::Sign;
 use crate::token::Token;
-use bpf_insn::{AluOp, ByteSwap, Insn, Reg, SwapWidth, Width};
+use crate::{operators, registers};
+use bpf_insn::{AluOp, ByteSwap, Insn, Reg, SignExtension, SignedSize, SwapWidth, Width};
 
 /// Behind the second operand.
-#[tactic(auto, unfolding(crate::specs::Reading::alu_end))]
+#[tactic(auto, unfolding(crate::specs::Reader::Lines::alu_end))]
 fn alu_end<'a>(
     width: Width,
     dst: Reg,
@@ -40,26 +42,55 @@ fn alu_end<'a>(
 }
 
 /// Behind an operation's sign.
-#[tactic(auto, unfolding(crate::specs::Reading::alu_at))]
+#[tactic(auto, unfolding(crate::specs::Reader::Lines::alu_at))]
 pub(crate) fn alu<'a>(
     width: Width,
     dst: Reg,
-    op: Option<AluOp>,
+    op: AluOp,
     tokens: &[Token<'a>],
 ) -> Result<Draft<'a>, LineError>
     ensures { Judged result (alu_at width dst op (map look tokens.now)) }
 {
-    let Some(op) = op else {
-        return Err(LineError::BadLine);
-    };
-    let Some((src, rest)) = pieces::operand(width, tokens) else {
+    let Some((src, rest)) = operand::operand(width, tokens) else {
         return Err(LineError::BadLine);
     };
     alu_end(width, dst, op, src, rest)
 }
 
+/// Behind a register: an operation's sign, and the second operand.
+#[tactic(auto, unfolding(crate::specs::Reader::Lines::operation_at))]
+pub(crate) fn operation<'a>(
+    width: Width,
+    dst: Reg,
+    tokens: &[Token<'a>],
+) -> Result<Draft<'a>, LineError>
+    ensures { Judged result (operation_at width dst (map look tokens.now)) }
+{
+    let Some((operator, rest)) = operator::operator(tokens) else {
+        return Err(LineError::BadLine);
+    };
+    let Some(op) = operators::operation_named(operator) else {
+        return Err(LineError::BadLine);
+    };
+    alu(width, dst, op, rest)
+}
+
+#[tactic(auto, unfolding(crate::specs::Reader::Pieces::extension_of))]
+fn extension(width: Width, size: SignedSize) -> Option<SignExtension>
+    ensures { result ≡ extension_of width size }
+{
+    match (width, size) {
+        (Width::Bits32, SignedSize::Byte) => Some(SignExtension::From8To32),
+        (Width::Bits32, SignedSize::Half) => Some(SignExtension::From16To32),
+        (Width::Bits32, SignedSize::Word) => None,
+        (Width::Bits64, SignedSize::Byte) => Some(SignExtension::From8To64),
+        (Width::Bits64, SignedSize::Half) => Some(SignExtension::From16To64),
+        (Width::Bits64, SignedSize::Word) => Some(SignExtension::From32To64),
+    }
+}
+
 /// Behind `= (`.
-#[tactic(auto, unfolding(crate::specs::Reading::extend_at))]
+#[tactic(auto, unfolding(crate::specs::Reader::Lines::extend_at))]
 pub(crate) fn sign_extension<'a>(
     width: Width,
     dst: Reg,
@@ -74,10 +105,10 @@ pub(crate) fn sign_extension<'a>(
             Token::Register(w, src),
             rest @ ..,
         ] => {
-            if !pieces::same_width(*w, width) {
+            if !registers::same_width(*w, width) {
                 return Err(LineError::BadLine);
             }
-            let Some(extension) = pieces::extension(width, *size) else {
+            let Some(extension) = extension(width, *size) else {
                 return Err(LineError::BadLine);
             };
             let src = *src;
@@ -95,7 +126,7 @@ pub(crate) fn sign_extension<'a>(
 }
 
 /// Behind `R = be16`.
-#[tactic(auto, unfolding(crate::specs::Reading::swap_at))]
+#[tactic(auto, unfolding(crate::specs::Reader::Lines::swap_at))]
 pub(crate) fn swap<'a>(
     width: Width,
     dst: Reg,
@@ -107,7 +138,7 @@ pub(crate) fn swap<'a>(
 {
     match (width, tokens) {
         (Width::Bits64, [Token::Register(Width::Bits64, src), rest @ ..]) => {
-            if pieces::same_register(*src, dst) {
+            if registers::same_register(*src, dst) {
                 let width = bits;
                 ends(Insn::SwapBytes { swap, width, dst }, rest)
             } else {

@@ -1,26 +1,27 @@
-//! Lines that begin with a register, and what it may be set to: a number, a map, or its own negation.
+//! Lines that begin with a register, and what it may be set to: a number, a map, or its own
+//! negation.
 
 ghost use Rattle.std.specs.Prelude.{map};
-ghost use Rattle.bpf_text.specs.Look.{look, numeral_value};
-ghost use Rattle.bpf_text.specs.Reading.{map_at, keyword_at, moved_at, wide_at, negative_at, number_at, assigned_at, register_at};
-ghost use Rattle.bpf_text.specs.Judging.{Judged, literal_value};
+ghost use Rattle.bpf_text.specs.Reader.Look.{look, numeral_value};
+ghost use Rattle.bpf_text.specs.Reader.Lines.{map_at, keyword_at, moved_at, wide_at, negative_at, number_at, assigned_at, register_at};
+ghost use Rattle.bpf_text.specs.Reader.Judging.{Judged, literal_value};
 
 use crate::keywords::Keyword;
-use crate::pieces::{self, Literal};
+use crate::numbers::{self, Literal, Radix};
 use crate::reading::{Draft, LineError, arithmetic, atomic, ends, memory, plain};
 use crate::signs::Sign;
 use crate::token::Token;
-use crate::words::{self, Radix};
-use bpf_insn::{AluOp, AtomicOp, Insn, Operand, Reg, Width};
+use crate::{atomics, registers};
+use bpf_insn::{AluOp, Insn, Operand, Reg, Width};
 
 /// Behind `R = map`.
-#[tactic(auto, unfolding(crate::specs::Reading::map_at))]
+#[tactic(auto, unfolding(crate::specs::Reader::Lines::map_at))]
 fn map<'a>(width: Width, dst: Reg, tokens: &[Token<'a>]) -> Result<Draft<'a>, LineError>
     ensures { Judged result (map_at width dst (map look tokens.now)) }
 {
     match (width, tokens) {
         (Width::Bits64, [Token::Number(radix, digits)]) => {
-            let Some(map) = pieces::natural(*radix, *digits) else {
+            let Some(map) = numbers::natural(*radix, *digits) else {
                 return Err(LineError::BadNumber);
             };
             plain(Insn::LoadMap { dst, map })
@@ -30,7 +31,7 @@ fn map<'a>(width: Width, dst: Reg, tokens: &[Token<'a>]) -> Result<Draft<'a>, Li
 }
 
 /// Behind `=` and a keyword.
-#[tactic(auto, unfolding(crate::specs::Reading::keyword_at))]
+#[tactic(auto, unfolding(crate::specs::Reader::Lines::keyword_at))]
 fn assigned_by<'a>(
     width: Width,
     dst: Reg,
@@ -42,22 +43,26 @@ fn assigned_by<'a>(
     match keyword {
         Keyword::Swap(kind, bits) => arithmetic::swap(width, dst, kind, bits, tokens),
         Keyword::Map => map(width, dst, tokens),
-        Keyword::FetchAdd => atomic::fetch(AtomicOp::FetchAdd, width, dst, tokens),
-        Keyword::FetchOr => atomic::fetch(AtomicOp::FetchOr, width, dst, tokens),
-        Keyword::FetchAnd => atomic::fetch(AtomicOp::FetchAnd, width, dst, tokens),
-        Keyword::FetchXor => atomic::fetch(AtomicOp::FetchXor, width, dst, tokens),
-        Keyword::Exchange(w) if pieces::same_width(w, width) => atomic::exchange(
-            width, dst, tokens,
-        ),
-        Keyword::CompareExchange(w) if pieces::same_width(w, width) => {
-            atomic::compare_exchange(width, dst, tokens)
+        Keyword::Exchange(w) => {
+            if registers::same_width(w, width) {
+                atomic::exchange(width, dst, tokens)
+            } else {
+                Err(LineError::BadLine)
+            }
         }
-        _ => Err(LineError::BadLine),
+        Keyword::CompareExchange(w) => {
+            if registers::same_width(w, width) {
+                atomic::compare_exchange(width, dst, tokens)
+            } else {
+                Err(LineError::BadLine)
+            }
+        }
+        _ => atomic::fetched_by(width, dst, keyword, tokens),
     }
 }
 
 /// An immediate that is moved, where the line ends.
-#[tactic(auto, unfolding(crate::specs::Reading::moved_at))]
+#[tactic(auto, unfolding(crate::specs::Reader::Lines::moved_at))]
 fn moved<'a>(
     width: Width,
     dst: Reg,
@@ -85,13 +90,13 @@ fn moved<'a>(
 }
 
 /// Behind `= -`.
-#[tactic(auto, unfolding(crate::specs::Reading::negative_at))]
+#[tactic(auto, unfolding(crate::specs::Reader::Lines::negative_at))]
 fn negative<'a>(width: Width, dst: Reg, tokens: &[Token<'a>]) -> Result<Draft<'a>, LineError>
     ensures { Judged result (negative_at width dst (map look tokens.now)) }
 {
     match tokens {
         [Token::Register(w, src), rest @ ..] => {
-            if pieces::same_width(*w, width) && pieces::same_register(*src, dst) {
+            if registers::same_width(*w, width) && registers::same_register(*src, dst) {
                 ends(Insn::Negate { width, dst }, rest)
             } else {
                 Err(LineError::BadLine)
@@ -105,13 +110,15 @@ fn negative<'a>(width: Width, dst: Reg, tokens: &[Token<'a>]) -> Result<Draft<'a
 }
 
 /// Behind `= n ll`.
-#[tactic(auto, unfolding(crate::specs::Reading::wide_at))]
+#[tactic(auto, unfolding(crate::specs::Reader::Lines::wide_at))]
 fn wide<'a>(dst: Reg, number: Literal<'a>, tokens: &[Token<'a>]) -> Result<Draft<'a>, LineError>
-    ensures { Judged result (wide_at dst (numeral_value number.entry.radix number.entry.digits.now) (map look tokens.now)) }
+    ensures { Judged
+        result (wide_at dst (numeral_value number.entry.radix number.entry.digits.now)
+        (map look tokens.now)) }
 {
     match tokens {
         [] => {
-            let Some(number) = words::value(number.radix, number.digits) else {
+            let Some(number) = numbers::value(number.radix, number.digits) else {
                 return Err(LineError::BadNumber);
             };
             plain(Insn::LoadNumber { dst, number })
@@ -121,7 +128,7 @@ fn wide<'a>(dst: Reg, number: Literal<'a>, tokens: &[Token<'a>]) -> Result<Draft
 }
 
 /// Behind `= n`.
-#[tactic(auto, unfolding(crate::specs::Reading::number_at))]
+#[tactic(auto, unfolding(crate::specs::Reader::Lines::number_at))]
 fn number<'a>(
     width: Width,
     dst: Reg,
@@ -139,7 +146,7 @@ fn number<'a>(
 }
 
 /// Behind `=`.
-#[tactic(auto, unfolding(crate::specs::Reading::assigned_at))]
+#[tactic(auto, unfolding(crate::specs::Reader::Lines::assigned_at))]
 fn assigned<'a>(width: Width, dst: Reg, tokens: &[Token<'a>]) -> Result<Draft<'a>, LineError>
     ensures { Judged result (assigned_at width dst (map look tokens.now)) }
 {
@@ -149,12 +156,12 @@ fn assigned<'a>(width: Width, dst: Reg, tokens: &[Token<'a>]) -> Result<Draft<'a
         [Token::Mark(Sign::Star), rest @ ..] => memory::load(width, dst, rest),
         [Token::Word(keyword), rest @ ..] => assigned_by(width, dst, *keyword, rest),
         [Token::Number(radix, digits), rest @ ..] => number(width, dst, *radix, *digits, rest),
-        _ => arithmetic::alu(width, dst, Some(AluOp::Mov), tokens),
+        _ => arithmetic::alu(width, dst, AluOp::Mov, tokens),
     }
 }
 
 /// Behind a register.
-#[tactic(auto, unfolding(crate::specs::Reading::register_at))]
+#[tactic(auto, unfolding(crate::specs::Reader::Lines::register_at))]
 pub(crate) fn register<'a>(
     width: Width,
     dst: Reg,
@@ -164,18 +171,6 @@ pub(crate) fn register<'a>(
 {
     match tokens {
         [Token::Mark(Sign::Assign), rest @ ..] => assigned(width, dst, rest),
-        [Token::Mark(sign), rest @ ..] => arithmetic::alu(
-            width,
-            dst,
-            pieces::plain_op(*sign),
-            rest,
-        ),
-        [Token::Word(Keyword::Signed), Token::Mark(sign), rest @ ..] => arithmetic::alu(
-            width,
-            dst,
-            pieces::signed_op(*sign),
-            rest,
-        ),
-        _ => Err(LineError::BadLine),
+        _ => arithmetic::operation(width, dst, tokens),
     }
 }

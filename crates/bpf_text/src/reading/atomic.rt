@@ -1,18 +1,20 @@
 //! Atomic operations: those that `lock` begins, and those whose result a register takes.
 
 ghost use Rattle.std.specs.Prelude.{map};
-ghost use Rattle.bpf_text.specs.Look.{look};
-ghost use Rattle.bpf_text.specs.Reading.{atomic_end, atomic_at, fetch_at, exchange_at, compared_at, expected_at, compare_exchange_at, locked_at, lock_at};
-ghost use Rattle.bpf_text.specs.Judging.{Judged, literal_value};
+ghost use Rattle.bpf_text.specs.Reader.Look.{look};
+ghost use Rattle.bpf_text.specs.Reader.Lines.{atomic_end, atomic_at, fetch_at, fetched_at, exchange_at, compared_at, expected_at, compare_exchange_at, locked_at, lock_at};
+ghost use Rattle.bpf_text.specs.Reader.Judging.{Judged, literal_value};
 
-use crate::pieces::{self, Literal};
-use crate::reading::{Draft, LineError, plain};
+use crate::keywords::Keyword;
+use crate::numbers::Literal;
+use crate::reading::{Draft, LineError, address, plain};
 use crate::signs::Sign;
 use crate::token::Token;
+use crate::{atomics, registers};
 use bpf_insn::{AtomicOp, Insn, Reg, Width};
 
 /// The atomic operation, where the line ends.
-#[tactic(auto, unfolding(crate::specs::Reading::atomic_end))]
+#[tactic(auto, unfolding(crate::specs::Reader::Lines::atomic_end))]
 fn atomic_end<'a>(
     op: AtomicOp,
     width: Width,
@@ -21,7 +23,8 @@ fn atomic_end<'a>(
     src: Reg,
     tokens: &[Token<'a>],
 ) -> Result<Draft<'a>, LineError>
-    ensures { Judged result (atomic_end op width base (literal_value offset.entry) src (map look tokens.now)) }
+    ensures { Judged
+        result (atomic_end op width base (literal_value offset.entry) src (map look tokens.now)) }
 {
     match tokens {
         [] => {
@@ -41,7 +44,7 @@ fn atomic_end<'a>(
 }
 
 /// Behind the place of an operation that fetches: `, R)`.
-#[tactic(auto, unfolding(crate::specs::Reading::atomic_at))]
+#[tactic(auto, unfolding(crate::specs::Reader::Lines::atomic_at))]
 fn fetched<'a>(
     op: AtomicOp,
     width: Width,
@@ -50,7 +53,8 @@ fn fetched<'a>(
     offset: Literal<'a>,
     tokens: &[Token<'a>],
 ) -> Result<Draft<'a>, LineError>
-    ensures { Judged result (atomic_at op width dst base (literal_value offset.entry) (map look tokens.now)) }
+    ensures { Judged
+        result (atomic_at op width dst base (literal_value offset.entry) (map look tokens.now)) }
 {
     match tokens {
         [
@@ -59,7 +63,7 @@ fn fetched<'a>(
             Token::Mark(Sign::Close),
             rest @ ..,
         ] => {
-            if pieces::same_width(*w, width) && pieces::same_register(*src, dst) {
+            if registers::same_width(*w, width) && registers::same_register(*src, dst) {
                 atomic_end(op, width, base, offset, dst, rest)
             } else {
                 Err(LineError::BadLine)
@@ -70,8 +74,8 @@ fn fetched<'a>(
 }
 
 /// Behind `= atomic_fetch_add`.
-#[tactic(auto, unfolding(crate::specs::Reading::fetch_at))]
-pub(crate) fn fetch<'a>(
+#[tactic(auto, unfolding(crate::specs::Reader::Lines::fetch_at))]
+fn fetch<'a>(
     op: AtomicOp,
     width: Width,
     dst: Reg,
@@ -81,13 +85,13 @@ pub(crate) fn fetch<'a>(
 {
     match tokens {
         [Token::Mark(Sign::Open), rest @ ..] => {
-            let Some((size, base, offset, rest)) = pieces::cell(rest) else {
+            let Some((size, base, offset, rest)) = address::cell(rest) else {
                 return Err(LineError::BadLine);
             };
-            let Some(w) = pieces::cell_width(size) else {
+            let Some(w) = address::cell_width(size) else {
                 return Err(LineError::BadLine);
             };
-            if pieces::same_width(w, width) {
+            if registers::same_width(w, width) {
                 fetched(op, width, dst, base, offset, rest)
             } else {
                 Err(LineError::BadLine)
@@ -97,8 +101,24 @@ pub(crate) fn fetch<'a>(
     }
 }
 
+/// Behind `=` and a name.
+#[tactic(auto, unfolding(crate::specs::Reader::Lines::fetched_at))]
+pub(crate) fn fetched_by<'a>(
+    width: Width,
+    dst: Reg,
+    name: Keyword,
+    tokens: &[Token<'a>],
+) -> Result<Draft<'a>, LineError>
+    ensures { Judged result (fetched_at width dst name (map look tokens.now)) }
+{
+    let Some(op) = atomics::fetched_op(name) else {
+        return Err(LineError::BadLine);
+    };
+    fetch(op, width, dst, tokens)
+}
+
 /// Behind `= xchg_64`.
-#[tactic(auto, unfolding(crate::specs::Reading::exchange_at))]
+#[tactic(auto, unfolding(crate::specs::Reader::Lines::exchange_at))]
 pub(crate) fn exchange<'a>(
     width: Width,
     dst: Reg,
@@ -108,7 +128,7 @@ pub(crate) fn exchange<'a>(
 {
     match tokens {
         [Token::Mark(Sign::Open), rest @ ..] => {
-            let Some((base, offset, rest)) = pieces::address(rest) else {
+            let Some((base, offset, rest)) = address::address(rest) else {
                 return Err(LineError::BadLine);
             };
             fetched(AtomicOp::Exchange, width, dst, base, offset, rest)
@@ -118,7 +138,7 @@ pub(crate) fn exchange<'a>(
 }
 
 /// Behind `cmpxchg_64(R + n, r0`.
-#[tactic(auto, unfolding(crate::specs::Reading::compared_at))]
+#[tactic(auto, unfolding(crate::specs::Reader::Lines::compared_at))]
 fn compared<'a>(
     width: Width,
     base: Reg,
@@ -134,7 +154,7 @@ fn compared<'a>(
             Token::Mark(Sign::Close),
             rest @ ..,
         ] => {
-            if pieces::same_width(*w, width) {
+            if registers::same_width(*w, width) {
                 let op = AtomicOp::CompareExchange;
                 atomic_end(op, width, base, offset, *src, rest)
             } else {
@@ -146,7 +166,7 @@ fn compared<'a>(
 }
 
 /// Behind `cmpxchg_64(R + n`.
-#[tactic(auto, unfolding(crate::specs::Reading::expected_at))]
+#[tactic(auto, unfolding(crate::specs::Reader::Lines::expected_at))]
 fn expected<'a>(
     width: Width,
     base: Reg,
@@ -161,7 +181,7 @@ fn expected<'a>(
             Token::Register(w, Reg::R0),
             rest @ ..,
         ] => {
-            if pieces::same_width(*w, width) {
+            if registers::same_width(*w, width) {
                 compared(width, base, offset, rest)
             } else {
                 Err(LineError::BadLine)
@@ -172,7 +192,7 @@ fn expected<'a>(
 }
 
 /// Behind `R = cmpxchg_64`.
-#[tactic(auto, unfolding(crate::specs::Reading::compare_exchange_at))]
+#[tactic(auto, unfolding(crate::specs::Reader::Lines::compare_exchange_at))]
 pub(crate) fn compare_exchange<'a>(
     width: Width,
     dst: Reg,
@@ -182,7 +202,7 @@ pub(crate) fn compare_exchange<'a>(
 {
     match (dst, tokens) {
         (Reg::R0, [Token::Mark(Sign::Open), rest @ ..]) => {
-            let Some((base, offset, rest)) = pieces::address(rest) else {
+            let Some((base, offset, rest)) = address::address(rest) else {
                 return Err(LineError::BadLine);
             };
             expected(width, base, offset, rest)
@@ -192,7 +212,7 @@ pub(crate) fn compare_exchange<'a>(
 }
 
 /// Behind `lock *(u64 *)(R + n)`.
-#[tactic(auto, unfolding(crate::specs::Reading::locked_at))]
+#[tactic(auto, unfolding(crate::specs::Reader::Lines::locked_at))]
 fn locked<'a>(
     width: Width,
     base: Reg,
@@ -207,7 +227,7 @@ fn locked<'a>(
             Token::Register(Width::Bits64, src),
             rest @ ..,
         ] => {
-            let Some(op) = pieces::locked_op(*sign) else {
+            let Some(op) = atomics::locked_op(*sign) else {
                 return Err(LineError::BadLine);
             };
             atomic_end(op, width, base, offset, *src, rest)
@@ -217,16 +237,16 @@ fn locked<'a>(
 }
 
 /// Behind `lock`.
-#[tactic(auto, unfolding(crate::specs::Reading::lock_at))]
+#[tactic(auto, unfolding(crate::specs::Reader::Lines::lock_at))]
 pub(crate) fn lock<'a>(tokens: &[Token<'a>]) -> Result<Draft<'a>, LineError>
     ensures { Judged result (lock_at (map look tokens.now)) }
 {
     match tokens {
         [Token::Mark(Sign::Star), rest @ ..] => {
-            let Some((size, base, offset, rest)) = pieces::cell(rest) else {
+            let Some((size, base, offset, rest)) = address::cell(rest) else {
                 return Err(LineError::BadLine);
             };
-            let Some(width) = pieces::cell_width(size) else {
+            let Some(width) = address::cell_width(size) else {
                 return Err(LineError::BadLine);
             };
             locked(width, base, offset, rest)

@@ -1,23 +1,25 @@
 //! Jumps, branches and calls.
 
 ghost use Rattle.std.specs.Prelude.{map};
-ghost use Rattle.bpf_text.specs.Look.{look, numeral_value};
-ghost use Rattle.bpf_text.specs.Reading.{jump_at, jump_long_at, branch_to, branch_end, branch_at, helper_at, call_local_at, call_at};
-ghost use Rattle.bpf_text.specs.Judging.{Judged, operand_of, goal_of};
+ghost use Rattle.bpf_text.specs.Reader.Look.{look, numeral_value};
+ghost use Rattle.bpf_text.specs.Reader.Lines.{jump_at, jump_long_at, branch_to, branch_end, branch_at, helper_at, call_local_at, call_at};
+ghost use Rattle.bpf_text.specs.Reader.Judging.{Judged, operand_of, target_of};
 
 use crate::keywords::Keyword;
-use crate::pieces::{self, RawOperand, RawTarget};
-use crate::reading::{Draft, LineError, plain};
+use crate::numbers::{self, Radix};
+use crate::operators;
+use crate::reading::operand::{self, RawOperand};
+use crate::reading::target::{self, RawTarget};
+use crate::reading::{Draft, LineError, operator, plain};
 use crate::token::Token;
-use crate::words::Radix;
 use bpf_insn::{Condition, Insn, Reg, Width};
 
 /// Behind `goto`.
-#[tactic(auto, unfolding(crate::specs::Reading::jump_at))]
+#[tactic(auto, unfolding(crate::specs::Reader::Lines::jump_at))]
 pub(crate) fn jump<'a>(tokens: &[Token<'a>]) -> Result<Draft<'a>, LineError>
     ensures { Judged result (jump_at (map look tokens.now)) }
 {
-    match pieces::target(tokens) {
+    match target::target(tokens) {
         Some(RawTarget::Distance(distance)) => {
             let Some(offset) = distance.offset() else {
                 return Err(LineError::BadNumber);
@@ -33,11 +35,11 @@ pub(crate) fn jump<'a>(tokens: &[Token<'a>]) -> Result<Draft<'a>, LineError>
 }
 
 /// Behind `gotol`.
-#[tactic(auto, unfolding(crate::specs::Reading::jump_long_at))]
+#[tactic(auto, unfolding(crate::specs::Reader::Lines::jump_long_at))]
 pub(crate) fn jump_long<'a>(tokens: &[Token<'a>]) -> Result<Draft<'a>, LineError>
     ensures { Judged result (jump_long_at (map look tokens.now)) }
 {
-    match pieces::target(tokens) {
+    match target::target(tokens) {
         Some(RawTarget::Distance(distance)) => {
             let Some(offset) = distance.immediate() else {
                 return Err(LineError::BadNumber);
@@ -53,7 +55,7 @@ pub(crate) fn jump_long<'a>(tokens: &[Token<'a>]) -> Result<Draft<'a>, LineError
 }
 
 /// A branch that its target ends.
-#[tactic(auto, unfolding(crate::specs::Reading::branch_to))]
+#[tactic(auto, unfolding(crate::specs::Reader::Lines::branch_to))]
 fn branch_to<'a>(
     width: Width,
     condition: Condition,
@@ -61,7 +63,8 @@ fn branch_to<'a>(
     src: RawOperand<'a>,
     target: RawTarget<'a>,
 ) -> Result<Draft<'a>, LineError>
-    ensures { Judged result (branch_to width condition dst (operand_of src.entry) (goal_of target.entry)) }
+    ensures { Judged
+        result (branch_to width condition dst (operand_of src.entry) (target_of target.entry)) }
 {
     let Some(src) = src.operand() else {
         return Err(LineError::BadNumber);
@@ -93,7 +96,7 @@ fn branch_to<'a>(
 }
 
 /// Behind `if R == R`.
-#[tactic(auto, unfolding(crate::specs::Reading::branch_end))]
+#[tactic(auto, unfolding(crate::specs::Reader::Lines::branch_end))]
 fn branch_end<'a>(
     width: Width,
     condition: Condition,
@@ -105,7 +108,7 @@ fn branch_end<'a>(
 {
     match tokens {
         [Token::Word(Keyword::Goto), rest @ ..] => {
-            let Some(target) = pieces::target(rest) else {
+            let Some(target) = target::target(rest) else {
                 return Err(LineError::BadLine);
             };
             branch_to(width, condition, dst, src, target)
@@ -115,16 +118,19 @@ fn branch_end<'a>(
 }
 
 /// Behind `if`.
-#[tactic(auto, unfolding(crate::specs::Reading::branch_at))]
+#[tactic(auto, unfolding(crate::specs::Reader::Lines::branch_at))]
 pub(crate) fn branch<'a>(tokens: &[Token<'a>]) -> Result<Draft<'a>, LineError>
     ensures { Judged result (branch_at (map look tokens.now)) }
 {
     match tokens {
         [Token::Register(width, dst), rest @ ..] => {
-            let Some((condition, rest)) = pieces::condition(rest) else {
+            let Some((operator, rest)) = operator::operator(rest) else {
                 return Err(LineError::BadLine);
             };
-            let Some((src, rest)) = pieces::operand(*width, rest) else {
+            let Some(condition) = operators::condition_named(operator) else {
+                return Err(LineError::BadLine);
+            };
+            let Some((src, rest)) = operand::operand(*width, rest) else {
                 return Err(LineError::BadLine);
             };
             branch_end(*width, condition, *dst, src, rest)
@@ -134,7 +140,7 @@ pub(crate) fn branch<'a>(tokens: &[Token<'a>]) -> Result<Draft<'a>, LineError>
 }
 
 /// Behind `call`, a number.
-#[tactic(auto, unfolding(crate::specs::Reading::helper_at))]
+#[tactic(auto, unfolding(crate::specs::Reader::Lines::helper_at))]
 fn call_helper<'a>(
     radix: Radix,
     digits: &'a [u8],
@@ -144,7 +150,7 @@ fn call_helper<'a>(
 {
     match tokens {
         [] => {
-            let Some(number) = pieces::natural(radix, digits) else {
+            let Some(number) = numbers::natural(radix, digits) else {
                 return Err(LineError::BadNumber);
             };
             plain(Insn::CallHelper { number })
@@ -154,11 +160,11 @@ fn call_helper<'a>(
 }
 
 /// Behind `call`, a target.
-#[tactic(auto, unfolding(crate::specs::Reading::call_local_at))]
+#[tactic(auto, unfolding(crate::specs::Reader::Lines::call_local_at))]
 fn call_local<'a>(tokens: &[Token<'a>]) -> Result<Draft<'a>, LineError>
     ensures { Judged result (call_local_at (map look tokens.now)) }
 {
-    match pieces::target(tokens) {
+    match target::target(tokens) {
         Some(RawTarget::Distance(distance)) => {
             let Some(offset) = distance.immediate() else {
                 return Err(LineError::BadNumber);
@@ -174,7 +180,7 @@ fn call_local<'a>(tokens: &[Token<'a>]) -> Result<Draft<'a>, LineError>
 }
 
 /// Behind `call`.
-#[tactic(auto, unfolding(crate::specs::Reading::call_at))]
+#[tactic(auto, unfolding(crate::specs::Reader::Lines::call_at))]
 pub(crate) fn call<'a>(tokens: &[Token<'a>]) -> Result<Draft<'a>, LineError>
     ensures { Judged result (call_at (map look tokens.now)) }
 {

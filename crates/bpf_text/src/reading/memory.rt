@@ -1,19 +1,20 @@
 //! Loads and stores.
 
 ghost use Rattle.std.specs.Prelude.{map};
-ghost use Rattle.bpf_text.specs.Look.{look};
-ghost use Rattle.bpf_text.specs.Reading.{loaded_at, load_at, stored_end, stored_at, store_at};
-ghost use Rattle.bpf_text.specs.Judging.{Judged, literal_value, operand_of};
+ghost use Rattle.bpf_text.specs.Reader.Look.{look};
+ghost use Rattle.bpf_text.specs.Reader.Lines.{loaded_at, load_at, stored_end, stored_at, store_at};
+ghost use Rattle.bpf_text.specs.Reader.Judging.{Judged, literal_value, operand_of};
 
 use crate::keywords::Keyword;
-use crate::pieces::{self, Literal, RawOperand};
-use crate::reading::{Draft, LineError, plain};
+use crate::numbers::Literal;
+use crate::reading::operand::{self, RawOperand};
+use crate::reading::{Draft, LineError, address, plain};
 use crate::signs::Sign;
 use crate::token::Token;
 use bpf_insn::{Insn, Operand, Reg, Width};
 
 /// Behind `R = *(u8 *)(R + n)`.
-#[tactic(auto, unfolding(crate::specs::Reading::loaded_at))]
+#[tactic(auto, unfolding(crate::specs::Reader::Lines::loaded_at))]
 fn loaded<'a>(
     dst: Reg,
     size: Keyword,
@@ -51,14 +52,14 @@ fn loaded<'a>(
 }
 
 /// Behind `= *`.
-#[tactic(auto, unfolding(crate::specs::Reading::load_at))]
+#[tactic(auto, unfolding(crate::specs::Reader::Lines::load_at))]
 pub(crate) fn load<'a>(width: Width, dst: Reg, tokens: &[Token<'a>]) -> Result<Draft<'a>, LineError>
     ensures { Judged result (load_at width dst (map look tokens.now)) }
 {
     match width {
         Width::Bits32 => Err(LineError::BadLine),
         Width::Bits64 => {
-            let Some((size, base, offset, rest)) = pieces::cell(tokens) else {
+            let Some((size, base, offset, rest)) = address::cell(tokens) else {
                 return Err(LineError::BadLine);
             };
             loaded(dst, size, base, offset, rest)
@@ -67,7 +68,7 @@ pub(crate) fn load<'a>(width: Width, dst: Reg, tokens: &[Token<'a>]) -> Result<D
 }
 
 /// Behind `*(u8 *)(R + n) = R`.
-#[tactic(auto, unfolding(crate::specs::Reading::stored_end))]
+#[tactic(auto, unfolding(crate::specs::Reader::Lines::stored_end))]
 fn stored_end<'a>(
     size: Keyword,
     base: Reg,
@@ -75,7 +76,9 @@ fn stored_end<'a>(
     src: RawOperand<'a>,
     tokens: &[Token<'a>],
 ) -> Result<Draft<'a>, LineError>
-    ensures { Judged result (stored_end size base (literal_value offset.entry) (operand_of src.entry) (map look tokens.now)) }
+    ensures { Judged
+        result (stored_end size base (literal_value offset.entry) (operand_of src.entry)
+        (map look tokens.now)) }
 {
     match (size, tokens) {
         (Keyword::Unsigned(size), []) => {
@@ -105,7 +108,7 @@ fn stored_end<'a>(
 }
 
 /// Behind `*(u8 *)(R + n)`.
-#[tactic(auto, unfolding(crate::specs::Reading::stored_at))]
+#[tactic(auto, unfolding(crate::specs::Reader::Lines::stored_at))]
 fn stored<'a>(
     size: Keyword,
     base: Reg,
@@ -116,7 +119,7 @@ fn stored<'a>(
 {
     match tokens {
         [Token::Mark(Sign::Assign), rest @ ..] => {
-            let Some((src, rest)) = pieces::operand(Width::Bits64, rest) else {
+            let Some((src, rest)) = operand::operand(Width::Bits64, rest) else {
                 return Err(LineError::BadLine);
             };
             stored_end(size, base, offset, src, rest)
@@ -126,11 +129,11 @@ fn stored<'a>(
 }
 
 /// Behind `*`.
-#[tactic(auto, unfolding(crate::specs::Reading::store_at))]
+#[tactic(auto, unfolding(crate::specs::Reader::Lines::store_at))]
 pub(crate) fn store<'a>(tokens: &[Token<'a>]) -> Result<Draft<'a>, LineError>
     ensures { Judged result (store_at (map look tokens.now)) }
 {
-    let Some((size, base, offset, rest)) = pieces::cell(tokens) else {
+    let Some((size, base, offset, rest)) = address::cell(tokens) else {
         return Err(LineError::BadLine);
     };
     stored(size, base, offset, rest)

@@ -3,8 +3,8 @@ use Rattle.std.specs.Prelude.{MatchResult}
 use Rattle.bpf_text.specs.declared.error.TextError.TheVariants.{OutOfMemory}
 use Rattle.bpf_text.specs.declared.source.SourceLine.{SourceLine}
 use Rattle.bpf_text.specs.Assembly.{AreLines, lines_of, program_of}
-use Rattle.bpf_text.specs.Labels.{found}
-use Rattle.bpf_text.specs.Sources.{source_of}
+use Rattle.bpf_text.specs.Reader.Labels.{found}
+use Rattle.bpf_text.specs.Reader.Sources.{source_of}
 use Rattle.bpf_text.proofs.Unique.{found_outcome}
 use Rattle.bpf_text.proofs.assembly.assemble.Goals as goal
 

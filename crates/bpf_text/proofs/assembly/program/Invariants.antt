@@ -1,7 +1,7 @@
 use Rattle.std.proofs.Common.{◌≡◌, ◌≤◌, ◌*◌, map, drop}
 use Rattle.bpf_text.specs.Assembly.{program_of}
-use Rattle.bpf_text.specs.Labels.{found}
-use Rattle.bpf_text.specs.Sources.{source_of}
+use Rattle.bpf_text.specs.Reader.Labels.{found}
+use Rattle.bpf_text.specs.Reader.Sources.{source_of}
 use Rattle.bpf_text.proofs.TextLemmas.{behind}
 use Rattle.bpf_text.proofs.assembly.program.Given as goal
 

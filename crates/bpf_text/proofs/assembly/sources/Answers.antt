@@ -2,8 +2,8 @@ use Rattle.std.proofs.Common.{◌≡◌, ℕ, List, [], ◌∷◌, ◌++◌, len
 use Rattle.std.proofs.lemmas.List.{length-map}
 use Rattle.std.specs.Option.{option_copied}
 use Rattle.bpf_text.specs.Assembly.{Source, first_place}
-use Rattle.bpf_text.specs.Labels.{found}
-use Rattle.bpf_text.specs.Sources.{source_of}
+use Rattle.bpf_text.specs.Reader.Labels.{found}
+use Rattle.bpf_text.specs.Reader.Sources.{source_of}
 use Rattle.bpf_text.proofs.TextLemmas.{LinesRead, lines_start, lines_next, lines_end, labels_next, words_next, sources_next, words_before, bound_next}
 use Rattle.bpf_text.proofs.assembly.sources.Goals as goal
 

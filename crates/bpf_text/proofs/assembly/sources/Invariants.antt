@@ -1,9 +1,9 @@
 use Rattle.std.proofs.Common.{◌≡◌, ◌≤◌, ◌*◌, ℕ, List, map, vec_len}
 use Rattle.std.specs.Option.{option_copied}
 use Rattle.bpf_text.specs.Assembly.{first_place}
-use Rattle.bpf_text.specs.Labels.{found}
-use Rattle.bpf_text.specs.Sources.{source_of}
-use Rattle.bpf_text.specs.Cutting.{rest_size}
+use Rattle.bpf_text.specs.Reader.Labels.{found}
+use Rattle.bpf_text.specs.Reader.Sources.{source_of}
+use Rattle.bpf_text.specs.Reader.Cutting.{rest_size}
 use Rattle.bpf_text.proofs.TextLemmas.{LinesRead, words_before}
 use Rattle.bpf_text.proofs.assembly.sources.Given as goal
 

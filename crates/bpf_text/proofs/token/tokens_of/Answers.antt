@@ -1,5 +1,5 @@
 use Rattle.std.proofs.Common.{rules, map, ◌++◌, ◌∷◌, [], ◌≡◌, ap, sym, subst, List}
-use Rattle.bpf_text.specs.Look.{look}
+use Rattle.bpf_text.specs.Reader.Look.{look}
 use Rattle.bpf_text.specs.Token.{Tok}
 use Rattle.bpf_text.proofs.Scanning.{Reached, pushed, reached_start, reached_next, reached_end, ends_behind, ends_at, goes_on}
 use Rattle.bpf_text.proofs.token.tokens_of.Goals as goal

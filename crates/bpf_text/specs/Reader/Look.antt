@@ -1,8 +1,8 @@
 -- What the reader's tokens stand for, without where their texts lie.
 use Rattle.std.specs.Prelude.{ℕ, List}
 use Rattle.std.specs.Str.Parse.{digits_value}
-use Rattle.bpf_text.specs.declared.words.Radix.{Radix}
-use Rattle.bpf_text.specs.declared.words.Radix.TheVariants.{Decimal, Hex}
+use Rattle.bpf_text.specs.declared.numbers.Radix.{Radix}
+use Rattle.bpf_text.specs.declared.numbers.Radix.TheVariants.{Decimal, Hex}
 use Rattle.bpf_text.specs.declared.token.Token.{Token}
 use Rattle.bpf_text.specs.declared.token.Token.TheVariants as token
 use Rattle.bpf_text.specs.Token.{Tok, Register, Word, Name, Number, Mark, Junk}

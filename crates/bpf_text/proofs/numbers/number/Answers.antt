@@ -1,6 +1,6 @@
 use Rattle.std.proofs.Common.{rules}
-use Rattle.bpf_text.proofs.Numbers.{too_large_at, at_end}
-use Rattle.bpf_text.proofs.words.number.Goals as goal
+use Rattle.bpf_text.proofs.DigitLemmas.{too_large_at, at_end}
+use Rattle.bpf_text.proofs.numbers.number.Goals as goal
 
 pub returns-in_err-checked_mul : goal.returns-in_err-checked_mul
 returns-in_err-checked_mul c =

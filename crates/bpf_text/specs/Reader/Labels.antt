@@ -8,7 +8,8 @@ use Rattle.bpf_text.specs.declared.labels.Place.{Place}
 use denote.Ref.{Bor}
 
 -- what was noted of this label
-abbrev pub found : HashMap (Bor (List ℕ)) Place (BuildHasherDefault FoldHasher) → List ℕ → Option Place
+abbrev pub found : HashMap (Bor (List ℕ)) Place (BuildHasherDefault FoldHasher) → List ℕ
+    → Option Place
 found m name = get_by (λ k. bytes_eq name k.now) m
 
 -- the first of two answers

@@ -8,13 +8,13 @@ use Rattle.bpf_insn.specs.declared.instruction.Operand.TheVariants as operand
 use Rattle.bpf_text.specs.declared.reading.LineError.{LineError}
 use Rattle.bpf_text.specs.declared.reading.LineError.TheVariants.{BadLine, BadNumber}
 use Rattle.bpf_text.specs.declared.reading.Draft.{Draft as DraftValue}
-use Rattle.bpf_text.specs.declared.pieces.Literal.{Literal}
-use Rattle.bpf_text.specs.declared.pieces.RawOperand.{RawOperand}
-use Rattle.bpf_text.specs.declared.pieces.RawOperand.TheVariants as raw
-use Rattle.bpf_text.specs.declared.pieces.RawTarget.{RawTarget}
-use Rattle.bpf_text.specs.declared.pieces.RawTarget.TheVariants as target
-use Rattle.bpf_text.specs.Look.{numeral_value}
-use Rattle.bpf_text.specs.Reading.{Goal}
+use Rattle.bpf_text.specs.declared.numbers.Literal.{Literal}
+use Rattle.bpf_text.specs.declared.reading.operand.RawOperand.{RawOperand}
+use Rattle.bpf_text.specs.declared.reading.operand.RawOperand.TheVariants as raw
+use Rattle.bpf_text.specs.declared.reading.target.RawTarget.{RawTarget}
+use Rattle.bpf_text.specs.declared.reading.target.RawTarget.TheVariants as target
+use Rattle.bpf_text.specs.Reader.Look.{numeral_value}
+use Rattle.bpf_text.specs.Reader.Pieces.{Target}
 use Rattle.bpf_text.specs.Line.{Written}
 
 -- what an option answers, seen by view, is what is read
@@ -37,9 +37,9 @@ abbrev pub FitsOperand : Operand → Type 0
 FitsOperand (operand.Immediate n) = FitsSigned w32 n
 FitsOperand (operand.Register r) = Unit {0}
 
-abbrev pub goal_of : RawTarget → Goal
-goal_of (target.Distance l) = record { distance = literal_value l; name = None }
-goal_of (target.Label n) = record { distance = pos 0; name = Some n.now }
+abbrev pub target_of : RawTarget → Target
+target_of (target.Distance l) = record { distance = literal_value l; name = None }
+target_of (target.Label n) = record { distance = pos 0; name = Some n.now }
 
 -- a draft without where its name lies
 abbrev pub drafted : DraftValue → Written

@@ -1,0 +1,27 @@
+//! What stands between two operands.
+
+ghost use Rattle.std.specs.Prelude.{map};
+ghost use Rattle.bpf_text.specs.Reader.Look.{look};
+ghost use Rattle.bpf_text.specs.Reader.Pieces.{operator_at};
+ghost use Rattle.bpf_text.specs.Reader.Judging.{Gives};
+
+use crate::keywords::Keyword;
+use crate::operators::Operator;
+use crate::signs::Sign;
+use crate::token::Token;
+
+/// Reads a sign, perhaps behind `s`, and gives what follows.
+#[tactic(auto, unfolding(crate::specs::Reader::Pieces::operator_at))]
+pub fn operator<'t, 'a>(tokens: &'t [Token<'a>]) -> Option<(Operator, &'t [Token<'a>])>
+    ensures { Gives (λ m. record { operator = m.0; rest = map look m.1.now })
+        result (operator_at (map look tokens.now)) }
+{
+    match tokens {
+        [Token::Word(Keyword::Signed), Token::Mark(sign), rest @ ..] => Some((
+            Operator::Signed(*sign),
+            rest,
+        )),
+        [Token::Mark(sign), rest @ ..] => Some((Operator::Plain(*sign), rest)),
+        _ => None,
+    }
+}

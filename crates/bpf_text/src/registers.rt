@@ -1,0 +1,92 @@
+//! Registers by name.
+
+ghost use Rattle.std.specs.Prelude.{◌≡◌};
+ghost use Rattle.bpf_text.specs.Names.{register_text};
+ghost use Rattle.bpf_text.specs.Words.{register_of};
+ghost use Rattle.bpf_text.specs.Reader.Pieces.{same_width, same_register};
+
+use bpf_insn::{Reg, Width};
+
+/// All registers' names.
+const REGISTERS: [(Width, Reg); 22] = [
+    (Width::Bits64, Reg::R0),
+    (Width::Bits64, Reg::R1),
+    (Width::Bits64, Reg::R2),
+    (Width::Bits64, Reg::R3),
+    (Width::Bits64, Reg::R4),
+    (Width::Bits64, Reg::R5),
+    (Width::Bits64, Reg::R6),
+    (Width::Bits64, Reg::R7),
+    (Width::Bits64, Reg::R8),
+    (Width::Bits64, Reg::R9),
+    (Width::Bits64, Reg::R10),
+    (Width::Bits32, Reg::R0),
+    (Width::Bits32, Reg::R1),
+    (Width::Bits32, Reg::R2),
+    (Width::Bits32, Reg::R3),
+    (Width::Bits32, Reg::R4),
+    (Width::Bits32, Reg::R5),
+    (Width::Bits32, Reg::R6),
+    (Width::Bits32, Reg::R7),
+    (Width::Bits32, Reg::R8),
+    (Width::Bits32, Reg::R9),
+    (Width::Bits32, Reg::R10),
+];
+
+/// A register's name: `r` for all 64 bits, `w` for the low 32.
+pub fn register_text(width: Width, register: Reg) -> &'static str
+    ensures { result.now ≡ register_text width register }
+{
+    match (width, register) {
+        (Width::Bits64, Reg::R0) => "r0",
+        (Width::Bits64, Reg::R1) => "r1",
+        (Width::Bits64, Reg::R2) => "r2",
+        (Width::Bits64, Reg::R3) => "r3",
+        (Width::Bits64, Reg::R4) => "r4",
+        (Width::Bits64, Reg::R5) => "r5",
+        (Width::Bits64, Reg::R6) => "r6",
+        (Width::Bits64, Reg::R7) => "r7",
+        (Width::Bits64, Reg::R8) => "r8",
+        (Width::Bits64, Reg::R9) => "r9",
+        (Width::Bits64, Reg::R10) => "r10",
+        (Width::Bits32, Reg::R0) => "w0",
+        (Width::Bits32, Reg::R1) => "w1",
+        (Width::Bits32, Reg::R2) => "w2",
+        (Width::Bits32, Reg::R3) => "w3",
+        (Width::Bits32, Reg::R4) => "w4",
+        (Width::Bits32, Reg::R5) => "w5",
+        (Width::Bits32, Reg::R6) => "w6",
+        (Width::Bits32, Reg::R7) => "w7",
+        (Width::Bits32, Reg::R8) => "w8",
+        (Width::Bits32, Reg::R9) => "w9",
+        (Width::Bits32, Reg::R10) => "w10",
+    }
+}
+
+/// The register with this name.
+#[tactic(auto, unfolding(crate::specs::Words::register_of))]
+pub fn register_named(word: &[u8]) -> Option<(Width, Reg)>
+    ensures { result ≡ register_of word.now }
+{
+    REGISTERS
+        .iter()
+        .copied()
+        .find(|r| register_text(r.0, r.1).as_bytes() == word)
+}
+
+pub fn same_width(a: Width, b: Width) -> bool
+    ensures { result ≡ same_width a b }
+{
+    match (a, b) {
+        (Width::Bits32, Width::Bits32) => true,
+        (Width::Bits64, Width::Bits64) => true,
+        (Width::Bits32, Width::Bits64) => false,
+        (Width::Bits64, Width::Bits32) => false,
+    }
+}
+
+pub fn same_register(a: Reg, b: Reg) -> bool
+    ensures { result ≡ same_register a b }
+{
+    a.number() == b.number()
+}
