@@ -29,21 +29,21 @@ use Rattle.bpf_mem.specs.Stack.{zeroed}
 use Rattle.bpf_mem.specs.Laws.{IsMemory, WritesAreDetermined}
 use Rattle.bpf_cpu.specs.declared.cpu.Cpu.{Cpu}
 use Rattle.bpf_cpu.specs.declared.outcome.Fault.{Fault}
-use Rattle.bpf_cpu.specs.declared.outcome.Turn.{Turn}
-use Rattle.bpf_cpu.specs.declared.outcome.Turn.TheVariants.{On}
-use Rattle.bpf_cpu.specs.State.{value, operand_value, address, at_pc, caller_of, entered, left, written}
-use Rattle.bpf_cpu.specs.Row.{Faults, Quiet, Jumps, JumpsIf, CallsLocal, Exits, Loads, Stores, Atomics, plain_size, extension_of, fetching, remembering, Answered, LooksUp, Helper, Lookup, Row}
+use Rattle.bpf_cpu.specs.declared.outcome.Progress.{Progress}
+use Rattle.bpf_cpu.specs.declared.outcome.Progress.TheVariants.{On}
+use Rattle.bpf_cpu.specs.State.{value, operand_value, effective_address, at_pc, caller_of, after_call, after_return, with_register}
+use Rattle.bpf_cpu.specs.Row.{Faults, Quiet, Jumps, JumpsIf, CallsLocal, Exits, Loads, Stores, Atomics, plain_size, extension_of, fetching, remembering, TakesAnswer, LooksUp, Helper, Lookup, Executes}
 
 -- the same end, with the memory of a CPU
-pub record Same (turn end : Turn) (new other : Cpu) : Type 0 where
-  pub turns : turn ≡ end
+pub record Same (progress end : Progress) (new other : Cpu) : Type 0 where
+  pub turns : progress ≡ end
   pub states : new ≡ other
   pub sound : IsMemory new.memory
 
 -- the same question, and where the reply is the same, the same end
-pub record Agrees (events others : List Event) (turn end : Turn) (new other : Cpu) : Type 0 where
+pub record Agrees (events others : List Event) (progress end : Progress) (new other : Cpu) : Type 0 where
   pub asks : map asked events ≡ map asked others
-  pub replied : events ≡ others → Same turn end new other
+  pub replied : events ≡ others → Same progress end new other
 
 -- ---- lists
 
@@ -72,7 +72,7 @@ found_bytes : (o : Option (List ℕ)) (number : List ℕ → ℕ) (x : ℕ) → 
 found_bytes None number x e = absurd cc
 found_bytes (Some bytes) number x e = refl
 
-sound_entered : (old : Cpu) (to : ℕ) → IsMemory old.memory → length old.memory.frames.live < 8 → IsMemory (entered old to).memory
+sound_entered : (old : Cpu) (to : ℕ) → IsMemory old.memory → length old.memory.frames.live < 8 → IsMemory (after_call old to).memory
 sound_entered old to sound room =
     let live = old.memory.frames.live in
     let paired = sound.stack.paired in
@@ -86,7 +86,7 @@ sound_entered old to sound room =
       small = sound.small;
     }
 
-sound_left : (old : Cpu) (others : List Caller) (caller : Caller) → IsMemory old.memory → old.memory.frames.callers ≡ others ++ caller ∷ [] → IsMemory (left old others caller).memory
+sound_left : (old : Cpu) (others : List Caller) (caller : Caller) → IsMemory old.memory → old.memory.frames.callers ≡ others ++ caller ∷ [] → IsMemory (after_return old others caller).memory
 sound_left old others caller sound e =
     let live = old.memory.frames.live in
     let paired = sound.stack.paired in
@@ -103,49 +103,49 @@ sound_left old others caller sound e =
       small = sound.small;
     }
 
-module _ (law : WritesAreDetermined) (old new other : Cpu) (turn end : Turn) (sound : IsMemory old.memory) where
+module _ (law : WritesAreDetermined) (old new other : Cpu) (progress end : Progress) (sound : IsMemory old.memory) where
   -- both make this state
-  makes : (made : Cpu) → turn ≡ On → end ≡ On → new ≡ made → other ≡ made → IsMemory made.memory → Same turn end new other
+  makes : (made : Cpu) → progress ≡ On → end ≡ On → new ≡ made → other ≡ made → IsMemory made.memory → Same progress end new other
   makes made t e n o m = record { turns = t ∙ sym e; states = n ∙ sym o; sound = let P : Cpu → Type 0 = λ c. IsMemory c.memory in subst P (sym n) m }
 
   -- both are the same fault
-  faults : (fault : Fault) → Faults fault old turn new → Faults fault old end other → Same turn end new other
+  faults : (fault : Fault) → Faults fault old progress new → Faults fault old end other → Same progress end new other
   faults fault f g = record { turns = f.0 ∙ sym g.0; states = f.1 ∙ sym g.1; sound = let P : Cpu → Type 0 = λ c. IsMemory c.memory in subst P (sym f.1) sound }
 
-  jumped : (by : ℤ) → turn ≡ On → end ≡ On → Jumps old by new → Jumps old by other → Same turn end new other
+  jumped : (by : ℤ) → progress ≡ On → end ≡ On → Jumps old by new → Jumps old by other → Same progress end new other
   jumped by t e j k =
       let to : k.0 ≡ j.0 = cc (j.1, k.1) in
       makes (at_pc old j.0) t e j.2 (k.2 ∙ ap (at_pc old) to) sound
 
-  jumped_if : (by : ℤ) (b : Bool) → turn ≡ On → end ≡ On → JumpsIf b old by new → JumpsIf b old by other → Same turn end new other
+  jumped_if : (by : ℤ) (b : Bool) → progress ≡ On → end ≡ On → JumpsIf b old by new → JumpsIf b old by other → Same progress end new other
   jumped_if by true t e j k = jumped by t e j k
   jumped_if by false t e j k = makes _ t e j k sound
 
-  called : (by : ℤ) → CallsLocal by old turn new → CallsLocal by old end other → Same turn end new other
+  called : (by : ℤ) → CallsLocal by old progress new → CallsLocal by old end other → Same progress end new other
   called by (inl f) (inl g) = faults _ f.1 g.1
   called by (inl f) (inr k) = absurd (let full = f.0 in let room = k.0 in omega arith)
   called by (inr j) (inl g) = absurd (let full = g.0 in let room = j.0 in omega arith)
   called by (inr j) (inr k) =
       let to : k.2.0 ≡ j.2.0 = cc (j.2.1, k.2.1) in
-      makes (entered old j.2.0) j.1 k.1 j.2.2 (k.2.2 ∙ ap (entered old) to) (sound_entered old j.2.0 sound j.0)
+      makes (after_call old j.2.0) j.1 k.1 j.2.2 (k.2.2 ∙ ap (after_call old) to) (sound_entered old j.2.0 sound j.0)
 
-  exited : Exits old turn new → Exits old end other → Same turn end new other
+  exited : Exits old progress new → Exits old end other → Same progress end new other
   exited (inl f) (inl g) = record { turns = f.1 ∙ sym g.1; states = f.2 ∙ sym g.2; sound = let P : Cpu → Type 0 = λ c. IsMemory c.memory in subst P (sym f.2) sound }
   exited (inl f) (inr k) = absurd (none_last k.0 k.1 (sym k.2 ∙ f.0))
   exited (inr j) (inl g) = absurd (none_last j.0 j.1 (sym j.2 ∙ g.0))
   exited (inr j) (inr k) =
       let same = same_last k.0 j.0 k.1 j.1 (sym k.2 ∙ j.2) in
-      makes (left old j.0 j.1) j.3 k.3 j.4 (k.4 ∙ ap (λ callers. left old callers k.1) same.0 ∙ ap (left old j.0) same.1) (sound_left old j.0 j.1 sound j.2)
+      makes (after_return old j.0 j.1) j.3 k.3 j.4 (k.4 ∙ ap (λ callers. after_return old callers k.1) same.0 ∙ ap (after_return old j.0) same.1) (sound_left old j.0 j.1 sound j.2)
 
-  loaded : (size : Size) (reading : ℕ → ℕ) (d : Reg) (a : ℕ) → Loads size reading d a old turn new → Loads size reading d a old end other → Same turn end new other
+  loaded : (size : Size) (reading : ℕ → ℕ) (d : Reg) (a : ℕ) → Loads size reading d a old progress new → Loads size reading d a old end other → Same progress end new other
   loaded size reading d a (inl f) (inl g) = faults _ f.1 g.1
   loaded size reading d a (inl f) (inr k) = absurd (false≢true (sym f.0 ∙ found_bytes _ _ _ k.1))
   loaded size reading d a (inr j) (inl g) = absurd (false≢true (sym g.0 ∙ found_bytes _ _ _ j.1))
   loaded size reading d a (inr j) (inr k) =
       let x : k.0 ≡ j.0 = cc (j.1, k.1) in
-      makes (written old d (reading j.0) (old.pc + 1)) j.2 k.2 j.3 (k.3 ∙ ap (λ n. written old d (reading n) (old.pc + 1)) x) sound
+      makes (with_register old d (reading j.0) (old.pc + 1)) j.2 k.2 j.3 (k.3 ∙ ap (λ n. with_register old d (reading n) (old.pc + 1)) x) sound
 
-  stored : (size : Size) (a x : ℕ) → Stores size a x old turn new → Stores size a x old end other → Same turn end new other
+  stored : (size : Size) (a x : ℕ) → Stores size a x old progress new → Stores size a x old end other → Same progress end new other
   stored size a x (inl f) (inl g) = faults _ f.1 g.1
   stored size a x (inl f) (inr k) = absurd (false≢true (sym f.0 ∙ k.0))
   stored size a x (inr j) (inl g) = absurd (false≢true (sym g.0 ∙ j.0))
@@ -153,7 +153,7 @@ module _ (law : WritesAreDetermined) (old new other : Cpu) (turn end : Turn) (so
       let one = law old.memory a _ j.2.0 k.2.0 sound j.2.1 k.2.1 in
       makes (remembering old j.2.0) j.1 k.1 j.2.2 (k.2.2 ∙ ap (remembering old) (sym one.1)) one.0
 
-  operated : (w : Width) (op : AtomicOp) (s : Reg) (a : ℕ) → Atomics w op s a old turn new → Atomics w op s a old end other → Same turn end new other
+  operated : (w : Width) (op : AtomicOp) (s : Reg) (a : ℕ) → Atomics w op s a old progress new → Atomics w op s a old end other → Same progress end new other
   operated w op s a (inl f) (inl g) = faults _ f.1 g.1
   operated w op s a (inl f) (inr (inl k)) = absurd (false≢true (sym f.0 ∙ k.0))
   operated w op s a (inl f) (inr (inr k)) = absurd (false≢true (sym f.0 ∙ found_bytes _ _ _ k.1))
@@ -169,7 +169,7 @@ module _ (law : WritesAreDetermined) (old new other : Cpu) (turn end : Turn) (so
       let one = law old.memory a _ j.4.0 k.4.0 sound j.4.1 (subst P x k.4.1) in
       makes (done j.0 j.4.0) j.3 k.3 j.4.2 (k.4.2 ∙ ap (λ n. done n k.4.0) x ∙ ap (done j.0) (sym one.1)) one.0
 
-  quiet_same : (i : Insn) → Quiet i old turn new → Quiet i old end other → Same turn end new other
+  quiet_same : (i : Insn) → Quiet i old progress new → Quiet i old end other → Same progress end new other
   quiet_same (insn.Alu w op d s) j k = makes _ j.0 k.0 j.1 k.1 sound
   quiet_same (insn.Negate w d) j k = makes _ j.0 k.0 j.1 k.1 sound
   quiet_same (insn.SignExtend e d s) j k = makes _ j.0 k.0 j.1 k.1 sound
@@ -182,15 +182,15 @@ module _ (law : WritesAreDetermined) (old new other : Cpu) (turn end : Turn) (so
   quiet_same (insn.LoadMap d m) j k = makes _ j.0 k.0 j.1 k.1 sound
   quiet_same (insn.CallHelper n) j k = absurd j
   quiet_same (insn.CallLocal by) j k = called by j k
-  quiet_same (insn.Load z d b o) j k = loaded z (λ x. x) d (address old b o) j k
-  quiet_same (insn.LoadSigned z d b o) j k = loaded (plain_size z) (sign_extended (extension_of z)) d (address old b o) j k
-  quiet_same (insn.StoreImmediate z b o n) j k = stored z (address old b o) (cast_unsigned w64 n) j k
-  quiet_same (insn.Store z b o s) j k = stored z (address old b o) (value old s) j k
-  quiet_same (insn.Atomic w op b o s) j k = operated w op s (address old b o) j k
+  quiet_same (insn.Load z d b o) j k = loaded z (λ x. x) d (effective_address old b o) j k
+  quiet_same (insn.LoadSigned z d b o) j k = loaded (plain_size z) (sign_extended (extension_of z)) d (effective_address old b o) j k
+  quiet_same (insn.StoreImmediate z b o n) j k = stored z (effective_address old b o) (cast_unsigned w64 n) j k
+  quiet_same (insn.Store z b o s) j k = stored z (effective_address old b o) (value old s) j k
+  quiet_same (insn.Atomic w op b o s) j k = operated w op s (effective_address old b o) j k
 
   -- ---- helpers
 
-  answered : (answer : Option Span) → Answered answer old turn new → Answered answer old end other → Same turn end new other
+  answered : (answer : Option Span) → TakesAnswer answer old progress new → TakesAnswer answer old end other → Same progress end new other
   answered None j k = makes _ j.0 k.0 j.1 k.1 sound
   answered (Some p) (inl f) (inl g) = faults _ f.1 g.1
   answered (Some p) (inl f) (inr k) = absurd (k.0 f.0)
@@ -198,10 +198,10 @@ module _ (law : WritesAreDetermined) (old new other : Cpu) (turn end : Turn) (so
   answered (Some p) (inr j) (inr k) = makes _ j.1 k.1 j.2 k.2 sound
 
   -- no event at all
-  unasked : (events others : List Event) → events ≡ [] → others ≡ [] → Same turn end new other → Agrees events others turn end new other
+  unasked : (events others : List Event) → events ≡ [] → others ≡ [] → Same progress end new other → Agrees events others progress end new other
   unasked events others e f same = record { asks = ap (map asked) (e ∙ sym f); replied = λ _. same }
 
-  looked_up : (m : ℕ) (h : MapShape) (events others : List Event) → LooksUp m h old events turn new → LooksUp m h old others end other → Agrees events others turn end new other
+  looked_up : (m : ℕ) (h : MapShape) (events others : List Event) → LooksUp m h old events progress new → LooksUp m h old others end other → Agrees events others progress end new other
   looked_up m h events others (inl f) (inl g) = unasked events others f.1 g.1 (faults _ f.2 g.2)
   looked_up m h events others (inl f) (inr k) = absurd (false≢true (sym f.0 ∙ ap is_some k.2))
   looked_up m h events others (inr j) (inl g) = absurd (false≢true (sym g.0 ∙ ap is_some j.2))
@@ -212,11 +212,11 @@ module _ (law : WritesAreDetermined) (old new other : Cpu) (turn end : Turn) (so
         replied = λ same.
             let lists : event.Lookup m j.0 j.1 ∷ [] ≡ event.Lookup m k.0 k.1 ∷ [] = sym j.3 ∙ same ∙ k.3 in
             let answer : k.1 ≡ j.1 = cc in
-            let P : Option Span → Type 0 = λ a. Answered a old end other in
+            let P : Option Span → Type 0 = λ a. TakesAnswer a old end other in
             answered j.1 j.4 (subst P answer k.4);
       }
 
-  lookup_agrees : (shapes : List MapShape) (events others : List Event) → Lookup shapes old events turn new → Lookup shapes old others end other → Agrees events others turn end new other
+  lookup_agrees : (shapes : List MapShape) (events others : List Event) → Lookup shapes old events progress new → Lookup shapes old others end other → Agrees events others progress end new other
   lookup_agrees shapes events others (inl f) (inl g) = unasked events others f.1 g.1 (faults _ f.2 g.2)
   lookup_agrees shapes events others (inl f) (inr k) = absurd (f.0 k.0 k.1 k.2)
   lookup_agrees shapes events others (inr j) (inl g) = absurd (g.0 j.0 j.1 j.2)
@@ -227,18 +227,18 @@ module _ (law : WritesAreDetermined) (old new other : Cpu) (turn end : Turn) (so
       let Q : MapShape → Type 0 = λ h. LooksUp j.0 h old others end other in
       looked_up j.0 j.1 events others j.3 (subst Q shape (subst P number k.3))
 
-  helper_agrees : (shapes : List MapShape) (number : ℕ) (events others : List Event) → Helper shapes number old events turn new → Helper shapes number old others end other → Agrees events others turn end new other
+  helper_agrees : (shapes : List MapShape) (number : ℕ) (events others : List Event) → Helper shapes number old events progress new → Helper shapes number old others end other → Agrees events others progress end new other
   helper_agrees shapes number events others (inl j) (inl k) = lookup_agrees shapes events others j.1 k.1
   helper_agrees shapes number events others (inl j) (inr k) = absurd (let a = j.0 in let b = k.0 in omega arith)
   helper_agrees shapes number events others (inr j) (inl k) = absurd (let a = j.0 in let b = k.0 in omega arith)
   helper_agrees shapes number events others (inr j) (inr k) = unasked events others j.1 k.1 (makes _ j.2 k.2 j.3 k.3 sound)
 
-  quiet_helper : (i : Insn) (number : ℕ) (end : Turn) (state : Cpu) → i ≡ insn.CallHelper number → Quiet i old end state → ⊥
+  quiet_helper : (i : Insn) (number : ℕ) (end : Progress) (state : Cpu) → i ≡ insn.CallHelper number → Quiet i old end state → ⊥
   quiet_helper i number end state e row = let P : Insn → Type 0 = λ i. Quiet i old end state in subst P e row
 
-  pub row_agrees : (shapes : List MapShape) (i : Insn) (events others : List Event) → Row shapes i old events turn new → Row shapes i old others end other → Agrees events others turn end new other
+  pub row_agrees : (shapes : List MapShape) (i : Insn) (events others : List Event) → Executes shapes i old events progress new → Executes shapes i old others end other → Agrees events others progress end new other
   row_agrees shapes i events others (inl j) (inl k) = unasked events others j.0 k.0 (quiet_same i j.1 k.1)
-  row_agrees shapes i events others (inl j) (inr k) = absurd (quiet_helper i k.0 turn new k.1 j.1)
+  row_agrees shapes i events others (inl j) (inr k) = absurd (quiet_helper i k.0 progress new k.1 j.1)
   row_agrees shapes i events others (inr j) (inl k) = absurd (quiet_helper i j.0 end other j.1 k.1)
   row_agrees shapes i events others (inr j) (inr k) =
       let number : k.0 ≡ j.0 = cc (j.1, k.1) in

@@ -18,11 +18,11 @@ use Rattle.bpf_loader.specs.Laws.{OneInstructionBegins}
 use Rattle.bpf_mem.specs.Stack.{zeroed}
 use Rattle.bpf_mem.specs.Laws.{IsMemory, WritesAreDetermined}
 use Rattle.bpf_cpu.specs.declared.cpu.Cpu.{Cpu}
-use Rattle.bpf_cpu.specs.declared.outcome.Turn.{Turn}
-use Rattle.bpf_cpu.specs.declared.outcome.Turn.TheVariants.{On, Done}
+use Rattle.bpf_cpu.specs.declared.outcome.Progress.{Progress}
+use Rattle.bpf_cpu.specs.declared.outcome.Progress.TheVariants.{On, Done}
 use Rattle.bpf_cpu.specs.declared.outcome.Outcome.{Outcome}
-use Rattle.bpf_cpu.specs.Row.{Helper, Row}
-use Rattle.bpf_cpu.specs.Step.{Step, Steps}
+use Rattle.bpf_cpu.specs.Row.{Helper, Executes}
+use Rattle.bpf_cpu.specs.Step.{Step, MakesSteps}
 use Rattle.bpf_cpu.specs.State.{start}
 use Rattle.bpf_cpu.specs.Laws.{StepsAreDetermined, OutcomesAreDetermined, NoMapsNoEvents, PlainStepsAreDetermined}
 use Rattle.bpf_cpu.proofs.DeterminedRows.{Agrees, row_agrees, same_last, whole_frame}
@@ -46,11 +46,11 @@ same_count xs ys e = sym (length-map xs asked) ∙ ap length e ∙ length-map ys
 
 module _ (law : WritesAreDetermined) (one : OneInstructionBegins) (shapes : List MapShape) (program : Loaded) where
   -- ---- one step
-  pub step_agrees : (old new other : Cpu) (turn end : Turn) (events others : List Event) → IsMemory old.memory → Step shapes program old events turn new → Step shapes program old others end other → Agrees events others turn end new other
-  step_agrees old new other turn end events others sound a b =
-      let P = λ (i : Insn). Row shapes i old others end other in
+  pub step_agrees : (old new other : Cpu) (progress end : Progress) (events others : List Event) → IsMemory old.memory → Step shapes program old events progress new → Step shapes program old others end other → Agrees events others progress end new other
+  step_agrees old new other progress end events others sound a b =
+      let P = λ (i : Insn). Executes shapes i old others end other in
       let same = one program.instructions old.pc b.instruction a.instruction b.begins a.begins in
-      row_agrees law old new other turn end sound shapes a.instruction events others a.row (subst P same b.row)
+      row_agrees law old new other progress end sound shapes a.instruction events others a.row (subst P same b.row)
 
   -- ---- a chain of steps, given its events
   -- a step that ends the job, and one that doesn't
@@ -61,7 +61,7 @@ module _ (law : WritesAreDetermined) (one : OneInstructionBegins) (shapes : List
       let turns : Done end ≡ On = (agrees.replied parts.0).turns in
       cc
 
-  steps_once : (n : ℕ) (old new other : Cpu) (events : List Event) (end last : Outcome) → IsMemory old.memory → Steps shapes program n old events end new → Steps shapes program n old events last other → end ≡ last
+  steps_once : (n : ℕ) (old new other : Cpu) (events : List Event) (end last : Outcome) → IsMemory old.memory → MakesSteps shapes program n old events end new → MakesSteps shapes program n old events last other → end ≡ last
   steps_once zero old new other events end last sound a b = a.1 ∙ sym b.1
   steps_once (suc n) old new other events end last sound (inl a) (inl b) =
       let same = (step_agrees old new other (Done end) (Done last) events events sound a b).replied refl in
@@ -73,8 +73,8 @@ module _ (law : WritesAreDetermined) (one : OneInstructionBegins) (shapes : List
       let agrees = step_agrees old a.2 b.2 On On a.0 b.0 sound a.4 b.4 in
       let parts = same_fronts a.0 b.0 a.1 b.1 (same_count a.0 b.0 agrees.asks) (sym a.3 ∙ b.3) in
       let same = agrees.replied parts.0 in
-      let P : Cpu → Type 0 = λ mid. Steps shapes program n mid b.1 last other in
-      let Q : List Event → Type 0 = λ rest. Steps shapes program n a.2 rest last other in
+      let P : Cpu → Type 0 = λ mid. MakesSteps shapes program n mid b.1 last other in
+      let Q : List Event → Type 0 = λ rest. MakesSteps shapes program n a.2 rest last other in
       steps_once n a.2 new other a.1 end last same.sound a.5 (subst Q (sym parts.1) (subst P (sym same.states) b.5))
 
   -- ---- the same over a plain store, whose replies are determined too
@@ -114,8 +114,8 @@ module _ (law : WritesAreDetermined) (one : OneInstructionBegins) (shapes : List
         cc
 
     pub plain_steps_once : (n c : ℕ) (s t u : Plain) (old new other : Cpu) (events others : List Event) (end last : Outcome) → IsSoundStore s → IsMemory old.memory
-        → Steps shapes program n old events end new → PlainlyLegal s (map (entry c) events) t
-        → Steps shapes program n old others last other → PlainlyLegal s (map (entry c) others) u
+        → MakesSteps shapes program n old events end new → PlainlyLegal s (map (entry c) events) t
+        → MakesSteps shapes program n old others last other → PlainlyLegal s (map (entry c) others) u
         → (events ≡ others) × (end ≡ last) × (new ≡ other) × (t ≡ u)
     plain_steps_once zero c s t u old new other events others end last store sound a g b h =
         let P : List Event → Type 0 = λ es. PlainlyLegal s (map (entry c) es) t in
@@ -140,7 +140,7 @@ module _ (law : WritesAreDetermined) (one : OneInstructionBegins) (shapes : List
         let agrees = step_agrees old a.2 b.2 On On a.0 b.0 sound a.4 b.4 in
         let one = same_replies c a.0 b.0 s left.0 right.0 store left.1 right.1 agrees.asks in
         let same = agrees.replied one.0 in
-        let P : Cpu → Type 0 = λ mid. Steps shapes program n mid b.1 last other in
+        let P : Cpu → Type 0 = λ mid. MakesSteps shapes program n mid b.1 last other in
         let Q : Plain → Type 0 = λ m. PlainlyLegal m (map (entry c) b.1) u in
         let rest = plain_steps_once n c left.0 t u a.2 new other a.1 b.1 end last (stays_sound c a.0 s left.0 store left.1) same.sound a.5 left.2 (subst P (sym same.states) b.5) (subst Q (sym one.1) right.2) in
         let fronts : a.0 ≡ b.0 = one.0 in
@@ -165,14 +165,14 @@ same_inside : (xs ys : List Event) → Begin ∷ (xs ++ End ∷ []) ≡ Begin �
 same_inside xs ys e = let inside : xs ++ End ∷ [] ≡ ys ++ End ∷ [] = cc in (same_last xs ys End End inside).0
 
 pub steps_are_determined : WritesAreDetermined → OneInstructionBegins → StepsAreDetermined
-steps_are_determined law one shapes program old new other events others turn end sound a b =
-    let agrees = step_agrees law one shapes program old new other turn end events others sound a b in
+steps_are_determined law one shapes program old new other events others progress end sound a b =
+    let agrees = step_agrees law one shapes program old new other progress end events others sound a b in
     (agrees.asks, λ e. let same = agrees.replied e in (same.turns, same.states))
 
 pub outcomes_are_determined : WritesAreDetermined → OneInstructionBegins → OutcomesAreDetermined
 outcomes_are_determined law one shapes program budget number context events end other h (inl a) (inl b) =
     let inside = same_inside a.0 b.0 (sym a.2 ∙ b.2) in
-    let P : List Event → Type 0 = λ es. Steps shapes program budget (start number context) es other b.1 in
+    let P : List Event → Type 0 = λ es. MakesSteps shapes program budget (start number context) es other b.1 in
     steps_once law one shapes program budget (start number context) a.1 b.1 a.0 end other (start_memory number context h) a.3 (subst P (sym inside) b.3)
 outcomes_are_determined law one shapes program budget number context events end other h (inl a) (inr b) =
     let none : Begin ∷ (a.0 ++ End ∷ []) ≡ [] = sym a.2 ∙ b.0 in absurd cc
@@ -182,16 +182,16 @@ outcomes_are_determined law one shapes program budget number context events end 
 
 -- ---- no maps
 
-no_map_event : (number : ℕ) (old new : Cpu) (turn : Turn) (events : List Event) → Helper [] number old events turn new → events ≡ []
-no_map_event number old new turn events (inl (called, inl none)) = none.1
-no_map_event number old new turn events (inl (called, inr (m, h, at, rest))) = let none : None ≡ Some h = at.1 in absurd cc
-no_map_event number old new turn events (inr row) = row.1
+no_map_event : (number : ℕ) (old new : Cpu) (progress : Progress) (events : List Event) → Helper [] number old events progress new → events ≡ []
+no_map_event number old new progress events (inl (called, inl none)) = none.1
+no_map_event number old new progress events (inl (called, inr (m, h, at, rest))) = let none : None ≡ Some h = at.1 in absurd cc
+no_map_event number old new progress events (inr row) = row.1
 
-no_row_event : (i : Insn) (old new : Cpu) (turn : Turn) (events : List Event) → Row [] i old events turn new → events ≡ []
-no_row_event i old new turn events (inl row) = row.0
-no_row_event i old new turn events (inr row) = no_map_event row.0 old new turn events row.2
+no_row_event : (i : Insn) (old new : Cpu) (progress : Progress) (events : List Event) → Executes [] i old events progress new → events ≡ []
+no_row_event i old new progress events (inl row) = row.0
+no_row_event i old new progress events (inr row) = no_map_event row.0 old new progress events row.2
 
-no_step_events : (program : Loaded) (n : ℕ) (old new : Cpu) (events : List Event) (end : Outcome) → Steps [] program n old events end new → events ≡ []
+no_step_events : (program : Loaded) (n : ℕ) (old new : Cpu) (events : List Event) (end : Outcome) → MakesSteps [] program n old events end new → events ≡ []
 no_step_events program zero old new events end a = a.0
 no_step_events program (suc n) old new events end (inl a) = no_row_event a.instruction old new (Done end) events a.row
 no_step_events program (suc n) old new events end (inr a) =

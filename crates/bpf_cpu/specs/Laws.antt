@@ -11,18 +11,18 @@ use Rattle.bpf_shared.specs.Sound.{IsSoundStore}
 use Rattle.bpf_loader.specs.Loaded.{Loaded}
 use Rattle.bpf_mem.specs.Laws.{IsMemory}
 use Rattle.bpf_cpu.specs.declared.cpu.Cpu.{Cpu}
-use Rattle.bpf_cpu.specs.declared.outcome.Turn.{Turn}
+use Rattle.bpf_cpu.specs.declared.outcome.Progress.{Progress}
 use Rattle.bpf_cpu.specs.declared.outcome.Outcome.{Outcome}
 use Rattle.bpf_cpu.specs.State.{start}
 use Rattle.bpf_cpu.specs.Task.{Task, Waiting}
-use Rattle.bpf_cpu.specs.Schedule.{World, Runs}
-use Rattle.bpf_cpu.specs.Step.{Step, Steps, Explains}
+use Rattle.bpf_cpu.specs.Schedule.{World, RunsSchedule}
+use Rattle.bpf_cpu.specs.Step.{Step, MakesSteps, Explains}
 
 -- a step asks the store one thing; and where the reply is the same, it leaves one state
 abbrev pub StepsAreDetermined : Type 0
-StepsAreDetermined = (shapes : List MapShape) (program : Loaded) (old new other : Cpu) (events others : List Event) (turn end : Turn) → IsMemory old.memory
-    → Step shapes program old events turn new → Step shapes program old others end other
-    → (map asked events ≡ map asked others) × (events ≡ others → (turn ≡ end) × (new ≡ other))
+StepsAreDetermined = (shapes : List MapShape) (program : Loaded) (old new other : Cpu) (events others : List Event) (progress end : Progress) → IsMemory old.memory
+    → Step shapes program old events progress new → Step shapes program old others end other
+    → (map asked events ≡ map asked others) × (events ≡ others → (progress ≡ end) × (new ≡ other))
 
 -- the same events explain one outcome, whether or not the run counter may be worn
 abbrev pub OutcomesAreDetermined : Type 0
@@ -38,8 +38,8 @@ NoMapsNoEvents = (program : Loaded) (budget : ℕ) (old : Cpu) (events : List Ev
 -- over a plain store, which no other CPU changes meanwhile, the steps of a run have one course
 abbrev pub PlainStepsAreDetermined : Type 0
 PlainStepsAreDetermined = (shapes : List MapShape) (program : Loaded) (budget c : ℕ) (s t u : Plain) (old new other : Cpu) (events others : List Event) (end last : Outcome) → IsSoundStore s → IsMemory old.memory
-    → Steps shapes program budget old events end new → PlainlyLegal s (map (entry c) events) t
-    → Steps shapes program budget old others last other → PlainlyLegal s (map (entry c) others) u
+    → MakesSteps shapes program budget old events end new → PlainlyLegal s (map (entry c) events) t
+    → MakesSteps shapes program budget old others last other → PlainlyLegal s (map (entry c) others) u
     → (events ≡ others) × (end ≡ last) × (new ≡ other) × (t ≡ u)
 
 -- ---- schedules
@@ -51,4 +51,4 @@ pub record IsFresh (w : World) : Type 0 where
 
 -- a schedule has one run
 abbrev pub SchedulesAreDetermined : Type 0
-SchedulesAreDetermined = (w y z : World) (schedule : List ℕ) → IsFresh w → Runs w schedule y → Runs w schedule z → y ≡ z
+SchedulesAreDetermined = (w y z : World) (schedule : List ℕ) → IsFresh w → RunsSchedule w schedule y → RunsSchedule w schedule z → y ≡ z

@@ -1,6 +1,6 @@
 -- The jobs of a machine, and how far each is.
 use Rattle.std.specs.Prelude.{◌≡◌, ℕ, ◌<◌, List, Option, Some, None, option_and_then, slice_get, slice_set}
-use Rattle.bpf_cpu.specs.declared.job.Job.{Job}
+use Rattle.bpf_cpu.specs.declared.machine.job.Job.{Job}
 use Rattle.bpf_cpu.specs.declared.cpu.Cpu.{Cpu}
 use Rattle.bpf_cpu.specs.declared.outcome.Outcome.{Outcome}
 

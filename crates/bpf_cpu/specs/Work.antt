@@ -6,7 +6,7 @@ use Rattle.bpf_shared.specs.Choice.{PlainlyAllowed}
 use Rattle.bpf_shared.specs.Sound.{IsSoundStore}
 use Rattle.bpf_shared.specs.Contents as contents
 use Rattle.bpf_cpu.specs.declared.cpu.Cpu.{Cpu}
-use Rattle.bpf_cpu.specs.declared.machine.Turned.{Turned}
+use Rattle.bpf_cpu.specs.declared.machine.Turn.{Turn}
 use Rattle.bpf_cpu.specs.declared.machine.Work.{Work}
 use Rattle.bpf_cpu.specs.declared.machine.Work.TheVariants as work
 use Rattle.bpf_cpu.specs.State.{start}
@@ -32,15 +32,15 @@ IsWork jobs cpu (work.Waiting j) = IsNext jobs cpu j
 IsWork jobs cpu work.Nothing = IsFree jobs cpu × NoneWaits jobs cpu
 
 -- the j-th job, which waits, is in hand, and its run has begun
-abbrev pub Begins : MachineState → ℕ → ℕ → MachineState → Type 0
-Begins old cpu j new =
+abbrev pub BeginsJob : MachineState → ℕ → ℕ → MachineState → Type 0
+BeginsJob old cpu j new =
     (task : Task) × (context : List ℕ) × IsAt old.jobs cpu j task (Waiting context)
     × (new.programs ≡ old.programs)
     × (new.jobs ≡ with_stage old.jobs j task (InHand (start cpu context) task.budget))
     × ((s : Plain) → IsSoundStore s → contents.StandsFor old.store s → (t : Plain) × PlainlyAllowed s cpu Begin t × IsSoundStore t × contents.StandsFor new.store t)
 
 -- the CPU goes on with the j-th job, from this state and with so many steps left
-abbrev pub Proceeds : MachineState → ℕ → ℕ → Turned → MachineState → Type 0
+abbrev pub Proceeds : MachineState → ℕ → ℕ → Turn → MachineState → Type 0
 Proceeds old cpu j answer new =
     (task : Task) (state : Cpu) (left : ℕ) → IsAt old.jobs cpu j task (InHand state left)
     → (w : World) → Shows old w → (z : World) × GoesOn w cpu j task state left answer z × Shows new z

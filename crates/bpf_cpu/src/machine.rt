@@ -1,20 +1,23 @@
 //! A machine: jobs on the CPUs of a plain store, on one thread, in the order of any schedule.
 
+pub mod job;
+mod lane;
+#[cfg(test)]
+mod schedules;
+
 use crate::cpu::Cpu;
-use crate::job::Job;
-use crate::lane::{
-    Hand, Lane, Listed, Phase, count_cpus, first_job, list_jobs, make_lanes, make_room,
-};
 use crate::outcome::Outcome;
 use bpf_loader::Program;
 use bpf_shared::{PlainStore, Shared};
+pub use job::Job;
+use lane::{Hand, Lane, Listed, Phase, count_cpus, first_job, list_jobs, make_lanes, make_room};
 use std::alloc::Global;
 use std::marker::Model;
 use std::mem;
 
 /// What a turn of a CPU came to.
 #[derive(Clone, Copy, PartialEq, Eq, Debug)]
-pub enum Turned {
+pub enum Turn {
     /// Its job goes on.
     Ran,
     /// This job of its ended so.
@@ -54,7 +57,7 @@ impl Model for Machine {
     ghost Value = { MachineState };
 
     ghost use Rattle.bpf_shared.specs.Contents.{has_cpu, is_running};
-    ghost use Rattle.bpf_cpu.specs.Lanes.{tasks_of, IsBoard};
+    ghost use Rattle.bpf_cpu.specs.Private.Lanes.{tasks_of, IsBoard};
 
     ghost view = { λ m. record { store = m.store; programs = m.programs.items; jobs = tasks_of m.lanes.items m.jobs.items } };
 
@@ -65,9 +68,9 @@ impl Machine {
     ghost use Rattle.std.specs.Prelude.{◌≡◌, ◌≢◌, ◌≤◌, ◌<◌, ◌⊎◌, ℕ, true, false, All, IfOk, IfErr, IfSome, IfNone, map, vec_len};
     ghost use Rattle.bpf_shared.specs.Contents.{has_cpu, is_running};
     ghost use Rattle.bpf_cpu.specs.Task.{IsFree, NoneWaits, outcome_at, waiting};
-    ghost use Rattle.bpf_cpu.specs.Schedule.{World, TakesTurn, Runs};
+    ghost use Rattle.bpf_cpu.specs.Schedule.{World, TakesTurn, RunsSchedule};
     ghost use Rattle.bpf_cpu.specs.Machine.{Shows};
-    ghost use Rattle.bpf_cpu.specs.Work.{Begins, Proceeds, IsWork, IsNext, HasInHand, IsState};
+    ghost use Rattle.bpf_cpu.specs.Work.{BeginsJob, Proceeds, IsWork, IsNext, HasInHand, IsState};
 
     /// A machine whose jobs all wait. It makes all the room that they will ever need.
     pub fn new(
@@ -107,9 +110,9 @@ impl Machine {
 
     /// One turn of a CPU: it begins its lowest waiting job where it has none in hand, makes one step of it unless
     /// the budget is used up, and ends it where it has an outcome then. It takes no memory.
-    pub fn turn(&mut self, cpu: u8) -> Turned
+    pub fn turn(&mut self, cpu: u8) -> Turn
         ensures turn { (w : World) → Shows self.old w → (z : World) × TakesTurn w cpu result z × Shows self.new z }
-        ensures idle { result ≡ Turned.Idle → self.new ≡ self.old }
+        ensures idle { result ≡ Turn.Idle → self.new ≡ self.old }
     {
         match self.work(cpu) {
             Work::InHand(job) => self.proceed(cpu, job),
@@ -117,13 +120,13 @@ impl Machine {
                 self.begin(cpu, job);
                 self.proceed(cpu, job)
             }
-            Work::Nothing => Turned::Idle,
+            Work::Nothing => Turn::Idle,
         }
     }
 
     /// The turns of a schedule, in order. A schedule is any list of CPU numbers.
     pub fn turns(&mut self, schedule: &[u8])
-        ensures { (w : World) → Shows self.old w → (z : World) × Runs w schedule.now z × Shows self.new z }
+        ensures { (w : World) → Shows self.old w → (z : World) × RunsSchedule w schedule.now z × Shows self.new z }
     {
         for cpu in schedule {
             self.turn(*cpu);
@@ -196,7 +199,7 @@ impl Machine {
     /// Begins a CPU's next job.
     fn begin(&mut self, cpu: u8, job: usize)
         requires { IsNext self.old.jobs cpu job }
-        ensures { Begins self.old cpu job self.new }
+        ensures { BeginsJob self.old cpu job self.new }
     {
         let lane = &mut self.lanes[cpu as usize];
         let listed = &mut self.jobs[job];
@@ -221,10 +224,10 @@ impl Machine {
     }
 
     /// Goes on with the job that a CPU has in hand.
-    fn proceed(&mut self, cpu: u8, job: usize) -> Turned
+    fn proceed(&mut self, cpu: u8, job: usize) -> Turn
         requires { HasInHand self.old.jobs cpu job }
         ensures proceeds { Proceeds self.old cpu job result self.new }
-        ensures works { result ≢ Turned.Idle }
+        ensures works { result ≢ Turn.Idle }
     {
         let lane = &mut self.lanes[cpu as usize];
         let Some(hand) = &mut lane.hand else {
@@ -232,12 +235,12 @@ impl Machine {
         };
         let listed = &mut self.jobs[job];
         match hand.advance(&self.programs[listed.program], &mut self.store) {
-            None => Turned::Ran,
+            None => Turn::Ran,
             Some(outcome) => {
                 self.store.end(cpu);
                 listed.phase = Phase::Ended(outcome);
                 lane.hand = None;
-                Turned::Ended(job, outcome)
+                Turn::Ended(job, outcome)
             }
         }
     }

@@ -30,7 +30,7 @@ pub enum Outcome {
 
 /// What a step answers.
 #[derive(Clone, Copy, PartialEq, Eq, Debug)]
-pub enum Turn {
+pub enum Progress {
     /// The job goes on.
     On,
     /// The job has ended.

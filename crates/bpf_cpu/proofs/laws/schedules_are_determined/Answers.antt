@@ -1,4 +1,4 @@
-use Rattle.bpf_cpu.proofs.DeterminedTurns.{schedules_are_determined as law}
+use Rattle.bpf_cpu.proofs.Machines.DeterminedTurns.{schedules_are_determined as law}
 use Rattle.bpf_cpu.proofs.laws.schedules_are_determined.Goals as goal
 
 pub returns : goal.returns

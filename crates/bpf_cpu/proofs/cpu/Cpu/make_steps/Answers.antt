@@ -1,6 +1,6 @@
 use Rattle.std.proofs.Common.{◌≡◌, ℕ, [], ◌∙◌, refl, sym, subst, arith}
 use Rattle.bpf_shared.proofs.Chains.{chain_nothing}
-use Rattle.bpf_cpu.specs.declared.outcome.Turn.{Turn}
+use Rattle.bpf_cpu.specs.declared.outcome.Progress.{Progress}
 use Rattle.bpf_cpu.specs.State.{at_pc}
 use Rattle.bpf_cpu.specs.Step.{Step}
 use Rattle.bpf_cpu.proofs.TableLaws.{start_short}
@@ -13,7 +13,7 @@ returns-in-Done-clause-steps g c =
     let before = at_pc c.steps.self c.steps.pc in
     let after = at_pc c.step_from.new.self c.step_from.new.pc in
     let events = c.step_from.ensures.step in
-    let P : Turn → Type 0 = λ turn. Step (g.S.Shared.shapes c.steps.shared) c.args.program.now before events.0 turn after in
+    let P : Progress → Type 0 = λ progress. Step (g.S.Shared.shapes c.steps.shared) c.args.program.now before events.0 progress after in
     made_all g.S.Shared.passes g.S.Shared.serves g.met.S.Shared.follows g.S.Shared.shapes c.args.program.now c.args.budget c.args.self.now c.args.shared.now
     c.steps._step c.steps.shared c.step_from.new.shared before after c.steps-test.true inv.number inv.shapes inv.under_way c.in-Done.outcome
     (events.0, events.1, subst P (sym c.in-Done.ensures) events.2)

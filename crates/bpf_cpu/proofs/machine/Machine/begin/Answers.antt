@@ -3,15 +3,15 @@ use Rattle.std.specs.Prelude.{slice_get, slice_set}
 use Rattle.std.proofs.lemmas.List.{length-set}
 use Rattle.std.proofs.lemmas.Option.{slice_get_read}
 use Rattle.bpf_shared.specs.declared.events.Event.TheVariants.{Begin}
-use Rattle.bpf_cpu.specs.declared.lane.Listed.{Listed}
-use Rattle.bpf_cpu.specs.declared.lane.Phase.TheVariants.{Waiting}
+use Rattle.bpf_cpu.specs.declared.machine.lane.Listed.{Listed}
+use Rattle.bpf_cpu.specs.declared.machine.lane.Phase.TheVariants.{Waiting}
 use Rattle.bpf_cpu.specs.Machine.{MachineState}
 use Rattle.bpf_cpu.specs.State.{start}
-use Rattle.bpf_cpu.specs.Lanes.{IsFirst, lane, tasks_of}
-use Rattle.bpf_cpu.specs.Work.{IsNext, Begins}
+use Rattle.bpf_cpu.specs.Private.Lanes.{IsFirstJob, lane_of, tasks_of}
+use Rattle.bpf_cpu.specs.Work.{IsNext, BeginsJob}
 use Rattle.bpf_cpu.proofs.OwnEvents.{call_leads}
-use Rattle.bpf_cpu.proofs.WorkLaws.{lane_read}
-use Rattle.bpf_cpu.proofs.BeginLaws.{lane_within, job_within, program_within, short, serves, idle, waiting, begun_tasks, begun_board}
+use Rattle.bpf_cpu.proofs.Machines.WorkLaws.{lane_read}
+use Rattle.bpf_cpu.proofs.Machines.BeginLaws.{lane_within, job_within, program_within, short, serves, idle, waiting, begun_tasks, begun_board}
 use Rattle.bpf_cpu.proofs.machine.Machine.begin.Goals as goal
 
 pub index_mut-lane-requires : goal.index_mut-lane-requires
@@ -95,12 +95,12 @@ invariant_of-self c =
     let e = c.index_mut-listed.result.now in
     let listed : slice_get m.jobs.items c.args.job ≡ Some e = slice_get_read m.jobs.items (length m.jobs.items) c.args.job e refl (job_within m.store m.programs.items m.jobs.items m.lanes.items c.self.invariant c.args.cpu c.args.job next) c.index_mut-listed.ensures.value in
     let l = c.index_mut-lane.result.now in
-    let here : lane m.lanes.items c.args.cpu ≡ l = lane_read m.lanes.items c.args.cpu l (lane_within m.store m.programs.items m.jobs.items m.lanes.items c.self.invariant c.args.cpu c.args.job next) c.index_mut-lane.ensures.value in
+    let here : lane_of m.lanes.items c.args.cpu ≡ l = lane_read m.lanes.items c.args.cpu l (lane_within m.store m.programs.items m.jobs.items m.lanes.items c.self.invariant c.args.cpu c.args.job next) c.index_mut-lane.ensures.value in
     let w = waiting m.store m.programs.items m.jobs.items m.lanes.items c.self.invariant c.args.cpu c.args.job next e listed in
     let two : Waiting c.in-Waiting.context ≡ Waiting w.0 = sym c.in-Waiting.is ∙ (c.replace.ensures.value ∙ w.1) in
     let one : c.in-Waiting.context ≡ w.0 = cc in
     let started = c.new-start.ensures ∙ (ap (λ (v : _). start c.args.cpu v.items) one ∙ ap (start c.args.cpu) w.2) in
-    let F : List Listed → Type 0 = λ xs. IsFirst xs c.args.cpu (c.args.job + 1) c.first_job-lane.result in
+    let F : List Listed → Type 0 = λ xs. IsFirstJob xs c.args.cpu (c.args.job + 1) c.first_job-lane.result in
     let first = subst F c.deref.ensures.value c.first_job-lane.ensures in
     let program = c.index.result.now in
     let loaded : slice_get m.programs.items e.program ≡ Some program = slice_get_read m.programs.items (length m.programs.items) e.program program refl (program_within m.store m.programs.items m.jobs.items m.lanes.items c.self.invariant c.args.cpu c.args.job next e listed) c.index.ensures in
@@ -114,15 +114,15 @@ returns c =
     let e = c.index_mut-listed.result.now in
     let listed : slice_get m.jobs.items c.args.job ≡ Some e = slice_get_read m.jobs.items (length m.jobs.items) c.args.job e refl (job_within m.store m.programs.items m.jobs.items m.lanes.items c.self.invariant c.args.cpu c.args.job next) c.index_mut-listed.ensures.value in
     let l = c.index_mut-lane.result.now in
-    let here : lane m.lanes.items c.args.cpu ≡ l = lane_read m.lanes.items c.args.cpu l (lane_within m.store m.programs.items m.jobs.items m.lanes.items c.self.invariant c.args.cpu c.args.job next) c.index_mut-lane.ensures.value in
+    let here : lane_of m.lanes.items c.args.cpu ≡ l = lane_read m.lanes.items c.args.cpu l (lane_within m.store m.programs.items m.jobs.items m.lanes.items c.self.invariant c.args.cpu c.args.job next) c.index_mut-lane.ensures.value in
     let w = waiting m.store m.programs.items m.jobs.items m.lanes.items c.self.invariant c.args.cpu c.args.job next e listed in
     let two : Waiting c.in-Waiting.context ≡ Waiting w.0 = sym c.in-Waiting.is ∙ (c.replace.ensures.value ∙ w.1) in
     let one : c.in-Waiting.context ≡ w.0 = cc in
     let started = c.new-start.ensures ∙ (ap (λ (v : _). start c.args.cpu v.items) one ∙ ap (start c.args.cpu) w.2) in
-    let F : List Listed → Type 0 = λ xs. IsFirst xs c.args.cpu (c.args.job + 1) c.first_job-lane.result in
+    let F : List Listed → Type 0 = λ xs. IsFirstJob xs c.args.cpu (c.args.job + 1) c.first_job-lane.result in
     let first = subst F c.deref.ensures.value c.first_job-lane.ensures in
     let new : MachineState = record { store = c.begin.new.self; programs = m.programs.items; jobs = tasks_of (slice_set m.lanes.items c.args.cpu (record { hand = Some (record { job = c.args.job; cpu = c.new-start.result; left = e.budget }); next = c.first_job-lane.result })) (slice_set m.jobs.items c.args.job (record { cpu = e.cpu; program = e.program; budget = e.budget; phase = c.replace.new.dest })) } in
-    let B : MachineState → Type 0 = λ s. Begins s c.args.cpu c.args.job new in
+    let B : MachineState → Type 0 = λ s. BeginsJob s c.args.cpu c.args.job new in
     subst B c.self.view_is (
       next.1.0,
       next.1.1,

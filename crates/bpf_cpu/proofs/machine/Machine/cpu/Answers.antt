@@ -2,12 +2,12 @@ use Rattle.std.proofs.Common.{◌≡◌, ◌<◌, ◌≤◌, List, length, sym, 
 use Rattle.std.specs.Prelude.{slice_index_or}
 use Rattle.std.proofs.lemmas.Bool.{ltb-true, ltb-false}
 use Rattle.bpf_shared.specs.Contents.{has_cpu, is_running}
-use Rattle.bpf_cpu.specs.declared.lane.Lane.{Lane}
+use Rattle.bpf_cpu.specs.declared.machine.lane.Lane.{Lane}
 use Rattle.bpf_cpu.specs.Task.{IsFree}
 use Rattle.bpf_cpu.specs.Machine.{MachineState}
-use Rattle.bpf_cpu.specs.Lanes.{lane}
+use Rattle.bpf_cpu.specs.Private.Lanes.{lane_of}
 use Rattle.bpf_cpu.specs.Work.{IsState}
-use Rattle.bpf_cpu.proofs.WorkLaws.{lane_read, state_in_hand, work_free, nothing_beyond}
+use Rattle.bpf_cpu.proofs.Machines.WorkLaws.{lane_read, state_in_hand, work_free, nothing_beyond}
 use Rattle.bpf_cpu.proofs.machine.Machine.cpu.Goals as goal
 
 pub returns-in_default-clause-free : goal.returns-in_default-clause-free
@@ -27,7 +27,7 @@ returns-in-Some-hand-clause-state c =
     let found = c.in-Some.ensures.lookup in
     let inside : c.args.cpu < length lanes = subst (λ (xs : List Lane). c.args.cpu < length xs) c.deref.ensures.value (ltb-true c.args.cpu (length c.deref.result.now) (sym found.0)) in
     let read : l ≡ slice_index_or lanes c.args.cpu l = subst (λ (xs : List Lane). l ≡ slice_index_or xs c.args.cpu l) c.deref.ensures.value found.1 in
-    let here : lane lanes c.args.cpu ≡ l = lane_read lanes c.args.cpu l inside read in
+    let here : lane_of lanes c.args.cpu ≡ l = lane_read lanes c.args.cpu l inside read in
     let P : MachineState → Type 0 = λ s. IsState s.jobs c.args.cpu c.in-Some-hand.hand.cpu in
     subst P c.self.view_is (state_in_hand (has_cpu m.store) (is_running m.store) m.programs.items m.jobs.items lanes c.self.invariant c.args.cpu l inside here c.in-Some-hand.hand c.in-Some-hand.is)
 
@@ -39,6 +39,6 @@ returns-in-None-clause-free c =
     let found = c.in-Some.ensures.lookup in
     let inside : c.args.cpu < length lanes = subst (λ (xs : List Lane). c.args.cpu < length xs) c.deref.ensures.value (ltb-true c.args.cpu (length c.deref.result.now) (sym found.0)) in
     let read : l ≡ slice_index_or lanes c.args.cpu l = subst (λ (xs : List Lane). l ≡ slice_index_or xs c.args.cpu l) c.deref.ensures.value found.1 in
-    let here : lane lanes c.args.cpu ≡ l = lane_read lanes c.args.cpu l inside read in
+    let here : lane_of lanes c.args.cpu ≡ l = lane_read lanes c.args.cpu l inside read in
     let P : MachineState → Type 0 = λ s. IsFree s.jobs c.args.cpu in
     subst P c.self.view_is (work_free (has_cpu m.store) (is_running m.store) m.programs.items m.jobs.items lanes c.self.invariant c.args.cpu l inside here c.in-None.is)

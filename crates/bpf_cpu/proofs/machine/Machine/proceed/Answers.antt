@@ -4,15 +4,15 @@ use Rattle.std.proofs.lemmas.Option.{slice_get_read}
 use Rattle.bpf_shared.specs.Store.{put}
 use Rattle.bpf_shared.specs.Contents.{has_cpu, is_running}
 use Rattle.bpf_shared.specs.declared.events.Event.TheVariants.{End}
-use Rattle.bpf_cpu.specs.declared.lane.Phase.TheVariants.{Ended}
-use Rattle.bpf_cpu.specs.declared.machine.Turned.TheVariants.{Ran}
-use Rattle.bpf_cpu.specs.declared.machine.Turned.TheVariants as turned
+use Rattle.bpf_cpu.specs.declared.machine.lane.Phase.TheVariants.{Ended}
+use Rattle.bpf_cpu.specs.declared.machine.Turn.TheVariants.{Ran}
+use Rattle.bpf_cpu.specs.declared.machine.Turn.TheVariants as turn
 use Rattle.bpf_cpu.specs.Machine.{MachineState}
-use Rattle.bpf_cpu.specs.Lanes.{lane, tasks_of}
+use Rattle.bpf_cpu.specs.Private.Lanes.{lane_of, tasks_of}
 use Rattle.bpf_cpu.specs.Work.{HasInHand, Proceeds}
 use Rattle.bpf_cpu.proofs.OwnEvents.{call_leads}
-use Rattle.bpf_cpu.proofs.WorkLaws.{lane_read}
-use Rattle.bpf_cpu.proofs.ProceedLaws.{lane_within, job_within, serves, running, never_empty, number, program_within, ready, kept_board, ended_board, proceeds_kept, proceeds_ended}
+use Rattle.bpf_cpu.proofs.Machines.WorkLaws.{lane_read}
+use Rattle.bpf_cpu.proofs.Machines.ProceedLaws.{lane_within, job_within, serves, running, never_empty, number, program_within, ready, kept_board, ended_board, proceeds_kept, proceeds_ended}
 use Rattle.bpf_cpu.proofs.machine.Machine.proceed.Goals as goal
 
 pub index_mut-lane-requires : goal.index_mut-lane-requires
@@ -28,7 +28,7 @@ unreachable-requires c =
     let P : MachineState → Type 0 = λ s. HasInHand s.jobs c.args.cpu c.args.job in
     let has = subst P (sym c.self.view_is) c.requires in
     let l = c.index_mut-lane.result.now in
-    let here : lane m.lanes.items c.args.cpu ≡ l = lane_read m.lanes.items c.args.cpu l (lane_within m.store m.programs.items m.jobs.items m.lanes.items c.self.invariant c.args.cpu c.args.job has.0 has.1 has.2 has.3) c.index_mut-lane.ensures.value in
+    let here : lane_of m.lanes.items c.args.cpu ≡ l = lane_read m.lanes.items c.args.cpu l (lane_within m.store m.programs.items m.jobs.items m.lanes.items c.self.invariant c.args.cpu c.args.job has.0 has.1 has.2 has.3) c.index_mut-lane.ensures.value in
     never_empty m.store m.programs.items m.jobs.items m.lanes.items c.self.invariant c.args.cpu c.args.job has.0 has.1 has.2 has.3 l here c.in_default.is
 
 pub index_mut-listed-requires : goal.index_mut-listed-requires
@@ -44,7 +44,7 @@ index-requires c =
     let P : MachineState → Type 0 = λ s. HasInHand s.jobs c.args.cpu c.args.job in
     let has = subst P (sym c.self.view_is) c.requires in
     let l = c.index_mut-lane.result.now in
-    let here : lane m.lanes.items c.args.cpu ≡ l = lane_read m.lanes.items c.args.cpu l (lane_within m.store m.programs.items m.jobs.items m.lanes.items c.self.invariant c.args.cpu c.args.job has.0 has.1 has.2 has.3) c.index_mut-lane.ensures.value in
+    let here : lane_of m.lanes.items c.args.cpu ≡ l = lane_read m.lanes.items c.args.cpu l (lane_within m.store m.programs.items m.jobs.items m.lanes.items c.self.invariant c.args.cpu c.args.job has.0 has.1 has.2 has.3) c.index_mut-lane.ensures.value in
     let h = c.in-Some.hand in
     let e = c.index_mut-listed.result.now in
     let listed : slice_get m.jobs.items c.args.job ≡ Some e = slice_get_read m.jobs.items (length m.jobs.items) c.args.job e refl (job_within m.store m.programs.items m.jobs.items m.lanes.items c.self.invariant c.args.cpu c.args.job has.0 has.1 has.2 has.3) c.index_mut-listed.ensures.value in
@@ -56,7 +56,7 @@ advance-requires-clause-ready c =
     let P : MachineState → Type 0 = λ s. HasInHand s.jobs c.args.cpu c.args.job in
     let has = subst P (sym c.self.view_is) c.requires in
     let l = c.index_mut-lane.result.now in
-    let here : lane m.lanes.items c.args.cpu ≡ l = lane_read m.lanes.items c.args.cpu l (lane_within m.store m.programs.items m.jobs.items m.lanes.items c.self.invariant c.args.cpu c.args.job has.0 has.1 has.2 has.3) c.index_mut-lane.ensures.value in
+    let here : lane_of m.lanes.items c.args.cpu ≡ l = lane_read m.lanes.items c.args.cpu l (lane_within m.store m.programs.items m.jobs.items m.lanes.items c.self.invariant c.args.cpu c.args.job has.0 has.1 has.2 has.3) c.index_mut-lane.ensures.value in
     let h = c.in-Some.hand in
     let e = c.index_mut-listed.result.now in
     let listed : slice_get m.jobs.items c.args.job ≡ Some e = slice_get_read m.jobs.items (length m.jobs.items) c.args.job e refl (job_within m.store m.programs.items m.jobs.items m.lanes.items c.self.invariant c.args.cpu c.args.job has.0 has.1 has.2 has.3) c.index_mut-listed.ensures.value in
@@ -70,7 +70,7 @@ advance-requires-clause-serves c =
     let P : MachineState → Type 0 = λ s. HasInHand s.jobs c.args.cpu c.args.job in
     let has = subst P (sym c.self.view_is) c.requires in
     let l = c.index_mut-lane.result.now in
-    let here : lane m.lanes.items c.args.cpu ≡ l = lane_read m.lanes.items c.args.cpu l (lane_within m.store m.programs.items m.jobs.items m.lanes.items c.self.invariant c.args.cpu c.args.job has.0 has.1 has.2 has.3) c.index_mut-lane.ensures.value in
+    let here : lane_of m.lanes.items c.args.cpu ≡ l = lane_read m.lanes.items c.args.cpu l (lane_within m.store m.programs.items m.jobs.items m.lanes.items c.self.invariant c.args.cpu c.args.job has.0 has.1 has.2 has.3) c.index_mut-lane.ensures.value in
     let h = c.in-Some.hand in
     ap (λ (n : ℕ). has_cpu m.store n) (number m.store m.programs.items m.jobs.items m.lanes.items c.self.invariant c.args.cpu c.args.job has.0 has.1 has.2 has.3 l here h c.in-Some.is) ∙ serves m.store m.programs.items m.jobs.items m.lanes.items c.self.invariant c.args.cpu c.args.job has.0 has.1 has.2 has.3
 
@@ -80,7 +80,7 @@ advance-requires-clause-in_run c =
     let P : MachineState → Type 0 = λ s. HasInHand s.jobs c.args.cpu c.args.job in
     let has = subst P (sym c.self.view_is) c.requires in
     let l = c.index_mut-lane.result.now in
-    let here : lane m.lanes.items c.args.cpu ≡ l = lane_read m.lanes.items c.args.cpu l (lane_within m.store m.programs.items m.jobs.items m.lanes.items c.self.invariant c.args.cpu c.args.job has.0 has.1 has.2 has.3) c.index_mut-lane.ensures.value in
+    let here : lane_of m.lanes.items c.args.cpu ≡ l = lane_read m.lanes.items c.args.cpu l (lane_within m.store m.programs.items m.jobs.items m.lanes.items c.self.invariant c.args.cpu c.args.job has.0 has.1 has.2 has.3) c.index_mut-lane.ensures.value in
     let h = c.in-Some.hand in
     ap (λ (n : ℕ). is_running m.store n) (number m.store m.programs.items m.jobs.items m.lanes.items c.self.invariant c.args.cpu c.args.job has.0 has.1 has.2 has.3 l here h c.in-Some.is) ∙ running m.store m.programs.items m.jobs.items m.lanes.items c.self.invariant c.args.cpu c.args.job has.0 has.1 has.2 has.3
 
@@ -90,7 +90,7 @@ invariant_of-self c =
     let P : MachineState → Type 0 = λ s. HasInHand s.jobs c.args.cpu c.args.job in
     let has = subst P (sym c.self.view_is) c.requires in
     let l = c.index_mut-lane.result.now in
-    let here : lane m.lanes.items c.args.cpu ≡ l = lane_read m.lanes.items c.args.cpu l (lane_within m.store m.programs.items m.jobs.items m.lanes.items c.self.invariant c.args.cpu c.args.job has.0 has.1 has.2 has.3) c.index_mut-lane.ensures.value in
+    let here : lane_of m.lanes.items c.args.cpu ≡ l = lane_read m.lanes.items c.args.cpu l (lane_within m.store m.programs.items m.jobs.items m.lanes.items c.self.invariant c.args.cpu c.args.job has.0 has.1 has.2 has.3) c.index_mut-lane.ensures.value in
     let h = c.in-Some.hand in
     let e = c.index_mut-listed.result.now in
     let listed : slice_get m.jobs.items c.args.job ≡ Some e = slice_get_read m.jobs.items (length m.jobs.items) c.args.job e refl (job_within m.store m.programs.items m.jobs.items m.lanes.items c.self.invariant c.args.cpu c.args.job has.0 has.1 has.2 has.3) c.index_mut-listed.ensures.value in
@@ -118,7 +118,7 @@ invariant_of-self-in-Some-advance c =
     let P : MachineState → Type 0 = λ s. HasInHand s.jobs c.args.cpu c.args.job in
     let has = subst P (sym c.self.view_is) c.requires in
     let l = c.index_mut-lane.result.now in
-    let here : lane m.lanes.items c.args.cpu ≡ l = lane_read m.lanes.items c.args.cpu l (lane_within m.store m.programs.items m.jobs.items m.lanes.items c.self.invariant c.args.cpu c.args.job has.0 has.1 has.2 has.3) c.index_mut-lane.ensures.value in
+    let here : lane_of m.lanes.items c.args.cpu ≡ l = lane_read m.lanes.items c.args.cpu l (lane_within m.store m.programs.items m.jobs.items m.lanes.items c.self.invariant c.args.cpu c.args.job has.0 has.1 has.2 has.3) c.index_mut-lane.ensures.value in
     let h = c.in-Some.hand in
     let e = c.index_mut-listed.result.now in
     let listed : slice_get m.jobs.items c.args.job ≡ Some e = slice_get_read m.jobs.items (length m.jobs.items) c.args.job e refl (job_within m.store m.programs.items m.jobs.items m.lanes.items c.self.invariant c.args.cpu c.args.job has.0 has.1 has.2 has.3) c.index_mut-listed.ensures.value in
@@ -132,7 +132,7 @@ returns-in-None-clause-proceeds c =
     let P : MachineState → Type 0 = λ s. HasInHand s.jobs c.args.cpu c.args.job in
     let has = subst P (sym c.self.view_is) c.requires in
     let l = c.index_mut-lane.result.now in
-    let here : lane m.lanes.items c.args.cpu ≡ l = lane_read m.lanes.items c.args.cpu l (lane_within m.store m.programs.items m.jobs.items m.lanes.items c.self.invariant c.args.cpu c.args.job has.0 has.1 has.2 has.3) c.index_mut-lane.ensures.value in
+    let here : lane_of m.lanes.items c.args.cpu ≡ l = lane_read m.lanes.items c.args.cpu l (lane_within m.store m.programs.items m.jobs.items m.lanes.items c.self.invariant c.args.cpu c.args.job has.0 has.1 has.2 has.3) c.index_mut-lane.ensures.value in
     let h = c.in-Some.hand in
     let e = c.index_mut-listed.result.now in
     let listed : slice_get m.jobs.items c.args.job ≡ Some e = slice_get_read m.jobs.items (length m.jobs.items) c.args.job e refl (job_within m.store m.programs.items m.jobs.items m.lanes.items c.self.invariant c.args.cpu c.args.job has.0 has.1 has.2 has.3) c.index_mut-listed.ensures.value in
@@ -149,7 +149,7 @@ returns-in-Some-advance-clause-proceeds c =
     let P : MachineState → Type 0 = λ s. HasInHand s.jobs c.args.cpu c.args.job in
     let has = subst P (sym c.self.view_is) c.requires in
     let l = c.index_mut-lane.result.now in
-    let here : lane m.lanes.items c.args.cpu ≡ l = lane_read m.lanes.items c.args.cpu l (lane_within m.store m.programs.items m.jobs.items m.lanes.items c.self.invariant c.args.cpu c.args.job has.0 has.1 has.2 has.3) c.index_mut-lane.ensures.value in
+    let here : lane_of m.lanes.items c.args.cpu ≡ l = lane_read m.lanes.items c.args.cpu l (lane_within m.store m.programs.items m.jobs.items m.lanes.items c.self.invariant c.args.cpu c.args.job has.0 has.1 has.2 has.3) c.index_mut-lane.ensures.value in
     let h = c.in-Some.hand in
     let e = c.index_mut-listed.result.now in
     let listed : slice_get m.jobs.items c.args.job ≡ Some e = slice_get_read m.jobs.items (length m.jobs.items) c.args.job e refl (job_within m.store m.programs.items m.jobs.items m.lanes.items c.self.invariant c.args.cpu c.args.job has.0 has.1 has.2 has.3) c.index_mut-listed.ensures.value in
@@ -161,7 +161,7 @@ returns-in-Some-advance-clause-proceeds c =
       programs = m.programs.items;
       jobs = tasks_of (slice_set m.lanes.items c.args.cpu (record { hand = None; next = l.next })) (slice_set m.jobs.items c.args.job (record { cpu = e.cpu; program = e.program; budget = e.budget; phase = Ended c.in-Some-advance.outcome }));
     } in
-    let Q : MachineState → Type 0 = λ s. Proceeds s c.args.cpu c.args.job (turned.Ended c.args.job c.in-Some-advance.outcome) new in
+    let Q : MachineState → Type 0 = λ s. Proceeds s c.args.cpu c.args.job (turn.Ended c.args.job c.in-Some-advance.outcome) new in
     subst Q c.self.view_is (λ task state left at w shows.
     proceeds_ended m.store m.programs.items m.jobs.items m.lanes.items c.self.invariant c.args.cpu c.args.job task state left at l here h c.in-Some.is e listed program loaded c.in-Some-advance.outcome c.advance.new.store c.end.new.self c.advance.new.self.cpu c.advance.new.self.left c.in-Some-advance.ensures.advance
     (call_leads c.advance.new.store c.end.new.self c.args.cpu End served c.end.ensures.ended c.end.ensures.same.1) w shows)

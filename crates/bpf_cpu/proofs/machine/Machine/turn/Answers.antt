@@ -1,4 +1,4 @@
-use Rattle.bpf_cpu.proofs.TurnLaws.{begun_in_hand, turn_in_hand, turn_begins, turn_idle}
+use Rattle.bpf_cpu.proofs.Machines.TurnLaws.{begun_in_hand, turn_in_hand, turn_begins, turn_idle}
 use Rattle.bpf_cpu.proofs.machine.Machine.turn.Goals as goal
 
 pub proceed-requires-in-Waiting : goal.proceed-requires-in-Waiting

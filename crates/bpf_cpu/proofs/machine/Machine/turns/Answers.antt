@@ -1,5 +1,5 @@
 use Rattle.std.proofs.Common.{arith}
-use Rattle.bpf_cpu.proofs.TurnLaws.{next_turn, all_turns}
+use Rattle.bpf_cpu.proofs.Machines.TurnLaws.{next_turn, all_turns}
 use Rattle.bpf_cpu.proofs.machine.Machine.turns.Goals as goal
 
 pub loop-cpu-preserved : goal.loop-cpu-preserved

@@ -1,12 +1,12 @@
 use Rattle.std.proofs.Common.{◌≡◌, ℕ, ◌<◌, ◌≤◌, length, None}
 use Rattle.std.specs.Prelude.{vec_capacity}
-use Rattle.bpf_cpu.specs.Lanes.{IsFirst, lane}
-use Rattle.bpf_cpu.proofs.lane.make_lanes.Given as goal
+use Rattle.bpf_cpu.specs.Private.Lanes.{IsFirstJob, lane_of}
+use Rattle.bpf_cpu.proofs.machine.lane.make_lanes.Given as goal
 
 abbrev pub invariant-loop-cpu : goal.invariant-loop-cpu
 invariant-loop-cpu l = record {
   count : length l.lanes.items ≡ l.cpu;
   room : l.cpus ≤ vec_capacity l.lanes;
-  idle : (c : ℕ) → c < l.cpu → (lane l.lanes.items c).hand ≡ None;
-  first : (c : ℕ) → c < l.cpu → IsFirst l.jobs c 0 (lane l.lanes.items c).next;
+  idle : (c : ℕ) → c < l.cpu → (lane_of l.lanes.items c).hand ≡ None;
+  first : (c : ℕ) → c < l.cpu → IsFirstJob l.jobs c 0 (lane_of l.lanes.items c).next;
 }

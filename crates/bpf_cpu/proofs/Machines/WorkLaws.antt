@@ -6,14 +6,14 @@ use Rattle.std.proofs.lemmas.Bool.{cases_lt}
 use Rattle.std.proofs.lemmas.List.{get_or_read}
 use Rattle.bpf_loader.specs.Loaded.{Loaded}
 use Rattle.bpf_cpu.specs.declared.cpu.Cpu.{Cpu}
-use Rattle.bpf_cpu.specs.declared.lane.Listed.{Listed}
-use Rattle.bpf_cpu.specs.declared.lane.Phase.{Phase}
-use Rattle.bpf_cpu.specs.declared.lane.Phase.TheVariants as phase
-use Rattle.bpf_cpu.specs.declared.lane.Hand.{Hand}
-use Rattle.bpf_cpu.specs.declared.lane.Lane.{Lane}
+use Rattle.bpf_cpu.specs.declared.machine.lane.Listed.{Listed}
+use Rattle.bpf_cpu.specs.declared.machine.lane.Phase.{Phase}
+use Rattle.bpf_cpu.specs.declared.machine.lane.Phase.TheVariants as phase
+use Rattle.bpf_cpu.specs.declared.machine.lane.Hand.{Hand}
+use Rattle.bpf_cpu.specs.declared.machine.lane.Lane.{Lane}
 use Rattle.bpf_cpu.specs.Task.{Stage, Task, Waiting, InHand, IsAt, IsFree, NoneWaitsBelow, NoneWaits}
 use Rattle.bpf_cpu.specs.Work.{HasInHand, IsState, IsNext}
-use Rattle.bpf_cpu.specs.Lanes.{lane, no_lane, stage_of, task_of, tasks_of, Fits, IsHand, IsBoard}
+use Rattle.bpf_cpu.specs.Private.Lanes.{lane_of, no_lane, stage_of, task_of, tasks_of, FitsLane, IsHand, IsBoard}
 
 -- the job behind a shown one
 record IsBehind (jobs : List Listed) (lanes : List Lane) (c j : ℕ) (task : Task) : Type 0 where
@@ -46,7 +46,7 @@ shown_hand o (phase.Ended outcome) state left e = cc
 shown_hand None phase.InHand state left e = cc
 shown_hand (Some h) phase.InHand state left e = let same : InHand h.cpu h.left ≡ InHand state left = e in (h, refl, refl, cc, cc)
 
-shown_waiting : (l : Lane) (j : ℕ) (p : Phase) (context : List ℕ) → Fits l j p → stage_of l.hand p ≡ Waiting context → (v : _) × (p ≡ phase.Waiting v) × (v.items ≡ context) × (l.next ≤ j)
+shown_waiting : (l : Lane) (j : ℕ) (p : Phase) (context : List ℕ) → FitsLane l j p → stage_of l.hand p ≡ Waiting context → (v : _) × (p ≡ phase.Waiting v) × (v.items ≡ context) × (l.next ≤ j)
 shown_waiting l j (phase.Waiting v) context fits e = let same : Waiting v.items ≡ Waiting context = e in (v, refl, cc, fits)
 shown_waiting l j (phase.Ended outcome) context fits e = cc
 shown_waiting l j phase.InHand context fits e =
@@ -63,7 +63,7 @@ module _ (serves running : ℕ → Bool) (programs : List Loaded) (jobs : List L
     pub shown : task ≡ task_of lanes job
     pub within : c < length lanes
     pub hand : Hand
-    pub held : (lane lanes c).hand ≡ Some hand
+    pub held : (lane_of lanes c).hand ≡ Some hand
     pub told : hand.job ≡ j
     pub state_is : hand.cpu ≡ state
     pub left_is : hand.left ≡ left
@@ -73,11 +73,11 @@ module _ (serves running : ℕ → Bool) (programs : List Loaded) (jobs : List L
   hand_at j task state left at =
       let b = behind jobs lanes c j task (InHand state left) at in
       let own = board.each_job j b.job b.listed in
-      let e : stage_of (lane lanes b.job.cpu).hand b.job.phase ≡ InHand state left = sym (ap (λ (t : Task). t.stage) b.shown) ∙ at.at in
-      let h = shown_hand (lane lanes b.job.cpu).hand b.job.phase state left e in
-      let fits : Fits (lane lanes b.job.cpu) j phase.InHand = subst (λ (p : Phase). Fits (lane lanes b.job.cpu) j p) h.2 own.fits in
+      let e : stage_of (lane_of lanes b.job.cpu).hand b.job.phase ≡ InHand state left = sym (ap (λ (t : Task). t.stage) b.shown) ∙ at.at in
+      let h = shown_hand (lane_of lanes b.job.cpu).hand b.job.phase state left e in
+      let fits : FitsLane (lane_of lanes b.job.cpu) j phase.InHand = subst (λ (p : Phase). FitsLane (lane_of lanes b.job.cpu) j p) h.2 own.fits in
       let same : h.0 ≡ fits.1.0 = (let two : Some h.0 ≡ Some fits.1.0 = sym h.1 ∙ fits.1.1 in cc) in
-      let held : (lane lanes c).hand ≡ Some h.0 = subst (λ (n : ℕ). (lane lanes n).hand ≡ Some h.0) b.of h.1 in
+      let held : (lane_of lanes c).hand ≡ Some h.0 = subst (λ (n : ℕ). (lane_of lanes n).hand ≡ Some h.0) b.of h.1 in
       let within : c < length lanes = subst (λ (n : ℕ). n < length lanes) b.of own.within in
       record {
         job = b.job;
@@ -93,25 +93,25 @@ module _ (serves running : ℕ → Bool) (programs : List Loaded) (jobs : List L
         is = (board.each_lane c within).hand h.0 held;
       }
 
-  pub has_hand : (h : Hand) → c < length lanes → (lane lanes c).hand ≡ Some h → (task : Task) × IsAt (tasks_of lanes jobs) c h.job task (InHand h.cpu h.left)
+  pub has_hand : (h : Hand) → c < length lanes → (lane_of lanes c).hand ≡ Some h → (task : Task) × IsAt (tasks_of lanes jobs) c h.job task (InHand h.cpu h.left)
   has_hand h within held =
       let is = (board.each_lane c within).hand h held in
-      let here : (lane lanes is.job.cpu).hand ≡ Some h = ap (λ (n : ℕ). (lane lanes n).hand) is.of ∙ held in (
+      let here : (lane_of lanes is.job.cpu).hand ≡ Some h = ap (λ (n : ℕ). (lane_of lanes n).hand) is.of ∙ held in (
         task_of lanes is.job,
         record {
           listed = shows_job jobs lanes h.job is.job is.listed;
           of = is.of;
-          at = ap (λ (p : Phase). stage_of (lane lanes is.job.cpu).hand p) is.in_hand ∙ ap (λ (o : Option Hand). stage_of o phase.InHand) here;
+          at = ap (λ (p : Phase). stage_of (lane_of lanes is.job.cpu).hand p) is.in_hand ∙ ap (λ (o : Option Hand). stage_of o phase.InHand) here;
         },
       )
 
-  pub is_free : (lane lanes c).hand ≡ None → IsFree (tasks_of lanes jobs) c
+  pub is_free : (lane_of lanes c).hand ≡ None → IsFree (tasks_of lanes jobs) c
   is_free none j task state left at = let h = hand_at j task state left at in let no : None ≡ Some h.hand = sym none ∙ h.held in cc
 
-  pub no_hand : c < length lanes → IsFree (tasks_of lanes jobs) c → (lane lanes c).hand ≡ None
-  no_hand within free = go (lane lanes c).hand refl
+  pub no_hand : c < length lanes → IsFree (tasks_of lanes jobs) c → (lane_of lanes c).hand ≡ None
+  no_hand within free = go (lane_of lanes c).hand refl
     where
-      go : (o : Option Hand) → (lane lanes c).hand ≡ o → (lane lanes c).hand ≡ None
+      go : (o : Option Hand) → (lane_of lanes c).hand ≡ o → (lane_of lanes c).hand ≡ None
       go None e = e
       go (Some h) e = let has = has_hand h within e in absurd (free h.job has.0 h.cpu h.left has.1)
 
@@ -122,48 +122,48 @@ module _ (serves running : ℕ → Bool) (programs : List Loaded) (jobs : List L
     pub of : job.cpu ≡ c
     pub shown : task ≡ task_of lanes job
     pub within : c < length lanes
-    pub waits : (v : _) × (job.phase ≡ phase.Waiting v) × (v.items ≡ context) × ((lane lanes c).next ≤ j)
+    pub waits : (v : _) × (job.phase ≡ phase.Waiting v) × (v.items ≡ context) × ((lane_of lanes c).next ≤ j)
 
   pub waits_at : (j : ℕ) (task : Task) (context : List ℕ) → IsAt (tasks_of lanes jobs) c j task (Waiting context) → WaitsAt j task context
   waits_at j task context at =
       let b = behind jobs lanes c j task (Waiting context) at in
       let own = board.each_job j b.job b.listed in
-      let e : stage_of (lane lanes b.job.cpu).hand b.job.phase ≡ Waiting context = sym (ap (λ (t : Task). t.stage) b.shown) ∙ at.at in
-      let w = shown_waiting (lane lanes b.job.cpu) j b.job.phase context own.fits e in
+      let e : stage_of (lane_of lanes b.job.cpu).hand b.job.phase ≡ Waiting context = sym (ap (λ (t : Task). t.stage) b.shown) ∙ at.at in
+      let w = shown_waiting (lane_of lanes b.job.cpu) j b.job.phase context own.fits e in
       record {
         job = b.job;
         listed = b.listed;
         of = b.of;
         shown = b.shown;
         within = subst (λ (n : ℕ). n < length lanes) b.of own.within;
-        waits = (w.0, w.1, w.2, subst (λ (n : ℕ). (lane lanes n).next ≤ j) b.of w.3);
+        waits = (w.0, w.1, w.2, subst (λ (n : ℕ). (lane_of lanes n).next ≤ j) b.of w.3);
       }
 
   -- the CPU's next job waits
-  pub next_waits : c < length lanes → (x : Listed) → slice_get jobs (lane lanes c).next ≡ Some x → (task : Task) × (context : List ℕ) × IsAt (tasks_of lanes jobs) c (lane lanes c).next task (Waiting context)
+  pub next_waits : c < length lanes → (x : Listed) → slice_get jobs (lane_of lanes c).next ≡ Some x → (task : Task) × (context : List ℕ) × IsAt (tasks_of lanes jobs) c (lane_of lanes c).next task (Waiting context)
   next_waits within x at =
-      let n = (lane lanes c).next in
+      let n = (lane_of lanes c).next in
       let of : x.cpu ≡ c = (board.each_lane c within).next x at in
-      let fits : Fits (lane lanes c) n x.phase = subst (λ (d : ℕ). Fits (lane lanes d) n x.phase) of (board.each_job n x at).fits in
+      let fits : FitsLane (lane_of lanes c) n x.phase = subst (λ (d : ℕ). FitsLane (lane_of lanes d) n x.phase) of (board.each_job n x at).fits in
       go x.phase refl fits
     where
-      go : (p : Phase) → x.phase ≡ p → Fits (lane lanes c) (lane lanes c).next p → (task : Task) × (context : List ℕ) × IsAt (tasks_of lanes jobs) c (lane lanes c).next task (Waiting context)
+      go : (p : Phase) → x.phase ≡ p → FitsLane (lane_of lanes c) (lane_of lanes c).next p → (task : Task) × (context : List ℕ) × IsAt (tasks_of lanes jobs) c (lane_of lanes c).next task (Waiting context)
       go (phase.Waiting v) e fits = (
         task_of lanes x,
         v.items,
         record {
-          listed = shows_job jobs lanes (lane lanes c).next x at;
+          listed = shows_job jobs lanes (lane_of lanes c).next x at;
           of = (board.each_lane c within).next x at;
-          at = ap (λ (p : Phase). stage_of (lane lanes x.cpu).hand p) e;
+          at = ap (λ (p : Phase). stage_of (lane_of lanes x.cpu).hand p) e;
         },
       )
-      go phase.InHand e fits = let l : (lane lanes c).next < (lane lanes c).next = fits.0 in absurd (omega arith)
-      go (phase.Ended outcome) e fits = let l : (lane lanes c).next < (lane lanes c).next = fits in absurd (omega arith)
+      go phase.InHand e fits = let l : (lane_of lanes c).next < (lane_of lanes c).next = fits.0 in absurd (omega arith)
+      go (phase.Ended outcome) e fits = let l : (lane_of lanes c).next < (lane_of lanes c).next = fits in absurd (omega arith)
 
-  pub none_waits_below : NoneWaitsBelow (tasks_of lanes jobs) c (lane lanes c).next
+  pub none_waits_below : NoneWaitsBelow (tasks_of lanes jobs) c (lane_of lanes c).next
   none_waits_below k task context below at = let w = waits_at k task context at in let above = w.waits.3 in absurd (omega arith)
 
-  pub none_waits : length jobs ≤ (lane lanes c).next → NoneWaits (tasks_of lanes jobs) c
+  pub none_waits : length jobs ≤ (lane_of lanes c).next → NoneWaits (tasks_of lanes jobs) c
   none_waits past j task context at =
       let w = waits_at j task context at in
       let above = w.waits.3 in
@@ -178,10 +178,10 @@ module _ (serves running : ℕ → Bool) (programs : List Loaded) (jobs : List L
   )
 
   -- the job that the CPU is to begin is its next
-  pub is_next : (j : ℕ) → IsNext (tasks_of lanes jobs) c j → (lane lanes c).next ≡ j
+  pub is_next : (j : ℕ) → IsNext (tasks_of lanes jobs) c j → (lane_of lanes c).next ≡ j
   is_next j next =
       let w = waits_at j next.1.0 next.1.1 next.1.2 in
-      let n = (lane lanes c).next in
+      let n = (lane_of lanes c).next in
       let above : n ≤ j = w.waits.3 in
       let inside : j < length jobs = slice_get_within jobs j w.job w.listed in
       elim (cases_lt n j) [
@@ -194,11 +194,11 @@ module _ (serves running : ℕ → Bool) (programs : List Loaded) (jobs : List L
       ]
 
 -- what reading a lane gives
-pub lane_read : (lanes : List Lane) (c : ℕ) (l : Lane) → c < length lanes → l ≡ slice_index_or lanes c l → lane lanes c ≡ l
+pub lane_read : (lanes : List Lane) (c : ℕ) (l : Lane) → c < length lanes → l ≡ slice_index_or lanes c l → lane_of lanes c ≡ l
 lane_read lanes c l within read = sym (get_or_read lanes c l within read no_lane)
 
 -- what a lane that was read tells of its CPU
-module _ (serves running : ℕ → Bool) (programs : List Loaded) (jobs : List Listed) (lanes : List Lane) (board : IsBoard serves running programs jobs lanes) (c : ℕ) (l : Lane) (within : c < length lanes) (was : lane lanes c ≡ l) where
+module _ (serves running : ℕ → Bool) (programs : List Loaded) (jobs : List Listed) (lanes : List Lane) (board : IsBoard serves running programs jobs lanes) (c : ℕ) (l : Lane) (within : c < length lanes) (was : lane_of lanes c ≡ l) where
   pub work_in_hand : (h : Hand) → l.hand ≡ Some h → HasInHand (tasks_of lanes jobs) c h.job
   work_in_hand h held = let has = has_hand serves running programs jobs lanes board c h within (ap (λ (x : Lane). x.hand) was ∙ held) in (has.0, h.cpu, h.left, has.1)
 

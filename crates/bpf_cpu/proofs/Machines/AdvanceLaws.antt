@@ -8,8 +8,8 @@ use Rattle.bpf_shared.specs.Chain.{Chain}
 use Rattle.bpf_shared.specs.Contents.{Contents, has_cpu, shapes_of, StandsFor, Passes}
 use Rattle.bpf_loader.specs.Loaded.{Loaded}
 use Rattle.bpf_cpu.specs.declared.cpu.Cpu.{Cpu}
-use Rattle.bpf_cpu.specs.declared.outcome.Turn.{Turn}
-use Rattle.bpf_cpu.specs.declared.outcome.Turn.TheVariants.{On}
+use Rattle.bpf_cpu.specs.declared.outcome.Progress.{Progress}
+use Rattle.bpf_cpu.specs.declared.outcome.Progress.TheVariants.{On}
 use Rattle.bpf_cpu.specs.declared.outcome.Outcome.{Outcome}
 use Rattle.bpf_cpu.specs.declared.outcome.Outcome.TheVariants.{OutOfBudget}
 use Rattle.bpf_cpu.specs.Step.{Step}
@@ -25,15 +25,15 @@ module _ (program : Loaded) (x y : Contents) (old new : Cpu) where
   pub no_step_leads : (n : ℕ) → n ≡ 0 → StepLeads program x x old n (Some (OutOfBudget old.pc)) old n
   no_step_leads n e = let P : ℕ → Type 0 = λ k. StepLeads program x x old k (Some (OutOfBudget old.pc)) old k in subst P (sym e) (λ s sound shows. (s, (refl, refl, refl, refl), sound, shows))
 
-  pub step_leads : (turn : Turn) (n m : ℕ) (end : Option Outcome) → n ≡ suc m → end ≡ outcome_after turn m new
-      → (events : List Event) × Chain Passes has_cpu old.number x y events × Step (shapes_of x) program old events turn new
+  pub step_leads : (progress : Progress) (n m : ℕ) (end : Option Outcome) → n ≡ suc m → end ≡ outcome_after progress m new
+      → (events : List Event) × Chain Passes has_cpu old.number x y events × Step (shapes_of x) program old events progress new
       → StepLeads program x y old n end new m
-  step_leads turn n m end e is step =
+  step_leads progress n m end e is step =
       let P : ℕ → Type 0 = λ k. StepLeads program x y old k end new m in
       subst P (sym e) (λ s sound shows.
       let r = chain_leads x y old.number step.0 step.1 s sound shows in
-      let Q : List MapShape → Type 0 = λ h. Step h program old step.0 turn new in
-      (r.0, (step.0, turn, subst Q (sym shows.maps) step.2, r.1, is, refl), r.2, r.3))
+      let Q : List MapShape → Type 0 = λ h. Step h program old step.0 progress new in
+      (r.0, (step.0, progress, subst Q (sym shows.maps) step.2, r.1, is, refl), r.2, r.3))
 
 -- the outcome of a job that goes on
 pub last_step : (m : ℕ) (new : Cpu) → m ≡ 0 → Some (OutOfBudget new.pc) ≡ outcome_after On m new

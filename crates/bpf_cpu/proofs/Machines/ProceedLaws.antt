@@ -9,24 +9,24 @@ use Rattle.bpf_shared.specs.Choice.{PlainlyAllowed}
 use Rattle.bpf_shared.specs.Sound.{IsSoundStore}
 use Rattle.bpf_shared.specs.Contents.{Contents, has_cpu, is_running}
 use Rattle.bpf_shared.specs.Contents as contents
-use Rattle.bpf_cpu.specs.declared.machine.Turned.TheVariants.{Ran}
-use Rattle.bpf_cpu.specs.declared.machine.Turned.TheVariants as turned
+use Rattle.bpf_cpu.specs.declared.machine.Turn.TheVariants.{Ran}
+use Rattle.bpf_cpu.specs.declared.machine.Turn.TheVariants as turn
 use Rattle.bpf_loader.specs.Loaded.{Loaded}
 use Rattle.bpf_cpu.specs.declared.cpu.Cpu.{Cpu}
 use Rattle.bpf_cpu.specs.declared.outcome.Outcome.{Outcome}
-use Rattle.bpf_cpu.specs.declared.lane.Listed.{Listed}
-use Rattle.bpf_cpu.specs.declared.lane.Phase.{Phase}
-use Rattle.bpf_cpu.specs.declared.lane.Phase.TheVariants as phase
-use Rattle.bpf_cpu.specs.declared.lane.Hand.{Hand}
-use Rattle.bpf_cpu.specs.declared.lane.Lane.{Lane}
+use Rattle.bpf_cpu.specs.declared.machine.lane.Listed.{Listed}
+use Rattle.bpf_cpu.specs.declared.machine.lane.Phase.{Phase}
+use Rattle.bpf_cpu.specs.declared.machine.lane.Phase.TheVariants as phase
+use Rattle.bpf_cpu.specs.declared.machine.lane.Hand.{Hand}
+use Rattle.bpf_cpu.specs.declared.machine.lane.Lane.{Lane}
 use Rattle.bpf_cpu.specs.Step.{IsReady}
 use Rattle.bpf_cpu.specs.Task.{Task, InHand, Ended, with_stage, IsAt}
-use Rattle.bpf_cpu.specs.Lanes.{lane, stage_of, task_of, tasks_of, Fits, IsHand, IsBoard}
+use Rattle.bpf_cpu.specs.Private.Lanes.{lane_of, stage_of, task_of, tasks_of, FitsLane, IsHand, IsBoard}
 use Rattle.bpf_cpu.specs.Schedule.{World, Advances, GoesOn}
 use Rattle.bpf_cpu.specs.Machine.{Shows}
 use Rattle.bpf_cpu.proofs.ListLaws.{slice_get-set_same}
-use Rattle.bpf_cpu.proofs.BoardLaws.{tasks_changed, board_changed}
-use Rattle.bpf_cpu.proofs.WorkLaws.{HandAt, hand_at}
+use Rattle.bpf_cpu.proofs.Machines.BoardLaws.{tasks_changed, board_changed}
+use Rattle.bpf_cpu.proofs.Machines.WorkLaws.{HandAt, hand_at}
 
 module _ (store : Contents) (programs : List Loaded) (jobs : List Listed) (lanes : List Lane) (board : IsBoard (has_cpu store) (is_running store) programs jobs lanes)
     (c j : ℕ) (task : Task) (state : Cpu) (left : ℕ) (in_hand : IsAt (tasks_of lanes jobs) c j task (InHand state left)) where
@@ -45,7 +45,7 @@ module _ (store : Contents) (programs : List Loaded) (jobs : List Listed) (lanes
   pub running : is_running store c ≡ true
   running = (board.each_lane c at.within).runs ∙ ap (λ (o : Option Hand). is_some o) at.held
 
-  module _ (l : Lane) (was : lane lanes c ≡ l) where
+  module _ (l : Lane) (was : lane_of lanes c ≡ l) where
     held : l.hand ≡ Some at.hand
     held = ap (λ (x : Lane). x.hand) (sym was) ∙ at.held
 
@@ -92,8 +92,8 @@ module _ (store : Contents) (programs : List Loaded) (jobs : List Listed) (lanes
 
         before : j < l.next
         before =
-            let fits : Fits (lane lanes e.cpu) j phase.InHand = subst (λ (p : Phase). Fits (lane lanes e.cpu) j p) phase_was (board.each_job j e listed).fits in
-            subst (λ (x : Lane). j < x.next) was (subst (λ (n : ℕ). j < (lane lanes n).next) of fits.0)
+            let fits : FitsLane (lane_of lanes e.cpu) j phase.InHand = subst (λ (p : Phase). FitsLane (lane_of lanes e.cpu) j p) phase_was (board.each_job j e listed).fits in
+            subst (λ (x : Lane). j < x.next) was (subst (λ (n : ℕ). j < (lane_of lanes n).next) of fits.0)
 
         alone : (x : Hand) → l.hand ≡ Some x → x.job ≡ j
         alone x there = let two : Some h ≡ Some x = sym has ∙ there in let one : h ≡ x = cc in subst (λ (y : Hand). y.job ≡ j) one told
@@ -136,7 +136,7 @@ module _ (store : Contents) (programs : List Loaded) (jobs : List Listed) (lanes
                 serves_same
                 (λ d ne. ap (λ (f : ℕ → Bool). f d) running_same)
                 (ap (λ (f : ℕ → Bool). f c) running_same ∙ running)
-                (subst (λ (p : Phase). Fits l' j p) (sym phase_was) (before, (h', refl, job ∙ told)))
+                (subst (λ (p : Phase). FitsLane l' j p) (sym phase_was) (before, (h', refl, job ∙ told)))
                 (λ v waits. (let no : phase.InHand ≡ phase.Waiting v = sym phase_was ∙ waits in cc))
                 (λ x there. (
                 let one : h' ≡ x = cc in
@@ -195,7 +195,7 @@ module _ (store : Contents) (programs : List Loaded) (jobs : List Listed) (lanes
             pub proceeds_ended : (mid after : Contents) (new : Cpu) (rest : ℕ) → ((s : Plain) → IsSoundStore s → contents.StandsFor store s → (t : Plain) × Advances program h.cpu.number s h.cpu h.left (Some outcome) t new rest × IsSoundStore t × contents.StandsFor mid t)
                 → ((s : Plain) → IsSoundStore s → contents.StandsFor mid s → (t : Plain) × PlainlyAllowed s c End t × IsSoundStore t × contents.StandsFor after t)
                 → (w : World) → Shows (record { store = store; programs = programs; jobs = tasks_of lanes jobs }) w
-                → (z : World) × GoesOn w c j task state left (turned.Ended j outcome) z × Shows (record { store = after; programs = programs; jobs = tasks_of (slice_set lanes c l'') (slice_set jobs j e'') }) z
+                → (z : World) × GoesOn w c j task state left (turn.Ended j outcome) z × Shows (record { store = after; programs = programs; jobs = tasks_of (slice_set lanes c l'') (slice_set jobs j e'') }) z
             proceeds_ended mid after new rest advance end w shows =
                 let r = advance w.store shows.sound shows.store in
                 let q = end r.0 r.2 r.3 in

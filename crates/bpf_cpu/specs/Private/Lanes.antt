@@ -1,17 +1,17 @@
 -- What a machine keeps of each job, and of each CPU.
 use Rattle.std.specs.Prelude.{◌≡◌, ℕ, ◌<◌, ◌≤◌, Bool, true, false, List, [], Option, Some, None, is_some, length, map, slice_get, slice_index_or}
 use Rattle.bpf_loader.specs.Loaded.{Loaded}
-use Rattle.bpf_cpu.specs.declared.job.Job.{Job}
-use Rattle.bpf_cpu.specs.declared.lane.Listed.{Listed}
-use Rattle.bpf_cpu.specs.declared.lane.Phase.{Phase}
-use Rattle.bpf_cpu.specs.declared.lane.Phase.TheVariants as phase
-use Rattle.bpf_cpu.specs.declared.lane.Hand.{Hand}
-use Rattle.bpf_cpu.specs.declared.lane.Lane.{Lane}
+use Rattle.bpf_cpu.specs.declared.machine.job.Job.{Job}
+use Rattle.bpf_cpu.specs.declared.machine.lane.Listed.{Listed}
+use Rattle.bpf_cpu.specs.declared.machine.lane.Phase.{Phase}
+use Rattle.bpf_cpu.specs.declared.machine.lane.Phase.TheVariants as phase
+use Rattle.bpf_cpu.specs.declared.machine.lane.Hand.{Hand}
+use Rattle.bpf_cpu.specs.declared.machine.lane.Lane.{Lane}
 use Rattle.bpf_cpu.specs.Step.{IsReady}
 use Rattle.bpf_cpu.specs.Task.{Stage, Task, Waiting, InHand, Ended}
 
 -- the CPU's first job from a number on, or the number of all jobs
-pub record IsFirst (jobs : List Listed) (cpu «from» n : ℕ) : Type 0 where
+pub record IsFirstJob (jobs : List Listed) (cpu «from» n : ℕ) : Type 0 where
   pub above : «from» ≤ n
   pub within : n ≤ length jobs
   pub none : (k : ℕ) (x : Listed) → «from» ≤ k → k < n → slice_get jobs k ≡ Some x → x.cpu ≡ cpu → ⊥
@@ -25,8 +25,8 @@ listed job = record { cpu = job.cpu; program = job.program; budget = job.budget;
 abbrev pub no_lane : Lane
 no_lane = record { hand = None; next = 0 }
 
-abbrev pub lane : List Lane → ℕ → Lane
-lane lanes cpu = slice_index_or lanes cpu no_lane
+abbrev pub lane_of : List Lane → ℕ → Lane
+lane_of lanes cpu = slice_index_or lanes cpu no_lane
 
 -- ---- what they show
 abbrev pub stage_of : Option Hand → Phase → Stage
@@ -36,7 +36,7 @@ stage_of (Some hand) phase.InHand = InHand hand.cpu hand.left
 stage_of None phase.InHand = Waiting []
 
 abbrev pub task_of : List Lane → Listed → Task
-task_of lanes x = record { cpu = x.cpu; program = x.program; budget = x.budget; stage = stage_of (lane lanes x.cpu).hand x.phase }
+task_of lanes x = record { cpu = x.cpu; program = x.program; budget = x.budget; stage = stage_of (lane_of lanes x.cpu).hand x.phase }
 
 abbrev pub tasks_of : List Lane → List Listed → List Task
 tasks_of lanes jobs = map (task_of lanes) jobs
@@ -44,16 +44,16 @@ tasks_of lanes jobs = map (task_of lanes) jobs
 -- ---- what they keep true
 
 -- the CPU's jobs wait from its next on; the one in hand is told by its number
-abbrev pub Fits : Lane → ℕ → Phase → Type 0
-Fits l j (phase.Waiting context) = l.next ≤ j
-Fits l j phase.InHand = (j < l.next) × ((h : Hand) × (l.hand ≡ Some h) × (h.job ≡ j))
-Fits l j (phase.Ended outcome) = j < l.next
+abbrev pub FitsLane : Lane → ℕ → Phase → Type 0
+FitsLane l j (phase.Waiting context) = l.next ≤ j
+FitsLane l j phase.InHand = (j < l.next) × ((h : Hand) × (l.hand ≡ Some h) × (h.job ≡ j))
+FitsLane l j (phase.Ended outcome) = j < l.next
 
 pub record IsListed (serves : ℕ → Bool) (programs : List Loaded) (lanes : List Lane) (j : ℕ) (x : Listed) : Type 0 where
   pub program : x.program < length programs
   pub served : serves x.cpu ≡ true
   pub within : x.cpu < length lanes
-  pub fits : Fits (lane lanes x.cpu) j x.phase
+  pub fits : FitsLane (lane_of lanes x.cpu) j x.phase
   pub short : (context : _) → x.phase ≡ phase.Waiting context → length context.items ≤ 4096
 
 -- a job in hand
@@ -75,6 +75,6 @@ pub record IsLane (running : ℕ → Bool) (programs : List Loaded) (jobs : List
 
 pub record IsBoard (serves running : ℕ → Bool) (programs : List Loaded) (jobs : List Listed) (lanes : List Lane) : Type 0 where
   pub each_job : (j : ℕ) (x : Listed) → slice_get jobs j ≡ Some x → IsListed serves programs lanes j x
-  pub each_lane : (cpu : ℕ) → cpu < length lanes → IsLane running programs jobs cpu (lane lanes cpu)
+  pub each_lane : (cpu : ℕ) → cpu < length lanes → IsLane running programs jobs cpu (lane_of lanes cpu)
   -- no CPU beyond them is in a run
   pub idle : (cpu : ℕ) → length lanes ≤ cpu → running cpu ≡ false

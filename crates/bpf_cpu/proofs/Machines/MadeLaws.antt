@@ -5,13 +5,13 @@ use Rattle.std.proofs.lemmas.Bool.{cases_lt}
 use Rattle.std.proofs.lemmas.List.Elements.{All-get_or}
 use Rattle.std.proofs.lemmas.Option.{slice_get-map, slice_get_within, get_or_from_slice_get}
 use Rattle.bpf_loader.specs.Loaded.{Loaded}
-use Rattle.bpf_cpu.specs.declared.job.Job.{Job}
-use Rattle.bpf_cpu.specs.declared.lane.Listed.{Listed}
-use Rattle.bpf_cpu.specs.declared.lane.Phase.TheVariants as phase
-use Rattle.bpf_cpu.specs.declared.lane.Hand.{Hand}
-use Rattle.bpf_cpu.specs.declared.lane.Lane.{Lane}
+use Rattle.bpf_cpu.specs.declared.machine.job.Job.{Job}
+use Rattle.bpf_cpu.specs.declared.machine.lane.Listed.{Listed}
+use Rattle.bpf_cpu.specs.declared.machine.lane.Phase.TheVariants as phase
+use Rattle.bpf_cpu.specs.declared.machine.lane.Hand.{Hand}
+use Rattle.bpf_cpu.specs.declared.machine.lane.Lane.{Lane}
 use Rattle.bpf_cpu.specs.Task.{Task, waiting}
-use Rattle.bpf_cpu.specs.Lanes.{IsFirst, listed, lane, tasks_of, IsListed, IsLane, IsBoard}
+use Rattle.bpf_cpu.specs.Private.Lanes.{IsFirstJob, listed, lane_of, tasks_of, IsListed, IsLane, IsBoard}
 
 -- what is true of each job is true of the one at a place
 all_at : {A : Type 0} (P : A → Type 0) (xs : List A) (k : ℕ) (x : A) → All P xs → slice_get xs k ≡ Some x → P x
@@ -36,7 +36,7 @@ module _ (serves running : ℕ → Bool) (programs : List Loaded) (jobs : List J
   pub made_tasks : tasks_of lanes list ≡ map waiting jobs
   made_tasks = ap (λ (xs : List Listed). tasks_of lanes xs) is ∙ made_tasks_of lanes jobs
 
-  module _ (cpus : ℕ) (count : length lanes ≡ cpus) (none : (c : ℕ) → c < cpus → (lane lanes c).hand ≡ None) (first : (c : ℕ) → c < cpus → IsFirst list c 0 (lane lanes c).next)
+  module _ (cpus : ℕ) (count : length lanes ≡ cpus) (none : (c : ℕ) → c < cpus → (lane_of lanes c).hand ≡ None) (first : (c : ℕ) → c < cpus → IsFirstJob list c 0 (lane_of lanes c).next)
       (idle : (c : ℕ) → running c ≡ false) (below : All (λ job. job.cpu < cpus) jobs) (served : All (λ job. serves job.cpu ≡ true) jobs)
       (loaded : All (λ job. job.program < length programs) jobs) (short : All (λ job. length job.context.items ≤ 4096) jobs) where
     each_job : (k : ℕ) (x : Listed) → slice_get list k ≡ Some x → IsListed serves programs lanes k x
@@ -46,7 +46,7 @@ module _ (serves running : ℕ → Bool) (programs : List Loaded) (jobs : List J
         let within : job.cpu < cpus = all_at (λ (y : Job). y.cpu < cpus) jobs k job below j.1 in
         let own : x.cpu ≡ job.cpu = ap (λ (y : Listed). y.cpu) j.2 in
         let start = first job.cpu within in
-        let next : (lane lanes job.cpu).next ≤ k = elim (cases_lt k (lane lanes job.cpu).next) [ inl low ↦ absurd (start.none k x (omega arith) low at own) | inr past ↦ past ] in
+        let next : (lane_of lanes job.cpu).next ≤ k = elim (cases_lt k (lane_of lanes job.cpu).next) [ inl low ↦ absurd (start.none k x (omega arith) low at own) | inr past ↦ past ] in
         let P : Listed → Type 0 = IsListed serves programs lanes k in
         subst P (sym j.2) (record {
           program = all_at (λ (y : Job). y.program < length programs) jobs k job loaded j.1;
@@ -59,7 +59,7 @@ module _ (serves running : ℕ → Bool) (programs : List Loaded) (jobs : List J
               subst (λ (u : _). length u.items ≤ 4096) one (all_at (λ (y : Job). length y.context.items ≤ 4096) jobs k job short j.1));
         })
 
-    each_lane : (c : ℕ) → c < length lanes → IsLane running programs list c (lane lanes c)
+    each_lane : (c : ℕ) → c < length lanes → IsLane running programs list c (lane_of lanes c)
     each_lane c inside =
         let within : c < cpus = subst (λ (n : ℕ). c < n) count inside in
         let start = first c within in

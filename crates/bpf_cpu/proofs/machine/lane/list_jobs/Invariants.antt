@@ -1,7 +1,7 @@
 use Rattle.std.proofs.Common.{◌≡◌, ◌≤◌, vec_len}
 use Rattle.std.specs.Prelude.{map, vec_capacity}
-use Rattle.bpf_cpu.specs.Lanes.{listed}
-use Rattle.bpf_cpu.proofs.lane.list_jobs.Given as goal
+use Rattle.bpf_cpu.specs.Private.Lanes.{listed}
+use Rattle.bpf_cpu.proofs.machine.lane.list_jobs.Given as goal
 
 abbrev pub invariant-loop-job : goal.invariant-loop-job
 invariant-loop-job l = record {

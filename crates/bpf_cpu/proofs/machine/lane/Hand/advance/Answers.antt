@@ -1,6 +1,6 @@
 use Rattle.std.proofs.Common.{◌≡◌, suc, ◌-◌, Some, refl, arith}
-use Rattle.bpf_cpu.proofs.AdvanceLaws.{no_step_leads, step_leads, last_step, not_last_step}
-use Rattle.bpf_cpu.proofs.lane.Hand.advance.Goals as goal
+use Rattle.bpf_cpu.proofs.Machines.AdvanceLaws.{no_step_leads, step_leads, last_step, not_last_step}
+use Rattle.bpf_cpu.proofs.machine.lane.Hand.advance.Goals as goal
 
 pub returns-then-self-eq0-clause-advance : goal.returns-then-self-eq0-clause-advance
 returns-then-self-eq0-clause-advance c =

@@ -1,7 +1,7 @@
 use Rattle.std.proofs.Common.{◌≡◌, ℕ, ◌<◌, ◌≤◌, Some}
 use Rattle.std.specs.Prelude.{slice_get}
-use Rattle.bpf_cpu.specs.declared.job.Job.{Job}
-use Rattle.bpf_cpu.proofs.lane.count_cpus.Given as goal
+use Rattle.bpf_cpu.specs.declared.machine.job.Job.{Job}
+use Rattle.bpf_cpu.proofs.machine.lane.count_cpus.Given as goal
 
 abbrev pub invariant-loop-job : goal.invariant-loop-job
 invariant-loop-job l = record {

@@ -2,7 +2,7 @@
 
 ghost use Rattle.std.specs.Prelude.{◌≡◌, vec_len};
 
-use crate::{Fault, Job, Machine, Outcome, Turned};
+use crate::{Fault, Job, Machine, Outcome, Turn};
 use bpf_insn::decode;
 use bpf_loader::{Program, load};
 use bpf_shared::{MapShape, PlainStore, StoreShape};
@@ -136,12 +136,12 @@ fn names_processors(rt: HostRuntime) -> Result<(), Fail> {
 #[test]
 fn ends_by_budget(rt: HostRuntime) -> Result<(), Fail> {
     let mut none = machine(rt.alloc(), &NAME_PROCESSOR, 0)?;
-    assert_eq!(rt; none.turn(0), Turned::Ended(1, Outcome::OutOfBudget(0)));
+    assert_eq!(rt; none.turn(0), Turn::Ended(1, Outcome::OutOfBudget(0)));
     let mut one = machine(rt.alloc(), &NAME_PROCESSOR, 1)?;
-    assert_eq!(rt; one.turn(0), Turned::Ended(1, Outcome::OutOfBudget(1)));
+    assert_eq!(rt; one.turn(0), Turn::Ended(1, Outcome::OutOfBudget(1)));
     let mut two = machine(rt.alloc(), &NAME_PROCESSOR, 2)?;
-    assert_eq!(rt; two.turn(0), Turned::Ran);
-    assert_eq!(rt; two.turn(0), Turned::Ended(1, Outcome::Exit(0)));
+    assert_eq!(rt; two.turn(0), Turn::Ran);
+    assert_eq!(rt; two.turn(0), Turn::Ended(1, Outcome::Exit(0)));
     Ok(())
 }
 
@@ -154,18 +154,18 @@ fn runs_jobs_in_the_order_of_their_list(rt: HostRuntime) -> Result<(), Fail> {
         (Some(1), Some(0), None)
     );
     assert!(rt; machine.cpu(1).is_none());
-    assert_eq!(rt; machine.turn(1), Turned::Ran);
+    assert_eq!(rt; machine.turn(1), Turn::Ran);
     assert!(rt; machine.cpu(1).is_some() && machine.cpu(0).is_none());
-    assert_eq!(rt; machine.turn(2), Turned::Idle);
-    assert_eq!(rt; machine.turn(1), Turned::Ended(0, Outcome::Exit(1)));
+    assert_eq!(rt; machine.turn(2), Turn::Idle);
+    assert_eq!(rt; machine.turn(1), Turn::Ended(0, Outcome::Exit(1)));
     assert_eq!(rt; (machine.job(0), machine.job(1)), (Some(1), Some(2)));
     assert_eq!(rt;
         (machine.outcome(0), machine.outcome(2), machine.outcome(3)),
         (Some(Outcome::Exit(1)), None, None)
     );
-    assert_eq!(rt; machine.turn(1), Turned::Ran);
-    assert_eq!(rt; machine.turn(1), Turned::Ended(2, Outcome::Exit(1)));
-    assert_eq!(rt; machine.turn(1), Turned::Idle);
+    assert_eq!(rt; machine.turn(1), Turn::Ran);
+    assert_eq!(rt; machine.turn(1), Turn::Ended(2, Outcome::Exit(1)));
+    assert_eq!(rt; machine.turn(1), Turn::Idle);
     let _ = machine.store();
     Ok(())
 }

@@ -7,11 +7,11 @@ ghost use Rattle.bpf_shared.specs.Contents.{has_cpu, is_running};
 ghost use Rattle.bpf_shared.specs.Contents as contents;
 ghost use Rattle.bpf_cpu.specs.Step.{IsReady};
 ghost use Rattle.bpf_cpu.specs.Schedule.{Advances};
-ghost use Rattle.bpf_cpu.specs.Lanes.{IsFirst, lane, listed};
+ghost use Rattle.bpf_cpu.specs.Private.Lanes.{IsFirstJob, lane_of, listed};
 
 use crate::cpu::Cpu;
-use crate::job::Job;
-use crate::outcome::{Outcome, Turn};
+use crate::machine::job::Job;
+use crate::outcome::{Outcome, Progress};
 use bpf_loader::Program;
 use bpf_shared::PlainStore;
 use std::alloc::{AllocError, Global};
@@ -55,7 +55,7 @@ pub(crate) struct Lane {
 /// The CPU's first job from a number on, or the number of all jobs where there is none.
 pub(crate) fn first_job(jobs: &[Listed], cpu: u8, from: usize) -> usize
     requires { from ≤ length jobs.now }
-    ensures { IsFirst jobs.now cpu from result }
+    ensures { IsFirstJob jobs.now cpu from result }
 {
     let mut job = from;
     while job < jobs.len() && jobs[job].cpu != cpu {
@@ -125,8 +125,8 @@ pub(crate) fn make_lanes(jobs: &[Listed], cpus: usize, room: Vec<Lane>) -> Vec<L
     requires room { cpus ≤ vec_capacity room }
     requires few { cpus ≤ 256 }
     ensures count { length result.items ≡ cpus }
-    ensures idle { (c : ℕ) → c < cpus → (lane result.items c).hand ≡ None }
-    ensures first { (c : ℕ) → c < cpus → IsFirst jobs.now c 0 (lane result.items c).next }
+    ensures idle { (c : ℕ) → c < cpus → (lane_of result.items c).hand ≡ None }
+    ensures first { (c : ℕ) → c < cpus → IsFirstJob jobs.now c 0 (lane_of result.items c).next }
 {
     let mut lanes = room;
     for cpu in 0..cpus {
@@ -156,9 +156,9 @@ impl Hand {
         }
         self.left -= 1;
         match self.cpu.step(program, store) {
-            Turn::Done(outcome) => Some(outcome),
-            Turn::On if self.left == 0 => Some(Outcome::OutOfBudget(self.cpu.pc)),
-            Turn::On => None,
+            Progress::Done(outcome) => Some(outcome),
+            Progress::On if self.left == 0 => Some(Outcome::OutOfBudget(self.cpu.pc)),
+            Progress::On => None,
         }
     }
 }

@@ -10,20 +10,20 @@ use Rattle.bpf_shared.specs.Contents.{Contents, has_cpu, is_running}
 use Rattle.bpf_loader.specs.Loaded.{Loaded}
 use Rattle.bpf_loader.specs.Places.{IsStart}
 use Rattle.bpf_cpu.specs.declared.cpu.Cpu.{Cpu}
-use Rattle.bpf_cpu.specs.declared.lane.Listed.{Listed}
-use Rattle.bpf_cpu.specs.declared.lane.Phase.{Phase}
-use Rattle.bpf_cpu.specs.declared.lane.Phase.TheVariants as phase
-use Rattle.bpf_cpu.specs.declared.lane.Hand.{Hand}
-use Rattle.bpf_cpu.specs.declared.lane.Lane.{Lane}
+use Rattle.bpf_cpu.specs.declared.machine.lane.Listed.{Listed}
+use Rattle.bpf_cpu.specs.declared.machine.lane.Phase.{Phase}
+use Rattle.bpf_cpu.specs.declared.machine.lane.Phase.TheVariants as phase
+use Rattle.bpf_cpu.specs.declared.machine.lane.Hand.{Hand}
+use Rattle.bpf_cpu.specs.declared.machine.lane.Lane.{Lane}
 use Rattle.bpf_cpu.specs.State.{start}
 use Rattle.bpf_cpu.specs.Step.{IsReady}
 use Rattle.bpf_cpu.specs.Task.{Task, InHand, with_stage}
 use Rattle.bpf_cpu.specs.Work.{IsNext}
-use Rattle.bpf_cpu.specs.Lanes.{IsFirst, lane, stage_of, task_of, tasks_of, Fits, IsHand, IsBoard}
+use Rattle.bpf_cpu.specs.Private.Lanes.{IsFirstJob, lane_of, stage_of, task_of, tasks_of, FitsLane, IsHand, IsBoard}
 use Rattle.bpf_cpu.proofs.RowLaws.{start_ready}
 use Rattle.bpf_cpu.proofs.ListLaws.{slice_get-set_same, slice_get-set_other}
-use Rattle.bpf_cpu.proofs.BoardLaws.{tasks_changed, board_changed}
-use Rattle.bpf_cpu.proofs.WorkLaws.{WaitsAt, waits_at, no_hand, is_next}
+use Rattle.bpf_cpu.proofs.Machines.BoardLaws.{tasks_changed, board_changed}
+use Rattle.bpf_cpu.proofs.Machines.WorkLaws.{WaitsAt, waits_at, no_hand, is_next}
 
 -- a program's first instruction is there to start with
 pub ready_to_start : (program : Loaded) (number : ℕ) (context : List ℕ) → IsStart program.instructions 0 → IsReady program (start number context)
@@ -40,7 +40,7 @@ module _ (store : Contents) (programs : List Loaded) (jobs : List Listed) (lanes
   pub job_within : j < length jobs
   job_within = slice_get_within jobs j at.job at.listed
 
-  none_in_hand : (lane lanes c).hand ≡ None
+  none_in_hand : (lane_of lanes c).hand ≡ None
   none_in_hand = no_hand (has_cpu store) (is_running store) programs jobs lanes board c at.within next.0
 
   pub serves : has_cpu store c ≡ true
@@ -68,8 +68,8 @@ module _ (store : Contents) (programs : List Loaded) (jobs : List Listed) (lanes
     shown : next.1.0 ≡ task_of lanes e
     shown = at.shown ∙ ap (λ (x : Listed). task_of lanes x) same
 
-    module _ (l : Lane) (was : lane lanes c ≡ l) (p : Phase) (in_hand : p ≡ phase.InHand) (state : Cpu) (started : state ≡ start c next.1.1) (n : ℕ)
-        (first : IsFirst (slice_set jobs j (record { cpu = e.cpu; program = e.program; budget = e.budget; phase = p })) c (j + 1) n) where
+    module _ (l : Lane) (was : lane_of lanes c ≡ l) (p : Phase) (in_hand : p ≡ phase.InHand) (state : Cpu) (started : state ≡ start c next.1.1) (n : ℕ)
+        (first : IsFirstJob (slice_set jobs j (record { cpu = e.cpu; program = e.program; budget = e.budget; phase = p })) c (j + 1) n) where
       abbrev e' : Listed
       e' = record { cpu = e.cpu; program = e.program; budget = e.budget; phase = p }
 
@@ -121,7 +121,7 @@ module _ (store : Contents) (programs : List Loaded) (jobs : List Listed) (lanes
             serves_same
             (λ d ne. ap (λ (f : ℕ → Bool). f d) running ∙ put-other (is_running store) c d true ne)
             (ap (λ (f : ℕ → Bool). f c) running ∙ put-same (is_running store) c c true refl)
-            (subst (λ (q : Phase). Fits l' j q) (sym in_hand) ((let a = first.above in omega arith), (h', refl, refl)))
+            (subst (λ (q : Phase). FitsLane l' j q) (sym in_hand) ((let a = first.above in omega arith), (h', refl, refl)))
             (λ v waits. (let no : phase.InHand ≡ phase.Waiting v = sym in_hand ∙ waits in cc))
             held_now
             (λ x there. first.found x (slice_get-set_other jobs j n e' (λ q. (let a = first.above in let b : n ≡ j = q in absurd (omega arith))) ∙ there))

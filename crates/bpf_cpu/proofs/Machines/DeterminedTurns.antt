@@ -13,12 +13,12 @@ use Rattle.bpf_loader.specs.Loaded.{Loaded}
 use Rattle.bpf_loader.specs.Laws.{OneInstructionBegins}
 use Rattle.bpf_mem.specs.Laws.{IsMemory, WritesAreDetermined}
 use Rattle.bpf_cpu.specs.declared.cpu.Cpu.{Cpu}
-use Rattle.bpf_cpu.specs.declared.machine.Turned.{Turned}
-use Rattle.bpf_cpu.specs.declared.outcome.Turn.{Turn}
+use Rattle.bpf_cpu.specs.declared.machine.Turn.{Turn}
+use Rattle.bpf_cpu.specs.declared.outcome.Progress.{Progress}
 use Rattle.bpf_cpu.specs.declared.outcome.Outcome.{Outcome}
 use Rattle.bpf_cpu.specs.State.{start}
 use Rattle.bpf_cpu.specs.Task.{Stage, Task, Waiting, InHand, Ended, IsAt, IsFree, NoneWaitsBelow, with_stage}
-use Rattle.bpf_cpu.specs.Schedule.{World, outcome_after, Advances, Settles, GoesOn, TakesTurn, Runs}
+use Rattle.bpf_cpu.specs.Schedule.{World, outcome_after, Advances, Settles, GoesOn, TakesTurn, RunsSchedule}
 use Rattle.bpf_cpu.specs.Laws.{IsFresh, SchedulesAreDetermined}
 use Rattle.bpf_cpu.proofs.DeterminedRuns.{start_memory, stays_sound, step_agrees, same_replies}
 use Rattle.bpf_cpu.proofs.ListLaws.{slice_get-set_same, slice_get-set_other}
@@ -76,7 +76,7 @@ module _ (law : WritesAreDetermined) (begins : OneInstructionBegins) (replies : 
       let one = same_replies law begins s.shape.maps program replies c a.0 b.0 s t u store a.3 b.3 agrees.asks in
       let same = agrees.replied one.0 in
       record {
-        ends = a.4 ∙ ap (λ (turn : Turn). outcome_after turn n new) same.turns ∙ ap (outcome_after b.1 n) same.states ∙ sym b.4;
+        ends = a.4 ∙ ap (λ (progress : Progress). outcome_after progress n new) same.turns ∙ ap (outcome_after b.1 n) same.states ∙ sym b.4;
         stores = one.1;
         states = same.states;
         lefts = a.5 ∙ sym b.5;
@@ -90,7 +90,7 @@ module _ (law : WritesAreDetermined) (begins : OneInstructionBegins) (replies : 
   after None new left = InHand new left
   after (Some end) new left = Ended end
 
-  pub record OneSettled (w : World) (c j : ℕ) (task : Task) (answer other : Turned) (y z : World) : Type 0 where
+  pub record OneSettled (w : World) (c j : ℕ) (task : Task) (answer other : Turn) (y z : World) : Type 0 where
     pub answers : answer ≡ other
     pub worlds : y ≡ z
     pub store : IsSoundStore y.store
@@ -99,7 +99,7 @@ module _ (law : WritesAreDetermined) (begins : OneInstructionBegins) (replies : 
     pub waits_not : (context : List ℕ) → stage ≡ Waiting context → ⊥
     pub jobs : y.jobs ≡ with_stage w.jobs j task stage
 
-  one_settled : (w : World) (c j : ℕ) (task : Task) (new : Cpu) (left : ℕ) (end : Option Outcome) (answer other : Turned) (y z : World) → IsSoundStore w.store → IsMemory new.memory
+  one_settled : (w : World) (c j : ℕ) (task : Task) (new : Cpu) (left : ℕ) (end : Option Outcome) (answer other : Turn) (y z : World) → IsSoundStore w.store → IsMemory new.memory
       → Settles w c j task new left end answer y → Settles w c j task new left end other z → OneSettled w c j task answer other y z
   one_settled w c j task new left None answer other y z store memory a b =
       let Q : World → Type 0 = λ w. IsSoundStore w.store in
@@ -125,7 +125,7 @@ module _ (law : WritesAreDetermined) (begins : OneInstructionBegins) (replies : 
         jobs = ap (λ (w : World). w.jobs) a.3;
       }
 
-  one_going : (w : World) (c j : ℕ) (task : Task) (old : Cpu) (left : ℕ) (answer other : Turned) (y z : World) → IsSoundStore w.store → IsMemory old.memory
+  one_going : (w : World) (c j : ℕ) (task : Task) (old : Cpu) (left : ℕ) (answer other : Turn) (y z : World) → IsSoundStore w.store → IsMemory old.memory
       → GoesOn w c j task old left answer y → GoesOn w c j task old left other z → OneSettled w c j task answer other y z
   one_going w c j task old left answer other y z store memory a b =
       let listed : Some a.0 ≡ Some b.0 = sym a.5 ∙ b.5 in
@@ -149,7 +149,7 @@ module _ (law : WritesAreDetermined) (begins : OneInstructionBegins) (replies : 
       }
 
   -- ---- a world after a turn of a CPU on its job: it has no other in hand
-  goes_on_world : (w : World) (c j : ℕ) (task : Task) (before : Stage) (answer other : Turned) (y z : World) → IsWorld w → IsAt w.jobs c j task before
+  goes_on_world : (w : World) (c j : ℕ) (task : Task) (before : Stage) (answer other : Turn) (y z : World) → IsWorld w → IsAt w.jobs c j task before
       → ((k : ℕ) (t : Task) (state : Cpu) (left : ℕ) → k ≢ j → IsAt w.jobs c k t (InHand state left) → ⊥)
       → OneSettled w c j task answer other y z → IsWorld y
   goes_on_world w c j task before answer other y z world at alone settled = record {
@@ -183,19 +183,19 @@ module _ (law : WritesAreDetermined) (begins : OneInstructionBegins) (replies : 
       one d k l t u state now left rest (Other ne h) (Other apart i) = world.one d k l t u state now left rest h i
 
   -- ---- one turn
-  pub record OneTurn (answer other : Turned) (y z : World) : Type 0 where
+  pub record OneTurn (answer other : Turn) (y z : World) : Type 0 where
     pub answers : answer ≡ other
     pub worlds : y ≡ z
     pub world : IsWorld y
 
-  settled_turn : (w : World) (c j : ℕ) (task : Task) (before : Stage) (answer other : Turned) (y z : World) → IsWorld w → IsAt w.jobs c j task before
+  settled_turn : (w : World) (c j : ℕ) (task : Task) (before : Stage) (answer other : Turn) (y z : World) → IsWorld w → IsAt w.jobs c j task before
       → ((k : ℕ) (t : Task) (state : Cpu) (left : ℕ) → k ≢ j → IsAt w.jobs c k t (InHand state left) → ⊥)
       → OneSettled w c j task answer other y z → OneTurn answer other y z
   settled_turn w c j task before answer other y z world at alone settled =
       record { answers = settled.answers; worlds = settled.worlds; world = goes_on_world w c j task before answer other y z world at alone settled }
 
   -- its job in hand
-  in_hand_turn : (w : World) (c : ℕ) (answer other : Turned) (y z : World) (j : ℕ) (task t : Task) (state now : Cpu) (left rest : ℕ) → IsWorld w
+  in_hand_turn : (w : World) (c : ℕ) (answer other : Turn) (y z : World) (j : ℕ) (task t : Task) (state now : Cpu) (left rest : ℕ) → IsWorld w
       → IsAt w.jobs c j task (InHand state left) → GoesOn w c j task state left answer y → IsAt w.jobs c j t (InHand now rest) → GoesOn w c j t now rest other z → OneTurn answer other y z
   in_hand_turn w c answer other y z j task t state now left rest world at goes at' goes' =
       let same = same_stage w.jobs c j t task (InHand now rest) (InHand state left) at' at in
@@ -209,7 +209,7 @@ module _ (law : WritesAreDetermined) (begins : OneInstructionBegins) (replies : 
       settled_turn w c j task (InHand state left) answer other y z world at (λ k u s l ne h. ne (world.one c k j u task s state l left h at)) settled
 
   -- its lowest job that waits
-  waiting_turn : (w : World) (c : ℕ) (answer other : Turned) (y z : World) (j : ℕ) (task t : Task) (context bytes : List ℕ) (s u : Plain) → IsWorld w → IsFree w.jobs c
+  waiting_turn : (w : World) (c : ℕ) (answer other : Turn) (y z : World) (j : ℕ) (task t : Task) (context bytes : List ℕ) (s u : Plain) → IsWorld w → IsFree w.jobs c
       → IsAt w.jobs c j task (Waiting context) → PlainlyAllowed w.store c Begin s → GoesOn (record w { store = s }) c j task (start c context) task.budget answer y
       → IsAt w.jobs c j t (Waiting bytes) → PlainlyAllowed w.store c Begin u → GoesOn (record w { store = u }) c j t (start c bytes) t.budget other z → OneTurn answer other y z
   waiting_turn w c answer other y z j task t context bytes s u world free at begun goes at' begun' goes' =
@@ -234,7 +234,7 @@ module _ (law : WritesAreDetermined) (begins : OneInstructionBegins) (replies : 
     ]
   ]
 
-  one_turn : (w : World) (c : ℕ) (answer other : Turned) (y z : World) → IsWorld w → TakesTurn w c answer y → TakesTurn w c other z → OneTurn answer other y z
+  one_turn : (w : World) (c : ℕ) (answer other : Turn) (y z : World) → IsWorld w → TakesTurn w c answer y → TakesTurn w c other z → OneTurn answer other y z
   one_turn w c answer other y z world (inl a) (inl b) =
       let same = world.one c b.0 a.0 b.1 a.1 b.2 a.2 b.3 a.3 b.4 a.4 in
       let P : ℕ → Type 0 = λ k. IsAt w.jobs c k b.1 (InHand b.2 b.3) in
@@ -254,12 +254,12 @@ module _ (law : WritesAreDetermined) (begins : OneInstructionBegins) (replies : 
   one_turn w c answer other y z world (inr (inr a)) (inr (inr b)) = record { answers = a.2 ∙ sym b.2; worlds = a.3 ∙ sym b.3; world = subst IsWorld (sym a.3) world }
 
   -- ---- a schedule
-  one_run : (cs : List ℕ) (w y z : World) → IsWorld w → Runs w cs y → Runs w cs z → y ≡ z
+  one_run : (cs : List ℕ) (w y z : World) → IsWorld w → RunsSchedule w cs y → RunsSchedule w cs z → y ≡ z
   one_run [] w y z world a b = a ∙ sym b
   one_run (c ∷ cs) w y z world a b =
-      let turn = one_turn w c a.0 b.0 a.1 b.1 world a.2 b.2 in
-      let P : World → Type 0 = λ m. Runs m cs z in
-      one_run cs a.1 y z turn.world a.3 (subst P (sym turn.worlds) b.3)
+      let progress = one_turn w c a.0 b.0 a.1 b.1 world a.2 b.2 in
+      let P : World → Type 0 = λ m. RunsSchedule m cs z in
+      one_run cs a.1 y z progress.world a.3 (subst P (sym progress.worlds) b.3)
 
   -- a job that waits isn't in hand
   none_in_hand : (w : World) → IsFresh w → (c j : ℕ) (task : Task) (state : Cpu) (left : ℕ) → IsAt w.jobs c j task (InHand state left) → ⊥

@@ -1,7 +1,7 @@
 use Rattle.std.proofs.Common.{◌≡◌, ℕ, ◌≤◌, ◌<◌, ◌-◌, Some, length}
 use Rattle.std.specs.Prelude.{slice_get}
-use Rattle.bpf_cpu.specs.declared.lane.Listed.{Listed}
-use Rattle.bpf_cpu.proofs.lane.first_job.Given as goal
+use Rattle.bpf_cpu.specs.declared.machine.lane.Listed.{Listed}
+use Rattle.bpf_cpu.proofs.machine.lane.first_job.Given as goal
 
 abbrev pub invariant-loop-job : goal.invariant-loop-job
 invariant-loop-job l = record {

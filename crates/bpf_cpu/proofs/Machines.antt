@@ -1,0 +1,9 @@
+-- Lemmas on the jobs of a machine, its turns and its schedules.
+pub mod AdvanceLaws
+pub mod BoardLaws
+pub mod WorkLaws
+pub mod BeginLaws
+pub mod ProceedLaws
+pub mod TurnLaws
+pub mod MadeLaws
+pub mod DeterminedTurns
