@@ -6,7 +6,7 @@ use Rattle.hop_words.specs.declared.known.About.{About}
 use Rattle.hop_words.specs.declared.known.Known.{Known}
 use Rattle.hop_words.specs.declared.known.View.{View}
 use Rattle.hop_words.specs.declared.table.HopTable.TheInside.{Inside as InTable}
-use Rattle.hop_words.specs.declared.table.Lane.TheInside.{Inside as InStepper}
+use Rattle.hop_words.specs.declared.lane.Lane.TheInside.{Inside as InStepper}
 use Rattle.hop_words.specs.Layout.{size}
 use Rattle.hop_words.specs.Rule.{solo}
 use Rattle.hop_words.specs.Step.{Tells, first_lane}
@@ -19,12 +19,13 @@ pub record Shown : Type 0 where
 abbrev pub shown : InTable → Shown
 shown t = record { id = t.table.shared.table_id; about = t.table.shared.key }
 
+-- the table has the words of the layout, and the index is that of its shape
 abbrev pub IsSized : InTable → Type 0
-IsSized t = (t.table.shared.table_id.words ≡ size t.table.shared.key.shape) × (t.table.shared.table_id.slots ≡ 0)
+IsSized t = (t.table.shared.table_id.words ≡ size t.table.shared.key.shape) × (t.table.shared.table_id.slots ≡ 0) × (t.index ≡ t.table.shared.key.shape)
 
 pub record Standing : Type 0 where
   pub table : TableId
-  pub lane : Known
+  pub known : Known
 
 abbrev pub nobody : Known
 nobody = record { cpu = 0; seen = []; fresh = []; limbo = []; locks = []; readings = []; tally = no_tally }
@@ -33,7 +34,7 @@ abbrev pub lane_of : InStepper → Known
 lane_of s = first_lane nobody s.seat.me.0.lanes
 
 abbrev pub standing : InStepper → Standing
-standing s = record { table = s.seat.table_id; lane = lane_of s }
+standing s = record { table = s.seat.table_id; known = lane_of s }
 
 -- the seat has this one CPU, and no slot
 abbrev pub IsOne : InStepper → Type 0

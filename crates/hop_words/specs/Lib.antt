@@ -1,5 +1,6 @@
 pub mod Home
 pub mod Layout
+pub mod Index
 pub mod Homes
 pub mod Content
 pub mod Ghost

@@ -2,14 +2,18 @@
 #![tactic(auto)]
 
 mod hash;
+mod index;
 mod known;
+mod lane;
 mod place;
 mod table;
 
 pub use hash::home;
+pub use index::Index;
 pub use known::{About, Change, Fresh, Known, Limbo, Lock, Peek, Reading, Sight, Tally, View};
+pub use lane::Lane;
 pub use place::Place;
-pub use table::{HopTable, Lane, OneRule, Places, Tell, Told};
+pub use table::{HopTable, OneRule};
 
 #[cfg(test)]
 mod tests;

@@ -1,0 +1,80 @@
+-- In closed form, for the code that computes where a word stands.
+use Rattle.std.proofs.Common.{◌≡◌, ℕ, zero, suc, ◌+◌, ◌*◌, ◌<◌, ◌≤◌, true, List, [], ◌∷◌, length, refl, ap, sym, ◌∙◌, arith, nat_lt, ◌&&◌}
+use Rattle.std.proofs.lemmas.Bool.Decides.{nat_tests}
+use Rattle.bpf_shared.specs.declared.shapes.MapShape.{MapShape}
+use Rattle.bpf_shared.specs.Shape.{Shape, elements}
+use Rattle.hop_words.specs.declared.place.Place.{Place}
+use Rattle.hop_words.specs.declared.place.Place.TheVariants.{RunCount, KeyCount, FreeBits, Stamp, Head, Hop, Slot, Link, KeyWord, ValueWord}
+use Rattle.hop_words.specs.Layout.{Layout, sum_below, words_in, offset, is_path, layout, at, is_place, size, words_for, free_words, segments, map_shape, segment_layout, map_layout, map_words, line_rest}
+use Rattle.hop_words.proofs.Layouts.{both}
+
+pub sum_same : (n k : ℕ) → sum_below n (λ j. k) ≡ n * k
+sum_same zero k = omega arith
+sum_same (suc n) k = let r = sum_same n k in grind arith
+
+ones : (n : ℕ) → sum_below n (λ j. 1) ≡ n
+ones n = sum_same n 1 ∙ omega arith
+
+pub at_runs : (h : Shape) (c : ℕ) → at h (RunCount c) ≡ 8 * c
+at_runs h c = let z = sum_same c 8 in omega arith
+
+module _ (h : Shape) (m : ℕ) where
+  abbrev g : MapShape
+  g = map_shape h m
+
+  pub at_bits : (i : ℕ) → at h (FreeBits m i) ≡ at h (KeyCount m) + 8 + i
+  at_bits i = let z = ones i in omega arith
+
+  pub at_first_stamp : at h (Stamp m 0) ≡ at h (KeyCount m) + 8 + free_words g + line_rest (free_words g)
+  at_first_stamp = let f = ones (free_words g) in let r = ones (line_rest (free_words g)) in omega arith
+
+  pub at_stamp : (s : ℕ) → at h (Stamp m s) ≡ at h (Stamp m 0) + 130 * s
+  at_stamp s = let t : sum_below s (λ j. words_in segment_layout) ≡ s * 130 = sum_same s 130 in omega arith
+
+  pub at_head : (s : ℕ) → at h (Head m s) ≡ at h (Stamp m 0) + 130 * s + 1
+  at_head s = let t : sum_below s (λ j. words_in segment_layout) ≡ s * 130 = sum_same s 130 in omega arith
+
+  pub at_hop : (s b : ℕ) → at h (Hop m s b) ≡ at h (Stamp m 0) + 130 * s + 2 + 2 * b
+  at_hop s b = let t : sum_below s (λ j. words_in segment_layout) ≡ s * 130 = sum_same s 130 in let u = sum_same b 2 in omega arith
+
+  pub at_slot : (s b : ℕ) → at h (Slot m s b) ≡ at h (Stamp m 0) + 130 * s + 3 + 2 * b
+  at_slot s b = let t : sum_below s (λ j. words_in segment_layout) ≡ s * 130 = sum_same s 130 in let u = sum_same b 2 in omega arith
+
+  pub at_first_link : at h (Link m 0) ≡ at h (Stamp m 0) + 130 * segments g
+  at_first_link = let t : sum_below (segments g) (λ j. words_in segment_layout) ≡ segments g * 130 = sum_same (segments g) 130 in omega arith
+
+  pub at_link : (e : ℕ) → at h (Link m e) ≡ at h (Link m 0) + e
+  at_link e = let z = ones e in omega arith
+
+  pub at_first_key : at h (KeyWord m 0 0) ≡ at h (Link m 0) + elements g
+  at_first_key = let z = ones (elements g) in omega arith
+
+  pub at_key : (e k : ℕ) → at h (KeyWord m e k) ≡ at h (KeyWord m 0 0) + e * words_for g.key + k
+  at_key e k = let w = ones (words_for g.key) in let n = ones k in
+      let t : sum_below e (λ j. sum_below (words_for g.key) (λ i. 1)) ≡ e * sum_below (words_for g.key) (λ i. 1) = sum_same e (sum_below (words_for g.key) (λ i. 1)) in
+      let u : e * sum_below (words_for g.key) (λ i. 1) ≡ e * words_for g.key = ap (λ (x : ℕ). e * x) w in omega arith
+
+  pub at_first_value : at h (ValueWord m 0 0) ≡ at h (KeyWord m 0 0) + elements g * words_for g.key
+  at_first_value = let w = ones (words_for g.key) in
+      let t : sum_below (elements g) (λ j. sum_below (words_for g.key) (λ i. 1)) ≡ elements g * sum_below (words_for g.key) (λ i. 1) = sum_same (elements g) (sum_below (words_for g.key) (λ i. 1)) in
+      let u : elements g * sum_below (words_for g.key) (λ i. 1) ≡ elements g * words_for g.key = ap (λ (x : ℕ). elements g * x) w in omega arith
+
+  pub at_value : (e k : ℕ) → at h (ValueWord m e k) ≡ at h (ValueWord m 0 0) + e * words_for g.value + k
+  at_value e k = let w = ones (words_for g.value) in let n = ones k in
+      let t : sum_below e (λ j. sum_below (words_for g.value) (λ i. 1)) ≡ e * sum_below (words_for g.value) (λ i. 1) = sum_same e (sum_below (words_for g.value) (λ i. 1)) in
+      let u : e * sum_below (words_for g.value) (λ i. 1) ≡ e * words_for g.value = ap (λ (x : ℕ). e * x) w in omega arith
+
+  pub at_next : at h (KeyCount (suc m)) ≡ at h (ValueWord m 0 0) + elements g * words_for g.value + line_rest (map_words g)
+  at_next = let w = ones (words_for g.value) in let r = ones (line_rest (map_words g)) in
+      let t : sum_below (elements g) (λ j. sum_below (words_for g.value) (λ i. 1)) ≡ elements g * sum_below (words_for g.value) (λ i. 1) = sum_same (elements g) (sum_below (words_for g.value) (λ i. 1)) in
+      let u : elements g * sum_below (words_for g.value) (λ i. 1) ≡ elements g * words_for g.value = ap (λ (x : ℕ). elements g * x) w in omega arith
+
+pub at_end : (h : Shape) → size h ≡ at h (KeyCount (length h.maps))
+at_end h = omega arith
+
+pub at_start : (h : Shape) → at h (KeyCount 0) ≡ 8 * h.cpus
+at_start h = let z = sum_same h.cpus 8 in omega arith
+
+-- ---- the parts of a place of a map
+pub map_there : (h : Shape) (m : ℕ) (p : List ℕ) → is_path (layout h) (1 ∷ m ∷ p) ≡ true → m < length h.maps
+map_there h m p e = let b = both (nat_lt m (length h.maps)) (is_path (map_layout (map_shape h m)) p) e in (let t = b.0 in grind (arith, nat_tests))

@@ -1,0 +1,169 @@
+//! The right of one CPU to step on the words, and the steps of the table that all kinds of step are made of.
+ghost use Rattle.std.specs.Prelude.{◌≡◌, ◌==◌, true, ℕ, ◌+◌, ◌%◌, ◌^◌, bit_and, bit_or};
+ghost use prog.Atomic.{either};
+ghost use Rattle.hop_words.specs.Layout.{is_place};
+ghost use Rattle.hop_words.specs.Step.{Steps};
+
+use crate::known::View;
+use crate::place::Place;
+use crate::table::HopTable;
+use atomic_table::{Play, Seat};
+use std::marker::{Brand, Model, PhantomData};
+
+/// The right of one CPU to step, with its number. It is seen as all that the CPU knows.
+#[derive(Drop)]
+pub struct Lane {
+    pub(crate) cpu: u8,
+    pub(crate) seat: Seat<(), View>,
+}
+
+impl Model for Lane {
+    ghost use Rattle.hop_words.specs.Inside.{Standing, standing, IsOne};
+
+    ghost Value = { Standing };
+
+    ghost view = { standing };
+
+    ghost invariant = { IsOne };
+}
+
+// What a step tells: each kind picks it.
+pub(crate) trait Tell {
+    ghost use Rattle.hop_words.specs.declared.known.Known.{Known};
+
+    ghost told: { ℕ → Known → Type 0 };
+}
+
+impl Tell for Brand {
+    ghost told = { λ n l. Unit {0} };
+}
+
+pub(crate) struct Told<E> {
+    of: PhantomData<E>,
+}
+
+impl<E: Tell> Play<(), View> for Told<E> {
+    ghost use Rattle.hop_words.specs.Inside.{tells};
+
+    ghost then = { tells E.told };
+}
+
+// Each takes what its kind says besides, which the choice of what it tells may name.
+impl Lane {
+    pub(crate) fn load_by<E: Tell, T: Copy>(
+        &mut self,
+        table: &HopTable,
+        place: Place,
+        _said: T,
+    ) -> u64
+        requires table { self.old.table ≡ table.now.id }
+        requires place { is_place table.now.about.shape place ≡ true }
+        requires step { Steps table.now.about self.old.known place (λ n. n) (λ ws n l. E.told n l) }
+        ensures table { self.new.table ≡ self.old.table }
+        ensures told { E.told result self.new.known }
+    {
+        let word = table.word_of(place);
+        table.table.shared.load::<Told<E>>(&mut self.seat, word)
+    }
+
+    pub(crate) fn store_by<E: Tell, T: Copy>(
+        &mut self,
+        table: &HopTable,
+        place: Place,
+        new: u64,
+        _said: T,
+    )
+        requires table { self.old.table ≡ table.now.id }
+        requires place { is_place table.now.about.shape place ≡ true }
+        requires step { Steps table.now.about self.old.known place (λ _. new) (λ ws n l. E.told new l) }
+        ensures table { self.new.table ≡ self.old.table }
+        ensures told { E.told new self.new.known }
+    {
+        let word = table.word_of(place);
+        table
+            .table
+            .shared
+            .store::<Told<E>>(&mut self.seat, word, new);
+    }
+
+    pub(crate) fn exchange_by<E: Tell, T: Copy>(
+        &mut self,
+        table: &HopTable,
+        place: Place,
+        old: u64,
+        new: u64,
+        _said: T,
+    ) -> u64
+        requires table { self.old.table ≡ table.now.id }
+        requires place { is_place table.now.about.shape place ≡ true }
+        requires step { Steps table.now.about self.old.known place (λ n. either (n == old) new n) (λ ws n l. E.told n l) }
+        ensures table { self.new.table ≡ self.old.table }
+        ensures told { E.told result self.new.known }
+    {
+        let word = table.word_of(place);
+        table
+            .table
+            .shared
+            .compare_exchange::<Told<E>>(&mut self.seat, word, old, new)
+    }
+
+    pub(crate) fn and_by<E: Tell, T: Copy>(
+        &mut self,
+        table: &HopTable,
+        place: Place,
+        mask: u64,
+        _said: T,
+    ) -> u64
+        requires table { self.old.table ≡ table.now.id }
+        requires place { is_place table.now.about.shape place ≡ true }
+        requires step { Steps table.now.about self.old.known place (λ n. bit_and n mask) (λ ws n l. E.told n l) }
+        ensures table { self.new.table ≡ self.old.table }
+        ensures told { E.told result self.new.known }
+    {
+        let word = table.word_of(place);
+        table
+            .table
+            .shared
+            .fetch_and::<Told<E>>(&mut self.seat, word, mask)
+    }
+
+    pub(crate) fn or_by<E: Tell, T: Copy>(
+        &mut self,
+        table: &HopTable,
+        place: Place,
+        mask: u64,
+        _said: T,
+    ) -> u64
+        requires table { self.old.table ≡ table.now.id }
+        requires place { is_place table.now.about.shape place ≡ true }
+        requires step { Steps table.now.about self.old.known place (λ n. bit_or n mask) (λ ws n l. E.told n l) }
+        ensures table { self.new.table ≡ self.old.table }
+        ensures told { E.told result self.new.known }
+    {
+        let word = table.word_of(place);
+        table
+            .table
+            .shared
+            .fetch_or::<Told<E>>(&mut self.seat, word, mask)
+    }
+
+    pub(crate) fn add_by<E: Tell, T: Copy>(
+        &mut self,
+        table: &HopTable,
+        place: Place,
+        more: u64,
+        _said: T,
+    ) -> u64
+        requires table { self.old.table ≡ table.now.id }
+        requires place { is_place table.now.about.shape place ≡ true }
+        requires step { Steps table.now.about self.old.known place (λ n. (n + more) % 2 ^ 64) (λ ws n l. E.told n l) }
+        ensures table { self.new.table ≡ self.old.table }
+        ensures told { E.told result self.new.known }
+    {
+        let word = table.word_of(place);
+        table
+            .table
+            .shared
+            .fetch_add::<Told<E>>(&mut self.seat, word, more)
+    }
+}
