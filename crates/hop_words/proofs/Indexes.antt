@@ -1,11 +1,10 @@
 -- In closed form, for the code that computes where a word stands.
-use Rattle.std.proofs.Common.{◌≡◌, ℕ, zero, suc, ◌+◌, ◌*◌, ◌<◌, ◌≤◌, true, List, [], ◌∷◌, length, refl, ap, sym, ◌∙◌, arith, nat_lt, ◌&&◌}
+use Rattle.std.proofs.Common.{◌≡◌, ℕ, zero, suc, ◌+◌, ◌*◌, ◌<◌, true, List, ◌∷◌, length, ap, ◌∙◌, arith, nat_lt}
 use Rattle.std.proofs.lemmas.Bool.Decides.{nat_tests}
 use Rattle.bpf_shared.specs.declared.shapes.MapShape.{MapShape}
 use Rattle.bpf_shared.specs.Shape.{Shape, elements}
-use Rattle.hop_words.specs.declared.place.Place.{Place}
 use Rattle.hop_words.specs.declared.place.Place.TheVariants.{RunCount, KeyCount, FreeBits, Stamp, Head, Hop, Slot, Link, KeyWord, ValueWord}
-use Rattle.hop_words.specs.Layout.{Layout, sum_below, words_in, offset, is_path, layout, at, is_place, size, words_for, free_words, segments, map_shape, segment_layout, map_layout, map_words, line_rest}
+use Rattle.hop_words.specs.Layout.{sum_below, words_in, is_path, layout, at, size, words_for, free_words, segments, map_shape, segment_layout, map_layout, map_words, line_rest}
 use Rattle.hop_words.proofs.Layouts.{both}
 
 pub sum_same : (n k : ℕ) → sum_below n (λ j. k) ≡ n * k

@@ -7,6 +7,7 @@ pub mod Ghost
 pub mod Rule
 pub mod Step
 pub mod Kinds
+pub mod Owning
 pub mod Opens
 pub mod Seats
 pub mod SegContract

@@ -5,7 +5,9 @@ mod hash;
 mod index;
 mod known;
 mod lane;
+mod owning;
 mod place;
+mod running;
 mod table;
 
 pub use hash::home;

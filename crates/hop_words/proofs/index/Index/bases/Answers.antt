@@ -1,6 +1,5 @@
-use Rattle.std.proofs.Common.{◌≡◌, ℕ, ◌<◌, ap, sym, subst, ◌∙◌, length, slice_index_or}
+use Rattle.std.proofs.Common.{ℕ, ◌<◌, ap, sym, subst, ◌∙◌, length, slice_index_or}
 use Rattle.bpf_shared.specs.Shape.{Shape}
-use Rattle.hop_words.specs.declared.index.Bases.{Bases}
 use Rattle.hop_words.specs.Index.{bases}
 use Rattle.std.proofs.lemmas.Option.{get_or_from_slice_get}
 use Rattle.hop_words.proofs.index.Index.bases.Goals as goal

@@ -1,4 +1,4 @@
-use Rattle.std.proofs.Common.{◌≡◌, ℕ, ◌+◌, ◌*◌, ap, sym, ◌∙◌}
+use Rattle.std.proofs.Common.{◌+◌, ◌*◌, ap, sym, ◌∙◌}
 use Rattle.hop_words.specs.declared.index.Bases.{Bases}
 use Rattle.hop_words.proofs.Indexes.{at_stamp}
 use Rattle.hop_words.proofs.index.Index.segment.Goals as goal

@@ -1,6 +1,5 @@
-use Rattle.std.proofs.Common.{◌≡◌, ℕ, ◌+◌, ◌*◌, ap, sym, ◌∙◌}
+use Rattle.std.proofs.Common.{ℕ, ◌+◌, ◌*◌, ap, sym, ◌∙◌}
 use Rattle.hop_words.specs.declared.index.Bases.{Bases}
-use Rattle.hop_words.specs.declared.place.Place.{Place}
 use Rattle.hop_words.specs.Layout.{at}
 use Rattle.hop_words.proofs.Indexes.{at_runs, at_bits, at_stamp, at_hop, at_slot, at_link, at_key, at_value}
 use Rattle.hop_words.proofs.index.Index.word_of.Goals as goal

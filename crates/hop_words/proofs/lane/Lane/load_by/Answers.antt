@@ -1,8 +1,7 @@
-use Rattle.std.proofs.Common.{◌≡◌, ℕ, true, ◌==◌, ◌<◌, ◌+◌, ◌%◌, ◌^◌, ap, sym, subst, ◌∙◌, bit_and, bit_or}
+use Rattle.std.proofs.Common.{◌≡◌, ℕ, true, ◌<◌, ap, sym, subst, ◌∙◌}
 use mathlib.Core.Option.{none}
-use prog.Atomic.{either}
 use Rattle.atomic_table.specs.Table.{step}
-use Rattle.hop_words.specs.Layout.{at, is_place, size}
+use Rattle.hop_words.specs.Layout.{at, is_place}
 use Rattle.hop_words.specs.Step.{Steps}
 use Rattle.hop_words.specs.Inside.{Shown, Standing, lane_of}
 use Rattle.hop_words.proofs.Layouts.{at_inside}

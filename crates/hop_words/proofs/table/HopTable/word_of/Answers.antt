@@ -1,4 +1,4 @@
-use Rattle.std.proofs.Common.{◌≡◌, ap, ◌∙◌}
+use Rattle.std.proofs.Common.{ap, ◌∙◌}
 use Rattle.bpf_shared.specs.Shape.{Shape}
 use Rattle.hop_words.specs.Layout.{at}
 use Rattle.hop_words.specs.Inside.{Shown}

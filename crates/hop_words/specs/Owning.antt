@@ -1,0 +1,58 @@
+-- What the steps on elements and run counters ask of what a CPU knows, and what they make of it.
+use Rattle.std.specs.Prelude.{◌≡◌, ℕ, ◌/◌, ◌%◌, ◌<◌, List, [], ◌∷◌, ◌++◌, length, slice_index}
+use Rattle.std.specs.Int.{bit_at}
+use Rattle.hop_words.specs.declared.known.About.{About}
+use Rattle.hop_words.specs.declared.known.Known.{Known}
+use Rattle.hop_words.specs.declared.known.Fresh.{Fresh}
+use Rattle.hop_words.specs.declared.known.Sight.{Sight}
+use Rattle.hop_words.specs.declared.known.Sight.TheVariants.{Bits, Runs}
+use Rattle.hop_words.specs.Layout.{free_words}
+use Rattle.hop_words.specs.Ghost.{shape_at, limbo_at}
+use Rattle.hop_words.specs.Kinds.{holding, cleared}
+
+-- one thing more was seen
+abbrev pub sighted : Known → Sight → Known
+sighted l s = record l { tally = record l.tally { sights = s ∷ l.tally.sights } }
+
+-- the word is one of the map's words of free bits
+abbrev pub IsFreeWord : About → ℕ → ℕ → Type 0
+IsFreeWord a m i = (m < length a.shape.maps) × (i < free_words (shape_at a m))
+
+-- where the bit was set the element is in hand from now on, else it was seen not free
+abbrev pub Claims : Known → ℕ → ℕ → ℕ → Known → Type 0
+Claims l m e found l' =
+    (bit_at found (e % 64) ≡ 1 → l' ≡ sighted (holding l m e) (Bits m (e / 64) found))
+    × (bit_at found (e % 64) ≡ 0 → l' ≡ sighted l (Bits m (e / 64) found))
+
+-- all but the first
+abbrev pub behind : {A : Type 0} → List A → List A
+behind [] = []
+behind (x ∷ xs) = xs
+
+-- the element is the first in hand
+abbrev pub IsInHand : Known → ℕ → ℕ → Type 0
+IsInHand l m e = (f : Fresh) × (l.fresh ≡ f ∷ behind l.fresh) × (f.map ≡ m) × (f.element ≡ e)
+
+-- how many words of its key, and of its value, the first element in hand has
+abbrev pub key_filled : List Fresh → ℕ
+key_filled [] = 0
+key_filled (f ∷ fs) = length f.key
+
+abbrev pub value_filled : List Fresh → ℕ
+value_filled [] = 0
+value_filled (f ∷ fs) = length f.value
+
+-- the first element in hand has one word more
+abbrev pub with_key_word : List Fresh → ℕ → List Fresh
+with_key_word [] n = []
+with_key_word (f ∷ fs) n = record f { key = f.key ++ n ∷ [] } ∷ fs
+
+abbrev pub with_value_word : List Fresh → ℕ → List Fresh
+with_value_word [] n = []
+with_value_word (f ∷ fs) n = record f { value = f.value ++ n ∷ [] } ∷ fs
+
+-- a counter that isn't the one noted is noted as even from now on
+abbrev pub LooksAgain : Known → ℕ → ℕ → ℕ → Known → Type 0
+LooksAgain l m d found l' =
+    (found ≡ slice_index (limbo_at l.limbo m).noted d → l' ≡ sighted l (Runs d found))
+    × ((found ≡ slice_index (limbo_at l.limbo m).noted d → ⊥) → l' ≡ sighted (cleared l m d) (Runs d found))

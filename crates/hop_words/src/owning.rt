@@ -1,0 +1,145 @@
+//! The steps on elements: seeing, claiming and giving back their free bits, and writing the words of
+//! one's own.
+ghost use Rattle.std.specs.Prelude.{◌≡◌, ◌<◌, ◌-◌, ◌/◌, ◌%◌, ◌^◌, [], ◌∷◌, length};
+ghost use Rattle.hop_words.specs.declared.known.Sight.TheVariants.{Bits};
+ghost use Rattle.hop_words.specs.Layout.{words_for};
+ghost use Rattle.hop_words.specs.Ghost.{shape_at, IsElement, limbo_at};
+ghost use Rattle.hop_words.specs.Rule.{link_to};
+ghost use Rattle.hop_words.specs.Kinds.{Passed, giving_old, retiring};
+ghost use Rattle.hop_words.specs.Owning.{IsFreeWord, sighted, Claims, IsInHand, behind, key_filled, value_filled, with_key_word, with_value_word};
+
+use crate::lane::Lane;
+use crate::place::Place;
+use crate::table::HopTable;
+use std::marker::Brand;
+
+// The bit of an element in its word.
+fn bit_of(element: u32) -> u64
+    ensures { result ≡ 2 ^ (element % 64) }
+{
+    1 << (element % 64)
+}
+
+// All bits of the word but the element's.
+fn all_but(element: u32) -> u64
+    ensures { result ≡ 2 ^ 64 - 1 - 2 ^ (element % 64) }
+{
+    !bit_of(element)
+}
+
+impl Lane {
+    /// Which of 64 elements are free: one load.
+    pub fn see_bits(&mut self, table: &HopTable, map: u8, word: u32) -> u64
+        requires table { self.old.table ≡ table.now.id }
+        requires inside { IsFreeWord table.now.about map word }
+        ensures table { self.new.table ≡ self.old.table }
+        ensures seen { self.new.known ≡ sighted self.old.known (Bits map word result) }
+    {
+        self.load_by::<Brand, _>(table, Place::FreeBits { map, word }, (map, word))
+    }
+
+    /// Takes an element if it is free, by one fetch-and, and answers the bits found.
+    pub fn claim_bit(&mut self, table: &HopTable, map: u8, element: u32) -> u64
+        requires table { self.old.table ≡ table.now.id }
+        requires element { IsElement table.now.about map element }
+        requires unlocked { self.old.known.locks ≡ [] }
+        ensures table { self.new.table ≡ self.old.table }
+        ensures claimed { Claims self.old.known map element result self.new.known }
+    {
+        let word = element / 64;
+        let mask = all_but(element);
+        self.and_by::<Brand, _>(table, Place::FreeBits { map, word }, mask, (map, element))
+    }
+
+    /// Gives back the element in hand, which nobody else has seen.
+    pub fn give_bit(&mut self, table: &HopTable, map: u8, element: u32)
+        requires table { self.old.table ≡ table.now.id }
+        requires element { IsElement table.now.about map element }
+        requires hand { IsInHand self.old.known map element }
+        ensures table { self.new.table ≡ self.old.table }
+        ensures given { self.new.known ≡ record self.old.known { fresh = behind self.old.known.fresh } }
+    {
+        let word = element / 64;
+        let bit = bit_of(element);
+        self.or_by::<Brand, _>(table, Place::FreeBits { map, word }, bit, map);
+    }
+
+    /// Gives back the first element of the old batch, which no running CPU can hold.
+    pub fn give_old_bit(&mut self, table: &HopTable, map: u8, element: u32)
+        requires table { self.old.table ≡ table.now.id }
+        requires element { IsElement table.now.about map element }
+        requires room { map < length self.old.known.limbo }
+        requires even { table.now.about.count % 2 ≡ 0 }
+        requires passed { Passed table.now.about self.old.known map element (behind (limbo_at self.old.known.limbo map).old) }
+        ensures table { self.new.table ≡ self.old.table }
+        ensures given { self.new.known ≡ giving_old self.old.known map (behind (limbo_at self.old.known.limbo map).old) }
+    {
+        let word = element / 64;
+        let bit = bit_of(element);
+        self.or_by::<Brand, _>(table, Place::FreeBits { map, word }, bit, map);
+    }
+
+    /// Writes the next word of the key of the element in hand.
+    pub fn fill_key_word(&mut self, table: &HopTable, map: u8, element: u32, word: u32, number: u64)
+        requires table { self.old.table ≡ table.now.id }
+        requires element { IsElement table.now.about map element }
+        requires hand { IsInHand self.old.known map element }
+        requires unlocked { self.old.known.locks ≡ [] }
+        requires next { word ≡ key_filled self.old.known.fresh }
+        requires room { word < words_for (shape_at table.now.about map).key }
+        ensures table { self.new.table ≡ self.old.table }
+        ensures filled { self.new.known ≡ record self.old.known { fresh = with_key_word self.old.known.fresh number } }
+    {
+        let place = Place::KeyWord { map, element, word };
+        self.store_by::<Brand, _>(table, place, number, ());
+    }
+
+    /// Writes the next word of the value of the element in hand.
+    pub fn fill_value_word(
+        &mut self,
+        table: &HopTable,
+        map: u8,
+        element: u32,
+        word: u32,
+        number: u64,
+    )
+        requires table { self.old.table ≡ table.now.id }
+        requires element { IsElement table.now.about map element }
+        requires hand { IsInHand self.old.known map element }
+        requires unlocked { self.old.known.locks ≡ [] }
+        requires next { word ≡ value_filled self.old.known.fresh }
+        requires room { word < words_for (shape_at table.now.about map).value }
+        ensures table { self.new.table ≡ self.old.table }
+        ensures filled { self.new.known ≡ record self.old.known { fresh = with_value_word self.old.known.fresh number } }
+    {
+        let place = Place::ValueWord { map, element, word };
+        self.store_by::<Brand, _>(table, place, number, ());
+    }
+
+    /// Links the used element in hand before the first of the young batch, whose word of a link this is.
+    pub fn retire_used(&mut self, table: &HopTable, map: u8, element: u32, link: u64)
+        requires table { self.old.table ≡ table.now.id }
+        requires element { IsElement table.now.about map element }
+        requires room { map < length self.old.known.limbo }
+        requires unlocked { self.old.known.locks ≡ [] }
+        requires used { (limbo_at self.old.known.limbo map).used ≡ element ∷ behind (limbo_at self.old.known.limbo map).used }
+        requires link { link ≡ link_to (limbo_at self.old.known.limbo map).young }
+        ensures table { self.new.table ≡ self.old.table }
+        ensures retired { self.new.known ≡ retiring self.old.known map element (behind (limbo_at self.old.known.limbo map).used) }
+    {
+        let place = Place::Link { map, element };
+        self.store_by::<Brand, _>(table, place, link, (map, element));
+    }
+
+    /// Reads the link of the first element of the old batch.
+    pub fn read_old_link(&mut self, table: &HopTable, map: u8, element: u32) -> u64
+        requires table { self.old.table ≡ table.now.id }
+        requires element { IsElement table.now.about map element }
+        requires old { (limbo_at self.old.known.limbo map).old ≡ element ∷ behind (limbo_at self.old.known.limbo map).old }
+        ensures table { self.new.table ≡ self.old.table }
+        ensures link { result ≡ link_to (behind (limbo_at self.old.known.limbo map).old) }
+        ensures same { self.new.known ≡ self.old.known }
+    {
+        self.load_by::<Brand, _>(table, Place::Link { map, element }, map)
+    }
+}
