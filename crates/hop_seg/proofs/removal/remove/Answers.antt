@@ -1,0 +1,21 @@
+use Rattle.std.proofs.Common.{◌≡◌, ◌<◌, ℕ, List, sym, subst, ap, ◌∙◌}
+use Rattle.hop_seg.specs.Words.{Words}
+use Rattle.hop_seg.specs.Places.{bucket_of}
+use Rattle.hop_seg.specs.Content.{Loses}
+use Rattle.hop_seg.specs.Edits.{item_taken}
+use Rattle.hop_seg.specs.Spots.{bucket_for, IsKeyed, IsSpot}
+use Rattle.hop_seg.proofs.Placing.{take_loses}
+use Rattle.hop_seg.proofs.removal.remove.Goals as goal
+
+pub returns-in-Near-clause-loses : goal.returns-in-Near-clause-loses
+returns-in-Near-clause-loses g c =
+    let w = g.S.SegWords.words c.args.words.now in
+    let d = c.in-Near.distance in
+    let e = c.in-Near.element in
+    let b = bucket_for w c.args.key.now in
+    let near : IsKeyed w b c.args.key.now d e = subst (IsSpot w c.args.key.now) c.in-Near.is c.in-Some.ensures.found in
+    let bucket : c.bucket_of.result ≡ b = c.bucket_of.ensures.value ∙ ap bucket_of c.requires.home in
+    let small : b < 64 = subst (λ (x : ℕ). x < 64) bucket c.bucket_of.ensures.in_range in
+    let taken : g.S.SegWords.words c.take_item.new.words ≡ item_taken w b d = c.take_item.ensures.words ∙ (ap (λ (v : Words). item_taken v c.bucket_of.result d) c.spot.ensures.same ∙ ap (λ (x : ℕ). item_taken w x d) bucket) in
+    subst (λ (v : Words). Loses w v c.args.key.now e) (sym taken)
+    (subst (λ (k : List ℕ). Loses w (item_taken w b d) k e) near.1 (take_loses w c.requires.sound b d e small near.0.near near.0.bit near.0.slot))

@@ -1,0 +1,9 @@
+pub mod Places
+pub mod Words
+pub mod Segment
+pub mod Content
+pub mod Spots
+pub mod Edits
+pub mod Moves
+pub mod Plain
+pub mod Split
