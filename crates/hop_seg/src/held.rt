@@ -56,7 +56,8 @@ pub(crate) fn next<S: SegWords>(words: &mut S, element: u32) -> Option<u32>
 pub(crate) fn spot<S: SegWords>(words: &mut S, key: &[u8], home: u32) -> Option<Spot>
     requires sound { Sound (S.words words.old) }
     requires home { home ≡ (S.words words.old).fixed.home key.now }
-    ensures found { MatchOption result (IsAbsent (S.words words.old) key.now) (IsSpot (S.words words.old) key.now) }
+    ensures found { MatchOption result (IsAbsent (S.words words.old) key.now)
+        (IsSpot (S.words words.old) key.now) }
     ensures same { S.words words.new ≡ S.words words.old }
     ensures stays { S.stays words.old words.new }
 {

@@ -37,7 +37,8 @@ pub fn insert<S: SegWords>(words: &mut S, element: u32, home: u32) -> Landing
     requires own { IsOwn (S.words words.old).fixed element }
     requires home { home ≡ (S.words words.old).fixed.home (key_at (S.words words.old) element) }
     requires absent { IsAbsent (S.words words.old) (key_at (S.words words.old) element) }
-    ensures gains { Gains (S.words words.old) (S.words words.new) (key_at (S.words words.old) element) element }
+    ensures gains { Gains (S.words words.old) (S.words words.new)
+        (key_at (S.words words.old) element) element }
     ensures landed { Landed (S.words words.new) element result }
     ensures stays { S.stays words.old words.new }
 {

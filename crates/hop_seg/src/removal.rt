@@ -67,7 +67,8 @@ pub fn replace<S: SegWords>(words: &mut S, key: &[u8], home: u32, new: u32) -> u
 fn unlink<S: SegWords>(words: &mut S, before: Option<u32>, element: u32)
     requires sound { Sound (S.words words.old) }
     requires link { IsLink (S.words words.old) before element }
-    ensures loses { Loses (S.words words.old) (S.words words.new) (key_at (S.words words.old) element) element }
+    ensures loses { Loses (S.words words.old) (S.words words.new)
+        (key_at (S.words words.old) element) element }
     ensures stays { S.stays words.old words.new }
 {
     let following = next(words, element);
@@ -81,7 +82,8 @@ fn relink<S: SegWords>(words: &mut S, before: Option<u32>, element: u32, new: u3
     requires own { IsOwn (S.words words.old).fixed new }
     requires keyed { key_at (S.words words.old) new ≡ key_at (S.words words.old) element }
     requires fresh { IsLinked (S.words words.old) new → ⊥ }
-    ensures changes { Changes (S.words words.old) (S.words words.new) (key_at (S.words words.old) element) element new }
+    ensures changes { Changes (S.words words.old) (S.words words.new)
+        (key_at (S.words words.old) element) element new }
     ensures stays { S.stays words.old words.new }
 {
     let following = next(words, element);

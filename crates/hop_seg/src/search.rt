@@ -72,7 +72,8 @@ fn locate_near<S: SegReads>(words: &mut S, key: &[u8], bucket: usize) -> Option<
 fn keyed_item<S: SegReads>(words: &mut S, key: &[u8], bucket: usize, distance: usize) -> Option<u32>
     requires bucket { bucket < 64 }
     requires distance { distance < 32 }
-    ensures found { (w : Words) → S.agrees words.new w → Sound w → bit_at (w.hop bucket) distance ≡ 1 →
+    ensures found { (w : Words) → S.agrees words.new w → Sound w →
+        bit_at (w.hop bucket) distance ≡ 1 →
         MatchOption result (NoneAt w bucket key.now distance) (IsKeyed w bucket key.now distance) }
     ensures rests { S.rests words.old words.new }
 {

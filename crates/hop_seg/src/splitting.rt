@@ -27,7 +27,8 @@ pub trait ChildWords: SegWords {
     /// The home of the element's key.
     fn home(&mut self, element: u32) -> u32
         requires { IsKnown (Self.words self.old).fixed element }
-        ensures value { result ≡ (Self.words self.old).fixed.home (key_at (Self.words self.old) element) }
+        ensures value { result ≡ (Self.words self.old).fixed.home
+            (key_at (Self.words self.old) element) }
         ensures same { Self.words self.new ≡ Self.words self.old }
         ensures stays { Self.stays self.old self.new };
 
@@ -41,13 +42,19 @@ pub trait ChildWords: SegWords {
     fn set_child_hop(&mut self, bucket: usize, bits: u32)
         requires { bucket < 64 }
         ensures words { Self.words self.new ≡ Self.words self.old }
-        ensures child { child self.new ≡ record (child self.old) { hop = put (child self.old).hop bucket bits } }
+        ensures child { child self.new ≡ record (child self.old) {
+          hop = put (child self.old).hop
+              bucket bits;
+        } }
         ensures stays { stays_beside self.old self.new };
 
     fn set_child_slot(&mut self, place: usize, item: Option<u32>)
         requires { place < 64 }
         ensures words { Self.words self.new ≡ Self.words self.old }
-        ensures child { child self.new ≡ record (child self.old) { slot = put (child self.old).slot place item } }
+        ensures child { child self.new ≡ record (child self.old) {
+          slot = put
+              (child self.old).slot place item;
+        } }
         ensures stays { stays_beside self.old self.new };
 
     fn child_head(&mut self) -> Option<u32>
@@ -66,7 +73,8 @@ pub trait ChildWords: SegWords {
 
     ghost stays_too: { (x y : Self) → Self.stays x y → stays_beside x y };
 
-    ghost stays_beside_on: { (x y z : Self) → stays_beside x y → stays_beside y z → stays_beside x z };
+    ghost stays_beside_on: { (x y z : Self) →
+        stays_beside x y → stays_beside y z → stays_beside x z };
 }
 
 /// Splits a segment of this depth. The child has no items yet.
@@ -87,8 +95,10 @@ fn split_places<C: ChildWords>(words: &mut C, depth: u32)
     requires parted { Parted (C.words words.old) (C.child words.old) }
     requires depth { depth ≡ (C.words words.old).fixed.depth }
     requires small { depth < 32 }
-    ensures hands { Hands (C.words words.old) (C.child words.old) (C.words words.new) (C.child words.new) }
-    ensures none { (p e : ℕ) → p < 64 → (C.words words.new).slot p ≡ Some e → Remains (C.words words.new).fixed e }
+    ensures hands { Hands (C.words words.old) (C.child words.old) (C.words words.new)
+        (C.child words.new) }
+    ensures none { (p e : ℕ) → p < 64 → (C.words words.new).slot p ≡ Some e → Remains
+        (C.words words.new).fixed e }
     ensures stays { C.stays_beside words.old words.new }
 {
     for place in 0..PLACES {
@@ -102,8 +112,10 @@ fn split_place<C: ChildWords>(words: &mut C, depth: u32, place: usize)
     requires depth { depth ≡ (C.words words.old).fixed.depth }
     requires small { depth < 32 }
     requires place { place < 64 }
-    ensures hands { Hands (C.words words.old) (C.child words.old) (C.words words.new) (C.child words.new) }
-    ensures none { (e : ℕ) → (C.words words.new).slot place ≡ Some e → Remains (C.words words.new).fixed e }
+    ensures hands { Hands (C.words words.old) (C.child words.old) (C.words words.new)
+        (C.child words.new) }
+    ensures none { (e : ℕ) → (C.words words.new).slot place ≡ Some e → Remains
+        (C.words words.new).fixed e }
     ensures stays { C.stays_beside words.old words.new }
 {
     let Some(element) = slot(words, place) else {
@@ -148,7 +160,8 @@ fn split_list<C: ChildWords>(words: &mut C, depth: u32)
     requires parted { Parted (C.words words.old) (C.child words.old) }
     requires depth { depth ≡ (C.words words.old).fixed.depth }
     requires small { depth < 32 }
-    ensures hands { Hands (C.words words.old) (C.child words.old) (C.words words.new) (C.child words.new) }
+    ensures hands { Hands (C.words words.old) (C.child words.old) (C.words words.new)
+        (C.child words.new) }
     ensures none { (e : ℕ) → IsListed (C.words words.new) e → Remains (C.words words.new).fixed e }
     ensures stays { C.stays_beside words.old words.new }
 {
@@ -169,7 +182,8 @@ fn split_list<C: ChildWords>(words: &mut C, depth: u32)
 fn hand_listed<C: ChildWords>(words: &mut C, before: Option<u32>, element: u32)
     requires sound { Sound (C.words words.old) }
     requires link { IsLink (C.words words.old) before element }
-    ensures words { C.words words.new ≡ handed (C.words words.old) (C.child words.old) before element }
+    ensures words { C.words words.new ≡ handed (C.words words.old) (C.child words.old) before
+        element }
     ensures child { C.child words.new ≡ record (C.child words.old) { head = Some element } }
     ensures stays { C.stays_beside words.old words.new }
 {

@@ -195,7 +195,8 @@ fn put_all(rt: &impl Abort, words: &mut PlainSegment, count: u32)
     }
 }
 
-/// Elements from 0 up to the count, each in the home bucket of its number. Other keys have bucket 0.
+/// Elements from 0 up to the count, each in the home bucket of its number. Other keys have
+/// bucket 0.
 fn filled(rt: &impl Abort, count: u32) -> PlainSegment
     requires { count ≤ 64 }
     ensures { Sound (plain_words result) }

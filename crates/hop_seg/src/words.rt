@@ -40,7 +40,8 @@ pub trait SegReads {
 
     /// The element that an element's link leads to.
     fn next(&mut self, element: u32) -> Option<u32>
-        ensures value { (w : Words) → agrees self.new w → IsKnown w.fixed element → result ≡ w.next element }
+        ensures value { (w : Words) → agrees self.new w → IsKnown w.fixed element →
+            result ≡ w.next element }
         ensures rests { rests self.old self.new };
 
     /// Whether this is the element's key.
