@@ -10,6 +10,7 @@ build: ## Build the proved program as ./ebpf
 test: ## The whole gate: every proof, every must-fail edit, every test, then the cases, and refused memory
 	rt ci
 	$(MAKE) build
+	tests/segments.py --check
 	tests/run ./ebpf
 	tests/memory ./ebpf
 
