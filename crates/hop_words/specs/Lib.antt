@@ -8,6 +8,7 @@ pub mod Rule
 pub mod Step
 pub mod Kinds
 pub mod Owning
+pub mod Locking
 pub mod Opens
 pub mod Seats
 pub mod SegContract

@@ -1,10 +1,12 @@
 //! The words of the concurrent store: where each stands, and the rule that holds between any two steps on them.
 #![tactic(auto)]
 
+mod answering;
 mod hash;
 mod index;
 mod known;
 mod lane;
+mod locking;
 mod owning;
 mod place;
 mod running;

@@ -1,0 +1,216 @@
+//! The steps by which an update or a deletion takes effect: at the key count, or at the unlock.
+ghost use Rattle.std.specs.Prelude.{◌≡◌, ◌<◌, ◌+◌, ◌^◌, false, length, IsTrue, IsFalse};
+ghost use Rattle.bpf_shared.specs.declared.events.Event.TheVariants.{Update, Delete, Lookup};
+ghost use Rattle.hop_words.specs.Ghost.{IsSegment};
+ghost use Rattle.hop_words.specs.Rule.{owed};
+ghost use Rattle.hop_words.specs.Kinds.{Inserts, Inserted, Removes, Removed, Counts, Misflagged, Told, IsWritten, unlocking, Answers, Answered, Replaces, Replaced};
+ghost use Rattle.hop_words.specs.Owning.{behind};
+ghost use Rattle.hop_words.specs.Locking.{lock_of, hand, HasLock, SeesRoom, SeesLack};
+
+use crate::lane::Lane;
+use crate::place::Place;
+use crate::table::HopTable;
+use bpf_shared::MapAnswer;
+use std::marker::Brand;
+
+impl Lane {
+    /// The new key counts if the count is this one: the update is done, and the element is the map's.
+    pub fn count_up(
+        &mut self,
+        table: &HopTable,
+        map: u8,
+        count: u64,
+        key: &[u8],
+        value: &[u8],
+        flags: u64,
+    ) -> bool
+        requires table { self.old.table ≡ table.now.id }
+        requires inside { map < length table.now.about.shape.maps }
+        requires map { (lock_of self.old.known).map ≡ map }
+        requires fits { count + 1 < 2 ^ 64 }
+        requires inserts { Inserts table.now.about self.old.known (lock_of self.old.known) (hand self.old.known) (behind self.old.known.fresh) key.now value.now flags count }
+        ensures table { self.new.table ≡ self.old.table }
+        ensures done { IsTrue result → Inserted table.now.about self.old.known (lock_of self.old.known) (hand self.old.known) (behind self.old.known.fresh) key.now value.now flags self.new.known }
+        ensures missed { IsFalse result → self.new.known ≡ self.old.known }
+    {
+        let place = Place::KeyCount { map };
+        let found = self.exchange_by::<Brand, _>(
+            table,
+            place,
+            count,
+            count + 1,
+            (key, value, flags),
+        );
+        found == count
+    }
+
+    /// The key count goes down by one: the deletion is done, and the element is in hand, used.
+    pub fn count_down(&mut self, table: &HopTable, map: u8, key: &[u8], element: u32)
+        requires table { self.old.table ≡ table.now.id }
+        requires inside { map < length table.now.about.shape.maps }
+        requires map { (lock_of self.old.known).map ≡ map }
+        requires removes { Removes table.now.about self.old.known (lock_of self.old.known) key.now element }
+        ensures table { self.new.table ≡ self.old.table }
+        ensures done { Removed table.now.about self.old.known (lock_of self.old.known) key.now element self.new.known }
+    {
+        let place = Place::KeyCount { map };
+        self.add_by::<Brand, _>(table, place, u64::MAX, (key, element));
+    }
+
+    /// The key count, where the key isn't in the map. At the map's most keys the update's answer is
+    /// `Full`.
+    pub fn see_count(
+        &mut self,
+        table: &HopTable,
+        map: u8,
+        key: &[u8],
+        value: &[u8],
+        flags: u64,
+    ) -> u64
+        requires table { self.old.table ≡ table.now.id }
+        requires inside { map < length table.now.about.shape.maps }
+        requires map { (lock_of self.old.known).map ≡ map }
+        requires counts { Counts table.now.about self.old.known (lock_of self.old.known) key.now value.now flags }
+        ensures table { self.new.table ≡ self.old.table }
+        ensures seen { SeesRoom table.now.about self.old.known key.now value.now flags result self.new.known }
+    {
+        self.load_by::<Brand, _>(table, Place::KeyCount { map }, (key, value, flags))
+    }
+
+    /// The key count, where no element is to be had: the update's answer is `Full` or `NoMemory`.
+    pub fn see_count_lacking(
+        &mut self,
+        table: &HopTable,
+        map: u8,
+        key: &[u8],
+        value: &[u8],
+        flags: u64,
+    ) -> u64
+        requires table { self.old.table ≡ table.now.id }
+        requires inside { map < length table.now.about.shape.maps }
+        requires map { (lock_of self.old.known).map ≡ map }
+        requires counts { Counts table.now.about self.old.known (lock_of self.old.known) key.now value.now flags }
+        ensures table { self.new.table ≡ self.old.table }
+        ensures seen { SeesLack table.now.about self.old.known key.now value.now flags result self.new.known }
+    {
+        self.load_by::<Brand, _>(table, Place::KeyCount { map }, (key, value, flags))
+    }
+
+    /// The key count, where the flags are none of those known: the update's answer is `Invalid`.
+    pub fn see_count_misflagged(
+        &mut self,
+        table: &HopTable,
+        map: u8,
+        key: &[u8],
+        value: &[u8],
+        flags: u64,
+    )
+        requires table { self.old.table ≡ table.now.id }
+        requires misflagged { Misflagged table.now.about self.old.known map key.now value.now flags }
+        ensures table { self.new.table ≡ self.old.table }
+        ensures answered { Told table.now.about self.old.known (Update map key.now value.now flags MapAnswer.Invalid) self.new.known }
+    {
+        self.load_by::<Brand, _>(table, Place::KeyCount { map }, (map, key, value, flags));
+    }
+
+    /// Unlocks a segment that changed, after what took effect has been written.
+    pub fn unlock_written(&mut self, table: &HopTable, map: u8, segment: u32, stamp: u64)
+        requires table { self.old.table ≡ table.now.id }
+        requires inside { IsSegment table.now.about map segment }
+        requires lock { HasLock self.old.known map segment }
+        requires stamp { stamp ≡ (lock_of self.old.known).stamp }
+        requires fits { stamp + 256 < 2 ^ 64 }
+        requires owes { owed (lock_of self.old.known).change ≡ 1 }
+        requires written { IsWritten table.now.about (lock_of self.old.known) }
+        ensures table { self.new.table ≡ self.old.table }
+        ensures unlocked { self.new.known ≡ unlocking self.old.known }
+    {
+        let place = Place::Stamp { map, segment };
+        self.store_by::<Brand, _>(table, place, stamp + 256, ());
+    }
+
+    /// Unlocks a segment that didn't change.
+    pub fn unlock_silent(&mut self, table: &HopTable, map: u8, segment: u32, stamp: u64)
+        requires table { self.old.table ≡ table.now.id }
+        requires inside { IsSegment table.now.about map segment }
+        requires lock { HasLock self.old.known map segment }
+        requires stamp { stamp ≡ (lock_of self.old.known).stamp }
+        requires clean { (lock_of self.old.known).dirty ≡ false }
+        ensures table { self.new.table ≡ self.old.table }
+        ensures unlocked { self.new.known ≡ unlocking self.old.known }
+    {
+        self.store_by::<Brand, _>(table, Place::Stamp { map, segment }, stamp, ());
+    }
+
+    /// Unlocks a segment that didn't change, and with it an update is answered.
+    pub fn unlock_update(
+        &mut self,
+        table: &HopTable,
+        map: u8,
+        segment: u32,
+        stamp: u64,
+        key: &[u8],
+        value: &[u8],
+        flags: u64,
+        answer: MapAnswer,
+    )
+        requires table { self.old.table ≡ table.now.id }
+        requires inside { IsSegment table.now.about map segment }
+        requires lock { HasLock self.old.known map segment }
+        requires stamp { stamp ≡ (lock_of self.old.known).stamp }
+        requires answers { Answers table.now.about self.old.known (lock_of self.old.known) (Update map key.now value.now flags answer) }
+        ensures table { self.new.table ≡ self.old.table }
+        ensures answered { Answered table.now.about self.old.known (lock_of self.old.known) (Update map key.now value.now flags answer) self.new.known }
+    {
+        let place = Place::Stamp { map, segment };
+        self.store_by::<Brand, _>(table, place, stamp, (map, key, value, flags, answer));
+    }
+
+    /// Unlocks a segment that didn't change, and with it a deletion is answered.
+    pub fn unlock_delete(
+        &mut self,
+        table: &HopTable,
+        map: u8,
+        segment: u32,
+        stamp: u64,
+        key: &[u8],
+        answer: MapAnswer,
+    )
+        requires table { self.old.table ≡ table.now.id }
+        requires inside { IsSegment table.now.about map segment }
+        requires lock { HasLock self.old.known map segment }
+        requires stamp { stamp ≡ (lock_of self.old.known).stamp }
+        requires answers { Answers table.now.about self.old.known (lock_of self.old.known) (Delete map key.now answer) }
+        ensures table { self.new.table ≡ self.old.table }
+        ensures answered { Answered table.now.about self.old.known (lock_of self.old.known) (Delete map key.now answer) self.new.known }
+    {
+        let place = Place::Stamp { map, segment };
+        self.store_by::<Brand, _>(table, place, stamp, (map, key, answer));
+    }
+
+    /// Unlocks a segment, and with it a replacement takes effect that has been written: the old
+    /// element is in hand, used.
+    pub fn unlock_replaced(
+        &mut self,
+        table: &HopTable,
+        map: u8,
+        segment: u32,
+        stamp: u64,
+        key: &[u8],
+        value: &[u8],
+        flags: u64,
+        old: u32,
+    )
+        requires table { self.old.table ≡ table.now.id }
+        requires inside { IsSegment table.now.about map segment }
+        requires lock { HasLock self.old.known map segment }
+        requires stamp { stamp ≡ (lock_of self.old.known).stamp }
+        requires fits { stamp + 256 < 2 ^ 64 }
+        requires replaces { Replaces table.now.about self.old.known (lock_of self.old.known) (hand self.old.known) (behind self.old.known.fresh) key.now value.now flags old }
+        ensures table { self.new.table ≡ self.old.table }
+        ensures replaced { Replaced table.now.about self.old.known (lock_of self.old.known) (behind self.old.known.fresh) key.now value.now flags old self.new.known }
+    {
+        let place = Place::Stamp { map, segment };
+        self.store_by::<Brand, _>(table, place, stamp + 256, (key, value, flags, old));
+    }
+}
