@@ -1,8 +1,8 @@
 -- Cutting a line into tokens.
-use Rattle.std.proofs.Common.{◌≡◌, ℕ, ◌+◌, ◌<◌, ◌≤◌, true, List, [], ◌∷◌, ◌++◌, length, map, get_or, take, take_while, drop, drop-cons, append_assoc, append-nil, Option, Some, None, refl, sym, ap, ◌∙◌, subst, arith}
+use Rattle.std.proofs.Common.{◌≡◌, ℕ, ◌+◌, ◌≤◌, true, List, [], ◌∷◌, ◌++◌, length, map, take, take_while, drop, append_assoc, append-nil, Option, Some, None, refl, sym, ap, ◌∙◌, subst, arith}
 use Rattle.std.specs.Prelude.{IfSome, nat_eq}
 use Rattle.std.specs.List.{starts_with}
-use Rattle.std.proofs.lemmas.List.{drop_all, map-append, drop-drop}
+use Rattle.std.proofs.lemmas.List.{map-append, drop-drop}
 use Rattle.std.proofs.lemmas.Slice.Eq.{bytes_eq-Decides}
 use Rattle.std.proofs.lemmas.List.{length-take}
 use Rattle.bpf_text.specs.declared.signs.Sign.{Sign}
@@ -59,15 +59,6 @@ reached_next line done at n next t r more token len e = record { on = on }
 
 pub reached_end : (line : List ℕ) (done : List Tok) (at : ℕ) → Reached line done at → IsEnd (drop at line) → IsTokens line done
 reached_end line done at r e = let P : List Tok → Type 0 = λ us. IsTokens line us in subst P (append-nil done) (r.on [] e)
-
-pub ends_behind : (line : List ℕ) (at : ℕ) → length line ≤ at → IsEnd (drop at line)
-ends_behind line at h = rw (drop_all at line h) tt
-
-pub ends_at : (line : List ℕ) (at : ℕ) → at < length line → get_or line at 0 ≡ 59 → IsEnd (drop at line)
-ends_at line at h e = rw (drop-cons line at 0 h) e
-
-pub goes_on : (line : List ℕ) (at : ℕ) → at < length line → (get_or line at 0 ≡ 59 → ⊥) → IsEnd (drop at line) → ⊥
-goes_on line at h f e = let P : List ℕ → Type 0 = λ x. IsEnd x in f (subst P (drop-cons line at 0 h) e)
 
 pub pushed : (line : List ℕ) (old new : List Token) (t : Token) (at : ℕ) → new ≡ old ++ t ∷ [] → Reached line (map look old ++ look t ∷ []) at → Reached line (map look new) at
 pushed line old new t at e r = let P : List Tok → Type 0 = λ x. Reached line x at in subst P (sym (ap (map look) e ∙ map-append look old (t ∷ []))) r

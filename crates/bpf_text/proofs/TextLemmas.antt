@@ -1,15 +1,17 @@
 -- Reading a text line by line, and what its lines mean one after the other.
-use Rattle.std.proofs.Common.{◌≡◌, ℕ, ◌+◌, ◌*◌, ◌<◌, ◌≤◌, suc, add-zero, add-one, Bool, true, false, cond, List, [], ◌∷◌, ◌++◌, length, length-append, map, get_or, drop, drop-cons, append_assoc, append-nil, Option, Some, None, Result, Ok, Err, refl, sym, ap, subst, ◌∙◌, arith}
-use Rattle.std.specs.Prelude.{option_to_list}
-use Rattle.std.proofs.lemmas.List.{map-append, drop_all}
+use Rattle.std.proofs.Common.{◌≡◌, ℕ, ◌+◌, ◌*◌, ◌<◌, ◌≤◌, zero, suc, add-zero, add-one, Bool, true, false, cond, List, [], ◌∷◌, ◌++◌, length, length-append, map, get_or, drop, drop-cons, append_assoc, append-nil, Option, Some, None, Result, Ok, Err, refl, sym, ap, subst, ◌∙◌, arith}
+use Rattle.std.specs.Prelude.{option_to_list, All}
+use Rattle.std.proofs.lemmas.List.{length-map, drop_all}
 use Rattle.bpf_insn.specs.declared.instruction.Insn.{Insn}
 use Rattle.bpf_text.specs.declared.error.TextError.{TextError}
 use Rattle.bpf_text.specs.declared.labels.Place.{Place}
-use Rattle.bpf_text.specs.declared.source.SourceLine.{SourceLine}
+use Rattle.bpf_text.specs.declared.assembly.Kept.{Kept}
+use Rattle.bpf_text.specs.declared.reading.LineError.{LineError}
 use Rattle.bpf_text.specs.Reader.Labels.{or_else}
-use Rattle.bpf_text.specs.Reader.Sources.{source_of}
-use Rattle.bpf_text.specs.Reader.Cutting.{lines_behind}
-use Rattle.bpf_text.specs.Assembly.{Source, IsLine, AreLines, lines_of, words_of, is_named, first_place, meaning_of, then_meaning, program_of}
+use Rattle.bpf_text.specs.Reader.Sources.{source_of, KeptLine, kept_view, nothing_is, nothing_said, kept_of, kept_program, Gathers}
+use Rattle.bpf_text.specs.Reader.Cutting.{lines_behind, rest_size}
+use Rattle.bpf_text.specs.Assembly.{Source, IsLine, AreLines, lines_of, words_of, is_named, is_twice, first_place, body_meaning, meaning_of, then_meaning, program_of}
+use Rattle.bpf_text.specs.Line.{Written}
 
 -- ---- lines
 
@@ -73,15 +75,138 @@ labels_next f g done new s line pc h l w n k q =
     ∙ sym (first_place-append done s 0 0 q)
     ∙ ap (λ d. first_place d 0 0 q) (sym n)
 
-pub words_next : (done new : List Source) (s : Source) (pc size : ℕ) → pc ≡ words_before done → size ≡ words_of s.body → new ≡ done ++ s ∷ [] → pc + size ≡ words_before new
-words_next done new s pc size h e n = let all = words_before-append done s in let same = ap words_before n in omega (arith, all, same)
+pub words_next : (done : List Source) (s : Source) (pc size : ℕ) → pc ≡ words_before done → size ≡ words_of s.body → pc + size ≡ words_before (done ++ s ∷ [])
+words_next done s pc size h e = omega (arith, words_before-append done s)
 
-pub sources_next : (old new : List SourceLine) (s : SourceLine) → new ≡ old ++ s ∷ [] → map source_of new ≡ map source_of old ++ source_of s ∷ []
-sources_next old new s e = ap (map source_of) e ∙ map-append source_of old (s ∷ [])
+-- ---- lines that say something
 
--- lines have two words at most
-pub bound_next : (old new : List SourceLine) (s : SourceLine) (n m pc size : ℕ) → new ≡ old ++ s ∷ [] → n ≡ length old → m ≡ length new → pc ≤ 2 * n → size ≤ 2 → pc + size ≤ 2 * m
-bound_next old new s n m pc size e a b h small = omega (arith, ap length e, length-append old (s ∷ []), a, b, h, small)
+kept_of-append : (line : ℕ) (ss : List Source) (s : Source) → kept_of line (ss ++ s ∷ []) ≡ kept_of line ss ++ kept_of (line + length ss) (s ∷ [])
+kept_of-append line [] s = ap (λ n. kept_of n (s ∷ [])) (sym (add-zero line))
+kept_of-append line (t ∷ ss) s =
+    let next : (line + 1) + length ss ≡ line + suc (length ss) = omega arith in
+    let more : kept_of (line + 1) (ss ++ s ∷ []) ≡ kept_of (line + 1) ss ++ kept_of (line + suc (length ss)) (s ∷ []) = kept_of-append (line + 1) ss s ∙ ap (λ n. kept_of (line + 1) ss ++ kept_of n (s ∷ [])) next in
+    by_test (nothing_said t) more
+  where
+    by_test : (b : Bool) → kept_of (line + 1) (ss ++ s ∷ []) ≡ kept_of (line + 1) ss ++ kept_of (line + suc (length ss)) (s ∷ [])
+        → cond b (kept_of (line + 1) (ss ++ s ∷ [])) (record { line = line; source = t } ∷ kept_of (line + 1) (ss ++ s ∷ []))
+        ≡ cond b (kept_of (line + 1) ss) (record { line = line; source = t } ∷ kept_of (line + 1) ss) ++ kept_of (line + suc (length ss)) (s ∷ [])
+    by_test true more = more
+    by_test false more = ap (λ ks. record { line = line; source = t } ∷ ks) more
+
+-- what is known of a text after some of its lines
+pub record Gathered (text : List ℕ) (rest : Option (List ℕ)) (labels : List ℕ → Option Place) (line pc : ℕ) (kept : List KeptLine) : Type 0 where
+  pub sources : List Source
+  pub lines : LinesRead text sources rest
+  pub places : (q : List ℕ) → labels q ≡ first_place sources 0 0 q
+  pub words : pc ≡ words_before sources
+  pub count : line ≡ length sources
+  pub kept_lines : kept ≡ kept_of 0 sources
+  pub bound : line + rest_size rest ≤ length text + 1
+
+pub gathered_start : (text : List ℕ) (labels : List ℕ → Option Place) (kept : List KeptLine) → ((q : List ℕ) → labels q ≡ None) → kept ≡ [] → Gathered text (Some text) labels 0 0 kept
+gathered_start text labels kept h e = record {
+  sources = [];
+  lines = lines_start text;
+  places = h;
+  words = refl;
+  count = refl;
+  kept_lines = e;
+  bound = omega arith;
+}
+
+pub gathered_next : (text left first : List ℕ) (behind : Option (List ℕ)) (f g : List ℕ → Option Place) (line pc size : ℕ) (kept new : List KeptLine) (s : Source) → Gathered text (Some left) f line pc kept → lines_of left ≡ first ∷ lines_behind behind
+    → rest_size behind ≤ length left → IsLine first s → ((q : List ℕ) → g q ≡ or_else (f q) (cond (is_named q s.label) (Some (record { line = line; pc = pc })) None)) → size ≡ words_of s.body → new ≡ kept ++ kept_of line (s ∷ [])
+    → Gathered text behind g (line + 1) (pc + size) new
+gathered_next text left first behind f g line pc size kept new s r cut shorter l k e n = record {
+  sources = r.sources ++ s ∷ [];
+  lines = lines_next text left first r.sources behind s r.lines cut l;
+  places = labels_next f g r.sources (r.sources ++ s ∷ []) s line pc r.places r.count r.words refl k;
+  words = words_next r.sources s pc size r.words e;
+  count = omega (arith, r.count, length-append r.sources (s ∷ []));
+  kept_lines = n ∙ ap (λ ks. ks ++ kept_of line (s ∷ [])) r.kept_lines ∙ ap (λ m. kept_of 0 r.sources ++ kept_of m (s ∷ [])) (omega (arith, r.count)) ∙ sym (kept_of-append 0 r.sources s);
+  bound = omega (arith, r.bound);
+}
+
+pub gathered_end : (text : List ℕ) (labels : List ℕ → Option Place) (line pc : ℕ) (kept : List KeptLine) → Gathered text None labels line pc kept → Gathers text labels kept
+gathered_end text labels line pc kept r = record {
+  sources = r.sources;
+  lines = lines_end text r.sources r.lines;
+  places = r.places;
+  kept_lines = r.kept_lines;
+}
+
+-- lines that are kept lie among all lines
+abbrev Below : ℕ → List KeptLine → Type 0
+Below n [] = Unit {0}
+Below n (k ∷ ks) = (k.line < n) × Below n ks
+
+below_kept : (line : ℕ) (ss : List Source) (n : ℕ) → line + length ss ≤ n → Below n (kept_of line ss)
+below_kept line [] n h = tt
+below_kept line (s ∷ ss) n h =
+    let first : line < n = omega arith in
+    by_test (nothing_said s) first (below_kept (line + 1) ss n (omega arith))
+  where
+    by_test : (b : Bool) → line < n → Below n (kept_of (line + 1) ss) → Below n (cond b (kept_of (line + 1) ss) (record { line = line; source = s } ∷ kept_of (line + 1) ss))
+    by_test true h more = more
+    by_test false h more = (h, more)
+
+below_each : (n : ℕ) (ks : List Kept) → Below n (map kept_view ks) → (i : ℕ) (d : Kept) → i < length ks → (get_or ks i d).line < n
+below_each n [] h i d lt = absurd (omega arith)
+below_each n (k ∷ ks) h zero d lt = h.0
+below_each n (k ∷ ks) h (suc i) d lt = below_each n ks h.1 i d (omega arith)
+
+pub short_lines : (text : List ℕ) (rest : Option (List ℕ)) (labels : List ℕ → Option Place) (line pc n : ℕ) (ks : List Kept) → Gathered text rest labels line pc (map kept_view ks) → line ≤ n → All (λ k. k.line < n) ks
+short_lines text rest labels line pc n ks r h =
+    let P : List KeptLine → Type 0 = λ xs. Below n xs in
+    below_each n ks (subst P (sym r.kept_lines) (below_kept 0 r.sources n (omega (arith, r.count, h))))
+
+-- lines that say nothing mean nothing
+blank_means : (labels : List ℕ → Option Place) (line pc : ℕ) (s : Source) (r : Result (List Insn) TextError) → nothing_said s ≡ true → then_meaning (meaning_of labels line pc s) r ≡ r
+unfolding meaning_of
+blank_means labels line pc s r h = by_parts s.label s.body h r
+  where
+    by_parts : (label : Option (List ℕ)) (body : Result (Option Written) LineError) → nothing_is label body ≡ true → (r : Result (List Insn) TextError) → then_meaning (body_meaning labels (is_twice labels line label) line pc body) r ≡ r
+    by_parts None (Ok None) h (Ok is) = refl
+    by_parts None (Ok None) h (Err e) = refl
+    by_parts None (Ok (Some i)) h r = cc
+    by_parts None (Err e) h r = cc
+    by_parts (Some l) (Ok None) h r = cc
+    by_parts (Some l) (Ok (Some i)) h r = cc
+    by_parts (Some l) (Err e) h r = cc
+
+blank_words : (s : Source) → nothing_said s ≡ true → words_of s.body ≡ 0
+blank_words s h = by_parts s.label s.body h
+  where
+    by_parts : (label : Option (List ℕ)) (body : Result (Option Written) LineError) → nothing_is label body ≡ true → words_of body ≡ 0
+    by_parts None (Ok None) h = refl
+    by_parts None (Ok (Some i)) h = cc
+    by_parts None (Err e) h = cc
+    by_parts (Some l) (Ok None) h = cc
+    by_parts (Some l) (Ok (Some i)) h = cc
+    by_parts (Some l) (Err e) h = cc
+
+-- each line that is kept has two words at most, and the others none
+pub small_next : (kept new : List Kept) (s : Source) (line pc size n m : ℕ) → map kept_view new ≡ map kept_view kept ++ kept_of line (s ∷ []) → size ≡ words_of s.body → size ≤ 2 → n ≡ length kept → m ≡ length new → pc ≤ 2 * n → pc + size ≤ 2 * m
+small_next kept new s line pc size n m e w small a b h =
+    let lengths : length new ≡ length kept + length (kept_of line (s ∷ [])) =
+    sym (length-map new kept_view) ∙ ap length e ∙ length-append (map kept_view kept) (kept_of line (s ∷ [])) ∙ ap (λ x. x + length (kept_of line (s ∷ []))) (length-map kept kept_view) in
+    by_test (nothing_said s) refl lengths
+  where
+    by_test : (t : Bool) → nothing_said s ≡ t → length new ≡ length kept + length {A = KeptLine} (cond t [] (record { line = line; source = s } ∷ [])) → pc + size ≤ 2 * m
+    by_test true f lengths = let none : size ≡ 0 = w ∙ blank_words s f in omega (arith, none, lengths, a, b, h)
+    by_test false f lengths = omega (arith, lengths, a, b, h, small)
+
+pub kept_means : (labels : List ℕ → Option Place) (line pc : ℕ) (ss : List Source) → kept_program labels pc (kept_of line ss) ≡ program_of labels line pc ss
+kept_means labels line pc [] = refl
+kept_means labels line pc (s ∷ ss) = by_test (nothing_said s) refl (kept_means labels (line + 1) (pc + words_of s.body) ss) (kept_means labels (line + 1) pc ss)
+  where
+    by_test : (b : Bool) → nothing_said s ≡ b → kept_program labels (pc + words_of s.body) (kept_of (line + 1) ss) ≡ program_of labels (line + 1) (pc + words_of s.body) ss
+        → kept_program labels pc (kept_of (line + 1) ss) ≡ program_of labels (line + 1) pc ss
+        → kept_program labels pc (cond b (kept_of (line + 1) ss) (record { line = line; source = s } ∷ kept_of (line + 1) ss)) ≡ program_of labels line pc (s ∷ ss)
+    by_test true e more same =
+        let none : pc + words_of s.body ≡ pc = omega (arith, blank_words s e) in
+        same ∙ ap (λ p. program_of labels (line + 1) p ss) (sym none) ∙ sym (blank_means labels line pc s (program_of labels (line + 1) (pc + words_of s.body) ss) e)
+    by_test false e more same = ap (then_meaning (meaning_of labels line pc s)) more
 
 -- ---- the second pass
 
@@ -101,26 +226,27 @@ behind_one done o (Err e) = refl
 abbrev Meaning : Type 0
 Meaning = Result (List Insn) TextError
 
-next_lines : (lines : List SourceLine) (i : ℕ) (d : SourceLine) → i < length lines → map source_of (drop i lines) ≡ source_of (get_or lines i d) ∷ map source_of (drop (i + 1) lines)
-next_lines lines i d h = ap (map source_of) (drop-cons lines i d h) ∙ ap (λ k. source_of (get_or lines i d) ∷ map source_of (drop k lines)) (sym (add-one i))
+next_lines : (lines : List Kept) (i : ℕ) (d : Kept) → i < length lines → map kept_view (drop i lines) ≡ kept_view (get_or lines i d) ∷ map kept_view (drop (i + 1) lines)
+next_lines lines i d h = ap (map kept_view) (drop-cons lines i d h) ∙ ap (λ k. kept_view (get_or lines i d) ∷ map kept_view (drop k lines)) (sym (add-one i))
 
-pub meant_next : (labels : List ℕ → Option Place) (lines : List SourceLine) (i pc : ℕ) (d : SourceLine) (done new : List Insn) (o : Option Insn) (size : ℕ) (whole : Result (List Insn) TextError) → i < length lines
-    → behind done (program_of labels i pc (map source_of (drop i lines))) ≡ whole → Ok o ≡ meaning_of labels i pc (source_of (get_or lines i d)) → new ≡ done ++ option_to_list o
-    → size ≡ words_of (source_of (get_or lines i d)).body → behind new (program_of labels (i + 1) (pc + size) (map source_of (drop (i + 1) lines))) ≡ whole
+pub meant_next : (labels : List ℕ → Option Place) (lines : List Kept) (i pc : ℕ) (d : Kept) (done new : List Insn) (o : Option Insn) (size : ℕ) (whole : Meaning) → i < length lines
+    → behind done (kept_program labels pc (map kept_view (drop i lines))) ≡ whole → Ok o ≡ meaning_of labels (get_or lines i d).line pc (source_of (get_or lines i d).source) → new ≡ done ++ option_to_list o
+    → size ≡ words_of (source_of (get_or lines i d).source).body → behind new (kept_program labels (pc + size) (map kept_view (drop (i + 1) lines))) ≡ whole
 meant_next labels lines i pc d done new o size whole lt h e n w =
-    let rest = program_of labels (i + 1) (pc + words_of (source_of (get_or lines i d)).body) (map source_of (drop (i + 1) lines)) in
-    ap (λ x. behind new (program_of labels (i + 1) (pc + x) (map source_of (drop (i + 1) lines)))) w ∙ ap (λ x. behind x rest) n ∙ behind_one done o rest ∙ ap (λ m. behind done (then_meaning m rest)) e ∙ ap (λ x. behind done (program_of labels i pc x)) (sym (next_lines lines i d lt)) ∙ h
+    let rest = kept_program labels (pc + words_of (source_of (get_or lines i d).source).body) (map kept_view (drop (i + 1) lines)) in
+    ap (λ x. behind new (kept_program labels (pc + x) (map kept_view (drop (i + 1) lines)))) w ∙ ap (λ x. behind x rest) n ∙ behind_one done o rest
+    ∙ ap (λ m. behind done (then_meaning m rest)) e ∙ ap (λ x. behind done (kept_program labels pc x)) (sym (next_lines lines i d lt)) ∙ h
 
-refuses : (done : List Insn) (e : TextError) (r : Result (List Insn) TextError) → behind done (then_meaning (Err e) r) ≡ Err e
+refuses : (done : List Insn) (e : TextError) (r : Meaning) → behind done (then_meaning (Err e) r) ≡ Err e
 refuses done e (Ok is) = refl
 refuses done e (Err f) = refl
 
-pub meant_refused : (labels : List ℕ → Option Place) (lines : List SourceLine) (i pc : ℕ) (d : SourceLine) (done : List Insn) (e : TextError) (whole : Result (List Insn) TextError) → i < length lines
-    → behind done (program_of labels i pc (map source_of (drop i lines))) ≡ whole → Err e ≡ meaning_of labels i pc (source_of (get_or lines i d)) → whole ≡ Err e
+pub meant_refused : (labels : List ℕ → Option Place) (lines : List Kept) (i pc : ℕ) (d : Kept) (done : List Insn) (e : TextError) (whole : Meaning) → i < length lines
+    → behind done (kept_program labels pc (map kept_view (drop i lines))) ≡ whole → Err e ≡ meaning_of labels (get_or lines i d).line pc (source_of (get_or lines i d).source) → whole ≡ Err e
 meant_refused labels lines i pc d done e whole lt h m =
-    let rest = program_of labels (i + 1) (pc + words_of (source_of (get_or lines i d)).body) (map source_of (drop (i + 1) lines)) in
-    sym h ∙ ap (λ x. behind done (program_of labels i pc x)) (next_lines lines i d lt) ∙ ap (λ x. behind done (then_meaning x rest)) (sym m) ∙ refuses done e rest
+    let rest = kept_program labels (pc + words_of (source_of (get_or lines i d).source).body) (map kept_view (drop (i + 1) lines)) in
+    sym h ∙ ap (λ x. behind done (kept_program labels pc x)) (next_lines lines i d lt) ∙ ap (λ x. behind done (then_meaning x rest)) (sym m) ∙ refuses done e rest
 
-pub meant_whole : (labels : List ℕ → Option Place) (lines : List SourceLine) (i pc : ℕ) (done : List Insn) (whole : Result (List Insn) TextError) → length lines ≤ i
-    → behind done (program_of labels i pc (map source_of (drop i lines))) ≡ whole → whole ≡ Ok done
-meant_whole labels lines i pc done whole le h = sym h ∙ ap (λ x. behind done (program_of labels i pc (map source_of x))) (drop_all i lines le) ∙ ap Ok (append-nil done)
+pub meant_whole : (labels : List ℕ → Option Place) (lines : List Kept) (i pc : ℕ) (done : List Insn) (whole : Meaning) → length lines ≤ i
+    → behind done (kept_program labels pc (map kept_view (drop i lines))) ≡ whole → whole ≡ Ok done
+meant_whole labels lines i pc done whole le h = sym h ∙ ap (λ x. behind done (kept_program labels pc (map kept_view x))) (drop_all i lines le) ∙ ap Ok (append-nil done)

@@ -1,7 +1,7 @@
 -- A text stands for one thing alone.
 use Rattle.std.proofs.Common.{◌≡◌, ℕ, List, [], ◌∷◌, Option, Some, None, Result, Ok, Err, refl, sym, ap, subst, ◌∙◌}
 use Rattle.std.proofs.Common.{◌⊎◌, inl, inr}
-use Rattle.std.specs.Prelude.{MatchResult}
+use Rattle.std.specs.Prelude.{MatchResult, IfOk, IfErr}
 use mathlib.Core.Path.{fun_ext}
 use Rattle.bpf_text.specs.declared.labels.Place.{Place}
 use Rattle.bpf_text.specs.declared.error.TextError.TheVariants.{OutOfMemory}
@@ -16,6 +16,8 @@ use Rattle.bpf_text.specs.Line.{Written, IsSpelled}
 use Rattle.bpf_text.specs.Reader.Lines.{line_at}
 use Rattle.bpf_text.specs.Assembly.{Source, IsBody, IsLine, AreLines, Assembles, label_of, unlabelled, lines_of, first_place, program_of}
 use Rattle.bpf_text.proofs.Complete.{line_complete}
+use Rattle.bpf_text.specs.Reader.Sources.{KeptLine, kept_program, Gathers}
+use Rattle.bpf_text.proofs.TextLemmas.{kept_means}
 use Rattle.bpf_text.proofs.Scanning.{same_tokens}
 
 one_insn : (ts : List Tok) (i j : Written) → IsSpelled i ts → IsSpelled j ts → i ≡ j
@@ -73,16 +75,27 @@ one_outcome text r q x y =
     let same : y.sources ≡ x.sources = one_list (lines_of text) y.sources x.sources y.lines x.lines in
     y.meant ∙ ap (λ ss. program_of (first_place ss 0 0) 0 0 ss) same ∙ sym x.meant
 
--- what a call answers, by what it knows of the lines and the labels
-pub found_outcome : {V : Type 0} (items : V → List Insn) (text : List ℕ) (sources : List Source) (labels : List ℕ → Option Place) (result : Result V TextError) → AreLines (lines_of text) sources → ((q : List ℕ) → labels q ≡ first_place sources 0 0 q)
-    → MatchResult result (λ v. program_of labels 0 0 sources ≡ Ok (items v)) (λ e. (e ≡ OutOfMemory) ⊎ (program_of labels 0 0 sources ≡ Err e))
-    → (outcome : Result (List Insn) TextError) → Assembles text outcome → MatchResult result (λ v. outcome ≡ Ok (items v)) (λ e. (e ≡ OutOfMemory) ⊎ (outcome ≡ Err e))
-found_outcome {V} items text sources labels result lines same answer outcome h = by_result result answer
-  where
-    known : outcome ≡ program_of labels 0 0 sources
-    known = one_outcome text (program_of (first_place sources 0 0) 0 0 sources) outcome (record { sources = sources; lines = lines; meant = refl }) h ∙ ap (λ f. program_of f 0 0 sources) (sym (fun_ext same))
+-- what the lines that are kept mean is what the text stands for
+pub gathered_outcome : (text : List ℕ) (labels : List ℕ → Option Place) (kept : List KeptLine) → Gathers text labels kept → Assembles text (kept_program labels 0 kept)
+gathered_outcome text labels kept g = record {
+  sources = g.sources;
+  lines = g.lines;
+  meant = ap (kept_program labels 0) g.kept_lines ∙ kept_means labels 0 0 g.sources ∙ ap (λ f. program_of f 0 0 g.sources) (fun_ext g.places);
+}
 
-    by_result : (r : Result V TextError) → MatchResult r (λ v. program_of labels 0 0 sources ≡ Ok (items v)) (λ e. (e ≡ OutOfMemory) ⊎ (program_of labels 0 0 sources ≡ Err e)) → MatchResult r (λ v. outcome ≡ Ok (items v)) (λ e. (e ≡ OutOfMemory) ⊎ (outcome ≡ Err e))
-    by_result (Ok v) e = known ∙ e
-    by_result (Err e) (inl memory) = inl memory
-    by_result (Err e) (inr refused) = inr (known ∙ refused)
+-- what a call answers, by what the lines mean
+abbrev pub Answers : {V : Type 0} → (V → List Insn) → Result V TextError → Result (List Insn) TextError → Type 0
+Answers items result outcome = MatchResult result (λ v. outcome ≡ Ok (items v)) (λ e. (e ≡ OutOfMemory) ⊎ (outcome ≡ Err e))
+
+pub answered : {V : Type 0} (items : V → List Insn) (text : List ℕ) (outcome : Result (List Insn) TextError) (result : Result V TextError) → Assembles text outcome → Answers items result outcome → IfOk result (λ v. Assembles text (Ok (items v)))
+answered items text outcome (Ok v) h e = let P : Result (List Insn) TextError → Type 0 = λ r. Assembles text r in subst P e h
+answered items text outcome (Err e) h k = tt
+
+pub answered_refusal : {V : Type 0} (items : V → List Insn) (text : List ℕ) (outcome : Result (List Insn) TextError) (result : Result V TextError) → Assembles text outcome → Answers items result outcome
+    → IfErr result (λ e. (e ≡ OutOfMemory) ⊎ Assembles text (Err e))
+answered_refusal items text outcome (Ok v) h e = tt
+answered_refusal items text outcome (Err e) h (inl memory) = inl memory
+answered_refusal items text outcome (Err e) h (inr refused) = inr (let P : Result (List Insn) TextError → Type 0 = λ r. Assembles text r in subst P refused h)
+
+pub answered_only : {V : Type 0} (items : V → List Insn) (text : List ℕ) (outcome other : Result (List Insn) TextError) (result : Result V TextError) → Assembles text outcome → Answers items result outcome → Assembles text other → Answers items result other
+answered_only {V} items text outcome other result h k o = let P : Result (List Insn) TextError → Type 0 = λ r. Answers items result r in subst P (sym (one_outcome text outcome other h o)) k

@@ -9,6 +9,8 @@ pub mod hex_text;
 mod keywords;
 mod labels;
 pub mod laws;
+mod lines;
+mod meaning;
 mod numbers;
 mod operators;
 mod printing;
@@ -16,6 +18,7 @@ mod reading;
 mod registers;
 mod signs;
 mod source;
+mod targets;
 mod token;
 mod words;
 
@@ -23,6 +26,3 @@ pub use assembly::assemble;
 pub use disassembly::disassemble;
 pub use error::TextError;
 pub use hex_text::{from_hex, to_hex};
-
-#[cfg(test)]
-mod tests;

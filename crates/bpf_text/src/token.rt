@@ -1,8 +1,8 @@
 //! Lines cut into tokens.
 
-ghost use Rattle.std.specs.Prelude.{◌≡◌, ◌<◌, ◌≤◌, ◌+◌, length, take_while, drop, map, IfOk, IsOkUnless, IfSome, OnSome, MatchOption};
+ghost use Rattle.std.specs.Prelude.{◌≡◌, ◌<◌, ◌≤◌, ◌+◌, length, take_while, drop, map, IfOk, IsOkUnless, IsTrue, ◌↔◌};
 ghost use Rattle.bpf_text.specs.Signs.{sign_text};
-ghost use Rattle.bpf_text.specs.Tokens.{is_blank, word_len, front_tok, front_len, IsTokens};
+ghost use Rattle.bpf_text.specs.Tokens.{is_blank, word_len, front_tok, front_len, IsEnd, IsTokens};
 ghost use Rattle.bpf_text.specs.Reader.Look.{look};
 
 use crate::error::TextError;
@@ -86,6 +86,24 @@ fn skip_blanks(line: &[u8], at: usize) -> usize
     at + blank_len(&line[at..])
 }
 
+/// Whether nothing is left, or a comment.
+fn is_end(text: &[u8]) -> bool
+    ensures { IsTrue result ↔ IsEnd text.now }
+{
+    match text {
+        [] => true,
+        [first, ..] => *first == b';',
+    }
+}
+
+/// Whether the line's tokens end at this place.
+fn ends_at(line: &[u8], at: usize) -> bool
+    requires { at ≤ length line.now }
+    ensures { IsTrue result ↔ IsEnd (drop at line.now) }
+{
+    is_end(&line[at..])
+}
+
 /// The tokens of a line. Fails by `OutOfMemory` alone.
 pub fn tokens_of<'a>(alloc: Global, line: &'a [u8]) -> Result<Vec<Token<'a>>, TextError>
     ensures found { IfOk result (λ tokens. IsTokens line.now (map look tokens.items)) }
@@ -93,7 +111,7 @@ pub fn tokens_of<'a>(alloc: Global, line: &'a [u8]) -> Result<Vec<Token<'a>>, Te
 {
     let mut tokens = Vec::new(alloc);
     let mut at = blank_len(line);
-    while at < line.len() && line[at] != b';' {
+    'line: while !ends_at(line, at) {
         let (token, len) = front_at(line, at);
         tokens.push(token).map_err(|_| TextError::OutOfMemory)?;
         at = skip_blanks(line, at + len);

@@ -1,12 +1,16 @@
 -- What the reader's lines stand for, without where their names lie.
-use Rattle.std.specs.Prelude.{Option, Some, None, Result, Ok, Err}
+use Rattle.std.specs.Prelude.{◌≡◌, ℕ, ◌+◌, Bool, true, false, if◌then◌else◌, List, [], ◌∷◌, Option, Some, None, Result, Ok, Err}
 use Rattle.std.specs.Option.{option_copied}
 use Rattle.bpf_text.specs.declared.reading.LineError.{LineError}
 use Rattle.bpf_text.specs.declared.source.Body.{Body}
 use Rattle.bpf_text.specs.declared.source.Body.TheVariants.{Empty, Code, Refused}
 use Rattle.bpf_text.specs.declared.source.SourceLine.{SourceLine}
 use Rattle.bpf_text.specs.Line.{Written}
-use Rattle.bpf_text.specs.Assembly.{Source}
+use Rattle.bpf_insn.specs.declared.instruction.Insn.{Insn}
+use Rattle.bpf_text.specs.declared.assembly.Kept.{Kept}
+use Rattle.bpf_text.specs.declared.error.TextError.{TextError}
+use Rattle.bpf_text.specs.declared.labels.Place.{Place}
+use Rattle.bpf_text.specs.Assembly.{Source, AreLines, lines_of, words_of, first_place, meaning_of, then_meaning}
 
 abbrev pub body_of : Body → Result (Option Written) LineError
 body_of Empty = Ok None
@@ -15,3 +19,43 @@ body_of (Refused e) = Err e
 
 abbrev pub source_of : SourceLine → Source
 source_of s = record { label = option_copied s.label; body = body_of s.body }
+
+-- ---- lines that say something
+
+-- a line with neither a label nor an instruction
+abbrev pub nothing_is : Option (List ℕ) → Result (Option Written) LineError → Bool
+nothing_is None (Ok None) = true
+nothing_is label body = false
+
+abbrev pub nothing_said : Source → Bool
+nothing_said s = nothing_is s.label s.body
+
+-- a line, and how many lines stand before it
+pub record KeptLine : Type 0 where
+  pub line : ℕ
+  pub source : Source
+
+abbrev pub kept_view : Kept → KeptLine
+kept_view k = record { line = k.line; source = source_of k.source }
+
+-- the lines that say something, lines being counted on from here
+abbrev pub kept_of : ℕ → List Source → List KeptLine
+kept_of line [] = []
+kept_of line (s ∷ ss) =
+    if nothing_said s then kept_of (line + 1) ss
+    else record { line = line; source = s } ∷ kept_of (line + 1) ss
+
+-- what these lines mean one after the other, or the first one's refusal
+abbrev pub kept_program : (List ℕ → Option Place) → ℕ → List KeptLine
+    → Result (List Insn) TextError
+kept_program labels pc [] = Ok []
+kept_program labels pc (k ∷ ks) =
+    then_meaning (meaning_of labels k.line pc k.source)
+    (kept_program labels (pc + words_of k.source.body) ks)
+
+-- a text's lines that say something, and the place of each label
+pub record Gathers (text : List ℕ) (labels : List ℕ → Option Place) (kept : List KeptLine) : Type 0 where
+  pub sources : List Source
+  pub lines : AreLines (lines_of text) sources
+  pub places : (name : List ℕ) → labels name ≡ first_place sources 0 0 name
+  pub kept_lines : kept ≡ kept_of 0 sources

@@ -1,18 +1,28 @@
-use Rattle.std.proofs.Common.{◌≡◌, ◌⊎◌, ℕ, List, Ok, Err, map, subst}
-use Rattle.std.specs.Prelude.{MatchResult}
-use Rattle.bpf_text.specs.declared.error.TextError.TheVariants.{OutOfMemory}
-use Rattle.bpf_text.specs.declared.source.SourceLine.{SourceLine}
-use Rattle.bpf_text.specs.Assembly.{AreLines, lines_of, program_of}
+use Rattle.std.proofs.Common.{List, ℕ, map, subst}
+use Rattle.bpf_text.specs.declared.assembly.Kept.{Kept}
 use Rattle.bpf_text.specs.Reader.Labels.{found}
-use Rattle.bpf_text.specs.Reader.Sources.{source_of}
-use Rattle.bpf_text.proofs.Unique.{found_outcome}
+use Rattle.bpf_text.specs.Reader.Sources.{kept_view, kept_program, Gathers}
+use Rattle.bpf_text.proofs.Unique.{Answers, gathered_outcome, answered, answered_refusal, answered_only}
 use Rattle.bpf_text.proofs.assembly.assemble.Goals as goal
+use Rattle.bpf_text.proofs.assembly.assemble.Goals.{After-drop-lines}
+use Rattle.bpf_text.specs.Assembly.{Assembles}
+
+-- what the lines mean is what the text stands for, and that is answered
+stands_for : (c : After-drop-lines) → Assembles c.args.text.now (kept_program (found c.in_ok-lines.labels) 0 (map kept_view c.in_ok-lines.lines.items))
+stands_for c =
+    let G : List ℕ → Type 0 = λ t. Gathers t (found c.in_ok-lines.labels) (map kept_view c.in_ok-lines.lines.items) in
+    gathered_outcome c.args.text.now _ _ (subst G c.as_bytes.ensures.value c.in_ok-lines.ensures.gathered)
+
+is_answered : (c : After-drop-lines) → Answers (λ v. v.items) c.program.result (kept_program (found c.in_ok-lines.labels) 0 (map kept_view c.in_ok-lines.lines.items))
+is_answered c =
+    let P : List Kept → Type 0 = λ ls. Answers (λ v. v.items) c.program.result (kept_program (found c.in_ok-lines.labels) 0 (map kept_view ls)) in
+    subst P c.deref.ensures.value c.program.ensures
 
 pub returns-clause-only : goal.returns-clause-only
-returns-clause-only c =
-    let sources = map source_of c.in_ok-lines.lines.items in
-    let labels = found c.in_ok-lines.labels in
-    let L : List ℕ → Type 0 = λ t. AreLines (lines_of t) sources in
-    let P : List SourceLine → Type 0 = λ ls. MatchResult c.program.result (λ v. program_of labels 0 0 (map source_of ls) ≡ Ok v.items) (λ e. (e ≡ OutOfMemory) ⊎ (program_of labels 0 0 (map source_of ls) ≡ Err e)) in
-    found_outcome (λ v. v.items) c.args.text.now sources labels c.program.result (subst L c.as_bytes.ensures.value c.in_ok-lines.ensures.lines) c.in_ok-lines.ensures.labels
-    (subst P c.deref.ensures.value c.program.ensures)
+returns-clause-only c = λ other h. answered_only (λ v. v.items) c.args.text.now _ other c.program.result (stands_for c) (is_answered c) h
+
+pub returns-clause-assembled : goal.returns-clause-assembled
+returns-clause-assembled c = answered (λ v. v.items) c.args.text.now _ c.program.result (stands_for c) (is_answered c)
+
+pub returns-clause-refused : goal.returns-clause-refused
+returns-clause-refused c = answered_refusal (λ v. v.items) c.args.text.now _ c.program.result (stands_for c) (is_answered c)

@@ -1,21 +1,23 @@
 use Rattle.std.proofs.Common.{ap, sym, ◌∙◌, map, arith}
-use Rattle.bpf_text.specs.Assembly.{program_of}
 use Rattle.bpf_text.specs.Reader.Labels.{found}
-use Rattle.bpf_text.specs.Reader.Sources.{source_of}
+use Rattle.bpf_text.specs.Reader.Sources.{kept_view, kept_program}
 use Rattle.bpf_text.proofs.TextLemmas.{behind, behind_nothing, meant_next, meant_whole}
 use Rattle.bpf_text.proofs.assembly.program.Goals as goal
 
-pub loop-line-init : goal.loop-line-init
-loop-line-init c =
-    let whole = program_of (found c.args.labels.now) 0 0 (map source_of c.args.lines.now) in
-    (ap (λ x. behind x whole) c.new-insns.ensures.items ∙ behind_nothing whole, omega arith)
+pub loop-kept-init : goal.loop-kept-init
+loop-kept-init c =
+    let whole = kept_program (found c.args.labels.now) 0 (map kept_view c.args.lines.now) in
+    record { meant = ap (λ x. behind x whole) c.new-insns.ensures.items ∙ behind_nothing whole; small = omega arith }
 
-pub loop-line-preserved : goal.loop-line-preserved
-loop-line-preserved c = (
-  meant_next (found c.args.labels.now) c.args.lines.now c.loop-line.line c.loop-line.pc _ c.loop-line.insns.items _ c.in_ok-meant.meant c.words_of-pc.result _ c.loop-line-test.true c.loop-line.invariant.0
-      (sym c.in_ok-meant.was ∙ c.meaning.ensures) c.in_ok-push_meant.ensures.ok c.words_of-pc.ensures.value,
-  omega (arith, c.words_of-pc.ensures.small, c.loop-line.invariant.1),
-)
+pub loop-kept-preserved : goal.loop-kept-preserved
+loop-kept-preserved c = record {
+  meant = meant_next (found c.args.labels.now) c.args.lines.now c.loop-kept.kept-index c.loop-kept.pc _ c.loop-kept.insns.items _ c.in_ok-meant.meant c.words_of-pc.result _ c.loop-kept-test.true c.loop-kept.invariant.meant
+      (sym c.in_ok-meant.was ∙ c.meaning.ensures) c.in_ok-push_meant.ensures.ok c.words_of-pc.ensures.value;
+  small = omega (arith, c.words_of-pc.ensures.small, c.loop-kept.invariant.small);
+}
+
+pub meaning-requires-clause-short : goal.meaning-requires-clause-short
+meaning-requires-clause-short c = c.requires c.loop-kept.kept-index _ c.loop-kept-test.true
 
 pub returns : goal.returns
-returns c = meant_whole (found c.args.labels.now) c.args.lines.now c.loop-line.line c.loop-line.pc _ _ c.loop-line-test.false c.loop-line.invariant.0
+returns c = meant_whole (found c.args.labels.now) c.args.lines.now c.loop-kept.kept-index c.loop-kept.pc _ _ c.loop-kept-test.false c.loop-kept.invariant.meant

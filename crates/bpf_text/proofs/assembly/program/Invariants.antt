@@ -1,11 +1,12 @@
 use Rattle.std.proofs.Common.{◌≡◌, ◌≤◌, ◌*◌, map, drop}
-use Rattle.bpf_text.specs.Assembly.{program_of}
 use Rattle.bpf_text.specs.Reader.Labels.{found}
-use Rattle.bpf_text.specs.Reader.Sources.{source_of}
+use Rattle.bpf_text.specs.Reader.Sources.{kept_view, kept_program}
 use Rattle.bpf_text.proofs.TextLemmas.{behind}
 use Rattle.bpf_text.proofs.assembly.program.Given as goal
 
-abbrev pub invariant-loop-line : goal.invariant-loop-line
-invariant-loop-line l =
-    (behind l.insns.items (program_of (found l.labels) l.line l.pc (map source_of (drop l.line l.lines))) ≡ program_of (found l.labels) 0 0 (map source_of l.lines))
-    × (l.pc ≤ 2 * l.line)
+abbrev pub invariant-loop-kept : goal.invariant-loop-kept
+invariant-loop-kept l = record {
+  meant : behind l.insns.items (kept_program (found l.labels) l.pc (map kept_view (drop l.kept-index l.lines)))
+      ≡ kept_program (found l.labels) 0 (map kept_view l.lines);
+  small : l.pc ≤ 2 * l.kept-index;
+}

@@ -3,8 +3,8 @@ use Rattle.bpf_text.specs.Reader.Look.{look}
 use Rattle.bpf_text.proofs.Scanning.{Reached}
 use Rattle.bpf_text.proofs.token.tokens_of.Given as goal
 
-abbrev pub invariant-loop-at : goal.invariant-loop-at
-invariant-loop-at l = Reached l.line (map look l.tokens.items) l.at × (l.at ≤ length l.line)
+abbrev pub invariant-line : goal.invariant-line
+invariant-line l = Reached l.line (map look l.tokens.items) l.at × (l.at ≤ length l.line)
 
-abbrev pub decreases-loop-at : goal.decreases-loop-at
-decreases-loop-at l = length l.line - l.at
+abbrev pub decreases-line : goal.decreases-line
+decreases-line l = length l.line - l.at

@@ -1,0 +1,16 @@
+use Rattle.std.proofs.Common.{◌≤◌, ◌*◌, map, vec_len}
+use Rattle.std.specs.Option.{option_copied}
+use Rattle.bpf_text.specs.Reader.Labels.{found}
+use Rattle.bpf_text.specs.Reader.Sources.{kept_view}
+use Rattle.bpf_text.specs.Reader.Cutting.{rest_size}
+use Rattle.bpf_text.proofs.TextLemmas.{Gathered}
+use Rattle.bpf_text.proofs.assembly.gather.Given as goal
+
+abbrev pub invariant-text : goal.invariant-text
+invariant-text l = record {
+  lines : Gathered l.text (option_copied l.rest) (found l.labels) l.line l.pc (map kept_view l.kept.items);
+  small : l.pc ≤ 2 * vec_len l.kept;
+}
+
+abbrev pub decreases-text : goal.decreases-text
+decreases-text l = rest_size (option_copied l.rest)
