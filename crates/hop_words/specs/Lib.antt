@@ -9,6 +9,7 @@ pub mod Step
 pub mod Kinds
 pub mod Owning
 pub mod Locking
+pub mod Guarded
 pub mod Opens
 pub mod Seats
 pub mod SegContract

@@ -2,6 +2,7 @@
 #![tactic(auto)]
 
 mod answering;
+mod guarded;
 mod hash;
 mod index;
 mod known;

@@ -1,0 +1,5 @@
+use Rattle.hop_words.proofs.UnderLock.{write_guarded}
+use Rattle.hop_words.proofs.lane.Lane.write_guarded.Goals as goal
+
+pub store_by-requires-clause-step : goal.store_by-requires-clause-step
+store_by-requires-clause-step c = write_guarded c.args.table.now.about c.args.self.now.known c.requires.held c.args.place c.args.number c.requires.may c.requires.there

@@ -1,0 +1,39 @@
+//! The words that a segment's lock guards, read and written by their places.
+ghost use Rattle.std.specs.Prelude.{◌≡◌, true, [], ◌∷◌};
+ghost use Rattle.hop_words.specs.Layout.{is_place, mem};
+ghost use Rattle.hop_words.specs.Kinds.{writing};
+ghost use Rattle.hop_words.specs.Locking.{lock_of};
+ghost use Rattle.hop_words.specs.Guarded.{IsGuarded, MayWrite};
+
+use crate::lane::Lane;
+use crate::place::Place;
+use crate::table::HopTable;
+use std::marker::Brand;
+
+impl Lane {
+    /// Reads any word. Where the lock guards it, it is the word as its holder knows it.
+    pub fn read_guarded(&mut self, table: &HopTable, place: Place) -> u64
+        requires table { self.old.table ≡ table.now.id }
+        requires there { is_place table.now.about.shape place ≡ true }
+        requires held { self.old.known.locks ≡ lock_of self.old.known ∷ [] }
+        ensures table { self.new.table ≡ self.old.table }
+        ensures word { IsGuarded table.now.about self.old.known place →
+            result ≡ mem table.now.about.shape (lock_of self.old.known).copy place }
+        ensures same { self.new.known ≡ self.old.known }
+    {
+        self.load_by::<Brand, _>(table, place, ())
+    }
+
+    /// Writes a word of the locked segment, or the link of an element there or in hand.
+    pub fn write_guarded(&mut self, table: &HopTable, place: Place, number: u64)
+        requires table { self.old.table ≡ table.now.id }
+        requires there { is_place table.now.about.shape place ≡ true }
+        requires held { self.old.known.locks ≡ lock_of self.old.known ∷ [] }
+        requires may { MayWrite table.now.about self.old.known place }
+        ensures table { self.new.table ≡ self.old.table }
+        ensures written { let l = self.old.known in
+            self.new.known ≡ writing table.now.about l (lock_of l) place number }
+    {
+        self.store_by::<Brand, _>(table, place, number, ());
+    }
+}
