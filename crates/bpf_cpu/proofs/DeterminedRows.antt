@@ -1,6 +1,6 @@
--- A row asks the store one thing, and with the same reply it leaves one state.
+-- What a row asks the store the replies determine, and so the state that it leaves.
 use Rattle.std.proofs.Common.{◌≡◌, ℕ, ◌+◌, ◌-◌, ◌<◌, Bool, true, false, ℤ, List, [], ◌∷◌, ◌++◌, length, take, Option, Some, None, inl, inr, refl, sym, ap, subst, ◌∙◌, arith, length-append}
-use Rattle.std.specs.Prelude.{is_some, map, option_map, slice_index}
+use Rattle.std.specs.Prelude.{is_some, option_map, slice_index}
 use Rattle.std.proofs.lemmas.List.{length-take-le, length-replicate}
 use Rattle.std.proofs.lemmas.List.Elements.{All-push, All-take}
 use Rattle.std.proofs.lemmas.Bool.{false≢true}
@@ -13,7 +13,6 @@ use Rattle.bpf_insn.specs.declared.instruction.Insn.{Insn}
 use Rattle.bpf_insn.specs.declared.instruction.Insn.TheVariants as insn
 use Rattle.bpf_alu.specs.Arithmetic.{sign_extended}
 use Rattle.bpf_alu.specs.Comparison.{holds}
-use Rattle.bpf_shared.specs.Laws.{asked}
 use Rattle.bpf_shared.specs.declared.events.Span.{Span}
 use Rattle.bpf_shared.specs.declared.events.Event.{Event}
 use Rattle.bpf_shared.specs.declared.events.Event.TheVariants as event
@@ -32,6 +31,8 @@ use Rattle.bpf_cpu.specs.declared.outcome.Fault.{Fault}
 use Rattle.bpf_cpu.specs.declared.outcome.Progress.{Progress}
 use Rattle.bpf_cpu.specs.declared.outcome.Progress.TheVariants.{On}
 use Rattle.bpf_cpu.specs.State.{value, operand_value, effective_address, at_pc, caller_of, after_call, after_return, with_register}
+use Rattle.bpf_cpu.specs.Laws.{AsksAlike}
+use Rattle.bpf_cpu.proofs.Asking.{asks-nothing, asks-one}
 use Rattle.bpf_cpu.specs.Row.{Faults, Quiet, Jumps, JumpsIf, CallsLocal, Exits, Loads, Stores, Atomics, plain_size, extension_of, fetching, remembering, TakesAnswer, LooksUp, Helper, Lookup, Executes}
 
 -- the same end, with the memory of a CPU
@@ -40,9 +41,9 @@ pub record Same (progress end : Progress) (new other : Cpu) : Type 0 where
   pub states : new ≡ other
   pub sound : IsMemory new.memory
 
--- the same question, and where the reply is the same, the same end
+-- the same calls as long as the replies are the same, and where all of them are, the same end
 pub record Agrees (events others : List Event) (progress end : Progress) (new other : Cpu) : Type 0 where
-  pub asks : map asked events ≡ map asked others
+  pub asks : AsksAlike events others
   pub replied : events ≡ others → Same progress end new other
 
 -- ---- lists
@@ -199,7 +200,7 @@ module _ (law : WritesAreDetermined) (old new other : Cpu) (progress end : Progr
 
   -- no event at all
   unasked : (events others : List Event) → events ≡ [] → others ≡ [] → Same progress end new other → Agrees events others progress end new other
-  unasked events others e f same = record { asks = ap (map asked) (e ∙ sym f); replied = λ _. same }
+  unasked events others e f same = record { asks = asks-nothing events others e f; replied = λ _. same }
 
   looked_up : (m : ℕ) (h : MapShape) (events others : List Event) → LooksUp m h old events progress new → LooksUp m h old others end other → Agrees events others progress end new other
   looked_up m h events others (inl f) (inl g) = unasked events others f.1 g.1 (faults _ f.2 g.2)
@@ -208,7 +209,7 @@ module _ (law : WritesAreDetermined) (old new other : Cpu) (progress end : Progr
   looked_up m h events others (inr j) (inr k) =
       let key : j.0 ≡ k.0 = cc (j.2, k.2) in
       record {
-        asks = ap (map asked) j.3 ∙ ap (λ key. event.Lookup m key None ∷ []) key ∙ sym (ap (map asked) k.3);
+        asks = asks-one events others (event.Lookup m j.0 j.1) (event.Lookup m k.0 k.1) j.3 k.3 (ap (λ key. event.Lookup m key None) key);
         replied = λ same.
             let lists : event.Lookup m j.0 j.1 ∷ [] ≡ event.Lookup m k.0 k.1 ∷ [] = sym j.3 ∙ same ∙ k.3 in
             let answer : k.1 ≡ j.1 = cc in

@@ -2,9 +2,9 @@
 use Rattle.std.proofs.Common.{◌≡◌, ℕ, zero, suc, ◌≤◌, List, [], ◌∷◌, ◌++◌, length, inl, inr, refl, sym, ap, subst, ◌∙◌, arith, append-nil}
 use Rattle.std.specs.Prelude.{map, None, Some}
 use Rattle.std.proofs.lemmas.List.Elements.{All-nil, All-push}
-use Rattle.std.proofs.lemmas.List.{length-map, map-append}
+use Rattle.std.proofs.lemmas.List.{map-append}
 use Rattle.bpf_insn.specs.declared.instruction.Insn.{Insn}
-use Rattle.bpf_shared.specs.Laws.{asked, CallsHaveOneReply}
+use Rattle.bpf_shared.specs.Laws.{CallsHaveOneReply}
 use Rattle.bpf_shared.specs.declared.events.Event.{Event}
 use Rattle.bpf_shared.specs.declared.events.Event.TheVariants.{Begin, End}
 use Rattle.bpf_shared.specs.declared.events.Entry.{Entry}
@@ -24,25 +24,9 @@ use Rattle.bpf_cpu.specs.declared.outcome.Outcome.{Outcome}
 use Rattle.bpf_cpu.specs.Row.{Helper, Executes}
 use Rattle.bpf_cpu.specs.Step.{Step, MakesSteps}
 use Rattle.bpf_cpu.specs.State.{start}
-use Rattle.bpf_cpu.specs.Laws.{StepsAreDetermined, OutcomesAreDetermined, NoMapsNoEvents, PlainStepsAreDetermined}
+use Rattle.bpf_cpu.specs.Laws.{AsksAlike, StepsAreDetermined, OutcomesAreDetermined, NoMapsNoEvents, PlainStepsAreDetermined}
+use Rattle.bpf_cpu.proofs.Asking.{asks-first, asks-behind, asks-end, asks-end', same_beginnings}
 use Rattle.bpf_cpu.proofs.DeterminedRows.{Agrees, row_agrees, same_last, whole_frame}
-
--- ---- lists of events
-
--- lists that begin with as many elements
-same_fronts : {A : Type 0} (xs ys rest more : List A) → length xs ≡ length ys → xs ++ rest ≡ ys ++ more → (xs ≡ ys) × (rest ≡ more)
-same_fronts [] [] rest more n e = (refl, e)
-same_fronts [] (y ∷ ys) rest more n e = absurd (omega arith)
-same_fronts (x ∷ xs) [] rest more n e = absurd (omega arith)
-same_fronts (x ∷ xs) (y ∷ ys) rest more n e =
-    let first : x ≡ y = cc in
-    let behind : xs ++ rest ≡ ys ++ more = cc in
-    let same = same_fronts xs ys rest more (omega arith) behind in
-    let fronts : xs ≡ ys = same.0 in
-    (cc, same.1)
-
-same_count : (xs ys : List Event) → map asked xs ≡ map asked ys → length xs ≡ length ys
-same_count xs ys e = sym (length-map xs asked) ∙ ap length e ∙ length-map ys asked
 
 module _ (law : WritesAreDetermined) (one : OneInstructionBegins) (shapes : List MapShape) (program : Loaded) where
   -- ---- one step
@@ -57,7 +41,7 @@ module _ (law : WritesAreDetermined) (one : OneInstructionBegins) (shapes : List
   never : (old new mid : Cpu) (end : Outcome) (events first rest : List Event) → IsMemory old.memory → events ≡ first ++ rest → Step shapes program old events (Done end) new → Step shapes program old first On mid → ⊥
   never old new mid end events first rest sound e a b =
       let agrees = step_agrees old new mid (Done end) On events first sound a b in
-      let parts = same_fronts events first [] rest (same_count events first agrees.asks) (append-nil events ∙ e) in
+      let parts = same_beginnings events first [] rest agrees.asks (append-nil events ∙ e) in
       let turns : Done end ≡ On = (agrees.replied parts.0).turns in
       cc
 
@@ -71,7 +55,7 @@ module _ (law : WritesAreDetermined) (one : OneInstructionBegins) (shapes : List
   steps_once (suc n) old new other events end last sound (inr a) (inl b) = absurd (never old other a.2 last events a.0 a.1 sound a.3 b a.4)
   steps_once (suc n) old new other events end last sound (inr a) (inr b) =
       let agrees = step_agrees old a.2 b.2 On On a.0 b.0 sound a.4 b.4 in
-      let parts = same_fronts a.0 b.0 a.1 b.1 (same_count a.0 b.0 agrees.asks) (sym a.3 ∙ b.3) in
+      let parts = same_beginnings a.0 b.0 a.1 b.1 agrees.asks (sym a.3 ∙ b.3) in
       let same = agrees.replied parts.0 in
       let P : Cpu → Type 0 = λ mid. MakesSteps shapes program n mid b.1 last other in
       let Q : List Event → Type 0 = λ rest. MakesSteps shapes program n a.2 rest last other in
@@ -79,14 +63,13 @@ module _ (law : WritesAreDetermined) (one : OneInstructionBegins) (shapes : List
 
   -- ---- the same over a plain store, whose replies are determined too
   module _ (replies : CallsHaveOneReply) where
-    pub same_replies : (c : ℕ) (events others : List Event) (s t u : Plain) → IsSoundStore s → PlainlyLegal s (map (entry c) events) t → PlainlyLegal s (map (entry c) others) u → map asked events ≡ map asked others → (events ≡ others) × (t ≡ u)
-    same_replies c [] [] s t u sound a b e = (refl, sym a ∙ b)
-    same_replies c [] (f ∷ fs) s t u sound a b e = absurd cc
-    same_replies c (e ∷ es) [] s t u sound a b q = absurd cc
-    same_replies c (e ∷ es) (f ∷ fs) s t u sound a b q =
-        let first : asked e ≡ asked f = cc in
-        let behind : map asked es ≡ map asked fs = cc in
-        let one = replies s a.0 b.0 c e f sound a.1 b.1 first in
+    pub same_replies : (c : ℕ) (events others : List Event) (s t u : Plain) → IsSoundStore s → PlainlyLegal s (map (entry c) events) t → PlainlyLegal s (map (entry c) others) u → AsksAlike events others → (events ≡ others) × (t ≡ u)
+    same_replies c [] [] s t u sound a b alike = (refl, sym a ∙ b)
+    same_replies c [] (f ∷ fs) s t u sound a b alike = absurd (asks-end f fs alike)
+    same_replies c (e ∷ es) [] s t u sound a b alike = absurd (asks-end' e es alike)
+    same_replies c (e ∷ es) (f ∷ fs) s t u sound a b alike =
+        let one = replies s a.0 b.0 c e f sound a.1 b.1 (asks-first e f es fs alike) in
+        let behind = asks-behind e f es fs one.0 alike in
         let P : Plain → Type 0 = λ m. PlainlyLegal m (map (entry c) fs) u in
         let rest = same_replies c es fs a.0 t u (allowed_sound s a.0 c e sound a.1.0) a.2 (subst P (sym one.1) b.2) behind in
         let front : e ≡ f = one.0 in
@@ -200,9 +183,9 @@ no_step_events program (suc n) old new events end (inr a) =
     a.3 ∙ ap (λ es. es ++ a.1) first ∙ rest
 
 pub no_maps_no_events : NoMapsNoEvents
-no_maps_no_events program budget old events end (inl a) =
-    a.2 ∙ ap (λ es. Begin ∷ (es ++ End ∷ [])) (no_step_events program budget old a.1 a.0 end a.3)
-no_maps_no_events program budget old events end (inr a) = absurd a.2
+no_maps_no_events program budget number context events end (inl a) =
+    a.2 ∙ ap (λ es. Begin ∷ (es ++ End ∷ [])) (no_step_events program budget (start number context) a.1 a.0 end a.3)
+no_maps_no_events program budget number context events end (inr a) = absurd a.2
 
 pub plain_steps_are_determined : WritesAreDetermined → OneInstructionBegins → CallsHaveOneReply → PlainStepsAreDetermined
 plain_steps_are_determined law one replies shapes program budget c s t u old new other events others end last store sound a g b h =

@@ -1,6 +1,6 @@
--- What follows from the definitions of steps and runs: what a store replies determines a run, and on one thread a run
--- has one outcome.
-use Rattle.std.specs.Prelude.{◌≡◌, ℕ, ◌≤◌, List, [], ◌∷◌, Some, length, map, slice_get}
+-- What follows from the definitions of steps and runs: what a store replies determines a run, and
+-- on one thread a run has one outcome.
+use Rattle.std.specs.Prelude.{◌≡◌, ℕ, ◌≤◌, List, [], ◌∷◌, ◌++◌, Option, Some, None, length, map, slice_get}
 use Rattle.bpf_shared.specs.declared.events.Event.{Event}
 use Rattle.bpf_shared.specs.declared.events.Event.TheVariants.{Begin, End}
 use Rattle.bpf_shared.specs.declared.shapes.MapShape.{MapShape}
@@ -18,26 +18,46 @@ use Rattle.bpf_cpu.specs.Task.{Task, Waiting}
 use Rattle.bpf_cpu.specs.Schedule.{World, RunsSchedule}
 use Rattle.bpf_cpu.specs.Step.{Step, MakesSteps, Explains}
 
--- a step asks the store one thing; and where the reply is the same, it leaves one state
+-- the call that the first of these events answers, if there is one
+abbrev pub next_call : List Event → Option Event
+next_call [] = None
+next_call (e ∷ events) = Some (asked e)
+
+-- after equal events, their replies included, the next call is the same, or none comes
+abbrev pub AsksAlike : List Event → List Event → Type 0
+AsksAlike events others =
+    (before rest later : List Event) → events ≡ before ++ rest → others ≡ before ++ later
+    → next_call rest ≡ next_call later
+
+-- a step asks the store what the replies before it determine, and leaves the state that all of them
+-- determine
 abbrev pub StepsAreDetermined : Type 0
-StepsAreDetermined = (shapes : List MapShape) (program : Loaded) (old new other : Cpu) (events others : List Event) (progress end : Progress) → IsMemory old.memory
+StepsAreDetermined =
+    (shapes : List MapShape) (program : Loaded) (old new other : Cpu) (events others : List Event)
+    (progress end : Progress) → IsMemory old.memory
     → Step shapes program old events progress new → Step shapes program old others end other
-    → (map asked events ≡ map asked others) × (events ≡ others → (progress ≡ end) × (new ≡ other))
+    → AsksAlike events others × (events ≡ others → (progress ≡ end) × (new ≡ other))
 
 -- the same events explain one outcome, whether or not the run counter may be worn
 abbrev pub OutcomesAreDetermined : Type 0
-OutcomesAreDetermined = (shapes : List MapShape) (program : Loaded) (budget number : ℕ) (context : List ℕ) (events : List Event) (end other : Outcome) → length context ≤ 4096
-    → Explains (Unit {0}) shapes program budget (start number context) events end → Explains (Unit {0}) shapes program budget (start number context) events other
+OutcomesAreDetermined =
+    (shapes : List MapShape) (program : Loaded) (budget number : ℕ) (context : List ℕ)
+    (events : List Event) (end other : Outcome) → length context ≤ 4096
+    → Explains (Unit {0}) shapes program budget (start number context) events end
+    → Explains (Unit {0}) shapes program budget (start number context) events other
     → end ≡ other
 
--- where there is no map, a run that is not worn out has no events but its begin and its end
+-- where there is no map, a job's run that is not worn out has no events but its begin and its end
 abbrev pub NoMapsNoEvents : Type 0
-NoMapsNoEvents = (program : Loaded) (budget : ℕ) (old : Cpu) (events : List Event) (end : Outcome)
-    → Explains ⊥ [] program budget old events end → events ≡ Begin ∷ End ∷ []
+NoMapsNoEvents =
+    (program : Loaded) (budget number : ℕ) (context : List ℕ) (events : List Event) (end : Outcome)
+    → Explains ⊥ [] program budget (start number context) events end → events ≡ Begin ∷ End ∷ []
 
 -- over a plain store, which no other CPU changes meanwhile, the steps of a run have one course
 abbrev pub PlainStepsAreDetermined : Type 0
-PlainStepsAreDetermined = (shapes : List MapShape) (program : Loaded) (budget c : ℕ) (s t u : Plain) (old new other : Cpu) (events others : List Event) (end last : Outcome) → IsSoundStore s → IsMemory old.memory
+PlainStepsAreDetermined =
+    (shapes : List MapShape) (program : Loaded) (budget c : ℕ) (s t u : Plain) (old new other : Cpu)
+    (events others : List Event) (end last : Outcome) → IsSoundStore s → IsMemory old.memory
     → MakesSteps shapes program budget old events end new → PlainlyLegal s (map (entry c) events) t
     → MakesSteps shapes program budget old others last other → PlainlyLegal s (map (entry c) others) u
     → (events ≡ others) × (end ≡ last) × (new ≡ other) × (t ≡ u)
@@ -47,8 +67,11 @@ PlainStepsAreDetermined = (shapes : List MapShape) (program : Loaded) (budget c 
 -- a plain machine before its first turn: each job waits, with a context of at most 4,096 bytes
 pub record IsFresh (w : World) : Type 0 where
   pub store : IsSoundStore w.store
-  pub waits : (j : ℕ) (task : Task) → slice_get w.jobs j ≡ Some task → (context : List ℕ) × (task.stage ≡ Waiting context) × (length context ≤ 4096)
+  pub waits : (j : ℕ) (task : Task) → slice_get w.jobs j ≡ Some task
+      → (context : List ℕ) × (task.stage ≡ Waiting context) × (length context ≤ 4096)
 
 -- a schedule has one run
 abbrev pub SchedulesAreDetermined : Type 0
-SchedulesAreDetermined = (w y z : World) (schedule : List ℕ) → IsFresh w → RunsSchedule w schedule y → RunsSchedule w schedule z → y ≡ z
+SchedulesAreDetermined =
+    (w y z : World) (schedule : List ℕ) → IsFresh w
+    → RunsSchedule w schedule y → RunsSchedule w schedule z → y ≡ z

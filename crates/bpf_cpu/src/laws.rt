@@ -3,7 +3,7 @@
 //! These functions do nothing: their contracts are the laws, which a proof cites.
 ghost use Rattle.bpf_cpu.specs.Laws.{NoMapsNoEvents, OutcomesAreDetermined, PlainStepsAreDetermined, SchedulesAreDetermined, StepsAreDetermined};
 
-/// A step asks the store one thing, and where the reply is the same it leaves one state.
+/// The replies to a step's calls determine its next call, and all of them the state that it leaves.
 pub fn steps_are_determined()
     ensures { StepsAreDetermined }
 {
@@ -19,7 +19,7 @@ pub fn outcomes_are_determined()
     bpf_loader::laws::one_instruction_begins();
 }
 
-/// Where there is no map, a run has no events but its begin and its end.
+/// Where there is no map, a job's run has no events but its begin and its end.
 pub fn no_maps_no_events()
     ensures { NoMapsNoEvents }
 {}

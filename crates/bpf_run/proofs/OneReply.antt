@@ -155,8 +155,8 @@ module _ (words : WordsAreDetermined) (encodings : EncodingsAreDetermined) (refu
   one_run budget context text r s h (Ran x is es a sound runs) (Ran y js fs b safe goes) =
       let P : List Insn → Type 0 = λ is. Explains ⊥ [] (loaded is) budget (start 0 context) fs y in
       let other = subst P (same_words text js is b a) goes in
-      let alone = events (loaded is) budget (start 0 context) es x runs in
-      let alone' = events (loaded is) budget (start 0 context) fs y other in
+      let alone = events (loaded is) budget 0 context es x runs in
+      let alone' = events (loaded is) budget 0 context fs y other in
       let Q : List Event → Type 0 = λ es. Explains ⊥ [] (loaded is) budget (start 0 context) es y in
       ap reply.Ended (outcomes [] (loaded is) budget 0 context es x y h (unworn (loaded is) budget (start 0 context) es x runs)
       (unworn (loaded is) budget (start 0 context) es y (subst Q (alone' ∙ sym alone) other)))
