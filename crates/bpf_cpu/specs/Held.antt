@@ -1,8 +1,13 @@
--- The spans that a run holds: each once, and at most 256 (our own choice).
-use Rattle.std.specs.Prelude.{◌≡◌, ◌≤◌, Bool, false, List, [], ◌∷◌, ◌++◌, length, if◌then◌else◌}
+-- The spans that a run holds: each once, and not too many.
+use Rattle.std.specs.Prelude.{◌≡◌, ℕ, ◌≤◌, Bool, true, false, All, List, [], ◌∷◌, ◌++◌, length, if◌then◌else◌}
 use Rattle.std.specs.List.{list_any}
 use Rattle.bpf_shared.specs.declared.events.Span.{Span}
+use Rattle.bpf_shared.specs.Shape.{IsValueSpan}
 use Rattle.bpf_shared.specs.Passage.{same_span}
+
+-- how many spans a run holds at most (our own choice)
+abbrev pub max_held : ℕ
+max_held = 256
 
 -- whether a span is among these
 abbrev pub has_span : List Span → Span → Bool
@@ -14,4 +19,8 @@ with_span held p = if has_span held p then held else held ++ p ∷ []
 
 -- one more, and there is no room for it
 abbrev pub IsTooMany : List Span → Span → Type 0
-IsTooMany held p = (has_span held p ≡ false) × (256 ≤ length held)
+IsTooMany held p = (has_span held p ≡ false) × (max_held ≤ length held)
+
+-- the store lets the CPU reach each of them, and each is a value's
+abbrev pub AreHeld : (Span → Bool) → List Span → Type 0
+AreHeld holds held = All (λ p. (holds p ≡ true) × IsValueSpan p) held

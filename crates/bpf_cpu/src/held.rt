@@ -1,7 +1,7 @@
 //! The values that a CPU's run holds.
 
 ghost use Rattle.std.specs.Prelude.{◌≡◌, ◌<◌, ◌≤◌, [], ◌↔◌, length, IsTrue, true, false};
-ghost use Rattle.bpf_cpu.specs.Held.{has_span, with_span};
+ghost use Rattle.bpf_cpu.specs.Held.{has_span, with_span, max_held};
 
 use arrayvec::ArrayVec;
 use bpf_shared::Span;
@@ -56,14 +56,14 @@ impl HeldSpans {
     /// Whether one more span would be too many.
     #[inline]
     pub fn is_full(&self) -> bool
-        ensures { IsTrue result ↔ (256 ≤ length self.now) }
+        ensures { IsTrue result ↔ (max_held ≤ length self.now) }
     {
         self.spans.len() == MAX_HELD
     }
 
     /// Holds this span too.
     pub fn hold(&mut self, span: Span)
-        requires room { has_span self.old span ≡ false → length self.old < 256 }
+        requires room { has_span self.old span ≡ false → length self.old < max_held }
         ensures { self.new ≡ with_span self.old span }
     {
         if !self.has(span) {

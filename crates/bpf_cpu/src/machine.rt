@@ -56,12 +56,13 @@ impl Model for Machine {
 
     ghost Value = { MachineState };
 
-    ghost use Rattle.bpf_shared.specs.Contents.{has_cpu, is_running};
+    ghost use Rattle.bpf_shared.specs.Contents.{has_cpu, is_running, held_spans};
     ghost use Rattle.bpf_cpu.specs.Private.Lanes.{tasks_of, IsBoard};
 
     ghost view = { λ m. record { store = m.store; programs = m.programs.items; jobs = tasks_of m.lanes.items m.jobs.items } };
 
-    ghost invariant = { λ m. IsBoard (has_cpu m.store) (is_running m.store) m.programs.items m.jobs.items m.lanes.items };
+    ghost invariant = { λ m. IsBoard (has_cpu m.store) (is_running m.store) (held_spans m.store)
+        m.programs.items m.jobs.items m.lanes.items };
 }
 
 impl Machine {

@@ -6,7 +6,9 @@ use Rattle.std.proofs.lemmas.List.{length-set}
 use Rattle.std.proofs.lemmas.Option.{slice_get_within}
 use Rattle.bpf_shared.specs.Store.{put}
 use Rattle.bpf_shared.proofs.Puts.{put-same, put-other}
-use Rattle.bpf_shared.specs.Contents.{Contents, has_cpu, is_running}
+use Rattle.bpf_shared.specs.Contents.{Contents, has_cpu, is_running, held_spans}
+use Rattle.bpf_shared.specs.declared.events.Span.{Span}
+use Rattle.bpf_shared.specs.Passage.{held_without}
 use Rattle.bpf_loader.specs.Loaded.{Loaded}
 use Rattle.bpf_loader.specs.Places.{IsStart}
 use Rattle.bpf_cpu.specs.declared.cpu.Cpu.{Cpu}
@@ -20,7 +22,9 @@ use Rattle.bpf_cpu.specs.Step.{IsReady}
 use Rattle.bpf_cpu.specs.Task.{Task, InHand, with_stage}
 use Rattle.bpf_cpu.specs.Work.{IsNext}
 use Rattle.bpf_cpu.specs.Private.Lanes.{IsFirstJob, lane_of, stage_of, task_of, tasks_of, FitsLane, IsHand, IsBoard}
+use Rattle.bpf_cpu.specs.Held.{AreHeld}
 use Rattle.bpf_cpu.proofs.RowLaws.{start_ready}
+use Rattle.bpf_cpu.proofs.HeldLaws.{nothing_held, others_without}
 use Rattle.bpf_cpu.proofs.ListLaws.{slice_get-set_same, slice_get-set_other}
 use Rattle.bpf_cpu.proofs.Machines.BoardLaws.{tasks_changed, board_changed}
 use Rattle.bpf_cpu.proofs.Machines.WorkLaws.{WaitsAt, waits_at, no_hand, is_next}
@@ -29,10 +33,10 @@ use Rattle.bpf_cpu.proofs.Machines.WorkLaws.{WaitsAt, waits_at, no_hand, is_next
 pub ready_to_start : (program : Loaded) (number : ℕ) (context : List ℕ) → IsStart program.instructions 0 → IsReady program (start number context)
 ready_to_start program number context starts = start_ready program (start number context) context refl starts
 
-module _ (store : Contents) (programs : List Loaded) (jobs : List Listed) (lanes : List Lane) (board : IsBoard (has_cpu store) (is_running store) programs jobs lanes)
+module _ (store : Contents) (programs : List Loaded) (jobs : List Listed) (lanes : List Lane) (board : IsBoard (has_cpu store) (is_running store) (held_spans store) programs jobs lanes)
     (c j : ℕ) (next : IsNext (tasks_of lanes jobs) c j) where
-  at : WaitsAt (has_cpu store) (is_running store) programs jobs lanes board c j next.1.0 next.1.1
-  at = waits_at (has_cpu store) (is_running store) programs jobs lanes board c j next.1.0 next.1.1 next.1.2
+  at : WaitsAt (has_cpu store) (is_running store) (held_spans store) programs jobs lanes board c j next.1.0 next.1.1
+  at = waits_at (has_cpu store) (is_running store) (held_spans store) programs jobs lanes board c j next.1.0 next.1.1 next.1.2
 
   pub lane_within : c < length lanes
   lane_within = at.within
@@ -41,7 +45,7 @@ module _ (store : Contents) (programs : List Loaded) (jobs : List Listed) (lanes
   job_within = slice_get_within jobs j at.job at.listed
 
   none_in_hand : (lane_of lanes c).hand ≡ None
-  none_in_hand = no_hand (has_cpu store) (is_running store) programs jobs lanes board c at.within next.0
+  none_in_hand = no_hand (has_cpu store) (is_running store) (held_spans store) programs jobs lanes board c at.within next.0
 
   pub serves : has_cpu store c ≡ true
   serves = subst (λ (n : ℕ). has_cpu store n ≡ true) at.of (board.each_job j at.job at.listed).served
@@ -80,7 +84,7 @@ module _ (store : Contents) (programs : List Loaded) (jobs : List Listed) (lanes
       l' = record { hand = Some h'; next = n }
 
       next_was : l.next ≡ j
-      next_was = ap (λ (x : Lane). x.next) (sym was) ∙ is_next (has_cpu store) (is_running store) programs jobs lanes board c j next
+      next_was = ap (λ (x : Lane). x.next) (sym was) ∙ is_next (has_cpu store) (is_running store) (held_spans store) programs jobs lanes board c j next
 
       alone : (h : Hand) → l.hand ≡ Some h → h.job ≡ j
       alone h held = let no : None ≡ Some h = sym none_in_hand ∙ (ap (λ (x : Lane). x.hand) was ∙ held) in cc
@@ -93,12 +97,12 @@ module _ (store : Contents) (programs : List Loaded) (jobs : List Listed) (lanes
 
       pub begun_tasks : tasks_of (slice_set lanes c l') (slice_set jobs j e') ≡ with_stage (tasks_of lanes jobs) j next.1.0 (InHand (start c next.1.1) next.1.0.budget)
       begun_tasks =
-          tasks_changed (has_cpu store) (has_cpu store) (is_running store) (is_running store) programs jobs lanes c j e e' l l' board listed of was refl refl refl alone moves
+          tasks_changed (has_cpu store) (has_cpu store) (is_running store) (is_running store) (held_spans store) (held_spans store) programs jobs lanes c j e e' l l' board listed of was refl refl refl alone moves
           ∙ (ap (λ (q : Phase). with_stage (tasks_of lanes jobs) j (task_of lanes e) (stage_of (Some h') q)) in_hand
           ∙ (ap (λ (s : Cpu). with_stage (tasks_of lanes jobs) j (task_of lanes e) (InHand s e.budget)) started
           ∙ ap (λ (t : Task). with_stage (tasks_of lanes jobs) j t (InHand (start c next.1.1) t.budget)) (sym shown)))
 
-      module _ (after : Contents) (serves_same : has_cpu after ≡ has_cpu store) (running : is_running after ≡ put (is_running store) c true)
+      module _ (after : Contents) (serves_same : has_cpu after ≡ has_cpu store) (running : is_running after ≡ put (is_running store) c true) (unreached : held_spans after ≡ held_without (held_spans store) c)
           (program : Loaded) (loaded : slice_get programs e.program ≡ Some program) (starts : IsStart program.instructions 0) where
         held_now : (h : Hand) → Some h' ≡ Some h → IsHand programs (slice_set jobs j e') c h
         held_now h is =
@@ -115,12 +119,20 @@ module _ (store : Contents) (programs : List Loaded) (jobs : List Listed) (lanes
             } in
             subst (λ (x : Hand). IsHand programs (slice_set jobs j e') c x) same now
 
-        pub begun_board : IsBoard (has_cpu after) (is_running after) programs (slice_set jobs j e') (slice_set lanes c l')
+        started' : state ≡ start state.number next.1.1
+        started' = started ∙ ap (λ (n : ℕ). start n next.1.1) (sym (ap (λ (s : Cpu). s.number) started))
+
+        pub begun_board : IsBoard (has_cpu after) (is_running after) (held_spans after) programs (slice_set jobs j e') (slice_set lanes c l')
         begun_board =
-            board_changed (has_cpu store) (has_cpu after) (is_running store) (is_running after) programs jobs lanes c j e e' l l' board listed of was refl refl refl alone moves
+            board_changed (has_cpu store) (has_cpu after) (is_running store) (is_running after) (held_spans store) (held_spans after) programs jobs lanes c j e e' l l' board listed of was refl refl refl alone moves
             serves_same
             (λ d ne. ap (λ (f : ℕ → Bool). f d) running ∙ put-other (is_running store) c d true ne)
             (ap (λ (f : ℕ → Bool). f c) running ∙ put-same (is_running store) c c true refl)
+            (λ d ne. ap (λ (f : ℕ → Span → Bool). f d) unreached ∙ others_without (held_spans store) c d ne)
+            (λ h is. (
+            let same : h' ≡ h = cc in
+            let none : AreHeld (held_spans after c) state.held = nothing_held (held_spans after c) state next.1.1 started' in
+            subst (λ (x : Hand). AreHeld (held_spans after c) x.cpu.held) same none))
             (subst (λ (q : Phase). FitsLane l' j q) (sym in_hand) ((let a = first.above in omega arith), (h', refl, refl)))
             (λ v waits. (let no : phase.InHand ≡ phase.Waiting v = sym in_hand ∙ waits in cc))
             held_now

@@ -3,19 +3,21 @@ use Rattle.std.proofs.Common.{◌≡◌, ◌≢◌, ℕ, ◌<◌, ◌≤◌, Boo
 use Rattle.std.specs.Prelude.{slice_get, slice_set}
 use Rattle.std.proofs.lemmas.List.{length-set, get_or-set_same, get_or-set_other}
 use Rattle.bpf_shared.proofs.Puts.{equal_or_not}
+use Rattle.bpf_shared.specs.declared.events.Span.{Span}
 use Rattle.bpf_loader.specs.Loaded.{Loaded}
 use Rattle.bpf_cpu.specs.declared.machine.lane.Listed.{Listed}
 use Rattle.bpf_cpu.specs.declared.machine.lane.Phase.{Phase}
 use Rattle.bpf_cpu.specs.declared.machine.lane.Phase.TheVariants as phase
 use Rattle.bpf_cpu.specs.declared.machine.lane.Hand.{Hand}
 use Rattle.bpf_cpu.specs.declared.machine.lane.Lane.{Lane}
+use Rattle.bpf_cpu.specs.Held.{AreHeld}
 use Rattle.bpf_cpu.specs.Task.{Stage, Task, with_stage}
 use Rattle.bpf_cpu.specs.Private.Lanes.{lane_of, no_lane, stage_of, task_of, tasks_of, FitsLane, IsListed, IsHand, IsLane, IsBoard}
 use Rattle.bpf_cpu.proofs.ListLaws.{slice_get-set_same, slice_get-set_other, map-set_changed}
 
 -- ---- one job and its CPU's lane are changed
-module _ (serves serves' running running' : ℕ → Bool) (programs : List Loaded) (jobs : List Listed) (lanes : List Lane) (c j : ℕ) (e e' : Listed) (l l' : Lane)
-    (board : IsBoard serves running programs jobs lanes)
+module _ (serves serves' running running' : ℕ → Bool) (reach reach' : ℕ → Span → Bool) (programs : List Loaded) (jobs : List Listed) (lanes : List Lane) (c j : ℕ) (e e' : Listed) (l l' : Lane)
+    (board : IsBoard serves running reach programs jobs lanes)
     (listed : slice_get jobs j ≡ Some e) (of : e.cpu ≡ c) (was : lane_of lanes c ≡ l)
     (cpu : e'.cpu ≡ e.cpu) (program : e'.program ≡ e.program) (budget : e'.budget ≡ e.budget)
     -- no other job of the CPU is in hand
@@ -73,6 +75,7 @@ module _ (serves serves' running running' : ℕ → Bool) (programs : List Loade
 
   -- ---- it is kept
   module _ (serves_same : serves' ≡ serves) (elsewhere : (d : ℕ) → d ≢ c → running' d ≡ running d) (runs : running' c ≡ is_some l'.hand)
+      (unreached : (d : ℕ) → d ≢ c → reach' d ≡ reach d) (held : (h : Hand) → l'.hand ≡ Some h → AreHeld (reach' c) h.cpu.held)
       (fits : FitsLane l' j e'.phase) (short : (v : _) → e'.phase ≡ phase.Waiting v → length v.items ≤ 4096)
       (hand : (h : Hand) → l'.hand ≡ Some h → IsHand programs (slice_set jobs j e') c h)
       (next : (x : Listed) → slice_get jobs l'.next ≡ Some x → x.cpu ≡ c) (inside : l'.next ≤ length jobs) where
@@ -141,24 +144,25 @@ module _ (serves serves' running running' : ℕ → Bool) (programs : List Loade
       | inr ne ↦ old x (sym (slice_get-set_other jobs j n e' ne) ∙ at)
     ]
 
-    each_lane : (d : ℕ) → d < length (slice_set lanes c l') → IsLane running' programs (slice_set jobs j e') d (lane_of (slice_set lanes c l') d)
+    each_lane : (d : ℕ) → d < length (slice_set lanes c l') → IsLane running' reach' programs (slice_set jobs j e') d (lane_of (slice_set lanes c l') d)
     each_lane d below = elim (equal_or_not d c) [
       | inl here ↦
-          let P : ℕ → Lane → Type 0 = λ n y. IsLane running' programs (slice_set jobs j e') n y in
-          let new : P c l' = record { runs = runs; hand = hand; next = cpu_still c l'.next next; within = subst (λ (n : ℕ). l'.next ≤ n) (sym (length-set jobs j e')) inside } in
+          let P : ℕ → Lane → Type 0 = λ n y. IsLane running' reach' programs (slice_set jobs j e') n y in
+          let new : P c l' = record { runs = runs; hand = hand; held = held; next = cpu_still c l'.next next; within = subst (λ (n : ℕ). l'.next ≤ n) (sym (length-set jobs j e')) inside } in
           subst (λ (n : ℕ). P n (lane_of (slice_set lanes c l') n)) (sym here) (subst (λ (y : Lane). P c y) (sym lane_here) new)
       | inr ne ↦
           let old = board.each_lane d (subst (λ (n : ℕ). d < n) (length-set lanes c l') below) in
-          let new : IsLane running' programs (slice_set jobs j e') d (lane_of lanes d) = record {
+          let new : IsLane running' reach' programs (slice_set jobs j e') d (lane_of lanes d) = record {
             runs = elsewhere d ne ∙ old.runs;
             hand = λ h at. hand_still d h ne (old.hand h at);
+            held = λ h at. subst (λ (f : Span → Bool). AreHeld f h.cpu.held) (sym (unreached d ne)) (old.held h at);
             next = cpu_still d (lane_of lanes d).next old.next;
             within = subst (λ (n : ℕ). (lane_of lanes d).next ≤ n) (sym (length-set jobs j e')) old.within;
           } in
-          subst (λ (y : Lane). IsLane running' programs (slice_set jobs j e') d y) (sym (lane_elsewhere d ne)) new
+          subst (λ (y : Lane). IsLane running' reach' programs (slice_set jobs j e') d y) (sym (lane_elsewhere d ne)) new
     ]
 
-    pub board_changed : IsBoard serves' running' programs (slice_set jobs j e') (slice_set lanes c l')
+    pub board_changed : IsBoard serves' running' reach' programs (slice_set jobs j e') (slice_set lanes c l')
     board_changed = record {
       each_job = each_job;
       each_lane = each_lane;

@@ -4,6 +4,7 @@ use Rattle.std.specs.Prelude.{map, All, slice_get, option_map}
 use Rattle.std.proofs.lemmas.Bool.{cases_lt}
 use Rattle.std.proofs.lemmas.List.Elements.{All-get_or}
 use Rattle.std.proofs.lemmas.Option.{slice_get-map, slice_get_within, get_or_from_slice_get}
+use Rattle.bpf_shared.specs.declared.events.Span.{Span}
 use Rattle.bpf_loader.specs.Loaded.{Loaded}
 use Rattle.bpf_cpu.specs.declared.machine.job.Job.{Job}
 use Rattle.bpf_cpu.specs.declared.machine.lane.Listed.{Listed}
@@ -32,7 +33,7 @@ made_tasks_of : (lanes : List Lane) (jobs : List Job) → tasks_of lanes (map li
 made_tasks_of lanes [] = refl
 made_tasks_of lanes (job ∷ jobs) = ap (λ (ts : List Task). waiting job ∷ ts) (made_tasks_of lanes jobs)
 
-module _ (serves running : ℕ → Bool) (programs : List Loaded) (jobs : List Job) (list : List Listed) (lanes : List Lane) (is : list ≡ map listed jobs) where
+module _ (serves running : ℕ → Bool) (reach : ℕ → Span → Bool) (programs : List Loaded) (jobs : List Job) (list : List Listed) (lanes : List Lane) (is : list ≡ map listed jobs) where
   pub made_tasks : tasks_of lanes list ≡ map waiting jobs
   made_tasks = ap (λ (xs : List Listed). tasks_of lanes xs) is ∙ made_tasks_of lanes jobs
 
@@ -59,16 +60,17 @@ module _ (serves running : ℕ → Bool) (programs : List Loaded) (jobs : List J
               subst (λ (u : _). length u.items ≤ 4096) one (all_at (λ (y : Job). length y.context.items ≤ 4096) jobs k job short j.1));
         })
 
-    each_lane : (c : ℕ) → c < length lanes → IsLane running programs list c (lane_of lanes c)
+    each_lane : (c : ℕ) → c < length lanes → IsLane running reach programs list c (lane_of lanes c)
     each_lane c inside =
         let within : c < cpus = subst (λ (n : ℕ). c < n) count inside in
         let start = first c within in
         record {
           runs = idle c ∙ ap (λ (o : Option Hand). is_some o) (sym (none c within));
           hand = λ h held. (let no : None ≡ Some h = sym (none c within) ∙ held in cc);
+          held = λ h has. (let no : None ≡ Some h = sym (none c within) ∙ has in absurd cc);
           next = start.found;
           within = start.within;
         }
 
-    pub made_board : IsBoard serves running programs list lanes
+    pub made_board : IsBoard serves running reach programs list lanes
     made_board = record { each_job = each_job; each_lane = each_lane; idle = λ c past. idle c }

@@ -1,5 +1,5 @@
 -- The job in a CPU's hand goes on, or ends.
-use Rattle.std.proofs.Common.{◌≡◌, ℕ, ◌<◌, ◌≤◌, Bool, true, false, List, Option, Some, None, is_some, length, refl, sym, ap, subst, ◌∙◌}
+use Rattle.std.proofs.Common.{◌≡◌, ◌≢◌, ℕ, ◌<◌, ◌≤◌, Bool, true, false, List, Option, Some, None, is_some, length, refl, sym, ap, subst, ◌∙◌}
 use Rattle.std.specs.Prelude.{slice_get, slice_set}
 use Rattle.std.proofs.lemmas.Option.{slice_get_within}
 use Rattle.bpf_shared.proofs.Puts.{put-same, put-other}
@@ -7,7 +7,7 @@ use Rattle.bpf_shared.specs.declared.events.Event.TheVariants.{End}
 use Rattle.bpf_shared.specs.Store.{Plain, put}
 use Rattle.bpf_shared.specs.Choice.{PlainlyAllowed}
 use Rattle.bpf_shared.specs.Sound.{IsSoundStore}
-use Rattle.bpf_shared.specs.Contents.{Contents, has_cpu, is_running}
+use Rattle.bpf_shared.specs.Contents.{Contents, has_cpu, is_running, held_spans}
 use Rattle.bpf_shared.specs.Contents as contents
 use Rattle.bpf_cpu.specs.declared.machine.Turn.TheVariants.{Ran}
 use Rattle.bpf_cpu.specs.declared.machine.Turn.TheVariants as turn
@@ -19,6 +19,7 @@ use Rattle.bpf_cpu.specs.declared.machine.lane.Phase.{Phase}
 use Rattle.bpf_cpu.specs.declared.machine.lane.Phase.TheVariants as phase
 use Rattle.bpf_cpu.specs.declared.machine.lane.Hand.{Hand}
 use Rattle.bpf_cpu.specs.declared.machine.lane.Lane.{Lane}
+use Rattle.bpf_cpu.specs.Held.{AreHeld}
 use Rattle.bpf_cpu.specs.Step.{IsReady}
 use Rattle.bpf_cpu.specs.Task.{Task, InHand, Ended, with_stage, IsAt}
 use Rattle.bpf_cpu.specs.Private.Lanes.{lane_of, stage_of, task_of, tasks_of, FitsLane, IsHand, IsBoard}
@@ -28,10 +29,10 @@ use Rattle.bpf_cpu.proofs.ListLaws.{slice_get-set_same}
 use Rattle.bpf_cpu.proofs.Machines.BoardLaws.{tasks_changed, board_changed}
 use Rattle.bpf_cpu.proofs.Machines.WorkLaws.{HandAt, hand_at}
 
-module _ (store : Contents) (programs : List Loaded) (jobs : List Listed) (lanes : List Lane) (board : IsBoard (has_cpu store) (is_running store) programs jobs lanes)
+module _ (store : Contents) (programs : List Loaded) (jobs : List Listed) (lanes : List Lane) (board : IsBoard (has_cpu store) (is_running store) (held_spans store) programs jobs lanes)
     (c j : ℕ) (task : Task) (state : Cpu) (left : ℕ) (in_hand : IsAt (tasks_of lanes jobs) c j task (InHand state left)) where
-  at : HandAt (has_cpu store) (is_running store) programs jobs lanes board c j task state left
-  at = hand_at (has_cpu store) (is_running store) programs jobs lanes board c j task state left in_hand
+  at : HandAt (has_cpu store) (is_running store) (held_spans store) programs jobs lanes board c j task state left
+  at = hand_at (has_cpu store) (is_running store) (held_spans store) programs jobs lanes board c j task state left in_hand
 
   pub lane_within : c < length lanes
   lane_within = at.within
@@ -108,6 +109,9 @@ module _ (store : Contents) (programs : List Loaded) (jobs : List Listed) (lanes
           program_same : is.program ≡ program
           program_same = let two : Some is.program ≡ Some program = sym is.loaded ∙ (ap (λ (x : Listed). slice_get programs x.program) hand_job ∙ loaded) in cc
 
+          pub held_now : AreHeld (held_spans store c) h.cpu.held
+          held_now = (board.each_lane c at.within).held h (ap (λ (x : Lane). x.hand) was ∙ has)
+
           pub ready : IsReady program h.cpu
           ready = subst (λ (p : Loaded). IsReady p h.cpu) program_same is.ready
 
@@ -126,16 +130,18 @@ module _ (store : Contents) (programs : List Loaded) (jobs : List Listed) (lanes
 
             pub kept_tasks : tasks_of (slice_set lanes c l') (slice_set jobs j e) ≡ with_stage (tasks_of lanes jobs) j task (InHand h'.cpu h'.left)
             kept_tasks =
-                tasks_changed (has_cpu store) (has_cpu store) (is_running store) (is_running store) programs jobs lanes c j e e l l' board listed of was refl refl refl alone (λ k x ne there own. (λ a. a, λ b. b))
+                tasks_changed (has_cpu store) (has_cpu store) (is_running store) (is_running store) (held_spans store) (held_spans store) programs jobs lanes c j e e l l' board listed of was refl refl refl alone (λ k x ne there own. (λ a. a, λ b. b))
                 ∙ (ap (λ (p : Phase). with_stage (tasks_of lanes jobs) j (task_of lanes e) (stage_of (Some h') p)) phase_was
                 ∙ ap (λ (t : Task). with_stage (tasks_of lanes jobs) j t (InHand h'.cpu h'.left)) (sym shown))
 
-            pub kept_board : (after : Contents) → has_cpu after ≡ has_cpu store → is_running after ≡ is_running store → IsBoard (has_cpu after) (is_running after) programs (slice_set jobs j e) (slice_set lanes c l')
-            kept_board after serves_same running_same =
-                board_changed (has_cpu store) (has_cpu after) (is_running store) (is_running after) programs jobs lanes c j e e l l' board listed of was refl refl refl alone (λ k x ne there own. (λ a. a, λ b. b))
+            pub kept_board : (after : Contents) → has_cpu after ≡ has_cpu store → is_running after ≡ is_running store → ((d : ℕ) → d ≢ c → held_spans after d ≡ held_spans store d) → AreHeld (held_spans after c) h'.cpu.held → IsBoard (has_cpu after) (is_running after) (held_spans after) programs (slice_set jobs j e) (slice_set lanes c l')
+            kept_board after serves_same running_same unreached held_still =
+                board_changed (has_cpu store) (has_cpu after) (is_running store) (is_running after) (held_spans store) (held_spans after) programs jobs lanes c j e e l l' board listed of was refl refl refl alone (λ k x ne there own. (λ a. a, λ b. b))
                 serves_same
                 (λ d ne. ap (λ (f : ℕ → Bool). f d) running_same)
                 (ap (λ (f : ℕ → Bool). f c) running_same ∙ running)
+                unreached
+                (λ x there. (let one : h' ≡ x = cc in subst (λ (y : Hand). AreHeld (held_spans after c) y.cpu.held) one held_still))
                 (subst (λ (p : Phase). FitsLane l' j p) (sym phase_was) (before, (h', refl, job ∙ told)))
                 (λ v waits. (let no : phase.InHand ≡ phase.Waiting v = sym phase_was ∙ waits in cc))
                 (λ x there. (
@@ -176,15 +182,17 @@ module _ (store : Contents) (programs : List Loaded) (jobs : List Listed) (lanes
 
             pub ended_tasks : tasks_of (slice_set lanes c l'') (slice_set jobs j e'') ≡ with_stage (tasks_of lanes jobs) j task (Ended outcome)
             ended_tasks =
-                tasks_changed (has_cpu store) (has_cpu store) (is_running store) (is_running store) programs jobs lanes c j e e'' l l'' board listed of was refl refl refl alone (λ k x ne there own. (λ a. a, λ b. b))
+                tasks_changed (has_cpu store) (has_cpu store) (is_running store) (is_running store) (held_spans store) (held_spans store) programs jobs lanes c j e e'' l l'' board listed of was refl refl refl alone (λ k x ne there own. (λ a. a, λ b. b))
                 ∙ ap (λ (t : Task). with_stage (tasks_of lanes jobs) j t (Ended outcome)) (sym shown)
 
-            pub ended_board : (after : Contents) → has_cpu after ≡ has_cpu store → is_running after ≡ put (is_running store) c false → IsBoard (has_cpu after) (is_running after) programs (slice_set jobs j e'') (slice_set lanes c l'')
-            ended_board after serves_same stopped =
-                board_changed (has_cpu store) (has_cpu after) (is_running store) (is_running after) programs jobs lanes c j e e'' l l'' board listed of was refl refl refl alone (λ k x ne there own. (λ a. a, λ b. b))
+            pub ended_board : (after : Contents) → has_cpu after ≡ has_cpu store → is_running after ≡ put (is_running store) c false → ((d : ℕ) → d ≢ c → held_spans after d ≡ held_spans store d) → IsBoard (has_cpu after) (is_running after) (held_spans after) programs (slice_set jobs j e'') (slice_set lanes c l'')
+            ended_board after serves_same stopped unreached =
+                board_changed (has_cpu store) (has_cpu after) (is_running store) (is_running after) (held_spans store) (held_spans after) programs jobs lanes c j e e'' l l'' board listed of was refl refl refl alone (λ k x ne there own. (λ a. a, λ b. b))
                 serves_same
                 (λ d ne. ap (λ (f : ℕ → Bool). f d) stopped ∙ put-other (is_running store) c d false ne)
                 (ap (λ (f : ℕ → Bool). f c) stopped ∙ put-same (is_running store) c c false refl)
+                unreached
+                (λ x there. cc)
                 before
                 (λ v waits. cc)
                 (λ x there. cc)

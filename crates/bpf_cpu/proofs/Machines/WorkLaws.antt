@@ -4,6 +4,7 @@ use Rattle.std.specs.Prelude.{slice_get, slice_index_or, option_map}
 use Rattle.std.proofs.lemmas.Option.{slice_get-map, slice_get_within, slice_get-get_or}
 use Rattle.std.proofs.lemmas.Bool.{cases_lt}
 use Rattle.std.proofs.lemmas.List.{get_or_read}
+use Rattle.bpf_shared.specs.declared.events.Span.{Span}
 use Rattle.bpf_loader.specs.Loaded.{Loaded}
 use Rattle.bpf_cpu.specs.declared.cpu.Cpu.{Cpu}
 use Rattle.bpf_cpu.specs.declared.machine.lane.Listed.{Listed}
@@ -54,7 +55,7 @@ shown_waiting l j phase.InHand context fits e =
     let no : InHand fits.1.0.cpu fits.1.0.left ≡ Waiting context = there in
     cc
 
-module _ (serves running : ℕ → Bool) (programs : List Loaded) (jobs : List Listed) (lanes : List Lane) (board : IsBoard serves running programs jobs lanes) (c : ℕ) where
+module _ (serves running : ℕ → Bool) (reach : ℕ → Span → Bool) (programs : List Loaded) (jobs : List Listed) (lanes : List Lane) (board : IsBoard serves running reach programs jobs lanes) (c : ℕ) where
   -- ---- in hand
   pub record HandAt (j : ℕ) (task : Task) (state : Cpu) (left : ℕ) : Type 0 where
     pub job : Listed
@@ -198,15 +199,15 @@ pub lane_read : (lanes : List Lane) (c : ℕ) (l : Lane) → c < length lanes �
 lane_read lanes c l within read = sym (get_or_read lanes c l within read no_lane)
 
 -- what a lane that was read tells of its CPU
-module _ (serves running : ℕ → Bool) (programs : List Loaded) (jobs : List Listed) (lanes : List Lane) (board : IsBoard serves running programs jobs lanes) (c : ℕ) (l : Lane) (within : c < length lanes) (was : lane_of lanes c ≡ l) where
+module _ (serves running : ℕ → Bool) (reach : ℕ → Span → Bool) (programs : List Loaded) (jobs : List Listed) (lanes : List Lane) (board : IsBoard serves running reach programs jobs lanes) (c : ℕ) (l : Lane) (within : c < length lanes) (was : lane_of lanes c ≡ l) where
   pub work_in_hand : (h : Hand) → l.hand ≡ Some h → HasInHand (tasks_of lanes jobs) c h.job
-  work_in_hand h held = let has = has_hand serves running programs jobs lanes board c h within (ap (λ (x : Lane). x.hand) was ∙ held) in (has.0, h.cpu, h.left, has.1)
+  work_in_hand h held = let has = has_hand serves running reach programs jobs lanes board c h within (ap (λ (x : Lane). x.hand) was ∙ held) in (has.0, h.cpu, h.left, has.1)
 
   pub state_in_hand : (h : Hand) → l.hand ≡ Some h → IsState (tasks_of lanes jobs) c h.cpu
-  state_in_hand h held = let has = has_hand serves running programs jobs lanes board c h within (ap (λ (x : Lane). x.hand) was ∙ held) in (h.job, has.0, h.left, has.1)
+  state_in_hand h held = let has = has_hand serves running reach programs jobs lanes board c h within (ap (λ (x : Lane). x.hand) was ∙ held) in (h.job, has.0, h.left, has.1)
 
   pub work_free : l.hand ≡ None → IsFree (tasks_of lanes jobs) c
-  work_free none = is_free serves running programs jobs lanes board c (ap (λ (x : Lane). x.hand) was ∙ none)
+  work_free none = is_free serves running reach programs jobs lanes board c (ap (λ (x : Lane). x.hand) was ∙ none)
 
   pub work_waiting : l.hand ≡ None → l.next < length jobs → IsNext (tasks_of lanes jobs) c l.next
   work_waiting none inside =
@@ -214,13 +215,13 @@ module _ (serves running : ℕ → Bool) (programs : List Loaded) (jobs : List L
       let at : slice_get jobs l.next ≡ Some (slice_index_or jobs l.next no_job) = slice_get-get_or jobs l.next no_job inside in
       let there = ap (λ (x : Lane). slice_get jobs x.next) was ∙ at in
       subst (λ (x : Lane). IsNext (tasks_of lanes jobs) c x.next) was (
-        is_free serves running programs jobs lanes board c (ap (λ (x : Lane). x.hand) was ∙ none),
-        next_waits serves running programs jobs lanes board c within (slice_index_or jobs l.next no_job) there,
-        none_waits_below serves running programs jobs lanes board c,
+        is_free serves running reach programs jobs lanes board c (ap (λ (x : Lane). x.hand) was ∙ none),
+        next_waits serves running reach programs jobs lanes board c within (slice_index_or jobs l.next no_job) there,
+        none_waits_below serves running reach programs jobs lanes board c,
       )
 
   pub work_nothing : l.hand ≡ None → length jobs ≤ l.next → IsFree (tasks_of lanes jobs) c × NoneWaits (tasks_of lanes jobs) c
   work_nothing none past = (
-    is_free serves running programs jobs lanes board c (ap (λ (x : Lane). x.hand) was ∙ none),
-    none_waits serves running programs jobs lanes board c (subst (λ (x : Lane). length jobs ≤ x.next) (sym was) past),
+    is_free serves running reach programs jobs lanes board c (ap (λ (x : Lane). x.hand) was ∙ none),
+    none_waits serves running reach programs jobs lanes board c (subst (λ (x : Lane). length jobs ≤ x.next) (sym was) past),
   )

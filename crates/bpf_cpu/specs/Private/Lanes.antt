@@ -1,5 +1,6 @@
 -- What a machine keeps of each job, and of each CPU.
 use Rattle.std.specs.Prelude.{◌≡◌, ℕ, ◌<◌, ◌≤◌, Bool, true, false, List, [], Option, Some, None, is_some, length, map, slice_get, slice_index_or}
+use Rattle.bpf_shared.specs.declared.events.Span.{Span}
 use Rattle.bpf_loader.specs.Loaded.{Loaded}
 use Rattle.bpf_cpu.specs.declared.machine.job.Job.{Job}
 use Rattle.bpf_cpu.specs.declared.machine.lane.Listed.{Listed}
@@ -7,6 +8,7 @@ use Rattle.bpf_cpu.specs.declared.machine.lane.Phase.{Phase}
 use Rattle.bpf_cpu.specs.declared.machine.lane.Phase.TheVariants as phase
 use Rattle.bpf_cpu.specs.declared.machine.lane.Hand.{Hand}
 use Rattle.bpf_cpu.specs.declared.machine.lane.Lane.{Lane}
+use Rattle.bpf_cpu.specs.Held.{AreHeld}
 use Rattle.bpf_cpu.specs.Step.{IsReady}
 use Rattle.bpf_cpu.specs.Task.{Stage, Task, Waiting, InHand, Ended}
 
@@ -67,14 +69,15 @@ pub record IsHand (programs : List Loaded) (jobs : List Listed) (cpu : ℕ) (h :
   pub loaded : slice_get programs job.program ≡ Some program
   pub ready : IsReady program h.cpu
 
-pub record IsLane (running : ℕ → Bool) (programs : List Loaded) (jobs : List Listed) (cpu : ℕ) (l : Lane) : Type 0 where
+pub record IsLane (running : ℕ → Bool) (reach : ℕ → Span → Bool) (programs : List Loaded) (jobs : List Listed) (cpu : ℕ) (l : Lane) : Type 0 where
   pub runs : running cpu ≡ is_some l.hand
   pub hand : (h : Hand) → l.hand ≡ Some h → IsHand programs jobs cpu h
+  pub held : (h : Hand) → l.hand ≡ Some h → AreHeld (reach cpu) h.cpu.held
   pub next : (x : Listed) → slice_get jobs l.next ≡ Some x → x.cpu ≡ cpu
   pub within : l.next ≤ length jobs
 
-pub record IsBoard (serves running : ℕ → Bool) (programs : List Loaded) (jobs : List Listed) (lanes : List Lane) : Type 0 where
+pub record IsBoard (serves running : ℕ → Bool) (reach : ℕ → Span → Bool) (programs : List Loaded) (jobs : List Listed) (lanes : List Lane) : Type 0 where
   pub each_job : (j : ℕ) (x : Listed) → slice_get jobs j ≡ Some x → IsListed serves programs lanes j x
-  pub each_lane : (cpu : ℕ) → cpu < length lanes → IsLane running programs jobs cpu (lane_of lanes cpu)
+  pub each_lane : (cpu : ℕ) → cpu < length lanes → IsLane running reach programs jobs cpu (lane_of lanes cpu)
   -- no CPU beyond them is in a run
   pub idle : (cpu : ℕ) → length lanes ≤ cpu → running cpu ≡ false

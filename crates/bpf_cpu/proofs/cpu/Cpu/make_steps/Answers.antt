@@ -2,9 +2,10 @@ use Rattle.std.proofs.Common.{◌≡◌, ℕ, [], ◌∙◌, refl, sym, subst, a
 use Rattle.bpf_shared.proofs.Chains.{chain_nothing}
 use Rattle.bpf_cpu.specs.declared.outcome.Progress.{Progress}
 use Rattle.bpf_cpu.specs.State.{at_pc}
+use Rattle.bpf_cpu.specs.Held.{AreHeld}
 use Rattle.bpf_cpu.specs.Step.{Step}
 use Rattle.bpf_cpu.proofs.TableLaws.{start_short}
-use Rattle.bpf_cpu.proofs.StepsLaws.{IsUnderWay, begun, made_more, made_all, runs_out}
+use Rattle.bpf_cpu.proofs.StepsLaws.{IsUnderWay, begun, made_more, made_all, runs_out, chain_keeps}
 use Rattle.bpf_cpu.proofs.cpu.Cpu.make_steps.Goals as goal
 
 pub returns-in-Done-clause-steps : goal.returns-in-Done-clause-steps
@@ -15,7 +16,7 @@ returns-in-Done-clause-steps g c =
     let events = c.step_from.ensures.step in
     let P : Progress → Type 0 = λ progress. Step (g.S.Shared.shapes c.steps.shared) c.args.program.now before events.0 progress after in
     made_all g.S.Shared.passes g.S.Shared.serves g.met.S.Shared.follows g.S.Shared.shapes c.args.program.now c.args.budget c.args.self.now c.args.shared.now
-    c.steps._step c.steps.shared c.step_from.new.shared before after c.steps-test.true inv.number inv.shapes inv.under_way c.in-Done.outcome
+    c.steps._step c.steps.shared c.step_from.new.shared before after c.steps-test.true inv.number inv.keeps.shape inv.under_way c.in-Done.outcome
     (events.0, events.1, subst P (sym c.in-Done.ensures) events.2)
 
 pub steps-preserved : goal.steps-preserved
@@ -23,10 +24,12 @@ steps-preserved g c =
     let inv = c.steps.invariant in
     record {
       under_way = made_more g.S.Shared.passes g.S.Shared.serves g.met.S.Shared.follows g.S.Shared.shapes c.args.program.now c.args.budget c.args.self.now c.args.shared.now
-          c.steps._step c.steps.shared c.step_from.new.shared (at_pc c.steps.self c.steps.pc) (at_pc c.step_from.new.self c.step_from.new.pc) c.steps-test.true inv.number inv.shapes inv.under_way c.step_from.ensures.ready c.in-On.ensures.step;
+          c.steps._step c.steps.shared c.step_from.new.shared (at_pc c.steps.self c.steps.pc) (at_pc c.step_from.new.self c.step_from.new.pc) c.steps-test.true inv.number inv.keeps.shape inv.under_way c.step_from.ensures.ready c.in-On.ensures.step;
       number = c.step_from.ensures.number ∙ inv.number;
-      running = c.step_from.ensures.running ∙ inv.running;
-      shapes = c.step_from.ensures.shapes ∙ inv.shapes;
+      held =
+          let P : ℕ → Type 0 = λ n. AreHeld (g.S.Shared.held c.step_from.new.shared n) c.step_from.new.self.held in
+          subst P inv.number c.step_from.ensures.held;
+      keeps = chain_keeps g.S.Shared.shapes g.S.Shared.running g.S.Shared.held c.steps.self.number c.args.self.now.number inv.number c.args.shared.now c.steps.shared c.step_from.new.shared inv.keeps c.step_from.ensures.keeps;
     }
 
 pub returns-clause-steps : goal.returns-clause-steps
@@ -44,8 +47,8 @@ steps-init g c = record {
     begun (g.S.Shared.shapes c.args.shared.now) c.args.program.now c.args.budget c.args.self.now c.requires.ready,
   );
   number = refl;
-  running = refl;
-  shapes = refl;
+  held = c.requires.held;
+  keeps = record { shape = refl; runs = refl; others = λ d ne. refl };
 }
 
 pub overflow_cast-self : goal.overflow_cast-self

@@ -1,11 +1,13 @@
-use Rattle.std.proofs.Common.{ℕ, List, [], ◌∷◌, ◌++◌, inl, subst, refl}
+use Rattle.std.proofs.Common.{◌≡◌, ℕ, Bool, List, [], ◌∷◌, ◌++◌, inl, refl, ap, subst, ◌∙◌}
 use Rattle.bpf_shared.specs.declared.events.Event.TheVariants.{Begin, End}
 use Rattle.bpf_shared.specs.declared.shapes.MapShape.{MapShape}
+use Rattle.bpf_shared.specs.declared.events.Span.{Span}
 use Rattle.bpf_shared.specs.Passage.{Calls}
 use Rattle.bpf_shared.specs.Chain.{Chain}
 use Rattle.bpf_shared.proofs.Chains.{chain_one, chain_join, chain_call}
 use Rattle.bpf_cpu.specs.Step.{MakesSteps}
 use Rattle.bpf_cpu.proofs.RowLaws.{start_ready}
+use Rattle.bpf_cpu.proofs.HeldLaws.{nothing_held, others_without, run_and_back}
 use Rattle.bpf_cpu.proofs.cpu.Cpu.run.Goals as goal
 
 pub make_steps-outcome-requires-clause-ready : goal.make_steps-outcome-requires-clause-ready
@@ -31,3 +33,30 @@ returns-in-Ok-clause-explained g c =
       chain_call g.S.Shared.passes g.S.Shared.serves cpu g.met.S.Shared.follows x0 x2 x3 (Begin ∷ made.0) End c.requires.serves both last ended.same.1,
       inl (made.0, c.make_steps-outcome.new.self, refl, subst Q begun.same.0 made.2),
     )
+
+pub make_steps-outcome-requires-clause-held : goal.make_steps-outcome-requires-clause-held
+make_steps-outcome-requires-clause-held g c = nothing_held (g.S.Shared.held c.begin.new.self c.args.self.now.number) c.args.self.now c.requires.fresh.0 c.requires.fresh.1
+
+-- the CPU is out of its run again, and the others are as before
+pub returns-in-Ok-clause-keeps : goal.returns-in-Ok-clause-keeps
+returns-in-Ok-clause-keeps g c =
+    let begun = c.in-Ok.ensures in
+    let made = c.make_steps-outcome.ensures in
+    let ended = c.end.ensures in
+    let cpu = c.args.self.now.number in
+    let same : c.make_steps-outcome.new.self.number ≡ cpu = made.number in
+    record {
+      shape = ended.same.0 ∙ made.keeps.shape ∙ begun.same.0;
+      runs = run_and_back (g.S.Shared.running c.args.shared.now) cpu _ _ _ _ same c.requires.idle begun.running made.keeps.runs ended.running;
+      others = λ d ne.
+          ap (λ (held : ℕ → Span → Bool). held d) ended.held
+          ∙ others_without (g.S.Shared.held c.make_steps-outcome.new.shared) c.make_steps-outcome.new.self.number d (λ e. ne (e ∙ same))
+          ∙ made.keeps.others d ne
+          ∙ ap (λ (held : ℕ → Span → Bool). held d) begun.held
+          ∙ others_without (g.S.Shared.held c.args.shared.now) cpu d ne;
+    }
+
+pub returns-in-Err-clause-keeps : goal.returns-in-Err-clause-keeps
+returns-in-Err-clause-keeps g c =
+    let worn = c.in-Err.ensures in
+    record { shape = worn.same.0; runs = worn.unchanged.1; others = λ d ne. ap (λ (held : ℕ → Span → Bool). held d) worn.unchanged.2 }

@@ -104,7 +104,7 @@ invariant_of-self c =
     let first = subst F c.deref.ensures.value c.first_job-lane.ensures in
     let program = c.index.result.now in
     let loaded : slice_get m.programs.items e.program ≡ Some program = slice_get_read m.programs.items (length m.programs.items) e.program program refl (program_within m.store m.programs.items m.jobs.items m.lanes.items c.self.invariant c.args.cpu c.args.job next e listed) c.index.ensures in
-    begun_board m.store m.programs.items m.jobs.items m.lanes.items c.self.invariant c.args.cpu c.args.job next e listed l here c.replace.new.dest c.replace.ensures.after c.new-start.result started c.first_job-lane.result first c.begin.new.self c.in-Ok.ensures.same.1 c.in-Ok.ensures.running program loaded c.starts.ensures
+    begun_board m.store m.programs.items m.jobs.items m.lanes.items c.self.invariant c.args.cpu c.args.job next e listed l here c.replace.new.dest c.replace.ensures.after c.new-start.result started c.first_job-lane.result first c.begin.new.self c.in-Ok.ensures.same.1 c.in-Ok.ensures.running c.in-Ok.ensures.held program loaded c.starts.ensures
 
 pub returns : goal.returns
 returns c =

@@ -1,7 +1,7 @@
 use Rattle.std.proofs.Common.{◌≡◌, ◌<◌, ◌≤◌, List, length, sym, ap, subst, arith}
 use Rattle.std.specs.Prelude.{slice_index_or}
 use Rattle.std.proofs.lemmas.Bool.{ltb-true, ltb-false}
-use Rattle.bpf_shared.specs.Contents.{has_cpu, is_running}
+use Rattle.bpf_shared.specs.Contents.{has_cpu, is_running, held_spans}
 use Rattle.bpf_cpu.specs.declared.machine.lane.Lane.{Lane}
 use Rattle.bpf_cpu.specs.Task.{IsFree}
 use Rattle.bpf_cpu.specs.Machine.{MachineState}
@@ -17,7 +17,7 @@ returns-in_default-clause-free c =
     let same : length c.deref.result.now ≡ length lanes = ap (length {A = Lane}) c.deref.ensures.value in
     let past : length lanes ≤ c.args.cpu = omega (arith, ltb-false c.args.cpu (length c.deref.result.now) (sym c.in_default.ensures.lookup.0)) in
     let P : MachineState → Type 0 = λ s. IsFree s.jobs c.args.cpu in
-    subst P c.self.view_is ((nothing_beyond (has_cpu m.store) (is_running m.store) m.programs.items m.jobs.items lanes c.self.invariant c.args.cpu past).0)
+    subst P c.self.view_is ((nothing_beyond (has_cpu m.store) (is_running m.store) (held_spans m.store) m.programs.items m.jobs.items lanes c.self.invariant c.args.cpu past).0)
 
 pub returns-in-Some-hand-clause-state : goal.returns-in-Some-hand-clause-state
 returns-in-Some-hand-clause-state c =
@@ -29,7 +29,7 @@ returns-in-Some-hand-clause-state c =
     let read : l ≡ slice_index_or lanes c.args.cpu l = subst (λ (xs : List Lane). l ≡ slice_index_or xs c.args.cpu l) c.deref.ensures.value found.1 in
     let here : lane_of lanes c.args.cpu ≡ l = lane_read lanes c.args.cpu l inside read in
     let P : MachineState → Type 0 = λ s. IsState s.jobs c.args.cpu c.in-Some-hand.hand.cpu in
-    subst P c.self.view_is (state_in_hand (has_cpu m.store) (is_running m.store) m.programs.items m.jobs.items lanes c.self.invariant c.args.cpu l inside here c.in-Some-hand.hand c.in-Some-hand.is)
+    subst P c.self.view_is (state_in_hand (has_cpu m.store) (is_running m.store) (held_spans m.store) m.programs.items m.jobs.items lanes c.self.invariant c.args.cpu l inside here c.in-Some-hand.hand c.in-Some-hand.is)
 
 pub returns-in-None-clause-free : goal.returns-in-None-clause-free
 returns-in-None-clause-free c =
@@ -41,4 +41,4 @@ returns-in-None-clause-free c =
     let read : l ≡ slice_index_or lanes c.args.cpu l = subst (λ (xs : List Lane). l ≡ slice_index_or xs c.args.cpu l) c.deref.ensures.value found.1 in
     let here : lane_of lanes c.args.cpu ≡ l = lane_read lanes c.args.cpu l inside read in
     let P : MachineState → Type 0 = λ s. IsFree s.jobs c.args.cpu in
-    subst P c.self.view_is (work_free (has_cpu m.store) (is_running m.store) m.programs.items m.jobs.items lanes c.self.invariant c.args.cpu l inside here c.in-None.is)
+    subst P c.self.view_is (work_free (has_cpu m.store) (is_running m.store) (held_spans m.store) m.programs.items m.jobs.items lanes c.self.invariant c.args.cpu l inside here c.in-None.is)

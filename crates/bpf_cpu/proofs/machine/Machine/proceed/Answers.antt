@@ -2,17 +2,20 @@ use Rattle.std.proofs.Common.{◌≡◌, ℕ, Some, None, length, refl, sym, ap,
 use Rattle.std.specs.Prelude.{slice_get, slice_set}
 use Rattle.std.proofs.lemmas.Option.{slice_get_read}
 use Rattle.bpf_shared.specs.Store.{put}
-use Rattle.bpf_shared.specs.Contents.{has_cpu, is_running}
+use Rattle.bpf_shared.specs.declared.events.Span.{Span}
+use Rattle.bpf_shared.specs.Contents.{has_cpu, is_running, held_spans}
 use Rattle.bpf_shared.specs.declared.events.Event.TheVariants.{End}
 use Rattle.bpf_cpu.specs.declared.machine.lane.Phase.TheVariants.{Ended}
 use Rattle.bpf_cpu.specs.declared.machine.Turn.TheVariants.{Ran}
 use Rattle.bpf_cpu.specs.declared.machine.Turn.TheVariants as turn
+use Rattle.bpf_cpu.specs.Held.{AreHeld}
 use Rattle.bpf_cpu.specs.Machine.{MachineState}
 use Rattle.bpf_cpu.specs.Private.Lanes.{lane_of, tasks_of}
 use Rattle.bpf_cpu.specs.Work.{HasInHand, Proceeds}
 use Rattle.bpf_cpu.proofs.OwnEvents.{call_leads}
+use Rattle.bpf_cpu.proofs.HeldLaws.{others_without}
 use Rattle.bpf_cpu.proofs.Machines.WorkLaws.{lane_read}
-use Rattle.bpf_cpu.proofs.Machines.ProceedLaws.{lane_within, job_within, serves, running, never_empty, number, program_within, ready, kept_board, ended_board, proceeds_kept, proceeds_ended}
+use Rattle.bpf_cpu.proofs.Machines.ProceedLaws.{lane_within, job_within, serves, running, never_empty, number, program_within, held_now, ready, kept_board, ended_board, proceeds_kept, proceeds_ended}
 use Rattle.bpf_cpu.proofs.machine.Machine.proceed.Goals as goal
 
 pub index_mut-lane-requires : goal.index_mut-lane-requires
@@ -84,6 +87,21 @@ advance-requires-clause-in_run c =
     let h = c.in-Some.hand in
     ap (λ (n : ℕ). is_running m.store n) (number m.store m.programs.items m.jobs.items m.lanes.items c.self.invariant c.args.cpu c.args.job has.0 has.1 has.2 has.3 l here h c.in-Some.is) ∙ running m.store m.programs.items m.jobs.items m.lanes.items c.self.invariant c.args.cpu c.args.job has.0 has.1 has.2 has.3
 
+pub advance-requires-clause-held : goal.advance-requires-clause-held
+advance-requires-clause-held c =
+    let m = c.self.inside in
+    let P : MachineState → Type 0 = λ s. HasInHand s.jobs c.args.cpu c.args.job in
+    let has = subst P (sym c.self.view_is) c.requires in
+    let l = c.index_mut-lane.result.now in
+    let here : lane_of m.lanes.items c.args.cpu ≡ l = lane_read m.lanes.items c.args.cpu l (lane_within m.store m.programs.items m.jobs.items m.lanes.items c.self.invariant c.args.cpu c.args.job has.0 has.1 has.2 has.3) c.index_mut-lane.ensures.value in
+    let h = c.in-Some.hand in
+    let e = c.index_mut-listed.result.now in
+    let listed : slice_get m.jobs.items c.args.job ≡ Some e = slice_get_read m.jobs.items (length m.jobs.items) c.args.job e refl (job_within m.store m.programs.items m.jobs.items m.lanes.items c.self.invariant c.args.cpu c.args.job has.0 has.1 has.2 has.3) c.index_mut-listed.ensures.value in
+    let program = c.index.result.now in
+    let loaded : slice_get m.programs.items e.program ≡ Some program = slice_get_read m.programs.items (length m.programs.items) e.program program refl (program_within m.store m.programs.items m.jobs.items m.lanes.items c.self.invariant c.args.cpu c.args.job has.0 has.1 has.2 has.3 l here h c.in-Some.is e listed) c.index.ensures in
+    let P : ℕ → Type 0 = λ n. AreHeld (held_spans m.store n) h.cpu.held in
+    subst P (sym (number m.store m.programs.items m.jobs.items m.lanes.items c.self.invariant c.args.cpu c.args.job has.0 has.1 has.2 has.3 l here h c.in-Some.is)) (held_now m.store m.programs.items m.jobs.items m.lanes.items c.self.invariant c.args.cpu c.args.job has.0 has.1 has.2 has.3 l here h c.in-Some.is e listed program loaded)
+
 pub invariant_of-self : goal.invariant_of-self
 invariant_of-self c =
     let m = c.self.inside in
@@ -96,7 +114,9 @@ invariant_of-self c =
     let listed : slice_get m.jobs.items c.args.job ≡ Some e = slice_get_read m.jobs.items (length m.jobs.items) c.args.job e refl (job_within m.store m.programs.items m.jobs.items m.lanes.items c.self.invariant c.args.cpu c.args.job has.0 has.1 has.2 has.3) c.index_mut-listed.ensures.value in
     let program = c.index.result.now in
     let loaded : slice_get m.programs.items e.program ≡ Some program = slice_get_read m.programs.items (length m.programs.items) e.program program refl (program_within m.store m.programs.items m.jobs.items m.lanes.items c.self.invariant c.args.cpu c.args.job has.0 has.1 has.2 has.3 l here h c.in-Some.is e listed) c.index.ensures in
-    kept_board m.store m.programs.items m.jobs.items m.lanes.items c.self.invariant c.args.cpu c.args.job has.0 has.1 has.2 has.3 l here h c.in-Some.is e listed program loaded c.advance.new.self c.advance.ensures.same.0 c.advance.ensures.same.1 c.advance.ensures.ready c.advance.new.store c.advance.ensures.serves c.advance.ensures.running
+    kept_board m.store m.programs.items m.jobs.items m.lanes.items c.self.invariant c.args.cpu c.args.job has.0 has.1 has.2 has.3 l here h c.in-Some.is e listed program loaded c.advance.new.self c.advance.ensures.same.0 c.advance.ensures.same.1 c.advance.ensures.ready c.advance.new.store c.advance.ensures.serves c.advance.ensures.keeps.runs
+    (λ d ne. c.advance.ensures.keeps.others d (λ q. ne (q ∙ number m.store m.programs.items m.jobs.items m.lanes.items c.self.invariant c.args.cpu c.args.job has.0 has.1 has.2 has.3 l here h c.in-Some.is)))
+    (let P : ℕ → Type 0 = λ n. AreHeld (held_spans c.advance.new.store n) c.advance.new.self.cpu.held in subst P (number m.store m.programs.items m.jobs.items m.lanes.items c.self.invariant c.args.cpu c.args.job has.0 has.1 has.2 has.3 l here h c.in-Some.is) c.advance.ensures.held)
 
 pub end-requires-clause-serves : goal.end-requires-clause-serves
 end-requires-clause-serves c =
@@ -110,7 +130,7 @@ end-requires-clause-in_run c =
     let m = c.self.inside in
     let P : MachineState → Type 0 = λ s. HasInHand s.jobs c.args.cpu c.args.job in
     let has = subst P (sym c.self.view_is) c.requires in
-    ap (λ (f : _). f c.args.cpu) c.advance.ensures.running ∙ running m.store m.programs.items m.jobs.items m.lanes.items c.self.invariant c.args.cpu c.args.job has.0 has.1 has.2 has.3
+    ap (λ (f : _). f c.args.cpu) c.advance.ensures.keeps.runs ∙ running m.store m.programs.items m.jobs.items m.lanes.items c.self.invariant c.args.cpu c.args.job has.0 has.1 has.2 has.3
 
 pub invariant_of-self-in-Some-advance : goal.invariant_of-self-in-Some-advance
 invariant_of-self-in-Some-advance c =
@@ -124,7 +144,8 @@ invariant_of-self-in-Some-advance c =
     let listed : slice_get m.jobs.items c.args.job ≡ Some e = slice_get_read m.jobs.items (length m.jobs.items) c.args.job e refl (job_within m.store m.programs.items m.jobs.items m.lanes.items c.self.invariant c.args.cpu c.args.job has.0 has.1 has.2 has.3) c.index_mut-listed.ensures.value in
     let program = c.index.result.now in
     let loaded : slice_get m.programs.items e.program ≡ Some program = slice_get_read m.programs.items (length m.programs.items) e.program program refl (program_within m.store m.programs.items m.jobs.items m.lanes.items c.self.invariant c.args.cpu c.args.job has.0 has.1 has.2 has.3 l here h c.in-Some.is e listed) c.index.ensures in
-    ended_board m.store m.programs.items m.jobs.items m.lanes.items c.self.invariant c.args.cpu c.args.job has.0 has.1 has.2 has.3 l here h c.in-Some.is e listed program loaded c.in-Some-advance.outcome c.end.new.self (c.end.ensures.same.1 ∙ c.advance.ensures.serves) (c.end.ensures.running ∙ ap (λ (f : ℕ → Bool). put f c.args.cpu false) c.advance.ensures.running)
+    ended_board m.store m.programs.items m.jobs.items m.lanes.items c.self.invariant c.args.cpu c.args.job has.0 has.1 has.2 has.3 l here h c.in-Some.is e listed program loaded c.in-Some-advance.outcome c.end.new.self (c.end.ensures.same.1 ∙ c.advance.ensures.serves) (c.end.ensures.running ∙ ap (λ (f : ℕ → Bool). put f c.args.cpu false) c.advance.ensures.keeps.runs)
+    (λ d ne. ap (λ (f : ℕ → Span → Bool). f d) c.end.ensures.held ∙ others_without (held_spans c.advance.new.store) c.args.cpu d ne ∙ c.advance.ensures.keeps.others d (λ q. ne (q ∙ number m.store m.programs.items m.jobs.items m.lanes.items c.self.invariant c.args.cpu c.args.job has.0 has.1 has.2 has.3 l here h c.in-Some.is)))
 
 pub returns-in-None-clause-proceeds : goal.returns-in-None-clause-proceeds
 returns-in-None-clause-proceeds c =
