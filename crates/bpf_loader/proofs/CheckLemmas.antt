@@ -8,8 +8,8 @@ use Rattle.bpf_insn.specs.Refusal.{max_words}
 use Rattle.bpf_loader.specs.declared.refusal.LoadError.{LoadError}
 use Rattle.bpf_loader.specs.declared.refusal.LoadError.TheVariants as error
 use Rattle.bpf_loader.specs.Places.{word_length, Begins, IsStart, IsOutside}
-use Rattle.bpf_loader.specs.Sound.{HasAt, Applies, IsSound, IsFirst, code, place}
-use Rattle.bpf_loader.specs.Checks.{IsClearBefore, IsClearAt, IsClearBelow, IsLeastAt}
+use Rattle.bpf_loader.specs.Sound.{HasAt, Applies, IsSound, IsFirstRefusal, refusal_number, place}
+use Rattle.bpf_loader.specs.Private.Checks.{IsClearBefore, IsClearAt, IsClearBelow, IsLeastAt}
 use Rattle.bpf_loader.proofs.MarkLemmas.{begins_unique}
 use Rattle.bpf_loader.proofs.WordLemmas.{start_inside, words_some}
 
@@ -25,7 +25,7 @@ error_at number pc =
     (cond (nat_eq number 12) (error.UnknownHelper pc)
     (cond (nat_eq number 13) (error.UnknownMap pc) error.OutOfMemory)))))))
 
-error_at_code : (e : LoadError) → error_at (code e) (place e) ≡ e
+pub error_at_code : (e : LoadError) → error_at (refusal_number e) (place e) ≡ e
 error_at_code error.Empty = refl
 error_at_code error.TooLong = refl
 error_at_code (error.WritesR10 pc) = refl
@@ -40,7 +40,7 @@ error_at_code error.OutOfMemory = refl
 pub clear_next : (maps : ℕ) (is : List Insn) (pc number : ℕ) → IsClearBelow maps is pc number → ¬ Applies maps is (error_at number pc) → IsClearBelow maps is pc (number + 1)
 clear_next maps is pc number clear not_here e applies at =
     let from = clear e applies at in
-    elim (cases_eq number (code e)) [
+    elim (cases_eq number (refusal_number e)) [
       | inl same ↦
           let this : e ≡ error_at number pc = sym (error_at_code e) ∙ cc in
           absurd (not_here (subst (Applies maps is) this applies))
@@ -83,7 +83,7 @@ clear_from maps is pc some short (error.UnknownMap q) applies at = omega arith
 clear_from maps is pc some short error.OutOfMemory applies at = absurd applies
 
 -- a refusal that applies has a number below that of want of memory
-applies_code : (maps : ℕ) (is : List Insn) (e : LoadError) → Applies maps is e → code e < 14
+applies_code : (maps : ℕ) (is : List Insn) (e : LoadError) → Applies maps is e → refusal_number e < 14
 applies_code maps is error.Empty applies = omega arith
 applies_code maps is error.TooLong applies = omega arith
 applies_code maps is (error.WritesR10 q) applies = omega arith
@@ -133,7 +133,7 @@ pub clear_more : (maps : ℕ) (is : List Insn) (pc : ℕ) → IsClearBefore maps
 clear_more maps is pc before here e applies = omega (arith, before e applies, here e applies)
 
 -- the refusal of the lowest number at the first word that isn't clear is the first
-pub first_of_least : (maps : ℕ) (is : List Insn) (pc : ℕ) (e : LoadError) → IsClearBefore maps is pc → IsLeastAt maps is pc e → IsFirst maps is e
+pub first_of_least : (maps : ℕ) (is : List Insn) (pc : ℕ) (e : LoadError) → IsClearBefore maps is pc → IsLeastAt maps is pc e → IsFirstRefusal maps is e
 first_of_least maps is pc e before at = record {
   applies = at.applies;
   lowest = λ other applies. omega (arith, before other applies, at.at);

@@ -3,7 +3,7 @@ use Rattle.std.specs.Prelude.{◌≡◌, ℕ, List}
 use Rattle.bpf_insn.specs.declared.instruction.Insn.{Insn}
 use Rattle.bpf_loader.specs.declared.refusal.LoadError.{LoadError}
 use Rattle.bpf_loader.specs.Places.{Begins}
-use Rattle.bpf_loader.specs.Sound.{IsSound, IsFirst}
+use Rattle.bpf_loader.specs.Sound.{IsSound, IsFirstRefusal}
 
 -- one instruction at most begins at a pc
 abbrev pub OneInstructionBegins : Type 0
@@ -12,5 +12,5 @@ OneInstructionBegins = (is : List Insn) (pc : ℕ) (i j : Insn) → Begins is pc
 -- a list has one first refusal at most, and a sound one has none
 abbrev pub FirstIsDetermined : Type 0
 FirstIsDetermined =
-    ((maps : ℕ) (is : List Insn) (e f : LoadError) → IsFirst maps is e → IsFirst maps is f → e ≡ f)
-    × ((maps : ℕ) (is : List Insn) (e : LoadError) → IsSound maps is → ¬ IsFirst maps is e)
+    ((maps : ℕ) (is : List Insn) (e f : LoadError) → IsFirstRefusal maps is e → IsFirstRefusal maps is f → e ≡ f)
+    × ((maps : ℕ) (is : List Insn) (e : LoadError) → IsSound maps is → ¬ IsFirstRefusal maps is e)

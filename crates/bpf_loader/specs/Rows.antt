@@ -1,5 +1,6 @@
 -- What each row of the table (RFC 9669, sections 4 and 5) means for the soundness of a program.
-use Rattle.std.specs.Prelude.{ℕ, ◌≡◌, ◌⊎◌, ℤ, Bool, true, false, Option, Some, None}
+use Rattle.std.specs.Prelude.{ℕ, ◌≡◌, ◌⊎◌, ℤ, Bool, true, false, if◌then◌else◌, Option, Some, None}
+use Rattle.bpf_insn.specs.Table.{words}
 use Rattle.bpf_insn.specs.declared.register.Reg.{Reg}
 use Rattle.bpf_insn.specs.declared.register.Reg.TheVariants.{R0}
 use Rattle.bpf_insn.specs.declared.operation.AtomicOp.{AtomicOp}
@@ -21,24 +22,24 @@ fetched_into atomic.Exchange src = Some src
 fetched_into atomic.CompareExchange src = Some R0
 
 -- the register that the instruction puts its result in
-abbrev pub written : Insn → Option Reg
-written (insn.Alu w op dst s) = Some dst
-written (insn.Negate w dst) = Some dst
-written (insn.SignExtend e dst s) = Some dst
-written (insn.SwapBytes k w dst) = Some dst
-written (insn.Jump o) = None
-written (insn.JumpLong o) = None
-written (insn.JumpIf w c d s o) = None
-written (insn.CallHelper n) = Some R0
-written (insn.CallLocal o) = None
-written insn.Exit = None
-written (insn.Load z dst b o) = Some dst
-written (insn.LoadSigned z dst b o) = Some dst
-written (insn.StoreImmediate z b o v) = None
-written (insn.Store z b o s) = None
-written (insn.Atomic w op b o src) = fetched_into op src
-written (insn.LoadNumber dst n) = Some dst
-written (insn.LoadMap dst m) = Some dst
+abbrev pub destination : Insn → Option Reg
+destination (insn.Alu w op dst s) = Some dst
+destination (insn.Negate w dst) = Some dst
+destination (insn.SignExtend e dst s) = Some dst
+destination (insn.SwapBytes k w dst) = Some dst
+destination (insn.Jump o) = None
+destination (insn.JumpLong o) = None
+destination (insn.JumpIf w c d s o) = None
+destination (insn.CallHelper n) = Some R0
+destination (insn.CallLocal o) = None
+destination insn.Exit = None
+destination (insn.Load z dst b o) = Some dst
+destination (insn.LoadSigned z dst b o) = Some dst
+destination (insn.StoreImmediate z b o v) = None
+destination (insn.Store z b o s) = None
+destination (insn.Atomic w op b o src) = fetched_into op src
+destination (insn.LoadNumber dst n) = Some dst
+destination (insn.LoadMap dst m) = Some dst
 
 -- the offset of a jump or a local call, in words from the next one
 abbrev pub jump_offset : Insn → Option ℤ
@@ -82,23 +83,7 @@ goes_on (insn.LoadMap d m) = true
 
 -- how many words further the next instruction begins, where a run may come to it
 abbrev pub stride : Insn → Option ℕ
-stride (insn.Alu w op d s) = Some 1
-stride (insn.Negate w d) = Some 1
-stride (insn.SignExtend e d s) = Some 1
-stride (insn.SwapBytes k w d) = Some 1
-stride (insn.Jump o) = None
-stride (insn.JumpLong o) = None
-stride (insn.JumpIf w c d s o) = Some 1
-stride (insn.CallHelper n) = Some 1
-stride (insn.CallLocal o) = Some 1
-stride insn.Exit = None
-stride (insn.Load z d b o) = Some 1
-stride (insn.LoadSigned z d b o) = Some 1
-stride (insn.StoreImmediate z b o v) = Some 1
-stride (insn.Store z b o s) = Some 1
-stride (insn.Atomic w op b o s) = Some 1
-stride (insn.LoadNumber d n) = Some 2
-stride (insn.LoadMap d m) = Some 2
+stride i = if goes_on i then Some (words i) else None
 
 -- the number of the helper that is called
 abbrev pub helper_of : Insn → Option ℕ

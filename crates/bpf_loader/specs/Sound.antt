@@ -8,9 +8,10 @@ use Rattle.bpf_insn.specs.declared.instruction.Insn.{Insn}
 use Rattle.bpf_loader.specs.declared.refusal.LoadError.{LoadError}
 use Rattle.bpf_loader.specs.declared.refusal.LoadError.TheVariants.{Empty, TooLong, WritesR10, JumpOut, JumpIntoWide, FallsOff, UnknownHelper, UnknownMap, OutOfMemory}
 use Rattle.bpf_insn.specs.Table.{words}
+use Rattle.bpf_insn.specs.First.{IsFirst}
 use Rattle.bpf_insn.specs.Refusal.{max_words}
 use Rattle.bpf_loader.specs.Places.{word_length, Begins, IsStart, target, IsOutside, IsSecondWord, Leads}
-use Rattle.bpf_loader.specs.Rows.{written, jump_offset, goes_on, helper_of, map_of, IsHelper, stride}
+use Rattle.bpf_loader.specs.Rows.{destination, jump_offset, goes_on, helper_of, map_of, IsHelper, stride}
 
 -- the instruction at this pc has this property
 abbrev pub HasAt : List Insn → ℕ → (Insn → Type 0) → Type 0
@@ -20,7 +21,7 @@ HasAt is pc P = (i : Insn) × Begins is pc i × P i
 abbrev pub Applies : ℕ → List Insn → LoadError → Type 0
 Applies maps is Empty = is ≡ []
 Applies maps is TooLong = max_words < word_length is
-Applies maps is (WritesR10 pc) = HasAt is pc (λ i. written i ≡ Some R10)
+Applies maps is (WritesR10 pc) = HasAt is pc (λ i. destination i ≡ Some R10)
 Applies maps is (JumpOut pc) = HasAt is pc (λ i. IsSomeAnd (jump_offset i) (λ offset. IsOutside is (target pc offset)))
 Applies maps is (JumpIntoWide pc) = HasAt is pc (λ i. IsSomeAnd (jump_offset i) (λ offset. IsSecondWord is (target pc offset)))
 Applies maps is (FallsOff pc) = HasAt is pc (λ i. IsTrue (goes_on i) × (pc + words i ≡ word_length is))
@@ -32,17 +33,17 @@ Applies maps is OutOfMemory = ⊥
 abbrev pub IsSound : ℕ → List Insn → Type 0
 IsSound maps is = (e : LoadError) → ¬ Applies maps is e
 
--- the number of the refusal's code
-abbrev pub code : LoadError → ℕ
-code Empty = 1
-code TooLong = 3
-code (WritesR10 pc) = 8
-code (JumpOut pc) = 9
-code (JumpIntoWide pc) = 10
-code (FallsOff pc) = 11
-code (UnknownHelper pc) = 12
-code (UnknownMap pc) = 13
-code OutOfMemory = 14
+-- the refusal's number
+abbrev pub refusal_number : LoadError → ℕ
+refusal_number Empty = 1
+refusal_number TooLong = 3
+refusal_number (WritesR10 pc) = 8
+refusal_number (JumpOut pc) = 9
+refusal_number (JumpIntoWide pc) = 10
+refusal_number (FallsOff pc) = 11
+refusal_number (UnknownHelper pc) = 12
+refusal_number (UnknownMap pc) = 13
+refusal_number OutOfMemory = 14
 
 -- the word that the refusal speaks of; of one that speaks of the whole list, the first
 abbrev pub place : LoadError → ℕ
@@ -56,16 +57,14 @@ place (UnknownHelper pc) = pc
 place (UnknownMap pc) = pc
 place OutOfMemory = 0
 
--- this refusal is the first that applies: none does at a lower place, and at its place none with a lower number
-pub record IsFirst (maps : ℕ) (is : List Insn) (e : LoadError) : Type 0 where
-  pub applies : Applies maps is e
-  pub lowest : (other : LoadError) → Applies maps is other → place e ≤ place other
-  pub least : (other : LoadError) → Applies maps is other → place other ≡ place e → code e ≤ code other
+-- this refusal is the first that applies, by places and then by numbers
+abbrev pub IsFirstRefusal : ℕ → List Insn → LoadError → Type 0
+IsFirstRefusal maps is e = IsFirst place refusal_number (Applies maps is) e
 
 -- what a run may rely on at an instruction of a sound program
 pub record IsSafe (maps : ℕ) (is : List Insn) (pc : ℕ) (i : Insn) : Type 0 where
-  pub short : pc < 65536
-  pub writes : IfSome (written i) (λ r. r ≢ R10)
+  pub short : pc < max_words
+  pub writes : IfSome (destination i) (λ r. r ≢ R10)
   pub next : IfSome (stride i) (λ n. IsStart is (pc + n))
   pub jumps : IfSome (jump_offset i) (Leads is pc)
   pub helper : IfSome (helper_of i) IsHelper

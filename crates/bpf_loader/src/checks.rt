@@ -3,11 +3,11 @@
 ghost use Rattle.std.specs.Prelude.{◌≡◌, ◌≢◌, ◌≤◌, ◌<◌, ◌⊎◌, pos, ◌<ℤ◌, ◌≤ℤ◌, [], OnOk, IfErr, IfSome, IfNone};
 ghost use Rattle.bpf_insn.specs.Refusal.{max_words};
 ghost use Rattle.bpf_loader.specs.Places.{Begins, target, word_length};
-ghost use Rattle.bpf_loader.specs.Sound.{IsSound, IsFirst};
-ghost use Rattle.bpf_loader.specs.Checks.{IsClearAt, IsClearBelow, IsLeastAt};
+ghost use Rattle.bpf_loader.specs.Sound.{IsSound, IsFirstRefusal};
+ghost use Rattle.bpf_loader.specs.Private.Checks.{IsClearAt, IsClearBelow, IsLeastAt};
 
 use crate::refusal::LoadError;
-use crate::rows::{goes_on, helper_of, is_helper, jump_offset, map_of, written};
+use crate::rows::{destination, goes_on, helper_of, is_helper, jump_offset, map_of};
 use crate::slots::Slots;
 use bpf_insn::instruction::Insn;
 use bpf_insn::register::Reg;
@@ -19,7 +19,7 @@ fn check_write(slots: &Slots, maps: usize, pc: u32, insn: Insn) -> Result<(), Lo
     ensures ok { OnOk result (IsClearBelow maps slots.now pc 9) }
     ensures err { IfErr result (IsLeastAt maps slots.now pc) }
 {
-    if written(insn) == Some(Reg::R10) {
+    if destination(insn) == Some(Reg::R10) {
         return Err(LoadError::WritesR10(pc));
     }
     Ok(())
@@ -137,7 +137,7 @@ pub fn check(slots: &Slots, maps: usize) -> Result<(), LoadError>
     requires some { slots.now ≢ [] }
     requires short { word_length slots.now ≤ max_words }
     ensures sound { OnOk result (IsSound maps slots.now) }
-    ensures first { IfErr result (IsFirst maps slots.now) }
+    ensures first { IfErr result (IsFirstRefusal maps slots.now) }
 {
     for pc in 0..slots.len() {
         check_word(slots, maps, pc)?;

@@ -1,9 +1,9 @@
 //! From a list of instructions to a program.
 
-ghost use Rattle.std.specs.Prelude.{◌≡◌, ◌≢◌, ◌≤◌, ◌<◌, length, IfOk, IfErr, OnOk, IfSome, IfNone, IsOkUnless};
+ghost use Rattle.std.specs.Prelude.{◌≡◌, ◌≢◌, ◌≤◌, ◌<◌, [], length, IfOk, IfErr, OnOk, IfSome, IfNone, IsOkUnless};
 ghost use Rattle.bpf_insn.specs.Refusal.{max_words};
 ghost use Rattle.bpf_loader.specs.Places.{word_length};
-ghost use Rattle.bpf_loader.specs.Sound.{IsSound, IsFirst};
+ghost use Rattle.bpf_loader.specs.Sound.{IsSound, IsFirstRefusal};
 
 use crate::checks::check;
 use crate::loaded::Program;
@@ -37,9 +37,12 @@ pub fn load(alloc: Global, insns: Vec<Insn>, shapes: &[MapShape]) -> Result<Prog
     ensures maps { IfOk result (λ p. p.maps ≡ length shapes.now) }
     ensures sound { OnOk result (IsSound (length shapes.now) insns.items) }
     ensures refused { IfErr result
-        (λ e. e ≢ LoadError.OutOfMemory → IsFirst (length shapes.now) insns.items e) }
+        (λ e. e ≢ LoadError.OutOfMemory → IsFirstRefusal (length shapes.now) insns.items e) }
     ensures accepted { IsSound (length shapes.now) insns.items
         → IsOkUnless result LoadError.OutOfMemory }
+    // Memory is asked for where the list is neither empty nor too long.
+    ensures memory { IfErr result (λ e. e ≡ LoadError.OutOfMemory
+        → (insns.items ≢ []) × (word_length insns.items ≤ max_words)) }
 {
     if insns.is_empty() {
         return Err(LoadError::Empty);

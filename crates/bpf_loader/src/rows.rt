@@ -1,7 +1,7 @@
 //! What the rows of the table mean for the checks.
 
 ghost use Rattle.std.specs.Prelude.{◌≡◌, ◌↔◌, IsTrue};
-ghost use Rattle.bpf_loader.specs.Rows.{fetched_into, written, jump_offset, goes_on, helper_of, map_of, IsHelper};
+ghost use Rattle.bpf_loader.specs.Rows.{fetched_into, destination, jump_offset, goes_on, helper_of, map_of, IsHelper};
 
 use bpf_insn::instruction::Insn;
 use bpf_insn::operation::AtomicOp;
@@ -23,8 +23,8 @@ fn fetched_into(op: AtomicOp, src: Reg) -> Option<Reg>
 }
 
 /// The register that an instruction puts its result in.
-pub fn written(insn: Insn) -> Option<Reg>
-    ensures { result ≡ written insn }
+pub fn destination(insn: Insn) -> Option<Reg>
+    ensures { result ≡ destination insn }
 {
     match insn {
         Insn::Alu { dst, .. }

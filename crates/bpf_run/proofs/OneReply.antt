@@ -8,7 +8,7 @@ use Rattle.bpf_insn.specs.Laws.{WordsAreDetermined, EncodingsAreDetermined, Refu
 use Rattle.bpf_insn.specs.declared.error.InsnError.{InsnError}
 use Rattle.bpf_insn.specs.declared.error.InsnError.TheVariants as insn_error
 use Rattle.bpf_loader.specs.Loaded.{Loaded}
-use Rattle.bpf_loader.specs.Sound.{IsFirst, IsSound}
+use Rattle.bpf_loader.specs.Sound.{IsFirstRefusal, IsSound}
 use Rattle.bpf_loader.specs.Laws.{FirstIsDetermined}
 use Rattle.bpf_loader.specs.declared.refusal.LoadError.{LoadError}
 use Rattle.bpf_loader.specs.declared.refusal.LoadError.TheVariants as load_error
@@ -60,7 +60,7 @@ data OfWords (text : List ℕ) : Refusal → Type 0 where
 data OfRun (budget : ℕ) (context text : List ℕ) : Reply → Type 0 where
   Ran : (outcome : Outcome) (is : List Insn) (events : List Event) → IsWordsOf text is → IsSound 0 is
       → Explains ⊥ [] (record { instructions = is; maps = 0 }) budget (start 0 context) events outcome → OfRun budget context text (reply.Ended outcome)
-  Unsound : (error : LoadError) (is : List Insn) → IsWordsOf text is → IsFirst 0 is error → OfRun budget context text (reply.Refused (refusal.Load error))
+  Unsound : (error : LoadError) (is : List Insn) → IsWordsOf text is → IsFirstRefusal 0 is error → OfRun budget context text (reply.Refused (refusal.Load error))
   Unread : (r : Refusal) → OfWords text r → OfRun budget context text (reply.Refused r)
 
 data OfAssembly (text : List ℕ) : Reply → Type 0 where
@@ -161,14 +161,14 @@ module _ (words : WordsAreDetermined) (encodings : EncodingsAreDetermined) (refu
       ap reply.Ended (outcomes [] (loaded is) budget 0 context es x y h (unworn (loaded is) budget (start 0 context) es x runs)
       (unworn (loaded is) budget (start 0 context) es y (subst Q (alone' ∙ sym alone) other)))
   one_run budget context text r s h (Ran x is es a sound runs) (Unsound error js b first) =
-      let P : List Insn → Type 0 = λ is. IsFirst 0 is error in
+      let P : List Insn → Type 0 = λ is. IsFirstRefusal 0 is error in
       absurd (firsts.1 0 is error sound (subst P (same_words text js is b a) first))
   one_run budget context text r s h (Ran x is es a sound runs) (Unread e b) = absurd (no_words text is e b a)
   one_run budget context text r s h (Unsound error js b first) (Ran x is es a sound runs) =
-      let P : List Insn → Type 0 = λ is. IsFirst 0 is error in
+      let P : List Insn → Type 0 = λ is. IsFirstRefusal 0 is error in
       absurd (firsts.1 0 is error sound (subst P (same_words text js is b a) first))
   one_run budget context text r s h (Unsound e is a first) (Unsound f js b lowest) =
-      let P : List Insn → Type 0 = λ is. IsFirst 0 is f in
+      let P : List Insn → Type 0 = λ is. IsFirstRefusal 0 is f in
       ap (λ error. reply.Refused (refusal.Load error)) (firsts.0 0 is e f first (subst P (same_words text js is b a) lowest))
   one_run budget context text r s h (Unsound error is a first) (Unread e b) = absurd (no_words text is e b a)
   one_run budget context text r s h (Unread e b) (Ran x is es a sound runs) = absurd (no_words text is e b a)

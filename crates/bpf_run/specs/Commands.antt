@@ -3,7 +3,7 @@ use Rattle.std.specs.Prelude.{◌≡◌, ◌≢◌, ◌≤◌, ◌<◌, ◌⊎�
 use Rattle.bpf_insn.specs.declared.instruction.Insn.{Insn}
 use Rattle.bpf_insn.specs.Encoding.{IsEncodedAs}
 use Rattle.bpf_insn.specs.Refusal.{IsRefused, IsSized}
-use Rattle.bpf_loader.specs.Sound.{IsFirst, IsSound}
+use Rattle.bpf_loader.specs.Sound.{IsFirstRefusal, IsSound}
 use Rattle.bpf_loader.specs.declared.refusal.LoadError.TheVariants as load_error
 use Rattle.bpf_shared.specs.declared.events.Event.{Event}
 use Rattle.bpf_cpu.specs.State.{start}
@@ -37,7 +37,7 @@ RefusesWords text _ = ⊥
 -- `hex`: the first refusal that applies to the program, for no maps; else what explains how its run ends, on CPU 0
 abbrev pub RefusesProgram : List ℕ → Refusal → Type 0
 RefusesProgram text (refusal.Load error) = (is : List Insn) × IsWordsOf text is
-    × (error ≢ load_error.OutOfMemory → IsFirst 0 is error)
+    × (error ≢ load_error.OutOfMemory → IsFirstRefusal 0 is error)
 RefusesProgram text r = RefusesWords text r
 
 abbrev pub IsRun : ℕ → List ℕ → List ℕ → Reply → Type 0

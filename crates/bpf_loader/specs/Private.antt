@@ -1,0 +1,3 @@
+-- What private functions' contracts speak of.
+pub mod Checks
+pub mod Slots
