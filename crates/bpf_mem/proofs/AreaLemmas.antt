@@ -7,6 +7,7 @@ use Rattle.std.proofs.lemmas.Option.{slice_get_past, slice_get-get_or}
 use Rattle.std.proofs.lemmas.Bool.{cases_lt}
 use Rattle.std.proofs.lemmas.Bool.Decides.{nat_tests}
 use Rattle.bpf_mem.specs.declared.memory.PrivateMemory.{PrivateMemory}
+use Rattle.bpf_mem.specs.Limits.{max_context, frame_bytes}
 use Rattle.bpf_mem.specs.Addresses.{context_base, frame_base}
 use Rattle.bpf_mem.specs.Memory.{Area, frame_areas, byte_in, byte_among, byte_at}
 
@@ -16,19 +17,19 @@ by_le a b low high = elim (cases_lt b a) [ inl past ↦ high past | inr within �
 
 -- each frame has 512 bytes
 abbrev pub Sized : List (List ℕ) → Type 0
-Sized frames = All (λ frame. length frame ≡ 512) frames
+Sized frames = All (λ frame. length frame ≡ frame_bytes) frames
 
-Sized-tail : (frame : List ℕ) (frames : List (List ℕ)) → Sized (frame ∷ frames) → Sized frames
+pub Sized-tail : (frame : List ℕ) (frames : List (List ℕ)) → Sized (frame ∷ frames) → Sized frames
 Sized-tail frame frames sized k d h = sized (suc k) d (omega arith)
 
-Sized-head : (frame : List ℕ) (frames : List (List ℕ)) → Sized (frame ∷ frames) → length frame ≡ 512
+pub Sized-head : (frame : List ℕ) (frames : List (List ℕ)) → Sized (frame ∷ frames) → length frame ≡ frame_bytes
 Sized-head frame frames sized = sized 0 [] (omega arith)
 
 option_or-none : (o : Option ℕ) → option_or o None ≡ o
 option_or-none None = refl
 option_or-none (Some x) = refl
 
-byte_in-below : (area : Area) (a : ℕ) → a < area.base → byte_in area a ≡ None
+pub byte_in-below : (area : Area) (a : ℕ) → a < area.base → byte_in area a ≡ None
 byte_in-below area a h = grind (arith, nat_tests)
 
 byte_in-from : (area : Area) (a o : ℕ) → a ≡ area.base + o → byte_in area a ≡ slice_get area.bytes o
@@ -37,7 +38,7 @@ byte_in-from area a o e =
     let offset : a - area.base ≡ o = omega arith in
     rw (within, offset)
 
-byte_in-past : (area : Area) (a : ℕ) → area.base + length area.bytes ≤ a → byte_in area a ≡ None
+pub byte_in-past : (area : Area) (a : ℕ) → area.base + length area.bytes ≤ a → byte_in area a ≡ None
 byte_in-past area a h =
     byte_in-from area a (a - area.base) (omega arith) ∙ slice_get_past area.bytes (a - area.base) (omega arith)
 
@@ -131,7 +132,7 @@ byte_at-frame m a d o sized e live h =
     rw (byte_at-parts, frame_byte-at m a d o sized e (omega arith), found, byte)
 
 -- between two frames, or past the last one
-pub byte_at-gap : (m : PrivateMemory) (a d o : ℕ) → length m.context ≤ 4096 → Sized m.frames.live → a ≡ frame_base d + o → o < 0x1000 → (length m.frames.live ≤ d) ⊎ (512 ≤ o) → byte_at m a ≡ None
+pub byte_at-gap : (m : PrivateMemory) (a d o : ℕ) → length m.context ≤ max_context → Sized m.frames.live → a ≡ frame_base d + o → o < 0x1000 → (length m.frames.live ≤ d) ⊎ (512 ≤ o) → byte_at m a ≡ None
 byte_at-gap m a d o small sized e h gap =
     let context : context_byte m a ≡ None =
     context_byte-at m a (a - context_base) (omega arith) ∙ slice_get_past m.context (a - context_base) (omega arith) in

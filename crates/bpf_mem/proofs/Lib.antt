@@ -1,3 +1,4 @@
+pub mod Apart
 pub mod AreaLemmas
 pub mod Determined
 pub mod ReachLemmas

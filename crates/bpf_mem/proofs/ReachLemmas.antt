@@ -5,6 +5,7 @@ use Rattle.std.proofs.lemmas.Option.{slice_get_past, slice_get-get_or}
 use Rattle.std.proofs.lemmas.Bool.Decides.{nat_tests}
 use Rattle.bpf_mem.specs.declared.memory.PrivateMemory.{PrivateMemory}
 use Rattle.bpf_base.specs.Bytes.{little_endian}
+use Rattle.bpf_mem.specs.Limits.{max_context}
 use Rattle.bpf_mem.specs.Addresses.{context_base, frame_base}
 use Rattle.bpf_mem.specs.Memory.{byte_at, bytes_at, number_at}
 use Rattle.bpf_mem.proofs.AreaLemmas.{Sized, byte_at-below, by_le, byte_at-context, byte_at-frame, byte_at-gap}
@@ -57,12 +58,12 @@ context-bytes m a o n e low h =
     bytes_at-list m a o n m.context (λ k below. byte_at-context m (a + k) (o + k) (omega arith) (omega arith)) h
 
 -- the byte past the context's end, or the first one where that is behind it
-context-past : (m : PrivateMemory) (a o n : ℕ) → length m.context ≤ 4096 → a ≡ context_base + o → o < 0x100000000 → 1 ≤ n → length m.context < o + n → bytes_at m a n ≡ None
+context-past : (m : PrivateMemory) (a o n : ℕ) → length m.context ≤ max_context → a ≡ context_base + o → o < 0x100000000 → 1 ≤ n → length m.context < o + n → bytes_at m a n ≡ None
 context-past m a o n small e h some past =
     let k = length m.context - o in
     bytes_at-none m a n k (omega arith) (byte_at-context m (a + k) (o + k) (omega arith) (omega arith) ∙ slice_get_past m.context (o + k) (omega arith))
 
-pub reached-context : (m : PrivateMemory) (a o n : ℕ) → length m.context ≤ 4096 → a ≡ context_base + o → o < 0x100000000 → 1 ≤ n → is_some (bytes_at m a n) ≡ nat_le (o + n) (length m.context)
+pub reached-context : (m : PrivateMemory) (a o n : ℕ) → length m.context ≤ max_context → a ≡ context_base + o → o < 0x100000000 → 1 ≤ n → is_some (bytes_at m a n) ≡ nat_le (o + n) (length m.context)
 reached-context m a o n small e h some =
     by_le (o + n) (length m.context)
     (λ within. is_some-some _ _ (context-bytes m a o n e (omega arith) within) ∙ sym (grind (arith, nat_tests)))
@@ -74,17 +75,17 @@ frame-bytes m a d o n sized e live h =
     bytes_at-list m a o n (get_or m.frames.live d []) (λ k below. byte_at-frame m (a + k) d (o + k) sized (omega arith) live (omega arith)) (omega (arith, sized d [] live))
 
 -- no such frame
-frame-dead : (m : PrivateMemory) (a d o n : ℕ) → length m.context ≤ 4096 → Sized m.frames.live → a ≡ frame_base d + o → o < 0x1000 → 1 ≤ n → length m.frames.live ≤ d → bytes_at m a n ≡ None
+frame-dead : (m : PrivateMemory) (a d o n : ℕ) → length m.context ≤ max_context → Sized m.frames.live → a ≡ frame_base d + o → o < 0x1000 → 1 ≤ n → length m.frames.live ≤ d → bytes_at m a n ≡ None
 frame-dead m a d o n small sized e h some dead =
     bytes_at-none m a n 0 (omega arith) (byte_at-gap m (a + 0) d o small sized (omega arith) h (inl dead))
 
 -- past the end of the frame
-frame-past : (m : PrivateMemory) (a d o n : ℕ) → length m.context ≤ 4096 → Sized m.frames.live → a ≡ frame_base d + o → o < 0x1000 → 1 ≤ n → 512 < o + n → bytes_at m a n ≡ None
+frame-past : (m : PrivateMemory) (a d o n : ℕ) → length m.context ≤ max_context → Sized m.frames.live → a ≡ frame_base d + o → o < 0x1000 → 1 ≤ n → 512 < o + n → bytes_at m a n ≡ None
 frame-past m a d o n small sized e h some past =
     let k = 512 - o in
     bytes_at-none m a n k (omega arith) (byte_at-gap m (a + k) d (o + k) small sized (omega arith) (omega arith) (inr (omega arith)))
 
-pub reached-stack : (m : PrivateMemory) (a d o n : ℕ) → length m.context ≤ 4096 → Sized m.frames.live → a ≡ frame_base d + o → o < 0x1000 → 1 ≤ n → is_some (bytes_at m a n) ≡ nat_lt d (length m.frames.live) && nat_le (o + n) 512
+pub reached-stack : (m : PrivateMemory) (a d o n : ℕ) → length m.context ≤ max_context → Sized m.frames.live → a ≡ frame_base d + o → o < 0x1000 → 1 ≤ n → is_some (bytes_at m a n) ≡ nat_lt d (length m.frames.live) && nat_le (o + n) 512
 reached-stack m a d o n small sized e h some =
     by_le (length m.frames.live) d
     (λ dead. is_some-none _ (frame-dead m a d o n small sized e h some dead) ∙ sym (grind (arith, nat_tests)))
@@ -94,7 +95,7 @@ reached-stack m a d o n small sized e h some =
 
 -- ---- the bytes and the numbers there
 
-pub bytes_in_context : (m : PrivateMemory) (o n : ℕ) → length m.context ≤ 4096 → o + n ≤ length m.context → bytes_at m (context_base + o) n ≡ Some (take (o + n - o) (drop o m.context))
+pub bytes_in_context : (m : PrivateMemory) (o n : ℕ) → length m.context ≤ max_context → o + n ≤ length m.context → bytes_at m (context_base + o) n ≡ Some (take (o + n - o) (drop o m.context))
 bytes_in_context m o n small h =
     let count : o + n - o ≡ n = omega arith in
     rw count (context-bytes m (context_base + o) o n refl (omega arith) h)
@@ -104,7 +105,7 @@ bytes_in_frame m d o n sized live h =
     let count : o + n - o ≡ n = omega arith in
     rw count (frame-bytes m (frame_base d + o) d o n sized refl live h)
 
-pub number_in_context : (m : PrivateMemory) (o n : ℕ) → length m.context ≤ 4096 → o + n ≤ length m.context → number_at m (context_base + o) n ≡ Some (little_endian (take n (drop o m.context)))
+pub number_in_context : (m : PrivateMemory) (o n : ℕ) → length m.context ≤ max_context → o + n ≤ length m.context → number_at m (context_base + o) n ≡ Some (little_endian (take n (drop o m.context)))
 number_in_context m o n small h =
     ap (option_map little_endian) (context-bytes m (context_base + o) o n refl (omega arith) h)
 

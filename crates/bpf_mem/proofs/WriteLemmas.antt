@@ -7,6 +7,7 @@ use Rattle.std.proofs.lemmas.List.{get_or-set_same}
 use Rattle.std.proofs.lemmas.List.Elements.{All-set}
 use Rattle.std.proofs.Math.ListN.{length-set}
 use Rattle.bpf_base.specs.Bytes.{with_part}
+use Rattle.bpf_mem.specs.Limits.{max_context, frame_bytes}
 use Rattle.bpf_mem.specs.Addresses.{context_base, frame_base}
 use Rattle.bpf_mem.specs.Memory.{byte_at, Writes}
 use Rattle.bpf_mem.specs.declared.memory.PrivateMemory.{PrivateMemory}
@@ -39,7 +40,7 @@ context-others old new o bytes h context a outside = by_le context_base a inside
         let apart : (i < o) ⊎ (o + length bytes ≤ i) = elim outside [ inl before ↦ inl (omega arith) | inr after ↦ inr (omega arith) ] in
         context_byte-at new a i (omega arith) ∙ ap (λ list. slice_get list i) context ∙ slice_get-with_part old.context o bytes h i apart ∙ sym (context_byte-at old a i (omega arith))
 
-pub Writes-context : (old new : PrivateMemory) (o : ℕ) (bytes : List ℕ) → length old.context ≤ 4096 → o + length bytes ≤ length old.context → new.context ≡ with_part old.context o bytes → new.frames.live ≡ old.frames.live → new.frames.callers ≡ old.frames.callers → Writes old (context_base + o) bytes new
+pub Writes-context : (old new : PrivateMemory) (o : ℕ) (bytes : List ℕ) → length old.context ≤ max_context → o + length bytes ≤ length old.context → new.context ≡ with_part old.context o bytes → new.frames.live ≡ old.frames.live → new.frames.callers ≡ old.frames.callers → Writes old (context_base + o) bytes new
 Writes-context old new o bytes small h context frames callers =
     let n = length bytes in
     let sized : o + n ≤ length new.context = omega (arith, ap length context, length-with_part old.context o bytes h) in
@@ -94,7 +95,7 @@ Writes-frame old new d o bytes sized live h context frames callers =
     let room : o + n ≤ length frame = omega (arith, sized d [] live) in
     let count : length new.frames.live ≡ length old.frames.live = ap length frames ∙ length-set old.frames.live d (with_part frame o bytes) in
     let sized' : Sized new.frames.live =
-    rw frames (All-set (λ f. length f ≡ 512) old.frames.live d (with_part frame o bytes) (length-with_part frame o bytes room ∙ sized d [] live) sized) in
+    rw frames (All-set (λ f. length f ≡ frame_bytes) old.frames.live d (with_part frame o bytes) (length-with_part frame o bytes room ∙ sized d [] live) sized) in
     let written : get_or new.frames.live d [] ≡ with_part frame o bytes =
     ap (λ live. get_or live d []) frames ∙ get_or-set_same old.frames.live d (with_part frame o bytes) [] live in
     record {

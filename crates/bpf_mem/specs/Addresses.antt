@@ -1,5 +1,6 @@
 -- Where the parts of the private memory begin. All of these are our own choice but the size of a frame.
 use Rattle.std.specs.Prelude.{ℕ, ◌+◌, ◌-◌, ◌*◌}
+use Rattle.bpf_mem.specs.Limits.{frame_bytes}
 
 -- where the context begins
 abbrev pub context_base : ℕ
@@ -11,4 +12,4 @@ frame_base d = 0x300000000 + 0x1000 * d
 
 -- the end of the newest of some frames, which R10 holds (the calling convention of Linux)
 abbrev pub top_of : ℕ → ℕ
-top_of frames = frame_base (frames - 1) + 512
+top_of frames = frame_base (frames - 1) + frame_bytes

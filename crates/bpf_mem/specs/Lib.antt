@@ -1,8 +1,9 @@
 pub mod Addresses
 pub mod Atomic
 pub mod Bytes
-pub mod Frames
 pub mod Laws
+pub mod Limits
 pub mod Memory
 pub mod Place
+pub mod Private
 pub mod Stack

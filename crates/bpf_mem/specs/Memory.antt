@@ -23,7 +23,7 @@ areas m = frame_areas 0 m.frames.live ++ record { base = context_base; bytes = m
 abbrev pub byte_in : Area → ℕ → Option ℕ
 byte_in area address = if nat_lt address area.base then None else slice_get area.bytes (address - area.base)
 
--- the byte at an address of some area; no two areas overlap
+-- the byte at an address of some area
 unfoldable pub byte_among : List Area → ℕ → Option ℕ
 byte_among [] address = None
 byte_among (area ∷ others) address = option_or (byte_in area address) (byte_among others address)

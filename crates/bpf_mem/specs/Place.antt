@@ -4,6 +4,7 @@ use Rattle.bpf_mem.specs.declared.memory.PrivateMemory.{PrivateMemory}
 use Rattle.bpf_mem.specs.declared.place.Place.{Place}
 use Rattle.bpf_mem.specs.declared.place.Place.TheVariants.{Context, Frame}
 use Rattle.bpf_mem.specs.Addresses.{context_base, frame_base}
+use Rattle.bpf_mem.specs.Limits.{frame_bytes}
 
 abbrev pub address_of : Place → ℕ
 address_of (Context offset) = context_base + offset
@@ -12,4 +13,4 @@ address_of (Frame depth offset) = frame_base depth + offset
 -- n bytes from the place on lie in one area
 abbrev pub IsWithin : PrivateMemory → Place → ℕ → Type 0
 IsWithin m (Context offset) n = offset + n ≤ length m.context
-IsWithin m (Frame depth offset) n = (depth < length m.frames.live) × (offset + n ≤ 512)
+IsWithin m (Frame depth offset) n = (depth < length m.frames.live) × (offset + n ≤ frame_bytes)

@@ -3,15 +3,16 @@
 ghost use Rattle.std.specs.Prelude.{◌≡◌, ◌+◌, ◌≤◌, length, vec_len};
 ghost use Rattle.bpf_base.specs.Bytes.{low_bytes, with_part};
 ghost use Rattle.bpf_mem.specs.Bytes.{length_of};
+ghost use Rattle.bpf_mem.specs.Limits.{max_context};
 
 use crate::bytes;
 use bpf_insn::operation::Size;
 use std::marker::Model;
 
-/// How many bytes a context has at most (our own choice).
+/// How many bytes a context has at most: `max_context` (our own choice).
 pub const MAX_CONTEXT: usize = 4096;
 
-/// 0 to 4,096 bytes.
+/// 0 to 4,096 bytes, `MAX_CONTEXT`.
 #[derive(Drop)]
 pub struct Context {
     bytes: Vec<u8>,
@@ -19,18 +20,19 @@ pub struct Context {
 
 impl Model for Context {
     ghost use Rattle.std.specs.Prelude.{List, ℕ, ◌≤◌, length};
+    ghost use Rattle.bpf_mem.specs.Limits.{max_context};
 
     ghost Value = { List ℕ };
 
     ghost view = { λ c. c.bytes.items };
 
-    ghost invariant = { λ c. length c.bytes.items ≤ 4096 };
+    ghost invariant = { λ c. length c.bytes.items ≤ max_context };
 }
 
 impl Context {
     /// The context of these bytes. It takes no memory.
     pub fn new(bytes: Vec<u8>) -> Context
-        requires { vec_len bytes ≤ 4096 }
+        requires { vec_len bytes ≤ max_context }
         ensures { result ≡ bytes.items }
     {
         Context { bytes }
@@ -40,7 +42,7 @@ impl Context {
     #[inline]
     pub fn bytes(&self) -> &[u8]
         ensures value { result.now ≡ self.now }
-        ensures bounded { length self.now ≤ 4096 }
+        ensures bounded { length self.now ≤ max_context }
     {
         &self.bytes
     }
@@ -50,7 +52,7 @@ impl Context {
     pub(crate) fn store(&mut self, offset: usize, size: Size, value: u64)
         requires { offset + length_of size ≤ length self.old }
         ensures value { self.new ≡ with_part self.old offset (low_bytes (length_of size) value) }
-        ensures bounded { length self.old ≤ 4096 }
+        ensures bounded { length self.old ≤ max_context }
     {
         bytes::store(&mut self.bytes, offset, size, value);
     }

@@ -4,6 +4,7 @@ ghost use Rattle.std.specs.Prelude.{◌≡◌, ◌+◌, ◌-◌, ◌*◌, ◌<�
 ghost use Rattle.bpf_mem.specs.Addresses.{top_of};
 ghost use Rattle.bpf_base.specs.Bytes.{low_bytes, with_part};
 ghost use Rattle.bpf_mem.specs.Bytes.{length_of};
+ghost use Rattle.bpf_mem.specs.Limits.{max_frames, frame_bytes};
 ghost use Rattle.bpf_mem.specs.Stack.{IsStack, zeroed};
 
 use crate::addresses::{FRAME_STRIDE, STACK_BASE};
@@ -11,10 +12,10 @@ use crate::bytes;
 use bpf_insn::operation::Size;
 use std::marker::Model;
 
-/// How many frames can be live at once (our own choice).
+/// How many frames can be live at once: `max_frames` (our own choice).
 pub const MAX_FRAMES: usize = 8;
 
-/// How many bytes a frame has, as in Linux.
+/// How many bytes a frame has: `frame_bytes`, as in Linux.
 pub const FRAME_BYTES: usize = 512;
 
 /// What a local call keeps for its caller: where it goes on, and R6 to R9 (the calling convention of Linux).
@@ -38,11 +39,11 @@ impl Model for Frames {
 
     ghost Value = { Stack };
 
-    ghost use Rattle.bpf_mem.specs.Frames.{IsSound};
+    ghost use Rattle.bpf_mem.specs.Private.Frames.{IsFilled};
 
     ghost view = { λ s. record { live = take s.live s.frames; callers = take (s.live - 1) s.callers } };
 
-    ghost invariant = { IsSound };
+    ghost invariant = { IsFilled };
 }
 
 /// A frame as a function finds it.
@@ -82,7 +83,7 @@ impl Frames {
     /// Whether no further frame can be entered.
     #[inline]
     pub fn is_full(&self) -> bool
-        ensures { IsTrue result ↔ (8 ≤ length self.now.live) }
+        ensures { IsTrue result ↔ (max_frames ≤ length self.now.live) }
     {
         self.live == MAX_FRAMES
     }
@@ -102,7 +103,7 @@ impl Frames {
     #[inline]
     pub(crate) fn store(&mut self, depth: usize, offset: usize, size: Size, value: u64)
         requires live { depth < length self.old.live }
-        requires within { offset + length_of size ≤ 512 }
+        requires within { offset + length_of size ≤ frame_bytes }
         ensures live { self.new.live ≡ slice_set self.old.live depth
             (with_part (slice_index_or self.old.live depth []) offset (low_bytes (length_of size) value)) }
         ensures callers { self.new.callers ≡ self.old.callers }
@@ -122,7 +123,7 @@ impl Frames {
 
     /// A new frame, zeroed, for a function that `caller` calls.
     pub fn enter(&mut self, caller: Caller)
-        requires { length self.old.live < 8 }
+        requires { length self.old.live < max_frames }
         ensures live { self.new.live ≡ self.old.live ++ zeroed ∷ [] }
         ensures callers { self.new.callers ≡ self.old.callers ++ caller ∷ [] }
     {

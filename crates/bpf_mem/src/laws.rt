@@ -1,7 +1,29 @@
-//! What follows from the definition of a write, as a promise to the crates above.
+//! What follows from the definitions of areas and of a write, as promises to the crates above.
 //!
-//! The function does nothing: its contract is the law, which a proof cites.
-ghost use Rattle.bpf_mem.specs.Laws.{WritesAreDetermined};
+//! These functions do nothing: their contracts are the laws, which a proof cites.
+ghost use Rattle.std.specs.Prelude.{◌≡◌, ◌+◌};
+ghost use Rattle.bpf_mem.specs.Addresses.{context_base, frame_base};
+ghost use Rattle.bpf_mem.specs.Limits.{max_context, max_frames, frame_bytes};
+ghost use Rattle.bpf_mem.specs.Laws.{AreasAreApart, WritesAreDetermined};
+
+use crate::addresses::{CONTEXT_BASE, FRAME_STRIDE, STACK_BASE};
+use crate::context::MAX_CONTEXT;
+use crate::frames::{FRAME_BYTES, MAX_FRAMES};
+
+/// The constants are the numbers of the definitions.
+pub fn constants_are_defined()
+    ensures context { MAX_CONTEXT ≡ max_context }
+    ensures frames { MAX_FRAMES ≡ max_frames }
+    ensures frame { FRAME_BYTES ≡ frame_bytes }
+    ensures context_base { CONTEXT_BASE ≡ context_base }
+    ensures stack_base { STACK_BASE ≡ frame_base 0 }
+    ensures stride { STACK_BASE + FRAME_STRIDE ≡ frame_base 1 }
+{}
+
+/// No address is in two areas of the memory of a CPU.
+pub fn areas_are_apart()
+    ensures { AreasAreApart }
+{}
 
 /// A write to the memory of a CPU leaves one memory alone, and it is the memory of a CPU again.
 pub fn writes_are_determined()

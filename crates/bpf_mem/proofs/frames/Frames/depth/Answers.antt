@@ -2,6 +2,7 @@
 use Rattle.std.proofs.Common.{◌≡◌, ◌-◌, length, take, arith}
 use Rattle.std.proofs.lemmas.List.Elements.{All-take}
 use Rattle.std.proofs.lemmas.List.{length-take-le}
+use Rattle.bpf_mem.specs.Limits.{frame_bytes}
 use Rattle.bpf_mem.proofs.frames.Frames.depth.Goals as goal
 
 pub returns-clause-stack : goal.returns-clause-stack
@@ -13,6 +14,6 @@ returns-clause-stack c =
     rw (← c.self.view_is) record {
       some = omega arith;
       bounded = omega arith;
-      sized = All-take (λ frame. length frame ≡ 512) i.live i.frames s.sized;
+      sized = All-take (λ frame. length frame ≡ frame_bytes) i.live i.frames s.sized;
       paired = omega arith;
     }

@@ -1,0 +1,2 @@
+-- What private fields hold.
+pub mod Frames
