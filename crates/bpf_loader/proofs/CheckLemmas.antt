@@ -135,7 +135,9 @@ clear_more maps is pc before here e applies = omega (arith, before e applies, he
 -- the refusal of the lowest number at the first word that isn't clear is the first
 pub first_of_least : (maps : ℕ) (is : List Insn) (pc : ℕ) (e : LoadError) → IsClearBefore maps is pc → IsLeastAt maps is pc e → IsFirstRefusal maps is e
 first_of_least maps is pc e before at = record {
-  applies = at.applies;
-  lowest = λ other applies. omega (arith, before other applies, at.at);
-  least = λ other applies same. at.least other applies (same ∙ at.at);
+  first = record {
+    applies = at.applies;
+    lowest = λ other applies. omega (arith, before other applies, at.at);
+    least = λ other applies same. at.least other applies (same ∙ at.at);
+  };
 }

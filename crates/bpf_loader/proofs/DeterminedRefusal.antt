@@ -8,13 +8,13 @@ use Rattle.bpf_loader.proofs.CheckLemmas.{error_at, error_at_code}
 
 one_first : (maps : ℕ) (is : List Insn) (e f : LoadError) → IsFirstRefusal maps is e → IsFirstRefusal maps is f → e ≡ f
 one_first maps is e f x y =
-    let low : place e ≤ place f = x.lowest f y.applies in
-    let high : place f ≤ place e = y.lowest e x.applies in
+    let low : place e ≤ place f = x.first.lowest f y.first.applies in
+    let high : place f ≤ place e = y.first.lowest e x.first.applies in
     let at : place e ≡ place f = omega arith in
-    let least : refusal_number e ≤ refusal_number f = x.least f y.applies (sym at) in
-    let most : refusal_number f ≤ refusal_number e = y.least e x.applies at in
+    let least : refusal_number e ≤ refusal_number f = x.first.least f y.first.applies (sym at) in
+    let most : refusal_number f ≤ refusal_number e = y.first.least e x.first.applies at in
     let number : refusal_number e ≡ refusal_number f = omega arith in
     sym (error_at_code e) ∙ ap (λ (n : ℕ). error_at n (place e)) number ∙ ap (λ (n : ℕ). error_at (refusal_number f) n) at ∙ error_at_code f
 
 pub first_is_determined : FirstIsDetermined
-first_is_determined = (λ maps is e f x y. one_first maps is e f x y, λ maps is e s x. s e x.applies)
+first_is_determined = (λ maps is e f x y. one_first maps is e f x y, λ maps is e s x. s e x.first.applies)

@@ -58,8 +58,8 @@ place (UnknownMap pc) = pc
 place OutOfMemory = 0
 
 -- this refusal is the first that applies, by places and then by numbers
-abbrev pub IsFirstRefusal : ℕ → List Insn → LoadError → Type 0
-IsFirstRefusal maps is e = IsFirst place refusal_number (Applies maps is) e
+pub record IsFirstRefusal (maps : ℕ) (is : List Insn) (e : LoadError) : Type 0 where
+  pub first : IsFirst place refusal_number (Applies maps is) e
 
 -- what a run may rely on at an instruction of a sound program
 pub record IsSafe (maps : ℕ) (is : List Insn) (pc : ℕ) (i : Insn) : Type 0 where
