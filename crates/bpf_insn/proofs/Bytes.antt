@@ -7,9 +7,11 @@ use Rattle.byteorder.specs.Endian.{little_bytes}
 use Rattle.byteorder.specs.Numbers.{little_number-reads_back}
 use Rattle.bpf_insn.specs.declared.instruction.Insn.{Insn}
 use Rattle.bpf_insn.specs.declared.word.Word.{Word}
-use Rattle.bpf_insn.specs.Table.{Second, NoSecond, Wide, row_of, word_count, words}
+use Rattle.bpf_insn.specs.Table.{row_of, word_count, words}
+use Rattle.bpf_insn.specs.declared.row.Encoding.{Encoding}
+use Rattle.bpf_insn.specs.declared.row.Encoding.TheVariants.{Basic, Wide}
 use Rattle.bpf_insn.specs.Encoding.{word_at, next_at, value_of, first_word, second_word, IsFollowed, BeginsWith, IsEncodedAs}
-use Rattle.bpf_insn.specs.Writing.{word_bytes, second_bytes, insn_bytes, IsNarrow, IsWritable}
+use Rattle.bpf_insn.specs.Private.Bytes.{word_bytes, second_bytes, insn_bytes, IsNarrow, IsWritable}
 use Rattle.bpf_insn.proofs.Spelling.{word_is}
 
 word_at-bytes : (w : Word) (rest : List ℕ) → IsNarrow w → word_at (word_bytes w ++ rest) ≡ w
@@ -22,14 +24,14 @@ next_of : (bytes : List ℕ) → 16 ≤ length bytes → next_at bytes ≡ Some 
 next_of bytes h = rw (le-ltb (length bytes) 16 h) refl
 
 -- the words of a row, and what follows them
-record Splits (s : Second) (w : Word) (rest bytes : List ℕ) : Type 0 where
+record Splits (s : Encoding) (w : Word) (rest bytes : List ℕ) : Type 0 where
   long : 8 * word_count s ≤ length bytes
   first : word_at bytes ≡ w
   next : IsFollowed s (next_at bytes)
   rest_is : drop (8 * word_count s) bytes ≡ rest
 
-splits : (s : Second) (w : Word) (rest : List ℕ) → IsNarrow w → IfSome (second_word s) IsNarrow → Splits s w rest ((word_bytes w ++ second_bytes (second_word s)) ++ rest)
-splits NoSecond w rest h k = record { long = omega arith; first = word_at-bytes w rest h; next = tt; rest_is = refl }
+splits : (s : Encoding) (w : Word) (rest : List ℕ) → IsNarrow w → IfSome (second_word s) IsNarrow → Splits s w rest ((word_bytes w ++ second_bytes (second_word s)) ++ rest)
+splits Basic w rest h k = record { long = omega arith; first = word_at-bytes w rest h; next = tt; rest_is = refl }
 splits (Wide f) w rest h k =
     let v : Word = record { opcode = 0; dst = 0; src = 0; offset = 0; imm = value_of f } in
     record { long = omega arith; first = word_at-bytes w (word_bytes v ++ rest) h; next = next_of (word_bytes w ++ (word_bytes v ++ rest)) (omega arith) ∙ ap (λ (x : Word). Some x) (word_at-bytes v rest k); rest_is = refl }
@@ -45,8 +47,8 @@ pub written_next : (insns : List Insn) (k : ℕ) (d : Insn) (old new : List ℕ)
 written_next insns k d old new l w e h = record {
   encoded = λ tail rest c.
       let i = get_or insns k d in
-      let s = splits (row_of i).second (first_word (row_of i)) rest h.first h.second in
-      let begins : BeginsWith i (insn_bytes i ++ rest) = record { long = s.long; spelled = record { first = s.first; second = s.next }; fits = h.fits } in
+      let s = splits (row_of i).encoding (first_word (row_of i)) rest h.first h.second in
+      let begins : BeginsWith i (insn_bytes i ++ rest) = record { long = s.long; written = record { first = s.first; second = s.next }; fits = h.fits } in
       let after : IsEncodedAs tail (drop (8 * words i) (insn_bytes i ++ rest)) = subst (IsEncodedAs tail) (sym s.rest_is) c in
       rw (take_more insns k d l, e, append_assoc, append_assoc) (w.encoded (i ∷ tail) (insn_bytes i ++ rest) (begins, after));
 }

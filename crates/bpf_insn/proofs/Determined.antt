@@ -1,49 +1,30 @@
 -- What bytes stand for is one thing alone.
-use Rattle.std.proofs.Common.{◌≡◌, ◌≢◌, ℕ, ◌+◌, ◌*◌, ◌/◌, ◌%◌, ◌<◌, ◌≤◌, nat_eq, cond, List, [], ◌∷◌, ◌++◌, length, drop, Some, Result, Ok, Err, refl, sym, ap, subst, ◌∙◌, arith, All}
+use Rattle.std.proofs.Common.{◌≡◌, ◌≢◌, ℕ, ◌+◌, ◌*◌, ◌/◌, ◌%◌, ◌<◌, ◌≤◌, nat_eq, cond, List, [], ◌∷◌, ◌++◌, length, drop, Some, refl, sym, ap, subst, ◌∙◌, arith, All}
 use Rattle.std.proofs.lemmas.Bool.{le-ltb}
 use Rattle.std.proofs.lemmas.List.{drop-drop, length-drop}
 use Rattle.std.proofs.lemmas.List.Elements.{All-drop}
-use Rattle.bpf_insn.specs.Register.{number_of as register_number}
-use Rattle.bpf_insn.specs.Table.{Field, Unused, Selects, Holds, Second, NoSecond, Wide, Row, row_of, word_count, words}
+use Rattle.bpf_insn.specs.Table.{row_of, word_count, words}
 use Rattle.bpf_insn.specs.Encoding.{word_at, next_at, window_at, IsFollowed, BeginsWith, IsEncodedAs}
-use Rattle.bpf_insn.specs.Refusal.{IsOfRow, IsClean, IsWhole, IsRegister, HasRegisters, Applies, number_of, error_at, IsFirst, IsWrongAfter, IsWrong, max_words, IsSized, IsRefused}
-use Rattle.bpf_insn.specs.Reading.{◌>>=◌, instruction_at, operands_at}
-use Rattle.bpf_insn.specs.Writing.{word_bytes}
+use Rattle.bpf_insn.specs.Refusal.{error_at, error_number, IsFirstAmiss, IsWrongAfter, IsWrong, max_words, IsSized, IsRefused}
+use Rattle.bpf_insn.specs.Private.Bytes.{word_bytes}
 use Rattle.bpf_insn.specs.Laws.{WordsAreDetermined, EncodingsAreDetermined, RefusalsAreDetermined}
-use Rattle.bpf_insn.specs.declared.register.Reg.{Reg}
 use Rattle.bpf_insn.specs.declared.instruction.Insn.{Insn}
+use Rattle.bpf_insn.specs.declared.row.Encoding.{Encoding}
+use Rattle.bpf_insn.specs.declared.row.Encoding.TheVariants.{Basic, Wide}
 use Rattle.bpf_insn.specs.declared.word.Word.{Word}
 use Rattle.bpf_insn.specs.declared.word.Window.{Window}
-use Rattle.bpf_insn.specs.declared.operands.Operands.{Operands}
 use Rattle.bpf_insn.specs.declared.fault.Fault.{Fault}
 use Rattle.bpf_insn.specs.declared.fault.Fault.TheVariants.{UnknownOpcode, ReservedNotZero, HalfWide, BadRegister}
 use Rattle.bpf_insn.specs.declared.error.InsnError.{InsnError}
 use Rattle.bpf_insn.specs.declared.error.InsnError.TheVariants as error
-use Rattle.bpf_insn.proofs.Registers.{number-small}
-use Rattle.bpf_insn.proofs.Fields.{uses_of, clean_from, whole_from, GivesOperands, gives_operands}
-use Rattle.bpf_insn.proofs.Dispatch.{rebuilt, reads_row}
-use Rattle.bpf_insn.proofs.Spelling.{read_spelled}
-use Rattle.bpf_insn.proofs.Cover.{OfRow, OfNone, cover}
+use Rattle.bpf_insn.proofs.Program.{one_front, none_wrong as none_wrong_front, words_some}
 
 -- ---- one list at most
-
-abbrev done : Insn → Result Insn Fault
-done i = Ok i
-
-begun : (i : Insn) (bytes : List ℕ) → BeginsWith i bytes → instruction_at (window_at bytes) ≡ done i
-begun i bytes b = read_spelled i (window_at bytes) b.spelled b.fits
-
-one_front : (i j : Insn) (bytes : List ℕ) → BeginsWith i bytes → BeginsWith j bytes → i ≡ j
-one_front i j bytes b c = let same : done i ≡ done j = sym (begun i bytes b) ∙ begun j bytes c in cc
-
-words_some : (s : Second) → 0 < word_count s
-words_some NoSecond = omega arith
-words_some (Wide f) = omega arith
 
 not_begun : (i : Insn) (bytes : List ℕ) → BeginsWith i bytes → bytes ≢ []
 not_begun i bytes b e =
     let long = b.long in
-    let some = words_some (row_of i).second in
+    let some = words_some (row_of i).encoding in
     let none : length bytes ≡ 0 = ap length e in
     absurd (omega arith)
 
@@ -91,8 +72,8 @@ one_word a b x y k l w r =
 next_of : (bytes : List ℕ) → 16 ≤ length bytes → next_at bytes ≡ Some (word_at (drop 8 bytes))
 next_of bytes h = rw (le-ltb (length bytes) 16 h) refl
 
-one_front_bytes : (s : Second) (a b : List ℕ) → All (λ x. x < 256) a → All (λ x. x < 256) b → 8 * word_count s ≤ length a → 8 * word_count s ≤ length b → word_at a ≡ word_at b → IsFollowed s (next_at a) → IsFollowed s (next_at b) → drop (8 * word_count s) a ≡ drop (8 * word_count s) b → a ≡ b
-one_front_bytes NoSecond a b x y k l w f g r = one_word a b x y (omega arith) (omega arith) w r
+one_front_bytes : (s : Encoding) (a b : List ℕ) → All (λ x. x < 256) a → All (λ x. x < 256) b → 8 * word_count s ≤ length a → 8 * word_count s ≤ length b → word_at a ≡ word_at b → IsFollowed s (next_at a) → IsFollowed s (next_at b) → drop (8 * word_count s) a ≡ drop (8 * word_count s) b → a ≡ b
+one_front_bytes Basic a b x y k l w f g r = one_word a b x y (omega arith) (omega arith) w r
 one_front_bytes (Wide h) a b x y k l w f g r =
     let both : Some (word_at (drop 8 a)) ≡ Some (word_at (drop 8 b)) = sym (next_of a k) ∙ f ∙ sym g ∙ next_of b l in
     let second : word_at (drop 8 a) ≡ word_at (drop 8 b) = cc in
@@ -104,42 +85,10 @@ one_encoding : (is : List Insn) (a b : List ℕ) → All (λ x. x < 256) a → A
 one_encoding [] a b x y c d = c ∙ sym d
 one_encoding (i ∷ is) a b x y c d =
     let rest = one_encoding is (drop (8 * words i) a) (drop (8 * words i) b) (All-drop (λ x. x < 256) (8 * words i) a x) (All-drop (λ x. x < 256) (8 * words i) b y) c.1 d.1 in
-    one_front_bytes (row_of i).second a b x y c.0.long d.0.long (c.0.spelled.first ∙ sym d.0.spelled.first) c.0.spelled.second d.0.spelled.second rest
+    one_front_bytes (row_of i).encoding a b x y c.0.long d.0.long (c.0.written.first ∙ sym d.0.written.first) c.0.written.second d.0.written.second rest
 
 pub encodings_are_determined : EncodingsAreDetermined
 encodings_are_determined is a b x y c d = one_encoding is a b x y c d
-
--- ---- to what is read nothing applies
-
-record IsFaultless (r : Row) (w : Window) : Type 0 where
-  clean : IsClean r w
-  whole : IsWhole r.second w.next
-  registers : HasRegisters r w.word
-
-has_register : (f : Field) (n : ℕ) (r : Reg) → register_number r ≡ n → IsRegister f n
-has_register Unused n r e = tt
-has_register (Selects m) n r e = tt
-has_register (Holds m) n r e = let small = number-small r in omega arith
-
-faultless_by : (i j : Insn) (w : Window) (x : Result Operands Fault) → GivesOperands w (uses_of (row_of i)) x → (x >>= λ r. Ok (rebuilt i w.word r)) ≡ done j → IsFaultless (row_of i) w
-faultless_by i j w (Ok r) g e = record {
-  clean = clean_from (row_of i) w g.0;
-  whole = whole_from (row_of i).second w.next r.high g.1;
-  registers = record { dst = has_register (row_of i).dst w.word.dst r.dst g.2; src = has_register (row_of i).src w.word.src r.src g.3 };
-}
-faultless_by i j w (Err f) g e = absurd cc
-
-faultless : (i j : Insn) (w : Window) → IsOfRow (row_of i) w.word → instruction_at w ≡ done j → IsFaultless (row_of i) w
-faultless i j w o e = faultless_by i j w (operands_at w (uses_of (row_of i))) (gives_operands w (uses_of (row_of i))) (sym (reads_row i w o) ∙ e)
-
-none_applies : (f : Fault) (j : Insn) (w : Window) → instruction_at w ≡ done j → ¬ Applies f w
-none_applies UnknownOpcode j w e a = elim (cover w) [
-  | OfRow i o ↦ a i o
-  | OfNone u ↦ absurd cc
-]
-none_applies ReservedNotZero j w e a = a.2 (faultless a.0 j w a.1 e).clean
-none_applies HalfWide j w e a = a.2 (faultless a.0 j w a.1 e).whole
-none_applies BadRegister j w e a = a.2 (faultless a.0 j w a.1 e).registers
 
 -- ---- one refusal at most
 
@@ -147,18 +96,18 @@ none_applies BadRegister j w e a = a.2 (faultless a.0 j w a.1 e).registers
 fault_of : ℕ → Fault
 fault_of n = cond (nat_eq n 4) UnknownOpcode (cond (nat_eq n 5) ReservedNotZero (cond (nat_eq n 6) HalfWide BadRegister))
 
-fault_of-number : (f : Fault) → fault_of (number_of f) ≡ f
+fault_of-number : (f : Fault) → fault_of (error_number (error_at f 0)) ≡ f
 unfolding fault_of
 fault_of-number UnknownOpcode = refl
 fault_of-number ReservedNotZero = refl
 fault_of-number HalfWide = refl
 fault_of-number BadRegister = refl
 
-one_first : (f g : Fault) (w : Window) → IsFirst f w → IsFirst g w → f ≡ g
+one_first : (f g : Fault) (w : Window) → IsFirstAmiss w f → IsFirstAmiss w g → f ≡ g
 one_first f g w x y =
-    let below : ¬ (number_of f < number_of g) = λ l. y.first f l x.applies in
-    let above : ¬ (number_of g < number_of f) = λ l. x.first g l y.applies in
-    let same : number_of f ≡ number_of g = omega arith in
+    let below = x.least g y.applies refl in
+    let above = y.least f x.applies refl in
+    let same : error_number (error_at f 0) ≡ error_number (error_at g 0) = omega arith in
     sym (fault_of-number f) ∙ ap fault_of same ∙ fault_of-number g
 
 abbrev Same : ℕ → ℕ → Fault → Fault → Type 0
@@ -166,8 +115,8 @@ Same p q f g = (p ≡ q) × (f ≡ g)
 
 one_wrong : (is js : List Insn) (p q : ℕ) (f g : Fault) (bytes : List ℕ) → IsWrongAfter is p f bytes → IsWrongAfter js q g bytes → Same p q f g
 one_wrong [] [] p q f g bytes x y = (x.0 ∙ sym y.0, one_first f g (window_at bytes) x.2 y.2)
-one_wrong [] (j ∷ js) p q f g bytes x y = absurd (none_applies f j (window_at bytes) (begun j bytes y.2) x.2.applies)
-one_wrong (i ∷ is) [] p q f g bytes x y = absurd (none_applies g i (window_at bytes) (begun i bytes x.2) y.2.applies)
+one_wrong [] (j ∷ js) p q f g bytes x y = absurd (none_wrong_front f j bytes x.2 y.2)
+one_wrong (i ∷ is) [] p q f g bytes x y = absurd (none_wrong_front g i bytes y.2 x.2)
 one_wrong (i ∷ is) (j ∷ js) p q f g bytes x y =
     let e : i ≡ j = one_front i j bytes x.2 y.2 in
     let P : Insn → Type 0 = λ k. IsWrongAfter js y.0 g (drop (8 * words k) bytes) in
@@ -182,7 +131,7 @@ one_wrong (i ∷ is) (j ∷ js) p q f g bytes x y =
 
 none_wrong : (is js : List Insn) (p : ℕ) (f : Fault) (bytes : List ℕ) → IsWrongAfter is p f bytes → IsEncodedAs js bytes → ⊥
 none_wrong [] [] p f bytes x c = let none : length bytes ≡ 0 = ap length c in let some : 8 ≤ length bytes = x.1 in absurd (omega arith)
-none_wrong [] (j ∷ js) p f bytes x c = none_applies f j (window_at bytes) (begun j bytes c.0) x.2.applies
+none_wrong [] (j ∷ js) p f bytes x c = none_wrong_front f j bytes x.2 c.0
 none_wrong (i ∷ is) [] p f bytes x c = not_begun i bytes x.2 c
 none_wrong (i ∷ is) (j ∷ js) p f bytes x c =
     let e : i ≡ j = one_front i j bytes x.2 c.0 in

@@ -1,8 +1,7 @@
 pub mod Registers
-pub mod Fields
+pub mod Shape
 pub mod Dispatch
 pub mod Spelling
-pub mod Cover
 pub mod Law
 pub mod Program
 pub mod Bytes

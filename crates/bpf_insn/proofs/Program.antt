@@ -1,70 +1,44 @@
 -- One more instruction of a program.
-use Rattle.std.proofs.Common.{◌≡◌, ℕ, ◌+◌, ◌*◌, ◌/◌, ◌%◌, ◌<◌, ◌≤◌, Bool, true, false, cond, ltb, List, [], ◌∷◌, ◌++◌, length, drop, get_or, Some, None, Result, Ok, Err, refl, sym, ap, subst, ◌∙◌, arith, append_assoc}
+use Rattle.std.proofs.Common.{◌≡◌, ℕ, ◌+◌, ◌*◌, ◌/◌, ◌%◌, ◌<◌, ◌≤◌, Bool, true, false, cond, ltb, List, [], ◌∷◌, ◌++◌, length, drop, Some, None, refl, sym, ap, subst, ◌∙◌, arith, append_assoc}
 use Rattle.std.proofs.lemmas.Bool.{ltb-false}
-use Rattle.std.proofs.lemmas.List.{drop-drop, length-drop, get_or-drop, append-nil}
-use Rattle.byteorder.specs.Numbers.{little_from-lt}
+use Rattle.std.proofs.lemmas.List.{drop-drop, length-drop, append-nil}
 use Rattle.bpf_insn.specs.declared.instruction.Insn.{Insn}
+use Rattle.bpf_insn.specs.declared.word.Window.{Window}
 use Rattle.bpf_insn.specs.declared.fault.Fault.{Fault}
 use Rattle.bpf_insn.specs.declared.fault.Fault.TheVariants.{UnknownOpcode, ReservedNotZero, HalfWide, BadRegister}
 use Rattle.bpf_insn.specs.declared.error.InsnError.{InsnError}
-use Rattle.bpf_insn.specs.Table.{Second, NoSecond, Wide, row_of, word_count, words}
+use Rattle.bpf_insn.specs.Table.{row_of, word_count, words}
+use Rattle.bpf_insn.specs.declared.row.Encoding.{Encoding}
+use Rattle.bpf_insn.specs.declared.row.Encoding.TheVariants.{Basic, Wide}
 use Rattle.bpf_insn.specs.Encoding.{word_at, window_at, IsFollowed, BeginsWith, IsEncodedAs}
-use Rattle.bpf_insn.specs.Refusal.{IsFirst, IsWrong, IsSized, IsRefused, error_at}
-use Rattle.bpf_insn.specs.Reading.{instruction_at, refused_at}
-use Rattle.bpf_insn.proofs.Spelling.{InRange, NextInRange, Spells, read_spelled}
-use Rattle.bpf_insn.proofs.Law.{Reads, reads}
+use Rattle.bpf_insn.specs.Refusal.{IsFirstAmiss, IsWrong, IsSized, IsRefused, error_at}
+use Rattle.bpf_insn.specs.Private.Reading.{IsWord, IsRefusedAt}
+use Rattle.bpf_insn.proofs.Law.{one_written, none_amiss}
 
 -- ---- at the front of some bytes
 
-abbrev pub AreBytes : List ℕ → Type 0
-AreBytes bytes = (i : ℕ) → get_or bytes i 0 < 256
-
-dropped : (n : ℕ) (bytes : List ℕ) → AreBytes bytes → AreBytes (drop n bytes)
-dropped n bytes h i = rw get_or-drop (h (n + i))
-
-in_range : (bytes : List ℕ) → AreBytes bytes → InRange (word_at bytes)
-in_range bytes h = record {
-  offset = little_from-lt 0 2 (drop 2 bytes) (dropped 2 bytes h);
-  imm = little_from-lt 0 4 (drop 4 bytes) (dropped 4 bytes h);
-}
-
-next_in_range : (bytes : List ℕ) (b : Bool) → AreBytes bytes → NextInRange (cond b None (Some (word_at (drop 8 bytes))))
-next_in_range bytes true h = tt
-next_in_range bytes false h = in_range (drop 8 bytes) (dropped 8 bytes h)
-
-front : (bytes : List ℕ) → AreBytes bytes → Reads (window_at bytes) (instruction_at (window_at bytes))
-front bytes h = reads (window_at bytes) (in_range bytes h) (next_in_range bytes (ltb (length bytes) 16) h)
-
 -- an instruction of two words has them both
-long_by : (s : Second) (bytes : List ℕ) (b : Bool) → ltb (length bytes) 16 ≡ b → 8 ≤ length bytes → IsFollowed s (cond b None (Some (word_at (drop 8 bytes)))) → 8 * word_count s ≤ length bytes
-long_by NoSecond bytes b e h n = omega arith
+long_by : (s : Encoding) (bytes : List ℕ) (b : Bool) → ltb (length bytes) 16 ≡ b → 8 ≤ length bytes → IsFollowed s (cond b None (Some (word_at (drop 8 bytes)))) → 8 * word_count s ≤ length bytes
+long_by Basic bytes b e h n = omega arith
 long_by (Wide f) bytes true e h n = absurd cc
 long_by (Wide f) bytes false e h n = let long = ltb-false _ _ e in omega (arith, long)
 
-begins : (i : Insn) (bytes : List ℕ) → AreBytes bytes → 8 ≤ length bytes → instruction_at (window_at bytes) ≡ Ok i → BeginsWith i bytes
-begins i bytes h l e =
-    let P = λ (r : Result Insn Fault). Reads (window_at bytes) r in
-    let m : Spells i (window_at bytes) = subst P e (front bytes h) in
-    record { long = long_by (row_of i).second bytes (ltb (length bytes) 16) refl l m.spelled.second; spelled = m.spelled; fits = m.fits }
+pub begins : (i : Insn) (bytes : List ℕ) → 8 ≤ length bytes → IsWord i (window_at bytes) → BeginsWith i bytes
+begins i bytes l m = record { long = long_by (row_of i).encoding bytes (ltb (length bytes) 16) refl l m.written.second; written = m.written; fits = m.fits }
 
-fails : (f : Fault) (bytes : List ℕ) → AreBytes bytes → instruction_at (window_at bytes) ≡ Err f → IsFirst f (window_at bytes)
-fails f bytes h e =
-    let P = λ (r : Result Insn Fault). Reads (window_at bytes) r in
-    subst P e (front bytes h)
+pub one_front : (i j : Insn) (bytes : List ℕ) → BeginsWith i bytes → BeginsWith j bytes → i ≡ j
+one_front i j bytes b c = one_written i j (window_at bytes) b.written b.fits c.written c.fits
 
-read_front : (i : Insn) (bytes : List ℕ) → BeginsWith i bytes → instruction_at (window_at bytes) ≡ Ok i
-read_front i bytes b = read_spelled i (window_at bytes) b.spelled b.fits
+pub none_wrong : (f : Fault) (j : Insn) (bytes : List ℕ) → IsFirstAmiss (window_at bytes) f → ¬ BeginsWith j bytes
+none_wrong f j bytes a b = none_amiss f j (window_at bytes) b.written a.applies
 
-words_some : (s : Second) → 0 < word_count s
-words_some NoSecond = omega arith
+pub words_some : (s : Encoding) → 0 < word_count s
+words_some Basic = omega arith
 words_some (Wide f) = omega arith
 
-abbrev done : Insn → Result Insn Fault
-done i = Ok i
-
-no_front : (rest : List ℕ) (more : List Insn) (f : Fault) → 8 ≤ length rest → instruction_at (window_at rest) ≡ Err f → IsEncodedAs more rest → ⊥
+no_front : (rest : List ℕ) (more : List Insn) (f : Fault) → 8 ≤ length rest → IsFirstAmiss (window_at rest) f → IsEncodedAs more rest → ⊥
 no_front rest [] f l e c = let z : length rest ≡ 0 = ap length c in absurd (omega arith)
-no_front rest (j ∷ js) f l e c = let bad : done j ≡ Err f = sym (read_front j rest c.0) ∙ e in cc
+no_front rest (j ∷ js) f l e c = none_wrong f j rest e c.0
 
 -- ---- behind some instructions
 
@@ -90,8 +64,7 @@ start bytes h = record {
 rest_only : (i : Insn) (is : List Insn) (rest : List ℕ) → BeginsWith i rest → 8 ≤ length rest → IsEncodedAs is rest → (more : List Insn) × (is ≡ i ∷ more) × IsEncodedAs more (drop (8 * words i) rest)
 rest_only i [] rest b l c = absurd (let e : length rest ≡ 0 = ap length c in omega arith)
 rest_only i (j ∷ js) rest b l c =
-    let same : done j ≡ done i = sym (read_front j rest c.0) ∙ read_front i rest b in
-    let e : j ≡ i = cc in
+    let e : j ≡ i = one_front j i rest c.0 b in
     (js, ap (λ (x : Insn). x ∷ js) e, subst (λ (x : Insn). IsEncodedAs js (drop (8 * words x) rest)) e c.1)
 
 step : (bytes rest : List ℕ) (insns : List Insn) (pc : ℕ) (i : Insn) → Progress bytes rest insns pc → BeginsWith i rest → 8 ≤ length rest → Progress bytes (drop (8 * words i) rest) (insns ++ i ∷ []) (pc + words i)
@@ -110,7 +83,7 @@ step bytes rest insns pc i p b l = record {
 
 none_more : (more : List Insn) → IsEncodedAs more [] → more ≡ []
 none_more [] c = refl
-none_more (j ∷ js) c = let long = c.0.long in let some = words_some (row_of j).second in absurd (omega arith)
+none_more (j ∷ js) c = let long = c.0.long in let some = words_some (row_of j).encoding in absurd (omega arith)
 
 none_left : (bytes rest : List ℕ) (insns is : List Insn) (pc : ℕ) → Progress bytes rest insns pc → rest ≡ [] → IsEncodedAs is bytes → insns ≡ is
 none_left bytes rest insns is pc p r c =
@@ -122,27 +95,21 @@ all_read : (bytes rest : List ℕ) (insns : List Insn) (pc : ℕ) → Progress b
 all_read bytes rest insns pc p r = let P = λ (x : List Insn). IsEncodedAs x bytes in subst P (append-nil insns) (p.before [] r)
 
 -- where something is wrong, the bytes encode nothing
-none_at_all : (bytes rest : List ℕ) (insns is : List Insn) (pc : ℕ) (f : Fault) → Progress bytes rest insns pc → 8 ≤ length rest → instruction_at (window_at rest) ≡ Err f → IsEncodedAs is bytes → ⊥
+none_at_all : (bytes rest : List ℕ) (insns is : List Insn) (pc : ℕ) (f : Fault) → Progress bytes rest insns pc → 8 ≤ length rest → IsFirstAmiss (window_at rest) f → IsEncodedAs is bytes → ⊥
 none_at_all bytes rest insns is pc f p l e c = let m = p.only is c in no_front rest m.0 f l e m.2
 
-wrong_here : (bytes rest : List ℕ) (insns : List Insn) (pc : ℕ) (f : Fault) → Progress bytes rest insns pc → AreBytes rest → 8 ≤ length rest → instruction_at (window_at rest) ≡ Err f → IsWrong pc f bytes
-wrong_here bytes rest insns pc f p h l e =
+wrong_here : (bytes rest : List ℕ) (insns : List Insn) (pc : ℕ) (f : Fault) → Progress bytes rest insns pc → 8 ≤ length rest → IsFirstAmiss (window_at rest) f → IsWrong pc f bytes
+wrong_here bytes rest insns pc f p l e =
     let z : pc + 0 ≡ pc = omega arith in
     let P = λ (n : ℕ). IsWrong n f bytes in
-    subst P z (p.wrong 0 f ([], (refl, l, fails f rest h e)))
-
-rest_bytes : (bytes rest : List ℕ) (insns : List Insn) (pc : ℕ) → Progress bytes rest insns pc → AreBytes bytes → AreBytes rest
-rest_bytes bytes rest insns pc p h = rw p.part (dropped (8 * pc) bytes h)
+    subst P z (p.wrong 0 f ([], (refl, l, e)))
 
 -- ---- the loop's invariant, and what each of its ends says
 
 pub record Reached (bytes : List ℕ) (insns : List Insn) (pc : ℕ) : Type 0 where
   pub progress : Progress bytes (drop (8 * pc) bytes) insns pc
 
-abbrev pub read_at : List ℕ → ℕ → Result Insn Fault
-read_at bytes pc = instruction_at (window_at (drop (8 * pc) bytes))
-
-rest_long : (bytes : List ℕ) (pc : ℕ) → pc < length bytes / 8 → 8 ≤ length (drop (8 * pc) bytes)
+pub rest_long : (bytes : List ℕ) (pc : ℕ) → pc < length bytes / 8 → 8 ≤ length (drop (8 * pc) bytes)
 rest_long bytes pc h = omega (arith, length-drop (8 * pc) bytes)
 
 rest_none : (rest : List ℕ) → length rest ≡ 0 → rest ≡ []
@@ -152,25 +119,11 @@ rest_none (x ∷ xs) e = absurd (omega arith)
 pub reached_start : (bytes : List ℕ) → length bytes % 8 ≡ 0 → Reached bytes [] 0
 reached_start bytes h = record { progress = start bytes h }
 
-begins_at : (bytes : List ℕ) (insns : List Insn) (pc : ℕ) (i : Insn) → Reached bytes insns pc → AreBytes bytes → pc < length bytes / 8 → Ok i ≡ read_at bytes pc → BeginsWith i (drop (8 * pc) bytes)
-begins_at bytes insns pc i r h l e = begins i (drop (8 * pc) bytes) (rest_bytes _ _ _ _ r.progress h) (rest_long bytes pc l) (sym e)
-
--- what the function that reads at a pc answers
-read_ok : (pc : ℕ) (i : Insn) (r : Result Insn Fault) → Ok i ≡ refused_at pc r → Ok i ≡ r
-read_ok pc i (Ok j) e = cc
-read_ok pc i (Err f) e = absurd (cc)
-
-pub reached_next : (bytes : List ℕ) (insns new : List Insn) (pc n : ℕ) (i : Insn) → Reached bytes insns pc → AreBytes bytes → pc < length bytes / 8 → Ok i ≡ refused_at pc (read_at bytes pc) → new ≡ insns ++ i ∷ [] → n ≡ words i → Reached bytes new (pc + n)
-reached_next bytes insns new pc n i r h l e a c =
-    let b = begins_at bytes insns pc i r h l (read_ok pc i _ e) in
+pub reached_next : (bytes : List ℕ) (insns new : List Insn) (pc n : ℕ) (i : Insn) → Reached bytes insns pc → pc < length bytes / 8 → BeginsWith i (drop (8 * pc) bytes) → new ≡ insns ++ i ∷ [] → n ≡ words i → Reached bytes new (pc + n)
+reached_next bytes insns new pc n i r l b a c =
     let p = step bytes (drop (8 * pc) bytes) insns pc i r.progress b (rest_long bytes pc l) in
     let at : drop (8 * words i) (drop (8 * pc) bytes) ≡ drop (8 * (pc + words i)) bytes = drop-drop (8 * words i) (8 * pc) bytes ∙ ap (λ (k : ℕ). drop k bytes) (omega arith) in
     rw (a, c) (record { progress = subst (λ (x : List ℕ). Progress bytes x (insns ++ i ∷ []) (pc + words i)) at p })
-
-pub reached_bound : (bytes : List ℕ) (insns : List Insn) (pc : ℕ) (i : Insn) → Reached bytes insns pc → AreBytes bytes → pc < length bytes / 8 → Ok i ≡ refused_at pc (read_at bytes pc) → pc + words i ≤ length bytes / 8
-reached_bound bytes insns pc i r h l e =
-    let long = (begins_at bytes insns pc i r h l (read_ok pc i _ e)).long in
-    omega (arith, length-drop (8 * pc) bytes)
 
 -- at the end of the bytes
 pub record IsAll (bytes : List ℕ) (insns : List Insn) : Type 0 where
@@ -195,13 +148,17 @@ refused_by bytes pc ReservedNotZero s w = (s, w)
 refused_by bytes pc HalfWide s w = (s, w)
 refused_by bytes pc BadRegister s w = (s, w)
 
-ends_by : (bytes : List ℕ) (insns : List Insn) (pc : ℕ) (e : InsnError) (r : Result Insn Fault) → Reached bytes insns pc → IsSized bytes → AreBytes bytes → pc < length bytes / 8 → read_at bytes pc ≡ r → Err e ≡ refused_at pc r → Ends bytes e
-ends_by bytes insns pc e (Ok i) r s h l a b = absurd cc
-ends_by bytes insns pc e (Err f) r s h l a b =
-    let long = rest_long bytes pc l in
-    let wrong = wrong_here bytes _ insns pc f r.progress (rest_bytes _ _ _ _ r.progress h) long a in
-    let same : e ≡ error_at f pc = cc in
-    record { refused = rw same (refused_by bytes pc f s wrong); none = λ is c. none_at_all bytes _ insns is pc f r.progress long a c }
+pub reached_wrong : (bytes : List ℕ) (insns : List Insn) (pc : ℕ) (e : InsnError) → Reached bytes insns pc → IsSized bytes → pc < length bytes / 8 → IsRefusedAt e pc bytes → Ends bytes e
+reached_wrong bytes insns pc e r s h x =
+    let long = rest_long bytes pc h in
+    let wrong = wrong_here bytes _ insns pc x.fault r.progress long x.first in
+    record { refused = rw x.named (refused_by bytes pc x.fault s wrong); none = λ is c. none_at_all bytes _ insns is pc x.fault r.progress long x.first c }
 
-pub reached_wrong : (bytes : List ℕ) (insns : List Insn) (pc : ℕ) (e : InsnError) → Reached bytes insns pc → IsSized bytes → AreBytes bytes → pc < length bytes / 8 → Err e ≡ refused_at pc (read_at bytes pc) → Ends bytes e
-reached_wrong bytes insns pc e r s h l b = ends_by bytes insns pc e (read_at bytes pc) r s h l refl b
+-- ---- the answer at a pc, from the answer at its words
+
+pub begins_at : (bytes : List ℕ) (pc : ℕ) (w : Window) (i : Insn) → 8 * pc + 8 ≤ length bytes → w ≡ window_at (drop (8 * pc) bytes) → IsWord i w → BeginsWith i (drop (8 * pc) bytes)
+begins_at bytes pc w i l a x =
+    begins i (drop (8 * pc) bytes) (omega (arith, length-drop (8 * pc) bytes)) (subst (λ (v : Window). IsWord i v) a x)
+
+pub refused_at : (bytes : List ℕ) (pc : ℕ) (w : Window) (f : Fault) (e : InsnError) → w ≡ window_at (drop (8 * pc) bytes) → IsFirstAmiss w f → e ≡ error_at f pc → IsRefusedAt e pc bytes
+refused_at bytes pc w f e a x n = record { fault = f; named = n; first = subst (λ (v : Window). IsFirstAmiss v f) a x }

@@ -19,7 +19,20 @@ use Rattle.bpf_insn.specs.declared.operation.SignedSize.TheVariants as signed_si
 use Rattle.bpf_insn.specs.declared.operation.AtomicOp.{AtomicOp}
 use Rattle.bpf_insn.specs.declared.operation.AtomicOp.TheVariants as atomic
 
--- ---- opcodes (sections 3.1, 4 and 5)
+-- ---- opcodes (sections 3.3, 4 and 5)
+
+-- the classes; those of arithmetic and of jumps are below
+abbrev pub ld_class : ℕ
+ld_class = 0
+
+abbrev pub ldx_class : ℕ
+ldx_class = 1
+
+abbrev pub st_class : ℕ
+st_class = 2
+
+abbrev pub stx_class : ℕ
+stx_class = 3
 
 -- arithmetic and jumps: the class in bits 0 to 2, bit 3 set where the operand is a register (X) and
 -- not an immediate (K), the code in bits 4 to 7
@@ -60,13 +73,16 @@ alu_code alu.Arsh = 0xc
 abbrev pub negate_code : ℕ
 negate_code = 0x8
 
--- MOVSX: from how many bits is said by the offset, to how many by the class
+-- MOVSX: to how many bits is said by the class, from how many by the offset
+abbrev pub extension_width : SignExtension → Width
+extension_width From8To32 = Bits32
+extension_width From16To32 = Bits32
+extension_width From8To64 = Bits64
+extension_width From16To64 = Bits64
+extension_width From32To64 = Bits64
+
 abbrev pub extension_opcode : SignExtension → ℕ
-extension_opcode From8To32 = opcode_x (alu_class Bits32) (alu_code alu.Mov)
-extension_opcode From16To32 = opcode_x (alu_class Bits32) (alu_code alu.Mov)
-extension_opcode From8To64 = opcode_x (alu_class Bits64) (alu_code alu.Mov)
-extension_opcode From16To64 = opcode_x (alu_class Bits64) (alu_code alu.Mov)
-extension_opcode From32To64 = opcode_x (alu_class Bits64) (alu_code alu.Mov)
+extension_opcode e = opcode_x (alu_class (extension_width e)) (alu_code alu.Mov)
 
 abbrev pub extension_offset : SignExtension → ℕ
 extension_offset From8To32 = 8
@@ -75,11 +91,14 @@ extension_offset From8To64 = 8
 extension_offset From16To64 = 16
 extension_offset From32To64 = 32
 
--- END: in ALU bit 3 is the byte order, in ALU64 it is clear
+-- the code of END: in ALU bit 3 is the byte order, in ALU64 it is clear
+abbrev pub end_code : ℕ
+end_code = 0xd
+
 abbrev pub swap_opcode : ByteSwap → ℕ
-swap_opcode ToLittle = 0xd4
-swap_opcode ToBig = 0xdc
-swap_opcode Reverse = 0xd7
+swap_opcode ToLittle = opcode_k (alu_class Bits32) end_code
+swap_opcode ToBig = opcode_x (alu_class Bits32) end_code
+swap_opcode Reverse = opcode_k (alu_class Bits64) end_code
 
 abbrev pub swap_bits : SwapWidth → ℕ
 swap_bits swap_width.Bits16 = 16
@@ -106,7 +125,17 @@ condition_code condition.Le = 0xb
 condition_code condition.Slt = 0xc
 condition_code condition.Sle = 0xd
 
--- ---- loads and stores (sections 5.1 to 5.3)
+-- the codes of JA, CALL and EXIT
+abbrev pub always_code : ℕ
+always_code = 0x0
+
+abbrev pub call_code : ℕ
+call_code = 0x8
+
+abbrev pub exit_code : ℕ
+exit_code = 0x9
+
+-- ---- loads and stores (sections 5.1 to 5.4)
 
 abbrev pub size_code : Size → ℕ
 size_code size.Word = 0
@@ -115,16 +144,19 @@ size_code size.Byte = 2
 size_code size.Double = 3
 
 abbrev pub signed_size_code : SignedSize → ℕ
-signed_size_code signed_size.Word = 0
-signed_size_code signed_size.Half = 1
-signed_size_code signed_size.Byte = 2
+signed_size_code signed_size.Word = size_code size.Word
+signed_size_code signed_size.Half = size_code size.Half
+signed_size_code signed_size.Byte = size_code size.Byte
 
 -- atomic operations are on 4 or 8 bytes
 abbrev pub atomic_size_code : Width → ℕ
-atomic_size_code Bits32 = 0
-atomic_size_code Bits64 = 3
+atomic_size_code Bits32 = size_code size.Word
+atomic_size_code Bits64 = size_code size.Double
 
--- the modes MEM, MEMSX and ATOMIC
+-- the modes IMM, MEM, MEMSX and ATOMIC
+abbrev pub immediate_mode : ℕ
+immediate_mode = 0
+
 abbrev pub memory_mode : ℕ
 memory_mode = 3
 

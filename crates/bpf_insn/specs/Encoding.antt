@@ -2,7 +2,12 @@
 use Rattle.std.specs.Prelude.{◌≡◌, ℕ, ◌*◌, ◌/◌, ◌%◌, ◌^◌, ◌≤◌, ◌<◌, List, [], ◌∷◌, length, drop, slice_index, Option, Some, None, if◌then◌else◌, nat_lt, FitsSigned}
 use Rattle.std.specs.Int.{w16, w32}
 use Rattle.byteorder.specs.Endian.{little_number}
-use Rattle.bpf_insn.specs.Table.{Field, Unused, Selects, Holds, Second, NoSecond, Wide, Row, row_of, words}
+use Rattle.bpf_insn.specs.Table.{row_of, words}
+use Rattle.bpf_insn.specs.declared.row.Field.{Field}
+use Rattle.bpf_insn.specs.declared.row.Field.TheVariants.{Unused, Selects, Holds}
+use Rattle.bpf_insn.specs.declared.row.Encoding.{Encoding}
+use Rattle.bpf_insn.specs.declared.row.Encoding.TheVariants.{Basic, Wide}
+use Rattle.bpf_insn.specs.declared.row.Row.{Row}
 use Rattle.bpf_insn.specs.declared.instruction.Operand.TheVariants.{Immediate, Register}
 use Rattle.bpf_insn.specs.declared.instruction.Insn.{Insn}
 use Rattle.bpf_insn.specs.declared.instruction.Insn.TheVariants as insn
@@ -36,21 +41,28 @@ value_of (Holds n) = n
 
 -- the word that a row spells, and its second one
 abbrev pub first_word : Row → Word
-first_word r = record { opcode = r.opcode; dst = value_of r.dst; src = value_of r.src; offset = value_of r.offset; imm = value_of r.imm }
+first_word r = record {
+  opcode = r.opcode;
+  dst = value_of r.dst;
+  src = value_of r.src;
+  offset = value_of r.offset;
+  imm = value_of r.imm;
+}
 
-abbrev pub second_word : Second → Option Word
-second_word NoSecond = None
-second_word (Wide n) = Some (record { opcode = 0; dst = 0; src = 0; offset = 0; imm = value_of n })
+abbrev pub second_word : Encoding → Option Word
+second_word Basic = None
+second_word (Wide n) =
+    Some (record { opcode = 0; dst = 0; src = 0; offset = 0; imm = value_of n })
 
 -- what follows is the row's second word, or anything where the row has none
-abbrev pub IsFollowed : Second → Option Word → Type 0
-IsFollowed NoSecond next = Unit {0}
+abbrev pub IsFollowed : Encoding → Option Word → Type 0
+IsFollowed Basic next = Unit {0}
 IsFollowed (Wide n) next = next ≡ second_word (Wide n)
 
 -- these words are the instruction, and where it has one word, whatever follows it
-pub record IsSpelled (i : Insn) (w : Window) : Type 0 where
+pub record IsWrittenAs (i : Insn) (w : Window) : Type 0 where
   pub first : w.word ≡ first_word (row_of i)
-  pub second : IsFollowed (row_of i).second w.next
+  pub second : IsFollowed (row_of i).encoding w.next
 
 -- the instruction's numbers fit their types
 abbrev pub Fits : Insn → Type 0
@@ -77,7 +89,7 @@ Fits (insn.LoadMap d m) = m < 2 ^ 32
 -- the bytes begin with the instruction
 pub record BeginsWith (i : Insn) (bytes : List ℕ) : Type 0 where
   pub long : 8 * words i ≤ length bytes
-  pub spelled : IsSpelled i (window_at bytes)
+  pub written : IsWrittenAs i (window_at bytes)
   pub fits : Fits i
 
 -- the bytes are those of the instructions, in order, and no more

@@ -2,9 +2,7 @@ pub mod Register
 pub mod Codes
 pub mod Table
 pub mod Encoding
-pub mod Refusal
-pub mod Lookup
-pub mod Reading
-pub mod Writing
 pub mod First
+pub mod Refusal
 pub mod Laws
+pub mod Private

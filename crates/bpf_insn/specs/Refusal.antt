@@ -3,7 +3,13 @@
 -- unused fields that aren't zero (sections 3.1 and 3.2), half of a wide instruction (section 3.2),
 -- registers that there aren't (section 3.1).
 use Rattle.std.specs.Prelude.{◌≡◌, ◌≢◌, ℕ, ◌+◌, ◌*◌, ◌%◌, ◌≤◌, ◌<◌, List, [], ◌∷◌, length, drop, Option, Some, None, Result, IfOk, IfErr}
-use Rattle.bpf_insn.specs.Table.{Field, Unused, Selects, Holds, Second, NoSecond, Wide, Row, row_of, words}
+use Rattle.bpf_insn.specs.Table.{row_of, words}
+use Rattle.bpf_insn.specs.First.{IsFirst}
+use Rattle.bpf_insn.specs.declared.row.Field.{Field}
+use Rattle.bpf_insn.specs.declared.row.Field.TheVariants.{Unused, Selects, Holds}
+use Rattle.bpf_insn.specs.declared.row.Encoding.{Encoding}
+use Rattle.bpf_insn.specs.declared.row.Encoding.TheVariants.{Basic, Wide}
+use Rattle.bpf_insn.specs.declared.row.Row.{Row}
 use Rattle.bpf_insn.specs.Encoding.{window_at, BeginsWith}
 use Rattle.bpf_insn.specs.declared.instruction.Insn.{Insn}
 use Rattle.bpf_insn.specs.declared.word.Word.{Word}
@@ -36,21 +42,22 @@ IsZeroed (Selects m) n = Unit {0}
 IsZeroed (Holds m) n = Unit {0}
 
 -- and of the second word, where there is one, all but the immediate
-abbrev pub IsZeroedSecond : Second → Option Word → Type 0
-IsZeroedSecond NoSecond next = Unit {0}
+abbrev pub IsZeroedSecond : Encoding → Option Word → Type 0
+IsZeroedSecond Basic next = Unit {0}
 IsZeroedSecond (Wide f) None = Unit {0}
-IsZeroedSecond (Wide f) (Some w) = (w.opcode ≡ 0) × (w.dst ≡ 0) × (w.src ≡ 0) × (w.offset ≡ 0) × IsZeroed f w.imm
+IsZeroedSecond (Wide f) (Some w) =
+    (w.opcode ≡ 0) × (w.dst ≡ 0) × (w.src ≡ 0) × (w.offset ≡ 0) × IsZeroed f w.imm
 
 pub record IsClean (r : Row) (w : Window) : Type 0 where
   pub dst : IsZeroed r.dst w.word.dst
   pub src : IsZeroed r.src w.word.src
   pub offset : IsZeroed r.offset w.word.offset
   pub imm : IsZeroed r.imm w.word.imm
-  pub second : IsZeroedSecond r.second w.next
+  pub second : IsZeroedSecond r.encoding w.next
 
 -- a row of two words has its second one
-abbrev pub IsWhole : Second → Option Word → Type 0
-IsWhole NoSecond next = Unit {0}
+abbrev pub IsWhole : Encoding → Option Word → Type 0
+IsWhole Basic next = Unit {0}
 IsWhole (Wide f) next = next ≢ None
 
 -- a field that holds a register has the number of one
@@ -66,18 +73,13 @@ pub record HasRegisters (r : Row) (w : Word) : Type 0 where
 -- ---- what is wrong at a word
 
 -- what each refusal says
-abbrev pub Applies : Fault → Window → Type 0
-Applies fault.UnknownOpcode w = (i : Insn) → ¬ IsOfRow (row_of i) w.word
-Applies fault.ReservedNotZero w = (i : Insn) × IsOfRow (row_of i) w.word × (¬ IsClean (row_of i) w)
-Applies fault.HalfWide w = (i : Insn) × IsOfRow (row_of i) w.word × (¬ IsWhole (row_of i).second w.next)
-Applies fault.BadRegister w = (i : Insn) × IsOfRow (row_of i) w.word × (¬ HasRegisters (row_of i) w.word)
-
--- their numbers, which order them
-abbrev pub number_of : Fault → ℕ
-number_of fault.UnknownOpcode = 4
-number_of fault.ReservedNotZero = 5
-number_of fault.HalfWide = 6
-number_of fault.BadRegister = 7
+abbrev pub IsAmiss : Window → Fault → Type 0
+IsAmiss w fault.UnknownOpcode = (i : Insn) → ¬ IsOfRow (row_of i) w.word
+IsAmiss w fault.ReservedNotZero = (i : Insn) × IsOfRow (row_of i) w.word × (¬ IsClean (row_of i) w)
+IsAmiss w fault.HalfWide =
+    (i : Insn) × IsOfRow (row_of i) w.word × (¬ IsWhole (row_of i).encoding w.next)
+IsAmiss w fault.BadRegister =
+    (i : Insn) × IsOfRow (row_of i) w.word × (¬ HasRegisters (row_of i) w.word)
 
 -- the refusal with the pc that it names
 abbrev pub error_at : Fault → ℕ → InsnError
@@ -86,15 +88,27 @@ error_at fault.ReservedNotZero pc = error.ReservedNotZero pc
 error_at fault.HalfWide pc = error.HalfWide pc
 error_at fault.BadRegister pc = error.BadRegister pc
 
--- the refusal of the lowest number
-pub record IsFirst (f : Fault) (w : Window) : Type 0 where
-  pub applies : Applies f w
-  pub first : (g : Fault) → number_of g < number_of f → ¬ Applies g w
+-- the number of the refusal's code
+abbrev pub error_number : InsnError → ℕ
+error_number error.Empty = 1
+error_number (error.Ragged n) = 2
+error_number error.TooLong = 3
+error_number (error.UnknownOpcode pc) = 4
+error_number (error.ReservedNotZero pc) = 5
+error_number (error.HalfWide pc) = 6
+error_number (error.BadRegister pc) = 7
+error_number error.OutOfMemory = 14
+
+-- of what is wrong at one word, the lowest number is answered
+abbrev pub IsFirstAmiss : Window → Fault → Type 0
+IsFirstAmiss w f = IsFirst (λ (g : Fault). 0) (λ g. error_number (error_at g 0)) (IsAmiss w) f
 
 -- at word pc, behind instructions that are spelled, something is wrong
 abbrev pub IsWrongAfter : List Insn → ℕ → Fault → List ℕ → Type 0
-IsWrongAfter [] pc f bytes = (pc ≡ 0) × (8 ≤ length bytes) × IsFirst f (window_at bytes)
-IsWrongAfter (i ∷ is) pc f bytes = (q : ℕ) × (pc ≡ words i + q) × BeginsWith i bytes × IsWrongAfter is q f (drop (8 * words i) bytes)
+IsWrongAfter [] pc f bytes = (pc ≡ 0) × (8 ≤ length bytes) × IsFirstAmiss (window_at bytes) f
+IsWrongAfter (i ∷ is) pc f bytes =
+    (q : ℕ) × (pc ≡ words i + q) × BeginsWith i bytes
+    × IsWrongAfter is q f (drop (8 * words i) bytes)
 
 -- pc is the lowest at which something is wrong
 abbrev pub IsWrong : ℕ → Fault → List ℕ → Type 0
@@ -125,5 +139,5 @@ IsRefused (error.BadRegister pc) bytes = IsSized bytes × IsWrong pc fault.BadRe
 IsRefused error.OutOfMemory bytes = IsSized bytes
 
 -- the answer is this list, or memory was refused
-abbrev pub Answers : {X : Type 0} → (X → List Insn) → Result X InsnError → List Insn → Type 0
-Answers items result is = IfOk result (λ x. items x ≡ is) × IfErr result (λ e. e ≡ error.OutOfMemory)
+abbrev pub IsAnswered : {X : Type 0} → (X → List Insn) → Result X InsnError → List Insn → Type 0
+IsAnswered items result is = IfOk result (λ x. items x ≡ is) × IfErr result (λ e. e ≡ error.OutOfMemory)

@@ -4,15 +4,15 @@ use Rattle.bpf_insn.specs.declared.register.Reg.{Reg}
 use Rattle.bpf_insn.specs.declared.register.Reg.TheVariants.{R0, R1, R2, R3, R4, R5, R6, R7, R8, R9, R10}
 
 -- the register's number
-abbrev pub number_of : Reg → ℕ
-number_of R0 = 0
-number_of R1 = 1
-number_of R2 = 2
-number_of R3 = 3
-number_of R4 = 4
-number_of R5 = 5
-number_of R6 = 6
-number_of R7 = 7
-number_of R8 = 8
-number_of R9 = 9
-number_of R10 = 10
+abbrev pub register_number : Reg → ℕ
+register_number R0 = 0
+register_number R1 = 1
+register_number R2 = 2
+register_number R3 = 3
+register_number R4 = 4
+register_number R5 = 5
+register_number R6 = 6
+register_number R7 = 7
+register_number R8 = 8
+register_number R9 = 9
+register_number R10 = 10

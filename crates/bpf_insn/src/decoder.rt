@@ -2,9 +2,9 @@
 
 ghost use Rattle.std.specs.Prelude.{◌≡◌, ◌≤◌, ◌*◌, ◌+◌, drop, List, length, IfOk, IfErr};
 ghost use Rattle.bpf_insn.specs.declared.instruction.Insn.{Insn};
-ghost use Rattle.bpf_insn.specs.Encoding.{window_at, IsEncodedAs};
-ghost use Rattle.bpf_insn.specs.Refusal.{IsSized, IsRefused, Answers};
-ghost use Rattle.bpf_insn.specs.Reading.{instruction_at, refused_at};
+ghost use Rattle.bpf_insn.specs.Encoding.{IsEncodedAs};
+ghost use Rattle.bpf_insn.specs.Refusal.{IsSized, IsRefused, IsAnswered};
+ghost use Rattle.bpf_insn.specs.Private.Reading.{ReadsAt};
 
 use crate::error::InsnError;
 use crate::instruction::Insn;
@@ -18,17 +18,20 @@ const MAX_WORDS: usize = 65536;
 /// The instruction at word `pc`, or what is wrong there.
 fn instruction_at(bytes: &[u8], pc: u32) -> Result<Insn, InsnError>
     requires { 8 * pc + 8 ≤ length bytes.now }
-    ensures { result ≡ refused_at pc (instruction_at (window_at (drop (8 * pc) bytes.now))) }
+    ensures { ReadsAt bytes.now pc result }
 {
     let window = Window::from_bytes(&bytes[8 * pc as usize..]);
-    reading::instruction(&window).map_err(|fault| fault.at(pc))
+    match reading::instruction(&window) {
+        Ok(insn) => Ok(insn),
+        Err(fault) => Err(fault.at(pc)),
+    }
 }
 
 /// The instructions in bytes whose length is right.
 fn decode_words(alloc: Global, bytes: &[u8]) -> Result<Vec<Insn>, InsnError>
     requires { IsSized bytes.now }
     ensures found { IfOk result (λ v. IsEncodedAs v.items bytes.now) }
-    ensures only { (is : List Insn) → IsEncodedAs is bytes.now → Answers (λ v. v.items) result is }
+    ensures only { (is : List Insn) → IsEncodedAs is bytes.now → IsAnswered (λ v. v.items) result is }
     ensures refused { IfErr result (λ e. IsRefused e bytes.now) }
 {
     let count = (bytes.len() / 8) as u32;
@@ -48,7 +51,8 @@ pub fn decode(alloc: Global, bytes: &[u8]) -> Result<Vec<Insn>, InsnError>
     ensures found { IfOk result (λ v. IsSized bytes.now × IsEncodedAs v.items bytes.now) }
 
     // Instructions that the bytes encode are answered, and no others, unless memory is refused.
-    ensures only { (is : List Insn) → IsSized bytes.now → IsEncodedAs is bytes.now → Answers (λ v. v.items) result is }
+    ensures only { (is : List Insn) → IsSized bytes.now → IsEncodedAs is bytes.now →
+        IsAnswered (λ v. v.items) result is }
 
     // A refusal is the first in order: of the length, or else at the lowest pc the lowest number.
     ensures refused { IfErr result (λ e. IsRefused e bytes.now) }

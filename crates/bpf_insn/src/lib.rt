@@ -1,6 +1,7 @@
 //! BPF instructions as values, and as bytes, after RFC 9669.
 #![tactic(auto)]
 
+mod candidate;
 mod codes;
 mod decoder;
 mod encoder;
@@ -8,10 +9,11 @@ pub mod error;
 mod fault;
 pub mod instruction;
 pub mod laws;
-mod operands;
 pub mod operation;
 mod reading;
 pub mod register;
+mod row;
+mod table;
 mod word;
 
 pub use decoder::decode;

@@ -1,30 +1,34 @@
-//! One instruction from its words, by the class in the low three bits of its opcode.
+//! One instruction from its words.
 
-ghost use Rattle.std.specs.Prelude.{◌≡◌};
-ghost use Rattle.bpf_insn.specs.Reading.{instruction_at};
+ghost use Rattle.bpf_insn.specs.Private.Bytes.{IsNarrow};
+ghost use Rattle.bpf_insn.specs.Private.Reading.{Reads};
 
-mod arithmetic;
-mod jump;
-mod memory;
-
+use crate::candidate::candidate;
 use crate::fault::Fault;
 use crate::instruction::Insn;
-use crate::operation::Width;
 use crate::word::Window;
 
-/// The instruction at the front of a window, or the first thing that is wrong there.
-#[tactic(auto, unfolding(crate::specs::Reading::instruction_at))]
+/// The instruction at the front of a window, or the first thing that is wrong there: the row that the
+/// word can be of is found, and its fields are checked against it.
 pub fn instruction(window: &Window) -> Result<Insn, Fault>
-    ensures { result ≡ instruction_at window.now }
+    requires { IsNarrow window.now.word }
+    ensures { Reads window.now result }
 {
-    match window.word.opcode % 8 {
-        0 => memory::wide(window),
-        1 => memory::loads(window),
-        2 => memory::immediate_stores(window),
-        3 => memory::stores(window),
-        4 => arithmetic::arithmetic(Width::Bits32, window),
-        5 => jump::jumps(Width::Bits64, window),
-        6 => jump::jumps(Width::Bits32, window),
-        _ => arithmetic::arithmetic(Width::Bits64, window),
+    let Some(insn) = candidate(window) else {
+        return Err(Fault::UnknownOpcode);
+    };
+    let row = insn.row();
+    if !row.is_of(window.word) {
+        return Err(Fault::UnknownOpcode);
     }
+    if !row.is_clean(window) {
+        return Err(Fault::ReservedNotZero);
+    }
+    if !row.is_whole(window) {
+        return Err(Fault::HalfWide);
+    }
+    if !row.has_registers(window.word) {
+        return Err(Fault::BadRegister);
+    }
+    Ok(insn)
 }

@@ -1,7 +1,7 @@
 //! The eleven registers (RFC 9669, section 3.1).
 
 ghost use Rattle.std.specs.Prelude.{◌≡◌, ◌≤◌, IsSome, IfSome};
-ghost use Rattle.bpf_insn.specs.Register.{number_of};
+ghost use Rattle.bpf_insn.specs.Register.{register_number};
 
 /// A register, R0 to R10. R10 is the frame pointer, which no program writes.
 #[derive(Clone, Copy, PartialEq, Eq, Debug)]
@@ -22,7 +22,7 @@ pub enum Reg {
 impl Reg {
     /// The register with this number; `None` from 11 on.
     pub fn new(number: u8) -> Option<Reg>
-        ensures numbered { IfSome result (λ r. number_of r ≡ number) }
+        ensures numbered { IfSome result (λ r. register_number r ≡ number) }
         ensures found { number ≤ 10 → IsSome result }
     {
         match number {
@@ -43,7 +43,7 @@ impl Reg {
 
     /// Its number, 0 to 10.
     pub fn number(self) -> u8
-        ensures numbered { result ≡ number_of self }
+        ensures numbered { result ≡ register_number self }
         ensures small { result ≤ 10 }
     {
         self as u8

@@ -20,12 +20,13 @@ pub struct Word {
 impl Word {
     ghost use Rattle.std.specs.Prelude.{◌≡◌, ◌≤◌, ◌<◌, length};
     ghost use Rattle.bpf_insn.specs.Encoding.{word_at};
-    ghost use Rattle.bpf_insn.specs.Writing.{word_bytes};
+    ghost use Rattle.bpf_insn.specs.Private.Bytes.{word_bytes, IsNarrow};
 
     /// The word in the first 8 bytes.
     pub fn from_bytes(bytes: &[u8]) -> Word
         requires { 8 ≤ length bytes.now }
-        ensures { result ≡ word_at bytes.now }
+        ensures value { result ≡ word_at bytes.now }
+        ensures narrow { IsNarrow result }
     {
         Word {
             opcode: bytes[0],
@@ -36,6 +37,7 @@ impl Word {
         }
     }
 
+    /// Its 8 bytes.
     pub fn to_bytes(self) -> [u8; 8]
         requires dst { self.dst < 16 }
         requires src { self.src < 16 }
@@ -71,11 +73,13 @@ pub struct Window {
 impl Window {
     ghost use Rattle.std.specs.Prelude.{◌≡◌, ◌≤◌, length};
     ghost use Rattle.bpf_insn.specs.Encoding.{window_at};
+    ghost use Rattle.bpf_insn.specs.Private.Bytes.{IsNarrow};
 
     /// The first word of the bytes, and the second.
     pub fn from_bytes(bytes: &[u8]) -> Window
         requires { 8 ≤ length bytes.now }
-        ensures { result ≡ window_at bytes.now }
+        ensures value { result ≡ window_at bytes.now }
+        ensures narrow { IsNarrow result.word }
     {
         Window {
             word: Word::from_bytes(bytes),

@@ -1,37 +1,47 @@
 //! Arithmetic by its codes (RFC 9669, section 4.1).
 
 ghost use Rattle.std.specs.Prelude.{◌≡◌, ◌<◌};
-ghost use Rattle.bpf_insn.specs.Codes.{alu_class, alu_code, extension_opcode, extension_offset};
+ghost use Rattle.bpf_insn.specs.Codes.{alu_class, alu_code, extension_width, extension_opcode, extension_offset};
 ghost use Rattle.bpf_insn.specs.Table.{offset_k, offset_x};
-ghost use Rattle.bpf_insn.specs.Encoding.{value_of};
-ghost use Rattle.bpf_insn.specs.Lookup.{alu_op_at, extension_at};
-ghost use Rattle.bpf_insn.specs.Reading.{is_told_by_offset};
+ghost use Rattle.bpf_insn.specs.Private.Lookup.{alu_op_at, extension_at};
 
+use crate::codes::{ALU, ALU64, opcode_x};
 use crate::operation::{AluOp, SignExtension, Width};
+use crate::row::Field;
+
+const ALU_OPS: [AluOp; 14] = [
+    AluOp::Add,
+    AluOp::Sub,
+    AluOp::Mul,
+    AluOp::Div,
+    AluOp::Sdiv,
+    AluOp::Or,
+    AluOp::And,
+    AluOp::Lsh,
+    AluOp::Rsh,
+    AluOp::Mod,
+    AluOp::Smod,
+    AluOp::Xor,
+    AluOp::Mov,
+    AluOp::Arsh,
+];
+
+const SIGN_EXTENSIONS: [SignExtension; 5] = [
+    SignExtension::From8To32,
+    SignExtension::From16To32,
+    SignExtension::From8To64,
+    SignExtension::From16To64,
+    SignExtension::From32To64,
+];
 
 impl AluOp {
     /// The operation of this code; of a division the offset says whether it is signed.
-    #[tactic(auto, unfolding(crate::specs::Lookup::alu_op_at))]
+    #[tactic(auto, unfolding(crate::specs::Private::Lookup::alu_op_at))]
     pub(crate) fn from_code(code: u8, offset: u16) -> Option<AluOp>
         ensures { result ≡ alu_op_at code offset }
     {
-        match (code, offset) {
-            (0x0, _) => Some(AluOp::Add),
-            (0x1, _) => Some(AluOp::Sub),
-            (0x2, _) => Some(AluOp::Mul),
-            (0x3, 0) => Some(AluOp::Div),
-            (0x3, 1) => Some(AluOp::Sdiv),
-            (0x4, _) => Some(AluOp::Or),
-            (0x5, _) => Some(AluOp::And),
-            (0x6, _) => Some(AluOp::Lsh),
-            (0x7, _) => Some(AluOp::Rsh),
-            (0x9, 0) => Some(AluOp::Mod),
-            (0x9, 1) => Some(AluOp::Smod),
-            (0xa, _) => Some(AluOp::Xor),
-            (0xb, _) => Some(AluOp::Mov),
-            (0xc, _) => Some(AluOp::Arsh),
-            _ => None,
-        }
+        ALU_OPS.iter().copied().find(|op| op.code() == code
+            && op.offset().selects(u32::from(offset)))
     }
 
     /// Its code, shared by unsigned and signed division.
@@ -55,52 +65,63 @@ impl AluOp {
         }
     }
 
-    /// Its offset.
-    pub(crate) fn offset(self) -> u16
-        ensures k { result ≡ value_of (offset_k self) }
-        ensures x { result ≡ value_of (offset_x self) }
+    /// Its offset, which tells division from signed division.
+    pub(crate) fn offset(self) -> Field
+        ensures { result ≡ offset_k self }
     {
         match self {
-            AluOp::Sdiv | AluOp::Smod => 1,
-            _ => 0,
+            AluOp::Div | AluOp::Mod => Field::Selects(0),
+            AluOp::Sdiv | AluOp::Smod => Field::Selects(1),
+            _ => Field::Unused,
         }
     }
 
-    /// The offset tells this operation from another.
-    pub(crate) fn is_told_by_offset(self) -> bool
-        ensures { result ≡ is_told_by_offset self }
+    /// The same from a register, where it tells MOV from MOVSX too.
+    pub(crate) fn offset_from_register(self) -> Field
+        ensures { result ≡ offset_x self }
     {
-        matches!(self, AluOp::Div | AluOp::Sdiv | AluOp::Mod | AluOp::Smod)
+        match self {
+            AluOp::Mov => Field::Selects(0),
+            _ => self.offset(),
+        }
     }
 }
 
 impl SignExtension {
     /// The extension of this opcode and this offset.
-    #[tactic(auto, unfolding(crate::specs::Lookup::extension_at))]
+    #[tactic(auto, unfolding(crate::specs::Private::Lookup::extension_at))]
     pub(crate) fn from_codes(opcode: u8, offset: u16) -> Option<SignExtension>
         ensures { result ≡ extension_at opcode offset }
     {
-        match (opcode, offset) {
-            (0xbc, 8) => Some(SignExtension::From8To32),
-            (0xbc, 16) => Some(SignExtension::From16To32),
-            (0xbf, 8) => Some(SignExtension::From8To64),
-            (0xbf, 16) => Some(SignExtension::From16To64),
-            (0xbf, 32) => Some(SignExtension::From32To64),
-            _ => None,
+        SIGN_EXTENSIONS.iter().copied().find(|e| e.opcode() == opcode
+            && e.offset() == u32::from(offset))
+    }
+
+    /// To how many bits it extends.
+    fn width(self) -> Width
+        ensures { result ≡ extension_width self }
+    {
+        match self {
+            SignExtension::From8To32 | SignExtension::From16To32 => Width::Bits32,
+            _ => Width::Bits64,
         }
     }
 
-    /// Its opcode and its offset.
-    pub(crate) fn codes(self) -> (u8, u16)
-        ensures opcode { result.0 ≡ extension_opcode self }
-        ensures offset { result.1 ≡ extension_offset self }
+    pub(crate) fn opcode(self) -> u8
+        ensures { result ≡ extension_opcode self }
+    {
+        opcode_x(self.width().alu_class(), AluOp::Mov.code())
+    }
+
+    /// Its offset: from how many bits.
+    pub(crate) fn offset(self) -> u32
+        ensures value { result ≡ extension_offset self }
+        ensures small { result < 64 }
     {
         match self {
-            SignExtension::From8To32 => (0xbc, 8),
-            SignExtension::From16To32 => (0xbc, 16),
-            SignExtension::From8To64 => (0xbf, 8),
-            SignExtension::From16To64 => (0xbf, 16),
-            SignExtension::From32To64 => (0xbf, 32),
+            SignExtension::From8To32 | SignExtension::From8To64 => 8,
+            SignExtension::From16To32 | SignExtension::From16To64 => 16,
+            SignExtension::From32To64 => 32,
         }
     }
 }
@@ -108,11 +129,12 @@ impl SignExtension {
 impl Width {
     /// ALU or ALU64.
     pub(crate) fn alu_class(self) -> u8
-        ensures { result ≡ alu_class self }
+        ensures value { result ≡ alu_class self }
+        ensures small { result < 8 }
     {
         match self {
-            Width::Bits32 => 4,
-            Width::Bits64 => 7,
+            Width::Bits32 => ALU,
+            Width::Bits64 => ALU64,
         }
     }
 }

@@ -2,29 +2,32 @@
 
 ghost use Rattle.std.specs.Prelude.{◌≡◌, ◌<◌};
 ghost use Rattle.bpf_insn.specs.Codes.{atomic_code, atomic_size_code};
-ghost use Rattle.bpf_insn.specs.Lookup.{atomic_op_at, atomic_width_at};
+ghost use Rattle.bpf_insn.specs.Private.Lookup.{atomic_op_at, atomic_width_at};
 
-use crate::operation::{AtomicOp, Width};
+use crate::operation::{AtomicOp, Size, Width};
+
+const ATOMIC_OPS: [AtomicOp; 10] = [
+    AtomicOp::Add,
+    AtomicOp::Or,
+    AtomicOp::And,
+    AtomicOp::Xor,
+    AtomicOp::FetchAdd,
+    AtomicOp::FetchOr,
+    AtomicOp::FetchAnd,
+    AtomicOp::FetchXor,
+    AtomicOp::Exchange,
+    AtomicOp::CompareExchange,
+];
+
+const WIDTHS: [Width; 2] = [Width::Bits32, Width::Bits64];
 
 impl AtomicOp {
     /// The operation of this immediate.
-    #[tactic(auto, unfolding(crate::specs::Lookup::atomic_op_at))]
+    #[tactic(auto, unfolding(crate::specs::Private::Lookup::atomic_op_at))]
     pub(crate) fn from_code(code: u32) -> Option<AtomicOp>
         ensures { result ≡ atomic_op_at code }
     {
-        match code {
-            0x00 => Some(AtomicOp::Add),
-            0x40 => Some(AtomicOp::Or),
-            0x50 => Some(AtomicOp::And),
-            0xa0 => Some(AtomicOp::Xor),
-            0x01 => Some(AtomicOp::FetchAdd),
-            0x41 => Some(AtomicOp::FetchOr),
-            0x51 => Some(AtomicOp::FetchAnd),
-            0xa1 => Some(AtomicOp::FetchXor),
-            0xe1 => Some(AtomicOp::Exchange),
-            0xf1 => Some(AtomicOp::CompareExchange),
-            _ => None,
-        }
+        ATOMIC_OPS.iter().copied().find(|op| op.code() == code)
     }
 
     pub(crate) fn code(self) -> u32
@@ -47,15 +50,11 @@ impl AtomicOp {
 
 impl Width {
     /// The width of an atomic operation on this size.
-    #[tactic(auto, unfolding(crate::specs::Lookup::atomic_width_at))]
+    #[tactic(auto, unfolding(crate::specs::Private::Lookup::atomic_width_at))]
     pub(crate) fn from_atomic_size(code: u8) -> Option<Width>
         ensures { result ≡ atomic_width_at code }
     {
-        match code {
-            0 => Some(Width::Bits32),
-            3 => Some(Width::Bits64),
-            _ => None,
-        }
+        WIDTHS.iter().copied().find(|w| w.atomic_size() == code)
     }
 
     pub(crate) fn atomic_size(self) -> u8
@@ -63,8 +62,8 @@ impl Width {
         ensures small { result < 4 }
     {
         match self {
-            Width::Bits32 => 0,
-            Width::Bits64 => 3,
+            Width::Bits32 => Size::Word.code(),
+            Width::Bits64 => Size::Double.code(),
         }
     }
 }

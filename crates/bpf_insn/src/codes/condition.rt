@@ -2,30 +2,32 @@
 
 ghost use Rattle.std.specs.Prelude.{◌≡◌, ◌<◌};
 ghost use Rattle.bpf_insn.specs.Codes.{condition_code, jump_class};
-ghost use Rattle.bpf_insn.specs.Lookup.{condition_at};
+ghost use Rattle.bpf_insn.specs.Private.Lookup.{condition_at};
 
+use crate::codes::{JMP, JMP32};
 use crate::operation::{Condition, Width};
+
+const CONDITIONS: [Condition; 11] = [
+    Condition::Eq,
+    Condition::Gt,
+    Condition::Ge,
+    Condition::Set,
+    Condition::Ne,
+    Condition::Sgt,
+    Condition::Sge,
+    Condition::Lt,
+    Condition::Le,
+    Condition::Slt,
+    Condition::Sle,
+];
 
 impl Condition {
     /// The condition of this code.
-    #[tactic(auto, unfolding(crate::specs::Lookup::condition_at))]
+    #[tactic(auto, unfolding(crate::specs::Private::Lookup::condition_at))]
     pub(crate) fn from_code(code: u8) -> Option<Condition>
         ensures { result ≡ condition_at code }
     {
-        match code {
-            0x1 => Some(Condition::Eq),
-            0x2 => Some(Condition::Gt),
-            0x3 => Some(Condition::Ge),
-            0x4 => Some(Condition::Set),
-            0x5 => Some(Condition::Ne),
-            0x6 => Some(Condition::Sgt),
-            0x7 => Some(Condition::Sge),
-            0xa => Some(Condition::Lt),
-            0xb => Some(Condition::Le),
-            0xc => Some(Condition::Slt),
-            0xd => Some(Condition::Sle),
-            _ => None,
-        }
+        CONDITIONS.iter().copied().find(|c| c.code() == code)
     }
 
     pub(crate) fn code(self) -> u8
@@ -51,11 +53,12 @@ impl Condition {
 impl Width {
     /// JMP32 or JMP.
     pub(crate) fn jump_class(self) -> u8
-        ensures { result ≡ jump_class self }
+        ensures value { result ≡ jump_class self }
+        ensures small { result < 8 }
     {
         match self {
-            Width::Bits32 => 6,
-            Width::Bits64 => 5,
+            Width::Bits32 => JMP32,
+            Width::Bits64 => JMP,
         }
     }
 }

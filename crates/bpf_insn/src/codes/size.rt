@@ -2,23 +2,21 @@
 
 ghost use Rattle.std.specs.Prelude.{◌≡◌, ◌<◌};
 ghost use Rattle.bpf_insn.specs.Codes.{size_code, signed_size_code};
-ghost use Rattle.bpf_insn.specs.Lookup.{size_at, signed_size_at};
+ghost use Rattle.bpf_insn.specs.Private.Lookup.{size_at, signed_size_at};
 
 use crate::operation::{SignedSize, Size};
 
+const SIZES: [Size; 4] = [Size::Byte, Size::Half, Size::Word, Size::Double];
+
+const SIGNED_SIZES: [SignedSize; 3] = [SignedSize::Byte, SignedSize::Half, SignedSize::Word];
+
 impl Size {
     /// The size of this code.
-    #[tactic(auto, unfolding(crate::specs::Lookup::size_at))]
+    #[tactic(auto, unfolding(crate::specs::Private::Lookup::size_at))]
     pub(crate) fn from_code(code: u8) -> Option<Size>
         ensures { result ≡ size_at code }
     {
-        match code {
-            0 => Some(Size::Word),
-            1 => Some(Size::Half),
-            2 => Some(Size::Byte),
-            3 => Some(Size::Double),
-            _ => None,
-        }
+        SIZES.iter().copied().find(|size| size.code() == code)
     }
 
     pub(crate) fn code(self) -> u8
@@ -36,16 +34,14 @@ impl Size {
 
 impl SignedSize {
     /// The size of this code: 8 bytes aren't extended.
-    #[tactic(auto, unfolding(crate::specs::Lookup::signed_size_at))]
+    #[tactic(auto, unfolding(crate::specs::Private::Lookup::signed_size_at))]
     pub(crate) fn from_code(code: u8) -> Option<SignedSize>
         ensures { result ≡ signed_size_at code }
     {
-        match code {
-            0 => Some(SignedSize::Word),
-            1 => Some(SignedSize::Half),
-            2 => Some(SignedSize::Byte),
-            _ => None,
-        }
+        SIGNED_SIZES
+            .iter()
+            .copied()
+            .find(|size| size.code() == code)
     }
 
     pub(crate) fn code(self) -> u8
@@ -53,9 +49,9 @@ impl SignedSize {
         ensures small { result < 4 }
     {
         match self {
-            SignedSize::Word => 0,
-            SignedSize::Half => 1,
-            SignedSize::Byte => 2,
+            SignedSize::Word => Size::Word.code(),
+            SignedSize::Half => Size::Half.code(),
+            SignedSize::Byte => Size::Byte.code(),
         }
     }
 }

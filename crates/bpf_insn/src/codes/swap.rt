@@ -2,47 +2,48 @@
 
 ghost use Rattle.std.specs.Prelude.{◌≡◌};
 ghost use Rattle.bpf_insn.specs.Codes.{swap_opcode, swap_bits};
-ghost use Rattle.bpf_insn.specs.Lookup.{byte_swap_at, swap_width_at};
+ghost use Rattle.bpf_insn.specs.Private.Lookup.{byte_swap_at, swap_width_at};
 
-use crate::operation::{ByteSwap, SwapWidth};
+use crate::codes::{END, opcode_k, opcode_x};
+use crate::operation::{ByteSwap, SwapWidth, Width};
+
+const BYTE_SWAPS: [ByteSwap; 3] = [ByteSwap::ToLittle, ByteSwap::ToBig, ByteSwap::Reverse];
+
+const SWAP_WIDTHS: [SwapWidth; 3] = [SwapWidth::Bits16, SwapWidth::Bits32, SwapWidth::Bits64];
 
 impl ByteSwap {
     /// What the END of this opcode does.
-    #[tactic(auto, unfolding(crate::specs::Lookup::byte_swap_at))]
+    #[tactic(auto, unfolding(crate::specs::Private::Lookup::byte_swap_at))]
     pub(crate) fn from_opcode(opcode: u8) -> Option<ByteSwap>
         ensures { result ≡ byte_swap_at opcode }
     {
-        match opcode {
-            0xd4 => Some(ByteSwap::ToLittle),
-            0xdc => Some(ByteSwap::ToBig),
-            0xd7 => Some(ByteSwap::Reverse),
-            _ => None,
-        }
+        BYTE_SWAPS
+            .iter()
+            .copied()
+            .find(|swap| swap.opcode() == opcode)
     }
 
     pub(crate) fn opcode(self) -> u8
         ensures { result ≡ swap_opcode self }
     {
         match self {
-            ByteSwap::ToLittle => 0xd4,
-            ByteSwap::ToBig => 0xdc,
-            ByteSwap::Reverse => 0xd7,
+            ByteSwap::ToLittle => opcode_k(Width::Bits32.alu_class(), END),
+            ByteSwap::ToBig => opcode_x(Width::Bits32.alu_class(), END),
+            ByteSwap::Reverse => opcode_k(Width::Bits64.alu_class(), END),
         }
     }
 }
 
 impl SwapWidth {
     /// The width of this many bits.
-    #[tactic(auto, unfolding(crate::specs::Lookup::swap_width_at))]
+    #[tactic(auto, unfolding(crate::specs::Private::Lookup::swap_width_at))]
     pub(crate) fn from_bits(bits: u32) -> Option<SwapWidth>
         ensures { result ≡ swap_width_at bits }
     {
-        match bits {
-            16 => Some(SwapWidth::Bits16),
-            32 => Some(SwapWidth::Bits32),
-            64 => Some(SwapWidth::Bits64),
-            _ => None,
-        }
+        SWAP_WIDTHS
+            .iter()
+            .copied()
+            .find(|width| width.bits() == bits)
     }
 
     pub(crate) fn bits(self) -> u32

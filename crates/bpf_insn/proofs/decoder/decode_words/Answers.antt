@@ -1,4 +1,4 @@
-use Rattle.std.proofs.Common.{rules, arith, ◌≡◌, ◌++◌, ◌∷◌, [], sym, ◌∙◌}
+use Rattle.std.proofs.Common.{rules, ◌≡◌, ◌++◌, ◌∷◌, []}
 use Rattle.bpf_insn.proofs.Program.{reached_start, reached_next, reached_end, reached_wrong}
 use Rattle.bpf_insn.proofs.decoder.decode_words.Goals as goal
 
@@ -8,16 +8,16 @@ loop-pc-init c = rw c.new-insns.ensures.items (reached_start _ c.requires.whole)
 pub loop-pc-preserved : goal.loop-pc-preserved
 loop-pc-preserved c =
     let pushed : c.push.new.self.items ≡ c.loop-pc.insns.items ++ c.in_ok-insn.insn ∷ [] = search rules in
-    reached_next _ _ _ _ _ _ c.loop-pc.invariant (λ i. omega (arith, c.type_inv.bytes i)) c.loop-pc-test.true (sym c.in_ok-insn.was ∙ c.instruction_at.ensures) pushed (search rules)
+    reached_next _ _ _ _ _ _ c.loop-pc.invariant c.loop-pc-test.true c.in_ok-insn.ensures pushed (search rules)
 
 pub returns-in_err-insn-clause-only : goal.returns-in_err-insn-clause-only
 returns-in_err-insn-clause-only c is h =
-    let e = reached_wrong _ _ _ c.in_err-insn.field-0.0 c.loop-pc.invariant c.requires (λ i. omega (arith, c.type_inv.bytes i)) c.loop-pc-test.true (sym c.in_err-insn.was ∙ c.instruction_at.ensures) in
+    let e = reached_wrong _ _ _ c.in_err-insn.field-0.0 c.loop-pc.invariant c.requires c.loop-pc-test.true c.in_err-insn.ensures in
     absurd (e.none is h)
 
 pub returns-in_err-insn-clause-refused : goal.returns-in_err-insn-clause-refused
 returns-in_err-insn-clause-refused c =
-    let e = reached_wrong _ _ _ c.in_err-insn.field-0.0 c.loop-pc.invariant c.requires (λ i. omega (arith, c.type_inv.bytes i)) c.loop-pc-test.true (sym c.in_err-insn.was ∙ c.instruction_at.ensures) in
+    let e = reached_wrong _ _ _ c.in_err-insn.field-0.0 c.loop-pc.invariant c.requires c.loop-pc-test.true c.in_err-insn.ensures in
     let refused = e.refused in
     search rules
 

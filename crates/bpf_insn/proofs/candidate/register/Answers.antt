@@ -1,5 +1,5 @@
 use Rattle.bpf_insn.proofs.Registers.{looked_up}
-use Rattle.bpf_insn.proofs.operands.register.Goals as goal
+use Rattle.bpf_insn.proofs.candidate.register.Goals as goal
 
 pub returns : goal.returns
 returns c = looked_up _ _ c.new.ensures.numbered c.new.ensures.found

@@ -1,4 +1,4 @@
--- The bytes of an instruction: what the private functions of the encoder compute.
+-- The bytes of an instruction: what the private functions of the encoder compute, and rely on.
 use Rattle.std.specs.Prelude.{ℕ, ◌+◌, ◌*◌, ◌^◌, ◌<◌, List, [], ◌∷◌, ◌++◌, Option, Some, None, IfSome}
 use Rattle.byteorder.specs.Endian.{little_bytes}
 use Rattle.bpf_insn.specs.Table.{row_of}
@@ -14,7 +14,7 @@ second_bytes None = []
 second_bytes (Some w) = word_bytes w
 
 abbrev pub insn_bytes : Insn → List ℕ
-insn_bytes i = word_bytes (first_word (row_of i)) ++ second_bytes (second_word (row_of i).second)
+insn_bytes i = word_bytes (first_word (row_of i)) ++ second_bytes (second_word (row_of i).encoding)
 
 -- the fields fit their bits
 pub record IsNarrow (w : Word) : Type 0 where
@@ -27,4 +27,4 @@ pub record IsNarrow (w : Word) : Type 0 where
 pub record IsWritable (i : Insn) : Type 0 where
   pub fits : Fits i
   pub first : IsNarrow (first_word (row_of i))
-  pub second : IfSome (second_word (row_of i).second) IsNarrow
+  pub second : IfSome (second_word (row_of i).encoding) IsNarrow

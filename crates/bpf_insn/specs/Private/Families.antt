@@ -1,0 +1,24 @@
+-- The families of instructions whose rows stand in functions of their own.
+use Rattle.bpf_insn.specs.declared.instruction.Insn.{Insn}
+use Rattle.bpf_insn.specs.declared.instruction.Insn.TheVariants as insn
+
+abbrev pub IsJump : Insn → Type 0
+IsJump (insn.Jump o) = Unit {0}
+IsJump (insn.JumpLong n) = Unit {0}
+IsJump (insn.JumpIf w c d s o) = Unit {0}
+IsJump (insn.CallHelper n) = Unit {0}
+IsJump (insn.CallLocal n) = Unit {0}
+IsJump insn.Exit = Unit {0}
+IsJump i = ⊥
+
+abbrev pub IsStore : Insn → Type 0
+IsStore (insn.StoreImmediate z b o n) = Unit {0}
+IsStore (insn.Store z b o s) = Unit {0}
+IsStore (insn.Atomic w op b o s) = Unit {0}
+IsStore i = ⊥
+
+-- loads and stores
+abbrev pub IsMemory : Insn → Type 0
+IsMemory (insn.Load z d b o) = Unit {0}
+IsMemory (insn.LoadSigned z d b o) = Unit {0}
+IsMemory i = IsStore i

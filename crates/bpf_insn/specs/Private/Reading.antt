@@ -1,0 +1,27 @@
+-- What the reading of one instruction answers: the instruction, or the first thing that is wrong.
+use Rattle.std.specs.Prelude.{◌≡◌, ℕ, ◌*◌, List, drop, Result, Ok, Err}
+use Rattle.bpf_insn.specs.Encoding.{window_at, IsWrittenAs, Fits, BeginsWith}
+use Rattle.bpf_insn.specs.Refusal.{error_at, IsFirstAmiss}
+use Rattle.bpf_insn.specs.declared.instruction.Insn.{Insn}
+use Rattle.bpf_insn.specs.declared.word.Window.{Window}
+use Rattle.bpf_insn.specs.declared.fault.Fault.{Fault}
+use Rattle.bpf_insn.specs.declared.error.InsnError.{InsnError}
+
+-- the words are the instruction's, and its numbers fit
+pub record IsWord (i : Insn) (w : Window) : Type 0 where
+  pub written : IsWrittenAs i w
+  pub fits : Fits i
+
+abbrev pub Reads : Window → Result Insn Fault → Type 0
+Reads w (Ok i) = IsWord i w
+Reads w (Err f) = IsFirstAmiss w f
+
+-- the same at a pc, which a refusal names
+pub record IsRefusedAt (e : InsnError) (pc : ℕ) (bytes : List ℕ) : Type 0 where
+  pub fault : Fault
+  pub named : e ≡ error_at fault pc
+  pub first : IsFirstAmiss (window_at (drop (8 * pc) bytes)) fault
+
+abbrev pub ReadsAt : List ℕ → ℕ → Result Insn InsnError → Type 0
+ReadsAt bytes pc (Ok i) = BeginsWith i (drop (8 * pc) bytes)
+ReadsAt bytes pc (Err e) = IsRefusedAt e pc bytes
