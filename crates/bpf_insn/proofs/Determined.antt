@@ -3,11 +3,11 @@ use Rattle.std.proofs.Common.{◌≡◌, ◌≢◌, ℕ, ◌+◌, ◌*◌, ◌/�
 use Rattle.std.proofs.lemmas.Bool.{le-ltb}
 use Rattle.std.proofs.lemmas.List.{drop-drop, length-drop}
 use Rattle.std.proofs.lemmas.List.Elements.{All-drop}
-use Rattle.bpf_insn.specs.Table.{row_of, word_count, words}
+use Rattle.bpf_insn.specs.Table.{row_of, word_count, words, word_length}
 use Rattle.bpf_insn.specs.Encoding.{word_at, next_at, window_at, IsFollowed, BeginsWith, IsEncodedAs}
 use Rattle.bpf_insn.specs.Refusal.{error_at, error_number, IsFirstAmiss, IsWrongAfter, IsWrong, max_words, IsSized, IsRefused}
 use Rattle.bpf_insn.specs.Private.Bytes.{word_bytes}
-use Rattle.bpf_insn.specs.Laws.{WordsAreDetermined, EncodingsAreDetermined, RefusalsAreDetermined}
+use Rattle.bpf_insn.specs.Laws.{EncodingsAreDecoded, WordsAreDetermined, EncodingsAreDetermined, RefusalsAreDetermined}
 use Rattle.bpf_insn.specs.declared.instruction.Insn.{Insn}
 use Rattle.bpf_insn.specs.declared.row.Encoding.{Encoding}
 use Rattle.bpf_insn.specs.declared.row.Encoding.TheVariants.{Basic, Wide}
@@ -195,3 +195,23 @@ none_refused is e bytes s c x = none_wrong x.wrong.0 is x.pc x.fault bytes x.wro
 
 pub refusals_are_determined : RefusalsAreDetermined
 refusals_are_determined = (λ bytes e f n m r q. one_refusal e f bytes n m r q, λ bytes is e n s c r. none_refused is e bytes s c (wrong_with e bytes n s r))
+
+-- ---- what is encoded is decoded
+
+encoded_length : (is : List Insn) (bytes : List ℕ) → IsEncodedAs is bytes → length bytes ≡ 8 * word_length is
+encoded_length [] bytes c = ap length c
+encoded_length (i ∷ is) bytes c =
+    let rest = encoded_length is (drop (8 * words i) bytes) c.1 in
+    let long = c.0.long in
+    omega (arith, length-drop (8 * words i) bytes)
+
+only_memory : (is : List Insn) (e : InsnError) (bytes : List ℕ) → IsSized bytes → IsEncodedAs is bytes → IsRefused e bytes → e ≡ error.OutOfMemory
+only_memory is error.OutOfMemory bytes s c r = refl
+only_memory is error.Empty bytes s c r = absurd (refusals_are_determined.1 bytes is error.Empty (λ n. cc) s c r)
+only_memory is e bytes s c r = absurd (refusals_are_determined.1 bytes is e (λ n. cc) s c r)
+
+pub encodings_are_decoded : EncodingsAreDecoded
+encodings_are_decoded is bytes some few c =
+    let long = encoded_length is bytes c in
+    let sized : IsSized bytes = record { some = λ e. let none : length bytes ≡ 0 = ap length e in absurd (omega arith); whole = omega arith; bounded = omega arith } in
+    (sized, λ js d. one_list js is bytes d c, λ e r. only_memory is e bytes sized c r)

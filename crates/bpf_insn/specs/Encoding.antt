@@ -14,8 +14,8 @@ use Rattle.bpf_insn.specs.declared.instruction.Insn.TheVariants as insn
 use Rattle.bpf_insn.specs.declared.word.Word.{Word}
 use Rattle.bpf_insn.specs.declared.word.Window.{Window}
 
--- the fields of a word of 8 bytes: opcode; dst in the low and src in the high half of a byte; offset
--- in two bytes; immediate in four, both the lowest byte first
+-- the fields of a word of 8 bytes: opcode; dst in the low and src in the high half of a byte;
+-- offset in two bytes; immediate in four, both the lowest byte first
 abbrev pub word_at : List ℕ → Word
 word_at bytes = record {
   opcode = slice_index bytes 0;

@@ -1,7 +1,7 @@
 -- Why bytes are no instructions. The refusals, their numbers and the order are our own choice; what
--- each is about is RFC 9669's: opcodes and selecting fields that it doesn't have (sections 4 and 5),
--- unused fields that aren't zero (sections 3.1 and 3.2), half of a wide instruction (section 3.2),
--- registers that there aren't (section 3.1).
+-- each is about is RFC 9669's: opcodes and selecting fields that it doesn't have (sections 4 and
+-- 5), unused fields that aren't zero (sections 3.1 and 3.2), half of a wide instruction (section
+-- 3.2), registers that there aren't (section 3.1).
 use Rattle.std.specs.Prelude.{◌≡◌, ◌≢◌, ℕ, ◌+◌, ◌*◌, ◌%◌, ◌≤◌, ◌<◌, List, [], ◌∷◌, length, drop, Option, Some, None, Result, IfOk, IfErr}
 use Rattle.bpf_insn.specs.Table.{row_of, words}
 use Rattle.bpf_insn.specs.First.{IsFirst}
@@ -140,4 +140,5 @@ IsRefused error.OutOfMemory bytes = IsSized bytes
 
 -- the answer is this list, or memory was refused
 abbrev pub IsAnswered : {X : Type 0} → (X → List Insn) → Result X InsnError → List Insn → Type 0
-IsAnswered items result is = IfOk result (λ x. items x ≡ is) × IfErr result (λ e. e ≡ error.OutOfMemory)
+IsAnswered items result is =
+    IfOk result (λ x. items x ≡ is) × IfErr result (λ e. e ≡ error.OutOfMemory)

@@ -1,5 +1,5 @@
-//! The numbers by which words name operations (RFC 9669, sections 3 to 5), a table a file: each number
-//! stands once, and the operation that has a number is found in the list of all.
+//! The numbers by which words name operations (RFC 9669, sections 3 to 5), a table a file: each
+//! number stands once, and the operation that has a number is found in the list of all.
 
 ghost use Rattle.std.specs.Prelude.{◌≡◌, ◌<◌};
 ghost use Rattle.bpf_insn.specs.Codes.{opcode_k, opcode_x, opcode_memory};

@@ -31,7 +31,8 @@ fn instruction_at(bytes: &[u8], pc: u32) -> Result<Insn, InsnError>
 fn decode_words(alloc: Global, bytes: &[u8]) -> Result<Vec<Insn>, InsnError>
     requires { IsSized bytes.now }
     ensures found { IfOk result (λ v. IsEncodedAs v.items bytes.now) }
-    ensures only { (is : List Insn) → IsEncodedAs is bytes.now → IsAnswered (λ v. v.items) result is }
+    ensures only { (is : List Insn) → IsEncodedAs is bytes.now →
+        IsAnswered (λ v. v.items) result is }
     ensures refused { IfErr result (λ e. IsRefused e bytes.now) }
 {
     let count = (bytes.len() / 8) as u32;
@@ -45,7 +46,8 @@ fn decode_words(alloc: Global, bytes: &[u8]) -> Result<Vec<Insn>, InsnError>
     Ok(insns)
 }
 
-/// The instructions that the bytes encode.
+/// The instructions that the bytes encode, 8 bytes a word, the lowest byte of a number first (RFC
+/// 9669, section 3).
 pub fn decode(alloc: Global, bytes: &[u8]) -> Result<Vec<Insn>, InsnError>
     // What is answered is what the bytes encode.
     ensures found { IfOk result (λ v. IsSized bytes.now × IsEncodedAs v.items bytes.now) }

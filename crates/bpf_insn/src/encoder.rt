@@ -24,7 +24,8 @@ fn push(bytes: &mut Vec<u8>, insn: Insn) -> Result<(), AllocError>
     Ok(())
 }
 
-/// The bytes of the instructions.
+/// The bytes of the instructions, 8 bytes a word (RFC 9669, section 3). Any list has an encoding,
+/// also one that is longer than `decode` reads.
 pub fn encode(alloc: Global, insns: &[Insn]) -> Result<Vec<u8>, InsnError>
     // What is answered encodes the instructions.
     ensures encoded { IfOk result (λ v. IsEncodedAs insns.now v.items) }

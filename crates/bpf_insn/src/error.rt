@@ -2,24 +2,33 @@
 
 use thiserror::Error;
 
-/// Why bytes are refused. A pc counts 8-byte words from 0.
+/// Why bytes are refused, in the order in which it is answered: their length, or else at the lowest
+/// word the first of the rest. A word is named by its pc, which counts words of 8 bytes from 0. The
+/// codes are our own; what E4 to E7 are about is RFC 9669's (sections 3 to 5).
 #[derive(Clone, Copy, PartialEq, Eq, Debug, Error)]
 pub enum InsnError {
+    /// E1: there are no bytes.
     #[error("there are no instructions")]
     Empty,
-    /// The length in bytes.
+    /// E2, with the length in bytes: the last word is cut off.
     #[error("the length of {0} bytes is not a multiple of 8")]
     Ragged(usize),
+    /// E3: there are more than 65,536 words.
     #[error("there are more than 65536 words")]
     TooLong,
+    /// E4, with the pc: no instruction has this opcode with these selecting fields.
     #[error("no instruction has this opcode, at word {0}")]
     UnknownOpcode(u32),
+    /// E5, with the pc: an unused field isn't zero; of a second word too.
     #[error("a field that the instruction does not use is not zero, at word {0}")]
     ReservedNotZero(u32),
+    /// E6, with the pc: the bytes end within an instruction of two words.
     #[error("the second half of the wide instruction is missing, at word {0}")]
     HalfWide(u32),
+    /// E7, with the pc: a field names a register above R10.
     #[error("there is no register of this number, at word {0}")]
     BadRegister(u32),
+    /// E14: memory was refused.
     #[error("out of memory")]
     OutOfMemory,
 }

@@ -5,49 +5,53 @@ use crate::operation::{
 };
 use crate::register::Reg;
 
-/// The second operand: an immediate (K) or a register (X).
+/// The second operand (RFC 9669, section 4).
 #[derive(Clone, Copy, PartialEq, Eq, Debug)]
 pub enum Operand {
+    /// K: a number, sign-extended to the width.
     Immediate(i32),
+    /// X: what a register holds.
     Register(Reg),
 }
 
-/// One instruction (RFC 9669, sections 3 to 5). Jump offsets count 8-byte words from the next instruction.
+/// One instruction, a variant a row of the table (RFC 9669, sections 4 and 5). Offsets of jumps and
+/// of local calls count words of 8 bytes from the next instruction, those of loads and stores
+/// bytes.
 #[derive(Clone, Copy, PartialEq, Eq, Debug)]
 pub enum Insn {
-    /// `dst = dst op src`.
+    /// `dst = dst op src` (section 4.1).
     Alu {
         width: Width,
         op: AluOp,
         dst: Reg,
         src: Operand,
     },
-    /// `dst = -dst`.
+    /// NEG: `dst = -dst` (section 4.1).
     Negate {
         width: Width,
         dst: Reg,
     },
-    /// MOVSX: `dst = src`, sign-extended.
+    /// MOVSX: `dst = src`, sign-extended (section 4.1).
     SignExtend {
         extension: SignExtension,
         dst: Reg,
         src: Reg,
     },
-    /// END: keeps or reverses the low bytes of `dst`.
+    /// END: keeps or reverses the low bytes of `dst` (section 4.2).
     SwapBytes {
         swap: ByteSwap,
         width: SwapWidth,
         dst: Reg,
     },
-    /// JA with a 16-bit offset.
+    /// JA of the class JMP, with an offset of 16 bits (section 4.3).
     Jump {
         offset: i16,
     },
-    /// JA with a 32-bit offset.
+    /// JA of the class JMP32, with an offset of 32 bits (section 4.3).
     JumpLong {
         offset: i32,
     },
-    /// Jumps where `dst condition src`.
+    /// Jumps where `dst condition src` (section 4.3).
     JumpIf {
         width: Width,
         condition: Condition,
@@ -55,45 +59,45 @@ pub enum Insn {
         src: Operand,
         offset: i16,
     },
-    /// CALL of a helper by its number.
+    /// CALL of a helper by its number (section 4.3.1).
     CallHelper {
         number: u32,
     },
-    /// CALL of a function of the program.
+    /// CALL of a function of the program (section 4.3.2).
     CallLocal {
         offset: i32,
     },
-    /// EXIT: returns from a local function, or ends the program.
+    /// EXIT: returns from a local function, or ends the program (section 4.3).
     Exit,
-    /// LDX MEM: `dst` = the bytes at `base + offset`, zero-extended.
+    /// LDX MEM: `dst` = the bytes at `base + offset`, zero-extended (section 5.1).
     Load {
         size: Size,
         dst: Reg,
         base: Reg,
         offset: i16,
     },
-    /// LDX MEMSX: the same, sign-extended.
+    /// LDX MEMSX: the same, sign-extended (section 5.2).
     LoadSigned {
         size: SignedSize,
         dst: Reg,
         base: Reg,
         offset: i16,
     },
-    /// ST MEM: the bytes at `base + offset` = `value`.
+    /// ST MEM: the bytes at `base + offset` = `value` (section 5.1).
     StoreImmediate {
         size: Size,
         base: Reg,
         offset: i16,
         value: i32,
     },
-    /// STX MEM: the bytes at `base + offset` = `src`.
+    /// STX MEM: the bytes at `base + offset` = `src` (section 5.1).
     Store {
         size: Size,
         base: Reg,
         offset: i16,
         src: Reg,
     },
-    /// STX ATOMIC on 4 or 8 bytes at `base + offset`.
+    /// STX ATOMIC on 4 or 8 bytes at `base + offset` (section 5.3).
     Atomic {
         width: Width,
         op: AtomicOp,
@@ -101,12 +105,13 @@ pub enum Insn {
         offset: i16,
         src: Reg,
     },
-    /// LD IMM with a 64-bit number; two words.
+    /// LD IMM: `dst` = a number of 64 bits; two words (section 5.4).
     LoadNumber {
         dst: Reg,
         number: u64,
     },
-    /// LD IMM with a map by its number; two words.
+    /// LD IMM with src 1: `dst` = a map, by its number where the RFC has a file descriptor; two
+    /// words (section 5.4).
     LoadMap {
         dst: Reg,
         map: u32,

@@ -8,8 +8,8 @@ use crate::fault::Fault;
 use crate::instruction::Insn;
 use crate::word::Window;
 
-/// The instruction at the front of a window, or the first thing that is wrong there: the row that the
-/// word can be of is found, and its fields are checked against it.
+/// The instruction at the front of a window, or the first thing that is wrong there: the row that
+/// the word can be of is found, and its fields are checked against it.
 pub fn instruction(window: &Window) -> Result<Insn, Fault>
     requires { IsNarrow window.now.word }
     ensures { Reads window.now result }

@@ -60,8 +60,8 @@ impl Field {
     }
 }
 
-/// How many words a row has (RFC 9669, sections 3.1 and 3.2): one, or a second one of which only the
-/// immediate can be used.
+/// How many words a row has (RFC 9669, sections 3.1 and 3.2): one, or a second one of which only
+/// the immediate can be used.
 #[derive(Clone, Copy, PartialEq, Eq, Debug)]
 pub enum Encoding {
     Basic,

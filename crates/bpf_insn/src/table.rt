@@ -1,5 +1,5 @@
-//! The table of instructions, a line a row (RFC 9669, sections 3 to 5). What an instruction is written
-//! as and what a word must be to be read as one both come from it.
+//! The table of instructions, a line a row (RFC 9669, sections 3 to 5). What an instruction is
+//! written as and what a word must be to be read as one both come from it.
 
 ghost use Rattle.std.specs.Prelude.{◌≡◌, ◌/◌, ◌%◌, ◌^◌};
 ghost use Rattle.bpf_insn.specs.declared.instruction.Insn.TheVariants as insn;

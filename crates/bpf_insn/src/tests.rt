@@ -1,5 +1,5 @@
-//! Words and instructions side by side: the words are those of LLVM's assembler for BPF, and by hand
-//! where it has no such instruction (a local call, a map by its number).
+//! Words and instructions side by side: the words are those of LLVM's assembler for BPF, and by
+//! hand where it has no such instruction (a local call, a map by its number).
 
 use crate::operation::ByteSwap::{self, Reverse, ToBig, ToLittle};
 use crate::operation::SignExtension::{

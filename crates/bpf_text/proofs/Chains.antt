@@ -2,7 +2,7 @@
 use Rattle.std.proofs.Common.{◌≡◌, ℕ, Bool, true, false, cond, ◌==◌, List, [], ◌∷◌, Option, Some, None, refl, sym, ap, ◌∙◌}
 use Rattle.std.specs.Prelude.{IfSome}
 use Rattle.std.proofs.lemmas.Bool.{eqb-true}
-use Rattle.bpf_insn.specs.Register.{number_of}
+use Rattle.bpf_insn.specs.Register.{register_number}
 use Rattle.bpf_insn.specs.declared.register.Reg.{Reg}
 use Rattle.bpf_insn.specs.declared.register.Reg.TheVariants.{R0, R1, R2, R3, R4, R5, R6, R7, R8, R9, R10}
 use Rattle.bpf_insn.specs.declared.operation.Width.{Width}
@@ -41,13 +41,13 @@ same_width-refl Bits64 = refl
 numbered : ℕ → Reg
 numbered n = cond (n == 0) R0 (cond (n == 1) R1 (cond (n == 2) R2 (cond (n == 3) R3 (cond (n == 4) R4 (cond (n == 5) R5 (cond (n == 6) R6 (cond (n == 7) R7 (cond (n == 8) R8 (cond (n == 9) R9 R10)))))))))
 
-numbered-number_of : (r : Reg) → numbered (number_of r) ≡ r
+numbered-register_number : (r : Reg) → numbered (register_number r) ≡ r
 unfolding numbered
-numbered-number_of R0 = refl
-numbered-number_of r = refl
+numbered-register_number R0 = refl
+numbered-register_number r = refl
 
 pub same_register-true : (r s : Reg) → same_register r s ≡ true → r ≡ s
-same_register-true r s e = sym (numbered-number_of r) ∙ ap numbered (eqb-true (number_of r) (number_of s) e) ∙ numbered-number_of s
+same_register-true r s e = sym (numbered-register_number r) ∙ ap numbered (eqb-true (register_number r) (register_number s) e) ∙ numbered-register_number s
 
 pub same_register-refl : (r : Reg) → same_register r r ≡ true
 same_register-refl R0 = refl

@@ -1,5 +1,5 @@
--- The instruction of the only row that a word can be of, by its class and its code, with what the word's
--- fields hold. That it is the only one is proved in proofs/Dispatch.antt.
+-- The instruction of the only row that a word can be of, by its class and its code, with what the
+-- word's fields hold. That it is the only one is proved in proofs/Dispatch.antt.
 use Rattle.std.specs.Prelude.{ℕ, ℤ, ◌+◌, ◌*◌, ◌/◌, ◌%◌, ◌^◌, ◌==◌, Option, Some, None, if◌then◌else◌}
 use Rattle.std.specs.Option.{unwrap_or}
 use Rattle.std.specs.Int.{w16, w32, cast_signed}

@@ -1,4 +1,5 @@
--- The table of codes the other way round: of all operations the one that has a number, if one has it.
+-- The table of codes the other way round: of all operations the one that has a number, if one has
+-- it.
 use Rattle.std.specs.Prelude.{ℕ, Bool, true, ◌==◌, ◌&&◌, List, [], ◌∷◌, find, Option, slice_get}
 use Rattle.bpf_insn.specs.Codes.{alu_code, condition_code, extension_opcode, extension_offset, swap_opcode, swap_bits, size_code, signed_size_code, atomic_size_code, atomic_code}
 use Rattle.bpf_insn.specs.Table.{offset_k}

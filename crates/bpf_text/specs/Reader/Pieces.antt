@@ -2,7 +2,7 @@
 use Rattle.std.specs.Prelude.{ℕ, Bool, true, false, ◌==◌, if◌then◌else◌, List, [], ◌∷◌, find, nat_eq, Option, Some, None, option_and_then, ℤ, pos, neg_ℤ}
 use Rattle.std.specs.Str.{bytes_eq}
 use Rattle.std.specs.List.{starts_with}
-use Rattle.bpf_insn.specs.Register.{number_of}
+use Rattle.bpf_insn.specs.Register.{register_number}
 use Rattle.bpf_insn.specs.declared.register.Reg.{Reg}
 use Rattle.bpf_insn.specs.declared.operation.Width.{Width}
 use Rattle.bpf_insn.specs.declared.operation.Width.TheVariants.{Bits32, Bits64}
@@ -44,7 +44,7 @@ same_width Bits32 Bits64 = false
 same_width Bits64 Bits32 = false
 
 abbrev pub same_register : Reg → Reg → Bool
-same_register r s = number_of r == number_of s
+same_register r s = register_number r == register_number s
 
 abbrev pub same_sign : Sign → Sign → Bool
 same_sign a b = bytes_eq (sign_text a) (sign_text b)
