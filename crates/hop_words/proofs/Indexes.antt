@@ -1,6 +1,11 @@
 -- In closed form, for the code that computes where a word stands.
-use Rattle.std.proofs.Common.{◌≡◌, ℕ, zero, suc, ◌+◌, ◌*◌, ◌<◌, true, List, ◌∷◌, length, ap, ◌∙◌, arith, nat_lt}
+use Rattle.std.proofs.Common.{sym, [], ◌++◌, Some, ◌≡◌, ℕ, zero, suc, ◌+◌, ◌*◌, ◌<◌, true, List, ◌∷◌, length, ap, ◌∙◌, arith, nat_lt}
 use Rattle.std.proofs.lemmas.Bool.Decides.{nat_tests}
+use native.Mathlib.Decide.{dec_lt}
+use mathlib.Core.Logic.{dite}
+use Rattle.bpf_base.proofs.Lists.{slice_get-append, slice_get-front}
+use Rattle.hop_words.specs.declared.index.Bases.{Bases}
+use Rattle.hop_words.specs.Index.{bases, bases_from, end_from, AreBases}
 use Rattle.bpf_shared.specs.declared.shapes.MapShape.{MapShape}
 use Rattle.bpf_shared.specs.Shape.{Shape, elements}
 use Rattle.hop_words.specs.declared.place.Place.TheVariants.{RunCount, KeyCount, FreeBits, Stamp, Head, Hop, Slot, Link, KeyWord, ValueWord}
@@ -77,3 +82,41 @@ at_start h = let z = sum_same h.cpus 8 in omega arith
 -- ---- the parts of a place of a map
 pub map_there : (h : Shape) (m : ℕ) (p : List ℕ) → is_path (layout h) (1 ∷ m ∷ p) ≡ true → m < length h.maps
 map_there h m p e = let b = both (nat_lt m (length h.maps)) (is_path (map_layout (map_shape h m)) p) e in (let t = b.0 in grind (arith, nat_tests))
+
+-- a map's words begin where those of the map before it end
+pub bases_at : (h : Shape) (m start : ℕ) → start ≡ at h (KeyCount m) → bases_from start (map_shape h m) ≡ bases h m
+bases_at h m start e = λ i. record {
+  start = e i;
+  segments = stamps i;
+  links = links i;
+  keys = keys i;
+  values = values i;
+  key_words = words_for (map_shape h m).key;
+  value_words = words_for (map_shape h m).value;
+}
+  where
+    b : Bases
+    b = bases_from start (map_shape h m)
+
+    stamps : (bases_from start (map_shape h m)).segments ≡ at h (Stamp m 0)
+    stamps = ap (λ (n : ℕ). n + 8 + free_words (map_shape h m) + line_rest (free_words (map_shape h m))) e ∙ sym (at_first_stamp h m)
+
+    links : (bases_from start (map_shape h m)).links ≡ at h (Link m 0)
+    links = ap (λ (n : ℕ). n + 130 * segments (map_shape h m)) stamps ∙ sym (at_first_link h m)
+
+    keys : (bases_from start (map_shape h m)).keys ≡ at h (KeyWord m 0 0)
+    keys = ap (λ (n : ℕ). n + elements (map_shape h m)) links ∙ sym (at_first_key h m)
+
+    values : (bases_from start (map_shape h m)).values ≡ at h (ValueWord m 0 0)
+    values = ap (λ (n : ℕ). n + elements (map_shape h m) * words_for (map_shape h m).key) keys ∙ sym (at_first_value h m)
+
+pub end_at : (h : Shape) (m start : ℕ) → start ≡ at h (KeyCount m) → end_from start (map_shape h m) ≡ at h (KeyCount (m + 1))
+end_at h m start e =
+    ap (λ (b : Bases). b.values + elements (map_shape h m) * words_for (map_shape h m).value + line_rest (map_words (map_shape h m))) (bases_at h m start e)
+    ∙ (sym (at_next h m) ∙ ap (λ (n : ℕ). at h (KeyCount n)) (let z : suc m ≡ m + 1 = omega arith in z))
+
+-- one map more
+pub one_more : (h : Shape) (n : ℕ) (bs : List Bases) (b : Bases) → length bs ≡ n → b ≡ bases h n → AreBases h n bs → AreBases h (n + 1) (bs ++ b ∷ [])
+one_more h n bs b len is old m less = dite (dec_lt m n)
+    (λ (l : m < n). slice_get-front bs (b ∷ []) m (omega arith) ∙ old m l)
+    (λ nl. let e : m ≡ n = grind arith in slice_get-append bs (b ∷ []) 0 m (omega arith) ∙ (ap Some is ∙ ap (λ (k : ℕ). Some (bases h k)) (sym e)))

@@ -1,9 +1,10 @@
 -- Where the words of each map begin, by their kinds.
-use Rattle.std.specs.Prelude.{◌≡◌, ℕ, ◌<◌, List, length, slice_get, Some}
-use Rattle.bpf_shared.specs.Shape.{Shape}
+use Rattle.std.specs.Prelude.{◌≡◌, ℕ, ◌+◌, ◌*◌, ◌<◌, List, length, slice_get, Some}
+use Rattle.bpf_shared.specs.declared.shapes.MapShape.{MapShape}
+use Rattle.bpf_shared.specs.Shape.{Shape, elements}
 use Rattle.hop_words.specs.declared.index.Bases.{Bases}
 use Rattle.hop_words.specs.declared.place.Place.TheVariants.{KeyCount, Stamp, Link, KeyWord, ValueWord}
-use Rattle.hop_words.specs.Layout.{at, size, words_for, map_shape}
+use Rattle.hop_words.specs.Layout.{at, size, words_for, map_shape, free_words, line_rest, segments, map_words}
 
 abbrev pub bases : Shape → ℕ → Bases
 bases h m = record {
@@ -23,3 +24,22 @@ AreBases h n bs = (m : ℕ) → m < n → slice_get bs m ≡ Some (bases h m)
 pub record IsIndex (h : Shape) (bs : List Bases) (words : ℕ) : Type 0 where
   pub each : AreBases h (length h.maps) bs
   pub whole : words ≡ size h
+
+-- the same for a map of this shape whose words begin here
+abbrev pub bases_from : ℕ → MapShape → Bases
+bases_from start g =
+    let segment_start = start + 8 + free_words g + line_rest (free_words g) in
+    let link_start = segment_start + 130 * segments g in
+    let key_start = link_start + elements g in
+    record {
+      start = start;
+      segments = segment_start;
+      links = link_start;
+      keys = key_start;
+      values = key_start + elements g * words_for g.key;
+      key_words = words_for g.key;
+      value_words = words_for g.value;
+    }
+
+abbrev pub end_from : ℕ → MapShape → ℕ
+end_from start g = (bases_from start g).values + elements g * words_for g.value + line_rest (map_words g)

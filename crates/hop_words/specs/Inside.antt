@@ -19,9 +19,9 @@ pub record Shown : Type 0 where
 abbrev pub shown : InTable → Shown
 shown t = record { id = t.table.shared.table_id; about = t.table.shared.key }
 
--- the table has the words of the layout, and the index is that of its shape
+-- the table has the words of the layout, and the index is its own
 abbrev pub IsSized : InTable → Type 0
-IsSized t = (t.table.shared.table_id.words ≡ size t.table.shared.key.shape) × (t.table.shared.table_id.slots ≡ 0) × (t.index ≡ t.table.shared.key.shape)
+IsSized t = (t.table.shared.table_id.words ≡ size t.table.shared.key.shape) × (t.table.shared.table_id.slots ≡ 0) × (t.index ≡ t.table.shared.key)
 
 pub record Standing : Type 0 where
   pub table : TableId

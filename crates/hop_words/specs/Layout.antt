@@ -52,7 +52,7 @@ abbrev pub free_words : MapShape → ℕ
 free_words g = (elements g + 63) / 64
 
 -- the least d with max ≤ 64 * 2 ^ d, for a max of up to 65,536
-abbrev pub depth_from : ℕ → ℕ → ℕ → ℕ
+unfoldable pub depth_from : ℕ → ℕ → ℕ → ℕ
 depth_from zero room max = 0
 depth_from (suc n) room max = if nat_lt room max then 1 + depth_from n (2 * room) max else 0
 

@@ -1,10 +1,13 @@
 //! Where each word stands, as numbers that are computed once.
-ghost use Rattle.std.specs.Prelude.{◌≡◌, ◌<◌, ◌^◌, true, Some, slice_get, length};
-ghost use Rattle.hop_words.specs.Layout.{is_place, at};
-ghost use Rattle.hop_words.specs.Index.{bases, AreBases};
+ghost use Rattle.std.specs.Prelude.{◌≡◌, ◌+◌, ◌*◌, ◌<◌, ◌≤◌, ◌^◌, true, length, IfOk};
+ghost use Rattle.hop_words.specs.Layout.{is_place, at, line_rest, depth_from, segments, words_for as word_count};
+ghost use Rattle.bpf_shared.specs.Shape.{IsMapShape, elements as element_count};
+ghost use Rattle.hop_words.specs.Index.{bases, bases_from, end_from};
 
+use crate::known::About;
 use crate::place::Place;
-use bpf_shared::StoreShape;
+use bpf_shared::MapShape;
+use std::alloc::{AllocError, Global};
 use std::marker::Model;
 
 /// Where a map's words begin, by their kinds, and the words of a key and of a value.
@@ -19,31 +22,143 @@ pub(crate) struct Bases {
     pub(crate) value_words: u32,
 }
 
-/// Where the words of a store stand. Seen as the store's shape.
+/// Where the words of a store stand. It is seen as what the store was told when it was made.
 #[derive(Drop)]
 pub struct Index {
-    pub(crate) shape: StoreShape,
+    pub(crate) about: About,
     pub(crate) maps: Vec<Bases>,
     pub(crate) words: usize,
 }
 
 impl Model for Index {
-    ghost use Rattle.bpf_shared.specs.Shape.{Shape};
+    ghost use Rattle.hop_words.specs.declared.known.About.{About};
     ghost use Rattle.hop_words.specs.Index.{IsIndex};
 
-    ghost Value = { Shape };
+    ghost Value = { About };
 
-    ghost view = { λ i. i.shape };
+    ghost view = { λ i. i.about };
 
-    ghost invariant = { λ i. IsIndex i.shape i.maps.items i.words };
+    ghost invariant = { λ i. IsIndex i.about.shape i.maps.items i.words };
+}
+
+// How many words are left of a line of eight behind so many.
+fn line_rest(words: u32) -> u32
+    ensures { result ≡ line_rest words }
+{
+    (8 - words % 8) % 8
+}
+
+// How often the segments of a map double, from one on, until each key may have a place of 64.
+#[tactic(auto, using(crate::proofs::Depths::depth_on, crate::proofs::Depths::depth_stop, crate::proofs::Depths::depth_end))]
+fn depth(max: u64) -> u32
+    requires { max ≤ 65536 }
+    ensures value { result ≡ depth_from 10 64 max }
+    ensures most { result ≤ 10 }
+{
+    for depth in 0..10 {
+        if max <= 64 << depth {
+            return depth;
+        }
+    }
+    10
+}
+
+// How many words the segments of a map have.
+fn segment_words(shape: &MapShape) -> u32
+    requires { IsMapShape shape.now }
+    ensures words { result ≡ 130 * segments shape.now }
+    ensures most { result ≤ 133120 }
+{
+    130 << depth(shape.max)
+}
+
+// How many elements a map has.
+fn elements(shape: &MapShape) -> u32
+    requires { IsMapShape shape.now }
+    ensures elements { result ≡ element_count shape.now }
+    ensures most { result ≤ 131072 }
+{
+    (shape.max + shape.spare) as u32
+}
+
+// How many words so many bytes lie in.
+fn words_for(bytes: u64) -> u32
+    requires { bytes ≤ 256 }
+    ensures words { result ≡ word_count bytes }
+    ensures most { result ≤ 32 }
+{
+    bytes.div_ceil(8) as u32
+}
+
+// How many words so many elements have.
+fn product(elements: u32, words: u32) -> u32
+    requires elements { elements ≤ 131072 }
+    requires words { words ≤ 32 }
+    ensures product { result ≡ elements * words }
+    ensures most { result ≤ 4194304 }
+{
+    elements * words
+}
+
+// Where the words of a map begin, by their kinds, if they begin here, and where they end.
+fn lay_out(start: u32, shape: &MapShape) -> (Bases, u32)
+    requires shape { IsMapShape shape.now }
+    requires small { start ≤ 2 ^ 28 }
+    ensures bases { result.0 ≡ bases_from start shape.now }
+    ensures end { result.1 ≡ end_from start shape.now }
+    ensures most { result.1 ≤ start + 2 ^ 24 }
+{
+    let elements = elements(shape);
+    let segment_words = segment_words(shape);
+    let key_words = words_for(shape.key);
+    let value_words = words_for(shape.value);
+    let free_words = elements.div_ceil(64);
+    let all_keys = product(elements, key_words);
+    let all_values = product(elements, value_words);
+    let segments = start + 8 + free_words + line_rest(free_words);
+    let links = segments + segment_words;
+    let keys = links + elements;
+    let values = keys + all_keys;
+    let end = values + all_values;
+    let bases = Bases {
+        start,
+        segments,
+        links,
+        keys,
+        values,
+        key_words,
+        value_words,
+    };
+    (
+        bases,
+        end + line_rest(segment_words + elements + all_keys + all_values),
+    )
 }
 
 impl Index {
+    /// Where the words of a store of this shape stand.
+    pub(crate) fn new(alloc: Global, about: About) -> Result<Index, AllocError>
+        ensures { IfOk result (λ i. i ≡ about) }
+    {
+        let mut maps = Vec::new(alloc);
+        let mut start = 8 * u32::from(about.shape.cpus());
+        for shape in about.shape.maps() {
+            let (bases, end) = lay_out(start, shape);
+            maps.push(bases)?;
+            start = end;
+        }
+        Ok(Index {
+            about,
+            maps,
+            words: start as usize,
+        })
+    }
+
     /// Where the word of a place stands.
     #[tactic(auto, using(crate::proofs::Indexes::map_there))]
     pub fn word_of(&self, place: Place) -> usize
-        requires there { is_place self.now place ≡ true }
-        ensures word { result ≡ at self.now place }
+        requires there { is_place self.now.shape place ≡ true }
+        ensures word { result ≡ at self.now.shape place }
     {
         match place {
             Place::RunCount { cpu } => 8 * usize::from(cpu),
@@ -77,16 +192,16 @@ impl Index {
 
     // Where a map's words begin.
     fn bases(&self, map: u8) -> Bases
-        requires there { map < length self.now.maps }
-        ensures bases { result ≡ bases self.now map }
+        requires there { map < length self.now.shape.maps }
+        ensures bases { result ≡ bases self.now.shape map }
     {
         self.maps[usize::from(map)]
     }
 
     // Where the words of a segment begin.
     fn segment(&self, map: u8, segment: u32) -> usize
-        requires there { is_place self.now (Place.Stamp map segment) ≡ true }
-        ensures word { result ≡ at self.now (Place.Stamp map segment) }
+        requires there { is_place self.now.shape (Place.Stamp map segment) ≡ true }
+        ensures word { result ≡ at self.now.shape (Place.Stamp map segment) }
         ensures small { result < 2 ^ 40 }
     {
         self.bases(map).segments as usize + 130 * segment as usize

@@ -4,6 +4,7 @@ use bpf_shared::{Entry, StoreShape};
 use std::collections::LinkedList;
 
 /// What the table is told once: the shape, the hash's seed, and the version and the count as made.
+#[derive(Drop)]
 pub struct About {
     pub shape: StoreShape,
     pub seed: u64,
