@@ -15,11 +15,12 @@ use Rattle.clap.specs.declared.builder.value_parser.Reading.TheVariants.{AsWritt
 use Rattle.clap.specs.declared.builder.value_parser.ValueParser.TheVariants.{Unsigned}
 use Rattle.clap.specs.declared.parser.matches.ValueSource.TheVariants.{CommandLine, DefaultValue}
 use Rattle.clap.proofs.ValueTestLemmas.{accepts-Accepts}
+use Rattle.bpf_command.specs.declared.command.TheConstants.{MAX_BUDGET}
 use Rattle.bpf_command.specs.CommandLine.{HasBudget, budget, context, ebpf, hex}
 use Rattle.bpf_command.proofs.Walks.{Keeps, first_free, last_free, settle_kept, walk_kept}
 
 abbrev InRange : Text → Type 0
-InRange = IsUnsignedIn 0 1000000000
+InRange = IsUnsignedIn 0 MAX_BUDGET
 
 -- what a use of the option leaves
 abbrev IsGiven : Row → Type 0
@@ -84,15 +85,15 @@ found_keeps test (a ∷ rest) all =
       | false ↦ found_keeps test rest all.1
     ]
 
-accepted : (text : Text) → value_kinds false (Unsigned 0 1000000000) text ≡ [] → InRange text
-accepted text e = accepts-Accepts false (Unsigned 0 1000000000) text (go (accepts false (Unsigned 0 1000000000) text) e)
+accepted : (text : Text) → value_kinds false (Unsigned 0 MAX_BUDGET) text ≡ [] → InRange text
+accepted text e = accepts-Accepts false (Unsigned 0 MAX_BUDGET) text (go (accepts false (Unsigned 0 MAX_BUDGET) text) e)
   where
-    go : (b : Bool) → cond b [] (refused_kind (Unsigned 0 1000000000) ∷ []) ≡ [] → b ≡ true
+    go : (b : Bool) → cond b [] (refused_kind (Unsigned 0 MAX_BUDGET) ∷ []) ≡ [] → b ≡ true
     go true e = refl
     go false e = cc
 
-first_passes : (v : Text) (vs : List Text) → values_kinds false (Unsigned 0 1000000000) (v ∷ vs) ≡ [] → InRange v
-first_passes v vs e = accepted v (first_free (value_kinds false (Unsigned 0 1000000000) v) (values_kinds false (Unsigned 0 1000000000) vs) e)
+first_passes : (v : Text) (vs : List Text) → values_kinds false (Unsigned 0 MAX_BUDGET) (v ∷ vs) ≡ [] → InRange v
+first_passes v vs e = accepted v (first_free (value_kinds false (Unsigned 0 MAX_BUDGET) v) (values_kinds false (Unsigned 0 MAX_BUDGET) vs) e)
 
 budget_keeps : Keeps AreFine false (filled budget)
 budget_keeps [] rows e fine = cc
@@ -154,7 +155,7 @@ default_row : HasBudgetRow (Some (record {
   source = Some DefaultValue;
   reading = AsWritten;
 }))
-default_row = (accepts-Accepts false (Unsigned 0 1000000000) (codes "1000000") refl, λ e. refl)
+default_row = (accepts-Accepts false (Unsigned 0 MAX_BUDGET) (codes "1000000") refl, λ e. refl)
 
 -- the option's default is one of its range
 with_budget : (rows : List Row) → AreFine rows → HasBudget (with_default rows (filled budget))

@@ -1,10 +1,11 @@
 -- An option's values among the rows that a parse found are those that the matches' getters give.
 use Rattle.std.proofs.Common.{◌≡◌, ◌≤◌, ◌∙◌, List, ℕ, Option, Some, None, Result, Ok, Err, codes, refl, arith, subst}
-use Rattle.std.specs.Prelude.{IsSomeAnd}
+use Rattle.std.specs.Prelude.{IfSome, IsSomeAnd}
+use Rattle.bpf_command.specs.declared.command.TheConstants.{MAX_BUDGET}
 use Rattle.std.specs.Str.Parse.{ParsesUnsigned}
 use Rattle.clap.specs.Matches.{ReadsOne}
 use Rattle.clap.specs.Values.{IsUnsignedIn}
-use Rattle.clap.specs.Words.{Text, first_of, first_value, one_of, one_text, rows_of}
+use Rattle.clap.specs.Words.{Row, Text, first_of, first_value, one_of, one_text, rows_of}
 use Rattle.clap.specs.declared.parser.matches.Found.{Found}
 use Rattle.clap.proofs.WalkLemmas.{first_value-rows, one_text-rows}
 use Rattle.bpf_command.specs.CommandLine.{HasBudget, IsBudget, NamesBudget}
@@ -19,11 +20,11 @@ no_context_in_rows f e h = rw (← first_value-rows f (codes "ctx")) h
 
 -- a getter that reads the text of a number gives the number
 module _ (E : Type 0) (Gives : Text → Result ℕ E → Type 0) (parses : (t : Text) (x : Result ℕ E) → Gives t x → ParsesUnsigned 64 10 t x) where
-  number_read : (text : Text) (n : Option ℕ) → IsUnsignedIn 0 1000000000 text → ReadsOne Gives text n → IsSomeAnd n (IsBudget (Some text))
+  number_read : (text : Text) (n : Option ℕ) → IsUnsignedIn 0 MAX_BUDGET text → ReadsOne Gives text n → IsSomeAnd n (IsBudget (Some text))
   number_read text None h g = absurd (parses text (Err g.0) g.1 (h.0, h.1))
   number_read text (Some n) h g = (h, (parses text (Ok n) g).1)
 
-  text_read : (text : Option Text) (n : Option ℕ) → IsSomeAnd text (IsUnsignedIn 0 1000000000) → ((t : Text) → text ≡ Some t → ReadsOne Gives t n)
+  text_read : (text : Option Text) (n : Option ℕ) → IsSomeAnd text (IsUnsignedIn 0 MAX_BUDGET) → ((t : Text) → text ≡ Some t → ReadsOne Gives t n)
       → IsSomeAnd n (IsBudget text)
   text_read None n h read = absurd h
   text_read (Some text) n h read = number_read text n h (read text refl)
@@ -36,6 +37,11 @@ module _ (E : Type 0) (Gives : Text → Result ℕ E → Type 0) (parses : (t : 
       with_default None b = absurd b
       with_default (Some n) b = (b, λ e. (subst (λ o. IsBudget o n) (h.1 e) b).1)
 
-pub budget_limited : (text : Option Text) (n : ℕ) → IsBudget text n → n ≤ 1000000000
+budget_limited : (text : Option Text) (n : ℕ) → IsBudget text n → n ≤ MAX_BUDGET
 budget_limited None n b = absurd b
 budget_limited (Some text) n b = omega arith
+
+-- a budget that is named is in the range
+pub limited : (rows : List Row) (n : Option ℕ) → IsSomeAnd n (NamesBudget rows) → IfSome n (λ n. n ≤ MAX_BUDGET)
+limited rows None h = tt
+limited rows (Some n) h = budget_limited (one_of (codes "budget") rows) n h.0

@@ -12,6 +12,7 @@ use clap::ArgMatches;
 use clap::error::ErrorKind;
 use hex::FromHexError;
 use std::alloc::Global;
+use std::convert::AsStr;
 
 /// Why words name no command that can be done.
 #[derive(Debug, Drop)]
@@ -24,16 +25,25 @@ pub enum CommandError {
 }
 
 /// What `clap` finds in the words, of which the first is the program's name.
-fn matches_of<'a>(alloc: Global, words: &'a [&'a str]) -> Result<ArgMatches<'a>, clap::Error>
+fn matches_of<'a, S: AsStr>(alloc: Global, words: &'a [S]) -> Result<ArgMatches<'a>, clap::Error>
     ensures found { IfOk result (λ m. subcommand_rows_of m
-        ≡ subcommand_of ebpf (map (λ s. s.now) words.entry.now)) }
+        ≡ subcommand_of ebpf (map S.text words.entry.now)) }
     ensures known { IfOk result (λ m. IsSomeAnd (subcommand_name_of m) IsCommandName) }
     ensures checked { IfOk result (λ m. IfSome (subcommand_rows_of m)
         (λ found. found.0 ≡ codes "hex" → HasBudget found.1)) }
-    ensures faults { FailsBy (fault_of ebpf (map (λ s. s.now) words.entry.now)) result }
+    ensures faults { FailsBy (fault_of ebpf (map S.text words.entry.now)) result }
 {
     let matches = ebpf_command(alloc)?.try_get_matches_from(words)?;
     Ok(matches)
+}
+
+/// What `clap` reads of `--budget`, or its default.
+fn found_budget(options: &ArgMatches) -> Option<u64>
+    requires checked { HasBudget (rows_of (found_of options.now)) }
+    ensures named { IsSomeAnd result (NamesBudget (rows_of (found_of options.now))) }
+    ensures limited { IfSome result (λ n. n ≤ MAX_BUDGET) }
+{
+    options.get_one::<u64>("budget")
 }
 
 fn budget_of(options: &ArgMatches) -> u64
@@ -41,7 +51,7 @@ fn budget_of(options: &ArgMatches) -> u64
     ensures named { NamesBudget (rows_of (found_of options.now)) result }
     ensures limited { result ≤ MAX_BUDGET }
 {
-    let Some(budget) = options.get_one::<u64>("budget") else {
+    let Some(budget) = found_budget(options) else {
         unreachable!();
     };
     budget
@@ -72,6 +82,7 @@ fn context_of(alloc: Global, options: &ArgMatches) -> Result<Vec<u8>, CommandErr
     }
 }
 
+#[tactic(auto, using(crate::proofs::OptionRows::context_in_rows, crate::proofs::OptionRows::no_context_in_rows))]
 fn hex_of(alloc: Global, options: &ArgMatches) -> Result<Command, CommandError>
     requires checked { HasBudget (rows_of (found_of options.now)) }
     ensures named { IfOk result (Names (Some (codes "hex", rows_of (found_of options.now)))) }
@@ -97,10 +108,10 @@ fn named(alloc: Global, name: &str, options: &ArgMatches) -> Result<Command, Com
 }
 
 /// The command that the words name, of which the first is the program's name.
-pub fn command_of<'a>(alloc: Global, words: &'a [&'a str]) -> Result<Command, CommandError>
-    ensures accepted { OnOk result (fault_of ebpf (map (λ s. s.now) words.entry.now) ≡ []) }
-    ensures named { IfOk result (Names (subcommand_of ebpf (map (λ s. s.now) words.entry.now))) }
-    ensures refused { IfErr result (Refuses (map (λ s. s.now) words.entry.now)) }
+pub fn command_of<'a, S: AsStr>(alloc: Global, words: &'a [S]) -> Result<Command, CommandError>
+    ensures accepted { OnOk result (fault_of ebpf (map S.text words.entry.now) ≡ []) }
+    ensures named { IfOk result (Names (subcommand_of ebpf (map S.text words.entry.now))) }
+    ensures refused { IfErr result (Refuses (map S.text words.entry.now)) }
 {
     let matches = match matches_of(alloc, words) {
         Ok(matches) => matches,

@@ -1,3 +1,4 @@
 pub mod KnownBytes
 pub mod ReplyLemmas
 pub mod OneReply
+pub mod Followed

@@ -25,7 +25,8 @@ use Rattle.bpf_text.specs.Laws.{TextsAreDetermined}
 use Rattle.bpf_text.specs.declared.error.TextError.{TextError}
 use Rattle.bpf_text.specs.declared.error.TextError.TheVariants as text_error
 use Rattle.bpf_run.specs.Answer.{status_of, text_of}
-use Rattle.bpf_run.specs.Commands.{IsAnswer, IsAssembled, IsDisassembled, IsReply, IsRun, IsWordsOf, RefusesAssembly, RefusesInput, RefusesProgram, RefusesWords, max_input}
+use Rattle.bpf_run.specs.Commands.{IsAnswer, IsAssembled, IsDisassembled, IsReply, IsRun, IsWordsOf, RefusesAssembly, RefusesInput, RefusesProgram, RefusesWords}
+use Rattle.bpf_run.specs.declared.input.TheConstants.{MAX_INPUT}
 use Rattle.bpf_run.specs.Laws.{IsOfInput, IsForAnyInput, HasShortContext, RepliesAreDetermined}
 use Rattle.bpf_run.specs.Listing.{word_lines}
 use Rattle.bpf_command.specs.declared.command.Command.{Command}
@@ -109,9 +110,9 @@ of_listing text (reply.Refused r) h n = Unlisted r (of_words text r h n)
 of_listing text (reply.Ended outcome) h n = absurd h
 
 data OfInput (c : Command) (input : List ℕ) : Reply → Type 0 where
-  TooLong : max_input < length input → OfInput c input (reply.Refused (refusal.Input input_error.TooLong))
-  NotText : length input ≤ max_input → ¬ IsUtf8 input → OfInput c input (reply.Refused refusal.NotText)
-  Answered : (r : Reply) → length input ≤ max_input → IsUtf8 input → IsAnswer c input r → OfInput c input r
+  TooLong : MAX_INPUT < length input → OfInput c input (reply.Refused (refusal.Input input_error.TooLong))
+  NotText : length input ≤ MAX_INPUT → ¬ IsUtf8 input → OfInput c input (reply.Refused refusal.NotText)
+  Answered : (r : Reply) → length input ≤ MAX_INPUT → IsUtf8 input → IsAnswer c input r → OfInput c input r
 
 of_refusal : (c : Command) (input : List ℕ) (e : Refusal) → RefusesInput input e → ¬ IsForAnyInput e → OfInput c input (reply.Refused e)
 of_refusal c input (refusal.Input input_error.Unread) h n = absurd (n tt)

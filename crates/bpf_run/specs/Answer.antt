@@ -1,5 +1,5 @@
 -- What is printed of a reply, and the exit status. Our own choice.
-use Rattle.std.specs.Prelude.{◌≡◌, ℕ, ◌++◌, ◌⊎◌, List, Option, codes, string_bytes, take}
+use Rattle.std.specs.Prelude.{◌≡◌, ℕ, ◌++◌, ◌⊎◌, List, Option, Bool, true, false, codes, string_bytes, take}
 use Rattle.std.specs.Fmt.{decimal}
 use Rattle.std.specs.Io.KnownBytes.{Appends}
 use Rattle.bpf_cpu.specs.declared.outcome.Outcome.{Outcome}
@@ -40,12 +40,15 @@ exit_code status.Failed = 1
 exit_code status.Stopped = 3
 
 -- the text is written, and this status answered; or a write failed, and what is written is a beginning of the text
-abbrev pub IsWritten : List ℕ → Status → Option (List ℕ) → Option (List ℕ) → Status → Type 0
-IsWritten text meant old new result = (Appends old new text × (result ≡ meant))
-    ⊎ ((k : ℕ) × Appends old new (take k text) × (result ≡ status.Failed))
+abbrev pub IsWritten : (text : List ℕ) → (meant : Status) → (old new : Option (List ℕ)) → (failed : Bool)
+    → Status → Type 0
+IsWritten text meant old new failed answered =
+    (Appends old new text × (failed ≡ false) × (answered ≡ meant))
+    ⊎ ((k : ℕ) × Appends old new (take k text) × (failed ≡ true) × (answered ≡ status.Failed))
 
 -- the reply is written; or a refusal alone, where the one line of a reply found no memory
-abbrev pub Answers : Reply → Option (List ℕ) → Option (List ℕ) → Status → Type 0
-Answers (reply.Text text) old new result = IsWritten (string_bytes text) status.Done old new result
-Answers r old new result = IsWritten (text_of r) (status_of r) old new result
-    ⊎ IsWritten (codes "refused L9\n") status.Refused old new result
+abbrev pub Answers : Reply → (old new : Option (List ℕ)) → (failed : Bool) → Status → Type 0
+Answers (reply.Text text) old new failed answered =
+    IsWritten (string_bytes text) status.Done old new failed answered
+Answers r old new failed answered = IsWritten (text_of r) (status_of r) old new failed answered
+    ⊎ IsWritten (codes "refused L9\n") status.Refused old new failed answered

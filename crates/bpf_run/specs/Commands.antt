@@ -1,5 +1,5 @@
 -- What each command replies to the text that it read.
-use Rattle.std.specs.Prelude.{◌≡◌, ◌≢◌, ◌≤◌, ◌<◌, ◌⊎◌, ◌/◌, ℕ, List, [], All, Err, Ok, IsUtf8, length, string_bytes}
+use Rattle.std.specs.Prelude.{◌≡◌, ◌≢◌, ◌≤◌, ◌<◌, ◌⊎◌, ◌/◌, ℕ, Bool, true, false, List, [], All, Err, Ok, IsUtf8, length, string_bytes}
 use Rattle.bpf_insn.specs.declared.instruction.Insn.{Insn}
 use Rattle.bpf_insn.specs.Encoding.{IsEncodedAs}
 use Rattle.bpf_insn.specs.Refusal.{IsRefused, IsSized}
@@ -17,6 +17,7 @@ use Rattle.bpf_run.specs.Listing.{word_lines}
 use Rattle.bpf_command.specs.declared.command.Command.{Command}
 use Rattle.bpf_command.specs.declared.command.Command.TheVariants as command
 use Rattle.bpf_run.specs.declared.input.InputError.TheVariants as input_error
+use Rattle.bpf_run.specs.declared.input.TheConstants.{MAX_INPUT}
 use Rattle.bpf_run.specs.declared.refusal.Refusal.{Refusal}
 use Rattle.bpf_run.specs.declared.refusal.Refusal.TheVariants as refusal
 use Rattle.bpf_run.specs.declared.reply.Reply.{Reply}
@@ -73,20 +74,21 @@ IsAnswer command.Disasm text r = IsDisassembled text r
 
 -- ---- input
 
--- the greatest number of bytes that are read as input
-abbrev pub max_input : ℕ
-max_input = 16777216
-
 -- why there is no text: a read failed, there is too much, or (of what isn't too much) it isn't UTF-8; want of memory may
 -- stand in place of any answer
 abbrev pub RefusesInput : List ℕ → Refusal → Type 0
 RefusesInput input (refusal.Input input_error.Unread) = Unit {0}
-RefusesInput input (refusal.Input input_error.TooLong) = max_input < length input
+RefusesInput input (refusal.Input input_error.TooLong) = MAX_INPUT < length input
 RefusesInput input (refusal.Input input_error.OutOfMemory) = Unit {0}
-RefusesInput input refusal.NotText = (length input ≤ max_input) × ¬ IsUtf8 input
+RefusesInput input refusal.NotText = (length input ≤ MAX_INPUT) × ¬ IsUtf8 input
 RefusesInput input _ = ⊥
 
--- what a command replies to the bytes that its reader has left
+-- a read failed
+abbrev pub is_unread : Reply → Bool
+is_unread (reply.Refused (refusal.Input input_error.Unread)) = true
+is_unread _ = false
+
+-- what a command replies to the bytes that its source has left
 abbrev pub IsReply : Command → List ℕ → Reply → Type 0
 IsReply c input r = ((e : Refusal) × (r ≡ reply.Refused e) × RefusesInput input e)
-    ⊎ ((length input ≤ max_input) × IsUtf8 input × IsAnswer c input r)
+    ⊎ ((length input ≤ MAX_INPUT) × IsUtf8 input × IsAnswer c input r)

@@ -1,5 +1,7 @@
 pub mod Answer
 pub mod Commands
 pub mod Listing
+pub mod Input
 pub mod Codes
 pub mod Laws
+pub mod Program

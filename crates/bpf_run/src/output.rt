@@ -1,23 +1,22 @@
 //! Output.
 
-ghost use Rattle.std.specs.Prelude.{◌≡◌, ◌≤◌, ℕ, OnErr, OnOk, length, take};
+ghost use Rattle.std.specs.Prelude.{◌≡◌, ◌≤◌, ℕ, false, is_err, OnErr, OnOk, length, take};
 ghost use Rattle.std.specs.Io.KnownBytes.{Appends};
 
+use crate::stream::Sink;
 use std::io;
-use std::io::{ErrorKind, Write};
 
-/// Writes all bytes. A failed write isn't tried again: what went out before it is a beginning of the bytes.
-pub fn write_whole<W: Write>(writer: &mut W, bytes: &[u8]) -> io::Result<()>
-    ensures written { OnOk result (Appends (W.contents writer.old) (W.contents writer.new) bytes.now) }
-    ensures begun { OnErr result ((k : ℕ) × Appends (W.contents writer.old) (W.contents writer.new) (take k bytes.now)) }
+/// Writes all bytes. What went out before a failed write is a beginning of the bytes.
+pub fn write_whole<W: Sink>(sink: &mut W, bytes: &[u8]) -> io::Result<()>
+    requires { W.has_failed sink.old ≡ false }
+    ensures written { OnOk result (Appends (W.contents sink.old) (W.contents sink.new) bytes.now) }
+    ensures begun { OnErr result ((k : ℕ)
+        × Appends (W.contents sink.old) (W.contents sink.new) (take k bytes.now)) }
+    ensures told { W.has_failed sink.new ≡ is_err result }
 {
     let mut count = 0;
     while count < bytes.len() {
-        let more = writer.write(&bytes[count..])?;
-        if more == 0 {
-            return Err(io::Error::from(ErrorKind::WriteZero));
-        }
-        count += more;
+        count += sink.write(&bytes[count..])?;
     }
-    writer.flush()
+    sink.flush()
 }

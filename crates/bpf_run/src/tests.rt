@@ -2,6 +2,7 @@ ghost use Rattle.std.specs.Prelude.{◌≤◌};
 
 use crate::input::MAX_INPUT;
 use crate::perform::perform;
+use crate::recorder::Recorder;
 use crate::reply::Status;
 use bpf_command::{Command, CommandError, RunOptions, command_of};
 use std::io;
@@ -9,7 +10,7 @@ use std::io::{ErrorKind, Read, Write};
 
 /// Gives zeros, at most `most` a read, and counts the reads; where `fails` is set, the read after the last byte fails.
 #[derive(Drop)]
-struct Source<'a> {
+struct FakeReader<'a> {
     left: &'a [u8],
     zeros: usize,
     most: usize,
@@ -17,8 +18,8 @@ struct Source<'a> {
     reads: usize,
 }
 
-fn giving<'a>(bytes: &'a [u8], most: usize, fails: bool) -> Source<'a> {
-    Source {
+fn giving<'a>(bytes: &'a [u8], most: usize, fails: bool) -> FakeReader<'a> {
+    FakeReader {
         left: bytes,
         zeros: 0,
         most,
@@ -27,7 +28,7 @@ fn giving<'a>(bytes: &'a [u8], most: usize, fails: bool) -> Source<'a> {
     }
 }
 
-impl<'a> Read for Source<'a> {
+impl<'a> Read for FakeReader<'a> {
     fn read(&mut self, buf: &mut [u8]) -> io::Result<usize> {
         self.reads = self.reads.saturating_add(1);
         let most = buf.len().min(self.most);
@@ -51,14 +52,14 @@ impl<'a> Read for Source<'a> {
 
 /// Takes at most `most` bytes a write, and `room` in all; then a write fails.
 #[derive(Drop)]
-struct Sink {
+struct FakeWriter {
     taken: Vec<u8>,
     most: usize,
     room: usize,
     writes: usize,
 }
 
-impl Write for Sink {
+impl Write for FakeWriter {
     fn write(&mut self, buf: &[u8]) -> io::Result<usize> {
         self.writes = self.writes.saturating_add(1);
         let count = buf.len().min(self.most).min(self.room);
@@ -75,13 +76,24 @@ impl Write for Sink {
     }
 }
 
-fn taking(rt: &impl AllocGlobal, most: usize, room: usize) -> Sink {
-    Sink {
+fn taking(rt: &impl AllocGlobal, most: usize, room: usize) -> FakeWriter {
+    FakeWriter {
         taken: Vec::new(rt.alloc()),
         most,
         room,
         writes: 0,
     }
+}
+
+fn performed(
+    rt: &impl AllocGlobal,
+    command: Command,
+    reader: &mut FakeReader,
+    writer: &mut FakeWriter,
+) -> Status {
+    let mut source = Recorder::new(reader);
+    let mut sink = Recorder::new(writer);
+    perform(rt.alloc(), command, &mut source, &mut sink)
 }
 
 /// Runs `hex` over the words, and says whether it prints this, with this status.
@@ -92,7 +104,7 @@ fn runs(rt: &HostRuntime, budget: u64, printed: &str, wanted: Status) -> bool
     let mut reader = giving(WORDS, 1000, false);
     let mut writer = taking(rt, 1000, 1000);
     let command = Command::Hex(RunOptions { budget, context });
-    let status = perform(rt.alloc(), command, &mut reader, &mut writer);
+    let status = performed(rt, command, &mut reader, &mut writer);
     status == wanted && writer.taken.as_slice() == printed.as_bytes()
 }
 
@@ -103,7 +115,7 @@ fn reads_in_any_pieces(rt: HostRuntime) {
     for most in [1, 2, 7, 1000] {
         let mut reader = giving(WORDS, most, false);
         let mut writer = taking(&rt, most, 1000);
-        let status = perform(rt.alloc(), Command::Disasm, &mut reader, &mut writer);
+        let status = performed(&rt, Command::Disasm, &mut reader, &mut writer);
         assert_eq!(rt; status, Status::Done, "{most} bytes a read");
         assert!(rt;
             writer.taken.as_slice() == b"r0 = 5\nexit\n".as_slice(),
@@ -117,7 +129,7 @@ fn refuses_what_is_not_read(rt: HostRuntime) {
     for length in [0, 1, 34] {
         let mut reader = giving(&WORDS[..length], 1, true);
         let mut writer = taking(&rt, 1000, 1000);
-        let status = perform(rt.alloc(), Command::Disasm, &mut reader, &mut writer);
+        let status = performed(&rt, Command::Disasm, &mut reader, &mut writer);
         assert_eq!(rt; status, Status::Refused, "after {length} bytes");
         assert!(rt;
             writer.taken.as_slice() == b"refused L7\n".as_slice(),
@@ -140,7 +152,7 @@ fn refuses_too_much(rt: HostRuntime) {
         let mut reader = giving(b"", 1_000_000, false);
         reader.zeros = zeros;
         let mut writer = taking(&rt, 1000, 1000);
-        let status = perform(rt.alloc(), Command::Disasm, &mut reader, &mut writer);
+        let status = performed(&rt, Command::Disasm, &mut reader, &mut writer);
         assert_eq!(rt; status, Status::Refused);
         assert!(rt;
             writer.taken.as_slice() == printed.as_bytes(),
@@ -153,7 +165,7 @@ fn refuses_too_much(rt: HostRuntime) {
 fn refuses_what_is_not_text(rt: HostRuntime) {
     let mut reader = giving(b"95\xff", 1000, false);
     let mut writer = taking(&rt, 1000, 1000);
-    let status = perform(rt.alloc(), Command::Disasm, &mut reader, &mut writer);
+    let status = performed(&rt, Command::Disasm, &mut reader, &mut writer);
     assert_eq!(rt; status, Status::Refused);
     assert!(rt; writer.taken.as_slice() == b"refused L8\n".as_slice());
 }
@@ -165,7 +177,7 @@ fn tells_failed_output(rt: HostRuntime) {
         for most in [1, 5, 1000] {
             let mut reader = giving(WORDS, 1000, false);
             let mut writer = taking(&rt, most, room);
-            let status = perform(rt.alloc(), Command::Disasm, &mut reader, &mut writer);
+            let status = performed(&rt, Command::Disasm, &mut reader, &mut writer);
             assert_eq!(rt; status, Status::Failed, "room for {room}");
             assert_eq!(rt; status.code(), 1);
             assert!(rt;

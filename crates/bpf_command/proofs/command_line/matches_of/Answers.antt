@@ -7,15 +7,15 @@ use Rattle.bpf_command.proofs.Subcommands.{name_known}
 use Rattle.bpf_command.proofs.command_line.matches_of.Goals as goal
 
 pub returns-clause-known : goal.returns-clause-known
-returns-clause-known c =
-    let words : List Text = map (λ s. s.now) c.args.words.now in
+returns-clause-known g c =
+    let words : List Text = map g.S.AsStr.text c.args.words.now in
     let found : subcommand_rows_of c.in_ok-matches.matches ≡ subcommand_of ebpf words = search rules in
     let free : fault_of ebpf words ≡ [] = search rules in
     name_known c.in_ok-matches.matches words free found
 
 pub returns-clause-checked : goal.returns-clause-checked
-returns-clause-checked c =
-    let words : List Text = map (λ s. s.now) c.args.words.now in
+returns-clause-checked g c =
+    let words : List Text = map g.S.AsStr.text c.args.words.now in
     let found : subcommand_rows_of c.in_ok-matches.matches ≡ subcommand_of ebpf words = search rules in
     let free : fault_of ebpf words ≡ [] = search rules in
     subst (λ o. IfSome o BudgetKnown) (sym found) (budget_known words free)

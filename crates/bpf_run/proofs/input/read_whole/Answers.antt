@@ -38,4 +38,6 @@ loop-preserved g c =
         length-drop c.min-most.result c.loop.chunk,
       ),
       consumed_more _ _ _ c.loop.input.items c.read_more.new.input.items more.0 c.loop.invariant.3 more.1 more.3,
+      c.in_ok-read_more.ensures.unread,
+      (let counted = c.read_more.ensures.reads in omega arith),
     )

@@ -1,0 +1,56 @@
+-- What the words ask for, and what is done of it, put together.
+use Rattle.std.proofs.Common.{◌≡◌, ◌⊎◌, List, [], Result, Ok, Err, inl, inr, map, subst, sym}
+use Rattle.std.specs.Prelude.{IfErr, IfOk, IsOkAnd, OnOk}
+use Rattle.clap.specs.Words.{Text, fault_of, subcommand_of}
+use Rattle.bpf_command.specs.CommandLine.{ebpf}
+use Rattle.bpf_command.specs.Names.{Names, Refuses}
+use Rattle.bpf_command.specs.declared.command.Command.{Command}
+use Rattle.bpf_command.specs.declared.command_line.CommandError.{CommandError}
+use Rattle.bpf_command.specs.declared.command_line.CommandError.TheVariants as error
+use Rattle.bpf_run.specs.Program.{IfExit, IfShown, IsNamed}
+use Rattle.bpf_run.specs.declared.program.Ending.{Ending}
+use Rattle.bpf_run.specs.declared.program.Ending.TheVariants as ending
+use Rattle.bpf_run.specs.declared.reply.Status.{Status}
+
+-- the command is named and performed, or the refusal of the words is printed
+abbrev Exits : List Text → Ending → (Command → Status → Type 0) → Type 0 → (CommandError → Status → Type 0) → Type 0
+Exits words end P U R = IfExit end (λ status. ((command : Command) × IsNamed words command × P command status)
+    ⊎ ((e : CommandError) × Refuses words e × U × R e status))
+
+exits : (words : List Text) (asked : Result Command CommandError) (end : Ending)
+    (P : Command → Status → Type 0) (U : Type 0) (R : CommandError → Status → Type 0)
+    → OnOk asked (fault_of ebpf words ≡ []) → IfOk asked (Names (subcommand_of ebpf words)) → IfErr asked (Refuses words)
+    → IfExit end (λ status. IfOk asked (λ command. P command status)) → IfExit end (λ status. IfErr asked (λ e. U × R e status))
+    → Exits words end P U R
+exits words (Ok command) (ending.Exit status) P U R accepted named refused performed printed = inl (command, (accepted, named), performed)
+exits words (Err e) (ending.Exit status) P U R accepted named refused performed printed = inr (e, refused, printed.0, printed.1)
+exits words asked (ending.Shown e) P U R accepted named refused performed printed = tt
+exits words asked ending.NotText P U R accepted named refused performed printed = tt
+
+shows : (words : List Text) (asked : Result Command CommandError) (end : Ending) (U V : Type 0) → IfErr asked (Refuses words)
+    → IfShown end (λ e. (asked ≡ Err (error.Shown e)) × U × V) → IfShown end (λ e. Refuses words (error.Shown e) × U × V)
+shows words asked (ending.Exit status) U V refused shown = tt
+shows words asked (ending.Shown e) U V refused shown = (subst (λ (a : Result Command CommandError). IfErr a (Refuses words)) shown.0 refused, shown.1, shown.2)
+shows words asked ending.NotText U V refused shown = tt
+
+-- the words are the texts of some values, and `asked` is what the command line answers to them
+module _ (X A E : Type 0) (text : X → Text) (items_of : A → List X) (words : Result A E) (v : A) (is : words ≡ Ok v)
+    (given : List X) (same : given ≡ items_of v) (asked : Result Command CommandError) (end : Ending) where
+  pub followed : (P : Command → Status → Type 0) (U : Type 0) (R : CommandError → Status → Type 0)
+      → OnOk asked (fault_of ebpf (map text given) ≡ []) → IfOk asked (Names (subcommand_of ebpf (map text given)))
+      → IfErr asked (Refuses (map text given)) → IfExit end (λ status. IfOk asked (λ command. P command status))
+      → IfExit end (λ status. IfErr asked (λ e. U × R e status))
+      → IfExit end (λ status. IfOk words (λ w. ((command : Command) × IsNamed (map text (items_of w)) command × P command status)
+      ⊎ ((e : CommandError) × Refuses (map text (items_of w)) e × U × R e status)))
+  followed P U R accepted named refused performed printed =
+      let known : Exits (map text (items_of v)) end P U R = subst (λ (xs : List X). Exits (map text xs) end P U R) same
+      (exits (map text given) asked end P U R accepted named refused performed printed) in
+      subst (λ (w : Result A E). IfExit end (λ status. IfOk w (λ w. ((command : Command) × IsNamed (map text (items_of w)) command × P command status)
+      ⊎ ((e : CommandError) × Refuses (map text (items_of w)) e × U × R e status)))) (sym is) known
+
+  pub shown_of : (U V : Type 0) → IfErr asked (Refuses (map text given)) → IfShown end (λ e. (asked ≡ Err (error.Shown e)) × U × V)
+      → IfShown end (λ e. IsOkAnd words (λ w. Refuses (map text (items_of w)) (error.Shown e)) × U × V)
+  shown_of U V refused shown =
+      let known = subst (λ (xs : List X). IfShown end (λ e. Refuses (map text xs) (error.Shown e) × U × V)) same
+      (shows (map text given) asked end U V refused shown) in
+      subst (λ (w : Result A E). IfShown end (λ e. IsOkAnd w (λ w. Refuses (map text (items_of w)) (error.Shown e)) × U × V)) (sym is) known

@@ -1,0 +1,49 @@
+-- What a command does between its reading and its writing, and what the words of a command line ask for.
+use Rattle.std.specs.Prelude.{◌≡◌, ℕ, Bool, List, Option, IfSome, []}
+use Rattle.clap.specs.Words.{Text, fault_of, subcommand_of}
+use Rattle.clap.specs.declared.error.Error.{Error}
+use Rattle.bpf_text.specs.declared.error.TextError.TheVariants as text_error
+use Rattle.bpf_command.specs.CommandLine.{ebpf}
+use Rattle.bpf_command.specs.Names.{Names}
+use Rattle.bpf_command.specs.declared.command.Command.{Command}
+use Rattle.bpf_command.specs.declared.command_line.CommandError.{CommandError}
+use Rattle.bpf_command.specs.declared.command_line.CommandError.TheVariants as command_error
+use Rattle.bpf_run.specs.Answer.{Answers}
+use Rattle.bpf_run.specs.Commands.{IsReply, is_unread}
+use Rattle.bpf_run.specs.declared.program.Ending.{Ending}
+use Rattle.bpf_run.specs.declared.program.Ending.TheVariants as ending
+use Rattle.bpf_run.specs.declared.refusal.Refusal.{Refusal}
+use Rattle.bpf_run.specs.declared.refusal.Refusal.TheVariants as refusal
+use Rattle.bpf_run.specs.declared.reply.Reply.{Reply}
+use Rattle.bpf_run.specs.declared.reply.Status.{Status}
+
+-- a reply to the input is answered: 'unread' exactly where a read failed
+abbrev pub Performs : Command → (input : Option (List ℕ)) → (read_failed : Bool)
+    → (old new : Option (List ℕ)) → (write_failed : Bool) → Status → Type 0
+Performs command input read_failed old new write_failed status = (r : Reply)
+    × (read_failed ≡ is_unread r) × IfSome input (λ bytes. IsReply command bytes r)
+    × Answers r old new write_failed status
+
+-- the words name this command, and `clap` finds no fault in them
+abbrev pub IsNamed : List Text → Command → Type 0
+IsNamed words command = (fault_of ebpf words ≡ []) × Names (subcommand_of ebpf words) command
+
+-- the refusal that is printed where words name no command; what `clap` says is shown and isn't printed as one
+abbrev pub IsPrintedAs : CommandError → Refusal → Type 0
+IsPrintedAs command_error.NotHex r = r ≡ refusal.Text text_error.NotHex
+IsPrintedAs command_error.OutOfMemory r = r ≡ refusal.OutOfMemory
+IsPrintedAs (command_error.Shown _) r = ⊥
+
+-- ---- what is left to do
+
+abbrev pub IfExit : Ending → (Status → Type 0) → Type 0
+IfExit (ending.Exit status) P = P status
+IfExit _ P = Unit {0}
+
+abbrev pub IfShown : Ending → (Error → Type 0) → Type 0
+IfShown (ending.Shown error) P = P error
+IfShown _ P = Unit {0}
+
+abbrev pub IfNotText : Ending → Type 0 → Type 0
+IfNotText ending.NotText P = P
+IfNotText _ P = Unit {0}
