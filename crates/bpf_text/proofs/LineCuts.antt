@@ -2,7 +2,8 @@
 use Rattle.std.proofs.Common.{◌≡◌, ℕ, ◌+◌, ◌-◌, ◌<◌, ◌≤◌, suc, Bool, true, false, ◌==◌, List, [], ◌∷◌, length, take, drop, take_while, refl, sym, ap, subst, ◌∙◌, arith}
 use Rattle.std.proofs.lemmas.List.{take_all, length-drop}
 use Rattle.std.specs.List.{prefix_len}
-use Rattle.bpf_text.specs.Assembly.{lines_of, onto}
+use Rattle.bpf_text.specs.Lines.{lines_of}
+use Rattle.std.specs.List.{onto_first}
 use Rattle.bpf_text.specs.Reader.Cutting.{in_line}
 
 abbrev line_end : List ℕ → ℕ
@@ -22,7 +23,7 @@ cut_feed b bs n e z = rw (z, e) refl
 cut_behind : (b : ℕ) (bs : List ℕ) (n m : ℕ) → b == 10 ≡ false → n ≡ suc m → lines_of bs ≡ take m bs ∷ lines_of (drop (m + 1) bs) → lines_of (b ∷ bs) ≡ take n (b ∷ bs) ∷ lines_of (drop (n + 1) (b ∷ bs))
 cut_behind b bs n m e z h =
     let next : n + 1 ≡ suc (m + 1) = omega arith in
-    rw (next, z, e) (ap (onto b) h)
+    rw (next, z, e) (ap (onto_first b) h)
 
 by_feed : (b : ℕ) (bs : List ℕ) (feed : Bool) → b == 10 ≡ feed → line_end (b ∷ bs) < length (b ∷ bs) → (line_end bs < length bs → lines_of bs ≡ take (line_end bs) bs ∷ lines_of (drop (line_end bs + 1) bs))
     → lines_of (b ∷ bs) ≡ take (line_end (b ∷ bs)) (b ∷ bs) ∷ lines_of (drop (line_end (b ∷ bs) + 1) (b ∷ bs))
@@ -35,7 +36,7 @@ cut_lines (b ∷ bs) h = by_feed b bs (b == 10) refl h (cut_lines bs)
 
 last_by : (b : ℕ) (bs : List ℕ) (feed : Bool) → b == 10 ≡ feed → length (b ∷ bs) ≤ line_end (b ∷ bs) → (length bs ≤ line_end bs → lines_of bs ≡ bs ∷ []) → lines_of (b ∷ bs) ≡ (b ∷ bs) ∷ []
 last_by b bs true e h more = let z = end_at_feed b bs e in absurd (omega (arith, z, h))
-last_by b bs false e h more = let z = end_behind b bs e in rw e (ap (onto b) (more (omega (arith, z, h))))
+last_by b bs false e h more = let z = end_behind b bs e in rw e (ap (onto_first b) (more (omega (arith, z, h))))
 
 last_line : (text : List ℕ) → length text ≤ line_end text → lines_of text ≡ text ∷ []
 last_line [] h = refl

@@ -37,7 +37,9 @@ use Rattle.bpf_text.specs.Line.{Written}
 use Rattle.bpf_text.specs.Reader.Pieces.{operator_at, operation_named, target_at, label_at, cell_at}
 use Rattle.bpf_text.specs.Reader.Lines.{line_at, statement_at, register_at, operation_at, lock_at, branch_at, jump_at, jump_long_at, call_at, call_local_at, store_at}
 use Rattle.bpf_text.specs.Reader.Cutting.{in_line}
-use Rattle.bpf_text.specs.Assembly.{Source, IsLine, AreLines, Assembles, lines_of, onto, label_of, unlabelled, IsBody, first_place, meaning_of, program_of}
+use Rattle.bpf_text.specs.Assembly.{Source, IsLine, AreLines, Assembles, label_of, unlabelled, IsBody, first_place, meaning_of, program_of}
+use Rattle.bpf_text.specs.Lines.{lines_of}
+use Rattle.std.specs.List.{onto_first}
 use Rattle.bpf_text.proofs.Complete.{line_complete}
 use Rattle.bpf_text.proofs.Shown.{shown, form_in_line, is_apart, AreSmall, SmallInteger}
 
@@ -175,7 +177,7 @@ fed_line (b ∷ line) rest h =
       where
         by_test : (t : Bool) → b == 10 ≡ t → not t ≡ true → lines_of (b ∷ text) ≡ (b ∷ line) ∷ ls
         by_test true g h = cc
-        by_test false g h = rw g (ap (onto b) f)
+        by_test false g h = rw g (ap (onto_first b) f)
 
 all_lines : (is : List Insn) → AllFit is → AreLines (lines_of (canonical is)) (sources is)
 all_lines [] h = (end_reads, tt)

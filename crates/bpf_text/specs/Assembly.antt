@@ -12,20 +12,12 @@ use Rattle.bpf_text.specs.declared.labels.Place.{Place}
 use Rattle.bpf_text.specs.declared.reading.LineError.{LineError}
 use Rattle.bpf_text.specs.declared.reading.LineError.TheVariants.{BadLine, BadNumber}
 use Rattle.bpf_text.specs.declared.signs.Sign.TheVariants.{Colon}
+use Rattle.bpf_text.specs.Lines.{lines_of}
 use Rattle.bpf_text.specs.Token.{Tok, Mark}
 use Rattle.bpf_text.specs.Tokens.{IsTokens}
 use Rattle.bpf_text.specs.Line.{Written, IsSpelled, name_of}
 
 -- ---- lines
-
--- the lines of a text, cut at each line feed
-abbrev pub onto : ℕ → List (List ℕ) → List (List ℕ)
-onto b [] = (b ∷ []) ∷ []
-onto b (l ∷ ls) = (b ∷ l) ∷ ls
-
-abbrev pub lines_of : List ℕ → List (List ℕ)
-lines_of [] = [] ∷ []
-lines_of (b ∷ bs) = if b == 10 then [] ∷ lines_of bs else onto b (lines_of bs)
 
 -- the label that a line begins with, a name and a colon
 unfoldable pub label_of : List Tok → Option (List ℕ)

@@ -13,8 +13,8 @@ TextsAreDetermined =
     (text : List ℕ) (r q : Result (List Insn) TextError) → Assembles text r → Assembles text q
     → r ≡ q
 
--- words are those of one list alone, and that list's canonical text stands for it: the words of what
--- a text stands for are shown as a text that stands for the same
+-- words are those of one list alone, and that list's canonical text stands for it: the words of
+-- what a text stands for are shown as a text that stands for the same
 abbrev pub WordsAreShownAgain : Type 0
 WordsAreShownAgain =
     (bytes : List ℕ) (is js : List Insn) → IsEncodedAs is bytes → IsEncodedAs js bytes

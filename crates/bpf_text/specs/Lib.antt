@@ -5,6 +5,7 @@ pub mod Operators
 pub mod Token
 pub mod Words
 pub mod Tokens
+pub mod Lines
 pub mod Form
 pub mod Line
 pub mod Assembly

@@ -1,6 +1,6 @@
 -- Words: longest runs of letters, digits and underscores, and what each of them is (our own
 -- choice).
-use Rattle.std.specs.Prelude.{ℕ, Bool, false, ◌==◌, ◌&&◌, ◌||◌, nat_le, nat_lt, nat_eq, if◌then◌else◌, List, [], ◌∷◌, length, drop, find, Option, Some, None, codes}
+use Rattle.std.specs.Prelude.{ℕ, Bool, false, ◌==◌, ◌&&◌, ◌||◌, not, nat_le, nat_lt, nat_eq, if◌then◌else◌, List, [], ◌∷◌, length, drop, find, Option, Some, None, codes}
 use Rattle.std.specs.Char.{digit_value}
 use Rattle.std.specs.Str.Parse.{digits_value}
 use Rattle.std.specs.List.{starts_with, list_all}
@@ -43,7 +43,22 @@ unfoldable pub number_tok : List ℕ → Tok
 number_tok w =
     if starts_with nat_eq w (codes "0x") then numeral_tok 16 (drop 2 w) else numeral_tok 10 w
 
+abbrev pub number_in : Tok → Option ℕ
+number_in (Number n) = Some n
+number_in t = None
+
+-- the number that a word is, if it is one
+abbrev pub number_of : List ℕ → Option ℕ
+number_of w = number_in (number_tok w)
+
 -- ---- names
+
+abbrev pub is_word : List ℕ → Bool
+is_word w = nat_lt 0 (length w) && list_all is_word_byte w
+
+-- a word that doesn't begin with a digit
+abbrev pub is_name : List ℕ → Bool
+is_name w = is_word w && not (begins_with_digit w)
 
 unfoldable pub register_of : List ℕ → Option (Width × Reg)
 register_of w = find (λ r. bytes_eq (register_text r.0 r.1) w) REGISTERS

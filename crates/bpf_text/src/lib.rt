@@ -9,7 +9,7 @@ pub mod hex_text;
 mod keywords;
 mod labels;
 pub mod laws;
-mod lines;
+pub mod lines;
 mod meaning;
 mod numbers;
 mod operators;
@@ -20,7 +20,7 @@ mod signs;
 mod source;
 mod targets;
 mod token;
-mod words;
+pub mod words;
 
 pub use assembly::assemble;
 pub use disassembly::disassemble;

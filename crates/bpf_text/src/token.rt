@@ -27,7 +27,8 @@ pub enum Token<'a> {
     Junk,
 }
 
-fn is_blank(byte: u8) -> bool
+/// Space, tab or CR.
+pub fn is_blank(byte: u8) -> bool
     ensures { result ≡ is_blank byte }
 {
     matches!(byte, b' ' | b'\t' | b'\r')

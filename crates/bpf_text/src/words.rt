@@ -1,14 +1,16 @@
 //! What a word is: a register's name, a keyword, a number, or any other name.
 
-ghost use Rattle.std.specs.Prelude.{◌≡◌};
+ghost use Rattle.std.specs.Prelude.{◌≡◌, ◌≤◌, ◌^◌, Some, None, Err, IfOk, IsSomeAnd};
+ghost use Rattle.std.specs.List.{list_all};
 ghost use Rattle.std.specs.Option.{option_copied};
 ghost use Rattle.bpf_text.specs.Line.{name_of};
-ghost use Rattle.bpf_text.specs.Words.{is_word_byte, is_decimal_digit, begins_with_digit, number_tok, word_tok};
+ghost use Rattle.bpf_text.specs.Words.{is_word_byte, is_decimal_digit, begins_with_digit, number_tok, number_of, is_word, is_name, word_tok};
 ghost use Rattle.bpf_text.specs.Reader.Look.{look};
 
 use crate::numbers::{self, Radix};
 use crate::token::Token;
 use crate::{keywords, registers};
+use thiserror::Error;
 
 /// Whether the byte is a letter, a digit or an underscore.
 pub fn is_word_byte(byte: u8) -> bool
@@ -77,5 +79,48 @@ pub fn name<'a>(token: &Token<'a>) -> Option<&'a [u8]>
         Token::Word(keyword) => Some(keyword.text().as_bytes()),
         Token::Name(name) => Some(*name),
         Token::Number(..) | Token::Mark(_) | Token::Junk => None,
+    }
+}
+
+fn has_word_bytes(word: &[u8]) -> bool
+    ensures { result ≡ list_all is_word_byte word.now }
+{
+    word.iter().all(|b| is_word_byte(*b))
+}
+
+fn is_word(word: &[u8]) -> bool
+    ensures { result ≡ is_word word.now }
+{
+    !word.is_empty() && has_word_bytes(word)
+}
+
+/// Whether the bytes are a name: a word that doesn't begin with a digit.
+pub fn is_name(word: &[u8]) -> bool
+    ensures { result ≡ is_name word.now }
+{
+    is_word(word) && !begins_with_digit(word)
+}
+
+/// Why a word is no number of 64 bits.
+#[derive(Clone, Copy, PartialEq, Eq, Debug, Error)]
+pub enum NumberError {
+    #[error("not a number")]
+    NoNumber,
+    #[error("a number that 64 bits don't hold")]
+    TooLarge,
+}
+
+/// The number that a word is: decimal digits, or `0x` and hex digits.
+pub fn number(word: &[u8]) -> Result<u64, NumberError>
+    ensures number { IfOk result (λ n. number_of word.now ≡ Some n) }
+    ensures no_number { result ≡ Err NumberError.NoNumber → number_of word.now ≡ None }
+    ensures too_large { result ≡ Err NumberError.TooLarge → IsSomeAnd (number_of word.now) (λ n. 2 ^ 64 ≤ n) }
+{
+    match number_token(word) {
+        Token::Number(radix, digits) => match numbers::value(radix, digits) {
+            Some(number) => Ok(number),
+            None => Err(NumberError::TooLarge),
+        },
+        _ => Err(NumberError::NoNumber),
     }
 }

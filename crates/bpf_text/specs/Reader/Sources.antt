@@ -10,7 +10,8 @@ use Rattle.bpf_insn.specs.declared.instruction.Insn.{Insn}
 use Rattle.bpf_text.specs.declared.assembly.Kept.{Kept}
 use Rattle.bpf_text.specs.declared.error.TextError.{TextError}
 use Rattle.bpf_text.specs.declared.labels.Place.{Place}
-use Rattle.bpf_text.specs.Assembly.{Source, AreLines, lines_of, words_of, first_place, meaning_of, then_meaning}
+use Rattle.bpf_text.specs.Assembly.{Source, AreLines, words_of, first_place, meaning_of, then_meaning}
+use Rattle.bpf_text.specs.Lines.{lines_of}
 
 abbrev pub body_of : Body → Result (Option Written) LineError
 body_of Empty = Ok None
@@ -54,7 +55,8 @@ kept_program labels pc (k ∷ ks) =
     (kept_program labels (pc + words_of k.source.body) ks)
 
 -- a text's lines that say something, and the place of each label
-pub record Gathers (text : List ℕ) (labels : List ℕ → Option Place) (kept : List KeptLine) : Type 0 where
+pub record Gathers (text : List ℕ) (labels : List ℕ
+    → Option Place) (kept : List KeptLine) : Type 0 where
   pub sources : List Source
   pub lines : AreLines (lines_of text) sources
   pub places : (name : List ℕ) → labels name ≡ first_place sources 0 0 name
