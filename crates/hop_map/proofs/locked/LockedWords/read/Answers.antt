@@ -1,0 +1,11 @@
+use Rattle.std.proofs.Common.{ap, sym, subst, ◌∙◌}
+use Rattle.hop_words.specs.Layout.{mem}
+use Rattle.hop_words.specs.Locking.{lock_of}
+use Rattle.hop_words.specs.Guarded.{IsGuarded}
+use Rattle.hop_map.specs.Views.{Locked}
+use Rattle.hop_map.proofs.locked.LockedWords.read.Goals as goal
+
+pub returns-clause-value : goal.returns-clause-value
+returns-clause-value c = λ guarded.
+    c.read_guarded.ensures.word (subst (λ (x : Locked). IsGuarded x.about x.known c.args.place) (sym c.self.view_is) guarded)
+    ∙ ap (λ (x : Locked). mem x.about.shape (lock_of x.known).copy c.args.place) c.self.view_is

@@ -1,0 +1,224 @@
+//! The words of a locked segment.
+ghost use Rattle.std.specs.Prelude.{◌≡◌, ◌<◌, ◌≤◌, ◌↔◌, true, length, IsTrue};
+ghost use Rattle.bpf_shared.specs.Shape.{elements as elements_of};
+ghost use Rattle.hop_words.specs.Layout.{is_place, mem};
+ghost use Rattle.hop_words.specs.Ghost.{shape_at};
+ghost use Rattle.hop_words.specs.Locking.{lock_of};
+ghost use Rattle.hop_words.specs.Guarded.{IsGuarded, MayWrite};
+ghost use Rattle.hop_map.specs.Views.{IsNoKey, written, knows, Spells, Fits};
+
+use crate::numbers::{item, key_word, link_word};
+use hop_seg::{SegReads, SegWords};
+use hop_words::{HopTable, Lane, Place};
+use std::marker::Model;
+
+/// The words of a segment whose lock this CPU has.
+#[derive(Drop)]
+pub struct LockedWords<'a> {
+    table: &'a HopTable,
+    lane: Lane,
+    map: u8,
+    segment: u32,
+    key_size: usize,
+    elements: u32,
+}
+
+impl<'a> Model for LockedWords<'a> {
+    ghost use Rattle.hop_map.specs.Views.{Locked, Fits};
+
+    ghost Value = { Locked };
+
+    ghost view = { λ s. record { table = s.table.now.id; about = s.table.now.about; known = s.lane.known; map = s.map; segment = s.segment } };
+
+    ghost invariant = { λ s. Fits s.table.now.id s.table.now.about s.lane.table s.lane.known s.map s.segment s.key_size s.elements };
+}
+
+impl<'a> LockedWords<'a> {
+    /// The words of a segment that this CPU has locked, with the sizes of the map.
+    pub fn new(
+        table: &'a HopTable,
+        lane: Lane,
+        map: u8,
+        segment: u32,
+        key_size: usize,
+        elements: u32,
+    ) -> LockedWords<'a>
+        requires fits { Fits table.now.id table.now.about lane.table lane.known map segment key_size elements }
+        ensures table { result.table ≡ table.now.id }
+        ensures about { result.about ≡ table.now.about }
+        ensures known { result.known ≡ lane.known }
+        ensures map { result.map ≡ map }
+        ensures segment { result.segment ≡ segment }
+    {
+        let words = LockedWords {
+            table,
+            lane,
+            map,
+            segment,
+            key_size,
+            elements,
+        };
+        let _map = words.map;
+        words
+    }
+
+    fn read(&mut self, place: Place) -> u64
+        requires there { is_place self.old.about.shape place ≡ true }
+        ensures value { IsGuarded self.old.about self.old.known place →
+            result ≡ mem self.old.about.shape (lock_of self.old.known).copy place }
+        ensures same { self.new ≡ self.old }
+    {
+        self.lane.read_guarded(self.table, place)
+    }
+
+    fn write(&mut self, place: Place, number: u64)
+        requires there { is_place self.old.about.shape place ≡ true }
+        requires may { MayWrite self.old.about self.old.known place }
+        requires no_key { IsNoKey place }
+        ensures written { self.new ≡ written self.old place number }
+    {
+        self.lane.write_guarded(self.table, place, number);
+    }
+}
+
+impl<'a> LockedWords<'a> {
+    /// Whether an element's words are the key's.
+    fn spells(&mut self, element: u32, key: &[u8]) -> bool
+        requires inside { element < elements_of (shape_at self.old.about self.old.map) }
+        requires size { length key.now ≡ (shape_at self.old.about self.old.map).key }
+        requires small { length key.now ≤ 64 }
+        ensures value { knows self.old.known self.old.map element ≡ true →
+            IsTrue result ↔ Spells self.old.about self.old.known self.old.map element key.now }
+        ensures same { self.new ≡ self.old }
+    {
+        'words: for word in 0..key.len().div_ceil(8) {
+            let place = Place::KeyWord {
+                map: self.map,
+                element,
+                word: word as u32,
+            };
+            if self.read(place) != key_word(key, word) {
+                return false;
+            }
+        }
+        true
+    }
+}
+
+impl<'a> SegReads for LockedWords<'a> {
+    ghost use Rattle.std.specs.Prelude.{refl, ◌≡◌};
+    ghost use Rattle.std.proofs.Common.{◌∙◌, ap};
+    ghost use Rattle.hop_map.specs.Views.{words as shown_words};
+
+    ghost agrees = { λ x w. w ≡ shown_words x };
+
+    ghost rests = { λ x y. y ≡ x };
+
+    ghost rests_itself = { λ x. refl };
+
+    ghost rests_on = { λ x y z p q. q ∙ p };
+
+    ghost agreed_before = { λ x y w p a. a ∙ ap shown_words p };
+
+    fn elements(&self) -> u32 {
+        self.elements
+    }
+
+    fn hop(&mut self, bucket: usize) -> u32 {
+        let place = Place::Hop {
+            map: self.map,
+            segment: self.segment,
+            bucket: bucket as u32,
+        };
+        (self.read(place) % (1 << 32)) as u32
+    }
+
+    fn slot(&mut self, place: usize) -> Option<u32> {
+        let place = Place::Slot {
+            map: self.map,
+            segment: self.segment,
+            place: place as u32,
+        };
+        item(self.read(place))
+    }
+
+    fn head(&mut self) -> Option<u32> {
+        let place = Place::Head {
+            map: self.map,
+            segment: self.segment,
+        };
+        item(self.read(place))
+    }
+
+    fn next(&mut self, element: u32) -> Option<u32> {
+        if element >= self.elements {
+            return None;
+        }
+        let place = Place::Link {
+            map: self.map,
+            element,
+        };
+        item(self.read(place))
+    }
+
+    fn has_key(&mut self, element: u32, key: &[u8]) -> bool {
+        if element >= self.elements {
+            return false;
+        }
+        key.len() == self.key_size && self.spells(element, key)
+    }
+}
+
+impl<'a> SegWords for LockedWords<'a> {
+    ghost use Rattle.std.specs.Prelude.{refl, ◌≡◌};
+    ghost use Rattle.std.proofs.Common.{ap, sym, subst};
+    ghost use Rattle.hop_map.specs.Views.{words as shown_words, Stays, stays_itself as itself, stays_on as on};
+
+    ghost words = { shown_words };
+
+    ghost stays = { Stays };
+
+    ghost stays_itself = { itself };
+
+    ghost stays_on = { on };
+
+    ghost words_agree = { λ x. refl };
+
+    ghost words_rest = { λ x y p. ap shown_words p };
+
+    ghost stays_at_rest = { λ x y p. subst (Stays x) (sym p) (itself x) };
+
+    fn set_hop(&mut self, bucket: usize, bits: u32) {
+        let place = Place::Hop {
+            map: self.map,
+            segment: self.segment,
+            bucket: bucket as u32,
+        };
+        self.write(place, u64::from(bits));
+    }
+
+    fn set_slot(&mut self, place: usize, item: Option<u32>) {
+        let place = Place::Slot {
+            map: self.map,
+            segment: self.segment,
+            place: place as u32,
+        };
+        self.write(place, link_word(item));
+    }
+
+    fn set_head(&mut self, element: Option<u32>) {
+        let place = Place::Head {
+            map: self.map,
+            segment: self.segment,
+        };
+        self.write(place, link_word(element));
+    }
+
+    fn set_next(&mut self, element: u32, following: Option<u32>) {
+        let place = Place::Link {
+            map: self.map,
+            element,
+        };
+        self.write(place, link_word(following));
+    }
+}
