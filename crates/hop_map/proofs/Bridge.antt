@@ -1,5 +1,5 @@
 -- A segment's share of the keys, as the rule says it and as the segment's code does.
-use Rattle.std.proofs.Common.{◌≡◌, ◌≢◌, ℕ, zero, suc, ◌+◌, ◌*◌, ◌^◌, ◌/◌, ◌%◌, ◌<◌, ◌≤◌, ◌↔◌, Bool, true, false, ◌==◌, if◌then◌else◌, List, [], ◌∷◌, Option, Some, None, length, refl, ap, sym, subst, ◌∙◌, arith, eq-eqb, ne_eqb, ⊎_elim, inl, inr, ◌⊎◌}
+use Rattle.std.proofs.Common.{◌≡◌, ◌≢◌, ℕ, zero, suc, ◌+◌, ◌*◌, ◌^◌, ◌%◌, ◌<◌, ◌≤◌, Bool, true, false, ◌==◌, if◌then◌else◌, List, [], ◌∷◌, Option, Some, None, refl, ap, sym, subst, ◌∙◌, arith, eq-eqb, ⊎_elim, inl, inr}
 use Rattle.std.proofs.Math.Nat.{pow-succ'}
 use Rattle.std.specs.Int.{bit_at}
 use Rattle.std.proofs.lemmas.Bool.Decides.{nat_tests}
@@ -8,18 +8,18 @@ use Rattle.hop_words.specs.declared.known.About.{About}
 use Rattle.hop_words.specs.Layout.{power, depth}
 use Rattle.hop_words.specs.Homes.{segment_of, bucket_of}
 use Rattle.hop_map.specs.Views.{home}
-use Rattle.hop_words.specs.Content.{Words, item, times, one_if, HopsTo, Follows, IsOnList, Reached, HasKey, Sound, IsShare}
+use Rattle.hop_words.specs.Content.{Words, item, times, one_if, HopsTo, Follows, Reached, HasKey, IsShare}
 use Rattle.hop_words.specs.Ghost.{segment_in, shape_at}
-use Rattle.hop_words.specs.Rule.{put_key, key_is}
+use Rattle.hop_words.specs.Rule.{put_key}
 use Rattle.hop_words.proofs.Small.{equal_keys, key_self, key_apart}
 use Rattle.hop_words.proofs.Shares.{some_once, times_head, times_tail}
 use Rattle.hop_seg.specs.Places.{place_at, distance_to}
-use Rattle.hop_seg.specs.Words.{Words as SegWords, IsKnown}
-use Rattle.hop_seg.specs.Segment.{Sound as SegSound, Chain, Among, KeysDiffer, IsOwn, IsHopped, key_at, home_bucket}
-use Rattle.hop_seg.specs.Content.{IsPlaced, IsListed, IsLinked, HasPair, IsAbsent, Gains, Changes, Loses}
+use Rattle.hop_seg.specs.Words.{Words as SegWords}
+use Rattle.hop_seg.specs.Segment.{Sound as SegSound, Chain, Among, KeysDiffer, IsOwn, key_at, home_bucket}
+use Rattle.hop_seg.specs.Content.{IsPlaced, IsLinked, HasPair, IsAbsent, Gains, Changes}
 use Rattle.hop_seg.proofs.Basics.{distance-place, place-distance}
 use Rattle.hop_seg.proofs.Walking.{listed_among}
-use Rattle.hop_map.specs.Views.{view, spelled_key}
+use Rattle.hop_map.specs.Views.{view}
 use Rattle.hop_map.proofs.Keys.{spells}
 use Rattle.hop_map.proofs.Lows.{bit_low}
 

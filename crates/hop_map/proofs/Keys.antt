@@ -1,8 +1,8 @@
 -- The key that an element's words spell.
-use Rattle.std.proofs.Common.{◌≡◌, ◌≢◌, ℕ, zero, suc, ◌+◌, ◌*◌, ◌/◌, ◌<◌, ◌≤◌, ◌↔◌, List, [], ◌∷◌, length, take, slice_index, refl, ap, sym, subst, ◌∙◌, arith}
+use Rattle.std.proofs.Common.{◌≡◌, ℕ, suc, ◌<◌, ◌↔◌, List, [], ◌∷◌, length, take, slice_index, ap, sym, ◌∙◌, arith}
 use Rattle.hop_words.specs.declared.known.About.{About}
 use Rattle.hop_words.specs.Layout.{words_for}
-use Rattle.hop_words.specs.Homes.{spelled, word_of, AreBytes}
+use Rattle.hop_words.specs.Homes.{word_of, AreBytes}
 use Rattle.hop_words.specs.Content.{Words, HasKey}
 use Rattle.hop_words.specs.Ghost.{shape_at}
 use Rattle.hop_words.proofs.Small.{spelled_same, spelled_back}

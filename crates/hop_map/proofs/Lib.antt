@@ -5,3 +5,6 @@ pub mod Places
 pub mod Written
 pub mod Writings
 pub mod Bridge
+pub mod Counted
+pub mod Puts
+pub mod Locking

@@ -1,10 +1,10 @@
 -- Places of the shape.
-use Rattle.std.proofs.Common.{◌≡◌, ℕ, ◌<◌, nat_lt, Bool, true, ◌&&◌, length, refl, arith}
+use Rattle.std.proofs.Common.{◌≡◌, ℕ, ◌<◌, nat_lt, true, length, refl, arith}
 use Rattle.std.proofs.lemmas.Bool.Decides.{nat_tests}
 use Rattle.bpf_shared.specs.Shape.{elements}
-use Rattle.hop_words.specs.declared.place.Place.TheVariants.{KeyCount, FreeBits, Stamp, Head, Hop, Slot, Link, KeyWord, ValueWord}
+use Rattle.hop_words.specs.declared.place.Place.TheVariants.{KeyCount, Stamp, Head, Hop, Slot, Link, KeyWord}
 use Rattle.hop_words.specs.declared.known.About.{About}
-use Rattle.hop_words.specs.Layout.{is_place, segments, words_for, free_words}
+use Rattle.hop_words.specs.Layout.{is_place, segments, words_for}
 use Rattle.hop_words.specs.Ghost.{shape_at, IsSegment, IsElement}
 
 lt_true : (i n : ℕ) → i < n → nat_lt i n ≡ true

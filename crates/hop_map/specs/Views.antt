@@ -2,7 +2,7 @@
 use Rattle.std.specs.Prelude.{◌≡◌, ℕ, ◌+◌, ◌%◌, ◌^◌, ◌<◌, ◌≤◌, Bool, true, false, ◌||◌, ◌&&◌, ◌==◌, List, [], ◌∷◌, Option, Some, None, take, length}
 use Rattle.atomic_table.specs.Seated.{TableId}
 use Rattle.std.proofs.Common.{refl, ap, ◌∙◌}
-use Rattle.bpf_shared.specs.Shape.{Shape, elements}
+use Rattle.bpf_shared.specs.Shape.{elements}
 use Rattle.hop_words.specs.declared.known.About.{About}
 use Rattle.hop_words.specs.declared.known.Known.{Known}
 use Rattle.hop_words.specs.declared.known.Lock.{Lock}
@@ -12,7 +12,6 @@ use Rattle.hop_words.specs.declared.known.Change.TheVariants.{Nothing, Puts, Dro
 use Rattle.hop_words.specs.Layout.{depth, words_for, size, mem, same_place}
 use Rattle.hop_words.specs.declared.place.Place.{Place}
 use Rattle.hop_words.specs.declared.place.Place.TheVariants.{KeyWord}
-use Rattle.hop_words.specs.Step.{Steps}
 use Rattle.hop_words.specs.Homes.{spelled, word_of}
 use Rattle.hop_words.specs.Content.{Words, item, HasKey}
 use Rattle.hop_words.specs.Ghost.{shape_at, IsSegment}
@@ -20,7 +19,7 @@ use Rattle.hop_words.specs.Rule.{image}
 use Rattle.hop_words.specs.Kinds.{has, MayLink, writing}
 use Rattle.hop_words.specs.Home.{home_of}
 use Rattle.hop_words.specs.Locking.{lock_of}
-use Rattle.hop_seg.specs.Words.{Words as SegWords, Fixed}
+use Rattle.hop_seg.specs.Words.{Words as SegWords}
 
 -- the home of a key
 abbrev pub home : ℕ → ℕ → List ℕ → ℕ

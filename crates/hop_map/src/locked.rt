@@ -1,11 +1,14 @@
 //! The words of a locked segment.
-ghost use Rattle.std.specs.Prelude.{◌≡◌, ◌<◌, ◌≤◌, ◌↔◌, true, length, IsTrue};
+ghost use Rattle.std.specs.Prelude.{◌≡◌, ◌<◌, ◌≤◌, ◌+◌, ◌^◌, ◌↔◌, true, false, [], length, IsTrue, IsFalse};
 ghost use Rattle.bpf_shared.specs.Shape.{elements as elements_of};
 ghost use Rattle.hop_words.specs.Layout.{is_place, mem};
 ghost use Rattle.hop_words.specs.Ghost.{shape_at};
-ghost use Rattle.hop_words.specs.Locking.{lock_of};
+ghost use Rattle.hop_words.specs.Rule.{owed};
+ghost use Rattle.hop_words.specs.Kinds.{Inserted, IsAbsent, IsWritten, unlocking};
+ghost use Rattle.hop_words.specs.Locking.{lock_of, hand};
 ghost use Rattle.hop_words.specs.Guarded.{IsGuarded, MayWrite};
-ghost use Rattle.hop_map.specs.Views.{IsNoKey, written, knows, Spells, Fits};
+ghost use Rattle.hop_map.specs.Views.{IsNoKey, written, knows, Spells, Ready, Fits};
+ghost use Rattle.hop_map.specs.Calls.{Contents, Brings};
 
 use crate::numbers::{item, key_word, link_word};
 use hop_seg::{SegReads, SegWords};
@@ -60,6 +63,64 @@ impl<'a> LockedWords<'a> {
         };
         let _map = words.map;
         words
+    }
+
+    /// The new key counts, if the map has so many: from here on the element is the map's.
+    pub(crate) fn count_up(
+        &mut self,
+        element: u32,
+        key: &[u8],
+        value: &[u8],
+        flags: u64,
+        count: u64,
+    ) -> bool
+        requires contents { Contents self.old.about self.old.known self.old.map self.old.segment }
+        requires brings { Brings self.old.about self.old.known self.old.map self.old.segment
+            key.now value.now flags element }
+        requires absent { IsAbsent self.old.about (lock_of self.old.known) key.now }
+        requires room { count < (shape_at self.old.about self.old.map).max }
+        requires fits { count + 1 < 2 ^ 64 }
+        ensures done { let l = self.old.known in
+            IsTrue result → Inserted self.old.about l (lock_of l) (hand l) [] key.now value.now flags
+            self.new.known }
+        ensures missed { IsFalse result → self.new ≡ self.old }
+        ensures table { self.new.table ≡ self.old.table }
+        ensures about { self.new.about ≡ self.old.about }
+        ensures map { self.new.map ≡ self.old.map }
+        ensures segment { self.new.segment ≡ self.old.segment }
+    {
+        let _element = element;
+        self.lane
+            .count_up(self.table, self.map, count, key, value, flags)
+    }
+
+    /// Gives the lock back, after what took effect has been written.
+    pub(crate) fn unlock_written(self, stamp: u64) -> Lane
+        requires stamp { stamp ≡ (lock_of self.known).stamp }
+        requires fits { stamp + 256 < 2 ^ 64 }
+        requires owes { owed (lock_of self.known).change ≡ 1 }
+        requires written { Ready self.about self.known self.map self.segment →
+            IsWritten self.about (lock_of self.known) }
+        ensures table { result.table ≡ self.entry.table }
+        ensures known { result.known ≡ unlocking self.entry.known }
+    {
+        let (table, map, segment) = (self.table, self.map, self.segment);
+        let mut lane = self.lane;
+        lane.unlock_written(table, map, segment, stamp);
+        lane
+    }
+
+    /// Gives the lock back, where nothing has changed.
+    pub(crate) fn unlock_silent(self, stamp: u64) -> Lane
+        requires stamp { stamp ≡ (lock_of self.known).stamp }
+        requires clean { (lock_of self.known).dirty ≡ false }
+        ensures table { result.table ≡ self.entry.table }
+        ensures known { result.known ≡ unlocking self.entry.known }
+    {
+        let (table, map, segment) = (self.table, self.map, self.segment);
+        let mut lane = self.lane;
+        lane.unlock_silent(table, map, segment, stamp);
+        lane
     }
 
     fn read(&mut self, place: Place) -> u64

@@ -1,4 +1,4 @@
-use Rattle.std.proofs.Common.{rules, ◌≡◌, ◌<◌, ◌*◌, length, ℕ, suc, ◌+◌, ◌-◌, ◌≤◌, Bool, true, false, List, [], ◌∷◌, slice_index, ap, sym, subst, ◌∙◌, arith}
+use Rattle.std.proofs.Common.{◌≡◌, ◌<◌, ◌*◌, ℕ, ◌+◌, ◌-◌, slice_index, ap, sym, subst, ◌∙◌, arith}
 use Rattle.bpf_base.specs.Bytes.{little_endian, part}
 use Rattle.hop_map.proofs.Bytes.{cap, cap_most, word_step, word_none, cap_on, cap_up}
 use Rattle.hop_map.proofs.numbers.key_word.Goals as goal

@@ -1,4 +1,4 @@
-use Rattle.std.specs.Prelude.{◌≡◌, ◌<◌, ◌≤◌, ◌+◌, ◌*◌, ◌-◌}
+use Rattle.std.specs.Prelude.{◌≡◌, ◌<◌, ◌+◌, ◌*◌, ◌-◌}
 use Rattle.bpf_base.specs.Bytes.{little_endian, part}
 use Rattle.hop_map.proofs.Bytes.{cap}
 use Rattle.hop_map.proofs.numbers.key_word.Given as goal

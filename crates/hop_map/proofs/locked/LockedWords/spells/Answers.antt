@@ -1,4 +1,4 @@
-use Rattle.std.proofs.Common.{◌≡◌, ◌<◌, ◌≤◌, ◌↔◌, true, length, IsTrue, ℕ, ◌+◌, ◌-◌, ◌*◌, ◌/◌, Bool, false, List, ap, sym, subst, ◌∙◌, arith, ⊎_elim}
+use Rattle.std.proofs.Common.{◌≡◌, true, ℕ, ap, sym, subst, ◌∙◌, arith, ⊎_elim}
 use Rattle.hop_words.specs.declared.place.Place.{Place}
 use Rattle.hop_words.specs.declared.place.Place.TheVariants.{KeyWord}
 use Rattle.hop_words.specs.Layout.{mem}
@@ -18,9 +18,9 @@ returns-then-read-key_word-clause-value c = λ k.
     let kn = subst (λ (x : Locked). knows x.known x.map c.args.element ≡ true) (sym (c.self.view_is ∙ c.words.invariant.same)) k in
     let guarded = subst (λ (x : Locked). IsGuarded x.about x.known p) c.self.view_is (mine i.table.now.about i.lane.known i.map i.segment c.args.element c.self.invariant.ready kn) in
     let word : c.read.result ≡ mem x.about.shape (lock_of x.known).copy (KeyWord x.map c.args.element c.words.word) =
-        c.read.ensures.value guarded
-        ∙ (ap (λ (m : ℕ). mem c.words.self.about.shape (lock_of c.words.self.known).copy (KeyWord m c.args.element c.words.word)) (ap (λ (x : Locked). x.map) c.self.view_is)
-        ∙ ap (λ (x : Locked). mem x.about.shape (lock_of x.known).copy (KeyWord x.map c.args.element c.words.word)) c.words.invariant.same) in (
+    c.read.ensures.value guarded
+    ∙ (ap (λ (m : ℕ). mem c.words.self.about.shape (lock_of c.words.self.known).copy (KeyWord m c.args.element c.words.word)) (ap (λ (x : Locked). x.map) c.self.view_is)
+    ∙ ap (λ (x : Locked). mem x.about.shape (lock_of x.known).copy (KeyWord x.map c.args.element c.words.word)) c.words.invariant.same) in (
       λ h. cc,
       λ s. absurd (c.if-read-key_word.true
           (word ∙ (s c.words.word (let t = c.words-test.true in let e = c.div_ceil-word-end.ensures in let z = c.requires.size in omega arith) ∙ sym c.key_word.ensures))),
@@ -36,12 +36,12 @@ words-preserved c = record {
       let kn = subst (λ (x : Locked). knows x.known x.map c.args.element ≡ true) (sym (c.self.view_is ∙ c.words.invariant.same)) k in
       let guarded = subst (λ (x : Locked). IsGuarded x.about x.known p) c.self.view_is (mine i.table.now.about i.lane.known i.map i.segment c.args.element c.self.invariant.ready kn) in
       let word : c.read.result ≡ mem x.about.shape (lock_of x.known).copy (KeyWord x.map c.args.element c.words.word) =
-          c.read.ensures.value guarded
-          ∙ (ap (λ (m : ℕ). mem c.words.self.about.shape (lock_of c.words.self.known).copy (KeyWord m c.args.element c.words.word)) (ap (λ (x : Locked). x.map) c.self.view_is)
-          ∙ ap (λ (x : Locked). mem x.about.shape (lock_of x.known).copy (KeyWord x.map c.args.element c.words.word)) c.words.invariant.same) in
+      c.read.ensures.value guarded
+      ∙ (ap (λ (m : ℕ). mem c.words.self.about.shape (lock_of c.words.self.known).copy (KeyWord m c.args.element c.words.word)) (ap (λ (x : Locked). x.map) c.self.view_is)
+      ∙ ap (λ (x : Locked). mem x.about.shape (lock_of x.known).copy (KeyWord x.map c.args.element c.words.word)) c.words.invariant.same) in
       λ j l. ⊎_elim
-          (λ (e : j ≡ c.words.word). subst (λ (i : ℕ). mem x.about.shape (lock_of x.known).copy (KeyWord x.map c.args.element i) ≡ word_of c.args.key.now i) (sym e)
-          (sym word ∙ (c.if-read-key_word.false ∙ c.key_word.ensures)))
-          (λ ne. c.words.invariant.spelled k j (omega arith))
-          (equal j c.words.word);
+      (λ (e : j ≡ c.words.word). subst (λ (i : ℕ). mem x.about.shape (lock_of x.known).copy (KeyWord x.map c.args.element i) ≡ word_of c.args.key.now i) (sym e)
+      (sym word ∙ (c.if-read-key_word.false ∙ c.key_word.ensures)))
+      (λ ne. c.words.invariant.spelled k j (omega arith))
+      (equal j c.words.word);
 }

@@ -1,13 +1,12 @@
-use Rattle.std.proofs.Common.{◌≡◌, ap, sym, subst, ◌∙◌}
+use Rattle.std.proofs.Common.{ap, sym, subst, ◌∙◌}
 use Rattle.hop_words.specs.declared.place.Place.{Place}
-use Rattle.hop_words.specs.declared.place.Place.TheVariants.{Head, Hop, Slot, Link}
+use Rattle.hop_words.specs.declared.place.Place.TheVariants.{Slot}
 use Rattle.hop_words.specs.Layout.{mem}
 use Rattle.hop_words.specs.Content.{item}
 use Rattle.hop_words.specs.Locking.{lock_of}
 use Rattle.hop_words.specs.Guarded.{IsGuarded}
-use Rattle.hop_seg.specs.Words.{Words, IsKnown}
+use Rattle.hop_seg.specs.Words.{Words}
 use Rattle.hop_map.specs.Views.{Locked, words}
-use Rattle.hop_map.proofs.Written.{mine}
 use Rattle.hop_map.proofs.locked.LockedWordsSegReads.slot.Goals as goal
 
 pub returns-clause-value : goal.returns-clause-value

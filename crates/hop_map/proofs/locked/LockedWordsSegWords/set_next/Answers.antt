@@ -1,15 +1,13 @@
-use Rattle.std.proofs.Common.{◌≡◌, ◌<◌, ℕ, Option, true, ap, sym, subst, ◌∙◌}
-use Rattle.hop_words.specs.declared.place.Place.TheVariants.{Head, Hop, Slot, Link}
-use Rattle.hop_words.specs.Layout.{mem}
+use Rattle.std.proofs.Common.{◌≡◌, ◌<◌, ℕ, true, ap, sym, subst, ◌∙◌}
+use Rattle.hop_words.specs.declared.place.Place.TheVariants.{Link}
 use Rattle.bpf_shared.specs.Shape.{elements}
 use Rattle.hop_words.specs.Ghost.{shape_at}
-use Rattle.hop_words.specs.Content.{item}
-use Rattle.hop_seg.specs.Words.{with_hop, with_slot, with_head, with_next}
+use Rattle.hop_seg.specs.Words.{with_next}
 use Rattle.hop_map.specs.Views.{Locked, words, knows, written}
-use Rattle.hop_map.proofs.Places.{head_there, hop_there, slot_there, link_there}
+use Rattle.hop_map.proofs.Places.{link_there}
 use Rattle.hop_words.specs.Guarded.{IsMine}
 use Rattle.hop_map.proofs.Written.{mine}
-use Rattle.hop_map.proofs.Writings.{hop_set, slot_set, head_set, next_set}
+use Rattle.hop_map.proofs.Writings.{next_set}
 use Rattle.hop_map.proofs.locked.LockedWordsSegWords.set_next.Goals as goal
 
 pub write-requires-clause-may : goal.write-requires-clause-may

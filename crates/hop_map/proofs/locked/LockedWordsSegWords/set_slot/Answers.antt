@@ -1,13 +1,9 @@
-use Rattle.std.proofs.Common.{◌≡◌, ◌<◌, ℕ, Option, true, ap, sym, subst, ◌∙◌}
-use Rattle.hop_words.specs.declared.place.Place.TheVariants.{Head, Hop, Slot, Link}
-use Rattle.hop_words.specs.Layout.{mem}
-use Rattle.bpf_shared.specs.Shape.{elements}
-use Rattle.hop_words.specs.Ghost.{shape_at}
-use Rattle.hop_words.specs.Content.{item}
-use Rattle.hop_seg.specs.Words.{with_hop, with_slot, with_head, with_next}
-use Rattle.hop_map.specs.Views.{Locked, words, knows, written}
-use Rattle.hop_map.proofs.Places.{head_there, hop_there, slot_there, link_there}
-use Rattle.hop_map.proofs.Writings.{hop_set, slot_set, head_set, next_set}
+use Rattle.std.proofs.Common.{ℕ, ap, sym, ◌∙◌}
+use Rattle.hop_words.specs.declared.place.Place.TheVariants.{Slot}
+use Rattle.hop_seg.specs.Words.{with_slot}
+use Rattle.hop_map.specs.Views.{Locked, words, written}
+use Rattle.hop_map.proofs.Places.{slot_there}
+use Rattle.hop_map.proofs.Writings.{slot_set}
 use Rattle.hop_map.proofs.locked.LockedWordsSegWords.set_slot.Goals as goal
 
 pub returns-clause-words : goal.returns-clause-words

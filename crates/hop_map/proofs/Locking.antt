@@ -1,0 +1,102 @@
+-- What the lock tells is what the code of a segment needs.
+use Rattle.std.proofs.Common.{◌≡◌, ℕ, ◌<◌, Bool, true, false, ◌||◌, ◌==◌, List, [], refl, ap, sym, subst, ◌∙◌, inl, inr}
+use Rattle.bpf_shared.specs.Shape.{elements}
+use Rattle.hop_words.specs.declared.known.About.{About}
+use Rattle.hop_words.specs.declared.known.Known.{Known}
+use Rattle.hop_words.specs.declared.known.Fresh.{Fresh}
+use Rattle.hop_words.specs.Content.{Words, HasKey}
+use Rattle.hop_words.specs.Ghost.{shape_at, IsSegment, Each}
+use Rattle.hop_words.specs.Rule.{image, Begins}
+use Rattle.hop_words.specs.Kinds.{has, MayLink, Locked, locking, Saw, unlocking}
+use Rattle.hop_words.proofs.Layouts.{one, both}
+use Rattle.hop_words.specs.Locking.{lock_of, hand}
+use Rattle.hop_map.specs.Views.{Ready, knows, in_hand}
+use Rattle.hop_map.specs.Calls.{Contents, Brings, PutEnds}
+use Rattle.bpf_shared.specs.declared.events.Event.TheVariants.{Update}
+use Rattle.bpf_shared.specs.declared.events.MapAnswer.TheVariants.{Done}
+use Rattle.hop_map.specs.declared.put.Put.{Put}
+use Rattle.hop_map.specs.declared.put.Put.TheVariants.{Taken, There, Missed, Held}
+use Rattle.hop_map.specs.Locks.{Carries, Readies, PutTells, counted_lock}
+use Rattle.hop_map.proofs.Keys.{spells}
+
+module _ (a : About) (l : Known) (m s n : ℕ) (at_s : IsSegment a m s) (key : List ℕ) (element : ℕ) (c : Carries a l m key element) (l2 : Known) (t : Locked a l m s n l2) where
+  abbrev x : Words
+  x = image a t.words
+
+  abbrev locked : Known
+  locked = locking l m s n t.words t.known
+
+  own_key : HasKey (shape_at a m) x m element key
+  own_key =
+      let f : Begins (hand l).key (x.key (hand l).map (hand l).element) = (subst (Each (λ (f : Fresh). Begins f.key (x.key f.map f.element))) c.in_hand t.filled).0 in
+      (c.size, c.are_bytes, λ j lt. (λ i. x.key (sym c.map i) (sym c.number i) j) ∙ (f j (subst (λ (i : ℕ). j < i) (sym c.filled) lt) ∙ c.spelled j lt))
+
+  linked : (e : ℕ) → has e t.known ≡ true → MayLink a locked (lock_of locked) e × ((q : List ℕ) × HasKey (shape_at a m) x m e q)
+  linked e k =
+      let q = t.known_is e k in
+      let here = t.share.all q.1.0 e q.1.1 q.1.2 in (
+        (
+          q.0,
+          inr (λ before sh.
+              let w = sh.each e here.0 in
+              let same : w.0 ≡ q.1.0 = sym (spells a m x e w.0 w.1) ∙ spells a m x e q.1.0 here.1 in
+              (q.1.0, ap before (sym same) ∙ w.3, q.1.2)),
+        ),
+        (q.1.0, here.1),
+      )
+
+  mine : (e : ℕ) → in_hand l.fresh m e ≡ true → MayLink a locked (lock_of locked) e × ((q : List ℕ) × HasKey (shape_at a m) x m e q)
+  mine e k =
+      let both_are = both ((hand l).map == m) (e == (hand l).element) (subst (λ (fs : List Fresh). in_hand fs m e ≡ true) c.in_hand k) in
+      let same : element ≡ e = sym c.number ∙ sym (one e (hand l).element both_are.1) in (
+        (subst (λ (i : ℕ). i < elements (shape_at a m)) same c.inside, inl (hand l, [], c.in_hand, c.map, c.number ∙ same)),
+        (key, subst (λ (i : ℕ). HasKey (shape_at a m) x m i key) same own_key),
+      )
+
+  locked_known : (e : ℕ) → knows locked m e ≡ true → MayLink a locked (lock_of locked) e × ((q : List ℕ) × HasKey (shape_at a m) x m e q)
+  locked_known e k = go (has e t.known) refl
+    where
+      go : (b : Bool) → has e t.known ≡ b → MayLink a locked (lock_of locked) e × ((q : List ℕ) × HasKey (shape_at a m) x m e q)
+      go true h = linked e h
+      go false h = mine e (subst (λ (b : Bool). (b || (false || in_hand l.fresh m e)) ≡ true) h k)
+
+  pub locked_ready : Ready a l2 m s
+  locked_ready = subst (λ (l : Known). Ready a l m s) (sym t.after) (record { held = refl; map = refl; segment = refl; inside = at_s; sized = t.sized; known_is = locked_known })
+
+  contents : Contents a locked m s
+  contents = record { map = refl; segment = refl; content = t.content; share = t.share; all_known = t.is_known; copied = refl; nothing = refl; clean = refl; sized = t.sized }
+
+  pub locked_contents : Contents a l2 m s
+  locked_contents = subst (λ (l : Known). Contents a l m s) (sym t.after) contents
+
+module _ (a : About) (l : Known) (m s n : ℕ) (at_s : IsSegment a m s) (key bytes : List ℕ) (flags element : ℕ) (c : Readies a l m s key bytes flags element) (l2 : Known) (t : Locked a l m s n l2) where
+  pub locked_brings : Brings a l2 m s key bytes flags element
+  locked_brings = subst (λ (l : Known). Brings a l m s key bytes flags element) (sym t.after) (record {
+    in_hand = c.carries.in_hand;
+    map = c.carries.map;
+    number = c.carries.number;
+    inside = c.carries.inside;
+    home = c.home;
+    size = c.size;
+    are_bytes = c.are_bytes;
+    filled = c.filled;
+    value = c.value;
+    keyed = own_key a l m s n at_s key element c.carries l2 t;
+    flags_known = c.flags_known;
+    runs = c.runs;
+  })
+
+  pub stamp_is : n ≡ (lock_of l2).stamp
+  stamp_is = sym (ap (λ (l : Known). (lock_of l).stamp) t.after)
+
+  unlocked_is : unlocking l2 ≡ counted_lock l
+  unlocked_is = ap unlocking t.after ∙ (λ j. record (counted_lock l) { locks = sym c.idle j })
+
+  pub ends : (e : Put) (l3 : Known) → PutEnds a l2 m s key bytes flags e l3 → PutTells a l m key bytes flags e l3
+  ends Taken l3 p = record {
+    seen = (let w = subst (λ (q : Known). Saw a q (Update m key bytes flags Done) l3.seen) t.after p.seen in record { others = w.others; foreign = w.foreign; after = w.after; legal = w.legal });
+    after = p.after ∙ ap (λ (q : Known). record q { seen = l3.seen; fresh = []; locks = [] }) t.after;
+  }
+  ends (There e) l3 p = p.1 ∙ unlocked_is
+  ends Missed l3 p = p ∙ unlocked_is
+  ends Held l3 p = absurd p

@@ -1,0 +1,48 @@
+-- What a call has before the lock, and right after it.
+use Rattle.std.specs.Prelude.{◌≡◌, ℕ, ◌+◌, ◌<◌, true, List, [], ◌∷◌, length, slice_index}
+use Rattle.bpf_shared.specs.Shape.{elements}
+use Rattle.hop_words.specs.declared.known.About.{About}
+use Rattle.hop_words.specs.declared.known.Known.{Known}
+use Rattle.hop_words.specs.Layout.{words_for}
+use Rattle.bpf_shared.specs.History.{events_of}
+use Rattle.hop_words.specs.Homes.{segment_of, word_of, AreBytes}
+use Rattle.hop_words.specs.Ghost.{shape_at}
+use Rattle.hop_words.specs.Kinds.{in_run}
+use Rattle.hop_map.specs.declared.put.Put.{Put}
+use Rattle.hop_map.specs.declared.put.Put.TheVariants.{Taken, There, Missed, Held}
+use Rattle.hop_words.specs.Locking.{hand}
+use Rattle.hop_map.specs.Calls.{Took}
+
+-- the lane has one element in hand, filled with a key
+pub record Carries (a : About) (l : Known) (m : ℕ) (key : List ℕ) (element : ℕ) : Type 0 where
+  pub in_hand : l.fresh ≡ hand l ∷ []
+  pub map : (hand l).map ≡ m
+  pub number : (hand l).element ≡ element
+  pub inside : element < elements (shape_at a m)
+  pub size : length key ≡ (shape_at a m).key
+  pub are_bytes : AreBytes key
+  pub filled : length (hand l).key ≡ words_for (shape_at a m).key
+  pub spelled : (i : ℕ) → i < words_for (shape_at a m).key → slice_index (hand l).key i ≡ word_of key i
+
+-- also with a value, for a call in a run
+pub record Readies (a : About) (l : Known) (m s : ℕ) (key bytes : List ℕ) (flags element : ℕ) : Type 0 where
+  pub carries : Carries a l m key element
+  pub home : segment_of a.seed (shape_at a m) key ≡ s
+  pub size : length bytes ≡ (shape_at a m).value
+  pub are_bytes : AreBytes bytes
+  pub filled : length (hand l).value ≡ words_for (shape_at a m).value
+  pub value : (i : ℕ) → i < words_for (shape_at a m).value → slice_index (hand l).value i ≡ word_of bytes i
+  pub flags_known : flags < 2
+  pub runs : in_run (events_of l.cpu l.seen) ≡ true
+  pub idle : l.locks ≡ []
+
+-- one lock more was counted
+abbrev pub counted_lock : Known → Known
+counted_lock l = record l { tally = record l.tally { locks = l.tally.locks + 1 } }
+
+-- how a put ends: with the one event, or with none
+abbrev pub PutTells : About → Known → ℕ → List ℕ → List ℕ → ℕ → Put → Known → Type 0
+PutTells a l m key bytes flags Taken l2 = Took a (counted_lock l) m key bytes flags l2
+PutTells a l m key bytes flags (There e) l2 = l2 ≡ counted_lock l
+PutTells a l m key bytes flags Missed l2 = l2 ≡ counted_lock l
+PutTells a l m key bytes flags Held l2 = l2 ≡ l
