@@ -9,10 +9,8 @@ use Rattle.hop_words.specs.Content.{words_of, item}
 use Rattle.hop_words.proofs.Layouts.{wrote}
 use Rattle.hop_seg.specs.Words.{Words as SegWords, with_hop, with_slot, with_head, with_next, put}
 use Rattle.hop_words.specs.Locking.{lock_of}
+use Rattle.hop_map.specs.Keeping.{stays_itself}
 use Rattle.hop_map.specs.Views.{Locked, Ready, Stays, knows, view, words, written, link_word}
-
-pub stays_itself : (x : Locked) → Stays x x
-stays_itself x = record { table = refl; about = refl; map = refl; segment = refl; known = refl; lock = refl }
 
 pub stays_same : (x y : Locked) → y ≡ x → Stays x y
 stays_same x y e = subst (Stays x) (sym e) (stays_itself x)

@@ -23,14 +23,17 @@ pub record Contents (a : About) (l : Known) (m s : ℕ) : Type 0 where
   pub segment : (lock_of l).segment ≡ s
   pub content : List ℕ → Option ℕ
   pub share : IsShare a.seed (shape_at a m) (segment_in a m) (image a (lock_of l).first) m s content
-  pub all_known : (key : List ℕ) (e : ℕ) → content key ≡ Some e → segment_of a.seed (shape_at a m) key ≡ s → (e < elements (shape_at a m)) × (has e (lock_of l).known ≡ true)
+  pub all_known : (key : List ℕ) (e : ℕ) → content key ≡ Some e →
+      segment_of a.seed (shape_at a m) key ≡ s →
+      (e < elements (shape_at a m)) × (has e (lock_of l).known ≡ true)
   pub copied : (lock_of l).copy ≡ (lock_of l).first
   pub nothing : (lock_of l).change ≡ Nothing
   pub clean : (lock_of l).dirty ≡ false
   pub sized : length (lock_of l).copy ≡ size a.shape
 
 -- the lane has an element in hand, filled with a key of this segment and a value
-pub record Brings (a : About) (l : Known) (m s : ℕ) (key bytes : List ℕ) (flags element : ℕ) : Type 0 where
+pub record Brings (a : About) (l : Known) (m s : ℕ) (key bytes : List ℕ) (flags element : ℕ) :
+    Type 0 where
   pub in_hand : l.fresh ≡ hand l ∷ []
   pub map : (hand l).map ≡ m
   pub number : (hand l).element ≡ element
@@ -39,13 +42,15 @@ pub record Brings (a : About) (l : Known) (m s : ℕ) (key bytes : List ℕ) (fl
   pub size : length bytes ≡ (shape_at a m).value
   pub are_bytes : AreBytes bytes
   pub filled : length (hand l).value ≡ words_for (shape_at a m).value
-  pub value : (i : ℕ) → i < words_for (shape_at a m).value → slice_index (hand l).value i ≡ word_of bytes i
+  pub value : (i : ℕ) → i < words_for (shape_at a m).value →
+      slice_index (hand l).value i ≡ word_of bytes i
   pub keyed : HasKey (shape_at a m) (image a (lock_of l).first) m element key
   pub flags_known : flags < 2
   pub runs : in_run (events_of l.cpu l.seen) ≡ true
 
 -- the new element's event, and all else as it was
-pub record Took (a : About) (l : Known) (m : ℕ) (key bytes : List ℕ) (flags : ℕ) (l2 : Known) : Type 0 where
+pub record Took (a : About) (l : Known) (m : ℕ) (key bytes : List ℕ) (flags : ℕ) (l2 : Known) :
+    Type 0 where
   pub seen : Saw a l (Update m key bytes flags Done) l2.seen
   pub after : l2 ≡ record l { seen = l2.seen; fresh = []; locks = [] }
 

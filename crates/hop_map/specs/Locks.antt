@@ -22,16 +22,19 @@ pub record Carries (a : About) (l : Known) (m : ℕ) (key : List ℕ) (element :
   pub size : length key ≡ (shape_at a m).key
   pub are_bytes : AreBytes key
   pub filled : length (hand l).key ≡ words_for (shape_at a m).key
-  pub spelled : (i : ℕ) → i < words_for (shape_at a m).key → slice_index (hand l).key i ≡ word_of key i
+  pub spelled : (i : ℕ) → i < words_for (shape_at a m).key →
+      slice_index (hand l).key i ≡ word_of key i
 
 -- also with a value, for a call in a run
-pub record Readies (a : About) (l : Known) (m s : ℕ) (key bytes : List ℕ) (flags element : ℕ) : Type 0 where
+pub record Readies (a : About) (l : Known) (m s : ℕ) (key bytes : List ℕ) (flags element : ℕ) :
+    Type 0 where
   pub carries : Carries a l m key element
   pub home : segment_of a.seed (shape_at a m) key ≡ s
   pub size : length bytes ≡ (shape_at a m).value
   pub are_bytes : AreBytes bytes
   pub filled : length (hand l).value ≡ words_for (shape_at a m).value
-  pub value : (i : ℕ) → i < words_for (shape_at a m).value → slice_index (hand l).value i ≡ word_of bytes i
+  pub value : (i : ℕ) → i < words_for (shape_at a m).value →
+      slice_index (hand l).value i ≡ word_of bytes i
   pub flags_known : flags < 2
   pub runs : in_run (events_of l.cpu l.seen) ≡ true
   pub idle : l.locks ≡ []

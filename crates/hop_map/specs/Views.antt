@@ -1,7 +1,6 @@
 -- What the code of one segment sees of the shared words.
 use Rattle.std.specs.Prelude.{◌≡◌, ℕ, ◌+◌, ◌%◌, ◌^◌, ◌<◌, ◌≤◌, Bool, true, false, ◌||◌, ◌&&◌, ◌==◌, List, [], ◌∷◌, Option, Some, None, take, length}
 use Rattle.atomic_table.specs.Seated.{TableId}
-use Rattle.std.proofs.Common.{refl, ap, ◌∙◌}
 use Rattle.bpf_shared.specs.Shape.{elements}
 use Rattle.hop_words.specs.declared.known.About.{About}
 use Rattle.hop_words.specs.declared.known.Known.{Known}
@@ -68,7 +67,9 @@ pub record Ready (a : About) (l : Known) (m s : ℕ) : Type 0 where
   pub segment : (lock_of l).segment ≡ s
   pub inside : IsSegment a m s
   pub sized : length (lock_of l).copy ≡ size a.shape
-  pub known_is : (e : ℕ) → knows l m e ≡ true → MayLink a l (lock_of l) e × ((key : List ℕ) × HasKey (shape_at a m) (image a (lock_of l).copy) m e key)
+  pub known_is : (e : ℕ) → knows l m e ≡ true →
+      MayLink a l (lock_of l) e ×
+      ((key : List ℕ) × HasKey (shape_at a m) (image a (lock_of l).copy) m e key)
 
 -- a locked segment as its users see it
 pub record Locked : Type 0 where
@@ -91,10 +92,12 @@ pub record Stays (x y : Locked) : Type 0 where
   pub map : y.map ≡ x.map
   pub segment : y.segment ≡ x.segment
   pub known : y.known ≡ record x.known { locks = y.known.locks }
-  pub lock : lock_of y.known ≡ record (lock_of x.known) { copy = (lock_of y.known).copy; dirty = (lock_of y.known).dirty }
+  pub lock : lock_of y.known ≡
+      record (lock_of x.known) { copy = (lock_of y.known).copy; dirty = (lock_of y.known).dirty }
 
 -- the parts fit
-pub record Fits (id : TableId) (a : About) (standing : TableId) (l : Known) (m s key_size count : ℕ) : Type 0 where
+pub record Fits (id : TableId) (a : About) (standing : TableId) (l : Known)
+    (m s key_size count : ℕ) : Type 0 where
   pub seated : standing ≡ id
   pub keyed : key_size ≡ (shape_at a m).key
   pub small : key_size ≤ 64
@@ -113,19 +116,8 @@ abbrev pub link_word : Option ℕ → ℕ
 link_word None = 0
 link_word (Some e) = e + 1
 
-pub stays_itself : (x : Locked) → Stays x x
-stays_itself x = record { table = refl; about = refl; map = refl; segment = refl; known = refl; lock = refl }
-
-pub stays_on : (x y z : Locked) → Stays x y → Stays y z → Stays x z
-stays_on x y z p q = record {
-  table = q.table ∙ p.table;
-  about = q.about ∙ p.about;
-  map = q.map ∙ p.map;
-  segment = q.segment ∙ p.segment;
-  known = q.known ∙ ap (λ (l : Known). record l { locks = z.known.locks }) p.known;
-  lock = q.lock ∙ ap (λ (k : Lock). record k { copy = (lock_of z.known).copy; dirty = (lock_of z.known).dirty }) p.lock;
-}
-
 -- the element's words are the key's
 abbrev pub Spells : About → Known → ℕ → ℕ → List ℕ → Type 0
-Spells a l m e key = (j : ℕ) → j < words_for (shape_at a m).key → mem a.shape (lock_of l).copy (KeyWord m e j) ≡ word_of key j
+Spells a l m e key =
+    (j : ℕ) → j < words_for (shape_at a m).key →
+    mem a.shape (lock_of l).copy (KeyWord m e j) ≡ word_of key j

@@ -31,9 +31,16 @@ impl<'a> Model for LockedWords<'a> {
 
     ghost Value = { Locked };
 
-    ghost view = { λ s. record { table = s.table.now.id; about = s.table.now.about; known = s.lane.known; map = s.map; segment = s.segment } };
+    ghost view = { λ s. record {
+      table = s.table.now.id;
+      about = s.table.now.about;
+      known = s.lane.known;
+      map = s.map;
+      segment = s.segment;
+    } };
 
-    ghost invariant = { λ s. Fits s.table.now.id s.table.now.about s.lane.table s.lane.known s.map s.segment s.key_size s.elements };
+    ghost invariant = { λ s. Fits s.table.now.id s.table.now.about s.lane.table s.lane.known
+        s.map s.segment s.key_size s.elements };
 }
 
 impl<'a> LockedWords<'a> {
@@ -46,7 +53,8 @@ impl<'a> LockedWords<'a> {
         key_size: usize,
         elements: u32,
     ) -> LockedWords<'a>
-        requires fits { Fits table.now.id table.now.about lane.table lane.known map segment key_size elements }
+        requires fits { Fits table.now.id table.now.about lane.table lane.known
+            map segment key_size elements }
         ensures table { result.table ≡ table.now.id }
         ensures about { result.about ≡ table.now.about }
         ensures known { result.known ≡ lane.known }
@@ -233,7 +241,8 @@ impl<'a> SegReads for LockedWords<'a> {
 impl<'a> SegWords for LockedWords<'a> {
     ghost use Rattle.std.specs.Prelude.{refl, ◌≡◌};
     ghost use Rattle.std.proofs.Common.{ap, sym, subst};
-    ghost use Rattle.hop_map.specs.Views.{words as shown_words, Stays, stays_itself as itself, stays_on as on};
+    ghost use Rattle.hop_map.specs.Views.{words as shown_words, Stays};
+    ghost use Rattle.hop_map.specs.Keeping.{stays_itself as itself, stays_on as on};
 
     ghost words = { shown_words };
 
