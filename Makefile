@@ -7,9 +7,10 @@ build: ## Build the proved program as ./ebpf
 	cd crates/bpf_run && rt run -- --version </dev/null
 	cp crates/bpf_run/out/bpf_run ebpf
 
+# rt ci sets aside what was built before, and leaves the program that it proved, built and ran: the cases take that one.
 test: ## The whole gate: every proof, every must-fail edit, every test, then the cases, and refused memory
 	rt ci
-	$(MAKE) build
+	install -m 755 crates/bpf_run/out/bpf_run ebpf
 	tests/segments.py --check
 	tests/run ./ebpf
 	tests/memory ./ebpf

@@ -17,6 +17,7 @@ use Rattle.clap.specs.declared.parser.matches.ValueSource.TheVariants.{CommandLi
 use Rattle.clap.proofs.ValueTestLemmas.{accepts-Accepts}
 use Rattle.bpf_command.specs.declared.command.TheConstants.{MAX_BUDGET}
 use Rattle.bpf_command.specs.CommandLine.{HasBudget, budget, context, ebpf, hex}
+use Rattle.bpf_command.proofs.Subcommands.{parts_free, stop_of}
 use Rattle.bpf_command.proofs.Walks.{Keeps, first_free, last_free, settle_kept, walk_kept}
 
 abbrev InRange : Text → Type 0
@@ -220,16 +221,4 @@ entered_budget (Some p) e =
     ((λ words e is. hex_budget words e), ((λ words e is. absurd (other_name (codes "asm") refl is)), ((λ words e is. absurd (other_name (codes "disasm") refl is)), tt))) e
 
 pub budget_known : (words : List Text) → fault_of ebpf words ≡ [] → IfSome (subcommand_of ebpf words) BudgetKnown
-budget_known words e =
-    let top = (built ebpf).top in
-    let names = names_of (built ebpf) in
-    let given = argument_words ebpf words in
-    let stop = stop_after top.rules names given in
-    let end = (walk top.rules names nothing_held given).held in
-    let last = check_fault top (finished top.rules end) (is_some (entered (built ebpf) stop)) in
-    let fourth = defaults_fault (settled top.rules end).rows top.rules in
-    let third = settle_fault top.rules top.args_override_self end in
-    let second = entered_fault (built ebpf) stop in
-    let first = walk_fault top names (walk_from nothing_held) given in
-    let after_first = last_free first (or_else second (or_else third (or_else fourth last))) e in
-    entered_budget stop (first_free second (or_else third (or_else fourth last)) after_first)
+budget_known words e = entered_budget (stop_of words) (parts_free words e).0

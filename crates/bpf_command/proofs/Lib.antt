@@ -1,4 +1,4 @@
 pub mod OptionRows
-pub mod Subcommands
 pub mod Walks
+pub mod Subcommands
 pub mod Budget

@@ -1,10 +1,10 @@
 -- Where `clap` finds no fault, the words name one of the program's three commands.
 use Rattle.std.proofs.Common.{◌≡◌, List, [], ◌∷◌, Bool, true, false, Option, Some, None, option_map, is_some, refl, inl, inr, cond}
 use Rattle.std.specs.Prelude.{IsSomeAnd, find}
-use Rattle.clap.specs.Kinds.{or_else}
+use Rattle.clap.specs.Kinds.{Kinds, or_else}
 use Rattle.clap.specs.Simple.{Shape, argument_words, built, entered, label_of, names_of, rows_at, subcommand_rows}
 use Rattle.clap.specs.Faults.{check_fault, defaults_fault, entered_fault, settle_fault, walk_fault}
-use Rattle.clap.specs.Walk.{Row, Text, answers_to, finished, nothing_held, settled, stop_after, walk, walk_from}
+use Rattle.clap.specs.Walk.{Held, Row, Text, answers_to, finished, nothing_held, settled, stop_after, walk, walk_from}
 use Rattle.clap.specs.Words.{fault_of, subcommand_name_of, subcommand_of, subcommand_rows_of}
 use Rattle.clap.specs.declared.parser.matches.ArgMatches.{ArgMatches}
 use Rattle.clap.specs.declared.parser.matches.ArgMatches.TheViews.{out-ArgMatches, out-SubCommand}
@@ -12,7 +12,7 @@ use Rattle.clap.specs.declared.parser.matches.SubCommand.{SubCommand}
 use Rattle.std.specs.Prelude.{Box}
 use Rattle.std.specs.Box.{box_value}
 use Rattle.bpf_command.specs.CommandLine.{IsCommandName, ebpf}
-use Rattle.bpf_command.proofs.Walks.{last_free}
+use Rattle.bpf_command.proofs.Walks.{first_free, last_free}
 
 abbrev pub NamesKnown : Option (Text × List Row) → Type 0
 NamesKnown found = IsSomeAnd found (λ p. IsCommandName p.0)
@@ -40,22 +40,33 @@ has_command : (rows : List Row) (b : Bool) → check_fault (built ebpf).top rows
 has_command rows true e = refl
 has_command rows false e = cc
 
-pub names_known : (words : List Text) → fault_of ebpf words ≡ [] → NamesKnown (subcommand_of ebpf words)
-names_known words e =
+-- where the walk over the program's own words stops: the subcommand and its words
+abbrev pub stop_of : List Text → Option (Text × List Text)
+stop_of words = stop_after (built ebpf).top.rules (names_of (built ebpf)) (argument_words ebpf words)
+
+abbrev end_of : List Text → Held
+end_of words = (walk (built ebpf).top.rules (names_of (built ebpf)) nothing_held (argument_words ebpf words)).held
+
+abbrev last_check : List Text → Kinds
+last_check words = check_fault (built ebpf).top (finished (built ebpf).top.rules (end_of words)) (is_some (entered (built ebpf) (stop_of words)))
+
+-- words with no fault have none in the subcommand, and none that the last check finds
+pub parts_free : (words : List Text) → fault_of ebpf words ≡ [] → (entered_fault (built ebpf) (stop_of words) ≡ []) × (last_check words ≡ [])
+parts_free words e =
     let top = (built ebpf).top in
-    let names = names_of (built ebpf) in
-    let given = argument_words ebpf words in
-    let stop = stop_after top.rules names given in
-    let end = (walk top.rules names nothing_held given).held in
-    let last = check_fault top (finished top.rules end) (is_some (entered (built ebpf) stop)) in
-    let fourth = defaults_fault (settled top.rules end).rows top.rules in
-    let third = settle_fault top.rules top.args_override_self end in
-    let second = entered_fault (built ebpf) stop in
-    let first = walk_fault top names (walk_from nothing_held) given in
+    let last = last_check words in
+    let fourth = defaults_fault (settled top.rules (end_of words)).rows top.rules in
+    let third = settle_fault top.rules top.args_override_self (end_of words) in
+    let second = entered_fault (built ebpf) (stop_of words) in
+    let first = walk_fault top (names_of (built ebpf)) (walk_from nothing_held) (argument_words ebpf words) in
     let after_first = last_free first (or_else second (or_else third (or_else fourth last))) e in
     let after_second = last_free second (or_else third (or_else fourth last)) after_first in
     let after_third = last_free third (or_else fourth last) after_second in
-    entered_known stop (has_command (finished top.rules end) (is_some (entered (built ebpf) stop)) (last_free fourth last after_third))
+    (first_free second (or_else third (or_else fourth last)) after_first, last_free fourth last after_third)
+
+pub names_known : (words : List Text) → fault_of ebpf words ≡ [] → NamesKnown (subcommand_of ebpf words)
+names_known words e =
+    entered_known (stop_of words) (has_command (finished (built ebpf).top.rules (end_of words)) (is_some (entered (built ebpf) (stop_of words))) (parts_free words e).1)
 
 -- the same of the name that the matches have
 pub name_known : (m : ArgMatches) (words : List Text) → fault_of ebpf words ≡ [] → subcommand_rows_of m ≡ subcommand_of ebpf words → IsSomeAnd (subcommand_name_of m) IsCommandName

@@ -52,7 +52,8 @@ IsCommandName name = (name ≡ codes "hex") ⊎ ((name ≡ codes "asm") ⊎ (nam
 -- what is found of `--budget`: a number in the range, and the default where it isn't given
 abbrev pub HasBudget : List Row → Type 0
 HasBudget rows = IsSomeAnd (one_of (codes "budget") rows) (IsUnsignedIn 0 MAX_BUDGET)
-    × (is_given (codes "budget") rows ≡ false → one_of (codes "budget") rows ≡ Some (codes "1000000"))
+    × (is_given (codes "budget") rows ≡ false
+    → one_of (codes "budget") rows ≡ Some (codes "1000000"))
 
 -- the budget that a text names: a number in the range, in decimal digits
 abbrev pub IsBudget : Option Text → ℕ → Type 0

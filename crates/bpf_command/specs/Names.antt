@@ -1,23 +1,24 @@
 -- The command that words name, or why they name none. Our own choice.
 use Rattle.std.specs.Prelude.{◌≡◌, ◌<◌, ◌≤◌, ℕ, List, Option, Some, None, Ok, IfOk, IsSomeAnd, codes, [], length}
+use Rattle.bpf_mem.specs.Limits.{max_context}
 use Rattle.hex.specs.Hex.{decode_of}
 use Rattle.clap.specs.Kinds.{IsAmong}
 use Rattle.clap.specs.Words.{Row, Text, fault_of, first_of, kind_of, subcommand_of}
 use Rattle.bpf_command.specs.CommandLine.{NamesBudget, ebpf}
 use Rattle.bpf_command.specs.declared.command.Command.{Command}
 use Rattle.bpf_command.specs.declared.command.Command.TheVariants as command
-use Rattle.bpf_command.specs.declared.command.TheConstants.{MAX_CONTEXT}
 use Rattle.bpf_command.specs.declared.command_line.CommandError.{CommandError}
 use Rattle.bpf_command.specs.declared.command_line.CommandError.TheVariants as error
 
 -- the context's bytes, two hex digits each; none where the option is left out
 abbrev pub IsContext : Option Text → List ℕ → Type 0
 IsContext None bytes = bytes ≡ []
-IsContext (Some digits) bytes = (decode_of digits ≡ Ok bytes) × (length bytes ≤ MAX_CONTEXT)
+IsContext (Some digits) bytes = (decode_of digits ≡ Ok bytes) × (length bytes ≤ max_context)
 
 -- the digits are refused as a context; want of memory may stand in place of any answer
 abbrev pub RefusesContext : Option Text → CommandError → Type 0
-RefusesContext (Some digits) error.NotHex = IfOk (decode_of digits) (λ bytes. MAX_CONTEXT < length bytes)
+RefusesContext (Some digits) error.NotHex =
+    IfOk (decode_of digits) (λ bytes. max_context < length bytes)
 RefusesContext _ error.OutOfMemory = Unit {0}
 RefusesContext _ _ = ⊥
 

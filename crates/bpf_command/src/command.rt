@@ -1,13 +1,11 @@
 //! What the program can be asked for.
 
 ghost use Rattle.std.specs.Prelude.{◌≤◌, vec_len};
-ghost use Rattle.bpf_command.specs.declared.command.TheConstants.{MAX_BUDGET, MAX_CONTEXT};
+ghost use Rattle.bpf_mem.specs.Limits.{max_context};
+ghost use Rattle.bpf_command.specs.declared.command.TheConstants.{MAX_BUDGET};
 
 /// The greatest number of steps that may be asked for.
 pub const MAX_BUDGET: u64 = 1_000_000_000;
-
-/// The greatest number of bytes of a context.
-pub const MAX_CONTEXT: usize = 4096;
 
 /// The options of `hex`, in their ranges.
 #[derive(PartialEq, Eq, Debug, Drop)]
@@ -16,7 +14,7 @@ pub struct RunOptions {
     pub budget: u64,
     pub context: Vec<u8>,
     ghost limited: { budget ≤ MAX_BUDGET },
-    ghost small: { vec_len context ≤ MAX_CONTEXT },
+    ghost small: { vec_len context ≤ max_context },
 }
 
 /// A command with its options.

@@ -6,8 +6,9 @@ ghost use Rattle.clap.specs.Words.{fault_of, first_of, first_value, found_of, ro
 ghost use Rattle.bpf_command.specs.CommandLine.{ebpf, HasBudget, IsCommandName, NamesBudget};
 ghost use Rattle.bpf_command.specs.Names.{IsContext, Names, Refuses, RefusesContext};
 
-use crate::command::{Command, MAX_BUDGET, MAX_CONTEXT, RunOptions};
+use crate::command::{Command, MAX_BUDGET, RunOptions};
 use crate::options::ebpf_command;
+use bpf_mem::context::MAX_CONTEXT;
 use clap::ArgMatches;
 use clap::error::ErrorKind;
 use hex::FromHexError;
@@ -73,8 +74,10 @@ fn context_bytes(alloc: Global, digits: &str) -> Result<Vec<u8>, CommandError>
 }
 
 fn context_of(alloc: Global, options: &ArgMatches) -> Result<Vec<u8>, CommandError>
-    ensures given { IfOk result (λ v. IsContext (first_value (found_of options.now) (codes "ctx")) v.items) }
-    ensures refused { IfErr result (RefusesContext (first_value (found_of options.now) (codes "ctx"))) }
+    ensures given { IfOk result (λ v.
+        IsContext (first_value (found_of options.now) (codes "ctx")) v.items) }
+    ensures refused { IfErr result
+        (RefusesContext (first_value (found_of options.now) (codes "ctx"))) }
 {
     match options.get_str("ctx") {
         Some(digits) => context_bytes(alloc, digits),
@@ -86,7 +89,8 @@ fn context_of(alloc: Global, options: &ArgMatches) -> Result<Vec<u8>, CommandErr
 fn hex_of(alloc: Global, options: &ArgMatches) -> Result<Command, CommandError>
     requires checked { HasBudget (rows_of (found_of options.now)) }
     ensures named { IfOk result (Names (Some (codes "hex", rows_of (found_of options.now)))) }
-    ensures refused { IfErr result (RefusesContext (first_of (codes "ctx") (rows_of (found_of options.now)))) }
+    ensures refused { IfErr result
+        (RefusesContext (first_of (codes "ctx") (rows_of (found_of options.now)))) }
 {
     let context = context_of(alloc, options)?;
     let budget = budget_of(options);
@@ -97,8 +101,9 @@ fn named(alloc: Global, name: &str, options: &ArgMatches) -> Result<Command, Com
     requires known { IsCommandName name.now }
     requires checked { name.now ≡ codes "hex" → HasBudget (rows_of (found_of options.now)) }
     ensures named { IfOk result (Names (Some (name.now, rows_of (found_of options.now)))) }
-    ensures refused { IfErr result (λ e. (e ≡ CommandError.OutOfMemory) ⊎ ((e ≡ CommandError.NotHex)
-        × (name.now ≡ codes "hex") × RefusesContext (first_of (codes "ctx") (rows_of (found_of options.now))) e)) }
+    ensures refused { IfErr result (λ e. (e ≡ CommandError.OutOfMemory)
+        ⊎ ((e ≡ CommandError.NotHex) × (name.now ≡ codes "hex")
+        × RefusesContext (first_of (codes "ctx") (rows_of (found_of options.now))) e)) }
 {
     match name {
         "hex" => hex_of(alloc, options),

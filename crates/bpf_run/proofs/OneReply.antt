@@ -24,7 +24,7 @@ use Rattle.bpf_text.specs.HexText.{IsHexOf}
 use Rattle.bpf_text.specs.Laws.{TextsAreDetermined}
 use Rattle.bpf_text.specs.declared.error.TextError.{TextError}
 use Rattle.bpf_text.specs.declared.error.TextError.TheVariants as text_error
-use Rattle.bpf_run.specs.Answer.{status_of, text_of}
+use Rattle.bpf_run.specs.Answer.{status_of, reply_text}
 use Rattle.bpf_run.specs.Commands.{IsAnswer, IsAssembled, IsDisassembled, IsReply, IsRun, IsWordsOf, RefusesAssembly, RefusesInput, RefusesProgram, RefusesWords}
 use Rattle.bpf_run.specs.declared.input.TheConstants.{MAX_INPUT}
 use Rattle.bpf_run.specs.Laws.{IsOfInput, IsForAnyInput, HasShortContext, RepliesAreDetermined}
@@ -39,10 +39,10 @@ use Rattle.bpf_run.specs.declared.reply.Reply.TheVariants as reply
 
 -- they print the same
 abbrev pub PrintsAs : Reply → Reply → Type 0
-PrintsAs r s = (text_of r ≡ text_of s) × (status_of r ≡ status_of s)
+PrintsAs r s = (reply_text r ≡ reply_text s) × (status_of r ≡ status_of s)
 
 prints : (r s : Reply) → r ≡ s → PrintsAs r s
-prints r s e = (ap text_of e, ap status_of e)
+prints r s e = (ap reply_text e, ap status_of e)
 
 abbrev pub loaded : List Insn → Loaded
 loaded is = record { instructions = is; maps = 0 }

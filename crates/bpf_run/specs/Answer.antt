@@ -11,16 +11,16 @@ use Rattle.bpf_run.specs.declared.reply.Status.TheVariants as status
 use Rattle.bpf_run.specs.Codes.{code, fault_code}
 
 -- how a run ended
-abbrev pub line_of : Outcome → List ℕ
-line_of (outcome.Exit r0) = codes "r0=" ++ decimal r0
-line_of (outcome.Fault fault pc) = codes "fault " ++ fault_code fault ++ codes " at " ++ decimal pc
-line_of (outcome.OutOfBudget pc) = codes "out of budget at " ++ decimal pc
+abbrev pub outcome_line : Outcome → List ℕ
+outcome_line (outcome.Exit r0) = codes "r0=" ++ decimal r0
+outcome_line (outcome.Fault fault pc) = codes "fault " ++ fault_code fault ++ codes " at " ++ decimal pc
+outcome_line (outcome.OutOfBudget pc) = codes "out of budget at " ++ decimal pc
 
 -- the text that a reply prints
-abbrev pub text_of : Reply → List ℕ
-text_of (reply.Ended outcome) = line_of outcome ++ codes "\n"
-text_of (reply.Text text) = string_bytes text
-text_of (reply.Refused refusal) = codes "refused " ++ code refusal ++ codes "\n"
+abbrev pub reply_text : Reply → List ℕ
+reply_text (reply.Ended outcome) = outcome_line outcome ++ codes "\n"
+reply_text (reply.Text text) = string_bytes text
+reply_text (reply.Refused refusal) = codes "refused " ++ code refusal ++ codes "\n"
 
 -- how a program ends after it
 abbrev pub ended_status : Outcome → Status
@@ -33,22 +33,22 @@ status_of (reply.Ended outcome) = ended_status outcome
 status_of (reply.Text text) = status.Done
 status_of (reply.Refused refusal) = status.Refused
 
-abbrev pub exit_code : Status → ℕ
-exit_code status.Done = 0
-exit_code status.Refused = 1
-exit_code status.Failed = 1
-exit_code status.Stopped = 3
+abbrev pub exit_status : Status → ℕ
+exit_status status.Done = 0
+exit_status status.Refused = 1
+exit_status status.Failed = 1
+exit_status status.Stopped = 3
 
 -- the text is written, and this status answered; or a write failed, and what is written is a beginning of the text
-abbrev pub IsWritten : (text : List ℕ) → (meant : Status) → (old new : Option (List ℕ)) → (failed : Bool)
+abbrev pub IsPrinted : (text : List ℕ) → (meant : Status) → (old new : Option (List ℕ)) → (failed : Bool)
     → Status → Type 0
-IsWritten text meant old new failed answered =
+IsPrinted text meant old new failed answered =
     (Appends old new text × (failed ≡ false) × (answered ≡ meant))
     ⊎ ((k : ℕ) × Appends old new (take k text) × (failed ≡ true) × (answered ≡ status.Failed))
 
 -- the reply is written; or a refusal alone, where the one line of a reply found no memory
-abbrev pub Answers : Reply → (old new : Option (List ℕ)) → (failed : Bool) → Status → Type 0
-Answers (reply.Text text) old new failed answered =
-    IsWritten (string_bytes text) status.Done old new failed answered
-Answers r old new failed answered = IsWritten (text_of r) (status_of r) old new failed answered
-    ⊎ IsWritten (codes "refused L9\n") status.Refused old new failed answered
+abbrev pub Prints : Reply → (old new : Option (List ℕ)) → (failed : Bool) → Status → Type 0
+Prints (reply.Text text) old new failed answered =
+    IsPrinted (string_bytes text) status.Done old new failed answered
+Prints r old new failed answered = IsPrinted (reply_text r) (status_of r) old new failed answered
+    ⊎ IsPrinted (codes "refused L9\n") status.Refused old new failed answered

@@ -27,42 +27,48 @@ use Rattle.bpf_run.specs.declared.reply.Reply.TheVariants as reply
 abbrev pub IsWordsOf : List ℕ → List Insn → Type 0
 IsWordsOf text is = (bytes : List ℕ) × IsHexOf text bytes × IsSized bytes × IsEncodedAs is bytes
 
--- why it has not: it isn't the hex digits of bytes, or the bytes are no instructions; want of memory may stand in
--- place of any answer
+-- why it has not: it isn't the hex digits of bytes, or the bytes are no instructions; want of
+-- memory may stand in place of any answer
 abbrev pub RefusesWords : List ℕ → Refusal → Type 0
 RefusesWords text (refusal.Text text_error.NotHex) = (bytes : List ℕ) → ¬ IsHexOf text bytes
 RefusesWords text (refusal.Text text_error.OutOfMemory) = Unit {0}
-RefusesWords text (refusal.Insn error) = (bytes : List ℕ) × IsHexOf text bytes × IsRefused error bytes
+RefusesWords text (refusal.Insn error) =
+    (bytes : List ℕ) × IsHexOf text bytes × IsRefused error bytes
 RefusesWords text _ = ⊥
 
--- `hex`: the first refusal that applies to the program, for no maps; else what explains how its run ends, on CPU 0
+-- `hex`: the first refusal that applies to the program, for no maps; else what explains how its
+-- run ends, on CPU 0
 abbrev pub RefusesProgram : List ℕ → Refusal → Type 0
 RefusesProgram text (refusal.Load error) = (is : List Insn) × IsWordsOf text is
     × (error ≢ load_error.OutOfMemory → IsFirstRefusal 0 is error)
 RefusesProgram text r = RefusesWords text r
 
 abbrev pub IsRun : ℕ → List ℕ → List ℕ → Reply → Type 0
-IsRun budget context text (reply.Ended outcome) = (is : List Insn) × IsWordsOf text is × IsSound 0 is
-    × (events : List Event) × Explains ⊥ [] (record { instructions = is; maps = 0 }) budget (start 0 context) events outcome
+IsRun budget context text (reply.Ended outcome) = (is : List Insn) × IsWordsOf text is
+    × IsSound 0 is × (events : List Event)
+    × Explains ⊥ [] (record { instructions = is; maps = 0 }) budget (start 0 context) events outcome
 IsRun budget context text (reply.Refused refusal.OutOfMemory) = Unit {0}
 IsRun budget context text (reply.Refused r) = RefusesProgram text r
 IsRun budget context text (reply.Text printed) = ⊥
 
 -- `asm`: the words of the instructions that the text stands for, a line of 16 hex digits each
 abbrev pub RefusesAssembly : List ℕ → Refusal → Type 0
-RefusesAssembly text (refusal.Text error) = (error ≡ text_error.OutOfMemory) ⊎ Assembles text (Err error)
+RefusesAssembly text (refusal.Text error) =
+    (error ≡ text_error.OutOfMemory) ⊎ Assembles text (Err error)
 RefusesAssembly text (refusal.Insn error) = error ≡ insn_error.OutOfMemory
 RefusesAssembly text _ = ⊥
 
 abbrev pub IsAssembled : List ℕ → Reply → Type 0
-IsAssembled text (reply.Text printed) = (is : List Insn) × (bytes : List ℕ) × Assembles text (Ok is) × All (λ b. b < 256) bytes × IsEncodedAs is bytes
+IsAssembled text (reply.Text printed) = (is : List Insn) × (bytes : List ℕ)
+    × Assembles text (Ok is) × All (λ b. b < 256) bytes × IsEncodedAs is bytes
     × (string_bytes printed ≡ word_lines (length bytes / 8) bytes)
 IsAssembled text (reply.Refused r) = RefusesAssembly text r
 IsAssembled text (reply.Ended outcome) = ⊥
 
 -- `disasm`: the canonical text of the instructions
 abbrev pub IsDisassembled : List ℕ → Reply → Type 0
-IsDisassembled text (reply.Text printed) = (is : List Insn) × IsWordsOf text is × (string_bytes printed ≡ canonical is)
+IsDisassembled text (reply.Text printed) =
+    (is : List Insn) × IsWordsOf text is × (string_bytes printed ≡ canonical is)
 IsDisassembled text (reply.Refused r) = RefusesWords text r
 IsDisassembled text (reply.Ended outcome) = ⊥
 

@@ -3,7 +3,8 @@ use Rattle.std.specs.Prelude.{◌≡◌, ℕ, ◌≤◌, List, length}
 use Rattle.bpf_insn.specs.declared.error.InsnError.TheVariants as insn_error
 use Rattle.bpf_loader.specs.declared.refusal.LoadError.TheVariants as load_error
 use Rattle.bpf_text.specs.declared.error.TextError.TheVariants as text_error
-use Rattle.bpf_run.specs.Answer.{status_of, text_of}
+use Rattle.bpf_mem.specs.Limits.{max_context}
+use Rattle.bpf_run.specs.Answer.{status_of, reply_text}
 use Rattle.bpf_run.specs.Commands.{IsReply}
 use Rattle.bpf_command.specs.declared.command.Command.{Command}
 use Rattle.bpf_command.specs.declared.command.Command.TheVariants as command
@@ -30,10 +31,11 @@ IsOfInput _ = Unit {0}
 
 -- the context has its greatest length at most
 abbrev pub HasShortContext : Command → Type 0
-HasShortContext (command.Hex options) = length options.context.items ≤ 4096
+HasShortContext (command.Hex options) = length options.context.items ≤ max_context
 HasShortContext _ = Unit {0}
 
 -- replies of one input print one text, with one exit status
 abbrev pub RepliesAreDetermined : Type 0
-RepliesAreDetermined = (c : Command) (input : List ℕ) (r s : Reply) → HasShortContext c → IsReply c input r → IsReply c input s → IsOfInput r → IsOfInput s
-    → (text_of r ≡ text_of s) × (status_of r ≡ status_of s)
+RepliesAreDetermined = (c : Command) (input : List ℕ) (r s : Reply) → HasShortContext c
+    → IsReply c input r → IsReply c input s → IsOfInput r → IsOfInput s
+    → (reply_text r ≡ reply_text s) × (status_of r ≡ status_of s)

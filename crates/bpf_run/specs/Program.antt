@@ -8,7 +8,7 @@ use Rattle.bpf_command.specs.Names.{Names}
 use Rattle.bpf_command.specs.declared.command.Command.{Command}
 use Rattle.bpf_command.specs.declared.command_line.CommandError.{CommandError}
 use Rattle.bpf_command.specs.declared.command_line.CommandError.TheVariants as command_error
-use Rattle.bpf_run.specs.Answer.{Answers}
+use Rattle.bpf_run.specs.Answer.{Prints}
 use Rattle.bpf_run.specs.Commands.{IsReply, is_unread}
 use Rattle.bpf_run.specs.declared.program.Ending.{Ending}
 use Rattle.bpf_run.specs.declared.program.Ending.TheVariants as ending
@@ -22,7 +22,7 @@ abbrev pub Performs : Command → (input : Option (List ℕ)) → (read_failed :
     → (old new : Option (List ℕ)) → (write_failed : Bool) → Status → Type 0
 Performs command input read_failed old new write_failed status = (r : Reply)
     × (read_failed ≡ is_unread r) × IfSome input (λ bytes. IsReply command bytes r)
-    × Answers r old new write_failed status
+    × Prints r old new write_failed status
 
 -- the words name this command, and `clap` finds no fault in them
 abbrev pub IsNamed : List Text → Command → Type 0

@@ -2,7 +2,7 @@
 
 ghost use Rattle.std.specs.Prelude.{◌≡◌, ◌<◌, ◌≤◌, ◌≢◌, ◌+◌, ◌++◌, List, ℕ, Err, false, IfErr, IfOk, IfSome, OnOk, length};
 ghost use Rattle.std.specs.Io.KnownBytes.{Consumes, IsAtEnd};
-ghost use Rattle.bpf_run.specs.Input.{is_unread};
+ghost use Rattle.bpf_run.specs.Input.{is_failed_read};
 
 use crate::stream::Source;
 use std::alloc::Global;
@@ -37,7 +37,7 @@ fn read_more<R: Source>(
         × (length bytes ≤ length room.old) }
     ensures end { 0 < length room.old → result ≡ Ok 0 → IsAtEnd (R.remaining source.new) }
     ensures own { IfErr result (λ e. e ≢ InputError.TooLong) }
-    ensures unread { R.has_failed source.new ≡ is_unread result }
+    ensures unread { R.has_failed source.new ≡ is_failed_read result }
     ensures reads { R.reads source.new ≤ R.reads source.old + 1 }
 {
     let count = source.read(room).map_err(|_| InputError::Unread)?;
@@ -59,7 +59,7 @@ pub fn read_whole<R: Source>(alloc: Global, source: &mut R) -> Result<Vec<u8>, I
     ensures taken { (bytes : List ℕ)
         × Consumes (R.remaining source.old) (R.remaining source.new) bytes
         × (length bytes ≤ MAX_INPUT + 1) }
-    ensures unread { R.has_failed source.new ≡ is_unread result }
+    ensures unread { R.has_failed source.new ≡ is_failed_read result }
     ensures reads { R.reads source.new ≤ R.reads source.old + (MAX_INPUT + 1) }
 {
     let mut input = Vec::new(alloc);

@@ -9,7 +9,8 @@ use std::alloc::Global;
 
 /// Puts a word's digits and a line end behind the text.
 fn push_word(alloc: Global, text: &mut String, word: &[u8]) -> Result<(), TextError>
-    ensures line { OnOk result (string_bytes text.new ≡ string_bytes text.old ++ (encode_lower word.now ++ 10 ∷ [])) }
+    ensures line { OnOk result (string_bytes text.new
+        ≡ string_bytes text.old ++ (encode_lower word.now ++ 10 ∷ [])) }
     ensures memory { IsOkUnless result TextError.OutOfMemory }
 {
     let digits = to_hex(alloc, word)?;
@@ -20,8 +21,10 @@ fn push_word(alloc: Global, text: &mut String, word: &[u8]) -> Result<(), TextEr
 
 /// The words that the bytes make, a line of 16 hex digits each. Fails by `OutOfMemory` alone.
 pub fn word_lines(alloc: Global, bytes: &[u8]) -> Result<String, TextError>
-    ensures lines { IfOk result (λ text. string_bytes text ≡ word_lines (length bytes.now / 8) bytes.now) }
+    ensures lines { IfOk result (λ text.
+        string_bytes text ≡ word_lines (length bytes.now / 8) bytes.now) }
     ensures memory { IsOkUnless result TextError.OutOfMemory }
+    // Only what the type of the slice says: a caller's proof doesn't get it of a vector.
     ensures bytes { All (λ b. b < 256) bytes.now }
 {
     let mut text = String::new(alloc);

@@ -2,7 +2,7 @@
 
 ghost use Rattle.std.specs.Prelude.{◌≡◌, ◌≤◌, ◌≢◌, ◌+◌, ◌⊎◌, codes, false, IfSome, List, length, ℕ};
 ghost use Rattle.std.specs.Io.KnownBytes.{Consumes};
-ghost use Rattle.bpf_run.specs.Answer.{Answers, IsWritten, status_of, text_of};
+ghost use Rattle.bpf_run.specs.Answer.{Prints, IsPrinted, status_of, reply_text};
 ghost use Rattle.bpf_run.specs.Commands.{IsReply, is_unread};
 ghost use Rattle.bpf_run.specs.Program.{Performs};
 ghost use Rattle.bpf_run.specs.declared.reply.Reply.{Reply};
@@ -18,7 +18,7 @@ use std::alloc::Global;
 
 fn write_text<W: Sink>(sink: &mut W, text: &str, status: Status) -> Status
     requires { W.has_failed sink.old ≡ false }
-    ensures { IsWritten text.now status (W.contents sink.old) (W.contents sink.new)
+    ensures { IsPrinted text.now status (W.contents sink.old) (W.contents sink.new)
         (W.has_failed sink.new) result }
 {
     match write_whole(sink, text.as_bytes()) {
@@ -30,9 +30,9 @@ fn write_text<W: Sink>(sink: &mut W, text: &str, status: Status) -> Status
 /// Prints a reply of one line, which is made before its first byte is written.
 fn write_line<W: Sink>(alloc: Global, reply: &Reply, sink: &mut W) -> Status
     requires { W.has_failed sink.old ≡ false }
-    ensures { IsWritten (text_of reply.now) (status_of reply.now)
+    ensures { IsPrinted (reply_text reply.now) (status_of reply.now)
         (W.contents sink.old) (W.contents sink.new) (W.has_failed sink.new) result
-        ⊎ IsWritten (codes "refused L9\n") Status.Refused
+        ⊎ IsPrinted (codes "refused L9\n") Status.Refused
         (W.contents sink.old) (W.contents sink.new) (W.has_failed sink.new) result }
 {
     match format!(in alloc; "{reply}") {
@@ -44,7 +44,7 @@ fn write_line<W: Sink>(alloc: Global, reply: &Reply, sink: &mut W) -> Status
 /// Prints a reply. Its whole text is made before its first byte is written.
 pub fn answer<W: Sink>(alloc: Global, reply: &Reply, sink: &mut W) -> Status
     requires { W.has_failed sink.old ≡ false }
-    ensures { Answers reply.now (W.contents sink.old) (W.contents sink.new)
+    ensures { Prints reply.now (W.contents sink.old) (W.contents sink.new)
         (W.has_failed sink.new) result }
 {
     match reply {

@@ -27,7 +27,8 @@ fn instructions(alloc: Global, text: &str) -> Result<Vec<Insn>, Refusal>
 
 /// The program whose words the text has as hex digits, for a store of no maps.
 fn program(alloc: Global, text: &str) -> Result<Program, Refusal>
-    ensures found { IfOk result (λ p. IsWordsOf text.now p.instructions × IsSound 0 p.instructions × (p.maps ≡ 0)) }
+    ensures found { IfOk result (λ p. IsWordsOf text.now p.instructions
+        × IsSound 0 p.instructions × (p.maps ≡ 0)) }
     ensures refused { IfErr result (RefusesProgram text.now) }
 {
     let insns = instructions(alloc, text)?;

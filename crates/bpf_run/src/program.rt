@@ -6,7 +6,7 @@ ghost use Rattle.clap.specs.declared.error.kind.ErrorKind.TheVariants as kind;
 ghost use Rattle.bpf_command.specs.Names.{Refuses};
 ghost use Rattle.bpf_command.specs.declared.command.Command.{Command};
 ghost use Rattle.bpf_command.specs.declared.command_line.CommandError.{CommandError};
-ghost use Rattle.bpf_run.specs.Answer.{Answers, exit_code};
+ghost use Rattle.bpf_run.specs.Answer.{Prints, exit_status};
 ghost use Rattle.bpf_run.specs.Program.{IfExit, IfNotText, IfShown, IsNamed, IsPrintedAs, Performs};
 ghost use Rattle.bpf_run.specs.declared.refusal.Refusal.{Refusal};
 
@@ -47,7 +47,7 @@ fn follow<R: Source, W: Sink>(
         Performs command (R.remaining source.old) (R.has_failed source.new)
         (W.contents sink.old) (W.contents sink.new) (W.has_failed sink.new) status)) }
     ensures refused { IfExit result (λ status. IfErr asked (λ e. (source.new ≡ source.old)
-        × ((r : Refusal) × IsPrintedAs e r × Answers (Reply.Refused r)
+        × ((r : Refusal) × IsPrintedAs e r × Prints (Reply.Refused r)
         (W.contents sink.old) (W.contents sink.new) (W.has_failed sink.new) status))) }
     ensures shown { IfShown result (λ e. (asked ≡ Err (CommandError.Shown e))
         × (source.new ≡ source.old) × (sink.new ≡ sink.old)) }
@@ -62,8 +62,8 @@ fn follow<R: Source, W: Sink>(
     Ending::Exit(answer(alloc, &Reply::Refused(refusal), sink))
 }
 
-/// Does what the words ask for, of which the first is the program's name. What is wrong with them is said before anything
-/// is read.
+/// Does what the words ask for, of which the first is the program's name. What is wrong with them
+/// is said before anything is read.
 pub fn program<R: Source, W: Sink>(
     alloc: Global,
     words: io::Result<Vec<String>>,
@@ -78,10 +78,10 @@ pub fn program<R: Source, W: Sink>(
         (W.contents sink.old) (W.contents sink.new) (W.has_failed sink.new) status)
         ⊎ ((e : CommandError) × Refuses (map string_bytes words.items) e
         × (source.new ≡ source.old) × ((r : Refusal) × IsPrintedAs e r
-        × Answers (Reply.Refused r) (W.contents sink.old) (W.contents sink.new)
+        × Prints (Reply.Refused r) (W.contents sink.old) (W.contents sink.new)
         (W.has_failed sink.new) status)))) }
     ensures memory { IfExit result (λ status. IfErr words (λ _. (source.new ≡ source.old)
-        × Answers (Reply.Refused Refusal.OutOfMemory) (W.contents sink.old)
+        × Prints (Reply.Refused Refusal.OutOfMemory) (W.contents sink.old)
         (W.contents sink.new) (W.has_failed sink.new) status)) }
     ensures shown { IfShown result (λ e. IsOkAnd words (λ words.
         Refuses (map string_bytes words.items) (CommandError.Shown e))
@@ -98,7 +98,8 @@ pub fn program<R: Source, W: Sink>(
     }
 }
 
-/// Shows what `clap` says; the exit status, which tells a fault of the words whether or not it could be shown.
+/// Shows what `clap` says; the exit status, which tells a fault of the words whether or not it could
+/// be shown.
 fn show<P: Print + Eprint>(rt: &P, error: &clap::Error) -> u8
     ensures fault { kind_of error.now ≢ kind.DisplayHelp → kind_of error.now ≢ kind.DisplayVersion
         → result ≡ USAGE }
@@ -117,7 +118,7 @@ fn show<P: Print + Eprint>(rt: &P, error: &clap::Error) -> u8
 
 /// Does what is left to do, and gives the exit status as a number.
 pub fn end<P: Print + Eprint>(rt: &P, ending: Ending) -> u8
-    ensures exit { IfExit ending (λ status. result ≡ exit_code status) }
+    ensures exit { IfExit ending (λ status. result ≡ exit_status status) }
     ensures fault { IfShown ending (λ e. kind_of e ≢ kind.DisplayHelp
         → kind_of e ≢ kind.DisplayVersion → result ≡ USAGE) }
     ensures help { IfShown ending (λ e. kind_of e ≡ kind.DisplayHelp → result ≤ 1) }
@@ -125,7 +126,12 @@ pub fn end<P: Print + Eprint>(rt: &P, ending: Ending) -> u8
     ensures not_text { IfNotText ending (result ≡ USAGE) }
 {
     match ending {
-        Ending::Exit(status) => status.code(),
+        Ending::Exit(status) => {
+            if status == Status::Failed {
+                let _ = eprintln!(rt; "error: the output couldn't be written");
+            }
+            status.code()
+        }
         Ending::Shown(error) => show(rt, &error),
         Ending::NotText => {
             let _ = eprintln!(rt; "error: the command line isn't UTF-8");

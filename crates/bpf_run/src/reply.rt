@@ -19,11 +19,11 @@ pub enum Status {
 
 impl Status {
     ghost use Rattle.std.specs.Prelude.{◌≡◌};
-    ghost use Rattle.bpf_run.specs.Answer.{exit_code};
+    ghost use Rattle.bpf_run.specs.Answer.{exit_status};
 
     /// The exit status as a number.
     pub fn code(self) -> u8
-        ensures { result ≡ exit_code self }
+        ensures { result ≡ exit_status self }
     {
         match self {
             Status::Done => 0,
@@ -81,9 +81,9 @@ impl fmt::Display for FaultCode {
 
 impl fmt::Display for Reply {
     ghost use Rattle.std.specs.Prelude.{Some};
-    ghost use Rattle.bpf_run.specs.Answer.{text_of};
+    ghost use Rattle.bpf_run.specs.Answer.{reply_text};
 
-    ghost output = { λ x. Some (text_of x) };
+    ghost output = { λ x. Some (reply_text x) };
 
     fn fmt<W: fmt::Write>(&self, f: &mut fmt::Formatter<W>) -> fmt::Result {
         match self {

@@ -1,5 +1,5 @@
-//! Where input comes from and where output goes. A source and a sink know whether a call of theirs failed, and are asked
-//! nothing more after that.
+//! Where input comes from and where output goes. A source and a sink know whether a call of theirs
+//! failed, and are asked nothing more after that.
 
 ghost use Rattle.std.specs.Prelude.{◌≡◌, ◌+◌, ◌-◌, ◌<◌, ◌^◌, ℕ, Bool, List, Option, false, is_err, IfOk, length, min};
 ghost use Rattle.std.specs.Io.{ReadsAtMost, WritesAtMost};
