@@ -2,6 +2,7 @@
 #![tactic(auto)]
 
 mod answering;
+mod bytes;
 mod guarded;
 mod hash;
 mod index;
@@ -13,6 +14,7 @@ mod place;
 mod running;
 mod table;
 
+pub use bytes::word_of;
 pub use hash::home;
 pub use index::Index;
 pub use known::{About, Change, Fresh, Known, Limbo, Lock, Peek, Reading, Sight, Tally, View};

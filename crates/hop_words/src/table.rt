@@ -40,6 +40,13 @@ impl HopTable {
     ghost use Rattle.std.specs.Prelude.{◌≡◌, true};
     ghost use Rattle.hop_words.specs.Layout.{is_place, at};
 
+    /// What the store was told when it was made.
+    pub fn about(&self) -> &About
+        ensures { result.now ≡ self.now.about }
+    {
+        &self.index.about
+    }
+
     // Where the word of a place stands.
     pub(crate) fn word_of(&self, place: Place) -> usize
         requires there { is_place self.now.about.shape place ≡ true }

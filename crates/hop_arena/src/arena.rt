@@ -1,0 +1,119 @@
+//! Claiming the free elements of a map.
+ghost use Rattle.std.specs.Prelude.{◌≡◌, ◌+◌, ◌*◌, ◌/◌, ◌<◌, ◌≤◌, [], length, MatchOption, IsTrue, IsFalse};
+ghost use Rattle.std.specs.Int.{bit_at};
+ghost use Rattle.hop_words.specs.Ghost.{shape_at, IsElement};
+ghost use Rattle.hop_words.specs.Owning.{IsInHand, behind};
+ghost use Rattle.bpf_shared.specs.Shape.{elements};
+ghost use Rattle.hop_arena.specs.Claiming.{Claims, Misses, Passes, IsArena};
+
+use crate::element::Element;
+use hop_words::{HopTable, Lane};
+use std::marker::Model;
+
+/// Where one CPU looks for free elements of one map: in the word of free bits of its last claim or
+/// give-back first, so that CPUs meet seldom.
+#[derive(Clone, Copy, Drop)]
+pub struct Arena {
+    map: u8,
+    elements: u32,
+    start: u32,
+}
+
+impl Arena {
+    /// The first pass begins in the CPU's own part of the words.
+    pub fn new(table: &HopTable, map: u8, cpu: u8) -> Arena
+        requires map { map < length table.now.about.shape.maps }
+        requires cpu { cpu < table.now.about.shape.cpus }
+        ensures map { result.map ≡ map }
+        ensures arena { IsArena table.now.about result.map result.elements result.start }
+    {
+        let shape = &table.about().shape;
+        let sizes = shape.maps()[usize::from(map)];
+        let elements = (sizes.max + sizes.spare) as u32;
+        let words = elements.div_ceil(64);
+        let start = words * u32::from(cpu) / u32::from(shape.cpus());
+        Arena {
+            map,
+            elements,
+            start,
+        }
+    }
+
+    /// Gives back an element, whose word the next pass begins at.
+    pub fn give_back(&mut self, lane: &mut Lane, table: &HopTable, element: Element)
+        requires table { lane.old.table ≡ table.now.id }
+        requires arena { IsArena table.now.about self.old.map self.old.elements self.old.start }
+        requires element { IsElement table.now.about element.map element.number }
+        requires map { element.map ≡ self.old.map }
+        requires hand { IsInHand lane.old.known element.map element.number }
+        ensures table { lane.new.table ≡ lane.old.table }
+        ensures given { lane.new.known ≡ record lane.old.known { fresh = behind lane.old.known.fresh } }
+        ensures arena { (self.new.map ≡ self.old.map) × (self.new.elements ≡ self.old.elements) × IsArena table.now.about self.new.map self.new.elements self.new.start }
+    {
+        let Element { map, number } = element;
+        lane.give_bit(table, map, number);
+        self.start = number / 64;
+    }
+
+    /// One pass over the free bits, with one fetch-and for each bit that was seen set: an element of
+    /// its own, or none where each element of the map was seen not free, at a moment of its own.
+    pub fn claim(&mut self, lane: &mut Lane, table: &HopTable) -> Option<Element>
+        requires table { lane.old.table ≡ table.now.id }
+        requires map { self.old.map < length table.now.about.shape.maps }
+        requires arena { IsArena table.now.about self.old.map self.old.elements self.old.start }
+        requires unlocked { lane.old.known.locks ≡ [] }
+        ensures table { lane.new.table ≡ lane.old.table }
+        ensures claimed { MatchOption result (Misses table.now.about lane.old.known self.old.map lane.new.known) (λ e. Claims table.now.about lane.old.known self.old.map e lane.new.known) }
+        ensures arena { (self.new.map ≡ self.old.map) × (self.new.elements ≡ self.old.elements) × IsArena table.now.about self.new.map self.new.elements self.new.start }
+    {
+        let words = self.elements.div_ceil(64);
+        'after: for word in self.start..words {
+            if let Some(element) = claim_in(lane, table, self.map, word, self.elements) {
+                self.start = word;
+                return Some(element);
+            }
+        }
+        'before: for word in 0..self.start {
+            if let Some(element) = claim_in(lane, table, self.map, word, self.elements) {
+                self.start = word;
+                return Some(element);
+            }
+        }
+        None
+    }
+}
+
+// Whether a bit is set.
+fn has_bit(bits: u64, place: u32) -> bool
+    requires { place < 64 }
+    ensures set { IsTrue result → bit_at bits place ≡ 1 }
+    ensures clear { IsFalse result → bit_at bits place ≡ 0 }
+{
+    bits >> place & 1 == 1
+}
+
+// A free element among the 64 of a word, or none where each was seen not free. Each try clears a bit
+// of those that were set at each look.
+fn claim_in(lane: &mut Lane, table: &HopTable, map: u8, word: u32, count: u32) -> Option<Element>
+    requires table { lane.old.table ≡ table.now.id }
+    requires map { map < length table.now.about.shape.maps }
+    requires count { count ≡ elements (shape_at table.now.about map) }
+    requires inside { 64 * word < count }
+    requires unlocked { lane.old.known.locks ≡ [] }
+    ensures table { lane.new.table ≡ lane.old.table }
+    ensures claimed { MatchOption result (Passes table.now.about lane.old.known map word (word + 1) lane.new.known) (λ e. Claims table.now.about lane.old.known map e lane.new.known) }
+{
+    let mut bits = lane.see_bits(table, map, word);
+    while bits != 0 {
+        let number = 64 * word + bits.trailing_zeros();
+        if number >= count {
+            return None;
+        }
+        let found = lane.claim_bit(table, map, number);
+        if has_bit(found, number % 64) {
+            return Some(Element { map, number });
+        }
+        bits &= found;
+    }
+    None
+}
