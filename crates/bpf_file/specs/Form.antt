@@ -1,0 +1,72 @@
+-- The forms of the lines of a run file: what each field has to be (our own choice).
+use Rattle.std.specs.Prelude.{ℕ, ◌*◌, Bool, true, false, ◌&&◌, nat_le, List, [], ◌∷◌, ◌++◌, length, get_or, Option, Some, None}
+use Rattle.bpf_text.specs.Words.{number_of, is_name}
+use Rattle.bpf_file.specs.declared.form.Part.{Part}
+use Rattle.bpf_file.specs.declared.form.Part.TheVariants.{Word, Name, Number, Context, Words}
+use Rattle.bpf_file.specs.declared.key.Key.TheVariants as key
+use Rattle.bpf_file.specs.Key.{is_key}
+
+abbrev pub is_there : Option ℕ → Bool
+is_there (Some n) = true
+is_there None = false
+
+-- a number, of any size
+abbrev pub is_number : List ℕ → Bool
+is_number field = is_there (number_of field)
+
+abbrev pub is_part : Part → List ℕ → Bool
+is_part (Word k) field = is_key k field
+is_part Name field = is_name field && nat_le (length field) 32
+is_part Number field = is_number field
+is_part Context field = nat_le (length field) (2 * 4096)
+is_part Words field = true
+
+-- the fields are those of the form, one by one
+abbrev pub has_form : List Part → List (List ℕ) → Bool
+has_form [] [] = true
+has_form (p ∷ ps) (f ∷ fs) = is_part p f && has_form ps fs
+has_form [] (f ∷ fs) = false
+has_form (p ∷ ps) [] = false
+
+abbrev pub field_at : List (List ℕ) → ℕ → List ℕ
+field_at fields at = get_or fields at []
+
+-- ---- the forms
+
+-- `ebpf-run 1`
+abbrev pub version_form : List Part
+version_form = Word key.RunFile ∷ Word key.One ∷ []
+
+-- `cpus N`
+abbrev pub cpus_form : List Part
+cpus_form = Word key.Cpus ∷ Number ∷ []
+
+-- `seed N`
+abbrev pub seed_form : List Part
+seed_form = Word key.Seed ∷ Number ∷ []
+
+-- `map NAME key K value V max M spare P`, and with `mask X` behind it
+abbrev pub map_form : List Part
+map_form =
+    Word key.Map ∷ Name ∷ Word key.KeySize ∷ Number ∷ Word key.ValueSize ∷ Number
+    ∷ Word key.Max ∷ Number ∷ Word key.Spare ∷ Number ∷ []
+
+abbrev pub masked_map_form : List Part
+masked_map_form = map_form ++ Word key.Mask ∷ Number ∷ []
+
+-- `prog NAME`, and `prog NAME hex DIGITS`
+abbrev pub program_form : List Part
+program_form = Word key.Program ∷ Name ∷ []
+
+abbrev pub words_form : List Part
+words_form = program_form ++ Word key.Hex ∷ Words ∷ []
+
+-- `job CPU NAME`, with `budget N`, `ctx DIGITS`, or both behind it
+abbrev pub job_form : List Part
+job_form = Word key.Job ∷ Number ∷ Name ∷ []
+
+abbrev pub budget_form : List Part
+budget_form = Word key.Budget ∷ Number ∷ []
+
+abbrev pub context_form : List Part
+context_form = Word key.Context ∷ Context ∷ []

@@ -1,0 +1,25 @@
+-- The words that lines of a run file have, each with its one spelling (our own choice).
+use Rattle.std.specs.Prelude.{ℕ, Bool, List, codes}
+use Rattle.std.specs.Str.{bytes_eq}
+use Rattle.bpf_file.specs.declared.key.Key.{Key}
+use Rattle.bpf_file.specs.declared.key.Key.TheVariants as key
+
+abbrev pub key_text : Key → List ℕ
+key_text key.RunFile = codes "ebpf-run"
+key_text key.One = codes "1"
+key_text key.Cpus = codes "cpus"
+key_text key.Seed = codes "seed"
+key_text key.Map = codes "map"
+key_text key.KeySize = codes "key"
+key_text key.ValueSize = codes "value"
+key_text key.Max = codes "max"
+key_text key.Spare = codes "spare"
+key_text key.Mask = codes "mask"
+key_text key.Program = codes "prog"
+key_text key.Hex = codes "hex"
+key_text key.Job = codes "job"
+key_text key.Budget = codes "budget"
+key_text key.Context = codes "ctx"
+
+abbrev pub is_key : Key → List ℕ → Bool
+is_key k field = bytes_eq (key_text k) field

@@ -1,0 +1,4 @@
+pub mod Key
+pub mod Form
+pub mod Statement
+pub mod Line

@@ -1,0 +1,117 @@
+-- What a line of a run file says, where it isn't assembly (our own choice).
+use Rattle.std.specs.Prelude.{◌≡◌, ℕ, ◌-◌, ◌^◌, nat_le, nat_lt, if◌then◌else◌, List, ◌++◌, Option, Some, None, Result, Ok, Err}
+use Rattle.std.specs.Option.{option_copied}
+use Rattle.bpf_shared.specs.declared.shapes.MapShape.{MapShape}
+use Rattle.bpf_text.specs.Words.{number_of}
+use Rattle.bpf_file.specs.declared.line.LineError.{LineError}
+use Rattle.bpf_file.specs.declared.line.LineError.TheVariants.{BadForm, BadNumber}
+use Rattle.bpf_file.specs.declared.statement.Statement.{Statement}
+use Rattle.bpf_file.specs.declared.statement.Statement.TheVariants as statement
+use Rattle.bpf_file.specs.Form.{has_form, field_at, version_form, cpus_form, seed_form, map_form, masked_map_form, program_form, words_form, job_form, budget_form, context_form}
+
+-- the first line; how many CPUs there are; the seed of the maps; a map by its name; a program by
+-- its name, its assembly following, or with its words as hex digits; a job: its CPU, where 64
+-- bits hold its number, its program's name, and its budget and its context's digits, where the
+-- line has them
+pub data Said : Type 0 where
+  Version : Said
+  Cpus : ℕ → Said
+  Seed : ℕ → Said
+  Map : List ℕ → MapShape → Said
+  Program : List ℕ → Said
+  Words : List ℕ → List ℕ → Said
+  Job : Option ℕ → List ℕ → Option ℕ → Option (List ℕ) → Said
+
+-- ---- numbers
+
+-- the greatest budget, and the greatest size or number of CPUs that a line may have
+abbrev pub most_steps : ℕ
+most_steps = 1000000000
+
+abbrev pub most_count : ℕ
+most_count = 2 ^ 32 - 1
+
+-- a number up to the greatest of its range
+abbrev pub limited : ℕ → Option ℕ → Result ℕ LineError
+limited most (Some n) = if nat_le n most then Ok n else Err BadNumber
+limited most None = Err BadForm
+
+abbrev pub number_at : List (List ℕ) → ℕ → ℕ → Result ℕ LineError
+number_at fields at most = limited most (number_of (field_at fields at))
+
+-- a number of any size, where 64 bits hold it
+abbrev pub held : Option ℕ → Option ℕ
+held (Some n) = if nat_lt n (2 ^ 64) then Some n else None
+held None = None
+
+abbrev pub held_at : List (List ℕ) → ℕ → Option ℕ
+held_at fields at = held (number_of (field_at fields at))
+
+abbrev pub with_number : Result ℕ LineError → (ℕ → Result Said LineError) → Result Said LineError
+with_number (Ok n) said = said n
+with_number (Err e) said = Err e
+
+-- ---- the lines, by their forms
+
+abbrev pub cpus_said : List (List ℕ) → Result Said LineError
+cpus_said fields = with_number (number_at fields 1 most_count) (λ n. Ok (Cpus n))
+
+abbrev pub seed_said : List (List ℕ) → Result Said LineError
+seed_said fields = with_number (number_at fields 1 (2 ^ 64 - 1)) (λ n. Ok (Seed n))
+
+abbrev pub map_said : List (List ℕ) → ℕ → Result Said LineError
+map_said fields mask =
+    with_number (number_at fields 3 most_count) (λ key.
+    with_number (number_at fields 5 most_count) (λ value.
+    with_number (number_at fields 7 most_count) (λ max.
+    with_number (number_at fields 9 most_count) (λ spare.
+    Ok (Map (field_at fields 1)
+    (record { key = key; value = value; max = max; spare = spare; mask = mask }))))))
+
+abbrev pub masked_said : List (List ℕ) → Result Said LineError
+masked_said fields = with_number (number_at fields 11 most_count) (λ mask. map_said fields mask)
+
+abbrev pub job_said : List (List ℕ) → Option ℕ → Option (List ℕ) → Result Said LineError
+job_said fields budget context = Ok (Job (held_at fields 1) (field_at fields 2) budget context)
+
+abbrev pub budgeted_said : List (List ℕ) → Option (List ℕ) → Result Said LineError
+budgeted_said fields context =
+    with_number (number_at fields 4 most_steps) (λ n. job_said fields (Some n) context)
+
+-- a line about a program or a job
+abbrev pub work_of : List (List ℕ) → Result Said LineError
+work_of fields =
+    if has_form program_form fields then Ok (Program (field_at fields 1))
+    else (if has_form words_form fields then Ok (Words (field_at fields 1) (field_at fields 3))
+    else (if has_form job_form fields then job_said fields None None
+    else (if has_form (job_form ++ budget_form) fields then budgeted_said fields None
+    else (if has_form (job_form ++ context_form) fields
+    then job_said fields None (Some (field_at fields 4))
+    else (if has_form (job_form ++ budget_form ++ context_form) fields
+    then budgeted_said fields (Some (field_at fields 6))
+    else Err BadForm)))))
+
+-- WHAT A LINE SAYS, by its fields
+abbrev pub statement_of : List (List ℕ) → Result Said LineError
+statement_of fields =
+    if has_form version_form fields then Ok Version
+    else (if has_form cpus_form fields then cpus_said fields
+    else (if has_form seed_form fields then seed_said fields
+    else (if has_form map_form fields then map_said fields (2 ^ 32 - 1)
+    else (if has_form masked_map_form fields then masked_said fields
+    else work_of fields))))
+
+-- ---- what a reader answers
+
+abbrev pub said_by : Statement → Said
+said_by statement.Version = Version
+said_by (statement.Cpus n) = Cpus n
+said_by (statement.Seed n) = Seed n
+said_by (statement.Map name shape) = Map name.now shape
+said_by (statement.Program name) = Program name.now
+said_by (statement.Words name digits) = Words name.now digits.now
+said_by (statement.Job j) = Job j.cpu j.program.now j.budget (option_copied j.context)
+
+abbrev pub Says : Result Statement LineError → Result Said LineError → Type 0
+Says (Ok s) said = said ≡ Ok (said_by s)
+Says (Err e) said = said ≡ Err e

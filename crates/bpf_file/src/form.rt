@@ -1,0 +1,150 @@
+//! The forms of the lines of a run file, part by part.
+
+ghost use Rattle.std.specs.Prelude.{◌≡◌, map};
+ghost use Rattle.bpf_file.specs.Form.{is_number, is_part, has_form, field_at};
+
+use crate::key::Key;
+use bpf_text::words::{self, NumberError};
+
+/// What a field of a line has to be.
+#[derive(Clone, Copy)]
+pub enum Part {
+    Word(Key),
+    /// A name of 32 characters at most.
+    Name,
+    Number,
+    /// Hex digits, which are looked at when the context is made; 4,096 bytes at most.
+    Context,
+    /// Hex digits of a program, of any length.
+    Words,
+}
+
+/// `ebpf-run 1`
+pub const VERSION: [Part; 2] = [Part::Word(Key::RunFile), Part::Word(Key::One)];
+
+/// `cpus N`
+pub const CPUS: [Part; 2] = [Part::Word(Key::Cpus), Part::Number];
+
+/// `seed N`
+pub const SEED: [Part; 2] = [Part::Word(Key::Seed), Part::Number];
+
+/// `map NAME key K value V max M spare P`
+pub const MAP: [Part; 10] = [
+    Part::Word(Key::Map),
+    Part::Name,
+    Part::Word(Key::KeySize),
+    Part::Number,
+    Part::Word(Key::ValueSize),
+    Part::Number,
+    Part::Word(Key::Max),
+    Part::Number,
+    Part::Word(Key::Spare),
+    Part::Number,
+];
+
+/// The same with `mask X` behind it.
+pub const MASKED_MAP: [Part; 12] = [
+    Part::Word(Key::Map),
+    Part::Name,
+    Part::Word(Key::KeySize),
+    Part::Number,
+    Part::Word(Key::ValueSize),
+    Part::Number,
+    Part::Word(Key::Max),
+    Part::Number,
+    Part::Word(Key::Spare),
+    Part::Number,
+    Part::Word(Key::Mask),
+    Part::Number,
+];
+
+/// `prog NAME`, before lines of assembly.
+pub const PROGRAM: [Part; 2] = [Part::Word(Key::Program), Part::Name];
+
+/// `prog NAME hex DIGITS`
+pub const WORDS: [Part; 4] = [
+    Part::Word(Key::Program),
+    Part::Name,
+    Part::Word(Key::Hex),
+    Part::Words,
+];
+
+/// `job CPU NAME`
+pub const JOB: [Part; 3] = [Part::Word(Key::Job), Part::Number, Part::Name];
+
+/// `job CPU NAME budget N`
+pub const JOB_WITH_BUDGET: [Part; 5] = [
+    Part::Word(Key::Job),
+    Part::Number,
+    Part::Name,
+    Part::Word(Key::Budget),
+    Part::Number,
+];
+
+/// `job CPU NAME ctx DIGITS`
+pub const JOB_WITH_CONTEXT: [Part; 5] = [
+    Part::Word(Key::Job),
+    Part::Number,
+    Part::Name,
+    Part::Word(Key::Context),
+    Part::Context,
+];
+
+/// `job CPU NAME budget N ctx DIGITS`
+pub const JOB_WITH_BOTH: [Part; 7] = [
+    Part::Word(Key::Job),
+    Part::Number,
+    Part::Name,
+    Part::Word(Key::Budget),
+    Part::Number,
+    Part::Word(Key::Context),
+    Part::Context,
+];
+
+/// Whether the field is a number, of any size.
+fn is_number(field: &[u8]) -> bool
+    ensures { result ≡ is_number field.now }
+{
+    match words::number(field) {
+        Ok(_) | Err(NumberError::TooLarge) => true,
+        Err(NumberError::NoNumber) => false,
+    }
+}
+
+impl Part {
+    /// Whether a field is that.
+    fn is(self, field: &[u8]) -> bool
+        ensures { result ≡ is_part self field.now }
+    {
+        match self {
+            Part::Word(key) => key.is(field),
+            Part::Name => words::is_name(field) && field.len() <= 32,
+            Part::Number => is_number(field),
+            Part::Context => field.len() <= 2 * 4096,
+            Part::Words => true,
+        }
+    }
+}
+
+/// Whether a line's fields are those of the form, one by one.
+pub fn has_form(form: &[Part], fields: &[&[u8]]) -> bool
+    ensures { result ≡ has_form form.now (map (λ f. f.now) fields.now) }
+{
+    match form {
+        [] => fields.is_empty(),
+        [part, parts @ ..] => match fields {
+            [field, others @ ..] => part.is(field) && has_form(parts, others),
+            [] => false,
+        },
+    }
+}
+
+/// A field of a line, empty where the line has fewer.
+pub fn field_at<'a>(fields: &[&'a [u8]], at: usize) -> &'a [u8]
+    ensures { result.now ≡ field_at (map (λ f. f.now) fields.now) at }
+{
+    match fields.get(at) {
+        Some(field) => *field,
+        None => &[],
+    }
+}

@@ -1,0 +1,59 @@
+//! The words that lines of a run file begin with or have between their fields.
+
+ghost use Rattle.std.specs.Prelude.{◌≡◌};
+ghost use Rattle.bpf_file.specs.Key.{key_text, is_key};
+
+/// A word with a meaning of its own.
+#[derive(Clone, Copy)]
+pub enum Key {
+    /// `ebpf-run`
+    RunFile,
+    /// `1`, the version
+    One,
+    Cpus,
+    Seed,
+    Map,
+    /// Before a map's size of keys, in bytes.
+    KeySize,
+    ValueSize,
+    Max,
+    Spare,
+    Mask,
+    Program,
+    Hex,
+    Job,
+    Budget,
+    Context,
+}
+
+impl Key {
+    /// How it is spelled.
+    fn text(self) -> &'static str
+        ensures { result.now ≡ key_text self }
+    {
+        match self {
+            Key::RunFile => "ebpf-run",
+            Key::One => "1",
+            Key::Cpus => "cpus",
+            Key::Seed => "seed",
+            Key::Map => "map",
+            Key::KeySize => "key",
+            Key::ValueSize => "value",
+            Key::Max => "max",
+            Key::Spare => "spare",
+            Key::Mask => "mask",
+            Key::Program => "prog",
+            Key::Hex => "hex",
+            Key::Job => "job",
+            Key::Budget => "budget",
+            Key::Context => "ctx",
+        }
+    }
+
+    /// Whether a field is this word.
+    pub fn is(self, field: &[u8]) -> bool
+        ensures { result ≡ is_key self field.now }
+    {
+        self.text().as_bytes() == field
+    }
+}

@@ -1,0 +1,183 @@
+//! What a line of a run file says.
+
+ghost use Rattle.std.specs.Prelude.{◌≡◌, ◌≤◌, map, IfOk};
+ghost use Rattle.std.specs.Option.{option_copied};
+ghost use Rattle.bpf_file.specs.Statement.{number_at, held_at, Says, cpus_said, seed_said, map_said, masked_said, job_said, budgeted_said, work_of, statement_of};
+
+use crate::form;
+use crate::line::LineError;
+use bpf_shared::MapShape;
+use bpf_text::words::{self, NumberError};
+
+/// What one line says, where it isn't assembly. Names and digits are as they stand.
+#[derive(Clone, Copy)]
+pub enum Statement<'a> {
+    /// The first line.
+    Version,
+    /// How many CPUs there are.
+    Cpus(u64),
+    /// The seed of the maps' hashes.
+    Seed(u64),
+    /// A map by its name.
+    Map(&'a [u8], MapShape),
+    /// A program's name; its assembly lines follow.
+    Program(&'a [u8]),
+    /// A program's name, and its words as hex digits.
+    Words(&'a [u8], &'a [u8]),
+    Job(JobLine<'a>),
+}
+
+/// A job as its line says it.
+#[derive(Clone, Copy)]
+pub struct JobLine<'a> {
+    /// The CPU's number, where 64 bits hold it.
+    pub cpu: Option<u64>,
+    /// The program's name.
+    pub program: &'a [u8],
+    /// How many steps it may make, where the line says it.
+    pub budget: Option<u64>,
+    /// The context's bytes as hex digits, where the line has them.
+    pub context: Option<&'a [u8]>,
+}
+
+/// The greatest number of steps that a job may be given.
+const MOST_STEPS: u64 = 1_000_000_000;
+
+/// The greatest size of a map, and number of CPUs, that a line may have.
+const MOST: u64 = 0xffff_ffff;
+
+/// The number that a field is, if it is in its range.
+fn number_at(fields: &[&[u8]], at: usize, most: u64) -> Result<u64, LineError>
+    ensures number { result ≡ number_at (map (λ f. f.now) fields.now) at most }
+    ensures within { IfOk result (λ n. n ≤ most) }
+{
+    match words::number(form::field_at(fields, at)) {
+        Ok(number) => {
+            if number <= most {
+                Ok(number)
+            } else {
+                Err(LineError::BadNumber)
+            }
+        }
+        Err(NumberError::TooLarge) => Err(LineError::BadNumber),
+        Err(NumberError::NoNumber) => Err(LineError::BadForm),
+    }
+}
+
+/// The number that a field is, if 64 bits hold it.
+fn held_at(fields: &[&[u8]], at: usize) -> Option<u64>
+    ensures { result ≡ held_at (map (λ f. f.now) fields.now) at }
+{
+    match words::number(form::field_at(fields, at)) {
+        Ok(number) => Some(number),
+        Err(_) => None,
+    }
+}
+
+fn cpus<'a>(fields: &[&'a [u8]]) -> Result<Statement<'a>, LineError>
+    ensures { Says result (cpus_said (map (λ f. f.now) fields.now)) }
+{
+    let cpus = number_at(fields, 1, MOST)?;
+    Ok(Statement::Cpus(cpus))
+}
+
+fn seed<'a>(fields: &[&'a [u8]]) -> Result<Statement<'a>, LineError>
+    ensures { Says result (seed_said (map (λ f. f.now) fields.now)) }
+{
+    let seed = number_at(fields, 1, u64::MAX)?;
+    Ok(Statement::Seed(seed))
+}
+
+/// A map with this mask.
+fn map<'a>(fields: &[&'a [u8]], mask: u32) -> Result<Statement<'a>, LineError>
+    ensures { Says result (map_said (map (λ f. f.now) fields.now) mask) }
+{
+    let key = number_at(fields, 3, MOST)?;
+    let value = number_at(fields, 5, MOST)?;
+    let max = number_at(fields, 7, MOST)?;
+    let spare = number_at(fields, 9, MOST)?;
+    Ok(Statement::Map(
+        form::field_at(fields, 1),
+        MapShape {
+            key,
+            value,
+            max,
+            spare,
+            mask,
+        },
+    ))
+}
+
+fn masked_map<'a>(fields: &[&'a [u8]]) -> Result<Statement<'a>, LineError>
+    ensures { Says result (masked_said (map (λ f. f.now) fields.now)) }
+{
+    let mask = number_at(fields, 11, MOST)?;
+    map(fields, mask as u32)
+}
+
+/// A job with this budget and context.
+fn job<'a>(
+    fields: &[&'a [u8]],
+    budget: Option<u64>,
+    context: Option<&'a [u8]>,
+) -> Result<Statement<'a>, LineError>
+    ensures { Says result
+        (job_said (map (λ f. f.now) fields.now) budget (option_copied context.entry)) }
+{
+    Ok(Statement::Job(JobLine {
+        cpu: held_at(fields, 1),
+        program: form::field_at(fields, 2),
+        budget,
+        context,
+    }))
+}
+
+fn budgeted_job<'a>(
+    fields: &[&'a [u8]],
+    context: Option<&'a [u8]>,
+) -> Result<Statement<'a>, LineError>
+    ensures { Says result (budgeted_said (map (λ f. f.now) fields.now) (option_copied context.entry)) }
+{
+    let budget = number_at(fields, 4, MOST_STEPS)?;
+    job(fields, Some(budget), context)
+}
+
+/// A line about a program or a job.
+fn work<'a>(fields: &[&'a [u8]]) -> Result<Statement<'a>, LineError>
+    ensures { Says result (work_of (map (λ f. f.now) fields.now)) }
+{
+    if form::has_form(&form::PROGRAM, fields) {
+        Ok(Statement::Program(form::field_at(fields, 1)))
+    } else if form::has_form(&form::WORDS, fields) {
+        Ok(Statement::Words(form::field_at(fields, 1), form::field_at(fields, 3)))
+    } else if form::has_form(&form::JOB, fields) {
+        job(fields, None, None)
+    } else if form::has_form(&form::JOB_WITH_BUDGET, fields) {
+        budgeted_job(fields, None)
+    } else if form::has_form(&form::JOB_WITH_CONTEXT, fields) {
+        job(fields, None, Some(form::field_at(fields, 4)))
+    } else if form::has_form(&form::JOB_WITH_BOTH, fields) {
+        budgeted_job(fields, Some(form::field_at(fields, 6)))
+    } else {
+        Err(LineError::BadForm)
+    }
+}
+
+/// What a line with these fields says.
+pub fn said<'a>(fields: &[&'a [u8]]) -> Result<Statement<'a>, LineError>
+    ensures { Says result (statement_of (map (λ f. f.now) fields.now)) }
+{
+    if form::has_form(&form::VERSION, fields) {
+        Ok(Statement::Version)
+    } else if form::has_form(&form::CPUS, fields) {
+        cpus(fields)
+    } else if form::has_form(&form::SEED, fields) {
+        seed(fields)
+    } else if form::has_form(&form::MAP, fields) {
+        map(fields, u32::MAX)
+    } else if form::has_form(&form::MASKED_MAP, fields) {
+        masked_map(fields)
+    } else {
+        work(fields)
+    }
+}
