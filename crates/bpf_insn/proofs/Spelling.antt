@@ -171,13 +171,6 @@ second_map : (next : Option Word) → IsWhole (Wide Unused) next → IsZeroedSec
 second_map None h z = absurd (h refl)
 second_map (Some v) h z = ap (λ (x : Word). Some x) (word_is v _ z.0 z.1 z.2 z.3 z.4)
 
--- a word that passes for one of this row
-pub record Passes (i : Insn) (w : Window) : Type 0 where
-  pub of_row : IsOfRow (row_of i) w.word
-  pub clean : IsClean (row_of i) w
-  pub whole : IsWhole (row_of i).encoding w.next
-  pub registers : HasRegisters (row_of i) w.word
-
 d_is : (w : Word) → w.dst ≤ 10 → w.dst ≡ register_number (dst_of w)
 d_is w h = sym (register-there w.dst h)
 
@@ -188,34 +181,31 @@ s_is w h = sym (register-there w.src h)
 narrow : (i : Insn) (w : Window) → IsFollowed (row_of i).encoding w.next → w.word ≡ first_word (row_of i) → IsWrittenAs i w
 narrow i w n e = record { first = e; second = n }
 
-passes : (i : Insn) (w : Window) → IsNarrow w.word → IsOfRow (row_of i) w.word → IsClean (row_of i) w → IsWhole (row_of i).encoding w.next → HasRegisters (row_of i) w.word → IsWrittenAs (rebuilt i w.word w.next) w
-passes (insn.Alu width op d (Immediate n)) w k e z h r = narrow _ w tt (word_is w.word _ e.opcode (d_is w.word r.dst) z.src (fixed_value (offset_k op) w.word.offset (fixed_k op) e.offset z.offset) (back32 _ k.imm))
-passes (insn.Alu width op d (Register s)) w k e z h r = narrow _ w tt (word_is w.word _ e.opcode (d_is w.word r.dst) (s_is w.word r.src) (fixed_value (offset_x op) w.word.offset (fixed_x op) e.offset z.offset) z.imm)
-passes (insn.Negate width d) w k e z h r = narrow _ w tt (word_is w.word _ e.opcode (d_is w.word r.dst) z.src z.offset z.imm)
-passes (insn.SignExtend x d s) w k e z h r = narrow _ w tt (word_is w.word _ e.opcode (d_is w.word r.dst) (s_is w.word r.src) e.offset z.imm)
-passes (insn.SwapBytes b c d) w k e z h r = narrow _ w tt (word_is w.word _ e.opcode (d_is w.word r.dst) z.src z.offset e.imm)
-passes (insn.Jump o) w k e z h r = narrow _ w tt (word_is w.word _ e.opcode z.dst z.src (back16 _ k.offset) z.imm)
-passes (insn.JumpLong n) w k e z h r = narrow _ w tt (word_is w.word _ e.opcode z.dst z.src z.offset (back32 _ k.imm))
-passes (insn.JumpIf width c d (Immediate n) o) w k e z h r = narrow _ w tt (word_is w.word _ e.opcode (d_is w.word r.dst) z.src (back16 _ k.offset) (back32 _ k.imm))
-passes (insn.JumpIf width c d (Register s) o) w k e z h r = narrow _ w tt (word_is w.word _ e.opcode (d_is w.word r.dst) (s_is w.word r.src) (back16 _ k.offset) z.imm)
-passes (insn.CallHelper n) w k e z h r = narrow _ w tt (word_is w.word _ e.opcode z.dst e.src z.offset refl)
-passes (insn.CallLocal n) w k e z h r = narrow _ w tt (word_is w.word _ e.opcode z.dst e.src z.offset (back32 _ k.imm))
-passes insn.Exit w k e z h r = narrow _ w tt (word_is w.word _ e.opcode z.dst z.src z.offset z.imm)
-passes (insn.Load b d s o) w k e z h r = narrow _ w tt (word_is w.word _ e.opcode (d_is w.word r.dst) (s_is w.word r.src) (back16 _ k.offset) z.imm)
-passes (insn.LoadSigned b d s o) w k e z h r = narrow _ w tt (word_is w.word _ e.opcode (d_is w.word r.dst) (s_is w.word r.src) (back16 _ k.offset) z.imm)
-passes (insn.StoreImmediate b d o n) w k e z h r = narrow _ w tt (word_is w.word _ e.opcode (d_is w.word r.dst) z.src (back16 _ k.offset) (back32 _ k.imm))
-passes (insn.Store b d o s) w k e z h r = narrow _ w tt (word_is w.word _ e.opcode (d_is w.word r.dst) (s_is w.word r.src) (back16 _ k.offset) z.imm)
-passes (insn.Atomic width op d o s) w k e z h r = narrow _ w tt (word_is w.word _ e.opcode (d_is w.word r.dst) (s_is w.word r.src) (back16 _ k.offset) e.imm)
-passes (insn.LoadNumber d n) w k e z h r =
+pub passing : (i : Insn) (w : Window) → IsNarrow w.word → IsOfRow (row_of i) w.word → IsClean (row_of i) w → IsWhole (row_of i).encoding w.next → HasRegisters (row_of i) w.word → IsWrittenAs (rebuilt i w.word w.next) w
+passing (insn.Alu width op d (Immediate n)) w k e z h r = narrow _ w tt (word_is w.word _ e.opcode (d_is w.word r.dst) z.src (fixed_value (offset_k op) w.word.offset (fixed_k op) e.offset z.offset) (back32 _ k.imm))
+passing (insn.Alu width op d (Register s)) w k e z h r = narrow _ w tt (word_is w.word _ e.opcode (d_is w.word r.dst) (s_is w.word r.src) (fixed_value (offset_x op) w.word.offset (fixed_x op) e.offset z.offset) z.imm)
+passing (insn.Negate width d) w k e z h r = narrow _ w tt (word_is w.word _ e.opcode (d_is w.word r.dst) z.src z.offset z.imm)
+passing (insn.SignExtend x d s) w k e z h r = narrow _ w tt (word_is w.word _ e.opcode (d_is w.word r.dst) (s_is w.word r.src) e.offset z.imm)
+passing (insn.SwapBytes b c d) w k e z h r = narrow _ w tt (word_is w.word _ e.opcode (d_is w.word r.dst) z.src z.offset e.imm)
+passing (insn.Jump o) w k e z h r = narrow _ w tt (word_is w.word _ e.opcode z.dst z.src (back16 _ k.offset) z.imm)
+passing (insn.JumpLong n) w k e z h r = narrow _ w tt (word_is w.word _ e.opcode z.dst z.src z.offset (back32 _ k.imm))
+passing (insn.JumpIf width c d (Immediate n) o) w k e z h r = narrow _ w tt (word_is w.word _ e.opcode (d_is w.word r.dst) z.src (back16 _ k.offset) (back32 _ k.imm))
+passing (insn.JumpIf width c d (Register s) o) w k e z h r = narrow _ w tt (word_is w.word _ e.opcode (d_is w.word r.dst) (s_is w.word r.src) (back16 _ k.offset) z.imm)
+passing (insn.CallHelper n) w k e z h r = narrow _ w tt (word_is w.word _ e.opcode z.dst e.src z.offset refl)
+passing (insn.CallLocal n) w k e z h r = narrow _ w tt (word_is w.word _ e.opcode z.dst e.src z.offset (back32 _ k.imm))
+passing insn.Exit w k e z h r = narrow _ w tt (word_is w.word _ e.opcode z.dst z.src z.offset z.imm)
+passing (insn.Load b d s o) w k e z h r = narrow _ w tt (word_is w.word _ e.opcode (d_is w.word r.dst) (s_is w.word r.src) (back16 _ k.offset) z.imm)
+passing (insn.LoadSigned b d s o) w k e z h r = narrow _ w tt (word_is w.word _ e.opcode (d_is w.word r.dst) (s_is w.word r.src) (back16 _ k.offset) z.imm)
+passing (insn.StoreImmediate b d o n) w k e z h r = narrow _ w tt (word_is w.word _ e.opcode (d_is w.word r.dst) z.src (back16 _ k.offset) (back32 _ k.imm))
+passing (insn.Store b d o s) w k e z h r = narrow _ w tt (word_is w.word _ e.opcode (d_is w.word r.dst) (s_is w.word r.src) (back16 _ k.offset) z.imm)
+passing (insn.Atomic width op d o s) w k e z h r = narrow _ w tt (word_is w.word _ e.opcode (d_is w.word r.dst) (s_is w.word r.src) (back16 _ k.offset) e.imm)
+passing (insn.LoadNumber d n) w k e z h r =
     let low = k.imm in
     record {
       first = word_is w.word _ e.opcode (d_is w.word r.dst) e.src z.offset (sym (mod_low (high_of w.next) 32 w.word.imm low));
       second = second_number w.next (n / 2 ^ 32) _ h z.second (sym (shr_high (high_of w.next) 32 w.word.imm low));
     }
-passes (insn.LoadMap d m) w k e z h r = record {
+passing (insn.LoadMap d m) w k e z h r = record {
   first = word_is w.word _ e.opcode (d_is w.word r.dst) e.src z.offset refl;
   second = second_map w.next h z.second;
 }
-
-pub passing : (i : Insn) (w : Window) → IsNarrow w.word → Passes i w → IsWrittenAs (rebuilt i w.word w.next) w
-passing i w k p = passes i w k p.of_row p.clean p.whole p.registers

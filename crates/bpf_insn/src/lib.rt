@@ -24,6 +24,3 @@ pub use operation::{
     AluOp, AtomicOp, ByteSwap, Condition, SignExtension, SignedSize, Size, SwapWidth, Width,
 };
 pub use register::Reg;
-
-#[cfg(test)]
-mod tests;

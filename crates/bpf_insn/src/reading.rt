@@ -17,18 +17,8 @@ pub fn instruction(window: &Window) -> Result<Insn, Fault>
     let Some(insn) = candidate(window) else {
         return Err(Fault::UnknownOpcode);
     };
-    let row = insn.row();
-    if !row.is_of(window.word) {
-        return Err(Fault::UnknownOpcode);
+    match insn.row().check(window) {
+        Ok(()) => Ok(insn),
+        Err(fault) => Err(fault),
     }
-    if !row.is_clean(window) {
-        return Err(Fault::ReservedNotZero);
-    }
-    if !row.is_whole(window) {
-        return Err(Fault::HalfWide);
-    }
-    if !row.has_registers(window.word) {
-        return Err(Fault::BadRegister);
-    }
-    Ok(insn)
 }

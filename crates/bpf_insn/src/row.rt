@@ -4,7 +4,9 @@ ghost use Rattle.std.specs.Prelude.{◌≡◌, ◌↔◌, IsTrue, IfSome};
 ghost use Rattle.bpf_insn.specs.Encoding.{value_of, first_word, second_word};
 ghost use Rattle.bpf_insn.specs.Refusal.{Selected, IsOfRow, IsZeroed, IsZeroedSecond, IsClean, IsWhole, IsRegister, HasRegisters};
 ghost use Rattle.bpf_insn.specs.Private.Bytes.{IsNarrow};
+ghost use Rattle.bpf_insn.specs.Private.Reading.{IsChecked};
 
+use crate::fault::Fault;
 use crate::word::{Window, Word};
 
 /// What a row says of a field.
@@ -115,7 +117,7 @@ pub struct Row {
 
 impl Row {
     /// Whether the word has the row's opcode and its selecting fields.
-    pub fn is_of(&self, word: Word) -> bool
+    fn is_of(&self, word: Word) -> bool
         ensures { IsTrue result ↔ IsOfRow self.now word }
     {
         word.opcode == self.opcode
@@ -126,7 +128,7 @@ impl Row {
     }
 
     /// Whether the fields that the row doesn't use are zero.
-    pub fn is_clean(&self, window: &Window) -> bool
+    fn is_clean(&self, window: &Window) -> bool
         ensures { IsTrue result ↔ IsClean self.now window.now }
     {
         let word = window.word;
@@ -138,7 +140,7 @@ impl Row {
     }
 
     /// Whether the second word is there, if the row has one.
-    pub fn is_whole(&self, window: &Window) -> bool
+    fn is_whole(&self, window: &Window) -> bool
         ensures { IsTrue result ↔ IsWhole self.now.encoding window.now.next }
     {
         match (self.encoding, window.next) {
@@ -148,10 +150,29 @@ impl Row {
     }
 
     /// Whether the fields that hold registers have numbers of registers.
-    pub fn has_registers(&self, word: Word) -> bool
+    fn has_registers(&self, word: Word) -> bool
         ensures { IsTrue result ↔ HasRegisters self.now word }
     {
         self.dst.is_register(u32::from(word.dst)) && self.src.is_register(u32::from(word.src))
+    }
+
+    /// The first thing that is wrong with words that are taken for the row's.
+    pub fn check(&self, window: &Window) -> Result<(), Fault>
+        ensures { IsChecked self.now window.now result }
+    {
+        if !self.is_of(window.word) {
+            return Err(Fault::UnknownOpcode);
+        }
+        if !self.is_clean(window) {
+            return Err(Fault::ReservedNotZero);
+        }
+        if !self.is_whole(window) {
+            return Err(Fault::HalfWide);
+        }
+        if !self.has_registers(window.word) {
+            return Err(Fault::BadRegister);
+        }
+        Ok(())
     }
 
     /// The first word that the row spells.

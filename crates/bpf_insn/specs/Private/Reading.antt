@@ -1,10 +1,12 @@
 -- What the reading of one instruction answers: the instruction, or the first thing that is wrong.
 use Rattle.std.specs.Prelude.{◌≡◌, ℕ, ◌*◌, List, drop, Result, Ok, Err}
 use Rattle.bpf_insn.specs.Encoding.{window_at, IsWrittenAs, Fits, BeginsWith}
-use Rattle.bpf_insn.specs.Refusal.{error_at, IsFirstAmiss}
+use Rattle.bpf_insn.specs.Refusal.{IsOfRow, IsClean, IsWhole, HasRegisters, error_at, IsFirstAmiss}
 use Rattle.bpf_insn.specs.declared.instruction.Insn.{Insn}
 use Rattle.bpf_insn.specs.declared.word.Window.{Window}
 use Rattle.bpf_insn.specs.declared.fault.Fault.{Fault}
+use Rattle.bpf_insn.specs.declared.fault.Fault.TheVariants.{UnknownOpcode, ReservedNotZero, HalfWide, BadRegister}
+use Rattle.bpf_insn.specs.declared.row.Row.{Row}
 use Rattle.bpf_insn.specs.declared.error.InsnError.{InsnError}
 
 -- the words are the instruction's, and its numbers fit
@@ -15,6 +17,16 @@ pub record IsWord (i : Insn) (w : Window) : Type 0 where
 abbrev pub Reads : Window → Result Insn Fault → Type 0
 Reads w (Ok i) = IsWord i w
 Reads w (Err f) = IsFirstAmiss w f
+
+-- The first thing that is wrong with words that are taken for a row's, in the order of the refusals.
+abbrev pub IsChecked : Row → Window → Result (Unit {0}) Fault → Type 0
+IsChecked r w (Ok u) =
+    IsOfRow r w.word × IsClean r w × IsWhole r.encoding w.next × HasRegisters r w.word
+IsChecked r w (Err UnknownOpcode) = ¬ IsOfRow r w.word
+IsChecked r w (Err ReservedNotZero) = IsOfRow r w.word × (¬ IsClean r w)
+IsChecked r w (Err HalfWide) = IsOfRow r w.word × IsClean r w × (¬ IsWhole r.encoding w.next)
+IsChecked r w (Err BadRegister) =
+    IsOfRow r w.word × IsClean r w × IsWhole r.encoding w.next × (¬ HasRegisters r w.word)
 
 -- the same at a pc, which a refusal names
 pub record IsRefusedAt (e : InsnError) (pc : ℕ) (bytes : List ℕ) : Type 0 where
