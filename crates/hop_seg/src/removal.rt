@@ -4,12 +4,12 @@ ghost use Rattle.std.specs.Prelude.{◌≡◌, ◌<◌, ℕ};
 ghost use Rattle.hop_seg.specs.Words.{Words, IsKnown};
 ghost use Rattle.hop_seg.specs.Segment.{Sound, IsOwn, key_at};
 ghost use Rattle.hop_seg.specs.Content.{HasPair, IsLinked, Loses, Changes};
-ghost use Rattle.hop_seg.specs.Edits.{with_link, IsLinkKnown};
+ghost use Rattle.hop_seg.specs.Edits.{with_link, unlinked, relinked, IsLinkKnown};
 ghost use Rattle.hop_seg.specs.Spots.{IsLink};
 
 use crate::held::{next, spot};
-use crate::items::take_item;
-use crate::places::{bucket_of, place_at};
+use crate::items::{change_item, take_item};
+use crate::places::bucket_of;
 use crate::search::Spot;
 use crate::words::SegWords;
 
@@ -53,7 +53,7 @@ pub fn replace<S: SegWords>(words: &mut S, key: &[u8], home: u32, new: u32) -> u
     };
     match found {
         Spot::Near { distance, element } => {
-            words.set_slot(place_at(bucket_of(home), distance), Some(new));
+            change_item(words, bucket_of(home), distance, new);
             element
         }
         Spot::Listed { before, element } => {
@@ -67,23 +67,19 @@ pub fn replace<S: SegWords>(words: &mut S, key: &[u8], home: u32, new: u32) -> u
 fn unlink<S: SegWords>(words: &mut S, before: Option<u32>, element: u32)
     requires sound { Sound (S.words words.old) }
     requires link { IsLink (S.words words.old) before element }
-    ensures loses { Loses (S.words words.old) (S.words words.new)
-        (key_at (S.words words.old) element) element }
+    ensures words { S.words words.new ≡ unlinked (S.words words.old) before element }
     ensures stays { S.stays words.old words.new }
 {
     let following = next(words, element);
     set_link(words, before, following);
 }
 
-/// Puts a new element of its key in an element's place on the overflow list.
+/// Puts a new element in an element's place on the overflow list.
 fn relink<S: SegWords>(words: &mut S, before: Option<u32>, element: u32, new: u32)
     requires sound { Sound (S.words words.old) }
     requires link { IsLink (S.words words.old) before element }
-    requires own { IsOwn (S.words words.old).fixed new }
-    requires keyed { key_at (S.words words.old) new ≡ key_at (S.words words.old) element }
-    requires fresh { IsLinked (S.words words.old) new → ⊥ }
-    ensures changes { Changes (S.words words.old) (S.words words.new)
-        (key_at (S.words words.old) element) element new }
+    requires known { IsKnown (S.words words.old).fixed new }
+    ensures words { S.words words.new ≡ relinked (S.words words.old) before element new }
     ensures stays { S.stays words.old words.new }
 {
     let following = next(words, element);

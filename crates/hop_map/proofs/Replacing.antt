@@ -1,0 +1,119 @@
+-- A replacement: from the lock to the unlock.
+use Rattle.std.proofs.Common.{◌≡◌, ℕ, ◌+◌, ◌<◌, ◌%◌, ◌^◌, eq-eqb, Bool, true, false, true≢false, ◌||◌, ◌&&◌, ◌==◌, List, [], ◌∷◌, Option, Some, None, length, refl, ap, sym, subst, ◌∙◌, arith}
+use Rattle.bpf_shared.specs.Shape.{elements}
+use Rattle.bpf_shared.specs.declared.events.Event.TheVariants.{Update}
+use Rattle.bpf_shared.specs.declared.events.MapAnswer.TheVariants.{Done}
+use Rattle.hop_words.specs.declared.known.About.{About}
+use Rattle.hop_words.specs.declared.known.Known.{Known}
+use Rattle.hop_words.specs.declared.known.Lock.{Lock}
+use Rattle.hop_words.specs.declared.known.Fresh.{Fresh}
+use Rattle.hop_words.specs.Layout.{depth}
+use Rattle.hop_map.specs.Views.{home}
+use Rattle.hop_words.specs.Content.{Words, IsShare, HasKey}
+use Rattle.hop_words.specs.Ghost.{segment_in, shape_at}
+use Rattle.hop_words.specs.Rule.{image, put_key}
+use Rattle.hop_words.specs.Kinds.{has, Replaces, Replaced, Saw, with_gone}
+use Rattle.hop_seg.specs.Words.{Fixed}
+use Rattle.hop_seg.specs.Segment.{Sound as SegSound, IsOwn, key_at}
+use Rattle.hop_seg.specs.Content.{HasPair, IsLinked, Changes}
+use Rattle.hop_map.specs.Views.{Locked, Stays, Ready, lock_of, knows, in_hand, is_put, view, words}
+use Rattle.hop_map.specs.Calls.{Contents, hand}
+use Rattle.hop_map.specs.Overs.{BringsOver, Over}
+use Rattle.hop_map.proofs.Keys.{spells}
+use Rattle.hop_map.proofs.Counted.{or_true}
+use Rattle.hop_map.proofs.Bridge.{replaced, reached_of, power_is}
+use Rattle.hop_map.proofs.Puts.{sound_with, share, any_known, leads_with, known_by, here, or_last}
+
+module _ (x : Locked) (key bytes : List ℕ) (flags element : ℕ) (c : Contents x.about x.known x.map x.segment) (b : BringsOver x.about x.known x.map x.segment key bytes flags element) where
+  abbrev k : Lock
+  k = lock_of x.known
+
+  more : ℕ → Bool
+  more e = is_put k.change e || in_hand x.known.fresh x.map e
+
+  pub over_sound : SegSound (words x)
+  unfolding more
+  over_sound = sound_with x.about x.known x.map x.segment c more
+
+  pub over_spelt : key_at (words x) element ≡ key
+  over_spelt = spells x.about x.map (image x.about k.copy) element key (subst (λ (ws : List ℕ). HasKey (shape_at x.about x.map) (image x.about ws) x.map element key) (sym c.copied) b.keyed)
+
+  pub over_fresh : IsLinked (words x) element → ⊥
+  unfolding more
+  over_fresh linked =
+      let p = share x.about x.known x.map x.segment c in
+      let t = p.each element (reached_of x.about x.map x.segment (λ e. has e k.known || more e) (image x.about k.copy) element linked) in
+      let q = any_known x.about x.known x.map x.segment c c.content p t.0 element t.3 t.2 in
+      true≢false (sym q.1 ∙ b.apart)
+
+  held_here : in_hand x.known.fresh x.map element ≡ true
+  held_here = subst (λ (fs : List Fresh). in_hand fs x.map element ≡ true) (sym b.in_hand)
+      ((λ j. eq-eqb (hand x.known).map x.map b.map j && (element == (hand x.known).element)) ∙ eq-eqb element (hand x.known).element (sym b.number))
+
+  pub over_own : IsOwn (words x).fixed element
+  over_own = record {
+    known = (or_last (has element k.known) _ (or_last (is_put k.change element) _ held_here), b.inside);
+    home = ap (λ (q : List ℕ). home x.about.seed (shape_at x.about x.map).mask q % 2 ^ depth (shape_at x.about x.map)) over_spelt
+        ∙ (ap (λ (n : ℕ). home x.about.seed (shape_at x.about x.map).mask key % n) (sym (power_is (depth (shape_at x.about x.map)))) ∙ b.home);
+  }
+
+  abbrev lit : List ℕ → Bool → Known
+  lit ws d = record x.known { locks = record k { copy = ws; dirty = d } ∷ [] }
+
+  at_lock : (P : ℕ → ℕ → Type 0) → P x.map x.segment → P k.map k.segment
+  at_lock P p = subst (P k.map) (sym c.segment) (subst (λ (n : ℕ). P n x.segment) (sym c.map) p)
+
+  replaces : (ws : List ℕ) (d : Bool) (old : ℕ) → Ready x.about (lit ws d) x.map x.segment → Changes (words x) (words (record x { known = lit ws d })) key old element
+      → Replaces x.about (lit ws d) (lock_of (lit ws d)) (hand (lit ws d)) [] key bytes flags old
+  unfolding more
+  replaces ws d old r g =
+      let b' : BringsOver x.about x.known k.map k.segment key bytes flags element = at_lock (λ n t. BringsOver x.about x.known n t key bytes flags element) b in
+      record {
+        lock = refl;
+        nothing = c.nothing;
+        hand = b.in_hand;
+        map = b'.map;
+        element = subst (λ (e : ℕ). e < elements (shape_at x.about k.map)) (sym b'.number) b'.inside;
+        home = b'.home;
+        key_size = b'.keyed.0;
+        size = b'.size;
+        are_bytes = b.are_bytes;
+        filled = b'.filled;
+        value = b'.value;
+        there = leads_with x.about x.known x.map x.segment c more key b.home old g.was;
+        written = λ before sh.
+            let p = here x.about x.known x.map x.segment c before sh in
+            let done = replaced x.about x.map x.segment (λ e. has e k.known || more e) (image x.about k.copy) (image x.about ws) before p (known_by x.about x.known x.map x.segment c more before p)
+            (λ e kn. (r.known_is e kn).1) key b.home old element g in
+            subst (λ (e : ℕ). IsShare x.about.seed (shape_at x.about k.map) (segment_in x.about k.map) (image x.about ws) k.map k.segment (put_key before key (Some e))) (sym b.number)
+            (at_lock (λ n t. IsShare x.about.seed (shape_at x.about n) (segment_in x.about n) (image x.about ws) n t (put_key before key (Some element))) done);
+        flags_known = b.flags_known;
+        room = b'.limbo;
+        runs = b.runs;
+      }
+
+  module _ (z : Locked) (st : Stays x z) where
+    z_is : z.known.locks ≡ lock_of z.known ∷ [] → z ≡ record x { known = lit (lock_of z.known).copy (lock_of z.known).dirty }
+    z_is held = λ j. record {
+      table = st.table j;
+      about = st.about j;
+      map = st.map j;
+      segment = st.segment j;
+      known = (st.known ∙ ap (λ (ks : List Lock). record x.known { locks = ks }) (held ∙ ap (λ (q : Lock). q ∷ []) st.lock)) j;
+    }
+
+    pub over_replaces : (old : ℕ) → Changes (words x) (words z) key old element → Ready z.about z.known z.map z.segment → Replaces z.about z.known (lock_of z.known) (hand z.known) [] key bytes flags old
+    over_replaces old g r = subst (λ (q : Locked). Changes (words x) (words q) key old element → Ready q.about q.known q.map q.segment → Replaces q.about q.known (lock_of q.known) (hand q.known) [] key bytes flags old)
+        (sym (z_is r.held)) (λ g r. replaces (lock_of z.known).copy (lock_of z.known).dirty old r g) g r
+
+    pub over_ends : (old : ℕ) (l3 : Known) → Replaced z.about z.known (lock_of z.known) [] key bytes flags old l3 → Over x.about x.known x.map key bytes flags l3
+    over_ends old l3 p =
+        let m : (lock_of z.known).map ≡ x.map = ap (λ (q : Lock). q.map) st.lock ∙ c.map in
+        let w : Saw x.about x.known (Update x.map key bytes flags Done) l3.seen = (let v = subst (λ (q : Known). Saw x.about q (Update x.map key bytes flags Done) l3.seen) st.known
+        (subst (λ (a : About). Saw a z.known (Update x.map key bytes flags Done) l3.seen) st.about (subst (λ (n : ℕ). Saw z.about z.known (Update n key bytes flags Done) l3.seen) m p.seen)) in
+        record { others = v.others; foreign = v.foreign; after = v.after; legal = v.legal }) in
+        record {
+          old = old;
+          seen = w;
+          after = p.after ∙ (λ j. record (st.known j) { seen = l3.seen; fresh = []; limbo = with_gone (st.known j) (m j) old; locks = [] });
+        }
