@@ -8,3 +8,4 @@ pub mod Bridge
 pub mod Counted
 pub mod Puts
 pub mod Locking
+pub mod Replacing

@@ -16,8 +16,9 @@ use Rattle.hop_words.specs.Kinds.{has, Replaces, Replaced, Saw, with_gone}
 use Rattle.hop_seg.specs.Words.{Fixed}
 use Rattle.hop_seg.specs.Segment.{Sound as SegSound, IsOwn, key_at}
 use Rattle.hop_seg.specs.Content.{HasPair, IsLinked, Changes}
-use Rattle.hop_map.specs.Views.{Locked, Stays, Ready, lock_of, knows, in_hand, is_put, view, words}
-use Rattle.hop_map.specs.Calls.{Contents, hand}
+use Rattle.hop_map.specs.Views.{Locked, Stays, Ready, knows, in_hand, is_put, view, words}
+use Rattle.hop_words.specs.Locking.{lock_of, hand}
+use Rattle.hop_map.specs.Calls.{Contents}
 use Rattle.hop_map.specs.Overs.{BringsOver, Over}
 use Rattle.hop_map.proofs.Keys.{spells}
 use Rattle.hop_map.proofs.Counted.{or_true}

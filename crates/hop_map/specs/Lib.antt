@@ -2,3 +2,4 @@ pub mod Views
 pub mod Keeping
 pub mod Calls
 pub mod Locks
+pub mod Overs

@@ -11,18 +11,15 @@ use Rattle.bpf_shared.specs.declared.events.MapAnswer.TheVariants.{Done, Full}
 use Rattle.bpf_shared.specs.History.{events_of}
 use Rattle.hop_words.specs.Layout.{words_for, size}
 use Rattle.hop_words.specs.Homes.{segment_of, word_of, AreBytes}
-use Rattle.hop_map.specs.Views.{home}
 use Rattle.hop_words.specs.Content.{IsShare, HasKey}
 use Rattle.hop_words.specs.Ghost.{shape_at}
 use Rattle.hop_words.specs.Rule.{image}
 use Rattle.hop_words.specs.Kinds.{has, in_run, Saw, with_gone}
-use Rattle.hop_map.specs.declared.put.Put.{Put}
-use Rattle.hop_map.specs.declared.put.Put.TheVariants.{Taken, There, Missed, Held}
-use Rattle.hop_map.specs.Views.{Locked, lock_of}
-use Rattle.hop_map.specs.Calls.{hand}
+use Rattle.hop_words.specs.Locking.{lock_of, hand}
 
 -- the lane has an element in hand, filled with a key of this segment and a value
-pub record BringsOver (a : About) (l : Known) (m s : ℕ) (key bytes : List ℕ) (flags element : ℕ) : Type 0 where
+pub record BringsOver (a : About) (l : Known) (m s : ℕ) (key bytes : List ℕ) (flags element : ℕ) :
+    Type 0 where
   pub in_hand : l.fresh ≡ hand l ∷ []
   pub map : (hand l).map ≡ m
   pub number : (hand l).element ≡ element
@@ -31,7 +28,8 @@ pub record BringsOver (a : About) (l : Known) (m s : ℕ) (key bytes : List ℕ)
   pub size : length bytes ≡ (shape_at a m).value
   pub are_bytes : AreBytes bytes
   pub filled : length (hand l).value ≡ words_for (shape_at a m).value
-  pub value : (i : ℕ) → i < words_for (shape_at a m).value → slice_index (hand l).value i ≡ word_of bytes i
+  pub value : (i : ℕ) → i < words_for (shape_at a m).value →
+      slice_index (hand l).value i ≡ word_of bytes i
   pub keyed : HasKey (shape_at a m) (image a (lock_of l).first) m element key
   pub flags_known : (flags ≡ 0) ⊎ (flags ≡ 2)
   pub runs : in_run (events_of l.cpu l.seen) ≡ true
@@ -40,7 +38,8 @@ pub record BringsOver (a : About) (l : Known) (m s : ℕ) (key bytes : List ℕ)
   pub apart : has element (lock_of l).known ≡ false
 
 -- the replacement's event; an element that the key led to is in hand, and all else as it was
-pub record Over (a : About) (l : Known) (m : ℕ) (key bytes : List ℕ) (flags : ℕ) (l2 : Known) : Type 0 where
+pub record Over (a : About) (l : Known) (m : ℕ) (key bytes : List ℕ) (flags : ℕ) (l2 : Known) :
+    Type 0 where
   pub old : ℕ
   pub seen : Saw a l (Update m key bytes flags Done) l2.seen
   pub after : l2 ≡ record l { seen = l2.seen; fresh = []; limbo = with_gone l m old; locks = [] }

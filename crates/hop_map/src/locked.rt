@@ -4,7 +4,7 @@ ghost use Rattle.bpf_shared.specs.Shape.{elements as elements_of};
 ghost use Rattle.hop_words.specs.Layout.{is_place, mem};
 ghost use Rattle.hop_words.specs.Ghost.{shape_at};
 ghost use Rattle.hop_words.specs.Rule.{owed};
-ghost use Rattle.hop_words.specs.Kinds.{Inserted, IsAbsent, IsWritten, unlocking};
+ghost use Rattle.hop_words.specs.Kinds.{Inserted, IsAbsent, IsWritten, unlocking, Replaces, Replaced};
 ghost use Rattle.hop_words.specs.Locking.{lock_of, hand};
 ghost use Rattle.hop_words.specs.Guarded.{IsGuarded, MayWrite};
 ghost use Rattle.hop_map.specs.Views.{IsNoKey, written, knows, Spells, Ready, Fits};
@@ -115,6 +115,30 @@ impl<'a> LockedWords<'a> {
         let (table, map, segment) = (self.table, self.map, self.segment);
         let mut lane = self.lane;
         lane.unlock_written(table, map, segment, stamp);
+        lane
+    }
+
+    /// Gives the lock back, and with it a replacement takes effect that has been written.
+    pub(crate) fn unlock_replaced(
+        self,
+        stamp: u64,
+        key: &[u8],
+        value: &[u8],
+        flags: u64,
+        old: u32,
+    ) -> Lane
+        requires stamp { stamp ≡ (lock_of self.known).stamp }
+        requires fits { stamp + 256 < 2 ^ 64 }
+        requires replaces { let l = self.known in
+            Ready self.about l self.map self.segment →
+            Replaces self.about l (lock_of l) (hand l) [] key.now value.now flags old }
+        ensures table { result.table ≡ self.entry.table }
+        ensures replaced { let l = self.entry.known in
+            Replaced self.entry.about l (lock_of l) [] key.now value.now flags old result.known }
+    {
+        let (table, map, segment) = (self.table, self.map, self.segment);
+        let mut lane = self.lane;
+        lane.unlock_replaced(table, map, segment, stamp, key, value, flags, old);
         lane
     }
 

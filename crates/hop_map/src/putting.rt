@@ -1,15 +1,18 @@
 //! A new element for a key, under the lock of the key's segment.
-ghost use Rattle.std.specs.Prelude.{◌≡◌, ◌<◌, ◌≤◌, ◌+◌, ◌^◌, ◌%◌};
+ghost use Rattle.std.specs.Prelude.{◌≡◌, ◌<◌, ◌≤◌, ◌+◌, ◌^◌, ◌%◌, ℕ};
 ghost use Rattle.hop_words.specs.Home.{home_of};
 ghost use Rattle.hop_words.specs.Ghost.{shape_at, IsSegment};
 ghost use Rattle.hop_words.specs.Locking.{lock_of};
 ghost use Rattle.bpf_shared.specs.Shape.{elements as elements_of};
+ghost use Rattle.hop_seg.specs.Content.{HasPair};
+ghost use Rattle.hop_map.specs.Views.{words as seen};
+ghost use Rattle.hop_map.specs.Overs.{BringsOver, Over};
 ghost use Rattle.hop_map.specs.Locks.{Readies, PutTells};
 ghost use Rattle.hop_map.specs.Calls.{Contents, Brings, PutEnds};
 
 use crate::locked::LockedWords;
 use crate::put::Put;
-use hop_seg::{find, insert};
+use hop_seg::{find, insert, replace};
 use hop_words::{HopTable, Lane};
 
 /// Puts the element in hand, if the key has none, and gives the lock back.
@@ -85,4 +88,30 @@ pub fn lock_and_put(
     }
     let words = LockedWords::new(table, lane, map, segment, key_size, elements);
     put_new(words, stamp, element, home, key, value, flags, count)
+}
+
+/// Puts the element in hand in the place of the one that the key has, and gives the lock back.
+pub fn put_over<'a>(
+    words: LockedWords<'a>,
+    stamp: u64,
+    element: u32,
+    home: u32,
+    key: &[u8],
+    value: &[u8],
+    flags: u64,
+) -> Lane
+    requires contents { Contents words.about words.known words.map words.segment }
+    requires brings { BringsOver words.about words.known words.map words.segment
+        key.now value.now flags element }
+    requires home { home ≡ home_of key.now words.about.seed (shape_at words.about words.map).mask }
+    requires stamp { stamp ≡ (lock_of words.known).stamp }
+    requires fits { stamp + 256 < 2 ^ 64 }
+    requires there { (e : ℕ) × HasPair (seen words) key.now e }
+    ensures table { result.table ≡ words.entry.table }
+    ensures over { Over words.entry.about words.entry.known words.entry.map
+        key.now value.now flags result.known }
+{
+    let mut words = words;
+    let old = replace(&mut words, key, home, element);
+    words.unlock_replaced(stamp, key, value, flags, old)
 }
