@@ -16,7 +16,7 @@ use Rattle.hop_words.proofs.Shares.{some_once, times_head, times_tail}
 use Rattle.hop_seg.specs.Places.{place_at, distance_to}
 use Rattle.hop_seg.specs.Words.{Words as SegWords}
 use Rattle.hop_seg.specs.Segment.{Sound as SegSound, Chain, Among, KeysDiffer, IsOwn, key_at, home_bucket}
-use Rattle.hop_seg.specs.Content.{IsPlaced, IsLinked, HasPair, IsAbsent, Gains, Changes}
+use Rattle.hop_seg.specs.Content.{IsPlaced, IsLinked, HasPair, IsAbsent, Gains, Loses, Changes}
 use Rattle.hop_seg.proofs.Basics.{distance-place, place-distance}
 use Rattle.hop_seg.proofs.Walking.{listed_among}
 use Rattle.hop_map.specs.Views.{view}
@@ -251,4 +251,15 @@ module _ (a : About) (m s : ℕ) (known : ℕ → Bool) (x y : Words) (f : List 
       (λ k d is at_home. (g.pairs k d).1 (⊎_elim
       (λ (same : k ≡ key). inr (same, some_once d e (sym is ∙ ((λ j. put_key f key (Some e) (same j)) ∙ (λ j. if key_self key j then Some e else f key)))))
       (λ (ne : k ≢ key). inl (leads_pair a m s known x f p all_known k d (sym (λ j. if key_apart k key ne j then Some e else f k) ∙ is) at_home, ne))
+      (equal_keys k key)))
+
+  pub removed : (e : ℕ) → Loses (view a m s known x) (view a m s known y) key e → IsShare a.seed (shape_at a m) (segment_in a m) y m s (put_key f key None)
+  removed e g = share_of a m s known y g.sound (put_key f key None) keyed
+      (λ k d h.
+      let was = (g.pairs k d).0 h in
+      let t = pair_leads a m s known x f p all_known k d was.0 in
+      ((λ j. if key_apart k key was.1 j then None else f k) ∙ t.0, t.1))
+      (λ k d is at_home. (g.pairs k d).1 (⊎_elim
+      (λ (same : k ≡ key). absurd (let z : None ≡ Some d = sym ((λ j. put_key f key None (same j)) ∙ (λ j. if key_self key j then None else f key)) ∙ is in cc))
+      (λ (ne : k ≢ key). (leads_pair a m s known x f p all_known k d (sym (λ j. if key_apart k key ne j then None else f k) ∙ is) at_home, ne))
       (equal_keys k key)))

@@ -9,3 +9,4 @@ pub mod Counted
 pub mod Puts
 pub mod Locking
 pub mod Replacing
+pub mod Removing

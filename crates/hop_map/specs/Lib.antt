@@ -3,3 +3,4 @@ pub mod Keeping
 pub mod Calls
 pub mod Locks
 pub mod Overs
+pub mod Removals

@@ -4,11 +4,13 @@ ghost use Rattle.bpf_shared.specs.Shape.{elements as elements_of};
 ghost use Rattle.hop_words.specs.Layout.{is_place, mem};
 ghost use Rattle.hop_words.specs.Ghost.{shape_at};
 ghost use Rattle.hop_words.specs.Rule.{owed};
-ghost use Rattle.hop_words.specs.Kinds.{Inserted, IsAbsent, IsWritten, unlocking, Replaces, Replaced};
+ghost use Rattle.hop_words.specs.Kinds.{Inserted, IsAbsent, IsWritten, unlocking, Replaces, Replaced, Removes};
 ghost use Rattle.hop_words.specs.Locking.{lock_of, hand};
 ghost use Rattle.hop_words.specs.Guarded.{IsGuarded, MayWrite};
 ghost use Rattle.hop_map.specs.Views.{IsNoKey, written, knows, Spells, Ready, Fits};
+ghost use Rattle.hop_words.specs.declared.known.Change.TheVariants.{Drops};
 ghost use Rattle.hop_map.specs.Calls.{Contents, Brings};
+ghost use Rattle.hop_map.specs.Removals.{Dropped};
 
 use crate::numbers::{item, key_word, link_word};
 use hop_seg::{SegReads, SegWords};
@@ -140,6 +142,28 @@ impl<'a> LockedWords<'a> {
         let mut lane = self.lane;
         lane.unlock_replaced(table, map, segment, stamp, key, value, flags, old);
         lane
+    }
+
+    /// Counts a key off, whose element has been removed: the deletion takes effect. Then gives the
+    /// lock back.
+    pub(crate) fn unlock_removed(self, stamp: u64, key: &[u8], old: u32) -> Lane
+        requires stamp { stamp ≡ (lock_of self.known).stamp }
+        requires fits { stamp + 256 < 2 ^ 64 }
+        requires removes { let l = self.known in
+            Ready self.about l self.map self.segment →
+            Removes self.about l (lock_of l) key.now old }
+        requires written { let l = self.known in
+            Ready self.about l self.map self.segment →
+            IsWritten self.about (record (lock_of l) { change = Drops key.now; dirty = true }) }
+        ensures table { result.table ≡ self.entry.table }
+        ensures dropped { let l = self.entry.known in
+            Dropped self.entry.about l (lock_of l).map key.now old result.known }
+    {
+        let (table, map, segment) = (self.table, self.map, self.segment);
+        let mut holder = self.lane;
+        holder.count_down(table, map, key, old);
+        holder.unlock_written(table, map, segment, stamp);
+        holder
     }
 
     /// Gives the lock back, where nothing has changed.

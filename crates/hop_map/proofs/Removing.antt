@@ -1,0 +1,102 @@
+-- A deletion: from the lock to the unlock.
+use Rattle.std.proofs.Common.{◌≡◌, ℕ, ◌+◌, ◌<◌, Bool, true, ◌||◌, List, [], ◌∷◌, Option, None, length, refl, ap, sym, subst, ◌∙◌}
+use Rattle.bpf_shared.specs.declared.events.Entry.{Entry}
+use Rattle.bpf_shared.specs.declared.events.Event.TheVariants.{Delete}
+use Rattle.bpf_shared.specs.declared.events.MapAnswer.TheVariants.{Done}
+use Rattle.hop_words.specs.declared.known.About.{About}
+use Rattle.hop_words.specs.declared.known.Known.{Known}
+use Rattle.hop_words.specs.declared.known.Lock.{Lock}
+use Rattle.hop_words.specs.declared.known.Change.TheVariants.{Drops}
+use Rattle.hop_words.specs.Content.{IsShare}
+use Rattle.hop_words.specs.Ghost.{segment_in, shape_at}
+use Rattle.hop_words.specs.Rule.{image, put_key}
+use Rattle.hop_words.specs.Kinds.{has, Removes, Removed, IsWritten, Saw, unlocking, with_gone}
+use Rattle.hop_words.specs.Locking.{lock_of}
+use Rattle.hop_seg.specs.Segment.{Sound as SegSound}
+use Rattle.hop_seg.specs.Content.{Loses}
+use Rattle.hop_map.specs.Views.{Locked, Stays, Ready, in_hand, is_put, words}
+use Rattle.hop_map.specs.Calls.{Contents}
+use Rattle.hop_map.specs.Removals.{Names, Dropped}
+use Rattle.hop_map.proofs.Bridge.{removed}
+use Rattle.hop_map.proofs.Puts.{sound_with, leads_with, known_by, here}
+
+-- the lock, once the key has been counted off
+abbrev pub dropping : Known → List ℕ → Lock
+dropping l key = record (lock_of l) { change = Drops key; dirty = true }
+
+-- the two steps that end it
+pub dropped_by : (a : About) (l : Known) (key : List ℕ) (old : ℕ) (l1 l2 : Known) → Removed a l (lock_of l) key old l1 → l2 ≡ unlocking l1 → Dropped a l (lock_of l).map key old l2
+dropped_by a l key old l1 l2 r u =
+    let same : l2.seen ≡ l1.seen = ap (λ (q : Known). q.seen) u in
+    record {
+      seen = subst (λ (es : List Entry). Saw a l (Delete (lock_of l).map key Done) es) (sym same) r.seen;
+      after = u ∙ (ap unlocking r.after ∙ (λ j. record l { seen = sym same j; limbo = with_gone l (lock_of l).map old; locks = [] }));
+    }
+
+module _ (x : Locked) (key : List ℕ) (c : Contents x.about x.known x.map x.segment) (b : Names x.about x.known x.map x.segment key) where
+  abbrev k : Lock
+  k = lock_of x.known
+
+  more : ℕ → Bool
+  more e = is_put k.change e || in_hand x.known.fresh x.map e
+
+  pub drop_sound : SegSound (words x)
+  unfolding more
+  drop_sound = sound_with x.about x.known x.map x.segment c more
+
+  abbrev lit : List ℕ → Bool → Known
+  lit ws d = record x.known { locks = record k { copy = ws; dirty = d } ∷ [] }
+
+  at_lock : (P : ℕ → ℕ → Type 0) → P x.map x.segment → P k.map k.segment
+  at_lock P p = subst (P k.map) (sym c.segment) (subst (λ (n : ℕ). P n x.segment) (sym c.map) p)
+
+  removes : (ws : List ℕ) (d : Bool) (old : ℕ) → Loses (words x) (words (record x { known = lit ws d })) key old → Removes x.about (lit ws d) (lock_of (lit ws d)) key old
+  unfolding more
+  removes ws d old g =
+      let b' : Names x.about x.known k.map k.segment key = at_lock (λ n t. Names x.about x.known n t key) b in
+      record {
+        lock = refl;
+        nothing = c.nothing;
+        home = b'.home;
+        key_size = b'.size;
+        there = leads_with x.about x.known x.map x.segment c more key b.home old g.was;
+        room = b'.limbo;
+        runs = b.runs;
+      }
+
+  written : (ws : List ℕ) (d : Bool) (old : ℕ) → Ready x.about (lit ws d) x.map x.segment → Loses (words x) (words (record x { known = lit ws d })) key old → IsWritten x.about (dropping (lit ws d) key)
+  unfolding more
+  written ws d old r g = λ before sh.
+      let p = here x.about x.known x.map x.segment c before sh in
+      let done = removed x.about x.map x.segment (λ e. has e k.known || more e) (image x.about k.copy) (image x.about ws) before p (known_by x.about x.known x.map x.segment c more before p)
+      (λ e kn. (r.known_is e kn).1) key b.home old g in
+      at_lock (λ n t. IsShare x.about.seed (shape_at x.about n) (segment_in x.about n) (image x.about ws) n t (put_key before key None)) done
+
+  module _ (z : Locked) (st : Stays x z) where
+    z_is : z.known.locks ≡ lock_of z.known ∷ [] → z ≡ record x { known = lit (lock_of z.known).copy (lock_of z.known).dirty }
+    z_is held = λ j. record {
+      table = st.table j;
+      about = st.about j;
+      map = st.map j;
+      segment = st.segment j;
+      known = (st.known ∙ ap (λ (ks : List Lock). record x.known { locks = ks }) (held ∙ ap (λ (q : Lock). q ∷ []) st.lock)) j;
+    }
+
+    pub drop_removes : (old : ℕ) → Loses (words x) (words z) key old → Ready z.about z.known z.map z.segment → Removes z.about z.known (lock_of z.known) key old
+    drop_removes old g r = subst (λ (q : Locked). Loses (words x) (words q) key old → Removes q.about q.known (lock_of q.known) key old)
+        (sym (z_is r.held)) (λ g. removes (lock_of z.known).copy (lock_of z.known).dirty old g) g
+
+    pub drop_written : (old : ℕ) → Loses (words x) (words z) key old → Ready z.about z.known z.map z.segment → IsWritten z.about (dropping z.known key)
+    drop_written old g r = subst (λ (q : Locked). Loses (words x) (words q) key old → Ready q.about q.known q.map q.segment → IsWritten q.about (dropping q.known key))
+        (sym (z_is r.held)) (λ g r. written (lock_of z.known).copy (lock_of z.known).dirty old r g) g r
+
+    pub drop_ends : (old : ℕ) (l3 : Known) → Dropped z.about z.known (lock_of z.known).map key old l3 → Dropped x.about x.known x.map key old l3
+    drop_ends old l3 p =
+        let m : (lock_of z.known).map ≡ x.map = ap (λ (q : Lock). q.map) st.lock ∙ c.map in
+        let w : Saw x.about x.known (Delete x.map key Done) l3.seen = (let v = subst (λ (q : Known). Saw x.about q (Delete x.map key Done) l3.seen) st.known
+        (subst (λ (a : About). Saw a z.known (Delete x.map key Done) l3.seen) st.about (subst (λ (n : ℕ). Saw z.about z.known (Delete n key Done) l3.seen) m p.seen)) in
+        record { others = v.others; foreign = v.foreign; after = v.after; legal = v.legal }) in
+        record {
+          seen = w;
+          after = p.after ∙ (λ j. record (st.known j) { seen = l3.seen; limbo = with_gone (st.known j) (m j) old; locks = [] });
+        }

@@ -1,0 +1,22 @@
+-- A deletion.
+use Rattle.std.specs.Prelude.{◌≡◌, ℕ, ◌<◌, true, List, [], length}
+use Rattle.bpf_shared.specs.declared.events.Event.TheVariants.{Delete}
+use Rattle.bpf_shared.specs.declared.events.MapAnswer.TheVariants.{Done}
+use Rattle.bpf_shared.specs.History.{events_of}
+use Rattle.hop_words.specs.declared.known.About.{About}
+use Rattle.hop_words.specs.declared.known.Known.{Known}
+use Rattle.hop_words.specs.Homes.{segment_of}
+use Rattle.hop_words.specs.Ghost.{shape_at}
+use Rattle.hop_words.specs.Kinds.{in_run, Saw, with_gone}
+
+-- a call in a run has a key of this segment
+pub record Names (a : About) (l : Known) (m s : ℕ) (key : List ℕ) : Type 0 where
+  pub home : segment_of a.seed (shape_at a m) key ≡ s
+  pub size : length key ≡ (shape_at a m).key
+  pub limbo : m < length l.limbo
+  pub runs : in_run (events_of l.cpu l.seen) ≡ true
+
+-- the deletion's event; the element that the key led to is in hand, and all else as it was
+pub record Dropped (a : About) (l : Known) (m : ℕ) (key : List ℕ) (old : ℕ) (l2 : Known) : Type 0 where
+  pub seen : Saw a l (Delete m key Done) l2.seen
+  pub after : l2 ≡ record l { seen = l2.seen; limbo = with_gone l m old; locks = [] }

@@ -1,0 +1,31 @@
+//! A key is taken out of a map, under the lock of its segment.
+ghost use Rattle.std.specs.Prelude.{◌≡◌, ◌<◌, ◌+◌, ◌^◌, ℕ};
+ghost use Rattle.hop_words.specs.Home.{home_of};
+ghost use Rattle.hop_words.specs.Ghost.{shape_at};
+ghost use Rattle.hop_words.specs.Locking.{lock_of};
+ghost use Rattle.hop_seg.specs.Content.{HasPair};
+ghost use Rattle.hop_map.specs.Views.{words as seen};
+ghost use Rattle.hop_map.specs.Calls.{Contents};
+ghost use Rattle.hop_map.specs.Removals.{Names, Dropped};
+
+use crate::locked::LockedWords;
+use hop_seg::remove;
+use hop_words::Lane;
+
+/// Takes out a key that the segment has, and gives the lock back. Answers the key's element, which
+/// is in hand from now on.
+pub fn drop_key<'a>(words: LockedWords<'a>, stamp: u64, home: u32, key: &[u8]) -> (Lane, u32)
+    requires contents { Contents words.about words.known words.map words.segment }
+    requires names { Names words.about words.known words.map words.segment key.now }
+    requires home { home ≡ home_of key.now words.about.seed (shape_at words.about words.map).mask }
+    requires stamp { stamp ≡ (lock_of words.known).stamp }
+    requires fits { stamp + 256 < 2 ^ 64 }
+    requires there { (e : ℕ) × HasPair (seen words) key.now e }
+    ensures table { result.0.table ≡ words.entry.table }
+    ensures dropped { Dropped words.entry.about words.entry.known words.entry.map
+        key.now result.1 result.0.known }
+{
+    let mut words = words;
+    let element = remove(&mut words, key, home);
+    (words.unlock_removed(stamp, key, element), element)
+}
