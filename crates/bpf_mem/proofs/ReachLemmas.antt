@@ -112,3 +112,19 @@ number_in_context m o n small h =
 pub number_in_frame : (m : PrivateMemory) (d o n : ℕ) → Sized m.frames.live → d < length m.frames.live → o + n ≤ 512 → number_at m (frame_base d + o) n ≡ Some (little_endian (take n (drop o (get_or m.frames.live d []))))
 number_in_frame m d o n sized live h =
     ap (option_map little_endian) (frame-bytes m (frame_base d + o) d o n sized refl live h)
+
+-- ---- how many bytes there are
+
+more : (n : ℕ) (bytes : List ℕ) (rest : Option (List ℕ)) (byte : ℕ) → ((bs : List ℕ) → rest ≡ Some bs → length bs ≡ n) → option_map (λ (bs : List ℕ). byte ∷ bs) rest ≡ Some bytes → length bytes ≡ suc n
+more n bytes None byte shorter e = cc
+more n bytes (Some bs) byte shorter e = let same : bytes ≡ byte ∷ bs = cc in ap length same ∙ ap suc (shorter bs refl)
+
+first : (n : ℕ) (bytes : List ℕ) (rest : Option (List ℕ)) (one : Option ℕ) → ((bs : List ℕ) → rest ≡ Some bs → length bs ≡ n) → option_and_then (λ (byte : ℕ). option_map (λ (bs : List ℕ). byte ∷ bs) rest) one ≡ Some bytes → length bytes ≡ suc n
+first n bytes rest None shorter e = cc
+first n bytes rest (Some byte) shorter e = more n bytes rest byte shorter e
+
+-- as many bytes as were asked for
+pub length-bytes_at : (m : PrivateMemory) (a n : ℕ) (bytes : List ℕ) → bytes_at m a n ≡ Some bytes → length bytes ≡ n
+unfolding bytes_at
+length-bytes_at m a zero bytes e = let same : bytes ≡ [] = cc in ap length same
+length-bytes_at m a (suc n) bytes e = first n bytes (bytes_at m (suc a) n) (byte_at m a) (length-bytes_at m (suc a) n) e
