@@ -7,7 +7,8 @@ use Rattle.bpf_insn.specs.declared.instruction.Insn.{Insn}
 use Rattle.bpf_insn.specs.Refusal.{max_words}
 use Rattle.bpf_loader.specs.declared.refusal.LoadError.{LoadError}
 use Rattle.bpf_loader.specs.declared.refusal.LoadError.TheVariants as error
-use Rattle.bpf_loader.specs.Places.{word_length, Begins, IsStart, IsOutside}
+use Rattle.bpf_insn.specs.Table.{word_length}
+use Rattle.bpf_loader.specs.Places.{Begins, IsStart, IsOutside}
 use Rattle.bpf_loader.specs.Sound.{HasAt, Applies, IsSound, IsFirstRefusal, refusal_number, place}
 use Rattle.bpf_loader.specs.Private.Checks.{IsClearBefore, IsClearAt, IsClearBelow, IsLeastAt}
 use Rattle.bpf_loader.proofs.MarkLemmas.{begins_unique}

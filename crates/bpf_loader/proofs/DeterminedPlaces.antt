@@ -2,7 +2,7 @@
 use Rattle.std.proofs.Common.{◌≡◌, List, [], ◌∷◌, ◌++◌, sym, ap, ◌∙◌, arith}
 use Rattle.bpf_insn.specs.declared.instruction.Insn.{Insn}
 use Rattle.bpf_insn.specs.Table.{words}
-use Rattle.bpf_loader.specs.Places.{word_length}
+use Rattle.bpf_insn.specs.Table.{word_length}
 use Rattle.bpf_loader.specs.Laws.{OneInstructionBegins}
 use Rattle.bpf_loader.proofs.WordLemmas.{words_some}
 

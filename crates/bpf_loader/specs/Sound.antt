@@ -10,7 +10,8 @@ use Rattle.bpf_loader.specs.declared.refusal.LoadError.TheVariants.{Empty, TooLo
 use Rattle.bpf_insn.specs.Table.{words}
 use Rattle.bpf_insn.specs.First.{IsFirst}
 use Rattle.bpf_insn.specs.Refusal.{max_words}
-use Rattle.bpf_loader.specs.Places.{word_length, Begins, IsStart, target, IsOutside, IsSecondWord, Leads}
+use Rattle.bpf_insn.specs.Table.{word_length}
+use Rattle.bpf_loader.specs.Places.{Begins, IsStart, target, IsOutside, IsSecondWord, Leads}
 use Rattle.bpf_loader.specs.Rows.{destination, jump_offset, goes_on, helper_of, map_of, IsHelper, stride}
 
 -- the instruction at this pc has this property

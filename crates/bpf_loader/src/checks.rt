@@ -2,7 +2,8 @@
 
 ghost use Rattle.std.specs.Prelude.{◌≡◌, ◌≢◌, ◌≤◌, ◌<◌, ◌⊎◌, pos, ◌<ℤ◌, ◌≤ℤ◌, [], OnOk, IfErr, IfSome, IfNone};
 ghost use Rattle.bpf_insn.specs.Refusal.{max_words};
-ghost use Rattle.bpf_loader.specs.Places.{Begins, target, word_length};
+ghost use Rattle.bpf_insn.specs.Table.{word_length};
+ghost use Rattle.bpf_loader.specs.Places.{Begins, target};
 ghost use Rattle.bpf_loader.specs.Sound.{IsSound, IsFirstRefusal};
 ghost use Rattle.bpf_loader.specs.Private.Checks.{IsClearAt, IsClearBelow, IsLeastAt};
 

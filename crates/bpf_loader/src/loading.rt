@@ -2,7 +2,7 @@
 
 ghost use Rattle.std.specs.Prelude.{◌≡◌, ◌≢◌, ◌≤◌, ◌<◌, [], length, IfOk, IfErr, OnOk, IfSome, IfNone, IsOkUnless};
 ghost use Rattle.bpf_insn.specs.Refusal.{max_words};
-ghost use Rattle.bpf_loader.specs.Places.{word_length};
+ghost use Rattle.bpf_insn.specs.Table.{word_length};
 ghost use Rattle.bpf_loader.specs.Sound.{IsSound, IsFirstRefusal};
 
 use crate::checks::check;

@@ -1,6 +1,7 @@
 use Rattle.std.proofs.Common.{◌≡◌, ◌<◌, refl, sym, subst, pos, ℤ, arith}
 use Rattle.std.proofs.lemmas.Int.{ints}
-use Rattle.bpf_loader.specs.Places.{IsSecondWord, word_length, target}
+use Rattle.bpf_insn.specs.Table.{word_length}
+use Rattle.bpf_loader.specs.Places.{IsSecondWord, target}
 use Rattle.bpf_loader.proofs.CheckLemmas.{clear_past, none_and_at, none_and_none, some_and_at, not_outside}
 use Rattle.bpf_loader.proofs.checks.check_target.Goals as goal
 

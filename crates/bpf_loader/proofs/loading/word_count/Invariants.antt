@@ -1,6 +1,6 @@
 use Rattle.std.proofs.Common.{◌≡◌, ◌≤◌, take}
 use Rattle.bpf_insn.specs.Refusal.{max_words}
-use Rattle.bpf_loader.specs.Places.{word_length}
+use Rattle.bpf_insn.specs.Table.{word_length}
 use Rattle.bpf_loader.proofs.loading.word_count.Given as goal
 
 abbrev pub invariant-loop-insn : goal.invariant-loop-insn
