@@ -1,4 +1,6 @@
-.PHONY: run build test check bench help
+.PHONY: run build test check bench install uninstall help
+
+PREFIX ?= /usr/local
 
 run: build ## Build the proved program as ./ebpf and run the first example (the default)
 	echo 'b700000005000000 9500000000000000' | ./ebpf hex
@@ -14,12 +16,20 @@ test: ## The whole gate: every proof, every must-fail edit, every test, then the
 	tests/segments.py --check
 	tests/run ./ebpf
 	tests/memory ./ebpf
+	tests/docs ./ebpf
 
 check: ## The quick check while one writes: what changed is proved again
 	rt all check
 
 bench: build ## Time an instruction of fixed programs, beside a plain C interpreter
 	bench/run ./ebpf
+
+install: build ## Install the program and its manual page below PREFIX (/usr/local), in DESTDIR where one is given
+	install -D -m 755 ebpf $(DESTDIR)$(PREFIX)/bin/ebpf
+	install -D -m 644 ebpf.1 $(DESTDIR)$(PREFIX)/share/man/man1/ebpf.1
+
+uninstall: ## Remove what install put there
+	rm -f $(DESTDIR)$(PREFIX)/bin/ebpf $(DESTDIR)$(PREFIX)/share/man/man1/ebpf.1
 
 help: ## Print this list
 	@sed -n 's/^\([a-z]*\):.*## \(.*\)/\1\t\2/p' $(MAKEFILE_LIST)

@@ -9,9 +9,25 @@ use crate::command::MAX_BUDGET;
 use clap::{Arg, Command, value_parser};
 use std::alloc::{AllocError, Global};
 
-const OUTCOMES: &str = "\
+const HEX_NOTES: &str = "\
 Prints r0=N, fault Fk at PC or out of budget at PC, where a PC counts words of 8 bytes from 0.
-R1 holds the address of the context. Blanks and line ends between digits are passed over.";
+R1 holds the address of the context. Blanks and line ends between digits are passed over.
+
+The program is read from standard input, as in
+  $ echo 'b700000005000000 9500000000000000' | ebpf hex
+  r0=5";
+
+const ASM_NOTES: &str = "\
+The text is read from standard input, as in
+  $ printf 'r0 = 5\\nexit\\n' | ebpf asm
+  b700000005000000
+  9500000000000000";
+
+const DISASM_NOTES: &str = "\
+The digits are read from standard input, as in
+  $ echo 'b700000005000000 9500000000000000' | ebpf disasm
+  r0 = 5
+  exit";
 
 const EXIT_STATUS: &str = "\
 All input is standard input, read whole first, and all answers go to standard output.
@@ -49,7 +65,7 @@ fn hex_command<'a>(alloc: Global) -> Result<Command<'a>, AllocError>
 {
     Command::new(alloc, "hex")
         .about("Runs a program given as hex digits, over no maps")
-        .after_help(OUTCOMES)
+        .after_help(HEX_NOTES)
         .arg(budget_option(alloc))?
         .arg(context_option(alloc))
 }
@@ -58,16 +74,18 @@ fn asm_command<'a>(alloc: Global) -> Command<'a>
     ensures shape { shape_of result ≡ asm.top }
     ensures own { (fields_of result).has_globals ≡ false }
 {
-    Command::new(alloc, "asm").about(
-        "Turns assembly text into words, one line of 16 hex digits a word",
-    )
+    Command::new(alloc, "asm")
+        .about("Turns assembly text into words, one line of 16 hex digits a word")
+        .after_help(ASM_NOTES)
 }
 
 fn disasm_command<'a>(alloc: Global) -> Command<'a>
     ensures shape { shape_of result ≡ disasm.top }
     ensures own { (fields_of result).has_globals ≡ false }
 {
-    Command::new(alloc, "disasm").about("Turns words given as hex digits into assembly text")
+    Command::new(alloc, "disasm")
+        .about("Turns words given as hex digits into assembly text")
+        .after_help(DISASM_NOTES)
 }
 
 /// The program itself, before its commands are added.

@@ -16,6 +16,7 @@ use crate::reply::{Reply, Status};
 use crate::stream::{Sink, Source};
 use bpf_command::{Command, CommandError, command_of};
 use bpf_text::TextError;
+use clap::error;
 use std::alloc::Global;
 use std::io;
 use std::io::ErrorKind;
@@ -108,6 +109,9 @@ fn show<P: Print + Eprint>(rt: &P, error: &clap::Error) -> u8
 {
     let shown = error.print(rt);
     if error.use_stderr() {
+        if error.kind() == error::ErrorKind::UnknownArgument {
+            let _ = eprintln!(rt; "\nInput is standard input, as in 'ebpf asm < FILE'.");
+        }
         USAGE
     } else if shown.is_ok() {
         0
