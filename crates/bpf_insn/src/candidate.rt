@@ -3,7 +3,7 @@
 
 ghost use Rattle.std.specs.Prelude.{◌≡◌, ◌+◌, ◌*◌, ◌^◌};
 ghost use Rattle.bpf_insn.specs.Private.Lookup.{register_at};
-ghost use Rattle.bpf_insn.specs.Private.Candidate.{dst_of, src_of, operand_of, high_of, alu_at, swap_bytes_at, arithmetic_at, call_at, jump_at, jump_if_at, jumps_at, wide_at, loads_at, immediate_stores_at, stores_at, candidate_at};
+ghost use Rattle.bpf_insn.specs.Private.Candidate.{dst_of, src_of, second_operand, high_of, alu_at, swap_bytes_at, arithmetic_at, call_at, jump_at, jump_if_at, jumps_at, wide_at, loads_at, immediate_stores_at, stores_at, candidate_at};
 
 use crate::codes::{ALU, ALWAYS, CALL, END, EXIT, JMP, JMP32, LD, LDX, MEM, NEGATE, ST, STX};
 use crate::instruction::{Insn, Operand};
@@ -36,7 +36,7 @@ fn src(word: Word) -> Reg
 
 /// The second operand: bit 3 of the opcode says which it is.
 fn operand(word: Word) -> Operand
-    ensures { result ≡ operand_of word }
+    ensures { result ≡ second_operand word }
 {
     if word.opcode / 8 % 2 == 0 {
         Operand::Immediate(word.imm.cast_signed())

@@ -4,7 +4,7 @@ ghost use Rattle.std.specs.Prelude.{◌≡◌, ◌≤◌, ◌*◌, ◌+◌, drop
 ghost use Rattle.bpf_insn.specs.declared.instruction.Insn.{Insn};
 ghost use Rattle.bpf_insn.specs.Encoding.{IsEncodedAs};
 ghost use Rattle.bpf_insn.specs.Refusal.{IsSized, IsRefused, IsAnswered};
-ghost use Rattle.bpf_insn.specs.Private.Reading.{ReadsAt};
+ghost use Rattle.bpf_insn.specs.Private.Reading.{IsReadAt};
 
 use crate::error::InsnError;
 use crate::instruction::Insn;
@@ -18,7 +18,7 @@ const MAX_WORDS: usize = 65536;
 /// The instruction at word `pc`, or what is wrong there.
 fn instruction_at(bytes: &[u8], pc: u32) -> Result<Insn, InsnError>
     requires { 8 * pc + 8 ≤ length bytes.now }
-    ensures { ReadsAt bytes.now pc result }
+    ensures { IsReadAt bytes.now pc result }
 {
     let window = Window::from_bytes(&bytes[8 * pc as usize..]);
     match reading::instruction(&window) {

@@ -1,7 +1,7 @@
 //! One instruction from its words.
 
 ghost use Rattle.bpf_insn.specs.Private.Bytes.{IsNarrow};
-ghost use Rattle.bpf_insn.specs.Private.Reading.{Reads};
+ghost use Rattle.bpf_insn.specs.Private.Reading.{IsReadAs};
 
 use crate::candidate::candidate;
 use crate::fault::Fault;
@@ -12,7 +12,7 @@ use crate::word::Window;
 /// the word can be of is found, and its fields are checked against it.
 pub fn instruction(window: &Window) -> Result<Insn, Fault>
     requires { IsNarrow window.now.word }
-    ensures { Reads window.now result }
+    ensures { IsReadAs window.now result }
 {
     let Some(insn) = candidate(window) else {
         return Err(Fault::UnknownOpcode);

@@ -6,7 +6,7 @@ ghost use Rattle.bpf_insn.specs.declared.instruction.Insn.TheVariants as insn;
 ghost use Rattle.bpf_insn.specs.Table.{row, wide_row, register as register_field, offset as offset_field, imm as imm_field, row_of};
 ghost use Rattle.bpf_insn.specs.declared.row.Field.TheVariants as field;
 ghost use Rattle.bpf_insn.specs.Private.Bytes.{IsWritable};
-ghost use Rattle.bpf_insn.specs.Private.Families.{IsJump, IsMemory, IsStore};
+ghost use Rattle.bpf_insn.specs.Private.Families.{IsJump, IsLoadOrStore, IsAnyStore};
 
 use crate::codes::{
     ALWAYS, ATOMIC, CALL, EXIT, IMM, LD, LDX, MEM, MEMSX, NEGATE, ST, STX, opcode_k, opcode_memory,
@@ -147,7 +147,7 @@ fn jump(insn: Insn) -> Row
 
 /// The row of a store (RFC 9669, sections 5.1 and 5.3).
 fn store(insn: Insn) -> Row
-    requires { IsStore insn }
+    requires { IsAnyStore insn }
     ensures value { result ≡ row_of insn }
     ensures writable { IsWritable insn }
 {
@@ -187,7 +187,7 @@ fn store(insn: Insn) -> Row
 
 /// The row of a load or a store (RFC 9669, sections 5.1 to 5.3).
 fn memory(insn: Insn) -> Row
-    requires { IsMemory insn }
+    requires { IsLoadOrStore insn }
     ensures value { result ≡ row_of insn }
     ensures writable { IsWritable insn }
 {

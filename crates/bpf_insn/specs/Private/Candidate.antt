@@ -36,8 +36,8 @@ offset_of w = cast_signed w16 w.offset
 abbrev pub imm_of : Word → ℤ
 imm_of w = cast_signed w32 w.imm
 
-abbrev pub operand_of : Word → Operand
-operand_of w = if w.opcode / 8 % 2 == 0 then Immediate (imm_of w) else Register (src_of w)
+abbrev pub second_operand : Word → Operand
+second_operand w = if w.opcode / 8 % 2 == 0 then Immediate (imm_of w) else Register (src_of w)
 
 abbrev pub high_of : Option Word → ℕ
 high_of None = 0
@@ -48,7 +48,7 @@ high_of (Some w) = w.imm
 unfoldable pub alu_at : Width → Word → Option Insn
 alu_at width w = do
   op ← alu_op_at (w.opcode / 16) w.offset
-  Some (insn.Alu width op (dst_of w) (operand_of w))
+  Some (insn.Alu width op (dst_of w) (second_operand w))
 
 unfoldable pub swap_bytes_at : Word → Option Insn
 swap_bytes_at w = do
@@ -78,7 +78,7 @@ jump_at Bits64 w = insn.Jump (offset_of w)
 unfoldable pub jump_if_at : Width → Word → Option Insn
 jump_if_at width w = do
   c ← condition_at (w.opcode / 16)
-  Some (insn.JumpIf width c (dst_of w) (operand_of w) (offset_of w))
+  Some (insn.JumpIf width c (dst_of w) (second_operand w) (offset_of w))
 
 unfoldable pub jumps_at : Width → Word → Option Insn
 jumps_at width w =

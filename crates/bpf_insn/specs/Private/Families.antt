@@ -11,14 +11,14 @@ IsJump (insn.CallLocal n) = Unit {0}
 IsJump insn.Exit = Unit {0}
 IsJump i = ⊥
 
-abbrev pub IsStore : Insn → Type 0
-IsStore (insn.StoreImmediate z b o n) = Unit {0}
-IsStore (insn.Store z b o s) = Unit {0}
-IsStore (insn.Atomic w op b o s) = Unit {0}
-IsStore i = ⊥
+abbrev pub IsAnyStore : Insn → Type 0
+IsAnyStore (insn.StoreImmediate z b o n) = Unit {0}
+IsAnyStore (insn.Store z b o s) = Unit {0}
+IsAnyStore (insn.Atomic w op b o s) = Unit {0}
+IsAnyStore i = ⊥
 
 -- loads and stores
-abbrev pub IsMemory : Insn → Type 0
-IsMemory (insn.Load z d b o) = Unit {0}
-IsMemory (insn.LoadSigned z d b o) = Unit {0}
-IsMemory i = IsStore i
+abbrev pub IsLoadOrStore : Insn → Type 0
+IsLoadOrStore (insn.Load z d b o) = Unit {0}
+IsLoadOrStore (insn.LoadSigned z d b o) = Unit {0}
+IsLoadOrStore i = IsAnyStore i

@@ -14,9 +14,9 @@ pub record IsWord (i : Insn) (w : Window) : Type 0 where
   pub written : IsWrittenAs i w
   pub fits : Fits i
 
-abbrev pub Reads : Window → Result Insn Fault → Type 0
-Reads w (Ok i) = IsWord i w
-Reads w (Err f) = IsFirstAmiss w f
+abbrev pub IsReadAs : Window → Result Insn Fault → Type 0
+IsReadAs w (Ok i) = IsWord i w
+IsReadAs w (Err f) = IsFirstAmiss w f
 
 -- The first thing that is wrong with words that are taken for a row's, in the order of the refusals.
 abbrev pub IsChecked : Row → Window → Result (Unit {0}) Fault → Type 0
@@ -34,6 +34,6 @@ pub record IsRefusedAt (e : InsnError) (pc : ℕ) (bytes : List ℕ) : Type 0 wh
   pub named : e ≡ error_at fault pc
   pub first : IsFirstAmiss (window_at (drop (8 * pc) bytes)) fault
 
-abbrev pub ReadsAt : List ℕ → ℕ → Result Insn InsnError → Type 0
-ReadsAt bytes pc (Ok i) = BeginsWith i (drop (8 * pc) bytes)
-ReadsAt bytes pc (Err e) = IsRefusedAt e pc bytes
+abbrev pub IsReadAt : List ℕ → ℕ → Result Insn InsnError → Type 0
+IsReadAt bytes pc (Ok i) = BeginsWith i (drop (8 * pc) bytes)
+IsReadAt bytes pc (Err e) = IsRefusedAt e pc bytes
