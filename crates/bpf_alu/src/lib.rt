@@ -13,6 +13,3 @@ pub use bytes::swap;
 pub use extension::sign_extend;
 pub use width32::{alu32, negate32, test32};
 pub use width64::{alu64, negate64, test64};
-
-#[cfg(test)]
-mod tests;

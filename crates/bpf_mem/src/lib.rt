@@ -16,6 +16,3 @@ pub use context::Context;
 pub use frames::{Caller, Frames};
 pub use memory::PrivateMemory;
 pub use place::Place;
-
-#[cfg(test)]
-mod tests;
