@@ -1,0 +1,58 @@
+-- The batches of a CPU and what it knows of them.
+use Rattle.std.specs.Prelude.{◌≡◌, ◌≢◌, ◌⊎◌, ℕ, ◌+◌, ◌%◌, ◌<◌, List, [], ◌∷◌, ◌++◌, Option, Some, None, length, slice_index}
+use Rattle.hop_words.specs.declared.known.About.{About}
+use Rattle.hop_words.specs.declared.known.Known.{Known}
+use Rattle.hop_words.specs.declared.known.Sight.{Sight}
+use Rattle.hop_words.specs.declared.known.Sight.TheVariants.{Runs}
+use Rattle.hop_words.specs.Ghost.{IsElement, Each, limbo_at}
+
+-- the first element of a batch
+abbrev pub front : List ℕ → Option ℕ
+front [] = None
+front (e ∷ es) = Some e
+
+-- the counters noted with the old batch, by CPU
+abbrev pub Notes : About → List ℕ → List ℕ → Type 0
+Notes a known noted = (length known ≡ a.shape.cpus) × ((d : ℕ) → d < a.shape.cpus → slice_index known d ≡ slice_index noted d)
+
+-- the batches begin with these elements, and these counters were noted with the old one
+pub record Tracks (a : About) (l : Known) (m : ℕ) (young old : Option ℕ) (noted : List ℕ) : Type 0 where
+  pub room : m < length l.limbo
+  pub young_is : young ≡ front (limbo_at l.limbo m).young
+  pub old_is : old ≡ front (limbo_at l.limbo m).old
+  pub young_inside : Each (IsElement a m) (limbo_at l.limbo m).young
+  pub old_inside : Each (IsElement a m) (limbo_at l.limbo m).old
+  pub counters : ((limbo_at l.limbo m).old ≡ []) ⊎ Notes a (limbo_at l.limbo m).noted noted
+
+-- of what the CPU knows only its batches of the map changed, and what it counted and saw
+pub record Keeps (m : ℕ) (l l' : Known) : Type 0 where
+  pub cpu : l'.cpu ≡ l.cpu
+  pub seen : l'.seen ≡ l.seen
+  pub fresh : l'.fresh ≡ l.fresh
+  pub locks : l'.locks ≡ l.locks
+  pub readings : l'.readings ≡ l.readings
+  pub size : length l'.limbo ≡ length l.limbo
+  pub others : (n : ℕ) → n ≢ m → limbo_at l'.limbo n ≡ limbo_at l.limbo n
+  pub used : (limbo_at l'.limbo m).used ≡ (limbo_at l.limbo m).used
+
+-- the word that leads to an element, or to none
+abbrev pub link_word : Option ℕ → ℕ
+link_word None = 0
+link_word (Some e) = e + 1
+
+-- the batches are as they were, but for the counters noted, and something more was seen
+pub record Looks (m : ℕ) (l l' : Known) : Type 0 where
+  pub keeps : Keeps m l l'
+  pub young : (limbo_at l'.limbo m).young ≡ (limbo_at l.limbo m).young
+  pub old : (limbo_at l'.limbo m).old ≡ (limbo_at l.limbo m).old
+  pub more : List Sight
+  pub sights : l'.tally.sights ≡ more ++ l.tally.sights
+
+abbrev pub AreEven : ℕ → List ℕ → Type 0
+AreEven cpus noted = (d : ℕ) → d < cpus → slice_index noted d % 2 ≡ 0
+
+-- the last that was seen on the way is a CPU that is still in the run noted with the old batch
+abbrev pub SeesRunning : ℕ → Known → Known → Type 0
+SeesRunning m l l' =
+    (d : ℕ) × (more : List Sight) × (l'.tally.sights ≡ Runs d (slice_index (limbo_at l'.limbo m).noted d) ∷ (more ++ l.tally.sights))
+    × (slice_index (limbo_at l'.limbo m).noted d % 2 ≡ 1)

@@ -1,0 +1,42 @@
+//! The begin and the end of a run.
+ghost use Rattle.std.specs.Prelude.{◌≡◌, ◌+◌, ◌-◌, ◌%◌, ◌<◌, ◌^◌, true, false, OnOk, OnErr};
+ghost use Rattle.bpf_shared.specs.History.{events_of};
+ghost use Rattle.bpf_shared.specs.declared.events.Event.TheVariants.{Begin, End};
+ghost use Rattle.hop_words.specs.Kinds.{in_run, count_of, Told};
+
+use bpf_shared::Worn;
+use hop_words::{HopTable, Lane};
+
+/// The CPU enters a run, unless its counter stands at its last even value. Its own counter is read
+/// first, then counted up.
+#[tactic(auto, using(crate::proofs::Evenness::idle_even, crate::proofs::Evenness::last_even))]
+pub fn begin_run(lane: &mut Lane, table: &HopTable) -> Result<(), Worn>
+    requires table { lane.old.table ≡ table.now.id }
+    requires inside { lane.old.known.cpu < table.now.about.shape.cpus }
+    requires even { table.now.about.count % 2 ≡ 0 }
+    requires idle { in_run (events_of lane.old.known.cpu lane.old.known.seen) ≡ false }
+    ensures table { lane.new.table ≡ lane.old.table }
+    ensures begun { OnOk result (Told table.now.about lane.old.known Begin lane.new.known) }
+    ensures room { OnOk result (count_of table.now.about lane.old.known + 2 < 2 ^ 64) }
+    ensures worn { OnErr result (count_of table.now.about lane.old.known ≡ 2 ^ 64 - 2) }
+    ensures unchanged { OnErr result (lane.new.known ≡ lane.old.known) }
+{
+    let count = lane.see_own_counter(table);
+    if count >= u64::MAX - 1 {
+        return Err(Worn);
+    }
+    lane.count_begin(table);
+    Ok(())
+}
+
+/// The CPU leaves its run.
+pub fn end_run(lane: &mut Lane, table: &HopTable)
+    requires table { lane.old.table ≡ table.now.id }
+    requires inside { lane.old.known.cpu < table.now.about.shape.cpus }
+    requires running { in_run (events_of lane.old.known.cpu lane.old.known.seen) ≡ true }
+    requires room { count_of table.now.about lane.old.known + 1 < 2 ^ 64 }
+    ensures table { lane.new.table ≡ lane.old.table }
+    ensures ended { Told table.now.about lane.old.known End lane.new.known }
+{
+    lane.count_end(table);
+}
