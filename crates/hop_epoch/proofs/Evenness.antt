@@ -1,10 +1,9 @@
 -- The counter of a CPU that is in no run is even.
-use Rattle.std.proofs.Common.{◌≡◌, ◌≢◌, ℕ, ◌+◌, ◌-◌, ◌%◌, ◌^◌, ◌<◌, ◌≤◌, ◌==◌, Bool, true, false, refl, ap, sym, ◌∙◌, arith}
+use Rattle.std.proofs.Common.{◌≡◌, ℕ, ◌-◌, ◌%◌, ◌^◌, ◌<◌, ◌≤◌, false, arith}
 use Rattle.std.proofs.lemmas.Bool.Decides.{nat_tests}
 use Rattle.bpf_shared.specs.History.{events_of}
 use Rattle.hop_words.specs.declared.known.About.{About}
 use Rattle.hop_words.specs.declared.known.Known.{Known}
-use Rattle.hop_words.specs.Rule.{turns_of}
 use Rattle.hop_words.specs.Kinds.{in_run, count_of}
 
 pub idle_even : (a : About) (l : Known) → a.count % 2 ≡ 0 → in_run (events_of l.cpu l.seen) ≡ false → count_of a l % 2 ≡ 0

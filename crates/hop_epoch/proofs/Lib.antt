@@ -1,1 +1,2 @@
 pub mod Evenness
+pub mod Batching

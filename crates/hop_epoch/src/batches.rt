@@ -1,5 +1,6 @@
 //! The elements of a map that a CPU took out.
 ghost use Rattle.std.specs.Prelude.{◌≡◌, ◌⊎◌, ◌<◌, ◌≤◌, ◌%◌, ◌∷◌, [], length, IsTrue, IsFalse};
+ghost use Rattle.bpf_shared.specs.Shape.{IsShape};
 ghost use Rattle.hop_words.specs.Ghost.{IsElement, limbo_at};
 ghost use Rattle.hop_words.specs.Kinds.{retiring};
 ghost use Rattle.hop_words.specs.Owning.{behind};
@@ -76,8 +77,6 @@ impl Batches {
     pub fn reclaim(&mut self, lane: &mut Lane, table: &HopTable)
         requires table { lane.old.table ≡ table.now.id }
         requires even { table.now.about.count % 2 ≡ 0 }
-        requires cpus { (1 ≤ table.now.about.shape.cpus) × (table.now.about.shape.cpus ≤ 16) }
-        requires map { self.old.map < length table.now.about.shape.maps }
         requires tracks { Tracks table.now.about lane.old.known self.old.map self.old.young self.old.aged self.old.noted }
         ensures table { lane.new.table ≡ lane.old.table }
         ensures map { self.new.map ≡ self.old.map }
@@ -86,10 +85,14 @@ impl Batches {
         ensures empty { (limbo_at lane.new.known.limbo self.old.map).old ≡ [] → (limbo_at lane.new.known.limbo self.old.map).young ≡ [] }
         ensures blocked { ((limbo_at lane.new.known.limbo self.old.map).old ≡ []) ⊎ SeesRunning self.old.map lane.old.known lane.new.known }
     {
-        if self.aged.is_some() && self.is_past(lane, table) {
+        let _cpus = table.about().shape.cpus();
+        if self.aged.is_some() {
+            if !self.is_past(lane, table) {
+                return;
+            }
             self.free(lane, table);
         }
-        if self.aged.is_none() && self.young.is_some() {
+        if self.young.is_some() {
             self.age(lane, table);
             if self.is_past(lane, table) {
                 self.free(lane, table);
@@ -101,7 +104,7 @@ impl Batches {
     // as even.
     fn is_past(&mut self, lane: &mut Lane, table: &HopTable) -> bool
         requires table { lane.old.table ≡ table.now.id }
-        requires cpus { table.now.about.shape.cpus ≤ 16 }
+        requires shape { IsShape table.now.about.shape }
         requires room { self.old.map < length lane.old.known.limbo }
         requires notes { Notes table.now.about (limbo_at lane.old.known.limbo self.old.map).noted self.old.noted }
         ensures table { lane.new.table ≡ lane.old.table }
@@ -128,7 +131,7 @@ impl Batches {
     fn free(&mut self, lane: &mut Lane, table: &HopTable)
         requires table { lane.old.table ≡ table.now.id }
         requires even { table.now.about.count % 2 ≡ 0 }
-        requires map { self.old.map < length table.now.about.shape.maps }
+        requires shape { IsShape table.now.about.shape }
         requires tracks { Tracks table.now.about lane.old.known self.old.map self.old.young self.old.aged self.old.noted }
         requires notes { Notes table.now.about (limbo_at lane.old.known.limbo self.old.map).noted self.old.noted }
         requires past { AreEven table.now.about.shape.cpus self.old.noted }
@@ -136,6 +139,7 @@ impl Batches {
         ensures same { (self.new.map ≡ self.old.map) × (self.new.young ≡ self.old.young) × (self.new.aged ≡ None) }
         ensures keeps { Keeps self.old.map lane.old.known lane.new.known }
         ensures young { (limbo_at lane.new.known.limbo self.old.map).young ≡ (limbo_at lane.old.known.limbo self.old.map).young }
+        ensures sights { lane.new.known.tally ≡ lane.old.known.tally }
         ensures freed { (limbo_at lane.new.known.limbo self.old.map).old ≡ [] }
     {
         while let Some(element) = self.aged {
@@ -148,7 +152,7 @@ impl Batches {
     // The young batch becomes the old one, which is empty, and each counter is noted with it.
     fn age(&mut self, lane: &mut Lane, table: &HopTable)
         requires table { lane.old.table ≡ table.now.id }
-        requires cpus { (1 ≤ table.now.about.shape.cpus) × (table.now.about.shape.cpus ≤ 16) }
+        requires shape { IsShape table.now.about.shape }
         requires tracks { Tracks table.now.about lane.old.known self.old.map self.old.young self.old.aged self.old.noted }
         requires empty { (limbo_at lane.old.known.limbo self.old.map).old ≡ [] }
         ensures table { lane.new.table ≡ lane.old.table }

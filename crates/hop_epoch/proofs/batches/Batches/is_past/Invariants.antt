@@ -11,3 +11,4 @@ invariant-loop-cpu l =
     × Looks l.fn.self.map l.fn.lane.known l.lane.known
     × Notes l.fn.table.about (limbo_at l.lane.known.limbo l.fn.self.map).noted l.self.noted
     × AreEven l.cpu l.self.noted
+    × (length l.self.noted ≡ 16)
