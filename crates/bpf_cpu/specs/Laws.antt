@@ -9,6 +9,7 @@ use Rattle.bpf_shared.specs.History.{PlainlyLegal, entry}
 use Rattle.bpf_shared.specs.Laws.{asked}
 use Rattle.bpf_shared.specs.Sound.{IsSoundStore}
 use Rattle.bpf_loader.specs.Loaded.{Loaded}
+use Rattle.bpf_mem.specs.Limits.{max_context}
 use Rattle.bpf_mem.specs.Laws.{IsMemory}
 use Rattle.bpf_cpu.specs.declared.cpu.Cpu.{Cpu}
 use Rattle.bpf_cpu.specs.declared.outcome.Progress.{Progress}
@@ -42,7 +43,7 @@ StepsAreDetermined =
 abbrev pub OutcomesAreDetermined : Type 0
 OutcomesAreDetermined =
     (shapes : List MapShape) (program : Loaded) (budget number : ℕ) (context : List ℕ)
-    (events : List Event) (end other : Outcome) → length context ≤ 4096
+    (events : List Event) (end other : Outcome) → length context ≤ max_context
     → Explains (Unit {0}) shapes program budget (start number context) events end
     → Explains (Unit {0}) shapes program budget (start number context) events other
     → end ≡ other
@@ -59,7 +60,8 @@ PlainStepsAreDetermined =
     (shapes : List MapShape) (program : Loaded) (budget c : ℕ) (s t u : Plain) (old new other : Cpu)
     (events others : List Event) (end last : Outcome) → IsSoundStore s → IsMemory old.memory
     → MakesSteps shapes program budget old events end new → PlainlyLegal s (map (entry c) events) t
-    → MakesSteps shapes program budget old others last other → PlainlyLegal s (map (entry c) others) u
+    → MakesSteps shapes program budget old others last other
+    → PlainlyLegal s (map (entry c) others) u
     → (events ≡ others) × (end ≡ last) × (new ≡ other) × (t ≡ u)
 
 -- ---- schedules
@@ -68,7 +70,7 @@ PlainStepsAreDetermined =
 pub record IsFresh (w : World) : Type 0 where
   pub store : IsSoundStore w.store
   pub waits : (j : ℕ) (task : Task) → slice_get w.jobs j ≡ Some task
-      → (context : List ℕ) × (task.stage ≡ Waiting context) × (length context ≤ 4096)
+      → (context : List ℕ) × (task.stage ≡ Waiting context) × (length context ≤ max_context)
 
 -- a schedule has one run
 abbrev pub SchedulesAreDetermined : Type 0

@@ -30,14 +30,17 @@ outcome_after progress.On (suc left) new = None
 
 -- a job in hand makes one step, if its budget has one left
 abbrev pub Advances : Loaded → ℕ → Plain → Cpu → ℕ → Option Outcome → Plain → Cpu → ℕ → Type 0
-Advances program c s old zero end t new left = (end ≡ Some (OutOfBudget old.pc)) × (t ≡ s) × (new ≡ old) × (left ≡ 0)
+Advances program c s old zero end t new left =
+    (end ≡ Some (OutOfBudget old.pc)) × (t ≡ s) × (new ≡ old) × (left ≡ 0)
 Advances program c s old (suc n) end t new left =
-    (events : List Event) × (answer : Progress) × Step s.shape.maps program old events answer new × PlainlyLegal s (map (entry c) events) t
+    (events : List Event) × (answer : Progress) × Step s.shape.maps program old events answer new
+    × PlainlyLegal s (map (entry c) events) t
     × (end ≡ outcome_after answer n new) × (left ≡ n)
 
 -- then it stays in hand, or it has an outcome and ends
 abbrev pub Settles : World → ℕ → ℕ → Task → Cpu → ℕ → Option Outcome → Turn → World → Type 0
-Settles w c j task new left None answer z = (answer ≡ turn.Ran) × (z ≡ record w { jobs = with_stage w.jobs j task (InHand new left) })
+Settles w c j task new left None answer z =
+    (answer ≡ turn.Ran) × (z ≡ record w { jobs = with_stage w.jobs j task (InHand new left) })
 Settles w c j task new left (Some end) answer z =
     (s : Plain) × PlainlyAllowed w.store c End s × (answer ≡ turn.Ended j end)
     × (z ≡ record w { store = s; jobs = with_stage w.jobs j task (Ended end) })
@@ -46,20 +49,24 @@ Settles w c j task new left (Some end) answer z =
 abbrev pub GoesOn : World → ℕ → ℕ → Task → Cpu → ℕ → Turn → World → Type 0
 GoesOn w c j task old left answer z =
     (program : Loaded) × (end : Option Outcome) × (s : Plain) × (new : Cpu) × (rest : ℕ)
-    × (slice_get w.programs task.program ≡ Some program) × Advances program c w.store old left end s new rest
+    × (slice_get w.programs task.program ≡ Some program)
+    × Advances program c w.store old left end s new rest
     × Settles (record w { store = s }) c j task new rest end answer z
 
--- one turn of a CPU: it goes on with the job that it has in hand; or it begins its lowest waiting job, and goes on
--- with that; or it has no work, and nothing changes
+-- one turn of a CPU: it goes on with the job that it has in hand; or it begins its lowest waiting
+-- job, and goes on with that; or it has no work, and nothing changes
 abbrev pub TakesTurn : World → ℕ → Turn → World → Type 0
 TakesTurn w c answer z =
-    ((j : ℕ) × (task : Task) × (state : Cpu) × (left : ℕ) × IsAt w.jobs c j task (InHand state left) × GoesOn w c j task state left answer z)
+    ((j : ℕ) × (task : Task) × (state : Cpu) × (left : ℕ) × IsAt w.jobs c j task (InHand state left)
+    × GoesOn w c j task state left answer z)
     ⊎ (IsFree w.jobs c × ((j : ℕ) × (task : Task) × (context : List ℕ) × (s : Plain)
-    × IsAt w.jobs c j task (Waiting context) × NoneWaitsBelow w.jobs c j × PlainlyAllowed w.store c Begin s
+    × IsAt w.jobs c j task (Waiting context) × NoneWaitsBelow w.jobs c j
+    × PlainlyAllowed w.store c Begin s
     × GoesOn (record w { store = s }) c j task (start c context) task.budget answer z))
     ⊎ (IsFree w.jobs c × NoneWaits w.jobs c × (answer ≡ turn.Idle) × (z ≡ w))
 
 -- the run of a schedule: its turns, in order
 abbrev pub RunsSchedule : World → List ℕ → World → Type 0
 RunsSchedule w [] z = z ≡ w
-RunsSchedule w (c ∷ cs) z = (answer : Turn) × (m : World) × TakesTurn w c answer m × RunsSchedule m cs z
+RunsSchedule w (c ∷ cs) z =
+    (answer : Turn) × (m : World) × TakesTurn w c answer m × RunsSchedule m cs z

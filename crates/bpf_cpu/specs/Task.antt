@@ -20,7 +20,12 @@ pub record Task : Type 0 where
 
 -- a job at first
 abbrev pub waiting : Job → Task
-waiting job = record { cpu = job.cpu; program = job.program; budget = job.budget; stage = Waiting job.context.items }
+waiting job = record {
+  cpu = job.cpu;
+  program = job.program;
+  budget = job.budget;
+  stage = Waiting job.context.items;
+}
 
 -- the j-th job is one of this CPU's, in this stage
 pub record IsAt (jobs : List Task) (cpu j : ℕ) (task : Task) (stage : Stage) : Type 0 where
@@ -30,15 +35,18 @@ pub record IsAt (jobs : List Task) (cpu j : ℕ) (task : Task) (stage : Stage) :
 
 -- the CPU has no job in hand
 abbrev pub IsFree : List Task → ℕ → Type 0
-IsFree jobs cpu = (j : ℕ) (task : Task) (state : Cpu) (left : ℕ) → IsAt jobs cpu j task (InHand state left) → ⊥
+IsFree jobs cpu =
+    (j : ℕ) (task : Task) (state : Cpu) (left : ℕ) → IsAt jobs cpu j task (InHand state left) → ⊥
 
 -- no job of the CPU waits that has a lower number
 abbrev pub NoneWaitsBelow : List Task → ℕ → ℕ → Type 0
-NoneWaitsBelow jobs cpu j = (k : ℕ) (task : Task) (context : List ℕ) → k < j → IsAt jobs cpu k task (Waiting context) → ⊥
+NoneWaitsBelow jobs cpu j =
+    (k : ℕ) (task : Task) (context : List ℕ) → k < j → IsAt jobs cpu k task (Waiting context) → ⊥
 
 -- no job of the CPU waits
 abbrev pub NoneWaits : List Task → ℕ → Type 0
-NoneWaits jobs cpu = (j : ℕ) (task : Task) (context : List ℕ) → IsAt jobs cpu j task (Waiting context) → ⊥
+NoneWaits jobs cpu =
+    (j : ℕ) (task : Task) (context : List ℕ) → IsAt jobs cpu j task (Waiting context) → ⊥
 
 -- how the job has ended, if it has
 abbrev pub ended : Stage → Option Outcome

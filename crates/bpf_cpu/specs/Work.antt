@@ -16,15 +16,19 @@ use Rattle.bpf_cpu.specs.Machine.{MachineState, Shows}
 
 -- the CPU has this job in hand
 abbrev pub HasInHand : List Task → ℕ → ℕ → Type 0
-HasInHand jobs cpu j = (task : Task) × (state : Cpu) × (left : ℕ) × IsAt jobs cpu j task (InHand state left)
+HasInHand jobs cpu j =
+    (task : Task) × (state : Cpu) × (left : ℕ) × IsAt jobs cpu j task (InHand state left)
 
 -- it has a job in hand, and is in this state
 abbrev pub IsState : List Task → ℕ → Cpu → Type 0
-IsState jobs cpu state = (j : ℕ) × (task : Task) × (left : ℕ) × IsAt jobs cpu j task (InHand state left)
+IsState jobs cpu state =
+    (j : ℕ) × (task : Task) × (left : ℕ) × IsAt jobs cpu j task (InHand state left)
 
 -- the CPU has none in hand, and this is its lowest that waits
 abbrev pub IsNext : List Task → ℕ → ℕ → Type 0
-IsNext jobs cpu j = IsFree jobs cpu × ((task : Task) × (context : List ℕ) × IsAt jobs cpu j task (Waiting context)) × NoneWaitsBelow jobs cpu j
+IsNext jobs cpu j =
+    IsFree jobs cpu × ((task : Task) × (context : List ℕ) × IsAt jobs cpu j task (Waiting context))
+    × NoneWaitsBelow jobs cpu j
 
 abbrev pub IsWork : List Task → ℕ → Work → Type 0
 IsWork jobs cpu (work.InHand j) = HasInHand jobs cpu j
@@ -37,10 +41,12 @@ BeginsJob old cpu j new =
     (task : Task) × (context : List ℕ) × IsAt old.jobs cpu j task (Waiting context)
     × (new.programs ≡ old.programs)
     × (new.jobs ≡ with_stage old.jobs j task (InHand (start cpu context) task.budget))
-    × ((s : Plain) → IsSoundStore s → contents.StandsFor old.store s → (t : Plain) × PlainlyAllowed s cpu Begin t × IsSoundStore t × contents.StandsFor new.store t)
+    × ((s : Plain) → IsSoundStore s → contents.StandsFor old.store s → (t : Plain)
+    × PlainlyAllowed s cpu Begin t × IsSoundStore t × contents.StandsFor new.store t)
 
 -- the CPU goes on with the j-th job, from this state and with so many steps left
 abbrev pub Proceeds : MachineState → ℕ → ℕ → Turn → MachineState → Type 0
 Proceeds old cpu j answer new =
     (task : Task) (state : Cpu) (left : ℕ) → IsAt old.jobs cpu j task (InHand state left)
-    → (w : World) → Shows old w → (z : World) × GoesOn w cpu j task state left answer z × Shows new z
+    → (w : World) → Shows old w → (z : World) × GoesOn w cpu j task state left answer z
+    × Shows new z

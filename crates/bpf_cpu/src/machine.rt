@@ -68,6 +68,7 @@ impl Model for Machine {
 impl Machine {
     ghost use Rattle.std.specs.Prelude.{◌≡◌, ◌≢◌, ◌≤◌, ◌<◌, ◌⊎◌, ℕ, true, false, All, IfOk, IfErr, IfSome, IfNone, map, vec_len};
     ghost use Rattle.bpf_shared.specs.Contents.{has_cpu, is_running};
+    ghost use Rattle.bpf_mem.specs.Limits.{max_context};
     ghost use Rattle.bpf_cpu.specs.Task.{IsFree, NoneWaits, outcome_at, waiting};
     ghost use Rattle.bpf_cpu.specs.Schedule.{World, TakesTurn, RunsSchedule};
     ghost use Rattle.bpf_cpu.specs.Machine.{Shows};
@@ -83,7 +84,7 @@ impl Machine {
         requires idle { (cpu : ℕ) → is_running store cpu ≡ false }
         requires cpus { All (λ job. has_cpu store job.cpu ≡ true) jobs.items }
         requires programs { All (λ job. job.program < vec_len programs) jobs.items }
-        requires contexts { All (λ job. vec_len job.context ≤ 4096) jobs.items }
+        requires contexts { All (λ job. vec_len job.context ≤ max_context) jobs.items }
         ensures store { IfOk result (λ m. m.store ≡ store) }
         ensures programs { IfOk result (λ m. m.programs ≡ programs.items) }
         ensures jobs { IfOk result (λ m. m.jobs ≡ map waiting jobs.items) }

@@ -1,6 +1,7 @@
 -- What a machine keeps of each job, and of each CPU.
 use Rattle.std.specs.Prelude.{◌≡◌, ℕ, ◌<◌, ◌≤◌, Bool, true, false, List, [], Option, Some, None, is_some, length, map, slice_get, slice_index_or}
 use Rattle.bpf_shared.specs.declared.events.Span.{Span}
+use Rattle.bpf_mem.specs.Limits.{max_context}
 use Rattle.bpf_loader.specs.Loaded.{Loaded}
 use Rattle.bpf_cpu.specs.declared.machine.job.Job.{Job}
 use Rattle.bpf_cpu.specs.declared.machine.lane.Listed.{Listed}
@@ -21,7 +22,12 @@ pub record IsFirstJob (jobs : List Listed) (cpu «from» n : ℕ) : Type 0 where
 
 -- a job as it is listed at first
 abbrev pub listed : Job → Listed
-listed job = record { cpu = job.cpu; program = job.program; budget = job.budget; phase = phase.Waiting job.context }
+listed job = record {
+  cpu = job.cpu;
+  program = job.program;
+  budget = job.budget;
+  phase = phase.Waiting job.context;
+}
 
 -- a CPU without work
 abbrev pub no_lane : Lane
@@ -38,7 +44,12 @@ stage_of (Some hand) phase.InHand = InHand hand.cpu hand.left
 stage_of None phase.InHand = Waiting []
 
 abbrev pub task_of : List Lane → Listed → Task
-task_of lanes x = record { cpu = x.cpu; program = x.program; budget = x.budget; stage = stage_of (lane_of lanes x.cpu).hand x.phase }
+task_of lanes x = record {
+  cpu = x.cpu;
+  program = x.program;
+  budget = x.budget;
+  stage = stage_of (lane_of lanes x.cpu).hand x.phase;
+}
 
 abbrev pub tasks_of : List Lane → List Listed → List Task
 tasks_of lanes jobs = map (task_of lanes) jobs
@@ -51,12 +62,13 @@ FitsLane l j (phase.Waiting context) = l.next ≤ j
 FitsLane l j phase.InHand = (j < l.next) × ((h : Hand) × (l.hand ≡ Some h) × (h.job ≡ j))
 FitsLane l j (phase.Ended outcome) = j < l.next
 
-pub record IsListed (serves : ℕ → Bool) (programs : List Loaded) (lanes : List Lane) (j : ℕ) (x : Listed) : Type 0 where
+pub record IsListed (serves : ℕ → Bool) (programs : List Loaded) (lanes : List Lane) (j : ℕ)
+    (x : Listed) : Type 0 where
   pub program : x.program < length programs
   pub served : serves x.cpu ≡ true
   pub within : x.cpu < length lanes
   pub fits : FitsLane (lane_of lanes x.cpu) j x.phase
-  pub short : (context : _) → x.phase ≡ phase.Waiting context → length context.items ≤ 4096
+  pub short : (context : _) → x.phase ≡ phase.Waiting context → length context.items ≤ max_context
 
 -- a job in hand
 pub record IsHand (programs : List Loaded) (jobs : List Listed) (cpu : ℕ) (h : Hand) : Type 0 where
@@ -69,15 +81,19 @@ pub record IsHand (programs : List Loaded) (jobs : List Listed) (cpu : ℕ) (h :
   pub loaded : slice_get programs job.program ≡ Some program
   pub ready : IsReady program h.cpu
 
-pub record IsLane (running : ℕ → Bool) (reach : ℕ → Span → Bool) (programs : List Loaded) (jobs : List Listed) (cpu : ℕ) (l : Lane) : Type 0 where
+pub record IsLane (running : ℕ → Bool) (reach : ℕ → Span → Bool) (programs : List Loaded)
+    (jobs : List Listed) (cpu : ℕ) (l : Lane) : Type 0 where
   pub runs : running cpu ≡ is_some l.hand
   pub hand : (h : Hand) → l.hand ≡ Some h → IsHand programs jobs cpu h
   pub held : (h : Hand) → l.hand ≡ Some h → AreHeld (reach cpu) h.cpu.held
   pub next : (x : Listed) → slice_get jobs l.next ≡ Some x → x.cpu ≡ cpu
   pub within : l.next ≤ length jobs
 
-pub record IsBoard (serves running : ℕ → Bool) (reach : ℕ → Span → Bool) (programs : List Loaded) (jobs : List Listed) (lanes : List Lane) : Type 0 where
-  pub each_job : (j : ℕ) (x : Listed) → slice_get jobs j ≡ Some x → IsListed serves programs lanes j x
-  pub each_lane : (cpu : ℕ) → cpu < length lanes → IsLane running reach programs jobs cpu (lane_of lanes cpu)
+pub record IsBoard (serves running : ℕ → Bool) (reach : ℕ → Span → Bool) (programs : List Loaded)
+    (jobs : List Listed) (lanes : List Lane) : Type 0 where
+  pub each_job : (j : ℕ) (x : Listed) → slice_get jobs j ≡ Some x
+      → IsListed serves programs lanes j x
+  pub each_lane : (cpu : ℕ) → cpu < length lanes
+      → IsLane running reach programs jobs cpu (lane_of lanes cpu)
   -- no CPU beyond them is in a run
   pub idle : (cpu : ℕ) → length lanes ≤ cpu → running cpu ≡ false
