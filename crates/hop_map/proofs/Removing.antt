@@ -2,23 +2,27 @@
 use Rattle.std.proofs.Common.{◌≡◌, ℕ, ◌+◌, ◌<◌, Bool, true, ◌||◌, List, [], ◌∷◌, Option, None, length, refl, ap, sym, subst, ◌∙◌}
 use Rattle.bpf_shared.specs.declared.events.Entry.{Entry}
 use Rattle.bpf_shared.specs.declared.events.Event.TheVariants.{Delete}
-use Rattle.bpf_shared.specs.declared.events.MapAnswer.TheVariants.{Done}
+use Rattle.bpf_shared.specs.declared.events.MapAnswer.TheVariants.{Done, Absent}
 use Rattle.hop_words.specs.declared.known.About.{About}
 use Rattle.hop_words.specs.declared.known.Known.{Known}
 use Rattle.hop_words.specs.declared.known.Lock.{Lock}
 use Rattle.hop_words.specs.declared.known.Change.TheVariants.{Drops}
 use Rattle.hop_words.specs.Content.{IsShare}
 use Rattle.hop_words.specs.Ghost.{segment_in, shape_at}
-use Rattle.hop_words.specs.Rule.{image, put_key}
-use Rattle.hop_words.specs.Kinds.{has, Removes, Removed, IsWritten, Saw, unlocking, with_gone}
+use Rattle.hop_words.specs.Rule.{image, put_key, numbered}
+use Rattle.hop_words.specs.Kinds.{has, IsAbsent, Answers, Answered, Removes, Removed, IsWritten, Saw, unlocking, with_gone}
 use Rattle.hop_words.specs.Locking.{lock_of}
+use Rattle.hop_words.proofs.Small.{map_is}
+use Rattle.bpf_shared.specs.Shape.{Shape, IsMap}
+use Rattle.std.specs.FinMap.{get}
+use Rattle.std.specs.Prelude.{is_some}
 use Rattle.hop_seg.specs.Segment.{Sound as SegSound}
-use Rattle.hop_seg.specs.Content.{Loses}
+use Rattle.hop_seg.specs.Content.{IsAbsent as SegAbsent, Loses}
 use Rattle.hop_map.specs.Views.{Locked, Stays, Ready, in_hand, is_put, words}
 use Rattle.hop_map.specs.Calls.{Contents}
-use Rattle.hop_map.specs.Removals.{Names, Dropped}
+use Rattle.hop_map.specs.Removals.{Names, Dropped, Missed}
 use Rattle.hop_map.proofs.Bridge.{removed}
-use Rattle.hop_map.proofs.Puts.{sound_with, leads_with, known_by, here}
+use Rattle.hop_map.proofs.Puts.{sound_with, absent_with, leads_with, known_by, here}
 
 -- the lock, once the key has been counted off
 abbrev pub dropping : Known → List ℕ → Lock
@@ -43,6 +47,29 @@ module _ (x : Locked) (key : List ℕ) (c : Contents x.about x.known x.map x.seg
   pub drop_sound : SegSound (words x)
   unfolding more
   drop_sound = sound_with x.about x.known x.map x.segment c more
+
+  -- the key isn't there, so the answer is allowed
+  pub drop_answers : SegAbsent (words x) key → Ready x.about x.known x.map x.segment → Answers x.about x.known k (Delete x.map key Absent)
+  unfolding more
+  drop_answers gone r =
+      let absent : IsAbsent x.about k key = absent_with x.about x.known x.map x.segment c more key b.home gone in
+      let b' : Names x.about x.known k.map k.segment key = subst (λ (t : ℕ). Names x.about x.known k.map t key) (sym c.segment) (subst (λ (n : ℕ). Names x.about x.known n x.segment key) (sym c.map) b) in
+      record {
+        lock = r.held;
+        clean = c.clean;
+        quiet = refl;
+        runs = b.runs;
+        allowed = λ s before number shape running share maps. (
+          running,
+          (
+            (shape_at x.about x.map, subst (λ (h : Shape). IsMap h.maps x.map (shape_at x.about x.map)) (sym shape) (map_is x.about.shape x.map r.inside.0), b.size),
+            (
+              ap is_some (subst (λ (m : ℕ). get (s.maps m) key ≡ None) c.map (maps key b'.home ∙ ap (numbered number) (absent before share))),
+              refl,
+            ),
+          ),
+        );
+      }
 
   abbrev lit : List ℕ → Bool → Known
   lit ws d = record x.known { locks = record k { copy = ws; dirty = d } ∷ [] }
@@ -100,3 +127,6 @@ module _ (x : Locked) (key : List ℕ) (c : Contents x.about x.known x.map x.seg
           seen = w;
           after = p.after ∙ (λ j. record (st.known j) { seen = l3.seen; limbo = with_gone (st.known j) (m j) old; locks = [] });
         }
+
+pub missed_by : (a : About) (l : Known) (m : ℕ) (key : List ℕ) (l2 : Known) → Answered a l (lock_of l) (Delete m key Absent) l2 → Missed a l m key l2
+missed_by a l m key l2 p = record { seen = p.seen; after = p.after }

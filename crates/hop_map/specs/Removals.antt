@@ -1,7 +1,7 @@
 -- A deletion.
 use Rattle.std.specs.Prelude.{◌≡◌, ℕ, ◌<◌, true, List, [], length}
 use Rattle.bpf_shared.specs.declared.events.Event.TheVariants.{Delete}
-use Rattle.bpf_shared.specs.declared.events.MapAnswer.TheVariants.{Done}
+use Rattle.bpf_shared.specs.declared.events.MapAnswer.TheVariants.{Done, Absent}
 use Rattle.bpf_shared.specs.History.{events_of}
 use Rattle.hop_words.specs.declared.known.About.{About}
 use Rattle.hop_words.specs.declared.known.Known.{Known}
@@ -20,3 +20,8 @@ pub record Names (a : About) (l : Known) (m s : ℕ) (key : List ℕ) : Type 0 w
 pub record Dropped (a : About) (l : Known) (m : ℕ) (key : List ℕ) (old : ℕ) (l2 : Known) : Type 0 where
   pub seen : Saw a l (Delete m key Done) l2.seen
   pub after : l2 ≡ record l { seen = l2.seen; limbo = with_gone l m old; locks = [] }
+
+-- the answer that the key isn't there; nothing else changed
+pub record Missed (a : About) (l : Known) (m : ℕ) (key : List ℕ) (l2 : Known) : Type 0 where
+  pub seen : Saw a l (Delete m key Absent) l2.seen
+  pub after : l2 ≡ record l { seen = l2.seen; locks = [] }

@@ -1,15 +1,16 @@
 //! A key is taken out of a map, under the lock of its segment.
-ghost use Rattle.std.specs.Prelude.{◌≡◌, ◌<◌, ◌+◌, ◌^◌, ℕ};
+ghost use Rattle.std.specs.Prelude.{◌≡◌, ◌<◌, ◌+◌, ◌^◌, ℕ, MatchOption};
 ghost use Rattle.hop_words.specs.Home.{home_of};
 ghost use Rattle.hop_words.specs.Ghost.{shape_at};
 ghost use Rattle.hop_words.specs.Locking.{lock_of};
 ghost use Rattle.hop_seg.specs.Content.{HasPair};
 ghost use Rattle.hop_map.specs.Views.{words as seen};
 ghost use Rattle.hop_map.specs.Calls.{Contents};
-ghost use Rattle.hop_map.specs.Removals.{Names, Dropped};
+ghost use Rattle.hop_map.specs.Removals.{Names, Dropped, Missed};
 
 use crate::locked::LockedWords;
-use hop_seg::remove;
+use bpf_shared::MapAnswer;
+use hop_seg::{find, remove};
 use hop_words::Lane;
 
 /// Takes out a key that the segment has, and gives the lock back. Answers the key's element, which
@@ -28,4 +29,33 @@ pub fn drop_key<'a>(words: LockedWords<'a>, stamp: u64, home: u32, key: &[u8]) -
     let mut words = words;
     let element = remove(&mut words, key, home);
     (words.unlock_removed(stamp, key, element), element)
+}
+
+/// Takes out a key, if the segment has it, and gives the lock back. Answers the key's element, which
+/// is in hand from now on.
+pub fn delete_key<'a>(
+    words: LockedWords<'a>,
+    stamp: u64,
+    home: u32,
+    key: &[u8],
+) -> (Lane, Option<u32>)
+    requires contents { Contents words.about words.known words.map words.segment }
+    requires names { Names words.about words.known words.map words.segment key.now }
+    requires home { home ≡ home_of key.now words.about.seed (shape_at words.about words.map).mask }
+    requires stamp { stamp ≡ (lock_of words.known).stamp }
+    requires fits { stamp + 256 < 2 ^ 64 }
+    ensures table { result.0.table ≡ words.entry.table }
+    ensures ends { let l = words.entry.known in
+        MatchOption result.1
+        (Missed words.entry.about l words.entry.map key.now result.0.known)
+        (λ e. Dropped words.entry.about l words.entry.map key.now e result.0.known) }
+{
+    let mut words = words;
+    match find(&mut words, key, home) {
+        None => (words.unlock_delete(stamp, key, MapAnswer::Absent), None),
+        Some(_there) => {
+            let (lane, element) = drop_key(words, stamp, home, key);
+            (lane, Some(element))
+        }
+    }
 }

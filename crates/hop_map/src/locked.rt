@@ -3,8 +3,9 @@ ghost use Rattle.std.specs.Prelude.{◌≡◌, ◌<◌, ◌≤◌, ◌+◌, ◌^
 ghost use Rattle.bpf_shared.specs.Shape.{elements as elements_of};
 ghost use Rattle.hop_words.specs.Layout.{is_place, mem};
 ghost use Rattle.hop_words.specs.Ghost.{shape_at};
+ghost use Rattle.bpf_shared.specs.declared.events.Event.TheVariants.{Delete};
 ghost use Rattle.hop_words.specs.Rule.{owed};
-ghost use Rattle.hop_words.specs.Kinds.{Inserted, IsAbsent, IsWritten, unlocking, Replaces, Replaced, Removes};
+ghost use Rattle.hop_words.specs.Kinds.{Inserted, IsAbsent, IsWritten, unlocking, Replaces, Replaced, Removes, Answers, Answered};
 ghost use Rattle.hop_words.specs.Locking.{lock_of, hand};
 ghost use Rattle.hop_words.specs.Guarded.{IsGuarded, MayWrite};
 ghost use Rattle.hop_map.specs.Views.{IsNoKey, written, knows, Spells, Ready, Fits};
@@ -13,6 +14,7 @@ ghost use Rattle.hop_map.specs.Calls.{Contents, Brings};
 ghost use Rattle.hop_map.specs.Removals.{Dropped};
 
 use crate::numbers::{item, key_word, link_word};
+use bpf_shared::MapAnswer;
 use hop_seg::{SegReads, SegWords};
 use hop_words::{HopTable, Lane, Place};
 use std::marker::Model;
@@ -164,6 +166,23 @@ impl<'a> LockedWords<'a> {
         holder.count_down(table, map, key, old);
         holder.unlock_written(table, map, segment, stamp);
         holder
+    }
+
+    /// Gives the lock back, where nothing has changed, and with it a deletion is answered.
+    pub(crate) fn unlock_delete(self, stamp: u64, key: &[u8], answer: MapAnswer) -> Lane
+        requires stamp { stamp ≡ (lock_of self.known).stamp }
+        requires answers { let l = self.known in
+            Ready self.about l self.map self.segment →
+            Answers self.about l (lock_of l) (Delete self.map key.now answer) }
+        ensures table { result.table ≡ self.entry.table }
+        ensures answered { let l = self.entry.known in
+            Answered self.entry.about l (lock_of l) (Delete self.entry.map key.now answer)
+            result.known }
+    {
+        let (table, map, segment) = (self.table, self.map, self.segment);
+        let mut lane = self.lane;
+        lane.unlock_delete(table, map, segment, stamp, key, answer);
+        lane
     }
 
     /// Gives the lock back, where nothing has changed.
