@@ -1,8 +1,9 @@
 -- The runs of a `PlainStore`: what begins and ends leave.
-use Rattle.std.proofs.Common.{◌≡◌, ◌≢◌, ℕ, zero, suc, ◌+◌, ◌<◌, ◌≤◌, nat_lt, Bool, true, false, ◌&&◌, ◌==◌, if◌then◌else◌, List, [], ◌∷◌, ◌⊎◌, inl, inr, length, get_or, set, map, slice_index, refl, ap, sym, ◌∙◌, subst, arith, ne_eqb}
+use Rattle.std.proofs.Common.{◌≡◌, ◌≢◌, ℕ, zero, suc, ◌+◌, ◌*◌, ◌<◌, ◌≤◌, nat_lt, Bool, true, false, ◌&&◌, ◌==◌, if◌then◌else◌, List, [], ◌∷◌, ◌⊎◌, inl, inr, length, get_or, set, map, slice_index, refl, ap, sym, ◌∙◌, subst, arith, ne_eqb}
 use Rattle.std.proofs.lemmas.Bool.Decides.{nat_tests}
-use Rattle.std.proofs.lemmas.List.{get_or-set_same, get_or-set_other, get_or_read, length-set, length-map}
+use Rattle.std.proofs.lemmas.List.{get_or-set_same, get_or-set_other, get_or_read, get_or_past, ext_get_or, length-set, length-map}
 use Rattle.std.proofs.Math.ListN.{get_or-map}
+use Rattle.std.proofs.lemmas.Bool.{cases_lt}
 use Rattle.bpf_shared.specs.declared.events.Span.{Span}
 use Rattle.bpf_shared.specs.declared.events.Event.TheVariants.{Begin, End}
 use Rattle.bpf_shared.specs.declared.shapes.MapShape.{MapShape}
@@ -12,10 +13,11 @@ use Rattle.bpf_shared.specs.Events.{after_begin, after_end}
 use Rattle.bpf_shared.specs.Sound.{IsSoundStore}
 use Rattle.bpf_shared.proofs.Puts.{equal_or_not, put-same, put-other, put_cases}
 use Rattle.bpf_shared.specs.Passage.{Calls, held_without}
-use Rattle.bpf_shared.specs.Runs.{no_runs}
-use Rattle.bpf_shared.specs.Rows.{Rows, no_rows, shape_of, Cell, cell, forgotten, forgotten_rows}
-use Rattle.bpf_shared.proofs.Forgotten.{cell-forgotten, length-forgotten}
-use Rattle.bpf_shared.specs.Contents.{Contents, runs_of, rows, cell_of, shapes_of, has_cpu, is_running, is_run, holds, keeps, held_spans, IsUsed, StandsFor, Passes, IsStore, started, stopped, recounted}
+use Rattle.bpf_shared.specs.Runs.{no_runs, is_run}
+use Rattle.bpf_shared.specs.Shape.{elements}
+use Rattle.bpf_shared.specs.Rows.{Rows, no_rows, shape_of, key_of, bytes_of, run_looked_up, run_left, IsTable, Erases, Forgets}
+use Rattle.bpf_shared.specs.Contents.{Contents, runs_of, rows, size_of, shapes_of, has_cpu, is_running, holds, keeps, held_spans, IsUsed, StandsFor, Passes, IsStore, started, stopped}
+use Rattle.bpf_shared.specs.Changes.{IsAlike, Recounts}
 use Rattle.bpf_shared.proofs.Passages.{calls}
 use Rattle.bpf_shared.proofs.Showing.{SameContent, same_tables, linked_was, within_was, within_still, shows_after, held_spans-same, held_spans-without}
 
@@ -41,19 +43,19 @@ module _ (p : Contents) (c : ℕ) (r : Runs) where
         | inr ne ↦ ap (λ (x : Runs). x.running) (runs-other d ne) ∙ sym (put-other (is_running p) c d r.running ne)
       ]
 
-  pub is_run-other : (d run : ℕ) → d ≢ c → is_run (with_runs p c r) d run ≡ is_run p d run
-  is_run-other d run ne = ap (λ (x : Runs). x.running && (run == x.count)) (runs-other d ne)
+  pub is_run-other : (d run : ℕ) → d ≢ c → is_run (runs_of (with_runs p c r) d) run ≡ is_run (runs_of p d) run
+  is_run-other d run ne = ap (λ (x : Runs). is_run x run) (runs-other d ne)
 
-  pub is_run-own : c < length p.runs → (run : ℕ) → is_run (with_runs p c r) c run ≡ (r.running && (run == r.count))
-  is_run-own l run = ap (λ (x : Runs). x.running && (run == x.count)) (runs-same l)
+  pub is_run-own : c < length p.runs → (run : ℕ) → is_run (runs_of (with_runs p c r) c) run ≡ is_run r run
+  is_run-own l run = ap (λ (x : Runs). is_run x run) (runs-same l)
 
 pub served : (p : Contents) (c : ℕ) → has_cpu p c ≡ true → c < length p.runs
 served p c h = grind (arith, nat_tests)
 
-idle_run : (p : Contents) (c run : ℕ) → is_running p c ≡ false → is_run p c run ≡ false
+idle_run : (p : Contents) (c run : ℕ) → is_running p c ≡ false → is_run (runs_of p c) run ≡ false
 idle_run p c run e = ap (λ (b : Bool). b && (run == (runs_of p c).count)) e
 
-not_idle : (p : Contents) (c run : ℕ) → is_running p c ≡ false → is_run p c run ≡ true → ⊥
+not_idle : (p : Contents) (c run : ℕ) → is_running p c ≡ false → is_run (runs_of p c) run ≡ true → ⊥
 not_idle p c run e h = let n = idle_run p c run e in cc
 
 -- ---- one CPU's run is over, or another begins
@@ -98,14 +100,14 @@ module _ (p : Contents) (c : ℕ) (serves : has_cpu p c ≡ true) where
 
   stopped_other : (d m i : ℕ) → d ≢ c → (holds (stopped p c) d m i ≡ holds p d m i) × (keeps (stopped p c) d m i ≡ keeps p d m i)
   stopped_other d m i ne = (
-    is_run-other p c (record (runs_of p c) { running = false }) d (slice_index (cell_of p m i).looked_up d) ne,
-    is_run-other p c (record (runs_of p c) { running = false }) d (slice_index (cell_of p m i).left d) ne,
+    is_run-other p c (record (runs_of p c) { running = false }) d (run_looked_up (rows p m) i d) ne,
+    is_run-other p c (record (runs_of p c) { running = false }) d (run_left (rows p m) i d) ne,
   )
 
   stopped_own : (m i : ℕ) → (holds (stopped p c) c m i ≡ false) × (keeps (stopped p c) c m i ≡ false)
   stopped_own m i = (
-    is_run-own p c (record (runs_of p c) { running = false }) (served p c serves) (slice_index (cell_of p m i).looked_up c),
-    is_run-own p c (record (runs_of p c) { running = false }) (served p c serves) (slice_index (cell_of p m i).left c),
+    is_run-own p c (record (runs_of p c) { running = false }) (served p c serves) (run_looked_up (rows p m) i c),
+    is_run-own p c (record (runs_of p c) { running = false }) (served p c serves) (run_left (rows p m) i c),
   )
 
   end_calls : is_running p c ≡ true → Calls (Passes p (stopped p c)) (has_cpu p) c End
@@ -130,86 +132,147 @@ module _ (p : Contents) (c : ℕ) (serves : has_cpu p c ≡ true) where
   ended_held n e = ap held_spans e ∙ released_spans p (stopped p c) c stopped_same stopped_other stopped_own
 
 -- ---- runs counted anew
-shapes-forgotten : (c : ℕ) (ts : List Rows) → map shape_of (map (forgotten_rows c) ts) ≡ map shape_of ts
-shapes-forgotten c [] = refl
-shapes-forgotten c (t ∷ ts) = ap (λ (l : List MapShape). t.shape ∷ l) (shapes-forgotten c ts)
+module _ (p q : Contents) (c : ℕ) (is : IsStore p) (serves : has_cpu p c ≡ true) (idle : is_running p c ≡ false) (anew : Recounts p c q) where
+  table-anew : (m : ℕ) → (m < length p.tables) ⊎ (length p.tables ≤ m) → rows q m ≡ record (rows p m) { looked_up = (rows q m).looked_up; left = (rows q m).left }
+  table-anew m (inl l) = (anew.tables m l).0.rest
+  table-anew m (inr l) =
+      let none : rows p m ≡ no_rows = get_or_past p.tables m no_rows l in
+      let gone : rows q m ≡ no_rows = get_or_past q.tables m no_rows (omega (arith, anew.count)) in
+      gone ∙ (sym (ap (λ (t : Rows). let r : Rows = record t { looked_up = []; left = [] } in r) none)
+      ∙ ap (λ (t : Rows). let r : Rows = record (rows p m) { looked_up = t.looked_up; left = t.left } in r) (sym gone))
 
--- as good as another store: it shows the same, and tells the same of runs and what they hold
-pub record IsAlike (p x : Contents) : Type 0 where
-  pub shows : (s : Plain) → StandsFor p s → StandsFor x s
-  pub running : is_running x ≡ is_running p
-  pub held : held_spans x ≡ held_spans p
-  pub serves : has_cpu x ≡ has_cpu p
-  pub shapes : shapes_of x ≡ shapes_of p
+  table-is : (m : ℕ) → rows q m ≡ record (rows p m) { looked_up = (rows q m).looked_up; left = (rows q m).left }
+  table-is m = table-anew m (cases_lt m (length p.tables))
 
-module _ (p : Contents) (c : ℕ) (serves : has_cpu p c ≡ true) (idle : is_running p c ≡ false) where
-  rows-recounted : (m : ℕ) → rows (recounted p c) m ≡ forgotten_rows c (rows p m)
-  rows-recounted m = get_or-map (forgotten_rows c) p.tables m no_rows
+  shapes-anew : shapes_of q ≡ shapes_of p
+  shapes-anew =
+      let long : length (shapes_of q) ≡ length (shapes_of p) = length-map q.tables shape_of ∙ (anew.count ∙ sym (length-map p.tables shape_of)) in
+      ext_get_or (shape_of no_rows) (shapes_of q) (shapes_of p) long (λ m l.
+      get_or-map shape_of q.tables m no_rows ∙ (ap (λ (t : Rows). t.shape) (table-is m) ∙ sym (get_or-map shape_of p.tables m no_rows)))
 
-  cell-recounted : (m i : ℕ) → cell_of (recounted p c) m i ≡ forgotten c (cell_of p m i)
-  cell-recounted m i = ap (λ (t : Rows). cell t i) (rows-recounted m) ∙ cell-forgotten c (rows p m) i
-
-  recounted_same : SameContent p (recounted p c)
-  recounted_same = record {
-    cpus = length-set p.runs c (record (runs_of p c) { count = 0 });
-    tables = length-map p.tables (forgotten_rows c);
-    shapes = shapes-forgotten c p.tables;
-    shape = λ m. ap (λ (t : Rows). t.shape) (rows-recounted m);
-    order = λ m. ap (λ (t : Rows). t.order) (rows-recounted m);
-    count = λ m. ap (λ (t : Rows). length t.cells) (rows-recounted m) ∙ length-forgotten c (rows p m);
-    key = λ m i. ap (λ (x : Cell). x.key) (cell-recounted m i);
-    bytes = λ m i. ap (λ (x : Cell). x.bytes) (cell-recounted m i);
+  anew_same : SameContent p q
+  anew_same = record {
+    cpus = ap (length {A = Runs}) anew.runs ∙ length-set p.runs c (record (runs_of p c) { count = 0 });
+    tables = anew.count;
+    shapes = shapes-anew;
+    shape = λ m. ap (λ (t : Rows). t.shape) (table-is m);
+    order = λ m. ap (λ (t : Rows). t.order) (table-is m);
+    key = λ m i. ap (λ (t : Rows). key_of t i) (table-is m);
+    bytes = λ m i. ap (λ (t : Rows). bytes_of t i) (table-is m);
   }
 
-  running-recounted : (d : ℕ) → is_running (recounted p c) d ≡ is_running p d
-  running-recounted d = elim (equal_or_not d c) [
+  runs-anew : (d : ℕ) → runs_of q d ≡ runs_of (with_runs p c (record (runs_of p c) { count = 0 })) d
+  runs-anew d = ap (λ (r : List Runs). get_or r d no_runs) anew.runs
+
+  running-anew : (d : ℕ) → is_running q d ≡ is_running p d
+  running-anew d = elim (equal_or_not d c) [
     | inl e ↦
-        ap (λ (x : ℕ). is_running (recounted p c) x) e
-        ∙ (ap (λ (x : Runs). x.running) (runs-same p c (record (runs_of p c) { count = 0 }) (served p c serves)) ∙ ap (λ (x : ℕ). is_running p x) (sym e))
-    | inr ne ↦ ap (λ (x : Runs). x.running) (runs-other p c (record (runs_of p c) { count = 0 }) d ne)
+        ap (λ (x : ℕ). is_running q x) e
+        ∙ (ap (λ (x : Runs). x.running) (runs-anew c ∙ runs-same p c (record (runs_of p c) { count = 0 }) (served p c serves)) ∙ ap (λ (x : ℕ). is_running p x) (sym e))
+    | inr ne ↦ ap (λ (x : Runs). x.running) (runs-anew d ∙ runs-other p c (record (runs_of p c) { count = 0 }) d ne)
   ]
 
-  is_run-recounted : (d : ℕ) (notes : List ℕ) → is_run (recounted p c) d (slice_index (set notes c 0) d) ≡ is_run p d (slice_index notes d)
-  is_run-recounted d notes = elim (equal_or_not d c) [
+  -- notes of a CPU that runs are as they were
+  still-noted : (d m i : ℕ) → d < length p.runs → d ≢ c → (m < length p.tables) ⊎ (length p.tables ≤ m)
+      → (run_looked_up (rows q m) i d ≡ run_looked_up (rows p m) i d) × (run_left (rows q m) i d ≡ run_left (rows p m) i d)
+  still-noted d m i l ne (inl k) =
+      let cpus : (rows q m).cpus ≡ (rows p m).cpus = ap (λ (t : Rows). t.cpus) (table-is m) in
+      let f = (anew.tables m k).0 in
+      let inside : d < (rows p m).cpus = subst (λ (n : ℕ). d < n) (sym (is.tables m k).1) l in (
+        ap (λ (n : ℕ). slice_index (rows q m).looked_up (i * n + d)) cpus ∙ f.looked_up.others i d inside ne,
+        ap (λ (n : ℕ). slice_index (rows q m).left (i * n + d)) cpus ∙ f.left.others i d inside ne,
+      )
+  still-noted d m i l ne (inr k) =
+      let none : rows p m ≡ no_rows = get_or_past p.tables m no_rows k in
+      let gone : rows q m ≡ no_rows = get_or_past q.tables m no_rows (omega (arith, anew.count)) in
+      let same : rows q m ≡ rows p m = gone ∙ sym none in (
+        ap (λ (t : Rows). run_looked_up t i d) same,
+        ap (λ (t : Rows). run_left t i d) same,
+      )
+
+  idle_past : (d run : ℕ) → length p.runs ≤ d → is_run (runs_of p d) run ≡ false
+  idle_past d run l = ap (λ (x : Runs). is_run x run) (get_or_past p.runs d no_runs l)
+
+  both_anew : (d m i : ℕ) → (holds q d m i ≡ holds p d m i) × (keeps q d m i ≡ keeps p d m i)
+  both_anew d m i = elim (equal_or_not d c) [
     | inl e ↦
-        idle_run (recounted p c) d (slice_index (set notes c 0) d) (running-recounted d ∙ (ap (is_running p) e ∙ idle))
-        ∙ sym (idle_run p d (slice_index notes d) (ap (is_running p) e ∙ idle))
+        let quiet : is_running p d ≡ false = ap (is_running p) e ∙ idle in
+        let quiet' : is_running q d ≡ false = running-anew d ∙ quiet in (
+          idle_run q d (run_looked_up (rows q m) i d) quiet' ∙ sym (idle_run p d (run_looked_up (rows p m) i d) quiet),
+          idle_run q d (run_left (rows q m) i d) quiet' ∙ sym (idle_run p d (run_left (rows p m) i d) quiet),
+        )
     | inr ne ↦
-        is_run-other p c (record (runs_of p c) { count = 0 }) d (slice_index (set notes c 0) d) ne
-        ∙ ap (is_run p d) (get_or-set_other notes c d 0 0 ne)
+        let run : runs_of q d ≡ runs_of p d = runs-anew d ∙ runs-other p c (record (runs_of p c) { count = 0 }) d ne in
+        elim (cases_lt d (length p.runs)) [
+          | inl l ↦ (
+              let n = still-noted d m i l ne (cases_lt m (length p.tables)) in (
+                ap (λ (x : Runs). is_run x (run_looked_up (rows q m) i d)) run ∙ ap (is_run (runs_of p d)) n.0,
+                ap (λ (x : Runs). is_run x (run_left (rows q m) i d)) run ∙ ap (is_run (runs_of p d)) n.1,
+              ))
+          | inr l ↦ (
+            ap (λ (x : Runs). is_run x (run_looked_up (rows q m) i d)) run ∙ (idle_past d (run_looked_up (rows q m) i d) l ∙ sym (idle_past d (run_looked_up (rows p m) i d) l)),
+            ap (λ (x : Runs). is_run x (run_left (rows q m) i d)) run ∙ (idle_past d (run_left (rows q m) i d) l ∙ sym (idle_past d (run_left (rows p m) i d) l)),
+          )
+        ]
   ]
 
-  holds-recounted : (d m i : ℕ) → holds (recounted p c) d m i ≡ holds p d m i
-  holds-recounted d m i = ap (λ (x : Cell). is_run (recounted p c) d (slice_index x.looked_up d)) (cell-recounted m i) ∙ is_run-recounted d (cell_of p m i).looked_up
+  used-anew : (m i : ℕ) → IsUsed q m i → IsUsed p m i
+  used-anew m i (inl l) = inl (linked_was p q anew_same m i l)
+  used-anew m i (inr k) = inr (k.0, elim k.1 [ inl e ↦ inl (sym (both_anew k.0 m i).1 ∙ e) | inr e ↦ inr (sym (both_anew k.0 m i).0 ∙ e) ])
 
-  keeps-recounted : (d m i : ℕ) → keeps (recounted p c) d m i ≡ keeps p d m i
-  keeps-recounted d m i = ap (λ (x : Cell). is_run (recounted p c) d (slice_index x.left d)) (cell-recounted m i) ∙ is_run-recounted d (cell_of p m i).left
+  anew_shows : (s : Plain) → StandsFor p s → StandsFor q s
+  anew_shows s h = shows_after p q anew_same s h s.running s.held s.kept
+      (λ d. h.running d ∙ sym (running-anew d))
+      used-anew
+      (λ d v e. let x = h.held d v e in (x.0, x.1, within_still p q anew_same x.0 x.1 x.2, (both_anew d x.0 x.1).0 ∙ x.3, x.4))
+      (λ d m i l e. h.held_back d m i (within_was p q anew_same m i l) (sym (both_anew d m i).0 ∙ e))
+      (λ d v e. let x = h.kept d v e in (x.0, x.1, within_still p q anew_same x.0 x.1 x.2, (both_anew d x.0 x.1).1 ∙ x.3, x.4))
+      (λ d m i l e. h.kept_back d m i (within_was p q anew_same m i l) (sym (both_anew d m i).1 ∙ e))
 
-  used-recounted : (m i : ℕ) → IsUsed (recounted p c) m i → IsUsed p m i
-  used-recounted m i (inl l) = inl (linked_was p (recounted p c) recounted_same m i l)
-  used-recounted m i (inr k) = inr (k.0, elim k.1 [ inl e ↦ inl (sym (keeps-recounted k.0 m i) ∙ e) | inr e ↦ inr (sym (holds-recounted k.0 m i) ∙ e) ])
-
-  recounted_shows : (s : Plain) → StandsFor p s → StandsFor (recounted p c) s
-  recounted_shows s h = shows_after p (recounted p c) recounted_same s h s.running s.held s.kept
-      (λ d. h.running d ∙ sym (running-recounted d))
-      used-recounted
-      (λ d v e. let x = h.held d v e in (x.0, x.1, within_still p (recounted p c) recounted_same x.0 x.1 x.2, holds-recounted d x.0 x.1 ∙ x.3, x.4))
-      (λ d m i l e. h.held_back d m i (within_was p (recounted p c) recounted_same m i l) (sym (holds-recounted d m i) ∙ e))
-      (λ d v e. let x = h.kept d v e in (x.0, x.1, within_still p (recounted p c) recounted_same x.0 x.1 x.2, keeps-recounted d x.0 x.1 ∙ x.3, x.4))
-      (λ d m i l e. h.kept_back d m i (within_was p (recounted p c) recounted_same m i l) (sym (keeps-recounted d m i) ∙ e))
-
-  recounted_alike : IsAlike p (recounted p c)
-  recounted_alike = record {
-    shows = recounted_shows;
-    running = λ k d. running-recounted d k;
-    held = held_spans-same p (recounted p c) recounted_same holds-recounted;
-    serves = has_cpu-same p c (record (runs_of p c) { count = 0 });
-    shapes = recounted_same.shapes;
+  pub anew_alike : IsAlike p q
+  anew_alike = record {
+    shows = anew_shows;
+    running = λ k d. running-anew d k;
+    held = held_spans-same p q anew_same (λ d m i. (both_anew d m i).0);
+    serves = λ k d. nat_lt d (anew_same.cpus k);
+    shapes = shapes-anew;
   }
 
-  pub alike : (x : Contents) → (x ≡ p) ⊎ (x ≡ recounted p c) → IsAlike p x
-  alike x (inl e) = subst (IsAlike p) (sym e) (record { shows = λ s h. h; running = refl; held = refl; serves = refl; shapes = refl })
-  alike x (inr e) = subst (IsAlike p) (sym e) recounted_alike
+  pub anew_store : IsStore q
+  anew_store = record {
+    cpus = subst (λ (n : ℕ). n ≤ 16) (sym anew_same.cpus) is.cpus;
+    maps = subst (λ (n : ℕ). n ≤ 16) (sym anew.count) is.maps;
+    tables = λ m l. (let k : m < length p.tables = subst (λ (n : ℕ). m < n) anew.count l in ((anew.tables m k).1, ap (λ (t : Rows). t.cpus) (table-is m) ∙ ((is.tables m k).1 ∙ sym anew_same.cpus)));
+    looked_up = λ m i d l. bound d (run_looked_up (rows q m) i d) (run_looked_up (rows p m) i d) (within d l) (is.looked_up m i d (within d l)) (λ ne. (still-noted d m i (within d l) ne (cases_lt m (length p.tables))).0) (λ e. zero_looked m i d e (cases_lt m (length p.tables)));
+    left = λ m i d l. bound d (run_left (rows q m) i d) (run_left (rows p m) i d) (within d l) (is.left m i d (within d l)) (λ ne. (still-noted d m i (within d l) ne (cases_lt m (length p.tables))).1) (λ e. zero_left m i d e (cases_lt m (length p.tables)));
+  }
+    where
+      within : (d : ℕ) → d < length q.runs → d < length p.runs
+      within d l = subst (λ (n : ℕ). d < n) anew_same.cpus l
+
+      zero_looked : (m i d : ℕ) → d ≡ c → (m < length p.tables) ⊎ (length p.tables ≤ m) → run_looked_up (rows q m) i d ≡ 0
+      zero_looked m i d e (inl k) =
+          ap (λ (n : ℕ). slice_index (rows q m).looked_up (i * n + d)) (ap (λ (t : Rows). t.cpus) (table-is m))
+          ∙ (ap (λ (n : ℕ). slice_index (rows q m).looked_up (i * (rows p m).cpus + n)) e ∙ (anew.tables m k).0.looked_up.here i)
+      zero_looked m i d e (inr k) = ap (λ (t : Rows). run_looked_up t i d) (get_or_past q.tables m no_rows (omega (arith, anew.count)))
+
+      zero_left : (m i d : ℕ) → d ≡ c → (m < length p.tables) ⊎ (length p.tables ≤ m) → run_left (rows q m) i d ≡ 0
+      zero_left m i d e (inl k) =
+          ap (λ (n : ℕ). slice_index (rows q m).left (i * n + d)) (ap (λ (t : Rows). t.cpus) (table-is m))
+          ∙ (ap (λ (n : ℕ). slice_index (rows q m).left (i * (rows p m).cpus + n)) e ∙ (anew.tables m k).0.left.here i)
+      zero_left m i d e (inr k) = ap (λ (t : Rows). run_left t i d) (get_or_past q.tables m no_rows (omega (arith, anew.count)))
+
+      bound : (d now was : ℕ) → d < length p.runs → was ≤ (runs_of p d).count → (d ≢ c → now ≡ was) → (d ≡ c → now ≡ 0) → now ≤ (runs_of q d).count
+      bound d now was l h same zero_there = elim (equal_or_not d c) [
+        | inl e ↦ (let z = zero_there e in omega arith)
+        | inr ne ↦
+            let n = same ne in
+            let count : (runs_of q d).count ≡ (runs_of p d).count = ap (λ (x : Runs). x.count) (runs-anew d ∙ runs-other p c (record (runs_of p c) { count = 0 }) d ne) in
+            omega arith
+      ]
+
+pub alike_itself : (p : Contents) → IsAlike p p
+alike_itself p = record { shows = λ s h. h; running = refl; held = refl; serves = refl; shapes = refl }
 
 -- ---- a begin
 kept-idle : (s : Plain) (c : ℕ) → IsSoundStore s → s.running c ≡ false → put s.kept c never ≡ s.kept
@@ -227,15 +290,15 @@ module _ (p : Contents) (c : ℕ) (is : IsStore p) (serves : has_cpu p c ≡ tru
 
   started_other : (d m i : ℕ) → d ≢ c → (holds (started p c) d m i ≡ holds p d m i) × (keeps (started p c) d m i ≡ keeps p d m i)
   started_other d m i ne = (
-    is_run-other p c (record { count = (runs_of p c).count + 1; running = true }) d (slice_index (cell_of p m i).looked_up d) ne,
-    is_run-other p c (record { count = (runs_of p c).count + 1; running = true }) d (slice_index (cell_of p m i).left d) ne,
+    is_run-other p c (record { count = (runs_of p c).count + 1; running = true }) d (run_looked_up (rows p m) i d) ne,
+    is_run-other p c (record { count = (runs_of p c).count + 1; running = true }) d (run_left (rows p m) i d) ne,
   )
 
-  not_yet : (run : ℕ) → run ≤ (runs_of p c).count → is_run (started p c) c run ≡ false
+  not_yet : (run : ℕ) → run ≤ (runs_of p c).count → is_run (runs_of (started p c) c) run ≡ false
   not_yet run l = is_run-own p c (record { count = (runs_of p c).count + 1; running = true }) (served p c serves) run ∙ ne_eqb run ((runs_of p c).count + 1) (λ e. omega arith)
 
   started_own : (m i : ℕ) → (holds (started p c) c m i ≡ false) × (keeps (started p c) c m i ≡ false)
-  started_own m i = (not_yet (slice_index (cell_of p m i).looked_up c) (is.looked_up m i c), not_yet (slice_index (cell_of p m i).left c) (is.left m i c))
+  started_own m i = (not_yet (run_looked_up (rows p m) i c) (is.looked_up m i c (served p c serves)), not_yet (run_left (rows p m) i c) (is.left m i c (served p c serves)))
 
   pub started_shows : (s : Plain) → IsSoundStore s → StandsFor p s → StandsFor (started p c) (after_begin s c)
   started_shows s so h =
@@ -249,12 +312,9 @@ module _ (p : Contents) (c : ℕ) (is : IsStore p) (serves : has_cpu p c ≡ tru
   started_held = released_spans p (started p c) c started_same started_other started_own
 
 -- the store p was made countable, as x, and the code counted the CPU's runs up
-module _ (p x : Contents) (c : ℕ) (serves : has_cpu p c ≡ true) (idle : is_running p c ≡ false) (made : (x ≡ p) ⊎ (x ≡ recounted p c)) (runs : List Runs) (tables : List Rows) (y : Runs) (view : ◌≡◌ {A = Contents} (record { runs = runs; tables = tables }) x) (read : y ≡ get_or runs c y) (store : IsStore (record { runs = runs; tables = tables })) where
+module _ (p x : Contents) (c : ℕ) (serves : has_cpu p c ≡ true) (idle : is_running p c ≡ false) (is_alike : IsAlike p x) (runs : List Runs) (tables : List Rows) (y : Runs) (view : ◌≡◌ {A = Contents} (record { runs = runs; tables = tables }) x) (read : y ≡ get_or runs c y) (store : IsStore (record { runs = runs; tables = tables })) where
   abbrev counted_up : Contents
   counted_up = record { runs = set runs c (record { count = y.count + 1; running = true }); tables = tables }
-
-  is_alike : IsAlike p x
-  is_alike = alike p c serves idle x made
 
   is_store : IsStore x
   is_store = subst IsStore view store
@@ -286,36 +346,3 @@ module _ (p x : Contents) (c : ℕ) (serves : has_cpu p c ≡ true) (idle : is_r
 
   pub begun_same : (shapes_of counted_up ≡ shapes_of p) × (has_cpu counted_up ≡ has_cpu p)
   begun_same = (ap shapes_of is_started ∙ is_alike.shapes, ap has_cpu is_started ∙ (has_cpu-same x c (record { count = (runs_of x c).count + 1; running = true }) ∙ is_alike.serves))
-
--- ---- what stays true of each store
-none_noted : (notes : List ℕ) (c : ℕ) → slice_index (set notes c 0) c ≡ 0
-none_noted [] c = refl
-none_noted (n ∷ ns) zero = refl
-none_noted (n ∷ ns) (suc c) = none_noted ns c
-
-pub recounted_store : (p : Contents) (c : ℕ) → IsStore p → c < length p.runs → IsStore (recounted p c)
-recounted_store p c is l = record {
-  cpus = subst (λ (n : ℕ). n ≤ 16) (sym (length-set p.runs c (record (runs_of p c) { count = 0 }))) is.cpus;
-  maps = subst (λ (n : ℕ). n ≤ 16) (sym (length-map p.tables (forgotten_rows c))) is.maps;
-  looked_up = λ m i d. subst (λ (x : Cell). slice_index x.looked_up d ≤ (runs_of (recounted p c) d).count) (sym (cell_there m i)) (bound d (cell_of p m i).looked_up (is.looked_up m i d));
-  left = λ m i d. subst (λ (x : Cell). slice_index x.left d ≤ (runs_of (recounted p c) d).count) (sym (cell_there m i)) (bound d (cell_of p m i).left (is.left m i d));
-}
-  where
-    cell_there : (m i : ℕ) → cell_of (recounted p c) m i ≡ forgotten c (cell_of p m i)
-    cell_there m i = ap (λ (t : Rows). cell t i) (get_or-map (forgotten_rows c) p.tables m no_rows) ∙ cell-forgotten c (rows p m) i
-
-    bound : (d : ℕ) (notes : List ℕ) → slice_index notes d ≤ (runs_of p d).count → slice_index (set notes c 0) d ≤ (runs_of (recounted p c) d).count
-    bound d notes h = elim (equal_or_not d c) [
-      | inl e ↦ (let zero_there : slice_index (set notes c 0) d ≡ 0 = ap (λ (k : ℕ). slice_index (set notes c 0) k) e ∙ none_noted notes c in omega arith)
-      | inr ne ↦
-          let note : slice_index (set notes c 0) d ≡ slice_index notes d = get_or-set_other notes c d 0 0 ne in
-          let count : (runs_of (recounted p c) d).count ≡ (runs_of p d).count = ap (λ (x : Runs). x.count) (runs-other p c (record (runs_of p c) { count = 0 }) d ne) in
-          omega arith
-    ]
-
--- what the code leaves is the store with its runs counted anew
-pub forgot : (p : Contents) (c : ℕ) (runs : List Runs) (tables now : List Rows) (x : Runs) → c < length runs → ◌≡◌ {A = Contents} (record { runs = runs; tables = tables }) p → x ≡ get_or runs c x → now ≡ map (forgotten_rows c) tables
-    → ◌≡◌ {A = Contents} (record { runs = set runs c (record { count = 0; running = x.running }); tables = now }) (recounted p c)
-forgot p c runs tables now x inside view read e =
-    ap (λ (ts : List Rows). let q : Contents = record { runs = set runs c (record { count = 0; running = x.running }); tables = ts } in q) e
-    ∙ (ap (λ (y : Runs). let q : Contents = record { runs = set runs c (record { count = 0; running = y.running }); tables = map (forgotten_rows c) tables } in q) (get_or_read runs c x inside read no_runs) ∙ ap (λ (q : Contents). recounted q c) view)

@@ -62,7 +62,7 @@ refusals_change_nothing = (
 )
 
 -- ---- updates that are done
-leads_new : (k : Keys) (key : List ℕ) (n : ℕ) → get (insert k key n) key ≡ Some n
+pub leads_new : (k : Keys) (key : List ℕ) (n : ℕ) → get (insert k key n) key ≡ Some n
 leads_new k key n = get-insert nat_list_cmp_total k key n key ∙ ap (λ (b : Bool). cond b (Some n) (get k key)) (itself key)
   where
     itself : (q : List ℕ) → eq_by_cmp (slice_cmp nat_cmp) q q ≡ true

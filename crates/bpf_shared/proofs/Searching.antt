@@ -6,17 +6,8 @@ use Rattle.std.specs.Cmp.{tied_itself}
 use Rattle.std.specs.Cmp.Lexicographic.{slice_cmp}
 use Rattle.std.proofs.lemmas.Bool.{cases_lt}
 use Rattle.std.proofs.lemmas.Cmp.{nat_list_cmp_total}
-use Rattle.std.proofs.lemmas.List.{get_or_read}
 use Rattle.bpf_shared.proofs.Puts.{equal_or_not}
-use Rattle.bpf_shared.specs.Rows.{Rows, Cell, no_cell, cell, key_at, IsLinked, IsTable, IsGap}
-
--- the key that the code read
-pub key_read : (t u : Rows) (n e : ℕ) (x : Cell) → u ≡ t → IsTable u → n < length u.order → e ≡ get_or u.order n e → x ≡ get_or u.cells e x → x.key ≡ key_at t n
-key_read t u n e x same is inside at there =
-    let index : e ≡ get_or u.order n 0 = get_or_read u.order n e inside at 0 in
-    let within : e < length u.cells = subst (λ (k : ℕ). k < length u.cells) (sym index) (is.inside n inside) in
-    ap (λ (y : Cell). y.key) (get_or_read u.cells e x within there no_cell)
-    ∙ (ap (λ (k : ℕ). (cell u k).key) index ∙ ap (λ (r : Rows). key_at r n) same)
+use Rattle.bpf_shared.specs.Rows.{Rows, key_of, key_at, IsLinked, IsTable, IsGap}
 
 module _ (t : Rows) (is : IsTable t) (key : List ℕ) (middle : ℕ) (inside : middle < length t.order) where
   pub more_below : slice_cmp nat_cmp (key_at t middle) key ≡ Less → (j : ℕ) → j < middle + 1 → slice_cmp nat_cmp (key_at t j) key ≡ Less
@@ -34,9 +25,9 @@ module _ (t : Rows) (is : IsTable t) (key : List ℕ) (middle : ℕ) (inside : m
       ]
 
 -- no key of the map is the key for which there is a gap
-pub not_in_gap : (t : Rows) (key : List ℕ) (n : ℕ) → IsGap t key n → (i : ℕ) → IsLinked t i → (cell t i).key ≡ key → ⊥
+pub not_in_gap : (t : Rows) (key : List ℕ) (n : ℕ) → IsGap t key n → (i : ℕ) → IsLinked t i → key_of t i ≡ key → ⊥
 not_in_gap t key n gap i linked e =
-    let same : key_at t linked.0 ≡ key = ap (λ (k : ℕ). (cell t k).key) linked.2 ∙ e in
+    let same : key_at t linked.0 ≡ key = ap (λ (k : ℕ). key_of t k) linked.2 ∙ e in
     let tie : slice_cmp nat_cmp key key ≡ Equal = tied_itself nat_list_cmp_total key in
     go (cases_lt linked.0 n) same tie
   where

@@ -2,12 +2,12 @@
 use Rattle.std.proofs.Common.{◌≡◌, ◌≢◌, ℕ, ◌<◌, Bool, true, false, ◌&&◌, ◌==◌, if◌then◌else◌, List, inl, inr, length, slice_index, ap, sym, ◌∙◌, subst, eq-eqb, ne_eqb}
 use Rattle.bpf_shared.specs.declared.events.Span.{Span}
 use Rattle.bpf_shared.specs.declared.shapes.MapShape.{MapShape}
-use Rattle.bpf_shared.specs.Shape.{element_span}
+use Rattle.bpf_shared.specs.Shape.{elements, element_span}
 use Rattle.bpf_shared.specs.Store.{Plain, Finds}
 use Rattle.bpf_shared.specs.Passage.{same_span, held_without}
 use Rattle.bpf_shared.proofs.Puts.{equal_or_not}
-use Rattle.bpf_shared.specs.Rows.{Rows, IsLinked}
-use Rattle.bpf_shared.specs.Contents.{Contents, rows, cell_of, span_at, shapes_of, is_running, holds, keeps, any_below, held_spans, IsUsed, StandsFor}
+use Rattle.bpf_shared.specs.Rows.{Rows, key_of, bytes_of, IsLinked}
+use Rattle.bpf_shared.specs.Contents.{Contents, rows, size_of, span_at, shapes_of, is_running, holds, keeps, any_below, held_spans, IsUsed, StandsFor}
 use Rattle.bpf_shared.proofs.AnyBelow.{any_below_same, any_below_none}
 
 -- the same keys, bytes and places
@@ -17,9 +17,8 @@ pub record SameContent (p q : Contents) : Type 0 where
   pub shapes : shapes_of q ≡ shapes_of p
   pub shape : (m : ℕ) → (rows q m).shape ≡ (rows p m).shape
   pub order : (m : ℕ) → (rows q m).order ≡ (rows p m).order
-  pub count : (m : ℕ) → length (rows q m).cells ≡ length (rows p m).cells
-  pub key : (m i : ℕ) → (cell_of q m i).key ≡ (cell_of p m i).key
-  pub bytes : (m i : ℕ) → (cell_of q m i).bytes ≡ (cell_of p m i).bytes
+  pub key : (m i : ℕ) → key_of (rows q m) i ≡ key_of (rows p m) i
+  pub bytes : (m i : ℕ) → bytes_of (rows q m) i ≡ bytes_of (rows p m) i
 
 pub same_tables : (p : Contents) (q : Contents) → length q.runs ≡ length p.runs → q.tables ≡ p.tables → SameContent p q
 same_tables p q cpus e = record {
@@ -28,9 +27,8 @@ same_tables p q cpus e = record {
   shapes = ap (λ (ts : List Rows). shapes_of (record p { tables = ts })) e;
   shape = λ m. ap (λ (ts : List Rows). (rows (record p { tables = ts }) m).shape) e;
   order = λ m. ap (λ (ts : List Rows). (rows (record p { tables = ts }) m).order) e;
-  count = λ m. ap (λ (ts : List Rows). length (rows (record p { tables = ts }) m).cells) e;
-  key = λ m i. ap (λ (ts : List Rows). (cell_of (record p { tables = ts }) m i).key) e;
-  bytes = λ m i. ap (λ (ts : List Rows). (cell_of (record p { tables = ts }) m i).bytes) e;
+  key = λ m i. ap (λ (ts : List Rows). key_of (rows (record p { tables = ts }) m) i) e;
+  bytes = λ m i. ap (λ (ts : List Rows). bytes_of (rows (record p { tables = ts }) m) i) e;
 }
 
 module _ (p q : Contents) (same : SameContent p q) where
@@ -43,20 +41,20 @@ module _ (p q : Contents) (same : SameContent p q) where
   pub linked_still : (m i : ℕ) → IsLinked (rows p m) i → IsLinked (rows q m) i
   linked_still m i l = (l.0, subst (λ (o : List ℕ). l.0 < length o) (sym (same.order m)) l.1, ap (λ (o : List ℕ). slice_index o l.0) (same.order m) ∙ l.2)
 
-  pub within_was : (m i : ℕ) → i < length (rows q m).cells → i < length (rows p m).cells
-  within_was m i l = subst (λ (n : ℕ). i < n) (same.count m) l
+  pub within_was : (m i : ℕ) → i < size_of q m → i < size_of p m
+  within_was m i l = subst (λ (n : ℕ). i < n) (ap elements (same.shape m)) l
 
-  pub within_still : (m i : ℕ) → i < length (rows p m).cells → i < length (rows q m).cells
-  within_still m i l = subst (λ (n : ℕ). i < n) (sym (same.count m)) l
+  pub within_still : (m i : ℕ) → i < size_of p m → i < size_of q m
+  within_still m i l = subst (λ (n : ℕ). i < n) (sym (ap elements (same.shape m))) l
 
   -- who runs, holds and keeps what is all that can change
   pub shows_after : (s : Plain) (h : StandsFor p s) (running : ℕ → Bool) (held kept : ℕ → ℕ → Bool)
       → ((c : ℕ) → running c ≡ is_running q c)
       → ((m i : ℕ) → IsUsed q m i → IsUsed p m i)
-      → ((c v : ℕ) → held c v ≡ true → (m : ℕ) × (i : ℕ) × (i < length (rows q m).cells) × (holds q c m i ≡ true) × (v ≡ h.number m i))
-      → ((c m i : ℕ) → i < length (rows q m).cells → holds q c m i ≡ true → held c (h.number m i) ≡ true)
-      → ((c v : ℕ) → kept c v ≡ true → (m : ℕ) × (i : ℕ) × (i < length (rows q m).cells) × (keeps q c m i ≡ true) × (v ≡ h.number m i))
-      → ((c m i : ℕ) → i < length (rows q m).cells → keeps q c m i ≡ true → kept c (h.number m i) ≡ true)
+      → ((c v : ℕ) → held c v ≡ true → (m : ℕ) × (i : ℕ) × (i < size_of q m) × (holds q c m i ≡ true) × (v ≡ h.number m i))
+      → ((c m i : ℕ) → i < size_of q m → holds q c m i ≡ true → held c (h.number m i) ≡ true)
+      → ((c v : ℕ) → kept c v ≡ true → (m : ℕ) × (i : ℕ) × (i < size_of q m) × (keeps q c m i ≡ true) × (v ≡ h.number m i))
+      → ((c m i : ℕ) → i < size_of q m → keeps q c m i ≡ true → kept c (h.number m i) ≡ true)
       → StandsFor q (record s { running = running; held = held; kept = kept })
   shows_after s h running held kept runs used held_at held_back kept_at kept_back = record {
     cpus = h.cpus ∙ sym same.cpus;
@@ -66,10 +64,10 @@ module _ (p q : Contents) (same : SameContent p q) where
     leads = λ m i l. subst (λ (key : List ℕ). Finds s m key (h.number m i)) (sym (same.key m i)) (h.leads m i (linked_was m i l));
     found = λ m key v l. (let f = h.found m key v l in (f.0, linked_still m f.0 f.1, same.key m f.0 ∙ f.2, f.3));
     counts = λ m. h.counts m ∙ ap (length {A = ℕ}) (sym (same.order m));
-    values = λ m i u.
-        h.values m i (used m i u)
+    values = λ m i l u.
+        h.values m i (within_was m i l) (used m i u)
         ∙ (ap (λ (b : List ℕ). record { bytes = b; span = span_at p m i }) (sym (same.bytes m i))
-        ∙ ap (λ (x : Span). record { bytes = (cell_of q m i).bytes; span = x }) (sym (span-same m i)));
+        ∙ ap (λ (x : Span). record { bytes = bytes_of (rows q m) i; span = x }) (sym (span-same m i)));
     held = held_at;
     held_back = held_back;
     kept = kept_at;
@@ -80,36 +78,36 @@ module _ (p q : Contents) (same : SameContent p q) where
   pub held_spans-same : ((c m i : ℕ) → holds q c m i ≡ holds p c m i) → held_spans q ≡ held_spans p
   held_spans-same e = λ k c x. go c x k
     where
-      inner : (c : ℕ) (x : Span) (m : ℕ) → any_below (length (rows q m).cells) (λ i. holds q c m i && same_span x (span_at q m i)) ≡ any_below (length (rows p m).cells) (λ i. holds p c m i && same_span x (span_at p m i))
+      inner : (c : ℕ) (x : Span) (m : ℕ) → any_below (size_of q m) (λ i. holds q c m i && same_span x (span_at q m i)) ≡ any_below (size_of p m) (λ i. holds p c m i && same_span x (span_at p m i))
       inner c x m =
-          ap (λ (n : ℕ). any_below n (λ i. holds q c m i && same_span x (span_at q m i))) (same.count m)
-          ∙ any_below_same (length (rows p m).cells) (λ i. holds p c m i && same_span x (span_at p m i)) (λ i. holds q c m i && same_span x (span_at q m i))
+          ap (λ (n : ℕ). any_below n (λ i. holds q c m i && same_span x (span_at q m i))) (ap elements (same.shape m))
+          ∙ any_below_same (size_of p m) (λ i. holds p c m i && same_span x (span_at p m i)) (λ i. holds q c m i && same_span x (span_at q m i))
           (λ i l. ap (λ (b : Bool). b && same_span x (span_at q m i)) (e c m i) ∙ ap (λ (y : Span). holds p c m i && same_span x y) (span-same m i))
 
       go : (c : ℕ) (x : Span) → held_spans q c x ≡ held_spans p c x
       go c x =
-          ap (λ (n : ℕ). any_below n (λ m. any_below (length (rows q m).cells) (λ i. holds q c m i && same_span x (span_at q m i)))) same.tables
-          ∙ any_below_same (length p.tables) (λ m. any_below (length (rows p m).cells) (λ i. holds p c m i && same_span x (span_at p m i))) (λ m. any_below (length (rows q m).cells) (λ i. holds q c m i && same_span x (span_at q m i))) (λ m l. inner c x m)
+          ap (λ (n : ℕ). any_below n (λ m. any_below (size_of q m) (λ i. holds q c m i && same_span x (span_at q m i)))) same.tables
+          ∙ any_below_same (length p.tables) (λ m. any_below (size_of p m) (λ i. holds p c m i && same_span x (span_at p m i))) (λ m. any_below (size_of q m) (λ i. holds q c m i && same_span x (span_at q m i))) (λ m l. inner c x m)
 
   -- one CPU holds nothing any more
   pub held_spans-without : (c : ℕ) → ((d m i : ℕ) → d ≢ c → holds q d m i ≡ holds p d m i) → ((m i : ℕ) → holds q c m i ≡ false) → held_spans q ≡ held_without (held_spans p) c
   held_spans-without c other own = λ k d x. go d x k
     where
-      inner : (d : ℕ) (x : Span) → d ≢ c → (m : ℕ) → any_below (length (rows q m).cells) (λ i. holds q d m i && same_span x (span_at q m i)) ≡ any_below (length (rows p m).cells) (λ i. holds p d m i && same_span x (span_at p m i))
+      inner : (d : ℕ) (x : Span) → d ≢ c → (m : ℕ) → any_below (size_of q m) (λ i. holds q d m i && same_span x (span_at q m i)) ≡ any_below (size_of p m) (λ i. holds p d m i && same_span x (span_at p m i))
       inner d x ne m =
-          ap (λ (n : ℕ). any_below n (λ i. holds q d m i && same_span x (span_at q m i))) (same.count m)
-          ∙ any_below_same (length (rows p m).cells) (λ i. holds p d m i && same_span x (span_at p m i)) (λ i. holds q d m i && same_span x (span_at q m i))
+          ap (λ (n : ℕ). any_below n (λ i. holds q d m i && same_span x (span_at q m i))) (ap elements (same.shape m))
+          ∙ any_below_same (size_of p m) (λ i. holds p d m i && same_span x (span_at p m i)) (λ i. holds q d m i && same_span x (span_at q m i))
           (λ i l. ap (λ (b : Bool). b && same_span x (span_at q m i)) (other d m i ne) ∙ ap (λ (y : Span). holds p d m i && same_span x y) (span-same m i))
 
       nothing : (x : Span) (d : ℕ) → d ≡ c → held_spans q d x ≡ false
-      nothing x d e = any_below_none (length q.tables) (λ m. any_below (length (rows q m).cells) (λ i. holds q d m i && same_span x (span_at q m i)))
-          (λ m l. any_below_none (length (rows q m).cells) (λ i. holds q d m i && same_span x (span_at q m i)) (λ i k. ap (λ (b : Bool). b && same_span x (span_at q m i)) (ap (λ (z : ℕ). holds q z m i) e ∙ own m i)))
+      nothing x d e = any_below_none (length q.tables) (λ m. any_below (size_of q m) (λ i. holds q d m i && same_span x (span_at q m i)))
+          (λ m l. any_below_none (size_of q m) (λ i. holds q d m i && same_span x (span_at q m i)) (λ i k. ap (λ (b : Bool). b && same_span x (span_at q m i)) (ap (λ (z : ℕ). holds q z m i) e ∙ own m i)))
 
       go : (d : ℕ) (x : Span) → held_spans q d x ≡ (if d == c then false else held_spans p d x)
       go d x = elim (equal_or_not d c) [
         | inl e ↦ nothing x d e ∙ sym (ap (λ (b : Bool). if b then false else held_spans p d x) (eq-eqb d c e))
         | inr ne ↦
-            ap (λ (n : ℕ). any_below n (λ m. any_below (length (rows q m).cells) (λ i. holds q d m i && same_span x (span_at q m i)))) same.tables
-            ∙ (any_below_same (length p.tables) (λ m. any_below (length (rows p m).cells) (λ i. holds p d m i && same_span x (span_at p m i))) (λ m. any_below (length (rows q m).cells) (λ i. holds q d m i && same_span x (span_at q m i))) (λ m l. inner d x ne m)
+            ap (λ (n : ℕ). any_below n (λ m. any_below (size_of q m) (λ i. holds q d m i && same_span x (span_at q m i)))) same.tables
+            ∙ (any_below_same (length p.tables) (λ m. any_below (size_of p m) (λ i. holds p d m i && same_span x (span_at p m i))) (λ m. any_below (size_of q m) (λ i. holds q d m i && same_span x (span_at q m i))) (λ m l. inner d x ne m)
             ∙ sym (ap (λ (b : Bool). if b then false else held_spans p d x) (ne_eqb d c ne)))
       ]

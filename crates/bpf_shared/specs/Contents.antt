@@ -1,19 +1,21 @@
--- What a `PlainStore` shows, and its passages.
-use Rattle.std.specs.Prelude.{◌≡◌, ℕ, zero, suc, ◌+◌, ◌<◌, ◌≤◌, nat_lt, Bool, true, false, ◌||◌, ◌&&◌, ◌==◌, List, ◌⊎◌, length, slice_index, slice_index_or, slice_set, map}
+-- What a `PlainStore` is to its callers, and its passages.
+use Rattle.std.specs.Prelude.{◌≡◌, ℕ, zero, suc, ◌+◌, ◌<◌, ◌≤◌, nat_lt, Bool, true, false, ◌||◌, ◌&&◌, List, ◌⊎◌, length, slice_index_or, slice_set, map}
 use Rattle.std.specs.FinMap.{len}
 use Rattle.bpf_shared.specs.declared.events.Span.{Span}
 use Rattle.bpf_shared.specs.declared.events.Entry.{Entry}
+use Rattle.bpf_shared.specs.declared.events.MapAnswer.{MapAnswer}
+use Rattle.bpf_shared.specs.declared.events.MapAnswer.TheVariants.{Busy, NoMemory}
 use Rattle.bpf_shared.specs.declared.shapes.MapShape.{MapShape}
 use Rattle.bpf_shared.specs.declared.runs.Runs.{Runs}
-use Rattle.bpf_shared.specs.Shape.{Shape, element_span}
+use Rattle.bpf_shared.specs.Shape.{Shape, IsMap, elements, element_span}
 use Rattle.bpf_shared.specs.Store.{Plain, as_made, Finds}
+use Rattle.bpf_shared.specs.Choice.{IsShort}
 use Rattle.bpf_shared.specs.History.{PlainlyLegal}
 use Rattle.bpf_shared.specs.Passage.{same_span}
-use Rattle.bpf_shared.specs.Runs.{no_runs}
-use Rattle.bpf_shared.specs.Rows.{Rows, no_rows, shape_of, Cell, cell, IsLinked, noted_row, forgotten_rows}
+use Rattle.bpf_shared.specs.Runs.{run_of, is_run}
+use Rattle.bpf_shared.specs.Rows.{Rows, no_rows, shape_of, key_of, bytes_of, run_looked_up, run_left, IsTable, IsLinked, noted_row}
 use Rattle.bpf_shared.specs.Sound.{IsSoundStore}
 
--- what a `PlainStore` is to its callers
 pub record Contents : Type 0 where
   -- by CPU
   pub runs : List Runs
@@ -21,13 +23,14 @@ pub record Contents : Type 0 where
   pub tables : List Rows
 
 abbrev pub runs_of : Contents → ℕ → Runs
-runs_of p c = slice_index_or p.runs c no_runs
+runs_of p c = run_of p.runs c
 
 abbrev pub rows : Contents → ℕ → Rows
 rows p m = slice_index_or p.tables m no_rows
 
-abbrev pub cell_of : Contents → ℕ → ℕ → Cell
-cell_of p m i = cell (rows p m) i
+-- how many elements the map has
+abbrev pub size_of : Contents → ℕ → ℕ
+size_of p m = elements (rows p m).shape
 
 abbrev pub span_at : Contents → ℕ → ℕ → Span
 span_at p m i = element_span m (rows p m).shape i
@@ -41,17 +44,13 @@ has_cpu p c = nat_lt c (length p.runs)
 abbrev pub is_running : Contents → ℕ → Bool
 is_running p c = (runs_of p c).running
 
--- the CPU is in the run of this number
-abbrev pub is_run : Contents → ℕ → ℕ → Bool
-is_run p c run = is_running p c && (run == (runs_of p c).count)
-
 -- the CPU's run looked the element up
 abbrev pub holds : Contents → ℕ → ℕ → ℕ → Bool
-holds p c m i = is_run p c (slice_index (cell_of p m i).looked_up c)
+holds p c m i = is_run (runs_of p c) (run_looked_up (rows p m) i c)
 
 -- the CPU is still in the run that it was in when the element left its map
 abbrev pub keeps : Contents → ℕ → ℕ → ℕ → Bool
-keeps p c m i = is_run p c (slice_index (cell_of p m i).left c)
+keeps p c m i = is_run (runs_of p c) (run_left (rows p m) i c)
 
 -- the test is true of some number below n
 abbrev pub any_below : ℕ → (ℕ → Bool) → Bool
@@ -60,7 +59,7 @@ any_below (suc n) f = f n || any_below n f
 
 -- the span is that of an element that the CPU's run looked up
 abbrev pub held_spans : Contents → ℕ → Span → Bool
-held_spans p c q = any_below (length p.tables) (λ m. any_below (length (rows p m).cells) (λ i. holds p c m i && same_span q (span_at p m i)))
+held_spans p c q = any_below (length p.tables) (λ m. any_below (size_of p m) (λ i. holds p c m i && same_span q (span_at p m i)))
 
 -- the element is in the map, or some CPU keeps or holds it
 abbrev pub IsUsed : Contents → ℕ → ℕ → Type 0
@@ -74,14 +73,14 @@ pub record StandsFor (p : Contents) (s : Plain) : Type 0 where
   pub running : (c : ℕ) → s.running c ≡ is_running p c
   -- the value number in each element of each map
   pub number : ℕ → ℕ → ℕ
-  pub leads : (m i : ℕ) → IsLinked (rows p m) i → Finds s m (cell_of p m i).key (number m i)
-  pub found : (m : ℕ) (key : List ℕ) (v : ℕ) → Finds s m key v → (i : ℕ) × IsLinked (rows p m) i × ((cell_of p m i).key ≡ key) × (v ≡ number m i)
+  pub leads : (m i : ℕ) → IsLinked (rows p m) i → Finds s m (key_of (rows p m) i) (number m i)
+  pub found : (m : ℕ) (key : List ℕ) (v : ℕ) → Finds s m key v → (i : ℕ) × IsLinked (rows p m) i × (key_of (rows p m) i ≡ key) × (v ≡ number m i)
   pub counts : (m : ℕ) → len (s.maps m) ≡ length (rows p m).order
-  pub values : (m i : ℕ) → IsUsed p m i → s.value (number m i) ≡ record { bytes = (cell_of p m i).bytes; span = span_at p m i }
-  pub held : (c v : ℕ) → s.held c v ≡ true → (m : ℕ) × (i : ℕ) × (i < length (rows p m).cells) × (holds p c m i ≡ true) × (v ≡ number m i)
-  pub held_back : (c m i : ℕ) → i < length (rows p m).cells → holds p c m i ≡ true → s.held c (number m i) ≡ true
-  pub kept : (c v : ℕ) → s.kept c v ≡ true → (m : ℕ) × (i : ℕ) × (i < length (rows p m).cells) × (keeps p c m i ≡ true) × (v ≡ number m i)
-  pub kept_back : (c m i : ℕ) → i < length (rows p m).cells → keeps p c m i ≡ true → s.kept c (number m i) ≡ true
+  pub values : (m i : ℕ) → i < size_of p m → IsUsed p m i → s.value (number m i) ≡ record { bytes = bytes_of (rows p m) i; span = span_at p m i }
+  pub held : (c v : ℕ) → s.held c v ≡ true → (m : ℕ) × (i : ℕ) × (i < size_of p m) × (holds p c m i ≡ true) × (v ≡ number m i)
+  pub held_back : (c m i : ℕ) → i < size_of p m → holds p c m i ≡ true → s.held c (number m i) ≡ true
+  pub kept : (c v : ℕ) → s.kept c v ≡ true → (m : ℕ) × (i : ℕ) × (i < size_of p m) × (keeps p c m i ≡ true) × (v ≡ number m i)
+  pub kept_back : (c m i : ℕ) → i < size_of p m → keeps p c m i ≡ true → s.kept c (number m i) ≡ true
 
 -- from each plain store that the old value shows, as some legal history may have left it, the events
 -- are allowed, with the choices of a `PlainStore`, and lead to one that the new value shows
@@ -89,12 +88,20 @@ abbrev pub Passes : Contents → Contents → List Entry → Type 0
 Passes old new log =
     (s : Plain) → IsSoundStore s → StandsFor old s → (t : Plain) × PlainlyLegal s log t × IsSoundStore t × StandsFor new t
 
+-- no update or deletion is answered Busy, and NoMemory only where the map is short
+abbrev pub MayLack : Contents → Contents → ℕ → List ℕ → MapAnswer → Type 0
+MayLack old new m key Busy = ⊥
+MayLack old new m key NoMemory =
+    (s : Plain) → IsSoundStore s → StandsFor old s → (h : MapShape) × IsMap s.shape.maps m h × IsShort s m h
+MayLack old new m key answer = Unit {0}
+
 -- what each `PlainStore` keeps true: no run is noted that didn't begin yet
 pub record IsStore (p : Contents) : Type 0 where
   pub cpus : length p.runs ≤ 16
   pub maps : length p.tables ≤ 16
-  pub looked_up : (m i c : ℕ) → slice_index (cell_of p m i).looked_up c ≤ (runs_of p c).count
-  pub left : (m i c : ℕ) → slice_index (cell_of p m i).left c ≤ (runs_of p c).count
+  pub tables : (m : ℕ) → m < length p.tables → IsTable (rows p m) × ((rows p m).cpus ≡ length p.runs)
+  pub looked_up : (m i c : ℕ) → c < length p.runs → run_looked_up (rows p m) i c ≤ (runs_of p c).count
+  pub left : (m i c : ℕ) → c < length p.runs → run_left (rows p m) i c ≤ (runs_of p c).count
 
 -- a store that was made with this shape
 pub record IsMade (h : Shape) (p : Contents) : Type 0 where
@@ -114,10 +121,10 @@ started p c = record p { runs = slice_set p.runs c (record { count = (runs_of p 
 abbrev pub stopped : Contents → ℕ → Contents
 stopped p c = record p { runs = slice_set p.runs c (record (runs_of p c) { running = false }) }
 
--- the CPU is in no run, and its runs are counted anew
-abbrev pub recounted : Contents → ℕ → Contents
-recounted p c = record { runs = slice_set p.runs c (record (runs_of p c) { count = 0 }); tables = map (forgotten_rows c) p.tables }
+-- a map's elements are changed
+abbrev pub with_table : Contents → ℕ → Rows → Contents
+with_table p m n = record p { tables = slice_set p.tables m n }
 
 -- the CPU's run looked up the i-th element of the m-th map
 abbrev pub looked : Contents → ℕ → ℕ → ℕ → Contents
-looked p c m i = record p { tables = slice_set p.tables m (noted_row i c (runs_of p c).count (rows p m)) }
+looked p c m i = with_table p m (noted_row i c (runs_of p c).count (rows p m))

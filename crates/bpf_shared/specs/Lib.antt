@@ -12,5 +12,6 @@ pub mod Sound
 pub mod Runs
 pub mod Rows
 pub mod Contents
+pub mod Changes
 pub mod Laws
 pub mod Lemmas

@@ -1,57 +1,63 @@
--- What the elements of a `PlainStore` tell.
-use Rattle.std.specs.Prelude.{◌≡◌, ℕ, ◌<◌, ◌≤◌, List, [], length, slice_index, slice_index_or, slice_set, map}
+-- What the elements of a map of a `PlainStore` tell.
+use Rattle.std.specs.Prelude.{◌≡◌, ◌≢◌, ℕ, ◌+◌, ◌*◌, ◌<◌, ◌≤◌, ◌⊎◌, Bool, true, false, List, [], length, slice_index, slice_index_or, slice_set, map}
+use Rattle.std.specs.List.{insert, remove}
 use Rattle.std.specs.Ordering.{nat_cmp}
 use Rattle.std.specs.declared.cmp.Ordering.TheVariants.{Less}
 use Rattle.std.specs.Cmp.Lexicographic.{slice_cmp}
+use Rattle.bpf_base.specs.Bytes.{part, with_part}
+use Rattle.bpf_shared.specs.declared.events.MapAnswer.{MapAnswer}
+use Rattle.bpf_shared.specs.declared.events.MapAnswer.TheVariants.{Done, Invalid, Busy, Exists, Absent, Full, NoMemory}
+use Rattle.bpf_shared.specs.declared.runs.Runs.{Runs}
 use Rattle.bpf_shared.specs.declared.shapes.MapShape.{MapShape}
+use Rattle.bpf_shared.specs.Runs.{run_of, count_of, is_run}
 use Rattle.bpf_shared.specs.Shape.{IsMapShape, elements}
 
--- ---- an element
-pub record Cell : Type 0 where
-  pub key : List ℕ
-  pub bytes : List ℕ
-  -- by CPU, the run that looked the value up
-  pub looked_up : List ℕ
-  -- by CPU, the run that it was in when the value left the map
-  pub left : List ℕ
-
-abbrev pub no_cell : Cell
-no_cell = record { key = []; bytes = []; looked_up = []; left = [] }
-
--- room for a key and a value, with no run noted
-pub record IsUnused (h : MapShape) (x : Cell) : Type 0 where
-  pub key : length x.key ≡ h.key
-  pub value : length x.bytes ≡ h.value
-  pub looked_up : (c : ℕ) → slice_index x.looked_up c ≡ 0
-  pub left : (c : ℕ) → slice_index x.left c ≡ 0
-
--- a run of the CPU looked it up
-abbrev pub noted : ℕ → ℕ → Cell → Cell
-noted c run x = record x { looked_up = slice_set x.looked_up c run }
-
--- no run of the CPU is noted
-abbrev pub forgotten : ℕ → Cell → Cell
-forgotten c x = record x { looked_up = slice_set x.looked_up c 0; left = slice_set x.left c 0 }
-
--- ---- the elements of a map
+-- the elements of a map, one behind the other
 pub record Rows : Type 0 where
   pub shape : MapShape
+  -- how many CPUs note their runs
+  pub cpus : ℕ
   -- the elements that are in the map, by their numbers, in the order of their keys
   pub order : List ℕ
-  pub cells : List Cell
+  -- by element, whether it is in the map
+  pub linked : List Bool
+  pub keys : List ℕ
+  pub values : List ℕ
+  -- by element and CPU, the run that looked the value up
+  pub looked_up : List ℕ
+  -- by element and CPU, the last run that had begun when the value left the map
+  pub left : List ℕ
 
 abbrev pub no_rows : Rows
-no_rows = record { shape = record { key = 0; value = 0; max = 0; spare = 0; mask = 0 }; order = []; cells = [] }
+no_rows = record {
+  shape = record { key = 0; value = 0; max = 0; spare = 0; mask = 0 };
+  cpus = 0;
+  order = [];
+  linked = [];
+  keys = [];
+  values = [];
+  looked_up = [];
+  left = [];
+}
 
 abbrev pub shape_of : Rows → MapShape
 shape_of t = t.shape
 
-abbrev pub cell : Rows → ℕ → Cell
-cell t i = slice_index_or t.cells i no_cell
+abbrev pub key_of : Rows → ℕ → List ℕ
+key_of t i = part t.keys (i * t.shape.key) t.shape.key
+
+abbrev pub bytes_of : Rows → ℕ → List ℕ
+bytes_of t i = part t.values (i * t.shape.value) t.shape.value
+
+abbrev pub run_looked_up : Rows → ℕ → ℕ → ℕ
+run_looked_up t i c = slice_index t.looked_up (i * t.cpus + c)
+
+abbrev pub run_left : Rows → ℕ → ℕ → ℕ
+run_left t i c = slice_index t.left (i * t.cpus + c)
 
 -- the k-th key of the map
 abbrev pub key_at : Rows → ℕ → List ℕ
-key_at t k = (cell t (slice_index t.order k)).key
+key_at t k = key_of t (slice_index t.order k)
 
 -- the element is in the map
 abbrev pub IsLinked : Rows → ℕ → Type 0
@@ -59,23 +65,23 @@ IsLinked t i = (k : ℕ) × (k < length t.order) × (slice_index t.order k ≡ i
 
 pub record IsTable (t : Rows) : Type 0 where
   pub shape : IsMapShape t.shape
-  pub count : length t.cells ≡ elements t.shape
-  pub keys : (i : ℕ) → i < length t.cells → length (cell t i).key ≡ t.shape.key
-  pub values : (i : ℕ) → i < length t.cells → length (cell t i).bytes ≡ t.shape.value
-  pub inside : (k : ℕ) → k < length t.order → slice_index t.order k < length t.cells
+  pub cpus : t.cpus ≤ 16
+  pub linked : length t.linked ≡ elements t.shape
+  pub keys : length t.keys ≡ elements t.shape * t.shape.key
+  pub values : length t.values ≡ elements t.shape * t.shape.value
+  pub looked_up : length t.looked_up ≡ elements t.shape * t.cpus
+  pub left : length t.left ≡ elements t.shape * t.cpus
+  pub count : length t.order ≤ t.shape.max
+  pub inside : (k : ℕ) → k < length t.order → slice_index t.order k < elements t.shape
+  pub marked : (k : ℕ) → k < length t.order → slice_index_or t.linked (slice_index t.order k) false ≡ true
+  pub found : (i : ℕ) → slice_index_or t.linked i false ≡ true → IsLinked t i
   pub sorted : (j k : ℕ) → j < k → k < length t.order → slice_cmp nat_cmp (key_at t j) (key_at t k) ≡ Less
-
--- no element is in the map, or was ever used
-pub record IsEmpty (h : MapShape) (t : Rows) : Type 0 where
-  pub shape : t.shape ≡ h
-  pub order : t.order ≡ []
-  pub unused : (i : ℕ) → i < length t.cells → IsUnused h (cell t i)
 
 -- nothing is in the map, and no run is noted
 pub record IsBlank (t : Rows) : Type 0 where
   pub order : t.order ≡ []
-  pub looked_up : (i c : ℕ) → slice_index (cell t i).looked_up c ≡ 0
-  pub left : (i c : ℕ) → slice_index (cell t i).left c ≡ 0
+  pub looked_up : (k : ℕ) → slice_index t.looked_up k ≡ 0
+  pub left : (k : ℕ) → slice_index t.left k ≡ 0
 
 -- the keys below the k-th are below the key, the others above it
 pub record IsGap (t : Rows) (key : List ℕ) (k : ℕ) : Type 0 where
@@ -83,8 +89,98 @@ pub record IsGap (t : Rows) (key : List ℕ) (k : ℕ) : Type 0 where
   pub below : (j : ℕ) → j < k → slice_cmp nat_cmp (key_at t j) key ≡ Less
   pub above : (j : ℕ) → k ≤ j → j < length t.order → slice_cmp nat_cmp key (key_at t j) ≡ Less
 
-abbrev pub noted_row : ℕ → ℕ → ℕ → Rows → Rows
-noted_row i c run t = record t { cells = slice_set t.cells i (noted c run (cell t i)) }
+-- the k-th key of the map is the key
+pub record IsKeyAt (t : Rows) (key : List ℕ) (k : ℕ) : Type 0 where
+  pub inside : k < length t.order
+  pub is : key_at t k ≡ key
 
-abbrev pub forgotten_rows : ℕ → Rows → Rows
-forgotten_rows c t = record t { cells = map (forgotten c) t.cells }
+-- some CPU is still in the run that is noted for it
+abbrev pub HasCurrent : List ℕ → List Runs → Type 0
+HasCurrent notes runs = (c : ℕ) × (c < length runs) × (is_run (run_of runs c) (slice_index notes c) ≡ true)
+
+-- some CPU is still in the run that it was in when the element left the map
+abbrev pub IsKeptRow : List Runs → Rows → ℕ → Type 0
+IsKeptRow runs t i = (c : ℕ) × (c < length runs) × (is_run (run_of runs c) (run_left t i c) ≡ true)
+
+-- the element is in the map or kept
+abbrev pub IsTakenRow : List Runs → Rows → ℕ → Type 0
+IsTakenRow runs t i = IsLinked t i ⊎ IsKeptRow runs t i
+
+pub record IsLowestFreeRow (runs : List Runs) (t : Rows) (i : ℕ) : Type 0 where
+  pub inside : i < elements t.shape
+  pub free : IsTakenRow runs t i → ⊥
+  pub lowest : (j : ℕ) → j < i → IsTakenRow runs t j
+
+-- ---- what calls leave
+
+-- the CPU's run of this number looked the element up
+abbrev pub noted_row : ℕ → ℕ → ℕ → Rows → Rows
+noted_row i c run t = record t { looked_up = slice_set t.looked_up (i * t.cpus + c) run }
+
+-- the key and the value are in the element, which is the k-th in the order of keys
+abbrev pub linked_row : ℕ → ℕ → List ℕ → List ℕ → Rows → Rows
+linked_row k i key bytes t = record t {
+  order = insert t.order k i;
+  linked = slice_set t.linked i true;
+  keys = with_part t.keys (i * t.shape.key) key;
+  values = with_part t.values (i * t.shape.value) bytes;
+}
+
+-- these bytes of the element's value are new
+abbrev pub stored_row : ℕ → ℕ → List ℕ → Rows → Rows
+stored_row i offset bytes t = record t { values = with_part t.values (i * t.shape.value + offset) bytes }
+
+-- the k-th key has left the map: the CPUs' runs are noted in its element
+abbrev pub unlinked_row : List Runs → ℕ → Rows → Rows
+unlinked_row runs k t = record t {
+  order = remove t.order k;
+  linked = slice_set t.linked (slice_index t.order k) false;
+  left = with_part t.left (slice_index t.order k * t.cpus) (map count_of runs);
+}
+
+-- the notes of one of so many CPUs are taken out
+pub record Erases (cpus c : ℕ) (old new : List ℕ) : Type 0 where
+  pub count : length new ≡ length old
+  pub here : (i : ℕ) → slice_index new (i * cpus + c) ≡ 0
+  pub others : (i d : ℕ) → d < cpus → d ≢ c → slice_index new (i * cpus + d) ≡ slice_index old (i * cpus + d)
+
+-- no run of the CPU is noted
+pub record Forgets (c : ℕ) (t n : Rows) : Type 0 where
+  pub rest : n ≡ record t { looked_up = n.looked_up; left = n.left }
+  pub looked_up : Erases t.cpus c t.looked_up n.looked_up
+  pub left : Erases t.cpus c t.left n.left
+
+-- ---- what the answers to updates and deletions mean
+
+-- the key is there and may be replaced, or it isn't and there is room for one more
+abbrev pub HasRoomAt : Rows → List ℕ → ℕ → Type 0
+HasRoomAt t key flags =
+    ((flags ≤ 2) × (flags ≢ 1) × ((k : ℕ) × IsKeyAt t key k))
+    ⊎ ((flags < 2) × ((k : ℕ) × IsGap t key k) × (length t.order < t.shape.max))
+
+abbrev pub Replaces : List Runs → Rows → List ℕ → List ℕ → ℕ → ℕ → Rows → Type 0
+Replaces runs t key bytes flags i n =
+    (flags ≤ 2) × (flags ≢ 1)
+    × ((k : ℕ) × IsKeyAt t key k × (n ≡ linked_row k i key bytes (unlinked_row runs k t)))
+
+abbrev pub Adds : Rows → List ℕ → List ℕ → ℕ → ℕ → Rows → Type 0
+Adds t key bytes flags i n =
+    (flags < 2) × (length t.order < t.shape.max)
+    × ((k : ℕ) × IsGap t key k × (n ≡ linked_row k i key bytes t))
+
+-- the key is put into an element that was free, in place of its old one if it has one
+abbrev pub PutsRow : List Runs → Rows → List ℕ → List ℕ → ℕ → MapAnswer → Rows → Type 0
+PutsRow runs t key bytes flags Invalid n = (2 < flags) × (n ≡ t)
+PutsRow runs t key bytes flags Exists n = (flags ≡ 1) × ((k : ℕ) × IsKeyAt t key k) × (n ≡ t)
+PutsRow runs t key bytes flags Absent n = (flags ≡ 2) × ((k : ℕ) × IsGap t key k) × (n ≡ t)
+PutsRow runs t key bytes flags Full n =
+    (flags < 2) × ((k : ℕ) × IsGap t key k) × (length t.order ≡ t.shape.max) × (n ≡ t)
+PutsRow runs t key bytes flags NoMemory n =
+    (HasRoomAt t key flags) × ((i : ℕ) → i < elements t.shape → IsTakenRow runs t i) × (n ≡ t)
+PutsRow runs t key bytes flags Busy n = ⊥
+PutsRow runs t key bytes flags Done n = (i : ℕ) × IsLowestFreeRow runs t i × (Replaces runs t key bytes flags i n ⊎ Adds t key bytes flags i n)
+
+abbrev pub TakesRow : List Runs → Rows → List ℕ → MapAnswer → Rows → Type 0
+TakesRow runs t key Done n = (k : ℕ) × IsKeyAt t key k × (n ≡ unlinked_row runs k t)
+TakesRow runs t key Absent n = ((k : ℕ) × IsGap t key k) × (n ≡ t)
+TakesRow runs t key answer n = ⊥

@@ -1,10 +1,11 @@
 //! The plain store: the shared store of one thread.
-ghost use Rattle.std.specs.Prelude.{◌≡◌, ◌<◌, ◌⊎◌, ℕ, true, false, IfOk, IfErr, length, map, slice_index_or};
+ghost use Rattle.std.specs.Prelude.{◌≡◌, ◌+◌, ◌<◌, ◌≤◌, ◌⊎◌, ℕ, true, false, IfOk, IfErr, length, map, slice_index_or};
 ghost use Rattle.bpf_shared.specs.Shape.{IsMap, IsMapShape};
-ghost use Rattle.bpf_shared.specs.Rows.{no_rows, shape_of, IsBlank};
+ghost use Rattle.bpf_shared.specs.Rows.{no_rows, shape_of, IsBlank, IsTable};
 ghost use Rattle.bpf_shared.specs.Runs.{no_runs};
 
-use crate::events::Span;
+use crate::bytes::change;
+use crate::events::{AtomicOp, MapAnswer, Size, Span, ValuePlace};
 use crate::runs::Runs;
 use crate::shapes::{MapShape, ShapeError, StoreShape};
 use crate::sharing::{Shared, Worn};
@@ -48,20 +49,32 @@ fn new_runs(alloc: Global, cpus: u8) -> Result<Vec<Runs>, AllocError>
 }
 
 /// No map has a key.
-fn new_tables(alloc: Global, maps: &[MapShape]) -> Result<Vec<Table>, AllocError>
-    requires { (m : ℕ) (h : _) → IsMap maps.now m h → IsMapShape h }
+fn new_tables(alloc: Global, maps: &[MapShape], cpus: u8) -> Result<Vec<Table>, AllocError>
+    requires maps { (m : ℕ) (h : _) → IsMap maps.now m h → IsMapShape h }
+    requires cpus { cpus ≤ 16 }
     ensures shapes { IfOk result (λ v. map shape_of v.items ≡ maps.now) }
     ensures blank { IfOk result (λ v. (m : ℕ) → IsBlank (slice_index_or v.items m no_rows)) }
+    ensures tables { IfOk result (λ v. (m : ℕ) → m < length v.items
+        → IsTable (slice_index_or v.items m no_rows) × ((slice_index_or v.items m no_rows).cpus ≡ cpus)) }
 {
     let mut tables = Vec::with_capacity(alloc, maps.len())?;
     for map in maps {
-        tables.push(Table::new(alloc, *map)?)?;
+        tables.push(Table::new(alloc, *map, cpus)?)?;
     }
     Ok(tables)
 }
 
+/// Where in a store's tables a byte of a value is.
+#[derive(Clone, Copy)]
+struct Reach {
+    map: usize,
+    element: usize,
+    offset: usize,
+}
+
 impl PlainStore {
-    ghost use Rattle.bpf_shared.specs.Contents.{IsMade, has_cpu, is_running, runs_of, recounted};
+    ghost use Rattle.bpf_shared.specs.Contents.{IsMade, has_cpu, is_running, runs_of, size_of, span_at};
+    ghost use Rattle.bpf_shared.specs.Changes.{IsAtValue, IsAlike};
 
     /// A store with no keys, and no CPU in a run. Want of memory is its only refusal.
     pub fn new(alloc: Global, shape: StoreShape) -> Result<PlainStore, ShapeError>
@@ -76,7 +89,7 @@ impl PlainStore {
     {
         Ok(PlainStore {
             runs: new_runs(alloc, shape.cpus())?,
-            tables: new_tables(alloc, shape.maps())?,
+            tables: new_tables(alloc, shape.maps(), shape.cpus())?,
         })
     }
 
@@ -86,7 +99,7 @@ impl PlainStore {
         requires serves { has_cpu self.old cpu ≡ true }
         requires idle { is_running self.old cpu ≡ false }
         ensures countable { (runs_of self.new cpu).count < u64.MAX }
-        ensures kept { (self.new ≡ self.old) ⊎ (self.new ≡ recounted self.old cpu) }
+        ensures alike { IsAlike self.old self.new }
     {
         if self.runs[cpu as usize].count < u64::MAX {
             return;
@@ -96,10 +109,29 @@ impl PlainStore {
             table.forget(cpu);
         }
     }
+
+    /// Where the byte at an address in a value is.
+    fn reach(&self, at: u64) -> Reach
+        requires { IsAtValue self.now at }
+        ensures map { result.map < length self.now.tables }
+        ensures element { result.element < size_of self.now result.map }
+        ensures at { at ≡ (span_at self.now result.map result.element).at + result.offset }
+        ensures inside { result.offset < (span_at self.now result.map result.element).size }
+    {
+        let above = at - 0x10_0000_0000;
+        let map = (above / 0x1000_0000) as usize;
+        let within = above % 0x1000_0000;
+        let stride = self.tables[map].stride();
+        Reach {
+            map,
+            element: (within / stride) as usize,
+            offset: (within % stride) as usize,
+        }
+    }
 }
 
 impl Shared for PlainStore {
-    ghost use Rattle.bpf_shared.specs.Contents.{shapes_of, has_cpu, is_running, held_spans, Passes};
+    ghost use Rattle.bpf_shared.specs.Contents.{shapes_of, has_cpu, is_running, held_spans, Passes, MayLack};
     ghost use Rattle.bpf_shared.specs.Lemmas.Passages.{passes_nothing, passes_follow};
 
     ghost shapes = { shapes_of };
@@ -113,6 +145,8 @@ impl Shared for PlainStore {
     ghost passes = { Passes };
 
     ghost may_wear = { λ _ _. ⊥ };
+
+    ghost may_lack = { MayLack };
 
     fn shape(&self, map: u64) -> Option<MapShape> {
         Some(self.tables.get(map as usize)?.shape())
@@ -133,6 +167,41 @@ impl Shared for PlainStore {
         let span = table.span(map, element);
         self.tables[map as usize].look_up(element, cpu, run);
         Some(span)
+    }
+
+    fn update(&mut self, _cpu: u8, map: u8, key: &[u8], value: &[u8], flags: u64) -> MapAnswer {
+        self.tables[map as usize].put(key, value, flags, &self.runs)
+    }
+
+    fn delete(&mut self, _cpu: u8, map: u8, key: &[u8]) -> MapAnswer {
+        self.tables[map as usize].take(key, &self.runs)
+    }
+
+    fn value_load(&mut self, _cpu: u8, at: ValuePlace, size: Size) -> u64 {
+        let reach = self.reach(at.at);
+        self.tables[reach.map].load(reach.element, reach.offset, size)
+    }
+
+    fn value_store(&mut self, _cpu: u8, at: ValuePlace, size: Size, word: u64) {
+        let reach = self.reach(at.at);
+        self.tables[reach.map].store(reach.element, reach.offset, size, word);
+    }
+
+    fn value_atomic(
+        &mut self,
+        _cpu: u8,
+        at: ValuePlace,
+        size: Size,
+        op: AtomicOp,
+        operand: u64,
+        expected: u64,
+    ) -> u64 {
+        let reach = self.reach(at.at);
+        let table = &mut self.tables[reach.map];
+        let found = table.load(reach.element, reach.offset, size);
+        let word = change(op, size, found, operand, expected);
+        table.store(reach.element, reach.offset, size, word);
+        found
     }
 
     fn end(&mut self, cpu: u8) {

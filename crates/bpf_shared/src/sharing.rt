@@ -1,13 +1,16 @@
 //! The one contract of a shared store.
-ghost use Rattle.std.specs.Prelude.{◌≡◌, ◌<◌, ℕ, Bool, true, false, List, [], ◌++◌, OnOk, OnErr, IfSome, slice_get};
+ghost use Rattle.std.specs.Prelude.{◌≡◌, ◌<◌, ◌≤◌, ℕ, Bool, true, false, List, [], ◌++◌, OnOk, OnErr, IfSome, slice_get};
+ghost use Rattle.bpf_base.specs.Bytes.{modulus};
 ghost use Rattle.bpf_shared.specs.declared.events.Entry.{Entry};
 ghost use Rattle.bpf_shared.specs.declared.events.Span.{Span};
+ghost use Rattle.bpf_shared.specs.declared.events.MapAnswer.{MapAnswer};
 ghost use Rattle.bpf_shared.specs.declared.shapes.MapShape.{MapShape};
-ghost use Rattle.bpf_shared.specs.Shape.{IsMapShape, IsKeyOf, IsElementSpan, IsValueSpan};
+ghost use Rattle.bpf_shared.specs.Shape.{IsMapShape, IsKeyOf, IsPairOf, IsElementSpan, IsValueSpan};
+ghost use Rattle.bpf_shared.specs.Access.{bytes_in};
 ghost use Rattle.bpf_shared.specs.Store.{put};
-ghost use Rattle.bpf_shared.specs.Passage.{Calls, held_with, held_without};
+ghost use Rattle.bpf_shared.specs.Passage.{Calls, held_with, held_without, IsHeldPlace};
 
-use crate::events::{Event, Span};
+use crate::events::{AtomicOp, Event, MapAnswer, Size, Span, ValuePlace};
 use crate::shapes::MapShape;
 use thiserror::Error;
 
@@ -41,6 +44,10 @@ pub trait Shared {
     /// The CPU's run counter may stand at its last value.
     ghost may_wear: { Self → ℕ → Type 0 };
 
+    /// An update or a deletion of the key, on the way from the first value to the second, may be
+    /// answered `NoMemory` or `Busy`. Of the other answers it says nothing.
+    ghost may_lack: { Self → Self → ℕ → List ℕ → MapAnswer → Type 0 };
+
     /// The shape of the map of this number; `None` for no map's number.
     fn shape(&self, map: u64) -> Option<MapShape>
         ensures shape { result ≡ slice_get (shapes self.now) map }
@@ -67,6 +74,76 @@ pub trait Shared {
         ensures element { IfSome result (IsElementSpan (shapes self.old) map) }
         ensures in_range { IfSome result IsValueSpan }
         ensures same { (shapes self.new ≡ shapes self.old) × (serves self.new ≡ serves self.old) × (running self.new ≡ running self.old) };
+
+    /// A value of these bytes is to stand under the key: always for the flags 0, where the key isn't
+    /// there yet for 1, where it is there for 2 (bpf-helpers(7)).
+    fn update(&mut self, cpu: u8, map: u8, key: &[u8], value: &[u8], flags: u64) -> MapAnswer
+        requires serves { serves self.old cpu ≡ true }
+        requires in_run { running self.old cpu ≡ true }
+        requires pair { IsPairOf (shapes self.old) map key.now value.now }
+        ensures answered { Calls (passes self.old self.new) (serves self.old) cpu
+            (Event.Update map key.now value.now flags result) }
+        ensures shortage { may_lack self.old self.new map key.now result }
+        ensures held { held self.new ≡ held self.old }
+        ensures same { (shapes self.new ≡ shapes self.old) × (serves self.new ≡ serves self.old)
+            × (running self.new ≡ running self.old) };
+
+    /// The key is to leave the map. Whoever holds its value keeps it until its run ends.
+    fn delete(&mut self, cpu: u8, map: u8, key: &[u8]) -> MapAnswer
+        requires serves { serves self.old cpu ≡ true }
+        requires in_run { running self.old cpu ≡ true }
+        requires key { IsKeyOf (shapes self.old) map key.now }
+        ensures answered { Calls (passes self.old self.new) (serves self.old) cpu
+            (Event.Delete map key.now result) }
+        ensures shortage { may_lack self.old self.new map key.now result }
+        ensures held { held self.new ≡ held self.old }
+        ensures same { (shapes self.new ≡ shapes self.old) × (serves self.new ≡ serves self.old)
+            × (running self.new ≡ running self.old) };
+
+    /// The number that the bytes at an aligned place in a held value read as.
+    fn value_load(&mut self, cpu: u8, at: ValuePlace, size: Size) -> u64
+        requires serves { serves self.old cpu ≡ true }
+        requires in_run { running self.old cpu ≡ true }
+        requires place { IsHeldPlace (held self.old cpu) at.at (bytes_in size) }
+        ensures loaded { Calls (passes self.old self.new) (serves self.old) cpu
+            (Event.Load at.at size result) }
+        ensures fits { result < modulus (bytes_in size) }
+        ensures held { held self.new ≡ held self.old }
+        ensures same { (shapes self.new ≡ shapes self.old) × (serves self.new ≡ serves self.old)
+            × (running self.new ≡ running self.old) };
+
+    /// The bytes at an aligned place in a held value become the low bytes of the word.
+    fn value_store(&mut self, cpu: u8, at: ValuePlace, size: Size, word: u64)
+        requires serves { serves self.old cpu ≡ true }
+        requires in_run { running self.old cpu ≡ true }
+        requires place { IsHeldPlace (held self.old cpu) at.at (bytes_in size) }
+        ensures stored { Calls (passes self.old self.new) (serves self.old) cpu
+            (Event.Store at.at size word) }
+        ensures held { held self.new ≡ held self.old }
+        ensures same { (shapes self.new ≡ shapes self.old) × (serves self.new ≡ serves self.old)
+            × (running self.new ≡ running self.old) };
+
+    /// An atomic operation on the four or eight bytes at an aligned place in a held value; the number
+    /// that stood there before. Only `CompareExchange` looks at the number that is expected.
+    fn value_atomic(
+        &mut self,
+        cpu: u8,
+        at: ValuePlace,
+        size: Size,
+        op: AtomicOp,
+        operand: u64,
+        expected: u64,
+    ) -> u64
+        requires serves { serves self.old cpu ≡ true }
+        requires in_run { running self.old cpu ≡ true }
+        requires place { IsHeldPlace (held self.old cpu) at.at (bytes_in size) }
+        requires wide { 4 ≤ bytes_in size }
+        ensures changed { Calls (passes self.old self.new) (serves self.old) cpu
+            (Event.Atomic at.at size op operand expected result) }
+        ensures fits { result < modulus (bytes_in size) }
+        ensures held { held self.new ≡ held self.old }
+        ensures same { (shapes self.new ≡ shapes self.old) × (serves self.new ≡ serves self.old)
+            × (running self.new ≡ running self.old) };
 
     /// The CPU leaves its run, and holds nothing any more.
     fn end(&mut self, cpu: u8)

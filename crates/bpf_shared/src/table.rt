@@ -1,22 +1,41 @@
 //! A map of a `PlainStore`: its elements, and its keys in order.
-ghost use Rattle.std.specs.Prelude.{◌≡◌, ◌<◌, ◌≤◌, ℕ, IfOk, IfErr, IfSome, IfNone, length};
-ghost use Rattle.bpf_shared.specs.Shape.{IsMapShape, IsValueSpan, elements, element_span};
-ghost use Rattle.bpf_shared.specs.Rows.{cell, key_at, IsLinked, IsEmpty, IsGap, noted_row, forgotten_rows};
+ghost use Rattle.std.specs.Prelude.{◌≡◌, ◌≢◌, ◌+◌, ◌*◌, ◌<◌, ◌≤◌, ◌↔◌, ℕ, IfOk, IfErr, IfSome, IfNone, IsTrue, length, map};
+ghost use Rattle.bpf_base.specs.Bytes.{little_endian, low_bytes, modulus, part, with_part};
+ghost use Rattle.bpf_shared.specs.Access.{bytes_in};
+ghost use Rattle.bpf_shared.specs.Runs.{run_of, count_of};
+ghost use Rattle.bpf_shared.specs.Shape.{IsMapShape, IsValueSpan, elements, element_span, element_stride};
+ghost use Rattle.bpf_shared.specs.Rows.{key_of, bytes_of, run_left, run_looked_up, IsLinked, IsTable, IsBlank, IsGap, IsKeyAt, IsKeptRow, IsTakenRow, IsLowestFreeRow, HasCurrent, Erases, noted_row, linked_row, unlinked_row, stored_row, Forgets, PutsRow, TakesRow};
 
-use crate::element::Element;
-use crate::events::Span;
+use crate::bytes::{load, store};
+use crate::events::{MapAnswer, Size, Span};
+use crate::runs::Runs;
 use crate::shapes::MapShape;
 use std::alloc::{AllocError, Global};
 use std::cmp::Ordering;
 use std::marker::Model;
 
-/// The elements of a map. Those that are in it are found by their keys, which are kept in order.
+/// The elements of a map, each for a key and a value, and what CPUs had to do with the value that
+/// is there. Those that are in the map are found by their keys, which are kept in order.
+///
+/// A CPU's runs are counted from 1. What a run noted here is void once the CPU is in another run,
+/// so that no element has to be looked at when a run begins or ends.
 #[derive(Drop)]
 pub struct Table {
     shape: MapShape,
+    /// How many CPUs note their runs.
+    cpus: u8,
     /// The numbers of the elements that are in the map, in the order of their keys.
     order: Vec<u32>,
-    elements: Vec<Element>,
+    /// By element, whether it is in the map.
+    linked: Vec<bool>,
+    /// The keys of the elements, one behind the other.
+    keys: Vec<u8>,
+    /// The values of the elements, one behind the other.
+    values: Vec<u8>,
+    /// By element and CPU, the run that looked the value up; 0 is no run.
+    looked_up: Vec<u64>,
+    /// By element and CPU, the last run that had begun when the value left the map; 0 is no run.
+    left: Vec<u64>,
 }
 
 impl Model for Table {
@@ -25,27 +44,83 @@ impl Model for Table {
 
     ghost Value = { Rows };
 
-    ghost view = { λ t. record { shape = t.shape; order = t.order.items; cells = t.elements.items } };
+    ghost view = { λ t. record { shape = t.shape; cpus = t.cpus; order = t.order.items; linked = t.linked.items; keys = t.keys.items; values = t.values.items; looked_up = t.looked_up.items; left = t.left.items } };
 
     // There is room for the order of as many keys as the map may have.
-    ghost invariant = { λ t. IsTable (record { shape = t.shape; order = t.order.items; cells = t.elements.items }) × (t.shape.max ≤ vec_capacity t.order) };
+    ghost invariant = { λ t. IsTable (record { shape = t.shape; cpus = t.cpus; order = t.order.items; linked = t.linked.items; keys = t.keys.items; values = t.values.items; looked_up = t.looked_up.items; left = t.left.items }) × (t.shape.max ≤ vec_capacity t.order) };
+}
+
+/// Some CPU is still in the run that is noted for it.
+fn has_current(notes: &[u64], runs: &[Runs]) -> bool
+    requires { length notes.now ≡ length runs.now }
+    ensures { IsTrue result ↔ HasCurrent notes.now runs.now }
+{
+    for (cpu, run) in runs.iter().enumerate() {
+        if run.running && notes[cpu] == run.count {
+            return true;
+        }
+    }
+    false
+}
+
+/// Notes for each CPU the run that it began last.
+fn note_runs(notes: &mut [u64], runs: &[Runs])
+    requires { length notes.old ≡ length runs.now }
+    ensures { notes.new ≡ map count_of runs.now }
+{
+    for (cpu, run) in runs.iter().enumerate() {
+        notes[cpu] = run.count;
+    }
+}
+
+/// The same from one of the notes on.
+fn note_runs_at(notes: &mut [u64], first: usize, runs: &[Runs])
+    requires { first + length runs.now ≤ length notes.old }
+    ensures { notes.new ≡ with_part notes.old first (map count_of runs.now) }
+{
+    note_runs(&mut notes[first..first + runs.len()], runs);
+}
+
+/// Puts others in place of as many bytes.
+fn put_part(bytes: &mut [u8], first: usize, others: &[u8])
+    requires { first + length others.now ≤ length bytes.old }
+    ensures { bytes.new ≡ with_part bytes.old first others.now }
+{
+    bytes[first..first + others.len()].copy_from_slice(others);
+}
+
+/// Takes out the notes of one CPU in so many elements.
+#[tactic(auto, using(crate::proofs::Blocks::in_block))]
+fn erase(notes: &mut [u64], elements: usize, cpus: usize, cpu: usize)
+    requires notes { length notes.old ≡ elements * cpus }
+    requires cpu { cpu < cpus }
+    ensures { Erases cpus cpu notes.old notes.new }
+{
+    for element in 0..elements {
+        notes[element * cpus + cpu] = 0;
+    }
 }
 
 impl Table {
     /// A table with no keys, and with all the room that it will ever need.
-    pub fn new(alloc: Global, shape: MapShape) -> Result<Table, AllocError>
-        requires { IsMapShape shape }
-        ensures { IfOk result (IsEmpty shape) }
+    pub fn new(alloc: Global, shape: MapShape, cpus: u8) -> Result<Table, AllocError>
+        requires shape { IsMapShape shape }
+        requires cpus { cpus ≤ 16 }
+        ensures shape { IfOk result (λ t. (t.shape ≡ shape) × (t.cpus ≡ cpus)) }
+        ensures blank { IfOk result IsBlank }
+        ensures table { IfOk result IsTable }
     {
         let count = (shape.max + shape.spare) as usize;
-        let mut elements = Vec::with_capacity(alloc, count)?;
-        for _ in 0..count {
-            elements.push(Element::new(alloc, &shape)?)?;
-        }
+        let notes = count * usize::from(cpus);
         Ok(Table {
             shape,
+            cpus,
             order: Vec::with_capacity(alloc, shape.max as usize)?,
-            elements,
+            linked: vec![in alloc; false; count]?,
+            keys: vec![in alloc; 0; count * shape.key as usize]?,
+            values: vec![in alloc; 0; count * shape.value as usize]?,
+            looked_up: vec![in alloc; 0; notes]?,
+            left: vec![in alloc; 0; notes]?,
         })
     }
 
@@ -56,17 +131,26 @@ impl Table {
         self.shape
     }
 
+    /// The key in an element.
+    #[tactic(auto, using(crate::proofs::Blocks::block_fits, crate::proofs::Blocks::in_block))]
+    fn key(&self, element: usize) -> &[u8]
+        requires { element < elements self.now.shape }
+        ensures { result.now ≡ key_of self.now element }
+    {
+        let size = self.shape.key as usize;
+        &self.keys[element * size..element * size + size]
+    }
+
     /// The place of the key in the order of keys, or where it would stand.
     fn position(&self, key: &[u8]) -> Result<usize, usize>
-        ensures found { IfOk result (λ k. (k < length self.now.order) × (key_at self.now k ≡ key.now)) }
+        ensures found { IfOk result (IsKeyAt self.now key.now) }
         ensures absent { IfErr result (IsGap self.now key.now) }
     {
         let mut low = 0;
         let mut high = self.order.len();
         while low < high {
             let middle = low + (high - low) / 2;
-            let element = self.order[middle] as usize;
-            match self.elements[element].compare_key(key) {
+            match self.key(self.order[middle] as usize).cmp(key) {
                 Ordering::Less => low = middle + 1,
                 Ordering::Equal => return Ok(middle),
                 Ordering::Greater => high = middle,
@@ -77,9 +161,9 @@ impl Table {
 
     /// The element with this key that is in the map.
     pub fn find(&self, key: &[u8]) -> Option<usize>
-        ensures inside { IfSome result (λ i. i < length self.now.cells) }
-        ensures found { IfSome result (λ i. IsLinked self.now i × ((cell self.now i).key ≡ key.now)) }
-        ensures absent { IfNone result ((i : ℕ) → IsLinked self.now i → (cell self.now i).key ≡ key.now → ⊥) }
+        ensures inside { IfSome result (λ i. i < elements self.now.shape) }
+        ensures found { IfSome result (λ i. IsLinked self.now i × (key_of self.now i ≡ key.now)) }
+        ensures absent { IfNone result ((i : ℕ) → IsLinked self.now i → key_of self.now i ≢ key.now) }
     {
         match self.position(key) {
             Ok(position) => Some(self.order[position] as usize),
@@ -88,36 +172,197 @@ impl Table {
     }
 
     /// The CPU's run of this number looked the element up.
+    #[tactic(auto, using(crate::proofs::Blocks::block_fits, crate::proofs::Blocks::in_block))]
     pub fn look_up(&mut self, element: usize, cpu: u8, run: u64)
-        requires element { element < length self.old.cells }
-        requires cpu { cpu < 16 }
+        requires element { element < elements self.old.shape }
+        requires cpu { cpu < self.old.cpus }
         ensures noted { self.new ≡ noted_row element cpu run self.old }
-        ensures wide { cpu < length (cell self.old element).looked_up }
+        ensures table { IsTable self.old × IsTable self.new }
     {
-        self.elements[element].look_up(cpu, run);
+        let note = element * usize::from(self.cpus) + usize::from(cpu);
+        self.looked_up[note] = run;
     }
 
     /// Nothing of the CPU's runs stays noted.
     pub fn forget(&mut self, cpu: u8)
-        requires { cpu < 16 }
-        ensures { self.new ≡ forgotten_rows cpu self.old }
+        requires { cpu < self.old.cpus }
+        ensures forgets { Forgets cpu self.old self.new }
+        ensures table { IsTable self.new }
     {
-        for element in self.elements.iter_mut() {
-            element.forget(cpu);
+        let elements = self.linked.len();
+        erase(
+            &mut self.looked_up,
+            elements,
+            usize::from(self.cpus),
+            usize::from(cpu),
+        );
+        erase(
+            &mut self.left,
+            elements,
+            usize::from(self.cpus),
+            usize::from(cpu),
+        );
+    }
+
+    /// Some CPU is still in the run that it was in when the element left the map.
+    #[tactic(auto, using(crate::proofs::Blocks::block_fits, crate::proofs::Blocks::in_block))]
+    fn is_kept(&self, element: usize, runs: &[Runs]) -> bool
+        requires element { element < elements self.now.shape }
+        requires runs { length runs.now ≡ self.now.cpus }
+        ensures { IsTrue result ↔ IsKeptRow runs.now self.now element }
+    {
+        let first = element * usize::from(self.cpus);
+        has_current(&self.left[first..first + usize::from(self.cpus)], runs)
+    }
+
+    /// The element is in the map or kept.
+    fn is_taken(&self, element: usize, runs: &[Runs]) -> bool
+        requires element { element < elements self.now.shape }
+        requires runs { length runs.now ≡ self.now.cpus }
+        ensures { IsTrue result ↔ IsTakenRow runs.now self.now element }
+    {
+        self.linked[element] || self.is_kept(element, runs)
+    }
+
+    /// The lowest element that is neither in the map nor kept.
+    fn lowest_free(&self, runs: &[Runs]) -> Option<usize>
+        requires { length runs.now ≡ self.now.cpus }
+        ensures found { IfSome result (IsLowestFreeRow runs.now self.now) }
+        ensures none { IfNone result ((i : ℕ) → i < elements self.now.shape → IsTakenRow runs.now self.now i) }
+    {
+        for element in 0..self.linked.len() {
+            if !self.is_taken(element, runs) {
+                return Some(element);
+            }
         }
+        None
+    }
+
+    /// The element at a position of the order leaves the map.
+    #[tactic(auto, using(crate::proofs::Blocks::block_fits, crate::proofs::Blocks::in_block))]
+    fn unlink(&mut self, position: usize, runs: &[Runs])
+        requires position { position < length self.old.order }
+        requires runs { length runs.now ≡ self.old.cpus }
+        ensures unlinked { self.new ≡ unlinked_row runs.now position self.old }
+        ensures table { IsTable self.old × IsTable self.new }
+    {
+        let element = self.order.remove(position) as usize;
+        self.linked[element] = false;
+        note_runs_at(&mut self.left, element * runs.len(), runs);
+    }
+
+    /// A key and its value are put into an element, which stands at this position of the order.
+    #[tactic(auto, using(crate::proofs::Blocks::block_fits, crate::proofs::Blocks::in_block))]
+    fn link(&mut self, position: usize, element: usize, key: &[u8], value: &[u8])
+        requires room { length self.old.order < self.old.shape.max }
+        requires gap { IsGap self.old key.now position }
+        requires element { element < elements self.old.shape }
+        requires free { IsLinked self.old element → ⊥ }
+        requires key { length key.now ≡ self.old.shape.key }
+        requires value { length value.now ≡ self.old.shape.value }
+        ensures linked { self.new ≡ linked_row position element key.now value.now self.old }
+        ensures table { IsTable self.old × IsTable self.new }
+    {
+        let _ = self.order.insert(position, element as u32);
+        self.linked[element] = true;
+        put_part(&mut self.keys, element * key.len(), key);
+        put_part(&mut self.values, element * value.len(), value);
+    }
+
+    /// A value is to stand under the key, as the flags say.
+    pub fn put(&mut self, key: &[u8], value: &[u8], flags: u64, runs: &[Runs]) -> MapAnswer
+        requires key { length key.now ≡ self.old.shape.key }
+        requires value { length value.now ≡ self.old.shape.value }
+        requires runs { length runs.now ≡ self.old.cpus }
+        ensures puts { PutsRow runs.now self.old key.now value.now flags result self.new }
+        ensures table { IsTable self.old → IsTable self.new }
+    {
+        if flags > 2 {
+            return MapAnswer::Invalid;
+        }
+        match self.position(key) {
+            Ok(_) if flags == 1 => MapAnswer::Exists,
+            Ok(position) => match self.lowest_free(runs) {
+                None => MapAnswer::NoMemory,
+                Some(element) => {
+                    self.unlink(position, runs);
+                    self.link(position, element, key, value);
+                    MapAnswer::Done
+                }
+            },
+            Err(_) if flags == 2 => MapAnswer::Absent,
+            Err(_) if self.order.len() as u64 == self.shape.max => MapAnswer::Full,
+            Err(position) => match self.lowest_free(runs) {
+                None => MapAnswer::NoMemory,
+                Some(element) => {
+                    self.link(position, element, key, value);
+                    MapAnswer::Done
+                }
+            },
+        }
+    }
+
+    /// The key is to leave the map.
+    pub fn take(&mut self, key: &[u8], runs: &[Runs]) -> MapAnswer
+        requires { length runs.now ≡ self.old.cpus }
+        ensures takes { TakesRow runs.now self.old key.now result self.new }
+        ensures table { IsTable self.old → IsTable self.new }
+    {
+        match self.position(key) {
+            Ok(position) => {
+                self.unlink(position, runs);
+                MapAnswer::Done
+            }
+            Err(_) => MapAnswer::Absent,
+        }
+    }
+
+    /// The number at an offset in a value.
+    #[tactic(auto, using(crate::proofs::Blocks::block_fits, crate::proofs::Blocks::in_block))]
+    pub fn load(&self, element: usize, offset: usize, size: Size) -> u64
+        requires element { element < elements self.now.shape }
+        requires inside { offset + bytes_in size ≤ self.now.shape.value }
+        ensures value { result ≡ little_endian (part (bytes_of self.now element) offset (bytes_in size)) }
+        ensures fits { result < modulus (bytes_in size) }
+    {
+        let from = element * self.shape.value as usize;
+        load(
+            &self.values[from..from + self.shape.value as usize],
+            offset,
+            size,
+        )
+    }
+
+    /// The bytes at an offset in a value become the low bytes of a word.
+    #[tactic(auto, using(crate::proofs::Blocks::block_fits, crate::proofs::Blocks::in_block))]
+    pub fn store(&mut self, element: usize, offset: usize, size: Size, word: u64)
+        requires element { element < elements self.old.shape }
+        requires inside { offset + bytes_in size ≤ self.old.shape.value }
+        ensures stored { self.new ≡ stored_row element offset (low_bytes (bytes_in size) word) self.old }
+        ensures table { IsTable self.old × IsTable self.new }
+    {
+        let from = element * self.shape.value as usize;
+        store(&mut self.values, from + offset, size, word);
+    }
+
+    /// From one value to the next.
+    pub fn stride(&self) -> u64
+        ensures stride { result ≡ element_stride self.now.shape }
+        ensures in_range { (1 ≤ result) × (result ≤ 256) }
+        ensures table { IsTable self.now }
+    {
+        self.shape.value.next_multiple_of(8)
     }
 
     /// Where the value in the element lies, if this is the map of this number.
     pub fn span(&self, map: u8, element: usize) -> Span
         requires map { map < 16 }
-        requires element { element < length self.now.cells }
+        requires element { element < elements self.now.shape }
         ensures span { result ≡ element_span map self.now.shape element }
         ensures in_range { IsValueSpan result }
-        ensures element { element < elements self.now.shape }
     {
-        let stride = self.shape.value.next_multiple_of(8);
         Span {
-            at: 0x10_0000_0000 + 0x1000_0000 * u64::from(map) + element as u64 * stride,
+            at: 0x10_0000_0000 + 0x1000_0000 * u64::from(map) + element as u64 * self.stride(),
             size: self.shape.value,
         }
     }

@@ -1,7 +1,10 @@
-use Rattle.std.proofs.Common.{◌≡◌}
-use Rattle.bpf_shared.specs.Rows.{forgotten_rows}
-use Rattle.bpf_base.proofs.Mapped.{first_mapped}
+use Rattle.std.proofs.Common.{◌≡◌, ℕ, ◌<◌, ◌≤◌, ◌⊎◌, length, slice_index_or}
+use Rattle.bpf_shared.specs.Rows.{no_rows, Forgets, IsTable}
 use Rattle.bpf_shared.proofs.plain.PlainStore.make_countable.Given as goal
 
 abbrev pub invariant-loop-table : goal.invariant-loop-table
-invariant-loop-table l = l.table-items ≡ first_mapped (forgotten_rows l.cpu) l.table-index l.initial.table-items
+invariant-loop-table l = record {
+  count : length l.table-items ≡ length l.initial.table-items;
+  done : (m : ℕ) → m < l.table-index → Forgets l.cpu (slice_index_or l.initial.table-items m no_rows) (slice_index_or l.table-items m no_rows) × IsTable (slice_index_or l.table-items m no_rows);
+  rest : (m : ℕ) → l.table-index ≤ m → slice_index_or l.table-items m no_rows ≡ slice_index_or l.initial.table-items m no_rows;
+}
