@@ -1,0 +1,2 @@
+-- What private functions' contracts speak of.
+pub mod Source

@@ -1,0 +1,102 @@
+//! The values that a CPU's run holds.
+
+ghost use Rattle.std.specs.Prelude.{◌≡◌, ◌<◌, ◌≤◌, [], ◌↔◌, All, length, IsTrue, true, false};
+ghost use Rattle.bpf_shared.specs.Shape.{IsValueSpan};
+ghost use Rattle.bpf_helpers.specs.Held.{AreReached, has_span, max_held, reaches, with_span};
+
+use arrayvec::ArrayVec;
+use bpf_shared::Span;
+use std::marker::Model;
+
+/// How many values a run holds at most (our own choice).
+pub const MAX_HELD: usize = 256;
+
+/// The spans of the values that lookups of this run answered, each once, in the order of their first lookup.
+#[derive(Drop)]
+pub struct HeldSpans {
+    spans: ArrayVec<Span, MAX_HELD>,
+}
+
+impl Model for HeldSpans {
+    ghost use Rattle.std.specs.Prelude.{List, ◌≤◌, length};
+    ghost use Rattle.bpf_shared.specs.declared.events.Span.{Span};
+
+    ghost Value = { List Span };
+
+    ghost view = { λ h. h.spans.items };
+}
+
+impl HeldSpans {
+    /// No spans.
+    pub fn new() -> HeldSpans
+        ensures { result ≡ [] }
+    {
+        HeldSpans {
+            spans: ArrayVec::new(),
+        }
+    }
+
+    /// The spans.
+    #[inline]
+    pub fn spans(&self) -> &[Span]
+        ensures { result.now ≡ self.now }
+    {
+        &self.spans
+    }
+
+    /// Whether this span is one of them.
+    #[inline]
+    pub fn has(&self, span: Span) -> bool
+        ensures { result ≡ has_span self.now span }
+    {
+        self.spans
+            .iter()
+            .any(|held| held.at == span.at && held.size == span.size)
+    }
+
+    /// Whether an address is in one of them.
+    #[inline]
+    #[tactic(auto, unfolding(crate::specs::Held::reaches))]
+    pub fn reaches(&self, address: u64) -> bool
+        ensures { result ≡ reaches self.now address }
+    {
+        self.spans
+            .iter()
+            .any(|held| held.at <= address && address - held.at < held.size)
+    }
+
+    /// Whether each of some bytes from an address on is in one of them.
+    pub fn reach_all(&self, at: u64, length: usize) -> bool
+        requires some { 1 ≤ length }
+        requires values { All IsValueSpan self.now }
+        ensures { IsTrue result ↔ AreReached self.now at length }
+    {
+        let Some(end) = at.checked_add(length as u64) else {
+            return false;
+        };
+        for address in at..end {
+            if !self.reaches(address) {
+                return false;
+            }
+        }
+        true
+    }
+
+    /// Whether one more span would be too many.
+    #[inline]
+    pub fn is_full(&self) -> bool
+        ensures { IsTrue result ↔ (max_held ≤ length self.now) }
+    {
+        self.spans.len() == MAX_HELD
+    }
+
+    /// Holds this span too.
+    pub fn hold(&mut self, span: Span)
+        requires room { has_span self.old span ≡ false → length self.old < max_held }
+        ensures { self.new ≡ with_span self.old span }
+    {
+        if !self.has(span) {
+            self.spans.push(span);
+        }
+    }
+}

@@ -1,0 +1,11 @@
+//! The helpers that a program calls (bpf-helpers(7)), over any shared store. No call takes memory.
+#![tactic(auto)]
+
+pub mod calls;
+pub mod fault;
+pub mod held;
+mod reading;
+
+pub use calls::call;
+pub use fault::HelperFault;
+pub use held::HeldSpans;
