@@ -1,5 +1,5 @@
 -- What the lock tells is what the code of a segment needs.
-use Rattle.std.proofs.Common.{◌≡◌, ℕ, ◌<◌, Bool, true, false, ◌||◌, ◌==◌, List, [], refl, ap, sym, subst, ◌∙◌, inl, inr}
+use Rattle.std.proofs.Common.{true≢false, ◌≡◌, ℕ, ◌<◌, Bool, true, false, ◌||◌, ◌==◌, List, [], refl, ap, sym, subst, ◌∙◌, inl, inr}
 use Rattle.bpf_shared.specs.Shape.{elements}
 use Rattle.hop_words.specs.declared.known.About.{About}
 use Rattle.hop_words.specs.declared.known.Known.{Known}
@@ -7,29 +7,28 @@ use Rattle.hop_words.specs.declared.known.Fresh.{Fresh}
 use Rattle.hop_words.specs.Content.{Words, HasKey}
 use Rattle.hop_words.specs.Ghost.{shape_at, IsSegment, Each}
 use Rattle.hop_words.specs.Rule.{image, Begins}
-use Rattle.hop_words.specs.Kinds.{has, MayLink, Locked, locking, Saw, unlocking}
+use Rattle.hop_words.specs.Kinds.{has, MayLink, Locked, locking, Saw, unlocking, with_gone}
 use Rattle.hop_words.proofs.Layouts.{one, both}
 use Rattle.hop_words.specs.Locking.{lock_of, hand}
 use Rattle.hop_map.specs.Views.{Ready, knows, in_hand}
 use Rattle.hop_map.specs.Calls.{Contents, Brings, PutEnds}
-use Rattle.bpf_shared.specs.declared.events.Event.TheVariants.{Update}
-use Rattle.bpf_shared.specs.declared.events.MapAnswer.TheVariants.{Done}
+use Rattle.bpf_shared.specs.declared.events.Event.TheVariants.{Update, Delete}
+use Rattle.bpf_shared.specs.declared.events.MapAnswer.TheVariants.{Done, Absent}
 use Rattle.hop_map.specs.declared.put.Put.{Put}
 use Rattle.hop_map.specs.declared.put.Put.TheVariants.{Taken, There, Missed, Held}
 use Rattle.hop_map.specs.Locks.{Carries, Readies, PutTells, counted_lock}
 use Rattle.hop_map.proofs.Keys.{spells}
+use Rattle.hop_map.specs.declared.dropping.Deletion.{Deletion}
+use Rattle.hop_map.specs.declared.dropping.Deletion.TheVariants.{Gone, Missing, Kept}
+use Rattle.hop_map.specs.Removals.{Names, DeleteEnds}
+use Rattle.hop_map.specs.Locks.{DeleteTells}
 
-module _ (a : About) (l : Known) (m s n : ℕ) (at_s : IsSegment a m s) (key : List ℕ) (element : ℕ) (c : Carries a l m key element) (l2 : Known) (t : Locked a l m s n l2) where
+module _ (a : About) (l : Known) (m s n : ℕ) (at_s : IsSegment a m s) (l2 : Known) (t : Locked a l m s n l2) where
   abbrev x : Words
   x = image a t.words
 
-  abbrev locked : Known
+  abbrev pub locked : Known
   locked = locking l m s n t.words t.known
-
-  own_key : HasKey (shape_at a m) x m element key
-  own_key =
-      let f : Begins (hand l).key (x.key (hand l).map (hand l).element) = (subst (Each (λ (f : Fresh). Begins f.key (x.key f.map f.element))) c.in_hand t.filled).0 in
-      (c.size, c.are_bytes, λ j lt. (λ i. x.key (sym c.map i) (sym c.number i) j) ∙ (f j (subst (λ (i : ℕ). j < i) (sym c.filled) lt) ∙ c.spelled j lt))
 
   linked : (e : ℕ) → has e t.known ≡ true → MayLink a locked (lock_of locked) e × ((q : List ℕ) × HasKey (shape_at a m) x m e q)
   linked e k =
@@ -45,29 +44,49 @@ module _ (a : About) (l : Known) (m s n : ℕ) (at_s : IsSegment a m s) (key : L
         (q.1.0, here.1),
       )
 
-  mine : (e : ℕ) → in_hand l.fresh m e ≡ true → MayLink a locked (lock_of locked) e × ((q : List ℕ) × HasKey (shape_at a m) x m e q)
-  mine e k =
-      let both_are = both ((hand l).map == m) (e == (hand l).element) (subst (λ (fs : List Fresh). in_hand fs m e ≡ true) c.in_hand k) in
-      let same : element ≡ e = sym c.number ∙ sym (one e (hand l).element both_are.1) in (
-        (subst (λ (i : ℕ). i < elements (shape_at a m)) same c.inside, inl (hand l, [], c.in_hand, c.map, c.number ∙ same)),
-        (key, subst (λ (i : ℕ). HasKey (shape_at a m) x m i key) same own_key),
-      )
-
-  locked_known : (e : ℕ) → knows locked m e ≡ true → MayLink a locked (lock_of locked) e × ((q : List ℕ) × HasKey (shape_at a m) x m e q)
-  locked_known e k = go (has e t.known) refl
-    where
-      go : (b : Bool) → has e t.known ≡ b → MayLink a locked (lock_of locked) e × ((q : List ℕ) × HasKey (shape_at a m) x m e q)
-      go true h = linked e h
-      go false h = mine e (subst (λ (b : Bool). (b || (false || in_hand l.fresh m e)) ≡ true) h k)
-
-  pub locked_ready : Ready a l2 m s
-  locked_ready = subst (λ (l : Known). Ready a l m s) (sym t.after) (record { held = refl; map = refl; segment = refl; inside = at_s; sized = t.sized; known_is = locked_known })
-
   contents : Contents a locked m s
   contents = record { map = refl; segment = refl; content = t.content; share = t.share; all_known = t.is_known; copied = refl; nothing = refl; clean = refl; sized = t.sized }
 
   pub locked_contents : Contents a l2 m s
   locked_contents = subst (λ (l : Known). Contents a l m s) (sym t.after) contents
+
+  -- where the elements in hand may be read too
+  module _ (mine : (e : ℕ) → in_hand l.fresh m e ≡ true → MayLink a locked (lock_of locked) e × ((q : List ℕ) × HasKey (shape_at a m) x m e q)) where
+    locked_known : (e : ℕ) → knows locked m e ≡ true → MayLink a locked (lock_of locked) e × ((q : List ℕ) × HasKey (shape_at a m) x m e q)
+    locked_known e k = go (has e t.known) refl
+      where
+        go : (b : Bool) → has e t.known ≡ b → MayLink a locked (lock_of locked) e × ((q : List ℕ) × HasKey (shape_at a m) x m e q)
+        go true h = linked e h
+        go false h = mine e (subst (λ (b : Bool). (b || (false || in_hand l.fresh m e)) ≡ true) h k)
+
+    pub ready_with : Ready a l2 m s
+    ready_with = subst (λ (l : Known). Ready a l m s) (sym t.after) (record { held = refl; map = refl; segment = refl; inside = at_s; sized = t.sized; known_is = locked_known })
+
+-- no element is in hand
+pub empty_ready : (a : About) (l : Known) (m s n : ℕ) (at_s : IsSegment a m s) (l2 : Known) (t : Locked a l m s n l2) → l.fresh ≡ [] → Ready a l2 m s
+empty_ready a l m s n at_s l2 t none = ready_with a l m s n at_s l2 t (λ e k.
+    let z : false ≡ true = subst (λ (fs : List Fresh). in_hand fs m e ≡ true) none k in
+    absurd (true≢false (sym z)))
+
+module _ (a : About) (l : Known) (m s n : ℕ) (at_s : IsSegment a m s) (key : List ℕ) (element : ℕ) (c : Carries a l m key element) (l2 : Known) (t : Locked a l m s n l2) where
+  abbrev y : Words
+  y = image a t.words
+
+  own_key : HasKey (shape_at a m) y m element key
+  own_key =
+      let f : Begins (hand l).key (y.key (hand l).map (hand l).element) = (subst (Each (λ (f : Fresh). Begins f.key (y.key f.map f.element))) c.in_hand t.filled).0 in
+      (c.size, c.are_bytes, λ j lt. (λ i. y.key (sym c.map i) (sym c.number i) j) ∙ (f j (subst (λ (i : ℕ). j < i) (sym c.filled) lt) ∙ c.spelled j lt))
+
+  mine : (e : ℕ) → in_hand l.fresh m e ≡ true → MayLink a (locked a l m s n at_s l2 t) (lock_of (locked a l m s n at_s l2 t)) e × ((q : List ℕ) × HasKey (shape_at a m) y m e q)
+  mine e k =
+      let both_are = both ((hand l).map == m) (e == (hand l).element) (subst (λ (fs : List Fresh). in_hand fs m e ≡ true) c.in_hand k) in
+      let same : element ≡ e = sym c.number ∙ sym (one e (hand l).element both_are.1) in (
+        (subst (λ (i : ℕ). i < elements (shape_at a m)) same c.inside, inl (hand l, [], c.in_hand, c.map, c.number ∙ same)),
+        (key, subst (λ (i : ℕ). HasKey (shape_at a m) y m i key) same own_key),
+      )
+
+  pub locked_ready : Ready a l2 m s
+  locked_ready = ready_with a l m s n at_s l2 t mine
 
 module _ (a : About) (l : Known) (m s n : ℕ) (at_s : IsSegment a m s) (key bytes : List ℕ) (flags element : ℕ) (c : Readies a l m s key bytes flags element) (l2 : Known) (t : Locked a l m s n l2) where
   pub locked_brings : Brings a l2 m s key bytes flags element
@@ -100,3 +119,19 @@ module _ (a : About) (l : Known) (m s n : ℕ) (at_s : IsSegment a m s) (key byt
   ends (There e) l3 p = p.1 ∙ unlocked_is
   ends Missed l3 p = p ∙ unlocked_is
   ends Held l3 p = absurd p
+
+-- ---- a deletion
+module _ (a : About) (l : Known) (m s n : ℕ) (key : List ℕ) (l2 : Known) (t : Locked a l m s n l2) where
+  pub locked_names : Names a l m s key → Names a l2 m s key
+  locked_names b = subst (λ (q : Known). Names a q m s key) (sym t.after) (record { home = b.home; size = b.size; limbo = b.limbo; runs = b.runs })
+
+  pub delete_ends : l.locks ≡ [] → (d : Deletion) (l3 : Known) → DeleteEnds a l2 m key d l3 → DeleteTells a l m key d l3
+  delete_ends idle (Gone e) l3 p = record {
+    seen = (let w = subst (λ (q : Known). Saw a q (Delete m key Done) l3.seen) t.after p.seen in record { others = w.others; foreign = w.foreign; after = w.after; legal = w.legal });
+    after = p.after ∙ ap (λ (q : Known). record q { seen = l3.seen; limbo = with_gone q m e; locks = [] }) t.after;
+  }
+  delete_ends idle Missing l3 p = record {
+    seen = (let w = subst (λ (q : Known). Saw a q (Delete m key Absent) l3.seen) t.after p.seen in record { others = w.others; foreign = w.foreign; after = w.after; legal = w.legal });
+    after = p.after ∙ ap (λ (q : Known). record q { seen = l3.seen; locks = [] }) t.after;
+  }
+  delete_ends idle Kept l3 p = absurd p

@@ -20,7 +20,7 @@ use Rattle.hop_seg.specs.Segment.{Sound as SegSound}
 use Rattle.hop_seg.specs.Content.{IsAbsent as SegAbsent, Loses}
 use Rattle.hop_map.specs.Views.{Locked, Stays, Ready, in_hand, is_put, words}
 use Rattle.hop_map.specs.Calls.{Contents}
-use Rattle.hop_map.specs.Removals.{Names, Dropped, Missed}
+use Rattle.hop_map.specs.Removals.{Names, Dropped, NotThere}
 use Rattle.hop_map.proofs.Bridge.{removed}
 use Rattle.hop_map.proofs.Puts.{sound_with, absent_with, leads_with, known_by, here}
 
@@ -128,5 +128,5 @@ module _ (x : Locked) (key : List ℕ) (c : Contents x.about x.known x.map x.seg
           after = p.after ∙ (λ j. record (st.known j) { seen = l3.seen; limbo = with_gone (st.known j) (m j) old; locks = [] });
         }
 
-pub missed_by : (a : About) (l : Known) (m : ℕ) (key : List ℕ) (l2 : Known) → Answered a l (lock_of l) (Delete m key Absent) l2 → Missed a l m key l2
+pub missed_by : (a : About) (l : Known) (m : ℕ) (key : List ℕ) (l2 : Known) → Answered a l (lock_of l) (Delete m key Absent) l2 → NotThere a l m key l2
 missed_by a l m key l2 p = record { seen = p.seen; after = p.after }

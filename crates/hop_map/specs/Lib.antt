@@ -1,6 +1,6 @@
 pub mod Views
 pub mod Keeping
 pub mod Calls
+pub mod Removals
 pub mod Locks
 pub mod Overs
-pub mod Removals

@@ -12,6 +12,9 @@ use Rattle.hop_map.specs.declared.put.Put.{Put}
 use Rattle.hop_map.specs.declared.put.Put.TheVariants.{Taken, There, Missed, Held}
 use Rattle.hop_words.specs.Locking.{hand}
 use Rattle.hop_map.specs.Calls.{Took}
+use Rattle.hop_map.specs.declared.dropping.Deletion.{Deletion}
+use Rattle.hop_map.specs.declared.dropping.Deletion.TheVariants.{Gone, Missing, Kept}
+use Rattle.hop_map.specs.Removals.{Dropped, NotThere}
 
 -- the lane has one element in hand, filled with a key
 pub record Carries (a : About) (l : Known) (m : ℕ) (key : List ℕ) (element : ℕ) : Type 0 where
@@ -49,3 +52,9 @@ PutTells a l m key bytes flags Taken l2 = Took a (counted_lock l) m key bytes fl
 PutTells a l m key bytes flags (There e) l2 = l2 ≡ counted_lock l
 PutTells a l m key bytes flags Missed l2 = l2 ≡ counted_lock l
 PutTells a l m key bytes flags Held l2 = l2 ≡ l
+
+-- how a deletion ends, from before its lock to after its unlock
+abbrev pub DeleteTells : About → Known → ℕ → List ℕ → Deletion → Known → Type 0
+DeleteTells a l m key (Gone e) l2 = Dropped a (counted_lock l) m key e l2
+DeleteTells a l m key Missing l2 = NotThere a (counted_lock l) m key l2
+DeleteTells a l m key Kept l2 = l2 ≡ l

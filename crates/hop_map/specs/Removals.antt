@@ -5,6 +5,8 @@ use Rattle.bpf_shared.specs.declared.events.MapAnswer.TheVariants.{Done, Absent}
 use Rattle.bpf_shared.specs.History.{events_of}
 use Rattle.hop_words.specs.declared.known.About.{About}
 use Rattle.hop_words.specs.declared.known.Known.{Known}
+use Rattle.hop_map.specs.declared.dropping.Deletion.{Deletion}
+use Rattle.hop_map.specs.declared.dropping.Deletion.TheVariants.{Gone, Missing, Kept}
 use Rattle.hop_words.specs.Homes.{segment_of}
 use Rattle.hop_words.specs.Ghost.{shape_at}
 use Rattle.hop_words.specs.Kinds.{in_run, Saw, with_gone}
@@ -22,6 +24,12 @@ pub record Dropped (a : About) (l : Known) (m : ℕ) (key : List ℕ) (old : ℕ
   pub after : l2 ≡ record l { seen = l2.seen; limbo = with_gone l m old; locks = [] }
 
 -- the answer that the key isn't there; nothing else changed
-pub record Missed (a : About) (l : Known) (m : ℕ) (key : List ℕ) (l2 : Known) : Type 0 where
+pub record NotThere (a : About) (l : Known) (m : ℕ) (key : List ℕ) (l2 : Known) : Type 0 where
   pub seen : Saw a l (Delete m key Absent) l2.seen
   pub after : l2 ≡ record l { seen = l2.seen; locks = [] }
+
+-- how a deletion under the lock ends
+abbrev pub DeleteEnds : About → Known → ℕ → List ℕ → Deletion → Known → Type 0
+DeleteEnds a l m key (Gone e) l2 = Dropped a l m key e l2
+DeleteEnds a l m key Missing l2 = NotThere a l m key l2
+DeleteEnds a l m key Kept l2 = ⊥

@@ -18,7 +18,7 @@ new-words-requires c = record {
 pub put_new-requires-clause-contents : goal.put_new-requires-clause-contents
 put_new-requires-clause-contents c =
     let is : ◌≡◌ {A = Locked} c.new-words.result (record { table = c.new-words.result.table; about = c.args.table.now.about; known = c.lock.new.self.known; map = c.args.map; segment = c.args.segment }) = (λ j. record { table = c.new-words.result.table; about = c.new-words.ensures.about j; known = c.new-words.ensures.known j; map = c.new-words.ensures.map j; segment = c.new-words.ensures.segment j }) in
-    subst (λ (z : Locked). Contents z.about z.known z.map z.segment) (sym is) (locked_contents c.args.table.now.about c.args.lane.known c.args.map c.args.segment c.args.stamp c.requires.inside c.args.key.now c.args.element c.requires.readies.carries c.lock.new.self.known (c.lock.ensures.locked c.if-not-lock.false))
+    subst (λ (z : Locked). Contents z.about z.known z.map z.segment) (sym is) (locked_contents c.args.table.now.about c.args.lane.known c.args.map c.args.segment c.args.stamp c.requires.inside c.lock.new.self.known (c.lock.ensures.locked c.if-not-lock.false))
 
 pub put_new-requires-clause-brings : goal.put_new-requires-clause-brings
 put_new-requires-clause-brings c =
