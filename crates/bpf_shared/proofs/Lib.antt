@@ -6,6 +6,7 @@ pub mod Soundness
 pub mod Lawful
 pub mod Chains
 pub mod Passages
+pub mod Own
 pub mod Refusing
 pub mod AnyBelow
 pub mod Showing

@@ -10,6 +10,7 @@ use Rattle.bpf_shared.specs.History.{History, Legal, PlainlyLegal}
 use Rattle.bpf_shared.specs.Passage.{Calls}
 use Rattle.bpf_shared.specs.Sound.{IsSoundStore}
 use Rattle.bpf_shared.specs.Contents.{Contents, has_cpu, StandsFor, Passes, IsMade}
+use Rattle.bpf_shared.specs.Legality.{PassagesAreLegal}
 use Rattle.bpf_shared.proofs.Soundness.{as_made_sound, allowed_sound}
 
 pub history_cut : (step : Plain → ℕ → Event → Plain → Type 0) (s t : Plain) (xs ys : List Entry)
@@ -36,3 +37,6 @@ calls old new c e step = record {
 pub history : (h : Shape) (x y : Contents) (log : List Entry) → IsMade h x → Passes x y log
     → (t : Plain) × PlainlyLegal (as_made h) log t × IsSoundStore t × StandsFor y t
 history h x y log made p = p (as_made h) (as_made_sound h) made.shows
+
+pub passages_are_legal : PassagesAreLegal
+passages_are_legal h x y log made p = let r = history h x y log made p in (r.0, plainly_legal (as_made h) r.0 log r.1)

@@ -14,4 +14,6 @@ pub mod Rows
 pub mod Contents
 pub mod Changes
 pub mod Laws
+pub mod Own
+pub mod Legality
 pub mod Lemmas

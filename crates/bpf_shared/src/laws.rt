@@ -2,6 +2,8 @@
 //!
 //! These functions do nothing: their contracts are the laws, which a proof cites.
 ghost use Rattle.bpf_shared.specs.Laws.{LegalIsSound, ValuesStay, RefusalsChangeNothing, UpdatesMakeValues, OneValueIsReached, WritesTouchNamedBytes, CallsHaveOneReply};
+ghost use Rattle.bpf_shared.specs.Own.{OwnEventsTell};
+ghost use Rattle.bpf_shared.specs.Legality.{PassagesAreLegal};
 
 /// Each store that a legal history leads to is sound: a held value is in a map or kept for the CPU
 /// that holds it, no two live values overlap, no map has too many keys.
@@ -37,4 +39,15 @@ pub fn writes_touch_named_bytes()
 /// On one thread a call has one reply.
 pub fn calls_have_one_reply()
     ensures { CallsHaveOneReply }
+{}
+
+/// In every legal history a CPU's own events tell whether it is in a run, and each span that they
+/// hold is that of a value that it holds.
+pub fn own_events_tell()
+    ensures { OwnEventsTell }
+{}
+
+/// A passage from a store as made is a legal history.
+pub fn passages_are_legal()
+    ensures { PassagesAreLegal }
 {}

@@ -1,5 +1,5 @@
 //! The plain store: the shared store of one thread.
-ghost use Rattle.std.specs.Prelude.{◌≡◌, ◌+◌, ◌<◌, ◌≤◌, ◌⊎◌, ℕ, true, false, IfOk, IfErr, length, map, slice_index_or};
+ghost use Rattle.std.specs.Prelude.{◌≡◌, ◌+◌, ◌<◌, ◌≤◌, ◌⊎◌, ℕ, true, false, IfOk, IfErr, length, map, nat_lt, slice_index_or};
 ghost use Rattle.bpf_shared.specs.Shape.{IsMap, IsMapShape};
 ghost use Rattle.bpf_shared.specs.Rows.{no_rows, shape_of, IsBlank, IsTable};
 ghost use Rattle.bpf_shared.specs.Runs.{no_runs};
@@ -82,6 +82,13 @@ impl PlainStore {
         ensures refused { IfErr result (λ e. e ≡ ShapeError.OutOfMemory) }
     {
         Self::allocate(alloc, &shape).map_err(|_| ShapeError::OutOfMemory)
+    }
+
+    /// How many CPUs the store has: those of the numbers below it.
+    pub fn cpus(&self) -> u8
+        ensures { (c : ℕ) → has_cpu self.now c ≡ nat_lt c result }
+    {
+        self.runs.len() as u8
     }
 
     fn allocate(alloc: Global, shape: &StoreShape) -> Result<PlainStore, AllocError>
