@@ -33,7 +33,9 @@ use Rattle.bpf_cpu.specs.declared.outcome.Progress.TheVariants.{On}
 use Rattle.bpf_cpu.specs.State.{value, operand_value, effective_address, at_pc, caller_of, after_call, after_return, with_register}
 use Rattle.bpf_cpu.specs.Laws.{AsksAlike}
 use Rattle.bpf_cpu.proofs.Asking.{asks-nothing, asks-one}
-use Rattle.bpf_cpu.specs.Row.{Faults, Quiet, Jumps, JumpsIf, CallsLocal, Exits, Loads, Stores, Atomics, plain_size, extension_of, fetching, remembering, TakesAnswer, LooksUp, Helper, Lookup, Executes}
+use Rattle.bpf_cpu.specs.Row.{Faults, Quiet, Jumps, JumpsIf, CallsLocal, Exits, Loads, Stores, Atomics, plain_size, extension_of, fetching, remembering, TakesAnswer, LooksUp, Helper, Lookup}
+use Rattle.bpf_cpu.specs.Values.{asks_value, event_size_of, event_op_of, IsOdd, LoadsValue, StoresValue, ChangesValue, AsksValue}
+use Rattle.bpf_cpu.specs.Step.{Executes}
 
 -- the same end, with the memory of a CPU
 pub record Same (progress end : Progress) (new other : Cpu) : Type 0 where
@@ -234,14 +236,73 @@ module _ (law : WritesAreDetermined) (old new other : Cpu) (progress end : Progr
   helper_agrees shapes number events others (inr j) (inl k) = absurd (let a = j.0 in let b = k.0 in omega arith)
   helper_agrees shapes number events others (inr j) (inr k) = unasked events others j.1 k.1 (makes _ j.2 k.2 j.3 k.3 sound)
 
+  -- ---- accesses to held values
+
+  odd_agrees : (z : Size) (a : ℕ) (events others : List Event) → IsOdd z a old events progress new → IsOdd z a old others end other → Agrees events others progress end new other
+  odd_agrees z a events others f g = unasked events others f.1 g.1 (faults _ f.2 g.2)
+
+  value_loaded : (z : Size) (reading : ℕ → ℕ) (d : Reg) (a : ℕ) (events others : List Event) → LoadsValue z reading d a old events progress new → LoadsValue z reading d a old others end other → Agrees events others progress end new other
+  value_loaded z reading d a events others (inl f) (inl g) = odd_agrees z a events others f g
+  value_loaded z reading d a events others (inl f) (inr k) = absurd (f.0 k.0)
+  value_loaded z reading d a events others (inr j) (inl g) = absurd (g.0 j.0)
+  value_loaded z reading d a events others (inr j) (inr k) = record {
+    asks = asks-one events others (event.Load a (event_size_of z) j.1.0) (event.Load a (event_size_of z) k.1.0) j.1.1 k.1.1 refl;
+    replied = λ same.
+        let lists : event.Load a (event_size_of z) j.1.0 ∷ [] ≡ event.Load a (event_size_of z) k.1.0 ∷ [] = sym j.1.1 ∙ same ∙ k.1.1 in
+        let x : k.1.0 ≡ j.1.0 = cc in
+        makes (with_register old d (reading j.1.0) (old.pc + 1)) j.1.2 k.1.2 j.1.3 (k.1.3 ∙ ap (λ n. with_register old d (reading n) (old.pc + 1)) x) sound;
+  }
+
+  value_stored : (z : Size) (a x : ℕ) (events others : List Event) → StoresValue z a x old events progress new → StoresValue z a x old others end other → Agrees events others progress end new other
+  value_stored z a x events others (inl f) (inl g) = odd_agrees z a events others f g
+  value_stored z a x events others (inl f) (inr k) = absurd (f.0 k.0)
+  value_stored z a x events others (inr j) (inl g) = absurd (g.0 j.0)
+  value_stored z a x events others (inr j) (inr k) = record {
+    asks = asks-one events others (event.Store a (event_size_of z) x) (event.Store a (event_size_of z) x) j.1 k.1 refl;
+    replied = λ same. makes _ j.2 k.2 j.3 k.3 sound;
+  }
+
+  value_changed : (w : Width) (op : AtomicOp) (s : Reg) (a : ℕ) (events others : List Event) → ChangesValue w op s a old events progress new → ChangesValue w op s a old others end other → Agrees events others progress end new other
+  value_changed w op s a events others (inl f) (inl g) = odd_agrees (size_of w) a events others f g
+  value_changed w op s a events others (inl f) (inr k) = absurd (f.0 k.0)
+  value_changed w op s a events others (inr j) (inl g) = absurd (g.0 j.0)
+  value_changed w op s a events others (inr j) (inr k) =
+      let asked : ℕ → Event = λ n. event.Atomic a (event_size_of (size_of w)) (event_op_of op) (value old s) (slice_index old.registers 0) n in
+      let done : ℕ → Cpu = λ n. record old { registers = fetching (fetched_into op s) n old.registers; pc = old.pc + 1 } in
+      record {
+        asks = asks-one events others (asked j.1.0) (asked k.1.0) j.1.1 k.1.1 refl;
+        replied = λ same.
+            let lists : asked j.1.0 ∷ [] ≡ asked k.1.0 ∷ [] = sym j.1.1 ∙ same ∙ k.1.1 in
+            let x : k.1.0 ≡ j.1.0 = cc in
+            makes (done j.1.0) j.1.2 k.1.2 j.1.3 (k.1.3 ∙ ap done x) sound;
+      }
+
+  value_agrees : (i : Insn) (events others : List Event) → AsksValue i old events progress new → AsksValue i old others end other → Agrees events others progress end new other
+  value_agrees (insn.Load z d b o) events others j k = value_loaded z (λ x. x) d (effective_address old b o) events others j k
+  value_agrees (insn.LoadSigned z d b o) events others j k = value_loaded (plain_size z) (sign_extended (extension_of z)) d (effective_address old b o) events others j k
+  value_agrees (insn.StoreImmediate z b o n) events others j k = value_stored z (effective_address old b o) (cast_unsigned w64 n) events others j k
+  value_agrees (insn.Store z b o s) events others j k = value_stored z (effective_address old b o) (value old s) events others j k
+  value_agrees (insn.Atomic w op b o s) events others j k = value_changed w op s (effective_address old b o) events others j k
+  value_agrees _ events others j k = absurd j
+
+  -- ---- any row
+
   quiet_helper : (i : Insn) (number : ℕ) (end : Progress) (state : Cpu) → i ≡ insn.CallHelper number → Quiet i old end state → ⊥
   quiet_helper i number end state e row = let P : Insn → Type 0 = λ i. Quiet i old end state in subst P e row
 
+  helper_value : (i : Insn) (number : ℕ) → i ≡ insn.CallHelper number → asks_value i old ≡ true → ⊥
+  helper_value i number e asks = false≢true (subst (λ (j : Insn). asks_value j old ≡ true) e asks)
+
   pub row_agrees : (shapes : List MapShape) (i : Insn) (events others : List Event) → Executes shapes i old events progress new → Executes shapes i old others end other → Agrees events others progress end new other
-  row_agrees shapes i events others (inl j) (inl k) = unasked events others j.0 k.0 (quiet_same i j.1 k.1)
-  row_agrees shapes i events others (inl j) (inr k) = absurd (quiet_helper i k.0 progress new k.1 j.1)
-  row_agrees shapes i events others (inr j) (inl k) = absurd (quiet_helper i j.0 end other j.1 k.1)
-  row_agrees shapes i events others (inr j) (inr k) =
+  row_agrees shapes i events others (inl j) (inl k) = unasked events others j.1 k.1 (quiet_same i j.2 k.2)
+  row_agrees shapes i events others (inl j) (inr (inl k)) = absurd (quiet_helper i k.0 progress new k.1 j.2)
+  row_agrees shapes i events others (inl j) (inr (inr k)) = absurd (false≢true (sym j.0 ∙ k.0))
+  row_agrees shapes i events others (inr (inl j)) (inl k) = absurd (quiet_helper i j.0 end other j.1 k.2)
+  row_agrees shapes i events others (inr (inl j)) (inr (inl k)) =
       let number : k.0 ≡ j.0 = cc (j.1, k.1) in
       let P : ℕ → Type 0 = λ n. Helper shapes n old others end other in
       helper_agrees shapes j.0 events others j.2 (subst P number k.2)
+  row_agrees shapes i events others (inr (inl j)) (inr (inr k)) = absurd (helper_value i j.0 j.1 k.0)
+  row_agrees shapes i events others (inr (inr j)) (inl k) = absurd (false≢true (sym k.0 ∙ j.0))
+  row_agrees shapes i events others (inr (inr j)) (inr (inl k)) = absurd (helper_value i k.0 k.1 j.0)
+  row_agrees shapes i events others (inr (inr j)) (inr (inr k)) = value_agrees i events others j.1 k.1

@@ -3,7 +3,13 @@ use Rattle.std.proofs.Common.{◌≡◌, ℕ, zero, suc, ◌≤◌, List, [], �
 use Rattle.std.specs.Prelude.{map, None, Some}
 use Rattle.std.proofs.lemmas.List.Elements.{All-nil, All-push}
 use Rattle.std.proofs.lemmas.List.{map-append}
+use Rattle.std.specs.Prelude.{◌&&◌, not, Bool, true, false}
+use Rattle.std.proofs.lemmas.Bool.{false≢true}
+use Rattle.bpf_insn.specs.declared.operation.Size.{Size}
 use Rattle.bpf_insn.specs.declared.instruction.Insn.{Insn}
+use Rattle.bpf_insn.specs.declared.instruction.Insn.TheVariants as insn
+use Rattle.bpf_mem.specs.Bytes.{length_of, size_of}
+use Rattle.bpf_shared.specs.declared.events.Span.{Span}
 use Rattle.bpf_shared.specs.Laws.{CallsHaveOneReply}
 use Rattle.bpf_shared.specs.declared.events.Event.{Event}
 use Rattle.bpf_shared.specs.declared.events.Event.TheVariants.{Begin, End}
@@ -21,9 +27,11 @@ use Rattle.bpf_cpu.specs.declared.cpu.Cpu.{Cpu}
 use Rattle.bpf_cpu.specs.declared.outcome.Progress.{Progress}
 use Rattle.bpf_cpu.specs.declared.outcome.Progress.TheVariants.{On, Done}
 use Rattle.bpf_cpu.specs.declared.outcome.Outcome.{Outcome}
-use Rattle.bpf_cpu.specs.Row.{Helper, Executes}
-use Rattle.bpf_cpu.specs.Step.{Step, MakesSteps}
-use Rattle.bpf_cpu.specs.State.{start}
+use Rattle.bpf_cpu.specs.Row.{Helper, is_reached, plain_size}
+use Rattle.bpf_cpu.specs.Values.{is_covered, is_in_value, asks_value}
+use Rattle.bpf_cpu.specs.Step.{Executes, Step, MakesSteps}
+use Rattle.bpf_cpu.specs.State.{start, effective_address}
+use Rattle.bpf_cpu.proofs.HeldLaws.{held-quiet}
 use Rattle.bpf_cpu.specs.Laws.{AsksAlike, StepsAreDetermined, OutcomesAreDetermined, NoMapsNoEvents, PlainStepsAreDetermined}
 use Rattle.bpf_cpu.proofs.Asking.{asks-first, asks-behind, asks-end, asks-end', same_beginnings}
 use Rattle.bpf_cpu.proofs.DeterminedRows.{Agrees, row_agrees, same_last, whole_frame}
@@ -165,26 +173,46 @@ outcomes_are_determined law one shapes program budget number context events end 
 
 -- ---- no maps
 
-no_map_event : (number : ℕ) (old new : Cpu) (progress : Progress) (events : List Event) → Helper [] number old events progress new → events ≡ []
-no_map_event number old new progress events (inl (called, inl none)) = none.1
+-- a helper answers no map, and then the job goes on with what it held
+no_map_event : (number : ℕ) (old new : Cpu) (progress : Progress) (events : List Event) → Helper [] number old events progress new → (events ≡ []) × (new.held ≡ old.held)
+no_map_event number old new progress events (inl (called, inl none)) = (none.1, ap (λ (k : Cpu). k.held) none.2.1)
 no_map_event number old new progress events (inl (called, inr (m, h, at, rest))) = let none : None ≡ Some h = at.1 in absurd cc
-no_map_event number old new progress events (inr row) = row.1
+no_map_event number old new progress events (inr row) = (row.1, ap (λ (k : Cpu). k.held) row.3)
 
-no_row_event : (i : Insn) (old new : Cpu) (progress : Progress) (events : List Event) → Executes [] i old events progress new → events ≡ []
-no_row_event i old new progress events (inl row) = row.0
-no_row_event i old new progress events (inr row) = no_map_event row.0 old new progress events row.2
+and_false : (b : Bool) → b && false ≡ false
+and_false true = refl
+and_false false = refl
 
-no_step_events : (program : Loaded) (n : ℕ) (old new : Cpu) (events : List Event) (end : Outcome) → MakesSteps [] program n old events end new → events ≡ []
-no_step_events program zero old new events end a = a.0
-no_step_events program (suc n) old new events end (inl a) = no_row_event a.instruction old new (Done end) events a.row
-no_step_events program (suc n) old new events end (inr a) =
-    let first : a.0 ≡ [] = no_row_event a.4.instruction old a.2 On a.0 a.4.row in
-    let rest : a.1 ≡ [] = no_step_events program n a.2 new a.1 end a.5 in
-    a.3 ∙ ap (λ es. es ++ a.1) first ∙ rest
+-- where nothing is held no access is one to a held value
+none_covers : (cpu : Cpu) (a : ℕ) (z : Size) → cpu.held ≡ [] → is_in_value cpu a z ≡ false
+none_covers cpu a z e =
+    let missed = not (is_reached cpu a (length_of z)) in
+    ap (λ (spans : List Span). missed && is_covered spans a (length_of z)) e ∙ and_false missed
+
+none_asked : (i : Insn) (cpu : Cpu) → cpu.held ≡ [] → asks_value i cpu ≡ false
+none_asked (insn.Load z d b o) cpu e = none_covers cpu (effective_address cpu b o) z e
+none_asked (insn.LoadSigned z d b o) cpu e = none_covers cpu (effective_address cpu b o) (plain_size z) e
+none_asked (insn.StoreImmediate z b o n) cpu e = none_covers cpu (effective_address cpu b o) z e
+none_asked (insn.Store z b o s) cpu e = none_covers cpu (effective_address cpu b o) z e
+none_asked (insn.Atomic w op b o s) cpu e = none_covers cpu (effective_address cpu b o) (size_of w) e
+none_asked _ cpu e = refl
+
+no_row_event : (i : Insn) (old new : Cpu) (progress : Progress) (events : List Event) → old.held ≡ [] → Executes [] i old events progress new → (events ≡ []) × (new.held ≡ [])
+no_row_event i old new progress events none (inl row) = (row.1, held-quiet old new progress i row.2 ∙ none)
+no_row_event i old new progress events none (inr (inl row)) = let is = no_map_event row.0 old new progress events row.2 in (is.0, is.1 ∙ none)
+no_row_event i old new progress events none (inr (inr row)) = absurd (false≢true (sym (none_asked i old none) ∙ row.0))
+
+no_step_events : (program : Loaded) (n : ℕ) (old new : Cpu) (events : List Event) (end : Outcome) → old.held ≡ [] → MakesSteps [] program n old events end new → events ≡ []
+no_step_events program zero old new events end none a = a.0
+no_step_events program (suc n) old new events end none (inl a) = (no_row_event a.instruction old new (Done end) events none a.row).0
+no_step_events program (suc n) old new events end none (inr a) =
+    let first = no_row_event a.4.instruction old a.2 On a.0 none a.4.row in
+    let rest : a.1 ≡ [] = no_step_events program n a.2 new a.1 end first.1 a.5 in
+    a.3 ∙ ap (λ es. es ++ a.1) first.0 ∙ rest
 
 pub no_maps_no_events : NoMapsNoEvents
 no_maps_no_events program budget number context events end (inl a) =
-    a.2 ∙ ap (λ es. Begin ∷ (es ++ End ∷ [])) (no_step_events program budget (start number context) a.1 a.0 end a.3)
+    a.2 ∙ ap (λ es. Begin ∷ (es ++ End ∷ [])) (no_step_events program budget (start number context) a.1 a.0 end refl a.3)
 no_maps_no_events program budget number context events end (inr a) = absurd a.2
 
 pub plain_steps_are_determined : WritesAreDetermined → OneInstructionBegins → CallsHaveOneReply → PlainStepsAreDetermined

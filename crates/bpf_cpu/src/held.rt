@@ -2,6 +2,7 @@
 
 ghost use Rattle.std.specs.Prelude.{◌≡◌, ◌<◌, ◌≤◌, [], ◌↔◌, length, IsTrue, true, false};
 ghost use Rattle.bpf_cpu.specs.Held.{has_span, with_span, max_held};
+ghost use Rattle.bpf_cpu.specs.Values.{is_covered};
 
 use arrayvec::ArrayVec;
 use bpf_shared::Span;
@@ -51,6 +52,15 @@ impl HeldSpans {
         self.spans
             .iter()
             .any(|held| held.at == span.at && held.size == span.size)
+    }
+
+    /// Whether one of them has all bytes from an address on, this many.
+    pub fn covers(&self, address: u64, length: u64) -> bool
+        ensures { result ≡ is_covered self.now address length }
+    {
+        self.spans.iter().any(|span| {
+            span.at <= address && length <= span.size && address - span.at <= span.size - length
+        })
     }
 
     /// Whether one more span would be too many.

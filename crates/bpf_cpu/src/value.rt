@@ -1,0 +1,255 @@
+//! Loads, stores and atomic operations on held map values: each is a call of the store.
+
+ghost use Rattle.std.specs.Prelude.{◌≡◌, ◌≢◌, ◌<◌, ◌%◌, ◌+◌, true, false, List, IfOk, IfErr, ◌⊎◌};
+ghost use Rattle.bpf_shared.specs.declared.events.Event.{Event};
+ghost use Rattle.bpf_shared.specs.Chain.{Chain};
+ghost use Rattle.bpf_mem.specs.Bytes.{length_of, size_of};
+ghost use Rattle.bpf_cpu.specs.Held.{AreHeld};
+ghost use Rattle.bpf_cpu.specs.Row.{Quiet};
+ghost use Rattle.bpf_cpu.specs.Values.{is_covered, event_size_of, event_op_of, LoadsValue, StoresValue, ChangesValue};
+ghost use Rattle.bpf_cpu.specs.Step.{Executes, KeepsRun};
+ghost use Rattle.bpf_cpu.specs.State.{with_register};
+ghost use Rattle.bpf_cpu.specs.Private.Execute.{progress_of};
+ghost use Rattle.bpf_cpu.specs.Private.Tries.{Tries, reading_of};
+
+use crate::access::{extension_of, plain_size};
+use crate::cpu::{Cpu, widened};
+use crate::outcome::Next;
+use bpf_alu::sign_extend;
+use bpf_insn::{AtomicOp, Insn, Reg, SignExtension, Size, Width};
+use bpf_mem::{is_aligned, length, size_of_width};
+use bpf_shared::{Shared, ValuePlace};
+
+/// A size as the store's calls name it.
+fn event_size_of(size: Size) -> bpf_shared::Size
+    ensures { result ≡ event_size_of size }
+{
+    match size {
+        Size::Byte => bpf_shared::Size::Byte,
+        Size::Half => bpf_shared::Size::Half,
+        Size::Word => bpf_shared::Size::Word,
+        Size::Double => bpf_shared::Size::Double,
+    }
+}
+
+/// An operation as the store's calls name it, fetching or not.
+fn event_op_of(op: AtomicOp) -> bpf_shared::AtomicOp
+    ensures { result ≡ event_op_of op }
+{
+    match op {
+        AtomicOp::Add | AtomicOp::FetchAdd => bpf_shared::AtomicOp::Add,
+        AtomicOp::Or | AtomicOp::FetchOr => bpf_shared::AtomicOp::Or,
+        AtomicOp::And | AtomicOp::FetchAnd => bpf_shared::AtomicOp::And,
+        AtomicOp::Xor | AtomicOp::FetchXor => bpf_shared::AtomicOp::Xor,
+        AtomicOp::Exchange => bpf_shared::AtomicOp::Exchange,
+        AtomicOp::CompareExchange => bpf_shared::AtomicOp::CompareExchange,
+    }
+}
+
+/// What a load puts in its register.
+fn read_as(extension: Option<SignExtension>, number: u64) -> u64
+    ensures { result ≡ reading_of extension number }
+{
+    match extension {
+        None => number,
+        Some(extension) => sign_extend(extension, number),
+    }
+}
+
+impl Cpu {
+    /// Where an access to a held value lies, or why it is a fault.
+    fn value_place(&self, address: u64, size: Size) -> Result<ValuePlace, Next>
+        ensures place { IfOk result (λ p. p ≡ record { at = address }) }
+        ensures covered { IfOk result (λ p. is_covered self.now.held address (length_of size) ≡ true) }
+        ensures aligned { IfOk result (λ p. address % length_of size ≡ 0) }
+        ensures refused { IfErr result (λ next.
+            ((next ≡ Next.BadAddress) × (is_covered self.now.held address (length_of size) ≡ false))
+            ⊎ ((next ≡ Next.Misaligned) × (is_covered self.now.held address (length_of size) ≡ true)
+            × (address % length_of size ≢ 0))) }
+    {
+        if !self.held.covers(address, length(size) as u64) {
+            return Err(Next::BadAddress);
+        }
+        if !is_aligned(address, size) {
+            return Err(Next::Misaligned);
+        }
+        Ok(ValuePlace { at: address })
+    }
+
+    /// Writes a register, and goes on to the next word.
+    fn put_found(&mut self, dst: Reg, number: u64)
+        requires { self.old.pc < 65536 }
+        ensures { self.new ≡ with_register self.old dst number (self.old.pc + 1) }
+    {
+        self.registers[dst as usize] = number;
+        self.pc += 1;
+    }
+
+    /// LDX at an address that isn't private.
+    fn load_value<S: Shared>(
+        &mut self,
+        size: Size,
+        extension: Option<SignExtension>,
+        dst: Reg,
+        address: u64,
+        shared: &mut S,
+    ) -> Next
+        requires short { self.old.pc < 65536 }
+        requires serves { S.serves shared.old self.old.number ≡ true }
+        requires in_run { S.running shared.old self.old.number ≡ true }
+        requires held { AreHeld (S.held shared.old self.old.number) self.old.held }
+        ensures load { (events : List Event) ×
+            Chain S.passes S.serves self.old.number shared.old shared.new events ×
+            Tries (LoadsValue size (reading_of extension) dst address self.old) address size self.old events (progress_of result self.new) self.new }
+        ensures number { self.new.number ≡ self.old.number }
+        ensures held { AreHeld (S.held shared.new self.old.number) self.new.held }
+        ensures keeps { KeepsRun S.shapes S.running S.held self.old.number shared.old shared.new }
+    {
+        match self.value_place(address, size) {
+            Ok(place) => {
+                let found = shared.value_load(self.number, place, event_size_of(size));
+                self.put_found(dst, read_as(extension, found));
+                Next::On
+            }
+            Err(next) => next,
+        }
+    }
+
+    /// ST and STX at an address that isn't private.
+    fn store_value<S: Shared>(
+        &mut self,
+        size: Size,
+        address: u64,
+        number: u64,
+        shared: &mut S,
+    ) -> Next
+        requires short { self.old.pc < 65536 }
+        requires serves { S.serves shared.old self.old.number ≡ true }
+        requires in_run { S.running shared.old self.old.number ≡ true }
+        requires held { AreHeld (S.held shared.old self.old.number) self.old.held }
+        ensures store { (events : List Event) ×
+            Chain S.passes S.serves self.old.number shared.old shared.new events ×
+            Tries (StoresValue size address number self.old) address size self.old events (progress_of result self.new) self.new }
+        ensures number { self.new.number ≡ self.old.number }
+        ensures held { AreHeld (S.held shared.new self.old.number) self.new.held }
+        ensures keeps { KeepsRun S.shapes S.running S.held self.old.number shared.old shared.new }
+    {
+        match self.value_place(address, size) {
+            Ok(place) => {
+                shared.value_store(self.number, place, event_size_of(size), number);
+                self.pc += 1;
+                Next::On
+            }
+            Err(next) => next,
+        }
+    }
+
+    /// ATOMIC at an address that isn't private.
+    fn change_value<S: Shared>(
+        &mut self,
+        width: Width,
+        op: AtomicOp,
+        src: Reg,
+        address: u64,
+        shared: &mut S,
+    ) -> Next
+        requires short { self.old.pc < 65536 }
+        requires serves { S.serves shared.old self.old.number ≡ true }
+        requires in_run { S.running shared.old self.old.number ≡ true }
+        requires held { AreHeld (S.held shared.old self.old.number) self.old.held }
+        ensures change { (events : List Event) ×
+            Chain S.passes S.serves self.old.number shared.old shared.new events ×
+            Tries (ChangesValue width op src address self.old) address (size_of width) self.old events (progress_of result self.new) self.new }
+        ensures number { self.new.number ≡ self.old.number }
+        ensures held { AreHeld (S.held shared.new self.old.number) self.new.held }
+        ensures keeps { KeepsRun S.shapes S.running S.held self.old.number shared.old shared.new }
+    {
+        let size = size_of_width(width);
+        match self.value_place(address, size) {
+            Ok(place) => {
+                let operand = self.value(src);
+                let expected = self.registers[0];
+                let found = shared.value_atomic(
+                    self.number,
+                    place,
+                    event_size_of(size),
+                    event_op_of(op),
+                    operand,
+                    expected,
+                );
+                self.fetch(op, src, found);
+                self.pc += 1;
+                Next::On
+            }
+            Err(next) => next,
+        }
+    }
+
+    /// Executes an instruction that accesses memory which isn't private: where a held value has the
+    /// bytes, that is a call of the store, and else a fault.
+    #[cold]
+    #[inline(never)]
+    pub(crate) fn access_value<S: Shared>(&mut self, insn: &Insn, shared: &mut S) -> Next
+        requires missed { Quiet insn.now self.old (progress_of Next.BadAddress self.old) self.old }
+        requires short { self.old.pc < 65536 }
+        requires serves { S.serves shared.old self.old.number ≡ true }
+        requires in_run { S.running shared.old self.old.number ≡ true }
+        requires held { AreHeld (S.held shared.old self.old.number) self.old.held }
+        ensures access { (events : List Event) ×
+            Chain S.passes S.serves self.old.number shared.old shared.new events ×
+            Executes (S.shapes shared.old) insn.now self.old events (progress_of result self.new) self.new }
+        ensures number { self.new.number ≡ self.old.number }
+        ensures held { AreHeld (S.held shared.new self.old.number) self.new.held }
+        ensures keeps { KeepsRun S.shapes S.running S.held self.old.number shared.old shared.new }
+    {
+        match *insn {
+            Insn::Load {
+                size,
+                dst,
+                base,
+                offset,
+            } => self.load_value(size, None, dst, self.address(base, offset), shared),
+            Insn::LoadSigned {
+                size,
+                dst,
+                base,
+                offset,
+            } => {
+                let extension = Some(extension_of(size));
+                let size = plain_size(size);
+                self.load_value(size, extension, dst, self.address(base, offset), shared)
+            }
+            Insn::StoreImmediate {
+                size,
+                base,
+                offset,
+                value,
+            } => self.store_value(size, self.address(base, offset), widened(value), shared),
+            Insn::Store {
+                size,
+                base,
+                offset,
+                src,
+            } => self.store_value(size, self.address(base, offset), self.value(src), shared),
+            Insn::Atomic {
+                width,
+                op,
+                base,
+                offset,
+                src,
+            } => self.change_value(width, op, src, self.address(base, offset), shared),
+            Insn::Alu { .. }
+            | Insn::Negate { .. }
+            | Insn::SignExtend { .. }
+            | Insn::SwapBytes { .. }
+            | Insn::Jump { .. }
+            | Insn::JumpLong { .. }
+            | Insn::JumpIf { .. }
+            | Insn::CallHelper { .. }
+            | Insn::CallLocal { .. }
+            | Insn::Exit
+            | Insn::LoadNumber { .. }
+            | Insn::LoadMap { .. } => Next::BadAddress,
+        }
+    }
+}
