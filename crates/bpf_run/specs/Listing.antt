@@ -3,10 +3,10 @@ use Rattle.std.specs.Prelude.{ℕ, zero, suc, ◌*◌, ◌++◌, List, [], ◌�
 use Rattle.hex.specs.Hex.{encode_lower}
 
 -- the word of this number, from 0
-abbrev pub word_at : List ℕ → ℕ → List ℕ
-word_at bytes n = take 8 (drop (8 * n) bytes)
+abbrev pub bytes_of_word : List ℕ → ℕ → List ℕ
+bytes_of_word bytes n = take 8 (drop (8 * n) bytes)
 
 -- the lines of the first n words
 abbrev pub word_lines : ℕ → List ℕ → List ℕ
 word_lines zero bytes = []
-word_lines (suc n) bytes = word_lines n bytes ++ (encode_lower (word_at bytes n) ++ 10 ∷ [])
+word_lines (suc n) bytes = word_lines n bytes ++ (encode_lower (bytes_of_word bytes n) ++ 10 ∷ [])
