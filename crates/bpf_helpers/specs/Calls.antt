@@ -66,7 +66,7 @@ module _ (memory : PrivateMemory) (registers : List ℕ) (m : ℕ) (h : MapShape
   LooksUp events result after =
       ((¬ IsReadable memory held (slice_index registers 2) h.key) × Stops BadAddress held events result after)
       ⊎ ((key : List ℕ) × (first : List Event) × (answer : Option Span)
-      × Reads memory (slice_index registers 2) h.key key first
+      × Reads memory held (slice_index registers 2) h.key key first
       × (events ≡ first ++ Lookup m key answer ∷ [])
       × TakesAnswer answer held result after)
 
@@ -77,8 +77,8 @@ module _ (memory : PrivateMemory) (registers : List ℕ) (m : ℕ) (h : MapShape
       ⊎ (¬ IsReadable memory held (slice_index registers 3) h.value))
       × Stops BadAddress held events result after)
       ⊎ ((key : List ℕ) × (value : List ℕ) × (first : List Event) × (second : List Event) × (answer : MapAnswer)
-      × Reads memory (slice_index registers 2) h.key key first
-      × Reads memory (slice_index registers 3) h.value value second
+      × Reads memory held (slice_index registers 2) h.key key first
+      × Reads memory held (slice_index registers 3) h.value value second
       × (events ≡ (first ++ second) ++ Update m key value (slice_index registers 4) answer ∷ [])
       × (result ≡ Ok (answer_number answer)) × (after ≡ held))
 
@@ -87,7 +87,7 @@ module _ (memory : PrivateMemory) (registers : List ℕ) (m : ℕ) (h : MapShape
   DeletesKey events result after =
       ((¬ IsReadable memory held (slice_index registers 2) h.key) × Stops BadAddress held events result after)
       ⊎ ((key : List ℕ) × (first : List Event) × (answer : MapAnswer)
-      × Reads memory (slice_index registers 2) h.key key first
+      × Reads memory held (slice_index registers 2) h.key key first
       × (events ≡ first ++ Delete m key answer ∷ [])
       × (result ≡ Ok (answer_number answer)) × (after ≡ held))
 

@@ -18,7 +18,8 @@ loads a [] = []
 loads a (byte ∷ bytes) = Load a Byte byte ∷ loads (suc a) bytes
 
 -- the n bytes at an address are these: a CPU's own are read as they are, bytes of values one by one
-abbrev pub Reads : PrivateMemory → ℕ → ℕ → List ℕ → List Event → Type 0
-Reads m a n bytes events =
+abbrev pub Reads : PrivateMemory → List Span → ℕ → ℕ → List ℕ → List Event → Type 0
+Reads m held a n bytes events =
     ((bytes_at m a n ≡ Some bytes) × (events ≡ []))
-    ⊎ ((bytes_at m a n ≡ None) × (length bytes ≡ n) × (events ≡ loads a bytes))
+    ⊎ ((bytes_at m a n ≡ None) × AreReached held a n × (length bytes ≡ n)
+    × (events ≡ loads a bytes))

@@ -87,7 +87,7 @@ pub(crate) fn read<S: Shared>(
     requires source { IsSource memory.now held.now at count source }
     requires bounded { count ≤ 256 }
     ensures bytes { length result.items ≡ count }
-    ensures read { (events : List Event) × Reads memory.now at count result.items events
+    ensures read { (events : List Event) × Reads memory.now held.now at count result.items events
         × Chain S.passes S.serves cpu shared.old shared.new events }
     ensures held { S.held shared.new ≡ S.held shared.old }
     ensures running { S.running shared.new ≡ S.running shared.old }

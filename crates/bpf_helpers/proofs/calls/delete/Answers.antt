@@ -17,7 +17,7 @@ returns-clause-call g c =
     let at = slice_index c.args.registers.now 2 in
     let key = c.deref.result.now in
     let answer = c.delete-answer.result in
-    let P : List ℕ → Type 0 = λ bytes. Reads c.args.memory.now at c.args.shape.key bytes read.0 in (
+    let P : List ℕ → Type 0 = λ bytes. Reads c.args.memory.now c.args.held.now at c.args.shape.key bytes read.0 in (
       read.0 ++ Delete c.args.map key answer ∷ [],
       chain_call g.S.Shared.passes g.S.Shared.serves c.args.cpu g.met.S.Shared.follows c.args.shared.now c.read-key.new.shared c.delete-answer.new.self read.0 (Delete c.args.map key answer) c.requires.serves read.2 c.delete-answer.ensures.answered c.delete-answer.ensures.same.1,
       inr (key, read.0, answer, subst P (sym c.deref.ensures.0) read.1, refl, ap Ok c.number_of_answer.ensures, refl),

@@ -20,7 +20,7 @@ returns-clause-call g c =
     let at = slice_index c.args.registers.now 2 in
     let key = c.deref.result.now in
     let answer = c.lookup-answer.result in
-    let P : List ℕ → Type 0 = λ bytes. Reads c.args.memory.now at c.args.shape.key bytes read.0 in (
+    let P : List ℕ → Type 0 = λ bytes. Reads c.args.memory.now c.args.held.now at c.args.shape.key bytes read.0 in (
       read.0 ++ Lookup c.args.map key answer ∷ [],
       chain_call g.S.Shared.passes g.S.Shared.serves c.args.cpu g.met.S.Shared.follows c.args.shared.now c.read-key.new.shared c.lookup-answer.new.self read.0 (Lookup c.args.map key answer) c.requires.serves read.2 c.lookup-answer.ensures.found c.lookup-answer.ensures.same.1,
       inr (key, read.0, answer, subst P (sym c.deref.ensures.0) read.1, refl, c.take_answer.ensures),
