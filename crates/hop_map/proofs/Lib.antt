@@ -1,5 +1,4 @@
 pub mod Lows
-pub mod Bytes
 pub mod Keys
 pub mod Places
 pub mod Written

@@ -13,10 +13,10 @@ ghost use Rattle.hop_words.specs.declared.known.Change.TheVariants.{Drops};
 ghost use Rattle.hop_map.specs.Calls.{Contents, Brings};
 ghost use Rattle.hop_map.specs.Removals.{Dropped};
 
-use crate::numbers::{item, key_word, link_word};
+use crate::numbers::{item, link_word};
 use bpf_shared::MapAnswer;
 use hop_seg::{SegReads, SegWords};
-use hop_words::{HopTable, Lane, Place};
+use hop_words::{HopTable, Lane, Place, word_of};
 use std::marker::Model;
 
 /// The words of a segment whose lock this CPU has.
@@ -93,8 +93,8 @@ impl<'a> LockedWords<'a> {
         requires room { count < (shape_at self.old.about self.old.map).max }
         requires fits { count + 1 < 2 ^ 64 }
         ensures done { let l = self.old.known in
-            IsTrue result → Inserted self.old.about l (lock_of l) (hand l) [] key.now value.now flags
-            self.new.known }
+            IsTrue result →
+            Inserted self.old.about l (lock_of l) (hand l) [] key.now value.now flags self.new.known }
         ensures missed { IsFalse result → self.new ≡ self.old }
         ensures table { self.new.table ≡ self.old.table }
         ensures about { self.new.about ≡ self.old.about }
@@ -233,7 +233,7 @@ impl<'a> LockedWords<'a> {
                 element,
                 word: word as u32,
             };
-            if self.read(place) != key_word(key, word) {
+            if self.read(place) != word_of(key, word) {
                 return false;
             }
         }
