@@ -1,9 +1,9 @@
 //! A run over any shared store, proved once from the contract alone, and made over the plain store.
 ghost use Rattle.std.specs.Prelude.{◌≡◌, true, false, [], ◌∷◌, IfOk, OnErr};
-ghost use Rattle.bpf_shared.specs.Shape.{IsKeyOf};
+ghost use Rattle.bpf_shared.specs.Shape.{IsKeyOf, IsPairOf};
 ghost use Rattle.bpf_shared.specs.Chain.{Chain};
 
-use crate::{Event, MapShape, PlainStore, Shared, Span, StoreShape, Worn};
+use crate::{Event, MapAnswer, MapShape, PlainStore, Shared, Span, StoreShape, Worn};
 use std::test::Fail;
 
 /// One run that looks one key up.
@@ -46,5 +46,50 @@ fn a_new_store_has_no_keys(rt: HostRuntime) -> Result<(), Fail> {
     let key = [7, 0, 0, 0];
     assert_eq!(rt; look_up_once(&mut store, 1, 0, &key)?, None);
     assert_eq!(rt; look_up_once(&mut store, 1, 0, &key)?, None);
+    Ok(())
+}
+
+/// One run that puts a key, looks it up and takes it out of the map.
+fn put_and_take<S: Shared>(
+    store: &mut S,
+    cpu: u8,
+    map: u8,
+    key: &[u8],
+    value: &[u8],
+) -> Result<(MapAnswer, Option<Span>, MapAnswer), Worn>
+    requires serves { S.serves store.old cpu ≡ true }
+    requires idle { S.running store.old cpu ≡ false }
+    requires pair { IsPairOf (S.shapes store.old) map key.now value.now }
+    requires key { IsKeyOf (S.shapes store.old) map key.now }
+{
+    store.begin(cpu)?;
+    let put = store.update(cpu, map, key, value, 0);
+    let found = store.lookup(cpu, map, key);
+    let taken = store.delete(cpu, map, key);
+    store.end(cpu);
+    Ok((put, found, taken))
+}
+
+#[test]
+fn a_key_is_put_and_taken(rt: HostRuntime) -> Result<(), Fail> {
+    let map = MapShape {
+        key: 4,
+        value: 8,
+        max: 1,
+        spare: 1,
+        mask: 0xffff_ffff,
+    };
+    let shape = StoreShape::new(1, vec![in rt.alloc(); map]?)?;
+    let mut store = PlainStore::new(rt.alloc(), shape)?;
+    let (put, found, taken) = put_and_take(&mut store, 0, 0, &[7, 0, 0, 0], &[1; 8])?;
+    assert_eq!(rt; put, MapAnswer::Done);
+    assert_eq!(rt;
+        found,
+        Some(Span {
+            at: 0x10_0000_0000,
+            size: 8
+        })
+    );
+    assert_eq!(rt; taken, MapAnswer::Done);
     Ok(())
 }
