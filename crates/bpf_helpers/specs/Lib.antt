@@ -1,4 +1,5 @@
 pub mod Calls
 pub mod Held
+pub mod Laws
 pub mod Private
 pub mod Reads

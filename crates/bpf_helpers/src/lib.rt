@@ -4,6 +4,7 @@
 pub mod calls;
 pub mod fault;
 pub mod held;
+pub mod laws;
 mod reading;
 
 pub use calls::call;
