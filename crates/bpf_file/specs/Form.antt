@@ -1,6 +1,6 @@
 -- The forms of the lines of a run file: what each field has to be (our own choice).
 use Rattle.std.specs.Prelude.{ℕ, ◌*◌, Bool, true, false, ◌&&◌, nat_le, List, [], ◌∷◌, ◌++◌, length, get_or, Option, Some, None}
-use Rattle.bpf_text.specs.Words.{number_of, is_name}
+use Rattle.bpf_text.specs.Words.{written_number, is_name}
 use Rattle.bpf_file.specs.declared.form.Part.{Part}
 use Rattle.bpf_file.specs.declared.form.Part.TheVariants.{Word, Name, Number, Context, Words}
 use Rattle.bpf_file.specs.declared.key.Key.TheVariants as key
@@ -12,7 +12,7 @@ is_there None = false
 
 -- a number, of any size
 abbrev pub is_number : List ℕ → Bool
-is_number field = is_there (number_of field)
+is_number field = is_there (written_number field)
 
 abbrev pub is_part : Part → List ℕ → Bool
 is_part (Word k) field = is_key k field

@@ -20,9 +20,9 @@ abbrev pub line_says : List ℕ → Result (Option Said) LineError
 line_says line = fields_say (fields_of line)
 
 -- a reader answers that, or that no memory was there
-abbrev pub Reads : Result (Option Statement) LineError → Result (Option Said) LineError → Type 0
-Reads (Ok None) said = said ≡ Ok None
-Reads (Ok (Some s)) said = said ≡ Ok (Some (said_by s))
-Reads (Err OutOfMemory) said = Unit {0}
-Reads (Err BadForm) said = said ≡ Err BadForm
-Reads (Err BadNumber) said = said ≡ Err BadNumber
+abbrev pub IsRead : Result (Option Statement) LineError → Result (Option Said) LineError → Type 0
+IsRead (Ok None) said = said ≡ Ok None
+IsRead (Ok (Some s)) said = said ≡ Ok (Some (said_by s))
+IsRead (Err OutOfMemory) said = Unit {0}
+IsRead (Err BadForm) said = said ≡ Err BadForm
+IsRead (Err BadNumber) said = said ≡ Err BadNumber

@@ -2,7 +2,7 @@
 use Rattle.std.specs.Prelude.{◌≡◌, ℕ, ◌-◌, ◌^◌, nat_le, nat_lt, if◌then◌else◌, List, ◌++◌, Option, Some, None, Result, Ok, Err}
 use Rattle.std.specs.Option.{option_copied}
 use Rattle.bpf_shared.specs.declared.shapes.MapShape.{MapShape}
-use Rattle.bpf_text.specs.Words.{number_of}
+use Rattle.bpf_text.specs.Words.{written_number}
 use Rattle.bpf_file.specs.declared.line.LineError.{LineError}
 use Rattle.bpf_file.specs.declared.line.LineError.TheVariants.{BadForm, BadNumber}
 use Rattle.bpf_file.specs.declared.statement.Statement.{Statement}
@@ -36,8 +36,8 @@ abbrev pub limited : ℕ → Option ℕ → Result ℕ LineError
 limited most (Some n) = if nat_le n most then Ok n else Err BadNumber
 limited most None = Err BadForm
 
-abbrev pub number_at : List (List ℕ) → ℕ → ℕ → Result ℕ LineError
-number_at fields at most = limited most (number_of (field_at fields at))
+abbrev pub count_at : List (List ℕ) → ℕ → ℕ → Result ℕ LineError
+count_at fields at most = limited most (written_number (field_at fields at))
 
 -- a number of any size, where 64 bits hold it
 abbrev pub held : Option ℕ → Option ℕ
@@ -45,7 +45,7 @@ held (Some n) = if nat_lt n (2 ^ 64) then Some n else None
 held None = None
 
 abbrev pub held_at : List (List ℕ) → ℕ → Option ℕ
-held_at fields at = held (number_of (field_at fields at))
+held_at fields at = held (written_number (field_at fields at))
 
 abbrev pub with_number : Result ℕ LineError → (ℕ → Result Said LineError) → Result Said LineError
 with_number (Ok n) said = said n
@@ -54,29 +54,29 @@ with_number (Err e) said = Err e
 -- ---- the lines, by their forms
 
 abbrev pub cpus_said : List (List ℕ) → Result Said LineError
-cpus_said fields = with_number (number_at fields 1 most_count) (λ n. Ok (Cpus n))
+cpus_said fields = with_number (count_at fields 1 most_count) (λ n. Ok (Cpus n))
 
 abbrev pub seed_said : List (List ℕ) → Result Said LineError
-seed_said fields = with_number (number_at fields 1 (2 ^ 64 - 1)) (λ n. Ok (Seed n))
+seed_said fields = with_number (count_at fields 1 (2 ^ 64 - 1)) (λ n. Ok (Seed n))
 
 abbrev pub map_said : List (List ℕ) → ℕ → Result Said LineError
 map_said fields mask =
-    with_number (number_at fields 3 most_count) (λ key.
-    with_number (number_at fields 5 most_count) (λ value.
-    with_number (number_at fields 7 most_count) (λ max.
-    with_number (number_at fields 9 most_count) (λ spare.
+    with_number (count_at fields 3 most_count) (λ key.
+    with_number (count_at fields 5 most_count) (λ value.
+    with_number (count_at fields 7 most_count) (λ max.
+    with_number (count_at fields 9 most_count) (λ spare.
     Ok (Map (field_at fields 1)
     (record { key = key; value = value; max = max; spare = spare; mask = mask }))))))
 
 abbrev pub masked_said : List (List ℕ) → Result Said LineError
-masked_said fields = with_number (number_at fields 11 most_count) (λ mask. map_said fields mask)
+masked_said fields = with_number (count_at fields 11 most_count) (λ mask. map_said fields mask)
 
 abbrev pub job_said : List (List ℕ) → Option ℕ → Option (List ℕ) → Result Said LineError
 job_said fields budget context = Ok (Job (held_at fields 1) (field_at fields 2) budget context)
 
 abbrev pub budgeted_said : List (List ℕ) → Option (List ℕ) → Result Said LineError
 budgeted_said fields context =
-    with_number (number_at fields 4 most_steps) (λ n. job_said fields (Some n) context)
+    with_number (count_at fields 4 most_steps) (λ n. job_said fields (Some n) context)
 
 -- a line about a program or a job
 abbrev pub work_of : List (List ℕ) → Result Said LineError

@@ -1,6 +1,6 @@
 //! Lines of a run file that aren't assembly.
 
-ghost use Rattle.bpf_file.specs.Line.{line_says, Reads};
+ghost use Rattle.bpf_file.specs.Line.{line_says, IsRead};
 
 use crate::statement::{self, Statement};
 use bpf_text::lines;
@@ -21,7 +21,7 @@ pub enum LineError {
 /// What a line says, or that it says nothing. `BadForm` where it has none of the forms, `BadNumber`
 /// where it has one with a number out of its range; else it fails by `OutOfMemory` alone.
 pub fn read<'a>(alloc: Global, line: &'a [u8]) -> Result<Option<Statement<'a>>, LineError>
-    ensures { Reads result (line_says line.now) }
+    ensures { IsRead result (line_says line.now) }
 {
     let Ok(fields) = lines::fields(alloc, line) else {
         return Err(LineError::OutOfMemory);

@@ -2,7 +2,7 @@
 
 ghost use Rattle.std.specs.Prelude.{◌≡◌, ◌≤◌, map, IfOk};
 ghost use Rattle.std.specs.Option.{option_copied};
-ghost use Rattle.bpf_file.specs.Statement.{number_at, held_at, Says, cpus_said, seed_said, map_said, masked_said, job_said, budgeted_said, work_of, statement_of};
+ghost use Rattle.bpf_file.specs.Statement.{count_at, held_at, Says, cpus_said, seed_said, map_said, masked_said, job_said, budgeted_said, work_of, statement_of};
 
 use crate::form;
 use crate::line::LineError;
@@ -47,8 +47,8 @@ const MOST_STEPS: u64 = 1_000_000_000;
 const MOST: u64 = 0xffff_ffff;
 
 /// The number that a field is, if it is in its range.
-fn number_at(fields: &[&[u8]], at: usize, most: u64) -> Result<u64, LineError>
-    ensures number { result ≡ number_at (map (λ f. f.now) fields.now) at most }
+fn count_at(fields: &[&[u8]], at: usize, most: u64) -> Result<u64, LineError>
+    ensures number { result ≡ count_at (map (λ f. f.now) fields.now) at most }
     ensures within { IfOk result (λ n. n ≤ most) }
 {
     match words::number(form::field_at(fields, at)) {
@@ -77,14 +77,14 @@ fn held_at(fields: &[&[u8]], at: usize) -> Option<u64>
 fn cpus<'a>(fields: &[&'a [u8]]) -> Result<Statement<'a>, LineError>
     ensures { Says result (cpus_said (map (λ f. f.now) fields.now)) }
 {
-    let cpus = number_at(fields, 1, MOST)?;
+    let cpus = count_at(fields, 1, MOST)?;
     Ok(Statement::Cpus(cpus))
 }
 
 fn seed<'a>(fields: &[&'a [u8]]) -> Result<Statement<'a>, LineError>
     ensures { Says result (seed_said (map (λ f. f.now) fields.now)) }
 {
-    let seed = number_at(fields, 1, u64::MAX)?;
+    let seed = count_at(fields, 1, u64::MAX)?;
     Ok(Statement::Seed(seed))
 }
 
@@ -92,10 +92,10 @@ fn seed<'a>(fields: &[&'a [u8]]) -> Result<Statement<'a>, LineError>
 fn map<'a>(fields: &[&'a [u8]], mask: u32) -> Result<Statement<'a>, LineError>
     ensures { Says result (map_said (map (λ f. f.now) fields.now) mask) }
 {
-    let key = number_at(fields, 3, MOST)?;
-    let value = number_at(fields, 5, MOST)?;
-    let max = number_at(fields, 7, MOST)?;
-    let spare = number_at(fields, 9, MOST)?;
+    let key = count_at(fields, 3, MOST)?;
+    let value = count_at(fields, 5, MOST)?;
+    let max = count_at(fields, 7, MOST)?;
+    let spare = count_at(fields, 9, MOST)?;
     Ok(Statement::Map(
         form::field_at(fields, 1),
         MapShape {
@@ -111,7 +111,7 @@ fn map<'a>(fields: &[&'a [u8]], mask: u32) -> Result<Statement<'a>, LineError>
 fn masked_map<'a>(fields: &[&'a [u8]]) -> Result<Statement<'a>, LineError>
     ensures { Says result (masked_said (map (λ f. f.now) fields.now)) }
 {
-    let mask = number_at(fields, 11, MOST)?;
+    let mask = count_at(fields, 11, MOST)?;
     map(fields, mask as u32)
 }
 
@@ -138,7 +138,7 @@ fn budgeted_job<'a>(
 ) -> Result<Statement<'a>, LineError>
     ensures { Says result (budgeted_said (map (λ f. f.now) fields.now) (option_copied context.entry)) }
 {
-    let budget = number_at(fields, 4, MOST_STEPS)?;
+    let budget = count_at(fields, 4, MOST_STEPS)?;
     job(fields, Some(budget), context)
 }
 

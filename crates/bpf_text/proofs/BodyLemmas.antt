@@ -7,8 +7,8 @@ use Rattle.bpf_text.specs.declared.reading.LineError.TheVariants.{BadLine, BadNu
 use Rattle.bpf_text.specs.declared.reading.Draft.{Draft as DraftValue}
 use Rattle.bpf_text.specs.Token.{Tok}
 use Rattle.bpf_text.specs.Line.{Written, IsSpelled}
-use Rattle.bpf_text.specs.Reader.Lines.{line_at}
-use Rattle.bpf_text.specs.Reader.Judging.{Judged, drafted}
+use Rattle.bpf_text.specs.Private.Lines.{line_at}
+use Rattle.bpf_text.specs.Private.Judging.{Judged, drafted}
 use Rattle.bpf_text.specs.Assembly.{IsBody}
 use Rattle.bpf_text.proofs.Sound.{line_sound}
 use Rattle.bpf_text.proofs.Complete.{line_complete}

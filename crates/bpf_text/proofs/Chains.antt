@@ -10,8 +10,8 @@ use Rattle.bpf_insn.specs.declared.operation.Width.TheVariants.{Bits32, Bits64}
 use Rattle.bpf_insn.specs.declared.instruction.Insn.{Insn}
 use Rattle.bpf_text.specs.Token.{Tok}
 use Rattle.bpf_text.specs.Line.{Written}
-use Rattle.bpf_text.specs.Reader.Pieces.{◌>>=◌, same_width, same_register}
-use Rattle.bpf_text.specs.Reader.Lines.{ends}
+use Rattle.bpf_text.specs.Private.Pieces.{◌>>=◌, same_width, same_register}
+use Rattle.bpf_text.specs.Private.Lines.{ends}
 
 -- what holds of a step's value, and of the next step's
 pub IfSome-then : {A B : Type 0} (o : Option A) (f : A → Option B) (P : A → Type 0) (Q : B → Type 0) → IfSome o P → ((a : A) → P a → IfSome (f a) Q) → IfSome (o >>= f) Q

@@ -34,11 +34,11 @@ use Rattle.bpf_text.specs.declared.operators.Operator.{Operator}
 use Rattle.bpf_text.specs.declared.operators.Operator.TheVariants.{Plain, Signed as SignedBy}
 use Rattle.bpf_text.specs.Operators.{operator_of, comparison_of, atomic_form}
 use Rattle.bpf_text.specs.Token.{Tok, Register, Word, Name, Number, Mark}
-use Rattle.bpf_text.specs.Form.{Item, Is, Blank, Natural, Hex, Offset, Target as TargetItem, mark, reg, word, address, cell, cell_size, operator_items, operand_item, extended_width, extended_size, locked, fetched, exchanged, compare_exchanged, atomic_items, form_of}
+use Rattle.bpf_text.specs.Form.{Item, Is, Blank, Natural, Hex, Offset, Target as TargetItem, mark, reg, word, address, cell_items, cell_size, operator_items, operand_item, extended_width, extended_size, locked, fetched, exchanged, compare_exchanged, atomic_items, form_of}
 use Rattle.bpf_text.specs.Line.{Written, Spells, name_of, TokenThen, NaturalThen, NegatedThen, SignedThen, OffsetThen}
-use Rattle.bpf_text.specs.Reader.Judging.{signed_of}
-use Rattle.bpf_text.specs.Reader.Pieces.{Middle, operator_at, operation_named, condition_named, fetched_op, Target, address_at, closed_at, pointer_at, cell_at, operand_at, label_at, target_at, locked_op, extension_of, cell_width}
-use Rattle.bpf_text.specs.Reader.Lines.{fetched_at, operation_at, alu_end, alu_at, extend_at, loaded_at, load_at, atomic_end, atomic_at, fetch_at, exchange_at, compared_at, expected_at, compare_exchange_at, swap_at, map_at, keyword_at, moved_at, wide_at, negative_at, number_at, assigned_at, register_at, stored_end, stored_at, store_at, locked_at, lock_at, jump_at, jump_long_at, branch_to, branch_end, branch_at, helper_at, call_local_at, call_at, statement_at, line_at}
+use Rattle.bpf_text.specs.Private.Judging.{signed_of}
+use Rattle.bpf_text.specs.Private.Pieces.{Middle, operator_at, operation_named, condition_named, fetched_op, Target, address_at, closed_at, pointer_at, cell_at, operand_at, label_at, target_at, locked_op, extension_of, cell_width}
+use Rattle.bpf_text.specs.Private.Lines.{fetched_at, operation_at, alu_end, alu_at, extend_at, loaded_at, load_at, atomic_end, atomic_at, fetch_at, exchange_at, compared_at, expected_at, compare_exchange_at, swap_at, map_at, keyword_at, moved_at, wide_at, negative_at, number_at, assigned_at, register_at, stored_end, stored_at, store_at, locked_at, lock_at, jump_at, jump_long_at, branch_to, branch_end, branch_at, helper_at, call_local_at, call_at, statement_at, line_at}
 use Rattle.bpf_text.proofs.Chains.{same_width-refl, same_register-refl}
 
 -- ---- the tokens that an item has at the front
@@ -117,7 +117,7 @@ cell_by : (k : Keyword) (b : Reg) (o : ℤ) (us rest end : List Tok) → address
 unfolding cell_at pointer_at closed_at
 cell_by k b o us rest end e f = rw (e, f) refl
 
-full_cell : (k : Keyword) (b : Reg) (o : ℤ) (is : List Item) (ts : List Tok) → Spells (cell k b o is) ts → (rest : List Tok) × (cell_at ts ≡ Some (record { size = k; base = b; offset = o; rest = rest })) × Spells is rest
+full_cell : (k : Keyword) (b : Reg) (o : ℤ) (is : List Item) (ts : List Tok) → Spells (cell_items k b o is) ts → (rest : List Tok) × (cell_at ts ≡ Some (record { size = k; base = b; offset = o; rest = rest })) × Spells is rest
 full_cell k b o is ts s =
     let front = tokens_then (Mark sign.Open ∷ Word k ∷ Mark sign.Star ∷ Mark sign.Close ∷ Mark sign.Open ∷ []) (address b o (mark sign.Close ∷ is)) ts s in
     let place = full_address b o (mark sign.Close ∷ is) front.0 front.2 in
@@ -238,7 +238,7 @@ locked_by k op Bits64 b o r us rest e f g = rw (f, g, e) refl
 full_locked : (k : Sign) (op : AtomicOp) (w : Width) (b : Reg) (o : ℤ) (r : Reg) (ts : List Tok) → locked_op k ≡ Some op → Spells (locked k w b o r) ts → line_at ts ≡ line (insn.Atomic w op b o r)
 full_locked k op w b o r ts e s =
     let tail : List Item = Blank ∷ mark k ∷ Blank ∷ reg Bits64 r ∷ [] in
-    let front = tokens_then (Word key.Lock ∷ Mark sign.Star ∷ []) (cell (cell_size w) b o tail) ts s in
+    let front = tokens_then (Word key.Lock ∷ Mark sign.Star ∷ []) (cell_items (cell_size w) b o tail) ts s in
     let place = full_cell (cell_size w) b o tail front.0 front.2 in
     ap line_at front.1 ∙ locked_by k op w b o r front.0 place.0 e place.1 (tokens_end (Mark k ∷ Register Bits64 r ∷ []) place.0 place.2)
 
@@ -263,7 +263,7 @@ fetched_by k op Bits64 b o r us rest e f g = keyword_fetched k op Bits64 r (Mark
 full_fetched : (k : Keyword) (op : AtomicOp) (w : Width) (b : Reg) (o : ℤ) (r : Reg) (ts : List Tok) → fetched_op k ≡ Some op → Spells (fetched k w b o r) ts → line_at ts ≡ line (insn.Atomic w op b o r)
 full_fetched k op w b o r ts e s =
     let tail : List Item = mark sign.Comma ∷ Blank ∷ reg w r ∷ mark sign.Close ∷ [] in
-    let front = tokens_then (Register w r ∷ Mark sign.Assign ∷ Word k ∷ Mark sign.Open ∷ []) (cell (cell_size w) b o tail) ts s in
+    let front = tokens_then (Register w r ∷ Mark sign.Assign ∷ Word k ∷ Mark sign.Open ∷ []) (cell_items (cell_size w) b o tail) ts s in
     let place = full_cell (cell_size w) b o tail front.0 front.2 in
     ap line_at front.1 ∙ fetched_by k op w b o r front.0 place.0 e place.1 (tokens_end (Mark sign.Comma ∷ Register w r ∷ Mark sign.Close ∷ []) place.0 place.2)
 
@@ -321,10 +321,10 @@ stored_by : (z : Size) (b : Reg) (o : ℤ) (src : Operand) (us rest others end :
 unfolding line_at store_at stored_at
 stored_by z b o src us rest others end e f g h = rw (e, f, g, h) refl
 
-full_stored : (z : Size) (b : Reg) (o : ℤ) (src : Operand) (ts : List Tok) → Spells (mark sign.Star ∷ cell (key.Unsigned z) b o (Blank ∷ mark sign.Assign ∷ Blank ∷ operand_item Bits64 src ∷ [])) ts → line_at ts ≡ stored_end (key.Unsigned z) b o src []
+full_stored : (z : Size) (b : Reg) (o : ℤ) (src : Operand) (ts : List Tok) → Spells (mark sign.Star ∷ cell_items (key.Unsigned z) b o (Blank ∷ mark sign.Assign ∷ Blank ∷ operand_item Bits64 src ∷ [])) ts → line_at ts ≡ stored_end (key.Unsigned z) b o src []
 full_stored z b o src ts s =
     let tail : List Item = Blank ∷ mark sign.Assign ∷ Blank ∷ operand_item Bits64 src ∷ [] in
-    let front = tokens_then (Mark sign.Star ∷ []) (cell (key.Unsigned z) b o tail) ts s in
+    let front = tokens_then (Mark sign.Star ∷ []) (cell_items (key.Unsigned z) b o tail) ts s in
     let place = full_cell (key.Unsigned z) b o tail front.0 front.2 in
     let equals = tokens_then (Mark sign.Assign ∷ []) (operand_item Bits64 src ∷ []) place.0 place.2 in
     let value = full_operand Bits64 src [] equals.0 equals.2 in
@@ -335,9 +335,9 @@ loaded_by : (k : Keyword) (d b : Reg) (o : ℤ) (us rest : List Tok) → cell_at
 unfolding line_at register_at assigned_at load_at
 loaded_by k d b o us rest e f = rw (e, f) refl
 
-full_loaded : (k : Keyword) (d b : Reg) (o : ℤ) (ts : List Tok) → Spells (reg Bits64 d ∷ Blank ∷ mark sign.Assign ∷ Blank ∷ mark sign.Star ∷ cell k b o []) ts → line_at ts ≡ loaded_at d k b o []
+full_loaded : (k : Keyword) (d b : Reg) (o : ℤ) (ts : List Tok) → Spells (reg Bits64 d ∷ Blank ∷ mark sign.Assign ∷ Blank ∷ mark sign.Star ∷ cell_items k b o []) ts → line_at ts ≡ loaded_at d k b o []
 full_loaded k d b o ts s =
-    let front = tokens_then (Register Bits64 d ∷ Mark sign.Assign ∷ Mark sign.Star ∷ []) (cell k b o []) ts s in
+    let front = tokens_then (Register Bits64 d ∷ Mark sign.Assign ∷ Mark sign.Star ∷ []) (cell_items k b o []) ts s in
     let place = full_cell k b o [] front.0 front.2 in
     ap line_at front.1 ∙ loaded_by k d b o front.0 place.0 place.1 place.2
 

@@ -20,7 +20,7 @@ use Rattle.bpf_text.specs.declared.signs.TheConstants.{SIGNS}
 use Rattle.bpf_text.specs.Names.{keyword_text}
 use Rattle.bpf_text.specs.Signs.{sign_text}
 use Rattle.bpf_text.specs.Words.{keyword_of}
-use Rattle.bpf_text.specs.Reader.Pieces.{same_sign, same_keyword, same_operator, is_locked_by, is_fetched_by}
+use Rattle.bpf_text.specs.Private.Pieces.{same_sign, same_keyword, same_operator, is_locked_by, is_fetched_by}
 
 -- what is found passes the test
 pub found_by : {A : Type 0} (p : A → Bool) (xs : List A) (P : A → Type 0) → ((x : A) → p x ≡ true → P x) → IfSome (find p xs) P

@@ -2,7 +2,7 @@
 use Rattle.std.proofs.Common.{◌≡◌, ℕ, List, Option, Some, None, Bool, true, false, cond, is_some, refl, sym, ap, ◌∙◌, bytes_eq}
 use Rattle.std.proofs.lemmas.Slice.Eq.{bytes_eq-Decides}
 use Rattle.bpf_text.specs.declared.labels.Place.{Place}
-use Rattle.bpf_text.specs.Reader.Labels.{or_else}
+use Rattle.bpf_text.specs.Private.Labels.{or_else}
 
 or_none : {A : Type 0} (o : Option A) → or_else o None ≡ o
 or_none (Some x) = refl

@@ -4,7 +4,7 @@ use Rattle.std.proofs.lemmas.List.{take_all, length-drop}
 use Rattle.std.specs.List.{prefix_len}
 use Rattle.bpf_text.specs.Lines.{lines_of}
 use Rattle.std.specs.List.{onto_first}
-use Rattle.bpf_text.specs.Reader.Cutting.{in_line}
+use Rattle.bpf_text.specs.Private.Cutting.{in_line}
 
 abbrev line_end : List ℕ → ℕ
 line_end text = length (take_while in_line text)

@@ -5,7 +5,7 @@ use Rattle.std.specs.List.{starts_with, list_all}
 use Rattle.std.proofs.lemmas.Bool.{and_parts}
 use Rattle.bpf_text.specs.declared.signs.Sign.{Sign}
 use Rattle.bpf_text.specs.declared.signs.TheConstants.{SIGNS}
-use Rattle.bpf_text.specs.Reader.Pieces.{first_sign}
+use Rattle.bpf_text.specs.Private.Pieces.{first_sign}
 use Rattle.bpf_text.specs.Signs.{sign_text, longer, longest, sign_at}
 
 abbrev is_short : ℕ → Sign → Bool

@@ -34,9 +34,9 @@ use Rattle.bpf_text.specs.declared.atomics.AtomicForm.TheVariants as form
 use Rattle.bpf_text.specs.declared.operators.Operator.{Operator}
 use Rattle.bpf_text.specs.declared.operators.Operator.TheVariants.{Plain, Signed as SignedBy}
 use Rattle.bpf_text.specs.Line.{Written}
-use Rattle.bpf_text.specs.Reader.Pieces.{operator_at, operation_named, target_at, label_at, cell_at}
-use Rattle.bpf_text.specs.Reader.Lines.{line_at, statement_at, register_at, operation_at, lock_at, branch_at, jump_at, jump_long_at, call_at, call_local_at, store_at}
-use Rattle.bpf_text.specs.Reader.Cutting.{in_line}
+use Rattle.bpf_text.specs.Private.Pieces.{operator_at, operation_named, target_at, label_at, cell_at}
+use Rattle.bpf_text.specs.Private.Lines.{line_at, statement_at, register_at, operation_at, lock_at, branch_at, jump_at, jump_long_at, call_at, call_local_at, store_at}
+use Rattle.bpf_text.specs.Private.Cutting.{in_line}
 use Rattle.bpf_text.specs.Assembly.{Source, IsLine, AreLines, Assembles, label_of, unlabelled, IsBody, first_place, meaning_of, program_of}
 use Rattle.bpf_text.specs.Lines.{lines_of}
 use Rattle.std.specs.List.{onto_first}

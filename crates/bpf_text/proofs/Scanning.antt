@@ -11,10 +11,10 @@ use Rattle.bpf_text.specs.Signs.{sign_text, sign_at}
 use Rattle.bpf_text.specs.declared.signs.TheConstants.{SIGNS}
 use Rattle.bpf_text.proofs.Finding.{found_by}
 use Rattle.bpf_text.proofs.LongestSign.{first_is_longest}
-use Rattle.bpf_text.specs.Reader.Pieces.{first_sign}
+use Rattle.bpf_text.specs.Private.Pieces.{first_sign}
 use Rattle.bpf_text.specs.Token.{Tok}
 use Rattle.bpf_text.specs.Tokens.{is_blank, after_blanks, front_tok, front_len, IsEnd, AreTokens, IsTokens}
-use Rattle.bpf_text.specs.Reader.Look.{look}
+use Rattle.bpf_text.specs.Private.Look.{look}
 
 -- ---- a sign is no longer than the text that it begins
 

@@ -28,8 +28,8 @@ use Rattle.bpf_text.specs.Token.{Tok, Register, Word, Number, Mark}
 use Rattle.bpf_text.specs.Form.{Item, Is, Blank, Signed, Natural, Hex, Offset, Target, wide_text, item_text, text_of}
 use Rattle.bpf_text.specs.Line.{Spells}
 use Rattle.bpf_text.proofs.LongestSign.{first_is_longest}
-use Rattle.bpf_text.specs.Reader.Pieces.{first_sign}
-use Rattle.bpf_text.specs.Reader.Cutting.{in_line}
+use Rattle.bpf_text.specs.Private.Pieces.{first_sign}
+use Rattle.bpf_text.specs.Private.Cutting.{in_line}
 use Rattle.bpf_text.specs.Tokens.{is_blank, after_blanks, word_len, front_tok, front_len, IsEnd, AreTokens}
 
 -- ---- words

@@ -29,10 +29,10 @@ use Rattle.bpf_text.specs.declared.operators.TheConstants.{OPERATIONS, CONDITION
 use Rattle.bpf_text.specs.declared.atomics.TheConstants.{ATOMICS}
 use Rattle.bpf_text.specs.Operators.{operator_of, comparison_of, atomic_form}
 use Rattle.bpf_text.specs.Token.{Tok, Register, Word, Number, Mark}
-use Rattle.bpf_text.specs.Form.{Item, Blank, Signed, Target as TargetItem, mark, reg, word, address, cell, cell_size, operator_items, operand_item, extended_width, extended_size, atomic_items}
+use Rattle.bpf_text.specs.Form.{Item, Blank, Signed, Target as TargetItem, mark, reg, word, address, cell_items, cell_size, operator_items, operand_item, extended_width, extended_size, atomic_items}
 use Rattle.bpf_text.specs.Line.{Written, Spells, IsSpelled, name_of}
-use Rattle.bpf_text.specs.Reader.Pieces.{Middle, same_operator, operator_at, operation_named, condition_named, is_locked_by, is_fetched_by, fetched_op, ◌>>=◌, Address, Place, Second, Target, same_width, same_register, address_at, closed_at, pointer_at, cell_at, operand_at, label_at, target_at, locked_op, extension_of, cell_width}
-use Rattle.bpf_text.specs.Reader.Lines.{fetched_at, operation_at, ends, alu_end, alu_at, extend_at, loaded_at, load_at, atomic_end, atomic_at, fetch_at, exchange_at, compared_at, expected_at, compare_exchange_at, swap_at, map_at, keyword_at, moved_at, wide_at, negative_at, number_at, assigned_at, register_at, stored_end, stored_at, store_at, locked_at, lock_at, jump_at, jump_long_at, branch_to, branch_end, branch_at, helper_at, call_local_at, call_at, statement_at, line_at}
+use Rattle.bpf_text.specs.Private.Pieces.{Middle, same_operator, operator_at, operation_named, condition_named, is_locked_by, is_fetched_by, fetched_op, ◌>>=◌, Address, Place, Second, Target, same_width, same_register, address_at, closed_at, pointer_at, cell_at, operand_at, label_at, target_at, locked_op, extension_of, cell_width}
+use Rattle.bpf_text.specs.Private.Lines.{fetched_at, operation_at, ends, alu_end, alu_at, extend_at, loaded_at, load_at, atomic_end, atomic_at, fetch_at, exchange_at, compared_at, expected_at, compare_exchange_at, swap_at, map_at, keyword_at, moved_at, wide_at, negative_at, number_at, assigned_at, register_at, stored_end, stored_at, store_at, locked_at, lock_at, jump_at, jump_long_at, branch_to, branch_end, branch_at, helper_at, call_local_at, call_at, statement_at, line_at}
 use Rattle.bpf_text.proofs.Finding.{found_by, same_operator-true, is_locked_by-true, is_fetched_by-true}
 use Rattle.bpf_text.proofs.Chains.{IfSome-then, IfSome-if, IfSome-ends, same_width-true, same_register-true}
 
@@ -48,7 +48,7 @@ address_sound (Register Bits64 b ∷ Mark sign.Minus ∷ Number n ∷ ts) = λ i
 address_sound ts = tt
 
 abbrev SpellsCell : List Tok → Place → Type 0
-SpellsCell ts c = (is : List Item) → Spells is c.rest → Spells (cell c.size c.base c.offset is) ts
+SpellsCell ts c = (is : List Item) → Spells is c.rest → Spells (cell_items c.size c.base c.offset is) ts
 
 closed_sound : (k : Keyword) (b : Reg) (o : ℤ) (ts us : List Tok) → ((is : List Item) → Spells is us → Spells (address b o is) ts)
     → IfSome (closed_at k b o us) (SpellsCell (Mark sign.Open ∷ Word k ∷ Mark sign.Star ∷ Mark sign.Close ∷ Mark sign.Open ∷ ts))
@@ -188,7 +188,7 @@ extend_sound w d (Word (key.Extended z) ∷ Mark sign.Close ∷ Register v s ∷
     Q i = IsSpelled i (Register w d ∷ Mark sign.Assign ∷ Mark sign.Open ∷ Word (key.Extended z) ∷ Mark sign.Close ∷ Register v s ∷ ts)
 extend_sound w d ts = tt
 
-loaded_sound : (d : Reg) (k : Keyword) (b : Reg) (o : ℤ) (ts us : List Tok) → ((is : List Item) → Spells is us → Spells (cell k b o is) ts) → Reads (Register Bits64 d ∷ Mark sign.Assign ∷ Mark sign.Star ∷ ts) (loaded_at d k b o us)
+loaded_sound : (d : Reg) (k : Keyword) (b : Reg) (o : ℤ) (ts us : List Tok) → ((is : List Item) → Spells is us → Spells (cell_items k b o is) ts) → Reads (Register Bits64 d ∷ Mark sign.Assign ∷ Mark sign.Star ∷ ts) (loaded_at d k b o us)
 unfolding loaded_at
 loaded_sound d (key.Unsigned z) b o ts us h = IfSome-ends (insn.Load z d b o) us (λ i. IsSpelled i (Register Bits64 d ∷ Mark sign.Assign ∷ Mark sign.Star ∷ ts)) (λ e. (refl, (refl, (refl, h [] e))))
 loaded_sound d (key.Extended z) b o ts us h = IfSome-ends (insn.LoadSigned z d b o) us (λ i. IsSpelled i (Register Bits64 d ∷ Mark sign.Assign ∷ Mark sign.Star ∷ ts)) (λ e. (refl, (refl, (refl, h [] e))))
@@ -226,7 +226,7 @@ fetch_sound op k w d (Mark sign.Open ∷ ts) same =
     (λ e. atomic_sound op w d c.base c.offset c.rest whole (λ tail.
     let sizes : c.size ≡ cell_size w = sized ∙ ap cell_size (same_width-true v w e) in
     let Tail : List Item = mark sign.Comma ∷ Blank ∷ reg w d ∷ mark sign.Close ∷ [] in
-    let P : Keyword → Type 0 = λ x. Spells (cell x c.base c.offset Tail) ts in
+    let P : Keyword → Type 0 = λ x. Spells (cell_items x c.base c.offset Tail) ts in
     let F : List Item → Type 0 = λ is. Spells is whole in
     subst F (sym (ap (λ f. atomic_items f w c.base c.offset d) same)) (refl, (refl, (refl, (refl, subst P sizes (h Tail tail)))))))))
   where
@@ -318,13 +318,13 @@ register_sound w d ts = arithmetic_sound w d ts
 
 -- ---- the other lines
 
-stored_end_sound : (k : Keyword) (b : Reg) (o : ℤ) (s : Operand) (ts us whole : List Tok) → (us ≡ [] → Spells (mark sign.Star ∷ cell k b o (Blank ∷ mark sign.Assign ∷ Blank ∷ operand_item Bits64 s ∷ [])) whole) → Reads whole (stored_end k b o s us)
+stored_end_sound : (k : Keyword) (b : Reg) (o : ℤ) (s : Operand) (ts us whole : List Tok) → (us ≡ [] → Spells (mark sign.Star ∷ cell_items k b o (Blank ∷ mark sign.Assign ∷ Blank ∷ operand_item Bits64 s ∷ [])) whole) → Reads whole (stored_end k b o s us)
 unfolding stored_end
 stored_end_sound (key.Unsigned z) b o (operand.Immediate n) ts us whole h = IfSome-ends (insn.StoreImmediate z b o n) us (λ i. IsSpelled i whole) h
 stored_end_sound (key.Unsigned z) b o (operand.Register r) ts us whole h = IfSome-ends (insn.Store z b o r) us (λ i. IsSpelled i whole) h
 stored_end_sound k b o s ts us whole h = tt
 
-stored_sound : (k : Keyword) (b : Reg) (o : ℤ) (ts us : List Tok) → ((is : List Item) → Spells is us → Spells (cell k b o is) ts) → Reads (Mark sign.Star ∷ ts) (stored_at k b o us)
+stored_sound : (k : Keyword) (b : Reg) (o : ℤ) (ts us : List Tok) → ((is : List Item) → Spells is us → Spells (cell_items k b o is) ts) → Reads (Mark sign.Star ∷ ts) (stored_at k b o us)
 unfolding stored_at
 stored_sound k b o ts (Mark sign.Assign ∷ us) h =
     IfSome-then (operand_at Bits64 us) (λ s. stored_end k b o s.operand s.rest) (SpellsSecond Bits64 us) (λ i. IsSpelled i (Mark sign.Star ∷ ts)) (operand_sound Bits64 us)
@@ -338,7 +338,7 @@ store_sound ts =
     IfSome-then (cell_at ts) (λ c. stored_at c.size c.base c.offset c.rest) (SpellsCell ts) (λ i. IsSpelled i (Mark sign.Star ∷ ts)) (cell_sound ts)
     (λ c h. stored_sound c.size c.base c.offset ts c.rest h)
 
-locked_sound : (w : Width) (b : Reg) (o : ℤ) (ts us : List Tok) → ((is : List Item) → Spells is us → Spells (cell (cell_size w) b o is) ts) → Reads (Word key.Lock ∷ Mark sign.Star ∷ ts) (locked_at w b o us)
+locked_sound : (w : Width) (b : Reg) (o : ℤ) (ts us : List Tok) → ((is : List Item) → Spells is us → Spells (cell_items (cell_size w) b o is) ts) → Reads (Word key.Lock ∷ Mark sign.Star ∷ ts) (locked_at w b o us)
 unfolding locked_at
 locked_sound w b o ts (Mark s ∷ Register Bits64 r ∷ us) h =
     IfSome-then (locked_op s) (λ op. atomic_end op w b o r us) (λ op. atomic_form op ≡ form.Locked s) (λ i. IsSpelled i (Word key.Lock ∷ Mark sign.Star ∷ ts)) (locked_op_sound s)
@@ -352,7 +352,7 @@ unfolding lock_at
 lock_sound (Mark sign.Star ∷ ts) =
     IfSome-then (cell_at ts) (λ c. cell_width c.size >>= λ w. locked_at w c.base c.offset c.rest) (SpellsCell ts) (λ i. IsSpelled i (Word key.Lock ∷ Mark sign.Star ∷ ts)) (cell_sound ts)
     (λ c h. IfSome-then (cell_width c.size) (λ w. locked_at w c.base c.offset c.rest) (λ w. c.size ≡ cell_size w) (λ i. IsSpelled i (Word key.Lock ∷ Mark sign.Star ∷ ts)) (cell_width_sound c.size)
-    (λ w sized. locked_sound w c.base c.offset ts c.rest (λ is s. let P : Keyword → Type 0 = λ x. Spells (cell x c.base c.offset is) ts in subst P sized (h is s))))
+    (λ w sized. locked_sound w c.base c.offset ts c.rest (λ is s. let P : Keyword → Type 0 = λ x. Spells (cell_items x c.base c.offset is) ts in subst P sized (h is s))))
 lock_sound ts = tt
 
 jump_sound : (ts : List Tok) → Reads (Word key.Goto ∷ ts) (jump_at ts)

@@ -7,8 +7,8 @@ use Rattle.bpf_text.specs.declared.error.TextError.{TextError}
 use Rattle.bpf_text.specs.declared.labels.Place.{Place}
 use Rattle.bpf_text.specs.declared.assembly.Kept.{Kept}
 use Rattle.bpf_text.specs.declared.reading.LineError.{LineError}
-use Rattle.bpf_text.specs.Reader.Labels.{or_else}
-use Rattle.bpf_text.specs.Reader.Sources.{source_of, KeptLine, kept_view, nothing_is, nothing_said, kept_of, kept_program, Gathers}
+use Rattle.bpf_text.specs.Private.Labels.{or_else}
+use Rattle.bpf_text.specs.Private.Sources.{source_of, KeptLine, kept_view, nothing_is, nothing_said, kept_of, kept_program, Gathers}
 use Rattle.bpf_text.specs.Lines.{lines_behind, rest_size}
 use Rattle.bpf_text.specs.Assembly.{Source, IsLine, AreLines, words_of, is_named, is_twice, first_place, body_meaning, meaning_of, then_meaning, program_of}
 use Rattle.bpf_text.specs.Lines.{lines_of}

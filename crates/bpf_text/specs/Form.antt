@@ -83,8 +83,8 @@ abbrev pub address : Reg → ℤ → List Item → List Item
 address b o next = reg Bits64 b ∷ Blank ∷ Offset o ∷ next
 
 -- `(u8 *)(R + n)`
-abbrev pub cell : Keyword → Reg → ℤ → List Item → List Item
-cell k b o next =
+abbrev pub cell_items : Keyword → Reg → ℤ → List Item → List Item
+cell_items k b o next =
     mark sign.Open ∷ word k ∷ Blank ∷ mark sign.Star ∷ mark sign.Close ∷ mark sign.Open
     ∷ address b o (mark sign.Close ∷ next)
 
@@ -96,14 +96,14 @@ cell_size Bits64 = key.Unsigned size.Double
 -- `lock *(u64 *)(R + n) += R`
 abbrev pub locked : Sign → Width → Reg → ℤ → Reg → List Item
 locked s w b o r =
-    word key.Lock ∷ Blank ∷ mark sign.Star ∷ cell (cell_size w) b o (Blank ∷ mark s ∷ Blank
+    word key.Lock ∷ Blank ∷ mark sign.Star ∷ cell_items (cell_size w) b o (Blank ∷ mark s ∷ Blank
     ∷ reg Bits64 r ∷ [])
 
 -- `R = atomic_fetch_add((u64 *)(R + n), R)`
 abbrev pub fetched : Keyword → Width → Reg → ℤ → Reg → List Item
 fetched k w b o r =
     reg w r ∷ Blank ∷ mark sign.Assign ∷ Blank ∷ word k ∷ mark sign.Open
-    ∷ cell (cell_size w) b o (mark sign.Comma ∷ Blank ∷ reg w r ∷ mark sign.Close ∷ [])
+    ∷ cell_items (cell_size w) b o (mark sign.Comma ∷ Blank ∷ reg w r ∷ mark sign.Close ∷ [])
 
 -- `R = xchg_64(R + n, R)`
 abbrev pub exchanged : Width → Reg → ℤ → Reg → List Item
@@ -146,13 +146,13 @@ form_of (insn.CallHelper n) None = word key.Call ∷ Blank ∷ Natural n ∷ []
 form_of (insn.CallLocal o) name = word key.Call ∷ Blank ∷ Target o name ∷ []
 form_of insn.Exit None = word key.Exit ∷ []
 form_of (insn.Load z d b o) None =
-    reg Bits64 d ∷ Blank ∷ mark sign.Assign ∷ Blank ∷ mark sign.Star ∷ cell (key.Unsigned z) b o []
+    reg Bits64 d ∷ Blank ∷ mark sign.Assign ∷ Blank ∷ mark sign.Star ∷ cell_items (key.Unsigned z) b o []
 form_of (insn.LoadSigned z d b o) None =
-    reg Bits64 d ∷ Blank ∷ mark sign.Assign ∷ Blank ∷ mark sign.Star ∷ cell (key.Extended z) b o []
+    reg Bits64 d ∷ Blank ∷ mark sign.Assign ∷ Blank ∷ mark sign.Star ∷ cell_items (key.Extended z) b o []
 form_of (insn.StoreImmediate z b o v) None =
-    mark sign.Star ∷ cell (key.Unsigned z) b o (Blank ∷ mark sign.Assign ∷ Blank ∷ Signed v ∷ [])
+    mark sign.Star ∷ cell_items (key.Unsigned z) b o (Blank ∷ mark sign.Assign ∷ Blank ∷ Signed v ∷ [])
 form_of (insn.Store z b o s) None =
-    mark sign.Star ∷ cell (key.Unsigned z) b o (Blank ∷ mark sign.Assign ∷ Blank ∷ reg Bits64 s
+    mark sign.Star ∷ cell_items (key.Unsigned z) b o (Blank ∷ mark sign.Assign ∷ Blank ∷ reg Bits64 s
     ∷ [])
 form_of (insn.Atomic w op b o s) None = atomic_items (atomic_form op) w b o s
 form_of (insn.LoadNumber d n) None =

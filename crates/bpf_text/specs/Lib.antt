@@ -10,4 +10,4 @@ pub mod Form
 pub mod Line
 pub mod Assembly
 pub mod Laws
-pub mod Reader
+pub mod Private

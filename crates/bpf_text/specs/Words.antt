@@ -43,13 +43,13 @@ unfoldable pub number_tok : List ℕ → Tok
 number_tok w =
     if starts_with nat_eq w (codes "0x") then numeral_tok 16 (drop 2 w) else numeral_tok 10 w
 
-abbrev pub number_in : Tok → Option ℕ
-number_in (Number n) = Some n
-number_in t = None
+abbrev pub number_in_token : Tok → Option ℕ
+number_in_token (Number n) = Some n
+number_in_token t = None
 
 -- the number that a word is, if it is one
-abbrev pub number_of : List ℕ → Option ℕ
-number_of w = number_in (number_tok w)
+abbrev pub written_number : List ℕ → Option ℕ
+written_number w = number_in_token (number_tok w)
 
 -- ---- names
 

@@ -4,8 +4,8 @@ ghost use Rattle.std.specs.Prelude.{◌≡◌, ◌++◌, ◌∷◌, [], ◌<◌,
 ghost use Rattle.bpf_insn.specs.declared.instruction.Insn.{Insn};
 ghost use Rattle.bpf_text.specs.declared.error.TextError.{TextError};
 ghost use Rattle.bpf_text.specs.Assembly.{words_of, Assembles};
-ghost use Rattle.bpf_text.specs.Reader.Labels.{found};
-ghost use Rattle.bpf_text.specs.Reader.Sources.{source_of, body_of, kept_view, nothing_said, kept_of, kept_program, Gathers};
+ghost use Rattle.bpf_text.specs.Private.Labels.{found};
+ghost use Rattle.bpf_text.specs.Private.Sources.{source_of, body_of, kept_view, nothing_said, kept_of, kept_program, Gathers};
 
 use crate::error::TextError;
 use crate::labels::{self, Labels, Place};

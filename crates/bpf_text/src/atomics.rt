@@ -2,7 +2,7 @@
 
 ghost use Rattle.std.specs.Prelude.{◌≡◌};
 ghost use Rattle.bpf_text.specs.Operators.{atomic_form};
-ghost use Rattle.bpf_text.specs.Reader.Pieces.{is_locked_by, is_fetched_by, locked_op, fetched_op};
+ghost use Rattle.bpf_text.specs.Private.Pieces.{is_locked_by, is_fetched_by, locked_op, fetched_op};
 
 use crate::keywords::Keyword;
 use crate::signs::Sign;
@@ -74,7 +74,7 @@ impl AtomicForm {
 }
 
 /// The locked operation with this sign.
-#[tactic(auto, unfolding(crate::specs::Reader::Pieces::locked_op))]
+#[tactic(auto, unfolding(crate::specs::Private::Pieces::locked_op))]
 pub fn locked_op(sign: Sign) -> Option<AtomicOp>
     ensures { result ≡ locked_op sign }
 {
@@ -85,7 +85,7 @@ pub fn locked_op(sign: Sign) -> Option<AtomicOp>
 }
 
 /// The fetching operation with this name.
-#[tactic(auto, unfolding(crate::specs::Reader::Pieces::fetched_op))]
+#[tactic(auto, unfolding(crate::specs::Private::Pieces::fetched_op))]
 pub fn fetched_op(name: Keyword) -> Option<AtomicOp>
     ensures { result ≡ fetched_op name }
 {

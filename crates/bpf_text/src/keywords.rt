@@ -3,7 +3,7 @@
 ghost use Rattle.std.specs.Prelude.{◌≡◌};
 ghost use Rattle.bpf_text.specs.Names.{keyword_text};
 ghost use Rattle.bpf_text.specs.Words.{keyword_of};
-ghost use Rattle.bpf_text.specs.Reader.Pieces.{same_keyword};
+ghost use Rattle.bpf_text.specs.Private.Pieces.{same_keyword};
 
 use bpf_insn::{ByteSwap, SignedSize, Size, SwapWidth, Width};
 

@@ -3,7 +3,7 @@
 ghost use Rattle.std.specs.Prelude.{◌≡◌, Some, None, cond, OnOk, IsOkUnless, ℕ, List, Option, if◌then◌else◌};
 ghost use Rattle.std.specs.Str.{bytes_eq};
 ghost use Rattle.std.specs.Option.{option_copied};
-ghost use Rattle.bpf_text.specs.Reader.Labels.{found, or_else};
+ghost use Rattle.bpf_text.specs.Private.Labels.{found, or_else};
 ghost use Rattle.bpf_text.specs.Assembly.{is_named, is_twice};
 
 use crate::error::TextError;

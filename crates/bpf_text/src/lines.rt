@@ -5,7 +5,7 @@ ghost use Rattle.std.specs.List.{slice_split};
 ghost use Rattle.std.specs.Option.{option_copied};
 ghost use Rattle.bpf_text.specs.Lines.{is_field, lines_of, uncommented, fields_of};
 ghost use Rattle.bpf_text.specs.Tokens.{is_blank};
-ghost use Rattle.bpf_text.specs.Reader.Cutting.{in_line};
+ghost use Rattle.bpf_text.specs.Private.Cutting.{in_line};
 ghost use Rattle.bpf_text.specs.Lines.{lines_behind, rest_size};
 
 use crate::error::TextError;

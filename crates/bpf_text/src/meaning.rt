@@ -2,8 +2,8 @@
 
 ghost use Rattle.std.specs.Prelude.{◌≡◌, ◌+◌, ◌<◌, ◌^◌, Ok};
 ghost use Rattle.bpf_text.specs.Assembly.{at_target, unless_twice, meaning_of};
-ghost use Rattle.bpf_text.specs.Reader.Labels.{found};
-ghost use Rattle.bpf_text.specs.Reader.Sources.{source_of};
+ghost use Rattle.bpf_text.specs.Private.Labels.{found};
+ghost use Rattle.bpf_text.specs.Private.Sources.{source_of};
 
 use crate::error::TextError;
 use crate::labels::{self, Labels, Place};

@@ -6,8 +6,8 @@ ghost use Rattle.std.specs.Char.{digit_value};
 ghost use Rattle.std.specs.Str.Parse.{digits_value};
 ghost use Rattle.std.specs.List.{list_all};
 ghost use Rattle.bpf_text.specs.Words.{is_digit_of, is_numeral};
-ghost use Rattle.bpf_text.specs.Reader.Look.{numeral_value};
-ghost use Rattle.bpf_text.specs.Reader.Judging.{signed_of, literal_value};
+ghost use Rattle.bpf_text.specs.Private.Look.{numeral_value};
+ghost use Rattle.bpf_text.specs.Private.Judging.{signed_of, literal_value};
 
 /// In which base a number is written.
 #[derive(Clone, Copy)]

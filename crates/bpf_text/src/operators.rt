@@ -2,7 +2,7 @@
 
 ghost use Rattle.std.specs.Prelude.{◌≡◌};
 ghost use Rattle.bpf_text.specs.Operators.{operator_of, comparison_of};
-ghost use Rattle.bpf_text.specs.Reader.Pieces.{same_operator, operation_named, condition_named};
+ghost use Rattle.bpf_text.specs.Private.Pieces.{same_operator, operation_named, condition_named};
 
 use crate::signs::Sign;
 use bpf_insn::{AluOp, Condition};
@@ -103,7 +103,7 @@ impl Operator {
 }
 
 /// The arithmetic operation that is written so.
-#[tactic(auto, unfolding(crate::specs::Reader::Pieces::operation_named))]
+#[tactic(auto, unfolding(crate::specs::Private::Pieces::operation_named))]
 pub fn operation_named(operator: Operator) -> Option<AluOp>
     ensures { result ≡ operation_named operator }
 {
@@ -114,7 +114,7 @@ pub fn operation_named(operator: Operator) -> Option<AluOp>
 }
 
 /// The condition that is written so.
-#[tactic(auto, unfolding(crate::specs::Reader::Pieces::condition_named))]
+#[tactic(auto, unfolding(crate::specs::Private::Pieces::condition_named))]
 pub fn condition_named(operator: Operator) -> Option<Condition>
     ensures { result ≡ condition_named operator }
 {

@@ -125,9 +125,9 @@ pub struct Cell(pub Keyword, pub Reg, pub i16);
 
 impl fmt::Display for Cell {
     ghost use Rattle.std.specs.Prelude.{Some, []};
-    ghost use Rattle.bpf_text.specs.Form.{text_of, cell};
+    ghost use Rattle.bpf_text.specs.Form.{text_of, cell_items};
 
-    ghost output = { λ x. Some (text_of (cell x.0 x.1 x.2 [])) };
+    ghost output = { λ x. Some (text_of (cell_items x.0 x.1 x.2 [])) };
 
     fn fmt<W: fmt::Write>(&self, f: &mut fmt::Formatter<W>) -> fmt::Result {
         let size = self.0;

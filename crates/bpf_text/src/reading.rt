@@ -1,9 +1,9 @@
 //! One line's tokens read as an instruction.
 
 ghost use Rattle.std.specs.Prelude.{map};
-ghost use Rattle.bpf_text.specs.Reader.Look.{look};
-ghost use Rattle.bpf_text.specs.Reader.Lines.{plain, ends, statement_at, line_at};
-ghost use Rattle.bpf_text.specs.Reader.Judging.{Judged};
+ghost use Rattle.bpf_text.specs.Private.Look.{look};
+ghost use Rattle.bpf_text.specs.Private.Lines.{plain, ends, statement_at, line_at};
+ghost use Rattle.bpf_text.specs.Private.Judging.{Judged};
 
 mod address;
 mod arithmetic;
@@ -54,7 +54,7 @@ pub(crate) fn ends<'a>(insn: Insn, tokens: &[Token<'a>]) -> Result<Draft<'a>, Li
 }
 
 /// Behind a line's first word.
-#[tactic(auto, unfolding(crate::specs::Reader::Lines::statement_at))]
+#[tactic(auto, unfolding(crate::specs::Private::Lines::statement_at))]
 fn statement<'a>(keyword: Keyword, tokens: &[Token<'a>]) -> Result<Draft<'a>, LineError>
     ensures { Judged result (statement_at keyword (map look tokens.now)) }
 {
@@ -70,7 +70,7 @@ fn statement<'a>(keyword: Keyword, tokens: &[Token<'a>]) -> Result<Draft<'a>, Li
 }
 
 /// The instruction that a line's tokens are, its label taken off.
-#[tactic(auto, unfolding(crate::specs::Reader::Lines::line_at))]
+#[tactic(auto, unfolding(crate::specs::Private::Lines::line_at))]
 pub fn instruction<'a>(tokens: &[Token<'a>]) -> Result<Draft<'a>, LineError>
     ensures { Judged result (line_at (map look tokens.now)) }
 {

@@ -3,7 +3,7 @@
 ghost use Rattle.std.specs.Prelude.{◌≡◌};
 ghost use Rattle.bpf_text.specs.Names.{register_text};
 ghost use Rattle.bpf_text.specs.Words.{register_of};
-ghost use Rattle.bpf_text.specs.Reader.Pieces.{same_width, same_register};
+ghost use Rattle.bpf_text.specs.Private.Pieces.{same_width, same_register};
 
 use bpf_insn::{Reg, Width};
 

@@ -2,7 +2,7 @@
 
 ghost use Rattle.std.specs.Prelude.{◌≡◌};
 ghost use Rattle.bpf_text.specs.Signs.{sign_text, sign_at};
-ghost use Rattle.bpf_text.specs.Reader.Pieces.{same_sign, first_sign};
+ghost use Rattle.bpf_text.specs.Private.Pieces.{same_sign, first_sign};
 
 /// A sign that forms have.
 #[derive(Clone, Copy)]

@@ -2,9 +2,9 @@
 
 ghost use Rattle.std.specs.Prelude.{◌≡◌, map, IfOk, IsOkUnless};
 ghost use Rattle.std.specs.Option.{option_copied};
-ghost use Rattle.bpf_text.specs.Reader.Look.{look};
+ghost use Rattle.bpf_text.specs.Private.Look.{look};
 ghost use Rattle.bpf_text.specs.Assembly.{label_of, unlabelled, IsBody, IsLine};
-ghost use Rattle.bpf_text.specs.Reader.Sources.{body_of, source_of};
+ghost use Rattle.bpf_text.specs.Private.Sources.{body_of, source_of};
 
 use crate::error::TextError;
 use crate::reading::{self, LineError};

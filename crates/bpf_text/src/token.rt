@@ -3,7 +3,7 @@
 ghost use Rattle.std.specs.Prelude.{◌≡◌, ◌<◌, ◌≤◌, ◌+◌, length, take_while, drop, map, IfOk, IsOkUnless, IsTrue, ◌↔◌};
 ghost use Rattle.bpf_text.specs.Signs.{sign_text};
 ghost use Rattle.bpf_text.specs.Tokens.{is_blank, word_len, front_tok, front_len, IsEnd, IsTokens};
-ghost use Rattle.bpf_text.specs.Reader.Look.{look};
+ghost use Rattle.bpf_text.specs.Private.Look.{look};
 
 use crate::error::TextError;
 use crate::keywords::Keyword;

@@ -4,8 +4,8 @@ ghost use Rattle.std.specs.Prelude.{◌≡◌, ◌≤◌, ◌^◌, Some, None, E
 ghost use Rattle.std.specs.List.{list_all};
 ghost use Rattle.std.specs.Option.{option_copied};
 ghost use Rattle.bpf_text.specs.Line.{name_of};
-ghost use Rattle.bpf_text.specs.Words.{is_word_byte, is_decimal_digit, begins_with_digit, number_tok, number_of, is_word, is_name, word_tok};
-ghost use Rattle.bpf_text.specs.Reader.Look.{look};
+ghost use Rattle.bpf_text.specs.Words.{is_word_byte, is_decimal_digit, begins_with_digit, number_tok, written_number, is_word, is_name, word_tok};
+ghost use Rattle.bpf_text.specs.Private.Look.{look};
 
 use crate::numbers::{self, Radix};
 use crate::token::Token;
@@ -112,9 +112,9 @@ pub enum NumberError {
 
 /// The number that a word is: decimal digits, or `0x` and hex digits.
 pub fn number(word: &[u8]) -> Result<u64, NumberError>
-    ensures number { IfOk result (λ n. number_of word.now ≡ Some n) }
-    ensures no_number { result ≡ Err NumberError.NoNumber → number_of word.now ≡ None }
-    ensures too_large { result ≡ Err NumberError.TooLarge → IsSomeAnd (number_of word.now) (λ n. 2 ^ 64 ≤ n) }
+    ensures number { IfOk result (λ n. written_number word.now ≡ Some n) }
+    ensures no_number { result ≡ Err NumberError.NoNumber → written_number word.now ≡ None }
+    ensures too_large { result ≡ Err NumberError.TooLarge → IsSomeAnd (written_number word.now) (λ n. 2 ^ 64 ≤ n) }
 {
     match number_token(word) {
         Token::Number(radix, digits) => match numbers::value(radix, digits) {

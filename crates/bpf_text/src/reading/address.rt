@@ -1,9 +1,9 @@
 //! Addresses, and the bytes there.
 
 ghost use Rattle.std.specs.Prelude.{◌≡◌, map};
-ghost use Rattle.bpf_text.specs.Reader.Look.{look};
-ghost use Rattle.bpf_text.specs.Reader.Pieces.{address_at, closed_at, pointer_at, cell_at, cell_width};
-ghost use Rattle.bpf_text.specs.Reader.Judging.{Gives, literal_value};
+ghost use Rattle.bpf_text.specs.Private.Look.{look};
+ghost use Rattle.bpf_text.specs.Private.Pieces.{address_at, closed_at, pointer_at, cell_at, cell_width};
+ghost use Rattle.bpf_text.specs.Private.Judging.{Gives, literal_value};
 
 use crate::keywords::Keyword;
 use crate::numbers::Literal;
@@ -12,7 +12,7 @@ use crate::token::Token;
 use bpf_insn::{Reg, Size, Width};
 
 /// Reads `R + n` or `R - n`: the base, the offset, and what follows.
-#[tactic(auto, unfolding(crate::specs::Reader::Pieces::address_at))]
+#[tactic(auto, unfolding(crate::specs::Private::Pieces::address_at))]
 pub fn address<'t, 'a>(tokens: &'t [Token<'a>]) -> Option<(Reg, Literal<'a>, &'t [Token<'a>])>
     ensures { Gives (λ a. record {
       base = a.0;
@@ -38,7 +38,7 @@ pub fn address<'t, 'a>(tokens: &'t [Token<'a>]) -> Option<(Reg, Literal<'a>, &'t
 }
 
 /// Behind `(u8 *)(R + n`: the size, the base, the offset, and what follows.
-#[tactic(auto, unfolding(crate::specs::Reader::Pieces::closed_at))]
+#[tactic(auto, unfolding(crate::specs::Private::Pieces::closed_at))]
 fn closed<'t, 'a>(
     size: Keyword,
     base: Reg,
@@ -60,7 +60,7 @@ fn closed<'t, 'a>(
 }
 
 /// Behind `(u8 *`.
-#[tactic(auto, unfolding(crate::specs::Reader::Pieces::pointer_at))]
+#[tactic(auto, unfolding(crate::specs::Private::Pieces::pointer_at))]
 fn pointer<'t, 'a>(
     size: Keyword,
     tokens: &'t [Token<'a>],
@@ -82,7 +82,7 @@ fn pointer<'t, 'a>(
 }
 
 /// Reads `(u8 *)(R + n)`: the size, the base, the offset, and what follows.
-#[tactic(auto, unfolding(crate::specs::Reader::Pieces::cell_at))]
+#[tactic(auto, unfolding(crate::specs::Private::Pieces::cell_at))]
 pub fn cell<'t, 'a>(tokens: &'t [Token<'a>]) -> Option<(Keyword, Reg, Literal<'a>, &'t [Token<'a>])>
     ensures { Gives (λ c. record {
       size = c.0;
@@ -103,7 +103,7 @@ pub fn cell<'t, 'a>(tokens: &'t [Token<'a>]) -> Option<(Keyword, Reg, Literal<'a
 }
 
 /// The width of an atomic operation on as many bytes.
-#[tactic(auto, unfolding(crate::specs::Reader::Pieces::cell_width))]
+#[tactic(auto, unfolding(crate::specs::Private::Pieces::cell_width))]
 pub fn cell_width(size: Keyword) -> Option<Width>
     ensures { result ≡ cell_width size }
 {

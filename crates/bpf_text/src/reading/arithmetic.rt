@@ -1,10 +1,10 @@
 //! Operations on a register, sign extensions and byte swaps.
 
 ghost use Rattle.std.specs.Prelude.{◌≡◌, map};
-ghost use Rattle.bpf_text.specs.Reader.Look.{look};
-ghost use Rattle.bpf_text.specs.Reader.Lines.{alu_at, alu_end, operation_at, extend_at, swap_at};
-ghost use Rattle.bpf_text.specs.Reader.Pieces.{extension_of};
-ghost use Rattle.bpf_text.specs.Reader.Judging.{Judged, operand_of};
+ghost use Rattle.bpf_text.specs.Private.Look.{look};
+ghost use Rattle.bpf_text.specs.Private.Lines.{alu_at, alu_end, operation_at, extend_at, swap_at};
+ghost use Rattle.bpf_text.specs.Private.Pieces.{extension_of};
+ghost use Rattle.bpf_text.specs.Private.Judging.{Judged, operand_of};
 
 use crate::keywords::Keyword;
 use crate::reading::operand::{self, RawOperand};
@@ -15,7 +15,7 @@ use crate::{operators, registers};
 use bpf_insn::{AluOp, ByteSwap, Insn, Reg, SignExtension, SignedSize, SwapWidth, Width};
 
 /// Behind the second operand.
-#[tactic(auto, unfolding(crate::specs::Reader::Lines::alu_end))]
+#[tactic(auto, unfolding(crate::specs::Private::Lines::alu_end))]
 fn alu_end<'a>(
     width: Width,
     dst: Reg,
@@ -42,7 +42,7 @@ fn alu_end<'a>(
 }
 
 /// Behind an operation's sign.
-#[tactic(auto, unfolding(crate::specs::Reader::Lines::alu_at))]
+#[tactic(auto, unfolding(crate::specs::Private::Lines::alu_at))]
 pub(crate) fn alu<'a>(
     width: Width,
     dst: Reg,
@@ -58,7 +58,7 @@ pub(crate) fn alu<'a>(
 }
 
 /// Behind a register: an operation's sign, and the second operand.
-#[tactic(auto, unfolding(crate::specs::Reader::Lines::operation_at))]
+#[tactic(auto, unfolding(crate::specs::Private::Lines::operation_at))]
 pub(crate) fn operation<'a>(
     width: Width,
     dst: Reg,
@@ -75,7 +75,7 @@ pub(crate) fn operation<'a>(
     alu(width, dst, op, rest)
 }
 
-#[tactic(auto, unfolding(crate::specs::Reader::Pieces::extension_of))]
+#[tactic(auto, unfolding(crate::specs::Private::Pieces::extension_of))]
 fn extension(width: Width, size: SignedSize) -> Option<SignExtension>
     ensures { result ≡ extension_of width size }
 {
@@ -90,7 +90,7 @@ fn extension(width: Width, size: SignedSize) -> Option<SignExtension>
 }
 
 /// Behind `= (`.
-#[tactic(auto, unfolding(crate::specs::Reader::Lines::extend_at))]
+#[tactic(auto, unfolding(crate::specs::Private::Lines::extend_at))]
 pub(crate) fn sign_extension<'a>(
     width: Width,
     dst: Reg,
@@ -126,7 +126,7 @@ pub(crate) fn sign_extension<'a>(
 }
 
 /// Behind `R = be16`.
-#[tactic(auto, unfolding(crate::specs::Reader::Lines::swap_at))]
+#[tactic(auto, unfolding(crate::specs::Private::Lines::swap_at))]
 pub(crate) fn swap<'a>(
     width: Width,
     dst: Reg,

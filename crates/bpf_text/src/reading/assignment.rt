@@ -2,9 +2,9 @@
 //! negation.
 
 ghost use Rattle.std.specs.Prelude.{map};
-ghost use Rattle.bpf_text.specs.Reader.Look.{look, numeral_value};
-ghost use Rattle.bpf_text.specs.Reader.Lines.{map_at, keyword_at, moved_at, wide_at, negative_at, number_at, assigned_at, register_at};
-ghost use Rattle.bpf_text.specs.Reader.Judging.{Judged, literal_value};
+ghost use Rattle.bpf_text.specs.Private.Look.{look, numeral_value};
+ghost use Rattle.bpf_text.specs.Private.Lines.{map_at, keyword_at, moved_at, wide_at, negative_at, number_at, assigned_at, register_at};
+ghost use Rattle.bpf_text.specs.Private.Judging.{Judged, literal_value};
 
 use crate::keywords::Keyword;
 use crate::numbers::{self, Literal, Radix};
@@ -15,7 +15,7 @@ use crate::{atomics, registers};
 use bpf_insn::{AluOp, Insn, Operand, Reg, Width};
 
 /// Behind `R = map`.
-#[tactic(auto, unfolding(crate::specs::Reader::Lines::map_at))]
+#[tactic(auto, unfolding(crate::specs::Private::Lines::map_at))]
 fn map<'a>(width: Width, dst: Reg, tokens: &[Token<'a>]) -> Result<Draft<'a>, LineError>
     ensures { Judged result (map_at width dst (map look tokens.now)) }
 {
@@ -31,7 +31,7 @@ fn map<'a>(width: Width, dst: Reg, tokens: &[Token<'a>]) -> Result<Draft<'a>, Li
 }
 
 /// Behind `=` and a keyword.
-#[tactic(auto, unfolding(crate::specs::Reader::Lines::keyword_at))]
+#[tactic(auto, unfolding(crate::specs::Private::Lines::keyword_at))]
 fn assigned_by<'a>(
     width: Width,
     dst: Reg,
@@ -62,7 +62,7 @@ fn assigned_by<'a>(
 }
 
 /// An immediate that is moved, where the line ends.
-#[tactic(auto, unfolding(crate::specs::Reader::Lines::moved_at))]
+#[tactic(auto, unfolding(crate::specs::Private::Lines::moved_at))]
 fn moved<'a>(
     width: Width,
     dst: Reg,
@@ -90,7 +90,7 @@ fn moved<'a>(
 }
 
 /// Behind `= -`.
-#[tactic(auto, unfolding(crate::specs::Reader::Lines::negative_at))]
+#[tactic(auto, unfolding(crate::specs::Private::Lines::negative_at))]
 fn negative<'a>(width: Width, dst: Reg, tokens: &[Token<'a>]) -> Result<Draft<'a>, LineError>
     ensures { Judged result (negative_at width dst (map look tokens.now)) }
 {
@@ -110,7 +110,7 @@ fn negative<'a>(width: Width, dst: Reg, tokens: &[Token<'a>]) -> Result<Draft<'a
 }
 
 /// Behind `= n ll`.
-#[tactic(auto, unfolding(crate::specs::Reader::Lines::wide_at))]
+#[tactic(auto, unfolding(crate::specs::Private::Lines::wide_at))]
 fn wide<'a>(dst: Reg, number: Literal<'a>, tokens: &[Token<'a>]) -> Result<Draft<'a>, LineError>
     ensures { Judged
         result (wide_at dst (numeral_value number.entry.radix number.entry.digits.now)
@@ -128,7 +128,7 @@ fn wide<'a>(dst: Reg, number: Literal<'a>, tokens: &[Token<'a>]) -> Result<Draft
 }
 
 /// Behind `= n`.
-#[tactic(auto, unfolding(crate::specs::Reader::Lines::number_at))]
+#[tactic(auto, unfolding(crate::specs::Private::Lines::number_at))]
 fn number<'a>(
     width: Width,
     dst: Reg,
@@ -146,7 +146,7 @@ fn number<'a>(
 }
 
 /// Behind `=`.
-#[tactic(auto, unfolding(crate::specs::Reader::Lines::assigned_at))]
+#[tactic(auto, unfolding(crate::specs::Private::Lines::assigned_at))]
 fn assigned<'a>(width: Width, dst: Reg, tokens: &[Token<'a>]) -> Result<Draft<'a>, LineError>
     ensures { Judged result (assigned_at width dst (map look tokens.now)) }
 {
@@ -161,7 +161,7 @@ fn assigned<'a>(width: Width, dst: Reg, tokens: &[Token<'a>]) -> Result<Draft<'a
 }
 
 /// Behind a register.
-#[tactic(auto, unfolding(crate::specs::Reader::Lines::register_at))]
+#[tactic(auto, unfolding(crate::specs::Private::Lines::register_at))]
 pub(crate) fn register<'a>(
     width: Width,
     dst: Reg,

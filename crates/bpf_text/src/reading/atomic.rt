@@ -1,9 +1,9 @@
 //! Atomic operations: those that `lock` begins, and those whose result a register takes.
 
 ghost use Rattle.std.specs.Prelude.{map};
-ghost use Rattle.bpf_text.specs.Reader.Look.{look};
-ghost use Rattle.bpf_text.specs.Reader.Lines.{atomic_end, atomic_at, fetch_at, fetched_at, exchange_at, compared_at, expected_at, compare_exchange_at, locked_at, lock_at};
-ghost use Rattle.bpf_text.specs.Reader.Judging.{Judged, literal_value};
+ghost use Rattle.bpf_text.specs.Private.Look.{look};
+ghost use Rattle.bpf_text.specs.Private.Lines.{atomic_end, atomic_at, fetch_at, fetched_at, exchange_at, compared_at, expected_at, compare_exchange_at, locked_at, lock_at};
+ghost use Rattle.bpf_text.specs.Private.Judging.{Judged, literal_value};
 
 use crate::keywords::Keyword;
 use crate::numbers::Literal;
@@ -14,7 +14,7 @@ use crate::{atomics, registers};
 use bpf_insn::{AtomicOp, Insn, Reg, Width};
 
 /// The atomic operation, where the line ends.
-#[tactic(auto, unfolding(crate::specs::Reader::Lines::atomic_end))]
+#[tactic(auto, unfolding(crate::specs::Private::Lines::atomic_end))]
 fn atomic_end<'a>(
     op: AtomicOp,
     width: Width,
@@ -44,7 +44,7 @@ fn atomic_end<'a>(
 }
 
 /// Behind the place of an operation that fetches: `, R)`.
-#[tactic(auto, unfolding(crate::specs::Reader::Lines::atomic_at))]
+#[tactic(auto, unfolding(crate::specs::Private::Lines::atomic_at))]
 fn fetched<'a>(
     op: AtomicOp,
     width: Width,
@@ -74,7 +74,7 @@ fn fetched<'a>(
 }
 
 /// Behind `= atomic_fetch_add`.
-#[tactic(auto, unfolding(crate::specs::Reader::Lines::fetch_at))]
+#[tactic(auto, unfolding(crate::specs::Private::Lines::fetch_at))]
 fn fetch<'a>(
     op: AtomicOp,
     width: Width,
@@ -102,7 +102,7 @@ fn fetch<'a>(
 }
 
 /// Behind `=` and a name.
-#[tactic(auto, unfolding(crate::specs::Reader::Lines::fetched_at))]
+#[tactic(auto, unfolding(crate::specs::Private::Lines::fetched_at))]
 pub(crate) fn fetched_by<'a>(
     width: Width,
     dst: Reg,
@@ -118,7 +118,7 @@ pub(crate) fn fetched_by<'a>(
 }
 
 /// Behind `= xchg_64`.
-#[tactic(auto, unfolding(crate::specs::Reader::Lines::exchange_at))]
+#[tactic(auto, unfolding(crate::specs::Private::Lines::exchange_at))]
 pub(crate) fn exchange<'a>(
     width: Width,
     dst: Reg,
@@ -138,7 +138,7 @@ pub(crate) fn exchange<'a>(
 }
 
 /// Behind `cmpxchg_64(R + n, r0`.
-#[tactic(auto, unfolding(crate::specs::Reader::Lines::compared_at))]
+#[tactic(auto, unfolding(crate::specs::Private::Lines::compared_at))]
 fn compared<'a>(
     width: Width,
     base: Reg,
@@ -166,7 +166,7 @@ fn compared<'a>(
 }
 
 /// Behind `cmpxchg_64(R + n`.
-#[tactic(auto, unfolding(crate::specs::Reader::Lines::expected_at))]
+#[tactic(auto, unfolding(crate::specs::Private::Lines::expected_at))]
 fn expected<'a>(
     width: Width,
     base: Reg,
@@ -192,7 +192,7 @@ fn expected<'a>(
 }
 
 /// Behind `R = cmpxchg_64`.
-#[tactic(auto, unfolding(crate::specs::Reader::Lines::compare_exchange_at))]
+#[tactic(auto, unfolding(crate::specs::Private::Lines::compare_exchange_at))]
 pub(crate) fn compare_exchange<'a>(
     width: Width,
     dst: Reg,
@@ -212,7 +212,7 @@ pub(crate) fn compare_exchange<'a>(
 }
 
 /// Behind `lock *(u64 *)(R + n)`.
-#[tactic(auto, unfolding(crate::specs::Reader::Lines::locked_at))]
+#[tactic(auto, unfolding(crate::specs::Private::Lines::locked_at))]
 fn locked<'a>(
     width: Width,
     base: Reg,
@@ -237,7 +237,7 @@ fn locked<'a>(
 }
 
 /// Behind `lock`.
-#[tactic(auto, unfolding(crate::specs::Reader::Lines::lock_at))]
+#[tactic(auto, unfolding(crate::specs::Private::Lines::lock_at))]
 pub(crate) fn lock<'a>(tokens: &[Token<'a>]) -> Result<Draft<'a>, LineError>
     ensures { Judged result (lock_at (map look tokens.now)) }
 {

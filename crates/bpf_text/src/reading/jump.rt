@@ -1,9 +1,9 @@
 //! Jumps, branches and calls.
 
 ghost use Rattle.std.specs.Prelude.{map};
-ghost use Rattle.bpf_text.specs.Reader.Look.{look, numeral_value};
-ghost use Rattle.bpf_text.specs.Reader.Lines.{jump_at, jump_long_at, branch_to, branch_end, branch_at, helper_at, call_local_at, call_at};
-ghost use Rattle.bpf_text.specs.Reader.Judging.{Judged, operand_of, target_of};
+ghost use Rattle.bpf_text.specs.Private.Look.{look, numeral_value};
+ghost use Rattle.bpf_text.specs.Private.Lines.{jump_at, jump_long_at, branch_to, branch_end, branch_at, helper_at, call_local_at, call_at};
+ghost use Rattle.bpf_text.specs.Private.Judging.{Judged, operand_of, target_of};
 
 use crate::keywords::Keyword;
 use crate::numbers::{self, Radix};
@@ -15,7 +15,7 @@ use crate::token::Token;
 use bpf_insn::{Condition, Insn, Reg, Width};
 
 /// Behind `goto`.
-#[tactic(auto, unfolding(crate::specs::Reader::Lines::jump_at))]
+#[tactic(auto, unfolding(crate::specs::Private::Lines::jump_at))]
 pub(crate) fn jump<'a>(tokens: &[Token<'a>]) -> Result<Draft<'a>, LineError>
     ensures { Judged result (jump_at (map look tokens.now)) }
 {
@@ -35,7 +35,7 @@ pub(crate) fn jump<'a>(tokens: &[Token<'a>]) -> Result<Draft<'a>, LineError>
 }
 
 /// Behind `gotol`.
-#[tactic(auto, unfolding(crate::specs::Reader::Lines::jump_long_at))]
+#[tactic(auto, unfolding(crate::specs::Private::Lines::jump_long_at))]
 pub(crate) fn jump_long<'a>(tokens: &[Token<'a>]) -> Result<Draft<'a>, LineError>
     ensures { Judged result (jump_long_at (map look tokens.now)) }
 {
@@ -55,7 +55,7 @@ pub(crate) fn jump_long<'a>(tokens: &[Token<'a>]) -> Result<Draft<'a>, LineError
 }
 
 /// A branch that its target ends.
-#[tactic(auto, unfolding(crate::specs::Reader::Lines::branch_to))]
+#[tactic(auto, unfolding(crate::specs::Private::Lines::branch_to))]
 fn branch_to<'a>(
     width: Width,
     condition: Condition,
@@ -96,7 +96,7 @@ fn branch_to<'a>(
 }
 
 /// Behind `if R == R`.
-#[tactic(auto, unfolding(crate::specs::Reader::Lines::branch_end))]
+#[tactic(auto, unfolding(crate::specs::Private::Lines::branch_end))]
 fn branch_end<'a>(
     width: Width,
     condition: Condition,
@@ -118,7 +118,7 @@ fn branch_end<'a>(
 }
 
 /// Behind `if`.
-#[tactic(auto, unfolding(crate::specs::Reader::Lines::branch_at))]
+#[tactic(auto, unfolding(crate::specs::Private::Lines::branch_at))]
 pub(crate) fn branch<'a>(tokens: &[Token<'a>]) -> Result<Draft<'a>, LineError>
     ensures { Judged result (branch_at (map look tokens.now)) }
 {
@@ -140,7 +140,7 @@ pub(crate) fn branch<'a>(tokens: &[Token<'a>]) -> Result<Draft<'a>, LineError>
 }
 
 /// Behind `call`, a number.
-#[tactic(auto, unfolding(crate::specs::Reader::Lines::helper_at))]
+#[tactic(auto, unfolding(crate::specs::Private::Lines::helper_at))]
 fn call_helper<'a>(
     radix: Radix,
     digits: &'a [u8],
@@ -160,7 +160,7 @@ fn call_helper<'a>(
 }
 
 /// Behind `call`, a target.
-#[tactic(auto, unfolding(crate::specs::Reader::Lines::call_local_at))]
+#[tactic(auto, unfolding(crate::specs::Private::Lines::call_local_at))]
 fn call_local<'a>(tokens: &[Token<'a>]) -> Result<Draft<'a>, LineError>
     ensures { Judged result (call_local_at (map look tokens.now)) }
 {
@@ -180,7 +180,7 @@ fn call_local<'a>(tokens: &[Token<'a>]) -> Result<Draft<'a>, LineError>
 }
 
 /// Behind `call`.
-#[tactic(auto, unfolding(crate::specs::Reader::Lines::call_at))]
+#[tactic(auto, unfolding(crate::specs::Private::Lines::call_at))]
 pub(crate) fn call<'a>(tokens: &[Token<'a>]) -> Result<Draft<'a>, LineError>
     ensures { Judged result (call_at (map look tokens.now)) }
 {

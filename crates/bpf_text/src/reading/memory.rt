@@ -1,9 +1,9 @@
 //! Loads and stores.
 
 ghost use Rattle.std.specs.Prelude.{map};
-ghost use Rattle.bpf_text.specs.Reader.Look.{look};
-ghost use Rattle.bpf_text.specs.Reader.Lines.{loaded_at, load_at, stored_end, stored_at, store_at};
-ghost use Rattle.bpf_text.specs.Reader.Judging.{Judged, literal_value, operand_of};
+ghost use Rattle.bpf_text.specs.Private.Look.{look};
+ghost use Rattle.bpf_text.specs.Private.Lines.{loaded_at, load_at, stored_end, stored_at, store_at};
+ghost use Rattle.bpf_text.specs.Private.Judging.{Judged, literal_value, operand_of};
 
 use crate::keywords::Keyword;
 use crate::numbers::Literal;
@@ -14,7 +14,7 @@ use crate::token::Token;
 use bpf_insn::{Insn, Operand, Reg, Width};
 
 /// Behind `R = *(u8 *)(R + n)`.
-#[tactic(auto, unfolding(crate::specs::Reader::Lines::loaded_at))]
+#[tactic(auto, unfolding(crate::specs::Private::Lines::loaded_at))]
 fn loaded<'a>(
     dst: Reg,
     size: Keyword,
@@ -52,7 +52,7 @@ fn loaded<'a>(
 }
 
 /// Behind `= *`.
-#[tactic(auto, unfolding(crate::specs::Reader::Lines::load_at))]
+#[tactic(auto, unfolding(crate::specs::Private::Lines::load_at))]
 pub(crate) fn load<'a>(width: Width, dst: Reg, tokens: &[Token<'a>]) -> Result<Draft<'a>, LineError>
     ensures { Judged result (load_at width dst (map look tokens.now)) }
 {
@@ -68,7 +68,7 @@ pub(crate) fn load<'a>(width: Width, dst: Reg, tokens: &[Token<'a>]) -> Result<D
 }
 
 /// Behind `*(u8 *)(R + n) = R`.
-#[tactic(auto, unfolding(crate::specs::Reader::Lines::stored_end))]
+#[tactic(auto, unfolding(crate::specs::Private::Lines::stored_end))]
 fn stored_end<'a>(
     size: Keyword,
     base: Reg,
@@ -108,7 +108,7 @@ fn stored_end<'a>(
 }
 
 /// Behind `*(u8 *)(R + n)`.
-#[tactic(auto, unfolding(crate::specs::Reader::Lines::stored_at))]
+#[tactic(auto, unfolding(crate::specs::Private::Lines::stored_at))]
 fn stored<'a>(
     size: Keyword,
     base: Reg,
@@ -129,7 +129,7 @@ fn stored<'a>(
 }
 
 /// Behind `*`.
-#[tactic(auto, unfolding(crate::specs::Reader::Lines::store_at))]
+#[tactic(auto, unfolding(crate::specs::Private::Lines::store_at))]
 pub(crate) fn store<'a>(tokens: &[Token<'a>]) -> Result<Draft<'a>, LineError>
     ensures { Judged result (store_at (map look tokens.now)) }
 {

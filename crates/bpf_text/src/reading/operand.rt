@@ -2,9 +2,9 @@
 
 ghost use Rattle.std.specs.Prelude.{◌≡◌, map, MatchOption};
 ghost use Rattle.bpf_insn.specs.declared.instruction.Operand.TheVariants as operand;
-ghost use Rattle.bpf_text.specs.Reader.Look.{look, numeral_value};
-ghost use Rattle.bpf_text.specs.Reader.Pieces.{operand_at};
-ghost use Rattle.bpf_text.specs.Reader.Judging.{Gives, signed_of, operand_of, FitsOperand};
+ghost use Rattle.bpf_text.specs.Private.Look.{look, numeral_value};
+ghost use Rattle.bpf_text.specs.Private.Pieces.{operand_at};
+ghost use Rattle.bpf_text.specs.Private.Judging.{Gives, signed_of, operand_of, FitsOperand};
 
 use crate::numbers::{Literal, Radix};
 use crate::registers;
@@ -42,7 +42,7 @@ impl<'a> RawOperand<'a> {
 }
 
 /// Reads the second operand, of this width, and gives what follows.
-#[tactic(auto, unfolding(crate::specs::Reader::Pieces::operand_at))]
+#[tactic(auto, unfolding(crate::specs::Private::Pieces::operand_at))]
 pub fn operand<'t, 'a>(
     width: Width,
     tokens: &'t [Token<'a>],

@@ -1,9 +1,9 @@
 //! What stands between two operands.
 
 ghost use Rattle.std.specs.Prelude.{map};
-ghost use Rattle.bpf_text.specs.Reader.Look.{look};
-ghost use Rattle.bpf_text.specs.Reader.Pieces.{operator_at};
-ghost use Rattle.bpf_text.specs.Reader.Judging.{Gives};
+ghost use Rattle.bpf_text.specs.Private.Look.{look};
+ghost use Rattle.bpf_text.specs.Private.Pieces.{operator_at};
+ghost use Rattle.bpf_text.specs.Private.Judging.{Gives};
 
 use crate::keywords::Keyword;
 use crate::operators::Operator;
@@ -11,7 +11,7 @@ use crate::signs::Sign;
 use crate::token::Token;
 
 /// Reads a sign, perhaps behind `s`, and gives what follows.
-#[tactic(auto, unfolding(crate::specs::Reader::Pieces::operator_at))]
+#[tactic(auto, unfolding(crate::specs::Private::Pieces::operator_at))]
 pub fn operator<'t, 'a>(tokens: &'t [Token<'a>]) -> Option<(Operator, &'t [Token<'a>])>
     ensures { Gives (λ m. record { operator = m.0; rest = map look m.1.now })
         result (operator_at (map look tokens.now)) }

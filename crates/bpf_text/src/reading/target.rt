@@ -1,9 +1,9 @@
 //! A jump's target.
 
 ghost use Rattle.std.specs.Prelude.{◌≡◌, map, None};
-ghost use Rattle.bpf_text.specs.Reader.Look.{look, numeral_value};
-ghost use Rattle.bpf_text.specs.Reader.Pieces.{label_at, target_at};
-ghost use Rattle.bpf_text.specs.Reader.Judging.{Gives, signed_of, target_of};
+ghost use Rattle.bpf_text.specs.Private.Look.{look, numeral_value};
+ghost use Rattle.bpf_text.specs.Private.Pieces.{label_at, target_at};
+ghost use Rattle.bpf_text.specs.Private.Judging.{Gives, signed_of, target_of};
 
 use crate::numbers::{Literal, Radix};
 use crate::signs::Sign;
@@ -31,7 +31,7 @@ impl<'a> RawTarget<'a> {
 }
 
 /// Reads a target, which ends its line.
-#[tactic(auto, unfolding(crate::specs::Reader::Pieces::target_at, crate::specs::Reader::Pieces::label_at))]
+#[tactic(auto, unfolding(crate::specs::Private::Pieces::target_at, crate::specs::Private::Pieces::label_at))]
 pub fn target<'a>(tokens: &[Token<'a>]) -> Option<RawTarget<'a>>
     ensures { Gives target_of result (target_at (map look tokens.now)) }
 {

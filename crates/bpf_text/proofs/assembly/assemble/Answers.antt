@@ -1,7 +1,7 @@
 use Rattle.std.proofs.Common.{List, ℕ, map, subst}
 use Rattle.bpf_text.specs.declared.assembly.Kept.{Kept}
-use Rattle.bpf_text.specs.Reader.Labels.{found}
-use Rattle.bpf_text.specs.Reader.Sources.{kept_view, kept_program, Gathers}
+use Rattle.bpf_text.specs.Private.Labels.{found}
+use Rattle.bpf_text.specs.Private.Sources.{kept_view, kept_program, Gathers}
 use Rattle.bpf_text.proofs.Unique.{Answers, gathered_outcome, answered, answered_refusal, answered_only}
 use Rattle.bpf_text.proofs.assembly.assemble.Goals as goal
 use Rattle.bpf_text.proofs.assembly.assemble.Goals.{After-drop-lines}

@@ -1,7 +1,7 @@
 use Rattle.std.proofs.Common.{ℕ, ◌≡◌, List, map, Option, Some, None, refl, ap, subst, arith}
 use Rattle.std.specs.Option.{option_copied}
-use Rattle.bpf_text.specs.Reader.Labels.{found}
-use Rattle.bpf_text.specs.Reader.Sources.{source_of, kept_view}
+use Rattle.bpf_text.specs.Private.Labels.{found}
+use Rattle.bpf_text.specs.Private.Sources.{source_of, kept_view}
 use Rattle.bpf_text.proofs.TextLemmas.{Gathered, gathered_start, gathered_next, gathered_end, small_next, short_lines}
 use Rattle.bpf_text.proofs.assembly.gather.Goals as goal
 

@@ -1,6 +1,6 @@
 use Rattle.std.proofs.Common.{ap, sym, ◌∙◌, map, arith}
-use Rattle.bpf_text.specs.Reader.Labels.{found}
-use Rattle.bpf_text.specs.Reader.Sources.{kept_view, kept_program}
+use Rattle.bpf_text.specs.Private.Labels.{found}
+use Rattle.bpf_text.specs.Private.Sources.{kept_view, kept_program}
 use Rattle.bpf_text.proofs.TextLemmas.{behind, behind_nothing, meant_next, meant_whole}
 use Rattle.bpf_text.proofs.assembly.program.Goals as goal
 

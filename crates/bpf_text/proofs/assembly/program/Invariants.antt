@@ -1,6 +1,6 @@
 use Rattle.std.proofs.Common.{◌≡◌, ◌≤◌, ◌*◌, map, drop}
-use Rattle.bpf_text.specs.Reader.Labels.{found}
-use Rattle.bpf_text.specs.Reader.Sources.{kept_view, kept_program}
+use Rattle.bpf_text.specs.Private.Labels.{found}
+use Rattle.bpf_text.specs.Private.Sources.{kept_view, kept_program}
 use Rattle.bpf_text.proofs.TextLemmas.{behind}
 use Rattle.bpf_text.proofs.assembly.program.Given as goal
 

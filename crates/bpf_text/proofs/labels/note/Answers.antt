@@ -1,6 +1,6 @@
 use Rattle.std.proofs.Common.{◌≡◌, true, false, is_some, ◌∙◌}
 use Rattle.std.proofs.lemmas.Map.Text.{hash_map_updates_str}
-use Rattle.bpf_text.specs.Reader.Labels.{found}
+use Rattle.bpf_text.specs.Private.Labels.{found}
 use Rattle.bpf_text.proofs.LabelLemmas.{kept, added}
 use Rattle.bpf_text.proofs.labels.note.Goals as goal
 

@@ -1,6 +1,6 @@
 use Rattle.std.proofs.Common.{◌≤◌, List, [], ◌∷◌, length, map, ◌≢◌, arith}
 use Rattle.bpf_text.specs.declared.token.Token.{Token}
-use Rattle.bpf_text.specs.Reader.Look.{look}
+use Rattle.bpf_text.specs.Private.Look.{look}
 use Rattle.bpf_text.proofs.BodyLemmas.{body_code, body_refused}
 use Rattle.bpf_text.proofs.source.behind_label.Goals as goal
 

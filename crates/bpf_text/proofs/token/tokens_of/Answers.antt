@@ -1,5 +1,5 @@
 use Rattle.std.proofs.Common.{Bool, true, false, drop, rules, map, ◌++◌, ◌∷◌, [], ◌≡◌, ap, sym, subst, List}
-use Rattle.bpf_text.specs.Reader.Look.{look}
+use Rattle.bpf_text.specs.Private.Look.{look}
 use Rattle.std.specs.Prelude.{IsTrue}
 use Rattle.bpf_text.specs.Token.{Tok}
 use Rattle.bpf_text.specs.Tokens.{IsEnd}

@@ -1,5 +1,5 @@
 use Rattle.std.proofs.Common.{◌≤◌, ◌-◌, length, map}
-use Rattle.bpf_text.specs.Reader.Look.{look}
+use Rattle.bpf_text.specs.Private.Look.{look}
 use Rattle.bpf_text.proofs.Scanning.{Reached}
 use Rattle.bpf_text.proofs.token.tokens_of.Given as goal
 

@@ -13,8 +13,8 @@ use Rattle.bpf_text.specs.declared.reading.operand.RawOperand.{RawOperand}
 use Rattle.bpf_text.specs.declared.reading.operand.RawOperand.TheVariants as raw
 use Rattle.bpf_text.specs.declared.reading.target.RawTarget.{RawTarget}
 use Rattle.bpf_text.specs.declared.reading.target.RawTarget.TheVariants as target
-use Rattle.bpf_text.specs.Reader.Look.{numeral_value}
-use Rattle.bpf_text.specs.Reader.Pieces.{Target}
+use Rattle.bpf_text.specs.Private.Look.{numeral_value}
+use Rattle.bpf_text.specs.Private.Pieces.{Target}
 use Rattle.bpf_text.specs.Line.{Written}
 
 -- what an option answers, seen by view, is what is read
