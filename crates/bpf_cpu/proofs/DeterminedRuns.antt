@@ -28,7 +28,8 @@ use Rattle.bpf_cpu.specs.declared.outcome.Progress.{Progress}
 use Rattle.bpf_cpu.specs.declared.outcome.Progress.TheVariants.{On, Done}
 use Rattle.bpf_cpu.specs.declared.outcome.Outcome.{Outcome}
 use Rattle.bpf_cpu.specs.Row.{Helper, is_reached, plain_size}
-use Rattle.bpf_cpu.specs.Values.{is_covered, is_in_value, asks_value}
+use Rattle.bpf_helpers.specs.Held.{is_covered}
+use Rattle.bpf_cpu.specs.Values.{is_in_value, asks_value}
 use Rattle.bpf_cpu.specs.Step.{Executes, Step, MakesSteps}
 use Rattle.bpf_cpu.specs.State.{start, effective_address}
 use Rattle.bpf_cpu.proofs.HeldLaws.{held-quiet}

@@ -4,10 +4,10 @@ ghost use Rattle.std.specs.Prelude.{◌≡◌, ◌≢◌, ◌<◌, ◌%◌, ◌+
 ghost use Rattle.bpf_shared.specs.declared.events.Event.{Event};
 ghost use Rattle.bpf_shared.specs.Chain.{Chain};
 ghost use Rattle.bpf_mem.specs.Bytes.{length_of, size_of};
-ghost use Rattle.bpf_cpu.specs.Held.{AreHeld};
+ghost use Rattle.bpf_helpers.specs.Held.{AreHeld, is_covered, KeepsRun};
 ghost use Rattle.bpf_cpu.specs.Row.{Quiet};
-ghost use Rattle.bpf_cpu.specs.Values.{is_covered, event_size_of, event_op_of, LoadsValue, StoresValue, ChangesValue};
-ghost use Rattle.bpf_cpu.specs.Step.{Executes, KeepsRun};
+ghost use Rattle.bpf_cpu.specs.Values.{event_size_of, event_op_of, LoadsValue, StoresValue, ChangesValue};
+ghost use Rattle.bpf_cpu.specs.Step.{Executes};
 ghost use Rattle.bpf_cpu.specs.State.{with_register};
 ghost use Rattle.bpf_cpu.specs.Private.Execute.{progress_of};
 ghost use Rattle.bpf_cpu.specs.Private.Tries.{Tries, reading_of};

@@ -38,6 +38,14 @@ reaches held a = list_any (is_in a) held
 abbrev pub AreReached : List Span → ℕ → ℕ → Type 0
 AreReached held a n = (k : ℕ) → k < n → reaches held (a + k) ≡ true
 
+-- whether the n bytes from an address on are in a span
+abbrev pub covers : ℕ → ℕ → Span → Bool
+covers a n p = nat_le p.at a && (nat_le n p.size && nat_le (a - p.at) (p.size - n))
+
+-- whether they are in one of these spans
+abbrev pub is_covered : List Span → ℕ → ℕ → Bool
+is_covered spans a n = list_any (covers a n) spans
+
 -- what the calls of one CPU's run leave of a store: its shapes, who is in a run, what others hold
 pub record KeepsRun {S : Type 0} (shapes : S → List MapShape) (running : S → ℕ → Bool) (held : S → ℕ → Span → Bool) (cpu : ℕ) (old new : S) : Type 0 where
   pub shape : shapes new ≡ shapes old

@@ -2,7 +2,7 @@
 
 ghost use Rattle.std.specs.Prelude.{◌≡◌, ◌<◌, ◌≤◌, [], ◌↔◌, All, length, IsTrue, true, false};
 ghost use Rattle.bpf_shared.specs.Shape.{IsValueSpan};
-ghost use Rattle.bpf_helpers.specs.Held.{AreReached, has_span, max_held, reaches, with_span};
+ghost use Rattle.bpf_helpers.specs.Held.{AreReached, has_span, is_covered, max_held, reaches, with_span};
 
 use arrayvec::ArrayVec;
 use bpf_shared::Span;
@@ -80,6 +80,15 @@ impl HeldSpans {
             }
         }
         true
+    }
+
+    /// Whether one of them has all bytes from an address on, this many.
+    pub fn covers(&self, address: u64, length: u64) -> bool
+        ensures { result ≡ is_covered self.now address length }
+    {
+        self.spans.iter().any(|span| {
+            span.at <= address && length <= span.size && address - span.at <= span.size - length
+        })
     }
 
     /// Whether one more span would be too many.

@@ -22,7 +22,7 @@ use Rattle.bpf_cpu.specs.Step.{IsReady}
 use Rattle.bpf_cpu.specs.Task.{Task, InHand, with_stage}
 use Rattle.bpf_cpu.specs.Work.{IsNext}
 use Rattle.bpf_cpu.specs.Private.Lanes.{IsFirstJob, lane_of, stage_of, task_of, tasks_of, FitsLane, IsHand, IsBoard}
-use Rattle.bpf_cpu.specs.Held.{AreHeld}
+use Rattle.bpf_helpers.specs.Held.{AreHeld}
 use Rattle.bpf_cpu.proofs.RowLaws.{start_ready}
 use Rattle.bpf_cpu.proofs.HeldLaws.{nothing_held, others_without}
 use Rattle.bpf_cpu.proofs.ListLaws.{slice_get-set_same, slice_get-set_other}

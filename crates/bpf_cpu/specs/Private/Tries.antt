@@ -9,7 +9,7 @@ use Rattle.bpf_cpu.specs.declared.cpu.Cpu.{Cpu}
 use Rattle.bpf_cpu.specs.declared.outcome.Progress.{Progress}
 use Rattle.bpf_cpu.specs.declared.outcome.Fault.TheVariants.{BadAddress}
 use Rattle.bpf_cpu.specs.Row.{Faults}
-use Rattle.bpf_cpu.specs.Values.{is_covered}
+use Rattle.bpf_helpers.specs.Held.{is_covered}
 
 -- what a load puts in its register
 abbrev pub reading_of : Option SignExtension → ℕ → ℕ

@@ -5,8 +5,8 @@ ghost use Rattle.bpf_shared.specs.Store.{Plain};
 ghost use Rattle.bpf_shared.specs.Sound.{IsSoundStore};
 ghost use Rattle.bpf_shared.specs.Contents.{has_cpu, is_running, held_spans, shapes_of};
 ghost use Rattle.bpf_shared.specs.Contents as contents;
-ghost use Rattle.bpf_cpu.specs.Held.{AreHeld};
-ghost use Rattle.bpf_cpu.specs.Step.{IsReady, KeepsRun};
+ghost use Rattle.bpf_helpers.specs.Held.{AreHeld, KeepsRun};
+ghost use Rattle.bpf_cpu.specs.Step.{IsReady};
 ghost use Rattle.bpf_cpu.specs.Schedule.{Advances};
 ghost use Rattle.bpf_cpu.specs.Private.Lanes.{IsFirstJob, lane_of, listed};
 

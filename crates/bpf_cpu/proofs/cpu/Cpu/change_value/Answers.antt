@@ -7,7 +7,8 @@ use Rattle.bpf_mem.specs.Bytes.{length_of, size_of}
 use Rattle.bpf_cpu.specs.declared.cpu.Cpu.{Cpu}
 use Rattle.bpf_shared.proofs.Chains.{chain_nothing, chain_one}
 use Rattle.bpf_cpu.specs.State.{value}
-use Rattle.bpf_cpu.specs.Values.{event_size_of, event_op_of, is_covered, ChangesValue}
+use Rattle.bpf_helpers.specs.Held.{is_covered}
+use Rattle.bpf_cpu.specs.Values.{event_size_of, event_op_of, ChangesValue}
 use Rattle.bpf_cpu.proofs.ValueLaws.{held_place, refused}
 use Rattle.bpf_cpu.proofs.cpu.Cpu.change_value.Goals as goal
 

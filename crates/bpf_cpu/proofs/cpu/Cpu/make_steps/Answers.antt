@@ -2,7 +2,7 @@ use Rattle.std.proofs.Common.{◌≡◌, ℕ, [], ◌∙◌, refl, sym, subst, a
 use Rattle.bpf_shared.proofs.Chains.{chain_nothing}
 use Rattle.bpf_cpu.specs.declared.outcome.Progress.{Progress}
 use Rattle.bpf_cpu.specs.State.{at_pc}
-use Rattle.bpf_cpu.specs.Held.{AreHeld}
+use Rattle.bpf_helpers.specs.Held.{AreHeld}
 use Rattle.bpf_cpu.specs.Step.{Step}
 use Rattle.bpf_cpu.proofs.TableLaws.{start_short}
 use Rattle.bpf_cpu.proofs.StepsLaws.{IsUnderWay, begun, made_more, made_all, runs_out, chain_keeps}

@@ -8,7 +8,7 @@ use Rattle.bpf_shared.specs.declared.events.Event.TheVariants.{End}
 use Rattle.bpf_cpu.specs.declared.machine.lane.Phase.TheVariants.{Ended}
 use Rattle.bpf_cpu.specs.declared.machine.Turn.TheVariants.{Ran}
 use Rattle.bpf_cpu.specs.declared.machine.Turn.TheVariants as turn
-use Rattle.bpf_cpu.specs.Held.{AreHeld}
+use Rattle.bpf_helpers.specs.Held.{AreHeld}
 use Rattle.bpf_cpu.specs.Machine.{MachineState}
 use Rattle.bpf_cpu.specs.Private.Lanes.{lane_of, tasks_of}
 use Rattle.bpf_cpu.specs.Work.{HasInHand, Proceeds}
