@@ -1,8 +1,9 @@
 -- The depth of a map, a doubling at a time.
-use Rattle.std.proofs.Common.{◌≡◌, ℕ, zero, suc, pow-suc, ◌+◌, ◌-◌, ◌*◌, ◌%◌, ◌^◌, ◌<◌, ◌≤◌, true, false, nat_lt, refl, ap, ◌∙◌, arith}
+use Rattle.std.proofs.Common.{◌≡◌, ℕ, zero, suc, pow-suc, Bool, if◌then◌else◌, ◌+◌, ◌-◌, ◌*◌, ◌%◌, ◌^◌, ◌<◌, ◌≤◌, true, false, nat_lt, refl, ap, ◌∙◌, arith}
 use Rattle.std.proofs.lemmas.Bool.Decides.{nat_tests}
 use Rattle.std.proofs.Math.Pow.{pow_mono}
-use Rattle.hop_words.specs.Layout.{depth_from, power}
+use Rattle.bpf_shared.specs.declared.shapes.MapShape.{MapShape}
+use Rattle.hop_words.specs.Layout.{depth_from, depth, power}
 
 twice : (d : ℕ) → 2 * (64 * 2 ^ d) ≡ 64 * 2 ^ (d + 1)
 twice d = let e : suc d ≡ d + 1 = omega arith in let p = pow-suc 2 d in let q = ap (λ (n : ℕ). 2 ^ n) e in omega arith
@@ -35,3 +36,19 @@ low_power d few = pow_mono few
 -- how many words the segments have, in the code's arithmetic
 pub segment_count : (d : ℕ) → d ≤ 10 → (130 * 2 ^ d % 4294967296 ≡ 130 * power d) × (130 * 2 ^ d % 4294967296 ≤ 133120)
 segment_count d few = let p = power_is d in let m = low_power d few in (omega arith, omega arith)
+
+choose : (b : Bool) (x n : ℕ) → x ≤ n → (if b then 1 + x else 0) ≤ suc n
+choose true x n l = omega arith
+choose false x n l = omega arith
+
+below : (n room max : ℕ) → depth_from n room max ≤ n
+unfolding depth_from
+below zero room max = omega arith
+below (suc n) room max = choose (nat_lt room max) (depth_from n (2 * room) max) n (below n (2 * room) max)
+
+-- a depth is at most ten
+pub depth_most : (g : MapShape) → depth g ≤ 10
+depth_most g = below 10 64 g.max
+
+pub segments_are : (d : ℕ) → d ≤ 10 → 1 * 2 ^ d % 4294967296 ≡ power d
+segments_are d few = let p = power_is d in let m = low_power d few in omega arith

@@ -11,6 +11,8 @@ pub mod Owning
 pub mod Locking
 pub mod Guarded
 pub mod Opens
+pub mod Made
 pub mod Seats
 pub mod SegContract
 pub mod Inside
+pub mod Dealing

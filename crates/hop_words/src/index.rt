@@ -50,7 +50,7 @@ fn line_rest(words: u32) -> u32
 
 // How often the segments of a map double, from one on, until each key may have a place of 64.
 #[tactic(auto, using(crate::proofs::Depths::depth_on, crate::proofs::Depths::depth_stop, crate::proofs::Depths::depth_end))]
-fn depth(max: u64) -> u32
+pub(crate) fn depth(max: u64) -> u32
     requires { max ≤ 65536 }
     ensures value { result ≡ depth_from 10 64 max }
     ensures most { result ≤ 10 }
@@ -63,6 +63,14 @@ fn depth(max: u64) -> u32
     10
 }
 
+// How many segments a map has.
+pub(crate) fn segments(shape: &MapShape) -> u32
+    requires { IsMapShape shape.now }
+    ensures { result ≡ segments shape.now }
+{
+    1 << depth(shape.max)
+}
+
 // How many words the segments of a map have.
 fn segment_words(shape: &MapShape) -> u32
     requires { IsMapShape shape.now }
@@ -73,7 +81,7 @@ fn segment_words(shape: &MapShape) -> u32
 }
 
 // How many elements a map has.
-fn elements(shape: &MapShape) -> u32
+pub(crate) fn elements(shape: &MapShape) -> u32
     requires { IsMapShape shape.now }
     ensures elements { result ≡ element_count shape.now }
     ensures most { result ≤ 131072 }

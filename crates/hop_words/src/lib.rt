@@ -3,18 +3,21 @@
 
 mod answering;
 mod bytes;
+mod dealing;
 mod guarded;
 mod hash;
 mod index;
 mod known;
 mod lane;
 mod locking;
+mod making;
 mod owning;
 mod place;
 mod running;
 mod table;
 
 pub use bytes::word_of;
+pub use dealing::Lanes;
 pub use hash::home;
 pub use index::Index;
 pub use known::{About, Change, Fresh, Known, Limbo, Lock, Peek, Reading, Sight, Tally, View};

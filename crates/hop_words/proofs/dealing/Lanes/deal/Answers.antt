@@ -1,0 +1,22 @@
+use Rattle.std.proofs.Common.{◌≢◌, ℕ, ◌<◌, length, ap, sym, subst, ◌∙◌}
+use Rattle.atomic_table.specs.Table.{Me, Splits}
+use Rattle.hop_words.specs.declared.known.About.{About}
+use Rattle.hop_words.specs.declared.known.View.{View}
+use Rattle.bpf_shared.specs.Shape.{IsShape}
+use Rattle.hop_words.specs.Rule.{Kept}
+use Rattle.hop_words.specs.Inside.{Shown}
+use Rattle.hop_words.specs.Dealing.{Dealing}
+use Rattle.hop_words.specs.Seats.{dealer, dealt}
+use Rattle.hop_words.proofs.Dealt.{deals_first, some_words}
+use Rattle.hop_words.proofs.dealing.Lanes.deal.Goals as goal
+
+pub split_seat-seat-requires : goal.split_seat-seat-requires
+split_seat-seat-requires c =
+    let s = c.self.inside in
+    let t = c.table.inside.table.shared in
+    let me = ap (λ (x : Me (Unit {0}) View). x.0) c.self.invariant.0 in
+    let some : length s.seat.me.0.lanes ≢ 0 = (λ z. c.if-self-eq0.false (sym c.self.invariant.1 ∙ z)) in (
+      ap (λ (q : Dealing). q.table) c.self.view_is ∙ (c.requires ∙ sym (ap (λ (x : Shown). x.id) c.table.view_is)),
+      subst (λ (n : ℕ). 0 < n) (sym c.table.invariant.0) (some_words t.key.shape (subst (λ (x : About). IsShape x.shape) (c.about.ensures ∙ sym (ap (λ (x : Shown). x.about) c.table.view_is)) c.cpus-cpus.ensures.in_range)),
+      subst (λ (v : View). Splits (Kept t.key) s.seat.id v (dealer v) (dealt v)) (sym me) (deals_first t.key s.seat.id s.seat.me.0.lanes some),
+    )

@@ -1,0 +1,25 @@
+-- The words of a store as made, one after the other.
+use Rattle.std.specs.Prelude.{◌≡◌, ℕ, ◌+◌, ◌*◌, ◌-◌, ◌^◌, Bool, true, ◌&&◌, ◌||◌, ◌==◌, if◌then◌else◌, nat_lt}
+use Rattle.hop_words.specs.declared.place.Place.{Place}
+use Rattle.hop_words.specs.declared.place.Place.TheVariants.{RunCount, FreeBits, Stamp}
+use Rattle.hop_words.specs.declared.known.About.{About}
+use Rattle.hop_words.specs.Layout.{is_place, depth}
+use Rattle.hop_words.specs.Ghost.{shape_at}
+
+-- the word of a place as made
+abbrev pub made : About → Place → ℕ
+made a (RunCount c) = a.count
+made a (FreeBits m i) = 2 ^ 64 - 1
+made a (Stamp m s) = a.version * 256 + 2 * depth (shape_at a m)
+made a p = 0
+
+-- the place comes before these many run counters, maps, words of free bits and segments of the next map
+abbrev pub comes_before : ℕ → ℕ → ℕ → ℕ → Place → Bool
+comes_before c m i s (RunCount d) = nat_lt d c
+comes_before c m i s (FreeBits n j) = nat_lt n m || ((n == m) && nat_lt j i)
+comes_before c m i s (Stamp n t) = nat_lt n m || ((n == m) && nat_lt t s)
+comes_before c m i s p = true
+
+-- the words so far are as made, and all others are 0
+abbrev pub IsPartly : About → (Place → ℕ) → ℕ → ℕ → ℕ → ℕ → Type 0
+IsPartly a w c m i s = (p : Place) → is_place a.shape p ≡ true → w p ≡ (if comes_before c m i s p then made a p else 0)
