@@ -1,5 +1,5 @@
 -- What a row asks the store the replies determine, and so the state that it leaves.
-use Rattle.std.proofs.Common.{◌≡◌, ℕ, ◌+◌, ◌-◌, ◌<◌, Bool, true, false, ℤ, List, [], ◌∷◌, ◌++◌, length, take, Option, Some, None, inl, inr, refl, sym, ap, subst, ◌∙◌, arith, length-append}
+use Rattle.std.proofs.Common.{◌≡◌, ℕ, ◌+◌, ◌-◌, ◌<◌, Bool, true, false, ℤ, List, [], ◌∷◌, ◌++◌, length, take, Option, Some, None, Result, Ok, Err, inl, inr, refl, sym, ap, subst, ◌∙◌, arith, length-append}
 use Rattle.std.specs.Prelude.{is_some, option_map, slice_index}
 use Rattle.std.proofs.lemmas.List.{length-take-le, length-replicate}
 use Rattle.std.proofs.lemmas.List.Elements.{All-push, All-take}
@@ -31,9 +31,11 @@ use Rattle.bpf_cpu.specs.declared.outcome.Fault.{Fault}
 use Rattle.bpf_cpu.specs.declared.outcome.Progress.{Progress}
 use Rattle.bpf_cpu.specs.declared.outcome.Progress.TheVariants.{On}
 use Rattle.bpf_cpu.specs.State.{value, operand_value, effective_address, at_pc, caller_of, after_call, after_return, with_register}
-use Rattle.bpf_cpu.specs.Laws.{AsksAlike}
+use Rattle.bpf_helpers.specs.declared.fault.HelperFault.{HelperFault}
+use Rattle.bpf_helpers.specs.Laws.{AreAskedAlike}
+use Rattle.bpf_helpers.proofs.Determined.{calls_are_determined}
 use Rattle.bpf_cpu.proofs.Asking.{asks-nothing, asks-one}
-use Rattle.bpf_cpu.specs.Row.{Faults, Quiet, Jumps, JumpsIf, CallsLocal, Exits, Loads, Stores, Atomics, plain_size, extension_of, fetching, remembering, TakesAnswer, LooksUp, Helper, Lookup}
+use Rattle.bpf_cpu.specs.Row.{Faults, Quiet, Jumps, JumpsIf, CallsLocal, Exits, Loads, Stores, Atomics, plain_size, extension_of, fetching, remembering, TakesResult, Helper}
 use Rattle.bpf_cpu.specs.Values.{asks_value, event_size_of, event_op_of, IsOdd, LoadsValue, StoresValue, ChangesValue, AsksValue}
 use Rattle.bpf_cpu.specs.Step.{Executes}
 
@@ -45,7 +47,7 @@ pub record Same (progress end : Progress) (new other : Cpu) : Type 0 where
 
 -- the same calls as long as the replies are the same, and where all of them are, the same end
 pub record Agrees (events others : List Event) (progress end : Progress) (new other : Cpu) : Type 0 where
-  pub asks : AsksAlike events others
+  pub asks : AreAskedAlike events others
   pub replied : events ≡ others → Same progress end new other
 
 -- ---- lists
@@ -193,48 +195,26 @@ module _ (law : WritesAreDetermined) (old new other : Cpu) (progress end : Progr
 
   -- ---- helpers
 
-  answered : (answer : Option Span) → TakesAnswer answer old progress new → TakesAnswer answer old end other → Same progress end new other
-  answered None j k = makes _ j.0 k.0 j.1 k.1 sound
-  answered (Some p) (inl f) (inl g) = faults _ f.1 g.1
-  answered (Some p) (inl f) (inr k) = absurd (k.0 f.0)
-  answered (Some p) (inr j) (inl g) = absurd (j.0 g.0)
-  answered (Some p) (inr j) (inr k) = makes _ j.1 k.1 j.2 k.2 sound
+  -- what the job goes on with, or its fault
+  resulted : (result : Result ℕ HelperFault) (held : List Span) → TakesResult result held old progress new → TakesResult result held old end other → Same progress end new other
+  resulted (Ok x) held j k = makes _ j.0 k.0 j.1 k.1 sound
+  resulted (Err fault) held j k = faults _ j k
 
   -- no event at all
   unasked : (events others : List Event) → events ≡ [] → others ≡ [] → Same progress end new other → Agrees events others progress end new other
   unasked events others e f same = record { asks = asks-nothing events others e f; replied = λ _. same }
 
-  looked_up : (m : ℕ) (h : MapShape) (events others : List Event) → LooksUp m h old events progress new → LooksUp m h old others end other → Agrees events others progress end new other
-  looked_up m h events others (inl f) (inl g) = unasked events others f.1 g.1 (faults _ f.2 g.2)
-  looked_up m h events others (inl f) (inr k) = absurd (false≢true (sym f.0 ∙ ap is_some k.2))
-  looked_up m h events others (inr j) (inl g) = absurd (false≢true (sym g.0 ∙ ap is_some j.2))
-  looked_up m h events others (inr j) (inr k) =
-      let key : j.0 ≡ k.0 = cc (j.2, k.2) in
-      record {
-        asks = asks-one events others (event.Lookup m j.0 j.1) (event.Lookup m k.0 k.1) j.3 k.3 (ap (λ key. event.Lookup m key None) key);
-        replied = λ same.
-            let lists : event.Lookup m j.0 j.1 ∷ [] ≡ event.Lookup m k.0 k.1 ∷ [] = sym j.3 ∙ same ∙ k.3 in
-            let answer : k.1 ≡ j.1 = cc in
-            let P : Option Span → Type 0 = λ a. TakesAnswer a old end other in
-            answered j.1 j.4 (subst P answer k.4);
-      }
-
-  lookup_agrees : (shapes : List MapShape) (events others : List Event) → Lookup shapes old events progress new → Lookup shapes old others end other → Agrees events others progress end new other
-  lookup_agrees shapes events others (inl f) (inl g) = unasked events others f.1 g.1 (faults _ f.2 g.2)
-  lookup_agrees shapes events others (inl f) (inr k) = absurd (f.0 k.0 k.1 k.2)
-  lookup_agrees shapes events others (inr j) (inl g) = absurd (g.0 j.0 j.1 j.2)
-  lookup_agrees shapes events others (inr j) (inr k) =
-      let number : k.0 ≡ j.0 = (let a = j.2.0 in let b = k.2.0 in omega arith) in
-      let shape : k.1 ≡ j.1 = cc (j.2.1, k.2.1, number) in
-      let P : ℕ → Type 0 = λ m. LooksUp m k.1 old others end other in
-      let Q : MapShape → Type 0 = λ h. LooksUp j.0 h old others end other in
-      looked_up j.0 j.1 events others j.3 (subst Q shape (subst P number k.3))
-
   helper_agrees : (shapes : List MapShape) (number : ℕ) (events others : List Event) → Helper shapes number old events progress new → Helper shapes number old others end other → Agrees events others progress end new other
-  helper_agrees shapes number events others (inl j) (inl k) = lookup_agrees shapes events others j.1 k.1
-  helper_agrees shapes number events others (inl j) (inr k) = absurd (let a = j.0 in let b = k.0 in omega arith)
-  helper_agrees shapes number events others (inr j) (inl k) = absurd (let a = j.0 in let b = k.0 in omega arith)
-  helper_agrees shapes number events others (inr j) (inr k) = unasked events others j.1 k.1 (makes _ j.2 k.2 j.3 k.3 sound)
+  helper_agrees shapes number events others j k =
+      let calls = calls_are_determined shapes number old.number old.registers old.memory old.held j.1 k.1 events others j.0 k.0 j.2 k.2 in
+      record {
+        asks = calls.0;
+        replied = λ same.
+            let results = calls.1 same in
+            let P : Result ℕ HelperFault → Type 0 = λ r. TakesResult r k.1 old end other in
+            let Q : List Span → Type 0 = λ held. TakesResult j.0 held old end other in
+            resulted j.0 j.1 j.3 (subst Q (sym results.1) (subst P (sym results.0) k.3));
+      }
 
   -- ---- accesses to held values
 

@@ -1,6 +1,6 @@
 -- Steps that begin alike, and whose store replies alike, go on alike.
 use Rattle.std.proofs.Common.{◌≡◌, ℕ, zero, suc, ◌≤◌, List, [], ◌∷◌, ◌++◌, length, inl, inr, refl, sym, ap, subst, ◌∙◌, arith, append-nil}
-use Rattle.std.specs.Prelude.{map, None, Some}
+use Rattle.std.specs.Prelude.{map, None, Some, Result, Ok, Err}
 use Rattle.std.proofs.lemmas.List.Elements.{All-nil, All-push}
 use Rattle.std.proofs.lemmas.List.{map-append}
 use Rattle.std.specs.Prelude.{◌&&◌, not, Bool, true, false}
@@ -27,13 +27,17 @@ use Rattle.bpf_cpu.specs.declared.cpu.Cpu.{Cpu}
 use Rattle.bpf_cpu.specs.declared.outcome.Progress.{Progress}
 use Rattle.bpf_cpu.specs.declared.outcome.Progress.TheVariants.{On, Done}
 use Rattle.bpf_cpu.specs.declared.outcome.Outcome.{Outcome}
-use Rattle.bpf_cpu.specs.Row.{Helper, is_reached, plain_size}
+use Rattle.bpf_cpu.specs.Row.{TakesResult, Helper, is_reached, plain_size}
+use Rattle.bpf_mem.specs.declared.memory.PrivateMemory.{PrivateMemory}
+use Rattle.bpf_helpers.specs.declared.fault.HelperFault.{HelperFault}
+use Rattle.bpf_helpers.specs.Calls.{CallsHelper}
+use Rattle.bpf_helpers.specs.Laws.{AreAskedAlike}
 use Rattle.bpf_helpers.specs.Held.{is_covered}
 use Rattle.bpf_cpu.specs.Values.{is_in_value, asks_value}
 use Rattle.bpf_cpu.specs.Step.{Executes, Step, MakesSteps}
 use Rattle.bpf_cpu.specs.State.{start, effective_address}
 use Rattle.bpf_cpu.proofs.HeldLaws.{held-quiet}
-use Rattle.bpf_cpu.specs.Laws.{AsksAlike, StepsAreDetermined, OutcomesAreDetermined, NoMapsNoEvents, PlainStepsAreDetermined}
+use Rattle.bpf_cpu.specs.Laws.{StepsAreDetermined, OutcomesAreDetermined, NoMapsNoEvents, PlainStepsAreDetermined}
 use Rattle.bpf_cpu.proofs.Asking.{asks-first, asks-behind, asks-end, asks-end', same_beginnings}
 use Rattle.bpf_cpu.proofs.DeterminedRows.{Agrees, row_agrees, same_last, whole_frame}
 
@@ -72,7 +76,7 @@ module _ (law : WritesAreDetermined) (one : OneInstructionBegins) (shapes : List
 
   -- ---- the same over a plain store, whose replies are determined too
   module _ (replies : CallsHaveOneReply) where
-    pub same_replies : (c : ℕ) (events others : List Event) (s t u : Plain) → IsSoundStore s → PlainlyLegal s (map (entry c) events) t → PlainlyLegal s (map (entry c) others) u → AsksAlike events others → (events ≡ others) × (t ≡ u)
+    pub same_replies : (c : ℕ) (events others : List Event) (s t u : Plain) → IsSoundStore s → PlainlyLegal s (map (entry c) events) t → PlainlyLegal s (map (entry c) others) u → AreAskedAlike events others → (events ≡ others) × (t ≡ u)
     same_replies c [] [] s t u sound a b alike = (refl, sym a ∙ b)
     same_replies c [] (f ∷ fs) s t u sound a b alike = absurd (asks-end f fs alike)
     same_replies c (e ∷ es) [] s t u sound a b alike = absurd (asks-end' e es alike)
@@ -174,11 +178,20 @@ outcomes_are_determined law one shapes program budget number context events end 
 
 -- ---- no maps
 
--- a helper answers no map, and then the job goes on with what it held
+-- a helper finds no map, and then the job goes on with what it held
+no_map_call : (number cpu : ℕ) (registers : List ℕ) (memory : PrivateMemory) (held after : List Span) (events : List Event) (result : Result ℕ HelperFault) → CallsHelper [] number cpu registers memory held events result after → (events ≡ []) × (after ≡ held)
+no_map_call number cpu registers memory held after events result (inl named) = (named.1, named.3)
+no_map_call number cpu registers memory held after events result (inr (inl none)) = (none.2.0, none.2.2)
+no_map_call number cpu registers memory held after events result (inr (inr (m, h, at, rest))) = let none : None ≡ Some h = at.1 in absurd cc
+
+taken_held : (result : Result ℕ HelperFault) (held : List Span) (old new : Cpu) (progress : Progress) → TakesResult result held old progress new → held ≡ old.held → new.held ≡ old.held
+taken_held (Ok x) held old new progress row e = ap (λ (k : Cpu). k.held) row.1 ∙ e
+taken_held (Err fault) held old new progress row e = ap (λ (k : Cpu). k.held) row.1
+
 no_map_event : (number : ℕ) (old new : Cpu) (progress : Progress) (events : List Event) → Helper [] number old events progress new → (events ≡ []) × (new.held ≡ old.held)
-no_map_event number old new progress events (inl (called, inl none)) = (none.1, ap (λ (k : Cpu). k.held) none.2.1)
-no_map_event number old new progress events (inl (called, inr (m, h, at, rest))) = let none : None ≡ Some h = at.1 in absurd cc
-no_map_event number old new progress events (inr row) = (row.1, ap (λ (k : Cpu). k.held) row.3)
+no_map_event number old new progress events row =
+    let none = no_map_call number old.number old.registers old.memory old.held row.1 events row.0 row.2 in
+    (none.0, taken_held row.0 row.1 old new progress row.3 none.1)
 
 and_false : (b : Bool) → b && false ≡ false
 and_false true = refl

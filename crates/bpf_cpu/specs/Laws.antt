@@ -1,13 +1,13 @@
 -- What follows from the definitions of steps and runs: what a store replies determines a run, and
 -- on one thread a run has one outcome.
-use Rattle.std.specs.Prelude.{◌≡◌, ℕ, ◌≤◌, List, [], ◌∷◌, ◌++◌, Option, Some, None, length, map, slice_get}
+use Rattle.std.specs.Prelude.{◌≡◌, ℕ, ◌≤◌, List, [], ◌∷◌, Some, length, map, slice_get}
 use Rattle.bpf_shared.specs.declared.events.Event.{Event}
 use Rattle.bpf_shared.specs.declared.events.Event.TheVariants.{Begin, End}
 use Rattle.bpf_shared.specs.declared.shapes.MapShape.{MapShape}
 use Rattle.bpf_shared.specs.Store.{Plain}
 use Rattle.bpf_shared.specs.History.{PlainlyLegal, entry}
-use Rattle.bpf_shared.specs.Laws.{asked}
 use Rattle.bpf_shared.specs.Sound.{IsSoundStore}
+use Rattle.bpf_helpers.specs.Laws.{AreAskedAlike}
 use Rattle.bpf_loader.specs.Loaded.{Loaded}
 use Rattle.bpf_mem.specs.Limits.{max_context}
 use Rattle.bpf_mem.specs.Laws.{IsMemory}
@@ -19,17 +19,6 @@ use Rattle.bpf_cpu.specs.Task.{Task, Waiting}
 use Rattle.bpf_cpu.specs.Schedule.{World, RunsSchedule}
 use Rattle.bpf_cpu.specs.Step.{Step, MakesSteps, Explains}
 
--- the call that the first of these events answers, if there is one
-abbrev pub next_call : List Event → Option Event
-next_call [] = None
-next_call (e ∷ events) = Some (asked e)
-
--- after equal events, their replies included, the next call is the same, or none comes
-abbrev pub AsksAlike : List Event → List Event → Type 0
-AsksAlike events others =
-    (before rest later : List Event) → events ≡ before ++ rest → others ≡ before ++ later
-    → next_call rest ≡ next_call later
-
 -- a step asks the store what the replies before it determine, and leaves the state that all of them
 -- determine
 abbrev pub StepsAreDetermined : Type 0
@@ -37,7 +26,7 @@ StepsAreDetermined =
     (shapes : List MapShape) (program : Loaded) (old new other : Cpu) (events others : List Event)
     (progress end : Progress) → IsMemory old.memory
     → Step shapes program old events progress new → Step shapes program old others end other
-    → AsksAlike events others × (events ≡ others → (progress ≡ end) × (new ≡ other))
+    → AreAskedAlike events others × (events ≡ others → (progress ≡ end) × (new ≡ other))
 
 -- the same events explain one outcome, whether or not the run counter may be worn
 abbrev pub OutcomesAreDetermined : Type 0

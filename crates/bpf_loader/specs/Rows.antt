@@ -97,4 +97,4 @@ map_of _ = None
 
 -- the helpers of bpf-helpers(7) that this machine has: map_lookup_elem and get_smp_processor_id
 abbrev pub IsHelper : ℕ → Type 0
-IsHelper number = (number ≡ 1) ⊎ (number ≡ 8)
+IsHelper number = (number ≡ 1) ⊎ (number ≡ 2) ⊎ (number ≡ 3) ⊎ (number ≡ 8)

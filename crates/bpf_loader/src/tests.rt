@@ -295,6 +295,8 @@ fn helpers_and_maps(rt: HostRuntime) -> Result<(), Fail> {
         &[
             (&[helper(0), EXIT], Some(UnknownHelper(0))),
             (&[helper(1), EXIT], None),
+            (&[helper(2), helper(3), EXIT], None),
+            (&[helper(4), EXIT], Some(UnknownHelper(0))),
             (&[helper(7), EXIT], Some(UnknownHelper(0))),
             (&[helper(8), EXIT], None),
             (&[helper(9), EXIT], Some(UnknownHelper(0))),
