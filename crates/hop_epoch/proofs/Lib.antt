@@ -1,2 +1,3 @@
 pub mod Evenness
 pub mod Batching
+pub mod Lanes

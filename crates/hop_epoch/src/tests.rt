@@ -1,0 +1,116 @@
+//! Claims, runs and batches over a real store, by many threads.
+ghost use Rattle.std.specs.Prelude.{◌≡◌, ◌<◌, ◌+◌, ◌^◌, true, [], length, All, IfOk, vec_len};
+ghost use Rattle.bpf_shared.specs.History.{events_of};
+ghost use Rattle.hop_words.specs.Kinds.{in_run, count_of};
+ghost use Rattle.hop_words.specs.Opens.{lanes_from};
+ghost use Rattle.hop_epoch.specs.Ready.{IsTrial, IsIdle, IsReady, IsFirst, IsStill};
+
+use crate::{begin_run, end_run};
+use bpf_shared::{MapShape, StoreShape, Worn};
+use hop_arena::Arena;
+use hop_words::{About, HopTable, Lane, Lanes};
+use std::alloc::{AllocError, Global};
+use std::sync::atomic::{AtomicU64, Ordering};
+use std::test::Fail;
+use std::thread;
+use std::thread::Threads;
+
+// A store with one map of 130 elements.
+fn a_store(alloc: Global, cpus: u64) -> Result<(HopTable, Lanes), Fail>
+    ensures trial { IfOk result (λ r. IsTrial r.0.about) }
+    ensures lanes { IfOk result (λ r. (r.1.table ≡ r.0.id) × (r.1.lanes ≡ lanes_from r.0.about 0 r.0.about.shape.cpus)) }
+{
+    let map = MapShape {
+        key: 8,
+        value: 8,
+        max: 128,
+        spare: 2,
+        mask: 0xffff_ffff,
+    };
+    let shape = StoreShape::new(cpus, vec![in alloc; map]?)?;
+    let about = About {
+        shape,
+        seed: 0,
+        version: 0,
+        count: 0,
+    };
+    Ok(HopTable::new(alloc, about)?)
+}
+
+// The lanes of all CPUs.
+fn deal_all(alloc: Global, table: &HopTable, lanes: &mut Lanes) -> Result<Vec<Lane>, AllocError>
+    requires table { lanes.old.table ≡ table.now.id }
+    requires trial { IsTrial table.now.about }
+    requires idle { All (IsIdle table.now.about) lanes.old.lanes }
+    ensures { IfOk result (λ v. All (IsReady table.now) v.items) }
+{
+    let mut dealt = Vec::new(alloc);
+    'deal: for _ in 0..16 {
+        let Some(lane) = lanes.deal(table) else {
+            break;
+        };
+        dealt.push(lane)?;
+    }
+    Ok(dealt)
+}
+
+// The number of an element that is claimed for good.
+fn take_one(table: &HopTable, lane: &mut Lane, arena: &mut Arena) -> Option<u32>
+    requires ready { IsReady table.now lane.old }
+    requires first { IsFirst table.now.about arena.old }
+    ensures ready { IsReady table.now lane.new }
+    ensures first { IsFirst table.now.about arena.new }
+{
+    match arena.claim(lane, table) {
+        Some(element) => Some(element.into_number()),
+        None => None,
+    }
+}
+
+// Claims until no element is free.
+fn take_all(alloc: Global, table: &HopTable, mut lane: Lane) -> Result<Vec<u32>, AllocError>
+    requires ready { IsReady table.now lane }
+{
+    let cpu = lane.cpu();
+    let mut arena = Arena::new(table, 0, cpu);
+    let mut numbers = Vec::new(alloc);
+    'take: for _ in 0..1000 {
+        let Some(number) = take_one(table, &mut lane, &mut arena) else {
+            break;
+        };
+        numbers.push(number)?;
+    }
+    Ok(numbers)
+}
+
+// As many threads as lanes claim until no element is free.
+fn take_by_threads<R: Threads + Sync>(
+    rt: &R,
+    alloc: Global,
+    table: &HopTable,
+    lanes: Vec<Lane>,
+) -> Result<Vec<Result<Vec<u32>, AllocError>>, AllocError>
+    requires ready { All (IsReady table.now) lanes.items }
+{
+    let each = |lane: Lane| -> Result<Vec<u32>, AllocError>
+        requires { IsReady table.now lane }
+    { take_all(alloc, table, lane) };
+    thread::map_vec(rt, lanes, &each)
+}
+
+#[test]
+fn each_element_is_claimed_once(rt: HostRuntime) -> Result<(), Fail> {
+    let (table, mut lanes) = a_store(rt.alloc(), 4)?;
+    let lanes = deal_all(rt.alloc(), &table, &mut lanes)?;
+    assert_eq!(rt; lanes.len(), 4);
+    let mut times = [0u32; 130];
+    for taken in take_by_threads(&rt, rt.alloc(), &table, lanes)? {
+        for number in taken? {
+            if let Some(count) = times.get_mut(number as usize) {
+                *count = count.wrapping_add(1);
+            }
+        }
+    }
+    assert_eq!(rt; times, [1; 130]);
+    Ok(())
+}
