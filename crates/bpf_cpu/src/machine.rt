@@ -3,6 +3,8 @@
 pub mod job;
 mod lane;
 #[cfg(test)]
+mod map_programs;
+#[cfg(test)]
 mod schedules;
 
 use crate::cpu::Cpu;
