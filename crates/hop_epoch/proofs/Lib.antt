@@ -1,3 +1,4 @@
 pub mod Evenness
 pub mod Batching
 pub mod Lanes
+pub mod RunsMade
