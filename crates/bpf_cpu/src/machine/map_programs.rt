@@ -61,6 +61,25 @@ fn value_at(dst: Reg, base: Reg) -> Insn {
     }
 }
 
+/// Calls a helper on the map 0, with a key and a value at two registers' addresses.
+fn call_at(
+    insns: &mut Vec<Insn>,
+    number: u32,
+    key: Reg,
+    value: Reg,
+    flags: i32,
+) -> Result<(), AllocError> {
+    insns.push(Insn::LoadMap {
+        dst: Reg::R1,
+        map: 0,
+    })?;
+    insns.push(copy(Reg::R2, key))?;
+    insns.push(copy(Reg::R3, value))?;
+    insns.push(set(Reg::R4, flags))?;
+    insns.push(Insn::CallHelper { number })?;
+    Ok(())
+}
+
 /// Calls a helper on the map 0, with the key at R10 - 4 and the value at R10 - 16.
 fn call(insns: &mut Vec<Insn>, number: u32, flags: i32) -> Result<(), AllocError> {
     insns.push(Insn::LoadMap {
@@ -131,13 +150,13 @@ fn end_with(insns: &mut Vec<Insn>, number: i32) -> Result<(), AllocError> {
     Ok(())
 }
 
-fn job(alloc: Global, program: usize) -> Job
-    ensures cpu { result.cpu ≡ 0 }
+fn job(alloc: Global, cpu: u8, program: usize) -> Job
+    ensures cpu { result.cpu ≡ cpu }
     ensures program { result.program ≡ program }
     ensures context { vec_len result.context ≡ 0 }
 {
     Job {
-        cpu: 0,
+        cpu,
         program,
         budget: 100_000,
         context: Vec::new(alloc),
@@ -157,7 +176,7 @@ fn outcomes(
         load(alloc, second, &shapes)?,
     ]?;
     let store = PlainStore::new(alloc, StoreShape::new(1, shapes)?)?;
-    let jobs = vec![in alloc; job(alloc, 0), job(alloc, 1)]?;
+    let jobs = vec![in alloc; job(alloc, 0, 0), job(alloc, 0, 1)]?;
     let Ok(mut machine) = Machine::new(alloc, store, programs, jobs) else {
         return Err("out of memory".into());
     };
@@ -298,5 +317,100 @@ fn a_run_holds_256_values(rt: HostRuntime) -> Result<(), Fail> {
         outcome(rt.alloc(), shape(257, 0), looks_up_each(rt.alloc(), 257)?)?,
         Some(Outcome::Fault(Fault::TooManyHeld, 17))
     );
+    Ok(())
+}
+
+#[test]
+fn keys_and_values_are_read_from_held_values(rt: HostRuntime) -> Result<(), Fail> {
+    let mut insns = Vec::new(rt.alloc());
+    update(&mut insns, 5, 9, ANY, 0)?;
+    update(&mut insns, 0, 5, ANY, 0)?;
+    call(&mut insns, LOOK_UP, 0)?;
+    insns.push(copy(Reg::R6, Reg::R0))?;
+    call_at(&mut insns, LOOK_UP, Reg::R6, Reg::R6, 0)?;
+    insns.push(value_at(Reg::R0, Reg::R0))?;
+    expect(&mut insns, 9)?;
+    call_at(&mut insns, UPDATE, Reg::R6, Reg::R6, EXIST)?;
+    expect(&mut insns, 0)?;
+    call_at(&mut insns, LOOK_UP, Reg::R6, Reg::R6, 0)?;
+    insns.push(value_at(Reg::R0, Reg::R0))?;
+    insns.push(Insn::Exit)?;
+    assert_eq!(rt;
+        outcome(rt.alloc(), shape(2, 1), insns)?,
+        Some(Outcome::Exit(5))
+    );
+    Ok(())
+}
+
+#[test]
+fn keys_and_values_lie_whole_in_memory(rt: HostRuntime) -> Result<(), Fail> {
+    for (key, value) in [(-3, -8), (-4, -7)] {
+        let mut insns = Vec::new(rt.alloc());
+        insns.push(copy(Reg::R6, Reg::R10))?;
+        insns.push(alu(AluOp::Add, Reg::R6, Operand::Immediate(key)))?;
+        insns.push(copy(Reg::R7, Reg::R10))?;
+        insns.push(alu(AluOp::Add, Reg::R7, Operand::Immediate(value)))?;
+        call_at(&mut insns, UPDATE, Reg::R6, Reg::R7, ANY)?;
+        insns.push(Insn::Exit)?;
+        assert_eq!(rt;
+            outcome(rt.alloc(), shape(1, 0), insns)?,
+            Some(Outcome::Fault(Fault::BadAddress, 9))
+        );
+    }
+    Ok(())
+}
+
+/// A machine of two CPUs over one map, whose first program is CPU 0's, and the two others CPU 1's.
+fn two_cpus(
+    alloc: Global,
+    shape: MapShape,
+    first: Vec<Insn>,
+    second: Vec<Insn>,
+    third: Vec<Insn>,
+) -> Result<Machine, Fail> {
+    let shapes = [shape].to_vec(alloc)?;
+    let programs: Vec<Program> = vec![in alloc;
+        load(alloc, first, &shapes)?,
+        load(alloc, second, &shapes)?,
+        load(alloc, third, &shapes)?,
+    ]?;
+    let store = PlainStore::new(alloc, StoreShape::new(2, shapes)?)?;
+    let jobs = vec![in alloc; job(alloc, 0, 0), job(alloc, 1, 1), job(alloc, 1, 2)]?;
+    match Machine::new(alloc, store, programs, jobs) {
+        Ok(machine) => Ok(machine),
+        Err(_) => Err("out of memory".into()),
+    }
+}
+
+#[test]
+fn a_value_waits_for_another_cpu(rt: HostRuntime) -> Result<(), Fail> {
+    let mut first = Vec::new(rt.alloc());
+    update(&mut first, 0, 7, ANY, 0)?;
+    call(&mut first, LOOK_UP, 0)?;
+    first.push(value_at(Reg::R0, Reg::R0))?;
+    first.push(Insn::Exit)?;
+    let mut second = Vec::new(rt.alloc());
+    call_with(&mut second, DELETE, 0, 8, 0)?;
+    expect(&mut second, 0)?;
+    update(&mut second, 0, 8, ANY, 0)?;
+    update(&mut second, 0, 9, ANY, -12)?;
+    end_with(&mut second, 1)?;
+    let mut third = Vec::new(rt.alloc());
+    update(&mut third, 0, 9, ANY, 0)?;
+    end_with(&mut third, 2)?;
+    let mut machine = two_cpus(rt.alloc(), shape(1, 1), first, second, third)?;
+    // CPU 0 has looked the value up, and loads it next
+    machine.turns(&[0; 17]);
+    for _ in 0..100 {
+        if machine.outcome(1).is_none() {
+            machine.turn(1);
+        }
+    }
+    assert_eq!(rt; machine.outcome(1), Some(Outcome::Exit(1)));
+    assert_eq!(rt; machine.outcome(0), None);
+    machine.turns(&[0; 2]);
+    assert_eq!(rt; machine.outcome(0), Some(Outcome::Exit(7)));
+    machine.turns(&[1; 100]);
+    assert_eq!(rt; machine.outcome(2), Some(Outcome::Exit(2)));
     Ok(())
 }
