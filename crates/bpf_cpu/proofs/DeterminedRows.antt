@@ -20,6 +20,7 @@ use Rattle.bpf_shared.specs.declared.shapes.MapShape.{MapShape}
 use Rattle.bpf_mem.specs.declared.frames.Caller.{Caller}
 use Rattle.bpf_mem.specs.declared.memory.PrivateMemory.{PrivateMemory}
 use Rattle.bpf_base.specs.Bytes.{low_bytes}
+use Rattle.bpf_base.proofs.Lists.{same_last}
 use Rattle.bpf_mem.specs.Bytes.{length_of, size_of}
 use Rattle.bpf_mem.specs.Atomic.{number_left}
 use Rattle.bpf_loader.specs.Rows.{fetched_into}
@@ -55,17 +56,6 @@ pub record Agrees (events others : List Event) (progress end : Progress) (new ot
 none_last : {A : Type 0} (xs : List A) (x : A) → xs ++ x ∷ [] ≡ [] → ⊥
 none_last [] x e = cc
 none_last (y ∷ ys) x e = cc
-
-pub same_last : {A : Type 0} (xs ys : List A) (x y : A) → xs ++ x ∷ [] ≡ ys ++ y ∷ [] → (xs ≡ ys) × (x ≡ y)
-same_last [] [] x y e = (refl, cc)
-same_last [] (b ∷ bs) x y e = let none : bs ++ y ∷ [] ≡ [] = cc in absurd (none_last bs y none)
-same_last (a ∷ xs) [] x y e = let none : xs ++ x ∷ [] ≡ [] = cc in absurd (none_last xs x none)
-same_last (a ∷ xs) (b ∷ bs) x y e =
-    let first : a ≡ b = cc in
-    let rest : xs ++ x ∷ [] ≡ bs ++ y ∷ [] = cc in
-    let same = same_last xs bs x y rest in
-    let front : xs ≡ bs = same.0 in
-    (cc, same.1)
 
 -- ---- memory
 

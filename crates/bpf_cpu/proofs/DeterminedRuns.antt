@@ -1,6 +1,6 @@
 -- Steps that begin alike, and whose store replies alike, go on alike.
 use Rattle.std.proofs.Common.{◌≡◌, ℕ, zero, suc, ◌≤◌, List, [], ◌∷◌, ◌++◌, length, inl, inr, refl, sym, ap, subst, ◌∙◌, arith, append-nil}
-use Rattle.std.specs.Prelude.{map, None, Some, Result, Ok, Err}
+use Rattle.std.specs.Prelude.{map, Result, Ok, Err}
 use Rattle.std.proofs.lemmas.List.Elements.{All-nil, All-push}
 use Rattle.std.proofs.lemmas.List.{map-append}
 use Rattle.std.specs.Prelude.{◌&&◌, not, Bool, true, false}
@@ -28,18 +28,18 @@ use Rattle.bpf_cpu.specs.declared.outcome.Progress.{Progress}
 use Rattle.bpf_cpu.specs.declared.outcome.Progress.TheVariants.{On, Done}
 use Rattle.bpf_cpu.specs.declared.outcome.Outcome.{Outcome}
 use Rattle.bpf_cpu.specs.Row.{TakesResult, Helper, is_reached, plain_size}
-use Rattle.bpf_mem.specs.declared.memory.PrivateMemory.{PrivateMemory}
 use Rattle.bpf_helpers.specs.declared.fault.HelperFault.{HelperFault}
-use Rattle.bpf_helpers.specs.Calls.{CallsHelper}
 use Rattle.bpf_helpers.specs.Laws.{AreAskedAlike}
+use Rattle.bpf_helpers.proofs.Leaving.{no_map_call}
 use Rattle.bpf_helpers.specs.Held.{is_covered}
 use Rattle.bpf_cpu.specs.Values.{is_in_value, asks_value}
 use Rattle.bpf_cpu.specs.Step.{Executes, Step, MakesSteps}
 use Rattle.bpf_cpu.specs.State.{start, effective_address}
+use Rattle.bpf_base.proofs.Lists.{same_last}
 use Rattle.bpf_cpu.proofs.HeldLaws.{held-quiet}
 use Rattle.bpf_cpu.specs.Laws.{StepsAreDetermined, OutcomesAreDetermined, NoMapsNoEvents, PlainStepsAreDetermined}
 use Rattle.bpf_cpu.proofs.Asking.{asks-first, asks-behind, asks-end, asks-end', same_beginnings}
-use Rattle.bpf_cpu.proofs.DeterminedRows.{Agrees, row_agrees, same_last, whole_frame}
+use Rattle.bpf_cpu.proofs.DeterminedRows.{Agrees, row_agrees, whole_frame}
 
 module _ (law : WritesAreDetermined) (one : OneInstructionBegins) (shapes : List MapShape) (program : Loaded) where
   -- ---- one step
@@ -178,12 +178,7 @@ outcomes_are_determined law one shapes program budget number context events end 
 
 -- ---- no maps
 
--- a helper finds no map, and then the job goes on with what it held
-no_map_call : (number cpu : ℕ) (registers : List ℕ) (memory : PrivateMemory) (held after : List Span) (events : List Event) (result : Result ℕ HelperFault) → CallsHelper [] number cpu registers memory held events result after → (events ≡ []) × (after ≡ held)
-no_map_call number cpu registers memory held after events result (inl named) = (named.1, named.3)
-no_map_call number cpu registers memory held after events result (inr (inl none)) = (none.2.0, none.2.2)
-no_map_call number cpu registers memory held after events result (inr (inr (m, h, at, rest))) = let none : None ≡ Some h = at.1 in absurd cc
-
+-- where there is no map, the job goes on with what it held
 taken_held : (result : Result ℕ HelperFault) (held : List Span) (old new : Cpu) (progress : Progress) → TakesResult result held old progress new → held ≡ old.held → new.held ≡ old.held
 taken_held (Ok x) held old new progress row e = ap (λ (k : Cpu). k.held) row.1 ∙ e
 taken_held (Err fault) held old new progress row e = ap (λ (k : Cpu). k.held) row.1

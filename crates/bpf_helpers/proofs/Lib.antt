@@ -1,3 +1,4 @@
 pub mod Determined
 pub mod HeldLaws
+pub mod Leaving
 pub mod Reaching

@@ -25,7 +25,7 @@ use Rattle.bpf_cpu.specs.Private.Lanes.{IsFirstJob, lane_of, stage_of, task_of, 
 use Rattle.bpf_helpers.specs.Held.{AreHeld}
 use Rattle.bpf_cpu.proofs.RowLaws.{start_ready}
 use Rattle.bpf_cpu.proofs.HeldLaws.{nothing_held, others_without}
-use Rattle.bpf_cpu.proofs.ListLaws.{slice_get-set_same, slice_get-set_other}
+use Rattle.bpf_base.proofs.Lists.{slice_get-set_known, slice_get-set_other}
 use Rattle.bpf_cpu.proofs.Machines.BoardLaws.{tasks_changed, board_changed}
 use Rattle.bpf_cpu.proofs.Machines.WorkLaws.{WaitsAt, waits_at, no_hand, is_next}
 
@@ -109,7 +109,7 @@ module _ (store : Contents) (programs : List Loaded) (jobs : List Listed) (lanes
             let same : h' ≡ h = cc in
             let now : IsHand programs (slice_set jobs j e') c h' = record {
               job = e';
-              listed = slice_get-set_same jobs j e' e listed;
+              listed = slice_get-set_known jobs j e' e listed;
               of = of;
               in_hand = in_hand;
               number = ap (λ (s : Cpu). s.number) started;

@@ -13,7 +13,7 @@ use Rattle.bpf_cpu.specs.declared.machine.lane.Lane.{Lane}
 use Rattle.bpf_helpers.specs.Held.{AreHeld}
 use Rattle.bpf_cpu.specs.Task.{Stage, Task, with_stage}
 use Rattle.bpf_cpu.specs.Private.Lanes.{lane_of, no_lane, stage_of, task_of, tasks_of, FitsLane, IsListed, IsHand, IsLane, IsBoard}
-use Rattle.bpf_cpu.proofs.ListLaws.{slice_get-set_same, slice_get-set_other, map-set_changed}
+use Rattle.bpf_base.proofs.Lists.{slice_get-set_known, slice_get-set_other, map-set_changed}
 
 -- ---- one job and its CPU's lane are changed
 module _ (serves serves' running running' : ℕ → Bool) (reach reach' : ℕ → Span → Bool) (programs : List Loaded) (jobs : List Listed) (lanes : List Lane) (c j : ℕ) (e e' : Listed) (l l' : Lane)
@@ -112,7 +112,7 @@ module _ (serves serves' running running' : ℕ → Bool) (reach reach' : ℕ �
     each_job : (k : ℕ) (x : Listed) → slice_get (slice_set jobs j e') k ≡ Some x → IsListed serves' programs (slice_set lanes c l') k x
     each_job k x at = elim (equal_or_not k j) [
       | inl here ↦
-          let put : slice_get (slice_set jobs j e') k ≡ Some e' = ap (λ (n : ℕ). slice_get (slice_set jobs j e') n) here ∙ slice_get-set_same jobs j e' e listed in
+          let put : slice_get (slice_set jobs j e') k ≡ Some e' = ap (λ (n : ℕ). slice_get (slice_set jobs j e') n) here ∙ slice_get-set_known jobs j e' e listed in
           let is : x ≡ e' = cc in
           let P : ℕ → Listed → Type 0 = λ n y. IsListed serves' programs (slice_set lanes c l') n y in
           subst (λ (n : ℕ). P n x) (sym here) (subst (λ (y : Listed). P j y) (sym is) listed_here)
@@ -138,7 +138,7 @@ module _ (serves serves' running running' : ℕ → Bool) (reach reach' : ℕ �
     cpu_still : (d n : ℕ) → ((x : Listed) → slice_get jobs n ≡ Some x → x.cpu ≡ d) → (x : Listed) → slice_get (slice_set jobs j e') n ≡ Some x → x.cpu ≡ d
     cpu_still d n old x at = elim (equal_or_not n j) [
       | inl here ↦
-          let put : slice_get (slice_set jobs j e') n ≡ Some e' = ap (λ (k : ℕ). slice_get (slice_set jobs j e') k) here ∙ slice_get-set_same jobs j e' e listed in
+          let put : slice_get (slice_set jobs j e') n ≡ Some e' = ap (λ (k : ℕ). slice_get (slice_set jobs j e') k) here ∙ slice_get-set_known jobs j e' e listed in
           let is : x ≡ e' = cc in
           ap (λ (y : Listed). y.cpu) is ∙ (cpu ∙ old e (ap (λ (k : ℕ). slice_get jobs k) here ∙ listed))
       | inr ne ↦ old x (sym (slice_get-set_other jobs j n e' ne) ∙ at)

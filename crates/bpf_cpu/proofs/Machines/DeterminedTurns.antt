@@ -21,7 +21,7 @@ use Rattle.bpf_cpu.specs.Task.{Stage, Task, Waiting, InHand, Ended, IsAt, IsFree
 use Rattle.bpf_cpu.specs.Schedule.{World, outcome_after, Advances, Settles, GoesOn, TakesTurn, RunsSchedule}
 use Rattle.bpf_cpu.specs.Laws.{IsFresh, SchedulesAreDetermined}
 use Rattle.bpf_cpu.proofs.DeterminedRuns.{start_memory, stays_sound, step_agrees, same_replies}
-use Rattle.bpf_cpu.proofs.ListLaws.{slice_get-set_same, slice_get-set_other}
+use Rattle.bpf_base.proofs.Lists.{slice_get-set_known, slice_get-set_other}
 
 -- what is true of a plain machine between its turns
 pub record IsWorld (w : World) : Type 0 where
@@ -46,7 +46,7 @@ changed : (jobs : List Task) (c j : ℕ) (was : Task) (before stage : Stage) (d 
 changed jobs c j was before stage d k task now at new = elim (equal_or_not k j) [
   | inl e ↦
       let P : ℕ → Type 0 = λ k. slice_get (with_stage jobs j was stage) k ≡ Some task in
-      let both : Some (changed_task was stage) ≡ Some task = sym (slice_get-set_same jobs j (changed_task was stage) was at.listed) ∙ subst P e new.listed in
+      let both : Some (changed_task was stage) ≡ Some task = sym (slice_get-set_known jobs j (changed_task was stage) was at.listed) ∙ subst P e new.listed in
       let same : changed_task was stage ≡ task = cc in
       Same e (sym new.of ∙ ap (λ (t : Task). t.cpu) (sym same) ∙ at.of) (sym new.at ∙ ap (λ (t : Task). t.stage) (sym same))
   | inr ne ↦ Other ne (record { listed = sym (slice_get-set_other jobs j k (changed_task was stage) ne) ∙ new.listed; of = new.of; at = new.at })

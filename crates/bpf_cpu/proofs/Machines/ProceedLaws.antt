@@ -25,7 +25,7 @@ use Rattle.bpf_cpu.specs.Task.{Task, InHand, Ended, with_stage, IsAt}
 use Rattle.bpf_cpu.specs.Private.Lanes.{lane_of, stage_of, task_of, tasks_of, FitsLane, IsHand, IsBoard}
 use Rattle.bpf_cpu.specs.Schedule.{World, Advances, GoesOn}
 use Rattle.bpf_cpu.specs.Machine.{Shows}
-use Rattle.bpf_cpu.proofs.ListLaws.{slice_get-set_same}
+use Rattle.bpf_base.proofs.Lists.{slice_get-set_known}
 use Rattle.bpf_cpu.proofs.Machines.BoardLaws.{tasks_changed, board_changed}
 use Rattle.bpf_cpu.proofs.Machines.WorkLaws.{HandAt, hand_at}
 
@@ -148,7 +148,7 @@ module _ (store : Contents) (programs : List Loaded) (jobs : List Listed) (lanes
                 let one : h' ≡ x = cc in
                 let now : IsHand programs (slice_set jobs j e) c h' = record {
                   job = e;
-                  listed = ap (λ (n : ℕ). slice_get (slice_set jobs j e) n) (job ∙ told) ∙ slice_get-set_same jobs j e e listed;
+                  listed = ap (λ (n : ℕ). slice_get (slice_set jobs j e) n) (job ∙ told) ∙ slice_get-set_known jobs j e e listed;
                   of = of;
                   in_hand = phase_was;
                   number = number_same ∙ number;

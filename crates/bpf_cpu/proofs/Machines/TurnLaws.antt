@@ -10,11 +10,11 @@ use Rattle.bpf_cpu.specs.Task.{Stage, Task, InHand, Waiting, IsAt, IsFree, NoneW
 use Rattle.bpf_cpu.specs.Schedule.{World, Settles, GoesOn, TakesTurn, RunsSchedule}
 use Rattle.bpf_cpu.specs.Machine.{MachineState, Shows}
 use Rattle.bpf_cpu.specs.Work.{HasInHand, IsNext, BeginsJob, Proceeds}
-use Rattle.bpf_cpu.proofs.ListLaws.{slice_get-set_same, set_twice}
+use Rattle.bpf_base.proofs.Lists.{slice_get-set_known, set_twice}
 
 -- the job that was begun is in hand
 pub begun_at : (jobs : List Task) (c j : ℕ) (task : Task) (was now : Stage) → IsAt jobs c j task was → IsAt (with_stage jobs j task now) c j (record task { stage = now }) now
-begun_at jobs c j task was now at = record { listed = slice_get-set_same jobs j (record task { stage = now }) task at.listed; of = at.of; at = refl }
+begun_at jobs c j task was now at = record { listed = slice_get-set_known jobs j (record task { stage = now }) task at.listed; of = at.of; at = refl }
 
 begun_now : (old new : MachineState) (c j : ℕ) (begins : BeginsJob old c j new)
     → IsAt new.jobs c j (record begins.0 { stage = InHand (start c begins.1) begins.0.budget }) (InHand (start c begins.1) begins.0.budget)

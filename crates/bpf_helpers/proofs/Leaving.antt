@@ -1,5 +1,5 @@
--- What a helper that can't be called leaves.
-use Rattle.std.proofs.Common.{◌≡◌, ℕ, List, Option, Some, None, Result, Ok, Err, inl, inr, sym, ◌∙◌}
+-- What a call leaves that is a fault, and one where there is no map.
+use Rattle.std.proofs.Common.{◌≡◌, ℕ, List, [], Option, Some, None, Result, Ok, Err, inl, inr, sym, ◌∙◌}
 use Rattle.bpf_mem.specs.declared.memory.PrivateMemory.{PrivateMemory}
 use Rattle.bpf_shared.specs.declared.events.Span.{Span}
 use Rattle.bpf_shared.specs.declared.events.Event.{Event}
@@ -40,3 +40,9 @@ pub fault_holds : (shapes : List MapShape) (n cpu : ℕ) (registers : List ℕ) 
 fault_holds shapes n cpu registers memory held after events result fault e (inl named) = named.3
 fault_holds shapes n cpu registers memory held after events result fault e (inr (inl none)) = none.2.2
 fault_holds shapes n cpu registers memory held after events result fault e (inr (inr (m, h, at, row))) = map_holds held after result fault e memory registers m h events n row
+
+-- where there is no map, a call asks nothing, and the run holds what it held
+pub no_map_call : (number cpu : ℕ) (registers : List ℕ) (memory : PrivateMemory) (held after : List Span) (events : List Event) (result : Result ℕ HelperFault) → CallsHelper [] number cpu registers memory held events result after → (events ≡ []) × (after ≡ held)
+no_map_call number cpu registers memory held after events result (inl named) = (named.1, named.3)
+no_map_call number cpu registers memory held after events result (inr (inl none)) = (none.2.0, none.2.2)
+no_map_call number cpu registers memory held after events result (inr (inr (m, h, at, rest))) = let none : None ≡ Some h = at.1 in absurd cc
