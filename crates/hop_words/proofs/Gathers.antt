@@ -227,7 +227,7 @@ gathers a id other v w s k at apart there = record { sized = k.sized; ghost = k.
     }
 
 -- a seat that has learned the whole history
-pub learns : (a : About) (slots id : ℕ) (me : Sat) → Allows (Kept a) slots id me 0 (λ n. n) (λ n m. Learned a me m)
+pub learns : (a : About) (slots id : ℕ) (me : Sat) → Allows (Kept a) slots id me 0 (λ n. n) (λ n m. Learned me m)
 learns a slots id me s k size at fits = (
   u,
   keeps,
@@ -235,7 +235,6 @@ learns a slots id me s k size at fits = (
   rw (set-get_or s.words 0) (record { sized = k.sized; ghost = k.ghost; rule = k.rule; seats = now }),
   record {
     after = refl;
-    legal = (k.ghost.last, k.rule.logged.legal);
     within = λ j l here. (let b = k.seats.known id j me.0 l at here in
         (subst (λ (x : Known). IsPrefix x.seen k.ghost.log) b.2 (k.rule.logged.begins l.cpu b.1), ap (λ (x : Known). events_of l.cpu x.seen) (sym b.2) ∙ k.rule.logged.own l.cpu b.1));
   },

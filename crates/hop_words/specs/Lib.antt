@@ -16,3 +16,4 @@ pub mod Seats
 pub mod SegContract
 pub mod Inside
 pub mod Dealing
+pub mod Closing

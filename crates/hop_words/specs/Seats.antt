@@ -5,7 +5,7 @@ use mathlib.Core.List.{IsPrefix}
 use lib.ListN.{get_elem?}
 use Rattle.atomic_table.specs.Table.{Me}
 use Rattle.bpf_shared.specs.declared.events.Entry.{Entry}
-use Rattle.bpf_shared.specs.History.{IsLegal, events_of}
+use Rattle.bpf_shared.specs.History.{events_of}
 use Rattle.hop_words.specs.declared.known.About.{About}
 use Rattle.hop_words.specs.declared.known.Known.{Known}
 use Rattle.hop_words.specs.declared.known.View.{View}
@@ -43,9 +43,8 @@ abbrev pub IsWithin : Known → List Entry → Type 0
 IsWithin l log = IsPrefix l.seen log × (events_of l.cpu l.seen ≡ events_of l.cpu log)
 
 -- the whole history is kept
-pub record Learned (a : About) (m m' : Sat) : Type 0 where
+pub record Learned (m m' : Sat) : Type 0 where
   pub after : m' ≡ (view m.0.lanes m'.0.kept, m.1)
-  pub legal : IsLegal a.shape m'.0.kept
   pub within : (k : ℕ) (l : Known) → get_elem? m.0.lanes k ≡ some l → IsWithin l m'.0.kept
 
 -- what is kept is the whole history, and the words keep the rule with it

@@ -3,6 +3,7 @@
 
 mod answering;
 mod bytes;
+mod closing;
 mod dealing;
 mod guarded;
 mod hash;
@@ -17,6 +18,7 @@ mod running;
 mod table;
 
 pub use bytes::word_of;
+pub use closing::{Rest, Returned};
 pub use dealing::Lanes;
 pub use hash::home;
 pub use index::Index;

@@ -1,0 +1,182 @@
+//! The CPUs of a store given back, and its words at rest.
+ghost use Rattle.std.specs.Prelude.{◌≡◌, ℕ, true, [], ◌∷◌, ◌++◌};
+ghost use mathlib.Core.Option.{some};
+ghost use lib.ListN.{get_elem?};
+ghost use Rattle.hop_words.specs.declared.known.Known.{Known};
+ghost use Rattle.hop_words.specs.Closing.{AreAllBack};
+ghost use Rattle.hop_words.specs.Layout.{is_place, mem};
+ghost use Rattle.hop_words.specs.Seats.{IsWithin, IsWhole, view};
+
+use crate::index::Index;
+use crate::known::{About, View};
+use crate::lane::Lane;
+use crate::place::Place;
+use crate::table::HopTable;
+use atomic_table::{Closed, Join, Play, Seat, Split};
+use std::alloc::Global;
+use std::marker::Model;
+
+// A new seat, without a CPU.
+struct Comes;
+
+impl Play<(), View> for Comes {
+    ghost use Rattle.hop_words.specs.Closing.{came};
+
+    ghost then = { came };
+}
+
+// The CPUs of a second seat go behind those of a first.
+struct Gather;
+
+impl Join<View> for Gather {
+    ghost use Rattle.hop_words.specs.Seats.{gathered, nobody};
+
+    ghost both = { gathered };
+
+    ghost spent = { nobody };
+}
+
+// A load that learns the whole history.
+struct Learns;
+
+impl Play<(), View> for Learns {
+    ghost use Rattle.hop_words.specs.Closing.{learned};
+
+    ghost then = { learned };
+}
+
+// A copy of what is kept of the history.
+pub(crate) struct Keep;
+
+impl Split<View> for Keep {
+    ghost use Rattle.hop_words.specs.Seats.{onlooker};
+
+    ghost left = { λ v. v };
+
+    ghost right = { onlooker };
+}
+
+/// The CPUs of a store that were given back.
+#[derive(Drop)]
+pub struct Returned {
+    seat: Seat<(), View>,
+}
+
+impl Model for Returned {
+    ghost use Rattle.hop_words.specs.Dealing.{Dealing};
+    ghost use Rattle.hop_words.specs.Closing.{returned, IsReturned};
+
+    ghost Value = { Dealing };
+
+    ghost view = { returned };
+
+    ghost invariant = { IsReturned };
+}
+
+impl Returned {
+    /// No CPU was given back yet.
+    pub fn new(table: &HopTable) -> Returned
+        ensures table { result.table ≡ table.now.id }
+        ensures none { result.lanes ≡ [] }
+    {
+        let _cpus = table.about().shape.cpus();
+        let (_, seat) = table.table.shared.load_new_seat::<Comes>(0);
+        Returned { seat }
+    }
+
+    /// Takes a CPU back.
+    pub fn take(&mut self, table: &HopTable, lane: Lane)
+        requires table { self.old.table ≡ table.now.id }
+        requires lane { lane.table ≡ table.now.id }
+        ensures table { self.new.table ≡ self.old.table }
+        ensures taken { self.new.lanes ≡ self.old.lanes ++ lane.known ∷ [] }
+    {
+        let _cpus = table.about().shape.cpus();
+        let Lane { cpu: _, seat } = lane;
+        table.table.shared.join_seat::<Gather>(&mut self.seat, seat);
+    }
+
+    // Learns the whole history.
+    fn learn(self, table: &HopTable) -> Seat<(), View>
+        requires table { self.table ≡ table.now.id }
+        ensures table { result.table_id ≡ table.now.id }
+        ensures slots { result.me.1 ≡ [] }
+        ensures lanes { result.me.0.lanes ≡ self.lanes }
+        ensures within { (k : ℕ) (l : Known) → get_elem? self.lanes k ≡ some l
+            → IsWithin l result.me.0.kept }
+    {
+        let _cpus = table.about().shape.cpus();
+        let Returned { mut seat } = self;
+        table.table.shared.load::<Learns>(&mut seat, 0);
+        seat
+    }
+}
+
+/// The words of a store that no CPU shares any more. Contracts see the whole history beside them.
+pub struct Rest {
+    words: Closed<(), Global>,
+    index: Index,
+    keeper: Seat<(), View>,
+}
+
+impl Model for Rest {
+    ghost use Rattle.hop_words.specs.Closing.{Ending, ending, IsAtRest};
+
+    ghost Value = { Ending };
+
+    ghost view = { ending };
+
+    ghost invariant = { IsAtRest };
+}
+
+impl Drop for Rest {
+    fn drop(self) {
+        let Rest {
+            words,
+            index: _,
+            keeper: _,
+        } = self;
+        words.free();
+    }
+}
+
+impl HopTable {
+    /// The end of a store, all of whose CPUs were given back.
+    pub fn close(self, returned: Returned) -> Rest
+        requires table { returned.table ≡ self.id }
+        requires all { AreAllBack self.about returned.lanes }
+        ensures about { result.about ≡ self.about }
+        ensures within { (k : ℕ) (l : Known) → get_elem? returned.lanes k ≡ some l
+            → IsWithin l result.history }
+        ensures whole { IsWhole result.about (view [] result.history) result.words }
+    {
+        let _cpus = self.about().shape.cpus();
+        let mut seat = returned.learn(&self);
+        let HopTable { table, index } = self;
+        let keeper = table.shared.split_seat::<Keep>(&mut seat);
+        let words = table.close_with(seat);
+        Rest {
+            words,
+            index,
+            keeper,
+        }
+    }
+}
+
+impl Rest {
+    /// What the store was told when it was made.
+    pub fn about(&self) -> &About
+        ensures about { result.now ≡ self.now.about }
+        ensures whole { IsWhole self.now.about (view [] self.now.history) self.now.words }
+    {
+        &self.index.about
+    }
+
+    /// The word of a place.
+    pub fn word(&self, place: Place) -> u64
+        requires there { is_place self.now.about.shape place ≡ true }
+        ensures word { result ≡ mem self.now.about.shape self.now.words place }
+    {
+        self.words.word(self.index.word_of(place))
+    }
+}
