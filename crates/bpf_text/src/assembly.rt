@@ -111,15 +111,25 @@ fn program(alloc: Global, lines: &[Kept<'_>], labels: &Labels<'_>) -> Result<Vec
     Ok(insns)
 }
 
-/// The instructions that an assembly text stands for, or its lowest line that is refused, for
-/// the lowest of its reasons.
+/// The instructions that an assembly text of these bytes stands for, or its lowest line that is
+/// refused, for the lowest of its reasons.
 /// Lines count from 1. `OutOfMemory` may stand in place of either.
+pub fn assemble_bytes(alloc: Global, text: &[u8]) -> Result<Vec<Insn>, TextError>
+    ensures assembled { IfOk result (λ program. Assembles text.now (Ok program.items)) }
+    ensures refused { IfErr result (λ e. (e ≡ TextError.OutOfMemory) ⊎ Assembles text.now (Err e)) }
+    ensures only { (outcome : Result (List Insn) TextError) → Assembles text.now outcome
+        → MatchResult result (λ program. outcome ≡ Ok program.items) (λ e. (e ≡ TextError.OutOfMemory) ⊎ (outcome ≡ Err e)) }
+{
+    let (lines, labels) = gather(alloc, text)?;
+    program(alloc, &lines, &labels)
+}
+
+/// The same of a text.
 pub fn assemble(alloc: Global, text: &str) -> Result<Vec<Insn>, TextError>
     ensures assembled { IfOk result (λ program. Assembles text.now (Ok program.items)) }
     ensures refused { IfErr result (λ e. (e ≡ TextError.OutOfMemory) ⊎ Assembles text.now (Err e)) }
     ensures only { (outcome : Result (List Insn) TextError) → Assembles text.now outcome
         → MatchResult result (λ program. outcome ≡ Ok program.items) (λ e. (e ≡ TextError.OutOfMemory) ⊎ (outcome ≡ Err e)) }
 {
-    let (lines, labels) = gather(alloc, text.as_bytes())?;
-    program(alloc, &lines, &labels)
+    assemble_bytes(alloc, text.as_bytes())
 }

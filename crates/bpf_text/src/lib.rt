@@ -22,7 +22,7 @@ mod targets;
 mod token;
 pub mod words;
 
-pub use assembly::assemble;
+pub use assembly::{assemble, assemble_bytes};
 pub use disassembly::disassemble;
 pub use error::TextError;
 pub use hex_text::{from_hex, to_hex};

@@ -1,17 +1,16 @@
-use Rattle.std.proofs.Common.{List, ℕ, map, subst}
+use Rattle.std.proofs.Common.{List, map, subst}
 use Rattle.bpf_text.specs.declared.assembly.Kept.{Kept}
 use Rattle.bpf_text.specs.Private.Labels.{found}
-use Rattle.bpf_text.specs.Private.Sources.{kept_view, kept_program, Gathers}
+use Rattle.bpf_text.specs.Private.Sources.{kept_view, kept_program}
 use Rattle.bpf_text.proofs.Unique.{Answers, gathered_outcome, answered, answered_refusal, answered_only}
-use Rattle.bpf_text.proofs.assembly.assemble.Goals as goal
-use Rattle.bpf_text.proofs.assembly.assemble.Goals.{After-drop-lines}
+use Rattle.bpf_text.proofs.assembly.assemble_bytes.Goals as goal
+use Rattle.bpf_text.proofs.assembly.assemble_bytes.Goals.{After-drop-lines}
 use Rattle.bpf_text.specs.Assembly.{Assembles}
 
 -- what the lines mean is what the text stands for, and that is answered
 stands_for : (c : After-drop-lines) → Assembles c.args.text.now (kept_program (found c.in_ok-lines.labels) 0 (map kept_view c.in_ok-lines.lines.items))
 stands_for c =
-    let G : List ℕ → Type 0 = λ t. Gathers t (found c.in_ok-lines.labels) (map kept_view c.in_ok-lines.lines.items) in
-    gathered_outcome c.args.text.now _ _ (subst G c.as_bytes.ensures.value c.in_ok-lines.ensures.gathered)
+    gathered_outcome c.args.text.now _ _ c.in_ok-lines.ensures.gathered
 
 is_answered : (c : After-drop-lines) → Answers (λ v. v.items) c.program.result (kept_program (found c.in_ok-lines.labels) 0 (map kept_view c.in_ok-lines.lines.items))
 is_answered c =
