@@ -4,3 +4,4 @@ pub mod Calls
 pub mod Removals
 pub mod Locks
 pub mod Overs
+pub mod Whole

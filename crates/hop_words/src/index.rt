@@ -63,8 +63,8 @@ pub(crate) fn depth(max: u64) -> u32
     10
 }
 
-// How many segments a map has.
-pub(crate) fn segments(shape: &MapShape) -> u32
+/// How many segments a map has: a power of two.
+pub fn segments(shape: &MapShape) -> u32
     requires { IsMapShape shape.now }
     ensures { result ≡ segments shape.now }
 {
@@ -80,8 +80,8 @@ fn segment_words(shape: &MapShape) -> u32
     130 << depth(shape.max)
 }
 
-// How many elements a map has.
-pub(crate) fn elements(shape: &MapShape) -> u32
+/// How many elements a map has.
+pub fn elements(shape: &MapShape) -> u32
     requires { IsMapShape shape.now }
     ensures elements { result ≡ element_count shape.now }
     ensures most { result ≤ 131072 }

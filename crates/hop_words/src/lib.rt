@@ -21,7 +21,7 @@ pub use bytes::word_of;
 pub use closing::{Rest, Returned};
 pub use dealing::Lanes;
 pub use hash::home;
-pub use index::Index;
+pub use index::{Index, elements, segments};
 pub use known::{About, Change, Fresh, Known, Limbo, Lock, Peek, Reading, Sight, Tally, View};
 pub use lane::Lane;
 pub use place::Place;

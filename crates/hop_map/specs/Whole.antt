@@ -1,0 +1,49 @@
+-- A whole call of a CPU, from what it knows before to what it knows after.
+use Rattle.std.specs.Prelude.{◌≡◌, ◌≢◌, ◌⊎◌, ℕ, ◌+◌, ◌-◌, ◌%◌, ◌^◌, ◌<◌, ◌≤◌, List, [], ◌∷◌, ◌++◌, length, slice_index}
+use Rattle.bpf_shared.specs.declared.events.Event.{Event}
+use Rattle.bpf_shared.specs.declared.events.MapAnswer.{MapAnswer}
+use Rattle.bpf_shared.specs.declared.events.MapAnswer.TheVariants.{Busy, NoMemory}
+use Rattle.bpf_shared.specs.Shape.{elements}
+use Rattle.hop_words.specs.declared.known.About.{About}
+use Rattle.hop_words.specs.declared.known.Known.{Known}
+use Rattle.hop_words.specs.declared.known.Sight.{Sight}
+use Rattle.hop_words.specs.declared.known.Sight.TheVariants.{Runs}
+use Rattle.hop_words.specs.Ghost.{shape_at, limbo_at}
+use Rattle.hop_words.specs.Rule.{done_in}
+use Rattle.hop_words.specs.Kinds.{Saw}
+use Rattle.hop_arena.specs.Claiming.{IsSeenTaken}
+
+-- between two calls a CPU has no element in hand, and no lock
+pub record Rests (l : Known) (m : ℕ) : Type 0 where
+  pub fresh : l.fresh ≡ []
+  pub locks : l.locks ≡ []
+  pub used : (limbo_at l.limbo m).used ≡ []
+
+-- the call's event was made; of all else only the batches of the map changed, and what was counted and seen
+pub record Called (a : About) (l : Known) (m : ℕ) (event : Event) (l' : Known) : Type 0 where
+  pub seen : Saw a l event l'.seen
+  pub rests : Rests l' m
+  pub cpu : l'.cpu ≡ l.cpu
+  pub readings : l'.readings ≡ l.readings
+  pub size : length l'.limbo ≡ length l.limbo
+  pub others : (n : ℕ) → n ≢ m → limbo_at l'.limbo n ≡ limbo_at l.limbo n
+
+-- the call looked for a free element in vain. First its two batches of the map were empty, or a CPU was
+-- still in the run that was noted with the old one; after that each element of the map was seen not free
+pub record IsShort (a : About) (l : Known) (m : ℕ) (l' : Known) : Type 0 where
+  pub sooner : List Sight
+  pub later : List Sight
+  pub sights : l'.tally.sights ≡ later ++ (sooner ++ l.tally.sights)
+  pub kept :
+      (((limbo_at l'.limbo m).old ≡ []) × ((limbo_at l'.limbo m).young ≡ []))
+      ⊎ ((d : ℕ) × (more : List Sight)
+        × (sooner ≡ Runs d (slice_index (limbo_at l'.limbo m).noted d) ∷ more)
+        × (slice_index (limbo_at l'.limbo m).noted d % 2 ≡ 1))
+  pub taken : (e : ℕ) → e < elements (shape_at a m) → IsSeenTaken later m e
+
+-- Busy only at a segment's last version, which so many changes of the map have paid for; NoMemory only
+-- where the call looked for a free element in vain
+abbrev pub Lacks : About → Known → ℕ → MapAnswer → Known → Type 0
+Lacks a l m Busy l' = 2 ^ 56 - 1 ≤ a.version + done_in m l'.seen
+Lacks a l m NoMemory l' = IsShort a l m l'
+Lacks a l m answer l' = Unit {0}
