@@ -9,3 +9,6 @@ pub mod Puts
 pub mod Locking
 pub mod Replacing
 pub mod Removing
+pub mod Homes
+pub mod Offering
+pub mod Verdicts

@@ -11,12 +11,15 @@ use Rattle.hop_words.specs.Kinds.{has, MayLink, Locked, locking, Saw, unlocking,
 use Rattle.hop_words.proofs.Layouts.{one, both}
 use Rattle.hop_words.specs.Locking.{lock_of, hand}
 use Rattle.hop_map.specs.Views.{Ready, knows, in_hand}
-use Rattle.hop_map.specs.Calls.{Contents, Brings, PutEnds}
+use Rattle.hop_map.specs.Calls.{Contents}
 use Rattle.bpf_shared.specs.declared.events.Event.TheVariants.{Update, Delete}
+use Rattle.bpf_shared.specs.declared.events.Entry.{Entry}
+use Rattle.bpf_shared.specs.declared.events.MapAnswer.{MapAnswer}
 use Rattle.bpf_shared.specs.declared.events.MapAnswer.TheVariants.{Done, Absent}
-use Rattle.hop_map.specs.declared.put.Put.{Put}
-use Rattle.hop_map.specs.declared.put.Put.TheVariants.{Taken, There, Missed, Held}
-use Rattle.hop_map.specs.Locks.{Carries, Readies, PutTells, counted_lock}
+use Rattle.hop_map.specs.declared.ending.Ending.{Ending}
+use Rattle.hop_map.specs.declared.ending.Ending.TheVariants.{Added, Replaced, Refused}
+use Rattle.hop_map.specs.Updates.{Wants, Valued, Offers, UpdateEnds, Refusal}
+use Rattle.hop_map.specs.Locks.{Carries, Readies, counted_lock}
 use Rattle.hop_map.proofs.Keys.{spells}
 use Rattle.hop_map.specs.declared.dropping.Deletion.{Deletion}
 use Rattle.hop_map.specs.declared.dropping.Deletion.TheVariants.{Gone, Missing, Kept}
@@ -88,37 +91,47 @@ module _ (a : About) (l : Known) (m s n : ℕ) (at_s : IsSegment a m s) (key : L
   pub locked_ready : Ready a l2 m s
   locked_ready = ready_with a l m s n at_s l2 t mine
 
+-- ---- an update
+module _ (a : About) (l : Known) (m s n : ℕ) (key bytes : List ℕ) (flags : ℕ) (l2 : Known) (t : Locked a l m s n l2) where
+  pub locked_wants : Wants a l m s key bytes flags → Wants a l2 m s key bytes flags
+  locked_wants b = subst (λ (q : Known). Wants a q m s key bytes flags) (sym t.after) (record { home = b.home; key_size = b.key_size; size = b.size; are_bytes = b.are_bytes; flags_known = b.flags_known; limbo = b.limbo; runs = b.runs })
+
+  module _ (idle : l.locks ≡ []) where
+    saw_before : (r : MapAnswer) (seen : List Entry) → Saw a l2 (Update m key bytes flags r) seen → Saw a (counted_lock l) (Update m key bytes flags r) seen
+    saw_before r seen p = let w = subst (λ (q : Known). Saw a q (Update m key bytes flags r) seen) t.after p in record { others = w.others; foreign = w.foreign; after = w.after; legal = w.legal }
+
+    pub refusal_before : (r : MapAnswer) (l3 : Known) → Refusal a l2 m key bytes flags r l3 → Refusal a (counted_lock l) m key bytes flags r l3
+    refusal_before r l3 p = record {
+      seen = saw_before r l3.seen p.seen;
+      after = p.after ∙ ap (λ (q : Known). record q { seen = l3.seen; locks = [] }) t.after;
+      refused = p.refused;
+      worn = p.worn;
+    }
+
+    pub ends_before : (e : Ending) (l3 : Known) → UpdateEnds a l2 m key bytes flags e l3 → UpdateEnds a (counted_lock l) m key bytes flags e l3
+    ends_before Added l3 p = record {
+      seen = saw_before Done l3.seen p.seen;
+      after = p.after ∙ ap (λ (q : Known). record q { seen = l3.seen; fresh = []; locks = [] }) t.after;
+    }
+    ends_before (Replaced e) l3 p = record {
+      inside = p.inside;
+      seen = saw_before Done l3.seen p.seen;
+      after = p.after ∙ ap (λ (q : Known). record q { seen = l3.seen; fresh = []; limbo = with_gone q m e; locks = [] }) t.after;
+    }
+    ends_before (Refused r) l3 p = (refusal_before r l3 p.0, p.1)
+
 module _ (a : About) (l : Known) (m s n : ℕ) (at_s : IsSegment a m s) (key bytes : List ℕ) (flags element : ℕ) (c : Readies a l m s key bytes flags element) (l2 : Known) (t : Locked a l m s n l2) where
-  pub locked_brings : Brings a l2 m s key bytes flags element
-  locked_brings = subst (λ (l : Known). Brings a l m s key bytes flags element) (sym t.after) (record {
+  pub locked_offers : Offers a l2 m s key bytes flags element
+  locked_offers = subst (λ (q : Known). Offers a q m s key bytes flags element) (sym t.after) (record {
+    wants = record { home = c.wants.home; key_size = c.wants.key_size; size = c.wants.size; are_bytes = c.wants.are_bytes; flags_known = c.wants.flags_known; limbo = c.wants.limbo; runs = c.wants.runs };
+    valued = record { filled = c.valued.filled; value = c.valued.value };
     in_hand = c.carries.in_hand;
     map = c.carries.map;
     number = c.carries.number;
     inside = c.carries.inside;
-    home = c.home;
-    size = c.size;
-    are_bytes = c.are_bytes;
-    filled = c.filled;
-    value = c.value;
     keyed = own_key a l m s n at_s key element c.carries l2 t;
-    flags_known = c.flags_known;
-    runs = c.runs;
+    apart = subst (λ (i : ℕ). has i t.known ≡ false) c.carries.number (t.apart (hand l) [] c.carries.in_hand c.carries.map);
   })
-
-  pub stamp_is : n ≡ (lock_of l2).stamp
-  stamp_is = sym (ap (λ (l : Known). (lock_of l).stamp) t.after)
-
-  unlocked_is : unlocking l2 ≡ counted_lock l
-  unlocked_is = ap unlocking t.after ∙ (λ j. record (counted_lock l) { locks = sym c.idle j })
-
-  pub ends : (e : Put) (l3 : Known) → PutEnds a l2 m s key bytes flags e l3 → PutTells a l m key bytes flags e l3
-  ends Taken l3 p = record {
-    seen = (let w = subst (λ (q : Known). Saw a q (Update m key bytes flags Done) l3.seen) t.after p.seen in record { others = w.others; foreign = w.foreign; after = w.after; legal = w.legal });
-    after = p.after ∙ ap (λ (q : Known). record q { seen = l3.seen; fresh = []; locks = [] }) t.after;
-  }
-  ends (There e) l3 p = p.1 ∙ unlocked_is
-  ends Missed l3 p = p ∙ unlocked_is
-  ends Held l3 p = absurd p
 
 -- ---- a deletion
 module _ (a : About) (l : Known) (m s n : ℕ) (key : List ℕ) (l2 : Known) (t : Locked a l m s n l2) where
@@ -126,10 +139,14 @@ module _ (a : About) (l : Known) (m s n : ℕ) (key : List ℕ) (l2 : Known) (t 
   locked_names b = subst (λ (q : Known). Names a q m s key) (sym t.after) (record { home = b.home; size = b.size; limbo = b.limbo; runs = b.runs })
 
   pub delete_ends : l.locks ≡ [] → (d : Deletion) (l3 : Known) → DeleteEnds a l2 m key d l3 → DeleteTells a l m key d l3
-  delete_ends idle (Gone e) l3 p = record {
-    seen = (let w = subst (λ (q : Known). Saw a q (Delete m key Done) l3.seen) t.after p.seen in record { others = w.others; foreign = w.foreign; after = w.after; legal = w.legal });
-    after = p.after ∙ ap (λ (q : Known). record q { seen = l3.seen; limbo = with_gone q m e; locks = [] }) t.after;
-  }
+  delete_ends idle (Gone e) l3 d =
+      let p = d.0 in (
+        record {
+          seen = (let w = subst (λ (q : Known). Saw a q (Delete m key Done) l3.seen) t.after p.seen in record { others = w.others; foreign = w.foreign; after = w.after; legal = w.legal });
+          after = p.after ∙ ap (λ (q : Known). record q { seen = l3.seen; limbo = with_gone q m e; locks = [] }) t.after;
+        },
+        d.1,
+      )
   delete_ends idle Missing l3 p = record {
     seen = (let w = subst (λ (q : Known). Saw a q (Delete m key Absent) l3.seen) t.after p.seen in record { others = w.others; foreign = w.foreign; after = w.after; legal = w.legal });
     after = p.after ∙ ap (λ (q : Known). record q { seen = l3.seen; locks = [] }) t.after;

@@ -67,6 +67,10 @@ module _ (a : About) (l : Known) (m s : ℕ) (c : Contents a l m s) where
       pub leads_with : (e : ℕ) → HasPair (view a m s (λ e. has e (lock_of l).known || more e) x) key e → LeadsTo a (lock_of l) key e
       leads_with e h f p = (pair_leads a m s (λ e. has e (lock_of l).known || more e) x f (here f p) (known_by f (here f p)) key e h).0
 
+      -- an element that a key leads to is one of the map's
+      pub was_inside : (e : ℕ) → HasPair (view a m s (λ e. has e (lock_of l).known || more e) x) key e → e < elements (shape_at a m)
+      was_inside e h = (known_by c.content share key e (pair_leads a m s (λ e. has e (lock_of l).known || more e) x c.content share (known_by c.content share) key e h).0 at_home).0
+
 pub or_last : (x y : Bool) → y ≡ true → (x || y) ≡ true
 or_last true y is = refl
 or_last false y is = is

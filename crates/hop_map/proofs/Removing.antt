@@ -13,16 +13,16 @@ use Rattle.hop_words.specs.Rule.{image, put_key, numbered}
 use Rattle.hop_words.specs.Kinds.{has, IsAbsent, Answers, Answered, Removes, Removed, IsWritten, Saw, unlocking, with_gone}
 use Rattle.hop_words.specs.Locking.{lock_of}
 use Rattle.hop_words.proofs.Small.{map_is}
-use Rattle.bpf_shared.specs.Shape.{Shape, IsMap}
+use Rattle.bpf_shared.specs.Shape.{Shape, IsMap, elements}
 use Rattle.std.specs.FinMap.{get}
 use Rattle.std.specs.Prelude.{is_some}
 use Rattle.hop_seg.specs.Segment.{Sound as SegSound}
-use Rattle.hop_seg.specs.Content.{IsAbsent as SegAbsent, Loses}
+use Rattle.hop_seg.specs.Content.{IsAbsent as SegAbsent, HasPair, Loses}
 use Rattle.hop_map.specs.Views.{Locked, Stays, Ready, in_hand, is_put, words}
 use Rattle.hop_map.specs.Calls.{Contents}
 use Rattle.hop_map.specs.Removals.{Names, Dropped, NotThere}
 use Rattle.hop_map.proofs.Bridge.{removed}
-use Rattle.hop_map.proofs.Puts.{sound_with, absent_with, leads_with, known_by, here}
+use Rattle.hop_map.proofs.Puts.{sound_with, absent_with, leads_with, known_by, here, was_inside}
 
 -- the lock, once the key has been counted off
 abbrev pub dropping : Known → List ℕ → Lock
@@ -43,6 +43,10 @@ module _ (x : Locked) (key : List ℕ) (c : Contents x.about x.known x.map x.seg
 
   more : ℕ → Bool
   more e = is_put k.change e || in_hand x.known.fresh x.map e
+
+  pub drop_inside : (e : ℕ) → HasPair (words x) key e → e < elements (shape_at x.about x.map)
+  unfolding more
+  drop_inside e h = was_inside x.about x.known x.map x.segment c more key b.home e h
 
   pub drop_sound : SegSound (words x)
   unfolding more

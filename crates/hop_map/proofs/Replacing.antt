@@ -23,7 +23,7 @@ use Rattle.hop_map.specs.Overs.{BringsOver, Over}
 use Rattle.hop_map.proofs.Keys.{spells}
 use Rattle.hop_map.proofs.Counted.{or_true}
 use Rattle.hop_map.proofs.Bridge.{replaced, reached_of, power_is}
-use Rattle.hop_map.proofs.Puts.{sound_with, share, any_known, leads_with, known_by, here, or_last}
+use Rattle.hop_map.proofs.Puts.{sound_with, share, any_known, leads_with, known_by, here, or_last, was_inside}
 
 module _ (x : Locked) (key bytes : List ℕ) (flags element : ℕ) (c : Contents x.about x.known x.map x.segment) (b : BringsOver x.about x.known x.map x.segment key bytes flags element) where
   abbrev k : Lock
@@ -107,14 +107,15 @@ module _ (x : Locked) (key bytes : List ℕ) (flags element : ℕ) (c : Contents
     over_replaces old g r = subst (λ (q : Locked). Changes (words x) (words q) key old element → Ready q.about q.known q.map q.segment → Replaces q.about q.known (lock_of q.known) (hand q.known) [] key bytes flags old)
         (sym (z_is r.held)) (λ g r. replaces (lock_of z.known).copy (lock_of z.known).dirty old r g) g r
 
-    pub over_ends : (old : ℕ) (l3 : Known) → Replaced z.about z.known (lock_of z.known) [] key bytes flags old l3 → Over x.about x.known x.map key bytes flags l3
-    over_ends old l3 p =
+    pub over_ends : (old : ℕ) (l3 : Known) → HasPair (words x) key old → Replaced z.about z.known (lock_of z.known) [] key bytes flags old l3 → Over x.about x.known x.map key bytes flags old l3
+    unfolding more
+    over_ends old l3 was p =
         let m : (lock_of z.known).map ≡ x.map = ap (λ (q : Lock). q.map) st.lock ∙ c.map in
         let w : Saw x.about x.known (Update x.map key bytes flags Done) l3.seen = (let v = subst (λ (q : Known). Saw x.about q (Update x.map key bytes flags Done) l3.seen) st.known
         (subst (λ (a : About). Saw a z.known (Update x.map key bytes flags Done) l3.seen) st.about (subst (λ (n : ℕ). Saw z.about z.known (Update n key bytes flags Done) l3.seen) m p.seen)) in
         record { others = v.others; foreign = v.foreign; after = v.after; legal = v.legal }) in
         record {
-          old = old;
+          inside = was_inside x.about x.known x.map x.segment c more key b.home old was;
           seen = w;
           after = p.after ∙ (λ j. record (st.known j) { seen = l3.seen; fresh = []; limbo = with_gone (st.known j) (m j) old; locks = [] });
         }

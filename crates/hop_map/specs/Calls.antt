@@ -12,9 +12,7 @@ use Rattle.hop_words.specs.Homes.{segment_of, word_of, AreBytes}
 use Rattle.hop_words.specs.Content.{IsShare, HasKey}
 use Rattle.hop_words.specs.Ghost.{segment_in, shape_at}
 use Rattle.hop_words.specs.Rule.{image}
-use Rattle.hop_words.specs.Kinds.{has, in_run, Saw, LeadsTo, unlocking}
-use Rattle.hop_map.specs.declared.put.Put.{Put}
-use Rattle.hop_map.specs.declared.put.Put.TheVariants.{Taken, There, Missed, Held}
+use Rattle.hop_words.specs.Kinds.{has, in_run, Saw}
 use Rattle.hop_words.specs.Locking.{lock_of, hand}
 
 -- what the words showed when they were locked; nothing has changed since
@@ -53,10 +51,3 @@ pub record Took (a : About) (l : Known) (m : ℕ) (key bytes : List ℕ) (flags 
     Type 0 where
   pub seen : Saw a l (Update m key bytes flags Done) l2.seen
   pub after : l2 ≡ record l { seen = l2.seen; fresh = []; locks = [] }
-
--- what became of an element that was to be put, and of the lane
-abbrev pub PutEnds : About → Known → ℕ → ℕ → List ℕ → List ℕ → ℕ → Put → Known → Type 0
-PutEnds a l m s key bytes flags Taken l2 = Took a l m key bytes flags l2
-PutEnds a l m s key bytes flags (There e) l2 = LeadsTo a (lock_of l) key e × (l2 ≡ unlocking l)
-PutEnds a l m s key bytes flags Missed l2 = l2 ≡ unlocking l
-PutEnds a l m s key bytes flags Held l2 = ⊥

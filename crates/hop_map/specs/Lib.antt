@@ -5,3 +5,4 @@ pub mod Removals
 pub mod Locks
 pub mod Overs
 pub mod Whole
+pub mod Updates

@@ -8,10 +8,8 @@ use Rattle.bpf_shared.specs.History.{events_of}
 use Rattle.hop_words.specs.Homes.{segment_of, word_of, AreBytes}
 use Rattle.hop_words.specs.Ghost.{shape_at}
 use Rattle.hop_words.specs.Kinds.{in_run}
-use Rattle.hop_map.specs.declared.put.Put.{Put}
-use Rattle.hop_map.specs.declared.put.Put.TheVariants.{Taken, There, Missed, Held}
 use Rattle.hop_words.specs.Locking.{hand}
-use Rattle.hop_map.specs.Calls.{Took}
+use Rattle.hop_map.specs.Updates.{Wants, Valued}
 use Rattle.hop_map.specs.declared.dropping.Deletion.{Deletion}
 use Rattle.hop_map.specs.declared.dropping.Deletion.TheVariants.{Gone, Missing, Kept}
 use Rattle.hop_map.specs.Removals.{Dropped, NotThere}
@@ -32,29 +30,16 @@ pub record Carries (a : About) (l : Known) (m : ℕ) (key : List ℕ) (element :
 pub record Readies (a : About) (l : Known) (m s : ℕ) (key bytes : List ℕ) (flags element : ℕ) :
     Type 0 where
   pub carries : Carries a l m key element
-  pub home : segment_of a.seed (shape_at a m) key ≡ s
-  pub size : length bytes ≡ (shape_at a m).value
-  pub are_bytes : AreBytes bytes
-  pub filled : length (hand l).value ≡ words_for (shape_at a m).value
-  pub value : (i : ℕ) → i < words_for (shape_at a m).value →
-      slice_index (hand l).value i ≡ word_of bytes i
-  pub flags_known : flags < 2
-  pub runs : in_run (events_of l.cpu l.seen) ≡ true
+  pub valued : Valued a l m bytes
+  pub wants : Wants a l m s key bytes flags
   pub idle : l.locks ≡ []
 
 -- one lock more was counted
 abbrev pub counted_lock : Known → Known
 counted_lock l = record l { tally = record l.tally { locks = l.tally.locks + 1 } }
 
--- how a put ends: with the one event, or with none
-abbrev pub PutTells : About → Known → ℕ → List ℕ → List ℕ → ℕ → Put → Known → Type 0
-PutTells a l m key bytes flags Taken l2 = Took a (counted_lock l) m key bytes flags l2
-PutTells a l m key bytes flags (There e) l2 = l2 ≡ counted_lock l
-PutTells a l m key bytes flags Missed l2 = l2 ≡ counted_lock l
-PutTells a l m key bytes flags Held l2 = l2 ≡ l
-
 -- how a deletion ends, from before its lock to after its unlock
 abbrev pub DeleteTells : About → Known → ℕ → List ℕ → Deletion → Known → Type 0
-DeleteTells a l m key (Gone e) l2 = Dropped a (counted_lock l) m key e l2
+DeleteTells a l m key (Gone e) l2 = Dropped a (counted_lock l) m key e l2 × (e < elements (shape_at a m))
 DeleteTells a l m key Missing l2 = NotThere a (counted_lock l) m key l2
 DeleteTells a l m key Kept l2 = l2 ≡ l

@@ -2,6 +2,7 @@
 use Rattle.std.specs.Prelude.{◌≡◌, ℕ, ◌<◌, true, List, [], length}
 use Rattle.bpf_shared.specs.declared.events.Event.TheVariants.{Delete}
 use Rattle.bpf_shared.specs.declared.events.MapAnswer.TheVariants.{Done, Absent}
+use Rattle.bpf_shared.specs.Shape.{elements}
 use Rattle.bpf_shared.specs.History.{events_of}
 use Rattle.hop_words.specs.declared.known.About.{About}
 use Rattle.hop_words.specs.declared.known.Known.{Known}
@@ -30,6 +31,6 @@ pub record NotThere (a : About) (l : Known) (m : ℕ) (key : List ℕ) (l2 : Kno
 
 -- how a deletion under the lock ends
 abbrev pub DeleteEnds : About → Known → ℕ → List ℕ → Deletion → Known → Type 0
-DeleteEnds a l m key (Gone e) l2 = Dropped a l m key e l2
+DeleteEnds a l m key (Gone e) l2 = Dropped a l m key e l2 × (e < elements (shape_at a m))
 DeleteEnds a l m key Missing l2 = NotThere a l m key l2
 DeleteEnds a l m key Kept l2 = ⊥

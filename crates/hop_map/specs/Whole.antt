@@ -37,8 +37,8 @@ pub record IsShort (a : About) (l : Known) (m : ℕ) (l' : Known) : Type 0 where
   pub kept :
       (((limbo_at l'.limbo m).old ≡ []) × ((limbo_at l'.limbo m).young ≡ []))
       ⊎ ((d : ℕ) × (more : List Sight)
-        × (sooner ≡ Runs d (slice_index (limbo_at l'.limbo m).noted d) ∷ more)
-        × (slice_index (limbo_at l'.limbo m).noted d % 2 ≡ 1))
+      × (sooner ≡ Runs d (slice_index (limbo_at l'.limbo m).noted d) ∷ more)
+      × (slice_index (limbo_at l'.limbo m).noted d % 2 ≡ 1))
   pub taken : (e : ℕ) → e < elements (shape_at a m) → IsSeenTaken later m e
 
 -- Busy only at a segment's last version, which so many changes of the map have paid for; NoMemory only

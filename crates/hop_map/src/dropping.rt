@@ -35,6 +35,7 @@ pub fn drop_key<'a>(words: LockedWords<'a>, stamp: u64, home: u32, key: &[u8]) -
     requires fits { stamp + 256 < 2 ^ 64 }
     requires there { (e : ℕ) × HasPair (seen words) key.now e }
     ensures table { result.0.table ≡ words.entry.table }
+    ensures inside { result.1 < elements_of (shape_at words.entry.about words.entry.map) }
     ensures dropped { Dropped words.entry.about words.entry.known words.entry.map
         key.now result.1 result.0.known }
 {

@@ -1,24 +1,34 @@
 //! Where a key is at home, and the sizes of its map.
 ghost use Rattle.std.specs.Prelude.{◌≡◌, ◌<◌, ◌≤◌, length};
-ghost use Rattle.bpf_shared.specs.Shape.{elements as elements_of};
+ghost use Rattle.bpf_shared.specs.Shape.{IsMapShape, elements as elements_of};
 ghost use Rattle.hop_words.specs.Home.{home_of};
 ghost use Rattle.hop_words.specs.Homes.{segment_of};
 ghost use Rattle.hop_words.specs.Ghost.{shape_at, IsSegment};
 
+use bpf_shared::MapShape;
 use hop_words::{HopTable, elements, home, segments};
 
 /// The home of a key and its segment; the size of the map's keys in bytes, and how many elements the
 /// map has.
 #[derive(Clone, Copy)]
-pub(crate) struct Homing {
+pub(crate) struct KeyHome {
     pub(crate) home: u32,
     pub(crate) segment: u32,
     pub(crate) key_size: usize,
     pub(crate) elements: u32,
 }
 
+/// The sizes of a map.
+pub(crate) fn shape_of(table: &HopTable, map: u8) -> MapShape
+    requires map { map < length table.now.about.shape.maps }
+    ensures shape { result ≡ shape_at table.now.about map }
+    ensures sizes { IsMapShape result }
+{
+    table.about().shape.maps()[usize::from(map)]
+}
+
 /// Where a key of a map is at home.
-pub(crate) fn homing(table: &HopTable, map: u8, key: &[u8]) -> Homing
+pub(crate) fn homing(table: &HopTable, map: u8, key: &[u8]) -> KeyHome
     requires map { map < length table.now.about.shape.maps }
     ensures home { result.home ≡ home_of key.now table.now.about.seed (shape_at table.now.about map).mask }
     ensures segment { result.segment ≡ segment_of table.now.about.seed (shape_at table.now.about map) key.now }
@@ -27,13 +37,12 @@ pub(crate) fn homing(table: &HopTable, map: u8, key: &[u8]) -> Homing
     ensures small { result.key_size ≤ 64 }
     ensures elements { result.elements ≡ elements_of (shape_at table.now.about map) }
 {
-    let about = table.about();
-    let shape = &about.shape.maps()[usize::from(map)];
-    let home = home(key, about.seed, shape.mask);
-    Homing {
+    let shape = shape_of(table, map);
+    let home = home(key, table.about().seed, shape.mask);
+    KeyHome {
         home,
-        segment: home % segments(shape),
+        segment: home % segments(&shape),
         key_size: shape.key as usize,
-        elements: elements(shape),
+        elements: elements(&shape),
     }
 }

@@ -1,23 +1,28 @@
 //! The words of a locked segment.
-ghost use Rattle.std.specs.Prelude.{◌≡◌, ◌<◌, ◌≤◌, ◌+◌, ◌^◌, ◌↔◌, true, false, [], length, IsTrue, IsFalse};
+ghost use Rattle.std.specs.Prelude.{◌≡◌, ◌≢◌, ◌⊎◌, ◌<◌, ◌≤◌, ◌+◌, ◌^◌, ◌↔◌, true, false, [], length, IsTrue, IsFalse, IfSome, None};
 ghost use Rattle.bpf_shared.specs.Shape.{elements as elements_of};
 ghost use Rattle.hop_words.specs.Layout.{is_place, mem};
 ghost use Rattle.hop_words.specs.Ghost.{shape_at};
-ghost use Rattle.bpf_shared.specs.declared.events.Event.TheVariants.{Delete};
+ghost use Rattle.bpf_shared.specs.declared.events.Event.TheVariants.{Delete, Update};
+ghost use Rattle.bpf_shared.specs.declared.events.MapAnswer.TheVariants.{Full, NoMemory};
 ghost use Rattle.hop_words.specs.Rule.{owed};
-ghost use Rattle.hop_words.specs.Kinds.{Inserted, IsAbsent, IsWritten, unlocking, Replaces, Replaced, Removes, Answers, Answered};
+ghost use Rattle.hop_words.specs.Kinds.{Inserted, IsAbsent, IsWritten, unlocking, Replaces, Replaced, Removes, Answers, Answered, Told};
 ghost use Rattle.hop_words.specs.Locking.{lock_of, hand};
 ghost use Rattle.hop_words.specs.Guarded.{IsGuarded, MayWrite};
 ghost use Rattle.hop_map.specs.Views.{IsNoKey, written, knows, Spells, Ready, Fits};
 ghost use Rattle.hop_words.specs.declared.known.Change.TheVariants.{Drops};
 ghost use Rattle.hop_map.specs.Calls.{Contents, Brings};
 ghost use Rattle.hop_map.specs.Removals.{Dropped};
+ghost use Rattle.hop_map.specs.Updates.{Wants, Offers};
 
+use crate::homing::shape_of;
 use crate::numbers::{item, link_word};
 use bpf_shared::MapAnswer;
+use crossbeam_utils::Backoff;
 use hop_seg::{SegReads, SegWords};
 use hop_words::{HopTable, Lane, Place, word_of};
 use std::marker::Model;
+use std::sync::Wait;
 
 /// The words of a segment whose lock this CPU has.
 #[derive(Drop)]
@@ -106,6 +111,96 @@ impl<'a> LockedWords<'a> {
             .count_up(self.table, self.map, count, key, value, flags)
     }
 
+    /// The key count, where the map has room for one key more. Where it hasn't, the update is
+    /// answered with `Full`.
+    fn see_room(&mut self, key: &[u8], value: &[u8], flags: u64) -> Option<u64>
+        requires contents { Contents self.old.about self.old.known self.old.map self.old.segment }
+        requires wants { Wants self.old.about self.old.known self.old.map self.old.segment
+            key.now value.now flags }
+        requires absent { IsAbsent self.old.about (lock_of self.old.known) key.now }
+        requires new { flags ≢ 2 }
+        ensures full { result ≡ None →
+            Told self.old.about self.old.known (Update self.old.map key.now value.now flags Full)
+            self.new.known }
+        ensures room { IfSome result (λ n. (self.new ≡ self.old)
+            × (n < (shape_at self.old.about self.old.map).max)) }
+        ensures fits { IfSome result (λ n. n + 1 < 2 ^ 64) }
+        ensures table { self.new.table ≡ self.old.table }
+        ensures about { self.new.about ≡ self.old.about }
+        ensures map { self.new.map ≡ self.old.map }
+        ensures segment { self.new.segment ≡ self.old.segment }
+    {
+        let max = shape_of(self.table, self.map).max;
+        let count = self.lane.see_count(self.table, self.map, key, value, flags);
+        if count == max { None } else { Some(count) }
+    }
+
+    /// Counts the new key: from then on the element is the map's, and the words remain to be
+    /// written. Or the update is answered with `Full`.
+    pub(crate) fn count_in<R: Wait>(
+        &mut self,
+        rt: &R,
+        element: u32,
+        key: &[u8],
+        value: &[u8],
+        flags: u64,
+    ) -> bool
+        requires contents { Contents self.old.about self.old.known self.old.map self.old.segment }
+        requires offers { Offers self.old.about self.old.known self.old.map self.old.segment
+            key.now value.now flags element }
+        requires absent { IsAbsent self.old.about (lock_of self.old.known) key.now }
+        requires new { flags ≢ 2 }
+        ensures counted { let l = self.old.known in
+            IsTrue result →
+            Inserted self.old.about l (lock_of l) (hand l) [] key.now value.now flags self.new.known }
+        ensures full { IsFalse result →
+            Told self.old.about self.old.known (Update self.old.map key.now value.now flags Full)
+            self.new.known }
+        ensures table { self.new.table ≡ self.old.table }
+        ensures about { self.new.about ≡ self.old.about }
+        ensures map { self.new.map ≡ self.old.map }
+        ensures segment { self.new.segment ≡ self.old.segment }
+    {
+        let pause = Backoff::new();
+        for _ in rt.forever() {
+            let Some(count) = self.see_room(key, value, flags) else {
+                return false;
+            };
+            if self.count_up(element, key, value, flags, count) {
+                return true;
+            }
+            pause.spin();
+        }
+        unreachable!()
+    }
+
+    /// Whether the map is full, and so the update's answer: `Full`, or `NoMemory` where no element is
+    /// to be had.
+    pub(crate) fn see_lack(&mut self, key: &[u8], value: &[u8], flags: u64) -> MapAnswer
+        requires contents { Contents self.old.about self.old.known self.old.map self.old.segment }
+        requires wants { Wants self.old.about self.old.known self.old.map self.old.segment
+            key.now value.now flags }
+        requires absent { IsAbsent self.old.about (lock_of self.old.known) key.now }
+        requires new { flags ≢ 2 }
+        ensures told { Told self.old.about self.old.known
+            (Update self.old.map key.now value.now flags result) self.new.known }
+        ensures answer { (result ≡ Full) ⊎ (result ≡ NoMemory) }
+        ensures table { self.new.table ≡ self.old.table }
+        ensures about { self.new.about ≡ self.old.about }
+        ensures map { self.new.map ≡ self.old.map }
+        ensures segment { self.new.segment ≡ self.old.segment }
+    {
+        let max = shape_of(self.table, self.map).max;
+        let count = self
+            .lane
+            .see_count_lacking(self.table, self.map, key, value, flags);
+        if count == max {
+            MapAnswer::Full
+        } else {
+            MapAnswer::NoMemory
+        }
+    }
+
     /// Gives the lock back, after what took effect has been written.
     pub(crate) fn unlock_written(self, stamp: u64) -> Lane
         requires stamp { stamp ≡ (lock_of self.known).stamp }
@@ -182,6 +277,30 @@ impl<'a> LockedWords<'a> {
         let (table, map, segment) = (self.table, self.map, self.segment);
         let mut lane = self.lane;
         lane.unlock_delete(table, map, segment, stamp, key, answer);
+        lane
+    }
+
+    /// Gives the lock back, where nothing has changed, and with it an update is answered.
+    pub(crate) fn unlock_update(
+        self,
+        stamp: u64,
+        key: &[u8],
+        value: &[u8],
+        flags: u64,
+        answer: MapAnswer,
+    ) -> Lane
+        requires stamp { stamp ≡ (lock_of self.known).stamp }
+        requires answers { let l = self.known in
+            Ready self.about l self.map self.segment →
+            Answers self.about l (lock_of l) (Update self.map key.now value.now flags answer) }
+        ensures table { result.table ≡ self.entry.table }
+        ensures answered { let l = self.entry.known in
+            Answered self.entry.about l (lock_of l)
+            (Update self.entry.map key.now value.now flags answer) result.known }
+    {
+        let (table, map, segment) = (self.table, self.map, self.segment);
+        let mut lane = self.lane;
+        lane.unlock_update(table, map, segment, stamp, key, value, flags, answer);
         lane
     }
 

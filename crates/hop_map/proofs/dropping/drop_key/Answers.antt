@@ -1,4 +1,4 @@
-use Rattle.hop_map.proofs.Removing.{drop_sound, drop_removes, drop_written, drop_ends}
+use Rattle.hop_map.proofs.Removing.{drop_sound, drop_removes, drop_written, drop_ends, drop_inside}
 use Rattle.hop_map.proofs.dropping.drop_key.Goals as goal
 
 pub remove-element-requires-clause-sound : goal.remove-element-requires-clause-sound
@@ -12,3 +12,6 @@ unlock_removed-requires-clause-written c = drop_written c.args.words c.args.key.
 
 pub returns-clause-dropped : goal.returns-clause-dropped
 returns-clause-dropped c = drop_ends c.args.words c.args.key.now c.requires.contents c.requires.names c.remove-element.new.words c.remove-element.ensures.stays c.remove-element.result c.unlock_removed.result.known c.unlock_removed.ensures.dropped
+
+pub returns-clause-inside : goal.returns-clause-inside
+returns-clause-inside c = drop_inside c.args.words c.args.key.now c.requires.contents c.requires.names c.remove-element.result c.remove-element.ensures.loses.was

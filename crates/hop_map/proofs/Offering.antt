@@ -1,0 +1,93 @@
+-- What is offered under the lock serves as a new element, and in the place of another.
+use Rattle.std.proofs.Common.{◌≡◌, ◌≢◌, ℕ, zero, suc, Bool, true, false, ◌==◌, ◌+◌, ◌<◌, ◌≤◌, ◌⊎◌, inl, inr, List, [], arith, refl, sym, subst, ap, ◌∙◌}
+use Rattle.std.proofs.lemmas.Bool.{eqb-false}
+use Rattle.hop_words.proofs.Layouts.{one}
+use Rattle.hop_words.specs.declared.known.About.{About}
+use Rattle.hop_words.specs.declared.known.Known.{Known}
+use Rattle.hop_words.specs.declared.known.Lock.{Lock}
+use Rattle.bpf_shared.specs.declared.events.Entry.{Entry}
+use Rattle.bpf_shared.specs.declared.events.Event.{Event}
+use Rattle.hop_words.specs.Ghost.{shape_at}
+use Rattle.hop_words.specs.Kinds.{IsAbsent, Counts, Told}
+use Rattle.hop_words.specs.Locking.{lock_of, SeesRoom, SeesLack}
+use Rattle.hop_map.specs.Views.{Ready}
+use Rattle.hop_map.specs.Calls.{Contents, Brings}
+use Rattle.hop_map.specs.Overs.{BringsOver}
+use Rattle.hop_map.specs.Updates.{Wants, Offers}
+
+module _ (a : About) (l : Known) (m s : ℕ) (key bytes : List ℕ) (flags element : ℕ) (b : Offers a l m s key bytes flags element) where
+  pub brings : flags ≢ 2 → Brings a l m s key bytes flags element
+  brings new = record {
+    in_hand = b.in_hand;
+    map = b.map;
+    number = b.number;
+    inside = b.inside;
+    home = b.wants.home;
+    size = b.wants.size;
+    are_bytes = b.wants.are_bytes;
+    filled = b.valued.filled;
+    value = b.valued.value;
+    keyed = b.keyed;
+    flags_known = (let f = b.wants.flags_known in omega arith);
+    runs = b.wants.runs;
+  }
+
+  pub brings_over : flags ≢ 1 → BringsOver a l m s key bytes flags element
+  brings_over over = record {
+    in_hand = b.in_hand;
+    map = b.map;
+    number = b.number;
+    inside = b.inside;
+    home = b.wants.home;
+    size = b.wants.size;
+    are_bytes = b.wants.are_bytes;
+    filled = b.valued.filled;
+    value = b.valued.value;
+    keyed = b.keyed;
+    flags_known = zero_or_two flags b.wants.flags_known over;
+    runs = b.wants.runs;
+    limbo = b.wants.limbo;
+    apart = b.apart;
+  }
+    where
+      zero_or_two : (n : ℕ) → n ≤ 2 → n ≢ 1 → (n ≡ 0) ⊎ (n ≡ 2)
+      zero_or_two zero few other = inl refl
+      zero_or_two (suc zero) few other = absurd (other refl)
+      zero_or_two (suc (suc zero)) few other = inr refl
+      zero_or_two (suc (suc (suc n))) few other = absurd (omega arith)
+
+-- the count may be seen
+pub counts : (a : About) (l : Known) (m s : ℕ) (key bytes : List ℕ) (flags : ℕ) → Ready a l m s → Contents a l m s → Wants a l m s key bytes flags → IsAbsent a (lock_of l) key → flags ≢ 2
+    → Counts a l (lock_of l) key bytes flags
+counts a l m s key bytes flags r c w absent new =
+    let k = lock_of l in
+    let w' : Wants a l k.map k.segment key bytes flags = subst (λ (t : ℕ). Wants a l k.map t key bytes flags) (sym c.segment) (subst (λ (n : ℕ). Wants a l n s key bytes flags) (sym c.map) w) in
+    record {
+      lock = r.held;
+      nothing = c.nothing;
+      home = w'.home;
+      key_size = w'.key_size;
+      size = w'.size;
+      absent = absent;
+      flags_known = (let f = w.flags_known in omega arith);
+      runs = w.runs;
+    }
+
+-- an event that changes nothing leaves the lock as it was
+told_ready : (a : About) (l : Known) (m s : ℕ) (e : Event) (l2 : Known) → Ready a l m s → Told a l e l2 → Ready a l2 m s
+told_ready a l m s e l2 r t = subst (λ (q : Known). Ready a q m s) (sym t.after) (record { held = r.held; map = r.map; segment = r.segment; inside = r.inside; sized = r.sized; known_is = r.known_is })
+
+module _ (a : About) (l : Known) (m s : ℕ) (r : Ready a l m s) (key bytes : List ℕ) (flags n : ℕ) (l2 : Known) where
+  pub room_ready : SeesRoom a l key bytes flags n l2 → Ready a l2 m s
+  room_ready t = go (n == (shape_at a (lock_of l).map).max) refl
+    where
+      go : (b : Bool) → (n == (shape_at a (lock_of l).map).max) ≡ b → Ready a l2 m s
+      go true is = told_ready a l m s _ l2 r (t.0 (one n _ is))
+      go false is = subst (λ (q : Known). Ready a q m s) (sym (t.1 (eqb-false n _ is)).0) r
+
+  pub lack_ready : SeesLack a l key bytes flags n l2 → Ready a l2 m s
+  lack_ready t = go (n == (shape_at a (lock_of l).map).max) refl
+    where
+      go : (b : Bool) → (n == (shape_at a (lock_of l).map).max) ≡ b → Ready a l2 m s
+      go true is = told_ready a l m s _ l2 r (t.0 (one n _ is))
+      go false is = told_ready a l m s _ l2 r (t.1 (eqb-false n _ is))

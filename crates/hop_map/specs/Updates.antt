@@ -1,0 +1,78 @@
+-- An update, from under the lock to the whole call.
+use Rattle.std.specs.Prelude.{◌≡◌, ◌≢◌, ℕ, ◌+◌, ◌-◌, ◌^◌, ◌<◌, ◌≤◌, ◌/◌, true, false, List, [], ◌∷◌, length, slice_index}
+use Rattle.bpf_shared.specs.Shape.{elements}
+use Rattle.bpf_shared.specs.History.{events_of}
+use Rattle.bpf_shared.specs.declared.events.Event.TheVariants.{Update}
+use Rattle.bpf_shared.specs.declared.events.MapAnswer.{MapAnswer}
+use Rattle.bpf_shared.specs.declared.events.MapAnswer.TheVariants.{Done, Busy, NoMemory, Full}
+use Rattle.hop_words.specs.declared.known.About.{About}
+use Rattle.hop_words.specs.declared.known.Known.{Known}
+use Rattle.hop_words.specs.Layout.{words_for}
+use Rattle.hop_words.specs.Homes.{segment_of, word_of, AreBytes}
+use Rattle.hop_words.specs.Content.{HasKey}
+use Rattle.hop_words.specs.Ghost.{shape_at}
+use Rattle.hop_words.specs.Rule.{image, done_in}
+use Rattle.hop_words.specs.Kinds.{has, in_run, Saw, IsAbsent, Answers, Told}
+use Rattle.hop_words.specs.Locking.{lock_of, hand}
+use Rattle.hop_seg.specs.Content.{HasPair, IsAbsent as SegAbsent}
+use Rattle.hop_map.specs.declared.ending.Ending.{Ending}
+use Rattle.hop_map.specs.declared.ending.Ending.TheVariants.{Added, Replaced, Refused}
+use Rattle.hop_map.specs.declared.judging.Finding.{Finding}
+use Rattle.hop_map.specs.declared.judging.Finding.TheVariants.{Refuses, There, Missing}
+use Rattle.hop_map.specs.Views.{Locked, Ready, words}
+use Rattle.hop_map.specs.Calls.{Took}
+use Rattle.hop_map.specs.Overs.{Over}
+
+-- a call in a run has a key of this segment, a value, and flags that are known
+pub record Wants (a : About) (l : Known) (m s : ℕ) (key bytes : List ℕ) (flags : ℕ) : Type 0 where
+  pub home : segment_of a.seed (shape_at a m) key ≡ s
+  pub key_size : length key ≡ (shape_at a m).key
+  pub size : length bytes ≡ (shape_at a m).value
+  pub are_bytes : AreBytes bytes
+  pub flags_known : flags ≤ 2
+  pub limbo : m < length l.limbo
+  pub runs : in_run (events_of l.cpu l.seen) ≡ true
+
+-- the one element in hand has the value
+pub record Valued (a : About) (l : Known) (m : ℕ) (bytes : List ℕ) : Type 0 where
+  pub filled : length (hand l).value ≡ words_for (shape_at a m).value
+  pub value : (i : ℕ) → i < words_for (shape_at a m).value →
+      slice_index (hand l).value i ≡ word_of bytes i
+
+-- under the lock, with an element in hand that has the key and the value
+pub record Offers (a : About) (l : Known) (m s : ℕ) (key bytes : List ℕ) (flags element : ℕ) :
+    Type 0 where
+  pub wants : Wants a l m s key bytes flags
+  pub valued : Valued a l m bytes
+  pub in_hand : l.fresh ≡ hand l ∷ []
+  pub map : (hand l).map ≡ m
+  pub number : (hand l).element ≡ element
+  pub inside : element < elements (shape_at a m)
+  pub keyed : HasKey (shape_at a m) (image a (lock_of l).first) m element key
+  -- by what the lock told
+  pub apart : has element (lock_of l).known ≡ false
+
+-- what the lock's words and the flags say of an update
+abbrev pub Judges : Locked → List ℕ → List ℕ → ℕ → Finding → Type 0
+Judges x key bytes flags (Refuses r) =
+    (r ≢ Done) × (r ≢ NoMemory) × (r ≡ Busy → 2 ^ 56 - 1 ≤ (lock_of x.known).stamp / 256)
+    × (Ready x.about x.known x.map x.segment →
+    Answers x.about x.known (lock_of x.known) (Update x.map key bytes flags r))
+Judges x key bytes flags There =
+    ((lock_of x.known).stamp + 256 < 2 ^ 64) × (flags ≢ 1) × ((e : ℕ) × HasPair (words x) key e)
+Judges x key bytes flags Missing =
+    ((lock_of x.known).stamp + 256 < 2 ^ 64) × (flags ≢ 2) × SegAbsent (words x) key
+
+-- the answer's event, and all else as it was; Busy only where changes have worn the versions out
+pub record Refusal (a : About) (l : Known) (m : ℕ) (key bytes : List ℕ) (flags : ℕ) (r : MapAnswer)
+    (l2 : Known) : Type 0 where
+  pub seen : Saw a l (Update m key bytes flags r) l2.seen
+  pub after : l2 ≡ record l { seen = l2.seen; locks = [] }
+  pub refused : r ≢ Done
+  pub worn : r ≡ Busy → 2 ^ 56 - 1 ≤ a.version + done_in m l2.seen
+
+-- how an update ends that has an element in hand: only with a free element to spare is none lacking
+abbrev pub UpdateEnds : About → Known → ℕ → List ℕ → List ℕ → ℕ → Ending → Known → Type 0
+UpdateEnds a l m key bytes flags Added l2 = Took a l m key bytes flags l2
+UpdateEnds a l m key bytes flags (Replaced e) l2 = Over a l m key bytes flags e l2
+UpdateEnds a l m key bytes flags (Refused r) l2 = Refusal a l m key bytes flags r l2 × (r ≢ NoMemory)

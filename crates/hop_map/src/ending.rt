@@ -1,0 +1,12 @@
+//! How an update ends.
+use bpf_shared::MapAnswer;
+
+/// What became of an update under its key's lock.
+pub(crate) enum Ending {
+    /// The key is new, and the element is the map's.
+    Added,
+    /// The element is the map's, in the place of this one, which is in hand from now on.
+    Replaced(u32),
+    /// Nothing changed.
+    Refused(MapAnswer),
+}
