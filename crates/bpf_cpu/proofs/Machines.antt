@@ -7,3 +7,4 @@ pub mod ProceedLaws
 pub mod TurnLaws
 pub mod MadeLaws
 pub mod DeterminedTurns
+pub mod FallLaws

@@ -1,6 +1,7 @@
 //! What follows from the definitions of steps and runs, as promises to the crates above.
 //!
 //! These functions do nothing: their contracts are the laws, which a proof cites.
+ghost use Rattle.bpf_cpu.specs.Questions.{TurnsFall};
 ghost use Rattle.bpf_cpu.specs.Laws.{NoMapsNoEvents, OutcomesAreDetermined, PlainStepsAreDetermined, SchedulesAreDetermined, StepsAreDetermined};
 
 /// The replies to a step's calls determine its next call, and all of them the state that it leaves.
@@ -41,3 +42,8 @@ pub fn schedules_are_determined()
     bpf_loader::laws::one_instruction_begins();
     bpf_shared::laws::calls_have_one_reply();
 }
+
+/// Each turn with work leaves fewer turns, and one that ends a job one open job less.
+pub fn turns_fall()
+    ensures { TurnsFall }
+{}

@@ -36,6 +36,16 @@ pub struct Refused {
     pub jobs: Vec<Job>,
 }
 
+/// Where a CPU stands, with the number of the job.
+#[derive(Clone, Copy)]
+pub enum Standing<'a> {
+    /// It has this job in hand, and is in this state.
+    InHand(usize, &'a Cpu),
+    /// It is to begin this job next.
+    Waiting(usize),
+    Idle,
+}
+
 /// What a CPU is to do, with the number of the job.
 enum Work {
     InHand(usize),
@@ -68,13 +78,14 @@ impl Model for Machine {
 }
 
 impl Machine {
-    ghost use Rattle.std.specs.Prelude.{◌≡◌, ◌≢◌, ◌≤◌, ◌<◌, ◌⊎◌, ℕ, true, false, All, IfOk, IfErr, IfSome, IfNone, map, vec_len};
+    ghost use Rattle.std.specs.Prelude.{◌≡◌, ◌≢◌, ◌≤◌, ◌<◌, ◌⊎◌, ℕ, true, false, All, IfOk, IfErr, IfSome, IfNone, length, map, nat_lt, vec_len};
     ghost use Rattle.bpf_shared.specs.Contents.{has_cpu, is_running};
     ghost use Rattle.bpf_mem.specs.Limits.{max_context};
     ghost use Rattle.bpf_cpu.specs.Task.{IsFree, NoneWaits, outcome_at, waiting};
     ghost use Rattle.bpf_cpu.specs.Schedule.{World, TakesTurn, RunsSchedule};
     ghost use Rattle.bpf_cpu.specs.Machine.{Shows};
     ghost use Rattle.bpf_cpu.specs.Work.{BeginsJob, Proceeds, IsWork, IsNext, HasInHand, IsState};
+    ghost use Rattle.bpf_cpu.specs.Questions.{IsStanding};
 
     /// A machine whose jobs all wait. It makes all the room that they will ever need.
     pub fn new(
@@ -184,6 +195,34 @@ impl Machine {
             Some(hand) => Some(&hand.cpu),
             None => None,
         }
+    }
+
+    /// Where a CPU stands.
+    pub fn standing(&self, cpu: u8) -> Standing<'_>
+        ensures { IsStanding self.now.jobs cpu result }
+    {
+        let Some(lane) = self.lanes.get(cpu as usize) else {
+            return Standing::Idle;
+        };
+        match &lane.hand {
+            Some(hand) => Standing::InHand(hand.job, &hand.cpu),
+            None if lane.next < self.jobs.len() => Standing::Waiting(lane.next),
+            None => Standing::Idle,
+        }
+    }
+
+    /// How many CPUs there are: those of the numbers below it.
+    pub fn cpus(&self) -> u8
+        ensures { (c : ℕ) → has_cpu self.now.store c ≡ nat_lt c result }
+    {
+        self.store.cpus()
+    }
+
+    /// How many jobs there are.
+    pub fn jobs(&self) -> usize
+        ensures { result ≡ length self.now.jobs }
+    {
+        self.jobs.len()
     }
 
     /// What a CPU is to do.

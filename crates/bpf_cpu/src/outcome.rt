@@ -17,6 +17,25 @@ pub enum Fault {
     Worn,
 }
 
+impl Fault {
+    ghost use Rattle.std.specs.Prelude.{◌≡◌};
+    ghost use Rattle.bpf_cpu.specs.Lines.{fault_code};
+
+    /// The code that is printed of it.
+    pub fn code(self) -> &'static str
+        ensures { result.now ≡ fault_code self }
+    {
+        match self {
+            Fault::BadAddress => "F1",
+            Fault::Misaligned => "F2",
+            Fault::CallDepth => "F3",
+            Fault::NotAMap => "F4",
+            Fault::TooManyHeld => "F5",
+            Fault::Worn => "F6",
+        }
+    }
+}
+
 /// How a job ends.
 #[derive(Clone, Copy, PartialEq, Eq, Debug)]
 pub enum Outcome {

@@ -1,0 +1,29 @@
+-- How faults, outcomes and ended jobs are printed. Our own choice.
+use Rattle.std.specs.Prelude.{ℕ, ◌++◌, List, codes}
+use Rattle.std.specs.Fmt.{decimal}
+use Rattle.bpf_cpu.specs.declared.outcome.Fault.{Fault}
+use Rattle.bpf_cpu.specs.declared.outcome.Fault.TheVariants as fault
+use Rattle.bpf_cpu.specs.declared.outcome.Outcome.{Outcome}
+use Rattle.bpf_cpu.specs.declared.outcome.Outcome.TheVariants as outcome
+
+-- F1 to F6
+abbrev pub fault_code : Fault → List ℕ
+fault_code fault.BadAddress = codes "F1"
+fault_code fault.Misaligned = codes "F2"
+fault_code fault.CallDepth = codes "F3"
+fault_code fault.NotAMap = codes "F4"
+fault_code fault.TooManyHeld = codes "F5"
+fault_code fault.Worn = codes "F6"
+
+-- how a job ended
+abbrev pub outcome_text : Outcome → List ℕ
+outcome_text (outcome.Exit r0) = codes "r0=" ++ decimal r0
+outcome_text (outcome.Fault fault pc) =
+    codes "fault " ++ fault_code fault ++ codes " at " ++ decimal pc
+outcome_text (outcome.OutOfBudget pc) = codes "out of budget at " ++ decimal pc
+
+-- the line of a job that has ended, by its number and its CPU's
+abbrev pub job_line : ℕ → ℕ → Outcome → List ℕ
+job_line j cpu end =
+    codes "job " ++ decimal j ++ codes " cpu " ++ decimal cpu ++ codes " " ++ outcome_text end
+    ++ codes "\n"
