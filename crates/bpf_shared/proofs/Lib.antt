@@ -18,3 +18,4 @@ pub mod Places
 pub mod Accessing
 pub mod Updating
 pub mod Settling
+mod Listing

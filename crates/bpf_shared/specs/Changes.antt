@@ -1,5 +1,6 @@
 -- What private functions of a `PlainStore` need and leave.
-use Rattle.std.specs.Prelude.{◌≡◌, ℕ, ◌<◌, length, slice_set}
+use Rattle.std.specs.Prelude.{◌≡◌, ℕ, ◌+◌, ◌<◌, length, slice_set}
+use Rattle.bpf_shared.specs.declared.plain.Reach.{Reach}
 use Rattle.bpf_shared.specs.Shape.{IsIn}
 use Rattle.bpf_shared.specs.Store.{Plain}
 use Rattle.bpf_shared.specs.Rows.{Forgets, IsTable}
@@ -8,6 +9,13 @@ use Rattle.bpf_shared.specs.Contents.{Contents, runs_of, rows, size_of, span_at,
 -- the address is in the span of some element
 abbrev pub IsAtValue : Contents → ℕ → Type 0
 IsAtValue p a = (m : ℕ) × (i : ℕ) × (m < length p.tables) × (i < size_of p m) × IsIn a (span_at p m i)
+
+-- the byte of a value, in a map, an element and the value there
+pub record IsReach (p : Contents) (a : ℕ) (r : Reach) : Type 0 where
+  pub map : r.map < length p.tables
+  pub element : r.element < size_of p r.map
+  pub at : a ≡ (span_at p r.map r.element).at + r.offset
+  pub inside : r.offset < (span_at p r.map r.element).size
 
 -- as good as another store: it shows the same, and tells the same of runs and what they hold
 pub record IsAlike (p q : Contents) : Type 0 where

@@ -14,6 +14,8 @@ pub mod Rows
 pub mod Contents
 pub mod Changes
 pub mod Laws
+pub mod Listing
+pub mod Shows
 pub mod Own
 pub mod Legality
 pub mod Lemmas

@@ -2,7 +2,7 @@
 //! the one contract that every shared store meets.
 #![tactic(auto)]
 
-mod bytes;
+pub mod bytes;
 mod events;
 pub mod laws;
 mod plain;

@@ -1,5 +1,5 @@
 //! The plain store: the shared store of one thread.
-ghost use Rattle.std.specs.Prelude.{◌≡◌, ◌+◌, ◌<◌, ◌≤◌, ◌⊎◌, ℕ, true, false, IfOk, IfErr, length, map, nat_lt, slice_index_or};
+ghost use Rattle.std.specs.Prelude.{◌≡◌, ◌+◌, ◌<◌, ◌≤◌, ◌⊎◌, ℕ, true, false, IfOk, IfErr, IfSome, IfNone, length, map, nat_lt, slice_index_or};
 ghost use Rattle.bpf_shared.specs.Shape.{IsMap, IsMapShape};
 ghost use Rattle.bpf_shared.specs.Rows.{no_rows, shape_of, IsBlank, IsTable};
 ghost use Rattle.bpf_shared.specs.Runs.{no_runs};
@@ -74,7 +74,8 @@ struct Reach {
 
 impl PlainStore {
     ghost use Rattle.bpf_shared.specs.Contents.{IsMade, has_cpu, is_running, runs_of, size_of, span_at};
-    ghost use Rattle.bpf_shared.specs.Changes.{IsAtValue, IsAlike};
+    ghost use Rattle.bpf_shared.specs.Changes.{IsAtValue, IsAlike, IsReach};
+    ghost use Rattle.bpf_shared.specs.Shows.{listed, Lists, ShowsByte, ShowsNoByte};
 
     /// A store with no keys, and no CPU in a run. Want of memory is its only refusal.
     pub fn new(alloc: Global, shape: StoreShape) -> Result<PlainStore, ShapeError>
@@ -89,6 +90,27 @@ impl PlainStore {
         ensures { (c : ℕ) → has_cpu self.now c ≡ nat_lt c result }
     {
         self.runs.len() as u8
+    }
+
+    /// The keys of a map with their values, in the keys' order; of no map there are none. Want of
+    /// memory is the only refusal.
+    pub fn dump(&self, alloc: Global, map: u64) -> Result<Vec<(Vec<u8>, Vec<u8>)>, AllocError>
+        ensures listed { IfOk result (λ pairs. Lists self.now map (listed pairs.items)) }
+    {
+        match self.tables.get(map as usize) {
+            Some(table) => table.pairs(alloc),
+            None => Ok(Vec::new(alloc)),
+        }
+    }
+
+    /// The byte at an address, of a value that is in a map or kept.
+    pub fn peek(&self, address: u64) -> Option<u8>
+        ensures found { IfSome result (ShowsByte self.now address) }
+        ensures none { IfNone result (ShowsNoByte self.now address) }
+    {
+        let runs = self.runs.as_slice();
+        let reach = self.place(address)?;
+        self.tables[reach.map].byte(reach.element, reach.offset, runs)
     }
 
     fn allocate(alloc: Global, shape: &StoreShape) -> Result<PlainStore, AllocError>
@@ -114,6 +136,29 @@ impl PlainStore {
         self.runs[cpu as usize].count = 0;
         for table in self.tables.iter_mut() {
             table.forget(cpu);
+        }
+    }
+
+    /// Where the byte at an address is, if it is one of an element's value.
+    fn place(&self, address: u64) -> Option<Reach>
+        ensures found { IfSome result (IsReach self.now address) }
+        ensures none { IfNone result (IsAtValue self.now address → ⊥) }
+    {
+        let above = address.checked_sub(0x10_0000_0000)?;
+        let map = (above / 0x1000_0000) as usize;
+        let table = self.tables.get(map)?;
+        let within = above % 0x1000_0000;
+        let stride = table.stride();
+        let element = within / stride;
+        let offset = within % stride;
+        if element < table.elements() && offset < table.shape().value {
+            Some(Reach {
+                map,
+                element: element as usize,
+                offset: offset as usize,
+            })
+        } else {
+            None
         }
     }
 

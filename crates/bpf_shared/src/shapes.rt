@@ -38,7 +38,7 @@ impl MapShape {
     ghost use Rattle.bpf_shared.specs.Refusals.{map_tests};
 
     /// Why no map has this shape, by the first size that is out of range.
-    fn refusal(&self, map: usize) -> Option<ShapeError>
+    pub fn refusal(&self, map: usize) -> Option<ShapeError>
         ensures { result ≡ first_of (map_tests map self.now) }
     {
         if !(1..=64).contains(&self.key) {

@@ -1,9 +1,10 @@
 //! A map of a `PlainStore`: its elements, and its keys in order.
-ghost use Rattle.std.specs.Prelude.{◌≡◌, ◌≢◌, ◌+◌, ◌*◌, ◌<◌, ◌≤◌, ◌↔◌, ℕ, IfOk, IfErr, IfSome, IfNone, IsTrue, length, map};
+ghost use Rattle.std.specs.Prelude.{◌≡◌, ◌≢◌, ◌+◌, ◌*◌, ◌<◌, ◌≤◌, ◌↔◌, ℕ, IfOk, IfErr, IfSome, IfNone, IsTrue, length, map, slice_index};
 ghost use Rattle.bpf_base.specs.Bytes.{little_endian, low_bytes, modulus, part, with_part};
 ghost use Rattle.bpf_shared.specs.Access.{bytes_in};
 ghost use Rattle.bpf_shared.specs.Runs.{run_of, count_of};
 ghost use Rattle.bpf_shared.specs.Shape.{IsMapShape, IsValueSpan, elements, element_span, element_stride};
+ghost use Rattle.bpf_shared.specs.Listing.{pair_of, row_pair};
 ghost use Rattle.bpf_shared.specs.Rows.{key_of, bytes_of, run_left, run_looked_up, IsLinked, IsTable, IsBlank, IsGap, IsKeyAt, IsKeptRow, IsTakenRow, IsLowestFreeRow, HasCurrent, Erases, noted_row, linked_row, unlinked_row, stored_row, Forgets, PutsRow, TakesRow};
 
 use crate::bytes::{load, store};
@@ -315,6 +316,53 @@ impl Table {
             }
             Err(_) => MapAnswer::Absent,
         }
+    }
+
+    /// The value in an element.
+    #[tactic(auto, using(crate::proofs::Blocks::block_fits, crate::proofs::Blocks::in_block))]
+    fn value(&self, element: usize) -> &[u8]
+        requires { element < elements self.now.shape }
+        ensures value { result.now ≡ bytes_of self.now element }
+        ensures size { length result.now ≡ self.now.shape.value }
+    {
+        let size = self.shape.value as usize;
+        &self.values[element * size..element * size + size]
+    }
+
+    /// The keys of the map with their values, in the keys' order.
+    pub fn pairs(&self, alloc: Global) -> Result<Vec<(Vec<u8>, Vec<u8>)>, AllocError>
+        ensures pairs { IfOk result (λ v. map pair_of v.items ≡ map (row_pair self.now) self.now.order) }
+    {
+        let mut pairs = Vec::with_capacity(alloc, self.order.len())?;
+        for element in &self.order {
+            let key = self.key(*element as usize).to_vec(alloc)?;
+            let value = self.value(*element as usize).to_vec(alloc)?;
+            pairs.push((key, value))?;
+        }
+        Ok(pairs)
+    }
+
+    /// The byte at an offset in the value of an element that is in the map or kept.
+    pub fn byte(&self, element: usize, offset: usize, runs: &[Runs]) -> Option<u8>
+        requires element { element < elements self.now.shape }
+        requires offset { offset < self.now.shape.value }
+        requires runs { length runs.now ≡ self.now.cpus }
+        ensures taken { IfSome result (λ b. IsTakenRow runs.now self.now element
+            × (b ≡ slice_index (bytes_of self.now element) offset)) }
+        ensures free { IfNone result (IsTakenRow runs.now self.now element → ⊥) }
+    {
+        if self.is_taken(element, runs) {
+            Some(self.value(element)[offset])
+        } else {
+            None
+        }
+    }
+
+    /// How many elements the map has.
+    pub fn elements(&self) -> u64
+        ensures { result ≡ elements self.now.shape }
+    {
+        self.shape.max + self.shape.spare
     }
 
     /// The number at an offset in a value.

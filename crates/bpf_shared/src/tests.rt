@@ -93,3 +93,60 @@ fn a_key_is_put_and_taken(rt: HostRuntime) -> Result<(), Fail> {
     assert_eq!(rt; taken, MapAnswer::Done);
     Ok(())
 }
+
+/// One run that puts two keys into the first map.
+fn put_two<S: Shared>(
+    store: &mut S,
+    first: &[u8],
+    value: &[u8],
+    second: &[u8],
+    other: &[u8],
+) -> Result<(MapAnswer, MapAnswer), Worn>
+    requires serves { S.serves store.old 0 ≡ true }
+    requires idle { S.running store.old 0 ≡ false }
+    requires first { IsPairOf (S.shapes store.old) 0 first.now value.now }
+    requires second { IsPairOf (S.shapes store.old) 0 second.now other.now }
+{
+    store.begin(0)?;
+    let answer = store.update(0, 0, first, value, 0);
+    let next = store.update(0, 0, second, other, 0);
+    store.end(0);
+    Ok((answer, next))
+}
+
+#[test]
+fn a_dump_is_in_key_order(rt: HostRuntime) -> Result<(), Fail> {
+    let map = MapShape {
+        key: 1,
+        value: 2,
+        max: 2,
+        spare: 1,
+        mask: 0xffff_ffff,
+    };
+    let shape = StoreShape::new(1, vec![in rt.alloc(); map]?)?;
+    let mut store = PlainStore::new(rt.alloc(), shape)?;
+    let answers = put_two(&mut store, &[9], &[1, 2], &[7], &[3, 4])?;
+    assert_eq!(rt; answers.0, MapAnswer::Done);
+    assert_eq!(rt; answers.1, MapAnswer::Done);
+    let pairs = store.dump(rt.alloc(), 0)?;
+    assert_eq!(rt; pairs.len(), 2);
+    assert_eq!(rt; pairs[0].0.as_slice(), [7].as_slice());
+    assert_eq!(rt; pairs[0].1.as_slice(), [3, 4].as_slice());
+    assert_eq!(rt; pairs[1].0.as_slice(), [9].as_slice());
+    assert_eq!(rt; pairs[1].1.as_slice(), [1, 2].as_slice());
+    assert_eq!(rt; store.dump(rt.alloc(), 1)?.len(), 0);
+    // The first element begins at 2^36, the next one eight bytes on; the third is free.
+    for (address, byte) in [
+        (0xf_ffff_ffff, None),
+        (0x10_0000_0000, Some(1)),
+        (0x10_0000_0001, Some(2)),
+        (0x10_0000_0002, None),
+        (0x10_0000_0009, Some(4)),
+        (0x10_0000_0010, None),
+        (0x10_0000_0018, None),
+        (0x10_1000_0000, None),
+    ] {
+        assert_eq!(rt; store.peek(address), byte);
+    }
+    Ok(())
+}

@@ -1,0 +1,137 @@
+-- A listing of a map, and the byte at an address.
+use Rattle.std.proofs.Common.{◌≡◌, ℕ, ◌+◌, ◌-◌, ◌*◌, ◌/◌, ◌%◌, ◌<◌, ◌≤◌, true, List, ◌++◌, ◌∷◌, [], Option, Some, None, length, map, take, get_or, slice_index, ◌⊎◌, inl, inr, refl, ap, sym, ◌∙◌, subst, arith}
+use Rattle.std.proofs.lemmas.List.{length-map, get_or-map, map_more, map-append}
+use Rattle.std.proofs.lemmas.Nat.{div-add-mod'}
+use Rattle.std.specs.Option.{IfNone}
+use Rattle.std.specs.Ordering.{nat_cmp}
+use Rattle.std.specs.declared.cmp.Ordering.TheVariants.{Less}
+use Rattle.std.specs.Cmp.Lexicographic.{slice_cmp}
+use Rattle.bpf_shared.specs.declared.plain.Reach.{Reach}
+use Rattle.bpf_shared.specs.Shape.{IsIn, element_stride, elements}
+use Rattle.bpf_shared.specs.Store.{Plain, Value, Finds, IsInMap, IsKept}
+use Rattle.bpf_shared.specs.Sound.{IsSoundStore}
+use Rattle.bpf_shared.specs.Rows.{Rows, key_of, bytes_of, IsLinked, IsTakenRow}
+use Rattle.bpf_shared.specs.Contents.{Contents, rows, size_of, span_at, keeps, StandsFor, IsStore}
+use Rattle.bpf_shared.specs.Changes.{IsAtValue, IsReach}
+use Rattle.bpf_shared.specs.Listing.{Pair, pair_at, row_pair, IsListing, IsByteAt}
+use Rattle.bpf_shared.specs.Shows.{Lists, ShowsByte, ShowsNoByte}
+use Rattle.bpf_shared.proofs.Places.{reached, linked_map, sized_map, linked_size, one_at, span-number, keeps_cpu}
+use Rattle.bpf_shared.proofs.Accessing.{reach_facts}
+
+module _ (p : Contents) (is : IsStore p) where
+  module _ (m : ℕ) (pairs : List Pair) (are : pairs ≡ map (row_pair (rows p m)) (rows p m).order) where
+    abbrev element : ℕ → ℕ
+    element k = slice_index (rows p m).order k
+
+    count : length pairs ≡ length (rows p m).order
+    count = ap (λ (l : List Pair). length l) are ∙ length-map (rows p m).order (row_pair (rows p m))
+
+    within : (k : ℕ) → k < length pairs → k < length (rows p m).order
+    within k l = omega (arith, count)
+
+    linked : (k : ℕ) → k < length pairs → IsLinked (rows p m) (element k)
+    linked k l = (k, within k l, refl)
+
+    pair : (k : ℕ) → k < length pairs → pair_at pairs k ≡ row_pair (rows p m) (element k)
+    pair k l = ap (λ (x : List Pair). get_or x k ([], [])) are ∙ get_or-map (row_pair (rows p m)) (rows p m).order k 0 ([], []) (within k l)
+
+    pub lists : Lists p m pairs
+    lists s so h = record {
+      sorted = λ j k l b.
+          (let before : j < length pairs = omega arith in
+          let there = linked_map p m (element k) (linked k b) in
+          let rise : slice_cmp nat_cmp (key_of (rows p m) (element j)) (key_of (rows p m) (element k)) ≡ Less = (is.tables m there).0.sorted j k l (within k b) in
+          ap (λ (x : Pair). slice_cmp nat_cmp x.0 (pair_at pairs k).0) (pair j before) ∙ (ap (λ (x : Pair). slice_cmp nat_cmp (key_of (rows p m) (element j)) x.0) (pair k b) ∙ rise));
+      each = λ k b.
+          (let i = element k in
+          let in_map = linked k b in
+          let value : s.value (h.number m i) ≡ record { bytes = bytes_of (rows p m) i; span = span_at p m i } = h.values m i (linked_size p is m i in_map) (inl in_map) in
+          let leads : Finds s m (key_of (rows p m) i) (h.number m i) = h.leads m i in_map in
+          (h.number m i, subst (λ (x : Pair). Finds s m x.0 (h.number m i)) (sym (pair k b)) leads, ap (λ (x : Pair). x.1) (pair k b) ∙ sym (ap (λ (x : Value). x.bytes) value)));
+      all = λ key v e.
+          (let f = h.found m key v e in
+          let k = f.1.0 in
+          let b : k < length pairs = omega (arith, count, f.1.1) in
+          (k, b, ap (λ (x : Pair). x.0) (pair k b) ∙ (ap (key_of (rows p m)) f.1.2 ∙ f.2)));
+    }
+
+  module _ (s : Plain) (so : IsSoundStore s) (h : StandsFor p s) where
+    -- in which element the byte lies
+    stands_at : (a b : ℕ) → IsByteAt s a b → (m : ℕ) × (i : ℕ) × (i < size_of p m) × IsTakenRow p.runs (rows p m) i × IsIn a (span_at p m i)
+    stands_at a b (v, inl k, inside, e) =
+        let f = h.found k.0 k.1.0 v k.1.1 in
+        let l = linked_size p is k.0 f.0 f.1 in
+        (k.0, f.0, l, inl f.1, subst (IsIn a) (ap (λ (z : ℕ). (s.value z).span) f.3 ∙ span-number p is s so h k.0 f.0 l (inl f.1)) inside)
+    stands_at a b (v, inr k, inside, e) =
+        let f = h.kept k.0 v k.1 in
+        (f.0, f.1, f.2, inr (k.0, keeps_cpu p k.0 f.0 f.1 f.3, f.3), subst (IsIn a) (ap (λ (z : ℕ). (s.value z).span) f.4 ∙ span-number p is s so h f.0 f.1 f.2 (inr (k.0, inl f.3))) inside)
+
+  pub nothing_there : (a : ℕ) → (IsAtValue p a → ⊥) → ShowsNoByte p a
+  nothing_there a no_value s so h b at =
+      let f = stands_at s so h a b at in
+      no_value (f.0, f.1, sized_map p f.0 f.1 f.2, f.2, f.4)
+
+  module _ (a : ℕ) (r : Reach) (reach : IsReach p a r) where
+    abbrev row : Rows
+    row = rows p r.map
+
+    is_in : IsIn a (span_at p r.map r.element)
+    is_in = let at = reach.at in let inside = reach.inside in (omega arith, omega arith)
+
+    pub free_there : (IsTakenRow p.runs row r.element → ⊥) → ShowsNoByte p a
+    free_there free s so h b at =
+        let f = stands_at s so h a b at in
+        let same = one_at p is f.0 r.map f.1 r.element a f.2 reach.element f.4 is_in in
+        free (subst (λ (m : ℕ). IsTakenRow p.runs (rows p m) r.element) same.0 (subst (IsTakenRow p.runs (rows p f.0)) same.1 f.3))
+
+    pub byte_there : IsTakenRow p.runs row r.element → (b : ℕ) → b ≡ slice_index (bytes_of row r.element) r.offset → ShowsByte p a b
+    byte_there (inl k) b e s so h =
+        let v = h.number r.map r.element in
+        let value : s.value v ≡ record { bytes = bytes_of row r.element; span = span_at p r.map r.element } = h.values r.map r.element reach.element (inl k) in
+        let far : r.offset ≡ a - (span_at p r.map r.element).at = (let at = reach.at in omega arith) in (
+          v,
+          inl (r.map, (_, h.leads r.map r.element k)),
+          subst (IsIn a) (sym (ap (λ (x : Value). x.span) value)) is_in,
+          e ∙ (ap (slice_index (bytes_of row r.element)) far ∙ sym (ap (λ (x : Value). slice_index x.bytes (a - x.span.at)) value)),
+        )
+    byte_there (inr k) b e s so h =
+        let v = h.number r.map r.element in
+        let value : s.value v ≡ record { bytes = bytes_of row r.element; span = span_at p r.map r.element } = h.values r.map r.element reach.element (inr (k.0, inl k.2)) in
+        let far : r.offset ≡ a - (span_at p r.map r.element).at = (let at = reach.at in omega arith) in (
+          v,
+          inr (k.0, h.kept_back k.0 r.map r.element reach.element k.2),
+          subst (IsIn a) (sym (ap (λ (x : Value). x.span) value)) is_in,
+          e ∙ (ap (slice_index (bytes_of row r.element)) far ∙ sym (ap (λ (x : Value). slice_index x.bytes (a - x.span.at)) value)),
+        )
+
+-- where an address lies, by its quotients and remainders
+pub at_place : (a w : ℕ) → 0x10_0000_0000 ≤ a
+    → a ≡ 0x10_0000_0000 + 0x1000_0000 * ((a - 0x10_0000_0000) / 0x1000_0000) + (a - 0x10_0000_0000) % 0x1000_0000 / w * w + (a - 0x10_0000_0000) % 0x1000_0000 % w
+at_place a w l =
+    let x : ℕ = (a - 0x10_0000_0000) % 0x1000_0000 in
+    let whole : x / w * w + x % w ≡ x = div-add-mod' x w in
+    let above : 0x1000_0000 * ((a - 0x10_0000_0000) / 0x1000_0000) + x ≡ a - 0x10_0000_0000 = omega arith in
+    omega arith
+
+-- one more pair of a map
+pub pairs_more : (t : Rows) (k : ℕ) (so_far : List Pair) (q : Pair) → k < length t.order → so_far ≡ map (row_pair t) (take k t.order) → q ≡ row_pair t (get_or t.order k 0)
+    → so_far ++ q ∷ [] ≡ map (row_pair t) (take (k + 1) t.order)
+pairs_more t k so_far q l e f = ap (λ (x : List Pair). x ++ q ∷ []) e ∙ (ap (λ (x : Pair). map (row_pair t) (take k t.order) ++ x ∷ []) f ∙ sym (map_more (row_pair t) t.order k 0 l))
+
+pub if_none : {X P Q : Type 0} (o : Option X) → IfNone o P → (P → Q) → IfNone o Q
+if_none None p f = f p
+if_none (Some x) p f = tt
+
+-- what the code finds of an address in a value, in a map and within its elements
+pub found_place : (p : Contents) (is : IsStore p) (a : ℕ) (v : IsAtValue p a) (t : Rows) → t ≡ rows p ((a - 0x10_0000_0000) / 0x1000_0000)
+    → ((a - 0x10_0000_0000) % 0x1000_0000 / element_stride t.shape < elements t.shape)
+    × ((a - 0x10_0000_0000) % 0x1000_0000 % element_stride t.shape < t.shape.value)
+found_place p is a v t row =
+    let f = reach_facts p is a v t (element_stride t.shape) row refl in
+    let x : ℕ = (a - 0x10_0000_0000) % 0x1000_0000 in (
+      subst (λ (r : Rows). x / element_stride t.shape < elements r.shape) (sym row) f.0,
+      subst (λ (r : Rows). x % element_stride t.shape < r.shape.value) (sym row) f.2,
+    )
+
+pub found_map : (p : Contents) (is : IsStore p) (a : ℕ) → IsAtValue p a → (a - 0x10_0000_0000) / 0x1000_0000 < length p.tables
+found_map p is a v = subst (λ (n : ℕ). n < length p.tables) (sym (reached v.0 v.1 a (rows p v.0).shape (is.tables v.0 v.2).0.shape v.3 v.4).0) v.2

@@ -1,0 +1,36 @@
+-- What a look at a store tells: a map's keys with their values, and the bytes of values.
+use Rattle.std.specs.Prelude.{◌≡◌, ℕ, ◌<◌, ◌⊎◌, List, [], length, slice_index_or, Vec}
+use Rattle.std.specs.declared.alloc.Global.{Global}
+use Rattle.std.specs.Ordering.{nat_cmp}
+use Rattle.std.specs.declared.cmp.Ordering.TheVariants.{Less}
+use Rattle.std.specs.Cmp.Lexicographic.{slice_cmp}
+use Rattle.bpf_shared.specs.Shape.{IsIn}
+use Rattle.bpf_shared.specs.Store.{Plain, Finds, IsInMap, IsKept}
+use Rattle.bpf_shared.specs.Rows.{Rows, key_of, bytes_of}
+use Rattle.bpf_shared.specs.Laws.{byte_at}
+
+-- a key, and the bytes of its value
+abbrev pub Pair : Type 0
+Pair = List ℕ × List ℕ
+
+abbrev pub pair_at : List Pair → ℕ → Pair
+pair_at pairs k = slice_index_or pairs k ([], [])
+
+-- the map has these pairs and no others, in the order of their keys
+pub record IsListing (s : Plain) (m : ℕ) (pairs : List Pair) : Type 0 where
+  pub sorted : (j k : ℕ) → j < k → k < length pairs → slice_cmp nat_cmp (pair_at pairs j).0 (pair_at pairs k).0 ≡ Less
+  pub each : (k : ℕ) → k < length pairs → (v : ℕ) × Finds s m (pair_at pairs k).0 v × ((pair_at pairs k).1 ≡ (s.value v).bytes)
+  pub all : (key : List ℕ) (v : ℕ) → Finds s m key v → (k : ℕ) × (k < length pairs) × ((pair_at pairs k).0 ≡ key)
+
+-- the byte at the address, in a value that is in a map or kept
+abbrev pub IsByteAt : Plain → ℕ → ℕ → Type 0
+IsByteAt s a b =
+    (v : ℕ) × (((m : ℕ) × IsInMap s m v) ⊎ IsKept s v) × IsIn a (s.value v).span × (b ≡ byte_at s v a)
+
+-- what two vectors of a listing hold
+abbrev pub pair_of : Vec ℕ Global × Vec ℕ Global → Pair
+pair_of p = (p.0.items, p.1.items)
+
+-- what an element holds
+abbrev pub row_pair : Rows → ℕ → Pair
+row_pair t i = (key_of t i, bytes_of t i)
