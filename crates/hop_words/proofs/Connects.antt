@@ -21,7 +21,7 @@ find_leads a k read key e found all before share = found (image a k.first) befor
 
 -- a find without a lock
 pub find_shown : (a : About) (r : Reading) (key : List ℕ) (o : Option ℕ) → IsFound a.seed (shape_at a r.map) (segment_in a r.map) r.map r.segment r.peeks key o → Shown a r key o
-find_shown a r key o found x f share peeks = found x f share peeks
+find_shown a r key o found x f share within peeks = found x f share peeks
 
 -- a change that is written
 pub insert_written : (a : About) (k : Lock) (key : List ℕ) (e : ℕ) → k.change ≡ Puts key e → IsAbsent a k key → IsInserted a.seed (shape_at a k.map) (segment_in a k.map) k.map k.segment (image a k.first) (image a k.copy) key e → IsWritten a k

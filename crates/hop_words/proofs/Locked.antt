@@ -17,7 +17,7 @@ use Rattle.hop_words.proofs.Counts.{read_head, read_hop, read_slot}
 use Rattle.hop_words.proofs.Mine.{read_mine, read_my_key}
 use Rattle.hop_words.proofs.Writes.{write_head, write_hop, write_slot, write_link}
 
-lt : (m n : ℕ) → m < n → nat_lt m n ≡ true
+pub lt : (m n : ℕ) → m < n → nat_lt m n ≡ true
 lt m n l = grind (arith, nat_tests)
 
 -- the places of a segment are the shape's

@@ -22,7 +22,7 @@ use Rattle.hop_words.specs.Content.{Words, words_of, Agrees, Reached}
 use Rattle.hop_words.specs.Ghost.{segment_in, Leaving, Within, Carries, lane, Ghost, shape_at, IsSegment, Each}
 use Rattle.hop_words.specs.Rule.{Rule, Segment, Reads, Readings, IsPeek, numbered, Runs, Batched, Valued}
 use Rattle.hop_words.specs.Step.{Next, Steps}
-use Rattle.hop_words.specs.Kinds.{StampSeen, one_more, peeking, Finds, Found, span_at}
+use Rattle.hop_words.specs.Kinds.{StampSeen, StampSeenAgain, disturbed_by, peeking, Finds, Found, span_at}
 use Rattle.hop_words.proofs.Small.{equal}
 use Rattle.hop_words.proofs.Histories.{logged_event, prefix_refl}
 use Rattle.hop_words.proofs.Comes.{in_limbo}
@@ -81,8 +81,8 @@ see_stamp a l m s at_s ws g sized r is inside fits =
     (λ (even : n % 2 ≡ 0). read_next a w g r l.cpu (Stamp m s) _ (record { map = m; segment = s; stamp = n; peeks = [] } ∷ []) l.tally
     (record { inside = at_s; even = even; behind = (let z = (seg.clean (seg.at_rest even)).0 in omega arith); stays = λ _. tt }, tt)
     ((λ _. ap (λ (x : Known). record x { readings = record { map = m; segment = s; stamp = n; peeks = [] } ∷ []; tally = l.tally }) is), (λ odd. absurd (omega arith))))
-    (λ (odd : n % 2 ≡ 1). read_next a w g r l.cpu (Stamp m s) _ (g.lanes.readings l.cpu) (one_more l.tally) (r.reading l.cpu)
-    ((λ even. absurd (omega arith)), (λ _. ap (λ (x : Known). record x { tally = one_more l.tally }) is)))
+    (λ (odd : n % 2 ≡ 1). read_next a w g r l.cpu (Stamp m s) _ (g.lanes.readings l.cpu) (disturbed_by l.tally m s n n) (r.reading l.cpu)
+    ((λ even. absurd (omega arith)), (λ _. ap (λ (x : Known). record x { tally = disturbed_by l.tally m s n n }) is)))
     (even_or_odd n)
 
 -- the words at rest are those that stand there, while the era is the stamp noted
@@ -199,14 +199,17 @@ module _ (a : About) (w : Place → ℕ) (g : Ghost) (r : Rule a w g) (c m : ℕ
       )
 
 pub see_again : (a : About) (l : Known) (rd : Reading) (key : List ℕ) (o : Option ℕ) → Finds a l rd key o
-    → Steps a l (Stamp rd.map rd.segment) (λ n. n) (λ ws n l'. (n ≡ rd.stamp → Found a l rd key o l') × (n ≢ rd.stamp → l' ≡ record l { readings = []; tally = one_more l.tally }))
+    → Steps a l (Stamp rd.map rd.segment) (λ n. n) (λ ws n l'. StampSeenAgain a l rd key o n l')
 see_again a l rd key o f ws g sized r is inside fits = dite (ℕ_discrete (w (Stamp rd.map rd.segment)) rd.stamp) hit miss
   where
     w : Place → ℕ
     w = mem a.shape ws
 
     told : Known → Type 0
-    told l' = (w (Stamp rd.map rd.segment) ≡ rd.stamp → Found a l rd key o l') × (w (Stamp rd.map rd.segment) ≢ rd.stamp → l' ≡ record l { readings = []; tally = one_more l.tally })
+    told l' = StampSeenAgain a l rd key o (w (Stamp rd.map rd.segment)) l'
+
+    more : Tally
+    more = disturbed_by l.tally rd.map rd.segment rd.stamp (w (Stamp rd.map rd.segment))
 
     q : Reads a g.eras rd
     q = (subst (Each (Reads a g.eras)) (ap (λ (x : Known). x.readings) is ∙ f.reading) (r.reading l.cpu)).0
@@ -215,7 +218,7 @@ see_again a l rd key o f ws g sized r is inside fits = dite (ℕ_discrete (w (St
     seg = r.segments rd.map rd.segment q.inside
 
     miss : w (Stamp rd.map rd.segment) ≢ rd.stamp → Next a (put_at w (Stamp rd.map rd.segment) (w (Stamp rd.map rd.segment))) g l.cpu told
-    miss ne = read_next a w g r l.cpu (Stamp rd.map rd.segment) told [] (one_more l.tally) tt ((λ e. absurd (ne e)), (λ _. ap (λ (x : Known). record x { readings = []; tally = one_more l.tally }) is))
+    miss ne = read_next a w g r l.cpu (Stamp rd.map rd.segment) told [] more tt ((λ e. absurd (ne e)), (λ _. ap (λ (x : Known). record x { readings = []; tally = more }) is))
 
     hit : w (Stamp rd.map rd.segment) ≡ rd.stamp → Next a (put_at w (Stamp rd.map rd.segment) (w (Stamp rd.map rd.segment))) g l.cpu told
     hit same = record {
@@ -236,7 +239,7 @@ see_again a l rd key o f ws g sized r is inside fits = dite (ℕ_discrete (w (St
         era_is = let z = (seg.clean clean).0 in let e = q.even in omega arith
 
         linked_is : g.linked rd.map key ≡ o
-        linked_is = f.shown (g.eras rd.map rd.segment).old (g.linked rd.map) (seg.shows clean) (q.stays era_is)
+        linked_is = f.shown (g.eras rd.map rd.segment).old (g.linked rd.map) (seg.shows clean) (λ p e leads. (r.linked.within rd.map p e leads).0.1) (q.stays era_is)
 
         may : Allowed g.last l.cpu event (looking a w g r l.cpu rd.map o)
         may = may_look a w g r l.cpu rd.map o key linked_is (running_is a w g r l is inside f.runs) (map_there a w g r l is inside rd.map q.inside.0) f.key_size
@@ -255,6 +258,12 @@ see_again a l rd key o f ws g sized r is inside fits = dite (ℕ_discrete (w (St
           where
             after : lane g2.lanes l.cpu ≡ record l { seen = g.log ++ entry l.cpu event ∷ []; readings = [] }
             after = rw (eq-eqb l.cpu l.cpu refl) (ap (λ (x : Known). record x { seen = g.log ++ entry l.cpu event ∷ []; readings = []; tally = l.tally }) is)
+
+pub see_again_at : (a : About) (l : Known) (rd : Reading) (m s : ℕ) (key : List ℕ) (o : Option ℕ) → rd.map ≡ m → rd.segment ≡ s → Finds a l rd key o
+    → Steps a l (Stamp m s) (λ n. n) (λ ws n l'. StampSeenAgain a l rd key o n l')
+see_again_at a l rd m s key o h u f =
+    subst (λ (n : ℕ). Steps a l (Stamp n s) (λ n. n) (λ ws n l'. StampSeenAgain a l rd key o n l')) h
+    (subst (λ (t : ℕ). Steps a l (Stamp rd.map t) (λ n. n) (λ ws n l'. StampSeenAgain a l rd key o n l')) u (see_again a l rd key o f))
 
 -- ---- see bits: evidence alone, of which the rule says nothing
 pub see_bits : (a : About) (l : Known) (m i : ℕ) (counted : ℕ → Tally) → Steps a l (FreeBits m i) (λ n. n) (λ ws n l'. l' ≡ record l { tally = counted n })

@@ -4,7 +4,7 @@ use Rattle.std.proofs.lemmas.Bool.Decides.{nat_tests}
 use Rattle.std.proofs.lemmas.Cmp.{nat_list_cmp_total}
 use Rattle.std.specs.FinMap.{get, insert, len, len-insert}
 use Rattle.bpf_shared.specs.declared.events.Event.{Event}
-use Rattle.bpf_shared.specs.declared.events.Event.TheVariants.{Update}
+use Rattle.bpf_shared.specs.declared.events.Event.TheVariants.{Update, Lookup}
 use Rattle.bpf_shared.specs.declared.events.Entry.{Entry}
 use Rattle.bpf_shared.specs.declared.events.MapAnswer.TheVariants.{Done}
 use Rattle.bpf_shared.specs.Shape.{element_span}
@@ -26,7 +26,7 @@ use Rattle.hop_words.specs.Content.{words_of}
 use Rattle.hop_words.specs.Ghost.{segment_in, Holder, Filling, Leaving, Within, lane, Era, Ghost, shape_at, IsElement, Each, limbo_at}
 use Rattle.hop_words.specs.Rule.{Rule, Minded, put_key, changed, owed, Holds, numbered, Keyed, Owned, Linked, Begins, turns_of, done_in}
 use Rattle.hop_words.specs.Step.{Next, Steps}
-use Rattle.hop_words.specs.Kinds.{Replaces, Replaced, Answers, Answered, IsWritten, unlocking, with_gone}
+use Rattle.hop_words.specs.Kinds.{Replaces, Replaced, Answers, Answered, IsWritten, unlocking, with_gone, LooksUp, LookedUp, span_at}
 use Rattle.hop_words.proofs.Small.{equal_keys, equal, here_or, put2-same, put2-other, put_key-same, put_key-other, spelled_same, spelled_back}
 use Rattle.hop_words.proofs.Histories.{logged_event, prefix_refl, done_in-append}
 use Rattle.hop_words.proofs.Comes.{leads_new, in_hand, now_old, now_new, linked_comes, owned_comes, batched_comes, filled_rest, valued_comes}
@@ -34,6 +34,7 @@ use Rattle.hop_words.proofs.Goes.{with_used, owned_goes, cut_old, linked_goes, b
 use Rattle.hop_words.proofs.Locks.{holds, unlocked, unlock_new, unlock_same}
 use Rattle.hop_words.proofs.Effects.{Effect, effect_segments, effect_locking, effect_reading, effect_held, effect_worn}
 use Rattle.hop_words.proofs.CountUp.{four, and_false}
+use Rattle.hop_words.proofs.Readings.{looking, looked_rule, may_look}
 use Rattle.hop_words.proofs.Stays.{saw, running_is, map_there, quiet_after, runs_quiet, place_for, shape_is, worn_more}
 
 -- ---- what took effect before is written now
@@ -124,6 +125,52 @@ unlock_answer a l k e i ws g sized r is inside fits = record {
 
     r1 : Rule a w g1
     r1 = event_rule a w g r l inside e i.quiet may
+
+    is1 : lane g1.lanes l.cpu ≡ l2
+    is1 = rw (eq-eqb l.cpu l.cpu refl) (ap (λ (x : Known). record x { seen = log' }) is)
+
+    u : (e : Era) × Rule a (put_at w (Stamp k.map k.segment) k.stamp) (unlocked a l2 k i.lock w g1 r1 is1 inside e k.stamp)
+    u = unlock_same a l2 k i.lock w g1 r1 is1 inside i.clean
+
+    after : lane (unlocked a l2 k i.lock w g1 r1 is1 inside u.0 k.stamp).lanes l.cpu ≡ record l { seen = log'; locks = [] }
+    after = rw (eq-eqb l.cpu l.cpu refl) (ap (λ (x : Known). record x { seen = log'; locks = [] }) is)
+
+-- ---- a lookup under the lock
+pub unlock_lookup : (a : About) (l : Known) (k : Lock) (key : List ℕ) (o : Option ℕ) → LooksUp a l k key o → Steps a l (Stamp k.map k.segment) (λ _. k.stamp) (λ ws n l'. LookedUp a l k key o l')
+unlock_lookup a l k key o i ws g sized r is inside fits = record {
+  ghost = unlocked a l2 k i.lock w g1 r1 is1 inside u.0 k.stamp;
+  rule = u.1;
+  others = λ d ne. rw (ne_eqb d l.cpu ne) refl;
+  longer = (entry l.cpu event ∷ [], refl);
+  says = subst (LookedUp a l k key o) (sym after) (record { seen = saw a w g r l is inside event (looking a w g r l.cpu k.map o) may r1.logged; after = refl });
+}
+  where
+    w : Place → ℕ
+    w = mem a.shape ws
+
+    h : Holds a (segment_in a) (words_of w) (λ n t. w (Stamp n t)) g.eras g.linked g.holder l.cpu k
+    h = holds a l k i.lock w g r is
+
+    event : Event
+    event = Lookup k.map key (span_at a k.map o)
+
+    linked_is : g.linked k.map key ≡ o
+    linked_is = h.due.2 key i.home ∙ (ap (λ y. changed y h.due.0 key) (h.untouched i.clean).1 ∙ i.shown h.due.0 h.due.1)
+
+    may : Allowed g.last l.cpu event (looking a w g r l.cpu k.map o)
+    may = may_look a w g r l.cpu k.map o key linked_is (running_is a w g r l is inside i.runs) (map_there a w g r l is inside k.map h.inside.0) i.key_size
+
+    log' : List Entry
+    log' = g.log ++ entry l.cpu event ∷ []
+
+    l2 : Known
+    l2 = record l { seen = log' }
+
+    g1 : Ghost
+    g1 = record g { log = log'; last = looking a w g r l.cpu k.map o; lanes = record g.lanes { seen = put g.lanes.seen l.cpu log' } }
+
+    r1 : Rule a w g1
+    r1 = looked_rule a w g r l.cpu k.map o key inside linked_is (span_at a k.map o) may
 
     is1 : lane g1.lanes l.cpu ≡ l2
     is1 = rw (eq-eqb l.cpu l.cpu refl) (ap (λ (x : Known). record x { seen = log' }) is)

@@ -1,5 +1,5 @@
 -- The kinds of step: what each asks of the lane that makes it, and what it tells.
-use Rattle.std.specs.Prelude.{◌⊎◌, ◌≡◌, ℕ, ◌+◌, ◌*◌, ◌/◌, ◌%◌, ◌<◌, ◌≤◌, Bool, true, false, ◌||◌, List, [], ◌∷◌, ◌++◌, Option, Some, None, length, slice_index, slice_set, ◌==◌}
+use Rattle.std.specs.Prelude.{◌⊎◌, ◌≡◌, ◌≢◌, ℕ, ◌+◌, ◌*◌, ◌/◌, ◌%◌, ◌<◌, ◌≤◌, Bool, true, false, ◌||◌, List, [], ◌∷◌, ◌++◌, Option, Some, None, length, slice_index, slice_set, ◌==◌}
 use Rattle.bpf_shared.specs.declared.events.Entry.{Entry}
 use Rattle.bpf_shared.specs.declared.events.Event.{Event}
 use Rattle.bpf_shared.specs.declared.events.Event.TheVariants.{Begin, End, Lookup, Update, Delete}
@@ -66,15 +66,16 @@ pub record Inserted (a : About) (l : Known) (k : Lock) (f : Fresh) (rest : List 
   pub after : l' ≡ record l { seen = l'.seen; fresh = rest; locks = record k { change = Puts key f.element; dirty = true } ∷ [] }
 
 -- ---- readings without a lock
-abbrev pub one_more : Tally → Tally
-one_more t = record t { disturbed = t.disturbed + 1 }
+-- one disturbed reading of the segment more, by its stamps as they were seen first and last
+abbrev pub disturbed_by : Tally → ℕ → ℕ → ℕ → ℕ → Tally
+disturbed_by t m s n i = record t { disturbed = record { map = m; segment = s; first = n; last = i } ∷ t.disturbed }
 
 abbrev pub noting : Known → ℕ → ℕ → ℕ → Known
 noting l m s n = record l { readings = record { map = m; segment = s; stamp = n; peeks = [] } ∷ [] }
 
 -- see stamp: an unlocked one is noted, a locked one is a disturbed reading
 abbrev pub StampSeen : Known → ℕ → ℕ → ℕ → Known → Type 0
-StampSeen l m s n l' = (n % 2 ≡ 0 → l' ≡ noting l m s n) × (n % 2 ≡ 1 → l' ≡ record l { tally = one_more l.tally })
+StampSeen l m s n l' = (n % 2 ≡ 0 → l' ≡ noting l m s n) × (n % 2 ≡ 1 → l' ≡ record l { tally = disturbed_by l.tally m s n n })
 
 -- peek
 abbrev pub peeking : Known → Reading → Place → ℕ → Known
@@ -83,9 +84,13 @@ peeking l r p n = record l { readings = record r { peeks = record { place = p; n
 abbrev pub AllPeeks : Words → Reading → Type 0
 AllPeeks x r = Each (λ (p : Peek). IsPeek x r.map r.segment p.place p.number) r.peeks
 
+-- keys lead to elements of the map alone
+abbrev pub AreWithin : About → ℕ → (List ℕ → Option ℕ) → Type 0
+AreWithin a m f = (key : List ℕ) (e : ℕ) → f key ≡ Some e → e < elements (shape_at a m)
+
 -- what was peeked shows where the key leads: so it does in every segment of which all this was peeked
 abbrev pub Shown : About → Reading → List ℕ → Option ℕ → Type 0
-Shown a r key o = (x : Words) (f : List ℕ → Option ℕ) → IsShare a.seed (shape_at a r.map) (segment_in a r.map) x r.map r.segment f → AllPeeks x r → f key ≡ o
+Shown a r key o = (x : Words) (f : List ℕ → Option ℕ) → IsShare a.seed (shape_at a r.map) (segment_in a r.map) x r.map r.segment f → AreWithin a r.map f → AllPeeks x r → f key ≡ o
 
 abbrev pub span_at : About → ℕ → Option ℕ → Option Span
 span_at a m None = None
@@ -102,6 +107,11 @@ pub record Finds (a : About) (l : Known) (r : Reading) (key : List ℕ) (o : Opt
 pub record Found (a : About) (l : Known) (r : Reading) (key : List ℕ) (o : Option ℕ) (l' : Known) : Type 0 where
   pub seen : Saw a l (Lookup r.map key (span_at a r.map o)) l'.seen
   pub after : l' ≡ record l { seen = l'.seen; readings = [] }
+
+-- the same stamp answers the lookup, another is a disturbed reading
+abbrev pub StampSeenAgain : About → Known → Reading → List ℕ → Option ℕ → ℕ → Known → Type 0
+StampSeenAgain a l r key o n l' =
+    (n ≡ r.stamp → Found a l r key o l') × (n ≢ r.stamp → l' ≡ record l { readings = []; tally = disturbed_by l.tally r.map r.segment r.stamp n })
 
 -- ---- lock
 abbrev pub has : ℕ → List ℕ → Bool
@@ -204,6 +214,19 @@ pub record Answers (a : About) (l : Known) (k : Lock) (e : Event) : Type 0 where
 pub record Answered (a : About) (l : Known) (k : Lock) (e : Event) (l' : Known) : Type 0 where
   pub seen : Saw a l e l'.seen
   pub worn : k.stamp / 256 ≤ a.version + done_in k.map l'.seen
+  pub after : l' ≡ record l { seen = l'.seen; locks = [] }
+
+-- ---- unlock with the same version: a lookup takes effect, by what the lock's words show
+pub record LooksUp (a : About) (l : Known) (k : Lock) (key : List ℕ) (o : Option ℕ) : Type 0 where
+  pub lock : l.locks ≡ k ∷ []
+  pub clean : k.dirty ≡ false
+  pub home : segment_in a k.map key ≡ k.segment
+  pub key_size : length key ≡ (shape_at a k.map).key
+  pub shown : (before : List ℕ → Option ℕ) → IsShare a.seed (shape_at a k.map) (segment_in a k.map) (image a k.first) k.map k.segment before → before key ≡ o
+  pub runs : in_run (events_of l.cpu l.seen) ≡ true
+
+pub record LookedUp (a : About) (l : Known) (k : Lock) (key : List ℕ) (o : Option ℕ) (l' : Known) : Type 0 where
+  pub seen : Saw a l (Lookup k.map key (span_at a k.map o)) l'.seen
   pub after : l' ≡ record l { seen = l'.seen; locks = [] }
 
 -- ---- values

@@ -9,6 +9,8 @@ pub mod Step
 pub mod Kinds
 pub mod Owning
 pub mod Locking
+pub mod Peeking
+pub mod Touching
 pub mod Guarded
 pub mod Opens
 pub mod Made

@@ -23,7 +23,7 @@ pub record IsNew (a : About) (w : Place → ℕ) : Type 0 where
   pub hops : (m s b : ℕ) → IsSegment a m s → b < 64 → w (Hop m s b) ≡ 0
 
 abbrev pub no_tally : Tally
-no_tally = record { locks = 0; disturbed = 0; sights = [] }
+no_tally = record { locks = 0; disturbed = []; sights = [] }
 
 abbrev pub no_limbos : ℕ → List Limbo
 no_limbos zero = []

@@ -3,7 +3,7 @@ ghost use Rattle.std.specs.Prelude.{◌≡◌, ◌<◌, ◌+◌, ◌^◌, false,
 ghost use Rattle.bpf_shared.specs.declared.events.Event.TheVariants.{Update, Delete, Lookup};
 ghost use Rattle.hop_words.specs.Ghost.{IsSegment};
 ghost use Rattle.hop_words.specs.Rule.{owed};
-ghost use Rattle.hop_words.specs.Kinds.{Inserts, Inserted, Removes, Removed, Counts, Misflagged, Told, IsWritten, unlocking, Answers, Answered, Replaces, Replaced};
+ghost use Rattle.hop_words.specs.Kinds.{Inserts, Inserted, Removes, Removed, Counts, Misflagged, Told, IsWritten, unlocking, Answers, Answered, LooksUp, LookedUp, Replaces, Replaced};
 ghost use Rattle.hop_words.specs.Owning.{behind};
 ghost use Rattle.hop_words.specs.Locking.{lock_of, hand, HasLock, SeesRoom, SeesLack};
 
@@ -186,6 +186,28 @@ impl Lane {
     {
         let place = Place::Stamp { map, segment };
         self.store_by::<Brand, _>(table, place, stamp, (map, key, answer));
+    }
+
+    /// Unlocks a segment that didn't change, and with it a lookup is answered.
+    pub fn unlock_lookup(
+        &mut self,
+        table: &HopTable,
+        map: u8,
+        segment: u32,
+        stamp: u64,
+        key: &[u8],
+        found: Option<u32>,
+    )
+        requires table { self.old.table ≡ table.now.id }
+        requires inside { IsSegment table.now.about map segment }
+        requires lock { HasLock self.old.known map segment }
+        requires stamp { stamp ≡ (lock_of self.old.known).stamp }
+        requires looks { LooksUp table.now.about self.old.known (lock_of self.old.known) key.now found }
+        ensures table { self.new.table ≡ self.old.table }
+        ensures answered { LookedUp table.now.about self.old.known (lock_of self.old.known) key.now found self.new.known }
+    {
+        let place = Place::Stamp { map, segment };
+        self.store_by::<Brand, _>(table, place, stamp, (key, found));
     }
 
     /// Unlocks a segment, and with it a replacement takes effect that has been written: the old

@@ -64,6 +64,15 @@ pub struct Reading {
     pub peeks: LinkedList<Peek>,
 }
 
+/// A reading without a lock that was disturbed: the segment's stamp as it was seen first and last.
+/// The first is locked, or the two differ.
+pub struct Disturbance {
+    pub map: u8,
+    pub segment: u32,
+    pub first: u64,
+    pub last: u64,
+}
+
 /// What a CPU saw in passing.
 pub enum Sight {
     /// A word of free bits.
@@ -75,7 +84,7 @@ pub enum Sight {
 /// What was counted and seen on the way, the last first. The rule says nothing of it.
 pub struct Tally {
     pub locks: u64,
-    pub disturbed: u64,
+    pub disturbed: LinkedList<Disturbance>,
     pub sights: LinkedList<Sight>,
 }
 

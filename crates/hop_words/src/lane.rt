@@ -1,5 +1,5 @@
 //! The right of one CPU to step on the words, and the steps of the table that all kinds of step are made of.
-ghost use Rattle.std.specs.Prelude.{◌≡◌, ◌==◌, true, ℕ, ◌+◌, ◌%◌, ◌^◌, bit_and, bit_or};
+ghost use Rattle.std.specs.Prelude.{◌≡◌, ◌==◌, true, ℕ, ◌+◌, ◌%◌, ◌^◌, bit_and, bit_or, bit_xor};
 ghost use prog.Atomic.{either};
 ghost use Rattle.hop_words.specs.Layout.{is_place};
 ghost use Rattle.hop_words.specs.Step.{Steps};
@@ -145,6 +145,46 @@ impl Lane {
             .table
             .shared
             .fetch_or::<Told<E>>(&mut self.seat, word, mask)
+    }
+
+    pub(crate) fn xor_by<E: Tell, T: Copy>(
+        &mut self,
+        table: &HopTable,
+        place: Place,
+        mask: u64,
+        _said: T,
+    ) -> u64
+        requires table { self.old.table ≡ table.now.id }
+        requires place { is_place table.now.about.shape place ≡ true }
+        requires step { Steps table.now.about self.old.known place (λ n. bit_xor n mask) (λ ws n l. E.told n l) }
+        ensures table { self.new.table ≡ self.old.table }
+        ensures told { E.told result self.new.known }
+    {
+        let word = table.word_of(place);
+        table
+            .table
+            .shared
+            .fetch_xor::<Told<E>>(&mut self.seat, word, mask)
+    }
+
+    pub(crate) fn swap_by<E: Tell, T: Copy>(
+        &mut self,
+        table: &HopTable,
+        place: Place,
+        new: u64,
+        _said: T,
+    ) -> u64
+        requires table { self.old.table ≡ table.now.id }
+        requires place { is_place table.now.about.shape place ≡ true }
+        requires step { Steps table.now.about self.old.known place (λ _. new) (λ ws n l. E.told n l) }
+        ensures table { self.new.table ≡ self.old.table }
+        ensures told { E.told result self.new.known }
+    {
+        let word = table.word_of(place);
+        table
+            .table
+            .shared
+            .swap::<Told<E>>(&mut self.seat, word, new)
     }
 
     pub(crate) fn add_by<E: Tell, T: Copy>(

@@ -13,19 +13,24 @@ mod lane;
 mod locking;
 mod making;
 mod owning;
+mod peeking;
 mod place;
 mod running;
 mod table;
+mod touching;
 
 pub use bytes::word_of;
 pub use closing::{Rest, Returned};
 pub use dealing::Lanes;
 pub use hash::home;
 pub use index::{Index, elements, segments};
-pub use known::{About, Change, Fresh, Known, Limbo, Lock, Peek, Reading, Sight, Tally, View};
+pub use known::{
+    About, Change, Disturbance, Fresh, Known, Limbo, Lock, Peek, Reading, Sight, Tally, View,
+};
 pub use lane::Lane;
 pub use place::Place;
 pub use table::{HopTable, OneRule};
+pub use touching::ValuePart;
 
 #[cfg(test)]
 mod tests;

@@ -1,0 +1,55 @@
+//! Readings without a lock: a segment's stamp, then words of it, then its stamp again.
+ghost use Rattle.std.specs.Prelude.{◌≡◌, true, [], ◌∷◌};
+ghost use Rattle.hop_words.specs.Layout.{is_place};
+ghost use Rattle.hop_words.specs.Ghost.{IsSegment};
+ghost use Rattle.hop_words.specs.Kinds.{StampSeen, StampSeenAgain, peeking, Finds};
+ghost use Rattle.hop_words.specs.Peeking.{reading_of, HasReading};
+
+use crate::lane::Lane;
+use crate::place::Place;
+use crate::table::HopTable;
+use std::marker::Brand;
+
+impl Lane {
+    /// A segment's stamp. An unlocked one begins a reading of the segment, a locked one is a
+    /// disturbed reading.
+    pub fn see_stamp(&mut self, table: &HopTable, map: u8, segment: u32) -> u64
+        requires table { self.old.table ≡ table.now.id }
+        requires inside { IsSegment table.now.about map segment }
+        ensures table { self.new.table ≡ self.old.table }
+        ensures seen { StampSeen self.old.known map segment result self.new.known }
+    {
+        self.load_by::<Brand, _>(table, Place::Stamp { map, segment }, (map, segment))
+    }
+
+    /// Any word, which others may be writing. What it was is noted with the reading.
+    pub fn peek(&mut self, table: &HopTable, place: Place) -> u64
+        requires table { self.old.table ≡ table.now.id }
+        requires there { is_place table.now.about.shape place ≡ true }
+        requires reading { self.old.known.readings ≡ reading_of self.old.known ∷ [] }
+        ensures table { self.new.table ≡ self.old.table }
+        ensures peeked { self.new.known ≡ peeking self.old.known (reading_of self.old.known) place result }
+    {
+        self.load_by::<Brand, _>(table, place, ())
+    }
+
+    /// The segment's stamp again, where all that was read shows what the key leads to. The same
+    /// stamp answers a lookup of the key, any other is a disturbed reading.
+    pub fn see_stamp_again(
+        &mut self,
+        table: &HopTable,
+        map: u8,
+        segment: u32,
+        key: &[u8],
+        found: Option<u32>,
+    ) -> u64
+        requires table { self.old.table ≡ table.now.id }
+        requires inside { IsSegment table.now.about map segment }
+        requires reading { HasReading self.old.known map segment }
+        requires finds { Finds table.now.about self.old.known (reading_of self.old.known) key.now found }
+        ensures table { self.new.table ≡ self.old.table }
+        ensures seen { StampSeenAgain table.now.about self.old.known (reading_of self.old.known) key.now found result self.new.known }
+    {
+        self.load_by::<Brand, _>(table, Place::Stamp { map, segment }, (key, found))
+    }
+}

@@ -1,0 +1,142 @@
+//! The steps on the words of a held value: each load, store and atomic operation takes effect at one.
+ghost use Rattle.std.specs.Prelude.{◌≡◌, ◌≢◌, ◌<◌, ◌^◌};
+ghost use Rattle.bpf_base.specs.Bytes.{low_bytes, with_part};
+ghost use Rattle.bpf_base.specs.Atomic.{number_after};
+ghost use Rattle.bpf_shared.specs.Access.{bytes_in, change_of};
+ghost use Rattle.bpf_shared.specs.declared.events.Event.TheVariants.{Load, Store, Atomic};
+ghost use Rattle.bpf_shared.specs.declared.events.Size.TheVariants.{Double};
+ghost use Rattle.hop_words.specs.Kinds.{Told};
+ghost use Rattle.hop_words.specs.Touching.{TouchesPart, TouchesWord, address_of, found_part};
+
+use crate::lane::Lane;
+use crate::place::Place;
+use crate::table::HopTable;
+use bpf_shared::{AtomicOp, Size};
+use std::marker::Brand;
+
+/// Bytes of a value that lie in one of its words: so far behind the word's first.
+#[derive(Clone, Copy, Drop)]
+pub struct ValuePart {
+    pub map: u8,
+    pub element: u32,
+    pub word: u32,
+    pub offset: u32,
+    pub size: Size,
+}
+
+impl Lane {
+    /// Loads the bytes, and answers the word that they lie in.
+    pub fn load_value(&mut self, table: &HopTable, part: ValuePart) -> u64
+        requires table { self.old.table ≡ table.now.id }
+        requires touches { TouchesPart table.now.about self.old.known part }
+        ensures table { self.new.table ≡ self.old.table }
+        ensures loaded { Told table.now.about self.old.known (Load (address_of table.now.about part) part.size (found_part part result)) self.new.known }
+    {
+        let place = Place::ValueWord {
+            map: part.map,
+            element: part.element,
+            word: part.word,
+        };
+        self.load_by::<Brand, _>(table, place, part)
+    }
+
+    /// Stores a whole word.
+    pub fn store_value(&mut self, table: &HopTable, part: ValuePart, number: u64)
+        requires table { self.old.table ≡ table.now.id }
+        requires touches { TouchesWord table.now.about self.old.known part }
+        ensures table { self.new.table ≡ self.old.table }
+        ensures stored { Told table.now.about self.old.known (Store (address_of table.now.about part) Double number) self.new.known }
+    {
+        let place = Place::ValueWord {
+            map: part.map,
+            element: part.element,
+            word: part.word,
+        };
+        self.store_by::<Brand, _>(table, place, number, part);
+    }
+
+    /// Stores the bytes by a compare-exchange of the word that they lie in. Answers the word found,
+    /// which is the old one where they are stored.
+    pub fn exchange_value(
+        &mut self,
+        table: &HopTable,
+        part: ValuePart,
+        old: u64,
+        new: u64,
+        stored: u64,
+    ) -> u64
+        requires table { self.old.table ≡ table.now.id }
+        requires touches { TouchesPart table.now.about self.old.known part }
+        requires splices { low_bytes 8 new ≡ with_part (low_bytes 8 old) part.offset (low_bytes (bytes_in part.size) stored) }
+        ensures table { self.new.table ≡ self.old.table }
+        ensures stored { result ≡ old → Told table.now.about self.old.known (Store (address_of table.now.about part) part.size stored) self.new.known }
+        ensures missed { result ≢ old → self.new.known ≡ self.old.known }
+    {
+        let place = Place::ValueWord {
+            map: part.map,
+            element: part.element,
+            word: part.word,
+        };
+        self.exchange_by::<Brand, _>(table, place, old, new, (part, stored))
+    }
+
+    /// Makes an atomic operation on the bytes by a compare-exchange of the word that they lie in.
+    /// Answers the word found, which is the old one where the operation is made.
+    pub fn exchange_value_by(
+        &mut self,
+        table: &HopTable,
+        part: ValuePart,
+        op: AtomicOp,
+        operand: u64,
+        expected: u64,
+        old: u64,
+        new: u64,
+    ) -> u64
+        requires table { self.old.table ≡ table.now.id }
+        requires touches { TouchesPart table.now.about self.old.known part }
+        requires splices { low_bytes 8 new ≡ with_part (low_bytes 8 old) part.offset (low_bytes (bytes_in part.size) (number_after (change_of op) (bytes_in part.size) (found_part part old) operand expected)) }
+        ensures table { self.new.table ≡ self.old.table }
+        ensures made { result ≡ old → Told table.now.about self.old.known (Atomic (address_of table.now.about part) part.size op operand expected (found_part part old)) self.new.known }
+        ensures missed { result ≢ old → self.new.known ≡ self.old.known }
+    {
+        let place = Place::ValueWord {
+            map: part.map,
+            element: part.element,
+            word: part.word,
+        };
+        let said = (part, op, operand, expected);
+        self.exchange_by::<Brand, _>(table, place, old, new, said)
+    }
+
+    /// Makes an atomic operation on a whole word, by one step, and answers the word found.
+    pub fn change_value(
+        &mut self,
+        table: &HopTable,
+        part: ValuePart,
+        op: AtomicOp,
+        operand: u64,
+        expected: u64,
+    ) -> u64
+        requires table { self.old.table ≡ table.now.id }
+        requires touches { TouchesWord table.now.about self.old.known part }
+        ensures table { self.new.table ≡ self.old.table }
+        ensures made { Told table.now.about self.old.known (Atomic (address_of table.now.about part) Double op operand expected result) self.new.known }
+    {
+        let place = Place::ValueWord {
+            map: part.map,
+            element: part.element,
+            word: part.word,
+        };
+        let said = (part, operand, expected);
+        match op {
+            AtomicOp::Add => self.add_by::<Brand, _>(table, place, operand, said),
+            AtomicOp::Or => self.or_by::<Brand, _>(table, place, operand, said),
+            AtomicOp::And => self.and_by::<Brand, _>(table, place, operand, said),
+            AtomicOp::Xor => self.xor_by::<Brand, _>(table, place, operand, said),
+            AtomicOp::Exchange => self.swap_by::<Brand, _>(table, place, operand, said),
+            AtomicOp::CompareExchange => {
+                self.exchange_by::<Brand, _>(table, place, expected, operand, said)
+            }
+        }
+    }
+}
