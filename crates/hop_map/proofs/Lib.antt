@@ -8,7 +8,8 @@ pub mod Counted
 pub mod Puts
 pub mod Locking
 pub mod Replacing
-pub mod Removing
 pub mod Homes
+pub mod Looking
+pub mod Removing
 pub mod Offering
 pub mod Verdicts

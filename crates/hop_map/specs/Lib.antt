@@ -6,3 +6,4 @@ pub mod Locks
 pub mod Overs
 pub mod Whole
 pub mod Updates
+pub mod Finding

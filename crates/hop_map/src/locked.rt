@@ -6,7 +6,7 @@ ghost use Rattle.hop_words.specs.Ghost.{shape_at};
 ghost use Rattle.bpf_shared.specs.declared.events.Event.TheVariants.{Delete, Update};
 ghost use Rattle.bpf_shared.specs.declared.events.MapAnswer.TheVariants.{Full, NoMemory};
 ghost use Rattle.hop_words.specs.Rule.{owed};
-ghost use Rattle.hop_words.specs.Kinds.{Inserted, IsAbsent, IsWritten, unlocking, Replaces, Replaced, Removes, Answers, Answered, Told};
+ghost use Rattle.hop_words.specs.Kinds.{Inserted, IsAbsent, IsWritten, unlocking, Replaces, Replaced, Removes, Answers, Answered, LooksUp, LookedUp, Told};
 ghost use Rattle.hop_words.specs.Locking.{lock_of, hand};
 ghost use Rattle.hop_words.specs.Guarded.{IsGuarded, MayWrite};
 ghost use Rattle.hop_map.specs.Views.{IsNoKey, written, knows, Spells, Ready, Fits};
@@ -301,6 +301,22 @@ impl<'a> LockedWords<'a> {
         let (table, map, segment) = (self.table, self.map, self.segment);
         let mut lane = self.lane;
         lane.unlock_update(table, map, segment, stamp, key, value, flags, answer);
+        lane
+    }
+
+    /// Gives the lock back, where nothing has changed, and with it a lookup is answered.
+    pub(crate) fn unlock_lookup(self, stamp: u64, key: &[u8], found: Option<u32>) -> Lane
+        requires stamp { stamp ≡ (lock_of self.known).stamp }
+        requires looks { let l = self.known in
+            Ready self.about l self.map self.segment →
+            LooksUp self.about l (lock_of l) key.now found }
+        ensures table { result.table ≡ self.entry.table }
+        ensures answered { let l = self.entry.known in
+            LookedUp self.entry.about l (lock_of l) key.now found result.known }
+    {
+        let (table, map, segment) = (self.table, self.map, self.segment);
+        let mut lane = self.lane;
+        lane.unlock_lookup(table, map, segment, stamp, key, found);
         lane
     }
 

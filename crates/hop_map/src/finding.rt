@@ -1,0 +1,74 @@
+//! Lookups.
+ghost use Rattle.std.specs.Prelude.{◌≡◌, ◌<◌, length};
+ghost use Rattle.hop_words.specs.Home.{home_of};
+ghost use Rattle.hop_words.specs.Ghost.{shape_at};
+ghost use Rattle.hop_words.specs.Kinds.{LookedUp, span_at};
+ghost use Rattle.hop_words.specs.Locking.{lock_of};
+ghost use Rattle.hop_map.specs.Calls.{Contents};
+ghost use Rattle.hop_map.specs.Locks.{counted_lock};
+ghost use Rattle.hop_map.specs.Finding.{Asks, AsksHere, Looked};
+
+use crate::homing::{homing, shape_of};
+use crate::locked::LockedWords;
+use crate::waiting::lock_when_free;
+use bpf_shared::Span;
+use hop_seg::find;
+use hop_words::{HopTable, Lane};
+use std::sync::Wait;
+
+/// Where the value of an element lies, if there is one.
+pub(crate) fn span_of(table: &HopTable, map: u8, found: Option<u32>) -> Option<Span>
+    requires map { map < length table.now.about.shape.maps }
+    ensures { result ≡ span_at table.now.about map found }
+{
+    let element = found?;
+    let size = shape_of(table, map).value;
+    let stride = size.div_ceil(8) * 8;
+    Some(Span {
+        at: 0x10_0000_0000 + 0x1000_0000 * u64::from(map) + u64::from(element) * stride,
+        size,
+    })
+}
+
+/// Finds a key, and gives the lock back: with that the lookup is answered.
+pub(crate) fn find_here<'a>(
+    words: LockedWords<'a>,
+    stamp: u64,
+    home: u32,
+    key: &[u8],
+) -> (Lane, Option<u32>)
+    requires contents { Contents words.about words.known words.map words.segment }
+    requires asks { AsksHere words.about words.known words.map words.segment key.now }
+    requires home { home ≡ home_of key.now words.about.seed (shape_at words.about words.map).mask }
+    requires stamp { stamp ≡ (lock_of words.known).stamp }
+    ensures table { result.0.table ≡ words.entry.table }
+    ensures found { let l = words.entry.known in
+        LookedUp words.entry.about l (lock_of l) key.now result.1 result.0.known }
+{
+    let mut words = words;
+    let found = find(&mut words, key, home);
+    (words.unlock_lookup(stamp, key, found), found)
+}
+
+/// Where the key's value lies, found under the lock of the key's segment. The CPU waits for it.
+pub fn find_locked<R: Wait>(
+    rt: &R,
+    table: &HopTable,
+    lane: Lane,
+    map: u8,
+    key: &[u8],
+) -> (Lane, Option<Span>)
+    requires table { lane.table ≡ table.now.id }
+    requires asks { Asks table.now.about lane.known map key.now }
+    ensures table { result.0.table ≡ table.now.id }
+    ensures found { Looked table.now.about lane.known map key.now result.1 result.0.known }
+    ensures readings { result.0.known.readings ≡ lane.known.readings }
+    ensures locked { result.0.known.tally ≡ (counted_lock lane.known).tally }
+{
+    let at = homing(table, map, key);
+    let mut lane = lane;
+    let stamp = lock_when_free(rt, table, &mut lane, map, at.segment);
+    let words = LockedWords::new(table, lane, map, at.segment, at.key_size, at.elements);
+    let (lane, found) = find_here(words, stamp, at.home, key);
+    (lane, span_of(table, map, found))
+}
