@@ -5,6 +5,7 @@ pub mod WorkLaws
 pub mod BeginLaws
 pub mod ProceedLaws
 pub mod TurnLaws
+pub mod RoundLaws
 pub mod MadeLaws
 pub mod DeterminedTurns
 pub mod FallLaws

@@ -17,6 +17,7 @@ use Rattle.bpf_cpu.specs.declared.outcome.Outcome.{Outcome}
 use Rattle.bpf_cpu.specs.State.{start}
 use Rattle.bpf_cpu.specs.Task.{Task, Waiting}
 use Rattle.bpf_cpu.specs.Schedule.{World, RunsSchedule}
+use Rattle.bpf_cpu.specs.Rounds.{RunsToEnd}
 use Rattle.bpf_cpu.specs.Step.{Step, MakesSteps, Explains}
 
 -- a step asks the store what the replies before it determine, and leaves the state that all of them
@@ -66,3 +67,7 @@ abbrev pub SchedulesAreDetermined : Type 0
 SchedulesAreDetermined =
     (w y z : World) (schedule : List ℕ) → IsFresh w
     → RunsSchedule w schedule y → RunsSchedule w schedule z → y ≡ z
+
+-- so have rounds: one last machine is left
+abbrev pub RoundsAreDetermined : Type 0
+RoundsAreDetermined = (w y z : World) → IsFresh w → RunsToEnd w y → RunsToEnd w z → y ≡ z

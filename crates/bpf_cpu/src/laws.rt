@@ -2,7 +2,7 @@
 //!
 //! These functions do nothing: their contracts are the laws, which a proof cites.
 ghost use Rattle.bpf_cpu.specs.Questions.{TurnsFall};
-ghost use Rattle.bpf_cpu.specs.Laws.{NoMapsNoEvents, OutcomesAreDetermined, PlainStepsAreDetermined, SchedulesAreDetermined, StepsAreDetermined};
+ghost use Rattle.bpf_cpu.specs.Laws.{NoMapsNoEvents, OutcomesAreDetermined, PlainStepsAreDetermined, RoundsAreDetermined, SchedulesAreDetermined, StepsAreDetermined};
 
 /// The replies to a step's calls determine its next call, and all of them the state that it leaves.
 pub fn steps_are_determined()
@@ -47,3 +47,12 @@ pub fn schedules_are_determined()
 pub fn turns_fall()
     ensures { TurnsFall }
 {}
+
+/// Over a plain store, rounds leave one machine.
+pub fn rounds_are_determined()
+    ensures { RoundsAreDetermined }
+{
+    bpf_mem::laws::writes_are_determined();
+    bpf_loader::laws::one_instruction_begins();
+    bpf_shared::laws::calls_have_one_reply();
+}

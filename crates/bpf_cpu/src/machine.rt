@@ -4,6 +4,7 @@ pub mod job;
 mod lane;
 #[cfg(test)]
 mod map_programs;
+mod rounds;
 #[cfg(test)]
 mod schedules;
 
@@ -78,7 +79,7 @@ impl Model for Machine {
 }
 
 impl Machine {
-    ghost use Rattle.std.specs.Prelude.{◌≡◌, ◌≢◌, ◌≤◌, ◌<◌, ◌⊎◌, ℕ, true, false, All, IfOk, IfErr, IfSome, IfNone, length, map, nat_lt, vec_len};
+    ghost use Rattle.std.specs.Prelude.{◌≡◌, ◌≢◌, ◌≤◌, ◌<◌, ◌⊎◌, ℕ, true, false, All, IfOk, IfErr, IfSome, IfNone, length, map, nat_lt, vec_len, option_map, slice_get};
     ghost use Rattle.bpf_shared.specs.Contents.{has_cpu, is_running};
     ghost use Rattle.bpf_mem.specs.Limits.{max_context};
     ghost use Rattle.bpf_cpu.specs.Task.{IsFree, NoneWaits, outcome_at, waiting};
@@ -156,6 +157,13 @@ impl Machine {
             Phase::Ended(outcome) => Some(outcome),
             _ => None,
         }
+    }
+
+    /// The CPU of a job.
+    pub fn cpu_of(&self, job: usize) -> Option<u8>
+        ensures { result ≡ option_map (λ task. task.cpu) (slice_get self.now.jobs job) }
+    {
+        Some(self.jobs.get(job)?.cpu)
     }
 
     /// The store.

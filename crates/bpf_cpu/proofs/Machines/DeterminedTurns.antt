@@ -1,7 +1,7 @@
 -- A turn of a plain machine has one course, and so has a schedule.
-use Rattle.std.proofs.Common.{◌≡◌, ◌≢◌, ℕ, zero, suc, ◌≤◌, List, [], ◌∷◌, length, Option, Some, None, inl, inr, refl, sym, ap, subst, ◌∙◌}
+use Rattle.std.proofs.Common.{◌≡◌, ◌≢◌, ℕ, zero, suc, ◌≤◌, ◌+◌, ◌-◌, List, [], ◌∷◌, length, Option, Some, None, inl, inr, refl, sym, ap, subst, ◌∙◌, arith}
 use Rattle.std.specs.Prelude.{slice_get}
-use Rattle.std.proofs.lemmas.Bool.{cases_order}
+use Rattle.std.proofs.lemmas.Bool.{cases_lt, cases_order}
 use Rattle.bpf_shared.specs.Laws.{CallsHaveOneReply}
 use Rattle.bpf_shared.specs.declared.events.Event.TheVariants.{Begin, End}
 use Rattle.bpf_shared.specs.Choice.{PlainlyAllowed}
@@ -19,7 +19,8 @@ use Rattle.bpf_cpu.specs.declared.outcome.Outcome.{Outcome}
 use Rattle.bpf_cpu.specs.State.{start}
 use Rattle.bpf_cpu.specs.Task.{Stage, Task, Waiting, InHand, Ended, IsAt, IsFree, NoneWaitsBelow, with_stage}
 use Rattle.bpf_cpu.specs.Schedule.{World, outcome_after, Advances, Settles, GoesOn, TakesTurn, RunsSchedule}
-use Rattle.bpf_cpu.specs.Laws.{IsFresh, SchedulesAreDetermined}
+use Rattle.bpf_cpu.specs.Rounds.{below, HaveEnded, RunsRound, RunsRounds}
+use Rattle.bpf_cpu.specs.Laws.{IsFresh, SchedulesAreDetermined, RoundsAreDetermined}
 use Rattle.bpf_cpu.proofs.DeterminedRuns.{start_memory, stays_sound, step_agrees, same_replies}
 use Rattle.bpf_base.proofs.Lists.{slice_get-set_known, slice_get-set_other}
 
@@ -261,6 +262,42 @@ module _ (law : WritesAreDetermined) (begins : OneInstructionBegins) (replies : 
       let P : World → Type 0 = λ m. RunsSchedule m cs z in
       one_run cs a.1 y z progress.world a.3 (subst P (sym progress.worlds) b.3)
 
+  runs_world : (cs : List ℕ) (w z : World) → IsWorld w → RunsSchedule w cs z → IsWorld z
+  runs_world [] w z world runs = subst IsWorld (sym runs) world
+  runs_world (c ∷ cs) w z world runs = runs_world cs runs.1 z (one_turn w c runs.0 runs.0 runs.1 runs.1 world runs.2 runs.2).world runs.3
+
+  -- ---- rounds
+  one_of_rounds : (n : ℕ) (w y z : World) → IsWorld w → RunsRounds n w y → RunsRounds n w z → (y ≡ z) × IsWorld y
+  one_of_rounds zero w y z world a b = (a ∙ sym b, subst IsWorld (sym a) world)
+  one_of_rounds (suc n) w y z world a b =
+      let before = one_of_rounds n w a.0 b.0 world a.1 b.1 in
+      let P : World → Type 0 = λ m. RunsRound m z in
+      (one_run (below a.0.store.shape.cpus) a.0 y z before.1 a.2 (subst P (sym before.0) b.2), runs_world (below a.0.store.shape.cpus) a.0 y before.1 a.2)
+
+  -- where all jobs have ended, nothing changes
+  stays_ended : (w : World) (c : ℕ) (answer : Turn) (z : World) → HaveEnded w.jobs → TakesTurn w c answer z → z ≡ w
+  stays_ended w c answer z ended (inl a) = let end = ended a.0 a.1 a.4.listed in let no : InHand a.2 a.3 ≡ Ended end.0 = sym a.4.at ∙ end.1 in cc
+  stays_ended w c answer z ended (inr (inl (free, a))) = let end = ended a.0 a.1 a.4.listed in let no : Waiting a.2 ≡ Ended end.0 = sym a.4.at ∙ end.1 in cc
+  stays_ended w c answer z ended (inr (inr a)) = a.3
+
+  all_stays_ended : (cs : List ℕ) (w z : World) → HaveEnded w.jobs → RunsSchedule w cs z → z ≡ w
+  all_stays_ended [] w z ended runs = runs
+  all_stays_ended (c ∷ cs) w z ended runs =
+      let same : runs.1 ≡ w = stays_ended w c runs.0 runs.1 ended runs.2 in
+      let P : World → Type 0 = λ m. HaveEnded m.jobs in
+      all_stays_ended cs runs.1 z (subst P (sym same) ended) runs.3 ∙ same
+
+  more_rounds : (k n m : ℕ) (w y z : World) → m ≡ n + k → IsWorld w → HaveEnded y.jobs → RunsRounds n w y → RunsRounds m w z → y ≡ z
+  more_rounds zero n m w y z sum world ended a b =
+      let same : m ≡ n = omega arith in
+      (one_of_rounds n w y z world a (subst (λ (i : ℕ). RunsRounds i w z) same b)).0
+  more_rounds (suc k) n m w y z sum world ended a rounds =
+      let more : m ≡ suc (n + k) = omega arith in
+      let b : RunsRounds (suc (n + k)) w z = subst (λ (i : ℕ). RunsRounds i w z) more rounds in
+      let same : y ≡ b.0 = more_rounds k n (n + k) w y b.0 refl world ended a b.1 in
+      let P : World → Type 0 = λ m. HaveEnded m.jobs in
+      same ∙ sym (all_stays_ended (below b.0.store.shape.cpus) b.0 z (subst P same ended) b.2)
+
   -- a job that waits isn't in hand
   none_in_hand : (w : World) → IsFresh w → (c j : ℕ) (task : Task) (state : Cpu) (left : ℕ) → IsAt w.jobs c j task (InHand state left) → ⊥
   none_in_hand w fresh c j task state left at = let waits = fresh.waits j task at.listed in let both : InHand state left ≡ Waiting waits.0 = sym at.at ∙ waits.1 in cc
@@ -279,3 +316,9 @@ module _ (law : WritesAreDetermined) (begins : OneInstructionBegins) (replies : 
 
   pub schedules_are_determined : SchedulesAreDetermined
   schedules_are_determined w y z schedule fresh a b = one_run schedule w y z (fresh_world w fresh) a b
+
+  pub rounds_are_determined : RoundsAreDetermined
+  rounds_are_determined w y z fresh (n, a, ended) (m, b, over) = elim (cases_lt n m) [
+    | inl less ↦ more_rounds (m - n) n m w y z (omega arith) (fresh_world w fresh) ended a b
+    | inr least ↦ sym (more_rounds (n - m) m n w z y (omega arith) (fresh_world w fresh) over b a)
+  ]

@@ -1,23 +1,20 @@
 -- How far the jobs of a machine are from their ends, after a turn.
-use Rattle.std.proofs.Common.{◌≡◌, ℕ, zero, suc, ◌+◌, ◌<◌, ◌≤◌, List, length, get_or, Option, Some, None, inl, inr, refl, sym, ap, subst, ◌∙◌, arith}
+use Rattle.std.proofs.Common.{◌≡◌, ℕ, zero, suc, ◌+◌, ◌<◌, List, length, get_or, Option, Some, None, inl, inr, refl, sym, ap, subst, ◌∙◌, arith}
 use Rattle.std.specs.Prelude.{slice_get}
 use Rattle.std.specs.List.{sum_by}
 use Rattle.std.proofs.lemmas.List.{length-set}
 use Rattle.std.proofs.lemmas.List.Sums.{sum_by-set}
-use Rattle.std.proofs.lemmas.Option.{slice_get_within, slice_get_read, slice_get-get_or}
+use Rattle.std.proofs.lemmas.Option.{slice_get_within, slice_get-get_or}
 use Rattle.bpf_cpu.specs.declared.cpu.Cpu.{Cpu}
 use Rattle.bpf_cpu.specs.declared.outcome.Outcome.{Outcome}
 use Rattle.bpf_cpu.specs.declared.outcome.Outcome.TheVariants.{OutOfBudget}
-use Rattle.bpf_cpu.specs.declared.outcome.Progress.{Progress}
-use Rattle.bpf_cpu.specs.declared.outcome.Progress.TheVariants as progress
 use Rattle.bpf_cpu.specs.declared.machine.Turn.{Turn}
-use Rattle.bpf_cpu.specs.declared.machine.Turn.TheVariants as turn
 use Rattle.bpf_loader.specs.Loaded.{Loaded}
 use Rattle.bpf_shared.specs.Store.{Plain}
 use Rattle.bpf_cpu.specs.State.{start}
-use Rattle.bpf_cpu.specs.Task.{Stage, Task, Waiting, InHand, Ended, IsAt, with_stage}
-use Rattle.bpf_cpu.specs.Schedule.{World, outcome_after, Advances, Settles, GoesOn, TakesTurn}
-use Rattle.bpf_cpu.specs.Questions.{turns_of, turns_left, open_in, open_jobs, Falls, TurnsFall}
+use Rattle.bpf_cpu.specs.Task.{Stage, Task, InHand, Ended, with_stage}
+use Rattle.bpf_cpu.specs.Schedule.{World, Advances, Settles, GoesOn}
+use Rattle.bpf_cpu.specs.Questions.{turns_of, open_in, Falls, TurnsFall}
 
 -- what a sum over jobs is after one of them has another stage
 summed : (f : Task → ℕ) (jobs : List Task) (j : ℕ) (task : Task) (stage : Stage) → slice_get jobs j ≡ Some task

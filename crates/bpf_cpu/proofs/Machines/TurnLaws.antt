@@ -74,7 +74,7 @@ turn_idle old c free none w shows =
     (w, inr (inr (subst F (sym shows.jobs) free, subst N (sym shows.jobs) none, refl, refl)), shows)
 
 -- ---- schedules
-runs_more : (w : World) (cs : List ℕ) (c : ℕ) (m : World) (answer : Turn) (z : World) → RunsSchedule w cs m → TakesTurn m c answer z → RunsSchedule w (cs ++ c ∷ []) z
+pub runs_more : (w : World) (cs : List ℕ) (c : ℕ) (m : World) (answer : Turn) (z : World) → RunsSchedule w cs m → TakesTurn m c answer z → RunsSchedule w (cs ++ c ∷ []) z
 runs_more w [] c m answer z runs progress = (answer, z, subst (λ (x : World). TakesTurn x c answer z) runs progress, refl)
 runs_more w (d ∷ ds) c m answer z runs progress = (runs.0, runs.1, runs.2, runs_more runs.1 ds c m answer z runs.3 progress)
 

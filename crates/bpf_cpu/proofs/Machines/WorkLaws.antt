@@ -1,5 +1,5 @@
 -- What is in hand and what waits, by what a machine keeps and by what it shows.
-use Rattle.std.proofs.Common.{◌≡◌, ℕ, ◌<◌, ◌≤◌, Bool, List, Option, Some, None, inl, inr, length, refl, sym, ap, subst, ◌∙◌, arith}
+use Rattle.std.proofs.Common.{◌≡◌, ℕ, ◌<◌, ◌≤◌, Bool, true, List, Option, Some, None, inl, inr, length, refl, sym, ap, subst, ◌∙◌, arith}
 use Rattle.std.specs.Prelude.{slice_get, slice_index_or, option_map}
 use Rattle.std.proofs.lemmas.Option.{slice_get-map, slice_get_within, slice_get-get_or}
 use Rattle.std.proofs.lemmas.Bool.{cases_lt}
@@ -54,6 +54,13 @@ shown_waiting l j phase.InHand context fits e =
     let there : stage_of (Some fits.1.0) phase.InHand ≡ Waiting context = ap (λ (o : Option Hand). stage_of o phase.InHand) (sym fits.1.1) ∙ e in
     let no : InHand fits.1.0.cpu fits.1.0.left ≡ Waiting context = there in
     cc
+
+-- the CPU of each job is one that is served
+pub served : (serves running : ℕ → Bool) (reach : ℕ → Span → Bool) (programs : List Loaded) (jobs : List Listed) (lanes : List Lane) → IsBoard serves running reach programs jobs lanes
+    → (j : ℕ) (task : Task) → slice_get (tasks_of lanes jobs) j ≡ Some task → serves task.cpu ≡ true
+served serves running reach programs jobs lanes board j task listed =
+    let b = behind jobs lanes task.cpu j task task.stage (record { listed = listed; of = refl; at = refl }) in
+    subst (λ (n : ℕ). serves n ≡ true) b.of (board.each_job j b.job b.listed).served
 
 module _ (serves running : ℕ → Bool) (reach : ℕ → Span → Bool) (programs : List Loaded) (jobs : List Listed) (lanes : List Lane) (board : IsBoard serves running reach programs jobs lanes) (c : ℕ) where
   -- ---- in hand
