@@ -30,7 +30,14 @@ keeps_then m l k l' p q = record {
   size = q.size ∙ p.size;
   others = λ n ne. q.others n ne ∙ p.others n ne;
   used = q.used ∙ p.used;
+  sights = (
+    q.sights.0 ++ p.sights.0,
+    q.sights.1 ∙ (ap (λ (z : List Sight). q.sights.0 ++ z) p.sights.1 ∙ sym (append_assoc q.sights.0 p.sights.0 l.tally.sights)),
+  );
 }
+
+pub keeps_itself : (m : ℕ) (l : Known) → Keeps m l l
+keeps_itself m l = record { cpu = refl; seen = refl; fresh = refl; locks = refl; readings = refl; size = refl; others = λ n ne. refl; used = refl; sights = ([], refl) }
 
 pub keeps_set : (m : ℕ) (l : Known) (x : Limbo) → m < length l.limbo → x.used ≡ (limbo_at l.limbo m).used → Keeps m l (limbo_set l m x)
 keeps_set m l x room same = record {
@@ -42,10 +49,11 @@ keeps_set m l x room same = record {
   size = length-set l.limbo m x;
   others = λ n ne. get_or-set_other l.limbo m n x no_limbo ne;
   used = ap (λ (y : Limbo). y.used) (at_set l m x room) ∙ same;
+  sights = ([], refl);
 }
 
 keeps_sighted : (m : ℕ) (l k : Known) (s : Sight) → Keeps m l k → Keeps m l (sighted k s)
-keeps_sighted m l k s p = record { cpu = p.cpu; seen = p.seen; fresh = p.fresh; locks = p.locks; readings = p.readings; size = p.size; others = p.others; used = p.used }
+keeps_sighted m l k s p = record { cpu = p.cpu; seen = p.seen; fresh = p.fresh; locks = p.locks; readings = p.readings; size = p.size; others = p.others; used = p.used; sights = (s ∷ p.sights.0, ap (λ (z : List Sight). s ∷ z) p.sights.1) }
 
 -- ---- a look at a counter
 pub looks_same : (m : ℕ) (l k k' : Known) (s : Sight) → Looks m l k → k' ≡ sighted k s → Looks m l k'

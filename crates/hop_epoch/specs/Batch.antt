@@ -34,6 +34,8 @@ pub record Keeps (m : ℕ) (l l' : Known) : Type 0 where
   pub size : length l'.limbo ≡ length l.limbo
   pub others : (n : ℕ) → n ≢ m → limbo_at l'.limbo n ≡ limbo_at l.limbo n
   pub used : (limbo_at l'.limbo m).used ≡ (limbo_at l.limbo m).used
+  -- nothing that was seen is forgotten
+  pub sights : (more : List Sight) × (l'.tally.sights ≡ more ++ l.tally.sights)
 
 -- the word that leads to an element, or to none
 abbrev pub link_word : Option ℕ → ℕ

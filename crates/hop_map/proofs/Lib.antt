@@ -13,3 +13,5 @@ pub mod Looking
 pub mod Removing
 pub mod Offering
 pub mod Verdicts
+pub mod Wholes
+pub mod Settling

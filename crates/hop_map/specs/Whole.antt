@@ -11,7 +11,22 @@ use Rattle.hop_words.specs.declared.known.Sight.TheVariants.{Runs}
 use Rattle.hop_words.specs.Ghost.{shape_at, limbo_at}
 use Rattle.hop_words.specs.Rule.{done_in}
 use Rattle.hop_words.specs.Kinds.{Saw}
-use Rattle.hop_arena.specs.Claiming.{IsSeenTaken}
+use Rattle.hop_arena.specs.declared.arena.Arena.{Arena}
+use Rattle.hop_arena.specs.Claiming.{IsArena, IsSeenTaken}
+use Rattle.hop_epoch.specs.declared.batches.Batches.{Batches}
+use Rattle.hop_epoch.specs.Batch.{Tracks}
+
+-- the arena is the map's
+abbrev pub Searches : About → ℕ → Arena → Type 0
+Searches a m x = (x.map ≡ m) × IsArena a x.map x.elements x.start
+
+-- the batches are the CPU's of this map
+abbrev pub Follows : About → Known → ℕ → Batches → Type 0
+Follows a l m x = (x.map ≡ m) × Tracks a l x.map x.young x.aged x.noted
+
+-- the CPU has one element in hand: a new one, no word of which is filled
+abbrev pub HoldsNew : Known → ℕ → ℕ → Type 0
+HoldsNew l m e = l.fresh ≡ record { map = m; element = e; key = []; value = [] } ∷ []
 
 -- between two calls a CPU has no element in hand, and no lock
 pub record Rests (l : Known) (m : ℕ) : Type 0 where

@@ -1,0 +1,139 @@
+-- A new element that is filled, and what becomes of it.
+use Rattle.std.proofs.Common.{◌≡◌, ◌≢◌, ℕ, zero, suc, ◌+◌, ◌<◌, ◌≤◌, true, List, [], ◌∷◌, ◌++◌, Option, length, slice_index, length-set, get_or-set_other, ⊎_elim, refl, ap, sym, subst, ◌∙◌, arith}
+use Rattle.std.proofs.lemmas.List.{get_or_append_left}
+use Rattle.std.proofs.Math.Seq.{get_or-append_seam}
+use Rattle.bpf_shared.specs.Shape.{elements}
+use Rattle.bpf_shared.specs.History.{events_of}
+use Rattle.bpf_shared.specs.declared.events.Event.TheVariants.{Update}
+use Rattle.bpf_shared.specs.declared.events.MapAnswer.{MapAnswer}
+use Rattle.bpf_shared.specs.declared.events.MapAnswer.TheVariants.{Done}
+use Rattle.hop_words.specs.declared.known.About.{About}
+use Rattle.hop_words.specs.declared.known.Known.{Known}
+use Rattle.hop_words.specs.declared.known.Fresh.{Fresh}
+use Rattle.hop_words.specs.declared.known.Limbo.{Limbo}
+use Rattle.hop_words.specs.Layout.{words_for}
+use Rattle.hop_words.specs.Homes.{segment_of, word_of, AreBytes}
+use Rattle.hop_words.specs.Ghost.{shape_at, limbo_at, no_limbo}
+use Rattle.hop_words.specs.Kinds.{in_run, retiring, with_gone}
+use Rattle.hop_words.specs.Owning.{behind, IsInHand}
+use Rattle.hop_words.proofs.Small.{equal}
+use Rattle.hop_arena.specs.Filling.{with_words, word_list}
+use Rattle.hop_arena.proofs.Filling.{word_count}
+use Rattle.hop_epoch.proofs.Batching.{at_set}
+use Rattle.hop_map.specs.Calls.{Took}
+use Rattle.hop_map.specs.Overs.{Over}
+use Rattle.hop_map.specs.Locks.{Readies, counted_lock}
+use Rattle.hop_map.specs.Updates.{Refusal}
+use Rattle.hop_map.specs.Whole.{Called, HoldsNew}
+use Rattle.hop_map.proofs.Wholes.{saw_as}
+
+pub words_at : (n : ℕ) (bs : List ℕ) (i : ℕ) → i < n → slice_index (word_list n bs) i ≡ word_of bs i
+words_at zero bs i less = absurd (omega arith)
+words_at (suc n) bs i less = ⊎_elim
+    (λ (t : i ≡ n). subst (λ (k : ℕ). slice_index (word_list (suc n) bs) k ≡ word_of bs k) (sym t)
+    (ap (slice_index (word_list (suc n) bs)) (sym (word_count n bs)) ∙ get_or-append_seam (word_list n bs) (word_of bs n) [] 0))
+    (λ (ne : i ≢ n). get_or_append_left (word_list n bs) (word_of bs n ∷ []) 0 i (let c = word_count n bs in omega arith) ∙ words_at n bs i (omega arith))
+    (equal i n)
+
+module _ (a : About) (l : Known) (m e : ℕ) (new : HoldsNew l m e) (key bytes : List ℕ) (l1 : Known)
+    (filled : l1 ≡ record l { fresh = with_words l.fresh (word_list (words_for (length key)) key) (word_list (words_for (length bytes)) bytes) }) where
+  abbrev whole : Fresh
+  whole = record { map = m; element = e; key = word_list (words_for (length key)) key; value = word_list (words_for (length bytes)) bytes }
+
+  pub filled_is : l1 ≡ record l { fresh = whole ∷ [] }
+  filled_is = filled ∙ ap (λ (fs : List Fresh). record l { fresh = with_words fs (word_list (words_for (length key)) key) (word_list (words_for (length bytes)) bytes) }) new
+
+  pub filled_readies : (flags : ℕ) → e < elements (shape_at a m) → length key ≡ (shape_at a m).key → length bytes ≡ (shape_at a m).value → AreBytes key → AreBytes bytes → flags ≤ 2
+      → m < length l.limbo → in_run (events_of l.cpu l.seen) ≡ true → l.locks ≡ [] → Readies a l1 m (segment_of a.seed (shape_at a m) key) key bytes flags e
+  filled_readies flags inside ks vs kb vb few room runs idle = subst (λ (q : Known). Readies a q m (segment_of a.seed (shape_at a m) key) key bytes flags e) (sym filled_is) (record {
+    carries = record {
+      in_hand = refl;
+      map = refl;
+      number = refl;
+      inside = inside;
+      size = ks;
+      are_bytes = kb;
+      filled = word_count (words_for (length key)) key ∙ ap words_for ks;
+      spelled = λ i less. words_at (words_for (length key)) key i (subst (λ (n : ℕ). i < words_for n) (sym ks) less);
+    };
+    valued = record {
+      filled = word_count (words_for (length bytes)) bytes ∙ ap words_for vs;
+      value = λ i less. words_at (words_for (length bytes)) bytes i (subst (λ (n : ℕ). i < words_for n) (sym vs) less);
+    };
+    wants = record { home = refl; key_size = ks; size = vs; are_bytes = vb; flags_known = few; limbo = room; runs = runs };
+    idle = idle;
+  })
+
+  module _ (used : (limbo_at l.limbo m).used ≡ []) (room : m < length l.limbo) (flags : ℕ) (l2 : Known) where
+    pub added_called : Took a (counted_lock l1) m key bytes flags l2 → Called a l m (Update m key bytes flags Done) l2
+    added_called p = record {
+      seen = saw_as a l (counted_lock l1) (Update m key bytes flags Done) l2.seen (ap (λ (q : Known). q.cpu) filled_is) (ap (λ (q : Known). q.seen) filled_is) p.seen;
+      rests = record {
+        fresh = ap (λ (q : Known). q.fresh) p.after;
+        locks = ap (λ (q : Known). q.locks) p.after;
+        used = ap (λ (q : Known). (limbo_at q.limbo m).used) p.after ∙ (ap (λ (q : Known). (limbo_at q.limbo m).used) filled_is ∙ used);
+      };
+      cpu = ap (λ (q : Known). q.cpu) p.after ∙ ap (λ (q : Known). q.cpu) filled_is;
+      readings = ap (λ (q : Known). q.readings) p.after ∙ ap (λ (q : Known). q.readings) filled_is;
+      size = ap (λ (q : Known). length q.limbo) p.after ∙ ap (λ (q : Known). length q.limbo) filled_is;
+      others = λ n ne. ap (λ (q : Known). limbo_at q.limbo n) p.after ∙ ap (λ (q : Known). limbo_at q.limbo n) filled_is;
+    }
+
+    pub added_limbo : Took a (counted_lock l1) m key bytes flags l2 → l2.limbo ≡ l.limbo
+    added_limbo p = ap (λ (q : Known). q.limbo) p.after ∙ ap (λ (q : Known). q.limbo) filled_is
+
+    module _ (r : MapAnswer) (p : Refusal a (counted_lock l1) m key bytes flags r l2) where
+      refused_fresh : l2.fresh ≡ whole ∷ []
+      refused_fresh = ap (λ (q : Known). q.fresh) p.after ∙ ap (λ (q : Known). q.fresh) filled_is
+
+      pub refused_hand : IsInHand l2 m e
+      refused_hand = (whole, refused_fresh ∙ ap (λ (fs : List Fresh). whole ∷ fs) (sym (ap behind refused_fresh)), refl, refl)
+
+      pub refused_limbo : (l3 : Known) → l3 ≡ record l2 { fresh = behind l2.fresh } → l3.limbo ≡ l.limbo
+      refused_limbo l3 given = ap (λ (q : Known). q.limbo) given ∙ (ap (λ (q : Known). q.limbo) p.after ∙ ap (λ (q : Known). q.limbo) filled_is)
+
+      pub refused_called : (l3 : Known) → l3 ≡ record l2 { fresh = behind l2.fresh } → Called a l m (Update m key bytes flags r) l3
+      refused_called l3 given = subst (Called a l m (Update m key bytes flags r)) (sym given) (record {
+        seen = saw_as a l (counted_lock l1) (Update m key bytes flags r) l2.seen (ap (λ (q : Known). q.cpu) filled_is) (ap (λ (q : Known). q.seen) filled_is) p.seen;
+        rests = record {
+          fresh = ap behind refused_fresh;
+          locks = ap (λ (q : Known). q.locks) p.after;
+          used = ap (λ (q : Known). (limbo_at q.limbo m).used) p.after ∙ (ap (λ (q : Known). (limbo_at q.limbo m).used) filled_is ∙ used);
+        };
+        cpu = ap (λ (q : Known). q.cpu) p.after ∙ ap (λ (q : Known). q.cpu) filled_is;
+        readings = ap (λ (q : Known). q.readings) p.after ∙ ap (λ (q : Known). q.readings) filled_is;
+        size = ap (λ (q : Known). length q.limbo) p.after ∙ ap (λ (q : Known). length q.limbo) filled_is;
+        others = λ n ne. ap (λ (q : Known). limbo_at q.limbo n) p.after ∙ ap (λ (q : Known). limbo_at q.limbo n) filled_is;
+      })
+
+    module _ (old : ℕ) (p : Over a (counted_lock l1) m key bytes flags old l2) where
+      pub over_limbo : l2.limbo ≡ with_gone l m old
+      over_limbo = ap (λ (q : Known). q.limbo) p.after ∙ ap (λ (q : Known). with_gone q m old) filled_is
+
+      over_used : (limbo_at l2.limbo m).used ≡ old ∷ []
+      over_used = ap (λ (ls : List Limbo). (limbo_at ls m).used) over_limbo
+          ∙ (ap (λ (z : Limbo). z.used) (at_set l m (record (limbo_at l.limbo m) { used = old ∷ (limbo_at l.limbo m).used }) room) ∙ ap (λ (us : List ℕ). old ∷ us) used)
+
+      pub over_front : (limbo_at l2.limbo m).used ≡ old ∷ behind (limbo_at l2.limbo m).used
+      over_front = over_used ∙ ap (λ (us : List ℕ). old ∷ us) (sym (ap behind over_used))
+
+      size_is : length l2.limbo ≡ length l.limbo
+      size_is = ap (λ (ls : List Limbo). length ls) over_limbo ∙ length-set l.limbo m (record (limbo_at l.limbo m) { used = old ∷ (limbo_at l.limbo m).used })
+
+      pub over_called : (l3 : Known) → l3 ≡ retiring l2 m old (behind (limbo_at l2.limbo m).used) → Called a l m (Update m key bytes flags Done) l3
+      over_called l3 retired =
+          let x : Limbo = record (limbo_at l2.limbo m) { used = behind (limbo_at l2.limbo m).used; young = old ∷ (limbo_at l2.limbo m).young } in
+          let room2 : m < length l2.limbo = subst (λ (i : ℕ). m < i) (sym size_is) room in
+          subst (Called a l m (Update m key bytes flags Done)) (sym retired) (record {
+            seen = saw_as a l (counted_lock l1) (Update m key bytes flags Done) l2.seen (ap (λ (q : Known). q.cpu) filled_is) (ap (λ (q : Known). q.seen) filled_is) p.seen;
+            rests = record {
+              fresh = ap (λ (q : Known). q.fresh) p.after;
+              locks = ap (λ (q : Known). q.locks) p.after;
+              used = ap (λ (z : Limbo). z.used) (at_set l2 m x room2) ∙ ap behind over_used;
+            };
+            cpu = ap (λ (q : Known). q.cpu) p.after ∙ ap (λ (q : Known). q.cpu) filled_is;
+            readings = ap (λ (q : Known). q.readings) p.after ∙ ap (λ (q : Known). q.readings) filled_is;
+            size = length-set l2.limbo m x ∙ size_is;
+            others = λ n ne. get_or-set_other l2.limbo m n x no_limbo ne
+                ∙ (ap (λ (ls : List Limbo). limbo_at ls n) over_limbo ∙ get_or-set_other l.limbo m n (record (limbo_at l.limbo m) { used = old ∷ (limbo_at l.limbo m).used }) no_limbo ne);
+          })

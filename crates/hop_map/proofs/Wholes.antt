@@ -1,0 +1,176 @@
+-- A whole call, from its steps.
+use Rattle.std.proofs.Common.{◌≡◌, ◌≢◌, ℕ, zero, suc, ◌+◌, ◌-◌, ◌%◌, ◌^◌, ◌<◌, ◌≤◌, ◌⊎◌, inl, inr, ⊎_elim, true, List, [], ◌∷◌, ◌++◌, Option, Some, None, MatchOption, length, length-set, slice_index, append_assoc, refl, ap, sym, subst, ◌∙◌, arith}
+use Rattle.std.proofs.lemmas.List.{get_or_append_left}
+use Rattle.bpf_shared.specs.Shape.{IsPairOf, IsKeyOf, elements}
+use Rattle.bpf_shared.specs.declared.shapes.MapShape.{MapShape}
+use Rattle.bpf_shared.specs.History.{events_of, entry}
+use Rattle.bpf_shared.specs.declared.events.Entry.{Entry}
+use Rattle.bpf_shared.specs.declared.events.Event.{Event}
+use Rattle.bpf_shared.specs.declared.events.Event.TheVariants.{Update}
+use Rattle.bpf_shared.specs.declared.events.MapAnswer.{MapAnswer}
+use Rattle.bpf_shared.specs.declared.events.MapAnswer.TheVariants.{Done, Invalid, Busy, Exists, Absent, Full, NoMemory}
+use Rattle.hop_words.specs.declared.known.About.{About}
+use Rattle.hop_words.specs.declared.known.Known.{Known}
+use Rattle.hop_words.specs.declared.known.Fresh.{Fresh}
+use Rattle.hop_words.specs.declared.known.Limbo.{Limbo}
+use Rattle.hop_words.specs.declared.known.Sight.{Sight}
+use Rattle.hop_words.specs.declared.known.Sight.TheVariants.{Runs}
+use Rattle.hop_words.specs.Ghost.{shape_at, limbo_at, IsElement, Each}
+use Rattle.hop_words.specs.Rule.{done_in}
+use Rattle.hop_words.specs.Kinds.{Saw, Told, in_run, holding, limbo_set, retiring, with_gone}
+use Rattle.hop_words.specs.Owning.{behind, IsInHand}
+use Rattle.hop_words.proofs.Small.{map_of}
+use Rattle.hop_arena.specs.Claiming.{Sees, Misses, Claims, IsSeenTaken}
+use Rattle.hop_arena.specs.declared.element.Element.{Element}
+use Rattle.hop_epoch.specs.Batch.{front, Notes, Tracks, Keeps, SeesRunning}
+use Rattle.hop_epoch.proofs.Batching.{at_set, keeps_then, keeps_set}
+use Rattle.hop_map.specs.Calls.{Took}
+use Rattle.hop_map.specs.Overs.{Over}
+use Rattle.hop_map.specs.Locks.{counted_lock}
+use Rattle.hop_map.specs.Updates.{Refusal}
+use Rattle.hop_map.specs.Whole.{Rests, Called, IsShort, Lacks}
+
+-- ---- the event, seen from before
+pub saw_as : (a : About) (l l1 : Known) (ev : Event) (s : List Entry) → l1.cpu ≡ l.cpu → l1.seen ≡ l.seen → Saw a l1 ev s → Saw a l ev s
+saw_as a l l1 ev s c e w = record {
+  others = w.others;
+  foreign = subst (λ (n : ℕ). events_of n w.others ≡ []) c w.foreign;
+  after = w.after ∙ (λ j. e j ++ (w.others ++ entry (c j) ev ∷ []));
+  legal = w.legal;
+}
+
+pub pair_at : (a : About) (m : ℕ) (key bytes : List ℕ) → IsPairOf a.shape.maps m key bytes → (m < length a.shape.maps) × (length key ≡ (shape_at a m).key) × (length bytes ≡ (shape_at a m).value)
+pair_at a m key bytes p =
+    let t = map_of a.shape m p.0 p.1 in
+    (t.0, p.2 ∙ ap (λ (g : MapShape). g.key) (sym t.1), p.3 ∙ ap (λ (g : MapShape). g.value) (sym t.1))
+
+-- ---- batches
+pub tracks_as : (a : About) (l l1 : Known) (m : ℕ) (y o : Option ℕ) (n : List ℕ) → l1.limbo ≡ l.limbo → Tracks a l m y o n → Tracks a l1 m y o n
+tracks_as a l l1 m y o n e t = record {
+  room = subst (λ (ls : List Limbo). m < length ls) (sym e) t.room;
+  young_is = t.young_is ∙ ap (λ (ls : List Limbo). front (limbo_at ls m).young) (sym e);
+  old_is = t.old_is ∙ ap (λ (ls : List Limbo). front (limbo_at ls m).old) (sym e);
+  young_inside = subst (λ (ls : List Limbo). Each (IsElement a m) (limbo_at ls m).young) (sym e) t.young_inside;
+  old_inside = subst (λ (ls : List Limbo). Each (IsElement a m) (limbo_at ls m).old) (sym e) t.old_inside;
+  counters = subst (λ (ls : List Limbo). ((limbo_at ls m).old ≡ []) ⊎ Notes a (limbo_at ls m).noted n) (sym e) t.counters;
+}
+
+-- a used element in hand is in no batch
+pub tracks_gone : (a : About) (l l1 : Known) (m e : ℕ) (y o : Option ℕ) (n : List ℕ) → l1.limbo ≡ with_gone l m e → Tracks a l m y o n → Tracks a l1 m y o n
+tracks_gone a l l1 m e y o n is t =
+    let x : Limbo = record (limbo_at l.limbo m) { used = e ∷ (limbo_at l.limbo m).used } in
+    let now : limbo_at l1.limbo m ≡ x = ap (λ (ls : List Limbo). limbo_at ls m) is ∙ at_set l m x t.room in
+    record {
+      room = subst (λ (i : ℕ). m < i) (sym (ap (λ (ls : List Limbo). length ls) is ∙ length-set l.limbo m x)) t.room;
+      young_is = t.young_is ∙ ap (λ (z : Limbo). front z.young) (sym now);
+      old_is = t.old_is ∙ ap (λ (z : Limbo). front z.old) (sym now);
+      young_inside = subst (λ (z : Limbo). Each (IsElement a m) z.young) (sym now) t.young_inside;
+      old_inside = subst (λ (z : Limbo). Each (IsElement a m) z.old) (sym now) t.old_inside;
+      counters = subst (λ (z : Limbo). (z.old ≡ []) ⊎ Notes a z.noted n) (sym now) t.counters;
+    }
+
+-- ---- looking for a free element
+pub keeps_sees : (m : ℕ) (l l1 : Known) (more : List Sight) → Sees l more l1 → Keeps m l l1
+keeps_sees m l l1 more s = subst (Keeps m l) (sym s) (record { cpu = refl; seen = refl; fresh = refl; locks = refl; readings = refl; size = refl; others = λ n ne. refl; used = refl; sights = (more, refl) })
+
+pub keeps_holding : (m e : ℕ) (l l1 : Known) → Keeps m l l1 → Keeps m (holding l m e) (holding l1 m e)
+keeps_holding m e l l1 p = record { cpu = p.cpu; seen = p.seen; fresh = ap (λ (fs : List Fresh). record { map = m; element = e; key = []; value = [] } ∷ fs) p.fresh; locks = p.locks; readings = p.readings; size = p.size; others = p.others; used = p.used; sights = p.sights }
+
+-- the three steps that find none
+pub short : (a : About) (m : ℕ) (l l1 l2 l3 : Known) → Misses a l m l1 → Keeps m l1 l2 → ((limbo_at l2.limbo m).old ≡ [] → (limbo_at l2.limbo m).young ≡ [])
+    → ((limbo_at l2.limbo m).old ≡ []) ⊎ SeesRunning m l1 l2 → Misses a l2 m l3 → IsShort a l m l3
+short a m l l1 l2 l3 first kept empty blocked last = subst (IsShort a l m) (sym last.1) (⊎_elim
+    (λ (none : (limbo_at l2.limbo m).old ≡ []). record {
+      sooner = kept.sights.0 ++ first.0;
+      later = last.0;
+      sights = ap (λ (z : List Sight). last.0 ++ z) (kept.sights.1 ∙ (ap (λ (z : List Sight). kept.sights.0 ++ z) one ∙ sym (append_assoc kept.sights.0 first.0 l.tally.sights)));
+      kept = inl (none, empty none);
+      taken = last.2;
+    })
+    (λ (r : SeesRunning m l1 l2). record {
+      sooner = Runs r.0 (slice_index (limbo_at l2.limbo m).noted r.0) ∷ (r.1 ++ first.0);
+      later = last.0;
+      sights = ap (λ (z : List Sight). last.0 ++ z) (r.2 ∙ ap (λ (z : List Sight). Runs r.0 (slice_index (limbo_at l2.limbo m).noted r.0) ∷ z) (ap (λ (z : List Sight). r.1 ++ z) one ∙ sym (append_assoc r.1 first.0 l.tally.sights)));
+      kept = inr (r.0, r.1 ++ first.0, refl, r.3);
+      taken = last.2;
+    })
+    blocked)
+  where
+    one : l1.tally.sights ≡ first.0 ++ l.tally.sights
+    one = ap (λ (q : Known). q.tally.sights) first.1
+
+pub found_after : (a : About) (m : ℕ) (l l1 l2 l3 : Known) → Misses a l m l1 → Keeps m l1 l2 → ((limbo_at l2.limbo m).old ≡ [] → (limbo_at l2.limbo m).young ≡ [])
+    → ((limbo_at l2.limbo m).old ≡ []) ⊎ SeesRunning m l1 l2 → (o : Option Element) → MatchOption o (Misses a l2 m l3) (λ (x : Element). Claims a l2 m x l3)
+    → MatchOption o (Keeps m l l3 × IsShort a l m l3) (λ (x : Element). Keeps m (holding l m x.number) l3 × (x.map ≡ m) × (x.number < elements (shape_at a m)))
+found_after a m l l1 l2 l3 first kept empty blocked None p = (
+  keeps_then m l l2 l3 (keeps_then m l l1 l2 (keeps_sees m l l1 first.0 first.1) kept) (keeps_sees m l2 l3 p.0 p.1),
+  short a m l l1 l2 l3 first kept empty blocked p,
+)
+found_after a m l l1 l2 l3 first kept empty blocked (Some x) p = (
+  keeps_then m (holding l m x.number) (holding l2 m x.number) l3 (keeps_holding m x.number l l2 (keeps_then m l l1 l2 (keeps_sees m l l1 first.0 first.1) kept)) (keeps_sees m (holding l2 m x.number) l3 p.0 p.1),
+  p.2,
+  p.3,
+)
+
+pub kept_runs : (m : ℕ) (l l1 : Known) → Keeps m l l1 → in_run (events_of l.cpu l.seen) ≡ true → in_run (events_of l1.cpu l1.seen) ≡ true
+kept_runs m l l1 k runs = (λ j. in_run (events_of (k.cpu j) (k.seen j))) ∙ runs
+
+pub short_as : (a : About) (m : ℕ) (l l1 l2 : Known) → l2.tally.sights ≡ l1.tally.sights → l2.limbo ≡ l1.limbo → IsShort a l m l1 → IsShort a l m l2
+short_as a m l l1 l2 s e p = record {
+  sooner = p.sooner;
+  later = p.later;
+  sights = s ∙ p.sights;
+  kept = subst (λ (ls : List Limbo). (((limbo_at ls m).old ≡ []) × ((limbo_at ls m).young ≡ []))
+      ⊎ ((d : ℕ) × (more : List Sight) × (p.sooner ≡ Runs d (slice_index (limbo_at ls m).noted d) ∷ more) × (slice_index (limbo_at ls m).noted d % 2 ≡ 1))) (sym e) p.kept;
+  taken = p.taken;
+}
+
+-- ---- the answer
+pub lacks_of : (a : About) (l : Known) (m : ℕ) (r : MapAnswer) (l2 : Known) → (r ≡ Busy → 2 ^ 56 - 1 ≤ a.version + done_in m l2.seen) → (r ≡ NoMemory → IsShort a l m l2) → Lacks a l m r l2
+lacks_of a l m Done l2 worn none = tt
+lacks_of a l m Invalid l2 worn none = tt
+lacks_of a l m Busy l2 worn none = worn refl
+lacks_of a l m Exists l2 worn none = tt
+lacks_of a l m Absent l2 worn none = tt
+lacks_of a l m Full l2 worn none = tt
+lacks_of a l m NoMemory l2 worn none = none refl
+
+pub refusal_called : (a : About) (l l1 : Known) (m : ℕ) (key bytes : List ℕ) (flags : ℕ) (r : MapAnswer) (l2 : Known) → Keeps m l l1 → Rests l m → Refusal a (counted_lock l1) m key bytes flags r l2
+    → Called a l m (Update m key bytes flags r) l2
+refusal_called a l l1 m key bytes flags r l2 k rests p = record {
+  seen = saw_as a l (counted_lock l1) (Update m key bytes flags r) l2.seen k.cpu k.seen p.seen;
+  rests = record {
+    fresh = ap (λ (q : Known). q.fresh) p.after ∙ (k.fresh ∙ rests.fresh);
+    locks = ap (λ (q : Known). q.locks) p.after;
+    used = ap (λ (q : Known). (limbo_at q.limbo m).used) p.after ∙ (k.used ∙ rests.used);
+  };
+  cpu = ap (λ (q : Known). q.cpu) p.after ∙ k.cpu;
+  readings = ap (λ (q : Known). q.readings) p.after ∙ k.readings;
+  size = ap (λ (q : Known). length q.limbo) p.after ∙ k.size;
+  others = λ n ne. ap (λ (q : Known). limbo_at q.limbo n) p.after ∙ k.others n ne;
+}
+
+pub told_called : (a : About) (l : Known) (m : ℕ) (ev : Event) (l2 : Known) → Rests l m → Told a l ev l2 → Called a l m ev l2
+told_called a l m ev l2 rests p = record {
+  seen = p.seen;
+  rests = record {
+    fresh = ap (λ (q : Known). q.fresh) p.after ∙ rests.fresh;
+    locks = ap (λ (q : Known). q.locks) p.after ∙ rests.locks;
+    used = ap (λ (q : Known). (limbo_at q.limbo m).used) p.after ∙ rests.used;
+  };
+  cpu = ap (λ (q : Known). q.cpu) p.after;
+  readings = ap (λ (q : Known). q.readings) p.after;
+  size = ap (λ (q : Known). length q.limbo) p.after;
+  others = λ n ne. ap (λ (q : Known). limbo_at q.limbo n) p.after;
+}
+
+-- the call, seen from before an element was claimed
+pub called_before : (a : About) (l l1 : Known) (m e : ℕ) (ev : Event) (l2 : Known) → Keeps m (holding l m e) l1 → Called a l1 m ev l2 → Called a l m ev l2
+called_before a l l1 m e ev l2 k p = record {
+  seen = saw_as a l l1 ev l2.seen k.cpu k.seen p.seen;
+  rests = p.rests;
+  cpu = p.cpu ∙ k.cpu;
+  readings = p.readings ∙ k.readings;
+  size = p.size ∙ k.size;
+  others = λ n ne. p.others n ne ∙ k.others n ne;
+}

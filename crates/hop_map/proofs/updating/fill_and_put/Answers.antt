@@ -1,0 +1,150 @@
+use Rattle.std.proofs.Common.{◌≡◌, ◌≢◌, ℕ, ◌+◌, ◌-◌, ◌^◌, ◌<◌, ◌≤◌, List, [], ◌∷◌, length, refl, ap, sym, subst, ◌∙◌, arith}
+use Rattle.bpf_shared.specs.Shape.{IsMapShape}
+use Rattle.bpf_shared.specs.declared.events.Entry.{Entry}
+use Rattle.bpf_shared.specs.declared.events.MapAnswer.TheVariants.{NoMemory}
+use Rattle.hop_words.specs.declared.known.Known.{Known}
+use Rattle.hop_words.specs.declared.known.Fresh.{Fresh}
+use Rattle.hop_words.specs.Homes.{segment_of}
+use Rattle.hop_words.specs.Ghost.{shape_at, limbo_at}
+use Rattle.hop_words.specs.Rule.{done_in}
+use Rattle.hop_words.specs.Kinds.{retiring}
+use Rattle.hop_words.specs.Owning.{behind, IsInHand}
+use Rattle.hop_map.specs.declared.ending.Ending.{Ending}
+use Rattle.hop_map.specs.Overs.{Over}
+use Rattle.hop_map.specs.Locks.{Readies, counted_lock}
+use Rattle.hop_map.specs.Updates.{Refusal, UpdateEnds}
+use Rattle.hop_map.proofs.Keys.{are_bytes}
+use Rattle.hop_map.proofs.Wholes.{pair_at}
+use Rattle.hop_map.proofs.Settling.{filled_readies, refused_hand, refused_called, over_called}
+use Rattle.hop_map.proofs.updating.fill_and_put.Goals as goal
+
+pub fill-requires-clause-hand : goal.fill-requires-clause-hand
+fill-requires-clause-hand g c =
+    let new = c.requires.new in
+    let f : Fresh = record { map = c.args.map; element = c.args.element.number; key = []; value = [] } in
+    (f, new ∙ ap (λ (fs : List Fresh). f ∷ fs) (sym (ap behind new)), sym c.requires.map, refl)
+
+pub fill-requires-clause-key : goal.fill-requires-clause-key
+fill-requires-clause-key g c =
+    let a = c.args.table.now.about in
+    let l = c.args.lane.known in
+    let m = c.args.map in
+    let e = c.args.element.number in
+    let key = c.args.key.now in
+    let bytes = c.args.value.now in
+    let pair = pair_at a m key bytes c.requires.pair in
+    pair.1 ∙ ap (λ (i : ℕ). (shape_at a i).key) (sym c.requires.map)
+
+pub fill-requires-clause-value : goal.fill-requires-clause-value
+fill-requires-clause-value g c =
+    let a = c.args.table.now.about in
+    let l = c.args.lane.known in
+    let m = c.args.map in
+    let e = c.args.element.number in
+    let key = c.args.key.now in
+    let bytes = c.args.value.now in
+    let pair = pair_at a m key bytes c.requires.pair in
+    pair.2 ∙ ap (λ (i : ℕ). (shape_at a i).value) (sym c.requires.map)
+
+pub fill-requires-clause-sizes : goal.fill-requires-clause-sizes
+fill-requires-clause-sizes g c =
+    let a = c.args.table.now.about in
+    let l = c.args.lane.known in
+    let m = c.args.map in
+    let e = c.args.element.number in
+    let key = c.args.key.now in
+    let bytes = c.args.value.now in
+    let pair = pair_at a m key bytes c.requires.pair in
+    let s = subst IsMapShape c.shape_of-sizes.ensures.shape c.shape_of-sizes.ensures.sizes in
+    let k = pair.1 in
+    let v = pair.2 in
+    let most_key = s.key.1 in
+    let most_value = s.value.1 in
+    (omega arith, omega arith)
+
+pub lock_and_put-lane-requires-clause-readies : goal.lock_and_put-lane-requires-clause-readies
+lock_and_put-lane-requires-clause-readies g c =
+    let a = c.args.table.now.about in
+    let l = c.args.lane.known in
+    let m = c.args.map in
+    let e = c.args.element.number in
+    let key = c.args.key.now in
+    let bytes = c.args.value.now in
+    let pair = pair_at a m key bytes c.requires.pair in
+    let room : m < length l.limbo = subst (λ (i : ℕ). i < length l.limbo) c.requires.batches.0 c.requires.batches.1.room in
+    subst (λ (n : ℕ). Readies a c.fill.new.lane.known m (segment_of a.seed (shape_at a m) key) key bytes c.args.flags n) (sym c.number-number.ensures)
+    (filled_readies a l m e c.requires.new key bytes c.fill.new.lane.known c.fill.ensures.filled c.args.flags c.requires.inside pair.1 pair.2
+    (are_bytes key (λ i. let f = c.type_inv.key i in omega arith)) (are_bytes bytes (λ i. let f = c.type_inv.value i in omega arith))
+    c.requires.flags room c.requires.runs c.requires.idle)
+
+pub give_back-requires-clause-hand : goal.give_back-requires-clause-hand
+give_back-requires-clause-hand g c =
+    let a = c.args.table.now.about in
+    let l = c.args.lane.known in
+    let m = c.args.map in
+    let e = c.args.element.number in
+    let key = c.args.key.now in
+    let bytes = c.args.value.now in
+    let room : m < length l.limbo = subst (λ (i : ℕ). i < length l.limbo) c.requires.batches.0 c.requires.batches.1.room in
+    let p : Refusal a (counted_lock c.fill.new.lane.known) m key bytes c.args.flags c.in-Refused.answer c.lock_and_put-lane.result.0.known × (c.in-Refused.answer ≢ NoMemory) = subst (λ (q : Ending). UpdateEnds a (counted_lock c.fill.new.lane.known) m key bytes c.args.flags q c.lock_and_put-lane.result.0.known) c.in-Refused.is c.lock_and_put-lane.ensures.ends in
+    subst (λ (i : ℕ). IsInHand c.lock_and_put-lane.result.0.known i e) (sym c.requires.map) (refused_hand a l m e c.requires.new key bytes c.fill.new.lane.known c.fill.ensures.filled c.requires.used room c.args.flags c.lock_and_put-lane.result.0.known c.in-Refused.answer p.0)
+
+pub returns-in-Replaced-clause-called : goal.returns-in-Replaced-clause-called
+returns-in-Replaced-clause-called g c =
+    let a = c.args.table.now.about in
+    let l = c.args.lane.known in
+    let m = c.args.map in
+    let e = c.args.element.number in
+    let key = c.args.key.now in
+    let bytes = c.args.value.now in
+    let room : m < length l.limbo = subst (λ (i : ℕ). i < length l.limbo) c.requires.batches.0 c.requires.batches.1.room in
+    let p : Over a (counted_lock c.fill.new.lane.known) m key bytes c.args.flags c.in-Replaced.old c.lock_and_put-lane.result.0.known = subst (λ (q : Ending). UpdateEnds a (counted_lock c.fill.new.lane.known) m key bytes c.args.flags q c.lock_and_put-lane.result.0.known) c.in-Replaced.is c.lock_and_put-lane.ensures.ends in
+    let l2 = c.lock_and_put-lane.result.0.known in
+    over_called a l m e c.requires.new key bytes c.fill.new.lane.known c.fill.ensures.filled c.requires.used room c.args.flags c.lock_and_put-lane.result.0.known c.in-Replaced.old p c.retire.new.lane.known
+    (c.retire.ensures.retired ∙ (λ j. retiring l2 (c.new-used.ensures.map j) (c.new-used.ensures.number j) (behind (limbo_at l2.limbo (c.new-used.ensures.map j)).used)))
+
+pub returns-in-Refused-clause-called : goal.returns-in-Refused-clause-called
+returns-in-Refused-clause-called g c =
+    let a = c.args.table.now.about in
+    let l = c.args.lane.known in
+    let m = c.args.map in
+    let e = c.args.element.number in
+    let key = c.args.key.now in
+    let bytes = c.args.value.now in
+    let room : m < length l.limbo = subst (λ (i : ℕ). i < length l.limbo) c.requires.batches.0 c.requires.batches.1.room in
+    let p : Refusal a (counted_lock c.fill.new.lane.known) m key bytes c.args.flags c.in-Refused.answer c.lock_and_put-lane.result.0.known × (c.in-Refused.answer ≢ NoMemory) = subst (λ (q : Ending). UpdateEnds a (counted_lock c.fill.new.lane.known) m key bytes c.args.flags q c.lock_and_put-lane.result.0.known) c.in-Refused.is c.lock_and_put-lane.ensures.ends in
+    refused_called a l m e c.requires.new key bytes c.fill.new.lane.known c.fill.ensures.filled c.requires.used room c.args.flags c.lock_and_put-lane.result.0.known c.in-Refused.answer p.0 c.give_back.new.lane.known c.give_back.ensures.given
+
+pub returns-in-Refused-clause-worn : goal.returns-in-Refused-clause-worn
+returns-in-Refused-clause-worn g c =
+    let a = c.args.table.now.about in
+    let l = c.args.lane.known in
+    let m = c.args.map in
+    let e = c.args.element.number in
+    let key = c.args.key.now in
+    let bytes = c.args.value.now in
+    let p : Refusal a (counted_lock c.fill.new.lane.known) m key bytes c.args.flags c.in-Refused.answer c.lock_and_put-lane.result.0.known × (c.in-Refused.answer ≢ NoMemory) = subst (λ (q : Ending). UpdateEnds a (counted_lock c.fill.new.lane.known) m key bytes c.args.flags q c.lock_and_put-lane.result.0.known) c.in-Refused.is c.lock_and_put-lane.ensures.ends in
+    λ is. subst (λ (es : List Entry). 2 ^ 56 - 1 ≤ a.version + done_in m es) (sym (ap (λ (q : Known). q.seen) c.give_back.ensures.given)) (p.0.worn is)
+
+pub returns-in-Refused-clause-served : goal.returns-in-Refused-clause-served
+returns-in-Refused-clause-served g c =
+    let a = c.args.table.now.about in
+    let l = c.args.lane.known in
+    let m = c.args.map in
+    let e = c.args.element.number in
+    let key = c.args.key.now in
+    let bytes = c.args.value.now in
+    let p : Refusal a (counted_lock c.fill.new.lane.known) m key bytes c.args.flags c.in-Refused.answer c.lock_and_put-lane.result.0.known × (c.in-Refused.answer ≢ NoMemory) = subst (λ (q : Ending). UpdateEnds a (counted_lock c.fill.new.lane.known) m key bytes c.args.flags q c.lock_and_put-lane.result.0.known) c.in-Refused.is c.lock_and_put-lane.ensures.ends in
+    p.1
+
+pub returns-in-Added-clause-worn : goal.returns-in-Added-clause-worn
+returns-in-Added-clause-worn g c = λ z. cc
+
+pub returns-in-Added-clause-served : goal.returns-in-Added-clause-served
+returns-in-Added-clause-served g c = λ z. cc
+
+pub returns-in-Replaced-clause-worn : goal.returns-in-Replaced-clause-worn
+returns-in-Replaced-clause-worn g c = λ z. cc
+
+pub returns-in-Replaced-clause-served : goal.returns-in-Replaced-clause-served
+returns-in-Replaced-clause-served g c = λ z. cc

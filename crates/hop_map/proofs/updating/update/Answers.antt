@@ -1,0 +1,25 @@
+use Rattle.std.proofs.Common.{◌≡◌, ℕ, ◌<◌, length, refl, sym, subst, ◌∙◌, arith}
+use Rattle.hop_map.proofs.Keys.{are_bytes}
+use Rattle.hop_map.proofs.Wholes.{pair_at, kept_runs, lacks_of}
+use Rattle.hop_map.proofs.updating.update.Goals as goal
+
+pub lock_and_refuse-requires-clause-wants : goal.lock_and_refuse-requires-clause-wants
+lock_and_refuse-requires-clause-wants g c =
+    let a = c.args.table.now.about in
+    let l1 = c.claim_free.new.lane.known in
+    let pair = pair_at a c.args.map c.args.key.now c.args.value.now c.requires.pair in
+    let batches = c.claim_free.ensures.batches in
+    record {
+      home = refl;
+      key_size = pair.1;
+      size = pair.2;
+      are_bytes = are_bytes c.args.value.now (λ i. let f = c.type_inv.value i in omega arith);
+      flags_known = c.if-flags-gt2.false;
+      limbo = subst (λ (i : ℕ). i < length l1.limbo) (batches.0 ∙ c.requires.arena.0) batches.1.room;
+      runs = kept_runs c.args.arena.now.map c.args.lane.known l1 c.in-None.ensures.claimed.0 c.requires.runs;
+    }
+
+pub returns-in-Some-clause-lacks : goal.returns-in-Some-clause-lacks
+returns-in-Some-clause-lacks g c =
+    lacks_of c.args.table.now.about c.args.lane.known c.args.map c.fill_and_put.result.1 c.fill_and_put.result.0.known c.fill_and_put.ensures.worn
+    (λ is. absurd (c.fill_and_put.ensures.served is))

@@ -1,0 +1,213 @@
+//! A whole update by one CPU.
+ghost use Rattle.std.specs.Prelude.{◌≡◌, ◌≢◌, ◌+◌, ◌-◌, ◌%◌, ◌^◌, ◌<◌, ◌≤◌, true, [], length, MatchOption};
+ghost use Rattle.bpf_shared.specs.Shape.{IsPairOf, elements as elements_of};
+ghost use Rattle.bpf_shared.specs.History.{events_of};
+ghost use Rattle.bpf_shared.specs.declared.events.Event.TheVariants.{Update};
+ghost use Rattle.bpf_shared.specs.declared.events.MapAnswer.TheVariants.{Busy, NoMemory};
+ghost use Rattle.hop_words.specs.Rule.{done_in};
+ghost use Rattle.hop_words.specs.Homes.{segment_of};
+ghost use Rattle.hop_words.specs.Ghost.{shape_at, limbo_at};
+ghost use Rattle.hop_words.specs.Kinds.{in_run, holding};
+ghost use Rattle.hop_epoch.specs.Batch.{Keeps};
+ghost use Rattle.hop_map.specs.Locks.{Readies, counted_lock};
+ghost use Rattle.hop_map.specs.Updates.{Wants, Refusal, UpdateEnds};
+ghost use Rattle.hop_map.specs.Whole.{Rests, Called, Lacks, IsShort, Searches, Follows, HoldsNew};
+
+use crate::ending::Ending;
+use crate::homing::{homing, shape_of};
+use crate::locked::LockedWords;
+use crate::putting::{put, refuse};
+use crate::waiting::lock_when_free;
+use bpf_shared::MapAnswer;
+use hop_arena::{Arena, Element};
+use hop_epoch::{Batches, Used};
+use hop_words::{HopTable, Lane};
+use std::sync::Wait;
+
+// Locks the key's segment, and puts the element in hand, as the flags say.
+fn lock_and_put<R: Wait>(
+    rt: &R,
+    table: &HopTable,
+    lane: Lane,
+    map: u8,
+    element: u32,
+    key: &[u8],
+    value: &[u8],
+    flags: u64,
+) -> (Lane, Ending)
+    requires table { lane.table ≡ table.now.id }
+    requires map { map < length table.now.about.shape.maps }
+    requires readies { Readies table.now.about lane.known map
+        (segment_of table.now.about.seed (shape_at table.now.about map) key.now)
+        key.now value.now flags element }
+    ensures table { result.0.table ≡ table.now.id }
+    ensures ends { UpdateEnds table.now.about (counted_lock lane.known) map
+        key.now value.now flags result.1 result.0.known }
+{
+    let mut lane = lane;
+    let at = homing(table, map, key);
+    let stamp = lock_when_free(rt, table, &mut lane, map, at.segment);
+    let words = LockedWords::new(table, lane, map, at.segment, at.key_size, at.elements);
+    put(rt, words, stamp, element, at.home, key, value, flags)
+}
+
+// Locks the key's segment, and refuses an update for which no element is to be had.
+fn lock_and_refuse<R: Wait>(
+    rt: &R,
+    table: &HopTable,
+    lane: Lane,
+    map: u8,
+    key: &[u8],
+    value: &[u8],
+    flags: u64,
+) -> (Lane, MapAnswer)
+    requires table { lane.table ≡ table.now.id }
+    requires map { map < length table.now.about.shape.maps }
+    requires wants { Wants table.now.about lane.known map
+        (segment_of table.now.about.seed (shape_at table.now.about map) key.now)
+        key.now value.now flags }
+    requires empty { lane.known.fresh ≡ [] }
+    requires idle { lane.known.locks ≡ [] }
+    ensures table { result.0.table ≡ table.now.id }
+    ensures refused { Refusal table.now.about (counted_lock lane.known) map
+        key.now value.now flags result.1 result.0.known }
+{
+    let mut lane = lane;
+    let at = homing(table, map, key);
+    let stamp = lock_when_free(rt, table, &mut lane, map, at.segment);
+    let words = LockedWords::new(table, lane, map, at.segment, at.key_size, at.elements);
+    refuse(words, stamp, at.home, key, value, flags)
+}
+
+// A free element of the map: where none is found, the CPU's own batches are looked at, and then there
+// is a second pass.
+fn claim_free(
+    table: &HopTable,
+    lane: &mut Lane,
+    arena: &mut Arena,
+    batches: &mut Batches,
+) -> Option<Element>
+    requires table { lane.old.table ≡ table.now.id }
+    requires even { table.now.about.count % 2 ≡ 0 }
+    requires map { arena.old.map < length table.now.about.shape.maps }
+    requires arena { Searches table.now.about arena.old.map arena.old }
+    requires batches { Follows table.now.about lane.old.known arena.old.map batches.old }
+    requires unlocked { lane.old.known.locks ≡ [] }
+    ensures table { lane.new.table ≡ lane.old.table }
+    ensures claimed { let l = lane.old.known in
+        MatchOption result
+        (Keeps arena.old.map l lane.new.known
+        × IsShort table.now.about l arena.old.map lane.new.known)
+        (λ e. Keeps arena.old.map (holding l arena.old.map e.number) lane.new.known
+        × (e.map ≡ arena.old.map)
+        × (e.number < elements_of (shape_at table.now.about arena.old.map))) }
+    ensures arena { Searches table.now.about arena.old.map arena.new }
+    ensures batches { Follows table.now.about lane.new.known arena.old.map batches.new }
+{
+    match arena.claim(lane, table) {
+        Some(element) => Some(element),
+        None => {
+            batches.reclaim(lane, table);
+            arena.claim(lane, table)
+        }
+    }
+}
+
+// Fills a new element, and puts it, as the flags say. Where the update is refused the element is
+// given back, and where it took the place of another, that one is retired.
+fn fill_and_put<R: Wait>(
+    rt: &R,
+    table: &HopTable,
+    lane: Lane,
+    arena: &mut Arena,
+    batches: &mut Batches,
+    element: Element,
+    map: u8,
+    key: &[u8],
+    value: &[u8],
+    flags: u64,
+) -> (Lane, MapAnswer)
+    requires table { lane.table ≡ table.now.id }
+    requires arena { Searches table.now.about map arena.old }
+    requires batches { Follows table.now.about lane.known map batches.old }
+    requires map { element.map ≡ map }
+    requires inside { element.number < elements_of (shape_at table.now.about map) }
+    requires new { HoldsNew lane.known map element.number }
+    requires idle { lane.known.locks ≡ [] }
+    requires used { (limbo_at lane.known.limbo map).used ≡ [] }
+    requires runs { in_run (events_of lane.known.cpu lane.known.seen) ≡ true }
+    requires pair { IsPairOf table.now.about.shape.maps map key.now value.now }
+    requires flags { flags ≤ 2 }
+    ensures table { result.0.table ≡ table.now.id }
+    ensures called { Called table.now.about lane.known map
+        (Update map key.now value.now flags result.1) result.0.known }
+    ensures worn { result.1 ≡ Busy →
+        2 ^ 56 - 1 ≤ table.now.about.version + done_in map result.0.known.seen }
+    ensures served { result.1 ≢ NoMemory }
+    ensures arena { Searches table.now.about map arena.new }
+    ensures batches { Follows table.now.about result.0.known map batches.new }
+{
+    let mut lane = lane;
+    let _sizes = shape_of(table, map);
+    element.fill(&mut lane, table, key, value);
+    let number = element.number();
+    let (mut lane, ending) = lock_and_put(rt, table, lane, map, number, key, value, flags);
+    match ending {
+        Ending::Added => {
+            let _linked = element.into_number();
+            (lane, MapAnswer::Done)
+        }
+        Ending::Replaced(old) => {
+            let _linked = element.into_number();
+            let used = Used::new(&lane, map, old);
+            batches.retire(&mut lane, table, used);
+            (lane, MapAnswer::Done)
+        }
+        Ending::Refused(answer) => {
+            arena.give_back(&mut lane, table, element);
+            (lane, answer)
+        }
+    }
+}
+
+/// A value of these bytes is to stand under the key: always for the flags 0, where the key isn't
+/// there yet for 1, where it is there for 2 (bpf-helpers(7)). The value gets an element of its own,
+/// which is claimed and filled before the key's segment is locked, and given back where the update is
+/// refused.
+pub fn update<R: Wait>(
+    rt: &R,
+    table: &HopTable,
+    lane: Lane,
+    arena: &mut Arena,
+    batches: &mut Batches,
+    map: u8,
+    key: &[u8],
+    value: &[u8],
+    flags: u64,
+) -> (Lane, MapAnswer)
+    requires table { lane.table ≡ table.now.id }
+    requires even { table.now.about.count % 2 ≡ 0 }
+    requires arena { Searches table.now.about map arena.old }
+    requires batches { Follows table.now.about lane.known map batches.old }
+    requires rests { Rests lane.known map }
+    requires runs { in_run (events_of lane.known.cpu lane.known.seen) ≡ true }
+    requires pair { IsPairOf table.now.about.shape.maps map key.now value.now }
+    ensures table { result.0.table ≡ table.now.id }
+    ensures called { Called table.now.about lane.known map
+        (Update map key.now value.now flags result.1) result.0.known }
+    ensures lacks { Lacks table.now.about lane.known map result.1 result.0.known }
+    ensures arena { Searches table.now.about map arena.new }
+    ensures batches { Follows table.now.about result.0.known map batches.new }
+{
+    let mut lane = lane;
+    if flags > 2 {
+        lane.see_count_misflagged(table, map, key, value, flags);
+        return (lane, MapAnswer::Invalid);
+    }
+    match claim_free(table, &mut lane, arena, batches) {
+        None => lock_and_refuse(rt, table, lane, map, key, value, flags),
+        Some(element) => fill_and_put(
+            rt, table, lane, arena, batches, element, map, key, value, flags,
+        ),
+    }
+}
