@@ -15,16 +15,15 @@ use Rattle.hop_map.specs.Calls.{Contents}
 use Rattle.bpf_shared.specs.declared.events.Event.TheVariants.{Update, Delete}
 use Rattle.bpf_shared.specs.declared.events.Entry.{Entry}
 use Rattle.bpf_shared.specs.declared.events.MapAnswer.{MapAnswer}
-use Rattle.bpf_shared.specs.declared.events.MapAnswer.TheVariants.{Done, Absent}
+use Rattle.bpf_shared.specs.declared.events.MapAnswer.TheVariants.{Done, Absent, Busy}
 use Rattle.hop_map.specs.declared.ending.Ending.{Ending}
 use Rattle.hop_map.specs.declared.ending.Ending.TheVariants.{Added, Replaced, Refused}
 use Rattle.hop_map.specs.Updates.{Wants, Valued, Offers, UpdateEnds, Refusal}
 use Rattle.hop_map.specs.Locks.{Carries, Readies, counted_lock}
 use Rattle.hop_map.proofs.Keys.{spells}
 use Rattle.hop_map.specs.declared.dropping.Deletion.{Deletion}
-use Rattle.hop_map.specs.declared.dropping.Deletion.TheVariants.{Gone, Missing, Kept}
-use Rattle.hop_map.specs.Removals.{Names, DeleteEnds}
-use Rattle.hop_map.specs.Locks.{DeleteTells}
+use Rattle.hop_map.specs.declared.dropping.Deletion.TheVariants.{Gone, Missing, Worn}
+use Rattle.hop_map.specs.Removals.{Names, Kept, DeleteEnds}
 
 module _ (a : About) (l : Known) (m s n : ℕ) (at_s : IsSegment a m s) (l2 : Known) (t : Locked a l m s n l2) where
   abbrev x : Words
@@ -138,17 +137,17 @@ module _ (a : About) (l : Known) (m s n : ℕ) (key : List ℕ) (l2 : Known) (t 
   pub locked_names : Names a l m s key → Names a l2 m s key
   locked_names b = subst (λ (q : Known). Names a q m s key) (sym t.after) (record { home = b.home; size = b.size; limbo = b.limbo; runs = b.runs })
 
-  pub delete_ends : l.locks ≡ [] → (d : Deletion) (l3 : Known) → DeleteEnds a l2 m key d l3 → DeleteTells a l m key d l3
-  delete_ends idle (Gone e) l3 d =
-      let p = d.0 in (
-        record {
-          seen = (let w = subst (λ (q : Known). Saw a q (Delete m key Done) l3.seen) t.after p.seen in record { others = w.others; foreign = w.foreign; after = w.after; legal = w.legal });
-          after = p.after ∙ ap (λ (q : Known). record q { seen = l3.seen; limbo = with_gone q m e; locks = [] }) t.after;
-        },
-        d.1,
-      )
-  delete_ends idle Missing l3 p = record {
-    seen = (let w = subst (λ (q : Known). Saw a q (Delete m key Absent) l3.seen) t.after p.seen in record { others = w.others; foreign = w.foreign; after = w.after; legal = w.legal });
-    after = p.after ∙ ap (λ (q : Known). record q { seen = l3.seen; locks = [] }) t.after;
-  }
-  delete_ends idle Kept l3 p = absurd p
+  module _ (idle : l.locks ≡ []) where
+    saw_deleted : (r : MapAnswer) (seen : List Entry) → Saw a l2 (Delete m key r) seen → Saw a (counted_lock l) (Delete m key r) seen
+    saw_deleted r seen p = let w = subst (λ (q : Known). Saw a q (Delete m key r) seen) t.after p in record { others = w.others; foreign = w.foreign; after = w.after; legal = w.legal }
+
+    kept_before : (r : MapAnswer) (l3 : Known) → Kept a l2 m key r l3 → Kept a (counted_lock l) m key r l3
+    kept_before r l3 p = record { seen = saw_deleted r l3.seen p.seen; after = p.after ∙ ap (λ (q : Known). record q { seen = l3.seen; locks = [] }) t.after }
+
+    pub delete_before : (d : Deletion) (l3 : Known) → DeleteEnds a l2 m key d l3 → DeleteEnds a (counted_lock l) m key d l3
+    delete_before (Gone e) l3 p = (
+      record { seen = saw_deleted Done l3.seen p.0.seen; after = p.0.after ∙ ap (λ (q : Known). record q { seen = l3.seen; limbo = with_gone q m e; locks = [] }) t.after },
+      p.1,
+    )
+    delete_before Missing l3 p = kept_before Absent l3 p
+    delete_before Worn l3 p = (kept_before Busy l3 p.0, p.1)

@@ -2,7 +2,8 @@
 use Rattle.std.proofs.Common.{◌≡◌, ℕ, ◌+◌, ◌<◌, Bool, true, ◌||◌, List, [], ◌∷◌, Option, None, length, refl, ap, sym, subst, ◌∙◌}
 use Rattle.bpf_shared.specs.declared.events.Entry.{Entry}
 use Rattle.bpf_shared.specs.declared.events.Event.TheVariants.{Delete}
-use Rattle.bpf_shared.specs.declared.events.MapAnswer.TheVariants.{Done, Absent}
+use Rattle.bpf_shared.specs.declared.events.MapAnswer.{MapAnswer}
+use Rattle.bpf_shared.specs.declared.events.MapAnswer.TheVariants.{Done, Absent, Busy}
 use Rattle.hop_words.specs.declared.known.About.{About}
 use Rattle.hop_words.specs.declared.known.Known.{Known}
 use Rattle.hop_words.specs.declared.known.Lock.{Lock}
@@ -20,7 +21,7 @@ use Rattle.hop_seg.specs.Segment.{Sound as SegSound}
 use Rattle.hop_seg.specs.Content.{IsAbsent as SegAbsent, HasPair, Loses}
 use Rattle.hop_map.specs.Views.{Locked, Stays, Ready, in_hand, is_put, words}
 use Rattle.hop_map.specs.Calls.{Contents}
-use Rattle.hop_map.specs.Removals.{Names, Dropped, NotThere}
+use Rattle.hop_map.specs.Removals.{Names, Dropped, Kept}
 use Rattle.hop_map.proofs.Bridge.{removed}
 use Rattle.hop_map.proofs.Puts.{sound_with, absent_with, leads_with, known_by, here, was_inside}
 
@@ -74,6 +75,19 @@ module _ (x : Locked) (key : List ℕ) (c : Contents x.about x.known x.map x.seg
           ),
         );
       }
+
+  -- a deletion may always be refused with Busy
+  pub worn_answers : Ready x.about x.known x.map x.segment → Answers x.about x.known k (Delete x.map key Busy)
+  worn_answers r = record {
+    lock = r.held;
+    clean = c.clean;
+    quiet = refl;
+    runs = b.runs;
+    allowed = λ s before number shape running share maps. (
+      running,
+      ((shape_at x.about x.map, subst (λ (h : Shape). IsMap h.maps x.map (shape_at x.about x.map)) (sym shape) (map_is x.about.shape x.map r.inside.0), b.size), refl),
+    );
+  }
 
   abbrev lit : List ℕ → Bool → Known
   lit ws d = record x.known { locks = record k { copy = ws; dirty = d } ∷ [] }
@@ -132,5 +146,5 @@ module _ (x : Locked) (key : List ℕ) (c : Contents x.about x.known x.map x.seg
           after = p.after ∙ (λ j. record (st.known j) { seen = l3.seen; limbo = with_gone (st.known j) (m j) old; locks = [] });
         }
 
-pub missed_by : (a : About) (l : Known) (m : ℕ) (key : List ℕ) (l2 : Known) → Answered a l (lock_of l) (Delete m key Absent) l2 → NotThere a l m key l2
-missed_by a l m key l2 p = record { seen = p.seen; after = p.after }
+pub kept_by : (a : About) (l : Known) (m : ℕ) (key : List ℕ) (r : MapAnswer) (l2 : Known) → Answered a l (lock_of l) (Delete m key r) l2 → Kept a l m key r l2
+kept_by a l m key r l2 p = record { seen = p.seen; after = p.after }

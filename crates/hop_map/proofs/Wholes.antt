@@ -1,12 +1,12 @@
 -- A whole call, from its steps.
-use Rattle.std.proofs.Common.{◌≡◌, ◌≢◌, ℕ, zero, suc, ◌+◌, ◌-◌, ◌%◌, ◌^◌, ◌<◌, ◌≤◌, ◌⊎◌, inl, inr, ⊎_elim, true, List, [], ◌∷◌, ◌++◌, Option, Some, None, MatchOption, length, length-set, slice_index, append_assoc, refl, ap, sym, subst, ◌∙◌, arith}
+use Rattle.std.proofs.Common.{◌≡◌, ◌≢◌, ℕ, zero, suc, ◌+◌, ◌-◌, ◌%◌, ◌^◌, ◌<◌, ◌≤◌, ◌⊎◌, inl, inr, ⊎_elim, true, List, [], ◌∷◌, ◌++◌, Option, Some, None, MatchOption, length, length-set, get_or-set_other, slice_index, append_assoc, refl, ap, sym, subst, ◌∙◌, arith}
 use Rattle.std.proofs.lemmas.List.{get_or_append_left}
 use Rattle.bpf_shared.specs.Shape.{IsPairOf, IsKeyOf, elements}
 use Rattle.bpf_shared.specs.declared.shapes.MapShape.{MapShape}
 use Rattle.bpf_shared.specs.History.{events_of, entry}
 use Rattle.bpf_shared.specs.declared.events.Entry.{Entry}
 use Rattle.bpf_shared.specs.declared.events.Event.{Event}
-use Rattle.bpf_shared.specs.declared.events.Event.TheVariants.{Update}
+use Rattle.bpf_shared.specs.declared.events.Event.TheVariants.{Update, Delete}
 use Rattle.bpf_shared.specs.declared.events.MapAnswer.{MapAnswer}
 use Rattle.bpf_shared.specs.declared.events.MapAnswer.TheVariants.{Done, Invalid, Busy, Exists, Absent, Full, NoMemory}
 use Rattle.hop_words.specs.declared.known.About.{About}
@@ -15,7 +15,7 @@ use Rattle.hop_words.specs.declared.known.Fresh.{Fresh}
 use Rattle.hop_words.specs.declared.known.Limbo.{Limbo}
 use Rattle.hop_words.specs.declared.known.Sight.{Sight}
 use Rattle.hop_words.specs.declared.known.Sight.TheVariants.{Runs}
-use Rattle.hop_words.specs.Ghost.{shape_at, limbo_at, IsElement, Each}
+use Rattle.hop_words.specs.Ghost.{shape_at, limbo_at, no_limbo, IsElement, Each}
 use Rattle.hop_words.specs.Rule.{done_in}
 use Rattle.hop_words.specs.Kinds.{Saw, Told, in_run, holding, limbo_set, retiring, with_gone}
 use Rattle.hop_words.specs.Owning.{behind, IsInHand}
@@ -27,6 +27,7 @@ use Rattle.hop_epoch.proofs.Batching.{at_set, keeps_then, keeps_set}
 use Rattle.hop_map.specs.Calls.{Took}
 use Rattle.hop_map.specs.Overs.{Over}
 use Rattle.hop_map.specs.Locks.{counted_lock}
+use Rattle.hop_map.specs.Removals.{Dropped, Kept}
 use Rattle.hop_map.specs.Updates.{Refusal}
 use Rattle.hop_map.specs.Whole.{Rests, Called, IsShort, Lacks}
 
@@ -174,3 +175,52 @@ called_before a l l1 m e ev l2 k p = record {
   size = p.size ∙ k.size;
   others = λ n ne. p.others n ne ∙ k.others n ne;
 }
+
+pub key_at_map : (a : About) (m : ℕ) (key : List ℕ) → IsKeyOf a.shape.maps m key → (m < length a.shape.maps) × (length key ≡ (shape_at a m).key)
+key_at_map a m key p = let t = map_of a.shape m p.0 p.1 in (t.0, p.2 ∙ ap (λ (g : MapShape). g.key) (sym t.1))
+
+pub kept_called : (a : About) (l : Known) (m : ℕ) (key : List ℕ) (r : MapAnswer) (l2 : Known) → Rests l m → Kept a (counted_lock l) m key r l2 → Called a l m (Delete m key r) l2
+kept_called a l m key r l2 rests p = record {
+  seen = saw_as a l (counted_lock l) (Delete m key r) l2.seen refl refl p.seen;
+  rests = record {
+    fresh = ap (λ (q : Known). q.fresh) p.after ∙ rests.fresh;
+    locks = ap (λ (q : Known). q.locks) p.after;
+    used = ap (λ (q : Known). (limbo_at q.limbo m).used) p.after ∙ rests.used;
+  };
+  cpu = ap (λ (q : Known). q.cpu) p.after;
+  readings = ap (λ (q : Known). q.readings) p.after;
+  size = ap (λ (q : Known). length q.limbo) p.after;
+  others = λ n ne. ap (λ (q : Known). limbo_at q.limbo n) p.after;
+}
+
+module _ (a : About) (l : Known) (m : ℕ) (key : List ℕ) (old : ℕ) (l2 : Known) (rests : Rests l m) (room : m < length l.limbo) (p : Dropped a (counted_lock l) m key old l2) where
+  pub dropped_limbo : l2.limbo ≡ with_gone l m old
+  dropped_limbo = ap (λ (q : Known). q.limbo) p.after
+
+  dropped_used : (limbo_at l2.limbo m).used ≡ old ∷ []
+  dropped_used = ap (λ (ls : List Limbo). (limbo_at ls m).used) dropped_limbo
+      ∙ (ap (λ (z : Limbo). z.used) (at_set l m (record (limbo_at l.limbo m) { used = old ∷ (limbo_at l.limbo m).used }) room) ∙ ap (λ (us : List ℕ). old ∷ us) rests.used)
+
+  pub dropped_front : (limbo_at l2.limbo m).used ≡ old ∷ behind (limbo_at l2.limbo m).used
+  dropped_front = dropped_used ∙ ap (λ (us : List ℕ). old ∷ us) (sym (ap behind dropped_used))
+
+  dropped_size : length l2.limbo ≡ length l.limbo
+  dropped_size = ap (λ (ls : List Limbo). length ls) dropped_limbo ∙ length-set l.limbo m (record (limbo_at l.limbo m) { used = old ∷ (limbo_at l.limbo m).used })
+
+  pub dropped_called : (l3 : Known) → l3 ≡ retiring l2 m old (behind (limbo_at l2.limbo m).used) → Called a l m (Delete m key Done) l3
+  dropped_called l3 retired =
+      let x : Limbo = record (limbo_at l2.limbo m) { used = behind (limbo_at l2.limbo m).used; young = old ∷ (limbo_at l2.limbo m).young } in
+      let room2 : m < length l2.limbo = subst (λ (i : ℕ). m < i) (sym dropped_size) room in
+      subst (Called a l m (Delete m key Done)) (sym retired) (record {
+        seen = saw_as a l (counted_lock l) (Delete m key Done) l2.seen refl refl p.seen;
+        rests = record {
+          fresh = ap (λ (q : Known). q.fresh) p.after ∙ rests.fresh;
+          locks = ap (λ (q : Known). q.locks) p.after;
+          used = ap (λ (z : Limbo). z.used) (at_set l2 m x room2) ∙ ap behind dropped_used;
+        };
+        cpu = ap (λ (q : Known). q.cpu) p.after;
+        readings = ap (λ (q : Known). q.readings) p.after;
+        size = length-set l2.limbo m x ∙ dropped_size;
+        others = λ n ne. get_or-set_other l2.limbo m n x no_limbo ne
+            ∙ (ap (λ (ls : List Limbo). limbo_at ls n) dropped_limbo ∙ get_or-set_other l.limbo m n (record (limbo_at l.limbo m) { used = old ∷ (limbo_at l.limbo m).used }) no_limbo ne);
+      })

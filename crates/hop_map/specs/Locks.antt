@@ -10,9 +10,6 @@ use Rattle.hop_words.specs.Ghost.{shape_at}
 use Rattle.hop_words.specs.Kinds.{in_run}
 use Rattle.hop_words.specs.Locking.{hand}
 use Rattle.hop_map.specs.Updates.{Wants, Valued}
-use Rattle.hop_map.specs.declared.dropping.Deletion.{Deletion}
-use Rattle.hop_map.specs.declared.dropping.Deletion.TheVariants.{Gone, Missing, Kept}
-use Rattle.hop_map.specs.Removals.{Dropped, NotThere}
 
 -- the lane has one element in hand, filled with a key
 pub record Carries (a : About) (l : Known) (m : ℕ) (key : List ℕ) (element : ℕ) : Type 0 where
@@ -37,9 +34,3 @@ pub record Readies (a : About) (l : Known) (m s : ℕ) (key bytes : List ℕ) (f
 -- one lock more was counted
 abbrev pub counted_lock : Known → Known
 counted_lock l = record l { tally = record l.tally { locks = l.tally.locks + 1 } }
-
--- how a deletion ends, from before its lock to after its unlock
-abbrev pub DeleteTells : About → Known → ℕ → List ℕ → Deletion → Known → Type 0
-DeleteTells a l m key (Gone e) l2 = Dropped a (counted_lock l) m key e l2 × (e < elements (shape_at a m))
-DeleteTells a l m key Missing l2 = NotThere a (counted_lock l) m key l2
-DeleteTells a l m key Kept l2 = l2 ≡ l

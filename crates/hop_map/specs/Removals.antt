@@ -1,15 +1,17 @@
 -- A deletion.
-use Rattle.std.specs.Prelude.{◌≡◌, ℕ, ◌<◌, true, List, [], length}
+use Rattle.std.specs.Prelude.{◌≡◌, ℕ, ◌+◌, ◌-◌, ◌^◌, ◌<◌, ◌≤◌, true, List, [], length}
 use Rattle.bpf_shared.specs.declared.events.Event.TheVariants.{Delete}
-use Rattle.bpf_shared.specs.declared.events.MapAnswer.TheVariants.{Done, Absent}
+use Rattle.bpf_shared.specs.declared.events.MapAnswer.{MapAnswer}
+use Rattle.bpf_shared.specs.declared.events.MapAnswer.TheVariants.{Done, Absent, Busy}
 use Rattle.bpf_shared.specs.Shape.{elements}
 use Rattle.bpf_shared.specs.History.{events_of}
 use Rattle.hop_words.specs.declared.known.About.{About}
 use Rattle.hop_words.specs.declared.known.Known.{Known}
 use Rattle.hop_map.specs.declared.dropping.Deletion.{Deletion}
-use Rattle.hop_map.specs.declared.dropping.Deletion.TheVariants.{Gone, Missing, Kept}
+use Rattle.hop_map.specs.declared.dropping.Deletion.TheVariants.{Gone, Missing, Worn}
 use Rattle.hop_words.specs.Homes.{segment_of}
 use Rattle.hop_words.specs.Ghost.{shape_at}
+use Rattle.hop_words.specs.Rule.{done_in}
 use Rattle.hop_words.specs.Kinds.{in_run, Saw, with_gone}
 
 -- a call in a run has a key of this segment
@@ -24,13 +26,13 @@ pub record Dropped (a : About) (l : Known) (m : ℕ) (key : List ℕ) (old : ℕ
   pub seen : Saw a l (Delete m key Done) l2.seen
   pub after : l2 ≡ record l { seen = l2.seen; limbo = with_gone l m old; locks = [] }
 
--- the answer that the key isn't there; nothing else changed
-pub record NotThere (a : About) (l : Known) (m : ℕ) (key : List ℕ) (l2 : Known) : Type 0 where
-  pub seen : Saw a l (Delete m key Absent) l2.seen
+-- the answer's event; nothing else changed
+pub record Kept (a : About) (l : Known) (m : ℕ) (key : List ℕ) (answer : MapAnswer) (l2 : Known) : Type 0 where
+  pub seen : Saw a l (Delete m key answer) l2.seen
   pub after : l2 ≡ record l { seen = l2.seen; locks = [] }
 
 -- how a deletion under the lock ends
 abbrev pub DeleteEnds : About → Known → ℕ → List ℕ → Deletion → Known → Type 0
 DeleteEnds a l m key (Gone e) l2 = Dropped a l m key e l2 × (e < elements (shape_at a m))
-DeleteEnds a l m key Missing l2 = NotThere a l m key l2
-DeleteEnds a l m key Kept l2 = ⊥
+DeleteEnds a l m key Missing l2 = Kept a l m key Absent l2
+DeleteEnds a l m key Worn l2 = Kept a l m key Busy l2 × (2 ^ 56 - 1 ≤ a.version + done_in m l2.seen)

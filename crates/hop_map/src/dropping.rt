@@ -1,33 +1,33 @@
 //! A key is taken out of a map, under the lock of its segment.
-ghost use Rattle.std.specs.Prelude.{◌≡◌, ◌<◌, ◌≤◌, ◌+◌, ◌^◌, ◌%◌, ℕ, []};
-ghost use Rattle.hop_words.specs.Home.{home_of};
+ghost use Rattle.std.specs.Prelude.{◌≡◌, ◌<◌, ◌+◌, ◌^◌, ℕ};
 ghost use Rattle.bpf_shared.specs.Shape.{elements as elements_of};
-ghost use Rattle.hop_words.specs.Ghost.{shape_at, IsSegment};
+ghost use Rattle.hop_words.specs.Home.{home_of};
+ghost use Rattle.hop_words.specs.Ghost.{shape_at};
 ghost use Rattle.hop_words.specs.Locking.{lock_of};
 ghost use Rattle.hop_seg.specs.Content.{HasPair};
 ghost use Rattle.hop_map.specs.Views.{words as seen};
 ghost use Rattle.hop_map.specs.Calls.{Contents};
-ghost use Rattle.hop_map.specs.Locks.{DeleteTells};
 ghost use Rattle.hop_map.specs.Removals.{Names, Dropped, DeleteEnds};
 
+use crate::judging::WORN;
 use crate::locked::LockedWords;
 use bpf_shared::MapAnswer;
 use hop_seg::{find, remove};
-use hop_words::{HopTable, Lane};
+use hop_words::Lane;
 
 /// What became of a key that was to be taken out.
-pub enum Deletion {
+pub(crate) enum Deletion {
     /// It had this element, which is in hand from now on.
     Gone(u32),
     /// It wasn't there.
     Missing,
-    /// The segment was locked, or its stamp another one.
-    Kept,
+    /// The segment can't change any more.
+    Worn,
 }
 
 /// Takes out a key that the segment has, and gives the lock back. Answers the key's element, which
 /// is in hand from now on.
-pub fn drop_key<'a>(words: LockedWords<'a>, stamp: u64, home: u32, key: &[u8]) -> (Lane, u32)
+pub(crate) fn drop_key<'a>(words: LockedWords<'a>, stamp: u64, home: u32, key: &[u8]) -> (Lane, u32)
     requires contents { Contents words.about words.known words.map words.segment }
     requires names { Names words.about words.known words.map words.segment key.now }
     requires home { home ≡ home_of key.now words.about.seed (shape_at words.about words.map).mask }
@@ -45,17 +45,27 @@ pub fn drop_key<'a>(words: LockedWords<'a>, stamp: u64, home: u32, key: &[u8]) -
 }
 
 /// Takes out a key, if the segment has it, and gives the lock back.
-pub fn delete_key<'a>(words: LockedWords<'a>, stamp: u64, home: u32, key: &[u8]) -> (Lane, Deletion)
+pub(crate) fn delete_key<'a>(
+    words: LockedWords<'a>,
+    stamp: u64,
+    home: u32,
+    key: &[u8],
+) -> (Lane, Deletion)
     requires contents { Contents words.about words.known words.map words.segment }
     requires names { Names words.about words.known words.map words.segment key.now }
     requires home { home ≡ home_of key.now words.about.seed (shape_at words.about words.map).mask }
     requires stamp { stamp ≡ (lock_of words.known).stamp }
-    requires fits { stamp + 256 < 2 ^ 64 }
     ensures table { result.0.table ≡ words.entry.table }
     ensures ends { DeleteEnds words.entry.about words.entry.known words.entry.map
         key.now result.1 result.0.known }
 {
     let mut words = words;
+    if stamp >= WORN {
+        return (
+            words.unlock_delete(stamp, key, MapAnswer::Busy),
+            Deletion::Worn,
+        );
+    }
     match find(&mut words, key, home) {
         None => (
             words.unlock_delete(stamp, key, MapAnswer::Absent),
@@ -66,38 +76,4 @@ pub fn delete_key<'a>(words: LockedWords<'a>, stamp: u64, home: u32, key: &[u8])
             (lane, Deletion::Gone(element))
         }
     }
-}
-
-/// Locks the key's segment, if its stamp is this one, and takes out the key, if the segment has it.
-pub fn lock_and_delete(
-    table: &HopTable,
-    lane: Lane,
-    map: u8,
-    segment: u32,
-    key_size: usize,
-    elements: u32,
-    stamp: u64,
-    home: u32,
-    key: &[u8],
-) -> (Lane, Deletion)
-    requires table { lane.table ≡ table.now.id }
-    requires keyed { key_size ≡ (shape_at table.now.about map).key }
-    requires few { key_size ≤ 64 }
-    requires counted { elements ≡ elements_of (shape_at table.now.about map) }
-    requires inside { IsSegment table.now.about map segment }
-    requires even { stamp % 2 ≡ 0 }
-    requires fits { stamp + 256 < 2 ^ 64 }
-    requires names { Names table.now.about lane.known map segment key.now }
-    requires empty { lane.known.fresh ≡ [] }
-    requires idle { lane.known.locks ≡ [] }
-    requires home { home ≡ home_of key.now table.now.about.seed (shape_at table.now.about map).mask }
-    ensures table { result.0.table ≡ table.now.id }
-    ensures ends { DeleteTells table.now.about lane.known map key.now result.1 result.0.known }
-{
-    let mut lane = lane;
-    if !lane.lock(table, map, segment, stamp) {
-        return (lane, Deletion::Kept);
-    }
-    let words = LockedWords::new(table, lane, map, segment, key_size, elements);
-    delete_key(words, stamp, home, key)
 }

@@ -11,7 +11,7 @@ use bpf_shared::MapAnswer;
 use hop_seg::find;
 
 /// The least stamp of the last version. A segment with this version can't change any more.
-const WORN: u64 = u64::MAX - 255;
+pub(crate) const WORN: u64 = u64::MAX - 255;
 
 /// What an update finds under the lock of its key's segment.
 pub(crate) enum Finding {

@@ -1,15 +1,15 @@
 use Rattle.std.proofs.Common.{ap, sym, subst}
 use Rattle.bpf_shared.specs.declared.events.Event.TheVariants.{Delete}
-use Rattle.bpf_shared.specs.declared.events.MapAnswer.TheVariants.{Absent}
+use Rattle.bpf_shared.specs.declared.events.MapAnswer.TheVariants.{Absent, Busy}
 use Rattle.hop_words.specs.Kinds.{Answers}
 use Rattle.hop_words.specs.Locking.{lock_of}
 use Rattle.hop_seg.specs.Content.{HasPair}
 use Rattle.hop_map.specs.Views.{Locked, Ready, words}
-use Rattle.hop_map.proofs.Removing.{drop_sound, drop_answers}
+use Rattle.hop_map.proofs.Removing.{drop_sound, drop_answers, worn_answers}
 use Rattle.hop_map.proofs.dropping.delete_key.Goals as goal
 
-pub unlock_delete-requires-clause-answers : goal.unlock_delete-requires-clause-answers
-unlock_delete-requires-clause-answers c =
+pub unlock_delete-requires-in-None-clause-answers : goal.unlock_delete-requires-in-None-clause-answers
+unlock_delete-requires-in-None-clause-answers c =
     let x = c.args.words in
     let key = c.args.key.now in
     subst (λ (z : Locked). Ready z.about z.known z.map z.segment → Answers z.about z.known (lock_of z.known) (Delete z.map key Absent)) (sym c.find.ensures.rests)
@@ -23,3 +23,6 @@ drop_key-lane-requires-clause-there c =
       subst (λ (z : Locked). HasPair (words z) key c.in-Some._there) (sym c.find.ensures.rests)
           (c.in-Some.ensures.found (words x) (ap words (sym c.find.ensures.rests)) (drop_sound x key c.requires.contents c.requires.names) c.requires.home),
     )
+
+pub unlock_delete-requires-clause-answers : goal.unlock_delete-requires-clause-answers
+unlock_delete-requires-clause-answers c = worn_answers c.args.words c.args.key.now c.requires.contents c.requires.names

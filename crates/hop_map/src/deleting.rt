@@ -1,0 +1,78 @@
+//! A whole deletion by one CPU.
+ghost use Rattle.std.specs.Prelude.{◌≡◌, ◌<◌, true, [], length};
+ghost use Rattle.bpf_shared.specs.Shape.{IsKeyOf};
+ghost use Rattle.bpf_shared.specs.History.{events_of};
+ghost use Rattle.bpf_shared.specs.declared.events.Event.TheVariants.{Delete};
+ghost use Rattle.hop_words.specs.Homes.{segment_of};
+ghost use Rattle.hop_words.specs.Ghost.{shape_at};
+ghost use Rattle.hop_words.specs.Kinds.{in_run};
+ghost use Rattle.hop_map.specs.Locks.{counted_lock};
+ghost use Rattle.hop_map.specs.Removals.{Names, DeleteEnds};
+ghost use Rattle.hop_map.specs.Whole.{Rests, Called, Lacks, Follows};
+
+use crate::dropping::{Deletion, delete_key};
+use crate::homing::homing;
+use crate::locked::LockedWords;
+use crate::waiting::lock_when_free;
+use bpf_shared::MapAnswer;
+use hop_epoch::{Batches, Used};
+use hop_words::{HopTable, Lane};
+use std::sync::Wait;
+
+// Locks the key's segment, and takes out the key, if the segment has it.
+fn lock_and_delete<R: Wait>(
+    rt: &R,
+    table: &HopTable,
+    lane: Lane,
+    map: u8,
+    key: &[u8],
+) -> (Lane, Deletion)
+    requires table { lane.table ≡ table.now.id }
+    requires map { map < length table.now.about.shape.maps }
+    requires names { Names table.now.about lane.known map
+        (segment_of table.now.about.seed (shape_at table.now.about map) key.now) key.now }
+    requires empty { lane.known.fresh ≡ [] }
+    requires idle { lane.known.locks ≡ [] }
+    ensures table { result.0.table ≡ table.now.id }
+    ensures ends { DeleteEnds table.now.about (counted_lock lane.known) map
+        key.now result.1 result.0.known }
+{
+    let mut lane = lane;
+    let at = homing(table, map, key);
+    let stamp = lock_when_free(rt, table, &mut lane, map, at.segment);
+    let words = LockedWords::new(table, lane, map, at.segment, at.key_size, at.elements);
+    delete_key(words, stamp, at.home, key)
+}
+
+/// The key is to leave the map (bpf-helpers(7)). Its element goes to the CPU's young batch, since a
+/// CPU in a run may still hold its value.
+pub fn delete<R: Wait>(
+    rt: &R,
+    table: &HopTable,
+    lane: Lane,
+    batches: &mut Batches,
+    map: u8,
+    key: &[u8],
+) -> (Lane, MapAnswer)
+    requires table { lane.table ≡ table.now.id }
+    requires batches { Follows table.now.about lane.known map batches.old }
+    requires rests { Rests lane.known map }
+    requires runs { in_run (events_of lane.known.cpu lane.known.seen) ≡ true }
+    requires key { IsKeyOf table.now.about.shape.maps map key.now }
+    ensures table { result.0.table ≡ table.now.id }
+    ensures called { Called table.now.about lane.known map
+        (Delete map key.now result.1) result.0.known }
+    ensures lacks { Lacks table.now.about lane.known map result.1 result.0.known }
+    ensures batches { Follows table.now.about result.0.known map batches.new }
+{
+    let (mut lane, deletion) = lock_and_delete(rt, table, lane, map, key);
+    match deletion {
+        Deletion::Gone(old) => {
+            let used = Used::new(&lane, map, old);
+            batches.retire(&mut lane, table, used);
+            (lane, MapAnswer::Done)
+        }
+        Deletion::Missing => (lane, MapAnswer::Absent),
+        Deletion::Worn => (lane, MapAnswer::Busy),
+    }
+}
