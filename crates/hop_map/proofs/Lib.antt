@@ -15,3 +15,5 @@ pub mod Offering
 pub mod Verdicts
 pub mod Wholes
 pub mod Settling
+pub mod Ports
+pub mod Dealing

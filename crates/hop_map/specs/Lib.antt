@@ -7,3 +7,5 @@ pub mod Overs
 pub mod Whole
 pub mod Updates
 pub mod Finding
+pub mod Port
+pub mod Stores

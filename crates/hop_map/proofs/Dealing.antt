@@ -1,0 +1,153 @@
+-- The ports of a new store, and of one whose ports are back.
+use Rattle.std.proofs.Common.{◌≡◌, ◌≢◌, ℕ, zero, suc, ◌+◌, ◌%◌, ◌^◌, ◌<◌, ◌≤◌, true, false, List, [], ◌∷◌, ◌++◌, Option, None, length, map, All, refl, ap, sym, subst, ◌∙◌, arith, append_assoc}
+use Rattle.std.proofs.lemmas.List.{length-append, append-nil, get_or_append_left, get_or_default}
+use Rattle.std.proofs.lemmas.List.Elements.{All-nil, All-cons, All-head, All-tail}
+use Rattle.std.proofs.Math.Seq.{get_or-append_seam}
+use mathlib.Core.Option.{some, some-injective, some-ne-none}
+use lib.ListN.{get_elem?}
+use Rattle.atomic_table.specs.Seated.{TableId}
+use Rattle.atomic_table.proofs.Lists.{at_map}
+use Rattle.bpf_shared.specs.History.{IsLegal, Legal, events_of}
+use Rattle.bpf_shared.specs.Store.{as_made}
+use Rattle.bpf_shared.specs.declared.events.Entry.{Entry}
+use Rattle.hop_words.specs.declared.known.About.{About}
+use Rattle.hop_words.specs.declared.known.Known.{Known}
+use Rattle.hop_words.specs.declared.known.Limbo.{Limbo}
+use Rattle.hop_words.specs.Ghost.{Each, IsElement, limbo_at, no_limbo}
+use Rattle.hop_words.specs.Inside.{Shown}
+use Rattle.hop_words.specs.Opens.{no_limbos, new_lane, lanes_from}
+use Rattle.hop_words.specs.Kinds.{in_run}
+use Rattle.hop_words.specs.Seats.{view, IsWhole, IsWithin}
+use Rattle.hop_words.specs.Closing.{AreAllBack}
+use Rattle.hop_arena.specs.declared.arena.Arena.{Arena}
+use Rattle.hop_arena.specs.Claiming.{IsArena}
+use Rattle.hop_epoch.specs.declared.batches.Batches.{Batches}
+use Rattle.hop_epoch.specs.Batch.{Tracks, front}
+use Rattle.hop_map.specs.Port.{Port, HasNothing, AreArenas, AreBatches, IsPortOf, IsAllOf, IsUnlocked, known_of, arena_at, batches_at, no_arena, no_batches}
+use Rattle.hop_map.specs.Stores.{IsNewLane}
+use Rattle.hop_map.proofs.Ports.{by_equal}
+
+pub none_taken : (n m : ℕ) → limbo_at (no_limbos n) m ≡ no_limbo
+none_taken zero m = refl
+none_taken (suc n) zero = refl
+none_taken (suc n) (suc m) = none_taken n m
+
+pub limbo_size : (n : ℕ) → length (no_limbos n) ≡ n
+limbo_size zero = refl
+limbo_size (suc n) = ap suc (limbo_size n)
+
+-- ---- one more
+last_at : {A : Type 0} (xs : List A) (x d : A) (n : ℕ) → length xs ≡ n → Rattle.std.proofs.Common.get_or (xs ++ x ∷ []) n d ≡ x
+last_at xs x d n e = subst (λ (k : ℕ). Rattle.std.proofs.Common.get_or (xs ++ x ∷ []) k d ≡ x) e (get_or-append_seam xs x [] d)
+
+pub arenas_more : (a : About) (n : ℕ) (xs : List Arena) (x : Arena) → AreArenas a n xs → x.map ≡ n → IsArena a n x.elements x.start → AreArenas a (n + 1) (xs ++ x ∷ [])
+arenas_more a n xs x h name is = record {
+  size = length-append xs (x ∷ []) ∙ ap (λ (k : ℕ). k + 1) h.size;
+  map = λ m inside. by_equal m n
+      (λ e. subst (λ (j : ℕ). (arena_at ys j).map ≡ j) (sym e) (ap (λ (y : Arena). y.map) last ∙ name))
+      (λ ne. ap (λ (y : Arena). y.map) (early m (lt m inside ne)) ∙ h.map m (lt m inside ne));
+  each = λ m inside. by_equal m n
+      (λ e. subst (λ (j : ℕ). Is j (arena_at ys j)) (sym e) (subst (Is n) (sym last) is))
+      (λ ne. subst (Is m) (sym (early m (lt m inside ne))) (h.each m (lt m inside ne)));
+}
+  where
+    ys : List Arena
+    ys = xs ++ x ∷ []
+
+    Is : ℕ → Arena → Type 0
+    Is m y = IsArena a m y.elements y.start
+
+    last : arena_at ys n ≡ x
+    last = last_at xs x no_arena n h.size
+
+    lt : (m : ℕ) → m < n + 1 → m ≢ n → m < n
+    lt m inside ne = Rattle.hop_map.proofs.Ports.less m n inside ne
+
+    early : (m : ℕ) → m < n → arena_at ys m ≡ arena_at xs m
+    early m inside = get_or_append_left xs (x ∷ []) no_arena m (let s = h.size in omega arith)
+
+pub batches_more : (a : About) (l : Known) (n : ℕ) (xs : List Batches) (x : Batches) → AreBatches a l n xs → x.map ≡ n → x.young ≡ None → x.aged ≡ None → n < length l.limbo → limbo_at l.limbo n ≡ no_limbo → AreBatches a l (n + 1) (xs ++ x ∷ [])
+batches_more a l n xs x h name young aged room none = record {
+  size = length-append xs (x ∷ []) ∙ ap (λ (k : ℕ). k + 1) h.size;
+  map = λ m inside. by_equal m n
+      (λ e. subst (λ (j : ℕ). (batches_at ys j).map ≡ j) (sym e) (ap (λ (y : Batches). y.map) last ∙ name))
+      (λ ne. ap (λ (y : Batches). y.map) (early m (lt m inside ne)) ∙ h.map m (lt m inside ne));
+  each = λ m inside. by_equal m n
+      (λ e. subst (λ (j : ℕ). Is j (batches_at ys j)) (sym e) (subst (Is n) (sym last) is))
+      (λ ne. subst (Is m) (sym (early m (lt m inside ne))) (h.each m (lt m inside ne)));
+}
+  where
+    ys : List Batches
+    ys = xs ++ x ∷ []
+
+    Is : ℕ → Batches → Type 0
+    Is m y = Tracks a l m y.young y.aged y.noted
+
+    is : Is n x
+    is = record {
+      room = room;
+      young_is = young ∙ ap (λ (y : Limbo). front y.young) (sym none);
+      old_is = aged ∙ ap (λ (y : Limbo). front y.old) (sym none);
+      young_inside = subst (λ (y : Limbo). Each (IsElement a n) y.young) (sym none) tt;
+      old_inside = subst (λ (y : Limbo). Each (IsElement a n) y.old) (sym none) tt;
+      counters = Rattle.std.proofs.Common.inl (ap (λ (y : Limbo). y.old) none);
+    }
+
+    last : batches_at ys n ≡ x
+    last = last_at xs x no_batches n h.size
+
+    lt : (m : ℕ) → m < n + 1 → m ≢ n → m < n
+    lt m inside ne = Rattle.hop_map.proofs.Ports.less m n inside ne
+
+    early : (m : ℕ) → m < n → batches_at ys m ≡ batches_at xs m
+    early m inside = get_or_append_left xs (x ∷ []) no_batches m (let s = h.size in omega arith)
+
+-- ---- a new port
+pub starts_idle : (a : About) (l : Known) → l ≡ new_lane a l.cpu → HasNothing l
+starts_idle a l new = record {
+  fresh = ap (λ (k : Known). k.fresh) new;
+  locks = ap (λ (k : Known). k.locks) new;
+  used = λ m. ap (λ (k : Known). (limbo_at k.limbo m).used) new ∙ ap (λ (x : Limbo). x.used) (none_taken (length a.shape.maps) m);
+}
+
+pub starts : (t : Shown) (z : TableId) (l : Known) (xs : List Arena) (bs : List Batches) → z ≡ t.id → l.cpu < t.about.shape.cpus → t.about.count % 2 ≡ 0 → l ≡ new_lane t.about l.cpu
+    → AreArenas t.about (length t.about.shape.maps) xs → AreBatches t.about l (length t.about.shape.maps) bs → IsPortOf t (record { table = z; known = l; arenas = xs; batches = bs })
+starts t z l xs bs table cpu even new arenas batches = record {
+  table = table;
+  cpu = cpu;
+  even = even;
+  room = λ now. absurd (Rattle.hop_map.proofs.Ports.apart (sym now ∙ ap (λ (k : Known). in_run (events_of l.cpu k.seen)) new));
+  limbo = ap (λ (k : Known). length k.limbo) new ∙ limbo_size (length t.about.shape.maps);
+  arenas = arenas;
+  batches = batches;
+}
+
+pub lanes_new : (a : About) (c n : ℕ) → c + n ≤ a.shape.cpus → All (IsNewLane a) (lanes_from a c n)
+lanes_new a c zero few = All-nil (IsNewLane a)
+lanes_new a c (suc n) few = All-cons (IsNewLane a) (new_lane a c) (lanes_from a (c + 1) n) (omega arith, refl) (lanes_new a (c + 1) n (omega arith))
+
+pub moved_over : (ps : List Port) (p : Port) (l : Known) (ls rest all : List Known) → ls ≡ l ∷ rest → p.known ≡ l → map known_of ps ++ ls ≡ all → map known_of (ps ++ p ∷ []) ++ rest ≡ all
+moved_over [] p l ls rest all is same whole = ap (λ (k : Known). k ∷ rest) same ∙ (sym is ∙ whole)
+moved_over (q ∷ ps) p l ls rest all is same whole = ap (λ (ks : List Known). q.known ∷ ks) (moved_over ps p l ls rest (map known_of ps ++ ls) is same refl) ∙ whole
+
+-- ---- all ports back
+pub map_snoc : (ps : List Port) (p : Port) → map known_of (ps ++ p ∷ []) ≡ map known_of ps ++ p.known ∷ []
+map_snoc [] p = refl
+map_snoc (q ∷ ps) p = ap (λ (ls : List Known). q.known ∷ ls) (map_snoc ps p)
+
+pub legal_of : (a : About) (h : List Entry) (ws : List ℕ) → IsWhole a (view [] h) ws → IsLegal a.shape h
+legal_of a h ws w = (w.ghost.last, subst (λ (log : List Entry). Legal (as_made a.shape) log w.ghost.last) (sym w.whole) w.rule.logged.legal)
+
+unlocked_at : (ls : List Known) (k : ℕ) (l : Known) → All IsUnlocked ls → get_elem? ls k ≡ some l → l.locks ≡ []
+unlocked_at [] k l all e = absurd (some-ne-none l (sym e))
+unlocked_at (x ∷ ls) zero l all e = subst IsUnlocked (some-injective x l e) (All-head IsUnlocked x ls all)
+unlocked_at (x ∷ ls) (suc k) l all e = unlocked_at ls k l (All-tail IsUnlocked x ls all) e
+
+pub known_at : (ports : List Port) (ls : List Known) (k : ℕ) (p : Port) → ls ≡ map known_of ports → get_elem? ports k ≡ some p → get_elem? ls k ≡ some p.known
+known_at ports ls k p same e = ap (λ (l : List Known). get_elem? l k) same ∙ at_map known_of ports k p e
+
+pub all_back : (t : Shown) (ports : List Port) (ls : List Known) → IsAllOf t ports → ls ≡ map known_of ports → All IsUnlocked ls → AreAllBack t.about ls
+all_back t ports ls all same free = λ c inside.
+    let e = all.each c inside in
+    let at = known_at ports ls e.0 e.1 same e.2 in
+    (e.0, e.1.known, e.3, at, unlocked_at ls e.0 e.1.known free at)

@@ -1,0 +1,168 @@
+-- Ports from call to call.
+use Rattle.std.proofs.Common.{◌≡◌, ◌≢◌, ◌⊎◌, ℕ, zero, suc, ◌+◌, ◌%◌, ◌^◌, ◌<◌, ◌≤◌, Bool, true, false, List, [], ◌∷◌, ◌++◌, ◌==◌, Option, Some, None, Result, Ok, Err, OnOk, OnErr, length, set, refl, ap, sym, subst, ◌∙◌, arith, eq-eqb}
+use Rattle.std.proofs.lemmas.List.{get_or-set_same, get_or-set_other, length-set}
+use Rattle.std.proofs.lemmas.Bool.Decides.{nat_tests}
+use Rattle.atomic_table.specs.Seated.{TableId}
+use Rattle.bpf_shared.specs.declared.sharing.Worn.{Worn}
+use Rattle.bpf_shared.specs.declared.events.Event.{Event}
+use Rattle.bpf_shared.specs.declared.events.Event.TheVariants.{Begin, End}
+use Rattle.bpf_shared.specs.History.{events_of, entry}
+use Rattle.bpf_shared.proofs.Chains.{events_of-append, events_of-own}
+use Rattle.hop_words.specs.declared.known.About.{About}
+use Rattle.hop_words.specs.declared.known.Known.{Known}
+use Rattle.hop_words.specs.declared.known.Limbo.{Limbo}
+use Rattle.hop_words.specs.Ghost.{IsElement, Each, limbo_at}
+use Rattle.hop_words.specs.Inside.{Shown, Standing}
+use Rattle.hop_words.specs.Rule.{turns_of}
+use Rattle.hop_words.specs.Kinds.{in_run, count_of, Saw, Told}
+use Rattle.hop_words.proofs.Histories.{turns_of-append}
+use Rattle.hop_epoch.specs.declared.batches.Batches.{Batches}
+use Rattle.hop_epoch.specs.Batch.{front, Notes, Tracks, Keeps}
+use Rattle.hop_arena.specs.declared.arena.Arena.{Arena}
+use Rattle.hop_map.specs.declared.port.HopPort.TheInside.{Inside as InPort}
+use Rattle.hop_map.specs.Port.{Port, port_of, standing_in, HasNothing, AreBatches, IsPortOf, IsEnding, runs, batches_at, no_batches}
+
+pub apart : true ≡ false → ⊥
+apart e = cc
+
+pub by_equal : {P : Type 0} (n m : ℕ) → (n ≡ m → P) → (n ≢ m → P) → P
+by_equal {P} n m same other = go (n == m) refl
+  where
+    go : (b : Bool) → (n == m) ≡ b → P
+    go true is = same (grind (arith, nat_tests))
+    go false is = other (λ e. absurd (let wrong : true ≡ false = sym (eq-eqb n m e) ∙ is in apart wrong))
+
+pub less : (m n : ℕ) → m < n + 1 → m ≢ n → m < n
+less m n inside ne = grind arith
+
+abbrev pub port_with : Standing → List Arena → List Batches → Port
+port_with s xs bs = record { table = s.table; known = s.known; arenas = xs; batches = bs }
+
+-- the port whose lane was taken out
+pub port_is : (i : InPort) (o : Option Standing) (s : Standing) → o ≡ i.lane → o ≡ Some s → port_of i ≡ port_with s i.arenas.items i.batches.items
+port_is i o s from is = ap (λ (x : Option Standing). port_with (standing_in x) i.arenas.items i.batches.items) (sym from ∙ is)
+
+-- ---- what a CPU's own events say, after one more
+pub own_after : (a : About) (l l' : Known) (e : Event) → Saw a l e l'.seen → l'.cpu ≡ l.cpu → events_of l'.cpu l'.seen ≡ events_of l.cpu l.seen ++ e ∷ []
+own_after a l l' e s same =
+    let o = s.others in
+    ap (λ (c : ℕ). events_of c l'.seen) same
+    ∙ (ap (events_of l.cpu) s.after
+    ∙ (events_of-append l.cpu l.seen (o ++ entry l.cpu e ∷ [])
+    ∙ ap (λ (es : List Event). events_of l.cpu l.seen ++ es)
+    (events_of-append l.cpu o (entry l.cpu e ∷ []) ∙ (ap (λ (es : List Event). es ++ events_of l.cpu (entry l.cpu e ∷ [])) s.foreign ∙ events_of-own l.cpu e))))
+
+pub turned : (a : About) (l l' : Known) (e : Event) → Saw a l e l'.seen → l'.cpu ≡ l.cpu → turns_of (events_of l'.cpu l'.seen) ≡ turns_of (events_of l.cpu l.seen) + turns_of (e ∷ [])
+turned a l l' e s same = ap turns_of (own_after a l l' e s same) ∙ turns_of-append (events_of l.cpu l.seen) (e ∷ [])
+
+-- the counter has room after a quiet event, if it had room before
+pub room_stays : (a : About) (l l' : Known) (e : Event) → Saw a l e l'.seen → l'.cpu ≡ l.cpu → turns_of (e ∷ []) ≡ 0 → (in_run (events_of l.cpu l.seen) ≡ true → count_of a l + 1 < 2 ^ 64)
+    → in_run (events_of l'.cpu l'.seen) ≡ true → count_of a l' + 1 < 2 ^ 64
+room_stays a l l' e s same quiet room runs' =
+    let turns : turns_of (events_of l'.cpu l'.seen) ≡ turns_of (events_of l.cpu l.seen) = let n = turned a l l' e s same in omega (arith, quiet) in
+    let r = room (ap (λ (k : ℕ). k % 2 == 1) (sym turns) ∙ runs') in omega (arith, turns)
+
+-- ---- batches of a map that a step leaves alone
+pub tracks_stay : (a : About) (l l' : Known) (m : ℕ) (young old : Option ℕ) (ns : List ℕ) → length l'.limbo ≡ length l.limbo → limbo_at l'.limbo m ≡ limbo_at l.limbo m → Tracks a l m young old ns → Tracks a l' m young old ns
+tracks_stay a l l' m young old ns size same t = record {
+  room = subst (λ (n : ℕ). m < n) (sym size) t.room;
+  young_is = t.young_is ∙ ap (λ (x : Limbo). front x.young) (sym same);
+  old_is = t.old_is ∙ ap (λ (x : Limbo). front x.old) (sym same);
+  young_inside = subst (λ (x : Limbo). Each (IsElement a m) x.young) (sym same) t.young_inside;
+  old_inside = subst (λ (x : Limbo). Each (IsElement a m) x.old) (sym same) t.old_inside;
+  counters = subst (λ (x : Limbo). (x.old ≡ []) ⊎ Notes a x.noted ns) (sym same) t.counters;
+}
+
+pub batches_stay : (a : About) (l l' : Known) (n : ℕ) (bs : List Batches) → l'.limbo ≡ l.limbo → AreBatches a l n bs → AreBatches a l' n bs
+batches_stay a l l' n bs same h = record {
+  size = h.size;
+  map = h.map;
+  each = λ m inside. tracks_stay a l l' m (batches_at bs m).young (batches_at bs m).aged (batches_at bs m).noted (ap length same) (ap (λ (x : List Limbo). limbo_at x m) same) (h.each m inside);
+}
+
+-- of one map they changed
+pub batches_change : (a : About) (l l' : Known) (n m : ℕ) (bs : List Batches) (b : Batches) → length l'.limbo ≡ length l.limbo → ((k : ℕ) → k ≢ m → limbo_at l'.limbo k ≡ limbo_at l.limbo k) → m < n → b.map ≡ m
+    → Tracks a l' m b.young b.aged b.noted → AreBatches a l n bs → AreBatches a l' n (set bs m b)
+batches_change a l l' n m bs b size others here name t h = record {
+  size = length-set bs m b ∙ h.size;
+  map = λ k inside. by_equal k m
+      (λ e. subst (λ (j : ℕ). (batches_at (set bs m b) j).map ≡ j) (sym e) (ap (λ (x : Batches). x.map) at_m ∙ name))
+      (λ ne. ap (λ (x : Batches). x.map) (at_else k ne) ∙ h.map k inside);
+  each = λ k inside. by_equal k m
+      (λ e. subst (λ (j : ℕ). IsTracked j (batches_at (set bs m b) j)) (sym e) (subst (IsTracked m) (sym at_m) t))
+      (λ ne. subst (IsTracked k) (sym (at_else k ne)) (tracks_stay a l l' k (batches_at bs k).young (batches_at bs k).aged (batches_at bs k).noted size (others k ne) (h.each k inside)));
+}
+  where
+    IsTracked : ℕ → Batches → Type 0
+    IsTracked k x = Tracks a l' k x.young x.aged x.noted
+
+    at_m : batches_at (set bs m b) m ≡ b
+    at_m = get_or-set_same bs m b no_batches (let z = h.size in omega arith)
+
+    at_else : (k : ℕ) → k ≢ m → batches_at (set bs m b) k ≡ batches_at bs k
+    at_else k ne = get_or-set_other bs m k b no_batches ne
+
+-- ---- ports
+-- a port stays one, where the batches are as they were
+pub moved : (t : Shown) (p : Port) (z : TableId) (l : Known) → IsPortOf t p → z ≡ p.table → l.cpu ≡ p.known.cpu → l.limbo ≡ p.known.limbo
+    → (in_run (events_of l.cpu l.seen) ≡ true → count_of t.about l + 1 < 2 ^ 64) → IsPortOf t (record { table = z; known = l; arenas = p.arenas; batches = p.batches })
+moved t p z l h table cpu limbo room = record {
+  table = table ∙ h.table;
+  cpu = subst (λ (c : ℕ). c < t.about.shape.cpus) (sym cpu) h.cpu;
+  even = h.even;
+  room = room;
+  limbo = ap length limbo ∙ h.limbo;
+  arenas = h.arenas;
+  batches = batches_stay t.about p.known l (length t.about.shape.maps) p.batches limbo h.batches;
+}
+
+pub begins : (t : Shown) (p : Port) (z : TableId) (l : Known) (r : Result (Unit {0}) Worn) → IsPortOf t p → z ≡ p.table → OnOk r (Told t.about p.known Begin l) → OnOk r (count_of t.about p.known + 2 < 2 ^ 64)
+    → OnErr r (l ≡ p.known) → IsPortOf t (record { table = z; known = l; arenas = p.arenas; batches = p.batches })
+begins t p z l (Ok u) h table told room same = moved t p z l h table (ap (λ (k : Known). k.cpu) told.after) (ap (λ (k : Known). k.limbo) told.after)
+    (λ now. let n = turned t.about p.known l Begin told.seen (ap (λ (k : Known). k.cpu) told.after) in omega (arith, room))
+begins t p z l (Err e) h table told room same = moved t p z l h table (ap (λ (k : Known). k.cpu) same) (ap (λ (k : Known). k.limbo) same)
+    (subst (λ (k : Known). in_run (events_of k.cpu k.seen) ≡ true → count_of t.about k + 1 < 2 ^ 64) (sym same) h.room)
+
+-- ---- the end of a run
+pub ends_first : (t : Shown) (p : Port) (l : Known) → IsPortOf t p → HasNothing p.known → Told t.about p.known End l → IsEnding t l l p.batches
+ends_first t p l h nothing told =
+    let limbo = ap (λ (k : Known). k.limbo) told.after in record {
+      cpu = refl;
+      seen = refl;
+      nothing = record {
+        fresh = ap (λ (k : Known). k.fresh) told.after ∙ nothing.fresh;
+        locks = ap (λ (k : Known). k.locks) told.after ∙ nothing.locks;
+        used = λ m. ap (λ (x : List Limbo). (limbo_at x m).used) limbo ∙ nothing.used m;
+      };
+      limbo = ap length limbo ∙ h.limbo;
+      batches = batches_stay t.about p.known l (length t.about.shape.maps) p.batches limbo h.batches;
+    }
+
+pub reclaims : (t : Shown) (ended l l' : Known) (m : ℕ) (bs : List Batches) (b : Batches) → m < length t.about.shape.maps → b.map ≡ m → Keeps m l l' → Tracks t.about l' m b.young b.aged b.noted → IsEnding t ended l bs → IsEnding t ended l' (set bs m b)
+reclaims t ended l l' m bs b here name keeps tracks i = record {
+  cpu = keeps.cpu ∙ i.cpu;
+  seen = keeps.seen ∙ i.seen;
+  nothing = record {
+    fresh = keeps.fresh ∙ i.nothing.fresh;
+    locks = keeps.locks ∙ i.nothing.locks;
+    used = λ k. by_equal k m
+        (λ e. subst (λ (j : ℕ). (limbo_at l'.limbo j).used ≡ []) (sym e) (keeps.used ∙ i.nothing.used m))
+        (λ ne. ap (λ (x : Limbo). x.used) (keeps.others k ne) ∙ i.nothing.used k);
+  };
+  limbo = keeps.size ∙ i.limbo;
+  batches = batches_change t.about l l' (length t.about.shape.maps) m bs b keeps.size keeps.others here name tracks i.batches;
+}
+
+-- the run has ended
+pub ends_last : (t : Shown) (p : Port) (z : TableId) (ended l : Known) (bs : List Batches) → IsPortOf t p → runs p ≡ true → z ≡ t.id → Told t.about p.known End ended → IsEnding t ended l bs → IsPortOf t (record { table = z; known = l; arenas = p.arenas; batches = bs })
+ends_last t p z ended l bs h running table told i =
+    let cpu = i.cpu ∙ ap (λ (k : Known). k.cpu) told.after in record {
+      table = table;
+      cpu = subst (λ (c : ℕ). c < t.about.shape.cpus) (sym cpu) h.cpu;
+      even = h.even;
+      room = λ now. absurd (
+          let n = turned t.about p.known l End (subst (Saw t.about p.known End) (sym i.seen) told.seen) cpu in grind (arith, nat_tests));
+      limbo = i.limbo;
+      arenas = h.arenas;
+      batches = i.batches;
+    }

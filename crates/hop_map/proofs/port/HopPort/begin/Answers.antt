@@ -1,0 +1,13 @@
+use Rattle.std.proofs.Common.{◌≡◌, sym, subst, ◌∙◌}
+use Rattle.hop_map.specs.Port.{Port, IsPortOf}
+use Rattle.hop_map.proofs.Ports.{port_with, port_is, begins}
+use Rattle.hop_map.proofs.port.HopPort.begin.Goals as goal
+
+pub returns-clause-fits : goal.returns-clause-fits
+returns-clause-fits c =
+    let i = c.self.inside in
+    let s = c.in-Some.lane in
+    let l = c.begin_run-begun.new.lane in
+    let e = c.begin_run-begun.ensures in
+    let is : port_with s i.arenas.items i.batches.items ≡ c.args.self.now = sym (port_is i c.take.result s c.take.ensures.value c.in-Some.is) ∙ c.self.view_is in
+    begins c.args.table.now (port_with s i.arenas.items i.batches.items) l.table l.known c.begin_run-begun.result (subst (IsPortOf c.args.table.now) (sym is) c.requires.fits) e.table e.begun e.room e.unchanged

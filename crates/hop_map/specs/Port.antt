@@ -1,0 +1,116 @@
+-- What contracts see of a port, and of the store that is left when all are back.
+use Rattle.std.specs.Prelude.{◌≡◌, ◌≢◌, ℕ, ◌+◌, ◌%◌, ◌^◌, ◌<◌, Bool, true, List, [], ◌∷◌, Option, Some, None, All, length, slice_index_or}
+use mathlib.Core.Option.{some}
+use lib.ListN.{get_elem?}
+use Rattle.atomic_table.specs.Seated.{TableId}
+use Rattle.bpf_shared.specs.declared.events.Event.{Event}
+use Rattle.bpf_shared.specs.declared.events.Entry.{Entry}
+use Rattle.bpf_shared.specs.History.{events_of}
+use Rattle.hop_words.specs.declared.known.About.{About}
+use Rattle.hop_words.specs.declared.known.Known.{Known}
+use Rattle.hop_words.specs.Ghost.{limbo_at}
+use Rattle.hop_words.specs.Inside.{Shown, Standing, nobody}
+use Rattle.hop_words.specs.Kinds.{in_run, count_of, Saw}
+use Rattle.hop_words.specs.Seats.{IsWithin}
+use Rattle.hop_arena.specs.declared.arena.Arena.{Arena}
+use Rattle.hop_arena.specs.Claiming.{IsArena}
+use Rattle.hop_epoch.specs.declared.batches.Batches.{Batches}
+use Rattle.hop_epoch.specs.Batch.{Tracks}
+use Rattle.hop_map.specs.declared.port.HopPort.TheInside.{Inside as InPort}
+
+-- a port's table, what its CPU knows, and by map where it looks for free elements and what it took out
+pub record Port : Type 0 where
+  pub table : TableId
+  pub known : Known
+  pub arenas : List Arena
+  pub batches : List Batches
+
+abbrev pub no_standing : Standing
+no_standing = record { table = record { words = 0; slots = 0; views_name = 0; atom = 0; block = 0; offset = 0; slot_names = [] }; known = nobody }
+
+abbrev pub standing_in : Option Standing → Standing
+standing_in None = no_standing
+standing_in (Some s) = s
+
+abbrev pub port_of : InPort → Port
+port_of p = record { table = (standing_in p.lane).table; known = (standing_in p.lane).known; arenas = p.arenas.items; batches = p.batches.items }
+
+-- the CPU has no element in hand, neither a fresh nor a used one, and no lock
+pub record HasNothing (l : Known) : Type 0 where
+  pub fresh : l.fresh ≡ []
+  pub locks : l.locks ≡ []
+  pub used : (m : ℕ) → (limbo_at l.limbo m).used ≡ []
+
+abbrev pub IsUnlocked : Known → Type 0
+IsUnlocked l = l.locks ≡ []
+
+-- between two calls the CPU's lane is there, and owns nothing
+abbrev pub IsIdle : InPort → Type 0
+IsIdle p = (p.lane ≡ Some (standing_in p.lane)) × HasNothing (standing_in p.lane).known
+
+abbrev pub own_events : Port → List Event
+own_events p = events_of p.known.cpu p.known.seen
+
+-- whether the port's CPU is in a run
+abbrev pub runs : Port → Bool
+runs p = in_run (own_events p)
+
+abbrev pub no_arena : Arena
+no_arena = record { map = 0; elements = 0; start = 0 }
+
+abbrev pub no_batches : Batches
+no_batches = record { map = 0; young = None; aged = None; noted = [] }
+
+abbrev pub arena_at : List Arena → ℕ → Arena
+arena_at xs m = slice_index_or xs m no_arena
+
+abbrev pub batches_at : List Batches → ℕ → Batches
+batches_at xs m = slice_index_or xs m no_batches
+
+-- of each of the first n maps where to look for free elements
+pub record AreArenas (a : About) (n : ℕ) (xs : List Arena) : Type 0 where
+  pub size : length xs ≡ n
+  pub map : (m : ℕ) → m < n → (arena_at xs m).map ≡ m
+  pub each : (m : ℕ) → m < n → IsArena a m (arena_at xs m).elements (arena_at xs m).start
+
+-- of each of the first n maps the two batches, as the CPU knows them
+pub record AreBatches (a : About) (l : Known) (n : ℕ) (xs : List Batches) : Type 0 where
+  pub size : length xs ≡ n
+  pub map : (m : ℕ) → m < n → (batches_at xs m).map ≡ m
+  pub each : (m : ℕ) → m < n → Tracks a l m (batches_at xs m).young (batches_at xs m).aged (batches_at xs m).noted
+
+-- the port is one of this table's. In a run its counter can count once more
+pub record IsPortOf (t : Shown) (p : Port) : Type 0 where
+  pub table : p.table ≡ t.id
+  pub cpu : p.known.cpu < t.about.shape.cpus
+  pub even : t.about.count % 2 ≡ 0
+  pub room : runs p ≡ true → count_of t.about p.known + 1 < 2 ^ 64
+  pub limbo : length p.known.limbo ≡ length t.about.shape.maps
+  pub arenas : AreArenas t.about (length t.about.shape.maps) p.arenas
+  pub batches : AreBatches t.about p.known (length t.about.shape.maps) p.batches
+
+-- the port's CPU does this: of what it has seen it is the last, behind all that it had seen and behind events of others
+pub record Does (a : About) (p : Port) (e : Event) (q : Port) : Type 0 where
+  pub table : q.table ≡ p.table
+  pub cpu : q.known.cpu ≡ p.known.cpu
+  pub seen : Saw a p.known e q.known.seen
+
+abbrev pub known_of : Port → Known
+known_of p = p.known
+
+-- these are ports of this table, and each of its CPUs has one
+pub record IsAllOf (t : Shown) (ports : List Port) : Type 0 where
+  pub table : All (λ p. p.table ≡ t.id) ports
+  pub each : (c : ℕ) → c < t.about.shape.cpus → (k : ℕ) × (p : Port) × (get_elem? ports k ≡ some p) × (p.known.cpu ≡ c)
+
+-- what the port has seen is its CPU's part of this history: a beginning with all its own events
+abbrev pub IsPartOf : List Entry → Port → Type 0
+IsPartOf history p = IsWithin p.known history
+
+-- what a run that has ended leaves of a CPU, while batches are looked at
+pub record IsEnding (t : Shown) (ended l : Known) (bs : List Batches) : Type 0 where
+  pub cpu : l.cpu ≡ ended.cpu
+  pub seen : l.seen ≡ ended.seen
+  pub nothing : HasNothing l
+  pub limbo : length l.limbo ≡ length t.about.shape.maps
+  pub batches : AreBatches t.about l (length t.about.shape.maps) bs

@@ -1,0 +1,45 @@
+//! What is left of a store whose ports are all back.
+ghost use Rattle.std.specs.Prelude.{◌≡◌, ◌++◌, All};
+ghost use Rattle.bpf_shared.specs.History.{IsLegal};
+ghost use Rattle.hop_map.specs.Port.{IsAllOf, IsPartOf};
+
+use crate::port::HopPort;
+use hop_words::{HopTable, Rest, Returned};
+use std::marker::Model;
+
+/// What is left of a store. Contracts see the words and one history of all its calls.
+#[derive(Drop)]
+pub struct Closed {
+    rest: Rest,
+}
+
+impl Model for Closed {
+    ghost use Rattle.hop_words.specs.Closing.{Ending};
+
+    ghost Value = { Ending };
+
+    ghost view = { λ s. s.rest };
+}
+
+/// Takes all ports of a store back. There is one legal history of the store, of which each port has
+/// seen its CPU's part.
+pub fn gather(table: HopTable, ports: Vec<HopPort>) -> Closed
+    requires all { IsAllOf table ports.items }
+    ensures about { result.about ≡ table.about }
+    ensures legal { IsLegal result.about.shape result.history }
+    ensures parts { All (IsPartOf result.history) ports.items }
+{
+    let mut back = Returned::new(&table);
+    'ports: for port in ports {
+        let HopPort {
+            lane,
+            arenas: _,
+            batches: _,
+        } = port;
+        let Some(lane) = lane else { unreachable!() };
+        back.take(&table, lane);
+    }
+    let rest = table.close(back);
+    let _shape = &rest.about().shape;
+    Closed { rest }
+}
