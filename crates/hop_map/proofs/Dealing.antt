@@ -1,6 +1,6 @@
 -- The ports of a new store, and of one whose ports are back.
 use Rattle.std.proofs.Common.{◌≡◌, ◌≢◌, ℕ, zero, suc, ◌+◌, ◌%◌, ◌^◌, ◌<◌, ◌≤◌, true, false, List, [], ◌∷◌, ◌++◌, Option, None, length, map, All, refl, ap, sym, subst, ◌∙◌, arith, append_assoc}
-use Rattle.std.proofs.lemmas.List.{length-append, append-nil, get_or_append_left, get_or_default}
+use Rattle.std.proofs.lemmas.List.{length-append, get_or_append_left}
 use Rattle.std.proofs.lemmas.List.Elements.{All-nil, All-cons, All-head, All-tail}
 use Rattle.std.proofs.Math.Seq.{get_or-append_seam}
 use mathlib.Core.Option.{some, some-injective, some-ne-none}
@@ -17,7 +17,7 @@ use Rattle.hop_words.specs.Ghost.{Each, IsElement, limbo_at, no_limbo}
 use Rattle.hop_words.specs.Inside.{Shown}
 use Rattle.hop_words.specs.Opens.{no_limbos, new_lane, lanes_from}
 use Rattle.hop_words.specs.Kinds.{in_run}
-use Rattle.hop_words.specs.Seats.{view, IsWhole, IsWithin}
+use Rattle.hop_words.specs.Seats.{view, IsWhole}
 use Rattle.hop_words.specs.Closing.{AreAllBack}
 use Rattle.hop_arena.specs.declared.arena.Arena.{Arena}
 use Rattle.hop_arena.specs.Claiming.{IsArena}

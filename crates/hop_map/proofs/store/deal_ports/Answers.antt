@@ -1,6 +1,5 @@
-use Rattle.std.proofs.Common.{◌≡◌, ◌++◌, List, [], ◌∷◌, All, map, ap, sym, subst, ◌∙◌, arith}
+use Rattle.std.proofs.Common.{◌++◌, List, [], ◌∷◌, All, map, ap, sym, subst, ◌∙◌, arith}
 use Rattle.std.proofs.lemmas.List.Elements.{All-nil, All-cons, All-tail, All-append}
-use Rattle.hop_words.specs.declared.known.Known.{Known}
 use Rattle.hop_words.specs.Opens.{lanes_from}
 use Rattle.hop_map.specs.Port.{Port, IsPortOf, known_of}
 use Rattle.hop_map.specs.Stores.{IsNewLane}

@@ -1,4 +1,4 @@
-use Rattle.std.proofs.Common.{◌≡◌, ◌+◌, List, ap, sym, subst, ◌∙◌, arith, length}
+use Rattle.std.proofs.Common.{◌+◌, List, ap, sym, subst, ◌∙◌, arith, length}
 use Rattle.hop_words.specs.declared.known.Limbo.{Limbo}
 use Rattle.hop_words.specs.Ghost.{limbo_at}
 use Rattle.hop_map.specs.Port.{AreBatches}

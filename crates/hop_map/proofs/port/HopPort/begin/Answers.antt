@@ -1,5 +1,5 @@
 use Rattle.std.proofs.Common.{◌≡◌, sym, subst, ◌∙◌}
-use Rattle.hop_map.specs.Port.{Port, IsPortOf}
+use Rattle.hop_map.specs.Port.{IsPortOf}
 use Rattle.hop_map.proofs.Ports.{port_with, port_is, begins}
 use Rattle.hop_map.proofs.port.HopPort.begin.Goals as goal
 
