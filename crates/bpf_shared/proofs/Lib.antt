@@ -19,3 +19,4 @@ pub mod Accessing
 pub mod Updating
 pub mod Settling
 mod Listing
+pub mod Lasting

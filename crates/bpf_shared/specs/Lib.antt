@@ -14,6 +14,7 @@ pub mod Rows
 pub mod Contents
 pub mod Changes
 pub mod Laws
+pub mod Lasting
 pub mod Listing
 pub mod Shows
 pub mod Own

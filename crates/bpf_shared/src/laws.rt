@@ -2,6 +2,7 @@
 //!
 //! These functions do nothing: their contracts are the laws, which a proof cites.
 ghost use Rattle.bpf_shared.specs.Laws.{LegalIsSound, ValuesStay, RefusalsChangeNothing, UpdatesMakeValues, OneValueIsReached, WritesTouchNamedBytes, CallsHaveOneReply};
+ghost use Rattle.bpf_shared.specs.Lasting.{UpdatesAreFound, DeletionsAreFound, HeldValuesStay};
 ghost use Rattle.bpf_shared.specs.Own.{OwnEventsTell};
 ghost use Rattle.bpf_shared.specs.Legality.{PassagesAreLegal};
 
@@ -24,6 +25,22 @@ pub fn refusals_change_nothing()
 /// An update that is done makes a new value, and writes into no old one.
 pub fn updates_make_values()
     ensures { UpdatesMakeValues }
+{}
+
+/// After an update that is done a lookup of the key, with no update or deletion of it between, finds
+/// the new value, and its bytes are those given, until somebody writes there.
+pub fn updates_are_found()
+    ensures { UpdatesAreFound }
+{}
+
+/// After a deletion that is done a lookup of the key, with no update of it between, finds nothing.
+pub fn deletions_are_found()
+    ensures { DeletionsAreFound }
+{}
+
+/// What a run holds it holds until it ends, in its place, and no other value is placed there.
+pub fn held_values_stay()
+    ensures { HeldValuesStay }
 {}
 
 /// The bytes of one access lie in one held value.
