@@ -148,8 +148,8 @@ updates_are_found s t u w c d m key bytes flags log found so a h without l =
       span = l.1.1 ∙ ap (span_of u) leads;
       size = ap (λ (p : Span). p.size) stays.1 ∙ (sym (sound.sizes v there) ∙ ap (λ (bs : List ℕ). length bs) makes.bytes_new);
       bytes_there = λ b inside none.
-        bytes_last t u v b log sound there (subst (IsIn b) stays.1 inside) h none
-        ∙ (ap (λ (bs : List ℕ). slice_index bs (b - (t.value v).span.at)) makes.bytes_new ∙ ap (λ (p : Span). slice_index bytes (b - p.at)) (sym stays.1));
+          bytes_last t u v b log sound there (subst (IsIn b) stays.1 inside) h none
+          ∙ (ap (λ (bs : List ℕ). slice_index bs (b - (t.value v).span.at)) makes.bytes_new ∙ ap (λ (p : Span). slice_index bytes (b - p.at)) (sym stays.1));
     }
 
 pub deletions_are_found : DeletionsAreFound

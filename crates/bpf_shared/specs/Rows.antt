@@ -63,6 +63,10 @@ key_at t k = key_of t (slice_index t.order k)
 abbrev pub IsLinked : Rows → ℕ → Type 0
 IsLinked t i = (k : ℕ) × (k < length t.order) × (slice_index t.order k ≡ i)
 
+-- all marks below this place are set
+abbrev pub AreMarked : List Bool → ℕ → Type 0
+AreMarked marks n = (i : ℕ) → i < n → slice_index_or marks i false ≡ true
+
 pub record IsTable (t : Rows) : Type 0 where
   pub shape : IsMapShape t.shape
   pub cpus : t.cpus ≤ 16

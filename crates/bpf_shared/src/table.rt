@@ -5,7 +5,7 @@ ghost use Rattle.bpf_shared.specs.Access.{bytes_in};
 ghost use Rattle.bpf_shared.specs.Runs.{run_of, count_of};
 ghost use Rattle.bpf_shared.specs.Shape.{IsMapShape, IsValueSpan, elements, element_span, element_stride};
 ghost use Rattle.bpf_shared.specs.Listing.{pair_of, row_pair};
-ghost use Rattle.bpf_shared.specs.Rows.{key_of, bytes_of, run_left, run_looked_up, IsLinked, IsTable, IsBlank, IsGap, IsKeyAt, IsKeptRow, IsTakenRow, IsLowestFreeRow, HasCurrent, Erases, noted_row, linked_row, unlinked_row, stored_row, Forgets, PutsRow, TakesRow};
+ghost use Rattle.bpf_shared.specs.Rows.{AreMarked, key_of, bytes_of, run_left, run_looked_up, IsLinked, IsTable, IsBlank, IsGap, IsKeyAt, IsKeptRow, IsTakenRow, IsLowestFreeRow, HasCurrent, Erases, noted_row, linked_row, unlinked_row, stored_row, Forgets, PutsRow, TakesRow};
 
 use crate::bytes::{load, store};
 use crate::events::{MapAnswer, Size, Span};
@@ -29,6 +29,8 @@ pub struct Table {
     order: Vec<u32>,
     /// By element, whether it is in the map.
     linked: Vec<bool>,
+    /// Each element below this one is in the map.
+    filled: usize,
     /// The keys of the elements, one behind the other.
     keys: Vec<u8>,
     /// The values of the elements, one behind the other.
@@ -41,14 +43,14 @@ pub struct Table {
 
 impl Model for Table {
     ghost use Rattle.std.specs.Prelude.{◌≤◌, vec_capacity};
-    ghost use Rattle.bpf_shared.specs.Rows.{Rows, IsTable};
+    ghost use Rattle.bpf_shared.specs.Rows.{Rows, IsTable, AreMarked};
 
     ghost Value = { Rows };
 
     ghost view = { λ t. record { shape = t.shape; cpus = t.cpus; order = t.order.items; linked = t.linked.items; keys = t.keys.items; values = t.values.items; looked_up = t.looked_up.items; left = t.left.items } };
 
     // There is room for the order of as many keys as the map may have.
-    ghost invariant = { λ t. IsTable (record { shape = t.shape; cpus = t.cpus; order = t.order.items; linked = t.linked.items; keys = t.keys.items; values = t.values.items; looked_up = t.looked_up.items; left = t.left.items }) × (t.shape.max ≤ vec_capacity t.order) };
+    ghost invariant = { λ t. IsTable (record { shape = t.shape; cpus = t.cpus; order = t.order.items; linked = t.linked.items; keys = t.keys.items; values = t.values.items; looked_up = t.looked_up.items; left = t.left.items }) × (t.shape.max ≤ vec_capacity t.order) × AreMarked t.linked.items t.filled };
 }
 
 /// Some CPU is still in the run that is noted for it.
@@ -90,6 +92,19 @@ fn put_part(bytes: &mut [u8], first: usize, others: &[u8])
     bytes[first..first + others.len()].copy_from_slice(others);
 }
 
+/// The first from a place on that isn't marked, where all before that place are marked.
+fn first_unmarked(marks: &[bool], from: usize) -> usize
+    requires { AreMarked marks.now from }
+    ensures { AreMarked marks.now result }
+{
+    for place in from..marks.len() {
+        if !marks[place] {
+            return place;
+        }
+    }
+    from.max(marks.len())
+}
+
 /// Takes out the notes of one CPU in so many elements.
 #[tactic(auto, using(crate::proofs::Blocks::in_block))]
 fn erase(notes: &mut [u64], elements: usize, cpus: usize, cpu: usize)
@@ -118,6 +133,7 @@ impl Table {
             cpus,
             order: Vec::with_capacity(alloc, shape.max as usize)?,
             linked: vec![in alloc; false; count]?,
+            filled: 0,
             keys: vec![in alloc; 0; count * shape.key as usize]?,
             values: vec![in alloc; 0; count * shape.value as usize]?,
             looked_up: vec![in alloc; 0; notes]?,
@@ -231,7 +247,7 @@ impl Table {
         ensures found { IfSome result (IsLowestFreeRow runs.now self.now) }
         ensures none { IfNone result ((i : ℕ) → i < elements self.now.shape → IsTakenRow runs.now self.now i) }
     {
-        for element in 0..self.linked.len() {
+        for element in self.filled..self.linked.len() {
             if !self.is_taken(element, runs) {
                 return Some(element);
             }
@@ -249,6 +265,7 @@ impl Table {
     {
         let element = self.order.remove(position) as usize;
         self.linked[element] = false;
+        self.filled = self.filled.min(element);
         note_runs_at(&mut self.left, element * runs.len(), runs);
     }
 
@@ -266,6 +283,7 @@ impl Table {
     {
         let _ = self.order.insert(position, element as u32);
         self.linked[element] = true;
+        self.filled = first_unmarked(&self.linked, self.filled);
         put_part(&mut self.keys, element * key.len(), key);
         put_part(&mut self.values, element * value.len(), value);
     }

@@ -1,19 +1,34 @@
-use Rattle.std.proofs.Common.{rules, ◌≡◌, ℕ, ◌+◌, ◌*◌, ◌<◌, ◌≤◌, true, List, length, set, sym, ap, subst, ◌∙◌, arith}
+use Rattle.std.proofs.Common.{rules, ◌≡◌, ℕ, ◌+◌, ◌*◌, ◌<◌, ◌≤◌, Bool, true, false, inl, inr, List, length, get_or, set, sym, ap, subst, ◌∙◌, arith}
 use Rattle.std.specs.List.{insert}
-use Rattle.std.proofs.lemmas.List.{with_items_is}
+use Rattle.std.proofs.lemmas.List.{with_items_is, get_or-set_same, get_or-set_other}
 use Rattle.std.proofs.lemmas.Grind.{common_steps}
 use Rattle.bpf_base.specs.Bytes.{with_part}
 use Rattle.bpf_base.proofs.Parts.{length-with_part}
 use Rattle.bpf_shared.specs.Rows.{Rows, IsTable, linked_row}
+use Rattle.bpf_shared.proofs.Puts.{equal_or_not}
 use Rattle.bpf_shared.proofs.Linking.{linked_table}
 use Rattle.bpf_shared.proofs.table.Table.link.Goals as goal
+
+pub first_unmarked-self-inside-requires : goal.first_unmarked-self-inside-requires
+first_unmarked-self-inside-requires c i l =
+    let t = c.args.self.now in
+    let e = c.args.element in
+    let items = c.self.inside.linked.items in
+    let is : IsTable t = subst IsTable c.self.view_is c.self.invariant.0 in
+    let marks : items ≡ t.linked = ap (λ (r : Rows). r.linked) c.self.view_is in
+    let there : e < length items = subst (λ (ms : List Bool). e < length ms) (sym marks) (omega (arith, is.linked, c.requires.element)) in
+    let mark : get_or (set items e true) i false ≡ true = elim (equal_or_not i e) [
+      | inl s ↦ ap (λ (k : ℕ). get_or (set items e true) k false) s ∙ get_or-set_same items e true false there
+      | inr ne ↦ get_or-set_other items e i true false ne ∙ c.self.invariant.2 i l
+    ] in
+    subst (λ (ms : List Bool). get_or ms i false ≡ true) (sym c.deref.ensures.value) mark
 
 pub invariant_of-self : goal.invariant_of-self
 invariant_of-self c =
     let t = c.args.self.now in
     let is : IsTable t = subst IsTable c.self.view_is c.self.invariant.0 in
     let made : ◌≡◌ {A = Rows} _ (linked_row c.args.position c.args.element c.args.key.now c.args.value.now t) = grind (arith, common_steps) in
-    (subst IsTable (sym made) (linked_table t is c.args.position c.args.element c.args.key.now c.args.value.now c.requires.gap c.requires.element c.requires.free c.requires.key c.requires.value c.requires.room), grind (arith, common_steps))
+    (subst IsTable (sym made) (linked_table t is c.args.position c.args.element c.args.key.now c.args.value.now c.requires.gap c.requires.element c.requires.free c.requires.key c.requires.value c.requires.room), grind (arith, common_steps), λ i l. subst (λ (ms : List Bool). get_or ms i false ≡ true) c.deref.ensures.value (c.first_unmarked-self-inside.ensures i l))
 
 pub returns-clause-table : goal.returns-clause-table
 returns-clause-table c =

@@ -1,6 +1,6 @@
 use Rattle.std.proofs.Common.{◌≡◌, ℕ, ◌+◌, ◌*◌, ◌<◌, ◌≤◌, Bool, false, List, length, map, set, slice_index, sym, ap, subst, ◌∙◌, arith}
 use Rattle.std.specs.List.{remove}
-use Rattle.std.proofs.lemmas.List.{with_items_is, get_or_read, length-map}
+use Rattle.std.proofs.lemmas.List.{with_items_is, get_or_read, get_or-set_other, length-map}
 use Rattle.std.proofs.lemmas.Grind.{common_steps}
 use Rattle.bpf_base.specs.Bytes.{with_part}
 use Rattle.bpf_base.proofs.Parts.{length-with_part}
@@ -27,8 +27,14 @@ pub invariant_of-self : goal.invariant_of-self
 invariant_of-self c =
     let t = c.args.self.now in
     let is : IsTable t = subst IsTable c.self.view_is c.self.invariant.0 in
-    let made : ◌≡◌ {A = Rows} _ (unlinked_row c.args.runs.now c.args.position t) = grind (arith, common_steps) in
-    (subst IsTable (sym made) (unlinked_table c.args.runs.now t is c.args.position c.requires.position c.requires.runs), grind (arith, common_steps))
+    let made : ◌≡◌ {A = Rows} _ (unlinked_row c.args.runs.now c.args.position t) = grind (arith, common_steps) in (
+      subst IsTable (sym made) (unlinked_table c.args.runs.now t is c.args.position c.requires.position c.requires.runs),
+      grind (arith, common_steps),
+      λ i l.
+          (let lower = c.min-self-inside.ensures in
+          let below : i < c.self.inside.filled = omega (arith, lower) in
+          get_or-set_other c.self.inside.linked.items c.remove-element.result i false false (λ e. (let s : i ≡ c.remove-element.result = e in omega (arith, lower))) ∙ c.self.invariant.2 i below),
+    )
 
 pub returns-clause-table : goal.returns-clause-table
 returns-clause-table c =
