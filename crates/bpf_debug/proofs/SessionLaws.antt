@@ -1,0 +1,139 @@
+-- What a session's commands do, from what its functions ensure.
+use Rattle.std.proofs.Common.{◌≡◌, ℕ, ◌+◌, ◌*◌, ◌<◌, ◌≤◌, Bool, true, false, List, [], ◌∷◌, ◌++◌, length, inl, inr, refl, sym, ap, subst, ◌∙◌, arith, Option, Some, None, if◌then◌else◌}
+use Rattle.std.proofs.lemmas.Bool.{ltb-true}
+use Rattle.std.proofs.lemmas.List.Sums.{sum_by-le}
+use Rattle.std.proofs.Math.Nat.{mul-le-mul_left}
+use Rattle.bpf_loader.specs.Loaded.{Loaded}
+use Rattle.bpf_shared.specs.Contents.{has_cpu}
+use Rattle.bpf_cpu.specs.declared.machine.Turn.{Turn}
+use Rattle.bpf_cpu.specs.Task.{Stage, Task, Waiting, InHand, Ended}
+use Rattle.bpf_cpu.specs.Schedule.{World, TakesTurn, RunsSchedule}
+use Rattle.bpf_cpu.specs.Machine.{MachineState, Shows}
+use Rattle.bpf_cpu.specs.Questions.{open_in, open_jobs}
+use Rattle.bpf_debug.specs.declared.breakpoint.Breakpoint.{Breakpoint}
+use Rattle.bpf_debug.specs.Command.{Order, Break, Step, Go, Registers, Where, order_of}
+use Rattle.bpf_debug.specs.Answer.{IsWhere, IsRegisters, ended_text, break_line}
+use Rattle.bpf_debug.specs.Go.{Goes, has_break}
+use Rattle.bpf_debug.specs.Session.{SessionState, Scene, IsShown, IsPc, IsCpu, with_break, Follows, Obeys, Leaves, LeavesLine}
+use Rattle.bpf_debug.proofs.GoLaws.{goes_runs}
+
+-- ---- room
+
+open_small : (s : Stage) → open_in s ≤ 1
+open_small (Waiting context) = omega arith
+open_small (InHand state left) = omega arith
+open_small (Ended outcome) = omega arith
+
+-- a line for each job is enough
+pub enough : (jobs : List Task) (count room : ℕ) → count ≡ length jobs → 128 * count + 1024 ≤ room → 0 + 128 * open_jobs jobs + 128 ≤ room
+enough jobs count room counted fits =
+    let few : open_jobs jobs ≤ length jobs * 1 = sum_by-le (λ t. open_in t.stage) 1 jobs (λ k d inside. open_small _) in
+    let less : open_jobs jobs ≤ count = omega arith in
+    let scaled : 128 * open_jobs jobs ≤ 128 * count = mul-le-mul_left 128 less in
+    omega arith
+
+-- ---- a CPU that the store has
+pub is_cpu : (m : MachineState) (w : World) (c : ℕ) → has_cpu m.store c ≡ true → Shows m w → c < w.store.shape.cpus
+is_cpu m w c has shows = let below : c < length m.store.runs = ltb-true c (length m.store.runs) has in omega (arith, shows.store.cpus)
+
+-- ---- text behind an empty one
+pub alone : (room last text : List ℕ) → room ≡ [] → last ≡ room ++ text → last ≡ text
+alone room last text empty e = e ∙ ap (λ (s : List ℕ). s ++ text) empty
+
+module _ (m : MachineState) (names : List (List ℕ)) (breaks : List Breakpoint) where
+  pub stepped : (n : MachineState) (c : ℕ) (answer : Turn) (room mid last : List ℕ) → has_cpu m.store c ≡ true
+      → ((w : World) → Shows m w → (z : World) × TakesTurn w c answer z × Shows n z)
+      → room ≡ [] → mid ≡ room ++ ended_text c answer → ((text : List ℕ) × IsWhere n.jobs c text × (last ≡ mid ++ text))
+      → Leaves (record { machine = m; names = names; breaks = breaks }) (Step (Some c)) last (record { machine = n; names = names; breaks = breaks })
+  stepped n c answer room mid last has turns empty first place x shown =
+      let t = turns x.world shown.world in
+      let J : List Task → Type 0 = λ jobs. IsWhere jobs c place.0 in
+      let whole : last ≡ ended_text c answer ++ place.0 = place.2 ∙ ap (λ (s : List ℕ). s ++ place.0) (alone room mid (ended_text c answer) empty first) in
+      let y : Scene = record x { world = t.0 } in (
+        y,
+        c ∷ [],
+        (is_cpu m x.world c has shown.world, (answer, t.0, place.0, t.1, subst J (sym t.2.jobs) place.1, whole, refl, refl)),
+        record { world = t.2; names = shown.names; breaks = shown.breaks },
+      )
+
+  pub went : (n : MachineState) (room last : List ℕ) → room ≡ []
+      → ((w : World) → Shows m w → (z : World) × (turns : List ℕ) × (text : List ℕ) × Goes breaks w 0 [] turns text z × Shows n z × (last ≡ room ++ text))
+      → Leaves (record { machine = m; names = names; breaks = breaks }) Go last (record { machine = n; names = names; breaks = breaks })
+  went n room last empty goes x shown =
+      let g = goes x.world shown.world in
+      let B : List Breakpoint → Type 0 = λ bs. Goes bs x.world 0 [] g.1 last g.0 in
+      let T : List ℕ → Type 0 = λ text. Goes breaks x.world 0 [] g.1 text g.0 in
+      let all = subst B (sym shown.breaks) (subst T (sym (alone room last g.2 empty g.5)) g.3) in
+      let y : Scene = record x { world = g.0 } in
+      (y, g.1, (g.0, all, refl), record { world = g.4; names = shown.names; breaks = shown.breaks })
+
+  pub broken : (c p : ℕ) (more : List Breakpoint) (room last : List ℕ) → has_cpu m.store c ≡ true → IsPc m.programs p
+      → more ≡ with_break breaks c p → room ≡ [] → last ≡ room ++ break_line c p
+      → Leaves (record { machine = m; names = names; breaks = breaks }) (Break (Some c) (Some p)) last (record { machine = m; names = names; breaks = more })
+  broken c p more room last has begins kept empty put x shown =
+      let y : Scene = record x { breaks = with_break x.breaks c p } in
+      let P : List Loaded → Type 0 = λ ps. IsPc ps p in (
+        y,
+        [],
+        (is_cpu m x.world c has shown.world, (subst P (sym shown.world.programs) begins, alone room last (break_line c p) empty put, refl, refl)),
+        record { world = shown.world; names = shown.names; breaks = ap (λ (bs : List Breakpoint). with_break bs c p) shown.breaks ∙ sym kept },
+      )
+
+-- a breakpoint that is there, and one more
+pub is_kept : (breaks : List Breakpoint) (c p : ℕ) → true ≡ has_break breaks c p → breaks ≡ with_break breaks c p
+is_kept breaks c p e = ap (λ (b : Bool). if b then breaks else breaks ++ record { cpu = c; pc = p } ∷ []) e
+
+pub is_added : (breaks : List Breakpoint) (c p : ℕ) → false ≡ has_break breaks c p → breaks ++ record { cpu = c; pc = p } ∷ [] ≡ with_break breaks c p
+is_added breaks c p e = ap (λ (b : Bool). if b then breaks else breaks ++ record { cpu = c; pc = p } ∷ []) e
+
+-- ---- questions
+pub told_where : (s : SessionState) (c : ℕ) (room last : List ℕ) → has_cpu s.machine.store c ≡ true → room ≡ []
+    → ((text : List ℕ) × IsWhere s.machine.jobs c text × (last ≡ room ++ text)) → Leaves s (Where (Some c)) last s
+told_where s c room last has empty place x shown =
+    let J : List Task → Type 0 = λ jobs. IsWhere jobs c last in
+    let T : List ℕ → Type 0 = λ text. IsWhere s.machine.jobs c text in
+    let same = alone room last place.0 empty place.2 in
+    (x, [], (is_cpu s.machine x.world c has shown.world, subst J (sym shown.world.jobs) (subst T (sym same) place.1), (refl, refl)), shown)
+
+pub told_registers : (s : SessionState) (c : ℕ) (room last : List ℕ) → has_cpu s.machine.store c ≡ true → room ≡ []
+    → ((text : List ℕ) × IsRegisters s.machine.jobs c text × (last ≡ room ++ text)) → Leaves s (Registers (Some c)) last s
+told_registers s c room last has empty place x shown =
+    let J : List Task → Type 0 = λ jobs. IsRegisters jobs c last in
+    let T : List ℕ → Type 0 = λ text. IsRegisters s.machine.jobs c text in
+    let same = alone room last place.0 empty place.2 in
+    (x, [], (is_cpu s.machine x.world c has shown.world, subst J (sym shown.world.jobs) (subst T (sym same) place.1), (refl, refl)), shown)
+
+-- ---- each command's turns are a schedule
+pub follows_runs : (x : Scene) (order : Order) (text turns : List ℕ) (y : Scene) → Follows x order text turns y → RunsSchedule x.world turns y.world
+follows_runs x (Break (Some c) (Some p)) text turns y f =
+    let P : List ℕ → Type 0 = λ cs. RunsSchedule x.world cs y.world in
+    subst P (sym f.1.2) (ap (λ (z : Scene). z.world) f.1.3)
+follows_runs x (Step (Some c)) text turns y f =
+    let P : List ℕ → Type 0 = λ cs. RunsSchedule x.world cs y.world in
+    subst P (sym f.1.6) (f.1.0, f.1.1, f.1.3, ap (λ (z : Scene). z.world) f.1.7)
+follows_runs x Go text turns y f =
+    let P : World → Type 0 = λ w. RunsSchedule x.world turns w in
+    subst P (sym (ap (λ (z : Scene). z.world) f.2)) (goes_runs x.breaks x.world 0 [] turns text f.0 f.1)
+follows_runs x (Registers (Some c)) text turns y f =
+    let P : List ℕ → Type 0 = λ cs. RunsSchedule x.world cs y.world in
+    subst P (sym f.2.0) (ap (λ (z : Scene). z.world) f.2.1)
+follows_runs x (Where (Some c)) text turns y f =
+    let P : List ℕ → Type 0 = λ cs. RunsSchedule x.world cs y.world in
+    subst P (sym f.2.0) (ap (λ (z : Scene). z.world) f.2.1)
+follows_runs x (Break None p) text turns y f = absurd f
+follows_runs x (Break (Some c) None) text turns y f = absurd f
+follows_runs x (Step None) text turns y f = absurd f
+follows_runs x (Registers None) text turns y f = absurd f
+follows_runs x (Where None) text turns y f = absurd f
+
+-- ---- lines
+pub no_line : (s : SessionState) (fields : List (List ℕ)) (text : List ℕ) → fields ≡ [] → text ≡ [] → LeavesLine s fields text s
+no_line s fields text e none x shown =
+    let P : List (List ℕ) → Type 0 = λ fs. Obeys x fs text [] x in
+    (x, [], subst P (sym e) (none, (refl, refl)), refl, shown)
+
+pub line_done : (s t : SessionState) (fields : List (List ℕ)) (order : Order) (text : List ℕ) → Some order ≡ order_of fields → Leaves s order text t → LeavesLine s fields text t
+line_done s t [] order text e leaves x shown = let no : Some order ≡ None = e in cc
+line_done s t (f ∷ fs) order text e leaves x shown =
+    let l = leaves x shown in
+    (l.0, l.1, (order, sym e, l.2), follows_runs x order text l.1 l.0 l.2, l.3)

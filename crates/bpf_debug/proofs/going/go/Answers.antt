@@ -1,0 +1,79 @@
+use Rattle.std.proofs.Common.{◌≡◌, ℕ, ◌+◌, ◌<◌, ◌++◌, Bool, true, false, List, length, get_or, inl, inr, ◌⊎◌, refl, sym, subst, ◌∙◌, arith}
+use Rattle.std.specs.Prelude.{string_bytes, string_len, string_capacity, slice_set}
+use Rattle.std.proofs.lemmas.List.{length-set}
+use Rattle.bpf_debug.specs.Go.{AreIdle, StandsAt, has_break}
+use Rattle.bpf_debug.proofs.GoLaws.{Comes, Ends, starts, turned, ended, stopped, falls, fewer, not_idle, room_left, none_is}
+use Rattle.bpf_debug.proofs.going.go.Goals as goal
+use Rattle.bpf_debug.proofs.going.go.Goals.{then-gone-cpu+in_default-stop_at, else-gone-cpu}
+
+pub loop-cpu-init : goal.loop-cpu-init
+loop-cpu-init c = record {
+  comes = starts c.args.breakpoints.now c.args.machine.now (string_bytes c.args.out.now);
+  room = c.requires.room;
+  size = refl;
+}
+
+pub returns-in-Some-stop_at : goal.returns-in-Some-stop_at
+returns-in-Some-stop_at c =
+    let breaks = c.args.breakpoints.now in
+    let old = c.args.machine.now in
+    let new = c.loop-cpu.machine in
+    let before = string_bytes c.args.out.now in
+    let after = string_bytes c.loop-cpu.out in
+    let E : List ℕ → Type 0 = Ends breaks old new before c.loop-cpu.from c.loop-cpu.gone after c.loop-cpu.invariant.comes in
+    let small = c.in-Some.ensures.few in
+    subst E (sym c.put_stop.ensures) (stopped breaks old new before c.loop-cpu.from c.loop-cpu.gone after c.loop-cpu.invariant.comes c.in-Some.cpu c.in-Some-stop_at.pc (omega arith) c.in-Some.ensures.up c.if-gone-cpu.true c.in-Some-stop_at.ensures.stop.0 c.in-Some-stop_at.ensures.stop.1)
+
+pub loop-cpu-smaller : goal.loop-cpu-smaller
+loop-cpu-smaller c =
+    let breaks = c.args.breakpoints.now in
+    let old = c.args.machine.now in
+    let new = c.loop-cpu.machine in
+    let next = c.turn-turn.new.self in
+    let before = string_bytes c.args.out.now in
+    let after = string_bytes c.loop-cpu.out in
+    let w = c.requires.shown.0 in
+    let shows = c.requires.shown.1 in
+    fewer c.turn-turn.result new.jobs next.jobs
+    (falls c.turns_fall.ensures breaks old new next before after c.loop-cpu.from c.loop-cpu.gone c.in-Some.cpu c.turn-turn.result w shows c.loop-cpu.invariant.comes c.turn-turn.ensures.turn)
+    (not_idle breaks old new next before after c.loop-cpu.from c.loop-cpu.gone c.in-Some.cpu c.turn-turn.result w shows c.loop-cpu.invariant.comes c.in-Some.ensures.up.works c.turn-turn.ensures.turn)
+
+pub loop-cpu-preserved : goal.loop-cpu-preserved
+loop-cpu-preserved c =
+    let breaks = c.args.breakpoints.now in
+    let old = c.args.machine.now in
+    let new = c.loop-cpu.machine in
+    let next = c.turn-turn.new.self in
+    let before = string_bytes c.args.out.now in
+    let after = string_bytes c.loop-cpu.out in
+    let cpu = c.in-Some.cpu in
+    let marks = c.loop-cpu.gone in
+    let w = c.requires.shown.0 in
+    let shows = c.requires.shown.1 in
+    let comes = c.loop-cpu.invariant.comes in
+    let small = c.in-Some.ensures.few in
+    let size = c.loop-cpu.invariant.size in
+    let may : (get_or marks cpu false ≡ false) ⊎ ((p : ℕ) × StandsAt new.jobs cpu p × (has_break breaks cpu p ≡ false)) = elim c.if-gone-cpu.branch [
+      | then-gone-cpu+in_default-stop_at w ↦ inr (none_is _ w.stop_at.result w.stop_at.ensures.free w.in_default-stop_at.not-Some)
+      | else-gone-cpu w ↦ inl w.if-gone-cpu.false
+    ] in
+    let fall = falls c.turns_fall.ensures breaks old new next before after c.loop-cpu.from marks cpu c.turn-turn.result w shows comes c.turn-turn.ensures.turn in
+    let works = not_idle breaks old new next before after c.loop-cpu.from marks cpu c.turn-turn.result w shows comes c.in-Some.ensures.up.works c.turn-turn.ensures.turn in
+    let T : List ℕ → Type 0 = λ s. Comes breaks old before next (cpu + 1) (slice_set marks cpu true) s in
+    record {
+      comes = subst T (sym c.put_ended.ensures.text) (turned breaks old new before c.loop-cpu.from marks after comes next cpu c.turn-turn.result (omega arith) (omega arith) c.in-Some.ensures.up may c.turn-turn.ensures.turn);
+      room = room_left c.turn-turn.result new.jobs next.jobs (string_len c.loop-cpu.out) (string_len c.put_ended.new.out) (string_capacity c.loop-cpu.out) (string_capacity c.put_ended.new.out) fall works c.loop-cpu.invariant.room c.put_ended.ensures.room c.put_ended.ensures.size c.put_ended.ensures.none;
+      size = length-set marks cpu true ∙ size;
+    }
+
+pub returns : goal.returns
+returns c =
+    let breaks = c.args.breakpoints.now in
+    let old = c.args.machine.now in
+    let new = c.loop-cpu.machine in
+    let before = string_bytes c.args.out.now in
+    let after = string_bytes c.loop-cpu.out in
+    let comes = c.loop-cpu.invariant.comes in
+    let E : List ℕ → Type 0 = Ends breaks old new before c.loop-cpu.from c.loop-cpu.gone after comes in
+    let idle = none_is (AreIdle new.jobs 0 (length new.store.runs)) c.next_up.result c.next_up.ensures.idle c.in_default.not-Some in
+    subst E (sym c.put.ensures.text) (ended breaks old new before c.loop-cpu.from c.loop-cpu.gone after comes idle)

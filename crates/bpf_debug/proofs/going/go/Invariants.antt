@@ -1,0 +1,15 @@
+use Rattle.std.proofs.Common.{◌≡◌, ℕ, ◌+◌, ◌*◌, ◌≤◌, length}
+use Rattle.std.specs.Prelude.{string_bytes, string_len, string_capacity}
+use Rattle.bpf_cpu.specs.Questions.{open_jobs, turns_left}
+use Rattle.bpf_debug.proofs.GoLaws.{Comes}
+use Rattle.bpf_debug.proofs.going.go.Given as goal
+
+abbrev pub invariant-loop-cpu : goal.invariant-loop-cpu
+invariant-loop-cpu l = record {
+  comes : Comes l.breakpoints l.fn.machine (string_bytes l.fn.out) l.machine l.from l.gone (string_bytes l.out);
+  room : string_len l.out + 128 * open_jobs l.machine.jobs + 128 ≤ string_capacity l.out;
+  size : length l.gone ≡ 256;
+}
+
+abbrev pub decreases-loop-cpu : goal.decreases-loop-cpu
+decreases-loop-cpu l = turns_left l.machine.jobs

@@ -1,0 +1,11 @@
+use Rattle.std.proofs.Common.{◌≡◌, ℕ, ◌++◌, ◌∷◌, [], List, Option, Some, refl, sym, subst, ◌∙◌, map}
+use Rattle.std.specs.Prelude.{true, IfOk, string_bytes}
+use Rattle.bpf_shared.specs.Contents.{has_cpu}
+use Rattle.bpf_debug.specs.Command.{Order, Break, Step, Go, Registers, Where, said_by}
+use Rattle.bpf_debug.specs.Session.{SessionState, Leaves}
+use Rattle.bpf_debug.proofs.session.Session.break_at.Goals as goal
+
+pub returns-clause-answered : goal.returns-clause-answered
+returns-clause-answered c =
+    let P : Option ℕ → Type 0 = λ o. IfOk c.set_break.result (λ text. Leaves c.args.self.now (Break (Some c.args.cpu) o) (string_bytes text) c.set_break.new.self) in
+    subst P (sym c.in-Some.is) c.set_break.ensures.answered

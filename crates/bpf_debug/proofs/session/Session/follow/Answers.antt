@@ -1,0 +1,32 @@
+use Rattle.std.proofs.Common.{◌≡◌, ℕ, ◌++◌, ◌∷◌, [], List, Option, Some, refl, sym, subst, ◌∙◌, map}
+use Rattle.std.specs.Prelude.{true, IfOk, string_bytes}
+use Rattle.bpf_shared.specs.Contents.{has_cpu}
+use Rattle.bpf_debug.specs.Command.{Order, Break, Step, Go, Registers, Where, said_by}
+use Rattle.bpf_debug.specs.Session.{SessionState, Leaves}
+use Rattle.bpf_debug.specs.declared.command.Command.{Command}
+use Rattle.bpf_debug.proofs.session.Session.follow.Goals as goal
+
+pub returns-in-Break-clause-answered : goal.returns-in-Break-clause-answered
+returns-in-Break-clause-answered c =
+    let P : Command → Type 0 = λ o. IfOk c.break_cpu.result (λ text. Leaves c.args.self.now (said_by o) (string_bytes text) c.break_cpu.new.self) in
+    subst P (sym c.in-Break.is) c.break_cpu.ensures.answered
+
+pub returns-in-Step-clause-answered : goal.returns-in-Step-clause-answered
+returns-in-Step-clause-answered c =
+    let P : Command → Type 0 = λ o. IfOk c.step.result (λ text. Leaves c.args.self.now (said_by o) (string_bytes text) c.step.new.self) in
+    subst P (sym c.in-Step.is) c.step.ensures.answered
+
+pub returns-in-Go-clause-answered : goal.returns-in-Go-clause-answered
+returns-in-Go-clause-answered c =
+    let P : Command → Type 0 = λ o. IfOk c.go.result (λ text. Leaves c.args.self.now (said_by o) (string_bytes text) c.go.new.self) in
+    subst P (sym c.in-Go.is) c.go.ensures.answered
+
+pub returns-in-Registers-clause-answered : goal.returns-in-Registers-clause-answered
+returns-in-Registers-clause-answered c =
+    let P : Command → Type 0 = λ o. IfOk c.registers.result (λ text. Leaves c.args.self.now (said_by o) (string_bytes text) c.args.self.now) in
+    subst P (sym c.in-Registers.is) c.registers.ensures.answered
+
+pub returns-in-Where-clause-answered : goal.returns-in-Where-clause-answered
+returns-in-Where-clause-answered c =
+    let P : Command → Type 0 = λ o. IfOk c.standing.result (λ text. Leaves c.args.self.now (said_by o) (string_bytes text) c.args.self.now) in
+    subst P (sym c.in-Where.is) c.standing.ensures.answered

@@ -1,0 +1,46 @@
+use Rattle.std.proofs.Common.{◌≡◌, ℕ, ◌++◌, ◌∷◌, [], List, Option, Some, refl, sym, ap, subst, ◌∙◌, map}
+use Rattle.std.specs.Prelude.{true, false, IfOk, string_bytes}
+use Rattle.bpf_shared.specs.Contents.{has_cpu}
+use Rattle.bpf_debug.specs.Command.{Order, Break}
+use Rattle.bpf_debug.specs.Session.{SessionState, Leaves, IsPc, with_break}
+use Rattle.std.proofs.Common.{Result, Ok, Err, String, Global}
+use Rattle.bpf_debug.specs.declared.error.DebugError.{DebugError}
+use Rattle.bpf_debug.specs.declared.breakpoint.Breakpoint.{Breakpoint}
+use Rattle.bpf_debug.specs.Go.{has_break}
+use Rattle.bpf_debug.proofs.SessionLaws.{broken, is_kept, is_added}
+use Rattle.bpf_debug.proofs.session.Session.set_break.Goals as goal
+use Rattle.bpf_debug.proofs.session.Session.set_break.Goals.{in-Ok, in-Err}
+
+pub returns-then-has_break-clause-answered : goal.returns-then-has_break-clause-answered
+returns-then-has_break-clause-answered c =
+    let m = c.self.inside in
+    let names : List (List ℕ) = map (λ n. string_bytes n) m.names.items in
+    let breaks = m.breakpoints.items in
+    let last = string_bytes c.put_break.new.out in
+    let order = Break (Some c.args.cpu) (Some c.args.pc) in
+    let B : List Breakpoint → Type 0 = λ bs. true ≡ has_break bs c.args.cpu c.args.pc in
+    let there = subst B c.deref.ensures.value (sym c.if-has_break.true ∙ c.has_break.ensures) in
+    let P : SessionState → Type 0 = λ s. Leaves s order last s in
+    let H : SessionState → Type 0 = λ s. has_cpu s.machine.store c.args.cpu ≡ true in
+    let I : SessionState → Type 0 = λ s. IsPc s.machine.programs c.args.pc in
+    subst P c.self.view_is (broken m.machine names breaks c.args.cpu c.args.pc breaks (string_bytes c.in-Some.out) last (subst H (sym c.self.view_is) c.requires.served) (subst I (sym c.self.view_is) c.requires.begins) (is_kept breaks c.args.cpu c.args.pc there) c.in-Some.ensures.empty c.put_break.ensures)
+
+pub returns-clause-answered : goal.returns-clause-answered
+returns-clause-answered c =
+    let m = c.self.inside in
+    let names : List (List ℕ) = map (λ n. string_bytes n) m.names.items in
+    let breaks = m.breakpoints.items in
+    let last = string_bytes c.put_break.new.out in
+    let order = Break (Some c.args.cpu) (Some c.args.pc) in
+    let B : List Breakpoint → Type 0 = λ bs. false ≡ has_break bs c.args.cpu c.args.pc in
+    let absent = subst B c.deref.ensures.value (sym c.if-has_break.false ∙ c.has_break.ensures) in
+    let more = c.push.new.self.items in
+    let R : Result (String Global) DebugError → Type 0 = λ r. IfOk r (λ text. Leaves c.args.self.now order (string_bytes text) (record { machine = m.machine; names = names; breaks = more })) in
+    let P : SessionState → Type 0 = λ s. Leaves s order last (record { machine = m.machine; names = names; breaks = more }) in
+    let H : SessionState → Type 0 = λ s. has_cpu s.machine.store c.args.cpu ≡ true in
+    let I : SessionState → Type 0 = λ s. IsPc s.machine.programs c.args.pc in
+    elim c.match-push.branch [
+      | in-Ok w ↦
+          subst R (sym w.result-is) (subst P c.self.view_is (broken m.machine names breaks c.args.cpu c.args.pc more (string_bytes c.in-Some.out) last (subst H (sym c.self.view_is) c.requires.served) (subst I (sym c.self.view_is) c.requires.begins) (w.in-Ok.ensures.items ∙ is_added breaks c.args.cpu c.args.pc absent) c.in-Some.ensures.empty c.put_break.ensures))
+      | in-Err w ↦ subst R (sym w.result-is) tt
+    ]

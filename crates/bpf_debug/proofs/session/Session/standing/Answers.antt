@@ -1,0 +1,11 @@
+use Rattle.std.proofs.Common.{◌≡◌, ℕ, ◌++◌, ◌∷◌, [], List, Option, Some, refl, sym, subst, ◌∙◌, map}
+use Rattle.std.specs.Prelude.{true, IfOk, string_bytes}
+use Rattle.bpf_shared.specs.Contents.{has_cpu}
+use Rattle.bpf_debug.specs.Command.{Order, Break, Step, Go, Registers, Where, said_by}
+use Rattle.bpf_debug.specs.Session.{SessionState, Leaves}
+use Rattle.bpf_debug.proofs.session.Session.standing.Goals as goal
+
+pub returns-clause-answered : goal.returns-clause-answered
+returns-clause-answered c =
+    let P : Option ℕ → Type 0 = λ o. IfOk c.standing_at.result (λ text. Leaves c.args.self.now (Where o) (string_bytes text) c.args.self.now) in
+    subst P (sym c.in-Some.ensures.some.0) c.standing_at.ensures.answered

@@ -1,0 +1,70 @@
+-- The lines that answer commands (our own choice).
+use Rattle.std.specs.Prelude.{◌≡◌, ℕ, suc, ◌⊎◌, List, [], ◌∷◌, ◌++◌, length, codes}
+use Rattle.std.specs.Fmt.{decimal}
+use Rattle.bpf_cpu.specs.declared.cpu.Cpu.{Cpu}
+use Rattle.bpf_cpu.specs.declared.machine.Turn.{Turn}
+use Rattle.bpf_cpu.specs.declared.machine.Turn.TheVariants as turn
+use Rattle.bpf_cpu.specs.Task.{Task, InHand, IsAt, IsFree, NoneWaits}
+use Rattle.bpf_cpu.specs.Work.{IsNext}
+use Rattle.bpf_cpu.specs.Lines.{job_line}
+
+-- ---- where a CPU stands
+
+abbrev pub cpu_words : ℕ → List ℕ
+cpu_words c = codes "cpu " ++ decimal c
+
+abbrev pub in_hand_line : ℕ → ℕ → Cpu → List ℕ
+in_hand_line c j state =
+    cpu_words c ++ codes " job " ++ decimal j ++ codes " pc " ++ decimal state.pc
+    ++ codes " depth " ++ decimal (length state.memory.frames.live) ++ codes "\n"
+
+abbrev pub waiting_line : ℕ → ℕ → List ℕ
+waiting_line c j = cpu_words c ++ codes " job " ++ decimal j ++ codes " waiting\n"
+
+abbrev pub idle_line : ℕ → List ℕ
+idle_line c = cpu_words c ++ codes " idle\n"
+
+-- the CPU has no job in hand; this line says whether one waits
+abbrev pub IsOff : List Task → ℕ → List ℕ → Type 0
+IsOff jobs c text =
+    ((j : ℕ) × IsNext jobs c j × (text ≡ waiting_line c j))
+    ⊎ (IsFree jobs c × NoneWaits jobs c × (text ≡ idle_line c))
+
+-- the line says where the CPU stands
+abbrev pub IsWhere : List Task → ℕ → List ℕ → Type 0
+IsWhere jobs c text =
+    ((j : ℕ) × (task : Task) × (state : Cpu) × (left : ℕ) × IsAt jobs c j task (InHand state left)
+    × (text ≡ in_hand_line c j state))
+    ⊎ IsOff jobs c text
+
+-- ---- registers
+
+abbrev pub register_line : ℕ → ℕ → List ℕ
+register_line k n = codes "r" ++ decimal k ++ codes "=" ++ decimal n ++ codes "\n"
+
+-- a line each, from the k-th on
+abbrev pub register_lines : ℕ → List ℕ → List ℕ
+register_lines k [] = []
+register_lines k (n ∷ ns) = register_line k n ++ register_lines (suc k) ns
+
+-- the registers of a CPU with a job in hand, or where it stands
+abbrev pub IsRegisters : List Task → ℕ → List ℕ → Type 0
+IsRegisters jobs c text =
+    ((j : ℕ) × (task : Task) × (state : Cpu) × (left : ℕ) × IsAt jobs c j task (InHand state left)
+    × (text ≡ register_lines 0 state.registers))
+    ⊎ IsOff jobs c text
+
+-- ---- a turn that ends a job
+
+abbrev pub ended_text : ℕ → Turn → List ℕ
+ended_text c turn.Ran = []
+ended_text c (turn.Ended j end) = job_line j c end
+ended_text c turn.Idle = []
+
+-- ---- what else is answered
+
+abbrev pub break_line : ℕ → ℕ → List ℕ
+break_line c p = codes "break " ++ decimal c ++ codes " " ++ decimal p ++ codes " set\n"
+
+abbrev pub stop_line : ℕ → ℕ → List ℕ
+stop_line c p = codes "stop " ++ decimal c ++ codes " " ++ decimal p ++ codes "\n"

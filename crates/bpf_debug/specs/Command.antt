@@ -1,0 +1,62 @@
+-- What a line says to the debugger (our own choice).
+use Rattle.std.specs.Prelude.{ℕ, ◌^◌, nat_lt, if◌then◌else◌, List, [], ◌∷◌, codes, Option, Some, None, option_map, option_and_then}
+use Rattle.std.specs.Str.{bytes_eq}
+use Rattle.bpf_text.specs.Words.{written_number}
+use Rattle.bpf_debug.specs.declared.command.Command.{Command}
+use Rattle.bpf_debug.specs.declared.command.Command.TheVariants as command
+
+-- a command; a number that is too large to be a CPU's, a pc or an address is none
+pub data Order : Type 0 where
+  -- `break C P`: the pc P is a breakpoint of the CPU C
+  Break : Option ℕ → Option ℕ → Order
+  -- `step C`: one turn
+  Step : Option ℕ → Order
+  -- `go`: turns up to a breakpoint, or until no work is left
+  Go : Order
+  -- `regs C`
+  Registers : Option ℕ → Order
+  -- `where C`
+  Where : Option ℕ → Order
+
+-- a word is a number of any size, and this one where it is below the limit
+abbrev pub number_below : ℕ → List ℕ → Option (Option ℕ)
+number_below limit word =
+    option_map (λ n. if nat_lt n limit then Some n else None) (written_number word)
+
+abbrev pub cpu_in : List ℕ → Option (Option ℕ)
+cpu_in = number_below 256
+
+abbrev pub pc_in : List ℕ → Option (Option ℕ)
+pc_in = number_below (2 ^ 32)
+
+-- ---- commands by the number of their words
+abbrev pub one_word : List ℕ → Option Order
+one_word w = if bytes_eq (codes "go") w then Some Go else None
+
+abbrev pub two_words : List ℕ → List ℕ → Option Order
+two_words w a =
+    if bytes_eq (codes "step") w then option_map Step (cpu_in a)
+    else (if bytes_eq (codes "regs") w then option_map Registers (cpu_in a)
+    else (if bytes_eq (codes "where") w then option_map Where (cpu_in a)
+    else None))
+
+abbrev pub three_words : List ℕ → List ℕ → List ℕ → Option Order
+three_words w a b =
+    if bytes_eq (codes "break") w
+    then option_and_then (λ c. option_map (Break c) (pc_in b)) (cpu_in a)
+    else None
+
+-- WHAT A LINE'S FIELDS SAY, if that is a command
+abbrev pub order_of : List (List ℕ) → Option Order
+order_of (w ∷ []) = one_word w
+order_of (w ∷ a ∷ []) = two_words w a
+order_of (w ∷ a ∷ b ∷ []) = three_words w a b
+order_of fields = None
+
+-- ---- what a reader answers
+abbrev pub said_by : Command → Order
+said_by (command.Break c p) = Break c p
+said_by (command.Step c) = Step c
+said_by command.Go = Go
+said_by (command.Registers c) = Registers c
+said_by (command.Where c) = Where c

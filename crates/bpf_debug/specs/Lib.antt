@@ -1,0 +1,5 @@
+pub mod Command
+pub mod Answer
+pub mod Go
+pub mod Session
+pub mod Codes

@@ -1,0 +1,89 @@
+//! What `go` does: rounds of turns, up to a breakpoint or until no work is left.
+
+ghost use Rattle.std.specs.Prelude.{◌≡◌, ◌+◌, ◌*◌, ◌≤◌, ◌<◌, ◌++◌, ◌⊎◌, ◌↔◌, IsTrue, IfSome, IfNone, List, ℕ, [], true, false, length, string_bytes, string_capacity, string_len};
+ghost use Rattle.bpf_cpu.specs.Schedule.{World};
+ghost use Rattle.bpf_cpu.specs.Machine.{Shows};
+ghost use Rattle.bpf_cpu.specs.Task.{IsFree, NoneWaits};
+ghost use Rattle.bpf_cpu.specs.Questions.{open_jobs};
+ghost use Rattle.bpf_debug.specs.Go.{Goes, HasWork, AreIdle, IsUp, StandsAt, has_break};
+
+use crate::breakpoint::{Breakpoint, has_break};
+use crate::lines::{put_ended, put_stop};
+use crate::text::put;
+use bpf_cpu::{Machine, Standing};
+
+/// The first of some CPUs that has work: of those from a number on and below another.
+fn first_at_work(machine: &Machine, from: u8, to: u8) -> Option<u8>
+    ensures found { IfSome result (λ c. (from ≤ c) × (c < to) × HasWork machine.now.jobs c
+        × AreIdle machine.now.jobs from c) }
+    ensures none { IfNone result (AreIdle machine.now.jobs from to) }
+{
+    for cpu in from..to {
+        match machine.standing(cpu) {
+            Standing::InHand(..) => return Some(cpu),
+            Standing::Waiting(_) => return Some(cpu),
+            Standing::Idle => {}
+        }
+    }
+    None
+}
+
+/// The CPU that is up: the first with work from a number on, and then from CPU 0 on.
+pub fn next_up(machine: &Machine, from: u8) -> Option<u8>
+    ensures up { IfSome result (λ c. IsUp machine.now.jobs (length machine.now.store.runs) from c) }
+    ensures few { IfSome result (λ c. c < 255) }
+    ensures idle { IfNone result (AreIdle machine.now.jobs 0 (length machine.now.store.runs)) }
+{
+    let cpus = machine.cpus();
+    match first_at_work(machine, from, cpus) {
+        Some(cpu) => Some(cpu),
+        None => first_at_work(machine, 0, from.min(cpus)),
+    }
+}
+
+/// The pc at which a CPU stands, where that is a breakpoint of it.
+pub fn stop_at(machine: &Machine, breakpoints: &[Breakpoint], cpu: u8) -> Option<u32>
+    requires { HasWork machine.now.jobs cpu }
+    ensures stop { IfSome result (λ p. StandsAt machine.now.jobs cpu p
+        × (has_break breakpoints.now cpu p ≡ true)) }
+    ensures free { IfNone result ((p : ℕ) × StandsAt machine.now.jobs cpu p
+        × (has_break breakpoints.now cpu p ≡ false)) }
+{
+    let pc = match machine.standing(cpu) {
+        Standing::InHand(_, state) => state.pc,
+        Standing::Waiting(_) => 0,
+        Standing::Idle => unreachable!(),
+    };
+    if has_break(breakpoints, cpu, pc) {
+        Some(pc)
+    } else {
+        None
+    }
+}
+
+/// All turns of a `go`, with the lines of the jobs that end and the last line.
+pub fn go(machine: &mut Machine, breakpoints: &[Breakpoint], out: &mut String)
+    requires shown { (w : World) × Shows machine.old w }
+    requires room { string_len out.old + 128 * open_jobs machine.old.jobs + 128
+        ≤ string_capacity out.old }
+    ensures { (w : World) → Shows machine.old w → (z : World) × (turns : List ℕ) × (text : List ℕ)
+        × Goes breakpoints.now w 0 [] turns text z × Shows machine.new z
+        × (string_bytes out.new ≡ string_bytes out.old ++ text) }
+{
+    bpf_cpu::laws::turns_fall();
+    let mut gone = [false; 256];
+    let mut from = 0;
+    while let Some(cpu) = next_up(machine, from) {
+        if gone[cpu as usize] {
+            if let Some(pc) = stop_at(machine, breakpoints, cpu) {
+                put_stop(out, cpu, pc);
+                return;
+            }
+        }
+        let turn = machine.turn(cpu);
+        put_ended(out, cpu, turn);
+        gone[cpu as usize] = true;
+        from = cpu + 1;
+    }
+    put(out, "done\n");
+}

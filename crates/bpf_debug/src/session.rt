@@ -1,0 +1,300 @@
+//! A session: a machine with its breakpoints, and what commands do to it.
+
+ghost use Rattle.std.specs.Prelude.{◌≡◌, ℕ, List, ◌<◌, ◌↔◌, IsTrue, true, false, IfOk, IfErr, OnErr, IfSome, IfNone, Some, [], map, length, string_bytes, string_len, string_capacity, ◌+◌, ◌*◌, ◌≤◌};
+ghost use Rattle.bpf_text.specs.Lines.{fields_of};
+ghost use Rattle.bpf_loader.specs.Loaded.{Loaded};
+ghost use Rattle.bpf_shared.specs.Contents.{has_cpu};
+ghost use Rattle.bpf_debug.specs.Command.{Order, said_by};
+ghost use Rattle.bpf_debug.specs.Session.{IsPc};
+
+use crate::breakpoint::{Breakpoint, has_break};
+use crate::command::{Command, command_of};
+use crate::error::DebugError;
+use crate::going;
+use crate::lines::{LINE, put_break, put_ended, put_registers, put_where};
+use bpf_cpu::Machine;
+use bpf_loader::Program;
+use bpf_text::lines;
+use std::alloc::Global;
+use std::marker::Model;
+
+/// A machine that commands run and look at.
+#[derive(Drop)]
+pub struct Session {
+    machine: Machine,
+    /// The maps' names, by their numbers.
+    names: Vec<String>,
+    breakpoints: Vec<Breakpoint>,
+}
+
+impl Model for Session {
+    ghost use Rattle.std.specs.Prelude.{map, string_bytes};
+    ghost use Rattle.bpf_cpu.specs.Schedule.{World};
+    ghost use Rattle.bpf_cpu.specs.Machine.{Shows};
+    ghost use Rattle.bpf_debug.specs.Session.{SessionState};
+
+    ghost Value = { SessionState };
+
+    ghost view = { λ s. record { machine = s.machine; names = map (λ n. string_bytes n) s.names.items; breaks = s.breakpoints.items } };
+
+    ghost invariant = { λ s. (w : World) × Shows s.machine w };
+}
+
+/// Whether some program has an instruction that begins at a pc.
+fn is_pc(programs: &[Program], pc: u32) -> bool
+    ensures { IsTrue result ↔ IsPc programs.now pc }
+{
+    for program in programs {
+        if program.is_start(pc) {
+            return true;
+        }
+    }
+    false
+}
+
+/// Room for so many lines and some more.
+fn make_room(alloc: Global, lines: usize) -> Option<String>
+    ensures empty { IfSome result (λ s. string_bytes s ≡ []) }
+    ensures size { IfSome result (λ s. string_len s ≡ 0) }
+    ensures room { IfSome result (λ s. 128 * lines + 1024 ≤ string_capacity s) }
+{
+    let bytes = lines.checked_mul(LINE)?;
+    let bytes = bytes.checked_add(1024)?;
+    match String::with_capacity(alloc, bytes) {
+        Ok(room) => Some(room),
+        Err(_) => None,
+    }
+}
+
+impl Session {
+    ghost use Rattle.bpf_cpu.specs.Schedule.{World};
+    ghost use Rattle.bpf_cpu.specs.Machine.{Shows};
+    ghost use Rattle.bpf_debug.specs.Session.{IsNoCpu, Leaves, LeavesLine, RefusesOrder, Refuses};
+
+    /// A session without breakpoints, with the maps' names by their numbers.
+    pub fn new(alloc: Global, machine: Machine, names: Vec<String>) -> Session
+        requires { (w : World) × Shows machine w }
+        ensures machine { result.machine ≡ machine }
+        ensures names { result.names ≡ map (λ n. string_bytes n) names.items }
+        ensures breaks { result.breaks ≡ [] }
+    {
+        Session {
+            machine,
+            names,
+            breakpoints: Vec::new(alloc),
+        }
+    }
+
+    /// The machine.
+    pub fn machine(&self) -> &Machine
+        ensures { result.now ≡ self.now.machine }
+    {
+        &self.machine
+    }
+
+    /// The CPU of a number, if there is one.
+    fn cpu(&self, number: Option<u8>) -> Option<u8>
+        ensures some { IfSome result (λ c. (number ≡ Some c)
+            × (has_cpu self.now.machine.store c ≡ true)) }
+        ensures none { IfNone result (IsNoCpu self.now number) }
+    {
+        match number {
+            Some(cpu) => {
+                if cpu < self.machine.cpus() {
+                    Some(cpu)
+                } else {
+                    None
+                }
+            }
+            None => None,
+        }
+    }
+
+    fn step_at(&mut self, alloc: Global, cpu: u8) -> Result<String, DebugError>
+        requires { has_cpu self.old.machine.store cpu ≡ true }
+        ensures answered { IfOk result
+            (λ text. Leaves self.old (Order.Step (Some cpu)) (string_bytes text) self.new) }
+        ensures refused { IfErr result (λ e. e ≡ DebugError.OutOfMemory) }
+        ensures unchanged { OnErr result (self.new ≡ self.old) }
+    {
+        let Some(mut out) = make_room(alloc, 2) else {
+            return Err(DebugError::OutOfMemory);
+        };
+        let turn = self.machine.turn(cpu);
+        put_ended(&mut out, cpu, turn);
+        put_where(&mut out, &self.machine, cpu);
+        Ok(out)
+    }
+
+    fn step(&mut self, alloc: Global, number: Option<u8>) -> Result<String, DebugError>
+        ensures answered { IfOk result
+            (λ text. Leaves self.old (Order.Step number) (string_bytes text) self.new) }
+        ensures refused { IfErr result (λ e. RefusesOrder self.old (Order.Step number) e) }
+        ensures unchanged { OnErr result (self.new ≡ self.old) }
+    {
+        let Some(cpu) = self.cpu(number) else {
+            return Err(DebugError::NoCpu);
+        };
+        self.step_at(alloc, cpu)
+    }
+
+    fn go(&mut self, alloc: Global) -> Result<String, DebugError>
+        ensures answered { IfOk result
+            (λ text. Leaves self.old Order.Go (string_bytes text) self.new) }
+        ensures refused { IfErr result (λ e. RefusesOrder self.old Order.Go e) }
+        ensures unchanged { OnErr result (self.new ≡ self.old) }
+    {
+        let Some(mut out) = make_room(alloc, self.machine.jobs()) else {
+            return Err(DebugError::OutOfMemory);
+        };
+        going::go(&mut self.machine, &self.breakpoints, &mut out);
+        Ok(out)
+    }
+
+    /// A breakpoint of a CPU, at a pc of some program.
+    fn set_break(&mut self, alloc: Global, cpu: u8, pc: u32) -> Result<String, DebugError>
+        requires served { has_cpu self.old.machine.store cpu ≡ true }
+        requires begins { IsPc self.old.machine.programs pc }
+        ensures answered { IfOk result (λ text.
+            Leaves self.old (Order.Break (Some cpu) (Some pc)) (string_bytes text) self.new) }
+        ensures refused { IfErr result (λ e. e ≡ DebugError.OutOfMemory) }
+        ensures unchanged { OnErr result (self.new ≡ self.old) }
+    {
+        let Some(mut out) = make_room(alloc, 1) else {
+            return Err(DebugError::OutOfMemory);
+        };
+        put_break(&mut out, cpu, pc);
+        if has_break(&self.breakpoints, cpu, pc) {
+            return Ok(out);
+        }
+        match self.breakpoints.push(Breakpoint { cpu, pc }) {
+            Ok(()) => Ok(out),
+            Err(_) => Err(DebugError::OutOfMemory),
+        }
+    }
+
+    fn break_at(&mut self, alloc: Global, cpu: u8, pc: Option<u32>) -> Result<String, DebugError>
+        requires { has_cpu self.old.machine.store cpu ≡ true }
+        ensures answered { IfOk result (λ text.
+            Leaves self.old (Order.Break (Some cpu) pc) (string_bytes text) self.new) }
+        ensures refused { IfErr result
+            (λ e. RefusesOrder self.old (Order.Break (Some cpu) pc) e) }
+        ensures unchanged { OnErr result (self.new ≡ self.old) }
+    {
+        let Some(at) = pc else {
+            return Err(DebugError::NoPc);
+        };
+        if !is_pc(self.machine.programs(), at) {
+            return Err(DebugError::NoPc);
+        }
+        self.set_break(alloc, cpu, at)
+    }
+
+    fn break_cpu(
+        &mut self,
+        alloc: Global,
+        number: Option<u8>,
+        pc: Option<u32>,
+    ) -> Result<String, DebugError>
+        ensures answered { IfOk result (λ text.
+            Leaves self.old (Order.Break number pc) (string_bytes text) self.new) }
+        ensures refused { IfErr result (λ e. RefusesOrder self.old (Order.Break number pc) e) }
+        ensures unchanged { OnErr result (self.new ≡ self.old) }
+    {
+        let Some(cpu) = self.cpu(number) else {
+            return Err(DebugError::NoCpu);
+        };
+        self.break_at(alloc, cpu, pc)
+    }
+
+    fn registers_at(&self, alloc: Global, cpu: u8) -> Result<String, DebugError>
+        requires { has_cpu self.now.machine.store cpu ≡ true }
+        ensures answered { IfOk result (λ text.
+            Leaves self.now (Order.Registers (Some cpu)) (string_bytes text) self.now) }
+        ensures refused { IfErr result (λ e. e ≡ DebugError.OutOfMemory) }
+    {
+        let Some(mut out) = make_room(alloc, 0) else {
+            return Err(DebugError::OutOfMemory);
+        };
+        put_registers(&mut out, &self.machine, cpu);
+        Ok(out)
+    }
+
+    fn registers(&self, alloc: Global, number: Option<u8>) -> Result<String, DebugError>
+        ensures answered { IfOk result (λ text.
+            Leaves self.now (Order.Registers number) (string_bytes text) self.now) }
+        ensures refused { IfErr result (λ e. RefusesOrder self.now (Order.Registers number) e) }
+    {
+        let Some(cpu) = self.cpu(number) else {
+            return Err(DebugError::NoCpu);
+        };
+        self.registers_at(alloc, cpu)
+    }
+
+    fn standing_at(&self, alloc: Global, cpu: u8) -> Result<String, DebugError>
+        requires { has_cpu self.now.machine.store cpu ≡ true }
+        ensures answered { IfOk result (λ text.
+            Leaves self.now (Order.Where (Some cpu)) (string_bytes text) self.now) }
+        ensures refused { IfErr result (λ e. e ≡ DebugError.OutOfMemory) }
+    {
+        let Some(mut out) = make_room(alloc, 1) else {
+            return Err(DebugError::OutOfMemory);
+        };
+        put_where(&mut out, &self.machine, cpu);
+        Ok(out)
+    }
+
+    fn standing(&self, alloc: Global, number: Option<u8>) -> Result<String, DebugError>
+        ensures answered { IfOk result (λ text.
+            Leaves self.now (Order.Where number) (string_bytes text) self.now) }
+        ensures refused { IfErr result (λ e. RefusesOrder self.now (Order.Where number) e) }
+    {
+        let Some(cpu) = self.cpu(number) else {
+            return Err(DebugError::NoCpu);
+        };
+        self.standing_at(alloc, cpu)
+    }
+
+    fn follow(&mut self, alloc: Global, command: Command) -> Result<String, DebugError>
+        ensures answered { IfOk result
+            (λ text. Leaves self.old (said_by command) (string_bytes text) self.new) }
+        ensures refused { IfErr result (λ e. RefusesOrder self.old (said_by command) e) }
+        ensures unchanged { OnErr result (self.new ≡ self.old) }
+    {
+        match command {
+            Command::Break(cpu, pc) => self.break_cpu(alloc, cpu, pc),
+            Command::Step(cpu) => self.step(alloc, cpu),
+            Command::Go => self.go(alloc),
+            Command::Registers(cpu) => self.registers(alloc, cpu),
+            Command::Where(cpu) => self.standing(alloc, cpu),
+        }
+    }
+
+    fn obey(&mut self, alloc: Global, fields: &[&[u8]]) -> Result<String, DebugError>
+        ensures answered { IfOk result (λ text.
+            LeavesLine self.old (map (λ f. f.now) fields.now) (string_bytes text) self.new) }
+        ensures refused { IfErr result (λ e. Refuses self.old (map (λ f. f.now) fields.now) e) }
+        ensures unchanged { OnErr result (self.new ≡ self.old) }
+    {
+        if fields.is_empty() {
+            return Ok(String::new(alloc));
+        }
+        match command_of(fields) {
+            Some(command) => self.follow(alloc, command),
+            None => Err(DebugError::BadCommand),
+        }
+    }
+
+    /// Does what a line says, and answers its lines. After a refusal the session is as it was.
+    pub fn command(&mut self, alloc: Global, line: &str) -> Result<String, DebugError>
+        ensures answered { IfOk result (λ text.
+            LeavesLine self.old (fields_of line.now) (string_bytes text) self.new) }
+        ensures refused { IfErr result (λ e. Refuses self.old (fields_of line.now) e) }
+        ensures unchanged { OnErr result (self.new ≡ self.old) }
+    {
+        match lines::fields(alloc, line.as_bytes()) {
+            Ok(fields) => self.obey(alloc, &fields),
+            Err(_) => Err(DebugError::OutOfMemory),
+        }
+    }
+}
