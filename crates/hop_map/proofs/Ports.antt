@@ -1,11 +1,11 @@
 -- Ports from call to call.
-use Rattle.std.proofs.Common.{◌≡◌, ◌≢◌, ◌⊎◌, ℕ, ◌+◌, ◌%◌, ◌^◌, ◌<◌, Bool, true, false, List, [], ◌∷◌, ◌++◌, ◌==◌, Option, Some, Result, Ok, Err, OnOk, OnErr, length, set, refl, ap, sym, subst, ◌∙◌, arith, eq-eqb}
-use Rattle.std.proofs.lemmas.List.{get_or-set_same, get_or-set_other, length-set}
+use Rattle.std.proofs.Common.{◌≡◌, ◌≢◌, ◌⊎◌, ℕ, zero, suc, ◌+◌, ◌%◌, ◌^◌, ◌<◌, Bool, true, false, List, [], ◌∷◌, ◌++◌, ◌==◌, Option, Some, Result, Ok, Err, OnOk, OnErr, length, get_or, slice_get, set, refl, ap, sym, subst, ◌∙◌, arith, eq-eqb, None}
+use Rattle.std.proofs.lemmas.List.{get_or_default, get_or-set_same, get_or-set_other, length-set}
 use Rattle.std.proofs.lemmas.Bool.Decides.{nat_tests}
 use Rattle.atomic_table.specs.Seated.{TableId}
 use Rattle.bpf_shared.specs.declared.sharing.Worn.{Worn}
 use Rattle.bpf_shared.specs.declared.events.Event.{Event}
-use Rattle.bpf_shared.specs.declared.events.Event.TheVariants.{Begin, End}
+use Rattle.bpf_shared.specs.declared.events.Event.TheVariants.{Begin, End, Lookup}
 use Rattle.bpf_shared.specs.History.{events_of, entry}
 use Rattle.bpf_shared.proofs.Chains.{events_of-append, events_of-own}
 use Rattle.hop_words.specs.declared.known.About.{About}
@@ -20,7 +20,11 @@ use Rattle.hop_epoch.specs.declared.batches.Batches.{Batches}
 use Rattle.hop_epoch.specs.Batch.{front, Notes, Tracks, Keeps}
 use Rattle.hop_arena.specs.declared.arena.Arena.{Arena}
 use Rattle.hop_map.specs.declared.port.HopPort.TheInside.{Inside as InPort}
-use Rattle.hop_map.specs.Port.{Port, port_of, standing_in, HasNothing, AreBatches, IsPortOf, IsEnding, runs, batches_at, no_batches}
+use Rattle.bpf_shared.specs.declared.events.Span.{Span}
+use Rattle.hop_arena.specs.Claiming.{IsArena}
+use Rattle.hop_map.specs.Whole.{Searches, Follows, Rests, Called}
+use Rattle.hop_map.specs.Finding.{Looked}
+use Rattle.hop_map.specs.Port.{AreArenas, arena_at, no_arena, Port, port_of, standing_in, HasNothing, AreBatches, IsPortOf, IsEnding, runs, batches_at, no_batches}
 
 pub apart : true ≡ false → ⊥
 apart e = cc
@@ -166,3 +170,100 @@ ends_last t p z ended l bs h running table told i =
       arenas = h.arenas;
       batches = i.batches;
     }
+
+-- ---- calls
+pub map_inside : {A : Type 0} (xs : List A) (m : ℕ) (x : A) → slice_get xs m ≡ Some x → m < length xs
+map_inside [] m x e = absurd (nothing_there e)
+  where
+    nothing_there : None ≡ Some x → ⊥
+    nothing_there q = cc
+map_inside (y ∷ xs) zero x e = omega arith
+map_inside (y ∷ xs) (suc m) x e = let z = map_inside xs m x e in omega arith
+
+-- where the port's CPU looks for free elements of one map changed
+pub arenas_change : (a : About) (n m : ℕ) (xs : List Arena) (x : Arena) → m < n → Searches a m x → AreArenas a n xs → AreArenas a n (set xs m x)
+arenas_change a n m xs x here s h = record {
+  size = length-set xs m x ∙ h.size;
+  map = λ k inside. by_equal k m
+      (λ e. subst (λ (j : ℕ). (arena_at (set xs m x) j).map ≡ j) (sym e) (ap (λ (y : Arena). y.map) at_m ∙ s.0))
+      (λ ne. ap (λ (y : Arena). y.map) (at_else k ne) ∙ h.map k inside);
+  each = λ k inside. by_equal k m
+      (λ e. subst (λ (j : ℕ). Is j (arena_at (set xs m x) j)) (sym e) (subst (Is m) (sym at_m) (subst (λ (j : ℕ). IsArena a j x.elements x.start) s.0 s.1)))
+      (λ ne. subst (Is k) (sym (at_else k ne)) (h.each k inside));
+}
+  where
+    Is : ℕ → Arena → Type 0
+    Is k y = IsArena a k y.elements y.start
+
+    at_m : arena_at (set xs m x) m ≡ x
+    at_m = get_or-set_same xs m x no_arena (let z = h.size in omega arith)
+
+    at_else : (k : ℕ) → k ≢ m → arena_at (set xs m x) k ≡ arena_at xs k
+    at_else k ne = get_or-set_other xs m k x no_arena ne
+
+pub searches_at : (a : About) (n m : ℕ) (xs : List Arena) (x : Arena) → m < n → AreArenas a n xs → x ≡ get_or xs m x → Searches a m x
+searches_at a n m xs x here h is =
+    let old : x ≡ arena_at xs m = is ∙ get_or_default xs m x no_arena (let z = h.size in omega arith) in
+    let name : x.map ≡ m = ap (λ (y : Arena). y.map) old ∙ h.map m here in
+    (name, subst (λ (k : ℕ). IsArena a k x.elements x.start) (sym name) (subst (λ (y : Arena). IsArena a m y.elements y.start) (sym old) (h.each m here)))
+
+pub follows_at : (a : About) (l : Known) (n m : ℕ) (bs : List Batches) (b : Batches) → m < n → AreBatches a l n bs → b ≡ get_or bs m b → Follows a l m b
+follows_at a l n m bs b here h is =
+    let old : b ≡ batches_at bs m = is ∙ get_or_default bs m b no_batches (let z = h.size in omega arith) in
+    let name : b.map ≡ m = ap (λ (y : Batches). y.map) old ∙ h.map m here in
+    (name, subst (λ (k : ℕ). Tracks a l k b.young b.aged b.noted) (sym name) (subst (λ (y : Batches). Tracks a l m y.young y.aged y.noted) (sym old) (h.each m here)))
+
+pub rests_at : (l : Known) (m : ℕ) → HasNothing l → Rests l m
+rests_at l m h = record { fresh = h.fresh; locks = h.locks; used = h.used m }
+
+pub called_idle : (a : About) (l l' : Known) (m : ℕ) (e : Event) → HasNothing l → Called a l m e l' → HasNothing l'
+called_idle a l l' m e h c = record {
+  fresh = c.rests.fresh;
+  locks = c.rests.locks;
+  used = λ k. by_equal k m
+      (λ same. subst (λ (j : ℕ). (limbo_at l'.limbo j).used ≡ []) (sym same) c.rests.used)
+      (λ ne. ap (λ (x : Limbo). x.used) (c.others k ne) ∙ h.used k);
+}
+
+pub called_fits : (t : Shown) (p : Port) (z : TableId) (l : Known) (m : ℕ) (e : Event) (xs : List Arena) (b : Batches) → IsPortOf t p → z ≡ t.id → m < length t.about.shape.maps → turns_of (e ∷ []) ≡ 0
+    → Called t.about p.known m e l → AreArenas t.about (length t.about.shape.maps) xs → Follows t.about l m b → IsPortOf t (record { table = z; known = l; arenas = xs; batches = set p.batches m b })
+called_fits t p z l m e xs b h table here quiet c arenas f = record {
+  table = table;
+  cpu = subst (λ (k : ℕ). k < t.about.shape.cpus) (sym c.cpu) h.cpu;
+  even = h.even;
+  room = room_stays t.about p.known l e c.seen c.cpu quiet h.room;
+  limbo = c.size ∙ h.limbo;
+  arenas = arenas;
+  batches = batches_change t.about p.known l (length t.about.shape.maps) m p.batches b c.size c.others here f.0 (subst (λ (k : ℕ). Tracks t.about l k b.young b.aged b.noted) f.0 f.1) h.batches;
+}
+
+pub looked_idle : (a : About) (l l' : Known) (m : ℕ) (key : List ℕ) (o : Option Span) → HasNothing l → Looked a l m key o l' → HasNothing l'
+looked_idle a l l' m key o h c = record {
+  fresh = ap (λ (k : Known). k.fresh) c.after ∙ h.fresh;
+  locks = ap (λ (k : Known). k.locks) c.after ∙ h.locks;
+  used = λ k. ap (λ (x : Known). (limbo_at x.limbo k).used) c.after ∙ h.used k;
+}
+
+pub looked_fits : (t : Shown) (p : Port) (z : TableId) (l : Known) (m : ℕ) (key : List ℕ) (o : Option Span) → IsPortOf t p → z ≡ t.id → Looked t.about p.known m key o l
+    → IsPortOf t (record { table = z; known = l; arenas = p.arenas; batches = p.batches })
+looked_fits t p z l m key o h table c = moved t p z l h (table ∙ sym h.table) cpu (ap (λ (k : Known). k.limbo) c.after)
+    (room_stays t.about p.known l (Lookup m key o) c.seen cpu refl h.room)
+  where
+    cpu : l.cpu ≡ p.known.cpu
+    cpu = ap (λ (k : Known). k.cpu) c.after
+
+-- ---- whether the port's CPU is in a run
+pub still_runs : (a : About) (l l' : Known) (e : Event) → Saw a l e l'.seen → l'.cpu ≡ l.cpu → turns_of (e ∷ []) ≡ 0 → in_run (events_of l.cpu l.seen) ≡ true → in_run (events_of l'.cpu l'.seen) ≡ true
+still_runs a l l' e s same quiet runs' =
+    let turns : turns_of (events_of l'.cpu l'.seen) ≡ turns_of (events_of l.cpu l.seen) = let n = turned a l l' e s same in omega (arith, quiet) in
+    ap (λ (k : ℕ). k % 2 == 1) turns ∙ runs'
+
+pub begun_runs : (a : About) (l l' : Known) (r : Result (Unit {0}) Worn) → OnOk r (Told a l Begin l') → in_run (events_of l.cpu l.seen) ≡ false → OnOk r (in_run (events_of l'.cpu l'.seen) ≡ true)
+begun_runs a l l' (Ok u) told idle = let n = turned a l l' Begin told.seen (ap (λ (k : Known). k.cpu) told.after) in grind (arith, nat_tests)
+begun_runs a l l' (Err e) told idle = tt
+
+pub ended_idle : (t : Shown) (p : Port) (ended l : Known) (bs : List Batches) → Told t.about p.known End ended → IsEnding t ended l bs → runs p ≡ true → in_run (events_of l.cpu l.seen) ≡ false
+ended_idle t p ended l bs told i running =
+    let cpu = i.cpu ∙ ap (λ (k : Known). k.cpu) told.after in
+    let n = turned t.about p.known l End (subst (Saw t.about p.known End) (sym i.seen) told.seen) cpu in
+    grind (arith, nat_tests)

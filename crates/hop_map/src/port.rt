@@ -1,15 +1,20 @@
 //! A port: the right of one CPU to call the store.
 ghost use Rattle.std.specs.Prelude.{◌≡◌, ◌-◌, ◌^◌, true, false, OnOk, OnErr, slice_get, IfSome, ◌<◌};
-ghost use Rattle.bpf_shared.specs.declared.events.Event.TheVariants.{Begin, End};
-ghost use Rattle.bpf_shared.specs.Shape.{IsMapShape};
+ghost use Rattle.bpf_shared.specs.declared.events.Event.TheVariants.{Begin, End, Lookup, Update, Delete};
+ghost use Rattle.bpf_shared.specs.Shape.{IsMapShape, IsKeyOf, IsPairOf};
 ghost use Rattle.hop_words.specs.Kinds.{count_of};
+ghost use Rattle.hop_map.specs.Whole.{Lacks};
 ghost use Rattle.hop_map.specs.Port.{IsPortOf, Does, runs};
 
-use bpf_shared::{MapShape, Worn};
+use crate::deleting::delete;
+use crate::finding::find_locked;
+use crate::updating::update;
+use bpf_shared::{MapAnswer, MapShape, Span, Worn};
 use hop_arena::Arena;
 use hop_epoch::{Batches, begin_run, end_run};
 use hop_words::{HopTable, Lane};
 use std::marker::Model;
+use std::sync::Wait;
 
 /// One CPU of a store, which calls it. Between two calls it owns no element and has no lock. Each
 /// call takes the table of the port's store.
@@ -46,6 +51,7 @@ impl HopPort {
     pub fn begin(&mut self, table: &HopTable) -> Result<(), Worn>
         requires fits { IsPortOf table.now self.old }
         requires idle { runs self.old ≡ false }
+        ensures in_run { OnOk result (runs self.new ≡ true) }
         ensures begun { OnOk result (Does table.now.about self.old Begin self.new) }
         ensures worn { OnErr result (count_of table.now.about self.old.known ≡ 2 ^ 64 - 2) }
         ensures unchanged { OnErr result (self.new ≡ self.old) }
@@ -63,6 +69,7 @@ impl HopPort {
     pub fn end(&mut self, table: &HopTable)
         requires fits { IsPortOf table.now self.old }
         requires in_run { runs self.old ≡ true }
+        ensures idle { runs self.new ≡ false }
         ensures ended { Does table.now.about self.old End self.new }
         ensures fits { IsPortOf table.now self.new }
     {
@@ -74,5 +81,78 @@ impl HopPort {
             self.batches[map].reclaim(&mut lane, table);
         }
         self.lane = Some(lane);
+    }
+
+    /// Where the value of the key lies, found under the lock of the key's segment; the CPU holds that
+    /// value until its run ends.
+    pub fn find_locked<R: Wait>(
+        &mut self,
+        rt: &R,
+        table: &HopTable,
+        map: u8,
+        key: &[u8],
+    ) -> Option<Span>
+        requires fits { IsPortOf table.now self.old }
+        requires in_run { runs self.old ≡ true }
+        requires key { IsKeyOf table.now.about.shape.maps map key.now }
+        ensures in_run { runs self.new ≡ true }
+        ensures found { Does table.now.about self.old (Lookup map key.now result) self.new }
+        ensures fits { IsPortOf table.now self.new }
+    {
+        let Some(lane) = self.lane.take() else {
+            unreachable!()
+        };
+        let (lane, found) = find_locked(rt, table, lane, map, key);
+        self.lane = Some(lane);
+        found
+    }
+
+    /// A value of these bytes is to stand under the key: always for the flags 0, where the key isn't
+    /// there yet for 1, where it is there for 2 (bpf-helpers(7)).
+    pub fn update<R: Wait>(
+        &mut self,
+        rt: &R,
+        table: &HopTable,
+        map: u8,
+        key: &[u8],
+        value: &[u8],
+        flags: u64,
+    ) -> MapAnswer
+        requires fits { IsPortOf table.now self.old }
+        requires in_run { runs self.old ≡ true }
+        requires pair { IsPairOf table.now.about.shape.maps map key.now value.now }
+        ensures in_run { runs self.new ≡ true }
+        ensures answered { Does table.now.about self.old (Update map key.now value.now flags result) self.new }
+        ensures shortage { Lacks table.now.about self.old.known map result self.new.known }
+        ensures fits { IsPortOf table.now self.new }
+    {
+        let Some(lane) = self.lane.take() else {
+            unreachable!()
+        };
+        let place = usize::from(map);
+        let arena = &mut self.arenas[place];
+        let batches = &mut self.batches[place];
+        let (lane, answer) = update(rt, table, lane, arena, batches, map, key, value, flags);
+        self.lane = Some(lane);
+        answer
+    }
+
+    /// The key is to leave the map. Whoever holds its value keeps it until its run ends.
+    pub fn delete<R: Wait>(&mut self, rt: &R, table: &HopTable, map: u8, key: &[u8]) -> MapAnswer
+        requires fits { IsPortOf table.now self.old }
+        requires in_run { runs self.old ≡ true }
+        requires key { IsKeyOf table.now.about.shape.maps map key.now }
+        ensures in_run { runs self.new ≡ true }
+        ensures answered { Does table.now.about self.old (Delete map key.now result) self.new }
+        ensures shortage { Lacks table.now.about self.old.known map result self.new.known }
+        ensures fits { IsPortOf table.now self.new }
+    {
+        let Some(lane) = self.lane.take() else {
+            unreachable!()
+        };
+        let batches = &mut self.batches[usize::from(map)];
+        let (lane, answer) = delete(rt, table, lane, batches, map, key);
+        self.lane = Some(lane);
+        answer
     }
 }

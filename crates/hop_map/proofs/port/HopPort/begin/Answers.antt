@@ -1,6 +1,6 @@
-use Rattle.std.proofs.Common.{◌≡◌, sym, subst, ◌∙◌}
-use Rattle.hop_map.specs.Port.{IsPortOf}
-use Rattle.hop_map.proofs.Ports.{port_with, port_is, begins}
+use Rattle.std.proofs.Common.{◌≡◌, false, refl, true, sym, subst, ◌∙◌}
+use Rattle.hop_map.specs.Port.{Port, runs, IsPortOf}
+use Rattle.hop_map.proofs.Ports.{begun_runs, port_with, port_is, begins}
 use Rattle.hop_map.proofs.port.HopPort.begin.Goals as goal
 
 pub returns-clause-fits : goal.returns-clause-fits
@@ -11,3 +11,11 @@ returns-clause-fits c =
     let e = c.begin_run-begun.ensures in
     let is : port_with s i.arenas.items i.batches.items ≡ c.args.self.now = sym (port_is i c.take.result s c.take.ensures.value c.in-Some.is) ∙ c.self.view_is in
     begins c.args.table.now (port_with s i.arenas.items i.batches.items) l.table l.known c.begin_run-begun.result (subst (IsPortOf c.args.table.now) (sym is) c.requires.fits) e.table e.begun e.room e.unchanged
+
+pub returns-clause-in_run : goal.returns-clause-in_run
+returns-clause-in_run c =
+    let i = c.self.inside in
+    let s = c.in-Some.lane in
+    let p = port_with s i.arenas.items i.batches.items in
+    let is : p ≡ c.args.self.now = sym (port_is i c.take.result s c.take.ensures.value c.in-Some.is) ∙ c.self.view_is in
+    begun_runs c.args.table.now.about p.known c.begin_run-begun.new.lane.known c.begin_run-begun.result c.begin_run-begun.ensures.begun (subst (λ (q : Port). runs q ≡ false) (sym is) c.requires.idle)

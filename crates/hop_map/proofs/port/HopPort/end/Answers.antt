@@ -1,10 +1,10 @@
-use Rattle.std.proofs.Common.{◌≡◌, ℕ, ◌<◌, true, List, length, ap, sym, subst, ◌∙◌, arith, Vec, Global}
+use Rattle.std.proofs.Common.{◌≡◌, refl, ℕ, ◌<◌, true, List, length, ap, sym, subst, ◌∙◌, arith, Vec, Global}
 use Rattle.hop_arena.specs.declared.arena.Arena.{Arena}
 use Rattle.std.proofs.lemmas.List.{get_or_default}
 use Rattle.hop_epoch.specs.declared.batches.Batches.{Batches}
 use Rattle.hop_epoch.specs.Batch.{Keeps, Tracks}
 use Rattle.hop_map.specs.Port.{Port, IsPortOf, runs, batches_at, no_batches}
-use Rattle.hop_map.proofs.Ports.{port_with, port_is, reclaims, ends_last}
+use Rattle.hop_map.proofs.Ports.{ended_idle, port_with, port_is, reclaims, ends_last}
 use Rattle.hop_map.proofs.port.HopPort.end.Goals as goal
 
 pub maps-preserved : goal.maps-preserved
@@ -36,3 +36,11 @@ returns-clause-fits c =
     let m = c.maps.invariant in
     subst (λ (xs : List Arena). IsPortOf t (record { table = c.maps.lane.table; known = c.maps.lane.known; arenas = xs; batches = c.maps.self-inside.batches.items })) (ap (λ (v : Vec Arena Global). v.items) (sym m.3))
     (ends_last t p c.maps.lane.table c.end_run.new.lane.known c.maps.lane.known c.maps.self-inside.batches.items (subst (IsPortOf t) (sym is) c.requires.fits) (subst (λ (q : Port). runs q ≡ true) (sym is) c.requires.in_run) m.0 c.end_run.ensures.ended m.1)
+
+pub returns-clause-idle : goal.returns-clause-idle
+returns-clause-idle c =
+    let i = c.self.inside in
+    let s = c.in-Some.lane in
+    let p = port_with s i.arenas.items i.batches.items in
+    let is : p ≡ c.args.self.now = sym (port_is i c.take.result s c.take.ensures.value c.in-Some.is) ∙ c.self.view_is in
+    ended_idle c.args.table.now p c.end_run.new.lane.known c.maps.lane.known c.maps.self-inside.batches.items c.end_run.ensures.ended c.maps.invariant.1 (subst (λ (q : Port). runs q ≡ true) (sym is) c.requires.in_run)
