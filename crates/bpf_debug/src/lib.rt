@@ -12,3 +12,6 @@ mod text;
 pub use command::Command;
 pub use error::DebugError;
 pub use session::Session;
+
+#[cfg(test)]
+mod tests;
