@@ -1,0 +1,11 @@
+-- What follows from the definition of what is printed.
+use Rattle.std.specs.Prelude.{◌≡◌, ℕ, Bool, List}
+use Rattle.bpf_cpu.specs.Laws.{IsFresh}
+use Rattle.bpf_cpu.specs.Schedule.{World}
+use Rattle.bpf_jobs.specs.Printed.{IsReport}
+
+-- of jobs that all wait one text is told, and whether one of them stops
+abbrev pub ReportsAreDetermined : Type 0
+ReportsAreDetermined = (w : World) (names : List (List ℕ)) (maps : Bool) (text other : List ℕ)
+    (stopped halted : Bool) → IsFresh w → IsReport w names maps text stopped
+    → IsReport w names maps other halted → (text ≡ other) × (stopped ≡ halted)

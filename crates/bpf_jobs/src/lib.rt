@@ -1,0 +1,12 @@
+//! What is printed of jobs that are run in rounds over a plain store: their ends, and the maps that they leave.
+#![tactic(auto)]
+
+pub mod laws;
+mod line;
+mod listing;
+mod maps;
+mod rounds;
+#[cfg(test)]
+mod tests;
+
+pub use rounds::{Report, run_jobs};

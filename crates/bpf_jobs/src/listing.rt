@@ -1,0 +1,63 @@
+//! The lines of all jobs.
+
+ghost use Rattle.std.specs.Prelude.{◌≡◌, ◌++◌, IfOk, OnOk, length, slice_get, string_bytes};
+ghost use Rattle.bpf_cpu.specs.Task.{outcome_at};
+ghost use Rattle.bpf_jobs.specs.Printed.{any_stopped, is_stop, job_lines, line_at};
+
+use crate::line::JobLine;
+use bpf_cpu::{Machine, Outcome};
+use std::alloc::{AllocError, Global};
+
+/// Puts the line of a job behind the text, where the job has ended.
+#[tactic(auto, using(crate::proofs::LineLaws::no_cpu, crate::proofs::LineLaws::no_outcome, crate::proofs::LineLaws::has_ended))]
+fn push_job(
+    alloc: Global,
+    text: &mut String,
+    machine: &Machine,
+    job: usize,
+) -> Result<(), AllocError>
+    ensures { OnOk result (string_bytes text.new
+        ≡ string_bytes text.old ++ line_at job (slice_get machine.now.jobs job)) }
+{
+    let Some(cpu) = machine.cpu_of(job) else {
+        return Ok(());
+    };
+    let Some(outcome) = machine.outcome(job) else {
+        return Ok(());
+    };
+    let line = format!(in alloc; "{}", JobLine { job, cpu, outcome })?;
+    text.push_str(line.as_str())
+}
+
+/// A line a job, in the order of the machine's list.
+pub(crate) fn list_jobs(alloc: Global, machine: &Machine) -> Result<String, AllocError>
+    ensures { IfOk result (λ text. string_bytes text
+        ≡ job_lines (length machine.now.jobs) machine.now.jobs) }
+{
+    let mut text = String::new(alloc);
+    for job in 0..machine.jobs() {
+        push_job(alloc, &mut text, machine, job)?;
+    }
+    Ok(text)
+}
+
+/// Whether a job has ended in a fault or out of budget.
+fn has_stopped(machine: &Machine, job: usize) -> bool
+    ensures { result ≡ is_stop (outcome_at machine.now.jobs job) }
+{
+    match machine.outcome(job) {
+        Some(Outcome::Fault(_, _) | Outcome::OutOfBudget(_)) => true,
+        Some(Outcome::Exit(_)) | None => false,
+    }
+}
+
+/// Whether some job has.
+pub(crate) fn has_any_stopped(machine: &Machine) -> bool
+    ensures { result ≡ any_stopped (length machine.now.jobs) machine.now.jobs }
+{
+    let mut stopped = false;
+    for job in 0..machine.jobs() {
+        stopped = stopped || has_stopped(machine, job);
+    }
+    stopped
+}

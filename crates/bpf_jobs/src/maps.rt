@@ -1,0 +1,61 @@
+//! The lines of maps: a line a key, in the order of the keys' bytes.
+
+ghost use Rattle.std.specs.Prelude.{◌≡◌, ◌++◌, IfOk, OnOk, length, map, string_bytes};
+ghost use Rattle.bpf_shared.specs.Store.{Plain};
+ghost use Rattle.bpf_shared.specs.Sound.{IsSoundStore};
+ghost use Rattle.bpf_shared.specs.Contents.{StandsFor};
+ghost use Rattle.bpf_shared.specs.Shows.{listed};
+ghost use Rattle.bpf_jobs.specs.Printed.{IsMapText, key_lines, key_line};
+
+use bpf_shared::PlainStore;
+use std::alloc::{AllocError, Global};
+
+/// Puts the line of a key behind the text.
+fn push_key(
+    alloc: Global,
+    text: &mut String,
+    name: &str,
+    key: &[u8],
+    value: &[u8],
+) -> Result<(), AllocError>
+    ensures { OnOk result (string_bytes text.new
+        ≡ string_bytes text.old ++ key_line name.now key.now value.now) }
+{
+    let key = hex::encode(alloc, key)?;
+    let value = hex::encode(alloc, value)?;
+    let line = format!(in alloc; "map {name} {key}={value}\n")?;
+    text.push_str(line.as_str())
+}
+
+/// Puts the lines of a map behind the text.
+fn push_map(
+    alloc: Global,
+    text: &mut String,
+    name: &str,
+    pairs: &[(Vec<u8>, Vec<u8>)],
+) -> Result<(), AllocError>
+    ensures { OnOk result (string_bytes text.new
+        ≡ string_bytes text.old ++ key_lines name.now (length pairs.now) (listed pairs.now)) }
+{
+    for pair in pairs {
+        push_key(alloc, text, name, &pair.0, &pair.1)?;
+    }
+    Ok(())
+}
+
+/// The lines of all maps, which have these names, in the order of their numbers.
+pub(crate) fn list_maps(
+    alloc: Global,
+    store: &PlainStore,
+    names: &[String],
+) -> Result<String, AllocError>
+    ensures { IfOk result (λ text. (s : Plain) → IsSoundStore s → StandsFor store.now s
+        → IsMapText s (map string_bytes names.now) (length names.now) (string_bytes text)) }
+{
+    let mut text = String::new(alloc);
+    for map in 0..names.len() {
+        let pairs = store.dump(alloc, map as u64)?;
+        push_map(alloc, &mut text, names[map].as_str(), &pairs)?;
+    }
+    Ok(text)
+}

@@ -1,0 +1,103 @@
+//! Jobs from their beginning to what is printed of them.
+
+ghost use Rattle.std.specs.Prelude.{◌≡◌, ◌<◌, ◌≤◌, All, IfOk, length, map, string_bytes, vec_len};
+ghost use Rattle.bpf_mem.specs.Limits.{max_context};
+ghost use Rattle.bpf_shared.specs.Store.{Plain};
+ghost use Rattle.bpf_shared.specs.Sound.{IsSoundStore};
+ghost use Rattle.bpf_shared.specs.Contents.{StandsFor};
+ghost use Rattle.bpf_cpu.specs.Task.{waiting};
+ghost use Rattle.bpf_cpu.specs.Machine.{Shows};
+ghost use Rattle.bpf_jobs.specs.Printed.{first_world, IsAsked, IsReport, Tells};
+
+use crate::listing::{has_any_stopped, list_jobs};
+use crate::maps::list_maps;
+use bpf_cpu::{Job, Machine};
+use bpf_loader::Program;
+use bpf_shared::{PlainStore, StoreShape};
+use std::alloc::{AllocError, Global};
+
+/// What jobs have come to.
+#[derive(Drop)]
+pub struct Report {
+    /// A line a job, and then those of the maps, where they were asked for.
+    pub text: String,
+    /// Whether some job ended in a fault or out of budget.
+    pub stopped: bool,
+}
+
+/// A machine over a new store of this shape.
+fn make(
+    alloc: Global,
+    shape: StoreShape,
+    programs: Vec<Program>,
+    jobs: Vec<Job>,
+) -> Result<Machine, AllocError>
+    requires cpus { All (λ job. job.cpu < shape.cpus) jobs.items }
+    requires programs { All (λ job. job.program < vec_len programs) jobs.items }
+    requires contexts { All (λ job. vec_len job.context ≤ max_context) jobs.items }
+    ensures { IfOk result (λ m. Shows m (first_world shape programs.items (map waiting jobs.items))) }
+{
+    let Ok(store) = PlainStore::new(alloc, shape) else {
+        return Err(AllocError);
+    };
+    match Machine::new(alloc, store, programs, jobs) {
+        Ok(machine) => Ok(machine),
+        Err(_) => Err(AllocError),
+    }
+}
+
+/// The lines of the maps, where they are asked for.
+fn asked_lines(
+    alloc: Global,
+    store: &PlainStore,
+    names: &[String],
+    maps: bool,
+) -> Result<String, AllocError>
+    ensures { IfOk result (λ text. (s : Plain) → IsSoundStore s → StandsFor store.now s
+        → IsAsked maps s (map string_bytes names.now) (string_bytes text)) }
+{
+    if maps {
+        list_maps(alloc, store, names)
+    } else {
+        Ok(String::new(alloc))
+    }
+}
+
+/// What is printed of a machine whose jobs have ended.
+fn tell(
+    alloc: Global,
+    machine: &Machine,
+    names: &[String],
+    maps: bool,
+) -> Result<Report, AllocError>
+    ensures { IfOk result (λ r. (s : Plain) → IsSoundStore s → StandsFor machine.now.store s
+        → Tells s machine.now.jobs (map string_bytes names.now) maps (string_bytes r.text) r.stopped) }
+{
+    let mut text = list_jobs(alloc, machine)?;
+    let lines = asked_lines(alloc, machine.store(), names, maps)?;
+    text.push_str(lines.as_str())?;
+    let stopped = has_any_stopped(machine);
+    Ok(Report { text, stopped })
+}
+
+/// Runs jobs in rounds, until each has ended, over a new store whose maps have these names. Want of
+/// memory is the only refusal; all that the machine needs is there before its first turn.
+pub fn run_jobs(
+    alloc: Global,
+    shape: StoreShape,
+    names: &[String],
+    programs: Vec<Program>,
+    jobs: Vec<Job>,
+    maps: bool,
+) -> Result<Report, AllocError>
+    requires cpus { All (λ job. job.cpu < shape.cpus) jobs.items }
+    requires programs { All (λ job. job.program < vec_len programs) jobs.items }
+    requires contexts { All (λ job. vec_len job.context ≤ max_context) jobs.items }
+    ensures { IfOk result (λ r. IsReport (first_world shape programs.items (map waiting jobs.items))
+        (map string_bytes names.now) maps (string_bytes r.text) r.stopped) }
+{
+    let mut machine = make(alloc, shape, programs, jobs)?;
+    machine.rounds();
+    let report = tell(alloc, &machine, names, maps)?;
+    Ok(report)
+}
