@@ -10,6 +10,8 @@ pub mod Locking
 pub mod Replacing
 pub mod Homes
 pub mod Looking
+pub mod Peeking
+pub mod Onces
 pub mod Removing
 pub mod Offering
 pub mod Verdicts

@@ -9,3 +9,5 @@ pub mod Updates
 pub mod Finding
 pub mod Port
 pub mod Stores
+pub mod Peeks
+pub mod Resting

@@ -6,10 +6,12 @@ ghost use Rattle.hop_words.specs.Kinds.{LookedUp, span_at};
 ghost use Rattle.hop_words.specs.Locking.{lock_of};
 ghost use Rattle.hop_map.specs.Calls.{Contents};
 ghost use Rattle.hop_map.specs.Locks.{counted_lock};
-ghost use Rattle.hop_map.specs.Finding.{Asks, AsksHere, Looked};
+ghost use Rattle.hop_map.specs.Finding.{Asks, AsksHere, Looked, OnceEnds, Spares};
 
 use crate::homing::{homing, shape_of};
 use crate::locked::LockedWords;
+use crate::once::Once;
+use crate::peeked::PeekedWords;
 use crate::waiting::lock_when_free;
 use bpf_shared::Span;
 use hop_seg::find;
@@ -71,4 +73,58 @@ pub fn find_locked<R: Wait>(
     let words = LockedWords::new(table, lane, map, at.segment, at.key_size, at.elements);
     let (lane, found) = find_here(words, stamp, at.home, key);
     (lane, span_of(table, map, found))
+}
+
+/// Where the key's value lies, by one reading of the key's segment, which takes no lock and writes no
+/// word. Where the segment's stamp was locked or is another by the end, it answers nothing but that.
+pub fn find_once(table: &HopTable, lane: Lane, map: u8, key: &[u8]) -> (Lane, Once)
+    requires table { lane.table ≡ table.now.id }
+    requires asks { Asks table.now.about lane.known map key.now }
+    ensures table { result.0.table ≡ table.now.id }
+    ensures ends { OnceEnds table.now.about lane.known map key.now result.1 result.0.known }
+{
+    let at = homing(table, map, key);
+    let mut lane = lane;
+    let first = lane.see_stamp(table, map, at.segment);
+    if first % 2 == 1 {
+        return (lane, Once::Disturbed(first, first));
+    }
+    let mut words = PeekedWords::new(table, lane, map, at.segment, at.key_size, at.elements);
+    let found = find(&mut words, key, at.home);
+    let (lane, last) = words.see_again(key, found);
+    if last != first {
+        return (lane, Once::Disturbed(first, last));
+    }
+    match span_of(table, map, found) {
+        Some(span) => (lane, Once::Found(span)),
+        None => (lane, Once::Absent),
+    }
+}
+
+/// Where the key's value lies. Up to eight readings take no lock; where each was disturbed, the CPU
+/// waits for the lock.
+pub fn lookup<R: Wait>(
+    rt: &R,
+    table: &HopTable,
+    lane: Lane,
+    map: u8,
+    key: &[u8],
+) -> (Lane, Option<Span>)
+    requires table { lane.table ≡ table.now.id }
+    requires asks { Asks table.now.about lane.known map key.now }
+    ensures table { result.0.table ≡ table.now.id }
+    ensures found { Looked table.now.about lane.known map key.now result.1 result.0.known }
+    ensures spares { Spares table.now.about lane.known map key.now result.0.known }
+{
+    let mut lane = lane;
+    'tries: for _tried in 0..8u32 {
+        let (after, once) = find_once(table, lane, map, key);
+        lane = after;
+        match once {
+            Once::Found(span) => return (lane, Some(span)),
+            Once::Absent => return (lane, None),
+            Once::Disturbed(_, _) => {}
+        }
+    }
+    find_locked(rt, table, lane, map, key)
 }

@@ -1,0 +1,185 @@
+-- Words that were read while others may have been writing them.
+use Rattle.std.proofs.Common.{◌≡◌, ℕ, zero, suc, ◌+◌, ◌%◌, ◌<◌, ◌≤◌, ◌↔◌, Bool, true, false, true≢false, IsTrue, ◌||◌, ◌==◌, nat_lt, List, [], ◌∷◌, length, Option, Some, None, MatchOption, refl, ap, sym, subst, ◌∙◌, arith, ⊎_elim, inl, inr, ◌⊎◌}
+use Rattle.std.proofs.lemmas.Bool.Decides.{nat_tests}
+use Rattle.bpf_shared.specs.Shape.{elements}
+use Rattle.hop_words.specs.declared.known.About.{About}
+use Rattle.hop_words.specs.declared.known.Known.{Known}
+use Rattle.hop_words.specs.declared.known.Reading.{Reading}
+use Rattle.hop_words.specs.declared.place.Place.{Place}
+use Rattle.hop_words.specs.declared.place.Place.TheVariants.{Head, Hop, Slot, Link, KeyWord}
+use Rattle.hop_words.specs.Homes.{AreBytes, word_of, segment_of}
+use Rattle.hop_words.specs.Content.{Words, item, times, Reached, IsOnList, HopsTo, IsShare, HasKey}
+use Rattle.hop_words.specs.Ghost.{shape_at, segment_in}
+use Rattle.hop_words.specs.Rule.{IsPeek}
+use Rattle.hop_words.specs.Kinds.{AreWithin, Shown, AllPeeks, Finds}
+use Rattle.hop_words.specs.Peeking.{reading_of, HasReading}
+use Rattle.hop_words.proofs.Shares.{one_list}
+use Rattle.hop_seg.specs.Words.{Words as SegWords, IsKnown}
+use Rattle.hop_seg.specs.Segment.{Sound as SegSound, key_at}
+use Rattle.hop_seg.specs.Content.{IsAbsent as SegAbsent, HasPair}
+use Rattle.hop_words.specs.Home.{home_of}
+use Rattle.hop_map.specs.Views.{view}
+use Rattle.hop_map.specs.Finding.{AsksHere}
+use Rattle.hop_map.specs.Peeks.{Peeked, peeked, HavePeeks, Agreed, Rested, Spelled}
+use Rattle.hop_map.proofs.Keys.{same_spelling, other_size}
+use Rattle.hop_map.proofs.Bridge.{seg_sound, pair_leads, leads_pair}
+
+pub rested_by : (x : Peeked) (p : Place) (n : ℕ) → Rested x (peeked x p n)
+rested_by x p n = record { table = refl; about = refl; map = refl; segment = refl; known = refl; more = record { place = p; number = n } ∷ []; reading = refl }
+
+pub rested_as : (x y : Peeked) (p : Place) (n : ℕ) → y ≡ peeked x p n → Rested x y
+rested_as x y p n is = subst (Rested x) (sym is) (rested_by x p n)
+
+-- the word that was read last
+pub last_peek : (x y : Peeked) (p : Place) (n : ℕ) → y ≡ peeked x p n → (w : Words) → HavePeeks w y → IsPeek w x.map x.segment p n
+last_peek x y p n is w all = (subst (HavePeeks w) is all).0
+
+module _ (x y : Peeked) (n : ℕ) where
+  agreed : (p : Place) → y ≡ peeked x p n → (w : SegWords) → Agreed y w → Agreed (peeked x p n) w
+  agreed p is w g = subst (λ (z : Peeked). Agreed z w) is g
+
+  pub hop_value : (m s b : ℕ) → m ≡ x.map → s ≡ x.segment → y ≡ peeked x (Hop m s b) n → (w : SegWords) → Agreed y w → n % 4294967296 ≡ w.hop b
+  hop_value m s b hm hs is w a = let g = agreed (Hop m s b) is w a in ap (λ (k : ℕ). k % 4294967296) (sym (g.peeks.0 hm hs)) ∙ ap (λ (u : SegWords). u.hop b) (sym g.shown)
+
+  pub slot_value : (m s b : ℕ) → m ≡ x.map → s ≡ x.segment → y ≡ peeked x (Slot m s b) n → (w : SegWords) → Agreed y w → item n ≡ w.slot b
+  slot_value m s b hm hs is w a = let g = agreed (Slot m s b) is w a in ap item (sym (g.peeks.0 hm hs)) ∙ ap (λ (u : SegWords). u.slot b) (sym g.shown)
+
+  pub head_value : (m s : ℕ) → m ≡ x.map → s ≡ x.segment → y ≡ peeked x (Head m s) n → (w : SegWords) → Agreed y w → item n ≡ w.head
+  head_value m s hm hs is w a = let g = agreed (Head m s) is w a in ap item (sym (g.peeks.0 hm hs)) ∙ ap (λ (u : SegWords). u.head) (sym g.shown)
+
+  pub next_value : (m e : ℕ) → m ≡ x.map → y ≡ peeked x (Link m e) n → (w : SegWords) → Agreed y w → IsKnown w.fixed e → item n ≡ w.next e
+  next_value m e hm is w a k =
+      let g = agreed (Link m e) is w a in
+      let at_e = g.known_is e (subst (λ (u : SegWords). IsKnown u.fixed e) g.shown k).0 in
+      ap item (sym (g.peeks.0 hm at_e)) ∙ ap (λ (u : SegWords). u.next e) (sym g.shown)
+
+pub limit_is : (x : Peeked) (w : SegWords) → Agreed x w → w.fixed.limit ≡ elements (shape_at x.about x.map)
+limit_is x w g = ap (λ (u : SegWords). u.fixed.limit) g.shown
+
+pub known_below : (x : Peeked) (w : SegWords) (e : ℕ) → Agreed x w → IsKnown w.fixed e → e < elements (shape_at x.about x.map)
+known_below x w e g k = subst (λ (n : ℕ). e < n) (limit_is x w g) k.1
+
+-- the key that a known element's words spell
+module _ (x : Peeked) (e : ℕ) (key : List ℕ) (w : SegWords) (g : Agreed x w) (k : IsKnown w.fixed e) where
+  reached : Reached g.words x.map x.segment e
+  reached = g.known_is e (subst (λ (u : SegWords). IsKnown u.fixed e) g.shown k).0
+
+  its_key : (q : List ℕ) × HasKey (shape_at x.about x.map) g.words x.map e q
+  its_key = let q = g.share.each e reached in (q.0, q.1)
+
+  pub keyed_value : (b : Bool) → AreBytes key → length key ≡ (shape_at x.about x.map).key → (Reached g.words x.map x.segment e → IsTrue b ↔ Spelled x.about x.map g.words e key) → IsTrue b ↔ (key_at w e ≡ key)
+  keyed_value b bytes size spells =
+      let t = spells reached in
+      let s = same_spelling x.about x.map g.words e its_key.0 key its_key.1 bytes size in
+      subst (λ (u : SegWords). IsTrue b ↔ (key_at u e ≡ key)) (sym g.shown) (λ h. s.0 (t.0 h), λ h. t.1 (s.1 h))
+
+  pub sized_key : key_at w e ≡ key → length key ≡ (shape_at x.about x.map).key
+  sized_key h = other_size x.about x.map g.words e its_key.0 key its_key.1 (ap (λ (u : SegWords). key_at u e) (sym g.shown) ∙ h)
+
+pub spelled_on : (x y z : Peeked) (m e k n : ℕ) → Rested x y → z ≡ peeked y (KeyWord m e k) n → m ≡ y.map → (w : Words) → HavePeeks w z → Reached w x.map x.segment e → w.key x.map e k ≡ n
+spelled_on x y z m e k n r is hm w all reached =
+    let q : m ≡ y.map → Reached w y.map y.segment e → w.key y.map e k ≡ n = last_peek y z (KeyWord m e k) n is w all in
+    subst (λ (i : ℕ). w.key i e k ≡ n) r.map (q hm (subst (λ (i : ℕ). Reached w i y.segment e) (sym r.map) (subst (λ (t : ℕ). Reached w x.map t e) (sym r.segment) reached)))
+
+-- ---- the elements that words lead to, as a test
+abbrev is_item : Option ℕ → ℕ → Bool
+is_item None e = false
+is_item (Some d) e = d == e
+
+abbrev at_places : (ℕ → ℕ) → ℕ → ℕ → Bool
+at_places slot zero e = false
+at_places slot (suc n) e = is_item (item (slot n)) e || at_places slot n e
+
+is_item_is : (o : Option ℕ) (e : ℕ) → is_item o e ≡ true → o ≡ Some e
+is_item_is None e h = absurd (true≢false (sym h))
+is_item_is (Some d) e h = let z : d ≡ e = grind (arith, nat_tests) in ap Some z
+
+or_cases : (x y : Bool) → (x || y) ≡ true → (x ≡ true) ⊎ (y ≡ true)
+or_cases true y h = inl refl
+or_cases false y h = inr h
+
+or_first : (x y : Bool) → x ≡ true → (x || y) ≡ true
+or_first true y h = refl
+or_first false y h = absurd (true≢false (sym h))
+
+or_second : (x y : Bool) → y ≡ true → (x || y) ≡ true
+or_second true y h = refl
+or_second false y h = h
+
+at_place : (slot : ℕ → ℕ) (n e : ℕ) → at_places slot n e ≡ true → (p : ℕ) × (p < n) × (item (slot p) ≡ Some e)
+at_place slot zero e h = absurd (true≢false (sym h))
+at_place slot (suc n) e h = ⊎_elim
+    (λ (t : is_item (item (slot n)) e ≡ true). (n, (omega arith), is_item_is (item (slot n)) e t))
+    (λ (t : at_places slot n e ≡ true). let r = at_place slot n e t in (r.0, (let z = r.1 in omega arith), r.2))
+    (or_cases (is_item (item (slot n)) e) (at_places slot n e) h)
+
+item_is : (o : Option ℕ) (e : ℕ) → o ≡ Some e → is_item o e ≡ true
+item_is o e h = ap (λ (i : Option ℕ). is_item i e) h ∙ (let z : e == e ≡ true = grind (arith, nat_tests) in z)
+
+place_at : (slot : ℕ → ℕ) (n p e : ℕ) → p < n → item (slot p) ≡ Some e → at_places slot n e ≡ true
+place_at slot zero p e l h = absurd (omega arith)
+place_at slot (suc n) p e l h = ⊎_elim
+    (λ (t : p ≡ n). or_first (is_item (item (slot n)) e) (at_places slot n e) (item_is (item (slot n)) e (ap (λ (i : ℕ). item (slot i)) (sym t) ∙ h)))
+    (λ (t : p < n). or_second (is_item (item (slot n)) e) (at_places slot n e) (place_at slot n p e t h))
+    (last p n l)
+  where
+    last : (p n : ℕ) → p < suc n → (p ≡ n) ⊎ (p < n)
+    last zero zero l = inl refl
+    last zero (suc n) l = inr (omega arith)
+    last (suc p) zero l = absurd (omega arith)
+    last (suc p) (suc n) l = ⊎_elim (λ (t : p ≡ n). inl (ap suc t)) (λ (t : p < n). inr (omega arith)) (last p n (omega arith))
+
+module _ (a : About) (m s : ℕ) (w : Words) (f : List ℕ → Option ℕ) (share : IsShare a.seed (shape_at a m) (segment_in a m) w m s f) where
+  abbrev leads_to : ℕ → Bool
+  leads_to e = at_places (w.slot m s) 64 e || nat_lt 0 (times e share.sound.list)
+
+  known_reached : (e : ℕ) → leads_to e ≡ true → Reached w m s e
+  known_reached e h = ⊎_elim
+      (λ (t : at_places (w.slot m s) 64 e ≡ true). let r = at_place (w.slot m s) 64 e t in let q = share.sound.hopped r.0 e r.1 r.2 in inl (q.0, q.1, q.2))
+      (λ (t : nat_lt 0 (times e share.sound.list) ≡ true). inr (share.sound.list, share.sound.follows, grind (arith, nat_tests)))
+      (or_cases (at_places (w.slot m s) 64 e) (nat_lt 0 (times e share.sound.list)) h)
+
+  reached_known : (e : ℕ) → Reached w m s e → leads_to e ≡ true
+  reached_known e r = ⊎_elim
+      (λ (h : (b : ℕ) × (d : ℕ) × HopsTo w m s b d e). or_first (at_places (w.slot m s) 64 e) (nat_lt 0 (times e share.sound.list)) (place_at (w.slot m s) 64 ((h.0 + h.1) % 64) e (omega arith) h.2.3))
+      (λ (o : IsOnList w m s e).
+      let same : o.0 ≡ share.sound.list = one_list (w.link m) (w.head m s) o.0 share.sound.list o.1 share.sound.follows in
+      let few : 1 ≤ times e share.sound.list = subst (λ (es : List ℕ). 1 ≤ times e es) same o.2 in
+      or_second (at_places (w.slot m s) 64 e) (nat_lt 0 (times e share.sound.list)) (grind (arith, nat_tests)))
+      r
+
+  module _ (within : AreWithin a m f) where
+    all_known : (key : List ℕ) (e : ℕ) → f key ≡ Some e → segment_of a.seed (shape_at a m) key ≡ s → (e < elements (shape_at a m)) × (leads_to e ≡ true)
+    all_known key e is at_home = (within key e is, reached_known e (share.all key e is at_home).0)
+
+    shown_sound : SegSound (view a m s leads_to w)
+    shown_sound = seg_sound a m s leads_to w f share all_known
+
+    shown_leads : (key : List ℕ) → segment_of a.seed (shape_at a m) key ≡ s → (o : Option ℕ) → MatchOption o (SegAbsent (view a m s leads_to w) key) (λ e. HasPair (view a m s leads_to w) key e) → f key ≡ o
+    shown_leads key at_home (Some e) there = (pair_leads a m s leads_to w f share all_known key e there).0
+    shown_leads key at_home None gone = go (f key) refl
+      where
+        go : (o : Option ℕ) → f key ≡ o → f key ≡ None
+        go None is = is
+        go (Some e) is = absurd (gone e (leads_pair a m s leads_to w f share all_known key e is at_home))
+
+-- what a find says of all words that agree is what see stamp again asks for
+module _ (y : Peeked) (key : List ℕ) (o : Option ℕ) (b : AsksHere y.about y.known y.map y.segment key) (h : ℕ) (h_is : h ≡ home_of key y.about.seed (shape_at y.about y.map).mask)
+    (found : (w : SegWords) → Agreed y w → SegSound w → h ≡ w.fixed.home key → MatchOption o (SegAbsent w key) (λ e. HasPair w key e)) where
+  shown_here : (w : Words) (f : List ℕ → Option ℕ) → IsShare y.about.seed (shape_at y.about y.map) (segment_in y.about y.map) w y.map y.segment f → AreWithin y.about y.map f → HavePeeks w y → f key ≡ o
+  shown_here w f share within all =
+      let k = leads_to y.about y.map y.segment w f share in
+      shown_leads y.about y.map y.segment w f share within key b.home o
+      (found (view y.about y.map y.segment k w)
+      (record { words = w; content = f; share = share; peeks = all; known = k; known_is = known_reached y.about y.map y.segment w f share; shown = refl })
+      (shown_sound y.about y.map y.segment w f share within) h_is)
+
+  pub finds : HasReading y.known y.map y.segment → Finds y.about y.known (reading_of y.known) key o
+  finds here = record {
+    reading = here.0;
+    key_size = b.size ∙ ap (λ (m : ℕ). (shape_at y.about m).key) (sym here.1);
+    home = ap (λ (m : ℕ). segment_in y.about m key) here.1 ∙ (b.home ∙ sym here.2);
+    shown = subst (λ (m : ℕ). (w : Words) (f : List ℕ → Option ℕ) → IsShare y.about.seed (shape_at y.about m) (segment_in y.about m) w m (reading_of y.known).segment f → AreWithin y.about m f → AllPeeks w (record (reading_of y.known) { map = m }) → f key ≡ o) (sym here.1)
+        (subst (λ (t : ℕ). (w : Words) (f : List ℕ → Option ℕ) → IsShare y.about.seed (shape_at y.about y.map) (segment_in y.about y.map) w y.map t f → AreWithin y.about y.map f → AllPeeks w (record (reading_of y.known) { map = y.map; segment = t }) → f key ≡ o) (sym here.2) shown_here);
+    runs = b.runs;
+  }
