@@ -1,0 +1,5 @@
+pub mod Answering
+pub mod Cutting
+pub mod Sections
+pub mod Names
+pub mod Fits

@@ -20,6 +20,7 @@ key_text key.Hex = codes "hex"
 key_text key.Job = codes "job"
 key_text key.Budget = codes "budget"
 key_text key.Context = codes "ctx"
+key_text key.End = codes "end"
 
 abbrev pub is_key : Key → List ℕ → Bool
 is_key k field = bytes_eq (key_text k) field

@@ -1,4 +1,10 @@
 pub mod Key
 pub mod Form
 pub mod Statement
-pub mod Line
+pub mod File
+pub mod Parts
+pub mod Programs
+pub mod Rows
+pub mod Reading
+pub mod Runnable
+pub mod Private

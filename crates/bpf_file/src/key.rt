@@ -24,6 +24,8 @@ pub enum Key {
     Job,
     Budget,
     Context,
+    /// Behind a program's assembly, alone.
+    End,
 }
 
 impl Key {
@@ -47,6 +49,7 @@ impl Key {
             Key::Job => "job",
             Key::Budget => "budget",
             Key::Context => "ctx",
+            Key::End => "end",
         }
     }
 

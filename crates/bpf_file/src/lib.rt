@@ -1,12 +1,17 @@
-//! Run files: CPUs, maps, programs and jobs in one text. Today its lines; the groups and the
-//! programs
-//! between `prog` and `end` come next.
+//! Run files: CPUs, maps, programs and jobs in one text.
 #![tactic(auto)]
 
+mod assembly;
+mod draft;
+pub mod error;
+pub mod file;
 mod form;
+mod group;
 mod key;
-pub mod line;
-pub mod statement;
+mod line;
+mod program;
+mod reader;
+mod statement;
 
-pub use line::{LineError, read};
-pub use statement::Statement;
+pub use error::{FileError, Reason};
+pub use file::RunFile;

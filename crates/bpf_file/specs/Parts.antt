@@ -1,0 +1,91 @@
+-- How far a run file goes: what the lines before one have said, and which line may follow (our
+-- own choice).
+use Rattle.std.specs.Prelude.{ℕ, ◌+◌, ◌==◌, ◌&&◌, ◌||◌, nat_le, nat_lt, Bool, if◌then◌else◌, List, [], ◌∷◌, ◌++◌, length, Option, Some, None}
+use Rattle.std.specs.Option.{option_map}
+use Rattle.std.specs.Str.{bytes_eq}
+use Rattle.bpf_shared.specs.declared.shapes.MapShape.{MapShape}
+use Rattle.bpf_loader.specs.Loaded.{Loaded}
+use Rattle.bpf_cpu.specs.Task.{Task}
+use Rattle.bpf_file.specs.declared.key.Key.TheVariants as key
+use Rattle.bpf_file.specs.Key.{is_key}
+use Rattle.bpf_file.specs.File.{File}
+
+-- the group of the last line that said something, 0 before the first one; the programs' names by
+-- their numbers; and the file as far as it goes
+pub record Part : Type 0 where
+  pub group : ℕ
+  pub titles : List (List ℕ)
+  pub file : File
+
+-- after a line that is no program's; or after some lines of a program's assembly: the line of its
+-- `prog`, its name, and those lines
+pub data State : Type 0 where
+  Between : Part → State
+  Within : Part → ℕ → List ℕ → List (List ℕ) → State
+
+-- before the first line
+abbrev pub nothing : Part
+nothing = record {
+  group = 0;
+  titles = [];
+  file = record { cpus = 1; seed = 0; names = []; maps = []; programs = []; jobs = [] };
+}
+
+-- ---- groups
+
+-- the group of a line, by its first word: the first line, CPUs, seed, maps, programs, jobs; more
+-- than that for a line of none
+abbrev pub group_of : List ℕ → ℕ
+group_of word =
+    if is_key key.RunFile word then 1
+    else (if is_key key.Cpus word then 2
+    else (if is_key key.Seed word then 3
+    else (if is_key key.Map word then 4
+    else (if is_key key.Program word then 5
+    else (if is_key key.Job word then 6
+    else 7)))))
+
+-- groups follow one another in this order; those of maps, programs and jobs have many lines
+abbrev pub is_in_order : ℕ → ℕ → Bool
+is_in_order last group = nat_lt last group || ((last == group) && nat_le 4 group)
+
+-- as many programs or jobs as there may be
+abbrev pub is_full : Part → ℕ → Bool
+is_full p group =
+    ((group == 5) && nat_le 256 (length p.titles))
+    || ((group == 6) && nat_le 4096 (length p.file.jobs))
+
+-- ---- names
+
+-- the number of the first of this name
+abbrev pub place_of : List ℕ → List (List ℕ) → Option ℕ
+place_of name [] = None
+place_of name (n ∷ ns) =
+    if bytes_eq n name then Some 0 else option_map (λ k. k + 1) (place_of name ns)
+
+-- ---- what one more line adds
+
+abbrev pub with_first : Part → Part
+with_first p = record p { group = 1 }
+
+abbrev pub with_cpus : Part → ℕ → Part
+with_cpus p n = record p { group = 2; file = record p.file { cpus = n } }
+
+abbrev pub with_seed : Part → ℕ → Part
+with_seed p n = record p { group = 3; file = record p.file { seed = n } }
+
+abbrev pub with_map : Part → List ℕ → MapShape → Part
+with_map p name h = record p {
+  group = 4;
+  file = record p.file { names = p.file.names ++ name ∷ []; maps = p.file.maps ++ h ∷ [] };
+}
+
+abbrev pub with_program : Part → List ℕ → Loaded → Part
+with_program p name program = record p {
+  group = 5;
+  titles = p.titles ++ name ∷ [];
+  file = record p.file { programs = p.file.programs ++ program ∷ [] };
+}
+
+abbrev pub with_job : Part → Task → Part
+with_job p task = record p { group = 6; file = record p.file { jobs = p.file.jobs ++ task ∷ [] } }

@@ -1,0 +1,4 @@
+-- What private functions of the reader answer. No public clause speaks of these definitions.
+pub mod Answers
+pub mod Cuts
+pub mod Drafts

@@ -1,0 +1,23 @@
+-- How the reader cuts a program's assembly off. Private functions cite this.
+use Rattle.std.specs.Prelude.{◌≡◌, ◌≤◌, ◌+◌, ℕ, List, [], ◌∷◌, ◌++◌, length, false, true}
+use Rattle.std.specs.Option.{option_copied}
+use Rattle.bpf_text.specs.Lines.{lines_of, lines_behind, rest_size}
+use Rattle.bpf_file.specs.declared.assembly.Assembly.{Assembly}
+use Rattle.bpf_file.specs.Programs.{text_of}
+use Rattle.bpf_file.specs.Reading.{is_end}
+
+-- no line ends a program
+abbrev pub AreOpen : List (List ℕ) → Type 0
+AreOpen [] = Unit {0}
+AreOpen (l ∷ ls) = (is_end l ≡ false) × AreOpen ls
+
+-- of the text's lines the first that ends a program, and what stands before and behind it
+pub record IsCut (text : List ℕ) (a : Assembly) : Type 0 where
+  pub body : List (List ℕ)
+  pub last : List ℕ
+  pub parts : lines_of text ≡ body ++ last ∷ lines_behind (option_copied a.rest)
+  pub assembly : a.text.now ≡ text_of body
+  pub count : a.lines ≡ length body
+  pub before : AreOpen body
+  pub ended : is_end last ≡ true
+  pub size : a.lines + rest_size (option_copied a.rest) ≤ length text

@@ -1,0 +1,79 @@
+-- What the reader has gathered so far, and what its functions answer. Private functions cite this.
+use Rattle.std.specs.Prelude.{◌≡◌, ℕ, List, [], length, map, Result, Ok, Err, Option}
+use Rattle.std.specs.Option.{option_copied}
+use Rattle.bpf_text.specs.Lines.{lines_behind}
+use Rattle.bpf_cpu.specs.Task.{waiting}
+use Rattle.bpf_file.specs.declared.draft.Draft.{Draft}
+use Rattle.bpf_file.specs.declared.draft.Next.{Next}
+use Rattle.bpf_file.specs.declared.draft.Next.TheVariants.{Line, Assembly}
+use Rattle.bpf_file.specs.declared.error.FileError.{FileError}
+use Rattle.bpf_file.specs.declared.error.FileError.TheVariants.{Refused, OutOfMemory}
+use Rattle.bpf_file.specs.declared.error.Reason.{Reason}
+use Rattle.bpf_file.specs.declared.error.Reason.TheVariants.{NotHex}
+use Rattle.hex.specs.declared.error.FromHexError.{FromHexError}
+use Rattle.bpf_loader.specs.Loaded.{Loaded}
+use Rattle.bpf_file.specs.Programs.{OfAssembly}
+use Rattle.bpf_file.specs.declared.line.LineError.{LineError}
+use Rattle.bpf_file.specs.declared.statement.Statement.{Statement}
+use Rattle.bpf_file.specs.File.{File}
+use Rattle.bpf_file.specs.Parts.{Part, State, Between, Within}
+use Rattle.bpf_file.specs.Statement.{Said, said_by}
+use Rattle.bpf_file.specs.Rows.{Adds, program_added}
+use Rattle.bpf_file.specs.Reading.{AreRead}
+use Rattle.bpf_file.specs.Private.Answers.{OrMemory}
+use denote.Ref.{Bor}
+
+abbrev pub part_of : Draft → Part
+part_of d = record {
+  group = d.group;
+  titles = map (λ t. t.now) d.titles.items;
+  file = record {
+    cpus = d.cpus;
+    seed = d.seed;
+    names = map (λ t. t.now) d.names.items;
+    maps = d.maps.items;
+    programs = d.programs.items;
+    jobs = map waiting d.jobs.items;
+  };
+}
+
+-- what is said, without where names and digits lie
+abbrev pub said_in : {E : Type 0} → Result Statement E → Result Said E
+said_in (Ok s) = Ok (said_by s)
+said_in (Err e) = Err e
+
+-- where a line's answer leads, the draft being this part then
+abbrev pub after : ℕ → Part → Result Next FileError → Result State FileError
+after n p (Ok Line) = Ok (Between p)
+after n p (Ok (Assembly name)) = Ok (Within p n name.now [])
+after n p (Err e) = Err e
+
+-- where the end of an assembly leads
+abbrev pub closed : {X : Type 0} → Part → Result X FileError → Result State FileError
+closed p (Ok x) = Ok (Between p)
+closed p (Err e) = Err e
+
+-- the line of this number, which says this, made the one part the other
+abbrev pub Added : ℕ → Part → Said → Part → Result Next FileError → Type 0
+Added n p said q result = OrMemory (λ a. Adds n p said (after n q a)) result
+
+-- the bytes of a context, or its refusal
+abbrev pub HasContext : {V : Type 0} → (V → List ℕ) → ℕ → Result (List ℕ) FromHexError → Result V FileError → Type 0
+HasContext items n c (Ok v) = c ≡ Ok (items v)
+HasContext items n c (Err OutOfMemory) = Unit {0}
+HasContext items n c (Err (Refused m why)) =
+    (m ≡ n) × (why ≡ NotHex) × (e : FromHexError) × (c ≡ Err e)
+
+-- the end of a program's assembly
+abbrev pub Ends : ℕ → Part → List ℕ → List ℕ → Result State FileError → Type 0
+Ends from p name text r =
+    (o : Result Loaded FileError) × OfAssembly from (length p.file.maps) text o
+    × (r ≡ program_added p name o)
+
+-- what lines are read as follows of what those behind are, from there on
+abbrev pub Goes : ℕ → State → List (List ℕ) → Part → Result (ℕ × Option (Bor (List ℕ))) FileError → Type 0
+Goes n s ls p (Ok r) =
+    (o : Result File FileError) → AreRead r.0 (Between p) (lines_behind (option_copied r.1)) o
+    → AreRead n s ls o
+Goes n s ls p (Err OutOfMemory) = Unit {0}
+Goes n s ls p (Err (Refused m why)) = AreRead n s ls (Err (Refused m why))

@@ -1,0 +1,66 @@
+-- Programs of a run file, as assembly or as hex digits, and why they are refused (our own choice).
+use Rattle.std.specs.Prelude.{◌≡◌, ◌≢◌, ℕ, ◌+◌, List, [], ◌∷◌, ◌++◌, Result, Ok, Err, MatchResult}
+use Rattle.hex.specs.Hex.{decode_of}
+use Rattle.bpf_insn.specs.declared.instruction.Insn.{Insn}
+use Rattle.bpf_insn.specs.declared.error.InsnError.{InsnError}
+use Rattle.bpf_insn.specs.declared.error.InsnError.TheVariants as insn
+use Rattle.bpf_insn.specs.Encoding.{IsEncodedAs}
+use Rattle.bpf_insn.specs.Refusal.{IsSized, IsRefused}
+use Rattle.bpf_text.specs.declared.error.TextError.{TextError}
+use Rattle.bpf_text.specs.declared.error.TextError.TheVariants as text
+use Rattle.bpf_text.specs.Assembly.{Assembles}
+use Rattle.bpf_loader.specs.declared.refusal.LoadError.{LoadError}
+use Rattle.bpf_loader.specs.Loaded.{Loaded}
+use Rattle.bpf_loader.specs.Sound.{IsSound, IsFirstRefusal}
+use Rattle.bpf_file.specs.declared.error.FileError.{FileError}
+use Rattle.bpf_file.specs.declared.error.FileError.TheVariants.{Refused, OutOfMemory}
+use Rattle.bpf_file.specs.declared.error.Reason.TheVariants as reason
+
+-- the program of these instructions, for so many maps; or its first refusal, at this line
+abbrev pub Loads : ℕ → ℕ → List Insn → Result Loaded FileError → Type 0
+Loads line maps is (Ok program) =
+    (program ≡ record { instructions = is; maps = maps }) × IsSound maps is
+Loads line maps is (Err e) =
+    (why : LoadError) × (e ≡ Refused line (reason.Load why)) × IsFirstRefusal maps is why
+
+-- ---- as hex digits
+
+-- the instructions of bytes, or why they are none
+abbrev pub Decodes : List ℕ → Result (List Insn) InsnError → Type 0
+Decodes bytes (Ok is) = IsSized bytes × IsEncodedAs is bytes
+Decodes bytes (Err e) = IsRefused e bytes × (e ≢ insn.OutOfMemory)
+
+abbrev pub OfBytes : ℕ → ℕ → List ℕ → Result Loaded FileError → Type 0
+OfBytes line maps bytes r =
+    (o : Result (List Insn) InsnError) × Decodes bytes o
+    × MatchResult o (λ is. Loads line maps is r) (λ e. r ≡ Err (Refused line (reason.Insn e)))
+
+-- the program in this line's digits; or its refusal
+abbrev pub OfDigits : ℕ → ℕ → List ℕ → Result Loaded FileError → Type 0
+OfDigits line maps digits r =
+    MatchResult (decode_of digits) (λ bytes. OfBytes line maps bytes r)
+    (λ e. r ≡ Err (Refused line reason.NotHex))
+
+-- ---- as assembly
+
+-- lines, each with its line feed
+abbrev pub text_of : List (List ℕ) → List ℕ
+text_of [] = []
+text_of (l ∷ ls) = l ++ 10 ∷ text_of ls
+
+-- a refusal of assembly that stands behind this line of the file
+abbrev pub behind : ℕ → TextError → FileError
+behind line (text.BadLine n) = Refused (line + n) reason.BadInstruction
+behind line (text.BadNumber n) = Refused (line + n) reason.BadOperand
+behind line (text.UnknownLabel n) = Refused (line + n) reason.UnknownLabel
+behind line (text.TwiceLabel n) = Refused (line + n) reason.TwiceLabel
+behind line (text.FarLabel n) = Refused (line + n) reason.FarLabel
+behind line text.NotHex = Refused line reason.NotHex
+behind line text.OutOfMemory = OutOfMemory
+
+-- the program in the assembly behind this line; or its refusal: of the first line that has one,
+-- or else of the whole program, at the line of its `prog`
+abbrev pub OfAssembly : ℕ → ℕ → List ℕ → Result Loaded FileError → Type 0
+OfAssembly line maps assembly r =
+    (o : Result (List Insn) TextError) × Assembles assembly o
+    × MatchResult o (λ is. Loads line maps is r) (λ e. r ≡ Err (behind line e))

@@ -1,0 +1,116 @@
+-- What one line adds to a run file, a row for each thing that it may say; or why it is refused
+-- (our own choice).
+use Rattle.std.specs.Prelude.{◌≡◌, ℕ, ◌==◌, ◌&&◌, not, nat_le, nat_lt, Bool, true, false, if◌then◌else◌, List, [], ◌∷◌, ◌++◌, length, Option, Some, None, Result, Ok, Err}
+use Rattle.std.specs.Option.{option_map}
+use Rattle.hex.specs.Hex.{decode_of}
+use Rattle.hex.specs.declared.error.FromHexError.{FromHexError}
+use Rattle.bpf_shared.specs.First.{first_of}
+use Rattle.bpf_shared.specs.Refusals.{map_tests, outside}
+use Rattle.bpf_shared.specs.declared.shapes.MapShape.{MapShape}
+use Rattle.bpf_shared.specs.declared.shapes.ShapeError.TheVariants as shape
+use Rattle.bpf_loader.specs.Loaded.{Loaded}
+use Rattle.bpf_cpu.specs.Task.{Task, Waiting}
+use Rattle.bpf_file.specs.declared.error.FileError.{FileError}
+use Rattle.bpf_file.specs.declared.error.FileError.TheVariants.{Refused}
+use Rattle.bpf_file.specs.declared.error.Reason.{Reason}
+use Rattle.bpf_file.specs.declared.error.Reason.TheVariants as reason
+use Rattle.bpf_file.specs.declared.line.LineError.{LineError}
+use Rattle.bpf_file.specs.declared.line.LineError.TheVariants as line
+use Rattle.bpf_file.specs.Form.{is_there}
+use Rattle.bpf_file.specs.Statement.{Said, Version, Cpus, Seed, Map, Program, Words, Job}
+use Rattle.bpf_file.specs.Parts.{Part, State, Between, Within, group_of, is_in_order, is_full, place_of, with_first, with_cpus, with_seed, with_map, with_program, with_job}
+use Rattle.bpf_file.specs.Programs.{OfDigits}
+
+-- the file goes on, or the line is refused for this reason
+abbrev pub unless : ℕ → Option Reason → Part → Result State FileError
+unless n None p = Ok (Between p)
+unless n (Some why) p = Err (Refused n why)
+
+-- ---- which line may stand here
+
+-- the first line that says anything
+abbrev pub first_said : Result Said LineError → Result Said Reason
+first_said (Ok Version) = Ok Version
+first_said said = Err reason.BadFirstLine
+
+-- any other
+abbrev pub later_said : Result Said LineError → Result Said Reason
+later_said (Ok said) = Ok said
+later_said (Err line.BadForm) = Err reason.BadLine
+later_said (Err line.BadNumber) = Err reason.BadNumber
+later_said (Err line.OutOfMemory) = Err reason.BadLine
+
+-- one of this group may come next
+abbrev pub may_stand : Part → ℕ → Bool
+may_stand p group = is_in_order p.group group && not (is_full p group)
+
+-- what a line says, by its first word and all of it, if it may stand here
+abbrev pub placed : Part → List ℕ → Result Said LineError → Result Said Reason
+placed p word said =
+    if p.group == 0 then first_said said
+    else (if may_stand p (group_of word) then later_said said else Err reason.BadLine)
+
+-- ---- CPUs and maps
+
+abbrev pub cpus_refusal : ℕ → Option Reason
+cpus_refusal n = if outside 1 16 n then Some (reason.Shape shape.CpuCount) else None
+
+abbrev pub map_refusal : Part → List ℕ → MapShape → Option Reason
+map_refusal p name h =
+    if is_there (place_of name p.file.names) then Some reason.TwiceName
+    else (if nat_le 16 (length p.file.maps) then Some (reason.Shape shape.TooManyMaps)
+    else option_map reason.Shape (first_of (map_tests (length p.file.maps) h)))
+
+-- ---- programs
+
+-- a name that no program has yet
+abbrev pub if_new : ℕ → Part → List ℕ → Result State FileError → Result State FileError
+if_new n p name r = if is_there (place_of name p.titles) then Err (Refused n reason.TwiceName) else r
+
+abbrev pub program_added : Part → List ℕ → Result Loaded FileError → Result State FileError
+program_added p name (Ok program) = Ok (Between (with_program p name program))
+program_added p name (Err e) = Err e
+
+-- a program on one line, where it has a name that stands before, or a new one
+abbrev pub WordsAdd : Option ℕ → ℕ → Part → List ℕ → List ℕ → Result State FileError → Type 0
+WordsAdd (Some k) n p name digits r = r ≡ Err (Refused n reason.TwiceName)
+WordsAdd None n p name digits r =
+    (o : Result Loaded FileError) × OfDigits n (length p.file.maps) digits o
+    × (r ≡ program_added p name o)
+
+-- ---- jobs
+
+-- the CPU, if the file has it
+abbrev pub served : ℕ → Option ℕ → Option ℕ
+served cpus (Some n) = if nat_lt n cpus then Some n else None
+served cpus None = None
+
+abbrev pub steps_of : Option ℕ → ℕ
+steps_of (Some n) = n
+steps_of None = 1000000
+
+-- the bytes of a context, none where the line has no digits
+abbrev pub context_of : Option (List ℕ) → Result (List ℕ) FromHexError
+context_of (Some digits) = decode_of digits
+context_of None = Ok []
+
+abbrev pub job_added : ℕ → Part → Option ℕ → Option ℕ → ℕ → Result (List ℕ) FromHexError
+    → Result State FileError
+job_added n p (Some cpu) (Some program) steps (Ok bytes) = Ok (Between (with_job p
+    (record { cpu = cpu; program = program; budget = steps; stage = Waiting bytes })))
+job_added n p (Some cpu) (Some program) steps (Err e) = Err (Refused n reason.NotHex)
+job_added n p (Some cpu) None steps context = Err (Refused n reason.Unknown)
+job_added n p None program steps context = Err (Refused n reason.Unknown)
+
+-- ---- THE ROWS
+
+-- after so much of the file its n-th line says this: then the file goes on so, or is refused
+abbrev pub Adds : ℕ → Part → Said → Result State FileError → Type 0
+Adds n p Version r = r ≡ Ok (Between (with_first p))
+Adds n p (Cpus c) r = r ≡ unless n (cpus_refusal c) (with_cpus p c)
+Adds n p (Seed s) r = r ≡ Ok (Between (with_seed p s))
+Adds n p (Map name h) r = r ≡ unless n (map_refusal p name h) (with_map p name h)
+Adds n p (Program name) r = r ≡ if_new n p name (Ok (Within p n name []))
+Adds n p (Words name digits) r = WordsAdd (place_of name p.titles) n p name digits r
+Adds n p (Job cpu name steps context) r =
+    r ≡ job_added n p (served p.file.cpus cpu) (place_of name p.titles) (steps_of steps) (context_of context)

@@ -1,0 +1,370 @@
+//! What the lines of a run file have said so far.
+
+ghost use Rattle.std.specs.Prelude.{◌≡◌, length, map, OnOk, IsOkUnless};
+ghost use Rattle.std.specs.Option.{option_copied};
+ghost use Rattle.bpf_shared.specs.First.{first_of};
+ghost use Rattle.bpf_shared.specs.Refusals.{map_tests};
+ghost use Rattle.bpf_cpu.specs.Task.{waiting};
+ghost use Rattle.bpf_file.specs.Form.{field_at};
+ghost use Rattle.bpf_file.specs.Parts.{nothing, is_full, with_map, with_program, with_job};
+ghost use Rattle.bpf_file.specs.Reading.{FieldsSay};
+ghost use Rattle.bpf_file.specs.Rows.{first_said, later_said, may_stand, placed, map_refusal, served, context_of};
+ghost use Rattle.bpf_file.specs.Statement.{said_by, statement_of};
+ghost use Rattle.bpf_file.specs.Statement as says;
+ghost use Rattle.bpf_file.specs.declared.statement.Statement.TheVariants as statement_kind;
+ghost use Rattle.bpf_file.specs.Private.Answers.{OrMemory};
+ghost use Rattle.bpf_file.specs.Private.Drafts.{part_of, said_in, after, Added, HasContext, Ends, closed};
+
+use crate::error::{FileError, Reason};
+use crate::form;
+use crate::group;
+use crate::line::LineError;
+use crate::program;
+use crate::statement::{self, JobLine, Statement};
+use bpf_cpu::Job;
+use bpf_loader::Program;
+use bpf_shared::{MapShape, ShapeError};
+use hex::FromHexError;
+use std::alloc::Global;
+
+/// The most programs, maps and jobs of a file.
+const MOST_PROGRAMS: usize = 256;
+const MOST_MAPS: usize = 16;
+const MOST_JOBS: usize = 4_096;
+
+/// How many steps a job makes at most whose line doesn't say it.
+const STEPS: u64 = 1_000_000;
+
+/// A file as far as it goes. Names are as they stand in the text.
+#[derive(Drop)]
+pub struct Draft<'a> {
+    /// The group of the last line that said something, 0 before the first.
+    pub group: u8,
+    pub cpus: u8,
+    pub seed: u64,
+    pub names: Vec<&'a [u8]>,
+    pub maps: Vec<MapShape>,
+    /// The programs' names.
+    pub titles: Vec<&'a [u8]>,
+    pub programs: Vec<Program>,
+    pub jobs: Vec<Job>,
+}
+
+/// What follows a line: any other, or the assembly of a program of this name.
+#[derive(Clone, Copy)]
+pub enum Next<'a> {
+    Line,
+    Assembly(&'a [u8]),
+}
+
+/// What the first line says that says anything.
+fn first_said<'a>(said: Result<Statement<'a>, LineError>) -> Result<Statement<'a>, Reason>
+    ensures { said_in result ≡ first_said (said_in said.entry) }
+{
+    match said {
+        Ok(Statement::Version) => Ok(Statement::Version),
+        _ => Err(Reason::BadFirstLine),
+    }
+}
+
+/// What any other line says.
+fn later_said<'a>(said: Result<Statement<'a>, LineError>) -> Result<Statement<'a>, Reason>
+    ensures { said_in result ≡ later_said (said_in said.entry) }
+{
+    match said {
+        Ok(said) => Ok(said),
+        Err(LineError::BadNumber) => Err(Reason::BadNumber),
+        Err(LineError::BadForm) | Err(LineError::OutOfMemory) => Err(Reason::BadLine),
+    }
+}
+
+/// The CPU of this number, if there are more.
+fn served(cpus: u8, cpu: Option<u64>) -> Option<u8>
+    ensures { result ≡ served cpus cpu }
+{
+    let cpu = cpu?;
+    if cpu < cpus as u64 {
+        Some(cpu as u8)
+    } else {
+        None
+    }
+}
+
+/// The bytes of a context.
+fn context_of(
+    alloc: Global,
+    line: usize,
+    digits: Option<&[u8]>,
+) -> Result<Vec<u8>, FileError>
+    ensures { HasContext (λ v. v.items) line (context_of (option_copied digits.entry)) result }
+{
+    let Some(digits) = digits else {
+        return Ok(Vec::new(alloc));
+    };
+    match hex::decode(alloc, digits) {
+        Ok(bytes) => Ok(bytes),
+        Err(FromHexError::OutOfMemory) => Err(FileError::OutOfMemory),
+        Err(_) => Err(FileError::Refused(line, Reason::NotHex)),
+    }
+}
+
+/// Why no map has this shape.
+fn size_error(shape: MapShape, map: usize) -> Option<ShapeError>
+    ensures { result ≡ first_of (map_tests map shape) }
+{
+    if shape.key < 1 || shape.key > 64 {
+        Some(ShapeError::KeySize { map })
+    } else if shape.value < 1 || shape.value > 256 {
+        Some(ShapeError::ValueSize { map })
+    } else if shape.max < 1 || shape.max > 65_536 {
+        Some(ShapeError::KeyCount { map })
+    } else if shape.spare > 65_536 {
+        Some(ShapeError::SpareCount { map })
+    } else {
+        None
+    }
+}
+
+impl<'a> Draft<'a> {
+    /// A file of which no line is read.
+    pub fn new(alloc: Global) -> Draft<'a>
+        ensures { part_of result ≡ nothing }
+    {
+        Draft {
+            group: 0,
+            cpus: 1,
+            seed: 0,
+            names: Vec::new(alloc),
+            maps: Vec::new(alloc),
+            titles: Vec::new(alloc),
+            programs: Vec::new(alloc),
+            jobs: Vec::new(alloc),
+        }
+    }
+
+    /// Whether there are as many lines of this group as there may be.
+    fn is_full(&self, group: u8) -> bool
+        ensures { result ≡ is_full (part_of self.now) group }
+    {
+        (group == 5 && self.titles.len() >= MOST_PROGRAMS)
+            || (group == 6 && self.jobs.len() >= MOST_JOBS)
+    }
+
+    /// Whether a line of this group may come next.
+    fn may_stand(&self, group: u8) -> bool
+        ensures { result ≡ may_stand (part_of self.now) group }
+    {
+        group::is_in_order(self.group, group) && !self.is_full(group)
+    }
+
+    /// What a line of these fields says, if it may stand here.
+    fn said<'b>(&self, fields: &[&'b [u8]]) -> Result<Statement<'b>, Reason>
+        ensures { said_in result ≡ placed (part_of self.now) (field_at (map (λ f. f.now) fields.now) 0)
+            (statement_of (map (λ f. f.now) fields.now)) }
+    {
+        let said = statement::said(fields);
+        if self.group == 0 {
+            first_said(said)
+        } else if self.may_stand(group::group_of(form::field_at(fields, 0))) {
+            later_said(said)
+        } else {
+            Err(Reason::BadLine)
+        }
+    }
+
+    /// `cpus N`
+    fn set_cpus(&mut self, line: usize, cpus: u64) -> Result<Next<'a>, FileError>
+        ensures { Added line (part_of self.old) (says.Cpus cpus) (part_of self.new) result }
+    {
+        if !(1..=16).contains(&cpus) {
+            return Err(FileError::Refused(line, Reason::Shape(ShapeError::CpuCount)));
+        }
+        self.group = 2;
+        self.cpus = cpus as u8;
+        Ok(Next::Line)
+    }
+
+    /// `seed N`
+    fn set_seed(&mut self, line: usize, seed: u64) -> Result<Next<'a>, FileError>
+        ensures { Added line (part_of self.old) (says.Seed seed) (part_of self.new) result }
+    {
+        self.group = 3;
+        self.seed = seed;
+        Ok(Next::Line)
+    }
+
+    /// Why there can't be one more map, of this name and shape.
+    fn map_refusal(&self, name: &[u8], shape: MapShape) -> Option<Reason>
+        ensures { result ≡ map_refusal (part_of self.now) name.now shape }
+    {
+        if group::place_of(name, &self.names).is_some() {
+            return Some(Reason::TwiceName);
+        }
+        if self.maps.len() >= MOST_MAPS {
+            return Some(Reason::Shape(ShapeError::TooManyMaps));
+        }
+        match size_error(shape, self.maps.len()) {
+            Some(error) => Some(Reason::Shape(error)),
+            None => None,
+        }
+    }
+
+    fn push_map(&mut self, name: &'a [u8], shape: MapShape) -> Result<(), FileError>
+        ensures ok { OnOk result (part_of self.new ≡ with_map (part_of self.old) name.now shape) }
+        ensures memory { IsOkUnless result FileError.OutOfMemory }
+    {
+        self.names.push(name).map_err(|_| FileError::OutOfMemory)?;
+        self.maps.push(shape).map_err(|_| FileError::OutOfMemory)?;
+        self.group = 4;
+        Ok(())
+    }
+
+    /// `map NAME ..`
+    fn add_map(
+        &mut self,
+        line: usize,
+        name: &'a [u8],
+        shape: MapShape,
+    ) -> Result<Next<'a>, FileError>
+        ensures { Added line (part_of self.old) (says.Map name.now shape) (part_of self.new) result }
+    {
+        if let Some(reason) = self.map_refusal(name, shape) {
+            return Err(FileError::Refused(line, reason));
+        }
+        self.push_map(name, shape)?;
+        Ok(Next::Line)
+    }
+
+    fn push_program(&mut self, name: &'a [u8], program: Program) -> Result<(), FileError>
+        ensures ok { OnOk result
+            (part_of self.new ≡ with_program (part_of self.old) name.now program) }
+        ensures memory { IsOkUnless result FileError.OutOfMemory }
+    {
+        self.titles.push(name).map_err(|_| FileError::OutOfMemory)?;
+        self.programs
+            .push(program)
+            .map_err(|_| FileError::OutOfMemory)?;
+        self.group = 5;
+        Ok(())
+    }
+
+    /// `prog NAME`
+    fn open(&self, line: usize, name: &'a [u8]) -> Result<Next<'a>, FileError>
+        ensures { Added line (part_of self.now) (says.Program name.now) (part_of self.now) result }
+    {
+        match group::place_of(name, &self.titles) {
+            Some(_) => Err(FileError::Refused(line, Reason::TwiceName)),
+            None => Ok(Next::Assembly(name)),
+        }
+    }
+
+    /// `prog NAME hex DIGITS`
+    fn add_words(
+        &mut self,
+        alloc: Global,
+        line: usize,
+        name: &'a [u8],
+        digits: &[u8],
+    ) -> Result<Next<'a>, FileError>
+        ensures { Added line (part_of self.old) (says.Words name.now digits.now) (part_of self.new) result }
+    {
+        if group::place_of(name, &self.titles).is_some() {
+            return Err(FileError::Refused(line, Reason::TwiceName));
+        }
+        let program = program::of_digits(alloc, line, digits, &self.maps)?;
+        self.push_program(name, program)?;
+        Ok(Next::Line)
+    }
+
+    /// The assembly behind `prog NAME`, which stands at this line.
+    pub fn add_assembly(
+        &mut self,
+        alloc: Global,
+        line: usize,
+        name: &'a [u8],
+        text: &[u8],
+    ) -> Result<(), FileError>
+        ensures { OrMemory (λ a. Ends line (part_of self.old) name.now text.now
+            (closed (part_of self.new) a)) result }
+    {
+        let program = program::of_assembly(alloc, line, text, &self.maps)?;
+        self.push_program(name, program)
+    }
+
+    fn push_job(&mut self, job: Job) -> Result<(), FileError>
+        ensures ok { OnOk result (part_of self.new ≡ with_job (part_of self.old) (waiting job)) }
+        ensures memory { IsOkUnless result FileError.OutOfMemory }
+    {
+        self.jobs.push(job).map_err(|_| FileError::OutOfMemory)?;
+        self.group = 6;
+        Ok(())
+    }
+
+    /// `job CPU NAME ..`
+    fn add_job(
+        &mut self,
+        alloc: Global,
+        line: usize,
+        job: JobLine<'_>,
+    ) -> Result<Next<'a>, FileError>
+        ensures { Added line (part_of self.old) (said_by (statement_kind.Job job.entry)) (part_of self.new) result }
+    {
+        let Some(cpu) = served(self.cpus, job.cpu) else {
+            return Err(FileError::Refused(line, Reason::Unknown));
+        };
+        let Some(program) = group::place_of(job.program, &self.titles) else {
+            return Err(FileError::Refused(line, Reason::Unknown));
+        };
+        let context = context_of(alloc, line, job.context)?;
+        let budget = job.budget.unwrap_or(STEPS);
+        self.push_job(Job {
+            cpu,
+            program,
+            budget,
+            context,
+        })?;
+        Ok(Next::Line)
+    }
+
+    /// What a line that may stand here says.
+    fn add(
+        &mut self,
+        alloc: Global,
+        line: usize,
+        said: Statement<'a>,
+    ) -> Result<Next<'a>, FileError>
+        ensures { Added line (part_of self.old) (said_by said.entry) (part_of self.new) result }
+    {
+        match said {
+            Statement::Version => {
+                self.group = 1;
+                Ok(Next::Line)
+            }
+            Statement::Cpus(cpus) => self.set_cpus(line, cpus),
+            Statement::Seed(seed) => self.set_seed(line, seed),
+            Statement::Map(name, shape) => self.add_map(line, name, shape),
+            Statement::Program(name) => self.open(line, name),
+            Statement::Words(name, digits) => self.add_words(alloc, line, name, digits),
+            Statement::Job(job) => self.add_job(alloc, line, job),
+        }
+    }
+
+    /// A line by its fields.
+    pub fn read_fields(
+        &mut self,
+        alloc: Global,
+        line: usize,
+        fields: &[&'a [u8]],
+    ) -> Result<Next<'a>, FileError>
+        ensures { OrMemory (λ a. FieldsSay line (part_of self.old) (map (λ f. f.now) fields.now)
+            (after line (part_of self.new) a)) result }
+    {
+        match fields {
+            [] => Ok(Next::Line),
+            [_, ..] => match self.said(fields) {
+                Ok(said) => self.add(alloc, line, said),
+                Err(reason) => Err(FileError::Refused(line, reason)),
+            },
+        }
+    }
+}

@@ -1,0 +1,65 @@
+//! Why a text is no run file.
+
+use bpf_insn::InsnError;
+use bpf_loader::LoadError;
+use bpf_shared::ShapeError;
+use thiserror::Error;
+
+/// What is wrong at a line. Errors of other crates never say here that memory was refused.
+#[derive(Clone, Copy, PartialEq, Eq, Debug, Error)]
+pub enum Reason {
+    /// L1: the first line that says anything, or line 1 where none does.
+    #[error("a run file begins with `ebpf-run 1`")]
+    BadFirstLine,
+    /// L2: its form, or its place among the others, or it is one too many.
+    #[error("no such line may stand here")]
+    BadLine,
+    /// L3
+    #[error("a number is out of its range")]
+    BadNumber,
+    /// L4: of two maps, or of two programs.
+    #[error("the name stands before")]
+    TwiceName,
+    /// L5
+    #[error("a program or a CPU that isn't there")]
+    Unknown,
+    /// L6: the line of a `prog`.
+    #[error("the program has no end")]
+    NoEnd,
+    /// S1 to S6
+    #[error("{0}")]
+    Shape(ShapeError),
+    /// H1
+    #[error("not the hex digits of whole bytes")]
+    NotHex,
+    /// A1
+    #[error("no form of the assembly language")]
+    BadInstruction,
+    /// A2
+    #[error("a number of an instruction is out of its range")]
+    BadOperand,
+    /// A3
+    #[error("a label that no line of the program has")]
+    UnknownLabel,
+    /// A4
+    #[error("the label of a line before")]
+    TwiceLabel,
+    /// A5
+    #[error("a label that is too far away")]
+    FarLabel,
+    /// E1 to E7: the words of a program, at its `prog` line.
+    #[error("{0}")]
+    Insn(InsnError),
+    /// E1, E3 and E8 to E13: a program, at its `prog` line.
+    #[error("{0}")]
+    Load(LoadError),
+}
+
+/// Why there is no file: the first refusal in reading order. Lines count from 1.
+#[derive(Clone, Copy, PartialEq, Eq, Debug, Error)]
+pub enum FileError {
+    #[error("line {0}: {1}")]
+    Refused(usize, Reason),
+    #[error("out of memory")]
+    OutOfMemory,
+}

@@ -1,0 +1,102 @@
+//! Programs of a run file.
+
+ghost use Rattle.std.specs.Prelude.{◌≡◌, ◌+◌, ◌⊎◌, length};
+ghost use Rattle.bpf_file.specs.Programs.{Loads, OfBytes, OfDigits, OfAssembly, behind};
+ghost use Rattle.bpf_file.specs.Private.Answers.{OrMemory};
+
+use crate::error::{FileError, Reason};
+use bpf_insn::{Insn, InsnError, decode};
+use bpf_loader::{LoadError, Program, load};
+use bpf_shared::MapShape;
+use bpf_text::{TextError, assemble_bytes};
+use hex::FromHexError;
+use std::alloc::Global;
+
+/// The program of these instructions.
+fn loaded(
+    alloc: Global,
+    line: usize,
+    insns: Vec<Insn>,
+    maps: &[MapShape],
+) -> Result<Program, FileError>
+    ensures { OrMemory (Loads line (length maps.now) insns.items) result }
+{
+    match load(alloc, insns, maps) {
+        Ok(program) => Ok(program),
+        Err(LoadError::OutOfMemory) => Err(FileError::OutOfMemory),
+        Err(error) => Err(FileError::Refused(line, Reason::Load(error))),
+    }
+}
+
+/// The program in these bytes.
+fn of_bytes(
+    alloc: Global,
+    line: usize,
+    bytes: &[u8],
+    maps: &[MapShape],
+) -> Result<Program, FileError>
+    ensures { OrMemory (OfBytes line (length maps.now) bytes.now) result }
+{
+    match decode(alloc, bytes) {
+        Ok(insns) => loaded(alloc, line, insns, maps),
+        Err(InsnError::OutOfMemory) => Err(FileError::OutOfMemory),
+        Err(error) => Err(FileError::Refused(line, Reason::Insn(error))),
+    }
+}
+
+/// The program in the hex digits of a line.
+pub fn of_digits(
+    alloc: Global,
+    line: usize,
+    digits: &[u8],
+    maps: &[MapShape],
+) -> Result<Program, FileError>
+    ensures { OrMemory (OfDigits line (length maps.now) digits.now) result }
+{
+    match hex::decode(alloc, digits) {
+        Ok(bytes) => of_bytes(alloc, line, &bytes, maps),
+        Err(FromHexError::OutOfMemory) => Err(FileError::OutOfMemory),
+        Err(_) => Err(FileError::Refused(line, Reason::NotHex)),
+    }
+}
+
+/// A refusal at a line of the assembly behind a line of the file.
+fn refused(line: usize, at: usize, reason: Reason) -> FileError
+    ensures { (result ≡ FileError.OutOfMemory) ⊎ (result ≡ FileError.Refused (line + at) reason) }
+{
+    match line.checked_add(at) {
+        Some(at) => FileError::Refused(at, reason),
+        // More lines than bytes can be addressed: no text has them.
+        None => FileError::OutOfMemory,
+    }
+}
+
+/// A refusal of the assembly behind a line.
+fn behind(line: usize, error: TextError) -> FileError
+    ensures { (result ≡ FileError.OutOfMemory) ⊎ (result ≡ behind line error) }
+{
+    match error {
+        TextError::BadLine(at) => refused(line, at, Reason::BadInstruction),
+        TextError::BadNumber(at) => refused(line, at, Reason::BadOperand),
+        TextError::UnknownLabel(at) => refused(line, at, Reason::UnknownLabel),
+        TextError::TwiceLabel(at) => refused(line, at, Reason::TwiceLabel),
+        TextError::FarLabel(at) => refused(line, at, Reason::FarLabel),
+        TextError::NotHex => FileError::Refused(line, Reason::NotHex),
+        TextError::OutOfMemory => FileError::OutOfMemory,
+    }
+}
+
+/// The program in the assembly behind a line.
+pub fn of_assembly(
+    alloc: Global,
+    line: usize,
+    text: &[u8],
+    maps: &[MapShape],
+) -> Result<Program, FileError>
+    ensures { OrMemory (OfAssembly line (length maps.now) text.now) result }
+{
+    match assemble_bytes(alloc, text) {
+        Ok(insns) => loaded(alloc, line, insns, maps),
+        Err(error) => Err(behind(line, error)),
+    }
+}

@@ -1,0 +1,69 @@
+//! Run files, read line by line.
+
+ghost use Rattle.std.specs.Prelude.{◌≡◌, ◌≤◌, ◌<◌, ◌+◌, ◌^◌, ◌⊎◌, [], Ok, Err, IfOk, IfErr, length};
+ghost use Rattle.std.specs.Option.{option_copied};
+ghost use Rattle.bpf_text.specs.Lines.{lines_of, lines_behind, rest_size};
+ghost use Rattle.bpf_file.specs.File.{file_of};
+ghost use Rattle.bpf_file.specs.Parts.{Between, Within};
+ghost use Rattle.bpf_file.specs.Reading.{IsRunFile};
+ghost use Rattle.bpf_file.specs.Private.Drafts.{part_of, Goes};
+
+use crate::assembly;
+use crate::draft::{Draft, Next};
+use crate::error::{FileError, Reason};
+use bpf_text::lines;
+use std::alloc::Global;
+
+#[tactic(auto, using(crate::proofs::Sections::section_read, crate::proofs::Sections::section_refused, crate::proofs::Sections::section_unended))]
+/// The assembly behind the `prog` of this line: the number of the line behind its `end`, and what
+/// stands from there on.
+fn read_assembly<'a>(
+    alloc: Global,
+    draft: &mut Draft<'a>,
+    line: usize,
+    name: &'a [u8],
+    behind: Option<&'a [u8]>,
+) -> Result<(usize, Option<&'a [u8]>), FileError>
+    requires room { line + rest_size (option_copied behind) + 2 < 2 ^ 64 }
+    ensures goes { Goes (line + 1) (Within (part_of draft.old) line name.now [])
+        (lines_behind (option_copied behind.entry)) (part_of draft.new) result }
+    ensures falls { IfOk result (λ r. r.0 + rest_size (option_copied r.1)
+        ≤ line + rest_size (option_copied behind.entry) + 1) }
+    ensures shorter { IfOk result (λ r.
+        rest_size (option_copied r.1) ≤ rest_size (option_copied behind.entry)) }
+{
+    let Some(text) = behind else {
+        return Err(FileError::Refused(line, Reason::NoEnd));
+    };
+    let Some(cut) = assembly::up_to_end(alloc, text)? else {
+        return Err(FileError::Refused(line, Reason::NoEnd));
+    };
+    draft.add_assembly(alloc, line, name, cut.text)?;
+    Ok((line + cut.lines + 2, cut.rest))
+}
+
+#[tactic(auto, using(crate::proofs::Sections::goes_line, crate::proofs::Sections::goes_section, crate::proofs::Sections::goes_refused))]
+/// One line, with the assembly behind it where it calls for some: the number of the next one, and
+/// what stands from there on.
+fn read_line<'a>(
+    alloc: Global,
+    draft: &mut Draft<'a>,
+    line: usize,
+    text: &'a [u8],
+) -> Result<(usize, Option<&'a [u8]>), FileError>
+    requires room { line + length text.now + 2 < 2 ^ 64 }
+    ensures goes { Goes line (Between (part_of draft.old)) (lines_of text.now)
+        (part_of draft.new) result }
+    ensures falls { IfOk result (λ r. r.0 + rest_size (option_copied r.1)
+        ≤ line + length text.now + 1) }
+    ensures shorter { IfOk result (λ r. rest_size (option_copied r.1) ≤ length text.now) }
+{
+    let (first, behind) = lines::first_line(text);
+    let Ok(fields) = lines::fields(alloc, first) else {
+        return Err(FileError::OutOfMemory);
+    };
+    match draft.read_fields(alloc, line, &fields)? {
+        Next::Line => Ok((line + 1, behind)),
+        Next::Assembly(name) => read_assembly(alloc, draft, line, name, behind),
+    }
+}
