@@ -3,3 +3,4 @@ pub mod Cutting
 pub mod Sections
 pub mod Names
 pub mod Fits
+pub mod Progress

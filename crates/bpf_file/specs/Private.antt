@@ -2,3 +2,4 @@
 pub mod Answers
 pub mod Cuts
 pub mod Drafts
+pub mod Fits

@@ -1,21 +1,23 @@
 //! What the lines of a run file have said so far.
 
-ghost use Rattle.std.specs.Prelude.{◌≡◌, length, map, OnOk, IsOkUnless};
+ghost use Rattle.std.specs.Prelude.{◌≡◌, length, map, IfOk, OnOk, IsOkUnless, string_bytes};
 ghost use Rattle.std.specs.Option.{option_copied};
 ghost use Rattle.bpf_shared.specs.First.{first_of};
 ghost use Rattle.bpf_shared.specs.Refusals.{map_tests};
 ghost use Rattle.bpf_cpu.specs.Task.{waiting};
 ghost use Rattle.bpf_file.specs.Form.{field_at};
-ghost use Rattle.bpf_file.specs.Parts.{nothing, is_full, with_map, with_program, with_job};
-ghost use Rattle.bpf_file.specs.Reading.{FieldsSay};
+ghost use Rattle.bpf_file.specs.Parts.{Between, nothing, is_full, with_map, with_program, with_job};
+ghost use Rattle.bpf_file.specs.Reading.{FieldsSay, finished};
 ghost use Rattle.bpf_file.specs.Rows.{first_said, later_said, may_stand, placed, map_refusal, served, context_of};
 ghost use Rattle.bpf_file.specs.Statement.{said_by, statement_of};
 ghost use Rattle.bpf_file.specs.Statement as says;
 ghost use Rattle.bpf_file.specs.declared.statement.Statement.TheVariants as statement_kind;
 ghost use Rattle.bpf_file.specs.Private.Answers.{OrMemory};
-ghost use Rattle.bpf_file.specs.Private.Drafts.{part_of, said_in, after, Added, HasContext, Ends, closed};
+ghost use Rattle.bpf_file.specs.Private.Fits.{IsFit};
+ghost use Rattle.bpf_file.specs.Private.Drafts.{part_of, said_in, after, Added, HasContext, Ends, closed, answer_of};
 
 use crate::error::{FileError, Reason};
+use crate::file::RunFile;
 use crate::form;
 use crate::group;
 use crate::line::LineError;
@@ -23,7 +25,7 @@ use crate::program;
 use crate::statement::{self, JobLine, Statement};
 use bpf_cpu::Job;
 use bpf_loader::Program;
-use bpf_shared::{MapShape, ShapeError};
+use bpf_shared::{MapShape, ShapeError, StoreShape};
 use hex::FromHexError;
 use std::alloc::Global;
 
@@ -42,7 +44,7 @@ pub struct Draft<'a> {
     pub group: u8,
     pub cpus: u8,
     pub seed: u64,
-    pub names: Vec<&'a [u8]>,
+    pub names: Vec<&'a str>,
     pub maps: Vec<MapShape>,
     /// The programs' names.
     pub titles: Vec<&'a [u8]>,
@@ -125,6 +127,19 @@ fn size_error(shape: MapShape, map: usize) -> Option<ShapeError>
     }
 }
 
+/// Texts of one's own.
+fn owned(alloc: Global, names: &[&str]) -> Result<Vec<String>, FileError>
+    ensures ok { IfOk result (λ v. map string_bytes v.items ≡ map (λ n. n.now) names.now) }
+    ensures memory { IsOkUnless result FileError.OutOfMemory }
+{
+    let mut owned = Vec::new(alloc);
+    for name in names {
+        let text = String::from_str(alloc, name).map_err(|_| FileError::OutOfMemory)?;
+        owned.push(text).map_err(|_| FileError::OutOfMemory)?;
+    }
+    Ok(owned)
+}
+
 impl<'a> Draft<'a> {
     /// A file of which no line is read.
     pub fn new(alloc: Global) -> Draft<'a>
@@ -194,10 +209,10 @@ impl<'a> Draft<'a> {
     }
 
     /// Why there can't be one more map, of this name and shape.
-    fn map_refusal(&self, name: &[u8], shape: MapShape) -> Option<Reason>
+    fn map_refusal(&self, name: &str, shape: MapShape) -> Option<Reason>
         ensures { result ≡ map_refusal (part_of self.now) name.now shape }
     {
-        if group::place_of(name, &self.names).is_some() {
+        if group::place_in(name, &self.names).is_some() {
             return Some(Reason::TwiceName);
         }
         if self.maps.len() >= MOST_MAPS {
@@ -209,7 +224,7 @@ impl<'a> Draft<'a> {
         }
     }
 
-    fn push_map(&mut self, name: &'a [u8], shape: MapShape) -> Result<(), FileError>
+    fn push_map(&mut self, name: &'a str, shape: MapShape) -> Result<(), FileError>
         ensures ok { OnOk result (part_of self.new ≡ with_map (part_of self.old) name.now shape) }
         ensures memory { IsOkUnless result FileError.OutOfMemory }
     {
@@ -223,7 +238,7 @@ impl<'a> Draft<'a> {
     fn add_map(
         &mut self,
         line: usize,
-        name: &'a [u8],
+        name: &'a str,
         shape: MapShape,
     ) -> Result<Next<'a>, FileError>
         ensures { Added line (part_of self.old) (says.Map name.now shape) (part_of self.new) result }
@@ -365,6 +380,28 @@ impl<'a> Draft<'a> {
                 Ok(said) => self.add(alloc, line, said),
                 Err(reason) => Err(FileError::Refused(line, reason)),
             },
+        }
+    }
+
+    #[tactic(auto, using(crate::proofs::Fits::never_refused))]
+    /// The whole file, where no line follows.
+    pub fn finish(self, alloc: Global) -> Result<RunFile, FileError>
+        requires { IsFit (part_of self) }
+        ensures { OrMemory (λ a. finished (Between (part_of self)) ≡ answer_of a) result }
+    {
+        if self.group == 0 {
+            return Err(FileError::Refused(1, Reason::BadFirstLine));
+        }
+        let names = owned(alloc, &self.names)?;
+        match StoreShape::new(self.cpus as u64, self.maps) {
+            Ok(shape) => Ok(RunFile {
+                shape,
+                seed: self.seed,
+                names,
+                programs: self.programs,
+                jobs: self.jobs,
+            }),
+            Err(_) => unreachable!(),
         }
     }
 }

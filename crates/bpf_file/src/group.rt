@@ -51,3 +51,21 @@ pub fn place_of(name: &[u8], names: &[&[u8]]) -> Option<usize>
         }
     }
 }
+
+/// The same of names that are text.
+pub fn place_in(name: &str, names: &[&str]) -> Option<usize>
+    ensures value { result ≡ place_of name.now (map (λ n. n.now) names.now) }
+    ensures bound { IfSome result (λ k. k + 1 ≤ length names.now) }
+{
+    match names {
+        [] => None,
+        [first, others @ ..] => {
+            if *first == name {
+                Some(0)
+            } else {
+                let place = place_in(name, others)?;
+                Some(place + 1)
+            }
+        }
+    }
+}

@@ -15,3 +15,4 @@ mod statement;
 
 pub use error::{FileError, Reason};
 pub use file::RunFile;
+pub use reader::read_file;

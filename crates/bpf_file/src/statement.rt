@@ -1,7 +1,8 @@
 //! What a line of a run file says.
 
-ghost use Rattle.std.specs.Prelude.{◌≡◌, ◌≤◌, map, IfOk};
+ghost use Rattle.std.specs.Prelude.{◌≡◌, ◌≤◌, map, IfOk, IsUtf8};
 ghost use Rattle.std.specs.Option.{option_copied};
+ghost use Rattle.bpf_file.specs.Form.{field_at};
 ghost use Rattle.bpf_file.specs.Statement.{count_at, held_at, Says, cpus_said, seed_said, map_said, masked_said, job_said, budgeted_said, work_of, statement_of};
 
 use crate::form;
@@ -19,7 +20,7 @@ pub enum Statement<'a> {
     /// The seed of the maps' hashes.
     Seed(u64),
     /// A map by its name.
-    Map(&'a [u8], MapShape),
+    Map(&'a str, MapShape),
     /// A program's name; its assembly lines follow.
     Program(&'a [u8]),
     /// A program's name, and its words as hex digits.
@@ -88,16 +89,20 @@ fn seed<'a>(fields: &[&'a [u8]]) -> Result<Statement<'a>, LineError>
     Ok(Statement::Seed(seed))
 }
 
-/// A map with this mask.
+/// A map with this mask, whose second field is a name.
 fn map<'a>(fields: &[&'a [u8]], mask: u32) -> Result<Statement<'a>, LineError>
+    requires { IsUtf8 (field_at (map (λ f. f.now) fields.now) 1) }
     ensures { Says result (map_said (map (λ f. f.now) fields.now) mask) }
 {
     let key = count_at(fields, 3, MOST)?;
     let value = count_at(fields, 5, MOST)?;
     let max = count_at(fields, 7, MOST)?;
     let spare = count_at(fields, 9, MOST)?;
+    let Ok(name) = str::from_utf8(form::field_at(fields, 1)) else {
+        unreachable!()
+    };
     Ok(Statement::Map(
-        form::field_at(fields, 1),
+        name,
         MapShape {
             key,
             value,
@@ -109,6 +114,7 @@ fn map<'a>(fields: &[&'a [u8]], mask: u32) -> Result<Statement<'a>, LineError>
 }
 
 fn masked_map<'a>(fields: &[&'a [u8]]) -> Result<Statement<'a>, LineError>
+    requires { IsUtf8 (field_at (map (λ f. f.now) fields.now) 1) }
     ensures { Says result (masked_said (map (λ f. f.now) fields.now)) }
 {
     let mask = count_at(fields, 11, MOST)?;
@@ -164,6 +170,7 @@ fn work<'a>(fields: &[&'a [u8]]) -> Result<Statement<'a>, LineError>
 }
 
 /// What a line with these fields says.
+#[tactic(auto, using(crate::proofs::Names::named_field))]
 pub fn said<'a>(fields: &[&'a [u8]]) -> Result<Statement<'a>, LineError>
     ensures { Says result (statement_of (map (λ f. f.now) fields.now)) }
 {

@@ -15,7 +15,8 @@ use Rattle.bpf_loader.specs.Loaded.{Loaded}
 use Rattle.bpf_file.specs.Programs.{OfAssembly}
 use Rattle.bpf_file.specs.declared.line.LineError.{LineError}
 use Rattle.bpf_file.specs.declared.statement.Statement.{Statement}
-use Rattle.bpf_file.specs.File.{File}
+use Rattle.bpf_file.specs.File.{File, file_of}
+use Rattle.bpf_file.specs.declared.file.RunFile.{RunFile}
 use Rattle.bpf_file.specs.Parts.{Part, State, Between, Within}
 use Rattle.bpf_file.specs.Statement.{Said, said_by}
 use Rattle.bpf_file.specs.Rows.{Adds, program_added}
@@ -77,3 +78,8 @@ Goes n s ls p (Ok r) =
     → AreRead n s ls o
 Goes n s ls p (Err OutOfMemory) = Unit {0}
 Goes n s ls p (Err (Refused m why)) = AreRead n s ls (Err (Refused m why))
+
+-- what a whole answer says
+abbrev pub answer_of : Result RunFile FileError → Result File FileError
+answer_of (Ok f) = Ok (file_of f)
+answer_of (Err e) = Err e

@@ -1,0 +1,19 @@
+-- What a file has at every line: sizes of a store. Private functions cite this.
+use Rattle.std.specs.Prelude.{◌≡◌, ℕ, nat_lt, false, length, None, Result, Ok, Err}
+use Rattle.bpf_shared.specs.First.{first_of}
+use Rattle.bpf_shared.specs.Refusals.{outside, maps_tests}
+use Rattle.bpf_file.specs.declared.error.FileError.{FileError}
+use Rattle.bpf_file.specs.Parts.{Part, State, Between, Within}
+
+pub record IsFit (p : Part) : Type 0 where
+  pub cpus : outside 1 16 p.file.cpus ≡ false
+  pub count : nat_lt 16 (length p.file.maps) ≡ false
+  pub maps : first_of (maps_tests 0 p.file.maps) ≡ None
+
+abbrev pub IsFitState : State → Type 0
+IsFitState (Between p) = IsFit p
+IsFitState (Within p from name lines) = IsFit p
+
+abbrev pub IsFitResult : Result State FileError → Type 0
+IsFitResult (Ok s) = IsFitState s
+IsFitResult (Err e) = Unit {0}
