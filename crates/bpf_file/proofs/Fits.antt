@@ -1,5 +1,7 @@
 -- The sizes of a file stay in their ranges, line by line.
-use Rattle.std.proofs.Common.{◌≡◌, ℕ, ◌+◌, nat_lt, nat_le, add-zero, Bool, true, false, if◌then◌else◌, List, [], ◌∷◌, ◌++◌, length, length-append, append_assoc, append-nil, Option, Some, None, Result, Ok, Err, refl, sym, ap, subst, ◌∙◌, arith, nat_tests}
+use Rattle.std.proofs.Common.{◌≡◌, ℕ, ◌+◌, nat_lt, nat_le, add-zero, Bool, true, false, if◌then◌else◌, List, [], ◌∷◌, ◌++◌, length, length-append, append_assoc, append-nil, Option, Some, None, Result, Ok, Err, refl, sym, ap, subst, ◌∙◌, arith}
+use Rattle.std.proofs.lemmas.Bool.Decides.{nat_tests}
+use Rattle.std.specs.Prelude.{OnOk}
 use Rattle.std.specs.Option.{option_map}
 use Rattle.hex.specs.declared.error.FromHexError.{FromHexError}
 use Rattle.bpf_shared.specs.First.{first_of}
@@ -72,6 +74,9 @@ map_passes false false (Some x) e = cc
 one_more : (n m : ℕ) → nat_le 16 n ≡ false → m ≡ n + 1 → nat_lt 16 m ≡ false
 one_more n m e h = grind (arith, nat_tests)
 
+from_zero : (n : ℕ) → 0 + n ≡ n
+from_zero n = omega arith
+
 fit_map : (p : Part) (name : List ℕ) (h : MapShape) → IsFit p → map_refusal p name h ≡ None → IsFit (with_map p name h)
 fit_map p name h f e =
     let passed = map_passes (is_there (place_of name p.file.names)) (nat_le 16 (length p.file.maps)) (first_of (map_tests (length p.file.maps) h)) e in
@@ -79,6 +84,7 @@ fit_map p name h f e =
       cpus = f.cpus;
       count = one_more (length p.file.maps) (length (p.file.maps ++ h ∷ [])) passed.0 (length-append p.file.maps (h ∷ []));
       maps = ap first_of (maps_tests-append p.file.maps 0 h)
+          ∙ ap (λ k. first_of (maps_tests 0 p.file.maps ++ map_tests k h)) (from_zero (length p.file.maps))
           ∙ first_of-append (maps_tests 0 p.file.maps) (map_tests (length p.file.maps) h) f.maps passed.1;
     }
 
@@ -130,6 +136,11 @@ pub section_fits : (line : ℕ) (p q : Part) (name text : List ℕ) → Ends lin
 section_fits line p q name text (o, of, e) f =
     let F : IsFitResult (Ok (Between q)) = subst IsFitResult (sym e) (fit_program p name o f) in F
 
+-- after one answer, and then another
+pub then_fits : {X : Type 0} (r : Result X FileError) (p q s : Part) → (IsFit p → IsFit q) → OnOk r (IsFit q → IsFit s) → OnOk r (IsFit p → IsFit s)
+then_fits (Ok x) p q s f g = λ h. g (f h)
+then_fits (Err e) p q s f g = g
+
 -- a store can have such a shape
 shape_passes : (c m : Bool) (o : Option ShapeError) → c ≡ false → m ≡ false → o ≡ None → (if c then Some CpuCount else (if m then Some TooManyMaps else o)) ≡ None
 shape_passes true m o c e h = cc
@@ -141,5 +152,5 @@ never_refused p why f e =
     let none : first_of (shape_tests p.file.cpus p.file.maps) ≡ None = shape_passes _ _ _ f.cpus f.count f.maps in
     impossible (sym none ∙ e)
   where
-  impossible : None ≡ Some why → ⊥
-  impossible h = cc
+    impossible : None ≡ Some why → ⊥
+    impossible h = cc

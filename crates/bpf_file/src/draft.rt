@@ -1,9 +1,7 @@
 //! What the lines of a run file have said so far.
 
-ghost use Rattle.std.specs.Prelude.{◌≡◌, length, map, IfOk, OnOk, IsOkUnless, string_bytes};
+ghost use Rattle.std.specs.Prelude.{◌≡◌, length, map, OnOk, IsOkUnless};
 ghost use Rattle.std.specs.Option.{option_copied};
-ghost use Rattle.bpf_shared.specs.First.{first_of};
-ghost use Rattle.bpf_shared.specs.Refusals.{map_tests};
 ghost use Rattle.bpf_cpu.specs.Task.{waiting};
 ghost use Rattle.bpf_file.specs.Form.{field_at};
 ghost use Rattle.bpf_file.specs.Parts.{Between, nothing, is_full, with_map, with_program, with_job};
@@ -18,11 +16,9 @@ ghost use Rattle.bpf_file.specs.Private.Drafts.{part_of, said_in, after, Added, 
 
 use crate::error::{FileError, Reason};
 use crate::file::RunFile;
-use crate::form;
-use crate::group;
 use crate::line::LineError;
-use crate::program;
 use crate::statement::{self, JobLine, Statement};
+use crate::{form, group, program};
 use bpf_cpu::Job;
 use bpf_loader::Program;
 use bpf_shared::{MapShape, ShapeError, StoreShape};
@@ -31,20 +27,22 @@ use std::alloc::Global;
 
 /// The most programs, maps and jobs of a file.
 const MOST_PROGRAMS: usize = 256;
+
 const MOST_MAPS: usize = 16;
+
 const MOST_JOBS: usize = 4_096;
 
 /// How many steps a job makes at most whose line doesn't say it.
 const STEPS: u64 = 1_000_000;
 
-/// A file as far as it goes. Names are as they stand in the text.
+/// A file as far as it goes.
 #[derive(Drop)]
 pub struct Draft<'a> {
     /// The group of the last line that said something, 0 before the first.
     pub group: u8,
     pub cpus: u8,
     pub seed: u64,
-    pub names: Vec<&'a str>,
+    pub names: Vec<String>,
     pub maps: Vec<MapShape>,
     /// The programs' names.
     pub titles: Vec<&'a [u8]>,
@@ -93,11 +91,7 @@ fn served(cpus: u8, cpu: Option<u64>) -> Option<u8>
 }
 
 /// The bytes of a context.
-fn context_of(
-    alloc: Global,
-    line: usize,
-    digits: Option<&[u8]>,
-) -> Result<Vec<u8>, FileError>
+fn context_of(alloc: Global, line: usize, digits: Option<&[u8]>) -> Result<Vec<u8>, FileError>
     ensures { HasContext (λ v. v.items) line (context_of (option_copied digits.entry)) result }
 {
     let Some(digits) = digits else {
@@ -108,36 +102,6 @@ fn context_of(
         Err(FromHexError::OutOfMemory) => Err(FileError::OutOfMemory),
         Err(_) => Err(FileError::Refused(line, Reason::NotHex)),
     }
-}
-
-/// Why no map has this shape.
-fn size_error(shape: MapShape, map: usize) -> Option<ShapeError>
-    ensures { result ≡ first_of (map_tests map shape) }
-{
-    if shape.key < 1 || shape.key > 64 {
-        Some(ShapeError::KeySize { map })
-    } else if shape.value < 1 || shape.value > 256 {
-        Some(ShapeError::ValueSize { map })
-    } else if shape.max < 1 || shape.max > 65_536 {
-        Some(ShapeError::KeyCount { map })
-    } else if shape.spare > 65_536 {
-        Some(ShapeError::SpareCount { map })
-    } else {
-        None
-    }
-}
-
-/// Texts of one's own.
-fn owned(alloc: Global, names: &[&str]) -> Result<Vec<String>, FileError>
-    ensures ok { IfOk result (λ v. map string_bytes v.items ≡ map (λ n. n.now) names.now) }
-    ensures memory { IsOkUnless result FileError.OutOfMemory }
-{
-    let mut owned = Vec::new(alloc);
-    for name in names {
-        let text = String::from_str(alloc, name).map_err(|_| FileError::OutOfMemory)?;
-        owned.push(text).map_err(|_| FileError::OutOfMemory)?;
-    }
-    Ok(owned)
 }
 
 impl<'a> Draft<'a> {
@@ -218,17 +182,18 @@ impl<'a> Draft<'a> {
         if self.maps.len() >= MOST_MAPS {
             return Some(Reason::Shape(ShapeError::TooManyMaps));
         }
-        match size_error(shape, self.maps.len()) {
+        match shape.refusal(self.maps.len()) {
             Some(error) => Some(Reason::Shape(error)),
             None => None,
         }
     }
 
-    fn push_map(&mut self, name: &'a str, shape: MapShape) -> Result<(), FileError>
+    fn push_map(&mut self, alloc: Global, name: &str, shape: MapShape) -> Result<(), FileError>
         ensures ok { OnOk result (part_of self.new ≡ with_map (part_of self.old) name.now shape) }
         ensures memory { IsOkUnless result FileError.OutOfMemory }
     {
-        self.names.push(name).map_err(|_| FileError::OutOfMemory)?;
+        let text = String::from_str(alloc, name).map_err(|_| FileError::OutOfMemory)?;
+        self.names.push(text).map_err(|_| FileError::OutOfMemory)?;
         self.maps.push(shape).map_err(|_| FileError::OutOfMemory)?;
         self.group = 4;
         Ok(())
@@ -237,8 +202,9 @@ impl<'a> Draft<'a> {
     /// `map NAME ..`
     fn add_map(
         &mut self,
+        alloc: Global,
         line: usize,
-        name: &'a str,
+        name: &str,
         shape: MapShape,
     ) -> Result<Next<'a>, FileError>
         ensures { Added line (part_of self.old) (says.Map name.now shape) (part_of self.new) result }
@@ -246,7 +212,7 @@ impl<'a> Draft<'a> {
         if let Some(reason) = self.map_refusal(name, shape) {
             return Err(FileError::Refused(line, reason));
         }
-        self.push_map(name, shape)?;
+        self.push_map(alloc, name, shape)?;
         Ok(Next::Line)
     }
 
@@ -357,7 +323,7 @@ impl<'a> Draft<'a> {
             }
             Statement::Cpus(cpus) => self.set_cpus(line, cpus),
             Statement::Seed(seed) => self.set_seed(line, seed),
-            Statement::Map(name, shape) => self.add_map(line, name, shape),
+            Statement::Map(name, shape) => self.add_map(alloc, line, name, shape),
             Statement::Program(name) => self.open(line, name),
             Statement::Words(name, digits) => self.add_words(alloc, line, name, digits),
             Statement::Job(job) => self.add_job(alloc, line, job),
@@ -385,19 +351,18 @@ impl<'a> Draft<'a> {
 
     #[tactic(auto, using(crate::proofs::Fits::never_refused))]
     /// The whole file, where no line follows.
-    pub fn finish(self, alloc: Global) -> Result<RunFile, FileError>
+    pub fn finish(self) -> Result<RunFile, FileError>
         requires { IsFit (part_of self) }
-        ensures { OrMemory (λ a. finished (Between (part_of self)) ≡ answer_of a) result }
+        ensures { OrMemory (λ a. finished (Between (part_of self.entry)) ≡ answer_of a) result }
     {
         if self.group == 0 {
             return Err(FileError::Refused(1, Reason::BadFirstLine));
         }
-        let names = owned(alloc, &self.names)?;
         match StoreShape::new(self.cpus as u64, self.maps) {
             Ok(shape) => Ok(RunFile {
                 shape,
                 seed: self.seed,
-                names,
+                names: self.names,
                 programs: self.programs,
                 jobs: self.jobs,
             }),

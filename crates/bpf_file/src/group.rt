@@ -1,6 +1,6 @@
 //! The order of the groups of a run file.
 
-ghost use Rattle.std.specs.Prelude.{◌≡◌, ◌+◌, ◌≤◌, map, IfSome, length};
+ghost use Rattle.std.specs.Prelude.{◌≡◌, ◌+◌, ◌≤◌, map, IfSome, length, string_bytes};
 ghost use Rattle.bpf_file.specs.Parts.{group_of, is_in_order, place_of};
 
 use crate::key::Key;
@@ -52,15 +52,15 @@ pub fn place_of(name: &[u8], names: &[&[u8]]) -> Option<usize>
     }
 }
 
-/// The same of names that are text.
-pub fn place_in(name: &str, names: &[&str]) -> Option<usize>
-    ensures value { result ≡ place_of name.now (map (λ n. n.now) names.now) }
+/// The same of texts.
+pub fn place_in(name: &str, names: &[String]) -> Option<usize>
+    ensures value { result ≡ place_of name.now (map string_bytes names.now) }
     ensures bound { IfSome result (λ k. k + 1 ≤ length names.now) }
 {
     match names {
         [] => None,
         [first, others @ ..] => {
-            if *first == name {
+            if first.as_str() == name {
                 Some(0)
             } else {
                 let place = place_in(name, others)?;

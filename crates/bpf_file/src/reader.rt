@@ -88,5 +88,5 @@ pub fn read_file(alloc: Global, text: &[u8]) -> Result<RunFile, FileError>
         line = next;
         rest = behind;
     }
-    draft.finish(alloc)
+    draft.finish()
 }

@@ -170,7 +170,6 @@ fn work<'a>(fields: &[&'a [u8]]) -> Result<Statement<'a>, LineError>
 }
 
 /// What a line with these fields says.
-#[tactic(auto, using(crate::proofs::Names::named_field))]
 pub fn said<'a>(fields: &[&'a [u8]]) -> Result<Statement<'a>, LineError>
     ensures { Says result (statement_of (map (λ f. f.now) fields.now)) }
 {

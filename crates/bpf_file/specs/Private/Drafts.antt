@@ -1,5 +1,5 @@
 -- What the reader has gathered so far, and what its functions answer. Private functions cite this.
-use Rattle.std.specs.Prelude.{◌≡◌, ℕ, List, [], length, map, Result, Ok, Err, Option}
+use Rattle.std.specs.Prelude.{◌≡◌, ℕ, List, [], length, map, Result, Ok, Err, Option, string_bytes}
 use Rattle.std.specs.Option.{option_copied}
 use Rattle.bpf_text.specs.Lines.{lines_behind}
 use Rattle.bpf_cpu.specs.Task.{waiting}
@@ -31,7 +31,7 @@ part_of d = record {
   file = record {
     cpus = d.cpus;
     seed = d.seed;
-    names = map (λ t. t.now) d.names.items;
+    names = map string_bytes d.names.items;
     maps = d.maps.items;
     programs = d.programs.items;
     jobs = map waiting d.jobs.items;
