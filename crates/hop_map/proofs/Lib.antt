@@ -19,3 +19,4 @@ pub mod Wholes
 pub mod Settling
 pub mod Ports
 pub mod Dealing
+pub mod Trials

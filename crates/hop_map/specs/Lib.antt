@@ -11,3 +11,4 @@ pub mod Port
 pub mod Stores
 pub mod Peeks
 pub mod Resting
+pub mod Trial
