@@ -7,7 +7,7 @@ ghost use Rattle.hop_map.specs.Whole.{Lacks};
 ghost use Rattle.hop_map.specs.Port.{IsPortOf, Does, runs};
 
 use crate::deleting::delete;
-use crate::finding::find_locked;
+use crate::finding::{find_locked, lookup};
 use crate::updating::update;
 use bpf_shared::{MapAnswer, MapShape, Span, Worn};
 use hop_arena::Arena;
@@ -103,6 +103,30 @@ impl HopPort {
             unreachable!()
         };
         let (lane, found) = find_locked(rt, table, lane, map, key);
+        self.lane = Some(lane);
+        found
+    }
+
+    /// Where the value of the key lies, found without a lock or, after eight disturbed readings, under
+    /// one; the CPU holds that value until its run ends.
+    pub fn lookup<R: Wait>(
+        &mut self,
+        rt: &R,
+        table: &HopTable,
+        map: u8,
+        key: &[u8],
+    ) -> Option<Span>
+        requires fits { IsPortOf table.now self.old }
+        requires in_run { runs self.old ≡ true }
+        requires key { IsKeyOf table.now.about.shape.maps map key.now }
+        ensures in_run { runs self.new ≡ true }
+        ensures found { Does table.now.about self.old (Lookup map key.now result) self.new }
+        ensures fits { IsPortOf table.now self.new }
+    {
+        let Some(lane) = self.lane.take() else {
+            unreachable!()
+        };
+        let (lane, found) = lookup(rt, table, lane, map, key);
         self.lane = Some(lane);
         found
     }

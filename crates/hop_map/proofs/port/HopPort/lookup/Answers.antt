@@ -1,0 +1,27 @@
+use Rattle.std.proofs.Common.{◌≡◌, ap, refl, true, sym, subst, ◌∙◌}
+use Rattle.bpf_shared.specs.declared.events.Event.TheVariants.{Lookup}
+use Rattle.hop_words.specs.declared.known.Known.{Known}
+use Rattle.hop_map.specs.Port.{Port, runs, IsPortOf}
+use Rattle.hop_map.proofs.Ports.{still_runs, port_with, port_is, looked_fits}
+use Rattle.hop_map.proofs.port.HopPort.lookup.Goals as goal
+
+pub returns-clause-fits : goal.returns-clause-fits
+returns-clause-fits g c =
+    let i = c.self.inside in
+    let s = c.in-Some.lane in
+    let p = port_with s i.arenas.items i.batches.items in
+    let t = c.args.table.now in
+    let is : p ≡ c.args.self.now = sym (port_is i c.take.result s c.take.ensures.value c.in-Some.is) ∙ c.self.view_is in
+    let l = c.lookup-lane.result.0 in
+    let e = c.lookup-lane.ensures in
+    looked_fits t p l.table l.known c.args.map c.args.key.now c.lookup-lane.result.1 (subst (IsPortOf t) (sym is) c.requires.fits) e.table e.found
+
+pub returns-clause-in_run : goal.returns-clause-in_run
+returns-clause-in_run g c =
+    let i = c.self.inside in
+    let s = c.in-Some.lane in
+    let p = port_with s i.arenas.items i.batches.items in
+    let is : p ≡ c.args.self.now = sym (port_is i c.take.result s c.take.ensures.value c.in-Some.is) ∙ c.self.view_is in
+    let l = c.lookup-lane.result.0 in
+    let e = c.lookup-lane.ensures in
+    still_runs c.args.table.now.about p.known l.known (Lookup c.args.map c.args.key.now c.lookup-lane.result.1) e.found.seen (ap (λ (k : Known). k.cpu) e.found.after) refl (subst (λ (q : Port). runs q ≡ true) (sym is) c.requires.in_run)
