@@ -4,3 +4,4 @@ pub mod Sections
 pub mod Names
 pub mod Fits
 pub mod Progress
+pub mod Runs

@@ -11,7 +11,7 @@ use Rattle.bpf_file.specs.declared.form.Part.TheVariants.{Word, Name, Number}
 use Rattle.bpf_file.specs.declared.key.Key.TheVariants as key
 use Rattle.bpf_file.specs.Form.{is_part, has_form, field_at, map_form, masked_map_form}
 
-and_both : (a b : Bool) → (a && b) ≡ true → (a ≡ true) × (b ≡ true)
+pub and_both : (a b : Bool) → (a && b) ≡ true → (a ≡ true) × (b ≡ true)
 and_both true b e = (refl, e)
 and_both false b e = cc
 

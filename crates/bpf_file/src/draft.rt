@@ -1,6 +1,6 @@
 //! What the lines of a run file have said so far.
 
-ghost use Rattle.std.specs.Prelude.{◌≡◌, length, map, OnOk, IsOkUnless};
+ghost use Rattle.std.specs.Prelude.{◌≡◌, length, map, IfOk, OnOk, IsOkUnless};
 ghost use Rattle.std.specs.Option.{option_copied};
 ghost use Rattle.bpf_cpu.specs.Task.{waiting};
 ghost use Rattle.bpf_file.specs.Form.{field_at};
@@ -11,6 +11,9 @@ ghost use Rattle.bpf_file.specs.Statement.{said_by, statement_of};
 ghost use Rattle.bpf_file.specs.Statement as says;
 ghost use Rattle.bpf_file.specs.declared.statement.Statement.TheVariants as statement_kind;
 ghost use Rattle.bpf_file.specs.Private.Answers.{OrMemory};
+ghost use Rattle.std.specs.List.{list_all};
+ghost use Rattle.bpf_file.specs.Runnable.{IsRunnable};
+ghost use Rattle.bpf_file.specs.Private.Runs.{is_job_of, is_for};
 ghost use Rattle.bpf_file.specs.Private.Fits.{IsFit};
 ghost use Rattle.bpf_file.specs.Private.Drafts.{part_of, said_in, after, Added, HasContext, Ends, closed, answer_of};
 
@@ -31,6 +34,9 @@ const MOST_PROGRAMS: usize = 256;
 const MOST_MAPS: usize = 16;
 
 const MOST_JOBS: usize = 4_096;
+
+/// The most bytes of a context.
+const MOST_CONTEXT: usize = 4_096;
 
 /// How many steps a job makes at most whose line doesn't say it.
 const STEPS: u64 = 1_000_000;
@@ -102,6 +108,22 @@ fn context_of(alloc: Global, line: usize, digits: Option<&[u8]>) -> Result<Vec<u
         Err(FromHexError::OutOfMemory) => Err(FileError::OutOfMemory),
         Err(_) => Err(FileError::Refused(line, Reason::NotHex)),
     }
+}
+
+/// Whether so many CPUs may run these jobs, of so many programs.
+fn are_jobs_of(cpus: u8, programs: usize, jobs: &[Job]) -> bool
+    ensures { result ≡ list_all (is_job_of cpus programs) jobs.now }
+{
+    jobs.iter().all(|job| {
+        job.cpu < cpus && (job.program < programs && job.context.len() <= MOST_CONTEXT)
+    })
+}
+
+/// Whether these programs were loaded for so many maps.
+fn are_for(maps: usize, programs: &[Program]) -> bool
+    ensures { result ≡ list_all (is_for maps) programs.now }
+{
+    programs.iter().all(|program| program.maps() == maps)
 }
 
 impl<'a> Draft<'a> {
@@ -349,14 +371,21 @@ impl<'a> Draft<'a> {
         }
     }
 
-    #[tactic(auto, using(crate::proofs::Fits::never_refused))]
+    #[tactic(auto, using(crate::proofs::Fits::never_refused, crate::proofs::Runs::runnable))]
     /// The whole file, where no line follows.
     pub fn finish(self) -> Result<RunFile, FileError>
         requires { IsFit (part_of self) }
-        ensures { OrMemory (λ a. finished (Between (part_of self.entry)) ≡ answer_of a) result }
+        ensures read { OrMemory (λ a. finished (Between (part_of self.entry)) ≡ answer_of a) result }
+        ensures fits { IfOk result IsRunnable }
     {
         if self.group == 0 {
             return Err(FileError::Refused(1, Reason::BadFirstLine));
+        }
+        // Each line was tested as it was read: this never fails, and tells the caller so.
+        if !are_jobs_of(self.cpus, self.programs.len(), &self.jobs)
+            || !are_for(self.maps.len(), &self.programs)
+        {
+            return Err(FileError::OutOfMemory);
         }
         match StoreShape::new(self.cpus as u64, self.maps) {
             Ok(shape) => Ok(RunFile {
