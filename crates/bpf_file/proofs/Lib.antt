@@ -5,3 +5,4 @@ pub mod Names
 pub mod Fits
 pub mod Progress
 pub mod Runs
+pub mod OneFile

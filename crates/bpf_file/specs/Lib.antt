@@ -7,4 +7,5 @@ pub mod Programs
 pub mod Rows
 pub mod Reading
 pub mod Runnable
+pub mod Laws
 pub mod Private

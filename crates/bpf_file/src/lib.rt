@@ -8,6 +8,7 @@ pub mod file;
 mod form;
 mod group;
 mod key;
+pub mod laws;
 mod line;
 mod program;
 mod reader;
