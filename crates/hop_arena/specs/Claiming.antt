@@ -25,19 +25,23 @@ IsSeenTaken (s ∷ ss) m e = ShowsTaken s m e ⊎ IsSeenTaken ss m e
 
 -- of the words from one to another, each element was seen not free
 abbrev pub AreSeenTaken : List Sight → ℕ → ℕ → ℕ → ℕ → Type 0
-AreSeenTaken more m count from to = (e : ℕ) → e < count → from ≤ e / 64 → e / 64 < to → IsSeenTaken more m e
+AreSeenTaken more m count from to = (e : ℕ) → e < count → from ≤ e / 64 → e / 64 < to
+    → IsSeenTaken more m e
 
 -- nothing was taken: of these words each element was seen not free, at a moment of its own
 abbrev pub Passes : About → Known → ℕ → ℕ → ℕ → Known → Type 0
-Passes a l m from to l' = (more : List Sight) × Sees l more l' × AreSeenTaken more m (elements (shape_at a m)) from to
+Passes a l m from to l' = (more : List Sight) × Sees l more l'
+    × AreSeenTaken more m (elements (shape_at a m)) from to
 
 -- nothing was taken: each element of the map was seen not free, at a moment of its own
 abbrev pub Misses : About → Known → ℕ → Known → Type 0
-Misses a l m l' = (more : List Sight) × Sees l more l' × ((e : ℕ) → e < elements (shape_at a m) → IsSeenTaken more m e)
+Misses a l m l' = (more : List Sight) × Sees l more l'
+    × ((e : ℕ) → e < elements (shape_at a m) → IsSeenTaken more m e)
 
 -- the element is in hand from now on
 abbrev pub Claims : About → Known → ℕ → Element → Known → Type 0
-Claims a l m x l' = (more : List Sight) × Sees (holding l m x.number) more l' × (x.map ≡ m) × (x.number < elements (shape_at a m))
+Claims a l m x l' = (more : List Sight) × Sees (holding l m x.number) more l' × (x.map ≡ m)
+    × (x.number < elements (shape_at a m))
 
 -- the pass begins at one of the map's words
 abbrev pub IsArena : About → ℕ → ℕ → ℕ → Type 0

@@ -47,24 +47,29 @@ impl Arena {
         requires map { element.map ≡ self.old.map }
         requires hand { IsInHand lane.old.known element.map element.number }
         ensures table { lane.new.table ≡ lane.old.table }
-        ensures given { lane.new.known ≡ record lane.old.known { fresh = behind lane.old.known.fresh } }
-        ensures arena { (self.new.map ≡ self.old.map) × (self.new.elements ≡ self.old.elements) × IsArena table.now.about self.new.map self.new.elements self.new.start }
+        ensures given { lane.new.known
+            ≡ record lane.old.known { fresh = behind lane.old.known.fresh } }
+        ensures arena { (self.new.map ≡ self.old.map) × (self.new.elements ≡ self.old.elements)
+            × IsArena table.now.about self.new.map self.new.elements self.new.start }
     {
         let Element { map, number } = element;
         lane.give_bit(table, map, number);
         self.start = number / 64;
     }
 
-    /// One pass over the free bits, with one fetch-and for each bit that was seen set: an element of
-    /// its own, or none where each element of the map was seen not free, at a moment of its own.
+    /// One pass over the free bits, with one fetch-and for each bit that was seen set: an element
+    /// of its own, or none where each element of the map was seen not free, at a moment of its own.
     pub fn claim(&mut self, lane: &mut Lane, table: &HopTable) -> Option<Element>
         requires table { lane.old.table ≡ table.now.id }
         requires map { self.old.map < length table.now.about.shape.maps }
         requires arena { IsArena table.now.about self.old.map self.old.elements self.old.start }
         requires unlocked { lane.old.known.locks ≡ [] }
         ensures table { lane.new.table ≡ lane.old.table }
-        ensures claimed { MatchOption result (Misses table.now.about lane.old.known self.old.map lane.new.known) (λ e. Claims table.now.about lane.old.known self.old.map e lane.new.known) }
-        ensures arena { (self.new.map ≡ self.old.map) × (self.new.elements ≡ self.old.elements) × IsArena table.now.about self.new.map self.new.elements self.new.start }
+        ensures claimed { MatchOption result (Misses table.now.about lane.old.known self.old.map
+            lane.new.known) (λ e. Claims table.now.about lane.old.known self.old.map e
+            lane.new.known) }
+        ensures arena { (self.new.map ≡ self.old.map) × (self.new.elements ≡ self.old.elements)
+            × IsArena table.now.about self.new.map self.new.elements self.new.start }
     {
         let words = self.elements.div_ceil(64);
         'after: for word in self.start..words {
@@ -92,8 +97,8 @@ fn has_bit(bits: u64, place: u32) -> bool
     bits >> place & 1 == 1
 }
 
-// A free element among the 64 of a word, or none where each was seen not free. Each try clears a bit
-// of those that were set at each look.
+// A free element among the 64 of a word, or none where each was seen not free. Each try clears a
+// bit of those that were set at each look.
 fn claim_in(lane: &mut Lane, table: &HopTable, map: u8, word: u32, count: u32) -> Option<Element>
     requires table { lane.old.table ≡ table.now.id }
     requires map { map < length table.now.about.shape.maps }
@@ -101,7 +106,8 @@ fn claim_in(lane: &mut Lane, table: &HopTable, map: u8, word: u32, count: u32) -
     requires inside { 64 * word < count }
     requires unlocked { lane.old.known.locks ≡ [] }
     ensures table { lane.new.table ≡ lane.old.table }
-    ensures claimed { MatchOption result (Passes table.now.about lane.old.known map word (word + 1) lane.new.known) (λ e. Claims table.now.about lane.old.known map e lane.new.known) }
+    ensures claimed { MatchOption result (Passes table.now.about lane.old.known map word (word + 1)
+        lane.new.known) (λ e. Claims table.now.about lane.old.known map e lane.new.known) }
 {
     let mut bits = lane.see_bits(table, map, word);
     while bits != 0 {

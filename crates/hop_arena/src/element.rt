@@ -7,8 +7,8 @@ ghost use Rattle.hop_arena.specs.Filling.{with_words, word_list};
 
 use hop_words::{HopTable, Lane, word_of};
 
-/// An element in hand, which nobody else has seen: its words may be filled, and then it is linked in
-/// its map or given back. It can't be dropped, so none is lost.
+/// An element in hand, which nobody else has seen: its words may be filled, and then it is linked
+/// in its map or given back. It can't be dropped, so none is lost.
 pub struct Element {
     pub(crate) map: u8,
     pub(crate) number: u32,
@@ -35,13 +35,17 @@ impl Element {
         requires table { lane.old.table ≡ table.now.id }
         requires element { IsElement table.now.about self.now.map self.now.number }
         requires hand { IsInHand lane.old.known self.now.map self.now.number }
-        requires empty { (key_filled lane.old.known.fresh ≡ 0) × (value_filled lane.old.known.fresh ≡ 0) }
+        requires empty { (key_filled lane.old.known.fresh ≡ 0)
+            × (value_filled lane.old.known.fresh ≡ 0) }
         requires unlocked { lane.old.known.locks ≡ [] }
         requires key { length key.now ≡ (shape_at table.now.about self.now.map).key }
         requires value { length value.now ≡ (shape_at table.now.about self.now.map).value }
         requires sizes { (length key.now ≤ 64) × (length value.now ≤ 256) }
         ensures table { lane.new.table ≡ lane.old.table }
-        ensures filled { lane.new.known ≡ record lane.old.known { fresh = with_words lane.old.known.fresh (word_list (words_for (length key.now)) key.now) (word_list (words_for (length value.now)) value.now) } }
+        ensures filled { lane.new.known
+            ≡ record lane.old.known { fresh = with_words lane.old.known.fresh
+            (word_list (words_for (length key.now)) key.now)
+            (word_list (words_for (length value.now)) value.now) } }
     {
         'key: for word in 0..key.len().div_ceil(8) {
             lane.fill_key_word(

@@ -13,10 +13,12 @@ front (e ∷ es) = Some e
 
 -- the counters noted with the old batch, by CPU
 abbrev pub Notes : About → List ℕ → List ℕ → Type 0
-Notes a known noted = (length known ≡ a.shape.cpus) × ((d : ℕ) → d < a.shape.cpus → slice_index known d ≡ slice_index noted d)
+Notes a known noted = (length known ≡ a.shape.cpus)
+    × ((d : ℕ) → d < a.shape.cpus → slice_index known d ≡ slice_index noted d)
 
 -- the batches begin with these elements, and these counters were noted with the old one
-pub record Tracks (a : About) (l : Known) (m : ℕ) (young old : Option ℕ) (noted : List ℕ) : Type 0 where
+pub record Tracks (a : About) (l : Known) (m : ℕ) (young old : Option ℕ) (noted : List ℕ) : Type 0
+    where
   pub room : m < length l.limbo
   pub young_is : young ≡ front (limbo_at l.limbo m).young
   pub old_is : old ≡ front (limbo_at l.limbo m).old
@@ -56,5 +58,6 @@ AreEven cpus noted = (d : ℕ) → d < cpus → slice_index noted d % 2 ≡ 0
 -- the last that was seen on the way is a CPU that is still in the run noted with the old batch
 abbrev pub SeesRunning : ℕ → Known → Known → Type 0
 SeesRunning m l l' =
-    (d : ℕ) × (more : List Sight) × (l'.tally.sights ≡ Runs d (slice_index (limbo_at l'.limbo m).noted d) ∷ (more ++ l.tally.sights))
+    (d : ℕ) × (more : List Sight) × (l'.tally.sights
+        ≡ Runs d (slice_index (limbo_at l'.limbo m).noted d) ∷ (more ++ l.tally.sights))
     × (slice_index (limbo_at l'.limbo m).noted d % 2 ≡ 1)

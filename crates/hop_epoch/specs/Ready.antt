@@ -9,7 +9,8 @@ use Rattle.hop_words.specs.Kinds.{in_run}
 use Rattle.hop_arena.specs.declared.arena.Arena.{Arena}
 use Rattle.hop_arena.specs.Claiming.{IsArena}
 
--- the first map's keys and values have eight bytes each, and no run was counted when the store was made
+-- the first map's keys and values have eight bytes each, and no run was counted when the store was
+-- made
 pub record IsTrial (a : About) : Type 0 where
   pub map : 0 < length a.shape.maps
   pub key : (shape_at a 0).key ≡ 8

@@ -9,8 +9,8 @@ ghost use Rattle.hop_words.specs.Content.{item};
 
 use hop_words::{HopTable, Lane};
 
-/// An element that left its map, in hand. A CPU in a run may still hold its value, so it goes to the
-/// young batch, and nowhere else. It can't be dropped, so none is lost.
+/// An element that left its map, in hand. A CPU in a run may still hold its value, so it goes to
+/// the young batch, and nowhere else. It can't be dropped, so none is lost.
 pub struct Used {
     pub(crate) map: u8,
     pub(crate) number: u32,
@@ -19,7 +19,8 @@ pub struct Used {
 impl Used {
     /// The used element that this CPU has in hand.
     pub fn new(lane: &Lane, map: u8, number: u32) -> Used
-        requires used { (limbo_at lane.now.known.limbo map).used ≡ number ∷ behind (limbo_at lane.now.known.limbo map).used }
+        requires used { (limbo_at lane.now.known.limbo map).used
+            ≡ number ∷ behind (limbo_at lane.now.known.limbo map).used }
         ensures map { result.map ≡ map }
         ensures number { result.number ≡ number }
     {
@@ -28,8 +29,8 @@ impl Used {
     }
 }
 
-/// The two batches of one CPU and one map, linked through the elements: with the old one, of each CPU
-/// the run counter that was noted when the batch became old.
+/// The two batches of one CPU and one map, linked through the elements: with the old one, of each
+/// CPU the run counter that was noted when the batch became old.
 #[derive(Clone, Copy, Drop)]
 pub struct Batches {
     map: u8,
@@ -56,15 +57,20 @@ impl Batches {
     /// Puts a used element in front of the young batch.
     pub fn retire(&mut self, lane: &mut Lane, table: &HopTable, element: Used)
         requires table { lane.old.table ≡ table.now.id }
-        requires tracks { Tracks table.now.about lane.old.known self.old.map self.old.young self.old.aged self.old.noted }
+        requires tracks { Tracks table.now.about lane.old.known self.old.map self.old.young
+            self.old.aged self.old.noted }
         requires map { element.map ≡ self.old.map }
         requires element { IsElement table.now.about element.map element.number }
-        requires used { (limbo_at lane.old.known.limbo element.map).used ≡ element.number ∷ behind (limbo_at lane.old.known.limbo element.map).used }
+        requires used { (limbo_at lane.old.known.limbo element.map).used
+            ≡ element.number ∷ behind (limbo_at lane.old.known.limbo element.map).used }
         requires unlocked { lane.old.known.locks ≡ [] }
         ensures table { lane.new.table ≡ lane.old.table }
-        ensures retired { lane.new.known ≡ retiring lane.old.known element.map element.number (behind (limbo_at lane.old.known.limbo element.map).used) }
+        ensures retired { lane.new.known
+            ≡ retiring lane.old.known element.map element.number
+            (behind (limbo_at lane.old.known.limbo element.map).used) }
         ensures map { self.new.map ≡ self.old.map }
-        ensures tracks { Tracks table.now.about lane.new.known self.new.map self.new.young self.new.aged self.new.noted }
+        ensures tracks { Tracks table.now.about lane.new.known self.new.map self.new.young
+            self.new.aged self.new.noted }
     {
         let Used { map, number } = element;
         lane.retire_used(table, map, number, link_to(self.young));
@@ -77,13 +83,17 @@ impl Batches {
     pub fn reclaim(&mut self, lane: &mut Lane, table: &HopTable)
         requires table { lane.old.table ≡ table.now.id }
         requires even { table.now.about.count % 2 ≡ 0 }
-        requires tracks { Tracks table.now.about lane.old.known self.old.map self.old.young self.old.aged self.old.noted }
+        requires tracks { Tracks table.now.about lane.old.known self.old.map self.old.young
+            self.old.aged self.old.noted }
         ensures table { lane.new.table ≡ lane.old.table }
         ensures map { self.new.map ≡ self.old.map }
-        ensures tracks { Tracks table.now.about lane.new.known self.new.map self.new.young self.new.aged self.new.noted }
+        ensures tracks { Tracks table.now.about lane.new.known self.new.map self.new.young
+            self.new.aged self.new.noted }
         ensures keeps { Keeps self.old.map lane.old.known lane.new.known }
-        ensures empty { (limbo_at lane.new.known.limbo self.old.map).old ≡ [] → (limbo_at lane.new.known.limbo self.old.map).young ≡ [] }
-        ensures blocked { ((limbo_at lane.new.known.limbo self.old.map).old ≡ []) ⊎ SeesRunning self.old.map lane.old.known lane.new.known }
+        ensures empty { (limbo_at lane.new.known.limbo self.old.map).old ≡ []
+            → (limbo_at lane.new.known.limbo self.old.map).young ≡ [] }
+        ensures blocked { ((limbo_at lane.new.known.limbo self.old.map).old ≡ [])
+            ⊎ SeesRunning self.old.map lane.old.known lane.new.known }
     {
         let _cpus = table.about().shape.cpus();
         if self.aged.is_some() {
@@ -106,11 +116,14 @@ impl Batches {
         requires table { lane.old.table ≡ table.now.id }
         requires shape { IsShape table.now.about.shape }
         requires room { self.old.map < length lane.old.known.limbo }
-        requires notes { Notes table.now.about (limbo_at lane.old.known.limbo self.old.map).noted self.old.noted }
+        requires notes { Notes table.now.about (limbo_at lane.old.known.limbo self.old.map).noted
+            self.old.noted }
         ensures table { lane.new.table ≡ lane.old.table }
-        ensures same { (self.new.map ≡ self.old.map) × (self.new.young ≡ self.old.young) × (self.new.aged ≡ self.old.aged) }
+        ensures same { (self.new.map ≡ self.old.map) × (self.new.young ≡ self.old.young)
+            × (self.new.aged ≡ self.old.aged) }
         ensures looks { Looks self.old.map lane.old.known lane.new.known }
-        ensures notes { Notes table.now.about (limbo_at lane.new.known.limbo self.old.map).noted self.new.noted }
+        ensures notes { Notes table.now.about (limbo_at lane.new.known.limbo self.old.map).noted
+            self.new.noted }
         ensures past { IsTrue result → AreEven table.now.about.shape.cpus self.new.noted }
         ensures blocked { IsFalse result → SeesRunning self.old.map lane.old.known lane.new.known }
     {
@@ -132,13 +145,17 @@ impl Batches {
         requires table { lane.old.table ≡ table.now.id }
         requires even { table.now.about.count % 2 ≡ 0 }
         requires shape { IsShape table.now.about.shape }
-        requires tracks { Tracks table.now.about lane.old.known self.old.map self.old.young self.old.aged self.old.noted }
-        requires notes { Notes table.now.about (limbo_at lane.old.known.limbo self.old.map).noted self.old.noted }
+        requires tracks { Tracks table.now.about lane.old.known self.old.map self.old.young
+            self.old.aged self.old.noted }
+        requires notes { Notes table.now.about (limbo_at lane.old.known.limbo self.old.map).noted
+            self.old.noted }
         requires past { AreEven table.now.about.shape.cpus self.old.noted }
         ensures table { lane.new.table ≡ lane.old.table }
-        ensures same { (self.new.map ≡ self.old.map) × (self.new.young ≡ self.old.young) × (self.new.aged ≡ None) }
+        ensures same { (self.new.map ≡ self.old.map) × (self.new.young ≡ self.old.young)
+            × (self.new.aged ≡ None) }
         ensures keeps { Keeps self.old.map lane.old.known lane.new.known }
-        ensures young { (limbo_at lane.new.known.limbo self.old.map).young ≡ (limbo_at lane.old.known.limbo self.old.map).young }
+        ensures young { (limbo_at lane.new.known.limbo self.old.map).young
+            ≡ (limbo_at lane.old.known.limbo self.old.map).young }
         ensures sights { lane.new.known.tally ≡ lane.old.known.tally }
         ensures freed { (limbo_at lane.new.known.limbo self.old.map).old ≡ [] }
     {
@@ -153,15 +170,19 @@ impl Batches {
     fn age(&mut self, lane: &mut Lane, table: &HopTable)
         requires table { lane.old.table ≡ table.now.id }
         requires shape { IsShape table.now.about.shape }
-        requires tracks { Tracks table.now.about lane.old.known self.old.map self.old.young self.old.aged self.old.noted }
+        requires tracks { Tracks table.now.about lane.old.known self.old.map self.old.young
+            self.old.aged self.old.noted }
         requires empty { (limbo_at lane.old.known.limbo self.old.map).old ≡ [] }
         ensures table { lane.new.table ≡ lane.old.table }
-        ensures same { (self.new.map ≡ self.old.map) × (self.new.young ≡ None) × (self.new.aged ≡ self.old.young) }
+        ensures same { (self.new.map ≡ self.old.map) × (self.new.young ≡ None)
+            × (self.new.aged ≡ self.old.young) }
         ensures keeps { Keeps self.old.map lane.old.known lane.new.known }
         ensures sights { lane.new.known.tally ≡ lane.old.known.tally }
         ensures young { (limbo_at lane.new.known.limbo self.old.map).young ≡ [] }
-        ensures aged { (limbo_at lane.new.known.limbo self.old.map).old ≡ (limbo_at lane.old.known.limbo self.old.map).young }
-        ensures notes { Notes table.now.about (limbo_at lane.new.known.limbo self.old.map).noted self.new.noted }
+        ensures aged { (limbo_at lane.new.known.limbo self.old.map).old
+            ≡ (limbo_at lane.old.known.limbo self.old.map).young }
+        ensures notes { Notes table.now.about (limbo_at lane.new.known.limbo self.old.map).noted
+            self.new.noted }
     {
         self.noted[0] = lane.note_first_counter(table, self.map);
         for cpu in 1..table.about().shape.cpus() {

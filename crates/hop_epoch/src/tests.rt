@@ -18,7 +18,8 @@ use std::thread::Threads;
 // A store with one map, which has two elements more than keys.
 fn a_store(alloc: Global, cpus: u64, max: u64) -> Result<(HopTable, Lanes), Fail>
     ensures trial { IfOk result (λ r. IsTrial r.0.about) }
-    ensures lanes { IfOk result (λ r. (r.1.table ≡ r.0.id) × (r.1.lanes ≡ lanes_from r.0.about 0 r.0.about.shape.cpus)) }
+    ensures lanes { IfOk result (λ r. (r.1.table ≡ r.0.id)
+        × (r.1.lanes ≡ lanes_from r.0.about 0 r.0.about.shape.cpus)) }
 {
     let map = MapShape {
         key: 8,

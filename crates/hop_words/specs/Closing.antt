@@ -29,7 +29,8 @@ IsReturned s = s.seat.me ≡ (view s.seat.me.0.lanes [], [])
 
 -- each CPU of the store is among these, and locks nothing
 abbrev pub AreAllBack : About → List Known → Type 0
-AreAllBack a lanes = (c : ℕ) → c < a.shape.cpus → (k : ℕ) × (l : Known) × (l.cpu ≡ c) × (get_elem? lanes k ≡ some l) × (l.locks ≡ [])
+AreAllBack a lanes = (c : ℕ) → c < a.shape.cpus
+    → (k : ℕ) × (l : Known) × (l.cpu ≡ c) × (get_elem? lanes k ≡ some l) × (l.locks ≡ [])
 
 -- what the store was told, its words, and the whole history
 pub record Ending : Type 0 where
@@ -38,8 +39,11 @@ pub record Ending : Type 0 where
   pub history : List Entry
 
 abbrev pub ending : InRest → Ending
-ending s = record { about = s.index; words = slots_items s.words.words; history = s.keeper.me.0.kept }
+ending s = record { about = s.index; words = slots_items s.words.words;
+    history = s.keeper.me.0.kept }
 
 -- the words are all there, and keep the rule with the history
 abbrev pub IsAtRest : InRest → Type 0
-IsAtRest s = IsFull s.words.words × (slots_len s.words.words ≡ size s.index.shape) × (slots_len s.words.slots ≡ 0) × IsWhole s.index (view [] s.keeper.me.0.kept) (slots_items s.words.words)
+IsAtRest s = IsFull s.words.words × (slots_len s.words.words ≡ size s.index.shape)
+    × (slots_len s.words.slots ≡ 0)
+    × IsWhole s.index (view [] s.keeper.me.0.kept) (slots_items s.words.words)

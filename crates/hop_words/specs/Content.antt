@@ -1,4 +1,5 @@
--- The content of one segment: which elements are reached through hop bits and slots or through the overflow list.
+-- The content of one segment: which elements are reached through hop bits and slots or through the
+-- overflow list.
 use Rattle.std.specs.Prelude.{◌≡◌, ℕ, zero, suc, ◌+◌, ◌%◌, ◌<◌, ◌≤◌, ◌⊎◌, ◌^◌, nat_lt, Bool, true, false, List, [], ◌∷◌, Option, Some, None, ◌==◌, if◌then◌else◌, length}
 use Rattle.std.specs.Int.{bit_at}
 use Rattle.bpf_shared.specs.declared.shapes.MapShape.{MapShape}
@@ -41,7 +42,8 @@ item (suc n) = if nat_lt n (2 ^ 32) then Some n else None
 
 -- bit d of bucket b leads to the element e
 abbrev pub HopsTo : Words → ℕ → ℕ → ℕ → ℕ → ℕ → Type 0
-HopsTo x m s b d e = (b < 64) × (d < 32) × (bit_at (x.hop m s b) d ≡ 1) × (item (x.slot m s ((b + d) % 64)) ≡ Some e)
+HopsTo x m s b d e = (b < 64) × (d < 32) × (bit_at (x.hop m s b) d ≡ 1)
+    × (item (x.slot m s ((b + d) % 64)) ≡ Some e)
 
 -- from the word n on, links lead through these elements and end
 abbrev pub Follows : (ℕ → ℕ) → ℕ → List ℕ → Type 0
@@ -56,24 +58,33 @@ Reached x m s e = ((b : ℕ) × (d : ℕ) × HopsTo x m s b d e) ⊎ IsOnList x 
 
 -- the element's key words are those of the key
 abbrev pub HasKey : MapShape → Words → ℕ → ℕ → List ℕ → Type 0
-HasKey g x m e key = (length key ≡ g.key) × AreBytes key × ((k : ℕ) → k < words_for g.key → x.key m e k ≡ word_of key k)
+HasKey g x m e key = (length key ≡ g.key) × AreBytes key
+    × ((k : ℕ) → k < words_for g.key → x.key m e k ≡ word_of key k)
 
--- each hop bit leads to an item whose home bucket is that bucket, the list ends, and no element is reached twice
+-- each hop bit leads to an item whose home bucket is that bucket, the list ends, and no element is
+-- reached twice
 pub record Sound (seed : ℕ) (g : MapShape) (x : Words) (m s : ℕ) : Type 0 where
-  pub leads : (b d : ℕ) → b < 64 → d < 32 → bit_at (x.hop m s b) d ≡ 1 → (e : ℕ) × HopsTo x m s b d e
-  pub hopped : (p e : ℕ) → p < 64 → item (x.slot m s p) ≡ Some e → (b : ℕ) × (d : ℕ) × HopsTo x m s b d e × ((b + d) % 64 ≡ p)
-  pub homes : (b d e : ℕ) (key : List ℕ) → HopsTo x m s b d e → HasKey g x m e key → bucket_of seed g key ≡ b
+  pub leads : (b d : ℕ) → b < 64 → d < 32 → bit_at (x.hop m s b) d ≡ 1
+      → (e : ℕ) × HopsTo x m s b d e
+  pub hopped : (p e : ℕ) → p < 64 → item (x.slot m s p) ≡ Some e
+      → (b : ℕ) × (d : ℕ) × HopsTo x m s b d e × ((b + d) % 64 ≡ p)
+  pub homes : (b d e : ℕ) (key : List ℕ) → HopsTo x m s b d e → HasKey g x m e key
+      → bucket_of seed g key ≡ b
   pub one_hop : (a b c d e : ℕ) → HopsTo x m s a b e → HopsTo x m s c d e → (a ≡ c) × (b ≡ d)
   pub list : List ℕ
   pub follows : Follows (x.link m) (x.head m s) list
   pub one_place : (e : ℕ) → times e list ≤ 1
   pub apart : (b d e : ℕ) → HopsTo x m s b d e → times e list ≡ 0
 
--- the segment is sound, and its content is what f says of the keys that are at home there (home: the segment of each key)
-pub record IsShare (seed : ℕ) (g : MapShape) (home : List ℕ → ℕ) (x : Words) (m s : ℕ) (f : List ℕ → Option ℕ) : Type 0 where
+-- the segment is sound, and its content is what f says of the keys that are at home there (home:
+-- the segment of each key)
+pub record IsShare (seed : ℕ) (g : MapShape) (home : List ℕ → ℕ) (x : Words) (m s : ℕ)
+    (f : List ℕ → Option ℕ) : Type 0 where
   pub sound : Sound seed g x m s
-  pub each : (e : ℕ) → Reached x m s e → (key : List ℕ) × HasKey g x m e key × (home key ≡ s) × (f key ≡ Some e)
-  pub all : (key : List ℕ) (e : ℕ) → f key ≡ Some e → home key ≡ s → Reached x m s e × HasKey g x m e key
+  pub each : (e : ℕ) → Reached x m s e → (key : List ℕ) × HasKey g x m e key × (home key ≡ s)
+      × (f key ≡ Some e)
+  pub all : (key : List ℕ) (e : ℕ) → f key ≡ Some e → home key ≡ s
+      → Reached x m s e × HasKey g x m e key
 
 -- the same words in a segment, and in the elements that are meant
 pub record Agrees (m s : ℕ) (on : ℕ → Type 0) (x y : Words) : Type 0 where

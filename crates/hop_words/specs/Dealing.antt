@@ -18,4 +18,5 @@ AreNumbered c [] = Unit {0}
 AreNumbered c (l ∷ ls) = (l.cpu ≡ c) × AreNumbered (c + 1) ls
 
 abbrev pub IsDealing : Inside → Type 0
-IsDealing s = (s.seat.me ≡ (view s.seat.me.0.lanes [], [])) × (length s.seat.me.0.lanes ≡ s.left) × AreNumbered s.next s.seat.me.0.lanes × (s.next + s.left ≤ 16)
+IsDealing s = (s.seat.me ≡ (view s.seat.me.0.lanes [], [])) × (length s.seat.me.0.lanes ≡ s.left)
+    × AreNumbered s.next s.seat.me.0.lanes × (s.next + s.left ≤ 16)

@@ -1,4 +1,5 @@
--- What stands behind the words, and in no word: the history, what each CPU knows, and who has which element.
+-- What stands behind the words, and in no word: the history, what each CPU knows, and who has which
+-- element.
 use Rattle.std.specs.Prelude.{ℕ, ◌<◌, Bool, true, false, List, [], ◌∷◌, Option, length, ◌==◌, slice_index_or}
 use Rattle.bpf_shared.specs.declared.shapes.MapShape.{MapShape}
 use Rattle.bpf_shared.specs.declared.events.Entry.{Entry}
@@ -15,7 +16,8 @@ use Rattle.hop_words.specs.Layout.{map_shape, segments}
 use Rattle.hop_words.specs.Homes.{segment_of}
 use Rattle.hop_words.specs.Content.{Words}
 
--- an element is free, or one CPU fills it, or one CPU took it out of its map, or it is linked in one segment
+-- an element is free, or one CPU fills it, or one CPU took it out of its map, or it is linked in
+-- one segment
 pub data Holder : Type 0 where
   Free : Holder
   Filling : ℕ → Holder
@@ -51,10 +53,12 @@ pub record Lanes : Type 0 where
   pub tally : ℕ → Tally
 
 abbrev pub lane : Lanes → ℕ → Known
-lane x c = record { cpu = c; seen = x.seen c; fresh = x.fresh c; limbo = x.limbo c; locks = x.locks c; readings = x.readings c; tally = x.tally c }
+lane x c = record { cpu = c; seen = x.seen c; fresh = x.fresh c; limbo = x.limbo c;
+    locks = x.locks c; readings = x.readings c; tally = x.tally c }
 
--- of a segment: a number that never goes down, which is the stamp while no lock changed anything; who locks it; whether that
--- CPU has to change the version; a Done event that the version doesn't count yet; and its words at rest
+-- of a segment: a number that never goes down, which is the stamp while no lock changed anything;
+-- who locks it; whether that CPU has to change the version; a Done event that the version doesn't
+-- count yet; and its words at rest
 pub record Era : Type 0 where
   pub era : ℕ
   pub writer : ℕ

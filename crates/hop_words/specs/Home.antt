@@ -1,5 +1,5 @@
--- Where a key belongs: FNV-1a of 64 bits over its bytes (Fowler, Noll and Vo), folded to 32 bits under a mask (the seed,
--- the fold and the mask are our own choice).
+-- Where a key belongs: FNV-1a of 64 bits over its bytes (Fowler, Noll and Vo), folded to 32 bits
+-- under a mask (the seed, the fold and the mask are our own choice).
 use Rattle.std.specs.Prelude.{ℕ, ◌*◌, ◌/◌, ◌%◌, ◌^◌, List, fold, bit_and, bit_xor}
 
 -- one round of FNV-1a

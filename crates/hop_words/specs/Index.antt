@@ -42,4 +42,5 @@ bases_from start g =
     }
 
 abbrev pub end_from : ℕ → MapShape → ℕ
-end_from start g = (bases_from start g).values + elements g * words_for g.value + line_rest (map_words g)
+end_from start g = (bases_from start g).values + elements g * words_for g.value + line_rest
+    (map_words g)

@@ -21,14 +21,16 @@ shown t = record { id = t.table.shared.table_id; about = t.table.shared.key }
 
 -- the table has the words of the layout, and the index is its own
 abbrev pub IsSized : InTable → Type 0
-IsSized t = (t.table.shared.table_id.words ≡ size t.table.shared.key.shape) × (t.table.shared.table_id.slots ≡ 0) × (t.index ≡ t.table.shared.key)
+IsSized t = (t.table.shared.table_id.words ≡ size t.table.shared.key.shape)
+    × (t.table.shared.table_id.slots ≡ 0) × (t.index ≡ t.table.shared.key)
 
 pub record Standing : Type 0 where
   pub table : TableId
   pub known : Known
 
 abbrev pub nobody : Known
-nobody = record { cpu = 0; seen = []; fresh = []; limbo = []; locks = []; readings = []; tally = no_tally }
+nobody = record { cpu = 0; seen = []; fresh = []; limbo = []; locks = []; readings = [];
+    tally = no_tally }
 
 abbrev pub lane_of : InStepper → Known
 lane_of s = first_lane nobody s.seat.me.0.lanes
@@ -40,5 +42,6 @@ standing s = record { table = s.seat.table_id; known = lane_of s }
 abbrev pub IsOne : InStepper → Type 0
 IsOne s = (s.seat.me ≡ (solo (lane_of s), [])) × ((lane_of s).cpu ≡ s.cpu)
 
-abbrev pub tells : (ℕ → Known → Type 0) → Step (Unit {0}) → Me (Unit {0}) View → ℕ → Me (Unit {0}) View → Type 0
+abbrev pub tells : (ℕ → Known → Type 0) → Step (Unit {0}) → Me (Unit {0}) View → ℕ
+    → Me (Unit {0}) View → Type 0
 tells told st m n m' = Tells (first_lane nobody m.0.lanes).cpu told n m'

@@ -40,10 +40,13 @@ pub record Saw (a : About) (l : Known) (e : Event) (seen : List Entry) : Type 0 
 
 -- by all that the lock's words can show, the key isn't there
 abbrev pub IsAbsent : About → Lock → List ℕ → Type 0
-IsAbsent a k key = (before : List ℕ → Option ℕ) → IsShare a.seed (shape_at a k.map) (segment_in a k.map) (image a k.first) k.map k.segment before → before key ≡ None
+IsAbsent a k key = (before : List ℕ → Option ℕ)
+    → IsShare a.seed (shape_at a k.map) (segment_in a k.map) (image a k.first) k.map k.segment
+    before → before key ≡ None
 
 -- ---- count up: a new key, under the lock of its segment, before a word of it is written
-pub record Inserts (a : About) (l : Known) (k : Lock) (f : Fresh) (rest : List Fresh) (key bytes : List ℕ) (flags old : ℕ) : Type 0 where
+pub record Inserts (a : About) (l : Known) (k : Lock) (f : Fresh) (rest : List Fresh)
+    (key bytes : List ℕ) (flags old : ℕ) : Type 0 where
   pub lock : l.locks ≡ k ∷ []
   pub nothing : k.change ≡ Nothing
   pub hand : l.fresh ≡ f ∷ rest
@@ -54,32 +57,39 @@ pub record Inserts (a : About) (l : Known) (k : Lock) (f : Fresh) (rest : List F
   pub size : length bytes ≡ (shape_at a k.map).value
   pub are_bytes : AreBytes bytes
   pub filled : length f.value ≡ words_for (shape_at a k.map).value
-  pub value : (i : ℕ) → i < words_for (shape_at a k.map).value → slice_index f.value i ≡ word_of bytes i
+  pub value : (i : ℕ) → i < words_for (shape_at a k.map).value
+      → slice_index f.value i ≡ word_of bytes i
   pub absent : IsAbsent a k key
   pub flags_known : flags ≤ 1
   pub room : old < (shape_at a k.map).max
   pub runs : in_run (events_of l.cpu l.seen) ≡ true
 
--- where the count is the one expected, the event takes effect, the element is the map's, and its words remain to be written
-pub record Inserted (a : About) (l : Known) (k : Lock) (f : Fresh) (rest : List Fresh) (key bytes : List ℕ) (flags : ℕ) (l' : Known) : Type 0 where
+-- where the count is the one expected, the event takes effect, the element is the map's, and its
+-- words remain to be written
+pub record Inserted (a : About) (l : Known) (k : Lock) (f : Fresh) (rest : List Fresh)
+    (key bytes : List ℕ) (flags : ℕ) (l' : Known) : Type 0 where
   pub seen : Saw a l (Update k.map key bytes flags Done) l'.seen
-  pub after : l' ≡ record l { seen = l'.seen; fresh = rest; locks = record k { change = Puts key f.element; dirty = true } ∷ [] }
+  pub after : l' ≡ record l { seen = l'.seen; fresh = rest;
+      locks = record k { change = Puts key f.element; dirty = true } ∷ [] }
 
 -- ---- readings without a lock
 -- one disturbed reading of the segment more, by its stamps as they were seen first and last
 abbrev pub disturbed_by : Tally → ℕ → ℕ → ℕ → ℕ → Tally
-disturbed_by t m s n i = record t { disturbed = record { map = m; segment = s; first = n; last = i } ∷ t.disturbed }
+disturbed_by t m s n i = record t { disturbed = record { map = m; segment = s; first = n; last = i }
+    ∷ t.disturbed }
 
 abbrev pub noting : Known → ℕ → ℕ → ℕ → Known
 noting l m s n = record l { readings = record { map = m; segment = s; stamp = n; peeks = [] } ∷ [] }
 
 -- see stamp: an unlocked one is noted, a locked one is a disturbed reading
 abbrev pub StampSeen : Known → ℕ → ℕ → ℕ → Known → Type 0
-StampSeen l m s n l' = (n % 2 ≡ 0 → l' ≡ noting l m s n) × (n % 2 ≡ 1 → l' ≡ record l { tally = disturbed_by l.tally m s n n })
+StampSeen l m s n l' = (n % 2 ≡ 0 → l' ≡ noting l m s n)
+    × (n % 2 ≡ 1 → l' ≡ record l { tally = disturbed_by l.tally m s n n })
 
 -- peek
 abbrev pub peeking : Known → Reading → Place → ℕ → Known
-peeking l r p n = record l { readings = record r { peeks = record { place = p; number = n } ∷ r.peeks } ∷ [] }
+peeking l r p n = record l { readings = record r { peeks = record { place = p; number = n }
+    ∷ r.peeks } ∷ [] }
 
 abbrev pub AllPeeks : Words → Reading → Type 0
 AllPeeks x r = Each (λ (p : Peek). IsPeek x r.map r.segment p.place p.number) r.peeks
@@ -88,9 +98,12 @@ AllPeeks x r = Each (λ (p : Peek). IsPeek x r.map r.segment p.place p.number) r
 abbrev pub AreWithin : About → ℕ → (List ℕ → Option ℕ) → Type 0
 AreWithin a m f = (key : List ℕ) (e : ℕ) → f key ≡ Some e → e < elements (shape_at a m)
 
--- what was peeked shows where the key leads: so it does in every segment of which all this was peeked
+-- what was peeked shows where the key leads: so it does in every segment of which all this was
+-- peeked
 abbrev pub Shown : About → Reading → List ℕ → Option ℕ → Type 0
-Shown a r key o = (x : Words) (f : List ℕ → Option ℕ) → IsShare a.seed (shape_at a r.map) (segment_in a r.map) x r.map r.segment f → AreWithin a r.map f → AllPeeks x r → f key ≡ o
+Shown a r key o = (x : Words) (f : List ℕ → Option ℕ)
+    → IsShare a.seed (shape_at a r.map) (segment_in a r.map) x r.map r.segment f
+    → AreWithin a r.map f → AllPeeks x r → f key ≡ o
 
 abbrev pub span_at : About → ℕ → Option ℕ → Option Span
 span_at a m None = None
@@ -104,14 +117,16 @@ pub record Finds (a : About) (l : Known) (r : Reading) (key : List ℕ) (o : Opt
   pub shown : Shown a r key o
   pub runs : in_run (events_of l.cpu l.seen) ≡ true
 
-pub record Found (a : About) (l : Known) (r : Reading) (key : List ℕ) (o : Option ℕ) (l' : Known) : Type 0 where
+pub record Found (a : About) (l : Known) (r : Reading) (key : List ℕ) (o : Option ℕ) (l' : Known)
+    : Type 0 where
   pub seen : Saw a l (Lookup r.map key (span_at a r.map o)) l'.seen
   pub after : l' ≡ record l { seen = l'.seen; readings = [] }
 
 -- the same stamp answers the lookup, another is a disturbed reading
 abbrev pub StampSeenAgain : About → Known → Reading → List ℕ → Option ℕ → ℕ → Known → Type 0
 StampSeenAgain a l r key o n l' =
-    (n ≡ r.stamp → Found a l r key o l') × (n ≢ r.stamp → l' ≡ record l { readings = []; tally = disturbed_by l.tally r.map r.segment r.stamp n })
+    (n ≡ r.stamp → Found a l r key o l') × (n ≢ r.stamp → l'
+        ≡ record l { readings = []; tally = disturbed_by l.tally r.map r.segment r.stamp n })
 
 -- ---- lock
 abbrev pub has : ℕ → List ℕ → Bool
@@ -119,7 +134,9 @@ has e [] = false
 has e (x ∷ xs) = (e == x) || has e xs
 
 abbrev pub locking : Known → ℕ → ℕ → ℕ → List ℕ → List ℕ → Known
-locking l m s n ws es = record l { locks = record { map = m; segment = s; stamp = n; first = ws; copy = ws; change = Nothing; known = es; dirty = false } ∷ []; tally = record l.tally { locks = l.tally.locks + 1 } }
+locking l m s n ws es = record l { locks = record { map = m; segment = s; stamp = n; first = ws;
+    copy = ws; change = Nothing; known = es; dirty = false } ∷ [];
+    tally = record l.tally { locks = l.tally.locks + 1 } }
 
 -- the segment is sound and has some content, and what the lane filled stands in the copy
 pub record Locked (a : About) (l : Known) (m s n : ℕ) (l' : Known) : Type 0 where
@@ -131,39 +148,56 @@ pub record Locked (a : About) (l : Known) (m s n : ℕ) (l' : Known) : Type 0 wh
   pub content : List ℕ → Option ℕ
   pub share : IsShare a.seed (shape_at a m) (segment_in a m) (image a words) m s content
   pub filled : Each (λ (f : Fresh). Begins f.key ((image a words).key f.map f.element)) l.fresh
-  pub known_is : (e : ℕ) → has e known ≡ true → (e < elements (shape_at a m)) × ((key : List ℕ) × (content key ≡ Some e) × (segment_in a m key ≡ s))
+  pub known_is : (e : ℕ) → has e known ≡ true
+      → (e < elements (shape_at a m)) × ((key : List ℕ) × (content key ≡ Some e)
+      × (segment_in a m key ≡ s))
   -- an element in hand is none of them
-  pub apart : (f : Fresh) (rest : List Fresh) → l.fresh ≡ f ∷ rest → f.map ≡ m → has f.element known ≡ false
-  pub is_known : (key : List ℕ) (e : ℕ) → content key ≡ Some e → segment_in a m key ≡ s → (e < elements (shape_at a m)) × (has e known ≡ true)
+  pub apart : (f : Fresh) (rest : List Fresh) → l.fresh ≡ f ∷ rest → f.map ≡ m
+      → has f.element known ≡ false
+  pub is_known : (key : List ℕ) (e : ℕ) → content key ≡ Some e → segment_in a m key ≡ s
+      → (e < elements (shape_at a m)) × (has e known ≡ true)
 
 -- ---- write under lock
 abbrev pub writing : About → Known → Lock → Place → ℕ → Known
-writing a l k p n = record l { locks = record k { copy = slice_set k.copy (at a.shape p) n; dirty = true } ∷ [] }
+writing a l k p n = record l { locks = record k { copy = slice_set k.copy (at a.shape p) n;
+    dirty = true } ∷ [] }
 
 -- ---- unlock
 -- the copy is written: by what the words at the lock showed, it shows that with the change
 abbrev pub IsWritten : About → Lock → Type 0
-IsWritten a k = (before : List ℕ → Option ℕ) → IsShare a.seed (shape_at a k.map) (segment_in a k.map) (image a k.first) k.map k.segment before → IsShare a.seed (shape_at a k.map) (segment_in a k.map) (image a k.copy) k.map k.segment (changed k.change before)
+IsWritten a k = (before : List ℕ → Option ℕ)
+    → IsShare a.seed (shape_at a k.map) (segment_in a k.map) (image a k.first) k.map k.segment
+    before → IsShare a.seed (shape_at a k.map) (segment_in a k.map) (image a k.copy) k.map k.segment
+    (changed k.change before)
 
 abbrev pub unlocking : Known → Known
 unlocking l = record l { locks = [] }
 
--- the lane may write the link of the element: it fills it, or the element is linked in the locked segment
+-- the lane may write the link of the element: it fills it, or the element is linked in the locked
+-- segment
 abbrev pub MayLink : About → Known → Lock → ℕ → Type 0
 MayLink a l k e = (e < elements (shape_at a k.map))
-    × (((f : Fresh) × (rest : List Fresh) × (l.fresh ≡ f ∷ rest) × (f.map ≡ k.map) × (f.element ≡ e))
-    ⊎ ((before : List ℕ → Option ℕ) → IsShare a.seed (shape_at a k.map) (segment_in a k.map) (image a k.first) k.map k.segment before
-    → (key : List ℕ) × (changed k.change before key ≡ Some e) × (segment_in a k.map key ≡ k.segment)))
+    × (((f : Fresh) × (rest : List Fresh) × (l.fresh ≡ f ∷ rest) × (f.map ≡ k.map)
+        × (f.element ≡ e))
+    ⊎ ((before : List ℕ → Option ℕ)
+        → IsShare a.seed (shape_at a k.map) (segment_in a k.map) (image a k.first) k.map k.segment
+        before
+    → (key : List ℕ) × (changed k.change before key ≡ Some e)
+        × (segment_in a k.map key ≡ k.segment)))
 
 -- by all that the lock's words can show, the key leads to this element
 abbrev pub LeadsTo : About → Lock → List ℕ → ℕ → Type 0
-LeadsTo a k key e = (before : List ℕ → Option ℕ) → IsShare a.seed (shape_at a k.map) (segment_in a k.map) (image a k.first) k.map k.segment before → before key ≡ Some e
+LeadsTo a k key e = (before : List ℕ → Option ℕ)
+    → IsShare a.seed (shape_at a k.map) (segment_in a k.map) (image a k.first) k.map k.segment
+    before → before key ≡ Some e
 
 -- what the lane has of the map, with one more element in hand
 abbrev pub with_gone : Known → ℕ → ℕ → List Limbo
-with_gone l m e = slice_set l.limbo m (record (limbo_at l.limbo m) { used = e ∷ (limbo_at l.limbo m).used })
+with_gone l m e = slice_set l.limbo m (record (limbo_at l.limbo m) { used = e
+    ∷ (limbo_at l.limbo m).used })
 
--- ---- count down: a key that is there is gone, under the lock of its segment, before a word of it is written
+-- ---- count down: a key that is there is gone, under the lock of its segment, before a word of it
+-- is written
 pub record Removes (a : About) (l : Known) (k : Lock) (key : List ℕ) (e : ℕ) : Type 0 where
   pub lock : l.locks ≡ k ∷ []
   pub nothing : k.change ≡ Nothing
@@ -173,12 +207,15 @@ pub record Removes (a : About) (l : Known) (k : Lock) (key : List ℕ) (e : ℕ)
   pub room : k.map < length l.limbo
   pub runs : in_run (events_of l.cpu l.seen) ≡ true
 
-pub record Removed (a : About) (l : Known) (k : Lock) (key : List ℕ) (e : ℕ) (l' : Known) : Type 0 where
+pub record Removed (a : About) (l : Known) (k : Lock) (key : List ℕ) (e : ℕ) (l' : Known) : Type 0
+    where
   pub seen : Saw a l (Delete k.map key Done) l'.seen
-  pub after : l' ≡ record l { seen = l'.seen; limbo = with_gone l k.map e; locks = record k { change = Drops key; dirty = true } ∷ [] }
+  pub after : l' ≡ record l { seen = l'.seen; limbo = with_gone l k.map e;
+      locks = record k { change = Drops key; dirty = true } ∷ [] }
 
 -- ---- unlock where a replacement takes effect
-pub record Replaces (a : About) (l : Known) (k : Lock) (f : Fresh) (rest : List Fresh) (key bytes : List ℕ) (flags e : ℕ) : Type 0 where
+pub record Replaces (a : About) (l : Known) (k : Lock) (f : Fresh) (rest : List Fresh)
+    (key bytes : List ℕ) (flags e : ℕ) : Type 0 where
   pub lock : l.locks ≡ k ∷ []
   pub nothing : k.change ≡ Nothing
   pub hand : l.fresh ≡ f ∷ rest
@@ -189,28 +226,40 @@ pub record Replaces (a : About) (l : Known) (k : Lock) (f : Fresh) (rest : List 
   pub size : length bytes ≡ (shape_at a k.map).value
   pub are_bytes : AreBytes bytes
   pub filled : length f.value ≡ words_for (shape_at a k.map).value
-  pub value : (i : ℕ) → i < words_for (shape_at a k.map).value → slice_index f.value i ≡ word_of bytes i
+  pub value : (i : ℕ) → i < words_for (shape_at a k.map).value
+      → slice_index f.value i ≡ word_of bytes i
   pub there : LeadsTo a k key e
-  pub written : (before : List ℕ → Option ℕ) → IsShare a.seed (shape_at a k.map) (segment_in a k.map) (image a k.first) k.map k.segment before
-      → IsShare a.seed (shape_at a k.map) (segment_in a k.map) (image a k.copy) k.map k.segment (changed (Puts key f.element) before)
+  pub written : (before : List ℕ → Option ℕ)
+      → IsShare a.seed (shape_at a k.map) (segment_in a k.map) (image a k.first) k.map k.segment
+      before
+      → IsShare a.seed (shape_at a k.map) (segment_in a k.map) (image a k.copy) k.map k.segment
+          (changed (Puts key f.element) before)
   pub flags_known : (flags ≡ 0) ⊎ (flags ≡ 2)
   pub room : k.map < length l.limbo
   pub runs : in_run (events_of l.cpu l.seen) ≡ true
 
-pub record Replaced (a : About) (l : Known) (k : Lock) (rest : List Fresh) (key bytes : List ℕ) (flags e : ℕ) (l' : Known) : Type 0 where
+pub record Replaced (a : About) (l : Known) (k : Lock) (rest : List Fresh) (key bytes : List ℕ)
+    (flags e : ℕ) (l' : Known) : Type 0 where
   pub seen : Saw a l (Update k.map key bytes flags Done) l'.seen
-  pub after : l' ≡ record l { seen = l'.seen; fresh = rest; limbo = with_gone l k.map e; locks = [] }
+  pub after : l' ≡ record l { seen = l'.seen; fresh = rest; limbo = with_gone l k.map e;
+      locks = [] }
 
--- ---- unlock with the same version: an answer that changed nothing takes effect, whatever the store is that the lock's words can show
+-- ---- unlock with the same version: an answer that changed nothing takes effect, whatever the
+-- store is that the lock's words can show
 pub record Answers (a : About) (l : Known) (k : Lock) (e : Event) : Type 0 where
   pub lock : l.locks ≡ k ∷ []
   pub clean : k.dirty ≡ false
   pub quiet : turns_of (e ∷ []) ≡ 0
   pub runs : in_run (events_of l.cpu l.seen) ≡ true
-  pub allowed : (s : Plain) (before : List ℕ → Option ℕ) (number : ℕ → ℕ) → s.shape ≡ a.shape → s.running l.cpu ≡ true → IsShare a.seed (shape_at a k.map) (segment_in a k.map) (image a k.first) k.map k.segment before
-      → ((q : List ℕ) → segment_in a k.map q ≡ k.segment → get (s.maps k.map) q ≡ numbered number (before q)) → Allowed s l.cpu e s
+  pub allowed : (s : Plain) (before : List ℕ → Option ℕ) (number : ℕ → ℕ) → s.shape ≡ a.shape
+      → s.running l.cpu ≡ true
+      → IsShare a.seed (shape_at a k.map) (segment_in a k.map) (image a k.first) k.map k.segment
+      before
+      → ((q : List ℕ) → segment_in a k.map q ≡ k.segment
+          → get (s.maps k.map) q ≡ numbered number (before q)) → Allowed s l.cpu e s
 
--- and the version that was locked is paid for by Done events that were seen: so Busy tells of that many
+-- and the version that was locked is paid for by Done events that were seen: so Busy tells of that
+-- many
 pub record Answered (a : About) (l : Known) (k : Lock) (e : Event) (l' : Known) : Type 0 where
   pub seen : Saw a l e l'.seen
   pub worn : k.stamp / 256 ≤ a.version + done_in k.map l'.seen
@@ -222,10 +271,13 @@ pub record LooksUp (a : About) (l : Known) (k : Lock) (key : List ℕ) (o : Opti
   pub clean : k.dirty ≡ false
   pub home : segment_in a k.map key ≡ k.segment
   pub key_size : length key ≡ (shape_at a k.map).key
-  pub shown : (before : List ℕ → Option ℕ) → IsShare a.seed (shape_at a k.map) (segment_in a k.map) (image a k.first) k.map k.segment before → before key ≡ o
+  pub shown : (before : List ℕ → Option ℕ)
+      → IsShare a.seed (shape_at a k.map) (segment_in a k.map) (image a k.first) k.map k.segment
+      before → before key ≡ o
   pub runs : in_run (events_of l.cpu l.seen) ≡ true
 
-pub record LookedUp (a : About) (l : Known) (k : Lock) (key : List ℕ) (o : Option ℕ) (l' : Known) : Type 0 where
+pub record LookedUp (a : About) (l : Known) (k : Lock) (key : List ℕ) (o : Option ℕ) (l' : Known)
+    : Type 0 where
   pub seen : Saw a l (Lookup k.map key (span_at a k.map o)) l'.seen
   pub after : l' ≡ record l { seen = l'.seen; locks = [] }
 
@@ -273,19 +325,23 @@ abbrev pub limbo_set : Known → ℕ → Limbo → Known
 limbo_set l m x = record l { limbo = slice_set l.limbo m x }
 
 abbrev pub noting_next : Known → ℕ → ℕ → Known
-noting_next l m n = limbo_set l m (record (limbo_at l.limbo m) { noted = (limbo_at l.limbo m).noted ++ n ∷ [] })
+noting_next l m n = limbo_set l m (record (limbo_at l.limbo m) { noted = (limbo_at l.limbo m).noted
+    ++ n ∷ [] })
 
 -- the young batch becomes the old one, and the first counter is noted
 abbrev pub ageing : Known → ℕ → ℕ → Known
-ageing l m n = limbo_set l m (record (limbo_at l.limbo m) { young = []; old = (limbo_at l.limbo m).young; noted = n ∷ [] })
+ageing l m n = limbo_set l m (record (limbo_at l.limbo m) { young = [];
+    old = (limbo_at l.limbo m).young; noted = n ∷ [] })
 
 -- a counter that is another now: its CPU holds nothing of the old batch, as one that was even
 abbrev pub cleared : Known → ℕ → ℕ → Known
-cleared l m d = limbo_set l m (record (limbo_at l.limbo m) { noted = slice_set (limbo_at l.limbo m).noted d 0 })
+cleared l m d = limbo_set l m (record (limbo_at l.limbo m)
+    { noted = slice_set (limbo_at l.limbo m).noted d 0 })
 
 -- ---- retire: the used element in hand goes to the young batch, in front
 abbrev pub retiring : Known → ℕ → ℕ → List ℕ → Known
-retiring l m e us = limbo_set l m (record (limbo_at l.limbo m) { used = us; young = e ∷ (limbo_at l.limbo m).young })
+retiring l m e us = limbo_set l m (record (limbo_at l.limbo m) { used = us;
+    young = e ∷ (limbo_at l.limbo m).young })
 
 -- ---- give bit, of the old batch: no running CPU may hold the element
 pub record Passed (a : About) (l : Known) (m e : ℕ) (es : List ℕ) : Type 0 where
@@ -312,7 +368,8 @@ pub record Counts (a : About) (l : Known) (k : Lock) (key bytes : List ℕ) (fla
   pub runs : in_run (events_of l.cpu l.seen) ≡ true
 
 -- see count, where the flags are none of those known
-pub record Misflagged (a : About) (l : Known) (m : ℕ) (key bytes : List ℕ) (flags : ℕ) : Type 0 where
+pub record Misflagged (a : About) (l : Known) (m : ℕ) (key bytes : List ℕ) (flags : ℕ) : Type 0
+    where
   pub map : m < length a.shape.maps
   pub key_size : length key ≡ (shape_at a m).key
   pub size : length bytes ≡ (shape_at a m).value

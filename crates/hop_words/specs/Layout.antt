@@ -19,7 +19,8 @@ abbrev pub words_in : Layout → ℕ
 words_in Word = 1
 words_in (Group n f) = sum_below n (λ i. words_in (f i))
 
--- the word at the end of a path: which member of the group, which of that member's members, and so on
+-- the word at the end of a path: which member of the group, which of that member's members, and so
+-- on
 abbrev pub offset : Layout → List ℕ → ℕ
 offset Word path = 0
 offset (Group n f) [] = 0
@@ -78,7 +79,8 @@ line = block 8
 abbrev pub segment_layout : Layout
 segment_layout = several (Word ∷ Word ∷ Group 64 (λ b. block 2) ∷ [])
 
--- the words of a map before its last line is filled up: the free bits fill up theirs, so that each pair of hop and slot lies in one line
+-- the words of a map before its last line is filled up: the free bits fill up theirs, so that each
+-- pair of hop and slot lies in one line
 abbrev pub map_words : MapShape → ℕ
 map_words g = 130 * segments g + elements g * (1 + words_for g.key + words_for g.value)
 
@@ -100,7 +102,8 @@ abbrev pub map_shape : Shape → ℕ → MapShape
 map_shape h m = slice_index_or h.maps m no_map
 
 abbrev pub layout : Shape → Layout
-layout h = several (Group h.cpus (λ c. line) ∷ Group (length h.maps) (λ m. map_layout (map_shape h m)) ∷ [])
+layout h = several (Group h.cpus (λ c. line)
+    ∷ Group (length h.maps) (λ m. map_layout (map_shape h m)) ∷ [])
 
 abbrev pub path : Place → List ℕ
 path (RunCount c) = 0 ∷ c ∷ 0 ∷ []

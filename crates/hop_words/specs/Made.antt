@@ -13,7 +13,8 @@ made a (FreeBits m i) = 2 ^ 64 - 1
 made a (Stamp m s) = a.version * 256 + 2 * depth (shape_at a m)
 made a p = 0
 
--- the place comes before these many run counters, maps, words of free bits and segments of the next map
+-- the place comes before these many run counters, maps, words of free bits and segments of the next
+-- map
 abbrev pub comes_before : ℕ → ℕ → ℕ → ℕ → Place → Bool
 comes_before c m i s (RunCount d) = nat_lt d c
 comes_before c m i s (FreeBits n j) = nat_lt n m || ((n == m) && nat_lt j i)
@@ -22,4 +23,5 @@ comes_before c m i s p = true
 
 -- the words so far are as made, and all others are 0
 abbrev pub IsPartly : About → (Place → ℕ) → ℕ → ℕ → ℕ → ℕ → Type 0
-IsPartly a w c m i s = (p : Place) → is_place a.shape p ≡ true → w p ≡ (if comes_before c m i s p then made a p else 0)
+IsPartly a w c m i s = (p : Place) → is_place a.shape p ≡ true
+    → w p ≡ (if comes_before c m i s p then made a p else 0)

@@ -55,4 +55,5 @@ with_value_word (f ∷ fs) n = record f { value = f.value ++ n ∷ [] } ∷ fs
 abbrev pub LooksAgain : Known → ℕ → ℕ → ℕ → Known → Type 0
 LooksAgain l m d found l' =
     (found ≡ slice_index (limbo_at l.limbo m).noted d → l' ≡ sighted l (Runs d found))
-    × ((found ≡ slice_index (limbo_at l.limbo m).noted d → ⊥) → l' ≡ sighted (cleared l m d) (Runs d found))
+    × ((found ≡ slice_index (limbo_at l.limbo m).noted d → ⊥)
+        → l' ≡ sighted (cleared l m d) (Runs d found))

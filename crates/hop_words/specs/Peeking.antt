@@ -12,4 +12,5 @@ reading_of l = slice_index_or l.readings 0 no_reading
 
 -- the CPU reads this segment, and no other
 abbrev pub HasReading : Known → ℕ → ℕ → Type 0
-HasReading l m s = (l.readings ≡ reading_of l ∷ []) × ((reading_of l).map ≡ m) × ((reading_of l).segment ≡ s)
+HasReading l m s = (l.readings ≡ reading_of l ∷ []) × ((reading_of l).map ≡ m)
+    × ((reading_of l).segment ≡ s)

@@ -1,4 +1,5 @@
--- The rule that holds between any two steps: five parts, each over the words and the fields of lanes that it names.
+-- The rule that holds between any two steps: five parts, each over the words and the fields of
+-- lanes that it names.
 use Rattle.std.specs.Prelude.{◌≡◌, ℕ, ◌+◌, ◌/◌, ◌%◌, ◌<◌, ◌≤◌, Bool, true, false, ◌&&◌, List, [], ◌∷◌, Option, Some, None, length, take, ◌==◌, if◌then◌else◌, slice_index}
 use Rattle.std.specs.Int.{bit_at}
 use Rattle.std.specs.FinMap.{get, len}
@@ -50,7 +51,8 @@ done_in m [] = 0
 done_in m (x ∷ xs) = one_if (is_done m x.event) + done_in m xs
 
 -- the one history is legal, and of it each CPU has seen a beginning with all its own events
-pub record Logged (a : About) (seen : ℕ → List Entry) (log : List Entry) (last : Plain) : Type 0 where
+pub record Logged (a : About) (seen : ℕ → List Entry) (log : List Entry) (last : Plain) : Type 0
+    where
   pub legal : Legal (as_made a.shape) log last
   pub begins : (c : ℕ) → c < a.shape.cpus → IsPrefix (seen c) log
   pub own : (c : ℕ) → c < a.shape.cpus → events_of c (seen c) ≡ events_of c log
@@ -61,13 +63,15 @@ numbered f None = None
 numbered f (Some e) = Some (f e)
 
 -- the key counts are the numbers of keys, and each key leads to the value that lies in its element
-pub record Keyed (a : About) (counts : ℕ → ℕ) (maps : ℕ → Keys) (linked : ℕ → List ℕ → Option ℕ) (number : ℕ → ℕ → ℕ) : Type 0 where
+pub record Keyed (a : About) (counts : ℕ → ℕ) (maps : ℕ → Keys) (linked : ℕ → List ℕ → Option ℕ)
+    (number : ℕ → ℕ → ℕ) : Type 0 where
   pub counted : (m : ℕ) → m < length a.shape.maps → counts m ≡ len (maps m)
   pub leads : (m : ℕ) (key : List ℕ) → get (maps m) key ≡ numbered (number m) (linked m key)
 
 -- versions go up by Done events alone
 abbrev pub Worn : About → (ℕ → ℕ → ℕ) → (ℕ → ℕ → Era) → List Entry → Type 0
-Worn a stamp eras log = (m s : ℕ) → IsSegment a m s → stamp m s / 256 + (eras m s).credit ≤ a.version + done_in m log
+Worn a stamp eras log = (m s : ℕ) → IsSegment a m s
+    → stamp m s / 256 + (eras m s).credit ≤ a.version + done_in m log
 
 -- ======== runs
 
@@ -83,11 +87,15 @@ abbrev pub Chained : (ℕ → ℕ) → List ℕ → Type 0
 Chained link [] = Unit {0}
 Chained link (e ∷ es) = (link e ≡ link_to es) × Chained link es
 
--- batches are linked, and a running CPU holds an element of an old batch only if its counter is the one noted
-pub record Batched (a : About) (link : ℕ → ℕ → ℕ) (counts : ℕ → ℕ) (limbo : ℕ → List Limbo) (held : ℕ → ℕ → Bool) (number : ℕ → ℕ → ℕ) : Type 0 where
+-- batches are linked, and a running CPU holds an element of an old batch only if its counter is the
+-- one noted
+pub record Batched (a : About) (link : ℕ → ℕ → ℕ) (counts : ℕ → ℕ) (limbo : ℕ → List Limbo)
+    (held : ℕ → ℕ → Bool) (number : ℕ → ℕ → ℕ) : Type 0 where
   pub young : (c m : ℕ) → c < a.shape.cpus → Chained (link m) (limbo_at (limbo c) m).young
   pub old : (c m : ℕ) → c < a.shape.cpus → Chained (link m) (limbo_at (limbo c) m).old
-  pub noted : (c m e d : ℕ) → c < a.shape.cpus → IsElement a m e → 1 ≤ times e (limbo_at (limbo c) m).old → d < length (limbo_at (limbo c) m).noted → held d (number m e) ≡ true → slice_index (limbo_at (limbo c) m).noted d ≡ counts d
+  pub noted : (c m e d : ℕ) → c < a.shape.cpus → IsElement a m e
+      → 1 ≤ times e (limbo_at (limbo c) m).old → d < length (limbo_at (limbo c) m).noted
+      → held d (number m e) ≡ true → slice_index (limbo_at (limbo c) m).noted d ≡ counts d
 
 -- ======== owners
 
@@ -101,15 +109,22 @@ abbrev pub times_limbo : ℕ → Limbo → ℕ
 times_limbo e l = times e l.used + times e l.young + times e l.old
 
 -- each element has one holder
-pub record Owned (a : About) (free : ℕ → ℕ → ℕ) (fresh : ℕ → List Fresh) (limbo : ℕ → List Limbo) (holder : ℕ → ℕ → Holder) : Type 0 where
-  pub bits : (m e : ℕ) → IsElement a m e → bit_at (free m (e / 64)) (e % 64) ≡ one_if (is_free (holder m e))
-  pub fresh_is : (c m e : ℕ) → c < a.shape.cpus → IsElement a m e → times_fresh m e (fresh c) ≡ one_if (is_filling c (holder m e))
-  pub limbo_is : (c m e : ℕ) → c < a.shape.cpus → IsElement a m e → times_limbo e (limbo_at (limbo c) m) ≡ one_if (is_leaving c (holder m e))
+pub record Owned (a : About) (free : ℕ → ℕ → ℕ) (fresh : ℕ → List Fresh) (limbo : ℕ → List Limbo)
+    (holder : ℕ → ℕ → Holder) : Type 0 where
+  pub bits : (m e : ℕ) → IsElement a m e → bit_at (free m (e / 64)) (e % 64)
+      ≡ one_if (is_free (holder m e))
+  pub fresh_is : (c m e : ℕ) → c < a.shape.cpus → IsElement a m e
+      → times_fresh m e (fresh c) ≡ one_if (is_filling c (holder m e))
+  pub limbo_is : (c m e : ℕ) → c < a.shape.cpus → IsElement a m e
+      → times_limbo e (limbo_at (limbo c) m) ≡ one_if (is_leaving c (holder m e))
 
 -- an element is linked where its key is at home, and nowhere else
-pub record Linked (a : About) (home : ℕ → List ℕ → ℕ) (linked : ℕ → List ℕ → Option ℕ) (holder : ℕ → ℕ → Holder) : Type 0 where
-  pub within : (m : ℕ) (key : List ℕ) (e : ℕ) → linked m key ≡ Some e → IsElement a m e × (holder m e ≡ Within (home m key))
-  pub leads : (m e s : ℕ) → IsElement a m e → holder m e ≡ Within s → (key : List ℕ) × (linked m key ≡ Some e)
+pub record Linked (a : About) (home : ℕ → List ℕ → ℕ) (linked : ℕ → List ℕ → Option ℕ)
+    (holder : ℕ → ℕ → Holder) : Type 0 where
+  pub within : (m : ℕ) (key : List ℕ) (e : ℕ) → linked m key ≡ Some e
+      → IsElement a m e × (holder m e ≡ Within (home m key))
+  pub leads : (m e s : ℕ) → IsElement a m e → holder m e ≡ Within s
+      → (key : List ℕ) × (linked m key ≡ Some e)
   pub once : (m : ℕ) (p q : List ℕ) (e : ℕ) → linked m p ≡ Some e → linked m q ≡ Some e → p ≡ q
 
 abbrev pub Begins : List ℕ → (ℕ → ℕ) → Type 0
@@ -117,19 +132,24 @@ Begins ns w = (k : ℕ) → k < length ns → w k ≡ slice_index ns k
 
 -- the words that a CPU filled are in its elements
 abbrev pub Filled : About → (ℕ → ℕ → ℕ → ℕ) → (ℕ → ℕ → ℕ → ℕ) → (ℕ → List Fresh) → Type 0
-Filled a key value fresh = (c : ℕ) → c < a.shape.cpus → Each (λ (f : Fresh). Begins f.key (key f.map f.element) × Begins f.value (value f.map f.element)) (fresh c)
+Filled a key value fresh = (c : ℕ) → c < a.shape.cpus
+    → Each (λ (f : Fresh). Begins f.key (key f.map f.element)
+    × Begins f.value (value f.map f.element)) (fresh c)
 
 -- ======== segments
 
 -- the words at rest stay until a lock changes something, and show the segment's share of the keys
-pub record Segment (a : About) (home : ℕ → List ℕ → ℕ) (x : Words) (stamp : ℕ) (r : Era) (m s : ℕ) (f : List ℕ → Option ℕ) : Type 0 where
+pub record Segment (a : About) (home : ℕ → List ℕ → ℕ) (x : Words) (stamp : ℕ) (r : Era) (m s : ℕ)
+    (f : List ℕ → Option ℕ) : Type 0 where
   pub at_rest : stamp % 2 ≡ 0 → r.dirty ≡ false
   pub clean : r.dirty ≡ false → (r.era + stamp % 2 ≡ stamp) × Agrees m s (Reached r.old m s) x r.old
   pub written : r.dirty ≡ true → r.era ≡ stamp
   pub shows : r.dirty ≡ false → IsShare a.seed (shape_at a m) (home m) r.old m s f
 
-abbrev pub Segments : About → (ℕ → List ℕ → ℕ) → Words → (ℕ → ℕ → ℕ) → (ℕ → ℕ → Era) → (ℕ → List ℕ → Option ℕ) → Type 0
-Segments a home x stamp eras linked = (m s : ℕ) → IsSegment a m s → Segment a home x (stamp m s) (eras m s) m s (linked m)
+abbrev pub Segments : About → (ℕ → List ℕ → ℕ) → Words → (ℕ → ℕ → ℕ) → (ℕ → ℕ → Era)
+    → (ℕ → List ℕ → Option ℕ) → Type 0
+Segments a home x stamp eras linked = (m s : ℕ) → IsSegment a m s
+    → Segment a home x (stamp m s) (eras m s) m s (linked m)
 
 -- ---- locks
 -- an element whose link and key words nobody but the holder c of the lock writes
@@ -160,13 +180,17 @@ owed (Drops key) = 1
 abbrev pub image : About → List ℕ → Words
 image a ws = words_of (mem a.shape ws)
 
--- the keys lead where the words at the lock said, but for what took effect since: that remains to be written
+-- the keys lead where the words at the lock said, but for what took effect since: that remains to
+-- be written
 abbrev pub IsDue : About → (ℕ → List ℕ → ℕ) → Lock → (List ℕ → Option ℕ) → Type 0
-IsDue a home k f = (before : List ℕ → Option ℕ) × IsShare a.seed (shape_at a k.map) (home k.map) (image a k.first) k.map k.segment before
+IsDue a home k f = (before : List ℕ → Option ℕ)
+    × IsShare a.seed (shape_at a k.map) (home k.map) (image a k.first) k.map k.segment before
     × ((key : List ℕ) → home k.map key ≡ k.segment → f key ≡ changed k.change before key)
 
 -- the CPU c has the lock, and its copy is what the words are
-pub record Holds (a : About) (home : ℕ → List ℕ → ℕ) (x : Words) (stamp : ℕ → ℕ → ℕ) (eras : ℕ → ℕ → Era) (linked : ℕ → List ℕ → Option ℕ) (holder : ℕ → ℕ → Holder) (c : ℕ) (k : Lock) : Type 0 where
+pub record Holds (a : About) (home : ℕ → List ℕ → ℕ) (x : Words) (stamp : ℕ → ℕ → ℕ)
+    (eras : ℕ → ℕ → Era) (linked : ℕ → List ℕ → Option ℕ) (holder : ℕ → ℕ → Holder) (c : ℕ)
+    (k : Lock) : Type 0 where
   pub inside : IsSegment a k.map k.segment
   pub even : k.stamp % 2 ≡ 0
   pub locked : stamp k.map k.segment ≡ k.stamp + 1
@@ -178,8 +202,10 @@ pub record Holds (a : About) (home : ℕ → List ℕ → ℕ) (x : Words) (stam
   pub copied : Agrees k.map k.segment (λ e. Minded c k.segment (holder k.map e)) x (image a k.copy)
   pub due : IsDue a home k (linked k.map)
 
-abbrev pub Locking : About → (ℕ → List ℕ → ℕ) → Words → (ℕ → ℕ → ℕ) → (ℕ → ℕ → Era) → (ℕ → List ℕ → Option ℕ) → (ℕ → ℕ → Holder) → (ℕ → List Lock) → Type 0
-Locking a home x stamp eras linked holder locks = (c : ℕ) → Each (Holds a home x stamp eras linked holder c) (locks c)
+abbrev pub Locking : About → (ℕ → List ℕ → ℕ) → Words → (ℕ → ℕ → ℕ) → (ℕ → ℕ → Era)
+    → (ℕ → List ℕ → Option ℕ) → (ℕ → ℕ → Holder) → (ℕ → List Lock) → Type 0
+Locking a home x stamp eras linked holder locks = (c : ℕ)
+    → Each (Holds a home x stamp eras linked holder c) (locks c)
 
 -- how often a list of locks has this segment's
 abbrev pub times_lock : ℕ → ℕ → List Lock → ℕ
@@ -188,7 +214,8 @@ times_lock m s (k ∷ ks) = one_if ((k.map == m) && (k.segment == s)) + times_lo
 
 -- a locked segment has a holder
 abbrev pub Held : About → (ℕ → ℕ → ℕ) → (ℕ → ℕ → Era) → (ℕ → List Lock) → Type 0
-Held a stamp eras locks = (m s : ℕ) → IsSegment a m s → stamp m s % 2 ≡ 1 → ((eras m s).writer < a.shape.cpus) × (1 ≤ times_lock m s (locks (eras m s).writer))
+Held a stamp eras locks = (m s : ℕ) → IsSegment a m s → stamp m s % 2 ≡ 1
+    → ((eras m s).writer < a.shape.cpus) × (1 ≤ times_lock m s (locks (eras m s).writer))
 
 -- ---- readings
 -- if the place is one of the segment's, this is its number
@@ -205,19 +232,27 @@ pub record Reads (a : About) (eras : ℕ → ℕ → Era) (r : Reading) : Type 0
   pub inside : IsSegment a r.map r.segment
   pub even : r.stamp % 2 ≡ 0
   pub behind : r.stamp ≤ (eras r.map r.segment).era
-  pub stays : r.stamp ≡ (eras r.map r.segment).era → Each (λ (p : Peek). IsPeek (eras r.map r.segment).old r.map r.segment p.place p.number) r.peeks
+  pub stays : r.stamp ≡ (eras r.map r.segment).era
+      → Each (λ (p : Peek). IsPeek (eras r.map r.segment).old r.map r.segment p.place p.number)
+      r.peeks
 
 abbrev pub Readings : About → (ℕ → ℕ → Era) → (ℕ → List Reading) → Type 0
 Readings a eras readings = (c : ℕ) → Each (Reads a eras) (readings c)
 
 -- ======== values
 
--- a value's bytes are those that its element's words spell, and each held value lies in an element that nobody fills
-pub record Valued (a : About) (words : ℕ → ℕ → ℕ → ℕ) (made : ℕ) (value : ℕ → Value) (held : ℕ → ℕ → Bool) (holder : ℕ → ℕ → Holder) (number : ℕ → ℕ → ℕ) : Type 0 where
+-- a value's bytes are those that its element's words spell, and each held value lies in an element
+-- that nobody fills
+pub record Valued (a : About) (words : ℕ → ℕ → ℕ → ℕ) (made : ℕ) (value : ℕ → Value)
+    (held : ℕ → ℕ → Bool) (holder : ℕ → ℕ → Holder) (number : ℕ → ℕ → ℕ) : Type 0 where
   pub lies : (m e : ℕ) → IsElement a m e → Carries (holder m e)
-      → value (number m e) ≡ record { bytes = take (shape_at a m).value (spelled (words_for (shape_at a m).value) (words m e)); span = element_span m (shape_at a m) e }
+      → value (number m e)
+          ≡ record { bytes = take (shape_at a m).value
+          (spelled (words_for (shape_at a m).value) (words m e));
+          span = element_span m (shape_at a m) e }
   pub older : (m e : ℕ) → IsElement a m e → Carries (holder m e) → number m e < made
-  pub held_in : (c v : ℕ) → held c v ≡ true → (m : ℕ) × (e : ℕ) × IsElement a m e × Carries (holder m e) × (number m e ≡ v)
+  pub held_in : (c v : ℕ) → held c v ≡ true → (m : ℕ) × (e : ℕ) × IsElement a m e
+      × Carries (holder m e) × (number m e ≡ v)
 
 -- ======== the rule
 
@@ -229,29 +264,36 @@ pub record Rule (a : About) (w : Place → ℕ) (g : Ghost) : Type 0 where
   pub worn : Worn a (λ m s. w (Stamp m s)) g.eras g.log
   -- runs
   pub runs : Runs a (λ c. w (RunCount c)) g.log
-  pub batched : Batched a (λ m e. w (Link m e)) (λ c. w (RunCount c)) g.lanes.limbo g.last.held g.number
+  pub batched : Batched a (λ m e. w (Link m e)) (λ c. w (RunCount c)) g.lanes.limbo g.last.held
+      g.number
   -- owners
   pub owned : Owned a (λ m i. w (FreeBits m i)) g.lanes.fresh g.lanes.limbo g.holder
   pub linked : Linked a (segment_in a) g.linked g.holder
   pub filled : Filled a (λ m e k. w (KeyWord m e k)) (λ m e k. w (ValueWord m e k)) g.lanes.fresh
   -- segments
   pub segments : Segments a (segment_in a) (words_of w) (λ m s. w (Stamp m s)) g.eras g.linked
-  pub locking : Locking a (segment_in a) (words_of w) (λ m s. w (Stamp m s)) g.eras g.linked g.holder g.lanes.locks
+  pub locking : Locking a (segment_in a) (words_of w) (λ m s. w (Stamp m s)) g.eras g.linked
+      g.holder g.lanes.locks
   pub held : Held a (λ m s. w (Stamp m s)) g.eras g.lanes.locks
   pub reading : Readings a g.eras g.lanes.readings
   -- values
-  pub valued : Valued a (λ m e k. w (ValueWord m e k)) g.last.made g.last.value g.last.held g.holder g.number
+  pub valued : Valued a (λ m e k. w (ValueWord m e k)) g.last.made g.last.value g.last.held g.holder
+      g.number
 
 -- ======== seats
 
 abbrev pub St : Type 0
 St = State (Unit {0}) View
 
--- each seat's lanes are those of its CPUs, no CPU has two seats, and what a seat keeps is a beginning of the history
-pub record Seats (cpus : ℕ) (log : List Entry) (lanes : ℕ → Known) (views : List View) : Type 0 where
+-- each seat's lanes are those of its CPUs, no CPU has two seats, and what a seat keeps is a
+-- beginning of the history
+pub record Seats (cpus : ℕ) (log : List Entry) (lanes : ℕ → Known) (views : List View) : Type 0
+    where
   pub seat : ℕ → ℕ
-  pub known : (i k : ℕ) (v : View) (l : Known) → get_elem? views i ≡ some v → get_elem? v.lanes k ≡ some l → (seat l.cpu ≡ i) × (l.cpu < cpus) × (lanes l.cpu ≡ l)
-  pub distinct : (i j k : ℕ) (v : View) (l m : Known) → get_elem? views i ≡ some v → get_elem? v.lanes j ≡ some l → get_elem? v.lanes k ≡ some m → l.cpu ≡ m.cpu → j ≡ k
+  pub known : (i k : ℕ) (v : View) (l : Known) → get_elem? views i ≡ some v
+      → get_elem? v.lanes k ≡ some l → (seat l.cpu ≡ i) × (l.cpu < cpus) × (lanes l.cpu ≡ l)
+  pub distinct : (i j k : ℕ) (v : View) (l m : Known) → get_elem? views i ≡ some v
+      → get_elem? v.lanes j ≡ some l → get_elem? v.lanes k ≡ some m → l.cpu ≡ m.cpu → j ≡ k
   pub kept : (i : ℕ) (v : View) → get_elem? views i ≡ some v → IsPrefix v.kept log
 
 pub record Kept (a : About) (s : St) : Type 0 where

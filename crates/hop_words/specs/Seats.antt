@@ -52,5 +52,7 @@ pub record IsWhole (a : About) (v : View) (ws : List ℕ) : Type 0 where
   pub ghost : Ghost
   pub whole : v.kept ≡ ghost.log
   pub rule : Rule a (mem a.shape ws) ghost
-  -- where no lane has a lock, each segment's words are at rest, and show its share of the last store's keys
-  pub shows : (m s : ℕ) → IsSegment a m s → IsShare a.seed (shape_at a m) (segment_in a m) (image a ws) m s (ghost.linked m)
+  -- where no lane has a lock, each segment's words are at rest, and show its share of the last
+  -- store's keys
+  pub shows : (m s : ℕ) → IsSegment a m s
+      → IsShare a.seed (shape_at a m) (segment_in a m) (image a ws) m s (ghost.linked m)

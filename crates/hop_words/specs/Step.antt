@@ -1,4 +1,5 @@
--- What a kind of step has to give: whatever the words and the ghost are, the step of one CPU at one place keeps the rule, and its caller is told something.
+-- What a kind of step has to give: whatever the words and the ghost are, the step of one CPU at one
+-- place keeps the rule, and its caller is told something.
 use Rattle.std.specs.Prelude.{◌≡◌, ◌≢◌, ℕ, ◌<◌, List, [], ◌∷◌, length}
 use mathlib.Core.List.{IsPrefix}
 use Rattle.atomic_table.specs.Table.{Me}
@@ -10,7 +11,8 @@ use Rattle.hop_words.specs.Layout.{size, mem, put_at}
 use Rattle.hop_words.specs.Ghost.{Ghost, lane}
 use Rattle.hop_words.specs.Rule.{Rule, solo}
 
-pub record Next (a : About) (w : Place → ℕ) (g : Ghost) (c : ℕ) (told : Known → Type 0) : Type 0 where
+pub record Next (a : About) (w : Place → ℕ) (g : Ghost) (c : ℕ) (told : Known → Type 0) : Type 0
+    where
   pub ghost : Ghost
   pub rule : Rule a w ghost
   pub others : (d : ℕ) → d ≢ c → lane ghost.lanes d ≡ lane g.lanes d
@@ -19,7 +21,9 @@ pub record Next (a : About) (w : Place → ℕ) (g : Ghost) (c : ℕ) (told : Kn
 
 -- of the words, the number found and the lane after
 abbrev pub Steps : About → Known → Place → (ℕ → ℕ) → (List ℕ → ℕ → Known → Type 0) → Type 0
-Steps a l p f told = (ws : List ℕ) (g : Ghost) → length ws ≡ size a.shape → Rule a (mem a.shape ws) g → lane g.lanes l.cpu ≡ l → l.cpu < a.shape.cpus → mem a.shape ws p < 18446744073709551616
+Steps a l p f told = (ws : List ℕ) (g : Ghost) → length ws ≡ size a.shape
+    → Rule a (mem a.shape ws) g → lane g.lanes l.cpu ≡ l → l.cpu < a.shape.cpus
+    → mem a.shape ws p < 18446744073709551616
     → Next a (put_at (mem a.shape ws) p (f (mem a.shape ws p))) g l.cpu (told ws (mem a.shape ws p))
 
 abbrev pub Tells : ℕ → (ℕ → Known → Type 0) → ℕ → Me (Unit {0}) View → Type 0

@@ -14,7 +14,8 @@ use bpf_shared::MapAnswer;
 use std::marker::Brand;
 
 impl Lane {
-    /// The new key counts if the count is this one: the update is done, and the element is the map's.
+    /// The new key counts if the count is this one: the update is done, and the element is the
+    /// map's.
     pub fn count_up(
         &mut self,
         table: &HopTable,
@@ -28,9 +29,12 @@ impl Lane {
         requires inside { map < length table.now.about.shape.maps }
         requires map { (lock_of self.old.known).map ≡ map }
         requires fits { count + 1 < 2 ^ 64 }
-        requires inserts { Inserts table.now.about self.old.known (lock_of self.old.known) (hand self.old.known) (behind self.old.known.fresh) key.now value.now flags count }
+        requires inserts { Inserts table.now.about self.old.known (lock_of self.old.known)
+            (hand self.old.known) (behind self.old.known.fresh) key.now value.now flags count }
         ensures table { self.new.table ≡ self.old.table }
-        ensures done { IsTrue result → Inserted table.now.about self.old.known (lock_of self.old.known) (hand self.old.known) (behind self.old.known.fresh) key.now value.now flags self.new.known }
+        ensures done { IsTrue result
+            → Inserted table.now.about self.old.known (lock_of self.old.known) (hand self.old.known)
+            (behind self.old.known.fresh) key.now value.now flags self.new.known }
         ensures missed { IsFalse result → self.new.known ≡ self.old.known }
     {
         let place = Place::KeyCount { map };
@@ -49,9 +53,11 @@ impl Lane {
         requires table { self.old.table ≡ table.now.id }
         requires inside { map < length table.now.about.shape.maps }
         requires map { (lock_of self.old.known).map ≡ map }
-        requires removes { Removes table.now.about self.old.known (lock_of self.old.known) key.now element }
+        requires removes { Removes table.now.about self.old.known (lock_of self.old.known) key.now
+            element }
         ensures table { self.new.table ≡ self.old.table }
-        ensures done { Removed table.now.about self.old.known (lock_of self.old.known) key.now element self.new.known }
+        ensures done { Removed table.now.about self.old.known (lock_of self.old.known) key.now
+            element self.new.known }
     {
         let place = Place::KeyCount { map };
         self.add_by::<Brand, _>(table, place, u64::MAX, (key, element));
@@ -70,9 +76,11 @@ impl Lane {
         requires table { self.old.table ≡ table.now.id }
         requires inside { map < length table.now.about.shape.maps }
         requires map { (lock_of self.old.known).map ≡ map }
-        requires counts { Counts table.now.about self.old.known (lock_of self.old.known) key.now value.now flags }
+        requires counts { Counts table.now.about self.old.known (lock_of self.old.known) key.now
+            value.now flags }
         ensures table { self.new.table ≡ self.old.table }
-        ensures seen { SeesRoom table.now.about self.old.known key.now value.now flags result self.new.known }
+        ensures seen { SeesRoom table.now.about self.old.known key.now value.now flags result
+            self.new.known }
     {
         self.load_by::<Brand, _>(table, Place::KeyCount { map }, (key, value, flags))
     }
@@ -89,9 +97,11 @@ impl Lane {
         requires table { self.old.table ≡ table.now.id }
         requires inside { map < length table.now.about.shape.maps }
         requires map { (lock_of self.old.known).map ≡ map }
-        requires counts { Counts table.now.about self.old.known (lock_of self.old.known) key.now value.now flags }
+        requires counts { Counts table.now.about self.old.known (lock_of self.old.known) key.now
+            value.now flags }
         ensures table { self.new.table ≡ self.old.table }
-        ensures seen { SeesLack table.now.about self.old.known key.now value.now flags result self.new.known }
+        ensures seen { SeesLack table.now.about self.old.known key.now value.now flags result
+            self.new.known }
     {
         self.load_by::<Brand, _>(table, Place::KeyCount { map }, (key, value, flags))
     }
@@ -106,9 +116,11 @@ impl Lane {
         flags: u64,
     )
         requires table { self.old.table ≡ table.now.id }
-        requires misflagged { Misflagged table.now.about self.old.known map key.now value.now flags }
+        requires misflagged { Misflagged table.now.about self.old.known map key.now value.now flags
+            }
         ensures table { self.new.table ≡ self.old.table }
-        ensures answered { Told table.now.about self.old.known (Update map key.now value.now flags MapAnswer.Invalid) self.new.known }
+        ensures answered { Told table.now.about self.old.known
+            (Update map key.now value.now flags MapAnswer.Invalid) self.new.known }
     {
         self.load_by::<Brand, _>(table, Place::KeyCount { map }, (map, key, value, flags));
     }
@@ -158,9 +170,11 @@ impl Lane {
         requires inside { IsSegment table.now.about map segment }
         requires lock { HasLock self.old.known map segment }
         requires stamp { stamp ≡ (lock_of self.old.known).stamp }
-        requires answers { Answers table.now.about self.old.known (lock_of self.old.known) (Update map key.now value.now flags answer) }
+        requires answers { Answers table.now.about self.old.known (lock_of self.old.known)
+            (Update map key.now value.now flags answer) }
         ensures table { self.new.table ≡ self.old.table }
-        ensures answered { Answered table.now.about self.old.known (lock_of self.old.known) (Update map key.now value.now flags answer) self.new.known }
+        ensures answered { Answered table.now.about self.old.known (lock_of self.old.known)
+            (Update map key.now value.now flags answer) self.new.known }
     {
         let place = Place::Stamp { map, segment };
         self.store_by::<Brand, _>(table, place, stamp, (map, key, value, flags, answer));
@@ -180,9 +194,11 @@ impl Lane {
         requires inside { IsSegment table.now.about map segment }
         requires lock { HasLock self.old.known map segment }
         requires stamp { stamp ≡ (lock_of self.old.known).stamp }
-        requires answers { Answers table.now.about self.old.known (lock_of self.old.known) (Delete map key.now answer) }
+        requires answers { Answers table.now.about self.old.known (lock_of self.old.known)
+            (Delete map key.now answer) }
         ensures table { self.new.table ≡ self.old.table }
-        ensures answered { Answered table.now.about self.old.known (lock_of self.old.known) (Delete map key.now answer) self.new.known }
+        ensures answered { Answered table.now.about self.old.known (lock_of self.old.known)
+            (Delete map key.now answer) self.new.known }
     {
         let place = Place::Stamp { map, segment };
         self.store_by::<Brand, _>(table, place, stamp, (map, key, answer));
@@ -202,9 +218,11 @@ impl Lane {
         requires inside { IsSegment table.now.about map segment }
         requires lock { HasLock self.old.known map segment }
         requires stamp { stamp ≡ (lock_of self.old.known).stamp }
-        requires looks { LooksUp table.now.about self.old.known (lock_of self.old.known) key.now found }
+        requires looks { LooksUp table.now.about self.old.known (lock_of self.old.known) key.now
+            found }
         ensures table { self.new.table ≡ self.old.table }
-        ensures answered { LookedUp table.now.about self.old.known (lock_of self.old.known) key.now found self.new.known }
+        ensures answered { LookedUp table.now.about self.old.known (lock_of self.old.known) key.now
+            found self.new.known }
     {
         let place = Place::Stamp { map, segment };
         self.store_by::<Brand, _>(table, place, stamp, (key, found));
@@ -228,9 +246,11 @@ impl Lane {
         requires lock { HasLock self.old.known map segment }
         requires stamp { stamp ≡ (lock_of self.old.known).stamp }
         requires fits { stamp + 256 < 2 ^ 64 }
-        requires replaces { Replaces table.now.about self.old.known (lock_of self.old.known) (hand self.old.known) (behind self.old.known.fresh) key.now value.now flags old }
+        requires replaces { Replaces table.now.about self.old.known (lock_of self.old.known)
+            (hand self.old.known) (behind self.old.known.fresh) key.now value.now flags old }
         ensures table { self.new.table ≡ self.old.table }
-        ensures replaced { Replaced table.now.about self.old.known (lock_of self.old.known) (behind self.old.known.fresh) key.now value.now flags old self.new.known }
+        ensures replaced { Replaced table.now.about self.old.known (lock_of self.old.known)
+            (behind self.old.known.fresh) key.now value.now flags old self.new.known }
     {
         let place = Place::Stamp { map, segment };
         self.store_by::<Brand, _>(table, place, stamp + 256, (key, value, flags, old));

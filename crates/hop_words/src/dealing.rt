@@ -45,7 +45,8 @@ impl HopTable {
     pub fn new(alloc: Global, about: About) -> Result<(HopTable, Lanes), AllocError>
         requires version { about.version < 2 ^ 56 }
         ensures about { IfOk result (λ r. r.0.about ≡ about) }
-        ensures lanes { IfOk result (λ r. (r.1.table ≡ r.0.id) × (r.1.lanes ≡ lanes_from about 0 about.shape.cpus)) }
+        ensures lanes { IfOk result (λ r. (r.1.table ≡ r.0.id)
+            × (r.1.lanes ≡ lanes_from about 0 about.shape.cpus)) }
     {
         let left = about.shape.cpus();
         let index = Index::new(alloc, about)?;
@@ -65,7 +66,8 @@ impl Lanes {
     pub fn deal(&mut self, table: &HopTable) -> Option<Lane>
         requires { self.old.table ≡ table.now.id }
         ensures table { self.new.table ≡ self.old.table }
-        ensures dealt { MatchOption result (self.old.lanes ≡ []) (λ l. (self.old.lanes ≡ l.known ∷ self.new.lanes) × (l.table ≡ self.old.table)) }
+        ensures dealt { MatchOption result (self.old.lanes
+            ≡ []) (λ l. (self.old.lanes ≡ l.known ∷ self.new.lanes) × (l.table ≡ self.old.table)) }
     {
         if self.left == 0 {
             return None;

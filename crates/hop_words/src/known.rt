@@ -37,8 +37,8 @@ pub enum Change {
 }
 
 /// A locked segment: its stamp before, the words when it was locked, the words as they are by now,
-/// what took effect since, the elements that keys led to when it was locked, and whether the version
-/// has to change.
+/// what took effect since, the elements that keys led to when it was locked, and whether the
+/// version has to change.
 pub struct Lock {
     pub map: u8,
     pub segment: u32,

@@ -1,4 +1,5 @@
-//! The right of one CPU to step on the words, and the steps of the table that all kinds of step are made of.
+//! The right of one CPU to step on the words, and the steps of the table that all kinds of step are
+//! made of.
 ghost use Rattle.std.specs.Prelude.{◌≡◌, ◌==◌, true, ℕ, ◌+◌, ◌%◌, ◌^◌, bit_and, bit_or, bit_xor};
 ghost use prog.Atomic.{either};
 ghost use Rattle.hop_words.specs.Layout.{is_place};
@@ -75,7 +76,8 @@ impl Lane {
     )
         requires table { self.old.table ≡ table.now.id }
         requires place { is_place table.now.about.shape place ≡ true }
-        requires step { Steps table.now.about self.old.known place (λ _. new) (λ ws n l. E.told new l) }
+        requires step { Steps table.now.about self.old.known place (λ _. new)
+            (λ ws n l. E.told new l) }
         ensures table { self.new.table ≡ self.old.table }
         ensures told { E.told new self.new.known }
     {
@@ -96,7 +98,8 @@ impl Lane {
     ) -> u64
         requires table { self.old.table ≡ table.now.id }
         requires place { is_place table.now.about.shape place ≡ true }
-        requires step { Steps table.now.about self.old.known place (λ n. either (n == old) new n) (λ ws n l. E.told n l) }
+        requires step { Steps table.now.about self.old.known place (λ n. either (n == old) new n)
+            (λ ws n l. E.told n l) }
         ensures table { self.new.table ≡ self.old.table }
         ensures told { E.told result self.new.known }
     {
@@ -116,7 +119,8 @@ impl Lane {
     ) -> u64
         requires table { self.old.table ≡ table.now.id }
         requires place { is_place table.now.about.shape place ≡ true }
-        requires step { Steps table.now.about self.old.known place (λ n. bit_and n mask) (λ ws n l. E.told n l) }
+        requires step { Steps table.now.about self.old.known place (λ n. bit_and n mask)
+            (λ ws n l. E.told n l) }
         ensures table { self.new.table ≡ self.old.table }
         ensures told { E.told result self.new.known }
     {
@@ -136,7 +140,8 @@ impl Lane {
     ) -> u64
         requires table { self.old.table ≡ table.now.id }
         requires place { is_place table.now.about.shape place ≡ true }
-        requires step { Steps table.now.about self.old.known place (λ n. bit_or n mask) (λ ws n l. E.told n l) }
+        requires step { Steps table.now.about self.old.known place (λ n. bit_or n mask)
+            (λ ws n l. E.told n l) }
         ensures table { self.new.table ≡ self.old.table }
         ensures told { E.told result self.new.known }
     {
@@ -156,7 +161,8 @@ impl Lane {
     ) -> u64
         requires table { self.old.table ≡ table.now.id }
         requires place { is_place table.now.about.shape place ≡ true }
-        requires step { Steps table.now.about self.old.known place (λ n. bit_xor n mask) (λ ws n l. E.told n l) }
+        requires step { Steps table.now.about self.old.known place (λ n. bit_xor n mask)
+            (λ ws n l. E.told n l) }
         ensures table { self.new.table ≡ self.old.table }
         ensures told { E.told result self.new.known }
     {
@@ -176,7 +182,8 @@ impl Lane {
     ) -> u64
         requires table { self.old.table ≡ table.now.id }
         requires place { is_place table.now.about.shape place ≡ true }
-        requires step { Steps table.now.about self.old.known place (λ _. new) (λ ws n l. E.told n l) }
+        requires step { Steps table.now.about self.old.known place (λ _. new) (λ ws n l. E.told n l)
+            }
         ensures table { self.new.table ≡ self.old.table }
         ensures told { E.told result self.new.known }
     {
@@ -196,7 +203,8 @@ impl Lane {
     ) -> u64
         requires table { self.old.table ≡ table.now.id }
         requires place { is_place table.now.about.shape place ≡ true }
-        requires step { Steps table.now.about self.old.known place (λ n. (n + more) % 2 ^ 64) (λ ws n l. E.told n l) }
+        requires step { Steps table.now.about self.old.known place (λ n. (n + more) % 2 ^ 64)
+            (λ ws n l. E.told n l) }
         ensures table { self.new.table ≡ self.old.table }
         ensures told { E.told result self.new.known }
     {

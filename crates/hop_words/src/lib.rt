@@ -1,4 +1,5 @@
-//! The words of the concurrent store: where each stands, and the rule that holds between any two steps on them.
+//! The words of the concurrent store: where each stands, and the rule that holds between any two
+//! steps on them.
 #![tactic(auto)]
 
 mod answering;

@@ -1,5 +1,5 @@
-//! The steps on a segment under its lock. A lock is a compare-exchange of an unlocked stamp, and the
-//! unlock a store of it: with the version plus 1 where the segment changed, else with the same.
+//! The steps on a segment under its lock. A lock is a compare-exchange of an unlocked stamp, and
+//! the unlock a store of it: with the version plus 1 where the segment changed, else with the same.
 ghost use Rattle.std.specs.Prelude.{◌≡◌, ◌≢◌, ◌<◌, ◌+◌, ◌%◌, ◌^◌, true, false, [], ◌∷◌, length, IsTrue, IsFalse};
 ghost use Rattle.hop_words.specs.declared.place.Place.TheVariants.{Head, Hop, Slot, Link};
 ghost use Rattle.hop_words.specs.Layout.{words_for};
@@ -30,7 +30,8 @@ impl Lane {
         requires even { stamp % 2 ≡ 0 }
         requires unlocked { self.old.known.locks ≡ [] }
         ensures table { self.new.table ≡ self.old.table }
-        ensures locked { IsTrue result → Locked table.now.about self.old.known map segment stamp self.new.known }
+        ensures locked { IsTrue result
+            → Locked table.now.about self.old.known map segment stamp self.new.known }
         ensures missed { IsFalse result → self.new.known ≡ self.old.known }
     {
         let place = Place::Stamp { map, segment };
@@ -57,7 +58,8 @@ impl Lane {
         requires bucket { bucket < 64 }
         requires lock { HasLock self.old.known map segment }
         ensures table { self.new.table ≡ self.old.table }
-        ensures word { result ≡ (locked_words table.now.about self.old.known).hop map segment bucket }
+        ensures word { result
+            ≡ (locked_words table.now.about self.old.known).hop map segment bucket }
         ensures same { self.new.known ≡ self.old.known }
     {
         let place = Place::Hop {
@@ -75,7 +77,8 @@ impl Lane {
         requires place { place < 64 }
         requires lock { HasLock self.old.known map segment }
         ensures table { self.new.table ≡ self.old.table }
-        ensures word { result ≡ (locked_words table.now.about self.old.known).slot map segment place }
+        ensures word { result
+            ≡ (locked_words table.now.about self.old.known).slot map segment place }
         ensures same { self.new.known ≡ self.old.known }
     {
         let slot = Place::Slot {
@@ -129,7 +132,9 @@ impl Lane {
         requires inside { IsSegment table.now.about map segment }
         requires lock { HasLock self.old.known map segment }
         ensures table { self.new.table ≡ self.old.table }
-        ensures written { self.new.known ≡ writing table.now.about self.old.known (lock_of self.old.known) (Head map segment) number }
+        ensures written { self.new.known
+            ≡ writing table.now.about self.old.known (lock_of self.old.known) (Head map segment)
+            number }
     {
         let place = Place::Head { map, segment };
         self.store_by::<Brand, _>(table, place, number, ());
@@ -142,7 +147,9 @@ impl Lane {
         requires bucket { bucket < 64 }
         requires lock { HasLock self.old.known map segment }
         ensures table { self.new.table ≡ self.old.table }
-        ensures written { self.new.known ≡ writing table.now.about self.old.known (lock_of self.old.known) (Hop map segment bucket) number }
+        ensures written { self.new.known
+            ≡ writing table.now.about self.old.known (lock_of self.old.known)
+            (Hop map segment bucket) number }
     {
         let place = Place::Hop {
             map,
@@ -159,7 +166,9 @@ impl Lane {
         requires place { place < 64 }
         requires lock { HasLock self.old.known map segment }
         ensures table { self.new.table ≡ self.old.table }
-        ensures written { self.new.known ≡ writing table.now.about self.old.known (lock_of self.old.known) (Slot map segment place) number }
+        ensures written { self.new.known
+            ≡ writing table.now.about self.old.known (lock_of self.old.known)
+            (Slot map segment place) number }
     {
         let slot = Place::Slot {
             map,
@@ -176,7 +185,9 @@ impl Lane {
         requires lock { HasLock self.old.known map segment }
         requires linked { MayLink table.now.about self.old.known (lock_of self.old.known) element }
         ensures table { self.new.table ≡ self.old.table }
-        ensures written { self.new.known ≡ writing table.now.about self.old.known (lock_of self.old.known) (Link map element) number }
+        ensures written { self.new.known
+            ≡ writing table.now.about self.old.known (lock_of self.old.known) (Link map element)
+            number }
     {
         let _segment = segment;
         let place = Place::Link { map, element };

@@ -17,7 +17,8 @@ fn put(words: &mut Vec<u64>, index: &Index, place: Place, number: u64)
     requires there { is_place index.now.shape place ≡ true }
     requires sized { length words.old.items ≡ size index.now.shape }
     ensures sized { length words.new.items ≡ size index.now.shape }
-    ensures put { mem index.now.shape words.new.items ≡ put_at (mem index.now.shape words.old.items) place number }
+    ensures put { mem index.now.shape words.new.items
+        ≡ put_at (mem index.now.shape words.old.items) place number }
 {
     let word = index.word_of(place);
     words[word] = number;
@@ -30,9 +31,11 @@ fn put_map(words: &mut Vec<u64>, index: &Index, map: u8, shape: &MapShape)
     requires sizes { IsMapShape shape.now }
     requires version { index.now.version < 2 ^ 56 }
     requires sized { length words.old.items ≡ size index.now.shape }
-    requires partly { IsPartly index.now (mem index.now.shape words.old.items) index.now.shape.cpus map 0 0 }
+    requires partly { IsPartly index.now (mem index.now.shape words.old.items) index.now.shape.cpus
+        map 0 0 }
     ensures sized { length words.new.items ≡ size index.now.shape }
-    ensures partly { IsPartly index.now (mem index.now.shape words.new.items) index.now.shape.cpus (map + 1) 0 0 }
+    ensures partly { IsPartly index.now (mem index.now.shape words.new.items) index.now.shape.cpus
+        (map + 1) 0 0 }
 {
     'bits: for word in 0..elements(shape).div_ceil(64) {
         put(words, index, Place::FreeBits { map, word }, u64::MAX);

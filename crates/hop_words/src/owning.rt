@@ -1,5 +1,5 @@
-//! The steps on elements: seeing, claiming and giving back their free bits, and writing the words of
-//! one's own.
+//! The steps on elements: seeing, claiming and giving back their free bits, and writing the words
+//! of one's own.
 ghost use Rattle.std.specs.Prelude.{◌≡◌, ◌<◌, ◌-◌, ◌/◌, ◌%◌, ◌^◌, [], ◌∷◌, length};
 ghost use Rattle.hop_words.specs.declared.known.Sight.TheVariants.{Bits};
 ghost use Rattle.hop_words.specs.Layout.{words_for};
@@ -57,7 +57,8 @@ impl Lane {
         requires element { IsElement table.now.about map element }
         requires hand { IsInHand self.old.known map element }
         ensures table { self.new.table ≡ self.old.table }
-        ensures given { self.new.known ≡ record self.old.known { fresh = behind self.old.known.fresh } }
+        ensures given { self.new.known
+            ≡ record self.old.known { fresh = behind self.old.known.fresh } }
     {
         let word = element / 64;
         let bit = bit_of(element);
@@ -70,9 +71,11 @@ impl Lane {
         requires element { IsElement table.now.about map element }
         requires room { map < length self.old.known.limbo }
         requires even { table.now.about.count % 2 ≡ 0 }
-        requires passed { Passed table.now.about self.old.known map element (behind (limbo_at self.old.known.limbo map).old) }
+        requires passed { Passed table.now.about self.old.known map element
+            (behind (limbo_at self.old.known.limbo map).old) }
         ensures table { self.new.table ≡ self.old.table }
-        ensures given { self.new.known ≡ giving_old self.old.known map (behind (limbo_at self.old.known.limbo map).old) }
+        ensures given { self.new.known
+            ≡ giving_old self.old.known map (behind (limbo_at self.old.known.limbo map).old) }
     {
         let word = element / 64;
         let bit = bit_of(element);
@@ -88,7 +91,8 @@ impl Lane {
         requires next { word ≡ key_filled self.old.known.fresh }
         requires room { word < words_for (shape_at table.now.about map).key }
         ensures table { self.new.table ≡ self.old.table }
-        ensures filled { self.new.known ≡ record self.old.known { fresh = with_key_word self.old.known.fresh number } }
+        ensures filled { self.new.known
+            ≡ record self.old.known { fresh = with_key_word self.old.known.fresh number } }
     {
         let place = Place::KeyWord { map, element, word };
         self.store_by::<Brand, _>(table, place, number, ());
@@ -110,22 +114,27 @@ impl Lane {
         requires next { word ≡ value_filled self.old.known.fresh }
         requires room { word < words_for (shape_at table.now.about map).value }
         ensures table { self.new.table ≡ self.old.table }
-        ensures filled { self.new.known ≡ record self.old.known { fresh = with_value_word self.old.known.fresh number } }
+        ensures filled { self.new.known
+            ≡ record self.old.known { fresh = with_value_word self.old.known.fresh number } }
     {
         let place = Place::ValueWord { map, element, word };
         self.store_by::<Brand, _>(table, place, number, ());
     }
 
-    /// Links the used element in hand before the first of the young batch, whose word of a link this is.
+    /// Links the used element in hand before the first of the young batch, whose word of a link
+    /// this is.
     pub fn retire_used(&mut self, table: &HopTable, map: u8, element: u32, link: u64)
         requires table { self.old.table ≡ table.now.id }
         requires element { IsElement table.now.about map element }
         requires room { map < length self.old.known.limbo }
         requires unlocked { self.old.known.locks ≡ [] }
-        requires used { (limbo_at self.old.known.limbo map).used ≡ element ∷ behind (limbo_at self.old.known.limbo map).used }
+        requires used { (limbo_at self.old.known.limbo map).used
+            ≡ element ∷ behind (limbo_at self.old.known.limbo map).used }
         requires link { link ≡ link_to (limbo_at self.old.known.limbo map).young }
         ensures table { self.new.table ≡ self.old.table }
-        ensures retired { self.new.known ≡ retiring self.old.known map element (behind (limbo_at self.old.known.limbo map).used) }
+        ensures retired { self.new.known
+            ≡ retiring self.old.known map element (behind (limbo_at self.old.known.limbo map).used)
+            }
     {
         let place = Place::Link { map, element };
         self.store_by::<Brand, _>(table, place, link, (map, element));
@@ -135,7 +144,8 @@ impl Lane {
     pub fn read_old_link(&mut self, table: &HopTable, map: u8, element: u32) -> u64
         requires table { self.old.table ≡ table.now.id }
         requires element { IsElement table.now.about map element }
-        requires old { (limbo_at self.old.known.limbo map).old ≡ element ∷ behind (limbo_at self.old.known.limbo map).old }
+        requires old { (limbo_at self.old.known.limbo map).old
+            ≡ element ∷ behind (limbo_at self.old.known.limbo map).old }
         ensures table { self.new.table ≡ self.old.table }
         ensures link { result ≡ link_to (behind (limbo_at self.old.known.limbo map).old) }
         ensures same { self.new.known ≡ self.old.known }

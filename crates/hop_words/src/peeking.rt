@@ -28,7 +28,8 @@ impl Lane {
         requires there { is_place table.now.about.shape place ≡ true }
         requires reading { self.old.known.readings ≡ reading_of self.old.known ∷ [] }
         ensures table { self.new.table ≡ self.old.table }
-        ensures peeked { self.new.known ≡ peeking self.old.known (reading_of self.old.known) place result }
+        ensures peeked { self.new.known
+            ≡ peeking self.old.known (reading_of self.old.known) place result }
     {
         self.load_by::<Brand, _>(table, place, ())
     }
@@ -46,9 +47,11 @@ impl Lane {
         requires table { self.old.table ≡ table.now.id }
         requires inside { IsSegment table.now.about map segment }
         requires reading { HasReading self.old.known map segment }
-        requires finds { Finds table.now.about self.old.known (reading_of self.old.known) key.now found }
+        requires finds { Finds table.now.about self.old.known (reading_of self.old.known) key.now
+            found }
         ensures table { self.new.table ≡ self.old.table }
-        ensures seen { StampSeenAgain table.now.about self.old.known (reading_of self.old.known) key.now found result self.new.known }
+        ensures seen { StampSeenAgain table.now.about self.old.known (reading_of self.old.known)
+            key.now found result self.new.known }
     {
         self.load_by::<Brand, _>(table, Place::Stamp { map, segment }, (key, found))
     }

@@ -57,7 +57,8 @@ impl Lane {
         self.add_by::<Brand, _>(table, Place::RunCount { cpu }, 1, ());
     }
 
-    /// The young batch becomes the old one, which was empty, and the counter of CPU 0 is noted with it.
+    /// The young batch becomes the old one, which was empty, and the counter of CPU 0 is noted with
+    /// it.
     pub fn note_first_counter(&mut self, table: &HopTable, map: u8) -> u64
         requires table { self.old.table ≡ table.now.id }
         requires inside { 0 < table.now.about.shape.cpus }
@@ -81,8 +82,8 @@ impl Lane {
         self.load_by::<Brand, _>(table, Place::RunCount { cpu }, map)
     }
 
-    /// A counter that was noted with the old batch is looked at again. Where it is another by now, its
-    /// CPU can't hold an element of that batch.
+    /// A counter that was noted with the old batch is looked at again. Where it is another by now,
+    /// its CPU can't hold an element of that batch.
     pub fn see_counter_again(&mut self, table: &HopTable, map: u8, cpu: u8) -> u64
         requires table { self.old.table ≡ table.now.id }
         requires inside { cpu < table.now.about.shape.cpus }

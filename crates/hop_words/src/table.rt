@@ -18,8 +18,8 @@ impl TableRule<(), View, About> for OneRule {
     ghost first = { opens };
 }
 
-/// The words of a store, which CPUs share. It is seen as its number and what it was told when it was
-/// made.
+/// The words of a store, which CPUs share. It is seen as its number and what it was told when it
+/// was made.
 #[derive(Drop)]
 pub struct HopTable {
     pub(crate) table: Table<(), View, About, OneRule, Global>,

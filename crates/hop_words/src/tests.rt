@@ -1,5 +1,5 @@
-//! Vectors of the hash. FNV-1a's own say that `a` is 0xaf63dc4c8601ec8c and `foobar` 0x85944171f73967e8; the rest was
-//! worked out by Python's whole numbers.
+//! Vectors of the hash. FNV-1a's own say that `a` is 0xaf63dc4c8601ec8c and `foobar`
+//! 0x85944171f73967e8; the rest was worked out by Python's whole numbers.
 use crate::home;
 
 #[test]

@@ -1,4 +1,5 @@
-//! The steps on the words of a held value: each load, store and atomic operation takes effect at one.
+//! The steps on the words of a held value: each load, store and atomic operation takes effect at
+//! one.
 ghost use Rattle.std.specs.Prelude.{◌≡◌, ◌≢◌, ◌<◌, ◌^◌};
 ghost use Rattle.bpf_base.specs.Bytes.{low_bytes, with_part};
 ghost use Rattle.bpf_base.specs.Atomic.{number_after};
@@ -30,7 +31,9 @@ impl Lane {
         requires table { self.old.table ≡ table.now.id }
         requires touches { TouchesPart table.now.about self.old.known part }
         ensures table { self.new.table ≡ self.old.table }
-        ensures loaded { Told table.now.about self.old.known (Load (address_of table.now.about part) part.size (found_part part result)) self.new.known }
+        ensures loaded { Told table.now.about self.old.known
+            (Load (address_of table.now.about part) part.size (found_part part result))
+            self.new.known }
     {
         let place = Place::ValueWord {
             map: part.map,
@@ -45,7 +48,8 @@ impl Lane {
         requires table { self.old.table ≡ table.now.id }
         requires touches { TouchesWord table.now.about self.old.known part }
         ensures table { self.new.table ≡ self.old.table }
-        ensures stored { Told table.now.about self.old.known (Store (address_of table.now.about part) Double number) self.new.known }
+        ensures stored { Told table.now.about self.old.known
+            (Store (address_of table.now.about part) Double number) self.new.known }
     {
         let place = Place::ValueWord {
             map: part.map,
@@ -67,9 +71,12 @@ impl Lane {
     ) -> u64
         requires table { self.old.table ≡ table.now.id }
         requires touches { TouchesPart table.now.about self.old.known part }
-        requires splices { low_bytes 8 new ≡ with_part (low_bytes 8 old) part.offset (low_bytes (bytes_in part.size) stored) }
+        requires splices { low_bytes 8 new
+            ≡ with_part (low_bytes 8 old) part.offset (low_bytes (bytes_in part.size) stored) }
         ensures table { self.new.table ≡ self.old.table }
-        ensures stored { result ≡ old → Told table.now.about self.old.known (Store (address_of table.now.about part) part.size stored) self.new.known }
+        ensures stored { result ≡ old
+            → Told table.now.about self.old.known
+            (Store (address_of table.now.about part) part.size stored) self.new.known }
         ensures missed { result ≢ old → self.new.known ≡ self.old.known }
     {
         let place = Place::ValueWord {
@@ -94,9 +101,15 @@ impl Lane {
     ) -> u64
         requires table { self.old.table ≡ table.now.id }
         requires touches { TouchesPart table.now.about self.old.known part }
-        requires splices { low_bytes 8 new ≡ with_part (low_bytes 8 old) part.offset (low_bytes (bytes_in part.size) (number_after (change_of op) (bytes_in part.size) (found_part part old) operand expected)) }
+        requires splices { low_bytes 8 new
+            ≡ with_part (low_bytes 8 old) part.offset
+            (low_bytes (bytes_in part.size) (number_after (change_of op) (bytes_in part.size)
+            (found_part part old) operand expected)) }
         ensures table { self.new.table ≡ self.old.table }
-        ensures made { result ≡ old → Told table.now.about self.old.known (Atomic (address_of table.now.about part) part.size op operand expected (found_part part old)) self.new.known }
+        ensures made { result ≡ old
+            → Told table.now.about self.old.known
+            (Atomic (address_of table.now.about part) part.size op operand expected
+            (found_part part old)) self.new.known }
         ensures missed { result ≢ old → self.new.known ≡ self.old.known }
     {
         let place = Place::ValueWord {
@@ -120,7 +133,9 @@ impl Lane {
         requires table { self.old.table ≡ table.now.id }
         requires touches { TouchesWord table.now.about self.old.known part }
         ensures table { self.new.table ≡ self.old.table }
-        ensures made { Told table.now.about self.old.known (Atomic (address_of table.now.about part) Double op operand expected result) self.new.known }
+        ensures made { Told table.now.about self.old.known
+            (Atomic (address_of table.now.about part) Double op operand expected result)
+            self.new.known }
     {
         let place = Place::ValueWord {
             map: part.map,
