@@ -1,10 +1,12 @@
 -- Ports in the tests.
-use Rattle.std.proofs.Common.{◌≡◌, ℕ, zero, suc, ◌+◌, ◌%◌, ◌<◌, true, false, List, [], ◌∷◌, All, map, length, refl, ap, sym, ◌∙◌, arith}
+use Rattle.std.proofs.Common.{◌≡◌, ℕ, zero, suc, ◌+◌, ◌%◌, ◌<◌, true, false, List, [], ◌∷◌, All, map, length, slice_index_or, refl, ap, sym, subst, ◌∙◌, arith}
 use Rattle.std.proofs.lemmas.Bool.Decides.{nat_tests}
 use Rattle.std.proofs.lemmas.List.Elements.{All-nil, All-cons, All-head, All-tail}
 use Rattle.bpf_shared.specs.Shape.{IsPairOf, IsKeyOf}
 use Rattle.bpf_shared.specs.declared.events.Event.{Event}
 use Rattle.bpf_shared.specs.declared.events.Event.TheVariants.{Begin, End}
+use Rattle.bpf_shared.specs.declared.shapes.MapShape.{MapShape}
+use Rattle.hop_words.specs.Layout.{no_map}
 use Rattle.hop_words.specs.declared.known.About.{About}
 use Rattle.hop_words.specs.declared.known.Known.{Known}
 use Rattle.hop_words.specs.Ghost.{shape_at}
@@ -39,6 +41,15 @@ trial_key a key t ks = (shape_at a 0, map_is a.shape 0 t.map, ks ∙ sym t.key)
 abbrev first : List Known → Known
 first [] = nobody
 first (l ∷ ls) = l
+
+-- a store of one map
+pub trial_made : (a : About) (h : MapShape) → a.shape.maps ≡ h ∷ [] → h.key ≡ 8 → h.value ≡ 8 → a.count ≡ 0 → IsTrial a
+trial_made a h maps key value count = record {
+  map = subst (λ (gs : List MapShape). 0 < length gs) (sym maps) (omega arith);
+  key = ap (λ (gs : List MapShape). (slice_index_or gs 0 no_map).key) maps ∙ key;
+  value = ap (λ (gs : List MapShape). (slice_index_or gs 0 no_map).value) maps ∙ value;
+  even = ap (λ (n : ℕ). n % 2) count;
+}
 
 -- a CPU that has seen nothing is in no run
 idle_ports : (t : Shown) (ps : List Port) (c n : ℕ) → IsTrial t.about → All (IsPortOf t) ps → map known_of ps ≡ lanes_from t.about c n → All (IsNewPort t) ps
