@@ -1,5 +1,5 @@
 -- Addresses in held values.
-use Rattle.std.proofs.Common.{◌≡◌, ℕ, suc, ◌+◌, ◌-◌, ◌<◌, ◌≤◌, Bool, true, false, List, [], ◌∷◌, ◌++◌, length, refl, ap, arith, nat_lt, nat_le}
+use Rattle.std.proofs.Common.{◌≡◌, ℕ, suc, ◌+◌, ◌-◌, ◌<◌, ◌≤◌, Bool, true, false, List, [], ◌∷◌, ◌++◌, length, refl, ap, ◌∙◌, arith, nat_lt, nat_le}
 use Rattle.std.specs.Prelude.{All, ◌&&◌, ◌||◌}
 use Rattle.std.specs.List.{list_any}
 use Rattle.std.proofs.lemmas.Bool.Decides.{nat_tests}
@@ -10,7 +10,7 @@ use Rattle.bpf_shared.specs.declared.events.Event.{Event}
 use Rattle.bpf_shared.specs.declared.events.Event.TheVariants.{Load}
 use Rattle.bpf_shared.specs.Shape.{IsValueSpan}
 use Rattle.bpf_shared.specs.Passage.{IsHeldPlace}
-use Rattle.bpf_helpers.specs.Held.{AreHeld, is_in, reaches}
+use Rattle.bpf_helpers.specs.Held.{AreHeld, AreReached, covers, is_covered, is_in, reaches}
 use Rattle.bpf_helpers.specs.Reads.{loads}
 
 -- a span that has an address
@@ -74,3 +74,37 @@ held_byte holds held a are e =
 pub loads-append : (a b : ℕ) (bytes : List ℕ) (byte : ℕ) → b ≡ a + length bytes → loads a (bytes ++ byte ∷ []) ≡ loads a bytes ++ Load b Byte byte ∷ []
 loads-append a b [] byte e = ap (λ (n : ℕ). Load n Byte byte ∷ []) (let same : a ≡ b = omega arith in same)
 loads-append a b (x ∷ xs) byte e = ap (λ (es : List Event). Load a Byte x ∷ es) (loads-append (suc a) b xs byte (omega arith))
+
+-- ---- bytes that one span has
+or_true : (b : Bool) → b || true ≡ true
+or_true true = refl
+or_true false = refl
+
+one_reached : (a n k : ℕ) (p : Span) → k < n → covers a n p ≡ true → is_in (a + k) p ≡ true
+one_reached a n k p l e =
+    let parts = both (nat_le p.at a) (nat_le n p.size && nat_le (a - p.at) (p.size - n)) e in
+    let rest = both (nat_le n p.size) (nat_le (a - p.at) (p.size - n)) parts.1 in
+    let low : nat_le p.at a ≡ true = parts.0 in
+    let long : nat_le n p.size ≡ true = rest.0 in
+    let near : nat_le (a - p.at) (p.size - n) ≡ true = rest.1 in
+    let since : p.at ≤ a = grind (arith, nat_tests) in
+    let fits : n ≤ p.size = grind (arith, nat_tests) in
+    let gap : a - p.at ≤ p.size - n = grind (arith, nat_tests) in
+    let from : p.at ≤ a + k = omega arith in
+    let to : a + k - p.at < p.size = omega arith in
+    let first : nat_le p.at (a + k) ≡ true = grind (arith, nat_tests) in
+    let second : nat_lt (a + k - p.at) p.size ≡ true = grind (arith, nat_tests) in
+    ap (λ (b : Bool). b && nat_lt (a + k - p.at) p.size) first ∙ second
+
+next_reached : (p : Span) (held : List Span) (a n k : ℕ) → k < n → (b : Bool) → covers a n p ≡ b → b || list_any (covers a n) held ≡ true
+    → (list_any (covers a n) held ≡ true → list_any (is_in (a + k)) held ≡ true) → is_in (a + k) p || list_any (is_in (a + k)) held ≡ true
+next_reached p held a n k l true is e rest = ap (λ (b : Bool). b || list_any (is_in (a + k)) held) (one_reached a n k p l is)
+next_reached p held a n k l false is e rest = ap (λ (b : Bool). is_in (a + k) p || b) (rest e) ∙ or_true (is_in (a + k) p)
+
+all_reached : (held : List Span) (a n k : ℕ) → k < n → list_any (covers a n) held ≡ true → list_any (is_in (a + k)) held ≡ true
+all_reached [] a n k l e = cc
+all_reached (p ∷ held) a n k l e = next_reached p held a n k l (covers a n p) refl e (all_reached held a n k l)
+
+pub covered_reached : (held : List Span) (a n : ℕ) → is_covered held a n ≡ true → AreReached held a n
+unfolding reaches
+covered_reached held a n e k l = all_reached held a n k l e

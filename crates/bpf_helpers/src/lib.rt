@@ -3,6 +3,7 @@
 
 pub mod calls;
 pub mod fault;
+mod guess;
 pub mod held;
 pub mod laws;
 mod reading;

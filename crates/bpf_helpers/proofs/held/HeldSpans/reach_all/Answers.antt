@@ -1,7 +1,12 @@
-use Rattle.std.proofs.Common.{◌≡◌, ◌+◌, ◌-◌, ◌<◌, sym, ap, ◌∙◌, arith}
+use Rattle.std.proofs.Common.{◌≡◌, ◌+◌, ◌-◌, ◌<◌, refl, sym, ap, ◌∙◌, arith}
 use Rattle.bpf_helpers.specs.Held.{reaches}
-use Rattle.bpf_helpers.proofs.Reaching.{value_address}
+use Rattle.bpf_helpers.proofs.Reaching.{value_address, covered_reached}
 use Rattle.bpf_helpers.proofs.held.HeldSpans.reach_all.Goals as goal
+
+pub returns-then-covers : goal.returns-then-covers
+returns-then-covers c =
+    let all = covered_reached c.args.self.now c.args.at c.args.length (sym c.if-covers.ensures) in
+    (λ t. all, λ h. refl)
 
 pub returns-in_default : goal.returns-in_default
 returns-in_default c = (
