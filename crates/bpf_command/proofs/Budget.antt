@@ -217,8 +217,16 @@ other_name name other is = true≢false (sym (ap (λ t. bytes_eq t (codes "hex")
 entered_budget : (stop : Option (Text × List Text)) → entered_fault (built ebpf) stop ≡ [] → IfSome (entered (built ebpf) stop) BudgetKnown
 entered_budget None e = tt
 entered_budget (Some p) e =
-    found_budget p.1 (λ s. answers_to p.0 (label_of s)) (built ebpf).subs
-    ((λ words e is. hex_budget words e), ((λ words e is. absurd (other_name (codes "asm") refl is)), ((λ words e is. absurd (other_name (codes "disasm") refl is)), tt))) e
+    found_budget p.1 (λ s. answers_to p.0 (label_of s)) (built ebpf).subs (
+      (λ words e is. hex_budget words e),
+      (
+        (λ words e is. absurd (other_name (codes "asm") refl is)),
+        (
+          (λ words e is. absurd (other_name (codes "disasm") refl is)),
+          ((λ words e is. absurd (other_name (codes "run") refl is)), tt),
+        ),
+      ),
+    ) e
 
 pub budget_known : (words : List Text) → fault_of ebpf words ≡ [] → IfSome (subcommand_of ebpf words) BudgetKnown
 budget_known words e = entered_budget (stop_of words) (parts_free words e).0

@@ -7,6 +7,9 @@ use Rattle.clap.specs.Matches.{ReadsOne}
 use Rattle.clap.specs.Values.{IsUnsignedIn}
 use Rattle.clap.specs.Words.{Row, Text, first_of, first_value, one_of, one_text, rows_of}
 use Rattle.clap.specs.declared.parser.matches.Found.{Found}
+use Rattle.clap.specs.Facts.{is_present}
+use Rattle.clap.specs.Takes.{is_given}
+use Rattle.clap.proofs.TakesLemmas.{present_row}
 use Rattle.clap.proofs.WalkLemmas.{first_value-rows, one_text-rows}
 use Rattle.bpf_command.specs.CommandLine.{HasBudget, IsBudget, NamesBudget}
 use Rattle.bpf_command.specs.Names.{IsContext, RefusesContext}
@@ -45,3 +48,7 @@ budget_limited (Some text) n b = omega arith
 pub limited : (rows : List Row) (n : Option ℕ) → IsSomeAnd n (NamesBudget rows) → IfSome n (λ n. n ≤ MAX_BUDGET)
 limited rows None h = tt
 limited rows (Some n) h = budget_limited (one_of (codes "budget") rows) n h.0
+
+-- an option was given where it has an entry that no default made
+pub given_in_rows : (f : Found) (id : Text) → is_present f id ≡ is_given id (rows_of f)
+given_in_rows = present_row

@@ -1,9 +1,9 @@
--- Where `clap` finds no fault, the words name one of the program's three commands.
+-- Where `clap` finds no fault, the words name one of the program's commands.
 use Rattle.std.proofs.Common.{◌≡◌, List, [], ◌∷◌, Bool, true, false, Option, Some, None, option_map, is_some, refl, inl, inr, cond}
 use Rattle.std.specs.Prelude.{IsSomeAnd, find}
 use Rattle.clap.specs.Kinds.{Kinds, or_else}
 use Rattle.clap.specs.Simple.{Shape, argument_words, built, entered, label_of, names_of, rows_at, subcommand_rows}
-use Rattle.clap.specs.Faults.{check_fault, defaults_fault, entered_fault, settle_fault, walk_fault}
+use Rattle.clap.specs.Faults.{check_fault, defaults_fault, entered_fault, is_simple_and_free, settle_fault, walk_fault}
 use Rattle.clap.specs.Walk.{Held, Row, Text, answers_to, finished, nothing_held, settled, stop_after, walk, walk_from}
 use Rattle.clap.specs.Words.{fault_of, subcommand_name_of, subcommand_of, subcommand_rows_of}
 use Rattle.clap.specs.declared.parser.matches.ArgMatches.{ArgMatches}
@@ -34,7 +34,7 @@ find_known words test (s ∷ rest) known e =
 
 entered_known : (stop : Option (Text × List Text)) → is_some (entered (built ebpf) stop) ≡ true → NamesKnown (entered (built ebpf) stop)
 entered_known None e = cc
-entered_known (Some p) e = find_known p.1 (λ s. answers_to p.0 (label_of s)) (built ebpf).subs (inl refl, (inr (inl refl), (inr (inr refl), tt))) e
+entered_known (Some p) e = find_known p.1 (λ s. answers_to p.0 (label_of s)) (built ebpf).subs (inl refl, (inr (inl refl), (inr (inr (inl refl)), (inr (inr (inr refl)), tt)))) e
 
 has_command : (rows : List Row) (b : Bool) → check_fault (built ebpf).top rows b ≡ [] → b ≡ true
 has_command rows true e = refl
@@ -75,3 +75,7 @@ name_known m words e found = by_name (out-ArgMatches m).subcommand (rw found (na
     by_name : {Z : Type 0} (b : Option (Box SubCommand Z)) → NamesKnown (subcommand_rows b) → IsSomeAnd (option_map (λ b. (out-SubCommand (box_value b)).name.now) b) IsCommandName
     by_name None h = h
     by_name (Some b) h = h
+
+-- clap's contract tells the faults of such a command line
+pub is_told : is_simple_and_free ebpf ≡ true
+is_told = refl

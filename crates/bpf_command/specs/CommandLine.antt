@@ -5,6 +5,7 @@ use Rattle.clap.specs.Simple.{new_shape}
 use Rattle.clap.specs.Takes.{is_given}
 use Rattle.clap.specs.Values.{IsUnsignedIn}
 use Rattle.clap.specs.Words.{App, Row, Rule, Text, new_app, new_rule, one_of, with_rule, with_subcommand}
+use Rattle.clap.specs.declared.builder.action.ArgAction.TheVariants.{SetTrue}
 use Rattle.clap.specs.declared.builder.value_parser.ValueParser.TheVariants.{Unsigned}
 use Rattle.bpf_command.specs.declared.command.TheConstants.{MAX_BUDGET}
 
@@ -30,6 +31,13 @@ asm = new_app (codes "asm")
 abbrev pub disasm : App
 disasm = new_app (codes "disasm")
 
+-- `--maps`
+abbrev pub maps : Rule
+maps = record (new_rule (codes "maps")) { long = Some (codes "maps"); action = Some SetTrue }
+
+abbrev pub run : App
+run = with_rule (new_app (codes "run")) maps
+
 -- the program, before its commands are added
 abbrev pub bare : App
 bare = record {
@@ -41,13 +49,17 @@ bare = record {
   subs = [];
 }
 
--- `ebpf hex`, `ebpf asm` and `ebpf disasm`, with `--help` and `--version`
-abbrev pub ebpf : App
-ebpf = with_subcommand (with_subcommand (with_subcommand bare hex.top) asm.top) disasm.top
+-- the three commands for one program, and `ebpf run` for a run file, with `--help` and `--version`
+abbrev pub one_program : App
+one_program = with_subcommand (with_subcommand (with_subcommand bare hex.top) asm.top) disasm.top
 
--- the name of one of the three
+abbrev pub ebpf : App
+ebpf = with_subcommand one_program run.top
+
+-- the name of one of the four
 abbrev pub IsCommandName : Text → Type 0
-IsCommandName name = (name ≡ codes "hex") ⊎ ((name ≡ codes "asm") ⊎ (name ≡ codes "disasm"))
+IsCommandName name = (name ≡ codes "hex") ⊎ ((name ≡ codes "asm") ⊎ ((name ≡ codes "disasm")
+    ⊎ (name ≡ codes "run")))
 
 -- what is found of `--budget`: a number in the range, and the default where it isn't given
 abbrev pub HasBudget : List Row → Type 0

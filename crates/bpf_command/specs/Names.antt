@@ -3,6 +3,7 @@ use Rattle.std.specs.Prelude.{◌≡◌, ◌<◌, ◌≤◌, ℕ, List, Option, 
 use Rattle.bpf_mem.specs.Limits.{max_context}
 use Rattle.hex.specs.Hex.{decode_of}
 use Rattle.clap.specs.Kinds.{IsAmong}
+use Rattle.clap.specs.Takes.{is_given}
 use Rattle.clap.specs.Words.{Row, Text, fault_of, first_of, kind_of, subcommand_of}
 use Rattle.bpf_command.specs.CommandLine.{NamesBudget, ebpf}
 use Rattle.bpf_command.specs.declared.command.Command.{Command}
@@ -30,6 +31,8 @@ Names (Some found) (command.Hex options) = (found.0 ≡ codes "hex")
     × IsContext (first_of (codes "ctx") found.1) options.context.items
 Names (Some found) command.Asm = found.0 ≡ codes "asm"
 Names (Some found) command.Disasm = found.0 ≡ codes "disasm"
+Names (Some found) (command.Run maps) = (found.0 ≡ codes "run")
+    × (maps ≡ is_given (codes "maps") found.1)
 
 -- why words name no command: a fault that `clap` finds, or a context that is none
 abbrev pub Refuses : List Text → CommandError → Type 0

@@ -26,4 +26,6 @@ pub enum Command {
     Asm,
     /// Words in hex digits to assembly text.
     Disasm,
+    /// Run the jobs of a run file, and print the maps afterwards where that is asked for.
+    Run { maps: bool },
 }

@@ -2,6 +2,7 @@
 
 ghost use Rattle.std.specs.Prelude.{◌≡◌, ◌≤◌, ◌⊎◌, [], codes, IfErr, IfOk, IfSome, IsSomeAnd, List, map, OnOk, Some, ℕ};
 ghost use Rattle.clap.specs.Kinds.{FailsBy};
+ghost use Rattle.clap.specs.Takes.{is_given};
 ghost use Rattle.clap.specs.Words.{fault_of, first_of, first_value, found_of, rows_of, subcommand_name_of, subcommand_of, subcommand_rows_of};
 ghost use Rattle.bpf_command.specs.CommandLine.{ebpf, HasBudget, IsCommandName, NamesBudget};
 ghost use Rattle.bpf_command.specs.Names.{IsContext, Names, Refuses, RefusesContext};
@@ -11,6 +12,7 @@ use crate::options::ebpf_command;
 use bpf_mem::context::MAX_CONTEXT;
 use clap::ArgMatches;
 use clap::error::ErrorKind;
+use clap::parser::ValueSource;
 use hex::FromHexError;
 use std::alloc::Global;
 use std::convert::AsStr;
@@ -97,6 +99,14 @@ fn hex_of(alloc: Global, options: &ArgMatches) -> Result<Command, CommandError>
     Ok(Command::Hex(RunOptions { budget, context }))
 }
 
+/// Whether `--maps` is given. A default's value has a source of its own.
+#[tactic(auto, using(crate::proofs::OptionRows::given_in_rows))]
+fn has_maps(options: &ArgMatches) -> bool
+    ensures { result ≡ is_given (codes "maps") (rows_of (found_of options.now)) }
+{
+    options.contains_id("maps") && options.value_source("maps") != Some(ValueSource::DefaultValue)
+}
+
 fn named(alloc: Global, name: &str, options: &ArgMatches) -> Result<Command, CommandError>
     requires known { IsCommandName name.now }
     requires checked { name.now ≡ codes "hex" → HasBudget (rows_of (found_of options.now)) }
@@ -108,7 +118,10 @@ fn named(alloc: Global, name: &str, options: &ArgMatches) -> Result<Command, Com
     match name {
         "hex" => hex_of(alloc, options),
         "asm" => Ok(Command::Asm),
-        _ => Ok(Command::Disasm),
+        "disasm" => Ok(Command::Disasm),
+        _ => Ok(Command::Run {
+            maps: has_maps(options),
+        }),
     }
 }
 

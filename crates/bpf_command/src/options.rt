@@ -3,10 +3,10 @@
 ghost use Rattle.std.specs.Prelude.{◌≡◌, false, IfOk};
 ghost use Rattle.clap.specs.Words.{app_of, rule_of, shape_of};
 ghost use Rattle.clap.specs.declared.builder.command.Command.TheViews.{out-Command as fields_of};
-ghost use Rattle.bpf_command.specs.CommandLine.{asm, bare, budget, context, disasm, ebpf, hex};
+ghost use Rattle.bpf_command.specs.CommandLine.{asm, bare, budget, context, disasm, ebpf, hex, maps, one_program, run};
 
 use crate::command::MAX_BUDGET;
-use clap::{Arg, Command, value_parser};
+use clap::{Arg, ArgAction, Command, value_parser};
 use std::alloc::{AllocError, Global};
 
 const HEX_NOTES: &str = "\
@@ -29,6 +29,14 @@ The digits are read from standard input, as in
   r0 = 5
   exit";
 
+const RUN_NOTES: &str = "\
+Each CPU that has work makes one turn, in rising order, until none has work. Then a line a job is
+printed: job J cpu C r0=N, fault Fk at PC or out of budget at PC.
+
+The run file is read from standard input, as in
+  $ printf 'ebpf-run 1\\nprog a\\nr0 = 5\\nexit\\nend\\njob 0 a\\n' | ebpf run
+  job 0 cpu 0 r0=5";
+
 const EXIT_STATUS: &str = "\
 All input is standard input, read whole first, and all answers go to standard output.
 
@@ -36,7 +44,7 @@ Exit status:
   0  the answer is printed
   1  the input is refused, and the refusal printed, or the output failed
   2  the command line is at fault
-  3  the program ended in a fault or out of budget";
+  3  the program, or a job, ended in a fault or out of budget";
 
 fn budget_option<'a>(alloc: Global) -> Arg<'a>
     ensures rule { rule_of result ≡ budget }
@@ -88,6 +96,26 @@ fn disasm_command<'a>(alloc: Global) -> Command<'a>
         .after_help(DISASM_NOTES)
 }
 
+fn maps_option<'a>(alloc: Global) -> Arg<'a>
+    ensures rule { rule_of result ≡ maps }
+    ensures own { result.global ≡ false }
+{
+    Arg::new(alloc, "maps")
+        .long("maps")
+        .action(ArgAction::SetTrue)
+        .help("Prints the maps afterwards, a line a key: map NAME KEY=VALUE")
+}
+
+fn run_command<'a>(alloc: Global) -> Result<Command<'a>, AllocError>
+    ensures shape { IfOk result (λ c. shape_of c ≡ run.top) }
+    ensures own { IfOk result (λ c. (fields_of c).has_globals ≡ false) }
+{
+    Command::new(alloc, "run")
+        .about("Runs the jobs of a run file, over its maps")
+        .after_help(RUN_NOTES)
+        .arg(maps_option(alloc))
+}
+
 /// The program itself, before its commands are added.
 fn bare_command<'a>(alloc: Global) -> Command<'a>
     ensures app { app_of result ≡ bare }
@@ -100,12 +128,19 @@ fn bare_command<'a>(alloc: Global) -> Command<'a>
         .disable_help_subcommand(true)
 }
 
+/// The commands for one program.
+fn program_commands<'a>(alloc: Global) -> Result<Command<'a>, AllocError>
+    ensures app { IfOk result (λ c. app_of c ≡ one_program) }
+{
+    let with_hex = bare_command(alloc).subcommand(hex_command(alloc)?)?;
+    let with_asm = with_hex.subcommand(asm_command(alloc))?;
+    with_asm.subcommand(disasm_command(alloc))
+}
+
 /// The command line of the whole program.
 pub fn ebpf_command<'a>(alloc: Global) -> Result<Command<'a>, AllocError>
     ensures app { IfOk result (λ c. app_of c ≡ ebpf) }
 {
-    let with_hex = bare_command(alloc).subcommand(hex_command(alloc)?)?;
-    let with_asm = with_hex.subcommand(asm_command(alloc))?;
-    let whole = with_asm.subcommand(disasm_command(alloc))?;
+    let whole = program_commands(alloc)?.subcommand(run_command(alloc)?)?;
     Ok(whole)
 }

@@ -2,3 +2,4 @@ pub mod KnownBytes
 pub mod ReplyLemmas
 pub mod OneReply
 pub mod Followed
+pub mod FreshFiles

@@ -1,5 +1,5 @@
 -- The replies of one input print one text.
-use Rattle.std.proofs.Common.{◌≡◌, ◌≢◌, ◌<◌, ◌≤◌, ◌/◌, ℕ, List, [], length, inl, inr, refl, sym, ap, subst, ◌∙◌, arith, Ok, Err}
+use Rattle.std.proofs.Common.{Bool, string_bytes, ◌≡◌, ◌≢◌, ◌<◌, ◌≤◌, ◌/◌, ℕ, List, [], length, inl, inr, refl, sym, ap, subst, ◌∙◌, arith, Ok, Err}
 use Rattle.std.specs.Prelude.{IsUtf8}
 use Rattle.bpf_insn.specs.declared.instruction.Insn.{Insn}
 use Rattle.bpf_insn.specs.Encoding.{IsEncodedAs}
@@ -24,8 +24,15 @@ use Rattle.bpf_text.specs.HexText.{IsHexOf}
 use Rattle.bpf_text.specs.Laws.{TextsAreDetermined}
 use Rattle.bpf_text.specs.declared.error.TextError.{TextError}
 use Rattle.bpf_text.specs.declared.error.TextError.TheVariants as text_error
-use Rattle.bpf_run.specs.Answer.{status_of, reply_text}
-use Rattle.bpf_run.specs.Commands.{IsAnswer, IsAssembled, IsDisassembled, IsReply, IsRun, IsWordsOf, RefusesAssembly, RefusesInput, RefusesProgram, RefusesWords}
+use Rattle.bpf_file.specs.declared.error.FileError.TheVariants as FileError
+use Rattle.bpf_file.specs.declared.error.Reason.{Reason}
+use Rattle.bpf_file.specs.File.{File}
+use Rattle.bpf_file.specs.Reading.{IsRunFile}
+use Rattle.bpf_file.specs.Laws.{FilesAreDetermined}
+use Rattle.bpf_jobs.specs.Laws.{ReportsAreDetermined}
+use Rattle.bpf_jobs.specs.Printed.{IsReport}
+use Rattle.bpf_run.specs.Answer.{jobs_status, status_of, reply_text}
+use Rattle.bpf_run.specs.Commands.{IsAnswer, IsAssembled, IsDisassembled, IsReply, IsRun, IsRunOfFile, IsWordsOf, RefusesAssembly, RefusesInput, RefusesProgram, RefusesWords, first_of}
 use Rattle.bpf_run.specs.declared.input.TheConstants.{MAX_INPUT}
 use Rattle.bpf_run.specs.Laws.{IsOfInput, IsForAnyInput, HasShortContext, RepliesAreDetermined}
 use Rattle.bpf_run.specs.Listing.{word_lines}
@@ -92,6 +99,7 @@ of_run budget context text (reply.Ended outcome) h n = Ran outcome h.0 h.3 h.1 h
 of_run budget context text (reply.Refused refusal.OutOfMemory) h n = absurd (n tt)
 of_run budget context text (reply.Refused r) h n = of_program budget context text r h n
 of_run budget context text (reply.Text printed) h n = absurd h
+of_run budget context text (reply.Jobs printed stopped) h n = absurd h
 
 of_refused_text : (text : List ℕ) (error : TextError) → RefusesAssembly text (refusal.Text error) → ¬ IsForAnyInput (refusal.Text error) → OfAssembly text (reply.Refused (refusal.Text error))
 of_refused_text text error (inl memory) n = absurd (n (subst (λ (e : TextError). IsForAnyInput (refusal.Text e)) (sym memory) tt))
@@ -103,11 +111,33 @@ of_assembly text (reply.Refused (refusal.Text error)) h n = of_refused_text text
 of_assembly text (reply.Refused (refusal.Insn error)) h n = absurd (n (subst (λ (e : InsnError). IsForAnyInput (refusal.Insn e)) (sym h) tt))
 of_assembly text (reply.Refused r) h n = absurd h
 of_assembly text (reply.Ended outcome) h n = absurd h
+of_assembly text (reply.Jobs printed stopped) h n = absurd h
 
 of_listing : (text : List ℕ) (r : Reply) → IsDisassembled text r → IsOfInput r → OfListing text r
 of_listing text (reply.Text printed) h n = Listed printed h
 of_listing text (reply.Refused r) h n = Unlisted r (of_words text r h n)
 of_listing text (reply.Ended outcome) h n = absurd h
+of_listing text (reply.Jobs printed stopped) h n = absurd h
+
+data OfFile (maps : Bool) (text : List ℕ) : Reply → Type 0 where
+  Told : (printed : _) (stopped : Bool) → IsRunOfFile maps text (reply.Jobs printed stopped)
+      → OfFile maps text (reply.Jobs printed stopped)
+  NoFile : (line : ℕ) (why : Reason) → IsRunFile text (Err (FileError.Refused line why))
+      → OfFile maps text (reply.Refused (refusal.File line why))
+
+of_refused_file : (maps : Bool) (text : List ℕ) (r : Refusal)
+    → IsRunOfFile maps text (reply.Refused r) → ¬ IsForAnyInput r
+    → OfFile maps text (reply.Refused r)
+of_refused_file maps text (refusal.File line why) h n = NoFile line why h
+of_refused_file maps text refusal.OutOfMemory h n = absurd (n tt)
+of_refused_file maps text _ h n = absurd h
+
+of_file : (maps : Bool) (text : List ℕ) (r : Reply) → IsRunOfFile maps text r → IsOfInput r
+    → OfFile maps text r
+of_file maps text (reply.Jobs printed stopped) h n = Told printed stopped h
+of_file maps text (reply.Refused r) h n = of_refused_file maps text r h n
+of_file maps text (reply.Ended outcome) h n = absurd h
+of_file maps text (reply.Text printed) h n = absurd h
 
 data OfInput (c : Command) (input : List ℕ) : Reply → Type 0 where
   TooLong : MAX_INPUT < length input → OfInput c input (reply.Refused (refusal.Input input_error.TooLong))
@@ -127,7 +157,7 @@ of_input c input r (inl refused) n =
     subst (OfInput c input) (sym refused.1) made
 of_input c input r (inr answered) n = Answered r answered.0 answered.1 answered.2
 
-module _ (words : WordsAreDetermined) (encodings : EncodingsAreDetermined) (refusals : RefusalsAreDetermined) (firsts : FirstIsDetermined) (texts : TextsAreDetermined) (outcomes : OutcomesAreDetermined) (events : NoMapsNoEvents) where
+module _ (words : WordsAreDetermined) (encodings : EncodingsAreDetermined) (refusals : RefusalsAreDetermined) (firsts : FirstIsDetermined) (texts : TextsAreDetermined) (outcomes : OutcomesAreDetermined) (events : NoMapsNoEvents) (files : FilesAreDetermined) (reports : ReportsAreDetermined) where
   same_bytes : (text xs ys : List ℕ) → IsHexOf text xs → IsHexOf text ys → xs ≡ ys
   same_bytes text xs ys a b = cc
 
@@ -193,11 +223,25 @@ module _ (words : WordsAreDetermined) (encodings : EncodingsAreDetermined) (refu
   one_assembly text r s (NoAssembly e b) (Assembled p a) = let both : Ok a.0 ≡ Err e = texts text (Ok a.0) (Err e) a.2 b in absurd cc
   one_assembly text r s (NoAssembly e a) (NoAssembly f b) = let both = texts text (Err e) (Err f) a b in let same : e ≡ f = cc in prints r s (ap (λ error. reply.Refused (refusal.Text error)) same)
 
+  one_file : (maps : Bool) (text : List ℕ) (r s : Reply) → OfFile maps text r → OfFile maps text s → PrintsAs r s
+  one_file maps text r s (Told p x a) (Told q y b) =
+      let both : Ok a.0 ≡ Ok b.0 = files text (Ok a.0) (Ok b.0) a.1 b.1 in
+      let same : a.0 ≡ b.0 = cc in
+      let P : File → Type 0 = λ f. IsReport (first_of f) f.names maps (string_bytes q) y in
+      let told = reports (first_of a.0) a.0.names maps (string_bytes p) (string_bytes q) x y a.2 a.3 (subst P (sym same) b.3) in
+      (told.0, ap jobs_status told.1)
+  one_file maps text r s (Told p x a) (NoFile line why b) = let both : Ok a.0 ≡ Err (FileError.Refused line why) = files text (Ok a.0) (Err (FileError.Refused line why)) a.1 b in absurd cc
+  one_file maps text r s (NoFile line why b) (Told p x a) = let both : Ok a.0 ≡ Err (FileError.Refused line why) = files text (Ok a.0) (Err (FileError.Refused line why)) a.1 b in absurd cc
+  one_file maps text r s (NoFile line why a) (NoFile place reason b) =
+      let both = files text (Err (FileError.Refused line why)) (Err (FileError.Refused place reason)) a b in
+      prints r s cc
+
   one_answer : (c : Command) (text : List ℕ) (r s : Reply) → HasShortContext c → IsAnswer c text r → IsAnswer c text s → IsOfInput r → IsOfInput s → PrintsAs r s
   one_answer (command.Hex options) text r s h a b n m =
       prints r s (one_run options.budget options.context.items text r s h (of_run options.budget options.context.items text r a n) (of_run options.budget options.context.items text s b m))
   one_answer command.Asm text r s h a b n m = one_assembly text r s (of_assembly text r a n) (of_assembly text s b m)
   one_answer command.Disasm text r s h a b n m = one_listing text r s (of_listing text r a n) (of_listing text s b m)
+  one_answer (command.Run maps) text r s h a b n m = one_file maps text r s (of_file maps text r a n) (of_file maps text s b m)
 
   one_input : (c : Command) (input : List ℕ) (r s : Reply) → HasShortContext c → OfInput c input r → OfInput c input s → IsOfInput r → IsOfInput s → PrintsAs r s
   one_input c input r s h (TooLong long) (TooLong more) n m = prints r s refl

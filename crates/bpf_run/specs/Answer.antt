@@ -20,6 +20,7 @@ outcome_line (outcome.OutOfBudget pc) = codes "out of budget at " ++ decimal pc
 abbrev pub reply_text : Reply → List ℕ
 reply_text (reply.Ended outcome) = outcome_line outcome ++ codes "\n"
 reply_text (reply.Text text) = string_bytes text
+reply_text (reply.Jobs text stopped) = string_bytes text
 reply_text (reply.Refused refusal) = codes "refused " ++ code refusal ++ codes "\n"
 
 -- how a program ends after it
@@ -28,9 +29,15 @@ ended_status (outcome.Exit r0) = status.Done
 ended_status (outcome.Fault fault pc) = status.Stopped
 ended_status (outcome.OutOfBudget pc) = status.Stopped
 
+-- of jobs: whether one of them ended in a fault or out of budget
+abbrev pub jobs_status : Bool → Status
+jobs_status true = status.Stopped
+jobs_status false = status.Done
+
 abbrev pub status_of : Reply → Status
 status_of (reply.Ended outcome) = ended_status outcome
 status_of (reply.Text text) = status.Done
+status_of (reply.Jobs text stopped) = jobs_status stopped
 status_of (reply.Refused refusal) = status.Refused
 
 abbrev pub exit_status : Status → ℕ
@@ -50,5 +57,7 @@ IsPrinted text meant old new failed answered =
 abbrev pub Prints : Reply → (old new : Option (List ℕ)) → (failed : Bool) → Status → Type 0
 Prints (reply.Text text) old new failed answered =
     IsPrinted (string_bytes text) status.Done old new failed answered
+Prints (reply.Jobs text stopped) old new failed answered =
+    IsPrinted (string_bytes text) (jobs_status stopped) old new failed answered
 Prints r old new failed answered = IsPrinted (reply_text r) (status_of r) old new failed answered
     ⊎ IsPrinted (codes "refused L9\n") status.Refused old new failed answered

@@ -8,6 +8,10 @@ use Rattle.bpf_loader.specs.declared.refusal.LoadError.{LoadError}
 use Rattle.bpf_loader.specs.declared.refusal.LoadError.TheVariants as load
 use Rattle.bpf_text.specs.declared.error.TextError.{TextError}
 use Rattle.bpf_text.specs.declared.error.TextError.TheVariants as text
+use Rattle.bpf_shared.specs.declared.shapes.ShapeError.{ShapeError}
+use Rattle.bpf_shared.specs.declared.shapes.ShapeError.TheVariants as shape
+use Rattle.bpf_file.specs.declared.error.Reason.{Reason}
+use Rattle.bpf_file.specs.declared.error.Reason.TheVariants as reason
 use Rattle.bpf_cpu.specs.declared.outcome.Fault.{Fault}
 use Rattle.bpf_cpu.specs.declared.outcome.Fault.TheVariants as fault
 use Rattle.bpf_run.specs.declared.input.InputError.{InputError}
@@ -54,12 +58,41 @@ load_code (load.UnknownHelper pc) = codes "E12 " ++ decimal pc
 load_code (load.UnknownMap pc) = codes "E13 " ++ decimal pc
 load_code load.OutOfMemory = codes "E14"
 
+-- of the shapes of maps and of CPUs: S1 to S6; a run file's store is made later, where S7 is none
+abbrev pub shape_code : ShapeError → List ℕ
+shape_code (shape.KeySize map) = codes "S1"
+shape_code (shape.ValueSize map) = codes "S2"
+shape_code (shape.KeyCount map) = codes "S3"
+shape_code (shape.SpareCount map) = codes "S4"
+shape_code shape.TooManyMaps = codes "S5"
+shape_code shape.CpuCount = codes "S6"
+shape_code shape.OutOfMemory = codes "S7"
+
+-- of a line of a run file: L1 to L6, S1 to S6, H1, and A and E codes of its programs
+abbrev pub reason_code : Reason → List ℕ
+reason_code reason.BadFirstLine = codes "L1"
+reason_code reason.BadLine = codes "L2"
+reason_code reason.BadNumber = codes "L3"
+reason_code reason.TwiceName = codes "L4"
+reason_code reason.Unknown = codes "L5"
+reason_code reason.NoEnd = codes "L6"
+reason_code (reason.Shape error) = shape_code error
+reason_code reason.NotHex = codes "H1"
+reason_code reason.BadInstruction = codes "A1"
+reason_code reason.BadOperand = codes "A2"
+reason_code reason.UnknownLabel = codes "A3"
+reason_code reason.TwiceLabel = codes "A4"
+reason_code reason.FarLabel = codes "A5"
+reason_code (reason.Insn error) = insn_code error
+reason_code (reason.Load error) = load_code error
+
 abbrev pub code : Refusal → List ℕ
 code (refusal.Input error) = input_code error
 code refusal.NotText = codes "L8"
 code (refusal.Text error) = text_code error
 code (refusal.Insn error) = insn_code error
 code (refusal.Load error) = load_code error
+code (refusal.File line why) = codes "line " ++ decimal line ++ codes " " ++ reason_code why
 code refusal.OutOfMemory = codes "L9"
 
 -- of a run: F1 to F6

@@ -8,6 +8,12 @@ use Rattle.bpf_loader.specs.declared.refusal.LoadError.TheVariants as load_error
 use Rattle.bpf_shared.specs.declared.events.Event.{Event}
 use Rattle.bpf_cpu.specs.State.{start}
 use Rattle.bpf_cpu.specs.Step.{Explains}
+use Rattle.bpf_cpu.specs.Laws.{IsFresh}
+use Rattle.bpf_cpu.specs.Schedule.{World}
+use Rattle.bpf_jobs.specs.Printed.{first_world, IsReport}
+use Rattle.bpf_file.specs.declared.error.FileError.TheVariants as FileError
+use Rattle.bpf_file.specs.File.{File}
+use Rattle.bpf_file.specs.Reading.{IsRunFile}
 use Rattle.bpf_insn.specs.declared.error.InsnError.TheVariants as insn_error
 use Rattle.bpf_text.specs.Assembly.{Assembles}
 use Rattle.bpf_text.specs.Form.{canonical}
@@ -50,6 +56,7 @@ IsRun budget context text (reply.Ended outcome) = (is : List Insn) × IsWordsOf 
 IsRun budget context text (reply.Refused refusal.OutOfMemory) = Unit {0}
 IsRun budget context text (reply.Refused r) = RefusesProgram text r
 IsRun budget context text (reply.Text printed) = ⊥
+IsRun budget context text (reply.Jobs printed stopped) = ⊥
 
 -- `asm`: the words of the instructions that the text stands for, a line of 16 hex digits each
 abbrev pub RefusesAssembly : List ℕ → Refusal → Type 0
@@ -64,6 +71,7 @@ IsAssembled text (reply.Text printed) = (is : List Insn) × (bytes : List ℕ)
     × (string_bytes printed ≡ word_lines (length bytes / 8) bytes)
 IsAssembled text (reply.Refused r) = RefusesAssembly text r
 IsAssembled text (reply.Ended outcome) = ⊥
+IsAssembled text (reply.Jobs printed stopped) = ⊥
 
 -- `disasm`: the canonical text of the instructions
 abbrev pub IsDisassembled : List ℕ → Reply → Type 0
@@ -71,12 +79,27 @@ IsDisassembled text (reply.Text printed) =
     (is : List Insn) × IsWordsOf text is × (string_bytes printed ≡ canonical is)
 IsDisassembled text (reply.Refused r) = RefusesWords text r
 IsDisassembled text (reply.Ended outcome) = ⊥
+IsDisassembled text (reply.Jobs printed stopped) = ⊥
+
+-- `run`: the lines of the jobs that the file says, run in rounds over a new store of its maps, and
+-- then those of the maps where they are asked for; or the file's first refusal
+abbrev pub first_of : File → World
+first_of f = first_world (record { cpus = f.cpus; maps = f.maps }) f.programs f.jobs
+
+abbrev pub IsRunOfFile : Bool → List ℕ → Reply → Type 0
+IsRunOfFile maps text (reply.Jobs printed stopped) = (f : File) × IsRunFile text (Ok f)
+    × IsFresh (first_of f) × IsReport (first_of f) f.names maps (string_bytes printed) stopped
+IsRunOfFile maps text (reply.Refused refusal.OutOfMemory) = Unit {0}
+IsRunOfFile maps text (reply.Refused (refusal.File line why)) =
+    IsRunFile text (Err (FileError.Refused line why))
+IsRunOfFile maps text _ = ⊥
 
 -- what a command replies to the text
 abbrev pub IsAnswer : Command → List ℕ → Reply → Type 0
 IsAnswer (command.Hex options) text r = IsRun options.budget options.context.items text r
 IsAnswer command.Asm text r = IsAssembled text r
 IsAnswer command.Disasm text r = IsDisassembled text r
+IsAnswer (command.Run maps) text r = IsRunOfFile maps text r
 
 -- ---- input
 

@@ -48,7 +48,9 @@ pub fn answer<W: Sink>(alloc: Global, reply: &Reply, sink: &mut W) -> Status
         (W.has_failed sink.new) result }
 {
     match reply {
-        Reply::Text(text) => write_text(sink, text.as_str(), Status::Done),
+        Reply::Text(text) | Reply::Jobs(text, _) => {
+            write_text(sink, text.as_str(), reply.status())
+        }
         Reply::Ended(_) | Reply::Refused(_) => write_line(alloc, reply, sink),
     }
 }

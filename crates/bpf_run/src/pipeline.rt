@@ -3,14 +3,16 @@
 ghost use Rattle.std.specs.Prelude.{◌≡◌, [], false, IfErr, IfOk, true};
 ghost use Rattle.bpf_loader.specs.Sound.{IsSound};
 ghost use Rattle.bpf_shared.specs.Contents.{has_cpu, is_running, shapes_of};
-ghost use Rattle.bpf_run.specs.Commands.{IsAnswer, IsAssembled, IsDisassembled, IsRun, IsWordsOf, RefusesProgram, RefusesWords};
+ghost use Rattle.bpf_run.specs.Commands.{IsAnswer, IsAssembled, IsDisassembled, IsRun, IsRunOfFile, IsWordsOf, RefusesProgram, RefusesWords};
 
 use crate::listing::word_lines;
 use crate::refusal::Refusal;
 use crate::reply::Reply;
 use bpf_command::{Command, RunOptions};
 use bpf_cpu::Cpu;
+use bpf_file::{FileError, RunFile, read_file};
 use bpf_insn::{Insn, decode, encode};
+use bpf_jobs::{Report, run_jobs};
 use bpf_loader::{Program, load};
 use bpf_shared::{PlainStore, ShapeError, StoreShape};
 use bpf_text::{assemble, disassemble, from_hex};
@@ -95,6 +97,29 @@ fn disassembled(alloc: Global, text: &str) -> Reply
     }
 }
 
+/// `ebpf run`.
+#[tactic(auto, using(crate::proofs::FreshFiles::told))]
+fn run_file(alloc: Global, maps: bool, text: &str) -> Reply
+    ensures { IsRunOfFile maps text.now result }
+{
+    let file = match read_file(alloc, text.as_bytes()) {
+        Ok(file) => file,
+        Err(FileError::Refused(line, reason)) => return Reply::Refused(Refusal::File(line, reason)),
+        Err(FileError::OutOfMemory) => return Reply::Refused(Refusal::OutOfMemory),
+    };
+    let RunFile {
+        shape,
+        names,
+        programs,
+        jobs,
+        ..
+    } = file;
+    match run_jobs(alloc, shape, &names, programs, jobs, maps) {
+        Ok(Report { text, stopped }) => Reply::Jobs(text, stopped),
+        Err(_) => Reply::Refused(Refusal::OutOfMemory),
+    }
+}
+
 /// What a command replies to the text that it read.
 pub fn reply(alloc: Global, command: Command, text: &str) -> Reply
     ensures { IsAnswer command text.now result }
@@ -103,5 +128,6 @@ pub fn reply(alloc: Global, command: Command, text: &str) -> Reply
         Command::Hex(options) => run(alloc, options, text),
         Command::Asm => assembled(alloc, text),
         Command::Disasm => disassembled(alloc, text),
+        Command::Run { maps } => run_file(alloc, maps, text),
     }
 }

@@ -1,8 +1,10 @@
 //! Refusals, and the codes that are printed of them.
 
 use crate::input::InputError;
+use bpf_file::Reason;
 use bpf_insn::InsnError;
 use bpf_loader::LoadError;
+use bpf_shared::ShapeError;
 use bpf_text::TextError;
 use std::fmt;
 
@@ -18,6 +20,8 @@ pub enum Refusal {
     Insn(InsnError),
     /// A whole program.
     Load(LoadError),
+    /// A line of a run file, counted from 1.
+    File(usize, Reason),
     /// The command line, the output or the CPU found no memory.
     OutOfMemory,
 }
@@ -109,6 +113,58 @@ impl fmt::Display for LoadCode {
     }
 }
 
+#[derive(Drop)]
+struct ShapeCode(ShapeError);
+
+impl fmt::Display for ShapeCode {
+    ghost use Rattle.std.specs.Prelude.{Some};
+    ghost use Rattle.bpf_run.specs.Codes.{shape_code};
+
+    ghost output = { λ x. Some (shape_code x.0) };
+
+    fn fmt<W: fmt::Write>(&self, f: &mut fmt::Formatter<W>) -> fmt::Result {
+        f.write_str(match self.0 {
+            ShapeError::KeySize { .. } => "S1",
+            ShapeError::ValueSize { .. } => "S2",
+            ShapeError::KeyCount { .. } => "S3",
+            ShapeError::SpareCount { .. } => "S4",
+            ShapeError::TooManyMaps => "S5",
+            ShapeError::CpuCount => "S6",
+            ShapeError::OutOfMemory => "S7",
+        })
+    }
+}
+
+#[derive(Drop)]
+struct ReasonCode(Reason);
+
+impl fmt::Display for ReasonCode {
+    ghost use Rattle.std.specs.Prelude.{Some};
+    ghost use Rattle.bpf_run.specs.Codes.{reason_code};
+
+    ghost output = { λ x. Some (reason_code x.0) };
+
+    fn fmt<W: fmt::Write>(&self, f: &mut fmt::Formatter<W>) -> fmt::Result {
+        match self.0 {
+            Reason::BadFirstLine => f.write_str("L1"),
+            Reason::BadLine => f.write_str("L2"),
+            Reason::BadNumber => f.write_str("L3"),
+            Reason::TwiceName => f.write_str("L4"),
+            Reason::Unknown => f.write_str("L5"),
+            Reason::NoEnd => f.write_str("L6"),
+            Reason::Shape(error) => f.write_fmt(ShapeCode(error)),
+            Reason::NotHex => f.write_str("H1"),
+            Reason::BadInstruction => f.write_str("A1"),
+            Reason::BadOperand => f.write_str("A2"),
+            Reason::UnknownLabel => f.write_str("A3"),
+            Reason::TwiceLabel => f.write_str("A4"),
+            Reason::FarLabel => f.write_str("A5"),
+            Reason::Insn(error) => f.write_fmt(InsnCode(error)),
+            Reason::Load(error) => f.write_fmt(LoadCode(error)),
+        }
+    }
+}
+
 impl fmt::Display for Refusal {
     ghost use Rattle.std.specs.Prelude.{Some};
     ghost use Rattle.bpf_run.specs.Codes.{code};
@@ -122,6 +178,7 @@ impl fmt::Display for Refusal {
             Refusal::Text(error) => f.write_fmt(TextCode(error)),
             Refusal::Insn(error) => f.write_fmt(InsnCode(error)),
             Refusal::Load(error) => f.write_fmt(LoadCode(error)),
+            Refusal::File(line, reason) => write!(f, "line {line} {}", ReasonCode(reason)),
             Refusal::OutOfMemory => f.write_str("L9"),
         }
     }

@@ -40,6 +40,8 @@ pub enum Reply {
     Ended(Outcome),
     /// Whole lines.
     Text(String),
+    /// The lines of jobs, and whether one of them ended in a fault or out of budget.
+    Jobs(String, bool),
     Refused(Refusal),
 }
 
@@ -51,8 +53,8 @@ impl Reply {
         ensures { result ≡ status_of self.now }
     {
         match self {
-            Reply::Ended(Outcome::Exit(_)) | Reply::Text(_) => Status::Done,
-            Reply::Ended(_) => Status::Stopped,
+            Reply::Ended(Outcome::Exit(_)) | Reply::Text(_) | Reply::Jobs(_, false) => Status::Done,
+            Reply::Ended(_) | Reply::Jobs(_, true) => Status::Stopped,
             Reply::Refused(_) => Status::Refused,
         }
     }
@@ -92,7 +94,7 @@ impl fmt::Display for Reply {
                 write!(f, "fault {} at {pc}\n", FaultCode(*fault))
             }
             Reply::Ended(Outcome::OutOfBudget(pc)) => write!(f, "out of budget at {pc}\n"),
-            Reply::Text(text) => f.write_str(text.as_str()),
+            Reply::Text(text) | Reply::Jobs(text, _) => f.write_str(text.as_str()),
             Reply::Refused(refusal) => write!(f, "refused {refusal}\n"),
         }
     }
