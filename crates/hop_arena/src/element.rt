@@ -43,9 +43,11 @@ impl Element {
         requires sizes { (length key.now ≤ 64) × (length value.now ≤ 256) }
         ensures table { lane.new.table ≡ lane.old.table }
         ensures filled { lane.new.known
-            ≡ record lane.old.known { fresh = with_words lane.old.known.fresh
-            (word_list (words_for (length key.now)) key.now)
-            (word_list (words_for (length value.now)) value.now) } }
+            ≡ record lane.old.known {
+              fresh = with_words lane.old.known.fresh
+                  (word_list (words_for (length key.now)) key.now)
+                  (word_list (words_for (length value.now)) value.now);
+            } }
     {
         'key: for word in 0..key.len().div_ceil(8) {
             lane.fill_key_word(

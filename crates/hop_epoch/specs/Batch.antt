@@ -18,13 +18,13 @@ Notes a known noted = (length known ≡ a.shape.cpus)
 
 -- the batches begin with these elements, and these counters were noted with the old one
 pub record Tracks (a : About) (l : Known) (m : ℕ) (young old : Option ℕ) (noted : List ℕ) : Type 0
-    where
-  pub room : m < length l.limbo
-  pub young_is : young ≡ front (limbo_at l.limbo m).young
-  pub old_is : old ≡ front (limbo_at l.limbo m).old
-  pub young_inside : Each (IsElement a m) (limbo_at l.limbo m).young
-  pub old_inside : Each (IsElement a m) (limbo_at l.limbo m).old
-  pub counters : ((limbo_at l.limbo m).old ≡ []) ⊎ Notes a (limbo_at l.limbo m).noted noted
+  where
+    pub room : m < length l.limbo
+    pub young_is : young ≡ front (limbo_at l.limbo m).young
+    pub old_is : old ≡ front (limbo_at l.limbo m).old
+    pub young_inside : Each (IsElement a m) (limbo_at l.limbo m).young
+    pub old_inside : Each (IsElement a m) (limbo_at l.limbo m).old
+    pub counters : ((limbo_at l.limbo m).old ≡ []) ⊎ Notes a (limbo_at l.limbo m).noted noted
 
 -- of what the CPU knows only its batches of the map changed, and what it counted and saw
 pub record Keeps (m : ℕ) (l l' : Known) : Type 0 where
@@ -59,5 +59,5 @@ AreEven cpus noted = (d : ℕ) → d < cpus → slice_index noted d % 2 ≡ 0
 abbrev pub SeesRunning : ℕ → Known → Known → Type 0
 SeesRunning m l l' =
     (d : ℕ) × (more : List Sight) × (l'.tally.sights
-        ≡ Runs d (slice_index (limbo_at l'.limbo m).noted d) ∷ (more ++ l.tally.sights))
+    ≡ Runs d (slice_index (limbo_at l'.limbo m).noted d) ∷ (more ++ l.tally.sights))
     × (slice_index (limbo_at l'.limbo m).noted d % 2 ≡ 1)

@@ -109,13 +109,7 @@ impl HopPort {
 
     /// Where the value of the key lies, found without a lock or, after eight disturbed readings, under
     /// one; the CPU holds that value until its run ends.
-    pub fn lookup<R: Wait>(
-        &mut self,
-        rt: &R,
-        table: &HopTable,
-        map: u8,
-        key: &[u8],
-    ) -> Option<Span>
+    pub fn lookup<R: Wait>(&mut self, rt: &R, table: &HopTable, map: u8, key: &[u8]) -> Option<Span>
         requires fits { IsPortOf table.now self.old }
         requires in_run { runs self.old ≡ true }
         requires key { IsKeyOf table.now.about.shape.maps map key.now }

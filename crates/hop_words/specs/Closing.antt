@@ -39,8 +39,11 @@ pub record Ending : Type 0 where
   pub history : List Entry
 
 abbrev pub ending : InRest → Ending
-ending s = record { about = s.index; words = slots_items s.words.words;
-    history = s.keeper.me.0.kept }
+ending s = record {
+  about = s.index;
+  words = slots_items s.words.words;
+  history = s.keeper.me.0.kept;
+}
 
 -- the words are all there, and keep the rule with the history
 abbrev pub IsAtRest : InRest → Type 0

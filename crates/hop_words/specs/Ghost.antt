@@ -53,8 +53,15 @@ pub record Lanes : Type 0 where
   pub tally : ℕ → Tally
 
 abbrev pub lane : Lanes → ℕ → Known
-lane x c = record { cpu = c; seen = x.seen c; fresh = x.fresh c; limbo = x.limbo c;
-    locks = x.locks c; readings = x.readings c; tally = x.tally c }
+lane x c = record {
+  cpu = c;
+  seen = x.seen c;
+  fresh = x.fresh c;
+  limbo = x.limbo c;
+  locks = x.locks c;
+  readings = x.readings c;
+  tally = x.tally c;
+}
 
 -- of a segment: a number that never goes down, which is the stamp while no lock changed anything;
 -- who locks it; whether that CPU has to change the version; a Done event that the version doesn't

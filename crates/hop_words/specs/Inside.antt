@@ -29,8 +29,15 @@ pub record Standing : Type 0 where
   pub known : Known
 
 abbrev pub nobody : Known
-nobody = record { cpu = 0; seen = []; fresh = []; limbo = []; locks = []; readings = [];
-    tally = no_tally }
+nobody = record {
+  cpu = 0;
+  seen = [];
+  fresh = [];
+  limbo = [];
+  locks = [];
+  readings = [];
+  tally = no_tally;
+}
 
 abbrev pub lane_of : InStepper → Known
 lane_of s = first_lane nobody s.seat.me.0.lanes

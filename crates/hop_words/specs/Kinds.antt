@@ -69,14 +69,19 @@ pub record Inserts (a : About) (l : Known) (k : Lock) (f : Fresh) (rest : List F
 pub record Inserted (a : About) (l : Known) (k : Lock) (f : Fresh) (rest : List Fresh)
     (key bytes : List ℕ) (flags : ℕ) (l' : Known) : Type 0 where
   pub seen : Saw a l (Update k.map key bytes flags Done) l'.seen
-  pub after : l' ≡ record l { seen = l'.seen; fresh = rest;
-      locks = record k { change = Puts key f.element; dirty = true } ∷ [] }
+  pub after : l' ≡ record l {
+    seen = l'.seen;
+    fresh = rest;
+    locks = record k { change = Puts key f.element; dirty = true } ∷ [];
+  }
 
 -- ---- readings without a lock
 -- one disturbed reading of the segment more, by its stamps as they were seen first and last
 abbrev pub disturbed_by : Tally → ℕ → ℕ → ℕ → ℕ → Tally
-disturbed_by t m s n i = record t { disturbed = record { map = m; segment = s; first = n; last = i }
-    ∷ t.disturbed }
+disturbed_by t m s n i = record t {
+  disturbed = record { map = m; segment = s; first = n; last = i }
+      ∷ t.disturbed;
+}
 
 abbrev pub noting : Known → ℕ → ℕ → ℕ → Known
 noting l m s n = record l { readings = record { map = m; segment = s; stamp = n; peeks = [] } ∷ [] }
@@ -88,8 +93,12 @@ StampSeen l m s n l' = (n % 2 ≡ 0 → l' ≡ noting l m s n)
 
 -- peek
 abbrev pub peeking : Known → Reading → Place → ℕ → Known
-peeking l r p n = record l { readings = record r { peeks = record { place = p; number = n }
-    ∷ r.peeks } ∷ [] }
+peeking l r p n = record l {
+  readings = record r {
+    peeks = record { place = p; number = n }
+        ∷ r.peeks;
+  } ∷ [];
+}
 
 abbrev pub AllPeeks : Words → Reading → Type 0
 AllPeeks x r = Each (λ (p : Peek). IsPeek x r.map r.segment p.place p.number) r.peeks
@@ -126,7 +135,7 @@ pub record Found (a : About) (l : Known) (r : Reading) (key : List ℕ) (o : Opt
 abbrev pub StampSeenAgain : About → Known → Reading → List ℕ → Option ℕ → ℕ → Known → Type 0
 StampSeenAgain a l r key o n l' =
     (n ≡ r.stamp → Found a l r key o l') × (n ≢ r.stamp → l'
-        ≡ record l { readings = []; tally = disturbed_by l.tally r.map r.segment r.stamp n })
+    ≡ record l { readings = []; tally = disturbed_by l.tally r.map r.segment r.stamp n })
 
 -- ---- lock
 abbrev pub has : ℕ → List ℕ → Bool
@@ -134,9 +143,19 @@ has e [] = false
 has e (x ∷ xs) = (e == x) || has e xs
 
 abbrev pub locking : Known → ℕ → ℕ → ℕ → List ℕ → List ℕ → Known
-locking l m s n ws es = record l { locks = record { map = m; segment = s; stamp = n; first = ws;
-    copy = ws; change = Nothing; known = es; dirty = false } ∷ [];
-    tally = record l.tally { locks = l.tally.locks + 1 } }
+locking l m s n ws es = record l {
+  locks = record {
+    map = m;
+    segment = s;
+    stamp = n;
+    first = ws;
+    copy = ws;
+    change = Nothing;
+    known = es;
+    dirty = false;
+  } ∷ [];
+  tally = record l.tally { locks = l.tally.locks + 1 };
+}
 
 -- the segment is sound and has some content, and what the lane filled stands in the copy
 pub record Locked (a : About) (l : Known) (m s n : ℕ) (l' : Known) : Type 0 where
@@ -159,8 +178,12 @@ pub record Locked (a : About) (l : Known) (m s n : ℕ) (l' : Known) : Type 0 wh
 
 -- ---- write under lock
 abbrev pub writing : About → Known → Lock → Place → ℕ → Known
-writing a l k p n = record l { locks = record k { copy = slice_set k.copy (at a.shape p) n;
-    dirty = true } ∷ [] }
+writing a l k p n = record l {
+  locks = record k {
+    copy = slice_set k.copy (at a.shape p) n;
+    dirty = true;
+  } ∷ [];
+}
 
 -- ---- unlock
 -- the copy is written: by what the words at the lock showed, it shows that with the change
@@ -178,12 +201,12 @@ unlocking l = record l { locks = [] }
 abbrev pub MayLink : About → Known → Lock → ℕ → Type 0
 MayLink a l k e = (e < elements (shape_at a k.map))
     × (((f : Fresh) × (rest : List Fresh) × (l.fresh ≡ f ∷ rest) × (f.map ≡ k.map)
-        × (f.element ≡ e))
+    × (f.element ≡ e))
     ⊎ ((before : List ℕ → Option ℕ)
-        → IsShare a.seed (shape_at a k.map) (segment_in a k.map) (image a k.first) k.map k.segment
-        before
+    → IsShare a.seed (shape_at a k.map) (segment_in a k.map) (image a k.first) k.map k.segment
+    before
     → (key : List ℕ) × (changed k.change before key ≡ Some e)
-        × (segment_in a k.map key ≡ k.segment)))
+    × (segment_in a k.map key ≡ k.segment)))
 
 -- by all that the lock's words can show, the key leads to this element
 abbrev pub LeadsTo : About → Lock → List ℕ → ℕ → Type 0
@@ -193,8 +216,10 @@ LeadsTo a k key e = (before : List ℕ → Option ℕ)
 
 -- what the lane has of the map, with one more element in hand
 abbrev pub with_gone : Known → ℕ → ℕ → List Limbo
-with_gone l m e = slice_set l.limbo m (record (limbo_at l.limbo m) { used = e
-    ∷ (limbo_at l.limbo m).used })
+with_gone l m e = slice_set l.limbo m (record (limbo_at l.limbo m) {
+  used = e
+      ∷ (limbo_at l.limbo m).used;
+})
 
 -- ---- count down: a key that is there is gone, under the lock of its segment, before a word of it
 -- is written
@@ -208,10 +233,13 @@ pub record Removes (a : About) (l : Known) (k : Lock) (key : List ℕ) (e : ℕ)
   pub runs : in_run (events_of l.cpu l.seen) ≡ true
 
 pub record Removed (a : About) (l : Known) (k : Lock) (key : List ℕ) (e : ℕ) (l' : Known) : Type 0
-    where
-  pub seen : Saw a l (Delete k.map key Done) l'.seen
-  pub after : l' ≡ record l { seen = l'.seen; limbo = with_gone l k.map e;
-      locks = record k { change = Drops key; dirty = true } ∷ [] }
+  where
+    pub seen : Saw a l (Delete k.map key Done) l'.seen
+    pub after : l' ≡ record l {
+      seen = l'.seen;
+      limbo = with_gone l k.map e;
+      locks = record k { change = Drops key; dirty = true } ∷ [];
+    }
 
 -- ---- unlock where a replacement takes effect
 pub record Replaces (a : About) (l : Known) (k : Lock) (f : Fresh) (rest : List Fresh)
@@ -233,7 +261,7 @@ pub record Replaces (a : About) (l : Known) (k : Lock) (f : Fresh) (rest : List 
       → IsShare a.seed (shape_at a k.map) (segment_in a k.map) (image a k.first) k.map k.segment
       before
       → IsShare a.seed (shape_at a k.map) (segment_in a k.map) (image a k.copy) k.map k.segment
-          (changed (Puts key f.element) before)
+      (changed (Puts key f.element) before)
   pub flags_known : (flags ≡ 0) ⊎ (flags ≡ 2)
   pub room : k.map < length l.limbo
   pub runs : in_run (events_of l.cpu l.seen) ≡ true
@@ -241,8 +269,12 @@ pub record Replaces (a : About) (l : Known) (k : Lock) (f : Fresh) (rest : List 
 pub record Replaced (a : About) (l : Known) (k : Lock) (rest : List Fresh) (key bytes : List ℕ)
     (flags e : ℕ) (l' : Known) : Type 0 where
   pub seen : Saw a l (Update k.map key bytes flags Done) l'.seen
-  pub after : l' ≡ record l { seen = l'.seen; fresh = rest; limbo = with_gone l k.map e;
-      locks = [] }
+  pub after : l' ≡ record l {
+    seen = l'.seen;
+    fresh = rest;
+    limbo = with_gone l k.map e;
+    locks = [];
+  }
 
 -- ---- unlock with the same version: an answer that changed nothing takes effect, whatever the
 -- store is that the lock's words can show
@@ -256,7 +288,7 @@ pub record Answers (a : About) (l : Known) (k : Lock) (e : Event) : Type 0 where
       → IsShare a.seed (shape_at a k.map) (segment_in a k.map) (image a k.first) k.map k.segment
       before
       → ((q : List ℕ) → segment_in a k.map q ≡ k.segment
-          → get (s.maps k.map) q ≡ numbered number (before q)) → Allowed s l.cpu e s
+      → get (s.maps k.map) q ≡ numbered number (before q)) → Allowed s l.cpu e s
 
 -- and the version that was locked is paid for by Done events that were seen: so Busy tells of that
 -- many
@@ -325,13 +357,18 @@ abbrev pub limbo_set : Known → ℕ → Limbo → Known
 limbo_set l m x = record l { limbo = slice_set l.limbo m x }
 
 abbrev pub noting_next : Known → ℕ → ℕ → Known
-noting_next l m n = limbo_set l m (record (limbo_at l.limbo m) { noted = (limbo_at l.limbo m).noted
-    ++ n ∷ [] })
+noting_next l m n = limbo_set l m (record (limbo_at l.limbo m) {
+  noted = (limbo_at l.limbo m).noted
+      ++ n ∷ [];
+})
 
 -- the young batch becomes the old one, and the first counter is noted
 abbrev pub ageing : Known → ℕ → ℕ → Known
-ageing l m n = limbo_set l m (record (limbo_at l.limbo m) { young = [];
-    old = (limbo_at l.limbo m).young; noted = n ∷ [] })
+ageing l m n = limbo_set l m (record (limbo_at l.limbo m) {
+  young = [];
+  old = (limbo_at l.limbo m).young;
+  noted = n ∷ [];
+})
 
 -- a counter that is another now: its CPU holds nothing of the old batch, as one that was even
 abbrev pub cleared : Known → ℕ → ℕ → Known
@@ -340,8 +377,10 @@ cleared l m d = limbo_set l m (record (limbo_at l.limbo m)
 
 -- ---- retire: the used element in hand goes to the young batch, in front
 abbrev pub retiring : Known → ℕ → ℕ → List ℕ → Known
-retiring l m e us = limbo_set l m (record (limbo_at l.limbo m) { used = us;
-    young = e ∷ (limbo_at l.limbo m).young })
+retiring l m e us = limbo_set l m (record (limbo_at l.limbo m) {
+  used = us;
+  young = e ∷ (limbo_at l.limbo m).young;
+})
 
 -- ---- give bit, of the old batch: no running CPU may hold the element
 pub record Passed (a : About) (l : Known) (m e : ℕ) (es : List ℕ) : Type 0 where
@@ -369,12 +408,12 @@ pub record Counts (a : About) (l : Known) (k : Lock) (key bytes : List ℕ) (fla
 
 -- see count, where the flags are none of those known
 pub record Misflagged (a : About) (l : Known) (m : ℕ) (key bytes : List ℕ) (flags : ℕ) : Type 0
-    where
-  pub map : m < length a.shape.maps
-  pub key_size : length key ≡ (shape_at a m).key
-  pub size : length bytes ≡ (shape_at a m).value
-  pub unknown : 2 < flags
-  pub runs : in_run (events_of l.cpu l.seen) ≡ true
+  where
+    pub map : m < length a.shape.maps
+    pub key_size : length key ≡ (shape_at a m).key
+    pub size : length bytes ≡ (shape_at a m).value
+    pub unknown : 2 < flags
+    pub runs : in_run (events_of l.cpu l.seen) ≡ true
 
 -- ---- fill word
 abbrev pub filling_key : Known → Fresh → List Fresh → ℕ → Known

@@ -13,8 +13,16 @@ use Rattle.hop_words.specs.Rule.{image}
 use Rattle.hop_words.specs.Kinds.{Told}
 
 abbrev pub no_lock : Lock
-no_lock = record { map = 0; segment = 0; stamp = 0; first = []; copy = []; change = Nothing;
-    known = []; dirty = false }
+no_lock = record {
+  map = 0;
+  segment = 0;
+  stamp = 0;
+  first = [];
+  copy = [];
+  change = Nothing;
+  known = [];
+  dirty = false;
+}
 
 -- the lock that the CPU took last
 abbrev pub lock_of : Known → Lock
@@ -39,13 +47,13 @@ locked_words a l = image a (lock_of l).copy
 abbrev pub SeesRoom : About → Known → List ℕ → List ℕ → ℕ → ℕ → Known → Type 0
 SeesRoom a l key bytes flags n l' =
     (n ≡ (shape_at a (lock_of l).map).max
-        → Told a l (Update (lock_of l).map key bytes flags Full) l')
+    → Told a l (Update (lock_of l).map key bytes flags Full) l')
     × (n ≢ (shape_at a (lock_of l).map).max → (l' ≡ l) × (n < (shape_at a (lock_of l).map).max))
 
 -- a count at the map's most keys is the answer Full, any other NoMemory
 abbrev pub SeesLack : About → Known → List ℕ → List ℕ → ℕ → ℕ → Known → Type 0
 SeesLack a l key bytes flags n l' =
     (n ≡ (shape_at a (lock_of l).map).max
-        → Told a l (Update (lock_of l).map key bytes flags Full) l')
+    → Told a l (Update (lock_of l).map key bytes flags Full) l')
     × (n ≢ (shape_at a (lock_of l).map).max
-        → Told a l (Update (lock_of l).map key bytes flags NoMemory) l')
+    → Told a l (Update (lock_of l).map key bytes flags NoMemory) l')

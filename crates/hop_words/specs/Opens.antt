@@ -32,8 +32,15 @@ no_limbos zero = []
 no_limbos (suc n) = no_limbo ∷ no_limbos n
 
 abbrev pub new_lane : About → ℕ → Known
-new_lane a c = record { cpu = c; seen = []; fresh = []; limbo = no_limbos (length a.shape.maps);
-    locks = []; readings = []; tally = no_tally }
+new_lane a c = record {
+  cpu = c;
+  seen = [];
+  fresh = [];
+  limbo = no_limbos (length a.shape.maps);
+  locks = [];
+  readings = [];
+  tally = no_tally;
+}
 
 abbrev pub lanes_from : About → ℕ → ℕ → List Known
 lanes_from a c zero = []

@@ -56,4 +56,4 @@ abbrev pub LooksAgain : Known → ℕ → ℕ → ℕ → Known → Type 0
 LooksAgain l m d found l' =
     (found ≡ slice_index (limbo_at l.limbo m).noted d → l' ≡ sighted l (Runs d found))
     × ((found ≡ slice_index (limbo_at l.limbo m).noted d → ⊥)
-        → l' ≡ sighted (cleared l m d) (Runs d found))
+    → l' ≡ sighted (cleared l m d) (Runs d found))

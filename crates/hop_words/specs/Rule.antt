@@ -52,11 +52,11 @@ done_in m (x ∷ xs) = one_if (is_done m x.event) + done_in m xs
 
 -- the one history is legal, and of it each CPU has seen a beginning with all its own events
 pub record Logged (a : About) (seen : ℕ → List Entry) (log : List Entry) (last : Plain) : Type 0
-    where
-  pub legal : Legal (as_made a.shape) log last
-  pub begins : (c : ℕ) → c < a.shape.cpus → IsPrefix (seen c) log
-  pub own : (c : ℕ) → c < a.shape.cpus → events_of c (seen c) ≡ events_of c log
-  pub others : (c : ℕ) → a.shape.cpus ≤ c → events_of c log ≡ []
+  where
+    pub legal : Legal (as_made a.shape) log last
+    pub begins : (c : ℕ) → c < a.shape.cpus → IsPrefix (seen c) log
+    pub own : (c : ℕ) → c < a.shape.cpus → events_of c (seen c) ≡ events_of c log
+    pub others : (c : ℕ) → a.shape.cpus ≤ c → events_of c log ≡ []
 
 abbrev pub numbered : (ℕ → ℕ) → Option ℕ → Option ℕ
 numbered f None = None
@@ -247,9 +247,11 @@ pub record Valued (a : About) (words : ℕ → ℕ → ℕ → ℕ) (made : ℕ)
     (held : ℕ → ℕ → Bool) (holder : ℕ → ℕ → Holder) (number : ℕ → ℕ → ℕ) : Type 0 where
   pub lies : (m e : ℕ) → IsElement a m e → Carries (holder m e)
       → value (number m e)
-          ≡ record { bytes = take (shape_at a m).value
-          (spelled (words_for (shape_at a m).value) (words m e));
-          span = element_span m (shape_at a m) e }
+      ≡ record {
+        bytes = take (shape_at a m).value
+            (spelled (words_for (shape_at a m).value) (words m e));
+        span = element_span m (shape_at a m) e;
+      }
   pub older : (m e : ℕ) → IsElement a m e → Carries (holder m e) → number m e < made
   pub held_in : (c v : ℕ) → held c v ≡ true → (m : ℕ) × (e : ℕ) × IsElement a m e
       × Carries (holder m e) × (number m e ≡ v)
@@ -288,13 +290,13 @@ St = State (Unit {0}) View
 -- each seat's lanes are those of its CPUs, no CPU has two seats, and what a seat keeps is a
 -- beginning of the history
 pub record Seats (cpus : ℕ) (log : List Entry) (lanes : ℕ → Known) (views : List View) : Type 0
-    where
-  pub seat : ℕ → ℕ
-  pub known : (i k : ℕ) (v : View) (l : Known) → get_elem? views i ≡ some v
-      → get_elem? v.lanes k ≡ some l → (seat l.cpu ≡ i) × (l.cpu < cpus) × (lanes l.cpu ≡ l)
-  pub distinct : (i j k : ℕ) (v : View) (l m : Known) → get_elem? views i ≡ some v
-      → get_elem? v.lanes j ≡ some l → get_elem? v.lanes k ≡ some m → l.cpu ≡ m.cpu → j ≡ k
-  pub kept : (i : ℕ) (v : View) → get_elem? views i ≡ some v → IsPrefix v.kept log
+  where
+    pub seat : ℕ → ℕ
+    pub known : (i k : ℕ) (v : View) (l : Known) → get_elem? views i ≡ some v
+        → get_elem? v.lanes k ≡ some l → (seat l.cpu ≡ i) × (l.cpu < cpus) × (lanes l.cpu ≡ l)
+    pub distinct : (i j k : ℕ) (v : View) (l m : Known) → get_elem? views i ≡ some v
+        → get_elem? v.lanes j ≡ some l → get_elem? v.lanes k ≡ some m → l.cpu ≡ m.cpu → j ≡ k
+    pub kept : (i : ℕ) (v : View) → get_elem? views i ≡ some v → IsPrefix v.kept log
 
 pub record Kept (a : About) (s : St) : Type 0 where
   pub sized : length s.words ≡ size a.shape

@@ -52,14 +52,14 @@ Matches read g m e key = (k : ℕ) → k < words_for g.key
 
 -- the key's hop word was read, and the slots that its bits lead to
 pub record ReadHops (seed : ℕ) (g : MapShape) (m s : ℕ) (read : List Peek) (key : List ℕ) : Type 0
-    where
-  pub hop : ℕ
-  pub hop_read : WasRead read (Hop m s (bucket_of seed g key)) hop
-  pub slot : ℕ → ℕ
-  pub element : ℕ → ℕ
-  pub slot_read : (d : ℕ) → d < 32 → bit_at hop d ≡ 1
-      → WasRead read (Slot m s ((bucket_of seed g key + d) % 64)) (slot d)
-  pub leads : (d : ℕ) → d < 32 → bit_at hop d ≡ 1 → item (slot d) ≡ Some (element d)
+  where
+    pub hop : ℕ
+    pub hop_read : WasRead read (Hop m s (bucket_of seed g key)) hop
+    pub slot : ℕ → ℕ
+    pub element : ℕ → ℕ
+    pub slot_read : (d : ℕ) → d < 32 → bit_at hop d ≡ 1
+        → WasRead read (Slot m s ((bucket_of seed g key + d) % 64)) (slot d)
+    pub leads : (d : ℕ) → d < 32 → bit_at hop d ≡ 1 → item (slot d) ≡ Some (element d)
 
 -- the overflow list was read to its end
 pub record ReadList (m s : ℕ) (read : List Peek) : Type 0 where
@@ -72,11 +72,11 @@ pub record ReadList (m s : ℕ) (read : List Peek) : Type 0 where
 
 -- what find read where it answers that the key isn't there
 pub record ReadNone (seed : ℕ) (g : MapShape) (m s : ℕ) (read : List Peek) (key : List ℕ) : Type 0
-    where
-  pub hops : ReadHops seed g m s read key
-  pub hops_differ : (d : ℕ) → d < 32 → bit_at hops.hop d ≡ 1 → Differs read g m (hops.element d) key
-  pub list : ReadList m s read
-  pub list_differs : (e : ℕ) → 1 ≤ times e list.list → Differs read g m e key
+  where
+    pub hops : ReadHops seed g m s read key
+    pub hops_differ : (d : ℕ) → d < 32 → bit_at hops.hop d ≡ 1 → Differs read g m (hops.element d) key
+    pub list : ReadList m s read
+    pub list_differs : (e : ℕ) → 1 ≤ times e list.list → Differs read g m e key
 
 -- from the word n on, links lead through these elements to e
 abbrev pub Starts : (ℕ → ℕ) → ℕ → List ℕ → ℕ → Type 0

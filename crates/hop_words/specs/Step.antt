@@ -12,12 +12,12 @@ use Rattle.hop_words.specs.Ghost.{Ghost, lane}
 use Rattle.hop_words.specs.Rule.{Rule, solo}
 
 pub record Next (a : About) (w : Place → ℕ) (g : Ghost) (c : ℕ) (told : Known → Type 0) : Type 0
-    where
-  pub ghost : Ghost
-  pub rule : Rule a w ghost
-  pub others : (d : ℕ) → d ≢ c → lane ghost.lanes d ≡ lane g.lanes d
-  pub longer : IsPrefix g.log ghost.log
-  pub says : told (lane ghost.lanes c)
+  where
+    pub ghost : Ghost
+    pub rule : Rule a w ghost
+    pub others : (d : ℕ) → d ≢ c → lane ghost.lanes d ≡ lane g.lanes d
+    pub longer : IsPrefix g.log ghost.log
+    pub says : told (lane ghost.lanes c)
 
 -- of the words, the number found and the lane after
 abbrev pub Steps : About → Known → Place → (ℕ → ℕ) → (List ℕ → ℕ → Known → Type 0) → Type 0

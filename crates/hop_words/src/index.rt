@@ -49,8 +49,7 @@ fn line_rest(words: u32) -> u32
 }
 
 // How often the segments of a map double, from one on, until each key may have a place of 64.
-#[tactic(auto, using(crate::proofs::Depths::depth_on, crate::proofs::Depths::depth_stop,
-    crate::proofs::Depths::depth_end))]
+#[tactic(auto, using(crate::proofs::Depths::depth_on, crate::proofs::Depths::depth_stop, crate::proofs::Depths::depth_end))]
 pub(crate) fn depth(max: u64) -> u32
     requires { max ≤ 65536 }
     ensures value { result ≡ depth_from 10 64 max }

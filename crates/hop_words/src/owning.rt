@@ -133,8 +133,7 @@ impl Lane {
         requires link { link ≡ link_to (limbo_at self.old.known.limbo map).young }
         ensures table { self.new.table ≡ self.old.table }
         ensures retired { self.new.known
-            ≡ retiring self.old.known map element (behind (limbo_at self.old.known.limbo map).used)
-            }
+            ≡ retiring self.old.known map element (behind (limbo_at self.old.known.limbo map).used) }
     {
         let place = Place::Link { map, element };
         self.store_by::<Brand, _>(table, place, link, (map, element));
