@@ -1,0 +1,34 @@
+-- What a CPU does with its jobs, over any store: from one state of the store to another, in order.
+use Rattle.std.specs.Prelude.{◌≡◌, ℕ, ◌<◌, List, [], ◌∷◌, ◌++◌, Some, slice_get}
+use Rattle.bpf_shared.specs.declared.events.Event.{Event}
+use Rattle.bpf_shared.specs.declared.shapes.MapShape.{MapShape}
+use Rattle.bpf_loader.specs.Loaded.{Loaded}
+use Rattle.bpf_cpu.specs.State.{start}
+use Rattle.bpf_cpu.specs.Step.{Explains}
+use Rattle.bpf_sched.specs.declared.assignment.Assignment.{Assignment}
+
+-- a job of this CPU that wasn't run yet, of one of so many programs
+pub record IsNew (cpu programs : ℕ) (a : Assignment) : Type 0 where
+  pub context : List ℕ
+  pub fresh : a.cpu ≡ start cpu context
+  pub program : a.program < programs
+
+-- a job is run from the state x to the state y with these events, which explain how it ended: `moves`
+-- says what a way from state to state is, and `worn` where the CPU's next run can't begin
+pub record Runs {T : Type 0} (moves : T → T → List Event → Type 0) (worn : T → Type 0)
+    (shapes : List MapShape) (programs : List Loaded) (x : T) (old new : Assignment)
+    (events : List Event) (y : T) : Type 0 where
+  pub program : Loaded
+  pub listed : slice_get programs old.program ≡ Some program
+  pub way : moves x y events
+  pub explained : Explains (worn x) shapes program old.budget old.cpu events new.outcome
+
+-- so are these jobs, one after the other
+abbrev pub RunsAll : {T : Type 0} → (T → T → List Event → Type 0) → (T → Type 0) → List MapShape
+    → List Loaded → T → List Assignment → List Assignment → List Event → T → Type 0
+RunsAll {T} moves worn shapes programs x [] [] events y = (events ≡ []) × (y ≡ x)
+RunsAll {T} moves worn shapes programs x (old ∷ olds) (new ∷ news) events y =
+    (z : T) × (mine : List Event) × (rest : List Event) × (events ≡ mine ++ rest)
+    × Runs moves worn shapes programs x old new mine z
+    × RunsAll moves worn shapes programs z olds news rest y
+RunsAll {T} moves worn shapes programs x _ _ events y = ⊥
