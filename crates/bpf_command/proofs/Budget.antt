@@ -13,10 +13,11 @@ use Rattle.clap.specs.Walk.{with_default, row_text, values_or_missing, Held, Row
 use Rattle.clap.specs.Words.{fault_of, subcommand_of}
 use Rattle.clap.specs.declared.builder.value_parser.Reading.TheVariants.{AsWritten}
 use Rattle.clap.specs.declared.builder.value_parser.ValueParser.TheVariants.{Unsigned}
+use Rattle.clap.specs.declared.parser.matches.ValueSource.{ValueSource}
 use Rattle.clap.specs.declared.parser.matches.ValueSource.TheVariants.{CommandLine, DefaultValue}
 use Rattle.clap.proofs.ValueTestLemmas.{accepts-Accepts}
 use Rattle.bpf_command.specs.declared.command.TheConstants.{MAX_BUDGET}
-use Rattle.bpf_command.specs.CommandLine.{HasBudget, budget, context, ebpf, hex}
+use Rattle.bpf_command.specs.CommandLine.{HasBudget, budget, context, ebpf, explained, hex}
 use Rattle.bpf_command.proofs.Subcommands.{parts_free, stop_of}
 use Rattle.bpf_command.proofs.Walks.{Keeps, first_free, last_free, settle_kept, walk_kept}
 
@@ -51,8 +52,8 @@ first_stays : (values more : List Text) → IsSomeAnd (slice_get values 0) InRan
 first_stays [] more h = absurd h
 first_stays (v ∷ vs) more h = h
 
-more_fine : (values : List Text) (r : Row) → IsFine r → AreFine (more_values CommandLine values r)
-more_fine values r fine = (
+more_fine : (s : ValueSource) (values : List Text) (r : Row) → IsFine r → AreFine (more_values s values r)
+more_fine s values r fine = (
   λ e.
       let given : IsGiven r = fine e in
       (given.0, rw given.1 refl, first_stays r.values values given.2),
@@ -63,7 +64,7 @@ used_fine : (id : Text) (values : List Text) (rows : List Row)
     → IsFine (record { id = id; values = values; count = None; source = Some CommandLine; reading = AsWritten }) → AreFine rows
     → AreFine (with_values id AsWritten CommandLine values (without id rows))
 used_fine id values rows fine all =
-    at_row_fine id (more_values CommandLine values) _ (without id rows) (more_fine values) (fine, tt) (at_row_fine id (λ _. []) [] rows (λ r f. tt) tt all)
+    at_row_fine id (more_values CommandLine values) _ (without id rows) (more_fine CommandLine values) (fine, tt) (at_row_fine id (λ _. []) [] rows (λ r f. tt) tt all)
 
 -- ---- the rules
 
@@ -109,11 +110,15 @@ context_keeps : Keeps AreFine false (filled context)
 context_keeps values rows e fine =
     used_fine (codes "ctx") (values_or_missing (filled context) values) rows (λ same. cc) fine
 
+explained_keeps : Keeps AreFine false (filled explained)
+explained_keeps values rows e fine =
+    used_fine (codes "explain") (values_or_missing (filled explained) values) rows (λ same. cc) fine
+
 help_keeps : Keeps AreFine false (filled help_rule)
 help_keeps values rows e fine = fine
 
 rules_keep : AllKeep rules
-rules_keep = (budget_keeps, (context_keeps, (help_keeps, tt)))
+rules_keep = (explained_keeps, (budget_keeps, (context_keeps, (help_keeps, tt))))
 
 -- ---- the rows
 
@@ -166,6 +171,14 @@ with_budget rows fine = go (has_row (codes "budget") rows) refl
     go true e = given_row (find (λ r. bytes_eq r.id (codes "budget")) rows) (find_fine rows fine e)
     go false e = subst HasBudgetRow (sym (find_missing (codes "budget") (more_values DefaultValue (codes "1000000" ∷ [])) _ rows e)) default_row
 
+-- the default of `--explain` is no budget
+explained_fine : (rows : List Row) → AreFine rows → AreFine (with_default rows (filled explained))
+explained_fine rows fine =
+    elim (has_row (codes "explain") rows) as (λ b. AreFine (cond b rows (with_values (codes "explain") AsWritten DefaultValue (codes "false" ∷ []) rows))) [
+      | true ↦ fine
+      | false ↦ at_row_fine (codes "explain") (more_values DefaultValue (codes "false" ∷ [])) _ rows (more_fine DefaultValue (codes "false" ∷ [])) ((λ same. cc), tt) fine
+    ]
+
 -- no other option has a default
 no_default : (b : Bool) (rows : List Row) → cond b rows rows ≡ rows
 no_default true rows = refl
@@ -173,9 +186,10 @@ no_default false rows = refl
 
 finished_budget : (h : Held) → AreFine (settled rules h).rows → HasBudget (finished rules h)
 finished_budget h fine =
-    let first = with_default (settled rules h).rows (filled budget) in
+    let start = with_default (settled rules h).rows (filled explained) in
+    let first = with_default start (filled budget) in
     let second = with_default first (filled context) in
-    subst HasBudget (sym (no_default (has_row (codes "help") second) second ∙ no_default (has_row (codes "ctx") first) first)) (with_budget (settled rules h).rows fine)
+    subst HasBudget (sym (no_default (has_row (codes "help") second) second ∙ no_default (has_row (codes "ctx") first) first)) (with_budget start (explained_fine (settled rules h).rows fine))
 
 -- the options of `hex`, after a parse of its words with no fault
 hex_budget : (words : List Text) → level_fault hex_built [] nothing_held words false [] ≡ [] → HasBudget (rows_after rules [] words)
@@ -223,7 +237,7 @@ entered_budget (Some p) e =
         (λ words e is. absurd (other_name (codes "asm") refl is)),
         (
           (λ words e is. absurd (other_name (codes "disasm") refl is)),
-          ((λ words e is. absurd (other_name (codes "run") refl is)), tt),
+          ((λ words e is. absurd (other_name (codes "run") refl is)), ((λ words e is. absurd (other_name (codes "explain") refl is)), tt)),
         ),
       ),
     ) e

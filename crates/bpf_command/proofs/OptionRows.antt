@@ -1,6 +1,8 @@
 -- An option's values among the rows that a parse found are those that the matches' getters give.
-use Rattle.std.proofs.Common.{◌≡◌, ◌≤◌, ◌∙◌, List, ℕ, Option, Some, None, Result, Ok, Err, codes, refl, arith, subst}
-use Rattle.std.specs.Prelude.{IfSome, IsSomeAnd}
+use Rattle.std.proofs.Common.{◌≡◌, ◌≤◌, ◌∙◌, List, ℕ, Option, Some, None, Result, Ok, Err, codes, refl, arith, subst, ap}
+use Rattle.std.specs.Prelude.{IfSome, IsSomeAnd, option_and_then}
+use Rattle.bpf_explain.specs.Code.{code_of}
+use Rattle.bpf_explain.specs.declared.code.Code.{Code}
 use Rattle.bpf_command.specs.declared.command.TheConstants.{MAX_BUDGET}
 use Rattle.std.specs.Str.Parse.{ParsesUnsigned}
 use Rattle.clap.specs.Matches.{ReadsOne}
@@ -50,5 +52,10 @@ limited rows None h = tt
 limited rows (Some n) h = budget_limited (one_of (codes "budget") rows) n h.0
 
 -- an option was given where it has an entry that no default made
+-- the code that a text among the rows spells
+pub code_in_rows : (f : Found) (c : Option Code) (given : Option Text) → given ≡ first_value f (codes "code") → c ≡ option_and_then code_of given
+    → c ≡ option_and_then code_of (first_of (codes "code") (rows_of f))
+code_in_rows f c given found is = is ∙ ap (λ (t : Option Text). option_and_then code_of t) (found ∙ first_value-rows f (codes "code"))
+
 pub given_in_rows : (f : Found) (id : Text) → is_present f id ≡ is_given id (rows_of f)
 given_in_rows = present_row

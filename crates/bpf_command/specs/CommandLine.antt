@@ -22,21 +22,35 @@ budget = record (new_rule (codes "budget")) {
 abbrev pub context : Rule
 context = record (new_rule (codes "ctx")) { long = Some (codes "ctx"); value_names = 1 }
 
+-- `--explain`
+abbrev pub explained : Rule
+explained = record (new_rule (codes "explain")) {
+  long = Some (codes "explain");
+  action = Some SetTrue;
+}
+
 abbrev pub hex : App
-hex = with_rule (with_rule (new_app (codes "hex")) budget) context
+hex = with_rule (with_rule (with_rule (new_app (codes "hex")) explained) budget) context
 
 abbrev pub asm : App
-asm = new_app (codes "asm")
+asm = with_rule (new_app (codes "asm")) explained
 
 abbrev pub disasm : App
-disasm = new_app (codes "disasm")
+disasm = with_rule (new_app (codes "disasm")) explained
 
 -- `--maps`
 abbrev pub maps : Rule
 maps = record (new_rule (codes "maps")) { long = Some (codes "maps"); action = Some SetTrue }
 
 abbrev pub run : App
-run = with_rule (new_app (codes "run")) maps
+run = with_rule (with_rule (new_app (codes "run")) explained) maps
+
+-- the code that `explain` is asked for
+abbrev pub code : Rule
+code = record (new_rule (codes "code")) { value_names = 1; required = true }
+
+abbrev pub explain : App
+explain = with_rule (new_app (codes "explain")) code
 
 -- the program, before its commands are added
 abbrev pub bare : App
@@ -49,17 +63,26 @@ bare = record {
   subs = [];
 }
 
--- the three commands for one program, and `ebpf run` for a run file, with `--help` and `--version`
+-- the three commands for one program
 abbrev pub one_program : App
 one_program = with_subcommand (with_subcommand (with_subcommand bare hex.top) asm.top) disasm.top
 
-abbrev pub ebpf : App
-ebpf = with_subcommand one_program run.top
+-- and `ebpf run` for a run file
+abbrev pub working : App
+working = with_subcommand one_program run.top
 
--- the name of one of the four
-abbrev pub IsCommandName : Text → Type 0
-IsCommandName name = (name ≡ codes "hex") ⊎ ((name ≡ codes "asm") ⊎ ((name ≡ codes "disasm")
+-- and `ebpf explain`, with `--help` and `--version`
+abbrev pub ebpf : App
+ebpf = with_subcommand working explain.top
+
+-- the name of one of those that do work
+abbrev pub IsWorkName : Text → Type 0
+IsWorkName name = (name ≡ codes "hex") ⊎ ((name ≡ codes "asm") ⊎ ((name ≡ codes "disasm")
     ⊎ (name ≡ codes "run")))
+
+-- the name of one of the five
+abbrev pub IsCommandName : Text → Type 0
+IsCommandName name = (name ≡ codes "explain") ⊎ IsWorkName name
 
 -- what is found of `--budget`: a number in the range, and the default where it isn't given
 abbrev pub HasBudget : List Row → Type 0

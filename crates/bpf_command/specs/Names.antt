@@ -1,5 +1,6 @@
 -- The command that words name, or why they name none. Our own choice.
-use Rattle.std.specs.Prelude.{◌≡◌, ◌<◌, ◌≤◌, ℕ, List, Option, Some, None, Ok, IfOk, IsSomeAnd, codes, [], length}
+use Rattle.std.specs.Prelude.{◌≡◌, ◌<◌, ◌≤◌, ℕ, List, Option, Some, None, Ok, IfOk, IsSomeAnd, codes, [], length, option_and_then}
+use Rattle.bpf_explain.specs.Code.{code_of}
 use Rattle.bpf_mem.specs.Limits.{max_context}
 use Rattle.hex.specs.Hex.{decode_of}
 use Rattle.clap.specs.Kinds.{IsAmong}
@@ -8,6 +9,8 @@ use Rattle.clap.specs.Words.{Row, Text, fault_of, first_of, kind_of, subcommand_
 use Rattle.bpf_command.specs.CommandLine.{NamesBudget, ebpf}
 use Rattle.bpf_command.specs.declared.command.Command.{Command}
 use Rattle.bpf_command.specs.declared.command.Command.TheVariants as command
+use Rattle.bpf_command.specs.declared.command.Request.{Request}
+use Rattle.bpf_command.specs.declared.command.Request.TheVariants as request
 use Rattle.bpf_command.specs.declared.command_line.CommandError.{CommandError}
 use Rattle.bpf_command.specs.declared.command_line.CommandError.TheVariants as error
 
@@ -34,10 +37,26 @@ Names (Some found) command.Disasm = found.0 ≡ codes "disasm"
 Names (Some found) (command.Run maps) = (found.0 ≡ codes "run")
     × (maps ≡ is_given (codes "maps") found.1)
 
--- why words name no command: a fault that `clap` finds, or a context that is none
+-- what is asked for: a command, perhaps with `--explain`, or the page of a code
+abbrev pub Asks : Option (Text × List Row) → Request → Type 0
+Asks None _ = ⊥
+Asks (Some found) (request.Perform command explain) = Names (Some found) command
+    × (explain ≡ is_given (codes "explain") found.1)
+Asks (Some found) (request.Page code) = (found.0 ≡ codes "explain")
+    × (option_and_then code_of (first_of (codes "code") found.1) ≡ Some code)
+
+-- why what `clap` finds can't be done: a context that is none, or a code that isn't printed
+abbrev pub RefusesFound : Text × List Row → CommandError → Type 0
+RefusesFound found error.NotHex = (found.0 ≡ codes "hex")
+    × RefusesContext (first_of (codes "ctx") found.1) error.NotHex
+RefusesFound found error.NoCode = (found.0 ≡ codes "explain")
+    × (option_and_then code_of (first_of (codes "code") found.1) ≡ None)
+RefusesFound found error.OutOfMemory = Unit {0}
+RefusesFound found (error.Shown shown) = ⊥
+
+-- why words ask for nothing that can be done: a fault that `clap` finds, or what it finds
 abbrev pub Refuses : List Text → CommandError → Type 0
 Refuses words (error.Shown shown) = IsAmong (kind_of shown) (fault_of ebpf words)
-Refuses words error.NotHex = (fault_of ebpf words ≡ [])
-    × IsSomeAnd (subcommand_of ebpf words) (λ found. (found.0 ≡ codes "hex")
-    × RefusesContext (first_of (codes "ctx") found.1) error.NotHex)
 Refuses words error.OutOfMemory = Unit {0}
+Refuses words e = (fault_of ebpf words ≡ [])
+    × IsSomeAnd (subcommand_of ebpf words) (λ found. RefusesFound found e)

@@ -4,6 +4,8 @@ ghost use Rattle.std.specs.Prelude.{◌≤◌, vec_len};
 ghost use Rattle.bpf_mem.specs.Limits.{max_context};
 ghost use Rattle.bpf_command.specs.declared.command.TheConstants.{MAX_BUDGET};
 
+use bpf_explain::Code;
+
 /// The greatest number of steps that may be asked for.
 pub const MAX_BUDGET: u64 = 1_000_000_000;
 
@@ -28,4 +30,14 @@ pub enum Command {
     Disasm,
     /// Run the jobs of a run file, and print the maps afterwards where that is asked for.
     Run { maps: bool },
+}
+
+/// What a command line asks for.
+#[derive(PartialEq, Eq, Debug, Drop)]
+pub enum Request {
+    /// To do a command, and to explain its refusal or fault beside the answer where that is asked
+    /// for. What the command answers doesn't depend on it.
+    Perform { command: Command, explain: bool },
+    /// To print the page of a code.
+    Page(Code),
 }

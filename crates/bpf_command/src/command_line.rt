@@ -1,14 +1,16 @@
 //! The command that words name: what `clap` finds in them, and what its options stand for.
 
-ghost use Rattle.std.specs.Prelude.{◌≡◌, ◌≤◌, ◌⊎◌, [], codes, IfErr, IfOk, IfSome, IsSomeAnd, List, map, OnOk, Some, ℕ};
+ghost use Rattle.std.specs.Prelude.{◌≡◌, ◌≤◌, ◌⊎◌, [], codes, IfErr, IfOk, IfSome, IsSomeAnd, List, map, OnOk, option_and_then, Some, ℕ};
+ghost use Rattle.bpf_explain.specs.Code.{code_of};
 ghost use Rattle.clap.specs.Kinds.{FailsBy};
 ghost use Rattle.clap.specs.Takes.{is_given};
 ghost use Rattle.clap.specs.Words.{fault_of, first_of, first_value, found_of, rows_of, subcommand_name_of, subcommand_of, subcommand_rows_of};
-ghost use Rattle.bpf_command.specs.CommandLine.{ebpf, HasBudget, IsCommandName, NamesBudget};
-ghost use Rattle.bpf_command.specs.Names.{IsContext, Names, Refuses, RefusesContext};
+ghost use Rattle.bpf_command.specs.CommandLine.{ebpf, HasBudget, IsCommandName, IsWorkName, NamesBudget};
+ghost use Rattle.bpf_command.specs.Names.{Asks, IsContext, Names, Refuses, RefusesContext, RefusesFound};
 
-use crate::command::{Command, MAX_BUDGET, RunOptions};
+use crate::command::{Command, MAX_BUDGET, Request, RunOptions};
 use crate::options::ebpf_command;
+use bpf_explain::{Code, code_named};
 use bpf_mem::context::MAX_CONTEXT;
 use clap::ArgMatches;
 use clap::error::ErrorKind;
@@ -24,6 +26,8 @@ pub enum CommandError {
     Shown(clap::Error),
     /// The context isn't pairs of hex digits, or has too many bytes.
     NotHex,
+    /// The page is asked for of a code that the program doesn't print.
+    NoCode,
     OutOfMemory,
 }
 
@@ -99,16 +103,16 @@ fn hex_of(alloc: Global, options: &ArgMatches) -> Result<Command, CommandError>
     Ok(Command::Hex(RunOptions { budget, context }))
 }
 
-/// Whether `--maps` is given. A default's value has a source of its own.
+/// Whether this option is given. A default's value has a source of its own.
 #[tactic(auto, using(crate::proofs::OptionRows::given_in_rows))]
-fn has_maps(options: &ArgMatches) -> bool
-    ensures { result ≡ is_given (codes "maps") (rows_of (found_of options.now)) }
+fn is_given(options: &ArgMatches, id: &str) -> bool
+    ensures { result ≡ is_given id.now (rows_of (found_of options.now)) }
 {
-    options.contains_id("maps") && options.value_source("maps") != Some(ValueSource::DefaultValue)
+    options.contains_id(id) && options.value_source(id) != Some(ValueSource::DefaultValue)
 }
 
 fn named(alloc: Global, name: &str, options: &ArgMatches) -> Result<Command, CommandError>
-    requires known { IsCommandName name.now }
+    requires known { IsWorkName name.now }
     requires checked { name.now ≡ codes "hex" → HasBudget (rows_of (found_of options.now)) }
     ensures named { IfOk result (Names (Some (name.now, rows_of (found_of options.now)))) }
     ensures refused { IfErr result (λ e. (e ≡ CommandError.OutOfMemory)
@@ -120,15 +124,43 @@ fn named(alloc: Global, name: &str, options: &ArgMatches) -> Result<Command, Com
         "asm" => Ok(Command::Asm),
         "disasm" => Ok(Command::Disasm),
         _ => Ok(Command::Run {
-            maps: has_maps(options),
+            maps: is_given(options, "maps"),
         }),
     }
 }
 
-/// The command that the words name, of which the first is the program's name.
-pub fn command_of<'a, S: AsStr>(alloc: Global, words: &'a [S]) -> Result<Command, CommandError>
+/// The code that `explain` is asked for.
+fn asked_code(options: &ArgMatches) -> Option<Code>
+    ensures { result ≡ option_and_then code_of
+        (first_of (codes "code") (rows_of (found_of options.now))) }
+{
+    match options.get_str("code") {
+        Some(text) => code_named(text),
+        None => None,
+    }
+}
+
+fn requested(alloc: Global, name: &str, options: &ArgMatches) -> Result<Request, CommandError>
+    requires known { IsCommandName name.now }
+    requires checked { name.now ≡ codes "hex" → HasBudget (rows_of (found_of options.now)) }
+    ensures asked { IfOk result (Asks (Some (name.now, rows_of (found_of options.now)))) }
+    ensures refused { IfErr result (RefusesFound (name.now, rows_of (found_of options.now))) }
+{
+    if name == "explain" {
+        return match asked_code(options) {
+            Some(code) => Ok(Request::Page(code)),
+            None => Err(CommandError::NoCode),
+        };
+    }
+    let command = named(alloc, name, options)?;
+    let explain = is_given(options, "explain");
+    Ok(Request::Perform { command, explain })
+}
+
+/// What the words ask for, of which the first is the program's name.
+pub fn request_of<'a, S: AsStr>(alloc: Global, words: &'a [S]) -> Result<Request, CommandError>
     ensures accepted { OnOk result (fault_of ebpf (map S.text words.entry.now) ≡ []) }
-    ensures named { IfOk result (Names (subcommand_of ebpf (map S.text words.entry.now))) }
+    ensures asked { IfOk result (Asks (subcommand_of ebpf (map S.text words.entry.now))) }
     ensures refused { IfErr result (Refuses (map S.text words.entry.now)) }
 {
     let matches = match matches_of(alloc, words) {
@@ -141,5 +173,5 @@ pub fn command_of<'a, S: AsStr>(alloc: Global, words: &'a [S]) -> Result<Command
     let Some((name, options)) = matches.subcommand() else {
         unreachable!();
     };
-    named(alloc, name, options)
+    requested(alloc, name, options)
 }

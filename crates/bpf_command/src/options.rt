@@ -3,7 +3,7 @@
 ghost use Rattle.std.specs.Prelude.{◌≡◌, false, IfOk};
 ghost use Rattle.clap.specs.Words.{app_of, rule_of, shape_of};
 ghost use Rattle.clap.specs.declared.builder.command.Command.TheViews.{out-Command as fields_of};
-ghost use Rattle.bpf_command.specs.CommandLine.{asm, bare, budget, context, disasm, ebpf, hex, maps, one_program, run};
+ghost use Rattle.bpf_command.specs.CommandLine.{asm, bare, budget, code, context, disasm, ebpf, explain, explained, hex, maps, one_program, run, working};
 
 use crate::command::MAX_BUDGET;
 use clap::{Arg, ArgAction, Command, value_parser};
@@ -37,6 +37,16 @@ The run file is read from standard input, as in
   $ printf 'ebpf-run 1\\nprog a\\nr0 = 5\\nexit\\nend\\njob 0 a\\n' | ebpf run
   job 0 cpu 0 r0=5";
 
+const EXPLAIN_NOTES: &str = "\
+Nothing is read. The code is what stands behind 'refused' or 'fault', as in
+  $ ebpf explain E1
+  E1: a program of no instructions.
+
+      $ printf '' | ebpf hex
+      refused E1
+
+  A program has 1 to 65,536 words. In a run file: lines of assembly before `end`.";
+
 const EXIT_STATUS: &str = "\
 All input is standard input, read whole first, and all answers go to standard output.
 
@@ -67,6 +77,16 @@ fn context_option<'a>(alloc: Global) -> Arg<'a>
     )
 }
 
+fn explain_option<'a>(alloc: Global) -> Arg<'a>
+    ensures rule { rule_of result ≡ explained }
+    ensures own { result.global ≡ false }
+{
+    Arg::new(alloc, "explain")
+        .long("explain")
+        .action(ArgAction::SetTrue)
+        .help("Explains a refusal or a fault on standard error")
+}
+
 fn hex_command<'a>(alloc: Global) -> Result<Command<'a>, AllocError>
     ensures shape { IfOk result (λ c. shape_of c ≡ hex.top) }
     ensures own { IfOk result (λ c. (fields_of c).has_globals ≡ false) }
@@ -74,26 +94,29 @@ fn hex_command<'a>(alloc: Global) -> Result<Command<'a>, AllocError>
     Command::new(alloc, "hex")
         .about("Runs a program given as hex digits, over no maps")
         .after_help(HEX_NOTES)
+        .arg(explain_option(alloc))?
         .arg(budget_option(alloc))?
         .arg(context_option(alloc))
 }
 
-fn asm_command<'a>(alloc: Global) -> Command<'a>
-    ensures shape { shape_of result ≡ asm.top }
-    ensures own { (fields_of result).has_globals ≡ false }
+fn asm_command<'a>(alloc: Global) -> Result<Command<'a>, AllocError>
+    ensures shape { IfOk result (λ c. shape_of c ≡ asm.top) }
+    ensures own { IfOk result (λ c. (fields_of c).has_globals ≡ false) }
 {
     Command::new(alloc, "asm")
         .about("Turns assembly text into words, one line of 16 hex digits a word")
         .after_help(ASM_NOTES)
+        .arg(explain_option(alloc))
 }
 
-fn disasm_command<'a>(alloc: Global) -> Command<'a>
-    ensures shape { shape_of result ≡ disasm.top }
-    ensures own { (fields_of result).has_globals ≡ false }
+fn disasm_command<'a>(alloc: Global) -> Result<Command<'a>, AllocError>
+    ensures shape { IfOk result (λ c. shape_of c ≡ disasm.top) }
+    ensures own { IfOk result (λ c. (fields_of c).has_globals ≡ false) }
 {
     Command::new(alloc, "disasm")
         .about("Turns words given as hex digits into assembly text")
         .after_help(DISASM_NOTES)
+        .arg(explain_option(alloc))
 }
 
 fn maps_option<'a>(alloc: Global) -> Arg<'a>
@@ -113,7 +136,28 @@ fn run_command<'a>(alloc: Global) -> Result<Command<'a>, AllocError>
     Command::new(alloc, "run")
         .about("Runs the jobs of a run file, over its maps")
         .after_help(RUN_NOTES)
+        .arg(explain_option(alloc))?
         .arg(maps_option(alloc))
+}
+
+fn code_argument<'a>(alloc: Global) -> Arg<'a>
+    ensures rule { rule_of result ≡ code }
+    ensures own { result.global ≡ false }
+{
+    Arg::new(alloc, "code")
+        .value_name("CODE")
+        .required(true)
+        .help("The code, a letter and a number")
+}
+
+fn explain_command<'a>(alloc: Global) -> Result<Command<'a>, AllocError>
+    ensures shape { IfOk result (λ c. shape_of c ≡ explain.top) }
+    ensures own { IfOk result (λ c. (fields_of c).has_globals ≡ false) }
+{
+    Command::new(alloc, "explain")
+        .about("Prints what a code means, an input that gives it, and what to do")
+        .after_help(EXPLAIN_NOTES)
+        .arg(code_argument(alloc))
 }
 
 /// The program itself, before its commands are added.
@@ -133,14 +177,21 @@ fn program_commands<'a>(alloc: Global) -> Result<Command<'a>, AllocError>
     ensures app { IfOk result (λ c. app_of c ≡ one_program) }
 {
     let with_hex = bare_command(alloc).subcommand(hex_command(alloc)?)?;
-    let with_asm = with_hex.subcommand(asm_command(alloc))?;
-    with_asm.subcommand(disasm_command(alloc))
+    let with_asm = with_hex.subcommand(asm_command(alloc)?)?;
+    with_asm.subcommand(disasm_command(alloc)?)
+}
+
+/// The commands that do work.
+fn working_commands<'a>(alloc: Global) -> Result<Command<'a>, AllocError>
+    ensures app { IfOk result (λ c. app_of c ≡ working) }
+{
+    program_commands(alloc)?.subcommand(run_command(alloc)?)
 }
 
 /// The command line of the whole program.
 pub fn ebpf_command<'a>(alloc: Global) -> Result<Command<'a>, AllocError>
     ensures app { IfOk result (λ c. app_of c ≡ ebpf) }
 {
-    let whole = program_commands(alloc)?.subcommand(run_command(alloc)?)?;
+    let whole = working_commands(alloc)?.subcommand(explain_command(alloc)?)?;
     Ok(whole)
 }

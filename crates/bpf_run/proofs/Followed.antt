@@ -3,49 +3,63 @@ use Rattle.std.proofs.Common.{◌≡◌, ◌⊎◌, List, [], Result, Ok, Err, i
 use Rattle.std.specs.Prelude.{IfErr, IfOk, IsOkAnd, OnOk}
 use Rattle.clap.specs.Words.{Text, fault_of, subcommand_of}
 use Rattle.bpf_command.specs.CommandLine.{ebpf}
-use Rattle.bpf_command.specs.Names.{Names, Refuses}
-use Rattle.bpf_command.specs.declared.command.Command.{Command}
+use Rattle.bpf_command.specs.Names.{Asks, Refuses}
+use Rattle.bpf_command.specs.declared.command.Request.{Request}
 use Rattle.bpf_command.specs.declared.command_line.CommandError.{CommandError}
 use Rattle.bpf_command.specs.declared.command_line.CommandError.TheVariants as error
-use Rattle.bpf_run.specs.Program.{IfExit, IfShown, IsNamed}
+use Rattle.bpf_run.specs.Program.{IfExit, IfNoCode, IfShown, IsAsked}
 use Rattle.bpf_run.specs.declared.program.Ending.{Ending}
 use Rattle.bpf_run.specs.declared.program.Ending.TheVariants as ending
 use Rattle.bpf_run.specs.declared.reply.Status.{Status}
 
--- the command is named and performed, or the refusal of the words is printed
-abbrev Exits : List Text → Ending → (Command → Status → Type 0) → Type 0 → (CommandError → Status → Type 0) → Type 0
-Exits words end P U R = IfExit end (λ status. ((command : Command) × IsNamed words command × P command status)
+-- what is asked for is done, or the refusal of the words is printed
+abbrev Exits : List Text → Ending → (Request → Status → Type 0) → Type 0 → (CommandError → Status → Type 0) → Type 0
+Exits words end P U R = IfExit end (λ status. ((request : Request) × IsAsked words request × P request status)
     ⊎ ((e : CommandError) × Refuses words e × U × R e status))
 
-exits : (words : List Text) (asked : Result Command CommandError) (end : Ending)
-    (P : Command → Status → Type 0) (U : Type 0) (R : CommandError → Status → Type 0)
-    → OnOk asked (fault_of ebpf words ≡ []) → IfOk asked (Names (subcommand_of ebpf words)) → IfErr asked (Refuses words)
-    → IfExit end (λ status. IfOk asked (λ command. P command status)) → IfExit end (λ status. IfErr asked (λ e. U × R e status))
+exits : (words : List Text) (asked : Result Request CommandError) (end : Ending)
+    (P : Request → Status → Type 0) (U : Type 0) (R : CommandError → Status → Type 0)
+    → OnOk asked (fault_of ebpf words ≡ []) → IfOk asked (Asks (subcommand_of ebpf words)) → IfErr asked (Refuses words)
+    → IfExit end (λ status. IfOk asked (λ request. P request status)) → IfExit end (λ status. IfErr asked (λ e. U × R e status))
     → Exits words end P U R
-exits words (Ok command) (ending.Exit status) P U R accepted named refused performed printed = inl (command, (accepted, named), performed)
+exits words (Ok request) (ending.Exit status) P U R accepted named refused performed printed = inl (request, (accepted, named), performed)
+exits words (Ok request) (ending.Explained language done) P U R accepted named refused performed printed = inl (request, (accepted, named), performed)
+exits words (Err e) (ending.Explained language done) P U R accepted named refused performed printed = inr (e, refused, printed.0, printed.1)
 exits words (Err e) (ending.Exit status) P U R accepted named refused performed printed = inr (e, refused, printed.0, printed.1)
 exits words asked (ending.Shown e) P U R accepted named refused performed printed = tt
 exits words asked ending.NotText P U R accepted named refused performed printed = tt
+exits words asked ending.NoCode P U R accepted named refused performed printed = tt
 
-shows : (words : List Text) (asked : Result Command CommandError) (end : Ending) (U V : Type 0) → IfErr asked (Refuses words)
+shows : (words : List Text) (asked : Result Request CommandError) (end : Ending) (U V : Type 0) → IfErr asked (Refuses words)
     → IfShown end (λ e. (asked ≡ Err (error.Shown e)) × U × V) → IfShown end (λ e. Refuses words (error.Shown e) × U × V)
 shows words asked (ending.Exit status) U V refused shown = tt
-shows words asked (ending.Shown e) U V refused shown = (subst (λ (a : Result Command CommandError). IfErr a (Refuses words)) shown.0 refused, shown.1, shown.2)
+shows words asked (ending.Shown e) U V refused shown = (subst (λ (a : Result Request CommandError). IfErr a (Refuses words)) shown.0 refused, shown.1, shown.2)
 shows words asked ending.NotText U V refused shown = tt
+shows words asked (ending.Explained language done) U V refused shown = tt
+shows words asked ending.NoCode U V refused shown = tt
+
+lacks : (words : List Text) (asked : Result Request CommandError) (end : Ending) (U V : Type 0) → IfErr asked (Refuses words)
+    → IfNoCode end ((asked ≡ Err error.NoCode) × U × V) → IfNoCode end (Refuses words error.NoCode × U × V)
+lacks words asked (ending.Exit status) U V refused lacking = tt
+lacks words asked (ending.Explained language done) U V refused lacking = tt
+lacks words asked (ending.Shown e) U V refused lacking = tt
+lacks words asked ending.NotText U V refused lacking = tt
+lacks words asked ending.NoCode U V refused lacking =
+    (subst (λ (a : Result Request CommandError). IfErr a (Refuses words)) lacking.0 refused, lacking.1, lacking.2)
 
 -- the words are the texts of some values, and `asked` is what the command line answers to them
 module _ (X A E : Type 0) (text : X → Text) (items_of : A → List X) (words : Result A E) (v : A) (is : words ≡ Ok v)
-    (given : List X) (same : given ≡ items_of v) (asked : Result Command CommandError) (end : Ending) where
-  pub followed : (P : Command → Status → Type 0) (U : Type 0) (R : CommandError → Status → Type 0)
-      → OnOk asked (fault_of ebpf (map text given) ≡ []) → IfOk asked (Names (subcommand_of ebpf (map text given)))
-      → IfErr asked (Refuses (map text given)) → IfExit end (λ status. IfOk asked (λ command. P command status))
+    (given : List X) (same : given ≡ items_of v) (asked : Result Request CommandError) (end : Ending) where
+  pub followed : (P : Request → Status → Type 0) (U : Type 0) (R : CommandError → Status → Type 0)
+      → OnOk asked (fault_of ebpf (map text given) ≡ []) → IfOk asked (Asks (subcommand_of ebpf (map text given)))
+      → IfErr asked (Refuses (map text given)) → IfExit end (λ status. IfOk asked (λ request. P request status))
       → IfExit end (λ status. IfErr asked (λ e. U × R e status))
-      → IfExit end (λ status. IfOk words (λ w. ((command : Command) × IsNamed (map text (items_of w)) command × P command status)
+      → IfExit end (λ status. IfOk words (λ w. ((request : Request) × IsAsked (map text (items_of w)) request × P request status)
       ⊎ ((e : CommandError) × Refuses (map text (items_of w)) e × U × R e status)))
   followed P U R accepted named refused performed printed =
       let known : Exits (map text (items_of v)) end P U R = subst (λ (xs : List X). Exits (map text xs) end P U R) same
       (exits (map text given) asked end P U R accepted named refused performed printed) in
-      subst (λ (w : Result A E). IfExit end (λ status. IfOk w (λ w. ((command : Command) × IsNamed (map text (items_of w)) command × P command status)
+      subst (λ (w : Result A E). IfExit end (λ status. IfOk w (λ w. ((request : Request) × IsAsked (map text (items_of w)) request × P request status)
       ⊎ ((e : CommandError) × Refuses (map text (items_of w)) e × U × R e status)))) (sym is) known
 
   pub shown_of : (U V : Type 0) → IfErr asked (Refuses (map text given)) → IfShown end (λ e. (asked ≡ Err (error.Shown e)) × U × V)
@@ -54,3 +68,10 @@ module _ (X A E : Type 0) (text : X → Text) (items_of : A → List X) (words :
       let known = subst (λ (xs : List X). IfShown end (λ e. Refuses (map text xs) (error.Shown e) × U × V)) same
       (shows (map text given) asked end U V refused shown) in
       subst (λ (w : Result A E). IfShown end (λ e. IsOkAnd w (λ w. Refuses (map text (items_of w)) (error.Shown e)) × U × V)) (sym is) known
+
+  pub lacked : (U V : Type 0) → IfErr asked (Refuses (map text given)) → IfNoCode end ((asked ≡ Err error.NoCode) × U × V)
+      → IfNoCode end (IsOkAnd words (λ w. Refuses (map text (items_of w)) error.NoCode) × U × V)
+  lacked U V refused lacking =
+      let known = subst (λ (xs : List X). IfNoCode end (Refuses (map text xs) error.NoCode × U × V)) same
+      (lacks (map text given) asked end U V refused lacking) in
+      subst (λ (w : Result A E). IfNoCode end (IsOkAnd w (λ w. Refuses (map text (items_of w)) error.NoCode) × U × V)) (sym is) known

@@ -2,6 +2,9 @@
 use Rattle.std.specs.Prelude.{◌≡◌, ℕ, ◌++◌, ◌⊎◌, List, Option, Bool, true, false, codes, string_bytes, take}
 use Rattle.std.specs.Fmt.{decimal}
 use Rattle.std.specs.Io.KnownBytes.{Appends}
+use Rattle.bpf_explain.specs.Page.{page_text}
+use Rattle.bpf_explain.specs.declared.code.Code.{Code}
+use Rattle.bpf_explain.specs.declared.page.Page.{Page}
 use Rattle.bpf_cpu.specs.declared.outcome.Outcome.{Outcome}
 use Rattle.bpf_cpu.specs.declared.outcome.Outcome.TheVariants as outcome
 use Rattle.bpf_run.specs.declared.reply.Reply.{Reply}
@@ -61,3 +64,9 @@ Prints (reply.Jobs text stopped) old new failed answered =
     IsPrinted (string_bytes text) (jobs_status stopped) old new failed answered
 Prints r old new failed answered = IsPrinted (reply_text r) (status_of r) old new failed answered
     ⊎ IsPrinted (codes "refused L9\n") status.Refused old new failed answered
+
+-- the page of a code is written; or a refusal alone, where its text found no memory
+abbrev pub PrintsPage : Code → (old new : Option (List ℕ)) → (failed : Bool) → Status → Type 0
+PrintsPage code old new failed answered = (page : Page) × (page.code ≡ code)
+    × (IsPrinted (page_text page) status.Done old new failed answered
+    ⊎ IsPrinted (codes "refused L9\n") status.Refused old new failed answered)

@@ -4,11 +4,13 @@ use Rattle.clap.specs.Words.{Text, fault_of, subcommand_of}
 use Rattle.clap.specs.declared.error.Error.{Error}
 use Rattle.bpf_text.specs.declared.error.TextError.TheVariants as text_error
 use Rattle.bpf_command.specs.CommandLine.{ebpf}
-use Rattle.bpf_command.specs.Names.{Names}
+use Rattle.bpf_command.specs.Names.{Asks}
 use Rattle.bpf_command.specs.declared.command.Command.{Command}
+use Rattle.bpf_command.specs.declared.command.Request.{Request}
+use Rattle.bpf_command.specs.declared.command.Request.TheVariants as request
 use Rattle.bpf_command.specs.declared.command_line.CommandError.{CommandError}
 use Rattle.bpf_command.specs.declared.command_line.CommandError.TheVariants as command_error
-use Rattle.bpf_run.specs.Answer.{Prints}
+use Rattle.bpf_run.specs.Answer.{Prints, PrintsPage}
 use Rattle.bpf_run.specs.Commands.{IsReply, is_unread}
 use Rattle.bpf_run.specs.declared.program.Ending.{Ending}
 use Rattle.bpf_run.specs.declared.program.Ending.TheVariants as ending
@@ -24,20 +26,31 @@ Performs command input read_failed old new write_failed status = (r : Reply)
     × (read_failed ≡ is_unread r) × IfSome input (λ bytes. IsReply command bytes r)
     × Prints r old new write_failed status
 
--- the words name this command, and `clap` finds no fault in them
-abbrev pub IsNamed : List Text → Command → Type 0
-IsNamed words command = (fault_of ebpf words ≡ []) × Names (subcommand_of ebpf words) command
+-- a command that is asked for is performed, with `--explain` as without it; of a page that is
+-- asked for nothing is read
+abbrev pub Follows : Request → (unread : Type 0) → (input : Option (List ℕ)) → (read_failed : Bool)
+    → (old new : Option (List ℕ)) → (write_failed : Bool) → Status → Type 0
+Follows (request.Perform command explain) unread input read_failed old new write_failed status =
+    Performs command input read_failed old new write_failed status
+Follows (request.Page code) unread input read_failed old new write_failed status =
+    unread × PrintsPage code old new write_failed status
+
+-- the words ask for this, and `clap` finds no fault in them
+abbrev pub IsAsked : List Text → Request → Type 0
+IsAsked words request = (fault_of ebpf words ≡ []) × Asks (subcommand_of ebpf words) request
 
 -- the refusal that is printed where words name no command; what `clap` says is shown and isn't printed as one
 abbrev pub IsPrintedAs : CommandError → Refusal → Type 0
 IsPrintedAs command_error.NotHex r = r ≡ refusal.Text text_error.NotHex
 IsPrintedAs command_error.OutOfMemory r = r ≡ refusal.OutOfMemory
 IsPrintedAs (command_error.Shown _) r = ⊥
+IsPrintedAs command_error.NoCode r = ⊥
 
 -- ---- what is left to do
 
 abbrev pub IfExit : Ending → (Status → Type 0) → Type 0
 IfExit (ending.Exit status) P = P status
+IfExit (ending.Explained language done) P = P done.status
 IfExit _ P = Unit {0}
 
 abbrev pub IfShown : Ending → (Error → Type 0) → Type 0
@@ -47,3 +60,7 @@ IfShown _ P = Unit {0}
 abbrev pub IfNotText : Ending → Type 0 → Type 0
 IfNotText ending.NotText P = P
 IfNotText _ P = Unit {0}
+
+abbrev pub IfNoCode : Ending → Type 0 → Type 0
+IfNoCode ending.NoCode P = P
+IfNoCode _ P = Unit {0}

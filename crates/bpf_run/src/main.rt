@@ -1,6 +1,7 @@
 //! The program `ebpf`: reads its words, does what they name, and nothing more.
 #![tactic(auto)]
 
+mod explaining;
 pub mod input;
 pub mod laws;
 pub mod listing;
@@ -29,7 +30,7 @@ fn main(rt: HostRuntime) -> ExitCode {
     let mut source = Recorder::new(rt.stdin());
     let mut sink = Recorder::new(rt.stdout());
     let ending = program(rt.alloc(), words(&rt), &mut source, &mut sink);
-    ExitCode::from(end(&rt, ending))
+    ExitCode::from(end(&rt, rt.alloc(), ending))
 }
 
 #[cfg(test)]

@@ -2,7 +2,7 @@
 
 ghost use Rattle.std.specs.Prelude.{◌≡◌, ◌≤◌, ◌≢◌, ◌+◌, ◌⊎◌, codes, false, IfSome, List, length, ℕ};
 ghost use Rattle.std.specs.Io.KnownBytes.{Consumes};
-ghost use Rattle.bpf_run.specs.Answer.{Prints, IsPrinted, status_of, reply_text};
+ghost use Rattle.bpf_run.specs.Answer.{Prints, PrintsPage, IsPrinted, status_of, reply_text};
 ghost use Rattle.bpf_run.specs.Commands.{IsReply, is_unread};
 ghost use Rattle.bpf_run.specs.Program.{Performs};
 ghost use Rattle.bpf_run.specs.declared.reply.Reply.{Reply};
@@ -14,7 +14,17 @@ use crate::refusal::Refusal;
 use crate::reply::{Reply, Status};
 use crate::stream::{Sink, Source};
 use bpf_command::Command;
+use bpf_explain::{Code, page_of};
 use std::alloc::Global;
+
+/// What a command came to, with what it was asked of.
+#[derive(Drop)]
+pub struct Performed {
+    pub status: Status,
+    pub reply: Reply,
+    /// What was read; nothing where that failed.
+    pub input: Vec<u8>,
+}
 
 fn write_text<W: Sink>(sink: &mut W, text: &str, status: Status) -> Status
     requires { W.has_failed sink.old ≡ false }
@@ -55,6 +65,19 @@ pub fn answer<W: Sink>(alloc: Global, reply: &Reply, sink: &mut W) -> Status
     }
 }
 
+/// Prints the page of a code. Its whole text is made before its first byte is written.
+pub fn print_page<W: Sink>(alloc: Global, code: Code, sink: &mut W) -> Status
+    requires { W.has_failed sink.old ≡ false }
+    ensures { PrintsPage code (W.contents sink.old) (W.contents sink.new)
+        (W.has_failed sink.new) result }
+{
+    let page = page_of(code);
+    let Ok(text) = format!(in alloc; "{page}") else {
+        return write_text(sink, "refused L9\n", Status::Refused);
+    };
+    write_text(sink, text.as_str(), Status::Done)
+}
+
 fn reply_to(alloc: Global, command: Command, input: &[u8]) -> Reply
     requires { length input.now ≤ MAX_INPUT }
     ensures reply { IsReply command input.now result }
@@ -67,19 +90,22 @@ fn reply_to(alloc: Global, command: Command, input: &[u8]) -> Reply
     }
 }
 
-/// What the command replies to all that the source has left.
-fn read_and_reply<R: Source>(alloc: Global, command: Command, source: &mut R) -> Reply
+/// All that the source has left, and what the command replies to it.
+fn read_and_reply<R: Source>(alloc: Global, command: Command, source: &mut R) -> (Vec<u8>, Reply)
     requires { R.has_failed source.old ≡ false }
-    ensures reply { IfSome (R.remaining source.old) (λ input. IsReply command input result) }
-    ensures unread { R.has_failed source.new ≡ is_unread result }
+    ensures reply { IfSome (R.remaining source.old) (λ input. IsReply command input result.1) }
+    ensures unread { R.has_failed source.new ≡ is_unread result.1 }
     ensures taken { (bytes : List ℕ)
         × Consumes (R.remaining source.old) (R.remaining source.new) bytes
         × (length bytes ≤ MAX_INPUT + 1) }
     ensures reads { R.reads source.new ≤ R.reads source.old + (MAX_INPUT + 1) }
 {
     match read_whole(alloc, source) {
-        Ok(input) => reply_to(alloc, command, &input),
-        Err(error) => Reply::Refused(Refusal::Input(error)),
+        Ok(input) => {
+            let made = reply_to(alloc, command, &input);
+            (input, made)
+        }
+        Err(error) => (Vec::new(alloc), Reply::Refused(Refusal::Input(error))),
     }
 }
 
@@ -89,16 +115,21 @@ pub fn perform<R: Source, W: Sink>(
     command: Command,
     source: &mut R,
     sink: &mut W,
-) -> Status
+) -> Performed
     requires readable { R.has_failed source.old ≡ false }
     requires writable { W.has_failed sink.old ≡ false }
     ensures replies { Performs command (R.remaining source.old) (R.has_failed source.new)
-        (W.contents sink.old) (W.contents sink.new) (W.has_failed sink.new) result }
+        (W.contents sink.old) (W.contents sink.new) (W.has_failed sink.new) result.status }
     ensures taken { (bytes : List ℕ)
         × Consumes (R.remaining source.old) (R.remaining source.new) bytes
         × (length bytes ≤ MAX_INPUT + 1) }
     ensures reads { R.reads source.new ≤ R.reads source.old + (MAX_INPUT + 1) }
 {
-    let made = read_and_reply(alloc, command, source);
-    answer(alloc, &made, sink)
+    let (input, reply) = read_and_reply(alloc, command, source);
+    let status = answer(alloc, &reply, sink);
+    Performed {
+        status,
+        reply,
+        input,
+    }
 }

@@ -4,17 +4,19 @@ ghost use Rattle.std.specs.Prelude.{◌≡◌, ◌≢◌, ◌≤◌, ◌⊎◌, 
 ghost use Rattle.clap.specs.Words.{kind_of};
 ghost use Rattle.clap.specs.declared.error.kind.ErrorKind.TheVariants as kind;
 ghost use Rattle.bpf_command.specs.Names.{Refuses};
-ghost use Rattle.bpf_command.specs.declared.command.Command.{Command};
+ghost use Rattle.bpf_command.specs.declared.command.Request.{Request};
 ghost use Rattle.bpf_command.specs.declared.command_line.CommandError.{CommandError};
 ghost use Rattle.bpf_run.specs.Answer.{Prints, exit_status};
-ghost use Rattle.bpf_run.specs.Program.{IfExit, IfNotText, IfShown, IsNamed, IsPrintedAs, Performs};
+ghost use Rattle.bpf_run.specs.Program.{Follows, IfExit, IfNoCode, IfNotText, IfShown, IsAsked, IsPrintedAs, Performs};
 ghost use Rattle.bpf_run.specs.declared.refusal.Refusal.{Refusal};
 
-use crate::perform::{answer, perform};
+use crate::explaining::{explain, language_of};
+use crate::perform::{Performed, answer, perform, print_page};
 use crate::refusal::Refusal;
 use crate::reply::{Reply, Status};
 use crate::stream::{Sink, Source};
-use bpf_command::{Command, CommandError, command_of};
+use bpf_advice::Language;
+use bpf_command::{Command, CommandError, Request, request_of};
 use bpf_text::TextError;
 use clap::error;
 use std::alloc::Global;
@@ -26,37 +28,79 @@ use std::io::ErrorKind;
 pub enum Ending {
     /// To exit with this status.
     Exit(Status),
+    /// The same, and to explain what came of the command on standard error.
+    Explained(Language, Performed),
     /// To show what `clap` says: a fault of the words, help or the version.
     Shown(clap::Error),
     /// To say that a word isn't UTF-8.
     NotText,
+    /// To say that the program doesn't print the code that is to be explained.
+    NoCode,
 }
+
+const NO_CODE: &str = "\
+no such code is printed: there are A1 to A6, E1 to E14, F1 to F6, H1, L1 to L10 and S1 to S6
+
+For more information, try 'ebpf explain --help'.";
 
 /// The exit status after a fault of the command line.
 pub const USAGE: u8 = 2;
 
-/// Performs the command, or prints why none is named.
-fn follow<R: Source, W: Sink>(
+/// Performs a command. What it writes and its status don't depend on whether it is explained.
+fn perform_for<R: Source, W: Sink>(
     alloc: Global,
-    asked: Result<Command, CommandError>,
+    command: Command,
+    explain: bool,
     source: &mut R,
     sink: &mut W,
 ) -> Ending
     requires readable { R.has_failed source.old ≡ false }
     requires writable { W.has_failed sink.old ≡ false }
-    ensures performed { IfExit result (λ status. IfOk asked (λ command.
+    ensures performed { IfExit result (λ status.
         Performs command (R.remaining source.old) (R.has_failed source.new)
-        (W.contents sink.old) (W.contents sink.new) (W.has_failed sink.new) status)) }
+        (W.contents sink.old) (W.contents sink.new) (W.has_failed sink.new) status) }
+    ensures shown { IfShown result (λ e. ⊥) }
+    ensures text { IfNotText result ⊥ }
+    ensures code { IfNoCode result ⊥ }
+{
+    let language = language_of(&command);
+    let done = perform(alloc, command, source, sink);
+    if explain {
+        Ending::Explained(language, done)
+    } else {
+        Ending::Exit(done.status)
+    }
+}
+
+/// Does what is asked, or prints why nothing can be done.
+fn follow<R: Source, W: Sink>(
+    alloc: Global,
+    asked: Result<Request, CommandError>,
+    source: &mut R,
+    sink: &mut W,
+) -> Ending
+    requires readable { R.has_failed source.old ≡ false }
+    requires writable { W.has_failed sink.old ≡ false }
+    ensures performed { IfExit result (λ status. IfOk asked (λ request.
+        Follows request (source.new ≡ source.old) (R.remaining source.old)
+        (R.has_failed source.new) (W.contents sink.old) (W.contents sink.new)
+        (W.has_failed sink.new) status)) }
     ensures refused { IfExit result (λ status. IfErr asked (λ e. (source.new ≡ source.old)
         × ((r : Refusal) × IsPrintedAs e r × Prints (Reply.Refused r)
         (W.contents sink.old) (W.contents sink.new) (W.has_failed sink.new) status))) }
     ensures shown { IfShown result (λ e. (asked ≡ Err (CommandError.Shown e))
         × (source.new ≡ source.old) × (sink.new ≡ sink.old)) }
     ensures text { IfNotText result ⊥ }
+    ensures code { IfNoCode result ((asked ≡ Err CommandError.NoCode)
+        × (source.new ≡ source.old) × (sink.new ≡ sink.old)) }
 {
     let refusal = match asked {
-        Ok(command) => return Ending::Exit(perform(alloc, command, source, sink)),
+        Ok(Request::Perform { command, explain }) => {
+            return perform_for(alloc, command, explain, source, sink);
+        }
+        Ok(Request::Page(code)) => return Ending::Exit(print_page(alloc, code, sink)),
         Err(CommandError::Shown(error)) => return Ending::Shown(error),
+        Err(CommandError::NoCode) => return Ending::NoCode,
         Err(CommandError::NotHex) => Refusal::Text(TextError::NotHex),
         Err(CommandError::OutOfMemory) => Refusal::OutOfMemory,
     };
@@ -74,9 +118,10 @@ pub fn program<R: Source, W: Sink>(
     requires readable { R.has_failed source.old ≡ false }
     requires writable { W.has_failed sink.old ≡ false }
     ensures followed { IfExit result (λ status. IfOk words (λ words.
-        ((command : Command) × IsNamed (map string_bytes words.items) command
-        × Performs command (R.remaining source.old) (R.has_failed source.new)
-        (W.contents sink.old) (W.contents sink.new) (W.has_failed sink.new) status)
+        ((request : Request) × IsAsked (map string_bytes words.items) request
+        × Follows request (source.new ≡ source.old) (R.remaining source.old)
+        (R.has_failed source.new) (W.contents sink.old) (W.contents sink.new)
+        (W.has_failed sink.new) status)
         ⊎ ((e : CommandError) × Refuses (map string_bytes words.items) e
         × (source.new ≡ source.old) × ((r : Refusal) × IsPrintedAs e r
         × Prints (Reply.Refused r) (W.contents sink.old) (W.contents sink.new)
@@ -89,9 +134,12 @@ pub fn program<R: Source, W: Sink>(
         × (source.new ≡ source.old) × (sink.new ≡ sink.old)) }
     ensures not_text { IfNotText result (IsErr words
         × (source.new ≡ source.old) × (sink.new ≡ sink.old)) }
+    ensures no_code { IfNoCode result (IsOkAnd words (λ words.
+        Refuses (map string_bytes words.items) CommandError.NoCode)
+        × (source.new ≡ source.old) × (sink.new ≡ sink.old)) }
 {
     match words {
-        Ok(words) => follow(alloc, command_of(alloc, &words), source, sink),
+        Ok(words) => follow(alloc, request_of(alloc, &words), source, sink),
         Err(error) if error.kind() == ErrorKind::OutOfMemory => {
             Ending::Exit(answer(alloc, &Reply::Refused(Refusal::OutOfMemory), sink))
         }
@@ -120,25 +168,39 @@ fn show<P: Print + Eprint>(rt: &P, error: &clap::Error) -> u8
     }
 }
 
+/// Tells a failed write, and gives the exit status.
+fn exit<P: Eprint>(rt: &P, status: Status) -> u8
+    ensures { result ≡ exit_status status }
+{
+    if status == Status::Failed {
+        let _ = eprintln!(rt; "error: the output couldn't be written");
+    }
+    status.code()
+}
+
 /// Does what is left to do, and gives the exit status as a number.
-pub fn end<P: Print + Eprint>(rt: &P, ending: Ending) -> u8
+pub fn end<P: Print + Eprint>(rt: &P, alloc: Global, ending: Ending) -> u8
     ensures exit { IfExit ending (λ status. result ≡ exit_status status) }
     ensures fault { IfShown ending (λ e. kind_of e ≢ kind.DisplayHelp
         → kind_of e ≢ kind.DisplayVersion → result ≡ USAGE) }
     ensures help { IfShown ending (λ e. kind_of e ≡ kind.DisplayHelp → result ≤ 1) }
     ensures version { IfShown ending (λ e. kind_of e ≡ kind.DisplayVersion → result ≤ 1) }
     ensures not_text { IfNotText ending (result ≡ USAGE) }
+    ensures no_code { IfNoCode ending (result ≡ USAGE) }
 {
     match ending {
-        Ending::Exit(status) => {
-            if status == Status::Failed {
-                let _ = eprintln!(rt; "error: the output couldn't be written");
-            }
-            status.code()
+        Ending::Exit(status) => exit(rt, status),
+        Ending::Explained(language, done) => {
+            explain(rt, alloc, language, &done);
+            exit(rt, done.status)
         }
         Ending::Shown(error) => show(rt, &error),
         Ending::NotText => {
             let _ = eprintln!(rt; "error: the command line isn't UTF-8");
+            USAGE
+        }
+        Ending::NoCode => {
+            let _ = eprintln!(rt; "error: {NO_CODE}");
             USAGE
         }
     }

@@ -4,7 +4,8 @@ use crate::input::MAX_INPUT;
 use crate::perform::perform;
 use crate::recorder::Recorder;
 use crate::reply::Status;
-use bpf_command::{Command, CommandError, RunOptions, command_of};
+use bpf_command::{Command, CommandError, Request, RunOptions, request_of};
+use bpf_explain::Code;
 use std::io;
 use std::io::{ErrorKind, Read, Write};
 
@@ -93,7 +94,7 @@ fn performed(
 ) -> Status {
     let mut source = Recorder::new(reader);
     let mut sink = Recorder::new(writer);
-    perform(rt.alloc(), command, &mut source, &mut sink)
+    perform(rt.alloc(), command, &mut source, &mut sink).status
 }
 
 /// Runs `hex` over the words, and says whether it prints this, with this status.
@@ -195,22 +196,43 @@ fn runs_within_the_budget(rt: HostRuntime) {
     assert!(rt; runs(&rt, 2, "r0=5\n", Status::Done));
 }
 
+fn named(rt: &HostRuntime, words: &[&str], wanted: &Command, explained: bool) -> bool {
+    match request_of(rt.alloc(), words) {
+        Ok(Request::Perform { command, explain }) => command == *wanted && explain == explained,
+        _ => false,
+    }
+}
+
 #[test]
 fn names_commands(rt: HostRuntime) {
-    let named = command_of(rt.alloc(), &["ebpf", "asm"]);
-    assert!(rt; matches!(named, Ok(Command::Asm)));
-    let named = command_of(rt.alloc(), &["ebpf", "disasm"]);
-    assert!(rt; matches!(named, Ok(Command::Disasm)));
-    let named = command_of(rt.alloc(), &["ebpf", "hex"]);
-    assert!(rt;
-        matches!(&named, Ok(Command::Hex(options)) if options.budget == 1_000_000 && options.context.is_empty())
-    );
-    let named = command_of(rt.alloc(), &["ebpf", "hex", "--budget=2", "--ctx", "2A2b"]);
-    assert!(rt;
-        matches!(&named, Ok(Command::Hex(options)) if options.budget == 2 && options.context.as_slice() == b"*+".as_slice())
-    );
-    let named = command_of(rt.alloc(), &["ebpf", "hex", "--ctx", "2 2a"]);
-    assert!(rt; matches!(named, Err(CommandError::NotHex)));
-    let named = command_of(rt.alloc(), &["ebpf", "hex", "--budget", "1000000001"]);
-    assert!(rt; matches!(named, Err(CommandError::Shown(_))));
+    assert!(rt; named(&rt, &["ebpf", "asm"], &Command::Asm, false));
+    assert!(rt; named(&rt, &["ebpf", "asm", "--explain"], &Command::Asm, true));
+    assert!(rt; named(&rt, &["ebpf", "disasm"], &Command::Disasm, false));
+    let asked = request_of(rt.alloc(), &["ebpf", "explain", "E9"]);
+    assert!(rt; matches!(asked, Ok(Request::Page(Code::E9))));
+    let asked = request_of(rt.alloc(), &["ebpf", "explain", "E99"]);
+    assert!(rt; matches!(asked, Err(CommandError::NoCode)));
+    let asked = request_of(rt.alloc(), &["ebpf", "hex", "--ctx", "2 2a"]);
+    assert!(rt; matches!(asked, Err(CommandError::NotHex)));
+    let asked = request_of(rt.alloc(), &["ebpf", "hex", "--budget", "1000000001"]);
+    assert!(rt; matches!(asked, Err(CommandError::Shown(_))));
+}
+
+fn has_options(rt: &HostRuntime, words: &[&str], budget: u64, context: &[u8]) -> bool {
+    match request_of(rt.alloc(), words) {
+        Ok(
+            Request::Perform {
+                command: Command::Hex(options),
+                ..
+            },
+        ) => options.budget == budget && options.context.as_slice() == context,
+        _ => false,
+    }
+}
+
+#[test]
+fn names_options_of_hex(rt: HostRuntime) {
+    assert!(rt; has_options(&rt, &["ebpf", "hex"], 1_000_000, b"".as_slice()));
+    let words = ["ebpf", "hex", "--budget=2", "--ctx", "2A2b"];
+    assert!(rt; has_options(&rt, &words, 2, b"*+".as_slice()));
 }

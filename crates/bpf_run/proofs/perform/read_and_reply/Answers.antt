@@ -6,8 +6,8 @@ use Rattle.bpf_run.proofs.perform.read_and_reply.Goals as goal
 
 pub returns-in-Ok-clause-reply : goal.returns-in-Ok-clause-reply
 returns-in-Ok-clause-reply g c =
-    let made = subst (λ (bytes : List ℕ). IsReply c.args.command bytes c.reply_to.result) c.deref.ensures.value c.reply_to.ensures.reply in
-    replied (g.R.Source.remaining c.args.source.now) c.args.command c.in-Ok.input.items c.reply_to.result c.in-Ok.ensures.whole made
+    let made = subst (λ (bytes : List ℕ). IsReply c.args.command bytes c.reply_to-made.result) c.deref.ensures.value c.reply_to-made.ensures.reply in
+    replied (g.R.Source.remaining c.args.source.now) c.args.command c.in-Ok.input.items c.reply_to-made.result c.in-Ok.ensures.whole made
 
 pub returns-in-Err-clause-reply : goal.returns-in-Err-clause-reply
 returns-in-Err-clause-reply g c =

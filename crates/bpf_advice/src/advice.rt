@@ -1,0 +1,79 @@
+//! All that is said beside an answer.
+
+use crate::caret::caret;
+use crate::excerpt::{Language, instruction_text, line_of};
+use crate::finding::{Finding, finding_in};
+use crate::hints::hint_of;
+use bpf_explain::page_of;
+use std::alloc::{AllocError, Global};
+
+/// The line, and below it a caret at this byte, if there is one.
+fn push_line(
+    alloc: Global,
+    text: &mut String,
+    number: usize,
+    line: &str,
+    place: Option<usize>,
+) -> Result<(), AllocError> {
+    let head = format!(in alloc; "  line {number}: ")?;
+    write!(text, "{head}{line}\n")?;
+    let Some(place) = place else {
+        return Ok(());
+    };
+    for _ in 0..head.len() {
+        text.push(' ')?;
+    }
+    for byte in line.as_bytes().iter().take(place) {
+        if *byte == b'\t' {
+            text.push('\t')?;
+        } else if *byte & 0xc0 != 0x80 {
+            text.push(' ')?;
+        }
+    }
+    text.push_str("^\n")
+}
+
+/// What the text has at the finding, and what may be meant.
+fn push_place(
+    alloc: Global,
+    text: &mut String,
+    language: Language,
+    input: &str,
+    finding: &Finding,
+) -> Result<(), AllocError> {
+    if let Some(number) = finding.line
+        && let Some(line) = line_of(input, number)
+    {
+        let place = caret(alloc, finding.code, line.as_bytes())?;
+        push_line(alloc, text, number, line, place)?;
+        if let Some(hint) = hint_of(finding.code, line) {
+            write!(text, "  hint: {hint}\n")?;
+        }
+    }
+    if let Some(pc) = finding.pc
+        && let Some(insn) = instruction_text(alloc, language, input, finding)
+    {
+        write!(text, "  pc {pc}: {}", insn.as_str())?;
+    }
+    Ok(())
+}
+
+/// What there is to say of each refusal and fault in what was printed: the line or the instruction,
+/// what the code means, and what may be meant.
+pub fn advise(
+    alloc: Global,
+    language: Language,
+    input: &str,
+    printed: &str,
+) -> Result<String, AllocError> {
+    let mut text = String::new(alloc);
+    for line in printed.split('\n') {
+        if let Some(finding) = finding_in(line) {
+            let page = page_of(finding.code);
+            write!(text, "{line}: {}\n", page.meaning)?;
+            push_place(alloc, &mut text, language, input, &finding)?;
+            write!(text, "  see: ebpf explain {}\n", finding.code.text())?;
+        }
+    }
+    Ok(text)
+}

@@ -1,0 +1,49 @@
+//! What may be meant, where a line is spelled as LLVM or the kernel spell it.
+
+use bpf_explain::Code;
+
+const MNEMONICS: [&str; 26] = [
+    "mov", "mov32", "add", "add32", "sub", "sub32", "mul", "div", "mod", "or", "and", "xor", "lsh",
+    "rsh", "arsh", "neg", "ldxw", "ldxdw", "ldxh", "ldxb", "stxw", "stxdw", "stw", "stdw", "ja",
+    "jeq",
+];
+
+fn begins_as_mnemonic(line: &str) -> bool {
+    let word = line.trim().split(' ').next().unwrap_or("");
+    MNEMONICS.iter().any(|mnemonic| *mnemonic == word)
+}
+
+/// Hints that a line's spelling gives.
+fn spelling_hint(line: &str) -> Option<&'static str> {
+    if line.contains("//") || line.contains('#') {
+        Some("a comment begins with `;`")
+    } else if begins_as_mnemonic(line) {
+        Some("operations are written as in C: `r0 = 5`, `r0 += r1`, `r0 = *(u32 *)(r1 + 0)`")
+    } else if line.contains('<') && line.contains('>') && line.contains("goto") {
+        Some("a target is a distance or a label alone: leave `<..>` out")
+    } else if line.contains("pc+") || line.contains("pc-") {
+        Some("a jump's distance stands alone: `goto +3`, `goto -3`")
+    } else if line.contains("*)(r") && !line.contains(" + ") && !line.contains(" - ") {
+        Some("an address has an offset: `*(u32 *)(r1 + 0)`")
+    } else if line.contains("*)(r") && line.contains('w') {
+        Some("memory is loaded and stored by `r` registers: `*(u32 *)(r1 + 0) = r2`")
+    } else {
+        None
+    }
+}
+
+/// What may be meant by the line that is refused.
+pub fn hint_of(code: Code, line: &str) -> Option<&'static str> {
+    match code {
+        Code::A1 => spelling_hint(line),
+        Code::A3 if line.contains("call") => {
+            Some(
+                "a helper is called by its number: 1 looks up, 2 updates, 3 deletes, 8 gives the CPU",
+            )
+        }
+        Code::A3 if line.contains("pc") => {
+            Some("a jump's distance stands alone: `goto +3`, `goto -3`")
+        }
+        _ => None,
+    }
+}

@@ -1,0 +1,15 @@
+//! What is said beside an answer: where a refusal or a fault is, and what may be meant.
+//!
+//! The text is for people. It comes of the input and of what was printed, and changes neither.
+#![tactic(auto)]
+
+mod advice;
+mod caret;
+mod excerpt;
+mod finding;
+mod forms;
+mod hints;
+mod token;
+
+pub use advice::advise;
+pub use excerpt::Language;

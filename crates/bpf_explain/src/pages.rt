@@ -1,0 +1,6 @@
+//! The pages, by what the codes are of.
+
+pub mod files;
+pub mod program;
+pub mod running;
+pub mod text;

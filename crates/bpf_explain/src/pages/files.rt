@@ -1,0 +1,188 @@
+//! Codes of input, of run files, and of the shapes of their maps.
+
+use crate::code::Code;
+use crate::page::{Example, Page};
+
+pub const L1: Page = Page {
+    code: Code::L1,
+    meaning: "the first line of the run file isn't `ebpf-run 1`",
+    example: Some(Example {
+        command: "printf 'cpus 2\\n' | ebpf run",
+        printed: "refused line 1 L1",
+    }),
+    advice: "\
+Empty lines and comments may stand before it.",
+};
+
+pub const L2: Page = Page {
+    code: Code::L2,
+    meaning: "a line of the run file has none of its forms, stands out of order, or is one too \
+        many",
+    example: Some(Example {
+        command: "printf 'ebpf-run 1\\nseed 5\\ncpus 2\\n' | ebpf run",
+        printed: "refused line 3 L2",
+    }),
+    advice: "\
+The order is: `ebpf-run 1`, `cpus`, `seed`, maps, programs, jobs; each but the
+first may be missing. Names have at most 32 characters, contexts at most 4,096
+bytes; there are at most 256 programs and 4,096 jobs. docs/RUN-FILES.md has
+every form.",
+};
+
+pub const L3: Page = Page {
+    code: Code::L3,
+    meaning: "a number of the line is out of its range",
+    example: Some(Example {
+        command: "printf 'ebpf-run 1\\nseed 18446744073709551616\\n' | ebpf run",
+        printed: "refused line 2 L3",
+    }),
+    advice: "\
+A seed has 64 bits; a map's sizes and mask and the number of CPUs 32; a budget
+is at most 1,000,000,000.",
+};
+
+pub const L4: Page = Page {
+    code: Code::L4,
+    meaning: "a map or a program of this name was given before",
+    example: Some(Example {
+        command: "printf 'ebpf-run 1\\nprog a hex 9500000000000000\\nprog a hex \
+            9500000000000000\\n' | ebpf run",
+        printed: "refused line 3 L4",
+    }),
+    advice: "\
+A map and a program may have one name.",
+};
+
+pub const L5: Page = Page {
+    code: Code::L5,
+    meaning: "the job's CPU or its program isn't there",
+    example: Some(Example {
+        command: "printf 'ebpf-run 1\\nprog a hex 9500000000000000\\njob 1 a\\n' | ebpf run",
+        printed: "refused line 3 L5",
+    }),
+    advice: "\
+CPUs are numbered from 0; without a line `cpus N` there is one.",
+};
+
+pub const L6: Page = Page {
+    code: Code::L6,
+    meaning: "the program that begins at this line has no `end`",
+    example: Some(Example {
+        command: "printf 'ebpf-run 1\\nprog a\\nexit\\n' | ebpf run",
+        printed: "refused line 2 L6",
+    }),
+    advice: "\
+Behind its assembly a program has a line `end`; one given by `hex` has none, its
+digits stand on its own line.",
+};
+
+pub const L7: Page = Page {
+    code: Code::L7,
+    meaning: "the input couldn't be read to its end",
+    example: Some(Example {
+        command: "ebpf hex < .",
+        printed: "refused L7",
+    }),
+    advice: "\
+Something is wrong with what standard input is: a folder, or a disk that fails.
+A failed read isn't tried again.",
+};
+
+pub const L8: Page = Page {
+    code: Code::L8,
+    meaning: "the input isn't UTF-8",
+    example: Some(Example {
+        command: "printf '\\377' | ebpf hex",
+        printed: "refused L8",
+    }),
+    advice: "\
+Words come as hex digits and not as bytes: `xxd -p` makes digits of a file.",
+};
+
+pub const L9: Page = Page {
+    code: Code::L9,
+    meaning: "no memory for the input, the command line, the CPU or the answer",
+    example: None,
+    advice: "\
+Try again when other programs have ended, or raise the limit (ulimit -v).",
+};
+
+pub const L10: Page = Page {
+    code: Code::L10,
+    meaning: "more than 16,777,216 bytes of input",
+    example: Some(Example {
+        command: "yes | head -c 16777217 | ebpf hex",
+        printed: "refused L10",
+    }),
+    advice: "\
+The longest program has 65,536 words, which are 1,114,112 bytes as lines of hex
+digits.",
+};
+
+pub const S1: Page = Page {
+    code: Code::S1,
+    meaning: "a map's keys have 1 to 64 bytes",
+    example: Some(Example {
+        command: "printf 'ebpf-run 1\\nmap m key 0 value 8 max 1 spare 0\\n' | ebpf run",
+        printed: "refused line 2 S1",
+    }),
+    advice: "\
+To key by more, hash it first; a map of one value has a key of one byte, 0.",
+};
+
+pub const S2: Page = Page {
+    code: Code::S2,
+    meaning: "a map's values have 1 to 256 bytes",
+    example: Some(Example {
+        command: "printf 'ebpf-run 1\\nmap m key 4 value 257 max 1 spare 0\\n' | ebpf run",
+        printed: "refused line 2 S2",
+    }),
+    advice: "\
+Part a longer value over several maps, or over several keys of one.",
+};
+
+pub const S3: Page = Page {
+    code: Code::S3,
+    meaning: "a map has room for 1 to 65,536 keys",
+    example: Some(Example {
+        command: "printf 'ebpf-run 1\\nmap m key 4 value 8 max 0 spare 0\\n' | ebpf run",
+        printed: "refused line 2 S3",
+    }),
+    advice: "\
+`max` is how many keys the map holds at a time.",
+};
+
+pub const S4: Page = Page {
+    code: Code::S4,
+    meaning: "a map has at most 65,536 spare elements",
+    example: Some(Example {
+        command: "printf 'ebpf-run 1\\nmap m key 4 value 8 max 1 spare 65537\\n' | ebpf run",
+        printed: "refused line 2 S4",
+    }),
+    advice: "\
+Spare elements are what values that were replaced or deleted stay in while a
+program may still hold them.",
+};
+
+pub const S5: Page = Page {
+    code: Code::S5,
+    meaning: "there are at most 16 maps",
+    example: Some(Example {
+        command: "(echo 'ebpf-run 1'; seq -f 'map m%g key 4 value 8 max 1 spare 0' 17) | ebpf run",
+        printed: "refused line 18 S5",
+    }),
+    advice: "\
+Two maps of one shape can be one whose key has a byte more that tells them
+apart.",
+};
+
+pub const S6: Page = Page {
+    code: Code::S6,
+    meaning: "there are 1 to 16 CPUs",
+    example: Some(Example {
+        command: "printf 'ebpf-run 1\\ncpus 17\\n' | ebpf run",
+        printed: "refused line 2 S6",
+    }),
+    advice: "\
+One CPU takes as many jobs as wanted, one after the other.",
+};
