@@ -117,6 +117,7 @@ starts t z l xs bs table cpu even new arenas batches = record {
   cpu = cpu;
   even = even;
   room = λ now. absurd (Rattle.hop_map.proofs.Ports.apart (sym now ∙ ap (λ (k : Known). in_run (events_of l.cpu k.seen)) new));
+  legal = subst (λ (k : Known). IsLegal t.about.shape k.seen) (sym new) (as_made t.about.shape, refl);
   limbo = ap (λ (k : Known). length k.limbo) new ∙ limbo_size (length t.about.shape.maps);
   arenas = arenas;
   batches = batches;

@@ -17,6 +17,7 @@ pub mod Offering
 pub mod Verdicts
 pub mod Wholes
 pub mod Settling
+pub mod Spans
 pub mod Ports
 pub mod Dealing
 pub mod Trials

@@ -1,12 +1,12 @@
 -- Ports from call to call.
-use Rattle.std.proofs.Common.{◌≡◌, ◌≢◌, ◌⊎◌, ℕ, zero, suc, ◌+◌, ◌%◌, ◌^◌, ◌<◌, Bool, true, false, List, [], ◌∷◌, ◌++◌, ◌==◌, Option, Some, Result, Ok, Err, OnOk, OnErr, length, get_or, slice_get, set, refl, ap, sym, subst, ◌∙◌, arith, eq-eqb, None}
+use Rattle.std.proofs.Common.{◌≡◌, ◌≢◌, ◌⊎◌, ℕ, zero, suc, ◌+◌, ◌%◌, ◌^◌, ◌<◌, Bool, true, false, List, [], ◌∷◌, ◌++◌, ◌==◌, Option, Some, Result, Ok, Err, OnOk, OnErr, length, get_or, slice_get, IfSome, set, refl, ap, sym, subst, ◌∙◌, arith, eq-eqb, None}
 use Rattle.std.proofs.lemmas.List.{get_or_default, get_or-set_same, get_or-set_other, length-set}
 use Rattle.std.proofs.lemmas.Bool.Decides.{nat_tests}
 use Rattle.atomic_table.specs.Seated.{TableId}
 use Rattle.bpf_shared.specs.declared.sharing.Worn.{Worn}
 use Rattle.bpf_shared.specs.declared.events.Event.{Event}
 use Rattle.bpf_shared.specs.declared.events.Event.TheVariants.{Begin, End, Lookup}
-use Rattle.bpf_shared.specs.History.{events_of, entry}
+use Rattle.bpf_shared.specs.History.{IsLegal, events_of, entry}
 use Rattle.bpf_shared.proofs.Chains.{events_of-append, events_of-own}
 use Rattle.hop_words.specs.declared.known.About.{About}
 use Rattle.hop_words.specs.declared.known.Known.{Known}
@@ -24,6 +24,8 @@ use Rattle.bpf_shared.specs.declared.events.Span.{Span}
 use Rattle.hop_arena.specs.Claiming.{IsArena}
 use Rattle.hop_map.specs.Whole.{Searches, Follows, Rests, Called}
 use Rattle.hop_map.specs.Finding.{Looked}
+use Rattle.bpf_shared.specs.Shape.{IsElementSpan}
+use Rattle.hop_map.proofs.Spans.{last_found_lies}
 use Rattle.hop_map.specs.Port.{AreArenas, arena_at, no_arena, Port, port_of, standing_in, HasNothing, AreBatches, IsPortOf, IsEnding, runs, batches_at, no_batches}
 
 pub apart : true ≡ false → ⊥
@@ -109,12 +111,13 @@ batches_change a l l' n m bs b size others here name t h = record {
 -- ---- ports
 -- a port stays one, where the batches are as they were
 pub moved : (t : Shown) (p : Port) (z : TableId) (l : Known) → IsPortOf t p → z ≡ p.table → l.cpu ≡ p.known.cpu → l.limbo ≡ p.known.limbo
-    → (in_run (events_of l.cpu l.seen) ≡ true → count_of t.about l + 1 < 2 ^ 64) → IsPortOf t (record { table = z; known = l; arenas = p.arenas; batches = p.batches })
-moved t p z l h table cpu limbo room = record {
+    → (in_run (events_of l.cpu l.seen) ≡ true → count_of t.about l + 1 < 2 ^ 64) → IsLegal t.about.shape l.seen → IsPortOf t (record { table = z; known = l; arenas = p.arenas; batches = p.batches })
+moved t p z l h table cpu limbo room legal = record {
   table = table ∙ h.table;
   cpu = subst (λ (c : ℕ). c < t.about.shape.cpus) (sym cpu) h.cpu;
   even = h.even;
   room = room;
+  legal = legal;
   limbo = ap length limbo ∙ h.limbo;
   arenas = h.arenas;
   batches = batches_stay t.about p.known l (length t.about.shape.maps) p.batches limbo h.batches;
@@ -123,9 +126,10 @@ moved t p z l h table cpu limbo room = record {
 pub begins : (t : Shown) (p : Port) (z : TableId) (l : Known) (r : Result (Unit {0}) Worn) → IsPortOf t p → z ≡ p.table → OnOk r (Told t.about p.known Begin l) → OnOk r (count_of t.about p.known + 2 < 2 ^ 64)
     → OnErr r (l ≡ p.known) → IsPortOf t (record { table = z; known = l; arenas = p.arenas; batches = p.batches })
 begins t p z l (Ok u) h table told room same = moved t p z l h table (ap (λ (k : Known). k.cpu) told.after) (ap (λ (k : Known). k.limbo) told.after)
-    (λ now. let n = turned t.about p.known l Begin told.seen (ap (λ (k : Known). k.cpu) told.after) in omega (arith, room))
+    (λ now. let n = turned t.about p.known l Begin told.seen (ap (λ (k : Known). k.cpu) told.after) in omega (arith, room)) told.seen.legal
 begins t p z l (Err e) h table told room same = moved t p z l h table (ap (λ (k : Known). k.cpu) same) (ap (λ (k : Known). k.limbo) same)
     (subst (λ (k : Known). in_run (events_of k.cpu k.seen) ≡ true → count_of t.about k + 1 < 2 ^ 64) (sym same) h.room)
+    (subst (λ (k : Known). IsLegal t.about.shape k.seen) (sym same) h.legal)
 
 -- ---- the end of a run
 pub ends_first : (t : Shown) (p : Port) (l : Known) → IsPortOf t p → HasNothing p.known → Told t.about p.known End l → IsEnding t l l p.batches
@@ -166,6 +170,7 @@ ends_last t p z ended l bs h running table told i =
       even = h.even;
       room = λ now. absurd (
           let n = turned t.about p.known l End (subst (Saw t.about p.known End) (sym i.seen) told.seen) cpu in grind (arith, nat_tests));
+      legal = subst (IsLegal t.about.shape) (sym i.seen) told.seen.legal;
       limbo = i.limbo;
       arenas = h.arenas;
       batches = i.batches;
@@ -232,6 +237,7 @@ called_fits t p z l m e xs b h table here quiet c arenas f = record {
   cpu = subst (λ (k : ℕ). k < t.about.shape.cpus) (sym c.cpu) h.cpu;
   even = h.even;
   room = room_stays t.about p.known l e c.seen c.cpu quiet h.room;
+  legal = c.seen.legal;
   limbo = c.size ∙ h.limbo;
   arenas = arenas;
   batches = batches_change t.about p.known l (length t.about.shape.maps) m p.batches b c.size c.others here f.0 (subst (λ (k : ℕ). Tracks t.about l k b.young b.aged b.noted) f.0 f.1) h.batches;
@@ -247,10 +253,14 @@ looked_idle a l l' m key o h c = record {
 pub looked_fits : (t : Shown) (p : Port) (z : TableId) (l : Known) (m : ℕ) (key : List ℕ) (o : Option Span) → IsPortOf t p → z ≡ t.id → Looked t.about p.known m key o l
     → IsPortOf t (record { table = z; known = l; arenas = p.arenas; batches = p.batches })
 looked_fits t p z l m key o h table c = moved t p z l h (table ∙ sym h.table) cpu (ap (λ (k : Known). k.limbo) c.after)
-    (room_stays t.about p.known l (Lookup m key o) c.seen cpu refl h.room)
+    (room_stays t.about p.known l (Lookup m key o) c.seen cpu refl h.room) c.seen.legal
   where
     cpu : l.cpu ≡ p.known.cpu
     cpu = ap (λ (k : Known). k.cpu) c.after
+
+-- a lookup's span is that of an element of its map
+pub looked_lies : (a : About) (l l' : Known) (m : ℕ) (key : List ℕ) (o : Option Span) → Looked a l m key o l' → IfSome o (IsElementSpan a.shape.maps m)
+looked_lies a l l' m key o c = last_found_lies a.shape l.seen c.seen.others l.cpu m key o (subst (IsLegal a.shape) c.seen.after c.seen.legal)
 
 -- ---- whether the port's CPU is in a run
 pub still_runs : (a : About) (l l' : Known) (e : Event) → Saw a l e l'.seen → l'.cpu ≡ l.cpu → turns_of (e ∷ []) ≡ 0 → in_run (events_of l.cpu l.seen) ≡ true → in_run (events_of l'.cpu l'.seen) ≡ true

@@ -5,7 +5,9 @@ use lib.ListN.{get_elem?}
 use Rattle.atomic_table.specs.Seated.{TableId}
 use Rattle.bpf_shared.specs.declared.events.Event.{Event}
 use Rattle.bpf_shared.specs.declared.events.Entry.{Entry}
-use Rattle.bpf_shared.specs.History.{events_of}
+use Rattle.bpf_shared.specs.declared.events.Span.{Span}
+use Rattle.bpf_shared.specs.History.{IsLegal, events_of}
+use Rattle.bpf_shared.specs.Own.{held_by}
 use Rattle.hop_words.specs.declared.known.About.{About}
 use Rattle.hop_words.specs.declared.known.Known.{Known}
 use Rattle.hop_words.specs.Ghost.{limbo_at}
@@ -55,6 +57,10 @@ own_events p = events_of p.known.cpu p.known.seen
 abbrev pub runs : Port → Bool
 runs p = in_run (own_events p)
 
+-- the spans of the values that the port's run looked up
+abbrev pub holds : Port → Span → Bool
+holds p = held_by (own_events p)
+
 abbrev pub no_arena : Arena
 no_arena = record { map = 0; elements = 0; start = 0 }
 
@@ -85,6 +91,8 @@ pub record IsPortOf (t : Shown) (p : Port) : Type 0 where
   pub cpu : p.known.cpu < t.about.shape.cpus
   pub even : t.about.count % 2 ≡ 0
   pub room : runs p ≡ true → count_of t.about p.known + 1 < 2 ^ 64
+  -- what the CPU has seen is a legal history
+  pub legal : IsLegal t.about.shape p.known.seen
   pub limbo : length p.known.limbo ≡ length t.about.shape.maps
   pub arenas : AreArenas t.about (length t.about.shape.maps) p.arenas
   pub batches : AreBatches t.about p.known (length t.about.shape.maps) p.batches

@@ -1,7 +1,7 @@
 //! A port: the right of one CPU to call the store.
 ghost use Rattle.std.specs.Prelude.{◌≡◌, ◌-◌, ◌^◌, true, false, OnOk, OnErr, slice_get, IfSome, ◌<◌};
 ghost use Rattle.bpf_shared.specs.declared.events.Event.TheVariants.{Begin, End, Lookup, Update, Delete};
-ghost use Rattle.bpf_shared.specs.Shape.{IsMapShape, IsKeyOf, IsPairOf};
+ghost use Rattle.bpf_shared.specs.Shape.{IsMapShape, IsKeyOf, IsPairOf, IsElementSpan, IsValueSpan};
 ghost use Rattle.hop_words.specs.Kinds.{count_of};
 ghost use Rattle.hop_map.specs.Whole.{Lacks};
 ghost use Rattle.hop_map.specs.Port.{IsPortOf, Does, runs};
@@ -97,8 +97,11 @@ impl HopPort {
         requires key { IsKeyOf table.now.about.shape.maps map key.now }
         ensures in_run { runs self.new ≡ true }
         ensures found { Does table.now.about self.old (Lookup map key.now result) self.new }
+        ensures element { IfSome result (IsElementSpan table.now.about.shape.maps map) }
+        ensures in_range { IfSome result IsValueSpan }
         ensures fits { IsPortOf table.now self.new }
     {
+        let _maps = table.about().shape.maps();
         let Some(lane) = self.lane.take() else {
             unreachable!()
         };
@@ -115,8 +118,11 @@ impl HopPort {
         requires key { IsKeyOf table.now.about.shape.maps map key.now }
         ensures in_run { runs self.new ≡ true }
         ensures found { Does table.now.about self.old (Lookup map key.now result) self.new }
+        ensures element { IfSome result (IsElementSpan table.now.about.shape.maps map) }
+        ensures in_range { IfSome result IsValueSpan }
         ensures fits { IsPortOf table.now self.new }
     {
+        let _maps = table.about().shape.maps();
         let Some(lane) = self.lane.take() else {
             unreachable!()
         };

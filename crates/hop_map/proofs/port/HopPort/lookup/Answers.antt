@@ -1,8 +1,11 @@
 use Rattle.std.proofs.Common.{◌≡◌, ap, refl, true, sym, subst, ◌∙◌}
 use Rattle.bpf_shared.specs.declared.events.Event.TheVariants.{Lookup}
+use Rattle.bpf_shared.specs.Shape.{IsShape}
+use Rattle.hop_words.specs.declared.known.About.{About}
 use Rattle.hop_words.specs.declared.known.Known.{Known}
 use Rattle.hop_map.specs.Port.{Port, runs, IsPortOf}
-use Rattle.hop_map.proofs.Ports.{still_runs, port_with, port_is, looked_fits}
+use Rattle.hop_map.proofs.Spans.{found_in_range}
+use Rattle.hop_map.proofs.Ports.{still_runs, port_with, port_is, looked_fits, looked_lies}
 use Rattle.hop_map.proofs.port.HopPort.lookup.Goals as goal
 
 pub returns-clause-fits : goal.returns-clause-fits
@@ -25,3 +28,17 @@ returns-clause-in_run g c =
     let l = c.lookup-lane.result.0 in
     let e = c.lookup-lane.ensures in
     still_runs c.args.table.now.about p.known l.known (Lookup c.args.map c.args.key.now c.lookup-lane.result.1) e.found.seen (ap (λ (k : Known). k.cpu) e.found.after) refl (subst (λ (q : Port). runs q ≡ true) (sym is) c.requires.in_run)
+
+pub returns-clause-element : goal.returns-clause-element
+returns-clause-element g c =
+    let s = c.in-Some.lane in
+    let r = c.lookup-lane in
+    looked_lies c.args.table.now.about s.known r.result.0.known c.args.map c.args.key.now r.result.1 r.ensures.found
+
+pub returns-clause-in_range : goal.returns-clause-in_range
+returns-clause-in_range g c =
+    let s = c.in-Some.lane in
+    let r = c.lookup-lane in
+    let a = c.args.table.now.about in
+    found_in_range a.shape c.args.map r.result.1 (subst (λ (x : About). IsShape x.shape) c.about.ensures c.maps-maps.ensures.in_range)
+    (looked_lies a s.known r.result.0.known c.args.map c.args.key.now r.result.1 r.ensures.found)
