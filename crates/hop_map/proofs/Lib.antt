@@ -21,3 +21,7 @@ pub mod Spans
 pub mod Ports
 pub mod Dealing
 pub mod Trials
+pub mod Touching
+pub mod Spliced
+pub mod Holding
+pub mod Disturbing

@@ -12,3 +12,4 @@ pub mod Stores
 pub mod Peeks
 pub mod Resting
 pub mod Trial
+pub mod Accesses

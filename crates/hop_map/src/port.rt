@@ -4,10 +4,12 @@ ghost use Rattle.bpf_shared.specs.declared.events.Event.TheVariants.{Begin, End,
 ghost use Rattle.bpf_shared.specs.Shape.{IsMapShape, IsKeyOf, IsPairOf, IsElementSpan, IsValueSpan};
 ghost use Rattle.hop_words.specs.Kinds.{count_of};
 ghost use Rattle.hop_map.specs.Whole.{Lacks};
+ghost use Rattle.hop_map.specs.Finding.{OnceEnds, Spares};
 ghost use Rattle.hop_map.specs.Port.{IsPortOf, Does, runs};
 
 use crate::deleting::delete;
-use crate::finding::{find_locked, lookup};
+use crate::finding::{find_locked, find_once, lookup};
+use crate::once::Once;
 use crate::updating::update;
 use bpf_shared::{MapAnswer, MapShape, Span, Worn};
 use hop_arena::Arena;
@@ -110,6 +112,26 @@ impl HopPort {
         found
     }
 
+    /// Where the value of the key lies, by one reading of the key's segment that takes no lock and
+    /// writes no word; the CPU holds that value until its run ends. A reading that others disturbed
+    /// answers the two stamps that it saw, and is no event.
+    pub fn find_once(&mut self, table: &HopTable, map: u8, key: &[u8]) -> Once
+        requires fits { IsPortOf table.now self.old }
+        requires in_run { runs self.old ≡ true }
+        requires key { IsKeyOf table.now.about.shape.maps map key.now }
+        ensures in_run { runs self.new ≡ true }
+        ensures table { self.new.table ≡ self.old.table }
+        ensures ends { OnceEnds table.now.about self.old.known map key.now result self.new.known }
+        ensures fits { IsPortOf table.now self.new }
+    {
+        let Some(lane) = self.lane.take() else {
+            unreachable!()
+        };
+        let (lane, once) = find_once(table, lane, map, key);
+        self.lane = Some(lane);
+        once
+    }
+
     /// Where the value of the key lies, found without a lock or, after eight disturbed readings, under
     /// one; the CPU holds that value until its run ends.
     pub fn lookup<R: Wait>(&mut self, rt: &R, table: &HopTable, map: u8, key: &[u8]) -> Option<Span>
@@ -120,6 +142,7 @@ impl HopPort {
         ensures found { Does table.now.about self.old (Lookup map key.now result) self.new }
         ensures element { IfSome result (IsElementSpan table.now.about.shape.maps map) }
         ensures in_range { IfSome result IsValueSpan }
+        ensures spares { Spares table.now.about self.old.known map key.now self.new.known }
         ensures fits { IsPortOf table.now self.new }
     {
         let _maps = table.about().shape.maps();

@@ -1,0 +1,17 @@
+use Rattle.std.proofs.Common.{◌*◌, subst, arith}
+use Rattle.bpf_shared.specs.Shape.{IsShape}
+use Rattle.hop_words.specs.declared.known.About.{About}
+use Rattle.hop_map.proofs.Touching.{map_there, touches}
+use Rattle.hop_map.proofs.parts.part_at.Goals as goal
+
+pub shape_of-requires : goal.shape_of-requires
+shape_of-requires c =
+    let a = c.args.table.now.about in
+    let s = subst (λ (x : About). IsShape x.shape) c.about.ensures c.cpus-cpus.ensures.in_range in
+    record { map = map_there a s c.args.at.at c.args.size c.requires.there }
+
+pub returns-clause-touches : goal.returns-clause-touches
+returns-clause-touches c =
+    let a = c.args.table.now.about in
+    let s = subst (λ (x : About). IsShape x.shape) c.about.ensures c.cpus-cpus.ensures.in_range in
+    touches a s c.args.at.at c.args.size c.shape_of.result (c.div_ceil-stride.result * 8) c.shape_of.ensures.shape (let e = c.div_ceil-stride.ensures in omega arith)

@@ -1,0 +1,22 @@
+-- Accesses to values, from the address of the first byte to the word that the bytes lie in.
+use Rattle.std.specs.Prelude.{◌≡◌, ℕ, ◌%◌, true, []}
+use Rattle.bpf_shared.specs.Shape.{element_span, Covers}
+use Rattle.bpf_shared.specs.History.{events_of}
+use Rattle.hop_words.specs.declared.known.About.{About}
+use Rattle.hop_words.specs.declared.known.Known.{Known}
+use Rattle.hop_words.specs.Ghost.{shape_at, IsElement}
+use Rattle.hop_words.specs.Kinds.{in_run, spans_of, IsAmong}
+
+-- the n bytes from the address p on are in an element's value, and p is a multiple of n
+pub record IsValuePlace (a : About) (p n : ℕ) : Type 0 where
+  pub map : ℕ
+  pub element : ℕ
+  pub inside : IsElement a map element
+  pub covers : Covers (element_span map (shape_at a map) element) p n
+  pub aligned : p % n ≡ 0
+
+-- and the CPU holds that value
+pub record IsHeldAt (a : About) (l : Known) (p n : ℕ) : Type 0 where
+  pub place : IsValuePlace a p n
+  pub held : IsAmong (element_span place.map (shape_at a place.map) place.element) (spans_of [] (events_of l.cpu l.seen))
+  pub runs : in_run (events_of l.cpu l.seen) ≡ true

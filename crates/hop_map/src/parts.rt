@@ -1,0 +1,56 @@
+//! The bytes of a value as part of one of its words.
+ghost use Rattle.std.specs.Prelude.{◌≡◌, ◌+◌, ◌<◌, ◌≤◌};
+ghost use Rattle.bpf_base.specs.Bytes.{low_bytes, modulus, with_part};
+ghost use Rattle.bpf_base.specs.Atomic.{number_after};
+ghost use Rattle.bpf_shared.specs.Access.{bytes_in, change_of};
+ghost use Rattle.hop_words.specs.declared.known.Known.{Known};
+ghost use Rattle.hop_words.specs.Touching.{TouchesPart, address_of, found_part};
+ghost use Rattle.hop_map.specs.Accesses.{IsValuePlace, IsHeldAt};
+
+use crate::homing::shape_of;
+use bpf_shared::bytes::{load, store};
+use bpf_shared::{Size, ValuePlace};
+use hop_words::{HopTable, ValuePart};
+
+/// The word that the bytes lie in, and their place there.
+pub(crate) fn part_at(table: &HopTable, at: ValuePlace, size: Size) -> ValuePart
+    requires there { IsValuePlace table.now.about at.at (bytes_in size) }
+    ensures touches { (l : Known) → IsHeldAt table.now.about l at.at (bytes_in size)
+        → TouchesPart table.now.about l result }
+    ensures at { address_of table.now.about result ≡ at.at }
+    ensures size { result.size ≡ size }
+{
+    let _cpus = table.about().shape.cpus();
+    let above = at.at - 0x10_0000_0000;
+    let map = (above / 0x1000_0000) as u8;
+    let within = above % 0x1000_0000;
+    let stride = shape_of(table, map).value.div_ceil(8) * 8;
+    let offset = within % stride;
+    ValuePart {
+        map,
+        element: (within / stride) as u32,
+        word: (offset / 8) as u32,
+        offset: (offset % 8) as u32,
+        size,
+    }
+}
+
+/// The number that the bytes read as in a word.
+pub(crate) fn number_in(word: u64, part: ValuePart) -> u64
+    requires fits { part.offset + bytes_in part.size ≤ 8 }
+    ensures value { result ≡ found_part part word }
+    ensures small { result < modulus (bytes_in part.size) }
+{
+    load(&word.to_le_bytes(), part.offset as usize, part.size)
+}
+
+/// A word with other bytes there: the low ones of a number. All else of it stays.
+pub(crate) fn with_number(word: u64, part: ValuePart, number: u64) -> u64
+    requires fits { part.offset + bytes_in part.size ≤ 8 }
+    ensures { low_bytes 8 result
+        ≡ with_part (low_bytes 8 word) part.offset (low_bytes (bytes_in part.size) number) }
+{
+    let mut bytes = word.to_le_bytes();
+    store(&mut bytes, part.offset as usize, part.size, number);
+    u64::from_le_bytes(bytes)
+}

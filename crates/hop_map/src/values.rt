@@ -1,0 +1,130 @@
+//! A port's accesses to values that its CPU holds. Each is one event, at one step on one word.
+ghost use Rattle.std.specs.Prelude.{◌≡◌, ◌<◌, ◌≤◌, true};
+ghost use Rattle.bpf_base.specs.Bytes.{modulus};
+ghost use Rattle.bpf_shared.specs.Access.{bytes_in};
+ghost use Rattle.bpf_shared.specs.Passage.{IsHeldPlace};
+ghost use Rattle.bpf_shared.specs.declared.events.Event.TheVariants.{Load, Store, Atomic};
+ghost use Rattle.bpf_shared.specs.declared.events.Size.TheVariants.{Double};
+ghost use Rattle.hop_map.specs.Port.{IsPortOf, Does, runs, holds};
+
+use crate::accessing::{change_part_at, change_word_at, load_at, store_part_at, store_word_at};
+use crate::port::HopPort;
+use bpf_shared::{AtomicOp, Size, ValuePlace};
+use hop_words::HopTable;
+use std::sync::Wait;
+
+impl HopPort {
+    /// The number that the bytes at an aligned place in a held value read as.
+    pub fn value_load(&mut self, table: &HopTable, at: ValuePlace, size: Size) -> u64
+        requires fits { IsPortOf table.now self.old }
+        requires in_run { runs self.old ≡ true }
+        requires place { IsHeldPlace (holds self.old) at.at (bytes_in size) }
+        ensures in_run { runs self.new ≡ true }
+        ensures loaded { Does table.now.about self.old (Load at.at size result) self.new }
+        ensures small { result < modulus (bytes_in size) }
+        ensures fits { IsPortOf table.now self.new }
+    {
+        let Some(mut lane) = self.lane.take() else {
+            unreachable!()
+        };
+        let number = load_at(table, &mut lane, at, size);
+        self.lane = Some(lane);
+        number
+    }
+
+    /// The eight bytes at an aligned place in a held value become the word.
+    pub fn store_word(&mut self, table: &HopTable, at: ValuePlace, word: u64)
+        requires fits { IsPortOf table.now self.old }
+        requires in_run { runs self.old ≡ true }
+        requires place { IsHeldPlace (holds self.old) at.at 8 }
+        ensures in_run { runs self.new ≡ true }
+        ensures stored { Does table.now.about self.old (Store at.at Double word) self.new }
+        ensures fits { IsPortOf table.now self.new }
+    {
+        let Some(mut lane) = self.lane.take() else {
+            unreachable!()
+        };
+        store_word_at(table, &mut lane, at, word);
+        self.lane = Some(lane);
+    }
+
+    /// The bytes at an aligned place in a held value become the low bytes of the word. Others may
+    /// write the bytes beside them meanwhile: then it tries again.
+    pub fn store_part<R: Wait>(
+        &mut self,
+        rt: &R,
+        table: &HopTable,
+        at: ValuePlace,
+        size: Size,
+        word: u64,
+    )
+        requires fits { IsPortOf table.now self.old }
+        requires in_run { runs self.old ≡ true }
+        requires place { IsHeldPlace (holds self.old) at.at (bytes_in size) }
+        ensures in_run { runs self.new ≡ true }
+        ensures stored { Does table.now.about self.old (Store at.at size word) self.new }
+        ensures fits { IsPortOf table.now self.new }
+    {
+        let Some(mut lane) = self.lane.take() else {
+            unreachable!()
+        };
+        store_part_at(rt, table, &mut lane, at, size, word);
+        self.lane = Some(lane);
+    }
+
+    /// An atomic operation on the eight bytes at an aligned place in a held value; the number that
+    /// stood there before. Only `CompareExchange` looks at the number that is expected.
+    pub fn atomic_word(
+        &mut self,
+        table: &HopTable,
+        at: ValuePlace,
+        op: AtomicOp,
+        operand: u64,
+        expected: u64,
+    ) -> u64
+        requires fits { IsPortOf table.now self.old }
+        requires in_run { runs self.old ≡ true }
+        requires place { IsHeldPlace (holds self.old) at.at 8 }
+        ensures in_run { runs self.new ≡ true }
+        ensures changed { Does table.now.about self.old
+            (Atomic at.at Double op operand expected result) self.new }
+        ensures fits { IsPortOf table.now self.new }
+    {
+        let Some(mut lane) = self.lane.take() else {
+            unreachable!()
+        };
+        let number = change_word_at(table, &mut lane, at, op, operand, expected);
+        self.lane = Some(lane);
+        number
+    }
+
+    /// The same on the four or eight bytes there. Others may write the bytes beside them meanwhile:
+    /// then it tries again.
+    pub fn atomic_part<R: Wait>(
+        &mut self,
+        rt: &R,
+        table: &HopTable,
+        at: ValuePlace,
+        size: Size,
+        op: AtomicOp,
+        operand: u64,
+        expected: u64,
+    ) -> u64
+        requires fits { IsPortOf table.now self.old }
+        requires in_run { runs self.old ≡ true }
+        requires place { IsHeldPlace (holds self.old) at.at (bytes_in size) }
+        requires wide { 4 ≤ bytes_in size }
+        ensures in_run { runs self.new ≡ true }
+        ensures changed { Does table.now.about self.old
+            (Atomic at.at size op operand expected result) self.new }
+        ensures small { result < modulus (bytes_in size) }
+        ensures fits { IsPortOf table.now self.new }
+    {
+        let Some(mut lane) = self.lane.take() else {
+            unreachable!()
+        };
+        let number = change_part_at(rt, table, &mut lane, at, size, op, operand, expected);
+        self.lane = Some(lane);
+        number
+    }
+}
