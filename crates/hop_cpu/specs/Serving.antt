@@ -1,0 +1,34 @@
+-- What contracts see of a CPU of the concurrent store.
+use Rattle.std.specs.Prelude.{◌≡◌, ℕ, ◌-◌, ◌^◌, ◌==◌, ◌&&◌, Bool, List}
+use Rattle.bpf_shared.specs.declared.events.Span.{Span}
+use Rattle.bpf_shared.specs.declared.events.MapAnswer.{MapAnswer}
+use Rattle.hop_words.specs.Inside.{Shown}
+use Rattle.hop_words.specs.Kinds.{count_of}
+use Rattle.hop_map.specs.Port.{Port, runs, holds}
+use Rattle.hop_map.specs.Whole.{Lacks}
+
+-- a table, and the port of one of its CPUs
+pub record Serving : Type 0 where
+  pub table : Shown
+  pub port : Port
+
+-- it serves the port's own CPU
+abbrev pub serves : Serving → ℕ → Bool
+serves x c = c == x.port.known.cpu
+
+-- the CPU is in a run, by its own events
+abbrev pub running : Serving → ℕ → Bool
+running x c = serves x c && runs x.port
+
+-- the spans that the CPU's run looked up, by its own events
+abbrev pub held : Serving → ℕ → Span → Bool
+held x c q = serves x c && holds x.port q
+
+-- the CPU's run counter stands at its last even value
+abbrev pub IsWorn : Serving → ℕ → Type 0
+IsWorn x c = count_of x.table.about x.port.known ≡ 2 ^ 64 - 2
+
+-- Busy only at a segment's last version, NoMemory only where the call looked for a free element in
+-- vain
+abbrev pub MayLack : Serving → Serving → ℕ → List ℕ → MapAnswer → Type 0
+MayLack x y m key answer = Lacks x.table.about x.port.known m answer y.port.known

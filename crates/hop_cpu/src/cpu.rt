@@ -1,0 +1,128 @@
+//! A port with its table, as a shared store that serves the port's CPU.
+ghost use Rattle.std.specs.Prelude.{◌≡◌};
+ghost use Rattle.hop_map.specs.Port.{IsPortOf};
+
+use bpf_shared::{AtomicOp, MapAnswer, MapShape, Shared, Size, Span, ValuePlace, Worn};
+use hop_map::HopPort;
+use hop_words::HopTable;
+use std::marker::Model;
+use std::sync::Wait;
+
+/// One CPU of a concurrent store. Others may use the store's other ports at the same time.
+#[derive(Drop)]
+pub struct HopCpu<'a, R: Wait> {
+    pub(crate) rt: &'a R,
+    pub(crate) table: &'a HopTable,
+    pub(crate) port: HopPort,
+}
+
+impl<'a, R: Wait> Model for HopCpu<'a, R> {
+    ghost use Rattle.hop_map.specs.Port.{IsPortOf};
+    ghost use Rattle.hop_cpu.specs.Serving.{Serving};
+
+    ghost Value = { Serving };
+
+    ghost view = { λ s. record { table = s.table.now; port = s.port } };
+
+    ghost invariant = { λ s. IsPortOf s.table.now s.port };
+}
+
+impl<'a, R: Wait> HopCpu<'a, R> {
+    /// The CPU of a port, over the port's table. Calls that may wait for a lock wait by `rt`.
+    pub fn new(rt: &'a R, table: &'a HopTable, port: HopPort) -> HopCpu<'a, R>
+        requires fits { IsPortOf table.now port }
+        ensures table { result.table ≡ table.now }
+        ensures port { result.port ≡ port }
+    {
+        HopCpu { rt, table, port }
+    }
+
+    /// The port again.
+    pub fn into_port(self) -> HopPort
+        ensures port { result ≡ self.entry.port }
+        ensures fits { IsPortOf self.entry.table result }
+    {
+        let HopCpu {
+            rt: _,
+            table: _,
+            port,
+        } = self;
+        port
+    }
+}
+
+impl<R: Wait> Shared for HopCpu<'_, R> {
+    ghost use Rattle.hop_cpu.specs.Serving.{serves, running, held, IsWorn, MayLack};
+    ghost use Rattle.hop_cpu.specs.Passing.{Passes, nothing, follows};
+
+    ghost shapes = { λ x. x.table.about.shape.maps };
+
+    ghost serves = { serves };
+
+    ghost running = { running };
+
+    ghost held = { held };
+
+    ghost passes = { Passes };
+
+    ghost may_wear = { IsWorn };
+
+    ghost may_lack = { MayLack };
+
+    fn shape(&self, map: u64) -> Option<MapShape> {
+        self.port.shape(self.table, map)
+    }
+
+    fn begin(&mut self, _cpu: u8) -> Result<(), Worn> {
+        self.port.begin(self.table)
+    }
+
+    fn lookup(&mut self, _cpu: u8, map: u8, key: &[u8]) -> Option<Span> {
+        self.port.lookup(self.rt, self.table, map, key)
+    }
+
+    fn update(&mut self, _cpu: u8, map: u8, key: &[u8], value: &[u8], flags: u64) -> MapAnswer {
+        self.port
+            .update(self.rt, self.table, map, key, value, flags)
+    }
+
+    fn delete(&mut self, _cpu: u8, map: u8, key: &[u8]) -> MapAnswer {
+        self.port.delete(self.rt, self.table, map, key)
+    }
+
+    fn value_load(&mut self, _cpu: u8, at: ValuePlace, size: Size) -> u64 {
+        self.port.value_load(self.table, at, size)
+    }
+
+    fn value_store(&mut self, _cpu: u8, at: ValuePlace, size: Size, word: u64) {
+        match size {
+            Size::Double => self.port.store_word(self.table, at, word),
+            _ => self.port.store_part(self.rt, self.table, at, size, word),
+        }
+    }
+
+    fn value_atomic(
+        &mut self,
+        _cpu: u8,
+        at: ValuePlace,
+        size: Size,
+        op: AtomicOp,
+        operand: u64,
+        expected: u64,
+    ) -> u64 {
+        match size {
+            Size::Double => self.port.atomic_word(self.table, at, op, operand, expected),
+            _ => self
+                .port
+                .atomic_part(self.rt, self.table, at, size, op, operand, expected),
+        }
+    }
+
+    fn end(&mut self, _cpu: u8) {
+        self.port.end(self.table);
+    }
+
+    ghost nothing = { nothing };
+
+    ghost follows = { follows };
+}

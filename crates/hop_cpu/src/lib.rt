@@ -1,0 +1,7 @@
+//! A CPU of the concurrent store, as a shared store that serves it.
+#![tactic(auto)]
+
+mod cpu;
+mod running;
+
+pub use cpu::HopCpu;
