@@ -28,7 +28,7 @@ power_is zero = refl
 power_is (suc n) = ap (λ (k : ℕ). 2 * k) (power_is n) ∙ sym (pow-succ' 2 n)
 
 -- ---- lists
-chain_of : (link : ℕ → ℕ) (n : ℕ) (es : List ℕ) → Follows link n es → Chain (λ e. item (link e)) (item n) es
+pub chain_of : (link : ℕ → ℕ) (n : ℕ) (es : List ℕ) → Follows link n es → Chain (λ e. item (link e)) (item n) es
 chain_of link n [] h = h
 chain_of link n (e ∷ es) h = (h.0, chain_of link (link e) es h.1)
 
@@ -36,7 +36,7 @@ follows_of : (link : ℕ → ℕ) (n : ℕ) (es : List ℕ) → Chain (λ e. ite
 follows_of link n [] h = h
 follows_of link n (e ∷ es) h = (h.0, follows_of link (link e) es h.1)
 
-among_of : (e : ℕ) (es : List ℕ) → 1 ≤ times e es → Among e es
+pub among_of : (e : ℕ) (es : List ℕ) → 1 ≤ times e es → Among e es
 among_of e [] h = absurd (omega arith)
 among_of e (x ∷ xs) h = go (x == e) refl (λ k. among_of e xs k)
   where

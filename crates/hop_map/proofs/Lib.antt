@@ -25,3 +25,4 @@ pub mod Touching
 pub mod Spliced
 pub mod Holding
 pub mod Disturbing
+pub mod Dumps

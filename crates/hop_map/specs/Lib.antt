@@ -13,3 +13,4 @@ pub mod Peeks
 pub mod Resting
 pub mod Trial
 pub mod Accesses
+pub mod Dumping

@@ -1,7 +1,9 @@
 //! What is left of a store whose ports are all back.
 ghost use Rattle.std.specs.Prelude.{◌≡◌, ◌++◌, All};
-ghost use Rattle.bpf_shared.specs.History.{IsLegal};
+ghost use Rattle.bpf_shared.specs.Store.{Plain, as_made};
+ghost use Rattle.bpf_shared.specs.History.{Legal, IsLegal};
 ghost use Rattle.hop_map.specs.Port.{IsAllOf, IsPartOf};
+ghost use Rattle.hop_map.specs.Dumping.{IsLast};
 
 use crate::port::HopPort;
 use hop_words::{HopTable, Rest, Returned};
@@ -10,7 +12,7 @@ use std::marker::Model;
 /// What is left of a store. Contracts see the words and one history of all its calls.
 #[derive(Drop)]
 pub struct Closed {
-    rest: Rest,
+    pub(crate) rest: Rest,
 }
 
 impl Model for Closed {
@@ -22,11 +24,13 @@ impl Model for Closed {
 }
 
 /// Takes all ports of a store back. There is one legal history of the store, of which each port has
-/// seen its CPU's part.
+/// seen its CPU's part. It leads to a store whose keys and values the words have.
 pub fn gather(table: HopTable, ports: Vec<HopPort>) -> Closed
     requires all { IsAllOf table ports.items }
     ensures about { result.about ≡ table.about }
     ensures legal { IsLegal result.about.shape result.history }
+    ensures last { (last : Plain) × IsLast result last
+        × Legal (as_made result.about.shape) result.history last }
     ensures parts { All (IsPartOf result.history) ports.items }
 {
     let mut back = Returned::new(&table);

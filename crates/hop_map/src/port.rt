@@ -41,6 +41,16 @@ impl Model for HopPort {
 }
 
 impl HopPort {
+    /// The number of the port's CPU.
+    pub fn cpu(&self) -> u8
+        ensures { result ≡ self.now.known.cpu }
+    {
+        let Some(lane) = &self.lane else {
+            unreachable!()
+        };
+        lane.cpu()
+    }
+
     /// The shape of the map of this number; `None` for no map's number.
     pub fn shape(&self, table: &HopTable, map: u64) -> Option<MapShape>
         ensures shape { result ≡ slice_get table.now.about.shape.maps map }
