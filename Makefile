@@ -10,12 +10,13 @@ build: ## Build the proved program as ./ebpf
 	cp crates/bpf_run/out/bpf_run ebpf
 
 # rt ci sets aside what was built before, and leaves the program that it proved, built and ran: the cases take that one.
-test: ## The whole gate: every proof, every must-fail edit, every test, then the cases, and refused memory
+test: ## The whole gate: every proof, every must-fail edit, every test, then the cases, refused memory, and failing reads and writes
 	rt ci
 	install -m 755 crates/bpf_run/out/bpf_run ebpf
 	tests/segments.py --check
 	tests/run ./ebpf
 	tests/memory ./ebpf
+	tests/streams ./ebpf
 	tests/docs ./ebpf
 
 check: ## The quick check while one writes: what changed is proved again
