@@ -99,13 +99,16 @@ seen_cut left line behind text len count a s e ended t n r =
     let sized : length left ≡ length line + rest_size behind = line_size left line behind e in
     let whole : length text ≡ length (text_of s.body) + length left = ap length s.remains ∙ length-append (text_of s.body) left in
     let before : len ≡ length (text_of s.body) = omega (arith, s.size, whole) in
+    let body : a.text.now ≡ text_of s.body =
+    t ∙ ap (λ k. take k text) before ∙ ap (take (length (text_of s.body))) s.remains ∙ take-append_seam (text_of s.body) left in
     let P : Option (List ℕ) → Type 0 = λ b. lines_of text ≡ s.body ++ line ∷ lines_behind b in
     let Q : Option (List ℕ) → Type 0 = λ b. a.lines + rest_size b ≤ length text in
     record {
       body = s.body;
       last = line;
       parts = subst P (sym r) (s.parts ∙ ap (λ ls. s.body ++ ls) e);
-      assembly = t ∙ ap (λ k. take k text) before ∙ ap (take (length (text_of s.body))) s.remains ∙ take-append_seam (text_of s.body) left;
+      assembly = body;
+      short = let sized : length a.text.now ≡ length (text_of s.body) = ap length body in omega (arith, sized, whole);
       count = n ∙ s.counted;
       before = s.before;
       ended = ended;

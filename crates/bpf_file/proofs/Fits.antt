@@ -1,7 +1,16 @@
--- The sizes of a file stay in their ranges, line by line.
-use Rattle.std.proofs.Common.{◌≡◌, ℕ, ◌+◌, nat_lt, nat_le, add-zero, Bool, true, false, if◌then◌else◌, List, [], ◌∷◌, ◌++◌, length, length-append, append_assoc, append-nil, Option, Some, None, Result, Ok, Err, refl, sym, ap, subst, ◌∙◌, arith}
+-- The sizes of a file stay in their ranges, and its jobs and programs those of a machine, line by
+-- line.
+use Rattle.std.proofs.Common.{◌≡◌, ℕ, ◌+◌, ◌*◌, ◌<◌, ◌≤◌, ◌==◌, nat_lt, nat_le, add-zero, Bool, true, false, if◌then◌else◌, List, [], ◌∷◌, ◌++◌, length, length-append, append_assoc, append-nil, Option, Some, None, Result, Ok, Err, refl, sym, ap, subst, ◌∙◌, arith}
 use Rattle.std.proofs.lemmas.Bool.Decides.{nat_tests}
-use Rattle.std.specs.Prelude.{OnOk}
+use Rattle.std.specs.Prelude.{All, OnOk, MatchResult}
+use Rattle.std.specs.Str.{bytes_eq}
+use Rattle.std.proofs.lemmas.List.Elements.{All-nil, All-cons, All-append}
+use Rattle.hex.specs.Hex.{decode_of}
+use Rattle.hex.proofs.HexLemmas.{decode_of-ok}
+use Rattle.bpf_insn.specs.declared.instruction.Insn.{Insn}
+use Rattle.bpf_mem.specs.Limits.{max_context}
+use Rattle.bpf_cpu.specs.Task.{Task, Waiting}
+use Rattle.bpf_text.specs.Lines.{lines_of, fields_of}
 use Rattle.std.specs.Option.{option_map}
 use Rattle.hex.specs.declared.error.FromHexError.{FromHexError}
 use Rattle.bpf_shared.specs.First.{first_of}
@@ -16,11 +25,16 @@ use Rattle.bpf_file.specs.declared.error.Reason.{Reason}
 use Rattle.bpf_file.specs.declared.error.Reason.TheVariants as reason
 use Rattle.bpf_file.specs.Form.{is_there}
 use Rattle.bpf_file.specs.Statement.{Said, Version, Cpus, Seed, Map, Program, Words, Job, statement_of}
-use Rattle.bpf_file.specs.Parts.{Part, State, Between, Within, nothing, place_of, with_cpus, with_map}
+use Rattle.bpf_file.specs.File.{File}
+use Rattle.bpf_file.specs.Parts.{Part, State, Between, Within, nothing, place_of, with_first, with_cpus, with_seed, with_map, with_program, with_job}
+use Rattle.bpf_file.specs.Programs.{Loads, OfBytes, OfDigits, OfAssembly, behind, text_of}
 use Rattle.bpf_file.specs.Rows.{unless, cpus_refusal, map_refusal, if_new, program_added, WordsAdd, served, steps_of, context_of, job_added, placed, Adds}
-use Rattle.bpf_file.specs.Reading.{Says, FieldsSay}
+use Rattle.bpf_file.specs.Reading.{Says, FieldsSay, is_end, Belongs, Reads, finished, AreRead}
+use Rattle.bpf_file.specs.Runnable.{IsJobFor, CanRun}
+use Rattle.bpf_file.specs.Laws.{FilesCanRun}
 use Rattle.bpf_file.specs.Private.Drafts.{Ends}
 use Rattle.bpf_file.specs.Private.Fits.{IsFit, IsFitState, IsFitResult}
+use Rattle.bpf_file.proofs.Comes.{IsShort, IsInPlace, Comes, before, comes}
 
 -- ---- tests of maps
 
@@ -41,17 +55,73 @@ maps_tests-append (g ∷ hs) m h =
     ∙ sym (append_assoc (map_tests m g) (maps_tests (m + 1) hs) (map_tests ((m + 1) + length hs) h))
     ∙ ap (λ k. (map_tests m g ++ maps_tests (m + 1) hs) ++ map_tests k h) counted
 
+-- ---- programs and jobs
+
+-- before any job and program, a machine of no work
+no_work : (f : File) → f.jobs ≡ [] → f.programs ≡ [] → CanRun f
+no_work f e h =
+    let J : List Task → Type 0 = λ ts. All (IsJobFor f.cpus (length f.programs)) ts in
+    let M : List Loaded → Type 0 = λ ps. All (λ q. q.maps ≡ length f.maps) ps in
+    record { jobs = subst J (sym e) (All-nil (IsJobFor f.cpus (length f.programs))); maps = subst M (sym h) (All-nil (λ q. q.maps ≡ length f.maps)) }
+
+-- loaded for so many maps
+abbrev ForMaps : ℕ → Result Loaded FileError → Type 0
+ForMaps maps (Ok program) = program.maps ≡ maps
+ForMaps maps (Err e) = Unit {0}
+
+loads_for : (line maps : ℕ) (is : List Insn) (o : Result Loaded FileError) → Loads line maps is o → ForMaps maps o
+loads_for line maps is (Ok program) (e, s) = ap (λ q. q.maps) e
+loads_for line maps is (Err e) l = tt
+
+refused_for : (maps : ℕ) (e : FileError) (o : Result Loaded FileError) → o ≡ Err e → ForMaps maps o
+refused_for maps e o h = subst (ForMaps maps) (sym h) tt
+
+insns_for : {E : Type 0} (line maps : ℕ) (why : E → FileError) (is : Result (List Insn) E) (o : Result Loaded FileError) → MatchResult is (λ js. Loads line maps js o) (λ e. o ≡ Err (why e)) → ForMaps maps o
+insns_for line maps why (Ok js) o l = loads_for line maps js o l
+insns_for line maps why (Err e) o h = refused_for maps (why e) o h
+
+bytes_for : (line maps : ℕ) (bytes : List ℕ) (o : Result Loaded FileError) → OfBytes line maps bytes o → ForMaps maps o
+bytes_for line maps bytes o (is, d, l) = insns_for line maps (λ e. Refused line (reason.Insn e)) is o l
+
+digits_for : (line maps : ℕ) (d : Result (List ℕ) FromHexError) (o : Result Loaded FileError) → MatchResult d (λ bytes. OfBytes line maps bytes o) (λ e. o ≡ Err (Refused line reason.NotHex)) → ForMaps maps o
+digits_for line maps (Ok bytes) o l = bytes_for line maps bytes o l
+digits_for line maps (Err e) o h = refused_for maps (Refused line reason.NotHex) o h
+
+assembly_for : (line maps : ℕ) (text : List ℕ) (o : Result Loaded FileError) → OfAssembly line maps text o → ForMaps maps o
+assembly_for line maps text o (is, a, l) = insns_for line maps (behind line) is o l
+
+served_below : (cpus : ℕ) (o : Option ℕ) (c : ℕ) → served cpus o ≡ Some c → c < cpus
+served_below cpus None c e = cc
+served_below cpus (Some n) c e = by_test (nat_lt n cpus) refl e
+  where
+    by_test : (b : Bool) → nat_lt n cpus ≡ b → (if b then Some n else None) ≡ Some c → c < cpus
+    by_test true h e = let same : n ≡ c = cc in let P : ℕ → Type 0 = λ k. k < cpus in subst P same (grind (arith, nat_tests))
+    by_test false h e = cc
+
+place_below : (name : List ℕ) (ns : List (List ℕ)) (k : ℕ) → place_of name ns ≡ Some k → k < length ns
+place_below name [] k e = cc
+place_below name (n ∷ ns) k e = by_test (bytes_eq n name) (place_of name ns) (place_below name ns) e
+  where
+    by_test : (b : Bool) (o : Option ℕ) → ((j : ℕ) → o ≡ Some j → j < length ns) → (if b then Some 0 else option_map (λ j. j + 1) o) ≡ Some k → k < length (n ∷ ns)
+    by_test true o h e = let same : 0 ≡ k = cc in omega arith
+    by_test false None h e = cc
+    by_test false (Some j) h e = let same : j + 1 ≡ k = cc in let below : j < length ns = h j refl in omega arith
+
+context_short : (context : Option (List ℕ)) (bytes : List ℕ) → IsShort context → context_of context ≡ Ok bytes → length bytes ≤ max_context
+context_short None bytes s e = let same : [] ≡ bytes = cc in let P : List ℕ → Type 0 = λ b. length b ≤ max_context in subst P same (omega arith)
+context_short (Some digits) bytes s e = let sizes = decode_of-ok digits bytes e in let twice : length digits ≡ 2 * length bytes = sizes.2 in omega arith
+
 -- ---- the rows
 
 pub fit_nothing : IsFit nothing
-fit_nothing = record { cpus = refl; count = refl; maps = refl }
-
--- another file of the same sizes
-same : (p q : Part) → q.file.cpus ≡ p.file.cpus → q.file.maps ≡ p.file.maps → IsFit p → IsFit q
-same p q c m f = record {
-  cpus = ap (outside 1 16) c ∙ f.cpus;
-  count = ap (λ ms. nat_lt 16 (length ms)) m ∙ f.count;
-  maps = ap (λ ms. first_of (maps_tests 0 ms)) m ∙ f.maps;
+fit_nothing = record {
+  cpus = refl;
+  count = refl;
+  maps = refl;
+  titles = refl;
+  runs = no_work nothing.file refl refl;
+  no_programs = λ h. refl;
+  no_jobs = λ h. refl;
 }
 
 fit_unless : (n : ℕ) (o : Option Reason) (q : Part) → (o ≡ None → IsFit q) → IsFitResult (unless n o q)
@@ -62,8 +132,45 @@ cpus_in_range : (b : Bool) → (if b then Some (reason.Shape CpuCount) else None
 cpus_in_range true e = cc
 cpus_in_range false e = refl
 
-fit_cpus : (p : Part) (c : ℕ) → IsFit p → cpus_refusal c ≡ None → IsFit (with_cpus p c)
-fit_cpus p c f e = record { cpus = cpus_in_range (outside 1 16 c) e; count = f.count; maps = f.maps }
+-- no work yet
+abbrev IsIdle : Part → Type 0
+IsIdle p = (p.file.jobs ≡ []) × (p.file.programs ≡ [])
+
+idle : (p : Part) (group : ℕ) → IsFit p → IsInPlace p.group group → group < 5 → IsIdle p
+idle p group f h g = (f.no_jobs (before p.group group 6 h (omega arith)), f.no_programs (before p.group group 5 h g))
+
+fit_first : (p : Part) → IsFit p → IsIdle p → IsFit (with_first p)
+fit_first p f i = record {
+  cpus = f.cpus;
+  count = f.count;
+  maps = f.maps;
+  titles = f.titles;
+  runs = f.runs;
+  no_programs = λ h. i.1;
+  no_jobs = λ h. i.0;
+}
+
+fit_cpus : (p : Part) (c : ℕ) → IsFit p → IsIdle p → cpus_refusal c ≡ None → IsFit (with_cpus p c)
+fit_cpus p c f i e = record {
+  cpus = cpus_in_range (outside 1 16 c) e;
+  count = f.count;
+  maps = f.maps;
+  titles = f.titles;
+  runs = no_work (with_cpus p c).file i.0 i.1;
+  no_programs = λ h. i.1;
+  no_jobs = λ h. i.0;
+}
+
+fit_seed : (p : Part) (s : ℕ) → IsFit p → IsIdle p → IsFit (with_seed p s)
+fit_seed p s f i = record {
+  cpus = f.cpus;
+  count = f.count;
+  maps = f.maps;
+  titles = f.titles;
+  runs = no_work (with_seed p s).file i.0 i.1;
+  no_programs = λ h. i.1;
+  no_jobs = λ h. i.0;
+}
 
 map_passes : (named full : Bool) (o : Option ShapeError) → (if named then Some reason.TwiceName else (if full then Some (reason.Shape TooManyMaps) else option_map reason.Shape o)) ≡ None → (full ≡ false) × (o ≡ None)
 map_passes true full o e = cc
@@ -77,8 +184,8 @@ one_more n m e h = grind (arith, nat_tests)
 from_zero : (n : ℕ) → 0 + n ≡ n
 from_zero n = omega arith
 
-fit_map : (p : Part) (name : List ℕ) (h : MapShape) → IsFit p → map_refusal p name h ≡ None → IsFit (with_map p name h)
-fit_map p name h f e =
+fit_map : (p : Part) (name : List ℕ) (h : MapShape) → IsFit p → IsIdle p → map_refusal p name h ≡ None → IsFit (with_map p name h)
+fit_map p name h f i e =
     let passed = map_passes (is_there (place_of name p.file.names)) (nat_le 16 (length p.file.maps)) (first_of (map_tests (length p.file.maps) h)) e in
     record {
       cpus = f.cpus;
@@ -86,60 +193,142 @@ fit_map p name h f e =
       maps = ap first_of (maps_tests-append p.file.maps 0 h)
           ∙ ap (λ k. first_of (maps_tests 0 p.file.maps ++ map_tests k h)) (from_zero (length p.file.maps))
           ∙ first_of-append (maps_tests 0 p.file.maps) (map_tests (length p.file.maps) h) f.maps passed.1;
+      titles = f.titles;
+      runs = no_work (with_map p name h).file i.0 i.1;
+      no_programs = λ h. i.1;
+      no_jobs = λ h. i.0;
     }
 
 fit_new : (b : Bool) (n : ℕ) (r : Result State FileError) → IsFitResult r → IsFitResult (if b then Err (Refused n reason.TwiceName) else r)
 fit_new true n r f = tt
 fit_new false n r f = f
 
-fit_program : (p : Part) (name : List ℕ) (o : Result Loaded FileError) → IsFit p → IsFitResult (program_added p name o)
-fit_program p name (Ok program) f = same p _ refl refl f
-fit_program p name (Err e) f = tt
+fit_loaded : (p : Part) (name : List ℕ) (program : Loaded) → program.maps ≡ length p.file.maps → IsFit p → p.file.jobs ≡ [] → IsFit (with_program p name program)
+fit_loaded p name program e f j =
+    let q = with_program p name program in
+    let M : Loaded → Type 0 = λ x. x.maps ≡ length p.file.maps in
+    let J : List Task → Type 0 = λ ts. All (IsJobFor q.file.cpus (length q.file.programs)) ts in
+    record {
+      cpus = f.cpus;
+      count = f.count;
+      maps = f.maps;
+      titles = let a = length-append p.titles (name ∷ []) in let b = length-append p.file.programs (program ∷ []) in let c = f.titles in omega (arith, a, b, c);
+      runs = record {
+        jobs = subst J (sym j) (All-nil (IsJobFor q.file.cpus (length q.file.programs)));
+        maps = All-append M p.file.programs (program ∷ []) f.runs.maps (All-cons M program [] e (All-nil M));
+      };
+      no_programs = λ h. absurd (omega arith);
+      no_jobs = λ h. j;
+    }
 
-fit_words : (k : Option ℕ) (n : ℕ) (p : Part) (name digits : List ℕ) (r : Result State FileError) → WordsAdd k n p name digits r → IsFit p → IsFitResult r
-fit_words (Some k) n p name digits r e f = subst IsFitResult (sym e) tt
-fit_words None n p name digits r (o, of, e) f = subst IsFitResult (sym e) (fit_program p name o f)
+fit_program : (p : Part) (name : List ℕ) (o : Result Loaded FileError) → ForMaps (length p.file.maps) o → IsFit p → p.file.jobs ≡ [] → IsFitResult (program_added p name o)
+fit_program p name (Ok program) e f j = fit_loaded p name program e f j
+fit_program p name (Err x) e f j = tt
 
-fit_job : (n : ℕ) (p : Part) (cpu program : Option ℕ) (steps : ℕ) (context : Result (List ℕ) FromHexError) → IsFit p → IsFitResult (job_added n p cpu program steps context)
-fit_job n p (Some c) (Some k) steps (Ok bytes) f = same p _ refl refl f
-fit_job n p (Some c) (Some k) steps (Err e) f = tt
-fit_job n p (Some c) None steps context f = tt
-fit_job n p None k steps context f = tt
+fit_words : (k : Option ℕ) (n : ℕ) (p : Part) (name digits : List ℕ) (r : Result State FileError) → WordsAdd k n p name digits r → IsFit p → p.file.jobs ≡ [] → IsFitResult r
+fit_words (Some k) n p name digits r e f j = subst IsFitResult (sym e) tt
+fit_words None n p name digits r (o, of, e) f j =
+    subst IsFitResult (sym e) (fit_program p name o (digits_for n (length p.file.maps) (decode_of digits) o of) f j)
 
-adds_fit : (n : ℕ) (p : Part) (s : Said) (r : Result State FileError) → Adds n p s r → IsFit p → IsFitResult r
-adds_fit n p Version r e f = subst IsFitResult (sym e) (same p _ refl refl f)
-adds_fit n p (Cpus c) r e f = subst IsFitResult (sym e) (fit_unless n (cpus_refusal c) _ (fit_cpus p c f))
-adds_fit n p (Seed s) r e f = subst IsFitResult (sym e) (same p _ refl refl f)
-adds_fit n p (Map name h) r e f = subst IsFitResult (sym e) (fit_unless n (map_refusal p name h) _ (fit_map p name h f))
-adds_fit n p (Program name) r e f = subst IsFitResult (sym e) (fit_new (is_there (place_of name p.titles)) n (Ok (Within p n name [])) f)
-adds_fit n p (Words name digits) r w f = fit_words (place_of name p.titles) n p name digits r w f
-adds_fit n p (Job cpu name steps context) r e f =
-    subst IsFitResult (sym e) (fit_job n p (served p.file.cpus cpu) (place_of name p.titles) (steps_of steps) (context_of context) f)
+fit_listed : (p : Part) (task : Task) → IsJobFor p.file.cpus (length p.file.programs) task → IsFit p → IsFit (with_job p task)
+fit_listed p task t f =
+    let P : Task → Type 0 = IsJobFor p.file.cpus (length p.file.programs) in
+    record {
+      cpus = f.cpus;
+      count = f.count;
+      maps = f.maps;
+      titles = f.titles;
+      runs = record {
+        jobs = All-append P p.file.jobs (task ∷ []) f.runs.jobs (All-cons P task [] t (All-nil P));
+        maps = f.runs.maps;
+      };
+      no_programs = λ h. absurd (omega arith);
+      no_jobs = λ h. absurd (omega arith);
+    }
 
-says_fit : (n : ℕ) (p : Part) (w : Result Said Reason) (r : Result State FileError) → Says n p w r → IsFit p → IsFitResult r
-says_fit n p (Ok s) r a f = adds_fit n p s r a f
-says_fit n p (Err why) r e f = subst IsFitResult (sym e) tt
+fit_job : (n : ℕ) (p : Part) (cpu program : Option ℕ) (steps : ℕ) (context : Result (List ℕ) FromHexError) → ((c : ℕ) → cpu ≡ Some c → c < p.file.cpus) → ((k : ℕ) → program ≡ Some k → k < length p.titles)
+    → ((bytes : List ℕ) → context ≡ Ok bytes → length bytes ≤ max_context) → IsFit p → IsFitResult (job_added n p cpu program steps context)
+fit_job n p (Some c) (Some k) steps (Ok bytes) hc hk hb f =
+    let P : ℕ → Type 0 = λ m. k < m in
+    fit_listed p (record { cpu = c; program = k; budget = steps; stage = Waiting bytes })
+    (record { cpu = hc c refl; program = subst P f.titles (hk k refl); stage = hb bytes refl }) f
+fit_job n p (Some c) (Some k) steps (Err e) hc hk hb f = tt
+fit_job n p (Some c) None steps context hc hk hb f = tt
+fit_job n p None k steps context hc hk hb f = tt
+
+adds_fit : (n : ℕ) (p : Part) (s : Said) (r : Result State FileError) → Adds n p s r → Comes p s → IsFit p → IsFitResult r
+adds_fit n p Version r e c f = subst IsFitResult (sym e) (fit_first p f (idle p 1 f c.0 (omega arith)))
+adds_fit n p (Cpus k) r e c f = subst IsFitResult (sym e) (fit_unless n (cpus_refusal k) _ (fit_cpus p k f (idle p 2 f c.0 (omega arith))))
+adds_fit n p (Seed s) r e c f = subst IsFitResult (sym e) (fit_seed p s f (idle p 3 f c.0 (omega arith)))
+adds_fit n p (Map name h) r e c f = subst IsFitResult (sym e) (fit_unless n (map_refusal p name h) _ (fit_map p name h f (idle p 4 f c.0 (omega arith))))
+adds_fit n p (Program name) r e c f =
+    subst IsFitResult (sym e) (fit_new (is_there (place_of name p.titles)) n (Ok (Within p n name []))
+    (f, f.no_jobs (before p.group 5 6 c.0 (omega arith))))
+adds_fit n p (Words name digits) r w c f =
+    fit_words (place_of name p.titles) n p name digits r w f (f.no_jobs (before p.group 5 6 c.0 (omega arith)))
+adds_fit n p (Job cpu name steps context) r e c f =
+    subst IsFitResult (sym e)
+    (fit_job n p (served p.file.cpus cpu) (place_of name p.titles) (steps_of steps) (context_of context)
+    (served_below p.file.cpus cpu) (place_below name p.titles) (λ bytes h. context_short context bytes c.1 h) f)
+
+says_fit : (n : ℕ) (p : Part) (w : Result Said Reason) (r : Result State FileError) → Says n p w r → ((s : Said) → w ≡ Ok s → Comes p s) → IsFit p → IsFitResult r
+says_fit n p (Ok s) r a c f = adds_fit n p s r a (c s refl) f
+says_fit n p (Err why) r e c f = subst IsFitResult (sym e) tt
 
 fields_fit : (n : ℕ) (p : Part) (fs : List (List ℕ)) (r : Result State FileError) → FieldsSay n p fs r → IsFit p → IsFitResult r
 fields_fit n p [] r e f = subst IsFitResult (sym e) f
-fields_fit n p (g ∷ gs) r a f = says_fit n p (placed p g (statement_of (g ∷ gs))) r a f
+fields_fit n p (g ∷ gs) r a f =
+    says_fit n p (placed p g (statement_of (g ∷ gs))) r a (λ s e. comes p g gs s e) f
 
 -- ---- as the reader meets them
 
 pub line_fits : (n : ℕ) (p q : Part) (fs : List (List ℕ)) → FieldsSay n p fs (Ok (Between q)) → IsFit p → IsFit q
 line_fits n p q fs a f = fields_fit n p fs (Ok (Between q)) a f
 
-pub opening_fits : (n : ℕ) (p q : Part) (fs : List (List ℕ)) (name : List ℕ) → FieldsSay n p fs (Ok (Within q n name [])) → IsFit p → IsFit q
+pub opening_fits : (n : ℕ) (p q : Part) (fs : List (List ℕ)) (name : List ℕ) → FieldsSay n p fs (Ok (Within q n name [])) → IsFit p → IsFitState (Within q n name [])
 opening_fits n p q fs name a f = fields_fit n p fs (Ok (Within q n name [])) a f
 
-pub section_fits : (line : ℕ) (p q : Part) (name text : List ℕ) → Ends line p name text (Ok (Between q)) → IsFit p → IsFit q
-section_fits line p q name text (o, of, e) f =
-    let F : IsFitResult (Ok (Between q)) = subst IsFitResult (sym e) (fit_program p name o f) in F
+pub section_fits : (line : ℕ) (p q : Part) (name text : List ℕ) → Ends line p name text (Ok (Between q)) → IsFitState (Within p line name []) → IsFit q
+section_fits line p q name text (o, of, e) (f, j) =
+    let F : IsFitResult (Ok (Between q)) = subst IsFitResult (sym e) (fit_program p name o (assembly_for line (length p.file.maps) text o of) f j) in F
 
 -- after one answer, and then another
-pub then_fits : {X : Type 0} (r : Result X FileError) (p q s : Part) → (IsFit p → IsFit q) → OnOk r (IsFit q → IsFit s) → OnOk r (IsFit p → IsFit s)
-then_fits (Ok x) p q s f g = λ h. g (f h)
-then_fits (Err e) p q s f g = g
+pub then_fits : {X : Type 0} (r : Result X FileError) (P Q S : Type 0) → (P → Q) → OnOk r (Q → S) → OnOk r (P → S)
+then_fits (Ok x) P Q S f g = λ h. g (f h)
+then_fits (Err e) P Q S f g = g
+
+-- ---- whole files
+
+belongs_fit : (end : Bool) (p : Part) (from : ℕ) (name : List ℕ) (ls : List (List ℕ)) (l : List ℕ) (r : Result State FileError) → Belongs end p from name ls l r → IsFit p → p.file.jobs ≡ [] → IsFitResult r
+belongs_fit true p from name ls l r (o, of, e) f j =
+    subst IsFitResult (sym e) (fit_program p name o (assembly_for from (length p.file.maps) (text_of ls) o of) f j)
+belongs_fit false p from name ls l r e f j = subst IsFitResult (sym e) (f, j)
+
+reads_fit : (n : ℕ) (s : State) (l : List ℕ) (r : Result State FileError) → Reads n s l r → IsFitState s → IsFitResult r
+reads_fit n (Between p) l r a f = fields_fit n p (fields_of l) r a f
+reads_fit n (Within p from name ls) l r a (f, j) = belongs_fit (is_end l) p from name ls l r a f j
+
+finished_runs : (s : State) (f : File) → Ok f ≡ finished s → IsFitState s → CanRun f
+finished_runs (Within p from name ls) f e h = cc
+finished_runs (Between p) f e h = by_test (p.group == 0) e
+  where
+    by_test : (b : Bool) → Ok f ≡ (if b then Err (Refused 1 reason.BadFirstLine) else Ok p.file) → CanRun f
+    by_test true e = cc
+    by_test false e = let same : p.file ≡ f = cc in subst CanRun same h.runs
+
+abbrev Follow : ℕ → List (List ℕ) → File → Result State FileError → Type 0
+Follow n ls f t = MatchResult t (λ u. AreRead (n + 1) u ls (Ok f)) (λ e. Ok f ≡ Err e)
+
+then_runs : (n : ℕ) (ls : List (List ℕ)) (f : File) (t : Result State FileError) → IsFitResult t → Follow n ls f t → ((u : State) → AreRead (n + 1) u ls (Ok f) → IsFitState u → CanRun f) → CanRun f
+then_runs n ls f (Ok u) k m more = more u m k
+then_runs n ls f (Err e) k m more = cc
+
+all_run : (ls : List (List ℕ)) (n : ℕ) (s : State) (f : File) → AreRead n s ls (Ok f) → IsFitState s → CanRun f
+all_run [] n s f e h = finished_runs s f e h
+all_run (l ∷ ls) n s f (t, r, m) h = then_runs n ls f t (reads_fit n s l t r h) m (λ u a k. all_run ls (n + 1) u f a k)
+
+pub files_can_run : FilesCanRun
+files_can_run = λ text f r. all_run (lines_of text) 1 (Between nothing) f r fit_nothing
 
 -- a store can have such a shape
 shape_passes : (c m : Bool) (o : Option ShapeError) → c ≡ false → m ≡ false → o ≡ None → (if c then Some CpuCount else (if m then Some TooManyMaps else o)) ≡ None

@@ -2,7 +2,9 @@ pub mod Answering
 pub mod Cutting
 pub mod Sections
 pub mod Names
+pub mod Comes
 pub mod Fits
 pub mod Progress
 pub mod Runs
 pub mod OneFile
+pub mod LineNumbers

@@ -1,58 +1,44 @@
 -- A machine can be made of a file.
-use Rattle.std.proofs.Common.{◌≡◌, ℕ, ◌+◌, ◌<◌, ◌≤◌, ◌==◌, nat_lt, nat_le, Bool, true, false, ◌&&◌, List, [], ◌∷◌, length, vec_len, refl, sym, subst, arith}
+use Rattle.std.proofs.Common.{◌≡◌, ℕ, ◌<◌, ◌≤◌, zero, suc, List, [], ◌∷◌, length, map, get_or, vec_len, refl, sym, subst, arith}
 use Rattle.std.specs.Prelude.{All}
-use Rattle.std.specs.List.{list_all}
-use Rattle.std.proofs.lemmas.Bool.Decides.{nat_tests}
-use Rattle.std.proofs.lemmas.List.Elements.{All-cons}
+use Rattle.std.proofs.lemmas.List.{length-map}
 use Rattle.bpf_mem.specs.Limits.{max_context}
+use Rattle.bpf_shared.specs.declared.shapes.MapShape.{MapShape}
 use Rattle.bpf_cpu.specs.declared.machine.job.Job.{Job}
+use Rattle.bpf_cpu.specs.Task.{Task, waiting}
 use Rattle.bpf_loader.specs.Loaded.{Loaded}
 use Rattle.bpf_file.specs.declared.file.RunFile.{RunFile}
-use Rattle.bpf_file.specs.Runnable.{IsRunnable}
-use Rattle.bpf_file.specs.Private.Runs.{is_job_of, is_for}
-use Rattle.bpf_file.proofs.Names.{and_both}
+use Rattle.bpf_file.specs.File.{File, file_of}
+use Rattle.bpf_file.specs.Runnable.{IsRunnable, IsJobFor, CanRun}
 
-all_by : {X : Type 0} (p : X → Bool) (P : X → Type 0) → ((x : X) → p x ≡ true → P x) → (xs : List X) → list_all p xs ≡ true → All P xs
-all_by p P f [] e = λ k d h. absurd (omega (arith, h))
-all_by p P f (x ∷ xs) e =
-    let both = and_both (p x) (list_all p xs) e in
-    All-cons P x xs (f x both.0) (all_by p P f xs both.1)
+at_job : (jobs : List Job) (k : ℕ) (d : Job) → get_or (map waiting jobs) k (waiting d) ≡ waiting (get_or jobs k d)
+at_job [] k d = refl
+at_job (job ∷ jobs) zero d = refl
+at_job (job ∷ jobs) (suc k) d = at_job jobs k d
 
-below : (a b : ℕ) → nat_lt a b ≡ true → a < b
-below a b e = grind (arith, nat_tests)
+-- what holds of each task of jobs that wait
+mapped : (P : Task → Type 0) (Q : Job → Type 0) → ((job : Job) → P (waiting job) → Q job) → (jobs : List Job) → All P (map waiting jobs) → All Q jobs
+mapped P Q f jobs all = λ k d h. f (get_or jobs k d) (subst P (at_job jobs k d) (all k (waiting d) (omega (arith, length-map jobs waiting, h))))
 
-at_most : (a b : ℕ) → nat_le a b ≡ true → a ≤ b
-at_most a b e = grind (arith, nat_tests)
-
-same_number : (a b : ℕ) → (a == b) ≡ true → a ≡ b
-same_number a b e = grind (arith, nat_tests)
-
-cpu_there : (c n : ℕ) (job : Job) → is_job_of c n job ≡ true → job.cpu < c
-cpu_there c n job e = let h = and_both (nat_lt job.cpu c) _ e in below job.cpu c h.0
-
-program_there : (c n : ℕ) (job : Job) → is_job_of c n job ≡ true → job.program < n
-program_there c n job e =
-    let h = and_both (nat_lt job.cpu c) (nat_lt job.program n && nat_le (vec_len job.context) max_context) e in
-    let g = and_both (nat_lt job.program n) (nat_le (vec_len job.context) max_context) h.1 in
-    below job.program n g.0
-
-context_short : (c n : ℕ) (job : Job) → is_job_of c n job ≡ true → vec_len job.context ≤ max_context
-context_short c n job e =
-    let h = and_both (nat_lt job.cpu c) (nat_lt job.program n && nat_le (vec_len job.context) max_context) e in
-    let g = and_both (nat_lt job.program n) (nat_le (vec_len job.context) max_context) h.1 in
-    at_most (vec_len job.context) max_context g.1
-
-for_maps : (m : ℕ) (program : Loaded) → is_for m program ≡ true → program.maps ≡ m
-for_maps m program e = same_number program.maps m e
-
-pub runnable : (f : RunFile) (c n m : ℕ) → f.shape.cpus ≡ c → vec_len f.programs ≡ n → length f.shape.maps ≡ m → list_all (is_job_of c n) f.jobs.items ≡ true → list_all (is_for m) f.programs.items ≡ true → IsRunnable f
-runnable f c n m ec en em jobs programs =
-    let C : ℕ → Type 0 = λ k. All (λ job. job.cpu < k) f.jobs.items in
-    let N : ℕ → Type 0 = λ k. All (λ job. job.program < k) f.jobs.items in
-    let M : ℕ → Type 0 = λ k. All (λ program. program.maps ≡ k) f.programs.items in
+pub runnable : (f : RunFile) (g : File) → f.shape.cpus ≡ g.cpus → f.shape.maps ≡ g.maps → f.programs.items ≡ g.programs → map waiting f.jobs.items ≡ g.jobs → CanRun g → IsRunnable f
+runnable f g ec em ep ej can =
+    let n = length f.programs.items in
+    let C : ℕ → Type 0 = λ c. All (IsJobFor c (length g.programs)) g.jobs in
+    let N : List Loaded → Type 0 = λ ps. All (IsJobFor f.shape.cpus (length ps)) g.jobs in
+    let J : List Task → Type 0 = λ ts. All (IsJobFor f.shape.cpus n) ts in
+    let P : Task → Type 0 = IsJobFor f.shape.cpus n in
+    let jobs : All P (map waiting f.jobs.items) = subst J (sym ej) (subst N (sym ep) (subst C (sym ec) can.jobs)) in
+    let M : List MapShape → Type 0 = λ ms. All (λ program. program.maps ≡ length ms) g.programs in
+    let O : List Loaded → Type 0 = λ ps. All (λ program. program.maps ≡ length f.shape.maps) ps in
     record {
-      cpus = subst C (sym ec) (all_by (is_job_of c n) (λ job. job.cpu < c) (cpu_there c n) f.jobs.items jobs);
-      programs = subst N (sym en) (all_by (is_job_of c n) (λ job. job.program < n) (program_there c n) f.jobs.items jobs);
-      contexts = all_by (is_job_of c n) (λ job. vec_len job.context ≤ max_context) (context_short c n) f.jobs.items jobs;
-      maps = subst M (sym em) (all_by (is_for m) (λ program. program.maps ≡ m) (for_maps m) f.programs.items programs);
+      cpus = mapped P (λ job. job.cpu < f.shape.cpus) (λ (job : Job) (t : P (waiting job)). t.cpu) f.jobs.items jobs;
+      programs = mapped P (λ job. job.program < vec_len f.programs) (λ (job : Job) (t : P (waiting job)). below f job t.program) f.jobs.items jobs;
+      contexts = mapped P (λ job. vec_len job.context ≤ max_context) (λ (job : Job) (t : P (waiting job)). short job t.stage) f.jobs.items jobs;
+      maps = subst O (sym ep) (subst M (sym em) can.maps);
     }
+  where
+    below : (f : RunFile) (job : Job) → job.program < length f.programs.items → job.program < vec_len f.programs
+    below f job h = let n = f.programs.ok.0 in omega (arith, n, h)
+
+    short : (job : Job) → length job.context.items ≤ max_context → vec_len job.context ≤ max_context
+    short job h = let n = job.context.ok.0 in omega (arith, n, h)

@@ -3,4 +3,4 @@ pub mod Answers
 pub mod Cuts
 pub mod Drafts
 pub mod Fits
-pub mod Runs
+pub mod Lines

@@ -1,6 +1,6 @@
 //! What the lines of a run file have said so far.
 
-ghost use Rattle.std.specs.Prelude.{◌≡◌, length, map, IfOk, OnOk, IsOkUnless};
+ghost use Rattle.std.specs.Prelude.{◌≡◌, ◌<◌, ◌+◌, ◌^◌, length, map, IfOk, OnOk, IsOkUnless};
 ghost use Rattle.std.specs.Option.{option_copied};
 ghost use Rattle.bpf_cpu.specs.Task.{waiting};
 ghost use Rattle.bpf_file.specs.Form.{field_at};
@@ -11,9 +11,7 @@ ghost use Rattle.bpf_file.specs.Statement.{said_by, statement_of};
 ghost use Rattle.bpf_file.specs.Statement as says;
 ghost use Rattle.bpf_file.specs.declared.statement.Statement.TheVariants as statement_kind;
 ghost use Rattle.bpf_file.specs.Private.Answers.{OrMemory};
-ghost use Rattle.std.specs.List.{list_all};
 ghost use Rattle.bpf_file.specs.Runnable.{IsRunnable};
-ghost use Rattle.bpf_file.specs.Private.Runs.{is_job_of, is_for};
 ghost use Rattle.bpf_file.specs.Private.Fits.{IsFit};
 ghost use Rattle.bpf_file.specs.Private.Drafts.{part_of, said_in, after, Added, HasContext, Ends, closed, answer_of};
 
@@ -108,22 +106,6 @@ fn context_of(alloc: Global, line: usize, digits: Option<&[u8]>) -> Result<Vec<u
         Err(FromHexError::OutOfMemory) => Err(FileError::OutOfMemory),
         Err(_) => Err(FileError::Refused(line, Reason::NotHex)),
     }
-}
-
-/// Whether so many CPUs may run these jobs, of so many programs.
-fn are_jobs_of(cpus: u8, programs: usize, jobs: &[Job]) -> bool
-    ensures { result ≡ list_all (is_job_of cpus programs) jobs.now }
-{
-    jobs.iter().all(|job| {
-        job.cpu < cpus && (job.program < programs && job.context.len() <= MOST_CONTEXT)
-    })
-}
-
-/// Whether these programs were loaded for so many maps.
-fn are_for(maps: usize, programs: &[Program]) -> bool
-    ensures { result ≡ list_all (is_for maps) programs.now }
-{
-    programs.iter().all(|program| program.maps() == maps)
 }
 
 impl<'a> Draft<'a> {
@@ -287,6 +269,7 @@ impl<'a> Draft<'a> {
         name: &'a [u8],
         text: &[u8],
     ) -> Result<(), FileError>
+        requires { line + length text.now + 2 < 2 ^ 64 }
         ensures { OrMemory (λ a. Ends line (part_of self.old) name.now text.now
             (closed (part_of self.new) a)) result }
     {
@@ -371,7 +354,7 @@ impl<'a> Draft<'a> {
         }
     }
 
-    #[tactic(auto, using(crate::proofs::Fits::never_refused, crate::proofs::Runs::runnable))]
+    #[tactic(auto, using(crate::proofs::Fits::never_refused))]
     /// The whole file, where no line follows.
     pub fn finish(self) -> Result<RunFile, FileError>
         requires { IsFit (part_of self) }
@@ -380,12 +363,6 @@ impl<'a> Draft<'a> {
     {
         if self.group == 0 {
             return Err(FileError::Refused(1, Reason::BadFirstLine));
-        }
-        // Each line was tested as it was read: this never fails, and tells the caller so.
-        if !are_jobs_of(self.cpus, self.programs.len(), &self.jobs)
-            || !are_for(self.maps.len(), &self.programs)
-        {
-            return Err(FileError::OutOfMemory);
         }
         match StoreShape::new(self.cpus as u64, self.maps) {
             Ok(shape) => Ok(RunFile {

@@ -1,8 +1,9 @@
 //! Programs of a run file.
 
-ghost use Rattle.std.specs.Prelude.{◌≡◌, ◌+◌, ◌⊎◌, length};
+ghost use Rattle.std.specs.Prelude.{◌≡◌, ◌+◌, ◌<◌, ◌^◌, length};
 ghost use Rattle.bpf_file.specs.Programs.{Loads, OfBytes, OfDigits, OfAssembly, behind};
 ghost use Rattle.bpf_file.specs.Private.Answers.{OrMemory};
+ghost use Rattle.bpf_file.specs.Private.Lines.{line_named};
 
 use crate::error::{FileError, Reason};
 use bpf_insn::{Insn, InsnError, decode};
@@ -60,27 +61,17 @@ pub fn of_digits(
     }
 }
 
-/// A refusal at a line of the assembly behind a line of the file.
-fn refused(line: usize, at: usize, reason: Reason) -> FileError
-    ensures { (result ≡ FileError.OutOfMemory) ⊎ (result ≡ FileError.Refused (line + at) reason) }
-{
-    match line.checked_add(at) {
-        Some(at) => FileError::Refused(at, reason),
-        // More lines than bytes can be addressed: no text has them.
-        None => FileError::OutOfMemory,
-    }
-}
-
 /// A refusal of the assembly behind a line.
 fn behind(line: usize, error: TextError) -> FileError
-    ensures { (result ≡ FileError.OutOfMemory) ⊎ (result ≡ behind line error) }
+    requires { line + line_named error < 2 ^ 64 }
+    ensures { result ≡ behind line error }
 {
     match error {
-        TextError::BadLine(at) => refused(line, at, Reason::BadInstruction),
-        TextError::BadNumber(at) => refused(line, at, Reason::BadOperand),
-        TextError::UnknownLabel(at) => refused(line, at, Reason::UnknownLabel),
-        TextError::TwiceLabel(at) => refused(line, at, Reason::TwiceLabel),
-        TextError::FarLabel(at) => refused(line, at, Reason::FarLabel),
+        TextError::BadLine(at) => FileError::Refused(line + at, Reason::BadInstruction),
+        TextError::BadNumber(at) => FileError::Refused(line + at, Reason::BadOperand),
+        TextError::UnknownLabel(at) => FileError::Refused(line + at, Reason::UnknownLabel),
+        TextError::TwiceLabel(at) => FileError::Refused(line + at, Reason::TwiceLabel),
+        TextError::FarLabel(at) => FileError::Refused(line + at, Reason::FarLabel),
         TextError::NotHex => FileError::Refused(line, Reason::NotHex),
         TextError::OutOfMemory => FileError::OutOfMemory,
     }
@@ -93,6 +84,7 @@ pub fn of_assembly(
     text: &[u8],
     maps: &[MapShape],
 ) -> Result<Program, FileError>
+    requires { line + length text.now + 2 < 2 ^ 64 }
     ensures { OrMemory (OfAssembly line (length maps.now) text.now) result }
 {
     match assemble_bytes(alloc, text) {

@@ -7,7 +7,7 @@ ghost use Rattle.bpf_file.specs.File.{file_of};
 ghost use Rattle.bpf_file.specs.Parts.{Between, Within};
 ghost use Rattle.bpf_file.specs.Reading.{IsRunFile};
 ghost use Rattle.bpf_file.specs.Runnable.{IsRunnable};
-ghost use Rattle.bpf_file.specs.Private.Fits.{IsFit};
+ghost use Rattle.bpf_file.specs.Private.Fits.{IsFit, IsFitState};
 ghost use Rattle.bpf_file.specs.Private.Drafts.{part_of, Goes};
 
 use crate::assembly;
@@ -30,7 +30,8 @@ fn read_assembly<'a>(
     requires room { line + rest_size (option_copied behind) + 2 < 2 ^ 64 }
     ensures goes { Goes (line + 1) (Within (part_of draft.old) line name.now [])
         (lines_behind (option_copied behind.entry)) (part_of draft.new) result }
-    ensures fit { OnOk result (IsFit (part_of draft.old) → IsFit (part_of draft.new)) }
+    ensures fit { OnOk result (IsFitState (Within (part_of draft.old) line name.now [])
+        → IsFit (part_of draft.new)) }
     ensures falls { IfOk result (λ r. r.0 + rest_size (option_copied r.1)
         ≤ line + rest_size (option_copied behind.entry) + 1) }
     ensures shorter { IfOk result (λ r.

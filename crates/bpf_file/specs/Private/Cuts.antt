@@ -17,6 +17,7 @@ pub record IsCut (text : List ℕ) (a : Assembly) : Type 0 where
   pub last : List ℕ
   pub parts : lines_of text ≡ body ++ last ∷ lines_behind (option_copied a.rest)
   pub assembly : a.text.now ≡ text_of body
+  pub short : length a.text.now ≤ length text
   pub count : a.lines ≡ length body
   pub before : AreOpen body
   pub ended : is_end last ≡ true

@@ -1,0 +1,180 @@
+-- What a line says tells its first word, and so which lines may stand before it.
+use Rattle.std.proofs.Common.{◌≡◌, ℕ, zero, suc, ◌*◌, ◌-◌, ◌^◌, ◌<◌, ◌≤◌, ◌==◌, nat_lt, nat_le, Bool, true, false, not, ◌&&◌, ◌||◌, if◌then◌else◌, List, [], ◌∷◌, ◌++◌, length, Option, Some, None, Result, Ok, Err, ◌⊎◌, inl, inr, refl, sym, ap, subst, ◌∙◌, arith}
+use Rattle.std.specs.Prelude.{slice_get}
+use Rattle.std.proofs.lemmas.Bool.Decides.{nat_tests}
+use Rattle.std.proofs.lemmas.Slice.Eq.{bytes_eq-Decides}
+use Rattle.bpf_text.specs.Words.{is_name}
+use Rattle.bpf_file.specs.declared.error.Reason.{Reason}
+use Rattle.bpf_file.specs.declared.error.Reason.TheVariants as reason
+use Rattle.bpf_file.specs.declared.form.Part.{Part as Piece}
+use Rattle.bpf_file.specs.declared.form.Part.TheVariants.{Word, Context}
+use Rattle.bpf_file.specs.declared.key.Key.{Key}
+use Rattle.bpf_file.specs.declared.key.Key.TheVariants as key
+use Rattle.bpf_file.specs.declared.line.LineError.{LineError}
+use Rattle.bpf_file.specs.declared.line.LineError.TheVariants as line
+use Rattle.bpf_file.specs.Key.{key_text, is_key}
+use Rattle.bpf_file.specs.Form.{is_part, has_form, field_at, version_form, cpus_form, seed_form, map_form, masked_map_form, program_form, words_form, job_form, budget_form, context_form}
+use Rattle.bpf_file.specs.Statement.{Said, Version, Cpus, Seed, Map, Program, Words, Job, most_count, most_steps, count_at, with_number, cpus_said, seed_said, map_said, masked_said, job_said, budgeted_said, work_of, statement_of}
+use Rattle.bpf_file.specs.Parts.{Part, group_of, is_in_order, is_full}
+use Rattle.bpf_file.specs.Rows.{first_said, later_said, may_stand, placed}
+use Rattle.bpf_file.proofs.Names.{and_both}
+
+-- ---- the group of what a line says
+
+abbrev pub said_group : Said → ℕ
+said_group Version = 1
+said_group (Cpus n) = 2
+said_group (Seed n) = 3
+said_group (Map name h) = 4
+said_group (Program name) = 5
+said_group (Words name digits) = 5
+said_group (Job cpu name steps context) = 6
+
+-- no more digits than a context may have
+abbrev pub IsShort : Option (List ℕ) → Type 0
+IsShort (Some digits) = length digits ≤ 2 * 4096
+IsShort None = Unit {0}
+
+abbrev pub IsShortSaid : Said → Type 0
+IsShortSaid (Job cpu name steps context) = IsShort context
+IsShortSaid s = Unit {0}
+
+-- what a line of this first word may say
+abbrev Tells : List ℕ → Said → Type 0
+Tells f s = (group_of f ≡ said_group s) × IsShortSaid s
+
+-- what is said, if anything is
+abbrev TellsAll : List ℕ → Result Said LineError → Type 0
+TellsAll f (Ok s) = Tells f s
+TellsAll f (Err e) = Unit {0}
+
+by_word : (k : Key) (f : List ℕ) → is_key k f ≡ true → f ≡ key_text k
+by_word k f e = sym ((bytes_eq-Decides (key_text k) f).0 e)
+
+-- the fields of a form's line, one by one
+part_at : (ps : List Piece) (fs : List (List ℕ)) (i : ℕ) (q : Piece) → has_form ps fs ≡ true → slice_get ps i ≡ Some q → is_part q (field_at fs i) ≡ true
+part_at [] fs i q e h = cc
+part_at (p ∷ ps) [] i q e h = cc
+part_at (p ∷ ps) (f ∷ fs) zero q e h =
+    let both = and_both (is_part p f) (has_form ps fs) e in
+    let same : p ≡ q = cc in
+    let P : Piece → Type 0 = λ x. is_part x f ≡ true in
+    subst P same both.0
+part_at (p ∷ ps) (f ∷ fs) (suc i) q e h =
+    let both = and_both (is_part p f) (has_form ps fs) e in
+    part_at ps fs i q both.1 h
+
+-- the first word of a form's line
+worded : (k : Key) (ps : List Piece) (f : List ℕ) (fs : List (List ℕ)) (g : ℕ) → slice_get ps 0 ≡ Some (Word k) → group_of (key_text k) ≡ g → has_form ps (f ∷ fs) ≡ true → group_of f ≡ g
+worded k ps f fs g at e h = ap group_of (by_word k f (part_at ps (f ∷ fs) 0 (Word k) h at)) ∙ e
+
+either : (f : List ℕ) (b : Bool) (r q : Result Said LineError) → (b ≡ true → TellsAll f r) → TellsAll f q → TellsAll f (if b then r else q)
+either f true r q h k = h refl
+either f false r q h k = k
+
+numbered : (f : List ℕ) (r : Result ℕ LineError) (said : ℕ → Result Said LineError) → ((n : ℕ) → TellsAll f (said n)) → TellsAll f (with_number r said)
+numbered f (Ok n) said h = h n
+numbered f (Err e) said h = tt
+
+-- ---- each line
+
+maps_tell : (f : List ℕ) (fields : List (List ℕ)) (mask : ℕ) → group_of f ≡ 4 → TellsAll f (map_said fields mask)
+maps_tell f fields mask e =
+    numbered f (count_at fields 3 most_count) _ (λ key.
+    numbered f (count_at fields 5 most_count) _ (λ value.
+    numbered f (count_at fields 7 most_count) _ (λ max.
+    numbered f (count_at fields 9 most_count) _ (λ spare. (e, tt)))))
+
+short_at : (ps : List Piece) (fs : List (List ℕ)) (i : ℕ) → has_form ps fs ≡ true → slice_get ps i ≡ Some Context → length (field_at fs i) ≤ 2 * 4096
+short_at ps fs i e h = let d = part_at ps fs i Context e h in grind (arith, nat_tests)
+
+jobs_tell : (f : List ℕ) (fs : List (List ℕ)) → TellsAll f (work_of (f ∷ fs))
+jobs_tell f fs =
+    either f (has_form program_form (f ∷ fs)) _ _ (λ h. (worded key.Program program_form f fs 5 refl refl h, tt))
+    (either f (has_form words_form (f ∷ fs)) _ _ (λ h. (worded key.Program words_form f fs 5 refl refl h, tt))
+    (either f (has_form job_form (f ∷ fs)) _ _ (λ h. (worded key.Job job_form f fs 6 refl refl h, tt))
+    (either f (has_form (job_form ++ budget_form) (f ∷ fs)) _ _ (λ h.
+    numbered f (count_at (f ∷ fs) 4 most_steps) _ (λ n. (worded key.Job (job_form ++ budget_form) f fs 6 refl refl h, tt)))
+    (either f (has_form (job_form ++ context_form) (f ∷ fs)) _ _ (λ h.
+    (worded key.Job (job_form ++ context_form) f fs 6 refl refl h, short_at (job_form ++ context_form) (f ∷ fs) 4 h refl))
+    (either f (has_form (job_form ++ budget_form ++ context_form) (f ∷ fs)) _ _ (λ h.
+    numbered f (count_at (f ∷ fs) 4 most_steps) _ (λ n.
+    (worded key.Job (job_form ++ budget_form ++ context_form) f fs 6 refl refl h, short_at (job_form ++ budget_form ++ context_form) (f ∷ fs) 6 h refl)))
+    tt)))))
+
+lines_tell : (f : List ℕ) (fs : List (List ℕ)) → TellsAll f (statement_of (f ∷ fs))
+lines_tell f fs =
+    either f (has_form version_form (f ∷ fs)) _ _ (λ h. (worded key.RunFile version_form f fs 1 refl refl h, tt))
+    (either f (has_form cpus_form (f ∷ fs)) _ _ (λ h.
+    numbered f (count_at (f ∷ fs) 1 most_count) _ (λ n. (worded key.Cpus cpus_form f fs 2 refl refl h, tt)))
+    (either f (has_form seed_form (f ∷ fs)) _ _ (λ h.
+    numbered f (count_at (f ∷ fs) 1 (2 ^ 64 - 1)) _ (λ n. (worded key.Seed seed_form f fs 3 refl refl h, tt)))
+    (either f (has_form map_form (f ∷ fs)) _ _ (λ h.
+    maps_tell f (f ∷ fs) (2 ^ 32 - 1) (worded key.Map map_form f fs 4 refl refl h))
+    (either f (has_form masked_map_form (f ∷ fs)) _ _ (λ h.
+    numbered f (count_at (f ∷ fs) 11 most_count) _ (λ mask.
+    maps_tell f (f ∷ fs) mask (worded key.Map masked_map_form f fs 4 refl refl h)))
+    (jobs_tell f fs)))))
+
+-- ---- where it may stand
+
+-- behind a group before its own, or behind its own where that has many lines
+abbrev pub IsInPlace : ℕ → ℕ → Type 0
+IsInPlace last group = (last < group) ⊎ ((last ≡ group) × (4 ≤ group))
+
+-- a line that says this may follow so much of a file
+abbrev pub Comes : Part → Said → Type 0
+Comes p s = IsInPlace p.group (said_group s) × IsShortSaid s
+
+in_order : (a b : ℕ) → is_in_order a b ≡ true → IsInPlace a b
+in_order a b e = by_test (nat_lt a b) refl e
+  where
+    by_test : (t : Bool) → nat_lt a b ≡ t → (t || ((a == b) && nat_le 4 b)) ≡ true → IsInPlace a b
+    by_test true h e = inl (grind (arith, nat_tests))
+    by_test false h e =
+        let both = and_both (a == b) (nat_le 4 b) e in
+        inr (grind (arith, nat_tests), grind (arith, nat_tests))
+
+pub before : (last group n : ℕ) → IsInPlace last group → group < n → last < n
+before last group n (inl h) g = omega arith
+before last group n (inr (h, k)) g = omega arith
+
+only_version : (r : Result Said LineError) (s : Said) → first_said r ≡ Ok s → s ≡ Version
+only_version (Ok Version) s e = cc
+only_version (Ok (Cpus c)) s e = cc
+only_version (Ok (Seed n)) s e = cc
+only_version (Ok (Map name h)) s e = cc
+only_version (Ok (Program name)) s e = cc
+only_version (Ok (Words name digits)) s e = cc
+only_version (Ok (Job cpu name steps context)) s e = cc
+only_version (Err x) s e = cc
+
+later : (r : Result Said LineError) (s : Said) → later_said r ≡ Ok s → r ≡ Ok s
+later (Ok t) s e = cc
+later (Err line.BadForm) s e = cc
+later (Err line.BadNumber) s e = cc
+later (Err line.OutOfMemory) s e = cc
+
+no_group : (g : ℕ) → (g == 0) ≡ true → g < 1
+no_group g e = grind (arith, nat_tests)
+
+placed_comes : (p : Part) (f : List ℕ) (r : Result Said LineError) (s : Said) → TellsAll f r → placed p f r ≡ Ok s → Comes p s
+placed_comes p f r s tells e = by_first (p.group == 0) refl e
+  where
+    by_stand : (b : Bool) → may_stand p (group_of f) ≡ b → (if b then later_said r else Err reason.BadLine) ≡ Ok s → Comes p s
+    by_stand true h e =
+        let T : Result Said LineError → Type 0 = TellsAll f in
+        let told : Tells f s = subst T (later r s e) tells in
+        let both = and_both (is_in_order p.group (group_of f)) (not (is_full p (group_of f))) h in
+        let P : ℕ → Type 0 = λ g. IsInPlace p.group g in
+        (subst P told.0 (in_order p.group (group_of f) both.0), told.1)
+    by_stand false h e = cc
+
+    by_first : (b : Bool) → (p.group == 0) ≡ b → (if b then first_said r else (if may_stand p (group_of f) then later_said r else Err reason.BadLine)) ≡ Ok s → Comes p s
+    by_first true h e =
+        let C : Said → Type 0 = Comes p in
+        subst C (sym (only_version r s e)) (inl (no_group p.group h), tt)
+    by_first false h e = by_stand (may_stand p (group_of f)) refl e
+
+pub comes : (p : Part) (f : List ℕ) (fs : List (List ℕ)) (s : Said) → placed p f (statement_of (f ∷ fs)) ≡ Ok s → Comes p s
+comes p f fs s e = placed_comes p f (statement_of (f ∷ fs)) s (lines_tell f fs) e
