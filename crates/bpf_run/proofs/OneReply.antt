@@ -28,9 +28,10 @@ use Rattle.bpf_file.specs.declared.error.FileError.TheVariants as FileError
 use Rattle.bpf_file.specs.declared.error.Reason.{Reason}
 use Rattle.bpf_file.specs.File.{File}
 use Rattle.bpf_file.specs.Reading.{IsRunFile}
-use Rattle.bpf_file.specs.Laws.{FilesAreDetermined}
+use Rattle.bpf_file.specs.Laws.{FilesAreDetermined, FilesCanRun}
 use Rattle.bpf_jobs.specs.Laws.{ReportsAreDetermined}
 use Rattle.bpf_jobs.specs.Printed.{IsReport}
+use Rattle.bpf_run.proofs.FreshFiles.{fresh}
 use Rattle.bpf_run.specs.Answer.{jobs_status, status_of, reply_text}
 use Rattle.bpf_run.specs.Commands.{IsAnswer, IsAssembled, IsDisassembled, IsReply, IsRun, IsRunOfFile, IsWordsOf, RefusesAssembly, RefusesInput, RefusesProgram, RefusesWords, first_of}
 use Rattle.bpf_run.specs.declared.input.TheConstants.{MAX_INPUT}
@@ -157,7 +158,7 @@ of_input c input r (inl refused) n =
     subst (OfInput c input) (sym refused.1) made
 of_input c input r (inr answered) n = Answered r answered.0 answered.1 answered.2
 
-module _ (words : WordsAreDetermined) (encodings : EncodingsAreDetermined) (refusals : RefusalsAreDetermined) (firsts : FirstIsDetermined) (texts : TextsAreDetermined) (outcomes : OutcomesAreDetermined) (events : NoMapsNoEvents) (files : FilesAreDetermined) (reports : ReportsAreDetermined) where
+module _ (words : WordsAreDetermined) (encodings : EncodingsAreDetermined) (refusals : RefusalsAreDetermined) (firsts : FirstIsDetermined) (texts : TextsAreDetermined) (outcomes : OutcomesAreDetermined) (events : NoMapsNoEvents) (files : FilesAreDetermined) (runs : FilesCanRun) (reports : ReportsAreDetermined) where
   same_bytes : (text xs ys : List ℕ) → IsHexOf text xs → IsHexOf text ys → xs ≡ ys
   same_bytes text xs ys a b = cc
 
@@ -228,7 +229,7 @@ module _ (words : WordsAreDetermined) (encodings : EncodingsAreDetermined) (refu
       let both : Ok a.0 ≡ Ok b.0 = files text (Ok a.0) (Ok b.0) a.1 b.1 in
       let same : a.0 ≡ b.0 = cc in
       let P : File → Type 0 = λ f. IsReport (first_of f) f.names maps (string_bytes q) y in
-      let told = reports (first_of a.0) a.0.names maps (string_bytes p) (string_bytes q) x y a.2 a.3 (subst P (sym same) b.3) in
+      let told = reports (first_of a.0) a.0.names maps (string_bytes p) (string_bytes q) x y (fresh a.0 (runs text a.0 a.1)) a.2 (subst P (sym same) b.2) in
       (told.0, ap jobs_status told.1)
   one_file maps text r s (Told p x a) (NoFile line why b) = let both : Ok a.0 ≡ Err (FileError.Refused line why) = files text (Ok a.0) (Err (FileError.Refused line why)) a.1 b in absurd cc
   one_file maps text r s (NoFile line why b) (Told p x a) = let both : Ok a.0 ≡ Err (FileError.Refused line why) = files text (Ok a.0) (Err (FileError.Refused line why)) a.1 b in absurd cc

@@ -8,7 +8,6 @@ use Rattle.bpf_loader.specs.declared.refusal.LoadError.TheVariants as load_error
 use Rattle.bpf_shared.specs.declared.events.Event.{Event}
 use Rattle.bpf_cpu.specs.State.{start}
 use Rattle.bpf_cpu.specs.Step.{Explains}
-use Rattle.bpf_cpu.specs.Laws.{IsFresh}
 use Rattle.bpf_cpu.specs.Schedule.{World}
 use Rattle.bpf_jobs.specs.Printed.{first_world, IsReport}
 use Rattle.bpf_file.specs.declared.error.FileError.TheVariants as FileError
@@ -88,7 +87,7 @@ first_of f = first_world (record { cpus = f.cpus; maps = f.maps }) f.programs f.
 
 abbrev pub IsRunOfFile : Bool → List ℕ → Reply → Type 0
 IsRunOfFile maps text (reply.Jobs printed stopped) = (f : File) × IsRunFile text (Ok f)
-    × IsFresh (first_of f) × IsReport (first_of f) f.names maps (string_bytes printed) stopped
+    × IsReport (first_of f) f.names maps (string_bytes printed) stopped
 IsRunOfFile maps text (reply.Refused refusal.OutOfMemory) = Unit {0}
 IsRunOfFile maps text (reply.Refused (refusal.File line why)) =
     IsRunFile text (Err (FileError.Refused line why))

@@ -15,5 +15,6 @@ pub fn replies_are_determined()
     bpf_cpu::laws::outcomes_are_determined();
     bpf_cpu::laws::no_maps_no_events();
     bpf_file::laws::files_are_determined();
+    bpf_file::laws::files_can_run();
     bpf_jobs::laws::reports_are_determined();
 }

@@ -3,7 +3,6 @@ use Rattle.std.specs.Prelude.{string_bytes}
 use Rattle.bpf_cpu.specs.Task.{waiting}
 use Rattle.bpf_file.specs.File.{file_of}
 use Rattle.bpf_file.specs.Reading.{IsRunFile}
-use Rattle.bpf_file.specs.Runnable.{IsRunnable}
 use Rattle.bpf_jobs.specs.Printed.{first_world, IsReport}
 use Rattle.bpf_run.proofs.FreshFiles.{told}
 use Rattle.bpf_run.proofs.pipeline.run_file.Goals as goal
@@ -13,8 +12,7 @@ returns-in-Ok-run_jobs c =
     let file = c.in-Ok.file in
     let report = c.in-Ok-run_jobs.field-0 in
     let said : IsRunFile c.args.text.now (Ok (file_of file)) = search rules in
-    let fits : IsRunnable file = search rules in
     let w = first_world file.shape file.programs.items (map waiting file.jobs.items) in
     let printed = subst (λ names. IsReport w (map string_bytes names) c.args.maps (string_bytes report.text) report.stopped)
     c.deref.ensures.value c.in-Ok-run_jobs.ensures in
-    told c.args.maps c.args.text.now file report said fits printed
+    told c.args.maps c.args.text.now file report said printed
