@@ -10,11 +10,16 @@ use Rattle.bpf_cpu.specs.Task.{Stage, Task, Waiting, InHand, Ended}
 use Rattle.bpf_cpu.specs.Schedule.{World, TakesTurn, RunsSchedule}
 use Rattle.bpf_cpu.specs.Machine.{MachineState, Shows}
 use Rattle.bpf_cpu.specs.Questions.{open_in, open_jobs}
+use Rattle.bpf_cpu.specs.Work.{IsState}
+use Rattle.bpf_cpu.specs.declared.cpu.Cpu.{Cpu}
 use Rattle.bpf_debug.specs.declared.breakpoint.Breakpoint.{Breakpoint}
-use Rattle.bpf_debug.specs.Command.{Order, Break, Step, Go, Registers, Where, order_of}
-use Rattle.bpf_debug.specs.Answer.{IsWhere, IsRegisters, ended_text, break_line}
+use Rattle.bpf_debug.specs.Command.{Order, Break, Step, Go, Registers, Where, Memory, Map, order_of}
+use Rattle.bpf_debug.specs.declared.error.DebugError.{DebugError}
+use Rattle.bpf_debug.specs.declared.error.DebugError.TheVariants as error
+use Rattle.bpf_debug.specs.Answer.{IsWhere, IsRegisters, IsOff, ended_text, break_line}
+use Rattle.bpf_debug.specs.Read.{IsMemory, IsNamed, TellsBytes, TellsMap}
 use Rattle.bpf_debug.specs.Go.{Goes, has_break}
-use Rattle.bpf_debug.specs.Session.{SessionState, Scene, IsShown, IsPc, IsCpu, with_break, Follows, Obeys, Leaves, LeavesLine}
+use Rattle.bpf_debug.specs.Session.{SessionState, Scene, IsShown, IsPc, IsCpu, with_break, Follows, Obeys, Leaves, LeavesLine, RefusesOrder, RefusesHere, RefusesLine}
 use Rattle.bpf_debug.proofs.GoLaws.{goes_runs}
 
 -- ---- room
@@ -103,6 +108,26 @@ told_registers s c room last has empty place x shown =
     let same = alone room last place.0 empty place.2 in
     (x, [], (is_cpu s.machine x.world c has shown.world, subst J (sym shown.world.jobs) (subst T (sym same) place.1), (refl, refl)), shown)
 
+pub told_bytes : (s : SessionState) (c : ℕ) (at : Option ℕ) (n : ℕ) (last : List ℕ) (state : Cpu) → has_cpu s.machine.store c ≡ true
+    → IsState s.machine.jobs c state → TellsBytes s.machine.store state at n last → Leaves s (Memory (Some c) at n) last s
+told_bytes s c at n last state has hand tells x shown =
+    let shows = tells x.world.store shown.world.sound shown.world.store in
+    let J : List Task → Type 0 = λ jobs. IsMemory x.world.store jobs c at n last in
+    (x, [], (is_cpu s.machine x.world c has shown.world, subst J (sym shown.world.jobs) (inl (hand.0, hand.1, state, hand.2, hand.3, shows)), (refl, refl)), shown)
+
+pub told_off : (s : SessionState) (c : ℕ) (at : Option ℕ) (n : ℕ) (room last : List ℕ) → has_cpu s.machine.store c ≡ true → room ≡ []
+    → ((text : List ℕ) × IsOff s.machine.jobs c text × (last ≡ room ++ text)) → Leaves s (Memory (Some c) at n) last s
+told_off s c at n room last has empty place x shown =
+    let J : List Task → Type 0 = λ jobs. IsMemory x.world.store jobs c at n last in
+    let T : List ℕ → Type 0 = λ text. IsMemory x.world.store s.machine.jobs c at n text in
+    let same = alone room last place.0 empty place.2 in
+    (x, [], (is_cpu s.machine x.world c has shown.world, subst J (sym shown.world.jobs) (subst T (sym same) (inr place.1)), (refl, refl)), shown)
+
+pub told_map : (s : SessionState) (name : List ℕ) (m : ℕ) (last : List ℕ) → IsNamed s.names name m → TellsMap s.machine.store m last → Leaves s (Map name) last s
+told_map s name m last named tells x shown =
+    let N : List (List ℕ) → Type 0 = λ names. IsNamed names name m in
+    (x, [], (m, subst N (sym shown.names) named, tells x.world.store shown.world.sound shown.world.store, (refl, refl)), shown)
+
 -- ---- each command's turns are a schedule
 pub follows_runs : (x : Scene) (order : Order) (text turns : List ℕ) (y : Scene) → Follows x order text turns y → RunsSchedule x.world turns y.world
 follows_runs x (Break (Some c) (Some p)) text turns y f =
@@ -120,11 +145,18 @@ follows_runs x (Registers (Some c)) text turns y f =
 follows_runs x (Where (Some c)) text turns y f =
     let P : List ℕ → Type 0 = λ cs. RunsSchedule x.world cs y.world in
     subst P (sym f.2.0) (ap (λ (z : Scene). z.world) f.2.1)
+follows_runs x (Memory (Some c) at n) text turns y f =
+    let P : List ℕ → Type 0 = λ cs. RunsSchedule x.world cs y.world in
+    subst P (sym f.2.0) (ap (λ (z : Scene). z.world) f.2.1)
+follows_runs x (Map name) text turns y f =
+    let P : List ℕ → Type 0 = λ cs. RunsSchedule x.world cs y.world in
+    subst P (sym f.3.0) (ap (λ (z : Scene). z.world) f.3.1)
 follows_runs x (Break None p) text turns y f = absurd f
 follows_runs x (Break (Some c) None) text turns y f = absurd f
 follows_runs x (Step None) text turns y f = absurd f
 follows_runs x (Registers None) text turns y f = absurd f
 follows_runs x (Where None) text turns y f = absurd f
+follows_runs x (Memory None at n) text turns y f = absurd f
 
 -- ---- lines
 pub no_line : (s : SessionState) (fields : List (List ℕ)) (text : List ℕ) → fields ≡ [] → text ≡ [] → LeavesLine s fields text s
@@ -137,3 +169,23 @@ line_done s t [] order text e leaves x shown = let no : Some order ≡ None = e 
 line_done s t (f ∷ fs) order text e leaves x shown =
     let l = leaves x shown in
     (l.0, l.1, (order, sym e, l.2), follows_runs x order text l.1 l.0 l.2, l.3)
+
+-- ---- refusals
+module _ (s : SessionState) (x : Scene) (shown : IsShown s x) where
+  -- what a session refuses, its scenes refuse
+  moved : (order : Order) (e : DebugError) → RefusesHere s order e → RefusesOrder x.world.store.shape.cpus x.world.programs x.names order e
+  moved order e here =
+      let C : ℕ → Type 0 = λ cpus. RefusesOrder cpus x.world.programs x.names order e in
+      let P : List Loaded → Type 0 = λ programs. RefusesOrder (length s.machine.store.runs) programs x.names order e in
+      let N : List (List ℕ) → Type 0 = λ names. RefusesOrder (length s.machine.store.runs) s.machine.programs names order e in
+      subst C (sym shown.world.store.cpus) (subst P (sym shown.world.programs) (subst N (sym shown.names) here))
+
+pub line_refused : (s : SessionState) (fields : List (List ℕ)) (order : Order) (e : DebugError) → Some order ≡ order_of fields → RefusesHere s order e → RefusesLine s fields e
+line_refused s fields order error.NoCpu is here x shown = (order, sym is, moved s x shown order error.NoCpu here)
+line_refused s fields order error.NoPc is here x shown = (order, sym is, moved s x shown order error.NoPc here)
+line_refused s fields order error.NoMap is here x shown = (order, sym is, moved s x shown order error.NoMap here)
+line_refused s fields order error.BadCommand is here x shown = absurd here
+line_refused s fields order error.OutOfMemory is here x shown = tt
+
+pub bad_line : (s : SessionState) (fields : List (List ℕ)) → (fields ≡ [] → ⊥) → order_of fields ≡ None → RefusesLine s fields error.BadCommand
+bad_line s fields some none x shown = (some, none)

@@ -1,7 +1,7 @@
 -- What a line says to the debugger (our own choice).
-use Rattle.std.specs.Prelude.{ℕ, ◌^◌, nat_lt, if◌then◌else◌, List, [], ◌∷◌, codes, Option, Some, None, option_map, option_and_then}
+use Rattle.std.specs.Prelude.{ℕ, ◌^◌, ◌&&◌, nat_le, nat_lt, if◌then◌else◌, List, [], ◌∷◌, codes, Option, Some, None, option_map, option_and_then}
 use Rattle.std.specs.Str.{bytes_eq}
-use Rattle.bpf_text.specs.Words.{written_number}
+use Rattle.bpf_text.specs.Words.{written_number, is_name}
 use Rattle.bpf_debug.specs.declared.command.Command.{Command}
 use Rattle.bpf_debug.specs.declared.command.Command.TheVariants as command
 
@@ -17,6 +17,10 @@ pub data Order : Type 0 where
   Registers : Option ℕ → Order
   -- `where C`
   Where : Option ℕ → Order
+  -- `mem C A N`: N bytes at the address A
+  Memory : Option ℕ → Option ℕ → ℕ → Order
+  -- `map NAME`
+  Map : List ℕ → Order
 
 -- a word is a number of any size, and this one where it is below the limit
 abbrev pub number_below : ℕ → List ℕ → Option (Option ℕ)
@@ -29,6 +33,16 @@ cpu_in = number_below 256
 abbrev pub pc_in : List ℕ → Option (Option ℕ)
 pc_in = number_below (2 ^ 32)
 
+abbrev pub address_in : List ℕ → Option (Option ℕ)
+address_in = number_below (2 ^ 64)
+
+-- a number of bytes, 1 to 256
+abbrev pub few_of : ℕ → Option ℕ
+few_of n = if nat_le 1 n && nat_le n 256 then Some n else None
+
+abbrev pub count_in : List ℕ → Option ℕ
+count_in word = option_and_then few_of (written_number word)
+
 -- ---- commands by the number of their words
 abbrev pub one_word : List ℕ → Option Order
 one_word w = if bytes_eq (codes "go") w then Some Go else None
@@ -38,7 +52,8 @@ two_words w a =
     if bytes_eq (codes "step") w then option_map Step (cpu_in a)
     else (if bytes_eq (codes "regs") w then option_map Registers (cpu_in a)
     else (if bytes_eq (codes "where") w then option_map Where (cpu_in a)
-    else None))
+    else (if bytes_eq (codes "map") w then (if is_name a then Some (Map a) else None)
+    else None)))
 
 abbrev pub three_words : List ℕ → List ℕ → List ℕ → Option Order
 three_words w a b =
@@ -46,11 +61,19 @@ three_words w a b =
     then option_and_then (λ c. option_map (Break c) (pc_in b)) (cpu_in a)
     else None
 
+abbrev pub four_words : List ℕ → List ℕ → List ℕ → List ℕ → Option Order
+four_words w a b c =
+    if bytes_eq (codes "mem") w
+    then option_and_then (λ cpu. option_and_then (λ at. option_map (Memory cpu at) (count_in c))
+    (address_in b)) (cpu_in a)
+    else None
+
 -- WHAT A LINE'S FIELDS SAY, if that is a command
 abbrev pub order_of : List (List ℕ) → Option Order
 order_of (w ∷ []) = one_word w
 order_of (w ∷ a ∷ []) = two_words w a
 order_of (w ∷ a ∷ b ∷ []) = three_words w a b
+order_of (w ∷ a ∷ b ∷ c ∷ []) = four_words w a b c
 order_of fields = None
 
 -- ---- what a reader answers
@@ -60,3 +83,5 @@ said_by (command.Step c) = Step c
 said_by command.Go = Go
 said_by (command.Registers c) = Registers c
 said_by (command.Where c) = Where c
+said_by (command.Memory c a n) = Memory c a n
+said_by (command.Map name) = Map name.now

@@ -1,19 +1,19 @@
 -- What commands do: the turns that each makes, what it answers, and why one is refused (our own
 -- choice).
-use Rattle.std.specs.Prelude.{◌≡◌, ℕ, ◌<◌, true, false, ◌⊎◌, if◌then◌else◌, List, [], ◌∷◌, ◌++◌, Option, Some, None, slice_get}
+use Rattle.std.specs.Prelude.{◌≡◌, ℕ, ◌<◌, true, false, nat_lt, if◌then◌else◌, List, [], ◌∷◌, ◌++◌, Option, Some, None, length, slice_get}
 use Rattle.bpf_text.specs.Lines.{fields_of}
 use Rattle.bpf_loader.specs.Loaded.{Loaded}
 use Rattle.bpf_loader.specs.Places.{IsStart}
-use Rattle.bpf_shared.specs.Contents.{has_cpu}
 use Rattle.bpf_cpu.specs.declared.machine.Turn.{Turn}
 use Rattle.bpf_cpu.specs.Schedule.{World, TakesTurn, RunsSchedule}
 use Rattle.bpf_cpu.specs.Machine.{MachineState, Shows}
 use Rattle.bpf_debug.specs.declared.breakpoint.Breakpoint.{Breakpoint}
 use Rattle.bpf_debug.specs.declared.error.DebugError.{DebugError}
 use Rattle.bpf_debug.specs.declared.error.DebugError.TheVariants as error
-use Rattle.bpf_debug.specs.Command.{Order, Break, Step, Go, Registers, Where, order_of}
+use Rattle.bpf_debug.specs.Command.{Order, Break, Step, Go, Registers, Where, Memory, Map, order_of}
 use Rattle.bpf_debug.specs.Answer.{IsWhere, IsRegisters, ended_text, break_line}
 use Rattle.bpf_debug.specs.Go.{Goes, has_break}
+use Rattle.bpf_debug.specs.Read.{IsMemory, IsNamed, IsNoName, IsMapText}
 
 -- what callers see of a session: its machine, the names of the maps by their numbers, and the
 -- breakpoints
@@ -76,6 +76,10 @@ Follows x Go text turns y = GoesOn x text turns y
 Follows x (Registers (Some c)) text turns y =
     IsCpu x c × IsRegisters x.world.jobs c text × Asks x turns y
 Follows x (Where (Some c)) text turns y = IsCpu x c × IsWhere x.world.jobs c text × Asks x turns y
+Follows x (Memory (Some c) at n) text turns y =
+    IsCpu x c × IsMemory x.world.store x.world.jobs c at n text × Asks x turns y
+Follows x (Map name) text turns y =
+    (m : ℕ) × IsNamed x.names name m × IsMapText x.world.store m text × Asks x turns y
 Follows x order text turns y = ⊥
 
 -- a line without a word does and answers nothing
@@ -98,39 +102,61 @@ LeavesLine s fields text t =
     (x : Scene) → IsShown s x → (y : Scene) × (turns : List ℕ) × Obeys x fields text turns y
     × RunsSchedule x.world turns y.world × IsShown t y
 
--- ---- refusals: G4 is tested first, then G1
+-- ---- refusals: G4 is tested first, then G1; of a machine with so many CPUs, these programs, and
+-- maps of these names
 
--- no CPU of the machine has this number
-abbrev pub IsNoCpu : SessionState → Option ℕ → Type 0
-IsNoCpu s None = Unit {0}
-IsNoCpu s (Some c) = has_cpu s.machine.store c ≡ false
+-- no CPU has this number
+abbrev pub IsNoCpu : ℕ → Option ℕ → Type 0
+IsNoCpu cpus None = Unit {0}
+IsNoCpu cpus (Some c) = nat_lt c cpus ≡ false
 
 -- no program has an instruction that begins there
-abbrev pub IsNoPc : SessionState → Option ℕ → Type 0
-IsNoPc s None = Unit {0}
-IsNoPc s (Some p) = IsPc s.machine.programs p → ⊥
+abbrev pub IsNoPc : List Loaded → Option ℕ → Type 0
+IsNoPc programs None = Unit {0}
+IsNoPc programs (Some p) = IsPc programs p → ⊥
 
-abbrev pub NamesNoCpu : SessionState → Order → Type 0
-NamesNoCpu s (Break c p) = IsNoCpu s c
-NamesNoCpu s (Step c) = IsNoCpu s c
-NamesNoCpu s (Registers c) = IsNoCpu s c
-NamesNoCpu s (Where c) = IsNoCpu s c
-NamesNoCpu s Go = ⊥
+abbrev pub NamesNoCpu : ℕ → Order → Type 0
+NamesNoCpu cpus (Break c p) = IsNoCpu cpus c
+NamesNoCpu cpus (Step c) = IsNoCpu cpus c
+NamesNoCpu cpus Go = ⊥
+NamesNoCpu cpus (Registers c) = IsNoCpu cpus c
+NamesNoCpu cpus (Where c) = IsNoCpu cpus c
+NamesNoCpu cpus (Memory c at n) = IsNoCpu cpus c
+NamesNoCpu cpus (Map name) = ⊥
 
-abbrev pub NamesNoPc : SessionState → Order → Type 0
-NamesNoPc s (Break c p) = (IsNoCpu s c → ⊥) × IsNoPc s p
-NamesNoPc s order = ⊥
+abbrev pub NamesNoPc : ℕ → List Loaded → Order → Type 0
+NamesNoPc cpus programs (Break c p) = (IsNoCpu cpus c → ⊥) × IsNoPc programs p
+NamesNoPc cpus programs order = ⊥
+
+abbrev pub NamesNoMap : List (List ℕ) → Order → Type 0
+NamesNoMap names (Map name) = IsNoName names name
+NamesNoMap names order = ⊥
 
 -- why an order is refused
-abbrev pub RefusesOrder : SessionState → Order → DebugError → Type 0
-RefusesOrder s order error.NoCpu = NamesNoCpu s order
-RefusesOrder s order error.NoPc = NamesNoPc s order
-RefusesOrder s order error.NoMap = ⊥
-RefusesOrder s order error.BadCommand = ⊥
-RefusesOrder s order error.OutOfMemory = Unit {0}
+abbrev pub RefusesOrder : ℕ → List Loaded → List (List ℕ) → Order → DebugError → Type 0
+RefusesOrder cpus programs names order error.NoCpu = NamesNoCpu cpus order
+RefusesOrder cpus programs names order error.NoPc = NamesNoPc cpus programs order
+RefusesOrder cpus programs names order error.NoMap = NamesNoMap names order
+RefusesOrder cpus programs names order error.BadCommand = ⊥
+RefusesOrder cpus programs names order error.OutOfMemory = Unit {0}
 
--- why a line is refused
-abbrev pub Refuses : SessionState → List (List ℕ) → DebugError → Type 0
-Refuses s fields error.BadCommand = (fields ≡ [] → ⊥) × (order_of fields ≡ None)
-Refuses s fields error.OutOfMemory = Unit {0}
-Refuses s fields e = (order : Order) × (order_of fields ≡ Some order) × RefusesOrder s order e
+-- the same of what a session shows
+abbrev pub RefusesHere : SessionState → Order → DebugError → Type 0
+RefusesHere s order e =
+    RefusesOrder (length s.machine.store.runs) s.machine.programs s.names order e
+
+-- why a line is refused; want of memory may stand in place of any answer
+abbrev pub Refuses : ℕ → List Loaded → List (List ℕ) → List (List ℕ) → DebugError → Type 0
+Refuses cpus programs names fields error.BadCommand =
+    (fields ≡ [] → ⊥) × (order_of fields ≡ None)
+Refuses cpus programs names fields error.OutOfMemory = Unit {0}
+Refuses cpus programs names fields e =
+    (order : Order) × (order_of fields ≡ Some order) × RefusesOrder cpus programs names order e
+
+-- the same of a scene
+abbrev pub IsRefused : Scene → List (List ℕ) → DebugError → Type 0
+IsRefused x fields e = Refuses x.world.store.shape.cpus x.world.programs x.names fields e
+
+-- from each scene that the session shows, the line is refused
+abbrev pub RefusesLine : SessionState → List (List ℕ) → DebugError → Type 0
+RefusesLine s fields e = (x : Scene) → IsShown s x → IsRefused x fields e

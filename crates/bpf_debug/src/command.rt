@@ -2,13 +2,13 @@
 
 ghost use Rattle.std.specs.Prelude.{◌≡◌, map, option_map};
 ghost use Rattle.std.specs.Str.{bytes_eq};
-ghost use Rattle.bpf_debug.specs.Command.{cpu_in, pc_in, one_word, two_words, three_words, order_of, said_by};
+ghost use Rattle.bpf_debug.specs.Command.{cpu_in, pc_in, address_in, count_in, one_word, two_words, three_words, four_words, order_of, said_by};
 
 use bpf_text::words::{self, NumberError};
 
 /// A command of the debugger. A number that is too large to be a CPU's, a pc or an address is none.
 #[derive(Clone, Copy)]
-pub enum Command {
+pub enum Command<'a> {
     /// A pc is a breakpoint of a CPU.
     Break(Option<u8>, Option<u32>),
     /// One turn of a CPU.
@@ -19,6 +19,10 @@ pub enum Command {
     Registers(Option<u8>),
     /// Where a CPU stands.
     Where(Option<u8>),
+    /// So many bytes at an address, as a CPU's program may read them.
+    Memory(Option<u8>, Option<u64>, usize),
+    /// The keys of the map of this name, with their values.
+    Map(&'a [u8]),
 }
 
 /// Whether a word is this one.
@@ -62,7 +66,28 @@ fn pc_in(word: &[u8]) -> Option<Option<u32>>
     }
 }
 
-fn one_word(word: &[u8]) -> Option<Command>
+/// An address, in the same way.
+fn address_in(word: &[u8]) -> Option<Option<u64>>
+    ensures { result ≡ address_in word.now }
+{
+    match words::number(word) {
+        Ok(number) => Some(Some(number)),
+        Err(NumberError::TooLarge) => Some(None),
+        Err(NumberError::NoNumber) => None,
+    }
+}
+
+/// A number of bytes, 1 to 256.
+fn count_in(word: &[u8]) -> Option<usize>
+    ensures { result ≡ count_in word.now }
+{
+    match words::number(word) {
+        Ok(number) if number >= 1 && number <= 256 => Some(number as usize),
+        _ => None,
+    }
+}
+
+fn one_word<'a>(word: &[u8]) -> Option<Command<'a>>
     ensures { option_map said_by result ≡ one_word word.now }
 {
     if is(word, "go") {
@@ -72,7 +97,7 @@ fn one_word(word: &[u8]) -> Option<Command>
     }
 }
 
-fn two_words(word: &[u8], first: &[u8]) -> Option<Command>
+fn two_words<'a>(word: &[u8], first: &'a [u8]) -> Option<Command<'a>>
     ensures { option_map said_by result ≡ two_words word.now first.now }
 {
     if is(word, "step") {
@@ -84,12 +109,14 @@ fn two_words(word: &[u8], first: &[u8]) -> Option<Command>
     } else if is(word, "where") {
         let cpu = cpu_in(first)?;
         Some(Command::Where(cpu))
+    } else if is(word, "map") && words::is_name(first) {
+        Some(Command::Map(first))
     } else {
         None
     }
 }
 
-fn three_words(word: &[u8], first: &[u8], second: &[u8]) -> Option<Command>
+fn three_words<'a>(word: &[u8], first: &[u8], second: &[u8]) -> Option<Command<'a>>
     ensures { option_map said_by result ≡ three_words word.now first.now second.now }
 {
     if !is(word, "break") {
@@ -100,14 +127,28 @@ fn three_words(word: &[u8], first: &[u8], second: &[u8]) -> Option<Command>
     Some(Command::Break(cpu, pc))
 }
 
+fn four_words<'a>(word: &[u8], first: &[u8], second: &[u8], third: &[u8]) -> Option<Command<'a>>
+    ensures { option_map said_by result ≡ four_words word.now first.now second.now third.now }
+{
+    if !is(word, "mem") {
+        return None;
+    }
+    let cpu = cpu_in(first)?;
+    let address = address_in(second)?;
+    let count = count_in(third)?;
+    Some(Command::Memory(cpu, address, count))
+}
+
 /// The command that a line's fields say; `None` where they say none.
-pub fn command_of(fields: &[&[u8]]) -> Option<Command>
+pub fn command_of<'a>(fields: &[&'a [u8]]) -> Option<Command<'a>>
     ensures { option_map said_by result ≡ order_of (map (λ f. f.now) fields.now) }
 {
     match fields {
         [word] => one_word(word),
         [word, first] => two_words(word, first),
         [word, first, second] => three_words(word, first, second),
-        _ => None,
+        [word, first, second, third] => four_words(word, first, second, third),
+        [_, _, _, _, _, ..] => None,
+        [] => None,
     }
 }

@@ -24,7 +24,7 @@ pub enum DebugError {
 
 impl DebugError {
     ghost use Rattle.std.specs.Prelude.{◌≡◌};
-    ghost use Rattle.bpf_debug.specs.Codes.{refusal_code};
+    ghost use Rattle.bpf_debug.specs.Codes.{refusal_code, refusal_line};
 
     /// The code that is printed of it.
     pub fn code(self) -> &'static str
@@ -36,6 +36,19 @@ impl DebugError {
             DebugError::NoMap => "G3",
             DebugError::BadCommand => "G4",
             DebugError::OutOfMemory => "G5",
+        }
+    }
+
+    /// The line that is printed of it.
+    pub fn line(self) -> &'static str
+        ensures { result.now ≡ refusal_line self }
+    {
+        match self {
+            DebugError::NoCpu => "refused G1\n",
+            DebugError::NoPc => "refused G2\n",
+            DebugError::NoMap => "refused G3\n",
+            DebugError::BadCommand => "refused G4\n",
+            DebugError::OutOfMemory => "refused G5\n",
         }
     }
 }

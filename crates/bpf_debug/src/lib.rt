@@ -6,11 +6,15 @@ pub mod command;
 pub mod error;
 mod going;
 mod lines;
+mod maps;
+mod reading;
+pub mod script;
 pub mod session;
 mod text;
 
 pub use command::Command;
 pub use error::DebugError;
+pub use script::{Answer, run_script};
 pub use session::Session;
 
 #[cfg(test)]

@@ -2,6 +2,7 @@
 
 ghost use Rattle.std.specs.Prelude.{◌≡◌, ◌+◌, ◌*◌, ◌≤◌, ◌++◌, ◌⊎◌, List, ℕ, length, string_bytes, string_capacity, string_len};
 ghost use Rattle.bpf_cpu.specs.Lines.{fault_code, outcome_text, job_line};
+ghost use Rattle.bpf_cpu.specs.Task.{IsFree};
 ghost use Rattle.bpf_cpu.specs.Questions.{IsStanding};
 ghost use Rattle.bpf_debug.specs.Answer.{cpu_words, in_hand_line, waiting_line, idle_line, register_line, register_lines, break_line, stop_line, ended_text, IsWhere, IsRegisters, IsOff};
 
@@ -105,6 +106,20 @@ pub fn put_registers(out: &mut String, machine: &Machine, cpu: u8)
 {
     match machine.standing(cpu) {
         Standing::InHand(_, state) => put_values(out, &state.registers),
+        Standing::Waiting(job) => put_waiting(out, cpu, job),
+        Standing::Idle => put_idle(out, cpu),
+    }
+}
+
+/// Puts where a CPU stands that has no job in hand.
+pub fn put_off(out: &mut String, machine: &Machine, cpu: u8)
+    requires room { string_len out.old + 128 ≤ string_capacity out.old }
+    requires free { IsFree machine.now.jobs cpu }
+    ensures { (text : List ℕ) × IsOff machine.now.jobs cpu text
+        × (string_bytes out.new ≡ string_bytes out.old ++ text) }
+{
+    match machine.standing(cpu) {
+        Standing::InHand(..) => unreachable!(),
         Standing::Waiting(job) => put_waiting(out, cpu, job),
         Standing::Idle => put_idle(out, cpu),
     }

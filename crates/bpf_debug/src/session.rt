@@ -11,7 +11,9 @@ use crate::breakpoint::{Breakpoint, has_break};
 use crate::command::{Command, command_of};
 use crate::error::DebugError;
 use crate::going;
-use crate::lines::{LINE, put_break, put_ended, put_registers, put_where};
+use crate::lines::{LINE, put_break, put_ended, put_off, put_registers, put_where};
+use crate::maps::{map_lines, map_named};
+use crate::reading::bytes_line;
 use bpf_cpu::Machine;
 use bpf_loader::Program;
 use bpf_text::lines;
@@ -69,7 +71,8 @@ fn make_room(alloc: Global, lines: usize) -> Option<String>
 impl Session {
     ghost use Rattle.bpf_cpu.specs.Schedule.{World};
     ghost use Rattle.bpf_cpu.specs.Machine.{Shows};
-    ghost use Rattle.bpf_debug.specs.Session.{IsNoCpu, Leaves, LeavesLine, RefusesOrder, Refuses};
+    ghost use Rattle.bpf_cpu.specs.Task.{IsFree};
+    ghost use Rattle.bpf_debug.specs.Session.{IsNoCpu, Leaves, LeavesLine, RefusesHere, RefusesLine};
 
     /// A session without breakpoints, with the maps' names by their numbers.
     pub fn new(alloc: Global, machine: Machine, names: Vec<String>) -> Session
@@ -96,7 +99,7 @@ impl Session {
     fn cpu(&self, number: Option<u8>) -> Option<u8>
         ensures some { IfSome result (λ c. (number ≡ Some c)
             × (has_cpu self.now.machine.store c ≡ true)) }
-        ensures none { IfNone result (IsNoCpu self.now number) }
+        ensures none { IfNone result (IsNoCpu (length self.now.machine.store.runs) number) }
     {
         match number {
             Some(cpu) => {
@@ -129,7 +132,7 @@ impl Session {
     fn step(&mut self, alloc: Global, number: Option<u8>) -> Result<String, DebugError>
         ensures answered { IfOk result
             (λ text. Leaves self.old (Order.Step number) (string_bytes text) self.new) }
-        ensures refused { IfErr result (λ e. RefusesOrder self.old (Order.Step number) e) }
+        ensures refused { IfErr result (λ e. RefusesHere self.old (Order.Step number) e) }
         ensures unchanged { OnErr result (self.new ≡ self.old) }
     {
         let Some(cpu) = self.cpu(number) else {
@@ -141,7 +144,7 @@ impl Session {
     fn go(&mut self, alloc: Global) -> Result<String, DebugError>
         ensures answered { IfOk result
             (λ text. Leaves self.old Order.Go (string_bytes text) self.new) }
-        ensures refused { IfErr result (λ e. RefusesOrder self.old Order.Go e) }
+        ensures refused { IfErr result (λ e. RefusesHere self.old Order.Go e) }
         ensures unchanged { OnErr result (self.new ≡ self.old) }
     {
         let Some(mut out) = make_room(alloc, self.machine.jobs()) else {
@@ -178,7 +181,7 @@ impl Session {
         ensures answered { IfOk result (λ text.
             Leaves self.old (Order.Break (Some cpu) pc) (string_bytes text) self.new) }
         ensures refused { IfErr result
-            (λ e. RefusesOrder self.old (Order.Break (Some cpu) pc) e) }
+            (λ e. RefusesHere self.old (Order.Break (Some cpu) pc) e) }
         ensures unchanged { OnErr result (self.new ≡ self.old) }
     {
         let Some(at) = pc else {
@@ -198,7 +201,7 @@ impl Session {
     ) -> Result<String, DebugError>
         ensures answered { IfOk result (λ text.
             Leaves self.old (Order.Break number pc) (string_bytes text) self.new) }
-        ensures refused { IfErr result (λ e. RefusesOrder self.old (Order.Break number pc) e) }
+        ensures refused { IfErr result (λ e. RefusesHere self.old (Order.Break number pc) e) }
         ensures unchanged { OnErr result (self.new ≡ self.old) }
     {
         let Some(cpu) = self.cpu(number) else {
@@ -223,7 +226,7 @@ impl Session {
     fn registers(&self, alloc: Global, number: Option<u8>) -> Result<String, DebugError>
         ensures answered { IfOk result (λ text.
             Leaves self.now (Order.Registers number) (string_bytes text) self.now) }
-        ensures refused { IfErr result (λ e. RefusesOrder self.now (Order.Registers number) e) }
+        ensures refused { IfErr result (λ e. RefusesHere self.now (Order.Registers number) e) }
     {
         let Some(cpu) = self.cpu(number) else {
             return Err(DebugError::NoCpu);
@@ -247,7 +250,7 @@ impl Session {
     fn standing(&self, alloc: Global, number: Option<u8>) -> Result<String, DebugError>
         ensures answered { IfOk result (λ text.
             Leaves self.now (Order.Where number) (string_bytes text) self.now) }
-        ensures refused { IfErr result (λ e. RefusesOrder self.now (Order.Where number) e) }
+        ensures refused { IfErr result (λ e. RefusesHere self.now (Order.Where number) e) }
     {
         let Some(cpu) = self.cpu(number) else {
             return Err(DebugError::NoCpu);
@@ -255,10 +258,84 @@ impl Session {
         self.standing_at(alloc, cpu)
     }
 
-    fn follow(&mut self, alloc: Global, command: Command) -> Result<String, DebugError>
+    /// What `mem` answers of a CPU that has no job in hand.
+    fn off_at(
+        &self,
+        alloc: Global,
+        cpu: u8,
+        address: Option<u64>,
+        count: usize,
+    ) -> Result<String, DebugError>
+        requires served { has_cpu self.now.machine.store cpu ≡ true }
+        requires free { IsFree self.now.machine.jobs cpu }
+        ensures answered { IfOk result (λ text.
+            Leaves self.now (Order.Memory (Some cpu) address count) (string_bytes text) self.now) }
+        ensures refused { IfErr result (λ e. e ≡ DebugError.OutOfMemory) }
+    {
+        let Some(mut out) = make_room(alloc, 1) else {
+            return Err(DebugError::OutOfMemory);
+        };
+        put_off(&mut out, &self.machine, cpu);
+        Ok(out)
+    }
+
+    fn memory_at(
+        &self,
+        alloc: Global,
+        cpu: u8,
+        address: Option<u64>,
+        count: usize,
+    ) -> Result<String, DebugError>
+        requires { has_cpu self.now.machine.store cpu ≡ true }
+        ensures answered { IfOk result (λ text.
+            Leaves self.now (Order.Memory (Some cpu) address count) (string_bytes text) self.now) }
+        ensures refused { IfErr result (λ e. e ≡ DebugError.OutOfMemory) }
+    {
+        let Some(state) = self.machine.cpu(cpu) else {
+            return self.off_at(alloc, cpu, address, count);
+        };
+        match bytes_line(alloc, self.machine.store(), state, address, count) {
+            Ok(text) => Ok(text),
+            Err(_) => Err(DebugError::OutOfMemory),
+        }
+    }
+
+    fn memory(
+        &self,
+        alloc: Global,
+        number: Option<u8>,
+        address: Option<u64>,
+        count: usize,
+    ) -> Result<String, DebugError>
+        ensures answered { IfOk result (λ text.
+            Leaves self.now (Order.Memory number address count) (string_bytes text) self.now) }
+        ensures refused { IfErr result
+            (λ e. RefusesHere self.now (Order.Memory number address count) e) }
+    {
+        let Some(cpu) = self.cpu(number) else {
+            return Err(DebugError::NoCpu);
+        };
+        self.memory_at(alloc, cpu, address, count)
+    }
+
+    fn map(&self, alloc: Global, name: &[u8]) -> Result<String, DebugError>
         ensures answered { IfOk result
-            (λ text. Leaves self.old (said_by command) (string_bytes text) self.new) }
-        ensures refused { IfErr result (λ e. RefusesOrder self.old (said_by command) e) }
+            (λ text. Leaves self.now (Order.Map name.now) (string_bytes text) self.now) }
+        ensures refused { IfErr result (λ e. RefusesHere self.now (Order.Map name.now) e) }
+    {
+        let Some(map) = map_named(&self.names, name) else {
+            return Err(DebugError::NoMap);
+        };
+        match map_lines(alloc, self.machine.store(), map) {
+            Ok(text) => Ok(text),
+            Err(_) => Err(DebugError::OutOfMemory),
+        }
+    }
+
+    fn follow<'a>(&mut self, alloc: Global, command: Command<'a>) -> Result<String, DebugError>
+        ensures answered { IfOk result
+            (λ text. Leaves self.old (said_by command.entry) (string_bytes text) self.new) }
+        ensures refused { IfErr result (λ e. RefusesHere self.old (said_by command.entry) e) }
         ensures unchanged { OnErr result (self.new ≡ self.old) }
     {
         match command {
@@ -267,13 +344,15 @@ impl Session {
             Command::Go => self.go(alloc),
             Command::Registers(cpu) => self.registers(alloc, cpu),
             Command::Where(cpu) => self.standing(alloc, cpu),
+            Command::Memory(cpu, address, count) => self.memory(alloc, cpu, address, count),
+            Command::Map(name) => self.map(alloc, name),
         }
     }
 
     fn obey(&mut self, alloc: Global, fields: &[&[u8]]) -> Result<String, DebugError>
         ensures answered { IfOk result (λ text.
             LeavesLine self.old (map (λ f. f.now) fields.now) (string_bytes text) self.new) }
-        ensures refused { IfErr result (λ e. Refuses self.old (map (λ f. f.now) fields.now) e) }
+        ensures refused { IfErr result (λ e. RefusesLine self.old (map (λ f. f.now) fields.now) e) }
         ensures unchanged { OnErr result (self.new ≡ self.old) }
     {
         if fields.is_empty() {
@@ -289,10 +368,20 @@ impl Session {
     pub fn command(&mut self, alloc: Global, line: &str) -> Result<String, DebugError>
         ensures answered { IfOk result (λ text.
             LeavesLine self.old (fields_of line.now) (string_bytes text) self.new) }
-        ensures refused { IfErr result (λ e. Refuses self.old (fields_of line.now) e) }
+        ensures refused { IfErr result (λ e. RefusesLine self.old (fields_of line.now) e) }
         ensures unchanged { OnErr result (self.new ≡ self.old) }
     {
-        match lines::fields(alloc, line.as_bytes()) {
+        self.command_bytes(alloc, line.as_bytes())
+    }
+
+    /// The same of a line's bytes.
+    pub fn command_bytes(&mut self, alloc: Global, line: &[u8]) -> Result<String, DebugError>
+        ensures answered { IfOk result (λ text.
+            LeavesLine self.old (fields_of line.now) (string_bytes text) self.new) }
+        ensures refused { IfErr result (λ e. RefusesLine self.old (fields_of line.now) e) }
+        ensures unchanged { OnErr result (self.new ≡ self.old) }
+    {
+        match lines::fields(alloc, line) {
             Ok(fields) => self.obey(alloc, &fields),
             Err(_) => Err(DebugError::OutOfMemory),
         }

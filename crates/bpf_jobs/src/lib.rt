@@ -9,4 +9,5 @@ mod rounds;
 #[cfg(test)]
 mod tests;
 
-pub use rounds::{Report, run_jobs};
+pub use listing::has_any_stopped;
+pub use rounds::{Report, make_machine, run_jobs};

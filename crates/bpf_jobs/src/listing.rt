@@ -51,8 +51,8 @@ fn has_stopped(machine: &Machine, job: usize) -> bool
     }
 }
 
-/// Whether some job has.
-pub(crate) fn has_any_stopped(machine: &Machine) -> bool
+/// Whether some job has ended in a fault or out of budget.
+pub fn has_any_stopped(machine: &Machine) -> bool
     ensures { result ≡ any_stopped (length machine.now.jobs) machine.now.jobs }
 {
     let mut stopped = false;

@@ -25,8 +25,9 @@ pub struct Report {
     pub stopped: bool,
 }
 
-/// A machine over a new store of this shape.
-fn make(
+/// A machine over a new store of this shape, whose jobs all wait. Want of memory is the only
+/// refusal.
+pub fn make_machine(
     alloc: Global,
     shape: StoreShape,
     programs: Vec<Program>,
@@ -96,7 +97,7 @@ pub fn run_jobs(
     ensures { IfOk result (λ r. IsReport (first_world shape programs.items (map waiting jobs.items))
         (map string_bytes names.now) maps (string_bytes r.text) r.stopped) }
 {
-    let mut machine = make(alloc, shape, programs, jobs)?;
+    let mut machine = make_machine(alloc, shape, programs, jobs)?;
     machine.rounds();
     let report = tell(alloc, &machine, names, maps)?;
     Ok(report)

@@ -1,13 +1,10 @@
-use Rattle.std.proofs.Common.{◌≡◌, ℕ, ◌++◌, ◌∷◌, [], List, Option, Some, refl, sym, ap, subst, ◌∙◌, map}
-use Rattle.std.specs.Prelude.{true, false, IfOk, string_bytes}
-use Rattle.bpf_debug.specs.Command.{Order, said_by}
-use Rattle.bpf_debug.specs.Session.{SessionState, Leaves, LeavesLine}
-use Rattle.std.proofs.Common.{Bor}
+use Rattle.std.proofs.Common.{List, ℕ, subst}
+use Rattle.std.specs.Prelude.{IfOk, string_bytes}
 use Rattle.bpf_text.specs.Lines.{fields_of}
+use Rattle.bpf_debug.specs.Session.{LeavesLine}
 use Rattle.bpf_debug.proofs.session.Session.command.Goals as goal
 
-pub returns-in-Ok-clause-answered : goal.returns-in-Ok-clause-answered
-returns-in-Ok-clause-answered c =
-    let P : List (List ℕ) → Type 0 = λ fs. IfOk c.obey.result (λ text. LeavesLine c.args.self.now fs (string_bytes text) c.obey.new.self) in
-    let same = ap (map (λ (f : Bor (List ℕ)). f.now)) c.deref.ensures.value ∙ (c.in-Ok.ensures.found ∙ ap fields_of c.as_bytes.ensures.value) in
-    subst P same c.obey.ensures.answered
+pub returns-clause-answered : goal.returns-clause-answered
+returns-clause-answered c =
+    let P : List ℕ → Type 0 = λ line. IfOk c.command_bytes.result (λ text. LeavesLine c.args.self.now (fields_of line) (string_bytes text) c.command_bytes.new.self) in
+    subst P c.as_bytes.ensures.value c.command_bytes.ensures.answered

@@ -30,3 +30,13 @@ pub returns-in-Where-clause-answered : goal.returns-in-Where-clause-answered
 returns-in-Where-clause-answered c =
     let P : Command → Type 0 = λ o. IfOk c.standing.result (λ text. Leaves c.args.self.now (said_by o) (string_bytes text) c.args.self.now) in
     subst P (sym c.in-Where.is) c.standing.ensures.answered
+
+pub returns-in-Memory-clause-answered : goal.returns-in-Memory-clause-answered
+returns-in-Memory-clause-answered c =
+    let P : Command → Type 0 = λ o. IfOk c.memory.result (λ text. Leaves c.args.self.now (said_by o) (string_bytes text) c.args.self.now) in
+    subst P (sym c.in-Memory.is) c.memory.ensures.answered
+
+pub returns-in-Map-clause-answered : goal.returns-in-Map-clause-answered
+returns-in-Map-clause-answered c =
+    let P : Command → Type 0 = λ o. IfOk c.map.result (λ text. Leaves c.args.self.now (said_by o) (string_bytes text) c.args.self.now) in
+    subst P (sym c.in-Map.is) c.map.ensures.answered

@@ -2,7 +2,7 @@ use Rattle.std.proofs.Common.{sym, subst}
 use Rattle.bpf_shared.specs.Store.{as_made}
 use Rattle.bpf_shared.specs.Contents.{Contents, StandsFor}
 use Rattle.bpf_shared.proofs.Soundness.{as_made_sound}
-use Rattle.bpf_jobs.proofs.rounds.make.Goals as goal
+use Rattle.bpf_jobs.proofs.rounds.make_machine.Goals as goal
 
 pub returns-in-Ok-new : goal.returns-in-Ok-new
 returns-in-Ok-new c =

@@ -1,0 +1,15 @@
+-- Lines of too many words.
+use Rattle.std.proofs.Common.{◌≡◌, ℕ, ◌+◌, ◌<◌, ◌≤◌, List, [], ◌∷◌, length, Option, None, refl, arith}
+use Rattle.bpf_debug.specs.Command.{Order, order_of}
+
+pub none_said : (fields : List (List ℕ)) → length fields ≡ 0 → None ≡ order_of fields
+none_said [] e = refl
+none_said (a ∷ fields) e = absurd (omega arith)
+
+pub too_many : (fields : List (List ℕ)) → 5 ≤ length fields → None ≡ order_of fields
+too_many [] h = refl
+too_many (a ∷ []) h = absurd (omega arith)
+too_many (a ∷ b ∷ []) h = absurd (omega arith)
+too_many (a ∷ b ∷ c ∷ []) h = absurd (omega arith)
+too_many (a ∷ b ∷ c ∷ d ∷ []) h = absurd (omega arith)
+too_many (a ∷ b ∷ c ∷ d ∷ e ∷ fields) h = refl

@@ -1,0 +1,16 @@
+use Rattle.std.proofs.Common.{◌≡◌, ◌+◌, ◌≤◌, length, map, vec_len}
+use Rattle.std.specs.Prelude.{vec_capacity}
+use Rattle.std.specs.Option.{option_copied}
+use Rattle.bpf_text.specs.Lines.{lines_of, lines_behind, rest_size}
+use Rattle.bpf_debug.specs.Script.{answer_of}
+use Rattle.bpf_debug.proofs.ScriptLaws.{Far}
+use Rattle.bpf_debug.proofs.script.follow_lines.Given as goal
+
+abbrev pub invariant-lines : goal.invariant-lines
+invariant-lines l = record {
+  far : Far (lines_of l.script) l.fn.session l.session (map answer_of l.answers.items) (lines_behind (option_copied l.rest));
+  room : vec_len l.answers + length (lines_behind (option_copied l.rest)) ≤ vec_capacity l.answers;
+}
+
+abbrev pub decreases-lines : goal.decreases-lines
+decreases-lines l = rest_size (option_copied l.rest)

@@ -1,0 +1,13 @@
+use Rattle.std.proofs.Common.{◌≡◌, ℕ, ◌++◌, ◌∷◌, [], List, Option, Some, refl, sym, ap, subst, ◌∙◌, map}
+use Rattle.std.specs.Prelude.{true, false, IfOk, string_bytes}
+use Rattle.bpf_debug.specs.Command.{Order, said_by}
+use Rattle.bpf_debug.specs.Session.{SessionState, Leaves, LeavesLine}
+use Rattle.std.proofs.Common.{Bor}
+use Rattle.bpf_text.specs.Lines.{fields_of}
+use Rattle.bpf_debug.proofs.session.Session.command_bytes.Goals as goal
+
+pub returns-in-Ok-clause-answered : goal.returns-in-Ok-clause-answered
+returns-in-Ok-clause-answered c =
+    let P : List (List ℕ) → Type 0 = λ fs. IfOk c.obey.result (λ text. LeavesLine c.args.self.now fs (string_bytes text) c.obey.new.self) in
+    let same = ap (map (λ (f : Bor (List ℕ)). f.now)) c.deref.ensures.value ∙ c.in-Ok.ensures.found in
+    subst P same c.obey.ensures.answered

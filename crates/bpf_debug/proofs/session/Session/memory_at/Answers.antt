@@ -1,0 +1,19 @@
+use Rattle.std.proofs.Common.{◌≡◌, ℕ, List, [], Option, Some, refl, sym, ap, subst, ◌∙◌, map}
+use Rattle.std.specs.Prelude.{true, IfOk, string_bytes}
+use Rattle.bpf_shared.specs.Contents.{Contents, has_cpu}
+use Rattle.bpf_debug.specs.Read.{TellsBytes}
+use Rattle.bpf_debug.specs.Command.{Memory, Map, said_by}
+use Rattle.bpf_debug.specs.Session.{SessionState, Leaves}
+use Rattle.bpf_debug.proofs.SessionLaws.{told_bytes}
+use Rattle.bpf_debug.proofs.session.Session.memory_at.Goals as goal
+
+pub returns-in-Ok-clause-answered : goal.returns-in-Ok-clause-answered
+returns-in-Ok-clause-answered c =
+    let m = c.self.inside in
+    let names : List (List ℕ) = map (λ n. string_bytes n) m.names.items in
+    let s : SessionState = record { machine = m.machine; names = names; breaks = m.breakpoints.items } in
+    let last = string_bytes c.in-Ok.text in
+    let P : SessionState → Type 0 = λ t. Leaves t (Memory (Some c.args.cpu) c.args.address c.args.count) last t in
+    let T : Contents → Type 0 = λ p. TellsBytes p c.in-Some.state.now c.args.address c.args.count last in
+    let H : SessionState → Type 0 = λ t. has_cpu t.machine.store c.args.cpu ≡ true in
+    subst P c.self.view_is (told_bytes s c.args.cpu c.args.address c.args.count last c.in-Some.state.now (subst H (sym c.self.view_is) c.requires) c.in-Some.ensures.state (subst T c.store.ensures c.in-Ok.ensures))

@@ -1,0 +1,104 @@
+-- What `mem` and `map` show: bytes as a CPU's program may read them, and a map's keys with their
+-- values (our own choice).
+use Rattle.std.specs.Prelude.{◌≡◌, ℕ, zero, suc, ◌+◌, ◌^◌, ◌<◌, ◌≤◌, true, false, ◌⊎◌, List, [], ◌++◌, Option, Some, None, codes, length, slice_get, slice_index}
+use Rattle.hex.specs.Hex.{encode_lower}
+use Rattle.bpf_mem.specs.Memory.{byte_at}
+use Rattle.bpf_shared.specs.Store.{Plain}
+use Rattle.bpf_shared.specs.Sound.{IsSoundStore}
+use Rattle.bpf_shared.specs.Contents.{Contents, StandsFor}
+use Rattle.bpf_shared.specs.Listing.{Pair, pair_at, IsListing, IsByteAt}
+use Rattle.bpf_helpers.specs.Held.{reaches}
+use Rattle.bpf_cpu.specs.declared.cpu.Cpu.{Cpu}
+use Rattle.bpf_cpu.specs.Task.{Task, InHand, IsAt}
+use Rattle.bpf_debug.specs.Answer.{IsOff}
+
+-- ---- bytes
+
+-- the program in this state may read this byte at the address: it is the CPU's own, or it lies in
+-- a value that the run holds
+abbrev pub MayRead : Plain → Cpu → ℕ → ℕ → Type 0
+MayRead s state a b =
+    (byte_at state.memory a ≡ Some b)
+    ⊎ ((byte_at state.memory a ≡ None) × (reaches state.held a ≡ true) × IsByteAt s a b)
+
+-- it may read none there
+abbrev pub MayNotRead : Plain → Cpu → ℕ → Type 0
+MayNotRead s state a =
+    (byte_at state.memory a ≡ None)
+    × ((reaches state.held a ≡ false) ⊎ ((b : ℕ) → IsByteAt s a b → ⊥))
+
+-- the bytes from the address on, this many, are these
+pub record AreRead (s : Plain) (state : Cpu) (a n : ℕ) (bytes : List ℕ) : Type 0 where
+  pub within : a + n < 2 ^ 64
+  pub count : length bytes ≡ n
+  pub each : (k : ℕ) → k < n → MayRead s state (a + k) (slice_index bytes k)
+
+-- one of them isn't there
+abbrev pub IsUnreadable : Plain → Cpu → ℕ → ℕ → Type 0
+IsUnreadable s state a n =
+    (2 ^ 64 ≤ a + n) ⊎ ((k : ℕ) × (k < n) × MayNotRead s state (a + k))
+
+abbrev pub unreadable : List ℕ
+unreadable = codes "unreadable\n"
+
+-- the bytes in hex, where each may be read; a number that is too large for an address names none
+abbrev pub ShowsBytes : Plain → Cpu → Option ℕ → ℕ → List ℕ → Type 0
+ShowsBytes s state None n text = text ≡ unreadable
+ShowsBytes s state (Some a) n text =
+    ((bytes : List ℕ) × AreRead s state a n bytes × (text ≡ encode_lower bytes ++ codes "\n"))
+    ⊎ (IsUnreadable s state a n × (text ≡ unreadable))
+
+-- those of a CPU with a job in hand, or where it stands
+abbrev pub IsMemory : Plain → List Task → ℕ → Option ℕ → ℕ → List ℕ → Type 0
+IsMemory s jobs c at n text =
+    ((j : ℕ) × (task : Task) × (state : Cpu) × (left : ℕ) × IsAt jobs c j task (InHand state left)
+    × ShowsBytes s state at n text)
+    ⊎ IsOff jobs c text
+
+-- ---- of each plain store that the machine's shows
+
+abbrev pub ReadsByte : Contents → Cpu → ℕ → ℕ → Type 0
+ReadsByte p state a b = (s : Plain) → IsSoundStore s → StandsFor p s → MayRead s state a b
+
+abbrev pub ReadsNoByte : Contents → Cpu → ℕ → Type 0
+ReadsNoByte p state a = (s : Plain) → IsSoundStore s → StandsFor p s → MayNotRead s state a
+
+abbrev pub ReadsBytes : Contents → Cpu → ℕ → ℕ → List ℕ → Type 0
+ReadsBytes p state a n bytes =
+    (s : Plain) → IsSoundStore s → StandsFor p s → AreRead s state a n bytes
+
+abbrev pub ReadsNoBytes : Contents → Cpu → ℕ → ℕ → Type 0
+ReadsNoBytes p state a n =
+    (s : Plain) → IsSoundStore s → StandsFor p s → IsUnreadable s state a n
+
+abbrev pub TellsBytes : Contents → Cpu → Option ℕ → ℕ → List ℕ → Type 0
+TellsBytes p state at n text =
+    (s : Plain) → IsSoundStore s → StandsFor p s → ShowsBytes s state at n text
+
+-- ---- maps
+
+-- the first map of this name
+abbrev pub IsNamed : List (List ℕ) → List ℕ → ℕ → Type 0
+IsNamed names name m =
+    (slice_get names m ≡ Some name) × ((k : ℕ) → k < m → slice_get names k ≡ Some name → ⊥)
+
+-- no map has it
+abbrev pub IsNoName : List (List ℕ) → List ℕ → Type 0
+IsNoName names name = (k : ℕ) → slice_get names k ≡ Some name → ⊥
+
+-- a key with its value, both in lower case hex
+abbrev pub pair_line : Pair → List ℕ
+pair_line p = encode_lower p.0 ++ codes "=" ++ encode_lower p.1 ++ codes "\n"
+
+-- a line a key, of the first n
+abbrev pub pair_lines : ℕ → List Pair → List ℕ
+pair_lines zero pairs = []
+pair_lines (suc n) pairs = pair_lines n pairs ++ pair_line (pair_at pairs n)
+
+-- the keys of a map with their values, in the order of the keys' bytes
+abbrev pub IsMapText : Plain → ℕ → List ℕ → Type 0
+IsMapText s m text =
+    (pairs : List Pair) × IsListing s m pairs × (text ≡ pair_lines (length pairs) pairs)
+
+abbrev pub TellsMap : Contents → ℕ → List ℕ → Type 0
+TellsMap p m text = (s : Plain) → IsSoundStore s → StandsFor p s → IsMapText s m text

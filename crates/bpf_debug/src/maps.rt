@@ -1,0 +1,53 @@
+//! Maps by their names, and what they hold.
+
+ghost use Rattle.std.specs.Prelude.{◌≡◌, ◌++◌, IfOk, IfSome, IfNone, OnOk, length, map, string_bytes};
+ghost use Rattle.bpf_shared.specs.Shows.{listed};
+ghost use Rattle.bpf_debug.specs.Read.{IsNamed, IsNoName, TellsMap, pair_line, pair_lines};
+
+use bpf_shared::PlainStore;
+use std::alloc::{AllocError, Global};
+
+/// The number of the first map of a name.
+pub fn map_named(names: &[String], name: &[u8]) -> Option<usize>
+    ensures named { IfSome result
+        (λ m. IsNamed (map string_bytes names.now) name.now m) }
+    ensures none { IfNone result (IsNoName (map string_bytes names.now) name.now) }
+{
+    for (number, own) in names.iter().enumerate() {
+        if own.as_bytes() == name {
+            return Some(number);
+        }
+    }
+    None
+}
+
+/// Puts the line of a key behind the text.
+fn push_pair(alloc: Global, text: &mut String, key: &[u8], value: &[u8]) -> Result<(), AllocError>
+    ensures { OnOk result (string_bytes text.new
+        ≡ string_bytes text.old ++ pair_line (key.now, value.now)) }
+{
+    let key = hex::encode(alloc, key)?;
+    let value = hex::encode(alloc, value)?;
+    let line = format!(in alloc; "{key}={value}\n")?;
+    text.push_str(line.as_str())
+}
+
+/// The lines of keys with their values, in their order.
+fn pair_lines(alloc: Global, pairs: &[(Vec<u8>, Vec<u8>)]) -> Result<String, AllocError>
+    ensures { IfOk result
+        (λ text. string_bytes text ≡ pair_lines (length pairs.now) (listed pairs.now)) }
+{
+    let mut text = String::new(alloc);
+    for pair in pairs {
+        push_pair(alloc, &mut text, &pair.0, &pair.1)?;
+    }
+    Ok(text)
+}
+
+/// The lines of a map, in the order of its keys.
+pub fn map_lines(alloc: Global, store: &PlainStore, map: usize) -> Result<String, AllocError>
+    ensures { IfOk result (λ text. TellsMap store.now map (string_bytes text)) }
+{
+    let pairs = store.dump(alloc, map as u64)?;
+    pair_lines(alloc, &pairs)
+}
