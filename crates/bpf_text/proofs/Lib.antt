@@ -15,3 +15,4 @@ pub mod TextLemmas
 pub mod Shown
 pub mod ReadBack
 pub mod Unique
+pub mod Letters

@@ -1,5 +1,5 @@
 -- Reading a text line by line, and what its lines mean one after the other.
-use Rattle.std.proofs.Common.{◌≡◌, ℕ, ◌+◌, ◌*◌, ◌<◌, ◌≤◌, zero, suc, add-zero, add-one, Bool, true, false, cond, List, [], ◌∷◌, ◌++◌, length, length-append, map, get_or, drop, drop-cons, append_assoc, append-nil, Option, Some, None, Result, Ok, Err, refl, sym, ap, subst, ◌∙◌, arith}
+use Rattle.std.proofs.Common.{◌≡◌, ℕ, ◌+◌, ◌*◌, ◌<◌, ◌≤◌, zero, suc, add-zero, add-one, Bool, true, false, cond, ◌&&◌, ◌||◌, List, [], ◌∷◌, ◌++◌, length, length-append, map, get_or, drop, drop-cons, append_assoc, append-nil, Option, Some, None, Result, Ok, Err, refl, sym, ap, subst, ◌∙◌, arith}
 use Rattle.std.specs.Prelude.{option_to_list, All}
 use Rattle.std.proofs.lemmas.List.{length-map, drop_all}
 use Rattle.bpf_insn.specs.declared.instruction.Insn.{Insn}
@@ -7,8 +7,9 @@ use Rattle.bpf_text.specs.declared.error.TextError.{TextError}
 use Rattle.bpf_text.specs.declared.labels.Place.{Place}
 use Rattle.bpf_text.specs.declared.assembly.Kept.{Kept}
 use Rattle.bpf_text.specs.declared.reading.LineError.{LineError}
+use Rattle.bpf_text.specs.declared.reading.LineError.TheVariants.{BadLine, BadNumber}
 use Rattle.bpf_text.specs.Private.Labels.{or_else}
-use Rattle.bpf_text.specs.Private.Sources.{source_of, KeptLine, kept_view, nothing_is, nothing_said, kept_of, kept_program, Gathers}
+use Rattle.bpf_text.specs.Private.Sources.{source_of, KeptLine, kept_view, nothing_is, nothing_said, is_refused, any_refused, is_passed_over, kept_of, kept_program, Gathers}
 use Rattle.bpf_text.specs.Lines.{lines_behind, rest_size}
 use Rattle.bpf_text.specs.Assembly.{Source, IsLine, AreLines, words_of, is_named, is_twice, first_place, body_meaning, meaning_of, then_meaning, program_of}
 use Rattle.bpf_text.specs.Lines.{lines_of}
@@ -81,30 +82,72 @@ words_next done s pc size h e = omega (arith, words_before-append done s)
 
 -- ---- lines that say something
 
-kept_of-append : (line : ℕ) (ss : List Source) (s : Source) → kept_of line (ss ++ s ∷ []) ≡ kept_of line ss ++ kept_of (line + length ss) (s ∷ [])
-kept_of-append line [] s = ap (λ n. kept_of n (s ∷ [])) (sym (add-zero line))
-kept_of-append line (t ∷ ss) s =
-    let next : (line + 1) + length ss ≡ line + suc (length ss) = omega arith in
-    let more : kept_of (line + 1) (ss ++ s ∷ []) ≡ kept_of (line + 1) ss ++ kept_of (line + suc (length ss)) (s ∷ []) = kept_of-append (line + 1) ss s ∙ ap (λ n. kept_of (line + 1) ss ++ kept_of n (s ∷ [])) next in
-    by_test (nothing_said t) more
+-- a line that says nothing isn't refused
+said_nothing : (s : Source) → nothing_said s ≡ true → is_refused s.body ≡ false
+said_nothing s h = by_parts s.label s.body h
   where
-    by_test : (b : Bool) → kept_of (line + 1) (ss ++ s ∷ []) ≡ kept_of (line + 1) ss ++ kept_of (line + suc (length ss)) (s ∷ [])
-        → cond b (kept_of (line + 1) (ss ++ s ∷ [])) (record { line = line; source = t } ∷ kept_of (line + 1) (ss ++ s ∷ []))
-        ≡ cond b (kept_of (line + 1) ss) (record { line = line; source = t } ∷ kept_of (line + 1) ss) ++ kept_of (line + suc (length ss)) (s ∷ [])
-    by_test true more = more
-    by_test false more = ap (λ ks. record { line = line; source = t } ∷ ks) more
+    by_parts : (label : Option (List ℕ)) (body : Result (Option Written) LineError) → nothing_is label body ≡ true → is_refused body ≡ false
+    by_parts label (Ok o) h = refl
+    by_parts None (Err e) h = cc
+    by_parts (Some l) (Err e) h = cc
+
+-- what a line that is passed over leaves refused
+passed_over : (c n r rest : Bool) → (n ≡ true → r ≡ false) → (n || (c && r)) ≡ true → (c || rest) ≡ (c || (r || rest))
+passed_over true n r rest h e = refl
+passed_over false true false rest h e = refl
+passed_over false true true rest h e = let e = h refl in cc
+passed_over false false r rest h e = cc
+
+kept_behind : (a b c : Bool) → ((a || b) || c) ≡ (a || (b || c))
+kept_behind true b c = refl
+kept_behind false b c = refl
+
+kept_of-append : (c : Bool) (line : ℕ) (ss : List Source) (s : Source) → kept_of c line (ss ++ s ∷ []) ≡ kept_of c line ss ++ kept_of (c || any_refused ss) (line + length ss) (s ∷ [])
+kept_of-append c line [] s = ap (λ n. kept_of c n (s ∷ [])) (sym (add-zero line)) ∙ ap (λ d. kept_of d (line + 0) (s ∷ [])) (sym (or_nothing c))
+  where
+    or_nothing : (b : Bool) → (b || false) ≡ b
+    or_nothing true = refl
+    or_nothing false = refl
+kept_of-append c line (t ∷ ss) s =
+    let next : (line + 1) + length ss ≡ line + suc (length ss) = omega arith in
+    let all = line + suc (length ss) in
+    let over : (d : Bool) → kept_of d (line + 1) (ss ++ s ∷ []) ≡ kept_of d (line + 1) ss ++ kept_of (d || any_refused ss) all (s ∷ []) =
+    λ d. kept_of-append d (line + 1) ss s ∙ ap (λ n. kept_of d (line + 1) ss ++ kept_of (d || any_refused ss) n (s ∷ [])) next in
+    by_test (is_passed_over c t) refl (over c) (over (c || is_refused t.body))
+  where
+    by_test : (b : Bool) → is_passed_over c t ≡ b
+        → kept_of c (line + 1) (ss ++ s ∷ []) ≡ kept_of c (line + 1) ss ++ kept_of (c || any_refused ss) (line + suc (length ss)) (s ∷ [])
+        → kept_of (c || is_refused t.body) (line + 1) (ss ++ s ∷ []) ≡ kept_of (c || is_refused t.body) (line + 1) ss ++ kept_of ((c || is_refused t.body) || any_refused ss) (line + suc (length ss)) (s ∷ [])
+        → cond b (kept_of c (line + 1) (ss ++ s ∷ [])) (record { line = line; source = t } ∷ kept_of (c || is_refused t.body) (line + 1) (ss ++ s ∷ []))
+        ≡ cond b (kept_of c (line + 1) ss) (record { line = line; source = t } ∷ kept_of (c || is_refused t.body) (line + 1) ss) ++ kept_of (c || (is_refused t.body || any_refused ss)) (line + suc (length ss)) (s ∷ [])
+    by_test true e more other =
+        let same = passed_over c (nothing_said t) (is_refused t.body) (any_refused ss) (said_nothing t) e in
+        more ∙ ap (λ d. kept_of c (line + 1) ss ++ kept_of d (line + suc (length ss)) (s ∷ [])) same
+    by_test false e other more =
+        let same = kept_behind c (is_refused t.body) (any_refused ss) in
+        ap (λ ks. record { line = line; source = t } ∷ ks)
+        (more ∙ ap (λ d. kept_of (c || is_refused t.body) (line + 1) ss ++ kept_of d (line + suc (length ss)) (s ∷ [])) same)
+
+any_refused-append : (ss : List Source) (s : Source) → any_refused (ss ++ s ∷ []) ≡ (any_refused ss || is_refused s.body)
+any_refused-append [] s = or_none (is_refused s.body)
+  where
+    or_none : (b : Bool) → (b || false) ≡ b
+    or_none true = refl
+    or_none false = refl
+any_refused-append (t ∷ ss) s = ap (λ b. is_refused t.body || b) (any_refused-append ss s) ∙ sym (kept_behind (is_refused t.body) (any_refused ss) (is_refused s.body))
 
 -- what is known of a text after some of its lines
-pub record Gathered (text : List ℕ) (rest : Option (List ℕ)) (labels : List ℕ → Option Place) (line pc : ℕ) (kept : List KeptLine) : Type 0 where
+pub record Gathered (text : List ℕ) (rest : Option (List ℕ)) (labels : List ℕ → Option Place) (line pc : ℕ) (refused : Bool) (kept : List KeptLine) : Type 0 where
   pub sources : List Source
   pub lines : LinesRead text sources rest
   pub places : (q : List ℕ) → labels q ≡ first_place sources 0 0 q
   pub words : pc ≡ words_before sources
   pub count : line ≡ length sources
-  pub kept_lines : kept ≡ kept_of 0 sources
+  pub kept_lines : kept ≡ kept_of false 0 sources
+  pub refusal : refused ≡ any_refused sources
   pub bound : line + rest_size rest ≤ length text + 1
 
-pub gathered_start : (text : List ℕ) (labels : List ℕ → Option Place) (kept : List KeptLine) → ((q : List ℕ) → labels q ≡ None) → kept ≡ [] → Gathered text (Some text) labels 0 0 kept
+pub gathered_start : (text : List ℕ) (labels : List ℕ → Option Place) (kept : List KeptLine) → ((q : List ℕ) → labels q ≡ None) → kept ≡ [] → Gathered text (Some text) labels 0 0 false kept
 gathered_start text labels kept h e = record {
   sources = [];
   lines = lines_start text;
@@ -112,24 +155,29 @@ gathered_start text labels kept h e = record {
   words = refl;
   count = refl;
   kept_lines = e;
+  refusal = refl;
   bound = omega arith;
 }
 
-pub gathered_next : (text left first : List ℕ) (behind : Option (List ℕ)) (f g : List ℕ → Option Place) (line pc size : ℕ) (kept new : List KeptLine) (s : Source) → Gathered text (Some left) f line pc kept → lines_of left ≡ first ∷ lines_behind behind
-    → rest_size behind ≤ length left → IsLine first s → ((q : List ℕ) → g q ≡ or_else (f q) (cond (is_named q s.label) (Some (record { line = line; pc = pc })) None)) → size ≡ words_of s.body → new ≡ kept ++ kept_of line (s ∷ [])
-    → Gathered text behind g (line + 1) (pc + size) new
-gathered_next text left first behind f g line pc size kept new s r cut shorter l k e n = record {
+pub gathered_next : (text left first : List ℕ) (behind : Option (List ℕ)) (f g : List ℕ → Option Place) (line pc size : ℕ) (refused after : Bool) (kept new : List KeptLine) (s : Source) → Gathered text (Some left) f line pc refused kept → lines_of left ≡ first ∷ lines_behind behind
+    → rest_size behind ≤ length left → IsLine first s → ((q : List ℕ) → g q ≡ or_else (f q) (cond (is_named q s.label) (Some (record { line = line; pc = pc })) None)) → size ≡ words_of s.body → new ≡ kept ++ kept_of refused line (s ∷ []) → after ≡ (refused || is_refused s.body)
+    → Gathered text behind g (line + 1) (pc + size) after new
+gathered_next text left first behind f g line pc size refused after kept new s r cut shorter l k e n c = record {
   sources = r.sources ++ s ∷ [];
   lines = lines_next text left first r.sources behind s r.lines cut l;
   places = labels_next f g r.sources (r.sources ++ s ∷ []) s line pc r.places r.count r.words refl k;
   words = words_next r.sources s pc size r.words e;
   count = omega (arith, r.count, length-append r.sources (s ∷ []));
-  kept_lines = n ∙ ap (λ ks. ks ++ kept_of line (s ∷ [])) r.kept_lines ∙ ap (λ m. kept_of 0 r.sources ++ kept_of m (s ∷ [])) (omega (arith, r.count)) ∙ sym (kept_of-append 0 r.sources s);
+  kept_lines = n ∙ ap (λ ks. ks ++ kept_of refused line (s ∷ [])) r.kept_lines
+      ∙ ap (λ m. kept_of false 0 r.sources ++ kept_of refused m (s ∷ [])) (omega (arith, r.count))
+      ∙ ap (λ d. kept_of false 0 r.sources ++ kept_of d (0 + length r.sources) (s ∷ [])) r.refusal
+      ∙ sym (kept_of-append false 0 r.sources s);
+  refusal = c ∙ ap (λ d. d || is_refused s.body) r.refusal ∙ sym (any_refused-append r.sources s);
   bound = omega (arith, r.bound);
 }
 
-pub gathered_end : (text : List ℕ) (labels : List ℕ → Option Place) (line pc : ℕ) (kept : List KeptLine) → Gathered text None labels line pc kept → Gathers text labels kept
-gathered_end text labels line pc kept r = record {
+pub gathered_end : (text : List ℕ) (labels : List ℕ → Option Place) (line pc : ℕ) (refused : Bool) (kept : List KeptLine) → Gathered text None labels line pc refused kept → Gathers text labels kept
+gathered_end text labels line pc refused kept r = record {
   sources = r.sources;
   lines = lines_end text r.sources r.lines;
   places = r.places;
@@ -141,25 +189,25 @@ abbrev Below : ℕ → List KeptLine → Type 0
 Below n [] = Unit {0}
 Below n (k ∷ ks) = (k.line < n) × Below n ks
 
-below_kept : (line : ℕ) (ss : List Source) (n : ℕ) → line + length ss ≤ n → Below n (kept_of line ss)
-below_kept line [] n h = tt
-below_kept line (s ∷ ss) n h =
+below_kept : (c : Bool) (line : ℕ) (ss : List Source) (n : ℕ) → line + length ss ≤ n → Below n (kept_of c line ss)
+below_kept c line [] n h = tt
+below_kept c line (s ∷ ss) n h =
     let first : line < n = omega arith in
-    by_test (nothing_said s) first (below_kept (line + 1) ss n (omega arith))
+    by_test (is_passed_over c s) first (below_kept c (line + 1) ss n (omega arith)) (below_kept (c || is_refused s.body) (line + 1) ss n (omega arith))
   where
-    by_test : (b : Bool) → line < n → Below n (kept_of (line + 1) ss) → Below n (cond b (kept_of (line + 1) ss) (record { line = line; source = s } ∷ kept_of (line + 1) ss))
-    by_test true h more = more
-    by_test false h more = (h, more)
+    by_test : (b : Bool) → line < n → Below n (kept_of c (line + 1) ss) → Below n (kept_of (c || is_refused s.body) (line + 1) ss) → Below n (cond b (kept_of c (line + 1) ss) (record { line = line; source = s } ∷ kept_of (c || is_refused s.body) (line + 1) ss))
+    by_test true h more other = more
+    by_test false h other more = (h, more)
 
 below_each : (n : ℕ) (ks : List Kept) → Below n (map kept_view ks) → (i : ℕ) (d : Kept) → i < length ks → (get_or ks i d).line < n
 below_each n [] h i d lt = absurd (omega arith)
 below_each n (k ∷ ks) h zero d lt = h.0
 below_each n (k ∷ ks) h (suc i) d lt = below_each n ks h.1 i d (omega arith)
 
-pub short_lines : (text : List ℕ) (rest : Option (List ℕ)) (labels : List ℕ → Option Place) (line pc n : ℕ) (ks : List Kept) → Gathered text rest labels line pc (map kept_view ks) → line ≤ n → All (λ k. k.line < n) ks
-short_lines text rest labels line pc n ks r h =
+pub short_lines : (text : List ℕ) (rest : Option (List ℕ)) (labels : List ℕ → Option Place) (line pc n : ℕ) (refused : Bool) (ks : List Kept) → Gathered text rest labels line pc refused (map kept_view ks) → line ≤ n → All (λ k. k.line < n) ks
+short_lines text rest labels line pc n refused ks r h =
     let P : List KeptLine → Type 0 = λ xs. Below n xs in
-    below_each n ks (subst P (sym r.kept_lines) (below_kept 0 r.sources n (omega (arith, r.count, h))))
+    below_each n ks (subst P (sym r.kept_lines) (below_kept false 0 r.sources n (omega (arith, r.count, h))))
 
 -- lines that say nothing mean nothing
 blank_means : (labels : List ℕ → Option Place) (line pc : ℕ) (s : Source) (r : Result (List Insn) TextError) → nothing_said s ≡ true → then_meaning (meaning_of labels line pc s) r ≡ r
@@ -187,27 +235,67 @@ blank_words s h = by_parts s.label s.body h
     by_parts (Some l) (Err e) h = cc
 
 -- each line that is kept has two words at most, and the others none
-pub small_next : (kept new : List Kept) (s : Source) (line pc size n m : ℕ) → map kept_view new ≡ map kept_view kept ++ kept_of line (s ∷ []) → size ≡ words_of s.body → size ≤ 2 → n ≡ length kept → m ≡ length new → pc ≤ 2 * n → pc + size ≤ 2 * m
-small_next kept new s line pc size n m e w small a b h =
-    let lengths : length new ≡ length kept + length (kept_of line (s ∷ [])) =
-    sym (length-map new kept_view) ∙ ap length e ∙ length-append (map kept_view kept) (kept_of line (s ∷ [])) ∙ ap (λ x. x + length (kept_of line (s ∷ []))) (length-map kept kept_view) in
-    by_test (nothing_said s) refl lengths
+refused_words : (s : Source) → is_refused s.body ≡ true → words_of s.body ≡ 0
+refused_words s h = by_body s.body h
   where
-    by_test : (t : Bool) → nothing_said s ≡ t → length new ≡ length kept + length {A = KeptLine} (cond t [] (record { line = line; source = s } ∷ [])) → pc + size ≤ 2 * m
-    by_test true f lengths = let none : size ≡ 0 = w ∙ blank_words s f in omega (arith, none, lengths, a, b, h)
+    by_body : (body : Result (Option Written) LineError) → is_refused body ≡ true → words_of body ≡ 0
+    by_body (Ok o) h = cc
+    by_body (Err e) h = refl
+
+-- a line that is passed over has no words
+passed_words : (c : Bool) (s : Source) → is_passed_over c s ≡ true → words_of s.body ≡ 0
+passed_words c s h = by_test (nothing_said s) refl h
+  where
+    by_refusal : (d r : Bool) → is_refused s.body ≡ r → (d && r) ≡ true → words_of s.body ≡ 0
+    by_refusal true true e h = refused_words s e
+    by_refusal true false e h = cc
+    by_refusal false r e h = cc
+
+    by_test : (b : Bool) → nothing_said s ≡ b → (b || (c && is_refused s.body)) ≡ true → words_of s.body ≡ 0
+    by_test true e h = blank_words s e
+    by_test false e h = by_refusal c (is_refused s.body) refl h
+
+pub small_next : (c : Bool) (kept new : List Kept) (s : Source) (line pc size n m : ℕ) → map kept_view new ≡ map kept_view kept ++ kept_of c line (s ∷ []) → size ≡ words_of s.body → size ≤ 2 → n ≡ length kept → m ≡ length new → pc ≤ 2 * n → pc + size ≤ 2 * m
+small_next c kept new s line pc size n m e w small a b h =
+    let lengths : length new ≡ length kept + length (kept_of c line (s ∷ [])) =
+    sym (length-map new kept_view) ∙ ap length e ∙ length-append (map kept_view kept) (kept_of c line (s ∷ [])) ∙ ap (λ x. x + length (kept_of c line (s ∷ []))) (length-map kept kept_view) in
+    by_test (is_passed_over c s) refl lengths
+  where
+    by_test : (t : Bool) → is_passed_over c s ≡ t → length new ≡ length kept + length {A = KeptLine} (cond t [] (record { line = line; source = s } ∷ [])) → pc + size ≤ 2 * m
+    by_test true f lengths = let none : size ≡ 0 = w ∙ passed_words c s f in omega (arith, none, lengths, a, b, h)
     by_test false f lengths = omega (arith, lengths, a, b, h, small)
 
-pub kept_means : (labels : List ℕ → Option Place) (line pc : ℕ) (ss : List Source) → kept_program labels pc (kept_of line ss) ≡ program_of labels line pc ss
-kept_means labels line pc [] = refl
-kept_means labels line pc (s ∷ ss) = by_test (nothing_said s) refl (kept_means labels (line + 1) (pc + words_of s.body) ss) (kept_means labels (line + 1) pc ss)
+-- a refused line means its refusal, whatever follows
+refused_means : (labels : List ℕ → Option Place) (line pc : ℕ) (s : Source) (r q : Result (List Insn) TextError) → is_refused s.body ≡ true → then_meaning (meaning_of labels line pc s) r ≡ then_meaning (meaning_of labels line pc s) q
+unfolding meaning_of
+refused_means labels line pc s r q h = by_body s.body h
   where
-    by_test : (b : Bool) → nothing_said s ≡ b → kept_program labels (pc + words_of s.body) (kept_of (line + 1) ss) ≡ program_of labels (line + 1) (pc + words_of s.body) ss
-        → kept_program labels pc (kept_of (line + 1) ss) ≡ program_of labels (line + 1) pc ss
-        → kept_program labels pc (cond b (kept_of (line + 1) ss) (record { line = line; source = s } ∷ kept_of (line + 1) ss)) ≡ program_of labels line pc (s ∷ ss)
+    by_body : (body : Result (Option Written) LineError) → is_refused body ≡ true → then_meaning (body_meaning labels (is_twice labels line s.label) line pc body) r ≡ then_meaning (body_meaning labels (is_twice labels line s.label) line pc body) q
+    by_body (Ok o) h = cc
+    by_body (Err BadLine) h = refl
+    by_body (Err BadNumber) h = refl
+
+only_nothing : (n r : Bool) → (n || (false && r)) ≡ n
+only_nothing true r = refl
+only_nothing false r = refl
+
+pub kept_means : (labels : List ℕ → Option Place) (line pc : ℕ) (ss : List Source) → kept_program labels pc (kept_of false line ss) ≡ program_of labels line pc ss
+kept_means labels line pc [] = refl
+kept_means labels line pc (s ∷ ss) = by_test (is_passed_over false s) refl (kept_means labels (line + 1) (pc + words_of s.body) ss) (kept_means labels (line + 1) pc ss)
+  where
+    by_refusal : (r : Bool) → is_refused s.body ≡ r → kept_program labels (pc + words_of s.body) (kept_of false (line + 1) ss) ≡ program_of labels (line + 1) (pc + words_of s.body) ss
+        → then_meaning (meaning_of labels line pc s) (kept_program labels (pc + words_of s.body) (kept_of r (line + 1) ss)) ≡ program_of labels line pc (s ∷ ss)
+    by_refusal true e more = refused_means labels line pc s _ _ e
+    by_refusal false e more = ap (then_meaning (meaning_of labels line pc s)) more
+
+    by_test : (b : Bool) → is_passed_over false s ≡ b → kept_program labels (pc + words_of s.body) (kept_of false (line + 1) ss) ≡ program_of labels (line + 1) (pc + words_of s.body) ss
+        → kept_program labels pc (kept_of false (line + 1) ss) ≡ program_of labels (line + 1) pc ss
+        → kept_program labels pc (cond b (kept_of false (line + 1) ss) (record { line = line; source = s } ∷ kept_of (is_refused s.body) (line + 1) ss)) ≡ program_of labels line pc (s ∷ ss)
     by_test true e more same =
-        let none : pc + words_of s.body ≡ pc = omega (arith, blank_words s e) in
-        same ∙ ap (λ p. program_of labels (line + 1) p ss) (sym none) ∙ sym (blank_means labels line pc s (program_of labels (line + 1) (pc + words_of s.body) ss) e)
-    by_test false e more same = ap (then_meaning (meaning_of labels line pc s)) more
+        let said : nothing_said s ≡ true = sym (only_nothing (nothing_said s) (is_refused s.body)) ∙ e in
+        let none : pc + words_of s.body ≡ pc = omega (arith, blank_words s said) in
+        same ∙ ap (λ p. program_of labels (line + 1) p ss) (sym none) ∙ sym (blank_means labels line pc s (program_of labels (line + 1) (pc + words_of s.body) ss) said)
+    by_test false e more same = by_refusal (is_refused s.body) refl more
 
 -- ---- the second pass
 

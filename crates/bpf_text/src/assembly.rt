@@ -1,11 +1,11 @@
 //! Assembly text as instructions.
 
-ghost use Rattle.std.specs.Prelude.{◌≡◌, ◌++◌, ◌∷◌, [], ◌<◌, ◌≤◌, ◌^◌, ◌⊎◌, All, List, Ok, Err, Result, map, IfOk, IfErr, OnOk, IsOkUnless, MatchResult, option_to_list};
+ghost use Rattle.std.specs.Prelude.{◌≡◌, ◌||◌, ◌++◌, ◌∷◌, [], ◌<◌, ◌≤◌, ◌^◌, ◌⊎◌, All, List, Ok, Err, Result, map, IfOk, IfErr, OnOk, IsOkUnless, MatchResult, option_to_list};
 ghost use Rattle.bpf_insn.specs.declared.instruction.Insn.{Insn};
 ghost use Rattle.bpf_text.specs.declared.error.TextError.{TextError};
 ghost use Rattle.bpf_text.specs.Assembly.{words_of, Assembles};
 ghost use Rattle.bpf_text.specs.Private.Labels.{found};
-ghost use Rattle.bpf_text.specs.Private.Sources.{source_of, body_of, kept_view, nothing_said, kept_of, kept_program, Gathers};
+ghost use Rattle.bpf_text.specs.Private.Sources.{source_of, body_of, kept_view, nothing_said, is_refused, kept_of, kept_program, Gathers};
 
 use crate::error::TextError;
 use crate::labels::{self, Labels, Place};
@@ -28,7 +28,7 @@ fn words_of(body: &Body<'_>) -> usize
     ensures small { result ≤ 2 }
 {
     match body {
-        Body::Code(insn, _) => insn.words() as usize,
+        Body::Code(insn) | Body::Named(insn, _) => insn.words() as usize,
         Body::Empty | Body::Refused(_) => 0,
     }
 }
@@ -43,13 +43,32 @@ fn says_nothing(source: &SourceLine<'_>) -> bool
     }
 }
 
-/// Puts a line, if it says something, behind the others.
-fn keep<'a>(lines: &mut Vec<Kept<'a>>, line: usize, source: SourceLine<'a>) -> Result<(), TextError>
+/// Whether a line is refused for what it is, whatever the others are.
+fn is_refused(body: &Body<'_>) -> bool
+    ensures { result ≡ is_refused (body_of body.now) }
+{
+    matches!(body, Body::Refused(_))
+}
+
+/// Whether one of some lines is refused, or this one behind them.
+fn refuses(refused: bool, body: &Body<'_>) -> bool
+    ensures { result ≡ (refused || is_refused (body_of body.now)) }
+{
+    refused || is_refused(body)
+}
+
+/// Puts a line behind the others, if it says something: behind a refused line no other one.
+fn keep<'a>(
+    lines: &mut Vec<Kept<'a>>,
+    line: usize,
+    refused: bool,
+    source: SourceLine<'a>,
+) -> Result<(), TextError>
     ensures ok { OnOk result (map kept_view lines.new.items
-        ≡ map kept_view lines.old.items ++ kept_of line (source_of source.entry ∷ [])) }
+        ≡ map kept_view lines.old.items ++ kept_of refused line (source_of source.entry ∷ [])) }
     ensures memory { IsOkUnless result TextError.OutOfMemory }
 {
-    if says_nothing(&source) {
+    if says_nothing(&source) || (refused && is_refused(&source.body)) {
         return Ok(());
     }
     lines
@@ -57,7 +76,7 @@ fn keep<'a>(lines: &mut Vec<Kept<'a>>, line: usize, source: SourceLine<'a>) -> R
         .map_err(|_| TextError::OutOfMemory)
 }
 
-/// A text's lines that say something, and the first line with each label.
+/// A text's lines that are kept, and the first line with each label.
 /// Fails by `OutOfMemory` alone.
 fn gather<'a>(alloc: Global, text: &'a [u8]) -> Result<(Vec<Kept<'a>>, Labels<'a>), TextError>
     ensures gathered { IfOk result (λ r. Gathers text.now (found r.1) (map kept_view r.0.items)) }
@@ -68,15 +87,17 @@ fn gather<'a>(alloc: Global, text: &'a [u8]) -> Result<(Vec<Kept<'a>>, Labels<'a
     let mut labels = HashMap::new(alloc);
     let mut line: usize = 0;
     let mut pc: usize = 0;
+    let mut refused = false;
     let mut rest = Some(text);
     'text: while let Some(left) = rest {
         let (first, behind) = lines::first_line(left);
         let source = source::source_line(alloc, first)?;
         labels::note_line(&mut labels, source.label, Place { line, pc })?;
         let size = words_of(&source.body);
-        keep(&mut kept, line, source)?;
+        keep(&mut kept, line, refused, source)?;
         line += 1;
         pc += size;
+        refused = refuses(refused, &source.body);
         rest = behind;
     }
     Ok((kept, labels))

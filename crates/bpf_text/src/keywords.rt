@@ -4,6 +4,7 @@ ghost use Rattle.std.specs.Prelude.{◌≡◌};
 ghost use Rattle.bpf_text.specs.Names.{keyword_text};
 ghost use Rattle.bpf_text.specs.Words.{keyword_of};
 ghost use Rattle.bpf_text.specs.Private.Pieces.{same_keyword};
+ghost use Rattle.bpf_text.specs.Private.Letters.{spelled};
 
 use bpf_insn::{ByteSwap, SignedSize, Size, SwapWidth, Width};
 
@@ -69,6 +70,64 @@ const KEYWORDS: [Keyword; 33] = [
     Keyword::Exchange(Width::Bits64),
     Keyword::CompareExchange(Width::Bits32),
     Keyword::CompareExchange(Width::Bits64),
+];
+
+/// All keywords, by their first letters.
+const ON_S: [Keyword; 4] = [
+    Keyword::Signed,
+    Keyword::Extended(SignedSize::Byte),
+    Keyword::Extended(SignedSize::Half),
+    Keyword::Extended(SignedSize::Word),
+];
+
+const ON_I: [Keyword; 1] = [Keyword::If];
+
+const ON_G: [Keyword; 2] = [Keyword::Goto, Keyword::GotoLong];
+
+const ON_C: [Keyword; 3] = [
+    Keyword::Call,
+    Keyword::CompareExchange(Width::Bits32),
+    Keyword::CompareExchange(Width::Bits64),
+];
+
+const ON_E: [Keyword; 1] = [Keyword::Exit];
+
+const ON_L: [Keyword; 5] = [
+    Keyword::Wide,
+    Keyword::Lock,
+    Keyword::Swap(ByteSwap::ToLittle, SwapWidth::Bits16),
+    Keyword::Swap(ByteSwap::ToLittle, SwapWidth::Bits32),
+    Keyword::Swap(ByteSwap::ToLittle, SwapWidth::Bits64),
+];
+
+const ON_M: [Keyword; 1] = [Keyword::Map];
+
+const ON_U: [Keyword; 4] = [
+    Keyword::Unsigned(Size::Byte),
+    Keyword::Unsigned(Size::Half),
+    Keyword::Unsigned(Size::Word),
+    Keyword::Unsigned(Size::Double),
+];
+
+const ON_B: [Keyword; 6] = [
+    Keyword::Swap(ByteSwap::ToBig, SwapWidth::Bits16),
+    Keyword::Swap(ByteSwap::ToBig, SwapWidth::Bits32),
+    Keyword::Swap(ByteSwap::ToBig, SwapWidth::Bits64),
+    Keyword::Swap(ByteSwap::Reverse, SwapWidth::Bits16),
+    Keyword::Swap(ByteSwap::Reverse, SwapWidth::Bits32),
+    Keyword::Swap(ByteSwap::Reverse, SwapWidth::Bits64),
+];
+
+const ON_A: [Keyword; 4] = [
+    Keyword::FetchAdd,
+    Keyword::FetchOr,
+    Keyword::FetchAnd,
+    Keyword::FetchXor,
+];
+
+const ON_X: [Keyword; 2] = [
+    Keyword::Exchange(Width::Bits32),
+    Keyword::Exchange(Width::Bits64),
 ];
 
 impl Keyword {
@@ -144,13 +203,46 @@ fn swap_text(swap: ByteSwap, width: SwapWidth) -> &'static str
     }
 }
 
-/// The keyword with this spelling.
-#[tactic(auto, unfolding(crate::specs::Words::keyword_of))]
-pub fn keyword_named(word: &[u8]) -> Option<Keyword>
-    ensures { result ≡ keyword_of word.now }
+/// The first of these keywords with this spelling.
+fn spelled(keywords: &[Keyword], word: &[u8]) -> Option<Keyword>
+    ensures { result ≡ spelled keywords.now word.now }
 {
-    KEYWORDS
+    keywords
         .iter()
         .copied()
         .find(|k| k.text().as_bytes() == word)
+}
+
+/// The keyword with this spelling. Only those with its first letter are looked at.
+pub fn keyword_named(word: &[u8]) -> Option<Keyword>
+    ensures { result ≡ keyword_of word.now }
+{
+    let [first, ..] = word else {
+        return None;
+    };
+    if *first == b's' {
+        spelled(&ON_S, word)
+    } else if *first == b'i' {
+        spelled(&ON_I, word)
+    } else if *first == b'g' {
+        spelled(&ON_G, word)
+    } else if *first == b'c' {
+        spelled(&ON_C, word)
+    } else if *first == b'e' {
+        spelled(&ON_E, word)
+    } else if *first == b'l' {
+        spelled(&ON_L, word)
+    } else if *first == b'm' {
+        spelled(&ON_M, word)
+    } else if *first == b'u' {
+        spelled(&ON_U, word)
+    } else if *first == b'b' {
+        spelled(&ON_B, word)
+    } else if *first == b'a' {
+        spelled(&ON_A, word)
+    } else if *first == b'x' {
+        spelled(&ON_X, word)
+    } else {
+        None
+    }
 }

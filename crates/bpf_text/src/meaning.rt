@@ -65,8 +65,8 @@ pub fn meaning(
         Body::Refused(LineError::BadLine) => Err(TextError::BadLine(line + 1)),
         Body::Refused(LineError::BadNumber) => Err(TextError::BadNumber(line + 1)),
         Body::Empty => unless_twice(twice, line, None),
-        Body::Code(insn, None) => unless_twice(twice, line, Some(*insn)),
-        Body::Code(insn, Some(name)) => {
+        Body::Code(insn) => unless_twice(twice, line, Some(*insn)),
+        Body::Named(insn, name) => {
             let place = labels::place_of(labels, name);
             at_target(twice, line, pc, *insn, place)
         }

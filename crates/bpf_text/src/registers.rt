@@ -3,6 +3,7 @@
 ghost use Rattle.std.specs.Prelude.{◌≡◌};
 ghost use Rattle.bpf_text.specs.Names.{register_text};
 ghost use Rattle.bpf_text.specs.Words.{register_of};
+ghost use Rattle.bpf_text.specs.Private.Letters.{named};
 ghost use Rattle.bpf_text.specs.Private.Pieces.{same_width, same_register};
 
 use bpf_insn::{Reg, Width};
@@ -20,6 +21,35 @@ const REGISTERS: [(Width, Reg); 22] = [
     (Width::Bits64, Reg::R8),
     (Width::Bits64, Reg::R9),
     (Width::Bits64, Reg::R10),
+    (Width::Bits32, Reg::R0),
+    (Width::Bits32, Reg::R1),
+    (Width::Bits32, Reg::R2),
+    (Width::Bits32, Reg::R3),
+    (Width::Bits32, Reg::R4),
+    (Width::Bits32, Reg::R5),
+    (Width::Bits32, Reg::R6),
+    (Width::Bits32, Reg::R7),
+    (Width::Bits32, Reg::R8),
+    (Width::Bits32, Reg::R9),
+    (Width::Bits32, Reg::R10),
+];
+
+/// Those of all 64 bits, and those of the low 32.
+const WHOLE: [(Width, Reg); 11] = [
+    (Width::Bits64, Reg::R0),
+    (Width::Bits64, Reg::R1),
+    (Width::Bits64, Reg::R2),
+    (Width::Bits64, Reg::R3),
+    (Width::Bits64, Reg::R4),
+    (Width::Bits64, Reg::R5),
+    (Width::Bits64, Reg::R6),
+    (Width::Bits64, Reg::R7),
+    (Width::Bits64, Reg::R8),
+    (Width::Bits64, Reg::R9),
+    (Width::Bits64, Reg::R10),
+];
+
+const LOW: [(Width, Reg); 11] = [
     (Width::Bits32, Reg::R0),
     (Width::Bits32, Reg::R1),
     (Width::Bits32, Reg::R2),
@@ -63,15 +93,30 @@ pub fn register_text(width: Width, register: Reg) -> &'static str
     }
 }
 
-/// The register with this name.
-#[tactic(auto, unfolding(crate::specs::Words::register_of))]
-pub fn register_named(word: &[u8]) -> Option<(Width, Reg)>
-    ensures { result ≡ register_of word.now }
+/// The first of these registers with this name.
+fn named(registers: &[(Width, Reg)], word: &[u8]) -> Option<(Width, Reg)>
+    ensures { result ≡ named registers.now word.now }
 {
-    REGISTERS
+    registers
         .iter()
         .copied()
         .find(|r| register_text(r.0, r.1).as_bytes() == word)
+}
+
+/// The register with this name. Only those with its first letter are looked at.
+pub fn register_named(word: &[u8]) -> Option<(Width, Reg)>
+    ensures { result ≡ register_of word.now }
+{
+    let [first, ..] = word else {
+        return None;
+    };
+    if *first == b'r' {
+        named(&WHOLE, word)
+    } else if *first == b'w' {
+        named(&LOW, word)
+    } else {
+        None
+    }
 }
 
 pub fn same_width(a: Width, b: Width) -> bool

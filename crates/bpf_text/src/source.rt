@@ -1,13 +1,14 @@
 //! Lines as they are written: a label, and an instruction whose target may be a label's name.
 
-ghost use Rattle.std.specs.Prelude.{◌≡◌, map, IfOk, IsOkUnless};
+ghost use Rattle.std.specs.Prelude.{◌≡◌, map, Ok, Some, IfOk, IsOkUnless};
 ghost use Rattle.std.specs.Option.{option_copied};
+ghost use Rattle.bpf_text.specs.Private.Judging.{drafted};
 ghost use Rattle.bpf_text.specs.Private.Look.{look};
 ghost use Rattle.bpf_text.specs.Assembly.{label_of, unlabelled, IsBody, IsLine};
 ghost use Rattle.bpf_text.specs.Private.Sources.{body_of, source_of};
 
 use crate::error::TextError;
-use crate::reading::{self, LineError};
+use crate::reading::{self, Draft, LineError};
 use crate::signs::Sign;
 use crate::token::{self, Token};
 use crate::words;
@@ -18,8 +19,9 @@ use std::alloc::Global;
 #[derive(Clone, Copy)]
 pub enum Body<'a> {
     Empty,
-    /// An instruction, and the label that its target names, if it does.
-    Code(Insn, Option<&'a [u8]>),
+    Code(Insn),
+    /// An instruction whose target names this label.
+    Named(Insn, &'a [u8]),
     Refused(LineError),
 }
 
@@ -45,6 +47,16 @@ fn labelled<'t, 'a>(tokens: &'t [Token<'a>]) -> (Option<&'a [u8]>, &'t [Token<'a
     }
 }
 
+/// An instruction that was read.
+fn code<'a>(draft: Draft<'a>) -> Body<'a>
+    ensures { body_of result ≡ Ok (Some (drafted draft.entry)) }
+{
+    match draft.target {
+        None => Body::Code(draft.insn),
+        Some(name) => Body::Named(draft.insn, name),
+    }
+}
+
 /// What stands behind a line's label.
 fn behind_label<'a>(tokens: &[Token<'a>]) -> Body<'a>
     ensures { IsBody (body_of result) (map look tokens.now) }
@@ -52,7 +64,7 @@ fn behind_label<'a>(tokens: &[Token<'a>]) -> Body<'a>
     match tokens {
         [] => Body::Empty,
         _ => match reading::instruction(tokens) {
-            Ok(draft) => Body::Code(draft.insn, draft.target),
+            Ok(draft) => code(draft),
             Err(error) => Body::Refused(error),
         },
     }

@@ -1,9 +1,9 @@
 -- What the reader's lines stand for, without where their names lie.
-use Rattle.std.specs.Prelude.{◌≡◌, ℕ, ◌+◌, Bool, true, false, if◌then◌else◌, List, [], ◌∷◌, Option, Some, None, Result, Ok, Err}
+use Rattle.std.specs.Prelude.{◌≡◌, ℕ, ◌+◌, Bool, true, false, ◌&&◌, ◌||◌, if◌then◌else◌, List, [], ◌∷◌, Option, Some, None, Result, Ok, Err}
 use Rattle.std.specs.Option.{option_copied}
 use Rattle.bpf_text.specs.declared.reading.LineError.{LineError}
 use Rattle.bpf_text.specs.declared.source.Body.{Body}
-use Rattle.bpf_text.specs.declared.source.Body.TheVariants.{Empty, Code, Refused}
+use Rattle.bpf_text.specs.declared.source.Body.TheVariants.{Empty, Code, Named, Refused}
 use Rattle.bpf_text.specs.declared.source.SourceLine.{SourceLine}
 use Rattle.bpf_text.specs.Line.{Written}
 use Rattle.bpf_insn.specs.declared.instruction.Insn.{Insn}
@@ -15,7 +15,8 @@ use Rattle.bpf_text.specs.Lines.{lines_of}
 
 abbrev pub body_of : Body → Result (Option Written) LineError
 body_of Empty = Ok None
-body_of (Code i target) = Ok (Some (record { insn = i; name = option_copied target }))
+body_of (Code i) = Ok (Some (record { insn = i; name = None }))
+body_of (Named i name) = Ok (Some (record { insn = i; name = Some name.now }))
 body_of (Refused e) = Err e
 
 abbrev pub source_of : SourceLine → Source
@@ -39,12 +40,26 @@ pub record KeptLine : Type 0 where
 abbrev pub kept_view : Kept → KeptLine
 kept_view k = record { line = k.line; source = source_of k.source }
 
--- the lines that say something, lines being counted on from here
-abbrev pub kept_of : ℕ → List Source → List KeptLine
-kept_of line [] = []
-kept_of line (s ∷ ss) =
-    if nothing_said s then kept_of (line + 1) ss
-    else record { line = line; source = s } ∷ kept_of (line + 1) ss
+-- ---- lines that are kept: behind a line that is refused no other refused one counts
+
+abbrev pub is_refused : Result (Option Written) LineError → Bool
+is_refused (Ok o) = false
+is_refused (Err e) = true
+
+abbrev pub any_refused : List Source → Bool
+any_refused [] = false
+any_refused (s ∷ ss) = is_refused s.body || any_refused ss
+
+-- where one was refused before, or none
+abbrev pub is_passed_over : Bool → Source → Bool
+is_passed_over refused s = nothing_said s || (refused && is_refused s.body)
+
+-- the lines that are kept, lines being counted on from here
+abbrev pub kept_of : Bool → ℕ → List Source → List KeptLine
+kept_of refused line [] = []
+kept_of refused line (s ∷ ss) =
+    if is_passed_over refused s then kept_of refused (line + 1) ss
+    else record { line = line; source = s } ∷ kept_of (refused || is_refused s.body) (line + 1) ss
 
 -- what these lines mean one after the other, or the first one's refusal
 abbrev pub kept_program : (List ℕ → Option Place) → ℕ → List KeptLine
@@ -54,10 +69,10 @@ kept_program labels pc (k ∷ ks) =
     then_meaning (meaning_of labels k.line pc k.source)
     (kept_program labels (pc + words_of k.source.body) ks)
 
--- a text's lines that say something, and the place of each label
+-- a text's lines that are kept, and the place of each label
 pub record Gathers (text : List ℕ) (labels : List ℕ
     → Option Place) (kept : List KeptLine) : Type 0 where
   pub sources : List Source
   pub lines : AreLines (lines_of text) sources
   pub places : (name : List ℕ) → labels name ≡ first_place sources 0 0 name
-  pub kept_lines : kept ≡ kept_of 0 sources
+  pub kept_lines : kept ≡ kept_of false 0 sources

@@ -8,7 +8,7 @@ use Rattle.bpf_text.proofs.assembly.gather.Given as goal
 
 abbrev pub invariant-text : goal.invariant-text
 invariant-text l = record {
-  lines : Gathered l.text (option_copied l.rest) (found l.labels) l.line l.pc (map kept_view l.kept.items);
+  lines : Gathered l.text (option_copied l.rest) (found l.labels) l.line l.pc l.refused (map kept_view l.kept.items);
   small : l.pc ≤ 2 * vec_len l.kept;
 }
 
