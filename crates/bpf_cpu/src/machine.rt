@@ -13,7 +13,9 @@ use crate::outcome::Outcome;
 use bpf_loader::Program;
 use bpf_shared::{PlainStore, Shared};
 pub use job::Job;
-use lane::{Hand, Lane, Listed, Phase, count_cpus, first_job, list_jobs, make_lanes, make_room};
+use lane::{
+    Hand, Lane, Listed, Phase, count_cpus, first_job, list_jobs, make_lanes, make_room, put_down,
+};
 use std::alloc::Global;
 use std::marker::Model;
 use std::mem;
@@ -290,7 +292,7 @@ impl Machine {
             Some(outcome) => {
                 self.store.end(cpu);
                 listed.phase = Phase::Ended(outcome);
-                lane.hand = None;
+                put_down(lane);
                 Turn::Ended(job, outcome)
             }
         }

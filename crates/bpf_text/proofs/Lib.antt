@@ -1,4 +1,5 @@
 pub mod HexLemmas
+pub mod HexReading
 pub mod FormText
 pub mod WideText
 pub mod DigitLemmas

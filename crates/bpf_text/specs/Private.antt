@@ -1,4 +1,5 @@
 -- What private functions of the reader compute. No public clause speaks of these definitions.
+pub mod Digits
 pub mod Look
 pub mod Pieces
 pub mod Lines

@@ -1,11 +1,10 @@
 //! Bytes as hex digits, two a byte.
 
-ghost use Rattle.std.specs.Prelude.{◌≡◌, ℕ, List, ◌⊎◌, IfOk, IfErr, IsOkUnless, string_bytes};
-ghost use Rattle.hex.specs.Hex.{encode_lower};
-ghost use Rattle.bpf_text.specs.HexText.{is_passed_over, digits_of, IsHexOf};
+ghost use Rattle.std.specs.Prelude.{◌≡◌, ◌<◌, ℕ, List, ◌⊎◌, IfOk, IfErr, IfSome, IsOkUnless, string_bytes};
+ghost use Rattle.hex.specs.Hex.{encode_lower, hex_digit_value};
+ghost use Rattle.bpf_text.specs.HexText.{is_passed_over, IsHexOf};
 
 use crate::error::TextError;
-use hex::FromHexError;
 use std::alloc::Global;
 
 /// Whether hex text may have this byte between digits: space, tab, CR and LF.
@@ -15,17 +14,17 @@ fn is_passed_over(byte: u8) -> bool
     matches!(byte, b' ' | b'\t' | b'\r' | b'\n')
 }
 
-/// The bytes of a text that aren't passed over.
-fn digits(alloc: Global, text: &str) -> Result<Vec<u8>, TextError>
-    ensures ok { IfOk result (λ digits. digits.items ≡ digits_of text.now) }
-    ensures memory { IsOkUnless result TextError.OutOfMemory }
+/// The number that a hex digit has.
+fn digit(byte: u8) -> Option<u8>
+    ensures value { result ≡ hex_digit_value byte }
+    ensures small { IfSome result (λ n. n < 16) }
 {
-    text.as_bytes()
-        .iter()
-        .copied()
-        .filter(|byte| !is_passed_over(*byte))
-        .collect(alloc)
-        .map_err(|_| TextError::OutOfMemory)
+    match byte {
+        b'0'..=b'9' => Some(byte - b'0'),
+        b'a'..=b'f' => Some(byte - b'a' + 10),
+        b'A'..=b'F' => Some(byte - b'A' + 10),
+        _ => None,
+    }
 }
 
 /// The bytes as lower case hex digits. Fails by `OutOfMemory` alone.
@@ -45,10 +44,29 @@ pub fn from_hex(alloc: Global, text: &str) -> Result<Vec<u8>, TextError>
     ensures not_hex { result ≡ Err TextError.NotHex → (bytes : List ℕ) → IsHexOf text.now bytes → ⊥ }
     ensures errors { IfErr result (λ e. (e ≡ TextError.NotHex) ⊎ (e ≡ TextError.OutOfMemory)) }
 {
-    let digits = digits(alloc, text)?;
-    match hex::decode(alloc, &digits) {
-        Ok(bytes) => Ok(bytes),
-        Err(FromHexError::OutOfMemory) => Err(TextError::OutOfMemory),
-        Err(_) => Err(TextError::NotHex),
+    let text = text.as_bytes();
+    let mut bytes = Vec::with_capacity(alloc, text.len() / 2).map_err(|_| TextError::OutOfMemory)?;
+    // the number of a digit whose byte isn't whole yet
+    let mut half = None;
+    'digits: for byte in text {
+        if is_passed_over(*byte) {
+            continue;
+        }
+        let Some(number) = digit(*byte) else {
+            return Err(TextError::NotHex);
+        };
+        match half {
+            None => half = Some(number),
+            Some(high) => {
+                let Ok(()) = bytes.push(high * 16 + number) else {
+                    return Err(TextError::OutOfMemory);
+                };
+                half = None;
+            }
+        }
+    }
+    match half {
+        None => Ok(bytes),
+        Some(_) => Err(TextError::NotHex),
     }
 }

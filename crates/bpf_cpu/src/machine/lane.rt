@@ -77,6 +77,16 @@ pub(crate) fn count_cpus(jobs: &[Job]) -> usize
     count
 }
 
+/// Puts down what a CPU has in hand. It stands alone, or each turn would clear room on the stack for
+/// the state that is dropped.
+#[cold]
+#[inline(never)]
+pub(crate) fn put_down(lane: &mut Lane)
+    ensures { lane.new ≡ record lane.old { hand = None } }
+{
+    lane.hand = None;
+}
+
 /// Room for so many jobs and CPUs.
 pub(crate) fn make_room(
     alloc: Global,

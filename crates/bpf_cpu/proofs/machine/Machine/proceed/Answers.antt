@@ -5,12 +5,14 @@ use Rattle.bpf_shared.specs.Store.{put}
 use Rattle.bpf_shared.specs.declared.events.Span.{Span}
 use Rattle.bpf_shared.specs.Contents.{has_cpu, is_running, held_spans}
 use Rattle.bpf_shared.specs.declared.events.Event.TheVariants.{End}
+use Rattle.bpf_cpu.specs.declared.machine.lane.Lane.{Lane}
+use Rattle.bpf_cpu.specs.declared.machine.lane.Listed.{Listed}
 use Rattle.bpf_cpu.specs.declared.machine.lane.Phase.TheVariants.{Ended}
 use Rattle.bpf_cpu.specs.declared.machine.Turn.TheVariants.{Ran}
 use Rattle.bpf_cpu.specs.declared.machine.Turn.TheVariants as turn
 use Rattle.bpf_helpers.specs.Held.{AreHeld}
 use Rattle.bpf_cpu.specs.Machine.{MachineState}
-use Rattle.bpf_cpu.specs.Private.Lanes.{lane_of, tasks_of}
+use Rattle.bpf_cpu.specs.Private.Lanes.{lane_of, tasks_of, IsBoard}
 use Rattle.bpf_cpu.specs.Work.{HasInHand, Proceeds}
 use Rattle.bpf_cpu.proofs.OwnEvents.{call_leads}
 use Rattle.bpf_cpu.proofs.HeldLaws.{others_without}
@@ -144,8 +146,10 @@ invariant_of-self-in-Some-advance c =
     let listed : slice_get m.jobs.items c.args.job ≡ Some e = slice_get_read m.jobs.items (length m.jobs.items) c.args.job e refl (job_within m.store m.programs.items m.jobs.items m.lanes.items c.self.invariant c.args.cpu c.args.job has.0 has.1 has.2 has.3) c.index_mut-listed.ensures.value in
     let program = c.index.result.now in
     let loaded : slice_get m.programs.items e.program ≡ Some program = slice_get_read m.programs.items (length m.programs.items) e.program program refl (program_within m.store m.programs.items m.jobs.items m.lanes.items c.self.invariant c.args.cpu c.args.job has.0 has.1 has.2 has.3 l here h c.in-Some.is e listed) c.index.ensures in
-    ended_board m.store m.programs.items m.jobs.items m.lanes.items c.self.invariant c.args.cpu c.args.job has.0 has.1 has.2 has.3 l here h c.in-Some.is e listed program loaded c.in-Some-advance.outcome c.end.new.self (c.end.ensures.same.1 ∙ c.advance.ensures.serves) (c.end.ensures.running ∙ ap (λ (f : ℕ → Bool). put f c.args.cpu false) c.advance.ensures.keeps.runs)
-    (λ d ne. ap (λ (f : ℕ → Span → Bool). f d) c.end.ensures.held ∙ others_without (held_spans c.advance.new.store) c.args.cpu d ne ∙ c.advance.ensures.keeps.others d (λ q. ne (q ∙ number m.store m.programs.items m.jobs.items m.lanes.items c.self.invariant c.args.cpu c.args.job has.0 has.1 has.2 has.3 l here h c.in-Some.is)))
+    let end : Listed = record { cpu = e.cpu; program = e.program; budget = e.budget; phase = Ended c.in-Some-advance.outcome } in
+    let Q : Lane → Type 0 = λ k. IsBoard (has_cpu c.end.new.self) (is_running c.end.new.self) (held_spans c.end.new.self) m.programs.items (slice_set m.jobs.items c.args.job end) (slice_set m.lanes.items c.args.cpu k) in
+    subst Q (sym c.put_down.ensures) (ended_board m.store m.programs.items m.jobs.items m.lanes.items c.self.invariant c.args.cpu c.args.job has.0 has.1 has.2 has.3 l here h c.in-Some.is e listed program loaded c.in-Some-advance.outcome c.end.new.self (c.end.ensures.same.1 ∙ c.advance.ensures.serves) (c.end.ensures.running ∙ ap (λ (f : ℕ → Bool). put f c.args.cpu false) c.advance.ensures.keeps.runs)
+    (λ d ne. ap (λ (f : ℕ → Span → Bool). f d) c.end.ensures.held ∙ others_without (held_spans c.advance.new.store) c.args.cpu d ne ∙ c.advance.ensures.keeps.others d (λ q. ne (q ∙ number m.store m.programs.items m.jobs.items m.lanes.items c.self.invariant c.args.cpu c.args.job has.0 has.1 has.2 has.3 l here h c.in-Some.is))))
 
 pub returns-in-None-clause-proceeds : goal.returns-in-None-clause-proceeds
 returns-in-None-clause-proceeds c =
@@ -177,12 +181,11 @@ returns-in-Some-advance-clause-proceeds c =
     let program = c.index.result.now in
     let loaded : slice_get m.programs.items e.program ≡ Some program = slice_get_read m.programs.items (length m.programs.items) e.program program refl (program_within m.store m.programs.items m.jobs.items m.lanes.items c.self.invariant c.args.cpu c.args.job has.0 has.1 has.2 has.3 l here h c.in-Some.is e listed) c.index.ensures in
     let served : has_cpu c.advance.new.store c.args.cpu ≡ true = ap (λ (f : ℕ → Bool). f c.args.cpu) c.advance.ensures.serves ∙ serves m.store m.programs.items m.jobs.items m.lanes.items c.self.invariant c.args.cpu c.args.job has.0 has.1 has.2 has.3 in
-    let new : MachineState = record {
-      store = c.end.new.self;
-      programs = m.programs.items;
-      jobs = tasks_of (slice_set m.lanes.items c.args.cpu (record { hand = None; next = l.next })) (slice_set m.jobs.items c.args.job (record { cpu = e.cpu; program = e.program; budget = e.budget; phase = Ended c.in-Some-advance.outcome }));
-    } in
-    let Q : MachineState → Type 0 = λ s. Proceeds s c.args.cpu c.args.job (turn.Ended c.args.job c.in-Some-advance.outcome) new in
-    subst Q c.self.view_is (λ task state left at w shows.
+    let end : Listed = record { cpu = e.cpu; program = e.program; budget = e.budget; phase = Ended c.in-Some-advance.outcome } in
+    let new : Lane → MachineState = λ k. record { store = c.end.new.self; programs = m.programs.items; jobs = tasks_of (slice_set m.lanes.items c.args.cpu k) (slice_set m.jobs.items c.args.job end) } in
+    let empty : Lane = record { hand = None; next = l.next } in
+    let Q : MachineState → Type 0 = λ s. Proceeds s c.args.cpu c.args.job (turn.Ended c.args.job c.in-Some-advance.outcome) (new empty) in
+    let R : Lane → Type 0 = λ k. Proceeds c.args.self.now c.args.cpu c.args.job (turn.Ended c.args.job c.in-Some-advance.outcome) (new k) in
+    subst R (sym c.put_down.ensures) (subst Q c.self.view_is (λ task state left at w shows.
     proceeds_ended m.store m.programs.items m.jobs.items m.lanes.items c.self.invariant c.args.cpu c.args.job task state left at l here h c.in-Some.is e listed program loaded c.in-Some-advance.outcome c.advance.new.store c.end.new.self c.advance.new.self.cpu c.advance.new.self.left c.in-Some-advance.ensures.advance
-    (call_leads c.advance.new.store c.end.new.self c.args.cpu End served c.end.ensures.ended c.end.ensures.same.1) w shows)
+    (call_leads c.advance.new.store c.end.new.self c.args.cpu End served c.end.ensures.ended c.end.ensures.same.1) w shows))
