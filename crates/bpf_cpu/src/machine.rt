@@ -2,11 +2,7 @@
 
 pub mod job;
 mod lane;
-#[cfg(test)]
-mod map_programs;
 mod rounds;
-#[cfg(test)]
-mod schedules;
 
 use crate::cpu::Cpu;
 use crate::outcome::Outcome;

@@ -6,8 +6,6 @@ mod line;
 mod listing;
 mod maps;
 mod rounds;
-#[cfg(test)]
-mod tests;
 
 pub use listing::has_any_stopped;
 pub use rounds::{Report, make_machine, run_jobs};
