@@ -1,5 +1,5 @@
 -- Accesses to values of a `PlainStore`.
-use Rattle.std.proofs.Common.{◌≡◌, ◌≢◌, ℕ, zero, suc, ◌+◌, ◌-◌, ◌*◌, ◌/◌, ◌%◌, ◌<◌, ◌≤◌, Bool, true, false, true≢false, ◌&&◌, ◌||◌, ◌==◌, List, length, slice_index, inl, inr, ◌⊎◌, refl, ap, sym, ◌∙◌, subst, arith}
+use Rattle.std.proofs.Common.{◌≡◌, ◌≢◌, ℕ, zero, suc, ◌+◌, ◌-◌, ◌/◌, ◌%◌, ◌<◌, ◌≤◌, Bool, true, false, true≢false, ◌&&◌, ◌||◌, ◌==◌, List, length, slice_index, inl, inr, ◌⊎◌, refl, ap, sym, ◌∙◌, subst, arith}
 use Rattle.std.proofs.lemmas.Bool.Decides.{nat_tests}
 use Rattle.bpf_base.specs.Bytes.{little_endian, low_bytes, part, with_part}
 use Rattle.bpf_base.specs.Atomic.{number_after}
@@ -23,7 +23,7 @@ use Rattle.bpf_shared.proofs.Puts.{equal_or_not, put-same, put-other}
 use Rattle.bpf_shared.proofs.Passages.{calls}
 use Rattle.bpf_shared.proofs.Blocks.{block-within, block-beside}
 use Rattle.bpf_shared.proofs.Changing.{rows-here, rows-else, rows_cases, shapes-with, shape-with, tells-with, held-same, count-with}
-use Rattle.bpf_shared.proofs.Places.{reached, sized_map, one_at, one_number, linked_size}
+use Rattle.bpf_shared.proofs.Places.{reached, sized_map, one_at, one_number}
 
 any_some : (n : ℕ) (f : ℕ → Bool) → any_below n f ≡ true → (i : ℕ) × (i < n) × (f i ≡ true)
 any_some zero f e = absurd (true≢false (sym e))

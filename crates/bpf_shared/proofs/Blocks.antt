@@ -1,5 +1,5 @@
 -- Lists that are cut into blocks of one length, and parts of lists that are replaced.
-use Rattle.std.proofs.Common.{◌≡◌, ◌≢◌, ℕ, zero, suc, ◌+◌, ◌-◌, ◌*◌, ◌/◌, ◌<◌, ◌≤◌, List, ◌++◌, length, take, drop, length-append, length-take, length-drop, get_or, ◌⊎◌, inl, inr, refl, sym, ap, subst, ◌∙◌, arith}
+use Rattle.std.proofs.Common.{◌≡◌, ◌≢◌, ℕ, ◌+◌, ◌-◌, ◌*◌, ◌/◌, ◌<◌, ◌≤◌, List, ◌++◌, length, take, drop, length-append, length-drop, get_or, ◌⊎◌, inl, inr, sym, ap, ◌∙◌, arith}
 use Rattle.std.proofs.Math.Nat.{mul-le-mul_right}
 use Rattle.std.proofs.lemmas.Nat.{div-mul-add}
 use Rattle.std.proofs.lemmas.Bool.{cases_lt}
@@ -7,7 +7,6 @@ use Rattle.std.proofs.Math.ListN.{get_or-append}
 use Rattle.std.proofs.lemmas.List.{ext_get_or, get_or-append_right, get_or-take, get_or-drop, length-take-le}
 use Rattle.bpf_base.specs.Bytes.{part, with_part}
 use Rattle.bpf_base.proofs.Parts.{length-with_part}
-use Rattle.bpf_shared.proofs.Puts.{equal_or_not}
 
 pub below_or_same : (i n : ℕ) → i < n + 1 → i ≢ n → i < n
 below_or_same i n l ne = elim (cases_lt i n) [ inl k ↦ k | inr k ↦ absurd (ne (omega arith)) ]

@@ -1,13 +1,12 @@
 -- A store of which one table is changed.
-use Rattle.std.proofs.Common.{◌≡◌, ◌≢◌, ℕ, zero, suc, ◌+◌, ◌*◌, ◌<◌, ◌≤◌, Bool, true, false, ◌&&◌, List, [], ◌∷◌, inl, inr, ◌⊎◌, length, get_or, set, map, refl, ap, sym, ◌∙◌, subst, arith}
+use Rattle.std.proofs.Common.{◌≡◌, ◌≢◌, ℕ, zero, suc, ◌<◌, ◌≤◌, Bool, ◌&&◌, List, [], ◌∷◌, inl, inr, ◌⊎◌, length, get_or, set, map, refl, ap, sym, ◌∙◌, subst, arith}
 use Rattle.std.proofs.lemmas.List.{get_or-set_same, get_or-set_other, get_or_read, length-set, length-map}
 use Rattle.std.proofs.lemmas.Option.{slice_get_within}
 use Rattle.bpf_shared.specs.declared.events.Span.{Span}
 use Rattle.bpf_shared.specs.declared.shapes.MapShape.{MapShape}
 use Rattle.bpf_shared.specs.declared.runs.Runs.{Runs}
-use Rattle.bpf_shared.specs.Shape.{IsMap, IsKeyOf, elements, element_span}
+use Rattle.bpf_shared.specs.Shape.{IsMap, elements, element_span}
 use Rattle.bpf_shared.specs.Passage.{same_span}
-use Rattle.bpf_shared.specs.Runs.{no_runs}
 use Rattle.bpf_shared.specs.Rows.{Rows, no_rows, shape_of, run_looked_up, run_left, IsTable}
 use Rattle.bpf_shared.specs.Contents.{Contents, runs_of, rows, size_of, span_at, shapes_of, holds, held_spans, any_below, IsStore, with_table}
 use Rattle.bpf_shared.proofs.Puts.{equal_or_not}

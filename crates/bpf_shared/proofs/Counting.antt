@@ -1,12 +1,11 @@
 -- The runs of a `PlainStore`: what begins and ends leave.
-use Rattle.std.proofs.Common.{◌≡◌, ◌≢◌, ℕ, zero, suc, ◌+◌, ◌*◌, ◌<◌, ◌≤◌, nat_lt, Bool, true, false, ◌&&◌, ◌==◌, if◌then◌else◌, List, [], ◌∷◌, ◌⊎◌, inl, inr, length, get_or, set, map, slice_index, refl, ap, sym, ◌∙◌, subst, arith, ne_eqb}
+use Rattle.std.proofs.Common.{◌≡◌, ◌≢◌, ℕ, ◌+◌, ◌*◌, ◌<◌, ◌≤◌, nat_lt, Bool, true, false, ◌&&◌, ◌==◌, if◌then◌else◌, List, [], ◌⊎◌, inl, inr, length, get_or, set, slice_index, refl, ap, sym, ◌∙◌, subst, arith, ne_eqb}
 use Rattle.std.proofs.lemmas.Bool.Decides.{nat_tests}
 use Rattle.std.proofs.lemmas.List.{get_or-set_same, get_or-set_other, get_or_read, get_or_past, ext_get_or, length-set, length-map}
 use Rattle.std.proofs.Math.ListN.{get_or-map}
 use Rattle.std.proofs.lemmas.Bool.{cases_lt}
 use Rattle.bpf_shared.specs.declared.events.Span.{Span}
 use Rattle.bpf_shared.specs.declared.events.Event.TheVariants.{Begin, End}
-use Rattle.bpf_shared.specs.declared.shapes.MapShape.{MapShape}
 use Rattle.bpf_shared.specs.declared.runs.Runs.{Runs}
 use Rattle.bpf_shared.specs.Store.{Plain, put, never}
 use Rattle.bpf_shared.specs.Events.{after_begin, after_end}
@@ -14,9 +13,8 @@ use Rattle.bpf_shared.specs.Sound.{IsSoundStore}
 use Rattle.bpf_shared.proofs.Puts.{equal_or_not, put-same, put-other, put_cases}
 use Rattle.bpf_shared.specs.Passage.{Calls, held_without}
 use Rattle.bpf_shared.specs.Runs.{no_runs, is_run}
-use Rattle.bpf_shared.specs.Shape.{elements}
-use Rattle.bpf_shared.specs.Rows.{Rows, no_rows, shape_of, key_of, bytes_of, run_looked_up, run_left, IsTable, Erases, Forgets}
-use Rattle.bpf_shared.specs.Contents.{Contents, runs_of, rows, size_of, shapes_of, has_cpu, is_running, holds, keeps, held_spans, IsUsed, StandsFor, Passes, IsStore, started, stopped}
+use Rattle.bpf_shared.specs.Rows.{Rows, no_rows, shape_of, key_of, bytes_of, run_looked_up, run_left}
+use Rattle.bpf_shared.specs.Contents.{Contents, runs_of, rows, shapes_of, has_cpu, is_running, holds, keeps, held_spans, IsUsed, StandsFor, Passes, IsStore, started, stopped}
 use Rattle.bpf_shared.specs.Changes.{IsAlike, Recounts}
 use Rattle.bpf_shared.proofs.Passages.{calls}
 use Rattle.bpf_shared.proofs.Showing.{SameContent, same_tables, linked_was, within_was, within_still, shows_after, held_spans-same, held_spans-without}

@@ -3,7 +3,6 @@ use Rattle.std.proofs.Common.{◌≡◌, ◌≢◌, ℕ, ◌+◌, ◌-◌, ◌<�
 use Rattle.std.proofs.lemmas.Bool.{cases_lt}
 use Rattle.std.specs.FinMap.{get, insert, remove}
 use Rattle.bpf_shared.specs.declared.events.Span.{Span}
-use Rattle.bpf_shared.specs.declared.events.Size.{Size}
 use Rattle.bpf_shared.specs.declared.events.Event.{Event}
 use Rattle.bpf_shared.specs.declared.events.Event.TheVariants.{Begin, End, Lookup, Update, Delete, Load, Store, Atomic}
 use Rattle.bpf_shared.specs.declared.events.MapAnswer.{MapAnswer}
@@ -12,11 +11,11 @@ use Rattle.bpf_shared.specs.declared.events.Entry.{Entry}
 use Rattle.bpf_shared.specs.Shape.{IsIn, IsApart}
 use Rattle.bpf_shared.specs.Access.{bytes_in}
 use Rattle.bpf_shared.specs.Store.{Keys, Value, Plain, put, never}
-use Rattle.bpf_shared.specs.Events.{after_lookup, after_update, after_write, span_of, Reaches, Allowed}
+use Rattle.bpf_shared.specs.Events.{after_lookup, after_write, span_of, Reaches, Allowed}
 use Rattle.bpf_shared.specs.History.{Legal}
 use Rattle.bpf_shared.specs.Sound.{IsSoundStore}
 use Rattle.bpf_shared.specs.Laws.{byte_at, MakesValue}
-use Rattle.bpf_shared.specs.Lasting.{ChangesKey, WritesAt, EndsRun, Without, IsFound, UpdatesAreFound, DeletionsAreFound, HeldValuesStay}
+use Rattle.bpf_shared.specs.Lasting.{ChangesKey, WritesAt, EndsRun, Without, UpdatesAreFound, DeletionsAreFound, HeldValuesStay}
 use Rattle.bpf_shared.proofs.Puts.{true_or_false, equal_or_not, put-same, put-other, put_cases, put_pair-old, insert_cases, remove_cases}
 use Rattle.bpf_shared.proofs.Soundness.{allowed_sound}
 use Rattle.bpf_shared.proofs.Updating.{gone_key}

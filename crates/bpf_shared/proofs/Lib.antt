@@ -1,6 +1,8 @@
 pub mod Puts
 pub mod Blocks
 pub mod Linking
+pub mod Passing
+pub mod Replacing
 pub mod Searching
 pub mod Soundness
 pub mod Lawful

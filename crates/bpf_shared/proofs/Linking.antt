@@ -1,7 +1,7 @@
 -- A map's elements after a key is put into one of them, and after one leaves the map.
-use Rattle.std.proofs.Common.{◌≡◌, ◌≢◌, ℕ, zero, suc, ◌+◌, ◌-◌, ◌*◌, ◌<◌, ◌≤◌, Bool, true, false, List, length, get_or, set, slice_index, slice_index_or, ◌⊎◌, inl, inr, refl, sym, ap, subst, ◌∙◌, arith, map}
+use Rattle.std.proofs.Common.{◌≡◌, ◌≢◌, ℕ, ◌+◌, ◌-◌, ◌*◌, ◌<◌, ◌≤◌, true, false, List, length, set, slice_index, slice_index_or, ◌⊎◌, inl, inr, sym, ap, subst, ◌∙◌, arith, map}
 use Rattle.std.specs.List.{insert, remove}
-use Rattle.std.proofs.lemmas.List.{get_or-set_same, get_or-set_other, length-set, get_or_past, length-map}
+use Rattle.std.proofs.lemmas.List.{get_or-set_same, get_or-set_other, length-set, length-map}
 use Rattle.std.proofs.lemmas.List.Edits.{get_or-insert_at, get_or-insert_below, get_or-insert_above, get_or-remove_below, get_or-remove_above, length-insert, length-remove}
 use Rattle.std.proofs.lemmas.Bool.{cases_lt}
 use Rattle.std.proofs.lemmas.Cmp.{nat_list_cmp_total}
@@ -14,7 +14,7 @@ use Rattle.bpf_base.proofs.Parts.{length-with_part}
 use Rattle.bpf_shared.specs.declared.runs.Runs.{Runs}
 use Rattle.bpf_shared.specs.Runs.{count_of}
 use Rattle.bpf_shared.specs.Shape.{elements}
-use Rattle.bpf_shared.specs.Rows.{Rows, key_of, bytes_of, key_at, IsLinked, IsTable, IsGap, IsKeyAt, linked_row, unlinked_row}
+use Rattle.bpf_shared.specs.Rows.{Rows, key_of, bytes_of, key_at, IsLinked, IsTable, IsGap, linked_row, unlinked_row}
 use Rattle.bpf_shared.proofs.Puts.{equal_or_not}
 use Rattle.bpf_shared.proofs.Blocks.{block_fits, block-same, block-other}
 

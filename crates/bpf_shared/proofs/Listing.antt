@@ -1,6 +1,6 @@
 -- A listing of a map, and the byte at an address.
-use Rattle.std.proofs.Common.{◌≡◌, ℕ, ◌+◌, ◌-◌, ◌*◌, ◌/◌, ◌%◌, ◌<◌, ◌≤◌, true, List, ◌++◌, ◌∷◌, [], Option, Some, None, length, map, take, get_or, slice_index, ◌⊎◌, inl, inr, refl, ap, sym, ◌∙◌, subst, arith}
-use Rattle.std.proofs.lemmas.List.{length-map, get_or-map, map_more, map-append}
+use Rattle.std.proofs.Common.{◌≡◌, ℕ, ◌+◌, ◌-◌, ◌*◌, ◌/◌, ◌%◌, ◌<◌, ◌≤◌, List, ◌++◌, ◌∷◌, [], Option, Some, None, length, map, take, get_or, slice_index, inl, inr, refl, ap, sym, ◌∙◌, subst, arith}
+use Rattle.std.proofs.lemmas.List.{length-map, get_or-map, map_more}
 use Rattle.std.proofs.lemmas.Nat.{div-add-mod'}
 use Rattle.std.specs.Option.{IfNone}
 use Rattle.std.specs.Ordering.{nat_cmp}
@@ -8,12 +8,12 @@ use Rattle.std.specs.declared.cmp.Ordering.TheVariants.{Less}
 use Rattle.std.specs.Cmp.Lexicographic.{slice_cmp}
 use Rattle.bpf_shared.specs.declared.plain.Reach.{Reach}
 use Rattle.bpf_shared.specs.Shape.{IsIn, element_stride, elements}
-use Rattle.bpf_shared.specs.Store.{Plain, Value, Finds, IsInMap, IsKept}
+use Rattle.bpf_shared.specs.Store.{Plain, Value, Finds}
 use Rattle.bpf_shared.specs.Sound.{IsSoundStore}
 use Rattle.bpf_shared.specs.Rows.{Rows, key_of, bytes_of, IsLinked, IsTakenRow}
-use Rattle.bpf_shared.specs.Contents.{Contents, rows, size_of, span_at, keeps, StandsFor, IsStore}
+use Rattle.bpf_shared.specs.Contents.{Contents, rows, size_of, span_at, StandsFor, IsStore}
 use Rattle.bpf_shared.specs.Changes.{IsAtValue, IsReach}
-use Rattle.bpf_shared.specs.Listing.{Pair, pair_at, row_pair, IsListing, IsByteAt}
+use Rattle.bpf_shared.specs.Listing.{Pair, pair_at, row_pair, IsByteAt}
 use Rattle.bpf_shared.specs.Shows.{Lists, ShowsByte, ShowsNoByte}
 use Rattle.bpf_shared.proofs.Places.{reached, linked_map, sized_map, linked_size, one_at, span-number, keeps_cpu}
 use Rattle.bpf_shared.proofs.Accessing.{reach_facts}

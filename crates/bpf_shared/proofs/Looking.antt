@@ -1,18 +1,18 @@
 -- What a lookup leaves of a `PlainStore`.
-use Rattle.std.proofs.Common.{◌≡◌, ◌≢◌, ℕ, zero, suc, ◌+◌, ◌*◌, ◌<◌, ◌≤◌, Bool, true, false, ◌&&◌, ◌||◌, ◌==◌, List, [], ◌∷◌, Option, Some, None, ◌⊎◌, inl, inr, length, get_or, set, map, slice_index, refl, ap, sym, ◌∙◌, subst, arith, eq-eqb, ne_eqb}
+use Rattle.std.proofs.Common.{◌≡◌, ◌≢◌, ℕ, ◌+◌, ◌*◌, ◌<◌, ◌≤◌, Bool, true, false, ◌&&◌, ◌||◌, ◌==◌, List, Option, Some, None, ◌⊎◌, inl, inr, length, slice_index, refl, ap, sym, ◌∙◌, subst, arith, eq-eqb, ne_eqb}
 use Rattle.std.proofs.lemmas.Bool.{cases_lt}
-use Rattle.std.proofs.lemmas.List.{get_or-set_same, get_or-set_other, get_or_read, get_or_past, length-set}
+use Rattle.std.proofs.lemmas.List.{get_or-set_same, get_or-set_other, get_or_past, length-set}
 use Rattle.std.specs.FinMap.{get}
 use Rattle.bpf_shared.specs.declared.events.Span.{Span}
 use Rattle.bpf_shared.specs.declared.events.Event.TheVariants.{Lookup}
 use Rattle.bpf_shared.specs.declared.shapes.MapShape.{MapShape}
 use Rattle.bpf_shared.specs.declared.runs.Runs.{Runs}
-use Rattle.bpf_shared.specs.Shape.{IsKeyOf, IsMap, elements, element_span}
+use Rattle.bpf_shared.specs.Shape.{IsKeyOf, elements, element_span}
 use Rattle.bpf_shared.specs.Store.{Plain, Value, put, Finds}
 use Rattle.bpf_shared.specs.Events.{span_of, after_lookup}
 use Rattle.bpf_shared.specs.Passage.{Calls, same_span, held_with}
 use Rattle.bpf_shared.specs.Runs.{no_runs, is_run}
-use Rattle.bpf_shared.specs.Rows.{Rows, no_rows, key_of, bytes_of, run_looked_up, run_left, IsLinked, IsTable, noted_row}
+use Rattle.bpf_shared.specs.Rows.{Rows, key_of, bytes_of, run_looked_up, run_left, IsLinked, IsTable, noted_row}
 use Rattle.bpf_shared.specs.Contents.{Contents, runs_of, rows, size_of, span_at, shapes_of, has_cpu, is_running, holds, keeps, any_below, held_spans, IsUsed, StandsFor, Passes, IsStore, looked}
 use Rattle.bpf_shared.proofs.Puts.{equal_or_not, put_pair, put_pair-old, put_pair-new}
 use Rattle.bpf_shared.proofs.Passages.{calls}

@@ -9,8 +9,7 @@ use Rattle.bpf_shared.specs.declared.events.MapAnswer.{MapAnswer}
 use Rattle.bpf_shared.specs.declared.events.MapAnswer.TheVariants.{Done, Invalid, Busy, Exists, Absent, Full, NoMemory}
 use Rattle.bpf_shared.specs.declared.events.Entry.{Entry}
 use Rattle.bpf_shared.specs.declared.shapes.MapShape.{MapShape}
-use Rattle.bpf_shared.specs.Shape.{Shape}
-use Rattle.bpf_shared.specs.Store.{Plain, Value, as_made, put}
+use Rattle.bpf_shared.specs.Store.{Plain, as_made, put}
 use Rattle.bpf_shared.specs.Events.{Allowed, Updates, Deletes, after_lookup, span_of}
 use Rattle.bpf_shared.specs.History.{Legal, events_of, entry}
 use Rattle.bpf_shared.specs.Passage.{same_span}
@@ -18,7 +17,7 @@ use Rattle.bpf_shared.specs.Sound.{IsSoundStore}
 use Rattle.bpf_shared.proofs.Soundness.{allowed_sound, as_made_sound}
 use Rattle.bpf_shared.proofs.Lawful.{values_stay}
 use Rattle.bpf_shared.proofs.Puts.{put-same, put-other, put_cases}
-use Rattle.bpf_shared.specs.Own.{turns_of, in_run, no_span, held_since, held_from, HoldsAll, OwnEventsTell}
+use Rattle.bpf_shared.specs.Own.{turns_of, no_span, held_since, held_from, HoldsAll, OwnEventsTell}
 
 pub turns_of-append : (xs ys : List Event) → turns_of (xs ++ ys) ≡ turns_of xs + turns_of ys
 turns_of-append [] ys = omega arith

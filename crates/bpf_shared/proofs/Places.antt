@@ -1,19 +1,18 @@
 -- Where values lie: an address is in one element at most, and what is in use is taken.
-use Rattle.std.proofs.Common.{◌≡◌, ◌≢◌, ℕ, zero, suc, ◌+◌, ◌-◌, ◌*◌, ◌/◌, ◌%◌, ◌<◌, ◌≤◌, Bool, true, false, ◌&&◌, ◌==◌, List, [], length, inl, inr, ◌⊎◌, refl, ap, sym, ◌∙◌, subst, arith}
+use Rattle.std.proofs.Common.{◌≡◌, ℕ, ◌+◌, ◌-◌, ◌*◌, ◌/◌, ◌%◌, ◌<◌, ◌≤◌, true, false, length, inl, inr, ap, sym, ◌∙◌, subst, arith}
 use Rattle.std.proofs.Math.Nat.{mul-le-mul}
 use Rattle.std.proofs.lemmas.Nat.{div-mul-add, div-add-mod'}
 use Rattle.std.proofs.lemmas.Bool.{cases_lt}
 use Rattle.std.proofs.lemmas.List.{get_or_past}
-use Rattle.bpf_shared.specs.declared.events.Span.{Span}
 use Rattle.bpf_shared.specs.declared.shapes.MapShape.{MapShape}
 use Rattle.bpf_shared.specs.declared.runs.Runs.{Runs}
 use Rattle.bpf_shared.specs.Shape.{IsMapShape, IsIn, IsApart, elements, element_span, element_stride}
-use Rattle.bpf_shared.specs.Store.{Plain, Value, IsInMap, IsLive}
+use Rattle.bpf_shared.specs.Store.{Plain, Value, IsLive}
 use Rattle.bpf_shared.specs.Choice.{IsTaken, IsLowestFree}
 use Rattle.bpf_shared.specs.Sound.{IsSoundStore}
 use Rattle.bpf_shared.specs.Runs.{no_runs, is_run}
-use Rattle.bpf_shared.specs.Rows.{Rows, no_rows, run_left, IsLinked, IsTakenRow, IsKeptRow, IsLowestFreeRow}
-use Rattle.bpf_shared.specs.Contents.{Contents, runs_of, rows, size_of, span_at, holds, keeps, IsUsed, StandsFor, IsStore}
+use Rattle.bpf_shared.specs.Rows.{Rows, no_rows, run_left, IsLinked, IsTakenRow, IsLowestFreeRow}
+use Rattle.bpf_shared.specs.Contents.{Contents, rows, size_of, span_at, holds, keeps, IsUsed, StandsFor, IsStore}
 use Rattle.bpf_shared.proofs.Puts.{equal_or_not}
 use Rattle.bpf_shared.proofs.Blocks.{apart_blocks}
 use Rattle.bpf_shared.proofs.Linking.{linked_inside}

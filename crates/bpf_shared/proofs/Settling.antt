@@ -1,5 +1,5 @@
 -- Updates and deletions of a `PlainStore` are calls.
-use Rattle.std.proofs.Common.{◌≡◌, ◌≢◌, ℕ, zero, suc, ◌+◌, ◌-◌, ◌*◌, ◌<◌, ◌≤◌, nat_lt, Bool, true, false, not, cond, ◌&&◌, ◌==◌, List, [], ◌∷◌, Option, Some, None, is_some, length, get_or, set, slice_index, inl, inr, ◌⊎◌, refl, ap, sym, ◌∙◌, subst, arith, eq-eqb, ne_eqb}
+use Rattle.std.proofs.Common.{◌≡◌, ◌≢◌, ℕ, ◌+◌, ◌-◌, ◌*◌, ◌<◌, ◌≤◌, Bool, true, false, not, cond, ◌&&◌, ◌==◌, List, [], ◌∷◌, Option, Some, None, is_some, length, slice_index, inl, inr, refl, ap, sym, ◌∙◌, subst, arith, eq-eqb, ne_eqb}
 use Rattle.std.proofs.lemmas.Bool.Decides.{nat_tests}
 use Rattle.std.proofs.lemmas.Cmp.{nat_list_cmp_total}
 use Rattle.std.proofs.lemmas.List.{set-get_or}
@@ -7,28 +7,25 @@ use Rattle.std.specs.Ordering.{nat_cmp, eq_by_cmp}
 use Rattle.std.specs.Cmp.Lexicographic.{slice_cmp}
 use Rattle.std.specs.FinMap.{get, insert, remove, len, contains_key, get-insert, get-remove, len-insert, len-remove}
 use Rattle.bpf_base.proofs.Lists.{set_twice}
-use Rattle.bpf_shared.specs.declared.events.Span.{Span}
 use Rattle.bpf_shared.specs.declared.events.MapAnswer.{MapAnswer}
 use Rattle.bpf_shared.specs.declared.events.MapAnswer.TheVariants.{Done, Invalid, Busy, Exists, Absent, Full, NoMemory}
 use Rattle.bpf_shared.specs.declared.events.Event.TheVariants.{Update, Delete}
-use Rattle.bpf_shared.specs.declared.runs.Runs.{Runs}
 use Rattle.bpf_shared.specs.declared.shapes.MapShape.{MapShape}
 use Rattle.bpf_shared.specs.First.{first_of}
-use Rattle.bpf_shared.specs.Shape.{IsMap, IsKeyOf, IsPairOf, elements, element_span}
+use Rattle.bpf_shared.specs.Shape.{IsMap, IsKeyOf, elements, element_span}
 use Rattle.bpf_shared.specs.Store.{Keys, Plain, Value, put}
 use Rattle.bpf_shared.specs.Events.{has_key, refusals, kept_after, after_delete, after_update}
-use Rattle.bpf_shared.specs.Choice.{IsShort}
 use Rattle.bpf_shared.specs.Sound.{IsSoundStore}
 use Rattle.bpf_shared.specs.Passage.{Calls}
 use Rattle.bpf_shared.specs.Runs.{is_run}
-use Rattle.bpf_shared.specs.Rows.{Rows, no_rows, key_of, key_at, run_looked_up, run_left, IsLinked, IsTable, IsGap, IsKeyAt, IsTakenRow, IsLowestFreeRow, HasRoomAt, Replaces, Adds, PutsRow, TakesRow, linked_row, unlinked_row}
-use Rattle.bpf_shared.specs.Contents.{Contents, runs_of, rows, size_of, span_at, shapes_of, has_cpu, is_running, holds, keeps, held_spans, StandsFor, Passes, MayLack, IsStore, with_table}
-use Rattle.bpf_shared.proofs.Puts.{equal_or_not, put-same, put-other, put_cases}
+use Rattle.bpf_shared.specs.Rows.{Rows, no_rows, key_of, run_looked_up, run_left, IsTable, IsGap, IsKeyAt, IsLowestFreeRow, HasRoomAt, PutsRow, TakesRow, linked_row, unlinked_row}
+use Rattle.bpf_shared.specs.Contents.{Contents, runs_of, rows, span_at, shapes_of, has_cpu, is_running, holds, keeps, held_spans, StandsFor, Passes, MayLack, IsStore, with_table}
+use Rattle.bpf_shared.proofs.Puts.{equal_or_not, put-same, put-other}
 use Rattle.bpf_shared.proofs.Soundness.{after_delete_sound}
 use Rattle.bpf_shared.proofs.Passages.{calls}
 use Rattle.bpf_shared.proofs.Searching.{not_in_gap}
 use Rattle.bpf_shared.proofs.Linking.{unlinked_table, unlinked_gap}
-use Rattle.bpf_shared.proofs.Changing.{rows-here, shape-with, shapes-with, tells-with, store-with, held-same, count-with, map_there, shape_at, same_shape}
+use Rattle.bpf_shared.proofs.Changing.{rows-here, shape-with, shapes-with, tells-with, store-with, held-same, count-with, shape_at}
 use Rattle.bpf_shared.proofs.Places.{held_taken, keeps_cpu, taken_up, lowest_up, free_apart}
 use Rattle.bpf_shared.proofs.Updating.{gone_key, left-here, left-else, gone_stands, gone_was, holds-same, keeps-else, with_value, linked_stands}
 

@@ -1,8 +1,7 @@
 -- What updates and deletions leave of a `PlainStore`.
-use Rattle.std.proofs.Common.{◌≡◌, ◌≢◌, ℕ, zero, suc, ◌+◌, ◌-◌, ◌*◌, ◌<◌, ◌≤◌, nat_lt, Bool, true, false, not, cond, ◌&&◌, ◌==◌, List, [], ◌∷◌, Option, Some, None, is_some, length, get_or, set, map, slice_index, inl, inr, ◌⊎◌, refl, ap, sym, ◌∙◌, subst, arith, eq-eqb, if◌then◌else◌}
+use Rattle.std.proofs.Common.{◌≡◌, ◌≢◌, ℕ, ◌+◌, ◌-◌, ◌*◌, ◌<◌, ◌≤◌, Bool, true, false, cond, ◌&&◌, List, Option, Some, None, is_some, length, map, slice_index, inl, inr, ◌⊎◌, refl, ap, sym, ◌∙◌, subst, arith, eq-eqb, if◌then◌else◌}
 use Rattle.std.specs.List.{insert as insert_item, remove as remove_item}
 use Rattle.std.proofs.lemmas.Bool.{cases_lt}
-use Rattle.std.proofs.lemmas.Bool.Decides.{nat_tests}
 use Rattle.std.proofs.lemmas.Cmp.{nat_list_cmp_total}
 use Rattle.std.proofs.lemmas.List.{length-map, get_or_past}
 use Rattle.std.proofs.lemmas.List.Edits.{length-insert, length-remove}
@@ -10,24 +9,23 @@ use Rattle.std.proofs.Math.ListN.{get_or-map}
 use Rattle.std.specs.Ordering.{nat_cmp, eq_by_cmp, is_eq}
 use Rattle.std.specs.Cmp.{tied_itself}
 use Rattle.std.specs.Cmp.Lexicographic.{slice_cmp}
-use Rattle.std.specs.FinMap.{get, insert, remove, len, contains_key, get-insert, get-remove, len-insert, len-remove}
-use Rattle.bpf_base.proofs.Lists.{set_twice}
+use Rattle.std.specs.FinMap.{get, insert, remove, len, contains_key, get-remove, len-insert, len-remove}
 use Rattle.bpf_shared.specs.declared.runs.Runs.{Runs}
 use Rattle.bpf_shared.specs.declared.shapes.MapShape.{MapShape}
-use Rattle.bpf_shared.specs.Shape.{IsMap, elements, element_span}
-use Rattle.bpf_shared.specs.Store.{Keys, Plain, Value, put, Finds}
-use Rattle.bpf_shared.specs.Events.{kept_after, after_delete, after_update}
+use Rattle.bpf_shared.specs.Shape.{elements, element_span}
+use Rattle.bpf_shared.specs.Store.{Keys, Plain, Value, put}
+use Rattle.bpf_shared.specs.Events.{kept_after, after_delete}
 use Rattle.bpf_shared.specs.Sound.{IsSoundStore}
 use Rattle.bpf_shared.specs.Runs.{run_of, count_of, no_runs, is_run}
-use Rattle.bpf_shared.specs.Rows.{Rows, no_rows, key_of, bytes_of, key_at, run_looked_up, run_left, IsLinked, IsTable, IsGap, IsKeyAt, linked_row, unlinked_row}
-use Rattle.bpf_shared.specs.Contents.{Contents, runs_of, rows, size_of, span_at, shapes_of, is_running, holds, keeps, IsUsed, StandsFor, IsStore, with_table}
+use Rattle.bpf_shared.specs.Rows.{Rows, key_of, bytes_of, key_at, run_looked_up, run_left, IsLinked, IsTable, IsGap, linked_row, unlinked_row}
+use Rattle.bpf_shared.specs.Contents.{Contents, runs_of, rows, size_of, span_at, is_running, holds, keeps, IsUsed, StandsFor, IsStore, with_table}
 use Rattle.bpf_shared.proofs.Puts.{true_or_false, equal_or_not, put-same, put-other, put_cases, insert_cases, remove_cases}
-use Rattle.bpf_shared.proofs.Soundness.{kept_still, kept_now, kept_from}
+use Rattle.bpf_shared.proofs.Soundness.{kept_still, kept_now}
 use Rattle.bpf_shared.proofs.Lawful.{leads_new}
 use Rattle.bpf_shared.proofs.Blocks.{block_fits, apart_blocks, get_or-before, get_or-inside, get_or-behind}
 use Rattle.bpf_shared.proofs.Linking.{unlinked_was, unlinked_still, linked_here, linked_more, linked_was, key-here, key-beside, bytes-here, bytes-beside}
-use Rattle.bpf_shared.proofs.Changing.{rows-here, rows-else, rows_cases, shapes-with, shape-with, tells-with, count-with}
-use Rattle.bpf_shared.proofs.Places.{linked_map, linked_size, sized_map, one_number}
+use Rattle.bpf_shared.proofs.Changing.{rows-here, rows-else, rows_cases, shapes-with, shape-with, tells-with}
+use Rattle.bpf_shared.proofs.Places.{linked_size, one_number}
 
 pub gone_key : (k : Keys) (key : List ℕ) → get (remove k key) key ≡ None
 gone_key k key = get-remove nat_list_cmp_total k key key ∙ ap (λ (b : Bool). cond b None (get k key)) (itself key)

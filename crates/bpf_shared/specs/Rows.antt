@@ -102,6 +102,14 @@ pub record IsKeyAt (t : Rows) (key : List ℕ) (k : ℕ) : Type 0 where
 abbrev pub HasCurrent : List ℕ → List Runs → Type 0
 HasCurrent notes runs = (c : ℕ) × (c < length runs) × (is_run (run_of runs c) (slice_index notes c) ≡ true)
 
+-- the same of the notes from one on
+abbrev pub HasCurrentAt : List ℕ → ℕ → List Runs → Type 0
+HasCurrentAt notes first runs = (c : ℕ) × (c < length runs) × (is_run (run_of runs c) (slice_index notes (first + c)) ≡ true)
+
+-- each CPU that is in a run in the first is in the same one in the second
+abbrev pub GoOn : List Runs → List Runs → Type 0
+GoOn seen runs = (c n : ℕ) → c < length seen → is_run (run_of seen c) n ≡ true → is_run (run_of runs c) n ≡ true
+
 -- some CPU is still in the run that it was in when the element left the map
 abbrev pub IsKeptRow : List Runs → Rows → ℕ → Type 0
 IsKeptRow runs t i = (c : ℕ) × (c < length runs) × (is_run (run_of runs c) (run_left t i c) ≡ true)
@@ -109,6 +117,10 @@ IsKeptRow runs t i = (c : ℕ) × (c < length runs) × (is_run (run_of runs c) (
 -- the element is in the map or kept
 abbrev pub IsTakenRow : List Runs → Rows → ℕ → Type 0
 IsTakenRow runs t i = IsLinked t i ⊎ IsKeptRow runs t i
+
+-- each element below this one is in the map or kept
+abbrev pub ArePassed : List Runs → Rows → ℕ → Type 0
+ArePassed runs t n = (i : ℕ) → i < n → IsTakenRow runs t i
 
 pub record IsLowestFreeRow (runs : List Runs) (t : Rows) (i : ℕ) : Type 0 where
   pub inside : i < elements t.shape

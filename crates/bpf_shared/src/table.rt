@@ -5,7 +5,7 @@ ghost use Rattle.bpf_shared.specs.Access.{bytes_in};
 ghost use Rattle.bpf_shared.specs.Runs.{run_of, count_of};
 ghost use Rattle.bpf_shared.specs.Shape.{IsMapShape, IsValueSpan, elements, element_span, element_stride};
 ghost use Rattle.bpf_shared.specs.Listing.{pair_of, row_pair};
-ghost use Rattle.bpf_shared.specs.Rows.{AreMarked, key_of, bytes_of, run_left, run_looked_up, IsLinked, IsTable, IsBlank, IsGap, IsKeyAt, IsKeptRow, IsTakenRow, IsLowestFreeRow, HasCurrent, Erases, noted_row, linked_row, unlinked_row, stored_row, Forgets, PutsRow, TakesRow};
+ghost use Rattle.bpf_shared.specs.Rows.{AreMarked, ArePassed, GoOn, HasCurrentAt, key_of, bytes_of, run_left, run_looked_up, IsLinked, IsTable, IsBlank, IsGap, IsKeyAt, IsKeptRow, IsTakenRow, IsLowestFreeRow, HasCurrent, Erases, noted_row, linked_row, unlinked_row, stored_row, Forgets, PutsRow, TakesRow};
 
 use crate::bytes::{load, store};
 use crate::events::{MapAnswer, Size, Span};
@@ -31,6 +31,10 @@ pub struct Table {
     linked: Vec<bool>,
     /// Each element below this one is in the map.
     filled: usize,
+    /// Each element below this one is in the map or kept, as long as the runs of `seen` go on.
+    passed: usize,
+    /// By CPU, its runs when elements were passed.
+    seen: Vec<Runs>,
     /// The keys of the elements, one behind the other.
     keys: Vec<u8>,
     /// The values of the elements, one behind the other.
@@ -42,16 +46,24 @@ pub struct Table {
 }
 
 impl Model for Table {
-    ghost use Rattle.std.specs.Prelude.{◌≤◌, vec_capacity};
-    ghost use Rattle.bpf_shared.specs.Rows.{Rows, IsTable, AreMarked};
+    ghost use Rattle.std.specs.Prelude.{◌≡◌, ◌≤◌, length, vec_capacity};
+    ghost use Rattle.bpf_shared.specs.Rows.{Rows, ArePassed, IsTable, AreMarked};
 
     ghost Value = { Rows };
 
     ghost view = { λ t. record { shape = t.shape; cpus = t.cpus; order = t.order.items; linked = t.linked.items; keys = t.keys.items; values = t.values.items; looked_up = t.looked_up.items; left = t.left.items } };
 
     // There is room for the order of as many keys as the map may have.
-    ghost invariant = { λ t. IsTable (record { shape = t.shape; cpus = t.cpus; order = t.order.items; linked = t.linked.items; keys = t.keys.items; values = t.values.items; looked_up = t.looked_up.items; left = t.left.items }) × (t.shape.max ≤ vec_capacity t.order) × AreMarked t.linked.items t.filled };
+    ghost invariant = { λ t. IsTable (record { shape = t.shape; cpus = t.cpus; order = t.order.items; linked = t.linked.items; keys = t.keys.items; values = t.values.items; looked_up = t.looked_up.items; left = t.left.items }) × (t.shape.max ≤ vec_capacity t.order) × AreMarked t.linked.items t.filled
+        × (length t.seen.items ≡ t.cpus)
+        × ArePassed t.seen.items (record { shape = t.shape; cpus = t.cpus; order = t.order.items; linked = t.linked.items; keys = t.keys.items; values = t.values.items; looked_up = t.looked_up.items; left = t.left.items }) t.passed };
 }
+
+/// Of a CPU that began no run.
+const IDLE: Runs = Runs {
+    count: 0,
+    running: false,
+};
 
 /// Some CPU is still in the run that is noted for it.
 fn has_current(notes: &[u64], runs: &[Runs]) -> bool
@@ -64,6 +76,32 @@ fn has_current(notes: &[u64], runs: &[Runs]) -> bool
         }
     }
     false
+}
+
+/// How far elements stay passed when one of them leaves the map, whose notes begin here.
+fn passed_without(passed: usize, element: usize, left: &[u64], first: usize, seen: &[Runs]) -> usize
+    requires { first + length seen.now ≤ length left.now }
+    ensures below { result ≤ passed }
+    ensures kept { element < result → HasCurrentAt left.now first seen.now }
+{
+    if has_current(&left[first..first + seen.len()], seen) {
+        passed
+    } else {
+        passed.min(element)
+    }
+}
+
+/// Each run of these goes on.
+fn go_on(seen: &[Runs], runs: &[Runs]) -> bool
+    requires { length seen.now ≡ length runs.now }
+    ensures { IsTrue result → GoOn seen.now runs.now }
+{
+    for (cpu, run) in seen.iter().enumerate() {
+        if run.running && !(runs[cpu].running && runs[cpu].count == run.count) {
+            return false;
+        }
+    }
+    true
 }
 
 /// Notes for each CPU the run that it began last.
@@ -134,6 +172,8 @@ impl Table {
             order: Vec::with_capacity(alloc, shape.max as usize)?,
             linked: vec![in alloc; false; count]?,
             filled: 0,
+            passed: 0,
+            seen: vec![in alloc; IDLE; usize::from(cpus)]?,
             keys: vec![in alloc; 0; count * shape.key as usize]?,
             values: vec![in alloc; 0; count * shape.value as usize]?,
             looked_up: vec![in alloc; 0; notes]?,
@@ -206,6 +246,7 @@ impl Table {
         ensures forgets { Forgets cpu self.old self.new }
         ensures table { IsTable self.new }
     {
+        self.passed = 0;
         let elements = self.linked.len();
         erase(
             &mut self.looked_up,
@@ -241,13 +282,37 @@ impl Table {
         self.linked[element] || self.is_kept(element, runs)
     }
 
+    /// Each element below this one is in the map or kept.
+    #[tactic(auto, using(crate::proofs::Passing::passed_on))]
+    fn first_open(&self, runs: &[Runs]) -> usize
+        requires { length runs.now ≡ self.now.cpus }
+        ensures { ArePassed runs.now self.now result }
+    {
+        if go_on(&self.seen, runs) {
+            self.filled.max(self.passed)
+        } else {
+            self.filled
+        }
+    }
+
+    /// Notes that each element below this one is in the map or kept.
+    fn pass(&mut self, element: usize, runs: &[Runs])
+        requires runs { length runs.now ≡ self.old.cpus }
+        requires taken { ArePassed runs.now self.old element }
+        ensures same { self.new ≡ self.old }
+        ensures table { IsTable self.old }
+    {
+        self.passed = element;
+        self.seen.copy_from_slice(runs);
+    }
+
     /// The lowest element that is neither in the map nor kept.
     fn lowest_free(&self, runs: &[Runs]) -> Option<usize>
         requires { length runs.now ≡ self.now.cpus }
         ensures found { IfSome result (IsLowestFreeRow runs.now self.now) }
         ensures none { IfNone result ((i : ℕ) → i < elements self.now.shape → IsTakenRow runs.now self.now i) }
     {
-        for element in self.filled..self.linked.len() {
+        for element in self.first_open(runs)..self.linked.len() {
             if !self.is_taken(element, runs) {
                 return Some(element);
             }
@@ -266,7 +331,9 @@ impl Table {
         let element = self.order.remove(position) as usize;
         self.linked[element] = false;
         self.filled = self.filled.min(element);
-        note_runs_at(&mut self.left, element * runs.len(), runs);
+        let first = element * runs.len();
+        note_runs_at(&mut self.left, first, runs);
+        self.passed = passed_without(self.passed, element, &self.left, first, &self.seen);
     }
 
     /// A key and its value are put into an element, which stands at this position of the order.
@@ -288,6 +355,30 @@ impl Table {
         put_part(&mut self.values, element * value.len(), value);
     }
 
+    /// The key at a position of the order is put into another element, and the one that had it leaves the map.
+    #[tactic(auto, using(crate::proofs::Blocks::block_fits, crate::proofs::Blocks::in_block))]
+    fn replace(&mut self, position: usize, element: usize, key: &[u8], value: &[u8], runs: &[Runs])
+        requires is { IsKeyAt self.old key.now position }
+        requires runs { length runs.now ≡ self.old.cpus }
+        requires element { element < elements self.old.shape }
+        requires free { IsLinked self.old element → ⊥ }
+        requires key { length key.now ≡ self.old.shape.key }
+        requires value { length value.now ≡ self.old.shape.value }
+        ensures replaced { self.new ≡ linked_row position element key.now value.now (unlinked_row runs.now position self.old) }
+        ensures table { IsTable self.old × IsTable self.new }
+    {
+        let old = self.order[position] as usize;
+        self.order[position] = element as u32;
+        self.linked[old] = false;
+        self.linked[element] = true;
+        self.filled = first_unmarked(&self.linked, self.filled.min(old));
+        let first = old * runs.len();
+        note_runs_at(&mut self.left, first, runs);
+        self.passed = passed_without(self.passed, old, &self.left, first, &self.seen);
+        put_part(&mut self.keys, element * key.len(), key);
+        put_part(&mut self.values, element * value.len(), value);
+    }
+
     /// A value is to stand under the key, as the flags say.
     pub fn put(&mut self, key: &[u8], value: &[u8], flags: u64, runs: &[Runs]) -> MapAnswer
         requires key { length key.now ≡ self.old.shape.key }
@@ -304,8 +395,8 @@ impl Table {
             Ok(position) => match self.lowest_free(runs) {
                 None => MapAnswer::NoMemory,
                 Some(element) => {
-                    self.unlink(position, runs);
-                    self.link(position, element, key, value);
+                    self.pass(element, runs);
+                    self.replace(position, element, key, value, runs);
                     MapAnswer::Done
                 }
             },
@@ -314,6 +405,7 @@ impl Table {
             Err(position) => match self.lowest_free(runs) {
                 None => MapAnswer::NoMemory,
                 Some(element) => {
+                    self.pass(element, runs);
                     self.link(position, element, key, value);
                     MapAnswer::Done
                 }

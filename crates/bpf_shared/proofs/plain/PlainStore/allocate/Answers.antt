@@ -1,4 +1,4 @@
-use Rattle.std.proofs.Common.{◌∙◌, ◌≡◌, ℕ, ◌<◌, length, sym, ap, subst}
+use Rattle.std.proofs.Common.{◌∙◌}
 use Rattle.bpf_shared.proofs.Making.{is_made}
 use Rattle.bpf_shared.proofs.plain.PlainStore.allocate.Goals as goal
 

@@ -1,11 +1,11 @@
-use Rattle.std.proofs.Common.{◌≡◌, ℕ, ◌<◌, ◌≤◌, List, [], length, map, get_or, subst, ap, sym, ◌∙◌, arith}
+use Rattle.std.proofs.Common.{◌≡◌, ℕ, ◌≤◌, List, length, map, get_or, subst, ap, sym, ◌∙◌}
 use Rattle.std.specs.Prelude.{Vec}
 use Rattle.std.specs.declared.alloc.Global.{Global}
 use Rattle.std.proofs.lemmas.List.{get_or_past}
 use Rattle.std.proofs.lemmas.Result.{IfOk-weaker}
 use Rattle.bpf_shared.specs.Rows.{Rows, no_rows}
 use Rattle.bpf_shared.specs.Contents.{Contents, rows, IsStore}
-use Rattle.bpf_shared.specs.Listing.{Pair, pair_of, row_pair}
+use Rattle.bpf_shared.specs.Listing.{pair_of, row_pair}
 use Rattle.bpf_shared.specs.Shows.{listed, Lists}
 use Rattle.bpf_shared.proofs.Listing.{lists}
 use Rattle.bpf_shared.proofs.plain.PlainStore.dump.Goals as goal

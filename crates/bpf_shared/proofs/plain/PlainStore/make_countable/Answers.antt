@@ -1,4 +1,4 @@
-use Rattle.std.proofs.Common.{◌≡◌, ◌≢◌, ℕ, ◌+◌, ◌<◌, ◌≤◌, true, false, List, length, set, get_or, map, inl, inr, refl, subst, ap, sym, ◌∙◌, arith}
+use Rattle.std.proofs.Common.{◌≡◌, ℕ, ◌<◌, true, false, List, length, set, get_or, inl, inr, subst, ap, sym, ◌∙◌, arith}
 use Rattle.std.proofs.lemmas.List.{with_items_is, get_or_read, get_or-set_same, get_or-set_other, length-set}
 use Rattle.bpf_shared.specs.declared.runs.Runs.{Runs}
 use Rattle.bpf_shared.specs.Runs.{no_runs}

@@ -1,4 +1,4 @@
-use Rattle.std.proofs.Common.{◌≡◌, ℕ, ◌<◌, ◌≤◌, ◌⊎◌, length, slice_index_or}
+use Rattle.std.proofs.Common.{◌≡◌, ℕ, ◌<◌, ◌≤◌, length, slice_index_or}
 use Rattle.bpf_shared.specs.Rows.{no_rows, Forgets, IsTable}
 use Rattle.bpf_shared.proofs.plain.PlainStore.make_countable.Given as goal
 

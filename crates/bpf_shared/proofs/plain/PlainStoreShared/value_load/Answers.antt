@@ -1,4 +1,4 @@
-use Rattle.std.proofs.Common.{◌≡◌, ℕ, ◌+◌, ◌<◌, ◌≤◌, length, subst, ap, sym, ◌∙◌, arith}
+use Rattle.std.proofs.Common.{◌≡◌, ℕ, ◌+◌, ◌≤◌, subst, ap, sym, ◌∙◌}
 use Rattle.bpf_base.specs.Bytes.{little_endian, part}
 use Rattle.bpf_shared.specs.declared.events.Event.TheVariants.{Load}
 use Rattle.bpf_shared.specs.Access.{bytes_in}

@@ -1,10 +1,8 @@
-use Rattle.std.proofs.Common.{rules, ◌≡◌, ℕ, ◌+◌, ◌*◌, ◌<◌, ◌≤◌, Bool, true, false, inl, inr, List, length, get_or, set, sym, ap, subst, ◌∙◌, arith}
-use Rattle.std.specs.List.{insert}
-use Rattle.std.proofs.lemmas.List.{with_items_is, get_or-set_same, get_or-set_other}
+use Rattle.std.proofs.Common.{◌≡◌, ℕ, ◌<◌, Bool, true, false, inl, inr, List, length, get_or, set, sym, ap, subst, ◌∙◌, arith}
+use Rattle.std.proofs.lemmas.List.{get_or-set_same, get_or-set_other}
 use Rattle.std.proofs.lemmas.Grind.{common_steps}
-use Rattle.bpf_base.specs.Bytes.{with_part}
-use Rattle.bpf_base.proofs.Parts.{length-with_part}
-use Rattle.bpf_shared.specs.Rows.{Rows, IsTable, linked_row}
+use Rattle.bpf_shared.specs.Rows.{Rows, ArePassed, IsTable, linked_row}
+use Rattle.bpf_shared.proofs.Passing.{linked_passed}
 use Rattle.bpf_shared.proofs.Puts.{equal_or_not}
 use Rattle.bpf_shared.proofs.Linking.{linked_table}
 use Rattle.bpf_shared.proofs.table.Table.link.Goals as goal
@@ -28,7 +26,7 @@ invariant_of-self c =
     let t = c.args.self.now in
     let is : IsTable t = subst IsTable c.self.view_is c.self.invariant.0 in
     let made : ◌≡◌ {A = Rows} _ (linked_row c.args.position c.args.element c.args.key.now c.args.value.now t) = grind (arith, common_steps) in
-    (subst IsTable (sym made) (linked_table t is c.args.position c.args.element c.args.key.now c.args.value.now c.requires.gap c.requires.element c.requires.free c.requires.key c.requires.value c.requires.room), grind (arith, common_steps), λ i l. subst (λ (ms : List Bool). get_or ms i false ≡ true) c.deref.ensures.value (c.first_unmarked-self-inside.ensures i l))
+    (subst IsTable (sym made) (linked_table t is c.args.position c.args.element c.args.key.now c.args.value.now c.requires.gap c.requires.element c.requires.free c.requires.key c.requires.value c.requires.room), grind (arith, common_steps), λ i l. subst (λ (ms : List Bool). get_or ms i false ≡ true) c.deref.ensures.value (c.first_unmarked-self-inside.ensures i l), c.self.invariant.3, subst (λ (r : Rows). ArePassed c.self.inside.seen.items r c.self.inside.passed) (sym made) (linked_passed c.self.inside.seen.items t is c.args.position c.args.element c.args.key.now c.args.value.now c.requires.gap c.requires.element c.requires.free c.requires.key c.requires.value c.self.inside.passed (subst (λ (r : Rows). ArePassed c.self.inside.seen.items r c.self.inside.passed) c.self.view_is c.self.invariant.4)))
 
 pub returns-clause-table : goal.returns-clause-table
 returns-clause-table c =

@@ -1,12 +1,10 @@
-use Rattle.std.proofs.Common.{◌≡◌, ℕ, ◌+◌, ◌*◌, ◌<◌, ◌≤◌, Bool, false, List, length, map, set, slice_index, sym, ap, subst, ◌∙◌, arith}
-use Rattle.std.specs.List.{remove}
-use Rattle.std.proofs.lemmas.List.{with_items_is, get_or_read, get_or-set_other, length-map}
+use Rattle.std.proofs.Common.{◌≡◌, ℕ, ◌+◌, ◌*◌, ◌<◌, ◌≤◌, false, List, length, slice_index, sym, ap, subst, ◌∙◌, arith}
+use Rattle.std.proofs.lemmas.List.{get_or_read, get_or-set_other}
 use Rattle.std.proofs.lemmas.Grind.{common_steps}
-use Rattle.bpf_base.specs.Bytes.{with_part}
-use Rattle.bpf_base.proofs.Parts.{length-with_part}
-use Rattle.bpf_shared.specs.Runs.{count_of}
 use Rattle.bpf_shared.specs.Shape.{elements}
-use Rattle.bpf_shared.specs.Rows.{Rows, IsTable, unlinked_row}
+use Rattle.bpf_shared.specs.declared.runs.Runs.{Runs}
+use Rattle.bpf_shared.specs.Rows.{Rows, ArePassed, HasCurrentAt, IsTable, unlinked_row}
+use Rattle.bpf_shared.proofs.Passing.{unlinked_passed}
 use Rattle.bpf_shared.proofs.Blocks.{block_fits}
 use Rattle.bpf_shared.proofs.Linking.{unlinked_table}
 use Rattle.bpf_shared.proofs.table.Table.unlink.Goals as goal
@@ -34,6 +32,20 @@ invariant_of-self c =
           (let lower = c.min-self-inside.ensures in
           let below : i < c.self.inside.filled = omega (arith, lower) in
           get_or-set_other c.self.inside.linked.items c.remove-element.result i false false (λ e. (let s : i ≡ c.remove-element.result = e in omega (arith, lower))) ∙ c.self.invariant.2 i below),
+      c.self.invariant.3,
+      (let seen : List Runs = c.self.inside.seen.items in
+          let k = c.args.position in
+          let m : ℕ = c.passed_without-self-inside.result in
+          let same : length seen ≡ t.cpus = c.self.invariant.3 ∙ ap (λ (r : Rows). r.cpus) c.self.view_is in
+          let order : c.self.inside.order.items ≡ t.order = ap (λ (r : Rows). r.order) c.self.view_is in
+          let here : k < length c.self.inside.order.items = subst (λ (o : List ℕ). k < length o) (sym order) c.requires.position in
+          let at : c.remove-element.result ≡ slice_index t.order k = get_or_read c.self.inside.order.items k c.remove-element.result here c.remove-element.ensures.value 0 ∙ ap (λ (o : List ℕ). slice_index o k) order in
+          let left : c.deref.result.now ≡ (unlinked_row c.args.runs.now k t).left = c.deref.ensures.value ∙ ap (λ (r : Rows). r.left) made in
+          let first : c.remove-element.result * length c.args.runs.now ≡ slice_index t.order k * t.cpus = (λ j. at j * c.requires.runs j) in
+          let passed : ArePassed seen t c.self.inside.passed = subst (λ (r : Rows). ArePassed seen r c.self.inside.passed) c.self.view_is c.self.invariant.4 in
+          subst (λ (r : Rows). ArePassed seen r m) (sym made) (unlinked_passed seen c.args.runs.now t is k c.requires.position c.requires.runs same c.self.inside.passed m passed c.passed_without-self-inside.ensures.below (λ l.
+          let h : HasCurrentAt c.deref.result.now (c.remove-element.result * length c.args.runs.now) c.deref-2.result.now = c.passed_without-self-inside.ensures.kept (subst (λ (e : ℕ). e < m) (sym at) l) in
+          subst (λ (n : ℕ). HasCurrentAt (unlinked_row c.args.runs.now k t).left n seen) first (subst (λ (ns : List ℕ). HasCurrentAt ns (c.remove-element.result * length c.args.runs.now) seen) left (subst (λ (s : List Runs). HasCurrentAt c.deref.result.now (c.remove-element.result * length c.args.runs.now) s) c.deref-2.ensures.value h))))),
     )
 
 pub returns-clause-table : goal.returns-clause-table
