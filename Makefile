@@ -22,9 +22,10 @@ test: ## The whole gate: every proof, every must-fail edit, every test, then the
 check: ## The quick check while one writes: what changed is proved again
 	rt all check
 
-bench: build ## Time fixed programs beside other interpreters, and map calls beside std::map
+bench: build ## Time fixed programs beside other interpreters, map calls beside std::map, and texts of 16 MiB
 	bench/run ./ebpf
 	bench/maps ./ebpf
+	bench/texts ./ebpf
 
 install: build ## Install the program and its manual page below PREFIX (/usr/local), in DESTDIR where one is given
 	install -D -m 755 ebpf $(DESTDIR)$(PREFIX)/bin/ebpf
