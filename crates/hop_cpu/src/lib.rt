@@ -5,3 +5,6 @@ mod cpu;
 mod running;
 
 pub use cpu::HopCpu;
+
+#[cfg(test)]
+mod tests;
