@@ -12,7 +12,7 @@ use std::sync::Wait;
 use std::test::Fail;
 
 // The ports of a new store with one map of so many keys and spare elements.
-fn new_ports(
+pub(crate) fn new_ports(
     alloc: Global,
     cpus: u64,
     max: u64,
