@@ -1,2 +1,10 @@
 pub mod Working
 pub mod UnderWay
+pub mod Picking
+pub mod Noting
+pub mod Equipping
+pub mod Assigning
+pub mod Told
+pub mod Porting
+pub mod Crews
+pub mod Finishing

@@ -1,1 +1,3 @@
+pub mod Explained
 pub mod Working
+pub mod Worked

@@ -3,9 +3,25 @@ use Rattle.std.specs.Prelude.{◌≡◌, ℕ, ◌<◌, List, [], ◌∷◌, ◌+
 use Rattle.bpf_shared.specs.declared.events.Event.{Event}
 use Rattle.bpf_shared.specs.declared.shapes.MapShape.{MapShape}
 use Rattle.bpf_loader.specs.Loaded.{Loaded}
+use Rattle.bpf_cpu.specs.declared.outcome.Outcome.{Outcome}
+use Rattle.bpf_cpu.specs.declared.outcome.Outcome.TheVariants.{OutOfBudget}
 use Rattle.bpf_cpu.specs.State.{start}
+use Rattle.bpf_cpu.specs.Task.{Task}
 use Rattle.bpf_cpu.specs.Step.{Explains}
 use Rattle.bpf_sched.specs.declared.assignment.Assignment.{Assignment}
+use Rattle.bpf_sched.specs.Explained.{context_of}
+
+-- what a job that waits needs to be run
+abbrev pub assigned : Task → Assignment
+assigned task = record {
+  cpu = start task.cpu (context_of task.stage);
+  program = task.program;
+  budget = task.budget;
+  outcome = OutOfBudget 0;
+}
+
+abbrev pub outcome_of : Assignment → Outcome
+outcome_of a = a.outcome
 
 -- a job of this CPU that wasn't run yet, of one of so many programs
 pub record IsNew (cpu programs : ℕ) (a : Assignment) : Type 0 where

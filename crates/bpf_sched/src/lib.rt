@@ -1,10 +1,17 @@
-//! Jobs on threads: what a CPU does with its jobs, over any shared store.
+//! Jobs on threads: what each CPU of a store does with its jobs, and the one history of them all.
 #![tactic(auto)]
 
 pub mod assignment;
+pub mod crew;
 pub mod gate;
+pub mod room;
+mod telling;
+pub mod worker;
 pub mod workload;
 
 pub use assignment::Assignment;
+pub use crew::{Report, run_ports};
 pub use gate::{Gate, Gated, NoGate};
+pub use room::Room;
+pub use worker::Worker;
 pub use workload::Workload;

@@ -1,0 +1,195 @@
+-- What all workers of a store did, in the store's one history.
+use Rattle.std.proofs.Common.{◌≡◌, ℕ, zero, suc, ◌+◌, ◌<◌, ◌==◌, Bool, true, false, List, [], ◌∷◌, ◌++◌, None, Some, Option, IsSome, slice_get, All, cond, length, map, get_or, refl, ap, sym, subst, ◌∙◌, arith}
+use Rattle.std.proofs.lemmas.List.{get_or-map, get_or_default, length-map}
+use Rattle.std.proofs.lemmas.List.Elements.{All-nil, All-cons}
+use Rattle.std.proofs.lemmas.Bool.Decides.{nat_tests}
+use mathlib.Core.Option.{some}
+use lib.ListN.{get_elem?}
+use Rattle.bpf_shared.specs.declared.events.Event.{Event}
+use Rattle.bpf_shared.specs.declared.events.Entry.{Entry}
+use Rattle.bpf_shared.specs.Own.{in_run}
+use Rattle.bpf_shared.specs.History.{events_of, IsLegal}
+use Rattle.bpf_loader.specs.Loaded.{Loaded}
+use Rattle.bpf_cpu.specs.declared.machine.job.Job.{Job}
+use Rattle.bpf_cpu.specs.declared.outcome.Outcome.{Outcome}
+use Rattle.bpf_cpu.specs.State.{start}
+use Rattle.bpf_cpu.specs.Task.{Task, waiting}
+use Rattle.hop_words.specs.declared.known.About.{About}
+use Rattle.hop_words.specs.declared.known.Known.{Known}
+use Rattle.hop_words.specs.Inside.{Shown}
+use Rattle.hop_words.specs.Opens.{new_lane, lanes_from}
+use Rattle.hop_map.specs.Port.{Port, IsAllOf, IsPartOf, known_of, own_events}
+use Rattle.hop_map.specs.Stores.{ArePorts}
+use Rattle.bpf_sched.specs.declared.assignment.Assignment.{Assignment}
+use Rattle.bpf_sched.specs.declared.worker.Worker.{Worker}
+use Rattle.bpf_sched.specs.Explained.{ExplainsJobs, IsExplained, IsWorn, context_of, jobs_of, ends_of}
+use Rattle.bpf_sched.specs.Working.{IsNew, RunsAll, assigned, outcome_of}
+use Rattle.bpf_sched.specs.Worked.{AreFor, IsReady, Worked, extends}
+use Rattle.bpf_sched.proofs.Told.{explains_jobs, ran_all}
+
+long_lanes : (a : About) (c n : ℕ) → length (lanes_from a c n) ≡ n
+long_lanes a c zero = refl
+long_lanes a c (suc n) = ap suc (long_lanes a (c + 1) n)
+
+lane_at : (a : About) (c n i : ℕ) (d : Known) → i < n → get_or (lanes_from a c n) i d ≡ new_lane a (c + i)
+lane_at a c zero i d inside = absurd (omega arith)
+lane_at a c (suc n) zero d inside = ap (λ (k : ℕ). new_lane a k) (let e : c ≡ c + 0 = omega arith in e)
+lane_at a c (suc n) (suc i) d inside = lane_at a (c + 1) n i d (omega arith) ∙ ap (λ (k : ℕ). new_lane a k) (let e : c + 1 + i ≡ c + suc i = omega arith in e)
+
+some_same : {A : Type 0} (x y : A) → Some x ≡ Some y → x ≡ y
+some_same x y e = cc
+
+new_one : (cpu m : ℕ) (task : Task) (us : List Task) → task.program < m → (b : Bool) → (task.cpu == cpu) ≡ b → All (IsNew cpu m) (map assigned us) → All (IsNew cpu m) (map assigned (cond b (task ∷ us) us))
+new_one cpu m task us below true same all =
+    let number : task.cpu ≡ cpu = grind (arith, nat_tests) in
+    All-cons (IsNew cpu m) (assigned task) (map assigned us) (record { context = context_of task.stage; fresh = ap (λ (c : ℕ). start c (context_of task.stage)) number; program = below }) all
+new_one cpu m task us below false same all = all
+
+-- a CPU's jobs are its own, and new
+new_all : (cpu m : ℕ) (jobs : List Job) → All (λ (job : Job). job.program < m) jobs → All (IsNew cpu m) (map assigned (jobs_of cpu (map waiting jobs)))
+new_all cpu m [] all = All-nil (IsNew cpu m)
+new_all cpu m (job ∷ jobs) all =
+    new_one cpu m (waiting job) (jobs_of cpu (map waiting jobs)) (all 0 job (omega arith)) (job.cpu == cpu) refl (new_all cpu m jobs (λ i d inside. all (suc i) d (omega arith)))
+
+elem_at : {A : Type 0} (xs : List A) (i : ℕ) (d : A) → i < length xs → get_elem? xs i ≡ some (get_or xs i d)
+elem_at [] i d inside = absurd (omega arith)
+elem_at (x ∷ xs) zero d inside = refl
+elem_at (x ∷ xs) (suc i) d inside = elem_at xs i d (omega arith)
+
+cpu_below : (n : ℕ) (jobs : List Job) → All (λ (job : Job). job.cpu < n) jobs → (task : Task) (j : ℕ) → slice_get (map waiting jobs) j ≡ Some task → task.cpu < n
+cpu_below n [] all task j is = absurd (nothing task is)
+  where
+    nothing : (x : Task) → None ≡ Some x → ⊥
+    nothing x e = cc
+cpu_below n (job ∷ jobs) all task zero is = subst (λ (x : Task). x.cpu < n) (some_same (waiting job) task is) (all 0 job (omega arith))
+cpu_below n (job ∷ jobs) all task (suc j) is = cpu_below n jobs (λ i d inside. all (suc i) d (omega arith)) task j is
+
+module _ (t : Shown) (jobs : List Job) (programs : List Loaded) (ports : List Port) (are : ArePorts t ports) (ws : List Worker) (for_jobs : AreFor (map waiting jobs) t.about.shape.cpus ws)
+    (good : All (λ (job : Job). job.program < length programs) jobs) where
+  abbrev tasks : List Task
+  tasks = map waiting jobs
+
+  abbrev cpus : ℕ
+  cpus = t.about.shape.cpus
+
+  abbrev no_port : Port
+  no_port = record { table = t.id; known = new_lane t.about 0; arenas = []; batches = [] }
+
+  pub many : length ports ≡ cpus
+  many = sym (length-map ports known_of) ∙ (ap length are.new ∙ long_lanes t.about 0 cpus)
+
+  known_at : (i : ℕ) → i < cpus → (get_or ports i no_port).known ≡ new_lane t.about i
+  known_at i inside =
+      sym (get_or-map known_of ports i no_port (new_lane t.about 0) (omega (arith, many)))
+      ∙ (ap (λ (l : List Known). get_or l i (new_lane t.about 0)) are.new
+      ∙ (lane_at t.about 0 cpus i (new_lane t.about 0) inside ∙ ap (λ (k : ℕ). new_lane t.about k) (let e : 0 + i ≡ i = omega arith in e)))
+
+  nothing_seen : (i : ℕ) → i < cpus → own_events (get_or ports i no_port) ≡ []
+  nothing_seen i inside = ap (λ (l : Known). events_of l.cpu l.seen) (known_at i inside)
+
+  module _ (equipped : List Worker) (size : length equipped ≡ length ws)
+      (has_port : (c : ℕ) (d : Worker) (p : Port) → c < length ws → (get_or equipped c d).port ≡ Some (get_or ports c p))
+      (has_jobs : (c : ℕ) (d : Worker) → c < length ws → (get_or equipped c d).workload ≡ (get_or ws c d).workload) where
+    given_at : (i : ℕ) (d : Worker) → i < cpus → (get_or equipped i d).workload.jobs.items ≡ map assigned (jobs_of i tasks)
+    given_at i d inside = ap (λ w. w.jobs.items) (has_jobs i d (omega (arith, for_jobs.size))) ∙ (for_jobs.each i d inside).jobs
+
+    number_at : (i : ℕ) (d : Worker) → i < cpus → (get_or equipped i d).workload.cpu ≡ i
+    number_at i d inside = ap (λ w. w.cpu) (has_jobs i d (omega (arith, for_jobs.size))) ∙ (for_jobs.each i d inside).number
+
+    ready_at : (i : ℕ) (d : Worker) → i < cpus → IsReady t (length programs) (get_or equipped i d)
+    ready_at i d inside = record {
+      port = get_or ports i no_port;
+      has = has_port i d no_port (omega (arith, for_jobs.size));
+      fits = are.each i no_port (omega (arith, many));
+      idle = ap in_run (nothing_seen i inside);
+      cpu = ap (λ (l : Known). l.cpu) (known_at i inside) ∙ sym (number_at i d inside);
+      new = subst (λ c. All (IsNew c (length programs)) (get_or equipped i d).workload.jobs.items) (sym (number_at i d inside))
+          (subst (All (IsNew i (length programs))) (sym (given_at i d inside)) (new_all i (length programs) jobs good));
+    }
+
+    pub all_ready : All (IsReady t (length programs)) equipped
+    all_ready = λ i d inside. ready_at i d (omega (arith, size, for_jobs.size))
+
+    module _ (vs : List Worker) (long : length vs ≡ length equipped) (each : (i : ℕ) (d : Worker) → i < length equipped → Worked t programs (get_or equipped i d) (get_or vs i d)) where
+      did : (i : ℕ) (d : Worker) → i < cpus → Worked t programs (get_or equipped i d) (get_or vs i d)
+      did i d inside = each i d (omega (arith, size, for_jobs.size))
+
+      pub all_run : (i : ℕ) (d : Worker) → i < length vs → length (get_or vs i d).workload.jobs.items ≡ length (jobs_of i tasks)
+      all_run i d inside =
+          let at : i < cpus = omega (arith, long, size, for_jobs.size) in
+          let w = did i d at in
+          ran_all extends (IsWorn t.about.count) t.about.shape.maps programs (own_events w.before) (own_events w.after) (get_or equipped i d).workload.jobs.items (get_or vs i d).workload.jobs.items w.events w.ran
+          ∙ (ap length (given_at i d at) ∙ length-map (jobs_of i tasks) assigned)
+
+      pub all_have_ports : All (λ (w : Worker). IsSome w.port) vs
+      all_have_ports = λ i d inside. subst IsSome (sym (did i d (omega (arith, long, size, for_jobs.size))).is) refl
+
+      module _ (back : List Port) (same : map Some back ≡ map (λ (w : Worker). w.port) vs) where
+        all_back : length back ≡ cpus
+        all_back = sym (length-map back Some) ∙ (ap length same ∙ (length-map vs (λ (w : Worker). w.port) ∙ (long ∙ (size ∙ for_jobs.size))))
+
+        back_at : (c : ℕ) (d : Worker) (inside : c < cpus) → get_or back c no_port ≡ (did c d inside).after
+        back_at c d inside = some_same _ _ (
+            sym (get_or-map Some back c no_port (Some no_port) (omega (arith, all_back)))
+            ∙ (ap (λ (l : List (Option Port)). get_or l c (Some no_port)) same
+            ∙ (get_or-map (λ (w : Worker). w.port) vs c d (Some no_port) (omega (arith, long, size, for_jobs.size)) ∙ (did c d inside).is)))
+
+        was_at : (c : ℕ) (d : Worker) (inside : c < cpus) → (did c d inside).before ≡ get_or ports c no_port
+        was_at c d inside = some_same _ _ (sym (did c d inside).was ∙ has_port c d no_port (omega (arith, for_jobs.size)))
+
+        -- some worker, where there is one
+        one_of : (xs : List Worker) (i : ℕ) → i < length xs → Worker
+        one_of [] i inside = absurd (omega arith)
+        one_of (x ∷ xs) i inside = x
+
+        worker_at : (c : ℕ) → c < cpus → Worker
+        worker_at c inside = one_of vs c (omega (arith, long, size, for_jobs.size))
+
+        cpu_at : (c : ℕ) (inside : c < cpus) → (get_or back c no_port).known.cpu ≡ c
+        cpu_at c inside =
+            let d = worker_at c inside in
+            ap (λ (p : Port). p.known.cpu) (back_at c d inside)
+            ∙ ((did c d inside).cpu ∙ (ap (λ (p : Port). p.known.cpu) (was_at c d inside) ∙ ap (λ (l : Known). l.cpu) (known_at c inside)))
+
+        same_table : All (λ (p : Port). p.table ≡ t.id) back
+        same_table = λ i e inside.
+            let at : i < cpus = omega (arith, all_back) in
+            let d = worker_at i at in
+            ap (λ (p : Port). p.table) (get_or_default back i e no_port inside ∙ back_at i d at) ∙ (did i d at).fits.table
+
+        pub is_all : IsAllOf t back
+        is_all = record {
+          table = same_table;
+          each = λ c inside. (c, get_or back c no_port, elem_at back c no_port (omega (arith, all_back)), cpu_at c inside);
+        }
+
+        module _ (history : List Entry) (legal : IsLegal t.about.shape history) (parts : All (IsPartOf history) back) (ends : List Outcome) (full : length ends ≡ length jobs)
+            (noted : (c : ℕ) (d : Worker) → c < length vs → ends_of c tasks ends ≡ map outcome_of (get_or vs c d).workload.jobs.items)
+            (here : All (λ (job : Job). job.cpu < cpus) jobs) where
+          own_at : (c : ℕ) (d : Worker) (inside : c < cpus) → events_of c history ≡ (did c d inside).events
+          own_at c d inside =
+              let p = get_or back c no_port in
+              let w = did c d inside in
+              subst (λ (k : ℕ). events_of k history ≡ own_events p) (cpu_at c inside) (sym (parts c no_port (omega (arith, all_back))).1)
+              ∙ (ap own_events (back_at c d inside)
+              ∙ (w.more ∙ ap (λ (l : List Event). l ++ w.events) (ap own_events (was_at c d inside) ∙ nothing_seen c inside)))
+
+          explained_at : (c : ℕ) → c < cpus → ExplainsJobs t.about.shape.maps t.about.count programs [] (jobs_of c tasks) (ends_of c tasks ends) (events_of c history)
+          explained_at c inside =
+              let d = worker_at c inside in
+              let w = did c d inside in
+              let news = (get_or vs c d).workload.jobs.items in
+              let from_none : RunsAll extends (IsWorn t.about.count) t.about.shape.maps programs [] (map assigned (jobs_of c tasks)) news w.events (own_events w.after) =
+              subst (λ (l : List Assignment). RunsAll extends (IsWorn t.about.count) t.about.shape.maps programs [] l news w.events (own_events w.after)) (given_at c d inside)
+              (subst (λ (l : List Event). RunsAll extends (IsWorn t.about.count) t.about.shape.maps programs l (get_or equipped c d).workload.jobs.items news w.events (own_events w.after)) (ap own_events (was_at c d inside) ∙ nothing_seen c inside) w.ran) in
+              subst (λ (l : List Event). ExplainsJobs t.about.shape.maps t.about.count programs [] (jobs_of c tasks) (ends_of c tasks ends) l) (sym (own_at c d inside))
+              (subst (λ (l : List Outcome). ExplainsJobs t.about.shape.maps t.about.count programs [] (jobs_of c tasks) l w.events) (sym (noted c d (omega (arith, long, size, for_jobs.size))))
+              (explains_jobs t.about.shape.maps t.about.count programs [] (own_events w.after) (jobs_of c tasks) news w.events from_none))
+
+          pub all_explained : IsExplained t.about.shape t.about.count programs tasks ends history
+          all_explained = record {
+            legal = legal;
+            each_ended = full ∙ sym (length-map jobs waiting);
+            each_has_cpu = λ task j is. cpu_below cpus jobs here task j is;
+            explained = explained_at;
+          }

@@ -1,0 +1,72 @@
+-- What a CPU's calls over its port are to the events that the port has seen of it.
+use Rattle.std.proofs.Common.{◌≡◌, ℕ, List, Some, ◌++◌, ap, sym, subst, ◌∙◌}
+use Rattle.bpf_shared.specs.declared.events.Event.{Event}
+use Rattle.bpf_shared.specs.Chain.{Chain}
+use Rattle.bpf_shared.specs.History.{events_of}
+use Rattle.bpf_shared.proofs.Chains.{events_of-append}
+use Rattle.bpf_loader.specs.Loaded.{Loaded}
+use Rattle.hop_words.specs.Inside.{Shown}
+use Rattle.hop_map.specs.Port.{Port, IsPortOf, own_events}
+use Rattle.hop_cpu.specs.Serving.{Serving, serves, IsWorn}
+use Rattle.hop_cpu.specs.Passing.{Passes}
+use Rattle.bpf_sched.specs.declared.assignment.Assignment.{Assignment}
+use Rattle.bpf_sched.specs.Explained as explained
+use Rattle.bpf_sched.specs.Working.{RunsAll}
+use Rattle.bpf_sched.specs.Worked.{Worked, extends}
+use Rattle.bpf_sched.specs.declared.worker.Worker.{Worker}
+use Rattle.bpf_sched.proofs.Told.{all_behind, carried}
+
+-- a value of a gate's store, of which the port's CPU is seen
+module _ {G : Type 0} (serving : G → Serving) (t : Shown) (cpu : ℕ) (programs : List Loaded) where
+  abbrev pub IsOf : G → Type 0
+  IsOf x = ((serving x).table ≡ t) × ((serving x).port.known.cpu ≡ cpu)
+
+  abbrev pub own_of : G → List Event
+  own_of x = own_events (serving x).port
+
+  moves_on : (x y : G) (es : List Event) → IsOf x → Chain (λ a b log. Passes (serving a) (serving b) log) (λ a. serves (serving a)) cpu x y es
+      → IsOf y × extends (own_of x) (own_of y) es
+  moves_on x y es (table, same) chain =
+      let cpu_y : (serving y).port.known.cpu ≡ cpu = chain.passage.cpu ∙ same in (
+        (chain.passage.table ∙ table, cpu_y),
+        ap (λ (c : ℕ). events_of c (serving y).port.known.seen) cpu_y
+            ∙ (ap (events_of cpu) chain.passage.seen
+            ∙ (events_of-append cpu (serving x).port.known.seen chain.log
+            ∙ (ap (λ (l : List Event). l ++ events_of cpu chain.log) (sym (ap (λ (c : ℕ). events_of c (serving x).port.known.seen) same))
+            ∙ ap (λ (l : List Event). own_of x ++ l) chain.own))),
+      )
+
+  is_worn : (x : G) → IsOf x → IsWorn (serving x) cpu → explained.IsWorn t.about.count (own_of x)
+  is_worn x of worn = subst (λ (s : Shown). explained.IsWorn s.about.count (own_of x)) of.0 worn
+
+  pub over_port : (x y : G) (olds news : List Assignment) (events : List Event) → IsOf x
+      → RunsAll (Chain (λ a b log. Passes (serving a) (serving b) log) (λ a. serves (serving a)) cpu) (λ a. IsWorn (serving a) cpu) t.about.shape.maps programs x olds news events y
+      → IsOf y × RunsAll extends (explained.IsWorn t.about.count) t.about.shape.maps programs (own_of x) olds news events (own_of y)
+  over_port x y olds news events of all =
+      carried IsOf own_of (Chain (λ a b log. Passes (serving a) (serving b) log) (λ a. serves (serving a)) cpu) (λ a. IsWorn (serving a) cpu) extends (explained.IsWorn t.about.count)
+      moves_on is_worn t.about.shape.maps programs x y olds news events of all
+
+-- a worker whose port was behind a gate's store has worked
+pub worked : {G : Type 0} (x y : G) (serving : G → Serving) (t : Shown) (programs : List Loaded) (w v : Worker) (p q : Port) (events : List Event)
+    → w.port ≡ Some p → v.port ≡ Some q → (serving x).table ≡ t → (serving x).port ≡ p → p.known.cpu ≡ w.workload.cpu → q ≡ (serving y).port → IsPortOf (serving y).table q
+    → RunsAll (Chain (λ a b log. Passes (serving a) (serving b) log) (λ a. serves (serving a)) w.workload.cpu) (λ a. IsWorn (serving a) w.workload.cpu) (serving x).table.about.shape.maps
+    programs x w.workload.jobs.items v.workload.jobs.items events y
+    → Worked t programs w v
+worked {G} x y serving t programs w v p q events was is table at cpu out fits all =
+    let c = w.workload.cpu in
+    let of : ((serving x).table ≡ t) × ((serving x).port.known.cpu ≡ c) = (table, ap (λ (r : Port). r.known.cpu) at ∙ cpu) in
+    let told = over_port serving t c programs x y w.workload.jobs.items v.workload.jobs.items events of
+    (subst (λ (s : Shown). RunsAll (Chain (λ a b log. Passes (serving a) (serving b) log) (λ a. serves (serving a)) c) (λ a. IsWorn (serving a) c) s.about.shape.maps programs x w.workload.jobs.items v.workload.jobs.items events y) table all) in
+    let ran = subst (λ (r : Port). RunsAll extends (explained.IsWorn t.about.count) t.about.shape.maps programs (own_events r) w.workload.jobs.items v.workload.jobs.items events (own_events q)) at
+    (subst (λ (r : Port). RunsAll extends (explained.IsWorn t.about.count) t.about.shape.maps programs (own_events (serving x).port) w.workload.jobs.items v.workload.jobs.items events (own_events r)) (sym out) told.1) in
+    record {
+      before = p;
+      after = q;
+      was = was;
+      is = is;
+      fits = subst (λ (s : Shown). IsPortOf s q) told.0.0 fits;
+      cpu = ap (λ (r : Port). r.known.cpu) out ∙ (told.0.1 ∙ sym cpu);
+      events = events;
+      more = all_behind (explained.IsWorn t.about.count) t.about.shape.maps programs (own_events p) (own_events q) w.workload.jobs.items v.workload.jobs.items events ran;
+      ran = ran;
+    }

@@ -1,0 +1,80 @@
+-- From what a CPU does over one kind of state to what it does over another, and to what explains its jobs.
+use Rattle.std.proofs.Common.{◌≡◌, ℕ, List, [], ◌∷◌, ◌++◌, inl, inr, refl, ap, sym, subst, ◌∙◌, append_assoc, length, map, arith}
+use Rattle.std.proofs.lemmas.List.{append-nil}
+use Rattle.bpf_shared.specs.declared.events.Event.{Event}
+use Rattle.bpf_shared.specs.declared.shapes.MapShape.{MapShape}
+use Rattle.bpf_loader.specs.Loaded.{Loaded}
+use Rattle.bpf_cpu.specs.declared.cpu.Cpu.{Cpu}
+use Rattle.bpf_cpu.specs.declared.outcome.Outcome.{Outcome}
+use Rattle.bpf_cpu.specs.Step.{Explains}
+use Rattle.bpf_cpu.specs.Task.{Task}
+use Rattle.bpf_sched.specs.declared.assignment.Assignment.{Assignment}
+use Rattle.bpf_sched.specs.Explained.{IsWorn, ExplainsJobs}
+use Rattle.bpf_sched.specs.Working.{RunsAll, assigned, outcome_of}
+use Rattle.bpf_sched.specs.Worked.{extends}
+
+-- where one reason for F6 is another
+explains_for : (worn known : Type 0) → (worn → known) → (shapes : List MapShape) (program : Loaded) (budget : ℕ) (start : Cpu) (events : List Event) (end : Outcome)
+    → Explains worn shapes program budget start events end → Explains known shapes program budget start events end
+explains_for worn known f shapes program budget start events end (inl e) = inl e
+explains_for worn known f shapes program budget start events end (inr (none_made, ends, w)) = inr (none_made, ends, f w)
+
+module _ {T U : Type 0} (is : T → Type 0) (seen_as : T → U) (moves : T → T → List Event → Type 0) (worn : T → Type 0) (goes : U → U → List Event → Type 0) (spent : U → Type 0)
+    (on : (x y : T) (es : List Event) → is x → moves x y es → is y × goes (seen_as x) (seen_as y) es) (ends : (x : T) → is x → worn x → spent (seen_as x))
+    (shapes : List MapShape) (programs : List Loaded) where
+  pub carried : (x y : T) (olds news : List Assignment) (events : List Event) → is x → RunsAll moves worn shapes programs x olds news events y
+      → is y × RunsAll goes spent shapes programs (seen_as x) olds news events (seen_as y)
+  carried x y [] [] events i (none_made, same) = (subst is (sym same) i, (none_made, ap seen_as same))
+  carried x y [] (n ∷ news) events i all = absurd all
+  carried x y (o ∷ olds) [] events i all = absurd all
+  carried x y (o ∷ olds) (n ∷ news) events i (z, mine, rest, cut, run, all) =
+      let one = on x z mine i run.way in
+      let others = carried z y olds news rest one.0 all in (
+        others.0,
+        (
+          seen_as z,
+          mine,
+          rest,
+          cut,
+          record {
+            program = run.program;
+            listed = run.listed;
+            way = one.1;
+            explained = explains_for (worn x) (spent (seen_as x)) (ends x i) shapes run.program o.budget o.cpu mine n.outcome run.explained;
+          },
+          others.1,
+        ),
+      )
+
+-- what a CPU did with its jobs explains how they ended
+pub explains_jobs : (shapes : List MapShape) (count : ℕ) (programs : List Loaded) (before after : List Event) (tasks : List Task) (news : List Assignment) (events : List Event)
+    → RunsAll extends (IsWorn count) shapes programs before (map assigned tasks) news events after
+    → ExplainsJobs shapes count programs before tasks (map outcome_of news) events
+explains_jobs shapes count programs before after [] [] events all = all.0
+explains_jobs shapes count programs before after [] (n ∷ news) events all = absurd all
+explains_jobs shapes count programs before after (t ∷ tasks) [] events all = absurd all
+explains_jobs shapes count programs before after (t ∷ tasks) (n ∷ news) events (z, mine, rest, cut, run, all) = (
+  mine,
+  rest,
+  cut,
+  record { program = run.program; listed = run.listed; explained = run.explained },
+  explains_jobs shapes count programs (before ++ mine) after tasks news rest (subst (λ (x : List Event). RunsAll extends (IsWorn count) shapes programs x (map assigned tasks) news rest after) run.way all),
+)
+
+-- it ran as many as it was given
+pub ran_all : {T : Type 0} (moves : T → T → List Event → Type 0) (worn : T → Type 0) (shapes : List MapShape) (programs : List Loaded) (x y : T) (olds news : List Assignment) (events : List Event)
+    → RunsAll moves worn shapes programs x olds news events y → length news ≡ length olds
+ran_all moves worn shapes programs x y [] [] events all = refl
+ran_all moves worn shapes programs x y [] (n ∷ news) events all = absurd all
+ran_all moves worn shapes programs x y (o ∷ olds) [] events all = absurd all
+ran_all moves worn shapes programs x y (o ∷ olds) (n ∷ news) events (z, mine, rest, cut, run, all) = omega (arith, ran_all moves worn shapes programs z y olds news rest all)
+
+-- all of its events are behind those that it had before
+pub all_behind : (worn : List Event → Type 0) (shapes : List MapShape) (programs : List Loaded) (before after : List Event) (olds news : List Assignment) (events : List Event)
+    → RunsAll extends worn shapes programs before olds news events after → extends before after events
+all_behind worn shapes programs before after [] [] events all = all.1 ∙ (sym (append-nil before) ∙ ap (λ (l : List Event). before ++ l) (sym all.0))
+all_behind worn shapes programs before after [] (n ∷ news) events all = absurd all
+all_behind worn shapes programs before after (o ∷ olds) [] events all = absurd all
+all_behind worn shapes programs before after (o ∷ olds) (n ∷ news) events (z, mine, rest, cut, run, all) =
+    all_behind worn shapes programs z after olds news rest all
+    ∙ (ap (λ (l : List Event). l ++ rest) run.way ∙ (append_assoc before mine rest ∙ ap (λ (l : List Event). before ++ l) (sym cut)))

@@ -1,0 +1,46 @@
+-- Workers: what each has before it works and after it.
+use Rattle.std.specs.Prelude.{◌≡◌, ℕ, ◌<◌, false, List, ◌++◌, Some, All, length, map, slice_index_or}
+use Rattle.bpf_shared.specs.declared.events.Event.{Event}
+use Rattle.bpf_loader.specs.Loaded.{Loaded}
+use Rattle.bpf_cpu.specs.Task.{Task}
+use Rattle.hop_words.specs.Inside.{Shown}
+use Rattle.hop_map.specs.Port.{Port, IsPortOf, own_events, runs}
+use Rattle.bpf_sched.specs.declared.worker.Worker.{Worker}
+use Rattle.bpf_sched.specs.Explained.{IsWorn, jobs_of}
+use Rattle.bpf_sched.specs.Working.{IsNew, RunsAll, assigned}
+
+-- the worker has the CPU's jobs, none of which was run
+pub record IsFor (tasks : List Task) (cpu : ℕ) (w : Worker) : Type 0 where
+  pub number : w.workload.cpu ≡ cpu
+  pub jobs : w.workload.jobs.items ≡ map assigned (jobs_of cpu tasks)
+
+-- so have these, each of the first so many CPUs
+pub record AreFor (tasks : List Task) (cpus : ℕ) (workers : List Worker) : Type 0 where
+  pub size : length workers ≡ cpus
+  pub each : (c : ℕ) (d : Worker) → c < cpus → IsFor tasks c (slice_index_or workers c d)
+
+-- the worker has the port of its CPU, which is in no run, and jobs of so many programs
+pub record IsReady (t : Shown) (programs : ℕ) (w : Worker) : Type 0 where
+  pub port : Port
+  pub has : w.port ≡ Some port
+  pub fits : IsPortOf t port
+  pub idle : runs port ≡ false
+  pub cpu : port.known.cpu ≡ w.workload.cpu
+  pub new : All (IsNew w.workload.cpu programs) w.workload.jobs.items
+
+-- a CPU's events before, with these, are its events after
+abbrev pub extends : List Event → List Event → List Event → Type 0
+extends before after events = after ≡ before ++ events
+
+-- the worker has run its jobs in order, by these events of its CPU
+pub record Worked (t : Shown) (programs : List Loaded) (w v : Worker) : Type 0 where
+  pub before : Port
+  pub after : Port
+  pub was : w.port ≡ Some before
+  pub is : v.port ≡ Some after
+  pub fits : IsPortOf t after
+  pub cpu : after.known.cpu ≡ before.known.cpu
+  pub events : List Event
+  pub more : extends (own_events before) (own_events after) events
+  pub ran : RunsAll extends (IsWorn t.about.count) t.about.shape.maps programs (own_events before)
+      w.workload.jobs.items v.workload.jobs.items events (own_events after)

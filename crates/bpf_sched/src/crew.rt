@@ -1,0 +1,127 @@
+//! All workers of a store.
+
+ghost use Rattle.std.specs.Prelude.{◌≡◌, ◌<◌, ◌≤◌, ℕ, [], All, IsSome, Some, length, map, slice_index_or, vec_capacity, vec_len};
+ghost use Rattle.bpf_cpu.specs.Task.{waiting};
+ghost use Rattle.hop_map.specs.Port.{Port};
+ghost use Rattle.hop_map.specs.Stores.{ArePorts};
+ghost use Rattle.bpf_sched.specs.Explained.{IsExplained};
+ghost use Rattle.bpf_sched.specs.Worked.{AreFor, IsReady, Worked};
+ghost use Rattle.bpf_sched.specs.declared.worker.Worker.{Worker};
+
+use crate::gate::Gate;
+use crate::room::Room;
+use crate::telling::note_all;
+use crate::worker::{Worker, work};
+use bpf_cpu::{Job, Outcome};
+use bpf_loader::Program;
+use hop_map::{Closed, HopPort, gather};
+use hop_words::HopTable;
+use std::sync::Wait;
+use std::thread;
+use std::thread::Threads;
+
+/// Gives each worker its CPU's port.
+pub(crate) fn equip(workers: &mut [Worker], ports: Vec<HopPort>)
+    requires { vec_len ports ≡ length workers.old }
+    ensures size { length workers.new ≡ length workers.old }
+    ensures ports { (c : ℕ) (d : Worker) (p : Port) → c < length workers.old
+        → (slice_index_or workers.new c d).port ≡ Some (slice_index_or ports.items c p) }
+    ensures workloads { (c : ℕ) (d : Worker) → c < length workers.old
+        → (slice_index_or workers.new c d).workload ≡ (slice_index_or workers.old c d).workload }
+{
+    let mut cpu = 0;
+    for port in ports {
+        workers[cpu].port = Some(port);
+        cpu += 1;
+    }
+}
+
+/// Takes the ports back.
+pub(crate) fn dismiss(workers: Vec<Worker>, room: Vec<HopPort>) -> Vec<HopPort>
+    requires empty { room.items ≡ [] }
+    requires room { vec_len workers ≤ vec_capacity room }
+    requires ports { All (λ w. IsSome w.port) workers.items }
+    ensures { map Some result.items ≡ map (λ w. w.port) workers.items }
+{
+    let mut ports = room;
+    for worker in workers {
+        let Worker { port, workload: _ } = worker;
+        let Some(port) = port else { unreachable!() };
+        match ports.push(port) {
+            Ok(()) => {}
+            Err(_) => unreachable!(),
+        }
+    }
+    ports
+}
+
+/// Runs all workers, in so many threads at most. Where a thread can't be started, the others do its
+/// work.
+pub(crate) fn work_all<R: Threads + Wait + Sync, G: Gate + Sync>(
+    rt: &R,
+    table: &HopTable,
+    programs: &[Program],
+    gate: &G,
+    threads: usize,
+    workers: &mut [Worker],
+)
+    requires threads { 0 < threads }
+    requires ready { All (IsReady table.now (length programs.now)) workers.old }
+    ensures size { length workers.new ≡ length workers.old }
+    ensures worked { (i : ℕ) (d : Worker) → i < length workers.old → Worked table.now programs.now
+        (slice_index_or workers.old i d) (slice_index_or workers.new i d) }
+{
+    let each = |_: usize, worker: &mut Worker|
+        requires { IsReady table.now (length programs.now) worker.now }
+        ensures { Worked table.entry.now programs.entry.now worker.entry.now worker.exit.now }
+    { work(rt, table, programs, gate, worker) };
+    thread::for_each_mut(rt, workers, threads, &each);
+}
+
+/// How all jobs ended, in the order of their list, and what is left of the store.
+#[derive(Drop)]
+pub struct Report {
+    pub outcomes: Vec<Outcome>,
+    pub closed: Closed,
+}
+
+/// Runs all jobs over the ports of a store that no CPU has called yet, each CPU's in their order, by
+/// so many workers at most. It takes no memory.
+pub fn run_ports<R: Threads + Wait + Sync, G: Gate + Sync>(
+    rt: &R,
+    table: HopTable,
+    ports: Vec<HopPort>,
+    room: Room,
+    programs: &[Program],
+    jobs: &[Job],
+    workers: usize,
+    gate: &G,
+) -> Report
+    requires ports { ArePorts table ports.items }
+    requires workers { 0 < workers }
+    requires programs { All (λ job. job.program < length programs.now) jobs.now }
+    requires cpus { All (λ job. job.cpu < table.about.shape.cpus) jobs.now }
+    requires assigned { AreFor (map waiting jobs.now) table.about.shape.cpus room.workers.items }
+    requires empty { room.ports.items ≡ [] }
+    requires room { table.about.shape.cpus ≤ vec_capacity room.ports }
+    requires ends { vec_len room.ends ≡ length jobs.now }
+    ensures about { result.closed.about ≡ table.about }
+    ensures explained { IsExplained table.about.shape table.about.count programs.now
+        (map waiting jobs.now) result.outcomes.items result.closed.history }
+{
+    let _few = table.about().shape.cpus();
+    let Room {
+        workers: mut crew,
+        ports: back,
+        mut ends,
+    } = room;
+    equip(&mut crew, ports);
+    work_all(rt, &table, programs, gate, workers, &mut crew);
+    note_all(jobs, &crew, &mut ends);
+    let ports = dismiss(crew, back);
+    let closed = gather(table, ports);
+    Report {
+        outcomes: ends,
+        closed,
+    }
+}
