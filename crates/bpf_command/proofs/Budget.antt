@@ -237,7 +237,13 @@ entered_budget (Some p) e =
         (λ words e is. absurd (other_name (codes "asm") refl is)),
         (
           (λ words e is. absurd (other_name (codes "disasm") refl is)),
-          ((λ words e is. absurd (other_name (codes "run") refl is)), ((λ words e is. absurd (other_name (codes "explain") refl is)), tt)),
+          (
+            (λ words e is. absurd (other_name (codes "run") refl is)),
+            (
+              (λ words e is. absurd (other_name (codes "debug") refl is)),
+              ((λ words e is. absurd (other_name (codes "explain") refl is)), tt),
+            ),
+          ),
         ),
       ),
     ) e

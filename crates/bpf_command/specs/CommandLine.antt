@@ -52,6 +52,9 @@ code = record (new_rule (codes "code")) { value_names = 1; required = true }
 abbrev pub explain : App
 explain = with_rule (new_app (codes "explain")) code
 
+abbrev pub debug : App
+debug = with_rule (new_app (codes "debug")) explained
+
 -- the program, before its commands are added
 abbrev pub bare : App
 bare = record {
@@ -67,9 +70,9 @@ bare = record {
 abbrev pub one_program : App
 one_program = with_subcommand (with_subcommand (with_subcommand bare hex.top) asm.top) disasm.top
 
--- and `ebpf run` for a run file
+-- and `ebpf run` and `ebpf debug` for a run file
 abbrev pub working : App
-working = with_subcommand one_program run.top
+working = with_subcommand (with_subcommand one_program run.top) debug.top
 
 -- and `ebpf explain`, with `--help` and `--version`
 abbrev pub ebpf : App
@@ -78,9 +81,9 @@ ebpf = with_subcommand working explain.top
 -- the name of one of those that do work
 abbrev pub IsWorkName : Text → Type 0
 IsWorkName name = (name ≡ codes "hex") ⊎ ((name ≡ codes "asm") ⊎ ((name ≡ codes "disasm")
-    ⊎ (name ≡ codes "run")))
+    ⊎ ((name ≡ codes "run") ⊎ (name ≡ codes "debug"))))
 
--- the name of one of the five
+-- the name of one of the six
 abbrev pub IsCommandName : Text → Type 0
 IsCommandName name = (name ≡ codes "explain") ⊎ IsWorkName name
 

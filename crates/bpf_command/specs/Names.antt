@@ -36,6 +36,7 @@ Names (Some found) command.Asm = found.0 ≡ codes "asm"
 Names (Some found) command.Disasm = found.0 ≡ codes "disasm"
 Names (Some found) (command.Run maps) = (found.0 ≡ codes "run")
     × (maps ≡ is_given (codes "maps") found.1)
+Names (Some found) command.Debug = found.0 ≡ codes "debug"
 
 -- what is asked for: a command, perhaps with `--explain`, or the page of a code
 abbrev pub Asks : Option (Text × List Row) → Request → Type 0

@@ -30,6 +30,8 @@ pub enum Command {
     Disasm,
     /// Run the jobs of a run file, and print the maps afterwards where that is asked for.
     Run { maps: bool },
+    /// Run the jobs of a run file by commands, and show what they ask for.
+    Debug,
 }
 
 /// What a command line asks for.

@@ -123,9 +123,10 @@ fn named(alloc: Global, name: &str, options: &ArgMatches) -> Result<Command, Com
         "hex" => hex_of(alloc, options),
         "asm" => Ok(Command::Asm),
         "disasm" => Ok(Command::Disasm),
-        _ => Ok(Command::Run {
+        "run" => Ok(Command::Run {
             maps: is_given(options, "maps"),
         }),
+        _ => Ok(Command::Debug),
     }
 }
 

@@ -3,7 +3,7 @@
 ghost use Rattle.std.specs.Prelude.{◌≡◌, false, IfOk};
 ghost use Rattle.clap.specs.Words.{app_of, rule_of, shape_of};
 ghost use Rattle.clap.specs.declared.builder.command.Command.TheViews.{out-Command as fields_of};
-ghost use Rattle.bpf_command.specs.CommandLine.{asm, bare, budget, code, context, disasm, ebpf, explain, explained, hex, maps, one_program, run, working};
+ghost use Rattle.bpf_command.specs.CommandLine.{asm, bare, budget, code, context, debug, disasm, ebpf, explain, explained, hex, maps, one_program, run, working};
 
 use crate::command::MAX_BUDGET;
 use clap::{Arg, ArgAction, Command, value_parser};
@@ -46,6 +46,24 @@ Nothing is read. The code is what stands behind 'refused' or 'fault', as in
       refused E1
 
   A program has 1 to 65,536 words. In a run file: lines of assembly before `end`.";
+
+const DEBUG_NOTES: &str = "\
+The commands, one a line, with a CPU C, a pc P, an address A and a number N of bytes (1 to 256):
+  break C P   'go' stops before C executes the instruction at P
+  step C      one turn of C
+  go          rounds of turns, up to a breakpoint or until no CPU has work
+  regs C      the registers
+  where C     the job in hand, the pc and the depth of calls
+  mem C A N   bytes in hex, as C's program may read them, or 'unreadable'
+  map NAME    the keys of a map with their values, KEY=VALUE in hex
+
+A job that ends prints its line. A command that is refused prints 'refused' and a code, changes
+nothing, and the next one is read. A run file, a line '---' and the commands are read from standard
+input, as in
+  $ printf 'ebpf-run 1\\nprog a\\nr0 = 5\\nexit\\nend\\njob 0 a\\n---\\nstep 0\\ngo\\n' | ebpf debug
+  cpu 0 job 0 pc 1 depth 1
+  job 0 cpu 0 r0=5
+  done";
 
 const EXIT_STATUS: &str = "\
 All input is standard input, read whole first, and all answers go to standard output.
@@ -140,6 +158,16 @@ fn run_command<'a>(alloc: Global) -> Result<Command<'a>, AllocError>
         .arg(maps_option(alloc))
 }
 
+fn debug_command<'a>(alloc: Global) -> Result<Command<'a>, AllocError>
+    ensures shape { IfOk result (λ c. shape_of c ≡ debug.top) }
+    ensures own { IfOk result (λ c. (fields_of c).has_globals ≡ false) }
+{
+    Command::new(alloc, "debug")
+        .about("Runs the jobs of a run file by commands, and shows what they ask for")
+        .after_help(DEBUG_NOTES)
+        .arg(explain_option(alloc))
+}
+
 fn code_argument<'a>(alloc: Global) -> Arg<'a>
     ensures rule { rule_of result ≡ code }
     ensures own { result.global ≡ false }
@@ -185,7 +213,8 @@ fn program_commands<'a>(alloc: Global) -> Result<Command<'a>, AllocError>
 fn working_commands<'a>(alloc: Global) -> Result<Command<'a>, AllocError>
     ensures app { IfOk result (λ c. app_of c ≡ working) }
 {
-    program_commands(alloc)?.subcommand(run_command(alloc)?)
+    let with_run = program_commands(alloc)?.subcommand(run_command(alloc)?)?;
+    with_run.subcommand(debug_command(alloc)?)
 }
 
 /// The command line of the whole program.

@@ -32,6 +32,11 @@ pub enum Code {
     F4,
     F5,
     F6,
+    G1,
+    G2,
+    G3,
+    G4,
+    G5,
     H1,
     L1,
     L2,
@@ -52,7 +57,7 @@ pub enum Code {
 }
 
 /// All codes.
-pub const CODES: [Code; 43] = [
+pub const CODES: [Code; 48] = [
     Code::A1,
     Code::A2,
     Code::A3,
@@ -79,6 +84,11 @@ pub const CODES: [Code; 43] = [
     Code::F4,
     Code::F5,
     Code::F6,
+    Code::G1,
+    Code::G2,
+    Code::G3,
+    Code::G4,
+    Code::G5,
     Code::H1,
     Code::L1,
     Code::L2,
@@ -133,6 +143,11 @@ impl Code {
             Code::F4 => "F4",
             Code::F5 => "F5",
             Code::F6 => "F6",
+            Code::G1 => "G1",
+            Code::G2 => "G2",
+            Code::G3 => "G3",
+            Code::G4 => "G4",
+            Code::G5 => "G5",
             Code::H1 => "H1",
             Code::L1 => "L1",
             Code::L2 => "L2",

@@ -1,5 +1,6 @@
 //! The pages, by what the codes are of.
 
+pub mod debugger;
 pub mod files;
 pub mod program;
 pub mod running;

@@ -4,7 +4,7 @@ ghost use Rattle.std.specs.Prelude.{◌≡◌};
 
 use crate::code::Code;
 use crate::page::Page;
-use crate::pages::{files, program, running, text};
+use crate::pages::{debugger, files, program, running, text};
 
 /// The page of a code.
 pub fn page_of(code: Code) -> Page
@@ -37,6 +37,11 @@ pub fn page_of(code: Code) -> Page
         Code::F4 => running::F4,
         Code::F5 => running::F5,
         Code::F6 => running::F6,
+        Code::G1 => debugger::G1,
+        Code::G2 => debugger::G2,
+        Code::G3 => debugger::G3,
+        Code::G4 => debugger::G4,
+        Code::G5 => debugger::G5,
         Code::H1 => text::H1,
         Code::L1 => files::L1,
         Code::L2 => files::L2,

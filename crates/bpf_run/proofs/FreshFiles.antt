@@ -11,7 +11,8 @@ use Rattle.bpf_file.specs.declared.file.RunFile.{RunFile}
 use Rattle.bpf_file.specs.File.{File, file_of}
 use Rattle.bpf_file.specs.Reading.{IsRunFile}
 use Rattle.bpf_file.specs.Runnable.{WaitsShort, IsJobFor, CanRun}
-use Rattle.bpf_run.specs.Commands.{IsRunOfFile, first_of}
+use Rattle.bpf_run.specs.Commands.{IsRunOfFile}
+use Rattle.bpf_run.specs.Script.{first_of}
 use Rattle.bpf_run.specs.declared.reply.Reply.TheVariants as reply
 
 each : (P : Task → Type 0) (tasks : List Task) → All P tasks → (j : ℕ) (task : Task)

@@ -33,7 +33,8 @@ use Rattle.bpf_jobs.specs.Laws.{ReportsAreDetermined}
 use Rattle.bpf_jobs.specs.Printed.{IsReport}
 use Rattle.bpf_run.proofs.FreshFiles.{fresh}
 use Rattle.bpf_run.specs.Answer.{jobs_status, status_of, reply_text}
-use Rattle.bpf_run.specs.Commands.{IsAnswer, IsAssembled, IsDisassembled, IsReply, IsRun, IsRunOfFile, IsWordsOf, RefusesAssembly, RefusesInput, RefusesProgram, RefusesWords, first_of}
+use Rattle.bpf_run.specs.Commands.{IsAnswer, IsAssembled, IsDisassembled, IsReply, IsRun, IsRunOfFile, IsWordsOf, RefusesAssembly, RefusesInput, RefusesProgram, RefusesWords}
+use Rattle.bpf_run.specs.Script.{first_of}
 use Rattle.bpf_run.specs.declared.input.TheConstants.{MAX_INPUT}
 use Rattle.bpf_run.specs.Laws.{IsOfInput, IsForAnyInput, HasShortContext, RepliesAreDetermined}
 use Rattle.bpf_run.specs.Listing.{word_lines}
@@ -101,6 +102,7 @@ of_run budget context text (reply.Refused refusal.OutOfMemory) h n = absurd (n t
 of_run budget context text (reply.Refused r) h n = of_program budget context text r h n
 of_run budget context text (reply.Text printed) h n = absurd h
 of_run budget context text (reply.Jobs printed stopped) h n = absurd h
+of_run budget context text (reply.Script answers stopped) h n = absurd h
 
 of_refused_text : (text : List ℕ) (error : TextError) → RefusesAssembly text (refusal.Text error) → ¬ IsForAnyInput (refusal.Text error) → OfAssembly text (reply.Refused (refusal.Text error))
 of_refused_text text error (inl memory) n = absurd (n (subst (λ (e : TextError). IsForAnyInput (refusal.Text e)) (sym memory) tt))
@@ -113,12 +115,14 @@ of_assembly text (reply.Refused (refusal.Insn error)) h n = absurd (n (subst (λ
 of_assembly text (reply.Refused r) h n = absurd h
 of_assembly text (reply.Ended outcome) h n = absurd h
 of_assembly text (reply.Jobs printed stopped) h n = absurd h
+of_assembly text (reply.Script answers stopped) h n = absurd h
 
 of_listing : (text : List ℕ) (r : Reply) → IsDisassembled text r → IsOfInput r → OfListing text r
 of_listing text (reply.Text printed) h n = Listed printed h
 of_listing text (reply.Refused r) h n = Unlisted r (of_words text r h n)
 of_listing text (reply.Ended outcome) h n = absurd h
 of_listing text (reply.Jobs printed stopped) h n = absurd h
+of_listing text (reply.Script answers stopped) h n = absurd h
 
 data OfFile (maps : Bool) (text : List ℕ) : Reply → Type 0 where
   Told : (printed : _) (stopped : Bool) → IsRunOfFile maps text (reply.Jobs printed stopped)
@@ -139,6 +143,7 @@ of_file maps text (reply.Jobs printed stopped) h n = Told printed stopped h
 of_file maps text (reply.Refused r) h n = of_refused_file maps text r h n
 of_file maps text (reply.Ended outcome) h n = absurd h
 of_file maps text (reply.Text printed) h n = absurd h
+of_file maps text (reply.Script answers stopped) h n = absurd h
 
 data OfInput (c : Command) (input : List ℕ) : Reply → Type 0 where
   TooLong : MAX_INPUT < length input → OfInput c input (reply.Refused (refusal.Input input_error.TooLong))
@@ -243,6 +248,7 @@ module _ (words : WordsAreDetermined) (encodings : EncodingsAreDetermined) (refu
   one_answer command.Asm text r s h a b n m = one_assembly text r s (of_assembly text r a n) (of_assembly text s b m)
   one_answer command.Disasm text r s h a b n m = one_listing text r s (of_listing text r a n) (of_listing text s b m)
   one_answer (command.Run maps) text r s h a b n m = one_file maps text r s (of_file maps text r a n) (of_file maps text s b m)
+  one_answer command.Debug text r s h a b n m = absurd h
 
   one_input : (c : Command) (input : List ℕ) (r s : Reply) → HasShortContext c → OfInput c input r → OfInput c input s → IsOfInput r → IsOfInput s → PrintsAs r s
   one_input c input r s h (TooLong long) (TooLong more) n m = prints r s refl

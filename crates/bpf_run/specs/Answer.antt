@@ -1,5 +1,5 @@
 -- What is printed of a reply, and the exit status. Our own choice.
-use Rattle.std.specs.Prelude.{◌≡◌, ℕ, ◌++◌, ◌⊎◌, List, Option, Bool, true, false, codes, string_bytes, take}
+use Rattle.std.specs.Prelude.{◌≡◌, ℕ, ◌++◌, ◌⊎◌, List, Option, Bool, true, false, codes, map, string_bytes, take}
 use Rattle.std.specs.Fmt.{decimal}
 use Rattle.std.specs.Io.KnownBytes.{Appends}
 use Rattle.bpf_explain.specs.Page.{page_text}
@@ -7,6 +7,7 @@ use Rattle.bpf_explain.specs.declared.code.Code.{Code}
 use Rattle.bpf_explain.specs.declared.page.Page.{Page}
 use Rattle.bpf_cpu.specs.declared.outcome.Outcome.{Outcome}
 use Rattle.bpf_cpu.specs.declared.outcome.Outcome.TheVariants as outcome
+use Rattle.bpf_debug.specs.Script.{answer_of, answers_text}
 use Rattle.bpf_run.specs.declared.reply.Reply.{Reply}
 use Rattle.bpf_run.specs.declared.reply.Reply.TheVariants as reply
 use Rattle.bpf_run.specs.declared.reply.Status.{Status}
@@ -24,6 +25,7 @@ abbrev pub reply_text : Reply → List ℕ
 reply_text (reply.Ended outcome) = outcome_line outcome ++ codes "\n"
 reply_text (reply.Text text) = string_bytes text
 reply_text (reply.Jobs text stopped) = string_bytes text
+reply_text (reply.Script answers stopped) = answers_text (map answer_of answers.items)
 reply_text (reply.Refused refusal) = codes "refused " ++ code refusal ++ codes "\n"
 
 -- how a program ends after it
@@ -41,6 +43,7 @@ abbrev pub status_of : Reply → Status
 status_of (reply.Ended outcome) = ended_status outcome
 status_of (reply.Text text) = status.Done
 status_of (reply.Jobs text stopped) = jobs_status stopped
+status_of (reply.Script answers stopped) = jobs_status stopped
 status_of (reply.Refused refusal) = status.Refused
 
 abbrev pub exit_status : Status → ℕ
@@ -62,6 +65,8 @@ Prints (reply.Text text) old new failed answered =
     IsPrinted (string_bytes text) status.Done old new failed answered
 Prints (reply.Jobs text stopped) old new failed answered =
     IsPrinted (string_bytes text) (jobs_status stopped) old new failed answered
+Prints (reply.Script answers stopped) old new failed answered =
+    IsPrinted (answers_text (map answer_of answers.items)) (jobs_status stopped) old new failed answered
 Prints r old new failed answered = IsPrinted (reply_text r) (status_of r) old new failed answered
     ⊎ IsPrinted (codes "refused L9\n") status.Refused old new failed answered
 

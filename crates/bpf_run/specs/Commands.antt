@@ -8,8 +8,8 @@ use Rattle.bpf_loader.specs.declared.refusal.LoadError.TheVariants as load_error
 use Rattle.bpf_shared.specs.declared.events.Event.{Event}
 use Rattle.bpf_cpu.specs.State.{start}
 use Rattle.bpf_cpu.specs.Step.{Explains}
-use Rattle.bpf_cpu.specs.Schedule.{World}
-use Rattle.bpf_jobs.specs.Printed.{first_world, IsReport}
+use Rattle.bpf_jobs.specs.Printed.{IsReport}
+use Rattle.bpf_run.specs.Script.{first_of, IsScriptOfFile}
 use Rattle.bpf_file.specs.declared.error.FileError.TheVariants as FileError
 use Rattle.bpf_file.specs.File.{File}
 use Rattle.bpf_file.specs.Reading.{IsRunFile}
@@ -56,6 +56,7 @@ IsRun budget context text (reply.Refused refusal.OutOfMemory) = Unit {0}
 IsRun budget context text (reply.Refused r) = RefusesProgram text r
 IsRun budget context text (reply.Text printed) = ⊥
 IsRun budget context text (reply.Jobs printed stopped) = ⊥
+IsRun budget context text (reply.Script answers stopped) = ⊥
 
 -- `asm`: the words of the instructions that the text stands for, a line of 16 hex digits each
 abbrev pub RefusesAssembly : List ℕ → Refusal → Type 0
@@ -71,6 +72,7 @@ IsAssembled text (reply.Text printed) = (is : List Insn) × (bytes : List ℕ)
 IsAssembled text (reply.Refused r) = RefusesAssembly text r
 IsAssembled text (reply.Ended outcome) = ⊥
 IsAssembled text (reply.Jobs printed stopped) = ⊥
+IsAssembled text (reply.Script answers stopped) = ⊥
 
 -- `disasm`: the canonical text of the instructions
 abbrev pub IsDisassembled : List ℕ → Reply → Type 0
@@ -79,12 +81,10 @@ IsDisassembled text (reply.Text printed) =
 IsDisassembled text (reply.Refused r) = RefusesWords text r
 IsDisassembled text (reply.Ended outcome) = ⊥
 IsDisassembled text (reply.Jobs printed stopped) = ⊥
+IsDisassembled text (reply.Script answers stopped) = ⊥
 
 -- `run`: the lines of the jobs that the file says, run in rounds over a new store of its maps, and
 -- then those of the maps where they are asked for; or the file's first refusal
-abbrev pub first_of : File → World
-first_of f = first_world (record { cpus = f.cpus; maps = f.maps }) f.programs f.jobs
-
 abbrev pub IsRunOfFile : Bool → List ℕ → Reply → Type 0
 IsRunOfFile maps text (reply.Jobs printed stopped) = (f : File) × IsRunFile text (Ok f)
     × IsReport (first_of f) f.names maps (string_bytes printed) stopped
@@ -99,6 +99,7 @@ IsAnswer (command.Hex options) text r = IsRun options.budget options.context.ite
 IsAnswer command.Asm text r = IsAssembled text r
 IsAnswer command.Disasm text r = IsDisassembled text r
 IsAnswer (command.Run maps) text r = IsRunOfFile maps text r
+IsAnswer command.Debug text r = IsScriptOfFile text r
 
 -- ---- input
 

@@ -29,9 +29,10 @@ abbrev pub IsOfInput : Reply → Type 0
 IsOfInput (reply.Refused r) = ¬ IsForAnyInput r
 IsOfInput _ = Unit {0}
 
--- the context has its greatest length at most
+-- the context has its greatest length at most; of `debug` nothing is said here
 abbrev pub HasShortContext : Command → Type 0
 HasShortContext (command.Hex options) = length options.context.items ≤ max_context
+HasShortContext command.Debug = ⊥
 HasShortContext _ = Unit {0}
 
 -- replies of one input print one text, with one exit status

@@ -1,5 +1,6 @@
 pub mod Answer
 pub mod Commands
+pub mod Script
 pub mod Listing
 pub mod Input
 pub mod Codes

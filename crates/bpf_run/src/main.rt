@@ -12,6 +12,7 @@ pub mod program;
 pub mod recorder;
 pub mod refusal;
 pub mod reply;
+pub mod script;
 pub mod stream;
 
 use program::{end, program};

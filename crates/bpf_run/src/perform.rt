@@ -1,8 +1,9 @@
 //! A whole command: what it reads, does and writes.
 
-ghost use Rattle.std.specs.Prelude.{◌≡◌, ◌≤◌, ◌≢◌, ◌+◌, ◌⊎◌, codes, false, IfSome, List, length, ℕ};
+ghost use Rattle.std.specs.Prelude.{◌≡◌, ◌≤◌, ◌≢◌, ◌+◌, codes, false, map, IfOk, IfSome, OnErr, List, length, string_bytes, ℕ};
 ghost use Rattle.std.specs.Io.KnownBytes.{Consumes};
-ghost use Rattle.bpf_run.specs.Answer.{Prints, PrintsPage, IsPrinted, status_of, reply_text};
+ghost use Rattle.bpf_debug.specs.Script.{answer_of, answer_text, answers_text};
+ghost use Rattle.bpf_run.specs.Answer.{Prints, PrintsPage, IsPrinted};
 ghost use Rattle.bpf_run.specs.Commands.{IsReply, is_unread};
 ghost use Rattle.bpf_run.specs.Program.{Performs};
 ghost use Rattle.bpf_run.specs.declared.reply.Reply.{Reply};
@@ -11,11 +12,12 @@ use crate::input::{InputError, MAX_INPUT, read_whole};
 use crate::output::write_whole;
 use crate::pipeline::reply;
 use crate::refusal::Refusal;
-use crate::reply::{Reply, Status};
+use crate::reply::{EndText, Reply, Status};
 use crate::stream::{Sink, Source};
 use bpf_command::Command;
+use bpf_debug::Answer;
 use bpf_explain::{Code, page_of};
-use std::alloc::Global;
+use std::alloc::{AllocError, Global};
 
 /// What a command came to, with what it was asked of.
 #[derive(Drop)]
@@ -37,18 +39,42 @@ fn write_text<W: Sink>(sink: &mut W, text: &str, status: Status) -> Status
     }
 }
 
-/// Prints a reply of one line, which is made before its first byte is written.
-fn write_line<W: Sink>(alloc: Global, reply: &Reply, sink: &mut W) -> Status
+/// Prints a line that was made before its first byte is written, if there was memory for it.
+fn write_line<W: Sink>(line: Result<String, AllocError>, status: Status, sink: &mut W) -> Status
     requires { W.has_failed sink.old ≡ false }
-    ensures { IsPrinted (reply_text reply.now) (status_of reply.now)
-        (W.contents sink.old) (W.contents sink.new) (W.has_failed sink.new) result
-        ⊎ IsPrinted (codes "refused L9\n") Status.Refused
-        (W.contents sink.old) (W.contents sink.new) (W.has_failed sink.new) result }
+    ensures line { IfOk line (λ text. IsPrinted (string_bytes text) status
+        (W.contents sink.old) (W.contents sink.new) (W.has_failed sink.new) result) }
+    ensures memory { OnErr line (IsPrinted (codes "refused L9\n") Status.Refused
+        (W.contents sink.old) (W.contents sink.new) (W.has_failed sink.new) result) }
 {
-    match format!(in alloc; "{reply}") {
-        Ok(text) => write_text(sink, text.as_str(), reply.status()),
+    match line {
+        Ok(text) => write_text(sink, text.as_str(), status),
         Err(_) => write_text(sink, "refused L9\n", Status::Refused),
     }
+}
+
+/// The text of an answer to a line of a script.
+pub fn answer_text<'a>(answer: &'a Answer) -> &'a str
+    ensures { result.now ≡ answer_text (answer_of answer.now) }
+{
+    match answer {
+        Ok(text) => text.as_str(),
+        Err(error) => error.line(),
+    }
+}
+
+/// Prints what the lines of a script are answered, one after the other.
+fn write_answers<W: Sink>(answers: &[Answer], status: Status, sink: &mut W) -> Status
+    requires { W.has_failed sink.old ≡ false }
+    ensures { IsPrinted (answers_text (map answer_of answers.now)) status
+        (W.contents sink.old) (W.contents sink.new) (W.has_failed sink.new) result }
+{
+    for answer in answers {
+        if write_whole(sink, answer_text(answer).as_bytes()).is_err() {
+            return Status::Failed;
+        }
+    }
+    status
 }
 
 /// Prints a reply. Its whole text is made before its first byte is written.
@@ -61,7 +87,15 @@ pub fn answer<W: Sink>(alloc: Global, reply: &Reply, sink: &mut W) -> Status
         Reply::Text(text) | Reply::Jobs(text, _) => {
             write_text(sink, text.as_str(), reply.status())
         }
-        Reply::Ended(_) | Reply::Refused(_) => write_line(alloc, reply, sink),
+        Reply::Script(answers, _) => write_answers(answers, reply.status(), sink),
+        Reply::Ended(outcome) => {
+            let line = format!(in alloc; "{}\n", EndText(*outcome));
+            write_line(line, reply.status(), sink)
+        }
+        Reply::Refused(refusal) => {
+            let line = format!(in alloc; "refused {refusal}\n");
+            write_line(line, reply.status(), sink)
+        }
     }
 }
 

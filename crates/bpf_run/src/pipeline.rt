@@ -8,6 +8,7 @@ ghost use Rattle.bpf_run.specs.Commands.{IsAnswer, IsAssembled, IsDisassembled, 
 use crate::listing::word_lines;
 use crate::refusal::Refusal;
 use crate::reply::Reply;
+use crate::script::debug_file;
 use bpf_command::{Command, RunOptions};
 use bpf_cpu::Cpu;
 use bpf_file::{FileError, RunFile, read_file};
@@ -129,5 +130,6 @@ pub fn reply(alloc: Global, command: Command, text: &str) -> Reply
         Command::Asm => assembled(alloc, text),
         Command::Disasm => disassembled(alloc, text),
         Command::Run { maps } => run_file(alloc, maps, text),
+        Command::Debug => debug_file(alloc, text),
     }
 }

@@ -2,6 +2,7 @@
 
 use crate::refusal::Refusal;
 use bpf_cpu::{Fault, Outcome};
+use bpf_debug::Answer;
 use std::fmt;
 
 /// How the program ends.
@@ -42,6 +43,9 @@ pub enum Reply {
     Text(String),
     /// The lines of jobs, and whether one of them ended in a fault or out of budget.
     Jobs(String, bool),
+    /// What the lines of a script are answered, and whether some job ended in a fault or out of
+    /// budget.
+    Script(Vec<Answer>, bool),
     Refused(Refusal),
 }
 
@@ -53,8 +57,9 @@ impl Reply {
         ensures { result ≡ status_of self.now }
     {
         match self {
-            Reply::Ended(Outcome::Exit(_)) | Reply::Text(_) | Reply::Jobs(_, false) => Status::Done,
-            Reply::Ended(_) | Reply::Jobs(_, true) => Status::Stopped,
+            Reply::Ended(Outcome::Exit(_)) | Reply::Text(_) => Status::Done,
+            Reply::Jobs(_, false) | Reply::Script(_, false) => Status::Done,
+            Reply::Ended(_) | Reply::Jobs(_, true) | Reply::Script(_, true) => Status::Stopped,
             Reply::Refused(_) => Status::Refused,
         }
     }
@@ -81,21 +86,21 @@ impl fmt::Display for FaultCode {
     }
 }
 
-impl fmt::Display for Reply {
-    ghost use Rattle.std.specs.Prelude.{Some};
-    ghost use Rattle.bpf_run.specs.Answer.{reply_text};
+/// How a run ended.
+#[derive(Drop)]
+pub struct EndText(pub Outcome);
 
-    ghost output = { λ x. Some (reply_text x) };
+impl fmt::Display for EndText {
+    ghost use Rattle.std.specs.Prelude.{Some};
+    ghost use Rattle.bpf_run.specs.Answer.{outcome_line};
+
+    ghost output = { λ x. Some (outcome_line x.0) };
 
     fn fmt<W: fmt::Write>(&self, f: &mut fmt::Formatter<W>) -> fmt::Result {
-        match self {
-            Reply::Ended(Outcome::Exit(r0)) => write!(f, "r0={r0}\n"),
-            Reply::Ended(Outcome::Fault(fault, pc)) => {
-                write!(f, "fault {} at {pc}\n", FaultCode(*fault))
-            }
-            Reply::Ended(Outcome::OutOfBudget(pc)) => write!(f, "out of budget at {pc}\n"),
-            Reply::Text(text) | Reply::Jobs(text, _) => f.write_str(text.as_str()),
-            Reply::Refused(refusal) => write!(f, "refused {refusal}\n"),
+        match self.0 {
+            Outcome::Exit(r0) => write!(f, "r0={r0}"),
+            Outcome::Fault(fault, pc) => write!(f, "fault {} at {pc}", FaultCode(fault)),
+            Outcome::OutOfBudget(pc) => write!(f, "out of budget at {pc}"),
         }
     }
 }

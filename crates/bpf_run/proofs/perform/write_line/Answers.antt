@@ -1,5 +1,7 @@
-use Rattle.std.proofs.Common.{inr}
+use Rattle.std.proofs.Common.{Result, String, Global, sym, subst}
+use Rattle.std.specs.Prelude.{OnErr, codes}
+use Rattle.bpf_run.specs.Answer.{IsPrinted}
 use Rattle.bpf_run.proofs.perform.write_line.Goals as goal
 
-pub returns-in-Err : goal.returns-in-Err
-returns-in-Err g c = inr c.write_text-in-Err.ensures
+pub returns-in-Err-clause-memory : goal.returns-in-Err-clause-memory
+returns-in-Err-clause-memory g c = rw c.in-Err.is c.write_text-in-Err.ensures

@@ -1,0 +1,57 @@
+//! Commands of the debugger.
+
+use crate::code::Code;
+use crate::page::{Example, Page};
+
+pub const G1: Page = Page {
+    code: Code::G1,
+    meaning: "there is no CPU of this number",
+    example: Some(Example {
+        command: "printf 'ebpf-run 1\\nprog a\\nexit\\nend\\njob 0 a\\n---\\nstep 1\\n' | ebpf debug",
+        printed: "refused G1",
+    }),
+    advice: "\
+A run file has the CPUs 0 to `cpus` less 1; without that line it has CPU 0.",
+};
+
+pub const G2: Page = Page {
+    code: Code::G2,
+    meaning: "no program has an instruction that begins at this pc",
+    example: Some(Example {
+        command: "printf 'ebpf-run 1\\nprog a\\nr0 = 1 ll\\nexit\\nend\\njob 0 a\\n---\\nbreak 0 1\\n' | ebpf debug",
+        printed: "refused G2",
+    }),
+    advice: "\
+A pc counts words, and a wide instruction has two.",
+};
+
+pub const G3: Page = Page {
+    code: Code::G3,
+    meaning: "no map has this name",
+    example: Some(Example {
+        command: "printf 'ebpf-run 1\\nprog a\\nexit\\nend\\njob 0 a\\n---\\nmap m\\n' | ebpf debug",
+        printed: "refused G3",
+    }),
+    advice: "\
+The names are those of the run file's map lines.",
+};
+
+pub const G4: Page = Page {
+    code: Code::G4,
+    meaning: "not a command of the debugger",
+    example: Some(Example {
+        command: "printf 'ebpf-run 1\\nprog a\\nexit\\nend\\njob 0 a\\n---\\nmem 0 0 257\\n' | ebpf debug",
+        printed: "refused G4",
+    }),
+    advice: "\
+The first word is none, there are too few words or too many, or a number isn't
+one; `mem` shows 1 to 256 bytes.",
+};
+
+pub const G5: Page = Page {
+    code: Code::G5,
+    meaning: "no memory for a command of the debugger",
+    example: None,
+    advice: "\
+The command isn't done, and the next one is read.",
+};

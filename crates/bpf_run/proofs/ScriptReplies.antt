@@ -1,0 +1,44 @@
+-- What `debug` replies, put together.
+use Rattle.std.proofs.Common.{Ok, Err, ◌≡◌, ℕ, List, [], ◌++◌, length, Bool, refl, sym, ap, subst, ◌∙◌, map, string_bytes}
+use Rattle.std.specs.Prelude.{Vec, All}
+use Rattle.std.specs.declared.alloc.Global.{Global}
+use Rattle.bpf_cpu.specs.Task.{Task, waiting}
+use Rattle.bpf_cpu.specs.Machine.{MachineState, Shows}
+use Rattle.bpf_jobs.specs.Printed.{first_world, any_stopped}
+use Rattle.bpf_file.specs.declared.error.FileError.TheVariants as FileError
+use Rattle.bpf_file.specs.declared.error.Reason.{Reason}
+use Rattle.bpf_file.specs.declared.file.RunFile.{RunFile}
+use Rattle.bpf_file.specs.File.{File, file_of}
+use Rattle.bpf_file.specs.Reading.{IsRunFile}
+use Rattle.bpf_debug.specs.Session.{SessionState, Scene, IsShown}
+use Rattle.bpf_debug.specs.Script.{Answer, RunsScript, answer_of}
+use Rattle.bpf_run.specs.Script.{IsCut, IsAnswered, IsScriptOfFile, first_of, scene_of}
+use Rattle.bpf_run.specs.declared.refusal.Refusal.{Refusal}
+use Rattle.bpf_run.specs.declared.refusal.Refusal.TheVariants as refusal
+use Rattle.bpf_run.specs.declared.reply.Reply.{Reply}
+use Rattle.bpf_run.specs.declared.reply.Reply.TheVariants as reply
+
+-- the reply to a file that was read is one to the input that it was cut off
+pub of_file : (input file : List ℕ) (commands : List (List ℕ)) (f : RunFile) (r : Reply) → IsCut input file commands → IsRunFile file (Ok (file_of f))
+    → IsAnswered f commands r → IsScriptOfFile input r
+of_file input file commands f (reply.Script answers stopped) cut said h = (file, commands, file_of f, h.0, cut, said, h.1, h.2)
+of_file input file commands f (reply.Refused refusal.OutOfMemory) cut said h = tt
+of_file input file commands f (reply.Refused r) cut said h = absurd h
+of_file input file commands f (reply.Ended outcome) cut said h = absurd h
+of_file input file commands f (reply.Text text) cut said h = absurd h
+of_file input file commands f (reply.Jobs text stopped) cut said h = absurd h
+
+-- the session that was made of a file, and what its machine tells in the end
+pub ended : (f : RunFile) (commands : List (List ℕ)) (s t : SessionState) (answers : List Answer) (stopped : Bool)
+    → Shows s.machine (first_of (file_of f)) → s.names ≡ (file_of f).names → s.breaks ≡ []
+    → ((x : Scene) → IsShown s x → (y : Scene) × RunsScript x commands answers y × IsShown t y)
+    → stopped ≡ any_stopped (length t.machine.jobs) t.machine.jobs
+    → (y : Scene) × RunsScript (scene_of (file_of f)) commands answers y
+    × (stopped ≡ any_stopped (length y.world.jobs) y.world.jobs)
+ended f commands s t answers stopped shows names breaks follows tells =
+    let done = follows (scene_of (file_of f)) (record { world = shows; names = sym names; breaks = sym breaks }) in
+    let P : List Task → Type 0 = λ jobs. stopped ≡ any_stopped (length jobs) jobs in (
+      done.0,
+      done.1,
+      subst P (sym done.2.world.jobs) tells,
+    )

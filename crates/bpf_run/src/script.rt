@@ -1,0 +1,96 @@
+//! `ebpf debug`: a run file, and commands behind it.
+
+ghost use Rattle.std.specs.Prelude.{◌≡◌, IfOk};
+ghost use Rattle.std.specs.Option.{option_copied};
+ghost use Rattle.bpf_text.specs.Lines.{lines_behind};
+ghost use Rattle.bpf_file.specs.Runnable.{IsRunnable};
+ghost use Rattle.bpf_run.specs.Script.{IsAnswered, IsCut, IsScriptOfFile, ends_file};
+
+use crate::refusal::Refusal;
+use crate::reply::Reply;
+use bpf_debug::{Session, run_script};
+use bpf_file::{FileError, RunFile, read_file};
+use bpf_jobs::{has_any_stopped, make_machine};
+use bpf_text::TextError;
+use bpf_text::lines::{fields, first_line};
+use std::alloc::Global;
+
+/// An input that is cut in two.
+#[derive(Clone, Copy)]
+struct Parts<'a> {
+    file: &'a [u8],
+    /// What stands behind the line that ends the file, if it has one and more lines follow.
+    commands: Option<&'a [u8]>,
+}
+
+/// Whether a line ends the run file: its only word is `---`.
+fn ends_file(alloc: Global, line: &[u8]) -> Result<bool, TextError>
+    ensures { IfOk result (λ b. b ≡ ends_file line.now) }
+{
+    let words = fields(alloc, line)?;
+    match words.as_slice() {
+        [word] => Ok(*word == "---".as_bytes()),
+        _ => Ok(false),
+    }
+}
+
+/// The run file and the commands of an input. Want of memory is the only refusal.
+#[tactic(auto, using(crate::proofs::Cutting::seen_start, crate::proofs::Cutting::seen_cut, crate::proofs::Cutting::seen_none))]
+fn cut<'a>(alloc: Global, input: &'a [u8]) -> Result<Parts<'a>, TextError>
+    ensures { IfOk result
+        (λ p. IsCut input.now p.file.now (lines_behind (option_copied p.commands))) }
+{
+    let mut size: usize = 0;
+    let mut rest = Some(input);
+    'lines: while let Some(left) = rest {
+        let (line, behind) = first_line(left);
+        if ends_file(alloc, line)? {
+            return Ok(Parts {
+                file: &input[..size],
+                commands: behind,
+            });
+        }
+        size += line.len() + 1;
+        rest = behind;
+    }
+    Ok(Parts {
+        file: input,
+        commands: None,
+    })
+}
+
+/// What `debug` replies to an input.
+pub fn debug_file(alloc: Global, input: &str) -> Reply
+    ensures { IsScriptOfFile input.now result }
+{
+    let Ok(parts) = cut(alloc, input.as_bytes()) else {
+        return Reply::Refused(Refusal::OutOfMemory);
+    };
+    match read_file(alloc, parts.file) {
+        Ok(file) => debug(alloc, file, parts.commands),
+        Err(FileError::Refused(line, reason)) => Reply::Refused(Refusal::File(line, reason)),
+        Err(FileError::OutOfMemory) => Reply::Refused(Refusal::OutOfMemory),
+    }
+}
+
+/// What commands are answered over the machine of a run file.
+fn debug(alloc: Global, file: RunFile, commands: Option<&[u8]>) -> Reply
+    requires { IsRunnable file }
+    ensures { IsAnswered file (lines_behind (option_copied commands.entry)) result }
+{
+    let RunFile {
+        shape,
+        names,
+        programs,
+        jobs,
+        ..
+    } = file;
+    let Ok(machine) = make_machine(alloc, shape, programs, jobs) else {
+        return Reply::Refused(Refusal::OutOfMemory);
+    };
+    let mut session = Session::new(alloc, machine, names);
+    match run_script(alloc, &mut session, commands) {
+        Ok(answers) => Reply::Script(answers, has_any_stopped(session.machine())),
+        Err(_) => Reply::Refused(Refusal::OutOfMemory),
+    }
+}
