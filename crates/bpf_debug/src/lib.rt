@@ -16,6 +16,3 @@ pub use command::Command;
 pub use error::DebugError;
 pub use script::{Answer, run_script};
 pub use session::Session;
-
-#[cfg(test)]
-mod tests;

@@ -15,6 +15,3 @@ pub use events::{AtomicOp, Entry, Event, MapAnswer, Size, Span, ValuePlace};
 pub use plain::PlainStore;
 pub use shapes::{MapShape, ShapeError, StoreShape};
 pub use sharing::{Shared, Worn};
-
-#[cfg(test)]
-mod tests;
