@@ -8,3 +8,4 @@ pub mod Told
 pub mod Porting
 pub mod Crews
 pub mod Finishing
+pub mod Refusing

@@ -1,3 +1,4 @@
 pub mod Explained
 pub mod Working
 pub mod Worked
+pub mod Refusing

@@ -1,7 +1,10 @@
 //! All workers of a store.
 
 ghost use Rattle.std.specs.Prelude.{◌≡◌, ◌<◌, ◌≤◌, ℕ, [], All, IsSome, Some, length, map, slice_index_or, vec_capacity, vec_len};
+ghost use Rattle.bpf_shared.specs.History.{Legal};
+ghost use Rattle.bpf_shared.specs.Store.{Plain, as_made};
 ghost use Rattle.bpf_cpu.specs.Task.{waiting};
+ghost use Rattle.hop_map.specs.Dumping.{IsLast};
 ghost use Rattle.hop_map.specs.Port.{Port};
 ghost use Rattle.hop_map.specs.Stores.{ArePorts};
 ghost use Rattle.bpf_sched.specs.Explained.{IsExplained};
@@ -108,6 +111,8 @@ pub fn run_ports<R: Threads + Wait + Sync, G: Gate + Sync>(
     ensures about { result.closed.about ≡ table.about }
     ensures explained { IsExplained table.about.shape table.about.count programs.now
         (map waiting jobs.now) result.outcomes.items result.closed.history }
+    ensures last { (last : Plain) × IsLast result.closed last
+        × Legal (as_made result.closed.about.shape) result.closed.history last }
 {
     let _few = table.about().shape.cpus();
     let Room {

@@ -4,6 +4,8 @@
 pub mod assignment;
 pub mod crew;
 pub mod gate;
+pub mod jobs;
+pub mod refusal;
 pub mod room;
 mod telling;
 pub mod worker;
@@ -12,6 +14,8 @@ pub mod workload;
 pub use assignment::Assignment;
 pub use crew::{Report, run_ports};
 pub use gate::{Gate, Gated, NoGate};
+pub use jobs::run_jobs;
+pub use refusal::{Refused, SchedError};
 pub use room::Room;
 pub use worker::Worker;
 pub use workload::Workload;

@@ -131,6 +131,13 @@ impl HopStore {
         Ok(HopStore { table, ports })
     }
 
+    /// What the store was told when it was made.
+    pub fn about(&self) -> &About
+        ensures { result.now ≡ self.now.table.about }
+    {
+        self.table.about()
+    }
+
     /// The table, and a port for each CPU, in order.
     pub fn ports(self) -> (HopTable, Vec<HopPort>)
         ensures table { result.0 ≡ self.table }

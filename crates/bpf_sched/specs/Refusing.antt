@@ -1,0 +1,22 @@
+-- Why no job is begun, by the store's number of CPUs, the number of workers and the jobs.
+use Rattle.std.specs.Prelude.{◌≡◌, ℕ, ◌<◌, ◌≤◌, List, Some, All, slice_get}
+use Rattle.bpf_cpu.specs.declared.machine.job.Job.{Job}
+use Rattle.bpf_sched.specs.declared.refusal.SchedError.{SchedError}
+use Rattle.bpf_sched.specs.declared.refusal.SchedError.TheVariants.{NoWorkers, TooManyWorkers, NoSuchCpu, OutOfMemory}
+
+-- 1 to 16
+pub record AreWorkers (workers : ℕ) : Type 0 where
+  pub some : 0 < workers
+  pub few : workers ≤ 16
+
+-- each job's CPU is one of so many
+abbrev pub AreHere : ℕ → List Job → Type 0
+AreHere cpus jobs = All (λ job. job.cpu < cpus) jobs
+
+-- the first refusal that applies
+abbrev pub IsFirstRefusal : ℕ → ℕ → List Job → SchedError → Type 0
+IsFirstRefusal cpus workers jobs NoWorkers = workers ≡ 0
+IsFirstRefusal cpus workers jobs TooManyWorkers = 16 < workers
+IsFirstRefusal cpus workers jobs NoSuchCpu =
+    AreWorkers workers × ((job : Job) × (j : ℕ) × (slice_get jobs j ≡ Some job) × (cpus ≤ job.cpu))
+IsFirstRefusal cpus workers jobs OutOfMemory = AreWorkers workers × AreHere cpus jobs

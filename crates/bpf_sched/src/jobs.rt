@@ -1,0 +1,81 @@
+//! Jobs over a store, by workers.
+
+ghost use Rattle.std.specs.Prelude.{◌≡◌, ◌<◌, ◌≤◌, All, IfErr, IfOk, OnOk, length, map, vec_len};
+ghost use Rattle.bpf_mem.specs.Limits.{max_context};
+ghost use Rattle.bpf_shared.specs.History.{Legal};
+ghost use Rattle.bpf_shared.specs.Store.{Plain, as_made};
+ghost use Rattle.bpf_cpu.specs.Task.{waiting};
+ghost use Rattle.hop_map.specs.Dumping.{IsLast};
+ghost use Rattle.bpf_sched.specs.Explained.{IsExplained};
+ghost use Rattle.bpf_sched.specs.Refusing.{AreHere, AreWorkers, IsFirstRefusal};
+
+use crate::crew::{Report, run_ports};
+use crate::gate::Gate;
+use crate::refusal::{Refused, SchedError};
+use crate::room::Room;
+use bpf_cpu::Job;
+use bpf_loader::Program;
+use hop_map::HopStore;
+use std::alloc::Global;
+use std::sync::Wait;
+use std::thread::Threads;
+
+/// At most: a store has no more CPUs.
+const MAX_WORKERS: usize = 16;
+
+/// Why so many workers can't run these jobs on so many CPUs, but for want of memory.
+fn check(cpus: u8, workers: usize, jobs: &[Job]) -> Result<(), SchedError>
+    ensures workers { OnOk result (AreWorkers workers) }
+    ensures cpus { OnOk result (AreHere cpus jobs.now) }
+    ensures refused { IfErr result (IsFirstRefusal cpus workers jobs.now) }
+{
+    if workers == 0 {
+        return Err(SchedError::NoWorkers);
+    }
+    if workers > MAX_WORKERS {
+        return Err(SchedError::TooManyWorkers);
+    }
+    for job in jobs {
+        if job.cpu >= cpus {
+            return Err(SchedError::NoSuchCpu);
+        }
+    }
+    Ok(())
+}
+
+/// Runs all jobs over the store, each CPU's in their order, by so many workers. One history of the
+/// store explains how they all ended. Where it is refused no job is begun, and the store is handed
+/// back as it was.
+pub fn run_jobs<R: Threads + Wait + Sync, G: Gate + Sync>(
+    rt: &R,
+    alloc: Global,
+    store: HopStore,
+    programs: &[Program],
+    jobs: &[Job],
+    workers: usize,
+    gate: &G,
+) -> Result<Report, Refused>
+    requires programs { All (λ job. job.program < length programs.now) jobs.now }
+    requires contexts { All (λ job. vec_len job.context ≤ max_context) jobs.now }
+    ensures workers { OnOk result (AreWorkers workers) }
+    ensures cpus { OnOk result (AreHere store.table.about.shape.cpus jobs.now) }
+    ensures about { IfOk result (λ r. r.closed.about ≡ store.table.about) }
+    ensures explained { IfOk result (λ r. IsExplained store.table.about.shape store.table.about.count
+        programs.now (map waiting jobs.now) r.outcomes.items r.closed.history) }
+    ensures last { IfOk result (λ r. (last : Plain) × IsLast r.closed last
+        × Legal (as_made r.closed.about.shape) r.closed.history last) }
+    ensures refused { IfErr result (λ r.
+        IsFirstRefusal store.table.about.shape.cpus workers jobs.now r.error) }
+    ensures store { IfErr result (λ r. r.store ≡ store) }
+{
+    let cpus = store.about().shape.cpus();
+    if let Err(error) = check(cpus, workers, jobs) {
+        return Err(Refused { error, store });
+    }
+    let Ok(room) = Room::new(alloc, cpus, jobs) else {
+        let error = SchedError::OutOfMemory;
+        return Err(Refused { error, store });
+    };
+    let (table, ports) = store.ports();
+    Ok(run_ports(rt, table, ports, room, programs, jobs, workers, gate))
+}
