@@ -21,4 +21,5 @@ pub mod Accessing
 pub mod Updating
 pub mod Settling
 mod Listing
+pub mod OneListing
 pub mod Lasting

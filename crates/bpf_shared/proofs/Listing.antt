@@ -11,8 +11,9 @@ use Rattle.bpf_shared.specs.Shape.{IsIn, element_stride, elements}
 use Rattle.bpf_shared.specs.Store.{Plain, Value, Finds}
 use Rattle.bpf_shared.specs.Sound.{IsSoundStore}
 use Rattle.bpf_shared.specs.Rows.{Rows, key_of, bytes_of, IsLinked, IsTakenRow}
-use Rattle.bpf_shared.specs.Contents.{Contents, rows, size_of, span_at, StandsFor, IsStore}
+use Rattle.bpf_shared.specs.Contents.{Contents, rows, size_of, span_at, IsUsed, StandsFor, IsStore}
 use Rattle.bpf_shared.specs.Changes.{IsAtValue, IsReach}
+use Rattle.bpf_shared.specs.Laws.{byte_at}
 use Rattle.bpf_shared.specs.Listing.{Pair, pair_at, row_pair, IsByteAt}
 use Rattle.bpf_shared.specs.Shows.{Lists, ShowsByte, ShowsNoByte}
 use Rattle.bpf_shared.proofs.Places.{reached, linked_map, sized_map, linked_size, one_at, span-number, keeps_cpu}
@@ -55,16 +56,24 @@ module _ (p : Contents) (is : IsStore p) where
           (k, b, ap (λ (x : Pair). x.0) (pair k b) ∙ (ap (key_of (rows p m)) f.1.2 ∙ f.2)));
     }
 
+  -- the byte at an address in an element
+  abbrev byte_in : ℕ → ℕ → ℕ → ℕ
+  byte_in m i a = slice_index (bytes_of (rows p m) i) (a - (span_at p m i).at)
+
   module _ (s : Plain) (so : IsSoundStore s) (h : StandsFor p s) where
-    -- in which element the byte lies
-    stands_at : (a b : ℕ) → IsByteAt s a b → (m : ℕ) × (i : ℕ) × (i < size_of p m) × IsTakenRow p.runs (rows p m) i × IsIn a (span_at p m i)
+    byte_of : (v m i a : ℕ) → i < size_of p m → IsUsed p m i → v ≡ h.number m i → byte_at s v a ≡ byte_in m i a
+    byte_of v m i a l used e =
+        ap (λ (z : ℕ). byte_at s z a) e ∙ ap (λ (x : Value). slice_index x.bytes (a - x.span.at)) (h.values m i l used)
+
+    -- in which element the byte lies, and at which of its bytes
+    stands_at : (a b : ℕ) → IsByteAt s a b → (m : ℕ) × (i : ℕ) × (i < size_of p m) × IsTakenRow p.runs (rows p m) i × IsIn a (span_at p m i) × (b ≡ byte_in m i a)
     stands_at a b (v, inl k, inside, e) =
         let f = h.found k.0 k.1.0 v k.1.1 in
         let l = linked_size p is k.0 f.0 f.1 in
-        (k.0, f.0, l, inl f.1, subst (IsIn a) (ap (λ (z : ℕ). (s.value z).span) f.3 ∙ span-number p is s so h k.0 f.0 l (inl f.1)) inside)
+        (k.0, f.0, l, inl f.1, subst (IsIn a) (ap (λ (z : ℕ). (s.value z).span) f.3 ∙ span-number p is s so h k.0 f.0 l (inl f.1)) inside, e ∙ byte_of v k.0 f.0 a l (inl f.1) f.3)
     stands_at a b (v, inr k, inside, e) =
         let f = h.kept k.0 v k.1 in
-        (f.0, f.1, f.2, inr (k.0, keeps_cpu p k.0 f.0 f.1 f.3, f.3), subst (IsIn a) (ap (λ (z : ℕ). (s.value z).span) f.4 ∙ span-number p is s so h f.0 f.1 f.2 (inr (k.0, inl f.3))) inside)
+        (f.0, f.1, f.2, inr (k.0, keeps_cpu p k.0 f.0 f.1 f.3, f.3), subst (IsIn a) (ap (λ (z : ℕ). (s.value z).span) f.4 ∙ span-number p is s so h f.0 f.1 f.2 (inr (k.0, inl f.3))) inside, e ∙ byte_of v f.0 f.1 a f.2 (inr (k.0, inl f.3)) f.4)
 
   pub nothing_there : (a : ℕ) → (IsAtValue p a → ⊥) → ShowsNoByte p a
   nothing_there a no_value s so h b at =
@@ -84,25 +93,39 @@ module _ (p : Contents) (is : IsStore p) where
         let same = one_at p is f.0 r.map f.1 r.element a f.2 reach.element f.4 is_in in
         free (subst (λ (m : ℕ). IsTakenRow p.runs (rows p m) r.element) same.0 (subst (IsTakenRow p.runs (rows p f.0)) same.1 f.3))
 
+    far : r.offset ≡ a - (span_at p r.map r.element).at
+    far = let at = reach.at in omega arith
+
+    module _ (s : Plain) (so : IsSoundStore s) (h : StandsFor p s) (b : ℕ) (e : b ≡ slice_index (bytes_of row r.element) r.offset) where
+      here : b ≡ byte_in r.map r.element a
+      here = e ∙ ap (slice_index (bytes_of row r.element)) far
+
+      there : IsTakenRow p.runs row r.element → IsByteAt s a b
+      there (inl k) =
+          let v = h.number r.map r.element in
+          let value : s.value v ≡ record { bytes = bytes_of row r.element; span = span_at p r.map r.element } = h.values r.map r.element reach.element (inl k) in (
+            v,
+            inl (r.map, (_, h.leads r.map r.element k)),
+            subst (IsIn a) (sym (ap (λ (x : Value). x.span) value)) is_in,
+            here ∙ sym (ap (λ (x : Value). slice_index x.bytes (a - x.span.at)) value),
+          )
+      there (inr k) =
+          let v = h.number r.map r.element in
+          let value : s.value v ≡ record { bytes = bytes_of row r.element; span = span_at p r.map r.element } = h.values r.map r.element reach.element (inr (k.0, inl k.2)) in (
+            v,
+            inr (k.0, h.kept_back k.0 r.map r.element reach.element k.2),
+            subst (IsIn a) (sym (ap (λ (x : Value). x.span) value)) is_in,
+            here ∙ sym (ap (λ (x : Value). slice_index x.bytes (a - x.span.at)) value),
+          )
+
+      only : (other : ℕ) → IsByteAt s a other → other ≡ b
+      only other at =
+          let f = stands_at s so h a other at in
+          let same = one_at p is f.0 r.map f.1 r.element a f.2 reach.element f.4 is_in in
+          f.5 ∙ ap (λ (m : ℕ). byte_in m f.1 a) same.0 ∙ ap (λ (i : ℕ). byte_in r.map i a) same.1 ∙ sym here
+
     pub byte_there : IsTakenRow p.runs row r.element → (b : ℕ) → b ≡ slice_index (bytes_of row r.element) r.offset → ShowsByte p a b
-    byte_there (inl k) b e s so h =
-        let v = h.number r.map r.element in
-        let value : s.value v ≡ record { bytes = bytes_of row r.element; span = span_at p r.map r.element } = h.values r.map r.element reach.element (inl k) in
-        let far : r.offset ≡ a - (span_at p r.map r.element).at = (let at = reach.at in omega arith) in (
-          v,
-          inl (r.map, (_, h.leads r.map r.element k)),
-          subst (IsIn a) (sym (ap (λ (x : Value). x.span) value)) is_in,
-          e ∙ (ap (slice_index (bytes_of row r.element)) far ∙ sym (ap (λ (x : Value). slice_index x.bytes (a - x.span.at)) value)),
-        )
-    byte_there (inr k) b e s so h =
-        let v = h.number r.map r.element in
-        let value : s.value v ≡ record { bytes = bytes_of row r.element; span = span_at p r.map r.element } = h.values r.map r.element reach.element (inr (k.0, inl k.2)) in
-        let far : r.offset ≡ a - (span_at p r.map r.element).at = (let at = reach.at in omega arith) in (
-          v,
-          inr (k.0, h.kept_back k.0 r.map r.element reach.element k.2),
-          subst (IsIn a) (sym (ap (λ (x : Value). x.span) value)) is_in,
-          e ∙ (ap (slice_index (bytes_of row r.element)) far ∙ sym (ap (λ (x : Value). slice_index x.bytes (a - x.span.at)) value)),
-        )
+    byte_there taken b e s so h = (there s so h b e taken, only s so h b e)
 
 -- where an address lies, by its quotients and remainders
 pub at_place : (a w : ℕ) → 0x10_0000_0000 ≤ a

@@ -27,6 +27,16 @@ abbrev pub IsByteAt : Plain → ℕ → ℕ → Type 0
 IsByteAt s a b =
     (v : ℕ) × (((m : ℕ) × IsInMap s m v) ⊎ IsKept s v) × IsIn a (s.value v).span × (b ≡ byte_at s v a)
 
+-- it is the only one there: values that are in a map or kept have no address in common
+abbrev pub IsOnlyByteAt : Plain → ℕ → ℕ → Type 0
+IsOnlyByteAt s a b = IsByteAt s a b × ((other : ℕ) → IsByteAt s a other → other ≡ b)
+
+-- a map has one listing
+abbrev pub ListingsAreDetermined : Type 0
+ListingsAreDetermined =
+    (s : Plain) (m : ℕ) (pairs others : List Pair) → IsListing s m pairs → IsListing s m others
+    → pairs ≡ others
+
 -- what two vectors of a listing hold
 abbrev pub pair_of : Vec ℕ Global × Vec ℕ Global → Pair
 pair_of p = (p.0.items, p.1.items)

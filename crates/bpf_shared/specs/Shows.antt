@@ -4,7 +4,7 @@ use Rattle.std.specs.declared.alloc.Global.{Global}
 use Rattle.bpf_shared.specs.Store.{Plain}
 use Rattle.bpf_shared.specs.Sound.{IsSoundStore}
 use Rattle.bpf_shared.specs.Contents.{Contents, StandsFor}
-use Rattle.bpf_shared.specs.Listing.{Pair, pair_of, IsListing, IsByteAt}
+use Rattle.bpf_shared.specs.Listing.{Pair, pair_of, IsListing, IsByteAt, IsOnlyByteAt}
 
 abbrev pub listed : List (Vec ℕ Global × Vec ℕ Global) → List Pair
 listed pairs = map pair_of pairs
@@ -13,9 +13,9 @@ listed pairs = map pair_of pairs
 abbrev pub Lists : Contents → ℕ → List Pair → Type 0
 Lists p m pairs = (s : Plain) → IsSoundStore s → StandsFor p s → IsListing s m pairs
 
--- the byte is that at the address
+-- the byte is the one at the address
 abbrev pub ShowsByte : Contents → ℕ → ℕ → Type 0
-ShowsByte p a b = (s : Plain) → IsSoundStore s → StandsFor p s → IsByteAt s a b
+ShowsByte p a b = (s : Plain) → IsSoundStore s → StandsFor p s → IsOnlyByteAt s a b
 
 -- at the address no value has a byte that is in a map or kept
 abbrev pub ShowsNoByte : Contents → ℕ → Type 0

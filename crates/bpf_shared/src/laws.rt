@@ -5,6 +5,7 @@ ghost use Rattle.bpf_shared.specs.Laws.{LegalIsSound, ValuesStay, RefusalsChange
 ghost use Rattle.bpf_shared.specs.Lasting.{UpdatesAreFound, DeletionsAreFound, HeldValuesStay};
 ghost use Rattle.bpf_shared.specs.Own.{OwnEventsTell};
 ghost use Rattle.bpf_shared.specs.Legality.{PassagesAreLegal};
+ghost use Rattle.bpf_shared.specs.Listing.{ListingsAreDetermined};
 
 /// Each store that a legal history leads to is sound: a held value is in a map or kept for the CPU
 /// that holds it, no two live values overlap, no map has too many keys.
@@ -67,4 +68,9 @@ pub fn own_events_tell()
 /// A passage from a store as made is a legal history.
 pub fn passages_are_legal()
     ensures { PassagesAreLegal }
+{}
+
+/// A map has one listing.
+pub fn listings_are_determined()
+    ensures { ListingsAreDetermined }
 {}

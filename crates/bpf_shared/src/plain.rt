@@ -103,7 +103,7 @@ impl PlainStore {
         }
     }
 
-    /// The byte at an address, of a value that is in a map or kept.
+    /// The byte at an address, of the one value there that is in a map or kept.
     pub fn peek(&self, address: u64) -> Option<u8>
         ensures found { IfSome result (ShowsByte self.now address) }
         ensures none { IfNone result (ShowsNoByte self.now address) }
