@@ -1,6 +1,6 @@
 -- Lines of too many words.
-use Rattle.std.proofs.Common.{◌≡◌, ℕ, ◌+◌, ◌<◌, ◌≤◌, List, [], ◌∷◌, length, Option, None, refl, arith}
-use Rattle.bpf_debug.specs.Command.{Order, order_of}
+use Rattle.std.proofs.Common.{◌≡◌, ℕ, ◌≤◌, List, [], ◌∷◌, length, None, refl, arith}
+use Rattle.bpf_debug.specs.Command.{order_of}
 
 pub none_said : (fields : List (List ℕ)) → length fields ≡ 0 → None ≡ order_of fields
 none_said [] e = refl

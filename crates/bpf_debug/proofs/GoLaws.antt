@@ -1,5 +1,5 @@
 -- How far a `go` has come, turn by turn.
-use Rattle.std.proofs.Common.{◌≡◌, ◌≢◌, ℕ, suc, ◌+◌, ◌*◌, ◌<◌, ◌≤◌, Bool, true, false, ◌||◌, List, [], ◌∷◌, ◌++◌, length, get_or, inl, inr, ◌⊎◌, refl, sym, ap, subst, ◌∙◌, arith, append_assoc, replicate}
+use Rattle.std.proofs.Common.{◌≡◌, ℕ, ◌+◌, ◌*◌, ◌<◌, ◌≤◌, Bool, true, false, ◌||◌, List, [], ◌∷◌, ◌++◌, length, get_or, inl, inr, ◌⊎◌, refl, sym, ap, subst, ◌∙◌, arith, append_assoc, replicate}
 use Rattle.std.specs.Prelude.{codes, slice_set, ◌==◌, nat_lt, IfSome, IfNone}
 use Rattle.std.proofs.lemmas.List.{get_or-replicate, get_or-set_same, get_or-set_other, append-nil}
 use Rattle.std.proofs.lemmas.Bool.{eq-eqb, ne_eqb, cases_lt, cases_order, le-ltb, lt-ltb}
@@ -9,10 +9,9 @@ use Rattle.bpf_cpu.specs.declared.outcome.Outcome.{Outcome}
 use Rattle.bpf_cpu.specs.declared.machine.Turn.{Turn}
 use Rattle.bpf_cpu.specs.declared.machine.Turn.TheVariants as turn
 use Rattle.bpf_cpu.specs.declared.cpu.Cpu.{Cpu}
-use Rattle.bpf_cpu.specs.Task.{Task, Stage, IsFree, NoneWaits, IsAt, InHand, Waiting}
-use Rattle.bpf_cpu.specs.Schedule.{World, Settles, GoesOn, TakesTurn, RunsSchedule}
+use Rattle.bpf_cpu.specs.Task.{Task, IsFree, NoneWaits}
+use Rattle.bpf_cpu.specs.Schedule.{World, Settles, TakesTurn, RunsSchedule}
 use Rattle.bpf_cpu.specs.Machine.{MachineState, Shows}
-use Rattle.bpf_cpu.specs.Work.{IsNext}
 use Rattle.bpf_cpu.specs.Questions.{turns_left, open_jobs, Falls, TurnsFall}
 use Rattle.std.specs.Prelude.{Option, Some, None}
 use Rattle.bpf_debug.specs.declared.breakpoint.Breakpoint.{Breakpoint}
@@ -25,7 +24,7 @@ settles_works : (w : World) (c j : ℕ) (task : Task) (new : Cpu) (left : ℕ) (
 settles_works w c j task new left None answer z s idle = let no : turn.Ran ≡ turn.Idle = sym s.0 ∙ idle in cc
 settles_works w c j task new left (Some end) answer z s idle = let no : turn.Ended j end ≡ turn.Idle = sym s.2 ∙ idle in cc
 
-free_has_no_work : (jobs : List Task) (c : ℕ) → HasWork jobs c → IsFree jobs c → NoneWaits jobs c → ⊥
+pub free_has_no_work : (jobs : List Task) (c : ℕ) → HasWork jobs c → IsFree jobs c → NoneWaits jobs c → ⊥
 free_has_no_work jobs c (inl hand) free none = free hand.0 hand.1 hand.2 hand.3 hand.4
 free_has_no_work jobs c (inr next) free none = none next.0 next.1.1.0 next.1.1.1 next.1.1.2
 

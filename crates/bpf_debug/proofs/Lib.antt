@@ -3,3 +3,7 @@ pub mod GoLaws
 pub mod SessionLaws
 pub mod ReadLaws
 pub mod ScriptLaws
+pub mod OneText
+pub mod OneScript
+pub mod Spelled
+pub mod Questions

@@ -1,5 +1,5 @@
 -- What is read of bytes and of maps.
-use Rattle.std.proofs.Common.{◌≡◌, ℕ, suc, ◌+◌, ◌-◌, ◌<◌, ◌≤◌, ◌^◌, ◌++◌, List, [], ◌∷◌, length, get_or, map, true, false, Option, Some, None, inl, inr, refl, sym, ap, subst, ◌∙◌, arith, option_map, is_some}
+use Rattle.std.proofs.Common.{◌≡◌, ℕ, suc, ◌+◌, ◌-◌, ◌<◌, ◌≤◌, ◌++◌, List, [], ◌∷◌, length, get_or, map, false, Option, Some, None, inl, inr, refl, sym, ap, subst, ◌∙◌, arith, option_map, is_some}
 use Rattle.std.specs.Prelude.{Vec, String, slice_get, slice_index, option_and_then, string_bytes, IfNone}
 use Rattle.std.proofs.lemmas.Bool.{cases_lt}
 use Rattle.std.proofs.lemmas.Option.{slice_get-map, slice_get_read, slice_get_past}
@@ -11,7 +11,7 @@ use Rattle.bpf_mem.specs.Memory.{byte_at, bytes_at}
 use Rattle.bpf_shared.specs.Contents.{Contents}
 use Rattle.bpf_shared.specs.Listing.{Pair, pair_of}
 use Rattle.bpf_cpu.specs.declared.cpu.Cpu.{Cpu}
-use Rattle.bpf_debug.specs.Read.{pair_line, pair_lines, ReadsByte, ReadsNoByte, ReadsBytes, ReadsNoBytes}
+use Rattle.bpf_debug.specs.Read.{pair_line, pair_lines, ReadsByte}
 
 -- ---- one byte
 alone : (o : Option ℕ) → option_and_then (λ (b : ℕ). option_map (λ (bs : List ℕ). b ∷ bs) (Some [])) o ≡ option_map (λ (b : ℕ). b ∷ []) o

@@ -1,9 +1,9 @@
 -- How far a script has been followed, line by line.
-use Rattle.std.proofs.Common.{◌≡◌, ℕ, ◌+◌, ◌≤◌, List, [], ◌∷◌, ◌++◌, length, Option, Some, None, refl, sym, ap, subst, ◌∙◌, arith, append_assoc, append-nil, map}
-use Rattle.std.specs.Prelude.{String, Result, Ok, Err, string_bytes, IfOk, IfErr, OnErr}
+use Rattle.std.proofs.Common.{◌≡◌, ℕ, List, [], ◌∷◌, ◌++◌, refl, sym, subst, append_assoc, append-nil, map}
+use Rattle.std.specs.Prelude.{String, Result, Ok, Err}
 use Rattle.std.specs.declared.alloc.Global.{Global}
 use Rattle.std.proofs.lemmas.List.{map-append}
-use Rattle.bpf_text.specs.Lines.{fields_of, lines_of, lines_behind, rest_size}
+use Rattle.bpf_text.specs.Lines.{fields_of}
 use Rattle.bpf_debug.specs.declared.error.DebugError.{DebugError}
 use Rattle.bpf_debug.specs.Session.{SessionState, Scene, IsShown, LeavesLine, RefusesLine}
 use Rattle.bpf_debug.specs.Script.{Answer, Answers, RunsScript, answer_of}

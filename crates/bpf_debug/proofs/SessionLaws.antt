@@ -19,7 +19,7 @@ use Rattle.bpf_debug.specs.declared.error.DebugError.TheVariants as error
 use Rattle.bpf_debug.specs.Answer.{IsWhere, IsRegisters, IsOff, ended_text, break_line}
 use Rattle.bpf_debug.specs.Read.{IsMemory, IsNamed, TellsBytes, TellsMap}
 use Rattle.bpf_debug.specs.Go.{Goes, has_break}
-use Rattle.bpf_debug.specs.Session.{SessionState, Scene, IsShown, IsPc, IsCpu, with_break, Follows, Obeys, Leaves, LeavesLine, RefusesOrder, RefusesHere, RefusesLine}
+use Rattle.bpf_debug.specs.Session.{SessionState, Scene, IsShown, IsPc, with_break, Follows, Obeys, Leaves, LeavesLine, RefusesOrder, RefusesHere, RefusesLine}
 use Rattle.bpf_debug.proofs.GoLaws.{goes_runs}
 
 -- ---- room

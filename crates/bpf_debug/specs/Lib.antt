@@ -5,3 +5,4 @@ pub mod Read
 pub mod Session
 pub mod Codes
 pub mod Script
+pub mod Laws

@@ -6,7 +6,7 @@ use Rattle.bpf_mem.specs.Memory.{byte_at}
 use Rattle.bpf_shared.specs.Store.{Plain}
 use Rattle.bpf_shared.specs.Sound.{IsSoundStore}
 use Rattle.bpf_shared.specs.Contents.{Contents, StandsFor}
-use Rattle.bpf_shared.specs.Listing.{Pair, pair_at, IsListing, IsByteAt}
+use Rattle.bpf_shared.specs.Listing.{Pair, pair_at, IsListing, IsByteAt, IsOnlyByteAt}
 use Rattle.bpf_helpers.specs.Held.{reaches}
 use Rattle.bpf_cpu.specs.declared.cpu.Cpu.{Cpu}
 use Rattle.bpf_cpu.specs.Task.{Task, InHand, IsAt}
@@ -19,7 +19,7 @@ use Rattle.bpf_debug.specs.Answer.{IsOff}
 abbrev pub MayRead : Plain → Cpu → ℕ → ℕ → Type 0
 MayRead s state a b =
     (byte_at state.memory a ≡ Some b)
-    ⊎ ((byte_at state.memory a ≡ None) × (reaches state.held a ≡ true) × IsByteAt s a b)
+    ⊎ ((byte_at state.memory a ≡ None) × (reaches state.held a ≡ true) × IsOnlyByteAt s a b)
 
 -- it may read none there
 abbrev pub MayNotRead : Plain → Cpu → ℕ → Type 0

@@ -1,7 +1,6 @@
 -- What commands do: the turns that each makes, what it answers, and why one is refused (our own
 -- choice).
-use Rattle.std.specs.Prelude.{◌≡◌, ℕ, ◌<◌, true, false, nat_lt, if◌then◌else◌, List, [], ◌∷◌, ◌++◌, Option, Some, None, length, slice_get}
-use Rattle.bpf_text.specs.Lines.{fields_of}
+use Rattle.std.specs.Prelude.{◌≡◌, ℕ, ◌<◌, false, nat_lt, if◌then◌else◌, List, [], ◌∷◌, ◌++◌, Option, Some, None, length, slice_get}
 use Rattle.bpf_loader.specs.Loaded.{Loaded}
 use Rattle.bpf_loader.specs.Places.{IsStart}
 use Rattle.bpf_cpu.specs.declared.machine.Turn.{Turn}

@@ -5,6 +5,7 @@ pub mod breakpoint;
 pub mod command;
 pub mod error;
 mod going;
+pub mod laws;
 mod lines;
 mod maps;
 mod reading;

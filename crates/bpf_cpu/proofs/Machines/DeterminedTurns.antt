@@ -235,7 +235,7 @@ module _ (law : WritesAreDetermined) (begins : OneInstructionBegins) (replies : 
     ]
   ]
 
-  one_turn : (w : World) (c : ℕ) (answer other : Turn) (y z : World) → IsWorld w → TakesTurn w c answer y → TakesTurn w c other z → OneTurn answer other y z
+  pub one_turn : (w : World) (c : ℕ) (answer other : Turn) (y z : World) → IsWorld w → TakesTurn w c answer y → TakesTurn w c other z → OneTurn answer other y z
   one_turn w c answer other y z world (inl a) (inl b) =
       let same = world.one c b.0 a.0 b.1 a.1 b.2 a.2 b.3 a.3 b.4 a.4 in
       let P : ℕ → Type 0 = λ k. IsAt w.jobs c k b.1 (InHand b.2 b.3) in
@@ -302,7 +302,7 @@ module _ (law : WritesAreDetermined) (begins : OneInstructionBegins) (replies : 
   none_in_hand : (w : World) → IsFresh w → (c j : ℕ) (task : Task) (state : Cpu) (left : ℕ) → IsAt w.jobs c j task (InHand state left) → ⊥
   none_in_hand w fresh c j task state left at = let waits = fresh.waits j task at.listed in let both : InHand state left ≡ Waiting waits.0 = sym at.at ∙ waits.1 in cc
 
-  fresh_world : (w : World) → IsFresh w → IsWorld w
+  pub fresh_world : (w : World) → IsFresh w → IsWorld w
   fresh_world w fresh = record {
     store = fresh.store;
     memory = λ c j task state left h. absurd (none_in_hand w fresh c j task state left h);

@@ -1,4 +1,4 @@
-use Rattle.std.proofs.Common.{◌≡◌, ℕ, ◌+◌, ◌<◌, ◌++◌, Bool, true, false, List, length, get_or, inl, inr, ◌⊎◌, refl, sym, subst, ◌∙◌, arith}
+use Rattle.std.proofs.Common.{◌≡◌, ℕ, ◌+◌, true, false, List, length, get_or, inl, inr, ◌⊎◌, refl, sym, subst, ◌∙◌, arith}
 use Rattle.std.specs.Prelude.{string_bytes, string_len, string_capacity, slice_set}
 use Rattle.std.proofs.lemmas.List.{length-set}
 use Rattle.bpf_debug.specs.Go.{AreIdle, StandsAt, has_break}

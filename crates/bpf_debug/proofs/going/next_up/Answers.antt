@@ -1,4 +1,4 @@
-use Rattle.std.proofs.Common.{◌≡◌, ℕ, ◌<◌, ◌≤◌, length, inl, inr, ◌⊎◌, min, arith}
+use Rattle.std.proofs.Common.{◌≡◌, ℕ, ◌<◌, ◌≤◌, length, inl, inr, ◌⊎◌, arith}
 use Rattle.bpf_debug.specs.Go.{AreIdle, HasWork, IsUp}
 use Rattle.bpf_debug.proofs.GoLaws.{count_is, up_here, up_again, all_idle, some_weaker, none_weaker}
 use Rattle.std.proofs.lemmas.Bool.{cases_lt}

@@ -1,4 +1,4 @@
-use Rattle.std.proofs.Common.{◌≡◌, List, ℕ, Some, map, sym, ap, subst, ◌∙◌, arith}
+use Rattle.std.proofs.Common.{List, ℕ, Some, sym, ap, ◌∙◌, arith}
 use Rattle.std.specs.Cmp.Lexicographic.{same_text, other_text}
 use Rattle.bpf_debug.proofs.ReadLaws.{name_there, name_not_there, no_more_names}
 use Rattle.bpf_debug.proofs.maps.map_named.Goals as goal

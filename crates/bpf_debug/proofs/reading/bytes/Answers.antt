@@ -1,4 +1,4 @@
-use Rattle.std.proofs.Common.{◌≡◌, ℕ, sym, ◌∙◌, rules, arith}
+use Rattle.std.proofs.Common.{sym, ◌∙◌, rules}
 use Rattle.bpf_debug.proofs.ReadLaws.{one_byte_more}
 use Rattle.bpf_debug.proofs.reading.bytes.Goals as goal
 

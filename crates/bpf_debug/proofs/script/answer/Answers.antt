@@ -1,4 +1,4 @@
-use Rattle.std.proofs.Common.{◌≡◌, ℕ, List, subst, sym}
+use Rattle.std.proofs.Common.{ℕ, List, subst, sym}
 use Rattle.std.specs.Prelude.{string_bytes, Ok}
 use Rattle.bpf_debug.proofs.ScriptLaws.{OneLine, line_done, line_refused}
 use Rattle.bpf_debug.proofs.script.answer.Goals as goal

@@ -1,4 +1,4 @@
-use Rattle.std.proofs.Common.{◌≡◌, ◌+◌, ◌≤◌, length, map, vec_len}
+use Rattle.std.proofs.Common.{◌+◌, ◌≤◌, length, map, vec_len}
 use Rattle.std.specs.Prelude.{vec_capacity}
 use Rattle.std.specs.Option.{option_copied}
 use Rattle.bpf_text.specs.Lines.{lines_of, lines_behind, rest_size}

@@ -1,4 +1,4 @@
-use Rattle.std.proofs.Common.{◌≡◌, List, ℕ, [], Option, None, Result, Bor, map, sym, ap, subst, refl, String, Global}
+use Rattle.std.proofs.Common.{List, ℕ, Option, None, Result, Bor, map, sym, subst, refl, String, Global}
 use Rattle.std.specs.Prelude.{IfOk}
 use Rattle.std.specs.Option.{option_copied}
 use Rattle.bpf_text.specs.Lines.{lines_behind}

@@ -1,9 +1,7 @@
-use Rattle.std.proofs.Common.{◌≡◌, ℕ, ◌++◌, ◌∷◌, [], List, Option, Some, refl, sym, ap, subst, ◌∙◌, map}
-use Rattle.std.specs.Prelude.{true, false, IfOk, string_bytes}
-use Rattle.bpf_debug.specs.Command.{Order, said_by}
-use Rattle.bpf_debug.specs.Session.{SessionState, Leaves, LeavesLine}
+use Rattle.std.proofs.Common.{ℕ, List, ap, subst, ◌∙◌, map}
+use Rattle.std.specs.Prelude.{IfOk, string_bytes}
+use Rattle.bpf_debug.specs.Session.{LeavesLine}
 use Rattle.std.proofs.Common.{Bor}
-use Rattle.bpf_text.specs.Lines.{fields_of}
 use Rattle.bpf_debug.proofs.session.Session.command_bytes.Goals as goal
 
 pub returns-in-Ok-clause-answered : goal.returns-in-Ok-clause-answered

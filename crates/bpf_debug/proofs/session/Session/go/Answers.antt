@@ -1,10 +1,8 @@
-use Rattle.std.proofs.Common.{◌≡◌, ℕ, ◌++◌, ◌∷◌, [], List, Option, Some, refl, sym, subst, ◌∙◌, map}
-use Rattle.std.specs.Prelude.{true, IfOk, string_bytes}
-use Rattle.bpf_shared.specs.Contents.{has_cpu}
-use Rattle.bpf_debug.specs.Command.{Order, Break, Step, Go, Registers, Where, said_by}
+use Rattle.std.proofs.Common.{◌≡◌, ℕ, ◌++◌, [], List, subst, map}
+use Rattle.std.specs.Prelude.{string_bytes}
+use Rattle.bpf_debug.specs.Command.{Go}
 use Rattle.bpf_debug.specs.Session.{SessionState, Leaves}
-use Rattle.std.proofs.Common.{arith, ap, length}
-use Rattle.bpf_cpu.specs.Task.{Task}
+use Rattle.std.proofs.Common.{arith}
 use Rattle.bpf_debug.specs.declared.breakpoint.Breakpoint.{Breakpoint}
 use Rattle.bpf_cpu.specs.Schedule.{World}
 use Rattle.bpf_cpu.specs.Machine.{Shows}

@@ -1,9 +1,9 @@
-use Rattle.std.proofs.Common.{◌≡◌, ℕ, List, [], Option, Some, refl, sym, ap, subst, ◌∙◌, map}
-use Rattle.std.specs.Prelude.{true, IfOk, string_bytes}
+use Rattle.std.proofs.Common.{ℕ, List, subst, map}
+use Rattle.std.specs.Prelude.{string_bytes}
 use Rattle.std.proofs.Common.{String, Global}
 use Rattle.bpf_shared.specs.Contents.{Contents}
 use Rattle.bpf_debug.specs.Read.{IsNamed, TellsMap}
-use Rattle.bpf_debug.specs.Command.{Memory, Map, said_by}
+use Rattle.bpf_debug.specs.Command.{Map}
 use Rattle.bpf_debug.specs.Session.{SessionState, Leaves}
 use Rattle.bpf_debug.proofs.SessionLaws.{told_map}
 use Rattle.bpf_debug.proofs.session.Session.map.Goals as goal

@@ -1,8 +1,7 @@
-use Rattle.std.proofs.Common.{◌≡◌, ℕ, List, [], Option, Some, refl, sym, ap, subst, ◌∙◌, map}
-use Rattle.std.specs.Prelude.{true, IfOk, string_bytes}
-use Rattle.bpf_shared.specs.Contents.{has_cpu}
-use Rattle.bpf_debug.specs.Command.{Memory, Map, said_by}
-use Rattle.bpf_debug.specs.Session.{SessionState, Leaves}
+use Rattle.std.proofs.Common.{ℕ, Option, sym, subst}
+use Rattle.std.specs.Prelude.{IfOk, string_bytes}
+use Rattle.bpf_debug.specs.Command.{Memory}
+use Rattle.bpf_debug.specs.Session.{Leaves}
 use Rattle.bpf_debug.proofs.session.Session.memory.Goals as goal
 
 pub returns-clause-answered : goal.returns-clause-answered

@@ -1,8 +1,8 @@
-use Rattle.std.proofs.Common.{◌≡◌, ℕ, List, [], Option, Some, refl, sym, ap, subst, ◌∙◌, map}
-use Rattle.std.specs.Prelude.{true, IfOk, string_bytes}
+use Rattle.std.proofs.Common.{◌≡◌, ℕ, List, Some, sym, subst, map}
+use Rattle.std.specs.Prelude.{true, string_bytes}
 use Rattle.bpf_shared.specs.Contents.{Contents, has_cpu}
 use Rattle.bpf_debug.specs.Read.{TellsBytes}
-use Rattle.bpf_debug.specs.Command.{Memory, Map, said_by}
+use Rattle.bpf_debug.specs.Command.{Memory}
 use Rattle.bpf_debug.specs.Session.{SessionState, Leaves}
 use Rattle.bpf_debug.proofs.SessionLaws.{told_bytes}
 use Rattle.bpf_debug.proofs.session.Session.memory_at.Goals as goal

@@ -1,13 +1,12 @@
-use Rattle.std.proofs.Common.{◌≡◌, ℕ, ◌++◌, ◌∷◌, [], List, Option, Some, refl, sym, ap, subst, ◌∙◌, map}
-use Rattle.std.specs.Prelude.{true, false, IfOk, string_bytes}
-use Rattle.bpf_debug.specs.Command.{Order, said_by}
-use Rattle.bpf_debug.specs.Session.{SessionState, Leaves, LeavesLine}
+use Rattle.std.proofs.Common.{◌≡◌, ℕ, [], List, sym, ap, ◌∙◌, map}
+use Rattle.std.specs.Prelude.{IfOk, string_bytes}
+use Rattle.bpf_debug.specs.Command.{said_by}
+use Rattle.bpf_debug.specs.Session.{Leaves, LeavesLine}
 use Rattle.std.proofs.Common.{Result, Ok, Err, String, Global, Bor}
 use Rattle.std.proofs.Common.{length}
 use Rattle.std.proofs.lemmas.List.{nil_from_length}
 use Rattle.std.proofs.lemmas.Bool.{eqb-true}
 use Rattle.bpf_debug.specs.declared.error.DebugError.{DebugError}
-use Rattle.bpf_debug.specs.Command.{order_of}
 use Rattle.bpf_debug.proofs.SessionLaws.{no_line, line_done}
 use Rattle.bpf_debug.proofs.session.Session.obey.Goals as goal
 

@@ -1,10 +1,9 @@
-use Rattle.std.proofs.Common.{◌≡◌, ℕ, ◌++◌, ◌∷◌, [], List, Option, Some, refl, sym, subst, ◌∙◌, map}
-use Rattle.std.specs.Prelude.{true, IfOk, string_bytes}
+use Rattle.std.proofs.Common.{◌≡◌, ℕ, List, Some, sym, subst, map}
+use Rattle.std.specs.Prelude.{true, string_bytes}
 use Rattle.bpf_shared.specs.Contents.{has_cpu}
-use Rattle.bpf_debug.specs.Command.{Order, Break, Step, Go, Registers, Where, said_by}
+use Rattle.bpf_debug.specs.Command.{Registers}
 use Rattle.bpf_debug.specs.Session.{SessionState, Leaves}
 use Rattle.bpf_debug.proofs.SessionLaws.{told_registers}
-use Rattle.bpf_debug.specs.Answer.{IsWhere, IsRegisters}
 use Rattle.bpf_debug.proofs.session.Session.registers_at.Goals as goal
 
 pub returns-clause-answered : goal.returns-clause-answered

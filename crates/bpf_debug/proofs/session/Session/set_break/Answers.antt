@@ -1,9 +1,9 @@
-use Rattle.std.proofs.Common.{◌≡◌, ℕ, ◌++◌, ◌∷◌, [], List, Option, Some, refl, sym, ap, subst, ◌∙◌, map}
+use Rattle.std.proofs.Common.{◌≡◌, ℕ, List, Some, sym, subst, ◌∙◌, map}
 use Rattle.std.specs.Prelude.{true, false, IfOk, string_bytes}
 use Rattle.bpf_shared.specs.Contents.{has_cpu}
-use Rattle.bpf_debug.specs.Command.{Order, Break}
-use Rattle.bpf_debug.specs.Session.{SessionState, Leaves, IsPc, with_break}
-use Rattle.std.proofs.Common.{Result, Ok, Err, String, Global}
+use Rattle.bpf_debug.specs.Command.{Break}
+use Rattle.bpf_debug.specs.Session.{SessionState, Leaves, IsPc}
+use Rattle.std.proofs.Common.{Result, String, Global}
 use Rattle.bpf_debug.specs.declared.error.DebugError.{DebugError}
 use Rattle.bpf_debug.specs.declared.breakpoint.Breakpoint.{Breakpoint}
 use Rattle.bpf_debug.specs.Go.{has_break}

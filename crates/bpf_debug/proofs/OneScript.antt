@@ -1,0 +1,311 @@
+-- Over a machine whose jobs all wait, a script has one list of answers.
+use Rattle.std.proofs.Common.{◌≡◌, ◌≢◌, ℕ, ◌+◌, ◌<◌, ◌≤◌, true, false, List, [], ◌∷◌, ◌++◌, Some, None, ◌⊎◌, inl, inr, refl, sym, ap, subst, ◌∙◌, arith}
+use Rattle.std.specs.Prelude.{nat_lt, Ok, Err}
+use Rattle.std.proofs.lemmas.Bool.{cases_order, lt-ltb}
+use Rattle.bpf_shared.specs.Laws.{CallsHaveOneReply}
+use Rattle.bpf_mem.specs.Laws.{WritesAreDetermined}
+use Rattle.bpf_text.specs.Lines.{fields_of}
+use Rattle.bpf_loader.specs.Laws.{OneInstructionBegins}
+use Rattle.bpf_loader.specs.Loaded.{Loaded}
+use Rattle.bpf_cpu.specs.declared.machine.Turn.{Turn}
+use Rattle.bpf_cpu.specs.Task.{Task}
+use Rattle.bpf_cpu.specs.Schedule.{World, TakesTurn}
+use Rattle.bpf_cpu.proofs.Machines.DeterminedTurns.{IsWorld, one_turn, fresh_world}
+use Rattle.bpf_debug.specs.declared.breakpoint.Breakpoint.{Breakpoint}
+use Rattle.bpf_debug.specs.declared.error.DebugError.{DebugError}
+use Rattle.bpf_debug.specs.declared.error.DebugError.TheVariants as error
+use Rattle.bpf_debug.specs.Answer.{IsWhere, ended_text, stop_line}
+use Rattle.bpf_debug.specs.Command.{Order, Break, Step, Go, Registers, Where, Memory, Map, order_of}
+use Rattle.bpf_debug.specs.Go.{HasWork, AreIdle, IsUp, StandsAt, Goes, Done, Stops, Turns, has_break, has_gone}
+use Rattle.bpf_debug.specs.Read.{IsMapText}
+use Rattle.bpf_debug.specs.Session.{Scene, Follows, Obeys, RefusesOrder, Refuses, IsRefused}
+use Rattle.bpf_debug.specs.Script.{Answer, Answers, RunsScript}
+use Rattle.bpf_debug.specs.Laws.{HadMemory, ScriptsAreDetermined}
+use Rattle.bpf_debug.proofs.GoLaws.{free_has_no_work}
+use Rattle.bpf_debug.proofs.OneText.{one_place, one_where, one_registers, one_memory, one_name, one_map}
+
+-- ---- who is up
+idle_not_up : (jobs : List Task) (a b c : ℕ) → AreIdle jobs a b → HasWork jobs c → a ≤ c → c < b → ⊥
+idle_not_up jobs a b c idle works above below = let i = idle c above below in free_has_no_work jobs c works i.0 i.1
+
+one_up : (jobs : List Task) (cpus «from» c d : ℕ) → IsUp jobs cpus «from» c → IsUp jobs cpus «from» d → c ≡ d
+one_up jobs cpus «from» c d a b = elim (cases_order c d) [
+  | inl e ↦ e
+  | inr rest ↦ elim rest [ inl below ↦ absurd (later c d a b below) | inr above ↦ absurd (later d c b a above) ]
+]
+  where
+    later : (c d : ℕ) → IsUp jobs cpus «from» c → IsUp jobs cpus «from» d → c < d → ⊥
+    later c d a b less = elim (a.first) [
+      | inl x ↦ elim (b.first) [
+        | inl y ↦ idle_not_up jobs «from» d c y.1 a.works x.0 less
+        | inr y ↦ absurd (omega (arith, x.0, y.0))
+      ]
+      | inr x ↦ elim (b.first) [
+        | inl y ↦ idle_not_up jobs «from» cpus d x.1 b.works y.0 b.within
+        | inr y ↦ idle_not_up jobs 0 d c y.2 a.works (omega arith) less
+      ]
+    ]
+
+-- ---- refusals
+-- what is done isn't refused, want of memory aside
+no_cpu : (c cpus : ℕ) → c < cpus → nat_lt c cpus ≡ false → ⊥
+no_cpu c cpus less out = let both : true ≡ false = sym (lt-ltb c cpus less) ∙ out in cc
+
+cpu_refused : (x y : Scene) (order : Order) (text turns : List ℕ) → Follows x order text turns y → RefusesOrder x.world.store.shape.cpus x.world.programs x.names order error.NoCpu → ⊥
+cpu_refused x y (Break (Some c) (Some p)) text turns f r = no_cpu c x.world.store.shape.cpus f.0 r
+cpu_refused x y (Break (Some c) None) text turns f r = absurd f
+cpu_refused x y (Break None p) text turns f r = absurd f
+cpu_refused x y (Step (Some c)) text turns f r = no_cpu c x.world.store.shape.cpus f.0 r
+cpu_refused x y (Step None) text turns f r = absurd f
+cpu_refused x y Go text turns f r = r
+cpu_refused x y (Registers (Some c)) text turns f r = no_cpu c x.world.store.shape.cpus f.0 r
+cpu_refused x y (Registers None) text turns f r = absurd f
+cpu_refused x y (Where (Some c)) text turns f r = no_cpu c x.world.store.shape.cpus f.0 r
+cpu_refused x y (Where None) text turns f r = absurd f
+cpu_refused x y (Memory (Some c) at n) text turns f r = no_cpu c x.world.store.shape.cpus f.0 r
+cpu_refused x y (Memory None at n) text turns f r = absurd f
+cpu_refused x y (Map name) text turns f r = r
+
+pc_refused : (x y : Scene) (order : Order) (text turns : List ℕ) → Follows x order text turns y → RefusesOrder x.world.store.shape.cpus x.world.programs x.names order error.NoPc → ⊥
+pc_refused x y (Break (Some c) (Some p)) text turns f r = r.1 f.1.0
+pc_refused x y (Break (Some c) None) text turns f r = absurd f
+pc_refused x y (Break None p) text turns f r = absurd f
+pc_refused x y (Step c) text turns f r = absurd r
+pc_refused x y Go text turns f r = absurd r
+pc_refused x y (Registers c) text turns f r = absurd r
+pc_refused x y (Where c) text turns f r = absurd r
+pc_refused x y (Memory c at n) text turns f r = absurd r
+pc_refused x y (Map name) text turns f r = absurd r
+
+map_refused : (x y : Scene) (order : Order) (text turns : List ℕ) → Follows x order text turns y → RefusesOrder x.world.store.shape.cpus x.world.programs x.names order error.NoMap → ⊥
+map_refused x y (Map name) text turns f r = r f.0 f.1.0
+map_refused x y (Break c p) text turns f r = absurd r
+map_refused x y (Step c) text turns f r = absurd r
+map_refused x y Go text turns f r = absurd r
+map_refused x y (Registers c) text turns f r = absurd r
+map_refused x y (Where c) text turns f r = absurd r
+map_refused x y (Memory c at n) text turns f r = absurd r
+
+same_order : (fields : List (List ℕ)) (a b : Order) → order_of fields ≡ Some a → order_of fields ≡ Some b → a ≡ b
+same_order fields a b e f = let both : Some a ≡ Some b = sym e ∙ f in cc
+
+line_refused : (x y : Scene) (fields : List (List ℕ)) (text turns : List ℕ) (e : DebugError) → Obeys x fields text turns y → e ≢ error.OutOfMemory → IsRefused x fields e → ⊥
+line_refused x y [] text turns error.BadCommand o memory r = r.0 refl
+line_refused x y [] text turns error.OutOfMemory o memory r = memory refl
+line_refused x y [] text turns error.NoCpu o memory r = let both : None ≡ Some r.0 = r.1 in cc
+line_refused x y [] text turns error.NoPc o memory r = let both : None ≡ Some r.0 = r.1 in cc
+line_refused x y [] text turns error.NoMap o memory r = let both : None ≡ Some r.0 = r.1 in cc
+line_refused x y (f ∷ fs) text turns error.BadCommand o memory r = let both : Some o.0 ≡ None = sym o.1 ∙ r.1 in cc
+line_refused x y (f ∷ fs) text turns error.OutOfMemory o memory r = memory refl
+line_refused x y (f ∷ fs) text turns error.NoCpu o memory r =
+    let P : Order → Type 0 = λ order. Follows x order text turns y in
+    cpu_refused x y r.0 text turns (subst P (same_order (f ∷ fs) o.0 r.0 o.1 r.1) o.2) r.2
+line_refused x y (f ∷ fs) text turns error.NoPc o memory r =
+    let P : Order → Type 0 = λ order. Follows x order text turns y in
+    pc_refused x y r.0 text turns (subst P (same_order (f ∷ fs) o.0 r.0 o.1 r.1) o.2) r.2
+line_refused x y (f ∷ fs) text turns error.NoMap o memory r =
+    let P : Order → Type 0 = λ order. Follows x order text turns y in
+    map_refused x y r.0 text turns (subst P (same_order (f ∷ fs) o.0 r.0 o.1 r.1) o.2) r.2
+
+-- a line is refused for one reason
+module _ (cpus : ℕ) (programs : List Loaded) (names : List (List ℕ)) where
+  cpu_or_pc : (order : Order) → RefusesOrder cpus programs names order error.NoCpu → RefusesOrder cpus programs names order error.NoPc → ⊥
+  cpu_or_pc (Break c p) a b = b.0 a
+  cpu_or_pc (Step c) a b = absurd b
+  cpu_or_pc Go a b = absurd b
+  cpu_or_pc (Registers c) a b = absurd b
+  cpu_or_pc (Where c) a b = absurd b
+  cpu_or_pc (Memory c at n) a b = absurd b
+  cpu_or_pc (Map name) a b = absurd b
+
+  cpu_or_map : (order : Order) → RefusesOrder cpus programs names order error.NoCpu → RefusesOrder cpus programs names order error.NoMap → ⊥
+  cpu_or_map (Break c p) a b = absurd b
+  cpu_or_map (Step c) a b = absurd b
+  cpu_or_map Go a b = absurd b
+  cpu_or_map (Registers c) a b = absurd b
+  cpu_or_map (Where c) a b = absurd b
+  cpu_or_map (Memory c at n) a b = absurd b
+  cpu_or_map (Map name) a b = absurd a
+
+  pc_or_map : (order : Order) → RefusesOrder cpus programs names order error.NoPc → RefusesOrder cpus programs names order error.NoMap → ⊥
+  pc_or_map (Break c p) a b = absurd b
+  pc_or_map (Step c) a b = absurd b
+  pc_or_map Go a b = absurd b
+  pc_or_map (Registers c) a b = absurd b
+  pc_or_map (Where c) a b = absurd b
+  pc_or_map (Memory c at n) a b = absurd b
+  pc_or_map (Map name) a b = absurd a
+
+  module _ (fields : List (List ℕ)) where
+    abbrev Why : DebugError → Type 0
+    Why e = Refuses cpus programs names fields e
+
+    both_cpu_pc : Why error.NoCpu → Why error.NoPc → ⊥
+    both_cpu_pc a b = cpu_or_pc b.0 (subst (λ (o : Order). RefusesOrder cpus programs names o error.NoCpu) (same_order fields a.0 b.0 a.1 b.1) a.2) b.2
+
+    both_cpu_map : Why error.NoCpu → Why error.NoMap → ⊥
+    both_cpu_map a b = cpu_or_map b.0 (subst (λ (o : Order). RefusesOrder cpus programs names o error.NoCpu) (same_order fields a.0 b.0 a.1 b.1) a.2) b.2
+
+    both_pc_map : Why error.NoPc → Why error.NoMap → ⊥
+    both_pc_map a b = pc_or_map b.0 (subst (λ (o : Order). RefusesOrder cpus programs names o error.NoPc) (same_order fields a.0 b.0 a.1 b.1) a.2) b.2
+
+    bad : Why error.BadCommand → (order : Order) → order_of fields ≡ Some order → ⊥
+    bad a order said = let both : None ≡ Some order = sym a.1 ∙ said in cc
+
+    one_reason : (e f : DebugError) → e ≢ error.OutOfMemory → f ≢ error.OutOfMemory → Why e → Why f → e ≡ f
+    one_reason error.NoCpu error.NoCpu n m a b = refl
+    one_reason error.NoCpu error.NoPc n m a b = absurd (both_cpu_pc a b)
+    one_reason error.NoCpu error.NoMap n m a b = absurd (both_cpu_map a b)
+    one_reason error.NoCpu error.BadCommand n m a b = absurd (bad b a.0 a.1)
+    one_reason error.NoPc error.NoCpu n m a b = absurd (both_cpu_pc b a)
+    one_reason error.NoPc error.NoPc n m a b = refl
+    one_reason error.NoPc error.NoMap n m a b = absurd (both_pc_map a b)
+    one_reason error.NoPc error.BadCommand n m a b = absurd (bad b a.0 a.1)
+    one_reason error.NoMap error.NoCpu n m a b = absurd (both_cpu_map b a)
+    one_reason error.NoMap error.NoPc n m a b = absurd (both_pc_map b a)
+    one_reason error.NoMap error.NoMap n m a b = refl
+    one_reason error.NoMap error.BadCommand n m a b = absurd (bad b a.0 a.1)
+    one_reason error.BadCommand error.NoCpu n m a b = absurd (bad a b.0 b.1)
+    one_reason error.BadCommand error.NoPc n m a b = absurd (bad a b.0 b.1)
+    one_reason error.BadCommand error.NoMap n m a b = absurd (bad a b.0 b.1)
+    one_reason error.BadCommand error.BadCommand n m a b = refl
+    one_reason error.OutOfMemory f n m a b = absurd (n refl)
+    one_reason e error.OutOfMemory n m a b = absurd (m refl)
+
+-- ---- what is done
+module _ (law : WritesAreDetermined) (begins : OneInstructionBegins) (replies : CallsHaveOneReply) where
+  -- a CPU that has made a turn, and stands at a breakpoint, makes no other
+  stops_here : (breaks : List Breakpoint) (w : World) (gone : List ℕ) (c d p : ℕ) → IsWorld w → c ≡ d → has_gone gone c ≡ true → StandsAt w.jobs c p → has_break breaks c p ≡ true
+      → (has_gone gone d ≡ false) ⊎ ((q : ℕ) × StandsAt w.jobs d q × (has_break breaks d q ≡ false)) → ⊥
+  stops_here breaks w gone c d p world same went stands break (inl never) =
+      let both : true ≡ false = sym went ∙ ap (has_gone gone) same ∙ never in cc
+  stops_here breaks w gone c d p world same went stands break (inr (q, there, none)) =
+      let P : ℕ → Type 0 = λ n. StandsAt w.jobs n q in
+      let place : p ≡ q = one_place w world c p q stands (subst P (sym same) there) in
+      let both : true ≡ false = sym break ∙ ap (λ (n : ℕ). has_break breaks n p) same ∙ ap (has_break breaks d) place ∙ none in cc
+
+  record OneGo (text other : List ℕ) (y z : World) : Type 0 where
+    texts : text ≡ other
+    worlds : y ≡ z
+    world : IsWorld y
+
+  one_go : (breaks : List Breakpoint) (w : World) («from» : ℕ) (gone turns others text other : List ℕ) (y z : World) → IsWorld w
+      → Goes breaks w «from» gone turns text y → Goes breaks w «from» gone others other z → OneGo text other y z
+  one_go breaks w «from» gone turns others text other y z world (Done idle) (Done still) = record { texts = refl; worlds = refl; world = world }
+  one_go breaks w «from» gone turns others text other y z world (Done idle) (Stops {c = c} up went stands break) = absurd (idle_not_up w.jobs 0 w.store.shape.cpus c idle up.works (omega arith) up.within)
+  one_go breaks w «from» gone turns others text other y z world (Done idle) (Turns {c = c} up may takes goes) = absurd (idle_not_up w.jobs 0 w.store.shape.cpus c idle up.works (omega arith) up.within)
+  one_go breaks w «from» gone turns others text other y z world (Stops {c = c} up went stands break) (Done idle) = absurd (idle_not_up w.jobs 0 w.store.shape.cpus c idle up.works (omega arith) up.within)
+  one_go breaks w «from» gone turns others text other y z world (Stops {c = c} {p = p} up went stands break) (Stops {c = d} {p = q} up' went' stands' break') =
+      let same : c ≡ d = one_up w.jobs w.store.shape.cpus «from» c d up up' in
+      let P : ℕ → Type 0 = λ n. StandsAt w.jobs n q in
+      let place : p ≡ q = one_place w world c p q stands (subst P (sym same) stands') in
+      record { texts = ap (λ (n : ℕ). stop_line n p) same ∙ ap (stop_line d) place; worlds = refl; world = world }
+  one_go breaks w «from» gone turns others text other y z world (Stops {c = c} {p = p} up went stands break) (Turns {c = d} up' may takes goes) =
+      absurd (stops_here breaks w gone c d p world (one_up w.jobs w.store.shape.cpus «from» c d up up') went stands break may)
+  one_go breaks w «from» gone turns others text other y z world (Turns {c = c} up may takes goes) (Done idle) = absurd (idle_not_up w.jobs 0 w.store.shape.cpus c idle up.works (omega arith) up.within)
+  one_go breaks w «from» gone turns others text other y z world (Turns {c = d} up' may takes goes) (Stops {c = c} {p = p} up went stands break) =
+      absurd (stops_here breaks w gone c d p world (one_up w.jobs w.store.shape.cpus «from» c d up up') went stands break may)
+  one_go breaks w «from» gone turns others text other y z world (Turns {c = c} {answer = answer} {m = m} {turns = ts} {text = more} up may takes goes) (Turns {c = d} {answer = reply} {m = n} {turns = us} {text = rest} up' may' takes' goes') =
+      let same : d ≡ c = one_up w.jobs w.store.shape.cpus «from» d c up' up in
+      let P : ℕ → Type 0 = λ e. TakesTurn w e reply n in
+      let one = one_turn law begins replies w c answer reply m n world takes (subst P same takes') in
+      let Q : ℕ → Type 0 = λ e. Goes breaks n (e + 1) (e ∷ gone) us rest z in
+      let R : World → Type 0 = λ x. Goes breaks x (c + 1) (c ∷ gone) us rest z in
+      let go = one_go breaks m (c + 1) (c ∷ gone) ts us more rest y z one.world goes (subst R (sym one.worlds) (subst Q same goes')) in
+      record {
+        texts = ap (λ (t : Turn). ended_text c t ++ more) one.answers
+            ∙ ap (λ (e : ℕ). ended_text e reply ++ more) (sym same)
+            ∙ ap (λ (t : List ℕ). ended_text d reply ++ t) go.texts;
+        worlds = go.worlds;
+        world = go.world;
+      }
+
+  -- ---- a command, and a line
+  record OneEnd (text other : List ℕ) (y z : Scene) : Type 0 where
+    texts : text ≡ other
+    scenes : y ≡ z
+    world : IsWorld y.world
+
+  asked : (x y z : Scene) (text other turns others : List ℕ) → IsWorld x.world → text ≡ other → (turns ≡ []) × (y ≡ x) → (others ≡ []) × (z ≡ x) → OneEnd text other y z
+  asked x y z text other turns others world same a b =
+      record { texts = same; scenes = a.1 ∙ sym b.1; world = subst (λ (s : Scene). IsWorld s.world) (sym a.1) world }
+
+  one_follow : (x y z : Scene) (order : Order) (text other turns others : List ℕ) → IsWorld x.world → Follows x order text turns y → Follows x order other others z → OneEnd text other y z
+  one_follow x y z (Break (Some c) (Some p)) text other turns others world a b = record {
+    texts = a.1.1 ∙ sym b.1.1;
+    scenes = a.1.3 ∙ sym b.1.3;
+    world = subst (λ (s : Scene). IsWorld s.world) (sym a.1.3) world;
+  }
+  one_follow x y z (Break (Some c) None) text other turns others world a b = absurd a
+  one_follow x y z (Break None p) text other turns others world a b = absurd a
+  one_follow x y z (Step (Some c)) text other turns others world (has, a) (had, b) =
+      let one = one_turn law begins replies x.world c a.0 b.0 a.1 b.1 world a.3 b.3 in
+      let P : World → Type 0 = λ w. IsWhere w.jobs c b.2 in
+      let place = one_where a.1 one.world c a.2 b.2 a.4 (subst P (sym one.worlds) b.4) in
+      record {
+        texts = a.5 ∙ ap (λ (t : Turn). ended_text c t ++ a.2) one.answers ∙ ap (λ (t : List ℕ). ended_text c b.0 ++ t) place ∙ sym b.5;
+        scenes = a.7 ∙ ap (λ (w : World). record x { world = w }) one.worlds ∙ sym b.7;
+        world = subst (λ (s : Scene). IsWorld s.world) (sym a.7) one.world;
+      }
+  one_follow x y z (Step None) text other turns others world a b = absurd a
+  one_follow x y z Go text other turns others world a b =
+      let one = one_go x.breaks x.world 0 [] turns others text other a.0 b.0 world a.1 b.1 in
+      record {
+        texts = one.texts;
+        scenes = a.2 ∙ ap (λ (w : World). record x { world = w }) one.worlds ∙ sym b.2;
+        world = subst (λ (s : Scene). IsWorld s.world) (sym a.2) one.world;
+      }
+  one_follow x y z (Registers (Some c)) text other turns others world a b = asked x y z text other turns others world (one_registers x.world world c text other a.1 b.1) a.2 b.2
+  one_follow x y z (Registers None) text other turns others world a b = absurd a
+  one_follow x y z (Where (Some c)) text other turns others world a b = asked x y z text other turns others world (one_where x.world world c text other a.1 b.1) a.2 b.2
+  one_follow x y z (Where None) text other turns others world a b = absurd a
+  one_follow x y z (Memory (Some c) at n) text other turns others world a b = asked x y z text other turns others world (one_memory x.world world c at n text other a.1 b.1) a.2 b.2
+  one_follow x y z (Memory None at n) text other turns others world a b = absurd a
+  one_follow x y z (Map name) text other turns others world a b =
+      let same = one_name x.names name a.0 b.0 a.1 b.1 in
+      let P : ℕ → Type 0 = λ m. IsMapText x.world.store m other in
+      asked x y z text other turns others world (one_map x.world.store a.0 text other a.2 (subst P (sym same) b.2)) a.3 b.3
+
+  one_line : (x y z : Scene) (fields : List (List ℕ)) (text other turns others : List ℕ) → IsWorld x.world → Obeys x fields text turns y → Obeys x fields other others z → OneEnd text other y z
+  one_line x y z [] text other turns others world a b = asked x y z text other turns others world (a.0 ∙ sym b.0) a.1 b.1
+  one_line x y z (f ∷ fs) text other turns others world a b =
+      let P : Order → Type 0 = λ order. Follows x order other others z in
+      one_follow x y z a.0 text other turns others world a.2 (subst P (same_order (f ∷ fs) b.0 a.0 b.1 a.1) b.2)
+
+  -- ---- a script
+  record OneAnswer (answer other : Answer) (y z : Scene) : Type 0 where
+    answers : answer ≡ other
+    scenes : y ≡ z
+    world : IsWorld y.world
+
+  one_answer : (x y z : Scene) (line : List ℕ) (answer other : Answer) → IsWorld x.world → Answers x line answer y → Answers x line other z
+      → answer ≢ Err error.OutOfMemory → other ≢ Err error.OutOfMemory → OneAnswer answer other y z
+  one_answer x y z line (Ok text) (Ok other) world a b n m =
+      let one = one_line x y z (fields_of line) text other a.0 b.0 world a.1 b.1 in
+      record { answers = ap (λ (t : List ℕ). Ok t) one.texts; scenes = one.scenes; world = one.world }
+  one_answer x y z line (Ok text) (Err e) world a b n m = absurd (line_refused x y (fields_of line) text a.0 e a.1 (λ is. m (ap (λ (f : DebugError). Err f) is)) b.0)
+  one_answer x y z line (Err e) (Ok text) world a b n m = absurd (line_refused x z (fields_of line) text b.0 e b.1 (λ is. n (ap (λ (f : DebugError). Err f) is)) a.0)
+  one_answer x y z line (Err e) (Err f) world a b n m =
+      let same = one_reason x.world.store.shape.cpus x.world.programs x.names (fields_of line) e f (λ is. n (ap (λ (g : DebugError). Err g) is)) (λ is. m (ap (λ (g : DebugError). Err g) is)) a.0 b.0 in
+      record {
+        answers = ap (λ (g : DebugError). Err g) same;
+        scenes = a.1 ∙ sym b.1;
+        world = subst (λ (s : Scene). IsWorld s.world) (sym a.1) world;
+      }
+
+  one_script : (x y z : Scene) (lines : List (List ℕ)) (answers others : List Answer) → IsWorld x.world → RunsScript x lines answers y → RunsScript x lines others z
+      → HadMemory answers → HadMemory others → (answers ≡ others) × (y ≡ z)
+  one_script x y z [] [] [] world a b n m = (refl, a ∙ sym b)
+  one_script x y z [] [] (c ∷ cs) world a b n m = absurd b
+  one_script x y z [] (c ∷ cs) others world a b n m = absurd a
+  one_script x y z (l ∷ ls) [] others world a b n m = absurd a
+  one_script x y z (l ∷ ls) (c ∷ cs) [] world a b n m = absurd b
+  one_script x y z (l ∷ ls) (c ∷ cs) (d ∷ ds) world a b n m =
+      let one = one_answer x a.0 b.0 l c d world a.1 b.1 n.0 m.0 in
+      let P : Scene → Type 0 = λ s. RunsScript s ls ds z in
+      let rest = one_script a.0 y z ls cs ds one.world a.2 (subst P (sym one.scenes) b.2) n.1 m.1 in
+      (ap (λ (e : Answer). e ∷ cs) one.answers ∙ ap (λ (es : List Answer). d ∷ es) rest.0, rest.1)
+
+  pub scripts_are_determined : ScriptsAreDetermined
+  scripts_are_determined x y z lines answers others fresh a b n m =
+      one_script x y z lines answers others (fresh_world law begins replies x.world fresh) a b n m

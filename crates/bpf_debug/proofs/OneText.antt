@@ -1,0 +1,127 @@
+-- What a question is answered is one text.
+use Rattle.std.proofs.Common.{◌≡◌, ℕ, ◌+◌, true, false, List, ◌++◌, length, get_or, Option, Some, None, inl, inr, sym, ap, subst, ◌∙◌, arith}
+use Rattle.std.specs.Prelude.{codes, slice_get, slice_index}
+use Rattle.std.proofs.lemmas.Bool.{cases_order}
+use Rattle.std.proofs.lemmas.List.{ext_get_or}
+use Rattle.hex.specs.Hex.{encode_lower}
+use Rattle.bpf_shared.specs.Store.{Plain}
+use Rattle.bpf_shared.specs.Listing.{Pair}
+use Rattle.bpf_shared.proofs.OneListing.{one_listing}
+use Rattle.bpf_cpu.specs.declared.cpu.Cpu.{Cpu}
+use Rattle.bpf_cpu.specs.Task.{Task, InHand, IsAt, IsFree}
+use Rattle.bpf_cpu.specs.Work.{IsNext}
+use Rattle.bpf_cpu.proofs.Machines.DeterminedTurns.{IsWorld}
+use Rattle.bpf_cpu.specs.Schedule.{World}
+use Rattle.bpf_debug.specs.Answer.{IsWhere, IsOff, IsRegisters, in_hand_line, waiting_line, register_lines}
+use Rattle.bpf_debug.specs.Go.{StandsAt}
+use Rattle.bpf_debug.specs.Read.{MayRead, MayNotRead, AreRead, IsUnreadable, ShowsBytes, IsMemory, IsNamed, IsMapText, pair_lines}
+
+-- ---- where a CPU stands
+
+-- the job that waits next is one
+pub one_next : (jobs : List Task) (c j k : ℕ) → IsNext jobs c j → IsNext jobs c k → j ≡ k
+one_next jobs c j k a b = elim (cases_order j k) [
+  | inl e ↦ e
+  | inr rest ↦ elim rest [
+    | inl below ↦ absurd (b.2 j a.1.0 a.1.1 below a.1.2)
+    | inr above ↦ absurd (a.2 k b.1.0 b.1.1 above b.1.2)
+  ]
+]
+
+off_free : (jobs : List Task) (c : ℕ) (text : List ℕ) → IsOff jobs c text → IsFree jobs c
+off_free jobs c text (inl a) = a.1.0
+off_free jobs c text (inr a) = a.0
+
+pub one_off : (jobs : List Task) (c : ℕ) (text other : List ℕ) → IsOff jobs c text → IsOff jobs c other → text ≡ other
+one_off jobs c text other (inl a) (inl b) = a.2 ∙ ap (waiting_line c) (one_next jobs c a.0 b.0 a.1 b.1) ∙ sym b.2
+one_off jobs c text other (inl a) (inr b) = absurd (b.1 a.0 a.1.1.0 a.1.1.1 a.1.1.2)
+one_off jobs c text other (inr a) (inl b) = absurd (a.1 b.0 b.1.1.0 b.1.1.1 b.1.1.2)
+one_off jobs c text other (inr a) (inr b) = a.2 ∙ sym b.2
+
+-- ---- bytes
+one_read : (s : Plain) (state : Cpu) (a b other : ℕ) → MayRead s state a b → MayRead s state a other → b ≡ other
+one_read s state a b other (inl own) (inl own') = let both : Some b ≡ Some other = sym own ∙ own' in cc
+one_read s state a b other (inl own) (inr held) = let both : Some b ≡ None = sym own ∙ held.0 in cc
+one_read s state a b other (inr held) (inl own) = let both : Some other ≡ None = sym own ∙ held.0 in cc
+one_read s state a b other (inr held) (inr held') = held'.2.1 b held.2.0
+
+not_both : (s : Plain) (state : Cpu) (a b : ℕ) → MayRead s state a b → MayNotRead s state a → ⊥
+not_both s state a b (inl own) none = let both : Some b ≡ None = sym own ∙ none.0 in cc
+not_both s state a b (inr held) (own, inl out) = let both : true ≡ false = sym held.1 ∙ out in cc
+not_both s state a b (inr held) (own, inr none) = none b held.2.0
+
+unreadable_not : (s : Plain) (state : Cpu) (a n : ℕ) (bytes : List ℕ) → AreRead s state a n bytes → IsUnreadable s state a n → ⊥
+unreadable_not s state a n bytes are (inl past) = absurd (omega (arith, are.within))
+unreadable_not s state a n bytes are (inr none) = not_both s state (a + none.0) (slice_index bytes none.0) (are.each none.0 none.1) none.2
+
+one_bytes : (s : Plain) (state : Cpu) (a n : ℕ) (bytes others : List ℕ) → AreRead s state a n bytes → AreRead s state a n others → bytes ≡ others
+one_bytes s state a n bytes others x y =
+    ext_get_or 0 bytes others (x.count ∙ sym y.count) (λ k inside.
+    one_read s state (a + k) (get_or bytes k 0) (get_or others k 0) (x.each k (omega (arith, x.count))) (y.each k (omega (arith, x.count))))
+
+one_shown : (s : Plain) (state : Cpu) (at : Option ℕ) (n : ℕ) (text other : List ℕ) → ShowsBytes s state at n text → ShowsBytes s state at n other → text ≡ other
+one_shown s state None n text other a b = a ∙ sym b
+one_shown s state (Some at) n text other (inl a) (inl b) =
+    a.2 ∙ ap (λ (bytes : List ℕ). encode_lower bytes ++ codes "\n") (one_bytes s state at n a.0 b.0 a.1 b.1) ∙ sym b.2
+one_shown s state (Some at) n text other (inl a) (inr b) = absurd (unreadable_not s state at n a.0 a.1 b.0)
+one_shown s state (Some at) n text other (inr a) (inl b) = absurd (unreadable_not s state at n b.0 b.1 a.0)
+one_shown s state (Some at) n text other (inr a) (inr b) = a.1 ∙ sym b.1
+
+-- ---- of a machine's CPUs
+module _ (w : World) (world : IsWorld w) where
+  -- one job is in hand, in one state
+  pub record OneHand (j k : ℕ) (state now : Cpu) : Type 0 where
+    pub job : j ≡ k
+    pub states : state ≡ now
+
+  pub one_hand : (c j k : ℕ) (task other : Task) (state now : Cpu) (left rest : ℕ) → IsAt w.jobs c j task (InHand state left) → IsAt w.jobs c k other (InHand now rest) → OneHand j k state now
+  one_hand c j k task other state now left rest a b =
+      let job = world.one c j k task other state now left rest a b in
+      let P : ℕ → Type 0 = λ i. slice_get w.jobs i ≡ Some other in
+      let listed : Some task ≡ Some other = sym a.listed ∙ subst P (sym job) b.listed in
+      let same : task ≡ other = cc in
+      let stages : InHand state left ≡ InHand now rest = sym a.at ∙ ap (λ (t : Task). t.stage) same ∙ b.at in
+      record { job = job; states = cc }
+
+  pub one_place : (c p q : ℕ) → StandsAt w.jobs c p → StandsAt w.jobs c q → p ≡ q
+  one_place c p q (inl a) (inl b) =
+      let one = one_hand c a.0 b.0 a.1 b.1 a.2 b.2 a.3 b.3 a.4 b.4 in
+      a.5 ∙ ap (λ (s : Cpu). s.pc) one.states ∙ sym b.5
+  one_place c p q (inl a) (inr b) = absurd (b.1.0 a.0 a.1 a.2 a.3 a.4)
+  one_place c p q (inr a) (inl b) = absurd (a.1.0 b.0 b.1 b.2 b.3 b.4)
+  one_place c p q (inr a) (inr b) = a.2 ∙ sym b.2
+
+  pub one_where : (c : ℕ) (text other : List ℕ) → IsWhere w.jobs c text → IsWhere w.jobs c other → text ≡ other
+  one_where c text other (inl a) (inl b) =
+      let one = one_hand c a.0 b.0 a.1 b.1 a.2 b.2 a.3 b.3 a.4 b.4 in
+      a.5 ∙ ap (λ (j : ℕ). in_hand_line c j a.2) one.job ∙ ap (in_hand_line c b.0) one.states ∙ sym b.5
+  one_where c text other (inl a) (inr b) = absurd (off_free w.jobs c other b a.0 a.1 a.2 a.3 a.4)
+  one_where c text other (inr a) (inl b) = absurd (off_free w.jobs c text a b.0 b.1 b.2 b.3 b.4)
+  one_where c text other (inr a) (inr b) = one_off w.jobs c text other a b
+
+  pub one_registers : (c : ℕ) (text other : List ℕ) → IsRegisters w.jobs c text → IsRegisters w.jobs c other → text ≡ other
+  one_registers c text other (inl a) (inl b) =
+      let one = one_hand c a.0 b.0 a.1 b.1 a.2 b.2 a.3 b.3 a.4 b.4 in
+      a.5 ∙ ap (λ (s : Cpu). register_lines 0 s.registers) one.states ∙ sym b.5
+  one_registers c text other (inl a) (inr b) = absurd (off_free w.jobs c other b a.0 a.1 a.2 a.3 a.4)
+  one_registers c text other (inr a) (inl b) = absurd (off_free w.jobs c text a b.0 b.1 b.2 b.3 b.4)
+  one_registers c text other (inr a) (inr b) = one_off w.jobs c text other a b
+
+  pub one_memory : (c : ℕ) (at : Option ℕ) (n : ℕ) (text other : List ℕ) → IsMemory w.store w.jobs c at n text → IsMemory w.store w.jobs c at n other → text ≡ other
+  one_memory c at n text other (inl a) (inl b) =
+      let one = one_hand c a.0 b.0 a.1 b.1 a.2 b.2 a.3 b.3 a.4 b.4 in
+      let P : Cpu → Type 0 = λ s. ShowsBytes w.store s at n other in
+      one_shown w.store a.2 at n text other a.5 (subst P (sym one.states) b.5)
+  one_memory c at n text other (inl a) (inr b) = absurd (off_free w.jobs c other b a.0 a.1 a.2 a.3 a.4)
+  one_memory c at n text other (inr a) (inl b) = absurd (off_free w.jobs c text a b.0 b.1 b.2 b.3 b.4)
+  one_memory c at n text other (inr a) (inr b) = one_off w.jobs c text other a b
+
+-- ---- maps
+pub one_name : (names : List (List ℕ)) (name : List ℕ) (m n : ℕ) → IsNamed names name m → IsNamed names name n → m ≡ n
+one_name names name m n a b = elim (cases_order m n) [
+  | inl e ↦ e
+  | inr rest ↦ elim rest [ inl below ↦ absurd (b.1 m below a.0) | inr above ↦ absurd (a.1 n above b.0) ]
+]
+
+pub one_map : (s : Plain) (m : ℕ) (text other : List ℕ) → IsMapText s m text → IsMapText s m other → text ≡ other
+one_map s m text other a b = a.2 ∙ ap (λ (pairs : List Pair). pair_lines (length pairs) pairs) (one_listing s m a.0 b.0 a.1 b.1) ∙ sym b.2

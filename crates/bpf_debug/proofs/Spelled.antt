@@ -1,0 +1,238 @@
+-- Any schedule is spelled by `step` commands, and scripts make turns alone.
+use Rattle.std.proofs.Common.{◌≡◌, ℕ, zero, suc, ◌+◌, ◌<◌, List, [], ◌∷◌, ◌++◌, get_or, Option, Some, None, ◌⊎◌, inl, inr, refl, sym, ap, subst, ◌∙◌, arith}
+use Rattle.std.specs.Prelude.{Ok, Err, codes, slice_get}
+use Rattle.std.specs.Fmt.{decimal, digits}
+use Rattle.std.proofs.lemmas.Bool.{cases_lt}
+use Rattle.bpf_shared.proofs.Puts.{equal_or_not}
+use Rattle.bpf_shared.specs.declared.events.Event.{Event}
+use Rattle.bpf_shared.specs.declared.events.Event.TheVariants.{Begin, End, Lookup, Update, Delete, Load, Store, Atomic}
+use Rattle.bpf_shared.specs.declared.events.Entry.{Entry}
+use Rattle.bpf_shared.specs.declared.events.MapAnswer.{MapAnswer}
+use Rattle.bpf_shared.specs.declared.events.MapAnswer.TheVariants.{Done, Invalid, Busy, Exists, Absent, Full, NoMemory}
+use Rattle.bpf_shared.specs.declared.shapes.MapShape.{MapShape}
+use Rattle.bpf_shared.specs.Shape.{Shape}
+use Rattle.bpf_shared.specs.Store.{Plain}
+use Rattle.bpf_shared.specs.Events.{after_lookup, Updates, Deletes, Allowed}
+use Rattle.bpf_shared.specs.History.{PlainlyLegal}
+use Rattle.bpf_text.specs.Lines.{fields_of}
+use Rattle.bpf_text.specs.Words.{number_tok}
+use Rattle.bpf_loader.specs.Loaded.{Loaded}
+use Rattle.bpf_cpu.specs.declared.cpu.Cpu.{Cpu}
+use Rattle.bpf_cpu.specs.declared.machine.Turn.{Turn}
+use Rattle.bpf_cpu.specs.declared.outcome.Outcome.{Outcome}
+use Rattle.bpf_cpu.specs.Task.{Stage, Task, Waiting, InHand, Ended}
+use Rattle.bpf_cpu.specs.Schedule.{World, Advances, Settles, GoesOn, TakesTurn, RunsSchedule}
+use Rattle.bpf_debug.specs.Command.{Step, order_of}
+use Rattle.bpf_debug.specs.Answer.{IsWhere, ended_text, in_hand_line, waiting_line, idle_line}
+use Rattle.bpf_debug.specs.Session.{Scene, IsCpu, Obeys}
+use Rattle.bpf_debug.specs.Script.{Answer, Answers}
+use Rattle.bpf_debug.specs.Laws.{step_line, StepsSpellSchedules, ScriptsMakeTurns}
+use Rattle.bpf_debug.proofs.SessionLaws.{follows_runs}
+
+-- ---- turns leave the shape of the store
+found_shape : (s t : Plain) (c : ℕ) (o : Option ℕ) → t ≡ after_lookup s c o → t.shape ≡ s.shape
+found_shape s t c None e = ap (λ (p : Plain). p.shape) e
+found_shape s t c (Some v) e = ap (λ (p : Plain). p.shape) e
+
+updated_shape : (s t : Plain) (m : ℕ) (h : MapShape) (key bytes : List ℕ) (flags : ℕ) (answer : MapAnswer) → Updates s m h key bytes flags answer t → t.shape ≡ s.shape
+updated_shape s t m h key bytes flags Done u = ap (λ (p : Plain). p.shape) u.1.2
+updated_shape s t m h key bytes flags Invalid u = ap (λ (p : Plain). p.shape) u.1
+updated_shape s t m h key bytes flags Busy u = ap (λ (p : Plain). p.shape) u.1
+updated_shape s t m h key bytes flags Exists u = ap (λ (p : Plain). p.shape) u.1
+updated_shape s t m h key bytes flags Absent u = ap (λ (p : Plain). p.shape) u.1
+updated_shape s t m h key bytes flags Full u = ap (λ (p : Plain). p.shape) u.1
+updated_shape s t m h key bytes flags NoMemory u = ap (λ (p : Plain). p.shape) u.1
+
+deleted_shape : (s t : Plain) (m : ℕ) (key : List ℕ) (answer : MapAnswer) → Deletes s m key answer t → t.shape ≡ s.shape
+deleted_shape s t m key Done d = ap (λ (p : Plain). p.shape) d.1
+deleted_shape s t m key Busy d = ap (λ (p : Plain). p.shape) d
+deleted_shape s t m key Absent d = ap (λ (p : Plain). p.shape) d.1
+deleted_shape s t m key Invalid d = absurd d
+deleted_shape s t m key Exists d = absurd d
+deleted_shape s t m key Full d = absurd d
+deleted_shape s t m key NoMemory d = absurd d
+
+allowed_shape : (s t : Plain) (c : ℕ) (e : Event) → Allowed s c e t → t.shape ≡ s.shape
+allowed_shape s t c Begin a = ap (λ (p : Plain). p.shape) a.2
+allowed_shape s t c End a = ap (λ (p : Plain). p.shape) a.1
+allowed_shape s t c (Lookup m key answer) a = found_shape s t c _ a.1.2
+allowed_shape s t c (Update m key bytes flags answer) a = updated_shape s t m a.1.0 key bytes flags answer a.1.4
+allowed_shape s t c (Delete m key answer) a = deleted_shape s t m key answer a.1.1
+allowed_shape s t c (Load at size number) a = ap (λ (p : Plain). p.shape) a.1.3
+allowed_shape s t c (Store at size word) a = ap (λ (p : Plain). p.shape) a.1.2
+allowed_shape s t c (Atomic at size op operand expected number) a = ap (λ (p : Plain). p.shape) a.1.3
+
+legal_shape : (s t : Plain) (log : List Entry) → PlainlyLegal s log t → t.shape ≡ s.shape
+legal_shape s t [] legal = ap (λ (p : Plain). p.shape) (sym legal)
+legal_shape s t (e ∷ es) legal = legal_shape legal.0 t es legal.2 ∙ allowed_shape s legal.0 e.cpu e.event legal.1.0
+
+advances_shape : (program : Loaded) (c : ℕ) (s t : Plain) (old new : Cpu) (n left : ℕ) (end : Option Outcome) → Advances program c s old n end t new left → t.shape ≡ s.shape
+advances_shape program c s t old new zero left end a = ap (λ (p : Plain). p.shape) a.1
+advances_shape program c s t old new (suc n) left end a = legal_shape s t _ a.3
+
+settles_shape : (w z : World) (c j : ℕ) (task : Task) (new : Cpu) (left : ℕ) (end : Option Outcome) (answer : Turn) → Settles w c j task new left end answer z → z.store.shape ≡ w.store.shape
+settles_shape w z c j task new left None answer a = ap (λ (x : World). x.store.shape) a.1
+settles_shape w z c j task new left (Some end) answer a = ap (λ (x : World). x.store.shape) a.3 ∙ allowed_shape w.store a.0 c End a.1.0
+
+goes_shape : (w z : World) (c j : ℕ) (task : Task) (old : Cpu) (left : ℕ) (answer : Turn) → GoesOn w c j task old left answer z → z.store.shape ≡ w.store.shape
+goes_shape w z c j task old left answer g =
+    settles_shape (record w { store = g.2 }) z c j task g.3 g.4 g.1 answer g.7
+    ∙ advances_shape g.0 c w.store g.2 old g.3 left g.4 g.1 g.6
+
+turn_shape : (w z : World) (c : ℕ) (answer : Turn) → TakesTurn w c answer z → z.store.shape ≡ w.store.shape
+turn_shape w z c answer (inl t) = goes_shape w z c t.0 t.1 t.2 t.3 answer t.5
+turn_shape w z c answer (inr (inl (free, t))) =
+    goes_shape (record w { store = t.3 }) z c t.0 t.1 _ _ answer t.7 ∙ allowed_shape w.store t.3 c Begin t.6.0
+turn_shape w z c answer (inr (inr t)) = ap (λ (x : World). x.store.shape) t.3
+
+-- ---- each CPU stands somewhere
+abbrev Lowest : (Task → Type 0) → List Task → Type 0
+Lowest P jobs = (j : ℕ) × (task : Task) × (slice_get jobs j ≡ Some task) × P task × ((k : ℕ) (t : Task) → k < j → slice_get jobs k ≡ Some t → P t → ⊥)
+
+abbrev NoTask : (Task → Type 0) → List Task → Type 0
+NoTask P jobs = (k : ℕ) (t : Task) → slice_get jobs k ≡ Some t → P t → ⊥
+
+lowest : (P : Task → Type 0) → ((t : Task) → P t ⊎ (P t → ⊥)) → (jobs : List Task) → Lowest P jobs ⊎ NoTask P jobs
+lowest P test [] = inr (λ k t at p. cc)
+lowest P test (u ∷ us) = elim (test u) [
+  | inl here ↦ inl (0, u, refl, here, λ k t less at p. absurd (omega arith))
+  | inr out ↦ elim (lowest P test us) [
+    | inl found ↦ inl (suc found.0, found.1, found.2, found.3, λ k t less at p. before found.0 found.4 out k t less at p)
+    | inr none ↦ inr (λ k t at p. never none out k t at p)
+  ]
+]
+  where
+    other : (P u → ⊥) → (t : Task) → Some u ≡ Some t → P t → ⊥
+    other out t at p = let same : t ≡ u = cc in out (subst P same p)
+
+    before : (j : ℕ) → ((k : ℕ) (t : Task) → k < j → slice_get us k ≡ Some t → P t → ⊥) → (P u → ⊥) → (k : ℕ) (t : Task) → k < suc j → slice_get (u ∷ us) k ≡ Some t → P t → ⊥
+    before j low out zero t less at p = other out t at p
+    before j low out (suc k) t less at p = low k t (omega arith) at p
+
+    never : NoTask P us → (P u → ⊥) → (k : ℕ) (t : Task) → slice_get (u ∷ us) k ≡ Some t → P t → ⊥
+    never none out zero t at p = other out t at p
+    never none out (suc k) t at p = none k t at p
+
+module _ (c : ℕ) where
+  abbrev Hands : Task → Type 0
+  Hands t = (t.cpu ≡ c) × ((state : Cpu) × (left : ℕ) × (t.stage ≡ InHand state left))
+
+  abbrev Waits : Task → Type 0
+  Waits t = (t.cpu ≡ c) × ((context : List ℕ) × (t.stage ≡ Waiting context))
+
+  hands_stage : (s : Stage) → ((state : Cpu) × (left : ℕ) × (s ≡ InHand state left)) ⊎ (((state : Cpu) × (left : ℕ) × (s ≡ InHand state left)) → ⊥)
+  hands_stage (InHand state left) = inl (state, left, refl)
+  hands_stage (Waiting context) = inr (λ h. let no : Waiting context ≡ InHand h.0 h.1 = h.2 in cc)
+  hands_stage (Ended end) = inr (λ h. let no : Ended end ≡ InHand h.0 h.1 = h.2 in cc)
+
+  waits_stage : (s : Stage) → ((context : List ℕ) × (s ≡ Waiting context)) ⊎ (((context : List ℕ) × (s ≡ Waiting context)) → ⊥)
+  waits_stage (Waiting context) = inl (context, refl)
+  waits_stage (InHand state left) = inr (λ h. let no : InHand state left ≡ Waiting h.0 = h.1 in cc)
+  waits_stage (Ended end) = inr (λ h. let no : Ended end ≡ Waiting h.0 = h.1 in cc)
+
+  hands_or_not : (t : Task) → Hands t ⊎ (Hands t → ⊥)
+  hands_or_not t = elim (equal_or_not t.cpu c) [
+    | inl own ↦ elim (hands_stage t.stage) [ inl has ↦ inl (own, has) | inr out ↦ inr (λ h. out h.1) ]
+    | inr ne ↦ inr (λ h. ne h.0)
+  ]
+
+  waits_or_not : (t : Task) → Waits t ⊎ (Waits t → ⊥)
+  waits_or_not t = elim (equal_or_not t.cpu c) [
+    | inl own ↦ elim (waits_stage t.stage) [ inl has ↦ inl (own, has) | inr out ↦ inr (λ h. out h.1) ]
+    | inr ne ↦ inr (λ h. ne h.0)
+  ]
+
+  stands : (jobs : List Task) → (text : List ℕ) × IsWhere jobs c text
+  stands jobs = elim (lowest Hands hands_or_not jobs) [
+    | inl h ↦ (
+      in_hand_line c h.0 h.3.1.0,
+      inl (h.0, h.1, h.3.1.0, h.3.1.1, record { listed = h.2; of = h.3.0; at = h.3.1.2 }, refl),
+    )
+    | inr free ↦ elim (lowest Waits waits_or_not jobs) [
+      | inl w ↦ (
+        waiting_line c w.0,
+        inr (inl (
+          w.0,
+          (
+            λ j task state left at. free j task at.listed (at.of, (state, left, at.at)),
+            (w.1, w.3.1.0, record { listed = w.2; of = w.3.0; at = w.3.1.1 }),
+            λ k task context less at. w.4 k task less at.listed (at.of, (context, at.at)),
+          ),
+          refl,
+        )),
+      )
+      | inr none ↦ (
+        idle_line c,
+        inr (inr (
+          λ j task state left at. free j task at.listed (at.of, (state, left, at.at)),
+          λ j task context at. none j task at.listed (at.of, (context, at.at)),
+          refl,
+        )),
+      )
+    ]
+  ]
+
+-- ---- the line of a turn
+abbrev IsSpelled : ℕ → Type 0
+IsSpelled c = (fields_of (step_line c) ≡ codes "step" ∷ decimal c ∷ []) × (order_of (codes "step" ∷ decimal c ∷ []) ≡ Some (Step (Some c)))
+
+one_more : (n : ℕ) → IsSpelled n → ((c : ℕ) → c < n → IsSpelled c) → (c : ℕ) → c < n + 1 → IsSpelled c
+one_more n last before c less = elim (cases_lt c n) [
+  | inl below ↦ before c below
+  | inr past ↦ (let same : n ≡ c = omega arith in subst IsSpelled same last)
+]
+
+few : (c : ℕ) → c < 8 → IsSpelled c
+unfolding digits number_tok
+few = one_more 7 (refl, refl) (one_more 6 (refl, refl) (one_more 5 (refl, refl) (one_more 4 (refl, refl)
+    (one_more 3 (refl, refl) (one_more 2 (refl, refl) (one_more 1 (refl, refl) (one_more 0 (refl, refl) (λ c less. absurd (omega arith)))))))))
+
+spelled : (c : ℕ) → c < 16 → IsSpelled c
+unfolding digits number_tok
+spelled = one_more 15 (refl, refl) (one_more 14 (refl, refl) (one_more 13 (refl, refl) (one_more 12 (refl, refl)
+    (one_more 11 (refl, refl) (one_more 10 (refl, refl) (one_more 9 (refl, refl) (one_more 8 (refl, refl) few)))))))
+
+-- a turn is what its line does
+step_done : (x : Scene) (c : ℕ) (answer : Turn) (m : World) → c < 16 → IsCpu x c → TakesTurn x.world c answer m
+    → (text : List ℕ) × Answers x (step_line c) (Ok text) (record x { world = m })
+step_done x c answer m small has takes =
+    let place = stands c m.jobs in
+    let text : List ℕ = ended_text c answer ++ place.0 in
+    let y : Scene = record x { world = m } in
+    let is = spelled c small in
+    let does : Obeys x (codes "step" ∷ decimal c ∷ []) text (c ∷ []) y = (Step (Some c), is.1, (has, (answer, m, place.0, takes, place.1, refl, refl, refl))) in
+    (text, (c ∷ [], subst (λ (fs : List (List ℕ)). Obeys x fs text (c ∷ []) y) (sym is.0) does))
+
+pub steps_spell_schedules : StepsSpellSchedules
+steps_spell_schedules x [] z few each runs = ([], ap (λ (w : World). record x { world = w }) runs)
+steps_spell_schedules x (c ∷ cs) z few each runs =
+    let has : IsCpu x c = each 0 c (omega arith) in
+    let shape = turn_shape x.world runs.1 c runs.0 runs.2 in
+    let m : Scene = record x { world = runs.1 } in
+    let P : Shape → ℕ → Type 0 = λ h d. d < h.cpus in
+    let one = step_done x c runs.0 runs.1 (omega (arith, has)) has runs.2 in
+    let rest = steps_spell_schedules m cs z (omega (arith, ap (λ (h : Shape). h.cpus) shape))
+    (λ k d inside. subst (λ (h : Shape). P h (get_or cs k d)) (sym shape) (each (suc k) d (omega arith))) runs.3 in
+    (Ok one.0 ∷ rest.0, (m, one.1, rest.1))
+
+-- ---- the turns of a script
+both_run : (cs ds : List ℕ) (w m z : World) → RunsSchedule w cs m → RunsSchedule m ds z → RunsSchedule w (cs ++ ds) z
+both_run [] ds w m z a b = subst (λ (x : World). RunsSchedule x ds z) a b
+both_run (c ∷ cs) ds w m z a b = (a.0, a.1, a.2, both_run cs ds a.1 m z a.3 b)
+
+line_runs : (x y : Scene) (fields : List (List ℕ)) (text turns : List ℕ) → Obeys x fields text turns y → RunsSchedule x.world turns y.world
+line_runs x y [] text turns o = subst (λ (cs : List ℕ). RunsSchedule x.world cs y.world) (sym o.1.0) (ap (λ (z : Scene). z.world) o.1.1)
+line_runs x y (f ∷ fs) text turns o = follows_runs x o.0 text turns y o.2
+
+answer_runs : (x y : Scene) (line : List ℕ) (answer : Answer) → Answers x line answer y → (turns : List ℕ) × RunsSchedule x.world turns y.world
+answer_runs x y line (Ok text) a = (a.0, line_runs x y (fields_of line) text a.0 a.1)
+answer_runs x y line (Err e) a = ([], ap (λ (z : Scene). z.world) a.1)
+
+pub scripts_make_turns : ScriptsMakeTurns
+scripts_make_turns x y [] [] runs = ([], ap (λ (z : Scene). z.world) runs)
+scripts_make_turns x y [] (answer ∷ answers) runs = absurd runs
+scripts_make_turns x y (line ∷ lines) [] runs = absurd runs
+scripts_make_turns x y (line ∷ lines) (answer ∷ answers) runs =
+    let one = answer_runs x runs.0 line answer runs.1 in
+    let rest = scripts_make_turns runs.0 y lines answers runs.2 in
+    (one.0 ++ rest.0, both_run one.0 rest.0 x.world runs.0.world y.world one.1 rest.1)
