@@ -1,6 +1,11 @@
 //! The line of a job that has ended.
 
+ghost use Rattle.std.specs.Prelude.{◌≡◌, ◌++◌, OnOk, Some, string_bytes};
+ghost use Rattle.bpf_cpu.specs.Lines.{job_line};
+ghost use Rattle.bpf_jobs.specs.Printed.{is_stop};
+
 use bpf_cpu::Outcome;
+use std::alloc::{AllocError, Global};
 use std::fmt;
 
 /// How an outcome is told.
@@ -24,10 +29,10 @@ impl fmt::Display for OutcomeText {
 
 /// A job by its number, the CPU that ran it, and how it ended.
 #[derive(Drop)]
-pub(crate) struct JobLine {
-    pub job: usize,
-    pub cpu: u8,
-    pub outcome: Outcome,
+struct JobLine {
+    job: usize,
+    cpu: u8,
+    outcome: Outcome,
 }
 
 impl fmt::Display for JobLine {
@@ -44,5 +49,30 @@ impl fmt::Display for JobLine {
             self.cpu,
             OutcomeText(self.outcome)
         )
+    }
+}
+
+/// Puts the line of a job that has ended behind the text.
+pub fn push_job(
+    alloc: Global,
+    text: &mut String,
+    job: usize,
+    cpu: u8,
+    outcome: Outcome,
+) -> Result<(), AllocError>
+    ensures { OnOk result (string_bytes text.new
+        ≡ string_bytes text.old ++ job_line job cpu outcome) }
+{
+    let line = format!(in alloc; "{}", JobLine { job, cpu, outcome })?;
+    text.push_str(line.as_str())
+}
+
+/// Whether this is a fault or out of budget.
+pub fn is_stop(outcome: Outcome) -> bool
+    ensures { result ≡ is_stop (Some outcome) }
+{
+    match outcome {
+        Outcome::Fault(_, _) | Outcome::OutOfBudget(_) => true,
+        Outcome::Exit(_) => false,
     }
 }

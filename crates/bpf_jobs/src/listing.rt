@@ -4,13 +4,13 @@ ghost use Rattle.std.specs.Prelude.{◌≡◌, ◌++◌, IfOk, OnOk, length, sli
 ghost use Rattle.bpf_cpu.specs.Task.{outcome_at};
 ghost use Rattle.bpf_jobs.specs.Printed.{any_stopped, is_stop, job_lines, line_at};
 
-use crate::line::JobLine;
-use bpf_cpu::{Machine, Outcome};
+use crate::line::{is_stop, push_job};
+use bpf_cpu::Machine;
 use std::alloc::{AllocError, Global};
 
 /// Puts the line of a job behind the text, where the job has ended.
 #[tactic(auto, using(crate::proofs::LineLaws::no_cpu, crate::proofs::LineLaws::no_outcome, crate::proofs::LineLaws::has_ended))]
-fn push_job(
+fn push_ended(
     alloc: Global,
     text: &mut String,
     machine: &Machine,
@@ -25,8 +25,7 @@ fn push_job(
     let Some(outcome) = machine.outcome(job) else {
         return Ok(());
     };
-    let line = format!(in alloc; "{}", JobLine { job, cpu, outcome })?;
-    text.push_str(line.as_str())
+    push_job(alloc, text, job, cpu, outcome)
 }
 
 /// A line a job, in the order of the machine's list.
@@ -36,7 +35,7 @@ pub(crate) fn list_jobs(alloc: Global, machine: &Machine) -> Result<String, Allo
 {
     let mut text = String::new(alloc);
     for job in 0..machine.jobs() {
-        push_job(alloc, &mut text, machine, job)?;
+        push_ended(alloc, &mut text, machine, job)?;
     }
     Ok(text)
 }
@@ -46,8 +45,8 @@ fn has_stopped(machine: &Machine, job: usize) -> bool
     ensures { result ≡ is_stop (outcome_at machine.now.jobs job) }
 {
     match machine.outcome(job) {
-        Some(Outcome::Fault(_, _) | Outcome::OutOfBudget(_)) => true,
-        Some(Outcome::Exit(_)) | None => false,
+        Some(outcome) => is_stop(outcome),
+        None => false,
     }
 }
 

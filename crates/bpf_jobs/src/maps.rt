@@ -27,8 +27,8 @@ fn push_key(
     text.push_str(line.as_str())
 }
 
-/// Puts the lines of a map behind the text.
-fn push_map(
+/// Puts the lines of a map behind the text, of which these are the keys with their values.
+pub fn push_map(
     alloc: Global,
     text: &mut String,
     name: &str,
