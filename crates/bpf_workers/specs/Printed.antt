@@ -1,0 +1,32 @@
+-- What is printed of a run file whose jobs are run by workers. Our own choice.
+use Rattle.std.specs.Prelude.{ℕ, Bool, List, [], ◌∷◌}
+use Rattle.bpf_shared.specs.declared.events.Entry.{Entry}
+use Rattle.bpf_shared.specs.Shape.{Shape}
+use Rattle.bpf_shared.specs.Store.{Plain, as_made}
+use Rattle.bpf_shared.specs.History.{Legal}
+use Rattle.bpf_cpu.specs.declared.outcome.Outcome.{Outcome}
+use Rattle.bpf_cpu.specs.Task.{Task, Ended}
+use Rattle.bpf_jobs.specs.Printed.{Tells}
+use Rattle.bpf_file.specs.File.{File}
+use Rattle.bpf_sched.specs.Explained.{IsExplained}
+
+-- jobs that have ended so
+abbrev pub as_ended : List Task → List Outcome → List Task
+as_ended [] ends = []
+as_ended (task ∷ tasks) [] = []
+as_ended (task ∷ tasks) (end ∷ ends) = record task { stage = Ended end } ∷ as_ended tasks ends
+
+-- the store that a file asks for
+abbrev pub shape_of : File → Shape
+shape_of f = record { cpus = f.cpus; maps = f.maps }
+
+-- one history of the file's store, new, explains how all its jobs ended; the text has a line of each
+-- of them, in the file's order, and then, where they are asked for, the lines of the maps that this
+-- history leaves; and whether some job ended in a fault or out of budget
+pub record IsWorkersReport (f : File) (maps : Bool) (text : List ℕ) (stopped : Bool) : Type 0 where
+  pub ends : List Outcome
+  pub history : List Entry
+  pub last : Plain
+  pub explained : IsExplained (shape_of f) 0 f.programs f.jobs ends history
+  pub leads : Legal (as_made (shape_of f)) history last
+  pub tells : Tells last (as_ended f.jobs ends) f.names maps text stopped

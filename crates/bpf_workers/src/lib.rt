@@ -1,0 +1,7 @@
+//! The jobs of a run file by workers on threads, over the concurrent store: what is printed of them.
+#![tactic(auto)]
+
+mod telling;
+mod workers;
+
+pub use workers::{WorkError, run_by_workers};

@@ -1,0 +1,76 @@
+//! A run file by workers.
+
+ghost use Rattle.std.specs.Prelude.{◌≡◌, IfOk, string_bytes};
+ghost use Rattle.bpf_file.specs.File.{file_of};
+ghost use Rattle.bpf_file.specs.Runnable.{IsRunnable};
+ghost use Rattle.bpf_sched.specs.Refusing.{AreWorkers};
+ghost use Rattle.bpf_workers.specs.Printed.{IsWorkersReport};
+
+use crate::telling::tell;
+use bpf_file::RunFile;
+use bpf_jobs::Report;
+use bpf_sched::{NoGate, Refused, SchedError, run_jobs};
+use hop_map::HopStore;
+use std::alloc::Global;
+use std::sync::Wait;
+use std::thread::Threads;
+use thiserror::Error;
+
+/// Who found no memory.
+#[derive(Clone, Copy, PartialEq, Eq, Debug, Error)]
+pub enum WorkError {
+    /// What the jobs need, before the first of them began.
+    #[error("out of memory for the jobs")]
+    Jobs,
+    /// The store that the file asks for, or the answer.
+    #[error("out of memory")]
+    OutOfMemory,
+}
+
+/// Runs the jobs of a run file by so many workers, over a new store, and makes what is printed of
+/// them. Want of memory is the only refusal; all that the jobs need is there before the first begins.
+pub fn run_by_workers<R: Threads + Wait + Sync>(
+    rt: &R,
+    alloc: Global,
+    file: RunFile,
+    workers: u8,
+    maps: bool,
+) -> Result<Report, WorkError>
+    requires file { IsRunnable file }
+    requires workers { AreWorkers workers }
+    ensures { IfOk result (λ r. IsWorkersReport (file_of file) maps (string_bytes r.text) r.stopped) }
+{
+    let RunFile {
+        shape,
+        seed,
+        names,
+        programs,
+        jobs,
+    } = file;
+    let Ok(store) = HopStore::new(alloc, shape, seed) else {
+        return Err(WorkError::OutOfMemory);
+    };
+    let done = match run_jobs(
+        rt,
+        alloc,
+        store,
+        &programs,
+        &jobs,
+        usize::from(workers),
+        &NoGate,
+    ) {
+        Ok(done) => done,
+        Err(
+            Refused {
+                error: SchedError::OutOfMemory,
+                store: _,
+            },
+        ) => return Err(WorkError::Jobs),
+        // There are workers, not too many, and a file's jobs are on its CPUs.
+        Err(_) => unreachable!(),
+    };
+    match tell(alloc, &jobs, &done.outcomes, &done.closed, &names, maps) {
+        Ok(report) => Ok(report),
+        Err(_) => Err(WorkError::OutOfMemory),
+    }
+}
