@@ -13,10 +13,13 @@ pub record AreWorkers (workers : ℕ) : Type 0 where
 abbrev pub AreHere : ℕ → List Job → Type 0
 AreHere cpus jobs = All (λ job. job.cpu < cpus) jobs
 
+-- some job's CPU isn't
+abbrev pub HasOutside : ℕ → List Job → Type 0
+HasOutside cpus jobs = (job : Job) × (j : ℕ) × (slice_get jobs j ≡ Some job) × (cpus ≤ job.cpu)
+
 -- the first refusal that applies
 abbrev pub IsFirstRefusal : ℕ → ℕ → List Job → SchedError → Type 0
 IsFirstRefusal cpus workers jobs NoWorkers = workers ≡ 0
 IsFirstRefusal cpus workers jobs TooManyWorkers = 16 < workers
-IsFirstRefusal cpus workers jobs NoSuchCpu =
-    AreWorkers workers × ((job : Job) × (j : ℕ) × (slice_get jobs j ≡ Some job) × (cpus ≤ job.cpu))
+IsFirstRefusal cpus workers jobs NoSuchCpu = AreWorkers workers × HasOutside cpus jobs
 IsFirstRefusal cpus workers jobs OutOfMemory = AreWorkers workers × AreHere cpus jobs

@@ -1,13 +1,13 @@
 //! Jobs over a store, by workers.
 
-ghost use Rattle.std.specs.Prelude.{◌≡◌, ◌<◌, ◌≤◌, All, IfErr, IfOk, OnOk, length, map, vec_len};
+ghost use Rattle.std.specs.Prelude.{◌≡◌, ◌<◌, ◌≤◌, All, IfErr, IfOk, IsFalse, IsTrue, OnOk, length, map, vec_len};
 ghost use Rattle.bpf_mem.specs.Limits.{max_context};
 ghost use Rattle.bpf_shared.specs.History.{Legal};
 ghost use Rattle.bpf_shared.specs.Store.{Plain, as_made};
 ghost use Rattle.bpf_cpu.specs.Task.{waiting};
 ghost use Rattle.hop_map.specs.Dumping.{IsLast};
 ghost use Rattle.bpf_sched.specs.Explained.{IsExplained};
-ghost use Rattle.bpf_sched.specs.Refusing.{AreHere, AreWorkers, IsFirstRefusal};
+ghost use Rattle.bpf_sched.specs.Refusing.{AreHere, AreWorkers, HasOutside, IsFirstRefusal};
 
 use crate::crew::{Report, run_ports};
 use crate::gate::Gate;
@@ -23,6 +23,19 @@ use std::thread::Threads;
 /// At most: a store has no more CPUs.
 const MAX_WORKERS: usize = 16;
 
+/// Whether each job's CPU is one of so many.
+fn are_here(cpus: u8, jobs: &[Job]) -> bool
+    ensures here { IsTrue result → AreHere cpus jobs.now }
+    ensures outside { IsFalse result → HasOutside cpus jobs.now }
+{
+    for job in jobs {
+        if job.cpu >= cpus {
+            return false;
+        }
+    }
+    true
+}
+
 /// Why so many workers can't run these jobs on so many CPUs, but for want of memory.
 fn check(cpus: u8, workers: usize, jobs: &[Job]) -> Result<(), SchedError>
     ensures workers { OnOk result (AreWorkers workers) }
@@ -35,10 +48,8 @@ fn check(cpus: u8, workers: usize, jobs: &[Job]) -> Result<(), SchedError>
     if workers > MAX_WORKERS {
         return Err(SchedError::TooManyWorkers);
     }
-    for job in jobs {
-        if job.cpu >= cpus {
-            return Err(SchedError::NoSuchCpu);
-        }
+    if !are_here(cpus, jobs) {
+        return Err(SchedError::NoSuchCpu);
     }
     Ok(())
 }

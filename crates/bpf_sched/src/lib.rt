@@ -19,3 +19,6 @@ pub use refusal::{Refused, SchedError};
 pub use room::Room;
 pub use worker::Worker;
 pub use workload::Workload;
+
+#[cfg(test)]
+mod tests;

@@ -1,5 +1,5 @@
 use Rattle.bpf_sched.proofs.Refusing.{FirstAreHere}
-use Rattle.bpf_sched.proofs.jobs.check.Given as goal
+use Rattle.bpf_sched.proofs.jobs.are_here.Given as goal
 
 abbrev pub invariant-loop-job : goal.invariant-loop-job
 invariant-loop-job l = FirstAreHere l.cpus l.jobs l.job-index
