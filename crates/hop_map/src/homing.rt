@@ -6,7 +6,7 @@ ghost use Rattle.hop_words.specs.Homes.{segment_of};
 ghost use Rattle.hop_words.specs.Ghost.{shape_at, IsSegment};
 
 use bpf_shared::MapShape;
-use hop_words::{HopTable, elements, home, segments};
+use hop_words::{HopTable, elements, home};
 
 /// The home of a key and its segment; the size of the map's keys in bytes, and how many elements the
 /// map has.
@@ -41,7 +41,7 @@ pub(crate) fn homing(table: &HopTable, map: u8, key: &[u8]) -> KeyHome
     let home = home(key, table.about().seed, shape.mask);
     KeyHome {
         home,
-        segment: home % segments(&shape),
+        segment: table.segment_of(map, home),
         key_size: shape.key as usize,
         elements: elements(&shape),
     }

@@ -333,6 +333,7 @@ impl<'a> LockedWords<'a> {
         lane
     }
 
+    #[inline(always)]
     fn read(&mut self, place: Place) -> u64
         requires there { is_place self.old.about.shape place ≡ true }
         ensures value { IsGuarded self.old.about self.old.known place →
@@ -342,6 +343,7 @@ impl<'a> LockedWords<'a> {
         self.lane.read_guarded(self.table, place)
     }
 
+    #[inline(always)]
     fn write(&mut self, place: Place, number: u64)
         requires there { is_place self.old.about.shape place ≡ true }
         requires may { MayWrite self.old.about self.old.known place }

@@ -85,6 +85,7 @@ impl<'a> PeekedWords<'a> {
         (lane, last)
     }
 
+    #[inline(always)]
     fn read(&mut self, place: Place) -> u64
         requires there { is_place self.old.about.shape place ≡ true }
         ensures peeked { self.new ≡ peeked self.old place result }

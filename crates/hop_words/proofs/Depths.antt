@@ -52,3 +52,7 @@ depth_most g = below 10 64 g.max
 
 pub segments_are : (d : ℕ) → d ≤ 10 → 1 * 2 ^ d % 4294967296 ≡ power d
 segments_are d few = let p = power_is d in let m = low_power d few in omega arith
+
+pub some_power : (d : ℕ) → 0 < power d
+some_power zero = omega arith
+some_power (suc d) = let r = some_power d in omega arith

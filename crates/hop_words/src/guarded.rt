@@ -12,6 +12,7 @@ use std::marker::Brand;
 
 impl Lane {
     /// Reads any word. Where the lock guards it, it is the word as its holder knows it.
+    #[inline(always)]
     pub fn read_guarded(&mut self, table: &HopTable, place: Place) -> u64
         requires table { self.old.table ≡ table.now.id }
         requires there { is_place table.now.about.shape place ≡ true }
@@ -25,6 +26,7 @@ impl Lane {
     }
 
     /// Writes a word of the locked segment, or the link of an element there or in hand.
+    #[inline(always)]
     pub fn write_guarded(&mut self, table: &HopTable, place: Place, number: u64)
         requires table { self.old.table ≡ table.now.id }
         requires there { is_place table.now.about.shape place ≡ true }

@@ -1,6 +1,6 @@
 //! Where each word stands, as numbers that are computed once.
-ghost use Rattle.std.specs.Prelude.{◌≡◌, ◌+◌, ◌*◌, ◌<◌, ◌≤◌, ◌^◌, true, length, IfOk};
-ghost use Rattle.hop_words.specs.Layout.{is_place, at, line_rest, depth_from, segments, words_for as word_count};
+ghost use Rattle.std.specs.Prelude.{◌≡◌, ◌+◌, ◌*◌, ◌%◌, ◌<◌, ◌≤◌, ◌^◌, true, length, IfOk};
+ghost use Rattle.hop_words.specs.Layout.{is_place, at, line_rest, depth_from, segments, map_shape, words_for as word_count};
 ghost use Rattle.bpf_shared.specs.Shape.{IsMapShape, elements as element_count};
 ghost use Rattle.hop_words.specs.Index.{bases, bases_from, end_from};
 
@@ -10,7 +10,8 @@ use bpf_shared::MapShape;
 use std::alloc::{AllocError, Global};
 use std::marker::Model;
 
-/// Where a map's words begin, by their kinds, and the words of a key and of a value.
+/// Where a map's words begin, by their kinds, the words of a key and of a value, and how often the
+/// map's segments double.
 #[derive(Clone, Copy, Drop)]
 pub(crate) struct Bases {
     pub(crate) start: u32,
@@ -20,6 +21,7 @@ pub(crate) struct Bases {
     pub(crate) values: u32,
     pub(crate) key_words: u32,
     pub(crate) value_words: u32,
+    pub(crate) depth: u32,
 }
 
 /// Where the words of a store stand. It is seen as what the store was told when it was made.
@@ -136,6 +138,7 @@ fn lay_out(start: u32, shape: &MapShape) -> (Bases, u32)
         values,
         key_words,
         value_words,
+        depth: depth(shape.max),
     };
     (
         bases,
@@ -163,6 +166,7 @@ impl Index {
     }
 
     /// Where the word of a place stands.
+    #[inline(always)]
     #[tactic(auto, using(crate::proofs::Indexes::map_there))]
     pub fn word_of(&self, place: Place) -> usize
         requires there { is_place self.now.shape place ≡ true }
@@ -198,7 +202,18 @@ impl Index {
         }
     }
 
+    /// The number of the segment that a home lies in.
+    #[inline(always)]
+    pub(crate) fn segment_of(&self, map: u8, home: u32) -> u32
+        requires there { map < length self.now.shape.maps }
+        ensures segment { result ≡ home % segments (map_shape self.now.shape map) }
+        ensures inside { result < segments (map_shape self.now.shape map) }
+    {
+        home % (1 << self.bases(map).depth)
+    }
+
     // Where a map's words begin.
+    #[inline(always)]
     fn bases(&self, map: u8) -> Bases
         requires there { map < length self.now.shape.maps }
         ensures bases { result ≡ bases self.now.shape map }
@@ -207,6 +222,7 @@ impl Index {
     }
 
     // Where the words of a segment begin.
+    #[inline(always)]
     fn segment(&self, map: u8, segment: u32) -> usize
         requires there { is_place self.now.shape (Place.Stamp map segment) ≡ true }
         ensures word { result ≡ at self.now.shape (Place.Stamp map segment) }

@@ -51,6 +51,7 @@ impl<E: Tell> Play<(), View> for Told<E> {
 
 // Each takes what its kind says besides, which the choice of what it tells may name.
 impl Lane {
+    #[inline(always)]
     pub(crate) fn load_by<E: Tell, T: Copy>(
         &mut self,
         table: &HopTable,
@@ -67,6 +68,7 @@ impl Lane {
         table.table.shared.load::<Told<E>>(&mut self.seat, word)
     }
 
+    #[inline(always)]
     pub(crate) fn store_by<E: Tell, T: Copy>(
         &mut self,
         table: &HopTable,
@@ -88,6 +90,7 @@ impl Lane {
             .store::<Told<E>>(&mut self.seat, word, new);
     }
 
+    #[inline(always)]
     pub(crate) fn exchange_by<E: Tell, T: Copy>(
         &mut self,
         table: &HopTable,
@@ -110,6 +113,7 @@ impl Lane {
             .compare_exchange::<Told<E>>(&mut self.seat, word, old, new)
     }
 
+    #[inline(always)]
     pub(crate) fn and_by<E: Tell, T: Copy>(
         &mut self,
         table: &HopTable,
@@ -131,6 +135,7 @@ impl Lane {
             .fetch_and::<Told<E>>(&mut self.seat, word, mask)
     }
 
+    #[inline(always)]
     pub(crate) fn or_by<E: Tell, T: Copy>(
         &mut self,
         table: &HopTable,
@@ -152,6 +157,7 @@ impl Lane {
             .fetch_or::<Told<E>>(&mut self.seat, word, mask)
     }
 
+    #[inline(always)]
     pub(crate) fn xor_by<E: Tell, T: Copy>(
         &mut self,
         table: &HopTable,
@@ -173,6 +179,7 @@ impl Lane {
             .fetch_xor::<Told<E>>(&mut self.seat, word, mask)
     }
 
+    #[inline(always)]
     pub(crate) fn swap_by<E: Tell, T: Copy>(
         &mut self,
         table: &HopTable,
@@ -193,6 +200,7 @@ impl Lane {
             .swap::<Told<E>>(&mut self.seat, word, new)
     }
 
+    #[inline(always)]
     pub(crate) fn add_by<E: Tell, T: Copy>(
         &mut self,
         table: &HopTable,

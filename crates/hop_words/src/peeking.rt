@@ -13,6 +13,7 @@ use std::marker::Brand;
 impl Lane {
     /// A segment's stamp. An unlocked one begins a reading of the segment, a locked one is a
     /// disturbed reading.
+    #[inline(always)]
     pub fn see_stamp(&mut self, table: &HopTable, map: u8, segment: u32) -> u64
         requires table { self.old.table ≡ table.now.id }
         requires inside { IsSegment table.now.about map segment }
@@ -23,6 +24,7 @@ impl Lane {
     }
 
     /// Any word, which others may be writing. What it was is noted with the reading.
+    #[inline(always)]
     pub fn peek(&mut self, table: &HopTable, place: Place) -> u64
         requires table { self.old.table ≡ table.now.id }
         requires there { is_place table.now.about.shape place ≡ true }
@@ -36,6 +38,7 @@ impl Lane {
 
     /// The segment's stamp again, where all that was read shows what the key leads to. The same
     /// stamp answers a lookup of the key, any other is a disturbed reading.
+    #[inline(always)]
     pub fn see_stamp_again(
         &mut self,
         table: &HopTable,

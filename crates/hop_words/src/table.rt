@@ -37,8 +37,9 @@ impl Model for HopTable {
 }
 
 impl HopTable {
-    ghost use Rattle.std.specs.Prelude.{◌≡◌, true};
-    ghost use Rattle.hop_words.specs.Layout.{is_place, at};
+    ghost use Rattle.std.specs.Prelude.{◌≡◌, ◌<◌, ◌%◌, true, length};
+    ghost use Rattle.hop_words.specs.Ghost.{shape_at};
+    ghost use Rattle.hop_words.specs.Layout.{is_place, at, segments};
 
     /// What the store was told when it was made.
     pub fn about(&self) -> &About
@@ -47,7 +48,18 @@ impl HopTable {
         &self.index.about
     }
 
+    /// The number of the segment of a map that a home lies in.
+    #[inline(always)]
+    pub fn segment_of(&self, map: u8, home: u32) -> u32
+        requires map { map < length self.now.about.shape.maps }
+        ensures segment { result ≡ home % segments (shape_at self.now.about map) }
+        ensures inside { result < segments (shape_at self.now.about map) }
+    {
+        self.index.segment_of(map, home)
+    }
+
     // Where the word of a place stands.
+    #[inline(always)]
     pub(crate) fn word_of(&self, place: Place) -> usize
         requires there { is_place self.now.about.shape place ≡ true }
         ensures word { result ≡ at self.now.about.shape place }
