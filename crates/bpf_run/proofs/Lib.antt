@@ -1,6 +1,7 @@
 pub mod KnownBytes
 pub mod ReplyLemmas
 pub mod OneReply
+pub mod OneDebug
 pub mod Followed
 pub mod FreshFiles
 pub mod Cutting

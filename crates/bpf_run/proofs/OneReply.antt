@@ -31,7 +31,9 @@ use Rattle.bpf_file.specs.Reading.{IsRunFile}
 use Rattle.bpf_file.specs.Laws.{FilesAreDetermined, FilesCanRun}
 use Rattle.bpf_jobs.specs.Laws.{ReportsAreDetermined}
 use Rattle.bpf_jobs.specs.Printed.{IsReport}
+use Rattle.bpf_debug.specs.Laws.{ScriptsAreDetermined}
 use Rattle.bpf_run.proofs.FreshFiles.{fresh}
+use Rattle.bpf_run.proofs.OneDebug.{one_debug}
 use Rattle.bpf_run.specs.Answer.{jobs_status, status_of, reply_text}
 use Rattle.bpf_run.specs.Commands.{IsAnswer, IsAssembled, IsDisassembled, IsReply, IsRun, IsRunOfFile, IsWordsOf, RefusesAssembly, RefusesInput, RefusesProgram, RefusesWords}
 use Rattle.bpf_run.specs.Script.{first_of}
@@ -163,7 +165,7 @@ of_input c input r (inl refused) n =
     subst (OfInput c input) (sym refused.1) made
 of_input c input r (inr answered) n = Answered r answered.0 answered.1 answered.2
 
-module _ (words : WordsAreDetermined) (encodings : EncodingsAreDetermined) (refusals : RefusalsAreDetermined) (firsts : FirstIsDetermined) (texts : TextsAreDetermined) (outcomes : OutcomesAreDetermined) (events : NoMapsNoEvents) (files : FilesAreDetermined) (runs : FilesCanRun) (reports : ReportsAreDetermined) where
+module _ (words : WordsAreDetermined) (encodings : EncodingsAreDetermined) (refusals : RefusalsAreDetermined) (firsts : FirstIsDetermined) (texts : TextsAreDetermined) (outcomes : OutcomesAreDetermined) (events : NoMapsNoEvents) (files : FilesAreDetermined) (runs : FilesCanRun) (reports : ReportsAreDetermined) (scripts : ScriptsAreDetermined) where
   same_bytes : (text xs ys : List ℕ) → IsHexOf text xs → IsHexOf text ys → xs ≡ ys
   same_bytes text xs ys a b = cc
 
@@ -248,7 +250,7 @@ module _ (words : WordsAreDetermined) (encodings : EncodingsAreDetermined) (refu
   one_answer command.Asm text r s h a b n m = one_assembly text r s (of_assembly text r a n) (of_assembly text s b m)
   one_answer command.Disasm text r s h a b n m = one_listing text r s (of_listing text r a n) (of_listing text s b m)
   one_answer (command.Run maps) text r s h a b n m = one_file maps text r s (of_file maps text r a n) (of_file maps text s b m)
-  one_answer command.Debug text r s h a b n m = absurd h
+  one_answer command.Debug text r s h a b n m = one_debug files runs scripts text r s a b n m
 
   one_input : (c : Command) (input : List ℕ) (r s : Reply) → HasShortContext c → OfInput c input r → OfInput c input s → IsOfInput r → IsOfInput s → PrintsAs r s
   one_input c input r s h (TooLong long) (TooLong more) n m = prints r s refl

@@ -1,9 +1,11 @@
 -- What follows from the definitions: what a command prints is a function of the bytes that it reads.
-use Rattle.std.specs.Prelude.{◌≡◌, ℕ, ◌≤◌, List, length}
+use Rattle.std.specs.Prelude.{◌≡◌, ℕ, ◌≤◌, List, length, map}
 use Rattle.bpf_insn.specs.declared.error.InsnError.TheVariants as insn_error
 use Rattle.bpf_loader.specs.declared.refusal.LoadError.TheVariants as load_error
 use Rattle.bpf_text.specs.declared.error.TextError.TheVariants as text_error
 use Rattle.bpf_mem.specs.Limits.{max_context}
+use Rattle.bpf_debug.specs.Laws.{HadMemory}
+use Rattle.bpf_debug.specs.Script.{answer_of}
 use Rattle.bpf_run.specs.Answer.{status_of, reply_text}
 use Rattle.bpf_run.specs.Commands.{IsReply}
 use Rattle.bpf_command.specs.declared.command.Command.{Command}
@@ -24,15 +26,15 @@ IsForAnyInput (refusal.Load load_error.OutOfMemory) = Unit {0}
 IsForAnyInput refusal.OutOfMemory = Unit {0}
 IsForAnyInput _ = ⊥
 
--- the reply is of the input
+-- the reply is of the input: no read failed, and memory was refused for no part of it
 abbrev pub IsOfInput : Reply → Type 0
 IsOfInput (reply.Refused r) = ¬ IsForAnyInput r
+IsOfInput (reply.Script answers stopped) = HadMemory (map answer_of answers.items)
 IsOfInput _ = Unit {0}
 
--- the context has its greatest length at most; of `debug` nothing is said here
+-- the context has its greatest length at most
 abbrev pub HasShortContext : Command → Type 0
 HasShortContext (command.Hex options) = length options.context.items ≤ max_context
-HasShortContext command.Debug = ⊥
 HasShortContext _ = Unit {0}
 
 -- replies of one input print one text, with one exit status

@@ -17,4 +17,5 @@ pub fn replies_are_determined()
     bpf_file::laws::files_are_determined();
     bpf_file::laws::files_can_run();
     bpf_jobs::laws::reports_are_determined();
+    bpf_debug::laws::scripts_are_determined();
 }
