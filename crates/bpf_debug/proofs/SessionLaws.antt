@@ -46,18 +46,18 @@ pub alone : (room last text : List ℕ) → room ≡ [] → last ≡ room ++ tex
 alone room last text empty e = e ∙ ap (λ (s : List ℕ). s ++ text) empty
 
 module _ (m : MachineState) (names : List (List ℕ)) (breaks : List Breakpoint) where
-  pub stepped : (n : MachineState) (c : ℕ) (answer : Turn) (room mid last : List ℕ) → has_cpu m.store c ≡ true
+  pub stepped : (n : MachineState) (c : ℕ) (answer : Turn) (room place last : List ℕ) → has_cpu m.store c ≡ true → room ≡ []
       → ((w : World) → Shows m w → (z : World) × TakesTurn w c answer z × Shows n z)
-      → room ≡ [] → mid ≡ room ++ ended_text c answer → ((text : List ℕ) × IsWhere n.jobs c text × (last ≡ mid ++ text))
+      → IsWhere n.jobs c place → last ≡ (room ++ ended_text c answer) ++ place
       → Leaves (record { machine = m; names = names; breaks = breaks }) (Step (Some c)) last (record { machine = n; names = names; breaks = breaks })
-  stepped n c answer room mid last has turns empty first place x shown =
+  stepped n c answer room place last has empty turns stands put x shown =
       let t = turns x.world shown.world in
-      let J : List Task → Type 0 = λ jobs. IsWhere jobs c place.0 in
-      let whole : last ≡ ended_text c answer ++ place.0 = place.2 ∙ ap (λ (s : List ℕ). s ++ place.0) (alone room mid (ended_text c answer) empty first) in
+      let J : List Task → Type 0 = λ jobs. IsWhere jobs c place in
+      let whole : last ≡ ended_text c answer ++ place = put ∙ ap (λ (s : List ℕ). (s ++ ended_text c answer) ++ place) empty in
       let y : Scene = record x { world = t.0 } in (
         y,
         c ∷ [],
-        (is_cpu m x.world c has shown.world, (answer, t.0, place.0, t.1, subst J (sym t.2.jobs) place.1, whole, refl, refl)),
+        (is_cpu m x.world c has shown.world, (answer, t.0, place, t.1, subst J (sym t.2.jobs) stands, whole, refl, refl)),
         record { world = t.2; names = shown.names; breaks = shown.breaks },
       )
 

@@ -1,6 +1,6 @@
 //! What `go` does: rounds of turns, up to a breakpoint or until no work is left.
 
-ghost use Rattle.std.specs.Prelude.{◌≡◌, ◌+◌, ◌*◌, ◌≤◌, ◌<◌, ◌++◌, ◌⊎◌, ◌↔◌, IsTrue, IfSome, IfNone, List, ℕ, [], true, false, length, string_bytes, string_capacity, string_len};
+ghost use Rattle.std.specs.Prelude.{◌≡◌, ◌+◌, ◌*◌, ◌≤◌, ◌<◌, ◌++◌, ◌⊎◌, ◌↔◌, IsTrue, IfSome, IfNone, List, ℕ, [], true, false, length, slice_index_or, string_bytes, string_capacity, string_len};
 ghost use Rattle.bpf_cpu.specs.Schedule.{World};
 ghost use Rattle.bpf_cpu.specs.Machine.{Shows};
 ghost use Rattle.bpf_cpu.specs.Task.{IsFree, NoneWaits};
@@ -42,7 +42,7 @@ pub fn next_up(machine: &Machine, from: u8) -> Option<u8>
 }
 
 /// The pc at which a CPU stands, where that is a breakpoint of it.
-pub fn stop_at(machine: &Machine, breakpoints: &[Breakpoint], cpu: u8) -> Option<u32>
+fn stop_at(machine: &Machine, breakpoints: &[Breakpoint], cpu: u8) -> Option<u32>
     requires { HasWork machine.now.jobs cpu }
     ensures stop { IfSome result (λ p. StandsAt machine.now.jobs cpu p
         × (has_break breakpoints.now cpu p ≡ true)) }
@@ -61,6 +61,26 @@ pub fn stop_at(machine: &Machine, breakpoints: &[Breakpoint], cpu: u8) -> Option
     }
 }
 
+/// The pc before which a CPU stops: that of a breakpoint at which it stands, where it has made a turn.
+fn stop_before(
+    machine: &Machine,
+    breakpoints: &[Breakpoint],
+    gone: &[bool; 256],
+    cpu: u8,
+) -> Option<u32>
+    requires { HasWork machine.now.jobs cpu }
+    ensures stop { IfSome result (λ p. (slice_index_or gone.now cpu false ≡ true)
+        × StandsAt machine.now.jobs cpu p × (has_break breakpoints.now cpu p ≡ true)) }
+    ensures free { IfNone result ((slice_index_or gone.now cpu false ≡ false)
+        ⊎ ((p : ℕ) × StandsAt machine.now.jobs cpu p × (has_break breakpoints.now cpu p ≡ false))) }
+{
+    if gone[cpu as usize] {
+        stop_at(machine, breakpoints, cpu)
+    } else {
+        None
+    }
+}
+
 /// All turns of a `go`, with the lines of the jobs that end and the last line.
 pub fn go(machine: &mut Machine, breakpoints: &[Breakpoint], out: &mut String)
     requires shown { (w : World) × Shows machine.old w }
@@ -74,11 +94,9 @@ pub fn go(machine: &mut Machine, breakpoints: &[Breakpoint], out: &mut String)
     let mut gone = [false; 256];
     let mut from = 0;
     while let Some(cpu) = next_up(machine, from) {
-        if gone[cpu as usize] {
-            if let Some(pc) = stop_at(machine, breakpoints, cpu) {
-                put_stop(out, cpu, pc);
-                return;
-            }
+        if let Some(pc) = stop_before(machine, breakpoints, &gone, cpu) {
+            put_stop(out, cpu, pc);
+            return;
         }
         let turn = machine.turn(cpu);
         put_ended(out, cpu, turn);

@@ -1,9 +1,12 @@
 //! A session: a machine with its breakpoints, and what commands do to it.
 
-ghost use Rattle.std.specs.Prelude.{◌≡◌, ℕ, List, ◌<◌, ◌↔◌, IsTrue, true, false, IfOk, IfErr, OnErr, IfSome, IfNone, Some, [], map, length, string_bytes, string_len, string_capacity, ◌+◌, ◌*◌, ◌≤◌};
+ghost use Rattle.std.specs.Prelude.{◌≡◌, ℕ, List, ◌<◌, ◌↔◌, IsTrue, true, false, IfOk, IfErr, OnErr, IfSome, IfNone, Some, [], map, length, string_bytes, string_len, string_capacity, ◌+◌, ◌*◌, ◌++◌, ◌≤◌};
 ghost use Rattle.bpf_text.specs.Lines.{fields_of};
 ghost use Rattle.bpf_loader.specs.Loaded.{Loaded};
 ghost use Rattle.bpf_shared.specs.Contents.{has_cpu};
+ghost use Rattle.bpf_cpu.specs.Machine.{Shows};
+ghost use Rattle.bpf_cpu.specs.Schedule.{World, TakesTurn};
+ghost use Rattle.bpf_debug.specs.Answer.{IsWhere, ended_text};
 ghost use Rattle.bpf_debug.specs.Command.{Order, said_by};
 ghost use Rattle.bpf_debug.specs.Session.{IsPc};
 
@@ -14,7 +17,7 @@ use crate::going;
 use crate::lines::{LINE, put_break, put_ended, put_off, put_registers, put_where};
 use crate::maps::{map_lines, map_named};
 use crate::reading::bytes_line;
-use bpf_cpu::Machine;
+use bpf_cpu::{Machine, Turn};
 use bpf_loader::Program;
 use bpf_text::lines;
 use std::alloc::Global;
@@ -66,6 +69,19 @@ fn make_room(alloc: Global, lines: usize) -> Option<String>
         Ok(room) => Some(room),
         Err(_) => None,
     }
+}
+
+/// One turn of a CPU, with the line of the job that it ends and that of where the CPU stands then.
+fn take_turn(machine: &mut Machine, cpu: u8, out: &mut String)
+    requires { string_len out.old + 256 ≤ string_capacity out.old }
+    ensures { (answer : Turn) × (place : List ℕ)
+        × ((w : World) → Shows machine.old w → (z : World) × TakesTurn w cpu answer z × Shows machine.new z)
+        × IsWhere machine.new.jobs cpu place
+        × (string_bytes out.new ≡ (string_bytes out.old ++ ended_text cpu answer) ++ place) }
+{
+    let turn = machine.turn(cpu);
+    put_ended(out, cpu, turn);
+    put_where(out, machine, cpu);
 }
 
 impl Session {
@@ -123,9 +139,7 @@ impl Session {
         let Some(mut out) = make_room(alloc, 2) else {
             return Err(DebugError::OutOfMemory);
         };
-        let turn = self.machine.turn(cpu);
-        put_ended(&mut out, cpu, turn);
-        put_where(&mut out, &self.machine, cpu);
+        take_turn(&mut self.machine, cpu, &mut out);
         Ok(out)
     }
 

@@ -1,10 +1,9 @@
-use Rattle.std.proofs.Common.{◌≡◌, ℕ, ◌+◌, true, false, List, length, get_or, inl, inr, ◌⊎◌, refl, sym, subst, ◌∙◌, arith}
+use Rattle.std.proofs.Common.{◌≡◌, ℕ, ◌+◌, true, false, List, length, get_or, ◌⊎◌, refl, sym, subst, ◌∙◌, arith}
 use Rattle.std.specs.Prelude.{string_bytes, string_len, string_capacity, slice_set}
 use Rattle.std.proofs.lemmas.List.{length-set}
 use Rattle.bpf_debug.specs.Go.{AreIdle, StandsAt, has_break}
 use Rattle.bpf_debug.proofs.GoLaws.{Comes, Ends, starts, turned, ended, stopped, falls, fewer, not_idle, room_left, none_is}
 use Rattle.bpf_debug.proofs.going.go.Goals as goal
-use Rattle.bpf_debug.proofs.going.go.Goals.{then-gone-cpu+in_default-stop_at, else-gone-cpu}
 
 pub loop-cpu-init : goal.loop-cpu-init
 loop-cpu-init c = record {
@@ -13,8 +12,8 @@ loop-cpu-init c = record {
   size = refl;
 }
 
-pub returns-in-Some-stop_at : goal.returns-in-Some-stop_at
-returns-in-Some-stop_at c =
+pub returns-in-Some-stop_before : goal.returns-in-Some-stop_before
+returns-in-Some-stop_before c =
     let breaks = c.args.breakpoints.now in
     let old = c.args.machine.now in
     let new = c.loop-cpu.machine in
@@ -22,7 +21,7 @@ returns-in-Some-stop_at c =
     let after = string_bytes c.loop-cpu.out in
     let E : List ℕ → Type 0 = Ends breaks old new before c.loop-cpu.from c.loop-cpu.gone after c.loop-cpu.invariant.comes in
     let small = c.in-Some.ensures.few in
-    subst E (sym c.put_stop.ensures) (stopped breaks old new before c.loop-cpu.from c.loop-cpu.gone after c.loop-cpu.invariant.comes c.in-Some.cpu c.in-Some-stop_at.pc (omega arith) c.in-Some.ensures.up c.if-gone-cpu.true c.in-Some-stop_at.ensures.stop.0 c.in-Some-stop_at.ensures.stop.1)
+    subst E (sym c.put_stop.ensures) (stopped breaks old new before c.loop-cpu.from c.loop-cpu.gone after c.loop-cpu.invariant.comes c.in-Some.cpu c.in-Some-stop_before.pc (omega arith) c.in-Some.ensures.up c.in-Some-stop_before.ensures.stop.0 c.in-Some-stop_before.ensures.stop.1 c.in-Some-stop_before.ensures.stop.2)
 
 pub loop-cpu-smaller : goal.loop-cpu-smaller
 loop-cpu-smaller c =
@@ -53,10 +52,9 @@ loop-cpu-preserved c =
     let comes = c.loop-cpu.invariant.comes in
     let small = c.in-Some.ensures.few in
     let size = c.loop-cpu.invariant.size in
-    let may : (get_or marks cpu false ≡ false) ⊎ ((p : ℕ) × StandsAt new.jobs cpu p × (has_break breaks cpu p ≡ false)) = elim c.if-gone-cpu.branch [
-      | then-gone-cpu+in_default-stop_at w ↦ inr (none_is _ w.stop_at.result w.stop_at.ensures.free w.in_default-stop_at.not-Some)
-      | else-gone-cpu w ↦ inl w.if-gone-cpu.false
-    ] in
+    let may : (get_or marks cpu false ≡ false) ⊎ ((p : ℕ) × StandsAt new.jobs cpu p × (has_break breaks cpu p ≡ false)) =
+    none_is _ c.stop_before.result c.stop_before.ensures.free c.in_default-stop_before.not-Some
+    in
     let fall = falls c.turns_fall.ensures breaks old new next before after c.loop-cpu.from marks cpu c.turn-turn.result w shows comes c.turn-turn.ensures.turn in
     let works = not_idle breaks old new next before after c.loop-cpu.from marks cpu c.turn-turn.result w shows comes c.in-Some.ensures.up.works c.turn-turn.ensures.turn in
     let T : List ℕ → Type 0 = λ s. Comes breaks old before next (cpu + 1) (slice_set marks cpu true) s in

@@ -7,14 +7,15 @@ use Rattle.bpf_debug.proofs.SessionLaws.{stepped}
 use Rattle.bpf_debug.proofs.session.Session.step_at.Goals as goal
 
 pub invariant_of-self : goal.invariant_of-self
-invariant_of-self c = let t = c.turn-turn.ensures.turn c.self.invariant.0 c.self.invariant.1 in (t.0, t.2)
+invariant_of-self c = let t = c.take_turn.ensures.2 c.self.invariant.0 c.self.invariant.1 in (t.0, t.2)
 
 pub returns-clause-answered : goal.returns-clause-answered
 returns-clause-answered c =
     let m = c.self.inside in
     let names : List (List ℕ) = map (λ n. string_bytes n) m.names.items in
-    let n = c.turn-turn.new.self in
-    let last = string_bytes c.put_where.new.out in
+    let n = c.take_turn.new.machine in
+    let t = c.take_turn.ensures in
+    let last = string_bytes c.take_turn.new.out in
     let P : SessionState → Type 0 = λ s. Leaves s (Step (Some c.args.cpu)) last (record { machine = n; names = names; breaks = m.breakpoints.items }) in
     let H : SessionState → Type 0 = λ s. has_cpu s.machine.store c.args.cpu ≡ true in
-    subst P c.self.view_is (stepped m.machine names m.breakpoints.items n c.args.cpu c.turn-turn.result (string_bytes c.in-Some.out) (string_bytes c.put_ended.new.out) last (subst H (sym c.self.view_is) c.requires) c.turn-turn.ensures.turn c.in-Some.ensures.empty c.put_ended.ensures.text c.put_where.ensures.text)
+    subst P c.self.view_is (stepped m.machine names m.breakpoints.items n c.args.cpu t.0 (string_bytes c.in-Some.out) t.1 last (subst H (sym c.self.view_is) c.requires) c.in-Some.ensures.empty t.2 t.3 t.4)
