@@ -32,11 +32,22 @@ explained = record (new_rule (codes "explain")) {
 abbrev pub hex : App
 hex = with_rule (with_rule (with_rule (new_app (codes "hex")) explained) budget) context
 
+-- `--listing`
+abbrev pub listing : Rule
+listing = record (new_rule (codes "listing")) {
+  long = Some (codes "listing");
+  action = Some SetTrue;
+}
+
 abbrev pub asm : App
-asm = with_rule (new_app (codes "asm")) explained
+asm = with_rule (with_rule (new_app (codes "asm")) explained) listing
+
+-- `--pc`
+abbrev pub pc : Rule
+pc = record (new_rule (codes "pc")) { long = Some (codes "pc"); action = Some SetTrue }
 
 abbrev pub disasm : App
-disasm = with_rule (new_app (codes "disasm")) explained
+disasm = with_rule (with_rule (new_app (codes "disasm")) explained) pc
 
 -- `--maps`
 abbrev pub maps : Rule

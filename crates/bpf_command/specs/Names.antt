@@ -32,8 +32,10 @@ Names None _ = ⊥
 Names (Some found) (command.Hex options) = (found.0 ≡ codes "hex")
     × NamesBudget found.1 options.budget
     × IsContext (first_of (codes "ctx") found.1) options.context.items
-Names (Some found) command.Asm = found.0 ≡ codes "asm"
-Names (Some found) command.Disasm = found.0 ≡ codes "disasm"
+Names (Some found) (command.Asm listing) = (found.0 ≡ codes "asm")
+    × (listing ≡ is_given (codes "listing") found.1)
+Names (Some found) (command.Disasm pc) = (found.0 ≡ codes "disasm")
+    × (pc ≡ is_given (codes "pc") found.1)
 Names (Some found) (command.Run maps) = (found.0 ≡ codes "run")
     × (maps ≡ is_given (codes "maps") found.1)
 Names (Some found) command.Debug = found.0 ≡ codes "debug"

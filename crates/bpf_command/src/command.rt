@@ -24,10 +24,11 @@ pub struct RunOptions {
 pub enum Command {
     /// Run a program given as hex digits.
     Hex(RunOptions),
-    /// Assembly text to words in hex digits.
-    Asm,
-    /// Words in hex digits to assembly text.
-    Disasm,
+    /// Assembly text to words in hex digits, or to itself with the pcs and words of its lines.
+    Asm { listing: bool },
+    /// Words in hex digits to assembly text, with the pcs and words of its lines where that is
+    /// asked for.
+    Disasm { pc: bool },
     /// Run the jobs of a run file, and print the maps afterwards where that is asked for.
     Run { maps: bool },
     /// Run the jobs of a run file by commands, and show what they ask for.

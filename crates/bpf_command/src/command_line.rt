@@ -121,8 +121,12 @@ fn named(alloc: Global, name: &str, options: &ArgMatches) -> Result<Command, Com
 {
     match name {
         "hex" => hex_of(alloc, options),
-        "asm" => Ok(Command::Asm),
-        "disasm" => Ok(Command::Disasm),
+        "asm" => Ok(Command::Asm {
+            listing: is_given(options, "listing"),
+        }),
+        "disasm" => Ok(Command::Disasm {
+            pc: is_given(options, "pc"),
+        }),
         "run" => Ok(Command::Run {
             maps: is_given(options, "maps"),
         }),

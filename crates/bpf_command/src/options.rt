@@ -3,7 +3,7 @@
 ghost use Rattle.std.specs.Prelude.{◌≡◌, false, IfOk};
 ghost use Rattle.clap.specs.Words.{app_of, rule_of, shape_of};
 ghost use Rattle.clap.specs.declared.builder.command.Command.TheViews.{out-Command as fields_of};
-ghost use Rattle.bpf_command.specs.CommandLine.{asm, bare, budget, code, context, debug, disasm, ebpf, explain, explained, hex, maps, one_program, run, working};
+ghost use Rattle.bpf_command.specs.CommandLine.{asm, bare, budget, code, context, debug, disasm, ebpf, explain, explained, hex, listing, maps, one_program, pc, run, working};
 
 use crate::command::MAX_BUDGET;
 use clap::{Arg, ArgAction, Command, value_parser};
@@ -21,13 +21,23 @@ const ASM_NOTES: &str = "\
 The text is read from standard input, as in
   $ printf 'r0 = 5\\nexit\\n' | ebpf asm
   b700000005000000
-  9500000000000000";
+  9500000000000000
+  $ printf 'r0 = 5\\nexit\\n' | ebpf asm --listing
+  r0 = 5 ; 0: b700000005000000
+  exit ; 1: 9500000000000000
+
+What --listing and 'ebpf disasm --pc' print is assembly text again. A pc counts words from 0.";
 
 const DISASM_NOTES: &str = "\
 The digits are read from standard input, as in
   $ echo 'b700000005000000 9500000000000000' | ebpf disasm
   r0 = 5
-  exit";
+  exit
+  $ echo 'b700000005000000 9500000000000000' | ebpf disasm --pc
+  r0 = 5 ; 0: b700000005000000
+  exit ; 1: 9500000000000000
+
+A pc counts words of 8 bytes from 0.";
 
 const RUN_NOTES: &str = "\
 Each CPU that has work makes one turn, in rising order, until none has work. Then a line a job is
@@ -117,6 +127,26 @@ fn hex_command<'a>(alloc: Global) -> Result<Command<'a>, AllocError>
         .arg(context_option(alloc))
 }
 
+fn listing_option<'a>(alloc: Global) -> Arg<'a>
+    ensures rule { rule_of result ≡ listing }
+    ensures own { result.global ≡ false }
+{
+    Arg::new(alloc, "listing")
+        .long("listing")
+        .action(ArgAction::SetTrue)
+        .help("Prints the text with the pc and the words of each line behind it, as a comment")
+}
+
+fn pc_option<'a>(alloc: Global) -> Arg<'a>
+    ensures rule { rule_of result ≡ pc }
+    ensures own { result.global ≡ false }
+{
+    Arg::new(alloc, "pc")
+        .long("pc")
+        .action(ArgAction::SetTrue)
+        .help("Prints the pc and the words of each line behind it, as a comment")
+}
+
 fn asm_command<'a>(alloc: Global) -> Result<Command<'a>, AllocError>
     ensures shape { IfOk result (λ c. shape_of c ≡ asm.top) }
     ensures own { IfOk result (λ c. (fields_of c).has_globals ≡ false) }
@@ -124,7 +154,8 @@ fn asm_command<'a>(alloc: Global) -> Result<Command<'a>, AllocError>
     Command::new(alloc, "asm")
         .about("Turns assembly text into words, one line of 16 hex digits a word")
         .after_help(ASM_NOTES)
-        .arg(explain_option(alloc))
+        .arg(explain_option(alloc))?
+        .arg(listing_option(alloc))
 }
 
 fn disasm_command<'a>(alloc: Global) -> Result<Command<'a>, AllocError>
@@ -134,7 +165,8 @@ fn disasm_command<'a>(alloc: Global) -> Result<Command<'a>, AllocError>
     Command::new(alloc, "disasm")
         .about("Turns words given as hex digits into assembly text")
         .after_help(DISASM_NOTES)
-        .arg(explain_option(alloc))
+        .arg(explain_option(alloc))?
+        .arg(pc_option(alloc))
 }
 
 fn maps_option<'a>(alloc: Global) -> Arg<'a>
