@@ -1,5 +1,5 @@
 -- A text without its last byte, a line feed.
-use Rattle.std.proofs.Common.{◌≡◌, ◌≤◌, ◌<◌, ◌-◌, ◌+◌, ◌∙◌, List, ℕ, [], ◌∷◌, ◌++◌, length, take, arith, sym, refl, subst, slice_index}
+use Rattle.std.proofs.Common.{◌≡◌, ◌-◌, List, ℕ, [], ◌∷◌, ◌++◌, length, take, arith, sym, subst, slice_index}
 use Rattle.std.specs.String.Boundary.{IsSplitPoint}
 use Rattle.std.proofs.lemmas.List.{get_or_at, length_push, take_at}
 

@@ -1,1 +1,4 @@
 pub mod Ends
+pub mod FirstLines
+pub mod SourceLines
+pub mod OneListing

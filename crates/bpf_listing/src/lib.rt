@@ -1,6 +1,10 @@
 //! Programs as listings: lines with the places and the words of their instructions.
 #![tactic(auto)]
 
+pub mod laws;
+mod place;
 pub mod program;
+pub mod source;
 
 pub use program::program_lines;
+pub use source::source_lines;

@@ -1,12 +1,13 @@
 //! The listing of a program that is given by its words.
 
-ghost use Rattle.std.specs.Prelude.{◌≡◌, ◌++◌, ◌*◌, ◌+◌, ◌≤◌, ◌<◌, ◌^◌, [], ◌∷◌, IfOk, IsOkUnless, OnOk, length, string_bytes};
+ghost use Rattle.std.specs.Prelude.{◌≡◌, ◌++◌, ◌*◌, ◌+◌, ◌≤◌, ◌<◌, ◌^◌, [], ◌∷◌, codes, IfOk, IsOkUnless, OnOk, length, string_bytes};
 ghost use Rattle.bpf_insn.specs.Encoding.{IsEncodedAs};
 ghost use Rattle.bpf_text.specs.Form.{line_of};
-ghost use Rattle.bpf_listing.specs.Program.{place_text, program_lines};
+ghost use Rattle.bpf_listing.specs.Program.{place_comment, program_lines};
 
+use crate::place::push_place;
 use bpf_insn::Insn;
-use bpf_text::{TextError, disassemble, to_hex};
+use bpf_text::{TextError, disassemble};
 use std::alloc::Global;
 
 /// The canonical line of an instruction, without its line end. Fails by `OutOfMemory` alone.
@@ -30,12 +31,14 @@ fn push_line(
     insn: Insn,
 ) -> Result<(), TextError>
     ensures line { OnOk result (string_bytes text.new
-        ≡ string_bytes text.old ++ (line_of insn ++ place_text pc bytes.now)) }
+        ≡ string_bytes text.old ++ (line_of insn ++ (place_comment pc bytes.now ++ codes "\n"))) }
     ensures memory { IsOkUnless result TextError.OutOfMemory }
 {
     let line = insn_line(alloc, insn)?;
-    let digits = to_hex(alloc, bytes)?;
-    write!(text, "{line} ; {pc}: {digits}\n").map_err(|_| TextError::OutOfMemory)
+    text.push_str(line.as_str())
+        .map_err(|_| TextError::OutOfMemory)?;
+    push_place(alloc, text, pc, bytes)?;
+    text.push('\n').map_err(|_| TextError::OutOfMemory)
 }
 
 /// A program's canonical lines, each with its pc and its words behind it. Fails by `OutOfMemory`

@@ -1,5 +1,5 @@
 -- A word is looked up among those with its first letter.
-use Rattle.std.proofs.Common.{◌≡◌, ◌≢◌, ◌<◌, ◌≤◌, ℕ, ◌==◌, length, get_or, false, List, [], ◌∷◌, Option, None, refl, sym, subst, arith}
+use Rattle.std.proofs.Common.{◌≡◌, ◌≢◌, ◌<◌, ◌≤◌, ℕ, ◌==◌, length, get_or, false, List, [], ◌∷◌, None, refl, sym, subst, arith}
 use Rattle.std.proofs.lemmas.Bool.Decides.{nat_tests}
 use Rattle.bpf_text.specs.declared.keywords.TheConstants.{ON_S, ON_I, ON_G, ON_C, ON_E, ON_L, ON_M, ON_U, ON_B, ON_A, ON_X}
 use Rattle.bpf_text.specs.declared.registers.TheConstants.{WHOLE, LOW}

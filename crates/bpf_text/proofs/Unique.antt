@@ -52,7 +52,7 @@ one_body ts (Err BadLine) (Err BadLine) x y = refl
 source : Option (List ℕ) → Result (Option Written) LineError → Source
 source label body = record { label = label; body = body }
 
-one_line : (line : List ℕ) (a b : Source) → IsLine line a → IsLine line b → a ≡ b
+pub one_line : (line : List ℕ) (a b : Source) → IsLine line a → IsLine line b → a ≡ b
 unfolding source
 one_line line a b x y =
     let tokens : y.tokens ≡ x.tokens = same_tokens x.tokens y.tokens (after_blanks line) x.cut_up y.cut_up in

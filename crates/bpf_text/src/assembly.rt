@@ -23,7 +23,7 @@ struct Kept<'a> {
 }
 
 /// How many words a line has.
-fn words_of(body: &Body<'_>) -> usize
+pub(crate) fn words_of(body: &Body<'_>) -> usize
     ensures value { result ≡ words_of (body_of body.now) }
     ensures small { result ≤ 2 }
 {
