@@ -1,5 +1,5 @@
 -- The replies of one input print one text.
-use Rattle.std.proofs.Common.{Bool, string_bytes, ◌≡◌, ◌≢◌, ◌<◌, ◌≤◌, ◌/◌, ℕ, List, [], length, inl, inr, refl, sym, ap, subst, ◌∙◌, arith, Ok, Err}
+use Rattle.std.proofs.Common.{Bool, true, false, string_bytes, ◌≡◌, ◌≢◌, ◌<◌, ◌≤◌, ◌/◌, ℕ, List, [], length, inl, inr, refl, sym, ap, subst, ◌∙◌, arith, Ok, Err}
 use Rattle.std.specs.Prelude.{IsUtf8}
 use Rattle.bpf_insn.specs.declared.instruction.Insn.{Insn}
 use Rattle.bpf_insn.specs.Encoding.{IsEncodedAs}
@@ -35,11 +35,12 @@ use Rattle.bpf_debug.specs.Laws.{ScriptsAreDetermined}
 use Rattle.bpf_run.proofs.FreshFiles.{fresh}
 use Rattle.bpf_run.proofs.OneDebug.{one_debug}
 use Rattle.bpf_run.specs.Answer.{jobs_status, status_of, reply_text}
-use Rattle.bpf_run.specs.Commands.{IsAnswer, IsAssembled, IsDisassembled, IsReply, IsRun, IsRunOfFile, IsWordsOf, RefusesAssembly, RefusesInput, RefusesProgram, RefusesWords}
+use Rattle.bpf_run.specs.Commands.{IsAnswer, IsAssembled, IsDisassembled, IsReply, IsRun, IsRunOfFile, IsWordsOf, RefusesAssembly, RefusesInput, RefusesProgram, RefusesWords, ShowsWords, shown_program}
 use Rattle.bpf_run.specs.Script.{first_of}
 use Rattle.bpf_run.specs.declared.input.TheConstants.{MAX_INPUT}
 use Rattle.bpf_run.specs.Laws.{IsOfInput, IsForAnyInput, HasShortContext, RepliesAreDetermined}
-use Rattle.bpf_run.specs.Listing.{word_lines}
+use Rattle.bpf_text.specs.Lines.{lines_of}
+use Rattle.bpf_listing.proofs.OneListing.{one_listing as one_listing_of}
 use Rattle.bpf_command.specs.declared.command.Command.{Command}
 use Rattle.bpf_command.specs.declared.command.Command.TheVariants as command
 use Rattle.bpf_run.specs.declared.input.InputError.TheVariants as input_error
@@ -75,13 +76,13 @@ data OfRun (budget : ℕ) (context text : List ℕ) : Reply → Type 0 where
   Unsound : (error : LoadError) (is : List Insn) → IsWordsOf text is → IsFirstRefusal 0 is error → OfRun budget context text (reply.Refused (refusal.Load error))
   Unread : (r : Refusal) → OfWords text r → OfRun budget context text (reply.Refused r)
 
-data OfAssembly (text : List ℕ) : Reply → Type 0 where
-  Assembled : (printed : _) → IsAssembled text (reply.Text printed) → OfAssembly text (reply.Text printed)
-  NoAssembly : (error : TextError) → Assembles text (Err error) → OfAssembly text (reply.Refused (refusal.Text error))
+data OfAssembly (listing : Bool) (text : List ℕ) : Reply → Type 0 where
+  Assembled : (printed : _) → IsAssembled listing text (reply.Text printed) → OfAssembly listing text (reply.Text printed)
+  NoAssembly : (error : TextError) → Assembles text (Err error) → OfAssembly listing text (reply.Refused (refusal.Text error))
 
-data OfListing (text : List ℕ) : Reply → Type 0 where
-  Listed : (printed : _) → IsDisassembled text (reply.Text printed) → OfListing text (reply.Text printed)
-  Unlisted : (r : Refusal) → OfWords text r → OfListing text (reply.Refused r)
+data OfListing (pc : Bool) (text : List ℕ) : Reply → Type 0 where
+  Listed : (printed : _) → IsDisassembled pc text (reply.Text printed) → OfListing pc text (reply.Text printed)
+  Unlisted : (r : Refusal) → OfWords text r → OfListing pc text (reply.Refused r)
 
 of_insn : (text : List ℕ) (error : InsnError) → RefusesWords text (refusal.Insn error) → ¬ IsForAnyInput (refusal.Insn error) → OfWords text (refusal.Insn error)
 of_insn text insn_error.OutOfMemory h n = absurd (n tt)
@@ -106,25 +107,25 @@ of_run budget context text (reply.Text printed) h n = absurd h
 of_run budget context text (reply.Jobs printed stopped) h n = absurd h
 of_run budget context text (reply.Script answers stopped) h n = absurd h
 
-of_refused_text : (text : List ℕ) (error : TextError) → RefusesAssembly text (refusal.Text error) → ¬ IsForAnyInput (refusal.Text error) → OfAssembly text (reply.Refused (refusal.Text error))
-of_refused_text text error (inl memory) n = absurd (n (subst (λ (e : TextError). IsForAnyInput (refusal.Text e)) (sym memory) tt))
-of_refused_text text error (inr h) n = NoAssembly error h
+of_refused_text : (listing : Bool) (text : List ℕ) (error : TextError) → RefusesAssembly text (refusal.Text error) → ¬ IsForAnyInput (refusal.Text error) → OfAssembly listing text (reply.Refused (refusal.Text error))
+of_refused_text listing text error (inl memory) n = absurd (n (subst (λ (e : TextError). IsForAnyInput (refusal.Text e)) (sym memory) tt))
+of_refused_text listing text error (inr h) n = NoAssembly error h
 
-of_assembly : (text : List ℕ) (r : Reply) → IsAssembled text r → IsOfInput r → OfAssembly text r
-of_assembly text (reply.Text printed) h n = Assembled printed h
-of_assembly text (reply.Refused (refusal.Text error)) h n = of_refused_text text error h n
-of_assembly text (reply.Refused (refusal.Insn error)) h n = absurd (n (subst (λ (e : InsnError). IsForAnyInput (refusal.Insn e)) (sym h) tt))
-of_assembly text (reply.Refused r) h n = absurd h
-of_assembly text (reply.Ended outcome) h n = absurd h
-of_assembly text (reply.Jobs printed stopped) h n = absurd h
-of_assembly text (reply.Script answers stopped) h n = absurd h
+of_assembly : (listing : Bool) (text : List ℕ) (r : Reply) → IsAssembled listing text r → IsOfInput r → OfAssembly listing text r
+of_assembly listing text (reply.Text printed) h n = Assembled printed h
+of_assembly listing text (reply.Refused (refusal.Text error)) h n = of_refused_text listing text error h n
+of_assembly listing text (reply.Refused (refusal.Insn error)) h n = absurd (n (subst (λ (e : InsnError). IsForAnyInput (refusal.Insn e)) (sym h) tt))
+of_assembly listing text (reply.Refused r) h n = absurd h
+of_assembly listing text (reply.Ended outcome) h n = absurd h
+of_assembly listing text (reply.Jobs printed stopped) h n = absurd h
+of_assembly listing text (reply.Script answers stopped) h n = absurd h
 
-of_listing : (text : List ℕ) (r : Reply) → IsDisassembled text r → IsOfInput r → OfListing text r
-of_listing text (reply.Text printed) h n = Listed printed h
-of_listing text (reply.Refused r) h n = Unlisted r (of_words text r h n)
-of_listing text (reply.Ended outcome) h n = absurd h
-of_listing text (reply.Jobs printed stopped) h n = absurd h
-of_listing text (reply.Script answers stopped) h n = absurd h
+of_listing : (pc : Bool) (text : List ℕ) (r : Reply) → IsDisassembled pc text r → IsOfInput r → OfListing pc text r
+of_listing pc text (reply.Text printed) h n = Listed printed h
+of_listing pc text (reply.Refused r) h n = Unlisted r (of_words text r h n)
+of_listing pc text (reply.Ended outcome) h n = absurd h
+of_listing pc text (reply.Jobs printed stopped) h n = absurd h
+of_listing pc text (reply.Script answers stopped) h n = absurd h
 
 data OfFile (maps : Bool) (text : List ℕ) : Reply → Type 0 where
   Told : (printed : _) (stopped : Bool) → IsRunOfFile maps text (reply.Jobs printed stopped)
@@ -164,6 +165,11 @@ of_input c input r (inl refused) n =
     let made = of_refusal c input refused.0 refused.2 (subst IsOfInput refused.1 n) in
     subst (OfInput c input) (sym refused.1) made
 of_input c input r (inr answered) n = Answered r answered.0 answered.1 answered.2
+
+-- words are shown in one way
+one_showing : (listing : Bool) (text bytes p q : List ℕ) → ShowsWords listing text bytes p → ShowsWords listing text bytes q → p ≡ q
+one_showing false text bytes p q a b = a ∙ sym b
+one_showing true text bytes p q a b = one_listing_of 0 bytes (lines_of text) p q a b
 
 module _ (words : WordsAreDetermined) (encodings : EncodingsAreDetermined) (refusals : RefusalsAreDetermined) (firsts : FirstIsDetermined) (texts : TextsAreDetermined) (outcomes : OutcomesAreDetermined) (events : NoMapsNoEvents) (files : FilesAreDetermined) (runs : FilesCanRun) (reports : ReportsAreDetermined) (scripts : ScriptsAreDetermined) where
   same_bytes : (text xs ys : List ℕ) → IsHexOf text xs → IsHexOf text ys → xs ≡ ys
@@ -214,22 +220,25 @@ module _ (words : WordsAreDetermined) (encodings : EncodingsAreDetermined) (refu
   one_run budget context text r s h (Unread e b) (Unsound error is a first) = absurd (no_words text is e b a)
   one_run budget context text r s h (Unread e a) (Unread f b) = ap reply.Refused (one_refusal text e f a b)
 
-  one_listing : (text : List ℕ) (r s : Reply) → OfListing text r → OfListing text s → PrintsAs r s
-  one_listing text r s (Listed p a) (Listed q b) = (a.2 ∙ ap canonical (same_words text a.0 b.0 a.1 b.1) ∙ sym b.2, refl)
-  one_listing text r s (Listed p a) (Unlisted e b) = absurd (no_words text a.0 e b a.1)
-  one_listing text r s (Unlisted e b) (Listed p a) = absurd (no_words text a.0 e b a.1)
-  one_listing text r s (Unlisted e a) (Unlisted f b) = prints r s (ap reply.Refused (one_refusal text e f a b))
+  one_listing : (pc : Bool) (text : List ℕ) (r s : Reply) → OfListing pc text r → OfListing pc text s → PrintsAs r s
+  one_listing pc text r s (Listed p a) (Listed q b) =
+      let bytes = same_bytes text a.1.0 b.1.0 a.1.1 b.1.1 in
+      (a.2 ∙ ap (λ bytes. shown_program pc bytes a.0) bytes ∙ ap (shown_program pc b.1.0) (same_words text a.0 b.0 a.1 b.1) ∙ sym b.2, refl)
+  one_listing pc text r s (Listed p a) (Unlisted e b) = absurd (no_words text a.0 e b a.1)
+  one_listing pc text r s (Unlisted e b) (Listed p a) = absurd (no_words text a.0 e b a.1)
+  one_listing pc text r s (Unlisted e a) (Unlisted f b) = prints r s (ap reply.Refused (one_refusal text e f a b))
 
-  one_assembly : (text : List ℕ) (r s : Reply) → OfAssembly text r → OfAssembly text s → PrintsAs r s
-  one_assembly text r s (Assembled p a) (Assembled q b) =
+  one_assembly : (listing : Bool) (text : List ℕ) (r s : Reply) → OfAssembly listing text r → OfAssembly listing text s → PrintsAs r s
+  one_assembly listing text r s (Assembled p a) (Assembled q b) =
       let both : Ok a.0 ≡ Ok b.0 = texts text (Ok a.0) (Ok b.0) a.2 b.2 in
       let same : a.0 ≡ b.0 = cc in
       let P : List Insn → Type 0 = λ is. IsEncodedAs is b.1 in
       let bytes = encodings a.0 a.1 b.1 a.3 b.3 a.4 (subst P (sym same) b.4) in
-      (a.5 ∙ ap (λ bytes. word_lines (length bytes / 8) bytes) bytes ∙ sym b.5, refl)
-  one_assembly text r s (Assembled p a) (NoAssembly e b) = let both : Ok a.0 ≡ Err e = texts text (Ok a.0) (Err e) a.2 b in absurd cc
-  one_assembly text r s (NoAssembly e b) (Assembled p a) = let both : Ok a.0 ≡ Err e = texts text (Ok a.0) (Err e) a.2 b in absurd cc
-  one_assembly text r s (NoAssembly e a) (NoAssembly f b) = let both = texts text (Err e) (Err f) a b in let same : e ≡ f = cc in prints r s (ap (λ error. reply.Refused (refusal.Text error)) same)
+      let Q : List ℕ → Type 0 = λ bytes. ShowsWords listing text bytes (string_bytes q) in
+      (one_showing listing text a.1 (string_bytes p) (string_bytes q) a.5 (subst Q (sym bytes) b.5), refl)
+  one_assembly listing text r s (Assembled p a) (NoAssembly e b) = let both : Ok a.0 ≡ Err e = texts text (Ok a.0) (Err e) a.2 b in absurd cc
+  one_assembly listing text r s (NoAssembly e b) (Assembled p a) = let both : Ok a.0 ≡ Err e = texts text (Ok a.0) (Err e) a.2 b in absurd cc
+  one_assembly listing text r s (NoAssembly e a) (NoAssembly f b) = let both = texts text (Err e) (Err f) a b in let same : e ≡ f = cc in prints r s (ap (λ error. reply.Refused (refusal.Text error)) same)
 
   one_file : (maps : Bool) (text : List ℕ) (r s : Reply) → OfFile maps text r → OfFile maps text s → PrintsAs r s
   one_file maps text r s (Told p x a) (Told q y b) =
@@ -247,8 +256,8 @@ module _ (words : WordsAreDetermined) (encodings : EncodingsAreDetermined) (refu
   one_answer : (c : Command) (text : List ℕ) (r s : Reply) → HasShortContext c → IsAnswer c text r → IsAnswer c text s → IsOfInput r → IsOfInput s → PrintsAs r s
   one_answer (command.Hex options) text r s h a b n m =
       prints r s (one_run options.budget options.context.items text r s h (of_run options.budget options.context.items text r a n) (of_run options.budget options.context.items text s b m))
-  one_answer command.Asm text r s h a b n m = one_assembly text r s (of_assembly text r a n) (of_assembly text s b m)
-  one_answer command.Disasm text r s h a b n m = one_listing text r s (of_listing text r a n) (of_listing text s b m)
+  one_answer (command.Asm listing) text r s h a b n m = one_assembly listing text r s (of_assembly listing text r a n) (of_assembly listing text s b m)
+  one_answer (command.Disasm pc) text r s h a b n m = one_listing pc text r s (of_listing pc text r a n) (of_listing pc text s b m)
   one_answer (command.Run maps) text r s h a b n m = one_file maps text r s (of_file maps text r a n) (of_file maps text s b m)
   one_answer command.Debug text r s h a b n m = one_debug files runs scripts text r s a b n m
 

@@ -18,6 +18,9 @@ use Rattle.bpf_text.specs.Assembly.{Assembles}
 use Rattle.bpf_text.specs.Form.{canonical}
 use Rattle.bpf_text.specs.HexText.{IsHexOf}
 use Rattle.bpf_text.specs.declared.error.TextError.TheVariants as text_error
+use Rattle.bpf_text.specs.Lines.{lines_of}
+use Rattle.bpf_listing.specs.Program.{program_lines}
+use Rattle.bpf_listing.specs.Source.{IsListing}
 use Rattle.bpf_run.specs.Listing.{word_lines}
 use Rattle.bpf_command.specs.declared.command.Command.{Command}
 use Rattle.bpf_command.specs.declared.command.Command.TheVariants as command
@@ -65,23 +68,33 @@ RefusesAssembly text (refusal.Text error) =
 RefusesAssembly text (refusal.Insn error) = error ≡ insn_error.OutOfMemory
 RefusesAssembly text _ = ⊥
 
-abbrev pub IsAssembled : List ℕ → Reply → Type 0
-IsAssembled text (reply.Text printed) = (is : List Insn) × (bytes : List ℕ)
-    × Assembles text (Ok is) × All (λ b. b < 256) bytes × IsEncodedAs is bytes
-    × (string_bytes printed ≡ word_lines (length bytes / 8) bytes)
-IsAssembled text (reply.Refused r) = RefusesAssembly text r
-IsAssembled text (reply.Ended outcome) = ⊥
-IsAssembled text (reply.Jobs printed stopped) = ⊥
-IsAssembled text (reply.Script answers stopped) = ⊥
+-- and with `--listing`, the text's own lines with the pcs and the words behind them
+abbrev pub ShowsWords : (listing : Bool) → (text bytes printed : List ℕ) → Type 0
+ShowsWords false text bytes printed = printed ≡ word_lines (length bytes / 8) bytes
+ShowsWords true text bytes printed = IsListing 0 bytes (lines_of text) printed
 
--- `disasm`: the canonical text of the instructions
-abbrev pub IsDisassembled : List ℕ → Reply → Type 0
-IsDisassembled text (reply.Text printed) =
-    (is : List Insn) × IsWordsOf text is × (string_bytes printed ≡ canonical is)
-IsDisassembled text (reply.Refused r) = RefusesWords text r
-IsDisassembled text (reply.Ended outcome) = ⊥
-IsDisassembled text (reply.Jobs printed stopped) = ⊥
-IsDisassembled text (reply.Script answers stopped) = ⊥
+abbrev pub IsAssembled : (listing : Bool) → List ℕ → Reply → Type 0
+IsAssembled listing text (reply.Text printed) = (is : List Insn) × (bytes : List ℕ)
+    × Assembles text (Ok is) × All (λ b. b < 256) bytes × IsEncodedAs is bytes
+    × ShowsWords listing text bytes (string_bytes printed)
+IsAssembled listing text (reply.Refused r) = RefusesAssembly text r
+IsAssembled listing text (reply.Ended outcome) = ⊥
+IsAssembled listing text (reply.Jobs printed stopped) = ⊥
+IsAssembled listing text (reply.Script answers stopped) = ⊥
+
+-- `disasm`: the canonical text of the instructions, and with `--pc` each line with its pc and its
+-- words behind it
+abbrev pub shown_program : (pc : Bool) → (bytes : List ℕ) → List Insn → List ℕ
+shown_program false bytes is = canonical is
+shown_program true bytes is = program_lines 0 bytes is
+
+abbrev pub IsDisassembled : (pc : Bool) → List ℕ → Reply → Type 0
+IsDisassembled pc text (reply.Text printed) =
+    (is : List Insn) × (found : IsWordsOf text is) × (string_bytes printed ≡ shown_program pc found.0 is)
+IsDisassembled pc text (reply.Refused r) = RefusesWords text r
+IsDisassembled pc text (reply.Ended outcome) = ⊥
+IsDisassembled pc text (reply.Jobs printed stopped) = ⊥
+IsDisassembled pc text (reply.Script answers stopped) = ⊥
 
 -- `run`: the lines of the jobs that the file says, run in rounds over a new store of its maps, and
 -- then those of the maps where they are asked for; or the file's first refusal
@@ -96,8 +109,8 @@ IsRunOfFile maps text _ = ⊥
 -- what a command replies to the text
 abbrev pub IsAnswer : Command → List ℕ → Reply → Type 0
 IsAnswer (command.Hex options) text r = IsRun options.budget options.context.items text r
-IsAnswer command.Asm text r = IsAssembled text r
-IsAnswer command.Disasm text r = IsDisassembled text r
+IsAnswer (command.Asm listing) text r = IsAssembled listing text r
+IsAnswer (command.Disasm pc) text r = IsDisassembled pc text r
 IsAnswer (command.Run maps) text r = IsRunOfFile maps text r
 IsAnswer command.Debug text r = IsScriptOfFile text r
 

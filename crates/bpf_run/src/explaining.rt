@@ -9,8 +9,8 @@ use std::alloc::{AllocError, Global};
 /// What a command reads.
 pub fn language_of(command: &Command) -> Language {
     match command {
-        Command::Asm => Language::Assembly,
-        Command::Hex(_) | Command::Disasm => Language::Words,
+        Command::Asm { .. } => Language::Assembly,
+        Command::Hex(_) | Command::Disasm { .. } => Language::Words,
         Command::Run { .. } | Command::Debug => Language::RunFile,
     }
 }

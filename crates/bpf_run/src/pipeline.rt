@@ -1,9 +1,11 @@
 //! From the text that was read to the reply: each command over the crates below.
 
-ghost use Rattle.std.specs.Prelude.{◌≡◌, [], false, IfErr, IfOk, true};
+ghost use Rattle.std.specs.Prelude.{◌≡◌, ◌<◌, [], All, false, IfErr, IfOk, IsOkUnless, List, string_bytes, true};
+ghost use Rattle.bpf_insn.specs.Encoding.{IsEncodedAs};
+ghost use Rattle.bpf_insn.specs.declared.instruction.Insn.{Insn};
 ghost use Rattle.bpf_loader.specs.Sound.{IsSound};
 ghost use Rattle.bpf_shared.specs.Contents.{has_cpu, is_running, shapes_of};
-ghost use Rattle.bpf_run.specs.Commands.{IsAnswer, IsAssembled, IsDisassembled, IsRun, IsRunOfFile, IsWordsOf, RefusesProgram, RefusesWords};
+ghost use Rattle.bpf_run.specs.Commands.{IsAnswer, IsAssembled, IsDisassembled, IsRun, IsRunOfFile, IsWordsOf, RefusesProgram, RefusesWords, ShowsWords, shown_program};
 
 use crate::listing::word_lines;
 use crate::refusal::Refusal;
@@ -14,9 +16,10 @@ use bpf_cpu::Cpu;
 use bpf_file::{FileError, RunFile, read_file};
 use bpf_insn::{Insn, decode, encode};
 use bpf_jobs::{Report, run_jobs};
+use bpf_listing::{program_lines, source_lines};
 use bpf_loader::{Program, load};
 use bpf_shared::{PlainStore, ShapeError, StoreShape};
-use bpf_text::{assemble, disassemble, from_hex};
+use bpf_text::{TextError, assemble, disassemble, from_hex};
 use std::alloc::Global;
 
 /// The instructions whose words the text has as hex digits.
@@ -66,9 +69,24 @@ fn run(alloc: Global, options: RunOptions, text: &str) -> Reply
     Reply::Ended(cpu.run(&program, &mut store, budget))
 }
 
+/// What `ebpf asm` prints of a text's words.
+fn shown_words(alloc: Global, listing: bool, text: &str, bytes: &[u8]) -> Result<String, TextError>
+    ensures shown { IfOk result (λ printed.
+        ShowsWords listing text.now bytes.now (string_bytes printed)) }
+    ensures memory { IsOkUnless result TextError.OutOfMemory }
+    // Only what the type of the slice says: a caller's proof doesn't get it of a vector.
+    ensures bytes { All (λ b. b < 256) bytes.now }
+{
+    if listing {
+        source_lines(alloc, bytes, text)
+    } else {
+        word_lines(alloc, bytes)
+    }
+}
+
 /// `ebpf asm`.
-fn assembled(alloc: Global, text: &str) -> Reply
-    ensures { IsAssembled text.now result }
+fn assembled(alloc: Global, listing: bool, text: &str) -> Reply
+    ensures { IsAssembled listing text.now result }
 {
     let insns = match assemble(alloc, text) {
         Ok(insns) => insns,
@@ -78,23 +96,50 @@ fn assembled(alloc: Global, text: &str) -> Reply
         Ok(bytes) => bytes,
         Err(error) => return Reply::Refused(Refusal::Insn(error)),
     };
-    match word_lines(alloc, &bytes) {
+    match shown_words(alloc, listing, text, &bytes) {
         Ok(lines) => Reply::Text(lines),
         Err(error) => Reply::Refused(Refusal::Text(error)),
     }
 }
 
-/// `ebpf disasm`.
-fn disassembled(alloc: Global, text: &str) -> Reply
-    ensures { IsDisassembled text.now result }
+/// What `ebpf disasm` prints of a program's words.
+fn shown_program(
+    alloc: Global,
+    pc: bool,
+    bytes: &[u8],
+    program: &[Insn],
+) -> Result<String, TextError>
+    requires { IsEncodedAs program.now bytes.now }
+    ensures shown { IfOk result (λ printed.
+        string_bytes printed ≡ shown_program pc bytes.now program.now) }
+    ensures memory { IsOkUnless result TextError.OutOfMemory }
 {
-    let insns = match instructions(alloc, text) {
-        Ok(insns) => insns,
-        Err(refusal) => return Reply::Refused(refusal),
-    };
-    match disassemble(alloc, &insns) {
+    if pc {
+        program_lines(alloc, bytes, program)
+    } else {
+        disassemble(alloc, program)
+    }
+}
+
+/// The text of the words that the text has as hex digits.
+fn disassembly(alloc: Global, pc: bool, text: &str) -> Result<String, Refusal>
+    ensures shown { IfOk result (λ printed. (is : List Insn) × (found : IsWordsOf text.now is)
+        × (string_bytes printed ≡ shown_program pc found.0 is)) }
+    ensures refused { IfErr result (RefusesWords text.now) }
+{
+    let bytes = from_hex(alloc, text).map_err(Refusal::Text)?;
+    let program = decode(alloc, &bytes).map_err(Refusal::Insn)?;
+    let shown = shown_program(alloc, pc, &bytes, &program).map_err(Refusal::Text)?;
+    Ok(shown)
+}
+
+/// `ebpf disasm`.
+fn disassembled(alloc: Global, pc: bool, text: &str) -> Reply
+    ensures { IsDisassembled pc text.now result }
+{
+    match disassembly(alloc, pc, text) {
         Ok(text) => Reply::Text(text),
-        Err(error) => Reply::Refused(Refusal::Text(error)),
+        Err(refusal) => Reply::Refused(refusal),
     }
 }
 
@@ -127,8 +172,8 @@ pub fn reply(alloc: Global, command: Command, text: &str) -> Reply
 {
     match command {
         Command::Hex(options) => run(alloc, options, text),
-        Command::Asm => assembled(alloc, text),
-        Command::Disasm => disassembled(alloc, text),
+        Command::Asm { listing } => assembled(alloc, listing, text),
+        Command::Disasm { pc } => disassembled(alloc, pc, text),
         Command::Run { maps } => run_file(alloc, maps, text),
         Command::Debug => debug_file(alloc, text),
     }
