@@ -1,5 +1,5 @@
 //! Claiming the free elements of a map.
-ghost use Rattle.std.specs.Prelude.{◌≡◌, ◌+◌, ◌*◌, ◌/◌, ◌<◌, ◌≤◌, [], length, MatchOption, IsTrue, IsFalse};
+ghost use Rattle.std.specs.Prelude.{◌≡◌, ◌⊎◌, ◌+◌, ◌*◌, ◌/◌, ◌<◌, ◌≤◌, [], length, MatchOption, IsTrue, IsFalse};
 ghost use Rattle.std.specs.Int.{bit_at};
 ghost use Rattle.hop_words.specs.Ghost.{shape_at, IsElement};
 ghost use Rattle.hop_words.specs.Owning.{IsInHand, behind};
@@ -11,12 +11,15 @@ use hop_words::{HopTable, Lane};
 use std::marker::Model;
 
 /// Where one CPU looks for free elements of one map: in the word of free bits of its last claim or
-/// give-back first, so that CPUs meet seldom.
+/// give-back first, so that CPUs meet seldom. The words from `low` on and before `high` are its own
+/// part.
 #[derive(Clone, Copy, Drop)]
 pub struct Arena {
     map: u8,
     elements: u32,
     start: u32,
+    low: u32,
+    high: u32,
 }
 
 impl Arena {
@@ -31,11 +34,28 @@ impl Arena {
         let sizes = shape.maps()[usize::from(map)];
         let elements = (sizes.max + sizes.spare) as u32;
         let words = elements.div_ceil(64);
-        let start = words * u32::from(cpu) / u32::from(shape.cpus());
+        let cpus = u32::from(shape.cpus());
+        let start = words * u32::from(cpu) / cpus;
         Arena {
             map,
             elements,
             start,
+            low: start,
+            high: words * (u32::from(cpu) + 1) / cpus,
+        }
+    }
+
+    /// The next pass begins at the word of this element, which the CPU has given back, if that word
+    /// lies in the CPU's own part: what was used last is near at hand, and other CPUs look elsewhere.
+    pub fn look_from(&mut self, element: u32)
+        ensures map { self.new.map ≡ self.old.map }
+        ensures elements { self.new.elements ≡ self.old.elements }
+        ensures start { (self.new.start ≡ self.old.start)
+            ⊎ ((self.new.start ≡ element / 64) × (element < self.old.elements)) }
+    {
+        let word = element / 64;
+        if element < self.elements && self.low <= word && word < self.high {
+            self.start = word;
         }
     }
 

@@ -1,5 +1,5 @@
 //! The elements of a map that a CPU took out.
-ghost use Rattle.std.specs.Prelude.{◌≡◌, ◌⊎◌, ◌<◌, ◌≤◌, ◌%◌, ◌∷◌, [], length, IsTrue, IsFalse};
+ghost use Rattle.std.specs.Prelude.{◌≡◌, ◌⊎◌, ◌<◌, ◌≤◌, ◌%◌, ◌∷◌, [], length, None, IsTrue, IsFalse};
 ghost use Rattle.bpf_shared.specs.Shape.{IsShape};
 ghost use Rattle.hop_words.specs.Ghost.{IsElement, limbo_at};
 ghost use Rattle.hop_words.specs.Kinds.{retiring};
@@ -30,13 +30,15 @@ impl Used {
 }
 
 /// The two batches of one CPU and one map, linked through the elements: with the old one, of each
-/// CPU the run counter that was noted when the batch became old.
+/// CPU the run counter that was noted when the batch became old; and the element given back last, until
+/// somebody asks for it.
 #[derive(Clone, Copy, Drop)]
 pub struct Batches {
     map: u8,
     young: Option<u32>,
     aged: Option<u32>,
     noted: [u64; 16],
+    returned: Option<u32>,
 }
 
 impl Batches {
@@ -51,7 +53,16 @@ impl Batches {
             young: None,
             aged: None,
             noted: [0; 16],
+            returned: None,
         }
+    }
+
+    /// The element that was given back last, if there was one since the last call.
+    pub fn take_returned(&mut self) -> Option<u32>
+        ensures returned { result ≡ self.old.returned }
+        ensures taken { self.new ≡ record self.old { returned = None } }
+    {
+        self.returned.take()
     }
 
     /// Puts a used element in front of the young batch.
@@ -162,6 +173,7 @@ impl Batches {
         while let Some(element) = self.aged {
             let link = lane.read_old_link(table, self.map, element);
             lane.give_old_bit(table, self.map, element);
+            self.returned = Some(element);
             self.aged = element_of(link);
         }
     }

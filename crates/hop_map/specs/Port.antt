@@ -62,10 +62,10 @@ abbrev pub holds : Port → Span → Bool
 holds p = held_by (own_events p)
 
 abbrev pub no_arena : Arena
-no_arena = record { map = 0; elements = 0; start = 0 }
+no_arena = record { map = 0; elements = 0; start = 0; low = 0; high = 0 }
 
 abbrev pub no_batches : Batches
-no_batches = record { map = 0; young = None; aged = None; noted = [] }
+no_batches = record { map = 0; young = None; aged = None; noted = []; returned = None }
 
 abbrev pub arena_at : List Arena → ℕ → Arena
 arena_at xs m = slice_index_or xs m no_arena

@@ -1,5 +1,5 @@
 //! A whole update by one CPU.
-ghost use Rattle.std.specs.Prelude.{◌≡◌, ◌≢◌, ◌+◌, ◌-◌, ◌%◌, ◌^◌, ◌<◌, ◌≤◌, true, [], length, MatchOption};
+ghost use Rattle.std.specs.Prelude.{◌≡◌, ◌≢◌, ◌+◌, ◌-◌, ◌%◌, ◌^◌, ◌<◌, ◌≤◌, true, [], length, None, MatchOption};
 ghost use Rattle.bpf_shared.specs.Shape.{IsPairOf, elements as elements_of};
 ghost use Rattle.bpf_shared.specs.History.{events_of};
 ghost use Rattle.bpf_shared.specs.declared.events.Event.TheVariants.{Update};
@@ -8,6 +8,7 @@ ghost use Rattle.hop_words.specs.Rule.{done_in};
 ghost use Rattle.hop_words.specs.Homes.{segment_of};
 ghost use Rattle.hop_words.specs.Ghost.{shape_at, limbo_at};
 ghost use Rattle.hop_words.specs.Kinds.{in_run, holding};
+ghost use Rattle.hop_arena.specs.Claiming.{Claims, Misses, IsArena};
 ghost use Rattle.hop_epoch.specs.Batch.{Keeps};
 ghost use Rattle.hop_map.specs.Locks.{Readies, counted_lock};
 ghost use Rattle.hop_map.specs.Updates.{Wants, Refusal, UpdateEnds};
@@ -79,6 +80,31 @@ fn lock_and_refuse<R: Wait>(
     refuse(words, stamp, at.home, key, value, flags)
 }
 
+// One pass over the free bits, from the element on that the CPU gave back last.
+fn claim_near(
+    table: &HopTable,
+    lane: &mut Lane,
+    arena: &mut Arena,
+    batches: &mut Batches,
+) -> Option<Element>
+    requires table { lane.old.table ≡ table.now.id }
+    requires map { arena.old.map < length table.now.about.shape.maps }
+    requires arena { Searches table.now.about arena.old.map arena.old }
+    requires unlocked { lane.old.known.locks ≡ [] }
+    ensures table { lane.new.table ≡ lane.old.table }
+    ensures claimed { MatchOption result
+        (Misses table.now.about lane.old.known arena.old.map lane.new.known)
+        (λ e. Claims table.now.about lane.old.known arena.old.map e lane.new.known) }
+    ensures arena { (arena.new.map ≡ arena.old.map)
+        × IsArena table.now.about arena.new.map arena.new.elements arena.new.start }
+    ensures batches { batches.new ≡ record batches.old { returned = None } }
+{
+    if let Some(element) = batches.take_returned() {
+        arena.look_from(element);
+    }
+    arena.claim(lane, table)
+}
+
 // A free element of the map: where none is found, the CPU's own batches are looked at, and then there
 // is a second pass.
 fn claim_free(
@@ -104,11 +130,11 @@ fn claim_free(
     ensures arena { Searches table.now.about arena.old.map arena.new }
     ensures batches { Follows table.now.about lane.new.known arena.old.map batches.new }
 {
-    match arena.claim(lane, table) {
+    match claim_near(table, lane, arena, batches) {
         Some(element) => Some(element),
         None => {
             batches.reclaim(lane, table);
-            arena.claim(lane, table)
+            claim_near(table, lane, arena, batches)
         }
     }
 }

@@ -26,6 +26,21 @@ pub struct ValuePart {
 }
 
 impl Lane {
+    /// The word that the bytes lie in, of which nothing is known later. It is no event.
+    pub fn look_at_value(&mut self, table: &HopTable, part: ValuePart) -> u64
+        requires table { self.old.table ≡ table.now.id }
+        requires touches { TouchesPart table.now.about self.old.known part }
+        ensures table { self.new.table ≡ self.old.table }
+        ensures same { self.new.known ≡ self.old.known }
+    {
+        let place = Place::ValueWord {
+            map: part.map,
+            element: part.element,
+            word: part.word,
+        };
+        self.load_by::<Brand, _>(table, place, ())
+    }
+
     /// Loads the bytes, and answers the word that they lie in.
     pub fn load_value(&mut self, table: &HopTable, part: ValuePart) -> u64
         requires table { self.old.table ≡ table.now.id }
