@@ -112,7 +112,7 @@ GoOn seen runs = (c n : ℕ) → c < length seen → is_run (run_of seen c) n �
 
 -- some CPU is still in the run that it was in when the element left the map
 abbrev pub IsKeptRow : List Runs → Rows → ℕ → Type 0
-IsKeptRow runs t i = (c : ℕ) × (c < length runs) × (is_run (run_of runs c) (run_left t i c) ≡ true)
+IsKeptRow runs t i = HasCurrentAt t.left (i * t.cpus) runs
 
 -- the element is in the map or kept
 abbrev pub IsTakenRow : List Runs → Rows → ℕ → Type 0

@@ -54,9 +54,10 @@ impl Model for Table {
     ghost view = { λ t. record { shape = t.shape; cpus = t.cpus; order = t.order.items; linked = t.linked.items; keys = t.keys.items; values = t.values.items; looked_up = t.looked_up.items; left = t.left.items } };
 
     // There is room for the order of as many keys as the map may have.
-    ghost invariant = { λ t. IsTable (record { shape = t.shape; cpus = t.cpus; order = t.order.items; linked = t.linked.items; keys = t.keys.items; values = t.values.items; looked_up = t.looked_up.items; left = t.left.items }) × (t.shape.max ≤ vec_capacity t.order) × AreMarked t.linked.items t.filled
-        × (length t.seen.items ≡ t.cpus)
-        × ArePassed t.seen.items (record { shape = t.shape; cpus = t.cpus; order = t.order.items; linked = t.linked.items; keys = t.keys.items; values = t.values.items; looked_up = t.looked_up.items; left = t.left.items }) t.passed };
+    ghost invariant = { λ t.
+        let rows : Rows = record { shape = t.shape; cpus = t.cpus; order = t.order.items; linked = t.linked.items; keys = t.keys.items; values = t.values.items; looked_up = t.looked_up.items; left = t.left.items } in
+        IsTable rows × (t.shape.max ≤ vec_capacity t.order) × AreMarked t.linked.items t.filled
+        × (length t.seen.items ≡ t.cpus) × ArePassed t.seen.items rows t.passed };
 }
 
 /// Of a CPU that began no run.
