@@ -1,13 +1,17 @@
 -- Reading hex text byte by byte.
-use Rattle.std.proofs.Common.{◌≡◌, ℕ, ◌+◌, ◌*◌, ◌<◌, true, false, not, cond, List, [], ◌∷◌, ◌++◌, Option, Some, None, Result, Ok, Err, refl, sym, ap, subst, ◌∙◌, append_assoc, arith}
-use Rattle.std.proofs.lemmas.List.{append-nil}
+use Rattle.std.proofs.Common.{◌≡◌, ℕ, ◌+◌, ◌*◌, ◌<◌, ◌≤◌, inl, inr, true, false, not, cond, List, [], ◌∷◌, ◌++◌, length, get_or, drop, Some, None, Result, Ok, Err, refl, sym, ap, subst, ◌∙◌, append_assoc, arith}
+use Rattle.std.specs.Prelude.{◌==◌}
+use Rattle.std.proofs.lemmas.Bool.{cases_Bool, eqb-true}
+use Rattle.std.proofs.lemmas.List.{append-nil, drop_more, drop_all}
 use Rattle.hex.specs.Hex.{decode_pairs, hex_digit_value, pair_value}
 use Rattle.hex.specs.declared.error.FromHexError.{FromHexError}
 use Rattle.hex.specs.declared.error.FromHexError.TheVariants.{OddLength, InvalidHexCharacter}
 use Rattle.hex.proofs.HexLemmas.{decode_of-even, decode_of-ok}
 use Rattle.hex.proofs.Pairs.{cons_byte, decode_pairs-ok_pair}
 use Rattle.bpf_text.specs.HexText.{is_passed_over, digits_of, IsHexOf}
-use Rattle.bpf_text.specs.Private.Digits.{behind, IsReadTo, IsHalfRead}
+use Rattle.bpf_text.specs.Private.Digits.{behind, IsReadTo, IsAhead}
+use Rattle.bpf_text.specs.declared.hex_text.Ahead.{Ahead}
+use Rattle.bpf_text.specs.declared.hex_text.Ahead.TheVariants as ahead
 
 digits_of-blank : (b : ℕ) (text : List ℕ) → is_passed_over b ≡ true → digits_of (b ∷ text) ≡ digits_of text
 digits_of-blank b text e = ap (λ t. cond (not t) (b ∷ digits_of text) (digits_of text)) e
@@ -19,40 +23,33 @@ behind_nothing : (r : Result (List ℕ) FromHexError) → r ≡ behind [] r
 behind_nothing (Ok bytes) = refl
 behind_nothing (Err e) = refl
 
-pub nothing_read : (text : List ℕ) → IsHalfRead text [] None text
+pub nothing_read : (text : List ℕ) → IsReadTo text [] (digits_of text)
 nothing_read text = record { pairs = 0; at = 0; whole = omega arith; read = behind_nothing (decode_pairs 0 (digits_of text)) }
-
-pub blank_read : (text bytes : List ℕ) (half : Option ℕ) (b : ℕ) (rest : List ℕ) → is_passed_over b ≡ true → IsHalfRead text bytes half (b ∷ rest) → IsHalfRead text bytes half rest
-blank_read text bytes None b rest e inv = subst (λ (ds : List ℕ). IsReadTo text bytes ds) (digits_of-blank b rest e) inv
-blank_read text bytes (Some n) b rest e inv = (inv.0, inv.1, inv.2, subst (λ (ds : List ℕ). IsReadTo text bytes (inv.0 ∷ ds)) (digits_of-blank b rest e) inv.3)
-
-pub first_read : (text bytes : List ℕ) (b n : ℕ) (rest : List ℕ) → is_passed_over b ≡ false → hex_digit_value b ≡ Some n → n < 16 → IsHalfRead text bytes None (b ∷ rest) → IsHalfRead text bytes (Some n) rest
-first_read text bytes b n rest e value small inv = (b, value, small, subst (λ (ds : List ℕ). IsReadTo text bytes ds) (digits_of-digit b rest e) inv)
 
 behind_more : (bytes : List ℕ) (byte : ℕ) (r : Result (List ℕ) FromHexError) → behind bytes (cons_byte byte r) ≡ behind (bytes ++ byte ∷ []) r
 behind_more bytes byte (Ok rest) = ap Ok (sym (append_assoc bytes (byte ∷ []) rest))
 behind_more bytes byte (Err e) = refl
 
-pair_read : (a b high low i : ℕ) → hex_digit_value a ≡ Some high → hex_digit_value b ≡ Some low → pair_value a b i ≡ Ok (high * 16 + low)
-pair_read a b high low i e f = rw (e, f) refl
+pair_value_of : (a b high low i : ℕ) → hex_digit_value a ≡ Some high → hex_digit_value b ≡ Some low → pair_value a b i ≡ Ok (high * 16 + low)
+pair_value_of a b high low i e f = rw (e, f) refl
 
-pub second_read : (text bytes : List ℕ) (high b low : ℕ) (rest : List ℕ) → is_passed_over b ≡ false → hex_digit_value b ≡ Some low → IsHalfRead text bytes (Some high) (b ∷ rest) → IsHalfRead text (bytes ++ (high * 16 + low) ∷ []) None rest
-second_read text bytes high b low rest e value inv =
-    let before = subst (λ (ds : List ℕ). IsReadTo text bytes (inv.0 ∷ ds)) (digits_of-digit b rest e) inv.3 in
-    let pair = decode_pairs-ok_pair before.at inv.0 b (high * 16 + low) (digits_of rest) (pair_read inv.0 b high low before.at inv.1 value) in
+-- two digits more
+pub pair_read : (text bytes : List ℕ) (a high b low : ℕ) (ds : List ℕ) → hex_digit_value a ≡ Some high → hex_digit_value b ≡ Some low → IsReadTo text bytes (a ∷ b ∷ ds) → IsReadTo text (bytes ++ (high * 16 + low) ∷ []) ds
+pair_read text bytes a high b low ds first second before =
+    let pair = decode_pairs-ok_pair before.at a b (high * 16 + low) ds (pair_value_of a b high low before.at first second) in
     record {
       pairs = before.pairs + 1;
       at = before.at + 2;
       whole = omega (arith, before.whole);
-      read = before.read ∙ ap (behind bytes) pair ∙ behind_more bytes (high * 16 + low) (decode_pairs (before.at + 2) (digits_of rest));
+      read = before.read ∙ ap (behind bytes) pair ∙ behind_more bytes (high * 16 + low) (decode_pairs (before.at + 2) ds);
     }
 
 -- ---- at the end
 
-pub all_read : (text bytes : List ℕ) → IsHalfRead text bytes None [] → IsHexOf text bytes
+pub all_read : (text bytes : List ℕ) → IsReadTo text bytes [] → IsHexOf text bytes
 unfolding decode_pairs
-all_read text bytes inv =
-    decode_of-even (digits_of text) (omega (arith, inv.whole)) ∙ inv.read ∙ ap Ok (append-nil bytes)
+all_read text bytes before =
+    decode_of-even (digits_of text) (omega (arith, before.whole)) ∙ before.read ∙ ap Ok (append-nil bytes)
 
 -- what is refused spells nothing
 refused : (text found : List ℕ) (e : FromHexError) → decode_pairs 0 (digits_of text) ≡ Err e → IsHexOf text found → ⊥
@@ -60,9 +57,9 @@ refused text found e failed spelled =
     let even = (decode_of-ok (digits_of text) found spelled).0 in
     cc (sym failed ∙ sym (decode_of-even (digits_of text) even) ∙ spelled)
 
-pub half_left : (text bytes : List ℕ) (n : ℕ) (found : List ℕ) → IsHalfRead text bytes (Some n) [] → IsHexOf text found → ⊥
+pub half_left : (text bytes : List ℕ) (a : ℕ) (found : List ℕ) → IsReadTo text bytes (a ∷ []) → IsHexOf text found → ⊥
 unfolding decode_pairs
-half_left text bytes n found inv spelled = refused text found OddLength inv.3.read spelled
+half_left text bytes a found before spelled = refused text found OddLength before.read spelled
 
 first_bad : (i b : ℕ) (ds : List ℕ) → hex_digit_value b ≡ None → (e : FromHexError) × (decode_pairs i (b ∷ ds) ≡ Err e)
 unfolding decode_pairs
@@ -73,11 +70,66 @@ second_bad : (i a b n : ℕ) (ds : List ℕ) → hex_digit_value a ≡ Some n �
 unfolding decode_pairs
 second_bad i a b n ds some none = rw (some, none) refl
 
-pub no_digit : (text bytes : List ℕ) (half : Option ℕ) (b : ℕ) (rest found : List ℕ) → is_passed_over b ≡ false → hex_digit_value b ≡ None → IsHalfRead text bytes half (b ∷ rest) → IsHexOf text found → ⊥
-no_digit text bytes None b rest found e none inv spelled =
-    let before = subst (λ (ds : List ℕ). IsReadTo text bytes ds) (digits_of-digit b rest e) inv in
-    let bad = first_bad before.at b (digits_of rest) none in
+-- no digit stands where the first of a byte should
+pub no_first : (text bytes : List ℕ) (b : ℕ) (ds found : List ℕ) → hex_digit_value b ≡ None → IsReadTo text bytes (b ∷ ds) → IsHexOf text found → ⊥
+no_first text bytes b ds found none before spelled =
+    let bad = first_bad before.at b ds none in
     refused text found bad.0 (before.read ∙ ap (behind bytes) bad.1) spelled
-no_digit text bytes (Some n) b rest found e none inv spelled =
-    let before = subst (λ (ds : List ℕ). IsReadTo text bytes (inv.0 ∷ ds)) (digits_of-digit b rest e) inv.3 in
-    refused text found _ (before.read ∙ ap (behind bytes) (second_bad before.at inv.0 b n (digits_of rest) inv.1 none)) spelled
+
+-- or where the second should
+pub no_second : (text bytes : List ℕ) (a n b : ℕ) (ds found : List ℕ) → hex_digit_value a ≡ Some n → hex_digit_value b ≡ None → IsReadTo text bytes (a ∷ b ∷ ds) → IsHexOf text found → ⊥
+no_second text bytes a n b ds found some none before spelled =
+    refused text found _ (before.read ∙ ap (behind bytes) (second_bad before.at a b n ds some none)) spelled
+
+-- ---- what stands ahead
+
+-- a digit isn't passed over
+other : (b k n : ℕ) → hex_digit_value b ≡ Some n → hex_digit_value k ≡ None → (b == k) ≡ false
+other b k n some none = elim (cases_Bool (b == k)) [
+  | inl same ↦ let e : b ≡ k = eqb-true b k same in absurd (cc (some, none, e))
+  | inr differs ↦ differs
+]
+
+not_passed_over : (b n : ℕ) → hex_digit_value b ≡ Some n → is_passed_over b ≡ false
+not_passed_over b n some = rw (other b 32 n some refl, other b 9 n some refl, other b 13 n some refl, other b 10 n some refl) refl
+
+-- a digit at a place
+pub digit_there : (text : List ℕ) (at n : ℕ) → at < length text → hex_digit_value (get_or text at 0) ≡ Some n → digits_of (drop at text) ≡ get_or text at 0 ∷ digits_of (drop (at + 1) text)
+digit_there text at n within some =
+    ap digits_of (drop_more text at 0 within) ∙ digits_of-digit (get_or text at 0) (drop (at + 1) text) (not_passed_over (get_or text at 0) n some)
+
+pub blank_there : (text : List ℕ) (at : ℕ) → at < length text → is_passed_over (get_or text at 0) ≡ true → digits_of (drop at text) ≡ digits_of (drop (at + 1) text)
+blank_there text at within blank =
+    ap digits_of (drop_more text at 0 within) ∙ digits_of-blank (get_or text at 0) (drop (at + 1) text) blank
+
+pub other_there : (text : List ℕ) (at : ℕ) → at < length text → is_passed_over (get_or text at 0) ≡ false → digits_of (drop at text) ≡ get_or text at 0 ∷ digits_of (drop (at + 1) text)
+other_there text at within not_blank =
+    ap digits_of (drop_more text at 0 within) ∙ digits_of-digit (get_or text at 0) (drop (at + 1) text) not_blank
+
+pub none_there : (text : List ℕ) (at : ℕ) → length text ≤ at → digits_of (drop at text) ≡ []
+none_there text at past = ap digits_of (drop_all at text past)
+
+-- ---- the digits of one byte
+
+pub byte_read : (text bytes : List ℕ) (at high next low to : ℕ) → IsReadTo text bytes (digits_of (drop at text)) → IsAhead text at (ahead.Digit high next) → IsAhead text next (ahead.Digit low to) → IsReadTo text (bytes ++ (high * 16 + low) ∷ []) (digits_of (drop to text))
+byte_read text bytes at high next low to before first second =
+    let both : digits_of (drop at text) ≡ first.0 ∷ second.0 ∷ digits_of (drop to text) = first.5 ∙ ap (λ (ds : List ℕ). first.0 ∷ ds) second.5 in
+    pair_read text bytes first.0 high second.0 low (digits_of (drop to text)) first.1 second.1 (subst (λ (ds : List ℕ). IsReadTo text bytes ds) both before)
+
+pub half_byte : (text bytes : List ℕ) (at high next : ℕ) (behind : Ahead) (found : List ℕ) → IsReadTo text bytes (digits_of (drop at text)) → IsAhead text at (ahead.Digit high next) → IsAhead text next behind → ((low to : ℕ) → behind ≡ ahead.Digit low to → ⊥) → IsHexOf text found → ⊥
+half_byte text bytes at high next (ahead.Digit low to) found before first second none spelled = none low to refl
+half_byte text bytes at high next ahead.End found before first second none spelled =
+    let both : digits_of (drop at text) ≡ first.0 ∷ [] = first.5 ∙ ap (λ (ds : List ℕ). first.0 ∷ ds) second in
+    half_left text bytes first.0 found (subst (λ (ds : List ℕ). IsReadTo text bytes ds) both before) spelled
+half_byte text bytes at high next ahead.Other found before first second none spelled =
+    let both : digits_of (drop at text) ≡ first.0 ∷ second.0 ∷ second.1 = first.5 ∙ ap (λ (ds : List ℕ). first.0 ∷ ds) second.3 in
+    no_second text bytes first.0 high second.0 second.1 found first.1 second.2 (subst (λ (ds : List ℕ). IsReadTo text bytes ds) both before) spelled
+
+-- neither a digit stands there nor, when asked again, the end
+pub no_byte : (text bytes : List ℕ) (at : ℕ) (there again : Ahead) (found : List ℕ) → IsReadTo text bytes (digits_of (drop at text)) → IsAhead text at there → IsAhead text at again → ((n to : ℕ) → there ≡ ahead.Digit n to → ⊥) → (again ≡ ahead.End → ⊥) → IsHexOf text found → ⊥
+no_byte text bytes at (ahead.Digit n to) again found before is then no_digit not_end spelled = no_digit n to refl
+no_byte text bytes at ahead.Other again found before is then no_digit not_end spelled =
+    no_first text bytes is.0 is.1 found is.2 (subst (λ (ds : List ℕ). IsReadTo text bytes ds) is.3 before) spelled
+no_byte text bytes at ahead.End ahead.End found before is then no_digit not_end spelled = not_end refl
+no_byte text bytes at ahead.End (ahead.Digit n to) found before is then no_digit not_end spelled = absurd (cc (is, then.5))
+no_byte text bytes at ahead.End ahead.Other found before is then no_digit not_end spelled = absurd (cc (is, then.3))

@@ -1,8 +1,9 @@
 //! Bytes as hex digits, two a byte.
 
-ghost use Rattle.std.specs.Prelude.{◌≡◌, ◌<◌, ℕ, List, ◌⊎◌, IfOk, IfErr, IfSome, IsOkUnless, string_bytes};
+ghost use Rattle.std.specs.Prelude.{◌≡◌, ◌<◌, ◌≤◌, ℕ, List, length, ◌⊎◌, IfOk, IfErr, IfSome, IsOkUnless, string_bytes};
 ghost use Rattle.hex.specs.Hex.{encode_lower, hex_digit_value};
 ghost use Rattle.bpf_text.specs.HexText.{is_passed_over, IsHexOf};
+ghost use Rattle.bpf_text.specs.Private.Digits.{IsAhead};
 
 use crate::error::TextError;
 use std::alloc::Global;
@@ -36,6 +37,33 @@ pub fn to_hex(alloc: Global, bytes: &[u8]) -> Result<String, TextError>
     hex::encode(alloc, bytes).map_err(|_| TextError::OutOfMemory)
 }
 
+/// What stands ahead of a place of hex text, behind blanks.
+#[derive(Clone, Copy)]
+enum Ahead {
+    /// A digit, by its number, and the place behind it.
+    Digit(u8, usize),
+    /// The end of the text.
+    End,
+    Other,
+}
+
+/// What stands ahead of a place. Digits are asked for first, since most bytes are digits.
+#[inline(always)]
+fn look_ahead(text: &[u8], from: usize) -> Ahead
+    requires { from ≤ length text.now }
+    ensures { IsAhead text.now from result }
+{
+    let mut at = from;
+    while at < text.len() {
+        match digit(text[at]) {
+            Some(number) => return Ahead::Digit(number, at + 1),
+            None if is_passed_over(text[at]) => at += 1,
+            None => return Ahead::Other,
+        }
+    }
+    Ahead::End
+}
+
 /// The bytes that the text's hex digits spell, of either case. Space, tab, CR and LF are passed
 /// over wherever they stand.
 /// `NotHex` where any other byte or half a byte stands; else it fails by `OutOfMemory` alone.
@@ -46,27 +74,18 @@ pub fn from_hex(alloc: Global, text: &str) -> Result<Vec<u8>, TextError>
 {
     let text = text.as_bytes();
     let mut bytes = Vec::with_capacity(alloc, text.len() / 2).map_err(|_| TextError::OutOfMemory)?;
-    // the number of a digit whose byte isn't whole yet
-    let mut half = None;
-    'digits: for byte in text {
-        if is_passed_over(*byte) {
-            continue;
-        }
-        let Some(number) = digit(*byte) else {
+    let mut at = 0;
+    'bytes: while let Ahead::Digit(high, next) = look_ahead(text, at) {
+        let Ahead::Digit(low, next) = look_ahead(text, next) else {
             return Err(TextError::NotHex);
         };
-        match half {
-            None => half = Some(number),
-            Some(high) => {
-                let Ok(()) = bytes.push(high * 16 + number) else {
-                    return Err(TextError::OutOfMemory);
-                };
-                half = None;
-            }
-        }
+        let Ok(()) = bytes.push(high * 16 + low) else {
+            return Err(TextError::OutOfMemory);
+        };
+        at = next;
     }
-    match half {
-        None => Ok(bytes),
-        Some(_) => Err(TextError::NotHex),
+    match look_ahead(text, at) {
+        Ahead::End => Ok(bytes),
+        _ => Err(TextError::NotHex),
     }
 }

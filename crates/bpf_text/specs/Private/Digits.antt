@@ -1,8 +1,10 @@
 -- How far the reading of hex text has come.
-use Rattle.std.specs.Prelude.{◌≡◌, ℕ, ◌+◌, ◌*◌, ◌<◌, List, ◌∷◌, ◌++◌, length, Option, Some, None, Result, Ok, Err}
+use Rattle.std.specs.Prelude.{◌≡◌, ℕ, ◌+◌, ◌*◌, ◌<◌, ◌≤◌, List, [], ◌∷◌, ◌++◌, length, drop, Some, None, Result, Ok, Err}
 use Rattle.hex.specs.Hex.{decode_pairs, hex_digit_value}
 use Rattle.hex.specs.declared.error.FromHexError.{FromHexError}
 use Rattle.bpf_text.specs.HexText.{digits_of}
+use Rattle.bpf_text.specs.declared.hex_text.Ahead.{Ahead}
+use Rattle.bpf_text.specs.declared.hex_text.Ahead.TheVariants as ahead
 
 -- these bytes before those of the digits that are left
 abbrev pub behind : List ℕ → Result (List ℕ) FromHexError → Result (List ℕ) FromHexError
@@ -16,8 +18,12 @@ pub record IsReadTo (text bytes digits : List ℕ) : Type 0 where
   pub whole : length (digits_of text) ≡ 2 * pairs + length digits
   pub read : decode_pairs 0 (digits_of text) ≡ behind bytes (decode_pairs at digits)
 
--- the same up to a rest of the text, where one digit of a byte may have been read already
-abbrev pub IsHalfRead : List ℕ → List ℕ → Option ℕ → List ℕ → Type 0
-IsHalfRead text bytes None rest = IsReadTo text bytes (digits_of rest)
-IsHalfRead text bytes (Some n) rest =
-    (d : ℕ) × (hex_digit_value d ≡ Some n) × (n < 16) × IsReadTo text bytes (d ∷ digits_of rest)
+-- what stands ahead of a place, behind blanks: a digit and the place behind it, the end of the text,
+-- or another byte
+abbrev pub IsAhead : List ℕ → ℕ → Ahead → Type 0
+IsAhead text at (ahead.Digit n to) =
+    (d : ℕ) × (hex_digit_value d ≡ Some n) × (n < 16) × (at < to) × (to ≤ length text)
+    × (digits_of (drop at text) ≡ d ∷ digits_of (drop to text))
+IsAhead text at ahead.End = digits_of (drop at text) ≡ []
+IsAhead text at ahead.Other =
+    (b : ℕ) × (rest : List ℕ) × (hex_digit_value b ≡ None) × (digits_of (drop at text) ≡ b ∷ rest)

@@ -1,45 +1,48 @@
-use Rattle.std.proofs.Common.{◌≡◌, ℕ, false, ◌+◌, ◌<◌, List, [], ◌∷◌, length, get_or, drop, Option, Some, None, Vec, Global, sym, ap, subst, ◌∙◌, arith}
-use Rattle.std.proofs.lemmas.List.{drop_more, drop_all}
-use Rattle.hex.specs.Hex.{hex_digit_value}
-use Rattle.bpf_text.specs.HexText.{is_passed_over}
-use Rattle.bpf_text.specs.Private.Digits.{IsHalfRead}
-use Rattle.bpf_text.proofs.HexReading.{first_read, second_read, all_read, no_digit}
-use Rattle.bpf_text.proofs.hex_text.from_hex.Goals.{in-None, in-Some-half+in-Ok}
+use Rattle.std.proofs.Common.{◌≡◌, ℕ, List, [], drop, inl, refl, subst}
+use Rattle.bpf_text.specs.HexText.{digits_of}
+use Rattle.bpf_text.specs.Private.Digits.{IsReadTo, IsAhead}
+use Rattle.bpf_text.specs.declared.hex_text.Ahead.TheVariants as ahead
+use Rattle.bpf_text.proofs.HexReading.{byte_read, half_byte, no_byte, all_read}
 use Rattle.bpf_text.proofs.hex_text.from_hex.Goals as goal
 
-pub returns-in_default-clause-not_hex : goal.returns-in_default-clause-not_hex
-returns-in_default-clause-not_hex c = λ e found spelled.
-    let text = c.args.text.now in
-    let i = c.digits.byte-index in
-    let P : List ℕ → Type 0 = λ rest. IsHalfRead text c.digits.bytes.items c.digits.half rest in
-    let within : i < length text = omega (arith, c.digits-test.true, ap length c.as_bytes-text.ensures.value) in
-    no_digit text c.digits.bytes.items c.digits.half (get_or text i 0) (drop (i + 1) text) found
-    (subst (λ (t : List ℕ). is_passed_over (get_or t i 0) ≡ false) c.as_bytes-text.ensures.value (sym c.is_passed_over.ensures ∙ c.if-is_passed_over.false))
-    (subst (λ (t : List ℕ). hex_digit_value (get_or t i 0) ≡ None) c.as_bytes-text.ensures.value (sym c.digit.ensures.value ∙ c.in_default.is)) (subst P (drop_more text i 0 within) c.digits.invariant) spelled
+pub returns-in_default-look_ahead : goal.returns-in_default-look_ahead
+returns-in_default-look_ahead c = record {
+  spelled = tt;
+  not_hex = λ e found spelled.
+      let P : List ℕ → Type 0 = λ text. IsAhead text c.bytes.at (ahead.Digit c.in-Digit.high c.in-Digit.next) in
+      let Q : List ℕ → Type 0 = λ text. IsAhead text c.in-Digit.next c.look_ahead-in-Digit.result in
+      half_byte _ _ _ _ _ _ found c.bytes.invariant.read (subst P c.as_bytes-text.ensures.value c.in-Digit.ensures)
+      (subst Q c.as_bytes-text.ensures.value c.look_ahead-in-Digit.ensures) c.in_default-look_ahead.not-Digit spelled;
+  errors = inl refl;
+}
 
-pub digits-preserved : goal.digits-preserved
-digits-preserved c =
-    let text = c.args.text.now in
-    let i = c.digits.byte-index in
-    let b = get_or text i 0 in
-    let rest = drop (i + 1) text in
-    let P : Option ℕ → List ℕ → Type 0 = λ half rest. IsHalfRead text c.digits.bytes.items half rest in
-    let Q : Vec ℕ Global → Option ℕ → Type 0 = λ bytes half. IsHalfRead text bytes.items half rest in
-    let within : i < length text = omega (arith, c.digits-test.true, ap length c.as_bytes-text.ensures.value) in
-    let here : P c.digits.half (b ∷ rest) = subst (P c.digits.half) (drop_more text i 0 within) c.digits.invariant in
-    let passed = subst (λ (t : List ℕ). is_passed_over (get_or t i 0) ≡ false) c.as_bytes-text.ensures.value (sym c.is_passed_over.ensures ∙ c.if-is_passed_over.false) in
-    let value = subst (λ (t : List ℕ). hex_digit_value (get_or t i 0) ≡ Some c.in-Some.number) c.as_bytes-text.ensures.value (sym c.digit.ensures.value ∙ c.in-Some.is) in
-    elim c.match-half.branch [
-      | in-None w ↦
-          let before : P None (b ∷ rest) = subst (λ (half : Option ℕ). P half (b ∷ rest)) w.in-None.is here in
-          rw (w.bytes-is, w.half-is) (first_read text c.digits.bytes.items b c.in-Some.number rest passed value c.in-Some.ensures.small before)
-      | in-Some-half+in-Ok w ↦
-          let before : P (Some w.in-Some-half.high) (b ∷ rest) = subst (λ (half : Option ℕ). P half (b ∷ rest)) w.in-Some-half.is here in
-          rw (w.bytes-is, w.half-is, w.in-Ok.ensures.items) (second_read text c.digits.bytes.items w.in-Some-half.high b c.in-Some.number rest passed value before)
-    ]
+pub bytes-preserved : goal.bytes-preserved
+bytes-preserved c =
+    let P : List ℕ → Type 0 = λ text. IsAhead text c.bytes.at (ahead.Digit c.in-Digit.high c.in-Digit.next) in
+    let Q : List ℕ → Type 0 = λ text. IsAhead text c.in-Digit.next (ahead.Digit c.in-Digit-look_ahead.low c.in-Digit-look_ahead.next) in
+    let second = subst Q c.as_bytes-text.ensures.value c.in-Digit-look_ahead.ensures in
+    record {
+      inside = second.4;
+      read = rw c.in-Ok.ensures.items (byte_read _ _ _ _ _ _ _ c.bytes.invariant.read (subst P c.as_bytes-text.ensures.value c.in-Digit.ensures) second);
+    }
 
-pub returns-in-None-half-clause-spelled : goal.returns-in-None-half-clause-spelled
-returns-in-None-half-clause-spelled c =
-    let P : List ℕ → Type 0 = λ rest. IsHalfRead c.args.text.now c.digits.bytes.items c.digits.half rest in
-    let at_end : P [] = subst P (drop_all c.digits.byte-index c.args.text.now (omega (arith, c.digits-test.false, ap length c.as_bytes-text.ensures.value))) c.digits.invariant in
-    all_read c.args.text.now c.digits.bytes.items (subst (λ (half : Option ℕ). IsHalfRead c.args.text.now c.digits.bytes.items half []) c.in-None-half.is at_end)
+pub returns-in-End : goal.returns-in-End
+returns-in-End c =
+    let P : List ℕ → Type 0 = λ text. digits_of (drop c.bytes.at text) ≡ [] in
+    let none = subst P c.as_bytes-text.ensures.value c.in-End.ensures in
+    record {
+      spelled = all_read _ _ (subst (λ (ds : List ℕ). IsReadTo c.args.text.now c.bytes.bytes.items ds) none c.bytes.invariant.read);
+      not_hex = λ e found spelled. absurd cc;
+      errors = tt;
+    }
+
+pub returns-in_default-look_ahead-2 : goal.returns-in_default-look_ahead-2
+returns-in_default-look_ahead-2 c = record {
+  spelled = tt;
+  not_hex = λ e found spelled.
+      let P : List ℕ → Type 0 = λ text. IsAhead text c.bytes.at c.look_ahead.result in
+      let Q : List ℕ → Type 0 = λ text. IsAhead text c.bytes.at c.look_ahead-2.result in
+      no_byte _ _ _ _ _ found c.bytes.invariant.read (subst P c.as_bytes-text.ensures.value c.look_ahead.ensures)
+      (subst Q c.as_bytes-text.ensures.value c.look_ahead-2.ensures) c.in_default.not-Digit c.in_default-look_ahead-2.not-End spelled;
+  errors = inl refl;
+}

@@ -1,6 +1,13 @@
-use Rattle.std.specs.Prelude.{drop}
-use Rattle.bpf_text.specs.Private.Digits.{IsHalfRead}
+use Rattle.std.proofs.Common.{◌≤◌, ◌-◌, drop, length}
+use Rattle.bpf_text.specs.HexText.{digits_of}
+use Rattle.bpf_text.specs.Private.Digits.{IsReadTo}
 use Rattle.bpf_text.proofs.hex_text.from_hex.Given as goal
 
-abbrev pub invariant-digits : goal.invariant-digits
-invariant-digits l = IsHalfRead l.fn.text l.bytes.items l.half (drop l.byte-index l.fn.text)
+abbrev pub invariant-bytes : goal.invariant-bytes
+invariant-bytes l = record {
+  inside : l.at ≤ length l.fn.text;
+  read : IsReadTo l.fn.text l.bytes.items (digits_of (drop l.at l.fn.text));
+}
+
+abbrev pub decreases-bytes : goal.decreases-bytes
+decreases-bytes l = length l.fn.text - l.at
