@@ -1,5 +1,6 @@
 -- Lemmas on the jobs of a machine, its turns and its schedules.
 pub mod AdvanceLaws
+pub mod AloneLaws
 pub mod BoardLaws
 pub mod WorkLaws
 pub mod BeginLaws

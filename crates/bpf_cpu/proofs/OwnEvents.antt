@@ -23,7 +23,7 @@ use Rattle.bpf_shared.specs.Runs.{no_runs}
 use Rattle.bpf_shared.specs.Contents.{Contents, has_cpu, runs_of, StandsFor, Passes}
 
 -- each CPU that is in a run is one of the store's
-abbrev RunsWithin : Plain → Type 0
+abbrev pub RunsWithin : Plain → Type 0
 RunsWithin s = (c : ℕ) → s.running c ≡ true → c < s.shape.cpus
 
 -- an event of a CPU of the store, and what it keeps
@@ -90,6 +90,15 @@ allowed_kept s t c (Load at size number) within a = is s c within a.0 t s a.1.3 
 allowed_kept s t c (Store at size word) within a = is s c within a.0 t _ a.1.2 refl refl
 allowed_kept s t c (Atomic at size op operand expected number) within a = is s c within a.0 t _ a.1.3 refl refl
 
+-- a plain history leaves the shape
+pub legal_shape : (s t : Plain) (log : List Entry) → RunsWithin s → PlainlyLegal s log t → (t.shape ≡ s.shape) × RunsWithin t
+legal_shape s t [] within legal =
+    (ap (λ (x : Plain). x.shape) (sym legal), subst RunsWithin legal within)
+legal_shape s t (x ∷ xs) within legal =
+    let kept = allowed_kept s legal.0 x.cpu x.event within legal.1.0 in
+    let rest = legal_shape legal.0 t xs kept.within legal.2 in
+    (rest.0 ∙ kept.shape, rest.1)
+
 -- ---- the events of one CPU
 events_of-here : (c : ℕ) (x : Entry) (xs : List Entry) → x.cpu ≡ c → events_of c (x ∷ xs) ≡ x.event ∷ events_of c xs
 events_of-here c x xs e = ap (λ (b : Bool). if b then x.event ∷ events_of c xs else events_of c xs) (eq-eqb x.cpu c e)
@@ -116,7 +125,7 @@ history_is_own s t c (x ∷ xs) within legal foreign =
     ]
 
 -- ---- passages
-shown_within : (p : Contents) (s : Plain) → StandsFor p s → RunsWithin s
+pub shown_within : (p : Contents) (s : Plain) → StandsFor p s → RunsWithin s
 shown_within p s shows c runs = elim (cases_lt c (length p.runs)) [
   | inl l ↦ subst (λ (n : ℕ). c < n) (sym shows.cpus) l
   | inr g ↦ (let none : runs_of p c ≡ no_runs = get_or_past p.runs c no_runs g in let no : false ≡ true = sym (ap (λ (r : _). r.running) none) ∙ (sym (shows.running c) ∙ runs) in cc)

@@ -2,3 +2,4 @@
 pub mod Execute
 pub mod Tries
 pub mod Lanes
+pub mod Turns

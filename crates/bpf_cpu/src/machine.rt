@@ -46,7 +46,8 @@ pub enum Standing<'a> {
 }
 
 /// What a CPU is to do, with the number of the job.
-enum Work {
+#[derive(Clone, Copy)]
+pub(crate) enum Work {
     InHand(usize),
     Waiting(usize),
     Nothing,
@@ -84,7 +85,9 @@ impl Machine {
     ghost use Rattle.bpf_cpu.specs.Schedule.{World, TakesTurn, RunsSchedule};
     ghost use Rattle.bpf_cpu.specs.Machine.{Shows};
     ghost use Rattle.bpf_cpu.specs.Work.{BeginsJob, Proceeds, IsWork, IsNext, HasInHand, IsState};
-    ghost use Rattle.bpf_cpu.specs.Questions.{IsStanding};
+    ghost use Rattle.bpf_cpu.specs.Questions.{IsStanding, turns_left};
+    ghost use Rattle.bpf_cpu.specs.Rounds.{RunsRounds};
+    ghost use Rattle.bpf_cpu.specs.Private.Turns.{IsAlone};
 
     /// A machine whose jobs all wait. It makes all the room that they will ever need.
     pub fn new(
@@ -232,7 +235,7 @@ impl Machine {
     }
 
     /// What a CPU is to do.
-    fn work(&self, cpu: u8) -> Work
+    pub(crate) fn work(&self, cpu: u8) -> Work
         ensures { IsWork self.now.jobs cpu result }
     {
         let Some(lane) = self.lanes.get(cpu as usize) else {
@@ -292,5 +295,25 @@ impl Machine {
                 Turn::Ended(job, outcome)
             }
         }
+    }
+
+    /// Makes all turns that the job in a CPU's hand has left, where no other CPU has work.
+    pub(crate) fn finish(&mut self, cpu: u8, job: usize)
+        requires has { HasInHand self.old.jobs cpu job }
+        requires alone { IsAlone self.old.jobs cpu }
+        ensures finishes { (w : World) → Shows self.old w
+            → (z : World) × ((n : ℕ) × RunsRounds n w z) × Shows self.new z }
+        ensures falls { ((w : World) × Shows self.old w)
+            → turns_left self.new.jobs < turns_left self.old.jobs }
+    {
+        let lane = &mut self.lanes[cpu as usize];
+        let Some(hand) = &mut lane.hand else {
+            unreachable!()
+        };
+        let listed = &mut self.jobs[job];
+        let outcome = hand.finish(&self.programs[listed.program], &mut self.store);
+        self.store.end(cpu);
+        listed.phase = Phase::Ended(outcome);
+        put_down(lane);
     }
 }

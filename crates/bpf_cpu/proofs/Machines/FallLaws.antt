@@ -17,7 +17,7 @@ use Rattle.bpf_cpu.specs.Schedule.{World, Advances, Settles, GoesOn}
 use Rattle.bpf_cpu.specs.Questions.{turns_of, open_in, Falls, TurnsFall}
 
 -- what a sum over jobs is after one of them has another stage
-summed : (f : Task → ℕ) (jobs : List Task) (j : ℕ) (task : Task) (stage : Stage) → slice_get jobs j ≡ Some task
+pub summed : (f : Task → ℕ) (jobs : List Task) (j : ℕ) (task : Task) (stage : Stage) → slice_get jobs j ≡ Some task
     → sum_by f (with_stage jobs j task stage) + f task ≡ sum_by f jobs + f (record task { stage = stage })
 summed f jobs j task stage at =
     let within : j < length jobs = slice_get_within jobs j task at in

@@ -1,6 +1,7 @@
 -- The job in a CPU's hand goes on, or ends.
-use Rattle.std.proofs.Common.{◌≡◌, ◌≢◌, ℕ, ◌<◌, ◌≤◌, Bool, true, false, List, Option, Some, None, is_some, length, refl, sym, ap, subst, ◌∙◌}
+use Rattle.std.proofs.Common.{◌≡◌, ◌≢◌, ℕ, suc, ◌+◌, ◌<◌, ◌≤◌, arith, Bool, true, false, List, Option, Some, None, is_some, length, refl, sym, ap, subst, ◌∙◌}
 use Rattle.std.specs.Prelude.{slice_get, slice_set}
+use Rattle.std.proofs.lemmas.Bool.{ltb-true}
 use Rattle.std.proofs.lemmas.Option.{slice_get_within}
 use Rattle.bpf_shared.proofs.Puts.{put-same, put-other}
 use Rattle.bpf_shared.specs.declared.events.Event.TheVariants.{End}
@@ -25,6 +26,12 @@ use Rattle.bpf_cpu.specs.Task.{Task, InHand, Ended, with_stage, IsAt}
 use Rattle.bpf_cpu.specs.Private.Lanes.{lane_of, stage_of, task_of, tasks_of, FitsLane, IsHand, IsBoard}
 use Rattle.bpf_cpu.specs.Schedule.{World, Advances, GoesOn}
 use Rattle.bpf_cpu.specs.Machine.{Shows}
+use Rattle.bpf_cpu.specs.Rounds.{RunsRounds}
+use Rattle.bpf_cpu.specs.Questions.{turns_of, turns_left}
+use Rattle.bpf_cpu.specs.Private.Turns.{IsAlone, Lasts}
+use Rattle.bpf_cpu.proofs.OwnEvents.{shown_within}
+use Rattle.bpf_cpu.proofs.Machines.AloneLaws.{rounds_left}
+use Rattle.bpf_cpu.proofs.Machines.FallLaws.{summed}
 use Rattle.bpf_base.proofs.Lists.{slice_get-set_known}
 use Rattle.bpf_cpu.proofs.Machines.BoardLaws.{tasks_changed, board_changed}
 use Rattle.bpf_cpu.proofs.Machines.WorkLaws.{HandAt, hand_at}
@@ -123,6 +130,11 @@ module _ (store : Contents) (programs : List Loaded) (jobs : List Listed) (lanes
               subst (λ (n : ℕ). Advances program c s state n end t new rest) left_is
               (subst (λ (x : Cpu). Advances program c s x h.left end t new rest) state_is (subst (λ (n : ℕ). Advances program n s h.cpu h.left end t new rest) number a))
 
+          lasts_here : (turns : ℕ) (s t : Plain) (end : Outcome) → Lasts program h.cpu.number turns s h.cpu h.left end t → Lasts program c turns s state left end t
+          lasts_here turns s t end a =
+              subst (λ (n : ℕ). Lasts program c turns s state n end t) left_is
+              (subst (λ (x : Cpu). Lasts program c turns s x h.left end t) state_is (subst (λ (n : ℕ). Lasts program n turns s h.cpu h.left end t) number a))
+
           -- it stays in hand
           module _ (h' : Hand) (job : h'.job ≡ h.job) (number_same : h'.cpu.number ≡ h.cpu.number) (still : IsReady program h'.cpu) where
             abbrev l' : Lane
@@ -212,3 +224,28 @@ module _ (store : Contents) (programs : List Loaded) (jobs : List Listed) (lanes
                   (program, Some outcome, r.0, new, rest, loaded_there w shows.programs, advances w.store (Some outcome) r.0 new rest r.1, (q.0, q.1, refl, refl)),
                   record { store = q.3; sound = q.2; programs = shows.programs; jobs = ap (λ (ts : List Task). with_stage ts j task (Ended outcome)) shows.jobs ∙ sym ended_tasks },
                 )
+
+            -- in each world that the machine shows, as many rounds as the job has turns left end it
+            pub finishes_ended : (mid after : Contents) → ((s : Plain) → IsSoundStore s → contents.StandsFor store s → (t : Plain) × (turns : ℕ) × Lasts program h.cpu.number turns s h.cpu h.left outcome t × IsSoundStore t × contents.StandsFor mid t)
+                → ((s : Plain) → IsSoundStore s → contents.StandsFor mid s → (t : Plain) × PlainlyAllowed s c End t × IsSoundStore t × contents.StandsFor after t)
+                → IsAlone (tasks_of lanes jobs) c
+                → (w : World) → Shows (record { store = store; programs = programs; jobs = tasks_of lanes jobs }) w
+                → (z : World) × ((n : ℕ) × RunsRounds n w z) × Shows (record { store = after; programs = programs; jobs = tasks_of (slice_set lanes c l'') (slice_set jobs j e'') }) z
+            finishes_ended mid after lasting end alone_there w shows =
+                let r = lasting w.store shows.sound shows.store in
+                let q = end r.0 r.3 r.4 in
+                let z : World = record w { store = q.0; jobs = with_stage w.jobs j task (Ended outcome) } in
+                let there : IsAt w.jobs c j task (InHand state left) = subst (λ (ts : List Task). IsAt ts c j task (InHand state left)) (sym shows.jobs) in_hand in
+                let inside : c < w.store.shape.cpus = subst (λ (n : ℕ). c < n) (sym shows.store.cpus) (ltb-true c (length store.runs) serves) in
+                let few : IsAlone w.jobs c = subst (λ (ts : List Task). IsAlone ts c) (sym shows.jobs) alone_there in (
+                  z,
+                  (suc r.1, rounds_left c j program outcome r.0 q.0 q.1 r.1 w task state left (shown_within store w.store shows.store) inside few (loaded_there w shows.programs) there (lasts_here r.1 w.store r.0 outcome r.2)),
+                  record { store = q.3; sound = q.2; programs = shows.programs; jobs = ap (λ (ts : List Task). with_stage ts j task (Ended outcome)) shows.jobs ∙ sym ended_tasks },
+                )
+
+            -- and the jobs have fewer turns left
+            pub finishes_less : turns_left (tasks_of (slice_set lanes c l'') (slice_set jobs j e'')) < turns_left (tasks_of lanes jobs)
+            finishes_less =
+                let sum = summed (λ t. turns_of t.budget t.stage) (tasks_of lanes jobs) j task (Ended outcome) in_hand.listed in
+                let some : turns_of task.budget task.stage ≡ left + 1 = ap (turns_of task.budget) in_hand.at in
+                subst (λ (ts : List Task). turns_left ts < turns_left (tasks_of lanes jobs)) (sym ended_tasks) (omega (arith, sum, some))

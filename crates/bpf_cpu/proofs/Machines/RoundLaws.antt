@@ -1,5 +1,5 @@
 -- Rounds of turns.
-use Rattle.std.proofs.Common.{◌≡◌, ℕ, suc, ◌+◌, ◌<◌, Bool, true, false, List, length, Option, Some, None, inl, inr, refl, sym, ap, subst, ◌∙◌, arith}
+use Rattle.std.proofs.Common.{◌≡◌, ◌≢◌, ℕ, zero, suc, ◌+◌, ◌<◌, ◌≤◌, true, false, List, length, Option, Some, None, inl, inr, refl, sym, subst, ◌∙◌, arith}
 use Rattle.std.specs.Prelude.{nat_lt, slice_get}
 use Rattle.std.proofs.lemmas.Bool.{cases_lt, cases_order, le-ltb, lt-ltb}
 use Rattle.bpf_shared.specs.Contents.{has_cpu}
@@ -13,6 +13,10 @@ use Rattle.bpf_cpu.proofs.Machines.FallLaws.{turns_fall}
 use Rattle.bpf_cpu.specs.Schedule.{World, Settles, TakesTurn, RunsSchedule}
 use Rattle.bpf_cpu.specs.Rounds.{below, HaveEnded, RunsRound, RunsRounds, RunsToEnd}
 use Rattle.bpf_cpu.specs.Machine.{MachineState, Shows}
+use Rattle.bpf_cpu.specs.declared.machine.rounds.Worked.{Worked}
+use Rattle.bpf_cpu.specs.declared.machine.rounds.Worked.TheVariants.{Nobody, One, More}
+use Rattle.bpf_cpu.specs.Private.Turns.{IsAlone, with_worked}
+use Rattle.bpf_cpu.proofs.Machines.AloneLaws.{IsIdle, turn_idles}
 use Rattle.bpf_cpu.proofs.Machines.TurnLaws.{runs_more}
 
 -- numbers that have the same numbers below them are one
@@ -47,22 +51,26 @@ all_ended jobs n inside idle j task listed = at_stage task.stage refl
     at_stage (Ended outcome) e = (outcome, e)
 
 -- ---- a round, as far as the CPUs below a number
-pub record SoFar (old : MachineState) (c : ℕ) (worked : Bool) (new : MachineState) : Type 0 where
+pub record SoFar (old : MachineState) (c : ℕ) (worked : Worked) (new : MachineState) : Type 0 where
   pub runs : (w : World) → Shows old w → (z : World) × RunsSchedule w (below c) z × Shows new z
-  pub falls : worked ≡ true → turns_left new.jobs < turns_left old.jobs
-  pub idle : worked ≡ false → (new ≡ old) × ((d : ℕ) → d < c → IsFree old.jobs d × NoneWaits old.jobs d)
+  pub falls : (worked ≡ Nobody → ⊥) → turns_left new.jobs < turns_left old.jobs
+  pub idle : worked ≡ Nobody → (new ≡ old) × ((d : ℕ) → d < c → IsIdle old.jobs d)
+  pub kept : (d : ℕ) → c ≤ d → IsIdle old.jobs d → IsIdle new.jobs d
+  pub alone : (e : ℕ) → worked ≡ One e → (d : ℕ) → d < c → (d ≡ e → ⊥) → IsIdle new.jobs d
 
-pub none_yet : (old : MachineState) → SoFar old 0 false old
+pub none_yet : (old : MachineState) → SoFar old 0 Nobody old
 none_yet old = record {
   runs = λ w shows. (w, refl, shows);
-  falls = λ e. cc;
+  falls = λ some. absurd (some refl);
   idle = λ e. (refl, λ d less. absurd (omega arith));
+  kept = λ d past idle. idle;
+  alone = λ e one. cc;
 }
 
 abbrev pub Turns : MachineState → ℕ → Turn → MachineState → Type 0
 Turns mid c answer new = (w : World) → Shows mid w → (z : World) × TakesTurn w c answer z × Shows new z
 
-one_more : (old mid new : MachineState) (c : ℕ) (worked : Bool) (answer : Turn) → SoFar old c worked mid → Turns mid c answer new
+one_more : (old mid new : MachineState) (c : ℕ) (worked : Worked) (answer : Turn) → SoFar old c worked mid → Turns mid c answer new
     → (w : World) → Shows old w → (z : World) × RunsSchedule w (below (c + 1)) z × Shows new z
 one_more old mid new c worked answer far progress w shows =
     let r = far.runs w shows in
@@ -70,38 +78,58 @@ one_more old mid new c worked answer far progress w shows =
     let more : suc c ≡ c + 1 = omega arith in
     (t.0, subst (λ (n : ℕ). RunsSchedule w (below n) t.0) more (runs_more w (below c) c r.0 answer t.0 r.1 t.1), t.2)
 
-pub next_idle : (old mid new : MachineState) (c : ℕ) (worked : Bool) (answer : Turn) → SoFar old c worked mid → (w : World) → Shows old w → Turns mid c answer new → answer ≡ turn.Idle → new ≡ mid → SoFar old (c + 1) worked new
+pub next_idle : (old mid new : MachineState) (c : ℕ) (worked : Worked) (answer : Turn) → SoFar old c worked mid → (w : World) → Shows old w → Turns mid c answer new → answer ≡ turn.Idle → new ≡ mid → SoFar old (c + 1) worked new
 next_idle old mid new c worked answer far w shows progress idle stays = record {
   runs = one_more old mid new c worked answer far progress;
-  falls = λ e. subst (λ (m : MachineState). turns_left m.jobs < turns_left old.jobs) (sym stays) (far.falls e);
+  falls = λ some. subst (λ (m : MachineState). turns_left m.jobs < turns_left old.jobs) (sym stays) (far.falls some);
   idle = λ e. (
     stays ∙ (far.idle e).0,
     λ d less. elim (cases_lt d c) [
       | inl before ↦ (far.idle e).1 d before
-      | inr past ↦
-          let here : c ≡ d = omega arith in
-          let r = far.runs w shows in
-          let t = progress r.0 r.2 in
-          let jobs = r.2.jobs ∙ ap (λ (m : MachineState). m.jobs) (far.idle e).0 in
-          let P : List Task → Type 0 = λ jobs. IsFree jobs d × NoneWaits jobs d in
-          let Q : ℕ → Type 0 = λ d. IsFree r.0.jobs d × NoneWaits r.0.jobs d in
-          subst P jobs (subst Q here (idle_turn r.0 c answer t.0 t.1 idle))
+      | inr past ↦ subst (λ (m : MachineState). IsIdle m.jobs d) (far.idle e).0 (here d (omega arith))
     ],
   );
+  kept = λ d past none. subst (λ (m : MachineState). IsIdle m.jobs d) (sym stays) (far.kept d (omega arith) none);
+  alone = λ e one d less ne. subst (λ (m : MachineState). IsIdle m.jobs d) (sym stays) (elim (cases_lt d c) [
+    | inl before ↦ far.alone e one d before ne
+    | inr past ↦ here d (omega arith)
+  ]);
 }
+  where
+    here : (d : ℕ) → c ≡ d → IsIdle mid.jobs d
+    here d e =
+        let r = far.runs w shows in
+        let t = progress r.0 r.2 in
+        let P : List Task → Type 0 = λ jobs. IsIdle jobs d in
+        let Q : ℕ → Type 0 = λ d. IsIdle r.0.jobs d in
+        subst P r.2.jobs (subst Q e (idle_turn r.0 c answer t.0 t.1 idle))
 
 fell : (answer : Turn) (old new : List Task) → (answer ≡ turn.Idle → ⊥) → Falls answer old new → turns_left new < turns_left old
 fell turn.Idle old new works falls = absurd (works refl)
 fell turn.Ran old new works falls = falls.0
 fell (turn.Ended j end) old new works falls = falls.0
 
-pub next_worked : (old mid new : MachineState) (c : ℕ) (worked : Bool) (answer : Turn) → SoFar old c worked mid → (w : World) → Shows old w → Turns mid c answer new → (answer ≡ turn.Idle → ⊥) → SoFar old (c + 1) true new
+pub next_worked : (old mid new : MachineState) (c : ℕ) (worked : Worked) (answer : Turn) → SoFar old c worked mid → (w : World) → Shows old w → Turns mid c answer new → (answer ≡ turn.Idle → ⊥) → SoFar old (c + 1) (with_worked worked c) new
 next_worked old mid new c worked answer far w shows progress works = record {
   runs = one_more old mid new c worked answer far progress;
-  falls = λ e. at_most worked refl;
-  idle = λ e. cc;
+  falls = λ some. at_most worked refl;
+  idle = λ e. absurd (nobody worked e);
+  kept = λ d past none. after d (λ e. absurd (omega arith)) (far.kept d (omega arith) none);
+  alone = λ e one d less ne. one_alone worked refl e one d less ne;
 }
   where
+    after : (d : ℕ) → d ≢ c → IsIdle mid.jobs d → IsIdle new.jobs d
+    after d ne idle =
+        let r = far.runs w shows in
+        let t = progress r.0 r.2 in
+        let P : List Task → Type 0 = λ jobs. IsIdle jobs d in
+        subst P t.2.jobs (turn_idles r.0 c d answer t.0 t.1 ne (subst P (sym r.2.jobs) idle))
+
+    nobody : (b : Worked) → with_worked b c ≡ Nobody → ⊥
+    nobody Nobody e = cc
+    nobody (One d) e = cc
+    nobody More e = cc
+
     lower : turns_left new.jobs < turns_left mid.jobs
     lower =
         let r = far.runs w shows in
@@ -111,20 +139,45 @@ next_worked old mid new c worked answer far w shows progress works = record {
         let Q : List Task → Type 0 = λ jobs. turns_left t.0.jobs < turns_left jobs in
         subst P t.2.jobs (subst Q r.2.jobs less)
 
-    at_most : (b : Bool) → worked ≡ b → turns_left new.jobs < turns_left old.jobs
-    at_most true e = let less = far.falls e in let last = lower in omega arith
-    at_most false e = subst (λ (m : MachineState). turns_left new.jobs < turns_left m.jobs) (far.idle e).0 lower
+    at_most : (b : Worked) → worked ≡ b → turns_left new.jobs < turns_left old.jobs
+    at_most Nobody e = subst (λ (m : MachineState). turns_left new.jobs < turns_left m.jobs) (far.idle e).0 lower
+    at_most (One d) e = let less = far.falls (λ none. cc) in let last = lower in omega arith
+    at_most More e = let less = far.falls (λ none. cc) in let last = lower in omega arith
 
-pub whole_round : (old new : MachineState) (n : ℕ) (worked : Bool) → ((c : ℕ) → has_cpu old.store c ≡ nat_lt c n) → SoFar old n worked new
+    below_it : (d : ℕ) → d < c + 1 → d ≢ c → d < c
+    below_it d less ne = elim (cases_order d c) [
+      | inl e ↦ absurd (ne e)
+      | inr rest ↦ elim rest [ inl l ↦ l | inr g ↦ absurd (omega arith) ]
+    ]
+
+    one_alone : (b : Worked) → worked ≡ b → (e : ℕ) → with_worked b c ≡ One e → (d : ℕ) → d < c + 1 → (d ≡ e → ⊥) → IsIdle new.jobs d
+    one_alone Nobody was e one d less ne =
+        let same : c ≡ e = cc one in
+        let other : d ≢ c = λ q. ne (q ∙ same) in
+        after d other (subst (λ (m : MachineState). IsIdle m.jobs d) (sym (far.idle was).0) ((far.idle was).1 d (below_it d less other)))
+    one_alone (One k) was e one d less ne = cc
+    one_alone More was e one d less ne = cc
+
+pub whole_round : (old new : MachineState) (n : ℕ) (worked : Worked) → ((c : ℕ) → has_cpu old.store c ≡ nat_lt c n) → SoFar old n worked new
     → (w : World) → Shows old w → (z : World) × RunsRound w z × Shows new z
 whole_round old new n worked same far w shows =
     let r = far.runs w shows in
     (r.0, subst (λ (k : ℕ). RunsSchedule w (below k) r.0) (sym (cpus_shown old w n same shows)) r.1, r.2)
 
-pub idle_round : (old new : MachineState) (n : ℕ) (worked : Bool) → ((j : ℕ) (task : Task) → slice_get old.jobs j ≡ Some task → task.cpu < n) → SoFar old n worked new → worked ≡ false → HaveEnded new.jobs
+pub idle_round : (old new : MachineState) (n : ℕ) (worked : Worked) → ((j : ℕ) (task : Task) → slice_get old.jobs j ≡ Some task → task.cpu < n) → SoFar old n worked new → worked ≡ Nobody → HaveEnded new.jobs
 idle_round old new n worked inside far e =
     let idle = far.idle e in
     subst (λ (m : MachineState). HaveEnded m.jobs) (sym idle.0) (all_ended old.jobs n inside idle.1)
+
+-- a CPU that the store hasn't has no work
+pub alone_round : (old new : MachineState) (n : ℕ) (worked : Worked) → ((j : ℕ) (task : Task) → slice_get old.jobs j ≡ Some task → task.cpu < n) → SoFar old n worked new → (e : ℕ) → worked ≡ One e → IsAlone new.jobs e
+alone_round old new n worked inside far e one d ne = elim (cases_lt d n) [
+  | inl less ↦ far.alone e one d less ne
+  | inr past ↦ far.kept d past (
+    λ j task state left at. absurd (let l = inside j task at.listed in let k : task.cpu ≡ d = at.of in omega arith),
+    λ j task context at. absurd (let l = inside j task at.listed in let k : task.cpu ≡ d = at.of in omega arith),
+  )
+]
 
 -- ---- rounds
 abbrev pub SoMany : MachineState → MachineState → Type 0
@@ -133,11 +186,30 @@ SoMany old new = (w : World) → Shows old w → (z : World) × ((n : ℕ) × Ru
 pub no_rounds : (old : MachineState) → SoMany old old
 no_rounds old w shows = (w, (0, refl), shows)
 
-pub next_round : (old mid new : MachineState) → SoMany old mid → ((w : World) → Shows mid w → (z : World) × RunsRound w z × Shows new z) → SoMany old new
+rounds_join : (n k : ℕ) (w m z : World) → RunsRounds n w m → RunsRounds k m z → RunsRounds (k + n) w z
+rounds_join n zero w m z before after =
+    let e : n ≡ 0 + n = omega arith in
+    let P : ℕ → Type 0 = λ i. RunsRounds i w z in
+    subst P e (subst (λ (x : World). RunsRounds n w x) (sym after) before)
+rounds_join n (suc k) w m z before after =
+    let e : suc (k + n) ≡ suc k + n = omega arith in
+    let P : ℕ → Type 0 = λ i. RunsRounds i w z in
+    subst P e (after.0, rounds_join n k w m after.0 before after.1, after.2)
+
+pub next_rounds : (old mid new : MachineState) → SoMany old mid → SoMany mid new → SoMany old new
+next_rounds old mid new many more w shows =
+    let r = many w shows in
+    let t = more r.0 r.2 in
+    (t.0, (t.1.0 + r.1.0, rounds_join r.1.0 t.1.0 w r.0 t.0 r.1.1 t.1.1), t.2)
+
+next_round : (old mid new : MachineState) → SoMany old mid → ((w : World) → Shows mid w → (z : World) × RunsRound w z × Shows new z) → SoMany old new
 next_round old mid new many round w shows =
     let r = many w shows in
     let t = round r.0 r.2 in
     (t.0, (suc r.1.0, (r.0, r.1.1, t.1)), t.2)
+
+pub one_round : (old new : MachineState) → ((w : World) → Shows old w → (z : World) × RunsRound w z × Shows new z) → SoMany old new
+one_round old new round = next_round old old new (no_rounds old) round
 
 pub to_end : (old new : MachineState) → SoMany old new → HaveEnded new.jobs → (w : World) → Shows old w → (z : World) × RunsToEnd w z × Shows new z
 to_end old new many ended w shows =

@@ -9,6 +9,7 @@ ghost use Rattle.bpf_helpers.specs.Held.{AreHeld, KeepsRun};
 ghost use Rattle.bpf_cpu.specs.Step.{IsReady};
 ghost use Rattle.bpf_cpu.specs.Schedule.{Advances};
 ghost use Rattle.bpf_cpu.specs.Private.Lanes.{IsFirstJob, lane_of, listed};
+ghost use Rattle.bpf_cpu.specs.Private.Turns.{Lasts};
 
 use crate::cpu::Cpu;
 use crate::machine::job::Job;
@@ -177,5 +178,21 @@ impl Hand {
             Progress::On if self.left == 0 => Some(Outcome::OutOfBudget(self.cpu.pc)),
             Progress::On => None,
         }
+    }
+
+    /// Makes the steps that its budget has left, until the job ends. With its outcome.
+    pub(crate) fn finish(&mut self, program: &Program, store: &mut PlainStore) -> Outcome
+        requires ready { IsReady program.now self.old.cpu }
+        requires serves { has_cpu store.old self.old.cpu.number ≡ true }
+        requires in_run { is_running store.old self.old.cpu.number ≡ true }
+        requires held { AreHeld (held_spans store.old self.old.cpu.number) self.old.cpu.held }
+        ensures lasts { (s : Plain) → IsSoundStore s → contents.StandsFor store.old s →
+            (t : Plain) × (turns : ℕ) ×
+            Lasts program.now self.old.cpu.number turns s self.old.cpu self.old.left result t ×
+            IsSoundStore t × contents.StandsFor store.new t }
+        ensures keeps { KeepsRun shapes_of is_running held_spans self.old.cpu.number store.old store.new }
+        ensures serves { has_cpu store.new ≡ has_cpu store.old }
+    {
+        self.cpu.make_steps(program, store, self.left)
     }
 }

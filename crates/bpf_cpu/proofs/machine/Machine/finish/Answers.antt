@@ -1,0 +1,180 @@
+use Rattle.std.proofs.Common.{◌≡◌, ℕ, ◌<◌, Some, None, length, refl, sym, ap, subst, ◌∙◌, Bool, true, false, arith}
+use Rattle.std.specs.Prelude.{slice_get, slice_set}
+use Rattle.std.proofs.lemmas.Option.{slice_get_read}
+use Rattle.bpf_shared.specs.Store.{put}
+use Rattle.bpf_shared.specs.declared.events.Span.{Span}
+use Rattle.bpf_shared.specs.Contents.{has_cpu, is_running, held_spans}
+use Rattle.bpf_shared.specs.declared.events.Event.TheVariants.{End}
+use Rattle.bpf_cpu.specs.declared.machine.lane.Lane.{Lane}
+use Rattle.bpf_cpu.specs.declared.machine.lane.Listed.{Listed}
+use Rattle.bpf_cpu.specs.declared.machine.lane.Phase.TheVariants.{Ended}
+use Rattle.bpf_helpers.specs.Held.{AreHeld}
+use Rattle.bpf_cpu.specs.Machine.{MachineState, Shows}
+use Rattle.bpf_cpu.specs.Schedule.{World}
+use Rattle.bpf_cpu.specs.Rounds.{RunsRounds}
+use Rattle.bpf_cpu.specs.Questions.{turns_left}
+use Rattle.bpf_cpu.specs.Private.Turns.{IsAlone}
+use Rattle.bpf_cpu.specs.Private.Lanes.{lane_of, tasks_of, IsBoard}
+use Rattle.bpf_cpu.specs.Work.{HasInHand}
+use Rattle.bpf_cpu.proofs.OwnEvents.{call_leads}
+use Rattle.bpf_cpu.proofs.HeldLaws.{others_without}
+use Rattle.bpf_cpu.proofs.Machines.WorkLaws.{lane_read}
+use Rattle.bpf_cpu.proofs.Machines.ProceedLaws.{lane_within, job_within, serves, running, never_empty, number, program_within, held_now, ready, ended_board, finishes_ended, finishes_less}
+use Rattle.bpf_cpu.proofs.machine.Machine.finish.Goals as goal
+
+pub index_mut-lane-requires : goal.index_mut-lane-requires
+index_mut-lane-requires c =
+    let m = c.self.inside in
+    let P : MachineState → Type 0 = λ s. HasInHand s.jobs c.args.cpu c.args.job in
+    let has = subst P (sym c.self.view_is) c.requires.has in
+    omega (arith, lane_within m.store m.programs.items m.jobs.items m.lanes.items c.self.invariant c.args.cpu c.args.job has.0 has.1 has.2 has.3, m.lanes.ok.0)
+
+pub unreachable-requires : goal.unreachable-requires
+unreachable-requires c =
+    let m = c.self.inside in
+    let P : MachineState → Type 0 = λ s. HasInHand s.jobs c.args.cpu c.args.job in
+    let has = subst P (sym c.self.view_is) c.requires.has in
+    let l = c.index_mut-lane.result.now in
+    let here : lane_of m.lanes.items c.args.cpu ≡ l = lane_read m.lanes.items c.args.cpu l (lane_within m.store m.programs.items m.jobs.items m.lanes.items c.self.invariant c.args.cpu c.args.job has.0 has.1 has.2 has.3) c.index_mut-lane.ensures.value in
+    never_empty m.store m.programs.items m.jobs.items m.lanes.items c.self.invariant c.args.cpu c.args.job has.0 has.1 has.2 has.3 l here c.in_default.is
+
+pub index_mut-listed-requires : goal.index_mut-listed-requires
+index_mut-listed-requires c =
+    let m = c.self.inside in
+    let P : MachineState → Type 0 = λ s. HasInHand s.jobs c.args.cpu c.args.job in
+    let has = subst P (sym c.self.view_is) c.requires.has in
+    omega (arith, job_within m.store m.programs.items m.jobs.items m.lanes.items c.self.invariant c.args.cpu c.args.job has.0 has.1 has.2 has.3, m.jobs.ok.0)
+
+pub index-requires : goal.index-requires
+index-requires c =
+    let m = c.self.inside in
+    let P : MachineState → Type 0 = λ s. HasInHand s.jobs c.args.cpu c.args.job in
+    let has = subst P (sym c.self.view_is) c.requires.has in
+    let l = c.index_mut-lane.result.now in
+    let here : lane_of m.lanes.items c.args.cpu ≡ l = lane_read m.lanes.items c.args.cpu l (lane_within m.store m.programs.items m.jobs.items m.lanes.items c.self.invariant c.args.cpu c.args.job has.0 has.1 has.2 has.3) c.index_mut-lane.ensures.value in
+    let h = c.in-Some.hand in
+    let e = c.index_mut-listed.result.now in
+    let listed : slice_get m.jobs.items c.args.job ≡ Some e = slice_get_read m.jobs.items (length m.jobs.items) c.args.job e refl (job_within m.store m.programs.items m.jobs.items m.lanes.items c.self.invariant c.args.cpu c.args.job has.0 has.1 has.2 has.3) c.index_mut-listed.ensures.value in
+    omega (arith, program_within m.store m.programs.items m.jobs.items m.lanes.items c.self.invariant c.args.cpu c.args.job has.0 has.1 has.2 has.3 l here h c.in-Some.is e listed, m.programs.ok.0)
+
+pub finish-outcome-requires-clause-ready : goal.finish-outcome-requires-clause-ready
+finish-outcome-requires-clause-ready c =
+    let m = c.self.inside in
+    let P : MachineState → Type 0 = λ s. HasInHand s.jobs c.args.cpu c.args.job in
+    let has = subst P (sym c.self.view_is) c.requires.has in
+    let l = c.index_mut-lane.result.now in
+    let here : lane_of m.lanes.items c.args.cpu ≡ l = lane_read m.lanes.items c.args.cpu l (lane_within m.store m.programs.items m.jobs.items m.lanes.items c.self.invariant c.args.cpu c.args.job has.0 has.1 has.2 has.3) c.index_mut-lane.ensures.value in
+    let h = c.in-Some.hand in
+    let e = c.index_mut-listed.result.now in
+    let listed : slice_get m.jobs.items c.args.job ≡ Some e = slice_get_read m.jobs.items (length m.jobs.items) c.args.job e refl (job_within m.store m.programs.items m.jobs.items m.lanes.items c.self.invariant c.args.cpu c.args.job has.0 has.1 has.2 has.3) c.index_mut-listed.ensures.value in
+    let program = c.index.result.now in
+    let loaded : slice_get m.programs.items e.program ≡ Some program = slice_get_read m.programs.items (length m.programs.items) e.program program refl (program_within m.store m.programs.items m.jobs.items m.lanes.items c.self.invariant c.args.cpu c.args.job has.0 has.1 has.2 has.3 l here h c.in-Some.is e listed) c.index.ensures in
+    ready m.store m.programs.items m.jobs.items m.lanes.items c.self.invariant c.args.cpu c.args.job has.0 has.1 has.2 has.3 l here h c.in-Some.is e listed program loaded
+
+pub finish-outcome-requires-clause-serves : goal.finish-outcome-requires-clause-serves
+finish-outcome-requires-clause-serves c =
+    let m = c.self.inside in
+    let P : MachineState → Type 0 = λ s. HasInHand s.jobs c.args.cpu c.args.job in
+    let has = subst P (sym c.self.view_is) c.requires.has in
+    let l = c.index_mut-lane.result.now in
+    let here : lane_of m.lanes.items c.args.cpu ≡ l = lane_read m.lanes.items c.args.cpu l (lane_within m.store m.programs.items m.jobs.items m.lanes.items c.self.invariant c.args.cpu c.args.job has.0 has.1 has.2 has.3) c.index_mut-lane.ensures.value in
+    let h = c.in-Some.hand in
+    ap (λ (n : ℕ). has_cpu m.store n) (number m.store m.programs.items m.jobs.items m.lanes.items c.self.invariant c.args.cpu c.args.job has.0 has.1 has.2 has.3 l here h c.in-Some.is) ∙ serves m.store m.programs.items m.jobs.items m.lanes.items c.self.invariant c.args.cpu c.args.job has.0 has.1 has.2 has.3
+
+pub finish-outcome-requires-clause-in_run : goal.finish-outcome-requires-clause-in_run
+finish-outcome-requires-clause-in_run c =
+    let m = c.self.inside in
+    let P : MachineState → Type 0 = λ s. HasInHand s.jobs c.args.cpu c.args.job in
+    let has = subst P (sym c.self.view_is) c.requires.has in
+    let l = c.index_mut-lane.result.now in
+    let here : lane_of m.lanes.items c.args.cpu ≡ l = lane_read m.lanes.items c.args.cpu l (lane_within m.store m.programs.items m.jobs.items m.lanes.items c.self.invariant c.args.cpu c.args.job has.0 has.1 has.2 has.3) c.index_mut-lane.ensures.value in
+    let h = c.in-Some.hand in
+    ap (λ (n : ℕ). is_running m.store n) (number m.store m.programs.items m.jobs.items m.lanes.items c.self.invariant c.args.cpu c.args.job has.0 has.1 has.2 has.3 l here h c.in-Some.is) ∙ running m.store m.programs.items m.jobs.items m.lanes.items c.self.invariant c.args.cpu c.args.job has.0 has.1 has.2 has.3
+
+pub finish-outcome-requires-clause-held : goal.finish-outcome-requires-clause-held
+finish-outcome-requires-clause-held c =
+    let m = c.self.inside in
+    let P : MachineState → Type 0 = λ s. HasInHand s.jobs c.args.cpu c.args.job in
+    let has = subst P (sym c.self.view_is) c.requires.has in
+    let l = c.index_mut-lane.result.now in
+    let here : lane_of m.lanes.items c.args.cpu ≡ l = lane_read m.lanes.items c.args.cpu l (lane_within m.store m.programs.items m.jobs.items m.lanes.items c.self.invariant c.args.cpu c.args.job has.0 has.1 has.2 has.3) c.index_mut-lane.ensures.value in
+    let h = c.in-Some.hand in
+    let e = c.index_mut-listed.result.now in
+    let listed : slice_get m.jobs.items c.args.job ≡ Some e = slice_get_read m.jobs.items (length m.jobs.items) c.args.job e refl (job_within m.store m.programs.items m.jobs.items m.lanes.items c.self.invariant c.args.cpu c.args.job has.0 has.1 has.2 has.3) c.index_mut-listed.ensures.value in
+    let program = c.index.result.now in
+    let loaded : slice_get m.programs.items e.program ≡ Some program = slice_get_read m.programs.items (length m.programs.items) e.program program refl (program_within m.store m.programs.items m.jobs.items m.lanes.items c.self.invariant c.args.cpu c.args.job has.0 has.1 has.2 has.3 l here h c.in-Some.is e listed) c.index.ensures in
+    let P : ℕ → Type 0 = λ n. AreHeld (held_spans m.store n) h.cpu.held in
+    subst P (sym (number m.store m.programs.items m.jobs.items m.lanes.items c.self.invariant c.args.cpu c.args.job has.0 has.1 has.2 has.3 l here h c.in-Some.is)) (held_now m.store m.programs.items m.jobs.items m.lanes.items c.self.invariant c.args.cpu c.args.job has.0 has.1 has.2 has.3 l here h c.in-Some.is e listed program loaded)
+
+pub end-requires-clause-serves : goal.end-requires-clause-serves
+end-requires-clause-serves c =
+    let m = c.self.inside in
+    let P : MachineState → Type 0 = λ s. HasInHand s.jobs c.args.cpu c.args.job in
+    let has = subst P (sym c.self.view_is) c.requires.has in
+    ap (λ (f : _). f c.args.cpu) c.finish-outcome.ensures.serves ∙ serves m.store m.programs.items m.jobs.items m.lanes.items c.self.invariant c.args.cpu c.args.job has.0 has.1 has.2 has.3
+
+pub end-requires-clause-in_run : goal.end-requires-clause-in_run
+end-requires-clause-in_run c =
+    let m = c.self.inside in
+    let P : MachineState → Type 0 = λ s. HasInHand s.jobs c.args.cpu c.args.job in
+    let has = subst P (sym c.self.view_is) c.requires.has in
+    ap (λ (f : _). f c.args.cpu) c.finish-outcome.ensures.keeps.runs ∙ running m.store m.programs.items m.jobs.items m.lanes.items c.self.invariant c.args.cpu c.args.job has.0 has.1 has.2 has.3
+
+pub invariant_of-self : goal.invariant_of-self
+invariant_of-self c =
+    let m = c.self.inside in
+    let P : MachineState → Type 0 = λ s. HasInHand s.jobs c.args.cpu c.args.job in
+    let has = subst P (sym c.self.view_is) c.requires.has in
+    let l = c.index_mut-lane.result.now in
+    let here : lane_of m.lanes.items c.args.cpu ≡ l = lane_read m.lanes.items c.args.cpu l (lane_within m.store m.programs.items m.jobs.items m.lanes.items c.self.invariant c.args.cpu c.args.job has.0 has.1 has.2 has.3) c.index_mut-lane.ensures.value in
+    let h = c.in-Some.hand in
+    let e = c.index_mut-listed.result.now in
+    let listed : slice_get m.jobs.items c.args.job ≡ Some e = slice_get_read m.jobs.items (length m.jobs.items) c.args.job e refl (job_within m.store m.programs.items m.jobs.items m.lanes.items c.self.invariant c.args.cpu c.args.job has.0 has.1 has.2 has.3) c.index_mut-listed.ensures.value in
+    let program = c.index.result.now in
+    let loaded : slice_get m.programs.items e.program ≡ Some program = slice_get_read m.programs.items (length m.programs.items) e.program program refl (program_within m.store m.programs.items m.jobs.items m.lanes.items c.self.invariant c.args.cpu c.args.job has.0 has.1 has.2 has.3 l here h c.in-Some.is e listed) c.index.ensures in
+    let end : Listed = record { cpu = e.cpu; program = e.program; budget = e.budget; phase = Ended c.finish-outcome.result } in
+    let Q : Lane → Type 0 = λ k. IsBoard (has_cpu c.end.new.self) (is_running c.end.new.self) (held_spans c.end.new.self) m.programs.items (slice_set m.jobs.items c.args.job end) (slice_set m.lanes.items c.args.cpu k) in
+    subst Q (sym c.put_down.ensures) (ended_board m.store m.programs.items m.jobs.items m.lanes.items c.self.invariant c.args.cpu c.args.job has.0 has.1 has.2 has.3 l here h c.in-Some.is e listed program loaded c.finish-outcome.result c.end.new.self (c.end.ensures.same.1 ∙ c.finish-outcome.ensures.serves) (c.end.ensures.running ∙ ap (λ (f : ℕ → Bool). put f c.args.cpu false) c.finish-outcome.ensures.keeps.runs)
+    (λ d ne. ap (λ (f : ℕ → Span → Bool). f d) c.end.ensures.held ∙ others_without (held_spans c.finish-outcome.new.store) c.args.cpu d ne ∙ c.finish-outcome.ensures.keeps.others d (λ q. ne (q ∙ number m.store m.programs.items m.jobs.items m.lanes.items c.self.invariant c.args.cpu c.args.job has.0 has.1 has.2 has.3 l here h c.in-Some.is))))
+
+pub returns-clause-finishes : goal.returns-clause-finishes
+returns-clause-finishes c =
+    let m = c.self.inside in
+    let P : MachineState → Type 0 = λ s. HasInHand s.jobs c.args.cpu c.args.job in
+    let has = subst P (sym c.self.view_is) c.requires.has in
+    let l = c.index_mut-lane.result.now in
+    let here : lane_of m.lanes.items c.args.cpu ≡ l = lane_read m.lanes.items c.args.cpu l (lane_within m.store m.programs.items m.jobs.items m.lanes.items c.self.invariant c.args.cpu c.args.job has.0 has.1 has.2 has.3) c.index_mut-lane.ensures.value in
+    let h = c.in-Some.hand in
+    let e = c.index_mut-listed.result.now in
+    let listed : slice_get m.jobs.items c.args.job ≡ Some e = slice_get_read m.jobs.items (length m.jobs.items) c.args.job e refl (job_within m.store m.programs.items m.jobs.items m.lanes.items c.self.invariant c.args.cpu c.args.job has.0 has.1 has.2 has.3) c.index_mut-listed.ensures.value in
+    let program = c.index.result.now in
+    let loaded : slice_get m.programs.items e.program ≡ Some program = slice_get_read m.programs.items (length m.programs.items) e.program program refl (program_within m.store m.programs.items m.jobs.items m.lanes.items c.self.invariant c.args.cpu c.args.job has.0 has.1 has.2 has.3 l here h c.in-Some.is e listed) c.index.ensures in
+    let served : has_cpu c.finish-outcome.new.store c.args.cpu ≡ true = ap (λ (f : ℕ → Bool). f c.args.cpu) c.finish-outcome.ensures.serves ∙ serves m.store m.programs.items m.jobs.items m.lanes.items c.self.invariant c.args.cpu c.args.job has.0 has.1 has.2 has.3 in
+    let end : Listed = record { cpu = e.cpu; program = e.program; budget = e.budget; phase = Ended c.finish-outcome.result } in
+    let new : Lane → MachineState = λ k. record { store = c.end.new.self; programs = m.programs.items; jobs = tasks_of (slice_set m.lanes.items c.args.cpu k) (slice_set m.jobs.items c.args.job end) } in
+    let empty : Lane = record { hand = None; next = l.next } in
+    let goes : MachineState → MachineState → Type 0 = λ s z. (w : World) → Shows s w → (y : World) × ((n : ℕ) × RunsRounds n w y) × Shows z y in
+    let S : MachineState → Type 0 = λ s. IsAlone s.jobs c.args.cpu in
+    let Q : MachineState → Type 0 = λ s. goes s (new empty) in
+    let R : Lane → Type 0 = λ k. goes c.args.self.now (new k) in
+    subst R (sym c.put_down.ensures) (subst Q c.self.view_is (finishes_ended m.store m.programs.items m.jobs.items m.lanes.items c.self.invariant c.args.cpu c.args.job has.0 has.1 has.2 has.3 l here h c.in-Some.is e listed program loaded c.finish-outcome.result c.finish-outcome.new.store c.end.new.self c.finish-outcome.ensures.lasts
+    (call_leads c.finish-outcome.new.store c.end.new.self c.args.cpu End served c.end.ensures.ended c.end.ensures.same.1) (subst S (sym c.self.view_is) c.requires.alone)))
+
+pub returns-clause-falls : goal.returns-clause-falls
+returns-clause-falls c = λ some.
+    let m = c.self.inside in
+    let P : MachineState → Type 0 = λ s. HasInHand s.jobs c.args.cpu c.args.job in
+    let has = subst P (sym c.self.view_is) c.requires.has in
+    let l = c.index_mut-lane.result.now in
+    let here : lane_of m.lanes.items c.args.cpu ≡ l = lane_read m.lanes.items c.args.cpu l (lane_within m.store m.programs.items m.jobs.items m.lanes.items c.self.invariant c.args.cpu c.args.job has.0 has.1 has.2 has.3) c.index_mut-lane.ensures.value in
+    let h = c.in-Some.hand in
+    let e = c.index_mut-listed.result.now in
+    let listed : slice_get m.jobs.items c.args.job ≡ Some e = slice_get_read m.jobs.items (length m.jobs.items) c.args.job e refl (job_within m.store m.programs.items m.jobs.items m.lanes.items c.self.invariant c.args.cpu c.args.job has.0 has.1 has.2 has.3) c.index_mut-listed.ensures.value in
+    let program = c.index.result.now in
+    let loaded : slice_get m.programs.items e.program ≡ Some program = slice_get_read m.programs.items (length m.programs.items) e.program program refl (program_within m.store m.programs.items m.jobs.items m.lanes.items c.self.invariant c.args.cpu c.args.job has.0 has.1 has.2 has.3 l here h c.in-Some.is e listed) c.index.ensures in
+    let end : Listed = record { cpu = e.cpu; program = e.program; budget = e.budget; phase = Ended c.finish-outcome.result } in
+    let new : Lane → MachineState = λ k. record { store = c.end.new.self; programs = m.programs.items; jobs = tasks_of (slice_set m.lanes.items c.args.cpu k) (slice_set m.jobs.items c.args.job end) } in
+    let empty : Lane = record { hand = None; next = l.next } in
+    let Q : MachineState → Type 0 = λ s. turns_left (new empty).jobs < turns_left s.jobs in
+    let R : Lane → Type 0 = λ k. turns_left (new k).jobs < turns_left c.args.self.now.jobs in
+    subst R (sym c.put_down.ensures) (subst Q c.self.view_is (finishes_less m.store m.programs.items m.jobs.items m.lanes.items c.self.invariant c.args.cpu c.args.job has.0 has.1 has.2 has.3 l here h c.in-Some.is e listed program loaded c.finish-outcome.result))
