@@ -11,6 +11,7 @@ pub mod Sound
 pub mod Complete
 pub mod LabelLemmas
 pub mod BodyLemmas
+pub mod ShortForms
 pub mod LineCuts
 pub mod TextLemmas
 pub mod Shown

@@ -1,8 +1,8 @@
 -- Cutting a line into tokens.
-use Rattle.std.proofs.Common.{◌≡◌, ℕ, ◌+◌, ◌≤◌, true, List, [], ◌∷◌, ◌++◌, length, map, take, take_while, drop, append_assoc, append-nil, Option, Some, None, refl, sym, ap, ◌∙◌, subst, arith}
+use Rattle.std.proofs.Common.{◌≡◌, ℕ, ◌+◌, ◌≤◌, true, List, [], ◌∷◌, ◌++◌, length, map, take, take_while, drop, append_assoc, append-nil, Option, Some, None, ◌⊎◌, inl, inr, refl, sym, ap, ◌∙◌, subst, arith}
 use Rattle.std.specs.Prelude.{IfSome, nat_eq}
 use Rattle.std.specs.List.{starts_with}
-use Rattle.std.proofs.lemmas.List.{map-append, drop-drop}
+use Rattle.std.proofs.lemmas.List.{map-append, drop-drop, length-map}
 use Rattle.std.proofs.lemmas.Slice.Eq.{bytes_eq-Decides}
 use Rattle.std.proofs.lemmas.List.{length-take}
 use Rattle.bpf_text.specs.declared.signs.Sign.{Sign}
@@ -15,6 +15,7 @@ use Rattle.bpf_text.specs.Private.Pieces.{first_sign}
 use Rattle.bpf_text.specs.Token.{Tok}
 use Rattle.bpf_text.specs.Tokens.{is_blank, after_blanks, front_tok, front_len, IsEnd, AreTokens, IsTokens}
 use Rattle.bpf_text.specs.Private.Look.{look}
+use Rattle.bpf_text.specs.Private.Cutting.{BeginTokens, KeepsToken}
 
 -- ---- a sign is no longer than the text that it begins
 
@@ -60,8 +61,47 @@ reached_next line done at n next t r more token len e = record { on = on }
 pub reached_end : (line : List ℕ) (done : List Tok) (at : ℕ) → Reached line done at → IsEnd (drop at line) → IsTokens line done
 reached_end line done at r e = let P : List Tok → Type 0 = λ us. IsTokens line us in subst P (append-nil done) (r.on [] e)
 
-pub pushed : (line : List ℕ) (old new : List Token) (t : Token) (at : ℕ) → new ≡ old ++ t ∷ [] → Reached line (map look old ++ look t ∷ []) at → Reached line (map look new) at
-pushed line old new t at e r = let P : List Tok → Type 0 = λ x. Reached line x at in subst P (sym (ap (map look) e ∙ map-append look old (t ∷ []))) r
+-- the same, of which the first tokens are kept
+pub record IsCut (line : List ℕ) (kept : List Token) (at : ℕ) : Type 0 where
+  pub rest : List Tok
+  pub reached : Reached line (map look kept ++ rest) at
+  pub many : (rest ≡ []) ⊎ (64 ≤ length kept)
+
+pub cut_start : (line : List ℕ) (none : List Token) (at : ℕ) → none ≡ [] → at ≡ length (take_while is_blank line) → IsCut line none at
+cut_start line none at e start =
+    let P : List Tok → Type 0 = λ ts. Reached line ts at in
+    record { rest = []; reached = subst P (sym (ap (λ (ts : List Token). map look ts ++ []) e)) (reached_start line at start); many = inl refl }
+
+pub cut_next : (line : List ℕ) (old new : List Token) (t : Token) (at n next : ℕ) → IsCut line old at → (IsEnd (drop at line) → ⊥) → look t ≡ front_tok (drop at line) → n ≡ front_len (drop at line) → next ≡ (at + n) + length (take_while is_blank (drop (at + n) line)) → KeepsToken old t new → IsCut line new next
+cut_next line old new t at n next cut more token len e kept = go cut.many kept
+  where
+    P : List Tok → Type 0
+    P ts = Reached line ts next
+
+    on : Reached line ((map look old ++ cut.rest) ++ look t ∷ []) next
+    on = reached_next line (map look old ++ cut.rest) at n next (look t) cut.reached more token len e
+
+    whole : cut.rest ≡ [] → new ≡ old ++ t ∷ [] → (map look old ++ cut.rest) ++ look t ∷ [] ≡ map look new ++ []
+    whole none pushed =
+        ap (λ (r : List Tok). (map look old ++ r) ++ look t ∷ []) none
+        ∙ ap (λ (ts : List Tok). ts ++ look t ∷ []) (append-nil (map look old))
+        ∙ sym (ap (map look) pushed ∙ map-append look old (t ∷ []))
+        ∙ sym (append-nil (map look new))
+
+    left : new ≡ old → (map look old ++ cut.rest) ++ look t ∷ [] ≡ map look new ++ (cut.rest ++ look t ∷ [])
+    left same = append_assoc (map look old) cut.rest (look t ∷ []) ∙ ap (λ (ts : List Token). map look ts ++ (cut.rest ++ look t ∷ [])) (sym same)
+
+    go : (cut.rest ≡ []) ⊎ (64 ≤ length old) → KeepsToken old t new → IsCut line new next
+    go (inl none) (inl (few, pushed)) = record { rest = []; reached = subst P (whole none pushed) on; many = inl refl }
+    go (inr long) (inl (few, pushed)) = absurd (omega arith)
+    go many (inr (long, same)) = record { rest = cut.rest ++ look t ∷ []; reached = subst P (left same) on; many = inr (subst (λ (ts : List Token). 64 ≤ length ts) (sym same) long) }
+
+pub cut_end : (line : List ℕ) (kept : List Token) (at : ℕ) → IsCut line kept at → IsEnd (drop at line) → BeginTokens line (map look kept)
+cut_end line kept at cut e = (
+  cut.rest,
+  reached_end line (map look kept ++ cut.rest) at cut.reached e,
+  elim cut.many [ inl none ↦ inl none | inr long ↦ inr (omega (arith, long, length-map kept look)) ],
+)
 
 -- ---- a text has one list of tokens
 

@@ -1,8 +1,9 @@
 //! Lines cut into tokens.
 
-ghost use Rattle.std.specs.Prelude.{◌≡◌, ◌<◌, ◌≤◌, ◌+◌, length, take_while, drop, map, IfOk, IsOkUnless, IsTrue, ◌↔◌};
+ghost use Rattle.std.specs.Prelude.{◌≡◌, ◌<◌, ◌≤◌, ◌+◌, length, take_while, drop, map, IfOk, OnOk, IsOkUnless, IsTrue, ◌↔◌};
 ghost use Rattle.bpf_text.specs.Signs.{sign_text};
-ghost use Rattle.bpf_text.specs.Tokens.{is_blank, word_len, front_tok, front_len, IsEnd, IsTokens};
+ghost use Rattle.bpf_text.specs.Tokens.{is_blank, word_len, front_tok, front_len, IsEnd};
+ghost use Rattle.bpf_text.specs.Private.Cutting.{BeginTokens, KeepsToken};
 ghost use Rattle.bpf_text.specs.Private.Look.{look};
 
 use crate::error::TextError;
@@ -105,16 +106,32 @@ fn ends_at(line: &[u8], at: usize) -> bool
     is_end(&line[at..])
 }
 
-/// The tokens of a line. Fails by `OutOfMemory` alone.
+/// How many tokens of a line are kept: more than a label and any form have.
+const MAX_TOKENS: usize = 64;
+
+/// Puts a token behind the others, unless they are as many as are kept.
+fn keep<'a>(tokens: &mut Vec<Token<'a>>, token: Token<'a>) -> Result<(), TextError>
+    ensures kept { OnOk result (KeepsToken tokens.old.items token.entry tokens.new.items) }
+    ensures memory { IsOkUnless result TextError.OutOfMemory }
+{
+    if tokens.len() < MAX_TOKENS {
+        tokens.push(token).map_err(|_| TextError::OutOfMemory)
+    } else {
+        Ok(())
+    }
+}
+
+/// The tokens of a line, or the first ones where it has more than any form. Fails by `OutOfMemory`
+/// alone.
 pub fn tokens_of<'a>(alloc: Global, line: &'a [u8]) -> Result<Vec<Token<'a>>, TextError>
-    ensures found { IfOk result (λ tokens. IsTokens line.now (map look tokens.items)) }
+    ensures found { IfOk result (λ tokens. BeginTokens line.now (map look tokens.items)) }
     ensures memory { IsOkUnless result TextError.OutOfMemory }
 {
     let mut tokens = Vec::new(alloc);
     let mut at = blank_len(line);
     'line: while !ends_at(line, at) {
         let (token, len) = front_at(line, at);
-        tokens.push(token).map_err(|_| TextError::OutOfMemory)?;
+        keep(&mut tokens, token)?;
         at = skip_blanks(line, at + len);
     }
     Ok(tokens)

@@ -1,6 +1,19 @@
--- Cutting a text into lines. Private functions cite this.
-use Rattle.std.specs.Prelude.{ℕ, Bool, ◌==◌, not}
+-- Cutting a text into lines, and a line into tokens. Private functions cite this.
+use Rattle.std.specs.Prelude.{◌≡◌, ℕ, ◌≤◌, ◌<◌, ◌⊎◌, Bool, ◌==◌, not, List, [], ◌∷◌, ◌++◌, length}
+use Rattle.bpf_text.specs.declared.token.Token.{Token}
+use Rattle.bpf_text.specs.Token.{Tok}
+use Rattle.bpf_text.specs.Tokens.{IsTokens}
 
 -- every byte but a line feed
 abbrev pub in_line : ℕ → Bool
 in_line b = not (b == 10)
+
+-- all tokens of a line, or more of them than any form has
+abbrev pub BeginTokens : List ℕ → List Tok → Type 0
+BeginTokens line ts =
+    (rest : List Tok) × IsTokens line (ts ++ rest) × ((rest ≡ []) ⊎ (64 ≤ length ts))
+
+-- a token is put behind the others, unless there are that many
+abbrev pub KeepsToken : List Token → Token → List Token → Type 0
+KeepsToken old token new =
+    ((length old < 64) × (new ≡ old ++ token ∷ [])) ⊎ ((64 ≤ length old) × (new ≡ old))
