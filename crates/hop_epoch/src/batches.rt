@@ -35,10 +35,11 @@ impl Used {
 #[derive(Clone, Copy, Drop)]
 pub struct Batches {
     map: u8,
+    // before the long list, at whose end the memory of another CPU may begin
+    returned: Option<u32>,
     young: Option<u32>,
     aged: Option<u32>,
     noted: [u64; 16],
-    returned: Option<u32>,
 }
 
 impl Batches {
@@ -50,10 +51,10 @@ impl Batches {
     {
         Batches {
             map,
+            returned: None,
             young: None,
             aged: None,
             noted: [0; 16],
-            returned: None,
         }
     }
 
