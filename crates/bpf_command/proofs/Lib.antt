@@ -1,4 +1,6 @@
 pub mod OptionRows
 pub mod Walks
 pub mod Subcommands
+pub mod Ranges
 pub mod Budget
+pub mod Workers

@@ -1,9 +1,10 @@
 -- Where `clap` finds no fault, the words name one of the program's commands.
 use Rattle.std.proofs.Common.{◌≡◌, List, [], ◌∷◌, Bool, true, false, Option, Some, None, option_map, is_some, refl, inl, inr, cond}
-use Rattle.std.specs.Prelude.{IsSomeAnd, find}
+use Rattle.std.specs.Prelude.{IfSome, IsSomeAnd, find}
+use Rattle.std.specs.Option.{option_map_or}
 use Rattle.clap.specs.Kinds.{Kinds, or_else}
 use Rattle.clap.specs.Simple.{Shape, argument_words, built, entered, label_of, names_of, rows_at, subcommand_rows}
-use Rattle.clap.specs.Faults.{check_fault, defaults_fault, entered_fault, is_simple_and_free, settle_fault, walk_fault}
+use Rattle.clap.specs.Faults.{check_fault, defaults_fault, entered_fault, is_simple_and_free, level_fault, settle_fault, walk_fault}
 use Rattle.clap.specs.Walk.{Held, Row, Text, answers_to, finished, nothing_held, settled, stop_after, walk, walk_from}
 use Rattle.clap.specs.Words.{fault_of, subcommand_name_of, subcommand_of, subcommand_rows_of}
 use Rattle.clap.specs.declared.parser.matches.ArgMatches.{ArgMatches}
@@ -63,6 +64,30 @@ parts_free words e =
     let after_second = last_free second (or_else third (or_else fourth last)) after_first in
     let after_third = last_free third (or_else fourth last) after_second in
     (first_free second (or_else third (or_else fourth last)) after_first, last_free fourth last after_third)
+
+-- what holds of each subcommand that is parsed with no fault
+module _ (Known : Text × List Row → Type 0) where
+  abbrev pub AllHave : List Shape → Type 0
+  AllHave [] = Unit {0}
+  AllHave (s ∷ rest) = ((words : List Text) → level_fault s [] nothing_held words false [] ≡ [] → Known (rows_at s words)) × AllHave rest
+
+  found_has : (words : List Text) (test : Shape → Bool) (subs : List Shape) → AllHave subs
+      → option_map_or (λ s. level_fault s [] nothing_held words false []) (find test subs) [] ≡ []
+      → IfSome (option_map (λ s. rows_at s words) (find test subs)) Known
+  found_has words test [] all e = tt
+  found_has words test (s ∷ rest) all e =
+      elim (test s) as (λ b. option_map_or (λ s. level_fault s [] nothing_held words false []) (cond b (Some s) (find test rest)) [] ≡ []
+      → IfSome (option_map (λ s. rows_at s words) (cond b (Some s) (find test rest))) Known) [
+        | true ↦ λ e. all.0 words e
+        | false ↦ λ e. found_has words test rest all.1 e
+      ] e
+
+  entered_has : AllHave (built ebpf).subs → (stop : Option (Text × List Text)) → entered_fault (built ebpf) stop ≡ [] → IfSome (entered (built ebpf) stop) Known
+  entered_has all None e = tt
+  entered_has all (Some p) e = found_has p.1 (λ s. answers_to p.0 (label_of s)) (built ebpf).subs all e
+
+  pub found_known : AllHave (built ebpf).subs → (words : List Text) → fault_of ebpf words ≡ [] → IfSome (subcommand_of ebpf words) Known
+  found_known all words e = entered_has all (stop_of words) (parts_free words e).0
 
 pub names_known : (words : List Text) → fault_of ebpf words ≡ [] → NamesKnown (subcommand_of ebpf words)
 names_known words e =

@@ -1,5 +1,5 @@
--- The command line of `ebpf`, in clap's terms, and the budget that its words name. Our own choice.
-use Rattle.std.specs.Prelude.{◌≡◌, ◌⊎◌, ℕ, List, Option, Some, None, IsSomeAnd, codes, [], ◌∷◌, true, false}
+-- The command line of `ebpf`, in clap's terms, and the numbers that its words name. Our own choice.
+use Rattle.std.specs.Prelude.{◌≡◌, ◌⊎◌, ℕ, List, Option, Some, None, IfSome, IsSomeAnd, codes, [], ◌∷◌, true, false}
 use Rattle.std.specs.Str.Parse.{digits_value, without_leading_plus}
 use Rattle.clap.specs.Simple.{new_shape}
 use Rattle.clap.specs.Takes.{is_given}
@@ -7,7 +7,7 @@ use Rattle.clap.specs.Values.{IsUnsignedIn}
 use Rattle.clap.specs.Words.{App, Row, Rule, Text, new_app, new_rule, one_of, with_rule, with_subcommand}
 use Rattle.clap.specs.declared.builder.action.ArgAction.TheVariants.{SetTrue}
 use Rattle.clap.specs.declared.builder.value_parser.ValueParser.TheVariants.{Unsigned}
-use Rattle.bpf_command.specs.declared.command.TheConstants.{MAX_BUDGET}
+use Rattle.bpf_command.specs.declared.command.TheConstants.{MAX_BUDGET, MAX_WORKERS}
 
 -- `--budget N`: 0 to `MAX_BUDGET`, and 1,000,000 where it is left out
 abbrev pub budget : Rule
@@ -53,8 +53,16 @@ disasm = with_rule (with_rule (new_app (codes "disasm")) explained) pc
 abbrev pub maps : Rule
 maps = record (new_rule (codes "maps")) { long = Some (codes "maps"); action = Some SetTrue }
 
+-- `--workers N`: 1 to `MAX_WORKERS`
+abbrev pub workers : Rule
+workers = record (new_rule (codes "workers")) {
+  long = Some (codes "workers");
+  value_names = 1;
+  parser = Some (Unsigned 1 MAX_WORKERS);
+}
+
 abbrev pub run : App
-run = with_rule (with_rule (new_app (codes "run")) explained) maps
+run = with_rule (with_rule (with_rule (new_app (codes "run")) explained) maps) workers
 
 -- the code that `explain` is asked for
 abbrev pub code : Rule
@@ -114,3 +122,19 @@ IsBudget (Some text) n = IsUnsignedIn 0 MAX_BUDGET text
 abbrev pub NamesBudget : List Row → ℕ → Type 0
 NamesBudget rows n = IsBudget (one_of (codes "budget") rows) n
     × (is_given (codes "budget") rows ≡ false → n ≡ 1000000)
+
+-- what is found of `--workers`, if anything is: a number in the range
+abbrev pub HasWorkers : List Row → Type 0
+HasWorkers rows = IfSome (one_of (codes "workers") rows) (IsUnsignedIn 1 MAX_WORKERS)
+
+-- the number of workers that a text names: one in the range, in decimal digits; none where there
+-- is no text
+abbrev pub IsWorkers : Option Text → Option ℕ → Type 0
+IsWorkers None n = n ≡ None
+IsWorkers (Some text) None = ⊥
+IsWorkers (Some text) (Some n) = IsUnsignedIn 1 MAX_WORKERS text
+    × (n ≡ digits_value 10 (without_leading_plus text))
+
+-- the number of workers that the options name, if the option is given
+abbrev pub NamesWorkers : List Row → Option ℕ → Type 0
+NamesWorkers rows n = IsWorkers (one_of (codes "workers") rows) n

@@ -1,2 +1,3 @@
+pub mod Ranges
 pub mod CommandLine
 pub mod Names

@@ -6,7 +6,7 @@ use Rattle.hex.specs.Hex.{decode_of}
 use Rattle.clap.specs.Kinds.{IsAmong}
 use Rattle.clap.specs.Takes.{is_given}
 use Rattle.clap.specs.Words.{Row, Text, fault_of, first_of, kind_of, subcommand_of}
-use Rattle.bpf_command.specs.CommandLine.{NamesBudget, ebpf}
+use Rattle.bpf_command.specs.CommandLine.{NamesBudget, NamesWorkers, ebpf}
 use Rattle.bpf_command.specs.declared.command.Command.{Command}
 use Rattle.bpf_command.specs.declared.command.Command.TheVariants as command
 use Rattle.bpf_command.specs.declared.command.Request.{Request}
@@ -36,8 +36,8 @@ Names (Some found) (command.Asm listing) = (found.0 ≡ codes "asm")
     × (listing ≡ is_given (codes "listing") found.1)
 Names (Some found) (command.Disasm pc) = (found.0 ≡ codes "disasm")
     × (pc ≡ is_given (codes "pc") found.1)
-Names (Some found) (command.Run maps) = (found.0 ≡ codes "run")
-    × (maps ≡ is_given (codes "maps") found.1)
+Names (Some found) (command.Run options) = (found.0 ≡ codes "run")
+    × (options.maps ≡ is_given (codes "maps") found.1) × NamesWorkers found.1 options.workers
 Names (Some found) command.Debug = found.0 ≡ codes "debug"
 
 -- what is asked for: a command, perhaps with `--explain`, or the page of a code

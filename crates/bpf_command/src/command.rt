@@ -1,13 +1,17 @@
 //! What the program can be asked for.
 
-ghost use Rattle.std.specs.Prelude.{◌≤◌, vec_len};
+ghost use Rattle.std.specs.Prelude.{◌<◌, ◌≤◌, IfSome, vec_len};
 ghost use Rattle.bpf_mem.specs.Limits.{max_context};
-ghost use Rattle.bpf_command.specs.declared.command.TheConstants.{MAX_BUDGET};
+ghost use Rattle.bpf_command.specs.Ranges.{few-prop, some-prop};
+ghost use Rattle.bpf_command.specs.declared.command.TheConstants.{MAX_BUDGET, MAX_WORKERS};
 
 use bpf_explain::Code;
 
 /// The greatest number of steps that may be asked for.
 pub const MAX_BUDGET: u64 = 1_000_000_000;
+
+/// The greatest number of worker threads that may be asked for.
+pub const MAX_WORKERS: u8 = 16;
 
 /// The options of `hex`, in their ranges.
 #[derive(PartialEq, Eq, Debug, Drop)]
@@ -17,6 +21,17 @@ pub struct RunOptions {
     pub context: Vec<u8>,
     ghost limited: { budget ≤ MAX_BUDGET },
     ghost small: { vec_len context ≤ max_context },
+}
+
+/// The options of `run`, in their ranges.
+#[derive(PartialEq, Eq, Debug, Drop)]
+pub struct FileOptions {
+    /// To print the maps afterwards.
+    pub maps: bool,
+    /// The number of worker threads; without one the CPUs take turns on one thread.
+    pub workers: Option<u8>,
+    ghost some: { IfSome workers (λ n. 0 < n) } by { some-prop workers },
+    ghost few: { IfSome workers (λ n. n ≤ MAX_WORKERS) } by { few-prop workers MAX_WORKERS },
 }
 
 /// A command with its options.
@@ -29,8 +44,8 @@ pub enum Command {
     /// Words in hex digits to assembly text, with the pcs and words of its lines where that is
     /// asked for.
     Disasm { pc: bool },
-    /// Run the jobs of a run file, and print the maps afterwards where that is asked for.
-    Run { maps: bool },
+    /// Run the jobs of a run file.
+    Run(FileOptions),
     /// Run the jobs of a run file by commands, and show what they ask for.
     Debug,
 }

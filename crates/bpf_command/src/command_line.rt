@@ -1,14 +1,14 @@
 //! The command that words name: what `clap` finds in them, and what its options stand for.
 
-ghost use Rattle.std.specs.Prelude.{◌≡◌, ◌≤◌, ◌⊎◌, [], codes, IfErr, IfOk, IfSome, IsSomeAnd, List, map, OnOk, option_and_then, Some, ℕ};
+ghost use Rattle.std.specs.Prelude.{◌≡◌, ◌<◌, ◌≤◌, ◌⊎◌, [], codes, IfErr, IfOk, IfSome, IsSomeAnd, List, map, OnOk, option_and_then, Some, ℕ};
 ghost use Rattle.bpf_explain.specs.Code.{code_of};
 ghost use Rattle.clap.specs.Kinds.{FailsBy};
 ghost use Rattle.clap.specs.Takes.{is_given};
 ghost use Rattle.clap.specs.Words.{fault_of, first_of, first_value, found_of, rows_of, subcommand_name_of, subcommand_of, subcommand_rows_of};
-ghost use Rattle.bpf_command.specs.CommandLine.{ebpf, HasBudget, IsCommandName, IsWorkName, NamesBudget};
+ghost use Rattle.bpf_command.specs.CommandLine.{ebpf, HasBudget, HasWorkers, IsCommandName, IsWorkName, NamesBudget, NamesWorkers};
 ghost use Rattle.bpf_command.specs.Names.{Asks, IsContext, Names, Refuses, RefusesContext, RefusesFound};
 
-use crate::command::{Command, MAX_BUDGET, Request, RunOptions};
+use crate::command::{Command, FileOptions, MAX_BUDGET, MAX_WORKERS, Request, RunOptions};
 use crate::options::ebpf_command;
 use bpf_explain::{Code, code_named};
 use bpf_mem::context::MAX_CONTEXT;
@@ -38,6 +38,8 @@ fn matches_of<'a, S: AsStr>(alloc: Global, words: &'a [S]) -> Result<ArgMatches<
     ensures known { IfOk result (λ m. IsSomeAnd (subcommand_name_of m) IsCommandName) }
     ensures checked { IfOk result (λ m. IfSome (subcommand_rows_of m)
         (λ found. found.0 ≡ codes "hex" → HasBudget found.1)) }
+    ensures counted { IfOk result (λ m. IfSome (subcommand_rows_of m)
+        (λ found. found.0 ≡ codes "run" → HasWorkers found.1)) }
     ensures faults { FailsBy (fault_of ebpf (map S.text words.entry.now)) result }
 {
     let matches = ebpf_command(alloc)?.try_get_matches_from(words)?;
@@ -103,6 +105,16 @@ fn hex_of(alloc: Global, options: &ArgMatches) -> Result<Command, CommandError>
     Ok(Command::Hex(RunOptions { budget, context }))
 }
 
+/// What `clap` reads of `--workers`, if it is given.
+fn workers_of(options: &ArgMatches) -> Option<u8>
+    requires counted { HasWorkers (rows_of (found_of options.now)) }
+    ensures named { NamesWorkers (rows_of (found_of options.now)) result }
+    ensures some { IfSome result (λ n. 0 < n) }
+    ensures few { IfSome result (λ n. n ≤ MAX_WORKERS) }
+{
+    options.get_one::<u8>("workers")
+}
+
 /// Whether this option is given. A default's value has a source of its own.
 #[tactic(auto, using(crate::proofs::OptionRows::given_in_rows))]
 fn is_given(options: &ArgMatches, id: &str) -> bool
@@ -114,6 +126,7 @@ fn is_given(options: &ArgMatches, id: &str) -> bool
 fn named(alloc: Global, name: &str, options: &ArgMatches) -> Result<Command, CommandError>
     requires known { IsWorkName name.now }
     requires checked { name.now ≡ codes "hex" → HasBudget (rows_of (found_of options.now)) }
+    requires counted { name.now ≡ codes "run" → HasWorkers (rows_of (found_of options.now)) }
     ensures named { IfOk result (Names (Some (name.now, rows_of (found_of options.now)))) }
     ensures refused { IfErr result (λ e. (e ≡ CommandError.OutOfMemory)
         ⊎ ((e ≡ CommandError.NotHex) × (name.now ≡ codes "hex")
@@ -127,9 +140,10 @@ fn named(alloc: Global, name: &str, options: &ArgMatches) -> Result<Command, Com
         "disasm" => Ok(Command::Disasm {
             pc: is_given(options, "pc"),
         }),
-        "run" => Ok(Command::Run {
+        "run" => Ok(Command::Run(FileOptions {
             maps: is_given(options, "maps"),
-        }),
+            workers: workers_of(options),
+        })),
         _ => Ok(Command::Debug),
     }
 }
@@ -148,6 +162,7 @@ fn asked_code(options: &ArgMatches) -> Option<Code>
 fn requested(alloc: Global, name: &str, options: &ArgMatches) -> Result<Request, CommandError>
     requires known { IsCommandName name.now }
     requires checked { name.now ≡ codes "hex" → HasBudget (rows_of (found_of options.now)) }
+    requires counted { name.now ≡ codes "run" → HasWorkers (rows_of (found_of options.now)) }
     ensures asked { IfOk result (Asks (Some (name.now, rows_of (found_of options.now)))) }
     ensures refused { IfErr result (RefusesFound (name.now, rows_of (found_of options.now))) }
 {

@@ -3,9 +3,9 @@
 ghost use Rattle.std.specs.Prelude.{◌≡◌, false, IfOk};
 ghost use Rattle.clap.specs.Words.{app_of, rule_of, shape_of};
 ghost use Rattle.clap.specs.declared.builder.command.Command.TheViews.{out-Command as fields_of};
-ghost use Rattle.bpf_command.specs.CommandLine.{asm, bare, budget, code, context, debug, disasm, ebpf, explain, explained, hex, listing, maps, one_program, pc, run, working};
+ghost use Rattle.bpf_command.specs.CommandLine.{asm, bare, budget, code, context, debug, disasm, ebpf, explain, explained, hex, listing, maps, one_program, pc, run, workers, working};
 
-use crate::command::MAX_BUDGET;
+use crate::command::{MAX_BUDGET, MAX_WORKERS};
 use clap::{Arg, ArgAction, Command, value_parser};
 use std::alloc::{AllocError, Global};
 
@@ -40,8 +40,9 @@ The digits are read from standard input, as in
 A pc counts words of 8 bytes from 0.";
 
 const RUN_NOTES: &str = "\
-Each CPU that has work makes one turn, in rising order, until none has work. Then a line a job is
-printed: job J cpu C r0=N, fault Fk at PC or out of budget at PC.
+Each CPU that has work makes one turn, in rising order, until none has work. With --workers the
+CPUs run at once, each its jobs in order, and what they do to shared values mixes as it comes. Then
+a line a job is printed: job J cpu C r0=N, fault Fk at PC or out of budget at PC.
 
 The run file is read from standard input, as in
   $ printf 'ebpf-run 1\\nprog a\\nr0 = 5\\nexit\\nend\\njob 0 a\\n' | ebpf run
@@ -179,6 +180,17 @@ fn maps_option<'a>(alloc: Global) -> Arg<'a>
         .help("Prints the maps afterwards, a line a key: map NAME KEY=VALUE")
 }
 
+fn workers_option<'a>(alloc: Global) -> Arg<'a>
+    ensures rule { rule_of result ≡ workers }
+    ensures own { result.global ≡ false }
+{
+    Arg::new(alloc, "workers")
+        .long("workers")
+        .value_name("N")
+        .value_parser(value_parser!(u64).range(1..=MAX_WORKERS as i64))
+        .help("Runs the CPUs at once, by 1 to 16 threads, over a store that they share")
+}
+
 fn run_command<'a>(alloc: Global) -> Result<Command<'a>, AllocError>
     ensures shape { IfOk result (λ c. shape_of c ≡ run.top) }
     ensures own { IfOk result (λ c. (fields_of c).has_globals ≡ false) }
@@ -187,7 +199,8 @@ fn run_command<'a>(alloc: Global) -> Result<Command<'a>, AllocError>
         .about("Runs the jobs of a run file, over its maps")
         .after_help(RUN_NOTES)
         .arg(explain_option(alloc))?
-        .arg(maps_option(alloc))
+        .arg(maps_option(alloc))?
+        .arg(workers_option(alloc))
 }
 
 fn debug_command<'a>(alloc: Global) -> Result<Command<'a>, AllocError>

@@ -1,9 +1,5 @@
-use Rattle.std.proofs.Common.{ℕ, Option, Some, None, ◌≤◌}
-use Rattle.std.specs.Prelude.{IfSome, IsSomeAnd}
 use Rattle.std.specs.Str.Parse.{ParsesUnsigned, ExplainsUnsignedError, HasUnsignedDigitsIfOk}
-use Rattle.clap.specs.Walk.{Row}
-use Rattle.clap.specs.Words.{found_of, one_of, rows_of}
-use Rattle.bpf_command.specs.CommandLine.{NamesBudget}
+use Rattle.clap.specs.Words.{found_of, rows_of}
 use Rattle.bpf_command.proofs.OptionRows.{budget_read, limited}
 use Rattle.bpf_command.proofs.command_line.found_budget.Goals as goal
 

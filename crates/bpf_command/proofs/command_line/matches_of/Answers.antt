@@ -5,6 +5,7 @@ use Rattle.clap.specs.Words.{Text, app_of, fault_of, subcommand_of, subcommand_r
 use Rattle.bpf_command.specs.CommandLine.{ebpf}
 use Rattle.bpf_command.proofs.Budget.{BudgetKnown, budget_known}
 use Rattle.bpf_command.proofs.Subcommands.{is_told, name_known}
+use Rattle.bpf_command.proofs.Workers.{WorkersKnown, workers_known}
 use Rattle.bpf_command.proofs.command_line.matches_of.Goals as goal
 
 -- words that were parsed have no fault
@@ -25,3 +26,9 @@ returns-clause-checked g c =
     let words : List Text = map g.S.AsStr.text c.args.words.now in
     let found : subcommand_rows_of c.in_ok-matches.matches ≡ subcommand_of ebpf words = search rules in
     subst (λ o. IfSome o BudgetKnown) (sym found) (budget_known words (returns-clause-faults g c))
+
+pub returns-clause-counted : goal.returns-clause-counted
+returns-clause-counted g c =
+    let words : List Text = map g.S.AsStr.text c.args.words.now in
+    let found : subcommand_rows_of c.in_ok-matches.matches ≡ subcommand_of ebpf words = search rules in
+    subst (λ o. IfSome o WorkersKnown) (sym found) (workers_known words (returns-clause-faults g c))

@@ -1,0 +1,114 @@
+-- Where `clap` finds no fault, a number of workers that `run` is given is in its range.
+use Rattle.std.proofs.Common.{unwrap_or, ◌∙◌, sym, subst, true≢false, ap, ◌≡◌, List, [], ◌∷◌, Bool, false, codes, Option, Some, None, refl}
+use Rattle.std.specs.Prelude.{length, option_and_then, IfSome, IsSomeAnd, find}
+use Rattle.std.specs.Str.{bytes_eq}
+use Rattle.clap.specs.Kinds.{range_kinds, or_else}
+use Rattle.clap.specs.Simple.{filled, Shape, built, label_of}
+use Rattle.clap.specs.Faults.{repeat_fault, check_fault, defaults_fault, level_fault, settle_fault, values_fault, walk_fault}
+use Rattle.clap.specs.Walk.{with_default, row_text, values_or_missing, Held, Row, Rule, Text, answers_to, finished, has_row, nothing_held, rows_after, settled, walk, walk_from}
+use Rattle.clap.specs.Words.{fault_of, subcommand_of}
+use Rattle.bpf_command.specs.declared.command.TheConstants.{MAX_WORKERS}
+use Rattle.bpf_command.specs.CommandLine.{HasWorkers, ebpf, explained, maps, run, workers}
+use Rattle.bpf_command.proofs.Ranges as range
+use Rattle.bpf_command.proofs.Ranges.{no_default}
+use Rattle.bpf_command.proofs.Subcommands.{AllHave, found_known}
+use Rattle.bpf_command.proofs.Walks.{Keeps, first_free, last_free, settle_kept, walk_kept}
+
+abbrev AreFine : List Row → Type 0
+AreFine = range.AreFine (codes "workers") 1 MAX_WORKERS
+
+-- ---- the rules
+
+-- `run` as it is built, and its options with what building fills in
+abbrev run_built : Shape
+run_built = unwrap_or (find (λ s. answers_to (codes "run") (label_of s)) (built ebpf).subs) run.top
+
+abbrev rules : List Rule
+rules = run_built.rules
+
+workers_keep : Keeps AreFine false (filled workers)
+workers_keep [] rows e fine = cc
+workers_keep (v ∷ vs) rows e fine =
+    let count = range_kinds 1 1 (length (v ∷ vs)) in
+    let repeat = repeat_fault false (codes "workers") rows in
+    let own = values_fault (filled workers) (v ∷ vs) in
+    let passed = range.first_passes (codes "workers") 1 MAX_WORKERS v vs (last_free repeat own (last_free count (or_else repeat own) e)) in
+    range.used_fine (codes "workers") 1 MAX_WORKERS (codes "workers") (v ∷ vs) rows (λ same. (refl, refl, passed)) fine
+
+maps_keep : Keeps AreFine false (filled maps)
+maps_keep values rows e fine =
+    range.other_used_fine (codes "workers") 1 MAX_WORKERS (codes "maps") (values_or_missing (filled maps) values) rows refl fine
+
+explained_keeps : Keeps AreFine false (filled explained)
+explained_keeps values rows e fine =
+    range.other_used_fine (codes "workers") 1 MAX_WORKERS (codes "explain") (values_or_missing (filled explained) values) rows refl fine
+
+rules_keep : range.AllKeep (codes "workers") 1 MAX_WORKERS rules
+rules_keep = (explained_keeps, (maps_keep, (workers_keep, ((λ values rows e fine. fine), tt))))
+
+-- ---- the rows
+
+own_text : (r : Option Row) → IfSome r (range.IsGiven (codes "workers") 1 MAX_WORKERS)
+    → IfSome (option_and_then row_text r) (range.InRange (codes "workers") 1 MAX_WORKERS)
+own_text None h = tt
+own_text (Some r) h = some_text (row_text r) (range.given_text (codes "workers") 1 MAX_WORKERS r h)
+  where
+    some_text : (text : Option Text) → IsSomeAnd text (range.InRange (codes "workers") 1 MAX_WORKERS) → IfSome text (range.InRange (codes "workers") 1 MAX_WORKERS)
+    some_text None h = tt
+    some_text (Some text) h = h
+
+has_workers : (rows : List Row) → AreFine rows → HasWorkers rows
+has_workers rows fine = own_text (find (λ r. bytes_eq r.id (codes "workers")) rows) (range.if_found (codes "workers") 1 MAX_WORKERS rows fine)
+
+-- `--explain` and `--maps` have defaults, and no other option of `run` has one
+finished_workers : (h : Held) → AreFine (settled rules h).rows → HasWorkers (finished rules h)
+finished_workers h fine =
+    let start = with_default (settled rules h).rows (filled explained) in
+    let first = with_default start (filled maps) in
+    let second = with_default first (filled workers) in
+    let started = range.default_fine (codes "workers") 1 MAX_WORKERS (codes "explain") (codes "false" ∷ []) (settled rules h).rows refl fine in
+    let both = range.default_fine (codes "workers") 1 MAX_WORKERS (codes "maps") (codes "false" ∷ []) start refl started in
+    subst HasWorkers (sym (no_default (has_row (codes "help") second) second ∙ no_default (has_row (codes "workers") first) first)) (has_workers first both)
+
+-- the options of `run`, after a parse of its words with no fault
+run_workers : (words : List Text) → level_fault run_built [] nothing_held words false [] ≡ [] → HasWorkers (rows_after rules [] words)
+run_workers words e =
+    let end = (walk rules [] nothing_held words).held in
+    let last = check_fault run_built (finished rules end) false in
+    let third = defaults_fault (settled rules end).rows rules in
+    let second = settle_fault rules false end in
+    let first = walk_fault run_built [] (walk_from nothing_held) words in
+    let keeps = λ (test : Rule → Bool). range.found_keeps (codes "workers") 1 MAX_WORKERS test rules rules_keep in
+    let walked : AreFine end.rows = walk_kept AreFine run_built [] keeps words (walk_from nothing_held) (first_free first (or_else second (or_else third last)) e) tt in
+    let settles = first_free second (or_else third last) (last_free first (or_else second (or_else third last)) e) in
+    finished_workers end (settle_kept AreFine rules false keeps end settles walked)
+
+-- ---- the subcommands
+
+-- for `run`, a number of workers that is given is in its range
+abbrev pub WorkersKnown : Text × List Row → Type 0
+WorkersKnown found = found.0 ≡ codes "run" → HasWorkers found.1
+
+other_name : (name : Text) → bytes_eq name (codes "run") ≡ false → name ≡ codes "run" → ⊥
+other_name name other is = true≢false (sym (ap (λ t. bytes_eq t (codes "run")) is) ∙ other)
+
+all_known : AllHave WorkersKnown (built ebpf).subs
+all_known = (
+  (λ words e is. absurd (other_name (codes "hex") refl is)),
+  (
+    (λ words e is. absurd (other_name (codes "asm") refl is)),
+    (
+      (λ words e is. absurd (other_name (codes "disasm") refl is)),
+      (
+        (λ words e is. run_workers words e),
+        (
+          (λ words e is. absurd (other_name (codes "debug") refl is)),
+          ((λ words e is. absurd (other_name (codes "explain") refl is)), tt),
+        ),
+      ),
+    ),
+  ),
+)
+
+pub workers_known : (words : List Text) → fault_of ebpf words ≡ [] → IfSome (subcommand_of ebpf words) WorkersKnown
+workers_known words e = found_known WorkersKnown all_known words e
