@@ -2,8 +2,9 @@
 
 PREFIX ?= /usr/local
 
-run: build ## Build the proved program as ./ebpf and run the first example (the default)
+run: build ## Build the proved program as ./ebpf and run the first examples (the default)
 	echo 'b700000005000000 9500000000000000' | ./ebpf hex
+	./ebpf run --workers 2 --maps < examples/atomic-update.run
 
 build: ## Build the proved program as ./ebpf
 	cd crates/bpf_run && rt run -- --version </dev/null

@@ -13,7 +13,7 @@ static int is_refused(void) {
         const char *number = getenv("FAIL_ALLOC");
         refused = number ? strtoul(number, 0, 10) : -1ul;
     }
-    if (++made != refused)
+    if (__atomic_add_fetch(&made, 1, __ATOMIC_SEQ_CST) != refused)
         return 0;
     const char *told = getenv("FAIL_ALLOC_TOLD");
     return !told || write(atoi(told), "!", 1) == 1 || 1;

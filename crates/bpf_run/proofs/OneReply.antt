@@ -1,5 +1,5 @@
 -- The replies of one input print one text.
-use Rattle.std.proofs.Common.{Bool, true, false, string_bytes, ◌≡◌, ◌≢◌, ◌<◌, ◌≤◌, ◌/◌, ℕ, List, [], length, inl, inr, refl, sym, ap, subst, ◌∙◌, arith, Ok, Err}
+use Rattle.std.proofs.Common.{Bool, Option, true, false, string_bytes, ◌≡◌, ◌≢◌, ◌<◌, ◌≤◌, ◌/◌, ℕ, List, [], length, inl, inr, refl, sym, ap, subst, ◌∙◌, arith, Ok, Err}
 use Rattle.std.specs.Prelude.{IsUtf8}
 use Rattle.bpf_insn.specs.declared.instruction.Insn.{Insn}
 use Rattle.bpf_insn.specs.Encoding.{IsEncodedAs}
@@ -35,7 +35,7 @@ use Rattle.bpf_debug.specs.Laws.{ScriptsAreDetermined}
 use Rattle.bpf_run.proofs.FreshFiles.{fresh}
 use Rattle.bpf_run.proofs.OneDebug.{one_debug}
 use Rattle.bpf_run.specs.Answer.{jobs_status, status_of, reply_text}
-use Rattle.bpf_run.specs.Commands.{IsAnswer, IsAssembled, IsDisassembled, IsReply, IsRun, IsRunOfFile, IsWordsOf, RefusesAssembly, RefusesInput, RefusesProgram, RefusesWords, ShowsWords, shown_program}
+use Rattle.bpf_run.specs.Commands.{IsAnswer, IsAssembled, IsDisassembled, IsForOneThread, IsReply, IsRun, IsRunBy, IsRunOfFile, IsWordsOf, RefusesAssembly, RefusesInput, RefusesProgram, RefusesWords, ShowsWords, shown_program}
 use Rattle.bpf_run.specs.Script.{first_of}
 use Rattle.bpf_run.specs.declared.input.TheConstants.{MAX_INPUT}
 use Rattle.bpf_run.specs.Laws.{IsOfInput, IsForAnyInput, HasShortContext, RepliesAreDetermined}
@@ -253,24 +253,28 @@ module _ (words : WordsAreDetermined) (encodings : EncodingsAreDetermined) (refu
       let both = files text (Err (FileError.Refused line why)) (Err (FileError.Refused place reason)) a b in
       prints r s cc
 
-  one_answer : (c : Command) (text : List ℕ) (r s : Reply) → HasShortContext c → IsAnswer c text r → IsAnswer c text s → IsOfInput r → IsOfInput s → PrintsAs r s
-  one_answer (command.Hex options) text r s h a b n m =
+  one_answer : (c : Command) (text : List ℕ) (r s : Reply) → HasShortContext c → IsForOneThread c → IsAnswer c text r → IsAnswer c text s → IsOfInput r → IsOfInput s → PrintsAs r s
+  one_answer (command.Hex options) text r s h t a b n m =
       prints r s (one_run options.budget options.context.items text r s h (of_run options.budget options.context.items text r a n) (of_run options.budget options.context.items text s b m))
-  one_answer (command.Asm listing) text r s h a b n m = one_assembly listing text r s (of_assembly listing text r a n) (of_assembly listing text s b m)
-  one_answer (command.Disasm pc) text r s h a b n m = one_listing pc text r s (of_listing pc text r a n) (of_listing pc text s b m)
-  one_answer (command.Run maps) text r s h a b n m = one_file maps text r s (of_file maps text r a n) (of_file maps text s b m)
-  one_answer command.Debug text r s h a b n m = one_debug files runs scripts text r s a b n m
+  one_answer (command.Asm listing) text r s h t a b n m = one_assembly listing text r s (of_assembly listing text r a n) (of_assembly listing text s b m)
+  one_answer (command.Disasm pc) text r s h t a b n m = one_listing pc text r s (of_listing pc text r a n) (of_listing pc text s b m)
+  one_answer (command.Run options) text r s h t a b n m =
+      let maps = options.maps in
+      let one = subst (λ (w : Option ℕ). IsRunBy w maps text r) t a in
+      let other = subst (λ (w : Option ℕ). IsRunBy w maps text s) t b in
+      one_file maps text r s (of_file maps text r one n) (of_file maps text s other m)
+  one_answer command.Debug text r s h t a b n m = one_debug files runs scripts text r s a b n m
 
-  one_input : (c : Command) (input : List ℕ) (r s : Reply) → HasShortContext c → OfInput c input r → OfInput c input s → IsOfInput r → IsOfInput s → PrintsAs r s
-  one_input c input r s h (TooLong long) (TooLong more) n m = prints r s refl
-  one_input c input r s h (TooLong long) (NotText fits other) n m = absurd (omega arith)
-  one_input c input r s h (TooLong long) (Answered q fits text b) n m = absurd (omega arith)
-  one_input c input r s h (NotText fits other) (TooLong long) n m = absurd (omega arith)
-  one_input c input r s h (NotText fits other) (NotText whole none) n m = prints r s refl
-  one_input c input r s h (NotText fits other) (Answered q whole text b) n m = absurd (other text)
-  one_input c input r s h (Answered q fits text a) (TooLong long) n m = absurd (omega arith)
-  one_input c input r s h (Answered q fits text a) (NotText whole other) n m = absurd (other text)
-  one_input c input r s h (Answered q fits text a) (Answered p whole known b) n m = one_answer c input r s h a b n m
+  one_input : (c : Command) (input : List ℕ) (r s : Reply) → HasShortContext c → IsForOneThread c → OfInput c input r → OfInput c input s → IsOfInput r → IsOfInput s → PrintsAs r s
+  one_input c input r s h t (TooLong long) (TooLong more) n m = prints r s refl
+  one_input c input r s h t (TooLong long) (NotText fits other) n m = absurd (omega arith)
+  one_input c input r s h t (TooLong long) (Answered q fits text b) n m = absurd (omega arith)
+  one_input c input r s h t (NotText fits other) (TooLong long) n m = absurd (omega arith)
+  one_input c input r s h t (NotText fits other) (NotText whole none) n m = prints r s refl
+  one_input c input r s h t (NotText fits other) (Answered q whole text b) n m = absurd (other text)
+  one_input c input r s h t (Answered q fits text a) (TooLong long) n m = absurd (omega arith)
+  one_input c input r s h t (Answered q fits text a) (NotText whole other) n m = absurd (other text)
+  one_input c input r s h t (Answered q fits text a) (Answered p whole known b) n m = one_answer c input r s h t a b n m
 
   pub replies_are_determined : RepliesAreDetermined
-  replies_are_determined c input r s h a b n m = one_input c input r s h (of_input c input r a n) (of_input c input s b m) n m
+  replies_are_determined c input r s h t a b n m = one_input c input r s h t (of_input c input r a n) (of_input c input s b m) n m

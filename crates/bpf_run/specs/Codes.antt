@@ -93,6 +93,7 @@ code (refusal.Text error) = text_code error
 code (refusal.Insn error) = insn_code error
 code (refusal.Load error) = load_code error
 code (refusal.File line why) = codes "line " ++ decimal line ++ codes " " ++ reason_code why
+code refusal.JobsOutOfMemory = codes "J4"
 code refusal.OutOfMemory = codes "L9"
 
 -- of a run: F1 to F6

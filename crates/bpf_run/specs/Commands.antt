@@ -1,5 +1,5 @@
 -- What each command replies to the text that it read.
-use Rattle.std.specs.Prelude.{◌≡◌, ◌≢◌, ◌≤◌, ◌<◌, ◌⊎◌, ◌/◌, ℕ, Bool, true, false, List, [], All, Err, Ok, IsUtf8, length, string_bytes}
+use Rattle.std.specs.Prelude.{◌≡◌, ◌≢◌, ◌≤◌, ◌<◌, ◌⊎◌, ◌/◌, ℕ, Bool, true, false, List, [], All, Option, Some, None, Err, Ok, IsUtf8, length, string_bytes}
 use Rattle.bpf_insn.specs.declared.instruction.Insn.{Insn}
 use Rattle.bpf_insn.specs.Encoding.{IsEncodedAs}
 use Rattle.bpf_insn.specs.Refusal.{IsRefused, IsSized}
@@ -9,6 +9,7 @@ use Rattle.bpf_shared.specs.declared.events.Event.{Event}
 use Rattle.bpf_cpu.specs.State.{start}
 use Rattle.bpf_cpu.specs.Step.{Explains}
 use Rattle.bpf_jobs.specs.Printed.{IsReport}
+use Rattle.bpf_workers.specs.Printed.{IsWorkersReport}
 use Rattle.bpf_run.specs.Script.{first_of, IsScriptOfFile}
 use Rattle.bpf_file.specs.declared.error.FileError.TheVariants as FileError
 use Rattle.bpf_file.specs.File.{File}
@@ -96,23 +97,46 @@ IsDisassembled pc text (reply.Ended outcome) = ⊥
 IsDisassembled pc text (reply.Jobs printed stopped) = ⊥
 IsDisassembled pc text (reply.Script answers stopped) = ⊥
 
+-- why a text is no run file: its first refusal; want of memory may stand in place of any answer
+abbrev pub RefusesFile : List ℕ → Refusal → Type 0
+RefusesFile text (refusal.File line why) = IsRunFile text (Err (FileError.Refused line why))
+RefusesFile text refusal.OutOfMemory = Unit {0}
+RefusesFile text _ = ⊥
+
 -- `run`: the lines of the jobs that the file says, run in rounds over a new store of its maps, and
 -- then those of the maps where they are asked for; or the file's first refusal
 abbrev pub IsRunOfFile : Bool → List ℕ → Reply → Type 0
 IsRunOfFile maps text (reply.Jobs printed stopped) = (f : File) × IsRunFile text (Ok f)
     × IsReport (first_of f) f.names maps (string_bytes printed) stopped
-IsRunOfFile maps text (reply.Refused refusal.OutOfMemory) = Unit {0}
-IsRunOfFile maps text (reply.Refused (refusal.File line why)) =
-    IsRunFile text (Err (FileError.Refused line why))
+IsRunOfFile maps text (reply.Refused r) = RefusesFile text r
 IsRunOfFile maps text _ = ⊥
+
+-- `run --workers`: the lines of the jobs that the file says, ended as one history of a new store of
+-- its maps explains, and then those of the maps that this history leaves, where they are asked for;
+-- or the file's first refusal; or want of memory for the jobs
+abbrev pub IsRunByWorkers : Bool → List ℕ → Reply → Type 0
+IsRunByWorkers maps text (reply.Jobs printed stopped) = (f : File) × IsRunFile text (Ok f)
+    × IsWorkersReport f maps (string_bytes printed) stopped
+IsRunByWorkers maps text (reply.Refused refusal.JobsOutOfMemory) = Unit {0}
+IsRunByWorkers maps text (reply.Refused r) = RefusesFile text r
+IsRunByWorkers maps text _ = ⊥
+
+abbrev pub IsRunBy : Option ℕ → Bool → List ℕ → Reply → Type 0
+IsRunBy None maps text r = IsRunOfFile maps text r
+IsRunBy (Some workers) maps text r = IsRunByWorkers maps text r
 
 -- what a command replies to the text
 abbrev pub IsAnswer : Command → List ℕ → Reply → Type 0
 IsAnswer (command.Hex options) text r = IsRun options.budget options.context.items text r
 IsAnswer (command.Asm listing) text r = IsAssembled listing text r
 IsAnswer (command.Disasm pc) text r = IsDisassembled pc text r
-IsAnswer (command.Run maps) text r = IsRunOfFile maps text r
+IsAnswer (command.Run options) text r = IsRunBy options.workers options.maps text r
 IsAnswer command.Debug text r = IsScriptOfFile text r
+
+-- it asks for no workers
+abbrev pub IsForOneThread : Command → Type 0
+IsForOneThread (command.Run options) = options.workers ≡ None
+IsForOneThread _ = Unit {0}
 
 -- ---- input
 

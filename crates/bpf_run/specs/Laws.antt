@@ -7,7 +7,7 @@ use Rattle.bpf_mem.specs.Limits.{max_context}
 use Rattle.bpf_debug.specs.Laws.{HadMemory}
 use Rattle.bpf_debug.specs.Script.{answer_of}
 use Rattle.bpf_run.specs.Answer.{status_of, reply_text}
-use Rattle.bpf_run.specs.Commands.{IsReply}
+use Rattle.bpf_run.specs.Commands.{IsForOneThread, IsReply}
 use Rattle.bpf_command.specs.declared.command.Command.{Command}
 use Rattle.bpf_command.specs.declared.command.Command.TheVariants as command
 use Rattle.bpf_run.specs.declared.input.InputError.TheVariants as input_error
@@ -23,6 +23,7 @@ IsForAnyInput (refusal.Input input_error.OutOfMemory) = Unit {0}
 IsForAnyInput (refusal.Text text_error.OutOfMemory) = Unit {0}
 IsForAnyInput (refusal.Insn insn_error.OutOfMemory) = Unit {0}
 IsForAnyInput (refusal.Load load_error.OutOfMemory) = Unit {0}
+IsForAnyInput refusal.JobsOutOfMemory = Unit {0}
 IsForAnyInput refusal.OutOfMemory = Unit {0}
 IsForAnyInput _ = ⊥
 
@@ -37,8 +38,8 @@ abbrev pub HasShortContext : Command → Type 0
 HasShortContext (command.Hex options) = length options.context.items ≤ max_context
 HasShortContext _ = Unit {0}
 
--- replies of one input print one text, with one exit status
+-- replies of one input print one text, with one exit status, where no workers are asked for
 abbrev pub RepliesAreDetermined : Type 0
 RepliesAreDetermined = (c : Command) (input : List ℕ) (r s : Reply) → HasShortContext c
-    → IsReply c input r → IsReply c input s → IsOfInput r → IsOfInput s
+    → IsForOneThread c → IsReply c input r → IsReply c input s → IsOfInput r → IsOfInput s
     → (reply_text r ≡ reply_text s) × (status_of r ≡ status_of s)

@@ -11,7 +11,7 @@ pub fn language_of(command: &Command) -> Language {
     match command {
         Command::Asm { .. } => Language::Assembly,
         Command::Hex(_) | Command::Disasm { .. } => Language::Words,
-        Command::Run { .. } | Command::Debug => Language::RunFile,
+        Command::Run(_) | Command::Debug => Language::RunFile,
     }
 }
 

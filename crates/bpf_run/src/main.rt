@@ -1,6 +1,7 @@
 //! The program `ebpf`: reads its words, does what they name, and nothing more.
 #![tactic(auto)]
 
+pub mod engine;
 mod explaining;
 pub mod input;
 pub mod laws;
@@ -12,6 +13,7 @@ pub mod program;
 pub mod recorder;
 pub mod refusal;
 pub mod reply;
+pub mod running;
 pub mod script;
 pub mod stream;
 
@@ -30,7 +32,7 @@ fn words(rt: &(impl Env + AllocGlobal)) -> io::Result<Vec<String>> {
 fn main(rt: HostRuntime) -> ExitCode {
     let mut source = Recorder::new(rt.stdin());
     let mut sink = Recorder::new(rt.stdout());
-    let ending = program(rt.alloc(), words(&rt), &mut source, &mut sink);
+    let ending = program(&rt, rt.alloc(), words(&rt), &mut source, &mut sink);
     ExitCode::from(end(&rt, rt.alloc(), ending))
 }
 

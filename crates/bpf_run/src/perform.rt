@@ -4,13 +4,13 @@ ghost use Rattle.std.specs.Prelude.{◌≡◌, ◌≤◌, ◌≢◌, ◌+◌, co
 ghost use Rattle.std.specs.Io.KnownBytes.{Consumes};
 ghost use Rattle.bpf_debug.specs.Script.{answer_of, answer_text, answers_text};
 ghost use Rattle.bpf_run.specs.Answer.{Prints, PrintsPage, IsPrinted};
-ghost use Rattle.bpf_run.specs.Commands.{IsReply, is_unread};
+ghost use Rattle.bpf_run.specs.Commands.{IsForOneThread, IsReply, is_unread};
 ghost use Rattle.bpf_run.specs.Program.{Performs};
 ghost use Rattle.bpf_run.specs.declared.reply.Reply.{Reply};
 
+use crate::engine::{Engine, OneThread, WithWorkers};
 use crate::input::{InputError, MAX_INPUT, read_whole};
 use crate::output::write_whole;
-use crate::pipeline::reply;
 use crate::refusal::Refusal;
 use crate::reply::{EndText, Reply, Status};
 use crate::stream::{Sink, Source};
@@ -18,6 +18,8 @@ use bpf_command::Command;
 use bpf_debug::Answer;
 use bpf_explain::{Code, page_of};
 use std::alloc::{AllocError, Global};
+use std::sync::Wait;
+use std::thread::Threads;
 
 /// What a command came to, with what it was asked of.
 #[derive(Drop)]
@@ -112,21 +114,28 @@ pub fn print_page<W: Sink>(alloc: Global, code: Code, sink: &mut W) -> Status
     write_text(sink, text.as_str(), Status::Done)
 }
 
-fn reply_to(alloc: Global, command: Command, input: &[u8]) -> Reply
-    requires { length input.now ≤ MAX_INPUT }
+fn reply_to<E: Engine>(engine: &E, alloc: Global, command: Command, input: &[u8]) -> Reply
+    requires able { E.does command }
+    requires short { length input.now ≤ MAX_INPUT }
     ensures reply { IsReply command input.now result }
     ensures own { (e : InputError) → result ≢ Reply.Refused (Refusal.Input e) }
     ensures read { is_unread result ≡ false }
 {
     match str::from_utf8(input) {
-        Ok(text) => reply(alloc, command, text),
+        Ok(text) => engine.reply(alloc, command, text),
         Err(_) => Reply::Refused(Refusal::NotText),
     }
 }
 
 /// All that the source has left, and what the command replies to it.
-fn read_and_reply<R: Source>(alloc: Global, command: Command, source: &mut R) -> (Vec<u8>, Reply)
-    requires { R.has_failed source.old ≡ false }
+fn read_and_reply<E: Engine, R: Source>(
+    engine: &E,
+    alloc: Global,
+    command: Command,
+    source: &mut R,
+) -> (Vec<u8>, Reply)
+    requires able { E.does command }
+    requires readable { R.has_failed source.old ≡ false }
     ensures reply { IfSome (R.remaining source.old) (λ input. IsReply command input result.1) }
     ensures unread { R.has_failed source.new ≡ is_unread result.1 }
     ensures taken { (bytes : List ℕ)
@@ -136,7 +145,7 @@ fn read_and_reply<R: Source>(alloc: Global, command: Command, source: &mut R) ->
 {
     match read_whole(alloc, source) {
         Ok(input) => {
-            let made = reply_to(alloc, command, &input);
+            let made = reply_to(engine, alloc, command, &input);
             (input, made)
         }
         Err(error) => (Vec::new(alloc), Reply::Refused(Refusal::Input(error))),
@@ -144,7 +153,55 @@ fn read_and_reply<R: Source>(alloc: Global, command: Command, source: &mut R) ->
 }
 
 /// The whole command: reads all input, and writes the reply.
+fn perform_by<E: Engine, R: Source, W: Sink>(
+    engine: &E,
+    alloc: Global,
+    command: Command,
+    source: &mut R,
+    sink: &mut W,
+) -> Performed
+    requires able { E.does command }
+    requires readable { R.has_failed source.old ≡ false }
+    requires writable { W.has_failed sink.old ≡ false }
+    ensures replies { Performs command (R.remaining source.old) (R.has_failed source.new)
+        (W.contents sink.old) (W.contents sink.new) (W.has_failed sink.new) result.status }
+    ensures taken { (bytes : List ℕ)
+        × Consumes (R.remaining source.old) (R.remaining source.new) bytes
+        × (length bytes ≤ MAX_INPUT + 1) }
+    ensures reads { R.reads source.new ≤ R.reads source.old + (MAX_INPUT + 1) }
+{
+    let (input, reply) = read_and_reply(engine, alloc, command, source);
+    let status = answer(alloc, &reply, sink);
+    Performed {
+        status,
+        reply,
+        input,
+    }
+}
+
+/// The whole command, on the thread that calls: reads all input, and writes the reply.
 pub fn perform<R: Source, W: Sink>(
+    alloc: Global,
+    command: Command,
+    source: &mut R,
+    sink: &mut W,
+) -> Performed
+    requires one_thread { IsForOneThread command }
+    requires readable { R.has_failed source.old ≡ false }
+    requires writable { W.has_failed sink.old ≡ false }
+    ensures replies { Performs command (R.remaining source.old) (R.has_failed source.new)
+        (W.contents sink.old) (W.contents sink.new) (W.has_failed sink.new) result.status }
+    ensures taken { (bytes : List ℕ)
+        × Consumes (R.remaining source.old) (R.remaining source.new) bytes
+        × (length bytes ≤ MAX_INPUT + 1) }
+    ensures reads { R.reads source.new ≤ R.reads source.old + (MAX_INPUT + 1) }
+{
+    perform_by(&OneThread, alloc, command, source, sink)
+}
+
+/// The whole command, by workers where it asks for them: reads all input, and writes the reply.
+pub fn perform_threads<T: Threads + Wait + Sync, R: Source, W: Sink>(
+    rt: &T,
     alloc: Global,
     command: Command,
     source: &mut R,
@@ -159,11 +216,5 @@ pub fn perform<R: Source, W: Sink>(
         × (length bytes ≤ MAX_INPUT + 1) }
     ensures reads { R.reads source.new ≤ R.reads source.old + (MAX_INPUT + 1) }
 {
-    let (input, reply) = read_and_reply(alloc, command, source);
-    let status = answer(alloc, &reply, sink);
-    Performed {
-        status,
-        reply,
-        input,
-    }
+    perform_by(&WithWorkers(rt), alloc, command, source, sink)
 }

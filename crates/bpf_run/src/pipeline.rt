@@ -5,22 +5,23 @@ ghost use Rattle.bpf_insn.specs.Encoding.{IsEncodedAs};
 ghost use Rattle.bpf_insn.specs.declared.instruction.Insn.{Insn};
 ghost use Rattle.bpf_loader.specs.Sound.{IsSound};
 ghost use Rattle.bpf_shared.specs.Contents.{has_cpu, is_running, shapes_of};
-ghost use Rattle.bpf_run.specs.Commands.{IsAnswer, IsAssembled, IsDisassembled, IsRun, IsRunOfFile, IsWordsOf, RefusesProgram, RefusesWords, ShowsWords, shown_program};
+ghost use Rattle.bpf_run.specs.Commands.{IsAnswer, IsAssembled, IsDisassembled, IsForOneThread, IsRun, IsWordsOf, RefusesProgram, RefusesWords, ShowsWords, shown_program};
 
 use crate::listing::word_lines;
 use crate::refusal::Refusal;
 use crate::reply::Reply;
+use crate::running::{run_file, run_file_by_workers};
 use crate::script::debug_file;
-use bpf_command::{Command, RunOptions};
+use bpf_command::{Command, FileOptions, RunOptions};
 use bpf_cpu::Cpu;
-use bpf_file::{FileError, RunFile, read_file};
 use bpf_insn::{Insn, decode, encode};
-use bpf_jobs::{Report, run_jobs};
 use bpf_listing::{program_lines, source_lines};
 use bpf_loader::{Program, load};
 use bpf_shared::{PlainStore, ShapeError, StoreShape};
 use bpf_text::{TextError, assemble, disassemble, from_hex};
 use std::alloc::Global;
+use std::sync::Wait;
+use std::thread::Threads;
 
 /// The instructions whose words the text has as hex digits.
 fn instructions(alloc: Global, text: &str) -> Result<Vec<Insn>, Refusal>
@@ -143,38 +144,47 @@ fn disassembled(alloc: Global, pc: bool, text: &str) -> Reply
     }
 }
 
-/// `ebpf run`.
-#[tactic(auto, using(crate::proofs::FreshFiles::told))]
-fn run_file(alloc: Global, maps: bool, text: &str) -> Reply
-    ensures { IsRunOfFile maps text.now result }
-{
-    let file = match read_file(alloc, text.as_bytes()) {
-        Ok(file) => file,
-        Err(FileError::Refused(line, reason)) => return Reply::Refused(Refusal::File(line, reason)),
-        Err(FileError::OutOfMemory) => return Reply::Refused(Refusal::OutOfMemory),
-    };
-    let RunFile {
-        shape,
-        names,
-        programs,
-        jobs,
-        ..
-    } = file;
-    match run_jobs(alloc, shape, &names, programs, jobs, maps) {
-        Ok(Report { text, stopped }) => Reply::Jobs(text, stopped),
-        Err(_) => Reply::Refused(Refusal::OutOfMemory),
-    }
-}
-
-/// What a command replies to the text that it read.
+/// What a command replies to the text that it read, on the thread that calls.
 pub fn reply(alloc: Global, command: Command, text: &str) -> Reply
+    requires { IsForOneThread command }
     ensures { IsAnswer command text.now result }
 {
     match command {
         Command::Hex(options) => run(alloc, options, text),
         Command::Asm { listing } => assembled(alloc, listing, text),
         Command::Disasm { pc } => disassembled(alloc, pc, text),
-        Command::Run { maps } => run_file(alloc, maps, text),
+        Command::Run(
+            FileOptions {
+                maps,
+                workers: None,
+            },
+        ) => run_file(alloc, maps, text),
+        Command::Run(
+            FileOptions {
+                workers: Some(_),
+                ..
+            },
+        ) => unreachable!(),
         Command::Debug => debug_file(alloc, text),
+    }
+}
+
+/// What a command replies to the text that it read, by workers where it asks for them.
+pub fn reply_by_workers<T: Threads + Wait + Sync>(
+    rt: &T,
+    alloc: Global,
+    command: Command,
+    text: &str,
+) -> Reply
+    ensures { IsAnswer command text.now result }
+{
+    match command {
+        Command::Run(
+            FileOptions {
+                maps,
+                workers: Some(workers),
+            },
+        ) => run_file_by_workers(rt, alloc, workers, maps, text),
+        command => reply(alloc, command, text),
     }
 }

@@ -11,7 +11,7 @@ ghost use Rattle.bpf_run.specs.Program.{Follows, IfExit, IfNoCode, IfNotText, If
 ghost use Rattle.bpf_run.specs.declared.refusal.Refusal.{Refusal};
 
 use crate::explaining::{explain, language_of};
-use crate::perform::{Performed, answer, perform, print_page};
+use crate::perform::{Performed, answer, perform_threads, print_page};
 use crate::refusal::Refusal;
 use crate::reply::{Reply, Status};
 use crate::stream::{Sink, Source};
@@ -22,6 +22,8 @@ use clap::error;
 use std::alloc::Global;
 use std::io;
 use std::io::ErrorKind;
+use std::sync::Wait;
+use std::thread::Threads;
 
 /// What is left to do once the words have been followed.
 #[derive(Drop)]
@@ -47,7 +49,8 @@ For more information, try 'ebpf explain --help'.";
 pub const USAGE: u8 = 2;
 
 /// Performs a command. What it writes and its status don't depend on whether it is explained.
-fn perform_for<R: Source, W: Sink>(
+fn perform_for<T: Threads + Wait + Sync, R: Source, W: Sink>(
+    rt: &T,
     alloc: Global,
     command: Command,
     explain: bool,
@@ -64,7 +67,7 @@ fn perform_for<R: Source, W: Sink>(
     ensures code { IfNoCode result ⊥ }
 {
     let language = language_of(&command);
-    let done = perform(alloc, command, source, sink);
+    let done = perform_threads(rt, alloc, command, source, sink);
     if explain {
         Ending::Explained(language, done)
     } else {
@@ -73,7 +76,8 @@ fn perform_for<R: Source, W: Sink>(
 }
 
 /// Does what is asked, or prints why nothing can be done.
-fn follow<R: Source, W: Sink>(
+fn follow<T: Threads + Wait + Sync, R: Source, W: Sink>(
+    rt: &T,
     alloc: Global,
     asked: Result<Request, CommandError>,
     source: &mut R,
@@ -96,7 +100,7 @@ fn follow<R: Source, W: Sink>(
 {
     let refusal = match asked {
         Ok(Request::Perform { command, explain }) => {
-            return perform_for(alloc, command, explain, source, sink);
+            return perform_for(rt, alloc, command, explain, source, sink);
         }
         Ok(Request::Page(code)) => return Ending::Exit(print_page(alloc, code, sink)),
         Err(CommandError::Shown(error)) => return Ending::Shown(error),
@@ -109,7 +113,8 @@ fn follow<R: Source, W: Sink>(
 
 /// Does what the words ask for, of which the first is the program's name. What is wrong with them
 /// is said before anything is read.
-pub fn program<R: Source, W: Sink>(
+pub fn program<T: Threads + Wait + Sync, R: Source, W: Sink>(
+    rt: &T,
     alloc: Global,
     words: io::Result<Vec<String>>,
     source: &mut R,
@@ -139,7 +144,7 @@ pub fn program<R: Source, W: Sink>(
         × (source.new ≡ source.old) × (sink.new ≡ sink.old)) }
 {
     match words {
-        Ok(words) => follow(alloc, request_of(alloc, &words), source, sink),
+        Ok(words) => follow(rt, alloc, request_of(alloc, &words), source, sink),
         Err(error) if error.kind() == ErrorKind::OutOfMemory => {
             Ending::Exit(answer(alloc, &Reply::Refused(Refusal::OutOfMemory), sink))
         }

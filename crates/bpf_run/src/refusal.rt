@@ -22,6 +22,8 @@ pub enum Refusal {
     Load(LoadError),
     /// A line of a run file, counted from 1.
     File(usize, Reason),
+    /// The jobs that workers were to run found no memory before the first of them began.
+    JobsOutOfMemory,
     /// The command line, the output or the CPU found no memory.
     OutOfMemory,
 }
@@ -179,6 +181,7 @@ impl fmt::Display for Refusal {
             Refusal::Insn(error) => f.write_fmt(InsnCode(error)),
             Refusal::Load(error) => f.write_fmt(LoadCode(error)),
             Refusal::File(line, reason) => write!(f, "line {line} {}", ReasonCode(reason)),
+            Refusal::JobsOutOfMemory => f.write_str("J4"),
             Refusal::OutOfMemory => f.write_str("L9"),
         }
     }

@@ -116,7 +116,7 @@ fn reads_in_any_pieces(rt: HostRuntime) {
     for most in [1, 2, 7, 1000] {
         let mut reader = giving(WORDS, most, false);
         let mut writer = taking(&rt, most, 1000);
-        let status = performed(&rt, Command::Disasm, &mut reader, &mut writer);
+        let status = performed(&rt, Command::Disasm { pc: false }, &mut reader, &mut writer);
         assert_eq!(rt; status, Status::Done, "{most} bytes a read");
         assert!(rt;
             writer.taken.as_slice() == b"r0 = 5\nexit\n".as_slice(),
@@ -130,7 +130,7 @@ fn refuses_what_is_not_read(rt: HostRuntime) {
     for length in [0, 1, 34] {
         let mut reader = giving(&WORDS[..length], 1, true);
         let mut writer = taking(&rt, 1000, 1000);
-        let status = performed(&rt, Command::Disasm, &mut reader, &mut writer);
+        let status = performed(&rt, Command::Disasm { pc: false }, &mut reader, &mut writer);
         assert_eq!(rt; status, Status::Refused, "after {length} bytes");
         assert!(rt;
             writer.taken.as_slice() == b"refused L7\n".as_slice(),
@@ -153,7 +153,7 @@ fn refuses_too_much(rt: HostRuntime) {
         let mut reader = giving(b"", 1_000_000, false);
         reader.zeros = zeros;
         let mut writer = taking(&rt, 1000, 1000);
-        let status = performed(&rt, Command::Disasm, &mut reader, &mut writer);
+        let status = performed(&rt, Command::Disasm { pc: false }, &mut reader, &mut writer);
         assert_eq!(rt; status, Status::Refused);
         assert!(rt;
             writer.taken.as_slice() == printed.as_bytes(),
@@ -166,7 +166,7 @@ fn refuses_too_much(rt: HostRuntime) {
 fn refuses_what_is_not_text(rt: HostRuntime) {
     let mut reader = giving(b"95\xff", 1000, false);
     let mut writer = taking(&rt, 1000, 1000);
-    let status = performed(&rt, Command::Disasm, &mut reader, &mut writer);
+    let status = performed(&rt, Command::Disasm { pc: false }, &mut reader, &mut writer);
     assert_eq!(rt; status, Status::Refused);
     assert!(rt; writer.taken.as_slice() == b"refused L8\n".as_slice());
 }
@@ -178,7 +178,7 @@ fn tells_failed_output(rt: HostRuntime) {
         for most in [1, 5, 1000] {
             let mut reader = giving(WORDS, 1000, false);
             let mut writer = taking(&rt, most, room);
-            let status = performed(&rt, Command::Disasm, &mut reader, &mut writer);
+            let status = performed(&rt, Command::Disasm { pc: false }, &mut reader, &mut writer);
             assert_eq!(rt; status, Status::Failed, "room for {room}");
             assert_eq!(rt; status.code(), 1);
             assert!(rt;
@@ -205,9 +205,30 @@ fn named(rt: &HostRuntime, words: &[&str], wanted: &Command, explained: bool) ->
 
 #[test]
 fn names_commands(rt: HostRuntime) {
-    assert!(rt; named(&rt, &["ebpf", "asm"], &Command::Asm, false));
-    assert!(rt; named(&rt, &["ebpf", "asm", "--explain"], &Command::Asm, true));
-    assert!(rt; named(&rt, &["ebpf", "disasm"], &Command::Disasm, false));
+    assert!(rt;
+        named(
+            &rt,
+            &["ebpf", "asm"],
+            &Command::Asm { listing: false },
+            false
+        )
+    );
+    assert!(rt;
+        named(
+            &rt,
+            &["ebpf", "asm", "--explain"],
+            &Command::Asm { listing: false },
+            true
+        )
+    );
+    assert!(rt;
+        named(
+            &rt,
+            &["ebpf", "disasm"],
+            &Command::Disasm { pc: false },
+            false
+        )
+    );
     let asked = request_of(rt.alloc(), &["ebpf", "explain", "E9"]);
     assert!(rt; matches!(asked, Ok(Request::Page(Code::E9))));
     let asked = request_of(rt.alloc(), &["ebpf", "explain", "E99"]);

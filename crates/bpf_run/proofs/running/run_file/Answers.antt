@@ -5,7 +5,7 @@ use Rattle.bpf_file.specs.File.{file_of}
 use Rattle.bpf_file.specs.Reading.{IsRunFile}
 use Rattle.bpf_jobs.specs.Printed.{first_world, IsReport}
 use Rattle.bpf_run.proofs.FreshFiles.{told}
-use Rattle.bpf_run.proofs.pipeline.run_file.Goals as goal
+use Rattle.bpf_run.proofs.running.run_file.Goals as goal
 
 pub returns-in-Ok-run_jobs : goal.returns-in-Ok-run_jobs
 returns-in-Ok-run_jobs c =
