@@ -38,6 +38,10 @@ pub enum Code {
     G4,
     G5,
     H1,
+    J1,
+    J2,
+    J3,
+    J4,
     L1,
     L2,
     L3,
@@ -57,7 +61,7 @@ pub enum Code {
 }
 
 /// All codes.
-pub const CODES: [Code; 48] = [
+pub const CODES: [Code; 52] = [
     Code::A1,
     Code::A2,
     Code::A3,
@@ -90,6 +94,10 @@ pub const CODES: [Code; 48] = [
     Code::G4,
     Code::G5,
     Code::H1,
+    Code::J1,
+    Code::J2,
+    Code::J3,
+    Code::J4,
     Code::L1,
     Code::L2,
     Code::L3,
@@ -149,6 +157,10 @@ impl Code {
             Code::G4 => "G4",
             Code::G5 => "G5",
             Code::H1 => "H1",
+            Code::J1 => "J1",
+            Code::J2 => "J2",
+            Code::J3 => "J3",
+            Code::J4 => "J4",
             Code::L1 => "L1",
             Code::L2 => "L2",
             Code::L3 => "L3",

@@ -5,3 +5,4 @@ pub mod files;
 pub mod program;
 pub mod running;
 pub mod text;
+pub mod workers;

@@ -4,7 +4,7 @@ ghost use Rattle.std.specs.Prelude.{◌≡◌};
 
 use crate::code::Code;
 use crate::page::Page;
-use crate::pages::{debugger, files, program, running, text};
+use crate::pages::{debugger, files, program, running, text, workers};
 
 /// The page of a code.
 pub fn page_of(code: Code) -> Page
@@ -43,6 +43,10 @@ pub fn page_of(code: Code) -> Page
         Code::G4 => debugger::G4,
         Code::G5 => debugger::G5,
         Code::H1 => text::H1,
+        Code::J1 => workers::J1,
+        Code::J2 => workers::J2,
+        Code::J3 => workers::J3,
+        Code::J4 => workers::J4,
         Code::L1 => files::L1,
         Code::L2 => files::L2,
         Code::L3 => files::L3,

@@ -1,4 +1,5 @@
 ghost use Rattle.std.specs.Prelude.{◌≤◌};
+ghost use Rattle.bpf_run.specs.Commands.{IsForOneThread};
 
 use crate::input::MAX_INPUT;
 use crate::perform::perform;
@@ -91,7 +92,9 @@ fn performed(
     command: Command,
     reader: &mut FakeReader,
     writer: &mut FakeWriter,
-) -> Status {
+) -> Status
+    requires { IsForOneThread command }
+{
     let mut source = Recorder::new(reader);
     let mut sink = Recorder::new(writer);
     perform(rt.alloc(), command, &mut source, &mut sink).status
