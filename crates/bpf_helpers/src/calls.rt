@@ -10,7 +10,7 @@ ghost use Rattle.bpf_helpers.specs.Calls.{CallsHelper, CallsMap, DeletesKey, IsH
 
 use crate::fault::HelperFault;
 use crate::held::HeldSpans;
-use crate::reading::{find_source, read};
+use crate::reading::{Bytes, find_source, read};
 use bpf_mem::PrivateMemory;
 use bpf_shared::{MapAnswer, MapShape, Shared, Span};
 
@@ -80,12 +80,14 @@ fn look_up<S: Shared>(
     ensures held { AreHeld (S.held shared.new cpu) held.new }
     ensures keeps { KeepsRun S.shapes S.running S.held cpu shared.old shared.new }
 {
+    let at = registers[2];
     let count = shape.key as usize;
-    let Some(place) = find_source(memory, held, registers[2], count) else {
+    let Some(place) = find_source(memory, held, at, count) else {
         return Err(HelperFault::BadAddress);
     };
-    let key = read(cpu, memory, held, shared, registers[2], count, place);
-    let answer = shared.lookup(cpu, map, &key);
+    let mut room = Bytes::new();
+    let key = read(cpu, memory, held, shared, at, count, place, &mut room);
+    let answer = shared.lookup(cpu, map, key);
     take_answer(held, answer)
 }
 
@@ -109,12 +111,14 @@ fn delete<S: Shared>(
     ensures held { S.held shared.new ≡ S.held shared.old }
     ensures keeps { KeepsRun S.shapes S.running S.held cpu shared.old shared.new }
 {
+    let at = registers[2];
     let count = shape.key as usize;
-    let Some(place) = find_source(memory, held, registers[2], count) else {
+    let Some(place) = find_source(memory, held, at, count) else {
         return Err(HelperFault::BadAddress);
     };
-    let key = read(cpu, memory, held, shared, registers[2], count, place);
-    let answer = shared.delete(cpu, map, &key);
+    let mut room = Bytes::new();
+    let key = read(cpu, memory, held, shared, at, count, place, &mut room);
+    let answer = shared.delete(cpu, map, key);
     Ok(number_of_answer(answer))
 }
 
@@ -146,6 +150,7 @@ fn update<S: Shared>(
     let Some(value_place) = find_source(memory, held, registers[3], value_count) else {
         return Err(HelperFault::BadAddress);
     };
+    let mut key_room = Bytes::new();
     let key = read(
         cpu,
         memory,
@@ -154,7 +159,9 @@ fn update<S: Shared>(
         registers[2],
         key_count,
         key_place,
+        &mut key_room,
     );
+    let mut value_room = Bytes::new();
     let value = read(
         cpu,
         memory,
@@ -163,8 +170,9 @@ fn update<S: Shared>(
         registers[3],
         value_count,
         value_place,
+        &mut value_room,
     );
-    let answer = shared.update(cpu, map, &key, &value, registers[4]);
+    let answer = shared.update(cpu, map, key, value, registers[4]);
     Ok(number_of_answer(answer))
 }
 

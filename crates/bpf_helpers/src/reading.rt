@@ -71,42 +71,34 @@ fn gather<S: Shared>(cpu: u8, held: &HeldSpans, shared: &mut S, at: u64, count: 
     bytes
 }
 
-/// The bytes that lie there.
-pub(crate) fn read<S: Shared>(
+/// The bytes that lie there. Those of values are gathered in a room.
+pub(crate) fn read<'a, S: Shared>(
     cpu: u8,
-    memory: &PrivateMemory,
+    memory: &'a PrivateMemory,
     held: &HeldSpans,
     shared: &mut S,
     at: u64,
     count: usize,
     source: Source,
-) -> Bytes
+    room: &'a mut Bytes,
+) -> &'a [u8]
     requires serves { S.serves shared.old cpu ≡ true }
     requires in_run { S.running shared.old cpu ≡ true }
     requires held { AreHeld (S.held shared.old cpu) held.now }
     requires source { IsSource memory.now held.now at count source }
     requires bounded { count ≤ 256 }
-    ensures bytes { length result.items ≡ count }
-    ensures read { (events : List Event) × Reads memory.now held.now at count result.items events
+    ensures bytes { length result.now ≡ count }
+    ensures read { (events : List Event) × Reads memory.now held.now at count result.now events
         × Chain S.passes S.serves cpu shared.old shared.new events }
     ensures held { S.held shared.new ≡ S.held shared.old }
     ensures running { S.running shared.new ≡ S.running shared.old }
     ensures shapes { S.shapes shared.new ≡ S.shapes shared.old }
 {
     match source {
-        Source::Private(place) => copied(memory.bytes(place, count)),
-        Source::Held => gather(cpu, held, shared, at, count),
+        Source::Private(place) => memory.bytes(place, count),
+        Source::Held => {
+            *room = gather(cpu, held, shared, at, count);
+            room.as_slice()
+        }
     }
-}
-
-/// A copy of some bytes.
-fn copied(bytes: &[u8]) -> Bytes
-    requires { length bytes.now ≤ 256 }
-    ensures { result.items ≡ bytes.now }
-{
-    let mut copy = Bytes::new();
-    for byte in bytes {
-        copy.push(*byte);
-    }
-    copy
 }

@@ -1,7 +1,6 @@
-use Rattle.std.proofs.Common.{Ok, ℕ, List, [], ◌∷◌, ◌++◌, inl, inr, refl, sym, ap, subst, slice_index}
+use Rattle.std.proofs.Common.{Ok, [], ◌∷◌, ◌++◌, inl, inr, refl, ap}
 use Rattle.bpf_shared.specs.declared.events.Event.TheVariants.{Delete}
 use Rattle.bpf_shared.proofs.Chains.{chain_nothing, chain_call}
-use Rattle.bpf_helpers.specs.Reads.{Reads}
 use Rattle.bpf_helpers.proofs.calls.delete.Goals as goal
 
 pub returns-in_default-clause-call : goal.returns-in_default-clause-call
@@ -14,11 +13,9 @@ returns-in_default-clause-call g c = (
 pub returns-clause-call : goal.returns-clause-call
 returns-clause-call g c =
     let read = c.read-key.ensures.read in
-    let at = slice_index c.args.registers.now 2 in
-    let key = c.deref.result.now in
-    let answer = c.delete-answer.result in
-    let P : List ℕ → Type 0 = λ bytes. Reads c.args.memory.now c.args.held.now at c.args.shape.key bytes read.0 in (
+    let key = c.read-key.result.now in
+    let answer = c.delete-answer.result in (
       read.0 ++ Delete c.args.map key answer ∷ [],
       chain_call g.S.Shared.passes g.S.Shared.serves c.args.cpu g.met.S.Shared.follows c.args.shared.now c.read-key.new.shared c.delete-answer.new.self read.0 (Delete c.args.map key answer) c.requires.serves read.2 c.delete-answer.ensures.answered c.delete-answer.ensures.same.1,
-      inr (key, read.0, answer, subst P (sym c.deref.ensures.0) read.1, refl, ap Ok c.number_of_answer.ensures, refl),
+      inr (key, read.0, answer, read.1, refl, ap Ok c.number_of_answer.ensures, refl),
     )

@@ -1,9 +1,8 @@
-use Rattle.std.proofs.Common.{ℕ, Bool, List, [], ◌∷◌, ◌++◌, inl, inr, refl, sym, subst, slice_index}
+use Rattle.std.proofs.Common.{ℕ, Bool, [], ◌∷◌, ◌++◌, inl, inr, refl, sym, subst}
 use Rattle.bpf_shared.specs.declared.events.Event.TheVariants.{Lookup}
 use Rattle.bpf_shared.specs.declared.events.Span.{Span}
 use Rattle.bpf_shared.proofs.Chains.{chain_nothing, chain_call}
 use Rattle.bpf_helpers.specs.Held.{AreHeld}
-use Rattle.bpf_helpers.specs.Reads.{Reads}
 use Rattle.bpf_helpers.proofs.HeldLaws.{held_after}
 use Rattle.bpf_helpers.proofs.calls.look_up.Goals as goal
 
@@ -17,13 +16,11 @@ returns-in_default-clause-call g c = (
 pub returns-clause-call : goal.returns-clause-call
 returns-clause-call g c =
     let read = c.read-key.ensures.read in
-    let at = slice_index c.args.registers.now 2 in
-    let key = c.deref.result.now in
-    let answer = c.lookup-answer.result in
-    let P : List ℕ → Type 0 = λ bytes. Reads c.args.memory.now c.args.held.now at c.args.shape.key bytes read.0 in (
+    let key = c.read-key.result.now in
+    let answer = c.lookup-answer.result in (
       read.0 ++ Lookup c.args.map key answer ∷ [],
       chain_call g.S.Shared.passes g.S.Shared.serves c.args.cpu g.met.S.Shared.follows c.args.shared.now c.read-key.new.shared c.lookup-answer.new.self read.0 (Lookup c.args.map key answer) c.requires.serves read.2 c.lookup-answer.ensures.found c.lookup-answer.ensures.same.1,
-      inr (key, read.0, answer, subst P (sym c.deref.ensures.0) read.1, refl, c.take_answer.ensures),
+      inr (key, read.0, answer, read.1, refl, c.take_answer.ensures),
     )
 
 pub returns-clause-held : goal.returns-clause-held

@@ -1,7 +1,6 @@
-use Rattle.std.proofs.Common.{Ok, ℕ, List, [], ◌∷◌, ◌++◌, inl, inr, refl, sym, ap, subst, slice_index}
+use Rattle.std.proofs.Common.{Ok, [], ◌∷◌, ◌++◌, inl, inr, refl, ap, slice_index}
 use Rattle.bpf_shared.specs.declared.events.Event.TheVariants.{Update}
 use Rattle.bpf_shared.proofs.Chains.{chain_nothing, chain_call, chain_join}
-use Rattle.bpf_helpers.specs.Reads.{Reads}
 use Rattle.bpf_helpers.proofs.calls.update.Goals as goal
 
 pub returns-in_default-clause-call : goal.returns-in_default-clause-call
@@ -25,12 +24,10 @@ returns-clause-call g c =
     let memory = c.args.memory.now in
     let registers = c.args.registers.now in
     let shape = c.args.shape in
-    let key = c.deref.result.now in
-    let value = c.deref-2.result.now in
+    let key = c.read-key.result.now in
+    let value = c.read-value.result.now in
     let answer = c.update-answer.result in
     let event = Update c.args.map key value (slice_index registers 4) answer in
-    let P : List ℕ → Type 0 = λ bytes. Reads memory c.args.held.now (slice_index registers 2) shape.key bytes first.0 in
-    let Q : List ℕ → Type 0 = λ bytes. Reads memory c.args.held.now (slice_index registers 3) shape.value bytes second.0 in
     let passes = g.S.Shared.passes in
     let serves = g.S.Shared.serves in
     let cpu = c.args.cpu in
@@ -38,5 +35,5 @@ returns-clause-call g c =
     let read = chain_join passes serves cpu g.met.S.Shared.follows old c.read-key.new.shared c.read-value.new.shared first.0 second.0 first.2 second.2 in (
       (first.0 ++ second.0) ++ event ∷ [],
       chain_call passes serves cpu g.met.S.Shared.follows old c.read-value.new.shared c.update-answer.new.self (first.0 ++ second.0) event c.requires.serves read c.update-answer.ensures.answered c.update-answer.ensures.same.1,
-      inr (key, value, first.0, second.0, answer, subst P (sym c.deref.ensures.0) first.1, subst Q (sym c.deref-2.ensures.0) second.1, refl, ap Ok c.number_of_answer.ensures, refl),
+      inr (key, value, first.0, second.0, answer, first.1, second.1, refl, ap Ok c.number_of_answer.ensures, refl),
     )
