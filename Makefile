@@ -23,11 +23,12 @@ test: ## The whole gate: every proof, every must-fail edit, every test, then the
 check: ## The quick check while one writes: what changed is proved again
 	rt all check
 
-bench: build ## Time fixed programs beside other interpreters, map calls beside other maps, also by threads, and texts of 16 MiB
+bench: build ## Time fixed programs beside other interpreters, map calls beside other maps, also by threads and workers, and texts of 16 MiB
 	cd crates/hop_bench && rt run </dev/null
 	bench/run ./ebpf
 	bench/maps ./ebpf
 	bench/threads crates/hop_bench/out/hop_bench
+	bench/workers ./ebpf
 	bench/texts ./ebpf
 
 install: build ## Install the program and its manual page below PREFIX (/usr/local), in DESTDIR where one is given
