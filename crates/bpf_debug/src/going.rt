@@ -61,7 +61,7 @@ fn stop_at(machine: &Machine, breakpoints: &[Breakpoint], cpu: u8) -> Option<u32
     }
 }
 
-/// The pc before which a CPU stops: that of a breakpoint at which it stands, where it has made a turn.
+/// The pc before which a CPU stops: that of a breakpoint at which it stands, if it has made a turn.
 fn stop_before(
     machine: &Machine,
     breakpoints: &[Breakpoint],

@@ -75,7 +75,8 @@ fn make_room(alloc: Global, lines: usize) -> Option<String>
 fn take_turn(machine: &mut Machine, cpu: u8, out: &mut String)
     requires { string_len out.old + 256 ≤ string_capacity out.old }
     ensures { (answer : Turn) × (place : List ℕ)
-        × ((w : World) → Shows machine.old w → (z : World) × TakesTurn w cpu answer z × Shows machine.new z)
+        × ((w : World) → Shows machine.old w → (z : World) × TakesTurn w cpu answer z
+        × Shows machine.new z)
         × IsWhere machine.new.jobs cpu place
         × (string_bytes out.new ≡ (string_bytes out.old ++ ended_text cpu answer) ++ place) }
 {
