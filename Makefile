@@ -1,4 +1,4 @@
-.PHONY: run build test check bench install uninstall help
+.PHONY: run build test check manual bench install uninstall help
 
 PREFIX ?= /usr/local
 
@@ -19,6 +19,10 @@ test: ## The whole gate: every proof, every must-fail edit, every test, then the
 	tests/memory ./ebpf
 	tests/streams ./ebpf
 	tests/docs ./ebpf
+	$(MAKE) manual
+
+manual: ## Look for mistakes in the manual page with mandoc, where that is installed
+	@if command -v mandoc >/dev/null; then mandoc -T lint ebpf.1; else echo "mandoc isn't installed: ebpf.1 isn't looked at"; fi
 
 check: ## The quick check while one writes: what changed is proved again
 	rt all check

@@ -13,6 +13,22 @@ fn begins_as_mnemonic(line: &str) -> bool {
     MNEMONICS.iter().any(|mnemonic| *mnemonic == word)
 }
 
+/// Whether the line has an address without an offset, as in `*(u32 *)(r1)`.
+fn lacks_offset(line: &str) -> bool {
+    match line.split_once("*)(r") {
+        Some((_, address)) => {
+            let inside = address.split(')').next().unwrap_or("");
+            !inside.contains('+') && !inside.contains('-')
+        }
+        None => false,
+    }
+}
+
+/// Whether the line swaps bytes.
+fn swaps_bytes(line: &str) -> bool {
+    line.contains("= be") || line.contains("= le") || line.contains("= bswap")
+}
+
 /// Hints that a line's spelling gives.
 fn spelling_hint(line: &str) -> Option<&'static str> {
     if line.contains("//") || line.contains('#') {
@@ -23,10 +39,14 @@ fn spelling_hint(line: &str) -> Option<&'static str> {
         Some("a target is a distance or a label alone: leave `<..>` out")
     } else if line.contains("pc+") || line.contains("pc-") {
         Some("a jump's distance stands alone: `goto +3`, `goto -3`")
-    } else if line.contains("*)(r") && !line.contains(" + ") && !line.contains(" - ") {
+    } else if lacks_offset(line) {
         Some("an address has an offset: `*(u32 *)(r1 + 0)`")
     } else if line.contains("*)(r") && line.contains('w') {
         Some("memory is loaded and stored by `r` registers: `*(u32 *)(r1 + 0) = r2`")
+    } else if swaps_bytes(line) {
+        Some("bytes are swapped in one register: `r1 = be16 r1`")
+    } else if line.contains("ll") {
+        Some("`ll` stands behind a blank: `r0 = 5 ll`")
     } else {
         None
     }
