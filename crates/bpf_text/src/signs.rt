@@ -1,6 +1,7 @@
 //! The signs of the assembly language.
 
-ghost use Rattle.std.specs.Prelude.{◌≡◌};
+ghost use Rattle.std.specs.Prelude.{◌≡◌, nat_eq};
+ghost use Rattle.std.specs.List.{starts_with};
 ghost use Rattle.bpf_text.specs.Signs.{sign_text, sign_at};
 ghost use Rattle.bpf_text.specs.Private.Pieces.{same_sign, first_sign};
 
@@ -104,14 +105,23 @@ impl Sign {
     }
 }
 
+/// Whether the text begins with a sign. The first bytes tell most signs from it.
+#[inline(always)]
+fn begins_with(text: &[u8], sign: Sign) -> bool
+    ensures { result ≡ starts_with nat_eq text.now (sign_text sign) }
+{
+    let spelled = sign.text().as_bytes();
+    if text.is_empty() || spelled.is_empty() || text[0] == spelled[0] {
+        return text.starts_with(spelled);
+    }
+    false
+}
+
 /// The first of the signs that the text begins with.
 fn first_sign(text: &[u8]) -> Option<Sign>
     ensures { result ≡ first_sign text.now }
 {
-    SIGNS
-        .iter()
-        .copied()
-        .find(|s| text.starts_with(s.text().as_bytes()))
+    SIGNS.iter().copied().find(|s| begins_with(text, *s))
 }
 
 /// The longest sign that the text begins with.
