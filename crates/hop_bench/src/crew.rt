@@ -1,6 +1,6 @@
 //! A store, and a thread for each of its CPUs.
 ghost use Rattle.std.specs.Prelude.{◌≡◌, All, IfOk};
-ghost use Rattle.hop_map.specs.Trial.{IsNewPort};
+ghost use Rattle.hop_bench.specs.Trial.{IsNewPort};
 
 use crate::plan::Plan;
 use crate::working::{Timing, fill, work};

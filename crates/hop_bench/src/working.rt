@@ -1,8 +1,8 @@
 //! What one thread does: it fills its part of the map, and then makes calls and times them.
 ghost use Rattle.std.specs.Prelude.{◌≡◌, true, OnSome};
-ghost use Rattle.hop_epoch.specs.Ready.{IsTrial};
+ghost use Rattle.hop_bench.specs.Trial.{IsTrial};
 ghost use Rattle.hop_map.specs.Port.{IsPortOf, runs};
-ghost use Rattle.hop_map.specs.Trial.{IsNewPort};
+ghost use Rattle.hop_bench.specs.Trial.{IsNewPort};
 
 use crate::calls::{Tally, call, put};
 use crate::plan::{Keys, Plan, key_of};

@@ -1,4 +1,4 @@
-use Rattle.hop_map.specs.Trial.{IsNewPort}
+use Rattle.hop_bench.specs.Trial.{IsNewPort}
 use Rattle.hop_bench.proofs.working.work.Given as goal
 
 abbrev pub invariant-all : goal.invariant-all
