@@ -1,0 +1,21 @@
+//! Tests of the concurrent store over its public calls: by threads, and beside the plain store.
+#![tactic(auto)]
+
+#[cfg(test)]
+mod asking;
+#[cfg(test)]
+mod finds;
+#[cfg(test)]
+mod locks;
+#[cfg(test)]
+mod orders;
+#[cfg(test)]
+mod programs;
+#[cfg(test)]
+mod stores;
+#[cfg(test)]
+mod texts;
+#[cfg(test)]
+mod threads;
+#[cfg(test)]
+mod worked;
