@@ -1,4 +1,3 @@
 pub mod Serving
 pub mod Passing
 pub mod Running
-pub mod Trial

@@ -5,6 +5,3 @@ mod cpu;
 mod running;
 
 pub use cpu::HopCpu;
-
-#[cfg(test)]
-mod tests;

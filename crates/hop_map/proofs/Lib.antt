@@ -20,7 +20,6 @@ pub mod Settling
 pub mod Spans
 pub mod Ports
 pub mod Dealing
-pub mod Trials
 pub mod Touching
 pub mod Spliced
 pub mod Holding

@@ -11,6 +11,5 @@ pub mod Port
 pub mod Stores
 pub mod Peeks
 pub mod Resting
-pub mod Trial
 pub mod Accesses
 pub mod Dumping

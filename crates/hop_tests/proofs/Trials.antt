@@ -1,5 +1,5 @@
 -- Ports in the tests.
-use Rattle.std.proofs.Common.{◌≡◌, ℕ, zero, suc, ◌+◌, false, List, [], ◌∷◌, All, map, ap}
+use Rattle.std.proofs.Common.{◌≡◌, ℕ, zero, suc, ◌+◌, List, [], ◌∷◌, All, map, ap}
 use Rattle.std.proofs.lemmas.List.Elements.{All-nil, All-cons, All-head, All-tail}
 use Rattle.bpf_shared.specs.History.{events_of}
 use Rattle.hop_words.specs.declared.known.Known.{Known}
@@ -7,7 +7,7 @@ use Rattle.hop_words.specs.Inside.{Shown, nobody}
 use Rattle.hop_words.specs.Owning.{behind}
 use Rattle.hop_words.specs.Kinds.{in_run}
 use Rattle.hop_words.specs.Opens.{new_lane, lanes_from}
-use Rattle.hop_map.specs.Port.{Port, IsPortOf, runs, known_of}
+use Rattle.hop_map.specs.Port.{Port, IsPortOf, known_of}
 use Rattle.hop_map.specs.Stores.{ArePorts}
 use Rattle.hop_tests.specs.Trial.{IsIdlePort}
 

@@ -1,5 +1,0 @@
-use Rattle.std.specs.Prelude.{◌≡◌, true, false}
-use Rattle.hop_cpu.proofs.tests.follow.Given as goal
-
-abbrev pub invariant-rows : goal.invariant-rows
-invariant-rows g l = (g.S.Shared.serves l.shared 0 ≡ true) × (g.S.Shared.running l.shared 0 ≡ false)

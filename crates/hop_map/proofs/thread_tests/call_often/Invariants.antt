@@ -1,7 +1,0 @@
-use Rattle.std.specs.Prelude.{◌≡◌, true}
-use Rattle.hop_epoch.specs.Ready.{IsTrial}
-use Rattle.hop_map.specs.Port.{IsPortOf, runs}
-use Rattle.hop_map.proofs.thread_tests.call_often.Given as goal
-
-abbrev pub invariant-calls : goal.invariant-calls
-invariant-calls g l = IsPortOf l.fn.table l.port × (runs l.port ≡ true)
