@@ -10,9 +10,9 @@ use Rattle.bpf_insn.specs.declared.operation.SignExtension.TheVariants.{From8To3
 use Rattle.bpf_alu.specs.Width.{number_of, low, signed, modulo}
 
 -- The whole number that an operation on a and b stands for, both below 2 ^ bits.
--- Division by zero is 0 and modulo by zero is a; signed division rounds toward zero, an arithmetic shift down.
--- The smallest number divided by -1 is one too large for the width, so it becomes itself again, with remainder 0:
--- our own choice, where the RFC says nothing.
+-- Division by zero is 0 and modulo by zero is a; signed division rounds toward zero, an arithmetic
+-- shift down. The smallest number divided by -1 is one too large for the width, so it becomes
+-- itself again, with remainder 0: our own choice, where the RFC says nothing.
 abbrev pub whole : Number → AluOp → ℕ → ℕ → ℤ
 whole w Add a b = pos a +ℤ pos b
 whole w Sub a b = pos a -ℤ pos b
@@ -29,7 +29,8 @@ whole w Xor a b = pos (bit_xor a b)
 whole w Mov a b = pos b
 whole w Arsh a b = int_div_euclid (signed w a) (pos (2 ^ (b % bits w)))
 
--- what an instruction of a width leaves in dst, of dst and its operand: of 32 bits, the upper half is zero
+-- what an instruction of a width leaves in dst, of dst and its operand: of 32 bits, the upper half
+-- is zero
 unfoldable pub arithmetic : Width → AluOp → ℕ → ℕ → ℕ
 arithmetic width op a b =
     let w = number_of width in modulo w (whole w op (low w a) (low w b))

@@ -1,5 +1,5 @@
-//! The classes ALU and JMP32: operations and conditions on the lower halves of registers (RFC 9669, sections 4.1
-//! and 4.3).
+//! The classes ALU and JMP32: operations and conditions on the lower halves of registers (RFC 9669,
+//! sections 4.1 and 4.3).
 
 ghost use Rattle.std.specs.Prelude.{◌≡◌, ◌<◌, ◌^◌};
 ghost use Rattle.bpf_insn.specs.declared.operation.Width.TheVariants.{Bits32};
@@ -9,7 +9,8 @@ ghost use Rattle.bpf_alu.specs.Comparison.{holds};
 use crate::low::low32;
 use bpf_insn::operation::{AluOp, Condition};
 
-/// The quotient of the signed readings, rounded toward zero; the smallest number divided by -1 is itself.
+/// The quotient of the signed readings, rounded toward zero; the smallest number divided by -1 is
+/// itself.
 #[inline]
 #[tactic(auto, unfolding(crate::specs::Arithmetic::arithmetic))]
 fn signed_quotient(a: u32, b: u32) -> u32
@@ -61,9 +62,10 @@ fn of_halves(op: AluOp, a: u32, b: u32) -> u32
     }
 }
 
-/// `a op b` on the lower halves; the result's upper half is zero. Results wrap. Division by zero gives 0, modulo by
-/// zero the lower half of `a`; signed division rounds toward zero, and the smallest number divided by -1 is itself,
-/// with remainder 0. A shift counts by the low 5 bits of `b`.
+/// `a op b` on the lower halves; the result's upper half is zero. Results wrap. Division by zero
+/// gives 0, modulo by zero the lower half of `a`; signed division rounds toward zero, and the
+/// smallest number divided by -1 is itself, with remainder 0. A shift counts by the low 5 bits of
+/// `b`.
 #[inline]
 #[tactic(auto, unfolding(crate::specs::Arithmetic::arithmetic))]
 pub fn alu32(op: AluOp, a: u64, b: u64) -> u64

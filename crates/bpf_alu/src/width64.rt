@@ -1,4 +1,5 @@
-//! The classes ALU64 and JMP: operations and conditions on all 64 bits (RFC 9669, sections 4.1 and 4.3).
+//! The classes ALU64 and JMP: operations and conditions on all 64 bits (RFC 9669, sections 4.1 and
+//! 4.3).
 
 ghost use Rattle.std.specs.Prelude.{◌≡◌, ◌<◌, ◌^◌};
 ghost use Rattle.bpf_insn.specs.declared.operation.Width.TheVariants.{Bits64};
@@ -7,7 +8,8 @@ ghost use Rattle.bpf_alu.specs.Comparison.{holds};
 
 use bpf_insn::operation::{AluOp, Condition};
 
-/// The quotient of the signed readings, rounded toward zero; the smallest number divided by -1 is itself.
+/// The quotient of the signed readings, rounded toward zero; the smallest number divided by -1 is
+/// itself.
 #[inline]
 #[tactic(auto, unfolding(crate::specs::Arithmetic::arithmetic))]
 fn signed_quotient(a: u64, b: u64) -> u64
@@ -35,8 +37,9 @@ fn signed_remainder(a: u64, b: u64) -> u64
         .cast_unsigned()
 }
 
-/// `a op b` on 64 bits. Results wrap. Division by zero gives 0, modulo by zero `a`; signed division rounds toward
-/// zero, and the smallest number divided by -1 is itself, with remainder 0. A shift counts by the low 6 bits of `b`.
+/// `a op b` on 64 bits. Results wrap. Division by zero gives 0, modulo by zero `a`; signed division
+/// rounds toward zero, and the smallest number divided by -1 is itself, with remainder 0. A shift
+/// counts by the low 6 bits of `b`.
 #[inline]
 #[tactic(auto, using(crate::proofs::Bitwise::or_below_64, crate::proofs::Bitwise::xor_below_64), unfolding(crate::specs::Arithmetic::arithmetic))]
 pub fn alu64(op: AluOp, a: u64, b: u64) -> u64

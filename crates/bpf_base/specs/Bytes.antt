@@ -1,4 +1,5 @@
--- Bytes as little-endian numbers, and parts of lists of bytes. That the machine is little-endian is our own choice.
+-- Bytes as little-endian numbers, and parts of lists of bytes. That the machine is little-endian is
+-- our own choice.
 use Rattle.std.specs.Prelude.{ℕ, zero, suc, ◌+◌, ◌*◌, ◌/◌, ◌%◌, ◌^◌, List, [], ◌∷◌, ◌++◌, length, take, drop}
 
 -- one more than the greatest number of n bytes

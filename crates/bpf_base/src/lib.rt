@@ -1,5 +1,6 @@
-//! What the crates above say of bytes and lists: bytes as little-endian numbers, lists with a part replaced, what
-//! atomic operations leave. The definitions are in specs/, the lemmas in proofs/; there is no code but the laws.
+//! What the crates above say of bytes and lists: bytes as little-endian numbers, lists with a part
+//! replaced, what atomic operations leave. The definitions are in specs/, the lemmas in proofs/;
+//! there is no code but the laws.
 #![tactic(auto)]
 
 pub mod laws;

@@ -71,7 +71,11 @@ impl Model for Machine {
     ghost use Rattle.bpf_shared.specs.Contents.{has_cpu, is_running, held_spans};
     ghost use Rattle.bpf_cpu.specs.Private.Lanes.{tasks_of, IsBoard};
 
-    ghost view = { λ m. record { store = m.store; programs = m.programs.items; jobs = tasks_of m.lanes.items m.jobs.items } };
+    ghost view = { λ m. record {
+      store = m.store;
+      programs = m.programs.items;
+      jobs = tasks_of m.lanes.items m.jobs.items;
+    } };
 
     ghost invariant = { λ m. IsBoard (has_cpu m.store) (is_running m.store) (held_spans m.store)
         m.programs.items m.jobs.items m.lanes.items };
@@ -103,7 +107,8 @@ impl Machine {
         ensures store { IfOk result (λ m. m.store ≡ store) }
         ensures programs { IfOk result (λ m. m.programs ≡ programs.items) }
         ensures jobs { IfOk result (λ m. m.jobs ≡ map waiting jobs.items) }
-        ensures refused { IfErr result (λ r. (r.store ≡ store) × (r.programs ≡ programs) × (r.jobs ≡ jobs)) }
+        ensures refused { IfErr result
+            (λ r. (r.store ≡ store) × (r.programs ≡ programs) × (r.jobs ≡ jobs)) }
     {
         let cpus = count_cpus(&jobs);
         match make_room(alloc, jobs.len(), cpus) {
@@ -125,10 +130,12 @@ impl Machine {
         }
     }
 
-    /// One turn of a CPU: it begins its lowest waiting job where it has none in hand, makes one step of it unless
-    /// the budget is used up, and ends it where it has an outcome then. It takes no memory.
+    /// One turn of a CPU: it begins its lowest waiting job where it has none in hand, makes one
+    /// step of it unless the budget is used up, and ends it where it has an outcome then. It takes
+    /// no memory.
     pub fn turn(&mut self, cpu: u8) -> Turn
-        ensures turn { (w : World) → Shows self.old w → (z : World) × TakesTurn w cpu result z × Shows self.new z }
+        ensures turn { (w : World) → Shows self.old w
+            → (z : World) × TakesTurn w cpu result z × Shows self.new z }
         ensures idle { result ≡ Turn.Idle → self.new ≡ self.old }
     {
         match self.work(cpu) {
@@ -143,7 +150,8 @@ impl Machine {
 
     /// The turns of a schedule, in order. A schedule is any list of CPU numbers.
     pub fn turns(&mut self, schedule: &[u8])
-        ensures { (w : World) → Shows self.old w → (z : World) × RunsSchedule w schedule.now z × Shows self.new z }
+        ensures { (w : World) → Shows self.old w
+            → (z : World) × RunsSchedule w schedule.now z × Shows self.new z }
     {
         for cpu in schedule {
             self.turn(*cpu);
@@ -183,7 +191,8 @@ impl Machine {
 
     /// The job that a CPU has in hand, or else is to begin next.
     pub fn job(&self, cpu: u8) -> Option<usize>
-        ensures job { IfSome result (λ j. HasInHand self.now.jobs cpu j ⊎ IsNext self.now.jobs cpu j) }
+        ensures job { IfSome result (λ j. HasInHand self.now.jobs cpu j
+            ⊎ IsNext self.now.jobs cpu j) }
         ensures idle { IfNone result (IsFree self.now.jobs cpu × NoneWaits self.now.jobs cpu) }
     {
         match self.work(cpu) {

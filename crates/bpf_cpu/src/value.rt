@@ -60,7 +60,8 @@ impl Cpu {
     /// Where an access to a held value lies, or why it is a fault.
     fn value_place(&self, address: u64, size: Size) -> Result<ValuePlace, Next>
         ensures place { IfOk result (λ p. p ≡ record { at = address }) }
-        ensures covered { IfOk result (λ p. is_covered self.now.held address (length_of size) ≡ true) }
+        ensures covered { IfOk result
+            (λ p. is_covered self.now.held address (length_of size) ≡ true) }
         ensures aligned { IfOk result (λ p. address % length_of size ≡ 0) }
         ensures refused { IfErr result (λ next.
             ((next ≡ Next.BadAddress) × (is_covered self.now.held address (length_of size) ≡ false))

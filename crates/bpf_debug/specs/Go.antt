@@ -66,6 +66,7 @@ pub data Goes (breaks : List Breakpoint) : World → ℕ → List ℕ → List �
     Turns : {w : World} {«from» : ℕ} {gone : List ℕ} {c : ℕ} {answer : Turn} {m : World}
         {turns text : List ℕ} {z : World}
         → IsUp w.jobs w.store.shape.cpus «from» c
-        → (has_gone gone c ≡ false) ⊎ ((p : ℕ) × StandsAt w.jobs c p × (has_break breaks c p ≡ false))
+        → (has_gone gone c ≡ false)
+        ⊎ ((p : ℕ) × StandsAt w.jobs c p × (has_break breaks c p ≡ false))
         → TakesTurn w c answer m → Goes breaks m (c + 1) (c ∷ gone) turns text z
         → Goes breaks w «from» gone (c ∷ turns) (ended_text c answer ++ text) z

@@ -127,7 +127,8 @@ pub fn put_off(out: &mut String, machine: &Machine, cpu: u8)
 
 fn put_fault(out: &mut String, fault: Fault, pc: u32)
     requires { string_len out.old + 48 ≤ string_capacity out.old }
-    ensures text { string_bytes out.new ≡ string_bytes out.old ++ outcome_text (Outcome.Fault fault pc) }
+    ensures text { string_bytes out.new ≡ string_bytes out.old
+        ++ outcome_text (Outcome.Fault fault pc) }
     ensures size { string_len out.new ≤ string_len out.old + 48 }
     ensures room { string_capacity out.old ≤ string_capacity out.new }
 {

@@ -40,7 +40,11 @@ impl Model for Session {
 
     ghost Value = { SessionState };
 
-    ghost view = { λ s. record { machine = s.machine; names = map (λ n. string_bytes n) s.names.items; breaks = s.breakpoints.items } };
+    ghost view = { λ s. record {
+      machine = s.machine;
+      names = map (λ n. string_bytes n) s.names.items;
+      breaks = s.breakpoints.items;
+    } };
 
     ghost invariant = { λ s. (w : World) × Shows s.machine w };
 }

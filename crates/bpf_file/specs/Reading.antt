@@ -39,7 +39,8 @@ abbrev pub is_end : List ℕ → Bool
 is_end line = is_end_alone (fields_of line)
 
 -- the end makes the lines behind `prog` a program; any other line is one of them
-abbrev pub Belongs : Bool → Part → ℕ → List ℕ → List (List ℕ) → List ℕ → Result State FileError → Type 0
+abbrev pub Belongs : Bool → Part → ℕ → List ℕ → List (List ℕ) → List ℕ → Result State FileError
+    → Type 0
 Belongs true p from name lines line r =
     (o : Result Loaded FileError) × OfAssembly from (length p.file.maps) (text_of lines) o
     × (r ≡ program_added p name o)

@@ -65,7 +65,8 @@ map_refusal p name h =
 
 -- a name that no program has yet
 abbrev pub if_new : ℕ → Part → List ℕ → Result State FileError → Result State FileError
-if_new n p name r = if is_there (place_of name p.titles) then Err (Refused n reason.TwiceName) else r
+if_new n p name r = if is_there (place_of name p.titles) then Err (Refused n reason.TwiceName)
+    else r
 
 abbrev pub program_added : Part → List ℕ → Result Loaded FileError → Result State FileError
 program_added p name (Ok program) = Ok (Between (with_program p name program))
@@ -113,4 +114,5 @@ Adds n p (Map name h) r = r ≡ unless n (map_refusal p name h) (with_map p name
 Adds n p (Program name) r = r ≡ if_new n p name (Ok (Within p n name []))
 Adds n p (Words name digits) r = WordsAdd (place_of name p.titles) n p name digits r
 Adds n p (Job cpu name steps context) r =
-    r ≡ job_added n p (served p.file.cpus cpu) (place_of name p.titles) (steps_of steps) (context_of context)
+    r ≡ job_added n p (served p.file.cpus cpu) (place_of name p.titles) (steps_of steps)
+    (context_of context)

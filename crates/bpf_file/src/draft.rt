@@ -142,7 +142,8 @@ impl<'a> Draft<'a> {
 
     /// What a line of these fields says, if it may stand here.
     fn said<'b>(&self, fields: &[&'b [u8]]) -> Result<Statement<'b>, Reason>
-        ensures { said_in result ≡ placed (part_of self.now) (field_at (map (λ f. f.now) fields.now) 0)
+        ensures { said_in result ≡ placed (part_of self.now)
+            (field_at (map (λ f. f.now) fields.now) 0)
             (statement_of (map (λ f. f.now) fields.now)) }
     {
         let said = statement::said(fields);
@@ -211,7 +212,8 @@ impl<'a> Draft<'a> {
         name: &str,
         shape: MapShape,
     ) -> Result<Next<'a>, FileError>
-        ensures { Added line (part_of self.old) (says.Map name.now shape) (part_of self.new) result }
+        ensures { Added line (part_of self.old) (says.Map name.now shape)
+            (part_of self.new) result }
     {
         if let Some(reason) = self.map_refusal(name, shape) {
             return Err(FileError::Refused(line, reason));
@@ -251,7 +253,8 @@ impl<'a> Draft<'a> {
         name: &'a [u8],
         digits: &[u8],
     ) -> Result<Next<'a>, FileError>
-        ensures { Added line (part_of self.old) (says.Words name.now digits.now) (part_of self.new) result }
+        ensures { Added line (part_of self.old) (says.Words name.now digits.now)
+            (part_of self.new) result }
     {
         if group::place_of(name, &self.titles).is_some() {
             return Err(FileError::Refused(line, Reason::TwiceName));
@@ -293,7 +296,8 @@ impl<'a> Draft<'a> {
         line: usize,
         job: JobLine<'_>,
     ) -> Result<Next<'a>, FileError>
-        ensures { Added line (part_of self.old) (said_by (statement_kind.Job job.entry)) (part_of self.new) result }
+        ensures { Added line (part_of self.old) (said_by (statement_kind.Job job.entry))
+            (part_of self.new) result }
     {
         let Some(cpu) = served(self.cpus, job.cpu) else {
             return Err(FileError::Refused(line, Reason::Unknown));
@@ -358,7 +362,8 @@ impl<'a> Draft<'a> {
     /// The whole file, where no line follows.
     pub fn finish(self) -> Result<RunFile, FileError>
         requires { IsFit (part_of self) }
-        ensures read { OrMemory (λ a. finished (Between (part_of self.entry)) ≡ answer_of a) result }
+        ensures read { OrMemory (λ a. finished (Between (part_of self.entry)) ≡ answer_of a)
+            result }
         ensures fits { IfOk result IsRunnable }
     {
         if self.group == 0 {

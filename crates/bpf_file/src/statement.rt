@@ -142,7 +142,8 @@ fn budgeted_job<'a>(
     fields: &[&'a [u8]],
     context: Option<&'a [u8]>,
 ) -> Result<Statement<'a>, LineError>
-    ensures { Says result (budgeted_said (map (λ f. f.now) fields.now) (option_copied context.entry)) }
+    ensures { Says result (budgeted_said (map (λ f. f.now) fields.now)
+        (option_copied context.entry)) }
 {
     let budget = count_at(fields, 4, MOST_STEPS)?;
     job(fields, Some(budget), context)

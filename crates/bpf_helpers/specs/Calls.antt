@@ -60,11 +60,13 @@ TakesAnswer (Some p) held result after =
     (IsTooMany held p × (result ≡ Err TooManyHeld) × (after ≡ held))
     ⊎ ((¬ IsTooMany held p) × (result ≡ Ok p.at) × (after ≡ with_span held p))
 
-module _ (memory : PrivateMemory) (registers : List ℕ) (m : ℕ) (h : MapShape) (held : List Span) where
+module _ (memory : PrivateMemory) (registers : List ℕ) (m : ℕ) (h : MapShape)
+    (held : List Span) where
   -- map_lookup_elem: the key's loads, then the lookup
   abbrev pub LooksUp : List Event → Result ℕ HelperFault → List Span → Type 0
   LooksUp events result after =
-      ((¬ IsReadable memory held (slice_index registers 2) h.key) × Stops BadAddress held events result after)
+      ((¬ IsReadable memory held (slice_index registers 2) h.key)
+      × Stops BadAddress held events result after)
       ⊎ ((key : List ℕ) × (first : List Event) × (answer : Option Span)
       × Reads memory held (slice_index registers 2) h.key key first
       × (events ≡ first ++ Lookup m key answer ∷ [])
@@ -76,7 +78,8 @@ module _ (memory : PrivateMemory) (registers : List ℕ) (m : ℕ) (h : MapShape
       (((¬ IsReadable memory held (slice_index registers 2) h.key)
       ⊎ (¬ IsReadable memory held (slice_index registers 3) h.value))
       × Stops BadAddress held events result after)
-      ⊎ ((key : List ℕ) × (value : List ℕ) × (first : List Event) × (second : List Event) × (answer : MapAnswer)
+      ⊎ ((key : List ℕ) × (value : List ℕ) × (first : List Event) × (second : List Event)
+      × (answer : MapAnswer)
       × Reads memory held (slice_index registers 2) h.key key first
       × Reads memory held (slice_index registers 3) h.value value second
       × (events ≡ (first ++ second) ++ Update m key value (slice_index registers 4) answer ∷ [])
@@ -85,7 +88,8 @@ module _ (memory : PrivateMemory) (registers : List ℕ) (m : ℕ) (h : MapShape
   -- map_delete_elem: the key's loads, then the deletion
   abbrev pub DeletesKey : List Event → Result ℕ HelperFault → List Span → Type 0
   DeletesKey events result after =
-      ((¬ IsReadable memory held (slice_index registers 2) h.key) × Stops BadAddress held events result after)
+      ((¬ IsReadable memory held (slice_index registers 2) h.key)
+      × Stops BadAddress held events result after)
       ⊎ ((key : List ℕ) × (first : List Event) × (answer : MapAnswer)
       × Reads memory held (slice_index registers 2) h.key key first
       × (events ≡ first ++ Delete m key answer ∷ [])
@@ -99,7 +103,8 @@ module _ (memory : PrivateMemory) (registers : List ℕ) (m : ℕ) (h : MapShape
       ⊎ ((n ≡ delete_number) × DeletesKey events result after)
 
 -- the helper of this number on a CPU: its number, or a map helper, for which R1 must be a map
-abbrev pub CallsHelper : List MapShape → ℕ → ℕ → List ℕ → PrivateMemory → List Span → List Event → Result ℕ HelperFault → List Span → Type 0
+abbrev pub CallsHelper : List MapShape → ℕ → ℕ → List ℕ → PrivateMemory → List Span → List Event
+    → Result ℕ HelperFault → List Span → Type 0
 CallsHelper shapes n cpu registers memory held events result after =
     ((n ≡ processor_number) × (events ≡ []) × (result ≡ Ok cpu) × (after ≡ held))
     ⊎ ((n ≢ processor_number) × ((m : ℕ) (h : MapShape) → ¬ IsMapAt shapes registers m h)

@@ -47,7 +47,8 @@ abbrev pub is_covered : List Span → ℕ → ℕ → Bool
 is_covered spans a n = list_any (covers a n) spans
 
 -- what the calls of one CPU's run leave of a store: its shapes, who is in a run, what others hold
-pub record KeepsRun {S : Type 0} (shapes : S → List MapShape) (running : S → ℕ → Bool) (held : S → ℕ → Span → Bool) (cpu : ℕ) (old new : S) : Type 0 where
+pub record KeepsRun {S : Type 0} (shapes : S → List MapShape) (running : S → ℕ → Bool)
+    (held : S → ℕ → Span → Bool) (cpu : ℕ) (old new : S) : Type 0 where
   pub shape : shapes new ≡ shapes old
   pub runs : running new ≡ running old
   pub others : (c : ℕ) → c ≢ cpu → held new c ≡ held old c

@@ -176,8 +176,8 @@ fn update<S: Shared>(
     Ok(number_of_answer(answer))
 }
 
-/// Calls the helper of this number on a CPU: its result, for R0. R1 to R5 have the arguments; the caller clears
-/// them. Its own memory is only read.
+/// Calls the helper of this number on a CPU: its result, for R0. R1 to R5 have the arguments; the
+/// caller clears them. Its own memory is only read.
 pub fn call<S: Shared>(
     number: u32,
     cpu: u8,
@@ -191,7 +191,8 @@ pub fn call<S: Shared>(
     requires in_run { S.running shared.old cpu ≡ true }
     requires held { AreHeld (S.held shared.old cpu) held.old }
     ensures call { (events : List Event) × Chain S.passes S.serves cpu shared.old shared.new events
-        × CallsHelper (S.shapes shared.old) number cpu registers.now memory.now held.old events result held.new }
+        × CallsHelper (S.shapes shared.old) number cpu registers.now memory.now held.old events
+        result held.new }
     ensures held { AreHeld (S.held shared.new cpu) held.new }
     ensures keeps { KeepsRun S.shapes S.running S.held cpu shared.old shared.new }
 {

@@ -1,9 +1,11 @@
 //! Why a helper can't be called.
 
-/// The faults of helpers. Nothing is changed, but that a lookup that found one value too many was made.
+/// The faults of helpers. Nothing is changed, but that a lookup that found one value too many was
+/// made.
 #[derive(Clone, Copy, PartialEq, Eq, Debug)]
 pub enum HelperFault {
-    /// F1: a byte of the key or the value is neither the CPU's own nor in a value that its run holds.
+    /// F1: a byte of the key or the value is neither the CPU's own nor in a value that its run
+    /// holds.
     BadAddress,
     /// F4: R1 is no map.
     NotAMap,

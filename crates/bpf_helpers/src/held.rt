@@ -15,7 +15,8 @@ pub const MAX_HELD: usize = 256;
 /// How many spans are gone through sooner than one is guessed.
 const FEW: usize = 8;
 
-/// The spans of the values that lookups of this run answered, each once, in the order of their first lookup.
+/// The spans of the values that lookups of this run answered, each once, in the order of their
+/// first lookup.
 #[derive(Drop)]
 pub struct HeldSpans {
     spans: ArrayVec<Span, MAX_HELD>,

@@ -43,7 +43,8 @@ any_stopped (suc n) jobs = any_stopped n jobs || is_stop (outcome_at jobs n)
 -- a key of a map with its value, both in lower case hex
 abbrev pub key_line : List ℕ → List ℕ → List ℕ → List ℕ
 key_line name key value =
-    codes "map " ++ name ++ codes " " ++ encode_lower key ++ codes "=" ++ encode_lower value ++ codes "\n"
+    codes "map " ++ name ++ codes " " ++ encode_lower key ++ codes "=" ++ encode_lower value
+    ++ codes "\n"
 
 -- a line a key, of the first n
 abbrev pub key_lines : List ℕ → ℕ → List Pair → List ℕ

@@ -1,4 +1,5 @@
-//! What is printed of jobs that are run in rounds over a plain store: their ends, and the maps that they leave.
+//! What is printed of jobs that are run in rounds over a plain store: their ends, and the maps that
+//! they leave.
 #![tactic(auto)]
 
 pub mod laws;

@@ -36,7 +36,8 @@ pub fn make_machine(
     requires cpus { All (λ job. job.cpu < shape.cpus) jobs.items }
     requires programs { All (λ job. job.program < vec_len programs) jobs.items }
     requires contexts { All (λ job. vec_len job.context ≤ max_context) jobs.items }
-    ensures { IfOk result (λ m. Shows m (first_world shape programs.items (map waiting jobs.items))) }
+    ensures { IfOk result (λ m. Shows m
+        (first_world shape programs.items (map waiting jobs.items))) }
 {
     let Ok(store) = PlainStore::new(alloc, shape) else {
         return Err(AllocError);
@@ -72,7 +73,8 @@ fn tell(
     maps: bool,
 ) -> Result<Report, AllocError>
     ensures { IfOk result (λ r. (s : Plain) → IsSoundStore s → StandsFor machine.now.store s
-        → Tells s machine.now.jobs (map string_bytes names.now) maps (string_bytes r.text) r.stopped) }
+        → Tells s machine.now.jobs (map string_bytes names.now) maps
+        (string_bytes r.text) r.stopped) }
 {
     let mut text = list_jobs(alloc, machine)?;
     let lines = asked_lines(alloc, machine.store(), names, maps)?;

@@ -7,10 +7,12 @@ use Rattle.bpf_loader.specs.Sound.{IsSound, IsFirstRefusal}
 
 -- one instruction at most begins at a pc
 abbrev pub OneInstructionBegins : Type 0
-OneInstructionBegins = (is : List Insn) (pc : ℕ) (i j : Insn) → Begins is pc i → Begins is pc j → i ≡ j
+OneInstructionBegins = (is : List Insn) (pc : ℕ) (i j : Insn) → Begins is pc i → Begins is pc j
+    → i ≡ j
 
 -- a list has one first refusal at most, and a sound one has none
 abbrev pub FirstIsDetermined : Type 0
 FirstIsDetermined =
-    ((maps : ℕ) (is : List Insn) (e f : LoadError) → IsFirstRefusal maps is e → IsFirstRefusal maps is f → e ≡ f)
+    ((maps : ℕ) (is : List Insn) (e f : LoadError) → IsFirstRefusal maps is e
+    → IsFirstRefusal maps is f → e ≡ f)
     × ((maps : ℕ) (is : List Insn) (e : LoadError) → IsSound maps is → ¬ IsFirstRefusal maps is e)

@@ -8,7 +8,8 @@ use Rattle.bpf_insn.specs.declared.operation.AtomicOp.TheVariants as atomic
 use Rattle.bpf_insn.specs.declared.instruction.Insn.{Insn}
 use Rattle.bpf_insn.specs.declared.instruction.Insn.TheVariants as insn
 
--- an atomic operation with FETCH, and XCHG, put the old value in src; CMPXCHG puts it in R0 (section 5.3)
+-- an atomic operation with FETCH, and XCHG, put the old value in src; CMPXCHG puts it in R0
+-- (section 5.3)
 abbrev pub fetched_into : AtomicOp → Reg → Option Reg
 fetched_into atomic.Add src = None
 fetched_into atomic.Or src = None

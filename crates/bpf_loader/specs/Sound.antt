@@ -1,7 +1,7 @@
--- Which programs are sound, and which refusal is the first that applies to one that isn't. That R10 is
--- read-only is the calling convention of Linux; that a jump into a wide instruction has no meaning is RFC
--- 9669's (section 4.3). That a run may not leave the program by a jump or past its end, the limits, the numbers of the
--- refusals and their order are our own choice.
+-- Which programs are sound, and which refusal is the first that applies to one that isn't. That R10
+-- is read-only is the calling convention of Linux; that a jump into a wide instruction has no
+-- meaning is RFC 9669's (section 4.3). That a run may not leave the program by a jump or past its
+-- end, the limits, the numbers of the refusals and their order are our own choice.
 use Rattle.std.specs.Prelude.{◌≡◌, ◌≢◌, ℕ, ◌+◌, ◌<◌, ◌≤◌, IsTrue, List, [], Some, IsSomeAnd, IfSome}
 use Rattle.bpf_insn.specs.declared.register.Reg.TheVariants.{R10}
 use Rattle.bpf_insn.specs.declared.instruction.Insn.{Insn}
@@ -23,10 +23,14 @@ abbrev pub Applies : ℕ → List Insn → LoadError → Type 0
 Applies maps is Empty = is ≡ []
 Applies maps is TooLong = max_words < word_length is
 Applies maps is (WritesR10 pc) = HasAt is pc (λ i. destination i ≡ Some R10)
-Applies maps is (JumpOut pc) = HasAt is pc (λ i. IsSomeAnd (jump_offset i) (λ offset. IsOutside is (target pc offset)))
-Applies maps is (JumpIntoWide pc) = HasAt is pc (λ i. IsSomeAnd (jump_offset i) (λ offset. IsSecondWord is (target pc offset)))
-Applies maps is (FallsOff pc) = HasAt is pc (λ i. IsTrue (goes_on i) × (pc + words i ≡ word_length is))
-Applies maps is (UnknownHelper pc) = HasAt is pc (λ i. IsSomeAnd (helper_of i) (λ number. ¬ IsHelper number))
+Applies maps is (JumpOut pc) =
+    HasAt is pc (λ i. IsSomeAnd (jump_offset i) (λ offset. IsOutside is (target pc offset)))
+Applies maps is (JumpIntoWide pc) =
+    HasAt is pc (λ i. IsSomeAnd (jump_offset i) (λ offset. IsSecondWord is (target pc offset)))
+Applies maps is (FallsOff pc) =
+    HasAt is pc (λ i. IsTrue (goes_on i) × (pc + words i ≡ word_length is))
+Applies maps is (UnknownHelper pc) =
+    HasAt is pc (λ i. IsSomeAnd (helper_of i) (λ number. ¬ IsHelper number))
 Applies maps is (UnknownMap pc) = HasAt is pc (λ i. IsSomeAnd (map_of i) (λ map. maps ≤ map))
 Applies maps is OutOfMemory = ⊥
 

@@ -133,7 +133,8 @@ fn check_word(slots: &Slots, maps: usize, pc: usize) -> Result<(), LoadError>
     }
 }
 
-/// Whether the program is sound where this many maps are given; else the first refusal that applies.
+/// Whether the program is sound where this many maps are given; else the first refusal that
+/// applies.
 pub fn check(slots: &Slots, maps: usize) -> Result<(), LoadError>
     requires some { slots.now ≢ [] }
     requires short { word_length slots.now ≤ max_words }

@@ -2,8 +2,8 @@
 
 use thiserror::Error;
 
-/// Why a program is refused: the first that applies, by the pc and then by the number. A pc counts 8-byte words
-/// from 0, and is that of the instruction at fault.
+/// Why a program is refused: the first that applies, by the pc and then by the number. A pc counts
+/// 8-byte words from 0, and is that of the instruction at fault.
 #[derive(Clone, Copy, PartialEq, Eq, Debug, Error)]
 pub enum LoadError {
     /// E1: the list has no instructions.

@@ -1,4 +1,5 @@
--- Where the parts of the private memory begin. All of these are our own choice but the size of a frame.
+-- Where the parts of the private memory begin. All of these are our own choice but the size of a
+-- frame.
 use Rattle.std.specs.Prelude.{ℕ, ◌+◌, ◌-◌, ◌*◌}
 use Rattle.bpf_mem.specs.Limits.{frame_bytes}
 

@@ -13,7 +13,8 @@ pub record Area : Type 0 where
 -- the frames above d others
 abbrev pub frame_areas : ℕ → List (List ℕ) → List Area
 frame_areas d [] = []
-frame_areas d (bytes ∷ frames) = record { base = frame_base d; bytes = bytes } ∷ frame_areas (suc d) frames
+frame_areas d (bytes ∷ frames) =
+    record { base = frame_base d; bytes = bytes } ∷ frame_areas (suc d) frames
 
 -- what a program reaches: the frames of the functions that haven't returned, and its context
 abbrev pub areas : PrivateMemory → List Area
@@ -21,7 +22,8 @@ areas m = frame_areas 0 m.frames.live ++ record { base = context_base; bytes = m
 
 -- the byte that an area has at an address
 abbrev pub byte_in : Area → ℕ → Option ℕ
-byte_in area address = if nat_lt address area.base then None else slice_get area.bytes (address - area.base)
+byte_in area address = if nat_lt address area.base then None
+    else slice_get area.bytes (address - area.base)
 
 -- the byte at an address of some area
 unfoldable pub byte_among : List Area → ℕ → Option ℕ
@@ -36,16 +38,19 @@ byte_at m address = byte_among (areas m) address
 unfoldable pub bytes_at : PrivateMemory → ℕ → ℕ → Option (List ℕ)
 bytes_at m address zero = Some []
 bytes_at m address (suc n) =
-    option_and_then (λ byte. option_map (λ bytes. byte ∷ bytes) (bytes_at m (suc address) n)) (byte_at m address)
+    option_and_then (λ byte. option_map (λ bytes. byte ∷ bytes) (bytes_at m (suc address) n))
+    (byte_at m address)
 
 -- the number whose n bytes stand at an address
 abbrev pub number_at : PrivateMemory → ℕ → ℕ → Option ℕ
 number_at m address n = option_map little_endian (bytes_at m address n)
 
 -- The new memory has these bytes at an address, and all else as the old one has it.
-pub record Writes (old : PrivateMemory) (address : ℕ) (bytes : List ℕ) (new : PrivateMemory) : Type 0 where
+pub record Writes (old : PrivateMemory) (address : ℕ) (bytes : List ℕ)
+    (new : PrivateMemory) : Type 0 where
   pub written : bytes_at new address (length bytes) ≡ Some bytes
-  pub others : (other : ℕ) → (other < address) ⊎ (address + length bytes ≤ other) → byte_at new other ≡ byte_at old other
+  pub others : (other : ℕ) → (other < address) ⊎ (address + length bytes ≤ other)
+      → byte_at new other ≡ byte_at old other
   pub frames : map length new.frames.live ≡ map length old.frames.live
   pub context : length new.context ≡ length old.context
   pub callers : new.frames.callers ≡ old.frames.callers

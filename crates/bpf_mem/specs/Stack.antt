@@ -3,8 +3,8 @@ use Rattle.std.specs.Prelude.{◌≡◌, ℕ, ◌+◌, ◌≤◌, List, All, len
 use Rattle.bpf_mem.specs.Limits.{max_frames, frame_bytes}
 use Rattle.bpf_mem.specs.declared.frames.Caller.{Caller}
 
--- The live frames, the oldest first, each its 512 bytes; and for each frame above the oldest what its caller
--- gets back, in the same order.
+-- The live frames, the oldest first, each its 512 bytes; and for each frame above the oldest what
+-- its caller gets back, in the same order.
 pub record Stack : Type 0 where
   pub live : List (List ℕ)
   pub callers : List Caller

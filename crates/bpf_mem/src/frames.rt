@@ -18,7 +18,8 @@ pub const MAX_FRAMES: usize = 8;
 /// How many bytes a frame has: `frame_bytes`, as in Linux.
 pub const FRAME_BYTES: usize = 512;
 
-/// What a local call keeps for its caller: where it goes on, and R6 to R9 (the calling convention of Linux).
+/// What a local call keeps for its caller: where it goes on, and R6 to R9 (the calling convention
+/// of Linux).
 #[derive(Clone, Copy, PartialEq, Eq, Debug)]
 pub struct Caller {
     pub return_pc: u32,
@@ -41,7 +42,10 @@ impl Model for Frames {
 
     ghost use Rattle.bpf_mem.specs.Private.Frames.{IsFilled};
 
-    ghost view = { λ s. record { live = take s.live s.frames; callers = take (s.live - 1) s.callers } };
+    ghost view = { λ s. record {
+      live = take s.live s.frames;
+      callers = take (s.live - 1) s.callers;
+    } };
 
     ghost invariant = { IsFilled };
 }
@@ -105,7 +109,8 @@ impl Frames {
         requires live { depth < length self.old.live }
         requires within { offset + length_of size ≤ frame_bytes }
         ensures live { self.new.live ≡ slice_set self.old.live depth
-            (with_part (slice_index_or self.old.live depth []) offset (low_bytes (length_of size) value)) }
+            (with_part (slice_index_or self.old.live depth []) offset
+            (low_bytes (length_of size) value)) }
         ensures callers { self.new.callers ≡ self.old.callers }
         ensures stack { IsStack self.old }
     {

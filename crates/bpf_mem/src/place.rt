@@ -1,6 +1,7 @@
 //! Places: addresses that were found to be good.
 
-/// Where bytes lie. Which address it stands for is said by `address_of` of this crate's definitions.
+/// Where bytes lie. Which address it stands for is said by `address_of` of this crate's
+/// definitions.
 #[derive(Clone, Copy, PartialEq, Eq, Debug)]
 pub enum Place {
     Context { offset: usize },

@@ -17,7 +17,8 @@ use Rattle.bpf_run.specs.Codes.{code, fault_code}
 -- how a run ended
 abbrev pub outcome_line : Outcome → List ℕ
 outcome_line (outcome.Exit r0) = codes "r0=" ++ decimal r0
-outcome_line (outcome.Fault fault pc) = codes "fault " ++ fault_code fault ++ codes " at " ++ decimal pc
+outcome_line (outcome.Fault fault pc) =
+    codes "fault " ++ fault_code fault ++ codes " at " ++ decimal pc
 outcome_line (outcome.OutOfBudget pc) = codes "out of budget at " ++ decimal pc
 
 -- the text that a reply prints
@@ -52,8 +53,10 @@ exit_status status.Refused = 1
 exit_status status.Failed = 1
 exit_status status.Stopped = 3
 
--- the text is written, and this status answered; or a write failed, and what is written is a beginning of the text
-abbrev pub IsPrinted : (text : List ℕ) → (meant : Status) → (old new : Option (List ℕ)) → (failed : Bool)
+-- the text is written, and this status answered; or a write failed, and what is written is a
+-- beginning of the text
+abbrev pub IsPrinted : (text : List ℕ) → (meant : Status) → (old new : Option (List ℕ))
+    → (failed : Bool)
     → Status → Type 0
 IsPrinted text meant old new failed answered =
     (Appends old new text × (failed ≡ false) × (answered ≡ meant))
@@ -66,7 +69,8 @@ Prints (reply.Text text) old new failed answered =
 Prints (reply.Jobs text stopped) old new failed answered =
     IsPrinted (string_bytes text) (jobs_status stopped) old new failed answered
 Prints (reply.Script answers stopped) old new failed answered =
-    IsPrinted (answers_text (map answer_of answers.items)) (jobs_status stopped) old new failed answered
+    IsPrinted (answers_text (map answer_of answers.items))
+    (jobs_status stopped) old new failed answered
 Prints r old new failed answered = IsPrinted (reply_text r) (status_of r) old new failed answered
     ⊎ IsPrinted (codes "refused L9\n") status.Refused old new failed answered
 

@@ -1,5 +1,5 @@
--- The codes that are printed of refusals: a letter and a number, and behind them what the refusal names: a line (from 1),
--- a length in bytes, or the pc of an instruction. Our own choice.
+-- The codes that are printed of refusals: a letter and a number, and behind them what the refusal
+-- names: a line (from 1), a length in bytes, or the pc of an instruction. Our own choice.
 use Rattle.std.specs.Prelude.{ℕ, ◌++◌, List, codes}
 use Rattle.std.specs.Fmt.{decimal}
 use Rattle.bpf_insn.specs.declared.error.InsnError.{InsnError}

@@ -91,7 +91,8 @@ shown_program true bytes is = program_lines 0 bytes is
 
 abbrev pub IsDisassembled : (pc : Bool) → List ℕ → Reply → Type 0
 IsDisassembled pc text (reply.Text printed) =
-    (is : List Insn) × (found : IsWordsOf text is) × (string_bytes printed ≡ shown_program pc found.0 is)
+    (is : List Insn) × (found : IsWordsOf text is)
+    × (string_bytes printed ≡ shown_program pc found.0 is)
 IsDisassembled pc text (reply.Refused r) = RefusesWords text r
 IsDisassembled pc text (reply.Ended outcome) = ⊥
 IsDisassembled pc text (reply.Jobs printed stopped) = ⊥
@@ -140,8 +141,8 @@ IsForOneThread _ = Unit {0}
 
 -- ---- input
 
--- why there is no text: a read failed, there is too much, or (of what isn't too much) it isn't UTF-8; want of memory may
--- stand in place of any answer
+-- why there is no text: a read failed, there is too much, or (of what isn't too much) it isn't
+-- UTF-8; want of memory may stand in place of any answer
 abbrev pub RefusesInput : List ℕ → Refusal → Type 0
 RefusesInput input (refusal.Input input_error.Unread) = Unit {0}
 RefusesInput input (refusal.Input input_error.TooLong) = MAX_INPUT < length input

@@ -1,4 +1,5 @@
--- What follows from the definitions: what a command prints is a function of the bytes that it reads.
+-- What follows from the definitions: what a command prints is a function of the bytes that it
+-- reads.
 use Rattle.std.specs.Prelude.{◌≡◌, ℕ, ◌≤◌, List, length, map}
 use Rattle.bpf_insn.specs.declared.error.InsnError.TheVariants as insn_error
 use Rattle.bpf_loader.specs.declared.refusal.LoadError.TheVariants as load_error

@@ -1,4 +1,5 @@
--- What a command does between its reading and its writing, and what the words of a command line ask for.
+-- What a command does between its reading and its writing, and what the words of a command line ask
+-- for.
 use Rattle.std.specs.Prelude.{◌≡◌, ℕ, Bool, List, Option, IfSome, []}
 use Rattle.clap.specs.Words.{Text, fault_of, subcommand_of}
 use Rattle.clap.specs.declared.error.Error.{Error}
@@ -39,7 +40,8 @@ Follows (request.Page code) unread input read_failed old new write_failed status
 abbrev pub IsAsked : List Text → Request → Type 0
 IsAsked words request = (fault_of ebpf words ≡ []) × Asks (subcommand_of ebpf words) request
 
--- the refusal that is printed where words name no command; what `clap` says is shown and isn't printed as one
+-- the refusal that is printed where words name no command; what `clap` says is shown and isn't
+-- printed as one
 abbrev pub IsPrintedAs : CommandError → Refusal → Type 0
 IsPrintedAs command_error.NotHex r = r ≡ refusal.Text text_error.NotHex
 IsPrintedAs command_error.OutOfMemory r = r ≡ refusal.OutOfMemory

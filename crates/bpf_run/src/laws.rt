@@ -3,7 +3,8 @@
 //! The function does nothing: its contract is the law.
 ghost use Rattle.bpf_run.specs.Laws.{RepliesAreDetermined};
 
-/// What a command prints is a function of the bytes that it reads, want of memory and failing reads aside.
+/// What a command prints is a function of the bytes that it reads, want of memory and failing reads
+/// aside.
 pub fn replies_are_determined()
     ensures { RepliesAreDetermined }
 {

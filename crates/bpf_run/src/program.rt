@@ -152,8 +152,8 @@ pub fn program<T: Threads + Wait + Sync, R: Source, W: Sink>(
     }
 }
 
-/// Shows what `clap` says; the exit status, which tells a fault of the words whether or not it could
-/// be shown.
+/// Shows what `clap` says; the exit status, which tells a fault of the words whether or not it
+/// could be shown.
 fn show<P: Print + Eprint>(rt: &P, error: &clap::Error) -> u8
     ensures fault { kind_of error.now ≢ kind.DisplayHelp → kind_of error.now ≢ kind.DisplayVersion
         → result ≡ USAGE }

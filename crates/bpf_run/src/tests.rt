@@ -10,7 +10,8 @@ use bpf_explain::Code;
 use std::io;
 use std::io::{ErrorKind, Read, Write};
 
-/// Gives zeros, at most `most` a read, and counts the reads; where `fails` is set, the read after the last byte fails.
+/// Gives zeros, at most `most` a read, and counts the reads; where `fails` is set, the read after
+/// the last byte fails.
 #[derive(Drop)]
 struct FakeReader<'a> {
     left: &'a [u8],

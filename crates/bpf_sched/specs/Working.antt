@@ -29,8 +29,8 @@ pub record IsNew (cpu programs : ℕ) (a : Assignment) : Type 0 where
   pub fresh : a.cpu ≡ start cpu context
   pub program : a.program < programs
 
--- a job is run from the state x to the state y with these events, which explain how it ended: `moves`
--- says what a way from state to state is, and `worn` where the CPU's next run can't begin
+-- a job is run from the state x to the state y with these events, which explain how it ended:
+-- `moves` says what a way from state to state is, and `worn` where the CPU's next run can't begin
 pub record Runs {T : Type 0} (moves : T → T → List Event → Type 0) (worn : T → Type 0)
     (shapes : List MapShape) (programs : List Loaded) (x : T) (old new : Assignment)
     (events : List Event) (y : T) : Type 0 where

@@ -32,7 +32,8 @@ impl Assignment {
         ensures runs { (events : List Event) ×
             Runs (Chain S.passes S.serves self.old.cpu.number) (λ x. S.may_wear x self.old.cpu.number)
             (S.shapes shared.old) programs.now shared.old self.old self.new events shared.new }
-        ensures keeps { KeepsRun S.shapes S.running S.held self.old.cpu.number shared.old shared.new }
+        ensures keeps { KeepsRun S.shapes S.running S.held self.old.cpu.number shared.old
+            shared.new }
     {
         let program = &programs[self.program];
         self.outcome = self.cpu.run(program, shared, self.budget);

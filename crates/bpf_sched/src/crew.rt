@@ -88,8 +88,8 @@ pub struct Report {
     pub closed: Closed,
 }
 
-/// Runs all jobs over the ports of a store that no CPU has called yet, each CPU's in their order, by
-/// so many workers at most. It takes no memory.
+/// Runs all jobs over the ports of a store that no CPU has called yet, each CPU's in their order,
+/// by so many workers at most. It takes no memory.
 pub fn run_ports<R: Threads + Wait + Sync, G: Gate + Sync>(
     rt: &R,
     table: HopTable,

@@ -37,7 +37,8 @@ pub(crate) fn note_all(jobs: &[Job], workers: &[Worker], ends: &mut [Outcome])
     requires work { (c : ℕ) (d : Worker) → c < length workers.now →
         length (slice_index_or workers.now c d).workload.jobs.items ≡ length (jobs_of c (map waiting jobs.now)) }
     ensures room { length ends.new ≡ length ends.old }
-    ensures noted { (c : ℕ) (d : Worker) → c < length workers.now → ends_of c (map waiting jobs.now) ends.new
+    ensures noted { (c : ℕ) (d : Worker) → c < length workers.now
+        → ends_of c (map waiting jobs.now) ends.new
         ≡ map outcome_of (slice_index_or workers.now c d).workload.jobs.items }
 {
     for cpu in 0..workers.len() {

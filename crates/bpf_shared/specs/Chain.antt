@@ -6,7 +6,8 @@ use Rattle.bpf_shared.specs.History.{events_of}
 
 -- from x to y by a passage in which the CPU has these events, and no other CPU that is served has
 -- any; and the same CPUs are served
-pub record Chain {T : Type 0} (passes : T → T → List Entry → Type 0) (serves : T → ℕ → Bool) (cpu : ℕ) (x y : T) (events : List Event) : Type 0 where
+pub record Chain {T : Type 0} (passes : T → T → List Entry → Type 0) (serves : T → ℕ → Bool)
+    (cpu : ℕ) (x y : T) (events : List Event) : Type 0 where
   pub log : List Entry
   pub passage : passes x y log
   pub own : events_of cpu log ≡ events

@@ -8,7 +8,8 @@ use Rattle.bpf_shared.specs.Contents.{Contents, runs_of, rows, size_of, span_at,
 
 -- the address is in the span of some element
 abbrev pub IsAtValue : Contents → ℕ → Type 0
-IsAtValue p a = (m : ℕ) × (i : ℕ) × (m < length p.tables) × (i < size_of p m) × IsIn a (span_at p m i)
+IsAtValue p a = (m : ℕ) × (i : ℕ) × (m < length p.tables) × (i < size_of p m)
+    × IsIn a (span_at p m i)
 
 -- the byte of a value, in a map, an element and the value there
 pub record IsReach (p : Contents) (a : ℕ) (r : Reach) : Type 0 where

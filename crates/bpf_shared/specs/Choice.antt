@@ -25,8 +25,10 @@ pub record IsLowestFree (s : Plain) (m : ℕ) (h : MapShape) (i : ℕ) : Type 0 
 -- NoMemory exactly where the map is short, never Busy, and a new value at the lowest free element
 abbrev pub Chosen : Plain → Event → Plain → Type 0
 Chosen s (Update m key bytes flags Done) t =
-    (h : MapShape) × (i : ℕ) × IsMap s.shape.maps m h × IsLowestFree s m h i × ((t.value s.made).span ≡ element_span m h i)
-Chosen s (Update m key bytes flags NoMemory) t = (h : MapShape) × IsMap s.shape.maps m h × IsShort s m h
+    (h : MapShape) × (i : ℕ) × IsMap s.shape.maps m h × IsLowestFree s m h i
+    × ((t.value s.made).span ≡ element_span m h i)
+Chosen s (Update m key bytes flags NoMemory) t = (h : MapShape) × IsMap s.shape.maps m h
+    × IsShort s m h
 Chosen s (Update m key bytes flags Busy) t = ⊥
 Chosen s (Delete m key Busy) t = ⊥
 Chosen s _ t = Unit {0}

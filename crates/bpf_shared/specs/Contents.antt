@@ -59,7 +59,8 @@ any_below (suc n) f = f n || any_below n f
 
 -- the span is that of an element that the CPU's run looked up
 abbrev pub held_spans : Contents → ℕ → Span → Bool
-held_spans p c q = any_below (length p.tables) (λ m. any_below (size_of p m) (λ i. holds p c m i && same_span q (span_at p m i)))
+held_spans p c q = any_below (length p.tables)
+    (λ m. any_below (size_of p m) (λ i. holds p c m i && same_span q (span_at p m i)))
 
 -- the element is in the map, or some CPU keeps or holds it
 abbrev pub IsUsed : Contents → ℕ → ℕ → Type 0
@@ -74,33 +75,43 @@ pub record StandsFor (p : Contents) (s : Plain) : Type 0 where
   -- the value number in each element of each map
   pub number : ℕ → ℕ → ℕ
   pub leads : (m i : ℕ) → IsLinked (rows p m) i → Finds s m (key_of (rows p m) i) (number m i)
-  pub found : (m : ℕ) (key : List ℕ) (v : ℕ) → Finds s m key v → (i : ℕ) × IsLinked (rows p m) i × (key_of (rows p m) i ≡ key) × (v ≡ number m i)
+  pub found : (m : ℕ) (key : List ℕ) (v : ℕ) → Finds s m key v
+      → (i : ℕ) × IsLinked (rows p m) i × (key_of (rows p m) i ≡ key) × (v ≡ number m i)
   pub counts : (m : ℕ) → len (s.maps m) ≡ length (rows p m).order
-  pub values : (m i : ℕ) → i < size_of p m → IsUsed p m i → s.value (number m i) ≡ record { bytes = bytes_of (rows p m) i; span = span_at p m i }
-  pub held : (c v : ℕ) → s.held c v ≡ true → (m : ℕ) × (i : ℕ) × (i < size_of p m) × (holds p c m i ≡ true) × (v ≡ number m i)
-  pub held_back : (c m i : ℕ) → i < size_of p m → holds p c m i ≡ true → s.held c (number m i) ≡ true
-  pub kept : (c v : ℕ) → s.kept c v ≡ true → (m : ℕ) × (i : ℕ) × (i < size_of p m) × (keeps p c m i ≡ true) × (v ≡ number m i)
-  pub kept_back : (c m i : ℕ) → i < size_of p m → keeps p c m i ≡ true → s.kept c (number m i) ≡ true
+  pub values : (m i : ℕ) → i < size_of p m → IsUsed p m i
+      → s.value (number m i) ≡ record { bytes = bytes_of (rows p m) i; span = span_at p m i }
+  pub held : (c v : ℕ) → s.held c v ≡ true
+      → (m : ℕ) × (i : ℕ) × (i < size_of p m) × (holds p c m i ≡ true) × (v ≡ number m i)
+  pub held_back : (c m i : ℕ) → i < size_of p m → holds p c m i ≡ true
+      → s.held c (number m i) ≡ true
+  pub kept : (c v : ℕ) → s.kept c v ≡ true
+      → (m : ℕ) × (i : ℕ) × (i < size_of p m) × (keeps p c m i ≡ true) × (v ≡ number m i)
+  pub kept_back : (c m i : ℕ) → i < size_of p m → keeps p c m i ≡ true
+      → s.kept c (number m i) ≡ true
 
--- from each plain store that the old value shows, as some legal history may have left it, the events
--- are allowed, with the choices of a `PlainStore`, and lead to one that the new value shows
+-- from each plain store that the old value shows, as some legal history may have left it, the
+-- events are allowed, with the choices of a `PlainStore`, and lead to one that the new value shows
 abbrev pub Passes : Contents → Contents → List Entry → Type 0
 Passes old new log =
-    (s : Plain) → IsSoundStore s → StandsFor old s → (t : Plain) × PlainlyLegal s log t × IsSoundStore t × StandsFor new t
+    (s : Plain) → IsSoundStore s → StandsFor old s
+    → (t : Plain) × PlainlyLegal s log t × IsSoundStore t × StandsFor new t
 
 -- no update or deletion is answered Busy, and NoMemory only where the map is short
 abbrev pub MayLack : Contents → Contents → ℕ → List ℕ → MapAnswer → Type 0
 MayLack old new m key Busy = ⊥
 MayLack old new m key NoMemory =
-    (s : Plain) → IsSoundStore s → StandsFor old s → (h : MapShape) × IsMap s.shape.maps m h × IsShort s m h
+    (s : Plain) → IsSoundStore s → StandsFor old s
+    → (h : MapShape) × IsMap s.shape.maps m h × IsShort s m h
 MayLack old new m key answer = Unit {0}
 
 -- what each `PlainStore` keeps true: no run is noted that didn't begin yet
 pub record IsStore (p : Contents) : Type 0 where
   pub cpus : length p.runs ≤ 16
   pub maps : length p.tables ≤ 16
-  pub tables : (m : ℕ) → m < length p.tables → IsTable (rows p m) × ((rows p m).cpus ≡ length p.runs)
-  pub looked_up : (m i c : ℕ) → c < length p.runs → run_looked_up (rows p m) i c ≤ (runs_of p c).count
+  pub tables : (m : ℕ) → m < length p.tables
+      → IsTable (rows p m) × ((rows p m).cpus ≡ length p.runs)
+  pub looked_up : (m i c : ℕ) → c < length p.runs
+      → run_looked_up (rows p m) i c ≤ (runs_of p c).count
   pub left : (m i c : ℕ) → c < length p.runs → run_left (rows p m) i c ≤ (runs_of p c).count
 
 -- a store that was made with this shape
@@ -115,7 +126,10 @@ pub record IsMade (h : Shape) (p : Contents) : Type 0 where
 
 -- the CPU is in its next run
 abbrev pub started : Contents → ℕ → Contents
-started p c = record p { runs = slice_set p.runs c (record { count = (runs_of p c).count + 1; running = true }) }
+started p c = record p {
+  runs = slice_set p.runs c
+      (record { count = (runs_of p c).count + 1; running = true });
+}
 
 -- the CPU is in no run
 abbrev pub stopped : Contents → ℕ → Contents

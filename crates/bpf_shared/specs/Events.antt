@@ -22,7 +22,11 @@ after_begin s c = record s { running = put s.running c true; held = put s.held c
 
 -- the CPU is in no run, holds nothing, and nothing is kept for it
 abbrev pub after_end : Plain → ℕ → Plain
-after_end s c = record s { running = put s.running c false; held = put s.held c never; kept = put s.kept c never }
+after_end s c = record s {
+  running = put s.running c false;
+  held = put s.held c never;
+  kept = put s.kept c never;
+}
 
 -- ---- lookups
 
@@ -77,7 +81,9 @@ after_update s m key x = record s {
 
 abbrev pub Updates : Plain → ℕ → MapShape → List ℕ → List ℕ → ℕ → MapAnswer → Plain → Type 0
 Updates s m h key bytes flags Done t =
-    (first_of (refusals s m h key flags) ≡ None) × ((p : Span) × MayLie s m h p × (t ≡ after_update s m key (record { bytes = bytes; span = p })))
+    (first_of (refusals s m h key flags) ≡ None)
+    × ((p : Span) × MayLie s m h p
+    × (t ≡ after_update s m key (record { bytes = bytes; span = p })))
 Updates s m h key bytes flags answer t = MayRefuse s m h key flags answer × (t ≡ s)
 
 -- ---- deletions
@@ -109,7 +115,8 @@ number_in s v a n = little_endian (part (s.value v).bytes (a - (s.value v).span.
 -- these bytes become the low bytes of a number; all else stays
 abbrev pub after_write : Plain → ℕ → ℕ → ℕ → ℕ → Plain
 after_write s v a n x = record s {
-  value = put s.value v (record (s.value v) { bytes = with_part (s.value v).bytes (a - (s.value v).span.at) (low_bytes n x) });
+  value = put s.value v (record (s.value v)
+      { bytes = with_part (s.value v).bytes (a - (s.value v).span.at) (low_bytes n x) });
 }
 
 -- ---- all events
@@ -119,9 +126,11 @@ abbrev pub Does : Plain → ℕ → Event → Plain → Type 0
 Does s c Begin t = ⊥
 Does s c End t = t ≡ after_end s c
 Does s c (Lookup m key found) t =
-    IsKeyOf s.shape.maps m key × (found ≡ span_of s (get (s.maps m) key)) × (t ≡ after_lookup s c (get (s.maps m) key))
+    IsKeyOf s.shape.maps m key × (found ≡ span_of s (get (s.maps m) key))
+    × (t ≡ after_lookup s c (get (s.maps m) key))
 Does s c (Update m key bytes flags answer) t =
-    (h : MapShape) × IsMap s.shape.maps m h × (length key ≡ h.key) × (length bytes ≡ h.value) × Updates s m h key bytes flags answer t
+    (h : MapShape) × IsMap s.shape.maps m h × (length key ≡ h.key) × (length bytes ≡ h.value)
+    × Updates s m h key bytes flags answer t
 Does s c (Delete m key answer) t = IsKeyOf s.shape.maps m key × Deletes s m key answer t
 Does s c (Load a size found) t =
     (v : ℕ) × Reaches s c v a (bytes_in size) × (found ≡ number_in s v a (bytes_in size)) × (t ≡ s)
@@ -129,7 +138,8 @@ Does s c (Store a size x) t =
     (v : ℕ) × Reaches s c v a (bytes_in size) × (t ≡ after_write s v a (bytes_in size) x)
 Does s c (Atomic a size op operand expected found) t =
     (v : ℕ) × Reaches s c v a (bytes_in size) × (found ≡ number_in s v a (bytes_in size))
-    × (t ≡ after_write s v a (bytes_in size) (number_after (change_of op) (bytes_in size) found operand expected))
+    × (t ≡ after_write s v a (bytes_in size)
+    (number_after (change_of op) (bytes_in size) found operand expected))
 
 -- what the plain store allows: a run begins where there is none, all else happens in a run
 abbrev pub Allowed : Plain → ℕ → Event → Plain → Type 0

@@ -35,7 +35,8 @@ Without P [] = Unit {0}
 Without P (e ∷ es) = (P e.cpu e.event → ⊥) × Without P es
 
 -- the value with these bytes is found, where nobody wrote in the course of these events
-pub record IsFound (u : Plain) (v : ℕ) (bytes : List ℕ) (log : List Entry) (found : Option Span) : Type 0 where
+pub record IsFound (u : Plain) (v : ℕ) (bytes : List ℕ) (log : List Entry)
+    (found : Option Span) : Type 0 where
   pub span : found ≡ Some ((u.value v).span)
   pub size : (u.value v).span.size ≡ length bytes
   pub bytes_there : (b : ℕ) → IsIn b (u.value v).span → Without (WritesAt b) log
@@ -44,18 +45,22 @@ pub record IsFound (u : Plain) (v : ℕ) (bytes : List ℕ) (log : List Entry) (
 -- after an update that is done a lookup of the key, with no update or deletion of it between,
 -- finds the new value, and its bytes are those given, until somebody writes there
 abbrev pub UpdatesAreFound : Type 0
-UpdatesAreFound = (s t u w : Plain) (c d m : ℕ) (key bytes : List ℕ) (flags : ℕ) (log : List Entry) (found : Option Span)
-    → IsSoundStore s → Allowed s c (Update m key bytes flags Done) t → Legal t log u → Without (ChangesKey m key) log
+UpdatesAreFound = (s t u w : Plain) (c d m : ℕ) (key bytes : List ℕ) (flags : ℕ) (log : List Entry)
+    (found : Option Span)
+    → IsSoundStore s → Allowed s c (Update m key bytes flags Done) t → Legal t log u
+    → Without (ChangesKey m key) log
     → Allowed u d (Lookup m key found) w → IsFound u s.made bytes log found
 
 -- after a deletion that is done a lookup of the key, with no update of it between, finds nothing
 abbrev pub DeletionsAreFound : Type 0
-DeletionsAreFound = (s t u w : Plain) (c d m : ℕ) (key : List ℕ) (log : List Entry) (found : Option Span)
+DeletionsAreFound = (s t u w : Plain) (c d m : ℕ) (key : List ℕ) (log : List Entry)
+    (found : Option Span)
     → Allowed s c (Delete m key Done) t → Legal t log u → Without (ChangesKey m key) log
     → Allowed u d (Lookup m key found) w → found ≡ None
 
 -- what a run holds it holds until it ends, in its place, and no new value is placed there
 abbrev pub HeldValuesStay : Type 0
-HeldValuesStay = (s t : Plain) (c v : ℕ) (log : List Entry) → IsSoundStore s → s.held c v ≡ true → Legal s log t → Without (EndsRun c) log
+HeldValuesStay = (s t : Plain) (c v : ℕ) (log : List Entry) → IsSoundStore s → s.held c v ≡ true
+    → Legal s log t → Without (EndsRun c) log
     → (t.held c v ≡ true) × ((t.value v).span ≡ (s.value v).span)
     × ((w : ℕ) → s.made ≤ w → w < t.made → IsApart (t.value w).span (t.value v).span)

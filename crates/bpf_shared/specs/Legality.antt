@@ -7,4 +7,5 @@ use Rattle.bpf_shared.specs.Contents.{Contents, Passes, IsMade}
 
 -- a passage from a store as made is a legal history
 abbrev pub PassagesAreLegal : Type 0
-PassagesAreLegal = (h : Shape) (x y : Contents) (log : List Entry) → IsMade h x → Passes x y log → IsLegal h log
+PassagesAreLegal = (h : Shape) (x y : Contents) (log : List Entry) → IsMade h x → Passes x y log
+    → IsLegal h log

@@ -18,14 +18,18 @@ pair_at pairs k = slice_index_or pairs k ([], [])
 
 -- the map has these pairs and no others, in the order of their keys
 pub record IsListing (s : Plain) (m : ℕ) (pairs : List Pair) : Type 0 where
-  pub sorted : (j k : ℕ) → j < k → k < length pairs → slice_cmp nat_cmp (pair_at pairs j).0 (pair_at pairs k).0 ≡ Less
-  pub each : (k : ℕ) → k < length pairs → (v : ℕ) × Finds s m (pair_at pairs k).0 v × ((pair_at pairs k).1 ≡ (s.value v).bytes)
-  pub all : (key : List ℕ) (v : ℕ) → Finds s m key v → (k : ℕ) × (k < length pairs) × ((pair_at pairs k).0 ≡ key)
+  pub sorted : (j k : ℕ) → j < k → k < length pairs
+      → slice_cmp nat_cmp (pair_at pairs j).0 (pair_at pairs k).0 ≡ Less
+  pub each : (k : ℕ) → k < length pairs
+      → (v : ℕ) × Finds s m (pair_at pairs k).0 v × ((pair_at pairs k).1 ≡ (s.value v).bytes)
+  pub all : (key : List ℕ) (v : ℕ) → Finds s m key v
+      → (k : ℕ) × (k < length pairs) × ((pair_at pairs k).0 ≡ key)
 
 -- the byte at the address, in a value that is in a map or kept
 abbrev pub IsByteAt : Plain → ℕ → ℕ → Type 0
 IsByteAt s a b =
-    (v : ℕ) × (((m : ℕ) × IsInMap s m v) ⊎ IsKept s v) × IsIn a (s.value v).span × (b ≡ byte_at s v a)
+    (v : ℕ) × (((m : ℕ) × IsInMap s m v) ⊎ IsKept s v) × IsIn a (s.value v).span
+    × (b ≡ byte_at s v a)
 
 -- it is the only one there: values that are in a map or kept have no address in common
 abbrev pub IsOnlyByteAt : Plain → ℕ → ℕ → Type 0

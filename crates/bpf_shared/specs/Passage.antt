@@ -7,7 +7,8 @@ use Rattle.bpf_shared.specs.Shape.{Covers}
 use Rattle.bpf_shared.specs.History.{events_of, entry}
 
 -- a call is its event, behind events of CPUs that are not served
-pub record Calls (passes : List Entry → Type 0) (serves : ℕ → Bool) (cpu : ℕ) (event : Event) : Type 0 where
+pub record Calls (passes : List Entry → Type 0) (serves : ℕ → Bool) (cpu : ℕ)
+    (event : Event) : Type 0 where
   pub others : List Entry
   pub foreign : (c : ℕ) → serves c ≡ true → events_of c others ≡ []
   pub passage : passes (others ++ entry cpu event ∷ [])

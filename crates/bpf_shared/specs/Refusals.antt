@@ -23,4 +23,5 @@ maps_tests m (h ∷ hs) = map_tests m h ++ maps_tests (m + 1) hs
 
 -- first of the CPUs, then of how many maps there are, then of each map
 abbrev pub shape_tests : ℕ → List MapShape → List (ShapeError × Bool)
-shape_tests cpus maps = (CpuCount, outside 1 16 cpus) ∷ (TooManyMaps, nat_lt 16 (length maps)) ∷ maps_tests 0 maps
+shape_tests cpus maps = (CpuCount, outside 1 16 cpus) ∷ (TooManyMaps, nat_lt 16 (length maps))
+    ∷ maps_tests 0 maps

@@ -77,9 +77,11 @@ pub record IsTable (t : Rows) : Type 0 where
   pub left : length t.left ≡ elements t.shape * t.cpus
   pub count : length t.order ≤ t.shape.max
   pub inside : (k : ℕ) → k < length t.order → slice_index t.order k < elements t.shape
-  pub marked : (k : ℕ) → k < length t.order → slice_index_or t.linked (slice_index t.order k) false ≡ true
+  pub marked : (k : ℕ) → k < length t.order
+      → slice_index_or t.linked (slice_index t.order k) false ≡ true
   pub found : (i : ℕ) → slice_index_or t.linked i false ≡ true → IsLinked t i
-  pub sorted : (j k : ℕ) → j < k → k < length t.order → slice_cmp nat_cmp (key_at t j) (key_at t k) ≡ Less
+  pub sorted : (j k : ℕ) → j < k → k < length t.order
+      → slice_cmp nat_cmp (key_at t j) (key_at t k) ≡ Less
 
 -- nothing is in the map, and no run is noted
 pub record IsBlank (t : Rows) : Type 0 where
@@ -100,15 +102,18 @@ pub record IsKeyAt (t : Rows) (key : List ℕ) (k : ℕ) : Type 0 where
 
 -- some CPU is still in the run that is noted for it
 abbrev pub HasCurrent : List ℕ → List Runs → Type 0
-HasCurrent notes runs = (c : ℕ) × (c < length runs) × (is_run (run_of runs c) (slice_index notes c) ≡ true)
+HasCurrent notes runs = (c : ℕ) × (c < length runs)
+    × (is_run (run_of runs c) (slice_index notes c) ≡ true)
 
 -- the same of the notes from one on
 abbrev pub HasCurrentAt : List ℕ → ℕ → List Runs → Type 0
-HasCurrentAt notes first runs = (c : ℕ) × (c < length runs) × (is_run (run_of runs c) (slice_index notes (first + c)) ≡ true)
+HasCurrentAt notes first runs = (c : ℕ) × (c < length runs)
+    × (is_run (run_of runs c) (slice_index notes (first + c)) ≡ true)
 
 -- each CPU that is in a run in the first is in the same one in the second
 abbrev pub GoOn : List Runs → List Runs → Type 0
-GoOn seen runs = (c n : ℕ) → c < length seen → is_run (run_of seen c) n ≡ true → is_run (run_of runs c) n ≡ true
+GoOn seen runs = (c n : ℕ) → c < length seen → is_run (run_of seen c) n ≡ true
+    → is_run (run_of runs c) n ≡ true
 
 -- some CPU is still in the run that it was in when the element left the map
 abbrev pub IsKeptRow : List Runs → Rows → ℕ → Type 0
@@ -144,7 +149,8 @@ linked_row k i key bytes t = record t {
 
 -- these bytes of the element's value are new
 abbrev pub stored_row : ℕ → ℕ → List ℕ → Rows → Rows
-stored_row i offset bytes t = record t { values = with_part t.values (i * t.shape.value + offset) bytes }
+stored_row i offset bytes t =
+    record t { values = with_part t.values (i * t.shape.value + offset) bytes }
 
 -- the k-th key has left the map: the CPUs' runs are noted in its element
 abbrev pub unlinked_row : List Runs → ℕ → Rows → Rows
@@ -158,7 +164,8 @@ unlinked_row runs k t = record t {
 pub record Erases (cpus c : ℕ) (old new : List ℕ) : Type 0 where
   pub count : length new ≡ length old
   pub here : (i : ℕ) → slice_index new (i * cpus + c) ≡ 0
-  pub others : (i d : ℕ) → d < cpus → d ≢ c → slice_index new (i * cpus + d) ≡ slice_index old (i * cpus + d)
+  pub others : (i d : ℕ) → d < cpus → d ≢ c
+      → slice_index new (i * cpus + d) ≡ slice_index old (i * cpus + d)
 
 -- no run of the CPU is noted
 pub record Forgets (c : ℕ) (t n : Rows) : Type 0 where
@@ -194,7 +201,8 @@ PutsRow runs t key bytes flags Full n =
 PutsRow runs t key bytes flags NoMemory n =
     (HasRoomAt t key flags) × ((i : ℕ) → i < elements t.shape → IsTakenRow runs t i) × (n ≡ t)
 PutsRow runs t key bytes flags Busy n = ⊥
-PutsRow runs t key bytes flags Done n = (i : ℕ) × IsLowestFreeRow runs t i × (Replaces runs t key bytes flags i n ⊎ Adds t key bytes flags i n)
+PutsRow runs t key bytes flags Done n = (i : ℕ) × IsLowestFreeRow runs t i
+    × (Replaces runs t key bytes flags i n ⊎ Adds t key bytes flags i n)
 
 abbrev pub TakesRow : List Runs → Rows → List ℕ → MapAnswer → Rows → Type 0
 TakesRow runs t key Done n = (k : ℕ) × IsKeyAt t key k × (n ≡ unlinked_row runs k t)

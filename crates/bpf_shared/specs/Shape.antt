@@ -44,11 +44,15 @@ element_stride h = (h.value + 7) / 8 * 8
 
 -- where the value in the i-th element of the m-th map lies (our own choice)
 abbrev pub element_span : ℕ → MapShape → ℕ → Span
-element_span m h i = record { at = 0x10_0000_0000 + 0x1000_0000 * m + i * element_stride h; size = h.value }
+element_span m h i = record {
+  at = 0x10_0000_0000 + 0x1000_0000 * m + i * element_stride h;
+  size = h.value;
+}
 
 -- the span is that of an element of this map
 abbrev pub IsElementSpan : List MapShape → ℕ → Span → Type 0
-IsElementSpan maps m p = (h : MapShape) × (i : ℕ) × IsMap maps m h × (i < elements h) × (p ≡ element_span m h i)
+IsElementSpan maps m p = (h : MapShape) × (i : ℕ) × IsMap maps m h × (i < elements h)
+    × (p ≡ element_span m h i)
 
 -- the span lies among the addresses of values, and is as long as a value may be
 pub record IsValueSpan (p : Span) : Type 0 where

@@ -18,4 +18,5 @@ pub record IsSoundStore (s : Plain) : Type 0 where
   -- a value has as many bytes as its span
   pub sizes : (v : ℕ) → v < s.made → length (s.value v).bytes ≡ (s.value v).span.size
   -- two live values have no address in common
-  pub apart : (v w : ℕ) → IsLive s v → IsLive s w → v ≢ w → IsApart (s.value v).span (s.value w).span
+  pub apart : (v w : ℕ) → IsLive s v → IsLive s w → v ≢ w
+      → IsApart (s.value v).span (s.value w).span

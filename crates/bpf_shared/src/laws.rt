@@ -28,8 +28,8 @@ pub fn updates_make_values()
     ensures { UpdatesMakeValues }
 {}
 
-/// After an update that is done a lookup of the key, with no update or deletion of it between, finds
-/// the new value, and its bytes are those given, until somebody writes there.
+/// After an update that is done a lookup of the key, with no update or deletion of it between,
+/// finds the new value, and its bytes are those given, until somebody writes there.
 pub fn updates_are_found()
     ensures { UpdatesAreFound }
 {}

@@ -55,7 +55,8 @@ fn new_tables(alloc: Global, maps: &[MapShape], cpus: u8) -> Result<Vec<Table>, 
     ensures shapes { IfOk result (λ v. map shape_of v.items ≡ maps.now) }
     ensures blank { IfOk result (λ v. (m : ℕ) → IsBlank (slice_index_or v.items m no_rows)) }
     ensures tables { IfOk result (λ v. (m : ℕ) → m < length v.items
-        → IsTable (slice_index_or v.items m no_rows) × ((slice_index_or v.items m no_rows).cpus ≡ cpus)) }
+        → IsTable (slice_index_or v.items m no_rows)
+        × ((slice_index_or v.items m no_rows).cpus ≡ cpus)) }
 {
     let mut tables = Vec::with_capacity(alloc, maps.len())?;
     for map in maps {

@@ -57,11 +57,14 @@ pub trait Shared {
     fn begin(&mut self, cpu: u8) -> Result<(), Worn>
         requires serves { serves self.old cpu ≡ true }
         requires idle { running self.old cpu ≡ false }
-        ensures begun { OnOk result (Calls (passes self.old self.new) (serves self.old) cpu Event.Begin) }
+        ensures begun { OnOk result (Calls (passes self.old self.new)
+            (serves self.old) cpu Event.Begin) }
         ensures running { OnOk result (running self.new ≡ put (running self.old) cpu true) }
         ensures held { OnOk result (held self.new ≡ held_without (held self.old) cpu) }
         ensures worn { OnErr result (may_wear self.old cpu) }
-        ensures unchanged { OnErr result (passes self.old self.new [] × (running self.new ≡ running self.old) × (held self.new ≡ held self.old)) }
+        ensures unchanged { OnErr result
+            (passes self.old self.new [] × (running self.new ≡ running self.old)
+            × (held self.new ≡ held self.old)) }
         ensures same { (shapes self.new ≡ shapes self.old) × (serves self.new ≡ serves self.old) };
 
     /// Where the value of the key lies; the CPU holds that value until its run ends.
@@ -69,14 +72,16 @@ pub trait Shared {
         requires serves { serves self.old cpu ≡ true }
         requires in_run { running self.old cpu ≡ true }
         requires key { IsKeyOf (shapes self.old) map key.now }
-        ensures found { Calls (passes self.old self.new) (serves self.old) cpu (Event.Lookup map key.now result) }
+        ensures found { Calls (passes self.old self.new) (serves self.old) cpu
+            (Event.Lookup map key.now result) }
         ensures held { held self.new ≡ held_with (held self.old) cpu result }
         ensures element { IfSome result (IsElementSpan (shapes self.old) map) }
         ensures in_range { IfSome result IsValueSpan }
-        ensures same { (shapes self.new ≡ shapes self.old) × (serves self.new ≡ serves self.old) × (running self.new ≡ running self.old) };
+        ensures same { (shapes self.new ≡ shapes self.old) × (serves self.new ≡ serves self.old)
+            × (running self.new ≡ running self.old) };
 
-    /// A value of these bytes is to stand under the key: always for the flags 0, where the key isn't
-    /// there yet for 1, where it is there for 2 (bpf-helpers(7)).
+    /// A value of these bytes is to stand under the key: always for the flags 0, where the key
+    /// isn't there yet for 1, where it is there for 2 (bpf-helpers(7)).
     fn update(&mut self, cpu: u8, map: u8, key: &[u8], value: &[u8], flags: u64) -> MapAnswer
         requires serves { serves self.old cpu ≡ true }
         requires in_run { running self.old cpu ≡ true }
@@ -123,8 +128,8 @@ pub trait Shared {
         ensures same { (shapes self.new ≡ shapes self.old) × (serves self.new ≡ serves self.old)
             × (running self.new ≡ running self.old) };
 
-    /// An atomic operation on the four or eight bytes at an aligned place in a held value; the number
-    /// that stood there before. Only `CompareExchange` looks at the number that is expected.
+    /// An atomic operation on the four or eight bytes at an aligned place in a held value; the
+    /// number that stood there before. Only `CompareExchange` looks at the number that is expected.
     fn value_atomic(
         &mut self,
         cpu: u8,
@@ -158,5 +163,6 @@ pub trait Shared {
     ghost nothing: { (x : Self) → passes x x [] };
 
     /// Passages follow each other.
-    ghost follows: { (x y z : Self) (xs ys : List Entry) → passes x y xs → passes y z ys → passes x z (xs ++ ys) };
+    ghost follows: { (x y z : Self) (xs ys : List Entry) → passes x y xs → passes y z ys
+        → passes x z (xs ++ ys) };
 }

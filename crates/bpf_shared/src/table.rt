@@ -51,7 +51,16 @@ impl Model for Table {
 
     ghost Value = { Rows };
 
-    ghost view = { λ t. record { shape = t.shape; cpus = t.cpus; order = t.order.items; linked = t.linked.items; keys = t.keys.items; values = t.values.items; looked_up = t.looked_up.items; left = t.left.items } };
+    ghost view = { λ t. record {
+      shape = t.shape;
+      cpus = t.cpus;
+      order = t.order.items;
+      linked = t.linked.items;
+      keys = t.keys.items;
+      values = t.values.items;
+      looked_up = t.looked_up.items;
+      left = t.left.items;
+    } };
 
     // There is room for the order of as many keys as the map may have.
     ghost invariant = { λ t.
@@ -221,7 +230,8 @@ impl Table {
     pub fn find(&self, key: &[u8]) -> Option<usize>
         ensures inside { IfSome result (λ i. i < elements self.now.shape) }
         ensures found { IfSome result (λ i. IsLinked self.now i × (key_of self.now i ≡ key.now)) }
-        ensures absent { IfNone result ((i : ℕ) → IsLinked self.now i → key_of self.now i ≢ key.now) }
+        ensures absent { IfNone result
+            ((i : ℕ) → IsLinked self.now i → key_of self.now i ≢ key.now) }
     {
         match self.position(key) {
             Ok(position) => Some(self.order[position] as usize),
@@ -311,7 +321,8 @@ impl Table {
     fn lowest_free(&self, runs: &[Runs]) -> Option<usize>
         requires { length runs.now ≡ self.now.cpus }
         ensures found { IfSome result (IsLowestFreeRow runs.now self.now) }
-        ensures none { IfNone result ((i : ℕ) → i < elements self.now.shape → IsTakenRow runs.now self.now i) }
+        ensures none { IfNone result
+            ((i : ℕ) → i < elements self.now.shape → IsTakenRow runs.now self.now i) }
     {
         for element in self.first_open(runs)..self.linked.len() {
             if !self.is_taken(element, runs) {
@@ -356,7 +367,8 @@ impl Table {
         put_part(&mut self.values, element * value.len(), value);
     }
 
-    /// The key at a position of the order is put into another element, and the one that had it leaves the map.
+    /// The key at a position of the order is put into another element, and the one that had it
+    /// leaves the map.
     #[tactic(auto, using(crate::proofs::Blocks::block_fits, crate::proofs::Blocks::in_block))]
     fn replace(&mut self, position: usize, element: usize, key: &[u8], value: &[u8], runs: &[Runs])
         requires is { IsKeyAt self.old key.now position }
@@ -365,7 +377,8 @@ impl Table {
         requires free { IsLinked self.old element → ⊥ }
         requires key { length key.now ≡ self.old.shape.key }
         requires value { length value.now ≡ self.old.shape.value }
-        ensures replaced { self.new ≡ linked_row position element key.now value.now (unlinked_row runs.now position self.old) }
+        ensures replaced { self.new ≡ linked_row position element key.now value.now
+            (unlinked_row runs.now position self.old) }
         ensures table { IsTable self.old × IsTable self.new }
     {
         let old = self.order[position] as usize;
@@ -442,7 +455,8 @@ impl Table {
 
     /// The keys of the map with their values, in the keys' order.
     pub fn pairs(&self, alloc: Global) -> Result<Vec<(Vec<u8>, Vec<u8>)>, AllocError>
-        ensures pairs { IfOk result (λ v. map pair_of v.items ≡ map (row_pair self.now) self.now.order) }
+        ensures pairs { IfOk result (λ v. map pair_of v.items
+            ≡ map (row_pair self.now) self.now.order) }
     {
         let mut pairs = Vec::with_capacity(alloc, self.order.len())?;
         for element in &self.order {
@@ -481,7 +495,8 @@ impl Table {
     pub fn load(&self, element: usize, offset: usize, size: Size) -> u64
         requires element { element < elements self.now.shape }
         requires inside { offset + bytes_in size ≤ self.now.shape.value }
-        ensures value { result ≡ little_endian (part (bytes_of self.now element) offset (bytes_in size)) }
+        ensures value { result ≡ little_endian
+            (part (bytes_of self.now element) offset (bytes_in size)) }
         ensures fits { result < modulus (bytes_in size) }
     {
         let from = element * self.shape.value as usize;
@@ -497,7 +512,8 @@ impl Table {
     pub fn store(&mut self, element: usize, offset: usize, size: Size, word: u64)
         requires element { element < elements self.old.shape }
         requires inside { offset + bytes_in size ≤ self.old.shape.value }
-        ensures stored { self.new ≡ stored_row element offset (low_bytes (bytes_in size) word) self.old }
+        ensures stored { self.new ≡ stored_row element offset
+            (low_bytes (bytes_in size) word) self.old }
         ensures table { IsTable self.old × IsTable self.new }
     {
         let from = element * self.shape.value as usize;

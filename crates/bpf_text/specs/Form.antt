@@ -146,13 +146,17 @@ form_of (insn.CallHelper n) None = word key.Call ∷ Blank ∷ Natural n ∷ []
 form_of (insn.CallLocal o) name = word key.Call ∷ Blank ∷ Target o name ∷ []
 form_of insn.Exit None = word key.Exit ∷ []
 form_of (insn.Load z d b o) None =
-    reg Bits64 d ∷ Blank ∷ mark sign.Assign ∷ Blank ∷ mark sign.Star ∷ cell_items (key.Unsigned z) b o []
+    reg Bits64 d ∷ Blank ∷ mark sign.Assign ∷ Blank ∷ mark sign.Star
+    ∷ cell_items (key.Unsigned z) b o []
 form_of (insn.LoadSigned z d b o) None =
-    reg Bits64 d ∷ Blank ∷ mark sign.Assign ∷ Blank ∷ mark sign.Star ∷ cell_items (key.Extended z) b o []
+    reg Bits64 d ∷ Blank ∷ mark sign.Assign ∷ Blank ∷ mark sign.Star
+    ∷ cell_items (key.Extended z) b o []
 form_of (insn.StoreImmediate z b o v) None =
-    mark sign.Star ∷ cell_items (key.Unsigned z) b o (Blank ∷ mark sign.Assign ∷ Blank ∷ Signed v ∷ [])
+    mark sign.Star ∷ cell_items (key.Unsigned z) b o
+    (Blank ∷ mark sign.Assign ∷ Blank ∷ Signed v ∷ [])
 form_of (insn.Store z b o s) None =
-    mark sign.Star ∷ cell_items (key.Unsigned z) b o (Blank ∷ mark sign.Assign ∷ Blank ∷ reg Bits64 s
+    mark sign.Star ∷ cell_items (key.Unsigned z) b o
+    (Blank ∷ mark sign.Assign ∷ Blank ∷ reg Bits64 s
     ∷ [])
 form_of (insn.Atomic w op b o s) None = atomic_items (atomic_form op) w b o s
 form_of (insn.LoadNumber d n) None =

@@ -139,7 +139,8 @@ pub fn assemble_bytes(alloc: Global, text: &[u8]) -> Result<Vec<Insn>, TextError
     ensures assembled { IfOk result (λ program. Assembles text.now (Ok program.items)) }
     ensures refused { IfErr result (λ e. (e ≡ TextError.OutOfMemory) ⊎ Assembles text.now (Err e)) }
     ensures only { (outcome : Result (List Insn) TextError) → Assembles text.now outcome
-        → MatchResult result (λ program. outcome ≡ Ok program.items) (λ e. (e ≡ TextError.OutOfMemory) ⊎ (outcome ≡ Err e)) }
+        → MatchResult result (λ program. outcome ≡ Ok program.items)
+        (λ e. (e ≡ TextError.OutOfMemory) ⊎ (outcome ≡ Err e)) }
 {
     let (lines, labels) = gather(alloc, text)?;
     program(alloc, &lines, &labels)
@@ -150,7 +151,8 @@ pub fn assemble(alloc: Global, text: &str) -> Result<Vec<Insn>, TextError>
     ensures assembled { IfOk result (λ program. Assembles text.now (Ok program.items)) }
     ensures refused { IfErr result (λ e. (e ≡ TextError.OutOfMemory) ⊎ Assembles text.now (Err e)) }
     ensures only { (outcome : Result (List Insn) TextError) → Assembles text.now outcome
-        → MatchResult result (λ program. outcome ≡ Ok program.items) (λ e. (e ≡ TextError.OutOfMemory) ⊎ (outcome ≡ Err e)) }
+        → MatchResult result (λ program. outcome ≡ Ok program.items)
+        (λ e. (e ≡ TextError.OutOfMemory) ⊎ (outcome ≡ Err e)) }
 {
     assemble_bytes(alloc, text.as_bytes())
 }

@@ -13,7 +13,8 @@ use std::alloc::Global;
 /// Puts an instruction's line behind the text.
 fn push_line(text: &mut String, insn: Insn) -> Result<(), TextError>
     ensures fits { Fits insn }
-    ensures ok { OnOk result (string_bytes text.new ≡ string_bytes text.old ++ (line_of insn ++ 10 ∷ [])) }
+    ensures ok { OnOk result (string_bytes text.new ≡ string_bytes text.old
+        ++ (line_of insn ++ 10 ∷ [])) }
     ensures memory { IsOkUnless result TextError.OutOfMemory }
 {
     writeln!(text, "{}", Line(insn)).map_err(|_| TextError::OutOfMemory)

@@ -69,7 +69,8 @@ fn look_ahead(text: &[u8], from: usize) -> Ahead
 /// `NotHex` where any other byte or half a byte stands; else it fails by `OutOfMemory` alone.
 pub fn from_hex(alloc: Global, text: &str) -> Result<Vec<u8>, TextError>
     ensures spelled { IfOk result (λ bytes. IsHexOf text.now bytes.items) }
-    ensures not_hex { result ≡ Err TextError.NotHex → (bytes : List ℕ) → IsHexOf text.now bytes → ⊥ }
+    ensures not_hex { result ≡ Err TextError.NotHex → (bytes : List ℕ) → IsHexOf text.now bytes
+        → ⊥ }
     ensures errors { IfErr result (λ e. (e ≡ TextError.NotHex) ⊎ (e ≡ TextError.OutOfMemory)) }
 {
     let text = text.as_bytes();

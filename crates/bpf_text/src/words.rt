@@ -114,7 +114,8 @@ pub enum NumberError {
 pub fn number(word: &[u8]) -> Result<u64, NumberError>
     ensures number { IfOk result (λ n. written_number word.now ≡ Some n) }
     ensures no_number { result ≡ Err NumberError.NoNumber → written_number word.now ≡ None }
-    ensures too_large { result ≡ Err NumberError.TooLarge → IsSomeAnd (written_number word.now) (λ n. 2 ^ 64 ≤ n) }
+    ensures too_large { result ≡ Err NumberError.TooLarge
+        → IsSomeAnd (written_number word.now) (λ n. 2 ^ 64 ≤ n) }
 {
     match number_token(word) {
         Token::Number(radix, digits) => match numbers::value(radix, digits) {

@@ -1,4 +1,5 @@
-//! The jobs of a run file by workers on threads, over the concurrent store: what is printed of them.
+//! The jobs of a run file by workers on threads, over the concurrent store: what is printed of
+//! them.
 #![tactic(auto)]
 
 mod telling;

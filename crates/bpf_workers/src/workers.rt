@@ -28,7 +28,8 @@ pub enum WorkError {
 }
 
 /// Runs the jobs of a run file by so many workers, over a new store, and makes what is printed of
-/// them. Want of memory is the only refusal; all that the jobs need is there before the first begins.
+/// them. Want of memory is the only refusal; all that the jobs need is there before the first
+/// begins.
 pub fn run_by_workers<R: Threads + Wait + Sync>(
     rt: &R,
     alloc: Global,
@@ -38,7 +39,8 @@ pub fn run_by_workers<R: Threads + Wait + Sync>(
 ) -> Result<Report, WorkError>
     requires file { IsRunnable file }
     requires workers { AreWorkers workers }
-    ensures { IfOk result (λ r. IsWorkersReport (file_of file) maps (string_bytes r.text) r.stopped) }
+    ensures { IfOk result (λ r. IsWorkersReport (file_of file) maps
+        (string_bytes r.text) r.stopped) }
 {
     let RunFile {
         shape,

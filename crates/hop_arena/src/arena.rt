@@ -46,7 +46,8 @@ impl Arena {
     }
 
     /// The next pass begins at the word of this element, which the CPU has given back, if that word
-    /// lies in the CPU's own part: what was used last is near at hand, and other CPUs look elsewhere.
+    /// lies in the CPU's own part: what was used last is near at hand, and other CPUs look
+    /// elsewhere.
     pub fn look_from(&mut self, element: u32)
         ensures map { self.new.map ≡ self.old.map }
         ensures elements { self.new.elements ≡ self.old.elements }

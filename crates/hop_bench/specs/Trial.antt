@@ -5,7 +5,8 @@ use Rattle.hop_words.specs.Ghost.{shape_at}
 use Rattle.hop_words.specs.Inside.{Shown}
 use Rattle.hop_map.specs.Port.{Port, IsPortOf, runs}
 
--- the first map's keys and values have eight bytes each, and no run was counted when the store was made
+-- the first map's keys and values have eight bytes each, and no run was counted when the store was
+-- made
 pub record IsTrial (a : About) : Type 0 where
   pub map : 0 < length a.shape.maps
   pub key : (shape_at a 0).key ≡ 8

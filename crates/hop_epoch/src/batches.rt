@@ -30,8 +30,8 @@ impl Used {
 }
 
 /// The two batches of one CPU and one map, linked through the elements: with the old one, of each
-/// CPU the run counter that was noted when the batch became old; and the element given back last, until
-/// somebody asks for it.
+/// CPU the run counter that was noted when the batch became old; and the element given back last,
+/// until somebody asks for it.
 #[derive(Clone, Copy, Drop)]
 pub struct Batches {
     map: u8,

@@ -18,5 +18,6 @@ pub record IsValuePlace (a : About) (p n : ℕ) : Type 0 where
 -- and the CPU holds that value
 pub record IsHeldAt (a : About) (l : Known) (p n : ℕ) : Type 0 where
   pub place : IsValuePlace a p n
-  pub held : IsAmong (element_span place.map (shape_at a place.map) place.element) (spans_of [] (events_of l.cpu l.seen))
+  pub held : IsAmong (element_span place.map (shape_at a place.map) place.element)
+      (spans_of [] (events_of l.cpu l.seen))
   pub runs : in_run (events_of l.cpu l.seen) ≡ true

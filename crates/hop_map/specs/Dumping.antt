@@ -25,7 +25,8 @@ key_in e m i = spelled_key e.about m (words_in e) i
 
 abbrev pub value_in : Ending → ℕ → ℕ → List ℕ
 value_in e m i = take (shape_at e.about m).value
-    (spelled (words_for (shape_at e.about m).value) (λ k. mem e.about.shape e.words (ValueWord m i k)))
+    (spelled (words_for (shape_at e.about m).value)
+    (λ k. mem e.about.shape e.words (ValueWord m i k)))
 
 abbrev pub IsReached : Ending → ℕ → ℕ → ℕ → Type 0
 IsReached e m s i = Reached (words_in e) m s i

@@ -27,14 +27,19 @@ pub record AsksHere (a : About) (l : Known) (m s : ℕ) (key : List ℕ) : Type 
   pub runs : in_run (events_of l.cpu l.seen) ≡ true
 
 -- the lookup's event; all else is as it was, but for readings and what was counted and seen
-pub record Looked (a : About) (l : Known) (m : ℕ) (key : List ℕ) (found : Option Span) (l' : Known) : Type 0 where
+pub record Looked (a : About) (l : Known) (m : ℕ) (key : List ℕ) (found : Option Span)
+    (l' : Known) : Type 0 where
   pub seen : Saw a l (Lookup m key found) l'.seen
   pub after : l' ≡ record l { seen = l'.seen; readings = l'.readings; tally = l'.tally }
 
 -- a reading that was disturbed: the first stamp was locked, or the two differ
-pub record Disturbs (a : About) (l : Known) (m : ℕ) (key : List ℕ) (first last : ℕ) (l' : Known) : Type 0 where
+pub record Disturbs (a : About) (l : Known) (m : ℕ) (key : List ℕ) (first last : ℕ)
+    (l' : Known) : Type 0 where
   pub apart : (first % 2 ≡ 1) ⊎ (first ≢ last)
-  pub after : l' ≡ record l { readings = l'.readings; tally = disturbed_by l.tally m (segment_in a m key) first last }
+  pub after : l' ≡ record l {
+    readings = l'.readings;
+    tally = disturbed_by l.tally m (segment_in a m key) first last;
+  }
 
 -- how a lookup without a lock ends
 abbrev pub OnceEnds : About → Known → ℕ → List ℕ → Once → Known → Type 0
@@ -44,14 +49,18 @@ OnceEnds a l m key (Disturbed first last) l' = Disturbs a l m key first last l'
 
 -- a disturbed reading of the key's segment
 abbrev pub IsDisturbed : About → ℕ → List ℕ → Disturbance → Type 0
-IsDisturbed a m key d = (d.map ≡ m) × (d.segment ≡ segment_in a m key) × ((d.first % 2 ≡ 1) ⊎ (d.first ≢ d.last))
+IsDisturbed a m key d = (d.map ≡ m) × (d.segment ≡ segment_in a m key)
+    × ((d.first % 2 ≡ 1) ⊎ (d.first ≢ d.last))
 
 -- so many readings were disturbed, and nothing else came of them
 pub record Tries (a : About) (l : Known) (m : ℕ) (key : List ℕ) (n : ℕ) (l' : Known) : Type 0 where
   pub more : List Disturbance
   pub count : length more ≡ n
   pub each : Each (IsDisturbed a m key) more
-  pub after : l' ≡ record l { readings = l'.readings; tally = record l.tally { disturbed = more ++ l.tally.disturbed } }
+  pub after : l' ≡ record l {
+    readings = l'.readings;
+    tally = record l.tally { disturbed = more ++ l.tally.disturbed };
+  }
 
 -- a lookup took no lock, or one after eight readings of its own that were disturbed
 pub record Spares (a : About) (l : Known) (m : ℕ) (key : List ℕ) (l' : Known) : Type 0 where

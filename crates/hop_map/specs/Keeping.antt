@@ -6,7 +6,14 @@ use Rattle.hop_words.specs.Locking.{lock_of}
 use Rattle.hop_map.specs.Views.{Locked, Stays}
 
 pub stays_itself : (x : Locked) → Stays x x
-stays_itself x = record { table = refl; about = refl; map = refl; segment = refl; known = refl; lock = refl }
+stays_itself x = record {
+  table = refl;
+  about = refl;
+  map = refl;
+  segment = refl;
+  known = refl;
+  lock = refl;
+}
 
 pub stays_on : (x y z : Locked) → Stays x y → Stays y z → Stays x z
 stays_on x y z p q = record {
@@ -15,5 +22,6 @@ stays_on x y z p q = record {
   map = q.map ∙ p.map;
   segment = q.segment ∙ p.segment;
   known = q.known ∙ ap (λ (l : Known). record l { locks = z.known.locks }) p.known;
-  lock = q.lock ∙ ap (λ (k : Lock). record k { copy = (lock_of z.known).copy; dirty = (lock_of z.known).dirty }) p.lock;
+  lock = q.lock ∙ ap (λ (k : Lock).
+      record k { copy = (lock_of z.known).copy; dirty = (lock_of z.known).dirty }) p.lock;
 }

@@ -38,7 +38,8 @@ pub record BringsOver (a : About) (l : Known) (m s : ℕ) (key bytes : List ℕ)
   pub apart : has element (lock_of l).known ≡ false
 
 -- the replacement's event; the element that the key led to is in hand, and all else as it was
-pub record Over (a : About) (l : Known) (m : ℕ) (key bytes : List ℕ) (flags old : ℕ) (l2 : Known) : Type 0 where
+pub record Over (a : About) (l : Known) (m : ℕ) (key bytes : List ℕ) (flags old : ℕ)
+    (l2 : Known) : Type 0 where
   pub inside : old < elements (shape_at a m)
   pub seen : Saw a l (Update m key bytes flags Done) l2.seen
   pub after : l2 ≡ record l { seen = l2.seen; fresh = []; limbo = with_gone l m old; locks = [] }

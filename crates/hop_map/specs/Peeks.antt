@@ -41,18 +41,20 @@ peeked x p n = record x { known = peeking x.known (reading_of x.known) p n }
 
 -- the words have all numbers that were read of this segment
 abbrev pub HavePeeks : Words → Peeked → Type 0
-HavePeeks w x = Each (λ (p : Peek). IsPeek w x.map x.segment p.place p.number) (reading_of x.known).peeks
+HavePeeks w x = Each (λ (p : Peek). IsPeek w x.map x.segment p.place p.number)
+    (reading_of x.known).peeks
 
 -- the key words of an element are the key's
 abbrev pub Spelled : About → ℕ → Words → ℕ → List ℕ → Type 0
 Spelled a m w e key = (j : ℕ) → j < words_for (shape_at a m).key → w.key m e j ≡ word_of key j
 
--- these may be the words that were read: they show some content, they have all numbers that were read, and the
--- elements that may be read are reached there
+-- these may be the words that were read: they show some content, they have all numbers that were
+-- read, and the elements that may be read are reached there
 pub record Agreed (x : Peeked) (w : SegWords) : Type 0 where
   pub words : Words
   pub content : List ℕ → Option ℕ
-  pub share : IsShare x.about.seed (shape_at x.about x.map) (segment_in x.about x.map) words x.map x.segment content
+  pub share : IsShare x.about.seed (shape_at x.about x.map)
+      (segment_in x.about x.map) words x.map x.segment content
   pub peeks : HavePeeks words x
   pub known : ℕ → Bool
   pub known_is : (e : ℕ) → known e ≡ true → Reached words x.map x.segment e
@@ -66,4 +68,5 @@ pub record Rested (x y : Peeked) : Type 0 where
   pub segment : y.segment ≡ x.segment
   pub known : y.known ≡ record x.known { readings = y.known.readings }
   pub more : List Peek
-  pub reading : reading_of y.known ≡ record (reading_of x.known) { peeks = more ++ (reading_of x.known).peeks }
+  pub reading : reading_of y.known
+      ≡ record (reading_of x.known) { peeks = more ++ (reading_of x.known).peeks }

@@ -20,7 +20,8 @@ use Rattle.hop_epoch.specs.declared.batches.Batches.{Batches}
 use Rattle.hop_epoch.specs.Batch.{Tracks}
 use Rattle.hop_map.specs.declared.port.HopPort.TheInside.{Inside as InPort}
 
--- a port's table, what its CPU knows, and by map where it looks for free elements and what it took out
+-- a port's table, what its CPU knows, and by map where it looks for free elements and what it took
+-- out
 pub record Port : Type 0 where
   pub table : TableId
   pub known : Known
@@ -28,14 +29,30 @@ pub record Port : Type 0 where
   pub batches : List Batches
 
 abbrev pub no_standing : Standing
-no_standing = record { table = record { words = 0; slots = 0; views_name = 0; atom = 0; block = 0; offset = 0; slot_names = [] }; known = nobody }
+no_standing = record {
+  table = record {
+    words = 0;
+    slots = 0;
+    views_name = 0;
+    atom = 0;
+    block = 0;
+    offset = 0;
+    slot_names = [];
+  };
+  known = nobody;
+}
 
 abbrev pub standing_in : Option Standing → Standing
 standing_in None = no_standing
 standing_in (Some s) = s
 
 abbrev pub port_of : InPort → Port
-port_of p = record { table = (standing_in p.lane).table; known = (standing_in p.lane).known; arenas = p.arenas.items; batches = p.batches.items }
+port_of p = record {
+  table = (standing_in p.lane).table;
+  known = (standing_in p.lane).known;
+  arenas = p.arenas.items;
+  batches = p.batches.items;
+}
 
 -- the CPU has no element in hand, neither a fresh nor a used one, and no lock
 pub record HasNothing (l : Known) : Type 0 where
@@ -83,7 +100,8 @@ pub record AreArenas (a : About) (n : ℕ) (xs : List Arena) : Type 0 where
 pub record AreBatches (a : About) (l : Known) (n : ℕ) (xs : List Batches) : Type 0 where
   pub size : length xs ≡ n
   pub map : (m : ℕ) → m < n → (batches_at xs m).map ≡ m
-  pub each : (m : ℕ) → m < n → Tracks a l m (batches_at xs m).young (batches_at xs m).aged (batches_at xs m).noted
+  pub each : (m : ℕ) → m < n → Tracks a l m (batches_at xs m).young (batches_at xs m).aged
+      (batches_at xs m).noted
 
 -- the port is one of this table's. In a run its counter can count once more
 pub record IsPortOf (t : Shown) (p : Port) : Type 0 where
@@ -97,7 +115,8 @@ pub record IsPortOf (t : Shown) (p : Port) : Type 0 where
   pub arenas : AreArenas t.about (length t.about.shape.maps) p.arenas
   pub batches : AreBatches t.about p.known (length t.about.shape.maps) p.batches
 
--- the port's CPU does this: of what it has seen it is the last, behind all that it had seen and behind events of others
+-- the port's CPU does this: of what it has seen it is the last, behind all that it had seen and
+-- behind events of others
 pub record Does (a : About) (p : Port) (e : Event) (q : Port) : Type 0 where
   pub table : q.table ≡ p.table
   pub cpu : q.known.cpu ≡ p.known.cpu
@@ -109,7 +128,8 @@ known_of p = p.known
 -- these are ports of this table, and each of its CPUs has one
 pub record IsAllOf (t : Shown) (ports : List Port) : Type 0 where
   pub table : All (λ p. p.table ≡ t.id) ports
-  pub each : (c : ℕ) → c < t.about.shape.cpus → (k : ℕ) × (p : Port) × (get_elem? ports k ≡ some p) × (p.known.cpu ≡ c)
+  pub each : (c : ℕ) → c < t.about.shape.cpus
+      → (k : ℕ) × (p : Port) × (get_elem? ports k ≡ some p) × (p.known.cpu ≡ c)
 
 -- what the port has seen is its CPU's part of this history: a beginning with all its own events
 abbrev pub IsPartOf : List Entry → Port → Type 0

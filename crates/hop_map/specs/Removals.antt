@@ -22,12 +22,14 @@ pub record Names (a : About) (l : Known) (m s : ℕ) (key : List ℕ) : Type 0 w
   pub runs : in_run (events_of l.cpu l.seen) ≡ true
 
 -- the deletion's event; the element that the key led to is in hand, and all else as it was
-pub record Dropped (a : About) (l : Known) (m : ℕ) (key : List ℕ) (old : ℕ) (l2 : Known) : Type 0 where
+pub record Dropped (a : About) (l : Known) (m : ℕ) (key : List ℕ) (old : ℕ)
+    (l2 : Known) : Type 0 where
   pub seen : Saw a l (Delete m key Done) l2.seen
   pub after : l2 ≡ record l { seen = l2.seen; limbo = with_gone l m old; locks = [] }
 
 -- the answer's event; nothing else changed
-pub record Kept (a : About) (l : Known) (m : ℕ) (key : List ℕ) (answer : MapAnswer) (l2 : Known) : Type 0 where
+pub record Kept (a : About) (l : Known) (m : ℕ) (key : List ℕ) (answer : MapAnswer)
+    (l2 : Known) : Type 0 where
   pub seen : Saw a l (Delete m key answer) l2.seen
   pub after : l2 ≡ record l { seen = l2.seen; locks = [] }
 

@@ -12,7 +12,15 @@ use Rattle.hop_map.specs.Views.{view}
 use Rattle.hop_map.specs.Peeks.{Peeked, HavePeeks, Agreed, Rested}
 
 pub rested_itself : (x : Peeked) → Rested x x
-rested_itself x = record { table = refl; about = refl; map = refl; segment = refl; known = refl; more = []; reading = refl }
+rested_itself x = record {
+  table = refl;
+  about = refl;
+  map = refl;
+  segment = refl;
+  known = refl;
+  more = [];
+  reading = refl;
+}
 
 pub rested_on : (x y z : Peeked) → Rested x y → Rested y z → Rested x z
 rested_on x y z p q = record {
@@ -22,7 +30,9 @@ rested_on x y z p q = record {
   segment = q.segment ∙ p.segment;
   known = q.known ∙ ap (λ (l : Known). record l { readings = z.known.readings }) p.known;
   more = q.more ++ p.more;
-  reading = q.reading ∙ (ap (λ (r : Reading). record r { peeks = q.more ++ r.peeks }) p.reading ∙ (λ j. record (reading_of x.known) { peeks = sym (append_assoc q.more p.more (reading_of x.known).peeks) j }));
+  reading = q.reading ∙ (ap (λ (r : Reading). record r { peeks = q.more ++ r.peeks }) p.reading
+      ∙ (λ j. record (reading_of x.known)
+      { peeks = sym (append_assoc q.more p.more (reading_of x.known).peeks) j }));
 }
 
 each_after : (P : Peek → Type 0) (xs ys : List Peek) → Each P (xs ++ ys) → Each P ys
@@ -34,21 +44,31 @@ module _ (x y : Peeked) (p : Rested x y) where
   here = record x { known = y.known }
 
   pub back : y ≡ here
-  back = λ j. record { table = p.table j; about = p.about j; known = y.known; map = p.map j; segment = p.segment j }
+  back = λ j. record {
+    table = p.table j;
+    about = p.about j;
+    known = y.known;
+    map = p.map j;
+    segment = p.segment j;
+  }
 
   -- what was read later was read too
   pub had_peeks : (w : Words) → HavePeeks w y → HavePeeks w x
   had_peeks w all =
       let P : Peek → Type 0 = λ (q : Peek). IsPeek w x.map x.segment q.place q.number in
-      each_after P p.more (reading_of x.known).peeks (subst (λ (r : Reading). Each P r.peeks) p.reading (subst (λ (z : Peeked). HavePeeks w z) back all))
+      each_after P p.more (reading_of x.known).peeks
+      (subst (λ (r : Reading). Each P r.peeks) p.reading
+      (subst (λ (z : Peeked). HavePeeks w z) back all))
 
   unfoldable pub agreed_before : (w : SegWords) → Agreed y w → Agreed x w
   agreed_before w g = record {
     words = g.words;
     content = g.content;
-    share = subst (λ (z : Peeked). IsShare z.about.seed (shape_at z.about z.map) (segment_in z.about z.map) g.words z.map z.segment g.content) back g.share;
+    share = subst (λ (z : Peeked). IsShare z.about.seed (shape_at z.about z.map)
+        (segment_in z.about z.map) g.words z.map z.segment g.content) back g.share;
     peeks = had_peeks g.words g.peeks;
     known = g.known;
-    known_is = subst (λ (z : Peeked). (e : ℕ) → g.known e ≡ true → Reached g.words z.map z.segment e) back g.known_is;
+    known_is = subst (λ (z : Peeked). (e : ℕ) → g.known e ≡ true
+        → Reached g.words z.map z.segment e) back g.known_is;
     shown = g.shown ∙ ap (λ (z : Peeked). view z.about z.map z.segment g.known g.words) back;
   }

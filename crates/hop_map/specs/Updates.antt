@@ -75,4 +75,5 @@ pub record Refusal (a : About) (l : Known) (m : ℕ) (key bytes : List ℕ) (fla
 abbrev pub UpdateEnds : About → Known → ℕ → List ℕ → List ℕ → ℕ → Ending → Known → Type 0
 UpdateEnds a l m key bytes flags Added l2 = Took a l m key bytes flags l2
 UpdateEnds a l m key bytes flags (Replaced e) l2 = Over a l m key bytes flags e l2
-UpdateEnds a l m key bytes flags (Refused r) l2 = Refusal a l m key bytes flags r l2 × (r ≢ NoMemory)
+UpdateEnds a l m key bytes flags (Refused r) l2 = Refusal a l m key bytes flags r l2
+    × (r ≢ NoMemory)

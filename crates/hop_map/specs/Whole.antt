@@ -34,7 +34,8 @@ pub record Rests (l : Known) (m : ℕ) : Type 0 where
   pub locks : l.locks ≡ []
   pub used : (limbo_at l.limbo m).used ≡ []
 
--- the call's event was made; of all else only the batches of the map changed, and what was counted and seen
+-- the call's event was made; of all else only the batches of the map changed, and what was counted
+-- and seen
 pub record Called (a : About) (l : Known) (m : ℕ) (event : Event) (l' : Known) : Type 0 where
   pub seen : Saw a l event l'.seen
   pub rests : Rests l' m
@@ -43,8 +44,9 @@ pub record Called (a : About) (l : Known) (m : ℕ) (event : Event) (l' : Known)
   pub size : length l'.limbo ≡ length l.limbo
   pub others : (n : ℕ) → n ≢ m → limbo_at l'.limbo n ≡ limbo_at l.limbo n
 
--- the call looked for a free element in vain. First its two batches of the map were empty, or a CPU was
--- still in the run that was noted with the old one; after that each element of the map was seen not free
+-- the call looked for a free element in vain. First its two batches of the map were empty, or a CPU
+-- was still in the run that was noted with the old one; after that each element of the map was seen
+-- not free
 pub record IsShort (a : About) (l : Known) (m : ℕ) (l' : Known) : Type 0 where
   pub sooner : List Sight
   pub later : List Sight
@@ -56,8 +58,8 @@ pub record IsShort (a : About) (l : Known) (m : ℕ) (l' : Known) : Type 0 where
       × (slice_index (limbo_at l'.limbo m).noted d % 2 ≡ 1))
   pub taken : (e : ℕ) → e < elements (shape_at a m) → IsSeenTaken later m e
 
--- Busy only at a segment's last version, which so many changes of the map have paid for; NoMemory only
--- where the call looked for a free element in vain
+-- Busy only at a segment's last version, which so many changes of the map have paid for; NoMemory
+-- only where the call looked for a free element in vain
 abbrev pub Lacks : About → Known → ℕ → MapAnswer → Known → Type 0
 Lacks a l m Busy l' = 2 ^ 56 - 1 ≤ a.version + done_in m l'.seen
 Lacks a l m NoMemory l' = IsShort a l m l'

@@ -111,7 +111,8 @@ fn add_at(
     requires place { place < 64 }
     ensures adds { OnOk result
         (Adds rest.now map (listed pairs.old.entries) (listed pairs.new.entries)) }
-    ensures key { OnOk result ((i : ℕ) → item ((words_in rest.now).slot map segment place) ≡ Some i →
+    ensures key { OnOk result ((i : ℕ)
+        → item ((words_in rest.now).slot map segment place) ≡ Some i →
         HasKey (key_in rest.now map i) (listed pairs.new.entries)) }
 {
     let _about = rest.about();

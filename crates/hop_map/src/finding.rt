@@ -75,8 +75,9 @@ pub fn find_locked<R: Wait>(
     (lane, span_of(table, map, found))
 }
 
-/// Where the key's value lies, by one reading of the key's segment, which takes no lock and writes no
-/// word. Where the segment's stamp was locked or is another by the end, it answers nothing but that.
+/// Where the key's value lies, by one reading of the key's segment, which takes no lock and writes
+/// no word. Where the segment's stamp was locked or is another by the end, it answers nothing but
+/// that.
 pub fn find_once(table: &HopTable, lane: Lane, map: u8, key: &[u8]) -> (Lane, Once)
     requires table { lane.table ≡ table.now.id }
     requires asks { Asks table.now.about lane.known map key.now }

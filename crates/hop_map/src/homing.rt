@@ -8,8 +8,8 @@ ghost use Rattle.hop_words.specs.Ghost.{shape_at, IsSegment};
 use bpf_shared::MapShape;
 use hop_words::{HopTable, elements, home};
 
-/// The home of a key and its segment; the size of the map's keys in bytes, and how many elements the
-/// map has.
+/// The home of a key and its segment; the size of the map's keys in bytes, and how many elements
+/// the map has.
 #[derive(Clone, Copy)]
 pub(crate) struct KeyHome {
     pub(crate) home: u32,
@@ -30,8 +30,10 @@ pub(crate) fn shape_of(table: &HopTable, map: u8) -> MapShape
 /// Where a key of a map is at home.
 pub(crate) fn homing(table: &HopTable, map: u8, key: &[u8]) -> KeyHome
     requires map { map < length table.now.about.shape.maps }
-    ensures home { result.home ≡ home_of key.now table.now.about.seed (shape_at table.now.about map).mask }
-    ensures segment { result.segment ≡ segment_of table.now.about.seed (shape_at table.now.about map) key.now }
+    ensures home { result.home ≡ home_of key.now table.now.about.seed
+        (shape_at table.now.about map).mask }
+    ensures segment { result.segment
+        ≡ segment_of table.now.about.seed (shape_at table.now.about map) key.now }
     ensures inside { IsSegment table.now.about map result.segment }
     ensures key { result.key_size ≡ (shape_at table.now.about map).key }
     ensures small { result.key_size ≤ 64 }

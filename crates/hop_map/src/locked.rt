@@ -174,8 +174,8 @@ impl<'a> LockedWords<'a> {
         unreachable!()
     }
 
-    /// Whether the map is full, and so the update's answer: `Full`, or `NoMemory` where no element is
-    /// to be had.
+    /// Whether the map is full, and so the update's answer: `Full`, or `NoMemory` where no element
+    /// is to be had.
     pub(crate) fn see_lack(&mut self, key: &[u8], value: &[u8], flags: u64) -> MapAnswer
         requires contents { Contents self.old.about self.old.known self.old.map self.old.segment }
         requires wants { Wants self.old.about self.old.known self.old.map self.old.segment

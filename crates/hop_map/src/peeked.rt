@@ -42,7 +42,8 @@ impl<'a> Model for PeekedWords<'a> {
 }
 
 impl<'a> PeekedWords<'a> {
-    /// The words of a segment of which this CPU has seen an unlocked stamp, with the sizes of the map.
+    /// The words of a segment of which this CPU has seen an unlocked stamp, with the sizes of the
+    /// map.
     pub(crate) fn new(
         table: &'a HopTable,
         lane: Lane,

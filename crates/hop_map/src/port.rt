@@ -95,8 +95,8 @@ impl HopPort {
         self.lane = Some(lane);
     }
 
-    /// Where the value of the key lies, found under the lock of the key's segment; the CPU holds that
-    /// value until its run ends.
+    /// Where the value of the key lies, found under the lock of the key's segment; the CPU holds
+    /// that value until its run ends.
     pub fn find_locked<R: Wait>(
         &mut self,
         rt: &R,
@@ -142,8 +142,8 @@ impl HopPort {
         once
     }
 
-    /// Where the value of the key lies, found without a lock or, after eight disturbed readings, under
-    /// one; the CPU holds that value until its run ends.
+    /// Where the value of the key lies, found without a lock or, after eight disturbed readings,
+    /// under one; the CPU holds that value until its run ends.
     pub fn lookup<R: Wait>(&mut self, rt: &R, table: &HopTable, map: u8, key: &[u8]) -> Option<Span>
         requires fits { IsPortOf table.now self.old }
         requires in_run { runs self.old ≡ true }
@@ -164,8 +164,8 @@ impl HopPort {
         found
     }
 
-    /// A value of these bytes is to stand under the key: always for the flags 0, where the key isn't
-    /// there yet for 1, where it is there for 2 (bpf-helpers(7)).
+    /// A value of these bytes is to stand under the key: always for the flags 0, where the key
+    /// isn't there yet for 1, where it is there for 2 (bpf-helpers(7)).
     pub fn update<R: Wait>(
         &mut self,
         rt: &R,
@@ -179,7 +179,8 @@ impl HopPort {
         requires in_run { runs self.old ≡ true }
         requires pair { IsPairOf table.now.about.shape.maps map key.now value.now }
         ensures in_run { runs self.new ≡ true }
-        ensures answered { Does table.now.about self.old (Update map key.now value.now flags result) self.new }
+        ensures answered { Does table.now.about self.old
+            (Update map key.now value.now flags result) self.new }
         ensures shortage { Lacks table.now.about self.old.known map result self.new.known }
         ensures fits { IsPortOf table.now self.new }
     {

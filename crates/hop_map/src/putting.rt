@@ -17,8 +17,8 @@ use hop_seg::{insert, replace};
 use hop_words::Lane;
 use std::sync::Wait;
 
-/// Adds the key that the segment doesn't have, with the element in hand, if the map has room for one
-/// key more. Gives the lock back.
+/// Adds the key that the segment doesn't have, with the element in hand, if the map has room for
+/// one key more. Gives the lock back.
 pub(crate) fn put_new<'a, R: Wait>(
     rt: &R,
     words: LockedWords<'a>,

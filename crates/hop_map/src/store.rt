@@ -32,7 +32,8 @@ impl Model for HopStore {
 // Where a CPU looks for free elements, by map.
 fn new_arenas(alloc: Global, table: &HopTable, cpu: u8) -> Result<Vec<Arena>, AllocError>
     requires cpu { cpu < table.now.about.shape.cpus }
-    ensures { IfOk result (λ v. AreArenas table.now.about (length table.now.about.shape.maps) v.items) }
+    ensures { IfOk result (λ v. AreArenas table.now.about
+        (length table.now.about.shape.maps) v.items) }
 {
     let maps = table.about().shape.maps().len() as u8;
     let mut arenas = Vec::with_capacity(alloc, usize::from(maps))?;
@@ -45,7 +46,8 @@ fn new_arenas(alloc: Global, table: &HopTable, cpu: u8) -> Result<Vec<Arena>, Al
 // The batches of a CPU that took nothing out yet, by map.
 fn new_batches(alloc: Global, table: &HopTable, lane: &Lane) -> Result<Vec<Batches>, AllocError>
     requires limbo { lane.now.known.limbo ≡ no_limbos (length table.now.about.shape.maps) }
-    ensures { IfOk result (λ v. AreBatches table.now.about lane.now.known (length table.now.about.shape.maps) v.items) }
+    ensures { IfOk result (λ v. AreBatches table.now.about lane.now.known
+        (length table.now.about.shape.maps) v.items) }
 {
     let _cpu = lane.cpu();
     let maps = table.about().shape.maps().len() as u8;
@@ -93,7 +95,8 @@ fn deal_ports(alloc: Global, table: &HopTable, lanes: Lanes) -> Result<Vec<HopPo
 impl HopStore {
     /// A store with no keys, and no CPU in a run. Want of memory is its only refusal.
     pub fn new(alloc: Global, shape: StoreShape, seed: u64) -> Result<HopStore, ShapeError>
-        ensures made { IfOk result (λ s. s.table.about ≡ record { shape = shape; seed = seed; version = 0; count = 0 }) }
+        ensures made { IfOk result (λ s. s.table.about
+            ≡ record { shape = shape; seed = seed; version = 0; count = 0 }) }
         ensures refused { IfErr result (λ e. e ≡ ShapeError.OutOfMemory) }
     {
         HopStore::aged(alloc, shape, seed, 0, 0)
@@ -109,7 +112,8 @@ impl HopStore {
     ) -> Result<HopStore, ShapeError>
         requires version { version < 2 ^ 56 }
         requires even { count % 2 ≡ 0 }
-        ensures made { IfOk result (λ s. s.table.about ≡ record { shape = shape; seed = seed; version = version; count = count }) }
+        ensures made { IfOk result (λ s. s.table.about
+            ≡ record { shape = shape; seed = seed; version = version; count = count }) }
         ensures refused { IfErr result (λ e. e ≡ ShapeError.OutOfMemory) }
     {
         let about = About {

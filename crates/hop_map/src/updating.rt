@@ -105,8 +105,8 @@ fn claim_near(
     arena.claim(lane, table)
 }
 
-// A free element of the map: where none is found, the CPU's own batches are looked at, and then there
-// is a second pass.
+// A free element of the map: where none is found, the CPU's own batches are looked at, and then
+// there is a second pass.
 fn claim_free(
     table: &HopTable,
     lane: &mut Lane,
@@ -198,8 +198,8 @@ fn fill_and_put<R: Wait>(
 
 /// A value of these bytes is to stand under the key: always for the flags 0, where the key isn't
 /// there yet for 1, where it is there for 2 (bpf-helpers(7)). The value gets an element of its own,
-/// which is claimed and filled before the key's segment is locked, and given back where the update is
-/// refused.
+/// which is claimed and filled before the key's segment is locked, and given back where the update
+/// is refused.
 pub fn update<R: Wait>(
     rt: &R,
     table: &HopTable,

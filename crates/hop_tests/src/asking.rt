@@ -80,7 +80,8 @@ enum Access {
 fn is_place(span: Span, place: u64, bytes: u64) -> bool
     requires some { 0 < bytes }
     requires in_range { IsValueSpan span }
-    ensures { IsTrue result → Covers span (span.at + place) bytes × ((span.at + place) % bytes ≡ 0) }
+    ensures { IsTrue result → Covers span (span.at + place) bytes
+        × ((span.at + place) % bytes ≡ 0) }
 {
     bytes <= span.size && place <= span.size - bytes && (span.at + place) % bytes == 0
 }

@@ -35,7 +35,8 @@ fn next_lane(table: &HopTable, lanes: &mut Lanes) -> Option<Lane>
     requires new { All (IsNewLane table.now.about) lanes.old.lanes }
     ensures table { lanes.new.table ≡ table.now.id }
     ensures new { OnSome result (All (IsNewLane table.now.about) lanes.new.lanes) }
-    ensures lane { IfSome result (λ l. (l.table ≡ table.now.id) × IsNewLane table.now.about l.known) }
+    ensures lane { IfSome result
+        (λ l. (l.table ≡ table.now.id) × IsNewLane table.now.about l.known) }
 {
     let lane = lanes.deal(table)?;
     Some(lane)

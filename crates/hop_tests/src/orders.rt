@@ -67,8 +67,8 @@ fn is_end(lists: &[Vec<Noted>], done: [u16; 4]) -> bool {
         .all(|(list, count)| list.len() == usize::from(count))
 }
 
-// One call more that changes nothing, if there is one. It may stand here in each order that it has a
-// place in behind this one.
+// One call more that changes nothing, if there is one. It may stand here in each order that it has
+// a place in behind this one.
 fn follow_quiet(lists: &[Vec<Noted>], at: Position) -> Option<Position> {
     for thread in 0..4usize {
         if let Some(next) = follow(lists, at, thread)
@@ -80,8 +80,8 @@ fn follow_quiet(lists: &[Vec<Noted>], at: Position) -> Option<Position> {
     None
 }
 
-// Whether the calls of one key by up to four threads have an order that explains them and leaves this
-// value. All that can be reached is looked at once.
+// Whether the calls of one key by up to four threads have an order that explains them and leaves
+// this value. All that can be reached is looked at once.
 fn has_order(alloc: Global, lists: &[Vec<Noted>], last: Option<u64>) -> Result<bool, AllocError> {
     let first: Position = ([0; 4], None);
     let mut seen = BTreeSet::new(alloc);

@@ -116,8 +116,8 @@ fn no_job_runs_on_a_worn_counter(rt: HostRuntime) -> Result<(), Fail> {
     Ok(())
 }
 
-// Runs a program as a job of each port's CPU, each by a thread of its own. Answers how many ended with
-// this number, and the ports.
+// Runs a program as a job of each port's CPU, each by a thread of its own. Answers how many ended
+// with this number, and the ports.
 fn run_by_threads<R: Threads + Wait + Sync>(
     rt: &R,
     alloc: Global,

@@ -177,8 +177,8 @@ const MISFLAGGED: &str = "
     exit
 ";
 
-/// Puts 7 under the key 0 and looks it up, deletes the key, puts 8 and looks it up. Answers 87 where
-/// the second value reads as 8 and the first, which has left its map, still as 7.
+/// Puts 7 under the key 0 and looks it up, deletes the key, puts 8 and looks it up. Answers 87
+/// where the second value reads as 8 and the first, which has left its map, still as 7.
 const KEPT: &str = "
     *(u32 *)(r10 - 4) = 0
     *(u64 *)(r10 - 16) = 7

@@ -22,8 +22,8 @@ pub(crate) struct Noted {
     pub(crate) reply: Reply,
 }
 
-/// What a thread hands back: its port, and its calls in their order. Fewer calls than asked for where
-/// a run counter was worn or memory short.
+/// What a thread hands back: its port, and its calls in their order. Fewer calls than asked for
+/// where a run counter was worn or memory short.
 #[derive(Drop)]
 pub(crate) struct Back {
     pub(crate) port: HopPort,

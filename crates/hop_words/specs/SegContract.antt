@@ -74,7 +74,8 @@ pub record ReadList (m s : ℕ) (read : List Peek) : Type 0 where
 pub record ReadNone (seed : ℕ) (g : MapShape) (m s : ℕ) (read : List Peek) (key : List ℕ) : Type 0
   where
     pub hops : ReadHops seed g m s read key
-    pub hops_differ : (d : ℕ) → d < 32 → bit_at hops.hop d ≡ 1 → Differs read g m (hops.element d) key
+    pub hops_differ : (d : ℕ) → d < 32 → bit_at hops.hop d ≡ 1
+        → Differs read g m (hops.element d) key
     pub list : ReadList m s read
     pub list_differs : (e : ℕ) → 1 ≤ times e list.list → Differs read g m e key
 

@@ -116,7 +116,8 @@ impl Lane {
         flags: u64,
     )
         requires table { self.old.table ≡ table.now.id }
-        requires misflagged { Misflagged table.now.about self.old.known map key.now value.now flags }
+        requires misflagged { Misflagged table.now.about self.old.known map key.now value.now
+            flags }
         ensures table { self.new.table ≡ self.old.table }
         ensures answered { Told table.now.about self.old.known
             (Update map key.now value.now flags MapAnswer.Invalid) self.new.known }

@@ -189,7 +189,8 @@ impl Lane {
     ) -> u64
         requires table { self.old.table ≡ table.now.id }
         requires place { is_place table.now.about.shape place ≡ true }
-        requires step { Steps table.now.about self.old.known place (λ _. new) (λ ws n l. E.told n l) }
+        requires step { Steps table.now.about self.old.known place (λ _. new)
+            (λ ws n l. E.told n l) }
         ensures table { self.new.table ≡ self.old.table }
         ensures told { E.told result self.new.known }
     {

@@ -78,8 +78,8 @@ pub(crate) fn count_cpus(jobs: &[Job]) -> usize
     count
 }
 
-/// Puts down what a CPU has in hand. It stands alone, or each turn would clear room on the stack for
-/// the state that is dropped.
+/// Puts down what a CPU has in hand. It stands alone, or each turn would clear room on the stack
+/// for the state that is dropped.
 #[cold]
 #[inline(never)]
 pub(crate) fn put_down(lane: &mut Lane)
@@ -166,7 +166,8 @@ impl Hand {
         ensures ready { IsReady program.now self.new.cpu }
         ensures same { (self.new.job ≡ self.old.job) × (self.new.cpu.number ≡ self.old.cpu.number) }
         ensures held { AreHeld (held_spans store.new self.old.cpu.number) self.new.cpu.held }
-        ensures keeps { KeepsRun shapes_of is_running held_spans self.old.cpu.number store.old store.new }
+        ensures keeps { KeepsRun shapes_of is_running held_spans self.old.cpu.number store.old
+            store.new }
         ensures serves { has_cpu store.new ≡ has_cpu store.old }
     {
         if self.left == 0 {
@@ -190,7 +191,8 @@ impl Hand {
             (t : Plain) × (turns : ℕ) ×
             Lasts program.now self.old.cpu.number turns s self.old.cpu self.old.left result t ×
             IsSoundStore t × contents.StandsFor store.new t }
-        ensures keeps { KeepsRun shapes_of is_running held_spans self.old.cpu.number store.old store.new }
+        ensures keeps { KeepsRun shapes_of is_running held_spans self.old.cpu.number store.old
+            store.new }
         ensures serves { has_cpu store.new ≡ has_cpu store.old }
     {
         self.cpu.make_steps(program, store, self.left)

@@ -49,7 +49,8 @@ impl Machine {
         requires { (w : World) × Shows self.old w }
         ensures runs { (w : World) → Shows self.old w
             → (z : World) × RunsRound w z × Shows self.new z }
-        ensures falls { result ≢ Worked.Nobody → turns_left self.new.jobs < turns_left self.old.jobs }
+        ensures falls { result ≢ Worked.Nobody
+            → turns_left self.new.jobs < turns_left self.old.jobs }
         ensures ended { result ≡ Worked.Nobody → HaveEnded self.new.jobs }
         ensures alone { (c : ℕ) → result ≡ Worked.One c → IsAlone self.new.jobs c }
     {

@@ -59,7 +59,8 @@ abbrev pub Added : ℕ → Part → Said → Part → Result Next FileError → 
 Added n p said q result = OrMemory (λ a. Adds n p said (after n q a)) result
 
 -- the bytes of a context, or its refusal
-abbrev pub HasContext : {V : Type 0} → (V → List ℕ) → ℕ → Result (List ℕ) FromHexError → Result V FileError → Type 0
+abbrev pub HasContext : {V : Type 0} → (V → List ℕ) → ℕ → Result (List ℕ) FromHexError
+    → Result V FileError → Type 0
 HasContext items n c (Ok v) = c ≡ Ok (items v)
 HasContext items n c (Err OutOfMemory) = Unit {0}
 HasContext items n c (Err (Refused m why)) =
@@ -72,7 +73,8 @@ Ends from p name text r =
     × (r ≡ program_added p name o)
 
 -- what lines are read as follows of what those behind are, from there on
-abbrev pub Goes : ℕ → State → List (List ℕ) → Part → Result (ℕ × Option (Bor (List ℕ))) FileError → Type 0
+abbrev pub Goes : ℕ → State → List (List ℕ) → Part → Result (ℕ × Option (Bor (List ℕ))) FileError
+    → Type 0
 Goes n s ls p (Ok r) =
     (o : Result File FileError) → AreRead r.0 (Between p) (lines_behind (option_copied r.1)) o
     → AreRead n s ls o

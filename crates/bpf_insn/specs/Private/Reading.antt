@@ -18,7 +18,8 @@ abbrev pub IsReadAs : Window → Result Insn Fault → Type 0
 IsReadAs w (Ok i) = IsWord i w
 IsReadAs w (Err f) = IsFirstAmiss w f
 
--- The first thing that is wrong with words that are taken for a row's, in the order of the refusals.
+-- The first thing that is wrong with words that are taken for a row's, in the order of the
+-- refusals.
 abbrev pub IsChecked : Row → Window → Result (Unit {0}) Fault → Type 0
 IsChecked r w (Ok u) =
     IsOfRow r w.word × IsClean r w × IsWhole r.encoding w.next × HasRegisters r w.word

@@ -14,7 +14,8 @@ IsClearAt maps is pc = (e : LoadError) → Applies maps is e → place e ≢ pc
 
 -- none with a lower number applies at this place
 abbrev pub IsClearBelow : ℕ → List Insn → ℕ → ℕ → Type 0
-IsClearBelow maps is pc number = (e : LoadError) → Applies maps is e → place e ≡ pc → number ≤ refusal_number e
+IsClearBelow maps is pc number = (e : LoadError) → Applies maps is e → place e ≡ pc
+    → number ≤ refusal_number e
 
 -- the refusal of the lowest number at this place
 pub record IsLeastAt (maps : ℕ) (is : List Insn) (pc : ℕ) (e : LoadError) : Type 0 where

@@ -38,7 +38,8 @@ pub(super) const USE: &str = "
     exit
 ";
 
-/// Puts a value of zeros under the key 0 of map 0 unless one is there, and adds 1 to it 1,000 times.
+/// Puts a value of zeros under the key 0 of map 0 unless one is there, and adds 1 to it 1,000
+/// times.
 pub(super) const ADD: &str = "
     *(u32 *)(r10 - 4) = 0
     *(u64 *)(r10 - 16) = 0

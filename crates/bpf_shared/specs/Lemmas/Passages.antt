@@ -7,7 +7,8 @@ use Rattle.bpf_shared.specs.History.{History}
 use Rattle.bpf_shared.specs.Contents.{Contents, Passes}
 
 -- histories follow each other
-pub history-append : (step : Plain → ℕ → Event → Plain → Type 0) (s m t : Plain) (xs ys : List Entry)
+pub history-append : (step : Plain → ℕ → Event → Plain → Type 0) (s m t : Plain)
+    (xs ys : List Entry)
     → History step s xs m → History step m ys t → History step s (xs ++ ys) t
 history-append step s m t [] ys p q = subst (λ (z : Plain). History step z ys t) (sym p) q
 history-append step s m t (x ∷ xs) ys p q = (p.0, p.1, history-append step p.0 m t xs ys p.2 q)

@@ -33,7 +33,8 @@ impl fmt::Display for Atomic {
     ghost use Rattle.bpf_text.specs.Operators.{atomic_form};
     ghost use Rattle.bpf_text.specs.Form.{text_of, atomic_items};
 
-    ghost output = { λ x. Some (text_of (atomic_items (atomic_form x.op) x.width x.base x.offset x.src)) };
+    ghost output = { λ x. Some (text_of
+        (atomic_items (atomic_form x.op) x.width x.base x.offset x.src)) };
 
     fn fmt<W: fmt::Write>(&self, f: &mut fmt::Formatter<W>) -> fmt::Result {
         let cell = Cell(cell_size(self.width), self.base, self.offset);

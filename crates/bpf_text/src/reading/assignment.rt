@@ -136,7 +136,8 @@ fn number<'a>(
     digits: &'a [u8],
     tokens: &[Token<'a>],
 ) -> Result<Draft<'a>, LineError>
-    ensures { Judged result (number_at width dst (numeral_value radix digits.now) (map look tokens.now)) }
+    ensures { Judged result (number_at width dst (numeral_value radix digits.now)
+        (map look tokens.now)) }
 {
     let literal = Literal::new(false, radix, digits);
     match (width, tokens) {

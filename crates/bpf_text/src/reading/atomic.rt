@@ -145,7 +145,8 @@ fn compared<'a>(
     offset: Literal<'a>,
     tokens: &[Token<'a>],
 ) -> Result<Draft<'a>, LineError>
-    ensures { Judged result (compared_at width base (literal_value offset.entry) (map look tokens.now)) }
+    ensures { Judged result (compared_at width base (literal_value offset.entry)
+        (map look tokens.now)) }
 {
     match tokens {
         [
@@ -173,7 +174,8 @@ fn expected<'a>(
     offset: Literal<'a>,
     tokens: &[Token<'a>],
 ) -> Result<Draft<'a>, LineError>
-    ensures { Judged result (expected_at width base (literal_value offset.entry) (map look tokens.now)) }
+    ensures { Judged result (expected_at width base (literal_value offset.entry)
+        (map look tokens.now)) }
 {
     match tokens {
         [
@@ -219,7 +221,8 @@ fn locked<'a>(
     offset: Literal<'a>,
     tokens: &[Token<'a>],
 ) -> Result<Draft<'a>, LineError>
-    ensures { Judged result (locked_at width base (literal_value offset.entry) (map look tokens.now)) }
+    ensures { Judged result (locked_at width base (literal_value offset.entry)
+        (map look tokens.now)) }
 {
     match tokens {
         [

@@ -104,7 +104,8 @@ fn branch_end<'a>(
     src: RawOperand<'a>,
     tokens: &[Token<'a>],
 ) -> Result<Draft<'a>, LineError>
-    ensures { Judged result (branch_end width condition dst (operand_of src.entry) (map look tokens.now)) }
+    ensures { Judged result (branch_end width condition dst (operand_of src.entry)
+        (map look tokens.now)) }
 {
     match tokens {
         [Token::Word(Keyword::Goto), rest @ ..] => {

@@ -22,7 +22,8 @@ fn loaded<'a>(
     offset: Literal<'a>,
     tokens: &[Token<'a>],
 ) -> Result<Draft<'a>, LineError>
-    ensures { Judged result (loaded_at dst size base (literal_value offset.entry) (map look tokens.now)) }
+    ensures { Judged result (loaded_at dst size base (literal_value offset.entry)
+        (map look tokens.now)) }
 {
     match (size, tokens) {
         (Keyword::Unsigned(size), []) => {
@@ -115,7 +116,8 @@ fn stored<'a>(
     offset: Literal<'a>,
     tokens: &[Token<'a>],
 ) -> Result<Draft<'a>, LineError>
-    ensures { Judged result (stored_at size base (literal_value offset.entry) (map look tokens.now)) }
+    ensures { Judged result (stored_at size base (literal_value offset.entry)
+        (map look tokens.now)) }
 {
     match tokens {
         [Token::Mark(Sign::Assign), rest @ ..] => {
