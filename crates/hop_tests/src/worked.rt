@@ -1,4 +1,4 @@
-//! Worked rows of calls on one thread, over a port and over the plain store.
+//! Calls on one thread with answers worked out by hand, over a port and over the plain store.
 ghost use Rattle.std.specs.Prelude.{◌≡◌, ◌<◌, ◌%◌, ◌^◌, true, false, IfSome};
 ghost use Rattle.hop_map.specs.Port.{IsPortOf};
 ghost use Rattle.hop_tests.specs.Trial.{IsIdlePort, IsRunning};
