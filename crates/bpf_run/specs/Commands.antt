@@ -114,11 +114,12 @@ IsRunOfFile maps text _ = ⊥
 
 -- `run --workers`: the lines of the jobs that the file says, ended as one history of a new store of
 -- its maps explains, and then those of the maps that this history leaves, where they are asked for;
--- or the file's first refusal; or want of memory for the jobs
+-- or the file's first refusal; or, of a file that is accepted, want of memory for its jobs
 abbrev pub IsRunByWorkers : Bool → List ℕ → Reply → Type 0
 IsRunByWorkers maps text (reply.Jobs printed stopped) = (f : File) × IsRunFile text (Ok f)
     × IsWorkersReport f maps (string_bytes printed) stopped
-IsRunByWorkers maps text (reply.Refused refusal.JobsOutOfMemory) = Unit {0}
+IsRunByWorkers maps text (reply.Refused refusal.JobsOutOfMemory) =
+    (f : File) × IsRunFile text (Ok f)
 IsRunByWorkers maps text (reply.Refused r) = RefusesFile text r
 IsRunByWorkers maps text _ = ⊥
 
