@@ -18,3 +18,4 @@ pub mod Shown
 pub mod ReadBack
 pub mod Unique
 pub mod Letters
+pub mod Comments

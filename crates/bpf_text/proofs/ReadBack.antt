@@ -139,10 +139,10 @@ no_label (t ∷ Mark sign.Colon ∷ us) i e = let none = no_colon t us in absurd
 no_label ts i e = (refl, refl)
 
 -- the line of an instruction
-abbrev line_source : Insn → Source
+abbrev pub line_source : Insn → Source
 line_source i = record { label = None; body = Ok (Some (record { insn = i; name = None })) }
 
-line_reads : (i : Insn) → Fits i → IsLine (line_of i) (line_source i)
+pub line_reads : (i : Insn) → Fits i → IsLine (line_of i) (line_source i)
 line_reads i fits =
     let t = shown (form_of i None) (form_apart i) (form_small i fits) in
     let plain = no_label t.0 (record { insn = i; name = None }) (line_complete i None t.0 t.2) in
@@ -151,10 +151,10 @@ line_reads i fits =
 
 -- ---- and so does the whole text
 
-abbrev end_source : Source
+abbrev pub end_source : Source
 end_source = record { label = None; body = Ok None }
 
-end_reads : IsLine [] end_source
+pub end_reads : IsLine [] end_source
 unfolding label_of unlabelled
 end_reads = record { tokens = []; cut_up = tt; labelled = refl; body = refl }
 
@@ -166,7 +166,7 @@ abbrev sources : List Insn → List Source
 sources [] = end_source ∷ []
 sources (i ∷ is) = line_source i ∷ sources is
 
-fed_line : (line rest : List ℕ) → list_all in_line line ≡ true → lines_of (line ++ 10 ∷ rest) ≡ line ∷ lines_of rest
+pub fed_line : (line rest : List ℕ) → list_all in_line line ≡ true → lines_of (line ++ 10 ∷ rest) ≡ line ∷ lines_of rest
 fed_line [] rest h = refl
 fed_line (b ∷ line) rest h =
     let p = and_parts (in_line b) (list_all in_line line) h in
@@ -179,12 +179,15 @@ fed_line (b ∷ line) rest h =
         by_test true g h = cc
         by_test false g h = rw g (ap (onto_first b) f)
 
+-- the first line of a canonical text is its first instruction's
+pub first_line : (i : Insn) (is : List Insn) → Fits i → lines_of (canonical (i ∷ is)) ≡ line_of i ∷ lines_of (canonical is)
+first_line i is fits = fed_line (line_of i) (canonical is) (form_in_line (form_of i None) (form_apart i) (form_small i fits))
+
 all_lines : (is : List Insn) → AllFit is → AreLines (lines_of (canonical is)) (sources is)
 all_lines [] h = (end_reads, tt)
 all_lines (i ∷ is) h =
-    let line = fed_line (line_of i) (canonical is) (form_in_line (form_of i None) (form_apart i) (form_small i h.0)) in
     let P : List (List ℕ) → Type 0 = λ ls. AreLines ls (line_source i ∷ sources is) in
-    subst P (sym line) (line_reads i h.0, all_lines is h.1)
+    subst P (sym (first_line i is h.0)) (line_reads i h.0, all_lines is h.1)
 
 means_itself : (labels : List ℕ → Option Place) (line pc : ℕ) (i : Insn) → meaning_of labels line pc (line_source i) ≡ Ok (Some i)
 unfolding meaning_of

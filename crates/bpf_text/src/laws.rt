@@ -1,7 +1,7 @@
 //! What follows from the definition of assembly text, as promises to the crates above.
 //!
 //! These functions do nothing: their contracts are the laws, which a proof cites.
-ghost use Rattle.bpf_text.specs.Laws.{TextsAreDetermined, WordsAreShownAgain};
+ghost use Rattle.bpf_text.specs.Laws.{CommentsSayNothing, TextsAreDetermined, WordsAreShownAgain};
 
 /// A text stands for one list of instructions alone, or is refused for one reason alone, and
 /// never both.
@@ -16,3 +16,8 @@ pub fn words_are_shown_again()
 {
     bpf_insn::laws::words_are_determined();
 }
+
+/// What has no tokens, as blanks and a comment, may stand behind a line: it stays what it is.
+pub fn comments_say_nothing()
+    ensures { CommentsSayNothing }
+{}
