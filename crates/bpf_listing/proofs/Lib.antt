@@ -2,3 +2,5 @@ pub mod Ends
 pub mod FirstLines
 pub mod SourceLines
 pub mod OneListing
+pub mod Alike
+pub mod ProgramLines

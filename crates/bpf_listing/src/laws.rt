@@ -1,9 +1,32 @@
-//! What follows from the definition of a listing.
+//! What follows from the definitions of listings.
 //!
-//! The function does nothing: its contract is the law.
-ghost use Rattle.bpf_listing.specs.Laws.{ListingsAreDetermined};
+//! These functions do nothing: their contracts are the laws, which a proof cites.
+ghost use Rattle.bpf_listing.specs.Laws.{ListingsAreDetermined, ListingsAssembleAlike, ProgramLinesAreAListing, ProgramLinesAssembleToTheirWords};
 
 /// Lines have one listing alone.
 pub fn listings_are_determined()
     ensures { ListingsAreDetermined }
 {}
+
+/// The listing of a text stands for what the text stands for, instructions or a refusal, whatever
+/// words it shows.
+pub fn listings_assemble_alike()
+    ensures { ListingsAssembleAlike }
+{
+    bpf_text::laws::comments_say_nothing();
+}
+
+/// The lines of a program with their pcs and words are the listing of its canonical text.
+pub fn program_lines_are_a_listing()
+    ensures { ProgramLinesAreAListing }
+{}
+
+/// The lines of a program with their pcs and words stand for the instructions whose words they
+/// show.
+pub fn program_lines_assemble_to_their_words()
+    ensures { ProgramLinesAssembleToTheirWords }
+{
+    bpf_text::laws::words_are_shown_again();
+    listings_assemble_alike();
+    program_lines_are_a_listing();
+}

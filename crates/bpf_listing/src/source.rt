@@ -60,6 +60,7 @@ fn push_line(
 }
 
 /// Puts a line feed behind the text, if another line follows.
+#[tactic(auto, using(crate::proofs::SourceLines::has_feed))]
 fn push_feed(text: &mut String, behind: Option<&str>) -> Result<(), TextError>
     ensures feed { OnOk result (string_bytes text.new
         ≡ string_bytes text.old ++ feed_before (lines_behind (option_copied behind.entry))) }
