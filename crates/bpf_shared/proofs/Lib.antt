@@ -23,3 +23,5 @@ pub mod Settling
 mod Listing
 pub mod OneListing
 pub mod Lasting
+pub mod Handing
+pub mod Numbering

@@ -20,3 +20,4 @@ pub mod Shows
 pub mod Own
 pub mod Legality
 pub mod Lemmas
+pub mod Private

@@ -9,6 +9,7 @@ ghost use Rattle.bpf_shared.specs.Rows.{AreMarked, ArePassed, GoOn, HasCurrentAt
 
 use crate::bytes::{load, store};
 use crate::events::{MapAnswer, Size, Span};
+use crate::order::Order;
 use crate::runs::Runs;
 use crate::shapes::MapShape;
 use std::alloc::{AllocError, Global};
@@ -26,7 +27,7 @@ pub struct Table {
     /// How many CPUs note their runs.
     cpus: u8,
     /// The numbers of the elements that are in the map, in the order of their keys.
-    order: Vec<u32>,
+    order: Order,
     /// By element, whether it is in the map.
     linked: Vec<bool>,
     /// Each element below this one is in the map.
@@ -46,7 +47,7 @@ pub struct Table {
 }
 
 impl Model for Table {
-    ghost use Rattle.std.specs.Prelude.{◌≡◌, ◌≤◌, length, vec_capacity};
+    ghost use Rattle.std.specs.Prelude.{◌≡◌, ◌≤◌, length};
     ghost use Rattle.bpf_shared.specs.Rows.{Rows, ArePassed, IsTable, AreMarked};
 
     ghost Value = { Rows };
@@ -65,7 +66,7 @@ impl Model for Table {
     // There is room for the order of as many keys as the map may have.
     ghost invariant = { λ t.
         let rows : Rows = record { shape = t.shape; cpus = t.cpus; order = t.order.items; linked = t.linked.items; keys = t.keys.items; values = t.values.items; looked_up = t.looked_up.items; left = t.left.items } in
-        IsTable rows × (t.shape.max ≤ vec_capacity t.order) × AreMarked t.linked.items t.filled
+        IsTable rows × (t.shape.max ≤ t.order.room) × AreMarked t.linked.items t.filled
         × (length t.seen.items ≡ t.cpus) × ArePassed t.seen.items rows t.passed };
 }
 
@@ -179,7 +180,7 @@ impl Table {
         Ok(Table {
             shape,
             cpus,
-            order: Vec::with_capacity(alloc, shape.max as usize)?,
+            order: Order::new(alloc, shape.max as usize)?,
             linked: vec![in alloc; false; count]?,
             filled: 0,
             passed: 0,
@@ -217,7 +218,7 @@ impl Table {
         let mut high = self.order.len();
         while low < high {
             let middle = low + (high - low) / 2;
-            match self.key(self.order[middle] as usize).cmp(key) {
+            match self.key(self.order.get(middle) as usize).cmp(key) {
                 Ordering::Less => low = middle + 1,
                 Ordering::Equal => return Ok(middle),
                 Ordering::Greater => high = middle,
@@ -234,7 +235,7 @@ impl Table {
             ((i : ℕ) → IsLinked self.now i → key_of self.now i ≢ key.now) }
     {
         match self.position(key) {
-            Ok(position) => Some(self.order[position] as usize),
+            Ok(position) => Some(self.order.get(position) as usize),
             Err(_) => None,
         }
     }
@@ -360,7 +361,7 @@ impl Table {
         ensures linked { self.new ≡ linked_row position element key.now value.now self.old }
         ensures table { IsTable self.old × IsTable self.new }
     {
-        let _ = self.order.insert(position, element as u32);
+        self.order.insert(position, element as u32);
         self.linked[element] = true;
         self.filled = first_unmarked(&self.linked, self.filled);
         put_part(&mut self.keys, element * key.len(), key);
@@ -381,8 +382,8 @@ impl Table {
             (unlinked_row runs.now position self.old) }
         ensures table { IsTable self.old × IsTable self.new }
     {
-        let old = self.order[position] as usize;
-        self.order[position] = element as u32;
+        let old = self.order.get(position) as usize;
+        self.order.set(position, element as u32);
         self.linked[old] = false;
         self.linked[element] = true;
         self.filled = first_unmarked(&self.linked, self.filled.min(old));
@@ -459,9 +460,10 @@ impl Table {
             ≡ map (row_pair self.now) self.now.order) }
     {
         let mut pairs = Vec::with_capacity(alloc, self.order.len())?;
-        for element in &self.order {
-            let key = self.key(*element as usize).to_vec(alloc)?;
-            let value = self.value(*element as usize).to_vec(alloc)?;
+        for position in 0..self.order.len() {
+            let element = self.order.get(position) as usize;
+            let key = self.key(element).to_vec(alloc)?;
+            let value = self.value(element).to_vec(alloc)?;
             pairs.push((key, value))?;
         }
         Ok(pairs)

@@ -3,7 +3,6 @@ use Rattle.std.specs.declared.cmp.Ordering.TheVariants.{Less, Greater}
 use Rattle.std.specs.Ordering.{nat_cmp}
 use Rattle.std.specs.Cmp.Lexicographic.{slice_cmp}
 use Rattle.std.proofs.lemmas.Map.Lookups.{exact_bytes}
-use Rattle.std.proofs.lemmas.List.{get_or_read}
 use Rattle.bpf_shared.specs.Shape.{elements}
 use Rattle.bpf_shared.specs.Rows.{Rows, IsTable, key_of, key_at}
 use Rattle.bpf_shared.proofs.Searching.{more_below, more_above}
@@ -16,8 +15,7 @@ key-requires c =
     let is : IsTable t = subst IsTable c.self.view_is c.self.invariant.0 in
     let inside : middle < length t.order = omega (arith, c.loop-low.invariant.inside) in
     let order : c.self.inside.order.items ≡ t.order = ap (λ (r : Rows). r.order) c.self.view_is in
-    let here : middle < length c.self.inside.order.items = subst (λ (o : List ℕ). middle < length o) (sym order) inside in
-    let at : c.index.result.now ≡ slice_index t.order middle = get_or_read c.self.inside.order.items middle c.index.result.now here c.index.ensures 0 ∙ ap (λ (o : List ℕ). slice_index o middle) order in
+    let at : c.get.result ≡ slice_index t.order middle = c.get.ensures ∙ ap (λ (o : List ℕ). slice_index o middle) order in
     subst (λ (e : ℕ). e < elements t.shape) (sym at) (is.inside middle inside)
 
 pub loop-low-preserved-in-Less : goal.loop-low-preserved-in-Less
@@ -28,8 +26,7 @@ loop-low-preserved-in-Less c =
     let is : IsTable t = subst IsTable c.self.view_is c.self.invariant.0 in
     let inside : middle < length t.order = omega (arith, i.inside) in
     let order : c.self.inside.order.items ≡ t.order = ap (λ (r : Rows). r.order) c.self.view_is in
-    let here : middle < length c.self.inside.order.items = subst (λ (o : List ℕ). middle < length o) (sym order) inside in
-    let at : c.index.result.now ≡ slice_index t.order middle = get_or_read c.self.inside.order.items middle c.index.result.now here c.index.ensures 0 ∙ ap (λ (o : List ℕ). slice_index o middle) order in
+    let at : c.get.result ≡ slice_index t.order middle = c.get.ensures ∙ ap (λ (o : List ℕ). slice_index o middle) order in
     let read : c.key.result.now ≡ key_at t middle = c.key.ensures ∙ ap (key_of t) at in
     let less : slice_cmp nat_cmp (key_at t middle) c.args.key.now ≡ Less = ap (λ (k : List ℕ). slice_cmp nat_cmp k c.args.key.now) (sym read) ∙ sym c.in-Less.ensures in
     record {
@@ -47,8 +44,7 @@ returns-in-Equal-clause-found c =
     let is : IsTable t = subst IsTable c.self.view_is c.self.invariant.0 in
     let inside : middle < length t.order = omega (arith, i.inside) in
     let order : c.self.inside.order.items ≡ t.order = ap (λ (r : Rows). r.order) c.self.view_is in
-    let here : middle < length c.self.inside.order.items = subst (λ (o : List ℕ). middle < length o) (sym order) inside in
-    let at : c.index.result.now ≡ slice_index t.order middle = get_or_read c.self.inside.order.items middle c.index.result.now here c.index.ensures 0 ∙ ap (λ (o : List ℕ). slice_index o middle) order in
+    let at : c.get.result ≡ slice_index t.order middle = c.get.ensures ∙ ap (λ (o : List ℕ). slice_index o middle) order in
     let read : c.key.result.now ≡ key_at t middle = c.key.ensures ∙ ap (key_of t) at in
     record { inside = inside; is = sym read ∙ exact_bytes c.key.result.now c.args.key.now (sym c.in-Equal.ensures) }
 
@@ -60,8 +56,7 @@ loop-low-preserved c =
     let is : IsTable t = subst IsTable c.self.view_is c.self.invariant.0 in
     let inside : middle < length t.order = omega (arith, i.inside) in
     let order : c.self.inside.order.items ≡ t.order = ap (λ (r : Rows). r.order) c.self.view_is in
-    let here : middle < length c.self.inside.order.items = subst (λ (o : List ℕ). middle < length o) (sym order) inside in
-    let at : c.index.result.now ≡ slice_index t.order middle = get_or_read c.self.inside.order.items middle c.index.result.now here c.index.ensures 0 ∙ ap (λ (o : List ℕ). slice_index o middle) order in
+    let at : c.get.result ≡ slice_index t.order middle = c.get.ensures ∙ ap (λ (o : List ℕ). slice_index o middle) order in
     let read : c.key.result.now ≡ key_at t middle = c.key.ensures ∙ ap (key_of t) at in
     let greater : slice_cmp nat_cmp (key_at t middle) c.args.key.now ≡ Greater = ap (λ (k : List ℕ). slice_cmp nat_cmp k c.args.key.now) (sym read) ∙ sym c.in-Greater.ensures in
     record {

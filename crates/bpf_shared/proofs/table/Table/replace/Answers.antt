@@ -1,6 +1,6 @@
 use Rattle.std.proofs.Common.{◌≡◌, ◌≢◌, ℕ, ◌+◌, ◌*◌, ◌<◌, ◌≤◌, Bool, true, false, List, length, get_or, set, slice_index, inl, inr, sym, ap, subst, ◌∙◌, arith}
 use Rattle.std.specs.List.{insert, remove}
-use Rattle.std.proofs.lemmas.List.{get_or_read, get_or-set_same, get_or-set_other, length-set}
+use Rattle.std.proofs.lemmas.List.{get_or-set_same, get_or-set_other, length-set}
 use Rattle.std.proofs.lemmas.Grind.{common_steps}
 use Rattle.bpf_shared.specs.declared.runs.Runs.{Runs}
 use Rattle.bpf_shared.specs.Shape.{elements}
@@ -14,7 +14,7 @@ pub first_unmarked-self-inside-requires : goal.first_unmarked-self-inside-requir
 first_unmarked-self-inside-requires c i l =
     let t = c.args.self.now in
     let e = c.args.element in
-    let o : ℕ = c.index.result.now in
+    let o : ℕ = c.get-old.result in
     let items = c.self.inside.linked.items in
     let is : IsTable t = subst IsTable c.self.view_is c.self.invariant.0 in
     let marks : items ≡ t.linked = ap (λ (r : Rows). r.linked) c.self.view_is in
@@ -35,12 +35,11 @@ note_runs_at-requires c =
     let e = c.args.element in
     let is : IsTable t = subst IsTable c.self.view_is c.self.invariant.0 in
     let order : c.self.inside.order.items ≡ t.order = ap (λ (r : Rows). r.order) c.self.view_is in
-    let here : k < length c.self.inside.order.items = subst (λ (o : List ℕ). k < length o) (sym order) c.requires.is.inside in
-    let at : c.index.result.now ≡ slice_index t.order k = get_or_read c.self.inside.order.items k c.index.result.now here c.index.ensures 0 ∙ ap (λ (o : List ℕ). slice_index o k) order in
-    let inside : c.index.result.now < elements t.shape = subst (λ (n : ℕ). n < elements t.shape) (sym at) (is.inside k c.requires.is.inside) in
-    let fits : c.index.result.now * t.cpus + t.cpus ≤ elements t.shape * t.cpus = block_fits c.index.result.now (elements t.shape) t.cpus inside in
+    let at : c.get-old.result ≡ slice_index t.order k = c.get-old.ensures ∙ ap (λ (o : List ℕ). slice_index o k) order in
+    let inside : c.get-old.result < elements t.shape = subst (λ (n : ℕ). n < elements t.shape) (sym at) (is.inside k c.requires.is.inside) in
+    let fits : c.get-old.result * t.cpus + t.cpus ≤ elements t.shape * t.cpus = block_fits c.get-old.result (elements t.shape) t.cpus inside in
     let left : length c.deref_mut.result.now ≡ length t.left = ap (length {A = ℕ}) c.deref_mut.ensures.value ∙ ap (λ (r : Rows). length r.left) c.self.view_is in
-    subst (λ (n : ℕ). c.index.result.now * n + n ≤ length c.deref_mut.result.now) (sym c.requires.runs) (omega (arith, is.left))
+    subst (λ (n : ℕ). c.get-old.result * n + n ≤ length c.deref_mut.result.now) (sym c.requires.runs) (omega (arith, is.left))
 
 pub put_part-requires-2 : goal.put_part-requires-2
 put_part-requires-2 c =
@@ -58,8 +57,7 @@ invariant_of-self c =
     let e = c.args.element in
     let is : IsTable t = subst IsTable c.self.view_is c.self.invariant.0 in
     let order : c.self.inside.order.items ≡ t.order = ap (λ (r : Rows). r.order) c.self.view_is in
-    let here : k < length c.self.inside.order.items = subst (λ (o : List ℕ). k < length o) (sym order) c.requires.is.inside in
-    let at : c.index.result.now ≡ slice_index t.order k = get_or_read c.self.inside.order.items k c.index.result.now here c.index.ensures 0 ∙ ap (λ (o : List ℕ). slice_index o k) order in
+    let at : c.get-old.result ≡ slice_index t.order k = c.get-old.ensures ∙ ap (λ (o : List ℕ). slice_index o k) order in
     let placed : set c.self.inside.order.items k e ≡ insert (remove t.order k) k e = ap (λ (o : List ℕ). set o k e) order ∙ set_in_place t.order k e c.requires.is.inside in
     let made : ◌≡◌ {A = Rows} _ (linked_row k e c.args.key.now c.args.value.now (unlinked_row c.args.runs.now k t)) = grind (arith, common_steps, placed, at) in
     let sound : IsTable (linked_row k e c.args.key.now c.args.value.now (unlinked_row c.args.runs.now k t)) = replaced_table c.args.runs.now t is k e c.args.key.now c.args.value.now c.requires.is c.requires.runs c.requires.element c.requires.free c.requires.key c.requires.value in
@@ -68,10 +66,10 @@ invariant_of-self c =
     let same : length seen ≡ t.cpus = c.self.invariant.3 ∙ ap (λ (r : Rows). r.cpus) c.self.view_is in
     let passed : ArePassed seen t c.self.inside.passed = subst (λ (r : Rows). ArePassed seen r c.self.inside.passed) c.self.view_is c.self.invariant.4 in
     let left : c.deref-2.result.now ≡ (unlinked_row c.args.runs.now k t).left = c.deref-2.ensures.value ∙ ap (λ (r : Rows). r.left) made in
-    let first : c.index.result.now * length c.args.runs.now ≡ slice_index t.order k * t.cpus = (λ j. at j * c.requires.runs j) in
+    let first : c.get-old.result * length c.args.runs.now ≡ slice_index t.order k * t.cpus = (λ j. at j * c.requires.runs j) in
     let kept : slice_index t.order k < m → HasCurrentAt (unlinked_row c.args.runs.now k t).left (slice_index t.order k * t.cpus) seen = λ l.
-    let h : HasCurrentAt c.deref-2.result.now (c.index.result.now * length c.args.runs.now) c.deref-3.result.now = c.passed_without-self-inside.ensures.kept (subst (λ (n : ℕ). n < m) (sym at) l) in
-    subst (λ (n : ℕ). HasCurrentAt (unlinked_row c.args.runs.now k t).left n seen) first (subst (λ (ns : List ℕ). HasCurrentAt ns (c.index.result.now * length c.args.runs.now) seen) left (subst (λ (s : List Runs). HasCurrentAt c.deref-2.result.now (c.index.result.now * length c.args.runs.now) s) c.deref-3.ensures.value h)) in (
+    let h : HasCurrentAt c.deref-2.result.now (c.get-old.result * length c.args.runs.now) c.deref-3.result.now = c.passed_without-self-inside.ensures.kept (subst (λ (n : ℕ). n < m) (sym at) l) in
+    subst (λ (n : ℕ). HasCurrentAt (unlinked_row c.args.runs.now k t).left n seen) first (subst (λ (ns : List ℕ). HasCurrentAt ns (c.get-old.result * length c.args.runs.now) seen) left (subst (λ (s : List Runs). HasCurrentAt c.deref-2.result.now (c.get-old.result * length c.args.runs.now) s) c.deref-3.ensures.value h)) in (
       subst IsTable (sym made) sound,
       grind (arith, common_steps),
       λ i l. subst (λ (ms : List Bool). get_or ms i false ≡ true) c.deref.ensures.value (c.first_unmarked-self-inside.ensures i l),
@@ -86,8 +84,7 @@ returns-clause-replaced c =
     let e = c.args.element in
     let is : IsTable t = subst IsTable c.self.view_is c.self.invariant.0 in
     let order : c.self.inside.order.items ≡ t.order = ap (λ (r : Rows). r.order) c.self.view_is in
-    let here : k < length c.self.inside.order.items = subst (λ (o : List ℕ). k < length o) (sym order) c.requires.is.inside in
-    let at : c.index.result.now ≡ slice_index t.order k = get_or_read c.self.inside.order.items k c.index.result.now here c.index.ensures 0 ∙ ap (λ (o : List ℕ). slice_index o k) order in
+    let at : c.get-old.result ≡ slice_index t.order k = c.get-old.ensures ∙ ap (λ (o : List ℕ). slice_index o k) order in
     let placed : set c.self.inside.order.items k e ≡ insert (remove t.order k) k e = ap (λ (o : List ℕ). set o k e) order ∙ set_in_place t.order k e c.requires.is.inside in
     let made : ◌≡◌ {A = Rows} _ (linked_row k e c.args.key.now c.args.value.now (unlinked_row c.args.runs.now k t)) = grind (arith, common_steps, placed, at) in
     made
@@ -99,8 +96,7 @@ returns-clause-table c =
     let e = c.args.element in
     let is : IsTable t = subst IsTable c.self.view_is c.self.invariant.0 in
     let order : c.self.inside.order.items ≡ t.order = ap (λ (r : Rows). r.order) c.self.view_is in
-    let here : k < length c.self.inside.order.items = subst (λ (o : List ℕ). k < length o) (sym order) c.requires.is.inside in
-    let at : c.index.result.now ≡ slice_index t.order k = get_or_read c.self.inside.order.items k c.index.result.now here c.index.ensures 0 ∙ ap (λ (o : List ℕ). slice_index o k) order in
+    let at : c.get-old.result ≡ slice_index t.order k = c.get-old.ensures ∙ ap (λ (o : List ℕ). slice_index o k) order in
     let placed : set c.self.inside.order.items k e ≡ insert (remove t.order k) k e = ap (λ (o : List ℕ). set o k e) order ∙ set_in_place t.order k e c.requires.is.inside in
     let made : ◌≡◌ {A = Rows} _ (linked_row k e c.args.key.now c.args.value.now (unlinked_row c.args.runs.now k t)) = grind (arith, common_steps, placed, at) in
     let sound : IsTable (linked_row k e c.args.key.now c.args.value.now (unlinked_row c.args.runs.now k t)) = replaced_table c.args.runs.now t is k e c.args.key.now c.args.value.now c.requires.is c.requires.runs c.requires.element c.requires.free c.requires.key c.requires.value in

@@ -1,5 +1,5 @@
 use Rattle.std.proofs.Common.{◌≡◌, ℕ, ◌+◌, ◌*◌, ◌<◌, ◌≤◌, false, List, length, slice_index, sym, ap, subst, ◌∙◌, arith}
-use Rattle.std.proofs.lemmas.List.{get_or_read, get_or-set_other}
+use Rattle.std.proofs.lemmas.List.{get_or-set_other}
 use Rattle.std.proofs.lemmas.Grind.{common_steps}
 use Rattle.bpf_shared.specs.Shape.{elements}
 use Rattle.bpf_shared.specs.declared.runs.Runs.{Runs}
@@ -14,8 +14,7 @@ note_runs_at-requires c =
     let t = c.args.self.now in
     let is : IsTable t = subst IsTable c.self.view_is c.self.invariant.0 in
     let order : c.self.inside.order.items ≡ t.order = ap (λ (r : Rows). r.order) c.self.view_is in
-    let here : c.args.position < length c.self.inside.order.items = subst (λ (o : List ℕ). c.args.position < length o) (sym order) c.requires.position in
-    let at : c.remove-element.result ≡ slice_index t.order c.args.position = get_or_read c.self.inside.order.items c.args.position c.remove-element.result here c.remove-element.ensures.value 0 ∙ ap (λ (o : List ℕ). slice_index o c.args.position) order in
+    let at : c.remove-element.result ≡ slice_index t.order c.args.position = c.remove-element.ensures.number ∙ ap (λ (o : List ℕ). slice_index o c.args.position) order in
     let inside : c.remove-element.result < elements t.shape = subst (λ (e : ℕ). e < elements t.shape) (sym at) (is.inside c.args.position c.requires.position) in
     let fits : c.remove-element.result * t.cpus + t.cpus ≤ elements t.shape * t.cpus = block_fits c.remove-element.result (elements t.shape) t.cpus inside in
     let left : length c.deref_mut.result.now ≡ length t.left = ap (length {A = ℕ}) c.deref_mut.ensures.value ∙ ap (λ (r : Rows). length r.left) c.self.view_is in
@@ -38,8 +37,7 @@ invariant_of-self c =
           let m : ℕ = c.passed_without-self-inside.result in
           let same : length seen ≡ t.cpus = c.self.invariant.3 ∙ ap (λ (r : Rows). r.cpus) c.self.view_is in
           let order : c.self.inside.order.items ≡ t.order = ap (λ (r : Rows). r.order) c.self.view_is in
-          let here : k < length c.self.inside.order.items = subst (λ (o : List ℕ). k < length o) (sym order) c.requires.position in
-          let at : c.remove-element.result ≡ slice_index t.order k = get_or_read c.self.inside.order.items k c.remove-element.result here c.remove-element.ensures.value 0 ∙ ap (λ (o : List ℕ). slice_index o k) order in
+          let at : c.remove-element.result ≡ slice_index t.order k = c.remove-element.ensures.number ∙ ap (λ (o : List ℕ). slice_index o k) order in
           let left : c.deref.result.now ≡ (unlinked_row c.args.runs.now k t).left = c.deref.ensures.value ∙ ap (λ (r : Rows). r.left) made in
           let first : c.remove-element.result * length c.args.runs.now ≡ slice_index t.order k * t.cpus = (λ j. at j * c.requires.runs j) in
           let passed : ArePassed seen t c.self.inside.passed = subst (λ (r : Rows). ArePassed seen r c.self.inside.passed) c.self.view_is c.self.invariant.4 in
