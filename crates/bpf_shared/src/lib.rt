@@ -5,6 +5,7 @@
 pub mod bytes;
 mod events;
 pub mod laws;
+mod marks;
 mod order;
 mod plain;
 mod runs;

@@ -9,6 +9,7 @@ ghost use Rattle.bpf_shared.specs.Rows.{AreMarked, ArePassed, GoOn, HasCurrentAt
 
 use crate::bytes::{load, store};
 use crate::events::{MapAnswer, Size, Span};
+use crate::marks::{first_unmarked, past_marked};
 use crate::order::Order;
 use crate::runs::Runs;
 use crate::shapes::MapShape;
@@ -139,19 +140,6 @@ fn put_part(bytes: &mut [u8], first: usize, others: &[u8])
     ensures { bytes.new ≡ with_part bytes.old first others.now }
 {
     bytes[first..first + others.len()].copy_from_slice(others);
-}
-
-/// The first from a place on that isn't marked, where all before that place are marked.
-fn first_unmarked(marks: &[bool], from: usize) -> usize
-    requires { AreMarked marks.now from }
-    ensures { AreMarked marks.now result }
-{
-    for place in from..marks.len() {
-        if !marks[place] {
-            return place;
-        }
-    }
-    from.max(marks.len())
 }
 
 /// Takes out the notes of one CPU in so many elements.
@@ -325,10 +313,12 @@ impl Table {
         ensures none { IfNone result
             ((i : ℕ) → i < elements self.now.shape → IsTakenRow runs.now self.now i) }
     {
-        for element in self.first_open(runs)..self.linked.len() {
+        let mut element = self.first_open(runs);
+        while element < self.linked.len() {
             if !self.is_taken(element, runs) {
                 return Some(element);
             }
+            element = past_marked(&self.linked, element + 1);
         }
         None
     }
