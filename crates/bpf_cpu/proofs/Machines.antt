@@ -10,3 +10,6 @@ pub mod RoundLaws
 pub mod MadeLaws
 pub mod DeterminedTurns
 pub mod FallLaws
+pub mod QuietLaws
+pub mod HeadwayLaws
+pub mod AheadLaws

@@ -3,3 +3,4 @@ pub mod Execute
 pub mod Tries
 pub mod Lanes
 pub mod Turns
+pub mod Headways

@@ -1,5 +1,6 @@
 //! A machine: jobs on the CPUs of a plain store, on one thread, in the order of any schedule.
 
+mod ahead;
 pub mod job;
 mod lane;
 mod rounds;

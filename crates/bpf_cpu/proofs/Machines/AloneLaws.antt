@@ -31,7 +31,7 @@ abbrev pub IsIdle : List Task → ℕ → Type 0
 IsIdle jobs d = IsFree jobs d × NoneWaits jobs d
 
 module _ (jobs : List Task) (c j : ℕ) (task : Task) (stage : Stage) (listed : slice_get jobs j ≡ Some task) (of : task.cpu ≡ c) where
-  keeps_at : (d k : ℕ) (other : Task) (now : Stage) → d ≢ c → IsAt (with_stage jobs j task stage) d k other now → IsAt jobs d k other now
+  pub keeps_at : (d k : ℕ) (other : Task) (now : Stage) → d ≢ c → IsAt (with_stage jobs j task stage) d k other now → IsAt jobs d k other now
   keeps_at d k other now ne at = elim (equal_or_not k j) [
     | inl e ↦
         let P : ℕ → Type 0 = λ k. slice_get (with_stage jobs j task stage) k ≡ Some other in

@@ -23,12 +23,14 @@ use Rattle.bpf_cpu.specs.declared.machine.lane.Lane.{Lane}
 use Rattle.bpf_helpers.specs.Held.{AreHeld}
 use Rattle.bpf_cpu.specs.Step.{IsReady}
 use Rattle.bpf_cpu.specs.Task.{Task, InHand, Ended, with_stage, IsAt}
-use Rattle.bpf_cpu.specs.Private.Lanes.{lane_of, stage_of, task_of, tasks_of, FitsLane, IsHand, IsBoard}
+use Rattle.std.proofs.lemmas.List.{get_or-set_same}
+use Rattle.bpf_cpu.specs.Private.Lanes.{lane_of, no_lane, stage_of, task_of, tasks_of, FitsLane, IsHand, IsBoard}
 use Rattle.bpf_cpu.specs.Schedule.{World, Advances, GoesOn}
 use Rattle.bpf_cpu.specs.Machine.{Shows}
 use Rattle.bpf_cpu.specs.Rounds.{RunsRounds}
 use Rattle.bpf_cpu.specs.Questions.{turns_of, turns_left}
 use Rattle.bpf_cpu.specs.Private.Turns.{IsAlone, Lasts}
+use Rattle.bpf_cpu.specs.Private.Headways.{TakesQuietTurns, GoesAhead, IsOnlyOne}
 use Rattle.bpf_cpu.proofs.OwnEvents.{shown_within}
 use Rattle.bpf_cpu.proofs.Machines.AloneLaws.{rounds_left}
 use Rattle.bpf_cpu.proofs.Machines.FallLaws.{summed}
@@ -182,6 +184,35 @@ module _ (store : Contents) (programs : List Loaded) (jobs : List Listed) (lanes
                   z,
                   (program, None, r.0, h'.cpu, h'.left, loaded_there w shows.programs, advances w.store None r.0 h'.cpu h'.left r.1, (refl, refl)),
                   record { store = r.3; sound = r.2; programs = shows.programs; jobs = ap (λ (ts : List Task). with_stage ts j task (InHand h'.cpu h'.left)) shows.jobs ∙ sym kept_tasks },
+                )
+
+            -- no other job of the CPU is in hand
+            pub kept_one : (after : Contents) → IsBoard (has_cpu after) (is_running after) (held_spans after) programs (slice_set jobs j e) (slice_set lanes c l') → IsOnlyOne (tasks_of (slice_set lanes c l') (slice_set jobs j e)) c j
+            kept_one after board_still k has =
+                let there = hand_at (has_cpu after) (is_running after) (held_spans after) programs (slice_set jobs j e) (slice_set lanes c l') board_still c k has.0 has.1 has.2 has.3 in
+                let lane : lane_of (slice_set lanes c l') c ≡ l' = get_or-set_same lanes c l' no_lane lane_within in
+                let two : Some h' ≡ Some there.hand = sym (ap (λ (x : Lane). x.hand) lane) ∙ there.held in
+                let one : h' ≡ there.hand = cc in
+                sym there.told ∙ (ap (λ (x : Hand). x.job) (sym one) ∙ (job ∙ told))
+
+            -- it takes turns that no store sees
+            pub kept_goes : (n : ℕ) → TakesQuietTurns program h.cpu.number n h.cpu h.left h'.cpu h'.left
+                → GoesAhead (record { store = store; programs = programs; jobs = tasks_of lanes jobs }) c j n (record { store = store; programs = programs; jobs = tasks_of (slice_set lanes c l') (slice_set jobs j e) })
+            kept_goes n made =
+                let here : TakesQuietTurns program c n state left h'.cpu h'.left =
+                subst (λ (k : ℕ). TakesQuietTurns program c n state k h'.cpu h'.left) left_is
+                (subst (λ (x : Cpu). TakesQuietTurns program c n x h.left h'.cpu h'.left) state_is (subst (λ (k : ℕ). TakesQuietTurns program k n h.cpu h.left h'.cpu h'.left) number made))
+                in (
+                  task,
+                  state,
+                  left,
+                  program,
+                  h'.cpu,
+                  h'.left,
+                  in_hand,
+                  ap (λ (t : Task). slice_get programs t.program) shown ∙ loaded,
+                  here,
+                  ap (λ (ts : List Task). record { store = store; programs = programs; jobs = ts }) kept_tasks,
                 )
 
           -- it ends

@@ -37,7 +37,7 @@ settles_worked : (w : World) (c j : ℕ) (task : Task) (new : Cpu) (left : ℕ) 
 settles_worked w c j task new left None answer z settles idle = let no : turn.Ran ≡ turn.Idle = sym settles.0 ∙ idle in cc
 settles_worked w c j task new left (Some end) answer z settles idle = let no : turn.Ended j end ≡ turn.Idle = sym settles.2 ∙ idle in cc
 
-idle_turn : (w : World) (c : ℕ) (answer : Turn) (z : World) → TakesTurn w c answer z → answer ≡ turn.Idle → IsFree w.jobs c × NoneWaits w.jobs c
+pub idle_turn : (w : World) (c : ℕ) (answer : Turn) (z : World) → TakesTurn w c answer z → answer ≡ turn.Idle → IsFree w.jobs c × NoneWaits w.jobs c
 idle_turn w c answer z (inl a) idle = absurd (settles_worked _ c a.0 a.1 a.5.3 a.5.4 a.5.1 answer z a.5.7 idle)
 idle_turn w c answer z (inr (inl (free, a))) idle = absurd (settles_worked _ c a.0 a.1 a.7.3 a.7.4 a.7.1 answer z a.7.7 idle)
 idle_turn w c answer z (inr (inr a)) idle = (a.0, a.1)
@@ -104,7 +104,7 @@ next_idle old mid new c worked answer far w shows progress idle stays = record {
         let Q : ℕ → Type 0 = λ d. IsIdle r.0.jobs d in
         subst P r.2.jobs (subst Q e (idle_turn r.0 c answer t.0 t.1 idle))
 
-fell : (answer : Turn) (old new : List Task) → (answer ≡ turn.Idle → ⊥) → Falls answer old new → turns_left new < turns_left old
+pub fell : (answer : Turn) (old new : List Task) → (answer ≡ turn.Idle → ⊥) → Falls answer old new → turns_left new < turns_left old
 fell turn.Idle old new works falls = absurd (works refl)
 fell turn.Ran old new works falls = falls.0
 fell (turn.Ended j end) old new works falls = falls.0
@@ -186,7 +186,7 @@ SoMany old new = (w : World) → Shows old w → (z : World) × ((n : ℕ) × Ru
 pub no_rounds : (old : MachineState) → SoMany old old
 no_rounds old w shows = (w, (0, refl), shows)
 
-rounds_join : (n k : ℕ) (w m z : World) → RunsRounds n w m → RunsRounds k m z → RunsRounds (k + n) w z
+pub rounds_join : (n k : ℕ) (w m z : World) → RunsRounds n w m → RunsRounds k m z → RunsRounds (k + n) w z
 rounds_join n zero w m z before after =
     let e : n ≡ 0 + n = omega arith in
     let P : ℕ → Type 0 = λ i. RunsRounds i w z in

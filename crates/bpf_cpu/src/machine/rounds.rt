@@ -36,7 +36,7 @@ impl Machine {
     ghost use Rattle.bpf_cpu.specs.Private.Turns.{IsAlone};
 
     /// How many CPUs the store has, and so a number above the CPU of each job.
-    fn cpus_of_jobs(&self) -> u8
+    pub(crate) fn cpus_of_jobs(&self) -> u8
         ensures cpus { (c : ℕ) → has_cpu self.now.store c ≡ nat_lt c result }
         ensures jobs { (j : ℕ) (task : Task) → slice_get self.now.jobs j ≡ Some task
             → task.cpu < result }
@@ -94,7 +94,7 @@ impl Machine {
                     self.finish(cpu, job);
                 }
             }
-            Worked::More => {}
+            Worked::More => self.make_rounds_ahead(),
         }
         true
     }

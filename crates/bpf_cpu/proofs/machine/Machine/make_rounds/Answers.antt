@@ -26,5 +26,15 @@ returns-in_default c = record {
   ended = λ e. absurd cc;
 }
 
+pub make_rounds_ahead-requires : goal.make_rounds_ahead-requires
+make_rounds_ahead-requires c = let r = c.make_round.ensures.runs c.requires.0 c.requires.1 in (r.0, r.2)
+
 pub returns-in-More-clause-runs : goal.returns-in-More-clause-runs
-returns-in-More-clause-runs c = one_round c.args.self.now c.make_round.new.self c.make_round.ensures.runs
+returns-in-More-clause-runs c =
+    next_rounds c.args.self.now c.make_round.new.self c.make_rounds_ahead.new.self (one_round c.args.self.now c.make_round.new.self c.make_round.ensures.runs) c.make_rounds_ahead.ensures.runs
+
+pub returns-in-More-clause-falls : goal.returns-in-More-clause-falls
+returns-in-More-clause-falls c = λ e.
+    let less = c.make_round.ensures.falls (λ none. cc (c.in-More.is, none)) in
+    let more = c.make_rounds_ahead.ensures.falls in
+    omega arith
