@@ -1,8 +1,9 @@
 //! The piece of the input that a refusal or a fault is of.
 
 use crate::finding::Finding;
+use bpf_disassembly::disassemble;
 use bpf_insn::{Insn, decode};
-use bpf_text::{assemble, disassemble, from_hex};
+use bpf_text::{assemble, from_hex};
 use std::alloc::{AllocError, Global};
 use std::str::SplitAsciiWhitespace;
 

@@ -12,7 +12,7 @@ use Rattle.bpf_text.specs.Lines.{lines_of}
 use Rattle.bpf_text.specs.Tokens.{IsTokens}
 use Rattle.bpf_text.specs.Private.Cutting.{in_line}
 use Rattle.bpf_text.specs.Laws.{CommentsSayNothing}
-use Rattle.bpf_text.proofs.ReadBack.{fed_line}
+use Rattle.bpf_disassembly.proofs.ReadBack.{fed_line}
 use Rattle.bpf_listing.specs.Laws.{ListingsAssembleAlike}
 use Rattle.bpf_listing.specs.Program.{place_comment}
 use Rattle.bpf_listing.specs.Source.{IsListing, behind_line}

@@ -26,7 +26,7 @@ pub fn program_lines_are_a_listing()
 pub fn program_lines_assemble_to_their_words()
     ensures { ProgramLinesAssembleToTheirWords }
 {
-    bpf_text::laws::words_are_shown_again();
+    bpf_disassembly::laws::words_are_shown_again();
     listings_assemble_alike();
     program_lines_are_a_listing();
 }

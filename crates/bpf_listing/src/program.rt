@@ -6,8 +6,9 @@ ghost use Rattle.bpf_text.specs.Form.{line_of};
 ghost use Rattle.bpf_listing.specs.Program.{place_comment, program_lines};
 
 use crate::place::push_place;
+use bpf_disassembly::disassemble;
 use bpf_insn::Insn;
-use bpf_text::{TextError, disassemble};
+use bpf_text::TextError;
 use std::alloc::Global;
 
 /// The canonical line of an instruction, without its line end. Fails by `OutOfMemory` alone.

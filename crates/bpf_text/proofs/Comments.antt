@@ -6,12 +6,12 @@ use Rattle.std.proofs.lemmas.Bool.{and_parts, eqb-true}
 use Rattle.std.proofs.lemmas.Bool.Decides.{nat_tests}
 use Rattle.std.proofs.lemmas.List.{drop-append-le, length-take, take-append-le}
 use Rattle.std.proofs.lemmas.List.Folds.{length-prefix_len}
-use Rattle.bpf_text.specs.declared.signs.Sign.{Sign}
-use Rattle.bpf_text.specs.declared.signs.Sign.TheVariants as sign
-use Rattle.bpf_text.specs.declared.signs.TheConstants.{SIGNS}
+use Rattle.bpf_spelling.specs.declared.signs.Sign.{Sign}
+use Rattle.bpf_spelling.specs.declared.signs.Sign.TheVariants as sign
+use Rattle.bpf_spelling.specs.declared.signs.TheConstants.{SIGNS}
 use Rattle.bpf_text.specs.Laws.{CommentsSayNothing}
-use Rattle.bpf_text.specs.Signs.{longest, sign_at, sign_text}
-use Rattle.bpf_text.specs.Token.{Tok}
+use Rattle.bpf_spelling.specs.Signs.{longest, sign_at, sign_text}
+use Rattle.bpf_spelling.specs.Token.{Tok}
 use Rattle.bpf_text.specs.Tokens.{is_blank, after_blanks, word_len, sign_tok, sign_len, front_tok, front_len, IsEnd, AreTokens}
 use Rattle.bpf_text.specs.Words.{is_word_byte, word_tok}
 use Rattle.bpf_text.proofs.Scanning.{length-sign_at}

@@ -1,10 +1,6 @@
 pub mod HexLemmas
 pub mod HexReading
-pub mod FormText
-pub mod WideText
 pub mod DigitLemmas
-pub mod Finding
-pub mod LongestSign
 pub mod Scanning
 pub mod Chains
 pub mod Sound
@@ -14,8 +10,5 @@ pub mod BodyLemmas
 pub mod ShortForms
 pub mod LineCuts
 pub mod TextLemmas
-pub mod Shown
-pub mod ReadBack
 pub mod Unique
-pub mod Letters
 pub mod Comments

@@ -5,14 +5,14 @@ use Rattle.std.specs.List.{starts_with}
 use Rattle.std.proofs.lemmas.List.{map-append, drop-drop, length-map}
 use Rattle.std.proofs.lemmas.Slice.Eq.{bytes_eq-Decides}
 use Rattle.std.proofs.lemmas.List.{length-take}
-use Rattle.bpf_text.specs.declared.signs.Sign.{Sign}
+use Rattle.bpf_spelling.specs.declared.signs.Sign.{Sign}
 use Rattle.bpf_text.specs.declared.token.Token.{Token}
-use Rattle.bpf_text.specs.Signs.{sign_text, sign_at}
-use Rattle.bpf_text.specs.declared.signs.TheConstants.{SIGNS}
-use Rattle.bpf_text.proofs.Finding.{found_by}
-use Rattle.bpf_text.proofs.LongestSign.{first_is_longest}
-use Rattle.bpf_text.specs.Private.Pieces.{first_sign}
-use Rattle.bpf_text.specs.Token.{Tok}
+use Rattle.bpf_spelling.specs.Signs.{sign_text, sign_at}
+use Rattle.bpf_spelling.specs.declared.signs.TheConstants.{SIGNS}
+use Rattle.bpf_spelling.proofs.Finding.{found_by}
+use Rattle.bpf_spelling.proofs.LongestSign.{first_is_longest}
+use Rattle.bpf_spelling.specs.Private.Letters.{first_sign}
+use Rattle.bpf_spelling.specs.Token.{Tok}
 use Rattle.bpf_text.specs.Tokens.{is_blank, after_blanks, front_tok, front_len, IsEnd, AreTokens, IsTokens}
 use Rattle.bpf_text.specs.Private.Look.{look}
 use Rattle.bpf_text.specs.Private.Cutting.{BeginTokens, KeepsToken}

@@ -5,17 +5,17 @@ use Rattle.bpf_insn.specs.declared.instruction.Insn.{Insn}
 use Rattle.bpf_insn.specs.declared.instruction.Insn.TheVariants as insn
 use Rattle.bpf_insn.specs.declared.register.Reg.{Reg}
 use Rattle.bpf_insn.specs.declared.operation.Width.{Width}
-use Rattle.bpf_text.specs.declared.atomics.AtomicForm.{AtomicForm}
-use Rattle.bpf_text.specs.declared.atomics.AtomicForm.TheVariants as form
-use Rattle.bpf_text.specs.declared.keywords.Keyword.TheVariants as key
-use Rattle.bpf_text.specs.declared.operators.Operator.{Operator}
-use Rattle.bpf_text.specs.declared.operators.Operator.TheVariants.{Plain, Signed as SignedBy}
+use Rattle.bpf_spelling.specs.declared.atomics.AtomicForm.{AtomicForm}
+use Rattle.bpf_spelling.specs.declared.atomics.AtomicForm.TheVariants as form
+use Rattle.bpf_spelling.specs.declared.keywords.Keyword.TheVariants as key
+use Rattle.bpf_spelling.specs.declared.operators.Operator.{Operator}
+use Rattle.bpf_spelling.specs.declared.operators.Operator.TheVariants.{Plain, Signed as SignedBy}
 use Rattle.bpf_text.specs.declared.reading.LineError.{LineError}
 use Rattle.bpf_text.specs.declared.reading.LineError.TheVariants.{BadLine, BadNumber}
-use Rattle.bpf_text.specs.declared.signs.Sign.TheVariants.{Plus, Minus, Colon}
-use Rattle.bpf_text.specs.Operators.{operator_of, comparison_of, atomic_form}
-use Rattle.bpf_text.specs.Token.{Tok, Number, Mark}
-use Rattle.bpf_text.specs.Form.{Item, Is, Blank, Signed, Natural, Hex, Offset, Target, Never, word, operand_item, operator_items, atomic_items, form_of}
+use Rattle.bpf_spelling.specs.declared.signs.Sign.TheVariants.{Plus, Minus, Colon}
+use Rattle.bpf_spelling.specs.Operators.{operator_of, comparison_of, atomic_form}
+use Rattle.bpf_spelling.specs.Token.{Tok, Number, Mark}
+use Rattle.bpf_spelling.specs.Form.{Item, Is, Blank, Signed, Natural, Hex, Offset, Target, Never, word, operand_item, operator_items, atomic_items, form_of}
 use Rattle.bpf_text.specs.Line.{name_of, NaturalThen, NegatedThen, SignedThen, OffsetThen, TargetThen, ItemThen, Spells, Written, IsSpelled}
 use Rattle.bpf_text.specs.Assembly.{label_of, unlabelled, cut, Source, IsBody, IsLine}
 use Rattle.bpf_text.specs.Tokens.{IsTokens}

@@ -19,21 +19,21 @@ use Rattle.bpf_insn.specs.declared.operation.Condition.{Condition}
 use Rattle.bpf_insn.specs.declared.instruction.Operand.{Operand}
 use Rattle.bpf_insn.specs.declared.instruction.Operand.TheVariants as operand
 use Rattle.bpf_insn.specs.declared.instruction.Insn.TheVariants as insn
-use Rattle.bpf_text.specs.declared.keywords.Keyword.{Keyword}
-use Rattle.bpf_text.specs.declared.keywords.Keyword.TheVariants as key
-use Rattle.bpf_text.specs.declared.signs.Sign.{Sign}
-use Rattle.bpf_text.specs.declared.signs.Sign.TheVariants as sign
-use Rattle.bpf_text.specs.declared.atomics.AtomicForm.TheVariants as form
-use Rattle.bpf_text.specs.declared.operators.Operator.{Operator}
-use Rattle.bpf_text.specs.declared.operators.TheConstants.{OPERATIONS, CONDITIONS}
-use Rattle.bpf_text.specs.declared.atomics.TheConstants.{ATOMICS}
-use Rattle.bpf_text.specs.Operators.{operator_of, comparison_of, atomic_form}
-use Rattle.bpf_text.specs.Token.{Tok, Register, Word, Number, Mark}
-use Rattle.bpf_text.specs.Form.{Item, Blank, Signed, Target as TargetItem, mark, reg, word, address, cell_items, cell_size, operator_items, operand_item, extended_width, extended_size, atomic_items}
+use Rattle.bpf_spelling.specs.declared.keywords.Keyword.{Keyword}
+use Rattle.bpf_spelling.specs.declared.keywords.Keyword.TheVariants as key
+use Rattle.bpf_spelling.specs.declared.signs.Sign.{Sign}
+use Rattle.bpf_spelling.specs.declared.signs.Sign.TheVariants as sign
+use Rattle.bpf_spelling.specs.declared.atomics.AtomicForm.TheVariants as form
+use Rattle.bpf_spelling.specs.declared.operators.Operator.{Operator}
+use Rattle.bpf_spelling.specs.declared.operators.TheConstants.{OPERATIONS, CONDITIONS}
+use Rattle.bpf_spelling.specs.declared.atomics.TheConstants.{ATOMICS}
+use Rattle.bpf_spelling.specs.Operators.{operator_of, comparison_of, atomic_form, same_operator, operation_named, condition_named, is_locked_by, is_fetched_by, fetched_op, locked_op}
+use Rattle.bpf_spelling.specs.Token.{Tok, Register, Word, Number, Mark}
+use Rattle.bpf_spelling.specs.Form.{Item, Blank, Signed, Target as TargetItem, mark, reg, word, address, cell_items, cell_size, operator_items, operand_item, extended_width, extended_size, atomic_items}
 use Rattle.bpf_text.specs.Line.{Written, Spells, IsSpelled, name_of}
-use Rattle.bpf_text.specs.Private.Pieces.{Middle, same_operator, operator_at, operation_named, condition_named, is_locked_by, is_fetched_by, fetched_op, ◌>>=◌, Address, Place, Second, Target, same_width, same_register, address_at, closed_at, pointer_at, cell_at, operand_at, label_at, target_at, locked_op, extension_of, cell_width}
+use Rattle.bpf_text.specs.Private.Pieces.{Middle, operator_at, ◌>>=◌, Address, Place, Second, Target, same_width, same_register, address_at, closed_at, pointer_at, cell_at, operand_at, label_at, target_at, extension_of, cell_width}
 use Rattle.bpf_text.specs.Private.Lines.{fetched_at, operation_at, ends, alu_end, alu_at, extend_at, loaded_at, load_at, atomic_end, atomic_at, fetch_at, exchange_at, compared_at, expected_at, compare_exchange_at, swap_at, map_at, keyword_at, moved_at, wide_at, negative_at, number_at, assigned_at, register_at, stored_end, stored_at, store_at, locked_at, lock_at, jump_at, jump_long_at, branch_to, branch_end, branch_at, helper_at, call_local_at, call_at, statement_at, line_at}
-use Rattle.bpf_text.proofs.Finding.{found_by, same_operator-true, is_locked_by-true, is_fetched_by-true}
+use Rattle.bpf_spelling.proofs.Finding.{found_by, same_operator-true, is_locked_by-true, is_fetched_by-true}
 use Rattle.bpf_text.proofs.Chains.{IfSome-then, IfSome-if, IfSome-ends, same_width-true, same_register-true}
 
 -- ---- pieces, before whatever follows

@@ -10,7 +10,7 @@ use Rattle.bpf_insn.specs.Encoding.{Fits}
 use Rattle.bpf_text.specs.declared.error.TextError.{TextError}
 use Rattle.bpf_text.specs.declared.reading.LineError.{LineError}
 use Rattle.bpf_text.specs.declared.reading.LineError.TheVariants.{BadLine, BadNumber}
-use Rattle.bpf_text.specs.Token.{Tok}
+use Rattle.bpf_spelling.specs.Token.{Tok}
 use Rattle.bpf_text.specs.Tokens.{after_blanks}
 use Rattle.bpf_text.specs.Line.{Written, IsSpelled}
 use Rattle.bpf_text.specs.Private.Lines.{line_at}

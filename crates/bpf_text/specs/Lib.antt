@@ -1,12 +1,12 @@
+pub use Rattle.bpf_spelling.specs.Names
+pub use Rattle.bpf_spelling.specs.Signs
+pub use Rattle.bpf_spelling.specs.Operators
+pub use Rattle.bpf_spelling.specs.Token
+pub use Rattle.bpf_spelling.specs.Form
 pub mod HexText
-pub mod Names
-pub mod Signs
-pub mod Operators
-pub mod Token
 pub mod Words
 pub mod Tokens
 pub mod Lines
-pub mod Form
 pub mod Line
 pub mod Assembly
 pub mod Laws

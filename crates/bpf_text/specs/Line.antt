@@ -1,10 +1,10 @@
 -- What tokens spell the pieces of a form.
 use Rattle.std.specs.Prelude.{◌≡◌, ℕ, List, [], ◌∷◌, Option, Some, None, ℤ, pos, neg_ℤ}
 use Rattle.bpf_insn.specs.declared.instruction.Insn.{Insn}
-use Rattle.bpf_text.specs.declared.signs.Sign.TheVariants.{Plus, Minus}
-use Rattle.bpf_text.specs.Names.{register_text, keyword_text}
-use Rattle.bpf_text.specs.Token.{Tok, Register, Word, Name, Number, Mark}
-use Rattle.bpf_text.specs.Form.{Item, Is, Blank, Signed, Natural, Hex, Offset, Target, Never, form_of}
+use Rattle.bpf_spelling.specs.declared.signs.Sign.TheVariants.{Plus, Minus}
+use Rattle.bpf_spelling.specs.Names.{register_text, keyword_text}
+use Rattle.bpf_spelling.specs.Token.{Tok, Register, Word, Name, Number, Mark}
+use Rattle.bpf_spelling.specs.Form.{Item, Is, Blank, Signed, Natural, Hex, Offset, Target, Never, form_of}
 
 -- the name that a word is: any word that doesn't begin with a digit
 abbrev pub name_of : Tok → Option (List ℕ)

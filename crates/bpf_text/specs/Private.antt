@@ -7,4 +7,3 @@ pub mod Judging
 pub mod Labels
 pub mod Sources
 pub mod Cutting
-pub mod Letters

@@ -2,10 +2,10 @@
 -- (space, tab and CR) may stand between them, and a comment from `;` behind them (our own
 -- choice).
 use Rattle.std.specs.Prelude.{◌≡◌, ℕ, Bool, ◌==◌, ◌||◌, nat_lt, if◌then◌else◌, List, [], ◌∷◌, length, take_while, take, drop, Option, Some, None}
-use Rattle.bpf_text.specs.declared.signs.Sign.{Sign}
-use Rattle.bpf_text.specs.Signs.{sign_text, sign_at}
+use Rattle.bpf_spelling.specs.declared.signs.Sign.{Sign}
+use Rattle.bpf_spelling.specs.Signs.{sign_text, sign_at}
 use Rattle.bpf_text.specs.Words.{is_word_byte, word_tok}
-use Rattle.bpf_text.specs.Token.{Tok, Mark, Junk}
+use Rattle.bpf_spelling.specs.Token.{Tok, Mark, Junk}
 
 abbrev pub is_blank : ℕ → Bool
 is_blank b = (b == 32) || ((b == 9) || (b == 13))

@@ -1,17 +1,14 @@
 -- Words: longest runs of letters, digits and underscores, and what each of them is (our own
 -- choice).
-use Rattle.std.specs.Prelude.{ℕ, Bool, false, ◌==◌, ◌&&◌, ◌||◌, not, nat_le, nat_lt, nat_eq, if◌then◌else◌, List, [], ◌∷◌, length, drop, find, Option, Some, None, codes}
+use Rattle.std.specs.Prelude.{ℕ, Bool, false, ◌==◌, ◌&&◌, ◌||◌, not, nat_le, nat_lt, nat_eq, if◌then◌else◌, List, [], ◌∷◌, length, drop, Option, Some, None, codes}
 use Rattle.std.specs.Char.{digit_value}
 use Rattle.std.specs.Str.Parse.{digits_value}
 use Rattle.std.specs.List.{starts_with, list_all}
-use Rattle.std.specs.Str.{bytes_eq}
 use Rattle.bpf_insn.specs.declared.register.Reg.{Reg}
 use Rattle.bpf_insn.specs.declared.operation.Width.{Width}
-use Rattle.bpf_text.specs.declared.keywords.Keyword.{Keyword}
-use Rattle.bpf_text.specs.declared.keywords.TheConstants.{KEYWORDS}
-use Rattle.bpf_text.specs.declared.registers.TheConstants.{REGISTERS}
-use Rattle.bpf_text.specs.Names.{register_text, keyword_text}
-use Rattle.bpf_text.specs.Token.{Tok, Register, Word, Name, Number, Junk}
+use Rattle.bpf_spelling.specs.declared.keywords.Keyword.{Keyword}
+use Rattle.bpf_spelling.specs.Names.{register_of, keyword_of}
+use Rattle.bpf_spelling.specs.Token.{Tok, Register, Word, Name, Number, Junk}
 
 abbrev pub is_word_byte : ℕ → Bool
 is_word_byte b =
@@ -59,12 +56,6 @@ is_word w = nat_lt 0 (length w) && list_all is_word_byte w
 -- a word that doesn't begin with a digit
 abbrev pub is_name : List ℕ → Bool
 is_name w = is_word w && not (begins_with_digit w)
-
-unfoldable pub register_of : List ℕ → Option (Width × Reg)
-register_of w = find (λ r. bytes_eq (register_text r.0 r.1) w) REGISTERS
-
-unfoldable pub keyword_of : List ℕ → Option Keyword
-keyword_of w = find (λ k. bytes_eq (keyword_text k) w) KEYWORDS
 
 abbrev pub keyword_or_name : Option Keyword → List ℕ → Tok
 keyword_or_name (Some k) w = Word k

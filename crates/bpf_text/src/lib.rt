@@ -2,21 +2,15 @@
 #![tactic(auto)]
 
 pub mod assembly;
-mod atomics;
-pub mod disassembly;
 pub mod error;
 pub mod hex_text;
-mod keywords;
 mod labels;
 pub mod laws;
 pub mod lines;
 mod meaning;
 mod numbers;
-mod operators;
-mod printing;
 mod reading;
 mod registers;
-mod signs;
 pub mod sizes;
 mod source;
 mod targets;
@@ -24,7 +18,6 @@ mod token;
 pub mod words;
 
 pub use assembly::{assemble, assemble_bytes};
-pub use disassembly::disassemble;
 pub use error::TextError;
 pub use hex_text::{from_hex, to_hex};
 pub use sizes::line_size;

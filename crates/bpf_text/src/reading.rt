@@ -15,10 +15,9 @@ mod operand;
 mod operator;
 mod target;
 
-use crate::keywords::Keyword;
-use crate::signs::Sign;
 use crate::token::Token;
 use bpf_insn::Insn;
+use bpf_spelling::{Keyword, Sign};
 
 /// Why a line is refused.
 #[derive(Clone, Copy)]

@@ -9,10 +9,10 @@ ghost use Rattle.bpf_text.specs.Private.Sources.{body_of, source_of};
 
 use crate::error::TextError;
 use crate::reading::{self, Draft, LineError};
-use crate::signs::Sign;
 use crate::token::{self, Token};
 use crate::words;
 use bpf_insn::Insn;
+use bpf_spelling::Sign;
 use std::alloc::Global;
 
 /// What a line has besides its label.

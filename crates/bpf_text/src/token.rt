@@ -1,17 +1,17 @@
 //! Lines cut into tokens.
 
 ghost use Rattle.std.specs.Prelude.{◌≡◌, ◌<◌, ◌≤◌, ◌+◌, length, take_while, drop, map, IfOk, OnOk, IsOkUnless, IsTrue, ◌↔◌};
-ghost use Rattle.bpf_text.specs.Signs.{sign_text};
+ghost use Rattle.bpf_spelling.specs.Signs.{sign_text};
 ghost use Rattle.bpf_text.specs.Tokens.{is_blank, word_len, front_tok, front_len, IsEnd};
 ghost use Rattle.bpf_text.specs.Private.Cutting.{BeginTokens, KeepsToken};
 ghost use Rattle.bpf_text.specs.Private.Look.{look};
 
 use crate::error::TextError;
-use crate::keywords::Keyword;
 use crate::numbers::Radix;
-use crate::signs::{self, Sign};
 use crate::words;
 use bpf_insn::{Reg, Width};
+use bpf_spelling::Keyword;
+use bpf_spelling::signs::{self, Sign};
 use std::alloc::Global;
 
 /// A word by what it is, or a sign.

@@ -9,7 +9,7 @@ ghost use Rattle.bpf_text.specs.Private.Look.{look};
 
 use crate::numbers::{self, Radix};
 use crate::token::Token;
-use crate::{keywords, registers};
+use bpf_spelling::{keywords, registers};
 use thiserror::Error;
 
 /// Whether the byte is a letter, a digit or an underscore.

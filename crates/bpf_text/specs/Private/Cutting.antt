@@ -1,7 +1,7 @@
 -- Cutting a text into lines, and a line into tokens. Private functions cite this.
 use Rattle.std.specs.Prelude.{◌≡◌, ℕ, ◌≤◌, ◌<◌, ◌⊎◌, Bool, ◌==◌, not, List, [], ◌∷◌, ◌++◌, length}
 use Rattle.bpf_text.specs.declared.token.Token.{Token}
-use Rattle.bpf_text.specs.Token.{Tok}
+use Rattle.bpf_spelling.specs.Token.{Tok}
 use Rattle.bpf_text.specs.Tokens.{IsTokens}
 
 -- every byte but a line feed

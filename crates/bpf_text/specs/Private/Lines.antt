@@ -16,12 +16,13 @@ use Rattle.bpf_insn.specs.declared.instruction.Operand.{Operand}
 use Rattle.bpf_insn.specs.declared.instruction.Operand.TheVariants as operand
 use Rattle.bpf_insn.specs.declared.instruction.Insn.{Insn}
 use Rattle.bpf_insn.specs.declared.instruction.Insn.TheVariants as insn
-use Rattle.bpf_text.specs.declared.keywords.Keyword.{Keyword}
-use Rattle.bpf_text.specs.declared.keywords.Keyword.TheVariants as key
-use Rattle.bpf_text.specs.declared.signs.Sign.TheVariants as sign
-use Rattle.bpf_text.specs.Token.{Tok, Register, Word, Number, Mark}
+use Rattle.bpf_spelling.specs.declared.keywords.Keyword.{Keyword}
+use Rattle.bpf_spelling.specs.declared.keywords.Keyword.TheVariants as key
+use Rattle.bpf_spelling.specs.declared.signs.Sign.TheVariants as sign
+use Rattle.bpf_spelling.specs.Token.{Tok, Register, Word, Number, Mark}
 use Rattle.bpf_text.specs.Line.{Written}
-use Rattle.bpf_text.specs.Private.Pieces.{◌>>=◌, Target, same_width, same_register, address_at, cell_at, operand_at, target_at, operator_at, operation_named, condition_named, locked_op, fetched_op, extension_of, cell_width}
+use Rattle.bpf_text.specs.Private.Pieces.{◌>>=◌, Target, same_width, same_register, address_at, cell_at, operand_at, target_at, operator_at, extension_of, cell_width}
+use Rattle.bpf_spelling.specs.Operators.{operation_named, condition_named, locked_op, fetched_op}
 
 abbrev pub plain : Insn → Option Written
 plain i = Some (record { insn = i; name = None })

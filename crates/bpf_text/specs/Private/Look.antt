@@ -5,7 +5,7 @@ use Rattle.bpf_text.specs.declared.numbers.Radix.{Radix}
 use Rattle.bpf_text.specs.declared.numbers.Radix.TheVariants.{Decimal, Hex}
 use Rattle.bpf_text.specs.declared.token.Token.{Token}
 use Rattle.bpf_text.specs.declared.token.Token.TheVariants as token
-use Rattle.bpf_text.specs.Token.{Tok, Register, Word, Name, Number, Mark, Junk}
+use Rattle.bpf_spelling.specs.Token.{Tok, Register, Word, Name, Number, Mark, Junk}
 
 abbrev pub numeral_value : Radix → List ℕ → ℕ
 numeral_value Decimal digits = digits_value 10 digits

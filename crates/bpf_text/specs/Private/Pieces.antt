@@ -1,36 +1,22 @@
 -- How the pieces of a line are read off the front of its tokens.
-use Rattle.std.specs.Prelude.{ℕ, Bool, true, false, ◌==◌, if◌then◌else◌, List, [], ◌∷◌, find, nat_eq, Option, Some, None, option_and_then, ℤ, pos, neg_ℤ}
-use Rattle.std.specs.Str.{bytes_eq}
-use Rattle.std.specs.List.{starts_with}
+use Rattle.std.specs.Prelude.{ℕ, Bool, true, false, ◌==◌, if◌then◌else◌, List, [], ◌∷◌, Option, Some, None, option_and_then, ℤ, pos, neg_ℤ}
 use Rattle.bpf_insn.specs.Register.{register_number}
 use Rattle.bpf_insn.specs.declared.register.Reg.{Reg}
 use Rattle.bpf_insn.specs.declared.operation.Width.{Width}
 use Rattle.bpf_insn.specs.declared.operation.Width.TheVariants.{Bits32, Bits64}
-use Rattle.bpf_insn.specs.declared.operation.AluOp.{AluOp}
-use Rattle.bpf_insn.specs.declared.operation.Condition.{Condition}
 use Rattle.bpf_insn.specs.declared.operation.SignExtension.{SignExtension}
 use Rattle.bpf_insn.specs.declared.operation.SignExtension.TheVariants as extend
 use Rattle.bpf_insn.specs.declared.operation.Size.TheVariants as size
 use Rattle.bpf_insn.specs.declared.operation.SignedSize.{SignedSize}
 use Rattle.bpf_insn.specs.declared.operation.SignedSize.TheVariants as signed_size
-use Rattle.bpf_insn.specs.declared.operation.AtomicOp.{AtomicOp}
 use Rattle.bpf_insn.specs.declared.instruction.Operand.{Operand}
 use Rattle.bpf_insn.specs.declared.instruction.Operand.TheVariants as operand
-use Rattle.bpf_text.specs.declared.atomics.AtomicForm.{AtomicForm}
-use Rattle.bpf_text.specs.declared.atomics.AtomicForm.TheVariants as form
-use Rattle.bpf_text.specs.declared.keywords.Keyword.{Keyword}
-use Rattle.bpf_text.specs.declared.keywords.Keyword.TheVariants as key
-use Rattle.bpf_text.specs.declared.operators.Operator.{Operator}
-use Rattle.bpf_text.specs.declared.operators.Operator.TheVariants.{Plain, Signed}
-use Rattle.bpf_text.specs.declared.signs.Sign.{Sign}
-use Rattle.bpf_text.specs.declared.signs.Sign.TheVariants as sign
-use Rattle.bpf_text.specs.declared.signs.TheConstants.{SIGNS}
-use Rattle.bpf_text.specs.declared.operators.TheConstants.{OPERATIONS, CONDITIONS}
-use Rattle.bpf_text.specs.declared.atomics.TheConstants.{ATOMICS}
-use Rattle.bpf_text.specs.Names.{keyword_text}
-use Rattle.bpf_text.specs.Signs.{sign_text}
-use Rattle.bpf_text.specs.Operators.{operator_of, comparison_of, atomic_form}
-use Rattle.bpf_text.specs.Token.{Tok, Register, Word, Number, Mark}
+use Rattle.bpf_spelling.specs.declared.keywords.Keyword.{Keyword}
+use Rattle.bpf_spelling.specs.declared.keywords.Keyword.TheVariants as key
+use Rattle.bpf_spelling.specs.declared.operators.Operator.{Operator}
+use Rattle.bpf_spelling.specs.declared.operators.Operator.TheVariants.{Plain, Signed}
+use Rattle.bpf_spelling.specs.declared.signs.Sign.TheVariants as sign
+use Rattle.bpf_spelling.specs.Token.{Tok, Register, Word, Number, Mark}
 use Rattle.bpf_text.specs.Line.{name_of}
 
 infixl 10 ◌>>=◌
@@ -45,21 +31,6 @@ same_width Bits64 Bits32 = false
 
 abbrev pub same_register : Reg → Reg → Bool
 same_register r s = register_number r == register_number s
-
-abbrev pub same_sign : Sign → Sign → Bool
-same_sign a b = bytes_eq (sign_text a) (sign_text b)
-
--- the first sign of the list that the text begins with
-abbrev pub first_sign : List ℕ → Option Sign
-first_sign text = find (λ s. starts_with nat_eq text (sign_text s)) SIGNS
-
-abbrev pub same_keyword : Keyword → Keyword → Bool
-same_keyword a b = bytes_eq (keyword_text a) (keyword_text b)
-
-abbrev pub same_operator : Operator → Operator → Bool
-same_operator (Plain a) (Plain b) = same_sign a b
-same_operator (Signed a) (Signed b) = same_sign a b
-same_operator a b = false
 
 -- ---- pieces, with what follows them
 
@@ -133,28 +104,6 @@ unfoldable pub operator_at : List Tok → Option Middle
 operator_at (Word key.Signed ∷ Mark s ∷ ts) = Some (record { operator = Signed s; rest = ts })
 operator_at (Mark s ∷ ts) = Some (record { operator = Plain s; rest = ts })
 operator_at ts = None
-
--- ---- operations, by how they are written
-
-unfoldable pub operation_named : Operator → Option AluOp
-operation_named o = find (λ op. same_operator (operator_of op) o) OPERATIONS
-
-unfoldable pub condition_named : Operator → Option Condition
-condition_named o = find (λ c. same_operator (comparison_of c) o) CONDITIONS
-
-abbrev pub is_locked_by : AtomicForm → Sign → Bool
-is_locked_by (form.Locked other) s = same_sign other s
-is_locked_by f s = false
-
-abbrev pub is_fetched_by : AtomicForm → Keyword → Bool
-is_fetched_by (form.Fetch other) k = same_keyword other k
-is_fetched_by f k = false
-
-unfoldable pub locked_op : Sign → Option AtomicOp
-locked_op s = find (λ op. is_locked_by (atomic_form op) s) ATOMICS
-
-unfoldable pub fetched_op : Keyword → Option AtomicOp
-fetched_op k = find (λ op. is_fetched_by (atomic_form op) k) ATOMICS
 
 unfoldable pub extension_of : Width → SignedSize → Option SignExtension
 extension_of Bits32 signed_size.Byte = Some extend.From8To32

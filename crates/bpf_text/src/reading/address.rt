@@ -5,11 +5,10 @@ ghost use Rattle.bpf_text.specs.Private.Look.{look};
 ghost use Rattle.bpf_text.specs.Private.Pieces.{address_at, closed_at, pointer_at, cell_at, cell_width};
 ghost use Rattle.bpf_text.specs.Private.Judging.{Gives, literal_value};
 
-use crate::keywords::Keyword;
 use crate::numbers::Literal;
-use crate::signs::Sign;
 use crate::token::Token;
 use bpf_insn::{Reg, Size, Width};
+use bpf_spelling::{Keyword, Sign};
 
 /// Reads `R + n` or `R - n`: the base, the offset, and what follows.
 #[tactic(auto, unfolding(crate::specs::Private::Pieces::address_at))]

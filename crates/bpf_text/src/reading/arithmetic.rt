@@ -6,13 +6,12 @@ ghost use Rattle.bpf_text.specs.Private.Lines.{alu_at, alu_end, operation_at, ex
 ghost use Rattle.bpf_text.specs.Private.Pieces.{extension_of};
 ghost use Rattle.bpf_text.specs.Private.Judging.{Judged, operand_of};
 
-use crate::keywords::Keyword;
 use crate::reading::operand::{self, RawOperand};
 use crate::reading::{Draft, LineError, ends, operator, plain};
-use crate::signs::Sign;
+use crate::registers;
 use crate::token::Token;
-use crate::{operators, registers};
 use bpf_insn::{AluOp, ByteSwap, Insn, Reg, SignExtension, SignedSize, SwapWidth, Width};
+use bpf_spelling::{Keyword, Sign, operators};
 
 /// Behind the second operand.
 #[tactic(auto, unfolding(crate::specs::Private::Lines::alu_end))]

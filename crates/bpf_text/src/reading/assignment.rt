@@ -6,13 +6,12 @@ ghost use Rattle.bpf_text.specs.Private.Look.{look, numeral_value};
 ghost use Rattle.bpf_text.specs.Private.Lines.{map_at, keyword_at, moved_at, wide_at, negative_at, number_at, assigned_at, register_at};
 ghost use Rattle.bpf_text.specs.Private.Judging.{Judged, literal_value};
 
-use crate::keywords::Keyword;
 use crate::numbers::{self, Literal, Radix};
 use crate::reading::{Draft, LineError, arithmetic, atomic, ends, memory, plain};
-use crate::signs::Sign;
+use crate::registers;
 use crate::token::Token;
-use crate::{atomics, registers};
 use bpf_insn::{AluOp, Insn, Operand, Reg, Width};
+use bpf_spelling::{Keyword, Sign};
 
 /// Behind `R = map`.
 #[tactic(auto, unfolding(crate::specs::Private::Lines::map_at))]
@@ -66,14 +65,14 @@ fn assigned_by<'a>(
 fn moved<'a>(
     width: Width,
     dst: Reg,
-    number: Literal<'a>,
+    value: Literal<'a>,
     tokens: &[Token<'a>],
 ) -> Result<Draft<'a>, LineError>
-    ensures { Judged result (moved_at width dst (literal_value number.entry) (map look tokens.now)) }
+    ensures { Judged result (moved_at width dst (literal_value value.entry) (map look tokens.now)) }
 {
     match tokens {
         [] => {
-            let Some(number) = number.immediate() else {
+            let Some(number) = value.immediate() else {
                 return Err(LineError::BadNumber);
             };
             let src = Operand::Immediate(number);

@@ -5,13 +5,12 @@ ghost use Rattle.bpf_text.specs.Private.Look.{look};
 ghost use Rattle.bpf_text.specs.Private.Lines.{atomic_end, atomic_at, fetch_at, fetched_at, exchange_at, compared_at, expected_at, compare_exchange_at, locked_at, lock_at};
 ghost use Rattle.bpf_text.specs.Private.Judging.{Judged, literal_value};
 
-use crate::keywords::Keyword;
 use crate::numbers::Literal;
 use crate::reading::{Draft, LineError, address, plain};
-use crate::signs::Sign;
+use crate::registers;
 use crate::token::Token;
-use crate::{atomics, registers};
 use bpf_insn::{AtomicOp, Insn, Reg, Width};
+use bpf_spelling::{Keyword, Sign, atomics};
 
 /// The atomic operation, where the line ends.
 #[tactic(auto, unfolding(crate::specs::Private::Lines::atomic_end))]

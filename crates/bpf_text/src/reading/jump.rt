@@ -5,14 +5,13 @@ ghost use Rattle.bpf_text.specs.Private.Look.{look, numeral_value};
 ghost use Rattle.bpf_text.specs.Private.Lines.{jump_at, jump_long_at, branch_to, branch_end, branch_at, helper_at, call_local_at, call_at};
 ghost use Rattle.bpf_text.specs.Private.Judging.{Judged, operand_of, target_of};
 
-use crate::keywords::Keyword;
 use crate::numbers::{self, Radix};
-use crate::operators;
 use crate::reading::operand::{self, RawOperand};
 use crate::reading::target::{self, RawTarget};
 use crate::reading::{Draft, LineError, operator, plain};
 use crate::token::Token;
 use bpf_insn::{Condition, Insn, Reg, Width};
+use bpf_spelling::{Keyword, operators};
 
 /// Behind `goto`.
 #[tactic(auto, unfolding(crate::specs::Private::Lines::jump_at))]

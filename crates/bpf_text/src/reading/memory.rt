@@ -5,13 +5,12 @@ ghost use Rattle.bpf_text.specs.Private.Look.{look};
 ghost use Rattle.bpf_text.specs.Private.Lines.{loaded_at, load_at, stored_end, stored_at, store_at};
 ghost use Rattle.bpf_text.specs.Private.Judging.{Judged, literal_value, operand_of};
 
-use crate::keywords::Keyword;
 use crate::numbers::Literal;
 use crate::reading::operand::{self, RawOperand};
 use crate::reading::{Draft, LineError, address, plain};
-use crate::signs::Sign;
 use crate::token::Token;
 use bpf_insn::{Insn, Operand, Reg, Width};
+use bpf_spelling::{Keyword, Sign};
 
 /// Behind `R = *(u8 *)(R + n)`.
 #[tactic(auto, unfolding(crate::specs::Private::Lines::loaded_at))]

@@ -8,9 +8,9 @@ ghost use Rattle.bpf_text.specs.Private.Judging.{Gives, signed_of, operand_of, F
 
 use crate::numbers::{Literal, Radix};
 use crate::registers;
-use crate::signs::Sign;
 use crate::token::Token;
 use bpf_insn::{Operand, Reg, Width};
+use bpf_spelling::Sign;
 
 /// The second operand, its number of any size.
 #[derive(Clone, Copy)]

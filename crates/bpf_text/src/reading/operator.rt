@@ -5,10 +5,8 @@ ghost use Rattle.bpf_text.specs.Private.Look.{look};
 ghost use Rattle.bpf_text.specs.Private.Pieces.{operator_at};
 ghost use Rattle.bpf_text.specs.Private.Judging.{Gives};
 
-use crate::keywords::Keyword;
-use crate::operators::Operator;
-use crate::signs::Sign;
 use crate::token::Token;
+use bpf_spelling::{Keyword, Operator, Sign};
 
 /// Reads a sign, perhaps behind `s`, and gives what follows.
 #[tactic(auto, unfolding(crate::specs::Private::Pieces::operator_at))]

@@ -6,9 +6,9 @@ ghost use Rattle.bpf_text.specs.Private.Pieces.{label_at, target_at};
 ghost use Rattle.bpf_text.specs.Private.Judging.{Gives, signed_of, target_of};
 
 use crate::numbers::{Literal, Radix};
-use crate::signs::Sign;
 use crate::token::Token;
 use crate::words;
+use bpf_spelling::Sign;
 
 /// A jump's target: a distance of any size, or a label.
 #[derive(Clone, Copy)]

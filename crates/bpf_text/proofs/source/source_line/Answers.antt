@@ -1,6 +1,6 @@
 use Rattle.std.proofs.Common.{map, List, sym, subst}
 use Rattle.bpf_text.specs.declared.token.Token.{Token}
-use Rattle.bpf_text.specs.Token.{Tok}
+use Rattle.bpf_spelling.specs.Token.{Tok}
 use Rattle.bpf_text.specs.Assembly.{IsBody}
 use Rattle.bpf_text.specs.Private.Look.{look}
 use Rattle.bpf_text.specs.Private.Cutting.{BeginTokens}

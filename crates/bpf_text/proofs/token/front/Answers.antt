@@ -1,5 +1,5 @@
 use Rattle.std.proofs.Common.{arith, ap, length, ◌≡◌, Some}
-use Rattle.bpf_text.specs.Signs.{sign_at}
+use Rattle.bpf_spelling.specs.Signs.{sign_at}
 use Rattle.bpf_text.proofs.Scanning.{length-sign_at}
 use Rattle.bpf_text.proofs.token.front.Goals as goal
 

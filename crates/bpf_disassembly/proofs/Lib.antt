@@ -1,0 +1,4 @@
+pub mod FormText
+pub mod WideText
+pub mod Shown
+pub mod ReadBack

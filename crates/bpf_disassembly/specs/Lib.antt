@@ -1,0 +1,3 @@
+pub use Rattle.bpf_spelling.specs.Form
+pub use Rattle.bpf_text.specs.Assembly
+pub mod Laws

@@ -1,0 +1,6 @@
+pub mod Names
+pub mod Signs
+pub mod Operators
+pub mod Token
+pub mod Form
+pub mod Private

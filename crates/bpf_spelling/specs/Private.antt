@@ -1,0 +1,2 @@
+-- What private functions compute. No public clause speaks of these definitions.
+pub mod Letters

@@ -1,0 +1,13 @@
+//! How the assembly language spells words, signs and operations: one table each, read both ways.
+#![tactic(auto)]
+
+pub mod atomics;
+pub mod keywords;
+pub mod operators;
+pub mod registers;
+pub mod signs;
+
+pub use atomics::AtomicForm;
+pub use keywords::Keyword;
+pub use operators::Operator;
+pub use signs::Sign;
