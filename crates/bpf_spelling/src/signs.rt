@@ -138,6 +138,7 @@ fn first_sign(text: &[u8]) -> Option<Sign>
 }
 
 /// The longest sign that the text begins with.
+#[tactic(auto, using(crate::proofs::LongestSign::first_is_longest))]
 pub fn longest_sign(text: &[u8]) -> Option<Sign>
     ensures { result ≡ sign_at text.now }
 {
