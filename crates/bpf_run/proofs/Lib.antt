@@ -7,3 +7,4 @@ pub mod FreshFiles
 pub mod Cutting
 pub mod ScriptReplies
 pub mod WrittenAnswers
+pub mod ListedAgain

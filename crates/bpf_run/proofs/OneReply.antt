@@ -1,5 +1,5 @@
 -- The replies of one input print one text.
-use Rattle.std.proofs.Common.{Bool, Option, true, false, string_bytes, ◌≡◌, ◌≢◌, ◌<◌, ◌≤◌, ◌/◌, ℕ, List, [], length, inl, inr, refl, sym, ap, subst, ◌∙◌, arith, Ok, Err}
+use Rattle.std.proofs.Common.{Bool, Option, true, false, string_bytes, ◌≡◌, ◌≢◌, ◌<◌, ◌≤◌, ℕ, List, [], length, inl, inr, refl, sym, ap, subst, ◌∙◌, arith, Ok, Err}
 use Rattle.std.specs.Prelude.{IsUtf8}
 use Rattle.bpf_insn.specs.declared.instruction.Insn.{Insn}
 use Rattle.bpf_insn.specs.Encoding.{IsEncodedAs}
@@ -19,7 +19,6 @@ use Rattle.bpf_cpu.specs.State.{start}
 use Rattle.bpf_cpu.specs.Step.{Explains}
 use Rattle.bpf_cpu.specs.Laws.{OutcomesAreDetermined, NoMapsNoEvents}
 use Rattle.bpf_text.specs.Assembly.{Assembles}
-use Rattle.bpf_text.specs.Form.{canonical}
 use Rattle.bpf_text.specs.HexText.{IsHexOf}
 use Rattle.bpf_text.specs.Laws.{TextsAreDetermined}
 use Rattle.bpf_text.specs.declared.error.TextError.{TextError}
@@ -76,7 +75,7 @@ data OfRun (budget : ℕ) (context text : List ℕ) : Reply → Type 0 where
   Unsound : (error : LoadError) (is : List Insn) → IsWordsOf text is → IsFirstRefusal 0 is error → OfRun budget context text (reply.Refused (refusal.Load error))
   Unread : (r : Refusal) → OfWords text r → OfRun budget context text (reply.Refused r)
 
-data OfAssembly (listing : Bool) (text : List ℕ) : Reply → Type 0 where
+pub data OfAssembly (listing : Bool) (text : List ℕ) : Reply → Type 0 where
   Assembled : (printed : _) → IsAssembled listing text (reply.Text printed) → OfAssembly listing text (reply.Text printed)
   NoAssembly : (error : TextError) → Assembles text (Err error) → OfAssembly listing text (reply.Refused (refusal.Text error))
 
@@ -111,7 +110,7 @@ of_refused_text : (listing : Bool) (text : List ℕ) (error : TextError) → Ref
 of_refused_text listing text error (inl memory) n = absurd (n (subst (λ (e : TextError). IsForAnyInput (refusal.Text e)) (sym memory) tt))
 of_refused_text listing text error (inr h) n = NoAssembly error h
 
-of_assembly : (listing : Bool) (text : List ℕ) (r : Reply) → IsAssembled listing text r → IsOfInput r → OfAssembly listing text r
+pub of_assembly : (listing : Bool) (text : List ℕ) (r : Reply) → IsAssembled listing text r → IsOfInput r → OfAssembly listing text r
 of_assembly listing text (reply.Text printed) h n = Assembled printed h
 of_assembly listing text (reply.Refused (refusal.Text error)) h n = of_refused_text listing text error h n
 of_assembly listing text (reply.Refused (refusal.Insn error)) h n = absurd (n (subst (λ (e : InsnError). IsForAnyInput (refusal.Insn e)) (sym h) tt))

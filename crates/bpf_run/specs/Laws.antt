@@ -1,14 +1,17 @@
 -- What follows from the definitions: what a command prints is a function of the bytes that it
--- reads.
-use Rattle.std.specs.Prelude.{◌≡◌, ℕ, ◌≤◌, List, length, map}
+-- reads, and listings are assembled again.
+use Rattle.std.specs.Prelude.{◌≡◌, ◌↔◌, ℕ, ◌≤◌, ◌/◌, false, true, List, String, length, map, string_bytes}
+use Rattle.std.specs.declared.alloc.Global.{Global}
 use Rattle.bpf_insn.specs.declared.error.InsnError.TheVariants as insn_error
 use Rattle.bpf_loader.specs.declared.refusal.LoadError.TheVariants as load_error
+use Rattle.bpf_text.specs.HexText.{IsHexOf}
 use Rattle.bpf_text.specs.declared.error.TextError.TheVariants as text_error
 use Rattle.bpf_mem.specs.Limits.{max_context}
 use Rattle.bpf_debug.specs.Laws.{HadMemory}
 use Rattle.bpf_debug.specs.Script.{answer_of}
 use Rattle.bpf_run.specs.Answer.{status_of, reply_text}
-use Rattle.bpf_run.specs.Commands.{IsForOneThread, IsReply}
+use Rattle.bpf_run.specs.Commands.{IsAssembled, IsDisassembled, IsForOneThread, IsReply}
+use Rattle.bpf_run.specs.Listing.{word_lines}
 use Rattle.bpf_command.specs.declared.command.Command.{Command}
 use Rattle.bpf_command.specs.declared.command.Command.TheVariants as command
 use Rattle.bpf_run.specs.declared.input.InputError.TheVariants as input_error
@@ -44,3 +47,17 @@ abbrev pub RepliesAreDetermined : Type 0
 RepliesAreDetermined = (c : Command) (input : List ℕ) (r s : Reply) → HasShortContext c
     → IsForOneThread c → IsReply c input r → IsReply c input s → IsOfInput r → IsOfInput s
     → (reply_text r ≡ reply_text s) × (status_of r ≡ status_of s)
+
+-- what `asm --listing` prints is assembled as the text that is listed: `asm` has the same replies
+-- to both
+abbrev pub ListingsAreAnsweredAlike : Type 0
+ListingsAreAnsweredAlike = (text : List ℕ) (listing : String Global) (r : Reply)
+    → IsAssembled true text (reply.Text listing)
+    → (IsAssembled false (string_bytes listing) r ↔ IsAssembled false text r)
+
+-- what `disasm --pc` prints is assembled to the words that it was given, want of memory aside
+abbrev pub ListedWordsAreAnswered : Type 0
+ListedWordsAreAnswered = (text bytes : List ℕ) (listing : String Global) (r : Reply)
+    → IsHexOf text bytes → IsDisassembled true text (reply.Text listing)
+    → IsAssembled false (string_bytes listing) r → IsOfInput r
+    → reply_text r ≡ word_lines (length bytes / 8) bytes

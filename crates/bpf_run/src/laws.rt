@@ -1,7 +1,7 @@
 //! What follows from the definitions of replies.
 //!
-//! The function does nothing: its contract is the law.
-ghost use Rattle.bpf_run.specs.Laws.{RepliesAreDetermined};
+//! These functions do nothing: their contracts are the laws.
+ghost use Rattle.bpf_run.specs.Laws.{ListedWordsAreAnswered, ListingsAreAnsweredAlike, RepliesAreDetermined};
 
 /// What a command prints is a function of the bytes that it reads, want of memory and failing reads
 /// aside.
@@ -19,4 +19,22 @@ pub fn replies_are_determined()
     bpf_file::laws::files_can_run();
     bpf_jobs::laws::reports_are_determined();
     bpf_debug::laws::scripts_are_determined();
+}
+
+/// What `asm --listing` prints is assembled as the text that is listed: `asm` has the same replies
+/// to both.
+pub fn listings_are_answered_alike()
+    ensures { ListingsAreAnsweredAlike }
+{
+    bpf_text::laws::texts_are_determined();
+    bpf_listing::laws::listings_assemble_alike();
+}
+
+/// What `disasm --pc` prints is assembled to the words that it was given, want of memory aside.
+pub fn listed_words_are_answered()
+    ensures { ListedWordsAreAnswered }
+{
+    bpf_insn::laws::encodings_are_determined();
+    bpf_text::laws::texts_are_determined();
+    bpf_listing::laws::program_lines_assemble_to_their_words();
 }
