@@ -1,4 +1,8 @@
+pub mod Binned
+pub mod Covering
 pub mod Determined
 pub mod HeldLaws
 pub mod Leaving
+pub mod OnGrid
 pub mod Reaching
+pub mod Sized

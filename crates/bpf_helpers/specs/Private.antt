@@ -1,2 +1,6 @@
 -- What private functions' contracts speak of.
+pub mod Bins
+pub mod Found
+pub mod Grid
+pub mod Sizes
 pub mod Source

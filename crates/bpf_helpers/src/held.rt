@@ -4,7 +4,8 @@ ghost use Rattle.std.specs.Prelude.{◌≡◌, ◌<◌, ◌≤◌, [], ◌↔◌
 ghost use Rattle.bpf_shared.specs.Shape.{IsValueSpan};
 ghost use Rattle.bpf_helpers.specs.Held.{AreReached, covers, has_span, is_covered, max_held, reaches, with_span};
 
-use crate::guess::Guesses;
+use crate::bins::Bins;
+use crate::grid::Grid;
 use arrayvec::ArrayVec;
 use bpf_shared::Span;
 use std::marker::Model;
@@ -12,25 +13,30 @@ use std::marker::Model;
 /// How many values a run holds at most (our own choice).
 pub const MAX_HELD: usize = 256;
 
-/// How many spans are gone through sooner than one is guessed.
-const FEW: usize = 8;
+/// How many spans are gone through sooner than the one at an address is worked out.
+const FEW: usize = 4;
 
 /// The spans of the values that lookups of this run answered, each once, in the order of their
 /// first lookup.
 #[derive(Drop)]
 pub struct HeldSpans {
     spans: ArrayVec<Span, MAX_HELD>,
-    /// Which of the spans is tried first.
-    guesses: Guesses,
+    bins: Bins,
+    grid: Grid,
+    /// Whether one of the spans isn't on the grid. No value of a map is such a one.
+    has_stray: bool,
 }
 
 impl Model for HeldSpans {
     ghost use Rattle.std.specs.Prelude.{List, ◌≤◌, length};
     ghost use Rattle.bpf_shared.specs.declared.events.Span.{Span};
+    ghost use Rattle.bpf_helpers.specs.Private.Found.{AreFound};
 
     ghost Value = { List Span };
 
     ghost view = { λ h. h.spans.items };
+
+    ghost invariant = { λ h. AreFound h.bins h.grid h.has_stray h.spans.items };
 }
 
 /// Whether a span has all bytes from an address on, this many.
@@ -47,7 +53,9 @@ impl HeldSpans {
     {
         HeldSpans {
             spans: ArrayVec::new(),
-            guesses: Guesses::new(),
+            bins: Bins::new(),
+            grid: Grid::new(),
+            has_stray: false,
         }
     }
 
@@ -64,27 +72,15 @@ impl HeldSpans {
     pub fn has(&self, span: Span) -> bool
         ensures { result ≡ has_span self.now span }
     {
-        if self.spans.len() > FEW {
-            if let Some(held) = self.spans.get(self.guesses.number(span.at)) {
-                if held.at == span.at && held.size == span.size {
-                    return true;
-                }
-            }
-        }
-        self.spans
-            .iter()
-            .any(|held| held.at == span.at && held.size == span.size)
+        self.bins.have(&self.spans, span)
     }
 
     /// Whether an address is in one of them.
     #[inline]
-    #[tactic(auto, unfolding(crate::specs::Held::reaches))]
     pub fn reaches(&self, address: u64) -> bool
         ensures { result ≡ reaches self.now address }
     {
-        self.spans
-            .iter()
-            .any(|held| held.at <= address && address - held.at < held.size)
+        self.covers(address, 1)
     }
 
     /// Whether each of some bytes from an address on is in one of them.
@@ -111,14 +107,33 @@ impl HeldSpans {
     pub fn covers(&self, address: u64, length: u64) -> bool
         ensures { result ≡ is_covered self.now address length }
     {
-        if self.spans.len() > FEW {
-            if let Some(span) = self.spans.get(self.guesses.number(address)) {
-                if covers(*span, address, length) {
-                    return true;
-                }
-            }
+        if self.spans.len() <= FEW {
+            self.any_covers(address, length)
+        } else {
+            self.element_covers(address, length)
         }
+    }
+
+    /// `covers`, by going through them.
+    #[inline]
+    fn any_covers(&self, address: u64, length: u64) -> bool
+        ensures { result ≡ is_covered self.now address length }
+    {
         self.spans.iter().any(|span| covers(*span, address, length))
+    }
+
+    /// `covers`, by the element that lies there.
+    #[inline]
+    fn element_covers(&self, address: u64, length: u64) -> bool
+        ensures { result ≡ is_covered self.now address length }
+    {
+        if self.has_stray || length == 0 {
+            return self.any_covers(address, length);
+        }
+        match self.grid.element_at(address) {
+            Some(span) => covers(span, address, length) && self.has(span),
+            None => false,
+        }
     }
 
     /// Whether one more span would be too many.
@@ -135,7 +150,9 @@ impl HeldSpans {
         ensures { self.new ≡ with_span self.old span }
     {
         if !self.has(span) {
-            self.guesses.note(span, (self.spans.len() % MAX_HELD) as u8);
+            self.bins.put(span, self.spans.len() as u8);
+            self.grid.note(span);
+            self.has_stray |= !self.grid.has(span);
             self.spans.push(span);
         }
     }

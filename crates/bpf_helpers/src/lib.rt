@@ -1,9 +1,10 @@
 //! The helpers that a program calls (bpf-helpers(7)), over any shared store. No call takes memory.
 #![tactic(auto)]
 
+mod bins;
 pub mod calls;
 pub mod fault;
-mod guess;
+mod grid;
 pub mod held;
 pub mod laws;
 mod reading;

@@ -1,0 +1,22 @@
+-- Where the elements of maps lie whose values have given sizes.
+use Rattle.std.specs.Prelude.{◌≡◌, ℕ, ◌+◌, ◌*◌, ◌/◌, ◌<◌, ◌≤◌, List, slice_index}
+use Rattle.bpf_shared.specs.declared.events.Span.{Span}
+
+-- the address is so far behind where the first value of the map begins
+pub record IsOffset (address m offset : ℕ) : Type 0 where
+  pub map : m < 16
+  pub near : offset < 0x1000_0000
+  pub at : address ≡ 0x10_0000_0000 + 0x1000_0000 * m + offset
+
+-- from one value of this size to the next
+abbrev pub stride_of : ℕ → ℕ
+stride_of size = (size + 7) / 8 * 8
+
+-- the span is an element's, in a map whose values have its size
+pub record IsOnGrid (sizes : List ℕ) (p : Span) : Type 0 where
+  pub map : ℕ
+  pub element : ℕ
+  pub start : IsOffset p.at map (element * stride_of p.size)
+  pub size : slice_index sizes map ≡ p.size
+  pub some : 1 ≤ p.size
+  pub room : element * stride_of p.size + p.size ≤ 0x1000_0000

@@ -1,0 +1,101 @@
+//! Which element of a map lies at an address.
+
+ghost use Rattle.std.specs.Prelude.{◌≡◌, ◌<◌, ◌↔◌, ℕ, IsTrue, IfSome, IfNone, List, Some};
+ghost use Rattle.bpf_shared.specs.declared.events.Span.{Span};
+ghost use Rattle.bpf_shared.specs.declared.shapes.MapShape.{MapShape};
+ghost use Rattle.bpf_shared.specs.Shape.{IsElementSpan, IsIn};
+ghost use Rattle.bpf_helpers.specs.Private.Grid.{IsOnGrid, IsOffset, stride_of};
+ghost use Rattle.bpf_helpers.specs.Private.Sizes.{AreMaps, AreSizesOf};
+
+use bpf_shared::Span;
+
+/// Where the first map's values begin.
+const VALUES: u64 = 0x10_0000_0000;
+
+/// From the first value of a map to that of the next.
+const AREA: u64 = 0x1000_0000;
+
+/// The size of each map's values of which one is held. A map's elements lie side by side, so it
+/// tells which of them has an address.
+#[derive(Drop)]
+pub(crate) struct Grid {
+    /// By map; 0 where no value of it is held.
+    sizes: [u16; 16],
+}
+
+/// The map that has an address, and how far behind its first value the address is.
+#[inline]
+fn offset_of(address: u64) -> Option<(usize, u64)>
+    ensures some { IfSome result (λ r. IsOffset address r.0 r.1) }
+    ensures none { IfNone result ((m o : ℕ) → IsOffset address m o → ⊥) }
+{
+    let above = address.checked_sub(VALUES)?;
+    let map = above / AREA;
+    if map < 16 {
+        Some((map as usize, above % AREA))
+    } else {
+        None
+    }
+}
+
+/// From one value of this size to the next.
+#[inline]
+fn stride_of(size: u16) -> u32
+    ensures stride { result ≡ stride_of size }
+    ensures small { result < 65544 }
+{
+    (u32::from(size) + 7) / 8 * 8
+}
+
+impl Grid {
+    /// No value is held.
+    pub(crate) fn new() -> Grid {
+        Grid { sizes: [0; 16] }
+    }
+
+    /// The one span on the grid that may have the address.
+    #[inline]
+    pub(crate) fn element_at(&self, address: u64) -> Option<Span>
+        ensures { (p : Span) → IsOnGrid self.now.sizes p → IsIn address p → result ≡ Some p }
+    {
+        let (map, offset) = offset_of(address)?;
+        let size = self.sizes[map];
+        let past = (offset as u32).checked_rem(stride_of(size))?;
+        Some(Span {
+            at: address - u64::from(past),
+            size: u64::from(size),
+        })
+    }
+
+    /// Whether the span is on the grid.
+    pub(crate) fn has(&self, span: Span) -> bool
+        ensures { IsTrue result ↔ IsOnGrid self.now.sizes span }
+    {
+        let Some((map, offset)) = offset_of(span.at) else {
+            return false;
+        };
+        let size = self.sizes[map];
+        if size == 0 || u64::from(size) != span.size {
+            return false;
+        }
+        if offset % u64::from(stride_of(size)) != 0 {
+            return false;
+        }
+        offset + span.size <= AREA
+    }
+
+    /// Takes a span's size for its map's, where none of them is held yet.
+    pub(crate) fn note(&mut self, span: Span)
+        ensures kept { (p : Span) → IsOnGrid self.old.sizes p → IsOnGrid self.new.sizes p }
+        ensures elements { (maps : List MapShape) (m : ℕ) → AreMaps maps
+            → AreSizesOf maps self.old.sizes → IsElementSpan maps m span
+            → AreSizesOf maps self.new.sizes × IsOnGrid self.new.sizes span }
+    {
+        let Some((map, _)) = offset_of(span.at) else {
+            return;
+        };
+        if self.sizes[map] == 0 {
+            self.sizes[map] = u16::try_from(span.size).unwrap_or(0);
+        }
+    }
+}
