@@ -76,8 +76,10 @@ input, as in
   job 0 cpu 0 r0=5
   done";
 
-const EXIT_STATUS: &str = "\
-All input is standard input, read whole first, and all answers go to standard output.
+const EBPF_NOTES: &str = "\
+All input is standard input, read whole first, and all answers go to standard output, as in
+  $ echo 'b700000005000000 9500000000000000' | ebpf hex
+  r0=5
 
 Exit status:
   0  the answer is printed
@@ -240,7 +242,7 @@ fn bare_command<'a>(alloc: Global) -> Command<'a>
     Command::new(alloc, "ebpf")
         .version("0.1.0")
         .about("Runs BPF programs (RFC 9669), and turns them into text and back")
-        .after_help(EXIT_STATUS)
+        .after_help(EBPF_NOTES)
         .subcommand_required(true)
         .disable_help_subcommand(true)
 }
