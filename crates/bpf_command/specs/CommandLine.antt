@@ -65,11 +65,11 @@ abbrev pub run : App
 run = with_rule (with_rule (with_rule (new_app (codes "run")) explained) maps) workers
 
 -- the code that `explain` is asked for
-abbrev pub code : Rule
-code = record (new_rule (codes "code")) { value_names = 1; required = true }
+abbrev pub code_rule : Rule
+code_rule = record (new_rule (codes "code")) { value_names = 1; required = true }
 
 abbrev pub explain : App
-explain = with_rule (new_app (codes "explain")) code
+explain = with_rule (new_app (codes "explain")) code_rule
 
 abbrev pub debug : App
 debug = with_rule (new_app (codes "debug")) explained

@@ -1,3 +1,3 @@
-pub mod Ranges
+pub mod Lemmas
 pub mod CommandLine
 pub mod Names

@@ -2,7 +2,7 @@
 
 ghost use Rattle.std.specs.Prelude.{◌<◌, ◌≤◌, IfSome, vec_len};
 ghost use Rattle.bpf_mem.specs.Limits.{max_context};
-ghost use Rattle.bpf_command.specs.Ranges.{few-prop, some-prop};
+ghost use Rattle.bpf_command.specs.Lemmas.Ranges.{few-prop, some-prop};
 ghost use Rattle.bpf_command.specs.declared.command.TheConstants.{MAX_BUDGET, MAX_WORKERS};
 
 use bpf_explain::Code;

@@ -3,7 +3,7 @@
 ghost use Rattle.std.specs.Prelude.{◌≡◌, false, IfOk};
 ghost use Rattle.clap.specs.Words.{app_of, rule_of, shape_of};
 ghost use Rattle.clap.specs.declared.builder.command.Command.TheViews.{out-Command as fields_of};
-ghost use Rattle.bpf_command.specs.CommandLine.{asm, bare, budget, code, context, debug, disasm, ebpf, explain, explained, hex, listing, maps, one_program, pc, run, workers, working};
+ghost use Rattle.bpf_command.specs.CommandLine.{asm, bare, budget, code_rule, context, debug, disasm, ebpf, explain, explained, hex, listing, maps, one_program, pc, run, workers, working};
 
 use crate::command::{MAX_BUDGET, MAX_WORKERS};
 use clap::{Arg, ArgAction, Command, value_parser};
@@ -216,7 +216,7 @@ fn debug_command<'a>(alloc: Global) -> Result<Command<'a>, AllocError>
 }
 
 fn code_argument<'a>(alloc: Global) -> Arg<'a>
-    ensures rule { rule_of result ≡ code }
+    ensures rule { rule_of result ≡ code_rule }
     ensures own { result.global ≡ false }
 {
     Arg::new(alloc, "code")

@@ -18,8 +18,8 @@ use Rattle.bpf_debug.specs.Answer.{IsWhere, ended_text, stop_line}
 use Rattle.bpf_debug.specs.Command.{Order, Break, Step, Go, Registers, Where, Memory, Map, order_of}
 use Rattle.bpf_debug.specs.Go.{HasWork, AreIdle, IsUp, StandsAt, Goes, Done, Stops, Turns, has_break, has_gone}
 use Rattle.bpf_debug.specs.Read.{IsMapText}
-use Rattle.bpf_debug.specs.Session.{Scene, Follows, Obeys, RefusesOrder, Refuses, IsRefused}
-use Rattle.bpf_debug.specs.Script.{Answer, Answers, RunsScript}
+use Rattle.bpf_debug.specs.Session.{Scene, CarriesOut, Obeys, RefusesOrder, RefusesFields, IsLineRefused}
+use Rattle.bpf_debug.specs.Script.{Answer, AnswersLine, RunsScript}
 use Rattle.bpf_debug.specs.Laws.{HadMemory, ScriptsAreDetermined}
 use Rattle.bpf_debug.proofs.GoLaws.{free_has_no_work}
 use Rattle.bpf_debug.proofs.OneText.{one_place, one_where, one_registers, one_memory, one_name, one_map}
@@ -51,7 +51,7 @@ one_up jobs cpus «from» c d a b = elim (cases_order c d) [
 no_cpu : (c cpus : ℕ) → c < cpus → nat_lt c cpus ≡ false → ⊥
 no_cpu c cpus less out = let both : true ≡ false = sym (lt-ltb c cpus less) ∙ out in cc
 
-cpu_refused : (x y : Scene) (order : Order) (text turns : List ℕ) → Follows x order text turns y → RefusesOrder x.world.store.shape.cpus x.world.programs x.names order error.NoCpu → ⊥
+cpu_refused : (x y : Scene) (order : Order) (text turns : List ℕ) → CarriesOut x order text turns y → RefusesOrder x.world.store.shape.cpus x.world.programs x.names order error.NoCpu → ⊥
 cpu_refused x y (Break (Some c) (Some p)) text turns f r = no_cpu c x.world.store.shape.cpus f.0 r
 cpu_refused x y (Break (Some c) None) text turns f r = absurd f
 cpu_refused x y (Break None p) text turns f r = absurd f
@@ -66,7 +66,7 @@ cpu_refused x y (Memory (Some c) at n) text turns f r = no_cpu c x.world.store.s
 cpu_refused x y (Memory None at n) text turns f r = absurd f
 cpu_refused x y (Map name) text turns f r = r
 
-pc_refused : (x y : Scene) (order : Order) (text turns : List ℕ) → Follows x order text turns y → RefusesOrder x.world.store.shape.cpus x.world.programs x.names order error.NoPc → ⊥
+pc_refused : (x y : Scene) (order : Order) (text turns : List ℕ) → CarriesOut x order text turns y → RefusesOrder x.world.store.shape.cpus x.world.programs x.names order error.NoPc → ⊥
 pc_refused x y (Break (Some c) (Some p)) text turns f r = r.1 f.1.0
 pc_refused x y (Break (Some c) None) text turns f r = absurd f
 pc_refused x y (Break None p) text turns f r = absurd f
@@ -77,7 +77,7 @@ pc_refused x y (Where c) text turns f r = absurd r
 pc_refused x y (Memory c at n) text turns f r = absurd r
 pc_refused x y (Map name) text turns f r = absurd r
 
-map_refused : (x y : Scene) (order : Order) (text turns : List ℕ) → Follows x order text turns y → RefusesOrder x.world.store.shape.cpus x.world.programs x.names order error.NoMap → ⊥
+map_refused : (x y : Scene) (order : Order) (text turns : List ℕ) → CarriesOut x order text turns y → RefusesOrder x.world.store.shape.cpus x.world.programs x.names order error.NoMap → ⊥
 map_refused x y (Map name) text turns f r = r f.0 f.1.0
 map_refused x y (Break c p) text turns f r = absurd r
 map_refused x y (Step c) text turns f r = absurd r
@@ -89,7 +89,7 @@ map_refused x y (Memory c at n) text turns f r = absurd r
 same_order : (fields : List (List ℕ)) (a b : Order) → order_of fields ≡ Some a → order_of fields ≡ Some b → a ≡ b
 same_order fields a b e f = let both : Some a ≡ Some b = sym e ∙ f in cc
 
-line_refused : (x y : Scene) (fields : List (List ℕ)) (text turns : List ℕ) (e : DebugError) → Obeys x fields text turns y → e ≢ error.OutOfMemory → IsRefused x fields e → ⊥
+line_refused : (x y : Scene) (fields : List (List ℕ)) (text turns : List ℕ) (e : DebugError) → Obeys x fields text turns y → e ≢ error.OutOfMemory → IsLineRefused x fields e → ⊥
 line_refused x y [] text turns error.BadCommand o memory r = r.0 refl
 line_refused x y [] text turns error.OutOfMemory o memory r = memory refl
 line_refused x y [] text turns error.NoCpu o memory r = let both : None ≡ Some r.0 = r.1 in cc
@@ -98,13 +98,13 @@ line_refused x y [] text turns error.NoMap o memory r = let both : None ≡ Some
 line_refused x y (f ∷ fs) text turns error.BadCommand o memory r = let both : Some o.0 ≡ None = sym o.1 ∙ r.1 in cc
 line_refused x y (f ∷ fs) text turns error.OutOfMemory o memory r = memory refl
 line_refused x y (f ∷ fs) text turns error.NoCpu o memory r =
-    let P : Order → Type 0 = λ order. Follows x order text turns y in
+    let P : Order → Type 0 = λ order. CarriesOut x order text turns y in
     cpu_refused x y r.0 text turns (subst P (same_order (f ∷ fs) o.0 r.0 o.1 r.1) o.2) r.2
 line_refused x y (f ∷ fs) text turns error.NoPc o memory r =
-    let P : Order → Type 0 = λ order. Follows x order text turns y in
+    let P : Order → Type 0 = λ order. CarriesOut x order text turns y in
     pc_refused x y r.0 text turns (subst P (same_order (f ∷ fs) o.0 r.0 o.1 r.1) o.2) r.2
 line_refused x y (f ∷ fs) text turns error.NoMap o memory r =
-    let P : Order → Type 0 = λ order. Follows x order text turns y in
+    let P : Order → Type 0 = λ order. CarriesOut x order text turns y in
     map_refused x y r.0 text turns (subst P (same_order (f ∷ fs) o.0 r.0 o.1 r.1) o.2) r.2
 
 -- a line is refused for one reason
@@ -138,7 +138,7 @@ module _ (cpus : ℕ) (programs : List Loaded) (names : List (List ℕ)) where
 
   module _ (fields : List (List ℕ)) where
     abbrev Why : DebugError → Type 0
-    Why e = Refuses cpus programs names fields e
+    Why e = RefusesFields cpus programs names fields e
 
     both_cpu_pc : Why error.NoCpu → Why error.NoPc → ⊥
     both_cpu_pc a b = cpu_or_pc b.0 (subst (λ (o : Order). RefusesOrder cpus programs names o error.NoCpu) (same_order fields a.0 b.0 a.1 b.1) a.2) b.2
@@ -230,7 +230,7 @@ module _ (law : WritesAreDetermined) (begins : OneInstructionBegins) (replies : 
   asked x y z text other turns others world same a b =
       record { texts = same; scenes = a.1 ∙ sym b.1; world = subst (λ (s : Scene). IsWorld s.world) (sym a.1) world }
 
-  one_follow : (x y z : Scene) (order : Order) (text other turns others : List ℕ) → IsWorld x.world → Follows x order text turns y → Follows x order other others z → OneEnd text other y z
+  one_follow : (x y z : Scene) (order : Order) (text other turns others : List ℕ) → IsWorld x.world → CarriesOut x order text turns y → CarriesOut x order other others z → OneEnd text other y z
   one_follow x y z (Break (Some c) (Some p)) text other turns others world a b = record {
     texts = a.1.1 ∙ sym b.1.1;
     scenes = a.1.3 ∙ sym b.1.3;
@@ -269,7 +269,7 @@ module _ (law : WritesAreDetermined) (begins : OneInstructionBegins) (replies : 
   one_line : (x y z : Scene) (fields : List (List ℕ)) (text other turns others : List ℕ) → IsWorld x.world → Obeys x fields text turns y → Obeys x fields other others z → OneEnd text other y z
   one_line x y z [] text other turns others world a b = asked x y z text other turns others world (a.0 ∙ sym b.0) a.1 b.1
   one_line x y z (f ∷ fs) text other turns others world a b =
-      let P : Order → Type 0 = λ order. Follows x order other others z in
+      let P : Order → Type 0 = λ order. CarriesOut x order other others z in
       one_follow x y z a.0 text other turns others world a.2 (subst P (same_order (f ∷ fs) b.0 a.0 b.1 a.1) b.2)
 
   -- ---- a script
@@ -278,7 +278,7 @@ module _ (law : WritesAreDetermined) (begins : OneInstructionBegins) (replies : 
     scenes : y ≡ z
     world : IsWorld y.world
 
-  one_answer : (x y z : Scene) (line : List ℕ) (answer other : Answer) → IsWorld x.world → Answers x line answer y → Answers x line other z
+  one_answer : (x y z : Scene) (line : List ℕ) (answer other : Answer) → IsWorld x.world → AnswersLine x line answer y → AnswersLine x line other z
       → answer ≢ Err error.OutOfMemory → other ≢ Err error.OutOfMemory → OneAnswer answer other y z
   one_answer x y z line (Ok text) (Ok other) world a b n m =
       let one = one_line x y z (fields_of line) text other a.0 b.0 world a.1 b.1 in

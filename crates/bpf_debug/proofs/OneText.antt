@@ -14,7 +14,7 @@ use Rattle.bpf_cpu.proofs.Machines.DeterminedTurns.{IsWorld}
 use Rattle.bpf_cpu.specs.Schedule.{World}
 use Rattle.bpf_debug.specs.Answer.{IsWhere, IsOff, IsRegisters, in_hand_line, waiting_line, register_lines}
 use Rattle.bpf_debug.specs.Go.{StandsAt}
-use Rattle.bpf_debug.specs.Read.{MayRead, MayNotRead, AreRead, IsUnreadable, ShowsBytes, IsMemory, IsNamed, IsMapText, pair_lines}
+use Rattle.bpf_debug.specs.Read.{MayRead, MayNotRead, AreBytesAt, IsUnreadable, ShowsBytes, IsMemoryText, IsNamed, IsMapText, pair_lines}
 
 -- ---- where a CPU stands
 
@@ -50,11 +50,11 @@ not_both s state a b (inl own) none = let both : Some b ≡ None = sym own ∙ n
 not_both s state a b (inr held) (own, inl out) = let both : true ≡ false = sym held.1 ∙ out in cc
 not_both s state a b (inr held) (own, inr none) = none b held.2.0
 
-unreadable_not : (s : Plain) (state : Cpu) (a n : ℕ) (bytes : List ℕ) → AreRead s state a n bytes → IsUnreadable s state a n → ⊥
+unreadable_not : (s : Plain) (state : Cpu) (a n : ℕ) (bytes : List ℕ) → AreBytesAt s state a n bytes → IsUnreadable s state a n → ⊥
 unreadable_not s state a n bytes are (inl past) = absurd (omega (arith, are.within))
 unreadable_not s state a n bytes are (inr none) = not_both s state (a + none.0) (slice_index bytes none.0) (are.each none.0 none.1) none.2
 
-one_bytes : (s : Plain) (state : Cpu) (a n : ℕ) (bytes others : List ℕ) → AreRead s state a n bytes → AreRead s state a n others → bytes ≡ others
+one_bytes : (s : Plain) (state : Cpu) (a n : ℕ) (bytes others : List ℕ) → AreBytesAt s state a n bytes → AreBytesAt s state a n others → bytes ≡ others
 one_bytes s state a n bytes others x y =
     ext_get_or 0 bytes others (x.count ∙ sym y.count) (λ k inside.
     one_read s state (a + k) (get_or bytes k 0) (get_or others k 0) (x.each k (omega (arith, x.count))) (y.each k (omega (arith, x.count))))
@@ -107,7 +107,7 @@ module _ (w : World) (world : IsWorld w) where
   one_registers c text other (inr a) (inl b) = absurd (off_free w.jobs c text a b.0 b.1 b.2 b.3 b.4)
   one_registers c text other (inr a) (inr b) = one_off w.jobs c text other a b
 
-  pub one_memory : (c : ℕ) (at : Option ℕ) (n : ℕ) (text other : List ℕ) → IsMemory w.store w.jobs c at n text → IsMemory w.store w.jobs c at n other → text ≡ other
+  pub one_memory : (c : ℕ) (at : Option ℕ) (n : ℕ) (text other : List ℕ) → IsMemoryText w.store w.jobs c at n text → IsMemoryText w.store w.jobs c at n other → text ≡ other
   one_memory c at n text other (inl a) (inl b) =
       let one = one_hand c a.0 b.0 a.1 b.1 a.2 b.2 a.3 b.3 a.4 b.4 in
       let P : Cpu → Type 0 = λ s. ShowsBytes w.store s at n other in

@@ -1,10 +1,10 @@
 -- Questions make no turn, and change nothing.
 use Rattle.std.proofs.Common.{◌≡◌, ℕ, List, [], Option, Some, None, ap}
 use Rattle.bpf_debug.specs.Command.{Order, Break, Step, Go, Registers, Where, Memory, Map}
-use Rattle.bpf_debug.specs.Session.{Scene, Follows}
+use Rattle.bpf_debug.specs.Session.{Scene, CarriesOut}
 use Rattle.bpf_debug.specs.Laws.{IsQuestion, QuestionsChangeNothing}
 
-asks : (x y : Scene) (order : Order) (text turns : List ℕ) → IsQuestion order → Follows x order text turns y → (turns ≡ []) × (y ≡ x)
+asks : (x y : Scene) (order : Order) (text turns : List ℕ) → IsQuestion order → CarriesOut x order text turns y → (turns ≡ []) × (y ≡ x)
 asks x y (Registers (Some c)) text turns q f = f.2
 asks x y (Registers None) text turns q f = absurd f
 asks x y (Where (Some c)) text turns q f = f.2
@@ -16,7 +16,7 @@ asks x y (Break c p) text turns q f = absurd q
 asks x y (Step c) text turns q f = absurd q
 asks x y Go text turns q f = absurd q
 
-breaks : (x y : Scene) (c p : Option ℕ) (text turns : List ℕ) → Follows x (Break c p) text turns y → (turns ≡ []) × (y.world ≡ x.world)
+breaks : (x y : Scene) (c p : Option ℕ) (text turns : List ℕ) → CarriesOut x (Break c p) text turns y → (turns ≡ []) × (y.world ≡ x.world)
 breaks x y (Some c) (Some p) text turns f = (f.1.2, ap (λ (z : Scene). z.world) f.1.3)
 breaks x y (Some c) None text turns f = absurd f
 breaks x y None p text turns f = absurd f

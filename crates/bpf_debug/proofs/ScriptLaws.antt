@@ -6,11 +6,11 @@ use Rattle.std.proofs.lemmas.List.{map-append}
 use Rattle.bpf_text.specs.Lines.{fields_of}
 use Rattle.bpf_debug.specs.declared.error.DebugError.{DebugError}
 use Rattle.bpf_debug.specs.Session.{SessionState, Scene, IsShown, LeavesLine, RefusesLine}
-use Rattle.bpf_debug.specs.Script.{Answer, Answers, RunsScript, answer_of}
+use Rattle.bpf_debug.specs.Script.{Answer, AnswersLine, RunsScript, answer_of}
 
 -- ---- one line
 abbrev pub OneLine : SessionState → SessionState → List ℕ → Answer → Type 0
-OneLine old new line answer = (x : Scene) → IsShown old x → (y : Scene) × Answers x line answer y × IsShown new y
+OneLine old new line answer = (x : Scene) → IsShown old x → (y : Scene) × AnswersLine x line answer y × IsShown new y
 
 pub line_done : (old new : SessionState) (line text : List ℕ) → LeavesLine old (fields_of line) text new → OneLine old new line (Ok text)
 line_done old new line text leaves x shown = let l = leaves x shown in (l.0, (l.1, l.2), l.4)

@@ -17,9 +17,9 @@ use Rattle.bpf_debug.specs.Command.{Order, Break, Step, Go, Registers, Where, Me
 use Rattle.bpf_debug.specs.declared.error.DebugError.{DebugError}
 use Rattle.bpf_debug.specs.declared.error.DebugError.TheVariants as error
 use Rattle.bpf_debug.specs.Answer.{IsWhere, IsRegisters, IsOff, ended_text, break_line}
-use Rattle.bpf_debug.specs.Read.{IsMemory, IsNamed, TellsBytes, TellsMap}
+use Rattle.bpf_debug.specs.Read.{IsMemoryText, IsNamed, TellsBytes, TellsMap}
 use Rattle.bpf_debug.specs.Go.{Goes, has_break}
-use Rattle.bpf_debug.specs.Session.{SessionState, Scene, IsShown, IsPc, with_break, Follows, Obeys, Leaves, LeavesLine, RefusesOrder, RefusesHere, RefusesLine}
+use Rattle.bpf_debug.specs.Session.{SessionState, Scene, IsShown, IsPc, with_break, CarriesOut, Obeys, Leaves, LeavesLine, RefusesOrder, RefusesHere, RefusesLine}
 use Rattle.bpf_debug.proofs.GoLaws.{goes_runs}
 
 -- ---- room
@@ -112,14 +112,14 @@ pub told_bytes : (s : SessionState) (c : ℕ) (at : Option ℕ) (n : ℕ) (last 
     → IsState s.machine.jobs c state → TellsBytes s.machine.store state at n last → Leaves s (Memory (Some c) at n) last s
 told_bytes s c at n last state has hand tells x shown =
     let shows = tells x.world.store shown.world.sound shown.world.store in
-    let J : List Task → Type 0 = λ jobs. IsMemory x.world.store jobs c at n last in
+    let J : List Task → Type 0 = λ jobs. IsMemoryText x.world.store jobs c at n last in
     (x, [], (is_cpu s.machine x.world c has shown.world, subst J (sym shown.world.jobs) (inl (hand.0, hand.1, state, hand.2, hand.3, shows)), (refl, refl)), shown)
 
 pub told_off : (s : SessionState) (c : ℕ) (at : Option ℕ) (n : ℕ) (room last : List ℕ) → has_cpu s.machine.store c ≡ true → room ≡ []
     → ((text : List ℕ) × IsOff s.machine.jobs c text × (last ≡ room ++ text)) → Leaves s (Memory (Some c) at n) last s
 told_off s c at n room last has empty place x shown =
-    let J : List Task → Type 0 = λ jobs. IsMemory x.world.store jobs c at n last in
-    let T : List ℕ → Type 0 = λ text. IsMemory x.world.store s.machine.jobs c at n text in
+    let J : List Task → Type 0 = λ jobs. IsMemoryText x.world.store jobs c at n last in
+    let T : List ℕ → Type 0 = λ text. IsMemoryText x.world.store s.machine.jobs c at n text in
     let same = alone room last place.0 empty place.2 in
     (x, [], (is_cpu s.machine x.world c has shown.world, subst J (sym shown.world.jobs) (subst T (sym same) (inr place.1)), (refl, refl)), shown)
 
@@ -129,7 +129,7 @@ told_map s name m last named tells x shown =
     (x, [], (m, subst N (sym shown.names) named, tells x.world.store shown.world.sound shown.world.store, (refl, refl)), shown)
 
 -- ---- each command's turns are a schedule
-pub follows_runs : (x : Scene) (order : Order) (text turns : List ℕ) (y : Scene) → Follows x order text turns y → RunsSchedule x.world turns y.world
+pub follows_runs : (x : Scene) (order : Order) (text turns : List ℕ) (y : Scene) → CarriesOut x order text turns y → RunsSchedule x.world turns y.world
 follows_runs x (Break (Some c) (Some p)) text turns y f =
     let P : List ℕ → Type 0 = λ cs. RunsSchedule x.world cs y.world in
     subst P (sym f.1.2) (ap (λ (z : Scene). z.world) f.1.3)

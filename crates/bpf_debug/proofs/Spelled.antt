@@ -25,7 +25,7 @@ use Rattle.bpf_cpu.specs.Schedule.{World, Advances, Settles, GoesOn, TakesTurn, 
 use Rattle.bpf_debug.specs.Command.{Step, order_of}
 use Rattle.bpf_debug.specs.Answer.{IsWhere, ended_text, in_hand_line, waiting_line, idle_line}
 use Rattle.bpf_debug.specs.Session.{Scene, IsCpu, Obeys}
-use Rattle.bpf_debug.specs.Script.{Answer, Answers}
+use Rattle.bpf_debug.specs.Script.{Answer, AnswersLine}
 use Rattle.bpf_debug.specs.Laws.{step_line, StepsSpellSchedules, ScriptsMakeTurns}
 use Rattle.bpf_debug.proofs.SessionLaws.{follows_runs}
 
@@ -194,7 +194,7 @@ spelled = one_more 15 (refl, refl) (one_more 14 (refl, refl) (one_more 13 (refl,
 
 -- a turn is what its line does
 step_done : (x : Scene) (c : ℕ) (answer : Turn) (m : World) → c < 16 → IsCpu x c → TakesTurn x.world c answer m
-    → (text : List ℕ) × Answers x (step_line c) (Ok text) (record x { world = m })
+    → (text : List ℕ) × AnswersLine x (step_line c) (Ok text) (record x { world = m })
 step_done x c answer m small has takes =
     let place = stands c m.jobs in
     let text : List ℕ = ended_text c answer ++ place.0 in
@@ -224,7 +224,7 @@ line_runs : (x y : Scene) (fields : List (List ℕ)) (text turns : List ℕ) →
 line_runs x y [] text turns o = subst (λ (cs : List ℕ). RunsSchedule x.world cs y.world) (sym o.1.0) (ap (λ (z : Scene). z.world) o.1.1)
 line_runs x y (f ∷ fs) text turns o = follows_runs x o.0 text turns y o.2
 
-answer_runs : (x y : Scene) (line : List ℕ) (answer : Answer) → Answers x line answer y → (turns : List ℕ) × RunsSchedule x.world turns y.world
+answer_runs : (x y : Scene) (line : List ℕ) (answer : Answer) → AnswersLine x line answer y → (turns : List ℕ) × RunsSchedule x.world turns y.world
 answer_runs x y line (Ok text) a = (a.0, line_runs x y (fields_of line) text a.0 a.1)
 answer_runs x y line (Err e) a = ([], ap (λ (z : Scene). z.world) a.1)
 

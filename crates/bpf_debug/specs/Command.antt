@@ -28,7 +28,7 @@ number_below limit word =
     option_map (λ n. if nat_lt n limit then Some n else None) (written_number word)
 
 abbrev pub cpu_in : List ℕ → Option (Option ℕ)
-cpu_in = number_below 256
+cpu_in = number_below (2 ^ 8)
 
 abbrev pub pc_in : List ℕ → Option (Option ℕ)
 pc_in = number_below (2 ^ 32)
@@ -36,9 +36,13 @@ pc_in = number_below (2 ^ 32)
 abbrev pub address_in : List ℕ → Option (Option ℕ)
 address_in = number_below (2 ^ 64)
 
--- a number of bytes, 1 to 256
+-- how many bytes are shown at once, at most
+abbrev pub most_shown : ℕ
+most_shown = 256
+
+-- a number of bytes, 1 to `most_shown`
 abbrev pub few_of : ℕ → Option ℕ
-few_of n = if nat_le 1 n && nat_le n 256 then Some n else None
+few_of n = if nat_le 1 n && nat_le n most_shown then Some n else None
 
 abbrev pub count_in : List ℕ → Option ℕ
 count_in word = option_and_then few_of (written_number word)
@@ -77,11 +81,11 @@ order_of (w ∷ a ∷ b ∷ c ∷ []) = four_words w a b c
 order_of fields = None
 
 -- ---- what a reader answers
-abbrev pub said_by : Command → Order
-said_by (command.Break c p) = Break c p
-said_by (command.Step c) = Step c
-said_by command.Go = Go
-said_by (command.Registers c) = Registers c
-said_by (command.Where c) = Where c
-said_by (command.Memory c a n) = Memory c a n
-said_by (command.Map name) = Map name.now
+abbrev pub command_order : Command → Order
+command_order (command.Break c p) = Break c p
+command_order (command.Step c) = Step c
+command_order command.Go = Go
+command_order (command.Registers c) = Registers c
+command_order (command.Where c) = Where c
+command_order (command.Memory c a n) = Memory c a n
+command_order (command.Map name) = Map name.now

@@ -6,7 +6,7 @@ use Rattle.bpf_cpu.specs.Laws.{IsFresh}
 use Rattle.bpf_cpu.specs.Schedule.{World, RunsSchedule}
 use Rattle.bpf_debug.specs.declared.error.DebugError.TheVariants as error
 use Rattle.bpf_debug.specs.Command.{Order, Break, Step, Go, Registers, Where, Memory, Map}
-use Rattle.bpf_debug.specs.Session.{Scene, IsCpu, Follows}
+use Rattle.bpf_debug.specs.Session.{Scene, IsCpu, CarriesOut}
 use Rattle.bpf_debug.specs.Script.{Answer, RunsScript}
 
 -- ---- turns
@@ -43,8 +43,8 @@ IsQuestion Go = ⊥
 abbrev pub QuestionsChangeNothing : Type 0
 QuestionsChangeNothing =
     ((x y : Scene) (order : Order) (text turns : List ℕ) → IsQuestion order
-    → Follows x order text turns y → (turns ≡ []) × (y ≡ x))
-    × ((x y : Scene) (c p : Option ℕ) (text turns : List ℕ) → Follows x (Break c p) text turns y
+    → CarriesOut x order text turns y → (turns ≡ []) × (y ≡ x))
+    × ((x y : Scene) (c p : Option ℕ) (text turns : List ℕ) → CarriesOut x (Break c p) text turns y
     → (turns ≡ []) × (y.world ≡ x.world))
 
 -- ---- one list of answers

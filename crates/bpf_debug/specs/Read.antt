@@ -28,7 +28,7 @@ MayNotRead s state a =
     × ((reaches state.held a ≡ false) ⊎ ((b : ℕ) → IsByteAt s a b → ⊥))
 
 -- the bytes from the address on, this many, are these
-pub record AreRead (s : Plain) (state : Cpu) (a n : ℕ) (bytes : List ℕ) : Type 0 where
+pub record AreBytesAt (s : Plain) (state : Cpu) (a n : ℕ) (bytes : List ℕ) : Type 0 where
   pub within : a + n < 2 ^ 64
   pub count : length bytes ≡ n
   pub each : (k : ℕ) → k < n → MayRead s state (a + k) (slice_index bytes k)
@@ -45,12 +45,12 @@ unreadable = codes "unreadable\n"
 abbrev pub ShowsBytes : Plain → Cpu → Option ℕ → ℕ → List ℕ → Type 0
 ShowsBytes s state None n text = text ≡ unreadable
 ShowsBytes s state (Some a) n text =
-    ((bytes : List ℕ) × AreRead s state a n bytes × (text ≡ encode_lower bytes ++ codes "\n"))
+    ((bytes : List ℕ) × AreBytesAt s state a n bytes × (text ≡ encode_lower bytes ++ codes "\n"))
     ⊎ (IsUnreadable s state a n × (text ≡ unreadable))
 
 -- those of a CPU with a job in hand, or where it stands
-abbrev pub IsMemory : Plain → List Task → ℕ → Option ℕ → ℕ → List ℕ → Type 0
-IsMemory s jobs c at n text =
+abbrev pub IsMemoryText : Plain → List Task → ℕ → Option ℕ → ℕ → List ℕ → Type 0
+IsMemoryText s jobs c at n text =
     ((j : ℕ) × (task : Task) × (state : Cpu) × (left : ℕ) × IsAt jobs c j task (InHand state left)
     × ShowsBytes s state at n text)
     ⊎ IsOff jobs c text
@@ -65,7 +65,7 @@ ReadsNoByte p state a = (s : Plain) → IsSoundStore s → StandsFor p s → May
 
 abbrev pub ReadsBytes : Contents → Cpu → ℕ → ℕ → List ℕ → Type 0
 ReadsBytes p state a n bytes =
-    (s : Plain) → IsSoundStore s → StandsFor p s → AreRead s state a n bytes
+    (s : Plain) → IsSoundStore s → StandsFor p s → AreBytesAt s state a n bytes
 
 abbrev pub ReadsNoBytes : Contents → Cpu → ℕ → ℕ → Type 0
 ReadsNoBytes p state a n =

@@ -4,7 +4,7 @@ use Rattle.std.specs.declared.alloc.Global.{Global}
 use Rattle.bpf_text.specs.Lines.{fields_of}
 use Rattle.bpf_debug.specs.declared.error.DebugError.{DebugError}
 use Rattle.bpf_debug.specs.Codes.{refusal_line}
-use Rattle.bpf_debug.specs.Session.{Scene, Obeys, IsRefused}
+use Rattle.bpf_debug.specs.Session.{Scene, Obeys, IsLineRefused}
 
 -- a line's answer: its text, or why the line is refused
 abbrev pub Answer : Type 0
@@ -12,15 +12,15 @@ Answer = Result (List ℕ) DebugError
 
 -- what a line is answered, and what is there after it: what it says is done, or it is refused and
 -- changes nothing
-abbrev pub Answers : Scene → List ℕ → Answer → Scene → Type 0
-Answers x line (Ok text) y = (turns : List ℕ) × Obeys x (fields_of line) text turns y
-Answers x line (Err e) y = IsRefused x (fields_of line) e × (y ≡ x)
+abbrev pub AnswersLine : Scene → List ℕ → Answer → Scene → Type 0
+AnswersLine x line (Ok text) y = (turns : List ℕ) × Obeys x (fields_of line) text turns y
+AnswersLine x line (Err e) y = IsLineRefused x (fields_of line) e × (y ≡ x)
 
 -- an answer for each line, in their order
 abbrev pub RunsScript : Scene → List (List ℕ) → List Answer → Scene → Type 0
 RunsScript x [] [] y = y ≡ x
 RunsScript x (line ∷ lines) (answer ∷ answers) y =
-    (m : Scene) × Answers x line answer m × RunsScript m lines answers y
+    (m : Scene) × AnswersLine x line answer m × RunsScript m lines answers y
 RunsScript x [] (answer ∷ answers) y = ⊥
 RunsScript x (line ∷ lines) [] y = ⊥
 

@@ -12,7 +12,7 @@ use Rattle.bpf_debug.specs.declared.error.DebugError.TheVariants as error
 use Rattle.bpf_debug.specs.Command.{Order, Break, Step, Go, Registers, Where, Memory, Map, order_of}
 use Rattle.bpf_debug.specs.Answer.{IsWhere, IsRegisters, ended_text, break_line}
 use Rattle.bpf_debug.specs.Go.{Goes, has_break}
-use Rattle.bpf_debug.specs.Read.{IsMemory, IsNamed, IsNoName, IsMapText}
+use Rattle.bpf_debug.specs.Read.{IsMemoryText, IsNamed, IsNoName, IsMapText}
 
 -- what callers see of a session: its machine, the names of the maps by their numbers, and the
 -- breakpoints
@@ -50,49 +50,50 @@ SetsBreak x c p text turns y =
     IsPc x.world.programs p × (text ≡ break_line c p) × (turns ≡ [])
     × (y ≡ record x { breaks = with_break x.breaks c p })
 
-abbrev pub Steps : Scene → ℕ → List ℕ → List ℕ → Scene → Type 0
-Steps x c text turns y =
+abbrev pub StepsCpu : Scene → ℕ → List ℕ → List ℕ → Scene → Type 0
+StepsCpu x c text turns y =
     (answer : Turn) × (m : World) × (where_text : List ℕ) × TakesTurn x.world c answer m
     × IsWhere m.jobs c where_text × (text ≡ ended_text c answer ++ where_text)
     × (turns ≡ c ∷ []) × (y ≡ record x { world = m })
 
-abbrev pub GoesOn : Scene → List ℕ → List ℕ → Scene → Type 0
-GoesOn x text turns y =
+abbrev pub RunsOn : Scene → List ℕ → List ℕ → Scene → Type 0
+RunsOn x text turns y =
     (m : World) × Goes x.breaks x.world 0 [] turns text m × (y ≡ record x { world = m })
 
 -- a question changes nothing
-abbrev pub Asks : Scene → List ℕ → Scene → Type 0
-Asks x turns y = (turns ≡ []) × (y ≡ x)
+abbrev pub ChangesNothing : Scene → List ℕ → Scene → Type 0
+ChangesNothing x turns y = (turns ≡ []) × (y ≡ x)
 
 abbrev pub IsCpu : Scene → ℕ → Type 0
 IsCpu x c = c < x.world.store.shape.cpus
 
 -- each order with its text and turns
-abbrev pub Follows : Scene → Order → List ℕ → List ℕ → Scene → Type 0
-Follows x (Break (Some c) (Some p)) text turns y = IsCpu x c × SetsBreak x c p text turns y
-Follows x (Step (Some c)) text turns y = IsCpu x c × Steps x c text turns y
-Follows x Go text turns y = GoesOn x text turns y
-Follows x (Registers (Some c)) text turns y =
-    IsCpu x c × IsRegisters x.world.jobs c text × Asks x turns y
-Follows x (Where (Some c)) text turns y = IsCpu x c × IsWhere x.world.jobs c text × Asks x turns y
-Follows x (Memory (Some c) at n) text turns y =
-    IsCpu x c × IsMemory x.world.store x.world.jobs c at n text × Asks x turns y
-Follows x (Map name) text turns y =
-    (m : ℕ) × IsNamed x.names name m × IsMapText x.world.store m text × Asks x turns y
-Follows x order text turns y = ⊥
+abbrev pub CarriesOut : Scene → Order → List ℕ → List ℕ → Scene → Type 0
+CarriesOut x (Break (Some c) (Some p)) text turns y = IsCpu x c × SetsBreak x c p text turns y
+CarriesOut x (Step (Some c)) text turns y = IsCpu x c × StepsCpu x c text turns y
+CarriesOut x Go text turns y = RunsOn x text turns y
+CarriesOut x (Registers (Some c)) text turns y =
+    IsCpu x c × IsRegisters x.world.jobs c text × ChangesNothing x turns y
+CarriesOut x (Where (Some c)) text turns y =
+    IsCpu x c × IsWhere x.world.jobs c text × ChangesNothing x turns y
+CarriesOut x (Memory (Some c) at n) text turns y =
+    IsCpu x c × IsMemoryText x.world.store x.world.jobs c at n text × ChangesNothing x turns y
+CarriesOut x (Map name) text turns y =
+    (m : ℕ) × IsNamed x.names name m × IsMapText x.world.store m text × ChangesNothing x turns y
+CarriesOut x order text turns y = ⊥
 
 -- a line without a word does and answers nothing
 abbrev pub Obeys : Scene → List (List ℕ) → List ℕ → List ℕ → Scene → Type 0
-Obeys x [] text turns y = (text ≡ []) × Asks x turns y
+Obeys x [] text turns y = (text ≡ []) × ChangesNothing x turns y
 Obeys x (field ∷ fields) text turns y =
-    (order : Order) × (order_of (field ∷ fields) ≡ Some order) × Follows x order text turns y
+    (order : Order) × (order_of (field ∷ fields) ≡ Some order) × CarriesOut x order text turns y
 
 -- ---- what a session does with one
 
 -- from each scene that the session showed, the order is followed, to one that it shows now
 abbrev pub Leaves : SessionState → Order → List ℕ → SessionState → Type 0
 Leaves s order text t =
-    (x : Scene) → IsShown s x → (y : Scene) × (turns : List ℕ) × Follows x order text turns y
+    (x : Scene) → IsShown s x → (y : Scene) × (turns : List ℕ) × CarriesOut x order text turns y
     × IsShown t y
 
 -- the same of a line; the world after it is what its turns, as a schedule, leave
@@ -145,17 +146,17 @@ RefusesHere s order e =
     RefusesOrder (length s.machine.store.runs) s.machine.programs s.names order e
 
 -- why a line is refused; want of memory may stand in place of any answer
-abbrev pub Refuses : ℕ → List Loaded → List (List ℕ) → List (List ℕ) → DebugError → Type 0
-Refuses cpus programs names fields error.BadCommand =
+abbrev pub RefusesFields : ℕ → List Loaded → List (List ℕ) → List (List ℕ) → DebugError → Type 0
+RefusesFields cpus programs names fields error.BadCommand =
     (fields ≡ [] → ⊥) × (order_of fields ≡ None)
-Refuses cpus programs names fields error.OutOfMemory = Unit {0}
-Refuses cpus programs names fields e =
+RefusesFields cpus programs names fields error.OutOfMemory = Unit {0}
+RefusesFields cpus programs names fields e =
     (order : Order) × (order_of fields ≡ Some order) × RefusesOrder cpus programs names order e
 
 -- the same of a scene
-abbrev pub IsRefused : Scene → List (List ℕ) → DebugError → Type 0
-IsRefused x fields e = Refuses x.world.store.shape.cpus x.world.programs x.names fields e
+abbrev pub IsLineRefused : Scene → List (List ℕ) → DebugError → Type 0
+IsLineRefused x fields e = RefusesFields x.world.store.shape.cpus x.world.programs x.names fields e
 
 -- from each scene that the session shows, the line is refused
 abbrev pub RefusesLine : SessionState → List (List ℕ) → DebugError → Type 0
-RefusesLine s fields e = (x : Scene) → IsShown s x → IsRefused x fields e
+RefusesLine s fields e = (x : Scene) → IsShown s x → IsLineRefused x fields e

@@ -2,7 +2,7 @@
 
 ghost use Rattle.std.specs.Prelude.{◌≡◌, map, option_map};
 ghost use Rattle.std.specs.Str.{bytes_eq};
-ghost use Rattle.bpf_debug.specs.Command.{cpu_in, pc_in, address_in, count_in, one_word, two_words, three_words, four_words, order_of, said_by};
+ghost use Rattle.bpf_debug.specs.Command.{cpu_in, pc_in, address_in, count_in, one_word, two_words, three_words, four_words, order_of, command_order};
 
 use bpf_text::words::{self, NumberError};
 
@@ -55,7 +55,7 @@ fn pc_in(word: &[u8]) -> Option<Option<u32>>
 {
     match words::number(word) {
         Ok(number) => {
-            if number < 4_294_967_296 {
+            if number < 1 << 32 {
                 Some(Some(number as u32))
             } else {
                 Some(None)
@@ -77,18 +77,21 @@ fn address_in(word: &[u8]) -> Option<Option<u64>>
     }
 }
 
-/// A number of bytes, 1 to 256.
+/// How many bytes are shown at once, at most.
+const MOST_SHOWN: u64 = 256;
+
+/// A number of bytes, 1 to `MOST_SHOWN`.
 fn count_in(word: &[u8]) -> Option<usize>
     ensures { result ≡ count_in word.now }
 {
     match words::number(word) {
-        Ok(number) if number >= 1 && number <= 256 => Some(number as usize),
+        Ok(number) if number >= 1 && number <= MOST_SHOWN => Some(number as usize),
         _ => None,
     }
 }
 
 fn one_word<'a>(word: &[u8]) -> Option<Command<'a>>
-    ensures { option_map said_by result ≡ one_word word.now }
+    ensures { option_map command_order result ≡ one_word word.now }
 {
     if is(word, "go") {
         Some(Command::Go)
@@ -98,7 +101,7 @@ fn one_word<'a>(word: &[u8]) -> Option<Command<'a>>
 }
 
 fn two_words<'a>(word: &[u8], first: &'a [u8]) -> Option<Command<'a>>
-    ensures { option_map said_by result ≡ two_words word.now first.now }
+    ensures { option_map command_order result ≡ two_words word.now first.now }
 {
     if is(word, "step") {
         let cpu = cpu_in(first)?;
@@ -117,7 +120,7 @@ fn two_words<'a>(word: &[u8], first: &'a [u8]) -> Option<Command<'a>>
 }
 
 fn three_words<'a>(word: &[u8], first: &[u8], second: &[u8]) -> Option<Command<'a>>
-    ensures { option_map said_by result ≡ three_words word.now first.now second.now }
+    ensures { option_map command_order result ≡ three_words word.now first.now second.now }
 {
     if !is(word, "break") {
         return None;
@@ -128,7 +131,7 @@ fn three_words<'a>(word: &[u8], first: &[u8], second: &[u8]) -> Option<Command<'
 }
 
 fn four_words<'a>(word: &[u8], first: &[u8], second: &[u8], third: &[u8]) -> Option<Command<'a>>
-    ensures { option_map said_by result ≡ four_words word.now first.now second.now third.now }
+    ensures { option_map command_order result ≡ four_words word.now first.now second.now third.now }
 {
     if !is(word, "mem") {
         return None;
@@ -141,7 +144,7 @@ fn four_words<'a>(word: &[u8], first: &[u8], second: &[u8], third: &[u8]) -> Opt
 
 /// The command that a line's fields say; `None` where they say none.
 pub fn command_of<'a>(fields: &[&'a [u8]]) -> Option<Command<'a>>
-    ensures { option_map said_by result ≡ order_of (map (λ f. f.now) fields.now) }
+    ensures { option_map command_order result ≡ order_of (map (λ f. f.now) fields.now) }
 {
     match fields {
         [word] => one_word(word),

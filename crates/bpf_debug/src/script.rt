@@ -4,7 +4,7 @@ ghost use Rattle.std.specs.Prelude.{◌≡◌, ◌≤◌, IfOk, length, map, str
 ghost use Rattle.std.specs.Option.{option_copied};
 ghost use Rattle.bpf_text.specs.Lines.{lines_behind, lines_of};
 ghost use Rattle.bpf_debug.specs.Session.{Scene, IsShown};
-ghost use Rattle.bpf_debug.specs.Script.{Answers, RunsScript, answer_of};
+ghost use Rattle.bpf_debug.specs.Script.{AnswersLine, RunsScript, answer_of};
 
 use crate::error::DebugError;
 use crate::session::Session;
@@ -26,7 +26,7 @@ fn fitted(text: String) -> String
 /// What a line is answered, in no more memory than its text needs.
 fn answer(alloc: Global, session: &mut Session, line: &[u8]) -> Answer
     ensures { (x : Scene) → IsShown session.old x
-        → (y : Scene) × Answers x line.now (answer_of result) y × IsShown session.new y }
+        → (y : Scene) × AnswersLine x line.now (answer_of result) y × IsShown session.new y }
 {
     match session.command_bytes(alloc, line) {
         Ok(text) => Ok(fitted(text)),

@@ -7,7 +7,7 @@ ghost use Rattle.bpf_shared.specs.Contents.{has_cpu};
 ghost use Rattle.bpf_cpu.specs.Machine.{Shows};
 ghost use Rattle.bpf_cpu.specs.Schedule.{World, TakesTurn};
 ghost use Rattle.bpf_debug.specs.Answer.{IsWhere, ended_text};
-ghost use Rattle.bpf_debug.specs.Command.{Order, said_by};
+ghost use Rattle.bpf_debug.specs.Command.{Order, command_order};
 ghost use Rattle.bpf_debug.specs.Session.{IsPc};
 
 use crate::breakpoint::{Breakpoint, has_break};
@@ -353,8 +353,8 @@ impl Session {
 
     fn follow<'a>(&mut self, alloc: Global, command: Command<'a>) -> Result<String, DebugError>
         ensures answered { IfOk result
-            (λ text. Leaves self.old (said_by command.entry) (string_bytes text) self.new) }
-        ensures refused { IfErr result (λ e. RefusesHere self.old (said_by command.entry) e) }
+            (λ text. Leaves self.old (command_order command.entry) (string_bytes text) self.new) }
+        ensures refused { IfErr result (λ e. RefusesHere self.old (command_order command.entry) e) }
         ensures unchanged { OnErr result (self.new ≡ self.old) }
     {
         match command {

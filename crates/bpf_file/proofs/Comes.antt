@@ -3,8 +3,7 @@ use Rattle.std.proofs.Common.{◌≡◌, ℕ, zero, suc, ◌*◌, ◌-◌, ◌^�
 use Rattle.std.specs.Prelude.{slice_get}
 use Rattle.std.proofs.lemmas.Bool.Decides.{nat_tests}
 use Rattle.std.proofs.lemmas.Slice.Eq.{bytes_eq-Decides}
-use Rattle.bpf_text.specs.Words.{is_name}
-use Rattle.bpf_file.specs.declared.error.Reason.{Reason}
+use Rattle.bpf_mem.specs.Limits.{max_context}
 use Rattle.bpf_file.specs.declared.error.Reason.TheVariants as reason
 use Rattle.bpf_file.specs.declared.form.Part.{Part as Piece}
 use Rattle.bpf_file.specs.declared.form.Part.TheVariants.{Word, Context}
@@ -14,7 +13,7 @@ use Rattle.bpf_file.specs.declared.line.LineError.{LineError}
 use Rattle.bpf_file.specs.declared.line.LineError.TheVariants as line
 use Rattle.bpf_file.specs.Key.{key_text, is_key}
 use Rattle.bpf_file.specs.Form.{is_part, has_form, field_at, version_form, cpus_form, seed_form, map_form, masked_map_form, program_form, words_form, job_form, budget_form, context_form}
-use Rattle.bpf_file.specs.Statement.{Said, Version, Cpus, Seed, Map, Program, Words, Job, most_count, most_steps, count_at, with_number, cpus_said, seed_said, map_said, masked_said, job_said, budgeted_said, work_of, statement_of}
+use Rattle.bpf_file.specs.Statement.{Said, Version, Cpus, Seed, Map, Program, Words, Job, most_count, most_steps, count_at, with_number, map_said, work_of, statement_of}
 use Rattle.bpf_file.specs.Parts.{Part, group_of, is_in_order, is_full}
 use Rattle.bpf_file.specs.Rows.{first_said, later_said, may_stand, placed}
 use Rattle.bpf_file.proofs.Names.{and_both}
@@ -32,7 +31,7 @@ said_group (Job cpu name steps context) = 6
 
 -- no more digits than a context may have
 abbrev pub IsShort : Option (List ℕ) → Type 0
-IsShort (Some digits) = length digits ≤ 2 * 4096
+IsShort (Some digits) = length digits ≤ 2 * max_context
 IsShort None = Unit {0}
 
 abbrev pub IsShortSaid : Said → Type 0
@@ -85,7 +84,7 @@ maps_tell f fields mask e =
     numbered f (count_at fields 7 most_count) _ (λ max.
     numbered f (count_at fields 9 most_count) _ (λ spare. (e, tt)))))
 
-short_at : (ps : List Piece) (fs : List (List ℕ)) (i : ℕ) → has_form ps fs ≡ true → slice_get ps i ≡ Some Context → length (field_at fs i) ≤ 2 * 4096
+short_at : (ps : List Piece) (fs : List (List ℕ)) (i : ℕ) → has_form ps fs ≡ true → slice_get ps i ≡ Some Context → length (field_at fs i) ≤ 2 * max_context
 short_at ps fs i e h = let d = part_at ps fs i Context e h in grind (arith, nat_tests)
 
 jobs_tell : (f : List ℕ) (fs : List (List ℕ)) → TellsAll f (work_of (f ∷ fs))

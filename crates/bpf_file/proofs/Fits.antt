@@ -27,9 +27,9 @@ use Rattle.bpf_file.specs.Form.{is_there}
 use Rattle.bpf_file.specs.Statement.{Said, Version, Cpus, Seed, Map, Program, Words, Job, statement_of}
 use Rattle.bpf_file.specs.File.{File}
 use Rattle.bpf_file.specs.Parts.{Part, State, Between, Within, nothing, place_of, with_first, with_cpus, with_seed, with_map, with_program, with_job}
-use Rattle.bpf_file.specs.Programs.{Loads, OfBytes, OfDigits, OfAssembly, behind, text_of}
-use Rattle.bpf_file.specs.Rows.{unless, cpus_refusal, map_refusal, if_new, program_added, WordsAdd, served, steps_of, context_of, job_added, placed, Adds}
-use Rattle.bpf_file.specs.Reading.{Says, FieldsSay, is_end, Belongs, Reads, finished, AreRead}
+use Rattle.bpf_file.specs.Programs.{LoadsProgram, OfBytes, OfAssembly, refusal_behind, text_of_lines}
+use Rattle.bpf_file.specs.Rows.{unless, cpus_refusal, map_refusal, program_added, WordsAdd, served, steps_of, context_of, job_added, placed, AddsLine}
+use Rattle.bpf_file.specs.Reading.{AddsOrRefuses, FieldsSay, is_end, Belongs, ReadsLine, finished, AreRead}
 use Rattle.bpf_file.specs.Runnable.{IsJobFor, CanRun}
 use Rattle.bpf_file.specs.Laws.{FilesCanRun}
 use Rattle.bpf_file.specs.Private.Drafts.{Ends}
@@ -69,14 +69,14 @@ abbrev ForMaps : ℕ → Result Loaded FileError → Type 0
 ForMaps maps (Ok program) = program.maps ≡ maps
 ForMaps maps (Err e) = Unit {0}
 
-loads_for : (line maps : ℕ) (is : List Insn) (o : Result Loaded FileError) → Loads line maps is o → ForMaps maps o
+loads_for : (line maps : ℕ) (is : List Insn) (o : Result Loaded FileError) → LoadsProgram line maps is o → ForMaps maps o
 loads_for line maps is (Ok program) (e, s) = ap (λ q. q.maps) e
 loads_for line maps is (Err e) l = tt
 
 refused_for : (maps : ℕ) (e : FileError) (o : Result Loaded FileError) → o ≡ Err e → ForMaps maps o
 refused_for maps e o h = subst (ForMaps maps) (sym h) tt
 
-insns_for : {E : Type 0} (line maps : ℕ) (why : E → FileError) (is : Result (List Insn) E) (o : Result Loaded FileError) → MatchResult is (λ js. Loads line maps js o) (λ e. o ≡ Err (why e)) → ForMaps maps o
+insns_for : {E : Type 0} (line maps : ℕ) (why : E → FileError) (is : Result (List Insn) E) (o : Result Loaded FileError) → MatchResult is (λ js. LoadsProgram line maps js o) (λ e. o ≡ Err (why e)) → ForMaps maps o
 insns_for line maps why (Ok js) o l = loads_for line maps js o l
 insns_for line maps why (Err e) o h = refused_for maps (why e) o h
 
@@ -88,7 +88,7 @@ digits_for line maps (Ok bytes) o l = bytes_for line maps bytes o l
 digits_for line maps (Err e) o h = refused_for maps (Refused line reason.NotHex) o h
 
 assembly_for : (line maps : ℕ) (text : List ℕ) (o : Result Loaded FileError) → OfAssembly line maps text o → ForMaps maps o
-assembly_for line maps text o (is, a, l) = insns_for line maps (behind line) is o l
+assembly_for line maps text o (is, a, l) = insns_for line maps (refusal_behind line) is o l
 
 served_below : (cpus : ℕ) (o : Option ℕ) (c : ℕ) → served cpus o ≡ Some c → c < cpus
 served_below cpus None c e = cc
@@ -256,7 +256,7 @@ fit_job n p (Some c) (Some k) steps (Err e) hc hk hb f = tt
 fit_job n p (Some c) None steps context hc hk hb f = tt
 fit_job n p None k steps context hc hk hb f = tt
 
-adds_fit : (n : ℕ) (p : Part) (s : Said) (r : Result State FileError) → Adds n p s r → Comes p s → IsFit p → IsFitResult r
+adds_fit : (n : ℕ) (p : Part) (s : Said) (r : Result State FileError) → AddsLine n p s r → Comes p s → IsFit p → IsFitResult r
 adds_fit n p Version r e c f = subst IsFitResult (sym e) (fit_first p f (idle p 1 f c.0 (omega arith)))
 adds_fit n p (Cpus k) r e c f = subst IsFitResult (sym e) (fit_unless n (cpus_refusal k) _ (fit_cpus p k f (idle p 2 f c.0 (omega arith))))
 adds_fit n p (Seed s) r e c f = subst IsFitResult (sym e) (fit_seed p s f (idle p 3 f c.0 (omega arith)))
@@ -271,7 +271,7 @@ adds_fit n p (Job cpu name steps context) r e c f =
     (fit_job n p (served p.file.cpus cpu) (place_of name p.titles) (steps_of steps) (context_of context)
     (served_below p.file.cpus cpu) (place_below name p.titles) (λ bytes h. context_short context bytes c.1 h) f)
 
-says_fit : (n : ℕ) (p : Part) (w : Result Said Reason) (r : Result State FileError) → Says n p w r → ((s : Said) → w ≡ Ok s → Comes p s) → IsFit p → IsFitResult r
+says_fit : (n : ℕ) (p : Part) (w : Result Said Reason) (r : Result State FileError) → AddsOrRefuses n p w r → ((s : Said) → w ≡ Ok s → Comes p s) → IsFit p → IsFitResult r
 says_fit n p (Ok s) r a c f = adds_fit n p s r a (c s refl) f
 says_fit n p (Err why) r e c f = subst IsFitResult (sym e) tt
 
@@ -301,10 +301,10 @@ then_fits (Err e) P Q S f g = g
 
 belongs_fit : (end : Bool) (p : Part) (from : ℕ) (name : List ℕ) (ls : List (List ℕ)) (l : List ℕ) (r : Result State FileError) → Belongs end p from name ls l r → IsFit p → p.file.jobs ≡ [] → IsFitResult r
 belongs_fit true p from name ls l r (o, of, e) f j =
-    subst IsFitResult (sym e) (fit_program p name o (assembly_for from (length p.file.maps) (text_of ls) o of) f j)
+    subst IsFitResult (sym e) (fit_program p name o (assembly_for from (length p.file.maps) (text_of_lines ls) o of) f j)
 belongs_fit false p from name ls l r e f j = subst IsFitResult (sym e) (f, j)
 
-reads_fit : (n : ℕ) (s : State) (l : List ℕ) (r : Result State FileError) → Reads n s l r → IsFitState s → IsFitResult r
+reads_fit : (n : ℕ) (s : State) (l : List ℕ) (r : Result State FileError) → ReadsLine n s l r → IsFitState s → IsFitResult r
 reads_fit n (Between p) l r a f = fields_fit n p (fields_of l) r a f
 reads_fit n (Within p from name ls) l r a (f, j) = belongs_fit (is_end l) p from name ls l r a f j
 

@@ -1,4 +1,5 @@
 pub mod Answering
+pub mod LinesLeft
 pub mod Cutting
 pub mod Sections
 pub mod Names

@@ -1,5 +1,5 @@
 -- A refusal of assembly names a line that the text has.
-use Rattle.std.proofs.Common.{◌≡◌, ℕ, ◌+◌, ◌<◌, ◌≤◌, ◌^◌, ◌==◌, Bool, true, false, List, [], ◌∷◌, length, Option, Some, None, Result, Ok, Err, ◌⊎◌, inl, inr, refl, sym, ap, subst, ◌∙◌, arith}
+use Rattle.std.proofs.Common.{◌≡◌, ℕ, ◌+◌, ◌<◌, ◌≤◌, ◌^◌, ◌==◌, Bool, true, false, List, [], ◌∷◌, length, Option, Some, None, Result, Ok, Err, ◌⊎◌, inl, inr, refl, sym, ap, subst, arith}
 use Rattle.std.proofs.lemmas.List.Splits.{length-slice_split}
 use Rattle.std.proofs.lemmas.List.Sums.{count_by-le-length}
 use Rattle.bpf_insn.specs.declared.instruction.Insn.{Insn}
@@ -10,7 +10,7 @@ use Rattle.bpf_text.specs.declared.reading.LineError.{LineError}
 use Rattle.bpf_text.specs.declared.reading.LineError.TheVariants.{BadLine, BadNumber}
 use Rattle.bpf_text.specs.Line.{Written}
 use Rattle.bpf_text.specs.Lines.{lines_of}
-use Rattle.bpf_text.specs.Assembly.{Source, IsLine, AreLines, Assembles, words_of, is_twice, first_place, targeted, or_far, unless_twice, at_target, named_meaning, body_meaning, meaning_of, then_meaning, program_of}
+use Rattle.bpf_text.specs.Assembly.{Source, AreLines, Assembles, words_of, is_twice, first_place, or_far, unless_twice, at_target, named_meaning, body_meaning, meaning_of, then_meaning, program_of}
 use Rattle.bpf_file.specs.Private.Lines.{line_named}
 
 -- a refusal names this line or one before it

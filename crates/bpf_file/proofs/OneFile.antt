@@ -1,5 +1,5 @@
 -- A text says one file, or has one refusal.
-use Rattle.std.proofs.Common.{◌≡◌, ℕ, ◌+◌, Bool, true, false, List, [], ◌∷◌, length, Option, Some, None, Result, Ok, Err, refl, sym, ap, subst, ◌∙◌}
+use Rattle.std.proofs.Common.{◌≡◌, ℕ, ◌+◌, Bool, true, false, List, [], ◌∷◌, length, Option, Some, None, Result, Ok, Err, sym, ap, subst, ◌∙◌}
 use Rattle.std.specs.Prelude.{MatchResult}
 use Rattle.hex.specs.Hex.{decode_of}
 use Rattle.hex.specs.declared.error.FromHexError.{FromHexError}
@@ -17,15 +17,15 @@ use Rattle.bpf_file.specs.declared.error.Reason.{Reason}
 use Rattle.bpf_file.specs.declared.error.Reason.TheVariants as reason
 use Rattle.bpf_file.specs.File.{File}
 use Rattle.bpf_file.specs.Parts.{Part, State, Between, Within, place_of, nothing}
-use Rattle.bpf_file.specs.Programs.{Loads, Decodes, OfBytes, OfDigits, OfAssembly, behind, text_of}
-use Rattle.bpf_file.specs.Rows.{WordsAdd, Adds, placed, program_added}
+use Rattle.bpf_file.specs.Programs.{LoadsProgram, Decodes, OfBytes, OfAssembly, refusal_behind, text_of_lines}
+use Rattle.bpf_file.specs.Rows.{WordsAdd, AddsLine, placed, program_added}
 use Rattle.bpf_file.specs.Statement.{Said, Version, Cpus, Seed, Map, Program, Words, Job, statement_of}
-use Rattle.bpf_file.specs.Reading.{Says, FieldsSay, is_end, Belongs, Reads, AreRead, IsRunFile}
+use Rattle.bpf_file.specs.Reading.{AddsOrRefuses, FieldsSay, is_end, Belongs, ReadsLine, AreRead}
 use Rattle.bpf_file.specs.Laws.{FilesAreDetermined}
 
 -- ---- programs
 
-one_load : FirstIsDetermined → (line maps : ℕ) (is : List Insn) (r q : Result Loaded FileError) → Loads line maps is r → Loads line maps is q → r ≡ q
+one_load : FirstIsDetermined → (line maps : ℕ) (is : List Insn) (r q : Result Loaded FileError) → LoadsProgram line maps is r → LoadsProgram line maps is q → r ≡ q
 one_load F line maps is (Ok p) (Ok q) (a, s) (b, t) = ap Ok (a ∙ sym b)
 one_load F line maps is (Ok p) (Err e) (a, s) (why, b, first) = absurd (F.1 maps is why s first)
 one_load F line maps is (Err e) (Ok p) (why, b, first) (a, s) = absurd (F.1 maps is why s first)
@@ -33,14 +33,14 @@ one_load F line maps is (Err e) (Err f) (w, a, h) (v, b, g) =
     ap Err (a ∙ ap (λ x. Refused line (reason.Load x)) (F.0 maps is w v h g) ∙ sym b)
 
 -- of instructions, or of another refusal
-one_of : {E : Type 0} → FirstIsDetermined → (line maps : ℕ) (refused : E → FileError) (o : Result (List Insn) E) (r q : Result Loaded FileError) → MatchResult o (λ is. Loads line maps is r) (λ e. r ≡ Err (refused e)) → MatchResult o (λ is. Loads line maps is q) (λ e. q ≡ Err (refused e)) → r ≡ q
+one_of : {E : Type 0} → FirstIsDetermined → (line maps : ℕ) (refused : E → FileError) (o : Result (List Insn) E) (r q : Result Loaded FileError) → MatchResult o (λ is. LoadsProgram line maps is r) (λ e. r ≡ Err (refused e)) → MatchResult o (λ is. LoadsProgram line maps is q) (λ e. q ≡ Err (refused e)) → r ≡ q
 one_of F line maps refused (Ok is) r q h g = one_load F line maps is r q h g
 one_of F line maps refused (Err e) r q h g = h ∙ sym g
 
 one_assembly : TextsAreDetermined → FirstIsDetermined → (line maps : ℕ) (text : List ℕ) (r q : Result Loaded FileError) → OfAssembly line maps text r → OfAssembly line maps text q → r ≡ q
 one_assembly T F line maps text r q (o, a, h) (u, b, g) =
-    let M : Result (List Insn) TextError → Type 0 = λ x. MatchResult x (λ is. Loads line maps is q) (λ e. q ≡ Err (behind line e)) in
-    one_of F line maps (behind line) o r q h (subst M (T text u o b a) g)
+    let M : Result (List Insn) TextError → Type 0 = λ x. MatchResult x (λ is. LoadsProgram line maps is q) (λ e. q ≡ Err (refusal_behind line e)) in
+    one_of F line maps (refusal_behind line) o r q h (subst M (T text u o b a) g)
 
 one_decoding : WordsAreDetermined → RefusalsAreDetermined → (bytes : List ℕ) (o u : Result (List Insn) InsnError) → Decodes bytes o → Decodes bytes u → o ≡ u
 one_decoding W R bytes (Ok is) (Ok js) (s, a) (t, b) = ap Ok (W bytes is js a b)
@@ -50,7 +50,7 @@ one_decoding W R bytes (Err e) (Err f) (a, n) (b, m) = ap Err (R.0 bytes e f n m
 
 one_of_bytes : WordsAreDetermined → RefusalsAreDetermined → FirstIsDetermined → (line maps : ℕ) (bytes : List ℕ) (r q : Result Loaded FileError) → OfBytes line maps bytes r → OfBytes line maps bytes q → r ≡ q
 one_of_bytes W R F line maps bytes r q (o, a, h) (u, b, g) =
-    let M : Result (List Insn) InsnError → Type 0 = λ x. MatchResult x (λ is. Loads line maps is q) (λ e. q ≡ Err (Refused line (reason.Insn e))) in
+    let M : Result (List Insn) InsnError → Type 0 = λ x. MatchResult x (λ is. LoadsProgram line maps is q) (λ e. q ≡ Err (Refused line (reason.Insn e))) in
     one_of F line maps (λ e. Refused line (reason.Insn e)) o r q h (subst M (one_decoding W R bytes u o b a) g)
 
 one_by_digits : WordsAreDetermined → RefusalsAreDetermined → FirstIsDetermined → (line maps : ℕ) (d : Result (List ℕ) FromHexError) (r q : Result Loaded FileError) → MatchResult d (λ bytes. OfBytes line maps bytes r) (λ e. r ≡ Err (Refused line reason.NotHex)) → MatchResult d (λ bytes. OfBytes line maps bytes q) (λ e. q ≡ Err (Refused line reason.NotHex)) → r ≡ q
@@ -64,7 +64,7 @@ one_of_words W R F (Some k) n p name digits r q e f = e ∙ sym f
 one_of_words W R F None n p name digits r q (o, a, e) (u, b, f) =
     e ∙ ap (program_added p name) (one_by_digits W R F n (length p.file.maps) (decode_of digits) o u a b) ∙ sym f
 
-one_row : WordsAreDetermined → RefusalsAreDetermined → FirstIsDetermined → (n : ℕ) (p : Part) (s : Said) (r q : Result State FileError) → Adds n p s r → Adds n p s q → r ≡ q
+one_row : WordsAreDetermined → RefusalsAreDetermined → FirstIsDetermined → (n : ℕ) (p : Part) (s : Said) (r q : Result State FileError) → AddsLine n p s r → AddsLine n p s q → r ≡ q
 one_row W R F n p Version r q e f = e ∙ sym f
 one_row W R F n p (Cpus c) r q e f = e ∙ sym f
 one_row W R F n p (Seed s) r q e f = e ∙ sym f
@@ -73,7 +73,7 @@ one_row W R F n p (Program name) r q e f = e ∙ sym f
 one_row W R F n p (Words name digits) r q a b = one_of_words W R F (place_of name p.titles) n p name digits r q a b
 one_row W R F n p (Job cpu name steps context) r q e f = e ∙ sym f
 
-one_saying : WordsAreDetermined → RefusalsAreDetermined → FirstIsDetermined → (n : ℕ) (p : Part) (w : Result Said Reason) (r q : Result State FileError) → Says n p w r → Says n p w q → r ≡ q
+one_saying : WordsAreDetermined → RefusalsAreDetermined → FirstIsDetermined → (n : ℕ) (p : Part) (w : Result Said Reason) (r q : Result State FileError) → AddsOrRefuses n p w r → AddsOrRefuses n p w q → r ≡ q
 one_saying W R F n p (Ok s) r q a b = one_row W R F n p s r q a b
 one_saying W R F n p (Err why) r q e f = e ∙ sym f
 
@@ -83,10 +83,10 @@ one_of_fields W R F n p (g ∷ gs) r q a b = one_saying W R F n p (placed p g (s
 
 one_belonging : TextsAreDetermined → FirstIsDetermined → (end : Bool) (p : Part) (from : ℕ) (name : List ℕ) (ls : List (List ℕ)) (l : List ℕ) (r q : Result State FileError) → Belongs end p from name ls l r → Belongs end p from name ls l q → r ≡ q
 one_belonging T F true p from name ls l r q (o, a, e) (u, b, f) =
-    e ∙ ap (program_added p name) (one_assembly T F from (length p.file.maps) (text_of ls) o u a b) ∙ sym f
+    e ∙ ap (program_added p name) (one_assembly T F from (length p.file.maps) (text_of_lines ls) o u a b) ∙ sym f
 one_belonging T F false p from name ls l r q e f = e ∙ sym f
 
-one_reading : WordsAreDetermined → RefusalsAreDetermined → FirstIsDetermined → TextsAreDetermined → (n : ℕ) (s : State) (l : List ℕ) (r q : Result State FileError) → Reads n s l r → Reads n s l q → r ≡ q
+one_reading : WordsAreDetermined → RefusalsAreDetermined → FirstIsDetermined → TextsAreDetermined → (n : ℕ) (s : State) (l : List ℕ) (r q : Result State FileError) → ReadsLine n s l r → ReadsLine n s l q → r ≡ q
 one_reading W R F T n (Between p) l r q a b = one_of_fields W R F n p (fields_of l) r q a b
 one_reading W R F T n (Within p from name ls) l r q a b = one_belonging T F (is_end l) p from name ls l r q a b
 

@@ -8,7 +8,7 @@ use Rattle.bpf_cpu.specs.declared.machine.job.Job.{Job}
 use Rattle.bpf_cpu.specs.Task.{Task, waiting}
 use Rattle.bpf_loader.specs.Loaded.{Loaded}
 use Rattle.bpf_file.specs.declared.file.RunFile.{RunFile}
-use Rattle.bpf_file.specs.File.{File, file_of}
+use Rattle.bpf_file.specs.File.{File}
 use Rattle.bpf_file.specs.Runnable.{IsRunnable, IsJobFor, CanRun}
 
 at_job : (jobs : List Job) (k : ℕ) (d : Job) → get_or (map waiting jobs) k (waiting d) ≡ waiting (get_or jobs k d)

@@ -1,5 +1,6 @@
 -- The forms of the lines of a run file: what each field has to be (our own choice).
 use Rattle.std.specs.Prelude.{ℕ, ◌*◌, Bool, true, false, ◌&&◌, nat_le, List, [], ◌∷◌, ◌++◌, length, get_or, Option, Some, None}
+use Rattle.bpf_mem.specs.Limits.{max_context}
 use Rattle.bpf_text.specs.Words.{written_number, is_name}
 use Rattle.bpf_file.specs.declared.form.Part.{Part}
 use Rattle.bpf_file.specs.declared.form.Part.TheVariants.{Word, Name, Number, Context, Words}
@@ -18,7 +19,7 @@ abbrev pub is_part : Part → List ℕ → Bool
 is_part (Word k) field = is_key k field
 is_part Name field = is_name field && nat_le (length field) 32
 is_part Number field = is_number field
-is_part Context field = nat_le (length field) (2 * 4096)
+is_part Context field = nat_le (length field) (2 * max_context)
 is_part Words field = true
 
 -- the fields are those of the form, one by one

@@ -6,6 +6,7 @@ use Rattle.std.specs.Str.{bytes_eq}
 use Rattle.bpf_shared.specs.declared.shapes.MapShape.{MapShape}
 use Rattle.bpf_loader.specs.Loaded.{Loaded}
 use Rattle.bpf_cpu.specs.Task.{Task}
+use Rattle.bpf_file.specs.Limits.{most_programs, most_jobs}
 use Rattle.bpf_file.specs.declared.key.Key.TheVariants as key
 use Rattle.bpf_file.specs.Key.{is_key}
 use Rattle.bpf_file.specs.File.{File}
@@ -52,8 +53,8 @@ is_in_order last group = nat_lt last group || ((last == group) && nat_le 4 group
 -- as many programs or jobs as there may be
 abbrev pub is_full : Part → ℕ → Bool
 is_full p group =
-    ((group == 5) && nat_le 256 (length p.titles))
-    || ((group == 6) && nat_le 4096 (length p.file.jobs))
+    ((group == 5) && nat_le most_programs (length p.titles))
+    || ((group == 6) && nat_le most_jobs (length p.file.jobs))
 
 -- ---- names
 

@@ -17,10 +17,10 @@ use Rattle.bpf_file.specs.declared.error.FileError.TheVariants.{Refused, OutOfMe
 use Rattle.bpf_file.specs.declared.error.Reason.TheVariants as reason
 
 -- the program of these instructions, for so many maps; or its first refusal, at this line
-abbrev pub Loads : ℕ → ℕ → List Insn → Result Loaded FileError → Type 0
-Loads line maps is (Ok program) =
+abbrev pub LoadsProgram : ℕ → ℕ → List Insn → Result Loaded FileError → Type 0
+LoadsProgram line maps is (Ok program) =
     (program ≡ record { instructions = is; maps = maps }) × IsSound maps is
-Loads line maps is (Err e) =
+LoadsProgram line maps is (Err e) =
     (why : LoadError) × (e ≡ Refused line (reason.Load why)) × IsFirstRefusal maps is why
 
 -- ---- as hex digits
@@ -33,7 +33,8 @@ Decodes bytes (Err e) = IsRefused e bytes × (e ≢ insn.OutOfMemory)
 abbrev pub OfBytes : ℕ → ℕ → List ℕ → Result Loaded FileError → Type 0
 OfBytes line maps bytes r =
     (o : Result (List Insn) InsnError) × Decodes bytes o
-    × MatchResult o (λ is. Loads line maps is r) (λ e. r ≡ Err (Refused line (reason.Insn e)))
+    × MatchResult o (λ is. LoadsProgram line maps is r)
+    (λ e. r ≡ Err (Refused line (reason.Insn e)))
 
 -- the program in this line's digits; or its refusal
 abbrev pub OfDigits : ℕ → ℕ → List ℕ → Result Loaded FileError → Type 0
@@ -44,23 +45,23 @@ OfDigits line maps digits r =
 -- ---- as assembly
 
 -- lines, each with its line feed
-abbrev pub text_of : List (List ℕ) → List ℕ
-text_of [] = []
-text_of (l ∷ ls) = l ++ 10 ∷ text_of ls
+abbrev pub text_of_lines : List (List ℕ) → List ℕ
+text_of_lines [] = []
+text_of_lines (l ∷ ls) = l ++ 10 ∷ text_of_lines ls
 
 -- a refusal of assembly that stands behind this line of the file
-abbrev pub behind : ℕ → TextError → FileError
-behind line (text.BadLine n) = Refused (line + n) reason.BadInstruction
-behind line (text.BadNumber n) = Refused (line + n) reason.BadOperand
-behind line (text.UnknownLabel n) = Refused (line + n) reason.UnknownLabel
-behind line (text.TwiceLabel n) = Refused (line + n) reason.TwiceLabel
-behind line (text.FarLabel n) = Refused (line + n) reason.FarLabel
-behind line text.NotHex = Refused line reason.NotHex
-behind line text.OutOfMemory = OutOfMemory
+abbrev pub refusal_behind : ℕ → TextError → FileError
+refusal_behind line (text.BadLine n) = Refused (line + n) reason.BadInstruction
+refusal_behind line (text.BadNumber n) = Refused (line + n) reason.BadOperand
+refusal_behind line (text.UnknownLabel n) = Refused (line + n) reason.UnknownLabel
+refusal_behind line (text.TwiceLabel n) = Refused (line + n) reason.TwiceLabel
+refusal_behind line (text.FarLabel n) = Refused (line + n) reason.FarLabel
+refusal_behind line text.NotHex = Refused line reason.NotHex
+refusal_behind line text.OutOfMemory = OutOfMemory
 
 -- the program in the assembly behind this line; or its refusal: of the first line that has one,
 -- or else of the whole program, at the line of its `prog`
 abbrev pub OfAssembly : ℕ → ℕ → List ℕ → Result Loaded FileError → Type 0
 OfAssembly line maps assembly r =
     (o : Result (List Insn) TextError) × Assembles assembly o
-    × MatchResult o (λ is. Loads line maps is r) (λ e. r ≡ Err (behind line e))
+    × MatchResult o (λ is. LoadsProgram line maps is r) (λ e. r ≡ Err (refusal_behind line e))

@@ -1,7 +1,6 @@
 -- The relation between a text and the run file that it is, line by line (our own choice). A line
 -- that is refused is the first; behind it nothing counts.
-use Rattle.std.specs.Prelude.{◌≡◌, ℕ, ◌+◌, ◌==◌, Bool, true, false, if◌then◌else◌, List, [], ◌∷◌, ◌++◌, length, codes, Result, Ok, Err, MatchResult}
-use Rattle.std.specs.Str.{bytes_eq}
+use Rattle.std.specs.Prelude.{◌≡◌, ℕ, ◌+◌, ◌==◌, Bool, true, false, if◌then◌else◌, List, [], ◌∷◌, ◌++◌, length, Result, Ok, Err, MatchResult}
 use Rattle.bpf_text.specs.Lines.{lines_of, fields_of}
 use Rattle.bpf_loader.specs.Loaded.{Loaded}
 use Rattle.bpf_file.specs.declared.error.FileError.{FileError}
@@ -13,19 +12,19 @@ use Rattle.bpf_file.specs.Key.{is_key}
 use Rattle.bpf_file.specs.Statement.{Said, statement_of}
 use Rattle.bpf_file.specs.File.{File}
 use Rattle.bpf_file.specs.Parts.{Part, State, Between, Within, nothing}
-use Rattle.bpf_file.specs.Programs.{text_of, OfAssembly}
-use Rattle.bpf_file.specs.Rows.{placed, program_added, Adds}
+use Rattle.bpf_file.specs.Programs.{text_of_lines, OfAssembly}
+use Rattle.bpf_file.specs.Rows.{placed, program_added, AddsLine}
 
 -- ---- one line, outside of assembly
 
-abbrev pub Says : ℕ → Part → Result Said Reason → Result State FileError → Type 0
-Says n p (Ok said) r = Adds n p said r
-Says n p (Err why) r = r ≡ Err (Refused n why)
+abbrev pub AddsOrRefuses : ℕ → Part → Result Said Reason → Result State FileError → Type 0
+AddsOrRefuses n p (Ok said) r = AddsLine n p said r
+AddsOrRefuses n p (Err why) r = r ≡ Err (Refused n why)
 
 -- by its fields: a line without any says nothing
 abbrev pub FieldsSay : ℕ → Part → List (List ℕ) → Result State FileError → Type 0
 FieldsSay n p [] r = r ≡ Ok (Between p)
-FieldsSay n p (f ∷ fs) r = Says n p (placed p f (statement_of (f ∷ fs))) r
+FieldsSay n p (f ∷ fs) r = AddsOrRefuses n p (placed p f (statement_of (f ∷ fs))) r
 
 -- ---- one line of a program
 
@@ -42,16 +41,16 @@ is_end line = is_end_alone (fields_of line)
 abbrev pub Belongs : Bool → Part → ℕ → List ℕ → List (List ℕ) → List ℕ → Result State FileError
     → Type 0
 Belongs true p from name lines line r =
-    (o : Result Loaded FileError) × OfAssembly from (length p.file.maps) (text_of lines) o
+    (o : Result Loaded FileError) × OfAssembly from (length p.file.maps) (text_of_lines lines) o
     × (r ≡ program_added p name o)
 Belongs false p from name lines line r = r ≡ Ok (Within p from name (lines ++ line ∷ []))
 
 -- ---- whole files
 
 -- what the n-th line makes of what the lines before it said
-abbrev pub Reads : ℕ → State → List ℕ → Result State FileError → Type 0
-Reads n (Between p) line r = FieldsSay n p (fields_of line) r
-Reads n (Within p from name lines) line r = Belongs (is_end line) p from name lines line r
+abbrev pub ReadsLine : ℕ → State → List ℕ → Result State FileError → Type 0
+ReadsLine n (Between p) line r = FieldsSay n p (fields_of line) r
+ReadsLine n (Within p from name lines) line r = Belongs (is_end line) p from name lines line r
 
 -- what stands behind the last line: a file, where there was a first line and no program is open
 abbrev pub finished : State → Result File FileError
@@ -62,7 +61,7 @@ finished (Within p from name lines) = Err (Refused from reason.NoEnd)
 abbrev pub AreRead : ℕ → State → List (List ℕ) → Result File FileError → Type 0
 AreRead n s [] r = r ≡ finished s
 AreRead n s (l ∷ ls) r =
-    (t : Result State FileError) × Reads n s l t
+    (t : Result State FileError) × ReadsLine n s l t
     × MatchResult t (λ u. AreRead (n + 1) u ls r) (λ e. r ≡ Err e)
 
 -- THE RELATION between a text and the file that it says, or its refusal

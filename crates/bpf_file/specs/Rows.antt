@@ -1,6 +1,6 @@
 -- What one line adds to a run file, a row for each thing that it may say; or why it is refused
 -- (our own choice).
-use Rattle.std.specs.Prelude.{◌≡◌, ℕ, ◌==◌, ◌&&◌, not, nat_le, nat_lt, Bool, true, false, if◌then◌else◌, List, [], ◌∷◌, ◌++◌, length, Option, Some, None, Result, Ok, Err}
+use Rattle.std.specs.Prelude.{◌≡◌, ℕ, ◌==◌, ◌&&◌, not, nat_le, nat_lt, Bool, if◌then◌else◌, List, [], length, Option, Some, None, Result, Ok, Err}
 use Rattle.std.specs.Option.{option_map}
 use Rattle.hex.specs.Hex.{decode_of}
 use Rattle.hex.specs.declared.error.FromHexError.{FromHexError}
@@ -9,7 +9,8 @@ use Rattle.bpf_shared.specs.Refusals.{map_tests, outside}
 use Rattle.bpf_shared.specs.declared.shapes.MapShape.{MapShape}
 use Rattle.bpf_shared.specs.declared.shapes.ShapeError.TheVariants as shape
 use Rattle.bpf_loader.specs.Loaded.{Loaded}
-use Rattle.bpf_cpu.specs.Task.{Task, Waiting}
+use Rattle.bpf_cpu.specs.Task.{Waiting}
+use Rattle.bpf_file.specs.Limits.{usual_steps}
 use Rattle.bpf_file.specs.declared.error.FileError.{FileError}
 use Rattle.bpf_file.specs.declared.error.FileError.TheVariants.{Refused}
 use Rattle.bpf_file.specs.declared.error.Reason.{Reason}
@@ -88,7 +89,7 @@ served cpus None = None
 
 abbrev pub steps_of : Option ℕ → ℕ
 steps_of (Some n) = n
-steps_of None = 1000000
+steps_of None = usual_steps
 
 -- the bytes of a context, none where the line has no digits
 abbrev pub context_of : Option (List ℕ) → Result (List ℕ) FromHexError
@@ -106,13 +107,13 @@ job_added n p None program steps context = Err (Refused n reason.Unknown)
 -- ---- THE ROWS
 
 -- after so much of the file its n-th line says this: then the file goes on so, or is refused
-abbrev pub Adds : ℕ → Part → Said → Result State FileError → Type 0
-Adds n p Version r = r ≡ Ok (Between (with_first p))
-Adds n p (Cpus c) r = r ≡ unless n (cpus_refusal c) (with_cpus p c)
-Adds n p (Seed s) r = r ≡ Ok (Between (with_seed p s))
-Adds n p (Map name h) r = r ≡ unless n (map_refusal p name h) (with_map p name h)
-Adds n p (Program name) r = r ≡ if_new n p name (Ok (Within p n name []))
-Adds n p (Words name digits) r = WordsAdd (place_of name p.titles) n p name digits r
-Adds n p (Job cpu name steps context) r =
+abbrev pub AddsLine : ℕ → Part → Said → Result State FileError → Type 0
+AddsLine n p Version r = r ≡ Ok (Between (with_first p))
+AddsLine n p (Cpus c) r = r ≡ unless n (cpus_refusal c) (with_cpus p c)
+AddsLine n p (Seed s) r = r ≡ Ok (Between (with_seed p s))
+AddsLine n p (Map name h) r = r ≡ unless n (map_refusal p name h) (with_map p name h)
+AddsLine n p (Program name) r = r ≡ if_new n p name (Ok (Within p n name []))
+AddsLine n p (Words name digits) r = WordsAdd (place_of name p.titles) n p name digits r
+AddsLine n p (Job cpu name steps context) r =
     r ≡ job_added n p (served p.file.cpus cpu) (place_of name p.titles) (steps_of steps)
     (context_of context)

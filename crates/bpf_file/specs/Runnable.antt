@@ -1,5 +1,5 @@
 -- What a machine asks of the jobs and programs that it is made of, and has of every run file.
-use Rattle.std.specs.Prelude.{◌≡◌, ℕ, ◌<◌, ◌≤◌, List, All, length, vec_len}
+use Rattle.std.specs.Prelude.{◌≡◌, ℕ, ◌<◌, ◌≤◌, All, length, vec_len}
 use Rattle.bpf_mem.specs.Limits.{max_context}
 use Rattle.bpf_cpu.specs.Task.{Task, Stage, Waiting}
 use Rattle.bpf_file.specs.declared.file.RunFile.{RunFile}

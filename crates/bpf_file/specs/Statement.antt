@@ -40,12 +40,12 @@ abbrev pub count_at : List (List ℕ) → ℕ → ℕ → Result ℕ LineError
 count_at fields at most = limited most (written_number (field_at fields at))
 
 -- a number of any size, where 64 bits hold it
-abbrev pub held : Option ℕ → Option ℕ
-held (Some n) = if nat_lt n (2 ^ 64) then Some n else None
-held None = None
+abbrev pub in_64_bits : Option ℕ → Option ℕ
+in_64_bits (Some n) = if nat_lt n (2 ^ 64) then Some n else None
+in_64_bits None = None
 
 abbrev pub held_at : List (List ℕ) → ℕ → Option ℕ
-held_at fields at = held (written_number (field_at fields at))
+held_at fields at = in_64_bits (written_number (field_at fields at))
 
 abbrev pub with_number : Result ℕ LineError → (ℕ → Result Said LineError) → Result Said LineError
 with_number (Ok n) said = said n

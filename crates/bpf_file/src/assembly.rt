@@ -3,7 +3,7 @@
 ghost use Rattle.std.specs.Prelude.{◌≡◌, IfOk, IsOkUnless, MatchOption};
 ghost use Rattle.bpf_text.specs.Lines.{lines_of};
 ghost use Rattle.bpf_file.specs.Reading.{is_end};
-ghost use Rattle.bpf_file.specs.Private.Cuts.{AreOpen, IsCut};
+ghost use Rattle.bpf_file.specs.Private.Cuts.{AreOpen, IsProgramCut};
 
 use crate::error::FileError;
 use crate::key::Key;
@@ -37,7 +37,7 @@ fn is_end(alloc: Global, line: &[u8]) -> Result<bool, FileError>
 #[tactic(auto, using(crate::proofs::Cutting::seen_start, crate::proofs::Cutting::seen_cut, crate::proofs::Cutting::seen_none))]
 pub fn up_to_end<'a>(alloc: Global, text: &'a [u8]) -> Result<Option<Assembly<'a>>, FileError>
     ensures cut { IfOk result
-        (λ found. MatchOption found (AreOpen (lines_of text.now)) (IsCut text.now)) }
+        (λ found. MatchOption found (AreOpen (lines_of text.now)) (IsProgramCut text.now)) }
     ensures memory { IsOkUnless result FileError.OutOfMemory }
 {
     let mut len: usize = 0;

@@ -13,7 +13,7 @@ ghost use Rattle.bpf_file.specs.declared.statement.Statement.TheVariants as stat
 ghost use Rattle.bpf_file.specs.Private.Answers.{OrMemory};
 ghost use Rattle.bpf_file.specs.Runnable.{IsRunnable};
 ghost use Rattle.bpf_file.specs.Private.Fits.{IsFit};
-ghost use Rattle.bpf_file.specs.Private.Drafts.{part_of, said_in, after, Added, HasContext, Ends, closed, answer_of};
+ghost use Rattle.bpf_file.specs.Private.Drafts.{part_of, said_in, after, Added, HasContext, Ends, closed, file_answer};
 
 use crate::error::{FileError, Reason};
 use crate::file::RunFile;
@@ -32,9 +32,6 @@ const MOST_PROGRAMS: usize = 256;
 const MOST_MAPS: usize = 16;
 
 const MOST_JOBS: usize = 4_096;
-
-/// The most bytes of a context.
-const MOST_CONTEXT: usize = 4_096;
 
 /// How many steps a job makes at most whose line doesn't say it.
 const STEPS: u64 = 1_000_000;
@@ -362,7 +359,7 @@ impl<'a> Draft<'a> {
     /// The whole file, where no line follows.
     pub fn finish(self) -> Result<RunFile, FileError>
         requires { IsFit (part_of self) }
-        ensures read { OrMemory (λ a. finished (Between (part_of self.entry)) ≡ answer_of a)
+        ensures read { OrMemory (λ a. finished (Between (part_of self.entry)) ≡ file_answer a)
             result }
         ensures fits { IfOk result IsRunnable }
     {

@@ -4,6 +4,7 @@ ghost use Rattle.std.specs.Prelude.{◌≡◌, map};
 ghost use Rattle.bpf_file.specs.Form.{is_number, is_part, has_form, field_at};
 
 use crate::key::Key;
+use bpf_mem::context::MAX_CONTEXT;
 use bpf_text::words::{self, NumberError};
 
 /// What a field of a line has to be.
@@ -120,7 +121,7 @@ impl Part {
             Part::Word(key) => key.is(field),
             Part::Name => words::is_name(field) && field.len() <= 32,
             Part::Number => is_number(field),
-            Part::Context => field.len() <= 2 * 4096,
+            Part::Context => field.len() <= 2 * MAX_CONTEXT,
             Part::Words => true,
         }
     }

@@ -1,7 +1,7 @@
 //! Programs of a run file.
 
 ghost use Rattle.std.specs.Prelude.{◌≡◌, ◌+◌, ◌<◌, ◌^◌, length};
-ghost use Rattle.bpf_file.specs.Programs.{Loads, OfBytes, OfDigits, OfAssembly, behind};
+ghost use Rattle.bpf_file.specs.Programs.{LoadsProgram, OfBytes, OfDigits, OfAssembly, refusal_behind};
 ghost use Rattle.bpf_file.specs.Private.Answers.{OrMemory};
 ghost use Rattle.bpf_file.specs.Private.Lines.{line_named};
 
@@ -20,7 +20,7 @@ fn loaded(
     insns: Vec<Insn>,
     maps: &[MapShape],
 ) -> Result<Program, FileError>
-    ensures { OrMemory (Loads line (length maps.now) insns.items) result }
+    ensures { OrMemory (LoadsProgram line (length maps.now) insns.items) result }
 {
     match load(alloc, insns, maps) {
         Ok(program) => Ok(program),
@@ -64,7 +64,7 @@ pub fn of_digits(
 /// A refusal of the assembly behind a line.
 fn behind(line: usize, error: TextError) -> FileError
     requires { line + line_named error < 2 ^ 64 }
-    ensures { result ≡ behind line error }
+    ensures { result ≡ refusal_behind line error }
 {
     match error {
         TextError::BadLine(at) => FileError::Refused(line + at, Reason::BadInstruction),

@@ -8,7 +8,7 @@ ghost use Rattle.bpf_file.specs.Parts.{Between, Within};
 ghost use Rattle.bpf_file.specs.Reading.{IsRunFile};
 ghost use Rattle.bpf_file.specs.Runnable.{IsRunnable};
 ghost use Rattle.bpf_file.specs.Private.Fits.{IsFit, IsFitState};
-ghost use Rattle.bpf_file.specs.Private.Drafts.{part_of, Goes};
+ghost use Rattle.bpf_file.specs.Private.Drafts.{part_of, ReadsOnFrom};
 
 use crate::assembly;
 use crate::draft::{Draft, Next};
@@ -28,7 +28,7 @@ fn read_assembly<'a>(
     behind: Option<&'a [u8]>,
 ) -> Result<(usize, Option<&'a [u8]>), FileError>
     requires room { line + rest_size (option_copied behind) + 2 < 2 ^ 64 }
-    ensures goes { Goes (line + 1) (Within (part_of draft.old) line name.now [])
+    ensures goes { ReadsOnFrom (line + 1) (Within (part_of draft.old) line name.now [])
         (lines_behind (option_copied behind.entry)) (part_of draft.new) result }
     ensures fit { OnOk result (IsFitState (Within (part_of draft.old) line name.now [])
         → IsFit (part_of draft.new)) }
@@ -57,7 +57,7 @@ fn read_line<'a>(
     text: &'a [u8],
 ) -> Result<(usize, Option<&'a [u8]>), FileError>
     requires room { line + length text.now + 2 < 2 ^ 64 }
-    ensures goes { Goes line (Between (part_of draft.old)) (lines_of text.now)
+    ensures goes { ReadsOnFrom line (Between (part_of draft.old)) (lines_of text.now)
         (part_of draft.new) result }
     ensures fit { OnOk result (IsFit (part_of draft.old) → IsFit (part_of draft.new)) }
     ensures falls { IfOk result (λ r. r.0 + rest_size (option_copied r.1)

@@ -7,17 +7,17 @@ use Rattle.bpf_shared.specs.Listing.{Pair, pair_at, pair_of}
 use Rattle.bpf_cpu.specs.declared.outcome.Outcome.{Outcome}
 use Rattle.bpf_cpu.specs.Lines.{job_line}
 use Rattle.bpf_cpu.specs.Task.{Task, ended}
-use Rattle.bpf_jobs.specs.Printed.{end_line, line_at, key_line, key_lines}
+use Rattle.bpf_jobs.specs.Printed.{end_line, task_line, key_line, key_lines}
 
-pub no_cpu : (j : ℕ) (o : Option Task) → option_map (λ task. task.cpu) o ≡ None → line_at j o ≡ []
+pub no_cpu : (j : ℕ) (o : Option Task) → option_map (λ task. task.cpu) o ≡ None → task_line j o ≡ []
 no_cpu j None e = refl
 no_cpu j (Some task) e = cc
 
-pub no_outcome : (j : ℕ) (o : Option Task) → option_and_then (λ task. ended task.stage) o ≡ None → line_at j o ≡ []
+pub no_outcome : (j : ℕ) (o : Option Task) → option_and_then (λ task. ended task.stage) o ≡ None → task_line j o ≡ []
 no_outcome j None e = refl
 no_outcome j (Some task) e = ap (end_line j task) e
 
-pub has_ended : (j : ℕ) (o : Option Task) (cpu : ℕ) (end : Outcome) → option_map (λ task. task.cpu) o ≡ Some cpu → option_and_then (λ task. ended task.stage) o ≡ Some end → line_at j o ≡ job_line j cpu end
+pub has_ended : (j : ℕ) (o : Option Task) (cpu : ℕ) (end : Outcome) → option_map (λ task. task.cpu) o ≡ Some cpu → option_and_then (λ task. ended task.stage) o ≡ Some end → task_line j o ≡ job_line j cpu end
 has_ended j None cpu end c e = cc
 has_ended j (Some task) cpu end c e = let same : task.cpu ≡ cpu = cc in ap (end_line j task) e ∙ ap (λ (n : ℕ). job_line j n end) same
 

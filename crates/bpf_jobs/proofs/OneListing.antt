@@ -4,9 +4,9 @@ use Rattle.std.specs.Prelude.{slice_index_or}
 use Rattle.bpf_shared.specs.Store.{Plain}
 use Rattle.bpf_shared.specs.Listing.{Pair}
 use Rattle.bpf_shared.proofs.OneListing.{one_listing}
-use Rattle.bpf_jobs.specs.Printed.{key_lines, IsMapText}
+use Rattle.bpf_jobs.specs.Printed.{key_lines, AreMapLines}
 
-pub one_map_text : (s : Plain) (names : List (List ℕ)) (n : ℕ) (text other : List ℕ) → IsMapText s names n text → IsMapText s names n other → text ≡ other
+pub one_map_text : (s : Plain) (names : List (List ℕ)) (n : ℕ) (text other : List ℕ) → AreMapLines s names n text → AreMapLines s names n other → text ≡ other
 one_map_text s names zero text other a b = a ∙ sym b
 one_map_text s names (suc m) text other a b =
     let before = one_map_text s names m a.0 b.0 a.2 b.2 in

@@ -8,11 +8,11 @@ use Rattle.bpf_cpu.specs.Rounds.{RunsToEnd}
 use Rattle.bpf_cpu.specs.Task.{Task}
 use Rattle.bpf_cpu.specs.Laws.{RoundsAreDetermined}
 use Rattle.bpf_cpu.specs.Schedule.{World}
-use Rattle.bpf_jobs.specs.Printed.{job_lines, IsAsked, Tells, IsReport}
+use Rattle.bpf_jobs.specs.Printed.{job_lines, AreMapsAsked, Tells, IsReport}
 use Rattle.bpf_jobs.specs.Laws.{ReportsAreDetermined}
 use Rattle.bpf_jobs.proofs.OneListing.{one_map_text}
 
-one_asked : (maps : Bool) (s : Plain) (names : List (List ℕ)) (text other : List ℕ) → IsAsked maps s names text → IsAsked maps s names other → text ≡ other
+one_asked : (maps : Bool) (s : Plain) (names : List (List ℕ)) (text other : List ℕ) → AreMapsAsked maps s names text → AreMapsAsked maps s names other → text ≡ other
 one_asked false s names text other a b = a ∙ sym b
 one_asked true s names text other a b = one_map_text s names (length names) text other a b
 

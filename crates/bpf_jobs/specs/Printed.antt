@@ -18,14 +18,14 @@ end_line j task None = []
 end_line j task (Some end) = job_line j task.cpu end
 
 -- the line of the j-th job, where it has ended
-abbrev pub line_at : ℕ → Option Task → List ℕ
-line_at j None = []
-line_at j (Some task) = end_line j task (ended task.stage)
+abbrev pub task_line : ℕ → Option Task → List ℕ
+task_line j None = []
+task_line j (Some task) = end_line j task (ended task.stage)
 
 -- a line a job, of the first n
 abbrev pub job_lines : ℕ → List Task → List ℕ
 job_lines zero jobs = []
-job_lines (suc n) jobs = job_lines n jobs ++ line_at n (slice_get jobs n)
+job_lines (suc n) jobs = job_lines n jobs ++ task_line n (slice_get jobs n)
 
 -- it ended in a fault or out of budget
 abbrev pub is_stop : Option Outcome → Bool
@@ -53,10 +53,10 @@ key_lines name (suc n) pairs =
     key_lines name n pairs ++ key_line name (pair_at pairs n).0 (pair_at pairs n).1
 
 -- the lines of the first n maps, which have these names: each lists its keys in their bytes' order
-abbrev pub IsMapText : Plain → List (List ℕ) → ℕ → List ℕ → Type 0
-IsMapText s names zero text = text ≡ []
-IsMapText s names (suc m) text = (before : List ℕ) × (pairs : List Pair)
-    × IsMapText s names m before × IsListing s m pairs
+abbrev pub AreMapLines : Plain → List (List ℕ) → ℕ → List ℕ → Type 0
+AreMapLines s names zero text = text ≡ []
+AreMapLines s names (suc m) text = (before : List ℕ) × (pairs : List Pair)
+    × AreMapLines s names m before × IsListing s m pairs
     × (text ≡ before ++ key_lines (slice_index_or names m []) (length pairs) pairs)
 
 -- ---- a run
@@ -64,14 +64,14 @@ IsMapText s names (suc m) text = (before : List ℕ) × (pairs : List Pair)
 abbrev pub first_world : Shape → List Loaded → List Task → World
 first_world h programs jobs = record { store = as_made h; programs = programs; jobs = jobs }
 
-abbrev pub IsAsked : Bool → Plain → List (List ℕ) → List ℕ → Type 0
-IsAsked false s names text = text ≡ []
-IsAsked true s names text = IsMapText s names (length names) text
+abbrev pub AreMapsAsked : Bool → Plain → List (List ℕ) → List ℕ → Type 0
+AreMapsAsked false s names text = text ≡ []
+AreMapsAsked true s names text = AreMapLines s names (length names) text
 
 -- the text has the lines of the jobs, and then, where they are asked for, those of the maps; and
 -- whether some job ended in a fault or out of budget
 abbrev pub Tells : Plain → List Task → List (List ℕ) → Bool → List ℕ → Bool → Type 0
-Tells s jobs names maps text stopped = (lines : List ℕ) × IsAsked maps s names lines
+Tells s jobs names maps text stopped = (lines : List ℕ) × AreMapsAsked maps s names lines
     × (text ≡ job_lines (length jobs) jobs ++ lines) × (stopped ≡ any_stopped (length jobs) jobs)
 
 -- rounds lead to a last machine, of which this is told

@@ -8,7 +8,7 @@ mod listing;
 mod maps;
 mod rounds;
 
-pub use line::{is_stop, push_job};
+pub use line::{OutcomeText, is_stop, push_job};
 pub use listing::has_any_stopped;
 pub use maps::push_map;
 pub use rounds::{Report, make_machine, run_jobs};

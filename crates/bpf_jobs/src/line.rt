@@ -10,7 +10,7 @@ use std::fmt;
 
 /// How an outcome is told.
 #[derive(Drop)]
-struct OutcomeText(Outcome);
+pub struct OutcomeText(pub Outcome);
 
 impl fmt::Display for OutcomeText {
     ghost use Rattle.std.specs.Prelude.{Some};

@@ -2,7 +2,7 @@
 
 ghost use Rattle.std.specs.Prelude.{◌≡◌, ◌++◌, IfOk, OnOk, length, slice_get, string_bytes};
 ghost use Rattle.bpf_cpu.specs.Task.{outcome_at};
-ghost use Rattle.bpf_jobs.specs.Printed.{any_stopped, is_stop, job_lines, line_at};
+ghost use Rattle.bpf_jobs.specs.Printed.{any_stopped, is_stop, job_lines, task_line};
 
 use crate::line::{is_stop, push_job};
 use bpf_cpu::Machine;
@@ -17,7 +17,7 @@ fn push_ended(
     job: usize,
 ) -> Result<(), AllocError>
     ensures { OnOk result (string_bytes text.new
-        ≡ string_bytes text.old ++ line_at job (slice_get machine.now.jobs job)) }
+        ≡ string_bytes text.old ++ task_line job (slice_get machine.now.jobs job)) }
 {
     let Some(cpu) = machine.cpu_of(job) else {
         return Ok(());

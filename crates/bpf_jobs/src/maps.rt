@@ -5,7 +5,7 @@ ghost use Rattle.bpf_shared.specs.Store.{Plain};
 ghost use Rattle.bpf_shared.specs.Sound.{IsSoundStore};
 ghost use Rattle.bpf_shared.specs.Contents.{StandsFor};
 ghost use Rattle.bpf_shared.specs.Shows.{listed};
-ghost use Rattle.bpf_jobs.specs.Printed.{IsMapText, key_lines, key_line};
+ghost use Rattle.bpf_jobs.specs.Printed.{AreMapLines, key_lines, key_line};
 
 use bpf_shared::PlainStore;
 use std::alloc::{AllocError, Global};
@@ -50,7 +50,7 @@ pub(crate) fn list_maps(
     names: &[String],
 ) -> Result<String, AllocError>
     ensures { IfOk result (λ text. (s : Plain) → IsSoundStore s → StandsFor store.now s
-        → IsMapText s (map string_bytes names.now) (length names.now) (string_bytes text)) }
+        → AreMapLines s (map string_bytes names.now) (length names.now) (string_bytes text)) }
 {
     let mut text = String::new(alloc);
     for map in 0..names.len() {

@@ -7,7 +7,7 @@ ghost use Rattle.bpf_shared.specs.Sound.{IsSoundStore};
 ghost use Rattle.bpf_shared.specs.Contents.{StandsFor};
 ghost use Rattle.bpf_cpu.specs.Task.{waiting};
 ghost use Rattle.bpf_cpu.specs.Machine.{Shows};
-ghost use Rattle.bpf_jobs.specs.Printed.{first_world, IsAsked, IsReport, Tells};
+ghost use Rattle.bpf_jobs.specs.Printed.{first_world, AreMapsAsked, IsReport, Tells};
 
 use crate::listing::{has_any_stopped, list_jobs};
 use crate::maps::list_maps;
@@ -56,7 +56,7 @@ fn asked_lines(
     maps: bool,
 ) -> Result<String, AllocError>
     ensures { IfOk result (λ text. (s : Plain) → IsSoundStore s → StandsFor store.now s
-        → IsAsked maps s (map string_bytes names.now) (string_bytes text)) }
+        → AreMapsAsked maps s (map string_bytes names.now) (string_bytes text)) }
 {
     if maps {
         list_maps(alloc, store, names)

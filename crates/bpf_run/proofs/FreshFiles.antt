@@ -12,7 +12,7 @@ use Rattle.bpf_file.specs.File.{File, file_of}
 use Rattle.bpf_file.specs.Reading.{IsRunFile}
 use Rattle.bpf_file.specs.Runnable.{WaitsShort, IsJobFor, CanRun}
 use Rattle.bpf_run.specs.Commands.{IsRunOfFile}
-use Rattle.bpf_run.specs.Script.{first_of}
+use Rattle.bpf_run.specs.Script.{first_world_of}
 use Rattle.bpf_run.specs.declared.reply.Reply.TheVariants as reply
 
 each : (P : Task → Type 0) (tasks : List Task) → All P tasks → (j : ℕ) (task : Task)
@@ -29,7 +29,7 @@ waits task (Waiting context) e h = (context, e, h)
 waits task (InHand state left) e h = absurd h
 waits task (Ended outcome) e h = absurd h
 
-pub fresh : (f : File) → CanRun f → IsFresh (first_of f)
+pub fresh : (f : File) → CanRun f → IsFresh (first_world_of f)
 fresh f can = record {
   store = as_made_sound (record { cpus = f.cpus; maps = f.maps });
   waits = λ j task at.

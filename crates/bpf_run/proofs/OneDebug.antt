@@ -5,7 +5,7 @@ use Rattle.bpf_file.specs.declared.error.FileError.TheVariants as FileError
 use Rattle.bpf_file.specs.declared.error.Reason.{Reason}
 use Rattle.bpf_file.specs.File.{File}
 use Rattle.bpf_file.specs.Laws.{FilesAreDetermined, FilesCanRun}
-use Rattle.bpf_file.specs.Programs.{text_of}
+use Rattle.bpf_file.specs.Programs.{text_of_lines}
 use Rattle.bpf_file.specs.Reading.{IsRunFile}
 use Rattle.bpf_debug.specs.Laws.{HadMemory, ScriptsAreDetermined}
 use Rattle.bpf_debug.specs.Script.{RunsScript, answer_of, answers_text}
@@ -39,7 +39,7 @@ none_there (z ∷ xs) x cs none is = none_there xs x cs none.1 is
 one_cut : (input f g : List ℕ) (cs ds : List (List ℕ)) → IsCut input f cs → IsCut input g ds → (f ≡ g) × (cs ≡ ds)
 one_cut input f g cs ds (inl a) (inl b) =
     let one = one_end a.0 b.0 a.1 b.1 cs ds (sym a.2 ∙ b.2) a.3 a.4 b.3 b.4 in
-    (a.5 ∙ ap text_of one.0 ∙ sym b.5, one.1)
+    (a.5 ∙ ap text_of_lines one.0 ∙ sym b.5, one.1)
 one_cut input f g cs ds (inl a) (inr b) = absurd (none_there a.0 a.1 cs (subst NoneEnds a.2 b.0) a.4)
 one_cut input f g cs ds (inr a) (inl b) = absurd (none_there b.0 b.1 ds (subst NoneEnds b.2 a.0) b.4)
 one_cut input f g cs ds (inr a) (inr b) = (a.1 ∙ sym b.1, a.2 ∙ sym b.2)
@@ -58,10 +58,10 @@ of_debug input (reply.Ended outcome) h n = absurd h
 of_debug input (reply.Text text) h n = absurd h
 of_debug input (reply.Jobs text stopped) h n = absurd h
 
-module _ (files : FilesAreDetermined) (runs : FilesCanRun) (scripts : ScriptsAreDetermined) where
-  abbrev PrintsAs : Reply → Reply → Type 0
-  PrintsAs r s = (reply_text r ≡ reply_text s) × (status_of r ≡ status_of s)
+abbrev pub PrintsAs : Reply → Reply → Type 0
+PrintsAs r s = (reply_text r ≡ reply_text s) × (status_of r ≡ status_of s)
 
+module _ (files : FilesAreDetermined) (runs : FilesCanRun) (scripts : ScriptsAreDetermined) where
   -- a file isn't both read and refused
   not_both : (input file other : List ℕ) (cs ds : List (List ℕ)) (f : File) (line : ℕ) (why : Reason) → IsCut input file cs → IsRunFile file (Ok f) → IsCut input other ds → IsRunFile other (Err (FileError.Refused line why)) → ⊥
   not_both input file other cs ds f line why a said b refused =

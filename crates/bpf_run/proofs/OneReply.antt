@@ -32,10 +32,10 @@ use Rattle.bpf_jobs.specs.Laws.{ReportsAreDetermined}
 use Rattle.bpf_jobs.specs.Printed.{IsReport}
 use Rattle.bpf_debug.specs.Laws.{ScriptsAreDetermined}
 use Rattle.bpf_run.proofs.FreshFiles.{fresh}
-use Rattle.bpf_run.proofs.OneDebug.{one_debug}
+use Rattle.bpf_run.proofs.OneDebug.{PrintsAs, one_debug}
 use Rattle.bpf_run.specs.Answer.{jobs_status, status_of, reply_text}
 use Rattle.bpf_run.specs.Commands.{IsAnswer, IsAssembled, IsDisassembled, IsForOneThread, IsReply, IsRun, IsRunBy, IsRunOfFile, IsWordsOf, RefusesAssembly, RefusesInput, RefusesProgram, RefusesWords, ShowsWords, shown_program}
-use Rattle.bpf_run.specs.Script.{first_of}
+use Rattle.bpf_run.specs.Script.{first_world_of}
 use Rattle.bpf_run.specs.declared.input.TheConstants.{MAX_INPUT}
 use Rattle.bpf_run.specs.Laws.{IsOfInput, IsForAnyInput, HasShortContext, RepliesAreDetermined}
 use Rattle.bpf_text.specs.Lines.{lines_of}
@@ -49,9 +49,6 @@ use Rattle.bpf_run.specs.declared.reply.Reply.{Reply}
 use Rattle.bpf_run.specs.declared.reply.Reply.TheVariants as reply
 
 -- they print the same
-abbrev pub PrintsAs : Reply → Reply → Type 0
-PrintsAs r s = (reply_text r ≡ reply_text s) × (status_of r ≡ status_of s)
-
 prints : (r s : Reply) → r ≡ s → PrintsAs r s
 prints r s e = (ap reply_text e, ap status_of e)
 
@@ -243,8 +240,8 @@ module _ (words : WordsAreDetermined) (encodings : EncodingsAreDetermined) (refu
   one_file maps text r s (Told p x a) (Told q y b) =
       let both : Ok a.0 ≡ Ok b.0 = files text (Ok a.0) (Ok b.0) a.1 b.1 in
       let same : a.0 ≡ b.0 = cc in
-      let P : File → Type 0 = λ f. IsReport (first_of f) f.names maps (string_bytes q) y in
-      let told = reports (first_of a.0) a.0.names maps (string_bytes p) (string_bytes q) x y (fresh a.0 (runs text a.0 a.1)) a.2 (subst P (sym same) b.2) in
+      let P : File → Type 0 = λ f. IsReport (first_world_of f) f.names maps (string_bytes q) y in
+      let told = reports (first_world_of a.0) a.0.names maps (string_bytes p) (string_bytes q) x y (fresh a.0 (runs text a.0 a.1)) a.2 (subst P (sym same) b.2) in
       (told.0, ap jobs_status told.1)
   one_file maps text r s (Told p x a) (NoFile line why b) = let both : Ok a.0 ≡ Err (FileError.Refused line why) = files text (Ok a.0) (Err (FileError.Refused line why)) a.1 b in absurd cc
   one_file maps text r s (NoFile line why b) (Told p x a) = let both : Ok a.0 ≡ Err (FileError.Refused line why) = files text (Ok a.0) (Err (FileError.Refused line why)) a.1 b in absurd cc

@@ -12,7 +12,7 @@ use Rattle.bpf_file.specs.File.{File, file_of}
 use Rattle.bpf_file.specs.Reading.{IsRunFile}
 use Rattle.bpf_debug.specs.Session.{SessionState, Scene, IsShown}
 use Rattle.bpf_debug.specs.Script.{Answer, RunsScript, answer_of}
-use Rattle.bpf_run.specs.Script.{IsCut, IsAnswered, IsScriptOfFile, first_of, scene_of}
+use Rattle.bpf_run.specs.Script.{IsCut, IsDebugReply, IsScriptOfFile, first_world_of, scene_of}
 use Rattle.bpf_run.specs.declared.refusal.Refusal.{Refusal}
 use Rattle.bpf_run.specs.declared.refusal.Refusal.TheVariants as refusal
 use Rattle.bpf_run.specs.declared.reply.Reply.{Reply}
@@ -20,7 +20,7 @@ use Rattle.bpf_run.specs.declared.reply.Reply.TheVariants as reply
 
 -- the reply to a file that was read is one to the input that it was cut off
 pub of_file : (input file : List ℕ) (commands : List (List ℕ)) (f : RunFile) (r : Reply) → IsCut input file commands → IsRunFile file (Ok (file_of f))
-    → IsAnswered f commands r → IsScriptOfFile input r
+    → IsDebugReply f commands r → IsScriptOfFile input r
 of_file input file commands f (reply.Script answers stopped) cut said h = (file, commands, file_of f, h.0, cut, said, h.1, h.2)
 of_file input file commands f (reply.Refused refusal.OutOfMemory) cut said h = tt
 of_file input file commands f (reply.Refused r) cut said h = absurd h
@@ -30,7 +30,7 @@ of_file input file commands f (reply.Jobs text stopped) cut said h = absurd h
 
 -- the session that was made of a file, and what its machine tells in the end
 pub ended : (f : RunFile) (commands : List (List ℕ)) (s t : SessionState) (answers : List Answer) (stopped : Bool)
-    → Shows s.machine (first_of (file_of f)) → s.names ≡ (file_of f).names → s.breaks ≡ []
+    → Shows s.machine (first_world_of (file_of f)) → s.names ≡ (file_of f).names → s.breaks ≡ []
     → ((x : Scene) → IsShown s x → (y : Scene) × RunsScript x commands answers y × IsShown t y)
     → stopped ≡ any_stopped (length t.machine.jobs) t.machine.jobs
     → (y : Scene) × RunsScript (scene_of (file_of f)) commands answers y

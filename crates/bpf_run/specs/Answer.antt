@@ -1,29 +1,22 @@
 -- What is printed of a reply, and the exit status. Our own choice.
 use Rattle.std.specs.Prelude.{◌≡◌, ℕ, ◌++◌, ◌⊎◌, List, Option, Bool, true, false, codes, map, string_bytes, take}
-use Rattle.std.specs.Fmt.{decimal}
 use Rattle.std.specs.Io.KnownBytes.{Appends}
 use Rattle.bpf_explain.specs.Page.{page_text}
 use Rattle.bpf_explain.specs.declared.code.Code.{Code}
 use Rattle.bpf_explain.specs.declared.page.Page.{Page}
 use Rattle.bpf_cpu.specs.declared.outcome.Outcome.{Outcome}
 use Rattle.bpf_cpu.specs.declared.outcome.Outcome.TheVariants as outcome
+use Rattle.bpf_cpu.specs.Lines.{outcome_text}
 use Rattle.bpf_debug.specs.Script.{answer_of, answers_text}
 use Rattle.bpf_run.specs.declared.reply.Reply.{Reply}
 use Rattle.bpf_run.specs.declared.reply.Reply.TheVariants as reply
 use Rattle.bpf_run.specs.declared.reply.Status.{Status}
 use Rattle.bpf_run.specs.declared.reply.Status.TheVariants as status
-use Rattle.bpf_run.specs.Codes.{code, fault_code}
-
--- how a run ended
-abbrev pub outcome_line : Outcome → List ℕ
-outcome_line (outcome.Exit r0) = codes "r0=" ++ decimal r0
-outcome_line (outcome.Fault fault pc) =
-    codes "fault " ++ fault_code fault ++ codes " at " ++ decimal pc
-outcome_line (outcome.OutOfBudget pc) = codes "out of budget at " ++ decimal pc
+use Rattle.bpf_run.specs.Codes.{code}
 
 -- the text that a reply prints
 abbrev pub reply_text : Reply → List ℕ
-reply_text (reply.Ended outcome) = outcome_line outcome ++ codes "\n"
+reply_text (reply.Ended outcome) = outcome_text outcome ++ codes "\n"
 reply_text (reply.Text text) = string_bytes text
 reply_text (reply.Jobs text stopped) = string_bytes text
 reply_text (reply.Script answers stopped) = answers_text (map answer_of answers.items)

@@ -12,8 +12,6 @@ use Rattle.bpf_shared.specs.declared.shapes.ShapeError.{ShapeError}
 use Rattle.bpf_shared.specs.declared.shapes.ShapeError.TheVariants as shape
 use Rattle.bpf_file.specs.declared.error.Reason.{Reason}
 use Rattle.bpf_file.specs.declared.error.Reason.TheVariants as reason
-use Rattle.bpf_cpu.specs.declared.outcome.Fault.{Fault}
-use Rattle.bpf_cpu.specs.declared.outcome.Fault.TheVariants as fault
 use Rattle.bpf_run.specs.declared.input.InputError.{InputError}
 use Rattle.bpf_run.specs.declared.input.InputError.TheVariants as input
 use Rattle.bpf_run.specs.declared.refusal.Refusal.{Refusal}
@@ -95,12 +93,3 @@ code (refusal.Load error) = load_code error
 code (refusal.File line why) = codes "line " ++ decimal line ++ codes " " ++ reason_code why
 code refusal.JobsOutOfMemory = codes "J4"
 code refusal.OutOfMemory = codes "L9"
-
--- of a run: F1 to F6
-abbrev pub fault_code : Fault → List ℕ
-fault_code fault.BadAddress = codes "F1"
-fault_code fault.Misaligned = codes "F2"
-fault_code fault.CallDepth = codes "F3"
-fault_code fault.NotAMap = codes "F4"
-fault_code fault.TooManyHeld = codes "F5"
-fault_code fault.Worn = codes "F6"

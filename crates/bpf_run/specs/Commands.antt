@@ -10,7 +10,7 @@ use Rattle.bpf_cpu.specs.State.{start}
 use Rattle.bpf_cpu.specs.Step.{Explains}
 use Rattle.bpf_jobs.specs.Printed.{IsReport}
 use Rattle.bpf_workers.specs.Printed.{IsWorkersReport}
-use Rattle.bpf_run.specs.Script.{first_of, IsScriptOfFile}
+use Rattle.bpf_run.specs.Script.{first_world_of, IsScriptOfFile}
 use Rattle.bpf_file.specs.declared.error.FileError.TheVariants as FileError
 use Rattle.bpf_file.specs.File.{File}
 use Rattle.bpf_file.specs.Reading.{IsRunFile}
@@ -108,7 +108,7 @@ RefusesFile text _ = ⊥
 -- then those of the maps where they are asked for; or the file's first refusal
 abbrev pub IsRunOfFile : Bool → List ℕ → Reply → Type 0
 IsRunOfFile maps text (reply.Jobs printed stopped) = (f : File) × IsRunFile text (Ok f)
-    × IsReport (first_of f) f.names maps (string_bytes printed) stopped
+    × IsReport (first_world_of f) f.names maps (string_bytes printed) stopped
 IsRunOfFile maps text (reply.Refused r) = RefusesFile text r
 IsRunOfFile maps text _ = ⊥
 

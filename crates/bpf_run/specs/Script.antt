@@ -7,7 +7,7 @@ use Rattle.bpf_jobs.specs.Printed.{first_world, any_stopped}
 use Rattle.bpf_file.specs.declared.error.FileError.TheVariants as FileError
 use Rattle.bpf_file.specs.declared.file.RunFile.{RunFile}
 use Rattle.bpf_file.specs.File.{File, file_of}
-use Rattle.bpf_file.specs.Programs.{text_of}
+use Rattle.bpf_file.specs.Programs.{text_of_lines}
 use Rattle.bpf_file.specs.Reading.{IsRunFile}
 use Rattle.bpf_debug.specs.Session.{Scene}
 use Rattle.bpf_debug.specs.Script.{RunsScript, answer_of}
@@ -35,18 +35,18 @@ NoneEnds (line ∷ lines) = (ends_file line ≡ false) × NoneEnds lines
 abbrev pub IsCut : (input file : List ℕ) → (commands : List (List ℕ)) → Type 0
 IsCut input file commands =
     ((before : List (List ℕ)) × (last : List ℕ) × (lines_of input ≡ before ++ last ∷ commands)
-    × NoneEnds before × (ends_file last ≡ true) × (file ≡ text_of before))
+    × NoneEnds before × (ends_file last ≡ true) × (file ≡ text_of_lines before))
     ⊎ (NoneEnds (lines_of input) × (file ≡ input) × (commands ≡ []))
 
 -- ---- the reply
 
 -- the machine of a run file before its first turn
-abbrev pub first_of : File → World
-first_of f = first_world (record { cpus = f.cpus; maps = f.maps }) f.programs f.jobs
+abbrev pub first_world_of : File → World
+first_world_of f = first_world (record { cpus = f.cpus; maps = f.maps }) f.programs f.jobs
 
 -- it, without breakpoints
 abbrev pub scene_of : File → Scene
-scene_of f = record { world = first_of f; names = f.names; breaks = [] }
+scene_of f = record { world = first_world_of f; names = f.names; breaks = [] }
 
 -- the commands' answers, one after the other, over the machine of the file, and whether some job
 -- of it then has ended in a fault or out of budget; or the file's first refusal
@@ -63,9 +63,9 @@ IsScriptOfFile input (reply.Refused (refusal.File line why)) =
 IsScriptOfFile input _ = ⊥
 
 -- the same of a file that was read
-abbrev pub IsAnswered : RunFile → List (List ℕ) → Reply → Type 0
-IsAnswered f commands (reply.Script answers stopped) =
+abbrev pub IsDebugReply : RunFile → List (List ℕ) → Reply → Type 0
+IsDebugReply f commands (reply.Script answers stopped) =
     (y : Scene) × RunsScript (scene_of (file_of f)) commands (map answer_of answers.items) y
     × (stopped ≡ any_stopped (length y.world.jobs) y.world.jobs)
-IsAnswered f commands (reply.Refused refusal.OutOfMemory) = Unit {0}
-IsAnswered f commands _ = ⊥
+IsDebugReply f commands (reply.Refused refusal.OutOfMemory) = Unit {0}
+IsDebugReply f commands _ = ⊥

@@ -1,9 +1,10 @@
 //! What is said of a command's answer on standard error, after it is printed.
 
 use crate::perform::{Performed, answer_text};
-use crate::reply::{EndText, Reply, Status};
+use crate::reply::{Reply, Status};
 use bpf_advice::{Language, advise};
 use bpf_command::Command;
+use bpf_jobs::OutcomeText;
 use std::alloc::{AllocError, Global};
 
 /// What a command reads.
@@ -26,7 +27,7 @@ fn printed(alloc: Global, reply: &Reply) -> Result<String, AllocError> {
             }
             Ok(text)
         }
-        Reply::Ended(outcome) => format!(in alloc; "{}\n", EndText(*outcome)),
+        Reply::Ended(outcome) => format!(in alloc; "{}\n", OutcomeText(*outcome)),
         Reply::Refused(refusal) => format!(in alloc; "refused {refusal}\n"),
     }
 }

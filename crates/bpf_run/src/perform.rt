@@ -12,11 +12,12 @@ use crate::engine::{Engine, OneThread, WithWorkers};
 use crate::input::{InputError, MAX_INPUT, read_whole};
 use crate::output::write_whole;
 use crate::refusal::Refusal;
-use crate::reply::{EndText, Reply, Status};
+use crate::reply::{Reply, Status};
 use crate::stream::{Sink, Source};
 use bpf_command::Command;
 use bpf_debug::Answer;
 use bpf_explain::{Code, page_of};
+use bpf_jobs::OutcomeText;
 use std::alloc::{AllocError, Global};
 use std::sync::Wait;
 use std::thread::Threads;
@@ -91,7 +92,7 @@ pub fn answer<W: Sink>(alloc: Global, reply: &Reply, sink: &mut W) -> Status
         }
         Reply::Script(answers, _) => write_answers(answers, reply.status(), sink),
         Reply::Ended(outcome) => {
-            let line = format!(in alloc; "{}\n", EndText(*outcome));
+            let line = format!(in alloc; "{}\n", OutcomeText(*outcome));
             write_line(line, reply.status(), sink)
         }
         Reply::Refused(refusal) => {

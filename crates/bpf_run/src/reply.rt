@@ -1,9 +1,8 @@
 //! What the program answers: the text that it prints, and its exit status.
 
 use crate::refusal::Refusal;
-use bpf_cpu::{Fault, Outcome};
+use bpf_cpu::Outcome;
 use bpf_debug::Answer;
-use std::fmt;
 
 /// How the program ends.
 #[derive(Clone, Copy, PartialEq, Eq, Debug)]
@@ -61,46 +60,6 @@ impl Reply {
             Reply::Jobs(_, false) | Reply::Script(_, false) => Status::Done,
             Reply::Ended(_) | Reply::Jobs(_, true) | Reply::Script(_, true) => Status::Stopped,
             Reply::Refused(_) => Status::Refused,
-        }
-    }
-}
-
-#[derive(Drop)]
-struct FaultCode(Fault);
-
-impl fmt::Display for FaultCode {
-    ghost use Rattle.std.specs.Prelude.{Some};
-    ghost use Rattle.bpf_run.specs.Codes.{fault_code};
-
-    ghost output = { λ x. Some (fault_code x.0) };
-
-    fn fmt<W: fmt::Write>(&self, f: &mut fmt::Formatter<W>) -> fmt::Result {
-        f.write_str(match self.0 {
-            Fault::BadAddress => "F1",
-            Fault::Misaligned => "F2",
-            Fault::CallDepth => "F3",
-            Fault::NotAMap => "F4",
-            Fault::TooManyHeld => "F5",
-            Fault::Worn => "F6",
-        })
-    }
-}
-
-/// How a run ended.
-#[derive(Drop)]
-pub struct EndText(pub Outcome);
-
-impl fmt::Display for EndText {
-    ghost use Rattle.std.specs.Prelude.{Some};
-    ghost use Rattle.bpf_run.specs.Answer.{outcome_line};
-
-    ghost output = { λ x. Some (outcome_line x.0) };
-
-    fn fmt<W: fmt::Write>(&self, f: &mut fmt::Formatter<W>) -> fmt::Result {
-        match self.0 {
-            Outcome::Exit(r0) => write!(f, "r0={r0}"),
-            Outcome::Fault(fault, pc) => write!(f, "fault {} at {pc}", FaultCode(fault)),
-            Outcome::OutOfBudget(pc) => write!(f, "out of budget at {pc}"),
         }
     }
 }

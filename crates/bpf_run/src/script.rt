@@ -4,7 +4,7 @@ ghost use Rattle.std.specs.Prelude.{◌≡◌, IfOk};
 ghost use Rattle.std.specs.Option.{option_copied};
 ghost use Rattle.bpf_text.specs.Lines.{lines_behind};
 ghost use Rattle.bpf_file.specs.Runnable.{IsRunnable};
-ghost use Rattle.bpf_run.specs.Script.{IsAnswered, IsCut, IsScriptOfFile, ends_file};
+ghost use Rattle.bpf_run.specs.Script.{IsDebugReply, IsCut, IsScriptOfFile, ends_file};
 
 use crate::refusal::Refusal;
 use crate::reply::Reply;
@@ -76,7 +76,7 @@ pub fn debug_file(alloc: Global, input: &str) -> Reply
 /// What commands are answered over the machine of a run file.
 fn debug(alloc: Global, file: RunFile, commands: Option<&[u8]>) -> Reply
     requires { IsRunnable file }
-    ensures { IsAnswered file (lines_behind (option_copied commands.entry)) result }
+    ensures { IsDebugReply file (lines_behind (option_copied commands.entry)) result }
 {
     let RunFile {
         shape,

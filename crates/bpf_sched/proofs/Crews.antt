@@ -22,9 +22,9 @@ use Rattle.hop_map.specs.Port.{Port, IsAllOf, IsPartOf, known_of, own_events}
 use Rattle.hop_map.specs.Stores.{ArePorts}
 use Rattle.bpf_sched.specs.declared.assignment.Assignment.{Assignment}
 use Rattle.bpf_sched.specs.declared.worker.Worker.{Worker}
-use Rattle.bpf_sched.specs.Explained.{ExplainsJobs, IsExplained, IsWorn, context_of, jobs_of, ends_of}
+use Rattle.bpf_sched.specs.Explained.{ExplainsJobs, IsExplained, IsWorn, waiting_context, jobs_of, ends_of}
 use Rattle.bpf_sched.specs.Working.{IsNew, RunsAll, assigned, outcome_of}
-use Rattle.bpf_sched.specs.Worked.{AreFor, IsReady, Worked, extends}
+use Rattle.bpf_sched.specs.Worked.{AreFor, IsReadyWorker, Worked, extends}
 use Rattle.bpf_sched.proofs.Told.{explains_jobs, ran_all}
 
 long_lanes : (a : About) (c n : ℕ) → length (lanes_from a c n) ≡ n
@@ -42,7 +42,7 @@ some_same x y e = cc
 new_one : (cpu m : ℕ) (task : Task) (us : List Task) → task.program < m → (b : Bool) → (task.cpu == cpu) ≡ b → All (IsNew cpu m) (map assigned us) → All (IsNew cpu m) (map assigned (cond b (task ∷ us) us))
 new_one cpu m task us below true same all =
     let number : task.cpu ≡ cpu = grind (arith, nat_tests) in
-    All-cons (IsNew cpu m) (assigned task) (map assigned us) (record { context = context_of task.stage; fresh = ap (λ (c : ℕ). start c (context_of task.stage)) number; program = below }) all
+    All-cons (IsNew cpu m) (assigned task) (map assigned us) (record { context = waiting_context task.stage; fresh = ap (λ (c : ℕ). start c (waiting_context task.stage)) number; program = below }) all
 new_one cpu m task us below false same all = all
 
 -- a CPU's jobs are its own, and new
@@ -96,7 +96,7 @@ module _ (t : Shown) (jobs : List Job) (programs : List Loaded) (ports : List Po
     number_at : (i : ℕ) (d : Worker) → i < cpus → (get_or equipped i d).workload.cpu ≡ i
     number_at i d inside = ap (λ w. w.cpu) (has_jobs i d (omega (arith, for_jobs.size))) ∙ (for_jobs.each i d inside).number
 
-    ready_at : (i : ℕ) (d : Worker) → i < cpus → IsReady t (length programs) (get_or equipped i d)
+    ready_at : (i : ℕ) (d : Worker) → i < cpus → IsReadyWorker t (length programs) (get_or equipped i d)
     ready_at i d inside = record {
       port = get_or ports i no_port;
       has = has_port i d no_port (omega (arith, for_jobs.size));
@@ -107,7 +107,7 @@ module _ (t : Shown) (jobs : List Job) (programs : List Loaded) (ports : List Po
           (subst (All (IsNew i (length programs))) (sym (given_at i d inside)) (new_all i (length programs) jobs good));
     }
 
-    pub all_ready : All (IsReady t (length programs)) equipped
+    pub all_ready : All (IsReadyWorker t (length programs)) equipped
     all_ready = λ i d inside. ready_at i d (omega (arith, size, for_jobs.size))
 
     module _ (vs : List Worker) (long : length vs ≡ length equipped) (each : (i : ℕ) (d : Worker) → i < length equipped → Worked t programs (get_or equipped i d) (get_or vs i d)) where

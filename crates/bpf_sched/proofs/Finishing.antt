@@ -13,7 +13,7 @@ use Rattle.hop_map.specs.Stores.{ArePorts}
 use Rattle.bpf_sched.specs.declared.worker.Worker.{Worker}
 use Rattle.bpf_sched.specs.Explained.{IsExplained, jobs_of, ends_of}
 use Rattle.bpf_sched.specs.Working.{outcome_of}
-use Rattle.bpf_sched.specs.Worked.{AreFor, IsReady, Worked}
+use Rattle.bpf_sched.specs.Worked.{AreFor, IsReadyWorker, Worked}
 use Rattle.bpf_sched.proofs.Crews.{all_ready, all_run, all_have_ports, is_all, all_explained}
 
 -- what a vector shows after its whole slice was written
@@ -40,8 +40,8 @@ module _ (t : Shown) (jobs : List Job) (programs : List Loaded) (ports : List Po
   has_jobs : (c : ℕ) (d : Worker) → c < length ws → (get_or equipped c d).workload ≡ (get_or ws c d).workload
   has_jobs c d inside = kept c d (omega (arith, ap length was)) ∙ ap (λ (l : List Worker). (get_or l c d).workload) was
 
-  pub ready : (shown : List Worker) → shown ≡ second → All (IsReady t (length programs)) shown
-  ready shown is = subst (All (IsReady t (length programs))) (sym (is ∙ same_second)) (all_ready t jobs programs ports are ws for_jobs good equipped same_size has_port has_jobs)
+  pub ready : (shown : List Worker) → shown ≡ second → All (IsReadyWorker t (length programs)) shown
+  ready shown is = subst (All (IsReadyWorker t (length programs))) (sym (is ∙ same_second)) (all_ready t jobs programs ports are ws for_jobs good equipped same_size has_port has_jobs)
 
   module _ (shown : List Worker) (is : shown ≡ second) (done : List Worker) (still : length done ≡ length shown)
       (each : (i : ℕ) (d : Worker) → i < length shown → Worked t programs (get_or shown i d) (get_or done i d)) where

@@ -7,8 +7,8 @@ use Rattle.bpf_shared.proofs.Chains.{events_of-append}
 use Rattle.bpf_loader.specs.Loaded.{Loaded}
 use Rattle.hop_words.specs.Inside.{Shown}
 use Rattle.hop_map.specs.Port.{Port, IsPortOf, own_events}
-use Rattle.hop_cpu.specs.Serving.{Serving, serves, IsWorn}
-use Rattle.hop_cpu.specs.Passing.{Passes}
+use Rattle.hop_cpu.specs.Serving.{Serving, serves, IsPortWorn}
+use Rattle.hop_cpu.specs.Passing.{ExtendsHistory}
 use Rattle.bpf_sched.specs.declared.assignment.Assignment.{Assignment}
 use Rattle.bpf_sched.specs.Explained as explained
 use Rattle.bpf_sched.specs.Working.{RunsAll}
@@ -24,7 +24,7 @@ module _ {G : Type 0} (serving : G → Serving) (t : Shown) (cpu : ℕ) (program
   abbrev pub own_of : G → List Event
   own_of x = own_events (serving x).port
 
-  moves_on : (x y : G) (es : List Event) → IsOf x → Chain (λ a b log. Passes (serving a) (serving b) log) (λ a. serves (serving a)) cpu x y es
+  moves_on : (x y : G) (es : List Event) → IsOf x → Chain (λ a b log. ExtendsHistory (serving a) (serving b) log) (λ a. serves (serving a)) cpu x y es
       → IsOf y × extends (own_of x) (own_of y) es
   moves_on x y es (table, same) chain =
       let cpu_y : (serving y).port.known.cpu ≡ cpu = chain.passage.cpu ∙ same in (
@@ -36,27 +36,27 @@ module _ {G : Type 0} (serving : G → Serving) (t : Shown) (cpu : ℕ) (program
             ∙ ap (λ (l : List Event). own_of x ++ l) chain.own))),
       )
 
-  is_worn : (x : G) → IsOf x → IsWorn (serving x) cpu → explained.IsWorn t.about.count (own_of x)
+  is_worn : (x : G) → IsOf x → IsPortWorn (serving x) cpu → explained.IsWorn t.about.count (own_of x)
   is_worn x of worn = subst (λ (s : Shown). explained.IsWorn s.about.count (own_of x)) of.0 worn
 
   pub over_port : (x y : G) (olds news : List Assignment) (events : List Event) → IsOf x
-      → RunsAll (Chain (λ a b log. Passes (serving a) (serving b) log) (λ a. serves (serving a)) cpu) (λ a. IsWorn (serving a) cpu) t.about.shape.maps programs x olds news events y
+      → RunsAll (Chain (λ a b log. ExtendsHistory (serving a) (serving b) log) (λ a. serves (serving a)) cpu) (λ a. IsPortWorn (serving a) cpu) t.about.shape.maps programs x olds news events y
       → IsOf y × RunsAll extends (explained.IsWorn t.about.count) t.about.shape.maps programs (own_of x) olds news events (own_of y)
   over_port x y olds news events of all =
-      carried IsOf own_of (Chain (λ a b log. Passes (serving a) (serving b) log) (λ a. serves (serving a)) cpu) (λ a. IsWorn (serving a) cpu) extends (explained.IsWorn t.about.count)
+      carried IsOf own_of (Chain (λ a b log. ExtendsHistory (serving a) (serving b) log) (λ a. serves (serving a)) cpu) (λ a. IsPortWorn (serving a) cpu) extends (explained.IsWorn t.about.count)
       moves_on is_worn t.about.shape.maps programs x y olds news events of all
 
 -- a worker whose port was behind a gate's store has worked
 pub worked : {G : Type 0} (x y : G) (serving : G → Serving) (t : Shown) (programs : List Loaded) (w v : Worker) (p q : Port) (events : List Event)
     → w.port ≡ Some p → v.port ≡ Some q → (serving x).table ≡ t → (serving x).port ≡ p → p.known.cpu ≡ w.workload.cpu → q ≡ (serving y).port → IsPortOf (serving y).table q
-    → RunsAll (Chain (λ a b log. Passes (serving a) (serving b) log) (λ a. serves (serving a)) w.workload.cpu) (λ a. IsWorn (serving a) w.workload.cpu) (serving x).table.about.shape.maps
+    → RunsAll (Chain (λ a b log. ExtendsHistory (serving a) (serving b) log) (λ a. serves (serving a)) w.workload.cpu) (λ a. IsPortWorn (serving a) w.workload.cpu) (serving x).table.about.shape.maps
     programs x w.workload.jobs.items v.workload.jobs.items events y
     → Worked t programs w v
 worked {G} x y serving t programs w v p q events was is table at cpu out fits all =
     let c = w.workload.cpu in
     let of : ((serving x).table ≡ t) × ((serving x).port.known.cpu ≡ c) = (table, ap (λ (r : Port). r.known.cpu) at ∙ cpu) in
     let told = over_port serving t c programs x y w.workload.jobs.items v.workload.jobs.items events of
-    (subst (λ (s : Shown). RunsAll (Chain (λ a b log. Passes (serving a) (serving b) log) (λ a. serves (serving a)) c) (λ a. IsWorn (serving a) c) s.about.shape.maps programs x w.workload.jobs.items v.workload.jobs.items events y) table all) in
+    (subst (λ (s : Shown). RunsAll (Chain (λ a b log. ExtendsHistory (serving a) (serving b) log) (λ a. serves (serving a)) c) (λ a. IsPortWorn (serving a) c) s.about.shape.maps programs x w.workload.jobs.items v.workload.jobs.items events y) table all) in
     let ran = subst (λ (r : Port). RunsAll extends (explained.IsWorn t.about.count) t.about.shape.maps programs (own_events r) w.workload.jobs.items v.workload.jobs.items events (own_events q)) at
     (subst (λ (r : Port). RunsAll extends (explained.IsWorn t.about.count) t.about.shape.maps programs (own_events (serving x).port) w.workload.jobs.items v.workload.jobs.items events (own_events r)) (sym out) told.1) in
     record {

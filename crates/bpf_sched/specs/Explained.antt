@@ -15,10 +15,10 @@ use Rattle.bpf_cpu.specs.Task.{Task, Stage, Waiting, InHand, Ended}
 -- ---- one job
 
 -- the context of a job that waits
-abbrev pub context_of : Stage → List ℕ
-context_of (Waiting context) = context
-context_of (InHand state left) = []
-context_of (Ended outcome) = []
+abbrev pub waiting_context : Stage → List ℕ
+waiting_context (Waiting context) = context
+waiting_context (InHand state left) = []
+waiting_context (Ended outcome) = []
 
 -- a run counter that began with this count can't count another run: it has its last value but one
 abbrev pub IsWorn : ℕ → List Event → Type 0
@@ -30,7 +30,7 @@ pub record ExplainsJob (shapes : List MapShape) (count : ℕ) (programs : List L
   pub program : Loaded
   pub listed : slice_get programs task.program ≡ Some program
   pub explained : Explains (IsWorn count before) shapes program task.budget
-      (start task.cpu (context_of task.stage)) events end
+      (start task.cpu (waiting_context task.stage)) events end
 
 -- ---- the jobs of one CPU
 

@@ -18,8 +18,8 @@ abbrev pub HasOutside : ℕ → List Job → Type 0
 HasOutside cpus jobs = (job : Job) × (j : ℕ) × (slice_get jobs j ≡ Some job) × (cpus ≤ job.cpu)
 
 -- the first refusal that applies
-abbrev pub IsFirstRefusal : ℕ → ℕ → List Job → SchedError → Type 0
-IsFirstRefusal cpus workers jobs NoWorkers = workers ≡ 0
-IsFirstRefusal cpus workers jobs TooManyWorkers = 16 < workers
-IsFirstRefusal cpus workers jobs NoSuchCpu = AreWorkers workers × HasOutside cpus jobs
-IsFirstRefusal cpus workers jobs OutOfMemory = AreWorkers workers × AreHere cpus jobs
+abbrev pub IsFirstSchedError : ℕ → ℕ → List Job → SchedError → Type 0
+IsFirstSchedError cpus workers jobs NoWorkers = workers ≡ 0
+IsFirstSchedError cpus workers jobs TooManyWorkers = 16 < workers
+IsFirstSchedError cpus workers jobs NoSuchCpu = AreWorkers workers × HasOutside cpus jobs
+IsFirstSchedError cpus workers jobs OutOfMemory = AreWorkers workers × AreHere cpus jobs

@@ -20,7 +20,7 @@ pub record AreFor (tasks : List Task) (cpus : ℕ) (workers : List Worker) : Typ
   pub each : (c : ℕ) (d : Worker) → c < cpus → IsFor tasks c (slice_index_or workers c d)
 
 -- the worker has the port of its CPU, which is in no run, and jobs of so many programs
-pub record IsReady (t : Shown) (programs : ℕ) (w : Worker) : Type 0 where
+pub record IsReadyWorker (t : Shown) (programs : ℕ) (w : Worker) : Type 0 where
   pub port : Port
   pub has : w.port ≡ Some port
   pub fits : IsPortOf t port

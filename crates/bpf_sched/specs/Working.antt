@@ -9,12 +9,12 @@ use Rattle.bpf_cpu.specs.State.{start}
 use Rattle.bpf_cpu.specs.Task.{Task}
 use Rattle.bpf_cpu.specs.Step.{Explains}
 use Rattle.bpf_sched.specs.declared.assignment.Assignment.{Assignment}
-use Rattle.bpf_sched.specs.Explained.{context_of}
+use Rattle.bpf_sched.specs.Explained.{waiting_context}
 
 -- what a job that waits needs to be run
 abbrev pub assigned : Task → Assignment
 assigned task = record {
-  cpu = start task.cpu (context_of task.stage);
+  cpu = start task.cpu (waiting_context task.stage);
   program = task.program;
   budget = task.budget;
   outcome = OutOfBudget 0;

@@ -8,7 +8,7 @@ ghost use Rattle.hop_map.specs.Dumping.{IsLast};
 ghost use Rattle.hop_map.specs.Port.{Port};
 ghost use Rattle.hop_map.specs.Stores.{ArePorts};
 ghost use Rattle.bpf_sched.specs.Explained.{IsExplained};
-ghost use Rattle.bpf_sched.specs.Worked.{AreFor, IsReady, Worked};
+ghost use Rattle.bpf_sched.specs.Worked.{AreFor, IsReadyWorker, Worked};
 ghost use Rattle.bpf_sched.specs.declared.worker.Worker.{Worker};
 
 use crate::gate::Gate;
@@ -69,13 +69,13 @@ pub(crate) fn work_all<R: Threads + Wait + Sync, G: Gate + Sync>(
     workers: &mut [Worker],
 )
     requires threads { 0 < threads }
-    requires ready { All (IsReady table.now (length programs.now)) workers.old }
+    requires ready { All (IsReadyWorker table.now (length programs.now)) workers.old }
     ensures size { length workers.new ≡ length workers.old }
     ensures worked { (i : ℕ) (d : Worker) → i < length workers.old → Worked table.now programs.now
         (slice_index_or workers.old i d) (slice_index_or workers.new i d) }
 {
     let each = |_: usize, worker: &mut Worker|
-        requires { IsReady table.now (length programs.now) worker.now }
+        requires { IsReadyWorker table.now (length programs.now) worker.now }
         ensures { Worked table.entry.now programs.entry.now worker.entry.now worker.exit.now }
     { work(rt, table, programs, gate, worker) };
     thread::for_each_mut(rt, workers, threads, &each);

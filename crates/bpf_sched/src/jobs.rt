@@ -7,7 +7,7 @@ ghost use Rattle.bpf_shared.specs.Store.{Plain, as_made};
 ghost use Rattle.bpf_cpu.specs.Task.{waiting};
 ghost use Rattle.hop_map.specs.Dumping.{IsLast};
 ghost use Rattle.bpf_sched.specs.Explained.{IsExplained};
-ghost use Rattle.bpf_sched.specs.Refusing.{AreHere, AreWorkers, HasOutside, IsFirstRefusal};
+ghost use Rattle.bpf_sched.specs.Refusing.{AreHere, AreWorkers, HasOutside, IsFirstSchedError};
 
 use crate::crew::{Report, run_ports};
 use crate::gate::Gate;
@@ -40,7 +40,7 @@ fn are_here(cpus: u8, jobs: &[Job]) -> bool
 fn check(cpus: u8, workers: usize, jobs: &[Job]) -> Result<(), SchedError>
     ensures workers { OnOk result (AreWorkers workers) }
     ensures cpus { OnOk result (AreHere cpus jobs.now) }
-    ensures refused { IfErr result (IsFirstRefusal cpus workers jobs.now) }
+    ensures refused { IfErr result (IsFirstSchedError cpus workers jobs.now) }
 {
     if workers == 0 {
         return Err(SchedError::NoWorkers);
@@ -77,7 +77,7 @@ pub fn run_jobs<R: Threads + Wait + Sync, G: Gate + Sync>(
     ensures last { IfOk result (λ r. (last : Plain) × IsLast r.closed last
         × Legal (as_made r.closed.about.shape) r.closed.history last) }
     ensures refused { IfErr result (λ r.
-        IsFirstRefusal store.table.about.shape.cpus workers jobs.now r.error) }
+        IsFirstSchedError store.table.about.shape.cpus workers jobs.now r.error) }
     ensures store { IfErr result (λ r. r.store ≡ store) }
 {
     let cpus = store.about().shape.cpus();

@@ -1,7 +1,7 @@
 //! One CPU of a store, with its jobs.
 
 ghost use Rattle.std.specs.Prelude.{length};
-ghost use Rattle.bpf_sched.specs.Worked.{IsReady, Worked};
+ghost use Rattle.bpf_sched.specs.Worked.{IsReadyWorker, Worked};
 
 use crate::gate::{Gate, Gated};
 use crate::workload::Workload;
@@ -27,7 +27,7 @@ pub fn work<R: Wait, G: Gate>(
     gate: &G,
     worker: &mut Worker,
 )
-    requires { IsReady table.now (length programs.now) worker.old }
+    requires { IsReadyWorker table.now (length programs.now) worker.old }
     ensures { Worked table.now programs.now worker.old worker.new }
 {
     let Some(port) = worker.port.take() else {

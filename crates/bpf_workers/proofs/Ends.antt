@@ -7,7 +7,7 @@ use Rattle.bpf_cpu.specs.declared.machine.job.Job.{Job}
 use Rattle.bpf_cpu.specs.declared.outcome.Outcome.{Outcome}
 use Rattle.bpf_cpu.specs.Lines.{job_line}
 use Rattle.bpf_cpu.specs.Task.{Task, Ended, ended, waiting}
-use Rattle.bpf_jobs.specs.Printed.{any_stopped, is_stop, IsAsked, job_lines, line_at, Tells}
+use Rattle.bpf_jobs.specs.Printed.{any_stopped, is_stop, AreMapsAsked, job_lines, task_line, Tells}
 use Rattle.bpf_workers.specs.Printed.{as_ended}
 
 pub length_ended : (tasks : List Task) (ends : List Outcome) → length ends ≡ length tasks → length (as_ended tasks ends) ≡ length tasks
@@ -52,7 +52,7 @@ one_line_more jobs ends j job end text new inside sizes so_far more =
     let found = at_ended (map waiting jobs) ends j (waiting one) so (waits jobs j one (got jobs j job inside)) (got ends j end (omega (arith, sizes))) in
     let next : suc j ≡ j + 1 = omega arith in
     subst (λ (n : ℕ). new ≡ job_lines n all) next
-    (more ∙ ap (λ (t : List ℕ). t ++ job_line j one.cpu so) so_far ∙ ap (λ (o : Option Task). job_lines j all ++ line_at j o) (sym found))
+    (more ∙ ap (λ (t : List ℕ). t ++ job_line j one.cpu so) so_far ∙ ap (λ (o : Option Task). job_lines j all ++ task_line j o) (sym found))
 
 -- one job more that may have stopped
 pub one_stop_more : (tasks : List Task) (ends : List Outcome) (j : ℕ) (end : Outcome) (so_far stop : Bool) → j < length ends → length tasks ≡ length ends
@@ -70,7 +70,7 @@ one_stop_more tasks ends j end so_far stop inside sizes before is =
 
 -- all that is told of jobs that have ended so
 pub told : (jobs : List Job) (ends : List Outcome) (last : Plain) (names : List (List ℕ)) (maps : Bool) (text lines new : List ℕ) (stopped : Bool)
-    → length ends ≡ length jobs → IsAsked maps last names lines → text ≡ job_lines (length jobs) (as_ended (map waiting jobs) ends) → new ≡ text ++ lines
+    → length ends ≡ length jobs → AreMapsAsked maps last names lines → text ≡ job_lines (length jobs) (as_ended (map waiting jobs) ends) → new ≡ text ++ lines
     → ((tasks : List Task) → length tasks ≡ length ends → stopped ≡ any_stopped (length ends) (as_ended tasks ends))
     → Tells last (as_ended (map waiting jobs) ends) names maps new stopped
 told jobs ends last names maps text lines new stopped sizes asked line more stops =

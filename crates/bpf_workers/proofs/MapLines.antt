@@ -7,19 +7,19 @@ use Rattle.bpf_shared.specs.Listing.{IsListing, pair_of}
 use Rattle.bpf_shared.specs.Shows.{listed}
 use Rattle.hop_words.specs.Closing.{Ending}
 use Rattle.hop_map.specs.Dumping.{IsLast}
-use Rattle.bpf_jobs.specs.Printed.{IsMapText, key_lines}
+use Rattle.bpf_jobs.specs.Printed.{AreMapLines, key_lines}
 
 -- the lines of one map more
 pub one_map_more : (e : Ending) (names : List (String Global)) (m : ℕ) (name : String Global) (pairs : List (Vec ℕ Global × Vec ℕ Global)) (text new : List ℕ)
     → m < length names → name ≡ get_or names m name
-    → ((last : Plain) → IsLast e last → IsMapText last (map string_bytes names) m text)
+    → ((last : Plain) → IsLast e last → AreMapLines last (map string_bytes names) m text)
     → ((last : Plain) → IsLast e last → IsListing last m (listed pairs))
     → new ≡ text ++ key_lines (string_bytes name) (length pairs) (listed pairs)
-    → (last : Plain) → IsLast e last → IsMapText last (map string_bytes names) (m + 1) new
+    → (last : Plain) → IsLast e last → AreMapLines last (map string_bytes names) (m + 1) new
 one_map_more e names m name pairs text new inside is before lists more last known =
     let named : slice_index_or (map string_bytes names) m [] ≡ string_bytes name = get_or-map string_bytes names m name [] inside ∙ ap string_bytes (sym is) in
     let next : suc m ≡ m + 1 = omega arith in
-    subst (λ (n : ℕ). IsMapText last (map string_bytes names) n new) next (
+    subst (λ (n : ℕ). AreMapLines last (map string_bytes names) n new) next (
       text,
       listed pairs,
       before last known,

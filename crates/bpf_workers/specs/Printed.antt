@@ -17,8 +17,8 @@ as_ended (task ∷ tasks) [] = []
 as_ended (task ∷ tasks) (end ∷ ends) = record task { stage = Ended end } ∷ as_ended tasks ends
 
 -- the store that a file asks for
-abbrev pub shape_of : File → Shape
-shape_of f = record { cpus = f.cpus; maps = f.maps }
+abbrev pub store_shape : File → Shape
+store_shape f = record { cpus = f.cpus; maps = f.maps }
 
 -- one history of the file's store, new, explains how all its jobs ended; the text has a line of
 -- each of them, in the file's order, and then, where they are asked for, the lines of the maps that
@@ -27,6 +27,6 @@ pub record IsWorkersReport (f : File) (maps : Bool) (text : List ℕ) (stopped :
   pub ends : List Outcome
   pub history : List Entry
   pub last : Plain
-  pub explained : IsExplained (shape_of f) 0 f.programs f.jobs ends history
-  pub leads : Legal (as_made (shape_of f)) history last
+  pub explained : IsExplained (store_shape f) 0 f.programs f.jobs ends history
+  pub leads : Legal (as_made (store_shape f)) history last
   pub tells : Tells last (as_ended f.jobs ends) f.names maps text stopped

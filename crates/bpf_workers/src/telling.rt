@@ -3,7 +3,7 @@
 ghost use Rattle.std.specs.Prelude.{◌≡◌, IfOk, length, List, map, string_bytes};
 ghost use Rattle.bpf_shared.specs.Store.{Plain};
 ghost use Rattle.bpf_cpu.specs.Task.{Task, waiting};
-ghost use Rattle.bpf_jobs.specs.Printed.{any_stopped, IsAsked, IsMapText, job_lines, Tells};
+ghost use Rattle.bpf_jobs.specs.Printed.{any_stopped, AreMapsAsked, AreMapLines, job_lines, Tells};
 ghost use Rattle.hop_map.specs.Dumping.{IsLast};
 ghost use Rattle.bpf_workers.specs.Printed.{as_ended};
 
@@ -40,7 +40,7 @@ fn has_stopped(ends: &[Outcome]) -> bool
 /// The lines of all maps, which have these names, in the order of their numbers.
 fn list_maps(alloc: Global, closed: &Closed, names: &[String]) -> Result<String, AllocError>
     ensures { IfOk result (λ text. (last : Plain) → IsLast closed.now last
-        → IsMapText last (map string_bytes names.now) (length names.now) (string_bytes text)) }
+        → AreMapLines last (map string_bytes names.now) (length names.now) (string_bytes text)) }
 {
     let mut text = String::new(alloc);
     for map in 0..names.len() {
@@ -58,7 +58,7 @@ fn asked_lines(
     maps: bool,
 ) -> Result<String, AllocError>
     ensures { IfOk result (λ text. (last : Plain) → IsLast closed.now last
-        → IsAsked maps last (map string_bytes names.now) (string_bytes text)) }
+        → AreMapsAsked maps last (map string_bytes names.now) (string_bytes text)) }
 {
     if maps {
         list_maps(alloc, closed, names)

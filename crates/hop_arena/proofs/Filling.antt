@@ -3,7 +3,7 @@ use Rattle.std.proofs.Common.{◌≡◌, ℕ, zero, suc, List, [], ◌∷◌, �
 use Rattle.std.proofs.lemmas.List.{append-nil}
 use Rattle.hop_words.specs.declared.known.Known.{Known}
 use Rattle.hop_words.specs.declared.known.Fresh.{Fresh}
-use Rattle.hop_words.specs.Owning.{IsInHand, behind, key_filled, value_filled, with_key_word, with_value_word}
+use Rattle.hop_words.specs.Owning.{IsInHand, tail_of, key_filled, value_filled, with_key_word, with_value_word}
 use Rattle.hop_words.specs.Locking.{nothing_in_hand}
 use Rattle.hop_arena.specs.Filling.{with_words, word_list}
 use Rattle.hop_words.specs.Homes.{word_of}
@@ -13,7 +13,7 @@ first [] = nothing_in_hand
 first (f ∷ fs) = f
 
 abbrev IsFirst : List Fresh → ℕ → ℕ → Type 0
-IsFirst fs m e = (f : Fresh) × (fs ≡ f ∷ behind fs) × (f.map ≡ m) × (f.element ≡ e)
+IsFirst fs m e = (f : Fresh) × (fs ≡ f ∷ tail_of fs) × (f.map ≡ m) × (f.element ≡ e)
 
 still_first : (fs : List Fresh) (m e : ℕ) (ks vs : List ℕ) → IsFirst fs m e → IsFirst (with_words fs ks vs) m e
 still_first [] m e ks vs h = let z = h.1 in cc

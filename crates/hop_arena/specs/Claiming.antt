@@ -29,8 +29,8 @@ AreSeenTaken more m count from to = (e : ℕ) → e < count → from ≤ e / 64 
     → IsSeenTaken more m e
 
 -- nothing was taken: of these words each element was seen not free, at a moment of its own
-abbrev pub Passes : About → Known → ℕ → ℕ → ℕ → Known → Type 0
-Passes a l m from to l' = (more : List Sight) × Sees l more l'
+abbrev pub TakesNothing : About → Known → ℕ → ℕ → ℕ → Known → Type 0
+TakesNothing a l m from to l' = (more : List Sight) × Sees l more l'
     × AreSeenTaken more m (elements (shape_at a m)) from to
 
 -- nothing was taken: each element of the map was seen not free, at a moment of its own

@@ -2,9 +2,9 @@
 ghost use Rattle.std.specs.Prelude.{◌≡◌, ◌⊎◌, ◌+◌, ◌*◌, ◌/◌, ◌<◌, ◌≤◌, [], length, MatchOption, IsTrue, IsFalse};
 ghost use Rattle.std.specs.Int.{bit_at};
 ghost use Rattle.hop_words.specs.Ghost.{shape_at, IsElement};
-ghost use Rattle.hop_words.specs.Owning.{IsInHand, behind};
+ghost use Rattle.hop_words.specs.Owning.{IsInHand, tail_of};
 ghost use Rattle.bpf_shared.specs.Shape.{elements};
-ghost use Rattle.hop_arena.specs.Claiming.{Claims, Misses, Passes, IsArena};
+ghost use Rattle.hop_arena.specs.Claiming.{Claims, Misses, TakesNothing, IsArena};
 
 use crate::element::Element;
 use hop_words::{HopTable, Lane};
@@ -69,7 +69,7 @@ impl Arena {
         requires hand { IsInHand lane.old.known element.map element.number }
         ensures table { lane.new.table ≡ lane.old.table }
         ensures given { lane.new.known
-            ≡ record lane.old.known { fresh = behind lane.old.known.fresh } }
+            ≡ record lane.old.known { fresh = tail_of lane.old.known.fresh } }
         ensures arena { (self.new.map ≡ self.old.map) × (self.new.elements ≡ self.old.elements)
             × IsArena table.now.about self.new.map self.new.elements self.new.start }
     {
@@ -127,8 +127,9 @@ fn claim_in(lane: &mut Lane, table: &HopTable, map: u8, word: u32, count: u32) -
     requires inside { 64 * word < count }
     requires unlocked { lane.old.known.locks ≡ [] }
     ensures table { lane.new.table ≡ lane.old.table }
-    ensures claimed { MatchOption result (Passes table.now.about lane.old.known map word (word + 1)
-        lane.new.known) (λ e. Claims table.now.about lane.old.known map e lane.new.known) }
+    ensures claimed { MatchOption result
+        (TakesNothing table.now.about lane.old.known map word (word + 1) lane.new.known)
+        (λ e. Claims table.now.about lane.old.known map e lane.new.known) }
 {
     let mut bits = lane.see_bits(table, map, word);
     while bits != 0 {

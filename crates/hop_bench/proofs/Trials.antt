@@ -11,24 +11,24 @@ use Rattle.hop_words.specs.declared.known.About.{About}
 use Rattle.hop_words.specs.declared.known.Known.{Known}
 use Rattle.hop_words.specs.Ghost.{shape_at}
 use Rattle.hop_words.specs.Inside.{Shown, nobody}
-use Rattle.hop_words.specs.Owning.{behind}
-use Rattle.hop_words.specs.Kinds.{in_run}
+use Rattle.hop_words.specs.Owning.{tail_of}
+use Rattle.bpf_shared.specs.Own.{in_run, turns_of}
 use Rattle.bpf_shared.specs.History.{events_of}
 use Rattle.hop_words.specs.Opens.{new_lane, lanes_from}
-use Rattle.hop_words.specs.Rule.{turns_of}
 use Rattle.hop_words.proofs.Small.{map_is}
-use Rattle.hop_bench.specs.Trial.{IsTrial, IsNewPort}
-use Rattle.hop_map.specs.Port.{Port, IsPortOf, Does, runs, known_of}
+use Rattle.hop_bench.specs.Trial.{IsNewPort}
+use Rattle.hop_words.specs.Trial.{IsTrial}
+use Rattle.hop_map.specs.Port.{Port, IsPortOf, PortDoes, runs, known_of}
 use Rattle.hop_map.specs.Stores.{ArePorts}
 use Rattle.hop_map.proofs.Ports.{turned}
 
-pub runs_on : (a : About) (p q : Port) (e : Event) → Does a p e q → turns_of (e ∷ []) ≡ 0 → runs p ≡ true → runs q ≡ true
+pub runs_on : (a : About) (p q : Port) (e : Event) → PortDoes a p e q → turns_of (e ∷ []) ≡ 0 → runs p ≡ true → runs q ≡ true
 runs_on a p q e d quiet is = let n = turned a p.known q.known e d.seen d.cpu in grind (arith, nat_tests)
 
-pub begun_runs : (a : About) (p q : Port) → Does a p Begin q → runs p ≡ false → runs q ≡ true
+pub begun_runs : (a : About) (p q : Port) → PortDoes a p Begin q → runs p ≡ false → runs q ≡ true
 begun_runs a p q d is = let n = turned a p.known q.known Begin d.seen d.cpu in grind (arith, nat_tests)
 
-pub ended_runs : (a : About) (p q : Port) → Does a p End q → runs p ≡ true → runs q ≡ false
+pub ended_runs : (a : About) (p q : Port) → PortDoes a p End q → runs p ≡ true → runs q ≡ false
 ended_runs a p q d is = let n = turned a p.known q.known End d.seen d.cpu in grind (arith, nat_tests)
 
 pub trial_pair : (a : About) (key bytes : List ℕ) → IsTrial a → length key ≡ 8 → length bytes ≡ 8 → IsPairOf a.shape.maps 0 key bytes
@@ -58,7 +58,7 @@ idle_ports t (p ∷ ps) c (suc n) trial fit is =
     let here : p.known ≡ new_lane t.about c = ap (λ (ls : List Known). first ls) is in
     All-cons (IsNewPort t) p ps
     (All-head (IsPortOf t) p ps fit, trial, ap (λ (l : Known). in_run (events_of l.cpu l.seen)) here)
-    (idle_ports t ps (c + 1) n trial (All-tail (IsPortOf t) p ps fit) (ap (λ (ls : List Known). behind ls) is))
+    (idle_ports t ps (c + 1) n trial (All-tail (IsPortOf t) p ps fit) (ap (λ (ls : List Known). tail_of ls) is))
 
 pub new_ports_are : (t : Shown) (ps : List Port) → IsTrial t.about → ArePorts t ps → All (IsNewPort t) ps
 new_ports_are t ps trial p = idle_ports t ps 0 t.about.shape.cpus trial p.each p.new

@@ -1,6 +1,6 @@
 //! One call of a port.
 ghost use Rattle.std.specs.Prelude.{◌≡◌, ◌≤◌, ◌%◌, true, IfSome};
-ghost use Rattle.hop_bench.specs.Trial.{IsTrial};
+ghost use Rattle.hop_words.specs.Trial.{IsTrial};
 ghost use Rattle.hop_map.specs.Port.{IsPortOf, runs};
 
 use crate::plan::{Keys, Mix, key_of};

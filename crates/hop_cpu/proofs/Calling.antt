@@ -9,10 +9,11 @@ use Rattle.bpf_shared.specs.History.{events_of, entry}
 use Rattle.bpf_shared.specs.Own.{no_span, held_since, held_from, held_by}
 use Rattle.bpf_shared.specs.Passage.{Calls, same_span, held_with, held_without}
 use Rattle.hop_words.specs.Inside.{Shown}
-use Rattle.hop_map.specs.Port.{Port, Does, own_events, runs, holds}
+use Rattle.hop_map.specs.Port.{Port, PortDoes, own_events, runs, port_holds}
 use Rattle.hop_map.proofs.Ports.{own_after}
-use Rattle.hop_cpu.specs.Serving.{Serving, serves, running, held}
-use Rattle.hop_cpu.specs.Passing.{Passes, nothing}
+use Rattle.hop_cpu.specs.Serving.{Serving, serves, running, serves_span}
+use Rattle.hop_cpu.specs.Passing.{ExtendsHistory}
+use Rattle.hop_cpu.specs.Lemmas.Passing.{nothing}
 
 abbrev with_port : Shown → Port → Serving
 with_port t p = record { table = t; port = p }
@@ -24,9 +25,9 @@ own_cpu p c served = grind (arith, nat_tests)
 pub own_value : (p : Port) (c : ℕ) (b x : Bool) → (c == p.known.cpu) ≡ true → ((c == p.known.cpu) && x) ≡ b → x ≡ b
 own_value p c b x served is = ap (λ (t : Bool). t && x) (sym served) ∙ is
 
-module _ (t : Shown) (p q : Port) (c : ℕ) (e : Event) (d : Does t.about p e q) where
+module _ (t : Shown) (p q : Port) (c : ℕ) (e : Event) (d : PortDoes t.about p e q) where
   -- a call of the CPU that is served
-  calls : serves (with_port t p) c ≡ true → Calls (Passes (with_port t p) (with_port t q)) (serves (with_port t p)) c e
+  calls : serves (with_port t p) c ≡ true → Calls (ExtendsHistory (with_port t p) (with_port t q)) (serves (with_port t p)) c e
   calls served = record {
     others = d.seen.others;
     foreign = λ b is. ap (λ (k : ℕ). events_of k d.seen.others) (sym (own_cpu p b is)) ∙ d.seen.foreign;
@@ -46,31 +47,31 @@ module _ (t : Shown) (p q : Port) (c : ℕ) (e : Event) (d : Does t.about p e q)
   runs_on before after = λ i b. (b == d.cpu i) && (after ∙ sym before) i
 
   -- what is held after the event
-  held_after : holds q ≡ held_since (holds p) e
+  held_after : port_holds q ≡ held_since (port_holds p) e
   held_after = ap held_by (own_after t.about p.known q.known e d.seen d.cpu) ∙ from_append no_span (own_events p)
     where
       from_append : (f : Span → Bool) (xs : List Event) → held_from f (xs ++ e ∷ []) ≡ held_since (held_from f xs) e
       from_append f [] = refl
       from_append f (x ∷ xs) = from_append (held_since f x) xs
 
-  holds_on : held_since (holds p) e ≡ holds p → held (with_port t q) ≡ held (with_port t p)
+  holds_on : held_since (port_holds p) e ≡ port_holds p → serves_span (with_port t q) ≡ serves_span (with_port t p)
   holds_on same = λ i b s. (b == d.cpu i) && (held_after ∙ same) i s
 
 pub and_false : (b : Bool) → (b && false) ≡ false
 and_false true = refl
 and_false false = refl
 
-holds_none : (t : Shown) (p q : Port) (c : ℕ) → q.known.cpu ≡ p.known.cpu → serves (with_port t p) c ≡ true → holds q ≡ no_span → held (with_port t q) ≡ held_without (held (with_port t p)) c
+holds_none : (t : Shown) (p q : Port) (c : ℕ) → q.known.cpu ≡ p.known.cpu → serves (with_port t p) c ≡ true → port_holds q ≡ no_span → serves_span (with_port t q) ≡ held_without (serves_span (with_port t p)) c
 holds_none t p q c cpu served now = λ i b s. go b s (b == c) refl i
   where
     mine : p.known.cpu ≡ c
     mine = own_cpu p c served
 
-    go : (b : ℕ) (s : Span) (same : Bool) → (b == c) ≡ same → ((b == q.known.cpu) && holds q s) ≡ (if b == c then false else ((b == p.known.cpu) && holds p s))
+    go : (b : ℕ) (s : Span) (same : Bool) → (b == c) ≡ same → ((b == q.known.cpu) && port_holds q s) ≡ (if b == c then false else ((b == p.known.cpu) && port_holds p s))
     go b s true here = ap (λ (f : Span → Bool). (b == q.known.cpu) && f s) now ∙ (and_false (b == q.known.cpu) ∙ rw here refl)
-    go b s false here = ap (λ (f : Span → Bool). (b == q.known.cpu) && f s) now ∙ (and_false (b == q.known.cpu) ∙ rw here (sym (ap (λ (x : Bool). x && holds p s) (ap (λ (k : ℕ). b == k) mine ∙ here))))
+    go b s false here = ap (λ (f : Span → Bool). (b == q.known.cpu) && f s) now ∙ (and_false (b == q.known.cpu) ∙ rw here (sym (ap (λ (x : Bool). x && port_holds p s) (ap (λ (k : ℕ). b == k) mine ∙ here))))
 
-holds_more : (t : Shown) (p q : Port) (c m : ℕ) (key : List ℕ) (r : Option Span) → serves (with_port t p) c ≡ true → Does t.about p (Lookup m key r) q → held (with_port t q) ≡ held_with (held (with_port t p)) c r
+holds_more : (t : Shown) (p q : Port) (c m : ℕ) (key : List ℕ) (r : Option Span) → serves (with_port t p) c ≡ true → PortDoes t.about p (Lookup m key r) q → serves_span (with_port t q) ≡ held_with (serves_span (with_port t p)) c r
 holds_more t p q c m key None served d = holds_on t p q c (Lookup m key None) d refl
 holds_more t p q c m key (Some r) served d = λ i b s. go b s (b == c) refl i
   where
@@ -80,20 +81,20 @@ holds_more t p q c m key (Some r) served d = λ i b s. go b s (b == c) refl i
     mine : p.known.cpu ≡ c
     mine = own_cpu p c served
 
-    now : holds q ≡ held_since (holds p) e
+    now : port_holds q ≡ held_since (port_holds p) e
     now = held_after t p q c e d
 
-    go : (b : ℕ) (s : Span) (same : Bool) → (b == c) ≡ same → ((b == q.known.cpu) && holds q s) ≡ (((b == c) && same_span s r) || ((b == p.known.cpu) && holds p s))
+    go : (b : ℕ) (s : Span) (same : Bool) → (b == c) ≡ same → ((b == q.known.cpu) && port_holds q s) ≡ (((b == c) && same_span s r) || ((b == p.known.cpu) && port_holds p s))
     go b s true here =
         let same : (b == p.known.cpu) ≡ true = ap (λ (k : ℕ). b == k) mine ∙ here in
-        ap (λ (k : ℕ). (b == k) && holds q s) (d.cpu ∙ mine)
+        ap (λ (k : ℕ). (b == k) && port_holds q s) (d.cpu ∙ mine)
         ∙ (ap (λ (f : Span → Bool). (b == c) && f s) now
-        ∙ (ap (λ (x : Bool). x && (same_span s r || holds p s)) here
-        ∙ (sym (ap (λ (x : Bool). same_span s r || (x && holds p s)) same)
-        ∙ ap (λ (x : Bool). (x && same_span s r) || ((b == p.known.cpu) && holds p s)) (sym here))))
+        ∙ (ap (λ (x : Bool). x && (same_span s r || port_holds p s)) here
+        ∙ (sym (ap (λ (x : Bool). same_span s r || (x && port_holds p s)) same)
+        ∙ ap (λ (x : Bool). (x && same_span s r) || ((b == p.known.cpu) && port_holds p s)) (sym here))))
     go b s false here =
-        ap (λ (k : ℕ). (b == k) && holds q s) (d.cpu ∙ mine)
-        ∙ rw here (sym (ap (λ (k : ℕ). (b == k) && holds p s) mine ∙ rw here refl))
+        ap (λ (k : ℕ). (b == k) && port_holds q s) (d.cpu ∙ mine)
+        ∙ rw here (sym (ap (λ (k : ℕ). (b == k) && port_holds p s) mine ∙ rw here refl))
 
 -- ---- the same of the store's value, which is the table with the port
 module _ (x : Serving) (t : Shown) (p : Port) (is : with_port t p ≡ x) (c : ℕ) (served : serves x c ≡ true) where
@@ -103,36 +104,36 @@ module _ (x : Serving) (t : Shown) (p : Port) (is : with_port t p ≡ x) (c : �
   pub is_running : (b : Bool) → running x c ≡ b → runs p ≡ b
   is_running b r = own_value p c b (runs p) own (subst (λ (z : Serving). running z c ≡ b) (sym is) r)
 
-  module _ (q : Port) (e : Event) (d : Does t.about p e q) where
-    pub called : Calls (Passes x (with_port t q)) (serves x) c e
-    called = subst (λ (z : Serving). Calls (Passes z (with_port t q)) (serves z) c e) is (calls t p q c e d own)
+  module _ (q : Port) (e : Event) (d : PortDoes t.about p e q) where
+    pub called : Calls (ExtendsHistory x (with_port t q)) (serves x) c e
+    called = subst (λ (z : Serving). Calls (ExtendsHistory z (with_port t q)) (serves z) c e) is (calls t p q c e d own)
 
     -- an event in a run, which goes on
     pub same : running x c ≡ true → runs q ≡ true → (t.about.shape.maps ≡ x.table.about.shape.maps) × (serves (with_port t q) ≡ serves x) × (running (with_port t q) ≡ running x)
     same before after = subst (λ (z : Serving). (t.about.shape.maps ≡ z.table.about.shape.maps) × (serves (with_port t q) ≡ serves z) × (running (with_port t q) ≡ running z)) is
         (refl, serves_same t p q c e d, runs_on t p q c e d (is_running true before) after)
 
-    pub same_held : held_since (holds p) e ≡ holds p → held (with_port t q) ≡ held x
-    same_held k = subst (λ (z : Serving). held (with_port t q) ≡ held z) is (holds_on t p q c e d k)
+    pub same_held : held_since (port_holds p) e ≡ port_holds p → serves_span (with_port t q) ≡ serves_span x
+    same_held k = subst (λ (z : Serving). serves_span (with_port t q) ≡ serves_span z) is (holds_on t p q c e d k)
 
-  pub found_held : (q : Port) (m : ℕ) (key : List ℕ) (r : Option Span) → Does t.about p (Lookup m key r) q → held (with_port t q) ≡ held_with (held x) c r
-  found_held q m key r d = subst (λ (z : Serving). held (with_port t q) ≡ held_with (held z) c r) is (holds_more t p q c m key r own d)
+  pub found_held : (q : Port) (m : ℕ) (key : List ℕ) (r : Option Span) → PortDoes t.about p (Lookup m key r) q → serves_span (with_port t q) ≡ held_with (serves_span x) c r
+  found_held q m key r d = subst (λ (z : Serving). serves_span (with_port t q) ≡ held_with (serves_span z) c r) is (holds_more t p q c m key r own d)
 
-  pub ended_held : (q : Port) → Does t.about p End q → held (with_port t q) ≡ held_without (held x) c
-  ended_held q d = subst (λ (z : Serving). held (with_port t q) ≡ held_without (held z) c) is (holds_none t p q c d.cpu own (held_after t p q c End d))
+  pub ended_held : (q : Port) → PortDoes t.about p End q → serves_span (with_port t q) ≡ held_without (serves_span x) c
+  ended_held q d = subst (λ (z : Serving). serves_span (with_port t q) ≡ held_without (serves_span z) c) is (holds_none t p q c d.cpu own (held_after t p q c End d))
 
   -- ---- a beginning, which may be refused
   abbrev Begun : Result (Unit {0}) Worn → Port → Type 0
-  Begun r q = OnOk r (Does t.about p Begin q)
+  Begun r q = OnOk r (PortDoes t.about p Begin q)
 
-  pub begun : (q : Port) (r : Result (Unit {0}) Worn) → Begun r q → OnOk r (Calls (Passes x (with_port t q)) (serves x) c Begin)
+  pub begun : (q : Port) (r : Result (Unit {0}) Worn) → Begun r q → OnOk r (Calls (ExtendsHistory x (with_port t q)) (serves x) c Begin)
   begun q (Ok u) d = called q Begin d
   begun q (Err w) d = tt
 
-  pub begun_held : (q : Port) (r : Result (Unit {0}) Worn) → Begun r q → OnOk r (held (with_port t q) ≡ held_without (held x) c)
-  begun_held q (Ok u) d = subst (λ (z : Serving). held (with_port t q) ≡ held_without (held z) c) is (holds_none t p q c d.cpu own (held_after t p q c Begin d))
+  pub begun_held : (q : Port) (r : Result (Unit {0}) Worn) → Begun r q → OnOk r (serves_span (with_port t q) ≡ held_without (serves_span x) c)
+  begun_held q (Ok u) d = subst (λ (z : Serving). serves_span (with_port t q) ≡ held_without (serves_span z) c) is (holds_none t p q c d.cpu own (held_after t p q c Begin d))
   begun_held q (Err w) d = tt
 
-  pub refused : (q : Port) (r : Result (Unit {0}) Worn) → OnErr r (q ≡ p) → OnErr r (Passes x (with_port t q) [] × (running (with_port t q) ≡ running x) × (held (with_port t q) ≡ held x))
+  pub refused : (q : Port) (r : Result (Unit {0}) Worn) → OnErr r (q ≡ p) → OnErr r (ExtendsHistory x (with_port t q) [] × (running (with_port t q) ≡ running x) × (serves_span (with_port t q) ≡ serves_span x))
   refused q (Ok u) w = tt
-  refused q (Err e) w = subst (λ (z : Serving). Passes x z [] × (running z ≡ running x) × (held z ≡ held x)) (sym (ap (with_port t) w ∙ is)) (nothing x, refl, refl)
+  refused q (Err e) w = subst (λ (z : Serving). ExtendsHistory x z [] × (running z ≡ running x) × (serves_span z ≡ serves_span x)) (sym (ap (with_port t) w ∙ is)) (nothing x, refl, refl)

@@ -9,13 +9,13 @@ use Rattle.bpf_cpu.specs.declared.outcome.Outcome.{Outcome}
 use Rattle.bpf_cpu.specs.Step.{Explains}
 use Rattle.hop_words.specs.Inside.{Shown}
 use Rattle.hop_map.specs.Port.{Port, runs}
-use Rattle.hop_cpu.specs.Serving.{Serving, serves, running, IsWorn}
-use Rattle.hop_cpu.specs.Passing.{Passes}
+use Rattle.hop_cpu.specs.Serving.{Serving, serves, running, IsPortWorn}
+use Rattle.hop_cpu.specs.Passing.{ExtendsHistory}
 use Rattle.hop_cpu.specs.Running.{RanJob}
 use Rattle.hop_cpu.proofs.Calling.{own_value, and_false}
 
 pub ran : (x y : Serving) (t : Shown) (p : Port) (program : Loaded) (budget : ℕ) (first : Cpu) (end : Outcome) → record { table = t; port = p } ≡ y → IsLegal t.about.shape p.known.seen
-    → ((events : List Event) × Chain Passes serves first.number x y events × Explains (IsWorn x first.number) x.table.about.shape.maps program budget first events end)
+    → ((events : List Event) × Chain ExtendsHistory serves first.number x y events × Explains (IsPortWorn x first.number) x.table.about.shape.maps program budget first events end)
     → RanJob x y program budget first end
 ran x y t p program budget first end is legal (events, chain, explains) =
     let last : IsLegal y.table.about.shape y.port.known.seen = subst (λ (z : Serving). IsLegal z.table.about.shape z.port.known.seen) is legal in record {
@@ -24,7 +24,7 @@ ran x y t p program budget first end is legal (events, chain, explains) =
       log = chain.log;
       seen = chain.passage.seen;
       legal = subst (λ (s : Shown). IsLegal s.about.shape y.port.known.seen) chain.passage.table last;
-      explains = subst (λ (es : List Event). Explains (IsWorn x first.number) x.table.about.shape.maps program budget first es end) (sym chain.own) explains;
+      explains = subst (λ (es : List Event). Explains (IsPortWorn x first.number) x.table.about.shape.maps program budget first es end) (sym chain.own) explains;
     }
 
 pub idle_again : (x y : Serving) → running y ≡ running x → runs x.port ≡ false → runs y.port ≡ false

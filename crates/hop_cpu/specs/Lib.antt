@@ -1,3 +1,4 @@
 pub mod Serving
 pub mod Passing
 pub mod Running
+pub mod Lemmas

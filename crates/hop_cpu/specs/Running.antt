@@ -6,7 +6,7 @@ use Rattle.bpf_loader.specs.Loaded.{Loaded}
 use Rattle.bpf_cpu.specs.declared.cpu.Cpu.{Cpu}
 use Rattle.bpf_cpu.specs.declared.outcome.Outcome.{Outcome}
 use Rattle.bpf_cpu.specs.Step.{Explains}
-use Rattle.hop_cpu.specs.Serving.{Serving, IsWorn}
+use Rattle.hop_cpu.specs.Serving.{Serving, IsPortWorn}
 
 -- the CPU has seen these events more, and all that it has seen is one legal history; its own among
 -- them explain how the job ended
@@ -17,5 +17,5 @@ pub record RanJob (x y : Serving) (program : Loaded) (budget : ℕ) (first : Cpu
   pub log : List Entry
   pub seen : y.port.known.seen ≡ x.port.known.seen ++ log
   pub legal : IsLegal x.table.about.shape y.port.known.seen
-  pub explains : Explains (IsWorn x first.number) x.table.about.shape.maps program budget first
+  pub explains : Explains (IsPortWorn x first.number) x.table.about.shape.maps program budget first
       (events_of first.number log) end

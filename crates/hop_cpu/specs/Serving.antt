@@ -3,8 +3,8 @@ use Rattle.std.specs.Prelude.{◌≡◌, ℕ, ◌-◌, ◌^◌, ◌==◌, ◌&&�
 use Rattle.bpf_shared.specs.declared.events.Span.{Span}
 use Rattle.bpf_shared.specs.declared.events.MapAnswer.{MapAnswer}
 use Rattle.hop_words.specs.Inside.{Shown}
-use Rattle.hop_words.specs.Kinds.{count_of}
-use Rattle.hop_map.specs.Port.{Port, runs, holds}
+use Rattle.hop_words.specs.Kinds.{run_count}
+use Rattle.hop_map.specs.Port.{Port, runs, port_holds}
 use Rattle.hop_map.specs.Whole.{Lacks}
 
 -- a table, and the port of one of its CPUs
@@ -21,14 +21,14 @@ abbrev pub running : Serving → ℕ → Bool
 running x c = serves x c && runs x.port
 
 -- the spans that the CPU's run looked up, by its own events
-abbrev pub held : Serving → ℕ → Span → Bool
-held x c q = serves x c && holds x.port q
+abbrev pub serves_span : Serving → ℕ → Span → Bool
+serves_span x c q = serves x c && port_holds x.port q
 
 -- the CPU's run counter stands at its last even value
-abbrev pub IsWorn : Serving → ℕ → Type 0
-IsWorn x c = count_of x.table.about x.port.known ≡ 2 ^ 64 - 2
+abbrev pub IsPortWorn : Serving → ℕ → Type 0
+IsPortWorn x c = run_count x.table.about x.port.known ≡ 2 ^ 64 - 2
 
 -- Busy only at a segment's last version, NoMemory only where the call looked for a free element in
 -- vain
-abbrev pub MayLack : Serving → Serving → ℕ → List ℕ → MapAnswer → Type 0
-MayLack x y m key answer = Lacks x.table.about x.port.known m answer y.port.known
+abbrev pub MayLackElement : Serving → Serving → ℕ → List ℕ → MapAnswer → Type 0
+MayLackElement x y m key answer = Lacks x.table.about x.port.known m answer y.port.known

@@ -52,8 +52,9 @@ impl<'a, R: Wait> HopCpu<'a, R> {
 }
 
 impl<R: Wait> Shared for HopCpu<'_, R> {
-    ghost use Rattle.hop_cpu.specs.Serving.{serves, running, held, IsWorn, MayLack};
-    ghost use Rattle.hop_cpu.specs.Passing.{Passes, nothing, follows};
+    ghost use Rattle.hop_cpu.specs.Serving.{serves, running, serves_span, IsPortWorn, MayLackElement};
+    ghost use Rattle.hop_cpu.specs.Passing.{ExtendsHistory};
+    ghost use Rattle.hop_cpu.specs.Lemmas.Passing.{nothing, follows};
 
     ghost shapes = { λ x. x.table.about.shape.maps };
 
@@ -61,13 +62,13 @@ impl<R: Wait> Shared for HopCpu<'_, R> {
 
     ghost running = { running };
 
-    ghost held = { held };
+    ghost held = { serves_span };
 
-    ghost passes = { Passes };
+    ghost passes = { ExtendsHistory };
 
-    ghost may_wear = { IsWorn };
+    ghost may_wear = { IsPortWorn };
 
-    ghost may_lack = { MayLack };
+    ghost may_lack = { MayLackElement };
 
     fn shape(&self, map: u64) -> Option<MapShape> {
         self.port.shape(self.table, map)

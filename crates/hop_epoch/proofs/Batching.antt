@@ -12,7 +12,7 @@ use Rattle.hop_words.specs.Content.{item}
 use Rattle.hop_words.specs.Ghost.{IsElement, Each, limbo_at, no_limbo}
 use Rattle.hop_words.specs.Rule.{link_to}
 use Rattle.hop_words.specs.Kinds.{limbo_set, cleared, giving_old}
-use Rattle.hop_words.specs.Owning.{sighted, behind}
+use Rattle.hop_words.specs.Owning.{sighted, tail_of}
 use Rattle.hop_words.proofs.Small.{equal, map_is}
 use Rattle.hop_words.proofs.Shares.{some_once}
 use Rattle.hop_epoch.specs.Batch.{front, Notes, Tracks, Keeps, Looks, AreEven, SeesRunning}
@@ -113,25 +113,25 @@ front_item a m (e ∷ es) is all =
     let t : nat_lt e 4294967296 ≡ true = grind (arith, nat_tests) in
     ap item z ∙ rw t refl
 
-pub front_is : (es : List ℕ) (e : ℕ) → Some e ≡ front es → es ≡ e ∷ behind es
+pub front_is : (es : List ℕ) (e : ℕ) → Some e ≡ front es → es ≡ e ∷ tail_of es
 front_is [] e is = cc
 front_is (x ∷ xs) e is = let z : x ≡ e = some_once x e (sym is) in ap (λ (i : ℕ). i ∷ xs) z
 
-pub first_of : (a : About) (m e : ℕ) (es : List ℕ) → es ≡ e ∷ behind es → Each (IsElement a m) es → IsElement a m e × Each (IsElement a m) (behind es)
+pub first_of : (a : About) (m e : ℕ) (es : List ℕ) → es ≡ e ∷ tail_of es → Each (IsElement a m) es → IsElement a m e × Each (IsElement a m) (tail_of es)
 first_of a m e es is all = let t = subst (Each (IsElement a m)) is all in (t.0, t.1)
 
 -- what is known after the first element of the old batch was given back
 pub gives_on : (a : About) (m e : ℕ) (l k k' : Known) (young : Option ℕ) (ns : List ℕ) (link : ℕ) → IsShape a.shape → Tracks a k m young (Some e) ns → Notes a (limbo_at k.limbo m).noted ns
-    → k' ≡ giving_old k m (behind (limbo_at k.limbo m).old) → link ≡ link_to (behind (limbo_at k.limbo m).old) → Tracks a k' m young (item link) ns
+    → k' ≡ giving_old k m (tail_of (limbo_at k.limbo m).old) → link ≡ link_to (tail_of (limbo_at k.limbo m).old) → Tracks a k' m young (item link) ns
 gives_on a m e l k k' young ns link is p n given linked =
-    let x : Limbo = record (limbo_at k.limbo m) { old = behind (limbo_at k.limbo m).old } in
+    let x : Limbo = record (limbo_at k.limbo m) { old = tail_of (limbo_at k.limbo m).old } in
     let now = at_set k m x p.room in
     let old = front_is (limbo_at k.limbo m).old e p.old_is in
     let rest = first_of a m e (limbo_at k.limbo m).old old p.old_inside in
     subst (λ (y : Known). Tracks a y m young (item link) ns) (sym given) (record {
       room = subst (λ (i : ℕ). m < i) (sym (length-set k.limbo m x)) p.room;
       young_is = p.young_is ∙ ap (λ (y : Limbo). front y.young) (sym now);
-      old_is = ap item linked ∙ (front_item a m (behind (limbo_at k.limbo m).old) is rest.1 ∙ ap (λ (y : Limbo). front y.old) (sym now));
+      old_is = ap item linked ∙ (front_item a m (tail_of (limbo_at k.limbo m).old) is rest.1 ∙ ap (λ (y : Limbo). front y.old) (sym now));
       young_inside = subst (λ (y : Limbo). Each (IsElement a m) y.young) (sym now) p.young_inside;
       old_inside = subst (λ (y : Limbo). Each (IsElement a m) y.old) (sym now) rest.1;
       counters = inr (subst (λ (y : Limbo). Notes a y.noted ns) (sym now) n);

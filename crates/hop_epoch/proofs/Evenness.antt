@@ -4,9 +4,10 @@ use Rattle.std.proofs.lemmas.Bool.Decides.{nat_tests}
 use Rattle.bpf_shared.specs.History.{events_of}
 use Rattle.hop_words.specs.declared.known.About.{About}
 use Rattle.hop_words.specs.declared.known.Known.{Known}
-use Rattle.hop_words.specs.Kinds.{in_run, count_of}
+use Rattle.hop_words.specs.Kinds.{run_count}
+use Rattle.bpf_shared.specs.Own.{in_run}
 
-pub idle_even : (a : About) (l : Known) → a.count % 2 ≡ 0 → in_run (events_of l.cpu l.seen) ≡ false → count_of a l % 2 ≡ 0
+pub idle_even : (a : About) (l : Known) → a.count % 2 ≡ 0 → in_run (events_of l.cpu l.seen) ≡ false → run_count a l % 2 ≡ 0
 idle_even a l even idle = grind (arith, nat_tests)
 
 -- so the counter that is too large to go on is the last even one

@@ -4,7 +4,7 @@ use Rattle.std.proofs.lemmas.List.Elements.{All-nil, All-cons}
 use Rattle.bpf_shared.specs.History.{events_of}
 use Rattle.hop_words.specs.declared.known.About.{About}
 use Rattle.hop_words.specs.declared.known.Known.{Known}
-use Rattle.hop_words.specs.Kinds.{in_run}
+use Rattle.bpf_shared.specs.Own.{in_run}
 use Rattle.hop_words.specs.Opens.{lanes_from, new_lane}
 use Rattle.hop_epoch.specs.Ready.{IsIdle, IsStill}
 

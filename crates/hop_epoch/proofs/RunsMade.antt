@@ -9,9 +9,9 @@ use Rattle.hop_words.specs.declared.known.About.{About}
 use Rattle.hop_words.specs.declared.known.Known.{Known}
 use Rattle.hop_words.specs.declared.known.Fresh.{Fresh}
 use Rattle.hop_words.specs.declared.known.Sight.{Sight}
-use Rattle.hop_words.specs.Rule.{turns_of}
-use Rattle.hop_words.specs.Kinds.{in_run, count_of, Told, holding}
-use Rattle.hop_words.specs.Owning.{IsInHand, behind}
+use Rattle.bpf_shared.specs.Own.{turns_of, in_run}
+use Rattle.hop_words.specs.Kinds.{run_count, Told, holding}
+use Rattle.hop_words.specs.Owning.{IsInHand, tail_of}
 use Rattle.hop_words.proofs.Histories.{turns_of-append}
 use Rattle.hop_arena.specs.Claiming.{Sees}
 use Rattle.hop_epoch.specs.Ready.{IsIdle, IsStill}
@@ -32,7 +32,7 @@ pub begun : (a : About) (l l' : Known) → Told a l Begin l' → in_run (events_
 begun a l l' t idle =
     let n = turned a l l' Begin t in grind (arith, nat_tests)
 
-pub counted : (a : About) (l l' : Known) → Told a l Begin l' → count_of a l' ≡ count_of a l + 1
+pub counted : (a : About) (l l' : Known) → Told a l Begin l' → run_count a l' ≡ run_count a l + 1
 counted a l l' t = let n = turned a l l' Begin t in omega arith
 
 ended : (a : About) (l l' : Known) → Told a l End l' → in_run (events_of l.cpu l.seen) ≡ true → in_run (events_of l'.cpu l'.seen) ≡ false
@@ -45,7 +45,7 @@ same_run l l' still = ap (λ (c : ℕ). events_of c l'.seen) still.0 ∙ ap (eve
 pub runs_on : (l l' : Known) → IsStill l l' → in_run (events_of l.cpu l.seen) ≡ true → in_run (events_of l'.cpu l'.seen) ≡ true
 runs_on l l' still runs = ap in_run (same_run l l' still) ∙ runs
 
-pub counts_on : (a : About) (l l' : Known) → IsStill l l' → count_of a l' ≡ count_of a l
+pub counts_on : (a : About) (l l' : Known) → IsStill l l' → run_count a l' ≡ run_count a l
 counts_on a l l' still = ap (λ (es : List Event). a.count + turns_of es) (same_run l l' still)
 
 -- from one run to the next
@@ -61,4 +61,4 @@ pub claimed_in_hand : (l l' : Known) (m e n : ℕ) (more : List Sight) → Sees 
 claimed_in_hand l l' m e n more sees same =
     let f : Fresh = record { map = m; element = e; key = []; value = [] } in
     let p : l'.fresh ≡ f ∷ l.fresh = ap (λ (k : Known). k.fresh) sees in
-    (f, p ∙ ap (λ (xs : List Fresh). f ∷ behind xs) (sym p), sym same, refl)
+    (f, p ∙ ap (λ (xs : List Fresh). f ∷ tail_of xs) (sym p), sym same, refl)

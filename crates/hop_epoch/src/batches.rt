@@ -3,7 +3,7 @@ ghost use Rattle.std.specs.Prelude.{◌≡◌, ◌⊎◌, ◌<◌, ◌≤◌, �
 ghost use Rattle.bpf_shared.specs.Shape.{IsShape};
 ghost use Rattle.hop_words.specs.Ghost.{IsElement, limbo_at};
 ghost use Rattle.hop_words.specs.Kinds.{retiring};
-ghost use Rattle.hop_words.specs.Owning.{behind};
+ghost use Rattle.hop_words.specs.Owning.{tail_of};
 ghost use Rattle.hop_epoch.specs.Batch.{Tracks, Keeps, Notes, Looks, AreEven, SeesRunning, link_word};
 ghost use Rattle.hop_words.specs.Content.{item};
 
@@ -20,7 +20,7 @@ impl Used {
     /// The used element that this CPU has in hand.
     pub fn new(lane: &Lane, map: u8, number: u32) -> Used
         requires used { (limbo_at lane.now.known.limbo map).used
-            ≡ number ∷ behind (limbo_at lane.now.known.limbo map).used }
+            ≡ number ∷ tail_of (limbo_at lane.now.known.limbo map).used }
         ensures map { result.map ≡ map }
         ensures number { result.number ≡ number }
     {
@@ -74,12 +74,12 @@ impl Batches {
         requires map { element.map ≡ self.old.map }
         requires element { IsElement table.now.about element.map element.number }
         requires used { (limbo_at lane.old.known.limbo element.map).used
-            ≡ element.number ∷ behind (limbo_at lane.old.known.limbo element.map).used }
+            ≡ element.number ∷ tail_of (limbo_at lane.old.known.limbo element.map).used }
         requires unlocked { lane.old.known.locks ≡ [] }
         ensures table { lane.new.table ≡ lane.old.table }
         ensures retired { lane.new.known
             ≡ retiring lane.old.known element.map element.number
-            (behind (limbo_at lane.old.known.limbo element.map).used) }
+            (tail_of (limbo_at lane.old.known.limbo element.map).used) }
         ensures map { self.new.map ≡ self.old.map }
         ensures tracks { Tracks table.now.about lane.new.known self.new.map self.new.young
             self.new.aged self.new.noted }

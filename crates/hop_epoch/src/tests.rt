@@ -1,9 +1,11 @@
 //! Claims, runs and batches over a real store, by many threads.
 ghost use Rattle.std.specs.Prelude.{◌≡◌, ◌<◌, ◌+◌, ◌^◌, true, [], length, All, IfOk, vec_len};
 ghost use Rattle.bpf_shared.specs.History.{events_of};
-ghost use Rattle.hop_words.specs.Kinds.{in_run, count_of};
+ghost use Rattle.hop_words.specs.Kinds.{run_count};
+ghost use Rattle.bpf_shared.specs.Own.{in_run};
 ghost use Rattle.hop_words.specs.Opens.{lanes_from};
-ghost use Rattle.hop_epoch.specs.Ready.{IsTrial, IsIdle, IsReady, IsFirst, IsStill};
+ghost use Rattle.hop_epoch.specs.Ready.{IsIdle, IsLaneReady, IsFirstArena, IsStill};
+ghost use Rattle.hop_words.specs.Trial.{IsTrial};
 
 use crate::{begin_run, end_run};
 use bpf_shared::{MapShape, StoreShape, Worn};
@@ -43,7 +45,7 @@ fn deal_all(alloc: Global, table: &HopTable, lanes: &mut Lanes) -> Result<Vec<La
     requires table { lanes.old.table ≡ table.now.id }
     requires trial { IsTrial table.now.about }
     requires idle { All (IsIdle table.now.about) lanes.old.lanes }
-    ensures { IfOk result (λ v. All (IsReady table.now) v.items) }
+    ensures { IfOk result (λ v. All (IsLaneReady table.now) v.items) }
 {
     let mut dealt = Vec::new(alloc);
     'deal: for _ in 0..16 {
@@ -57,10 +59,10 @@ fn deal_all(alloc: Global, table: &HopTable, lanes: &mut Lanes) -> Result<Vec<La
 
 // The number of an element that is claimed for good.
 fn take_one(table: &HopTable, lane: &mut Lane, arena: &mut Arena) -> Option<u32>
-    requires ready { IsReady table.now lane.old }
-    requires first { IsFirst table.now.about arena.old }
-    ensures ready { IsReady table.now lane.new }
-    ensures first { IsFirst table.now.about arena.new }
+    requires ready { IsLaneReady table.now lane.old }
+    requires first { IsFirstArena table.now.about arena.old }
+    ensures ready { IsLaneReady table.now lane.new }
+    ensures first { IsFirstArena table.now.about arena.new }
 {
     match arena.claim(lane, table) {
         Some(element) => Some(element.into_number()),
@@ -70,7 +72,7 @@ fn take_one(table: &HopTable, lane: &mut Lane, arena: &mut Arena) -> Option<u32>
 
 // Claims until no element is free.
 fn take_all(alloc: Global, table: &HopTable, mut lane: Lane) -> Result<Vec<u32>, AllocError>
-    requires ready { IsReady table.now lane }
+    requires ready { IsLaneReady table.now lane }
 {
     let cpu = lane.cpu();
     let mut arena = Arena::new(table, 0, cpu);
@@ -91,10 +93,10 @@ fn take_by_threads<R: Threads + Sync>(
     table: &HopTable,
     lanes: Vec<Lane>,
 ) -> Result<Vec<Result<Vec<u32>, AllocError>>, AllocError>
-    requires ready { All (IsReady table.now) lanes.items }
+    requires ready { All (IsLaneReady table.now) lanes.items }
 {
     let each = |lane: Lane| -> Result<Vec<u32>, AllocError>
-        requires { IsReady table.now lane }
+        requires { IsLaneReady table.now lane }
     { take_all(alloc, table, lane) };
     thread::map_vec(rt, lanes, &each)
 }
@@ -144,10 +146,10 @@ fn use_one(
     requires table { lane.old.table ≡ table.now.id }
     requires trial { IsTrial table.now.about }
     requires unlocked { lane.old.known.locks ≡ [] }
-    requires first { IsFirst table.now.about arena.old }
+    requires first { IsFirstArena table.now.about arena.old }
     requires sizes { (length key.now ≡ 8) × (length value.now ≡ 8) }
     ensures table { lane.new.table ≡ lane.old.table }
-    ensures first { IsFirst table.now.about arena.new }
+    ensures first { IsFirstArena table.now.about arena.new }
     ensures still { IsStill lane.old.known lane.new.known }
 {
     let Some(element) = arena.claim(lane, table) else {
@@ -168,10 +170,10 @@ fn run_once(
     arena: &mut Arena,
     users: &[AtomicU64],
 ) -> Result<bool, Worn>
-    requires ready { IsReady table.now lane.old }
-    requires first { IsFirst table.now.about arena.old }
-    ensures ready { IsReady table.now lane.new }
-    ensures first { IsFirst table.now.about arena.new }
+    requires ready { IsLaneReady table.now lane.old }
+    requires first { IsFirstArena table.now.about arena.old }
+    ensures ready { IsLaneReady table.now lane.new }
+    ensures first { IsFirstArena table.now.about arena.new }
 {
     begin_run(lane, table)?;
     let alone = use_one(table, lane, arena, users, &[1; 8], &[2; 8]);
@@ -181,7 +183,7 @@ fn run_once(
 
 // So many runs, one after the other. Answers in how many of them another CPU had the same element.
 fn run_often(table: &HopTable, mut lane: Lane, users: &[AtomicU64], runs: u32) -> Result<u64, Worn>
-    requires ready { IsReady table.now lane }
+    requires ready { IsLaneReady table.now lane }
 {
     let cpu = lane.cpu();
     let mut arena = Arena::new(table, 0, cpu);
@@ -201,10 +203,10 @@ fn run_by_threads<R: Threads + Sync>(
     lanes: Vec<Lane>,
     users: &[AtomicU64],
 ) -> Result<Vec<Result<u64, Worn>>, AllocError>
-    requires ready { All (IsReady table.now) lanes.items }
+    requires ready { All (IsLaneReady table.now) lanes.items }
 {
     let each = |lane: Lane| -> Result<u64, Worn>
-        requires { IsReady table.now lane }
+        requires { IsLaneReady table.now lane }
     { run_often(table, lane, users, 20_000) };
     thread::map_vec(rt, lanes, &each)
 }

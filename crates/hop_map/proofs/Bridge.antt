@@ -6,20 +6,20 @@ use Rattle.std.proofs.lemmas.Bool.Decides.{nat_tests}
 use Rattle.bpf_shared.specs.Shape.{elements}
 use Rattle.hop_words.specs.declared.known.About.{About}
 use Rattle.hop_words.specs.Layout.{power, depth}
-use Rattle.hop_words.specs.Homes.{segment_of, bucket_of}
+use Rattle.hop_words.specs.Homes.{segment_of, key_bucket}
 use Rattle.hop_map.specs.Views.{home}
-use Rattle.hop_words.specs.Content.{Words, item, times, one_if, HopsTo, Follows, Reached, HasKey, IsShare}
+use Rattle.hop_words.specs.Content.{MapWords, item, times, one_if, HopsTo, LinksThrough, Reached, HasKey, IsShare}
 use Rattle.hop_words.specs.Ghost.{segment_in, shape_at}
 use Rattle.hop_words.specs.Rule.{put_key}
 use Rattle.hop_words.proofs.Small.{equal_keys, key_self, key_apart}
 use Rattle.hop_words.proofs.Shares.{some_once, times_head, times_tail}
-use Rattle.hop_seg.specs.Places.{place_at, distance_to}
+use Rattle.hop_seg.specs.Places.{place_at, bucket_distance}
 use Rattle.hop_seg.specs.Words.{Words as SegWords}
-use Rattle.hop_seg.specs.Segment.{Sound as SegSound, Chain, Among, KeysDiffer, IsOwn, key_at, home_bucket}
-use Rattle.hop_seg.specs.Content.{IsPlaced, IsLinked, HasPair, IsAbsent, Gains, Loses, Changes}
+use Rattle.hop_seg.specs.Segment.{Sound as SegSound, Chain, Among, KeysDiffer, IsOwn, element_key, home_bucket}
+use Rattle.hop_seg.specs.Content.{IsPlaced, IsInSegment, HasPair, IsAbsent, Gains, Loses, Changes}
 use Rattle.hop_seg.proofs.Basics.{distance-place, place-distance}
 use Rattle.hop_seg.proofs.Walking.{listed_among}
-use Rattle.hop_map.specs.Views.{view}
+use Rattle.hop_map.specs.Views.{segment_view}
 use Rattle.hop_map.proofs.Keys.{spells}
 use Rattle.hop_map.proofs.Lows.{bit_low}
 
@@ -28,11 +28,11 @@ power_is zero = refl
 power_is (suc n) = ap (λ (k : ℕ). 2 * k) (power_is n) ∙ sym (pow-succ' 2 n)
 
 -- ---- lists
-pub chain_of : (link : ℕ → ℕ) (n : ℕ) (es : List ℕ) → Follows link n es → Chain (λ e. item (link e)) (item n) es
+pub chain_of : (link : ℕ → ℕ) (n : ℕ) (es : List ℕ) → LinksThrough link n es → Chain (λ e. item (link e)) (item n) es
 chain_of link n [] h = h
 chain_of link n (e ∷ es) h = (h.0, chain_of link (link e) es h.1)
 
-follows_of : (link : ℕ → ℕ) (n : ℕ) (es : List ℕ) → Chain (λ e. item (link e)) (item n) es → Follows link n es
+follows_of : (link : ℕ → ℕ) (n : ℕ) (es : List ℕ) → Chain (λ e. item (link e)) (item n) es → LinksThrough link n es
 follows_of link n [] h = h
 follows_of link n (e ∷ es) h = (h.0, follows_of link (link e) es h.1)
 
@@ -76,9 +76,9 @@ once_of key (x ∷ xs) d e = go (x == e) refl (once_of key xs d.1 e)
         none zero h = let z : one_if (x == e) ≡ 1 = ap one_if is in omega arith
         none (suc n) h = absurd (d.0 e (among_of e xs (omega arith)) (ap key (let s : e ≡ x = grind (arith, nat_tests) in s)))
 
-module _ (a : About) (m s : ℕ) (known : ℕ → Bool) (x : Words) where
+module _ (a : About) (m s : ℕ) (known : ℕ → Bool) (x : MapWords) where
   abbrev pub v : SegWords
-  v = view a m s known x
+  v = segment_view a m s known x
 
   pub placed_of : (e b d : ℕ) → HopsTo x m s b d e → IsPlaced v e
   placed_of e b d h = (b, d, h.0, h.1, bit_low (x.hop m s b) d h.1 ∙ h.2, h.3)
@@ -86,21 +86,21 @@ module _ (a : About) (m s : ℕ) (known : ℕ → Bool) (x : Words) where
   pub hops_of : (e : ℕ) → IsPlaced v e → (b : ℕ) × (d : ℕ) × HopsTo x m s b d e
   hops_of e p = (p.0, p.1, (p.2, p.3, sym (bit_low (x.hop m s p.0) p.1 p.3) ∙ p.4, p.5))
 
-  pub linked_of : (e : ℕ) → Reached x m s e → IsLinked v e
+  pub linked_of : (e : ℕ) → Reached x m s e → IsInSegment v e
   linked_of e (inl h) = inl (placed_of e h.0 h.1 h.2)
   linked_of e (inr h) = inr (h.0, chain_of (x.link m) (x.head m s) h.0 h.1, among_of e h.0 h.2)
 
-  pub reached_of : (e : ℕ) → IsLinked v e → Reached x m s e
+  pub reached_of : (e : ℕ) → IsInSegment v e → Reached x m s e
   reached_of e (inl p) = inl (hops_of e p)
   reached_of e (inr l) = inr (l.0, follows_of (x.link m) (x.head m s) l.0 l.1, times_of e l.0 l.2)
 
   -- from the rule's share to the code's soundness
   module _ (f : List ℕ → Option ℕ) (p : IsShare a.seed (shape_at a m) (segment_in a m) x m s f)
       (all_known : (key : List ℕ) (e : ℕ) → f key ≡ Some e → segment_of a.seed (shape_at a m) key ≡ s → (e < elements (shape_at a m)) × (known e ≡ true)) where
-    its_key : (e : ℕ) → Reached x m s e → (key : List ℕ) × HasKey (shape_at a m) x m e key × (segment_of a.seed (shape_at a m) key ≡ s) × (f key ≡ Some e) × (key_at v e ≡ key)
+    its_key : (e : ℕ) → Reached x m s e → (key : List ℕ) × HasKey (shape_at a m) x m e key × (segment_of a.seed (shape_at a m) key ≡ s) × (f key ≡ Some e) × (element_key v e ≡ key)
     its_key e r = let k = p.each e r in (k.0, k.1, k.2, k.3, spells a m x e k.0 k.1)
 
-    leads_to : (e : ℕ) → Reached x m s e → f (key_at v e) ≡ Some e
+    leads_to : (e : ℕ) → Reached x m s e → f (element_key v e) ≡ Some e
     leads_to e r = let k = its_key e r in ap f k.4 ∙ k.3
 
     own : (e : ℕ) → Reached x m s e → IsOwn v.fixed e
@@ -113,9 +113,9 @@ module _ (a : About) (m s : ℕ) (known : ℕ → Bool) (x : Words) where
         }
 
     bucket_is : (e b d : ℕ) → HopsTo x m s b d e → home_bucket v e ≡ b
-    bucket_is e b d h = let k = its_key e (inl (b, d, h)) in ap (λ (q : List ℕ). bucket_of a.seed (shape_at a m) q) k.4 ∙ p.sound.homes b d e k.0 h k.1
+    bucket_is e b d h = let k = its_key e (inl (b, d, h)) in ap (λ (q : List ℕ). key_bucket a.seed (shape_at a m) q) k.4 ∙ p.sound.homes b d e k.0 h k.1
 
-    same_element : (e d : ℕ) → Reached x m s e → Reached x m s d → key_at v e ≡ key_at v d → e ≡ d
+    same_element : (e d : ℕ) → Reached x m s e → Reached x m s d → element_key v e ≡ element_key v d → e ≡ d
     same_element e d r q same = some_once e d (sym (leads_to e r) ∙ (ap f same ∙ leads_to d q))
 
     at_slot : (q e : ℕ) → q < 64 → v.slot q ≡ Some e → (b : ℕ) × (d : ℕ) × HopsTo x m s b d e × ((b + d) % 64 ≡ q)
@@ -133,7 +133,7 @@ module _ (a : About) (m s : ℕ) (known : ℕ → Bool) (x : Words) where
           let h = at_slot q e l is in
           let b = bucket_is e h.0 h.1 h.2 in
           let dd : h.1 < 64 = (let z = h.2.1 in omega arith) in
-          let far : distance_to (home_bucket v e) q ≡ h.1 = (λ j. distance_to (b j) (sym h.3 j)) ∙ distance-place h.0 h.1 h.2.0 dd in
+          let far : bucket_distance (home_bucket v e) q ≡ h.1 = (λ j. bucket_distance (b j) (sym h.3 j)) ∙ distance-place h.0 h.1 h.2.0 dd in
           record {
             near = subst (λ (n : ℕ). n < 32) (sym far) h.2.1;
             bit = (λ j. bit_at (v.hop (b j)) (far j)) ∙ (bit_low (x.hop m s h.0) h.1 h.2.1 ∙ h.2.2);
@@ -150,7 +150,7 @@ module _ (a : About) (m s : ℕ) (known : ℕ → Bool) (x : Words) where
           let n = p.sound.apart h.0 h.1 e h.2 in
           let t = times_of e p.sound.list (subst (λ (i : ℕ). Among i p.sound.list) z l) in
           omega arith;
-      differ = differ_of (key_at v) p.sound.list (λ e d l k same. same_element e d (on_list e l) (on_list d k) same) p.sound.one_place;
+      differ = differ_of (element_key v) p.sound.list (λ e d l k same. same_element e d (on_list e l) (on_list d k) same) p.sound.one_place;
       placed_own = λ q e l is. let h = at_slot q e l is in own e (inl (h.0, h.1, h.2));
       listed_own = λ e l. own e (on_list e l);
     }
@@ -169,11 +169,11 @@ module _ (a : About) (m s : ℕ) (known : ℕ → Bool) (x : Words) where
   module _ (q : SegSound v) (f : List ℕ → Option ℕ) (keyed : (e : ℕ) → known e ≡ true → (key : List ℕ) × HasKey (shape_at a m) x m e key)
       (leads : (key : List ℕ) (e : ℕ) → HasPair v key e → (f key ≡ Some e) × (segment_of a.seed (shape_at a m) key ≡ s))
       (pairs : (key : List ℕ) (e : ℕ) → f key ≡ Some e → segment_of a.seed (shape_at a m) key ≡ s → HasPair v key e) where
-    known_linked : (e : ℕ) → IsLinked v e → known e ≡ true
+    known_linked : (e : ℕ) → IsInSegment v e → known e ≡ true
     known_linked e (inl h) = (q.placed_own (place_at h.0 h.1) e (omega arith) h.5).known.0
     known_linked e (inr l) = (q.listed_own e (listed_among v q e l)).known.0
 
-    has : (e : ℕ) → IsLinked v e → HasKey (shape_at a m) x m e (key_at v e)
+    has : (e : ℕ) → IsInSegment v e → HasKey (shape_at a m) x m e (element_key v e)
     has e l = let k = keyed e (known_linked e l) in subst (λ (key : List ℕ). HasKey (shape_at a m) x m e key) (sym (spells a m x e k.0 k.1)) k.1
 
     pub share_of : IsShare a.seed (shape_at a m) (segment_in a m) x m s f
@@ -183,11 +183,11 @@ module _ (a : About) (m s : ℕ) (known : ℕ → Bool) (x : Words) where
         hopped = λ r e l is.
             let h = q.hopped r e l is in
             let b : home_bucket v e < 64 = omega arith in
-            (home_bucket v e, distance_to (home_bucket v e) r, (b, h.near, sym (bit_low (x.hop m s (home_bucket v e)) (distance_to (home_bucket v e) r) h.near) ∙ h.bit, ap (λ (n : ℕ). v.slot n) (place-distance (home_bucket v e) r b l) ∙ is), place-distance (home_bucket v e) r b l);
+            (home_bucket v e, bucket_distance (home_bucket v e) r, (b, h.near, sym (bit_low (x.hop m s (home_bucket v e)) (bucket_distance (home_bucket v e) r) h.near) ∙ h.bit, ap (λ (n : ℕ). v.slot n) (place-distance (home_bucket v e) r b l) ∙ is), place-distance (home_bucket v e) r b l);
         homes = λ b d e key h k.
             let t = q.leads b d h.0 h.1 (bit_low (x.hop m s b) d h.1 ∙ h.2) in
             let z : t.0 ≡ e = some_once t.0 e (sym t.1 ∙ h.3) in
-            sym (ap (λ (i : List ℕ). bucket_of a.seed (shape_at a m) i) (spells a m x e key k)) ∙ (ap (home_bucket v) (sym z) ∙ t.2);
+            sym (ap (λ (i : List ℕ). key_bucket a.seed (shape_at a m) i) (spells a m x e key k)) ∙ (ap (home_bucket v) (sym z) ∙ t.2);
         one_hop = λ b d c i e h k.
             let same = q.apart (place_at b d) (place_at c i) e e (omega arith) (omega arith) h.3 k.3 refl in
             let t = q.leads b d h.0 h.1 (bit_low (x.hop m s b) d h.1 ∙ h.2) in
@@ -197,10 +197,10 @@ module _ (a : About) (m s : ℕ) (known : ℕ → Bool) (x : Words) where
             (w, (let l = h.0 in let n = h.1 in let o = k.1 in omega arith));
         list = q.list;
         follows = follows_of (x.link m) (x.head m s) q.list q.chain;
-        one_place = once_of (key_at v) q.list q.differ;
+        one_place = once_of (element_key v) q.list q.differ;
         apart = λ b d e h. none e (times e q.list) refl (λ l. q.aside (place_at b d) e e (omega arith) h.3 l refl);
       };
-      each = λ e r. let l = linked_of e r in let t = leads (key_at v e) e (record { keyed = refl; linked = l }) in (key_at v e, has e l, t.1, t.0);
+      each = λ e r. let l = linked_of e r in let t = leads (element_key v e) e (record { keyed = refl; linked = l }) in (element_key v e, has e l, t.1, t.0);
       all = λ key e is home. let t = pairs key e is home in (reached_of e t.linked, subst (λ (k : List ℕ). HasKey (shape_at a m) x m e k) t.keyed (has e t.linked));
     }
       where
@@ -209,20 +209,20 @@ module _ (a : About) (m s : ℕ) (known : ℕ → Bool) (x : Words) where
         none e (suc n) h gone = absurd (gone (among_of e q.list (omega arith)))
 
 -- ---- what the code's calls leave, as the rule asks for it
-module _ (a : About) (m s : ℕ) (known : ℕ → Bool) (x y : Words) (f : List ℕ → Option ℕ) (p : IsShare a.seed (shape_at a m) (segment_in a m) x m s f)
+module _ (a : About) (m s : ℕ) (known : ℕ → Bool) (x y : MapWords) (f : List ℕ → Option ℕ) (p : IsShare a.seed (shape_at a m) (segment_in a m) x m s f)
     (all_known : (key : List ℕ) (e : ℕ) → f key ≡ Some e → segment_of a.seed (shape_at a m) key ≡ s → (e < elements (shape_at a m)) × (known e ≡ true))
     (keyed : (e : ℕ) → known e ≡ true → (key : List ℕ) × HasKey (shape_at a m) y m e key) (key : List ℕ) (home : segment_of a.seed (shape_at a m) key ≡ s) where
-  pub absent_none : IsAbsent (view a m s known x) key → f key ≡ None
+  pub absent_none : IsAbsent (segment_view a m s known x) key → f key ≡ None
   absent_none gone = go (f key) refl
     where
       go : (o : Option ℕ) → f key ≡ o → f key ≡ None
       go None is = is
       go (Some e) is = absurd (gone e (leads_pair a m s known x f p all_known key e is home))
 
-  pub none_absent : f key ≡ None → IsAbsent (view a m s known x) key
+  pub none_absent : f key ≡ None → IsAbsent (segment_view a m s known x) key
   none_absent gone e h = let t = pair_leads a m s known x f p all_known key e h in let z : None ≡ Some e = sym gone ∙ t.0 in cc
 
-  pub inserted : (e : ℕ) → f key ≡ None → Gains (view a m s known x) (view a m s known y) key e → IsShare a.seed (shape_at a m) (segment_in a m) y m s (put_key f key (Some e))
+  pub inserted : (e : ℕ) → f key ≡ None → Gains (segment_view a m s known x) (segment_view a m s known y) key e → IsShare a.seed (shape_at a m) (segment_in a m) y m s (put_key f key (Some e))
   inserted e gone g = share_of a m s known y g.sound (put_key f key (Some e)) keyed
       (λ k d h. elim ((g.pairs k d).0 h) [
         | inl was ↦
@@ -239,7 +239,7 @@ module _ (a : About) (m s : ℕ) (known : ℕ → Bool) (x y : Words) (f : List 
       other : (k : List ℕ) (d : ℕ) → f k ≡ Some d → put_key f key (Some e) k ≡ Some d
       other k d is = (λ j. if key_apart k key (λ (same : k ≡ key). let z : None ≡ Some d = sym gone ∙ (ap f (sym same) ∙ is) in cc) j then Some e else f k) ∙ is
 
-  pub replaced : (o e : ℕ) → Changes (view a m s known x) (view a m s known y) key o e → IsShare a.seed (shape_at a m) (segment_in a m) y m s (put_key f key (Some e))
+  pub replaced : (o e : ℕ) → Changes (segment_view a m s known x) (segment_view a m s known y) key o e → IsShare a.seed (shape_at a m) (segment_in a m) y m s (put_key f key (Some e))
   replaced o e g = share_of a m s known y g.sound (put_key f key (Some e)) keyed
       (λ k d h. elim ((g.pairs k d).0 h) [
         | inl was ↦
@@ -253,7 +253,7 @@ module _ (a : About) (m s : ℕ) (known : ℕ → Bool) (x y : Words) (f : List 
       (λ (ne : k ≢ key). inl (leads_pair a m s known x f p all_known k d (sym (λ j. if key_apart k key ne j then Some e else f k) ∙ is) at_home, ne))
       (equal_keys k key)))
 
-  pub removed : (e : ℕ) → Loses (view a m s known x) (view a m s known y) key e → IsShare a.seed (shape_at a m) (segment_in a m) y m s (put_key f key None)
+  pub removed : (e : ℕ) → Loses (segment_view a m s known x) (segment_view a m s known y) key e → IsShare a.seed (shape_at a m) (segment_in a m) y m s (put_key f key None)
   removed e g = share_of a m s known y g.sound (put_key f key None) keyed
       (λ k d h.
       let was = (g.pairs k d).0 h in

@@ -11,12 +11,12 @@ use Rattle.hop_words.specs.declared.known.Change.TheVariants.{Puts}
 use Rattle.hop_words.specs.Content.{HasKey}
 use Rattle.hop_words.specs.Ghost.{shape_at}
 use Rattle.hop_words.specs.Rule.{image, changed}
-use Rattle.hop_words.specs.Kinds.{has, MayLink, Inserts, Inserted, IsAbsent}
+use Rattle.hop_words.specs.Kinds.{has, MayLink, Inserts, Inserted, IsKeyAbsent}
 use Rattle.hop_words.proofs.Layouts.{one}
 use Rattle.hop_words.proofs.Small.{key_self, key_apart}
 use Rattle.hop_words.specs.Locking.{lock_of, hand, nothing_in_hand}
 use Rattle.hop_map.specs.Views.{Ready, knows}
-use Rattle.hop_map.specs.Calls.{Contents, Brings}
+use Rattle.hop_map.specs.Calls.{LockShows, Brings}
 
 pub or_true : (x y : Bool) → x ≡ true → (x || y) ≡ true
 or_true true y is = refl
@@ -37,7 +37,7 @@ module _ (a : About) (l : Known) (m s : ℕ) (r : Ready a l m s) where
   at_lock : (P : ℕ → ℕ → Type 0) → P m s → P k.map k.segment
   at_lock P p = subst (P k.map) (sym r.segment) (subst (λ (n : ℕ). P n s) (sym r.map) p)
 
-  module _ (key bytes : List ℕ) (flags element : ℕ) (c : Contents a l m s) (b : Brings a l m s key bytes flags element) (absent : IsAbsent a k key) where
+  module _ (key bytes : List ℕ) (flags element : ℕ) (c : LockShows a l m s) (b : Brings a l m s key bytes flags element) (absent : IsKeyAbsent a k key) where
     b' : Brings a l k.map k.segment key bytes flags element
     b' = at_lock (λ n t. Brings a l n t key bytes flags element) b
 

@@ -16,8 +16,8 @@ use Rattle.hop_words.specs.declared.known.Limbo.{Limbo}
 use Rattle.hop_words.specs.Ghost.{Each, IsElement, limbo_at, no_limbo}
 use Rattle.hop_words.specs.Inside.{Shown}
 use Rattle.hop_words.specs.Opens.{no_limbos, new_lane, lanes_from}
-use Rattle.hop_words.specs.Kinds.{in_run}
-use Rattle.hop_words.specs.Seats.{view, IsWhole}
+use Rattle.bpf_shared.specs.Own.{in_run}
+use Rattle.hop_words.specs.Seats.{view, KeepsWholeHistory}
 use Rattle.hop_words.specs.Closing.{AreAllBack}
 use Rattle.hop_arena.specs.declared.arena.Arena.{Arena}
 use Rattle.hop_arena.specs.Claiming.{IsArena}
@@ -136,7 +136,7 @@ pub map_snoc : (ps : List Port) (p : Port) → map known_of (ps ++ p ∷ []) ≡
 map_snoc [] p = refl
 map_snoc (q ∷ ps) p = ap (λ (ls : List Known). q.known ∷ ls) (map_snoc ps p)
 
-pub legal_of : (a : About) (h : List Entry) (ws : List ℕ) → IsWhole a (view [] h) ws → IsLegal a.shape h
+pub legal_of : (a : About) (h : List Entry) (ws : List ℕ) → KeepsWholeHistory a (view [] h) ws → IsLegal a.shape h
 legal_of a h ws w = (w.ghost.last, subst (λ (log : List Entry). Legal (as_made a.shape) log w.ghost.last) (sym w.whole) w.rule.logged.legal)
 
 unlocked_at : (ls : List Known) (k : ℕ) (l : Known) → All IsUnlocked ls → get_elem? ls k ≡ some l → l.locks ≡ []

@@ -6,7 +6,8 @@ use Rattle.bpf_shared.specs.History.{IsLegal, events_of}
 use Rattle.hop_words.specs.declared.known.About.{About}
 use Rattle.hop_words.specs.declared.known.Known.{Known}
 use Rattle.hop_words.specs.Inside.{Shown}
-use Rattle.hop_words.specs.Kinds.{in_run, count_of}
+use Rattle.hop_words.specs.Kinds.{run_count}
+use Rattle.bpf_shared.specs.Own.{in_run}
 use Rattle.hop_map.specs.declared.once.Once.{Once}
 use Rattle.hop_map.specs.declared.once.Once.TheVariants.{Found, Absent, Disturbed}
 use Rattle.hop_map.specs.Finding.{Disturbs, OnceEnds}
@@ -18,7 +19,7 @@ disturbed_fits : (t : Shown) (p : Port) (z : TableId) (l : Known) (m : ℕ) (key
     → IsPortOf t (record { table = z; known = l; arenas = p.arenas; batches = p.batches })
 disturbed_fits t p z l m key first last h table d =
     moved t p z l h (table ∙ sym h.table) (ap (λ (k : Known). k.cpu) d.after) (ap (λ (k : Known). k.limbo) d.after)
-    (subst (λ (k : Known). in_run (events_of k.cpu k.seen) ≡ true → count_of t.about k + 1 < 2 ^ 64) (sym d.after) h.room)
+    (subst (λ (k : Known). in_run (events_of k.cpu k.seen) ≡ true → run_count t.about k + 1 < 2 ^ 64) (sym d.after) h.room)
     (subst (λ (k : Known). IsLegal t.about.shape k.seen) (sym d.after) h.legal)
 
 pub once_fits : (t : Shown) (p : Port) (z : TableId) (l : Known) (m : ℕ) (key : List ℕ) (o : Once) → IsPortOf t p → z ≡ t.id → OnceEnds t.about p.known m key o l

@@ -21,32 +21,32 @@ use Rattle.bpf_shared.specs.History.{Legal}
 use Rattle.bpf_shared.specs.Listing.{Pair, pair_at, pair_of, IsListing}
 use Rattle.bpf_shared.specs.Shows.{listed}
 use Rattle.hop_words.specs.Layout.{depth, segments}
-use Rattle.hop_words.specs.Homes.{spelled}
+use Rattle.hop_words.specs.Homes.{bytes_of_words}
 use Rattle.hop_words.specs.Content.{IsOnList, item}
 use Rattle.hop_words.specs.Ghost.{shape_at, segment_in, IsSegment, IsElement, Carries, Each}
 use Rattle.hop_words.specs.Rule.{numbered}
-use Rattle.hop_words.specs.Seats.{view as whole_view, IsWhole}
+use Rattle.hop_words.specs.Seats.{view as whole_view, KeepsWholeHistory}
 use Rattle.hop_words.specs.Closing.{Ending}
 use Rattle.hop_seg.specs.Words.{Words as SegWords}
 use Rattle.hop_seg.specs.Segment.{Sound as SegSound}
 use Rattle.hop_seg.specs.Content.{IsListed}
 use Rattle.hop_seg.proofs.Walking.{Counted}
-use Rattle.hop_map.specs.Views.{view}
-use Rattle.hop_map.specs.Dumping.{words_in, key_in, IsReached, HasKey, IsFound, AreFound, Adds, IsLast}
+use Rattle.hop_map.specs.Views.{segment_view}
+use Rattle.hop_map.specs.Dumping.{words_in, key_in, IsReached, IsKeyAmong, IsPairFound, AreFound, AddsPairs, IsLast}
 use Rattle.hop_map.proofs.Keys.{spells}
 use Rattle.hop_map.proofs.Bridge.{seg_sound, reached_of, chain_of, among_of}
 use Rattle.hop_map.proofs.Homes.{some_power}
 
 -- ---- words and their bytes
 -- one word more
-spelled_suc : (n : ℕ) (f : ℕ → ℕ) → spelled (suc n) f ≡ spelled n f ++ low_bytes 8 (f n)
+spelled_suc : (n : ℕ) (f : ℕ → ℕ) → bytes_of_words (suc n) f ≡ bytes_of_words n f ++ low_bytes 8 (f n)
 spelled_suc zero f = append-nil (low_bytes 8 (f 0))
 spelled_suc (suc n) f =
-    ap (λ (bs : List ℕ). low_bytes 8 (f 0) ++ bs) (spelled_suc n (λ k. f (k + 1)) ∙ ap (λ (k : ℕ). spelled n (λ i. f (i + 1)) ++ low_bytes 8 (f k)) (let e : n + 1 ≡ suc n = omega arith in e))
-    ∙ sym (append_assoc (low_bytes 8 (f 0)) (spelled n (λ i. f (i + 1))) (low_bytes 8 (f (suc n))))
+    ap (λ (bs : List ℕ). low_bytes 8 (f 0) ++ bs) (spelled_suc n (λ k. f (k + 1)) ∙ ap (λ (k : ℕ). bytes_of_words n (λ i. f (i + 1)) ++ low_bytes 8 (f k)) (let e : n + 1 ≡ suc n = omega arith in e))
+    ∙ sym (append_assoc (low_bytes 8 (f 0)) (bytes_of_words n (λ i. f (i + 1))) (low_bytes 8 (f (suc n))))
 
-pub spelled_more : (n : ℕ) (f : ℕ → ℕ) → spelled (n + 1) f ≡ spelled n f ++ low_bytes 8 (f n)
-spelled_more n f = ap (λ (k : ℕ). spelled k f) (let e : n + 1 ≡ suc n = omega arith in e) ∙ spelled_suc n f
+pub spelled_more : (n : ℕ) (f : ℕ → ℕ) → bytes_of_words (n + 1) f ≡ bytes_of_words n f ++ low_bytes 8 (f n)
+spelled_more n f = ap (λ (k : ℕ). bytes_of_words k f) (let e : n + 1 ≡ suc n = omega arith in e) ∙ spelled_suc n f
 
 -- ---- one pair more
 abbrev pub by_key : Vec ℕ Global → Vec ℕ Global → Ordering
@@ -73,45 +73,45 @@ each_insert P k v p (q ∷ qs) all = by (slice_cmp nat_cmp k q.0) refl (each_ins
     by Equal is more = (subst (λ (z : List ℕ). P (z, v)) (exact_bytes k q.0 is) p, all.1)
     by Greater is more = (all.0, more)
 
-new_key : (k v : List ℕ) (ps : List Pair) → HasKey k (insert_entry (slice_cmp nat_cmp) ps k v)
+new_key : (k v : List ℕ) (ps : List Pair) → IsKeyAmong k (insert_entry (slice_cmp nat_cmp) ps k v)
 new_key k v [] = inl refl
 new_key k v (q ∷ qs) = by (slice_cmp nat_cmp k q.0) refl (new_key k v qs)
   where
-    by : (o : Ordering) → slice_cmp nat_cmp k q.0 ≡ o → HasKey k (insert_entry (slice_cmp nat_cmp) qs k v)
-        → HasKey k (match_ordering o ((k, v) ∷ q ∷ qs) ((q.0, v) ∷ qs) (q ∷ insert_entry (slice_cmp nat_cmp) qs k v))
+    by : (o : Ordering) → slice_cmp nat_cmp k q.0 ≡ o → IsKeyAmong k (insert_entry (slice_cmp nat_cmp) qs k v)
+        → IsKeyAmong k (match_ordering o ((k, v) ∷ q ∷ qs) ((q.0, v) ∷ qs) (q ∷ insert_entry (slice_cmp nat_cmp) qs k v))
     by Less is more = inl refl
     by Equal is more = inl (sym (exact_bytes k q.0 is))
     by Greater is more = inr more
 
-old_key : (key k v : List ℕ) (ps : List Pair) → HasKey key ps → HasKey key (insert_entry (slice_cmp nat_cmp) ps k v)
+old_key : (key k v : List ℕ) (ps : List Pair) → IsKeyAmong key ps → IsKeyAmong key (insert_entry (slice_cmp nat_cmp) ps k v)
 old_key key k v [] h = absurd h
 old_key key k v (q ∷ qs) h = by (slice_cmp nat_cmp k q.0) (λ t. old_key key k v qs t)
   where
-    by : (o : Ordering) → (HasKey key qs → HasKey key (insert_entry (slice_cmp nat_cmp) qs k v))
-        → HasKey key (match_ordering o ((k, v) ∷ q ∷ qs) ((q.0, v) ∷ qs) (q ∷ insert_entry (slice_cmp nat_cmp) qs k v))
+    by : (o : Ordering) → (IsKeyAmong key qs → IsKeyAmong key (insert_entry (slice_cmp nat_cmp) qs k v))
+        → IsKeyAmong key (match_ordering o ((k, v) ∷ q ∷ qs) ((q.0, v) ∷ qs) (q ∷ insert_entry (slice_cmp nat_cmp) qs k v))
     by Less more = inr h
-    by Equal more = ⊎_elim (λ (e : q.0 ≡ key). inl e) (λ (t : HasKey key qs). inr t) h
-    by Greater more = ⊎_elim (λ (e : q.0 ≡ key). inl e) (λ (t : HasKey key qs). inr (more t)) h
+    by Equal more = ⊎_elim (λ (e : q.0 ≡ key). inl e) (λ (t : IsKeyAmong key qs). inr t) h
+    by Greater more = ⊎_elim (λ (e : q.0 ≡ key). inl e) (λ (t : IsKeyAmong key qs). inr (more t)) h
 
 module _ (e : Ending) (m : ℕ) where
-  pub adds_none : (ps : List Pair) → Adds e m ps ps
+  pub adds_none : (ps : List Pair) → AddsPairs e m ps ps
   adds_none ps = record { found = λ all. all; kept = λ key h. h }
 
-  pub adds_on : (ps qs rs : List Pair) → Adds e m ps qs → Adds e m qs rs → Adds e m ps rs
+  pub adds_on : (ps qs rs : List Pair) → AddsPairs e m ps qs → AddsPairs e m qs rs → AddsPairs e m ps rs
   adds_on ps qs rs p q = record { found = λ all. q.found (p.found all); kept = λ key h. q.kept key (p.kept key h) }
 
   module _ (es fs : List (Vec ℕ Global × Vec ℕ Global)) (k v : Vec ℕ Global) (is : fs ≡ insert_entry by_key es k v) where
     same : listed fs ≡ insert_entry (slice_cmp nat_cmp) (listed es) k.items v.items
     same = ap (λ (xs : List (Vec ℕ Global × Vec ℕ Global)). listed xs) is ∙ listed_insert es k v
 
-    pub adds_pair : IsFound e m (k.items, v.items) → Adds e m (listed es) (listed fs)
+    pub adds_pair : IsPairFound e m (k.items, v.items) → AddsPairs e m (listed es) (listed fs)
     adds_pair found = record {
-      found = λ all. subst (AreFound e m) (sym same) (each_insert (IsFound e m) k.items v.items found (listed es) all);
-      kept = λ key h. subst (HasKey key) (sym same) (old_key key k.items v.items (listed es) h);
+      found = λ all. subst (AreFound e m) (sym same) (each_insert (IsPairFound e m) k.items v.items found (listed es) all);
+      kept = λ key h. subst (IsKeyAmong key) (sym same) (old_key key k.items v.items (listed es) h);
     }
 
-    pub adds_key : HasKey k.items (listed fs)
-    adds_key = subst (HasKey k.items) (sym same) (new_key k.items v.items (listed es))
+    pub adds_key : IsKeyAmong k.items (listed fs)
+    adds_key = subst (IsKeyAmong k.items) (sym same) (new_key k.items v.items (listed es))
 
 -- ---- pairs by their places
 each_at : (P : Pair → Type 0) (ps : List Pair) → Each P ps → (k : ℕ) → k < length ps → P (pair_at ps k)
@@ -119,7 +119,7 @@ each_at P [] all k l = absurd (omega arith)
 each_at P (p ∷ ps) all zero l = all.0
 each_at P (p ∷ ps) all (suc k) l = each_at P ps all.1 k (omega arith)
 
-has_at : (key : List ℕ) (ps : List Pair) → HasKey key ps → (k : ℕ) × (k < length ps) × ((pair_at ps k).0 ≡ key)
+has_at : (key : List ℕ) (ps : List Pair) → IsKeyAmong key ps → (k : ℕ) × (k < length ps) × ((pair_at ps k).0 ≡ key)
 has_at key [] h = absurd h
 has_at key (p ∷ ps) (inl e) = (0, (omega arith), e)
 has_at key (p ∷ ps) (inr h) = let t = has_at key ps h in (suc t.0, (let l = t.1 in omega arith), t.2)
@@ -137,10 +137,10 @@ key_at : (ps : List Pair) (k : ℕ) → k < length ps → get_or (keys_of ps) k 
 key_at ps k l = get_or-map (λ (p : Pair). p.0) ps k ([], []) [] l
 
 -- ---- a store at rest
-pub last_of : (e : Ending) → IsWhole e.about (whole_view [] e.history) e.words → (last : Plain) × IsLast e last × Legal (as_made e.about.shape) e.history last
+pub last_of : (e : Ending) → KeepsWholeHistory e.about (whole_view [] e.history) e.words → (last : Plain) × IsLast e last × Legal (as_made e.about.shape) e.history last
 last_of e w = (w.ghost.last, (w, refl), subst (λ (log : List Entry). Legal (as_made e.about.shape) log w.ghost.last) (sym w.whole) w.rule.logged.legal)
 
-module _ (e : Ending) (w : IsWhole e.about (whole_view [] e.history) e.words) (m : ℕ) where
+module _ (e : Ending) (w : KeepsWholeHistory e.about (whole_view [] e.history) e.words) (m : ℕ) where
   pub reached_inside : (s i : ℕ) → IsSegment e.about m s → IsReached e m s i → IsElement e.about m i
   reached_inside s i inside r = let q = (w.shows m s inside).each i r in (w.rule.linked.within m q.0 i q.3).0
 
@@ -155,11 +155,11 @@ module _ (e : Ending) (w : IsWhole e.about (whole_view [] e.history) e.words) (m
       go (Some i) at = (i, at)
       go None at = absurd (let z : Some v ≡ None = sym is ∙ (w.rule.keyed.leads m key ∙ ap (numbered (w.ghost.number m)) at) in cc)
 
-  module _ (ps : List Pair) (found : AreFound e m ps) (keys : (s i : ℕ) → IsSegment e.about m s → IsReached e m s i → HasKey (key_in e m i) ps)
+  module _ (ps : List Pair) (found : AreFound e m ps) (keys : (s i : ℕ) → IsSegment e.about m s → IsReached e m s i → IsKeyAmong (key_in e m i) ps)
       (sorted : IsStrictlySortedBy (slice_cmp nat_cmp) (keys_of ps)) where
     value_there : (k : ℕ) → k < length ps → (v : ℕ) × Finds w.ghost.last m (pair_at ps k).0 v × ((pair_at ps k).1 ≡ (w.ghost.last.value v).bytes)
     value_there k l =
-        let f = each_at (IsFound e m) ps found k l in
+        let f = each_at (IsPairFound e m) ps found k l in
         let i = f.1 in
         let q = (w.shows m f.0 f.2).each i f.3 in
         let key : (pair_at ps k).0 ≡ q.0 = ap (λ (p : Pair). p.0) f.4 ∙ spells e.about m (words_in e) i q.0 q.1 in
@@ -177,7 +177,7 @@ module _ (e : Ending) (w : IsWhole e.about (whole_view [] e.history) e.words) (m
         let within = w.rule.linked.within m key i.0 i.1 in
         let inside = home_inside within.0.0 key in
         let here = (w.shows m (segment_in e.about m key) inside).all key i.0 i.1 refl in
-        has_at key ps (subst (λ (x : List ℕ). HasKey x ps) (spells e.about m (words_in e) i.0 key here.1) (keys (segment_in e.about m key) i.0 inside here.0))
+        has_at key ps (subst (λ (x : List ℕ). IsKeyAmong x ps) (spells e.about m (words_in e) i.0 key here.1) (keys (segment_in e.about m key) i.0 inside here.0))
 
     pub listing : IsListing w.ghost.last m ps
     listing = record {
@@ -200,7 +200,7 @@ module _ (e : Ending) (w : IsWhole e.about (whole_view [] e.history) e.words) (m
   -- ---- the overflow list
   module _ (s : ℕ) (inside : IsSegment e.about m s) where
     abbrev pub seen : SegWords
-    seen = view e.about m s (λ i. true) (words_in e)
+    seen = segment_view e.about m s (λ i. true) (words_in e)
 
     pub sound : SegSound seen
     sound = seg_sound e.about m s (λ i. true) (words_in e) (w.ghost.linked m) (w.shows m s inside) (λ key i is home. ((w.rule.linked.within m key i is).0.1, refl))

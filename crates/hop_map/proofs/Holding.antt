@@ -8,16 +8,15 @@ use Rattle.bpf_shared.specs.declared.events.Event.TheVariants.{Begin, End, Looku
 use Rattle.bpf_shared.specs.declared.shapes.MapShape.{MapShape}
 use Rattle.bpf_shared.specs.Shape.{IsElementSpan, element_span, elements, Covers}
 use Rattle.bpf_shared.specs.History.{events_of}
-use Rattle.bpf_shared.specs.Own.{no_span, held_from}
+use Rattle.bpf_shared.specs.Own.{no_span, held_from, turns_of}
 use Rattle.bpf_shared.specs.Passage.{same_span, IsHeldPlace}
 use Rattle.hop_words.specs.declared.known.Known.{Known}
 use Rattle.hop_words.specs.Ghost.{shape_at}
 use Rattle.hop_words.specs.Inside.{Shown}
-use Rattle.hop_words.specs.Rule.{turns_of}
 use Rattle.hop_words.specs.Kinds.{spans_of, IsAmong, Told}
 use Rattle.hop_words.proofs.Small.{map_is}
 use Rattle.hop_map.specs.Accesses.{IsHeldAt}
-use Rattle.hop_map.specs.Port.{Port, IsPortOf, runs, holds}
+use Rattle.hop_map.specs.Port.{Port, IsPortOf, runs, port_holds}
 use Rattle.hop_map.proofs.Spans.{held_spans_lie}
 use Rattle.hop_map.proofs.Ports.{map_inside, moved, room_stays}
 
@@ -54,7 +53,7 @@ held_among f ps (Store at z n ∷ es) all = held_among f ps es all
 held_among f ps (Atomic at z o n m r ∷ es) all = held_among f ps es all
 
 -- ---- a held place is one of an element
-pub held_at : (t : Shown) (p : Port) (at n : ℕ) → IsPortOf t p → runs p ≡ true → IsHeldPlace (holds p) at n → IsHeldAt t.about p.known at n
+pub held_at : (t : Shown) (p : Port) (at n : ℕ) → IsPortOf t p → runs p ≡ true → IsHeldPlace (port_holds p) at n → IsHeldAt t.about p.known at n
 held_at t p at n fits running h = record {
   place = record {
     map = m;

@@ -1,5 +1,5 @@
 -- The segment of a key is one of its map's.
-use Rattle.std.proofs.Common.{◌≡◌, ℕ, zero, suc, ◌+◌, ◌*◌, ◌%◌, ◌<◌, ap, sym, subst, arith}
+use Rattle.std.proofs.Common.{ℕ, zero, suc, ◌<◌, arith}
 use Rattle.hop_words.specs.Layout.{power}
 
 pub some_power : (d : ℕ) → 0 < power d

@@ -4,29 +4,29 @@ use Rattle.bpf_shared.specs.Shape.{elements}
 use Rattle.hop_words.specs.declared.known.About.{About}
 use Rattle.hop_words.specs.declared.known.Known.{Known}
 use Rattle.hop_words.specs.declared.known.Fresh.{Fresh}
-use Rattle.hop_words.specs.Content.{Words, HasKey}
+use Rattle.hop_words.specs.Content.{MapWords, HasKey}
 use Rattle.hop_words.specs.Ghost.{shape_at, IsSegment, Each}
-use Rattle.hop_words.specs.Rule.{image, Begins}
-use Rattle.hop_words.specs.Kinds.{has, MayLink, Locked, locking, Saw, unlocking, with_gone}
+use Rattle.hop_words.specs.Rule.{image, StartsWith}
+use Rattle.hop_words.specs.Kinds.{has, MayLink, LocksSegment, locking, Saw, with_gone}
 use Rattle.hop_words.proofs.Layouts.{one, both}
 use Rattle.hop_words.specs.Locking.{lock_of, hand}
 use Rattle.hop_map.specs.Views.{Ready, knows, in_hand}
-use Rattle.hop_map.specs.Calls.{Contents}
+use Rattle.hop_map.specs.Calls.{LockShows}
 use Rattle.bpf_shared.specs.declared.events.Event.TheVariants.{Update, Delete}
 use Rattle.bpf_shared.specs.declared.events.Entry.{Entry}
 use Rattle.bpf_shared.specs.declared.events.MapAnswer.{MapAnswer}
 use Rattle.bpf_shared.specs.declared.events.MapAnswer.TheVariants.{Done, Absent, Busy}
 use Rattle.hop_map.specs.declared.ending.Ending.{Ending}
 use Rattle.hop_map.specs.declared.ending.Ending.TheVariants.{Added, Replaced, Refused}
-use Rattle.hop_map.specs.Updates.{Wants, Valued, Offers, UpdateEnds, Refusal}
-use Rattle.hop_map.specs.Locks.{Carries, Readies, counted_lock}
+use Rattle.hop_map.specs.Updates.{Wants, Offers, UpdateEnds, Refusal}
+use Rattle.hop_map.specs.Locks.{CarriesKey, Readies, counted_lock}
 use Rattle.hop_map.proofs.Keys.{spells}
 use Rattle.hop_map.specs.declared.dropping.Deletion.{Deletion}
 use Rattle.hop_map.specs.declared.dropping.Deletion.TheVariants.{Gone, Missing, Worn}
-use Rattle.hop_map.specs.Removals.{Names, Kept, DeleteEnds}
+use Rattle.hop_map.specs.Removals.{NamesKey, Kept, DeleteEnds}
 
-module _ (a : About) (l : Known) (m s n : ℕ) (at_s : IsSegment a m s) (l2 : Known) (t : Locked a l m s n l2) where
-  abbrev x : Words
+module _ (a : About) (l : Known) (m s n : ℕ) (at_s : IsSegment a m s) (l2 : Known) (t : LocksSegment a l m s n l2) where
+  abbrev x : MapWords
   x = image a t.words
 
   abbrev pub locked : Known
@@ -46,11 +46,11 @@ module _ (a : About) (l : Known) (m s n : ℕ) (at_s : IsSegment a m s) (l2 : Kn
         (q.1.0, here.1),
       )
 
-  contents : Contents a locked m s
+  contents : LockShows a locked m s
   contents = record { map = refl; segment = refl; content = t.content; share = t.share; all_known = t.is_known; copied = refl; nothing = refl; clean = refl; sized = t.sized }
 
-  pub locked_contents : Contents a l2 m s
-  locked_contents = subst (λ (l : Known). Contents a l m s) (sym t.after) contents
+  pub locked_contents : LockShows a l2 m s
+  locked_contents = subst (λ (l : Known). LockShows a l m s) (sym t.after) contents
 
   -- where the elements in hand may be read too
   module _ (mine : (e : ℕ) → in_hand l.fresh m e ≡ true → MayLink a locked (lock_of locked) e × ((q : List ℕ) × HasKey (shape_at a m) x m e q)) where
@@ -65,18 +65,18 @@ module _ (a : About) (l : Known) (m s n : ℕ) (at_s : IsSegment a m s) (l2 : Kn
     ready_with = subst (λ (l : Known). Ready a l m s) (sym t.after) (record { held = refl; map = refl; segment = refl; inside = at_s; sized = t.sized; known_is = locked_known })
 
 -- no element is in hand
-pub empty_ready : (a : About) (l : Known) (m s n : ℕ) (at_s : IsSegment a m s) (l2 : Known) (t : Locked a l m s n l2) → l.fresh ≡ [] → Ready a l2 m s
+pub empty_ready : (a : About) (l : Known) (m s n : ℕ) (at_s : IsSegment a m s) (l2 : Known) (t : LocksSegment a l m s n l2) → l.fresh ≡ [] → Ready a l2 m s
 empty_ready a l m s n at_s l2 t none = ready_with a l m s n at_s l2 t (λ e k.
     let z : false ≡ true = subst (λ (fs : List Fresh). in_hand fs m e ≡ true) none k in
     absurd (true≢false (sym z)))
 
-module _ (a : About) (l : Known) (m s n : ℕ) (at_s : IsSegment a m s) (key : List ℕ) (element : ℕ) (c : Carries a l m key element) (l2 : Known) (t : Locked a l m s n l2) where
-  abbrev y : Words
+module _ (a : About) (l : Known) (m s n : ℕ) (at_s : IsSegment a m s) (key : List ℕ) (element : ℕ) (c : CarriesKey a l m key element) (l2 : Known) (t : LocksSegment a l m s n l2) where
+  abbrev y : MapWords
   y = image a t.words
 
   own_key : HasKey (shape_at a m) y m element key
   own_key =
-      let f : Begins (hand l).key (y.key (hand l).map (hand l).element) = (subst (Each (λ (f : Fresh). Begins f.key (y.key f.map f.element))) c.in_hand t.filled).0 in
+      let f : StartsWith (hand l).key (y.key (hand l).map (hand l).element) = (subst (Each (λ (f : Fresh). StartsWith f.key (y.key f.map f.element))) c.in_hand t.filled).0 in
       (c.size, c.are_bytes, λ j lt. (λ i. y.key (sym c.map i) (sym c.number i) j) ∙ (f j (subst (λ (i : ℕ). j < i) (sym c.filled) lt) ∙ c.spelled j lt))
 
   mine : (e : ℕ) → in_hand l.fresh m e ≡ true → MayLink a (locked a l m s n at_s l2 t) (lock_of (locked a l m s n at_s l2 t)) e × ((q : List ℕ) × HasKey (shape_at a m) y m e q)
@@ -91,7 +91,7 @@ module _ (a : About) (l : Known) (m s n : ℕ) (at_s : IsSegment a m s) (key : L
   locked_ready = ready_with a l m s n at_s l2 t mine
 
 -- ---- an update
-module _ (a : About) (l : Known) (m s n : ℕ) (key bytes : List ℕ) (flags : ℕ) (l2 : Known) (t : Locked a l m s n l2) where
+module _ (a : About) (l : Known) (m s n : ℕ) (key bytes : List ℕ) (flags : ℕ) (l2 : Known) (t : LocksSegment a l m s n l2) where
   pub locked_wants : Wants a l m s key bytes flags → Wants a l2 m s key bytes flags
   locked_wants b = subst (λ (q : Known). Wants a q m s key bytes flags) (sym t.after) (record { home = b.home; key_size = b.key_size; size = b.size; are_bytes = b.are_bytes; flags_known = b.flags_known; limbo = b.limbo; runs = b.runs })
 
@@ -119,7 +119,7 @@ module _ (a : About) (l : Known) (m s n : ℕ) (key bytes : List ℕ) (flags : �
     }
     ends_before (Refused r) l3 p = (refusal_before r l3 p.0, p.1)
 
-module _ (a : About) (l : Known) (m s n : ℕ) (at_s : IsSegment a m s) (key bytes : List ℕ) (flags element : ℕ) (c : Readies a l m s key bytes flags element) (l2 : Known) (t : Locked a l m s n l2) where
+module _ (a : About) (l : Known) (m s n : ℕ) (at_s : IsSegment a m s) (key bytes : List ℕ) (flags element : ℕ) (c : Readies a l m s key bytes flags element) (l2 : Known) (t : LocksSegment a l m s n l2) where
   pub locked_offers : Offers a l2 m s key bytes flags element
   locked_offers = subst (λ (q : Known). Offers a q m s key bytes flags element) (sym t.after) (record {
     wants = record { home = c.wants.home; key_size = c.wants.key_size; size = c.wants.size; are_bytes = c.wants.are_bytes; flags_known = c.wants.flags_known; limbo = c.wants.limbo; runs = c.wants.runs };
@@ -133,9 +133,9 @@ module _ (a : About) (l : Known) (m s n : ℕ) (at_s : IsSegment a m s) (key byt
   })
 
 -- ---- a deletion
-module _ (a : About) (l : Known) (m s n : ℕ) (key : List ℕ) (l2 : Known) (t : Locked a l m s n l2) where
-  pub locked_names : Names a l m s key → Names a l2 m s key
-  locked_names b = subst (λ (q : Known). Names a q m s key) (sym t.after) (record { home = b.home; size = b.size; limbo = b.limbo; runs = b.runs })
+module _ (a : About) (l : Known) (m s n : ℕ) (key : List ℕ) (l2 : Known) (t : LocksSegment a l m s n l2) where
+  pub locked_names : NamesKey a l m s key → NamesKey a l2 m s key
+  locked_names b = subst (λ (q : Known). NamesKey a q m s key) (sym t.after) (record { home = b.home; size = b.size; limbo = b.limbo; runs = b.runs })
 
   module _ (idle : l.locks ≡ []) where
     saw_deleted : (r : MapAnswer) (seen : List Entry) → Saw a l2 (Delete m key r) seen → Saw a (counted_lock l) (Delete m key r) seen

@@ -1,57 +1,53 @@
 -- A lookup under the lock.
-use Rattle.std.proofs.Common.{◌≡◌, ℕ, ◌+◌, Bool, true, false, true≢false, ◌||◌, List, [], ◌∷◌, Option, Some, None, MatchOption, refl, ap, sym, subst, ◌∙◌}
-use Rattle.bpf_shared.specs.declared.events.Entry.{Entry}
+use Rattle.std.proofs.Common.{◌≡◌, ℕ, Bool, ◌||◌, List, [], Option, Some, None, MatchOption, ap, sym, subst, ◌∙◌}
 use Rattle.bpf_shared.specs.declared.events.Event.{Event}
 use Rattle.bpf_shared.specs.declared.events.Event.TheVariants.{Lookup}
-use Rattle.bpf_shared.specs.declared.events.Span.{Span}
 use Rattle.hop_words.specs.declared.known.About.{About}
 use Rattle.hop_words.specs.declared.known.Known.{Known}
 use Rattle.hop_words.specs.declared.known.Lock.{Lock}
-use Rattle.hop_words.specs.declared.known.Reading.{Reading}
-use Rattle.hop_words.specs.declared.known.Tally.{Tally}
 use Rattle.hop_words.specs.Content.{IsShare}
 use Rattle.hop_words.specs.Ghost.{segment_in, shape_at}
 use Rattle.hop_words.specs.Rule.{image}
-use Rattle.hop_words.specs.Kinds.{LooksUp, LookedUp, Saw, Locked as Lock_taken, span_at}
+use Rattle.hop_words.specs.Kinds.{LooksUpLocked, LookedUp, Saw, LocksSegment as Lock_taken, found_span}
 use Rattle.hop_words.specs.Locking.{lock_of}
 use Rattle.hop_seg.specs.Segment.{Sound as SegSound}
 use Rattle.hop_seg.specs.Content.{IsAbsent as SegAbsent, HasPair}
-use Rattle.hop_map.specs.Views.{Locked, Ready, in_hand, is_put, words}
-use Rattle.hop_map.specs.Calls.{Contents}
+use Rattle.hop_map.specs.Views.{Locked, Ready, in_hand, is_put, seen_words}
+use Rattle.hop_map.specs.Calls.{LockShows}
 use Rattle.hop_map.specs.Locks.{counted_lock}
-use Rattle.hop_map.specs.Finding.{Asks, AsksHere, Looked}
+use Rattle.hop_map.specs.Finding.{AsksForKey, AsksHere, Looked}
 use Rattle.hop_map.proofs.Puts.{sound_with, absent_with, leads_with}
 
-module _ (x : Locked) (key : List ℕ) (c : Contents x.about x.known x.map x.segment) (b : AsksHere x.about x.known x.map x.segment key) where
+module _ (x : Locked) (key : List ℕ) (c : LockShows x.about x.known x.map x.segment) (b : AsksHere x.about x.known x.map x.segment key) where
   abbrev k : Lock
   k = lock_of x.known
 
   more : ℕ → Bool
   more e = is_put k.change e || in_hand x.known.fresh x.map e
 
-  pub look_sound : SegSound (words x)
+  pub look_sound : SegSound (seen_words x)
   unfolding more
   look_sound = sound_with x.about x.known x.map x.segment c more
 
   -- what was found is where the key leads
-  pub look_shows : (o : Option ℕ) → MatchOption o (SegAbsent (words x) key) (λ e. HasPair (words x) key e) → (before : List ℕ → Option ℕ)
+  pub look_shows : (o : Option ℕ) → MatchOption o (SegAbsent (seen_words x) key) (λ e. HasPair (seen_words x) key e) → (before : List ℕ → Option ℕ)
       → IsShare x.about.seed (shape_at x.about k.map) (segment_in x.about k.map) (image x.about k.first) k.map k.segment before → before key ≡ o
   unfolding more
   look_shows None gone = absent_with x.about x.known x.map x.segment c more key b.home gone
   look_shows (Some e) there = leads_with x.about x.known x.map x.segment c more key b.home e there
 
-  pub looks_up : (o : Option ℕ) → MatchOption o (SegAbsent (words x) key) (λ e. HasPair (words x) key e) → Ready x.about x.known x.map x.segment → LooksUp x.about x.known k key o
+  pub looks_up : (o : Option ℕ) → MatchOption o (SegAbsent (seen_words x) key) (λ e. HasPair (seen_words x) key e) → Ready x.about x.known x.map x.segment → LooksUpLocked x.about x.known k key o
   looks_up o found r =
       let b' : AsksHere x.about x.known k.map k.segment key = subst (λ (t : ℕ). AsksHere x.about x.known k.map t key) (sym c.segment) (subst (λ (n : ℕ). AsksHere x.about x.known n x.segment key) (sym c.map) b) in
       record { lock = r.held; clean = c.clean; home = b'.home; key_size = b'.size; shown = look_shows o found; runs = b.runs }
 
 -- from the lock to the unlock
 module _ (a : About) (l : Known) (m s n : ℕ) (key : List ℕ) (l2 : Known) (t : Lock_taken a l m s n l2) where
-  pub asks_here : Asks a l m key → segment_in a m key ≡ s → AsksHere a l2 m s key
+  pub asks_here : AsksForKey a l m key → segment_in a m key ≡ s → AsksHere a l2 m s key
   asks_here q home = subst (λ (z : Known). AsksHere a z m s key) (sym t.after) (record { home = home; size = q.size; runs = q.runs })
 
   -- the lane after the unlock, by the one before the lock
-  module _ (q : Asks a l m key) (o : Option ℕ) (l3 : Known) (p : LookedUp a l2 (lock_of l2) key o l3) where
+  module _ (q : AsksForKey a l m key) (o : Option ℕ) (l3 : Known) (p : LookedUp a l2 (lock_of l2) key o l3) where
     lock_map : (lock_of l2).map ≡ m
     lock_map = ap (λ (z : Known). (lock_of z).map) t.after
 
@@ -65,13 +61,13 @@ module _ (a : About) (l : Known) (m s n : ℕ) (key : List ℕ) (l2 : Known) (t 
     looked_tally = ap (λ (z : Known). z.tally) after
 
     abbrev event : Event
-    event = Lookup m key (span_at a m o)
+    event = Lookup m key (found_span a m o)
 
     seen : Saw a l event l3.seen
     seen =
-        let w = subst (λ (i : ℕ). Saw a l2 (Lookup i key (span_at a i o)) l3.seen) lock_map p.seen in
+        let w = subst (λ (i : ℕ). Saw a l2 (Lookup i key (found_span a i o)) l3.seen) lock_map p.seen in
         let v = subst (λ (z : Known). Saw a z event l3.seen) t.after w in
         record { others = v.others; foreign = v.foreign; after = v.after; legal = v.legal }
 
-    pub looked : Looked a l m key (span_at a m o) l3
+    pub looked : Looked a l m key (found_span a m o) l3
     looked = record { seen = seen; after = after ∙ (λ j. record l { seen = l3.seen; readings = sym looked_readings j; tally = sym looked_tally j }) }

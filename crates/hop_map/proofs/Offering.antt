@@ -1,17 +1,15 @@
 -- What is offered under the lock serves as a new element, and in the place of another.
-use Rattle.std.proofs.Common.{◌≡◌, ◌≢◌, ℕ, zero, suc, Bool, true, false, ◌==◌, ◌+◌, ◌<◌, ◌≤◌, ◌⊎◌, inl, inr, List, [], arith, refl, sym, subst, ap, ◌∙◌}
+use Rattle.std.proofs.Common.{◌≡◌, ◌≢◌, ℕ, zero, suc, Bool, true, false, ◌==◌, ◌≤◌, ◌⊎◌, inl, inr, List, arith, refl, sym, subst}
 use Rattle.std.proofs.lemmas.Bool.{eqb-false}
 use Rattle.hop_words.proofs.Layouts.{one}
 use Rattle.hop_words.specs.declared.known.About.{About}
 use Rattle.hop_words.specs.declared.known.Known.{Known}
-use Rattle.hop_words.specs.declared.known.Lock.{Lock}
-use Rattle.bpf_shared.specs.declared.events.Entry.{Entry}
 use Rattle.bpf_shared.specs.declared.events.Event.{Event}
 use Rattle.hop_words.specs.Ghost.{shape_at}
-use Rattle.hop_words.specs.Kinds.{IsAbsent, Counts, Told}
+use Rattle.hop_words.specs.Kinds.{IsKeyAbsent, Counts, Told}
 use Rattle.hop_words.specs.Locking.{lock_of, SeesRoom, SeesLack}
 use Rattle.hop_map.specs.Views.{Ready}
-use Rattle.hop_map.specs.Calls.{Contents, Brings}
+use Rattle.hop_map.specs.Calls.{LockShows, Brings}
 use Rattle.hop_map.specs.Overs.{BringsOver}
 use Rattle.hop_map.specs.Updates.{Wants, Offers}
 
@@ -57,7 +55,7 @@ module _ (a : About) (l : Known) (m s : ℕ) (key bytes : List ℕ) (flags eleme
       zero_or_two (suc (suc (suc n))) few other = absurd (omega arith)
 
 -- the count may be seen
-pub counts : (a : About) (l : Known) (m s : ℕ) (key bytes : List ℕ) (flags : ℕ) → Ready a l m s → Contents a l m s → Wants a l m s key bytes flags → IsAbsent a (lock_of l) key → flags ≢ 2
+pub counts : (a : About) (l : Known) (m s : ℕ) (key bytes : List ℕ) (flags : ℕ) → Ready a l m s → LockShows a l m s → Wants a l m s key bytes flags → IsKeyAbsent a (lock_of l) key → flags ≢ 2
     → Counts a l (lock_of l) key bytes flags
 counts a l m s key bytes flags r c w absent new =
     let k = lock_of l in

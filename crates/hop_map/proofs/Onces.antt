@@ -1,5 +1,5 @@
 -- A lookup without a lock, from its first stamp to its last.
-use Rattle.std.proofs.Common.{◌≡◌, ◌≢◌, ◌⊎◌, ℕ, ◌%◌, List, [], ◌∷◌, ◌++◌, Option, length, ◌+◌, refl, ap, sym, subst, ◌∙◌, inl, inr, arith}
+use Rattle.std.proofs.Common.{◌≡◌, ◌≢◌, ℕ, ◌%◌, List, [], ◌∷◌, ◌++◌, Option, ◌+◌, refl, ap, sym, subst, ◌∙◌, inl, inr, arith}
 use Rattle.bpf_shared.specs.declared.events.Event.TheVariants.{Lookup}
 use Rattle.hop_words.specs.declared.known.About.{About}
 use Rattle.hop_words.specs.declared.known.Known.{Known}
@@ -8,12 +8,12 @@ use Rattle.hop_words.specs.declared.known.Disturbance.{Disturbance}
 use Rattle.bpf_shared.specs.declared.events.Span.{Span}
 use Rattle.hop_words.specs.Home.{home_of}
 use Rattle.hop_words.specs.Ghost.{segment_in, shape_at}
-use Rattle.hop_words.specs.Kinds.{StampSeen, StampSeenAgain, Found, Saw, noting, span_at, disturbed_by}
-use Rattle.hop_words.specs.Peeking.{reading_of, HasReading}
+use Rattle.hop_words.specs.Kinds.{StampSeenAgain, Found, Saw, noting, found_span, disturbed_by}
+use Rattle.hop_words.specs.Peeking.{latest_reading, HasReading}
 use Rattle.hop_map.specs.Peeks.{Peeked, Rested}
-use Rattle.hop_map.specs.Finding.{Asks, AsksHere, Looked, Disturbs, Tries}
+use Rattle.hop_map.specs.Finding.{AsksForKey, AsksHere, Looked, Disturbs, SeesDisturbances}
 
-module _ (a : About) (l : Known) (m s n : ℕ) (key : List ℕ) (q : Asks a l m key) (home : segment_in a m key ≡ s) where
+module _ (a : About) (l : Known) (m s n : ℕ) (key : List ℕ) (q : AsksForKey a l m key) (home : segment_in a m key ≡ s) where
   -- the first stamp is locked
   pub disturbed_first : (l1 : Known) → n % 2 ≡ 1 → l1 ≡ record l { tally = disturbed_by l.tally m s n n } → Disturbs a l m key n n l1
   disturbed_first l1 odd is =
@@ -25,8 +25,8 @@ module _ (a : About) (l : Known) (m s n : ℕ) (key : List ℕ) (q : Asks a l m 
     pub begun : HasReading l1 m s
     begun = subst (λ (z : Known). HasReading z m s) (sym is) (refl, refl, refl)
 
-    stamp_begun : (reading_of l1).stamp ≡ n
-    stamp_begun = ap (λ (z : Known). (reading_of z).stamp) is
+    stamp_begun : (latest_reading l1).stamp ≡ n
+    stamp_begun = ap (λ (z : Known). (latest_reading z).stamp) is
 
     module _ (x y : Peeked) (xa : x.about ≡ a) (xk : x.known ≡ l1) (xm : x.map ≡ m) (xs : x.segment ≡ s) (r : Rested x y) where
       lane_is : y.known ≡ record l { readings = y.known.readings }
@@ -44,35 +44,35 @@ module _ (a : About) (l : Known) (m s n : ℕ) (key : List ℕ) (q : Asks a l m 
       pub home_there : (h : ℕ) → h ≡ home_of key a.seed (shape_at a m).mask → h ≡ home_of key y.about.seed (shape_at y.about y.map).mask
       home_there h is = subst (λ (z : Peeked). h ≡ home_of key z.about.seed (shape_at z.about z.map).mask) (sym y_is) is
 
-      first : reading_of y.known ≡ record (reading_of l1) { peeks = r.more ++ (reading_of l1).peeks }
-      first = r.reading ∙ ap (λ (z : Known). record (reading_of z) { peeks = r.more ++ (reading_of z).peeks }) xk
+      first : latest_reading y.known ≡ record (latest_reading l1) { peeks = r.more ++ (latest_reading l1).peeks }
+      first = r.reading ∙ ap (λ (z : Known). record (latest_reading z) { peeks = r.more ++ (latest_reading z).peeks }) xk
 
-      read_map : (reading_of y.known).map ≡ m
+      read_map : (latest_reading y.known).map ≡ m
       read_map = ap (λ (z : Reading). z.map) first ∙ begun.1
 
-      read_segment : (reading_of y.known).segment ≡ s
+      read_segment : (latest_reading y.known).segment ≡ s
       read_segment = ap (λ (z : Reading). z.segment) first ∙ begun.2
 
-      read_stamp : (reading_of y.known).stamp ≡ n
+      read_stamp : (latest_reading y.known).stamp ≡ n
       read_stamp = ap (λ (z : Reading). z.stamp) first ∙ stamp_begun
 
-      module _ (o : Option ℕ) (last : ℕ) (l3 : Known) (seen : StampSeenAgain y.about y.known (reading_of y.known) key o last l3) where
+      module _ (o : Option ℕ) (last : ℕ) (l3 : Known) (seen : StampSeenAgain y.about y.known (latest_reading y.known) key o last l3) where
         -- the last stamp is another
         pub disturbed_last : last ≢ n → Disturbs a l m key n last l3
         disturbed_last ne =
-            let far : last ≢ (reading_of y.known).stamp = λ e. ne (e ∙ read_stamp) in
+            let far : last ≢ (latest_reading y.known).stamp = λ e. ne (e ∙ read_stamp) in
             let at_end = seen.1 far in
             let rd : l3.readings ≡ [] = ap (λ (z : Known). z.readings) at_end in
             record {
               apart = inr (λ e. ne (sym e));
               after = at_end
-                  ∙ (ap (λ (z : Known). record z { readings = []; tally = disturbed_by z.tally (reading_of y.known).map (reading_of y.known).segment (reading_of y.known).stamp last }) lane_is
+                  ∙ (ap (λ (z : Known). record z { readings = []; tally = disturbed_by z.tally (latest_reading y.known).map (latest_reading y.known).segment (latest_reading y.known).stamp last }) lane_is
                   ∙ (λ j. record l { readings = sym rd j; tally = disturbed_by l.tally (read_map j) ((read_segment ∙ sym home) j) (read_stamp j) last }));
             }
 
         -- it is the same
         module _ (same : last ≡ n) where
-          found : Found y.about y.known (reading_of y.known) key o l3
+          found : Found y.about y.known (latest_reading y.known) key o l3
           found = seen.0 (same ∙ sym read_stamp)
 
           after : l3 ≡ record l { seen = l3.seen; readings = [] }
@@ -81,25 +81,25 @@ module _ (a : About) (l : Known) (m s n : ℕ) (key : List ℕ) (q : Asks a l m 
           pub found_tally : l3.tally ≡ l.tally
           found_tally = ap (λ (z : Known). z.tally) after
 
-          its_event : Saw a l (Lookup m key (span_at a m o)) l3.seen
+          its_event : Saw a l (Lookup m key (found_span a m o)) l3.seen
           its_event =
-              let u = subst (λ (i : ℕ). Saw y.about y.known (Lookup i key (span_at y.about i o)) l3.seen) read_map found.seen in
-              let v = subst (λ (z : Peeked). Saw z.about z.known (Lookup m key (span_at z.about m o)) l3.seen) y_is u in
+              let u = subst (λ (i : ℕ). Saw y.about y.known (Lookup i key (found_span y.about i o)) l3.seen) read_map found.seen in
+              let v = subst (λ (z : Peeked). Saw z.about z.known (Lookup m key (found_span z.about m o)) l3.seen) y_is u in
               record { others = v.others; foreign = v.foreign; after = v.after; legal = v.legal }
 
-          pub found_once : Looked a l m key (span_at a m o) l3
+          pub found_once : Looked a l m key (found_span a m o) l3
           found_once =
               let rd : l3.readings ≡ [] = ap (λ (z : Known). z.readings) after in
               record { seen = its_event; after = after ∙ (λ j. record l { seen = l3.seen; readings = sym rd j; tally = sym found_tally j }) }
 
 -- ---- readings one after the other
 module _ (a : About) (l : Known) (m : ℕ) (key : List ℕ) where
-  pub tries_none : Tries a l m key 0 l
+  pub tries_none : SeesDisturbances a l m key 0 l
   tries_none = record { more = []; count = refl; each = tt; after = refl }
 
-  module _ (n : ℕ) (x : Known) (t : Tries a l m key n x) where
-    pub asks_still : Asks a l m key → Asks a x m key
-    asks_still q = subst (λ (z : Known). Asks a z m key) (sym t.after) (record { map = q.map; size = q.size; runs = q.runs; fresh = q.fresh; locks = q.locks })
+  module _ (n : ℕ) (x : Known) (t : SeesDisturbances a l m key n x) where
+    pub asks_still : AsksForKey a l m key → AsksForKey a x m key
+    asks_still q = subst (λ (z : Known). AsksForKey a z m key) (sym t.after) (record { map = q.map; size = q.size; runs = q.runs; fresh = q.fresh; locks = q.locks })
 
     pub looked_then : (o : Option Span) (y : Known) → Looked a x m key o y → Looked a l m key o y
     looked_then o y p = record {
@@ -107,7 +107,7 @@ module _ (a : About) (l : Known) (m : ℕ) (key : List ℕ) where
       after = p.after ∙ ap (λ (z : Known). record z { seen = y.seen; readings = y.readings; tally = y.tally }) t.after;
     }
 
-    pub tries_more : (first last : ℕ) (y : Known) → Disturbs a x m key first last y → Tries a l m key (n + 1) y
+    pub tries_more : (first last : ℕ) (y : Known) → Disturbs a x m key first last y → SeesDisturbances a l m key (n + 1) y
     tries_more first last y p =
         let d : Disturbance = record { map = m; segment = segment_in a m key; first = first; last = last } in
         record {

@@ -3,22 +3,20 @@ use Rattle.std.proofs.Common.{◌≡◌, ℕ, zero, suc, ◌+◌, ◌%◌, ◌<�
 use Rattle.std.proofs.lemmas.Bool.Decides.{nat_tests}
 use Rattle.bpf_shared.specs.Shape.{elements}
 use Rattle.hop_words.specs.declared.known.About.{About}
-use Rattle.hop_words.specs.declared.known.Known.{Known}
-use Rattle.hop_words.specs.declared.known.Reading.{Reading}
 use Rattle.hop_words.specs.declared.place.Place.{Place}
 use Rattle.hop_words.specs.declared.place.Place.TheVariants.{Head, Hop, Slot, Link, KeyWord}
-use Rattle.hop_words.specs.Homes.{AreBytes, word_of, segment_of}
-use Rattle.hop_words.specs.Content.{Words, item, times, Reached, IsOnList, HopsTo, IsShare, HasKey}
+use Rattle.hop_words.specs.Homes.{AreBytes, segment_of}
+use Rattle.hop_words.specs.Content.{MapWords, item, times, Reached, IsOnList, HopsTo, IsShare, HasKey}
 use Rattle.hop_words.specs.Ghost.{shape_at, segment_in}
 use Rattle.hop_words.specs.Rule.{IsPeek}
-use Rattle.hop_words.specs.Kinds.{AreWithin, Shown, AllPeeks, Finds}
-use Rattle.hop_words.specs.Peeking.{reading_of, HasReading}
+use Rattle.hop_words.specs.Kinds.{AreWithin, AllPeeks, FindsByPeeks}
+use Rattle.hop_words.specs.Peeking.{latest_reading, HasReading}
 use Rattle.hop_words.proofs.Shares.{one_list}
 use Rattle.hop_seg.specs.Words.{Words as SegWords, IsKnown}
-use Rattle.hop_seg.specs.Segment.{Sound as SegSound, key_at}
+use Rattle.hop_seg.specs.Segment.{Sound as SegSound, element_key}
 use Rattle.hop_seg.specs.Content.{IsAbsent as SegAbsent, HasPair}
 use Rattle.hop_words.specs.Home.{home_of}
-use Rattle.hop_map.specs.Views.{view}
+use Rattle.hop_map.specs.Views.{segment_view}
 use Rattle.hop_map.specs.Finding.{AsksHere}
 use Rattle.hop_map.specs.Peeks.{Peeked, peeked, HavePeeks, Agreed, Rested, Spelled}
 use Rattle.hop_map.proofs.Keys.{same_spelling, other_size}
@@ -31,7 +29,7 @@ pub rested_as : (x y : Peeked) (p : Place) (n : ℕ) → y ≡ peeked x p n → 
 rested_as x y p n is = subst (Rested x) (sym is) (rested_by x p n)
 
 -- the word that was read last
-pub last_peek : (x y : Peeked) (p : Place) (n : ℕ) → y ≡ peeked x p n → (w : Words) → HavePeeks w y → IsPeek w x.map x.segment p n
+pub last_peek : (x y : Peeked) (p : Place) (n : ℕ) → y ≡ peeked x p n → (w : MapWords) → HavePeeks w y → IsPeek w x.map x.segment p n
 last_peek x y p n is w all = (subst (HavePeeks w) is all).0
 
 module _ (x y : Peeked) (n : ℕ) where
@@ -67,16 +65,16 @@ module _ (x : Peeked) (e : ℕ) (key : List ℕ) (w : SegWords) (g : Agreed x w)
   its_key : (q : List ℕ) × HasKey (shape_at x.about x.map) g.words x.map e q
   its_key = let q = g.share.each e reached in (q.0, q.1)
 
-  pub keyed_value : (b : Bool) → AreBytes key → length key ≡ (shape_at x.about x.map).key → (Reached g.words x.map x.segment e → IsTrue b ↔ Spelled x.about x.map g.words e key) → IsTrue b ↔ (key_at w e ≡ key)
+  pub keyed_value : (b : Bool) → AreBytes key → length key ≡ (shape_at x.about x.map).key → (Reached g.words x.map x.segment e → IsTrue b ↔ Spelled x.about x.map g.words e key) → IsTrue b ↔ (element_key w e ≡ key)
   keyed_value b bytes size spells =
       let t = spells reached in
       let s = same_spelling x.about x.map g.words e its_key.0 key its_key.1 bytes size in
-      subst (λ (u : SegWords). IsTrue b ↔ (key_at u e ≡ key)) (sym g.shown) (λ h. s.0 (t.0 h), λ h. t.1 (s.1 h))
+      subst (λ (u : SegWords). IsTrue b ↔ (element_key u e ≡ key)) (sym g.shown) (λ h. s.0 (t.0 h), λ h. t.1 (s.1 h))
 
-  pub sized_key : key_at w e ≡ key → length key ≡ (shape_at x.about x.map).key
-  sized_key h = other_size x.about x.map g.words e its_key.0 key its_key.1 (ap (λ (u : SegWords). key_at u e) (sym g.shown) ∙ h)
+  pub sized_key : element_key w e ≡ key → length key ≡ (shape_at x.about x.map).key
+  sized_key h = other_size x.about x.map g.words e its_key.0 key its_key.1 (ap (λ (u : SegWords). element_key u e) (sym g.shown) ∙ h)
 
-pub spelled_on : (x y z : Peeked) (m e k n : ℕ) → Rested x y → z ≡ peeked y (KeyWord m e k) n → m ≡ y.map → (w : Words) → HavePeeks w z → Reached w x.map x.segment e → w.key x.map e k ≡ n
+pub spelled_on : (x y z : Peeked) (m e k n : ℕ) → Rested x y → z ≡ peeked y (KeyWord m e k) n → m ≡ y.map → (w : MapWords) → HavePeeks w z → Reached w x.map x.segment e → w.key x.map e k ≡ n
 spelled_on x y z m e k n r is hm w all reached =
     let q : m ≡ y.map → Reached w y.map y.segment e → w.key y.map e k ≡ n = last_peek y z (KeyWord m e k) n is w all in
     subst (λ (i : ℕ). w.key i e k ≡ n) r.map (q hm (subst (λ (i : ℕ). Reached w i y.segment e) (sym r.map) (subst (λ (t : ℕ). Reached w x.map t e) (sym r.segment) reached)))
@@ -129,7 +127,7 @@ place_at slot (suc n) p e l h = ⊎_elim
     last (suc p) zero l = absurd (omega arith)
     last (suc p) (suc n) l = ⊎_elim (λ (t : p ≡ n). inl (ap suc t)) (λ (t : p < n). inr (omega arith)) (last p n (omega arith))
 
-module _ (a : About) (m s : ℕ) (w : Words) (f : List ℕ → Option ℕ) (share : IsShare a.seed (shape_at a m) (segment_in a m) w m s f) where
+module _ (a : About) (m s : ℕ) (w : MapWords) (f : List ℕ → Option ℕ) (share : IsShare a.seed (shape_at a m) (segment_in a m) w m s f) where
   abbrev leads_to : ℕ → Bool
   leads_to e = at_places (w.slot m s) 64 e || nat_lt 0 (times e share.sound.list)
 
@@ -152,10 +150,10 @@ module _ (a : About) (m s : ℕ) (w : Words) (f : List ℕ → Option ℕ) (shar
     all_known : (key : List ℕ) (e : ℕ) → f key ≡ Some e → segment_of a.seed (shape_at a m) key ≡ s → (e < elements (shape_at a m)) × (leads_to e ≡ true)
     all_known key e is at_home = (within key e is, reached_known e (share.all key e is at_home).0)
 
-    shown_sound : SegSound (view a m s leads_to w)
+    shown_sound : SegSound (segment_view a m s leads_to w)
     shown_sound = seg_sound a m s leads_to w f share all_known
 
-    shown_leads : (key : List ℕ) → segment_of a.seed (shape_at a m) key ≡ s → (o : Option ℕ) → MatchOption o (SegAbsent (view a m s leads_to w) key) (λ e. HasPair (view a m s leads_to w) key e) → f key ≡ o
+    shown_leads : (key : List ℕ) → segment_of a.seed (shape_at a m) key ≡ s → (o : Option ℕ) → MatchOption o (SegAbsent (segment_view a m s leads_to w) key) (λ e. HasPair (segment_view a m s leads_to w) key e) → f key ≡ o
     shown_leads key at_home (Some e) there = (pair_leads a m s leads_to w f share all_known key e there).0
     shown_leads key at_home None gone = go (f key) refl
       where
@@ -166,20 +164,20 @@ module _ (a : About) (m s : ℕ) (w : Words) (f : List ℕ → Option ℕ) (shar
 -- what a find says of all words that agree is what see stamp again asks for
 module _ (y : Peeked) (key : List ℕ) (o : Option ℕ) (b : AsksHere y.about y.known y.map y.segment key) (h : ℕ) (h_is : h ≡ home_of key y.about.seed (shape_at y.about y.map).mask)
     (found : (w : SegWords) → Agreed y w → SegSound w → h ≡ w.fixed.home key → MatchOption o (SegAbsent w key) (λ e. HasPair w key e)) where
-  shown_here : (w : Words) (f : List ℕ → Option ℕ) → IsShare y.about.seed (shape_at y.about y.map) (segment_in y.about y.map) w y.map y.segment f → AreWithin y.about y.map f → HavePeeks w y → f key ≡ o
+  shown_here : (w : MapWords) (f : List ℕ → Option ℕ) → IsShare y.about.seed (shape_at y.about y.map) (segment_in y.about y.map) w y.map y.segment f → AreWithin y.about y.map f → HavePeeks w y → f key ≡ o
   shown_here w f share within all =
       let k = leads_to y.about y.map y.segment w f share in
       shown_leads y.about y.map y.segment w f share within key b.home o
-      (found (view y.about y.map y.segment k w)
+      (found (segment_view y.about y.map y.segment k w)
       (record { words = w; content = f; share = share; peeks = all; known = k; known_is = known_reached y.about y.map y.segment w f share; shown = refl })
       (shown_sound y.about y.map y.segment w f share within) h_is)
 
-  pub finds : HasReading y.known y.map y.segment → Finds y.about y.known (reading_of y.known) key o
+  pub finds : HasReading y.known y.map y.segment → FindsByPeeks y.about y.known (latest_reading y.known) key o
   finds here = record {
     reading = here.0;
     key_size = b.size ∙ ap (λ (m : ℕ). (shape_at y.about m).key) (sym here.1);
     home = ap (λ (m : ℕ). segment_in y.about m key) here.1 ∙ (b.home ∙ sym here.2);
-    shown = subst (λ (m : ℕ). (w : Words) (f : List ℕ → Option ℕ) → IsShare y.about.seed (shape_at y.about m) (segment_in y.about m) w m (reading_of y.known).segment f → AreWithin y.about m f → AllPeeks w (record (reading_of y.known) { map = m }) → f key ≡ o) (sym here.1)
-        (subst (λ (t : ℕ). (w : Words) (f : List ℕ → Option ℕ) → IsShare y.about.seed (shape_at y.about y.map) (segment_in y.about y.map) w y.map t f → AreWithin y.about y.map f → AllPeeks w (record (reading_of y.known) { map = y.map; segment = t }) → f key ≡ o) (sym here.2) shown_here);
+    shown = subst (λ (m : ℕ). (w : MapWords) (f : List ℕ → Option ℕ) → IsShare y.about.seed (shape_at y.about m) (segment_in y.about m) w m (latest_reading y.known).segment f → AreWithin y.about m f → AllPeeks w (record (latest_reading y.known) { map = m }) → f key ≡ o) (sym here.1)
+        (subst (λ (t : ℕ). (w : MapWords) (f : List ℕ → Option ℕ) → IsShare y.about.seed (shape_at y.about y.map) (segment_in y.about y.map) w y.map t f → AreWithin y.about y.map f → AllPeeks w (record (latest_reading y.known) { map = y.map; segment = t }) → f key ≡ o) (sym here.2) shown_here);
     runs = b.runs;
   }

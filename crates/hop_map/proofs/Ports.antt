@@ -13,8 +13,8 @@ use Rattle.hop_words.specs.declared.known.Known.{Known}
 use Rattle.hop_words.specs.declared.known.Limbo.{Limbo}
 use Rattle.hop_words.specs.Ghost.{IsElement, Each, limbo_at}
 use Rattle.hop_words.specs.Inside.{Shown, Standing}
-use Rattle.hop_words.specs.Rule.{turns_of}
-use Rattle.hop_words.specs.Kinds.{in_run, count_of, Saw, Told}
+use Rattle.bpf_shared.specs.Own.{turns_of, in_run}
+use Rattle.hop_words.specs.Kinds.{run_count, Saw, Told}
 use Rattle.hop_words.proofs.Histories.{turns_of-append}
 use Rattle.hop_epoch.specs.declared.batches.Batches.{Batches}
 use Rattle.hop_epoch.specs.Batch.{front, Notes, Tracks, Keeps}
@@ -22,7 +22,7 @@ use Rattle.hop_arena.specs.declared.arena.Arena.{Arena}
 use Rattle.hop_map.specs.declared.port.HopPort.TheInside.{Inside as InPort}
 use Rattle.bpf_shared.specs.declared.events.Span.{Span}
 use Rattle.hop_arena.specs.Claiming.{IsArena}
-use Rattle.hop_map.specs.Whole.{Searches, Follows, Rests, Called}
+use Rattle.hop_map.specs.Whole.{Searches, AreBatchesOf, Rests, Called}
 use Rattle.hop_map.specs.Finding.{Looked}
 use Rattle.bpf_shared.specs.Shape.{IsElementSpan}
 use Rattle.hop_map.proofs.Spans.{last_found_lies}
@@ -62,8 +62,8 @@ pub turned : (a : About) (l l' : Known) (e : Event) → Saw a l e l'.seen → l'
 turned a l l' e s same = ap turns_of (own_after a l l' e s same) ∙ turns_of-append (events_of l.cpu l.seen) (e ∷ [])
 
 -- the counter has room after a quiet event, if it had room before
-pub room_stays : (a : About) (l l' : Known) (e : Event) → Saw a l e l'.seen → l'.cpu ≡ l.cpu → turns_of (e ∷ []) ≡ 0 → (in_run (events_of l.cpu l.seen) ≡ true → count_of a l + 1 < 2 ^ 64)
-    → in_run (events_of l'.cpu l'.seen) ≡ true → count_of a l' + 1 < 2 ^ 64
+pub room_stays : (a : About) (l l' : Known) (e : Event) → Saw a l e l'.seen → l'.cpu ≡ l.cpu → turns_of (e ∷ []) ≡ 0 → (in_run (events_of l.cpu l.seen) ≡ true → run_count a l + 1 < 2 ^ 64)
+    → in_run (events_of l'.cpu l'.seen) ≡ true → run_count a l' + 1 < 2 ^ 64
 room_stays a l l' e s same quiet room runs' =
     let turns : turns_of (events_of l'.cpu l'.seen) ≡ turns_of (events_of l.cpu l.seen) = let n = turned a l l' e s same in omega (arith, quiet) in
     let r = room (ap (λ (k : ℕ). k % 2 == 1) (sym turns) ∙ runs') in omega (arith, turns)
@@ -111,7 +111,7 @@ batches_change a l l' n m bs b size others here name t h = record {
 -- ---- ports
 -- a port stays one, where the batches are as they were
 pub moved : (t : Shown) (p : Port) (z : TableId) (l : Known) → IsPortOf t p → z ≡ p.table → l.cpu ≡ p.known.cpu → l.limbo ≡ p.known.limbo
-    → (in_run (events_of l.cpu l.seen) ≡ true → count_of t.about l + 1 < 2 ^ 64) → IsLegal t.about.shape l.seen → IsPortOf t (record { table = z; known = l; arenas = p.arenas; batches = p.batches })
+    → (in_run (events_of l.cpu l.seen) ≡ true → run_count t.about l + 1 < 2 ^ 64) → IsLegal t.about.shape l.seen → IsPortOf t (record { table = z; known = l; arenas = p.arenas; batches = p.batches })
 moved t p z l h table cpu limbo room legal = record {
   table = table ∙ h.table;
   cpu = subst (λ (c : ℕ). c < t.about.shape.cpus) (sym cpu) h.cpu;
@@ -123,12 +123,12 @@ moved t p z l h table cpu limbo room legal = record {
   batches = batches_stay t.about p.known l (length t.about.shape.maps) p.batches limbo h.batches;
 }
 
-pub begins : (t : Shown) (p : Port) (z : TableId) (l : Known) (r : Result (Unit {0}) Worn) → IsPortOf t p → z ≡ p.table → OnOk r (Told t.about p.known Begin l) → OnOk r (count_of t.about p.known + 2 < 2 ^ 64)
+pub begins : (t : Shown) (p : Port) (z : TableId) (l : Known) (r : Result (Unit {0}) Worn) → IsPortOf t p → z ≡ p.table → OnOk r (Told t.about p.known Begin l) → OnOk r (run_count t.about p.known + 2 < 2 ^ 64)
     → OnErr r (l ≡ p.known) → IsPortOf t (record { table = z; known = l; arenas = p.arenas; batches = p.batches })
 begins t p z l (Ok u) h table told room same = moved t p z l h table (ap (λ (k : Known). k.cpu) told.after) (ap (λ (k : Known). k.limbo) told.after)
     (λ now. let n = turned t.about p.known l Begin told.seen (ap (λ (k : Known). k.cpu) told.after) in omega (arith, room)) told.seen.legal
 begins t p z l (Err e) h table told room same = moved t p z l h table (ap (λ (k : Known). k.cpu) same) (ap (λ (k : Known). k.limbo) same)
-    (subst (λ (k : Known). in_run (events_of k.cpu k.seen) ≡ true → count_of t.about k + 1 < 2 ^ 64) (sym same) h.room)
+    (subst (λ (k : Known). in_run (events_of k.cpu k.seen) ≡ true → run_count t.about k + 1 < 2 ^ 64) (sym same) h.room)
     (subst (λ (k : Known). IsLegal t.about.shape k.seen) (sym same) h.legal)
 
 -- ---- the end of a run
@@ -212,7 +212,7 @@ searches_at a n m xs x here h is =
     let name : x.map ≡ m = ap (λ (y : Arena). y.map) old ∙ h.map m here in
     (name, subst (λ (k : ℕ). IsArena a k x.elements x.start) (sym name) (subst (λ (y : Arena). IsArena a m y.elements y.start) (sym old) (h.each m here)))
 
-pub follows_at : (a : About) (l : Known) (n m : ℕ) (bs : List Batches) (b : Batches) → m < n → AreBatches a l n bs → b ≡ get_or bs m b → Follows a l m b
+pub follows_at : (a : About) (l : Known) (n m : ℕ) (bs : List Batches) (b : Batches) → m < n → AreBatches a l n bs → b ≡ get_or bs m b → AreBatchesOf a l m b
 follows_at a l n m bs b here h is =
     let old : b ≡ batches_at bs m = is ∙ get_or_default bs m b no_batches (let z = h.size in omega arith) in
     let name : b.map ≡ m = ap (λ (y : Batches). y.map) old ∙ h.map m here in
@@ -231,7 +231,7 @@ called_idle a l l' m e h c = record {
 }
 
 pub called_fits : (t : Shown) (p : Port) (z : TableId) (l : Known) (m : ℕ) (e : Event) (xs : List Arena) (b : Batches) → IsPortOf t p → z ≡ t.id → m < length t.about.shape.maps → turns_of (e ∷ []) ≡ 0
-    → Called t.about p.known m e l → AreArenas t.about (length t.about.shape.maps) xs → Follows t.about l m b → IsPortOf t (record { table = z; known = l; arenas = xs; batches = set p.batches m b })
+    → Called t.about p.known m e l → AreArenas t.about (length t.about.shape.maps) xs → AreBatchesOf t.about l m b → IsPortOf t (record { table = z; known = l; arenas = xs; batches = set p.batches m b })
 called_fits t p z l m e xs b h table here quiet c arenas f = record {
   table = table;
   cpu = subst (λ (k : ℕ). k < t.about.shape.cpus) (sym c.cpu) h.cpu;

@@ -1,5 +1,5 @@
 -- A deletion: from the lock to the unlock.
-use Rattle.std.proofs.Common.{◌≡◌, ℕ, ◌+◌, ◌<◌, Bool, true, ◌||◌, List, [], ◌∷◌, Option, None, length, refl, ap, sym, subst, ◌∙◌}
+use Rattle.std.proofs.Common.{◌≡◌, ℕ, ◌<◌, Bool, true, ◌||◌, List, [], ◌∷◌, None, refl, ap, sym, subst, ◌∙◌}
 use Rattle.bpf_shared.specs.declared.events.Entry.{Entry}
 use Rattle.bpf_shared.specs.declared.events.Event.TheVariants.{Delete}
 use Rattle.bpf_shared.specs.declared.events.MapAnswer.{MapAnswer}
@@ -11,7 +11,7 @@ use Rattle.hop_words.specs.declared.known.Change.TheVariants.{Drops}
 use Rattle.hop_words.specs.Content.{IsShare}
 use Rattle.hop_words.specs.Ghost.{segment_in, shape_at}
 use Rattle.hop_words.specs.Rule.{image, put_key, numbered}
-use Rattle.hop_words.specs.Kinds.{has, IsAbsent, Answers, Answered, Removes, Removed, IsWritten, Saw, unlocking, with_gone}
+use Rattle.hop_words.specs.Kinds.{has, IsKeyAbsent, Answers, Answered, Removes, Removed, IsWritten, Saw, unlocking, with_gone}
 use Rattle.hop_words.specs.Locking.{lock_of}
 use Rattle.hop_words.proofs.Small.{map_is}
 use Rattle.bpf_shared.specs.Shape.{Shape, IsMap, elements}
@@ -19,9 +19,9 @@ use Rattle.std.specs.FinMap.{get}
 use Rattle.std.specs.Prelude.{is_some}
 use Rattle.hop_seg.specs.Segment.{Sound as SegSound}
 use Rattle.hop_seg.specs.Content.{IsAbsent as SegAbsent, HasPair, Loses}
-use Rattle.hop_map.specs.Views.{Locked, Stays, Ready, in_hand, is_put, words}
-use Rattle.hop_map.specs.Calls.{Contents}
-use Rattle.hop_map.specs.Removals.{Names, Dropped, Kept}
+use Rattle.hop_map.specs.Views.{Locked, Stays, Ready, in_hand, is_put, seen_words}
+use Rattle.hop_map.specs.Calls.{LockShows}
+use Rattle.hop_map.specs.Removals.{NamesKey, Dropped, Kept}
 use Rattle.hop_map.proofs.Bridge.{removed}
 use Rattle.hop_map.proofs.Puts.{sound_with, absent_with, leads_with, known_by, here, was_inside}
 
@@ -38,27 +38,27 @@ dropped_by a l key old l1 l2 r u =
       after = u ∙ (ap unlocking r.after ∙ (λ j. record l { seen = sym same j; limbo = with_gone l (lock_of l).map old; locks = [] }));
     }
 
-module _ (x : Locked) (key : List ℕ) (c : Contents x.about x.known x.map x.segment) (b : Names x.about x.known x.map x.segment key) where
+module _ (x : Locked) (key : List ℕ) (c : LockShows x.about x.known x.map x.segment) (b : NamesKey x.about x.known x.map x.segment key) where
   abbrev k : Lock
   k = lock_of x.known
 
   more : ℕ → Bool
   more e = is_put k.change e || in_hand x.known.fresh x.map e
 
-  pub drop_inside : (e : ℕ) → HasPair (words x) key e → e < elements (shape_at x.about x.map)
+  pub drop_inside : (e : ℕ) → HasPair (seen_words x) key e → e < elements (shape_at x.about x.map)
   unfolding more
   drop_inside e h = was_inside x.about x.known x.map x.segment c more key b.home e h
 
-  pub drop_sound : SegSound (words x)
+  pub drop_sound : SegSound (seen_words x)
   unfolding more
   drop_sound = sound_with x.about x.known x.map x.segment c more
 
   -- the key isn't there, so the answer is allowed
-  pub drop_answers : SegAbsent (words x) key → Ready x.about x.known x.map x.segment → Answers x.about x.known k (Delete x.map key Absent)
+  pub drop_answers : SegAbsent (seen_words x) key → Ready x.about x.known x.map x.segment → Answers x.about x.known k (Delete x.map key Absent)
   unfolding more
   drop_answers gone r =
-      let absent : IsAbsent x.about k key = absent_with x.about x.known x.map x.segment c more key b.home gone in
-      let b' : Names x.about x.known k.map k.segment key = subst (λ (t : ℕ). Names x.about x.known k.map t key) (sym c.segment) (subst (λ (n : ℕ). Names x.about x.known n x.segment key) (sym c.map) b) in
+      let absent : IsKeyAbsent x.about k key = absent_with x.about x.known x.map x.segment c more key b.home gone in
+      let b' : NamesKey x.about x.known k.map k.segment key = subst (λ (t : ℕ). NamesKey x.about x.known k.map t key) (sym c.segment) (subst (λ (n : ℕ). NamesKey x.about x.known n x.segment key) (sym c.map) b) in
       record {
         lock = r.held;
         clean = c.clean;
@@ -95,10 +95,10 @@ module _ (x : Locked) (key : List ℕ) (c : Contents x.about x.known x.map x.seg
   at_lock : (P : ℕ → ℕ → Type 0) → P x.map x.segment → P k.map k.segment
   at_lock P p = subst (P k.map) (sym c.segment) (subst (λ (n : ℕ). P n x.segment) (sym c.map) p)
 
-  removes : (ws : List ℕ) (d : Bool) (old : ℕ) → Loses (words x) (words (record x { known = lit ws d })) key old → Removes x.about (lit ws d) (lock_of (lit ws d)) key old
+  removes : (ws : List ℕ) (d : Bool) (old : ℕ) → Loses (seen_words x) (seen_words (record x { known = lit ws d })) key old → Removes x.about (lit ws d) (lock_of (lit ws d)) key old
   unfolding more
   removes ws d old g =
-      let b' : Names x.about x.known k.map k.segment key = at_lock (λ n t. Names x.about x.known n t key) b in
+      let b' : NamesKey x.about x.known k.map k.segment key = at_lock (λ n t. NamesKey x.about x.known n t key) b in
       record {
         lock = refl;
         nothing = c.nothing;
@@ -109,7 +109,7 @@ module _ (x : Locked) (key : List ℕ) (c : Contents x.about x.known x.map x.seg
         runs = b.runs;
       }
 
-  written : (ws : List ℕ) (d : Bool) (old : ℕ) → Ready x.about (lit ws d) x.map x.segment → Loses (words x) (words (record x { known = lit ws d })) key old → IsWritten x.about (dropping (lit ws d) key)
+  written : (ws : List ℕ) (d : Bool) (old : ℕ) → Ready x.about (lit ws d) x.map x.segment → Loses (seen_words x) (seen_words (record x { known = lit ws d })) key old → IsWritten x.about (dropping (lit ws d) key)
   unfolding more
   written ws d old r g = λ before sh.
       let p = here x.about x.known x.map x.segment c before sh in
@@ -127,12 +127,12 @@ module _ (x : Locked) (key : List ℕ) (c : Contents x.about x.known x.map x.seg
       known = (st.known ∙ ap (λ (ks : List Lock). record x.known { locks = ks }) (held ∙ ap (λ (q : Lock). q ∷ []) st.lock)) j;
     }
 
-    pub drop_removes : (old : ℕ) → Loses (words x) (words z) key old → Ready z.about z.known z.map z.segment → Removes z.about z.known (lock_of z.known) key old
-    drop_removes old g r = subst (λ (q : Locked). Loses (words x) (words q) key old → Removes q.about q.known (lock_of q.known) key old)
+    pub drop_removes : (old : ℕ) → Loses (seen_words x) (seen_words z) key old → Ready z.about z.known z.map z.segment → Removes z.about z.known (lock_of z.known) key old
+    drop_removes old g r = subst (λ (q : Locked). Loses (seen_words x) (seen_words q) key old → Removes q.about q.known (lock_of q.known) key old)
         (sym (z_is r.held)) (λ g. removes (lock_of z.known).copy (lock_of z.known).dirty old g) g
 
-    pub drop_written : (old : ℕ) → Loses (words x) (words z) key old → Ready z.about z.known z.map z.segment → IsWritten z.about (dropping z.known key)
-    drop_written old g r = subst (λ (q : Locked). Loses (words x) (words q) key old → Ready q.about q.known q.map q.segment → IsWritten q.about (dropping q.known key))
+    pub drop_written : (old : ℕ) → Loses (seen_words x) (seen_words z) key old → Ready z.about z.known z.map z.segment → IsWritten z.about (dropping z.known key)
+    drop_written old g r = subst (λ (q : Locked). Loses (seen_words x) (seen_words q) key old → Ready q.about q.known q.map q.segment → IsWritten q.about (dropping q.known key))
         (sym (z_is r.held)) (λ g r. written (lock_of z.known).copy (lock_of z.known).dirty old r g) g r
 
     pub drop_ends : (old : ℕ) (l3 : Known) → Dropped z.about z.known (lock_of z.known).map key old l3 → Dropped x.about x.known x.map key old l3

@@ -1,5 +1,5 @@
 -- A replacement: from the lock to the unlock.
-use Rattle.std.proofs.Common.{◌≡◌, ℕ, ◌+◌, ◌<◌, ◌%◌, ◌^◌, eq-eqb, Bool, true, false, true≢false, ◌||◌, ◌&&◌, ◌==◌, List, [], ◌∷◌, Option, Some, None, length, refl, ap, sym, subst, ◌∙◌, arith}
+use Rattle.std.proofs.Common.{◌≡◌, ℕ, ◌<◌, ◌%◌, ◌^◌, eq-eqb, Bool, true, true≢false, ◌||◌, ◌&&◌, ◌==◌, List, [], ◌∷◌, Some, refl, ap, sym, subst, ◌∙◌}
 use Rattle.bpf_shared.specs.Shape.{elements}
 use Rattle.bpf_shared.specs.declared.events.Event.TheVariants.{Update}
 use Rattle.bpf_shared.specs.declared.events.MapAnswer.TheVariants.{Done}
@@ -9,37 +9,35 @@ use Rattle.hop_words.specs.declared.known.Lock.{Lock}
 use Rattle.hop_words.specs.declared.known.Fresh.{Fresh}
 use Rattle.hop_words.specs.Layout.{depth}
 use Rattle.hop_map.specs.Views.{home}
-use Rattle.hop_words.specs.Content.{Words, IsShare, HasKey}
+use Rattle.hop_words.specs.Content.{IsShare, HasKey}
 use Rattle.hop_words.specs.Ghost.{segment_in, shape_at}
 use Rattle.hop_words.specs.Rule.{image, put_key}
 use Rattle.hop_words.specs.Kinds.{has, Replaces, Replaced, Saw, with_gone}
-use Rattle.hop_seg.specs.Words.{Fixed}
-use Rattle.hop_seg.specs.Segment.{Sound as SegSound, IsOwn, key_at}
-use Rattle.hop_seg.specs.Content.{HasPair, IsLinked, Changes}
-use Rattle.hop_map.specs.Views.{Locked, Stays, Ready, knows, in_hand, is_put, view, words}
+use Rattle.hop_seg.specs.Segment.{Sound as SegSound, IsOwn, element_key}
+use Rattle.hop_seg.specs.Content.{HasPair, IsInSegment, Changes}
+use Rattle.hop_map.specs.Views.{Locked, Stays, Ready, in_hand, is_put, seen_words}
 use Rattle.hop_words.specs.Locking.{lock_of, hand}
-use Rattle.hop_map.specs.Calls.{Contents}
+use Rattle.hop_map.specs.Calls.{LockShows}
 use Rattle.hop_map.specs.Overs.{BringsOver, Over}
 use Rattle.hop_map.proofs.Keys.{spells}
-use Rattle.hop_map.proofs.Counted.{or_true}
 use Rattle.hop_map.proofs.Bridge.{replaced, reached_of, power_is}
 use Rattle.hop_map.proofs.Puts.{sound_with, share, any_known, leads_with, known_by, here, or_last, was_inside}
 
-module _ (x : Locked) (key bytes : List ℕ) (flags element : ℕ) (c : Contents x.about x.known x.map x.segment) (b : BringsOver x.about x.known x.map x.segment key bytes flags element) where
+module _ (x : Locked) (key bytes : List ℕ) (flags element : ℕ) (c : LockShows x.about x.known x.map x.segment) (b : BringsOver x.about x.known x.map x.segment key bytes flags element) where
   abbrev k : Lock
   k = lock_of x.known
 
   more : ℕ → Bool
   more e = is_put k.change e || in_hand x.known.fresh x.map e
 
-  pub over_sound : SegSound (words x)
+  pub over_sound : SegSound (seen_words x)
   unfolding more
   over_sound = sound_with x.about x.known x.map x.segment c more
 
-  pub over_spelt : key_at (words x) element ≡ key
+  pub over_spelt : element_key (seen_words x) element ≡ key
   over_spelt = spells x.about x.map (image x.about k.copy) element key (subst (λ (ws : List ℕ). HasKey (shape_at x.about x.map) (image x.about ws) x.map element key) (sym c.copied) b.keyed)
 
-  pub over_fresh : IsLinked (words x) element → ⊥
+  pub over_fresh : IsInSegment (seen_words x) element → ⊥
   unfolding more
   over_fresh linked =
       let p = share x.about x.known x.map x.segment c in
@@ -51,7 +49,7 @@ module _ (x : Locked) (key bytes : List ℕ) (flags element : ℕ) (c : Contents
   held_here = subst (λ (fs : List Fresh). in_hand fs x.map element ≡ true) (sym b.in_hand)
       ((λ j. eq-eqb (hand x.known).map x.map b.map j && (element == (hand x.known).element)) ∙ eq-eqb element (hand x.known).element (sym b.number))
 
-  pub over_own : IsOwn (words x).fixed element
+  pub over_own : IsOwn (seen_words x).fixed element
   over_own = record {
     known = (or_last (has element k.known) _ (or_last (is_put k.change element) _ held_here), b.inside);
     home = ap (λ (q : List ℕ). home x.about.seed (shape_at x.about x.map).mask q % 2 ^ depth (shape_at x.about x.map)) over_spelt
@@ -64,7 +62,7 @@ module _ (x : Locked) (key bytes : List ℕ) (flags element : ℕ) (c : Contents
   at_lock : (P : ℕ → ℕ → Type 0) → P x.map x.segment → P k.map k.segment
   at_lock P p = subst (P k.map) (sym c.segment) (subst (λ (n : ℕ). P n x.segment) (sym c.map) p)
 
-  replaces : (ws : List ℕ) (d : Bool) (old : ℕ) → Ready x.about (lit ws d) x.map x.segment → Changes (words x) (words (record x { known = lit ws d })) key old element
+  replaces : (ws : List ℕ) (d : Bool) (old : ℕ) → Ready x.about (lit ws d) x.map x.segment → Changes (seen_words x) (seen_words (record x { known = lit ws d })) key old element
       → Replaces x.about (lit ws d) (lock_of (lit ws d)) (hand (lit ws d)) [] key bytes flags old
   unfolding more
   replaces ws d old r g =
@@ -103,11 +101,11 @@ module _ (x : Locked) (key bytes : List ℕ) (flags element : ℕ) (c : Contents
       known = (st.known ∙ ap (λ (ks : List Lock). record x.known { locks = ks }) (held ∙ ap (λ (q : Lock). q ∷ []) st.lock)) j;
     }
 
-    pub over_replaces : (old : ℕ) → Changes (words x) (words z) key old element → Ready z.about z.known z.map z.segment → Replaces z.about z.known (lock_of z.known) (hand z.known) [] key bytes flags old
-    over_replaces old g r = subst (λ (q : Locked). Changes (words x) (words q) key old element → Ready q.about q.known q.map q.segment → Replaces q.about q.known (lock_of q.known) (hand q.known) [] key bytes flags old)
+    pub over_replaces : (old : ℕ) → Changes (seen_words x) (seen_words z) key old element → Ready z.about z.known z.map z.segment → Replaces z.about z.known (lock_of z.known) (hand z.known) [] key bytes flags old
+    over_replaces old g r = subst (λ (q : Locked). Changes (seen_words x) (seen_words q) key old element → Ready q.about q.known q.map q.segment → Replaces q.about q.known (lock_of q.known) (hand q.known) [] key bytes flags old)
         (sym (z_is r.held)) (λ g r. replaces (lock_of z.known).copy (lock_of z.known).dirty old r g) g r
 
-    pub over_ends : (old : ℕ) (l3 : Known) → HasPair (words x) key old → Replaced z.about z.known (lock_of z.known) [] key bytes flags old l3 → Over x.about x.known x.map key bytes flags old l3
+    pub over_ends : (old : ℕ) (l3 : Known) → HasPair (seen_words x) key old → Replaced z.about z.known (lock_of z.known) [] key bytes flags old l3 → Over x.about x.known x.map key bytes flags old l3
     unfolding more
     over_ends old l3 was p =
         let m : (lock_of z.known).map ≡ x.map = ap (λ (q : Lock). q.map) st.lock ∙ c.map in

@@ -1,5 +1,5 @@
 -- A new element that is filled, and what becomes of it.
-use Rattle.std.proofs.Common.{◌≡◌, ◌≢◌, ℕ, zero, suc, ◌+◌, ◌<◌, ◌≤◌, true, List, [], ◌∷◌, ◌++◌, Option, length, slice_index, length-set, get_or-set_other, ⊎_elim, refl, ap, sym, subst, ◌∙◌, arith}
+use Rattle.std.proofs.Common.{◌≡◌, ◌≢◌, ℕ, zero, suc, ◌<◌, ◌≤◌, true, List, [], ◌∷◌, length, slice_index, length-set, get_or-set_other, ⊎_elim, refl, ap, sym, subst, ◌∙◌, arith}
 use Rattle.std.proofs.lemmas.List.{get_or_append_left}
 use Rattle.std.proofs.Math.Seq.{get_or-append_seam}
 use Rattle.bpf_shared.specs.Shape.{elements}
@@ -14,8 +14,9 @@ use Rattle.hop_words.specs.declared.known.Limbo.{Limbo}
 use Rattle.hop_words.specs.Layout.{words_for}
 use Rattle.hop_words.specs.Homes.{segment_of, word_of, AreBytes}
 use Rattle.hop_words.specs.Ghost.{shape_at, limbo_at, no_limbo}
-use Rattle.hop_words.specs.Kinds.{in_run, retiring, with_gone}
-use Rattle.hop_words.specs.Owning.{behind, IsInHand}
+use Rattle.hop_words.specs.Kinds.{retiring, with_gone}
+use Rattle.bpf_shared.specs.Own.{in_run}
+use Rattle.hop_words.specs.Owning.{tail_of, IsInHand}
 use Rattle.hop_words.proofs.Small.{equal}
 use Rattle.hop_arena.specs.Filling.{with_words, word_list}
 use Rattle.hop_arena.proofs.Filling.{word_count}
@@ -87,16 +88,16 @@ module _ (a : About) (l : Known) (m e : ℕ) (new : HoldsNew l m e) (key bytes :
       refused_fresh = ap (λ (q : Known). q.fresh) p.after ∙ ap (λ (q : Known). q.fresh) filled_is
 
       pub refused_hand : IsInHand l2 m e
-      refused_hand = (whole, refused_fresh ∙ ap (λ (fs : List Fresh). whole ∷ fs) (sym (ap behind refused_fresh)), refl, refl)
+      refused_hand = (whole, refused_fresh ∙ ap (λ (fs : List Fresh). whole ∷ fs) (sym (ap tail_of refused_fresh)), refl, refl)
 
-      pub refused_limbo : (l3 : Known) → l3 ≡ record l2 { fresh = behind l2.fresh } → l3.limbo ≡ l.limbo
+      pub refused_limbo : (l3 : Known) → l3 ≡ record l2 { fresh = tail_of l2.fresh } → l3.limbo ≡ l.limbo
       refused_limbo l3 given = ap (λ (q : Known). q.limbo) given ∙ (ap (λ (q : Known). q.limbo) p.after ∙ ap (λ (q : Known). q.limbo) filled_is)
 
-      pub refused_called : (l3 : Known) → l3 ≡ record l2 { fresh = behind l2.fresh } → Called a l m (Update m key bytes flags r) l3
+      pub refused_called : (l3 : Known) → l3 ≡ record l2 { fresh = tail_of l2.fresh } → Called a l m (Update m key bytes flags r) l3
       refused_called l3 given = subst (Called a l m (Update m key bytes flags r)) (sym given) (record {
         seen = saw_as a l (counted_lock l1) (Update m key bytes flags r) l2.seen (ap (λ (q : Known). q.cpu) filled_is) (ap (λ (q : Known). q.seen) filled_is) p.seen;
         rests = record {
-          fresh = ap behind refused_fresh;
+          fresh = ap tail_of refused_fresh;
           locks = ap (λ (q : Known). q.locks) p.after;
           used = ap (λ (q : Known). (limbo_at q.limbo m).used) p.after ∙ (ap (λ (q : Known). (limbo_at q.limbo m).used) filled_is ∙ used);
         };
@@ -114,22 +115,22 @@ module _ (a : About) (l : Known) (m e : ℕ) (new : HoldsNew l m e) (key bytes :
       over_used = ap (λ (ls : List Limbo). (limbo_at ls m).used) over_limbo
           ∙ (ap (λ (z : Limbo). z.used) (at_set l m (record (limbo_at l.limbo m) { used = old ∷ (limbo_at l.limbo m).used }) room) ∙ ap (λ (us : List ℕ). old ∷ us) used)
 
-      pub over_front : (limbo_at l2.limbo m).used ≡ old ∷ behind (limbo_at l2.limbo m).used
-      over_front = over_used ∙ ap (λ (us : List ℕ). old ∷ us) (sym (ap behind over_used))
+      pub over_front : (limbo_at l2.limbo m).used ≡ old ∷ tail_of (limbo_at l2.limbo m).used
+      over_front = over_used ∙ ap (λ (us : List ℕ). old ∷ us) (sym (ap tail_of over_used))
 
       size_is : length l2.limbo ≡ length l.limbo
       size_is = ap (λ (ls : List Limbo). length ls) over_limbo ∙ length-set l.limbo m (record (limbo_at l.limbo m) { used = old ∷ (limbo_at l.limbo m).used })
 
-      pub over_called : (l3 : Known) → l3 ≡ retiring l2 m old (behind (limbo_at l2.limbo m).used) → Called a l m (Update m key bytes flags Done) l3
+      pub over_called : (l3 : Known) → l3 ≡ retiring l2 m old (tail_of (limbo_at l2.limbo m).used) → Called a l m (Update m key bytes flags Done) l3
       over_called l3 retired =
-          let x : Limbo = record (limbo_at l2.limbo m) { used = behind (limbo_at l2.limbo m).used; young = old ∷ (limbo_at l2.limbo m).young } in
+          let x : Limbo = record (limbo_at l2.limbo m) { used = tail_of (limbo_at l2.limbo m).used; young = old ∷ (limbo_at l2.limbo m).young } in
           let room2 : m < length l2.limbo = subst (λ (i : ℕ). m < i) (sym size_is) room in
           subst (Called a l m (Update m key bytes flags Done)) (sym retired) (record {
             seen = saw_as a l (counted_lock l1) (Update m key bytes flags Done) l2.seen (ap (λ (q : Known). q.cpu) filled_is) (ap (λ (q : Known). q.seen) filled_is) p.seen;
             rests = record {
               fresh = ap (λ (q : Known). q.fresh) p.after;
               locks = ap (λ (q : Known). q.locks) p.after;
-              used = ap (λ (z : Limbo). z.used) (at_set l2 m x room2) ∙ ap behind over_used;
+              used = ap (λ (z : Limbo). z.used) (at_set l2 m x room2) ∙ ap tail_of over_used;
             };
             cpu = ap (λ (q : Known). q.cpu) p.after ∙ ap (λ (q : Known). q.cpu) filled_is;
             readings = ap (λ (q : Known). q.readings) p.after ∙ ap (λ (q : Known). q.readings) filled_is;

@@ -1,5 +1,5 @@
 -- Each span that a lookup of a legal history found is that of an element of its map.
-use Rattle.std.proofs.Common.{◌≡◌, ◌≢◌, ℕ, zero, suc, ◌<◌, ◌≤◌, Bool, true, false, true≢false, List, [], ◌∷◌, ◌++◌, length, slice_get, Option, Some, None, ◌⊎◌, inl, inr, ◌==◌, ◌&&◌, ◌||◌, if◌then◌else◌, refl, sym, ap, subst, ◌∙◌, arith, eq-eqb, IfSome}
+use Rattle.std.proofs.Common.{◌≡◌, ℕ, zero, suc, ◌<◌, Bool, true, false, true≢false, List, [], ◌∷◌, ◌++◌, length, slice_get, Option, Some, None, ◌⊎◌, inl, inr, ◌==◌, ◌&&◌, ◌||◌, if◌then◌else◌, refl, sym, ap, subst, ◌∙◌, arith, IfSome}
 use Rattle.std.proofs.lemmas.Bool.Decides.{nat_tests}
 use Rattle.std.specs.FinMap.{get, insert, remove, get-empty}
 use Rattle.std.specs.Ordering.{nat_cmp}
@@ -11,9 +11,9 @@ use Rattle.bpf_shared.specs.declared.events.MapAnswer.{MapAnswer}
 use Rattle.bpf_shared.specs.declared.events.MapAnswer.TheVariants.{Done, Invalid, Busy, Exists, Absent, Full, NoMemory}
 use Rattle.bpf_shared.specs.declared.events.Entry.{Entry}
 use Rattle.bpf_shared.specs.declared.shapes.MapShape.{MapShape}
-use Rattle.bpf_shared.specs.Shape.{Shape, IsMap, IsShape, IsMapShape, IsElementSpan, IsValueSpan, elements, element_span}
-use Rattle.bpf_shared.specs.Store.{Keys, Value, Plain, as_made, Finds, put, IsInMap}
-use Rattle.bpf_shared.specs.Events.{Allowed, Updates, Deletes, after_update, after_write, after_lookup, span_of, MayLie}
+use Rattle.bpf_shared.specs.Shape.{Shape, IsMap, IsShape, IsElementSpan, IsValueSpan}
+use Rattle.bpf_shared.specs.Store.{Keys, Value, Plain, as_made, Finds, put}
+use Rattle.bpf_shared.specs.Events.{Allowed, Updates, Deletes, after_write, after_lookup, span_of}
 use Rattle.bpf_shared.specs.History.{Legal, IsLegal, events_of, entry}
 use Rattle.bpf_shared.specs.Sound.{IsSoundStore}
 use Rattle.bpf_shared.specs.Passage.{same_span}

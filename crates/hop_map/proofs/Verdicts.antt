@@ -1,29 +1,27 @@
 -- The answers that an update's flags and the lock's words decide.
-use Rattle.std.proofs.Common.{◌≡◌, ◌≢◌, ℕ, ◌<◌, ◌≤◌, nat_lt, Bool, true, false, not, ◌||◌, ◌&&◌, ◌==◌, List, [], ◌∷◌, Option, Some, None, is_some, refl, ap, sym, subst, ◌∙◌, arith, eq-eqb, ne_eqb}
+use Rattle.std.proofs.Common.{◌≡◌, ◌≢◌, ℕ, nat_lt, Bool, true, false, not, ◌||◌, ◌&&◌, ◌==◌, List, [], ◌∷◌, Option, Some, None, is_some, refl, ap, sym, subst, ◌∙◌, arith, eq-eqb, ne_eqb}
 use Rattle.std.proofs.lemmas.Bool.Decides.{nat_tests}
 use Rattle.std.specs.FinMap.{get, len}
 use Rattle.bpf_shared.specs.First.{first_of}
 use Rattle.bpf_shared.specs.Shape.{Shape, IsMap}
 use Rattle.bpf_shared.specs.Store.{Plain}
-use Rattle.bpf_shared.specs.Events.{MayRefuse, Updates, refusals}
+use Rattle.bpf_shared.specs.Events.{MayRefuse, Updates}
 use Rattle.bpf_shared.specs.declared.shapes.MapShape.{MapShape}
 use Rattle.bpf_shared.specs.declared.events.Event.TheVariants.{Update}
 use Rattle.bpf_shared.specs.declared.events.MapAnswer.{MapAnswer}
 use Rattle.bpf_shared.specs.declared.events.MapAnswer.TheVariants.{Done, Invalid, Busy, Exists, Absent, Full, NoMemory}
-use Rattle.hop_words.specs.declared.known.About.{About}
-use Rattle.hop_words.specs.declared.known.Known.{Known}
 use Rattle.hop_words.specs.declared.known.Lock.{Lock}
 use Rattle.hop_words.specs.Content.{IsShare}
 use Rattle.hop_words.specs.Ghost.{segment_in, shape_at}
 use Rattle.hop_words.specs.Rule.{image, numbered}
-use Rattle.hop_words.specs.Kinds.{has, IsAbsent, LeadsTo, Answers}
+use Rattle.hop_words.specs.Kinds.{IsKeyAbsent, LeadsTo, Answers}
 use Rattle.hop_words.specs.Locking.{lock_of}
 use Rattle.hop_words.proofs.Small.{map_is}
 use Rattle.hop_words.proofs.CountUp.{four, and_false}
 use Rattle.hop_seg.specs.Segment.{Sound as SegSound}
 use Rattle.hop_seg.specs.Content.{HasPair, IsAbsent as SegAbsent}
-use Rattle.hop_map.specs.Views.{Locked, Ready, in_hand, is_put, words}
-use Rattle.hop_map.specs.Calls.{Contents}
+use Rattle.hop_map.specs.Views.{Locked, Ready, in_hand, is_put, seen_words}
+use Rattle.hop_map.specs.Calls.{LockShows}
 use Rattle.hop_map.specs.Updates.{Wants}
 use Rattle.hop_map.proofs.Puts.{sound_with, absent_with, leads_with}
 
@@ -47,22 +45,22 @@ some_numbered : (f : ℕ → ℕ) (o : Option ℕ) → is_some (numbered f o) �
 some_numbered f None = refl
 some_numbered f (Some e) = refl
 
-module _ (x : Locked) (key bytes : List ℕ) (flags : ℕ) (c : Contents x.about x.known x.map x.segment) (w : Wants x.about x.known x.map x.segment key bytes flags) where
+module _ (x : Locked) (key bytes : List ℕ) (flags : ℕ) (c : LockShows x.about x.known x.map x.segment) (w : Wants x.about x.known x.map x.segment key bytes flags) where
   abbrev k : Lock
   k = lock_of x.known
 
   more : ℕ → Bool
   more e = is_put k.change e || in_hand x.known.fresh x.map e
 
-  pub judge_sound : SegSound (words x)
+  pub judge_sound : SegSound (seen_words x)
   unfolding more
   judge_sound = sound_with x.about x.known x.map x.segment c more
 
-  pub judge_absent : SegAbsent (words x) key → IsAbsent x.about k key
+  pub judge_absent : SegAbsent (seen_words x) key → IsKeyAbsent x.about k key
   unfolding more
   judge_absent gone = absent_with x.about x.known x.map x.segment c more key w.home gone
 
-  pub judge_leads : (e : ℕ) → HasPair (words x) key e → LeadsTo x.about k key e
+  pub judge_leads : (e : ℕ) → HasPair (seen_words x) key e → LeadsTo x.about k key e
   unfolding more
   judge_leads e h = leads_with x.about x.known x.map x.segment c more key w.home e h
 
@@ -97,16 +95,16 @@ module _ (x : Locked) (key bytes : List ℕ) (flags : ℕ) (c : Contents x.about
   pub busy_answers : Ready x.about x.known x.map x.segment → Answers x.about x.known k (Update x.map key bytes flags Busy)
   busy_answers = answers Busy (λ z. cc) (λ s before share is. w.flags_known)
 
-  pub exists_answers : flags ≡ 1 → (e : ℕ) → HasPair (words x) key e → Ready x.about x.known x.map x.segment → Answers x.about x.known k (Update x.map key bytes flags Exists)
+  pub exists_answers : flags ≡ 1 → (e : ℕ) → HasPair (seen_words x) key e → Ready x.about x.known x.map x.segment → Answers x.about x.known k (Update x.map key bytes flags Exists)
   exists_answers one e h = answers Exists (λ z. cc) (λ s before share is.
       second_true _ _ _ _ known_flags ((λ j. (eq-eqb flags 1 one j) && (is ∙ ap is_some (judge_leads e h before share)) j)))
 
-  pub absent_answers : flags ≡ 2 → SegAbsent (words x) key → Ready x.about x.known x.map x.segment → Answers x.about x.known k (Update x.map key bytes flags Absent)
+  pub absent_answers : flags ≡ 2 → SegAbsent (seen_words x) key → Ready x.about x.known x.map x.segment → Answers x.about x.known k (Update x.map key bytes flags Absent)
   absent_answers two gone = answers Absent (λ z. cc) (λ s before share is.
       let none : is_some (get (s.maps x.map) key) ≡ false = is ∙ ap is_some (judge_absent gone before share) in
       third_true _ _ _ _ known_flags ((λ j. (flags == 1) && none j) ∙ and_false (flags == 1)) (λ j. (eq-eqb flags 2 two j) && not (none j)))
 
-  pub lacking_answers : flags ≢ 1 → (e : ℕ) → HasPair (words x) key e → Ready x.about x.known x.map x.segment → Answers x.about x.known k (Update x.map key bytes flags NoMemory)
+  pub lacking_answers : flags ≢ 1 → (e : ℕ) → HasPair (seen_words x) key e → Ready x.about x.known x.map x.segment → Answers x.about x.known k (Update x.map key bytes flags NoMemory)
   lacking_answers other e h = answers NoMemory (λ z. cc) (λ s before share is.
       let there : is_some (get (s.maps x.map) key) ≡ true = is ∙ ap is_some (judge_leads e h before share) in
       four _ _ _ _ known_flags (λ j. ne_eqb flags 1 other j && is_some (get (s.maps x.map) key))

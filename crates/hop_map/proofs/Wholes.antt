@@ -1,6 +1,5 @@
 -- A whole call, from its steps.
-use Rattle.std.proofs.Common.{◌≡◌, ◌≢◌, ℕ, zero, suc, ◌+◌, ◌-◌, ◌%◌, ◌^◌, ◌<◌, ◌≤◌, ◌⊎◌, inl, inr, ⊎_elim, true, List, [], ◌∷◌, ◌++◌, Option, Some, None, MatchOption, length, length-set, get_or-set_other, slice_index, append_assoc, refl, ap, sym, subst, ◌∙◌, arith}
-use Rattle.std.proofs.lemmas.List.{get_or_append_left}
+use Rattle.std.proofs.Common.{◌≡◌, ℕ, ◌+◌, ◌-◌, ◌%◌, ◌^◌, ◌<◌, ◌≤◌, ◌⊎◌, inl, inr, ⊎_elim, true, List, [], ◌∷◌, ◌++◌, Option, Some, None, MatchOption, length, length-set, get_or-set_other, slice_index, append_assoc, refl, ap, sym, subst, ◌∙◌}
 use Rattle.bpf_shared.specs.Shape.{IsPairOf, IsKeyOf, elements}
 use Rattle.bpf_shared.specs.declared.shapes.MapShape.{MapShape}
 use Rattle.bpf_shared.specs.History.{events_of, entry}
@@ -17,19 +16,18 @@ use Rattle.hop_words.specs.declared.known.Sight.{Sight}
 use Rattle.hop_words.specs.declared.known.Sight.TheVariants.{Runs}
 use Rattle.hop_words.specs.Ghost.{shape_at, limbo_at, no_limbo, IsElement, Each}
 use Rattle.hop_words.specs.Rule.{done_in}
-use Rattle.hop_words.specs.Kinds.{Saw, Told, in_run, holding, limbo_set, retiring, with_gone}
-use Rattle.hop_words.specs.Owning.{behind, IsInHand}
+use Rattle.hop_words.specs.Kinds.{Saw, Told, holding, retiring, with_gone}
+use Rattle.bpf_shared.specs.Own.{in_run}
+use Rattle.hop_words.specs.Owning.{tail_of}
 use Rattle.hop_words.proofs.Small.{map_of}
-use Rattle.hop_arena.specs.Claiming.{Sees, Misses, Claims, IsSeenTaken}
+use Rattle.hop_arena.specs.Claiming.{Sees, Misses, Claims}
 use Rattle.hop_arena.specs.declared.element.Element.{Element}
 use Rattle.hop_epoch.specs.Batch.{front, Notes, Tracks, Keeps, SeesRunning}
-use Rattle.hop_epoch.proofs.Batching.{at_set, keeps_then, keeps_set}
-use Rattle.hop_map.specs.Calls.{Took}
-use Rattle.hop_map.specs.Overs.{Over}
+use Rattle.hop_epoch.proofs.Batching.{at_set, keeps_then}
 use Rattle.hop_map.specs.Locks.{counted_lock}
 use Rattle.hop_map.specs.Removals.{Dropped, Kept}
 use Rattle.hop_map.specs.Updates.{Refusal}
-use Rattle.hop_map.specs.Whole.{Rests, Called, IsShort, Lacks}
+use Rattle.hop_map.specs.Whole.{Rests, Called, SearchesInVain, Lacks}
 
 -- ---- the event, seen from before
 pub saw_as : (a : About) (l l1 : Known) (ev : Event) (s : List Entry) → l1.cpu ≡ l.cpu → l1.seen ≡ l.seen → Saw a l1 ev s → Saw a l ev s
@@ -79,8 +77,8 @@ keeps_holding m e l l1 p = record { cpu = p.cpu; seen = p.seen; fresh = ap (λ (
 
 -- the three steps that find none
 pub short : (a : About) (m : ℕ) (l l1 l2 l3 : Known) → Misses a l m l1 → Keeps m l1 l2 → ((limbo_at l2.limbo m).old ≡ [] → (limbo_at l2.limbo m).young ≡ [])
-    → ((limbo_at l2.limbo m).old ≡ []) ⊎ SeesRunning m l1 l2 → Misses a l2 m l3 → IsShort a l m l3
-short a m l l1 l2 l3 first kept empty blocked last = subst (IsShort a l m) (sym last.1) (⊎_elim
+    → ((limbo_at l2.limbo m).old ≡ []) ⊎ SeesRunning m l1 l2 → Misses a l2 m l3 → SearchesInVain a l m l3
+short a m l l1 l2 l3 first kept empty blocked last = subst (SearchesInVain a l m) (sym last.1) (⊎_elim
     (λ (none : (limbo_at l2.limbo m).old ≡ []). record {
       sooner = kept.sights.0 ++ first.0;
       later = last.0;
@@ -102,7 +100,7 @@ short a m l l1 l2 l3 first kept empty blocked last = subst (IsShort a l m) (sym 
 
 pub found_after : (a : About) (m : ℕ) (l l1 l2 l3 : Known) → Misses a l m l1 → Keeps m l1 l2 → ((limbo_at l2.limbo m).old ≡ [] → (limbo_at l2.limbo m).young ≡ [])
     → ((limbo_at l2.limbo m).old ≡ []) ⊎ SeesRunning m l1 l2 → (o : Option Element) → MatchOption o (Misses a l2 m l3) (λ (x : Element). Claims a l2 m x l3)
-    → MatchOption o (Keeps m l l3 × IsShort a l m l3) (λ (x : Element). Keeps m (holding l m x.number) l3 × (x.map ≡ m) × (x.number < elements (shape_at a m)))
+    → MatchOption o (Keeps m l l3 × SearchesInVain a l m l3) (λ (x : Element). Keeps m (holding l m x.number) l3 × (x.map ≡ m) × (x.number < elements (shape_at a m)))
 found_after a m l l1 l2 l3 first kept empty blocked None p = (
   keeps_then m l l2 l3 (keeps_then m l l1 l2 (keeps_sees m l l1 first.0 first.1) kept) (keeps_sees m l2 l3 p.0 p.1),
   short a m l l1 l2 l3 first kept empty blocked p,
@@ -116,7 +114,7 @@ found_after a m l l1 l2 l3 first kept empty blocked (Some x) p = (
 pub kept_runs : (m : ℕ) (l l1 : Known) → Keeps m l l1 → in_run (events_of l.cpu l.seen) ≡ true → in_run (events_of l1.cpu l1.seen) ≡ true
 kept_runs m l l1 k runs = (λ j. in_run (events_of (k.cpu j) (k.seen j))) ∙ runs
 
-pub short_as : (a : About) (m : ℕ) (l l1 l2 : Known) → l2.tally.sights ≡ l1.tally.sights → l2.limbo ≡ l1.limbo → IsShort a l m l1 → IsShort a l m l2
+pub short_as : (a : About) (m : ℕ) (l l1 l2 : Known) → l2.tally.sights ≡ l1.tally.sights → l2.limbo ≡ l1.limbo → SearchesInVain a l m l1 → SearchesInVain a l m l2
 short_as a m l l1 l2 s e p = record {
   sooner = p.sooner;
   later = p.later;
@@ -127,7 +125,7 @@ short_as a m l l1 l2 s e p = record {
 }
 
 -- ---- the answer
-pub lacks_of : (a : About) (l : Known) (m : ℕ) (r : MapAnswer) (l2 : Known) → (r ≡ Busy → 2 ^ 56 - 1 ≤ a.version + done_in m l2.seen) → (r ≡ NoMemory → IsShort a l m l2) → Lacks a l m r l2
+pub lacks_of : (a : About) (l : Known) (m : ℕ) (r : MapAnswer) (l2 : Known) → (r ≡ Busy → 2 ^ 56 - 1 ≤ a.version + done_in m l2.seen) → (r ≡ NoMemory → SearchesInVain a l m l2) → Lacks a l m r l2
 lacks_of a l m Done l2 worn none = tt
 lacks_of a l m Invalid l2 worn none = tt
 lacks_of a l m Busy l2 worn none = worn refl
@@ -201,22 +199,22 @@ module _ (a : About) (l : Known) (m : ℕ) (key : List ℕ) (old : ℕ) (l2 : Kn
   dropped_used = ap (λ (ls : List Limbo). (limbo_at ls m).used) dropped_limbo
       ∙ (ap (λ (z : Limbo). z.used) (at_set l m (record (limbo_at l.limbo m) { used = old ∷ (limbo_at l.limbo m).used }) room) ∙ ap (λ (us : List ℕ). old ∷ us) rests.used)
 
-  pub dropped_front : (limbo_at l2.limbo m).used ≡ old ∷ behind (limbo_at l2.limbo m).used
-  dropped_front = dropped_used ∙ ap (λ (us : List ℕ). old ∷ us) (sym (ap behind dropped_used))
+  pub dropped_front : (limbo_at l2.limbo m).used ≡ old ∷ tail_of (limbo_at l2.limbo m).used
+  dropped_front = dropped_used ∙ ap (λ (us : List ℕ). old ∷ us) (sym (ap tail_of dropped_used))
 
   dropped_size : length l2.limbo ≡ length l.limbo
   dropped_size = ap (λ (ls : List Limbo). length ls) dropped_limbo ∙ length-set l.limbo m (record (limbo_at l.limbo m) { used = old ∷ (limbo_at l.limbo m).used })
 
-  pub dropped_called : (l3 : Known) → l3 ≡ retiring l2 m old (behind (limbo_at l2.limbo m).used) → Called a l m (Delete m key Done) l3
+  pub dropped_called : (l3 : Known) → l3 ≡ retiring l2 m old (tail_of (limbo_at l2.limbo m).used) → Called a l m (Delete m key Done) l3
   dropped_called l3 retired =
-      let x : Limbo = record (limbo_at l2.limbo m) { used = behind (limbo_at l2.limbo m).used; young = old ∷ (limbo_at l2.limbo m).young } in
+      let x : Limbo = record (limbo_at l2.limbo m) { used = tail_of (limbo_at l2.limbo m).used; young = old ∷ (limbo_at l2.limbo m).young } in
       let room2 : m < length l2.limbo = subst (λ (i : ℕ). m < i) (sym dropped_size) room in
       subst (Called a l m (Delete m key Done)) (sym retired) (record {
         seen = saw_as a l (counted_lock l) (Delete m key Done) l2.seen refl refl p.seen;
         rests = record {
           fresh = ap (λ (q : Known). q.fresh) p.after ∙ rests.fresh;
           locks = ap (λ (q : Known). q.locks) p.after;
-          used = ap (λ (z : Limbo). z.used) (at_set l2 m x room2) ∙ ap behind dropped_used;
+          used = ap (λ (z : Limbo). z.used) (at_set l2 m x room2) ∙ ap tail_of dropped_used;
         };
         cpu = ap (λ (q : Known). q.cpu) p.after;
         readings = ap (λ (q : Known). q.readings) p.after;

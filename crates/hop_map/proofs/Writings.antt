@@ -5,12 +5,13 @@ use Rattle.std.proofs.lemmas.Bool.Decides.{nat_tests}
 use Rattle.hop_words.specs.declared.place.Place.{Place}
 use Rattle.hop_words.specs.declared.place.Place.TheVariants.{Head, Hop, Slot, Link}
 use Rattle.hop_words.specs.Layout.{mem, is_place, put_at}
-use Rattle.hop_words.specs.Content.{words_of, item}
+use Rattle.hop_words.specs.Content.{place_words, item}
 use Rattle.hop_words.proofs.Layouts.{wrote}
-use Rattle.hop_seg.specs.Words.{Words as SegWords, with_hop, with_slot, with_head, with_next, put}
+use Rattle.hop_seg.specs.Words.{Words as SegWords, with_hop, with_slot, with_head, with_next, replace_at}
 use Rattle.hop_words.specs.Locking.{lock_of}
-use Rattle.hop_map.specs.Keeping.{stays_itself}
-use Rattle.hop_map.specs.Views.{Locked, Ready, Stays, knows, view, words, written, link_word}
+use Rattle.hop_map.specs.Lemmas.Keeping.{stays_itself}
+use Rattle.hop_map.specs.Views.{Locked, Ready, Stays, knows, segment_view, seen_words, written}
+use Rattle.hop_epoch.specs.Batch.{link_word}
 
 pub stays_same : (x y : Locked) → y ≡ x → Stays x y
 stays_same x y e = subst (Stays x) (sym e) (stays_itself x)
@@ -37,9 +38,9 @@ module _ (x : Locked) (r : Ready x.about x.known x.map x.segment) where
   w = mem x.about.shape (lock_of x.known).copy
 
   seen : (Place → ℕ) → SegWords
-  seen v = view x.about x.map x.segment (knows x.known x.map) (words_of v)
+  seen v = segment_view x.about x.map x.segment (knows x.known x.map) (place_words v)
 
-  after : (p : Place) (n : ℕ) → is_place x.about.shape p ≡ true → words (written x p n) ≡ seen (put_at w p n)
+  after : (p : Place) (n : ℕ) → is_place x.about.shape p ≡ true → seen_words (written x p n) ≡ seen (put_at w p n)
   unfolding seen w
   after p n there = ap seen (wrote x.about.shape (lock_of x.known).copy p n r.sized there)
 
@@ -47,30 +48,30 @@ module _ (x : Locked) (r : Ready x.about x.known x.map x.segment) where
   choose f true n k = refl
   choose f false n k = refl
 
-  pub hop_set : (b n : ℕ) (y : Locked) → n < 2 ^ 32 → is_place x.about.shape (Hop x.map x.segment b) ≡ true → y ≡ written x (Hop x.map x.segment b) n → words y ≡ with_hop (words x) b n
+  pub hop_set : (b n : ℕ) (y : Locked) → n < 2 ^ 32 → is_place x.about.shape (Hop x.map x.segment b) ≡ true → y ≡ written x (Hop x.map x.segment b) n → seen_words y ≡ with_hop (seen_words x) b n
   unfolding seen w
-  hop_set b n y small there is = ap words is ∙ (after (Hop x.map x.segment b) n there ∙ ap (λ (h : ℕ → ℕ). record (words x) { hop = h }) (λ j d. each d j))
+  hop_set b n y small there is = ap seen_words is ∙ (after (Hop x.map x.segment b) n there ∙ ap (λ (h : ℕ → ℕ). record (seen_words x) { hop = h }) (λ j d. each d j))
     where
-      each : (d : ℕ) → put_at w (Hop x.map x.segment b) n (Hop x.map x.segment d) % 2 ^ 32 ≡ put (λ d. w (Hop x.map x.segment d) % 2 ^ 32) b n d
+      each : (d : ℕ) → put_at w (Hop x.map x.segment b) n (Hop x.map x.segment d) % 2 ^ 32 ≡ replace_at (λ d. w (Hop x.map x.segment d) % 2 ^ 32) b n d
       each d = rw (eq-eqb x.map x.map refl, eq-eqb x.segment x.segment refl) (choose (λ i. i % 2 ^ 32) (d == b) n (w (Hop x.map x.segment d)) ∙ ap (λ i. if d == b then i else w (Hop x.map x.segment d) % 2 ^ 32) (low n small))
 
-  pub slot_set : (p : ℕ) (o : Option ℕ) (y : Locked) → IfSome o (λ e. e < 2 ^ 32) → is_place x.about.shape (Slot x.map x.segment p) ≡ true → y ≡ written x (Slot x.map x.segment p) (link_word o) → words y ≡ with_slot (words x) p o
+  pub slot_set : (p : ℕ) (o : Option ℕ) (y : Locked) → IfSome o (λ e. e < 2 ^ 32) → is_place x.about.shape (Slot x.map x.segment p) ≡ true → y ≡ written x (Slot x.map x.segment p) (link_word o) → seen_words y ≡ with_slot (seen_words x) p o
   unfolding seen w
-  slot_set p o y small there is = ap words is ∙ (after (Slot x.map x.segment p) (link_word o) there ∙ ap (λ (h : ℕ → Option ℕ). record (words x) { slot = h }) (λ j d. each d j))
+  slot_set p o y small there is = ap seen_words is ∙ (after (Slot x.map x.segment p) (link_word o) there ∙ ap (λ (h : ℕ → Option ℕ). record (seen_words x) { slot = h }) (λ j d. each d j))
     where
-      each : (d : ℕ) → item (put_at w (Slot x.map x.segment p) (link_word o) (Slot x.map x.segment d)) ≡ put (λ d. item (w (Slot x.map x.segment d))) p o d
+      each : (d : ℕ) → item (put_at w (Slot x.map x.segment p) (link_word o) (Slot x.map x.segment d)) ≡ replace_at (λ d. item (w (Slot x.map x.segment d))) p o d
       each d = rw (eq-eqb x.map x.map refl, eq-eqb x.segment x.segment refl) (choose item (d == p) (link_word o) (w (Slot x.map x.segment d)) ∙ ap (λ (i : Option ℕ). if d == p then i else item (w (Slot x.map x.segment d))) (item_word o small))
 
-  pub head_set : (o : Option ℕ) (y : Locked) → IfSome o (λ e. e < 2 ^ 32) → is_place x.about.shape (Head x.map x.segment) ≡ true → y ≡ written x (Head x.map x.segment) (link_word o) → words y ≡ with_head (words x) o
+  pub head_set : (o : Option ℕ) (y : Locked) → IfSome o (λ e. e < 2 ^ 32) → is_place x.about.shape (Head x.map x.segment) ≡ true → y ≡ written x (Head x.map x.segment) (link_word o) → seen_words y ≡ with_head (seen_words x) o
   unfolding seen w
-  head_set o y small there is = ap words is ∙ (after (Head x.map x.segment) (link_word o) there ∙ ap (λ (h : Option ℕ). record (words x) { head = h }) here)
+  head_set o y small there is = ap seen_words is ∙ (after (Head x.map x.segment) (link_word o) there ∙ ap (λ (h : Option ℕ). record (seen_words x) { head = h }) here)
     where
       here : item (put_at w (Head x.map x.segment) (link_word o) (Head x.map x.segment)) ≡ o
       here = rw (eq-eqb x.map x.map refl, eq-eqb x.segment x.segment refl) (item_word o small)
 
-  pub next_set : (e : ℕ) (o : Option ℕ) (y : Locked) → IfSome o (λ e. e < 2 ^ 32) → is_place x.about.shape (Link x.map e) ≡ true → y ≡ written x (Link x.map e) (link_word o) → words y ≡ with_next (words x) e o
+  pub next_set : (e : ℕ) (o : Option ℕ) (y : Locked) → IfSome o (λ e. e < 2 ^ 32) → is_place x.about.shape (Link x.map e) ≡ true → y ≡ written x (Link x.map e) (link_word o) → seen_words y ≡ with_next (seen_words x) e o
   unfolding seen w
-  next_set e o y small there is = ap words is ∙ (after (Link x.map e) (link_word o) there ∙ ap (λ (h : ℕ → Option ℕ). record (words x) { next = h }) (λ j d. each d j))
+  next_set e o y small there is = ap seen_words is ∙ (after (Link x.map e) (link_word o) there ∙ ap (λ (h : ℕ → Option ℕ). record (seen_words x) { next = h }) (λ j d. each d j))
     where
-      each : (d : ℕ) → item (put_at w (Link x.map e) (link_word o) (Link x.map d)) ≡ put (λ d. item (w (Link x.map d))) e o d
+      each : (d : ℕ) → item (put_at w (Link x.map e) (link_word o) (Link x.map d)) ≡ replace_at (λ d. item (w (Link x.map d))) e o d
       each d = rw (eq-eqb x.map x.map refl) (choose item (d == e) (link_word o) (w (Link x.map d)) ∙ ap (λ (i : Option ℕ). if d == e then i else item (w (Link x.map d))) (item_word o small))

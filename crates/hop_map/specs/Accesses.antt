@@ -5,7 +5,8 @@ use Rattle.bpf_shared.specs.History.{events_of}
 use Rattle.hop_words.specs.declared.known.About.{About}
 use Rattle.hop_words.specs.declared.known.Known.{Known}
 use Rattle.hop_words.specs.Ghost.{shape_at, IsElement}
-use Rattle.hop_words.specs.Kinds.{in_run, spans_of, IsAmong}
+use Rattle.hop_words.specs.Kinds.{spans_of, IsAmong}
+use Rattle.bpf_shared.specs.Own.{in_run}
 
 -- the n bytes from the address p on are in an element's value, and p is a multiple of n
 pub record IsValuePlace (a : About) (p n : ℕ) : Type 0 where

@@ -12,11 +12,12 @@ use Rattle.hop_words.specs.Homes.{segment_of, word_of, AreBytes}
 use Rattle.hop_words.specs.Content.{IsShare, HasKey}
 use Rattle.hop_words.specs.Ghost.{segment_in, shape_at}
 use Rattle.hop_words.specs.Rule.{image}
-use Rattle.hop_words.specs.Kinds.{has, in_run, Saw}
+use Rattle.hop_words.specs.Kinds.{has, Saw}
+use Rattle.bpf_shared.specs.Own.{in_run}
 use Rattle.hop_words.specs.Locking.{lock_of, hand}
 
 -- what the words showed when they were locked; nothing has changed since
-pub record Contents (a : About) (l : Known) (m s : ℕ) : Type 0 where
+pub record LockShows (a : About) (l : Known) (m s : ℕ) : Type 0 where
   pub map : (lock_of l).map ≡ m
   pub segment : (lock_of l).segment ≡ s
   pub content : List ℕ → Option ℕ

@@ -1,5 +1,5 @@
 -- Lookups, from what a CPU knows before to what it knows after.
-use Rattle.std.specs.Prelude.{◌≡◌, ◌≢◌, ◌⊎◌, ℕ, ◌+◌, ◌%◌, ◌<◌, true, List, [], ◌∷◌, ◌++◌, Option, Some, None, length}
+use Rattle.std.specs.Prelude.{◌≡◌, ◌≢◌, ◌⊎◌, ℕ, ◌%◌, ◌<◌, true, List, [], ◌++◌, Option, Some, None, length}
 use Rattle.bpf_shared.specs.declared.events.Event.TheVariants.{Lookup}
 use Rattle.bpf_shared.specs.declared.events.Span.{Span}
 use Rattle.bpf_shared.specs.History.{events_of}
@@ -10,10 +10,11 @@ use Rattle.hop_map.specs.declared.once.Once.TheVariants.{Found, Absent, Disturbe
 use Rattle.hop_words.specs.declared.known.Disturbance.{Disturbance}
 use Rattle.hop_map.specs.Locks.{counted_lock}
 use Rattle.hop_words.specs.Ghost.{shape_at, segment_in, Each}
-use Rattle.hop_words.specs.Kinds.{in_run, Saw, disturbed_by}
+use Rattle.hop_words.specs.Kinds.{Saw, disturbed_by}
+use Rattle.bpf_shared.specs.Own.{in_run}
 
 -- a CPU in a run asks for a key of the map, with no element in hand and no lock
-pub record Asks (a : About) (l : Known) (m : ℕ) (key : List ℕ) : Type 0 where
+pub record AsksForKey (a : About) (l : Known) (m : ℕ) (key : List ℕ) : Type 0 where
   pub map : m < length a.shape.maps
   pub size : length key ≡ (shape_at a m).key
   pub runs : in_run (events_of l.cpu l.seen) ≡ true
@@ -53,7 +54,8 @@ IsDisturbed a m key d = (d.map ≡ m) × (d.segment ≡ segment_in a m key)
     × ((d.first % 2 ≡ 1) ⊎ (d.first ≢ d.last))
 
 -- so many readings were disturbed, and nothing else came of them
-pub record Tries (a : About) (l : Known) (m : ℕ) (key : List ℕ) (n : ℕ) (l' : Known) : Type 0 where
+pub record SeesDisturbances (a : About) (l : Known) (m : ℕ) (key : List ℕ) (n : ℕ) (l' : Known)
+    : Type 0 where
   pub more : List Disturbance
   pub count : length more ≡ n
   pub each : Each (IsDisturbed a m key) more
@@ -66,5 +68,5 @@ pub record Tries (a : About) (l : Known) (m : ℕ) (key : List ℕ) (n : ℕ) (l
 pub record Spares (a : About) (l : Known) (m : ℕ) (key : List ℕ) (l' : Known) : Type 0 where
   pub tried : ℕ
   pub before : Known
-  pub tries : Tries a l m key tried before
+  pub tries : SeesDisturbances a l m key tried before
   pub counted : (l'.tally ≡ before.tally) ⊎ ((tried ≡ 8) × (l'.tally ≡ (counted_lock before).tally))

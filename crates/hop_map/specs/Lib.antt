@@ -1,5 +1,4 @@
 pub mod Views
-pub mod Keeping
 pub mod Calls
 pub mod Removals
 pub mod Locks
@@ -10,6 +9,6 @@ pub mod Finding
 pub mod Port
 pub mod Stores
 pub mod Peeks
-pub mod Resting
 pub mod Accesses
 pub mod Dumping
+pub mod Lemmas

@@ -1,18 +1,16 @@
 -- What a call has before the lock, and right after it.
-use Rattle.std.specs.Prelude.{◌≡◌, ℕ, ◌+◌, ◌<◌, true, List, [], ◌∷◌, length, slice_index}
+use Rattle.std.specs.Prelude.{◌≡◌, ℕ, ◌+◌, ◌<◌, List, [], ◌∷◌, length, slice_index}
 use Rattle.bpf_shared.specs.Shape.{elements}
 use Rattle.hop_words.specs.declared.known.About.{About}
 use Rattle.hop_words.specs.declared.known.Known.{Known}
 use Rattle.hop_words.specs.Layout.{words_for}
-use Rattle.bpf_shared.specs.History.{events_of}
-use Rattle.hop_words.specs.Homes.{segment_of, word_of, AreBytes}
+use Rattle.hop_words.specs.Homes.{word_of, AreBytes}
 use Rattle.hop_words.specs.Ghost.{shape_at}
-use Rattle.hop_words.specs.Kinds.{in_run}
 use Rattle.hop_words.specs.Locking.{hand}
 use Rattle.hop_map.specs.Updates.{Wants, Valued}
 
 -- the lane has one element in hand, filled with a key
-pub record Carries (a : About) (l : Known) (m : ℕ) (key : List ℕ) (element : ℕ) : Type 0 where
+pub record CarriesKey (a : About) (l : Known) (m : ℕ) (key : List ℕ) (element : ℕ) : Type 0 where
   pub in_hand : l.fresh ≡ hand l ∷ []
   pub map : (hand l).map ≡ m
   pub number : (hand l).element ≡ element
@@ -26,7 +24,7 @@ pub record Carries (a : About) (l : Known) (m : ℕ) (key : List ℕ) (element :
 -- also with a value, for a call in a run
 pub record Readies (a : About) (l : Known) (m s : ℕ) (key bytes : List ℕ) (flags element : ℕ) :
     Type 0 where
-  pub carries : Carries a l m key element
+  pub carries : CarriesKey a l m key element
   pub valued : Valued a l m bytes
   pub wants : Wants a l m s key bytes flags
   pub idle : l.locks ≡ []

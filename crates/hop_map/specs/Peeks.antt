@@ -1,21 +1,20 @@
 -- What the code of one segment sees of words that others may be writing.
-use Rattle.std.specs.Prelude.{◌≡◌, ℕ, ◌<◌, ◌≤◌, Bool, true, List, [], ◌∷◌, ◌++◌, Option}
+use Rattle.std.specs.Prelude.{◌≡◌, ℕ, ◌<◌, ◌≤◌, Bool, true, List, ◌++◌, Option}
 use Rattle.atomic_table.specs.Seated.{TableId}
 use Rattle.bpf_shared.specs.Shape.{elements}
 use Rattle.hop_words.specs.declared.known.About.{About}
 use Rattle.hop_words.specs.declared.known.Known.{Known}
-use Rattle.hop_words.specs.declared.known.Reading.{Reading}
 use Rattle.hop_words.specs.declared.known.Peek.{Peek}
 use Rattle.hop_words.specs.declared.place.Place.{Place}
 use Rattle.hop_words.specs.Layout.{words_for}
 use Rattle.hop_words.specs.Homes.{word_of}
-use Rattle.hop_words.specs.Content.{Words, Reached, IsShare}
+use Rattle.hop_words.specs.Content.{MapWords, Reached, IsShare}
 use Rattle.hop_words.specs.Ghost.{shape_at, segment_in, IsSegment, Each}
 use Rattle.hop_words.specs.Rule.{IsPeek}
 use Rattle.hop_words.specs.Kinds.{peeking}
-use Rattle.hop_words.specs.Peeking.{reading_of, HasReading}
+use Rattle.hop_words.specs.Peeking.{latest_reading, HasReading}
 use Rattle.hop_seg.specs.Words.{Words as SegWords}
-use Rattle.hop_map.specs.Views.{view}
+use Rattle.hop_map.specs.Views.{segment_view}
 
 -- a segment that is read without its lock, as its users see it
 pub record Peeked : Type 0 where
@@ -37,28 +36,28 @@ pub record FitsPeeks (id : TableId) (a : About) (standing : TableId) (l : Known)
 
 -- one word more was read
 abbrev pub peeked : Peeked → Place → ℕ → Peeked
-peeked x p n = record x { known = peeking x.known (reading_of x.known) p n }
+peeked x p n = record x { known = peeking x.known (latest_reading x.known) p n }
 
 -- the words have all numbers that were read of this segment
-abbrev pub HavePeeks : Words → Peeked → Type 0
+abbrev pub HavePeeks : MapWords → Peeked → Type 0
 HavePeeks w x = Each (λ (p : Peek). IsPeek w x.map x.segment p.place p.number)
-    (reading_of x.known).peeks
+    (latest_reading x.known).peeks
 
 -- the key words of an element are the key's
-abbrev pub Spelled : About → ℕ → Words → ℕ → List ℕ → Type 0
+abbrev pub Spelled : About → ℕ → MapWords → ℕ → List ℕ → Type 0
 Spelled a m w e key = (j : ℕ) → j < words_for (shape_at a m).key → w.key m e j ≡ word_of key j
 
 -- these may be the words that were read: they show some content, they have all numbers that were
 -- read, and the elements that may be read are reached there
 pub record Agreed (x : Peeked) (w : SegWords) : Type 0 where
-  pub words : Words
+  pub words : MapWords
   pub content : List ℕ → Option ℕ
   pub share : IsShare x.about.seed (shape_at x.about x.map)
       (segment_in x.about x.map) words x.map x.segment content
   pub peeks : HavePeeks words x
   pub known : ℕ → Bool
   pub known_is : (e : ℕ) → known e ≡ true → Reached words x.map x.segment e
-  pub shown : w ≡ view x.about x.map x.segment known words
+  pub shown : w ≡ segment_view x.about x.map x.segment known words
 
 -- nothing but reads lies between the two
 pub record Rested (x y : Peeked) : Type 0 where
@@ -68,5 +67,5 @@ pub record Rested (x y : Peeked) : Type 0 where
   pub segment : y.segment ≡ x.segment
   pub known : y.known ≡ record x.known { readings = y.known.readings }
   pub more : List Peek
-  pub reading : reading_of y.known
-      ≡ record (reading_of x.known) { peeks = more ++ (reading_of x.known).peeks }
+  pub reading : latest_reading y.known
+      ≡ record (latest_reading x.known) { peeks = more ++ (latest_reading x.known).peeks }

@@ -7,13 +7,13 @@ use Rattle.bpf_shared.specs.declared.events.Event.{Event}
 use Rattle.bpf_shared.specs.declared.events.Entry.{Entry}
 use Rattle.bpf_shared.specs.declared.events.Span.{Span}
 use Rattle.bpf_shared.specs.History.{IsLegal, events_of}
-use Rattle.bpf_shared.specs.Own.{held_by}
+use Rattle.bpf_shared.specs.Own.{held_by, in_run}
 use Rattle.hop_words.specs.declared.known.About.{About}
 use Rattle.hop_words.specs.declared.known.Known.{Known}
 use Rattle.hop_words.specs.Ghost.{limbo_at}
 use Rattle.hop_words.specs.Inside.{Shown, Standing, nobody}
-use Rattle.hop_words.specs.Kinds.{in_run, count_of, Saw}
-use Rattle.hop_words.specs.Seats.{IsWithin}
+use Rattle.hop_words.specs.Kinds.{run_count, Saw}
+use Rattle.hop_words.specs.Seats.{HasSeenBeginning}
 use Rattle.hop_arena.specs.declared.arena.Arena.{Arena}
 use Rattle.hop_arena.specs.Claiming.{IsArena}
 use Rattle.hop_epoch.specs.declared.batches.Batches.{Batches}
@@ -64,8 +64,8 @@ abbrev pub IsUnlocked : Known → Type 0
 IsUnlocked l = l.locks ≡ []
 
 -- between two calls the CPU's lane is there, and owns nothing
-abbrev pub IsIdle : InPort → Type 0
-IsIdle p = (p.lane ≡ Some (standing_in p.lane)) × HasNothing (standing_in p.lane).known
+abbrev pub IsPortIdle : InPort → Type 0
+IsPortIdle p = (p.lane ≡ Some (standing_in p.lane)) × HasNothing (standing_in p.lane).known
 
 abbrev pub own_events : Port → List Event
 own_events p = events_of p.known.cpu p.known.seen
@@ -75,8 +75,8 @@ abbrev pub runs : Port → Bool
 runs p = in_run (own_events p)
 
 -- the spans of the values that the port's run looked up
-abbrev pub holds : Port → Span → Bool
-holds p = held_by (own_events p)
+abbrev pub port_holds : Port → Span → Bool
+port_holds p = held_by (own_events p)
 
 abbrev pub no_arena : Arena
 no_arena = record { map = 0; elements = 0; start = 0; low = 0; high = 0 }
@@ -108,7 +108,7 @@ pub record IsPortOf (t : Shown) (p : Port) : Type 0 where
   pub table : p.table ≡ t.id
   pub cpu : p.known.cpu < t.about.shape.cpus
   pub even : t.about.count % 2 ≡ 0
-  pub room : runs p ≡ true → count_of t.about p.known + 1 < 2 ^ 64
+  pub room : runs p ≡ true → run_count t.about p.known + 1 < 2 ^ 64
   -- what the CPU has seen is a legal history
   pub legal : IsLegal t.about.shape p.known.seen
   pub limbo : length p.known.limbo ≡ length t.about.shape.maps
@@ -117,7 +117,7 @@ pub record IsPortOf (t : Shown) (p : Port) : Type 0 where
 
 -- the port's CPU does this: of what it has seen it is the last, behind all that it had seen and
 -- behind events of others
-pub record Does (a : About) (p : Port) (e : Event) (q : Port) : Type 0 where
+pub record PortDoes (a : About) (p : Port) (e : Event) (q : Port) : Type 0 where
   pub table : q.table ≡ p.table
   pub cpu : q.known.cpu ≡ p.known.cpu
   pub seen : Saw a p.known e q.known.seen
@@ -133,7 +133,7 @@ pub record IsAllOf (t : Shown) (ports : List Port) : Type 0 where
 
 -- what the port has seen is its CPU's part of this history: a beginning with all its own events
 abbrev pub IsPartOf : List Entry → Port → Type 0
-IsPartOf history p = IsWithin p.known history
+IsPartOf history p = HasSeenBeginning p.known history
 
 -- what a run that has ended leaves of a CPU, while batches are looked at
 pub record IsEnding (t : Shown) (ended l : Known) (bs : List Batches) : Type 0 where

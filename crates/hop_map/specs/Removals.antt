@@ -12,10 +12,11 @@ use Rattle.hop_map.specs.declared.dropping.Deletion.TheVariants.{Gone, Missing, 
 use Rattle.hop_words.specs.Homes.{segment_of}
 use Rattle.hop_words.specs.Ghost.{shape_at}
 use Rattle.hop_words.specs.Rule.{done_in}
-use Rattle.hop_words.specs.Kinds.{in_run, Saw, with_gone}
+use Rattle.hop_words.specs.Kinds.{Saw, with_gone}
+use Rattle.bpf_shared.specs.Own.{in_run}
 
 -- a call in a run has a key of this segment
-pub record Names (a : About) (l : Known) (m s : ℕ) (key : List ℕ) : Type 0 where
+pub record NamesKey (a : About) (l : Known) (m s : ℕ) (key : List ℕ) : Type 0 where
   pub home : segment_of a.seed (shape_at a m) key ≡ s
   pub size : length key ≡ (shape_at a m).key
   pub limbo : m < length l.limbo

@@ -19,8 +19,8 @@ pub record Store : Type 0 where
 abbrev pub store_of : Inside → Store
 store_of s = record { table = s.table; ports = s.ports.items }
 
-abbrev pub IsReady : Inside → Type 0
-IsReady s = ArePorts s.table s.ports.items
+abbrev pub HasAllPorts : Inside → Type 0
+HasAllPorts s = ArePorts s.table s.ports.items
 
 -- a CPU of the store that has seen nothing yet
 abbrev pub IsNewLane : About → Known → Type 0

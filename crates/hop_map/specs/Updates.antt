@@ -4,7 +4,7 @@ use Rattle.bpf_shared.specs.Shape.{elements}
 use Rattle.bpf_shared.specs.History.{events_of}
 use Rattle.bpf_shared.specs.declared.events.Event.TheVariants.{Update}
 use Rattle.bpf_shared.specs.declared.events.MapAnswer.{MapAnswer}
-use Rattle.bpf_shared.specs.declared.events.MapAnswer.TheVariants.{Done, Busy, NoMemory, Full}
+use Rattle.bpf_shared.specs.declared.events.MapAnswer.TheVariants.{Done, Busy, NoMemory}
 use Rattle.hop_words.specs.declared.known.About.{About}
 use Rattle.hop_words.specs.declared.known.Known.{Known}
 use Rattle.hop_words.specs.Layout.{words_for}
@@ -12,14 +12,15 @@ use Rattle.hop_words.specs.Homes.{segment_of, word_of, AreBytes}
 use Rattle.hop_words.specs.Content.{HasKey}
 use Rattle.hop_words.specs.Ghost.{shape_at}
 use Rattle.hop_words.specs.Rule.{image, done_in}
-use Rattle.hop_words.specs.Kinds.{has, in_run, Saw, IsAbsent, Answers, Told}
+use Rattle.hop_words.specs.Kinds.{has, Saw, Answers}
+use Rattle.bpf_shared.specs.Own.{in_run}
 use Rattle.hop_words.specs.Locking.{lock_of, hand}
 use Rattle.hop_seg.specs.Content.{HasPair, IsAbsent as SegAbsent}
 use Rattle.hop_map.specs.declared.ending.Ending.{Ending}
 use Rattle.hop_map.specs.declared.ending.Ending.TheVariants.{Added, Replaced, Refused}
 use Rattle.hop_map.specs.declared.judging.Finding.{Finding}
 use Rattle.hop_map.specs.declared.judging.Finding.TheVariants.{Refuses, There, Missing}
-use Rattle.hop_map.specs.Views.{Locked, Ready, words}
+use Rattle.hop_map.specs.Views.{Locked, Ready, seen_words}
 use Rattle.hop_map.specs.Calls.{Took}
 use Rattle.hop_map.specs.Overs.{Over}
 
@@ -59,9 +60,10 @@ Judges x key bytes flags (Refuses r) =
     × (Ready x.about x.known x.map x.segment →
     Answers x.about x.known (lock_of x.known) (Update x.map key bytes flags r))
 Judges x key bytes flags There =
-    ((lock_of x.known).stamp + 256 < 2 ^ 64) × (flags ≢ 1) × ((e : ℕ) × HasPair (words x) key e)
+    ((lock_of x.known).stamp + 256 < 2 ^ 64) × (flags ≢ 1)
+    × ((e : ℕ) × HasPair (seen_words x) key e)
 Judges x key bytes flags Missing =
-    ((lock_of x.known).stamp + 256 < 2 ^ 64) × (flags ≢ 2) × SegAbsent (words x) key
+    ((lock_of x.known).stamp + 256 < 2 ^ 64) × (flags ≢ 2) × SegAbsent (seen_words x) key
 
 -- the answer's event, and all else as it was; Busy only where changes have worn the versions out
 pub record Refusal (a : About) (l : Known) (m : ℕ) (key bytes : List ℕ) (flags : ℕ) (r : MapAnswer)

@@ -1,18 +1,17 @@
 -- What the code of one segment sees of the shared words.
-use Rattle.std.specs.Prelude.{◌≡◌, ℕ, ◌+◌, ◌%◌, ◌^◌, ◌<◌, ◌≤◌, Bool, true, false, ◌||◌, ◌&&◌, ◌==◌, List, [], ◌∷◌, Option, Some, None, take, length}
+use Rattle.std.specs.Prelude.{◌≡◌, ℕ, ◌%◌, ◌^◌, ◌<◌, ◌≤◌, Bool, true, false, ◌||◌, ◌&&◌, ◌==◌, List, [], ◌∷◌, take, length}
 use Rattle.atomic_table.specs.Seated.{TableId}
 use Rattle.bpf_shared.specs.Shape.{elements}
 use Rattle.hop_words.specs.declared.known.About.{About}
 use Rattle.hop_words.specs.declared.known.Known.{Known}
-use Rattle.hop_words.specs.declared.known.Lock.{Lock}
 use Rattle.hop_words.specs.declared.known.Fresh.{Fresh}
 use Rattle.hop_words.specs.declared.known.Change.{Change}
 use Rattle.hop_words.specs.declared.known.Change.TheVariants.{Nothing, Puts, Drops}
 use Rattle.hop_words.specs.Layout.{depth, words_for, size, mem, same_place}
 use Rattle.hop_words.specs.declared.place.Place.{Place}
 use Rattle.hop_words.specs.declared.place.Place.TheVariants.{KeyWord}
-use Rattle.hop_words.specs.Homes.{spelled, word_of}
-use Rattle.hop_words.specs.Content.{Words, item, HasKey}
+use Rattle.hop_words.specs.Homes.{bytes_of_words, word_of}
+use Rattle.hop_words.specs.Content.{MapWords, item, HasKey}
 use Rattle.hop_words.specs.Ghost.{shape_at, IsSegment}
 use Rattle.hop_words.specs.Rule.{image}
 use Rattle.hop_words.specs.Kinds.{has, MayLink, writing}
@@ -25,12 +24,13 @@ abbrev pub home : ℕ → ℕ → List ℕ → ℕ
 home seed mask key = home_of key seed mask
 
 -- the key that an element's words spell
-abbrev pub spelled_key : About → ℕ → Words → ℕ → List ℕ
-spelled_key a m x e = take (shape_at a m).key (spelled (words_for (shape_at a m).key) (x.key m e))
+abbrev pub spelled_key : About → ℕ → MapWords → ℕ → List ℕ
+spelled_key a m x e =
+    take (shape_at a m).key (bytes_of_words (words_for (shape_at a m).key) (x.key m e))
 
 -- one segment of the words, where these elements may be read
-abbrev pub view : About → ℕ → ℕ → (ℕ → Bool) → Words → SegWords
-view a m s known x = record {
+abbrev pub segment_view : About → ℕ → ℕ → (ℕ → Bool) → MapWords → SegWords
+segment_view a m s known x = record {
   hop = λ b. x.hop m s b % 2 ^ 32;
   slot = λ p. item (x.slot m s p);
   head = item (x.head m s);
@@ -79,11 +79,11 @@ pub record Locked : Type 0 where
   pub map : ℕ
   pub segment : ℕ
 
-abbrev pub shown : About → Known → ℕ → ℕ → SegWords
-shown a l m s = view a m s (knows l m) (image a (lock_of l).copy)
+abbrev pub locked_view : About → Known → ℕ → ℕ → SegWords
+locked_view a l m s = segment_view a m s (knows l m) (image a (lock_of l).copy)
 
-abbrev pub words : Locked → SegWords
-words x = shown x.about x.known x.map x.segment
+abbrev pub seen_words : Locked → SegWords
+seen_words x = locked_view x.about x.known x.map x.segment
 
 -- all but the words: the lane's other fields, and what its lock says beside the copy
 pub record Stays (x y : Locked) : Type 0 where
@@ -111,13 +111,8 @@ IsNoKey p = (m e k : ℕ) → same_place (KeyWord m e k) p ≡ false
 abbrev pub written : Locked → Place → ℕ → Locked
 written x p n = record x { known = writing x.about x.known (lock_of x.known) p n }
 
--- the word that leads to an element, or to none
-abbrev pub link_word : Option ℕ → ℕ
-link_word None = 0
-link_word (Some e) = e + 1
-
 -- the element's words are the key's
-abbrev pub Spells : About → Known → ℕ → ℕ → List ℕ → Type 0
-Spells a l m e key =
+abbrev pub SpellsKey : About → Known → ℕ → ℕ → List ℕ → Type 0
+SpellsKey a l m e key =
     (j : ℕ) → j < words_for (shape_at a m).key →
     mem a.shape (lock_of l).copy (KeyWord m e j) ≡ word_of key j

@@ -21,8 +21,8 @@ abbrev pub Searches : About → ℕ → Arena → Type 0
 Searches a m x = (x.map ≡ m) × IsArena a x.map x.elements x.start
 
 -- the batches are the CPU's of this map
-abbrev pub Follows : About → Known → ℕ → Batches → Type 0
-Follows a l m x = (x.map ≡ m) × Tracks a l x.map x.young x.aged x.noted
+abbrev pub AreBatchesOf : About → Known → ℕ → Batches → Type 0
+AreBatchesOf a l m x = (x.map ≡ m) × Tracks a l x.map x.young x.aged x.noted
 
 -- the CPU has one element in hand: a new one, no word of which is filled
 abbrev pub HoldsNew : Known → ℕ → ℕ → Type 0
@@ -47,7 +47,7 @@ pub record Called (a : About) (l : Known) (m : ℕ) (event : Event) (l' : Known)
 -- the call looked for a free element in vain. First its two batches of the map were empty, or a CPU
 -- was still in the run that was noted with the old one; after that each element of the map was seen
 -- not free
-pub record IsShort (a : About) (l : Known) (m : ℕ) (l' : Known) : Type 0 where
+pub record SearchesInVain (a : About) (l : Known) (m : ℕ) (l' : Known) : Type 0 where
   pub sooner : List Sight
   pub later : List Sight
   pub sights : l'.tally.sights ≡ later ++ (sooner ++ l.tally.sights)
@@ -62,5 +62,5 @@ pub record IsShort (a : About) (l : Known) (m : ℕ) (l' : Known) : Type 0 where
 -- only where the call looked for a free element in vain
 abbrev pub Lacks : About → Known → ℕ → MapAnswer → Known → Type 0
 Lacks a l m Busy l' = 2 ^ 56 - 1 ≤ a.version + done_in m l'.seen
-Lacks a l m NoMemory l' = IsShort a l m l'
+Lacks a l m NoMemory l' = SearchesInVain a l m l'
 Lacks a l m answer l' = Unit {0}

@@ -5,10 +5,10 @@ ghost use Rattle.bpf_shared.specs.History.{events_of};
 ghost use Rattle.bpf_shared.specs.declared.events.Event.TheVariants.{Delete};
 ghost use Rattle.hop_words.specs.Homes.{segment_of};
 ghost use Rattle.hop_words.specs.Ghost.{shape_at};
-ghost use Rattle.hop_words.specs.Kinds.{in_run};
+ghost use Rattle.bpf_shared.specs.Own.{in_run};
 ghost use Rattle.hop_map.specs.Locks.{counted_lock};
-ghost use Rattle.hop_map.specs.Removals.{Names, DeleteEnds};
-ghost use Rattle.hop_map.specs.Whole.{Rests, Called, Lacks, Follows};
+ghost use Rattle.hop_map.specs.Removals.{NamesKey, DeleteEnds};
+ghost use Rattle.hop_map.specs.Whole.{Rests, Called, Lacks, AreBatchesOf};
 
 use crate::dropping::{Deletion, delete_key};
 use crate::homing::homing;
@@ -29,7 +29,7 @@ fn lock_and_delete<R: Wait>(
 ) -> (Lane, Deletion)
     requires table { lane.table ≡ table.now.id }
     requires map { map < length table.now.about.shape.maps }
-    requires names { Names table.now.about lane.known map
+    requires names { NamesKey table.now.about lane.known map
         (segment_of table.now.about.seed (shape_at table.now.about map) key.now) key.now }
     requires empty { lane.known.fresh ≡ [] }
     requires idle { lane.known.locks ≡ [] }
@@ -55,7 +55,7 @@ pub fn delete<R: Wait>(
     key: &[u8],
 ) -> (Lane, MapAnswer)
     requires table { lane.table ≡ table.now.id }
-    requires batches { Follows table.now.about lane.known map batches.old }
+    requires batches { AreBatchesOf table.now.about lane.known map batches.old }
     requires rests { Rests lane.known map }
     requires runs { in_run (events_of lane.known.cpu lane.known.seen) ≡ true }
     requires key { IsKeyOf table.now.about.shape.maps map key.now }
@@ -63,7 +63,7 @@ pub fn delete<R: Wait>(
     ensures called { Called table.now.about lane.known map
         (Delete map key.now result.1) result.0.known }
     ensures lacks { Lacks table.now.about lane.known map result.1 result.0.known }
-    ensures batches { Follows table.now.about result.0.known map batches.new }
+    ensures batches { AreBatchesOf table.now.about result.0.known map batches.new }
 {
     let (mut lane, deletion) = lock_and_delete(rt, table, lane, map, key);
     match deletion {

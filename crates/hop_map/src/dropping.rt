@@ -5,9 +5,9 @@ ghost use Rattle.hop_words.specs.Home.{home_of};
 ghost use Rattle.hop_words.specs.Ghost.{shape_at};
 ghost use Rattle.hop_words.specs.Locking.{lock_of};
 ghost use Rattle.hop_seg.specs.Content.{HasPair};
-ghost use Rattle.hop_map.specs.Views.{words as seen};
-ghost use Rattle.hop_map.specs.Calls.{Contents};
-ghost use Rattle.hop_map.specs.Removals.{Names, Dropped, DeleteEnds};
+ghost use Rattle.hop_map.specs.Views.{seen_words as seen};
+ghost use Rattle.hop_map.specs.Calls.{LockShows};
+ghost use Rattle.hop_map.specs.Removals.{NamesKey, Dropped, DeleteEnds};
 
 use crate::judging::WORN;
 use crate::locked::LockedWords;
@@ -28,8 +28,8 @@ pub(crate) enum Deletion {
 /// Takes out a key that the segment has, and gives the lock back. Answers the key's element, which
 /// is in hand from now on.
 pub(crate) fn drop_key<'a>(words: LockedWords<'a>, stamp: u64, home: u32, key: &[u8]) -> (Lane, u32)
-    requires contents { Contents words.about words.known words.map words.segment }
-    requires names { Names words.about words.known words.map words.segment key.now }
+    requires contents { LockShows words.about words.known words.map words.segment }
+    requires names { NamesKey words.about words.known words.map words.segment key.now }
     requires home { home ≡ home_of key.now words.about.seed (shape_at words.about words.map).mask }
     requires stamp { stamp ≡ (lock_of words.known).stamp }
     requires fits { stamp + 256 < 2 ^ 64 }
@@ -51,8 +51,8 @@ pub(crate) fn delete_key<'a>(
     home: u32,
     key: &[u8],
 ) -> (Lane, Deletion)
-    requires contents { Contents words.about words.known words.map words.segment }
-    requires names { Names words.about words.known words.map words.segment key.now }
+    requires contents { LockShows words.about words.known words.map words.segment }
+    requires names { NamesKey words.about words.known words.map words.segment key.now }
     requires home { home ≡ home_of key.now words.about.seed (shape_at words.about words.map).mask }
     requires stamp { stamp ≡ (lock_of words.known).stamp }
     ensures table { result.0.table ≡ words.entry.table }

@@ -7,7 +7,7 @@ ghost use Rattle.bpf_shared.specs.Listing.{IsListing};
 ghost use Rattle.bpf_shared.specs.Shows.{listed};
 ghost use Rattle.hop_words.specs.Content.{item, IsOnList};
 ghost use Rattle.hop_words.specs.Ghost.{shape_at, IsElement, IsSegment};
-ghost use Rattle.hop_map.specs.Dumping.{words_in, key_in, value_in, IsReached, IsLast, HasKey, AreFound, Adds};
+ghost use Rattle.hop_map.specs.Dumping.{words_in, key_in, value_in, IsReached, IsLast, IsKeyAmong, AreFound, AddsPairs};
 
 use crate::closed::Closed;
 use crate::numbers::item;
@@ -88,8 +88,9 @@ fn add(
     requires element { IsElement rest.now.about map element }
     requires reached { IsReached rest.now map segment element }
     ensures adds { OnOk result
-        (Adds rest.now map (listed pairs.old.entries) (listed pairs.new.entries)) }
-    ensures key { OnOk result (HasKey (key_in rest.now map element) (listed pairs.new.entries)) }
+        (AddsPairs rest.now map (listed pairs.old.entries) (listed pairs.new.entries)) }
+    ensures key { OnOk result
+        (IsKeyAmong (key_in rest.now map element) (listed pairs.new.entries)) }
 {
     let _segment = segment;
     let key = read_key(alloc, rest, map, element)?;
@@ -110,10 +111,10 @@ fn add_at(
     requires inside { IsSegment rest.now.about map segment }
     requires place { place < 64 }
     ensures adds { OnOk result
-        (Adds rest.now map (listed pairs.old.entries) (listed pairs.new.entries)) }
+        (AddsPairs rest.now map (listed pairs.old.entries) (listed pairs.new.entries)) }
     ensures key { OnOk result ((i : ℕ)
         → item ((words_in rest.now).slot map segment place) ≡ Some i →
-        HasKey (key_in rest.now map i) (listed pairs.new.entries)) }
+        IsKeyAmong (key_in rest.now map i) (listed pairs.new.entries)) }
 {
     let _about = rest.about();
     match item(rest.word(Place::Slot {
@@ -136,10 +137,10 @@ fn add_placed(
 ) -> Result<(), AllocError>
     requires inside { IsSegment rest.now.about map segment }
     ensures adds { OnOk result
-        (Adds rest.now map (listed pairs.old.entries) (listed pairs.new.entries)) }
+        (AddsPairs rest.now map (listed pairs.old.entries) (listed pairs.new.entries)) }
     ensures keys { OnOk result ((p i : ℕ) → p < 64 →
         item ((words_in rest.now).slot map segment p) ≡ Some i →
-        HasKey (key_in rest.now map i) (listed pairs.new.entries)) }
+        IsKeyAmong (key_in rest.now map i) (listed pairs.new.entries)) }
 {
     'places: for place in 0..64 {
         add_at(alloc, rest, map, segment, place, pairs)?;
@@ -157,9 +158,9 @@ fn add_listed(
 ) -> Result<(), AllocError>
     requires inside { IsSegment rest.now.about map segment }
     ensures adds { OnOk result
-        (Adds rest.now map (listed pairs.old.entries) (listed pairs.new.entries)) }
+        (AddsPairs rest.now map (listed pairs.old.entries) (listed pairs.new.entries)) }
     ensures keys { OnOk result ((i : ℕ) → IsOnList (words_in rest.now) map segment i →
-        HasKey (key_in rest.now map i) (listed pairs.new.entries)) }
+        IsKeyAmong (key_in rest.now map i) (listed pairs.new.entries)) }
 {
     let _about = rest.about();
     let count = elements(&shape_of(rest, map));
@@ -184,9 +185,9 @@ fn add_segment(
 ) -> Result<(), AllocError>
     requires inside { IsSegment rest.now.about map segment }
     ensures adds { OnOk result
-        (Adds rest.now map (listed pairs.old.entries) (listed pairs.new.entries)) }
+        (AddsPairs rest.now map (listed pairs.old.entries) (listed pairs.new.entries)) }
     ensures keys { OnOk result ((i : ℕ) → IsReached rest.now map segment i →
-        HasKey (key_in rest.now map i) (listed pairs.new.entries)) }
+        IsKeyAmong (key_in rest.now map i) (listed pairs.new.entries)) }
 {
     add_placed(alloc, rest, map, segment, pairs)?;
     add_listed(alloc, rest, map, segment, pairs)?;
@@ -198,7 +199,7 @@ fn pairs_of(alloc: Global, rest: &Rest, map: u8) -> Result<Pairs, AllocError>
     requires map { map < length rest.now.about.shape.maps }
     ensures found { IfOk result (λ pairs. AreFound rest.now map (listed pairs.entries)) }
     ensures keys { IfOk result (λ pairs. (s i : ℕ) → IsSegment rest.now.about map s →
-        IsReached rest.now map s i → HasKey (key_in rest.now map i) (listed pairs.entries)) }
+        IsReached rest.now map s i → IsKeyAmong (key_in rest.now map i) (listed pairs.entries)) }
 {
     let count = segments(&shape_of(rest, map));
     let mut pairs = BTreeMap::new(alloc);

@@ -2,11 +2,11 @@
 ghost use Rattle.std.specs.Prelude.{◌≡◌, ◌<◌, length};
 ghost use Rattle.hop_words.specs.Home.{home_of};
 ghost use Rattle.hop_words.specs.Ghost.{shape_at};
-ghost use Rattle.hop_words.specs.Kinds.{LookedUp, span_at};
+ghost use Rattle.hop_words.specs.Kinds.{LookedUp, found_span};
 ghost use Rattle.hop_words.specs.Locking.{lock_of};
-ghost use Rattle.hop_map.specs.Calls.{Contents};
+ghost use Rattle.hop_map.specs.Calls.{LockShows};
 ghost use Rattle.hop_map.specs.Locks.{counted_lock};
-ghost use Rattle.hop_map.specs.Finding.{Asks, AsksHere, Looked, OnceEnds, Spares};
+ghost use Rattle.hop_map.specs.Finding.{AsksForKey, AsksHere, Looked, OnceEnds, Spares};
 
 use crate::homing::{homing, shape_of};
 use crate::locked::LockedWords;
@@ -21,7 +21,7 @@ use std::sync::Wait;
 /// Where the value of an element lies, if there is one.
 pub(crate) fn span_of(table: &HopTable, map: u8, found: Option<u32>) -> Option<Span>
     requires map { map < length table.now.about.shape.maps }
-    ensures { result ≡ span_at table.now.about map found }
+    ensures { result ≡ found_span table.now.about map found }
 {
     let element = found?;
     let size = shape_of(table, map).value;
@@ -39,7 +39,7 @@ pub(crate) fn find_here<'a>(
     home: u32,
     key: &[u8],
 ) -> (Lane, Option<u32>)
-    requires contents { Contents words.about words.known words.map words.segment }
+    requires contents { LockShows words.about words.known words.map words.segment }
     requires asks { AsksHere words.about words.known words.map words.segment key.now }
     requires home { home ≡ home_of key.now words.about.seed (shape_at words.about words.map).mask }
     requires stamp { stamp ≡ (lock_of words.known).stamp }
@@ -61,7 +61,7 @@ pub fn find_locked<R: Wait>(
     key: &[u8],
 ) -> (Lane, Option<Span>)
     requires table { lane.table ≡ table.now.id }
-    requires asks { Asks table.now.about lane.known map key.now }
+    requires asks { AsksForKey table.now.about lane.known map key.now }
     ensures table { result.0.table ≡ table.now.id }
     ensures found { Looked table.now.about lane.known map key.now result.1 result.0.known }
     ensures readings { result.0.known.readings ≡ lane.known.readings }
@@ -80,7 +80,7 @@ pub fn find_locked<R: Wait>(
 /// that.
 pub fn find_once(table: &HopTable, lane: Lane, map: u8, key: &[u8]) -> (Lane, Once)
     requires table { lane.table ≡ table.now.id }
-    requires asks { Asks table.now.about lane.known map key.now }
+    requires asks { AsksForKey table.now.about lane.known map key.now }
     ensures table { result.0.table ≡ table.now.id }
     ensures ends { OnceEnds table.now.about lane.known map key.now result.1 result.0.known }
 {
@@ -112,7 +112,7 @@ pub fn lookup<R: Wait>(
     key: &[u8],
 ) -> (Lane, Option<Span>)
     requires table { lane.table ≡ table.now.id }
-    requires asks { Asks table.now.about lane.known map key.now }
+    requires asks { AsksForKey table.now.about lane.known map key.now }
     ensures table { result.0.table ≡ table.now.id }
     ensures found { Looked table.now.about lane.known map key.now result.1 result.0.known }
     ensures spares { Spares table.now.about lane.known map key.now result.0.known }

@@ -3,7 +3,7 @@ ghost use Rattle.std.specs.Prelude.{◌≡◌, ◌≤◌};
 ghost use Rattle.hop_words.specs.Home.{home_of};
 ghost use Rattle.hop_words.specs.Ghost.{shape_at};
 ghost use Rattle.hop_words.specs.Locking.{lock_of};
-ghost use Rattle.hop_map.specs.Calls.{Contents};
+ghost use Rattle.hop_map.specs.Calls.{LockShows};
 ghost use Rattle.hop_map.specs.Updates.{Wants, Judges};
 
 use crate::locked::LockedWords;
@@ -32,7 +32,7 @@ pub(crate) fn judge<'a>(
     value: &[u8],
     flags: u64,
 ) -> Finding
-    requires contents { Contents words.old.about words.old.known words.old.map words.old.segment }
+    requires contents { LockShows words.old.about words.old.known words.old.map words.old.segment }
     requires wants { Wants words.old.about words.old.known words.old.map words.old.segment
         key.now value.now flags }
     requires home { home ≡ home_of key.now words.old.about.seed

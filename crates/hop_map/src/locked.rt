@@ -6,12 +6,12 @@ ghost use Rattle.hop_words.specs.Ghost.{shape_at};
 ghost use Rattle.bpf_shared.specs.declared.events.Event.TheVariants.{Delete, Update};
 ghost use Rattle.bpf_shared.specs.declared.events.MapAnswer.TheVariants.{Full, NoMemory};
 ghost use Rattle.hop_words.specs.Rule.{owed};
-ghost use Rattle.hop_words.specs.Kinds.{Inserted, IsAbsent, IsWritten, unlocking, Replaces, Replaced, Removes, Answers, Answered, LooksUp, LookedUp, Told};
+ghost use Rattle.hop_words.specs.Kinds.{Inserted, IsKeyAbsent, IsWritten, unlocking, Replaces, Replaced, Removes, Answers, Answered, LooksUpLocked, LookedUp, Told};
 ghost use Rattle.hop_words.specs.Locking.{lock_of, hand};
 ghost use Rattle.hop_words.specs.Guarded.{IsGuarded, MayWrite};
-ghost use Rattle.hop_map.specs.Views.{IsNoKey, written, knows, Spells, Ready, Fits};
+ghost use Rattle.hop_map.specs.Views.{IsNoKey, written, knows, SpellsKey, Ready, Fits};
 ghost use Rattle.hop_words.specs.declared.known.Change.TheVariants.{Drops};
-ghost use Rattle.hop_map.specs.Calls.{Contents, Brings};
+ghost use Rattle.hop_map.specs.Calls.{LockShows, Brings};
 ghost use Rattle.hop_map.specs.Removals.{Dropped};
 ghost use Rattle.hop_map.specs.Updates.{Wants, Offers};
 
@@ -91,10 +91,10 @@ impl<'a> LockedWords<'a> {
         flags: u64,
         count: u64,
     ) -> bool
-        requires contents { Contents self.old.about self.old.known self.old.map self.old.segment }
+        requires contents { LockShows self.old.about self.old.known self.old.map self.old.segment }
         requires brings { Brings self.old.about self.old.known self.old.map self.old.segment
             key.now value.now flags element }
-        requires absent { IsAbsent self.old.about (lock_of self.old.known) key.now }
+        requires absent { IsKeyAbsent self.old.about (lock_of self.old.known) key.now }
         requires room { count < (shape_at self.old.about self.old.map).max }
         requires fits { count + 1 < 2 ^ 64 }
         ensures done { let l = self.old.known in
@@ -114,10 +114,10 @@ impl<'a> LockedWords<'a> {
     /// The key count, where the map has room for one key more. Where it hasn't, the update is
     /// answered with `Full`.
     fn see_room(&mut self, key: &[u8], value: &[u8], flags: u64) -> Option<u64>
-        requires contents { Contents self.old.about self.old.known self.old.map self.old.segment }
+        requires contents { LockShows self.old.about self.old.known self.old.map self.old.segment }
         requires wants { Wants self.old.about self.old.known self.old.map self.old.segment
             key.now value.now flags }
-        requires absent { IsAbsent self.old.about (lock_of self.old.known) key.now }
+        requires absent { IsKeyAbsent self.old.about (lock_of self.old.known) key.now }
         requires new { flags ≢ 2 }
         ensures full { result ≡ None →
             Told self.old.about self.old.known (Update self.old.map key.now value.now flags Full)
@@ -145,10 +145,10 @@ impl<'a> LockedWords<'a> {
         value: &[u8],
         flags: u64,
     ) -> bool
-        requires contents { Contents self.old.about self.old.known self.old.map self.old.segment }
+        requires contents { LockShows self.old.about self.old.known self.old.map self.old.segment }
         requires offers { Offers self.old.about self.old.known self.old.map self.old.segment
             key.now value.now flags element }
-        requires absent { IsAbsent self.old.about (lock_of self.old.known) key.now }
+        requires absent { IsKeyAbsent self.old.about (lock_of self.old.known) key.now }
         requires new { flags ≢ 2 }
         ensures counted { let l = self.old.known in
             IsTrue result →
@@ -177,10 +177,10 @@ impl<'a> LockedWords<'a> {
     /// Whether the map is full, and so the update's answer: `Full`, or `NoMemory` where no element
     /// is to be had.
     pub(crate) fn see_lack(&mut self, key: &[u8], value: &[u8], flags: u64) -> MapAnswer
-        requires contents { Contents self.old.about self.old.known self.old.map self.old.segment }
+        requires contents { LockShows self.old.about self.old.known self.old.map self.old.segment }
         requires wants { Wants self.old.about self.old.known self.old.map self.old.segment
             key.now value.now flags }
-        requires absent { IsAbsent self.old.about (lock_of self.old.known) key.now }
+        requires absent { IsKeyAbsent self.old.about (lock_of self.old.known) key.now }
         requires new { flags ≢ 2 }
         ensures told { Told self.old.about self.old.known
             (Update self.old.map key.now value.now flags result) self.new.known }
@@ -309,7 +309,7 @@ impl<'a> LockedWords<'a> {
         requires stamp { stamp ≡ (lock_of self.known).stamp }
         requires looks { let l = self.known in
             Ready self.about l self.map self.segment →
-            LooksUp self.about l (lock_of l) key.now found }
+            LooksUpLocked self.about l (lock_of l) key.now found }
         ensures table { result.table ≡ self.entry.table }
         ensures answered { let l = self.entry.known in
             LookedUp self.entry.about l (lock_of l) key.now found result.known }
@@ -361,7 +361,7 @@ impl<'a> LockedWords<'a> {
         requires size { length key.now ≡ (shape_at self.old.about self.old.map).key }
         requires small { length key.now ≤ 64 }
         ensures value { knows self.old.known self.old.map element ≡ true →
-            IsTrue result ↔ Spells self.old.about self.old.known self.old.map element key.now }
+            IsTrue result ↔ SpellsKey self.old.about self.old.known self.old.map element key.now }
         ensures same { self.new ≡ self.old }
     {
         'words: for word in 0..key.len().div_ceil(8) {
@@ -381,7 +381,7 @@ impl<'a> LockedWords<'a> {
 impl<'a> SegReads for LockedWords<'a> {
     ghost use Rattle.std.specs.Prelude.{refl, ◌≡◌};
     ghost use Rattle.std.proofs.Common.{◌∙◌, ap};
-    ghost use Rattle.hop_map.specs.Views.{words as shown_words};
+    ghost use Rattle.hop_map.specs.Views.{seen_words as shown_words};
 
     ghost agrees = { λ x w. w ≡ shown_words x };
 
@@ -445,8 +445,8 @@ impl<'a> SegReads for LockedWords<'a> {
 impl<'a> SegWords for LockedWords<'a> {
     ghost use Rattle.std.specs.Prelude.{refl, ◌≡◌};
     ghost use Rattle.std.proofs.Common.{ap, sym, subst};
-    ghost use Rattle.hop_map.specs.Views.{words as shown_words, Stays};
-    ghost use Rattle.hop_map.specs.Keeping.{stays_itself as itself, stays_on as on};
+    ghost use Rattle.hop_map.specs.Views.{seen_words as shown_words, Stays};
+    ghost use Rattle.hop_map.specs.Lemmas.Keeping.{stays_itself as itself, stays_on as on};
 
     ghost words = { shown_words };
 

@@ -4,7 +4,7 @@ ghost use Rattle.bpf_base.specs.Bytes.{low_bytes, modulus, with_part};
 ghost use Rattle.bpf_base.specs.Atomic.{number_after};
 ghost use Rattle.bpf_shared.specs.Access.{bytes_in, change_of};
 ghost use Rattle.hop_words.specs.declared.known.Known.{Known};
-ghost use Rattle.hop_words.specs.Touching.{TouchesPart, address_of, found_part};
+ghost use Rattle.hop_words.specs.Touching.{TouchesPart, part_address, found_part};
 ghost use Rattle.hop_map.specs.Accesses.{IsValuePlace, IsHeldAt};
 
 use crate::homing::shape_of;
@@ -17,7 +17,7 @@ pub(crate) fn part_at(table: &HopTable, at: ValuePlace, size: Size) -> ValuePart
     requires there { IsValuePlace table.now.about at.at (bytes_in size) }
     ensures touches { (l : Known) → IsHeldAt table.now.about l at.at (bytes_in size)
         → TouchesPart table.now.about l result }
-    ensures at { address_of table.now.about result ≡ at.at }
+    ensures at { part_address table.now.about result ≡ at.at }
     ensures size { result.size ≡ size }
 {
     let _cpus = table.about().shape.cpus();

@@ -2,10 +2,10 @@
 ghost use Rattle.std.specs.Prelude.{◌≡◌, ◌<◌, ◌≤◌, ◌↔◌, true, length, IsTrue};
 ghost use Rattle.bpf_shared.specs.Shape.{elements as elements_of};
 ghost use Rattle.hop_words.specs.Layout.{is_place};
-ghost use Rattle.hop_words.specs.Content.{Words, Reached};
+ghost use Rattle.hop_words.specs.Content.{MapWords, Reached};
 ghost use Rattle.hop_words.specs.Ghost.{shape_at};
-ghost use Rattle.hop_words.specs.Kinds.{Finds, StampSeenAgain};
-ghost use Rattle.hop_words.specs.Peeking.{reading_of, HasReading};
+ghost use Rattle.hop_words.specs.Kinds.{FindsByPeeks, StampSeenAgain};
+ghost use Rattle.hop_words.specs.Peeking.{latest_reading, HasReading};
 ghost use Rattle.hop_map.specs.Peeks.{FitsPeeks, peeked, HavePeeks, Spelled, Rested};
 
 use crate::numbers::item;
@@ -75,10 +75,12 @@ impl<'a> PeekedWords<'a> {
     /// Sees the stamp again, where all that was read shows what the key leads to, and answers it.
     pub(crate) fn see_again(self, key: &[u8], found: Option<u32>) -> (Lane, u64)
         requires finds { let l = self.known in
-            HasReading l self.map self.segment → Finds self.about l (reading_of l) key.now found }
+            HasReading l self.map self.segment →
+            FindsByPeeks self.about l (latest_reading l) key.now found }
         ensures table { result.0.table ≡ self.entry.table }
         ensures seen { let l = self.entry.known in
-            StampSeenAgain self.entry.about l (reading_of l) key.now found result.1 result.0.known }
+            StampSeenAgain self.entry.about l (latest_reading l) key.now found result.1
+            result.0.known }
     {
         let (table, map, segment) = (self.table, self.map, self.segment);
         let mut lane = self.lane;
@@ -99,7 +101,7 @@ impl<'a> PeekedWords<'a> {
         requires inside { element < elements_of (shape_at self.old.about self.old.map) }
         requires size { length key.now ≡ (shape_at self.old.about self.old.map).key }
         requires small { length key.now ≤ 64 }
-        ensures value { (w : Words) → HavePeeks w self.new →
+        ensures value { (w : MapWords) → HavePeeks w self.new →
             Reached w self.old.map self.old.segment element →
             IsTrue result ↔ Spelled self.old.about self.old.map w element key.now }
         ensures rests { Rested self.old self.new }
@@ -120,7 +122,7 @@ impl<'a> PeekedWords<'a> {
 
 impl<'a> SegReads for PeekedWords<'a> {
     ghost use Rattle.hop_map.specs.Peeks.{Agreed, Rested};
-    ghost use Rattle.hop_map.specs.Resting.{rested_itself as itself, rested_on as on, agreed_before as before};
+    ghost use Rattle.hop_map.specs.Lemmas.Resting.{rested_itself as itself, rested_on as on, agreed_before as before};
 
     ghost agrees = { Agreed };
 

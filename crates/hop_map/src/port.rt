@@ -2,10 +2,10 @@
 ghost use Rattle.std.specs.Prelude.{◌≡◌, ◌-◌, ◌^◌, true, false, OnOk, OnErr, slice_get, IfSome, ◌<◌};
 ghost use Rattle.bpf_shared.specs.declared.events.Event.TheVariants.{Begin, End, Lookup, Update, Delete};
 ghost use Rattle.bpf_shared.specs.Shape.{IsMapShape, IsKeyOf, IsPairOf, IsElementSpan, IsValueSpan};
-ghost use Rattle.hop_words.specs.Kinds.{count_of};
+ghost use Rattle.hop_words.specs.Kinds.{run_count};
 ghost use Rattle.hop_map.specs.Whole.{Lacks};
 ghost use Rattle.hop_map.specs.Finding.{OnceEnds, Spares};
-ghost use Rattle.hop_map.specs.Port.{IsPortOf, Does, runs};
+ghost use Rattle.hop_map.specs.Port.{IsPortOf, PortDoes, runs};
 
 use crate::deleting::delete;
 use crate::finding::{find_locked, find_once, lookup};
@@ -31,13 +31,13 @@ pub struct HopPort {
 }
 
 impl Model for HopPort {
-    ghost use Rattle.hop_map.specs.Port.{Port, port_of, IsIdle};
+    ghost use Rattle.hop_map.specs.Port.{Port, port_of, IsPortIdle};
 
     ghost Value = { Port };
 
     ghost view = { port_of };
 
-    ghost invariant = { IsIdle };
+    ghost invariant = { IsPortIdle };
 }
 
 impl HopPort {
@@ -64,8 +64,8 @@ impl HopPort {
         requires fits { IsPortOf table.now self.old }
         requires idle { runs self.old ≡ false }
         ensures in_run { OnOk result (runs self.new ≡ true) }
-        ensures begun { OnOk result (Does table.now.about self.old Begin self.new) }
-        ensures worn { OnErr result (count_of table.now.about self.old.known ≡ 2 ^ 64 - 2) }
+        ensures begun { OnOk result (PortDoes table.now.about self.old Begin self.new) }
+        ensures worn { OnErr result (run_count table.now.about self.old.known ≡ 2 ^ 64 - 2) }
         ensures unchanged { OnErr result (self.new ≡ self.old) }
         ensures fits { IsPortOf table.now self.new }
     {
@@ -82,7 +82,7 @@ impl HopPort {
         requires fits { IsPortOf table.now self.old }
         requires in_run { runs self.old ≡ true }
         ensures idle { runs self.new ≡ false }
-        ensures ended { Does table.now.about self.old End self.new }
+        ensures ended { PortDoes table.now.about self.old End self.new }
         ensures fits { IsPortOf table.now self.new }
     {
         let Some(mut lane) = self.lane.take() else {
@@ -108,7 +108,7 @@ impl HopPort {
         requires in_run { runs self.old ≡ true }
         requires key { IsKeyOf table.now.about.shape.maps map key.now }
         ensures in_run { runs self.new ≡ true }
-        ensures found { Does table.now.about self.old (Lookup map key.now result) self.new }
+        ensures found { PortDoes table.now.about self.old (Lookup map key.now result) self.new }
         ensures element { IfSome result (IsElementSpan table.now.about.shape.maps map) }
         ensures in_range { IfSome result IsValueSpan }
         ensures fits { IsPortOf table.now self.new }
@@ -149,7 +149,7 @@ impl HopPort {
         requires in_run { runs self.old ≡ true }
         requires key { IsKeyOf table.now.about.shape.maps map key.now }
         ensures in_run { runs self.new ≡ true }
-        ensures found { Does table.now.about self.old (Lookup map key.now result) self.new }
+        ensures found { PortDoes table.now.about self.old (Lookup map key.now result) self.new }
         ensures element { IfSome result (IsElementSpan table.now.about.shape.maps map) }
         ensures in_range { IfSome result IsValueSpan }
         ensures spares { Spares table.now.about self.old.known map key.now self.new.known }
@@ -179,7 +179,7 @@ impl HopPort {
         requires in_run { runs self.old ≡ true }
         requires pair { IsPairOf table.now.about.shape.maps map key.now value.now }
         ensures in_run { runs self.new ≡ true }
-        ensures answered { Does table.now.about self.old
+        ensures answered { PortDoes table.now.about self.old
             (Update map key.now value.now flags result) self.new }
         ensures shortage { Lacks table.now.about self.old.known map result self.new.known }
         ensures fits { IsPortOf table.now self.new }
@@ -201,7 +201,7 @@ impl HopPort {
         requires in_run { runs self.old ≡ true }
         requires key { IsKeyOf table.now.about.shape.maps map key.now }
         ensures in_run { runs self.new ≡ true }
-        ensures answered { Does table.now.about self.old (Delete map key.now result) self.new }
+        ensures answered { PortDoes table.now.about self.old (Delete map key.now result) self.new }
         ensures shortage { Lacks table.now.about self.old.known map result self.new.known }
         ensures fits { IsPortOf table.now self.new }
     {

@@ -4,9 +4,9 @@ ghost use Rattle.hop_words.specs.Home.{home_of};
 ghost use Rattle.hop_words.specs.Ghost.{shape_at};
 ghost use Rattle.hop_words.specs.Locking.{lock_of};
 ghost use Rattle.hop_seg.specs.Content.{HasPair, IsAbsent};
-ghost use Rattle.hop_map.specs.Views.{words as seen};
+ghost use Rattle.hop_map.specs.Views.{seen_words as seen};
 ghost use Rattle.hop_map.specs.Overs.{Over};
-ghost use Rattle.hop_map.specs.Calls.{Contents};
+ghost use Rattle.hop_map.specs.Calls.{LockShows};
 ghost use Rattle.hop_map.specs.Updates.{Wants, Offers, Refusal, UpdateEnds};
 
 use crate::ending::Ending;
@@ -29,7 +29,7 @@ pub(crate) fn put_new<'a, R: Wait>(
     value: &[u8],
     flags: u64,
 ) -> (Lane, Ending)
-    requires contents { Contents words.about words.known words.map words.segment }
+    requires contents { LockShows words.about words.known words.map words.segment }
     requires offers { Offers words.about words.known words.map words.segment
         key.now value.now flags element }
     requires home { home ≡ home_of key.now words.about.seed (shape_at words.about words.map).mask }
@@ -60,7 +60,7 @@ pub(crate) fn put_over<'a>(
     value: &[u8],
     flags: u64,
 ) -> (Lane, u32)
-    requires contents { Contents words.about words.known words.map words.segment }
+    requires contents { LockShows words.about words.known words.map words.segment }
     requires offers { Offers words.about words.known words.map words.segment
         key.now value.now flags element }
     requires over { flags ≢ 1 }
@@ -89,7 +89,7 @@ pub(crate) fn put<'a, R: Wait>(
     value: &[u8],
     flags: u64,
 ) -> (Lane, Ending)
-    requires contents { Contents words.about words.known words.map words.segment }
+    requires contents { LockShows words.about words.known words.map words.segment }
     requires offers { Offers words.about words.known words.map words.segment
         key.now value.now flags element }
     requires home { home ≡ home_of key.now words.about.seed (shape_at words.about words.map).mask }
@@ -121,7 +121,7 @@ pub(crate) fn refuse<'a>(
     value: &[u8],
     flags: u64,
 ) -> (Lane, MapAnswer)
-    requires contents { Contents words.about words.known words.map words.segment }
+    requires contents { LockShows words.about words.known words.map words.segment }
     requires wants { Wants words.about words.known words.map words.segment
         key.now value.now flags }
     requires home { home ≡ home_of key.now words.about.seed (shape_at words.about words.map).mask }

@@ -20,13 +20,13 @@ pub struct HopStore {
 }
 
 impl Model for HopStore {
-    ghost use Rattle.hop_map.specs.Stores.{Store, store_of, IsReady};
+    ghost use Rattle.hop_map.specs.Stores.{Store, store_of, HasAllPorts};
 
     ghost Value = { Store };
 
     ghost view = { store_of };
 
-    ghost invariant = { IsReady };
+    ghost invariant = { HasAllPorts };
 }
 
 // Where a CPU looks for free elements, by map.

@@ -7,12 +7,13 @@ ghost use Rattle.bpf_shared.specs.declared.events.MapAnswer.TheVariants.{Busy, N
 ghost use Rattle.hop_words.specs.Rule.{done_in};
 ghost use Rattle.hop_words.specs.Homes.{segment_of};
 ghost use Rattle.hop_words.specs.Ghost.{shape_at, limbo_at};
-ghost use Rattle.hop_words.specs.Kinds.{in_run, holding};
+ghost use Rattle.hop_words.specs.Kinds.{holding};
+ghost use Rattle.bpf_shared.specs.Own.{in_run};
 ghost use Rattle.hop_arena.specs.Claiming.{Claims, Misses, IsArena};
 ghost use Rattle.hop_epoch.specs.Batch.{Keeps};
 ghost use Rattle.hop_map.specs.Locks.{Readies, counted_lock};
 ghost use Rattle.hop_map.specs.Updates.{Wants, Refusal, UpdateEnds};
-ghost use Rattle.hop_map.specs.Whole.{Rests, Called, Lacks, IsShort, Searches, Follows, HoldsNew};
+ghost use Rattle.hop_map.specs.Whole.{Rests, Called, Lacks, SearchesInVain, Searches, AreBatchesOf, HoldsNew};
 
 use crate::ending::Ending;
 use crate::homing::{homing, shape_of};
@@ -117,18 +118,18 @@ fn claim_free(
     requires even { table.now.about.count % 2 ≡ 0 }
     requires map { arena.old.map < length table.now.about.shape.maps }
     requires arena { Searches table.now.about arena.old.map arena.old }
-    requires batches { Follows table.now.about lane.old.known arena.old.map batches.old }
+    requires batches { AreBatchesOf table.now.about lane.old.known arena.old.map batches.old }
     requires unlocked { lane.old.known.locks ≡ [] }
     ensures table { lane.new.table ≡ lane.old.table }
     ensures claimed { let l = lane.old.known in
         MatchOption result
         (Keeps arena.old.map l lane.new.known
-        × IsShort table.now.about l arena.old.map lane.new.known)
+        × SearchesInVain table.now.about l arena.old.map lane.new.known)
         (λ e. Keeps arena.old.map (holding l arena.old.map e.number) lane.new.known
         × (e.map ≡ arena.old.map)
         × (e.number < elements_of (shape_at table.now.about arena.old.map))) }
     ensures arena { Searches table.now.about arena.old.map arena.new }
-    ensures batches { Follows table.now.about lane.new.known arena.old.map batches.new }
+    ensures batches { AreBatchesOf table.now.about lane.new.known arena.old.map batches.new }
 {
     match claim_near(table, lane, arena, batches) {
         Some(element) => Some(element),
@@ -155,7 +156,7 @@ fn fill_and_put<R: Wait>(
 ) -> (Lane, MapAnswer)
     requires table { lane.table ≡ table.now.id }
     requires arena { Searches table.now.about map arena.old }
-    requires batches { Follows table.now.about lane.known map batches.old }
+    requires batches { AreBatchesOf table.now.about lane.known map batches.old }
     requires map { element.map ≡ map }
     requires inside { element.number < elements_of (shape_at table.now.about map) }
     requires new { HoldsNew lane.known map element.number }
@@ -171,7 +172,7 @@ fn fill_and_put<R: Wait>(
         2 ^ 56 - 1 ≤ table.now.about.version + done_in map result.0.known.seen }
     ensures served { result.1 ≢ NoMemory }
     ensures arena { Searches table.now.about map arena.new }
-    ensures batches { Follows table.now.about result.0.known map batches.new }
+    ensures batches { AreBatchesOf table.now.about result.0.known map batches.new }
 {
     let mut lane = lane;
     let _sizes = shape_of(table, map);
@@ -214,7 +215,7 @@ pub fn update<R: Wait>(
     requires table { lane.table ≡ table.now.id }
     requires even { table.now.about.count % 2 ≡ 0 }
     requires arena { Searches table.now.about map arena.old }
-    requires batches { Follows table.now.about lane.known map batches.old }
+    requires batches { AreBatchesOf table.now.about lane.known map batches.old }
     requires rests { Rests lane.known map }
     requires runs { in_run (events_of lane.known.cpu lane.known.seen) ≡ true }
     requires pair { IsPairOf table.now.about.shape.maps map key.now value.now }
@@ -223,7 +224,7 @@ pub fn update<R: Wait>(
         (Update map key.now value.now flags result.1) result.0.known }
     ensures lacks { Lacks table.now.about lane.known map result.1 result.0.known }
     ensures arena { Searches table.now.about map arena.new }
-    ensures batches { Follows table.now.about result.0.known map batches.new }
+    ensures batches { AreBatchesOf table.now.about result.0.known map batches.new }
 {
     let mut lane = lane;
     if flags > 2 {

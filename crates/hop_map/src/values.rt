@@ -5,7 +5,7 @@ ghost use Rattle.bpf_shared.specs.Access.{bytes_in};
 ghost use Rattle.bpf_shared.specs.Passage.{IsHeldPlace};
 ghost use Rattle.bpf_shared.specs.declared.events.Event.TheVariants.{Load, Store, Atomic};
 ghost use Rattle.bpf_shared.specs.declared.events.Size.TheVariants.{Double};
-ghost use Rattle.hop_map.specs.Port.{IsPortOf, Does, runs, holds};
+ghost use Rattle.hop_map.specs.Port.{IsPortOf, PortDoes, runs, port_holds};
 
 use crate::accessing::{change_part_at, change_word_at, load_at, store_part_at, store_word_at};
 use crate::port::HopPort;
@@ -18,9 +18,9 @@ impl HopPort {
     pub fn value_load(&mut self, table: &HopTable, at: ValuePlace, size: Size) -> u64
         requires fits { IsPortOf table.now self.old }
         requires in_run { runs self.old ≡ true }
-        requires place { IsHeldPlace (holds self.old) at.at (bytes_in size) }
+        requires place { IsHeldPlace (port_holds self.old) at.at (bytes_in size) }
         ensures in_run { runs self.new ≡ true }
-        ensures loaded { Does table.now.about self.old (Load at.at size result) self.new }
+        ensures loaded { PortDoes table.now.about self.old (Load at.at size result) self.new }
         ensures small { result < modulus (bytes_in size) }
         ensures fits { IsPortOf table.now self.new }
     {
@@ -36,9 +36,9 @@ impl HopPort {
     pub fn store_word(&mut self, table: &HopTable, at: ValuePlace, word: u64)
         requires fits { IsPortOf table.now self.old }
         requires in_run { runs self.old ≡ true }
-        requires place { IsHeldPlace (holds self.old) at.at 8 }
+        requires place { IsHeldPlace (port_holds self.old) at.at 8 }
         ensures in_run { runs self.new ≡ true }
-        ensures stored { Does table.now.about self.old (Store at.at Double word) self.new }
+        ensures stored { PortDoes table.now.about self.old (Store at.at Double word) self.new }
         ensures fits { IsPortOf table.now self.new }
     {
         let Some(mut lane) = self.lane.take() else {
@@ -60,9 +60,9 @@ impl HopPort {
     )
         requires fits { IsPortOf table.now self.old }
         requires in_run { runs self.old ≡ true }
-        requires place { IsHeldPlace (holds self.old) at.at (bytes_in size) }
+        requires place { IsHeldPlace (port_holds self.old) at.at (bytes_in size) }
         ensures in_run { runs self.new ≡ true }
-        ensures stored { Does table.now.about self.old (Store at.at size word) self.new }
+        ensures stored { PortDoes table.now.about self.old (Store at.at size word) self.new }
         ensures fits { IsPortOf table.now self.new }
     {
         let Some(mut lane) = self.lane.take() else {
@@ -84,9 +84,9 @@ impl HopPort {
     ) -> u64
         requires fits { IsPortOf table.now self.old }
         requires in_run { runs self.old ≡ true }
-        requires place { IsHeldPlace (holds self.old) at.at 8 }
+        requires place { IsHeldPlace (port_holds self.old) at.at 8 }
         ensures in_run { runs self.new ≡ true }
-        ensures changed { Does table.now.about self.old
+        ensures changed { PortDoes table.now.about self.old
             (Atomic at.at Double op operand expected result) self.new }
         ensures fits { IsPortOf table.now self.new }
     {
@@ -112,10 +112,10 @@ impl HopPort {
     ) -> u64
         requires fits { IsPortOf table.now self.old }
         requires in_run { runs self.old ≡ true }
-        requires place { IsHeldPlace (holds self.old) at.at (bytes_in size) }
+        requires place { IsHeldPlace (port_holds self.old) at.at (bytes_in size) }
         requires wide { 4 ≤ bytes_in size }
         ensures in_run { runs self.new ≡ true }
-        ensures changed { Does table.now.about self.old
+        ensures changed { PortDoes table.now.about self.old
             (Atomic at.at size op operand expected result) self.new }
         ensures small { result < modulus (bytes_in size) }
         ensures fits { IsPortOf table.now self.new }

@@ -1,7 +1,7 @@
 //! Waiting for a lock.
 ghost use Rattle.std.specs.Prelude.{◌≡◌, ◌%◌, []};
 ghost use Rattle.hop_words.specs.Ghost.{IsSegment};
-ghost use Rattle.hop_words.specs.Kinds.{Locked};
+ghost use Rattle.hop_words.specs.Kinds.{LocksSegment};
 
 use crossbeam_utils::Backoff;
 use hop_words::{HopTable, Lane};
@@ -20,7 +20,7 @@ pub(crate) fn lock_when_free<R: Wait>(
     requires unlocked { lane.old.known.locks ≡ [] }
     ensures table { lane.new.table ≡ lane.old.table }
     ensures even { result % 2 ≡ 0 }
-    ensures locked { Locked table.now.about lane.old.known map segment result lane.new.known }
+    ensures locked { LocksSegment table.now.about lane.old.known map segment result lane.new.known }
 {
     let backoff = Backoff::new();
     'tries: for _ in rt.forever() {

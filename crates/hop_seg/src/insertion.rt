@@ -5,8 +5,8 @@ ghost use Rattle.std.specs.Prelude.{◌≡◌, ◌<◌, ◌≤◌, IfSome, Some,
 ghost use Rattle.std.specs.Int.{bit_at};
 ghost use Rattle.hop_seg.specs.Places.{place_at as place_of};
 ghost use Rattle.hop_seg.specs.Words.{Words, IsKnown};
-ghost use Rattle.hop_seg.specs.Segment.{Sound, IsOwn, key_at};
-ghost use Rattle.hop_seg.specs.Content.{IsAbsent, Keeps, Gains};
+ghost use Rattle.hop_seg.specs.Segment.{Sound, IsOwn, element_key};
+ghost use Rattle.hop_seg.specs.Content.{IsAbsent, KeepsPairs, Gains};
 ghost use Rattle.hop_seg.specs.Edits.{listed_first};
 ghost use Rattle.hop_seg.specs.Moves.{IsMovable, IsFreeAt, Landed};
 
@@ -35,10 +35,11 @@ pub(crate) struct Move {
 pub fn insert<S: SegWords>(words: &mut S, element: u32, home: u32) -> Landing
     requires sound { Sound (S.words words.old) }
     requires own { IsOwn (S.words words.old).fixed element }
-    requires home { home ≡ (S.words words.old).fixed.home (key_at (S.words words.old) element) }
-    requires absent { IsAbsent (S.words words.old) (key_at (S.words words.old) element) }
+    requires home { home
+        ≡ (S.words words.old).fixed.home (element_key (S.words words.old) element) }
+    requires absent { IsAbsent (S.words words.old) (element_key (S.words words.old) element) }
     ensures gains { Gains (S.words words.old) (S.words words.new)
-        (key_at (S.words words.old) element) element }
+        (element_key (S.words words.old) element) element }
     ensures landed { Landed (S.words words.new) element result }
     ensures stays { S.stays words.old words.new }
 {
@@ -70,7 +71,7 @@ fn list_item<S: SegWords>(words: &mut S, element: u32)
 fn free_near<S: SegWords>(words: &mut S, bucket: usize) -> Option<usize>
     requires sound { Sound (S.words words.old) }
     requires bucket { bucket < 64 }
-    ensures keeps { Keeps (S.words words.old) (S.words words.new) }
+    ensures keeps { KeepsPairs (S.words words.old) (S.words words.new) }
     ensures near { IfSome result (λ d. d < 32) }
     ensures free { IfSome result (IsFreeAt (S.words words.new) bucket) }
     ensures stays { S.stays words.old words.new }
@@ -122,7 +123,7 @@ fn bring_near<S: SegWords>(words: &mut S, bucket: usize, mut distance: usize) ->
     requires bucket { bucket < 64 }
     requires in_range { distance < 64 }
     requires free { IsFreeAt (S.words words.old) bucket distance }
-    ensures keeps { Keeps (S.words words.old) (S.words words.new) }
+    ensures keeps { KeepsPairs (S.words words.old) (S.words words.new) }
     ensures near { IfSome result (λ d. d < 32) }
     ensures free { IfSome result (IsFreeAt (S.words words.new) bucket) }
     ensures stays { S.stays words.old words.new }
@@ -163,7 +164,7 @@ fn displace<S: SegWords>(words: &mut S, item: Move)
     requires sound { Sound (S.words words.old) }
     requires movable { IsMovable (S.words words.old) (place_of item.bucket item.to) item }
     requires free { IsFreeAt (S.words words.old) item.bucket item.to }
-    ensures keeps { Keeps (S.words words.old) (S.words words.new) }
+    ensures keeps { KeepsPairs (S.words words.old) (S.words words.new) }
     ensures free { IsFreeAt (S.words words.new) item.bucket item.from }
     ensures stays { S.stays words.old words.new }
 {

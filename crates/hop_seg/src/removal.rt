@@ -2,8 +2,8 @@
 
 ghost use Rattle.std.specs.Prelude.{◌≡◌, ◌<◌, ℕ};
 ghost use Rattle.hop_seg.specs.Words.{Words, IsKnown};
-ghost use Rattle.hop_seg.specs.Segment.{Sound, IsOwn, key_at};
-ghost use Rattle.hop_seg.specs.Content.{HasPair, IsLinked, Loses, Changes};
+ghost use Rattle.hop_seg.specs.Segment.{Sound, IsOwn, element_key};
+ghost use Rattle.hop_seg.specs.Content.{HasPair, IsInSegment, Loses, Changes};
 ghost use Rattle.hop_seg.specs.Edits.{with_link, unlinked, relinked, IsLinkKnown};
 ghost use Rattle.hop_seg.specs.Spots.{IsLink};
 
@@ -43,8 +43,8 @@ pub fn replace<S: SegWords>(words: &mut S, key: &[u8], home: u32, new: u32) -> u
     requires home { home ≡ (S.words words.old).fixed.home key.now }
     requires there { (e : ℕ) × HasPair (S.words words.old) key.now e }
     requires own { IsOwn (S.words words.old).fixed new }
-    requires keyed { key_at (S.words words.old) new ≡ key.now }
-    requires fresh { IsLinked (S.words words.old) new → ⊥ }
+    requires keyed { element_key (S.words words.old) new ≡ key.now }
+    requires fresh { IsInSegment (S.words words.old) new → ⊥ }
     ensures changes { Changes (S.words words.old) (S.words words.new) key.now result new }
     ensures stays { S.stays words.old words.new }
 {

@@ -2,12 +2,12 @@
 //! at the places that they had, or to its overflow list.
 
 ghost use Rattle.std.specs.Prelude.{◌≡◌, ◌<◌, ◌/◌, ◌%◌, ◌^◌, ℕ, IsTrue, false, Some};
-ghost use Rattle.hop_seg.specs.Words.{Words, Fixed, put, IsKnown};
-ghost use Rattle.hop_seg.specs.Segment.{Sound, key_at};
+ghost use Rattle.hop_seg.specs.Words.{Words, Fixed, replace_at, IsKnown};
+ghost use Rattle.hop_seg.specs.Segment.{Sound, element_key};
 ghost use Rattle.hop_seg.specs.Content.{IsListed};
 ghost use Rattle.hop_seg.specs.Spots.{IsLink};
 ghost use Rattle.hop_seg.specs.Edits.{item_taken};
-ghost use Rattle.hop_seg.specs.Split.{Front, IsEmpty, Leaves, Remains, Splits, Parted, Hands, front_put, handed};
+ghost use Rattle.hop_seg.specs.Split.{Front, IsEmpty, BelongsToChild, Remains, Splits, Parted, Hands, front_put, handed};
 
 use crate::held::{head, next, slot};
 use crate::hop_bits::with_bit;
@@ -28,7 +28,7 @@ pub trait ChildWords: SegWords {
     fn home(&mut self, element: u32) -> u32
         requires { IsKnown (Self.words self.old).fixed element }
         ensures value { result ≡ (Self.words self.old).fixed.home
-            (key_at (Self.words self.old) element) }
+            (element_key (Self.words self.old) element) }
         ensures same { Self.words self.new ≡ Self.words self.old }
         ensures stays { Self.stays self.old self.new };
 
@@ -43,7 +43,7 @@ pub trait ChildWords: SegWords {
         requires { bucket < 64 }
         ensures words { Self.words self.new ≡ Self.words self.old }
         ensures child { child self.new ≡ record (child self.old) {
-          hop = put (child self.old).hop
+          hop = replace_at (child self.old).hop
               bucket bits;
         } }
         ensures stays { stays_beside self.old self.new };
@@ -52,7 +52,7 @@ pub trait ChildWords: SegWords {
         requires { place < 64 }
         ensures words { Self.words self.new ≡ Self.words self.old }
         ensures child { child self.new ≡ record (child self.old) {
-          slot = put
+          slot = replace_at
               (child self.old).slot place item;
         } }
         ensures stays { stays_beside self.old self.new };

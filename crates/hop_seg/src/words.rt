@@ -2,7 +2,7 @@
 
 ghost use Rattle.std.specs.Prelude.{◌≡◌, ◌<◌, ◌≤◌, ℕ, ◌↔◌, IsTrue};
 ghost use Rattle.hop_seg.specs.Words.{Words, with_hop, with_slot, with_head, with_next, IsKnown};
-ghost use Rattle.hop_seg.specs.Segment.{key_at};
+ghost use Rattle.hop_seg.specs.Segment.{element_key};
 
 /// Reads the words of one segment, the links of its elements and their keys.
 ///
@@ -47,7 +47,7 @@ pub trait SegReads {
     /// Whether this is the element's key.
     fn has_key(&mut self, element: u32, key: &[u8]) -> bool
         ensures value { (w : Words) → agrees self.new w → IsKnown w.fixed element →
-            IsTrue result ↔ (key_at w element ≡ key.now) }
+            IsTrue result ↔ (element_key w element ≡ key.now) }
         ensures rests { rests self.old self.new };
 
     ghost rests_itself: { (x : Self) → rests x x };

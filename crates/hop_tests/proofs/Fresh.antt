@@ -7,7 +7,8 @@ use Rattle.bpf_shared.specs.History.{events_of}
 use Rattle.hop_words.specs.declared.known.About.{About}
 use Rattle.hop_words.specs.declared.known.Known.{Known}
 use Rattle.hop_words.specs.Ghost.{IsSegment, shape_at}
-use Rattle.hop_words.specs.Kinds.{in_run, Told}
+use Rattle.hop_words.specs.Kinds.{Told}
+use Rattle.bpf_shared.specs.Own.{in_run}
 use Rattle.hop_words.specs.Layout.{depth}
 use Rattle.hop_words.specs.Opens.{lanes_from}
 use Rattle.hop_map.specs.Stores.{IsNewLane}

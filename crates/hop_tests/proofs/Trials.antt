@@ -4,8 +4,8 @@ use Rattle.std.proofs.lemmas.List.Elements.{All-nil, All-cons, All-head, All-tai
 use Rattle.bpf_shared.specs.History.{events_of}
 use Rattle.hop_words.specs.declared.known.Known.{Known}
 use Rattle.hop_words.specs.Inside.{Shown, nobody}
-use Rattle.hop_words.specs.Owning.{behind}
-use Rattle.hop_words.specs.Kinds.{in_run}
+use Rattle.hop_words.specs.Owning.{tail_of}
+use Rattle.bpf_shared.specs.Own.{in_run}
 use Rattle.hop_words.specs.Opens.{new_lane, lanes_from}
 use Rattle.hop_map.specs.Port.{Port, IsPortOf, known_of}
 use Rattle.hop_map.specs.Stores.{ArePorts}
@@ -23,7 +23,7 @@ idle_ports t (p ∷ ps) c (suc n) fit is =
     let here : p.known ≡ new_lane t.about c = ap (λ (ls : List Known). first ls) is in
     All-cons (IsIdlePort t) p ps
     (All-head (IsPortOf t) p ps fit, ap (λ (l : Known). in_run (events_of l.cpu l.seen)) here)
-    (idle_ports t ps (c + 1) n (All-tail (IsPortOf t) p ps fit) (ap (λ (ls : List Known). behind ls) is))
+    (idle_ports t ps (c + 1) n (All-tail (IsPortOf t) p ps fit) (ap (λ (ls : List Known). tail_of ls) is))
 
 pub new_ports_idle : (t : Shown) (ps : List Port) → ArePorts t ps → All (IsIdlePort t) ps
 new_ports_idle t ps p = idle_ports t ps 0 t.about.shape.cpus p.each p.new

@@ -1,11 +1,11 @@
 -- The steps on value words as code makes them.
-use Rattle.std.proofs.Common.{◌≡◌, ◌≢◌, ℕ, ◌+◌, ◌*◌, ◌%◌, ◌^◌, ◌<◌, ◌≤◌, true, false, Bool, ◌==◌, List, length, refl, ap, sym, subst, ◌∙◌, arith, bit_and, bit_or, bit_xor, if◌then◌else◌, nat_lt}
+use Rattle.std.proofs.Common.{◌≡◌, ℕ, ◌+◌, ◌%◌, ◌<◌, true, false, Bool, ◌==◌, length, refl, ap, sym, subst, ◌∙◌, arith, bit_and, bit_or, bit_xor, if◌then◌else◌}
 use prog.Atomic.{either}
-use Rattle.bpf_base.specs.Bytes.{little_endian, low_bytes, part, with_part}
+use Rattle.bpf_base.specs.Bytes.{low_bytes, with_part}
 use Rattle.bpf_base.specs.Atomic.{number_after}
 use Rattle.bpf_base.proofs.Numbers.{little_endian-low_bytes}
 use Rattle.bpf_shared.specs.Shape.{elements}
-use Rattle.bpf_shared.specs.Access.{bytes_in, change_of}
+use Rattle.bpf_shared.specs.Access.{change_of}
 use Rattle.bpf_shared.specs.declared.events.AtomicOp.{AtomicOp}
 use Rattle.bpf_shared.specs.declared.events.AtomicOp.TheVariants.{Add, Or, And, Xor, Exchange, CompareExchange}
 use Rattle.bpf_shared.specs.declared.events.Event.TheVariants.{Store, Atomic}
@@ -17,8 +17,8 @@ use Rattle.hop_words.specs.declared.touching.ValuePart.{ValuePart}
 use Rattle.hop_words.specs.Layout.{is_place, mem, words_for}
 use Rattle.hop_words.specs.Ghost.{shape_at, lane}
 use Rattle.hop_words.specs.Step.{Steps}
-use Rattle.hop_words.specs.Kinds.{Touches, value_at, found_in, Told}
-use Rattle.hop_words.specs.Touching.{TouchesWord, address_of}
+use Rattle.hop_words.specs.Kinds.{Touches, found_in, Told}
+use Rattle.hop_words.specs.Touching.{TouchesWord, part_address}
 use Rattle.hop_words.proofs.Locked.{lt}
 use Rattle.hop_words.proofs.WordBytes.{whole_word}
 use Rattle.hop_words.proofs.Values.{value_store, value_fetch}
@@ -34,11 +34,11 @@ module _ (a : About) (l : Known) (p : ValuePart) (t : TouchesWord a l p) where
   first : p.offset ≡ 0
   first = let z = t.fits in omega arith
 
-  pub stores : (x : ℕ) → Steps a l (ValueWord p.map p.element p.word) (λ _. x) (λ ws n l'. Told a l (Store (address_of a p) Double x) l')
+  pub stores : (x : ℕ) → Steps a l (ValueWord p.map p.element p.word) (λ _. x) (λ ws n l'. Told a l (Store (part_address a p) Double x) l')
   stores x = value_store a l p.map p.element p.word p.offset Double x x t (λ n. subst (λ (i : ℕ). low_bytes 8 x ≡ with_part (low_bytes 8 n) i (low_bytes 8 x)) (sym first) (whole_word n x))
 
   changes : (op : AtomicOp) (operand expected : ℕ) (f : ℕ → ℕ) → ((n : ℕ) → n < 18446744073709551616 → f n ≡ number_after (change_of op) 8 n operand expected)
-      → Steps a l (ValueWord p.map p.element p.word) f (λ ws n l'. Told a l (Atomic (address_of a p) Double op operand expected n) l')
+      → Steps a l (ValueWord p.map p.element p.word) f (λ ws n l'. Told a l (Atomic (part_address a p) Double op operand expected n) l')
   changes op operand expected f same ws g sized r is inside fits =
       let n = mem a.shape ws (ValueWord p.map p.element p.word) in
       let next = value_fetch a l p.map p.element p.word p.offset Double op operand expected f t splices ws g sized r is inside fits in
@@ -47,7 +47,7 @@ module _ (a : About) (l : Known) (p : ValuePart) (t : TouchesWord a l p) where
         rule = next.rule;
         others = next.others;
         longer = next.longer;
-        says = subst (λ (i : ℕ). Told a l (Atomic (address_of a p) Double op operand expected i) (lane next.ghost.lanes l.cpu)) (found n fits) next.says;
+        says = subst (λ (i : ℕ). Told a l (Atomic (part_address a p) Double op operand expected i) (lane next.ghost.lanes l.cpu)) (found n fits) next.says;
       }
     where
       found : (i : ℕ) → i < 18446744073709551616 → found_in i p.offset 8 ≡ i
@@ -63,22 +63,22 @@ module _ (a : About) (l : Known) (p : ValuePart) (t : TouchesWord a l p) where
     whole : operand % 18446744073709551616 ≡ operand
     whole = omega arith
 
-    pub adds : Steps a l (ValueWord p.map p.element p.word) (λ n. (n + operand) % 18446744073709551616) (λ ws n l'. Told a l (Atomic (address_of a p) Double Add operand expected n) l')
+    pub adds : Steps a l (ValueWord p.map p.element p.word) (λ n. (n + operand) % 18446744073709551616) (λ ws n l'. Told a l (Atomic (part_address a p) Double Add operand expected n) l')
     adds = changes Add operand expected (λ n. (n + operand) % 18446744073709551616) (λ n lt. refl)
 
-    pub ors : Steps a l (ValueWord p.map p.element p.word) (λ n. bit_or n operand) (λ ws n l'. Told a l (Atomic (address_of a p) Double Or operand expected n) l')
+    pub ors : Steps a l (ValueWord p.map p.element p.word) (λ n. bit_or n operand) (λ ws n l'. Told a l (Atomic (part_address a p) Double Or operand expected n) l')
     ors = changes Or operand expected (λ n. bit_or n operand) (λ n lt. ap (bit_or n) (sym whole))
 
-    pub ands : Steps a l (ValueWord p.map p.element p.word) (λ n. bit_and n operand) (λ ws n l'. Told a l (Atomic (address_of a p) Double And operand expected n) l')
+    pub ands : Steps a l (ValueWord p.map p.element p.word) (λ n. bit_and n operand) (λ ws n l'. Told a l (Atomic (part_address a p) Double And operand expected n) l')
     ands = changes And operand expected (λ n. bit_and n operand) (λ n lt. ap (bit_and n) (sym whole))
 
-    pub xors : Steps a l (ValueWord p.map p.element p.word) (λ n. bit_xor n operand) (λ ws n l'. Told a l (Atomic (address_of a p) Double Xor operand expected n) l')
+    pub xors : Steps a l (ValueWord p.map p.element p.word) (λ n. bit_xor n operand) (λ ws n l'. Told a l (Atomic (part_address a p) Double Xor operand expected n) l')
     xors = changes Xor operand expected (λ n. bit_xor n operand) (λ n lt. ap (bit_xor n) (sym whole))
 
-    pub swaps : Steps a l (ValueWord p.map p.element p.word) (λ n. operand) (λ ws n l'. Told a l (Atomic (address_of a p) Double Exchange operand expected n) l')
+    pub swaps : Steps a l (ValueWord p.map p.element p.word) (λ n. operand) (λ ws n l'. Told a l (Atomic (part_address a p) Double Exchange operand expected n) l')
     swaps = changes Exchange operand expected (λ n. operand) (λ n lt. sym whole)
 
-    pub exchanges : Steps a l (ValueWord p.map p.element p.word) (λ n. either (n == expected) operand n) (λ ws n l'. Told a l (Atomic (address_of a p) Double CompareExchange operand expected n) l')
+    pub exchanges : Steps a l (ValueWord p.map p.element p.word) (λ n. either (n == expected) operand n) (λ ws n l'. Told a l (Atomic (part_address a p) Double CompareExchange operand expected n) l')
     exchanges = changes CompareExchange operand expected (λ n. either (n == expected) operand n) (λ n lt. tests n)
       where
         expects : expected % 18446744073709551616 ≡ expected

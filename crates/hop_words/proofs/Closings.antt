@@ -10,7 +10,7 @@ use Rattle.hop_words.specs.declared.known.Known.{Known}
 use Rattle.hop_words.specs.declared.known.View.{View}
 use Rattle.hop_words.specs.Layout.{mem, at, is_place}
 use Rattle.hop_words.specs.Rule.{Kept}
-use Rattle.hop_words.specs.Seats.{view, IsWithin, IsWhole}
+use Rattle.hop_words.specs.Seats.{view, HasSeenBeginning, KeepsWholeHistory}
 use Rattle.hop_words.specs.Closing.{AreAllBack}
 use Rattle.hop_words.proofs.Gathers.{closes}
 
@@ -25,7 +25,7 @@ read_at h ws p i n here there e = got ws i n e ∙ (ap (slice_index ws) here ∙
 
 -- the end of a store, all of whose CPUs are back in the seat that has learned the history
 pub ends : (a : About) (id : ℕ) (v : View) (lanes : List Known) (ws : List ℕ) (xs : List (Unit {0})) → v.lanes ≡ lanes → Final (Seen (Kept a) id v) ws xs → AreAllBack a lanes
-    → ((k : ℕ) (l : Known) → get_elem? lanes k ≡ some l → IsWithin l v.kept) → IsWhole a (view [] v.kept) ws
+    → ((k : ℕ) (l : Known) → get_elem? lanes k ≡ some l → HasSeenBeginning l v.kept) → KeepsWholeHistory a (view [] v.kept) ws
 ends a id v lanes ws xs same final all within =
     let w = closes a id v ws xs final (subst (AreAllBack a) (sym same) all) (λ k l e. within k l (ap (λ (ls : List Known). get_elem? ls k) (sym same) ∙ e)) in
     record { ghost = w.ghost; whole = w.whole; rule = w.rule; shows = w.shows }

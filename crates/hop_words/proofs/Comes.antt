@@ -12,10 +12,10 @@ use Rattle.hop_words.specs.declared.known.About.{About}
 use Rattle.hop_words.specs.declared.known.Fresh.{Fresh}
 use Rattle.hop_words.specs.declared.known.Limbo.{Limbo}
 use Rattle.hop_words.specs.Layout.{words_for}
-use Rattle.hop_words.specs.Homes.{segment_of, spelled}
+use Rattle.hop_words.specs.Homes.{segment_of, bytes_of_words}
 use Rattle.hop_words.specs.Content.{one_if}
 use Rattle.hop_words.specs.Ghost.{segment_in, Holder, Free, Filling, Leaving, Within, is_free, is_filling, is_leaving, Carries, shape_at, IsElement, limbo_at, Each}
-use Rattle.hop_words.specs.Rule.{put_key, numbered, Keyed, Batched, Owned, times_fresh, times_limbo, Linked, Begins, Filled, Valued}
+use Rattle.hop_words.specs.Rule.{put_key, numbered, Keyed, Batched, Owned, times_fresh, times_limbo, Linked, StartsWith, Filled, Valued}
 use Rattle.hop_words.proofs.Small.{put_key-same, put_key-other, equal_keys, equal, here_or, put2-same, put2-other}
 
 pub leads_new : (k : Keys) (key : List ℕ) (n : ℕ) → get (insert k key n) key ≡ Some n
@@ -228,11 +228,11 @@ module _ (a : About) (c m e s : ℕ) (key : List ℕ) (holder : ℕ → ℕ → 
       (equal b c)
     where
       Has : Fresh → Type 0
-      Has g = Begins g.key (kw g.map g.element) × Begins g.value (vw g.map g.element)
+      Has g = StartsWith g.key (kw g.map g.element) × StartsWith g.value (vw g.map g.element)
 
   -- ---- values
   pub valued_comes : (words : ℕ → ℕ → ℕ → ℕ) (made : ℕ) (value : ℕ → Value) (held : ℕ → ℕ → Bool) (number : ℕ → ℕ → ℕ) (x : Value) → Valued a words made value held holder number
-      → x ≡ record { bytes = take (shape_at a m).value (spelled (words_for (shape_at a m).value) (words m e)); span = element_span m (shape_at a m) e }
+      → x ≡ record { bytes = take (shape_at a m).value (bytes_of_words (words_for (shape_at a m).value) (words m e)); span = element_span m (shape_at a m) e }
       → Valued a words (made + 1) (put value made x) held held' (put number m (put (number m) e made))
   valued_comes words made value held number x p is = record {
     lies = λ n d l has. ⊎_elim
@@ -251,4 +251,4 @@ module _ (a : About) (c m e s : ℕ) (key : List ℕ) (holder : ℕ → ℕ → 
   }
     where
       lying : ℕ → ℕ → Value
-      lying n d = record { bytes = take (shape_at a n).value (spelled (words_for (shape_at a n).value) (words n d)); span = element_span n (shape_at a n) d }
+      lying n d = record { bytes = take (shape_at a n).value (bytes_of_words (words_for (shape_at a n).value) (words n d)); span = element_span n (shape_at a n) d }

@@ -22,7 +22,7 @@ use Rattle.hop_words.specs.declared.known.Lock.{Lock}
 use Rattle.hop_words.specs.declared.known.Change.TheVariants.{Drops}
 use Rattle.hop_words.specs.Layout.{mem, put_at}
 use Rattle.hop_words.specs.Homes.{segment_of}
-use Rattle.hop_words.specs.Content.{words_of}
+use Rattle.hop_words.specs.Content.{place_words}
 use Rattle.hop_words.specs.Ghost.{segment_in, Holder, Leaving, Within, lane, Ghost, shape_at, IsElement, limbo_at}
 use Rattle.hop_words.specs.Rule.{Rule, Minded, put_key, changed, Holds, numbered}
 use Rattle.hop_words.specs.Step.{Next, Steps}
@@ -45,7 +45,7 @@ module _ (a : About) (l : Known) (k : Lock) (key : List ℕ) (e : ℕ) (i : Remo
   abbrev s : ℕ
   s = k.segment
 
-  h : Holds a (segment_in a) (words_of w) (λ n t. w (Stamp n t)) g.eras g.linked g.holder l.cpu k
+  h : Holds a (segment_in a) (place_words w) (λ n t. w (Stamp n t)) g.eras g.linked g.holder l.cpu k
   h = holds a l k i.lock w g r is
 
   there : g.linked m key ≡ Some e

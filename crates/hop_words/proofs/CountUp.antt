@@ -1,5 +1,5 @@
 -- Count up: the compare-exchange by which the insertion of a new key takes effect.
-use Rattle.std.proofs.Common.{◌≡◌, ◌≢◌, ℕ, ◌+◌, ◌%◌, ◌<◌, ◌≤◌, Bool, true, false, true≢false, not, ◌&&◌, List, [], ◌∷◌, ◌++◌, Option, Some, None, is_some, ◌==◌, take, slice_index, refl, ap, sym, subst, ◌∙◌, arith, eq-eqb, ne_eqb, ⊎_elim}
+use Rattle.std.proofs.Common.{◌≡◌, ◌≢◌, ℕ, ◌+◌, ◌%◌, ◌<◌, ◌≤◌, Bool, true, false, true≢false, not, ◌&&◌, List, [], ◌∷◌, ◌++◌, Option, Some, None, is_some, ◌==◌, take, refl, ap, sym, subst, ◌∙◌, arith, eq-eqb, ne_eqb, ⊎_elim}
 use Rattle.std.proofs.lemmas.Bool.Decides.{nat_tests}
 use Rattle.std.specs.FinMap.{get, len}
 use Rattle.atomic_table.proofs.Lists.{exchanged}
@@ -15,20 +15,21 @@ use Rattle.bpf_shared.specs.Events.{Allowed, after_update}
 use Rattle.bpf_shared.specs.History.{entry}
 use Rattle.bpf_shared.proofs.Puts.{put-same}
 use Rattle.hop_words.specs.declared.place.Place.{Place}
-use Rattle.hop_words.specs.declared.place.Place.TheVariants.{RunCount, KeyCount, Stamp, KeyWord, ValueWord}
+use Rattle.hop_words.specs.declared.place.Place.TheVariants.{RunCount, KeyCount, Stamp, ValueWord}
 use Rattle.hop_words.specs.declared.known.About.{About}
 use Rattle.hop_words.specs.declared.known.Known.{Known}
 use Rattle.hop_words.specs.declared.known.Fresh.{Fresh}
 use Rattle.hop_words.specs.declared.known.Lock.{Lock}
 use Rattle.hop_words.specs.declared.known.Change.TheVariants.{Puts}
 use Rattle.hop_words.specs.Layout.{mem, put_at, words_for}
-use Rattle.hop_words.specs.Homes.{segment_of, spelled, word_of}
-use Rattle.hop_words.specs.Content.{words_of, one_if}
+use Rattle.hop_words.specs.Homes.{segment_of, bytes_of_words}
+use Rattle.hop_words.specs.Content.{place_words, one_if}
 use Rattle.hop_words.specs.Ghost.{segment_in, Filling, Within, lane, Era, Ghost, shape_at, IsElement, Each}
-use Rattle.hop_words.specs.Rule.{Rule, Worn, Minded, put_key, changed, Holds, Segment, numbered, owed, Begins, Keyed, times_lock}
+use Rattle.hop_words.specs.Rule.{Rule, Worn, Minded, put_key, changed, Holds, Segment, numbered, owed, Keyed, times_lock}
 use Rattle.hop_words.specs.Step.{Next, Steps}
 use Rattle.hop_words.specs.Kinds.{Inserts, Inserted}
-use Rattle.hop_words.proofs.Small.{equal_keys, here_or, put2-same, put2-other, put_key-same, put_key-other, spelled_same, spelled_back}
+use Rattle.hop_words.proofs.Small.{equal_keys, here_or, put2-same, put2-other, put_key-same, put_key-other}
+use Rattle.hop_words.proofs.Spelling.{value_spelled}
 use Rattle.hop_words.proofs.Histories.{logged_event, done_in-append}
 use Rattle.hop_words.proofs.Comes.{in_hand, now_old, linked_comes, owned_comes, keyed_comes, batched_comes, filled_rest, valued_comes}
 use Rattle.hop_words.proofs.Segs.{Elsewhere, segments_step, locking_step, Upward, readings_step, held_step, lock_once}
@@ -58,8 +59,8 @@ module _ (a : About) (l : Known) (k : Lock) (f : Fresh) (rest : List Fresh) (key
   abbrev e : ℕ
   e = f.element
 
-  holds : Holds a (segment_in a) (words_of w) (λ n t. w (Stamp n t)) g.eras g.linked g.holder l.cpu k
-  holds = (subst (Each (Holds a (segment_in a) (words_of w) (λ n t. w (Stamp n t)) g.eras g.linked g.holder l.cpu)) (ap (λ (x : Known). x.locks) is ∙ i.lock) (r.locking l.cpu)).0
+  holds : Holds a (segment_in a) (place_words w) (λ n t. w (Stamp n t)) g.eras g.linked g.holder l.cpu k
+  holds = (subst (Each (Holds a (segment_in a) (place_words w) (λ n t. w (Stamp n t)) g.eras g.linked g.holder l.cpu)) (ap (λ (x : Known). x.locks) is ∙ i.lock) (r.locking l.cpu)).0
 
   at_e : IsElement a m e
   at_e = (holds.inside.0, i.element)
@@ -129,7 +130,7 @@ module _ (a : About) (l : Known) (k : Lock) (f : Fresh) (rest : List Fresh) (key
   low : (g.eras m s).era ≤ w (Stamp m s)
   low = go (g.eras m s).dirty refl
     where
-      seg : Segment a (segment_in a) (words_of w) (w (Stamp m s)) (g.eras m s) m s (g.linked m)
+      seg : Segment a (segment_in a) (place_words w) (w (Stamp m s)) (g.eras m s) m s (g.linked m)
       seg = r.segments m s holds.inside
 
       go : (b : Bool) → (g.eras m s).dirty ≡ b → (g.eras m s).era ≤ w (Stamp m s)
@@ -143,7 +144,7 @@ module _ (a : About) (l : Known) (k : Lock) (f : Fresh) (rest : List Fresh) (key
     stays = λ j even le eq. absurd (let o = is_segment_odd in let z = eq ∙ ap (λ (y : Era). y.era) (put2-same g.eras m s m s era' refl refl) in omega arith);
   }
 
-  elsewhere : Elsewhere a m s l.cpu (words_of w) (words_of w) (λ n t. w (Stamp n t)) (λ n t. w (Stamp n t)) g.eras g'.eras g.linked g'.linked g.holder g'.holder
+  elsewhere : Elsewhere a m s l.cpu (place_words w) (place_words w) (λ n t. w (Stamp n t)) (λ n t. w (Stamp n t)) g.eras g'.eras g.linked g'.linked g.holder g'.holder
   elsewhere = record {
     stamps = λ n t ne. refl;
     same_eras = λ n t ne. put2-other g.eras m s n t era' ne;
@@ -163,21 +164,21 @@ module _ (a : About) (l : Known) (k : Lock) (f : Fresh) (rest : List Fresh) (key
   }
 
   -- nobody else has this lock
-  alone : (d : ℕ) (k2 : Lock) → d ≢ l.cpu → Holds a (segment_in a) (words_of w) (λ n t. w (Stamp n t)) g.eras g.linked g.holder d k2 → k2.map ≡ m → k2.segment ≢ s
+  alone : (d : ℕ) (k2 : Lock) → d ≢ l.cpu → Holds a (segment_in a) (place_words w) (λ n t. w (Stamp n t)) g.eras g.linked g.holder d k2 → k2.map ≡ m → k2.segment ≢ s
   alone d k2 apart p h u = apart (sym p.writer ∙ (ap (λ (y : Era). y.writer) (λ j. g.eras (h j) (u j)) ∙ holds.writer))
 
   now_era : g'.eras m s ≡ era'
   now_era = put2-same g.eras m s m s era' refl refl
 
-  own_segment : Segment a (segment_in a) (words_of w) (w (Stamp m s)) (g'.eras m s) m s (g'.linked m)
-  own_segment = subst (λ (y : Era). Segment a (segment_in a) (words_of w) (w (Stamp m s)) y m s (g'.linked m)) (sym now_era) (record {
+  own_segment : Segment a (segment_in a) (place_words w) (w (Stamp m s)) (g'.eras m s) m s (g'.linked m)
+  own_segment = subst (λ (y : Era). Segment a (segment_in a) (place_words w) (w (Stamp m s)) y m s (g'.linked m)) (sym now_era) (record {
     at_rest = λ even. absurd (let o = is_segment_odd in omega arith);
     clean = λ d. absurd (true≢false d);
     written = λ d. refl;
     shows = λ d. absurd (true≢false d);
   })
 
-  own_lock : Holds a (segment_in a) (words_of w) (λ n t. w (Stamp n t)) g'.eras g'.linked g'.holder l.cpu k'
+  own_lock : Holds a (segment_in a) (place_words w) (λ n t. w (Stamp n t)) g'.eras g'.linked g'.holder l.cpu k'
   own_lock = record {
     inside = holds.inside;
     even = holds.even;
@@ -226,20 +227,9 @@ module _ (a : About) (l : Known) (k : Lock) (f : Fresh) (rest : List Fresh) (key
       omega arith)
       (here_or m n s t)
 
-  spelled_is : x ≡ record { bytes = take (shape_at a m).value (spelled (words_for (shape_at a m).value) (λ j. w (ValueWord m e j))); span = element_span m (shape_at a m) e }
-  spelled_is = ap (λ (b : List ℕ). record { bytes = b; span = element_span m (shape_at a m) e }) (sym (
-      ap (take (shape_at a m).value) (spelled_same (words_for (shape_at a m).value) (λ j. w (ValueWord m e j)) (word_of bytes) (λ j lt. words j lt ∙ i.value j lt))
-      ∙ (ap (λ (n : ℕ). take n (spelled (words_for (shape_at a m).value) (word_of bytes))) (sym i.size)
-      ∙ spelled_back (words_for (shape_at a m).value) bytes i.are_bytes (let z = i.size in omega arith))))
-    where
-      Has : Fresh → Type 0
-      Has y = Begins y.key (λ j. w (KeyWord y.map y.element j)) × Begins y.value (λ j. w (ValueWord y.map y.element j))
-
-      in_it : Has f
-      in_it = (subst (Each Has) hand (r.filled l.cpu inside)).0
-
-      words : (j : ℕ) → j < words_for (shape_at a m).value → w (ValueWord m e j) ≡ slice_index f.value j
-      words j lt = ap (λ (n : ℕ). w (ValueWord n e j)) (sym i.map) ∙ in_it.1 j (let z = i.filled in omega arith)
+  spelled_is : x ≡ record { bytes = take (shape_at a m).value (bytes_of_words (words_for (shape_at a m).value) (λ j. w (ValueWord m e j))); span = element_span m (shape_at a m) e }
+  spelled_is = ap (λ (b : List ℕ). record { bytes = b; span = element_span m (shape_at a m) e })
+      (sym (value_spelled a w f rest m bytes (g.lanes.fresh l.cpu) hand (r.filled l.cpu inside) i.map i.filled i.value i.size i.are_bytes))
 
   rule' : w (KeyCount m) ≡ old → Rule a (put_at w (KeyCount m) (old + 1)) g'
   rule' found = record {
@@ -253,8 +243,8 @@ module _ (a : About) (l : Known) (k : Lock) (f : Fresh) (rest : List Fresh) (key
     owned = owned_comes a l.cpu m e s key g.holder was _ g.lanes.fresh g.lanes.limbo f rest r.owned i.map refl hand inside;
     linked = linked_comes a l.cpu m e s key g.holder was g.linked r.linked none at_e i.home;
     filled = filled_rest a l.cpu m e s key g.holder was _ _ g.lanes.fresh f rest r.filled hand inside;
-    segments = segments_step a m s l.cpu (words_of w) (words_of w) _ _ g.eras g'.eras g.linked g'.linked g.holder g'.holder elsewhere r.segments r.linked (λ _. own_segment);
-    locking = locking_step a m s l.cpu (words_of w) (words_of w) _ _ g.eras g'.eras g.linked g'.linked g.holder g'.holder elsewhere g.lanes.locks (k' ∷ []) r.locking alone (own_lock, tt);
+    segments = segments_step a m s l.cpu (place_words w) (place_words w) _ _ g.eras g'.eras g.linked g'.linked g.holder g'.holder elsewhere r.segments r.linked (λ _. own_segment);
+    locking = locking_step a m s l.cpu (place_words w) (place_words w) _ _ g.eras g'.eras g.linked g'.linked g.holder g'.holder elsewhere g.lanes.locks (k' ∷ []) r.locking alone (own_lock, tt);
     reading = readings_step a m s g.eras g'.eras g.lanes.readings upward r.reading;
     held = held_step a m s l.cpu _ _ g.eras g'.eras g.lanes.locks (k' ∷ []) inside r.held (λ odd. (ap (λ (y : Era). y.writer) now_era, (let z = lock_once k' in omega arith)))
         (λ n t ne. (refl, put2-other g.eras m s n t era' ne, ap (times_lock n t) (sym (ap (λ (z : Known). z.locks) is ∙ i.lock))));

@@ -18,9 +18,10 @@ use Rattle.hop_words.specs.declared.known.About.{About}
 use Rattle.hop_words.specs.declared.known.Known.{Known}
 use Rattle.hop_words.specs.declared.known.Lock.{Lock}
 use Rattle.hop_words.specs.Layout.{mem, put_at}
-use Rattle.hop_words.specs.Content.{words_of, IsShare}
+use Rattle.hop_words.specs.Content.{place_words, IsShare}
 use Rattle.hop_words.specs.Ghost.{segment_in, lane, Ghost, shape_at}
-use Rattle.hop_words.specs.Rule.{Rule, Holds, changed, numbered, turns_of, image, Minded}
+use Rattle.hop_words.specs.Rule.{Rule, Holds, changed, numbered, image, Minded}
+use Rattle.bpf_shared.specs.Own.{turns_of}
 use Rattle.hop_words.specs.Step.{Next, Steps}
 use Rattle.hop_words.specs.Kinds.{Told, Counts, Misflagged}
 use Rattle.hop_words.proofs.CountUp.{four, and_false}
@@ -48,7 +49,7 @@ first_true : (b0 b1 b2 b3 : Bool) → b0 ≡ true → first_of ((Invalid, b0) �
 first_true b0 b1 b2 b3 e0 = rw e0 refl
 
 module _ (a : About) (l : Known) (k : Lock) (key bytes : List ℕ) (flags : ℕ) (i : Counts a l k key bytes flags) (w : Place → ℕ) (g : Ghost) (r : Rule a w g) (is : lane g.lanes l.cpu ≡ l) (inside : l.cpu < a.shape.cpus) where
-  h : Holds a (segment_in a) (words_of w) (λ n t. w (Stamp n t)) g.eras g.linked g.holder l.cpu k
+  h : Holds a (segment_in a) (place_words w) (λ n t. w (Stamp n t)) g.eras g.linked g.holder l.cpu k
   h = holds a l k i.lock w g r is
 
   get_none : get (g.last.maps k.map) key ≡ None

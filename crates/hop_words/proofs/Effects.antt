@@ -10,7 +10,7 @@ use Rattle.hop_words.specs.declared.known.Known.{Known}
 use Rattle.hop_words.specs.declared.known.Lock.{Lock}
 use Rattle.hop_words.specs.declared.known.Change.{Change}
 use Rattle.hop_words.specs.declared.known.Change.TheVariants.{Nothing}
-use Rattle.hop_words.specs.Content.{words_of, one_if}
+use Rattle.hop_words.specs.Content.{place_words, one_if}
 use Rattle.hop_words.specs.Ghost.{segment_in, Holder, lane, Era, Ghost}
 use Rattle.hop_words.specs.Rule.{Rule, Segment, Segments, Locking, Readings, Minded, Holds, changed, owed, Worn, is_done, Held, times_lock}
 use Rattle.hop_words.proofs.Small.{here_or, put2-same, put2-other}
@@ -38,10 +38,10 @@ module _ (a : About) (l : Known) (k : Lock) (held : l.locks ≡ k ∷ []) (w : P
   abbrev pub lock' : Lock
   lock' = record k { change = change; dirty = true }
 
-  h : Holds a (segment_in a) (words_of w) (λ n t. w (Stamp n t)) g.eras g.linked g.holder l.cpu k
+  h : Holds a (segment_in a) (place_words w) (λ n t. w (Stamp n t)) g.eras g.linked g.holder l.cpu k
   h = holds a l k held w g r is
 
-  elsewhere : Elsewhere a k.map k.segment l.cpu (words_of w) (words_of w) (λ n t. w (Stamp n t)) (λ n t. w (Stamp n t)) g.eras eras' g.linked linked' g.holder holder'
+  elsewhere : Elsewhere a k.map k.segment l.cpu (place_words w) (place_words w) (λ n t. w (Stamp n t)) (λ n t. w (Stamp n t)) g.eras eras' g.linked linked' g.holder holder'
   elsewhere = record {
     stamps = λ n t ne. refl;
     same_eras = λ n t ne. put2-other g.eras k.map k.segment n t owing ne;
@@ -56,7 +56,7 @@ module _ (a : About) (l : Known) (k : Lock) (held : l.locks ≡ k ∷ []) (w : P
   now_era : eras' k.map k.segment ≡ owing
   now_era = put2-same g.eras k.map k.segment k.map k.segment owing refl refl
 
-  own_lock : Holds a (segment_in a) (words_of w) (λ n t. w (Stamp n t)) eras' linked' holder' l.cpu lock'
+  own_lock : Holds a (segment_in a) (place_words w) (λ n t. w (Stamp n t)) eras' linked' holder' l.cpu lock'
   own_lock = record {
     inside = h.inside;
     even = h.even;
@@ -76,17 +76,17 @@ module _ (a : About) (l : Known) (k : Lock) (held : l.locks ≡ k ∷ []) (w : P
     due = (h.due.0, h.due.1, λ q home. ef.due h.due.0 (λ p there. h.due.2 p there ∙ ap (λ y. changed y h.due.0 p) none) q home);
   }
 
-  pub effect_segments : Segments a (segment_in a) (words_of w) (λ n t. w (Stamp n t)) eras' linked'
-  effect_segments = segments_step a k.map k.segment l.cpu (words_of w) (words_of w) _ _ g.eras eras' g.linked linked' g.holder holder' elsewhere r.segments r.linked
-      (λ _. subst (λ (y : Era). Segment a (segment_in a) (words_of w) (w (Stamp k.map k.segment)) y k.map k.segment (linked' k.map)) (sym now_era) (record {
+  pub effect_segments : Segments a (segment_in a) (place_words w) (λ n t. w (Stamp n t)) eras' linked'
+  effect_segments = segments_step a k.map k.segment l.cpu (place_words w) (place_words w) _ _ g.eras eras' g.linked linked' g.holder holder' elsewhere r.segments r.linked
+      (λ _. subst (λ (y : Era). Segment a (segment_in a) (place_words w) (w (Stamp k.map k.segment)) y k.map k.segment (linked' k.map)) (sym now_era) (record {
         at_rest = λ even. absurd (let o = is_odd a l k held w g r is in omega arith);
         clean = λ d. absurd (true≢false d);
         written = λ d. refl;
         shows = λ d. absurd (true≢false d);
       }))
 
-  pub effect_locking : Locking a (segment_in a) (words_of w) (λ n t. w (Stamp n t)) eras' linked' holder' (put g.lanes.locks l.cpu (lock' ∷ []))
-  effect_locking = locking_step a k.map k.segment l.cpu (words_of w) (words_of w) _ _ g.eras eras' g.linked linked' g.holder holder' elsewhere g.lanes.locks (lock' ∷ []) r.locking (alone a l k held w g r is) (own_lock, tt)
+  pub effect_locking : Locking a (segment_in a) (place_words w) (λ n t. w (Stamp n t)) eras' linked' holder' (put g.lanes.locks l.cpu (lock' ∷ []))
+  effect_locking = locking_step a k.map k.segment l.cpu (place_words w) (place_words w) _ _ g.eras eras' g.linked linked' g.holder holder' elsewhere g.lanes.locks (lock' ∷ []) r.locking (alone a l k held w g r is) (own_lock, tt)
 
   pub effect_reading : Readings a eras' g.lanes.readings
   effect_reading = readings_step a k.map k.segment g.eras eras' g.lanes.readings (record {

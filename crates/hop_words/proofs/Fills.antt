@@ -10,13 +10,14 @@ use Rattle.hop_words.specs.declared.known.About.{About}
 use Rattle.hop_words.specs.declared.known.Known.{Known}
 use Rattle.hop_words.specs.declared.known.Fresh.{Fresh}
 use Rattle.hop_words.specs.Layout.{mem, put_at, words_for}
-use Rattle.hop_words.specs.Homes.{spelled}
-use Rattle.hop_words.specs.Content.{words_of, one_if}
-use Rattle.hop_words.specs.Ghost.{Holder, Free, Filling, Within, is_filling, is_leaving, Carries, Ghost, shape_at, IsElement, Each}
-use Rattle.hop_words.specs.Rule.{Rule, times_fresh, Begins, Minded}
-use Rattle.hop_words.specs.Step.{Steps}
+use Rattle.hop_words.specs.Homes.{bytes_of_words}
+use Rattle.hop_words.specs.Content.{place_words, one_if}
+use Rattle.hop_words.specs.Ghost.{Holder, Free, Filling, Within, is_filling, is_leaving, Carries, lane, Ghost, shape_at, IsElement, Each}
+use Rattle.hop_words.specs.Rule.{Rule, times_fresh, StartsWith, Minded}
+use Rattle.hop_words.specs.Step.{Next, Steps}
 use Rattle.hop_words.specs.Kinds.{filling_key, filling_value}
 use Rattle.hop_words.proofs.Small.{equal, here_or, put2-same, put2-other}
+use Rattle.hop_words.proofs.Spelling.{IsFilled}
 use Rattle.hop_words.proofs.Histories.{prefix_refl}
 use Rattle.hop_words.proofs.Comes.{moved, in_hand, filling_most}
 use Rattle.hop_words.proofs.Locks.{put_here, put_else}
@@ -62,188 +63,172 @@ each_by P Q (f ∷ fs) all more on p = (
   each_by P Q fs all (λ d has. more d (omega arith)) on p.1,
 )
 
+module _ (a : About) (l : Known) (f : Fresh) (rest : List Fresh) (hand : l.fresh ≡ f ∷ rest) (at_e : IsElement a f.map f.element) (unlocked : l.locks ≡ []) (n : ℕ)
+    (ws : List ℕ) (g : Ghost) (r : Rule a (mem a.shape ws) g) (is : lane g.lanes l.cpu ≡ l) (inside : l.cpu < a.shape.cpus) where
+  abbrev w : Place → ℕ
+  w = mem a.shape ws
+
+  mine : g.lanes.fresh l.cpu ≡ f ∷ rest
+  mine = ap (λ (z : Known). z.fresh) is ∙ hand
+
+  filling : g.holder f.map f.element ≡ Filling l.cpu
+  filling = was a w g r l.cpu inside f rest mine at_e
+
+  own_list : Each (IsFilled w) (f ∷ rest)
+  own_list = subst (Each (IsFilled w)) mine (r.filled l.cpu inside)
+
+  key_step : Next a (put_at w (KeyWord f.map f.element (length f.key)) n) g l.cpu (λ l'. l' ≡ filling_key l f rest n)
+  key_step = record {
+    ghost = g2;
+    rule = record {
+      shaped = r.shaped;
+      logged = r.logged;
+      keyed = r.keyed;
+      worn = r.worn;
+      runs = r.runs;
+      batched = r.batched;
+      owned = record {
+        bits = r.owned.bits;
+        fresh_is = λ b m e inb l2. ⊎_elim
+            (λ (t : b ≡ l.cpu). ap (times_fresh m e) (put-same g.lanes.fresh l.cpu b (f2 ∷ rest) t) ∙ (ap (times_fresh m e) (sym (ap g.lanes.fresh t ∙ mine)) ∙ r.owned.fresh_is b m e inb l2))
+            (λ (ne : b ≢ l.cpu). ap (times_fresh m e) (put-other g.lanes.fresh l.cpu b (f2 ∷ rest) ne) ∙ r.owned.fresh_is b m e inb l2)
+            (equal b l.cpu);
+        limbo_is = r.owned.limbo_is;
+      };
+      linked = r.linked;
+      filled = λ b inb. ⊎_elim
+          (λ (t : b ≡ l.cpu). subst (Each (IsFilled w2)) (sym (put-same g.lanes.fresh l.cpu b (f2 ∷ rest) t))
+          ((own_new, own_list.0.1), each_by (IsFilled w) (IsFilled w2) rest rest (λ d h. h) (λ d h p. keep d (rest_apart a w g r l.cpu inside f rest mine at_e d h) p) own_list.1))
+          (λ (ne : b ≢ l.cpu). subst (Each (IsFilled w2)) (sym (put-other g.lanes.fresh l.cpu b (f2 ∷ rest) ne))
+          (each_by (IsFilled w) (IsFilled w2) (g.lanes.fresh b) (g.lanes.fresh b) (λ d h. h) (λ d h p. keep d (other_apart a w g r l.cpu inside f rest mine at_e b d inb ne h) p) (r.filled b inb)))
+          (equal b l.cpu);
+      segments = segments_words a (place_words w) (place_words w2) (λ m t. w (Stamp m t)) g.eras g.linked g.holder r.linked (λ m t. refl) (λ m t b. refl) (λ m t b. refl)
+          (λ m t d h. (refl, λ k. elsewhere m d k (λ u v. let z : Within t ≡ Filling l.cpu = sym h ∙ ((λ j. g.holder (u j) (v j)) ∙ filling) in cc))) r.segments;
+      locking = locking_words a (place_words w) (place_words w2) (λ m t. w (Stamp m t)) g.eras g.linked g.holder g.lanes.locks l.cpu (ap (λ (z : Known). z.locks) is ∙ unlocked) (λ m t. refl) (λ m t b. refl) (λ m t b. refl)
+          (λ m t d b ne on. (refl, λ k. elsewhere m d k (λ u v. ne (sym (subst (Minded b t) ((λ j. g.holder (u j) (v j)) ∙ filling) on))))) r.locking;
+      reading = r.reading;
+      held = r.held;
+      valued = r.valued;
+    };
+    others = λ d ne. rw (ne_eqb d l.cpu ne) refl;
+    longer = prefix_refl g.log;
+    says = rw (eq-eqb l.cpu l.cpu refl) (ap (λ (z : Known). record z { fresh = f2 ∷ rest }) is);
+  }
+    where
+      f2 : Fresh
+      f2 = record f { key = f.key ++ n ∷ [] }
+
+      w2 : Place → ℕ
+      w2 = put_at w (KeyWord f.map f.element (length f.key)) n
+
+      g2 : Ghost
+      g2 = record g { lanes = record g.lanes { fresh = put g.lanes.fresh l.cpu (f2 ∷ rest) } }
+
+      map_of : Place → ℕ
+      map_of (KeyWord m e k) = m
+      map_of p = 0
+
+      element_of : Place → ℕ
+      element_of (KeyWord m e k) = e
+      element_of p = 0
+
+      word_of : Place → ℕ
+      word_of (KeyWord m e k) = k
+      word_of p = 0
+
+      elsewhere : (m e k : ℕ) → (m ≡ f.map → e ≢ f.element) → w2 (KeyWord m e k) ≡ w (KeyWord m e k)
+      elsewhere m e k ne = put_else w (KeyWord f.map f.element (length f.key)) (KeyWord m e k) n (λ q. ne (ap map_of q) (ap element_of q))
+
+      earlier : (k : ℕ) → k ≢ length f.key → w2 (KeyWord f.map f.element k) ≡ w (KeyWord f.map f.element k)
+      earlier k ne = put_else w (KeyWord f.map f.element (length f.key)) (KeyWord f.map f.element k) n (λ q. ne (ap word_of q))
+
+      keep : (d : Fresh) → (d.map ≡ f.map → d.element ≢ f.element) → IsFilled w d → IsFilled w2 d
+      keep d ne p = ((λ j lt. elsewhere d.map d.element j ne ∙ p.0 j lt), p.1)
+
+      own_new : StartsWith (f.key ++ n ∷ []) (λ j. w2 (KeyWord f.map f.element j))
+      own_new = snoc f.key n (λ j. w2 (KeyWord f.map f.element j)) (λ j lt. earlier j (λ e. omega arith) ∙ own_list.0.0 j lt) (put_here w (KeyWord f.map f.element (length f.key)) n)
+
+  value_step : Next a (put_at w (ValueWord f.map f.element (length f.value)) n) g l.cpu (λ l'. l' ≡ filling_value l f rest n)
+  value_step = record {
+    ghost = g2;
+    rule = record {
+      shaped = r.shaped;
+      logged = r.logged;
+      keyed = r.keyed;
+      worn = r.worn;
+      runs = r.runs;
+      batched = r.batched;
+      owned = record {
+        bits = r.owned.bits;
+        fresh_is = λ b m e inb l2. ⊎_elim
+            (λ (t : b ≡ l.cpu). ap (times_fresh m e) (put-same g.lanes.fresh l.cpu b (f2 ∷ rest) t) ∙ (ap (times_fresh m e) (sym (ap g.lanes.fresh t ∙ mine)) ∙ r.owned.fresh_is b m e inb l2))
+            (λ (ne : b ≢ l.cpu). ap (times_fresh m e) (put-other g.lanes.fresh l.cpu b (f2 ∷ rest) ne) ∙ r.owned.fresh_is b m e inb l2)
+            (equal b l.cpu);
+        limbo_is = r.owned.limbo_is;
+      };
+      linked = r.linked;
+      filled = λ b inb. ⊎_elim
+          (λ (t : b ≡ l.cpu). subst (Each (IsFilled w2)) (sym (put-same g.lanes.fresh l.cpu b (f2 ∷ rest) t))
+          ((own_list.0.0, own_new), each_by (IsFilled w) (IsFilled w2) rest rest (λ d h. h) (λ d h p. keep d (rest_apart a w g r l.cpu inside f rest mine at_e d h) p) own_list.1))
+          (λ (ne : b ≢ l.cpu). subst (Each (IsFilled w2)) (sym (put-other g.lanes.fresh l.cpu b (f2 ∷ rest) ne))
+          (each_by (IsFilled w) (IsFilled w2) (g.lanes.fresh b) (g.lanes.fresh b) (λ d h. h) (λ d h p. keep d (other_apart a w g r l.cpu inside f rest mine at_e b d inb ne h) p) (r.filled b inb)))
+          (equal b l.cpu);
+      segments = r.segments;
+      locking = r.locking;
+      reading = r.reading;
+      held = r.held;
+      valued = record {
+        lies = λ m e at has. r.valued.lies m e at has ∙ ap (λ (h : ℕ → ℕ). record { bytes = take (shape_at a m).value (bytes_of_words (words_for (shape_at a m).value) h); span = element_span m (shape_at a m) e })
+            (λ t k. sym (elsewhere m e k (λ u v. subst Carries ((λ j. g.holder (u j) (v j)) ∙ filling) has)) t);
+        older = r.valued.older;
+        held_in = r.valued.held_in;
+      };
+    };
+    others = λ d ne. rw (ne_eqb d l.cpu ne) refl;
+    longer = prefix_refl g.log;
+    says = rw (eq-eqb l.cpu l.cpu refl) (ap (λ (z : Known). record z { fresh = f2 ∷ rest }) is);
+  }
+    where
+      f2 : Fresh
+      f2 = record f { value = f.value ++ n ∷ [] }
+
+      w2 : Place → ℕ
+      w2 = put_at w (ValueWord f.map f.element (length f.value)) n
+
+      g2 : Ghost
+      g2 = record g { lanes = record g.lanes { fresh = put g.lanes.fresh l.cpu (f2 ∷ rest) } }
+
+      map_of : Place → ℕ
+      map_of (ValueWord m e k) = m
+      map_of p = 0
+
+      element_of : Place → ℕ
+      element_of (ValueWord m e k) = e
+      element_of p = 0
+
+      word_of : Place → ℕ
+      word_of (ValueWord m e k) = k
+      word_of p = 0
+
+      elsewhere : (m e k : ℕ) → (m ≡ f.map → e ≢ f.element) → w2 (ValueWord m e k) ≡ w (ValueWord m e k)
+      elsewhere m e k ne = put_else w (ValueWord f.map f.element (length f.value)) (ValueWord m e k) n (λ q. ne (ap map_of q) (ap element_of q))
+
+      earlier : (k : ℕ) → k ≢ length f.value → w2 (ValueWord f.map f.element k) ≡ w (ValueWord f.map f.element k)
+      earlier k ne = put_else w (ValueWord f.map f.element (length f.value)) (ValueWord f.map f.element k) n (λ q. ne (ap word_of q))
+
+      keep : (d : Fresh) → (d.map ≡ f.map → d.element ≢ f.element) → IsFilled w d → IsFilled w2 d
+      keep d ne p = (p.0, (λ j lt. elsewhere d.map d.element j ne ∙ p.1 j lt))
+
+      own_new : StartsWith (f.value ++ n ∷ []) (λ j. w2 (ValueWord f.map f.element j))
+      own_new = snoc f.value n (λ j. w2 (ValueWord f.map f.element j)) (λ j lt. earlier j (λ e. omega arith) ∙ own_list.0.1 j lt) (put_here w (ValueWord f.map f.element (length f.value)) n)
+
 pub fill_key : (a : About) (l : Known) (f : Fresh) (rest : List Fresh) (n : ℕ) → l.fresh ≡ f ∷ rest → IsElement a f.map f.element → l.locks ≡ []
     → Steps a l (KeyWord f.map f.element (length f.key)) (λ _. n) (λ ws found l'. l' ≡ filling_key l f rest n)
-fill_key a l f rest n hand at_e unlocked ws g sized r is inside fits = record {
-  ghost = g2;
-  rule = record {
-    shaped = r.shaped;
-    logged = r.logged;
-    keyed = r.keyed;
-    worn = r.worn;
-    runs = r.runs;
-    batched = r.batched;
-    owned = record {
-      bits = r.owned.bits;
-      fresh_is = λ b m e inb l2. ⊎_elim
-          (λ (t : b ≡ l.cpu). ap (times_fresh m e) (put-same g.lanes.fresh l.cpu b (f2 ∷ rest) t) ∙ (ap (times_fresh m e) (sym (ap g.lanes.fresh t ∙ mine)) ∙ r.owned.fresh_is b m e inb l2))
-          (λ (ne : b ≢ l.cpu). ap (times_fresh m e) (put-other g.lanes.fresh l.cpu b (f2 ∷ rest) ne) ∙ r.owned.fresh_is b m e inb l2)
-          (equal b l.cpu);
-      limbo_is = r.owned.limbo_is;
-    };
-    linked = r.linked;
-    filled = λ b inb. ⊎_elim
-        (λ (t : b ≡ l.cpu). subst (Each Has2) (sym (put-same g.lanes.fresh l.cpu b (f2 ∷ rest) t))
-        ((own_new, own_list.0.1), each_by Has Has2 rest rest (λ d h. h) (λ d h p. keep d (rest_apart a w g r l.cpu inside f rest mine at_e d h) p) own_list.1))
-        (λ (ne : b ≢ l.cpu). subst (Each Has2) (sym (put-other g.lanes.fresh l.cpu b (f2 ∷ rest) ne))
-        (each_by Has Has2 (g.lanes.fresh b) (g.lanes.fresh b) (λ d h. h) (λ d h p. keep d (other_apart a w g r l.cpu inside f rest mine at_e b d inb ne h) p) (r.filled b inb)))
-        (equal b l.cpu);
-    segments = segments_words a (words_of w) (words_of w2) (λ m t. w (Stamp m t)) g.eras g.linked g.holder r.linked (λ m t. refl) (λ m t b. refl) (λ m t b. refl)
-        (λ m t d h. (refl, λ k. elsewhere m d k (λ u v. let z : Within t ≡ Filling l.cpu = sym h ∙ ((λ j. g.holder (u j) (v j)) ∙ filling) in cc))) r.segments;
-    locking = locking_words a (words_of w) (words_of w2) (λ m t. w (Stamp m t)) g.eras g.linked g.holder g.lanes.locks l.cpu (ap (λ (z : Known). z.locks) is ∙ unlocked) (λ m t. refl) (λ m t b. refl) (λ m t b. refl)
-        (λ m t d b ne on. (refl, λ k. elsewhere m d k (λ u v. ne (sym (subst (Minded b t) ((λ j. g.holder (u j) (v j)) ∙ filling) on))))) r.locking;
-    reading = r.reading;
-    held = r.held;
-    valued = r.valued;
-  };
-  others = λ d ne. rw (ne_eqb d l.cpu ne) refl;
-  longer = prefix_refl g.log;
-  says = rw (eq-eqb l.cpu l.cpu refl) (ap (λ (z : Known). record z { fresh = f2 ∷ rest }) is);
-}
-  where
-    w : Place → ℕ
-    w = mem a.shape ws
-
-    f2 : Fresh
-    f2 = record f { key = f.key ++ n ∷ [] }
-
-    w2 : Place → ℕ
-    w2 = put_at w (KeyWord f.map f.element (length f.key)) n
-
-    g2 : Ghost
-    g2 = record g { lanes = record g.lanes { fresh = put g.lanes.fresh l.cpu (f2 ∷ rest) } }
-
-    mine : g.lanes.fresh l.cpu ≡ f ∷ rest
-    mine = ap (λ (z : Known). z.fresh) is ∙ hand
-
-    filling : g.holder f.map f.element ≡ Filling l.cpu
-    filling = was a w g r l.cpu inside f rest mine at_e
-
-    Has : Fresh → Type 0
-    Has y = Begins y.key (λ j. w (KeyWord y.map y.element j)) × Begins y.value (λ j. w (ValueWord y.map y.element j))
-
-    Has2 : Fresh → Type 0
-    Has2 y = Begins y.key (λ j. w2 (KeyWord y.map y.element j)) × Begins y.value (λ j. w2 (ValueWord y.map y.element j))
-
-    own_list : Each Has (f ∷ rest)
-    own_list = subst (Each Has) mine (r.filled l.cpu inside)
-
-    map_of : Place → ℕ
-    map_of (KeyWord m e k) = m
-    map_of p = 0
-
-    element_of : Place → ℕ
-    element_of (KeyWord m e k) = e
-    element_of p = 0
-
-    word_of : Place → ℕ
-    word_of (KeyWord m e k) = k
-    word_of p = 0
-
-    elsewhere : (m e k : ℕ) → (m ≡ f.map → e ≢ f.element) → w2 (KeyWord m e k) ≡ w (KeyWord m e k)
-    elsewhere m e k ne = put_else w (KeyWord f.map f.element (length f.key)) (KeyWord m e k) n (λ q. ne (ap map_of q) (ap element_of q))
-
-    earlier : (k : ℕ) → k ≢ length f.key → w2 (KeyWord f.map f.element k) ≡ w (KeyWord f.map f.element k)
-    earlier k ne = put_else w (KeyWord f.map f.element (length f.key)) (KeyWord f.map f.element k) n (λ q. ne (ap word_of q))
-
-    keep : (d : Fresh) → (d.map ≡ f.map → d.element ≢ f.element) → Has d → Has2 d
-    keep d ne p = ((λ j lt. elsewhere d.map d.element j ne ∙ p.0 j lt), p.1)
-
-    own_new : Begins (f.key ++ n ∷ []) (λ j. w2 (KeyWord f.map f.element j))
-    own_new = snoc f.key n (λ j. w2 (KeyWord f.map f.element j)) (λ j lt. earlier j (λ e. omega arith) ∙ own_list.0.0 j lt) (put_here w (KeyWord f.map f.element (length f.key)) n)
+fill_key a l f rest n hand at_e unlocked ws g sized r is inside fits = key_step a l f rest hand at_e unlocked n ws g r is inside
 
 pub fill_value : (a : About) (l : Known) (f : Fresh) (rest : List Fresh) (n : ℕ) → l.fresh ≡ f ∷ rest → IsElement a f.map f.element → l.locks ≡ []
     → Steps a l (ValueWord f.map f.element (length f.value)) (λ _. n) (λ ws found l'. l' ≡ filling_value l f rest n)
-fill_value a l f rest n hand at_e unlocked ws g sized r is inside fits = record {
-  ghost = g2;
-  rule = record {
-    shaped = r.shaped;
-    logged = r.logged;
-    keyed = r.keyed;
-    worn = r.worn;
-    runs = r.runs;
-    batched = r.batched;
-    owned = record {
-      bits = r.owned.bits;
-      fresh_is = λ b m e inb l2. ⊎_elim
-          (λ (t : b ≡ l.cpu). ap (times_fresh m e) (put-same g.lanes.fresh l.cpu b (f2 ∷ rest) t) ∙ (ap (times_fresh m e) (sym (ap g.lanes.fresh t ∙ mine)) ∙ r.owned.fresh_is b m e inb l2))
-          (λ (ne : b ≢ l.cpu). ap (times_fresh m e) (put-other g.lanes.fresh l.cpu b (f2 ∷ rest) ne) ∙ r.owned.fresh_is b m e inb l2)
-          (equal b l.cpu);
-      limbo_is = r.owned.limbo_is;
-    };
-    linked = r.linked;
-    filled = λ b inb. ⊎_elim
-        (λ (t : b ≡ l.cpu). subst (Each Has2) (sym (put-same g.lanes.fresh l.cpu b (f2 ∷ rest) t))
-        ((own_list.0.0, own_new), each_by Has Has2 rest rest (λ d h. h) (λ d h p. keep d (rest_apart a w g r l.cpu inside f rest mine at_e d h) p) own_list.1))
-        (λ (ne : b ≢ l.cpu). subst (Each Has2) (sym (put-other g.lanes.fresh l.cpu b (f2 ∷ rest) ne))
-        (each_by Has Has2 (g.lanes.fresh b) (g.lanes.fresh b) (λ d h. h) (λ d h p. keep d (other_apart a w g r l.cpu inside f rest mine at_e b d inb ne h) p) (r.filled b inb)))
-        (equal b l.cpu);
-    segments = r.segments;
-    locking = r.locking;
-    reading = r.reading;
-    held = r.held;
-    valued = record {
-      lies = λ m e at has. r.valued.lies m e at has ∙ ap (λ (h : ℕ → ℕ). record { bytes = take (shape_at a m).value (spelled (words_for (shape_at a m).value) h); span = element_span m (shape_at a m) e })
-          (λ t k. sym (elsewhere m e k (λ u v. subst Carries ((λ j. g.holder (u j) (v j)) ∙ filling) has)) t);
-      older = r.valued.older;
-      held_in = r.valued.held_in;
-    };
-  };
-  others = λ d ne. rw (ne_eqb d l.cpu ne) refl;
-  longer = prefix_refl g.log;
-  says = rw (eq-eqb l.cpu l.cpu refl) (ap (λ (z : Known). record z { fresh = f2 ∷ rest }) is);
-}
-  where
-    w : Place → ℕ
-    w = mem a.shape ws
-
-    f2 : Fresh
-    f2 = record f { value = f.value ++ n ∷ [] }
-
-    w2 : Place → ℕ
-    w2 = put_at w (ValueWord f.map f.element (length f.value)) n
-
-    g2 : Ghost
-    g2 = record g { lanes = record g.lanes { fresh = put g.lanes.fresh l.cpu (f2 ∷ rest) } }
-
-    mine : g.lanes.fresh l.cpu ≡ f ∷ rest
-    mine = ap (λ (z : Known). z.fresh) is ∙ hand
-
-    filling : g.holder f.map f.element ≡ Filling l.cpu
-    filling = was a w g r l.cpu inside f rest mine at_e
-
-    Has : Fresh → Type 0
-    Has y = Begins y.key (λ j. w (KeyWord y.map y.element j)) × Begins y.value (λ j. w (ValueWord y.map y.element j))
-
-    Has2 : Fresh → Type 0
-    Has2 y = Begins y.key (λ j. w2 (KeyWord y.map y.element j)) × Begins y.value (λ j. w2 (ValueWord y.map y.element j))
-
-    own_list : Each Has (f ∷ rest)
-    own_list = subst (Each Has) mine (r.filled l.cpu inside)
-
-    map_of : Place → ℕ
-    map_of (ValueWord m e k) = m
-    map_of p = 0
-
-    element_of : Place → ℕ
-    element_of (ValueWord m e k) = e
-    element_of p = 0
-
-    word_of : Place → ℕ
-    word_of (ValueWord m e k) = k
-    word_of p = 0
-
-    elsewhere : (m e k : ℕ) → (m ≡ f.map → e ≢ f.element) → w2 (ValueWord m e k) ≡ w (ValueWord m e k)
-    elsewhere m e k ne = put_else w (ValueWord f.map f.element (length f.value)) (ValueWord m e k) n (λ q. ne (ap map_of q) (ap element_of q))
-
-    earlier : (k : ℕ) → k ≢ length f.value → w2 (ValueWord f.map f.element k) ≡ w (ValueWord f.map f.element k)
-    earlier k ne = put_else w (ValueWord f.map f.element (length f.value)) (ValueWord f.map f.element k) n (λ q. ne (ap word_of q))
-
-    keep : (d : Fresh) → (d.map ≡ f.map → d.element ≢ f.element) → Has d → Has2 d
-    keep d ne p = (p.0, (λ j lt. elsewhere d.map d.element j ne ∙ p.1 j lt))
-
-    own_new : Begins (f.value ++ n ∷ []) (λ j. w2 (ValueWord f.map f.element j))
-    own_new = snoc f.value n (λ j. w2 (ValueWord f.map f.element j)) (λ j lt. earlier j (λ e. omega arith) ∙ own_list.0.1 j lt) (put_here w (ValueWord f.map f.element (length f.value)) n)
+fill_value a l f rest n hand at_e unlocked ws g sized r is inside fits = value_step a l f rest hand at_e unlocked n ws g r is inside
 
 -- ---- give bit of the element in hand
 pub give_fresh : (a : About) (l : Known) (f : Fresh) (rest : List Fresh) → l.fresh ≡ f ∷ rest → IsElement a f.map f.element
@@ -270,11 +255,11 @@ give_fresh a l f rest hand at_e ws g sized r is inside fits = record {
     };
     linked = linked_outside a g.holder f.map f.element (Filling l.cpu) Free filling g.linked (λ s z. cc) (λ s z. cc) r.linked;
     filled = λ b inb. ⊎_elim
-        (λ (t : b ≡ l.cpu). subst (Each Has) (sym (put-same g.lanes.fresh l.cpu b rest t)) (subst (Each Has) mine (r.filled l.cpu inside)).1)
-        (λ (ne : b ≢ l.cpu). subst (Each Has) (sym (put-other g.lanes.fresh l.cpu b rest ne)) (r.filled b inb))
+        (λ (t : b ≡ l.cpu). subst (Each (IsFilled w)) (sym (put-same g.lanes.fresh l.cpu b rest t)) (subst (Each (IsFilled w)) mine (r.filled l.cpu inside)).1)
+        (λ (ne : b ≢ l.cpu). subst (Each (IsFilled w)) (sym (put-other g.lanes.fresh l.cpu b rest ne)) (r.filled b inb))
         (equal b l.cpu);
     segments = r.segments;
-    locking = locking_outside a g.holder f.map f.element (Filling l.cpu) Free filling (words_of w) (λ n t. w (Stamp n t)) g.eras g.linked g.lanes.locks (λ b. inr (λ t z. absurd z)) r.locking;
+    locking = locking_outside a g.holder f.map f.element (Filling l.cpu) Free filling (place_words w) (λ n t. w (Stamp n t)) g.eras g.linked g.lanes.locks (λ b. inr (λ t z. absurd z)) r.locking;
     reading = r.reading;
     held = r.held;
     valued = valued_outside a g.holder f.map f.element (Filling l.cpu) Free filling _ g.last.made g.last.value g.last.held g.number (λ z. z) (λ c h z. z) r.valued;
@@ -298,9 +283,6 @@ give_fresh a l f rest hand at_e ws g sized r is inside fits = record {
 
     filling : g.holder f.map f.element ≡ Filling l.cpu
     filling = was a w g r l.cpu inside f rest mine at_e
-
-    Has : Fresh → Type 0
-    Has y = Begins y.key (λ j. w (KeyWord y.map y.element j)) × Begins y.value (λ j. w (ValueWord y.map y.element j))
 
     own : (n d : ℕ) → IsElement a n d → times_fresh n d rest ≡ one_if (is_filling l.cpu (holder2 n d))
     own n d l2 = ⊎_elim

@@ -6,28 +6,28 @@ use Rattle.hop_words.specs.declared.place.Place.{Place}
 use Rattle.hop_words.specs.declared.place.Place.TheVariants.{Head, Hop, Slot, Link, KeyWord}
 use Rattle.hop_words.specs.declared.known.Peek.{Peek}
 use Rattle.hop_words.specs.Layout.{words_for}
-use Rattle.hop_words.specs.Homes.{AreBytes, word_of, bucket_of}
-use Rattle.hop_words.specs.Content.{Words, IsShare, HasKey, item, HopsTo, Follows, Reached, IsOnList, times}
+use Rattle.hop_words.specs.Homes.{AreBytes, word_of, key_bucket}
+use Rattle.hop_words.specs.Content.{MapWords, IsShare, HasKey, item, HopsTo, LinksThrough, Reached, IsOnList, times}
 use Rattle.hop_words.specs.Ghost.{Each}
 use Rattle.hop_words.specs.Rule.{IsPeek}
 use Rattle.hop_words.specs.SegContract.{IsFound, WasRead, Differs, Matches, ReadHops, ReadList, ReadNone, Starts, ReadUpTo}
 use Rattle.hop_words.proofs.Small.{spelled_same, spelled_back}
 use Rattle.hop_words.proofs.Shares.{one_list, some_once, times_head, times_tail}
 
-read_is : (x : Words) (m s : ℕ) (read : List Peek) (p : Place) (n : ℕ) → Each (λ (q : Peek). IsPeek x m s q.place q.number) read → WasRead read p n → IsPeek x m s p n
+read_is : (x : MapWords) (m s : ℕ) (read : List Peek) (p : Place) (n : ℕ) → Each (λ (q : Peek). IsPeek x m s q.place q.number) read → WasRead read p n → IsPeek x m s p n
 read_is x m s [] p n all w = absurd w
 read_is x m s (r ∷ rs) p n all (inl w) = subst (λ (q : Place). IsPeek x m s q n) w.0 (subst (IsPeek x m s r.place) w.1 all.0)
 read_is x m s (r ∷ rs) p n all (inr w) = read_is x m s rs p n all.1 w
 
 -- the list that was read is the one that is there
-one_walk : (link read : ℕ → ℕ) (n : ℕ) (xs es : List ℕ) → Follows link n xs → Follows read n es → ((e : ℕ) → 1 ≤ times e xs → 1 ≤ times e es → link e ≡ read e) → xs ≡ es
+one_walk : (link read : ℕ → ℕ) (n : ℕ) (xs es : List ℕ) → LinksThrough link n xs → LinksThrough read n es → ((e : ℕ) → 1 ≤ times e xs → 1 ≤ times e es → link e ≡ read e) → xs ≡ es
 one_walk link read n [] [] p q same = refl
 one_walk link read n [] (e ∷ es) p q same = let z : None ≡ Some e = sym p ∙ q.0 in cc
 one_walk link read n (x ∷ xs) [] p q same = let z : None ≡ Some x = sym q ∙ p.0 in cc
 one_walk link read n (x ∷ xs) (e ∷ es) p q same =
     let h : x ≡ e = some_once x e (sym p.0 ∙ q.0) in
     let l : link x ≡ read e = same x (times_head x xs) (subst (λ (k : ℕ). 1 ≤ times k (e ∷ es)) (sym h) (times_head e es)) ∙ ap read h in
-    let t = one_walk link read (link x) xs es p.1 (subst (λ (k : ℕ). Follows read k es) (sym l) q.1) (λ d a b. same d (times_tail d x xs a) (times_tail d e es b)) in
+    let t = one_walk link read (link x) xs es p.1 (subst (λ (k : ℕ). LinksThrough read k es) (sym l) q.1) (λ d a b. same d (times_tail d x xs a) (times_tail d e es b)) in
     λ j. h j ∷ t j
 
 -- two keys with the same words are one
@@ -36,7 +36,7 @@ one_key g p q lp lq bp bq same =
     sym (spelled_back (words_for g.key) p bp (omega arith))
     ∙ ((λ j. take ((lp ∙ sym lq) j) (spelled_same (words_for g.key) (word_of p) (word_of q) same j)) ∙ spelled_back (words_for g.key) q bq (omega arith))
 
-module _ (seed : ℕ) (g : MapShape) (home : List ℕ → ℕ) (m s : ℕ) (read : List Peek) (key : List ℕ) (x : Words) (f : List ℕ → Option ℕ) (p : IsShare seed g home x m s f) (all : Each (λ (q : Peek). IsPeek x m s q.place q.number) read) where
+module _ (seed : ℕ) (g : MapShape) (home : List ℕ → ℕ) (m s : ℕ) (read : List Peek) (key : List ℕ) (x : MapWords) (f : List ℕ → Option ℕ) (p : IsShare seed g home x m s f) (all : Each (λ (q : Peek). IsPeek x m s q.place q.number) read) where
   -- an element with another key word
   not_it : (e : ℕ) → Reached x m s e → HasKey g x m e key → Differs read g m e key → ⊥
   not_it e r has d = d.4 (sym (read_is x m s read (KeyWord m e d.0) d.1 all d.3 refl r) ∙ has.2 d.0 d.2)
@@ -49,19 +49,19 @@ module _ (seed : ℕ) (g : MapShape) (home : List ℕ → ℕ) (m s : ℕ) (read
       ap f (sym one) ∙ k.3
 
   module _ (h : ReadHops seed g m s read key) where
-    hop_is : x.hop m s (bucket_of seed g key) ≡ h.hop
-    hop_is = read_is x m s read (Hop m s (bucket_of seed g key)) h.hop all h.hop_read refl refl
+    hop_is : x.hop m s (key_bucket seed g key) ≡ h.hop
+    hop_is = read_is x m s read (Hop m s (key_bucket seed g key)) h.hop all h.hop_read refl refl
 
-    slot_is : (d : ℕ) → d < 32 → bit_at h.hop d ≡ 1 → x.slot m s ((bucket_of seed g key + d) % 64) ≡ h.slot d
-    slot_is d l bit = read_is x m s read (Slot m s ((bucket_of seed g key + d) % 64)) (h.slot d) all (h.slot_read d l bit) refl refl
+    slot_is : (d : ℕ) → d < 32 → bit_at h.hop d ≡ 1 → x.slot m s ((key_bucket seed g key + d) % 64) ≡ h.slot d
+    slot_is d l bit = read_is x m s read (Slot m s ((key_bucket seed g key + d) % 64)) (h.slot d) all (h.slot_read d l bit) refl refl
 
     hop_reached : (d : ℕ) → d < 32 → bit_at h.hop d ≡ 1 → Reached x m s (h.element d)
-    hop_reached d l bit = inl (bucket_of seed g key, d, (omega arith, l, ap (λ n. bit_at n d) hop_is ∙ bit, ap item (slot_is d l bit) ∙ h.leads d l bit))
+    hop_reached d l bit = inl (key_bucket seed g key, d, (omega arith, l, ap (λ n. bit_at n d) hop_is ∙ bit, ap item (slot_is d l bit) ∙ h.leads d l bit))
 
   list_is : (w : ReadList m s read) → p.sound.list ≡ w.list
   list_is w =
       let head : x.head m s ≡ w.head = read_is x m s read (Head m s) w.head all w.head_read refl refl in
-      one_walk (x.link m) w.link (x.head m s) p.sound.list w.list p.sound.follows (subst (λ (n : ℕ). Follows w.link n w.list) (sym head) w.follows)
+      one_walk (x.link m) w.link (x.head m s) p.sound.list w.list p.sound.follows (subst (λ (n : ℕ). LinksThrough w.link n w.list) (sym head) w.follows)
       (λ e a b. read_is x m s read (Link m e) (w.link e) all (w.link_read e b) refl (inr (p.sound.list, p.sound.follows, a)))
 
   nothing_there : ReadNone seed g m s read key → (e : ℕ) → f key ≡ Some e → home key ≡ s → ⊥
@@ -69,9 +69,9 @@ module _ (seed : ℕ) (g : MapShape) (home : List ℕ → ℕ) (m s : ℕ) (read
       let k = p.all key e is here in
       ⊎_elim
       (λ (h : (b : ℕ) × (d : ℕ) × HopsTo x m s b d e).
-      let bucket : bucket_of seed g key ≡ h.0 = p.sound.homes h.0 h.1 e key h.2 k.1 in
+      let bucket : key_bucket seed g key ≡ h.0 = p.sound.homes h.0 h.1 e key h.2 k.1 in
       let bit : bit_at n.hops.hop h.1 ≡ 1 = ap (λ i. bit_at i h.1) (sym (hop_is n.hops) ∙ ap (x.hop m s) bucket) ∙ h.2.2 in
-      let same : n.hops.element h.1 ≡ e = (let a : x.slot m s ((bucket_of seed g key + h.1) % 64) ≡ x.slot m s ((h.0 + h.1) % 64) = ap (λ (b : ℕ). x.slot m s ((b + h.1) % 64)) bucket in some_once (n.hops.element h.1) e (sym (n.hops.leads h.1 h.2.1 bit) ∙ ap item (sym (slot_is n.hops h.1 h.2.1 bit) ∙ a) ∙ h.2.3)) in
+      let same : n.hops.element h.1 ≡ e = (let a : x.slot m s ((key_bucket seed g key + h.1) % 64) ≡ x.slot m s ((h.0 + h.1) % 64) = ap (λ (b : ℕ). x.slot m s ((b + h.1) % 64)) bucket in some_once (n.hops.element h.1) e (sym (n.hops.leads h.1 h.2.1 bit) ∙ ap item (sym (slot_is n.hops h.1 h.2.1 bit) ∙ a) ∙ h.2.3)) in
       not_it e k.0 k.1 (subst (λ (i : ℕ). Differs read g m i key) same (n.hops_differ h.1 h.2.1 bit)))
       (λ (o : IsOnList x m s e).
       let mine : o.0 ≡ p.sound.list = one_list (x.link m) (x.head m s) o.0 p.sound.list o.1 p.sound.follows in
@@ -92,7 +92,7 @@ pub found_hop : (seed : ℕ) (g : MapShape) (home : List ℕ → ℕ) (m s : ℕ
 found_hop seed g home m s read key h d lk bk l bit same x f share all = it_is seed g home m s read key x f share all (h.element d) lk bk (hop_reached seed g home m s read key x f share all h d l bit) same
 
 -- it is there, on the overflow list, which was read as far as it
-up_to : (link read : ℕ → ℕ) (n : ℕ) (xs ds : List ℕ) (e : ℕ) → Follows link n xs → Starts read n ds e → ((d : ℕ) → 1 ≤ times d xs → 1 ≤ times d ds → link d ≡ read d) → 1 ≤ times e xs
+up_to : (link read : ℕ → ℕ) (n : ℕ) (xs ds : List ℕ) (e : ℕ) → LinksThrough link n xs → Starts read n ds e → ((d : ℕ) → 1 ≤ times d xs → 1 ≤ times d ds → link d ≡ read d) → 1 ≤ times e xs
 up_to link read n [] [] e p q same = let z : None ≡ Some e = sym p ∙ q in cc
 up_to link read n [] (d ∷ ds) e p q same = let z : None ≡ Some d = sym p ∙ q.0 in cc
 up_to link read n (x ∷ xs) [] e p q same = let h : x ≡ e = some_once x e (sym p.0 ∙ q) in subst (λ (k : ℕ). 1 ≤ times k (x ∷ xs)) h (times_head x xs)

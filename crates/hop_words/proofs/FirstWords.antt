@@ -10,7 +10,7 @@ use Rattle.hop_words.specs.declared.known.About.{About}
 use Rattle.hop_words.specs.Layout.{at, is_place, mem, put_at, free_words, segments, depth}
 use Rattle.hop_words.specs.Ghost.{shape_at}
 use Rattle.hop_words.specs.Made.{IsPartly}
-use Rattle.hop_words.specs.Opens.{IsNew}
+use Rattle.hop_words.specs.Opens.{AreNewWords}
 use Rattle.std.specs.Int.{bit_at}
 use Rattle.std.proofs.lemmas.Nat.Bits.{bit_at_ones}
 use Rattle.hop_words.proofs.Depths.{depth_most}
@@ -147,7 +147,7 @@ all_bits : (j : ℕ) → j < 64 → bit_at (2 ^ 64 - 1) j ≡ 1
 all_bits j few = bit_at_ones 64 j few
 
 -- when all maps are made, the words are those of a store as made
-pub whole : (a : About) (w : Place → ℕ) → IsShape a.shape → IsPartly a w a.shape.cpus (length a.shape.maps) 0 0 → IsNew a w
+pub whole : (a : About) (w : Place → ℕ) → IsShape a.shape → IsPartly a w a.shape.cpus (length a.shape.maps) 0 0 → AreNewWords a w
 whole a w shaped p = record {
   shaped = shaped;
   counts = λ c l. p (RunCount c) (rw (yes c a.shape.cpus l) refl) ∙ rw (yes c a.shape.cpus l) refl;

@@ -19,11 +19,11 @@ use Rattle.hop_words.specs.Layout.{mem}
 use Rattle.hop_words.specs.Ghost.{segment_in, Ghost, lane, shape_at, IsSegment}
 use Rattle.hop_words.specs.declared.place.Place.{Place}
 use Rattle.hop_words.specs.declared.place.Place.TheVariants.{Stamp}
-use Rattle.hop_words.specs.Content.{words_of, IsShare}
+use Rattle.hop_words.specs.Content.{place_words, IsShare}
 use Rattle.hop_words.specs.Rule.{Seats, Kept, Rule, Segment, image, times_lock}
 use Rattle.hop_words.proofs.Shares.{share_agrees}
 use Rattle.hop_words.proofs.Readings.{even_or_odd}
-use Rattle.hop_words.specs.Seats.{Sat, view, nobody, gathered, onlooker, IsWithin, Learned, IsWhole}
+use Rattle.hop_words.specs.Seats.{Sat, view, empty_view, gathered, onlooker, HasSeenBeginning, Learned, KeepsWholeHistory}
 use Rattle.hop_words.proofs.Histories.{rest_has_none, prefix_refl}
 
 -- a view behind the others
@@ -43,24 +43,24 @@ append_at (x ∷ xs) ys (suc k) a e = ⊎_elim
     (append_at xs ys k a e)
 
 -- a new seat without a CPU
-pub comes : (a : About) (slots : ℕ) (m : Sat) → Enters (Kept a) slots 0 (λ n w. w ≡ nobody)
-comes a slots m s k size fits = (nobody, record { sized = k.sized; ghost = k.ghost; rule = k.rule; seats = more }, refl)
+pub comes : (a : About) (slots : ℕ) (m : Sat) → Enters (Kept a) slots 0 (λ n w. w ≡ empty_view)
+comes a slots m s k size fits = (empty_view, record { sized = k.sized; ghost = k.ghost; rule = k.rule; seats = more }, refl)
   where
-    more : Seats a.shape.cpus k.ghost.log (lane k.ghost.lanes) (s.views ++ nobody ∷ [])
+    more : Seats a.shape.cpus k.ghost.log (lane k.ghost.lanes) (s.views ++ empty_view ∷ [])
     more = record {
       seat = k.seats.seat;
       known = λ i j v l is here. ⊎_elim
           (λ (t : get_elem? s.views i ≡ some v). k.seats.known i j v l t here)
-          (λ (t : (i ≡ length s.views) × (nobody ≡ v)). absurd (some-ne-none l (sym (subst (λ (x : View). get_elem? x.lanes j ≡ some l) (sym t.1) here))))
-          (snoc_at s.views nobody v i is);
+          (λ (t : (i ≡ length s.views) × (empty_view ≡ v)). absurd (some-ne-none l (sym (subst (λ (x : View). get_elem? x.lanes j ≡ some l) (sym t.1) here))))
+          (snoc_at s.views empty_view v i is);
       distinct = λ i j j' v l m is here there same. ⊎_elim
           (λ (t : get_elem? s.views i ≡ some v). k.seats.distinct i j j' v l m t here there same)
-          (λ (t : (i ≡ length s.views) × (nobody ≡ v)). absurd (some-ne-none l (sym (subst (λ (x : View). get_elem? x.lanes j ≡ some l) (sym t.1) here))))
-          (snoc_at s.views nobody v i is);
+          (λ (t : (i ≡ length s.views) × (empty_view ≡ v)). absurd (some-ne-none l (sym (subst (λ (x : View). get_elem? x.lanes j ≡ some l) (sym t.1) here))))
+          (snoc_at s.views empty_view v i is);
       kept = λ i v is. ⊎_elim
           (λ (t : get_elem? s.views i ≡ some v). k.seats.kept i v t)
-          (λ (t : (i ≡ length s.views) × (nobody ≡ v)). subst (λ (x : View). IsPrefix x.kept k.ghost.log) t.1 (k.ghost.log, refl))
-          (snoc_at s.views nobody v i is);
+          (λ (t : (i ≡ length s.views) × (empty_view ≡ v)). subst (λ (x : View). IsPrefix x.kept k.ghost.log) t.1 (k.ghost.log, refl))
+          (snoc_at s.views empty_view v i is);
     }
 
 -- the first CPU of a seat goes to a new one
@@ -143,7 +143,7 @@ deals a id l ls old s k at = record { sized = k.sized; ghost = k.ghost; rule = k
     }
 
 -- the lanes of a second seat go behind those of a first
-pub gathers : (a : About) (id other : ℕ) (v w : View) → Joins (Kept a) id v other w (gathered v w) nobody
+pub gathers : (a : About) (id other : ℕ) (v w : View) → Joins (Kept a) id v other w (gathered v w) empty_view
 gathers a id other v w s k at apart there = record { sized = k.sized; ghost = k.ghost; rule = k.rule; seats = now }
   where
     both : View
@@ -186,29 +186,29 @@ gathers a id other v w s k at apart there = record { sized = k.sized; ghost = k.
 
     -- which views there are afterwards
     After : ℕ → View → Type 0
-    After i u = ((i ≡ other) × (nobody ≡ u)) ⊎ (((i ≡ id) × (both ≡ u)) ⊎ ((i ≢ other) × (i ≢ id) × (get_elem? s.views i ≡ some u)))
+    After i u = ((i ≡ other) × (empty_view ≡ u)) ⊎ (((i ≡ id) × (both ≡ u)) ⊎ ((i ≢ other) × (i ≢ id) × (get_elem? s.views i ≡ some u)))
 
-    after : (i : ℕ) (u : View) → get_elem? (set (set s.views id both) other nobody) i ≡ some u → After i u
+    after : (i : ℕ) (u : View) → get_elem? (set (set s.views id both) other empty_view) i ≡ some u → After i u
     after i u is = ⊎_elim
-        (λ (t : (i ≡ other) × (nobody ≡ u)). inl t)
+        (λ (t : (i ≡ other) × (empty_view ≡ u)). inl t)
         (λ (t : (i ≢ other) × (get_elem? (set s.views id both) i ≡ some u)). ⊎_elim
         (λ (t' : (i ≡ id) × (both ≡ u)). inr (inl t'))
         (λ (t' : (i ≢ id) × (get_elem? s.views i ≡ some u)). inr (inr (t.0, t'.0, t'.1)))
         (at_set s.views id i both u t.1))
-        (at_set (set s.views id both) other i nobody u is)
+        (at_set (set s.views id both) other i empty_view u is)
 
-    now : Seats a.shape.cpus k.ghost.log (lane k.ghost.lanes) (set (set s.views id both) other nobody)
+    now : Seats a.shape.cpus k.ghost.log (lane k.ghost.lanes) (set (set s.views id both) other empty_view)
     now = record {
       seat = seat;
       known = λ i j u m is here. ⊎_elim
-          (λ (t : (i ≡ other) × (nobody ≡ u)). absurd (some-ne-none m (sym (subst (λ (x : View). get_elem? x.lanes j ≡ some m) (sym t.1) here))))
+          (λ (t : (i ≡ other) × (empty_view ≡ u)). absurd (some-ne-none m (sym (subst (λ (x : View). get_elem? x.lanes j ≡ some m) (sym t.1) here))))
           (λ (t : ((i ≡ id) × (both ≡ u)) ⊎ ((i ≢ other) × (i ≢ id) × (get_elem? s.views i ≡ some u))). ⊎_elim
           (λ (t' : (i ≡ id) × (both ≡ u)). subst (λ (x : ℕ). IsKnown x m) (sym t'.0) (in_both j m (append_at v.lanes w.lanes j m (subst (λ (x : View). get_elem? x.lanes j ≡ some m) (sym t'.1) here))))
           (λ (t' : (i ≢ other) × (i ≢ id) × (get_elem? s.views i ≡ some u)). let b = k.seats.known i j u m t'.2 here in (seat_stays m.cpu i b.0 t'.0, b.1, b.2))
           t)
           (after i u is);
       distinct = λ i a b u m n is here there same. ⊎_elim
-          (λ (t : (i ≡ other) × (nobody ≡ u)). absurd (some-ne-none m (sym (subst (λ (x : View). get_elem? x.lanes a ≡ some m) (sym t.1) here))))
+          (λ (t : (i ≡ other) × (empty_view ≡ u)). absurd (some-ne-none m (sym (subst (λ (x : View). get_elem? x.lanes a ≡ some m) (sym t.1) here))))
           (λ (t : ((i ≡ id) × (both ≡ u)) ⊎ ((i ≢ other) × (i ≢ id) × (get_elem? s.views i ≡ some u))). ⊎_elim
           (λ (t' : (i ≡ id) × (both ≡ u)). apart_both a b m n
           (append_at v.lanes w.lanes a m (subst (λ (x : View). get_elem? x.lanes a ≡ some m) (sym t'.1) here))
@@ -218,7 +218,7 @@ gathers a id other v w s k at apart there = record { sized = k.sized; ghost = k.
           t)
           (after i u is);
       kept = λ i u is. ⊎_elim
-          (λ (t : (i ≡ other) × (nobody ≡ u)). subst (λ (x : View). IsPrefix x.kept k.ghost.log) t.1 (k.ghost.log, refl))
+          (λ (t : (i ≡ other) × (empty_view ≡ u)). subst (λ (x : View). IsPrefix x.kept k.ghost.log) t.1 (k.ghost.log, refl))
           (λ (t : ((i ≡ id) × (both ≡ u)) ⊎ ((i ≢ other) × (i ≢ id) × (get_elem? s.views i ≡ some u))). ⊎_elim
           (λ (t' : (i ≡ id) × (both ≡ u)). subst (λ (x : View). IsPrefix x.kept k.ghost.log) t'.1 (k.seats.kept id v at))
           (λ (t' : (i ≢ other) × (i ≢ id) × (get_elem? s.views i ≡ some u)). k.seats.kept i u t'.2)
@@ -294,20 +294,20 @@ front_nil [] ys e = refl
 front_nil (x ∷ xs) ys e = absurd (cc)
 
 -- where nobody has a lock, each segment shows its share
-at_rest_shows : (a : About) (w : Place → ℕ) (g : Ghost) (r : Rule a w g) → ((c : ℕ) → c < a.shape.cpus → g.lanes.locks c ≡ []) → (m s : ℕ) → IsSegment a m s → IsShare a.seed (shape_at a m) (segment_in a m) (words_of w) m s (g.linked m)
+at_rest_shows : (a : About) (w : Place → ℕ) (g : Ghost) (r : Rule a w g) → ((c : ℕ) → c < a.shape.cpus → g.lanes.locks c ≡ []) → (m s : ℕ) → IsSegment a m s → IsShare a.seed (shape_at a m) (segment_in a m) (place_words w) m s (g.linked m)
 at_rest_shows a w g r idle m s at_s =
-    let seg : Segment a (segment_in a) (words_of w) (w (Stamp m s)) (g.eras m s) m s (g.linked m) = r.segments m s at_s in
+    let seg : Segment a (segment_in a) (place_words w) (w (Stamp m s)) (g.eras m s) m s (g.linked m) = r.segments m s at_s in
     let even : w (Stamp m s) % 2 ≡ 0 = ⊎_elim
     (λ (e : w (Stamp m s) % 2 ≡ 0). e)
     (λ (o : w (Stamp m s) % 2 ≡ 1). absurd (let h = r.held m s at_s o in let z : times_lock m s (g.lanes.locks (g.eras m s).writer) ≡ 0 = ap (times_lock m s) (idle (g.eras m s).writer h.0) in let y = h.1 in omega arith))
     (even_or_odd (w (Stamp m s))) in
     let d = seg.at_rest even in
-    share_agrees a.seed (shape_at a m) (segment_in a m) (words_of w) (g.eras m s).old m s (g.linked m) (seg.clean d).1 (seg.shows d)
+    share_agrees a.seed (shape_at a m) (segment_in a m) (place_words w) (g.eras m s).old m s (g.linked m) (seg.clean d).1 (seg.shows d)
 
 -- where all lanes are in one seat that has learned the history, it is the whole, and the words keep the rule with it
 pub closes : (a : About) (id : ℕ) (v : View) (ws : List ℕ) (xs : List (Unit {0})) → Final (Seen (Kept a) id v) ws xs
     → ((c : ℕ) → c < a.shape.cpus → (k : ℕ) × (l : Known) × (l.cpu ≡ c) × (get_elem? v.lanes k ≡ some l) × (l.locks ≡ []))
-    → ((k : ℕ) (l : Known) → get_elem? v.lanes k ≡ some l → IsWithin l v.kept) → IsWhole a v ws
+    → ((k : ℕ) (l : Known) → get_elem? v.lanes k ≡ some l → HasSeenBeginning l v.kept) → KeepsWholeHistory a v ws
 closes a id v ws xs final all within =
     let s' = final.0 in
     let k = final.1.0 in

@@ -14,11 +14,12 @@ use Rattle.hop_words.specs.declared.known.Known.{Known}
 use Rattle.hop_words.specs.declared.known.Limbo.{Limbo}
 use Rattle.hop_words.specs.declared.known.Lock.{Lock}
 use Rattle.hop_words.specs.Layout.{mem, put_at}
-use Rattle.hop_words.specs.Content.{Words, words_of, one_if, times}
+use Rattle.hop_words.specs.Content.{MapWords, place_words, one_if, times}
 use Rattle.hop_words.specs.Ghost.{segment_in, Holder, Free, Leaving, Within, is_filling, is_leaving, lane, Era, Ghost, IsElement, Each, limbo_at}
-use Rattle.hop_words.specs.Rule.{Rule, turns_of, Chained, link_to, times_limbo, Linked, Segment, Segments, Minded, Holds, Locking}
+use Rattle.hop_words.specs.Rule.{Rule, Chained, link_to, times_limbo, Linked, Segment, Segments, Minded, Holds, Locking}
+use Rattle.bpf_shared.specs.Own.{turns_of, in_run}
 use Rattle.hop_words.specs.Step.{Steps}
-use Rattle.hop_words.specs.Kinds.{in_run, retiring, Passed, giving_old}
+use Rattle.hop_words.specs.Kinds.{retiring, Passed, giving_old}
 use Rattle.hop_words.proofs.Small.{equal, put2-same, put2-other}
 use Rattle.hop_words.proofs.Histories.{prefix_refl, runs_as_known}
 use Rattle.hop_words.proofs.Comes.{moved, in_limbo}
@@ -101,7 +102,7 @@ give_old a l m e es even at_e room i ws g sized r is inside fits = record {
     linked = linked_outside a g.holder m e (Leaving l.cpu) Free was g.linked (λ s z. cc) (λ s z. cc) r.linked;
     filled = r.filled;
     segments = r.segments;
-    locking = locking_outside a g.holder m e (Leaving l.cpu) Free was (words_of w) (λ n t. w (Stamp n t)) g.eras g.linked g.lanes.locks (λ b. inr (λ t z. absurd z)) r.locking;
+    locking = locking_outside a g.holder m e (Leaving l.cpu) Free was (place_words w) (λ n t. w (Stamp n t)) g.eras g.linked g.lanes.locks (λ b. inr (λ t z. absurd z)) r.locking;
     reading = r.reading;
     held = r.held;
     valued = valued_outside a g.holder m e (Leaving l.cpu) Free was _ g.last.made g.last.value g.last.held g.number (λ z. z) (λ c h _. nobody c h) r.valued;
@@ -173,7 +174,7 @@ give_old a l m e es even at_e room i ws g sized r is inside fits = record {
 
 -- ---- words of elements that the lane has: nobody else minds them
 -- the segments, where links and keys of linked elements are as they were
-pub segments_words : (a : About) (x x' : Words) (stamp : ℕ → ℕ → ℕ) (eras : ℕ → ℕ → Era) (linked : ℕ → List ℕ → Option ℕ) (holder : ℕ → ℕ → Holder) → Linked a (segment_in a) linked holder
+pub segments_words : (a : About) (x x' : MapWords) (stamp : ℕ → ℕ → ℕ) (eras : ℕ → ℕ → Era) (linked : ℕ → List ℕ → Option ℕ) (holder : ℕ → ℕ → Holder) → Linked a (segment_in a) linked holder
     → ((m s : ℕ) → x'.head m s ≡ x.head m s) → ((m s b : ℕ) → x'.hop m s b ≡ x.hop m s b) → ((m s b : ℕ) → x'.slot m s b ≡ x.slot m s b)
     → ((m t d : ℕ) → holder m d ≡ Within t → (x'.link m d ≡ x.link m d) × ((k : ℕ) → x'.key m d k ≡ x.key m d k)) → Segments a (segment_in a) x stamp eras linked → Segments a (segment_in a) x' stamp eras linked
 segments_words a x x' stamp eras linked holder l head hop slot within p n t inside = record {
@@ -191,7 +192,7 @@ segments_words a x x' stamp eras linked holder l head hop slot within p n t insi
     q = p n t inside
 
 -- the locks of the others, where links and keys that they mind are as they were
-pub locking_words : (a : About) (x x' : Words) (stamp : ℕ → ℕ → ℕ) (eras : ℕ → ℕ → Era) (linked : ℕ → List ℕ → Option ℕ) (holder : ℕ → ℕ → Holder) (locks : ℕ → List Lock) (c : ℕ) → locks c ≡ []
+pub locking_words : (a : About) (x x' : MapWords) (stamp : ℕ → ℕ → ℕ) (eras : ℕ → ℕ → Era) (linked : ℕ → List ℕ → Option ℕ) (holder : ℕ → ℕ → Holder) (locks : ℕ → List Lock) (c : ℕ) → locks c ≡ []
     → ((m s : ℕ) → x'.head m s ≡ x.head m s) → ((m s b : ℕ) → x'.hop m s b ≡ x.hop m s b) → ((m s b : ℕ) → x'.slot m s b ≡ x.slot m s b)
     → ((m t d b : ℕ) → b ≢ c → Minded b t (holder m d) → (x'.link m d ≡ x.link m d) × ((k : ℕ) → x'.key m d k ≡ x.key m d k)) → Locking a (segment_in a) x stamp eras linked holder locks → Locking a (segment_in a) x' stamp eras linked holder locks
 locking_words a x x' stamp eras linked holder locks c none head hop slot minded p b = ⊎_elim
@@ -247,9 +248,9 @@ retire a l m e us at_e room unlocked used ws g sized r is inside fits = record {
     };
     linked = r.linked;
     filled = r.filled;
-    segments = segments_words a (words_of w) (words_of w2) (λ n t. w (Stamp n t)) g.eras g.linked g.holder r.linked (λ n t. refl) (λ n t b. refl) (λ n t b. refl)
+    segments = segments_words a (place_words w) (place_words w2) (λ n t. w (Stamp n t)) g.eras g.linked g.holder r.linked (λ n t. refl) (λ n t b. refl) (λ n t b. refl)
         (λ n t d h. (link_else n d (λ u v. let z : Within t ≡ Leaving l.cpu = sym h ∙ ((λ j. g.holder (u j) (v j)) ∙ was) in cc), λ k. refl)) r.segments;
-    locking = locking_words a (words_of w) (words_of w2) (λ n t. w (Stamp n t)) g.eras g.linked g.holder g.lanes.locks l.cpu (ap (λ (z : Known). z.locks) is ∙ unlocked) (λ n t. refl) (λ n t b. refl) (λ n t b. refl)
+    locking = locking_words a (place_words w) (place_words w2) (λ n t. w (Stamp n t)) g.eras g.linked g.holder g.lanes.locks l.cpu (ap (λ (z : Known). z.locks) is ∙ unlocked) (λ n t. refl) (λ n t b. refl) (λ n t b. refl)
         (λ n t d b ne on. (link_else n d (λ u v. ne (sym (subst (Minded b t) ((λ j. g.holder (u j) (v j)) ∙ was) on))), λ k. refl)) r.locking;
     reading = r.reading;
     held = r.held;

@@ -7,7 +7,7 @@ use Rattle.hop_words.specs.declared.known.Known.{Known}
 use Rattle.hop_words.specs.declared.known.Fresh.{Fresh}
 use Rattle.hop_words.specs.Ghost.{IsElement}
 use Rattle.hop_words.specs.Step.{Steps}
-use Rattle.hop_words.specs.Owning.{IsInHand, behind, key_filled, value_filled, with_key_word, with_value_word}
+use Rattle.hop_words.specs.Owning.{IsInHand, tail_of, key_filled, value_filled, with_key_word, with_value_word}
 use Rattle.hop_words.proofs.Fills.{fill_key, fill_value, give_fresh}
 
 module _ (a : About) (l : Known) (m e : ℕ) (at_e : IsElement a m e) (h : IsInHand l m e) where
@@ -17,20 +17,20 @@ module _ (a : About) (l : Known) (m e : ℕ) (at_e : IsElement a m e) (h : IsInH
   at_f : IsElement a f.map f.element
   at_f = subst (λ (n : ℕ). IsElement a n f.element) (sym h.2) (subst (IsElement a m) (sym h.3) at_e)
 
-  pub gives : Steps a l (FreeBits m (e / 64)) (λ n. bit_or n (2 ^ (e % 64))) (λ ws n l'. l' ≡ record l { fresh = behind l.fresh })
+  pub gives : Steps a l (FreeBits m (e / 64)) (λ n. bit_or n (2 ^ (e % 64))) (λ ws n l'. l' ≡ record l { fresh = tail_of l.fresh })
   gives =
-      subst (λ (n : ℕ). Steps a l (FreeBits n (e / 64)) (λ n. bit_or n (2 ^ (e % 64))) (λ ws n l'. l' ≡ record l { fresh = behind l.fresh })) h.2
-      (subst (λ (d : ℕ). Steps a l (FreeBits f.map (d / 64)) (λ n. bit_or n (2 ^ (d % 64))) (λ ws n l'. l' ≡ record l { fresh = behind l.fresh })) h.3
-      (give_fresh a l f (behind l.fresh) h.1 at_f))
+      subst (λ (n : ℕ). Steps a l (FreeBits n (e / 64)) (λ n. bit_or n (2 ^ (e % 64))) (λ ws n l'. l' ≡ record l { fresh = tail_of l.fresh })) h.2
+      (subst (λ (d : ℕ). Steps a l (FreeBits f.map (d / 64)) (λ n. bit_or n (2 ^ (d % 64))) (λ ws n l'. l' ≡ record l { fresh = tail_of l.fresh })) h.3
+      (give_fresh a l f (tail_of l.fresh) h.1 at_f))
 
   pub fills_key : (k n : ℕ) → l.locks ≡ [] → k ≡ key_filled l.fresh → Steps a l (KeyWord m e k) (λ _. n) (λ ws found l'. l' ≡ record l { fresh = with_key_word l.fresh n })
   fills_key k n unlocked next =
       subst (λ (fs : List Fresh). Steps a l (KeyWord m e k) (λ _. n) (λ ws found l'. l' ≡ record l { fresh = with_key_word fs n })) (sym h.1)
-      (subst (λ (p : Place). Steps a l p (λ _. n) (λ ws found l'. l' ≡ record l { fresh = record f { key = f.key ++ n ∷ [] } ∷ behind l.fresh })) (λ i. KeyWord (h.2 i) (h.3 i) ((sym (ap key_filled h.1) ∙ sym next) i))
-      (fill_key a l f (behind l.fresh) n h.1 at_f unlocked))
+      (subst (λ (p : Place). Steps a l p (λ _. n) (λ ws found l'. l' ≡ record l { fresh = record f { key = f.key ++ n ∷ [] } ∷ tail_of l.fresh })) (λ i. KeyWord (h.2 i) (h.3 i) ((sym (ap key_filled h.1) ∙ sym next) i))
+      (fill_key a l f (tail_of l.fresh) n h.1 at_f unlocked))
 
   pub fills_value : (k n : ℕ) → l.locks ≡ [] → k ≡ value_filled l.fresh → Steps a l (ValueWord m e k) (λ _. n) (λ ws found l'. l' ≡ record l { fresh = with_value_word l.fresh n })
   fills_value k n unlocked next =
       subst (λ (fs : List Fresh). Steps a l (ValueWord m e k) (λ _. n) (λ ws found l'. l' ≡ record l { fresh = with_value_word fs n })) (sym h.1)
-      (subst (λ (p : Place). Steps a l p (λ _. n) (λ ws found l'. l' ≡ record l { fresh = record f { value = f.value ++ n ∷ [] } ∷ behind l.fresh })) (λ i. ValueWord (h.2 i) (h.3 i) ((sym (ap value_filled h.1) ∙ sym next) i))
-      (fill_value a l f (behind l.fresh) n h.1 at_f unlocked))
+      (subst (λ (p : Place). Steps a l p (λ _. n) (λ ws found l'. l' ≡ record l { fresh = record f { value = f.value ++ n ∷ [] } ∷ tail_of l.fresh })) (λ i. ValueWord (h.2 i) (h.3 i) ((sym (ap value_filled h.1) ∙ sym next) i))
+      (fill_value a l f (tail_of l.fresh) n h.1 at_f unlocked))

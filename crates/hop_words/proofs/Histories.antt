@@ -18,8 +18,8 @@ use Rattle.bpf_shared.proofs.Chains.{events_of-append, events_of-own, events_of-
 use Rattle.bpf_shared.specs.Lemmas.Passages.{history-append}
 use Rattle.bpf_shared.proofs.Puts.{put-same, put-other}
 use Rattle.hop_words.specs.declared.known.About.{About}
-use Rattle.hop_words.specs.Rule.{turns_of, Logged, done_in}
-use Rattle.hop_words.specs.Kinds.{in_run}
+use Rattle.hop_words.specs.Rule.{Logged, done_in}
+use Rattle.bpf_shared.specs.Own.{turns_of, in_run}
 
 pub turns_of-append : (xs ys : List Event) → turns_of (xs ++ ys) ≡ turns_of xs + turns_of ys
 turns_of-append [] ys = omega arith

@@ -9,7 +9,7 @@ use Rattle.hop_words.specs.Index.{bases, bases_from, end_from, AreBases}
 use Rattle.bpf_shared.specs.declared.shapes.MapShape.{MapShape}
 use Rattle.bpf_shared.specs.Shape.{Shape, elements}
 use Rattle.hop_words.specs.declared.place.Place.TheVariants.{RunCount, KeyCount, FreeBits, Stamp, Head, Hop, Slot, Link, KeyWord, ValueWord}
-use Rattle.hop_words.specs.Layout.{sum_below, words_in, is_path, layout, at, size, words_for, free_words, segments, depth, map_shape, segment_layout, map_layout, map_words, line_rest}
+use Rattle.hop_words.specs.Layout.{sum_below, layout_size, is_path, layout, at, size, words_for, free_words, segments, depth, map_shape, segment_layout, map_layout, map_words, line_rest}
 use Rattle.hop_words.proofs.Layouts.{both}
 
 pub sum_same : (n k : ℕ) → sum_below n (λ j. k) ≡ n * k
@@ -33,19 +33,19 @@ module _ (h : Shape) (m : ℕ) where
   at_first_stamp = let f = ones (free_words g) in let r = ones (line_rest (free_words g)) in omega arith
 
   pub at_stamp : (s : ℕ) → at h (Stamp m s) ≡ at h (Stamp m 0) + 130 * s
-  at_stamp s = let t : sum_below s (λ j. words_in segment_layout) ≡ s * 130 = sum_same s 130 in omega arith
+  at_stamp s = let t : sum_below s (λ j. layout_size segment_layout) ≡ s * 130 = sum_same s 130 in omega arith
 
   pub at_head : (s : ℕ) → at h (Head m s) ≡ at h (Stamp m 0) + 130 * s + 1
-  at_head s = let t : sum_below s (λ j. words_in segment_layout) ≡ s * 130 = sum_same s 130 in omega arith
+  at_head s = let t : sum_below s (λ j. layout_size segment_layout) ≡ s * 130 = sum_same s 130 in omega arith
 
   pub at_hop : (s b : ℕ) → at h (Hop m s b) ≡ at h (Stamp m 0) + 130 * s + 2 + 2 * b
-  at_hop s b = let t : sum_below s (λ j. words_in segment_layout) ≡ s * 130 = sum_same s 130 in let u = sum_same b 2 in omega arith
+  at_hop s b = let t : sum_below s (λ j. layout_size segment_layout) ≡ s * 130 = sum_same s 130 in let u = sum_same b 2 in omega arith
 
   pub at_slot : (s b : ℕ) → at h (Slot m s b) ≡ at h (Stamp m 0) + 130 * s + 3 + 2 * b
-  at_slot s b = let t : sum_below s (λ j. words_in segment_layout) ≡ s * 130 = sum_same s 130 in let u = sum_same b 2 in omega arith
+  at_slot s b = let t : sum_below s (λ j. layout_size segment_layout) ≡ s * 130 = sum_same s 130 in let u = sum_same b 2 in omega arith
 
   pub at_first_link : at h (Link m 0) ≡ at h (Stamp m 0) + 130 * segments g
-  at_first_link = let t : sum_below (segments g) (λ j. words_in segment_layout) ≡ segments g * 130 = sum_same (segments g) 130 in omega arith
+  at_first_link = let t : sum_below (segments g) (λ j. layout_size segment_layout) ≡ segments g * 130 = sum_same (segments g) 130 in omega arith
 
   pub at_link : (e : ℕ) → at h (Link m e) ≡ at h (Link m 0) + e
   at_link e = let z = ones e in omega arith

@@ -6,7 +6,7 @@ use mathlib.Core.Logic.{dite}
 use Rattle.bpf_shared.specs.Shape.{Shape}
 use Rattle.hop_words.specs.declared.place.Place.{Place}
 use Rattle.hop_words.specs.declared.place.Place.TheVariants.{RunCount, KeyCount, FreeBits, Stamp, Head, Hop, Slot, Link, KeyWord, ValueWord}
-use Rattle.hop_words.specs.Layout.{Layout, Word, Group, sum_below, words_in, offset, is_path, layout, path, at, is_place, size, mem, same_place, put_at}
+use Rattle.hop_words.specs.Layout.{Layout, Word, Group, sum_below, layout_size, word_at_path, is_path, layout, path, at, is_place, size, mem, same_place, put_at}
 
 pub both : (a b : Bool) → (a && b) ≡ true → (a ≡ true) × (b ≡ true)
 both true b e = (refl, e)
@@ -19,7 +19,7 @@ sum_step f i (suc j) l = dite (ℕ_discrete i j)
     (λ (e : i ≡ j). let s = ap (λ (k : ℕ). sum_below k f + f k) e in omega arith)
     (λ (ne : i ≢ j). let s = sum_step f i j (grind arith) in omega arith)
 
-pub offset_inside : (l : Layout) (p : List ℕ) → is_path l p ≡ true → offset l p < words_in l
+pub offset_inside : (l : Layout) (p : List ℕ) → is_path l p ≡ true → word_at_path l p < layout_size l
 offset_inside Word [] e = omega arith
 offset_inside Word (i ∷ p) e = absurd (true≢false (sym e))
 offset_inside (Group n f) [] e = absurd (true≢false (sym e))
@@ -27,7 +27,7 @@ offset_inside (Group n f) (i ∷ p) e =
     let b = both (nat_lt i n) (is_path (f i) p) e in
     let k = offset_inside (f i) p b.1 in
     let l : i < n = (let t = b.0 in grind (arith, nat_tests)) in
-    let s = sum_step (λ j. words_in (f j)) i n l in
+    let s = sum_step (λ j. layout_size (f j)) i n l in
     omega arith
 
 -- two members whose stretches have a word in common are one
@@ -38,7 +38,7 @@ one_member f i j a b x y e = dite (dec_lt i j)
     (λ (l : j < i). absurd (let s = sum_step f j i l in omega arith))
     (λ nr. grind arith))
 
-pub offset_once : (l : Layout) (p q : List ℕ) → is_path l p ≡ true → is_path l q ≡ true → offset l p ≡ offset l q → p ≡ q
+pub offset_once : (l : Layout) (p q : List ℕ) → is_path l p ≡ true → is_path l q ≡ true → word_at_path l p ≡ word_at_path l q → p ≡ q
 offset_once Word [] [] x y e = refl
 offset_once Word (i ∷ p) q x y e = absurd (true≢false (sym x))
 offset_once Word [] (j ∷ q) x y e = absurd (true≢false (sym y))
@@ -47,9 +47,9 @@ offset_once (Group n f) (i ∷ p) [] x y e = absurd (true≢false (sym y))
 offset_once (Group n f) (i ∷ p) (j ∷ q) x y e =
     let a = both (nat_lt i n) (is_path (f i) p) x in
     let b = both (nat_lt j n) (is_path (f j) q) y in
-    let s : i ≡ j = one_member (λ k. words_in (f k)) i j (offset (f i) p) (offset (f j) q) (offset_inside (f i) p a.1) (offset_inside (f j) q b.1) e in
+    let s : i ≡ j = one_member (λ k. layout_size (f k)) i j (word_at_path (f i) p) (word_at_path (f j) q) (offset_inside (f i) p a.1) (offset_inside (f j) q b.1) e in
     let b' : is_path (f i) q ≡ true = subst (λ (k : ℕ). is_path (f k) q ≡ true) (sym s) b.1 in
-    let e' : sum_below i (λ k. words_in (f k)) + offset (f i) p ≡ sum_below i (λ k. words_in (f k)) + offset (f i) q = subst (λ (k : ℕ). sum_below i (λ k. words_in (f k)) + offset (f i) p ≡ sum_below k (λ k. words_in (f k)) + offset (f k) q) (sym s) e in
+    let e' : sum_below i (λ k. layout_size (f k)) + word_at_path (f i) p ≡ sum_below i (λ k. layout_size (f k)) + word_at_path (f i) q = subst (λ (k : ℕ). sum_below i (λ k. layout_size (f k)) + word_at_path (f i) p ≡ sum_below k (λ k. layout_size (f k)) + word_at_path (f k) q) (sym s) e in
     let r : p ≡ q = offset_once (f i) p q a.1 b' (omega arith) in
     λ t. s t ∷ r t
 

@@ -12,11 +12,11 @@ use Rattle.hop_words.specs.declared.known.Fresh.{Fresh}
 use Rattle.hop_words.specs.declared.known.Lock.{Lock}
 use Rattle.hop_words.specs.declared.known.Change.TheVariants.{Nothing}
 use Rattle.hop_words.specs.Layout.{mem, same_place, put_at, size}
-use Rattle.hop_words.specs.Content.{words_of, Reached, IsShare}
+use Rattle.hop_words.specs.Content.{place_words, Reached, IsShare}
 use Rattle.hop_words.specs.Ghost.{segment_in, Holder, Free, Filling, Leaving, Within, lane, Era, Ghost, shape_at, IsElement, IsSegment, Each}
-use Rattle.hop_words.specs.Rule.{Rule, Segment, Minded, Holds, image, changed, owed, Begins, done_in, times_lock}
+use Rattle.hop_words.specs.Rule.{Rule, Segment, Minded, Holds, image, changed, owed, StartsWith, done_in, times_lock}
 use Rattle.hop_words.specs.Step.{Next, Steps}
-use Rattle.hop_words.specs.Kinds.{has, Locked, IsWritten}
+use Rattle.hop_words.specs.Kinds.{has, LocksSegment, IsWritten}
 use Rattle.hop_words.proofs.Layouts.{same_is, same_self, one}
 use Rattle.hop_words.proofs.Small.{here_or, put2-same, put2-other}
 use Rattle.hop_words.proofs.Histories.{prefix_refl}
@@ -53,10 +53,10 @@ stamp_apart m s n t ne e = ne (ap map_of_stamp e) (ap segment_of_stamp e)
 
 -- ---- what a holder of a lock knows
 module _ (a : About) (l : Known) (k : Lock) (held : l.locks ≡ k ∷ []) (w : Place → ℕ) (g : Ghost) (r : Rule a w g) (is : lane g.lanes l.cpu ≡ l) where
-  pub holds : Holds a (segment_in a) (words_of w) (λ n t. w (Stamp n t)) g.eras g.linked g.holder l.cpu k
-  holds = (subst (Each (Holds a (segment_in a) (words_of w) (λ n t. w (Stamp n t)) g.eras g.linked g.holder l.cpu)) (ap (λ (x : Known). x.locks) is ∙ held) (r.locking l.cpu)).0
+  pub holds : Holds a (segment_in a) (place_words w) (λ n t. w (Stamp n t)) g.eras g.linked g.holder l.cpu k
+  holds = (subst (Each (Holds a (segment_in a) (place_words w) (λ n t. w (Stamp n t)) g.eras g.linked g.holder l.cpu)) (ap (λ (x : Known). x.locks) is ∙ held) (r.locking l.cpu)).0
 
-  pub segment : Segment a (segment_in a) (words_of w) (w (Stamp k.map k.segment)) (g.eras k.map k.segment) k.map k.segment (g.linked k.map)
+  pub segment : Segment a (segment_in a) (place_words w) (w (Stamp k.map k.segment)) (g.eras k.map k.segment) k.map k.segment (g.linked k.map)
   segment = r.segments k.map k.segment holds.inside
 
   pub is_odd : w (Stamp k.map k.segment) % 2 ≡ 1
@@ -69,7 +69,7 @@ module _ (a : About) (l : Known) (k : Lock) (held : l.locks ≡ k ∷ []) (w : P
       go true d = let z = segment.written d in omega arith
       go false d = let z = (segment.clean d).0 in omega arith
 
-  pub alone : (d : ℕ) (k2 : Lock) → d ≢ l.cpu → Holds a (segment_in a) (words_of w) (λ n t. w (Stamp n t)) g.eras g.linked g.holder d k2 → k2.map ≡ k.map → k2.segment ≢ k.segment
+  pub alone : (d : ℕ) (k2 : Lock) → d ≢ l.cpu → Holds a (segment_in a) (place_words w) (λ n t. w (Stamp n t)) g.eras g.linked g.holder d k2 → k2.map ≡ k.map → k2.segment ≢ k.segment
   alone d k2 apart p h u = apart (sym p.writer ∙ (ap (λ (y : Era). y.writer) (λ j. g.eras (h j) (u j)) ∙ holds.writer))
 
 -- ---- unlock with the next version
@@ -80,7 +80,7 @@ module _ (a : About) (l : Known) (k : Lock) (held : l.locks ≡ k ∷ []) (w : P
   abbrev pub w' : Place → ℕ
   w' = put_at w (Stamp k.map k.segment) v
 
-  unlock_elsewhere : Elsewhere a k.map k.segment l.cpu (words_of w) (words_of w) (λ n t. w (Stamp n t)) (λ n t. w' (Stamp n t)) g.eras unlocked.eras g.linked g.linked g.holder g.holder
+  unlock_elsewhere : Elsewhere a k.map k.segment l.cpu (place_words w) (place_words w) (λ n t. w (Stamp n t)) (λ n t. w' (Stamp n t)) g.eras unlocked.eras g.linked g.linked g.holder g.holder
   unlock_elsewhere = record {
     stamps = λ n t ne. put_else w (Stamp k.map k.segment) (Stamp n t) v (stamp_apart k.map k.segment n t ne);
     same_eras = λ n t ne. put2-other g.eras k.map k.segment n t era' ne;
@@ -93,7 +93,7 @@ module _ (a : About) (l : Known) (k : Lock) (held : l.locks ≡ k ∷ []) (w : P
   }
 
   -- a segment that is given back as it was, or with what was written
-  unlock_rule : v % 2 ≡ 0 → Segment a (segment_in a) (words_of w) v era' k.map k.segment (g.linked k.map) → (g.eras k.map k.segment).era ≤ era'.era
+  unlock_rule : v % 2 ≡ 0 → Segment a (segment_in a) (place_words w) v era' k.map k.segment (g.linked k.map) → (g.eras k.map k.segment).era ≤ era'.era
       → ((i : ℕ) → i % 2 ≡ 0 → i ≤ (g.eras k.map k.segment).era → i ≡ era'.era → (i ≡ (g.eras k.map k.segment).era) × (era'.old ≡ (g.eras k.map k.segment).old))
       → (v / 256 + era'.credit ≤ a.version + done_in k.map g.log) → Rule a w' unlocked
   unlock_rule at_rest own up stays fair = record {
@@ -119,10 +119,10 @@ module _ (a : About) (l : Known) (k : Lock) (held : l.locks ≡ k ∷ []) (w : P
     owned = r.owned;
     linked = r.linked;
     filled = r.filled;
-    segments = segments_step a k.map k.segment l.cpu (words_of w) (words_of w) _ _ g.eras unlocked.eras g.linked g.linked g.holder g.holder unlock_elsewhere r.segments r.linked
-        (λ _. subst (λ (e : Era). Segment a (segment_in a) (words_of w) (w' (Stamp k.map k.segment)) e k.map k.segment (g.linked k.map)) (sym (put2-same g.eras k.map k.segment k.map k.segment era' refl refl))
-        (subst (λ (n : ℕ). Segment a (segment_in a) (words_of w) n era' k.map k.segment (g.linked k.map)) (sym (put_here w (Stamp k.map k.segment) v)) own));
-    locking = locking_step a k.map k.segment l.cpu (words_of w) (words_of w) _ _ g.eras unlocked.eras g.linked g.linked g.holder g.holder unlock_elsewhere g.lanes.locks [] r.locking (alone a l k held w g r is) tt;
+    segments = segments_step a k.map k.segment l.cpu (place_words w) (place_words w) _ _ g.eras unlocked.eras g.linked g.linked g.holder g.holder unlock_elsewhere r.segments r.linked
+        (λ _. subst (λ (e : Era). Segment a (segment_in a) (place_words w) (w' (Stamp k.map k.segment)) e k.map k.segment (g.linked k.map)) (sym (put2-same g.eras k.map k.segment k.map k.segment era' refl refl))
+        (subst (λ (n : ℕ). Segment a (segment_in a) (place_words w) n era' k.map k.segment (g.linked k.map)) (sym (put_here w (Stamp k.map k.segment) v)) own));
+    locking = locking_step a k.map k.segment l.cpu (place_words w) (place_words w) _ _ g.eras unlocked.eras g.linked g.linked g.holder g.holder unlock_elsewhere g.lanes.locks [] r.locking (alone a l k held w g r is) tt;
     held = held_step a k.map k.segment l.cpu _ _ g.eras unlocked.eras g.lanes.locks [] inside r.held (λ odd. absurd (let z : w' (Stamp k.map k.segment) % 2 ≡ v % 2 = ap (λ (n : ℕ). n % 2) (put_here w (Stamp k.map k.segment) v) in let e = at_rest in omega arith))
         (λ n t ne. (
           put_else w (Stamp k.map k.segment) (Stamp n t) v (stamp_apart k.map k.segment n t ne),
@@ -150,7 +150,7 @@ unlock_new a l k held w g r is inside owes written = (
       let y : w (Stamp k.map k.segment) / 256 ≡ (k.stamp + 1) / 256 = ap (λ (i : ℕ). i / 256) o in omega arith),
 )
   where
-    h : Holds a (segment_in a) (words_of w) (λ n t. w (Stamp n t)) g.eras g.linked g.holder l.cpu k
+    h : Holds a (segment_in a) (place_words w) (λ n t. w (Stamp n t)) g.eras g.linked g.holder l.cpu k
     h = holds a l k held w g r is
 
     era' : Era
@@ -159,7 +159,7 @@ unlock_new a l k held w g r is inside owes written = (
     share : IsShare a.seed (shape_at a k.map) (segment_in a k.map) (image a k.copy) k.map k.segment (g.linked k.map)
     share = share_same a.seed (shape_at a k.map) (segment_in a k.map) (image a k.copy) k.map k.segment (changed k.change h.due.0) (g.linked k.map) (λ q home. h.due.2 q home) (written h.due.0 h.due.1)
 
-    own : Segment a (segment_in a) (words_of w) (k.stamp + 256) era' k.map k.segment (g.linked k.map)
+    own : Segment a (segment_in a) (place_words w) (k.stamp + 256) era' k.map k.segment (g.linked k.map)
     own = record {
       at_rest = λ _. refl;
       clean = λ _. (
@@ -190,10 +190,10 @@ unlock_same a l k held w g r is inside none = (
       let y : w (Stamp k.map k.segment) / 256 ≡ (k.stamp + 1) / 256 = ap (λ (i : ℕ). i / 256) o in omega arith),
 )
   where
-    h : Holds a (segment_in a) (words_of w) (λ n t. w (Stamp n t)) g.eras g.linked g.holder l.cpu k
+    h : Holds a (segment_in a) (place_words w) (λ n t. w (Stamp n t)) g.eras g.linked g.holder l.cpu k
     h = holds a l k held w g r is
 
-    seg : Segment a (segment_in a) (words_of w) (w (Stamp k.map k.segment)) (g.eras k.map k.segment) k.map k.segment (g.linked k.map)
+    seg : Segment a (segment_in a) (place_words w) (w (Stamp k.map k.segment)) (g.eras k.map k.segment) k.map k.segment (g.linked k.map)
     seg = segment a l k held w g r is
 
     clean : (g.eras k.map k.segment).dirty ≡ false
@@ -202,7 +202,7 @@ unlock_same a l k held w g r is inside none = (
     era' : Era
     era' = record { era = (g.eras k.map k.segment).era; writer = l.cpu; dirty = false; credit = 0; old = (g.eras k.map k.segment).old }
 
-    own : Segment a (segment_in a) (words_of w) k.stamp era' k.map k.segment (g.linked k.map)
+    own : Segment a (segment_in a) (place_words w) k.stamp era' k.map k.segment (g.linked k.map)
     own = record {
       at_rest = λ _. refl;
       clean = λ _. ((let z = (seg.clean clean).0 in let o = h.locked in let e = h.even in omega arith), (seg.clean clean).1);
@@ -276,7 +276,7 @@ module _ (a : About) (l : Known) (m s old : ℕ) (at_s : IsSegment a m s) (even 
     eras = put g.eras m (put (g.eras m) s lock_era);
   }
 
-  lock_elsewhere : Elsewhere a m s l.cpu (words_of lw) (words_of lw) (λ n t. lw (Stamp n t)) (λ n t. lw' (Stamp n t)) g.eras locked_ghost.eras g.linked g.linked g.holder g.holder
+  lock_elsewhere : Elsewhere a m s l.cpu (place_words lw) (place_words lw) (λ n t. lw (Stamp n t)) (λ n t. lw' (Stamp n t)) g.eras locked_ghost.eras g.linked g.linked g.holder g.holder
   lock_elsewhere = record {
     stamps = λ n t ne. put_else lw (Stamp m s) (Stamp n t) (old + 1) (stamp_apart m s n t ne);
     same_eras = λ n t ne. put2-other g.eras m s n t lock_era ne;
@@ -288,14 +288,14 @@ module _ (a : About) (l : Known) (m s old : ℕ) (at_s : IsSegment a m s) (even 
     minded = λ n t b d apart ne mind. (mind, refl, λ j. refl);
   }
 
-  lock_seg : Segment a (segment_in a) (words_of lw) (lw (Stamp m s)) (g.eras m s) m s (g.linked m)
+  lock_seg : Segment a (segment_in a) (place_words lw) (lw (Stamp m s)) (g.eras m s) m s (g.linked m)
   lock_seg = r.segments m s at_s
 
   at_rest : (g.eras m s).dirty ≡ false
   at_rest = lock_seg.at_rest (ap (λ (n : ℕ). n % 2) found ∙ even)
 
   lock_share : IsShare a.seed (shape_at a m) (segment_in a m) (image a ws) m s (g.linked m)
-  lock_share = share_agrees a.seed (shape_at a m) (segment_in a m) (words_of lw) (g.eras m s).old m s (g.linked m) (lock_seg.clean at_rest).1 (lock_seg.shows at_rest)
+  lock_share = share_agrees a.seed (shape_at a m) (segment_in a m) (place_words lw) (g.eras m s).old m s (g.linked m) (lock_seg.clean at_rest).1 (lock_seg.shows at_rest)
 
   era_now : locked_ghost.eras m s ≡ lock_era
   era_now = put2-same g.eras m s m s lock_era refl refl
@@ -303,7 +303,7 @@ module _ (a : About) (l : Known) (m s old : ℕ) (at_s : IsSegment a m s) (even 
   stamp_now : lw' (Stamp m s) ≡ old + 1
   stamp_now = put_here lw (Stamp m s) (old + 1)
 
-  lock_held : Holds a (segment_in a) (words_of lw) (λ n t. lw' (Stamp n t)) locked_ghost.eras g.linked g.holder l.cpu new_lock
+  lock_held : Holds a (segment_in a) (place_words lw) (λ n t. lw' (Stamp n t)) locked_ghost.eras g.linked g.holder l.cpu new_lock
   lock_held = record {
     inside = at_s;
     even = even;
@@ -317,7 +317,7 @@ module _ (a : About) (l : Known) (m s old : ℕ) (at_s : IsSegment a m s) (even 
     due = (g.linked m, lock_share, λ q home. refl);
   }
 
-  nobody : (d : ℕ) (k2 : Lock) → d ≢ l.cpu → Holds a (segment_in a) (words_of lw) (λ n t. lw (Stamp n t)) g.eras g.linked g.holder d k2 → k2.map ≡ m → k2.segment ≢ s
+  nobody : (d : ℕ) (k2 : Lock) → d ≢ l.cpu → Holds a (segment_in a) (place_words lw) (λ n t. lw (Stamp n t)) g.eras g.linked g.holder d k2 → k2.map ≡ m → k2.segment ≢ s
   nobody d k2 apart p h u = let o : lw (Stamp k2.map k2.segment) ≡ k2.stamp + 1 = p.locked in let z = p.even in let y : lw (Stamp k2.map k2.segment) ≡ lw (Stamp m s) = λ j. lw (Stamp (h j) (u j)) in let f = found in let e = even in omega arith
 
   lock_rule : Rule a lw' locked_ghost
@@ -346,14 +346,14 @@ module _ (a : About) (l : Known) (m s old : ℕ) (at_s : IsSegment a m s) (even 
     owned = r.owned;
     linked = r.linked;
     filled = r.filled;
-    segments = segments_step a m s l.cpu (words_of lw) (words_of lw) _ _ g.eras locked_ghost.eras g.linked g.linked g.holder g.holder lock_elsewhere r.segments r.linked
-        (λ _. subst (λ (e : Era). Segment a (segment_in a) (words_of lw) (lw' (Stamp m s)) e m s (g.linked m)) (sym era_now) (record {
+    segments = segments_step a m s l.cpu (place_words lw) (place_words lw) _ _ g.eras locked_ghost.eras g.linked g.linked g.holder g.holder lock_elsewhere r.segments r.linked
+        (λ _. subst (λ (e : Era). Segment a (segment_in a) (place_words lw) (lw' (Stamp m s)) e m s (g.linked m)) (sym era_now) (record {
           at_rest = λ _. refl;
           clean = λ _. ((let z = (lock_seg.clean at_rest).0 in let f = found in let y = stamp_now in let e = even in omega arith), (lock_seg.clean at_rest).1);
           written = λ d. absurd (true≢false (sym d));
           shows = λ _. lock_seg.shows at_rest;
         }));
-    locking = locking_step a m s l.cpu (words_of lw) (words_of lw) _ _ g.eras locked_ghost.eras g.linked g.linked g.holder g.holder lock_elsewhere g.lanes.locks (new_lock ∷ []) r.locking nobody (lock_held, tt);
+    locking = locking_step a m s l.cpu (place_words lw) (place_words lw) _ _ g.eras locked_ghost.eras g.linked g.linked g.holder g.holder lock_elsewhere g.lanes.locks (new_lock ∷ []) r.locking nobody (lock_held, tt);
     held = held_step a m s l.cpu _ _ g.eras locked_ghost.eras g.lanes.locks (new_lock ∷ []) inside r.held (λ odd. (ap (λ (y : Era). y.writer) era_now, (let z = lock_once new_lock in omega arith)))
         (λ n t ne. (
           put_else lw (Stamp m s) (Stamp n t) (old + 1) (stamp_apart m s n t ne),
@@ -368,7 +368,7 @@ module _ (a : About) (l : Known) (m s old : ℕ) (at_s : IsSegment a m s) (even 
     valued = r.valued;
   }
 
-  key_words : (fs : List Fresh) → Each (λ (f : Fresh). Begins f.key (λ j. lw (KeyWord f.map f.element j)) × Begins f.value (λ j. lw (ValueWord f.map f.element j))) fs → Each (λ (f : Fresh). Begins f.key ((image a ws).key f.map f.element)) fs
+  key_words : (fs : List Fresh) → Each (λ (f : Fresh). StartsWith f.key (λ j. lw (KeyWord f.map f.element j)) × StartsWith f.value (λ j. lw (ValueWord f.map f.element j))) fs → Each (λ (f : Fresh). StartsWith f.key ((image a ws).key f.map f.element)) fs
   key_words [] p = tt
   key_words (f ∷ fs) p = (p.0.0, key_words fs p.1)
 
@@ -384,14 +384,14 @@ module _ (a : About) (l : Known) (m s old : ℕ) (at_s : IsSegment a m s) (even 
       let z : Filling l.cpu ≡ Within s = sym fill ∙ w in
       cc
 
-  lock_told : Locked a l m s old (lane locked_ghost.lanes l.cpu)
+  lock_told : LocksSegment a l m s old (lane locked_ghost.lanes l.cpu)
   lock_told = record {
     words = ws;
     sized = sized;
     after = rw (eq-eqb l.cpu l.cpu refl) (ap (λ (x : Known). record x { locks = new_lock ∷ []; tally = record l.tally { locks = l.tally.locks + 1 } }) is);
     content = g.linked m;
     share = lock_share;
-    filled = key_words l.fresh (subst (Each (λ (f : Fresh). Begins f.key (λ j. lw (KeyWord f.map f.element j)) × Begins f.value (λ j. lw (ValueWord f.map f.element j)))) (ap (λ (x : Known). x.fresh) is) (r.filled l.cpu inside));
+    filled = key_words l.fresh (subst (Each (λ (f : Fresh). StartsWith f.key (λ j. lw (KeyWord f.map f.element j)) × StartsWith f.value (λ j. lw (ValueWord f.map f.element j)))) (ap (λ (x : Known). x.fresh) is) (r.filled l.cpu inside));
     known = listing (elements (shape_at a m)) (λ e. is_within s (g.holder m e));
     known_is = λ e k.
         let b = listing_has (elements (shape_at a m)) (λ e. is_within s (g.holder m e)) e k in
@@ -406,10 +406,10 @@ module _ (a : About) (l : Known) (m s old : ℕ) (at_s : IsSegment a m s) (even 
   }
 
 pub lock : (a : About) (l : Known) (m s old : ℕ) → IsSegment a m s → old % 2 ≡ 0 → l.locks ≡ []
-    → Steps a l (Stamp m s) (λ n. either (n == old) (old + 1) n) (λ ws n l'. (n ≡ old → Locked a l m s old l') × (n ≢ old → l' ≡ l))
+    → Steps a l (Stamp m s) (λ n. either (n == old) (old + 1) n) (λ ws n l'. (n ≡ old → LocksSegment a l m s old l') × (n ≢ old → l' ≡ l))
 lock a l m s old at_s even idle ws g sized r is inside fits =
     let w = mem a.shape ws in
-    exchanged (w (Stamp m s)) old (old + 1) (λ n. Next a (put_at w (Stamp m s) n) g l.cpu (λ l'. (w (Stamp m s) ≡ old → Locked a l m s old l') × (w (Stamp m s) ≢ old → l' ≡ l)))
+    exchanged (w (Stamp m s)) old (old + 1) (λ n. Next a (put_at w (Stamp m s) n) g l.cpu (λ l'. (w (Stamp m s) ≡ old → LocksSegment a l m s old l') × (w (Stamp m s) ≢ old → l' ≡ l)))
     (λ found. record {
       ghost = locked_ghost a l m s old at_s even idle ws g sized r is inside found;
       rule = lock_rule a l m s old at_s even idle ws g sized r is inside found;

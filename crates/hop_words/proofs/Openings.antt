@@ -16,10 +16,10 @@ use Rattle.hop_words.specs.declared.known.About.{About}
 use Rattle.hop_words.specs.declared.known.Known.{Known}
 use Rattle.hop_words.specs.declared.known.View.{View}
 use Rattle.hop_words.specs.Layout.{mem, size}
-use Rattle.hop_words.specs.Content.{item, words_of, times, Reached, Follows, IsShare}
+use Rattle.hop_words.specs.Content.{item, place_words, times, Reached, LinksThrough, IsShare}
 use Rattle.hop_words.specs.Ghost.{segment_in, Free, Lanes, lane, Era, Ghost, shape_at, IsSegment, limbo_at, no_limbo}
 use Rattle.hop_words.specs.Rule.{Rule, Kept, times_limbo, Chained}
-use Rattle.hop_words.specs.Opens.{IsNew, no_limbos, no_tally, new_lane, lanes_from, opens}
+use Rattle.hop_words.specs.Opens.{AreNewWords, no_limbos, no_tally, new_lane, lanes_from, opens}
 use Rattle.hop_words.proofs.CountDown.{nothing_in}
 
 limbo_none : (n m : ℕ) → limbo_at (no_limbos n) m ≡ no_limbo
@@ -27,12 +27,12 @@ limbo_none zero m = refl
 limbo_none (suc n) zero = refl
 limbo_none (suc n) (suc m) = limbo_none n m
 
-module _ (a : About) (w : Place → ℕ) (i : IsNew a w) where
+module _ (a : About) (w : Place → ℕ) (i : AreNewWords a w) where
   new_lanes : Lanes
   new_lanes = record { seen = λ c. []; fresh = λ c. []; limbo = λ c. no_limbos (length a.shape.maps); locks = λ c. []; readings = λ c. []; tally = λ c. no_tally }
 
   new_era : ℕ → ℕ → Era
-  new_era m s = record { era = w (Stamp m s); writer = 0; dirty = false; credit = 0; old = words_of w }
+  new_era m s = record { era = w (Stamp m s); writer = 0; dirty = false; credit = 0; old = place_words w }
 
   abbrev new_ghost : Ghost
   new_ghost = record {
@@ -42,21 +42,21 @@ module _ (a : About) (w : Place → ℕ) (i : IsNew a w) where
     holder = λ m e. Free;
     number = λ m e. 0;
     linked = λ m key. None;
-    eras = λ m s. record { era = w (Stamp m s); writer = 0; dirty = false; credit = 0; old = words_of w };
+    eras = λ m s. record { era = w (Stamp m s); writer = 0; dirty = false; credit = 0; old = place_words w };
   }
 
   no_bit : (m s b d : ℕ) → IsSegment a m s → b < 64 → bit_at (w (Hop m s b)) d ≡ 1 → ⊥
   no_bit m s b d at_s lb one = let z : bit_at (w (Hop m s b)) d ≡ 0 = ap (λ (n : ℕ). bit_at n d) (i.hops m s b at_s lb) ∙ bit_at-zero d in omega arith
 
-  nothing_reached : (m s e : ℕ) → IsSegment a m s → Reached (words_of w) m s e → ⊥
+  nothing_reached : (m s e : ℕ) → IsSegment a m s → Reached (place_words w) m s e → ⊥
   nothing_reached m s e at_s (inl h) = no_bit m s h.0 h.1 at_s h.2.0 h.2.2
   nothing_reached m s e at_s (inr h) = go h.0 h.1 h.2
     where
-      go : (es : List ℕ) → Follows (λ d. w (Link m d)) (w (Head m s)) es → 1 ≤ times e es → ⊥
+      go : (es : List ℕ) → LinksThrough (λ d. w (Link m d)) (w (Head m s)) es → 1 ≤ times e es → ⊥
       go [] f has = omega arith
       go (x ∷ xs) f has = let z : None ≡ Some x = ap item (sym (i.heads m s at_s)) ∙ f.0 in cc
 
-  empty_share : (m s : ℕ) → IsSegment a m s → IsShare a.seed (shape_at a m) (segment_in a m) (words_of w) m s (λ key. None)
+  empty_share : (m s : ℕ) → IsSegment a m s → IsShare a.seed (shape_at a m) (segment_in a m) (place_words w) m s (λ key. None)
   empty_share m s at_s = record {
     sound = record {
       leads = λ b d lb ld one. absurd (no_bit m s b d at_s lb one);
@@ -109,7 +109,7 @@ from_lane a c zero k l e = absurd (some-ne-none l (sym e))
 from_lane a c (suc n) zero l e = (sym (some-injective _ l e) ∙ ap (new_lane a) (let z : c ≡ c + 0 = omega arith in z), omega arith)
 from_lane a c (suc n) (suc k) l e = let r = from_lane a (c + 1) n k l e in (r.0 ∙ ap (new_lane a) (let z : c + 1 + k ≡ c + suc k = omega arith in z), (let z = r.1 in omega arith))
 
-pub opening_kept : (a : About) (ws : List ℕ) → length ws ≡ size a.shape → IsNew a (mem a.shape ws) → Kept a (opening ws [] (opens a))
+pub opening_kept : (a : About) (ws : List ℕ) → length ws ≡ size a.shape → AreNewWords a (mem a.shape ws) → Kept a (opening ws [] (opens a))
 opening_kept a ws sized i = record {
   sized = sized;
   ghost = new_ghost a (mem a.shape ws) i;

@@ -14,9 +14,9 @@ use Rattle.hop_words.specs.declared.known.Known.{Known}
 use Rattle.hop_words.specs.declared.known.Fresh.{Fresh}
 use Rattle.hop_words.specs.declared.known.Lock.{Lock}
 use Rattle.hop_words.specs.Layout.{mem, put_at}
-use Rattle.hop_words.specs.Content.{Words, words_of, one_if}
+use Rattle.hop_words.specs.Content.{MapWords, place_words, one_if}
 use Rattle.hop_words.specs.Ghost.{segment_in, Holder, Free, Filling, Leaving, Within, is_free, is_filling, is_leaving, Carries, lane, Era, Ghost, IsElement, Each}
-use Rattle.hop_words.specs.Rule.{Rule, times_fresh, Linked, Begins, Minded, Holds, Locking, Valued}
+use Rattle.hop_words.specs.Rule.{Rule, times_fresh, Linked, StartsWith, Minded, Holds, Locking, Valued}
 use Rattle.hop_words.specs.Step.{Next, Steps}
 use Rattle.hop_words.specs.Kinds.{holding}
 use Rattle.hop_words.proofs.Small.{equal, here_or, put2-same, put2-other}
@@ -80,7 +80,7 @@ module _ (a : About) (holder : ℕ → ℕ → Holder) (m e : ℕ) (x y : Holder
       away : (n d : ℕ) → Carries (holder' n d) → n ≡ m → d ≢ e
       away n d has t u = ny (subst Carries (put2-same holder m e n d y t u) has)
 
-  pub locking_outside : (xw : Words) (stamp : ℕ → ℕ → ℕ) (eras : ℕ → ℕ → Era) (linked : ℕ → List ℕ → Option ℕ) (locks : ℕ → List Lock) → ((b : ℕ) → (locks b ≡ []) ⊎ ((t : ℕ) → Minded b t y → Minded b t x))
+  pub locking_outside : (xw : MapWords) (stamp : ℕ → ℕ → ℕ) (eras : ℕ → ℕ → Era) (linked : ℕ → List ℕ → Option ℕ) (locks : ℕ → List Lock) → ((b : ℕ) → (locks b ≡ []) ⊎ ((t : ℕ) → Minded b t y → Minded b t x))
       → Locking a (segment_in a) xw stamp eras linked holder locks → Locking a (segment_in a) xw stamp eras linked holder' locks
   locking_outside xw stamp eras linked locks fewer p b = ⊎_elim
       (λ (none : locks b ≡ []). subst (Each (Holds a (segment_in a) xw stamp eras linked holder' b)) (sym none) tt)
@@ -159,7 +159,7 @@ module _ (a : About) (l : Known) (m e : ℕ) (at_e : IsElement a m e) (ws : List
           (λ (ne : c ≢ l.cpu). subst (Each Has) (sym (put-other g.lanes.fresh l.cpu c fresh2 ne)) (r.filled c inc))
           (equal c l.cpu);
       segments = r.segments;
-      locking = locking_outside a g.holder m e Free (Filling l.cpu) was (words_of cw) (λ n t. cw (Stamp n t)) g.eras g.linked g.lanes.locks
+      locking = locking_outside a g.holder m e Free (Filling l.cpu) was (place_words cw) (λ n t. cw (Stamp n t)) g.eras g.linked g.lanes.locks
           (λ b. ⊎_elim (λ (t : b ≡ l.cpu). inl (ap g.lanes.locks t ∙ (ap (λ (z : Known). z.locks) is ∙ unlocked))) (λ (ne : b ≢ l.cpu). inr (λ t on. absurd (ne (sym on)))) (equal b l.cpu)) r.locking;
       reading = r.reading;
       held = r.held;
@@ -180,7 +180,7 @@ module _ (a : About) (l : Known) (m e : ℕ) (at_e : IsElement a m e) (ws : List
       g2 = record g { lanes = record g.lanes { fresh = put g.lanes.fresh l.cpu fresh2 }; holder = holder2 }
 
       Has : Fresh → Type 0
-      Has y = Begins y.key (λ j. cw (KeyWord y.map y.element j)) × Begins y.value (λ j. cw (ValueWord y.map y.element j))
+      Has y = StartsWith y.key (λ j. cw (KeyWord y.map y.element j)) × StartsWith y.value (λ j. cw (ValueWord y.map y.element j))
 
       own : (n d : ℕ) → IsElement a n d → times_fresh n d fresh2 ≡ one_if (is_filling l.cpu (holder2 n d))
       own n d l2 =

@@ -18,11 +18,11 @@ use Rattle.hop_words.specs.declared.known.Known.{Known}
 use Rattle.hop_words.specs.declared.known.Reading.{Reading}
 use Rattle.hop_words.specs.declared.known.Tally.{Tally}
 use Rattle.hop_words.specs.Layout.{mem, put_at, size}
-use Rattle.hop_words.specs.Content.{Words, words_of, Agrees, Reached}
+use Rattle.hop_words.specs.Content.{MapWords, place_words, Agrees, Reached}
 use Rattle.hop_words.specs.Ghost.{segment_in, Leaving, Within, Carries, lane, Ghost, shape_at, IsSegment, Each}
-use Rattle.hop_words.specs.Rule.{Rule, Segment, Reads, Readings, IsPeek, numbered, Runs, Batched, Valued}
+use Rattle.hop_words.specs.Rule.{Rule, Segment, IsSoundReading, Readings, IsPeek, numbered, Runs, Batched, Valued}
 use Rattle.hop_words.specs.Step.{Next, Steps}
-use Rattle.hop_words.specs.Kinds.{StampSeen, StampSeenAgain, disturbed_by, peeking, Finds, Found, span_at}
+use Rattle.hop_words.specs.Kinds.{StampSeen, StampSeenAgain, disturbed_by, peeking, FindsByPeeks, Found, found_span}
 use Rattle.hop_words.proofs.Small.{equal}
 use Rattle.hop_words.proofs.Histories.{logged_event, prefix_refl}
 use Rattle.hop_words.proofs.Comes.{in_limbo}
@@ -33,13 +33,13 @@ module _ (a : About) (w : Place → ℕ) (g : Ghost) (r : Rule a w g) (c : ℕ) 
   abbrev with_readings : List Reading → Tally → Ghost
   with_readings rs t = record g { lanes = record g.lanes { readings = put g.lanes.readings c rs; tally = put g.lanes.tally c t } }
 
-  put_readings : (rs : List Reading) → Each (Reads a g.eras) rs → Readings a g.eras (put g.lanes.readings c rs)
+  put_readings : (rs : List Reading) → Each (IsSoundReading a g.eras) rs → Readings a g.eras (put g.lanes.readings c rs)
   put_readings rs own d = ⊎_elim
-      (λ (t : d ≡ c). subst (Each (Reads a g.eras)) (sym (put-same g.lanes.readings c d rs t)) own)
-      (λ (ne : d ≢ c). subst (Each (Reads a g.eras)) (sym (put-other g.lanes.readings c d rs ne)) (r.reading d))
+      (λ (t : d ≡ c). subst (Each (IsSoundReading a g.eras)) (sym (put-same g.lanes.readings c d rs t)) own)
+      (λ (ne : d ≢ c). subst (Each (IsSoundReading a g.eras)) (sym (put-other g.lanes.readings c d rs ne)) (r.reading d))
       (equal d c)
 
-  read_rule : (rs : List Reading) (t : Tally) → Each (Reads a g.eras) rs → Rule a w (with_readings rs t)
+  read_rule : (rs : List Reading) (t : Tally) → Each (IsSoundReading a g.eras) rs → Rule a w (with_readings rs t)
   read_rule rs t own = record {
     shaped = r.shaped;
     logged = r.logged;
@@ -57,7 +57,7 @@ module _ (a : About) (w : Place → ℕ) (g : Ghost) (r : Rule a w g) (c : ℕ) 
     valued = r.valued;
   }
 
-  read_next : (p : Place) (told : Known → Type 0) (rs : List Reading) (t : Tally) → Each (Reads a g.eras) rs → told (record (lane g.lanes c) { readings = rs; tally = t }) → Next a (put_at w p (w p)) g c told
+  read_next : (p : Place) (told : Known → Type 0) (rs : List Reading) (t : Tally) → Each (IsSoundReading a g.eras) rs → told (record (lane g.lanes c) { readings = rs; tally = t }) → Next a (put_at w p (w p)) g c told
   read_next p told rs t own says = record {
     ghost = with_readings rs t;
     rule = subst (λ (v : Place → ℕ). Rule a v (with_readings rs t)) (sym (put_again w p)) (read_rule rs t own);
@@ -76,7 +76,7 @@ pub see_stamp : (a : About) (l : Known) (m s : ℕ) → IsSegment a m s → Step
 see_stamp a l m s at_s ws g sized r is inside fits =
     let w = mem a.shape ws in
     let n = w (Stamp m s) in
-    let seg : Segment a (segment_in a) (words_of w) n (g.eras m s) m s (g.linked m) = r.segments m s at_s in
+    let seg : Segment a (segment_in a) (place_words w) n (g.eras m s) m s (g.linked m) = r.segments m s at_s in
     ⊎_elim
     (λ (even : n % 2 ≡ 0). read_next a w g r l.cpu (Stamp m s) _ (record { map = m; segment = s; stamp = n; peeks = [] } ∷ []) l.tally
     (record { inside = at_s; even = even; behind = (let z = (seg.clean (seg.at_rest even)).0 in omega arith); stays = λ _. tt }, tt)
@@ -86,11 +86,11 @@ see_stamp a l m s at_s ws g sized r is inside fits =
     (even_or_odd n)
 
 -- the words at rest are those that stand there, while the era is the stamp noted
-pub at_era : (a : About) (w : Place → ℕ) (g : Ghost) (r : Rule a w g) (rd : Reading) → Reads a g.eras rd → rd.stamp ≡ (g.eras rd.map rd.segment).era
-    → ((g.eras rd.map rd.segment).dirty ≡ false) × Agrees rd.map rd.segment (Reached (g.eras rd.map rd.segment).old rd.map rd.segment) (words_of w) (g.eras rd.map rd.segment).old
+pub at_era : (a : About) (w : Place → ℕ) (g : Ghost) (r : Rule a w g) (rd : Reading) → IsSoundReading a g.eras rd → rd.stamp ≡ (g.eras rd.map rd.segment).era
+    → ((g.eras rd.map rd.segment).dirty ≡ false) × Agrees rd.map rd.segment (Reached (g.eras rd.map rd.segment).old rd.map rd.segment) (place_words w) (g.eras rd.map rd.segment).old
 at_era a w g r rd q same = (clean, (seg.clean clean).1)
   where
-    seg : Segment a (segment_in a) (words_of w) (w (Stamp rd.map rd.segment)) (g.eras rd.map rd.segment) rd.map rd.segment (g.linked rd.map)
+    seg : Segment a (segment_in a) (place_words w) (w (Stamp rd.map rd.segment)) (g.eras rd.map rd.segment) rd.map rd.segment (g.linked rd.map)
     seg = r.segments rd.map rd.segment q.inside
 
     go : (b : Bool) → (g.eras rd.map rd.segment).dirty ≡ b → b ≡ false
@@ -100,7 +100,7 @@ at_era a w g r rd q same = (clean, (seg.clean clean).1)
     clean : (g.eras rd.map rd.segment).dirty ≡ false
     clean = let d = go (g.eras rd.map rd.segment).dirty refl in d
 
-is_peek : (m s : ℕ) (w : Place → ℕ) (x : Words) → Agrees m s (Reached x m s) (words_of w) x → (p : Place) → IsPeek x m s p (w p)
+is_peek : (m s : ℕ) (w : Place → ℕ) (x : MapWords) → Agrees m s (Reached x m s) (place_words w) x → (p : Place) → IsPeek x m s p (w p)
 is_peek m s w x k (RunCount c) = tt
 is_peek m s w x k (KeyCount n) = tt
 is_peek m s w x k (FreeBits n i) = tt
@@ -115,13 +115,13 @@ is_peek m s w x k (ValueWord n e i) = tt
 pub peek : (a : About) (l : Known) (rd : Reading) (p : Place) → l.readings ≡ rd ∷ [] → Steps a l p (λ n. n) (λ ws n l'. l' ≡ peeking l rd p n)
 peek a l rd p reading ws g sized r is inside fits =
     let w = mem a.shape ws in
-    let q : Reads a g.eras rd = (subst (Each (Reads a g.eras)) (ap (λ (x : Known). x.readings) is ∙ reading) (r.reading l.cpu)).0 in
+    let q : IsSoundReading a g.eras rd = (subst (Each (IsSoundReading a g.eras)) (ap (λ (x : Known). x.readings) is ∙ reading) (r.reading l.cpu)).0 in
     read_next a w g r l.cpu p _ (record rd { peeks = record { place = p; number = w p } ∷ rd.peeks } ∷ []) l.tally
     (record { inside = q.inside; even = q.even; behind = q.behind; stays = λ same. (is_peek rd.map rd.segment w (g.eras rd.map rd.segment).old (at_era a w g r rd q same).1 p, q.stays same) }, tt)
     (ap (λ (x : Known). record x { readings = record rd { peeks = record { place = p; number = w p } ∷ rd.peeks } ∷ []; tally = l.tally }) is)
 
 -- ---- see stamp again: the lookup takes effect
-some_span : (s : Plain) (n : ℕ → ℕ) (a : About) (m : ℕ) (o : Option ℕ) → ((e : ℕ) → o ≡ Some e → (s.value (n e)).span ≡ element_span m (shape_at a m) e) → span_at a m o ≡ span_of s (numbered n o)
+some_span : (s : Plain) (n : ℕ → ℕ) (a : About) (m : ℕ) (o : Option ℕ) → ((e : ℕ) → o ≡ Some e → (s.value (n e)).span ≡ element_span m (shape_at a m) e) → found_span a m o ≡ span_of s (numbered n o)
 some_span s n a m None same = refl
 some_span s n a m (Some e) same = ap Some (sym (same e refl))
 
@@ -187,7 +187,7 @@ module _ (a : About) (w : Place → ℕ) (g : Ghost) (r : Rule a w g) (c m : ℕ
       quiet_runs : Runs a (λ d. w (RunCount d)) (g.log ++ entry c (Lookup m key sp) ∷ [])
       quiet_runs = quiet_after a (λ d. w (RunCount d)) g.log c (Lookup m key sp) r.runs refl
 
-  pub may_look : (o : Option ℕ) (key : List ℕ) → g.linked m key ≡ o → g.last.running c ≡ true → IsMap g.last.shape.maps m (shape_at a m) → length key ≡ (shape_at a m).key → Allowed g.last c (Lookup m key (span_at a m o)) (looking o)
+  pub may_look : (o : Option ℕ) (key : List ℕ) → g.linked m key ≡ o → g.last.running c ≡ true → IsMap g.last.shape.maps m (shape_at a m) → length key ≡ (shape_at a m).key → Allowed g.last c (Lookup m key (found_span a m o)) (looking o)
   may_look o key is runs there size =
       let at_key : get (g.last.maps m) key ≡ numbered (g.number m) o = r.keyed.leads m key ∙ ap (numbered (g.number m)) is in (
         runs,
@@ -198,7 +198,7 @@ module _ (a : About) (w : Place → ℕ) (g : Ghost) (r : Rule a w g) (c m : ℕ
         ),
       )
 
-pub see_again : (a : About) (l : Known) (rd : Reading) (key : List ℕ) (o : Option ℕ) → Finds a l rd key o
+pub see_again : (a : About) (l : Known) (rd : Reading) (key : List ℕ) (o : Option ℕ) → FindsByPeeks a l rd key o
     → Steps a l (Stamp rd.map rd.segment) (λ n. n) (λ ws n l'. StampSeenAgain a l rd key o n l')
 see_again a l rd key o f ws g sized r is inside fits = dite (ℕ_discrete (w (Stamp rd.map rd.segment)) rd.stamp) hit miss
   where
@@ -211,10 +211,10 @@ see_again a l rd key o f ws g sized r is inside fits = dite (ℕ_discrete (w (St
     more : Tally
     more = disturbed_by l.tally rd.map rd.segment rd.stamp (w (Stamp rd.map rd.segment))
 
-    q : Reads a g.eras rd
-    q = (subst (Each (Reads a g.eras)) (ap (λ (x : Known). x.readings) is ∙ f.reading) (r.reading l.cpu)).0
+    q : IsSoundReading a g.eras rd
+    q = (subst (Each (IsSoundReading a g.eras)) (ap (λ (x : Known). x.readings) is ∙ f.reading) (r.reading l.cpu)).0
 
-    seg : Segment a (segment_in a) (words_of w) (w (Stamp rd.map rd.segment)) (g.eras rd.map rd.segment) rd.map rd.segment (g.linked rd.map)
+    seg : Segment a (segment_in a) (place_words w) (w (Stamp rd.map rd.segment)) (g.eras rd.map rd.segment) rd.map rd.segment (g.linked rd.map)
     seg = r.segments rd.map rd.segment q.inside
 
     miss : w (Stamp rd.map rd.segment) ≢ rd.stamp → Next a (put_at w (Stamp rd.map rd.segment) (w (Stamp rd.map rd.segment))) g l.cpu told
@@ -230,7 +230,7 @@ see_again a l rd key o f ws g sized r is inside fits = dite (ℕ_discrete (w (St
     }
       where
         event : Event
-        event = Lookup rd.map key (span_at a rd.map o)
+        event = Lookup rd.map key (found_span a rd.map o)
 
         clean : (g.eras rd.map rd.segment).dirty ≡ false
         clean = seg.at_rest (let z = q.even in omega arith)
@@ -248,7 +248,7 @@ see_again a l rd key o f ws g sized r is inside fits = dite (ℕ_discrete (w (St
         g1 = record g { log = g.log ++ entry l.cpu event ∷ []; last = looking a w g r l.cpu rd.map o; lanes = record g.lanes { seen = put g.lanes.seen l.cpu (g.log ++ entry l.cpu event ∷ []) } }
 
         rule1 : Rule a w g1
-        rule1 = looked_rule a w g r l.cpu rd.map o key inside linked_is (span_at a rd.map o) may
+        rule1 = looked_rule a w g r l.cpu rd.map o key inside linked_is (found_span a rd.map o) may
 
         g2 : Ghost
         g2 = with_readings a w g1 rule1 l.cpu [] l.tally
@@ -259,7 +259,7 @@ see_again a l rd key o f ws g sized r is inside fits = dite (ℕ_discrete (w (St
             after : lane g2.lanes l.cpu ≡ record l { seen = g.log ++ entry l.cpu event ∷ []; readings = [] }
             after = rw (eq-eqb l.cpu l.cpu refl) (ap (λ (x : Known). record x { seen = g.log ++ entry l.cpu event ∷ []; readings = []; tally = l.tally }) is)
 
-pub see_again_at : (a : About) (l : Known) (rd : Reading) (m s : ℕ) (key : List ℕ) (o : Option ℕ) → rd.map ≡ m → rd.segment ≡ s → Finds a l rd key o
+pub see_again_at : (a : About) (l : Known) (rd : Reading) (m s : ℕ) (key : List ℕ) (o : Option ℕ) → rd.map ≡ m → rd.segment ≡ s → FindsByPeeks a l rd key o
     → Steps a l (Stamp m s) (λ n. n) (λ ws n l'. StampSeenAgain a l rd key o n l')
 see_again_at a l rd m s key o h u f =
     subst (λ (n : ℕ). Steps a l (Stamp n s) (λ n. n) (λ ws n l'. StampSeenAgain a l rd key o n l')) h

@@ -13,7 +13,7 @@ use Rattle.hop_words.specs.declared.known.Known.{Known}
 use Rattle.hop_words.specs.Layout.{mem, at, is_place, put_at}
 use Rattle.hop_words.specs.Ghost.{lane}
 use Rattle.hop_words.specs.Rule.{Seats, solo, Kept, Rule}
-use Rattle.hop_words.specs.Step.{Steps, Tells}
+use Rattle.hop_words.specs.Step.{Steps, TellsLane}
 use Rattle.hop_words.proofs.Layouts.{wrote}
 
 single : (x : Known) (j k : ℕ) (l m : Known) → get_elem? (x ∷ []) j ≡ some l → get_elem? (x ∷ []) k ≡ some m → j ≡ k
@@ -64,7 +64,7 @@ seats_step cpus log log' lanes lanes' views i l p here same others longer = reco
 -- a kind of step, as the table asks for it
 pub allows : (a : About) (slots id : ℕ) (l : Known) (p : Place) (f : ℕ → ℕ) (told : List ℕ → ℕ → Known → Type 0) (tells : ℕ → Known → Type 0) → is_place a.shape p ≡ true
     → ((ws : List ℕ) (n : ℕ) (x : Known) → told ws n x → tells n x)
-    → Steps a l p f told → Allows (Kept a) slots id (solo l, []) (at a.shape p) f (Tells l.cpu tells)
+    → Steps a l p f told → Allows (Kept a) slots id (solo l, []) (at a.shape p) f (TellsLane l.cpu tells)
 allows a slots id l p f told tells here less step s k size_is spot fits =
     let h = a.shape in
     let known = k.seats.known id 0 (solo l) l spot refl in

@@ -7,20 +7,20 @@ use Rattle.hop_words.specs.declared.known.About.{About}
 use Rattle.hop_words.specs.declared.known.Lock.{Lock}
 use Rattle.hop_words.specs.declared.known.Reading.{Reading}
 use Rattle.hop_words.specs.declared.known.Peek.{Peek}
-use Rattle.hop_words.specs.Content.{one_if, Words, IsShare, Agrees}
+use Rattle.hop_words.specs.Content.{one_if, MapWords, IsShare, Agrees}
 use Rattle.hop_words.specs.Ghost.{segment_in, Holder, Within, Era, shape_at, IsSegment, Each}
-use Rattle.hop_words.specs.Rule.{Segment, Segments, Minded, Holds, Locking, IsPeek, Reads, Readings, Linked, Held, times_lock}
+use Rattle.hop_words.specs.Rule.{Segment, Segments, Minded, Holds, Locking, IsPeek, IsSoundReading, Readings, Linked, Held, times_lock}
 use Rattle.hop_words.proofs.Small.{equal, here_or}
 
 -- a share speaks of the keys that are at home in the segment, and of no others
-pub share_same : (seed : ℕ) (g : MapShape) (home : List ℕ → ℕ) (x : Words) (m s : ℕ) (f f' : List ℕ → Option ℕ) → ((q : List ℕ) → home q ≡ s → f' q ≡ f q) → IsShare seed g home x m s f → IsShare seed g home x m s f'
+pub share_same : (seed : ℕ) (g : MapShape) (home : List ℕ → ℕ) (x : MapWords) (m s : ℕ) (f f' : List ℕ → Option ℕ) → ((q : List ℕ) → home q ≡ s → f' q ≡ f q) → IsShare seed g home x m s f → IsShare seed g home x m s f'
 share_same seed g home x m s f f' same p = record {
   sound = p.sound;
   each = λ e r. let k = p.each e r in (k.0, k.1, k.2, same k.0 k.2 ∙ k.3);
   all = λ q e is here. p.all q e (sym (same q here) ∙ is) here;
 }
 
-pub agrees_on : (m s : ℕ) (on on' : ℕ → Type 0) (x x' y : Words) → Agrees m s on x y → x'.head m s ≡ x.head m s → ((b : ℕ) → x'.hop m s b ≡ x.hop m s b) → ((b : ℕ) → x'.slot m s b ≡ x.slot m s b)
+pub agrees_on : (m s : ℕ) (on on' : ℕ → Type 0) (x x' y : MapWords) → Agrees m s on x y → x'.head m s ≡ x.head m s → ((b : ℕ) → x'.hop m s b ≡ x.hop m s b) → ((b : ℕ) → x'.slot m s b ≡ x.slot m s b)
     → ((e : ℕ) → on' e → on e × (x'.link m e ≡ x.link m e) × ((k : ℕ) → x'.key m e k ≡ x.key m e k)) → Agrees m s on' x' y
 agrees_on m s on on' x x' y p head hop slot el = record {
   head = head ∙ p.head;
@@ -31,7 +31,7 @@ agrees_on m s on on' x x' y p head hop slot el = record {
 }
 
 -- away from the segment s of the map m, the step of the CPU c changes nothing that others mind
-pub record Elsewhere (a : About) (m s c : ℕ) (x x' : Words) (stamp stamp' : ℕ → ℕ → ℕ) (eras eras' : ℕ → ℕ → Era) (linked linked' : ℕ → List ℕ → Option ℕ) (holder holder' : ℕ → ℕ → Holder) : Type 0 where
+pub record Elsewhere (a : About) (m s c : ℕ) (x x' : MapWords) (stamp stamp' : ℕ → ℕ → ℕ) (eras eras' : ℕ → ℕ → Era) (linked linked' : ℕ → List ℕ → Option ℕ) (holder holder' : ℕ → ℕ → Holder) : Type 0 where
   pub stamps : (n t : ℕ) → (n ≡ m → t ≢ s) → stamp' n t ≡ stamp n t
   pub same_eras : (n t : ℕ) → (n ≡ m → t ≢ s) → eras' n t ≡ eras n t
   pub keys : (n t : ℕ) (q : List ℕ) → (n ≡ m → t ≢ s) → segment_in a n q ≡ t → linked' n q ≡ linked n q
@@ -41,7 +41,7 @@ pub record Elsewhere (a : About) (m s c : ℕ) (x x' : Words) (stamp stamp' : �
   pub within : (n t e : ℕ) → (n ≡ m → t ≢ s) → holder n e ≡ Within t → (x'.link n e ≡ x.link n e) × ((k : ℕ) → x'.key n e k ≡ x.key n e k)
   pub minded : (n t d e : ℕ) → d ≢ c → (n ≡ m → t ≢ s) → Minded d t (holder' n e) → Minded d t (holder n e) × (x'.link n e ≡ x.link n e) × ((k : ℕ) → x'.key n e k ≡ x.key n e k)
 
-module _ (a : About) (m s c : ℕ) (x x' : Words) (stamp stamp' : ℕ → ℕ → ℕ) (eras eras' : ℕ → ℕ → Era) (linked linked' : ℕ → List ℕ → Option ℕ) (holder holder' : ℕ → ℕ → Holder)
+module _ (a : About) (m s c : ℕ) (x x' : MapWords) (stamp stamp' : ℕ → ℕ → ℕ) (eras eras' : ℕ → ℕ → Era) (linked linked' : ℕ → List ℕ → Option ℕ) (holder holder' : ℕ → ℕ → Holder)
     (w : Elsewhere a m s c x x' stamp stamp' eras eras' linked linked' holder holder') where
   pub segments_step : Segments a (segment_in a) x stamp eras linked → Linked a (segment_in a) linked holder → (IsSegment a m s → Segment a (segment_in a) x' (stamp' m s) (eras' m s) m s (linked' m)) → Segments a (segment_in a) x' stamp' eras' linked'
   segments_step p l own n t inside = ⊎_elim
@@ -100,7 +100,7 @@ pub record Upward (m s : ℕ) (eras eras' : ℕ → ℕ → Era) : Type 0 where
   pub up : (eras m s).era ≤ (eras' m s).era
   pub stays : (i : ℕ) → i % 2 ≡ 0 → i ≤ (eras m s).era → i ≡ (eras' m s).era → (i ≡ (eras m s).era) × ((eras' m s).old ≡ (eras m s).old)
 
-reads_step : (a : About) (m s : ℕ) (eras eras' : ℕ → ℕ → Era) (r : Reading) → Upward m s eras eras' → Reads a eras r → Reads a eras' r
+reads_step : (a : About) (m s : ℕ) (eras eras' : ℕ → ℕ → Era) (r : Reading) → Upward m s eras eras' → IsSoundReading a eras r → IsSoundReading a eras' r
 reads_step a m s eras eras' r u p = ⊎_elim
     (λ (h : (r.map ≡ m) × (r.segment ≡ s)). record {
       inside = p.inside;
@@ -108,7 +108,7 @@ reads_step a m s eras eras' r u p = ⊎_elim
       behind = (let b = p.behind in let z = ap (λ (e : Era). e.era) (λ i. eras (h.0 i) (h.1 i)) in let z' = ap (λ (e : Era). e.era) (λ i. eras' (h.0 i) (h.1 i)) in let t = u.up in omega arith);
       stays = λ is. (let z : (eras r.map r.segment) ≡ (eras m s) = λ i. eras (h.0 i) (h.1 i) in let z' : (eras' r.map r.segment) ≡ (eras' m s) = λ i. eras' (h.0 i) (h.1 i) in
           let k = u.stays r.stamp p.even (subst (λ (e : Era). r.stamp ≤ e.era) z p.behind) (is ∙ ap (λ (e : Era). e.era) z') in
-          subst (λ (x : Words). Each (λ (y : Peek). IsPeek x r.map r.segment y.place y.number) r.peeks) (sym (ap (λ (e : Era). e.old) z' ∙ (k.1 ∙ sym (ap (λ (e : Era). e.old) z)))) (p.stays (k.0 ∙ sym (ap (λ (e : Era). e.era) z))));
+          subst (λ (x : MapWords). Each (λ (y : Peek). IsPeek x r.map r.segment y.place y.number) r.peeks) (sym (ap (λ (e : Era). e.old) z' ∙ (k.1 ∙ sym (ap (λ (e : Era). e.old) z)))) (p.stays (k.0 ∙ sym (ap (λ (e : Era). e.era) z))));
     })
     (λ (ne : r.map ≡ m → r.segment ≢ s). let same : eras' r.map r.segment ≡ eras r.map r.segment = u.same_eras r.map r.segment ne in record {
       inside = p.inside;
@@ -121,7 +121,7 @@ reads_step a m s eras eras' r u p = ⊎_elim
 pub readings_step : (a : About) (m s : ℕ) (eras eras' : ℕ → ℕ → Era) (readings : ℕ → List Reading) → Upward m s eras eras' → Readings a eras readings → Readings a eras' readings
 readings_step a m s eras eras' readings u p c = go (readings c) (p c)
   where
-    go : (rs : List Reading) → Each (Reads a eras) rs → Each (Reads a eras') rs
+    go : (rs : List Reading) → Each (IsSoundReading a eras) rs → Each (IsSoundReading a eras') rs
     go [] q = tt
     go (r ∷ rs) q = (reads_step a m s eras eras' r u q.0, go rs q.1)
 

@@ -2,7 +2,7 @@
 use Rattle.std.proofs.Common.{◌≡◌, ℕ, ◌≤◌, List, [], ◌∷◌, Option, Some, None, ◌==◌, refl, ap, sym, subst, ◌∙◌, arith, eq-eqb, inl, inr}
 use Rattle.std.specs.Int.{bit_at}
 use Rattle.bpf_shared.specs.declared.shapes.MapShape.{MapShape}
-use Rattle.hop_words.specs.Content.{Words, one_if, times, item, HopsTo, Follows, Reached, HasKey, IsShare, Agrees}
+use Rattle.hop_words.specs.Content.{MapWords, one_if, times, item, HopsTo, LinksThrough, Reached, HasKey, IsShare, Agrees}
 
 pub times_head : (e : ℕ) (es : List ℕ) → 1 ≤ times e (e ∷ es)
 times_head e es = let z : one_if (e == e) ≡ 1 = ap one_if (eq-eqb e e refl) in omega arith
@@ -10,31 +10,31 @@ times_head e es = let z : one_if (e == e) ≡ 1 = ap one_if (eq-eqb e e refl) in
 pub times_tail : (e f : ℕ) (es : List ℕ) → 1 ≤ times e es → 1 ≤ times e (f ∷ es)
 times_tail e f es h = omega arith
 
-follows_same : (link link' : ℕ → ℕ) (n : ℕ) (es : List ℕ) → ((e : ℕ) → 1 ≤ times e es → link' e ≡ link e) → Follows link n es → Follows link' n es
+follows_same : (link link' : ℕ → ℕ) (n : ℕ) (es : List ℕ) → ((e : ℕ) → 1 ≤ times e es → link' e ≡ link e) → LinksThrough link n es → LinksThrough link' n es
 follows_same link link' n [] same p = p
-follows_same link link' n (e ∷ es) same p = (p.0, subst (λ (k : ℕ). Follows link' k es) (sym (same e (times_head e es))) (follows_same link link' (link e) es (λ f h. same f (times_tail f e es h)) p.1))
+follows_same link link' n (e ∷ es) same p = (p.0, subst (λ (k : ℕ). LinksThrough link' k es) (sym (same e (times_head e es))) (follows_same link link' (link e) es (λ f h. same f (times_tail f e es h)) p.1))
 
 pub some_once : (e f : ℕ) → Some e ≡ Some f → e ≡ f
 some_once e f h = cc
 
-pub one_list : (link : ℕ → ℕ) (n : ℕ) (es fs : List ℕ) → Follows link n es → Follows link n fs → es ≡ fs
+pub one_list : (link : ℕ → ℕ) (n : ℕ) (es fs : List ℕ) → LinksThrough link n es → LinksThrough link n fs → es ≡ fs
 one_list link n [] [] p q = refl
 one_list link n [] (f ∷ fs) p q = let z : None ≡ Some f = sym p ∙ q.0 in cc
 one_list link n (e ∷ es) [] p q = let z : None ≡ Some e = sym q ∙ p.0 in cc
 one_list link n (e ∷ es) (f ∷ fs) p q =
     let h : e ≡ f = some_once e f (sym p.0 ∙ q.0) in
-    let t = one_list link (link e) es fs p.1 (subst (λ (k : ℕ). Follows link (link k) fs) (sym h) q.1) in
+    let t = one_list link (link e) es fs p.1 (subst (λ (k : ℕ). LinksThrough link (link k) fs) (sym h) q.1) in
     λ i. h i ∷ t i
 
-module _ (seed : ℕ) (g : MapShape) (home : List ℕ → ℕ) (x y : Words) (m s : ℕ) (f : List ℕ → Option ℕ) (k : Agrees m s (Reached y m s) x y) (p : IsShare seed g home y m s f) where
+module _ (seed : ℕ) (g : MapShape) (home : List ℕ → ℕ) (x y : MapWords) (m s : ℕ) (f : List ℕ → Option ℕ) (k : Agrees m s (Reached y m s) x y) (p : IsShare seed g home y m s f) where
   hops_back : (b d e : ℕ) → HopsTo x m s b d e → HopsTo y m s b d e
   hops_back b d e h = (h.0, h.1, sym (ap (λ n. bit_at n d) (k.hop b)) ∙ h.2, ap item (sym (k.slot _)) ∙ h.3)
 
   hops_on : (b d e : ℕ) → HopsTo y m s b d e → HopsTo x m s b d e
   hops_on b d e h = (h.0, h.1, ap (λ n. bit_at n d) (k.hop b) ∙ h.2, ap item (k.slot _) ∙ h.3)
 
-  list_on : (es : List ℕ) → Follows (y.link m) (y.head m s) es → Follows (x.link m) (x.head m s) es
-  list_on es h = subst (λ (n : ℕ). Follows (x.link m) n es) (sym k.head) (follows_same (y.link m) (x.link m) (y.head m s) es (λ e t. k.link e (inr (es, h, t))) h)
+  list_on : (es : List ℕ) → LinksThrough (y.link m) (y.head m s) es → LinksThrough (x.link m) (x.head m s) es
+  list_on es h = subst (λ (n : ℕ). LinksThrough (x.link m) n es) (sym k.head) (follows_same (y.link m) (x.link m) (y.head m s) es (λ e t. k.link e (inr (es, h, t))) h)
 
   reached_on : (e : ℕ) → Reached y m s e → Reached x m s e
   reached_on e (inl h) = inl (h.0, h.1, hops_on h.0 h.1 e h.2)

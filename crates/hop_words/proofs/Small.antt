@@ -11,7 +11,7 @@ use Rattle.bpf_base.specs.Bytes.{little_endian, low_bytes}
 use Rattle.bpf_shared.specs.Store.{put}
 use Rattle.bpf_shared.proofs.Puts.{put-same, put-other}
 use Rattle.hop_words.specs.Layout.{map_shape, no_map}
-use Rattle.hop_words.specs.Homes.{AreBytes, word_of, spelled}
+use Rattle.hop_words.specs.Homes.{AreBytes, word_of, bytes_of_words}
 use Rattle.hop_words.specs.Rule.{key_is, put_key}
 use Rattle.hop_words.proofs.Layouts.{both}
 
@@ -133,7 +133,7 @@ spans_apart h m n e f is lm ln le lf ne a x y =
         (λ nl. dite (dec_lt f e) (λ (l : f < e). let k = next_on f e (element_stride (map_shape h m)) l in omega arith) (λ nr. d (grind arith)))
 
 -- ---- bytes in words
-pub spelled_same : (n : ℕ) (f g : ℕ → ℕ) → ((k : ℕ) → k < n → f k ≡ g k) → spelled n f ≡ spelled n g
+pub spelled_same : (n : ℕ) (f g : ℕ → ℕ) → ((k : ℕ) → k < n → f k ≡ g k) → bytes_of_words n f ≡ bytes_of_words n g
 spelled_same zero f g e = refl
 spelled_same (suc n) f g e =
     let a = ap (low_bytes 8) (e 0 (omega arith)) in
@@ -168,13 +168,13 @@ word_later : (bs : List ℕ) (k : ℕ) → word_of bs (k + 1) ≡ word_of (drop 
 word_later bs k = ap (λ (l : List ℕ). little_endian (take 8 l)) (ap (λ (n : ℕ). drop n bs) (let z : 8 * (k + 1) ≡ 8 + 8 * k = omega arith in z) ∙ sym (drop-drop (8 * k) 8 bs))
 
 -- the words of bytes spell these bytes
-pub spelled_back : (n : ℕ) (bs : List ℕ) → AreBytes bs → length bs ≤ 8 * n → take (length bs) (spelled n (word_of bs)) ≡ bs
+pub spelled_back : (n : ℕ) (bs : List ℕ) → AreBytes bs → length bs ≤ 8 * n → take (length bs) (bytes_of_words n (word_of bs)) ≡ bs
 spelled_back zero [] b l = refl
 spelled_back zero (x ∷ bs) b l = absurd (omega arith)
 spelled_back (suc n) bs b l = back_by (λ xs c k. spelled_back n xs c k)
   where
     rest : List ℕ
-    rest = spelled n (λ k. word_of bs (k + 1))
+    rest = bytes_of_words n (λ k. word_of bs (k + 1))
 
     first : List ℕ
     first = low_bytes 8 (little_endian (take 8 bs))
@@ -187,7 +187,7 @@ spelled_back (suc n) bs b l = back_by (λ xs c k. spelled_back n xs c k)
         let all : take 8 bs ≡ bs = take_all 8 bs (grind arith) in
         take-append-le (length bs) first rest (grind arith) ∙ (ap (λ (x : List ℕ). take (length bs) (low_bytes 8 (little_endian x))) all ∙ low_of 8 bs b (grind arith))
 
-    long : ((xs : List ℕ) → AreBytes xs → length xs ≤ 8 * n → take (length xs) (spelled n (word_of xs)) ≡ xs) → 8 < length bs → take (length bs) (first ++ rest) ≡ bs
+    long : ((xs : List ℕ) → AreBytes xs → length xs ≤ 8 * n → take (length xs) (bytes_of_words n (word_of xs)) ≡ xs) → 8 < length bs → take (length bs) (first ++ rest) ≡ bs
     long again l8 =
         let front : length (take 8 bs) ≡ 8 = length-take-le 8 bs (omega arith) in
         let full : first ≡ take 8 bs = sym (take_all 8 first (omega arith)) ∙ (ap (λ (k : ℕ). take k first) (sym front) ∙ low_of 8 (take 8 bs) (bytes_take 8 bs b) (omega arith)) in
@@ -198,5 +198,5 @@ spelled_back (suc n) bs b l = back_by (λ xs c k. spelled_back n xs c k)
         ∙ ((λ i. full i ++ take (length (drop 8 bs)) (spelled_same n (λ k. word_of bs (k + 1)) (word_of (drop 8 bs)) (λ k _. word_later bs k) i))
         ∙ (ap (λ (x : List ℕ). take 8 bs ++ x) (again (drop 8 bs) (bytes_drop 8 bs b) (omega arith)) ∙ take-append-drop 8 bs)))
 
-    back_by : ((xs : List ℕ) → AreBytes xs → length xs ≤ 8 * n → take (length xs) (spelled n (word_of xs)) ≡ xs) → take (length bs) (first ++ rest) ≡ bs
+    back_by : ((xs : List ℕ) → AreBytes xs → length xs ≤ 8 * n → take (length xs) (bytes_of_words n (word_of xs)) ≡ xs) → take (length bs) (first ++ rest) ≡ bs
     back_by again = dite (dec_lt 8 (length bs)) (long again) short

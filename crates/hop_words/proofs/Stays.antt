@@ -12,9 +12,10 @@ use Rattle.hop_words.specs.declared.known.About.{About}
 use Rattle.hop_words.specs.declared.known.Known.{Known}
 use Rattle.hop_words.specs.Layout.{put_at, same_place}
 use Rattle.hop_words.specs.Ghost.{Filling, Carries, lane, Era, Ghost, shape_at, IsElement}
-use Rattle.hop_words.specs.Rule.{Rule, turns_of, Logged, Runs, Worn, numbered}
+use Rattle.hop_words.specs.Rule.{Rule, Logged, Runs, Worn, numbered}
+use Rattle.bpf_shared.specs.Own.{turns_of, in_run}
 use Rattle.hop_words.specs.Step.{Next}
-use Rattle.hop_words.specs.Kinds.{in_run, Saw}
+use Rattle.hop_words.specs.Kinds.{Saw}
 use Rattle.hop_words.proofs.Layouts.{same_is}
 use Rattle.hop_words.proofs.Small.{map_is, spans_apart, equal, here_or}
 use Rattle.hop_words.proofs.Histories.{rest_has_none, turns_own, turns_else, runs_as_known, shape_after, prefix_refl, done_in-append}

@@ -13,7 +13,7 @@ use Rattle.hop_words.specs.Layout.{mem, put_at}
 use Rattle.hop_words.specs.Ghost.{lane, Ghost, IsElement, limbo_at}
 use Rattle.hop_words.specs.Step.{Next, Steps}
 use Rattle.hop_words.specs.Kinds.{holding, cleared}
-use Rattle.hop_words.specs.Owning.{sighted, Claims, LooksAgain}
+use Rattle.hop_words.specs.Owning.{sighted, ClaimsBit, LooksAgain}
 use Rattle.hop_words.proofs.Owners.{claim_bit}
 use Rattle.hop_words.proofs.Turns.{see_counter_again}
 
@@ -59,8 +59,8 @@ pub with_sight : (a : About) (l : Known) (p : Place) (f : ℕ → ℕ) (told : L
     → Steps a l p f (λ ws n l'. (x : Known) × told ws n x × (l' ≡ sighted x (s n)))
 with_sight a l p f told s step ws g sized r is inside fits = seen_next a (put_at (mem a.shape ws) p (f (mem a.shape ws p))) g l.cpu (told ws (mem a.shape ws p)) (s (mem a.shape ws p)) (step ws g sized r is inside fits)
 
-pub claims : (a : About) (l : Known) (m e : ℕ) → IsElement a m e → l.locks ≡ [] → Steps a l (FreeBits m (e / 64)) (λ n. bit_and n (2 ^ 64 - 1 - 2 ^ (e % 64))) (λ ws n l'. Claims l m e n l')
-claims a l m e at_e unlocked = told_as a l (FreeBits m (e / 64)) (λ n. bit_and n (2 ^ 64 - 1 - 2 ^ (e % 64))) (λ ws n l'. Seen n l') (λ ws n l'. Claims l m e n l') less
+pub claims : (a : About) (l : Known) (m e : ℕ) → IsElement a m e → l.locks ≡ [] → Steps a l (FreeBits m (e / 64)) (λ n. bit_and n (2 ^ 64 - 1 - 2 ^ (e % 64))) (λ ws n l'. ClaimsBit l m e n l')
+claims a l m e at_e unlocked = told_as a l (FreeBits m (e / 64)) (λ n. bit_and n (2 ^ 64 - 1 - 2 ^ (e % 64))) (λ ws n l'. Seen n l') (λ ws n l'. ClaimsBit l m e n l') less
     (with_sight a l (FreeBits m (e / 64)) (λ n. bit_and n (2 ^ 64 - 1 - 2 ^ (e % 64))) (λ ws n y. Told n y) (λ n. Bits m (e / 64) n) (claim_bit a l m e at_e unlocked))
   where
     Told : ℕ → Known → Type 0
@@ -69,7 +69,7 @@ claims a l m e at_e unlocked = told_as a l (FreeBits m (e / 64)) (λ n. bit_and 
     Seen : ℕ → Known → Type 0
     Seen n l' = (y : Known) × Told n y × (l' ≡ sighted y (Bits m (e / 64) n))
 
-    less : (ws : List ℕ) (n : ℕ) (l' : Known) → Seen n l' → Claims l m e n l'
+    less : (ws : List ℕ) (n : ℕ) (l' : Known) → Seen n l' → ClaimsBit l m e n l'
     less ws n l' t = ((λ one. t.2 ∙ ap (λ (y : Known). sighted y (Bits m (e / 64) n)) (t.1.0 one)), (λ none. t.2 ∙ ap (λ (y : Known). sighted y (Bits m (e / 64) n)) (t.1.1 none)))
 
 pub looks_again : (a : About) (l : Known) (m d : ℕ) → m < length l.limbo → d < length (limbo_at l.limbo m).noted → Steps a l (RunCount d) (λ n. n) (λ ws n l'. LooksAgain l m d n l')

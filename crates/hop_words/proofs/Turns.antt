@@ -16,9 +16,10 @@ use Rattle.hop_words.specs.declared.known.Limbo.{Limbo}
 use Rattle.hop_words.specs.Layout.{mem, put_at}
 use Rattle.hop_words.specs.Content.{one_if, times}
 use Rattle.hop_words.specs.Ghost.{is_leaving, lane, Ghost, IsElement, limbo_at}
-use Rattle.hop_words.specs.Rule.{Rule, turns_of, Runs, Chained, times_limbo}
+use Rattle.hop_words.specs.Rule.{Rule, Runs, Chained, times_limbo}
+use Rattle.bpf_shared.specs.Own.{turns_of, in_run}
 use Rattle.hop_words.specs.Step.{Next, Steps}
-use Rattle.hop_words.specs.Kinds.{in_run, count_of, Told, noting_next, ageing, cleared, limbo_set}
+use Rattle.hop_words.specs.Kinds.{run_count, Told, noting_next, ageing, cleared, limbo_set}
 use Rattle.hop_words.proofs.Small.{equal}
 use Rattle.hop_words.proofs.Histories.{logged_event, runs_as_known, turns_own, turns_else, prefix_refl}
 use Rattle.hop_words.proofs.Goes.{limbo_put}
@@ -30,7 +31,7 @@ module _ (a : About) (l : Known) (w : Place → ℕ) (g : Ghost) (r : Rule a w g
   own = ap (events_of l.cpu) (sym (ap (λ (x : Known). x.seen) is)) ∙ r.logged.own l.cpu inside
 
   -- the own counter is the one that the own events tell
-  pub own_count : w (RunCount l.cpu) ≡ count_of a l
+  pub own_count : w (RunCount l.cpu) ≡ run_count a l
   own_count = r.runs l.cpu inside ∙ ap (λ es. a.count + turns_of es) (sym own)
 
   pub runs_now : g.last.running l.cpu ≡ in_run (events_of l.cpu l.seen)
@@ -99,14 +100,14 @@ module _ (a : About) (l : Known) (w : Place → ℕ) (g : Ghost) (r : Rule a w g
       says = subst (Told a l e) (sym (rw (eq-eqb l.cpu l.cpu refl) (ap (λ (z : Known). record z { seen = g.log ++ entry l.cpu e ∷ [] }) is))) (record { seen = saw a w g r l is inside e t may turn_rule.logged; after = refl });
     }
 
-pub count_begin : (a : About) (l : Known) → in_run (events_of l.cpu l.seen) ≡ false → count_of a l + 1 < 2 ^ 64 → Steps a l (RunCount l.cpu) (λ n. (n + 1) % 2 ^ 64) (λ ws n l'. Told a l Begin l')
+pub count_begin : (a : About) (l : Known) → in_run (events_of l.cpu l.seen) ≡ false → run_count a l + 1 < 2 ^ 64 → Steps a l (RunCount l.cpu) (λ n. (n + 1) % 2 ^ 64) (λ ws n l'. Told a l Begin l')
 count_begin a l idle room ws g sized r is inside fits =
     let w = mem a.shape ws in
     let c = own_count a l w g r is inside in
     turn_next a l w g r is inside Begin refl (after_begin g.last l.cpu) (subst (λ h. l.cpu < h.cpus) (sym (shape_is a w g r l is inside)) inside, runs_now a l w g r is inside ∙ idle, refl)
     ((w (RunCount l.cpu) + 1) % 2 ^ 64) (omega arith) refl refl refl refl
 
-pub count_end : (a : About) (l : Known) → in_run (events_of l.cpu l.seen) ≡ true → count_of a l + 1 < 2 ^ 64 → Steps a l (RunCount l.cpu) (λ n. (n + 1) % 2 ^ 64) (λ ws n l'. Told a l End l')
+pub count_end : (a : About) (l : Known) → in_run (events_of l.cpu l.seen) ≡ true → run_count a l + 1 < 2 ^ 64 → Steps a l (RunCount l.cpu) (λ n. (n + 1) % 2 ^ 64) (λ ws n l'. Told a l End l')
 count_end a l running room ws g sized r is inside fits =
     let w = mem a.shape ws in
     let c = own_count a l w g r is inside in
@@ -114,7 +115,7 @@ count_end a l running room ws g sized r is inside fits =
     ((w (RunCount l.cpu) + 1) % 2 ^ 64) (omega arith) refl refl refl refl
 
 -- a load of the own counter
-pub see_own_count : (a : About) (l : Known) → Steps a l (RunCount l.cpu) (λ n. n) (λ ws n l'. (n ≡ count_of a l) × (l' ≡ l))
+pub see_own_count : (a : About) (l : Known) → Steps a l (RunCount l.cpu) (λ n. n) (λ ws n l'. (n ≡ run_count a l) × (l' ≡ l))
 see_own_count a l ws g sized r is inside fits = stay a (mem a.shape ws) g l.cpu (RunCount l.cpu) _ r (own_count a l (mem a.shape ws) g r is inside, is)
 
 -- ---- see counter: only what the lane has of one map changes, and in it only the batches

@@ -1,5 +1,5 @@
 -- Unlock: with what was written, with an answer that changed nothing, and with a replacement.
-use Rattle.std.proofs.Common.{◌≡◌, ◌≢◌, ℕ, ◌+◌, ◌/◌, ◌<◌, ◌≤◌, Bool, true, false, not, ◌&&◌, cond, List, [], ◌∷◌, ◌++◌, Option, Some, None, is_some, ◌==◌, length, set, take, slice_index, refl, ap, sym, subst, ◌∙◌, arith, eq-eqb, ne_eqb, ⊎_elim}
+use Rattle.std.proofs.Common.{◌≡◌, ◌≢◌, ℕ, ◌+◌, ◌/◌, ◌<◌, ◌≤◌, Bool, true, false, not, ◌&&◌, cond, List, [], ◌∷◌, ◌++◌, Option, Some, None, is_some, ◌==◌, length, set, take, refl, ap, sym, subst, ◌∙◌, arith, eq-eqb, ne_eqb, ⊎_elim}
 use Rattle.std.proofs.lemmas.Bool.Decides.{nat_tests}
 use Rattle.std.proofs.lemmas.Cmp.{nat_list_cmp_total}
 use Rattle.std.specs.FinMap.{get, insert, len, len-insert}
@@ -13,7 +13,7 @@ use Rattle.bpf_shared.specs.Events.{Allowed, after_update}
 use Rattle.bpf_shared.specs.History.{entry}
 use Rattle.bpf_shared.proofs.Puts.{put-same, put-other, insert_cases}
 use Rattle.hop_words.specs.declared.place.Place.{Place}
-use Rattle.hop_words.specs.declared.place.Place.TheVariants.{RunCount, KeyCount, FreeBits, Stamp, KeyWord, ValueWord}
+use Rattle.hop_words.specs.declared.place.Place.TheVariants.{RunCount, KeyCount, FreeBits, Stamp, ValueWord}
 use Rattle.hop_words.specs.declared.known.About.{About}
 use Rattle.hop_words.specs.declared.known.Known.{Known}
 use Rattle.hop_words.specs.declared.known.Fresh.{Fresh}
@@ -21,13 +21,15 @@ use Rattle.hop_words.specs.declared.known.Limbo.{Limbo}
 use Rattle.hop_words.specs.declared.known.Lock.{Lock}
 use Rattle.hop_words.specs.declared.known.Change.TheVariants.{Puts}
 use Rattle.hop_words.specs.Layout.{mem, put_at, words_for}
-use Rattle.hop_words.specs.Homes.{segment_of, spelled, word_of}
-use Rattle.hop_words.specs.Content.{words_of}
-use Rattle.hop_words.specs.Ghost.{segment_in, Holder, Filling, Leaving, Within, lane, Era, Ghost, shape_at, IsElement, Each, limbo_at}
-use Rattle.hop_words.specs.Rule.{Rule, Minded, put_key, changed, owed, Holds, numbered, Keyed, Owned, Linked, Begins, turns_of, done_in}
+use Rattle.hop_words.specs.Homes.{segment_of, bytes_of_words}
+use Rattle.hop_words.specs.Content.{place_words}
+use Rattle.hop_words.specs.Ghost.{segment_in, Holder, Filling, Leaving, Within, lane, Era, Ghost, shape_at, IsElement, limbo_at}
+use Rattle.hop_words.specs.Rule.{Rule, Minded, put_key, changed, owed, Holds, numbered, Keyed, Owned, Linked, done_in}
+use Rattle.bpf_shared.specs.Own.{turns_of}
 use Rattle.hop_words.specs.Step.{Next, Steps}
-use Rattle.hop_words.specs.Kinds.{Replaces, Replaced, Answers, Answered, IsWritten, unlocking, with_gone, LooksUp, LookedUp, span_at}
-use Rattle.hop_words.proofs.Small.{equal_keys, equal, here_or, put2-same, put2-other, put_key-same, put_key-other, spelled_same, spelled_back}
+use Rattle.hop_words.specs.Kinds.{Replaces, Replaced, Answers, Answered, IsWritten, unlocking, with_gone, LooksUpLocked, LookedUp, found_span}
+use Rattle.hop_words.proofs.Small.{equal_keys, equal, here_or, put2-same, put2-other, put_key-same, put_key-other}
+use Rattle.hop_words.proofs.Spelling.{value_spelled}
 use Rattle.hop_words.proofs.Histories.{logged_event, prefix_refl, done_in-append}
 use Rattle.hop_words.proofs.Comes.{leads_new, in_hand, now_old, now_new, linked_comes, owned_comes, batched_comes, filled_rest, valued_comes}
 use Rattle.hop_words.proofs.Goes.{with_used, owned_goes, cut_old, linked_goes, batched_goes, valued_goes}
@@ -97,7 +99,7 @@ unlock_answer a l k e i ws g sized r is inside fits = record {
     w : Place → ℕ
     w = mem a.shape ws
 
-    h : Holds a (segment_in a) (words_of w) (λ n t. w (Stamp n t)) g.eras g.linked g.holder l.cpu k
+    h : Holds a (segment_in a) (place_words w) (λ n t. w (Stamp n t)) g.eras g.linked g.holder l.cpu k
     h = holds a l k i.lock w g r is
 
     may : Allowed g.last l.cpu e g.last
@@ -136,7 +138,7 @@ unlock_answer a l k e i ws g sized r is inside fits = record {
     after = rw (eq-eqb l.cpu l.cpu refl) (ap (λ (x : Known). record x { seen = log'; locks = [] }) is)
 
 -- ---- a lookup under the lock
-pub unlock_lookup : (a : About) (l : Known) (k : Lock) (key : List ℕ) (o : Option ℕ) → LooksUp a l k key o → Steps a l (Stamp k.map k.segment) (λ _. k.stamp) (λ ws n l'. LookedUp a l k key o l')
+pub unlock_lookup : (a : About) (l : Known) (k : Lock) (key : List ℕ) (o : Option ℕ) → LooksUpLocked a l k key o → Steps a l (Stamp k.map k.segment) (λ _. k.stamp) (λ ws n l'. LookedUp a l k key o l')
 unlock_lookup a l k key o i ws g sized r is inside fits = record {
   ghost = unlocked a l2 k i.lock w g1 r1 is1 inside u.0 k.stamp;
   rule = u.1;
@@ -148,11 +150,11 @@ unlock_lookup a l k key o i ws g sized r is inside fits = record {
     w : Place → ℕ
     w = mem a.shape ws
 
-    h : Holds a (segment_in a) (words_of w) (λ n t. w (Stamp n t)) g.eras g.linked g.holder l.cpu k
+    h : Holds a (segment_in a) (place_words w) (λ n t. w (Stamp n t)) g.eras g.linked g.holder l.cpu k
     h = holds a l k i.lock w g r is
 
     event : Event
-    event = Lookup k.map key (span_at a k.map o)
+    event = Lookup k.map key (found_span a k.map o)
 
     linked_is : g.linked k.map key ≡ o
     linked_is = h.due.2 key i.home ∙ (ap (λ y. changed y h.due.0 key) (h.untouched i.clean).1 ∙ i.shown h.due.0 h.due.1)
@@ -170,7 +172,7 @@ unlock_lookup a l k key o i ws g sized r is inside fits = record {
     g1 = record g { log = log'; last = looking a w g r l.cpu k.map o; lanes = record g.lanes { seen = put g.lanes.seen l.cpu log' } }
 
     r1 : Rule a w g1
-    r1 = looked_rule a w g r l.cpu k.map o key inside linked_is (span_at a k.map o) may
+    r1 = looked_rule a w g r l.cpu k.map o key inside linked_is (found_span a k.map o) may
 
     is1 : lane g1.lanes l.cpu ≡ l2
     is1 = rw (eq-eqb l.cpu l.cpu refl) (ap (λ (x : Known). record x { seen = log' }) is)
@@ -193,7 +195,7 @@ module _ (a : About) (l : Known) (k : Lock) (f : Fresh) (rest : List Fresh) (key
   abbrev e : ℕ
   e = f.element
 
-  h : Holds a (segment_in a) (words_of w) (λ n t. w (Stamp n t)) g.eras g.linked g.holder l.cpu k
+  h : Holds a (segment_in a) (place_words w) (λ n t. w (Stamp n t)) g.eras g.linked g.holder l.cpu k
   h = holds a l k i.lock w g r is
 
   there : g.linked m key ≡ Some o
@@ -363,20 +365,9 @@ module _ (a : About) (l : Known) (k : Lock) (f : Fresh) (rest : List Fresh) (key
     ),
   )
 
-  spelled_is : x ≡ record { bytes = take (shape_at a m).value (spelled (words_for (shape_at a m).value) (λ j. w (ValueWord m e j))); span = element_span m (shape_at a m) e }
-  spelled_is = ap (λ (b : List ℕ). record { bytes = b; span = element_span m (shape_at a m) e }) (sym (
-      ap (take (shape_at a m).value) (spelled_same (words_for (shape_at a m).value) (λ j. w (ValueWord m e j)) (word_of bytes) (λ j lt. words j lt ∙ i.value j lt))
-      ∙ (ap (λ (n : ℕ). take n (spelled (words_for (shape_at a m).value) (word_of bytes))) (sym i.size)
-      ∙ spelled_back (words_for (shape_at a m).value) bytes i.are_bytes (let z = i.size in omega arith))))
-    where
-      Has : Fresh → Type 0
-      Has y = Begins y.key (λ j. w (KeyWord y.map y.element j)) × Begins y.value (λ j. w (ValueWord y.map y.element j))
-
-      in_it : Has f
-      in_it = (subst (Each Has) hand (r.filled l.cpu inside)).0
-
-      words : (j : ℕ) → j < words_for (shape_at a m).value → w (ValueWord m e j) ≡ slice_index f.value j
-      words j lt = ap (λ (n : ℕ). w (ValueWord n e j)) (sym i.map) ∙ in_it.1 j (let z = i.filled in omega arith)
+  spelled_is : x ≡ record { bytes = take (shape_at a m).value (bytes_of_words (words_for (shape_at a m).value) (λ j. w (ValueWord m e j))); span = element_span m (shape_at a m) e }
+  spelled_is = ap (λ (b : List ℕ). record { bytes = b; span = element_span m (shape_at a m) e })
+      (sym (value_spelled a w f rest m bytes (g.lanes.fresh l.cpu) hand (r.filled l.cpu inside) i.map i.filled i.value i.size i.are_bytes))
 
   -- the event has taken effect, and the lock is still there
   swap_rule : Rule a w g'

@@ -20,10 +20,11 @@ use Rattle.hop_words.specs.declared.known.About.{About}
 use Rattle.hop_words.specs.declared.known.Known.{Known}
 use Rattle.hop_words.specs.declared.known.Fresh.{Fresh}
 use Rattle.hop_words.specs.Layout.{mem, put_at, words_for}
-use Rattle.hop_words.specs.Homes.{spelled}
+use Rattle.hop_words.specs.Homes.{bytes_of_words}
 use Rattle.hop_words.specs.Content.{one_if}
 use Rattle.hop_words.specs.Ghost.{Carries, lane, Ghost, shape_at, IsElement, Each}
-use Rattle.hop_words.specs.Rule.{Rule, turns_of, Begins, Filled, times_fresh, Valued}
+use Rattle.hop_words.specs.Rule.{Rule, StartsWith, Filled, times_fresh, Valued}
+use Rattle.bpf_shared.specs.Own.{turns_of}
 use Rattle.hop_words.specs.Step.{Next, Steps}
 use Rattle.hop_words.specs.Kinds.{Touches, value_at, found_in, Told}
 use Rattle.hop_words.proofs.Small.{here_or}
@@ -66,7 +67,7 @@ module _ (a : About) (l : Known) (m e k o b : ℕ) (i : Touches a l m e k o b) (
   abbrev v : ℕ
   v = g.number m e
 
-  value_is : g.last.value v ≡ record { bytes = take (shape_at a m).value (spelled (words_for (shape_at a m).value) (λ j. w (ValueWord m e j))); span = element_span m (shape_at a m) e }
+  value_is : g.last.value v ≡ record { bytes = take (shape_at a m).value (bytes_of_words (words_for (shape_at a m).value) (λ j. w (ValueWord m e j))); span = element_span m (shape_at a m) e }
   value_is = r.valued.lies m e i.element lies_here.0
 
   span_is : (g.last.value v).span ≡ element_span m (shape_at a m) e
@@ -100,27 +101,27 @@ module _ (a : About) (l : Known) (m e k o b : ℕ) (i : Touches a l m e k o b) (
     words_else : (n d : ℕ) → (n ≡ m → d ≢ e) → (let f : ℕ → ℕ = λ j. w2 (ValueWord n d j) in let h : ℕ → ℕ = λ j. w (ValueWord n d j) in f ≡ h)
     words_else n d ne = λ t j. put_else w (ValueWord m e k) (ValueWord n d j) x (λ q. ne (ap map_of q) (ap element_of q)) t
 
-    bytes_now : with_part (g.last.value v).bytes (value_at a m e k o - (g.last.value v).span.at) (low_bytes b y) ≡ take (shape_at a m).value (spelled (words_for (shape_at a m).value) (λ j. w2 (ValueWord m e j)))
+    bytes_now : with_part (g.last.value v).bytes (value_at a m e k o - (g.last.value v).span.at) (low_bytes b y) ≡ take (shape_at a m).value (bytes_of_words (words_for (shape_at a m).value) (λ j. w2 (ValueWord m e j)))
     bytes_now =
         ap (λ (n : ℕ). with_part (g.last.value v).bytes n (low_bytes b y)) offset_is
         ∙ (ap (λ (z : Value). with_part z.bytes (8 * k + o) (low_bytes b y)) value_is
         ∙ (sym (value_put (shape_at a m).value (words_for (shape_at a m).value) k o x (λ j. w (ValueWord m e j)) (low_bytes b y) i.word (omega arith)
         (let z = length-low b y in let f = i.fits in omega arith) (let z = length-low b y in let f = i.within in omega arith) splices)
-        ∙ ap (λ (f : ℕ → ℕ). take (shape_at a m).value (spelled (words_for (shape_at a m).value) f)) (sym words_here)))
+        ∙ ap (λ (f : ℕ → ℕ). take (shape_at a m).value (bytes_of_words (words_for (shape_at a m).value) f)) (sym words_here)))
 
     valued2 : Valued a (λ n d j. w2 (ValueWord n d j)) last2.made last2.value last2.held g.holder g.number
     valued2 = record {
       lies = λ n d at_d has. ⊎_elim
           (λ (h : (n ≡ m) × (d ≡ e)). subst (λ (z : ℕ). lying z d) (sym h.0) (subst (lying m) (sym h.1) lies_now))
           (λ (ne : n ≡ m → d ≢ e). put-other g.last.value v (g.number n d) _ (λ q. let one = number_once a w g r m e n d i.element at_d lies_here.0 has q in ne one.0 one.1)
-          ∙ (r.valued.lies n d at_d has ∙ ap (λ (f : ℕ → ℕ). record { bytes = take (shape_at a n).value (spelled (words_for (shape_at a n).value) f); span = element_span n (shape_at a n) d }) (sym (words_else n d ne))))
+          ∙ (r.valued.lies n d at_d has ∙ ap (λ (f : ℕ → ℕ). record { bytes = take (shape_at a n).value (bytes_of_words (words_for (shape_at a n).value) f); span = element_span n (shape_at a n) d }) (sym (words_else n d ne))))
           (here_or m n e d);
       older = r.valued.older;
       held_in = r.valued.held_in;
     }
       where
         lying : ℕ → ℕ → Type 0
-        lying n d = last2.value (g.number n d) ≡ record { bytes = take (shape_at a n).value (spelled (words_for (shape_at a n).value) (λ j. w2 (ValueWord n d j))); span = element_span n (shape_at a n) d }
+        lying n d = last2.value (g.number n d) ≡ record { bytes = take (shape_at a n).value (bytes_of_words (words_for (shape_at a n).value) (λ j. w2 (ValueWord n d j))); span = element_span n (shape_at a n) d }
 
         lies_now : lying m e
         lies_now = put-same g.last.value v v _ refl ∙ (λ j. record { bytes = bytes_now j; span = span_is j })
@@ -137,8 +138,8 @@ module _ (a : About) (l : Known) (m e k o b : ℕ) (i : Touches a l m e k o b) (
             subst Carries ((λ j. g.holder (sym t j) (sym u j)) ∙ is_f) lies_here.0
 
         go : (fs : List Fresh) → ((f : Fresh) → 1 ≤ times_fresh f.map f.element fs → 1 ≤ times_fresh f.map f.element (g.lanes.fresh c))
-            → Each (λ (f : Fresh). Begins f.key (λ j. w (KeyWord f.map f.element j)) × Begins f.value (λ j. w (ValueWord f.map f.element j))) fs
-            → Each (λ (f : Fresh). Begins f.key (λ j. w (KeyWord f.map f.element j)) × Begins f.value (λ j. w2 (ValueWord f.map f.element j))) fs
+            → Each (λ (f : Fresh). StartsWith f.key (λ j. w (KeyWord f.map f.element j)) × StartsWith f.value (λ j. w (ValueWord f.map f.element j))) fs
+            → Each (λ (f : Fresh). StartsWith f.key (λ j. w (KeyWord f.map f.element j)) × StartsWith f.value (λ j. w2 (ValueWord f.map f.element j))) fs
         go [] all p = tt
         go (f ∷ fs) all p = (
           (p.0.0, λ j lt. ap (λ (h : ℕ → ℕ). h j) (words_else f.map f.element (apart f (all f here))) ∙ p.0.1 j lt),

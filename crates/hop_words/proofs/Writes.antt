@@ -8,7 +8,7 @@ use Rattle.hop_words.specs.declared.known.Known.{Known}
 use Rattle.hop_words.specs.declared.known.Fresh.{Fresh}
 use Rattle.hop_words.specs.declared.known.Lock.{Lock}
 use Rattle.hop_words.specs.Layout.{mem, at, is_place, put_at}
-use Rattle.hop_words.specs.Content.{words_of, one_if, times, Agrees}
+use Rattle.hop_words.specs.Content.{place_words, one_if, times, Agrees}
 use Rattle.hop_words.specs.Ghost.{segment_in, Filling, Leaving, Within, lane, Era, Ghost, IsElement, limbo_at}
 use Rattle.hop_words.specs.Rule.{Rule, Segment, Minded, Holds, image, Worn, Runs, Keyed, Batched, Chained, times_limbo, Owned, Filled, Valued, Segments, Locking, Held, times_lock}
 use Rattle.hop_words.specs.Step.{Next, Steps}
@@ -63,16 +63,16 @@ module _ (a : About) (l : Known) (k : Lock) (held : l.locks ≡ k ∷ []) (p : P
   abbrev pub g' : Ghost
   g' = record g { lanes = record g.lanes { locks = put g.lanes.locks l.cpu (k' ∷ []) }; eras = put g.eras k.map (put (g.eras k.map) k.segment era') }
 
-  h : Holds a (segment_in a) (words_of w) (stamps w) g.eras g.linked g.holder l.cpu k
+  h : Holds a (segment_in a) (place_words w) (stamps w) g.eras g.linked g.holder l.cpu k
   h = holds a l k held w g r is
 
   now_era : g'.eras k.map k.segment ≡ era'
   now_era = put2-same g.eras k.map k.segment k.map k.segment era' refl refl
 
-  copy_is : image a (slice_set k.copy (at a.shape p) n) ≡ words_of (put_at (mem a.shape k.copy) p n)
-  copy_is = ap words_of (wrote a.shape k.copy p n h.sized there)
+  copy_is : image a (slice_set k.copy (at a.shape p) n) ≡ place_words (put_at (mem a.shape k.copy) p n)
+  copy_is = ap place_words (wrote a.shape k.copy p n h.sized there)
 
-  own_lock : Holds a (segment_in a) (words_of w') (stamps w) g'.eras g.linked g.holder l.cpu k'
+  own_lock : Holds a (segment_in a) (place_words w') (stamps w) g'.eras g.linked g.holder l.cpu k'
   own_lock = record {
     inside = h.inside;
     even = h.even;
@@ -82,7 +82,7 @@ module _ (a : About) (l : Known) (k : Lock) (held : l.locks ≡ k ∷ []) (p : P
     credit = ap (λ (y : Era). y.credit) now_era ∙ h.credit;
     untouched = λ d. absurd (true≢false d);
     sized = length-set k.copy (at a.shape p) n ∙ h.sized;
-    copied = subst (Agrees k.map k.segment (λ e. Minded l.cpu k.segment (g.holder k.map e)) (words_of w')) (sym copy_is) (record {
+    copied = subst (Agrees k.map k.segment (λ e. Minded l.cpu k.segment (g.holder k.map e)) (place_words w')) (sym copy_is) (record {
       head = put_alike w (mem a.shape k.copy) p (Head k.map k.segment) n h.copied.head;
       hop = λ b. put_alike w (mem a.shape k.copy) p (Hop k.map k.segment b) n (h.copied.hop b);
       slot = λ b. put_alike w (mem a.shape k.copy) p (Slot k.map k.segment b) n (h.copied.slot b);
@@ -93,7 +93,7 @@ module _ (a : About) (l : Known) (k : Lock) (held : l.locks ≡ k ∷ []) (p : P
   }
 
   -- after a write of a word that nobody else minds
-  pub write_next : Alone w w' → Elsewhere a k.map k.segment l.cpu (words_of w) (words_of w') (stamps w) (stamps w) g.eras g'.eras g.linked g.linked g.holder g.holder
+  pub write_next : Alone w w' → Elsewhere a k.map k.segment l.cpu (place_words w) (place_words w') (stamps w) (stamps w) g.eras g'.eras g.linked g.linked g.holder g.holder
       → Batched a (λ m e. w' (Link m e)) (run_counts w) g.lanes.limbo g.last.held g.number → l.cpu < a.shape.cpus → Next a w' g l.cpu (λ l'. l' ≡ writing a l k p n)
   write_next same apart links inside = record {
     ghost = g';
@@ -110,16 +110,16 @@ module _ (a : About) (l : Known) (k : Lock) (held : l.locks ≡ k ∷ []) (p : P
       owned = subst (λ x. Owned a x g.lanes.fresh g.lanes.limbo g.holder) (sym same.free_same) r.owned;
       linked = r.linked;
       filled = subst (λ x. Filled a x (value_words w') g.lanes.fresh) (sym same.keys_same) (subst (λ x. Filled a (key_words w) x g.lanes.fresh) (sym same.values_same) r.filled);
-      segments = subst (λ x. Segments a (segment_in a) (words_of w') x g'.eras g.linked) (sym same.stamps_same)
-          (segments_step a k.map k.segment l.cpu (words_of w) (words_of w') (stamps w) (stamps w) g.eras g'.eras g.linked g.linked g.holder g.holder apart r.segments r.linked
-          (λ _. subst (λ (y : Era). Segment a (segment_in a) (words_of w') (w (Stamp k.map k.segment)) y k.map k.segment (g.linked k.map)) (sym now_era) (record {
+      segments = subst (λ x. Segments a (segment_in a) (place_words w') x g'.eras g.linked) (sym same.stamps_same)
+          (segments_step a k.map k.segment l.cpu (place_words w) (place_words w') (stamps w) (stamps w) g.eras g'.eras g.linked g.linked g.holder g.holder apart r.segments r.linked
+          (λ _. subst (λ (y : Era). Segment a (segment_in a) (place_words w') (w (Stamp k.map k.segment)) y k.map k.segment (g.linked k.map)) (sym now_era) (record {
             at_rest = λ even. absurd (let o = is_odd a l k held w g r is in omega arith);
             clean = λ d. absurd (true≢false d);
             written = λ d. refl;
             shows = λ d. absurd (true≢false d);
           })));
-      locking = subst (λ x. Locking a (segment_in a) (words_of w') x g'.eras g.linked g.holder g'.lanes.locks) (sym same.stamps_same)
-          (locking_step a k.map k.segment l.cpu (words_of w) (words_of w') (stamps w) (stamps w) g.eras g'.eras g.linked g.linked g.holder g.holder apart g.lanes.locks (k' ∷ []) r.locking (alone a l k held w g r is) (own_lock, tt));
+      locking = subst (λ x. Locking a (segment_in a) (place_words w') x g'.eras g.linked g.holder g'.lanes.locks) (sym same.stamps_same)
+          (locking_step a k.map k.segment l.cpu (place_words w) (place_words w') (stamps w) (stamps w) g.eras g'.eras g.linked g.linked g.holder g.holder apart g.lanes.locks (k' ∷ []) r.locking (alone a l k held w g r is) (own_lock, tt));
       held = subst (λ x. Held a x g'.eras g'.lanes.locks) (sym same.stamps_same) (held_step a k.map k.segment l.cpu (stamps w) (stamps w) g.eras g'.eras g.lanes.locks (k' ∷ []) inside r.held (λ odd. (ap (λ (y : Era). y.writer) now_era, (let z = lock_once k' in omega arith)))
           (λ n t ne. (refl, put2-other g.eras k.map k.segment n t era' ne, ap (times_lock n t) (sym (ap (λ (z : Known). z.locks) is ∙ held)))));
       reading = readings_step a k.map k.segment g.eras g'.eras g.lanes.readings (record {

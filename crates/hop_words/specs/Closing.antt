@@ -11,11 +11,11 @@ use Rattle.hop_words.specs.declared.closing.Returned.TheInside.{Inside as InRetu
 use Rattle.hop_words.specs.declared.closing.Rest.TheInside.{Inside as InRest}
 use Rattle.hop_words.specs.Layout.{size}
 use Rattle.hop_words.specs.Dealing.{Dealing}
-use Rattle.hop_words.specs.Seats.{Sat, view, nobody, Learned, IsWhole}
+use Rattle.hop_words.specs.Seats.{Sat, view, empty_view, Learned, KeepsWholeHistory}
 
 -- what a new seat and a seat that learns are told
 abbrev pub came : Step (Unit {0}) → Sat → ℕ → Sat → Type 0
-came st m n m' = m'.0 ≡ nobody
+came st m n m' = m'.0 ≡ empty_view
 
 abbrev pub learned : Step (Unit {0}) → Sat → ℕ → Sat → Type 0
 learned st m n m' = Learned m m'
@@ -49,4 +49,4 @@ ending s = record {
 abbrev pub IsAtRest : InRest → Type 0
 IsAtRest s = IsFull s.words.words × (slots_len s.words.words ≡ size s.index.shape)
     × (slots_len s.words.slots ≡ 0)
-    × IsWhole s.index (view [] s.keeper.me.0.kept) (slots_items s.words.words)
+    × KeepsWholeHistory s.index (view [] s.keeper.me.0.kept) (slots_items s.words.words)

@@ -14,7 +14,7 @@ use Rattle.hop_words.specs.declared.known.Reading.{Reading}
 use Rattle.hop_words.specs.declared.known.Tally.{Tally}
 use Rattle.hop_words.specs.Layout.{map_shape, segments}
 use Rattle.hop_words.specs.Homes.{segment_of}
-use Rattle.hop_words.specs.Content.{Words}
+use Rattle.hop_words.specs.Content.{MapWords}
 
 -- an element is free, or one CPU fills it, or one CPU took it out of its map, or it is linked in
 -- one segment
@@ -71,7 +71,7 @@ pub record Era : Type 0 where
   pub writer : ℕ
   pub dirty : Bool
   pub credit : ℕ
-  pub old : Words
+  pub old : MapWords
 
 pub record Ghost : Type 0 where
   pub log : List Entry

@@ -8,8 +8,8 @@ use Rattle.hop_words.specs.Layout.{depth, power}
 abbrev pub segment_of : ℕ → MapShape → List ℕ → ℕ
 segment_of seed g key = home_of key seed g.mask % power (depth g)
 
-abbrev pub bucket_of : ℕ → MapShape → List ℕ → ℕ
-bucket_of seed g key = home_of key seed g.mask / 2 ^ 16 % 64
+abbrev pub key_bucket : ℕ → MapShape → List ℕ → ℕ
+key_bucket seed g key = home_of key seed g.mask / 2 ^ 16 % 64
 
 abbrev pub AreBytes : List ℕ → Type 0
 AreBytes [] = Unit {0}
@@ -20,6 +20,6 @@ abbrev pub word_of : List ℕ → ℕ → ℕ
 word_of bs k = little_endian (part bs (8 * k) 8)
 
 -- the bytes of n words
-abbrev pub spelled : ℕ → (ℕ → ℕ) → List ℕ
-spelled zero f = []
-spelled (suc n) f = low_bytes 8 (f 0) ++ spelled n (λ k. f (k + 1))
+abbrev pub bytes_of_words : ℕ → (ℕ → ℕ) → List ℕ
+bytes_of_words zero f = []
+bytes_of_words (suc n) f = low_bytes 8 (f 0) ++ bytes_of_words n (λ k. f (k + 1))

@@ -9,7 +9,7 @@ use Rattle.hop_words.specs.declared.table.HopTable.TheInside.{Inside as InTable}
 use Rattle.hop_words.specs.declared.lane.Lane.TheInside.{Inside as InStepper}
 use Rattle.hop_words.specs.Layout.{size}
 use Rattle.hop_words.specs.Rule.{solo}
-use Rattle.hop_words.specs.Step.{Tells, first_lane}
+use Rattle.hop_words.specs.Step.{TellsLane, first_lane}
 use Rattle.hop_words.specs.Opens.{no_tally}
 
 pub record Shown : Type 0 where
@@ -20,8 +20,8 @@ abbrev pub shown : InTable → Shown
 shown t = record { id = t.table.shared.table_id; about = t.table.shared.key }
 
 -- the table has the words of the layout, and the index is its own
-abbrev pub IsSized : InTable → Type 0
-IsSized t = (t.table.shared.table_id.words ≡ size t.table.shared.key.shape)
+abbrev pub HasLayout : InTable → Type 0
+HasLayout t = (t.table.shared.table_id.words ≡ size t.table.shared.key.shape)
     × (t.table.shared.table_id.slots ≡ 0) × (t.index ≡ t.table.shared.key)
 
 pub record Standing : Type 0 where
@@ -39,16 +39,16 @@ nobody = record {
   tally = no_tally;
 }
 
-abbrev pub lane_of : InStepper → Known
-lane_of s = first_lane nobody s.seat.me.0.lanes
+abbrev pub stepper_lane : InStepper → Known
+stepper_lane s = first_lane nobody s.seat.me.0.lanes
 
 abbrev pub standing : InStepper → Standing
-standing s = record { table = s.seat.table_id; known = lane_of s }
+standing s = record { table = s.seat.table_id; known = stepper_lane s }
 
 -- the seat has this one CPU, and no slot
 abbrev pub IsOne : InStepper → Type 0
-IsOne s = (s.seat.me ≡ (solo (lane_of s), [])) × ((lane_of s).cpu ≡ s.cpu)
+IsOne s = (s.seat.me ≡ (solo (stepper_lane s), [])) × ((stepper_lane s).cpu ≡ s.cpu)
 
 abbrev pub tells : (ℕ → Known → Type 0) → Step (Unit {0}) → Me (Unit {0}) View → ℕ
     → Me (Unit {0}) View → Type 0
-tells told st m n m' = Tells (first_lane nobody m.0.lanes).cpu told n m'
+tells told st m n m' = TellsLane (first_lane nobody m.0.lanes).cpu told n m'

@@ -23,13 +23,10 @@ use Rattle.hop_words.specs.declared.known.Tally.{Tally}
 use Rattle.hop_words.specs.declared.known.Change.TheVariants.{Nothing, Puts, Drops}
 use Rattle.hop_words.specs.Layout.{words_for, at, size}
 use Rattle.hop_words.specs.Homes.{word_of, AreBytes}
-use Rattle.hop_words.specs.Content.{Words, IsShare}
+use Rattle.hop_words.specs.Content.{MapWords, IsShare}
 use Rattle.hop_words.specs.Ghost.{segment_in, shape_at, IsElement, Each, limbo_at}
-use Rattle.hop_words.specs.Rule.{turns_of, image, IsPeek, Begins, changed, numbered, done_in}
-
--- by these events the CPU is in a run
-abbrev pub in_run : List Event → Bool
-in_run es = turns_of es % 2 == 1
+use Rattle.hop_words.specs.Rule.{image, IsPeek, StartsWith, changed, numbered, done_in}
+use Rattle.bpf_shared.specs.Own.{turns_of, in_run}
 
 -- the event follows all that the lane had seen, and events of others
 pub record Saw (a : About) (l : Known) (e : Event) (seen : List Entry) : Type 0 where
@@ -39,8 +36,8 @@ pub record Saw (a : About) (l : Known) (e : Event) (seen : List Entry) : Type 0 
   pub legal : IsLegal a.shape seen
 
 -- by all that the lock's words can show, the key isn't there
-abbrev pub IsAbsent : About → Lock → List ℕ → Type 0
-IsAbsent a k key = (before : List ℕ → Option ℕ)
+abbrev pub IsKeyAbsent : About → Lock → List ℕ → Type 0
+IsKeyAbsent a k key = (before : List ℕ → Option ℕ)
     → IsShare a.seed (shape_at a k.map) (segment_in a k.map) (image a k.first) k.map k.segment
     before → before key ≡ None
 
@@ -59,7 +56,7 @@ pub record Inserts (a : About) (l : Known) (k : Lock) (f : Fresh) (rest : List F
   pub filled : length f.value ≡ words_for (shape_at a k.map).value
   pub value : (i : ℕ) → i < words_for (shape_at a k.map).value
       → slice_index f.value i ≡ word_of bytes i
-  pub absent : IsAbsent a k key
+  pub absent : IsKeyAbsent a k key
   pub flags_known : flags ≤ 1
   pub room : old < (shape_at a k.map).max
   pub runs : in_run (events_of l.cpu l.seen) ≡ true
@@ -100,7 +97,7 @@ peeking l r p n = record l {
   } ∷ [];
 }
 
-abbrev pub AllPeeks : Words → Reading → Type 0
+abbrev pub AllPeeks : MapWords → Reading → Type 0
 AllPeeks x r = Each (λ (p : Peek). IsPeek x r.map r.segment p.place p.number) r.peeks
 
 -- keys lead to elements of the map alone
@@ -109,26 +106,27 @@ AreWithin a m f = (key : List ℕ) (e : ℕ) → f key ≡ Some e → e < elemen
 
 -- what was peeked shows where the key leads: so it does in every segment of which all this was
 -- peeked
-abbrev pub Shown : About → Reading → List ℕ → Option ℕ → Type 0
-Shown a r key o = (x : Words) (f : List ℕ → Option ℕ)
+abbrev pub ShowsKey : About → Reading → List ℕ → Option ℕ → Type 0
+ShowsKey a r key o = (x : MapWords) (f : List ℕ → Option ℕ)
     → IsShare a.seed (shape_at a r.map) (segment_in a r.map) x r.map r.segment f
     → AreWithin a r.map f → AllPeeks x r → f key ≡ o
 
-abbrev pub span_at : About → ℕ → Option ℕ → Option Span
-span_at a m None = None
-span_at a m (Some e) = Some (element_span m (shape_at a m) e)
+abbrev pub found_span : About → ℕ → Option ℕ → Option Span
+found_span a m None = None
+found_span a m (Some e) = Some (element_span m (shape_at a m) e)
 
 -- see stamp again
-pub record Finds (a : About) (l : Known) (r : Reading) (key : List ℕ) (o : Option ℕ) : Type 0 where
+pub record FindsByPeeks (a : About) (l : Known) (r : Reading) (key : List ℕ) (o : Option ℕ)
+    : Type 0 where
   pub reading : l.readings ≡ r ∷ []
   pub key_size : length key ≡ (shape_at a r.map).key
   pub home : segment_in a r.map key ≡ r.segment
-  pub shown : Shown a r key o
+  pub shown : ShowsKey a r key o
   pub runs : in_run (events_of l.cpu l.seen) ≡ true
 
 pub record Found (a : About) (l : Known) (r : Reading) (key : List ℕ) (o : Option ℕ) (l' : Known)
     : Type 0 where
-  pub seen : Saw a l (Lookup r.map key (span_at a r.map o)) l'.seen
+  pub seen : Saw a l (Lookup r.map key (found_span a r.map o)) l'.seen
   pub after : l' ≡ record l { seen = l'.seen; readings = [] }
 
 -- the same stamp answers the lookup, another is a disturbed reading
@@ -158,7 +156,7 @@ locking l m s n ws es = record l {
 }
 
 -- the segment is sound and has some content, and what the lane filled stands in the copy
-pub record Locked (a : About) (l : Known) (m s n : ℕ) (l' : Known) : Type 0 where
+pub record LocksSegment (a : About) (l : Known) (m s n : ℕ) (l' : Known) : Type 0 where
   -- the elements to which keys lead here
   pub known : List ℕ
   pub words : List ℕ
@@ -166,7 +164,7 @@ pub record Locked (a : About) (l : Known) (m s n : ℕ) (l' : Known) : Type 0 wh
   pub after : l' ≡ locking l m s n words known
   pub content : List ℕ → Option ℕ
   pub share : IsShare a.seed (shape_at a m) (segment_in a m) (image a words) m s content
-  pub filled : Each (λ (f : Fresh). Begins f.key ((image a words).key f.map f.element)) l.fresh
+  pub filled : Each (λ (f : Fresh). StartsWith f.key ((image a words).key f.map f.element)) l.fresh
   pub known_is : (e : ℕ) → has e known ≡ true
       → (e < elements (shape_at a m)) × ((key : List ℕ) × (content key ≡ Some e)
       × (segment_in a m key ≡ s))
@@ -298,7 +296,8 @@ pub record Answered (a : About) (l : Known) (k : Lock) (e : Event) (l' : Known) 
   pub after : l' ≡ record l { seen = l'.seen; locks = [] }
 
 -- ---- unlock with the same version: a lookup takes effect, by what the lock's words show
-pub record LooksUp (a : About) (l : Known) (k : Lock) (key : List ℕ) (o : Option ℕ) : Type 0 where
+pub record LooksUpLocked (a : About) (l : Known) (k : Lock) (key : List ℕ) (o : Option ℕ)
+    : Type 0 where
   pub lock : l.locks ≡ k ∷ []
   pub clean : k.dirty ≡ false
   pub home : segment_in a k.map key ≡ k.segment
@@ -310,7 +309,7 @@ pub record LooksUp (a : About) (l : Known) (k : Lock) (key : List ℕ) (o : Opti
 
 pub record LookedUp (a : About) (l : Known) (k : Lock) (key : List ℕ) (o : Option ℕ) (l' : Known)
     : Type 0 where
-  pub seen : Saw a l (Lookup k.map key (span_at a k.map o)) l'.seen
+  pub seen : Saw a l (Lookup k.map key (found_span a k.map o)) l'.seen
   pub after : l' ≡ record l { seen = l'.seen; locks = [] }
 
 -- ---- values
@@ -349,8 +348,8 @@ pub record Told (a : About) (l : Known) (e : Event) (l' : Known) : Type 0 where
 
 -- ---- count run
 -- the lane's own counter, by its own events
-abbrev pub count_of : About → Known → ℕ
-count_of a l = a.count + turns_of (events_of l.cpu l.seen)
+abbrev pub run_count : About → Known → ℕ
+run_count a l = a.count + turns_of (events_of l.cpu l.seen)
 
 -- ---- see counter: of the CPU whose number comes next
 abbrev pub limbo_set : Known → ℕ → Limbo → Known
@@ -402,7 +401,7 @@ pub record Counts (a : About) (l : Known) (k : Lock) (key bytes : List ℕ) (fla
   pub home : segment_in a k.map key ≡ k.segment
   pub key_size : length key ≡ (shape_at a k.map).key
   pub size : length bytes ≡ (shape_at a k.map).value
-  pub absent : IsAbsent a k key
+  pub absent : IsKeyAbsent a k key
   pub flags_known : flags ≤ 1
   pub runs : in_run (events_of l.cpu l.seen) ≡ true
 

@@ -15,16 +15,16 @@ abbrev pub sum_below : ℕ → (ℕ → ℕ) → ℕ
 sum_below zero f = 0
 sum_below (suc n) f = sum_below n f + f n
 
-abbrev pub words_in : Layout → ℕ
-words_in Word = 1
-words_in (Group n f) = sum_below n (λ i. words_in (f i))
+abbrev pub layout_size : Layout → ℕ
+layout_size Word = 1
+layout_size (Group n f) = sum_below n (λ i. layout_size (f i))
 
 -- the word at the end of a path: which member of the group, which of that member's members, and so
 -- on
-abbrev pub offset : Layout → List ℕ → ℕ
-offset Word path = 0
-offset (Group n f) [] = 0
-offset (Group n f) (i ∷ path) = sum_below i (λ j. words_in (f j)) + offset (f i) path
+abbrev pub word_at_path : Layout → List ℕ → ℕ
+word_at_path Word path = 0
+word_at_path (Group n f) [] = 0
+word_at_path (Group n f) (i ∷ path) = sum_below i (λ j. layout_size (f j)) + word_at_path (f i) path
 
 abbrev pub is_path : Layout → List ℕ → Bool
 is_path Word [] = true
@@ -119,13 +119,13 @@ path (ValueWord m e k) = 1 ∷ m ∷ 6 ∷ e ∷ k ∷ []
 
 -- where the word of a place stands. A place of the shape has its word to itself
 abbrev pub at : Shape → Place → ℕ
-at h p = offset (layout h) (path p)
+at h p = word_at_path (layout h) (path p)
 
 abbrev pub is_place : Shape → Place → Bool
 is_place h p = is_path (layout h) (path p)
 
 abbrev pub size : Shape → ℕ
-size h = words_in (layout h)
+size h = layout_size (layout h)
 
 -- the number in the word of a place; 0 for a place that the shape hasn't
 abbrev pub mem : Shape → List ℕ → Place → ℕ

@@ -19,3 +19,4 @@ pub mod SegContract
 pub mod Inside
 pub mod Dealing
 pub mod Closing
+pub mod Trial

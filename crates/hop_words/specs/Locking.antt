@@ -7,7 +7,7 @@ use Rattle.hop_words.specs.declared.known.Known.{Known}
 use Rattle.hop_words.specs.declared.known.Fresh.{Fresh}
 use Rattle.hop_words.specs.declared.known.Lock.{Lock}
 use Rattle.hop_words.specs.declared.known.Change.TheVariants.{Nothing}
-use Rattle.hop_words.specs.Content.{Words}
+use Rattle.hop_words.specs.Content.{MapWords}
 use Rattle.hop_words.specs.Ghost.{shape_at}
 use Rattle.hop_words.specs.Rule.{image}
 use Rattle.hop_words.specs.Kinds.{Told}
@@ -40,7 +40,7 @@ abbrev pub HasLock : Known → ℕ → ℕ → Type 0
 HasLock l m s = (l.locks ≡ lock_of l ∷ []) × ((lock_of l).map ≡ m) × ((lock_of l).segment ≡ s)
 
 -- the words of the locked segment by now
-abbrev pub locked_words : About → Known → Words
+abbrev pub locked_words : About → Known → MapWords
 locked_words a l = image a (lock_of l).copy
 
 -- a count at the map's most keys is the answer Full; else the map has room

@@ -13,7 +13,7 @@ use Rattle.hop_words.specs.Ghost.{IsElement, IsSegment, no_limbo}
 
 -- the words as made: all elements are free, no segment is locked or has an item, and no map has a
 -- key
-pub record IsNew (a : About) (w : Place → ℕ) : Type 0 where
+pub record AreNewWords (a : About) (w : Place → ℕ) : Type 0 where
   pub shaped : IsShape a.shape
   pub counts : (c : ℕ) → c < a.shape.cpus → w (RunCount c) ≡ a.count
   pub keys : (m : ℕ) → m < length a.shape.maps → w (KeyCount m) ≡ 0

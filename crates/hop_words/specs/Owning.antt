@@ -19,19 +19,19 @@ abbrev pub IsFreeWord : About → ℕ → ℕ → Type 0
 IsFreeWord a m i = (m < length a.shape.maps) × (i < free_words (shape_at a m))
 
 -- where the bit was set the element is in hand from now on, else it was seen not free
-abbrev pub Claims : Known → ℕ → ℕ → ℕ → Known → Type 0
-Claims l m e found l' =
+abbrev pub ClaimsBit : Known → ℕ → ℕ → ℕ → Known → Type 0
+ClaimsBit l m e found l' =
     (bit_at found (e % 64) ≡ 1 → l' ≡ sighted (holding l m e) (Bits m (e / 64) found))
     × (bit_at found (e % 64) ≡ 0 → l' ≡ sighted l (Bits m (e / 64) found))
 
 -- all but the first
-abbrev pub behind : {A : Type 0} → List A → List A
-behind [] = []
-behind (x ∷ xs) = xs
+abbrev pub tail_of : {A : Type 0} → List A → List A
+tail_of [] = []
+tail_of (x ∷ xs) = xs
 
 -- the element is the first in hand
 abbrev pub IsInHand : Known → ℕ → ℕ → Type 0
-IsInHand l m e = (f : Fresh) × (l.fresh ≡ f ∷ behind l.fresh) × (f.map ≡ m) × (f.element ≡ e)
+IsInHand l m e = (f : Fresh) × (l.fresh ≡ f ∷ tail_of l.fresh) × (f.map ≡ m) × (f.element ≡ e)
 
 -- how many words of its key, and of its value, the first element in hand has
 abbrev pub key_filled : List Fresh → ℕ

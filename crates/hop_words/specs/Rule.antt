@@ -9,11 +9,12 @@ use lib.ListN.{get_elem?}
 use Rattle.atomic_table.specs.Table.{State}
 use Rattle.bpf_shared.specs.declared.events.Entry.{Entry}
 use Rattle.bpf_shared.specs.declared.events.Event.{Event}
-use Rattle.bpf_shared.specs.declared.events.Event.TheVariants.{Begin, End, Update, Delete}
+use Rattle.bpf_shared.specs.declared.events.Event.TheVariants.{Update, Delete}
 use Rattle.bpf_shared.specs.declared.events.MapAnswer.TheVariants.{Done}
 use Rattle.bpf_shared.specs.Shape.{element_span, IsShape}
 use Rattle.bpf_shared.specs.Store.{Keys, Value, Plain, as_made}
 use Rattle.bpf_shared.specs.History.{Legal, events_of}
+use Rattle.bpf_shared.specs.Own.{turns_of}
 use Rattle.hop_words.specs.declared.place.Place.{Place}
 use Rattle.hop_words.specs.declared.place.Place.TheVariants.{RunCount, KeyCount, FreeBits, Stamp, Head, Hop, Slot, Link, KeyWord, ValueWord}
 use Rattle.hop_words.specs.declared.known.About.{About}
@@ -27,18 +28,11 @@ use Rattle.hop_words.specs.declared.known.Peek.{Peek}
 use Rattle.hop_words.specs.declared.known.Change.{Change}
 use Rattle.hop_words.specs.declared.known.Change.TheVariants.{Nothing, Puts, Drops}
 use Rattle.hop_words.specs.Layout.{size, mem, words_for}
-use Rattle.hop_words.specs.Homes.{spelled}
-use Rattle.hop_words.specs.Content.{one_if, Words, words_of, times, Reached, IsShare, Agrees}
+use Rattle.hop_words.specs.Homes.{bytes_of_words}
+use Rattle.hop_words.specs.Content.{one_if, MapWords, place_words, times, Reached, IsShare, Agrees}
 use Rattle.hop_words.specs.Ghost.{Holder, Free, Filling, Leaving, Within, is_free, is_filling, is_leaving, Carries, lane, Era, Ghost, shape_at, segment_in, IsElement, IsSegment, limbo_at, Each}
 
 -- ======== history
-
--- how often these events begin or end a run
-abbrev pub turns_of : List Event → ℕ
-turns_of [] = 0
-turns_of (Begin ∷ es) = turns_of es + 1
-turns_of (End ∷ es) = turns_of es + 1
-turns_of (e ∷ es) = turns_of es
 
 abbrev pub is_done : ℕ → Event → Bool
 is_done m (Update n key bytes flags Done) = n == m
@@ -127,26 +121,26 @@ pub record Linked (a : About) (home : ℕ → List ℕ → ℕ) (linked : ℕ �
       → (key : List ℕ) × (linked m key ≡ Some e)
   pub once : (m : ℕ) (p q : List ℕ) (e : ℕ) → linked m p ≡ Some e → linked m q ≡ Some e → p ≡ q
 
-abbrev pub Begins : List ℕ → (ℕ → ℕ) → Type 0
-Begins ns w = (k : ℕ) → k < length ns → w k ≡ slice_index ns k
+abbrev pub StartsWith : List ℕ → (ℕ → ℕ) → Type 0
+StartsWith ns w = (k : ℕ) → k < length ns → w k ≡ slice_index ns k
 
 -- the words that a CPU filled are in its elements
 abbrev pub Filled : About → (ℕ → ℕ → ℕ → ℕ) → (ℕ → ℕ → ℕ → ℕ) → (ℕ → List Fresh) → Type 0
 Filled a key value fresh = (c : ℕ) → c < a.shape.cpus
-    → Each (λ (f : Fresh). Begins f.key (key f.map f.element)
-    × Begins f.value (value f.map f.element)) (fresh c)
+    → Each (λ (f : Fresh). StartsWith f.key (key f.map f.element)
+    × StartsWith f.value (value f.map f.element)) (fresh c)
 
 -- ======== segments
 
 -- the words at rest stay until a lock changes something, and show the segment's share of the keys
-pub record Segment (a : About) (home : ℕ → List ℕ → ℕ) (x : Words) (stamp : ℕ) (r : Era) (m s : ℕ)
-    (f : List ℕ → Option ℕ) : Type 0 where
+pub record Segment (a : About) (home : ℕ → List ℕ → ℕ) (x : MapWords) (stamp : ℕ) (r : Era)
+    (m s : ℕ) (f : List ℕ → Option ℕ) : Type 0 where
   pub at_rest : stamp % 2 ≡ 0 → r.dirty ≡ false
   pub clean : r.dirty ≡ false → (r.era + stamp % 2 ≡ stamp) × Agrees m s (Reached r.old m s) x r.old
   pub written : r.dirty ≡ true → r.era ≡ stamp
   pub shows : r.dirty ≡ false → IsShare a.seed (shape_at a m) (home m) r.old m s f
 
-abbrev pub Segments : About → (ℕ → List ℕ → ℕ) → Words → (ℕ → ℕ → ℕ) → (ℕ → ℕ → Era)
+abbrev pub Segments : About → (ℕ → List ℕ → ℕ) → MapWords → (ℕ → ℕ → ℕ) → (ℕ → ℕ → Era)
     → (ℕ → List ℕ → Option ℕ) → Type 0
 Segments a home x stamp eras linked = (m s : ℕ) → IsSegment a m s
     → Segment a home x (stamp m s) (eras m s) m s (linked m)
@@ -177,8 +171,8 @@ owed Nothing = 0
 owed (Puts key e) = 1
 owed (Drops key) = 1
 
-abbrev pub image : About → List ℕ → Words
-image a ws = words_of (mem a.shape ws)
+abbrev pub image : About → List ℕ → MapWords
+image a ws = place_words (mem a.shape ws)
 
 -- the keys lead where the words at the lock said, but for what took effect since: that remains to
 -- be written
@@ -188,7 +182,7 @@ IsDue a home k f = (before : List ℕ → Option ℕ)
     × ((key : List ℕ) → home k.map key ≡ k.segment → f key ≡ changed k.change before key)
 
 -- the CPU c has the lock, and its copy is what the words are
-pub record Holds (a : About) (home : ℕ → List ℕ → ℕ) (x : Words) (stamp : ℕ → ℕ → ℕ)
+pub record Holds (a : About) (home : ℕ → List ℕ → ℕ) (x : MapWords) (stamp : ℕ → ℕ → ℕ)
     (eras : ℕ → ℕ → Era) (linked : ℕ → List ℕ → Option ℕ) (holder : ℕ → ℕ → Holder) (c : ℕ)
     (k : Lock) : Type 0 where
   pub inside : IsSegment a k.map k.segment
@@ -202,7 +196,7 @@ pub record Holds (a : About) (home : ℕ → List ℕ → ℕ) (x : Words) (stam
   pub copied : Agrees k.map k.segment (λ e. Minded c k.segment (holder k.map e)) x (image a k.copy)
   pub due : IsDue a home k (linked k.map)
 
-abbrev pub Locking : About → (ℕ → List ℕ → ℕ) → Words → (ℕ → ℕ → ℕ) → (ℕ → ℕ → Era)
+abbrev pub Locking : About → (ℕ → List ℕ → ℕ) → MapWords → (ℕ → ℕ → ℕ) → (ℕ → ℕ → Era)
     → (ℕ → List ℕ → Option ℕ) → (ℕ → ℕ → Holder) → (ℕ → List Lock) → Type 0
 Locking a home x stamp eras linked holder locks = (c : ℕ)
     → Each (Holds a home x stamp eras linked holder c) (locks c)
@@ -219,7 +213,7 @@ Held a stamp eras locks = (m s : ℕ) → IsSegment a m s → stamp m s % 2 ≡ 
 
 -- ---- readings
 -- if the place is one of the segment's, this is its number
-abbrev pub IsPeek : Words → ℕ → ℕ → Place → ℕ → Type 0
+abbrev pub IsPeek : MapWords → ℕ → ℕ → Place → ℕ → Type 0
 IsPeek x m s (Head n t) i = n ≡ m → t ≡ s → x.head m s ≡ i
 IsPeek x m s (Hop n t b) i = n ≡ m → t ≡ s → x.hop m s b ≡ i
 IsPeek x m s (Slot n t b) i = n ≡ m → t ≡ s → x.slot m s b ≡ i
@@ -228,7 +222,7 @@ IsPeek x m s (KeyWord n e k) i = n ≡ m → Reached x m s e → x.key m e k ≡
 IsPeek x m s p i = Unit {0}
 
 -- while the stamp is the one noted, each word peeked has the number peeked
-pub record Reads (a : About) (eras : ℕ → ℕ → Era) (r : Reading) : Type 0 where
+pub record IsSoundReading (a : About) (eras : ℕ → ℕ → Era) (r : Reading) : Type 0 where
   pub inside : IsSegment a r.map r.segment
   pub even : r.stamp % 2 ≡ 0
   pub behind : r.stamp ≤ (eras r.map r.segment).era
@@ -237,7 +231,7 @@ pub record Reads (a : About) (eras : ℕ → ℕ → Era) (r : Reading) : Type 0
       r.peeks
 
 abbrev pub Readings : About → (ℕ → ℕ → Era) → (ℕ → List Reading) → Type 0
-Readings a eras readings = (c : ℕ) → Each (Reads a eras) (readings c)
+Readings a eras readings = (c : ℕ) → Each (IsSoundReading a eras) (readings c)
 
 -- ======== values
 
@@ -249,7 +243,7 @@ pub record Valued (a : About) (words : ℕ → ℕ → ℕ → ℕ) (made : ℕ)
       → value (number m e)
       ≡ record {
         bytes = take (shape_at a m).value
-            (spelled (words_for (shape_at a m).value) (words m e));
+            (bytes_of_words (words_for (shape_at a m).value) (words m e));
         span = element_span m (shape_at a m) e;
       }
   pub older : (m e : ℕ) → IsElement a m e → Carries (holder m e) → number m e < made
@@ -273,8 +267,8 @@ pub record Rule (a : About) (w : Place → ℕ) (g : Ghost) : Type 0 where
   pub linked : Linked a (segment_in a) g.linked g.holder
   pub filled : Filled a (λ m e k. w (KeyWord m e k)) (λ m e k. w (ValueWord m e k)) g.lanes.fresh
   -- segments
-  pub segments : Segments a (segment_in a) (words_of w) (λ m s. w (Stamp m s)) g.eras g.linked
-  pub locking : Locking a (segment_in a) (words_of w) (λ m s. w (Stamp m s)) g.eras g.linked
+  pub segments : Segments a (segment_in a) (place_words w) (λ m s. w (Stamp m s)) g.eras g.linked
+  pub locking : Locking a (segment_in a) (place_words w) (λ m s. w (Stamp m s)) g.eras g.linked
       g.holder g.lanes.locks
   pub held : Held a (λ m s. w (Stamp m s)) g.eras g.lanes.locks
   pub reading : Readings a g.eras g.lanes.readings

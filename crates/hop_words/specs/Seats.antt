@@ -20,8 +20,8 @@ Sat = Me (Unit {0}) View
 abbrev pub view : List Known → List Entry → View
 view lanes kept = record { lanes = lanes; kept = kept }
 
-abbrev pub nobody : View
-nobody = view [] []
+abbrev pub empty_view : View
+empty_view = view [] []
 
 -- the first CPU of a seat goes to a new one
 abbrev pub dealer : View → View
@@ -39,16 +39,16 @@ abbrev pub onlooker : View → View
 onlooker v = view [] v.kept
 
 -- the lane has seen a beginning of the history, with all its own events
-abbrev pub IsWithin : Known → List Entry → Type 0
-IsWithin l log = IsPrefix l.seen log × (events_of l.cpu l.seen ≡ events_of l.cpu log)
+abbrev pub HasSeenBeginning : Known → List Entry → Type 0
+HasSeenBeginning l log = IsPrefix l.seen log × (events_of l.cpu l.seen ≡ events_of l.cpu log)
 
 -- the whole history is kept
 pub record Learned (m m' : Sat) : Type 0 where
   pub after : m' ≡ (view m.0.lanes m'.0.kept, m.1)
-  pub within : (k : ℕ) (l : Known) → get_elem? m.0.lanes k ≡ some l → IsWithin l m'.0.kept
+  pub within : (k : ℕ) (l : Known) → get_elem? m.0.lanes k ≡ some l → HasSeenBeginning l m'.0.kept
 
 -- what is kept is the whole history, and the words keep the rule with it
-pub record IsWhole (a : About) (v : View) (ws : List ℕ) : Type 0 where
+pub record KeepsWholeHistory (a : About) (v : View) (ws : List ℕ) : Type 0 where
   pub ghost : Ghost
   pub whole : v.kept ≡ ghost.log
   pub rule : Rule a (mem a.shape ws) ghost

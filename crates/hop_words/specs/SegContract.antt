@@ -7,31 +7,33 @@ use Rattle.hop_words.specs.declared.known.Peek.{Peek}
 use Rattle.hop_words.specs.declared.place.Place.{Place}
 use Rattle.hop_words.specs.declared.place.Place.TheVariants.{Head, Hop, Slot, Link, KeyWord}
 use Rattle.hop_words.specs.Layout.{words_for}
-use Rattle.hop_words.specs.Homes.{word_of, bucket_of}
-use Rattle.hop_words.specs.Content.{Words, IsShare, times, item, Follows}
+use Rattle.hop_words.specs.Homes.{word_of, key_bucket}
+use Rattle.hop_words.specs.Content.{MapWords, IsShare, times, item, LinksThrough}
 use Rattle.hop_words.specs.Ghost.{Each}
 use Rattle.hop_words.specs.Rule.{put_key, IsPeek}
 
 -- find: all words that have the numbers that were read, and show some content, lead the key where
 -- find says. So one find serves a plain copy, locked words and words peeked without a lock
 abbrev pub IsFound : ℕ → MapShape → (List ℕ → ℕ) → ℕ → ℕ → List Peek → List ℕ → Option ℕ → Type 0
-IsFound seed g home m s read key o = (x : Words) (f : List ℕ → Option ℕ)
+IsFound seed g home m s read key o = (x : MapWords) (f : List ℕ → Option ℕ)
     → IsShare seed g home x m s f → Each (λ (p : Peek). IsPeek x m s p.place p.number) read
     → f key ≡ o
 
 -- insert: a key that isn't there leads to the element, whose key words it is
-abbrev pub IsInserted : ℕ → MapShape → (List ℕ → ℕ) → ℕ → ℕ → Words → Words → List ℕ → ℕ → Type 0
+abbrev pub IsInserted : ℕ → MapShape → (List ℕ → ℕ) → ℕ → ℕ → MapWords → MapWords → List ℕ → ℕ
+    → Type 0
 IsInserted seed g home m s x y key e = (f : List ℕ → Option ℕ) → IsShare seed g home x m s f
     → f key ≡ None → IsShare seed g home y m s (put_key f key (Some e))
 
 -- replace: a key that is there leads to another element
-abbrev pub IsReplaced : ℕ → MapShape → (List ℕ → ℕ) → ℕ → ℕ → Words → Words → List ℕ → ℕ → ℕ
+abbrev pub IsReplaced : ℕ → MapShape → (List ℕ → ℕ) → ℕ → ℕ → MapWords → MapWords → List ℕ → ℕ → ℕ
     → Type 0
 IsReplaced seed g home m s x y key o e = (f : List ℕ → Option ℕ) → IsShare seed g home x m s f
     → f key ≡ Some o → IsShare seed g home y m s (put_key f key (Some e))
 
 -- remove: a key that is there leads nowhere
-abbrev pub IsRemoved : ℕ → MapShape → (List ℕ → ℕ) → ℕ → ℕ → Words → Words → List ℕ → ℕ → Type 0
+abbrev pub IsRemoved : ℕ → MapShape → (List ℕ → ℕ) → ℕ → ℕ → MapWords → MapWords → List ℕ → ℕ
+    → Type 0
 IsRemoved seed g home m s x y key o = (f : List ℕ → Option ℕ) → IsShare seed g home x m s f
     → f key ≡ Some o → IsShare seed g home y m s (put_key f key None)
 
@@ -54,11 +56,11 @@ Matches read g m e key = (k : ℕ) → k < words_for g.key
 pub record ReadHops (seed : ℕ) (g : MapShape) (m s : ℕ) (read : List Peek) (key : List ℕ) : Type 0
   where
     pub hop : ℕ
-    pub hop_read : WasRead read (Hop m s (bucket_of seed g key)) hop
+    pub hop_read : WasRead read (Hop m s (key_bucket seed g key)) hop
     pub slot : ℕ → ℕ
     pub element : ℕ → ℕ
     pub slot_read : (d : ℕ) → d < 32 → bit_at hop d ≡ 1
-        → WasRead read (Slot m s ((bucket_of seed g key + d) % 64)) (slot d)
+        → WasRead read (Slot m s ((key_bucket seed g key + d) % 64)) (slot d)
     pub leads : (d : ℕ) → d < 32 → bit_at hop d ≡ 1 → item (slot d) ≡ Some (element d)
 
 -- the overflow list was read to its end
@@ -68,7 +70,7 @@ pub record ReadList (m s : ℕ) (read : List Peek) : Type 0 where
   pub head_read : WasRead read (Head m s) head
   pub link : ℕ → ℕ
   pub link_read : (e : ℕ) → 1 ≤ times e list → WasRead read (Link m e) (link e)
-  pub follows : Follows link head list
+  pub follows : LinksThrough link head list
 
 -- what find read where it answers that the key isn't there
 pub record ReadNone (seed : ℕ) (g : MapShape) (m s : ℕ) (read : List Peek) (key : List ℕ) : Type 0

@@ -26,8 +26,8 @@ Steps a l p f told = (ws : List ℕ) (g : Ghost) → length ws ≡ size a.shape
     → mem a.shape ws p < 18446744073709551616
     → Next a (put_at (mem a.shape ws) p (f (mem a.shape ws p))) g l.cpu (told ws (mem a.shape ws p))
 
-abbrev pub Tells : ℕ → (ℕ → Known → Type 0) → ℕ → Me (Unit {0}) View → Type 0
-Tells c told n m = (m.1 ≡ []) × ((l : Known) × (m.0 ≡ solo l) × (l.cpu ≡ c) × told n l)
+abbrev pub TellsLane : ℕ → (ℕ → Known → Type 0) → ℕ → Me (Unit {0}) View → Type 0
+TellsLane c told n m = (m.1 ≡ []) × ((l : Known) × (m.0 ≡ solo l) × (l.cpu ≡ c) × told n l)
 
 -- the one lane of a port's seat
 abbrev pub first_lane : Known → List Known → Known

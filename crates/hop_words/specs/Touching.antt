@@ -15,8 +15,8 @@ abbrev pub TouchesWord : About → Known → ValuePart → Type 0
 TouchesWord a l p = Touches a l p.map p.element p.word p.offset 8
 
 -- the address of the first byte
-abbrev pub address_of : About → ValuePart → ℕ
-address_of a p = value_at a p.map p.element p.word p.offset
+abbrev pub part_address : About → ValuePart → ℕ
+part_address a p = value_at a p.map p.element p.word p.offset
 
 -- the number that the bytes read as, where the word is this one
 abbrev pub found_part : ValuePart → ℕ → ℕ

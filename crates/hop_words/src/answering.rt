@@ -3,8 +3,8 @@ ghost use Rattle.std.specs.Prelude.{◌≡◌, ◌<◌, ◌+◌, ◌^◌, false,
 ghost use Rattle.bpf_shared.specs.declared.events.Event.TheVariants.{Update, Delete, Lookup};
 ghost use Rattle.hop_words.specs.Ghost.{IsSegment};
 ghost use Rattle.hop_words.specs.Rule.{owed};
-ghost use Rattle.hop_words.specs.Kinds.{Inserts, Inserted, Removes, Removed, Counts, Misflagged, Told, IsWritten, unlocking, Answers, Answered, LooksUp, LookedUp, Replaces, Replaced};
-ghost use Rattle.hop_words.specs.Owning.{behind};
+ghost use Rattle.hop_words.specs.Kinds.{Inserts, Inserted, Removes, Removed, Counts, Misflagged, Told, IsWritten, unlocking, Answers, Answered, LooksUpLocked, LookedUp, Replaces, Replaced};
+ghost use Rattle.hop_words.specs.Owning.{tail_of};
 ghost use Rattle.hop_words.specs.Locking.{lock_of, hand, HasLock, SeesRoom, SeesLack};
 
 use crate::lane::Lane;
@@ -30,11 +30,11 @@ impl Lane {
         requires map { (lock_of self.old.known).map ≡ map }
         requires fits { count + 1 < 2 ^ 64 }
         requires inserts { Inserts table.now.about self.old.known (lock_of self.old.known)
-            (hand self.old.known) (behind self.old.known.fresh) key.now value.now flags count }
+            (hand self.old.known) (tail_of self.old.known.fresh) key.now value.now flags count }
         ensures table { self.new.table ≡ self.old.table }
         ensures done { IsTrue result
             → Inserted table.now.about self.old.known (lock_of self.old.known) (hand self.old.known)
-            (behind self.old.known.fresh) key.now value.now flags self.new.known }
+            (tail_of self.old.known.fresh) key.now value.now flags self.new.known }
         ensures missed { IsFalse result → self.new.known ≡ self.old.known }
     {
         let place = Place::KeyCount { map };
@@ -218,8 +218,8 @@ impl Lane {
         requires inside { IsSegment table.now.about map segment }
         requires lock { HasLock self.old.known map segment }
         requires stamp { stamp ≡ (lock_of self.old.known).stamp }
-        requires looks { LooksUp table.now.about self.old.known (lock_of self.old.known) key.now
-            found }
+        requires looks { LooksUpLocked table.now.about self.old.known (lock_of self.old.known)
+            key.now found }
         ensures table { self.new.table ≡ self.old.table }
         ensures answered { LookedUp table.now.about self.old.known (lock_of self.old.known) key.now
             found self.new.known }
@@ -247,10 +247,10 @@ impl Lane {
         requires stamp { stamp ≡ (lock_of self.old.known).stamp }
         requires fits { stamp + 256 < 2 ^ 64 }
         requires replaces { Replaces table.now.about self.old.known (lock_of self.old.known)
-            (hand self.old.known) (behind self.old.known.fresh) key.now value.now flags old }
+            (hand self.old.known) (tail_of self.old.known.fresh) key.now value.now flags old }
         ensures table { self.new.table ≡ self.old.table }
         ensures replaced { Replaced table.now.about self.old.known (lock_of self.old.known)
-            (behind self.old.known.fresh) key.now value.now flags old self.new.known }
+            (tail_of self.old.known.fresh) key.now value.now flags old self.new.known }
     {
         let place = Place::Stamp { map, segment };
         self.store_by::<Brand, _>(table, place, stamp + 256, (key, value, flags, old));

@@ -5,7 +5,7 @@ ghost use lib.ListN.{get_elem?};
 ghost use Rattle.hop_words.specs.declared.known.Known.{Known};
 ghost use Rattle.hop_words.specs.Closing.{AreAllBack};
 ghost use Rattle.hop_words.specs.Layout.{is_place, mem};
-ghost use Rattle.hop_words.specs.Seats.{IsWithin, IsWhole, view};
+ghost use Rattle.hop_words.specs.Seats.{HasSeenBeginning, KeepsWholeHistory, view};
 
 use crate::index::Index;
 use crate::known::{About, View};
@@ -29,11 +29,11 @@ impl Play<(), View> for Comes {
 struct Gather;
 
 impl Join<View> for Gather {
-    ghost use Rattle.hop_words.specs.Seats.{gathered, nobody};
+    ghost use Rattle.hop_words.specs.Seats.{gathered, empty_view};
 
     ghost both = { gathered };
 
-    ghost spent = { nobody };
+    ghost spent = { empty_view };
 }
 
 // A load that learns the whole history.
@@ -103,7 +103,7 @@ impl Returned {
         ensures slots { result.me.1 ≡ [] }
         ensures lanes { result.me.0.lanes ≡ self.lanes }
         ensures within { (k : ℕ) (l : Known) → get_elem? self.lanes k ≡ some l
-            → IsWithin l result.me.0.kept }
+            → HasSeenBeginning l result.me.0.kept }
     {
         let _cpus = table.about().shape.cpus();
         let Returned { mut seat } = self;
@@ -147,8 +147,8 @@ impl HopTable {
         requires all { AreAllBack self.about returned.lanes }
         ensures about { result.about ≡ self.about }
         ensures within { (k : ℕ) (l : Known) → get_elem? returned.lanes k ≡ some l
-            → IsWithin l result.history }
-        ensures whole { IsWhole result.about (view [] result.history) result.words }
+            → HasSeenBeginning l result.history }
+        ensures whole { KeepsWholeHistory result.about (view [] result.history) result.words }
     {
         let _cpus = self.about().shape.cpus();
         let mut seat = returned.learn(&self);
@@ -167,7 +167,7 @@ impl Rest {
     /// What the store was told when it was made.
     pub fn about(&self) -> &About
         ensures about { result.now ≡ self.now.about }
-        ensures whole { IsWhole self.now.about (view [] self.now.history) self.now.words }
+        ensures whole { KeepsWholeHistory self.now.about (view [] self.now.history) self.now.words }
     {
         &self.index.about
     }

@@ -4,7 +4,7 @@ ghost use Rattle.std.specs.Prelude.{◌≡◌, ◌≢◌, ◌<◌, ◌+◌, ◌%
 ghost use Rattle.hop_words.specs.declared.place.Place.TheVariants.{Head, Hop, Slot, Link};
 ghost use Rattle.hop_words.specs.Layout.{words_for};
 ghost use Rattle.hop_words.specs.Ghost.{shape_at, IsElement, IsSegment};
-ghost use Rattle.hop_words.specs.Kinds.{Locked, MayLink, writing};
+ghost use Rattle.hop_words.specs.Kinds.{LocksSegment, MayLink, writing};
 ghost use Rattle.hop_words.specs.Locking.{lock_of, HasLock, locked_words};
 
 use crate::lane::Lane;
@@ -31,7 +31,7 @@ impl Lane {
         requires unlocked { self.old.known.locks ≡ [] }
         ensures table { self.new.table ≡ self.old.table }
         ensures locked { IsTrue result
-            → Locked table.now.about self.old.known map segment stamp self.new.known }
+            → LocksSegment table.now.about self.old.known map segment stamp self.new.known }
         ensures missed { IsFalse result → self.new.known ≡ self.old.known }
     {
         let place = Place::Stamp { map, segment };

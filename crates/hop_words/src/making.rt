@@ -4,7 +4,7 @@ ghost use Rattle.bpf_shared.specs.Shape.{IsMapShape};
 ghost use Rattle.hop_words.specs.Layout.{is_place, mem, put_at, size};
 ghost use Rattle.hop_words.specs.Ghost.{shape_at};
 ghost use Rattle.hop_words.specs.Made.{IsPartly};
-ghost use Rattle.hop_words.specs.Opens.{IsNew, lanes_from};
+ghost use Rattle.hop_words.specs.Opens.{AreNewWords, lanes_from};
 
 use crate::index::{Index, depth, elements, segments};
 use crate::known::About;
@@ -50,7 +50,7 @@ fn put_map(words: &mut Vec<u64>, index: &Index, map: u8, shape: &MapShape)
 pub(crate) fn first_words(alloc: Global, index: &Index) -> Result<Vec<u64>, AllocError>
     requires { index.now.version < 2 ^ 56 }
     ensures sized { IfOk result (λ v. length v.items ≡ size index.now.shape) }
-    ensures made { IfOk result (λ v. IsNew index.now (mem index.now.shape v.items)) }
+    ensures made { IfOk result (λ v. AreNewWords index.now (mem index.now.shape v.items)) }
 {
     let mut words = vec![in alloc; 0; index.words]?;
     'runs: for cpu in 0..index.about.shape.cpus() {

@@ -6,7 +6,7 @@ ghost use Rattle.hop_words.specs.Layout.{words_for};
 ghost use Rattle.hop_words.specs.Ghost.{shape_at, IsElement, limbo_at};
 ghost use Rattle.hop_words.specs.Rule.{link_to};
 ghost use Rattle.hop_words.specs.Kinds.{Passed, giving_old, retiring};
-ghost use Rattle.hop_words.specs.Owning.{IsFreeWord, sighted, Claims, IsInHand, behind, key_filled, value_filled, with_key_word, with_value_word};
+ghost use Rattle.hop_words.specs.Owning.{IsFreeWord, sighted, ClaimsBit, IsInHand, tail_of, key_filled, value_filled, with_key_word, with_value_word};
 
 use crate::lane::Lane;
 use crate::place::Place;
@@ -44,7 +44,7 @@ impl Lane {
         requires element { IsElement table.now.about map element }
         requires unlocked { self.old.known.locks ≡ [] }
         ensures table { self.new.table ≡ self.old.table }
-        ensures claimed { Claims self.old.known map element result self.new.known }
+        ensures claimed { ClaimsBit self.old.known map element result self.new.known }
     {
         let word = element / 64;
         let mask = all_but(element);
@@ -58,7 +58,7 @@ impl Lane {
         requires hand { IsInHand self.old.known map element }
         ensures table { self.new.table ≡ self.old.table }
         ensures given { self.new.known
-            ≡ record self.old.known { fresh = behind self.old.known.fresh } }
+            ≡ record self.old.known { fresh = tail_of self.old.known.fresh } }
     {
         let word = element / 64;
         let bit = bit_of(element);
@@ -72,10 +72,10 @@ impl Lane {
         requires room { map < length self.old.known.limbo }
         requires even { table.now.about.count % 2 ≡ 0 }
         requires passed { Passed table.now.about self.old.known map element
-            (behind (limbo_at self.old.known.limbo map).old) }
+            (tail_of (limbo_at self.old.known.limbo map).old) }
         ensures table { self.new.table ≡ self.old.table }
         ensures given { self.new.known
-            ≡ giving_old self.old.known map (behind (limbo_at self.old.known.limbo map).old) }
+            ≡ giving_old self.old.known map (tail_of (limbo_at self.old.known.limbo map).old) }
     {
         let word = element / 64;
         let bit = bit_of(element);
@@ -129,11 +129,12 @@ impl Lane {
         requires room { map < length self.old.known.limbo }
         requires unlocked { self.old.known.locks ≡ [] }
         requires used { (limbo_at self.old.known.limbo map).used
-            ≡ element ∷ behind (limbo_at self.old.known.limbo map).used }
+            ≡ element ∷ tail_of (limbo_at self.old.known.limbo map).used }
         requires link { link ≡ link_to (limbo_at self.old.known.limbo map).young }
         ensures table { self.new.table ≡ self.old.table }
         ensures retired { self.new.known
-            ≡ retiring self.old.known map element (behind (limbo_at self.old.known.limbo map).used) }
+            ≡ retiring self.old.known map element
+            (tail_of (limbo_at self.old.known.limbo map).used) }
     {
         let place = Place::Link { map, element };
         self.store_by::<Brand, _>(table, place, link, (map, element));
@@ -144,9 +145,9 @@ impl Lane {
         requires table { self.old.table ≡ table.now.id }
         requires element { IsElement table.now.about map element }
         requires old { (limbo_at self.old.known.limbo map).old
-            ≡ element ∷ behind (limbo_at self.old.known.limbo map).old }
+            ≡ element ∷ tail_of (limbo_at self.old.known.limbo map).old }
         ensures table { self.new.table ≡ self.old.table }
-        ensures link { result ≡ link_to (behind (limbo_at self.old.known.limbo map).old) }
+        ensures link { result ≡ link_to (tail_of (limbo_at self.old.known.limbo map).old) }
         ensures same { self.new.known ≡ self.old.known }
     {
         self.load_by::<Brand, _>(table, Place::Link { map, element }, map)

@@ -2,8 +2,8 @@
 ghost use Rattle.std.specs.Prelude.{◌≡◌, true, [], ◌∷◌};
 ghost use Rattle.hop_words.specs.Layout.{is_place};
 ghost use Rattle.hop_words.specs.Ghost.{IsSegment};
-ghost use Rattle.hop_words.specs.Kinds.{StampSeen, StampSeenAgain, peeking, Finds};
-ghost use Rattle.hop_words.specs.Peeking.{reading_of, HasReading};
+ghost use Rattle.hop_words.specs.Kinds.{StampSeen, StampSeenAgain, peeking, FindsByPeeks};
+ghost use Rattle.hop_words.specs.Peeking.{latest_reading, HasReading};
 
 use crate::lane::Lane;
 use crate::place::Place;
@@ -28,10 +28,10 @@ impl Lane {
     pub fn peek(&mut self, table: &HopTable, place: Place) -> u64
         requires table { self.old.table ≡ table.now.id }
         requires there { is_place table.now.about.shape place ≡ true }
-        requires reading { self.old.known.readings ≡ reading_of self.old.known ∷ [] }
+        requires reading { self.old.known.readings ≡ latest_reading self.old.known ∷ [] }
         ensures table { self.new.table ≡ self.old.table }
         ensures peeked { self.new.known
-            ≡ peeking self.old.known (reading_of self.old.known) place result }
+            ≡ peeking self.old.known (latest_reading self.old.known) place result }
     {
         self.load_by::<Brand, _>(table, place, ())
     }
@@ -50,10 +50,10 @@ impl Lane {
         requires table { self.old.table ≡ table.now.id }
         requires inside { IsSegment table.now.about map segment }
         requires reading { HasReading self.old.known map segment }
-        requires finds { Finds table.now.about self.old.known (reading_of self.old.known) key.now
-            found }
+        requires finds { FindsByPeeks table.now.about self.old.known (latest_reading self.old.known)
+            key.now found }
         ensures table { self.new.table ≡ self.old.table }
-        ensures seen { StampSeenAgain table.now.about self.old.known (reading_of self.old.known)
+        ensures seen { StampSeenAgain table.now.about self.old.known (latest_reading self.old.known)
             key.now found result self.new.known }
     {
         self.load_by::<Brand, _>(table, Place::Stamp { map, segment }, (key, found))

@@ -3,7 +3,8 @@ ghost use Rattle.std.specs.Prelude.{◌≡◌, ◌<◌, ◌+◌, ◌^◌, true, 
 ghost use Rattle.bpf_shared.specs.History.{events_of};
 ghost use Rattle.bpf_shared.specs.declared.events.Event.TheVariants.{Begin, End};
 ghost use Rattle.hop_words.specs.Ghost.{limbo_at};
-ghost use Rattle.hop_words.specs.Kinds.{in_run, count_of, Told, noting_next, ageing};
+ghost use Rattle.hop_words.specs.Kinds.{run_count, Told, noting_next, ageing};
+ghost use Rattle.bpf_shared.specs.Own.{in_run};
 ghost use Rattle.hop_words.specs.Owning.{LooksAgain};
 
 use crate::lane::Lane;
@@ -24,7 +25,7 @@ impl Lane {
         requires table { self.old.table ≡ table.now.id }
         requires inside { self.old.known.cpu < table.now.about.shape.cpus }
         ensures table { self.new.table ≡ self.old.table }
-        ensures count { result ≡ count_of table.now.about self.old.known }
+        ensures count { result ≡ run_count table.now.about self.old.known }
         ensures same { self.new.known ≡ self.old.known }
     {
         let cpu = self.cpu();
@@ -36,7 +37,7 @@ impl Lane {
         requires table { self.old.table ≡ table.now.id }
         requires inside { self.old.known.cpu < table.now.about.shape.cpus }
         requires idle { in_run (events_of self.old.known.cpu self.old.known.seen) ≡ false }
-        requires room { count_of table.now.about self.old.known + 1 < 2 ^ 64 }
+        requires room { run_count table.now.about self.old.known + 1 < 2 ^ 64 }
         ensures table { self.new.table ≡ self.old.table }
         ensures begun { Told table.now.about self.old.known Begin self.new.known }
     {
@@ -49,7 +50,7 @@ impl Lane {
         requires table { self.old.table ≡ table.now.id }
         requires inside { self.old.known.cpu < table.now.about.shape.cpus }
         requires running { in_run (events_of self.old.known.cpu self.old.known.seen) ≡ true }
-        requires room { count_of table.now.about self.old.known + 1 < 2 ^ 64 }
+        requires room { run_count table.now.about self.old.known + 1 < 2 ^ 64 }
         ensures table { self.new.table ≡ self.old.table }
         ensures ended { Told table.now.about self.old.known End self.new.known }
     {

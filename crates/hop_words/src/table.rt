@@ -27,13 +27,13 @@ pub struct HopTable {
 }
 
 impl Model for HopTable {
-    ghost use Rattle.hop_words.specs.Inside.{Shown, shown, IsSized};
+    ghost use Rattle.hop_words.specs.Inside.{Shown, shown, HasLayout};
 
     ghost Value = { Shown };
 
     ghost view = { shown };
 
-    ghost invariant = { IsSized };
+    ghost invariant = { HasLayout };
 }
 
 impl HopTable {

@@ -7,7 +7,7 @@ ghost use Rattle.bpf_shared.specs.Access.{bytes_in, change_of};
 ghost use Rattle.bpf_shared.specs.declared.events.Event.TheVariants.{Load, Store, Atomic};
 ghost use Rattle.bpf_shared.specs.declared.events.Size.TheVariants.{Double};
 ghost use Rattle.hop_words.specs.Kinds.{Told};
-ghost use Rattle.hop_words.specs.Touching.{TouchesPart, TouchesWord, address_of, found_part};
+ghost use Rattle.hop_words.specs.Touching.{TouchesPart, TouchesWord, part_address, found_part};
 
 use crate::lane::Lane;
 use crate::place::Place;
@@ -47,7 +47,7 @@ impl Lane {
         requires touches { TouchesPart table.now.about self.old.known part }
         ensures table { self.new.table ≡ self.old.table }
         ensures loaded { Told table.now.about self.old.known
-            (Load (address_of table.now.about part) part.size (found_part part result))
+            (Load (part_address table.now.about part) part.size (found_part part result))
             self.new.known }
     {
         let place = Place::ValueWord {
@@ -64,7 +64,7 @@ impl Lane {
         requires touches { TouchesWord table.now.about self.old.known part }
         ensures table { self.new.table ≡ self.old.table }
         ensures stored { Told table.now.about self.old.known
-            (Store (address_of table.now.about part) Double number) self.new.known }
+            (Store (part_address table.now.about part) Double number) self.new.known }
     {
         let place = Place::ValueWord {
             map: part.map,
@@ -91,7 +91,7 @@ impl Lane {
         ensures table { self.new.table ≡ self.old.table }
         ensures stored { result ≡ old
             → Told table.now.about self.old.known
-            (Store (address_of table.now.about part) part.size stored) self.new.known }
+            (Store (part_address table.now.about part) part.size stored) self.new.known }
         ensures missed { result ≢ old → self.new.known ≡ self.old.known }
     {
         let place = Place::ValueWord {
@@ -123,7 +123,7 @@ impl Lane {
         ensures table { self.new.table ≡ self.old.table }
         ensures made { result ≡ old
             → Told table.now.about self.old.known
-            (Atomic (address_of table.now.about part) part.size op operand expected
+            (Atomic (part_address table.now.about part) part.size op operand expected
             (found_part part old)) self.new.known }
         ensures missed { result ≢ old → self.new.known ≡ self.old.known }
     {
@@ -149,7 +149,7 @@ impl Lane {
         requires touches { TouchesWord table.now.about self.old.known part }
         ensures table { self.new.table ≡ self.old.table }
         ensures made { Told table.now.about self.old.known
-            (Atomic (address_of table.now.about part) Double op operand expected result)
+            (Atomic (part_address table.now.about part) Double op operand expected result)
             self.new.known }
     {
         let place = Place::ValueWord {

@@ -8,18 +8,16 @@ use Rattle.bpf_file.specs.declared.draft.Next.{Next}
 use Rattle.bpf_file.specs.declared.draft.Next.TheVariants.{Line, Assembly}
 use Rattle.bpf_file.specs.declared.error.FileError.{FileError}
 use Rattle.bpf_file.specs.declared.error.FileError.TheVariants.{Refused, OutOfMemory}
-use Rattle.bpf_file.specs.declared.error.Reason.{Reason}
 use Rattle.bpf_file.specs.declared.error.Reason.TheVariants.{NotHex}
 use Rattle.hex.specs.declared.error.FromHexError.{FromHexError}
 use Rattle.bpf_loader.specs.Loaded.{Loaded}
 use Rattle.bpf_file.specs.Programs.{OfAssembly}
-use Rattle.bpf_file.specs.declared.line.LineError.{LineError}
 use Rattle.bpf_file.specs.declared.statement.Statement.{Statement}
 use Rattle.bpf_file.specs.File.{File, file_of}
 use Rattle.bpf_file.specs.declared.file.RunFile.{RunFile}
 use Rattle.bpf_file.specs.Parts.{Part, State, Between, Within}
 use Rattle.bpf_file.specs.Statement.{Said, said_by}
-use Rattle.bpf_file.specs.Rows.{Adds, program_added}
+use Rattle.bpf_file.specs.Rows.{AddsLine, program_added}
 use Rattle.bpf_file.specs.Reading.{AreRead}
 use Rattle.bpf_file.specs.Private.Answers.{OrMemory}
 use denote.Ref.{Bor}
@@ -56,7 +54,7 @@ closed p (Err e) = Err e
 
 -- the line of this number, which says this, made the one part the other
 abbrev pub Added : ℕ → Part → Said → Part → Result Next FileError → Type 0
-Added n p said q result = OrMemory (λ a. Adds n p said (after n q a)) result
+Added n p said q result = OrMemory (λ a. AddsLine n p said (after n q a)) result
 
 -- the bytes of a context, or its refusal
 abbrev pub HasContext : {V : Type 0} → (V → List ℕ) → ℕ → Result (List ℕ) FromHexError
@@ -73,15 +71,15 @@ Ends from p name text r =
     × (r ≡ program_added p name o)
 
 -- what lines are read as follows of what those behind are, from there on
-abbrev pub Goes : ℕ → State → List (List ℕ) → Part → Result (ℕ × Option (Bor (List ℕ))) FileError
-    → Type 0
-Goes n s ls p (Ok r) =
+abbrev pub ReadsOnFrom : ℕ → State → List (List ℕ) → Part
+    → Result (ℕ × Option (Bor (List ℕ))) FileError → Type 0
+ReadsOnFrom n s ls p (Ok r) =
     (o : Result File FileError) → AreRead r.0 (Between p) (lines_behind (option_copied r.1)) o
     → AreRead n s ls o
-Goes n s ls p (Err OutOfMemory) = Unit {0}
-Goes n s ls p (Err (Refused m why)) = AreRead n s ls (Err (Refused m why))
+ReadsOnFrom n s ls p (Err OutOfMemory) = Unit {0}
+ReadsOnFrom n s ls p (Err (Refused m why)) = AreRead n s ls (Err (Refused m why))
 
 -- what a whole answer says
-abbrev pub answer_of : Result RunFile FileError → Result File FileError
-answer_of (Ok f) = Ok (file_of f)
-answer_of (Err e) = Err e
+abbrev pub file_answer : Result RunFile FileError → Result File FileError
+file_answer (Ok f) = Ok (file_of f)
+file_answer (Err e) = Err e

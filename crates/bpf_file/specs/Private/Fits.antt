@@ -1,6 +1,6 @@
 -- What a file has at every line: sizes of a store, jobs and programs of a machine. Private
 -- functions cite this.
-use Rattle.std.specs.Prelude.{◌≡◌, ◌<◌, ℕ, nat_lt, false, [], length, None, Result, Ok, Err}
+use Rattle.std.specs.Prelude.{◌≡◌, ◌<◌, nat_lt, false, [], length, None, Result, Ok, Err}
 use Rattle.bpf_shared.specs.First.{first_of}
 use Rattle.bpf_shared.specs.Refusals.{outside, maps_tests}
 use Rattle.bpf_file.specs.declared.error.FileError.{FileError}

@@ -1,11 +1,11 @@
 use Rattle.std.proofs.Common.{sym, inr, ◌∙◌}
 use Rattle.bpf_shared.specs.Shows.{ShowsNoByte}
 use Rattle.bpf_debug.specs.Read.{ReadsNoByte}
-use Rattle.bpf_debug.proofs.ReadLaws.{none_weaker}
+use Rattle.bpf_debug.proofs.GoLaws.{none_weaker}
 use Rattle.bpf_debug.proofs.reading.byte.Goals as goal
 
 pub returns-then-reaches-clause-none : goal.returns-then-reaches-clause-none
 returns-then-reaches-clause-none c =
     let own = sym c.own_byte.ensures ∙ c.in_default.is in
     none_weaker (ShowsNoByte c.args.store.now c.args.address) (ReadsNoByte c.args.store.now c.args.state.now c.args.address)
-    c.peek.result c.peek.ensures.none (λ none s so stands. (own, inr (none s so stands)))
+    c.peek.result (λ none s so stands. (own, inr (none s so stands))) c.peek.ensures.none

@@ -5,7 +5,7 @@ use Rattle.bpf_cpu.specs.Machine.{MachineState, Shows}
 use Rattle.bpf_jobs.specs.Printed.{any_stopped}
 use Rattle.bpf_file.specs.File.{file_of}
 use Rattle.bpf_debug.specs.Script.{answer_of}
-use Rattle.bpf_run.specs.Script.{first_of}
+use Rattle.bpf_run.specs.Script.{first_world_of}
 use Rattle.bpf_run.proofs.ScriptReplies.{ended}
 use Rattle.bpf_run.proofs.script.debug.Goals as goal
 
@@ -13,7 +13,7 @@ pub returns-in-Ok-run_script : goal.returns-in-Ok-run_script
 returns-in-Ok-run_script c =
     let f = c.args.file in
     let T : MachineState → Type 0 = λ m. c.has_any_stopped.result ≡ any_stopped (length m.jobs) m.jobs in
-    let S : MachineState → Type 0 = λ m. Shows m (first_of (file_of f)) in
+    let S : MachineState → Type 0 = λ m. Shows m (first_world_of (file_of f)) in
     ended f (lines_behind (option_copied c.args.commands)) c.new-session.result c.run_script.new.session (map answer_of c.in-Ok-run_script.answers.items) c.has_any_stopped.result
     (subst S (sym c.new-session.ensures.machine) c.in-Ok.ensures) c.new-session.ensures.names c.new-session.ensures.breaks c.in-Ok-run_script.ensures
     (subst T c.machine.ensures c.has_any_stopped.ensures)

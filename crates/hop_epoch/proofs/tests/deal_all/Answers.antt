@@ -1,6 +1,6 @@
 use Rattle.std.proofs.Common.{[], ◌∷◌, All, sym, subst, ◌∙◌}
 use Rattle.std.proofs.lemmas.List.Elements.{All-nil, All-cons, All-head, All-tail, All-append}
-use Rattle.hop_epoch.specs.Ready.{IsIdle, IsReady}
+use Rattle.hop_epoch.specs.Ready.{IsIdle, IsLaneReady}
 use Rattle.hop_epoch.proofs.tests.deal_all.Goals as goal
 
 pub deal-preserved : goal.deal-preserved
@@ -8,7 +8,7 @@ deal-preserved c =
     let i = c.deal.invariant in
     let lane = c.in-Some.lane in
     let idle = IsIdle c.args.table.now.about in
-    let ready = IsReady c.args.table.now in
+    let ready = IsLaneReady c.args.table.now in
     let rest = c.deal-in-deal.new.self.lanes in
     let all = subst (All idle) c.in-Some.ensures.dealt.0 i.1 in (
       c.in-Some.ensures.table ∙ i.0,

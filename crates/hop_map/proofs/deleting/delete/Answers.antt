@@ -1,14 +1,14 @@
-use Rattle.std.proofs.Common.{◌≡◌, ℕ, ◌+◌, ◌-◌, ◌^◌, ◌<◌, ◌≤◌, length, refl, subst, ◌∙◌}
+use Rattle.std.proofs.Common.{ℕ, ◌+◌, ◌-◌, ◌^◌, ◌<◌, ◌≤◌, length, refl, subst, ◌∙◌}
 use Rattle.bpf_shared.specs.Shape.{elements}
 use Rattle.bpf_shared.specs.declared.events.MapAnswer.TheVariants.{Absent, Busy}
 use Rattle.hop_words.specs.Ghost.{shape_at, limbo_at}
 use Rattle.hop_words.specs.Rule.{done_in}
 use Rattle.hop_words.specs.Kinds.{retiring}
-use Rattle.hop_words.specs.Owning.{behind}
+use Rattle.hop_words.specs.Owning.{tail_of}
 use Rattle.hop_map.specs.declared.dropping.Deletion.{Deletion}
 use Rattle.hop_map.specs.Locks.{counted_lock}
 use Rattle.hop_map.specs.Removals.{Dropped, Kept, DeleteEnds}
-use Rattle.hop_map.proofs.Wholes.{key_at_map, kept_called, dropped_front, dropped_called}
+use Rattle.hop_map.proofs.Wholes.{key_at_map, kept_called, dropped_called}
 use Rattle.hop_map.proofs.deleting.delete.Goals as goal
 
 pub lock_and_delete-lane-requires-clause-names : goal.lock_and_delete-lane-requires-clause-names
@@ -31,7 +31,7 @@ returns-in-Gone-clause-called g c =
     let room : m < length l.limbo = subst (λ (i : ℕ). i < length l.limbo) c.requires.batches.0 c.requires.batches.1.room in
     let p : Dropped a (counted_lock l) m key c.in-Gone.old l2 × (c.in-Gone.old < elements (shape_at a m)) = subst (λ (d : Deletion). DeleteEnds a (counted_lock l) m key d l2) c.in-Gone.is c.lock_and_delete-lane.ensures.ends in
     dropped_called a l m key c.in-Gone.old l2 c.requires.rests room p.0 c.retire.new.lane.known
-    (c.retire.ensures.retired ∙ (λ j. retiring l2 (c.new-used.ensures.map j) (c.new-used.ensures.number j) (behind (limbo_at l2.limbo (c.new-used.ensures.map j)).used)))
+    (c.retire.ensures.retired ∙ (λ j. retiring l2 (c.new-used.ensures.map j) (c.new-used.ensures.number j) (tail_of (limbo_at l2.limbo (c.new-used.ensures.map j)).used)))
 
 pub returns-in-Missing-clause-called : goal.returns-in-Missing-clause-called
 returns-in-Missing-clause-called g c =

@@ -1,7 +1,7 @@
 use Rattle.std.proofs.Common.{◌≡◌, ℕ, sym, subst, ◌∙◌}
 use Rattle.hop_map.specs.Views.{Locked}
-use Rattle.hop_map.specs.Calls.{Contents}
-use Rattle.hop_map.specs.Removals.{Names, DeleteEnds}
+use Rattle.hop_map.specs.Calls.{LockShows}
+use Rattle.hop_map.specs.Removals.{NamesKey, DeleteEnds}
 use Rattle.hop_map.proofs.Locking.{empty_ready, locked_contents, locked_names, delete_before}
 use Rattle.hop_map.proofs.deleting.lock_and_delete.Goals as goal
 
@@ -21,13 +21,13 @@ new-words-requires g c =
 pub delete_key-requires-clause-contents : goal.delete_key-requires-clause-contents
 delete_key-requires-clause-contents g c =
     let is : ◌≡◌ {A = Locked} c.new-words.result (record { table = c.new-words.result.table; about = c.args.table.now.about; known = c.lock_when_free-stamp.new.lane.known; map = c.args.map; segment = c.homing-at.result.segment }) = (λ j. record { table = c.new-words.result.table; about = c.new-words.ensures.about j; known = c.new-words.ensures.known j; map = c.new-words.ensures.map j; segment = c.new-words.ensures.segment j }) in
-    subst (λ (z : Locked). Contents z.about z.known z.map z.segment) (sym is) (locked_contents c.args.table.now.about c.args.lane.known c.args.map c.homing-at.result.segment c.lock_when_free-stamp.result c.homing-at.ensures.inside c.lock_when_free-stamp.new.lane.known c.lock_when_free-stamp.ensures.locked)
+    subst (λ (z : Locked). LockShows z.about z.known z.map z.segment) (sym is) (locked_contents c.args.table.now.about c.args.lane.known c.args.map c.homing-at.result.segment c.lock_when_free-stamp.result c.homing-at.ensures.inside c.lock_when_free-stamp.new.lane.known c.lock_when_free-stamp.ensures.locked)
 
 pub delete_key-requires-clause-names : goal.delete_key-requires-clause-names
 delete_key-requires-clause-names g c =
     let is : ◌≡◌ {A = Locked} c.new-words.result (record { table = c.new-words.result.table; about = c.args.table.now.about; known = c.lock_when_free-stamp.new.lane.known; map = c.args.map; segment = c.homing-at.result.segment }) = (λ j. record { table = c.new-words.result.table; about = c.new-words.ensures.about j; known = c.new-words.ensures.known j; map = c.new-words.ensures.map j; segment = c.new-words.ensures.segment j }) in
-    subst (λ (z : Locked). Names z.about z.known z.map z.segment c.args.key.now) (sym is)
-    (locked_names c.args.table.now.about c.args.lane.known c.args.map c.homing-at.result.segment c.lock_when_free-stamp.result c.args.key.now c.lock_when_free-stamp.new.lane.known c.lock_when_free-stamp.ensures.locked (subst (λ (s : ℕ). Names c.args.table.now.about c.args.lane.known c.args.map s c.args.key.now) (sym c.homing-at.ensures.segment) c.requires.names))
+    subst (λ (z : Locked). NamesKey z.about z.known z.map z.segment c.args.key.now) (sym is)
+    (locked_names c.args.table.now.about c.args.lane.known c.args.map c.homing-at.result.segment c.lock_when_free-stamp.result c.args.key.now c.lock_when_free-stamp.new.lane.known c.lock_when_free-stamp.ensures.locked (subst (λ (s : ℕ). NamesKey c.args.table.now.about c.args.lane.known c.args.map s c.args.key.now) (sym c.homing-at.ensures.segment) c.requires.names))
 
 pub returns-clause-ends : goal.returns-clause-ends
 returns-clause-ends g c =

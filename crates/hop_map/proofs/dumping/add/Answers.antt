@@ -1,6 +1,6 @@
 use Rattle.std.proofs.Common.{ℕ, List, subst}
 use Rattle.bpf_shared.specs.Shows.{listed}
-use Rattle.hop_map.specs.Dumping.{HasKey}
+use Rattle.hop_map.specs.Dumping.{IsKeyAmong}
 use Rattle.hop_map.proofs.Dumps.{adds_pair, adds_key}
 use Rattle.hop_map.proofs.dumping.add.Goals as goal
 
@@ -11,5 +11,5 @@ returns-clause-adds c =
 
 pub returns-clause-key : goal.returns-clause-key
 returns-clause-key c =
-    subst (λ (k : List ℕ). HasKey k (listed c.insert.new.self.entries)) c.in_ok-key.ensures
+    subst (λ (k : List ℕ). IsKeyAmong k (listed c.insert.new.self.entries)) c.in_ok-key.ensures
     (adds_key c.args.rest.now c.args.map c.args.pairs.now.entries c.insert.new.self.entries c.in_ok-key.key c.in_ok-value.value c.in_ok-insert.ensures.entries)

@@ -4,7 +4,7 @@ use Rattle.bpf_shared.specs.Shows.{listed}
 use Rattle.hop_words.specs.Content.{item}
 use Rattle.hop_seg.specs.Words.{Words as SegWords}
 use Rattle.hop_seg.proofs.Walking.{Counted, counted_begins, counted_on, counted_ends, walk_at, walk_ends}
-use Rattle.hop_map.specs.Dumping.{key_in, HasKey}
+use Rattle.hop_map.specs.Dumping.{key_in, IsKeyAmong}
 use Rattle.hop_map.proofs.Places.{link_there}
 use Rattle.hop_map.proofs.Dumps.{seen, sound, on_list, listed_reached, reached_inside, adds_none, adds_on, walk_weaker}
 use Rattle.hop_map.proofs.dumping.add_listed.Goals as goal
@@ -14,7 +14,7 @@ list-init c =
     let e = c.args.rest.now in
     let w = c.about-about.ensures.whole in
     let v : SegWords = seen e w c.args.map c.args.segment c.requires.inside in
-    let P : ℕ → Type 0 = λ i. HasKey (key_in e c.args.map i) (listed c.args.pairs.now.entries) in
+    let P : ℕ → Type 0 = λ i. IsKeyAmong (key_in e c.args.map i) (listed c.args.pairs.now.entries) in
     record {
       adds = adds_none e c.args.map (listed c.args.pairs.now.entries);
       before = None;
@@ -26,7 +26,7 @@ reached_now c =
     let e = c.args.rest.now in
     let w = c.about-about.ensures.whole in
     let v : SegWords = seen e w c.args.map c.args.segment c.requires.inside in
-    let P : ℕ → Type 0 = λ i. HasKey (key_in e c.args.map i) (listed c.list.pairs.entries) in
+    let P : ℕ → Type 0 = λ i. IsKeyAmong (key_in e c.args.map i) (listed c.list.pairs.entries) in
     let k = subst (λ (o : Option ℕ). Counted v P c.list.invariant.before o c.list._passed) c.in-Some.is c.list.invariant.walk in
     listed_reached e w c.args.map c.args.segment c.requires.inside c.in-Some.element
     (walk_at v (sound e w c.args.map c.args.segment c.requires.inside) P c.list.invariant.before c.in-Some.element k.walk).link.listed
@@ -39,7 +39,7 @@ add-requires-clause-element c =
     let e = c.args.rest.now in
     let w = c.about-about.ensures.whole in
     let v : SegWords = seen e w c.args.map c.args.segment c.requires.inside in
-    let P : ℕ → Type 0 = λ i. HasKey (key_in e c.args.map i) (listed c.list.pairs.entries) in
+    let P : ℕ → Type 0 = λ i. IsKeyAmong (key_in e c.args.map i) (listed c.list.pairs.entries) in
     let k = subst (λ (o : Option ℕ). Counted v P c.list.invariant.before o c.list._passed) c.in-Some.is c.list.invariant.walk in
     reached_inside e w c.args.map c.args.segment c.in-Some.element c.requires.inside
     (listed_reached e w c.args.map c.args.segment c.requires.inside c.in-Some.element
@@ -50,7 +50,7 @@ word-requires-in-list c =
     let e = c.args.rest.now in
     let w = c.about-about.ensures.whole in
     let v : SegWords = seen e w c.args.map c.args.segment c.requires.inside in
-    let P : ℕ → Type 0 = λ i. HasKey (key_in e c.args.map i) (listed c.list.pairs.entries) in
+    let P : ℕ → Type 0 = λ i. IsKeyAmong (key_in e c.args.map i) (listed c.list.pairs.entries) in
     let k = subst (λ (o : Option ℕ). Counted v P c.list.invariant.before o c.list._passed) c.in-Some.is c.list.invariant.walk in
     let inside = reached_inside e w c.args.map c.args.segment c.in-Some.element c.requires.inside
     (listed_reached e w c.args.map c.args.segment c.requires.inside c.in-Some.element
@@ -65,8 +65,8 @@ list-preserved c =
     let v : SegWords = seen e w m c.args.segment c.requires.inside in
     let now = listed c.list.pairs.entries in
     let after = listed c.add.new.pairs.entries in
-    let P : ℕ → Type 0 = λ i. HasKey (key_in e m i) now in
-    let Q : ℕ → Type 0 = λ i. HasKey (key_in e m i) after in
+    let P : ℕ → Type 0 = λ i. IsKeyAmong (key_in e m i) now in
+    let Q : ℕ → Type 0 = λ i. IsKeyAmong (key_in e m i) after in
     let i = c.in-Some.element in
     let k = subst (λ (o : Option ℕ). Counted v P c.list.invariant.before o c.list._passed) c.in-Some.is c.list.invariant.walk in
     let more = walk_weaker v P Q c.list.invariant.before (Some i) c.list._passed (λ j h. c.in_ok-add.ensures.adds.kept (key_in e m j) h) k in
@@ -82,7 +82,7 @@ returns-in_default-clause-keys c = λ i on.
     let e = c.args.rest.now in
     let w = c.about-about.ensures.whole in
     let v : SegWords = seen e w c.args.map c.args.segment c.requires.inside in
-    let P : ℕ → Type 0 = λ i. HasKey (key_in e c.args.map i) (listed c.list.pairs.entries) in
+    let P : ℕ → Type 0 = λ i. IsKeyAmong (key_in e c.args.map i) (listed c.list.pairs.entries) in
     let k = subst (λ (o : Option ℕ). Counted v P c.list.invariant.before o c.list._passed) c.in_default.is c.list.invariant.walk in
     walk_ends v P c.list.invariant.before k.walk i (on_list e w c.args.map c.args.segment c.requires.inside i on)
 
@@ -91,6 +91,6 @@ returns-clause-keys c = λ i on.
     let e = c.args.rest.now in
     let w = c.about-about.ensures.whole in
     let v : SegWords = seen e w c.args.map c.args.segment c.requires.inside in
-    let P : ℕ → Type 0 = λ i. HasKey (key_in e c.args.map i) (listed c.list.pairs.entries) in
+    let P : ℕ → Type 0 = λ i. IsKeyAmong (key_in e c.args.map i) (listed c.list.pairs.entries) in
     let all : v.fixed.limit ≤ c.list._passed = (let t = c.list-test.false in let n = c.elements-count.ensures.elements in let g = c.shape_of.ensures.shape in omega (arith, n ∙ ap elements g)) in
     counted_ends v (sound e w c.args.map c.args.segment c.requires.inside) P c.list.invariant.before c.list.at c.list._passed all c.list.invariant.walk i (on_list e w c.args.map c.args.segment c.requires.inside i on)

@@ -1,13 +1,13 @@
 use Rattle.std.specs.Prelude.{ℕ, true, Option}
 use Rattle.bpf_shared.specs.Shows.{listed}
 use Rattle.hop_seg.proofs.Walking.{Counted}
-use Rattle.hop_map.specs.Views.{view}
-use Rattle.hop_map.specs.Dumping.{words_in, key_in, HasKey, Adds}
+use Rattle.hop_map.specs.Views.{segment_view}
+use Rattle.hop_map.specs.Dumping.{words_in, key_in, IsKeyAmong, AddsPairs}
 use Rattle.hop_map.proofs.dumping.add_listed.Given as goal
 
 abbrev pub invariant-list : goal.invariant-list
 invariant-list l = record {
-  adds : Adds l.rest l.map (listed l.fn.pairs.entries) (listed l.pairs.entries);
+  adds : AddsPairs l.rest l.map (listed l.fn.pairs.entries) (listed l.pairs.entries);
   before : Option ℕ;
-  walk : Counted (view l.rest.about l.map l.segment (λ i. true) (words_in l.rest)) (λ i. HasKey (key_in l.rest l.map i) (listed l.pairs.entries)) before l.at l._passed;
+  walk : Counted (segment_view l.rest.about l.map l.segment (λ i. true) (words_in l.rest)) (λ i. IsKeyAmong (key_in l.rest l.map i) (listed l.pairs.entries)) before l.at l._passed;
 }

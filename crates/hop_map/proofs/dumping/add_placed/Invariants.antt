@@ -1,11 +1,11 @@
 use Rattle.std.specs.Prelude.{◌≡◌, ◌<◌, ℕ, Some}
 use Rattle.bpf_shared.specs.Shows.{listed}
 use Rattle.hop_words.specs.Content.{item}
-use Rattle.hop_map.specs.Dumping.{words_in, key_in, HasKey, Adds}
+use Rattle.hop_map.specs.Dumping.{words_in, key_in, IsKeyAmong, AddsPairs}
 use Rattle.hop_map.proofs.dumping.add_placed.Given as goal
 
 abbrev pub invariant-places : goal.invariant-places
 invariant-places l = record {
-  adds : Adds l.rest l.map (listed l.fn.pairs.entries) (listed l.pairs.entries);
-  keys : (p i : ℕ) → p < l.place → item ((words_in l.rest).slot l.map l.segment p) ≡ Some i → HasKey (key_in l.rest l.map i) (listed l.pairs.entries);
+  adds : AddsPairs l.rest l.map (listed l.fn.pairs.entries) (listed l.pairs.entries);
+  keys : (p i : ℕ) → p < l.place → item ((words_in l.rest).slot l.map l.segment p) ≡ Some i → IsKeyAmong (key_in l.rest l.map i) (listed l.pairs.entries);
 }

@@ -1,7 +1,7 @@
 use Rattle.std.specs.Prelude.{◌≡◌}
-use Rattle.hop_words.specs.Homes.{spelled}
+use Rattle.hop_words.specs.Homes.{bytes_of_words}
 use Rattle.hop_map.specs.Dumping.{words_in}
 use Rattle.hop_map.proofs.dumping.read_key.Given as goal
 
 abbrev pub invariant-words : goal.invariant-words
-invariant-words l = l.bytes.items ≡ spelled l.word ((words_in l.rest).key l.map l.element)
+invariant-words l = l.bytes.items ≡ bytes_of_words l.word ((words_in l.rest).key l.map l.element)

@@ -1,8 +1,8 @@
 use Rattle.std.specs.Prelude.{◌≡◌}
 use Rattle.hop_words.specs.declared.place.Place.TheVariants.{ValueWord}
 use Rattle.hop_words.specs.Layout.{mem}
-use Rattle.hop_words.specs.Homes.{spelled}
+use Rattle.hop_words.specs.Homes.{bytes_of_words}
 use Rattle.hop_map.proofs.dumping.read_value.Given as goal
 
 abbrev pub invariant-words : goal.invariant-words
-invariant-words l = l.bytes.items ≡ spelled l.word (λ k. mem l.rest.about.shape l.rest.words (ValueWord l.map l.element k))
+invariant-words l = l.bytes.items ≡ bytes_of_words l.word (λ k. mem l.rest.about.shape l.rest.words (ValueWord l.map l.element k))

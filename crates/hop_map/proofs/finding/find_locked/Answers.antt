@@ -4,7 +4,7 @@ use Rattle.std.specs.Prelude.{Option}
 use Rattle.hop_words.specs.Kinds.{LookedUp}
 use Rattle.hop_words.specs.Locking.{lock_of}
 use Rattle.hop_map.specs.Views.{Locked}
-use Rattle.hop_map.specs.Calls.{Contents}
+use Rattle.hop_map.specs.Calls.{LockShows}
 use Rattle.hop_map.specs.Finding.{Looked}
 use Rattle.hop_map.proofs.Locking.{empty_ready, locked_contents}
 use Rattle.hop_map.proofs.Looking.{looked}
@@ -25,7 +25,7 @@ pub find_here-lane-requires-clause-contents : goal.find_here-lane-requires-claus
 find_here-lane-requires-clause-contents g c =
     let w = c.new-words in
     let is : ◌≡◌ {A = Locked} w.result (record { table = w.result.table; about = c.args.table.now.about; known = c.lock_when_free-stamp.new.lane.known; map = c.args.map; segment = c.homing-at.result.segment }) = (λ j. record { table = w.result.table; about = w.ensures.about j; known = w.ensures.known j; map = w.ensures.map j; segment = w.ensures.segment j }) in
-    subst (λ (z : Locked). Contents z.about z.known z.map z.segment) (sym is) (locked_contents c.args.table.now.about c.args.lane.known c.args.map c.homing-at.result.segment c.lock_when_free-stamp.result c.homing-at.ensures.inside c.lock_when_free-stamp.new.lane.known c.lock_when_free-stamp.ensures.locked)
+    subst (λ (z : Locked). LockShows z.about z.known z.map z.segment) (sym is) (locked_contents c.args.table.now.about c.args.lane.known c.args.map c.homing-at.result.segment c.lock_when_free-stamp.result c.homing-at.ensures.inside c.lock_when_free-stamp.new.lane.known c.lock_when_free-stamp.ensures.locked)
 
 pub returns-clause-found : goal.returns-clause-found
 returns-clause-found g c =

@@ -1,4 +1,4 @@
-use Rattle.std.proofs.Common.{◌≡◌, sym, subst, ◌∙◌, arith, Option}
+use Rattle.std.proofs.Common.{sym, subst, ◌∙◌, arith, Option}
 use Rattle.bpf_shared.specs.declared.events.Span.{Span}
 use Rattle.hop_map.specs.Finding.{Looked}
 use Rattle.hop_map.proofs.Peeking.{finds}

@@ -3,7 +3,7 @@ use Rattle.bpf_shared.specs.declared.events.Event.TheVariants.{Update}
 use Rattle.hop_words.specs.Kinds.{Answers}
 use Rattle.hop_words.specs.Locking.{lock_of}
 use Rattle.hop_seg.specs.Content.{HasPair, IsAbsent}
-use Rattle.hop_map.specs.Views.{Locked, Ready, words}
+use Rattle.hop_map.specs.Views.{Locked, Ready, seen_words}
 use Rattle.hop_map.proofs.putting.put.Goals as goal
 
 pub unlock_update-requires-clause-answers : goal.unlock_update-requires-clause-answers
@@ -14,8 +14,8 @@ unlock_update-requires-clause-answers g c =
 pub put_over-lane-requires-clause-there : goal.put_over-lane-requires-clause-there
 put_over-lane-requires-clause-there g c =
     let j = c.in-There.ensures.judges in
-    (j.2.0, subst (λ (z : Locked). HasPair (words z) c.args.key.now j.2.0) (sym c.judge.ensures.same) j.2.1)
+    (j.2.0, subst (λ (z : Locked). HasPair (seen_words z) c.args.key.now j.2.0) (sym c.judge.ensures.same) j.2.1)
 
 pub put_new-requires-clause-absent : goal.put_new-requires-clause-absent
 put_new-requires-clause-absent g c =
-    subst (λ (z : Locked). IsAbsent (words z) c.args.key.now) (sym c.judge.ensures.same) c.in-Missing.ensures.judges.2
+    subst (λ (z : Locked). IsAbsent (seen_words z) c.args.key.now) (sym c.judge.ensures.same) c.in-Missing.ensures.judges.2

@@ -1,7 +1,7 @@
 use Rattle.std.proofs.Common.{sym, subst}
 use Rattle.bpf_shared.specs.declared.events.Event.TheVariants.{Update}
 use Rattle.bpf_shared.specs.declared.events.MapAnswer.TheVariants.{NoMemory}
-use Rattle.hop_words.specs.Kinds.{IsAbsent, Answers}
+use Rattle.hop_words.specs.Kinds.{IsKeyAbsent, Answers}
 use Rattle.hop_words.specs.Locking.{lock_of}
 use Rattle.hop_map.specs.Views.{Locked, Ready}
 use Rattle.hop_map.proofs.Verdicts.{judge_absent, lacking_answers}
@@ -9,7 +9,7 @@ use Rattle.hop_map.proofs.putting.refuse.Goals as goal
 
 pub see_lack-answer-requires-clause-absent : goal.see_lack-answer-requires-clause-absent
 see_lack-answer-requires-clause-absent c =
-    subst (λ (z : Locked). IsAbsent z.about (lock_of z.known) c.args.key.now) (sym c.judge.ensures.same)
+    subst (λ (z : Locked). IsKeyAbsent z.about (lock_of z.known) c.args.key.now) (sym c.judge.ensures.same)
     (judge_absent c.args.words c.args.key.now c.args.value.now c.args.flags c.requires.contents c.requires.wants c.in-Missing.ensures.judges.2)
 
 pub unlock_update-requires-clause-answers : goal.unlock_update-requires-clause-answers

@@ -1,4 +1,4 @@
-use Rattle.std.proofs.Common.{◌≡◌, ◌≢◌, ℕ, ◌+◌, ◌-◌, ◌^◌, ◌<◌, ◌≤◌, List, [], ◌∷◌, length, refl, ap, sym, subst, ◌∙◌, arith}
+use Rattle.std.proofs.Common.{◌≢◌, ℕ, ◌+◌, ◌-◌, ◌^◌, ◌<◌, ◌≤◌, List, [], ◌∷◌, length, refl, ap, sym, subst, ◌∙◌, arith}
 use Rattle.bpf_shared.specs.Shape.{IsMapShape}
 use Rattle.bpf_shared.specs.declared.events.Entry.{Entry}
 use Rattle.bpf_shared.specs.declared.events.MapAnswer.TheVariants.{NoMemory}
@@ -8,7 +8,7 @@ use Rattle.hop_words.specs.Homes.{segment_of}
 use Rattle.hop_words.specs.Ghost.{shape_at, limbo_at}
 use Rattle.hop_words.specs.Rule.{done_in}
 use Rattle.hop_words.specs.Kinds.{retiring}
-use Rattle.hop_words.specs.Owning.{behind, IsInHand}
+use Rattle.hop_words.specs.Owning.{tail_of, IsInHand}
 use Rattle.hop_map.specs.declared.ending.Ending.{Ending}
 use Rattle.hop_map.specs.Overs.{Over}
 use Rattle.hop_map.specs.Locks.{Readies, counted_lock}
@@ -22,7 +22,7 @@ pub fill-requires-clause-hand : goal.fill-requires-clause-hand
 fill-requires-clause-hand g c =
     let new = c.requires.new in
     let f : Fresh = record { map = c.args.map; element = c.args.element.number; key = []; value = [] } in
-    (f, new ∙ ap (λ (fs : List Fresh). f ∷ fs) (sym (ap behind new)), sym c.requires.map, refl)
+    (f, new ∙ ap (λ (fs : List Fresh). f ∷ fs) (sym (ap tail_of new)), sym c.requires.map, refl)
 
 pub fill-requires-clause-key : goal.fill-requires-clause-key
 fill-requires-clause-key g c =
@@ -101,7 +101,7 @@ returns-in-Replaced-clause-called g c =
     let p : Over a (counted_lock c.fill.new.lane.known) m key bytes c.args.flags c.in-Replaced.old c.lock_and_put-lane.result.0.known = subst (λ (q : Ending). UpdateEnds a (counted_lock c.fill.new.lane.known) m key bytes c.args.flags q c.lock_and_put-lane.result.0.known) c.in-Replaced.is c.lock_and_put-lane.ensures.ends in
     let l2 = c.lock_and_put-lane.result.0.known in
     over_called a l m e c.requires.new key bytes c.fill.new.lane.known c.fill.ensures.filled c.requires.used room c.args.flags c.lock_and_put-lane.result.0.known c.in-Replaced.old p c.retire.new.lane.known
-    (c.retire.ensures.retired ∙ (λ j. retiring l2 (c.new-used.ensures.map j) (c.new-used.ensures.number j) (behind (limbo_at l2.limbo (c.new-used.ensures.map j)).used)))
+    (c.retire.ensures.retired ∙ (λ j. retiring l2 (c.new-used.ensures.map j) (c.new-used.ensures.number j) (tail_of (limbo_at l2.limbo (c.new-used.ensures.map j)).used)))
 
 pub returns-in-Refused-clause-called : goal.returns-in-Refused-clause-called
 returns-in-Refused-clause-called g c =

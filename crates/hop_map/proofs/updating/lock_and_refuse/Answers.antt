@@ -1,6 +1,6 @@
 use Rattle.std.proofs.Common.{◌≡◌, ℕ, sym, subst, ◌∙◌}
 use Rattle.hop_map.specs.Views.{Locked}
-use Rattle.hop_map.specs.Calls.{Contents}
+use Rattle.hop_map.specs.Calls.{LockShows}
 use Rattle.hop_map.specs.Updates.{Wants, Refusal}
 use Rattle.hop_map.proofs.Locking.{empty_ready, locked_contents, locked_wants, refusal_before}
 use Rattle.hop_map.proofs.updating.lock_and_refuse.Goals as goal
@@ -21,7 +21,7 @@ new-words-requires g c =
 pub refuse-requires-clause-contents : goal.refuse-requires-clause-contents
 refuse-requires-clause-contents g c =
     let is : ◌≡◌ {A = Locked} c.new-words.result (record { table = c.new-words.result.table; about = c.args.table.now.about; known = c.lock_when_free-stamp.new.lane.known; map = c.args.map; segment = c.homing-at.result.segment }) = (λ j. record { table = c.new-words.result.table; about = c.new-words.ensures.about j; known = c.new-words.ensures.known j; map = c.new-words.ensures.map j; segment = c.new-words.ensures.segment j }) in
-    subst (λ (z : Locked). Contents z.about z.known z.map z.segment) (sym is) (locked_contents c.args.table.now.about c.args.lane.known c.args.map c.homing-at.result.segment c.lock_when_free-stamp.result c.homing-at.ensures.inside c.lock_when_free-stamp.new.lane.known c.lock_when_free-stamp.ensures.locked)
+    subst (λ (z : Locked). LockShows z.about z.known z.map z.segment) (sym is) (locked_contents c.args.table.now.about c.args.lane.known c.args.map c.homing-at.result.segment c.lock_when_free-stamp.result c.homing-at.ensures.inside c.lock_when_free-stamp.new.lane.known c.lock_when_free-stamp.ensures.locked)
 
 pub refuse-requires-clause-wants : goal.refuse-requires-clause-wants
 refuse-requires-clause-wants g c =

@@ -2,7 +2,7 @@ use Rattle.std.proofs.Common.{◌≡◌, ◌<◌, ℕ, List, sym, subst, ap, ◌
 use Rattle.hop_seg.specs.Words.{Words}
 use Rattle.hop_seg.specs.Places.{bucket_of}
 use Rattle.hop_seg.specs.Content.{Loses}
-use Rattle.hop_seg.specs.Segment.{key_at}
+use Rattle.hop_seg.specs.Segment.{element_key}
 use Rattle.hop_seg.specs.Edits.{item_taken, unlinked}
 use Rattle.hop_seg.specs.Spots.{bucket_for, IsKeyed, IsLink, IsSpot}
 use Rattle.hop_seg.proofs.Listing.{unlink_loses}
@@ -27,7 +27,7 @@ returns-in-Listed-clause-loses g c =
     let w = g.S.SegWords.words c.args.words.now in
     let o = c.in-Listed.before in
     let e = c.in-Listed.element in
-    let at : IsLink w o e × (key_at w e ≡ c.args.key.now) = subst (IsSpot w c.args.key.now) c.in-Listed.is c.in-Some.ensures.found in
+    let at : IsLink w o e × (element_key w e ≡ c.args.key.now) = subst (IsSpot w c.args.key.now) c.in-Listed.is c.in-Some.ensures.found in
     let taken : g.S.SegWords.words c.unlink.new.words ≡ unlinked w o e = c.unlink.ensures.words ∙ ap (λ (v : Words). unlinked v o e) c.spot.ensures.same in
     subst (λ (v : Words). Loses w v c.args.key.now e) (sym taken)
     (subst (λ (k : List ℕ). Loses w (unlinked w o e) k e) at.1 (unlink_loses w c.requires.sound o e at.0))

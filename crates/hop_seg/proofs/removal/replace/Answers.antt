@@ -1,8 +1,8 @@
-use Rattle.std.proofs.Common.{◌≡◌, ◌<◌, ℕ, List, Some, sym, subst, ap, ◌∙◌}
+use Rattle.std.proofs.Common.{◌≡◌, ◌<◌, ℕ, List, sym, subst, ap, ◌∙◌}
 use Rattle.hop_seg.specs.Words.{Words}
-use Rattle.hop_seg.specs.Segment.{key_at}
+use Rattle.hop_seg.specs.Segment.{element_key}
 use Rattle.hop_seg.specs.Edits.{item_changed, relinked}
-use Rattle.hop_seg.specs.Places.{bucket_of, place_at}
+use Rattle.hop_seg.specs.Places.{bucket_of}
 use Rattle.hop_seg.specs.Content.{Changes}
 use Rattle.hop_seg.specs.Spots.{bucket_for, IsKeyed, IsLink, IsSpot}
 use Rattle.hop_seg.proofs.Listing.{relink_changes}
@@ -29,7 +29,7 @@ returns-in-Listed-clause-changes g c =
     let w = g.S.SegWords.words c.args.words.now in
     let o = c.in-Listed.before in
     let e = c.in-Listed.element in
-    let at : IsLink w o e × (key_at w e ≡ c.args.key.now) = subst (IsSpot w c.args.key.now) c.in-Listed.is c.in-Some.ensures.found in
+    let at : IsLink w o e × (element_key w e ≡ c.args.key.now) = subst (IsSpot w c.args.key.now) c.in-Listed.is c.in-Some.ensures.found in
     let written : g.S.SegWords.words c.relink.new.words ≡ relinked w o e c.args.new = c.relink.ensures.words ∙ ap (λ (v : Words). relinked v o e c.args.new) c.spot.ensures.same in
     subst (λ (v : Words). Changes w v c.args.key.now e c.args.new) (sym written)
     (subst (λ (k : List ℕ). Changes w (relinked w o e c.args.new) k e c.args.new) at.1

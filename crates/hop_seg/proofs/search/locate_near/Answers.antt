@@ -1,7 +1,7 @@
 use Rattle.std.proofs.Common.{◌≡◌, ℕ, inl, inr, sym, ◌∙◌, subst, arith}
 use Rattle.std.proofs.lemmas.Bool.{cases_eq}
 use Rattle.std.specs.Int.{bit_at}
-use Rattle.hop_seg.specs.Words.{Words, without_bit}
+use Rattle.hop_seg.specs.Words.{without_bit}
 use Rattle.hop_seg.specs.Spots.{NoneAt}
 use Rattle.hop_seg.proofs.Basics.{cleared}
 use Rattle.hop_seg.proofs.search.locate_near.Goals as goal

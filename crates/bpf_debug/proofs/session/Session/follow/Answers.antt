@@ -1,41 +1,41 @@
 use Rattle.std.proofs.Common.{sym, subst}
 use Rattle.std.specs.Prelude.{IfOk, string_bytes}
-use Rattle.bpf_debug.specs.Command.{said_by}
+use Rattle.bpf_debug.specs.Command.{command_order}
 use Rattle.bpf_debug.specs.Session.{Leaves}
 use Rattle.bpf_debug.specs.declared.command.Command.{Command}
 use Rattle.bpf_debug.proofs.session.Session.follow.Goals as goal
 
 pub returns-in-Break-clause-answered : goal.returns-in-Break-clause-answered
 returns-in-Break-clause-answered c =
-    let P : Command → Type 0 = λ o. IfOk c.break_cpu.result (λ text. Leaves c.args.self.now (said_by o) (string_bytes text) c.break_cpu.new.self) in
+    let P : Command → Type 0 = λ o. IfOk c.break_cpu.result (λ text. Leaves c.args.self.now (command_order o) (string_bytes text) c.break_cpu.new.self) in
     subst P (sym c.in-Break.is) c.break_cpu.ensures.answered
 
 pub returns-in-Step-clause-answered : goal.returns-in-Step-clause-answered
 returns-in-Step-clause-answered c =
-    let P : Command → Type 0 = λ o. IfOk c.step.result (λ text. Leaves c.args.self.now (said_by o) (string_bytes text) c.step.new.self) in
+    let P : Command → Type 0 = λ o. IfOk c.step.result (λ text. Leaves c.args.self.now (command_order o) (string_bytes text) c.step.new.self) in
     subst P (sym c.in-Step.is) c.step.ensures.answered
 
 pub returns-in-Go-clause-answered : goal.returns-in-Go-clause-answered
 returns-in-Go-clause-answered c =
-    let P : Command → Type 0 = λ o. IfOk c.go.result (λ text. Leaves c.args.self.now (said_by o) (string_bytes text) c.go.new.self) in
+    let P : Command → Type 0 = λ o. IfOk c.go.result (λ text. Leaves c.args.self.now (command_order o) (string_bytes text) c.go.new.self) in
     subst P (sym c.in-Go.is) c.go.ensures.answered
 
 pub returns-in-Registers-clause-answered : goal.returns-in-Registers-clause-answered
 returns-in-Registers-clause-answered c =
-    let P : Command → Type 0 = λ o. IfOk c.registers.result (λ text. Leaves c.args.self.now (said_by o) (string_bytes text) c.args.self.now) in
+    let P : Command → Type 0 = λ o. IfOk c.registers.result (λ text. Leaves c.args.self.now (command_order o) (string_bytes text) c.args.self.now) in
     subst P (sym c.in-Registers.is) c.registers.ensures.answered
 
 pub returns-in-Where-clause-answered : goal.returns-in-Where-clause-answered
 returns-in-Where-clause-answered c =
-    let P : Command → Type 0 = λ o. IfOk c.standing.result (λ text. Leaves c.args.self.now (said_by o) (string_bytes text) c.args.self.now) in
+    let P : Command → Type 0 = λ o. IfOk c.standing.result (λ text. Leaves c.args.self.now (command_order o) (string_bytes text) c.args.self.now) in
     subst P (sym c.in-Where.is) c.standing.ensures.answered
 
 pub returns-in-Memory-clause-answered : goal.returns-in-Memory-clause-answered
 returns-in-Memory-clause-answered c =
-    let P : Command → Type 0 = λ o. IfOk c.memory.result (λ text. Leaves c.args.self.now (said_by o) (string_bytes text) c.args.self.now) in
+    let P : Command → Type 0 = λ o. IfOk c.memory.result (λ text. Leaves c.args.self.now (command_order o) (string_bytes text) c.args.self.now) in
     subst P (sym c.in-Memory.is) c.memory.ensures.answered
 
 pub returns-in-Map-clause-answered : goal.returns-in-Map-clause-answered
 returns-in-Map-clause-answered c =
-    let P : Command → Type 0 = λ o. IfOk c.map.result (λ text. Leaves c.args.self.now (said_by o) (string_bytes text) c.args.self.now) in
+    let P : Command → Type 0 = λ o. IfOk c.map.result (λ text. Leaves c.args.self.now (command_order o) (string_bytes text) c.args.self.now) in
     subst P (sym c.in-Map.is) c.map.ensures.answered

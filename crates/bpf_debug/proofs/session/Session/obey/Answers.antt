@@ -1,6 +1,6 @@
 use Rattle.std.proofs.Common.{◌≡◌, ℕ, [], List, sym, ap, ◌∙◌, map}
 use Rattle.std.specs.Prelude.{IfOk, string_bytes}
-use Rattle.bpf_debug.specs.Command.{said_by}
+use Rattle.bpf_debug.specs.Command.{command_order}
 use Rattle.bpf_debug.specs.Session.{Leaves, LeavesLine}
 use Rattle.std.proofs.Common.{Result, Ok, Err, String, Global, Bor}
 use Rattle.std.proofs.Common.{length}
@@ -24,7 +24,7 @@ returns-then-is_empty-clause-answered c =
 pub returns-in-Some-clause-answered : goal.returns-in-Some-clause-answered
 returns-in-Some-clause-answered c =
     let fields = map (λ (f : Bor (List ℕ)). f.now) c.args.fields.now in
-    let order = said_by c.in-Some.command in
+    let order = command_order c.in-Some.command in
     let P : String Global → Type 0 = λ text. Leaves c.args.self.now order (string_bytes text) c.follow.new.self in
     let Q : String Global → Type 0 = λ text. LeavesLine c.args.self.now fields (string_bytes text) c.follow.new.self in
     ok_weaker P Q c.follow.result (λ text leaves. line_done c.args.self.now c.follow.new.self fields order (string_bytes text) c.in-Some.ensures leaves) c.follow.ensures.answered

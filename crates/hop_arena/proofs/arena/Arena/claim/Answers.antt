@@ -1,6 +1,6 @@
 use Rattle.std.proofs.Common.{ℕ, ◌+◌, ◌++◌, sym, subst, ◌∙◌}
 use Rattle.hop_arena.specs.declared.arena.Arena.{Arena}
-use Rattle.hop_arena.specs.Claiming.{Claims, Passes, AreSeenTaken}
+use Rattle.hop_arena.specs.Claiming.{Claims, TakesNothing, AreSeenTaken}
 use Rattle.hop_arena.proofs.Claiming.{sees_then, holds_then, words_on, words_kept}
 use Rattle.hop_arena.proofs.arena.Arena.claim.Goals as goal
 
@@ -14,7 +14,7 @@ pub after-preserved : goal.after-preserved
 after-preserved c =
     let i = c.after.invariant in
     let n = c.requires.arena.0 in
-    let t = subst (λ (s : Arena). Passes c.args.table.now.about c.after.lane.known s.map c.after.word (c.after.word + 1) c.claim_in.new.lane.known) i.1 c.in_default.ensures.claimed in
+    let t = subst (λ (s : Arena). TakesNothing c.args.table.now.about c.after.lane.known s.map c.after.word (c.after.word + 1) c.claim_in.new.lane.known) i.1 c.in_default.ensures.claimed in
     let now = subst (λ (k : ℕ). AreSeenTaken t.0 c.args.self.now.map k c.after.word (c.after.word + 1)) (sym n) t.2 in (
       c.claim_in.ensures.table ∙ i.0,
       i.1,
@@ -35,7 +35,7 @@ pub before-2-preserved : goal.before-2-preserved
 before-2-preserved c =
     let i = c.before-2.invariant in
     let n = c.requires.arena.0 in
-    let t = subst (λ (s : Arena). Passes c.args.table.now.about c.before-2.lane.known s.map c.before-2.word (c.before-2.word + 1) c.claim_in-in-before-2.new.lane.known) i.1 c.in_default-claim_in.ensures.claimed in
+    let t = subst (λ (s : Arena). TakesNothing c.args.table.now.about c.before-2.lane.known s.map c.before-2.word (c.before-2.word + 1) c.claim_in-in-before-2.new.lane.known) i.1 c.in_default-claim_in.ensures.claimed in
     let now = subst (λ (k : ℕ). AreSeenTaken t.0 c.args.self.now.map k c.before-2.word (c.before-2.word + 1)) (sym n) t.2 in (
       c.claim_in-in-before-2.ensures.table ∙ i.0,
       i.1,

@@ -4,7 +4,7 @@ use Rattle.hop_words.specs.declared.known.Limbo.{Limbo}
 use Rattle.hop_words.specs.Ghost.{limbo_at}
 use Rattle.hop_words.specs.Rule.{link_to}
 use Rattle.hop_words.specs.Kinds.{giving_old}
-use Rattle.hop_words.specs.Owning.{behind}
+use Rattle.hop_words.specs.Owning.{tail_of}
 use Rattle.hop_epoch.specs.Batch.{Notes, Tracks, Keeps}
 use Rattle.hop_epoch.proofs.Batching.{at_set, keeps_then, keeps_set, gives_on}
 use Rattle.hop_epoch.proofs.batches.Batches.free.Goals as goal
@@ -17,12 +17,12 @@ loop-self-preserved c =
     let k = c.loop-self.lane.known in
     let new = c.give_old_bit.new.self.known in
     let same = c.read_old_link-link.ensures.same in
-    let given = subst (λ (n : ℕ). new ≡ giving_old k n (behind (limbo_at k.limbo n).old)) i.1
-    (subst (λ (y : Known). new ≡ giving_old y c.loop-self.self.map (behind (limbo_at y.limbo c.loop-self.self.map).old)) same c.give_old_bit.ensures.given) in
-    let linked = subst (λ (n : ℕ). c.read_old_link-link.result ≡ link_to (behind (limbo_at k.limbo n).old)) i.1 c.read_old_link-link.ensures.link in
+    let given = subst (λ (n : ℕ). new ≡ giving_old k n (tail_of (limbo_at k.limbo n).old)) i.1
+    (subst (λ (y : Known). new ≡ giving_old y c.loop-self.self.map (tail_of (limbo_at y.limbo c.loop-self.self.map).old)) same c.give_old_bit.ensures.given) in
+    let linked = subst (λ (n : ℕ). c.read_old_link-link.result ≡ link_to (tail_of (limbo_at k.limbo n).old)) i.1 c.read_old_link-link.ensures.link in
     let tracks = subst (λ (o : Option ℕ). Tracks a k m c.loop-self.self.young o c.loop-self.self.noted) c.in-Some.is i.4 in
     let notes = subst (λ (ns : List ℕ). Notes a (limbo_at k.limbo m).noted ns) (sym i.3) (subst (λ (ks : List ℕ). Notes a ks c.args.self.now.noted) (sym i.8) c.requires.notes) in
-    let x : Limbo = record (limbo_at k.limbo m) { old = behind (limbo_at k.limbo m).old } in
+    let x : Limbo = record (limbo_at k.limbo m) { old = tail_of (limbo_at k.limbo m).old } in
     let now = at_set k m x i.4.room in (
       c.give_old_bit.ensures.table ∙ (c.read_old_link-link.ensures.table ∙ i.0),
       i.1,

@@ -1,4 +1,4 @@
-use Rattle.std.proofs.Common.{true, sym, subst}
+use Rattle.std.proofs.Common.{sym, subst}
 use Rattle.hop_words.specs.declared.known.Known.{Known}
 use Rattle.hop_words.specs.Kinds.{IsWritten}
 use Rattle.hop_words.specs.Locking.{lock_of}

@@ -6,7 +6,7 @@ use Rattle.hop_words.specs.Content.{item}
 use Rattle.hop_words.specs.Locking.{lock_of}
 use Rattle.hop_words.specs.Guarded.{IsGuarded}
 use Rattle.hop_seg.specs.Words.{Words}
-use Rattle.hop_map.specs.Views.{Locked, words}
+use Rattle.hop_map.specs.Views.{Locked, seen_words}
 use Rattle.hop_map.proofs.locked.LockedWordsSegReads.slot.Goals as goal
 
 pub returns-clause-value : goal.returns-clause-value
@@ -16,4 +16,4 @@ returns-clause-value c = λ w a.
     let guarded = subst (λ (x : Locked). IsGuarded x.about x.known p) c.self.view_is (c.self.invariant.ready.map, c.self.invariant.ready.segment) in
     c.item.ensures ∙ (ap item (c.read.ensures.value guarded)
     ∙ (ap (λ (x : Locked). item (mem x.about.shape (lock_of x.known).copy p)) (sym c.self.view_is)
-    ∙ (ap (λ (x : Locked). (words x).slot c.args.place) (c.self.view_is ∙ sym c.read.ensures.same) ∙ ap (λ (u : Words). u.slot c.args.place) (sym a))))
+    ∙ (ap (λ (x : Locked). (seen_words x).slot c.args.place) (c.self.view_is ∙ sym c.read.ensures.same) ∙ ap (λ (u : Words). u.slot c.args.place) (sym a))))

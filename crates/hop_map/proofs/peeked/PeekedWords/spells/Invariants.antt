@@ -1,5 +1,5 @@
 use Rattle.std.specs.Prelude.{◌≡◌, ◌<◌, ℕ}
-use Rattle.hop_words.specs.Content.{Words, Reached}
+use Rattle.hop_words.specs.Content.{MapWords, Reached}
 use Rattle.hop_words.specs.Homes.{word_of}
 use Rattle.hop_map.specs.Peeks.{Rested, HavePeeks}
 use Rattle.hop_map.proofs.peeked.PeekedWords.spells.Given as goal
@@ -7,5 +7,5 @@ use Rattle.hop_map.proofs.peeked.PeekedWords.spells.Given as goal
 abbrev pub invariant-words : goal.invariant-words
 invariant-words l = record {
   rests : Rested l.fn.self l.self;
-  spelled : (w : Words) → HavePeeks w l.self → Reached w l.fn.self.map l.fn.self.segment l.element → (j : ℕ) → j < l.word → w.key l.fn.self.map l.element j ≡ word_of l.key j;
+  spelled : (w : MapWords) → HavePeeks w l.self → Reached w l.fn.self.map l.fn.self.segment l.element → (j : ℕ) → j < l.word → w.key l.fn.self.map l.element j ≡ word_of l.key j;
 }

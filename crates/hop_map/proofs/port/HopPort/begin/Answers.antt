@@ -1,4 +1,4 @@
-use Rattle.std.proofs.Common.{◌≡◌, false, refl, true, sym, subst, ◌∙◌}
+use Rattle.std.proofs.Common.{◌≡◌, false, sym, subst, ◌∙◌}
 use Rattle.hop_map.specs.Port.{Port, runs, IsPortOf}
 use Rattle.hop_map.proofs.Ports.{begun_runs, port_with, port_is, begins}
 use Rattle.hop_map.proofs.port.HopPort.begin.Goals as goal

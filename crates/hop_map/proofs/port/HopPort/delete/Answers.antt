@@ -1,4 +1,4 @@
-use Rattle.std.proofs.Common.{◌≡◌, true, ℕ, ◌<◌, length, get_or, set, refl, sym, subst, ◌∙◌}
+use Rattle.std.proofs.Common.{◌≡◌, true, ℕ, length, get_or, set, refl, sym, subst, ◌∙◌}
 use Rattle.bpf_shared.specs.declared.events.Event.TheVariants.{Delete}
 use Rattle.hop_map.specs.Port.{Port, runs, IsPortOf}
 use Rattle.hop_map.proofs.Ports.{still_runs, port_with, port_is, map_inside, follows_at, called_fits}

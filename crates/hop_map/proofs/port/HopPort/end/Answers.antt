@@ -1,4 +1,4 @@
-use Rattle.std.proofs.Common.{◌≡◌, refl, ℕ, ◌<◌, true, List, length, ap, sym, subst, ◌∙◌, arith, Vec, Global}
+use Rattle.std.proofs.Common.{◌≡◌, ℕ, ◌<◌, true, List, length, ap, sym, subst, ◌∙◌, arith, Vec, Global}
 use Rattle.hop_arena.specs.declared.arena.Arena.{Arena}
 use Rattle.std.proofs.lemmas.List.{get_or_default}
 use Rattle.hop_epoch.specs.declared.batches.Batches.{Batches}

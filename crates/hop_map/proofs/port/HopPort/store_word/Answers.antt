@@ -3,7 +3,7 @@ use Rattle.bpf_shared.specs.Passage.{IsHeldPlace}
 use Rattle.bpf_shared.specs.declared.events.Event.TheVariants.{Store}
 use Rattle.bpf_shared.specs.declared.events.Size.TheVariants.{Double}
 use Rattle.hop_words.specs.declared.known.Known.{Known}
-use Rattle.hop_map.specs.Port.{Port, runs, holds, IsPortOf}
+use Rattle.hop_map.specs.Port.{Port, runs, port_holds, IsPortOf}
 use Rattle.hop_map.proofs.Ports.{still_runs, port_with, port_is}
 use Rattle.hop_map.proofs.Holding.{held_at, told_fits}
 use Rattle.hop_map.proofs.port.HopPort.store_word.Goals as goal
@@ -16,7 +16,7 @@ store_word_at-requires-clause-held c =
     let t = c.args.table.now in
     let is : p ≡ c.args.self.now = sym (port_is i c.take.result s c.take.ensures.value c.in-Some.is) ∙ c.self.view_is in
     held_at t p c.args.at.at 8 (subst (IsPortOf t) (sym is) c.requires.fits) (subst (λ (q : Port). runs q ≡ true) (sym is) c.requires.in_run)
-    (subst (λ (q : Port). IsHeldPlace (holds q) c.args.at.at 8) (sym is) c.requires.place)
+    (subst (λ (q : Port). IsHeldPlace (port_holds q) c.args.at.at 8) (sym is) c.requires.place)
 
 pub returns-clause-fits : goal.returns-clause-fits
 returns-clause-fits c =

@@ -8,7 +8,7 @@ use Rattle.hop_words.specs.declared.known.View.{View}
 use Rattle.hop_words.specs.Inside.{Shown}
 use Rattle.hop_words.specs.Layout.{size}
 use Rattle.hop_words.specs.Rule.{Kept}
-use Rattle.hop_words.specs.Seats.{Sat, view, IsWithin, IsWhole}
+use Rattle.hop_words.specs.Seats.{Sat, view, HasSeenBeginning, KeepsWholeHistory}
 use Rattle.hop_words.specs.Closing.{AreAllBack}
 use Rattle.hop_words.proofs.Gathers.{copies}
 use Rattle.hop_words.proofs.Dealt.{some_words}
@@ -37,8 +37,8 @@ returns-clause-whole c =
     let about = ap (λ (x : Shown). x.about) c.self.view_is in
     let final = subst (λ (x : View). Final (Seen (Kept t.key) k.id x) ws xs) same c.close_with-words.ensures.values.2 in
     let whole = ends t.key k.id s.me.0 c.args.returned.lanes ws xs c.learn-seat.ensures.lanes final (subst (λ (x : About). AreAllBack x c.args.returned.lanes) (sym about) c.requires.all) c.learn-seat.ensures.within in
-    subst (λ (x : About). IsWhole x (view [] c.split_seat-keeper.result.me.0.kept) ws) (sym c.self.invariant.2)
-    (subst (λ (l : List Entry). IsWhole t.key (view [] l) ws) (sym kept) whole)
+    subst (λ (x : About). KeepsWholeHistory x (view [] c.split_seat-keeper.result.me.0.kept) ws) (sym c.self.invariant.2)
+    (subst (λ (l : List Entry). KeepsWholeHistory t.key (view [] l) ws) (sym kept) whole)
 
 pub invariant_of-result : goal.invariant_of-result
 invariant_of-result c = (
@@ -51,4 +51,4 @@ invariant_of-result c = (
 pub returns-clause-within : goal.returns-clause-within
 returns-clause-within c =
     let kept : c.split_seat-keeper.result.me.0.kept ≡ c.learn-seat.result.me.0.kept = ap (λ (m : Sat). m.0.kept) c.split_seat-keeper.ensures.4 in
-    λ k l e. subst (IsWithin l) (sym kept) (c.learn-seat.ensures.within k l e)
+    λ k l e. subst (HasSeenBeginning l) (sym kept) (c.learn-seat.ensures.within k l e)

@@ -4,7 +4,7 @@ use Rattle.hop_words.specs.declared.known.About.{About}
 use Rattle.hop_words.specs.declared.known.View.{View}
 use Rattle.hop_words.specs.Layout.{mem, size}
 use Rattle.hop_words.specs.Rule.{Kept}
-use Rattle.hop_words.specs.Opens.{IsNew, opens}
+use Rattle.hop_words.specs.Opens.{AreNewWords, opens}
 use Rattle.hop_words.specs.Seats.{view}
 use Rattle.hop_words.specs.Dealing.{AreNumbered}
 use Rattle.hop_words.proofs.Openings.{opening_kept}
@@ -17,7 +17,7 @@ of_words-requires c =
     let v = sym c.index.view_is in
     let ws = c.in_ok-words.words.items in
     subst (λ (ws : List ℕ). Kept a (opening ws [] (opens a))) (sym c.deref.ensures.value)
-    (opening_kept a ws (subst (λ (x : About). length ws ≡ size x.shape) v c.in_ok-words.ensures.sized) (subst (λ (x : About). IsNew x (mem x.shape ws)) v c.in_ok-words.ensures.made))
+    (opening_kept a ws (subst (λ (x : About). length ws ≡ size x.shape) v c.in_ok-words.ensures.sized) (subst (λ (x : About). AreNewWords x (mem x.shape ws)) v c.in_ok-words.ensures.made))
 
 pub invariant_of-lanes : goal.invariant_of-lanes
 invariant_of-lanes c =

@@ -3,12 +3,12 @@ use Rattle.std.proofs.Common.{◌≡◌, ℕ, List, [], ◌∷◌, ◌++◌, tru
 use Rattle.hop_words.specs.declared.known.Known.{Known}
 use Rattle.hop_words.specs.declared.known.Reading.{Reading}
 use Rattle.hop_words.specs.declared.known.Peek.{Peek}
-use Rattle.hop_words.specs.Content.{Words, Reached, IsShare}
+use Rattle.hop_words.specs.Content.{MapWords, Reached, IsShare}
 use Rattle.hop_words.specs.Ghost.{shape_at, segment_in, Each}
 use Rattle.hop_words.specs.Rule.{IsPeek}
-use Rattle.hop_words.specs.Peeking.{reading_of}
+use Rattle.hop_words.specs.Peeking.{latest_reading}
 use Rattle.hop_seg.specs.Words.{Words as SegWords}
-use Rattle.hop_map.specs.Views.{view}
+use Rattle.hop_map.specs.Views.{segment_view}
 use Rattle.hop_map.specs.Peeks.{Peeked, HavePeeks, Agreed, Rested}
 
 pub rested_itself : (x : Peeked) → Rested x x
@@ -31,8 +31,8 @@ rested_on x y z p q = record {
   known = q.known ∙ ap (λ (l : Known). record l { readings = z.known.readings }) p.known;
   more = q.more ++ p.more;
   reading = q.reading ∙ (ap (λ (r : Reading). record r { peeks = q.more ++ r.peeks }) p.reading
-      ∙ (λ j. record (reading_of x.known)
-      { peeks = sym (append_assoc q.more p.more (reading_of x.known).peeks) j }));
+      ∙ (λ j. record (latest_reading x.known)
+      { peeks = sym (append_assoc q.more p.more (latest_reading x.known).peeks) j }));
 }
 
 each_after : (P : Peek → Type 0) (xs ys : List Peek) → Each P (xs ++ ys) → Each P ys
@@ -53,10 +53,10 @@ module _ (x y : Peeked) (p : Rested x y) where
   }
 
   -- what was read later was read too
-  pub had_peeks : (w : Words) → HavePeeks w y → HavePeeks w x
+  pub had_peeks : (w : MapWords) → HavePeeks w y → HavePeeks w x
   had_peeks w all =
       let P : Peek → Type 0 = λ (q : Peek). IsPeek w x.map x.segment q.place q.number in
-      each_after P p.more (reading_of x.known).peeks
+      each_after P p.more (latest_reading x.known).peeks
       (subst (λ (r : Reading). Each P r.peeks) p.reading
       (subst (λ (z : Peeked). HavePeeks w z) back all))
 
@@ -70,5 +70,6 @@ module _ (x y : Peeked) (p : Rested x y) where
     known = g.known;
     known_is = subst (λ (z : Peeked). (e : ℕ) → g.known e ≡ true
         → Reached g.words z.map z.segment e) back g.known_is;
-    shown = g.shown ∙ ap (λ (z : Peeked). view z.about z.map z.segment g.known g.words) back;
+    shown = g.shown
+        ∙ ap (λ (z : Peeked). segment_view z.about z.map z.segment g.known g.words) back;
   }

@@ -1,5 +1,5 @@
 -- What stays besides the words stays again: the laws that the trait of the words asks for.
-use Rattle.std.proofs.Common.{ℕ, refl, ap, ◌∙◌}
+use Rattle.std.proofs.Common.{refl, ap, ◌∙◌}
 use Rattle.hop_words.specs.declared.known.Known.{Known}
 use Rattle.hop_words.specs.declared.known.Lock.{Lock}
 use Rattle.hop_words.specs.Locking.{lock_of}

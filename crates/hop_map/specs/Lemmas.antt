@@ -1,0 +1,3 @@
+-- What the laws of a trait need a proof of: the toolchain wants these lemmas among the definitions.
+pub mod Keeping
+pub mod Resting
