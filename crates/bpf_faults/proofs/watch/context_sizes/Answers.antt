@@ -1,0 +1,12 @@
+use Rattle.std.proofs.Common.{◌≡◌, ℕ, List, length, ◌∙◌, ap}
+use Rattle.std.specs.Prelude.{map, take}
+use Rattle.std.proofs.lemmas.List.{take_all}
+use Rattle.bpf_cpu.specs.declared.machine.job.Job.{Job}
+use Rattle.bpf_faults.proofs.Watching.{sizes_of}
+use Rattle.bpf_faults.proofs.watch.context_sizes.Goals as goal
+
+pub returns : goal.returns
+returns c =
+    let whole : take c.loop-job.job-index c.args.jobs.now ≡ c.args.jobs.now = take_all c.loop-job.job-index c.args.jobs.now c.loop-job-test.false in
+    sizes_of c.args.jobs.now c.loop-job.sizes.items
+    (c.loop-job.invariant ∙ ap (λ (jobs : List Job). map (λ (job : Job). length job.context.items) jobs) whole)

@@ -1,0 +1,47 @@
+-- What is told of a fault: the state from which its step was made.
+use Rattle.std.specs.Prelude.{◌≡◌, ◌⊎◌, ℕ, List, Some, length, slice_get}
+use Rattle.bpf_cpu.specs.declared.cpu.Cpu.{Cpu}
+use Rattle.bpf_cpu.specs.declared.machine.Turn.TheVariants as turn
+use Rattle.bpf_cpu.specs.declared.outcome.Outcome.TheVariants as outcome
+use Rattle.bpf_cpu.specs.State.{start}
+use Rattle.bpf_cpu.specs.Task.{Task, IsAt, Waiting, InHand}
+use Rattle.bpf_cpu.specs.Schedule.{World, TakesTurn, RunsSchedule}
+use Rattle.bpf_cpu.specs.Rounds.{below, RunsRounds}
+use Rattle.bpf_faults.specs.declared.evidence.Evidence.{Evidence}
+use Rattle.bpf_faults.specs.declared.evidence.Seen.{Seen}
+
+-- this is what is shown of the state
+abbrev pub IsSeen : Cpu → Seen → Type 0
+IsSeen state seen =
+    (seen.registers ≡ state.registers) × (seen.frames ≡ length state.memory.frames.live)
+    × (seen.context ≡ length state.memory.context) × (seen.held.items ≡ state.held)
+
+-- the state from which the CPU makes its next step of the job: the one in hand; or the first, of a
+-- job that waits
+abbrev pub IsBefore : List Task → ℕ → ℕ → Cpu → Type 0
+IsBefore jobs cpu j state =
+    ((task : Task) × (left : ℕ) × IsAt jobs cpu j task (InHand state left))
+    ⊎ ((task : Task) × (context : List ℕ) × IsAt jobs cpu j task (Waiting context)
+    × (state ≡ start cpu context))
+
+-- here the CPU's turn ends the job in its fault, and the evidence shows the state before that turn
+abbrev pub IsEvidenceAt : World → Evidence → Type 0
+IsEvidenceAt w evidence =
+    ((z : World) × TakesTurn w evidence.cpu
+    (turn.Ended evidence.job (outcome.Fault evidence.fault evidence.pc)) z)
+    × (state : Cpu) × IsBefore w.jobs evidence.cpu evidence.job state × IsSeen state evidence.seen
+
+-- so it is in the round that begins here, after the turns of the CPUs below the evidence's
+abbrev pub IsEvidenceIn : World → Evidence → Type 0
+IsEvidenceIn w evidence =
+    (v : World) × RunsSchedule w (below evidence.cpu) v × IsEvidenceAt v evidence
+
+-- so it is in a round of the run that begins here
+abbrev pub IsEvidenceOf : World → Evidence → Type 0
+IsEvidenceOf w evidence = (n : ℕ) × (m : World) × RunsRounds n w m × IsEvidenceIn m evidence
+
+-- the sizes of the contexts of the jobs that wait
+abbrev pub AreSizes : List Task → List ℕ → Type 0
+AreSizes jobs sizes =
+    (j : ℕ) (task : Task) (context : List ℕ) → slice_get jobs j ≡ Some task
+    → task.stage ≡ Waiting context → slice_get sizes j ≡ Some (length context)

@@ -1,0 +1,133 @@
+//! The areas of memory that a program reaches.
+
+use crate::evidence::Seen;
+use crate::words::Maps;
+use bpf_mem::addresses::{CONTEXT_BASE, FRAME_STRIDE, STACK_BASE};
+use bpf_mem::context::MAX_CONTEXT;
+use bpf_mem::frames::FRAME_BYTES;
+use std::alloc::AllocError;
+
+/// Where the values of maps begin, and how far each map's begin above those of the one before.
+const VALUE_BASE: u64 = 0x10_0000_0000;
+
+const MAP_STRIDE: u64 = 0x1000_0000;
+
+/// How many held values are named.
+const NAMED_VALUES: usize = 8;
+
+/// What an address is for.
+#[derive(Clone, Copy, PartialEq, Eq, Debug)]
+pub enum Region {
+    Context,
+    /// Values of the map of this number.
+    Values(usize),
+    Other,
+}
+
+/// What an address is for.
+pub fn region_of(address: u64) -> Region {
+    if address >= VALUE_BASE {
+        Region::Values(((address - VALUE_BASE) / MAP_STRIDE) as usize)
+    } else if address >= CONTEXT_BASE && address - CONTEXT_BASE < MAX_CONTEXT as u64 {
+        Region::Context
+    } else {
+        Region::Other
+    }
+}
+
+/// Whether some bytes from an address on all lie in an area of this size.
+fn covers(first: u64, size: u64, address: u64, length: u64) -> bool {
+    address >= first && length <= size && address - first <= size - length
+}
+
+/// Whether a frame of the stack has all of some bytes.
+fn in_frame(seen: &Seen, address: u64, length: u64) -> bool {
+    let mut first = STACK_BASE;
+    for _ in 0..seen.frames {
+        if covers(first, FRAME_BYTES as u64, address, length) {
+            return true;
+        }
+        first = first.wrapping_add(FRAME_STRIDE);
+    }
+    false
+}
+
+/// Whether each of some bytes lies in a held value.
+fn in_values(seen: &Seen, address: u64, length: u64) -> bool {
+    let mut at = address;
+    for _ in 0..length {
+        if !seen
+            .held
+            .iter()
+            .any(|span| at >= span.at && at - span.at < span.size)
+        {
+            return false;
+        }
+        at = at.wrapping_add(1);
+    }
+    true
+}
+
+/// Whether some bytes can be read from an address on.
+pub fn is_reached(seen: &Seen, address: u64, length: u64) -> bool {
+    covers(CONTEXT_BASE, seen.context as u64, address, length)
+        || in_frame(seen, address, length)
+        || in_values(seen, address, length)
+}
+
+/// Puts the line of an area behind the text, of which these are the first address and the size.
+fn push_area(
+    text: &mut String,
+    head: &str,
+    what: &str,
+    first: u64,
+    size: u64,
+) -> Result<(), AllocError> {
+    let last = first.wrapping_add(size).wrapping_sub(1);
+    write!(text, "{head}0x{first:x} to 0x{last:x}, {what}\n")
+}
+
+/// Puts a line for each area that is reached behind the text.
+pub fn push_areas(text: &mut String, seen: &Seen, maps: &Maps<'_>) -> Result<(), AllocError> {
+    let mut head = "  reachable: ";
+    let mut first = STACK_BASE;
+    for _ in 0..seen.frames {
+        push_area(
+            text,
+            head,
+            "a frame of the stack",
+            first,
+            FRAME_BYTES as u64,
+        )?;
+        head = "             ";
+        first = first.wrapping_add(FRAME_STRIDE);
+    }
+    if seen.context > 0 {
+        push_area(text, head, "the context", CONTEXT_BASE, seen.context as u64)?;
+        head = "             ";
+    }
+    push_values(text, head, seen, maps)
+}
+
+/// Puts a line for each of the first held values behind the text, and how many more there are.
+fn push_values(
+    text: &mut String,
+    head: &str,
+    seen: &Seen,
+    maps: &Maps<'_>,
+) -> Result<(), AllocError> {
+    for span in seen.held.iter().take(NAMED_VALUES) {
+        let last = span.at.wrapping_add(span.size).wrapping_sub(1);
+        let name = maps.name_at(span.at);
+        write!(
+            text,
+            "{head}0x{:x} to 0x{last:x}, a value of {name}\n",
+            span.at
+        )?;
+    }
+    let more = seen.held.len().saturating_sub(NAMED_VALUES);
+    if more > 0 {
+        write!(text, "{head}and {more} more values\n")?;
+    }
+    Ok(())
+}

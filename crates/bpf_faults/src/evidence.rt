@@ -1,0 +1,85 @@
+//! A fault with what its CPU had before the step.
+
+ghost use Rattle.std.specs.Prelude.{◌≡◌, IfOk, OnOk, ℕ, List, length};
+ghost use Rattle.bpf_cpu.specs.declared.cpu.Cpu as state;
+ghost use Rattle.bpf_cpu.specs.State.{start};
+ghost use Rattle.bpf_faults.specs.Evidence.{IsSeen};
+
+use bpf_cpu::{Cpu, Fault};
+use bpf_shared::Span;
+use std::alloc::{AllocError, Global};
+
+/// What an explanation shows of a CPU's state.
+#[derive(Drop)]
+pub struct Seen {
+    pub registers: [u64; 11],
+    /// How many frames are live.
+    pub frames: usize,
+    /// How many bytes the context has.
+    pub context: usize,
+    /// Where the values lie that the run holds, in the order of their first lookup.
+    pub held: Vec<Span>,
+}
+
+/// A job's fault, and what its CPU had before the step.
+#[derive(Drop)]
+pub struct Evidence {
+    pub job: usize,
+    pub cpu: u8,
+    pub fault: Fault,
+    /// The pc of the instruction.
+    pub pc: u32,
+    pub seen: Seen,
+}
+
+impl Seen {
+    /// Nothing yet.
+    pub(crate) fn nothing(alloc: Global) -> Seen {
+        Seen {
+            registers: [0; 11],
+            frames: 0,
+            context: 0,
+            held: Vec::new(alloc),
+        }
+    }
+
+    /// Sees this state. Where as many values were seen before, it takes no memory.
+    pub(crate) fn see(&mut self, state: &Cpu) -> Result<(), AllocError>
+        ensures { OnOk result (IsSeen state.now self.new) }
+    {
+        self.registers = state.registers;
+        self.frames = state.memory.frames.depth();
+        self.context = state.memory.context.bytes().len();
+        self.held.clear();
+        self.held.extend_from_slice(state.held.spans())
+    }
+
+    /// Sees the state in which a job starts on this CPU, with so many bytes of context.
+    pub(crate) fn see_start(
+        &mut self,
+        alloc: Global,
+        cpu: u8,
+        bytes: usize,
+    ) -> Result<(), AllocError>
+        ensures { OnOk result ((context : List ℕ) → length context ≡ bytes
+            → IsSeen (start cpu context) self.new) }
+    {
+        let start = Cpu::new(cpu, Vec::new(alloc));
+        self.see(&start)?;
+        self.context = bytes;
+        Ok(())
+    }
+
+    /// The same once more.
+    pub(crate) fn again(&self, alloc: Global) -> Result<Seen, AllocError>
+        ensures { IfOk result (λ seen. (s : state.Cpu) → IsSeen s self.now → IsSeen s seen) }
+    {
+        let held = Vec::from_slice(alloc, &self.held)?;
+        Ok(Seen {
+            registers: self.registers,
+            frames: self.frames,
+            context: self.context,
+            held,
+        })
+    }
+}

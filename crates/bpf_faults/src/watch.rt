@@ -1,0 +1,204 @@
+//! A run of a machine in rounds, watched for its faults.
+
+ghost use Rattle.std.specs.Prelude.{◌≡◌, ◌<◌, ◌≤◌, All, IfOk, IfSome, OnOk, Some, length, map, slice_get, vec_len};
+ghost use Rattle.bpf_cpu.specs.declared.machine.Turn.TheVariants as answers;
+ghost use Rattle.bpf_cpu.specs.declared.outcome.Outcome.TheVariants as outcome;
+ghost use Rattle.bpf_cpu.specs.Task.{waiting};
+ghost use Rattle.bpf_cpu.specs.Schedule.{World};
+ghost use Rattle.bpf_cpu.specs.Rounds.{RunsRound};
+ghost use Rattle.bpf_cpu.specs.Machine.{Shows};
+ghost use Rattle.bpf_mem.specs.Limits.{max_context};
+ghost use Rattle.bpf_jobs.specs.Printed.{first_world};
+ghost use Rattle.bpf_faults.specs.Evidence.{AreSizes, IsEvidenceIn, IsEvidenceOf};
+ghost use Rattle.bpf_faults.specs.Private.{Adds, IsEvidenceOfTurn, SeesNext, Watches};
+
+use crate::evidence::{Evidence, Seen};
+use bpf_cpu::{Fault, Job, Machine, Outcome, Standing, Turn};
+use bpf_jobs::make_machine;
+use bpf_loader::Program;
+use bpf_shared::StoreShape;
+use std::alloc::{AllocError, Global};
+
+/// How many bytes of context a job has.
+fn context_size(job: &Job) -> usize
+    ensures { result ≡ length job.now.context.items }
+{
+    job.context.as_slice().len()
+}
+
+/// How many bytes of context each job has.
+fn context_sizes(alloc: Global, jobs: &[Job]) -> Result<Vec<usize>, AllocError>
+    ensures { IfOk result (λ sizes. AreSizes (map waiting jobs.now) sizes.items) }
+{
+    let mut sizes = Vec::new(alloc);
+    for job in jobs {
+        sizes.push(context_size(job))?;
+    }
+    Ok(sizes)
+}
+
+fn size_at(sizes: &[usize], job: usize) -> Option<usize>
+    ensures { result ≡ slice_get sizes.now job }
+{
+    sizes.get(job).copied()
+}
+
+/// Sees the state from which a CPU is to make its next step; the job of which it is, if there is
+/// one.
+fn see_next(
+    alloc: Global,
+    machine: &Machine,
+    cpu: u8,
+    contexts: &[usize],
+    seen: &mut Seen,
+) -> Result<Option<usize>, AllocError>
+    requires { AreSizes machine.now.jobs contexts.now }
+    ensures { IfOk result (SeesNext machine.now.jobs cpu seen.new) }
+{
+    match machine.standing(cpu) {
+        Standing::InHand(job, state) => {
+            seen.see(state)?;
+            Ok(Some(job))
+        }
+        Standing::Waiting(job) => {
+            let Some(bytes) = size_at(contexts, job) else {
+                return Ok(None);
+            };
+            seen.see_start(alloc, cpu, bytes)?;
+            Ok(Some(job))
+        }
+        Standing::Idle => Ok(None),
+    }
+}
+
+/// The job, if it is this one, with its fault and the pc, where a turn has ended it in one.
+fn fault_of(turn: Turn, job: Option<usize>) -> Option<(usize, Fault, u32)>
+    ensures { IfSome result (λ f. (job ≡ Some f.0)
+        × (turn ≡ answers.Ended f.0 (outcome.Fault f.1 f.2))) }
+{
+    let Turn::Ended(ended, Outcome::Fault(fault, pc)) = turn else {
+        return None;
+    };
+    match job {
+        Some(job) if job == ended => Some((job, fault, pc)),
+        _ => None,
+    }
+}
+
+/// Adds the evidence of a CPU's turn, if that has ended the job in a fault. The state before it was
+/// seen.
+fn add_evidence(
+    alloc: Global,
+    cpu: u8,
+    job: Option<usize>,
+    turn: Turn,
+    seen: &Seen,
+    evidence: &mut Vec<Evidence>,
+) -> Result<(), AllocError>
+    ensures { OnOk result (Adds (IsEvidenceOfTurn cpu job turn seen.now)
+        evidence.old.items evidence.new.items) }
+{
+    let Some((job, fault, pc)) = fault_of(turn, job) else {
+        return Ok(());
+    };
+    let seen = seen.again(alloc)?;
+    evidence.push(Evidence {
+        job,
+        cpu,
+        fault,
+        pc,
+        seen,
+    })?;
+    Ok(())
+}
+
+/// Whether a turn was one of a CPU with work.
+fn works(turn: Turn) -> bool {
+    !matches!(turn, Turn::Idle)
+}
+
+/// Makes a CPU's turn, with its evidence where the turn ends a job in a fault. Whether it had work.
+fn watch_turn(
+    alloc: Global,
+    machine: &mut Machine,
+    cpu: u8,
+    contexts: &[usize],
+    seen: &mut Seen,
+    evidence: &mut Vec<Evidence>,
+) -> Result<bool, AllocError>
+    requires { AreSizes machine.old.jobs contexts.now }
+    ensures { OnOk result (Watches machine.old cpu evidence.old.items
+        machine.new evidence.new.items) }
+{
+    let job = see_next(alloc, machine, cpu, contexts, seen)?;
+    let turn = machine.turn(cpu);
+    add_evidence(alloc, cpu, job, turn, seen, evidence)?;
+    Ok(works(turn))
+}
+
+/// One round: each CPU's turn, in rising order. Whether any had work.
+fn watch_round(
+    alloc: Global,
+    machine: &mut Machine,
+    contexts: &[usize],
+    seen: &mut Seen,
+    evidence: &mut Vec<Evidence>,
+) -> Result<bool, AllocError>
+    requires shown { (w : World) × Shows machine.old w }
+    requires sizes { AreSizes machine.old.jobs contexts.now }
+    ensures round { OnOk result ((w : World) → Shows machine.old w
+        → (z : World) × RunsRound w z × Shows machine.new z
+        × Adds (IsEvidenceIn w) evidence.old.items evidence.new.items) }
+    ensures sizes { OnOk result (AreSizes machine.new.jobs contexts.now) }
+{
+    let mut worked = false;
+    let end = machine.cpus();
+    for cpu in 0..end {
+        let busy = watch_turn(alloc, machine, cpu, contexts, seen, evidence)?;
+        worked |= busy;
+    }
+    Ok(worked)
+}
+
+/// Runs a machine in rounds until no CPU has work: the evidence of each job that ends in a fault.
+fn watch(
+    alloc: Global,
+    machine: &mut Machine,
+    contexts: &[usize],
+) -> Result<Vec<Evidence>, AllocError>
+    requires shown { (w : World) × Shows machine.old w }
+    requires sizes { AreSizes machine.old.jobs contexts.now }
+    ensures { IfOk result (λ evidence. (w : World) → Shows machine.old w
+        → All (IsEvidenceOf w) evidence.items) }
+{
+    let mut evidence = Vec::new(alloc);
+    let mut seen = Seen::nothing(alloc);
+    'rounds: for _ in 0..u64::MAX {
+        let worked = watch_round(alloc, machine, contexts, &mut seen, &mut evidence)?;
+        if !worked {
+            return Ok(evidence);
+        }
+    }
+    Ok(evidence)
+}
+
+/// Runs jobs in rounds over a new store, until each has ended: the machine that they leave, and of
+/// each job that ended in a fault what its CPU had before that step. Want of memory is the only
+/// refusal.
+pub fn evidence_of(
+    alloc: Global,
+    shape: StoreShape,
+    programs: Vec<Program>,
+    jobs: Vec<Job>,
+) -> Result<(Machine, Vec<Evidence>), AllocError>
+    requires cpus { All (λ job. job.cpu < shape.cpus) jobs.items }
+    requires programs { All (λ job. job.program < vec_len programs) jobs.items }
+    requires contexts { All (λ job. vec_len job.context ≤ max_context) jobs.items }
+    ensures { IfOk result (λ r. All
+        (IsEvidenceOf (first_world shape programs.items (map waiting jobs.items))) r.1.items) }
+{
+    let sizes = context_sizes(alloc, &jobs)?;
+    let mut machine = make_machine(alloc, shape, programs, jobs)?;
+    let evidence = watch(alloc, &mut machine, &sizes)?;
+    Ok((machine, evidence))
+}
