@@ -4,8 +4,24 @@ use crate::caret::caret;
 use crate::excerpt::{Language, instruction_text, line_of};
 use crate::finding::{Finding, finding_in};
 use crate::hints::hint_of;
-use bpf_explain::page_of;
+use bpf_explain::{Code, page_of};
 use std::alloc::{AllocError, Global};
+
+/// What is known of a job's fault beside its place.
+#[derive(Drop)]
+pub struct Detail {
+    pub job: usize,
+    /// Lines, each with its end.
+    pub text: String,
+}
+
+/// What is known of the faults of an answer.
+#[derive(Clone, Copy)]
+pub struct Details<'a> {
+    pub known: &'a [Detail],
+    /// A line for faults of which nothing is known, with its end.
+    pub otherwise: &'a str,
+}
 
 /// The line, and below it a caret at this byte, if there is one.
 fn push_line(
@@ -58,6 +74,30 @@ fn push_place(
     Ok(())
 }
 
+/// Whether a code is that of a fault.
+fn is_fault(code: Code) -> bool {
+    matches!(
+        code,
+        Code::F1 | Code::F2 | Code::F3 | Code::F4 | Code::F5 | Code::F6
+    )
+}
+
+/// What is known of a fault. The only job of `hex` has no number.
+fn push_details(
+    text: &mut String,
+    finding: &Finding,
+    details: &Details<'_>,
+) -> Result<(), AllocError> {
+    if !is_fault(finding.code) {
+        return Ok(());
+    }
+    let job = finding.job.unwrap_or(0);
+    match details.known.iter().find(|detail| detail.job == job) {
+        Some(detail) => text.push_str(detail.text.as_str()),
+        None => text.push_str(details.otherwise),
+    }
+}
+
 /// What there is to say of each refusal and fault in what was printed: the line or the instruction,
 /// what the code means, and what may be meant.
 pub fn advise(
@@ -65,6 +105,7 @@ pub fn advise(
     language: Language,
     input: &str,
     printed: &str,
+    details: &Details<'_>,
 ) -> Result<String, AllocError> {
     let mut text = String::new(alloc);
     for line in printed.split('\n') {
@@ -72,6 +113,7 @@ pub fn advise(
             let page = page_of(finding.code);
             write!(text, "{line}: {}\n", page.meaning)?;
             push_place(alloc, &mut text, language, input, &finding)?;
+            push_details(&mut text, &finding, details)?;
             write!(text, "  see: ebpf explain {}\n", finding.code.text())?;
         }
     }

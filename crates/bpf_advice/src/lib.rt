@@ -11,5 +11,5 @@ mod forms;
 mod hints;
 mod token;
 
-pub use advice::advise;
+pub use advice::{Detail, Details, advise};
 pub use excerpt::Language;

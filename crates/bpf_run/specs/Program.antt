@@ -52,7 +52,7 @@ IsPrintedAs command_error.NoCode r = ⊥
 
 abbrev pub IfExit : Ending → (Status → Type 0) → Type 0
 IfExit (ending.Exit status) P = P status
-IfExit (ending.Explained language done) P = P done.status
+IfExit (ending.Explained subject done) P = P done.status
 IfExit _ P = Unit {0}
 
 abbrev pub IfShown : Ending → (Error → Type 0) → Type 0

@@ -1,18 +1,69 @@
 //! What is said of a command's answer on standard error, after it is printed.
 
+use crate::fault::{details_of_file, details_of_program};
 use crate::perform::{Performed, answer_text};
 use crate::reply::{Reply, Status};
-use bpf_advice::{Language, advise};
-use bpf_command::Command;
+use bpf_advice::{Detail, Details, Language, advise};
+use bpf_command::{Command, FileOptions};
+use bpf_cpu::Outcome;
 use bpf_jobs::OutcomeText;
 use std::alloc::{AllocError, Global};
 
-/// What a command reads.
-pub fn language_of(command: &Command) -> Language {
-    match command {
-        Command::Asm { .. } => Language::Assembly,
-        Command::Hex(_) | Command::Disasm { .. } => Language::Words,
-        Command::Run(_) | Command::Debug => Language::RunFile,
+const BY_WORKERS: &str =
+    "  no more is known of a run by workers; without them the CPUs take turns, and it is repeated\n";
+
+const BY_COMMANDS: &str =
+    "  hint: 'break CPU PC' stops there; then 'regs' and 'mem' show what the CPU has\n";
+
+/// What is to be explained: of which command an answer is, as far as that matters.
+#[derive(Drop)]
+pub enum Subject {
+    Assembly,
+    Words,
+    /// The run of a program that is given as words.
+    Program { budget: u64, context: Vec<u8> },
+    /// The jobs of a run file, in rounds.
+    Rounds,
+    /// The same by workers.
+    Workers,
+    /// Commands of the debugger.
+    Script,
+}
+
+impl Subject {
+    /// What the answer to a command is about.
+    pub fn of(command: &Command) -> Subject {
+        match command {
+            Command::Asm { .. } => Subject::Assembly,
+            Command::Disasm { .. } => Subject::Words,
+            Command::Hex(options) => match options.context.clone() {
+                Ok(context) => Subject::Program {
+                    budget: options.budget,
+                    context,
+                },
+                Err(_) => Subject::Words,
+            },
+            Command::Run(FileOptions { workers: None, .. }) => Subject::Rounds,
+            Command::Run(_) => Subject::Workers,
+            Command::Debug => Subject::Script,
+        }
+    }
+
+    fn language(&self) -> Language {
+        match self {
+            Subject::Assembly => Language::Assembly,
+            Subject::Words | Subject::Program { .. } => Language::Words,
+            Subject::Rounds | Subject::Workers | Subject::Script => Language::RunFile,
+        }
+    }
+
+    /// What is said of a fault of which nothing more is known.
+    fn otherwise(&self) -> &'static str {
+        match self {
+            Subject::Workers => BY_WORKERS,
+            Subject::Script => BY_COMMANDS,
+            _ => "",
+        }
     }
 }
 
@@ -32,19 +83,36 @@ fn printed(alloc: Global, reply: &Reply) -> Result<String, AllocError> {
     }
 }
 
+/// What is known of the faults of an answer; nothing where there is no memory for it.
+fn details(alloc: Global, subject: &Subject, reply: &Reply, input: &str) -> Vec<Detail> {
+    let known = match (subject, reply) {
+        (Subject::Program { budget, context }, Reply::Ended(Outcome::Fault(..))) => {
+            details_of_program(alloc, *budget, context, input)
+        }
+        (Subject::Rounds, Reply::Jobs(_, true)) => details_of_file(alloc, input),
+        _ => None,
+    };
+    known.unwrap_or(Vec::new(alloc))
+}
+
 /// What there is to say of an answer, from what was read and what was printed.
-fn explanation(alloc: Global, language: Language, done: &Performed) -> Result<String, AllocError> {
+fn explanation(alloc: Global, subject: &Subject, done: &Performed) -> Result<String, AllocError> {
     let printed = printed(alloc, &done.reply)?;
     let input = str::from_utf8(&done.input).unwrap_or("");
-    advise(alloc, language, input, printed.as_str())
+    let known = details(alloc, subject, &done.reply, input);
+    let details = Details {
+        known: &known,
+        otherwise: subject.otherwise(),
+    };
+    advise(alloc, subject.language(), input, printed.as_str(), &details)
 }
 
 /// Explains the refusals and faults of an answer, unless it couldn't be printed.
-pub fn explain<P: Eprint>(rt: &P, alloc: Global, language: Language, done: &Performed) {
+pub fn explain<P: Eprint>(rt: &P, alloc: Global, subject: &Subject, done: &Performed) {
     if done.status == Status::Failed {
         return;
     }
-    if let Ok(text) = explanation(alloc, language, done) {
+    if let Ok(text) = explanation(alloc, subject, done) {
         let _ = eprint!(rt; "{}", text.as_str());
     }
 }

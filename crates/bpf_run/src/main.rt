@@ -3,6 +3,7 @@
 
 pub mod engine;
 mod explaining;
+mod fault;
 pub mod input;
 pub mod laws;
 pub mod listing;

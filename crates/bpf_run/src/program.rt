@@ -10,12 +10,11 @@ ghost use Rattle.bpf_run.specs.Answer.{Prints, exit_status};
 ghost use Rattle.bpf_run.specs.Program.{Follows, IfExit, IfNoCode, IfNotText, IfShown, IsAsked, IsPrintedAs, Performs};
 ghost use Rattle.bpf_run.specs.declared.refusal.Refusal.{Refusal};
 
-use crate::explaining::{explain, language_of};
+use crate::explaining::{Subject, explain};
 use crate::perform::{Performed, answer, perform_threads, print_page};
 use crate::refusal::Refusal;
 use crate::reply::{Reply, Status};
 use crate::stream::{Sink, Source};
-use bpf_advice::Language;
 use bpf_command::{Command, CommandError, Request, request_of};
 use bpf_text::TextError;
 use clap::error;
@@ -31,7 +30,7 @@ pub enum Ending {
     /// To exit with this status.
     Exit(Status),
     /// The same, and to explain what came of the command on standard error.
-    Explained(Language, Performed),
+    Explained(Subject, Performed),
     /// To show what `clap` says: a fault of the words, help or the version.
     Shown(clap::Error),
     /// To say that a word isn't UTF-8.
@@ -66,12 +65,15 @@ fn perform_for<T: Threads + Wait + Sync, R: Source, W: Sink>(
     ensures text { IfNotText result ⊥ }
     ensures code { IfNoCode result ⊥ }
 {
-    let language = language_of(&command);
-    let done = perform_threads(rt, alloc, command, source, sink);
-    if explain {
-        Ending::Explained(language, done)
+    let subject = if explain {
+        Some(Subject::of(&command))
     } else {
-        Ending::Exit(done.status)
+        None
+    };
+    let done = perform_threads(rt, alloc, command, source, sink);
+    match subject {
+        Some(subject) => Ending::Explained(subject, done),
+        None => Ending::Exit(done.status),
     }
 }
 
@@ -195,8 +197,8 @@ pub fn end<P: Print + Eprint>(rt: &P, alloc: Global, ending: Ending) -> u8
 {
     match ending {
         Ending::Exit(status) => exit(rt, status),
-        Ending::Explained(language, done) => {
-            explain(rt, alloc, language, &done);
+        Ending::Explained(subject, done) => {
+            explain(rt, alloc, &subject, &done);
             exit(rt, done.status)
         }
         Ending::Shown(error) => show(rt, &error),

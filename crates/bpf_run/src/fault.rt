@@ -1,0 +1,89 @@
+//! What is known of the faults in which jobs ended. They are run once more for it.
+
+use bpf_advice::Detail;
+use bpf_cpu::{Job, Machine};
+use bpf_faults::{Evidence, Maps, describe, evidence_of};
+use bpf_file::{RunFile, read_file};
+use bpf_insn::Insn;
+use bpf_text::{from_hex, to_hex};
+use std::alloc::{AllocError, Global};
+
+/// The instruction at which a fault came, by the number of each job's program.
+fn insn_of(machine: &Machine, programs: &[usize], one: &Evidence) -> Option<Insn> {
+    let number = *programs.get(one.job)?;
+    let program = machine.programs().get(number)?;
+    if program.is_start(one.pc) {
+        Some(*program.instruction_at(one.pc))
+    } else {
+        None
+    }
+}
+
+/// What is known of each fault of which there is evidence.
+fn details_of(
+    alloc: Global,
+    machine: &Machine,
+    evidence: &[Evidence],
+    programs: &[usize],
+    maps: &Maps<'_>,
+) -> Result<Vec<Detail>, AllocError> {
+    let mut details = Vec::new(alloc);
+    for one in evidence {
+        if let Some(insn) = insn_of(machine, programs, one) {
+            let text = describe(alloc, one, insn, maps)?;
+            details.push(Detail { job: one.job, text })?;
+        }
+    }
+    Ok(details)
+}
+
+/// The numbers of the jobs' programs.
+fn programs_of(alloc: Global, jobs: &[Job]) -> Result<Vec<usize>, AllocError> {
+    let mut programs = Vec::new(alloc);
+    for job in jobs {
+        programs.push(job.program)?;
+    }
+    Ok(programs)
+}
+
+/// What is known of the faults of a run file's jobs.
+pub fn details_of_file(alloc: Global, text: &str) -> Option<Vec<Detail>> {
+    let RunFile {
+        shape,
+        names,
+        programs,
+        jobs,
+        ..
+    } = read_file(alloc, text.as_bytes()).ok()?;
+    let shapes = Vec::from_slice(alloc, shape.maps()).ok()?;
+    let numbers = programs_of(alloc, &jobs).ok()?;
+    let (machine, evidence) = evidence_of(alloc, shape, programs, jobs).ok()?;
+    let maps = Maps {
+        shapes: &shapes,
+        names: &names,
+    };
+    details_of(alloc, &machine, &evidence, &numbers, &maps).ok()
+}
+
+/// The run file whose only job runs the program that the text has as hex digits.
+fn file_of_program(alloc: Global, budget: u64, context: &[u8], text: &str) -> Option<String> {
+    let bytes = from_hex(alloc, text).ok()?;
+    let words = to_hex(alloc, &bytes).ok()?;
+    let context = to_hex(alloc, context).ok()?;
+    let before = if context.is_empty() { "" } else { " ctx " };
+    let file = format!(in alloc;
+        "ebpf-run 1\nprog a hex {words}\njob 0 a budget {budget}{before}{context}\n"
+    );
+    file.ok()
+}
+
+/// What is known of the fault of the program whose words the text has as hex digits.
+pub fn details_of_program(
+    alloc: Global,
+    budget: u64,
+    context: &[u8],
+    text: &str,
+) -> Option<Vec<Detail>> {
+    let file = file_of_program(alloc, budget, context, text)?;
+    details_of_file(alloc, file.as_str())
+}
