@@ -7,7 +7,7 @@ use Rattle.bpf_insn.specs.declared.operation.AluOp.{AluOp}
 use Rattle.bpf_insn.specs.declared.operation.AluOp.TheVariants.{Add, Sub, Mul, Div, Sdiv, Or, And, Lsh, Rsh, Mod, Smod, Xor, Mov, Arsh}
 use Rattle.bpf_insn.specs.declared.operation.SignExtension.{SignExtension}
 use Rattle.bpf_insn.specs.declared.operation.SignExtension.TheVariants.{From8To32, From16To32, From8To64, From16To64, From32To64}
-use Rattle.bpf_alu.specs.Width.{number_of, low, signed, modulo}
+use Rattle.bpf_alu.specs.Width.{numbers_of, low, signed, modulo}
 
 -- The whole number that an operation on a and b stands for, both below 2 ^ bits.
 -- Division by zero is 0 and modulo by zero is a; signed division rounds toward zero, an arithmetic
@@ -33,11 +33,11 @@ whole w Arsh a b = int_div_euclid (signed w a) (pos (2 ^ (b % bits w)))
 -- is zero
 unfoldable pub arithmetic : Width → AluOp → ℕ → ℕ → ℕ
 arithmetic width op a b =
-    let w = number_of width in modulo w (whole w op (low w a) (low w b))
+    let w = numbers_of width in modulo w (whole w op (low w a) (low w b))
 
 -- NEG
 unfoldable pub negated : Width → ℕ → ℕ
-negated width a = let w = number_of width in modulo w (neg_ℤ (pos (low w a)))
+negated width a = let w = numbers_of width in modulo w (neg_ℤ (pos (low w a)))
 
 -- the low bits of a as a signed number, in a wider register
 abbrev pub extended : Number → Number → ℕ → ℕ

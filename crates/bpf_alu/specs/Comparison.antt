@@ -4,7 +4,7 @@ use Rattle.std.specs.Int.{Width as Number}
 use Rattle.bpf_insn.specs.declared.operation.Width.{Width}
 use Rattle.bpf_insn.specs.declared.operation.Condition.{Condition}
 use Rattle.bpf_insn.specs.declared.operation.Condition.TheVariants.{Eq, Gt, Ge, Set, Ne, Sgt, Sge, Lt, Le, Slt, Sle}
-use Rattle.bpf_alu.specs.Width.{number_of, low, signed}
+use Rattle.bpf_alu.specs.Width.{numbers_of, low, signed}
 
 -- whether a condition holds of a and b, both below 2 ^ bits
 abbrev pub compared : Number → Condition → ℕ → ℕ → Bool
@@ -22,4 +22,4 @@ compared w Set a b = not (bit_and a b == 0)
 
 -- whether a jump of a width is taken: of 32 bits, the lower halves alone are compared
 unfoldable pub holds : Width → Condition → ℕ → ℕ → Bool
-holds width condition a b = let w = number_of width in compared w condition (low w a) (low w b)
+holds width condition a b = let w = numbers_of width in compared w condition (low w a) (low w b)

@@ -6,9 +6,9 @@ use Rattle.bpf_insn.specs.declared.operation.Width.{Width}
 use Rattle.bpf_insn.specs.declared.operation.Width.TheVariants.{Bits32, Bits64}
 
 -- the numbers that a width works on
-abbrev pub number_of : Width → Number
-number_of Bits32 = w32
-number_of Bits64 = w64
+abbrev pub numbers_of : Width → Number
+numbers_of Bits32 = w32
+numbers_of Bits64 = w64
 
 -- the low bits of a, as an unsigned number
 abbrev pub low : Number → ℕ → ℕ

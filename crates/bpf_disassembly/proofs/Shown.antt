@@ -1,5 +1,5 @@
 -- Canonical text has the tokens of its form.
-use Rattle.std.proofs.Common.{◌≡◌, ℕ, ◌+◌, ◌-◌, ◌^◌, ◌<◌, ◌≤◌, zero, suc, Bool, true, false, ◌==◌, ◌&&◌, nat_eq, List, [], ◌∷◌, ◌++◌, length, take, drop, take_while, Some, None, refl, sym, ap, subst, ◌∙◌, arith, add-one}
+use Rattle.std.proofs.Common.{◌≡◌, ℕ, ◌+◌, ◌-◌, ◌^◌, ◌<◌, ◌≤◌, zero, suc, Bool, true, false, ◌==◌, ◌&&◌, nat_eq, List, [], ◌∷◌, ◌++◌, length, take, drop, Some, None, refl, sym, ap, subst, ◌∙◌, arith, add-one}
 use Rattle.std.specs.Prelude.{ℤ, pos, negsuc, neg_ℤ, nat_lt, replicate}
 use Rattle.std.proofs.Math.Seq.{take-append_seam, drop-append_seam}
 use Rattle.std.specs.List.{list_all, prefix_len, starts_with}
@@ -31,6 +31,7 @@ use Rattle.bpf_spelling.proofs.LongestSign.{first_is_longest}
 use Rattle.bpf_spelling.specs.Private.Letters.{first_sign}
 use Rattle.bpf_text.specs.Private.Cutting.{in_line}
 use Rattle.bpf_text.specs.Tokens.{is_blank, after_blanks, word_len, front_tok, front_len, IsEnd, AreTokens}
+use Rattle.bpf_text.proofs.Comments.{blank_first, no_blank}
 
 -- ---- words
 
@@ -136,15 +137,6 @@ token_front text rest t ts start some tok len more =
     let Q : List ℕ → Type 0 = λ x. AreTokens (after_blanks x) ts in
     let behind : drop (front_len (text ++ rest)) (text ++ rest) ≡ rest = ap (λ k. drop k (text ++ rest)) len ∙ drop-append_seam text rest in
     subst P (sym start) (some, sym tok, subst Q (sym behind) more)
-
-blank_first : (b : ℕ) (bs : List ℕ) → is_blank b ≡ true → after_blanks (b ∷ bs) ≡ after_blanks bs
-blank_first b bs e =
-    let one : 1 + prefix_len is_blank bs ≡ suc (prefix_len is_blank bs) = omega arith in
-    let len : length (take_while is_blank (b ∷ bs)) ≡ suc (length (take_while is_blank bs)) = rw e (ap (λ k. length (take k (b ∷ bs))) one) in
-    ap (λ k. drop k (b ∷ bs)) len
-
-pub no_blank : (b : ℕ) (bs : List ℕ) → is_blank b ≡ false → after_blanks (b ∷ bs) ≡ b ∷ bs
-no_blank b bs e = rw e refl
 
 -- a byte of a word is no blank and begins no comment
 word_byte : (b : ℕ) → is_word_byte b ≡ true → (is_blank b ≡ false) × (b ≡ 59 → ⊥)

@@ -18,13 +18,13 @@ use Rattle.bpf_text.proofs.Scanning.{length-sign_at}
 
 -- ---- blanks
 
-blank_first : (b : ℕ) (bs : List ℕ) → is_blank b ≡ true → after_blanks (b ∷ bs) ≡ after_blanks bs
+pub blank_first : (b : ℕ) (bs : List ℕ) → is_blank b ≡ true → after_blanks (b ∷ bs) ≡ after_blanks bs
 blank_first b bs e =
     let one : 1 + prefix_len is_blank bs ≡ suc (prefix_len is_blank bs) = omega arith in
     let len : length (take_while is_blank (b ∷ bs)) ≡ suc (length (take_while is_blank bs)) = rw e (ap (λ k. length (take k (b ∷ bs))) one) in
     ap (λ k. drop k (b ∷ bs)) len
 
-no_blank : (b : ℕ) (bs : List ℕ) → is_blank b ≡ false → after_blanks (b ∷ bs) ≡ b ∷ bs
+pub no_blank : (b : ℕ) (bs : List ℕ) → is_blank b ≡ false → after_blanks (b ∷ bs) ≡ b ∷ bs
 no_blank b bs e = rw e refl
 
 -- ---- what no token has

@@ -9,7 +9,7 @@ use Rattle.bpf_text.specs.declared.assembly.Kept.{Kept}
 use Rattle.bpf_text.specs.declared.reading.LineError.{LineError}
 use Rattle.bpf_text.specs.declared.reading.LineError.TheVariants.{BadLine, BadNumber}
 use Rattle.bpf_text.specs.Private.Labels.{or_else}
-use Rattle.bpf_text.specs.Private.Sources.{source_of, KeptLine, kept_view, nothing_is, nothing_said, is_refused, any_refused, is_passed_over, kept_of, kept_program, Gathers}
+use Rattle.bpf_text.specs.Private.Sources.{source_of, KeptLine, kept_view, nothing_is, nothing_said, is_refused, any_refused, is_left_out, kept_of, kept_program, Gathers}
 use Rattle.bpf_text.specs.Lines.{lines_behind, rest_size}
 use Rattle.bpf_text.specs.Assembly.{Source, IsLine, AreLines, words_of, is_named, is_twice, first_place, body_meaning, meaning_of, then_meaning, program_of}
 use Rattle.bpf_text.specs.Lines.{lines_of}
@@ -113,9 +113,9 @@ kept_of-append c line (t ∷ ss) s =
     let all = line + suc (length ss) in
     let over : (d : Bool) → kept_of d (line + 1) (ss ++ s ∷ []) ≡ kept_of d (line + 1) ss ++ kept_of (d || any_refused ss) all (s ∷ []) =
     λ d. kept_of-append d (line + 1) ss s ∙ ap (λ n. kept_of d (line + 1) ss ++ kept_of (d || any_refused ss) n (s ∷ [])) next in
-    by_test (is_passed_over c t) refl (over c) (over (c || is_refused t.body))
+    by_test (is_left_out c t) refl (over c) (over (c || is_refused t.body))
   where
-    by_test : (b : Bool) → is_passed_over c t ≡ b
+    by_test : (b : Bool) → is_left_out c t ≡ b
         → kept_of c (line + 1) (ss ++ s ∷ []) ≡ kept_of c (line + 1) ss ++ kept_of (c || any_refused ss) (line + suc (length ss)) (s ∷ [])
         → kept_of (c || is_refused t.body) (line + 1) (ss ++ s ∷ []) ≡ kept_of (c || is_refused t.body) (line + 1) ss ++ kept_of ((c || is_refused t.body) || any_refused ss) (line + suc (length ss)) (s ∷ [])
         → cond b (kept_of c (line + 1) (ss ++ s ∷ [])) (record { line = line; source = t } ∷ kept_of (c || is_refused t.body) (line + 1) (ss ++ s ∷ []))
@@ -193,7 +193,7 @@ below_kept : (c : Bool) (line : ℕ) (ss : List Source) (n : ℕ) → line + len
 below_kept c line [] n h = tt
 below_kept c line (s ∷ ss) n h =
     let first : line < n = omega arith in
-    by_test (is_passed_over c s) first (below_kept c (line + 1) ss n (omega arith)) (below_kept (c || is_refused s.body) (line + 1) ss n (omega arith))
+    by_test (is_left_out c s) first (below_kept c (line + 1) ss n (omega arith)) (below_kept (c || is_refused s.body) (line + 1) ss n (omega arith))
   where
     by_test : (b : Bool) → line < n → Below n (kept_of c (line + 1) ss) → Below n (kept_of (c || is_refused s.body) (line + 1) ss) → Below n (cond b (kept_of c (line + 1) ss) (record { line = line; source = s } ∷ kept_of (c || is_refused s.body) (line + 1) ss))
     by_test true h more other = more
@@ -243,7 +243,7 @@ refused_words s h = by_body s.body h
     by_body (Err e) h = refl
 
 -- a line that is passed over has no words
-passed_words : (c : Bool) (s : Source) → is_passed_over c s ≡ true → words_of s.body ≡ 0
+passed_words : (c : Bool) (s : Source) → is_left_out c s ≡ true → words_of s.body ≡ 0
 passed_words c s h = by_test (nothing_said s) refl h
   where
     by_refusal : (d r : Bool) → is_refused s.body ≡ r → (d && r) ≡ true → words_of s.body ≡ 0
@@ -259,9 +259,9 @@ pub small_next : (c : Bool) (kept new : List Kept) (s : Source) (line pc size n 
 small_next c kept new s line pc size n m e w small a b h =
     let lengths : length new ≡ length kept + length (kept_of c line (s ∷ [])) =
     sym (length-map new kept_view) ∙ ap length e ∙ length-append (map kept_view kept) (kept_of c line (s ∷ [])) ∙ ap (λ x. x + length (kept_of c line (s ∷ []))) (length-map kept kept_view) in
-    by_test (is_passed_over c s) refl lengths
+    by_test (is_left_out c s) refl lengths
   where
-    by_test : (t : Bool) → is_passed_over c s ≡ t → length new ≡ length kept + length {A = KeptLine} (cond t [] (record { line = line; source = s } ∷ [])) → pc + size ≤ 2 * m
+    by_test : (t : Bool) → is_left_out c s ≡ t → length new ≡ length kept + length {A = KeptLine} (cond t [] (record { line = line; source = s } ∷ [])) → pc + size ≤ 2 * m
     by_test true f lengths = let none : size ≡ 0 = w ∙ passed_words c s f in omega (arith, none, lengths, a, b, h)
     by_test false f lengths = omega (arith, lengths, a, b, h, small)
 
@@ -281,14 +281,14 @@ only_nothing false r = refl
 
 pub kept_means : (labels : List ℕ → Option Place) (line pc : ℕ) (ss : List Source) → kept_program labels pc (kept_of false line ss) ≡ program_of labels line pc ss
 kept_means labels line pc [] = refl
-kept_means labels line pc (s ∷ ss) = by_test (is_passed_over false s) refl (kept_means labels (line + 1) (pc + words_of s.body) ss) (kept_means labels (line + 1) pc ss)
+kept_means labels line pc (s ∷ ss) = by_test (is_left_out false s) refl (kept_means labels (line + 1) (pc + words_of s.body) ss) (kept_means labels (line + 1) pc ss)
   where
     by_refusal : (r : Bool) → is_refused s.body ≡ r → kept_program labels (pc + words_of s.body) (kept_of false (line + 1) ss) ≡ program_of labels (line + 1) (pc + words_of s.body) ss
         → then_meaning (meaning_of labels line pc s) (kept_program labels (pc + words_of s.body) (kept_of r (line + 1) ss)) ≡ program_of labels line pc (s ∷ ss)
     by_refusal true e more = refused_means labels line pc s _ _ e
     by_refusal false e more = ap (then_meaning (meaning_of labels line pc s)) more
 
-    by_test : (b : Bool) → is_passed_over false s ≡ b → kept_program labels (pc + words_of s.body) (kept_of false (line + 1) ss) ≡ program_of labels (line + 1) (pc + words_of s.body) ss
+    by_test : (b : Bool) → is_left_out false s ≡ b → kept_program labels (pc + words_of s.body) (kept_of false (line + 1) ss) ≡ program_of labels (line + 1) (pc + words_of s.body) ss
         → kept_program labels pc (kept_of false (line + 1) ss) ≡ program_of labels (line + 1) pc ss
         → kept_program labels pc (cond b (kept_of false (line + 1) ss) (record { line = line; source = s } ∷ kept_of (is_refused s.body) (line + 1) ss)) ≡ program_of labels line pc (s ∷ ss)
     by_test true e more same =

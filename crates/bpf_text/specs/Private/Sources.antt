@@ -51,14 +51,14 @@ any_refused [] = false
 any_refused (s ∷ ss) = is_refused s.body || any_refused ss
 
 -- where one was refused before, or none
-abbrev pub is_passed_over : Bool → Source → Bool
-is_passed_over refused s = nothing_said s || (refused && is_refused s.body)
+abbrev pub is_left_out : Bool → Source → Bool
+is_left_out refused s = nothing_said s || (refused && is_refused s.body)
 
 -- the lines that are kept, lines being counted on from here
 abbrev pub kept_of : Bool → ℕ → List Source → List KeptLine
 kept_of refused line [] = []
 kept_of refused line (s ∷ ss) =
-    if is_passed_over refused s then kept_of refused (line + 1) ss
+    if is_left_out refused s then kept_of refused (line + 1) ss
     else record { line = line; source = s } ∷ kept_of (refused || is_refused s.body) (line + 1) ss
 
 -- what these lines mean one after the other, or the first one's refusal
