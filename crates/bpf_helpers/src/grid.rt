@@ -49,7 +49,9 @@ fn stride_of(size: u16) -> u32
 
 impl Grid {
     /// No value is held.
-    pub(crate) fn new() -> Grid {
+    pub(crate) fn new() -> Grid
+        ensures { (maps : List MapShape) → AreSizesOf maps result.sizes }
+    {
         Grid { sizes: [0; 16] }
     }
 

@@ -30,13 +30,13 @@ pub struct HeldSpans {
 impl Model for HeldSpans {
     ghost use Rattle.std.specs.Prelude.{List, ◌≤◌, length};
     ghost use Rattle.bpf_shared.specs.declared.events.Span.{Span};
-    ghost use Rattle.bpf_helpers.specs.Private.Found.{AreFound};
+    ghost use Rattle.bpf_helpers.specs.Private.Found.{LeadToSpans};
 
     ghost Value = { List Span };
 
     ghost view = { λ h. h.spans.items };
 
-    ghost invariant = { λ h. AreFound h.bins h.grid h.has_stray h.spans.items };
+    ghost invariant = { λ h. LeadToSpans h.bins h.grid h.has_stray h.spans.items };
 }
 
 /// Whether a span has all bytes from an address on, this many.

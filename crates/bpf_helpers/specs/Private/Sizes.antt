@@ -9,5 +9,5 @@ AreMaps maps = (m : ℕ) (h : MapShape) → IsMap maps m h → (m < 16) × IsMap
 
 -- a map's size is that of its values, or not known yet
 abbrev pub AreSizesOf : List MapShape → List ℕ → Type 0
-AreSizesOf maps sizes = (m : ℕ)
-    → (slice_index sizes m ≡ 0) ⊎ ((h : MapShape) × IsMap maps m h × (slice_index sizes m ≡ h.value))
+AreSizesOf maps sizes = (m : ℕ) → (slice_index sizes m ≡ 0)
+    ⊎ ((h : MapShape) × IsMap maps m h × (slice_index sizes m ≡ h.value))
