@@ -19,13 +19,13 @@ IsStanding jobs cpu standing.Idle = IsFree jobs cpu × NoneWaits jobs cpu
 -- ---- turns that are left
 
 -- how many turns a job may still take
-abbrev pub turns_of : ℕ → Stage → ℕ
-turns_of budget (Waiting context) = budget + 1
-turns_of budget (InHand state left) = left + 1
-turns_of budget (Ended outcome) = 0
+abbrev pub turns_before_end : ℕ → Stage → ℕ
+turns_before_end budget (Waiting context) = budget + 1
+turns_before_end budget (InHand state left) = left + 1
+turns_before_end budget (Ended outcome) = 0
 
 abbrev pub turns_left : List Task → ℕ
-turns_left jobs = sum_by (λ task. turns_of task.budget task.stage) jobs
+turns_left jobs = sum_by (λ task. turns_before_end task.budget task.stage) jobs
 
 -- how many jobs haven't ended
 abbrev pub open_in : Stage → ℕ

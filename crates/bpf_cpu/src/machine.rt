@@ -207,12 +207,10 @@ impl Machine {
         ensures state { IfSome result (λ state. IsState self.now.jobs cpu state.now) }
         ensures free { IfNone result (IsFree self.now.jobs cpu) }
     {
-        let Some(lane) = self.lanes.get(cpu as usize) else {
-            return None;
-        };
-        match &lane.hand {
-            Some(hand) => Some(&hand.cpu),
-            None => None,
+        match self.standing(cpu) {
+            Standing::InHand(_, state) => Some(state),
+            Standing::Waiting(_) => None,
+            Standing::Idle => None,
         }
     }
 
@@ -248,13 +246,10 @@ impl Machine {
     pub(crate) fn work(&self, cpu: u8) -> Work
         ensures { IsWork self.now.jobs cpu result }
     {
-        let Some(lane) = self.lanes.get(cpu as usize) else {
-            return Work::Nothing;
-        };
-        match &lane.hand {
-            Some(hand) => Work::InHand(hand.job),
-            None if lane.next < self.jobs.len() => Work::Waiting(lane.next),
-            None => Work::Nothing,
+        match self.standing(cpu) {
+            Standing::InHand(job, _) => Work::InHand(job),
+            Standing::Waiting(job) => Work::Waiting(job),
+            Standing::Idle => Work::Nothing,
         }
     }
 

@@ -15,7 +15,7 @@ use Rattle.bpf_cpu.specs.Task.{Stage, Task, Waiting, InHand, IsAt, IsFree, NoneW
 use Rattle.bpf_cpu.specs.Schedule.{World, TakesTurn, RunsSchedule}
 use Rattle.bpf_cpu.specs.Rounds.{below, RunsRound, RunsRounds}
 use Rattle.bpf_cpu.specs.Machine.{MachineState, Shows}
-use Rattle.bpf_cpu.specs.Questions.{turns_of, turns_left}
+use Rattle.bpf_cpu.specs.Questions.{turns_before_end, turns_left}
 use Rattle.bpf_cpu.specs.Work.{HasInHand}
 use Rattle.bpf_cpu.specs.Private.Headways.{TakesQuietTurns, IsOnlyOne, RunsAhead, turns_in, headway_at, spent, HasSoMany, BothPrecede, FitsHeadway, with_jobs, IsAheadOf, Everywhere}
 use Rattle.bpf_cpu.proofs.Machines.FallLaws.{summed, left_falls, turns_fall}
@@ -90,8 +90,8 @@ module _ (m m' : MachineState) (c : ℕ) (known : ℕ → Type 0) (f g : ℕ →
       let single : IsOnlyOne news c j = subst (λ (ts : List Task). IsOnlyOne ts c j) jobs_are one in
       let has : HasInHand news c j = (record task { stage = now }, later, rest, begun_at w.jobs c j task (InHand state left) now at) in
       let less = quiet_less w.store program c n state left later rest goes.8 in
-      let sum = summed (λ t. turns_of t.budget t.stage) m.jobs j task now goes.6.listed in
-      let turns : turns_of task.budget task.stage ≡ left + 1 = ap (turns_of task.budget) goes.6.at in (
+      let sum = summed (λ t. turns_before_end t.budget t.stage) m.jobs j task now goes.6.listed in
+      let turns : turns_before_end task.budget task.stage ≡ left + 1 = ap (turns_before_end task.budget) goes.6.at in (
         record w { jobs = news },
         (
           refl,

@@ -14,7 +14,7 @@ use Rattle.bpf_shared.specs.Store.{Plain}
 use Rattle.bpf_cpu.specs.State.{start}
 use Rattle.bpf_cpu.specs.Task.{Stage, Task, InHand, Ended, with_stage}
 use Rattle.bpf_cpu.specs.Schedule.{World, Advances, Settles, GoesOn}
-use Rattle.bpf_cpu.specs.Questions.{turns_of, open_in, Falls, TurnsFall}
+use Rattle.bpf_cpu.specs.Questions.{turns_before_end, open_in, Falls, TurnsFall}
 
 -- what a sum over jobs is after one of them has another stage
 pub summed : (f : Task → ℕ) (jobs : List Task) (j : ℕ) (task : Task) (stage : Stage) → slice_get jobs j ≡ Some task
@@ -32,7 +32,7 @@ left_falls program c s old (suc n) t new rest a = let e : rest ≡ n = a.5 in om
 
 -- what a turn that goes on takes, from a job that may take so many turns
 goes_falls : (w : World) (c j : ℕ) (task : Task) (old : Cpu) (left : ℕ) (answer : Turn) (z : World) → slice_get w.jobs j ≡ Some task
-    → left < turns_of task.budget task.stage → open_in task.stage ≡ 1
+    → left < turns_before_end task.budget task.stage → open_in task.stage ≡ 1
     → GoesOn w c j task old left answer z → Falls answer w.jobs z.jobs × (length z.jobs ≡ length w.jobs) × (z.programs ≡ w.programs)
 goes_falls w c j task old left answer z at more one g = settle g.1 g.6 g.7
   where
@@ -43,7 +43,7 @@ goes_falls w c j task old left answer z at more one g = settle g.1 g.6 g.7
         let stage : Stage = InHand g.3 g.4 in
         let jobs : z.jobs ≡ with_stage w.jobs j task stage = ap (λ (x : World). x.jobs) s.1 in
         let less : g.4 < left = left_falls g.0 c w.store old left g.2 g.3 g.4 a in
-        let turns = summed (λ t. turns_of t.budget t.stage) w.jobs j task stage at in
+        let turns = summed (λ t. turns_before_end t.budget t.stage) w.jobs j task stage at in
         let opens = summed (λ t. open_in t.stage) w.jobs j task stage at in
         let F : Turn → Type 0 = λ t. Falls t w.jobs (with_stage w.jobs j task stage) in
         let P : List Task → Type 0 = λ ts. Falls answer w.jobs ts × (length ts ≡ length w.jobs) × (z.programs ≡ w.programs) in
@@ -51,7 +51,7 @@ goes_falls w c j task old left answer z at more one g = settle g.1 g.6 g.7
     settle (Some end) a s =
         let stage : Stage = Ended end in
         let jobs : z.jobs ≡ with_stage w.jobs j task stage = ap (λ (x : World). x.jobs) s.3 in
-        let turns = summed (λ t. turns_of t.budget t.stage) w.jobs j task stage at in
+        let turns = summed (λ t. turns_before_end t.budget t.stage) w.jobs j task stage at in
         let opens = summed (λ t. open_in t.stage) w.jobs j task stage at in
         let F : Turn → Type 0 = λ t. Falls t w.jobs (with_stage w.jobs j task stage) in
         let P : List Task → Type 0 = λ ts. Falls answer w.jobs ts × (length ts ≡ length w.jobs) × (z.programs ≡ w.programs) in
@@ -62,7 +62,7 @@ turns_fall w z c answer (inl hand) =
     let task = hand.1 in
     let at = hand.4 in
     goes_falls w c hand.0 task hand.2 hand.3 answer z at.listed
-    (subst (λ (s : Stage). hand.3 < turns_of task.budget s) (sym at.at) (omega arith))
+    (subst (λ (s : Stage). hand.3 < turns_before_end task.budget s) (sym at.at) (omega arith))
     (subst (λ (s : Stage). open_in s ≡ 1) (sym at.at) refl)
     hand.5
 turns_fall w z c answer (inr (inl next)) =
@@ -70,7 +70,7 @@ turns_fall w z c answer (inr (inl next)) =
     let task = begun.1 in
     let at = begun.4 in
     goes_falls (record w { store = begun.3 }) c begun.0 task (start c begun.2) task.budget answer z at.listed
-    (subst (λ (s : Stage). task.budget < turns_of task.budget s) (sym at.at) (omega arith))
+    (subst (λ (s : Stage). task.budget < turns_before_end task.budget s) (sym at.at) (omega arith))
     (subst (λ (s : Stage). open_in s ≡ 1) (sym at.at) refl)
     begun.7
 turns_fall w z c answer (inr (inr idle)) =

@@ -12,28 +12,28 @@ use Rattle.bpf_cpu.specs.declared.machine.lane.Phase.TheVariants as phase
 use Rattle.bpf_cpu.specs.declared.machine.lane.Hand.{Hand}
 use Rattle.bpf_cpu.specs.declared.machine.lane.Lane.{Lane}
 use Rattle.bpf_cpu.specs.Task.{Task, waiting}
-use Rattle.bpf_cpu.specs.Private.Lanes.{IsFirstJob, listed, lane_of, tasks_of, IsListed, IsLane, IsBoard}
+use Rattle.bpf_cpu.specs.Private.Lanes.{IsFirstJob, first_entry, lane_of, tasks_of, IsListed, IsLane, IsBoard}
 
 -- what is true of each job is true of the one at a place
 all_at : {A : Type 0} (P : A → Type 0) (xs : List A) (k : ℕ) (x : A) → All P xs → slice_get xs k ≡ Some x → P x
 all_at P xs k x all at = subst P (get_or_from_slice_get xs k x x at) (All-get_or P xs k x (slice_get_within xs k x at) all)
 
 -- the job that a listed one was made of
-listed_at : (jobs : List Job) (k : ℕ) (x : Listed) → slice_get (map listed jobs) k ≡ Some x → (job : Job) × (slice_get jobs k ≡ Some job) × (x ≡ listed job)
+listed_at : (jobs : List Job) (k : ℕ) (x : Listed) → slice_get (map first_entry jobs) k ≡ Some x → (job : Job) × (slice_get jobs k ≡ Some job) × (x ≡ first_entry job)
 listed_at jobs k x at = go (slice_get jobs k) refl
   where
-    shown : option_map listed (slice_get jobs k) ≡ Some x
-    shown = sym (slice_get-map listed jobs k) ∙ at
+    shown : option_map first_entry (slice_get jobs k) ≡ Some x
+    shown = sym (slice_get-map first_entry jobs k) ∙ at
 
-    go : (o : Option Job) → slice_get jobs k ≡ o → (job : Job) × (slice_get jobs k ≡ Some job) × (x ≡ listed job)
-    go None e = let no : None ≡ Some x = sym (ap (λ (o : Option Job). option_map listed o) e) ∙ shown in cc
-    go (Some job) e = let is : Some (listed job) ≡ Some x = sym (ap (λ (o : Option Job). option_map listed o) e) ∙ shown in (job, e, cc)
+    go : (o : Option Job) → slice_get jobs k ≡ o → (job : Job) × (slice_get jobs k ≡ Some job) × (x ≡ first_entry job)
+    go None e = let no : None ≡ Some x = sym (ap (λ (o : Option Job). option_map first_entry o) e) ∙ shown in cc
+    go (Some job) e = let is : Some (first_entry job) ≡ Some x = sym (ap (λ (o : Option Job). option_map first_entry o) e) ∙ shown in (job, e, cc)
 
-made_tasks_of : (lanes : List Lane) (jobs : List Job) → tasks_of lanes (map listed jobs) ≡ map waiting jobs
+made_tasks_of : (lanes : List Lane) (jobs : List Job) → tasks_of lanes (map first_entry jobs) ≡ map waiting jobs
 made_tasks_of lanes [] = refl
 made_tasks_of lanes (job ∷ jobs) = ap (λ (ts : List Task). waiting job ∷ ts) (made_tasks_of lanes jobs)
 
-module _ (serves running : ℕ → Bool) (reach : ℕ → Span → Bool) (programs : List Loaded) (jobs : List Job) (list : List Listed) (lanes : List Lane) (is : list ≡ map listed jobs) where
+module _ (serves running : ℕ → Bool) (reach : ℕ → Span → Bool) (programs : List Loaded) (jobs : List Job) (list : List Listed) (lanes : List Lane) (is : list ≡ map first_entry jobs) where
   pub made_tasks : tasks_of lanes list ≡ map waiting jobs
   made_tasks = ap (λ (xs : List Listed). tasks_of lanes xs) is ∙ made_tasks_of lanes jobs
 

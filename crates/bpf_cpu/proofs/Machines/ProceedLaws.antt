@@ -28,7 +28,7 @@ use Rattle.bpf_cpu.specs.Private.Lanes.{lane_of, no_lane, stage_of, task_of, tas
 use Rattle.bpf_cpu.specs.Schedule.{World, Advances, GoesOn}
 use Rattle.bpf_cpu.specs.Machine.{Shows}
 use Rattle.bpf_cpu.specs.Rounds.{RunsRounds}
-use Rattle.bpf_cpu.specs.Questions.{turns_of, turns_left}
+use Rattle.bpf_cpu.specs.Questions.{turns_before_end, turns_left}
 use Rattle.bpf_cpu.specs.Private.Turns.{IsAlone, Lasts}
 use Rattle.bpf_cpu.specs.Private.Headways.{TakesQuietTurns, GoesAhead, IsOnlyOne}
 use Rattle.bpf_cpu.proofs.OwnEvents.{shown_within}
@@ -277,6 +277,6 @@ module _ (store : Contents) (programs : List Loaded) (jobs : List Listed) (lanes
             -- and the jobs have fewer turns left
             pub finishes_less : turns_left (tasks_of (slice_set lanes c l'') (slice_set jobs j e'')) < turns_left (tasks_of lanes jobs)
             finishes_less =
-                let sum = summed (λ t. turns_of t.budget t.stage) (tasks_of lanes jobs) j task (Ended outcome) in_hand.listed in
-                let some : turns_of task.budget task.stage ≡ left + 1 = ap (turns_of task.budget) in_hand.at in
+                let sum = summed (λ t. turns_before_end t.budget t.stage) (tasks_of lanes jobs) j task (Ended outcome) in_hand.listed in
+                let some : turns_before_end task.budget task.stage ≡ left + 1 = ap (turns_before_end task.budget) in_hand.at in
                 subst (λ (ts : List Task). turns_left ts < turns_left (tasks_of lanes jobs)) (sym ended_tasks) (omega (arith, sum, some))

@@ -1,8 +1,8 @@
 -- What is in hand and what waits, by what a machine keeps and by what it shows.
 use Rattle.std.proofs.Common.{◌≡◌, ℕ, ◌<◌, ◌≤◌, Bool, true, List, Option, Some, None, inl, inr, length, refl, sym, ap, subst, ◌∙◌, arith}
-use Rattle.std.specs.Prelude.{slice_get, slice_index_or, option_map}
+use Rattle.std.specs.Prelude.{slice_get, slice_index_or, option_map, nat_lt}
 use Rattle.std.proofs.lemmas.Option.{slice_get-map, slice_get_within, slice_get-get_or}
-use Rattle.std.proofs.lemmas.Bool.{cases_lt}
+use Rattle.std.proofs.lemmas.Bool.{cases_lt, ltb-true}
 use Rattle.std.proofs.lemmas.List.{get_or_read}
 use Rattle.bpf_shared.specs.declared.events.Span.{Span}
 use Rattle.bpf_loader.specs.Loaded.{Loaded}
@@ -12,8 +12,13 @@ use Rattle.bpf_cpu.specs.declared.machine.lane.Phase.{Phase}
 use Rattle.bpf_cpu.specs.declared.machine.lane.Phase.TheVariants as phase
 use Rattle.bpf_cpu.specs.declared.machine.lane.Hand.{Hand}
 use Rattle.bpf_cpu.specs.declared.machine.lane.Lane.{Lane}
+use Rattle.bpf_cpu.specs.declared.machine.Standing.{Standing}
+use Rattle.bpf_cpu.specs.declared.machine.Standing.TheVariants as standing
+use Rattle.bpf_cpu.specs.declared.machine.Work.{Work}
+use Rattle.bpf_cpu.specs.declared.machine.Work.TheVariants as work
+use Rattle.bpf_cpu.specs.Questions.{IsStanding}
 use Rattle.bpf_cpu.specs.Task.{Stage, Task, Waiting, InHand, IsAt, IsFree, NoneWaitsBelow, NoneWaits}
-use Rattle.bpf_cpu.specs.Work.{HasInHand, IsState, IsNext}
+use Rattle.bpf_cpu.specs.Work.{HasInHand, IsState, IsNext, IsWork}
 use Rattle.bpf_cpu.specs.Private.Lanes.{lane_of, no_lane, stage_of, task_of, tasks_of, FitsLane, IsHand, IsBoard}
 
 -- the job behind a shown one
@@ -205,6 +210,13 @@ module _ (serves running : ℕ → Bool) (reach : ℕ → Span → Bool) (progra
 pub lane_read : (lanes : List Lane) (c : ℕ) (l : Lane) → c < length lanes → l ≡ slice_index_or lanes c l → lane_of lanes c ≡ l
 lane_read lanes c l within read = sym (get_or_read lanes c l within read no_lane)
 
+-- what looking for a lane has found
+pub lane_there : (lanes read : List Lane) (c : ℕ) (l : Lane) → read ≡ lanes → true ≡ nat_lt c (length read) → l ≡ slice_index_or read c l
+    → (c < length lanes) × (lane_of lanes c ≡ l)
+lane_there lanes read c l same test found =
+    let within : c < length lanes = subst (λ (xs : List Lane). c < length xs) same (ltb-true c (length read) (sym test)) in
+    (within, lane_read lanes c l within (subst (λ (xs : List Lane). l ≡ slice_index_or xs c l) same found))
+
 -- what a lane that was read tells of its CPU
 module _ (serves running : ℕ → Bool) (reach : ℕ → Span → Bool) (programs : List Loaded) (jobs : List Listed) (lanes : List Lane) (board : IsBoard serves running reach programs jobs lanes) (c : ℕ) (l : Lane) (within : c < length lanes) (was : lane_of lanes c ≡ l) where
   pub work_in_hand : (h : Hand) → l.hand ≡ Some h → HasInHand (tasks_of lanes jobs) c h.job
@@ -232,3 +244,30 @@ module _ (serves running : ℕ → Bool) (reach : ℕ → Span → Bool) (progra
     is_free serves running reach programs jobs lanes board c (ap (λ (x : Lane). x.hand) was ∙ none),
     none_waits serves running reach programs jobs lanes board c (subst (λ (x : Lane). length jobs ≤ x.next) (sym was) past),
   )
+
+-- ---- what is to do, by where the CPU stands
+abbrev work_in : Standing → Work
+work_in (standing.InHand j state) = work.InHand j
+work_in (standing.Waiting j) = work.Waiting j
+work_in standing.Idle = work.Nothing
+
+pub works : (jobs : List Task) (cpu : ℕ) (told answer : Standing) → told ≡ answer → IsStanding jobs cpu told → IsWork jobs cpu (work_in answer)
+works jobs cpu told answer is stands = go answer (subst (IsStanding jobs cpu) is stands)
+  where
+    go : (r : Standing) → IsStanding jobs cpu r → IsWork jobs cpu (work_in r)
+    go (standing.InHand j state) s = (s.0, state.now, s.1, s.2)
+    go (standing.Waiting j) s = s
+    go standing.Idle s = s
+
+-- the state that is told
+abbrev HasState : List Task → ℕ → Standing → Type 0
+HasState jobs cpu (standing.InHand j state) = IsState jobs cpu state.now
+HasState jobs cpu told = Unit {0}
+
+pub state_told : (jobs : List Task) (cpu : ℕ) (told answer : Standing) → told ≡ answer → IsStanding jobs cpu told → HasState jobs cpu answer
+state_told jobs cpu told answer is stands = go answer (subst (IsStanding jobs cpu) is stands)
+  where
+    go : (r : Standing) → IsStanding jobs cpu r → HasState jobs cpu r
+    go (standing.InHand j state) s = (j, s.0, s.1, s.2)
+    go (standing.Waiting j) s = tt
+    go standing.Idle s = tt

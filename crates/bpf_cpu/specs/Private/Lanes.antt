@@ -21,8 +21,8 @@ pub record IsFirstJob (jobs : List Listed) (cpu «from» n : ℕ) : Type 0 where
   pub found : (x : Listed) → slice_get jobs n ≡ Some x → x.cpu ≡ cpu
 
 -- a job as it is listed at first
-abbrev pub listed : Job → Listed
-listed job = record {
+abbrev pub first_entry : Job → Listed
+first_entry job = record {
   cpu = job.cpu;
   program = job.program;
   budget = job.budget;

@@ -8,7 +8,7 @@ ghost use Rattle.bpf_shared.specs.Contents as contents;
 ghost use Rattle.bpf_helpers.specs.Held.{AreHeld, KeepsRun};
 ghost use Rattle.bpf_cpu.specs.Step.{IsReady};
 ghost use Rattle.bpf_cpu.specs.Schedule.{Advances};
-ghost use Rattle.bpf_cpu.specs.Private.Lanes.{IsFirstJob, lane_of, listed};
+ghost use Rattle.bpf_cpu.specs.Private.Lanes.{IsFirstJob, lane_of, first_entry};
 ghost use Rattle.bpf_cpu.specs.Private.Turns.{Lasts};
 
 use crate::cpu::Cpu;
@@ -107,7 +107,7 @@ pub(crate) fn make_room(
 pub(crate) fn list_jobs(jobs: Vec<Job>, room: Vec<Listed>) -> Vec<Listed>
     requires empty { room.items ≡ [] }
     requires room { vec_len jobs ≤ vec_capacity room }
-    ensures { result.items ≡ map listed jobs.items }
+    ensures { result.items ≡ map first_entry jobs.items }
 {
     let mut list = room;
     for job in jobs {

@@ -1,13 +1,11 @@
-use Rattle.std.proofs.Common.{◌≡◌, ℕ, ◌<◌, ◌≤◌, List, length, sym, ap, subst, ◌∙◌, arith}
-use Rattle.std.specs.Prelude.{slice_index_or}
-use Rattle.std.proofs.lemmas.Bool.{ltb-true, ltb-false}
+use Rattle.std.proofs.Common.{◌≡◌, ℕ, ◌≤◌, length, sym, ap, subst, ◌∙◌, arith}
+use Rattle.std.proofs.lemmas.Bool.{ltb-false}
 use Rattle.bpf_shared.specs.Contents.{has_cpu, is_running, held_spans}
 use Rattle.bpf_cpu.specs.declared.machine.lane.Lane.{Lane}
 use Rattle.bpf_cpu.specs.Machine.{MachineState}
-use Rattle.bpf_cpu.specs.Private.Lanes.{lane_of}
 use Rattle.bpf_cpu.specs.Task.{Task, InHand, IsAt, IsFree, NoneWaits}
 use Rattle.bpf_cpu.specs.Work.{IsNext}
-use Rattle.bpf_cpu.proofs.Machines.WorkLaws.{lane_read, has_hand, work_waiting, work_nothing, nothing_beyond}
+use Rattle.bpf_cpu.proofs.Machines.WorkLaws.{lane_there, has_hand, work_waiting, work_nothing, nothing_beyond}
 use Rattle.bpf_cpu.proofs.machine.Machine.standing.Goals as goal
 
 pub returns-in_default : goal.returns-in_default
@@ -24,13 +22,10 @@ returns-in-Some-hand c =
     let m = c.self.inside in
     let lanes = m.lanes.items in
     let l = c.in-Some.lane.now in
-    let found = c.in-Some.ensures.lookup in
-    let inside : c.args.cpu < length lanes = subst (λ (xs : List Lane). c.args.cpu < length xs) c.deref.ensures.value (ltb-true c.args.cpu (length c.deref.result.now) (sym found.0)) in
-    let read : l ≡ slice_index_or lanes c.args.cpu l = subst (λ (xs : List Lane). l ≡ slice_index_or xs c.args.cpu l) c.deref.ensures.value found.1 in
-    let here : lane_of lanes c.args.cpu ≡ l = lane_read lanes c.args.cpu l inside read in
+    let there = lane_there lanes c.deref.result.now c.args.cpu l c.deref.ensures.value c.in-Some.ensures.lookup.0 c.in-Some.ensures.lookup.1 in
     let h = c.in-Some-hand.hand in
     let P : MachineState → Type 0 = λ s. (task : Task) × (left : ℕ) × IsAt s.jobs c.args.cpu h.job task (InHand h.cpu left) in
-    let has = has_hand (has_cpu m.store) (is_running m.store) (held_spans m.store) m.programs.items m.jobs.items lanes c.self.invariant c.args.cpu h inside (ap (λ (x : Lane). x.hand) here ∙ c.in-Some-hand.is) in
+    let has = has_hand (has_cpu m.store) (is_running m.store) (held_spans m.store) m.programs.items m.jobs.items lanes c.self.invariant c.args.cpu h there.0 (ap (λ (x : Lane). x.hand) there.1 ∙ c.in-Some-hand.is) in
     subst P c.self.view_is (has.0, h.left, has.1)
 
 pub returns-in-None : goal.returns-in-None
@@ -38,21 +33,15 @@ returns-in-None c =
     let m = c.self.inside in
     let lanes = m.lanes.items in
     let l = c.in-Some.lane.now in
-    let found = c.in-Some.ensures.lookup in
-    let inside : c.args.cpu < length lanes = subst (λ (xs : List Lane). c.args.cpu < length xs) c.deref.ensures.value (ltb-true c.args.cpu (length c.deref.result.now) (sym found.0)) in
-    let read : l ≡ slice_index_or lanes c.args.cpu l = subst (λ (xs : List Lane). l ≡ slice_index_or xs c.args.cpu l) c.deref.ensures.value found.1 in
-    let here : lane_of lanes c.args.cpu ≡ l = lane_read lanes c.args.cpu l inside read in
+    let there = lane_there lanes c.deref.result.now c.args.cpu l c.deref.ensures.value c.in-Some.ensures.lookup.0 c.in-Some.ensures.lookup.1 in
     let P : MachineState → Type 0 = λ s. IsNext s.jobs c.args.cpu l.next in
-    subst P c.self.view_is (work_waiting (has_cpu m.store) (is_running m.store) (held_spans m.store) m.programs.items m.jobs.items lanes c.self.invariant c.args.cpu l inside here c.in-None.is (omega (arith, m.jobs.ok.0)))
+    subst P c.self.view_is (work_waiting (has_cpu m.store) (is_running m.store) (held_spans m.store) m.programs.items m.jobs.items lanes c.self.invariant c.args.cpu l there.0 there.1 c.in-None.is (omega (arith, m.jobs.ok.0)))
 
 pub returns-in-None-2 : goal.returns-in-None-2
 returns-in-None-2 c =
     let m = c.self.inside in
     let lanes = m.lanes.items in
     let l = c.in-Some.lane.now in
-    let found = c.in-Some.ensures.lookup in
-    let inside : c.args.cpu < length lanes = subst (λ (xs : List Lane). c.args.cpu < length xs) c.deref.ensures.value (ltb-true c.args.cpu (length c.deref.result.now) (sym found.0)) in
-    let read : l ≡ slice_index_or lanes c.args.cpu l = subst (λ (xs : List Lane). l ≡ slice_index_or xs c.args.cpu l) c.deref.ensures.value found.1 in
-    let here : lane_of lanes c.args.cpu ≡ l = lane_read lanes c.args.cpu l inside read in
+    let there = lane_there lanes c.deref.result.now c.args.cpu l c.deref.ensures.value c.in-Some.ensures.lookup.0 c.in-Some.ensures.lookup.1 in
     let P : MachineState → Type 0 = λ s. IsFree s.jobs c.args.cpu × NoneWaits s.jobs c.args.cpu in
-    subst P c.self.view_is (work_nothing (has_cpu m.store) (is_running m.store) (held_spans m.store) m.programs.items m.jobs.items lanes c.self.invariant c.args.cpu l inside here c.in-None-2.is (omega (arith, m.jobs.ok.0)))
+    subst P c.self.view_is (work_nothing (has_cpu m.store) (is_running m.store) (held_spans m.store) m.programs.items m.jobs.items lanes c.self.invariant c.args.cpu l there.0 there.1 c.in-None-2.is (omega (arith, m.jobs.ok.0)))

@@ -1,56 +1,5 @@
-use Rattle.std.proofs.Common.{◌≡◌, ◌<◌, ◌≤◌, List, length, sym, ap, subst, arith}
-use Rattle.std.specs.Prelude.{slice_index_or}
-use Rattle.std.proofs.lemmas.Bool.{ltb-true, ltb-false}
-use Rattle.bpf_shared.specs.Contents.{has_cpu, is_running, held_spans}
-use Rattle.bpf_cpu.specs.declared.machine.lane.Lane.{Lane}
-use Rattle.bpf_cpu.specs.Task.{IsFree, NoneWaits}
-use Rattle.bpf_cpu.specs.Machine.{MachineState}
-use Rattle.bpf_cpu.specs.Private.Lanes.{lane_of}
-use Rattle.bpf_cpu.specs.Work.{IsNext, HasInHand}
-use Rattle.bpf_cpu.proofs.Machines.WorkLaws.{lane_read, work_in_hand, work_waiting, work_nothing, nothing_beyond}
+use Rattle.bpf_cpu.proofs.Machines.WorkLaws.{works}
 use Rattle.bpf_cpu.proofs.machine.Machine.work.Goals as goal
 
-pub returns-in_default : goal.returns-in_default
-returns-in_default c =
-    let m = c.self.inside in
-    let lanes = m.lanes.items in
-    let same : length c.deref.result.now ≡ length lanes = ap (length {A = Lane}) c.deref.ensures.value in
-    let past : length lanes ≤ c.args.cpu = omega (arith, ltb-false c.args.cpu (length c.deref.result.now) (sym c.in_default.ensures.lookup.0)) in
-    let P : MachineState → Type 0 = λ s. IsFree s.jobs c.args.cpu × NoneWaits s.jobs c.args.cpu in
-    subst P c.self.view_is (nothing_beyond (has_cpu m.store) (is_running m.store) (held_spans m.store) m.programs.items m.jobs.items lanes c.self.invariant c.args.cpu past)
-
-pub returns-in-Some-hand : goal.returns-in-Some-hand
-returns-in-Some-hand c =
-    let m = c.self.inside in
-    let lanes = m.lanes.items in
-    let l = c.in-Some.lane.now in
-    let found = c.in-Some.ensures.lookup in
-    let inside : c.args.cpu < length lanes = subst (λ (xs : List Lane). c.args.cpu < length xs) c.deref.ensures.value (ltb-true c.args.cpu (length c.deref.result.now) (sym found.0)) in
-    let read : l ≡ slice_index_or lanes c.args.cpu l = subst (λ (xs : List Lane). l ≡ slice_index_or xs c.args.cpu l) c.deref.ensures.value found.1 in
-    let here : lane_of lanes c.args.cpu ≡ l = lane_read lanes c.args.cpu l inside read in
-    let P : MachineState → Type 0 = λ s. HasInHand s.jobs c.args.cpu c.in-Some-hand.hand.job in
-    subst P c.self.view_is (work_in_hand (has_cpu m.store) (is_running m.store) (held_spans m.store) m.programs.items m.jobs.items lanes c.self.invariant c.args.cpu l inside here c.in-Some-hand.hand c.in-Some-hand.is)
-
-pub returns-in-None : goal.returns-in-None
-returns-in-None c =
-    let m = c.self.inside in
-    let lanes = m.lanes.items in
-    let l = c.in-Some.lane.now in
-    let found = c.in-Some.ensures.lookup in
-    let inside : c.args.cpu < length lanes = subst (λ (xs : List Lane). c.args.cpu < length xs) c.deref.ensures.value (ltb-true c.args.cpu (length c.deref.result.now) (sym found.0)) in
-    let read : l ≡ slice_index_or lanes c.args.cpu l = subst (λ (xs : List Lane). l ≡ slice_index_or xs c.args.cpu l) c.deref.ensures.value found.1 in
-    let here : lane_of lanes c.args.cpu ≡ l = lane_read lanes c.args.cpu l inside read in
-    let P : MachineState → Type 0 = λ s. IsNext s.jobs c.args.cpu l.next in
-    subst P c.self.view_is (work_waiting (has_cpu m.store) (is_running m.store) (held_spans m.store) m.programs.items m.jobs.items lanes c.self.invariant c.args.cpu l inside here c.in-None.is (omega (arith, m.jobs.ok.0)))
-
-pub returns-in-None-2 : goal.returns-in-None-2
-returns-in-None-2 c =
-    let m = c.self.inside in
-    let lanes = m.lanes.items in
-    let l = c.in-Some.lane.now in
-    let found = c.in-Some.ensures.lookup in
-    let inside : c.args.cpu < length lanes = subst (λ (xs : List Lane). c.args.cpu < length xs) c.deref.ensures.value (ltb-true c.args.cpu (length c.deref.result.now) (sym found.0)) in
-    let read : l ≡ slice_index_or lanes c.args.cpu l = subst (λ (xs : List Lane). l ≡ slice_index_or xs c.args.cpu l) c.deref.ensures.value found.1 in
-    let here : lane_of lanes c.args.cpu ≡ l = lane_read lanes c.args.cpu l inside read in
-    let P : MachineState → Type 0 = λ s. IsFree s.jobs c.args.cpu × NoneWaits s.jobs c.args.cpu in
-    subst P c.self.view_is (work_nothing (has_cpu m.store) (is_running m.store) (held_spans m.store) m.programs.items m.jobs.items lanes c.self.invariant c.args.cpu l inside here c.in-None-2.is (omega (arith, m.jobs.ok.0)))
+pub returns-in-InHand : goal.returns-in-InHand
+returns-in-InHand c = works _ c.args.cpu c.standing.result _ c.in-InHand.is c.standing.ensures
