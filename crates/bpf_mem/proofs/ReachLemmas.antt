@@ -105,6 +105,9 @@ bytes_in_frame m d o n sized live h =
     let count : o + n - o ≡ n = omega arith in
     rw count (frame-bytes m (frame_base d + o) d o n sized refl live h)
 
+pub reached_in_frame : (m : PrivateMemory) (d o n : ℕ) → Sized m.frames.live → d < length m.frames.live → o + n ≤ 512 → is_some (bytes_at m (frame_base d + o) n) ≡ true
+reached_in_frame m d o n sized live h = is_some-some _ _ (frame-bytes m (frame_base d + o) d o n sized refl live h)
+
 pub number_in_context : (m : PrivateMemory) (o n : ℕ) → length m.context ≤ max_context → o + n ≤ length m.context → number_at m (context_base + o) n ≡ Some (little_endian (take n (drop o m.context)))
 number_in_context m o n small h =
     ap (option_map little_endian) (context-bytes m (context_base + o) o n refl (omega arith) h)
