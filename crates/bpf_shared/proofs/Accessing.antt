@@ -1,9 +1,10 @@
 -- Accesses to values of a `PlainStore`.
-use Rattle.std.proofs.Common.{◌≡◌, ◌≢◌, ℕ, zero, suc, ◌+◌, ◌-◌, ◌/◌, ◌%◌, ◌<◌, ◌≤◌, Bool, true, false, true≢false, ◌&&◌, ◌||◌, ◌==◌, List, length, slice_index, inl, inr, ◌⊎◌, refl, ap, sym, ◌∙◌, subst, arith}
+use Rattle.std.proofs.Common.{◌≡◌, ◌≢◌, ℕ, zero, suc, ◌+◌, ◌-◌, ◌/◌, ◌%◌, ◌<◌, ◌≤◌, Bool, true, false, true≢false, ◌&&◌, ◌||◌, ◌==◌, List, length, slice_index_or, inl, inr, ◌⊎◌, refl, ap, sym, ◌∙◌, subst, arith}
 use Rattle.std.proofs.lemmas.Bool.Decides.{nat_tests}
 use Rattle.bpf_base.specs.Bytes.{little_endian, low_bytes, part, with_part}
 use Rattle.bpf_base.specs.Atomic.{number_after}
 use Rattle.bpf_base.proofs.Numbers.{length-low_bytes}
+use Rattle.std.specs.List.{count_by}
 use Rattle.bpf_shared.specs.declared.events.Span.{Span}
 use Rattle.bpf_shared.specs.declared.events.Size.{Size}
 use Rattle.bpf_shared.specs.declared.events.Size.TheVariants.{Byte, Half, Word, Double}
@@ -158,8 +159,8 @@ module _ (p : Contents) (is : IsStore p) (c a : ℕ) (size : Size) (place : IsHe
     pub store_held : held_spans (with_table p m stored) ≡ held_spans p
     store_held = held-same p (with_table p m stored) (count-with p m stored mi) (shape-with p m stored mi refl) holds-same
 
-    order-same : (n : ℕ) → (rows (with_table p m stored) n).order ≡ (rows p n).order
-    order-same n = elim (rows_cases p m stored mi n) [ inl e ↦ ap (λ (t : Rows). t.order) e.1 ∙ ap (λ (x : ℕ). (rows p x).order) (sym e.0) | inr e ↦ ap (λ (t : Rows). t.order) e.1 ]
+    marks-same : (n : ℕ) → (rows (with_table p m stored) n).linked ≡ (rows p n).linked
+    marks-same n = elim (rows_cases p m stored mi n) [ inl e ↦ ap (λ (t : Rows). t.linked) e.1 ∙ ap (λ (x : ℕ). (rows p x).linked) (sym e.0) | inr e ↦ ap (λ (t : Rows). t.linked) e.1 ]
 
     key-same : (n j : ℕ) → key_of (rows (with_table p m stored) n) j ≡ key_of (rows p n) j
     key-same n j = elim (rows_cases p m stored mi n) [ inl e ↦ ap (λ (t : Rows). key_of t j) e.1 ∙ ap (λ (x : ℕ). key_of (rows p x) j) (sym e.0) | inr e ↦ ap (λ (t : Rows). key_of t j) e.1 ]
@@ -168,10 +169,10 @@ module _ (p : Contents) (is : IsStore p) (c a : ℕ) (size : Size) (place : IsHe
     size-same n = ap elements (shape-with p m stored mi refl n)
 
     linked-was : (n j : ℕ) → IsLinked (rows (with_table p m stored) n) j → IsLinked (rows p n) j
-    linked-was n j k = (k.0, subst (λ (x : List ℕ). k.0 < length x) (order-same n) k.1, ap (λ (x : List ℕ). slice_index x k.0) (sym (order-same n)) ∙ k.2)
+    linked-was n j k = subst (λ (ms : List Bool). slice_index_or ms j false ≡ true) (marks-same n) k
 
     linked-still : (n j : ℕ) → IsLinked (rows p n) j → IsLinked (rows (with_table p m stored) n) j
-    linked-still n j k = (k.0, subst (λ (x : List ℕ). k.0 < length x) (sym (order-same n)) k.1, ap (λ (x : List ℕ). slice_index x k.0) (order-same n) ∙ k.2)
+    linked-still n j k = subst (λ (ms : List Bool). slice_index_or ms j false ≡ true) (sym (marks-same n)) k
 
     used-was : (n j : ℕ) → IsUsed (with_table p m stored) n j → IsUsed p n j
     used-was n j (inl k) = inl (linked-was n j k)
@@ -227,7 +228,7 @@ module _ (p : Contents) (is : IsStore p) (c a : ℕ) (size : Size) (place : IsHe
         number = h.number;
         leads = λ n j k. subst (λ (key : List ℕ). Finds s n key (h.number n j)) (sym (key-same n j)) (h.leads n j (linked-was n j k));
         found = λ n key v e. (let f = h.found n key v e in (f.0, linked-still n f.0 f.1, key-same n f.0 ∙ f.2, f.3));
-        counts = λ n. h.counts n ∙ ap (length {A = ℕ}) (sym (order-same n));
+        counts = λ n. h.counts n ∙ ap (count_by (λ b. b)) (sym (marks-same n));
         values = λ n j k u. values-after n j (within n j k) (used-was n j u) (equal_or_not n m);
         held = λ d v e. (let f = h.held d v e in (f.0, f.1, back f.0 f.1 f.2, holds-same d f.0 f.1 ∙ f.3, f.4));
         held_back = λ d n j k e. h.held_back d n j (within n j k) (sym (holds-same d n j) ∙ e);

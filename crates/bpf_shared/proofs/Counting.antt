@@ -154,7 +154,7 @@ module _ (p q : Contents) (c : ℕ) (is : IsStore p) (serves : has_cpu p c ≡ t
     tables = anew.count;
     shapes = shapes-anew;
     shape = λ m. ap (λ (t : Rows). t.shape) (table-is m);
-    order = λ m. ap (λ (t : Rows). t.order) (table-is m);
+    linked = λ m. ap (λ (t : Rows). t.linked) (table-is m);
     key = λ m i. ap (λ (t : Rows). key_of t i) (table-is m);
     bytes = λ m i. ap (λ (t : Rows). bytes_of t i) (table-is m);
   }

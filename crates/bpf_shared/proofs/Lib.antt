@@ -1,9 +1,10 @@
 pub mod Puts
 pub mod Blocks
 pub mod Linking
+pub mod Indexing
+pub mod Chaining
+pub mod Sorting
 pub mod Passing
-pub mod Replacing
-pub mod Searching
 pub mod Soundness
 pub mod Lawful
 pub mod Chains
@@ -23,5 +24,3 @@ pub mod Settling
 mod Listing
 pub mod OneListing
 pub mod Lasting
-pub mod Handing
-pub mod Numbering

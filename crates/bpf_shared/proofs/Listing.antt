@@ -1,60 +1,36 @@
 -- A listing of a map, and the byte at an address.
-use Rattle.std.proofs.Common.{◌≡◌, ℕ, ◌+◌, ◌-◌, ◌*◌, ◌/◌, ◌%◌, ◌<◌, ◌≤◌, List, ◌++◌, ◌∷◌, [], Option, Some, None, length, map, take, get_or, slice_index, inl, inr, refl, ap, sym, ◌∙◌, subst, arith}
-use Rattle.std.proofs.lemmas.List.{length-map, get_or-map, map_more}
+use Rattle.std.proofs.Common.{◌≡◌, ℕ, ◌+◌, ◌-◌, ◌*◌, ◌/◌, ◌%◌, ◌<◌, ◌≤◌, true, false, List, [], Option, Some, None, length, slice_index, inl, inr, refl, ap, sym, ◌∙◌, subst, arith}
 use Rattle.std.proofs.lemmas.Nat.{div-add-mod'}
 use Rattle.std.specs.Option.{IfNone}
-use Rattle.std.specs.Ordering.{nat_cmp}
-use Rattle.std.specs.declared.cmp.Ordering.TheVariants.{Less}
-use Rattle.std.specs.Cmp.Lexicographic.{slice_cmp}
 use Rattle.bpf_shared.specs.declared.plain.Reach.{Reach}
 use Rattle.bpf_shared.specs.Shape.{IsIn, element_stride, elements}
 use Rattle.bpf_shared.specs.Store.{Plain, Value, Finds}
 use Rattle.bpf_shared.specs.Sound.{IsSoundStore}
-use Rattle.bpf_shared.specs.Rows.{Rows, key_of, bytes_of, IsLinked, IsTakenRow}
+use Rattle.bpf_shared.specs.Rows.{Rows, no_rows, key_of, bytes_of, IsTakenRow}
 use Rattle.bpf_shared.specs.Contents.{Contents, rows, size_of, span_at, IsUsed, StandsFor, IsStore}
 use Rattle.bpf_shared.specs.Changes.{IsAtValue, IsReach}
 use Rattle.bpf_shared.specs.Laws.{byte_at}
-use Rattle.bpf_shared.specs.Listing.{Pair, pair_at, row_pair, IsByteAt}
+use Rattle.bpf_shared.specs.Listing.{Pair, IsByteAt}
+use Rattle.bpf_shared.specs.Private.Pairs.{AreRowPairs}
 use Rattle.bpf_shared.specs.Shows.{Lists, ShowsByte, ShowsNoByte}
-use Rattle.bpf_shared.proofs.Places.{reached, linked_map, sized_map, linked_size, one_at, span-number, keeps_cpu}
+use Rattle.bpf_shared.proofs.Places.{reached, sized_map, linked_size, one_at, span-number, keeps_cpu}
 use Rattle.bpf_shared.proofs.Accessing.{reach_facts}
 
 module _ (p : Contents) (is : IsStore p) where
-  module _ (m : ℕ) (pairs : List Pair) (are : pairs ≡ map (row_pair (rows p m)) (rows p m).order) where
-    abbrev element : ℕ → ℕ
-    element k = slice_index (rows p m).order k
-
-    count : length pairs ≡ length (rows p m).order
-    count = ap (λ (l : List Pair). length l) are ∙ length-map (rows p m).order (row_pair (rows p m))
-
-    within : (k : ℕ) → k < length pairs → k < length (rows p m).order
-    within k l = omega (arith, count)
-
-    linked : (k : ℕ) → k < length pairs → IsLinked (rows p m) (element k)
-    linked k l = (k, within k l, refl)
-
-    pair : (k : ℕ) → k < length pairs → pair_at pairs k ≡ row_pair (rows p m) (element k)
-    pair k l = ap (λ (x : List Pair). get_or x k ([], [])) are ∙ get_or-map (row_pair (rows p m)) (rows p m).order k 0 ([], []) (within k l)
-
-    pub lists : Lists p m pairs
-    lists s so h = record {
-      sorted = λ j k l b.
-          (let before : j < length pairs = omega arith in
-          let there = linked_map p m (element k) (linked k b) in
-          let rise : slice_cmp nat_cmp (key_of (rows p m) (element j)) (key_of (rows p m) (element k)) ≡ Less = (is.tables m there).0.sorted j k l (within k b) in
-          ap (λ (x : Pair). slice_cmp nat_cmp x.0 (pair_at pairs k).0) (pair j before) ∙ (ap (λ (x : Pair). slice_cmp nat_cmp (key_of (rows p m) (element j)) x.0) (pair k b) ∙ rise));
-      each = λ k b.
-          (let i = element k in
-          let in_map = linked k b in
-          let value : s.value (h.number m i) ≡ record { bytes = bytes_of (rows p m) i; span = span_at p m i } = h.values m i (linked_size p is m i in_map) (inl in_map) in
-          let leads : Finds s m (key_of (rows p m) i) (h.number m i) = h.leads m i in_map in
-          (h.number m i, subst (λ (x : Pair). Finds s m x.0 (h.number m i)) (sym (pair k b)) leads, ap (λ (x : Pair). x.1) (pair k b) ∙ sym (ap (λ (x : Value). x.bytes) value)));
-      all = λ key v e.
-          (let f = h.found m key v e in
-          let k = f.1.0 in
-          let b : k < length pairs = omega (arith, count, f.1.1) in
-          (k, b, ap (λ (x : Pair). x.0) (pair k b) ∙ (ap (key_of (rows p m)) f.1.2 ∙ f.2)));
-    }
+  pub lists : (m : ℕ) (pairs : List Pair) → AreRowPairs (rows p m) pairs → Lists p m pairs
+  lists m pairs are s so h = record {
+    sorted = are.sorted;
+    each = λ k b.
+        (let f = are.each k b in
+        let i = f.0 in
+        let value : s.value (h.number m i) ≡ record { bytes = bytes_of (rows p m) i; span = span_at p m i } = h.values m i (linked_size p is m i f.1) (inl f.1) in
+        let leads : Finds s m (key_of (rows p m) i) (h.number m i) = h.leads m i f.1 in
+        (h.number m i, subst (λ (x : Pair). Finds s m x.0 (h.number m i)) (sym f.2) leads, ap (λ (x : Pair). x.1) f.2 ∙ sym (ap (λ (x : Value). x.bytes) value)));
+    all = λ key v e.
+        (let f = h.found m key v e in
+        let a = are.all f.0 f.1 in
+        (a.0, a.1, ap (λ (x : Pair). x.0) a.2 ∙ f.2));
+  }
 
   -- the byte at an address in an element
   abbrev byte_in : ℕ → ℕ → ℕ → ℕ
@@ -136,10 +112,15 @@ at_place a w l =
     let above : 0x1000_0000 * ((a - 0x10_0000_0000) / 0x1000_0000) + x ≡ a - 0x10_0000_0000 = omega arith in
     omega arith
 
--- one more pair of a map
-pub pairs_more : (t : Rows) (k : ℕ) (so_far : List Pair) (q : Pair) → k < length t.order → so_far ≡ map (row_pair t) (take k t.order) → q ≡ row_pair t (get_or t.order k 0)
-    → so_far ++ q ∷ [] ≡ map (row_pair t) (take (k + 1) t.order)
-pairs_more t k so_far q l e f = ap (λ (x : List Pair). x ++ q ∷ []) e ∙ (ap (λ (x : Pair). map (row_pair t) (take k t.order) ++ x ∷ []) f ∙ sym (map_more (row_pair t) t.order k 0 l))
+-- of no map there are no pairs
+pub no_pairs : (pairs : List Pair) → pairs ≡ [] → AreRowPairs no_rows pairs
+no_pairs pairs e =
+    let count : length pairs ≡ 0 = ap (λ (x : List Pair). length x) e in
+    record {
+      sorted = λ j k l m. absurd (omega arith);
+      each = λ k l. absurd (omega arith);
+      all = λ i linked. absurd (let none : false ≡ true = linked in cc);
+    }
 
 pub if_none : {X P Q : Type 0} (o : Option X) → IfNone o P → (P → Q) → IfNone o Q
 if_none None p f = f p

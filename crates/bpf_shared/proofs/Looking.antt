@@ -42,7 +42,7 @@ module _ (p : Contents) (is : IsStore p) (c m i : ℕ) (mi : m < length p.tables
     tables = length-set p.tables m row;
     shapes = shapes-with p m row mi refl;
     shape = shape-with p m row mi refl;
-    order = λ n. elim (rows_cases p m row mi n) [ inl e ↦ ap (λ (t : Rows). t.order) e.1 ∙ ap (λ (x : ℕ). (rows p x).order) (sym e.0) | inr e ↦ ap (λ (t : Rows). t.order) e.1 ];
+    linked = λ n. elim (rows_cases p m row mi n) [ inl e ↦ ap (λ (t : Rows). t.linked) e.1 ∙ ap (λ (x : ℕ). (rows p x).linked) (sym e.0) | inr e ↦ ap (λ (t : Rows). t.linked) e.1 ];
     key = λ n j. elim (rows_cases p m row mi n) [ inl e ↦ ap (λ (t : Rows). key_of t j) e.1 ∙ ap (λ (x : ℕ). key_of (rows p x) j) (sym e.0) | inr e ↦ ap (λ (t : Rows). key_of t j) e.1 ];
     bytes = λ n j. elim (rows_cases p m row mi n) [ inl e ↦ ap (λ (t : Rows). bytes_of t j) e.1 ∙ ap (λ (x : ℕ). bytes_of (rows p x) j) (sym e.0) | inr e ↦ ap (λ (t : Rows). bytes_of t j) e.1 ];
   }

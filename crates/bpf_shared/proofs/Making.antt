@@ -1,6 +1,8 @@
 -- A `PlainStore` as made shows the plain store as made.
-use Rattle.std.proofs.Common.{◌≡◌, ℕ, zero, suc, ◌+◌, ◌*◌, ◌<◌, ◌≤◌, nat_lt, Bool, true, false, ◌&&◌, List, [], ◌∷◌, ◌++◌, inl, inr, length, get_or, map, refl, ap, sym, ◌∙◌, subst, arith}
+use Rattle.std.proofs.Common.{◌≡◌, ℕ, zero, suc, ◌+◌, ◌*◌, ◌<◌, ◌≤◌, nat_lt, Bool, true, false, ◌&&◌, List, [], ◌∷◌, ◌++◌, inl, inr, length, get_or, slice_index, slice_index_or, replicate, cond, map, refl, ap, sym, ◌∙◌, subst, arith}
 use Rattle.std.proofs.lemmas.List.{length-map}
+use Rattle.std.proofs.lemmas.List.Folds.{sum_by-replicate}
+use Rattle.std.specs.List.{count_by}
 use Rattle.std.specs.FinMap.{get-empty, len-empty}
 use Rattle.std.specs.Ordering.{nat_cmp}
 use Rattle.std.specs.Cmp.Lexicographic.{slice_cmp}
@@ -14,8 +16,28 @@ use Rattle.bpf_shared.specs.Runs.{no_runs, is_run}
 use Rattle.bpf_shared.specs.Contents.{Contents, runs_of, rows, size_of, span_at, shapes_of, IsUsed, StandsFor, IsStore, IsMade}
 use Rattle.bpf_shared.proofs.AnyBelow.{any_below_none}
 
+-- ---- vectors as they are made
+pub all_zero : (n k : ℕ) → slice_index (replicate n 0) k ≡ 0
+all_zero zero k = refl
+all_zero (suc n) zero = refl
+all_zero (suc n) (suc k) = all_zero n k
+
+pub none_marked : (ms : List Bool) (n : ℕ) → ms ≡ replicate n false → (i : ℕ) → slice_index_or ms i false ≡ true → ⊥
+none_marked ms n e i l = unset n i (sym (ap (λ (x : List Bool). slice_index_or x i false) e) ∙ l)
+  where
+    unset : (n i : ℕ) → slice_index_or (replicate n false) i false ≡ true → ⊥
+    unset zero i h = let f : false ≡ true = h in cc
+    unset (suc n) zero h = let f : false ≡ true = h in cc
+    unset (suc n) (suc i) h = unset n i h
+
+pub count-none : (ms : List Bool) (n : ℕ) → ms ≡ replicate n false → count_by (λ b. b) ms ≡ 0
+count-none ms n e = ap (count_by (λ b. b)) e ∙ (sum_by-replicate (λ (b : Bool). cond b 1 0) n false ∙ zeros n)
+  where
+    zeros : (n : ℕ) → n * 0 ≡ 0
+    zeros n = omega arith
+
 no_rows_blank : IsBlank no_rows
-no_rows_blank = record { order = refl; looked_up = λ k. refl; left = λ k. refl }
+no_rows_blank = record { empty = λ i l. (let f : false ≡ true = l in cc); count = refl; looked_up = λ k. refl; left = λ k. refl }
 
 pub blank_push : (ts : List Rows) (t : Rows) → ((m : ℕ) → IsBlank (get_or ts m no_rows)) → IsBlank t → (m : ℕ) → IsBlank (get_or (ts ++ t ∷ []) m no_rows)
 blank_push [] t all b zero = b
@@ -32,7 +54,7 @@ module _ (p : Contents) (runs : (c : ℕ) → runs_of p c ≡ no_runs) (tables :
   no_run c run = ap (λ (x : Runs). is_run x run) (runs c)
 
   not_in : (m i : ℕ) → IsLinked (rows p m) i → ⊥
-  not_in m i l = let k : l.0 < 0 = subst (λ (o : List ℕ). l.0 < length o) (tables m).order l.1 in omega arith
+  not_in m i l = (tables m).empty i l
 
   unused : (m i : ℕ) → IsUsed p m i → ⊥
   unused m i (inl l) = not_in m i l
@@ -49,7 +71,7 @@ module _ (p : Contents) (runs : (c : ℕ) → runs_of p c ≡ no_runs) (tables :
     number = λ m i. 0;
     leads = λ m i l. absurd (not_in m i l);
     found = λ m key v e. absurd (let k = sym (get-empty {X = ℕ} (slice_cmp nat_cmp) key) ∙ e in cc);
-    counts = λ m. len-empty (slice_cmp nat_cmp) ℕ ∙ sym (ap (length {A = ℕ}) (tables m).order);
+    counts = λ m. len-empty (slice_cmp nat_cmp) ℕ ∙ sym (tables m).count;
     values = λ m i l u. absurd (unused m i u);
     held = λ c v e. absurd (let f : false ≡ true = e in cc);
     held_back = λ c m i l e. absurd (let f = no_run c (run_looked_up (rows p m) i c) in cc);

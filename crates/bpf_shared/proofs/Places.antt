@@ -75,7 +75,7 @@ reached m i a g sg l x =
 pub linked_map : (p : Contents) (m i : ℕ) → IsLinked (rows p m) i → m < length p.tables
 linked_map p m i l = elim (cases_lt m (length p.tables)) [
   | inl k ↦ k
-  | inr k ↦ absurd (let none : l.0 < 0 = subst (λ (t : Rows). l.0 < length t.order) (get_or_past p.tables m no_rows k) l.1 in omega arith)
+  | inr k ↦ absurd (let none : false ≡ true = subst (λ (t : Rows). IsLinked t i) (get_or_past p.tables m no_rows k) l in cc)
 ]
 
 pub sized_map : (p : Contents) (m i : ℕ) → i < size_of p m → m < length p.tables

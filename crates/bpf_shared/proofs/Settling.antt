@@ -18,13 +18,12 @@ use Rattle.bpf_shared.specs.Events.{has_key, refusals, kept_after, after_delete,
 use Rattle.bpf_shared.specs.Sound.{IsSoundStore}
 use Rattle.bpf_shared.specs.Passage.{Calls}
 use Rattle.bpf_shared.specs.Runs.{is_run}
-use Rattle.bpf_shared.specs.Rows.{Rows, no_rows, key_of, run_looked_up, run_left, IsTable, IsGap, IsKeyAt, IsLowestFreeRow, HasRoomAt, PutsRow, TakesRow, linked_row, unlinked_row}
+use Rattle.bpf_shared.specs.Rows.{Rows, no_rows, key_of, run_looked_up, run_left, IsTable, IsLinked, IsMissing, linked_count, IsKeyAt, IsLowestFreeRow, HasRoomAt, PutsRow, TakesRow, linked_row, unlinked_row}
 use Rattle.bpf_shared.specs.Contents.{Contents, runs_of, rows, span_at, shapes_of, has_cpu, is_running, holds, keeps, held_spans, StandsFor, Passes, MayLack, IsStore, with_table}
 use Rattle.bpf_shared.proofs.Puts.{equal_or_not, put-same, put-other}
 use Rattle.bpf_shared.proofs.Soundness.{after_delete_sound}
 use Rattle.bpf_shared.proofs.Passages.{calls}
-use Rattle.bpf_shared.proofs.Searching.{not_in_gap}
-use Rattle.bpf_shared.proofs.Linking.{unlinked_table, unlinked_gap}
+use Rattle.bpf_shared.proofs.Linking.{unlinked_table, unlinked_missing, count-less}
 use Rattle.bpf_shared.proofs.Changing.{rows-here, shape-with, shapes-with, tells-with, store-with, held-same, count-with, shape_at}
 use Rattle.bpf_shared.proofs.Places.{held_taken, keeps_cpu, taken_up, lowest_up, free_apart}
 use Rattle.bpf_shared.proofs.Updating.{gone_key, left-here, left-else, gone_stands, gone_was, holds-same, keeps-else, with_value, linked_stands}
@@ -41,16 +40,16 @@ and_false false = refl
 -- ---- keys of a map
 module _ (p : Contents) (m : ℕ) (key : List ℕ) (s : Plain) (h : StandsFor p s) where
   there : (k : ℕ) → IsKeyAt (rows p m) key k → has_key s m key ≡ true
-  there k at = ap is_some (subst (λ (q : List ℕ). get (s.maps m) q ≡ Some (h.number m (slice_index (rows p m).order k))) at.is (h.leads m (slice_index (rows p m).order k) (k, at.inside, refl)))
+  there k at = ap is_some (subst (λ (q : List ℕ). get (s.maps m) q ≡ Some (h.number m k)) at.is (h.leads m k at.linked))
 
-  missing : (k : ℕ) → IsGap (rows p m) key k → get (s.maps m) key ≡ None
-  missing k gap = go (get (s.maps m) key) refl
+  missing : IsMissing (rows p m) key → get (s.maps m) key ≡ None
+  missing gap = go (get (s.maps m) key) refl
     where
       go : (o : Option ℕ) → get (s.maps m) key ≡ o → get (s.maps m) key ≡ None
       go None e = e
-      go (Some v) e = let f = h.found m key v e in absurd (not_in_gap (rows p m) key k gap f.0 f.1 f.2)
+      go (Some v) e = let f = h.found m key v e in absurd (gap f.0 f.1 f.2)
 
-  counted : len (s.maps m) ≡ length (rows p m).order
+  counted : len (s.maps m) ≡ linked_count (rows p m)
   counted = h.counts m
 
 unchanged : (p : Contents) (m : ℕ) (n : Rows) → n ≡ rows p m → with_table p m n ≡ p
@@ -106,10 +105,10 @@ module _ (p : Contents) (is : IsStore p) (c m : ℕ) (key : List ℕ) (mi : m < 
   is_map : (s : Plain) → StandsFor p s → IsMap s.shape.maps m row.shape
   is_map s h = subst (λ (maps : List MapShape). IsMap maps m row.shape) (sym h.maps) (shape_at p.tables m mi)
 
-  gone_left : (k : ℕ) → k < length row.order → (i d : ℕ) → d < length p.runs → run_left (unlinked_row p.runs k row) i d ≤ (runs_of p d).count
+  gone_left : (k : ℕ) → IsLinked row k → (i d : ℕ) → d < length p.runs → run_left (unlinked_row p.runs k row) i d ≤ (runs_of p d).count
   gone_left k l i d inside =
       let di : d < row.cpus = subst (λ (x : ℕ). d < x) width inside in
-      elim (equal_or_not i (slice_index row.order k)) [
+      elim (equal_or_not i k) [
         | inl e ↦
             let at : run_left (unlinked_row p.runs k row) i d ≡ (runs_of p d).count = ap (λ (x : ℕ). run_left (unlinked_row p.runs k row) x d) e ∙ left-here p.runs row table k l width d di in
             omega arith
@@ -119,7 +118,7 @@ module _ (p : Contents) (is : IsStore p) (c m : ℕ) (key : List ℕ) (mi : m < 
             omega arith
       ]
 
-  gone_store : (k : ℕ) → k < length row.order → IsStore (with_table p m (unlinked_row p.runs k row))
+  gone_store : (k : ℕ) → IsLinked row k → IsStore (with_table p m (unlinked_row p.runs k row))
   gone_store k l = store-with p m (unlinked_row p.runs k row) mi is (unlinked_table p.runs row table k l width) refl (λ i d x. is.looked_up m i d x) (gone_left k l)
 
   -- ---- deletions
@@ -129,11 +128,11 @@ module _ (p : Contents) (is : IsStore p) (c m : ℕ) (key : List ℕ) (mi : m < 
     after_delete s m key,
     (h.running c ∙ going, (subst (λ (maps : List MapShape). IsKeyOf maps m key) (sym h.maps) keyed, (there p m key s h t.0 t.1, refl))),
     tt,
-    subst (λ (x : Rows). StandsFor (with_table p m x) (after_delete s m key)) (sym t.2) (gone_stands p is m t.0 mi t.1.inside s so h key t.1.is),
+    subst (λ (x : Rows). StandsFor (with_table p m x) (after_delete s m key)) (sym t.2) (gone_stands p is m t.0 mi t.1.linked s so h key t.1.is),
   ))
   takes_calls Absent n going keyed t = calls p (with_table p m n) c (Delete m key Absent) (λ s so h. (
     s,
-    (h.running c ∙ going, (subst (λ (maps : List MapShape). IsKeyOf maps m key) (sym h.maps) keyed, (ap is_some (missing p m key s h t.0.0 t.0.1), refl))),
+    (h.running c ∙ going, (subst (λ (maps : List MapShape). IsKeyOf maps m key) (sym h.maps) keyed, (ap is_some (missing p m key s h t.0), refl))),
     tt,
     subst (λ (x : Contents). StandsFor x s) (sym (unchanged p m n t.1)) h,
   ))
@@ -150,11 +149,11 @@ module _ (p : Contents) (is : IsStore p) (c m : ℕ) (key : List ℕ) (mi : m < 
   same_keeps : (n : Rows) → n ≡ row → Keeps n
   same_keeps n e = subst Keeps (sym e) (refl, refl, refl, λ i d l. is.left m i d l)
 
-  gone_keeps : (k : ℕ) → k < length row.order → (n : Rows) → n ≡ unlinked_row p.runs k row → Keeps n
+  gone_keeps : (k : ℕ) → IsLinked row k → (n : Rows) → n ≡ unlinked_row p.runs k row → Keeps n
   gone_keeps k l n e = subst Keeps (sym e) (refl, refl, refl, gone_left k l)
 
   pub takes_keeps : (answer : MapAnswer) (n : Rows) → TakesRow p.runs row key answer n → Keeps n
-  takes_keeps Done n t = gone_keeps t.0 t.1.inside n t.2
+  takes_keeps Done n t = gone_keeps t.0 t.1.linked n t.2
   takes_keeps Absent n t = same_keeps n t.1
   takes_keeps Busy n t = absurd t
   takes_keeps Invalid n t = absurd t
@@ -169,8 +168,8 @@ module _ (p : Contents) (is : IsStore p) (c m : ℕ) (key : List ℕ) (mi : m < 
   puts_keeps bytes flags Full n t = same_keeps n t.3
   puts_keeps bytes flags NoMemory n t = same_keeps n t.2
   puts_keeps bytes flags Busy n t = absurd t
-  puts_keeps bytes flags Done n (i, free, inl t) = subst Keeps (sym t.2.2) (refl, refl, refl, gone_left t.2.0 t.2.1.inside)
-  puts_keeps bytes flags Done n (i, free, inr t) = subst Keeps (sym t.2.2) (refl, refl, refl, λ j d l. is.left m j d l)
+  puts_keeps bytes flags Done n (i, free, inl t) = subst Keeps (sym t.2.2) (refl, refl, refl, gone_left t.2.0 t.2.1.linked)
+  puts_keeps bytes flags Done n (i, free, inr t) = subst Keeps (sym t.3) (refl, refl, refl, λ j d l. is.left m j d l)
 
   pub keeps_store : (n : Rows) → Keeps n → IsTable n → IsStore (with_table p m n)
   keeps_store n k after = store-with p m n mi is after k.1 (λ i d l. subst (λ (x : ℕ). x ≤ (runs_of p d).count) (sym (looked i d)) (is.looked_up m i d l)) k.3
@@ -212,7 +211,7 @@ module _ (p : Contents) (is : IsStore p) (c m : ℕ) (key : List ℕ) (mi : m < 
 
     room_passes : (s : Plain) → StandsFor p s → HasRoomAt row key flags → passing s
     room_passes s h (inl r) = passes_there s r.0 r.1 (there p m key s h r.2.0 r.2.1)
-    room_passes s h (inr r) = passes_missing s r.0 (ap is_some (missing p m key s h r.1.0 r.1.1)) (λ e. (let x = r.2 in let y = h.counts m in let z : len (s.maps m) ≡ row.shape.max = e in omega arith))
+    room_passes s h (inr r) = passes_missing s r.0 (ap is_some (missing p m key s h r.1)) (λ e. (let x = r.2 in let y = h.counts m in let z : len (s.maps m) ≡ row.shape.max = e in omega arith))
 
     module _ (i : ℕ) (free : IsLowestFreeRow p.runs row i) (s : Plain) (so : IsSoundStore s) (h : StandsFor p s) where
       abbrev value : Value
@@ -224,46 +223,46 @@ module _ (p : Contents) (is : IsStore p) (c m : ℕ) (key : List ℕ) (mi : m < 
       unkept : (d : ℕ) → keeps p d m i ≡ true → ⊥
       unkept d e = free.free (inr (d, keeps_cpu p d m i e, e))
 
-      added : (k : ℕ) → IsGap row key k → StandsFor (with_table p m (linked_row k i key bytes row)) (after_update s m key value)
-      added k gap =
-          let new = missing p m key s h k gap in
+      added : IsMissing row key → StandsFor (with_table p m (linked_row i key bytes row)) (after_update s m key value)
+      added gap =
+          let new = missing p m key s h gap in
           let kept : s.kept ≡ kept_after s (get (s.maps m) key) = sym (ap (kept_after s) new) in
-          subst (λ (f : ℕ → ℕ → Bool). StandsFor (with_table p m (linked_row k i key bytes row)) (record (with_value s m key value) { kept = f })) kept
-          (linked_stands p is m k i key bytes mi gap free.inside (λ l. free.free (inl l)) size long s so h new unheld unkept)
+          subst (λ (f : ℕ → ℕ → Bool). StandsFor (with_table p m (linked_row i key bytes row)) (record (with_value s m key value) { kept = f })) kept
+          (linked_stands p is m i key bytes mi gap free.inside (λ l. free.free (inl l)) size long s so h new unheld unkept)
 
-      replaced : (k : ℕ) → IsKeyAt row key k → StandsFor (with_table p m (linked_row k i key bytes (unlinked_row p.runs k row))) (after_update s m key value)
+      replaced : (k : ℕ) → IsKeyAt row key k → StandsFor (with_table p m (linked_row i key bytes (unlinked_row p.runs k row))) (after_update s m key value)
       replaced k at =
           let q : Contents = with_table p m (unlinked_row p.runs k row) in
           let t : Plain = after_delete s m key in
           let here : rows q m ≡ unlinked_row p.runs k row = rows-here p m (unlinked_row p.runs k row) mi in
           let shape : (rows q m).shape ≡ row.shape = ap (λ (x : Rows). x.shape) here in
-          let leads : get (s.maps m) key ≡ Some (h.number m (slice_index row.order k)) = subst (λ (x : List ℕ). get (s.maps m) x ≡ Some (h.number m (slice_index row.order k))) at.is (h.leads m (slice_index row.order k) (k, at.inside, refl)) in
-          let apart : i ≢ slice_index row.order k = λ e. free.free (inl (k, at.inside, sym e)) in
-          let stands : StandsFor (with_table q m (linked_row k i key bytes (rows q m))) (with_value t m key (record { bytes = bytes; span = span_at q m i })) =
-          linked_stands q (gone_store k at.inside) m k i key bytes (subst (λ (x : ℕ). m < x) (sym (count-with p m (unlinked_row p.runs k row) mi)) mi)
-          (subst (λ (x : Rows). IsGap x key k) (sym here) (unlinked_gap p.runs row table k at.inside width key at.is))
+          let leads : get (s.maps m) key ≡ Some (h.number m k) = subst (λ (x : List ℕ). get (s.maps m) x ≡ Some (h.number m k)) at.is (h.leads m k at.linked) in
+          let apart : i ≢ k = λ e. free.free (inl (subst (IsLinked row) (sym e) at.linked)) in
+          let stands : StandsFor (with_table q m (linked_row i key bytes (rows q m))) (with_value t m key (record { bytes = bytes; span = span_at q m i })) =
+          linked_stands q (gone_store k at.linked) m i key bytes (subst (λ (x : ℕ). m < x) (sym (count-with p m (unlinked_row p.runs k row) mi)) mi)
+          (subst (λ (x : Rows). IsMissing x key) (sym here) (unlinked_missing p.runs row table k at.linked width key at.is))
           (subst (λ (x : MapShape). i < elements x) (sym shape) free.inside)
-          (λ l. free.free (inl (gone_was p is m k mi at.inside m i l).0))
+          (λ l. free.free (inl (gone_was p is m k mi at.linked m i l).0))
           (size ∙ ap (λ (x : MapShape). x.key) (sym shape))
           (long ∙ ap (λ (x : MapShape). x.value) (sym shape))
-          t (after_delete_sound s m key so) (gone_stands p is m k mi at.inside s so h key at.is)
+          t (after_delete_sound s m key so) (gone_stands p is m k mi at.linked s so h key at.is)
           (ap (λ (x : Keys). get x key) (put-same s.maps m m (remove (s.maps m) key) refl) ∙ gone_key (s.maps m) key)
-          (λ d e. unheld d (sym (holds-same p is m k mi at.inside d m i) ∙ e))
-          (λ d e. unkept d (sym (keeps-else p is m k mi at.inside d m i (λ _. apart)) ∙ e)) in
-          let same_contents : with_table q m (linked_row k i key bytes (rows q m)) ≡ with_table p m (linked_row k i key bytes (unlinked_row p.runs k row)) =
-          ap (λ (x : Rows). with_table q m (linked_row k i key bytes x)) here
-          ∙ ap (λ (ts : List Rows). let y : Contents = record p { tables = ts } in y) (set_twice p.tables m (unlinked_row p.runs k row) (linked_row k i key bytes (unlinked_row p.runs k row))) in
+          (λ d e. unheld d (sym (holds-same p is m k mi at.linked d m i) ∙ e))
+          (λ d e. unkept d (sym (keeps-else p is m k mi at.linked d m i (λ _. apart)) ∙ e)) in
+          let same_contents : with_table q m (linked_row i key bytes (rows q m)) ≡ with_table p m (linked_row i key bytes (unlinked_row p.runs k row)) =
+          ap (λ (x : Rows). with_table q m (linked_row i key bytes x)) here
+          ∙ ap (λ (ts : List Rows). let y : Contents = record p { tables = ts } in y) (set_twice p.tables m (unlinked_row p.runs k row) (linked_row i key bytes (unlinked_row p.runs k row))) in
           let same_value : ◌≡◌ {A = Value} (record { bytes = bytes; span = span_at q m i }) value = ap (λ (x : MapShape). let y : Value = record { bytes = bytes; span = element_span m x i } in y) shape in
-          let moved = subst (λ (x : Contents). StandsFor x (with_value t m key value)) same_contents (subst (λ (x : Value). StandsFor (with_table q m (linked_row k i key bytes (rows q m))) (with_value t m key x)) same_value stands) in
-          let some : 0 < len (s.maps m) = (let x = h.counts m in let y = at.inside in omega arith) in
-          other_maps (with_table p m (linked_row k i key bytes (unlinked_row p.runs k row))) (with_value t m key value) (put s.maps m (insert (s.maps m) key s.made))
+          let moved = subst (λ (x : Contents). StandsFor x (with_value t m key value)) same_contents (subst (λ (x : Value). StandsFor (with_table q m (linked_row i key bytes (rows q m))) (with_value t m key x)) same_value stands) in
+          let some : 0 < len (s.maps m) = (let x = h.counts m in let y : linked_count (unlinked_row p.runs k row) + 1 ≡ linked_count row = count-less p.runs row table k at.linked width in omega arith) in
+          other_maps (with_table p m (linked_row i key bytes (unlinked_row p.runs k row))) (with_value t m key value) (put s.maps m (insert (s.maps m) key s.made))
           (λ n x. elim (equal_or_not n m) [
             | inr ne ↦
                 ap (λ (y : Keys). get y x) (put-other s.maps m n (insert (s.maps m) key s.made) ne)
                 ∙ sym (ap (λ (y : Keys). get y x) (put-other t.maps m n (insert (t.maps m) key s.made) ne) ∙ ap (λ (y : Keys). get y x) (put-other s.maps m n (remove (s.maps m) key) ne))
             | inl e ↦
                 ap (λ (y : Keys). get y x) (put-same s.maps m n (insert (s.maps m) key s.made) e)
-                ∙ (inserted_again (s.maps m) key s.made (h.number m (slice_index row.order k)) leads x
+                ∙ (inserted_again (s.maps m) key s.made (h.number m k) leads x
                 ∙ sym (ap (λ (y : Keys). get y x) (put-same t.maps m n (insert (t.maps m) key s.made) e) ∙ ap (λ (y : Keys). get (insert y key s.made) x) (put-same s.maps m m (remove (s.maps m) key) refl)))
           ])
           (λ n. elim (equal_or_not n m) [
@@ -272,7 +271,7 @@ module _ (p : Contents) (is : IsStore p) (c m : ℕ) (key : List ℕ) (mi : m < 
                 ∙ sym (ap len (put-other t.maps m n (insert (t.maps m) key s.made) ne) ∙ ap len (put-other s.maps m n (remove (s.maps m) key) ne))
             | inl e ↦
                 ap len (put-same s.maps m n (insert (s.maps m) key s.made) e)
-                ∙ (len_again (s.maps m) key s.made (h.number m (slice_index row.order k)) leads some
+                ∙ (len_again (s.maps m) key s.made (h.number m k) leads some
                 ∙ sym (ap len (put-same t.maps m n (insert (t.maps m) key s.made) e) ∙ ap (λ (y : Keys). len (insert y key s.made)) (put-same s.maps m m (remove (s.maps m) key) refl)))
           ])
           moved
@@ -298,7 +297,7 @@ module _ (p : Contents) (is : IsStore p) (c m : ℕ) (key : List ℕ) (mi : m < 
       s,
       (
         h.running c ∙ going,
-        (row.shape, is_map s h, size, long, (tests _ _ _ _ false false true _ (let l = t.0 in grind (arith, nat_tests)) (let has : has_key s m key ≡ false = ap is_some (missing p m key s h t.1.0 t.1.1) in ap (λ (b : Bool). (flags == 1) && b) has ∙ and_false (flags == 1)) (let has : has_key s m key ≡ false = ap is_some (missing p m key s h t.1.0 t.1.1) in ap (λ (b : Bool). (flags == 2) && not b) has ∙ ap (λ (b : Bool). b && true) (eq-eqb flags 2 t.0)) refl, refl)),
+        (row.shape, is_map s h, size, long, (tests _ _ _ _ false false true _ (let l = t.0 in grind (arith, nat_tests)) (let has : has_key s m key ≡ false = ap is_some (missing p m key s h t.1) in ap (λ (b : Bool). (flags == 1) && b) has ∙ and_false (flags == 1)) (let has : has_key s m key ≡ false = ap is_some (missing p m key s h t.1) in ap (λ (b : Bool). (flags == 2) && not b) has ∙ ap (λ (b : Bool). b && true) (eq-eqb flags 2 t.0)) refl, refl)),
       ),
       tt,
       refused Absent n t.2 s h,
@@ -307,7 +306,7 @@ module _ (p : Contents) (is : IsStore p) (c m : ℕ) (key : List ℕ) (mi : m < 
       s,
       (
         h.running c ∙ going,
-        (row.shape, is_map s h, size, long, (full_test s h t.0 (ap is_some (missing p m key s h t.1.0 t.1.1)) (h.counts m ∙ t.2), refl)),
+        (row.shape, is_map s h, size, long, (full_test s h t.0 (ap is_some (missing p m key s h t.1)) (h.counts m ∙ t.2), refl)),
       ),
       tt,
       refused Full n t.3 s h,
@@ -350,11 +349,11 @@ module _ (p : Contents) (is : IsStore p) (c m : ℕ) (key : List ℕ) (mi : m < 
           is_map s h,
           size,
           long,
-          (passes_missing s t.0 (ap is_some (missing p m key s h t.2.0 t.2.1)) (λ e. (let x = t.1 in let y = h.counts m in let z : len (s.maps m) ≡ row.shape.max = e in omega arith)), (span_at p m i, record { element = (i, free.inside, refl); apart = free_apart p is s so h m i free.inside free.free }, refl)),
+          (passes_missing s t.0 (ap is_some (missing p m key s h t.2)) (λ e. (let x = t.1 in let y = h.counts m in let z : len (s.maps m) ≡ row.shape.max = e in omega arith)), (span_at p m i, record { element = (i, free.inside, refl); apart = free_apart p is s so h m i free.inside free.free }, refl)),
         ),
       ),
       (row.shape, i, is_map s h, lowest_up p is s so h m i free, ap (λ (x : Value). x.span) (put-same s.value s.made s.made (value i free s so h) refl)),
-      subst (λ (x : Rows). StandsFor (with_table p m x) (after_update s m key (value i free s so h))) (sym t.2.2) (added i free s so h t.2.0 t.2.1),
+      subst (λ (x : Rows). StandsFor (with_table p m x) (after_update s m key (value i free s so h))) (sym t.3) (added i free s so h t.2),
     ))
 
     pub puts_lacks : (answer : MapAnswer) (n : Rows) → PutsRow p.runs row key bytes flags answer n → MayLack p (with_table p m n) m key answer

@@ -1,5 +1,6 @@
 -- What a store shows after a call that leaves keys, bytes and places as they are.
-use Rattle.std.proofs.Common.{◌≡◌, ◌≢◌, ℕ, ◌<◌, Bool, true, false, ◌&&◌, ◌==◌, if◌then◌else◌, List, inl, inr, length, slice_index, ap, sym, ◌∙◌, subst, eq-eqb, ne_eqb}
+use Rattle.std.proofs.Common.{◌≡◌, ◌≢◌, ℕ, ◌<◌, Bool, true, false, ◌&&◌, ◌==◌, if◌then◌else◌, List, inl, inr, length, slice_index_or, ap, sym, ◌∙◌, subst, eq-eqb, ne_eqb}
+use Rattle.std.specs.List.{count_by}
 use Rattle.bpf_shared.specs.declared.events.Span.{Span}
 use Rattle.bpf_shared.specs.declared.shapes.MapShape.{MapShape}
 use Rattle.bpf_shared.specs.Shape.{elements, element_span}
@@ -16,7 +17,7 @@ pub record SameContent (p q : Contents) : Type 0 where
   pub tables : length q.tables ≡ length p.tables
   pub shapes : shapes_of q ≡ shapes_of p
   pub shape : (m : ℕ) → (rows q m).shape ≡ (rows p m).shape
-  pub order : (m : ℕ) → (rows q m).order ≡ (rows p m).order
+  pub linked : (m : ℕ) → (rows q m).linked ≡ (rows p m).linked
   pub key : (m i : ℕ) → key_of (rows q m) i ≡ key_of (rows p m) i
   pub bytes : (m i : ℕ) → bytes_of (rows q m) i ≡ bytes_of (rows p m) i
 
@@ -26,7 +27,7 @@ same_tables p q cpus e = record {
   tables = ap (length {A = Rows}) e;
   shapes = ap (λ (ts : List Rows). shapes_of (record p { tables = ts })) e;
   shape = λ m. ap (λ (ts : List Rows). (rows (record p { tables = ts }) m).shape) e;
-  order = λ m. ap (λ (ts : List Rows). (rows (record p { tables = ts }) m).order) e;
+  linked = λ m. ap (λ (ts : List Rows). (rows (record p { tables = ts }) m).linked) e;
   key = λ m i. ap (λ (ts : List Rows). key_of (rows (record p { tables = ts }) m) i) e;
   bytes = λ m i. ap (λ (ts : List Rows). bytes_of (rows (record p { tables = ts }) m) i) e;
 }
@@ -36,10 +37,10 @@ module _ (p q : Contents) (same : SameContent p q) where
   span-same m i = ap (λ (h : MapShape). element_span m h i) (same.shape m)
 
   pub linked_was : (m i : ℕ) → IsLinked (rows q m) i → IsLinked (rows p m) i
-  linked_was m i l = (l.0, subst (λ (o : List ℕ). l.0 < length o) (same.order m) l.1, ap (λ (o : List ℕ). slice_index o l.0) (sym (same.order m)) ∙ l.2)
+  linked_was m i l = subst (λ (ms : List Bool). slice_index_or ms i false ≡ true) (same.linked m) l
 
   pub linked_still : (m i : ℕ) → IsLinked (rows p m) i → IsLinked (rows q m) i
-  linked_still m i l = (l.0, subst (λ (o : List ℕ). l.0 < length o) (sym (same.order m)) l.1, ap (λ (o : List ℕ). slice_index o l.0) (same.order m) ∙ l.2)
+  linked_still m i l = subst (λ (ms : List Bool). slice_index_or ms i false ≡ true) (sym (same.linked m)) l
 
   pub within_was : (m i : ℕ) → i < size_of q m → i < size_of p m
   within_was m i l = subst (λ (n : ℕ). i < n) (ap elements (same.shape m)) l
@@ -63,7 +64,7 @@ module _ (p q : Contents) (same : SameContent p q) where
     number = h.number;
     leads = λ m i l. subst (λ (key : List ℕ). Finds s m key (h.number m i)) (sym (same.key m i)) (h.leads m i (linked_was m i l));
     found = λ m key v l. (let f = h.found m key v l in (f.0, linked_still m f.0 f.1, same.key m f.0 ∙ f.2, f.3));
-    counts = λ m. h.counts m ∙ ap (length {A = ℕ}) (sym (same.order m));
+    counts = λ m. h.counts m ∙ ap (count_by (λ b. b)) (sym (same.linked m));
     values = λ m i l u.
         h.values m i (within_was m i l) (used m i u)
         ∙ (ap (λ (b : List ℕ). record { bytes = b; span = span_at p m i }) (sym (same.bytes m i))

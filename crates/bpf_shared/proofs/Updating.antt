@@ -1,10 +1,8 @@
 -- What updates and deletions leave of a `PlainStore`.
-use Rattle.std.proofs.Common.{◌≡◌, ◌≢◌, ℕ, ◌+◌, ◌-◌, ◌*◌, ◌<◌, ◌≤◌, Bool, true, false, cond, ◌&&◌, List, Option, Some, None, is_some, length, map, slice_index, inl, inr, ◌⊎◌, refl, ap, sym, ◌∙◌, subst, arith, eq-eqb, if◌then◌else◌}
-use Rattle.std.specs.List.{insert as insert_item, remove as remove_item}
+use Rattle.std.proofs.Common.{◌≡◌, ◌≢◌, ℕ, ◌+◌, ◌-◌, ◌*◌, ◌<◌, ◌≤◌, Bool, true, false, cond, ◌&&◌, List, Option, Some, None, is_some, length, map, inl, inr, ◌⊎◌, refl, ap, sym, ◌∙◌, subst, arith, eq-eqb, if◌then◌else◌}
 use Rattle.std.proofs.lemmas.Bool.{cases_lt}
 use Rattle.std.proofs.lemmas.Cmp.{nat_list_cmp_total}
 use Rattle.std.proofs.lemmas.List.{length-map, get_or_past}
-use Rattle.std.proofs.lemmas.List.Edits.{length-insert, length-remove}
 use Rattle.std.proofs.Math.ListN.{get_or-map}
 use Rattle.std.specs.Ordering.{nat_cmp, eq_by_cmp, is_eq}
 use Rattle.std.specs.Cmp.{tied_itself}
@@ -17,13 +15,13 @@ use Rattle.bpf_shared.specs.Store.{Keys, Plain, Value, put}
 use Rattle.bpf_shared.specs.Events.{kept_after, after_delete}
 use Rattle.bpf_shared.specs.Sound.{IsSoundStore}
 use Rattle.bpf_shared.specs.Runs.{run_of, count_of, no_runs, is_run}
-use Rattle.bpf_shared.specs.Rows.{Rows, key_of, bytes_of, key_at, run_looked_up, run_left, IsLinked, IsTable, IsGap, linked_row, unlinked_row}
+use Rattle.bpf_shared.specs.Rows.{Rows, key_of, bytes_of, linked_count, run_looked_up, run_left, IsLinked, IsTable, IsMissing, linked_row, unlinked_row}
 use Rattle.bpf_shared.specs.Contents.{Contents, runs_of, rows, size_of, span_at, is_running, holds, keeps, IsUsed, StandsFor, IsStore, with_table}
 use Rattle.bpf_shared.proofs.Puts.{true_or_false, equal_or_not, put-same, put-other, put_cases, insert_cases, remove_cases}
 use Rattle.bpf_shared.proofs.Soundness.{kept_still, kept_now}
 use Rattle.bpf_shared.proofs.Lawful.{leads_new}
 use Rattle.bpf_shared.proofs.Blocks.{block_fits, apart_blocks, get_or-before, get_or-inside, get_or-behind}
-use Rattle.bpf_shared.proofs.Linking.{unlinked_was, unlinked_still, linked_here, linked_more, linked_was, key-here, key-beside, bytes-here, bytes-beside}
+use Rattle.bpf_shared.proofs.Linking.{linked_inside, count-less, count-more, unlinked_was, unlinked_still, linked_here, linked_more, linked_was, key-here, key-beside, bytes-here, bytes-beside}
 use Rattle.bpf_shared.proofs.Changing.{rows-here, rows-else, rows_cases, shapes-with, shape-with, tells-with}
 use Rattle.bpf_shared.proofs.Places.{linked_size, one_number}
 
@@ -34,12 +32,12 @@ gone_key k key = get-remove nat_list_cmp_total k key key ∙ ap (λ (b : Bool). 
     itself q = ap is_eq (tied_itself nat_list_cmp_total q)
 
 -- ---- notes of an element that left
-module _ (runs : List Runs) (t : Rows) (is : IsTable t) (k : ℕ) (inside : k < length t.order) (cpus : length runs ≡ t.cpus) where
+module _ (runs : List Runs) (t : Rows) (is : IsTable t) (k : ℕ) (inside : IsLinked t k) (cpus : length runs ≡ t.cpus) where
   abbrev o : ℕ
-  o = slice_index t.order k
+  o = k
 
   oi : o < elements t.shape
-  oi = is.inside k inside
+  oi = linked_inside t is k inside
 
   fits : o * t.cpus + length (map count_of runs) ≤ length t.left
   fits = omega (arith, block_fits o (elements t.shape) t.cpus oi, is.left, length-map runs count_of)
@@ -56,12 +54,12 @@ module _ (runs : List Runs) (t : Rows) (is : IsTable t) (k : ℕ) (inside : k < 
   ]
 
 -- ---- an element leaves its map
-module _ (p : Contents) (is : IsStore p) (m k : ℕ) (mi : m < length p.tables) (inside : k < length (rows p m).order) where
+module _ (p : Contents) (is : IsStore p) (m k : ℕ) (mi : m < length p.tables) (inside : IsLinked (rows p m) k) where
   abbrev pub gone : Rows
   gone = unlinked_row p.runs k (rows p m)
 
   abbrev pub old : ℕ
-  old = slice_index (rows p m).order k
+  old = k
 
   table : IsTable (rows p m)
   table = (is.tables m mi).0
@@ -70,10 +68,10 @@ module _ (p : Contents) (is : IsStore p) (m k : ℕ) (mi : m < length p.tables) 
   width = sym (is.tables m mi).1
 
   old_linked : IsLinked (rows p m) old
-  old_linked = (k, inside, refl)
+  old_linked = inside
 
   old_size : old < size_of p m
-  old_size = table.inside k inside
+  old_size = linked_inside (rows p m) table k inside
 
   abbrev pub after : Contents
   after = with_table p m gone
@@ -155,7 +153,7 @@ module _ (p : Contents) (is : IsStore p) (m k : ℕ) (mi : m < length p.tables) 
     ]
   ]
 
-  module _ (s : Plain) (so : IsSoundStore s) (h : StandsFor p s) (key : List ℕ) (keyed : key_at (rows p m) k ≡ key) where
+  module _ (s : Plain) (so : IsSoundStore s) (h : StandsFor p s) (key : List ℕ) (keyed : key_of (rows p m) k ≡ key) where
     leads-old : get (s.maps m) key ≡ Some (h.number m old)
     leads-old = subst (λ (q : List ℕ). get (s.maps m) q ≡ Some (h.number m old)) keyed (h.leads m old old_linked)
 
@@ -202,17 +200,18 @@ module _ (p : Contents) (is : IsStore p) (m k : ℕ) (mi : m < length p.tables) 
         let there : contains_key (s.maps m) key ≡ true = ap is_some leads-old in
         let less : len (remove (s.maps m) key) ≡ len (s.maps m) - 1 = len-remove nat_list_cmp_total (s.maps m) key ∙ ap (λ (b : Bool). cond b (len (s.maps m) - 1) (len (s.maps m))) there in
         let count = h.counts m in
+        let some : linked_count gone + 1 ≡ linked_count (rows p m) = count-less p.runs (rows p m) table k inside width in
         omega arith
 
-    counts-after : (n : ℕ) → (n ≡ m) ⊎ (n ≢ m) → len (put s.maps m (remove (s.maps m) key) n) ≡ length (rows after n).order
-    counts-after n (inr ne) = ap len (put-other s.maps m n (remove (s.maps m) key) ne) ∙ (h.counts n ∙ ap (λ (t : Rows). length t.order) (sym (rows-else p m gone mi n ne)))
+    counts-after : (n : ℕ) → (n ≡ m) ⊎ (n ≢ m) → len (put s.maps m (remove (s.maps m) key) n) ≡ linked_count (rows after n)
+    counts-after n (inr ne) = ap len (put-other s.maps m n (remove (s.maps m) key) ne) ∙ (h.counts n ∙ ap linked_count (sym (rows-else p m gone mi n ne)))
     counts-after n (inl e) =
         let less = one_less in
         let count = h.counts m in
-        let order : length (remove_item (rows p m).order k) + 1 ≡ length (rows p m).order = length-remove (rows p m).order k inside in
+        let fewer : linked_count gone + 1 ≡ linked_count (rows p m) = count-less p.runs (rows p m) table k inside width in
         ap len (put-same s.maps m n (remove (s.maps m) key) e)
-        ∙ (let same : len (remove (s.maps m) key) ≡ length (remove_item (rows p m).order k) = omega arith in
-        same ∙ ap (λ (t : Rows). length t.order) (sym (ap (rows after) e ∙ rows-here p m gone mi)))
+        ∙ (let same : len (remove (s.maps m) key) ≡ linked_count gone = omega arith in
+        same ∙ ap linked_count (sym (ap (rows after) e ∙ rows-here p m gone mi)))
 
     kept-after : (c v : ℕ) → kept_after s (get (s.maps m) key) c v ≡ true → (n : ℕ) × (i : ℕ) × (i < size_of after n) × (keeps after c n i ≡ true) × (v ≡ h.number n i)
     kept-after c v e = go (true_or_false (s.running c)) (ap (λ (o : Option ℕ). kept_after s o c v) (sym leads-old) ∙ e)
@@ -267,9 +266,9 @@ module _ (p : Contents) (is : IsStore p) (m k : ℕ) (mi : m < length p.tables) 
 abbrev pub with_value : Plain → ℕ → List ℕ → Value → Plain
 with_value s m key x = record s { maps = put s.maps m (insert (s.maps m) key s.made); made = s.made + 1; value = put s.value s.made x }
 
-module _ (p : Contents) (is : IsStore p) (m k i : ℕ) (key bytes : List ℕ) (mi : m < length p.tables) (gap : IsGap (rows p m) key k) (ii : i < size_of p m) (free : IsLinked (rows p m) i → ⊥) (size : length key ≡ (rows p m).shape.key) (long : length bytes ≡ (rows p m).shape.value) where
+module _ (p : Contents) (is : IsStore p) (m i : ℕ) (key bytes : List ℕ) (mi : m < length p.tables) (gap : IsMissing (rows p m) key) (ii : i < size_of p m) (free : IsLinked (rows p m) i → ⊥) (size : length key ≡ (rows p m).shape.key) (long : length bytes ≡ (rows p m).shape.value) where
   abbrev full : Rows
-  full = linked_row k i key bytes (rows p m)
+  full = linked_row i key bytes (rows p m)
 
   abbrev later : Contents
   later = with_table p m full
@@ -301,7 +300,7 @@ module _ (p : Contents) (is : IsStore p) (m k i : ℕ) (key bytes : List ℕ) (m
   link_was : (n j : ℕ) → IsLinked (rows later n) j → ((n ≡ m) × (j ≡ i)) ⊎ IsLinked (rows p n) j
   link_was n j l = elim (rows_cases p m full mi n) [
     | inr e ↦ inr (subst (λ (t : Rows). IsLinked t j) e.1 l)
-    | inl e ↦ elim (linked_was (rows p m) here-table k i key bytes gap ii free size long j (subst (λ (t : Rows). IsLinked t j) e.1 l)) [
+    | inl e ↦ elim (linked_was (rows p m) here-table i key bytes gap ii free size long j (subst (λ (t : Rows). IsLinked t j) e.1 l)) [
       | inl f ↦ inl (e.0, f)
       | inr f ↦ inr (subst (λ (x : ℕ). IsLinked (rows p x) j) (sym e.0) f)
     ]
@@ -310,33 +309,33 @@ module _ (p : Contents) (is : IsStore p) (m k i : ℕ) (key bytes : List ℕ) (m
   link_still : (n j : ℕ) → IsLinked (rows p n) j → IsLinked (rows later n) j
   link_still n j l = elim (rows_cases p m full mi n) [
     | inr e ↦ subst (λ (t : Rows). IsLinked t j) (sym e.1) l
-    | inl e ↦ subst (λ (t : Rows). IsLinked t j) (sym e.1) (linked_more (rows p m) here-table k i key bytes gap ii free size long j (subst (λ (x : ℕ). IsLinked (rows p x) j) e.0 l))
+    | inl e ↦ subst (λ (t : Rows). IsLinked t j) (sym e.1) (linked_more (rows p m) here-table i key bytes gap ii free size long j (subst (λ (x : ℕ). IsLinked (rows p x) j) e.0 l))
   ]
 
   link_here : IsLinked (rows later m) i
-  link_here = subst (λ (t : Rows). IsLinked t i) (sym (rows-here p m full mi)) (linked_here (rows p m) here-table k i key bytes gap ii free size long)
+  link_here = subst (λ (t : Rows). IsLinked t i) (sym (rows-here p m full mi)) (linked_here (rows p m) here-table i key bytes gap ii free size long)
 
   not_it : (n j : ℕ) → IsLinked (rows p n) j → (n ≡ m) → j ≢ i
   not_it n j l e f = free (subst (IsLinked (rows p m)) f (subst (λ (x : ℕ). IsLinked (rows p x) j) e l))
 
   key-now : key_of (rows later m) i ≡ key
-  key-now = ap (λ (t : Rows). key_of t i) (rows-here p m full mi) ∙ key-here (rows p m) here-table k i key bytes gap ii free size long
+  key-now = ap (λ (t : Rows). key_of t i) (rows-here p m full mi) ∙ key-here (rows p m) here-table i key bytes gap ii free size long
 
   bytes-now : bytes_of (rows later m) i ≡ bytes
-  bytes-now = ap (λ (t : Rows). bytes_of t i) (rows-here p m full mi) ∙ bytes-here (rows p m) here-table k i key bytes gap ii free size long
+  bytes-now = ap (λ (t : Rows). bytes_of t i) (rows-here p m full mi) ∙ bytes-here (rows p m) here-table i key bytes gap ii free size long
 
   key-still : (n j : ℕ) → j < size_of p n → ((n ≡ m) → j ≢ i) → key_of (rows later n) j ≡ key_of (rows p n) j
   key-still n j l ne = elim (rows_cases p m full mi n) [
     | inr e ↦ ap (λ (t : Rows). key_of t j) e.1
     | inl e ↦ ap (λ (t : Rows). key_of t j) e.1
-        ∙ (key-beside (rows p m) here-table k i key bytes gap ii free size long j (subst (λ (x : ℕ). j < size_of p x) e.0 l) (ne e.0) ∙ ap (λ (x : ℕ). key_of (rows p x) j) (sym e.0))
+        ∙ (key-beside (rows p m) here-table i key bytes gap ii free size long j (subst (λ (x : ℕ). j < size_of p x) e.0 l) (ne e.0) ∙ ap (λ (x : ℕ). key_of (rows p x) j) (sym e.0))
   ]
 
   bytes-still : (n j : ℕ) → j < size_of p n → ((n ≡ m) → j ≢ i) → bytes_of (rows later n) j ≡ bytes_of (rows p n) j
   bytes-still n j l ne = elim (rows_cases p m full mi n) [
     | inr e ↦ ap (λ (t : Rows). bytes_of t j) e.1
     | inl e ↦ ap (λ (t : Rows). bytes_of t j) e.1
-        ∙ (bytes-beside (rows p m) here-table k i key bytes gap ii free size long j (subst (λ (x : ℕ). j < size_of p x) e.0 l) (ne e.0) ∙ ap (λ (x : ℕ). bytes_of (rows p x) j) (sym e.0))
+        ∙ (bytes-beside (rows p m) here-table i key bytes gap ii free size long j (subst (λ (x : ℕ). j < size_of p x) e.0 l) (ne e.0) ∙ ap (λ (x : ℕ). bytes_of (rows p x) j) (sym e.0))
   ]
 
   module _ (s : Plain) (so : IsSoundStore s) (h : StandsFor p s) (new : get (s.maps m) key ≡ None)
@@ -408,16 +407,16 @@ module _ (p : Contents) (is : IsStore p) (m k i : ℕ) (key bytes : List ℕ) (m
           ]
     ]
 
-    counts-later : (n : ℕ) → len (put s.maps m (insert (s.maps m) key s.made) n) ≡ length (rows later n).order
+    counts-later : (n : ℕ) → len (put s.maps m (insert (s.maps m) key s.made) n) ≡ linked_count (rows later n)
     counts-later n = elim (put_cases s.maps m n (insert (s.maps m) key s.made)) [
-      | inr x ↦ ap len x.1 ∙ (h.counts n ∙ ap (λ (t : Rows). length t.order) (sym (rows-else p m full mi n x.0)))
+      | inr x ↦ ap len x.1 ∙ (h.counts n ∙ ap linked_count (sym (rows-else p m full mi n x.0)))
       | inl x ↦
           let absent : contains_key (s.maps m) key ≡ false = ap is_some new in
           let more : len (insert (s.maps m) key s.made) ≡ len (s.maps m) + 1 = len-insert nat_list_cmp_total (s.maps m) key s.made ∙ ap (λ (b : Bool). cond b (len (s.maps m)) (len (s.maps m) + 1)) absent in
-          let order : length (insert_item (rows p m).order k i) ≡ length (rows p m).order + 1 = length-insert (rows p m).order k i gap.inside in
+          let more_linked : linked_count full ≡ linked_count (rows p m) + 1 = count-more (rows p m) here-table i key bytes gap ii free size long in
           let count = h.counts m in
-          let same : len (insert (s.maps m) key s.made) ≡ length (insert_item (rows p m).order k i) = omega arith in
-          ap len x.1 ∙ (same ∙ ap (λ (t : Rows). length t.order) (sym (ap (rows later) x.0 ∙ rows-here p m full mi)))
+          let same : len (insert (s.maps m) key s.made) ≡ linked_count full = omega arith in
+          ap len x.1 ∙ (same ∙ ap linked_count (sym (ap (rows later) x.0 ∙ rows-here p m full mi)))
     ]
 
     used-was' : (n j : ℕ) → IsUsed later n j → ((n ≡ m) → j ≢ i) → IsUsed p n j

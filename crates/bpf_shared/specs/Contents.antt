@@ -13,7 +13,7 @@ use Rattle.bpf_shared.specs.Choice.{IsShort}
 use Rattle.bpf_shared.specs.History.{PlainlyLegal}
 use Rattle.bpf_shared.specs.Passage.{same_span}
 use Rattle.bpf_shared.specs.Runs.{run_of, is_run}
-use Rattle.bpf_shared.specs.Rows.{Rows, no_rows, shape_of, key_of, bytes_of, run_looked_up, run_left, IsTable, IsLinked, noted_row}
+use Rattle.bpf_shared.specs.Rows.{Rows, no_rows, shape_of, key_of, bytes_of, run_looked_up, run_left, IsTable, IsLinked, linked_count, noted_row}
 use Rattle.bpf_shared.specs.Sound.{IsSoundStore}
 
 pub record Contents : Type 0 where
@@ -77,7 +77,7 @@ pub record StandsFor (p : Contents) (s : Plain) : Type 0 where
   pub leads : (m i : ℕ) → IsLinked (rows p m) i → Finds s m (key_of (rows p m) i) (number m i)
   pub found : (m : ℕ) (key : List ℕ) (v : ℕ) → Finds s m key v
       → (i : ℕ) × IsLinked (rows p m) i × (key_of (rows p m) i ≡ key) × (v ≡ number m i)
-  pub counts : (m : ℕ) → len (s.maps m) ≡ length (rows p m).order
+  pub counts : (m : ℕ) → len (s.maps m) ≡ linked_count (rows p m)
   pub values : (m i : ℕ) → i < size_of p m → IsUsed p m i
       → s.value (number m i) ≡ record { bytes = bytes_of (rows p m) i; span = span_at p m i }
   pub held : (c v : ℕ) → s.held c v ≡ true

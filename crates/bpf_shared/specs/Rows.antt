@@ -1,9 +1,6 @@
 -- What the elements of a map of a `PlainStore` tell.
 use Rattle.std.specs.Prelude.{◌≡◌, ◌≢◌, ℕ, ◌+◌, ◌*◌, ◌<◌, ◌≤◌, ◌⊎◌, Bool, true, false, List, [], length, slice_index, slice_index_or, slice_set, map}
-use Rattle.std.specs.List.{insert, remove}
-use Rattle.std.specs.Ordering.{nat_cmp}
-use Rattle.std.specs.declared.cmp.Ordering.TheVariants.{Less}
-use Rattle.std.specs.Cmp.Lexicographic.{slice_cmp}
+use Rattle.std.specs.List.{count_by}
 use Rattle.bpf_base.specs.Bytes.{part, with_part}
 use Rattle.bpf_shared.specs.declared.events.MapAnswer.{MapAnswer}
 use Rattle.bpf_shared.specs.declared.events.MapAnswer.TheVariants.{Done, Invalid, Busy, Exists, Absent, Full, NoMemory}
@@ -17,8 +14,6 @@ pub record Rows : Type 0 where
   pub shape : MapShape
   -- how many CPUs note their runs
   pub cpus : ℕ
-  -- the elements that are in the map, by their numbers, in the order of their keys
-  pub order : List ℕ
   -- by element, whether it is in the map
   pub linked : List Bool
   pub keys : List ℕ
@@ -32,7 +27,6 @@ abbrev pub no_rows : Rows
 no_rows = record {
   shape = record { key = 0; value = 0; max = 0; spare = 0; mask = 0 };
   cpus = 0;
-  order = [];
   linked = [];
   keys = [];
   values = [];
@@ -55,13 +49,13 @@ run_looked_up t i c = slice_index t.looked_up (i * t.cpus + c)
 abbrev pub run_left : Rows → ℕ → ℕ → ℕ
 run_left t i c = slice_index t.left (i * t.cpus + c)
 
--- the k-th key of the map
-abbrev pub key_at : Rows → ℕ → List ℕ
-key_at t k = key_of t (slice_index t.order k)
-
 -- the element is in the map
 abbrev pub IsLinked : Rows → ℕ → Type 0
-IsLinked t i = (k : ℕ) × (k < length t.order) × (slice_index t.order k ≡ i)
+IsLinked t i = slice_index_or t.linked i false ≡ true
+
+-- how many elements are in the map
+abbrev pub linked_count : Rows → ℕ
+linked_count t = count_by (λ b. b) t.linked
 
 -- all marks below this place are set
 abbrev pub AreMarked : List Bool → ℕ → Type 0
@@ -75,30 +69,24 @@ pub record IsTable (t : Rows) : Type 0 where
   pub values : length t.values ≡ elements t.shape * t.shape.value
   pub looked_up : length t.looked_up ≡ elements t.shape * t.cpus
   pub left : length t.left ≡ elements t.shape * t.cpus
-  pub count : length t.order ≤ t.shape.max
-  pub inside : (k : ℕ) → k < length t.order → slice_index t.order k < elements t.shape
-  pub marked : (k : ℕ) → k < length t.order
-      → slice_index_or t.linked (slice_index t.order k) false ≡ true
-  pub found : (i : ℕ) → slice_index_or t.linked i false ≡ true → IsLinked t i
-  pub sorted : (j k : ℕ) → j < k → k < length t.order
-      → slice_cmp nat_cmp (key_at t j) (key_at t k) ≡ Less
+  pub count : linked_count t ≤ t.shape.max
+  pub distinct : (i j : ℕ) → IsLinked t i → IsLinked t j → key_of t i ≡ key_of t j → i ≡ j
 
 -- nothing is in the map, and no run is noted
 pub record IsBlank (t : Rows) : Type 0 where
-  pub order : t.order ≡ []
+  pub empty : (i : ℕ) → IsLinked t i → ⊥
+  pub count : linked_count t ≡ 0
   pub looked_up : (k : ℕ) → slice_index t.looked_up k ≡ 0
   pub left : (k : ℕ) → slice_index t.left k ≡ 0
 
--- the keys below the k-th are below the key, the others above it
-pub record IsGap (t : Rows) (key : List ℕ) (k : ℕ) : Type 0 where
-  pub inside : k ≤ length t.order
-  pub below : (j : ℕ) → j < k → slice_cmp nat_cmp (key_at t j) key ≡ Less
-  pub above : (j : ℕ) → k ≤ j → j < length t.order → slice_cmp nat_cmp key (key_at t j) ≡ Less
+-- no element of the map has the key
+abbrev pub IsMissing : Rows → List ℕ → Type 0
+IsMissing t key = (i : ℕ) → IsLinked t i → key_of t i ≢ key
 
--- the k-th key of the map is the key
-pub record IsKeyAt (t : Rows) (key : List ℕ) (k : ℕ) : Type 0 where
-  pub inside : k < length t.order
-  pub is : key_at t k ≡ key
+-- the element of the map with this key
+pub record IsKeyAt (t : Rows) (key : List ℕ) (i : ℕ) : Type 0 where
+  pub linked : IsLinked t i
+  pub is : key_of t i ≡ key
 
 -- some CPU is still in the run that is noted for it
 abbrev pub HasCurrent : List ℕ → List Runs → Type 0
@@ -138,10 +126,9 @@ pub record IsLowestFreeRow (runs : List Runs) (t : Rows) (i : ℕ) : Type 0 wher
 abbrev pub noted_row : ℕ → ℕ → ℕ → Rows → Rows
 noted_row i c run t = record t { looked_up = slice_set t.looked_up (i * t.cpus + c) run }
 
--- the key and the value are in the element, which is the k-th in the order of keys
-abbrev pub linked_row : ℕ → ℕ → List ℕ → List ℕ → Rows → Rows
-linked_row k i key bytes t = record t {
-  order = insert t.order k i;
+-- the key and the value are in the element, which is in the map
+abbrev pub linked_row : ℕ → List ℕ → List ℕ → Rows → Rows
+linked_row i key bytes t = record t {
   linked = slice_set t.linked i true;
   keys = with_part t.keys (i * t.shape.key) key;
   values = with_part t.values (i * t.shape.value) bytes;
@@ -152,12 +139,11 @@ abbrev pub stored_row : ℕ → ℕ → List ℕ → Rows → Rows
 stored_row i offset bytes t =
     record t { values = with_part t.values (i * t.shape.value + offset) bytes }
 
--- the k-th key has left the map: the CPUs' runs are noted in its element
+-- the element has left the map: the CPUs' runs are noted in it
 abbrev pub unlinked_row : List Runs → ℕ → Rows → Rows
-unlinked_row runs k t = record t {
-  order = remove t.order k;
-  linked = slice_set t.linked (slice_index t.order k) false;
-  left = with_part t.left (slice_index t.order k * t.cpus) (map count_of runs);
+unlinked_row runs i t = record t {
+  linked = slice_set t.linked i false;
+  left = with_part t.left (i * t.cpus) (map count_of runs);
 }
 
 -- the notes of one of so many CPUs are taken out
@@ -178,26 +164,25 @@ pub record Forgets (c : ℕ) (t n : Rows) : Type 0 where
 -- the key is there and may be replaced, or it isn't and there is room for one more
 abbrev pub HasRoomAt : Rows → List ℕ → ℕ → Type 0
 HasRoomAt t key flags =
-    ((flags ≤ 2) × (flags ≢ 1) × ((k : ℕ) × IsKeyAt t key k))
-    ⊎ ((flags < 2) × ((k : ℕ) × IsGap t key k) × (length t.order < t.shape.max))
+    ((flags ≤ 2) × (flags ≢ 1) × ((o : ℕ) × IsKeyAt t key o))
+    ⊎ ((flags < 2) × IsMissing t key × (linked_count t < t.shape.max))
 
 abbrev pub Replaces : List Runs → Rows → List ℕ → List ℕ → ℕ → ℕ → Rows → Type 0
 Replaces runs t key bytes flags i n =
     (flags ≤ 2) × (flags ≢ 1)
-    × ((k : ℕ) × IsKeyAt t key k × (n ≡ linked_row k i key bytes (unlinked_row runs k t)))
+    × ((o : ℕ) × IsKeyAt t key o × (n ≡ linked_row i key bytes (unlinked_row runs o t)))
 
 abbrev pub Adds : Rows → List ℕ → List ℕ → ℕ → ℕ → Rows → Type 0
 Adds t key bytes flags i n =
-    (flags < 2) × (length t.order < t.shape.max)
-    × ((k : ℕ) × IsGap t key k × (n ≡ linked_row k i key bytes t))
+    (flags < 2) × (linked_count t < t.shape.max) × IsMissing t key × (n ≡ linked_row i key bytes t)
 
 -- the key is put into an element that was free, in place of its old one if it has one
 abbrev pub PutsRow : List Runs → Rows → List ℕ → List ℕ → ℕ → MapAnswer → Rows → Type 0
 PutsRow runs t key bytes flags Invalid n = (2 < flags) × (n ≡ t)
-PutsRow runs t key bytes flags Exists n = (flags ≡ 1) × ((k : ℕ) × IsKeyAt t key k) × (n ≡ t)
-PutsRow runs t key bytes flags Absent n = (flags ≡ 2) × ((k : ℕ) × IsGap t key k) × (n ≡ t)
+PutsRow runs t key bytes flags Exists n = (flags ≡ 1) × ((o : ℕ) × IsKeyAt t key o) × (n ≡ t)
+PutsRow runs t key bytes flags Absent n = (flags ≡ 2) × IsMissing t key × (n ≡ t)
 PutsRow runs t key bytes flags Full n =
-    (flags < 2) × ((k : ℕ) × IsGap t key k) × (length t.order ≡ t.shape.max) × (n ≡ t)
+    (flags < 2) × IsMissing t key × (linked_count t ≡ t.shape.max) × (n ≡ t)
 PutsRow runs t key bytes flags NoMemory n =
     (HasRoomAt t key flags) × ((i : ℕ) → i < elements t.shape → IsTakenRow runs t i) × (n ≡ t)
 PutsRow runs t key bytes flags Busy n = ⊥
@@ -205,6 +190,6 @@ PutsRow runs t key bytes flags Done n = (i : ℕ) × IsLowestFreeRow runs t i
     × (Replaces runs t key bytes flags i n ⊎ Adds t key bytes flags i n)
 
 abbrev pub TakesRow : List Runs → Rows → List ℕ → MapAnswer → Rows → Type 0
-TakesRow runs t key Done n = (k : ℕ) × IsKeyAt t key k × (n ≡ unlinked_row runs k t)
-TakesRow runs t key Absent n = ((k : ℕ) × IsGap t key k) × (n ≡ t)
+TakesRow runs t key Done n = (o : ℕ) × IsKeyAt t key o × (n ≡ unlinked_row runs o t)
+TakesRow runs t key Absent n = IsMissing t key × (n ≡ t)
 TakesRow runs t key answer n = ⊥

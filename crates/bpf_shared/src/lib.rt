@@ -4,9 +4,10 @@
 
 pub mod bytes;
 mod events;
+mod home;
+mod index;
 pub mod laws;
 mod marks;
-mod order;
 mod plain;
 mod runs;
 mod shapes;

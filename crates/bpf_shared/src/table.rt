@@ -1,24 +1,26 @@
-//! A map of a `PlainStore`: its elements, and its keys in order.
+//! A map of a `PlainStore`: its elements, which an index finds by their keys.
 ghost use Rattle.std.specs.Prelude.{◌≡◌, ◌≢◌, ◌+◌, ◌*◌, ◌<◌, ◌≤◌, ◌↔◌, ℕ, IfOk, IfErr, IfSome, IfNone, IsTrue, length, map, slice_index};
 ghost use Rattle.bpf_base.specs.Bytes.{little_endian, low_bytes, modulus, part, with_part};
 ghost use Rattle.bpf_shared.specs.Access.{bytes_in};
 ghost use Rattle.bpf_shared.specs.Runs.{run_of, count_of};
 ghost use Rattle.bpf_shared.specs.Shape.{IsMapShape, IsValueSpan, elements, element_span, element_stride};
-ghost use Rattle.bpf_shared.specs.Listing.{pair_of, row_pair};
-ghost use Rattle.bpf_shared.specs.Rows.{AreMarked, ArePassed, GoOn, HasCurrentAt, key_of, bytes_of, run_left, run_looked_up, IsLinked, IsTable, IsBlank, IsGap, IsKeyAt, IsKeptRow, IsTakenRow, IsLowestFreeRow, HasCurrent, Erases, noted_row, linked_row, unlinked_row, stored_row, Forgets, PutsRow, TakesRow};
+ghost use Rattle.bpf_shared.specs.Listing.{pair_of};
+ghost use Rattle.bpf_shared.specs.Private.Pairs.{AreRowPairs, ArePairsBelow};
+ghost use Rattle.bpf_shared.specs.Private.Index.{IsHome};
+ghost use Rattle.bpf_shared.specs.Rows.{AreMarked, ArePassed, GoOn, HasCurrentAt, key_of, bytes_of, run_left, run_looked_up, IsLinked, linked_count, IsTable, IsBlank, IsMissing, IsKeyAt, IsKeptRow, IsTakenRow, IsLowestFreeRow, HasCurrent, Erases, noted_row, linked_row, unlinked_row, stored_row, Forgets, PutsRow, TakesRow};
 
 use crate::bytes::{load, store};
 use crate::events::{MapAnswer, Size, Span};
+use crate::home::home;
+use crate::index::Index;
 use crate::marks::{first_unmarked, past_marked};
-use crate::order::Order;
 use crate::runs::Runs;
 use crate::shapes::MapShape;
 use std::alloc::{AllocError, Global};
-use std::cmp::Ordering;
 use std::marker::Model;
 
 /// The elements of a map, each for a key and a value, and what CPUs had to do with the value that
-/// is there. Those that are in the map are found by their keys, which are kept in order.
+/// is there. Those that are in the map are found by their keys.
 ///
 /// A CPU's runs are counted from 1. What a run noted here is void once the CPU is in another run,
 /// so that no element has to be looked at when a run begins or ends.
@@ -27,8 +29,10 @@ pub struct Table {
     shape: MapShape,
     /// How many CPUs note their runs.
     cpus: u8,
-    /// The numbers of the elements that are in the map, in the order of their keys.
-    order: Order,
+    /// The elements that are in the map, by their keys.
+    index: Index,
+    /// How many elements are in the map.
+    count: usize,
     /// By element, whether it is in the map.
     linked: Vec<bool>,
     /// Each element below this one is in the map.
@@ -48,15 +52,15 @@ pub struct Table {
 }
 
 impl Model for Table {
-    ghost use Rattle.std.specs.Prelude.{◌≡◌, ◌≤◌, length};
-    ghost use Rattle.bpf_shared.specs.Rows.{Rows, ArePassed, IsTable, AreMarked};
+    ghost use Rattle.std.specs.Prelude.{◌≡◌, length};
+    ghost use Rattle.bpf_shared.specs.Rows.{Rows, ArePassed, IsTable, AreMarked, linked_count};
+    ghost use Rattle.bpf_shared.specs.Private.Index.{IsIndexed};
 
     ghost Value = { Rows };
 
     ghost view = { λ t. record {
       shape = t.shape;
       cpus = t.cpus;
-      order = t.order.items;
       linked = t.linked.items;
       keys = t.keys.items;
       values = t.values.items;
@@ -64,11 +68,10 @@ impl Model for Table {
       left = t.left.items;
     } };
 
-    // There is room for the order of as many keys as the map may have.
     ghost invariant = { λ t.
-        let rows : Rows = record { shape = t.shape; cpus = t.cpus; order = t.order.items; linked = t.linked.items; keys = t.keys.items; values = t.values.items; looked_up = t.looked_up.items; left = t.left.items } in
-        IsTable rows × (t.shape.max ≤ t.order.room) × AreMarked t.linked.items t.filled
-        × (length t.seen.items ≡ t.cpus) × ArePassed t.seen.items rows t.passed };
+        let rows : Rows = record { shape = t.shape; cpus = t.cpus; linked = t.linked.items; keys = t.keys.items; values = t.values.items; looked_up = t.looked_up.items; left = t.left.items } in
+        IsTable rows × (IsIndexed rows t.index × (t.count ≡ linked_count rows))
+        × AreMarked t.linked.items t.filled × (length t.seen.items ≡ t.cpus) × ArePassed t.seen.items rows t.passed };
 }
 
 /// Of a CPU that began no run.
@@ -168,7 +171,8 @@ impl Table {
         Ok(Table {
             shape,
             cpus,
-            order: Order::new(alloc, shape.max as usize)?,
+            index: Index::new(alloc, shape.max as usize, count)?,
+            count: 0,
             linked: vec![in alloc; false; count]?,
             filled: 0,
             passed: 0,
@@ -197,35 +201,31 @@ impl Table {
         &self.keys[element * size..element * size + size]
     }
 
-    /// The place of the key in the order of keys, or where it would stand.
-    fn position(&self, key: &[u8]) -> Result<usize, usize>
-        ensures found { IfOk result (IsKeyAt self.now key.now) }
-        ensures absent { IfErr result (IsGap self.now key.now) }
+    /// Where a key belongs in the index.
+    fn home(&self, key: &[u8]) -> usize
+        ensures { IsHome self.now key.now result }
     {
-        let mut low = 0;
-        let mut high = self.order.len();
-        while low < high {
-            let middle = low + (high - low) / 2;
-            match self.key(self.order.get(middle) as usize).cmp(key) {
-                Ordering::Less => low = middle + 1,
-                Ordering::Equal => return Ok(middle),
-                Ordering::Greater => high = middle,
-            }
-        }
-        Err(low)
+        home(key, self.shape.max as usize)
+    }
+
+    /// The element with this key that is in the map, where the key belongs to this home.
+    fn find_at(&self, home: usize, key: &[u8]) -> Option<usize>
+        requires { IsHome self.now key.now home }
+        ensures inside { IfSome result (λ i. i < elements self.now.shape) }
+        ensures found { IfSome result (IsKeyAt self.now key.now) }
+        ensures absent { IfNone result (IsMissing self.now key.now) }
+    {
+        self.index
+            .find(home, &self.keys, self.shape.key as usize, key)
     }
 
     /// The element with this key that is in the map.
     pub fn find(&self, key: &[u8]) -> Option<usize>
         ensures inside { IfSome result (λ i. i < elements self.now.shape) }
         ensures found { IfSome result (λ i. IsLinked self.now i × (key_of self.now i ≡ key.now)) }
-        ensures absent { IfNone result
-            ((i : ℕ) → IsLinked self.now i → key_of self.now i ≢ key.now) }
+        ensures absent { IfNone result (IsMissing self.now key.now) }
     {
-        match self.position(key) {
-            Ok(position) => Some(self.order.get(position) as usize),
-            Err(_) => None,
-        }
+        self.find_at(self.home(key), key)
     }
 
     /// The CPU's run of this number looked the element up.
@@ -323,15 +323,17 @@ impl Table {
         None
     }
 
-    /// The element at a position of the order leaves the map.
+    /// An element leaves the map, whose key belongs to this home.
     #[tactic(auto, using(crate::proofs::Blocks::block_fits, crate::proofs::Blocks::in_block))]
-    fn unlink(&mut self, position: usize, runs: &[Runs])
-        requires position { position < length self.old.order }
+    fn unlink(&mut self, home: usize, element: usize, runs: &[Runs])
+        requires linked { IsLinked self.old element }
+        requires home { IsHome self.old (key_of self.old element) home }
         requires runs { length runs.now ≡ self.old.cpus }
-        ensures unlinked { self.new ≡ unlinked_row runs.now position self.old }
+        ensures unlinked { self.new ≡ unlinked_row runs.now element self.old }
         ensures table { IsTable self.old × IsTable self.new }
     {
-        let element = self.order.remove(position) as usize;
+        self.index.remove(home, element);
+        self.count -= 1;
         self.linked[element] = false;
         self.filled = self.filled.min(element);
         let first = element * runs.len();
@@ -339,47 +341,23 @@ impl Table {
         self.passed = passed_without(self.passed, element, &self.left, first, &self.seen);
     }
 
-    /// A key and its value are put into an element, which stands at this position of the order.
+    /// A key, which belongs to this home, and a value are put into an element.
     #[tactic(auto, using(crate::proofs::Blocks::block_fits, crate::proofs::Blocks::in_block))]
-    fn link(&mut self, position: usize, element: usize, key: &[u8], value: &[u8])
-        requires room { length self.old.order < self.old.shape.max }
-        requires gap { IsGap self.old key.now position }
+    fn link(&mut self, home: usize, element: usize, key: &[u8], value: &[u8])
+        requires room { linked_count self.old < self.old.shape.max }
+        requires home { IsHome self.old key.now home }
+        requires missing { IsMissing self.old key.now }
         requires element { element < elements self.old.shape }
         requires free { IsLinked self.old element → ⊥ }
         requires key { length key.now ≡ self.old.shape.key }
         requires value { length value.now ≡ self.old.shape.value }
-        ensures linked { self.new ≡ linked_row position element key.now value.now self.old }
+        ensures linked { self.new ≡ linked_row element key.now value.now self.old }
         ensures table { IsTable self.old × IsTable self.new }
     {
-        self.order.insert(position, element as u32);
+        self.index.insert(home, element);
+        self.count += 1;
         self.linked[element] = true;
         self.filled = first_unmarked(&self.linked, self.filled);
-        put_part(&mut self.keys, element * key.len(), key);
-        put_part(&mut self.values, element * value.len(), value);
-    }
-
-    /// The key at a position of the order is put into another element, and the one that had it
-    /// leaves the map.
-    #[tactic(auto, using(crate::proofs::Blocks::block_fits, crate::proofs::Blocks::in_block))]
-    fn replace(&mut self, position: usize, element: usize, key: &[u8], value: &[u8], runs: &[Runs])
-        requires is { IsKeyAt self.old key.now position }
-        requires runs { length runs.now ≡ self.old.cpus }
-        requires element { element < elements self.old.shape }
-        requires free { IsLinked self.old element → ⊥ }
-        requires key { length key.now ≡ self.old.shape.key }
-        requires value { length value.now ≡ self.old.shape.value }
-        ensures replaced { self.new ≡ linked_row position element key.now value.now
-            (unlinked_row runs.now position self.old) }
-        ensures table { IsTable self.old × IsTable self.new }
-    {
-        let old = self.order.get(position) as usize;
-        self.order.set(position, element as u32);
-        self.linked[old] = false;
-        self.linked[element] = true;
-        self.filled = first_unmarked(&self.linked, self.filled.min(old));
-        let first = old * runs.len();
-        note_runs_at(&mut self.left, first, runs);
-        self.passed = passed_without(self.passed, old, &self.left, first, &self.seen);
         put_part(&mut self.keys, element * key.len(), key);
         put_part(&mut self.values, element * value.len(), value);
     }
@@ -395,23 +373,25 @@ impl Table {
         if flags > 2 {
             return MapAnswer::Invalid;
         }
-        match self.position(key) {
-            Ok(_) if flags == 1 => MapAnswer::Exists,
-            Ok(position) => match self.lowest_free(runs) {
+        let home = self.home(key);
+        match self.find_at(home, key) {
+            Some(_) if flags == 1 => MapAnswer::Exists,
+            Some(old) => match self.lowest_free(runs) {
                 None => MapAnswer::NoMemory,
                 Some(element) => {
                     self.pass(element, runs);
-                    self.replace(position, element, key, value, runs);
+                    self.unlink(home, old, runs);
+                    self.link(home, element, key, value);
                     MapAnswer::Done
                 }
             },
-            Err(_) if flags == 2 => MapAnswer::Absent,
-            Err(_) if self.order.len() as u64 == self.shape.max => MapAnswer::Full,
-            Err(position) => match self.lowest_free(runs) {
+            None if flags == 2 => MapAnswer::Absent,
+            None if self.count as u64 == self.shape.max => MapAnswer::Full,
+            None => match self.lowest_free(runs) {
                 None => MapAnswer::NoMemory,
                 Some(element) => {
                     self.pass(element, runs);
-                    self.link(position, element, key, value);
+                    self.link(home, element, key, value);
                     MapAnswer::Done
                 }
             },
@@ -424,12 +404,13 @@ impl Table {
         ensures takes { TakesRow runs.now self.old key.now result self.new }
         ensures table { IsTable self.old → IsTable self.new }
     {
-        match self.position(key) {
-            Ok(position) => {
-                self.unlink(position, runs);
+        let home = self.home(key);
+        match self.find_at(home, key) {
+            Some(element) => {
+                self.unlink(home, element, runs);
                 MapAnswer::Done
             }
-            Err(_) => MapAnswer::Absent,
+            None => MapAnswer::Absent,
         }
     }
 
@@ -444,18 +425,28 @@ impl Table {
         &self.values[element * size..element * size + size]
     }
 
+    /// The keys of the map with their values.
+    fn unsorted_pairs(&self, alloc: Global) -> Result<Vec<(Vec<u8>, Vec<u8>)>, AllocError>
+        ensures { IfOk result
+            (λ v. ArePairsBelow self.now (length self.now.linked) (map pair_of v.items)) }
+    {
+        let mut pairs = Vec::with_capacity(alloc, self.count)?;
+        for element in 0..self.linked.len() {
+            if self.linked[element] {
+                let key = self.key(element).to_vec(alloc)?;
+                let value = self.value(element).to_vec(alloc)?;
+                pairs.push((key, value))?;
+            }
+        }
+        Ok(pairs)
+    }
+
     /// The keys of the map with their values, in the keys' order.
     pub fn pairs(&self, alloc: Global) -> Result<Vec<(Vec<u8>, Vec<u8>)>, AllocError>
-        ensures pairs { IfOk result (λ v. map pair_of v.items
-            ≡ map (row_pair self.now) self.now.order) }
+        ensures pairs { IfOk result (λ v. AreRowPairs self.now (map pair_of v.items)) }
     {
-        let mut pairs = Vec::with_capacity(alloc, self.order.len())?;
-        for position in 0..self.order.len() {
-            let element = self.order.get(position) as usize;
-            let key = self.key(element).to_vec(alloc)?;
-            let value = self.value(element).to_vec(alloc)?;
-            pairs.push((key, value))?;
-        }
+        let mut pairs = self.unsorted_pairs(alloc)?;
+        pairs.sort_unstable();
         Ok(pairs)
     }
 

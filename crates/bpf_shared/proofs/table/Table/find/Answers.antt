@@ -1,5 +1,5 @@
-use Rattle.bpf_shared.proofs.Searching.{not_in_gap}
+use Rattle.std.proofs.lemmas.Option.{IfSome_then}
 use Rattle.bpf_shared.proofs.table.Table.find.Goals as goal
 
-pub returns-in-Err-clause-absent : goal.returns-in-Err-clause-absent
-returns-in-Err-clause-absent c = not_in_gap c.args.self.now c.args.key.now _ c.in-Err.ensures.absent
+pub returns-clause-found : goal.returns-clause-found
+returns-clause-found c = IfSome_then c.find_at.result c.find_at.ensures.found (λ i p. (p.linked, p.is))

@@ -16,7 +16,7 @@ returns-then-go_on c i l =
     let same : length seen ≡ length runs = c.self.invariant.3 ∙ (cpus ∙ sym c.requires) in
     let on : GoOn seen runs = subst (λ (s : List Runs). GoOn s runs) c.deref.ensures.value (c.go_on.ensures c.if-go_on.true) in
     elim (cases_lt i c.self.inside.filled) [
-      | inl below ↦ marked_passed runs t is c.self.inside.filled (subst (λ (m : List Bool). AreMarked m c.self.inside.filled) marks c.self.invariant.2) i below
+      | inl below ↦ marked_passed runs t c.self.inside.filled (subst (λ (m : List Bool). AreMarked m c.self.inside.filled) marks c.self.invariant.2) i below
       | inr from ↦
           let more : i < c.self.inside.passed = omega (arith, l, from, c.max.ensures) in
           passed_on seen runs t c.self.inside.passed same on (subst (λ (r : Rows). ArePassed seen r c.self.inside.passed) c.self.view_is c.self.invariant.4) i more
@@ -27,4 +27,4 @@ returns-else-go_on c =
     let t = c.args.self.now in
     let is : IsTable t = subst IsTable c.self.view_is c.self.invariant.0 in
     let marks : c.self.inside.linked.items ≡ t.linked = ap (λ (r : Rows). r.linked) c.self.view_is in
-    marked_passed c.args.runs.now t is c.self.inside.filled (subst (λ (m : List Bool). AreMarked m c.self.inside.filled) marks c.self.invariant.2)
+    marked_passed c.args.runs.now t c.self.inside.filled (subst (λ (m : List Bool). AreMarked m c.self.inside.filled) marks c.self.invariant.2)

@@ -1,11 +1,23 @@
-use Rattle.std.proofs.Common.{◌≡◌, ℕ, ◌<◌, Bool, true, false, inl, inr, List, length, get_or, set, sym, ap, subst, ◌∙◌, arith}
+use Rattle.std.proofs.Common.{◌≡◌, ℕ, ◌+◌, ◌<◌, Bool, true, false, inl, inr, List, length, get_or, set, sym, ap, subst, ◌∙◌, arith}
 use Rattle.std.proofs.lemmas.List.{get_or-set_same, get_or-set_other}
 use Rattle.std.proofs.lemmas.Grind.{common_steps}
-use Rattle.bpf_shared.specs.Rows.{Rows, ArePassed, IsTable, linked_row}
+use Rattle.bpf_shared.specs.Rows.{Rows, ArePassed, IsTable, linked_count, linked_row}
+use Rattle.bpf_shared.specs.Private.Index.{IsIndexed}
 use Rattle.bpf_shared.proofs.Passing.{linked_passed}
 use Rattle.bpf_shared.proofs.Puts.{equal_or_not}
-use Rattle.bpf_shared.proofs.Linking.{linked_table}
+use Rattle.bpf_shared.proofs.Linking.{linked_table, count-more}
+use Rattle.bpf_shared.proofs.Indexing.{linked_indexed}
 use Rattle.bpf_shared.proofs.table.Table.link.Goals as goal
+
+pub insert-requires : goal.insert-requires
+insert-requires c =
+    let t = c.args.self.now in
+    let indexed : IsIndexed t c.self.inside.index = subst (λ (r : Rows). IsIndexed r c.self.inside.index) c.self.view_is c.self.invariant.1.0 in
+    record {
+      home = subst (λ (n : ℕ). c.args.home < n) (sym indexed.homes) c.requires.home.1;
+      element = subst (λ (n : ℕ). c.args.element < n) (sym indexed.elements) c.requires.element;
+      new = λ b at. c.requires.free (indexed.linked b c.args.element at).0;
+    }
 
 pub first_unmarked-self-inside-requires : goal.first_unmarked-self-inside-requires
 first_unmarked-self-inside-requires c i l =
@@ -24,13 +36,30 @@ first_unmarked-self-inside-requires c i l =
 pub invariant_of-self : goal.invariant_of-self
 invariant_of-self c =
     let t = c.args.self.now in
+    let r = c.requires in
+    let e = c.args.element in
+    let key = c.args.key.now in
+    let value = c.args.value.now in
     let is : IsTable t = subst IsTable c.self.view_is c.self.invariant.0 in
-    let made : ◌≡◌ {A = Rows} _ (linked_row c.args.position c.args.element c.args.key.now c.args.value.now t) = grind (arith, common_steps) in
-    (subst IsTable (sym made) (linked_table t is c.args.position c.args.element c.args.key.now c.args.value.now c.requires.gap c.requires.element c.requires.free c.requires.key c.requires.value c.requires.room), grind (arith, common_steps), λ i l. subst (λ (ms : List Bool). get_or ms i false ≡ true) c.deref.ensures.value (c.first_unmarked-self-inside.ensures i l), c.self.invariant.3, subst (λ (r : Rows). ArePassed c.self.inside.seen.items r c.self.inside.passed) (sym made) (linked_passed c.self.inside.seen.items t is c.args.position c.args.element c.args.key.now c.args.value.now c.requires.gap c.requires.element c.requires.free c.requires.key c.requires.value c.self.inside.passed (subst (λ (r : Rows). ArePassed c.self.inside.seen.items r c.self.inside.passed) c.self.view_is c.self.invariant.4)))
+    let made : ◌≡◌ {A = Rows} _ (linked_row e key value t) = grind (arith, common_steps) in
+    let indexed : IsIndexed t c.self.inside.index = subst (λ (r : Rows). IsIndexed r c.self.inside.index) c.self.view_is c.self.invariant.1.0 in
+    let counted : c.self.inside.count ≡ linked_count t = c.self.invariant.1.1 ∙ ap linked_count c.self.view_is in
+    let more : linked_count (linked_row e key value t) ≡ linked_count t + 1 = count-more t is e key value r.missing r.element r.free r.key r.value in
+    let count : c.self.inside.count + 1 ≡ linked_count (linked_row e key value t) = omega arith in (
+      subst IsTable (sym made) (linked_table t is e key value r.missing r.element r.free r.key r.value r.room),
+      (
+        subst (λ (r : Rows). IsIndexed r c.insert.new.self) (sym made) (linked_indexed t is e key value r.missing r.element r.free r.key r.value c.self.inside.index c.insert.new.self c.args.home r.home.0 indexed c.insert.ensures),
+        subst (λ (r : Rows). c.self.inside.count + 1 ≡ linked_count r) (sym made) count,
+      ),
+      λ i l. subst (λ (ms : List Bool). get_or ms i false ≡ true) c.deref.ensures.value (c.first_unmarked-self-inside.ensures i l),
+      c.self.invariant.3,
+      subst (λ (r : Rows). ArePassed c.self.inside.seen.items r c.self.inside.passed) (sym made) (linked_passed c.self.inside.seen.items t is e key value r.missing r.element r.free r.key r.value c.self.inside.passed (subst (λ (r : Rows). ArePassed c.self.inside.seen.items r c.self.inside.passed) c.self.view_is c.self.invariant.4)),
+    )
 
 pub returns-clause-table : goal.returns-clause-table
 returns-clause-table c =
     let t = c.args.self.now in
+    let r = c.requires in
     let is : IsTable t = subst IsTable c.self.view_is c.self.invariant.0 in
-    let made : ◌≡◌ {A = Rows} _ (linked_row c.args.position c.args.element c.args.key.now c.args.value.now t) = grind (arith, common_steps) in
-    (is, subst IsTable (sym made) (linked_table t is c.args.position c.args.element c.args.key.now c.args.value.now c.requires.gap c.requires.element c.requires.free c.requires.key c.requires.value c.requires.room))
+    let made : ◌≡◌ {A = Rows} _ (linked_row c.args.element c.args.key.now c.args.value.now t) = grind (arith, common_steps) in
+    (is, subst IsTable (sym made) (linked_table t is c.args.element c.args.key.now c.args.value.now r.missing r.element r.free r.key r.value r.room))

@@ -14,7 +14,7 @@ loop-element-preserved c i l =
         | inl e ↦ subst (IsTakenRow c.args.runs.now c.args.self.now) (sym e) (c.is_taken.ensures.0 c.if-not-is_taken.false)
         | inr ne ↦
             let n : i ≡ c.loop-element.element → ⊥ = ne in
-            inl (is.found i (subst (λ (ms : List Bool). slice_index_or ms i false ≡ true) marks (c.past_marked-element.ensures.marked i (omega arith) l)))
+            inl (subst (λ (ms : List Bool). slice_index_or ms i false ≡ true) marks (c.past_marked-element.ensures.marked i (omega arith) l))
       ]
     ]
 

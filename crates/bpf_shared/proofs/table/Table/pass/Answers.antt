@@ -9,7 +9,6 @@ invariant_of-self c =
     let rows : Rows = record {
       shape = c.self.inside.shape;
       cpus = c.self.inside.cpus;
-      order = c.self.inside.order.items;
       linked = c.self.inside.linked.items;
       keys = c.self.inside.keys.items;
       values = c.self.inside.values.items;

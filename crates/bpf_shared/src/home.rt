@@ -1,0 +1,18 @@
+//! Where a key belongs.
+ghost use Rattle.std.specs.Prelude.{◌≡◌, ◌<◌, ◌≤◌};
+ghost use Rattle.bpf_shared.specs.Private.Home.{home_of};
+
+const FACTOR: u64 = 0x9e37_79b9_7f4a_7c15;
+
+/// The home of a key among so many.
+#[tactic(auto, unfolding(crate::specs::Private::Home::hash_of))]
+pub fn home(key: &[u8], homes: usize) -> usize
+    requires { homes ≤ 65536 }
+    ensures home { result ≡ home_of homes key.now }
+    ensures in_range { 0 < homes → result < homes }
+{
+    let hash = key.iter().fold(0, |hash: u64, byte| {
+        (hash ^ u64::from(*byte)).wrapping_mul(FACTOR)
+    });
+    ((hash >> 32) * homes as u64 >> 32) as usize
+}
