@@ -26,7 +26,7 @@ use Rattle.bpf_cpu.proofs.Machines.RoundLaws.{cpus_shown}
 use Rattle.bpf_faults.specs.declared.evidence.Evidence.{Evidence}
 use Rattle.bpf_faults.specs.declared.evidence.Seen.{Seen}
 use Rattle.bpf_faults.specs.Evidence.{AreSizes, IsBefore, IsEvidenceIn, IsEvidenceOf, IsSeen}
-use Rattle.bpf_faults.specs.Private.{Adds, IsEvidenceOfTurn, IsEvidenceOn, SeesNext, Watches}
+use Rattle.bpf_faults.specs.Private.{AddsEvidence, IsEvidenceOfTurn, IsEvidenceOn, SeesNext, Watches}
 
 -- ---- sizes of contexts
 pub sizes_of : (jobs : List Job) (sizes : List ℕ) → sizes ≡ map (λ (job : Job). length job.context.items) jobs → AreSizes (map waiting jobs) sizes
@@ -77,17 +77,17 @@ sizes_stay w c answer z sizes (inr (inr a)) are =
     subst P (sym (ap (λ (x : World). x.jobs) a.3)) are
 
 -- ---- evidence that stand behind others
-pub adds_none : (P : Evidence → Type 0) (old : List Evidence) → Adds P old old
+pub adds_none : (P : Evidence → Type 0) (old : List Evidence) → AddsEvidence P old old
 adds_none P old = ([], sym (append-nil old), All-nil P)
 
-pub adds_more : (P Q : Evidence → Type 0) (old mid new : List Evidence) → ((s : Evidence) → Q s → P s) → Adds P old mid → Adds Q mid new → Adds P old new
+pub adds_more : (P Q : Evidence → Type 0) (old mid new : List Evidence) → ((s : Evidence) → Q s → P s) → AddsEvidence P old mid → AddsEvidence Q mid new → AddsEvidence P old new
 adds_more P Q old mid new fits a b = (
   a.0 ++ b.0,
   b.1 ∙ (ap (λ (l : List Evidence). l ++ b.0) a.1 ∙ append_assoc old a.0 b.0),
   All-append P a.0 b.0 a.2 (All-weaker Q P fits b.0 b.2),
 )
 
-pub adds_one : (P : Evidence → Type 0) (old new : List Evidence) (evidence : Evidence) → new ≡ old ++ evidence ∷ [] → P evidence → Adds P old new
+pub adds_one : (P : Evidence → Type 0) (old new : List Evidence) (evidence : Evidence) → new ≡ old ++ evidence ∷ [] → P evidence → AddsEvidence P old new
 adds_one P old new evidence e p = (evidence ∷ [], e, All-cons P evidence [] p (All-nil P))
 
 -- ---- a turn
@@ -110,7 +110,7 @@ seen_before jobs cpu seen job evidence sees is of keeps =
     (s.0, subst (λ (c : ℕ). IsBefore jobs c evidence.job s.0) (sym of) s.1, keeps s.0 s.2)
 
 pub watches : (old new : MachineState) (cpu : ℕ) (seen : Seen) (job : Option ℕ) (answer : Turn) (before evidence : List Evidence) → SeesNext old.jobs cpu seen job
-    → ((w : World) → Shows old w → (z : World) × TakesTurn w cpu answer z × Shows new z) → Adds (IsEvidenceOfTurn cpu job answer seen) before evidence → Watches old cpu before new evidence
+    → ((w : World) → Shows old w → (z : World) × TakesTurn w cpu answer z × Shows new z) → AddsEvidence (IsEvidenceOfTurn cpu job answer seen) before evidence → Watches old cpu before new evidence
 watches old new cpu seen job answer before evidence sees turns adds w shows =
     let t = turns w shows in
     let here : (s : Evidence) → IsEvidenceOfTurn cpu job answer seen s → IsEvidenceOn w cpu s = λ s of.
@@ -123,7 +123,7 @@ watches old new cpu seen job answer before evidence sees turns adds w shows =
 
 -- ---- a round, as far as the CPUs below a number
 pub record IsFar (old : MachineState) (sizes : List ℕ) (before : List Evidence) (c : ℕ) (new : MachineState) (evidence : List Evidence) : Type 0 where
-  pub runs : (w : World) → Shows old w → (z : World) × RunsSchedule w (below c) z × Shows new z × Adds (IsEvidenceIn w) before evidence
+  pub runs : (w : World) → Shows old w → (z : World) × RunsSchedule w (below c) z × Shows new z × AddsEvidence (IsEvidenceIn w) before evidence
   pub sized : AreSizes new.jobs sizes
 
 pub no_turn : (old : MachineState) (sizes : List ℕ) (before : List Evidence) → AreSizes old.jobs sizes → IsFar old sizes before 0 old before
@@ -140,7 +140,7 @@ next_turn old mid new sizes before some more c start far watches = record { runs
         let P : List Task → Type 0 = λ ts. AreSizes ts sizes in
         subst P t.0.3.jobs (sizes_stay r.0 c t.0.0 t.0.1 sizes t.0.2 (subst P (sym r.2.jobs) far.sized))
 
-    runs : (w : World) → Shows old w → (z : World) × RunsSchedule w (below (c + 1)) z × Shows new z × Adds (IsEvidenceIn w) before more
+    runs : (w : World) → Shows old w → (z : World) × RunsSchedule w (below (c + 1)) z × Shows new z × AddsEvidence (IsEvidenceIn w) before more
     runs w shows =
         let r = far.runs w shows in
         let t = watches r.0 r.2 in
@@ -153,7 +153,7 @@ next_turn old mid new sizes before some more c start far watches = record { runs
         )
 
 pub whole : (old new : MachineState) (sizes : List ℕ) (before evidence : List Evidence) (n : ℕ) → ((c : ℕ) → has_cpu old.store c ≡ nat_lt c n) → IsFar old sizes before n new evidence
-    → (w : World) → Shows old w → (z : World) × RunsRound w z × Shows new z × Adds (IsEvidenceIn w) before evidence
+    → (w : World) → Shows old w → (z : World) × RunsRound w z × Shows new z × AddsEvidence (IsEvidenceIn w) before evidence
 whole old new sizes before evidence n same far w shows =
     let r = far.runs w shows in
     (r.0, subst (λ (k : ℕ). RunsSchedule w (below k) r.0) (sym (cpus_shown old w n same shows)) r.1, r.2, r.3)
@@ -170,7 +170,7 @@ pub shown_still : (old new : MachineState) (sizes : List ℕ) (evidence : List E
 shown_still old new sizes evidence start watched = let r = watched.runs start.0 start.1 in (r.0, r.2)
 
 pub next_round : (old mid new : MachineState) (sizes : List ℕ) (some more : List Evidence) → IsWatched old sizes mid some
-    → ((w : World) → Shows mid w → (z : World) × RunsRound w z × Shows new z × Adds (IsEvidenceIn w) some more) → AreSizes new.jobs sizes → IsWatched old sizes new more
+    → ((w : World) → Shows mid w → (z : World) × RunsRound w z × Shows new z × AddsEvidence (IsEvidenceIn w) some more) → AreSizes new.jobs sizes → IsWatched old sizes new more
 next_round old mid new sizes some more watched round are = record { runs = runs; sized = are }
   where
     runs : (w : World) → Shows old w → (z : World) × ((n : ℕ) × RunsRounds n w z) × Shows new z × All (IsEvidenceOf w) more

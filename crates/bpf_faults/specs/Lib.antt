@@ -1,2 +1,3 @@
+pub mod Access
 pub mod Evidence
 pub mod Private

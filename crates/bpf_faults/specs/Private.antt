@@ -17,8 +17,8 @@ SeesNext jobs cpu seen None = Unit {0}
 SeesNext jobs cpu seen (Some j) = (state : Cpu) × IsBefore jobs cpu j state × IsSeen state seen
 
 -- evidence of which this holds stands behind the rest
-abbrev pub Adds : (Evidence → Type 0) → List Evidence → List Evidence → Type 0
-Adds P old new = (added : List Evidence) × (new ≡ old ++ added) × All P added
+abbrev pub AddsEvidence : (Evidence → Type 0) → List Evidence → List Evidence → Type 0
+AddsEvidence P old new = (added : List Evidence) × (new ≡ old ++ added) × All P added
 
 -- it is of this CPU's turn, which was answered so and came to an end of this job
 abbrev pub IsEvidenceOfTurn : ℕ → Option ℕ → Turn → Seen → Evidence → Type 0
@@ -36,4 +36,4 @@ abbrev pub Watches : MachineState → ℕ → List Evidence → MachineState →
 Watches old cpu before new evidence =
     (w : World) → Shows old w
     → ((answer : Turn) × (z : World) × TakesTurn w cpu answer z × Shows new z)
-    × Adds (IsEvidenceOn w cpu) before evidence
+    × AddsEvidence (IsEvidenceOn w cpu) before evidence

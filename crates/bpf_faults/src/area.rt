@@ -1,5 +1,7 @@
 //! The areas of memory that a program reaches.
 
+ghost use Rattle.bpf_faults.specs.Access.{IsFor};
+
 use crate::evidence::Seen;
 use crate::words::Maps;
 use bpf_mem::addresses::{CONTEXT_BASE, FRAME_STRIDE, STACK_BASE};
@@ -25,7 +27,9 @@ pub enum Region {
 }
 
 /// What an address is for.
-pub fn region_of(address: u64) -> Region {
+pub fn region_of(address: u64) -> Region
+    ensures { IsFor address result }
+{
     if address >= VALUE_BASE {
         Region::Values(((address - VALUE_BASE) / MAP_STRIDE) as usize)
     } else if address >= CONTEXT_BASE && address - CONTEXT_BASE < MAX_CONTEXT as u64 {

@@ -10,7 +10,7 @@ ghost use Rattle.bpf_cpu.specs.Machine.{Shows};
 ghost use Rattle.bpf_mem.specs.Limits.{max_context};
 ghost use Rattle.bpf_jobs.specs.Printed.{first_world};
 ghost use Rattle.bpf_faults.specs.Evidence.{AreSizes, IsEvidenceIn, IsEvidenceOf};
-ghost use Rattle.bpf_faults.specs.Private.{Adds, IsEvidenceOfTurn, SeesNext, Watches};
+ghost use Rattle.bpf_faults.specs.Private.{AddsEvidence, IsEvidenceOfTurn, SeesNext, Watches};
 
 use crate::evidence::{Evidence, Seen};
 use bpf_cpu::{Fault, Job, Machine, Outcome, Standing, Turn};
@@ -95,7 +95,7 @@ fn add_evidence(
     seen: &Seen,
     evidence: &mut Vec<Evidence>,
 ) -> Result<(), AllocError>
-    ensures { OnOk result (Adds (IsEvidenceOfTurn cpu job turn seen.now)
+    ensures { OnOk result (AddsEvidence (IsEvidenceOfTurn cpu job turn seen.now)
         evidence.old.items evidence.new.items) }
 {
     let Some((job, fault, pc)) = fault_of(turn, job) else {
@@ -148,7 +148,7 @@ fn watch_round(
     requires sizes { AreSizes machine.old.jobs contexts.now }
     ensures round { OnOk result ((w : World) → Shows machine.old w
         → (z : World) × RunsRound w z × Shows machine.new z
-        × Adds (IsEvidenceIn w) evidence.old.items evidence.new.items) }
+        × AddsEvidence (IsEvidenceIn w) evidence.old.items evidence.new.items) }
     ensures sizes { OnOk result (AreSizes machine.new.jobs contexts.now) }
 {
     let mut worked = false;

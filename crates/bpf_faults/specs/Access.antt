@@ -1,0 +1,37 @@
+-- Which bytes an access and an address are about.
+use Rattle.std.specs.Prelude.{◌≡◌, ℕ, ◌+◌, ◌*◌, ◌<◌, ◌≤◌, ℤ}
+use Rattle.bpf_insn.specs.declared.register.Reg.{Reg}
+use Rattle.bpf_insn.specs.declared.instruction.Insn.{Insn}
+use Rattle.bpf_insn.specs.declared.instruction.Insn.TheVariants as insn
+use Rattle.bpf_mem.specs.Addresses.{context_base}
+use Rattle.bpf_mem.specs.Bytes.{length_of, size_of}
+use Rattle.bpf_mem.specs.Limits.{max_context}
+use Rattle.bpf_cpu.specs.Row.{plain_size}
+use Rattle.bpf_faults.specs.declared.area.Region.{Region}
+use Rattle.bpf_faults.specs.declared.area.Region.TheVariants.{Context, Values, Other}
+
+-- the instruction loads or stores bytes itself: so many, at this register's value and this offset
+-- from it (RFC 9669, section 5)
+abbrev pub Accesses : Insn → (base : Reg) → (offset : ℤ) → (length : ℕ) → Type 0
+Accesses (insn.Load z d b o) base offset length =
+    (b ≡ base) × (o ≡ offset) × (length_of z ≡ length)
+Accesses (insn.LoadSigned z d b o) base offset length =
+    (b ≡ base) × (o ≡ offset) × (length_of (plain_size z) ≡ length)
+Accesses (insn.StoreImmediate z b o n) base offset length =
+    (b ≡ base) × (o ≡ offset) × (length_of z ≡ length)
+Accesses (insn.Store z b o s) base offset length =
+    (b ≡ base) × (o ≡ offset) × (length_of z ≡ length)
+Accesses (insn.Atomic w op b o s) base offset length =
+    (b ≡ base) × (o ≡ offset) × (length_of (size_of w) ≡ length)
+Accesses _ base offset length = ⊥
+
+-- the address is one of the context's, however long it may be
+abbrev pub IsOfContext : ℕ → Type 0
+IsOfContext address = (context_base ≤ address) × (address < context_base + max_context)
+
+-- what an address is for: maps are counted on past the last one that may be there
+abbrev pub IsFor : ℕ → Region → Type 0
+IsFor address Context = IsOfContext address
+IsFor address (Values map) = (0x10_0000_0000 + 0x1000_0000 * map ≤ address)
+    × (address < 0x10_0000_0000 + 0x1000_0000 * (map + 1))
+IsFor address Other = (address < 0x10_0000_0000) × (IsOfContext address → ⊥)
