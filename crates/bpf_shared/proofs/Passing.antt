@@ -1,11 +1,11 @@
 -- Elements that were passed, as in the map or kept, stay so while the runs go on.
-use Rattle.std.proofs.Common.{◌≡◌, ℕ, ◌*◌, ◌<◌, ◌≤◌, List, length, inl, inr, sym, ap, subst, ◌∙◌, arith}
+use Rattle.std.proofs.Common.{◌≡◌, ℕ, ◌*◌, ◌<◌, ◌≤◌, List, length, ◌⊎◌, inl, inr, sym, ap, subst, ◌∙◌, arith}
 use Rattle.bpf_shared.specs.declared.runs.Runs.{Runs}
 use Rattle.bpf_shared.specs.Runs.{run_of, is_run}
 use Rattle.bpf_shared.specs.Shape.{elements}
 use Rattle.bpf_shared.specs.Rows.{Rows, AreMarked, ArePassed, GoOn, HasCurrentAt, IsMissing, IsKeptRow, IsLinked, IsTable, linked_row, run_left, unlinked_row}
 use Rattle.bpf_shared.proofs.Puts.{equal_or_not}
-use Rattle.bpf_shared.proofs.Linking.{linked_more, unlinked_still}
+use Rattle.bpf_shared.proofs.Linking.{linked_here, linked_more, unlinked_still}
 use Rattle.bpf_shared.proofs.Updating.{left-else}
 
 pub marked_passed : (runs : List Runs) (t : Rows) (n : ℕ) → AreMarked t.linked n → ArePassed runs t n
@@ -23,6 +23,14 @@ pub linked_passed : (seen : List Runs) (t : Rows) → IsTable t → (i : ℕ) (k
 linked_passed seen t is i key bytes missing inside free size long n passed j l = elim (passed j l) [
   | inl a ↦ inl (linked_more t is i key bytes missing inside free size long j a)
   | inr a ↦ inr a
+]
+
+-- that element is passed, too
+pub linked_more_passed : (seen : List Runs) (t : Rows) → IsTable t → (i : ℕ) (key bytes : List ℕ) → IsMissing t key → i < elements t.shape → (IsLinked t i → ⊥)
+    → length key ≡ t.shape.key → length bytes ≡ t.shape.value → (n m : ℕ) → ArePassed seen t n → ((j : ℕ) → j < m → (j < n) ⊎ (j ≡ i)) → ArePassed seen (linked_row i key bytes t) m
+linked_more_passed seen t is i key bytes missing inside free size long n m passed most j l = elim (most j l) [
+  | inl k ↦ linked_passed seen t is i key bytes missing inside free size long n passed j k
+  | inr e ↦ inl (subst (IsLinked (linked_row i key bytes t)) (sym e) (linked_here t is i key bytes missing inside free size long))
 ]
 
 -- an element leaves the map, which is passed further on only if it is kept

@@ -22,6 +22,9 @@ pub fn past_marked(marks: &[bool], from: usize) -> usize
     ensures further { from ≤ result }
     ensures marked { (i : ℕ) → from ≤ i → i < result → slice_index_or marks.now i false ≡ true }
 {
+    if from < marks.len() && !marks[from] {
+        return from;
+    }
     let mut first = from;
     while first < marks.len()
         && TOGETHER <= marks.len() - first

@@ -1,5 +1,5 @@
 //! A map of a `PlainStore`: its elements, which an index finds by their keys.
-ghost use Rattle.std.specs.Prelude.{◌≡◌, ◌≢◌, ◌+◌, ◌*◌, ◌<◌, ◌≤◌, ◌↔◌, ℕ, IfOk, IfErr, IfSome, IfNone, IsTrue, length, map, slice_index};
+ghost use Rattle.std.specs.Prelude.{◌≡◌, ◌≢◌, ◌+◌, ◌*◌, ◌<◌, ◌≤◌, ◌↔◌, ◌⊎◌, ℕ, IfOk, IfErr, IfSome, IfNone, IsTrue, length, map, slice_index};
 ghost use Rattle.bpf_base.specs.Bytes.{little_endian, low_bytes, modulus, part, with_part};
 ghost use Rattle.bpf_shared.specs.Access.{bytes_in};
 ghost use Rattle.bpf_shared.specs.Runs.{run_of, count_of};
@@ -103,6 +103,18 @@ fn passed_without(passed: usize, element: usize, left: &[u64], first: usize, see
         passed
     } else {
         passed.min(element)
+    }
+}
+
+/// How far elements are passed when one of them comes into the map.
+fn passed_with(passed: usize, element: usize) -> usize
+    requires { element < 0x1_0000_0000 }
+    ensures { (i : ℕ) → i < result → (i < passed) ⊎ (i ≡ element) }
+{
+    if passed == element {
+        element + 1
+    } else {
+        passed
     }
 }
 
@@ -358,6 +370,7 @@ impl Table {
         self.count += 1;
         self.linked[element] = true;
         self.filled = first_unmarked(&self.linked, self.filled);
+        self.passed = passed_with(self.passed, element);
         put_part(&mut self.keys, element * key.len(), key);
         put_part(&mut self.values, element * value.len(), value);
     }

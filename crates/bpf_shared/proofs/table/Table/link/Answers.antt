@@ -3,7 +3,7 @@ use Rattle.std.proofs.lemmas.List.{get_or-set_same, get_or-set_other}
 use Rattle.std.proofs.lemmas.Grind.{common_steps}
 use Rattle.bpf_shared.specs.Rows.{Rows, ArePassed, IsTable, linked_count, linked_row}
 use Rattle.bpf_shared.specs.Private.Index.{IsIndexed}
-use Rattle.bpf_shared.proofs.Passing.{linked_passed}
+use Rattle.bpf_shared.proofs.Passing.{linked_more_passed}
 use Rattle.bpf_shared.proofs.Puts.{equal_or_not}
 use Rattle.bpf_shared.proofs.Linking.{linked_table, count-more}
 use Rattle.bpf_shared.proofs.Indexing.{linked_indexed}
@@ -53,7 +53,7 @@ invariant_of-self c =
       ),
       λ i l. subst (λ (ms : List Bool). get_or ms i false ≡ true) c.deref.ensures.value (c.first_unmarked-self-inside.ensures i l),
       c.self.invariant.3,
-      subst (λ (r : Rows). ArePassed c.self.inside.seen.items r c.self.inside.passed) (sym made) (linked_passed c.self.inside.seen.items t is e key value r.missing r.element r.free r.key r.value c.self.inside.passed (subst (λ (r : Rows). ArePassed c.self.inside.seen.items r c.self.inside.passed) c.self.view_is c.self.invariant.4)),
+      subst (λ (r : Rows). ArePassed c.self.inside.seen.items r c.passed_with-self-inside.result) (sym made) (linked_more_passed c.self.inside.seen.items t is e key value r.missing r.element r.free r.key r.value c.self.inside.passed c.passed_with-self-inside.result (subst (λ (r : Rows). ArePassed c.self.inside.seen.items r c.self.inside.passed) c.self.view_is c.self.invariant.4) c.passed_with-self-inside.ensures),
     )
 
 pub returns-clause-table : goal.returns-clause-table
