@@ -3,13 +3,13 @@
 //! Every operation gives a number for any operands: none can fail.
 #![tactic(auto)]
 
+pub mod arithmetic;
 pub mod bytes;
+pub mod comparison;
 pub mod extension;
 mod low;
-pub mod width32;
-pub mod width64;
 
+pub use arithmetic::{alu32, alu64, negate32, negate64};
 pub use bytes::swap;
+pub use comparison::{test32, test64};
 pub use extension::sign_extend;
-pub use width32::{alu32, negate32, test32};
-pub use width64::{alu64, negate64, test64};

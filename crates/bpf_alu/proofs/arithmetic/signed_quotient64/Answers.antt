@@ -2,7 +2,7 @@
 use Rattle.std.proofs.Common.{arith, w64, rules}
 use Rattle.bpf_alu.specs.Arithmetic.{arithmetic}
 use Rattle.bpf_alu.proofs.Quotient.{quotient_value}
-use Rattle.bpf_alu.proofs.width64.signed_quotient.Goals as goal
+use Rattle.bpf_alu.proofs.arithmetic.signed_quotient64.Goals as goal
 
 pub returns : goal.returns
 unfolding arithmetic
