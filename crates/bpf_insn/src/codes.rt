@@ -1,14 +1,8 @@
-//! The numbers by which words name operations (RFC 9669, sections 3 to 5), a table a file: each
-//! number stands once, and the operation that has a number is found in the list of all.
+//! Classes, modes, and the codes of rows that stand alone, and the opcodes made of them (RFC 9669,
+//! sections 3 to 5).
 
 ghost use Rattle.std.specs.Prelude.{◌≡◌, ◌<◌};
 ghost use Rattle.bpf_insn.specs.Codes.{opcode_k, opcode_x, opcode_memory};
-
-mod arithmetic;
-mod atomic;
-mod condition;
-mod size;
-mod swap;
 
 // The classes, in bits 0 to 2 of an opcode (section 3.3).
 pub const LD: u8 = 0;

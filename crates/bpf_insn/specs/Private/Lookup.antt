@@ -5,11 +5,7 @@ use Rattle.bpf_insn.specs.Codes.{alu_code, condition_code, extension_opcode, ext
 use Rattle.bpf_insn.specs.Table.{offset_k}
 use Rattle.bpf_insn.specs.declared.row.Field.{Field}
 use Rattle.bpf_insn.specs.declared.row.Field.TheVariants.{Unused, Selects, Holds}
-use Rattle.bpf_insn.specs.declared.codes.arithmetic.TheConstants.{ALU_OPS, SIGN_EXTENSIONS}
-use Rattle.bpf_insn.specs.declared.codes.atomic.TheConstants.{ATOMIC_OPS, WIDTHS}
-use Rattle.bpf_insn.specs.declared.codes.condition.TheConstants.{CONDITIONS}
-use Rattle.bpf_insn.specs.declared.codes.size.TheConstants.{SIZES, SIGNED_SIZES}
-use Rattle.bpf_insn.specs.declared.codes.swap.TheConstants.{BYTE_SWAPS, SWAP_WIDTHS}
+use Rattle.bpf_insn.specs.declared.operation.TheConstants.{ALU_OPS, ATOMIC_OPS, BYTE_SWAPS, CONDITIONS, SIGNED_SIZES, SIGN_EXTENSIONS, SIZES, SWAP_WIDTHS, WIDTHS}
 use Rattle.bpf_insn.specs.declared.register.Reg.{Reg}
 use Rattle.bpf_insn.specs.declared.register.Reg.TheVariants.{R0, R1, R2, R3, R4, R5, R6, R7, R8, R9, R10}
 use Rattle.bpf_insn.specs.declared.operation.Width.{Width}
