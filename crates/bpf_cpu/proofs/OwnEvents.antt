@@ -1,8 +1,7 @@
 -- Over a `PlainStore` a CPU's events are all that a passage has, and they lead from store to store.
 use Rattle.std.proofs.Common.{◌≡◌, ◌≢◌, ℕ, ◌<◌, Bool, true, false, List, [], ◌∷◌, Option, Some, None, inl, inr, refl, sym, ap, subst, ◌∙◌, if◌then◌else◌, length, eq-eqb, ne_eqb}
 use Rattle.std.specs.Prelude.{map}
-use Rattle.std.proofs.lemmas.Bool.{lt-ltb, cases_lt}
-use Rattle.std.proofs.lemmas.List.{get_or_past}
+use Rattle.std.proofs.lemmas.Bool.{lt-ltb}
 use Rattle.bpf_shared.specs.declared.events.Event.{Event}
 use Rattle.bpf_shared.specs.declared.events.Entry.{Entry}
 use Rattle.bpf_shared.specs.declared.events.Event.TheVariants.{Begin, End, Lookup, Update, Delete, Load, Store, Atomic}
@@ -19,8 +18,8 @@ use Rattle.bpf_shared.specs.Chain.{Chain}
 use Rattle.bpf_shared.proofs.Chains.{chain_one}
 use Rattle.bpf_shared.specs.Sound.{IsSoundStore}
 use Rattle.bpf_shared.proofs.Puts.{equal_or_not, put_cases}
-use Rattle.bpf_shared.specs.Runs.{no_runs}
-use Rattle.bpf_shared.specs.Contents.{Contents, has_cpu, runs_of, StandsFor, Passes}
+use Rattle.bpf_shared.specs.PlainStore.{Contents, has_cpu, StandsFor, Passes}
+use Rattle.bpf_shared.proofs.Served.{runs_are_served}
 
 -- each CPU that is in a run is one of the store's
 abbrev pub RunsWithin : Plain → Type 0
@@ -126,10 +125,7 @@ history_is_own s t c (x ∷ xs) within legal foreign =
 
 -- ---- passages
 pub shown_within : (p : Contents) (s : Plain) → StandsFor p s → RunsWithin s
-shown_within p s shows c runs = elim (cases_lt c (length p.runs)) [
-  | inl l ↦ subst (λ (n : ℕ). c < n) (sym shows.cpus) l
-  | inr g ↦ (let none : runs_of p c ≡ no_runs = get_or_past p.runs c no_runs g in let no : false ≡ true = sym (ap (λ (r : _). r.running) none) ∙ (sym (shows.running c) ∙ runs) in cc)
-]
+shown_within p s shows = runs_are_served p s shows
 
 -- from each plain store that the first value shows, the CPU's events lead to one that the second shows
 abbrev pub Leads : Contents → ℕ → List Event → Contents → Type 0

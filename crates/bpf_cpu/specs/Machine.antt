@@ -1,8 +1,8 @@
 -- What callers see of a machine.
 use Rattle.std.specs.Prelude.{◌≡◌, List}
 use Rattle.bpf_shared.specs.Sound.{IsSoundStore}
-use Rattle.bpf_shared.specs.Contents.{Contents}
-use Rattle.bpf_shared.specs.Contents as contents
+use Rattle.bpf_shared.specs.PlainStore.{Contents}
+use Rattle.bpf_shared.specs.PlainStore as plain_store
 use Rattle.bpf_loader.specs.Loaded.{Loaded}
 use Rattle.bpf_cpu.specs.Task.{Task}
 use Rattle.bpf_cpu.specs.Schedule.{World}
@@ -14,7 +14,7 @@ pub record MachineState : Type 0 where
 
 -- the machine shows this world, whose store is one that a legal history may have left
 pub record Shows (m : MachineState) (w : World) : Type 0 where
-  pub store : contents.StandsFor m.store w.store
+  pub store : plain_store.StandsFor m.store w.store
   pub sound : IsSoundStore w.store
   pub programs : w.programs ≡ m.programs
   pub jobs : w.jobs ≡ m.jobs

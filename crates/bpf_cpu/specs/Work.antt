@@ -4,7 +4,7 @@ use Rattle.bpf_shared.specs.declared.events.Event.TheVariants.{Begin}
 use Rattle.bpf_shared.specs.Store.{Plain}
 use Rattle.bpf_shared.specs.Choice.{PlainlyAllowed}
 use Rattle.bpf_shared.specs.Sound.{IsSoundStore}
-use Rattle.bpf_shared.specs.Contents as contents
+use Rattle.bpf_shared.specs.PlainStore as plain_store
 use Rattle.bpf_cpu.specs.declared.cpu.Cpu.{Cpu}
 use Rattle.bpf_cpu.specs.declared.machine.Turn.{Turn}
 use Rattle.bpf_cpu.specs.declared.machine.Work.{Work}
@@ -41,8 +41,8 @@ BeginsJob old cpu j new =
     (task : Task) × (context : List ℕ) × IsAt old.jobs cpu j task (Waiting context)
     × (new.programs ≡ old.programs)
     × (new.jobs ≡ with_stage old.jobs j task (InHand (start cpu context) task.budget))
-    × ((s : Plain) → IsSoundStore s → contents.StandsFor old.store s → (t : Plain)
-    × PlainlyAllowed s cpu Begin t × IsSoundStore t × contents.StandsFor new.store t)
+    × ((s : Plain) → IsSoundStore s → plain_store.StandsFor old.store s → (t : Plain)
+    × PlainlyAllowed s cpu Begin t × IsSoundStore t × plain_store.StandsFor new.store t)
 
 -- the CPU goes on with the j-th job, from this state and with so many steps left
 abbrev pub Proceeds : MachineState → ℕ → ℕ → Turn → MachineState → Type 0

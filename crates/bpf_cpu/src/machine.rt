@@ -69,7 +69,7 @@ impl Model for Machine {
 
     ghost Value = { MachineState };
 
-    ghost use Rattle.bpf_shared.specs.Contents.{has_cpu, is_running, held_spans};
+    ghost use Rattle.bpf_shared.specs.PlainStore.{has_cpu, is_running, held_spans};
     ghost use Rattle.bpf_cpu.specs.Private.Lanes.{tasks_of, IsBoard};
 
     ghost view = { λ m. record {
@@ -84,7 +84,7 @@ impl Model for Machine {
 
 impl Machine {
     ghost use Rattle.std.specs.Prelude.{◌≡◌, ◌≢◌, ◌≤◌, ◌<◌, ◌⊎◌, ℕ, true, false, All, IfOk, IfErr, IfSome, IfNone, length, map, nat_lt, vec_len, option_map, slice_get};
-    ghost use Rattle.bpf_shared.specs.Contents.{has_cpu, is_running};
+    ghost use Rattle.bpf_shared.specs.PlainStore.{has_cpu, is_running};
     ghost use Rattle.bpf_mem.specs.Limits.{max_context};
     ghost use Rattle.bpf_cpu.specs.Task.{IsFree, NoneWaits, outcome_at, waiting};
     ghost use Rattle.bpf_cpu.specs.Schedule.{World, TakesTurn, RunsSchedule};

@@ -3,7 +3,7 @@ use Rattle.std.proofs.Common.{◌≡◌, ℕ, ◌+◌, ◌*◌, ◌<◌, ◌≤�
 use Rattle.std.specs.Prelude.{codes, slice_set, ◌==◌, nat_lt, IfSome, IfNone}
 use Rattle.std.proofs.lemmas.List.{get_or-replicate, get_or-set_same, get_or-set_other, append-nil}
 use Rattle.std.proofs.lemmas.Bool.{eq-eqb, ne_eqb, cases_lt, cases_order, le-ltb, lt-ltb}
-use Rattle.bpf_shared.specs.Contents.{has_cpu}
+use Rattle.bpf_shared.specs.PlainStore.{has_cpu}
 use Rattle.bpf_shared.proofs.Puts.{equal_or_not}
 use Rattle.bpf_cpu.specs.declared.outcome.Outcome.{Outcome}
 use Rattle.bpf_cpu.specs.declared.machine.Turn.{Turn}

@@ -3,7 +3,7 @@
 ghost use Rattle.std.specs.Prelude.{◌≡◌, ◌++◌, IfOk, OnOk, length, map, string_bytes};
 ghost use Rattle.bpf_shared.specs.Store.{Plain};
 ghost use Rattle.bpf_shared.specs.Sound.{IsSoundStore};
-ghost use Rattle.bpf_shared.specs.Contents.{StandsFor};
+ghost use Rattle.bpf_shared.specs.PlainStore.{StandsFor};
 ghost use Rattle.bpf_shared.specs.Shows.{listed};
 ghost use Rattle.bpf_jobs.specs.Printed.{AreMapLines, key_lines, key_line};
 

@@ -4,7 +4,7 @@ ghost use Rattle.std.specs.Prelude.{◌≡◌, ◌<◌, ◌≤◌, All, IfOk, le
 ghost use Rattle.bpf_mem.specs.Limits.{max_context};
 ghost use Rattle.bpf_shared.specs.Store.{Plain};
 ghost use Rattle.bpf_shared.specs.Sound.{IsSoundStore};
-ghost use Rattle.bpf_shared.specs.Contents.{StandsFor};
+ghost use Rattle.bpf_shared.specs.PlainStore.{StandsFor};
 ghost use Rattle.bpf_cpu.specs.Task.{waiting};
 ghost use Rattle.bpf_cpu.specs.Machine.{Shows};
 ghost use Rattle.bpf_jobs.specs.Printed.{first_world, AreMapsAsked, IsReport, Tells};

@@ -4,7 +4,7 @@ ghost use Rattle.std.specs.Prelude.{◌≡◌, ◌<◌, [], All, false, IfErr, I
 ghost use Rattle.bpf_insn.specs.Encoding.{IsEncodedAs};
 ghost use Rattle.bpf_insn.specs.declared.instruction.Insn.{Insn};
 ghost use Rattle.bpf_loader.specs.Sound.{IsSound};
-ghost use Rattle.bpf_shared.specs.Contents.{has_cpu, is_running, shapes_of};
+ghost use Rattle.bpf_shared.specs.PlainStore.{has_cpu, is_running, shapes_of};
 ghost use Rattle.bpf_run.specs.Commands.{IsAnswer, IsAssembled, IsDisassembled, IsForOneThread, IsRun, IsWordsOf, RefusesProgram, RefusesWords, ShowsWords, shown_program};
 
 use crate::listing::word_lines;

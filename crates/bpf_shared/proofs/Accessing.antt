@@ -16,10 +16,10 @@ use Rattle.bpf_shared.specs.Store.{Plain, Value, put, Finds}
 use Rattle.bpf_shared.specs.Events.{Reaches, number_in, after_write}
 use Rattle.bpf_shared.specs.Sound.{IsSoundStore}
 use Rattle.bpf_shared.specs.Passage.{Calls, same_span, IsHeldPlace}
-use Rattle.bpf_shared.specs.Runs.{is_run}
-use Rattle.bpf_shared.specs.Rows.{Rows, bytes_of, key_of, IsLinked, run_looked_up, run_left, stored_row}
-use Rattle.bpf_shared.specs.Contents.{Contents, runs_of, rows, size_of, span_at, shapes_of, has_cpu, is_running, holds, keeps, held_spans, any_below, IsUsed, StandsFor, Passes, IsStore, with_table}
-use Rattle.bpf_shared.specs.Changes.{IsAtValue}
+use Rattle.bpf_shared.specs.Private.Runs.{is_run}
+use Rattle.bpf_shared.specs.Private.Rows.{Rows, bytes_of, key_of, IsLinked, run_looked_up, run_left, stored_row}
+use Rattle.bpf_shared.specs.Private.Contents.{Contents, runs_of, rows, size_of, span_at, shapes_of, has_cpu, is_running, holds, keeps, held_spans, any_below, IsUsed, StandsFor, Passes, IsStore, with_table}
+use Rattle.bpf_shared.specs.Private.Changes.{IsAtValue}
 use Rattle.bpf_shared.proofs.Puts.{equal_or_not, put-same, put-other}
 use Rattle.bpf_shared.proofs.Passages.{calls}
 use Rattle.bpf_shared.proofs.Blocks.{block-within, block-beside}

@@ -1,7 +1,7 @@
 -- Tests of some number below a bound.
 use Rattle.std.proofs.Common.{◌≡◌, ◌≢◌, ℕ, zero, suc, ◌<◌, Bool, true, false, ◌||◌, inl, inr, refl, ap, sym, ◌∙◌, arith}
 use Rattle.bpf_shared.proofs.Puts.{equal_or_not}
-use Rattle.bpf_shared.specs.Contents.{any_below}
+use Rattle.bpf_shared.specs.Private.Contents.{any_below}
 
 pub any_below_same : (n : ℕ) (f g : ℕ → Bool) → ((i : ℕ) → i < n → g i ≡ f i) → any_below n g ≡ any_below n f
 any_below_same zero f g h = refl

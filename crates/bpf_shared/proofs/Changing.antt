@@ -7,8 +7,8 @@ use Rattle.bpf_shared.specs.declared.shapes.MapShape.{MapShape}
 use Rattle.bpf_shared.specs.declared.runs.Runs.{Runs}
 use Rattle.bpf_shared.specs.Shape.{IsMap, elements, element_span}
 use Rattle.bpf_shared.specs.Passage.{same_span}
-use Rattle.bpf_shared.specs.Rows.{Rows, no_rows, shape_of, run_looked_up, run_left, IsTable}
-use Rattle.bpf_shared.specs.Contents.{Contents, runs_of, rows, size_of, span_at, shapes_of, holds, held_spans, any_below, IsStore, with_table}
+use Rattle.bpf_shared.specs.Private.Rows.{Rows, no_rows, shape_of, run_looked_up, run_left, IsTable}
+use Rattle.bpf_shared.specs.Private.Contents.{Contents, runs_of, rows, size_of, span_at, shapes_of, holds, held_spans, any_below, IsStore, with_table}
 use Rattle.bpf_shared.proofs.Puts.{equal_or_not}
 use Rattle.bpf_shared.proofs.AnyBelow.{any_below_same}
 

@@ -12,10 +12,10 @@ use Rattle.bpf_shared.specs.Events.{after_begin, after_end}
 use Rattle.bpf_shared.specs.Sound.{IsSoundStore}
 use Rattle.bpf_shared.proofs.Puts.{equal_or_not, put-same, put-other, put_cases}
 use Rattle.bpf_shared.specs.Passage.{Calls, held_without}
-use Rattle.bpf_shared.specs.Runs.{no_runs, is_run}
-use Rattle.bpf_shared.specs.Rows.{Rows, no_rows, shape_of, key_of, bytes_of, run_looked_up, run_left}
-use Rattle.bpf_shared.specs.Contents.{Contents, runs_of, rows, shapes_of, has_cpu, is_running, holds, keeps, held_spans, IsUsed, StandsFor, Passes, IsStore, started, stopped}
-use Rattle.bpf_shared.specs.Changes.{IsAlike, Recounts}
+use Rattle.bpf_shared.specs.Private.Runs.{no_runs, is_run}
+use Rattle.bpf_shared.specs.Private.Rows.{Rows, no_rows, shape_of, key_of, bytes_of, run_looked_up, run_left}
+use Rattle.bpf_shared.specs.Private.Contents.{Contents, runs_of, rows, shapes_of, has_cpu, is_running, holds, keeps, held_spans, IsUsed, StandsFor, Passes, IsStore, started, stopped}
+use Rattle.bpf_shared.specs.Private.Changes.{IsAlike, Recounts}
 use Rattle.bpf_shared.proofs.Passages.{calls}
 use Rattle.bpf_shared.proofs.Showing.{SameContent, same_tables, linked_was, within_was, within_still, shows_after, held_spans-same, held_spans-without}
 

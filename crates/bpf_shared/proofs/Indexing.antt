@@ -2,7 +2,7 @@
 use Rattle.std.proofs.Common.{◌≡◌, ℕ, ◌<◌, List, length, inl, inr, sym, ap, subst, ◌∙◌}
 use Rattle.bpf_shared.specs.declared.runs.Runs.{Runs}
 use Rattle.bpf_shared.specs.Shape.{elements}
-use Rattle.bpf_shared.specs.Rows.{Rows, key_of, IsLinked, IsTable, IsMissing, linked_row, unlinked_row}
+use Rattle.bpf_shared.specs.Private.Rows.{Rows, key_of, IsLinked, IsTable, IsMissing, linked_row, unlinked_row}
 use Rattle.bpf_shared.specs.Private.Chains.{Links, IsAt, Comes, Goes}
 use Rattle.bpf_shared.specs.Private.Home.{home_of}
 use Rattle.bpf_shared.specs.Private.Index.{home_at, IsIndexed}

@@ -24,3 +24,4 @@ pub mod Settling
 mod Listing
 pub mod OneListing
 pub mod Lasting
+pub mod Served

@@ -6,9 +6,9 @@ use Rattle.std.proofs.lemmas.List.Sums.{sum_by-set}
 use Rattle.std.proofs.lemmas.Bool.{cases_lt}
 use Rattle.bpf_base.proofs.Parts.{length-with_part}
 use Rattle.bpf_shared.specs.declared.runs.Runs.{Runs}
-use Rattle.bpf_shared.specs.Runs.{count_of}
+use Rattle.bpf_shared.specs.Private.Runs.{count_of}
 use Rattle.bpf_shared.specs.Shape.{elements}
-use Rattle.bpf_shared.specs.Rows.{Rows, key_of, bytes_of, linked_count, IsLinked, IsTable, IsMissing, linked_row, unlinked_row}
+use Rattle.bpf_shared.specs.Private.Rows.{Rows, key_of, bytes_of, linked_count, IsLinked, IsTable, IsMissing, linked_row, unlinked_row}
 use Rattle.bpf_shared.proofs.Puts.{equal_or_not, true_or_false}
 use Rattle.bpf_shared.proofs.Blocks.{block_fits, block-same, block-other}
 

@@ -6,9 +6,9 @@ use Rattle.bpf_shared.specs.declared.plain.Reach.{Reach}
 use Rattle.bpf_shared.specs.Shape.{IsIn, element_stride, elements}
 use Rattle.bpf_shared.specs.Store.{Plain, Value, Finds}
 use Rattle.bpf_shared.specs.Sound.{IsSoundStore}
-use Rattle.bpf_shared.specs.Rows.{Rows, no_rows, key_of, bytes_of, IsTakenRow}
-use Rattle.bpf_shared.specs.Contents.{Contents, rows, size_of, span_at, IsUsed, StandsFor, IsStore}
-use Rattle.bpf_shared.specs.Changes.{IsAtValue, IsReach}
+use Rattle.bpf_shared.specs.Private.Rows.{Rows, no_rows, key_of, bytes_of, IsTakenRow}
+use Rattle.bpf_shared.specs.Private.Contents.{Contents, rows, size_of, span_at, IsUsed, StandsFor, IsStore}
+use Rattle.bpf_shared.specs.Private.Changes.{IsAtValue, IsReach}
 use Rattle.bpf_shared.specs.Laws.{byte_at}
 use Rattle.bpf_shared.specs.Listing.{Pair, IsByteAt}
 use Rattle.bpf_shared.specs.Private.Pairs.{AreRowPairs}

@@ -11,9 +11,9 @@ use Rattle.bpf_shared.specs.Shape.{IsKeyOf, elements, element_span}
 use Rattle.bpf_shared.specs.Store.{Plain, Value, put, Finds}
 use Rattle.bpf_shared.specs.Events.{span_of, after_lookup}
 use Rattle.bpf_shared.specs.Passage.{Calls, same_span, held_with}
-use Rattle.bpf_shared.specs.Runs.{no_runs, is_run}
-use Rattle.bpf_shared.specs.Rows.{Rows, key_of, bytes_of, run_looked_up, run_left, IsLinked, IsTable, noted_row}
-use Rattle.bpf_shared.specs.Contents.{Contents, runs_of, rows, size_of, span_at, shapes_of, has_cpu, is_running, holds, keeps, any_below, held_spans, IsUsed, StandsFor, Passes, IsStore, looked}
+use Rattle.bpf_shared.specs.Private.Runs.{no_runs, is_run}
+use Rattle.bpf_shared.specs.Private.Rows.{Rows, key_of, bytes_of, run_looked_up, run_left, IsLinked, IsTable, noted_row}
+use Rattle.bpf_shared.specs.Private.Contents.{Contents, runs_of, rows, size_of, span_at, shapes_of, has_cpu, is_running, holds, keeps, any_below, held_spans, IsUsed, StandsFor, Passes, IsStore, looked}
 use Rattle.bpf_shared.proofs.Puts.{equal_or_not, put_pair, put_pair-old, put_pair-new}
 use Rattle.bpf_shared.proofs.Passages.{calls}
 use Rattle.bpf_shared.proofs.AnyBelow.{any_below_one}

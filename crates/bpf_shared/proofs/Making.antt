@@ -11,9 +11,9 @@ use Rattle.bpf_shared.specs.declared.runs.Runs.{Runs}
 use Rattle.bpf_shared.specs.Shape.{Shape, IsShape}
 use Rattle.bpf_shared.specs.Store.{as_made}
 use Rattle.bpf_shared.specs.Passage.{same_span}
-use Rattle.bpf_shared.specs.Rows.{Rows, no_rows, shape_of, run_left, run_looked_up, IsBlank, IsLinked, IsTable}
-use Rattle.bpf_shared.specs.Runs.{no_runs, is_run}
-use Rattle.bpf_shared.specs.Contents.{Contents, runs_of, rows, size_of, span_at, shapes_of, IsUsed, StandsFor, IsStore, IsMade}
+use Rattle.bpf_shared.specs.Private.Rows.{Rows, no_rows, shape_of, run_left, run_looked_up, IsBlank, IsLinked, IsTable}
+use Rattle.bpf_shared.specs.Private.Runs.{no_runs, is_run}
+use Rattle.bpf_shared.specs.Private.Contents.{Contents, runs_of, rows, size_of, span_at, shapes_of, IsUsed, StandsFor, IsStore, IsMade}
 use Rattle.bpf_shared.proofs.AnyBelow.{any_below_none}
 
 -- ---- vectors as they are made

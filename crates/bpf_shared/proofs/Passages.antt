@@ -9,7 +9,7 @@ use Rattle.bpf_shared.specs.Choice.{Chosen}
 use Rattle.bpf_shared.specs.History.{History, Legal, PlainlyLegal}
 use Rattle.bpf_shared.specs.Passage.{Calls}
 use Rattle.bpf_shared.specs.Sound.{IsSoundStore}
-use Rattle.bpf_shared.specs.Contents.{Contents, has_cpu, StandsFor, Passes, IsMade}
+use Rattle.bpf_shared.specs.Private.Contents.{Contents, has_cpu, StandsFor, Passes, IsMade}
 use Rattle.bpf_shared.specs.Legality.{PassagesAreLegal}
 use Rattle.bpf_shared.proofs.Soundness.{as_made_sound, allowed_sound}
 

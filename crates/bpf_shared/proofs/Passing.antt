@@ -1,9 +1,9 @@
 -- Elements that were passed, as in the map or kept, stay so while the runs go on.
 use Rattle.std.proofs.Common.{◌≡◌, ℕ, ◌*◌, ◌<◌, ◌≤◌, List, length, ◌⊎◌, inl, inr, sym, ap, subst, ◌∙◌, arith}
 use Rattle.bpf_shared.specs.declared.runs.Runs.{Runs}
-use Rattle.bpf_shared.specs.Runs.{run_of, is_run}
+use Rattle.bpf_shared.specs.Private.Runs.{run_of, is_run}
 use Rattle.bpf_shared.specs.Shape.{elements}
-use Rattle.bpf_shared.specs.Rows.{Rows, AreMarked, ArePassed, GoOn, HasCurrentAt, IsMissing, IsKeptRow, IsLinked, IsTable, linked_row, run_left, unlinked_row}
+use Rattle.bpf_shared.specs.Private.Rows.{Rows, AreMarked, ArePassed, GoOn, HasCurrentAt, IsMissing, IsKeptRow, IsLinked, IsTable, linked_row, run_left, unlinked_row}
 use Rattle.bpf_shared.proofs.Puts.{equal_or_not}
 use Rattle.bpf_shared.proofs.Linking.{linked_here, linked_more, unlinked_still}
 use Rattle.bpf_shared.proofs.Updating.{left-else}

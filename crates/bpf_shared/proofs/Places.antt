@@ -10,9 +10,9 @@ use Rattle.bpf_shared.specs.Shape.{IsMapShape, IsIn, IsApart, elements, element_
 use Rattle.bpf_shared.specs.Store.{Plain, Value, IsLive}
 use Rattle.bpf_shared.specs.Choice.{IsTaken, IsLowestFree}
 use Rattle.bpf_shared.specs.Sound.{IsSoundStore}
-use Rattle.bpf_shared.specs.Runs.{no_runs, is_run}
-use Rattle.bpf_shared.specs.Rows.{Rows, no_rows, run_left, IsLinked, IsTakenRow, IsLowestFreeRow}
-use Rattle.bpf_shared.specs.Contents.{Contents, rows, size_of, span_at, holds, keeps, IsUsed, StandsFor, IsStore}
+use Rattle.bpf_shared.specs.Private.Runs.{no_runs, is_run}
+use Rattle.bpf_shared.specs.Private.Rows.{Rows, no_rows, run_left, IsLinked, IsTakenRow, IsLowestFreeRow}
+use Rattle.bpf_shared.specs.Private.Contents.{Contents, rows, size_of, span_at, holds, keeps, IsUsed, StandsFor, IsStore}
 use Rattle.bpf_shared.proofs.Puts.{equal_or_not}
 use Rattle.bpf_shared.proofs.Blocks.{apart_blocks}
 use Rattle.bpf_shared.proofs.Linking.{linked_inside}

@@ -17,9 +17,9 @@ use Rattle.bpf_shared.specs.Store.{Keys, Plain, Value, put}
 use Rattle.bpf_shared.specs.Events.{has_key, refusals, kept_after, after_delete, after_update}
 use Rattle.bpf_shared.specs.Sound.{IsSoundStore}
 use Rattle.bpf_shared.specs.Passage.{Calls}
-use Rattle.bpf_shared.specs.Runs.{is_run}
-use Rattle.bpf_shared.specs.Rows.{Rows, no_rows, key_of, run_looked_up, run_left, IsTable, IsLinked, IsMissing, linked_count, IsKeyAt, IsLowestFreeRow, HasRoomAt, PutsRow, TakesRow, linked_row, unlinked_row}
-use Rattle.bpf_shared.specs.Contents.{Contents, runs_of, rows, span_at, shapes_of, has_cpu, is_running, holds, keeps, held_spans, StandsFor, Passes, MayLack, IsStore, with_table}
+use Rattle.bpf_shared.specs.Private.Runs.{is_run}
+use Rattle.bpf_shared.specs.Private.Rows.{Rows, no_rows, key_of, run_looked_up, run_left, IsTable, IsLinked, IsMissing, linked_count, IsKeyAt, IsLowestFreeRow, HasRoomAt, PutsRow, TakesRow, linked_row, unlinked_row}
+use Rattle.bpf_shared.specs.Private.Contents.{Contents, runs_of, rows, span_at, shapes_of, has_cpu, is_running, holds, keeps, held_spans, StandsFor, Passes, MayLack, IsStore, with_table}
 use Rattle.bpf_shared.proofs.Puts.{equal_or_not, put-same, put-other}
 use Rattle.bpf_shared.proofs.Soundness.{after_delete_sound}
 use Rattle.bpf_shared.proofs.Passages.{calls}

@@ -7,8 +7,8 @@ use Rattle.bpf_shared.specs.Shape.{elements, element_span}
 use Rattle.bpf_shared.specs.Store.{Plain, Finds}
 use Rattle.bpf_shared.specs.Passage.{same_span, held_without}
 use Rattle.bpf_shared.proofs.Puts.{equal_or_not}
-use Rattle.bpf_shared.specs.Rows.{Rows, key_of, bytes_of, IsLinked}
-use Rattle.bpf_shared.specs.Contents.{Contents, rows, size_of, span_at, shapes_of, is_running, holds, keeps, any_below, held_spans, IsUsed, StandsFor}
+use Rattle.bpf_shared.specs.Private.Rows.{Rows, key_of, bytes_of, IsLinked}
+use Rattle.bpf_shared.specs.Private.Contents.{Contents, rows, size_of, span_at, shapes_of, is_running, holds, keeps, any_below, held_spans, IsUsed, StandsFor}
 use Rattle.bpf_shared.proofs.AnyBelow.{any_below_same, any_below_none}
 
 -- the same keys, bytes and places

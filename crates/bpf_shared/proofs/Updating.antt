@@ -14,9 +14,9 @@ use Rattle.bpf_shared.specs.Shape.{elements, element_span}
 use Rattle.bpf_shared.specs.Store.{Keys, Plain, Value, put}
 use Rattle.bpf_shared.specs.Events.{kept_after, after_delete}
 use Rattle.bpf_shared.specs.Sound.{IsSoundStore}
-use Rattle.bpf_shared.specs.Runs.{run_of, count_of, no_runs, is_run}
-use Rattle.bpf_shared.specs.Rows.{Rows, key_of, bytes_of, linked_count, run_looked_up, run_left, IsLinked, IsTable, IsMissing, linked_row, unlinked_row}
-use Rattle.bpf_shared.specs.Contents.{Contents, runs_of, rows, size_of, span_at, is_running, holds, keeps, IsUsed, StandsFor, IsStore, with_table}
+use Rattle.bpf_shared.specs.Private.Runs.{run_of, count_of, no_runs, is_run}
+use Rattle.bpf_shared.specs.Private.Rows.{Rows, key_of, bytes_of, linked_count, run_looked_up, run_left, IsLinked, IsTable, IsMissing, linked_row, unlinked_row}
+use Rattle.bpf_shared.specs.Private.Contents.{Contents, runs_of, rows, size_of, span_at, is_running, holds, keeps, IsUsed, StandsFor, IsStore, with_table}
 use Rattle.bpf_shared.proofs.Puts.{true_or_false, equal_or_not, put-same, put-other, put_cases, insert_cases, remove_cases}
 use Rattle.bpf_shared.proofs.Soundness.{kept_still, kept_now}
 use Rattle.bpf_shared.proofs.Lawful.{leads_new}

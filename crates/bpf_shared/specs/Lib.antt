@@ -9,10 +9,7 @@ pub mod History
 pub mod Passage
 pub mod Chain
 pub mod Sound
-pub mod Runs
-pub mod Rows
-pub mod Contents
-pub mod Changes
+pub mod PlainStore
 pub mod Laws
 pub mod Lasting
 pub mod Listing

@@ -6,7 +6,7 @@ use Rattle.std.specs.declared.cmp.Ordering.TheVariants.{Less}
 use Rattle.std.specs.Cmp.Lexicographic.{slice_cmp}
 use Rattle.bpf_shared.specs.Shape.{IsIn}
 use Rattle.bpf_shared.specs.Store.{Plain, Finds, IsInMap, IsKept}
-use Rattle.bpf_shared.specs.Rows.{Rows, key_of, bytes_of}
+use Rattle.bpf_shared.specs.Private.Rows.{Rows, key_of, bytes_of}
 use Rattle.bpf_shared.specs.Laws.{byte_at}
 
 -- a key, and the bytes of its value

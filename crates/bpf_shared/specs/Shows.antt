@@ -3,7 +3,7 @@ use Rattle.std.specs.Prelude.{ℕ, List, map, Vec}
 use Rattle.std.specs.declared.alloc.Global.{Global}
 use Rattle.bpf_shared.specs.Store.{Plain}
 use Rattle.bpf_shared.specs.Sound.{IsSoundStore}
-use Rattle.bpf_shared.specs.Contents.{Contents, StandsFor}
+use Rattle.bpf_shared.specs.PlainStore.{Contents, StandsFor}
 use Rattle.bpf_shared.specs.Listing.{Pair, pair_of, IsListing, IsByteAt, IsOnlyByteAt}
 
 abbrev pub listed : List (Vec ℕ Global × Vec ℕ Global) → List Pair

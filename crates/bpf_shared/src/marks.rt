@@ -1,6 +1,6 @@
 //! Marks of a map's elements, of which most are set: those that aren't are looked for.
 ghost use Rattle.std.specs.Prelude.{◌≡◌, ℕ, ◌<◌, ◌≤◌, IsTrue, true, false, length, slice_index_or};
-ghost use Rattle.bpf_shared.specs.Rows.{AreMarked};
+ghost use Rattle.bpf_shared.specs.Private.Rows.{AreMarked};
 
 /// How many marks are looked at together.
 const TOGETHER: usize = 32;

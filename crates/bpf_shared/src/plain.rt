@@ -1,8 +1,8 @@
 //! The plain store: the shared store of one thread.
 ghost use Rattle.std.specs.Prelude.{◌≡◌, ◌+◌, ◌<◌, ◌≤◌, ◌⊎◌, ℕ, true, false, IfOk, IfErr, IfSome, IfNone, length, map, nat_lt, slice_index_or};
 ghost use Rattle.bpf_shared.specs.Shape.{IsMap, IsMapShape};
-ghost use Rattle.bpf_shared.specs.Rows.{no_rows, shape_of, IsBlank, IsTable};
-ghost use Rattle.bpf_shared.specs.Runs.{no_runs};
+ghost use Rattle.bpf_shared.specs.Private.Rows.{no_rows, shape_of, IsBlank, IsTable};
+ghost use Rattle.bpf_shared.specs.Private.Runs.{no_runs};
 
 use crate::bytes::change;
 use crate::events::{AtomicOp, MapAnswer, Size, Span, ValuePlace};
@@ -24,7 +24,7 @@ pub struct PlainStore {
 }
 
 impl Model for PlainStore {
-    ghost use Rattle.bpf_shared.specs.Contents.{Contents, IsStore};
+    ghost use Rattle.bpf_shared.specs.Private.Contents.{Contents, IsStore};
 
     ghost Value = { Contents };
 
@@ -74,8 +74,8 @@ struct Reach {
 }
 
 impl PlainStore {
-    ghost use Rattle.bpf_shared.specs.Contents.{IsMade, has_cpu, is_running, runs_of, size_of, span_at};
-    ghost use Rattle.bpf_shared.specs.Changes.{IsAtValue, IsAlike, IsReach};
+    ghost use Rattle.bpf_shared.specs.Private.Contents.{IsMade, has_cpu, is_running, runs_of, size_of, span_at};
+    ghost use Rattle.bpf_shared.specs.Private.Changes.{IsAtValue, IsAlike, IsReach};
     ghost use Rattle.bpf_shared.specs.Shows.{listed, Lists, ShowsByte, ShowsNoByte};
 
     /// A store with no keys, and no CPU in a run. Want of memory is its only refusal.
@@ -184,7 +184,7 @@ impl PlainStore {
 }
 
 impl Shared for PlainStore {
-    ghost use Rattle.bpf_shared.specs.Contents.{shapes_of, has_cpu, is_running, held_spans, Passes, MayLack};
+    ghost use Rattle.bpf_shared.specs.Private.Contents.{shapes_of, has_cpu, is_running, held_spans, Passes, MayLack};
     ghost use Rattle.bpf_shared.specs.Lemmas.Passages.{passes_nothing, passes_follow};
 
     ghost shapes = { shapes_of };

@@ -2,12 +2,12 @@
 ghost use Rattle.std.specs.Prelude.{◌≡◌, ◌≢◌, ◌+◌, ◌*◌, ◌<◌, ◌≤◌, ◌↔◌, ◌⊎◌, ℕ, IfOk, IfErr, IfSome, IfNone, IsTrue, length, map, slice_index};
 ghost use Rattle.bpf_base.specs.Bytes.{little_endian, low_bytes, modulus, part, with_part};
 ghost use Rattle.bpf_shared.specs.Access.{bytes_in};
-ghost use Rattle.bpf_shared.specs.Runs.{run_of, count_of};
+ghost use Rattle.bpf_shared.specs.Private.Runs.{run_of, count_of};
 ghost use Rattle.bpf_shared.specs.Shape.{IsMapShape, IsValueSpan, elements, element_span, element_stride};
 ghost use Rattle.bpf_shared.specs.Listing.{pair_of};
 ghost use Rattle.bpf_shared.specs.Private.Pairs.{AreRowPairs, ArePairsBelow};
 ghost use Rattle.bpf_shared.specs.Private.Index.{IsHome};
-ghost use Rattle.bpf_shared.specs.Rows.{AreMarked, ArePassed, GoOn, HasCurrentAt, key_of, bytes_of, run_left, run_looked_up, IsLinked, linked_count, IsTable, IsBlank, IsMissing, IsKeyAt, IsKeptRow, IsTakenRow, IsLowestFreeRow, HasCurrent, Erases, noted_row, linked_row, unlinked_row, stored_row, Forgets, PutsRow, TakesRow};
+ghost use Rattle.bpf_shared.specs.Private.Rows.{AreMarked, ArePassed, GoOn, HasCurrentAt, key_of, bytes_of, run_left, run_looked_up, IsLinked, linked_count, IsTable, IsBlank, IsMissing, IsKeyAt, IsKeptRow, IsTakenRow, IsLowestFreeRow, HasCurrent, Erases, noted_row, linked_row, unlinked_row, stored_row, Forgets, PutsRow, TakesRow};
 
 use crate::bytes::{load, store};
 use crate::events::{MapAnswer, Size, Span};
@@ -53,7 +53,7 @@ pub struct Table {
 
 impl Model for Table {
     ghost use Rattle.std.specs.Prelude.{◌≡◌, length};
-    ghost use Rattle.bpf_shared.specs.Rows.{Rows, ArePassed, IsTable, AreMarked, linked_count};
+    ghost use Rattle.bpf_shared.specs.Private.Rows.{Rows, ArePassed, IsTable, AreMarked, linked_count};
     ghost use Rattle.bpf_shared.specs.Private.Index.{IsIndexed};
 
     ghost Value = { Rows };

@@ -8,8 +8,8 @@ use Rattle.bpf_shared.specs.declared.events.Event.TheVariants.{End}
 use Rattle.bpf_shared.specs.Store.{Plain, put}
 use Rattle.bpf_shared.specs.Choice.{PlainlyAllowed}
 use Rattle.bpf_shared.specs.Sound.{IsSoundStore}
-use Rattle.bpf_shared.specs.Contents.{Contents, has_cpu, is_running, held_spans}
-use Rattle.bpf_shared.specs.Contents as contents
+use Rattle.bpf_shared.specs.PlainStore.{Contents, has_cpu, is_running, held_spans}
+use Rattle.bpf_shared.specs.PlainStore as plain_store
 use Rattle.bpf_cpu.specs.declared.machine.Turn.TheVariants.{Ran}
 use Rattle.bpf_cpu.specs.declared.machine.Turn.TheVariants as turn
 use Rattle.bpf_loader.specs.Loaded.{Loaded}
@@ -175,7 +175,7 @@ module _ (store : Contents) (programs : List Loaded) (jobs : List Listed) (lanes
                 inside
 
             -- in each world that the machine shows, the CPU goes on with the job, which stays in hand
-            pub proceeds_kept : (after : Contents) → ((s : Plain) → IsSoundStore s → contents.StandsFor store s → (t : Plain) × Advances program h.cpu.number s h.cpu h.left None t h'.cpu h'.left × IsSoundStore t × contents.StandsFor after t)
+            pub proceeds_kept : (after : Contents) → ((s : Plain) → IsSoundStore s → plain_store.StandsFor store s → (t : Plain) × Advances program h.cpu.number s h.cpu h.left None t h'.cpu h'.left × IsSoundStore t × plain_store.StandsFor after t)
                 → (w : World) → Shows (record { store = store; programs = programs; jobs = tasks_of lanes jobs }) w
                 → (z : World) × GoesOn w c j task state left Ran z × Shows (record { store = after; programs = programs; jobs = tasks_of (slice_set lanes c l') (slice_set jobs j e) }) z
             proceeds_kept after advance w shows =
@@ -243,8 +243,8 @@ module _ (store : Contents) (programs : List Loaded) (jobs : List Listed) (lanes
                 inside
 
             -- in each world that the machine shows, the CPU goes on with the job, which ends
-            pub proceeds_ended : (mid after : Contents) (new : Cpu) (rest : ℕ) → ((s : Plain) → IsSoundStore s → contents.StandsFor store s → (t : Plain) × Advances program h.cpu.number s h.cpu h.left (Some outcome) t new rest × IsSoundStore t × contents.StandsFor mid t)
-                → ((s : Plain) → IsSoundStore s → contents.StandsFor mid s → (t : Plain) × PlainlyAllowed s c End t × IsSoundStore t × contents.StandsFor after t)
+            pub proceeds_ended : (mid after : Contents) (new : Cpu) (rest : ℕ) → ((s : Plain) → IsSoundStore s → plain_store.StandsFor store s → (t : Plain) × Advances program h.cpu.number s h.cpu h.left (Some outcome) t new rest × IsSoundStore t × plain_store.StandsFor mid t)
+                → ((s : Plain) → IsSoundStore s → plain_store.StandsFor mid s → (t : Plain) × PlainlyAllowed s c End t × IsSoundStore t × plain_store.StandsFor after t)
                 → (w : World) → Shows (record { store = store; programs = programs; jobs = tasks_of lanes jobs }) w
                 → (z : World) × GoesOn w c j task state left (turn.Ended j outcome) z × Shows (record { store = after; programs = programs; jobs = tasks_of (slice_set lanes c l'') (slice_set jobs j e'') }) z
             proceeds_ended mid after new rest advance end w shows =
@@ -257,8 +257,8 @@ module _ (store : Contents) (programs : List Loaded) (jobs : List Listed) (lanes
                 )
 
             -- in each world that the machine shows, as many rounds as the job has turns left end it
-            pub finishes_ended : (mid after : Contents) → ((s : Plain) → IsSoundStore s → contents.StandsFor store s → (t : Plain) × (turns : ℕ) × Lasts program h.cpu.number turns s h.cpu h.left outcome t × IsSoundStore t × contents.StandsFor mid t)
-                → ((s : Plain) → IsSoundStore s → contents.StandsFor mid s → (t : Plain) × PlainlyAllowed s c End t × IsSoundStore t × contents.StandsFor after t)
+            pub finishes_ended : (mid after : Contents) → ((s : Plain) → IsSoundStore s → plain_store.StandsFor store s → (t : Plain) × (turns : ℕ) × Lasts program h.cpu.number turns s h.cpu h.left outcome t × IsSoundStore t × plain_store.StandsFor mid t)
+                → ((s : Plain) → IsSoundStore s → plain_store.StandsFor mid s → (t : Plain) × PlainlyAllowed s c End t × IsSoundStore t × plain_store.StandsFor after t)
                 → IsAlone (tasks_of lanes jobs) c
                 → (w : World) → Shows (record { store = store; programs = programs; jobs = tasks_of lanes jobs }) w
                 → (z : World) × ((n : ℕ) × RunsRounds n w z) × Shows (record { store = after; programs = programs; jobs = tasks_of (slice_set lanes c l'') (slice_set jobs j e'') }) z

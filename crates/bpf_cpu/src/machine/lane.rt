@@ -3,8 +3,8 @@
 ghost use Rattle.std.specs.Prelude.{◌≡◌, ◌<◌, ◌≤◌, ◌+◌, ℕ, true, [], length, map, All, IfOk, vec_len, vec_capacity};
 ghost use Rattle.bpf_shared.specs.Store.{Plain};
 ghost use Rattle.bpf_shared.specs.Sound.{IsSoundStore};
-ghost use Rattle.bpf_shared.specs.Contents.{has_cpu, is_running, held_spans, shapes_of};
-ghost use Rattle.bpf_shared.specs.Contents as contents;
+ghost use Rattle.bpf_shared.specs.PlainStore.{has_cpu, is_running, held_spans, shapes_of};
+ghost use Rattle.bpf_shared.specs.PlainStore as plain_store;
 ghost use Rattle.bpf_helpers.specs.Held.{AreHeld, KeepsRun};
 ghost use Rattle.bpf_cpu.specs.Step.{IsReady};
 ghost use Rattle.bpf_cpu.specs.Schedule.{Advances};
@@ -158,11 +158,11 @@ impl Hand {
         requires serves { has_cpu store.old self.old.cpu.number ≡ true }
         requires in_run { is_running store.old self.old.cpu.number ≡ true }
         requires held { AreHeld (held_spans store.old self.old.cpu.number) self.old.cpu.held }
-        ensures advance { (s : Plain) → IsSoundStore s → contents.StandsFor store.old s →
+        ensures advance { (s : Plain) → IsSoundStore s → plain_store.StandsFor store.old s →
             (t : Plain) ×
             Advances program.now self.old.cpu.number s self.old.cpu self.old.left result t self.new.cpu
             self.new.left ×
-            IsSoundStore t × contents.StandsFor store.new t }
+            IsSoundStore t × plain_store.StandsFor store.new t }
         ensures ready { IsReady program.now self.new.cpu }
         ensures same { (self.new.job ≡ self.old.job) × (self.new.cpu.number ≡ self.old.cpu.number) }
         ensures held { AreHeld (held_spans store.new self.old.cpu.number) self.new.cpu.held }
@@ -187,10 +187,10 @@ impl Hand {
         requires serves { has_cpu store.old self.old.cpu.number ≡ true }
         requires in_run { is_running store.old self.old.cpu.number ≡ true }
         requires held { AreHeld (held_spans store.old self.old.cpu.number) self.old.cpu.held }
-        ensures lasts { (s : Plain) → IsSoundStore s → contents.StandsFor store.old s →
+        ensures lasts { (s : Plain) → IsSoundStore s → plain_store.StandsFor store.old s →
             (t : Plain) × (turns : ℕ) ×
             Lasts program.now self.old.cpu.number turns s self.old.cpu self.old.left result t ×
-            IsSoundStore t × contents.StandsFor store.new t }
+            IsSoundStore t × plain_store.StandsFor store.new t }
         ensures keeps { KeepsRun shapes_of is_running held_spans self.old.cpu.number store.old
             store.new }
         ensures serves { has_cpu store.new ≡ has_cpu store.old }

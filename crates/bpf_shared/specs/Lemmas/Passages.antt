@@ -4,7 +4,7 @@ use Rattle.bpf_shared.specs.declared.events.Event.{Event}
 use Rattle.bpf_shared.specs.declared.events.Entry.{Entry}
 use Rattle.bpf_shared.specs.Store.{Plain}
 use Rattle.bpf_shared.specs.History.{History}
-use Rattle.bpf_shared.specs.Contents.{Contents, Passes}
+use Rattle.bpf_shared.specs.PlainStore.{Contents, Passes}
 
 -- histories follow each other
 pub history-append : (step : Plain → ℕ → Event → Plain → Type 0) (s m t : Plain)

@@ -1,7 +1,7 @@
 -- A map's elements, found by their keys.
 use Rattle.std.specs.Prelude.{◌≡◌, ℕ, ◌<◌, List, length}
 use Rattle.bpf_shared.specs.Shape.{elements}
-use Rattle.bpf_shared.specs.Rows.{Rows, key_of, IsLinked}
+use Rattle.bpf_shared.specs.Private.Rows.{Rows, key_of, IsLinked}
 use Rattle.bpf_shared.specs.Private.Chains.{Links, IsAt}
 use Rattle.bpf_shared.specs.Private.Home.{home_of}
 

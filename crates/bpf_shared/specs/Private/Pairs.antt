@@ -3,7 +3,7 @@ use Rattle.std.specs.Prelude.{◌≡◌, ℕ, ◌<◌, List, length}
 use Rattle.std.specs.Ordering.{nat_cmp}
 use Rattle.std.specs.declared.cmp.Ordering.TheVariants.{Less}
 use Rattle.std.specs.Cmp.Lexicographic.{slice_cmp}
-use Rattle.bpf_shared.specs.Rows.{Rows, IsLinked}
+use Rattle.bpf_shared.specs.Private.Rows.{Rows, IsLinked}
 use Rattle.bpf_shared.specs.Listing.{Pair, pair_at, row_pair}
 
 -- the k-th pair is that of the element

@@ -1,5 +1,5 @@
 use Rattle.std.proofs.Common.{IsTrue}
-use Rattle.bpf_shared.specs.Rows.{AreMarked}
+use Rattle.bpf_shared.specs.Private.Rows.{AreMarked}
 use Rattle.bpf_shared.proofs.marks.are_all.Given as goal
 
 abbrev pub invariant-loop-mark : goal.invariant-loop-mark

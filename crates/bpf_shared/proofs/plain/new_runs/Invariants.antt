@@ -1,5 +1,5 @@
 use Rattle.std.proofs.Common.{◌≡◌, ℕ, length, slice_index_or}
-use Rattle.bpf_shared.specs.Runs.{no_runs}
+use Rattle.bpf_shared.specs.Private.Runs.{no_runs}
 use Rattle.bpf_shared.proofs.plain.new_runs.Given as goal
 
 abbrev pub invariant-loop : goal.invariant-loop

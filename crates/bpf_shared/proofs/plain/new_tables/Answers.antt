@@ -1,7 +1,7 @@
 use Rattle.std.proofs.Common.{◌≡◌, ◌+◌, ◌<◌, List, ◌++◌, ◌∷◌, [], length, map, take, get_or, sym, ap, subst, ◌∙◌}
 use Rattle.std.proofs.lemmas.List.{take_more}
 use Rattle.bpf_shared.specs.declared.shapes.MapShape.{MapShape}
-use Rattle.bpf_shared.specs.Rows.{Rows, no_rows, shape_of, IsBlank, IsTable}
+use Rattle.bpf_shared.specs.Private.Rows.{Rows, no_rows, shape_of, IsBlank, IsTable}
 use Rattle.bpf_shared.proofs.Making.{blank_push, shapes_push, tables_push}
 use Rattle.bpf_shared.proofs.plain.new_tables.Goals as goal
 

@@ -1,5 +1,5 @@
 use Rattle.std.proofs.Common.{◌≡◌, ℕ, ◌<◌, length, map, take, slice_index_or}
-use Rattle.bpf_shared.specs.Rows.{no_rows, shape_of, IsBlank, IsTable}
+use Rattle.bpf_shared.specs.Private.Rows.{no_rows, shape_of, IsBlank, IsTable}
 use Rattle.bpf_shared.proofs.plain.new_tables.Given as goal
 
 abbrev pub invariant-loop-map : goal.invariant-loop-map

@@ -1,5 +1,5 @@
 use Rattle.std.proofs.Common.{◌≡◌, true, ℕ, ◌<◌}
-use Rattle.bpf_shared.specs.Runs.{run_of, is_run}
+use Rattle.bpf_shared.specs.Private.Runs.{run_of, is_run}
 use Rattle.bpf_shared.proofs.table.go_on.Given as goal
 
 abbrev pub invariant-loop-cpu : goal.invariant-loop-cpu

@@ -1,7 +1,7 @@
 use Rattle.std.proofs.Common.{◌≡◌, length, map, sym, ◌∙◌, arith}
 use Rattle.std.proofs.Math.ListN.{get_or-map}
 use Rattle.std.proofs.lemmas.List.{ext_get_or, length-map}
-use Rattle.bpf_shared.specs.Runs.{no_runs, count_of}
+use Rattle.bpf_shared.specs.Private.Runs.{no_runs, count_of}
 use Rattle.bpf_shared.proofs.table.note_runs.Goals as goal
 
 pub returns : goal.returns

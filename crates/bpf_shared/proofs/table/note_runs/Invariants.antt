@@ -1,5 +1,5 @@
 use Rattle.std.proofs.Common.{◌≡◌, ℕ, ◌<◌, length, slice_index}
-use Rattle.bpf_shared.specs.Runs.{run_of}
+use Rattle.bpf_shared.specs.Private.Runs.{run_of}
 use Rattle.bpf_shared.proofs.table.note_runs.Given as goal
 
 abbrev pub invariant-loop-cpu : goal.invariant-loop-cpu

@@ -3,7 +3,7 @@ use Rattle.std.specs.Prelude.{slice_get, slice_set}
 use Rattle.std.proofs.lemmas.Option.{slice_get_read}
 use Rattle.bpf_shared.specs.Store.{put}
 use Rattle.bpf_shared.specs.declared.events.Span.{Span}
-use Rattle.bpf_shared.specs.Contents.{has_cpu, is_running, held_spans}
+use Rattle.bpf_shared.specs.PlainStore.{has_cpu, is_running, held_spans}
 use Rattle.bpf_shared.specs.declared.events.Event.TheVariants.{End}
 use Rattle.bpf_cpu.specs.declared.machine.lane.Lane.{Lane}
 use Rattle.bpf_cpu.specs.declared.machine.lane.Listed.{Listed}

@@ -1,6 +1,6 @@
 use Rattle.std.proofs.Common.{◌≡◌, ℕ, ◌≤◌, length, sym, ap, subst, ◌∙◌, arith}
 use Rattle.std.proofs.lemmas.Bool.{ltb-false}
-use Rattle.bpf_shared.specs.Contents.{has_cpu, is_running, held_spans}
+use Rattle.bpf_shared.specs.PlainStore.{has_cpu, is_running, held_spans}
 use Rattle.bpf_cpu.specs.declared.machine.lane.Lane.{Lane}
 use Rattle.bpf_cpu.specs.Machine.{MachineState}
 use Rattle.bpf_cpu.specs.Task.{Task, InHand, IsAt, IsFree, NoneWaits}

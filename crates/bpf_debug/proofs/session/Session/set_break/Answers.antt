@@ -1,6 +1,6 @@
 use Rattle.std.proofs.Common.{◌≡◌, ℕ, List, Some, sym, subst, ◌∙◌, map}
 use Rattle.std.specs.Prelude.{true, false, IfOk, string_bytes}
-use Rattle.bpf_shared.specs.Contents.{has_cpu}
+use Rattle.bpf_shared.specs.PlainStore.{has_cpu}
 use Rattle.bpf_debug.specs.Command.{Break}
 use Rattle.bpf_debug.specs.Session.{SessionState, Leaves, IsPc}
 use Rattle.std.proofs.Common.{Result, String, Global}

@@ -3,8 +3,8 @@ use Rattle.std.specs.Prelude.{Vec}
 use Rattle.std.specs.declared.alloc.Global.{Global}
 use Rattle.std.proofs.lemmas.List.{get_or_past}
 use Rattle.std.proofs.lemmas.Result.{IfOk-weaker}
-use Rattle.bpf_shared.specs.Rows.{Rows, no_rows}
-use Rattle.bpf_shared.specs.Contents.{Contents, rows, IsStore}
+use Rattle.bpf_shared.specs.Private.Rows.{Rows, no_rows}
+use Rattle.bpf_shared.specs.Private.Contents.{Contents, rows, IsStore}
 use Rattle.bpf_shared.specs.Listing.{pair_of}
 use Rattle.bpf_shared.specs.Private.Pairs.{AreRowPairs}
 use Rattle.bpf_shared.specs.Shows.{listed, Lists}

@@ -1,10 +1,10 @@
 use Rattle.std.proofs.Common.{◌≡◌, ℕ, ◌<◌, true, false, List, length, set, get_or, inl, inr, subst, ap, sym, ◌∙◌, arith}
 use Rattle.std.proofs.lemmas.List.{with_items_is, get_or_read, get_or-set_same, get_or-set_other, length-set}
 use Rattle.bpf_shared.specs.declared.runs.Runs.{Runs}
-use Rattle.bpf_shared.specs.Runs.{no_runs}
-use Rattle.bpf_shared.specs.Rows.{Rows, no_rows, Forgets, IsTable}
-use Rattle.bpf_shared.specs.Contents.{Contents, runs_of, has_cpu, is_running, IsStore}
-use Rattle.bpf_shared.specs.Changes.{IsAlike, Recounts}
+use Rattle.bpf_shared.specs.Private.Runs.{no_runs}
+use Rattle.bpf_shared.specs.Private.Rows.{Rows, no_rows, Forgets, IsTable}
+use Rattle.bpf_shared.specs.Private.Contents.{Contents, runs_of, has_cpu, is_running, IsStore}
+use Rattle.bpf_shared.specs.Private.Changes.{IsAlike, Recounts}
 use Rattle.bpf_shared.proofs.Puts.{equal_or_not}
 use Rattle.bpf_shared.proofs.Blocks.{below_or_same}
 use Rattle.bpf_shared.proofs.Counting.{served, anew_store, anew_alike}

@@ -1,5 +1,5 @@
 use Rattle.std.proofs.Common.{◌≡◌, ℕ, ◌<◌, ◌≤◌, length, slice_index_or}
-use Rattle.bpf_shared.specs.Rows.{no_rows, Forgets, IsTable}
+use Rattle.bpf_shared.specs.Private.Rows.{no_rows, Forgets, IsTable}
 use Rattle.bpf_shared.proofs.plain.PlainStore.make_countable.Given as goal
 
 abbrev pub invariant-loop-table : goal.invariant-loop-table

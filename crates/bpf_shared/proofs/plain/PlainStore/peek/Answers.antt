@@ -1,9 +1,9 @@
 use Rattle.std.proofs.Common.{◌≡◌, List, slice_index, subst, ap, sym, ◌∙◌}
 use Rattle.std.proofs.lemmas.Option.{IfSome_then}
 use Rattle.bpf_shared.specs.declared.runs.Runs.{Runs}
-use Rattle.bpf_shared.specs.Rows.{Rows, bytes_of, IsTakenRow}
-use Rattle.bpf_shared.specs.Contents.{Contents, rows, IsStore}
-use Rattle.bpf_shared.specs.Changes.{IsReach}
+use Rattle.bpf_shared.specs.Private.Rows.{Rows, bytes_of, IsTakenRow}
+use Rattle.bpf_shared.specs.Private.Contents.{Contents, rows, IsStore}
+use Rattle.bpf_shared.specs.Private.Changes.{IsReach}
 use Rattle.bpf_shared.proofs.Changing.{read_row}
 use Rattle.bpf_shared.proofs.Listing.{nothing_there, free_there, byte_there, if_none}
 use Rattle.bpf_shared.proofs.plain.PlainStore.peek.Goals as goal

@@ -1,7 +1,7 @@
 use Rattle.std.proofs.Common.{◌≡◌, ℕ, ◌-◌, ◌/◌, ◌%◌, ◌≤◌, List, length, get_or, subst, ap, ◌∙◌, arith}
 use Rattle.bpf_shared.specs.Shape.{element_stride}
-use Rattle.bpf_shared.specs.Rows.{Rows, no_rows}
-use Rattle.bpf_shared.specs.Contents.{Contents, rows, IsStore}
+use Rattle.bpf_shared.specs.Private.Rows.{Rows, no_rows}
+use Rattle.bpf_shared.specs.Private.Contents.{Contents, rows, IsStore}
 use Rattle.bpf_shared.proofs.Listing.{found_place, found_map}
 use Rattle.bpf_shared.proofs.plain.PlainStore.place.Goals as goal
 use Rattle.bpf_shared.proofs.plain.PlainStore.place.Goals.{else-element-elements-via-then-element-elements+else-offset-shape, else-element-elements-via-else-element-elements}

@@ -1,5 +1,5 @@
 use Rattle.std.proofs.Common.{◌≡◌, ℕ, ◌-◌, ◌/◌, ◌<◌, length, subst, sym}
-use Rattle.bpf_shared.specs.Contents.{rows, IsStore}
+use Rattle.bpf_shared.specs.Private.Contents.{rows, IsStore}
 use Rattle.bpf_shared.proofs.Changing.{read_row}
 use Rattle.bpf_shared.proofs.Places.{reached}
 use Rattle.bpf_shared.proofs.Accessing.{reach_facts}

@@ -1,8 +1,8 @@
 use Rattle.std.proofs.Common.{◌≡◌, ℕ, ◌<◌, Bool, true, length, subst, ap, sym, ◌∙◌, arith}
 use Rattle.std.proofs.lemmas.List.{get_or_read}
 use Rattle.bpf_shared.specs.declared.runs.Runs.{Runs}
-use Rattle.bpf_shared.specs.Runs.{no_runs}
-use Rattle.bpf_shared.specs.Contents.{Contents, runs_of, has_cpu}
+use Rattle.bpf_shared.specs.Private.Runs.{no_runs}
+use Rattle.bpf_shared.specs.Private.Contents.{Contents, runs_of, has_cpu}
 use Rattle.bpf_shared.proofs.Counting.{served, begun_calls, begun_running, begun_held, begun_same}
 use Rattle.bpf_shared.proofs.plain.PlainStoreShared.begin.Goals as goal
 

@@ -1,8 +1,8 @@
 use Rattle.std.proofs.Common.{◌≡◌, subst, ap, sym, ◌∙◌}
 use Rattle.bpf_shared.specs.declared.events.Event.TheVariants.{Delete}
 use Rattle.bpf_shared.specs.Passage.{Calls}
-use Rattle.bpf_shared.specs.Rows.{Rows, IsTable, TakesRow}
-use Rattle.bpf_shared.specs.Contents.{Contents, rows, shapes_of, has_cpu, is_running, held_spans, Passes, IsStore, with_table}
+use Rattle.bpf_shared.specs.Private.Rows.{Rows, IsTable, TakesRow}
+use Rattle.bpf_shared.specs.Private.Contents.{Contents, rows, shapes_of, has_cpu, is_running, held_spans, Passes, IsStore, with_table}
 use Rattle.bpf_shared.proofs.Changing.{map_there, read_row}
 use Rattle.bpf_shared.proofs.Settling.{Keeps, takes_calls, takes_keeps, keeps_store, keeps_held, keeps_shapes}
 use Rattle.bpf_shared.proofs.plain.PlainStoreShared.delete.Goals as goal

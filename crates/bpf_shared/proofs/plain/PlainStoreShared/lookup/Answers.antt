@@ -5,9 +5,9 @@ use Rattle.bpf_shared.specs.declared.events.Event.TheVariants.{Lookup}
 use Rattle.bpf_shared.specs.declared.runs.Runs.{Runs}
 use Rattle.bpf_shared.specs.Shape.{elements, element_span}
 use Rattle.bpf_shared.specs.Passage.{Calls, held_with}
-use Rattle.bpf_shared.specs.Runs.{no_runs}
-use Rattle.bpf_shared.specs.Rows.{Rows, key_of, IsLinked, IsTable, noted_row}
-use Rattle.bpf_shared.specs.Contents.{Contents, runs_of, rows, size_of, span_at, shapes_of, has_cpu, is_running, held_spans, Passes, IsStore, looked, with_table}
+use Rattle.bpf_shared.specs.Private.Runs.{no_runs}
+use Rattle.bpf_shared.specs.Private.Rows.{Rows, key_of, IsLinked, IsTable, noted_row}
+use Rattle.bpf_shared.specs.Private.Contents.{Contents, runs_of, rows, size_of, span_at, shapes_of, has_cpu, is_running, held_spans, Passes, IsStore, looked, with_table}
 use Rattle.bpf_shared.proofs.Counting.{served}
 use Rattle.bpf_shared.proofs.Changing.{map_there, shape_at, read_row}
 use Rattle.bpf_shared.proofs.Looking.{looked_calls, looked_held, looked_same, looked_store, unlooked_calls}

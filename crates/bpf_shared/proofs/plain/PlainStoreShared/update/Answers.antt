@@ -2,8 +2,8 @@ use Rattle.std.proofs.Common.{◌≡◌, subst, ap, sym, ◌∙◌}
 use Rattle.bpf_shared.specs.declared.events.Event.TheVariants.{Update}
 use Rattle.bpf_shared.specs.declared.shapes.MapShape.{MapShape}
 use Rattle.bpf_shared.specs.Passage.{Calls}
-use Rattle.bpf_shared.specs.Rows.{Rows, IsTable, PutsRow}
-use Rattle.bpf_shared.specs.Contents.{Contents, rows, shapes_of, has_cpu, is_running, held_spans, Passes, MayLack, IsStore, with_table}
+use Rattle.bpf_shared.specs.Private.Rows.{Rows, IsTable, PutsRow}
+use Rattle.bpf_shared.specs.Private.Contents.{Contents, rows, shapes_of, has_cpu, is_running, held_spans, Passes, MayLack, IsStore, with_table}
 use Rattle.bpf_shared.proofs.Changing.{map_there, same_shape, read_row}
 use Rattle.bpf_shared.proofs.Settling.{Keeps, puts_calls, puts_keeps, puts_lacks, keeps_store, keeps_held, keeps_shapes}
 use Rattle.bpf_shared.proofs.plain.PlainStoreShared.update.Goals as goal

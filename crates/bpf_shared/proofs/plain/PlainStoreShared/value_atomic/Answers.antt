@@ -3,8 +3,8 @@ use Rattle.bpf_base.specs.Bytes.{little_endian, low_bytes, part}
 use Rattle.bpf_shared.specs.declared.events.Event.TheVariants.{Atomic}
 use Rattle.bpf_shared.specs.Access.{bytes_in}
 use Rattle.bpf_shared.specs.Passage.{Calls}
-use Rattle.bpf_shared.specs.Rows.{Rows, bytes_of, IsTable, stored_row}
-use Rattle.bpf_shared.specs.Contents.{Contents, rows, shapes_of, has_cpu, is_running, held_spans, Passes, IsStore, with_table}
+use Rattle.bpf_shared.specs.Private.Rows.{Rows, bytes_of, IsTable, stored_row}
+use Rattle.bpf_shared.specs.Private.Contents.{Contents, rows, shapes_of, has_cpu, is_running, held_spans, Passes, IsStore, with_table}
 use Rattle.bpf_shared.proofs.Changing.{read_row, store-with}
 use Rattle.bpf_shared.proofs.Accessing.{is_at_value, fits, atomic_calls, store_held, store_shapes}
 use Rattle.bpf_shared.proofs.plain.PlainStoreShared.value_atomic.Goals as goal

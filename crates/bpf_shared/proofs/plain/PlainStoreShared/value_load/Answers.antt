@@ -3,8 +3,8 @@ use Rattle.bpf_base.specs.Bytes.{little_endian, part}
 use Rattle.bpf_shared.specs.declared.events.Event.TheVariants.{Load}
 use Rattle.bpf_shared.specs.Access.{bytes_in}
 use Rattle.bpf_shared.specs.Passage.{Calls}
-use Rattle.bpf_shared.specs.Rows.{Rows, bytes_of}
-use Rattle.bpf_shared.specs.Contents.{rows, has_cpu, Passes, IsStore}
+use Rattle.bpf_shared.specs.Private.Rows.{Rows, bytes_of}
+use Rattle.bpf_shared.specs.Private.Contents.{rows, has_cpu, Passes, IsStore}
 use Rattle.bpf_shared.proofs.Changing.{read_row}
 use Rattle.bpf_shared.proofs.Accessing.{is_at_value, fits, load_calls}
 use Rattle.bpf_shared.proofs.plain.PlainStoreShared.value_load.Goals as goal

@@ -3,8 +3,8 @@ use Rattle.bpf_base.specs.Bytes.{low_bytes}
 use Rattle.bpf_shared.specs.declared.events.Event.TheVariants.{Store}
 use Rattle.bpf_shared.specs.Access.{bytes_in}
 use Rattle.bpf_shared.specs.Passage.{Calls}
-use Rattle.bpf_shared.specs.Rows.{Rows, IsTable, stored_row}
-use Rattle.bpf_shared.specs.Contents.{Contents, rows, shapes_of, has_cpu, is_running, held_spans, Passes, IsStore, with_table}
+use Rattle.bpf_shared.specs.Private.Rows.{Rows, IsTable, stored_row}
+use Rattle.bpf_shared.specs.Private.Contents.{Contents, rows, shapes_of, has_cpu, is_running, held_spans, Passes, IsStore, with_table}
 use Rattle.bpf_shared.proofs.Changing.{read_row, store-with}
 use Rattle.bpf_shared.proofs.Accessing.{is_at_value, fits, store_calls, store_held, store_shapes}
 use Rattle.bpf_shared.proofs.plain.PlainStoreShared.value_store.Goals as goal

@@ -1,7 +1,7 @@
 use Rattle.std.proofs.Common.{◌≡◌, ℕ, ◌*◌, ◌<◌, List, length, sym, ap, subst, ◌∙◌}
 use Rattle.std.proofs.lemmas.Option.{IfSome_then}
 use Rattle.bpf_base.specs.Bytes.{part}
-use Rattle.bpf_shared.specs.Rows.{Rows, key_of, IsTable}
+use Rattle.bpf_shared.specs.Private.Rows.{Rows, key_of, IsTable}
 use Rattle.bpf_shared.specs.Private.Chains.{IsAt}
 use Rattle.bpf_shared.specs.Private.Home.{home_of}
 use Rattle.bpf_shared.specs.Private.Index.{IsIndexed}

@@ -1,7 +1,7 @@
 use Rattle.std.proofs.Common.{◌≡◌, ◌<◌, Bool, List, length, inl, inr, sym, ap, subst, ◌∙◌, arith}
 use Rattle.std.proofs.lemmas.Bool.{cases_lt}
 use Rattle.bpf_shared.specs.declared.runs.Runs.{Runs}
-use Rattle.bpf_shared.specs.Rows.{Rows, AreMarked, ArePassed, GoOn, IsTable}
+use Rattle.bpf_shared.specs.Private.Rows.{Rows, AreMarked, ArePassed, GoOn, IsTable}
 use Rattle.bpf_shared.proofs.Passing.{marked_passed, passed_on}
 use Rattle.bpf_shared.proofs.table.Table.first_open.Goals as goal
 

@@ -1,6 +1,6 @@
 use Rattle.std.proofs.Common.{◌≡◌, ◌<◌, Bool, true, false, IsTrue, List, length, slice_index_or, inl, sym, ap, subst, ◌∙◌, arith}
 use Rattle.std.proofs.lemmas.List.{get_or_read}
-use Rattle.bpf_shared.specs.Rows.{Rows, IsTable}
+use Rattle.bpf_shared.specs.Private.Rows.{Rows, IsTable}
 use Rattle.bpf_shared.proofs.table.Table.is_taken.Goals as goal
 
 pub returns-then-index : goal.returns-then-index

@@ -1,7 +1,7 @@
 use Rattle.std.proofs.Common.{◌≡◌, ℕ, ◌+◌, ◌<◌, Bool, true, false, inl, inr, List, length, get_or, set, sym, ap, subst, ◌∙◌, arith}
 use Rattle.std.proofs.lemmas.List.{get_or-set_same, get_or-set_other}
 use Rattle.std.proofs.lemmas.Grind.{common_steps}
-use Rattle.bpf_shared.specs.Rows.{Rows, ArePassed, IsTable, linked_count, linked_row}
+use Rattle.bpf_shared.specs.Private.Rows.{Rows, ArePassed, IsTable, linked_count, linked_row}
 use Rattle.bpf_shared.specs.Private.Index.{IsIndexed}
 use Rattle.bpf_shared.proofs.Passing.{linked_more_passed}
 use Rattle.bpf_shared.proofs.Puts.{equal_or_not}

@@ -1,5 +1,5 @@
 use Rattle.std.proofs.Common.{◌≡◌, Bool, true, false, List, length, slice_index_or, inl, inr, sym, ap, subst, ◌∙◌, arith}
-use Rattle.bpf_shared.specs.Rows.{Rows, IsTable, IsTakenRow}
+use Rattle.bpf_shared.specs.Private.Rows.{Rows, IsTable, IsTakenRow}
 use Rattle.bpf_shared.proofs.Puts.{equal_or_not}
 use Rattle.std.proofs.lemmas.Bool.{cases_lt}
 use Rattle.bpf_shared.proofs.table.Table.lowest_free.Goals as goal

@@ -1,5 +1,5 @@
 use Rattle.std.proofs.Common.{ℕ, ◌-◌, ◌<◌, length}
-use Rattle.bpf_shared.specs.Rows.{IsTakenRow}
+use Rattle.bpf_shared.specs.Private.Rows.{IsTakenRow}
 use Rattle.bpf_shared.proofs.table.Table.lowest_free.Given as goal
 
 abbrev pub invariant-loop-element : goal.invariant-loop-element

@@ -1,6 +1,6 @@
 use Rattle.std.proofs.Common.{◌≡◌, List, length, sym, ap, subst, ◌∙◌}
 use Rattle.bpf_shared.specs.declared.runs.Runs.{Runs}
-use Rattle.bpf_shared.specs.Rows.{Rows, IsTakenRow}
+use Rattle.bpf_shared.specs.Private.Rows.{Rows, IsTakenRow}
 use Rattle.bpf_shared.proofs.table.Table.pass.Goals as goal
 
 pub invariant_of-self : goal.invariant_of-self

@@ -3,7 +3,7 @@ use Rattle.std.proofs.lemmas.List.{get_or-set_other}
 use Rattle.std.proofs.lemmas.Grind.{common_steps}
 use Rattle.bpf_shared.specs.Shape.{elements}
 use Rattle.bpf_shared.specs.declared.runs.Runs.{Runs}
-use Rattle.bpf_shared.specs.Rows.{Rows, ArePassed, HasCurrentAt, IsTable, linked_count, unlinked_row}
+use Rattle.bpf_shared.specs.Private.Rows.{Rows, ArePassed, HasCurrentAt, IsTable, linked_count, unlinked_row}
 use Rattle.bpf_shared.specs.Private.Chains.{IsAt}
 use Rattle.bpf_shared.specs.Private.Index.{IsIndexed}
 use Rattle.bpf_shared.proofs.Passing.{unlinked_passed}

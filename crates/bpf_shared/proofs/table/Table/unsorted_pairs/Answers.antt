@@ -3,7 +3,7 @@ use Rattle.std.proofs.lemmas.List.{map-append}
 use Rattle.std.specs.Prelude.{Vec}
 use Rattle.std.specs.declared.alloc.Global.{Global}
 use Rattle.std.proofs.lemmas.List.{get_or_read}
-use Rattle.bpf_shared.specs.Rows.{Rows, IsTable, key_of, bytes_of}
+use Rattle.bpf_shared.specs.Private.Rows.{Rows, IsTable, key_of, bytes_of}
 use Rattle.bpf_shared.specs.Listing.{pair_of, row_pair}
 use Rattle.bpf_shared.specs.Private.Pairs.{ArePairsBelow}
 use Rattle.bpf_shared.proofs.Sorting.{pairs_more, pairs_past, pairs_all}

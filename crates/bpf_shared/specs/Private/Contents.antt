@@ -12,8 +12,8 @@ use Rattle.bpf_shared.specs.Store.{Plain, as_made, Finds}
 use Rattle.bpf_shared.specs.Choice.{IsShort}
 use Rattle.bpf_shared.specs.History.{PlainlyLegal}
 use Rattle.bpf_shared.specs.Passage.{same_span}
-use Rattle.bpf_shared.specs.Runs.{run_of, is_run}
-use Rattle.bpf_shared.specs.Rows.{Rows, no_rows, shape_of, key_of, bytes_of, run_looked_up, run_left, IsTable, IsLinked, linked_count, noted_row}
+use Rattle.bpf_shared.specs.Private.Runs.{run_of, is_run}
+use Rattle.bpf_shared.specs.Private.Rows.{Rows, no_rows, shape_of, key_of, bytes_of, run_looked_up, run_left, IsTable, IsLinked, linked_count, noted_row}
 use Rattle.bpf_shared.specs.Sound.{IsSoundStore}
 
 pub record Contents : Type 0 where

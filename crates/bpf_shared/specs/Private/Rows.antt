@@ -6,7 +6,7 @@ use Rattle.bpf_shared.specs.declared.events.MapAnswer.{MapAnswer}
 use Rattle.bpf_shared.specs.declared.events.MapAnswer.TheVariants.{Done, Invalid, Busy, Exists, Absent, Full, NoMemory}
 use Rattle.bpf_shared.specs.declared.runs.Runs.{Runs}
 use Rattle.bpf_shared.specs.declared.shapes.MapShape.{MapShape}
-use Rattle.bpf_shared.specs.Runs.{run_of, count_of, is_run}
+use Rattle.bpf_shared.specs.Private.Runs.{run_of, count_of, is_run}
 use Rattle.bpf_shared.specs.Shape.{IsMapShape, elements}
 
 -- the elements of a map, one behind the other

@@ -3,8 +3,8 @@ use Rattle.std.specs.Prelude.{◌≡◌, ℕ, ◌+◌, ◌<◌, length, slice_se
 use Rattle.bpf_shared.specs.declared.plain.Reach.{Reach}
 use Rattle.bpf_shared.specs.Shape.{IsIn}
 use Rattle.bpf_shared.specs.Store.{Plain}
-use Rattle.bpf_shared.specs.Rows.{Forgets, IsTable}
-use Rattle.bpf_shared.specs.Contents.{Contents, runs_of, rows, size_of, span_at, shapes_of, has_cpu, is_running, held_spans, StandsFor}
+use Rattle.bpf_shared.specs.Private.Rows.{Forgets, IsTable}
+use Rattle.bpf_shared.specs.Private.Contents.{Contents, runs_of, rows, size_of, span_at, shapes_of, has_cpu, is_running, held_spans, StandsFor}
 
 -- the address is in the span of some element
 abbrev pub IsAtValue : Contents → ℕ → Type 0
