@@ -15,7 +15,7 @@ use Rattle.bpf_text.specs.Laws.{CommentsSayNothing}
 use Rattle.bpf_disassembly.proofs.ReadBack.{fed_line}
 use Rattle.bpf_listing.specs.Laws.{ListingsAssembleAlike}
 use Rattle.bpf_listing.specs.Program.{place_comment}
-use Rattle.bpf_listing.specs.Source.{IsListing, behind_line}
+use Rattle.bpf_listing.specs.Source.{IsSourceListing, behind_line}
 
 -- ---- what stands behind a line has no line feed
 
@@ -103,7 +103,7 @@ one_line (b ∷ line) h = by_test (b == 10) refl (and_parts (in_line b) (in_line
     by_test false e f more = ap (onto_first b) more
 
 listed_lines : CommentsSayNothing → (pc : ℕ) (bytes : List ℕ) (lines : List (List ℕ)) (printed : List ℕ) (ss : List Source) → 0 < length lines → AreLone lines
-    → IsListing pc bytes lines printed → AreLines lines ss → AreLines (lines_of printed) ss
+    → IsSourceListing pc bytes lines printed → AreLines lines ss → AreLines (lines_of printed) ss
 listed_lines say pc bytes [] printed ss some lone listing read = absurd (omega arith)
 listed_lines say pc bytes (line ∷ lines) printed [] some lone listing read = absurd read
 listed_lines say pc bytes (line ∷ []) printed (s ∷ ss) some lone listing read =

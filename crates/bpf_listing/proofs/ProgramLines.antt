@@ -9,7 +9,7 @@ use Rattle.bpf_text.specs.Lines.{lines_of}
 use Rattle.bpf_disassembly.proofs.ReadBack.{end_reads, end_source, first_line, line_reads, line_source}
 use Rattle.bpf_listing.specs.Laws.{ProgramLinesAreAListing}
 use Rattle.bpf_listing.specs.Program.{place_comment, program_lines}
-use Rattle.bpf_listing.specs.Source.{IsListing, behind_line, feed_before}
+use Rattle.bpf_listing.specs.Source.{IsSourceListing, behind_line, feed_before}
 use Rattle.bpf_listing.proofs.SourceLines.{has_feed, has_place}
 
 some_words : (i : Insn) → words i ≢ 0
@@ -31,6 +31,6 @@ program_listed pc bytes (i ∷ is) h =
     ∙ ap (λ t. line_of i ++ t) (append_assoc place (codes "\n") rest)
     ∙ ap (λ b. line_of i ++ (b ++ (codes "\n" ++ rest))) (sym (has_place pc (words i) bytes (some_words i)))
     ∙ ap (λ f. line_of i ++ (behind ++ (f ++ rest))) (sym (has_feed (canonical is))) in
-    let listing : IsListing pc bytes (line_of i ∷ lines) (program_lines pc bytes (i ∷ is)) =
+    let listing : IsSourceListing pc bytes (line_of i ∷ lines) (program_lines pc bytes (i ∷ is)) =
     (line_source i, rest, line_reads i h.0.fits, printed, program_listed (pc + words i) (drop (8 * words i) bytes) is h.1) in
-    subst (λ ls. IsListing pc bytes ls (program_lines pc bytes (i ∷ is))) (sym (first_line i is h.0.fits)) listing
+    subst (λ ls. IsSourceListing pc bytes ls (program_lines pc bytes (i ∷ is))) (sym (first_line i is h.0.fits)) listing

@@ -4,7 +4,7 @@ use Rattle.std.proofs.lemmas.List.Splits.{length-slice_split}
 use Rattle.bpf_text.specs.Assembly.{IsLine, Source, words_of, label_of, unlabelled}
 use Rattle.bpf_text.specs.Lines.{lines_behind, lines_of, rest_size}
 use Rattle.bpf_listing.specs.Program.{place_comment}
-use Rattle.bpf_listing.specs.Source.{IsListing, behind_line, feed_before}
+use Rattle.bpf_listing.specs.Source.{IsSourceListing, behind_line, feed_before}
 
 -- a line of no bytes has neither label nor instruction
 abbrev empty_source : Source
@@ -33,12 +33,12 @@ has_feed text = feed_by (lines_of text) (omega (arith, length-slice_split (λ b.
 
 -- some lines were listed: whatever lists the others makes the listing whole
 pub record Listed (source bytes printed : List ℕ) (rest : Option (List ℕ)) (pc : ℕ) (left : List ℕ) : Type 0 where
-  pub whole : (more : List ℕ) → IsListing pc left (lines_behind rest) more → IsListing 0 bytes (lines_of source) (printed ++ more)
+  pub whole : (more : List ℕ) → IsSourceListing pc left (lines_behind rest) more → IsSourceListing 0 bytes (lines_of source) (printed ++ more)
   pub room : pc + 2 * rest_size rest ≤ 2 * length source + 2
 
 pub listed_start : (source bytes printed : List ℕ) → printed ≡ [] → Listed source bytes printed (Some source) 0 bytes
 listed_start source bytes printed none = record {
-  whole = λ more h. subst (λ (t : List ℕ). IsListing 0 bytes (lines_of source) (t ++ more)) (sym none) h;
+  whole = λ more h. subst (λ (t : List ℕ). IsSourceListing 0 bytes (lines_of source) (t ++ more)) (sym none) h;
   room = omega arith;
 }
 
@@ -53,18 +53,18 @@ listed_next source bytes printed now line behind pc size left first second old l
       let s = read.0 in
       let feed = feed_before (lines_behind behind) in
       let all = line ++ (behind_line pc size left ++ (feed ++ more)) in
-      let P : ℕ → Type 0 = λ n. IsListing (pc + n) (drop (8 * n) left) (lines_behind behind) more in
+      let P : ℕ → Type 0 = λ n. IsSourceListing (pc + n) (drop (8 * n) left) (lines_behind behind) more in
       let Q : ℕ → Type 0 = λ n. all ≡ line ++ (behind_line pc n left ++ (feed ++ more)) in
-      let listing : IsListing pc left (line ∷ lines_behind behind) all = (s, more, read.1, subst Q read.2 refl, subst P read.2 h) in
-      let whole = old.whole all (subst (λ ls. IsListing pc left ls all) (sym lines) listing) in
+      let listing : IsSourceListing pc left (line ∷ lines_behind behind) all = (s, more, read.1, subst Q read.2 refl, subst P read.2 h) in
+      let whole = old.whole all (subst (λ ls. IsSourceListing pc left ls all) (sym lines) listing) in
       let same : second ++ more ≡ printed ++ all =
       ap (λ t. t ++ more) (two ∙ ap (λ t. t ++ feed) one)
       ∙ append_assoc (printed ++ (line ++ behind_line pc size left)) feed more
       ∙ append_assoc printed (line ++ behind_line pc size left) (feed ++ more)
       ∙ ap (λ t. printed ++ t) (append_assoc line (behind_line pc size left) (feed ++ more)) in
-      subst (λ t. IsListing 0 bytes (lines_of source) t) (sym same) whole;
+      subst (λ t. IsSourceListing 0 bytes (lines_of source) t) (sym same) whole;
   room = omega (arith, old.room, shorter, small);
 }
 
-pub listed_end : (source bytes printed : List ℕ) (pc : ℕ) (left : List ℕ) → Listed source bytes printed None pc left → IsListing 0 bytes (lines_of source) printed
-listed_end source bytes printed pc left old = subst (λ t. IsListing 0 bytes (lines_of source) t) (append-nil printed) (old.whole [] refl)
+pub listed_end : (source bytes printed : List ℕ) (pc : ℕ) (left : List ℕ) → Listed source bytes printed None pc left → IsSourceListing 0 bytes (lines_of source) printed
+listed_end source bytes printed pc left old = subst (λ t. IsSourceListing 0 bytes (lines_of source) t) (append-nil printed) (old.whole [] refl)

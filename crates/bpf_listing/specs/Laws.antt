@@ -7,26 +7,26 @@ use Rattle.bpf_text.specs.Form.{canonical}
 use Rattle.bpf_text.specs.Lines.{lines_of}
 use Rattle.bpf_text.specs.declared.error.TextError.{TextError}
 use Rattle.bpf_listing.specs.Program.{program_lines}
-use Rattle.bpf_listing.specs.Source.{IsListing}
+use Rattle.bpf_listing.specs.Source.{IsSourceListing}
 
 -- lines have one listing alone
-abbrev pub ListingsAreDetermined : Type 0
-ListingsAreDetermined =
-    (pc : ℕ) (bytes : List ℕ) (lines : List (List ℕ)) (p q : List ℕ) → IsListing pc bytes lines p
-    → IsListing pc bytes lines q → p ≡ q
+abbrev pub SourceListingsAreDetermined : Type 0
+SourceListingsAreDetermined =
+    (pc : ℕ) (bytes : List ℕ) (lines : List (List ℕ)) (p q : List ℕ)
+    → IsSourceListing pc bytes lines p → IsSourceListing pc bytes lines q → p ≡ q
 
 -- the listing of a text stands for what the text stands for, instructions or a refusal, whatever
 -- words it shows
 abbrev pub ListingsAssembleAlike : Type 0
 ListingsAssembleAlike =
     (pc : ℕ) (bytes text listing : List ℕ) (r : Result (List Insn) TextError)
-    → IsListing pc bytes (lines_of text) listing → Assembles text r → Assembles listing r
+    → IsSourceListing pc bytes (lines_of text) listing → Assembles text r → Assembles listing r
 
 -- the lines of a program with their pcs and words are the listing of its canonical text
 abbrev pub ProgramLinesAreAListing : Type 0
 ProgramLinesAreAListing =
     (pc : ℕ) (bytes : List ℕ) (is : List Insn) → IsEncodedAs is bytes
-    → IsListing pc bytes (lines_of (canonical is)) (program_lines pc bytes is)
+    → IsSourceListing pc bytes (lines_of (canonical is)) (program_lines pc bytes is)
 
 -- and they stand for the instructions whose words they show
 abbrev pub ProgramLinesAssembleToTheirWords : Type 0

@@ -15,8 +15,8 @@ feed_before [] = []
 feed_before (line ∷ lines) = codes "\n"
 
 -- the lines as they are, each with what stands behind it, from a pc and its bytes on
-abbrev pub IsListing : (pc : ℕ) → (bytes : List ℕ) → (lines : List (List ℕ)) → List ℕ → Type 0
-IsListing pc bytes [] printed = printed ≡ []
-IsListing pc bytes (line ∷ lines) printed = (s : Source) × (more : List ℕ) × IsLine line s
+abbrev pub IsSourceListing : (pc : ℕ) → (bytes : List ℕ) → (lines : List (List ℕ)) → List ℕ → Type 0
+IsSourceListing pc bytes [] printed = printed ≡ []
+IsSourceListing pc bytes (line ∷ lines) printed = (s : Source) × (more : List ℕ) × IsLine line s
     × (printed ≡ line ++ (behind_line pc (words_of s.body) bytes ++ (feed_before lines ++ more)))
-    × IsListing (pc + words_of s.body) (drop (8 * words_of s.body) bytes) lines more
+    × IsSourceListing (pc + words_of s.body) (drop (8 * words_of s.body) bytes) lines more

@@ -1,11 +1,11 @@
 //! What follows from the definitions of listings.
 //!
 //! These functions do nothing: their contracts are the laws, which a proof cites.
-ghost use Rattle.bpf_listing.specs.Laws.{ListingsAreDetermined, ListingsAssembleAlike, ProgramLinesAreAListing, ProgramLinesAssembleToTheirWords};
+ghost use Rattle.bpf_listing.specs.Laws.{SourceListingsAreDetermined, ListingsAssembleAlike, ProgramLinesAreAListing, ProgramLinesAssembleToTheirWords};
 
 /// Lines have one listing alone.
 pub fn listings_are_determined()
-    ensures { ListingsAreDetermined }
+    ensures { SourceListingsAreDetermined }
 {}
 
 /// The listing of a text stands for what the text stands for, instructions or a refusal, whatever

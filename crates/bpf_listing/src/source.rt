@@ -5,7 +5,7 @@ ghost use Rattle.std.specs.Prelude.{◌≡◌, ◌∷◌, ◌++◌, ◌*◌, ◌
 ghost use Rattle.std.specs.Option.{option_copied};
 ghost use Rattle.bpf_text.specs.Assembly.{IsLine, Source, words_of};
 ghost use Rattle.bpf_text.specs.Lines.{lines_behind, lines_of, rest_size};
-ghost use Rattle.bpf_listing.specs.Source.{IsListing, behind_line, feed_before};
+ghost use Rattle.bpf_listing.specs.Source.{IsSourceListing, behind_line, feed_before};
 
 use crate::place::push_place;
 use bpf_text::{TextError, line_size};
@@ -85,7 +85,7 @@ fn behind_words(bytes: &[u8], size: usize) -> &[u8]
 /// bytes are those of the words. Fails by `OutOfMemory` alone.
 pub fn source_lines(alloc: Global, bytes: &[u8], source: &str) -> Result<String, TextError>
     ensures listed { IfOk result (λ text.
-        IsListing 0 bytes.now (lines_of source.now) (string_bytes text)) }
+        IsSourceListing 0 bytes.now (lines_of source.now) (string_bytes text)) }
     ensures memory { IsOkUnless result TextError.OutOfMemory }
 {
     let mut text = String::new(alloc);

@@ -21,7 +21,7 @@ use Rattle.bpf_text.specs.HexText.{IsHexOf}
 use Rattle.bpf_text.specs.declared.error.TextError.TheVariants as text_error
 use Rattle.bpf_text.specs.Lines.{lines_of}
 use Rattle.bpf_listing.specs.Program.{program_lines}
-use Rattle.bpf_listing.specs.Source.{IsListing}
+use Rattle.bpf_listing.specs.Source.{IsSourceListing}
 use Rattle.bpf_run.specs.Listing.{word_lines}
 use Rattle.bpf_command.specs.declared.command.Command.{Command}
 use Rattle.bpf_command.specs.declared.command.Command.TheVariants as command
@@ -72,7 +72,7 @@ RefusesAssembly text _ = ⊥
 -- and with `--listing`, the text's own lines with the pcs and the words behind them
 abbrev pub ShowsWords : (listing : Bool) → (text bytes printed : List ℕ) → Type 0
 ShowsWords false text bytes printed = printed ≡ word_lines (length bytes / 8) bytes
-ShowsWords true text bytes printed = IsListing 0 bytes (lines_of text) printed
+ShowsWords true text bytes printed = IsSourceListing 0 bytes (lines_of text) printed
 
 abbrev pub IsAssembled : (listing : Bool) → List ℕ → Reply → Type 0
 IsAssembled listing text (reply.Text printed) = (is : List Insn) × (bytes : List ℕ)

@@ -64,7 +64,7 @@ pub fn run_file_by_workers<T: Threads + Wait + Sync>(
 {
     let file = match file_in(alloc, text) {
         Ok(file) => file,
-        Err(refusal) => return Reply::Refused(refusal),
+        Err(reason) => return Reply::Refused(reason),
     };
     match run_by_workers(rt, alloc, file, workers, maps) {
         Ok(Report { text, stopped }) => Reply::Jobs(text, stopped),
