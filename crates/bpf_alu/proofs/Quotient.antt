@@ -9,7 +9,7 @@ use Rattle.std.proofs.lemmas.Int.{of_z-to_z}
 use Rattle.std.proofs.Math.Nat.{mod-eq_of_lt, div-le_self}
 use Rattle.bpf_alu.specs.Width.{low, signed, modulo}
 use Rattle.bpf_alu.specs.Arithmetic.{whole}
-use Rattle.bpf_insn.specs.declared.operation.AluOp.TheVariants.{Sdiv}
+use Rattle.bpf_insn.specs.declared.operation.arithmetic.AluOp.TheVariants.{Sdiv}
 
 -- a number whose size is below 2 ^ bits is its two's complement, modulo 2 ^ bits
 modulo-cast : (w : Number) (z : ℤ) → mag z < 2 ^ bits w → modulo w z ≡ cast_unsigned w z

@@ -2,11 +2,11 @@
 use Rattle.std.specs.Prelude.{ℕ, ◌/◌, ◌%◌, ◌*◌, ◌^◌, ◌==◌, ℤ, pos, neg_ℤ, ◌+ℤ◌, ◌-ℤ◌, if◌then◌else◌, bit_and, bit_or, bit_xor, int_div, int_rem}
 use Rattle.std.specs.Int.{Width as Number, w8, w16, w32, w64, int_div_euclid}
 use mir.Val.{bits}
-use Rattle.bpf_insn.specs.declared.operation.Width.{Width}
-use Rattle.bpf_insn.specs.declared.operation.AluOp.{AluOp}
-use Rattle.bpf_insn.specs.declared.operation.AluOp.TheVariants.{Add, Sub, Mul, Div, Sdiv, Or, And, Lsh, Rsh, Mod, Smod, Xor, Mov, Arsh}
-use Rattle.bpf_insn.specs.declared.operation.SignExtension.{SignExtension}
-use Rattle.bpf_insn.specs.declared.operation.SignExtension.TheVariants.{From8To32, From16To32, From8To64, From16To64, From32To64}
+use Rattle.bpf_insn.specs.declared.operation.widths.Width.{Width}
+use Rattle.bpf_insn.specs.declared.operation.arithmetic.AluOp.{AluOp}
+use Rattle.bpf_insn.specs.declared.operation.arithmetic.AluOp.TheVariants.{Add, Sub, Mul, Div, Sdiv, Or, And, Lsh, Rsh, Mod, Smod, Xor, Mov, Arsh}
+use Rattle.bpf_insn.specs.declared.operation.extensions.SignExtension.{SignExtension}
+use Rattle.bpf_insn.specs.declared.operation.extensions.SignExtension.TheVariants.{From8To32, From16To32, From8To64, From16To64, From32To64}
 use Rattle.bpf_alu.specs.Width.{numbers_of, low, signed, modulo}
 
 -- The whole number that an operation on a and b stands for, both below 2 ^ bits.

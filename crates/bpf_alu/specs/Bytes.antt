@@ -1,10 +1,10 @@
 -- The byte order instructions on a little-endian machine (RFC 9669, section 4.2).
 use Rattle.std.specs.Prelude.{ℕ, reverse}
 use Rattle.std.specs.Int.{Width as Number, w16, w32, w64, to_le_bytes, from_le_bytes}
-use Rattle.bpf_insn.specs.declared.operation.ByteSwap.{ByteSwap}
-use Rattle.bpf_insn.specs.declared.operation.ByteSwap.TheVariants.{ToLittle, ToBig, Reverse}
-use Rattle.bpf_insn.specs.declared.operation.SwapWidth.{SwapWidth}
-use Rattle.bpf_insn.specs.declared.operation.SwapWidth.TheVariants.{Bits16, Bits32, Bits64}
+use Rattle.bpf_insn.specs.declared.operation.swaps.ByteSwap.{ByteSwap}
+use Rattle.bpf_insn.specs.declared.operation.swaps.ByteSwap.TheVariants.{ToLittle, ToBig, Reverse}
+use Rattle.bpf_insn.specs.declared.operation.swaps.SwapWidth.{SwapWidth}
+use Rattle.bpf_insn.specs.declared.operation.swaps.SwapWidth.TheVariants.{Bits16, Bits32, Bits64}
 use Rattle.bpf_alu.specs.Width.{low}
 
 abbrev pub number_of_swap : SwapWidth → Number

@@ -1,9 +1,9 @@
 -- When a conditional jump is taken (RFC 9669, section 4.3).
 use Rattle.std.specs.Prelude.{ℕ, ◌==◌, Bool, not, nat_lt, nat_le, int_lt, int_le, bit_and}
 use Rattle.std.specs.Int.{Width as Number}
-use Rattle.bpf_insn.specs.declared.operation.Width.{Width}
-use Rattle.bpf_insn.specs.declared.operation.Condition.{Condition}
-use Rattle.bpf_insn.specs.declared.operation.Condition.TheVariants.{Eq, Gt, Ge, Set, Ne, Sgt, Sge, Lt, Le, Slt, Sle}
+use Rattle.bpf_insn.specs.declared.operation.widths.Width.{Width}
+use Rattle.bpf_insn.specs.declared.operation.conditions.Condition.{Condition}
+use Rattle.bpf_insn.specs.declared.operation.conditions.Condition.TheVariants.{Eq, Gt, Ge, Set, Ne, Sgt, Sge, Lt, Le, Slt, Sle}
 use Rattle.bpf_alu.specs.Width.{numbers_of, low, signed}
 
 -- whether a condition holds of a and b, both below 2 ^ bits

@@ -2,8 +2,8 @@
 use Rattle.std.specs.Prelude.{ℕ, ◌^◌, ◌%◌, ℤ, pos, unsigned_abs}
 use Rattle.std.specs.Int.{Width as Number, w32, w64, cast_signed, int_rem_euclid}
 use mir.Val.{bits}
-use Rattle.bpf_insn.specs.declared.operation.Width.{Width}
-use Rattle.bpf_insn.specs.declared.operation.Width.TheVariants.{Bits32, Bits64}
+use Rattle.bpf_insn.specs.declared.operation.widths.Width.{Width}
+use Rattle.bpf_insn.specs.declared.operation.widths.Width.TheVariants.{Bits32, Bits64}
 
 -- the numbers that a width works on
 abbrev pub numbers_of : Width → Number

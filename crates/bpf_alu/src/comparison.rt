@@ -2,7 +2,7 @@
 //! section 4.3).
 
 ghost use Rattle.std.specs.Prelude.{◌≡◌};
-ghost use Rattle.bpf_insn.specs.declared.operation.Width.TheVariants.{Bits32, Bits64};
+ghost use Rattle.bpf_insn.specs.declared.operation.widths.Width.TheVariants.{Bits32, Bits64};
 ghost use Rattle.bpf_alu.specs.Comparison.{holds};
 
 use crate::low::low32;

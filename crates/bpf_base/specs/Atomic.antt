@@ -1,15 +1,8 @@
 -- What the atomic operations do with a number in memory (RFC 9669, section 5.3).
 use Rattle.std.specs.Prelude.{ℕ, ◌+◌, ◌%◌, ◌==◌, bit_and, bit_or, bit_xor, if◌then◌else◌}
 use Rattle.bpf_base.specs.Bytes.{modulus}
-
--- the operations, whether or not they put the old number in a register
-pub data Change : Type 0 where
-  Add : Change
-  Or : Change
-  And : Change
-  Xor : Change
-  Exchange : Change
-  CompareExchange : Change
+use Rattle.bpf_base.specs.declared.atomic.Change.{Change}
+use Rattle.bpf_base.specs.declared.atomic.Change.TheVariants.{Add, Or, And, Xor, Exchange, CompareExchange}
 
 -- the number that is left where a number of n bytes stood; CMPXCHG alone looks at `expected`
 abbrev pub number_after : Change → ℕ → ℕ → ℕ → ℕ → ℕ

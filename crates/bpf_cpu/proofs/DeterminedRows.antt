@@ -5,9 +5,9 @@ use Rattle.std.proofs.lemmas.List.{length-take-le, length-replicate}
 use Rattle.std.proofs.lemmas.List.Elements.{All-push, All-take}
 use Rattle.std.proofs.lemmas.Bool.{false≢true}
 use Rattle.std.specs.Int.{w64, cast_unsigned}
-use Rattle.bpf_insn.specs.declared.operation.Width.{Width}
-use Rattle.bpf_insn.specs.declared.operation.AtomicOp.{AtomicOp}
-use Rattle.bpf_insn.specs.declared.operation.Size.{Size}
+use Rattle.bpf_insn.specs.declared.operation.widths.Width.{Width}
+use Rattle.bpf_insn.specs.declared.operation.atomics.AtomicOp.{AtomicOp}
+use Rattle.bpf_insn.specs.declared.operation.sizes.Size.{Size}
 use Rattle.bpf_insn.specs.declared.register.Reg.{Reg}
 use Rattle.bpf_insn.specs.declared.instruction.Insn.{Insn}
 use Rattle.bpf_insn.specs.declared.instruction.Insn.TheVariants as insn
@@ -23,7 +23,7 @@ use Rattle.bpf_base.specs.Bytes.{low_bytes}
 use Rattle.bpf_base.proofs.Lists.{same_last}
 use Rattle.bpf_mem.specs.Bytes.{length_of, size_of}
 use Rattle.bpf_mem.specs.Atomic.{number_left}
-use Rattle.bpf_loader.specs.Rows.{fetched_into}
+use Rattle.bpf_insn.specs.Atomic.{change_of, fetched_into}
 use Rattle.bpf_mem.specs.Memory.{Writes}
 use Rattle.bpf_mem.specs.Stack.{zeroed}
 use Rattle.bpf_mem.specs.Laws.{IsMemory, WritesAreDetermined}
@@ -37,7 +37,7 @@ use Rattle.bpf_helpers.specs.Laws.{AreAskedAlike}
 use Rattle.bpf_helpers.proofs.Determined.{calls_are_determined}
 use Rattle.bpf_cpu.proofs.Asking.{asks-nothing, asks-one}
 use Rattle.bpf_cpu.specs.Row.{Faults, Quiet, Jumps, JumpsIf, CallsLocal, Exits, Loads, Stores, Atomics, plain_size, extension_of, fetching, remembering, TakesResult, Helper}
-use Rattle.bpf_cpu.specs.Values.{asks_value, event_size_of, event_op_of, IsOdd, LoadsValue, StoresValue, ChangesValue, AsksValue}
+use Rattle.bpf_cpu.specs.Values.{asks_value, event_size_of, IsOdd, LoadsValue, StoresValue, ChangesValue, AsksValue}
 use Rattle.bpf_cpu.specs.Step.{Executes}
 
 -- the same end, with the memory of a CPU
@@ -237,7 +237,7 @@ module _ (law : WritesAreDetermined) (old new other : Cpu) (progress end : Progr
   value_changed w op s a events others (inl f) (inr k) = absurd (f.0 k.0)
   value_changed w op s a events others (inr j) (inl g) = absurd (g.0 j.0)
   value_changed w op s a events others (inr j) (inr k) =
-      let asked : ℕ → Event = λ n. event.Atomic a (event_size_of (size_of w)) (event_op_of op) (value old s) (slice_index old.registers 0) n in
+      let asked : ℕ → Event = λ n. event.Atomic a (event_size_of (size_of w)) (change_of op) (value old s) (slice_index old.registers 0) n in
       let done : ℕ → Cpu = λ n. record old { registers = fetching (fetched_into op s) n old.registers; pc = old.pc + 1 } in
       record {
         asks = asks-one events others (asked j.1.0) (asked k.1.0) j.1.1 k.1.1 refl;

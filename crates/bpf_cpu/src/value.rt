@@ -6,7 +6,7 @@ ghost use Rattle.bpf_shared.specs.Chain.{Chain};
 ghost use Rattle.bpf_mem.specs.Bytes.{length_of, size_of};
 ghost use Rattle.bpf_helpers.specs.Held.{AreHeld, is_covered, KeepsRun};
 ghost use Rattle.bpf_cpu.specs.Row.{Quiet};
-ghost use Rattle.bpf_cpu.specs.Values.{event_size_of, event_op_of, LoadsValue, StoresValue, ChangesValue};
+ghost use Rattle.bpf_cpu.specs.Values.{event_size_of, LoadsValue, StoresValue, ChangesValue};
 ghost use Rattle.bpf_cpu.specs.Step.{Executes};
 ghost use Rattle.bpf_cpu.specs.State.{with_register};
 ghost use Rattle.bpf_cpu.specs.Private.Execute.{progress_of};
@@ -29,20 +29,6 @@ fn event_size_of(size: Size) -> bpf_shared::Size
         Size::Half => bpf_shared::Size::Half,
         Size::Word => bpf_shared::Size::Word,
         Size::Double => bpf_shared::Size::Double,
-    }
-}
-
-/// An operation as the store's calls name it, fetching or not.
-fn event_op_of(op: AtomicOp) -> bpf_shared::AtomicOp
-    ensures { result ≡ event_op_of op }
-{
-    match op {
-        AtomicOp::Add | AtomicOp::FetchAdd => bpf_shared::AtomicOp::Add,
-        AtomicOp::Or | AtomicOp::FetchOr => bpf_shared::AtomicOp::Or,
-        AtomicOp::And | AtomicOp::FetchAnd => bpf_shared::AtomicOp::And,
-        AtomicOp::Xor | AtomicOp::FetchXor => bpf_shared::AtomicOp::Xor,
-        AtomicOp::Exchange => bpf_shared::AtomicOp::Exchange,
-        AtomicOp::CompareExchange => bpf_shared::AtomicOp::CompareExchange,
     }
 }
 
@@ -174,7 +160,7 @@ impl Cpu {
                     self.number,
                     place,
                     event_size_of(size),
-                    event_op_of(op),
+                    op.change(),
                     operand,
                     expected,
                 );

@@ -4,7 +4,7 @@ use Rattle.std.specs.Prelude.{ℤ, pos, negsuc}
 use Rattle.std.specs.List.{list_all}
 use Rattle.std.proofs.lemmas.Bool.{and_parts}
 use Rattle.bpf_insn.specs.declared.register.Reg.{Reg}
-use Rattle.bpf_insn.specs.declared.operation.Width.{Width}
+use Rattle.bpf_insn.specs.declared.operation.widths.Width.{Width}
 use Rattle.bpf_spelling.specs.declared.keywords.Keyword.TheVariants as key
 use Rattle.bpf_spelling.specs.declared.signs.Sign.TheVariants as sign
 use Rattle.bpf_spelling.specs.Token.{Tok, Register, Word, Mark}
@@ -16,12 +16,12 @@ use Rattle.std.specs.Int.{w16, w32}
 use Rattle.std.proofs.lemmas.Int.{ints}
 use Rattle.bpf_insn.specs.Encoding.{Fits}
 use Rattle.bpf_insn.specs.Table.{words}
-use Rattle.bpf_insn.specs.declared.operation.AluOp.{AluOp}
-use Rattle.bpf_insn.specs.declared.operation.AluOp.TheVariants as alu
-use Rattle.bpf_insn.specs.declared.operation.Condition.{Condition}
-use Rattle.bpf_insn.specs.declared.operation.Condition.TheVariants as test
-use Rattle.bpf_insn.specs.declared.operation.AtomicOp.{AtomicOp}
-use Rattle.bpf_insn.specs.declared.operation.AtomicOp.TheVariants as atomic
+use Rattle.bpf_insn.specs.declared.operation.arithmetic.AluOp.{AluOp}
+use Rattle.bpf_insn.specs.declared.operation.arithmetic.AluOp.TheVariants as alu
+use Rattle.bpf_insn.specs.declared.operation.conditions.Condition.{Condition}
+use Rattle.bpf_insn.specs.declared.operation.conditions.Condition.TheVariants as test
+use Rattle.bpf_insn.specs.declared.operation.atomics.AtomicOp.{AtomicOp}
+use Rattle.bpf_insn.specs.declared.operation.atomics.AtomicOp.TheVariants as atomic
 use Rattle.bpf_insn.specs.declared.instruction.Operand.{Operand}
 use Rattle.bpf_insn.specs.declared.instruction.Operand.TheVariants as operand
 use Rattle.bpf_insn.specs.declared.instruction.Insn.{Insn}

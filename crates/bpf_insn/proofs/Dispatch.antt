@@ -5,24 +5,24 @@ use Rattle.bpf_insn.specs.Refusal.{IsOfRow}
 use Rattle.bpf_insn.specs.Private.Lookup.{alu_op_at, extension_at, byte_swap_at, swap_width_at, condition_at, size_at, signed_size_at, atomic_width_at, atomic_op_at}
 use Rattle.bpf_insn.specs.Private.Candidate.{dst_of, src_of, offset_of, imm_of, high_of, alu_at, swap_bytes_at, arithmetic_at, jump_if_at, jumps_at, loads_at, immediate_stores_at, stores_at, candidate_at}
 use Rattle.bpf_insn.specs.declared.register.Reg.{Reg}
-use Rattle.bpf_insn.specs.declared.operation.Width.{Width}
-use Rattle.bpf_insn.specs.declared.operation.Width.TheVariants.{Bits32, Bits64}
-use Rattle.bpf_insn.specs.declared.operation.AluOp.{AluOp}
-use Rattle.bpf_insn.specs.declared.operation.AluOp.TheVariants as alu
-use Rattle.bpf_insn.specs.declared.operation.Condition.{Condition}
-use Rattle.bpf_insn.specs.declared.operation.Condition.TheVariants as condition
-use Rattle.bpf_insn.specs.declared.operation.SignExtension.{SignExtension}
-use Rattle.bpf_insn.specs.declared.operation.SignExtension.TheVariants.{From8To32}
-use Rattle.bpf_insn.specs.declared.operation.ByteSwap.{ByteSwap}
-use Rattle.bpf_insn.specs.declared.operation.ByteSwap.TheVariants.{ToLittle, ToBig, Reverse}
-use Rattle.bpf_insn.specs.declared.operation.SwapWidth.{SwapWidth}
-use Rattle.bpf_insn.specs.declared.operation.SwapWidth.TheVariants as swap_width
-use Rattle.bpf_insn.specs.declared.operation.Size.{Size}
-use Rattle.bpf_insn.specs.declared.operation.Size.TheVariants as size
-use Rattle.bpf_insn.specs.declared.operation.SignedSize.{SignedSize}
-use Rattle.bpf_insn.specs.declared.operation.SignedSize.TheVariants as signed_size
-use Rattle.bpf_insn.specs.declared.operation.AtomicOp.{AtomicOp}
-use Rattle.bpf_insn.specs.declared.operation.AtomicOp.TheVariants as atomic
+use Rattle.bpf_insn.specs.declared.operation.widths.Width.{Width}
+use Rattle.bpf_insn.specs.declared.operation.widths.Width.TheVariants.{Bits32, Bits64}
+use Rattle.bpf_insn.specs.declared.operation.arithmetic.AluOp.{AluOp}
+use Rattle.bpf_insn.specs.declared.operation.arithmetic.AluOp.TheVariants as alu
+use Rattle.bpf_insn.specs.declared.operation.conditions.Condition.{Condition}
+use Rattle.bpf_insn.specs.declared.operation.conditions.Condition.TheVariants as condition
+use Rattle.bpf_insn.specs.declared.operation.extensions.SignExtension.{SignExtension}
+use Rattle.bpf_insn.specs.declared.operation.extensions.SignExtension.TheVariants.{From8To32}
+use Rattle.bpf_insn.specs.declared.operation.swaps.ByteSwap.{ByteSwap}
+use Rattle.bpf_insn.specs.declared.operation.swaps.ByteSwap.TheVariants.{ToLittle, ToBig, Reverse}
+use Rattle.bpf_insn.specs.declared.operation.swaps.SwapWidth.{SwapWidth}
+use Rattle.bpf_insn.specs.declared.operation.swaps.SwapWidth.TheVariants as swap_width
+use Rattle.bpf_insn.specs.declared.operation.sizes.Size.{Size}
+use Rattle.bpf_insn.specs.declared.operation.sizes.Size.TheVariants as size
+use Rattle.bpf_insn.specs.declared.operation.sizes.SignedSize.{SignedSize}
+use Rattle.bpf_insn.specs.declared.operation.sizes.SignedSize.TheVariants as signed_size
+use Rattle.bpf_insn.specs.declared.operation.atomics.AtomicOp.{AtomicOp}
+use Rattle.bpf_insn.specs.declared.operation.atomics.AtomicOp.TheVariants as atomic
 use Rattle.bpf_insn.specs.declared.instruction.Operand.TheVariants.{Immediate, Register}
 use Rattle.bpf_insn.specs.declared.instruction.Insn.{Insn}
 use Rattle.bpf_insn.specs.declared.instruction.Insn.TheVariants as insn

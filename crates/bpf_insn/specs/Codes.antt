@@ -1,23 +1,22 @@
--- RFC 9669, sections 3 to 5: the numbers by which words name operations.
+-- RFC 9669, sections 3 to 5: the numbers by which words name operations (Atomic has those of the
+-- atomic ones).
 use Rattle.std.specs.Prelude.{ℕ, ◌+◌, ◌*◌}
-use Rattle.bpf_insn.specs.declared.operation.Width.{Width}
-use Rattle.bpf_insn.specs.declared.operation.Width.TheVariants.{Bits32, Bits64}
-use Rattle.bpf_insn.specs.declared.operation.AluOp.{AluOp}
-use Rattle.bpf_insn.specs.declared.operation.AluOp.TheVariants as alu
-use Rattle.bpf_insn.specs.declared.operation.Condition.{Condition}
-use Rattle.bpf_insn.specs.declared.operation.Condition.TheVariants as condition
-use Rattle.bpf_insn.specs.declared.operation.SignExtension.{SignExtension}
-use Rattle.bpf_insn.specs.declared.operation.SignExtension.TheVariants.{From8To32, From16To32, From8To64, From16To64, From32To64}
-use Rattle.bpf_insn.specs.declared.operation.ByteSwap.{ByteSwap}
-use Rattle.bpf_insn.specs.declared.operation.ByteSwap.TheVariants.{ToLittle, ToBig, Reverse}
-use Rattle.bpf_insn.specs.declared.operation.SwapWidth.{SwapWidth}
-use Rattle.bpf_insn.specs.declared.operation.SwapWidth.TheVariants as swap_width
-use Rattle.bpf_insn.specs.declared.operation.Size.{Size}
-use Rattle.bpf_insn.specs.declared.operation.Size.TheVariants as size
-use Rattle.bpf_insn.specs.declared.operation.SignedSize.{SignedSize}
-use Rattle.bpf_insn.specs.declared.operation.SignedSize.TheVariants as signed_size
-use Rattle.bpf_insn.specs.declared.operation.AtomicOp.{AtomicOp}
-use Rattle.bpf_insn.specs.declared.operation.AtomicOp.TheVariants as atomic
+use Rattle.bpf_insn.specs.declared.operation.widths.Width.{Width}
+use Rattle.bpf_insn.specs.declared.operation.widths.Width.TheVariants.{Bits32, Bits64}
+use Rattle.bpf_insn.specs.declared.operation.arithmetic.AluOp.{AluOp}
+use Rattle.bpf_insn.specs.declared.operation.arithmetic.AluOp.TheVariants as alu
+use Rattle.bpf_insn.specs.declared.operation.conditions.Condition.{Condition}
+use Rattle.bpf_insn.specs.declared.operation.conditions.Condition.TheVariants as condition
+use Rattle.bpf_insn.specs.declared.operation.extensions.SignExtension.{SignExtension}
+use Rattle.bpf_insn.specs.declared.operation.extensions.SignExtension.TheVariants.{From8To32, From16To32, From8To64, From16To64, From32To64}
+use Rattle.bpf_insn.specs.declared.operation.swaps.ByteSwap.{ByteSwap}
+use Rattle.bpf_insn.specs.declared.operation.swaps.ByteSwap.TheVariants.{ToLittle, ToBig, Reverse}
+use Rattle.bpf_insn.specs.declared.operation.swaps.SwapWidth.{SwapWidth}
+use Rattle.bpf_insn.specs.declared.operation.swaps.SwapWidth.TheVariants as swap_width
+use Rattle.bpf_insn.specs.declared.operation.sizes.Size.{Size}
+use Rattle.bpf_insn.specs.declared.operation.sizes.Size.TheVariants as size
+use Rattle.bpf_insn.specs.declared.operation.sizes.SignedSize.{SignedSize}
+use Rattle.bpf_insn.specs.declared.operation.sizes.SignedSize.TheVariants as signed_size
 
 -- ---- opcodes (sections 3.3, 4 and 5)
 
@@ -165,16 +164,3 @@ signed_mode = 4
 
 abbrev pub atomic_mode : ℕ
 atomic_mode = 6
-
--- what an atomic operation does is said by the immediate; FETCH is its lowest bit
-abbrev pub atomic_code : AtomicOp → ℕ
-atomic_code atomic.Add = 0x00
-atomic_code atomic.Or = 0x40
-atomic_code atomic.And = 0x50
-atomic_code atomic.Xor = 0xa0
-atomic_code atomic.FetchAdd = 0x01
-atomic_code atomic.FetchOr = 0x41
-atomic_code atomic.FetchAnd = 0x51
-atomic_code atomic.FetchXor = 0xa1
-atomic_code atomic.Exchange = 0xe1
-atomic_code atomic.CompareExchange = 0xf1

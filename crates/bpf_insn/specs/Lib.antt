@@ -1,5 +1,6 @@
 pub mod Register
 pub mod Codes
+pub mod Atomic
 pub mod Table
 pub mod Encoding
 pub mod First

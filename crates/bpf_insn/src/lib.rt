@@ -21,6 +21,7 @@ pub use encoder::encode;
 pub use error::InsnError;
 pub use instruction::{Insn, Operand};
 pub use operation::{
-    AluOp, AtomicOp, ByteSwap, Condition, SignExtension, SignedSize, Size, SwapWidth, Width,
+    ALU_OPS, ATOMIC_OPS, AluOp, AtomicOp, ByteSwap, CONDITIONS, Condition, SignExtension,
+    SignedSize, Size, SwapWidth, Width,
 };
 pub use register::Reg;

@@ -1,26 +1,11 @@
 -- What each row of the table (RFC 9669, sections 4 and 5) means for the soundness of a program.
 use Rattle.std.specs.Prelude.{ℕ, ◌≡◌, ◌⊎◌, ℤ, Bool, true, false, if◌then◌else◌, Option, Some, None}
 use Rattle.bpf_insn.specs.Table.{words}
+use Rattle.bpf_insn.specs.Atomic.{fetched_into}
 use Rattle.bpf_insn.specs.declared.register.Reg.{Reg}
 use Rattle.bpf_insn.specs.declared.register.Reg.TheVariants.{R0}
-use Rattle.bpf_insn.specs.declared.operation.AtomicOp.{AtomicOp}
-use Rattle.bpf_insn.specs.declared.operation.AtomicOp.TheVariants as atomic
 use Rattle.bpf_insn.specs.declared.instruction.Insn.{Insn}
 use Rattle.bpf_insn.specs.declared.instruction.Insn.TheVariants as insn
-
--- an atomic operation with FETCH, and XCHG, put the old value in src; CMPXCHG puts it in R0
--- (section 5.3)
-abbrev pub fetched_into : AtomicOp → Reg → Option Reg
-fetched_into atomic.Add src = None
-fetched_into atomic.Or src = None
-fetched_into atomic.And src = None
-fetched_into atomic.Xor src = None
-fetched_into atomic.FetchAdd src = Some src
-fetched_into atomic.FetchOr src = Some src
-fetched_into atomic.FetchAnd src = Some src
-fetched_into atomic.FetchXor src = Some src
-fetched_into atomic.Exchange src = Some src
-fetched_into atomic.CompareExchange src = Some R0
 
 -- the register that the instruction puts its result in
 abbrev pub destination : Insn → Option Reg

@@ -1,26 +1,10 @@
 //! What the rows of the table mean for the checks.
 
 ghost use Rattle.std.specs.Prelude.{◌≡◌, ◌↔◌, IsTrue};
-ghost use Rattle.bpf_loader.specs.Rows.{fetched_into, destination, jump_offset, goes_on, helper_of, map_of, IsHelper};
+ghost use Rattle.bpf_loader.specs.Rows.{destination, jump_offset, goes_on, helper_of, map_of, IsHelper};
 
 use bpf_insn::instruction::Insn;
-use bpf_insn::operation::AtomicOp;
 use bpf_insn::register::Reg;
-
-/// The register that an atomic operation puts the old value in.
-fn fetched_into(op: AtomicOp, src: Reg) -> Option<Reg>
-    ensures { result ≡ fetched_into op src }
-{
-    match op {
-        AtomicOp::Add | AtomicOp::Or | AtomicOp::And | AtomicOp::Xor => None,
-        AtomicOp::FetchAdd
-        | AtomicOp::FetchOr
-        | AtomicOp::FetchAnd
-        | AtomicOp::FetchXor
-        | AtomicOp::Exchange => Some(src),
-        AtomicOp::CompareExchange => Some(Reg::R0),
-    }
-}
 
 /// The register that an instruction puts its result in.
 pub fn destination(insn: Insn) -> Option<Reg>
@@ -35,7 +19,7 @@ pub fn destination(insn: Insn) -> Option<Reg>
         | Insn::LoadSigned { dst, .. }
         | Insn::LoadNumber { dst, .. }
         | Insn::LoadMap { dst, .. } => Some(dst),
-        Insn::Atomic { op, src, .. } => fetched_into(op, src),
+        Insn::Atomic { op, src, .. } => op.fetched_into(src),
         Insn::CallHelper { .. } => Some(Reg::R0),
         _ => None,
     }

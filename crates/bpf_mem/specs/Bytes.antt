@@ -1,9 +1,9 @@
 -- How many bytes accesses have.
 use Rattle.std.specs.Prelude.{ℕ}
-use Rattle.bpf_insn.specs.declared.operation.Size.{Size}
-use Rattle.bpf_insn.specs.declared.operation.Size.TheVariants.{Byte, Half, Word, Double}
-use Rattle.bpf_insn.specs.declared.operation.Width.{Width}
-use Rattle.bpf_insn.specs.declared.operation.Width.TheVariants.{Bits32, Bits64}
+use Rattle.bpf_insn.specs.declared.operation.sizes.Size.{Size}
+use Rattle.bpf_insn.specs.declared.operation.sizes.Size.TheVariants.{Byte, Half, Word, Double}
+use Rattle.bpf_insn.specs.declared.operation.widths.Width.{Width}
+use Rattle.bpf_insn.specs.declared.operation.widths.Width.TheVariants.{Bits32, Bits64}
 
 -- how many bytes a size has (RFC 9669, section 5)
 abbrev pub length_of : Size → ℕ

@@ -8,9 +8,9 @@ use Rattle.std.specs.List.{count_by}
 use Rattle.bpf_shared.specs.declared.events.Span.{Span}
 use Rattle.bpf_shared.specs.declared.events.Size.{Size}
 use Rattle.bpf_shared.specs.declared.events.Size.TheVariants.{Byte, Half, Word, Double}
-use Rattle.bpf_shared.specs.declared.events.AtomicOp.{AtomicOp}
+use Rattle.bpf_base.specs.declared.atomic.Change.{Change}
 use Rattle.bpf_shared.specs.declared.events.Event.TheVariants.{Load, Store, Atomic}
-use Rattle.bpf_shared.specs.Access.{bytes_in, change_of}
+use Rattle.bpf_shared.specs.Access.{bytes_in}
 use Rattle.bpf_shared.specs.Shape.{elements, element_span, element_stride, IsIn, Covers}
 use Rattle.bpf_shared.specs.Store.{Plain, Value, put, Finds}
 use Rattle.bpf_shared.specs.Events.{Reaches, number_in, after_write}
@@ -244,7 +244,7 @@ module _ (p : Contents) (is : IsStore p) (c a : ℕ) (size : Size) (place : IsHe
     stored_stands word s so h,
   ))
 
-  pub atomic_calls : (op : AtomicOp) (operand expected found word : ℕ) → found ≡ little_endian (part (bytes_of (rows p m) i) o (bytes_in size)) → word ≡ number_after (change_of op) (bytes_in size) found operand expected → is_running p c ≡ true
+  pub atomic_calls : (op : Change) (operand expected found word : ℕ) → found ≡ little_endian (part (bytes_of (rows p m) i) o (bytes_in size)) → word ≡ number_after op (bytes_in size) found operand expected → is_running p c ≡ true
       → Calls (Passes p (with_table p m (stored_row i o (low_bytes (bytes_in size) word) (rows p m)))) (has_cpu p) c (Atomic a size op operand expected found)
   atomic_calls op operand expected found word is_found is_word going = calls p (with_table p m (stored_row i o (low_bytes (bytes_in size) word) (rows p m))) c (Atomic a size op operand expected found) (λ s so h. (
     after_write s (h.number m i) a (bytes_in size) word,

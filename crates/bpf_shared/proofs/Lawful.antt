@@ -9,7 +9,7 @@ use Rattle.std.specs.Ordering.{nat_cmp, eq_by_cmp, is_eq}
 use Rattle.std.specs.Cmp.{tied_itself}
 use Rattle.std.specs.Cmp.Lexicographic.{slice_cmp}
 use Rattle.bpf_shared.specs.declared.events.Span.{Span}
-use Rattle.bpf_shared.specs.declared.events.AtomicOp.{AtomicOp}
+use Rattle.bpf_base.specs.declared.atomic.Change.{Change}
 use Rattle.bpf_shared.specs.declared.events.Size.{Size}
 use Rattle.bpf_shared.specs.declared.events.Size.TheVariants.{Byte, Half, Word, Double}
 use Rattle.bpf_shared.specs.declared.events.Event.{Event}
@@ -23,7 +23,7 @@ use Rattle.bpf_base.specs.Bytes.{little_endian, low_bytes, part, with_part}
 use Rattle.bpf_base.specs.Atomic.{number_after}
 use Rattle.bpf_base.proofs.Numbers.{length-low_bytes}
 use Rattle.bpf_base.proofs.Parts.{part-with_part}
-use Rattle.bpf_shared.specs.Access.{bytes_in, change_of}
+use Rattle.bpf_shared.specs.Access.{bytes_in}
 use Rattle.bpf_shared.specs.Store.{Keys, Value, Plain}
 use Rattle.bpf_shared.specs.Events.{after_lookup, refusals, after_update, Updates, Deletes, Reaches, after_write, number_in, Allowed}
 use Rattle.bpf_shared.specs.Choice.{IsShort, IsLowestFree, Chosen, PlainlyAllowed}
@@ -278,14 +278,14 @@ module _ (s : Plain) (so : IsSoundStore s) (c : ℕ) (at : ℕ) (size : Size) wh
   stores_once : (t u : Plain) (x : ℕ) → Allowed s c (Store at size x) t → Allowed s c (Store at size x) u → t ≡ u
   stores_once t u x p q = p.1.2 ∙ (ap (λ (v : ℕ). after_write s v at (bytes_in size) x) (sym (one_reached p.1.0 q.1.0 p.1.1 q.1.1)) ∙ sym q.1.2)
 
-  atomics_once : (t u : Plain) (op : AtomicOp) (operand expected x y : ℕ) → Allowed s c (Atomic at size op operand expected x) t → Allowed s c (Atomic at size op operand expected y) u → (x ≡ y) × (t ≡ u)
+  atomics_once : (t u : Plain) (op : Change) (operand expected x y : ℕ) → Allowed s c (Atomic at size op operand expected x) t → Allowed s c (Atomic at size op operand expected y) u → (x ≡ y) × (t ≡ u)
   atomics_once t u op operand expected x y p q =
       let reached = one_reached p.1.0 q.1.0 p.1.1 q.1.1 in
       let found : x ≡ y = p.1.2 ∙ (ap (λ (v : ℕ). number_in s v at (bytes_in size)) (sym reached) ∙ sym q.1.2) in (
         found,
         p.1.3
-            ∙ (ap (λ (z : ℕ). after_write s p.1.0 at (bytes_in size) (number_after (change_of op) (bytes_in size) z operand expected)) found
-            ∙ (ap (λ (v : ℕ). after_write s v at (bytes_in size) (number_after (change_of op) (bytes_in size) y operand expected)) (sym reached) ∙ sym q.1.3)),
+            ∙ (ap (λ (z : ℕ). after_write s p.1.0 at (bytes_in size) (number_after op (bytes_in size) z operand expected)) found
+            ∙ (ap (λ (v : ℕ). after_write s v at (bytes_in size) (number_after op (bytes_in size) y operand expected)) (sym reached) ∙ sym q.1.3)),
       )
 
 -- the same call, with the reply of another event

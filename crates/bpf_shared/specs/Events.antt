@@ -11,7 +11,7 @@ use Rattle.bpf_shared.specs.First.{first_of}
 use Rattle.bpf_shared.specs.Shape.{IsMap, IsKeyOf, elements, element_span, IsApart, Covers}
 use Rattle.bpf_base.specs.Bytes.{little_endian, low_bytes, part, with_part}
 use Rattle.bpf_base.specs.Atomic.{number_after}
-use Rattle.bpf_shared.specs.Access.{bytes_in, change_of}
+use Rattle.bpf_shared.specs.Access.{bytes_in}
 use Rattle.bpf_shared.specs.Store.{Value, Plain, put, never, IsLive}
 
 -- ---- runs
@@ -139,7 +139,7 @@ Does s c (Store a size x) t =
 Does s c (Atomic a size op operand expected found) t =
     (v : ℕ) × Reaches s c v a (bytes_in size) × (found ≡ number_in s v a (bytes_in size))
     × (t ≡ after_write s v a (bytes_in size)
-    (number_after (change_of op) (bytes_in size) found operand expected))
+    (number_after op (bytes_in size) found operand expected))
 
 -- what the plain store allows: a run begins where there is none, all else happens in a run
 abbrev pub Allowed : Plain → ℕ → Event → Plain → Type 0

@@ -2,7 +2,7 @@
 ghost use Rattle.std.specs.Prelude.{◌≡◌, ◌+◌, ◌<◌, ◌≤◌, length};
 ghost use Rattle.bpf_base.specs.Bytes.{modulus, little_endian, low_bytes, part, with_part};
 ghost use Rattle.bpf_base.specs.Atomic.{number_after};
-ghost use Rattle.bpf_shared.specs.Access.{bytes_in, change_of};
+ghost use Rattle.bpf_shared.specs.Access.{bytes_in};
 
 use crate::events::{AtomicOp, Size};
 
@@ -53,41 +53,10 @@ pub fn store(bytes: &mut [u8], at: usize, size: Size, word: u64)
 pub fn change(op: AtomicOp, size: Size, found: u64, operand: u64, expected: u64) -> u64
     requires wide { 4 ≤ bytes_in size }
     requires fits { found < modulus (bytes_in size) }
-    ensures { result ≡ number_after (change_of op) (bytes_in size) found operand expected }
+    ensures { result ≡ number_after op (bytes_in size) found operand expected }
 {
     match size {
-        Size::Word => u64::from(change32(
-            op,
-            found as u32,
-            (operand % 0x1_0000_0000) as u32,
-            (expected % 0x1_0000_0000) as u32,
-        )),
-        _ => change64(op, found, operand, expected),
-    }
-}
-
-fn change32(op: AtomicOp, found: u32, operand: u32, expected: u32) -> u32
-    ensures { result ≡ number_after (change_of op) 4 found operand expected }
-{
-    match op {
-        AtomicOp::Add => found.wrapping_add(operand),
-        AtomicOp::Or => found | operand,
-        AtomicOp::And => found & operand,
-        AtomicOp::Xor => found ^ operand,
-        AtomicOp::Exchange => operand,
-        AtomicOp::CompareExchange => { if found == expected { operand } else { found } }
-    }
-}
-
-fn change64(op: AtomicOp, found: u64, operand: u64, expected: u64) -> u64
-    ensures { result ≡ number_after (change_of op) 8 found operand expected }
-{
-    match op {
-        AtomicOp::Add => found.wrapping_add(operand),
-        AtomicOp::Or => found | operand,
-        AtomicOp::And => found & operand,
-        AtomicOp::Xor => found ^ operand,
-        AtomicOp::Exchange => operand,
-        AtomicOp::CompareExchange => { if found == expected { operand } else { found } }
+        Size::Word => u64::from(op.word_after(found as u32, operand, expected)),
+        _ => op.double_after(found, operand, expected),
     }
 }

@@ -1,6 +1,9 @@
 //! Events: each is a call of a store, with its reply.
 use std::collections::LinkedList;
 
+/// What an atomic operation makes of the number that it finds (RFC 9669, section 5.3).
+pub use bpf_base::Change as AtomicOp;
+
 /// Where a value lies: an address, and a number of bytes.
 #[derive(Clone, Copy, PartialEq, Eq, Debug, Default)]
 pub struct Span {
@@ -21,17 +24,6 @@ pub enum Size {
     Half,
     Word,
     Double,
-}
-
-/// What an atomic operation makes of the number that it finds (RFC 9669, section 5.3).
-#[derive(Clone, Copy, PartialEq, Eq, Debug)]
-pub enum AtomicOp {
-    Add,
-    Or,
-    And,
-    Xor,
-    Exchange,
-    CompareExchange,
 }
 
 /// The answer to an update or a deletion (bpf-helpers(7), and the errors of hash maps).

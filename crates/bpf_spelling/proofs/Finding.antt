@@ -3,11 +3,11 @@ use Rattle.std.proofs.Common.{◌≡◌, Bool, true, false, cond, List, [], ◌�
 use Rattle.std.specs.Prelude.{IfSome, ℕ, find}
 use Rattle.std.specs.Str.{bytes_eq}
 use Rattle.std.proofs.lemmas.Slice.Eq.{bytes_eq-Decides}
-use Rattle.bpf_insn.specs.declared.operation.Size.TheVariants as size
-use Rattle.bpf_insn.specs.declared.operation.SignedSize.TheVariants as signed_size
-use Rattle.bpf_insn.specs.declared.operation.ByteSwap.TheVariants as swap
-use Rattle.bpf_insn.specs.declared.operation.SwapWidth.TheVariants as bits
-use Rattle.bpf_insn.specs.declared.operation.Width.TheVariants.{Bits32}
+use Rattle.bpf_insn.specs.declared.operation.sizes.Size.TheVariants as size
+use Rattle.bpf_insn.specs.declared.operation.sizes.SignedSize.TheVariants as signed_size
+use Rattle.bpf_insn.specs.declared.operation.swaps.ByteSwap.TheVariants as swap
+use Rattle.bpf_insn.specs.declared.operation.swaps.SwapWidth.TheVariants as bits
+use Rattle.bpf_insn.specs.declared.operation.widths.Width.TheVariants.{Bits32}
 use Rattle.bpf_spelling.specs.declared.atomics.AtomicForm.{AtomicForm}
 use Rattle.bpf_spelling.specs.declared.atomics.AtomicForm.TheVariants as form
 use Rattle.bpf_spelling.specs.declared.keywords.Keyword.{Keyword}

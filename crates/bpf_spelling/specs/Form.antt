@@ -5,13 +5,13 @@ use Rattle.std.specs.Prelude.{ℕ, ◌+◌, ◌-◌, List, [], ◌∷◌, ◌++�
 use Rattle.std.specs.Fmt.{decimal, signed_decimal, digits}
 use Rattle.bpf_insn.specs.declared.register.Reg.{Reg}
 use Rattle.bpf_insn.specs.declared.register.Reg.TheVariants.{R0}
-use Rattle.bpf_insn.specs.declared.operation.Width.{Width}
-use Rattle.bpf_insn.specs.declared.operation.Width.TheVariants.{Bits32, Bits64}
-use Rattle.bpf_insn.specs.declared.operation.SignExtension.{SignExtension}
-use Rattle.bpf_insn.specs.declared.operation.SignExtension.TheVariants as extend
-use Rattle.bpf_insn.specs.declared.operation.Size.TheVariants as size
-use Rattle.bpf_insn.specs.declared.operation.SignedSize.{SignedSize}
-use Rattle.bpf_insn.specs.declared.operation.SignedSize.TheVariants as signed_size
+use Rattle.bpf_insn.specs.declared.operation.widths.Width.{Width}
+use Rattle.bpf_insn.specs.declared.operation.widths.Width.TheVariants.{Bits32, Bits64}
+use Rattle.bpf_insn.specs.declared.operation.extensions.SignExtension.{SignExtension}
+use Rattle.bpf_insn.specs.declared.operation.extensions.SignExtension.TheVariants as extend
+use Rattle.bpf_insn.specs.declared.operation.sizes.Size.TheVariants as size
+use Rattle.bpf_insn.specs.declared.operation.sizes.SignedSize.{SignedSize}
+use Rattle.bpf_insn.specs.declared.operation.sizes.SignedSize.TheVariants as signed_size
 use Rattle.bpf_insn.specs.declared.instruction.Operand.{Operand}
 use Rattle.bpf_insn.specs.declared.instruction.Operand.TheVariants as operand
 use Rattle.bpf_insn.specs.declared.instruction.Insn.{Insn}

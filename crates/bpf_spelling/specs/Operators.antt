@@ -1,20 +1,21 @@
 -- How operations are spelled, one row an operation (our own choice, after the notation of the Linux
 -- kernel's BPF listings), and which operation is spelled so: the rows read the other way.
 use Rattle.std.specs.Prelude.{Bool, false, find, Option}
-use Rattle.bpf_insn.specs.declared.operation.AluOp.{AluOp}
-use Rattle.bpf_insn.specs.declared.operation.AluOp.TheVariants as alu
-use Rattle.bpf_insn.specs.declared.operation.Condition.{Condition}
-use Rattle.bpf_insn.specs.declared.operation.Condition.TheVariants as cond
-use Rattle.bpf_insn.specs.declared.operation.AtomicOp.{AtomicOp}
-use Rattle.bpf_insn.specs.declared.operation.AtomicOp.TheVariants as atomic
+use Rattle.bpf_insn.specs.declared.operation.arithmetic.AluOp.{AluOp}
+use Rattle.bpf_insn.specs.declared.operation.arithmetic.AluOp.TheVariants as alu
+use Rattle.bpf_insn.specs.declared.operation.conditions.Condition.{Condition}
+use Rattle.bpf_insn.specs.declared.operation.conditions.Condition.TheVariants as cond
+use Rattle.bpf_insn.specs.declared.operation.atomics.AtomicOp.{AtomicOp}
+use Rattle.bpf_insn.specs.declared.operation.atomics.AtomicOp.TheVariants as atomic
 use Rattle.bpf_spelling.specs.declared.atomics.AtomicForm.{AtomicForm}
 use Rattle.bpf_spelling.specs.declared.atomics.AtomicForm.TheVariants as form
-use Rattle.bpf_spelling.specs.declared.atomics.TheConstants.{ATOMICS}
+use Rattle.bpf_insn.specs.declared.operation.atomics.TheConstants.{ATOMIC_OPS}
 use Rattle.bpf_spelling.specs.declared.keywords.Keyword.{Keyword}
 use Rattle.bpf_spelling.specs.declared.keywords.Keyword.TheVariants as key
 use Rattle.bpf_spelling.specs.declared.operators.Operator.{Operator}
 use Rattle.bpf_spelling.specs.declared.operators.Operator.TheVariants.{Plain, Signed}
-use Rattle.bpf_spelling.specs.declared.operators.TheConstants.{OPERATIONS, CONDITIONS}
+use Rattle.bpf_insn.specs.declared.operation.arithmetic.TheConstants.{ALU_OPS}
+use Rattle.bpf_insn.specs.declared.operation.conditions.TheConstants.{CONDITIONS}
 use Rattle.bpf_spelling.specs.declared.signs.Sign.{Sign}
 use Rattle.bpf_spelling.specs.declared.signs.Sign.TheVariants as sign
 use Rattle.bpf_spelling.specs.Names.{same_keyword}
@@ -72,7 +73,7 @@ same_operator (Signed a) (Signed b) = same_sign a b
 same_operator a b = false
 
 unfoldable pub operation_named : Operator → Option AluOp
-operation_named o = find (λ op. same_operator (operator_of op) o) OPERATIONS
+operation_named o = find (λ op. same_operator (operator_of op) o) ALU_OPS
 
 unfoldable pub condition_named : Operator → Option Condition
 condition_named o = find (λ c. same_operator (comparison_of c) o) CONDITIONS
@@ -86,7 +87,7 @@ is_fetched_by (form.Fetch other) k = same_keyword other k
 is_fetched_by f k = false
 
 unfoldable pub locked_op : Sign → Option AtomicOp
-locked_op s = find (λ op. is_locked_by (atomic_form op) s) ATOMICS
+locked_op s = find (λ op. is_locked_by (atomic_form op) s) ATOMIC_OPS
 
 unfoldable pub fetched_op : Keyword → Option AtomicOp
-fetched_op k = find (λ op. is_fetched_by (atomic_form op) k) ATOMICS
+fetched_op k = find (λ op. is_fetched_by (atomic_form op) k) ATOMIC_OPS

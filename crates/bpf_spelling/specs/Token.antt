@@ -1,7 +1,7 @@
 -- What lines are made of.
 use Rattle.std.specs.Prelude.{ℕ, List}
 use Rattle.bpf_insn.specs.declared.register.Reg.{Reg}
-use Rattle.bpf_insn.specs.declared.operation.Width.{Width}
+use Rattle.bpf_insn.specs.declared.operation.widths.Width.{Width}
 use Rattle.bpf_spelling.specs.declared.keywords.Keyword.{Keyword}
 use Rattle.bpf_spelling.specs.declared.signs.Sign.{Sign}
 

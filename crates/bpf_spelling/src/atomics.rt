@@ -5,7 +5,7 @@ ghost use Rattle.bpf_spelling.specs.Operators.{atomic_form, is_locked_by, is_fet
 
 use crate::keywords::Keyword;
 use crate::signs::Sign;
-use bpf_insn::AtomicOp;
+use bpf_insn::{ATOMIC_OPS, AtomicOp};
 
 /// The form of an atomic operation.
 #[derive(Clone, Copy)]
@@ -19,20 +19,6 @@ pub enum AtomicForm {
     /// `r0 = cmpxchg_64(R + n, r0, R)`.
     CompareExchange,
 }
-
-/// All atomic operations.
-pub const ATOMICS: [AtomicOp; 10] = [
-    AtomicOp::Add,
-    AtomicOp::Or,
-    AtomicOp::And,
-    AtomicOp::Xor,
-    AtomicOp::FetchAdd,
-    AtomicOp::FetchOr,
-    AtomicOp::FetchAnd,
-    AtomicOp::FetchXor,
-    AtomicOp::Exchange,
-    AtomicOp::CompareExchange,
-];
 
 /// How an atomic operation is written.
 pub fn atomic_form(op: AtomicOp) -> AtomicForm
@@ -77,7 +63,7 @@ impl AtomicForm {
 pub fn locked_op(sign: Sign) -> Option<AtomicOp>
     ensures { result ≡ locked_op sign }
 {
-    ATOMICS
+    ATOMIC_OPS
         .iter()
         .copied()
         .find(|op| atomic_form(*op).is_locked_by(sign))
@@ -88,7 +74,7 @@ pub fn locked_op(sign: Sign) -> Option<AtomicOp>
 pub fn fetched_op(name: Keyword) -> Option<AtomicOp>
     ensures { result ≡ fetched_op name }
 {
-    ATOMICS
+    ATOMIC_OPS
         .iter()
         .copied()
         .find(|op| atomic_form(*op).is_fetched_by(name))

@@ -5,7 +5,7 @@ ghost use Rattle.bpf_spelling.specs.Operators.{operator_of, comparison_of, same_
 
 use crate::keywords::Keyword;
 use crate::signs::Sign;
-use bpf_insn::{AluOp, Condition};
+use bpf_insn::{ALU_OPS, AluOp, CONDITIONS, Condition};
 use std::fmt;
 
 /// What stands between two operands.
@@ -16,39 +16,6 @@ pub enum Operator {
     /// A sign behind `s`.
     Signed(Sign),
 }
-
-/// All arithmetic operations.
-pub const OPERATIONS: [AluOp; 14] = [
-    AluOp::Add,
-    AluOp::Sub,
-    AluOp::Mul,
-    AluOp::Div,
-    AluOp::Sdiv,
-    AluOp::Or,
-    AluOp::And,
-    AluOp::Lsh,
-    AluOp::Rsh,
-    AluOp::Mod,
-    AluOp::Smod,
-    AluOp::Xor,
-    AluOp::Mov,
-    AluOp::Arsh,
-];
-
-/// All conditions.
-pub const CONDITIONS: [Condition; 11] = [
-    Condition::Eq,
-    Condition::Gt,
-    Condition::Ge,
-    Condition::Set,
-    Condition::Ne,
-    Condition::Sgt,
-    Condition::Sge,
-    Condition::Lt,
-    Condition::Le,
-    Condition::Slt,
-    Condition::Sle,
-];
 
 /// How an arithmetic operation is written.
 pub fn operator_of(op: AluOp) -> Operator
@@ -122,7 +89,7 @@ impl fmt::Display for Operator {
 pub fn operation_named(operator: Operator) -> Option<AluOp>
     ensures { result ≡ operation_named operator }
 {
-    OPERATIONS
+    ALU_OPS
         .iter()
         .copied()
         .find(|op| operator_of(*op).is_same(operator))

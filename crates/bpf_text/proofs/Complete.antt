@@ -3,19 +3,19 @@ use Rattle.std.proofs.Common.{◌≡◌, ℕ, Bool, true, false, List, [], ◌�
 use Rattle.std.specs.Prelude.{ℤ, pos, neg_ℤ, map}
 use Rattle.bpf_insn.specs.declared.register.Reg.{Reg}
 use Rattle.bpf_insn.specs.declared.register.Reg.TheVariants.{R0}
-use Rattle.bpf_insn.specs.declared.operation.Width.{Width}
-use Rattle.bpf_insn.specs.declared.operation.Width.TheVariants.{Bits32, Bits64}
-use Rattle.bpf_insn.specs.declared.operation.AluOp.{AluOp}
-use Rattle.bpf_insn.specs.declared.operation.AluOp.TheVariants as alu
-use Rattle.bpf_insn.specs.declared.operation.SignExtension.{SignExtension}
-use Rattle.bpf_insn.specs.declared.operation.Size.{Size}
-use Rattle.bpf_insn.specs.declared.operation.SignExtension.TheVariants as extend
-use Rattle.bpf_insn.specs.declared.operation.ByteSwap.{ByteSwap}
-use Rattle.bpf_insn.specs.declared.operation.SwapWidth.{SwapWidth}
-use Rattle.bpf_insn.specs.declared.operation.AtomicOp.{AtomicOp}
-use Rattle.bpf_insn.specs.declared.operation.AtomicOp.TheVariants as atomic
-use Rattle.bpf_insn.specs.declared.operation.Condition.{Condition}
-use Rattle.bpf_insn.specs.declared.operation.Condition.TheVariants as test
+use Rattle.bpf_insn.specs.declared.operation.widths.Width.{Width}
+use Rattle.bpf_insn.specs.declared.operation.widths.Width.TheVariants.{Bits32, Bits64}
+use Rattle.bpf_insn.specs.declared.operation.arithmetic.AluOp.{AluOp}
+use Rattle.bpf_insn.specs.declared.operation.arithmetic.AluOp.TheVariants as alu
+use Rattle.bpf_insn.specs.declared.operation.extensions.SignExtension.{SignExtension}
+use Rattle.bpf_insn.specs.declared.operation.sizes.Size.{Size}
+use Rattle.bpf_insn.specs.declared.operation.extensions.SignExtension.TheVariants as extend
+use Rattle.bpf_insn.specs.declared.operation.swaps.ByteSwap.{ByteSwap}
+use Rattle.bpf_insn.specs.declared.operation.swaps.SwapWidth.{SwapWidth}
+use Rattle.bpf_insn.specs.declared.operation.atomics.AtomicOp.{AtomicOp}
+use Rattle.bpf_insn.specs.declared.operation.atomics.AtomicOp.TheVariants as atomic
+use Rattle.bpf_insn.specs.declared.operation.conditions.Condition.{Condition}
+use Rattle.bpf_insn.specs.declared.operation.conditions.Condition.TheVariants as test
 use Rattle.bpf_insn.specs.declared.instruction.Operand.{Operand}
 use Rattle.bpf_insn.specs.declared.instruction.Operand.TheVariants as operand
 use Rattle.bpf_insn.specs.declared.instruction.Insn.{Insn}
@@ -24,10 +24,10 @@ use Rattle.bpf_spelling.specs.declared.keywords.Keyword.{Keyword}
 use Rattle.bpf_spelling.specs.declared.keywords.Keyword.TheVariants as key
 use Rattle.bpf_spelling.specs.declared.signs.Sign.{Sign}
 use Rattle.bpf_spelling.specs.declared.signs.Sign.TheVariants as sign
-use Rattle.bpf_insn.specs.declared.operation.ByteSwap.TheVariants as swap
-use Rattle.bpf_insn.specs.declared.operation.SwapWidth.TheVariants as bits
-use Rattle.bpf_insn.specs.declared.operation.Size.TheVariants as size
-use Rattle.bpf_insn.specs.declared.operation.SignedSize.TheVariants as signed_size
+use Rattle.bpf_insn.specs.declared.operation.swaps.ByteSwap.TheVariants as swap
+use Rattle.bpf_insn.specs.declared.operation.swaps.SwapWidth.TheVariants as bits
+use Rattle.bpf_insn.specs.declared.operation.sizes.Size.TheVariants as size
+use Rattle.bpf_insn.specs.declared.operation.sizes.SignedSize.TheVariants as signed_size
 use Rattle.bpf_spelling.specs.declared.atomics.AtomicForm.{AtomicForm}
 use Rattle.bpf_spelling.specs.declared.atomics.AtomicForm.TheVariants as form
 use Rattle.bpf_spelling.specs.declared.operators.Operator.{Operator}

@@ -4,7 +4,7 @@ use Rattle.std.specs.Prelude.{ℤ}
 use Rattle.bpf_insn.specs.declared.instruction.Insn.{Insn}
 use Rattle.bpf_insn.specs.declared.instruction.Insn.TheVariants as insn
 use Rattle.bpf_insn.specs.declared.register.Reg.{Reg}
-use Rattle.bpf_insn.specs.declared.operation.Width.{Width}
+use Rattle.bpf_insn.specs.declared.operation.widths.Width.{Width}
 use Rattle.bpf_spelling.specs.declared.atomics.AtomicForm.{AtomicForm}
 use Rattle.bpf_spelling.specs.declared.atomics.AtomicForm.TheVariants as form
 use Rattle.bpf_spelling.specs.declared.keywords.Keyword.TheVariants as key

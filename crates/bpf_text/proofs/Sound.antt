@@ -4,18 +4,18 @@ use Rattle.std.specs.Prelude.{IfSome, ℤ, pos, neg_ℤ}
 use Rattle.std.proofs.lemmas.Bool.{and_parts}
 use Rattle.bpf_insn.specs.declared.register.Reg.{Reg}
 use Rattle.bpf_insn.specs.declared.register.Reg.TheVariants.{R0}
-use Rattle.bpf_insn.specs.declared.operation.Width.{Width}
-use Rattle.bpf_insn.specs.declared.operation.Width.TheVariants.{Bits32, Bits64}
-use Rattle.bpf_insn.specs.declared.operation.AluOp.{AluOp}
-use Rattle.bpf_insn.specs.declared.operation.AluOp.TheVariants as alu
-use Rattle.bpf_insn.specs.declared.operation.SignedSize.{SignedSize}
-use Rattle.bpf_insn.specs.declared.operation.SignedSize.TheVariants as signed_size
-use Rattle.bpf_insn.specs.declared.operation.Size.TheVariants as size
-use Rattle.bpf_insn.specs.declared.operation.ByteSwap.{ByteSwap}
-use Rattle.bpf_insn.specs.declared.operation.SwapWidth.{SwapWidth}
-use Rattle.bpf_insn.specs.declared.operation.AtomicOp.{AtomicOp}
-use Rattle.bpf_insn.specs.declared.operation.AtomicOp.TheVariants as atomic
-use Rattle.bpf_insn.specs.declared.operation.Condition.{Condition}
+use Rattle.bpf_insn.specs.declared.operation.widths.Width.{Width}
+use Rattle.bpf_insn.specs.declared.operation.widths.Width.TheVariants.{Bits32, Bits64}
+use Rattle.bpf_insn.specs.declared.operation.arithmetic.AluOp.{AluOp}
+use Rattle.bpf_insn.specs.declared.operation.arithmetic.AluOp.TheVariants as alu
+use Rattle.bpf_insn.specs.declared.operation.sizes.SignedSize.{SignedSize}
+use Rattle.bpf_insn.specs.declared.operation.sizes.SignedSize.TheVariants as signed_size
+use Rattle.bpf_insn.specs.declared.operation.sizes.Size.TheVariants as size
+use Rattle.bpf_insn.specs.declared.operation.swaps.ByteSwap.{ByteSwap}
+use Rattle.bpf_insn.specs.declared.operation.swaps.SwapWidth.{SwapWidth}
+use Rattle.bpf_insn.specs.declared.operation.atomics.AtomicOp.{AtomicOp}
+use Rattle.bpf_insn.specs.declared.operation.atomics.AtomicOp.TheVariants as atomic
+use Rattle.bpf_insn.specs.declared.operation.conditions.Condition.{Condition}
 use Rattle.bpf_insn.specs.declared.instruction.Operand.{Operand}
 use Rattle.bpf_insn.specs.declared.instruction.Operand.TheVariants as operand
 use Rattle.bpf_insn.specs.declared.instruction.Insn.TheVariants as insn
@@ -25,8 +25,9 @@ use Rattle.bpf_spelling.specs.declared.signs.Sign.{Sign}
 use Rattle.bpf_spelling.specs.declared.signs.Sign.TheVariants as sign
 use Rattle.bpf_spelling.specs.declared.atomics.AtomicForm.TheVariants as form
 use Rattle.bpf_spelling.specs.declared.operators.Operator.{Operator}
-use Rattle.bpf_spelling.specs.declared.operators.TheConstants.{OPERATIONS, CONDITIONS}
-use Rattle.bpf_spelling.specs.declared.atomics.TheConstants.{ATOMICS}
+use Rattle.bpf_insn.specs.declared.operation.arithmetic.TheConstants.{ALU_OPS}
+use Rattle.bpf_insn.specs.declared.operation.conditions.TheConstants.{CONDITIONS}
+use Rattle.bpf_insn.specs.declared.operation.atomics.TheConstants.{ATOMIC_OPS}
 use Rattle.bpf_spelling.specs.Operators.{operator_of, comparison_of, atomic_form, same_operator, operation_named, condition_named, is_locked_by, is_fetched_by, fetched_op, locked_op}
 use Rattle.bpf_spelling.specs.Token.{Tok, Register, Word, Number, Mark}
 use Rattle.bpf_spelling.specs.Form.{Item, Blank, Signed, Target as TargetItem, mark, reg, word, address, cell_items, cell_size, operator_items, operand_item, extended_width, extended_size, atomic_items}
@@ -106,7 +107,7 @@ operator_sound ts = tt
 
 operation_sound : (o : Operator) → IfSome (operation_named o) (λ op. operator_of op ≡ o)
 unfolding operation_named
-operation_sound o = found_by (λ op. same_operator (operator_of op) o) OPERATIONS (λ op. operator_of op ≡ o) (λ op e. same_operator-true (operator_of op) o e)
+operation_sound o = found_by (λ op. same_operator (operator_of op) o) ALU_OPS (λ op. operator_of op ≡ o) (λ op e. same_operator-true (operator_of op) o e)
 
 condition_sound : (o : Operator) → IfSome (condition_named o) (λ c. comparison_of c ≡ o)
 unfolding condition_named
@@ -114,11 +115,11 @@ condition_sound o = found_by (λ c. same_operator (comparison_of c) o) CONDITION
 
 locked_op_sound : (s : Sign) → IfSome (locked_op s) (λ op. atomic_form op ≡ form.Locked s)
 unfolding locked_op
-locked_op_sound s = found_by (λ op. is_locked_by (atomic_form op) s) ATOMICS (λ op. atomic_form op ≡ form.Locked s) (λ op e. is_locked_by-true (atomic_form op) s e)
+locked_op_sound s = found_by (λ op. is_locked_by (atomic_form op) s) ATOMIC_OPS (λ op. atomic_form op ≡ form.Locked s) (λ op e. is_locked_by-true (atomic_form op) s e)
 
 fetched_op_sound : (k : Keyword) → IfSome (fetched_op k) (λ op. atomic_form op ≡ form.Fetch k)
 unfolding fetched_op
-fetched_op_sound k = found_by (λ op. is_fetched_by (atomic_form op) k) ATOMICS (λ op. atomic_form op ≡ form.Fetch k) (λ op e. is_fetched_by-true (atomic_form op) k e)
+fetched_op_sound k = found_by (λ op. is_fetched_by (atomic_form op) k) ATOMIC_OPS (λ op. atomic_form op ≡ form.Fetch k) (λ op e. is_fetched_by-true (atomic_form op) k e)
 
 extension_sound : (w : Width) (z : SignedSize) → IfSome (extension_of w z) (λ e. (extended_width e ≡ w) × (extended_size e ≡ z))
 unfolding extension_of

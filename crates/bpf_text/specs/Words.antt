@@ -5,7 +5,7 @@ use Rattle.std.specs.Char.{digit_value}
 use Rattle.std.specs.Str.Parse.{digits_value}
 use Rattle.std.specs.List.{starts_with, list_all}
 use Rattle.bpf_insn.specs.declared.register.Reg.{Reg}
-use Rattle.bpf_insn.specs.declared.operation.Width.{Width}
+use Rattle.bpf_insn.specs.declared.operation.widths.Width.{Width}
 use Rattle.bpf_spelling.specs.declared.keywords.Keyword.{Keyword}
 use Rattle.bpf_spelling.specs.Names.{register_of, keyword_of}
 use Rattle.bpf_spelling.specs.Token.{Tok, Register, Word, Name, Number, Junk}

@@ -2,7 +2,7 @@
 ghost use Rattle.std.specs.Prelude.{◌≡◌, ◌+◌, ◌<◌, ◌≤◌};
 ghost use Rattle.bpf_base.specs.Bytes.{low_bytes, modulus, with_part};
 ghost use Rattle.bpf_base.specs.Atomic.{number_after};
-ghost use Rattle.bpf_shared.specs.Access.{bytes_in, change_of};
+ghost use Rattle.bpf_shared.specs.Access.{bytes_in};
 ghost use Rattle.hop_words.specs.declared.known.Known.{Known};
 ghost use Rattle.hop_words.specs.Touching.{TouchesPart, part_address, found_part};
 ghost use Rattle.hop_map.specs.Accesses.{IsValuePlace, IsHeldAt};

@@ -5,9 +5,8 @@ use Rattle.bpf_base.specs.Bytes.{low_bytes, with_part}
 use Rattle.bpf_base.specs.Atomic.{number_after}
 use Rattle.bpf_base.proofs.Numbers.{little_endian-low_bytes}
 use Rattle.bpf_shared.specs.Shape.{elements}
-use Rattle.bpf_shared.specs.Access.{change_of}
-use Rattle.bpf_shared.specs.declared.events.AtomicOp.{AtomicOp}
-use Rattle.bpf_shared.specs.declared.events.AtomicOp.TheVariants.{Add, Or, And, Xor, Exchange, CompareExchange}
+use Rattle.bpf_base.specs.declared.atomic.Change.{Change}
+use Rattle.bpf_base.specs.declared.atomic.Change.TheVariants.{Add, Or, And, Xor, Exchange, CompareExchange}
 use Rattle.bpf_shared.specs.declared.events.Event.TheVariants.{Store, Atomic}
 use Rattle.bpf_shared.specs.declared.events.Size.TheVariants.{Double}
 use Rattle.hop_words.specs.declared.known.About.{About}
@@ -37,7 +36,7 @@ module _ (a : About) (l : Known) (p : ValuePart) (t : TouchesWord a l p) where
   pub stores : (x : ℕ) → Steps a l (ValueWord p.map p.element p.word) (λ _. x) (λ ws n l'. Told a l (Store (part_address a p) Double x) l')
   stores x = value_store a l p.map p.element p.word p.offset Double x x t (λ n. subst (λ (i : ℕ). low_bytes 8 x ≡ with_part (low_bytes 8 n) i (low_bytes 8 x)) (sym first) (whole_word n x))
 
-  changes : (op : AtomicOp) (operand expected : ℕ) (f : ℕ → ℕ) → ((n : ℕ) → n < 18446744073709551616 → f n ≡ number_after (change_of op) 8 n operand expected)
+  changes : (op : Change) (operand expected : ℕ) (f : ℕ → ℕ) → ((n : ℕ) → n < 18446744073709551616 → f n ≡ number_after op 8 n operand expected)
       → Steps a l (ValueWord p.map p.element p.word) f (λ ws n l'. Told a l (Atomic (part_address a p) Double op operand expected n) l')
   changes op operand expected f same ws g sized r is inside fits =
       let n = mem a.shape ws (ValueWord p.map p.element p.word) in
@@ -53,11 +52,11 @@ module _ (a : About) (l : Known) (p : ValuePart) (t : TouchesWord a l p) where
       found : (i : ℕ) → i < 18446744073709551616 → found_in i p.offset 8 ≡ i
       found i small = ap (λ (o : ℕ). found_in i o 8) first ∙ found_whole i small
 
-      splices : (i : ℕ) → i < 18446744073709551616 → low_bytes 8 (f i) ≡ with_part (low_bytes 8 i) p.offset (low_bytes 8 (number_after (change_of op) 8 (found_in i p.offset 8) operand expected))
+      splices : (i : ℕ) → i < 18446744073709551616 → low_bytes 8 (f i) ≡ with_part (low_bytes 8 i) p.offset (low_bytes 8 (number_after op 8 (found_in i p.offset 8) operand expected))
       splices i small =
           whole_word i (f i)
-          ∙ (ap (λ (z : ℕ). with_part (low_bytes 8 i) 0 (low_bytes 8 z)) (same i small ∙ ap (λ (z : ℕ). number_after (change_of op) 8 z operand expected) (sym (found i small)))
-          ∙ ap (λ (o : ℕ). with_part (low_bytes 8 i) o (low_bytes 8 (number_after (change_of op) 8 (found_in i p.offset 8) operand expected))) (sym first))
+          ∙ (ap (λ (z : ℕ). with_part (low_bytes 8 i) 0 (low_bytes 8 z)) (same i small ∙ ap (λ (z : ℕ). number_after op 8 z operand expected) (sym (found i small)))
+          ∙ ap (λ (o : ℕ). with_part (low_bytes 8 i) o (low_bytes 8 (number_after op 8 (found_in i p.offset 8) operand expected))) (sym first))
 
   module _ (operand expected : ℕ) (small : operand < 18446744073709551616) (few : expected < 18446744073709551616) where
     whole : operand % 18446744073709551616 ≡ operand
@@ -88,5 +87,5 @@ module _ (a : About) (l : Known) (p : ValuePart) (t : TouchesWord a l p) where
         chosen true x y = refl
         chosen false x y = refl
 
-        tests : (n : ℕ) → either (n == expected) operand n ≡ number_after (change_of CompareExchange) 8 n operand expected
+        tests : (n : ℕ) → either (n == expected) operand n ≡ number_after CompareExchange 8 n operand expected
         tests n = chosen (n == expected) operand n ∙ (λ j. if n == sym expects j then sym whole j else n)

@@ -5,12 +5,12 @@ use Rattle.atomic_table.proofs.Lists.{exchanged}
 use Rattle.bpf_shared.specs.declared.events.Event.{Event}
 use Rattle.bpf_shared.specs.declared.events.Event.TheVariants.{Load, Store, Atomic}
 use Rattle.bpf_shared.specs.declared.events.Size.{Size}
-use Rattle.bpf_shared.specs.declared.events.AtomicOp.{AtomicOp}
+use Rattle.bpf_base.specs.declared.atomic.Change.{Change}
 use Rattle.bpf_shared.specs.Shape.{element_span, Covers}
 use Rattle.bpf_shared.specs.Store.{Plain, Value, put}
 use Rattle.bpf_base.specs.Bytes.{little_endian, low_bytes, part, with_part}
 use Rattle.bpf_base.specs.Atomic.{number_after}
-use Rattle.bpf_shared.specs.Access.{bytes_in, change_of}
+use Rattle.bpf_shared.specs.Access.{bytes_in}
 use Rattle.bpf_shared.specs.Events.{Allowed, Reaches, number_in, after_write}
 use Rattle.bpf_shared.specs.History.{entry, events_of}
 use Rattle.bpf_shared.proofs.Puts.{put-same, put-other}
@@ -188,15 +188,15 @@ module _ (a : About) (l : Known) (m e k o b : ℕ) (i : Touches a l m e k o b) (
   pub may_store : (sz : Size) (y : ℕ) → bytes_in sz ≡ b → Allowed g.last l.cpu (Store (value_at a m e k o) sz y) (after_write g.last v (value_at a m e k o) b y)
   may_store sz y n = (running_is a w g r l is inside i.runs, (v, subst (Reaches g.last l.cpu v (value_at a m e k o)) (sym n) reaches, ap (λ (c : ℕ). after_write g.last v (value_at a m e k o) c y) (sym n)))
 
-  pub may_atomic : (sz : Size) (op : AtomicOp) (operand expected : ℕ) → bytes_in sz ≡ b → (let f = found_in (w (ValueWord m e k)) o b in
-      Allowed g.last l.cpu (Atomic (value_at a m e k o) sz op operand expected f) (after_write g.last v (value_at a m e k o) b (number_after (change_of op) b f operand expected)))
+  pub may_atomic : (sz : Size) (op : Change) (operand expected : ℕ) → bytes_in sz ≡ b → (let f = found_in (w (ValueWord m e k)) o b in
+      Allowed g.last l.cpu (Atomic (value_at a m e k o) sz op operand expected f) (after_write g.last v (value_at a m e k o) b (number_after op b f operand expected)))
   may_atomic sz op operand expected n = (
     running_is a w g r l is inside i.runs,
     (
       v,
       subst (Reaches g.last l.cpu v (value_at a m e k o)) (sym n) reaches,
       found_is ∙ ap (number_in g.last v (value_at a m e k o)) (sym n),
-      ap (λ (c : ℕ). after_write g.last v (value_at a m e k o) c (number_after (change_of op) c (found_in (w (ValueWord m e k)) o b) operand expected)) (sym n),
+      ap (λ (c : ℕ). after_write g.last v (value_at a m e k o) c (number_after op c (found_in (w (ValueWord m e k)) o b) operand expected)) (sym n),
     ),
   )
 
@@ -238,16 +238,16 @@ value_store_part a l m e k o sz old x y i splices ws g sized r is inside fits =
     (λ ne. stay a w g l.cpu (ValueWord m e k) _ r ((λ found. absurd (ne found)), (λ _. is)))
 
 -- the same for an atomic operation
-pub value_atomic_part : (a : About) (l : Known) (m e k o : ℕ) (sz : Size) (op : AtomicOp) (operand expected old x : ℕ) → Touches a l m e k o (bytes_in sz)
-    → low_bytes 8 x ≡ with_part (low_bytes 8 old) o (low_bytes (bytes_in sz) (number_after (change_of op) (bytes_in sz) (found_in old o (bytes_in sz)) operand expected))
+pub value_atomic_part : (a : About) (l : Known) (m e k o : ℕ) (sz : Size) (op : Change) (operand expected old x : ℕ) → Touches a l m e k o (bytes_in sz)
+    → low_bytes 8 x ≡ with_part (low_bytes 8 old) o (low_bytes (bytes_in sz) (number_after op (bytes_in sz) (found_in old o (bytes_in sz)) operand expected))
     → Steps a l (ValueWord m e k) (λ n. either (n == old) x n) (λ ws n l'. (n ≡ old → Told a l (Atomic (value_at a m e k o) sz op operand expected (found_in old o (bytes_in sz))) l') × (n ≢ old → l' ≡ l))
 value_atomic_part a l m e k o sz op operand expected old x i splices ws g sized r is inside fits =
     let w = mem a.shape ws in
     let b = bytes_in sz in
     let ev = Atomic (value_at a m e k o) sz op operand expected in
     exchanged (w (ValueWord m e k)) old x (λ n. Next a (put_at w (ValueWord m e k) n) g l.cpu (λ l'. (w (ValueWord m e k) ≡ old → Told a l (ev (found_in old o b)) l') × (w (ValueWord m e k) ≢ old → l' ≡ l)))
-    (λ found. let n = write_next a l m e k o b i w g r is inside x (number_after (change_of op) b (found_in (w (ValueWord m e k)) o b) operand expected)
-    (splices ∙ ap (λ (z : ℕ). with_part (low_bytes 8 z) o (low_bytes b (number_after (change_of op) b (found_in z o b) operand expected))) (sym found)) (ev (found_in (w (ValueWord m e k)) o b)) refl (may_atomic a l m e k o b i w g r is inside sz op operand expected refl) in record {
+    (λ found. let n = write_next a l m e k o b i w g r is inside x (number_after op b (found_in (w (ValueWord m e k)) o b) operand expected)
+    (splices ∙ ap (λ (z : ℕ). with_part (low_bytes 8 z) o (low_bytes b (number_after op b (found_in z o b) operand expected))) (sym found)) (ev (found_in (w (ValueWord m e k)) o b)) refl (may_atomic a l m e k o b i w g r is inside sz op operand expected refl) in record {
       ghost = n.ghost;
       rule = n.rule;
       others = n.others;
@@ -257,11 +257,11 @@ value_atomic_part a l m e k o sz op operand expected old x i splices ws g sized 
     (λ ne. stay a w g l.cpu (ValueWord m e k) _ r ((λ found. absurd (ne found)), (λ _. is)))
 
 -- a fetch operation or a swap on a whole word
-pub value_fetch : (a : About) (l : Known) (m e k o : ℕ) (sz : Size) (op : AtomicOp) (operand expected : ℕ) (f : ℕ → ℕ) → Touches a l m e k o (bytes_in sz)
-    → ((n : ℕ) → n < 18446744073709551616 → low_bytes 8 (f n) ≡ with_part (low_bytes 8 n) o (low_bytes (bytes_in sz) (number_after (change_of op) (bytes_in sz) (found_in n o (bytes_in sz)) operand expected)))
+pub value_fetch : (a : About) (l : Known) (m e k o : ℕ) (sz : Size) (op : Change) (operand expected : ℕ) (f : ℕ → ℕ) → Touches a l m e k o (bytes_in sz)
+    → ((n : ℕ) → n < 18446744073709551616 → low_bytes 8 (f n) ≡ with_part (low_bytes 8 n) o (low_bytes (bytes_in sz) (number_after op (bytes_in sz) (found_in n o (bytes_in sz)) operand expected)))
     → Steps a l (ValueWord m e k) f (λ ws n l'. Told a l (Atomic (value_at a m e k o) sz op operand expected (found_in n o (bytes_in sz))) l')
 value_fetch a l m e k o sz op operand expected f i splices ws g sized r is inside fits =
     let w = mem a.shape ws in
     let n = w (ValueWord m e k) in
-    write_next a l m e k o (bytes_in sz) i w g r is inside (f n) (number_after (change_of op) (bytes_in sz) (found_in n o (bytes_in sz)) operand expected) (splices n fits)
+    write_next a l m e k o (bytes_in sz) i w g r is inside (f n) (number_after op (bytes_in sz) (found_in n o (bytes_in sz)) operand expected) (splices n fits)
     (Atomic (value_at a m e k o) sz op operand expected (found_in n o (bytes_in sz))) refl (may_atomic a l m e k o (bytes_in sz) i w g r is inside sz op operand expected refl)

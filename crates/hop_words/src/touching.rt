@@ -3,7 +3,7 @@
 ghost use Rattle.std.specs.Prelude.{◌≡◌, ◌≢◌, ◌<◌, ◌^◌};
 ghost use Rattle.bpf_base.specs.Bytes.{low_bytes, with_part};
 ghost use Rattle.bpf_base.specs.Atomic.{number_after};
-ghost use Rattle.bpf_shared.specs.Access.{bytes_in, change_of};
+ghost use Rattle.bpf_shared.specs.Access.{bytes_in};
 ghost use Rattle.bpf_shared.specs.declared.events.Event.TheVariants.{Load, Store, Atomic};
 ghost use Rattle.bpf_shared.specs.declared.events.Size.TheVariants.{Double};
 ghost use Rattle.hop_words.specs.Kinds.{Told};
@@ -118,7 +118,7 @@ impl Lane {
         requires touches { TouchesPart table.now.about self.old.known part }
         requires splices { low_bytes 8 new
             ≡ with_part (low_bytes 8 old) part.offset
-            (low_bytes (bytes_in part.size) (number_after (change_of op) (bytes_in part.size)
+            (low_bytes (bytes_in part.size) (number_after op (bytes_in part.size)
             (found_part part old) operand expected)) }
         ensures table { self.new.table ≡ self.old.table }
         ensures made { result ≡ old

@@ -1,7 +1,7 @@
 -- An access to memory that isn't private: it is one to a held value, or a fault.
 use Rattle.std.specs.Prelude.{◌≡◌, ℕ, true, false, List, [], ◌⊎◌, Option, Some, None}
-use Rattle.bpf_insn.specs.declared.operation.Size.{Size}
-use Rattle.bpf_insn.specs.declared.operation.SignExtension.{SignExtension}
+use Rattle.bpf_insn.specs.declared.operation.sizes.Size.{Size}
+use Rattle.bpf_insn.specs.declared.operation.extensions.SignExtension.{SignExtension}
 use Rattle.bpf_alu.specs.Arithmetic.{sign_extended}
 use Rattle.bpf_mem.specs.Bytes.{length_of}
 use Rattle.bpf_shared.specs.declared.events.Event.{Event}

@@ -7,9 +7,9 @@ use Rattle.bpf_insn.specs.Codes.{ld_class, ldx_class, st_class, stx_class, alu_c
 use Rattle.bpf_insn.specs.Private.Lookup.{register_at, alu_op_at, extension_at, byte_swap_at, swap_width_at, condition_at, size_at, signed_size_at, atomic_width_at, atomic_op_at}
 use Rattle.bpf_insn.specs.declared.register.Reg.{Reg}
 use Rattle.bpf_insn.specs.declared.register.Reg.TheVariants.{R0}
-use Rattle.bpf_insn.specs.declared.operation.Width.{Width}
-use Rattle.bpf_insn.specs.declared.operation.Width.TheVariants.{Bits32, Bits64}
-use Rattle.bpf_insn.specs.declared.operation.SignExtension.{SignExtension}
+use Rattle.bpf_insn.specs.declared.operation.widths.Width.{Width}
+use Rattle.bpf_insn.specs.declared.operation.widths.Width.TheVariants.{Bits32, Bits64}
+use Rattle.bpf_insn.specs.declared.operation.extensions.SignExtension.{SignExtension}
 use Rattle.bpf_insn.specs.declared.instruction.Operand.{Operand}
 use Rattle.bpf_insn.specs.declared.instruction.Operand.TheVariants.{Immediate, Register}
 use Rattle.bpf_insn.specs.declared.instruction.Insn.{Insn}

@@ -1,22 +1,29 @@
 -- The table of codes the other way round: of all operations the one that has a number, if one has
 -- it.
 use Rattle.std.specs.Prelude.{ℕ, Bool, true, ◌==◌, ◌&&◌, List, [], ◌∷◌, find, Option, slice_get}
-use Rattle.bpf_insn.specs.Codes.{alu_code, condition_code, extension_opcode, extension_offset, swap_opcode, swap_bits, size_code, signed_size_code, atomic_size_code, atomic_code}
+use Rattle.bpf_insn.specs.Codes.{alu_code, condition_code, extension_opcode, extension_offset, swap_opcode, swap_bits, size_code, signed_size_code, atomic_size_code}
+use Rattle.bpf_insn.specs.Atomic.{atomic_code}
 use Rattle.bpf_insn.specs.Table.{offset_k}
 use Rattle.bpf_insn.specs.declared.row.Field.{Field}
 use Rattle.bpf_insn.specs.declared.row.Field.TheVariants.{Unused, Selects, Holds}
-use Rattle.bpf_insn.specs.declared.operation.TheConstants.{ALU_OPS, ATOMIC_OPS, BYTE_SWAPS, CONDITIONS, SIGNED_SIZES, SIGN_EXTENSIONS, SIZES, SWAP_WIDTHS, WIDTHS}
+use Rattle.bpf_insn.specs.declared.operation.arithmetic.TheConstants.{ALU_OPS}
+use Rattle.bpf_insn.specs.declared.operation.extensions.TheConstants.{SIGN_EXTENSIONS}
+use Rattle.bpf_insn.specs.declared.operation.atomics.TheConstants.{ATOMIC_OPS}
+use Rattle.bpf_insn.specs.declared.operation.conditions.TheConstants.{CONDITIONS}
+use Rattle.bpf_insn.specs.declared.operation.sizes.TheConstants.{SIZES, SIGNED_SIZES}
+use Rattle.bpf_insn.specs.declared.operation.swaps.TheConstants.{BYTE_SWAPS, SWAP_WIDTHS}
+use Rattle.bpf_insn.specs.declared.operation.widths.TheConstants.{WIDTHS}
 use Rattle.bpf_insn.specs.declared.register.Reg.{Reg}
 use Rattle.bpf_insn.specs.declared.register.Reg.TheVariants.{R0, R1, R2, R3, R4, R5, R6, R7, R8, R9, R10}
-use Rattle.bpf_insn.specs.declared.operation.Width.{Width}
-use Rattle.bpf_insn.specs.declared.operation.AluOp.{AluOp}
-use Rattle.bpf_insn.specs.declared.operation.Condition.{Condition}
-use Rattle.bpf_insn.specs.declared.operation.SignExtension.{SignExtension}
-use Rattle.bpf_insn.specs.declared.operation.ByteSwap.{ByteSwap}
-use Rattle.bpf_insn.specs.declared.operation.SwapWidth.{SwapWidth}
-use Rattle.bpf_insn.specs.declared.operation.Size.{Size}
-use Rattle.bpf_insn.specs.declared.operation.SignedSize.{SignedSize}
-use Rattle.bpf_insn.specs.declared.operation.AtomicOp.{AtomicOp}
+use Rattle.bpf_insn.specs.declared.operation.widths.Width.{Width}
+use Rattle.bpf_insn.specs.declared.operation.arithmetic.AluOp.{AluOp}
+use Rattle.bpf_insn.specs.declared.operation.conditions.Condition.{Condition}
+use Rattle.bpf_insn.specs.declared.operation.extensions.SignExtension.{SignExtension}
+use Rattle.bpf_insn.specs.declared.operation.swaps.ByteSwap.{ByteSwap}
+use Rattle.bpf_insn.specs.declared.operation.swaps.SwapWidth.{SwapWidth}
+use Rattle.bpf_insn.specs.declared.operation.sizes.Size.{Size}
+use Rattle.bpf_insn.specs.declared.operation.sizes.SignedSize.{SignedSize}
+use Rattle.bpf_insn.specs.declared.operation.atomics.AtomicOp.{AtomicOp}
 
 abbrev pub all_registers : List Reg
 all_registers = R0 ∷ R1 ∷ R2 ∷ R3 ∷ R4 ∷ R5 ∷ R6 ∷ R7 ∷ R8 ∷ R9 ∷ R10 ∷ []

@@ -4,7 +4,7 @@ use Rattle.std.specs.Prelude.{ℕ, List, find, nat_eq, Option}
 use Rattle.std.specs.List.{starts_with}
 use Rattle.std.specs.Str.{bytes_eq}
 use Rattle.bpf_insn.specs.declared.register.Reg.{Reg}
-use Rattle.bpf_insn.specs.declared.operation.Width.{Width}
+use Rattle.bpf_insn.specs.declared.operation.widths.Width.{Width}
 use Rattle.bpf_spelling.specs.declared.keywords.Keyword.{Keyword}
 use Rattle.bpf_spelling.specs.declared.signs.Sign.{Sign}
 use Rattle.bpf_spelling.specs.declared.signs.TheConstants.{SIGNS}

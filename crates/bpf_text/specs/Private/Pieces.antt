@@ -2,13 +2,13 @@
 use Rattle.std.specs.Prelude.{ℕ, Bool, true, false, ◌==◌, if◌then◌else◌, List, [], ◌∷◌, Option, Some, None, option_and_then, ℤ, pos, neg_ℤ}
 use Rattle.bpf_insn.specs.Register.{register_number}
 use Rattle.bpf_insn.specs.declared.register.Reg.{Reg}
-use Rattle.bpf_insn.specs.declared.operation.Width.{Width}
-use Rattle.bpf_insn.specs.declared.operation.Width.TheVariants.{Bits32, Bits64}
-use Rattle.bpf_insn.specs.declared.operation.SignExtension.{SignExtension}
-use Rattle.bpf_insn.specs.declared.operation.SignExtension.TheVariants as extend
-use Rattle.bpf_insn.specs.declared.operation.Size.TheVariants as size
-use Rattle.bpf_insn.specs.declared.operation.SignedSize.{SignedSize}
-use Rattle.bpf_insn.specs.declared.operation.SignedSize.TheVariants as signed_size
+use Rattle.bpf_insn.specs.declared.operation.widths.Width.{Width}
+use Rattle.bpf_insn.specs.declared.operation.widths.Width.TheVariants.{Bits32, Bits64}
+use Rattle.bpf_insn.specs.declared.operation.extensions.SignExtension.{SignExtension}
+use Rattle.bpf_insn.specs.declared.operation.extensions.SignExtension.TheVariants as extend
+use Rattle.bpf_insn.specs.declared.operation.sizes.Size.TheVariants as size
+use Rattle.bpf_insn.specs.declared.operation.sizes.SignedSize.{SignedSize}
+use Rattle.bpf_insn.specs.declared.operation.sizes.SignedSize.TheVariants as signed_size
 use Rattle.bpf_insn.specs.declared.instruction.Operand.{Operand}
 use Rattle.bpf_insn.specs.declared.instruction.Operand.TheVariants as operand
 use Rattle.bpf_spelling.specs.declared.keywords.Keyword.{Keyword}

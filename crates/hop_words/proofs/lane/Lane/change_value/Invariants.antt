@@ -1,4 +1,4 @@
-use Rattle.bpf_shared.specs.declared.events.AtomicOp.TheVariants.{Add, Or, And, Xor, Exchange, CompareExchange}
+use Rattle.bpf_base.specs.declared.atomic.Change.TheVariants.{Add, Or, And, Xor, Exchange, CompareExchange}
 use Rattle.bpf_shared.specs.declared.events.Event.TheVariants.{Atomic}
 use Rattle.bpf_shared.specs.declared.events.Size.TheVariants.{Double}
 use Rattle.hop_words.specs.Kinds.{Told}
