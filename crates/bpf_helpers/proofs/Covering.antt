@@ -1,10 +1,10 @@
 -- What covers some bytes, where each span is on the grid: the element there, if it is among the spans.
-use Rattle.std.proofs.Common.{◌≡◌, ℕ, ◌-◌, ◌<◌, ◌≤◌, Bool, true, false, List, [], ◌∷◌, ◌++◌, Option, Some, None, refl, sym, ap, ◌∙◌, ◌==◌, ◌&&◌, ◌||◌, nat_le, nat_lt, arith, eq-eqb}
-use Rattle.std.specs.Prelude.{All, not}
+use Rattle.std.proofs.Common.{◌≡◌, ℕ, ◌-◌, ◌<◌, ◌≤◌, Bool, true, false, List, [], ◌∷◌, Option, Some, None, refl, sym, ap, ◌∙◌, ◌==◌, ◌&&◌, ◌||◌, nat_le, nat_lt, arith, eq-eqb}
+use Rattle.std.specs.Prelude.{All}
 use Rattle.std.specs.List.{list_any}
-use Rattle.std.proofs.lemmas.Bool.{and_parts, leb-true, ltb-true, not-false}
+use Rattle.std.proofs.lemmas.Bool.{and_parts, leb-true, ltb-true}
 use Rattle.std.proofs.lemmas.Bool.Decides.{nat_tests}
-use Rattle.std.proofs.lemmas.List.Elements.{All-head, All-tail, All-push, All-weaker}
+use Rattle.std.proofs.lemmas.List.Elements.{All-head, All-tail}
 use Rattle.bpf_shared.specs.declared.events.Span.{Span}
 use Rattle.bpf_shared.specs.Passage.{same_span}
 use Rattle.bpf_shared.specs.Shape.{IsIn}
@@ -131,14 +131,3 @@ pub reaches_byte : (spans : List Span) (a : ℕ) → reaches spans a ≡ is_cove
 unfolding reaches
 reaches_byte [] a = refl
 reaches_byte (x ∷ xs) a = ap (λ (b : Bool). b || list_any (is_in a) xs) (byte_covered a x) ∙ ap (λ (b : Bool). covers a 1 x || b) (reaches_byte xs a)
-
--- ---- one span more
-neither : (b c : Bool) → b || c ≡ false → (b ≡ false) × (c ≡ false)
-neither true c e = absurd cc
-neither false c e = (refl, e)
-
-pub all_on : (old new : List ℕ) (spans : List Span) (s : Span) (stray fits : Bool) → (stray ≡ false → All (IsOnGrid old) spans)
-    → ((p : Span) → IsOnGrid old p → IsOnGrid new p) → (fits ≡ true → IsOnGrid new s) → stray || not fits ≡ false → All (IsOnGrid new) (spans ++ s ∷ [])
-all_on old new spans s stray fits were kept now e =
-    let parts = neither stray (not fits) e in
-    All-push (IsOnGrid new) spans s (All-weaker (IsOnGrid old) (IsOnGrid new) kept spans (were parts.0)) (now (not-false fits parts.1))

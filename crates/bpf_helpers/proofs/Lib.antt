@@ -3,6 +3,7 @@ pub mod Covering
 pub mod Determined
 pub mod HeldLaws
 pub mod Leaving
+pub mod Noting
 pub mod OnGrid
 pub mod Reaching
 pub mod Sized

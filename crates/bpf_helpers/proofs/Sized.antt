@@ -3,9 +3,9 @@ use Rattle.std.proofs.Common.{◌≡◌, ℕ, ◌+◌, ◌*◌, ◌<◌, ◌≤�
 use Rattle.std.proofs.lemmas.Nat.{mul-le}
 use Rattle.bpf_shared.specs.declared.events.Span.{Span}
 use Rattle.bpf_shared.specs.declared.shapes.MapShape.{MapShape}
-use Rattle.bpf_shared.specs.Shape.{IsElementSpan, IsMap, IsMapShape, element_span, elements}
+use Rattle.bpf_shared.specs.Shape.{AreMaps, IsElementSpan, IsMap, IsMapShape, element_span, elements}
 use Rattle.bpf_helpers.specs.Private.Grid.{IsOffset, IsOnGrid, stride_of}
-use Rattle.bpf_helpers.specs.Private.Sizes.{AreMaps, AreSizesOf}
+use Rattle.bpf_helpers.specs.Private.Sizes.{AreSizesOf}
 use Rattle.bpf_helpers.proofs.Binned.{written}
 use Rattle.bpf_helpers.proofs.OnGrid.{one_offset}
 

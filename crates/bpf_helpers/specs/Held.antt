@@ -3,7 +3,7 @@ use Rattle.std.specs.Prelude.{◌≡◌, ◌≢◌, ℕ, ◌+◌, ◌-◌, ◌<�
 use Rattle.std.specs.List.{list_any}
 use Rattle.bpf_shared.specs.declared.events.Span.{Span}
 use Rattle.bpf_shared.specs.declared.shapes.MapShape.{MapShape}
-use Rattle.bpf_shared.specs.Shape.{IsValueSpan}
+use Rattle.bpf_shared.specs.Shape.{AreMaps, IsElement, IsValueSpan}
 use Rattle.bpf_shared.specs.Passage.{same_span}
 
 -- how many spans a run holds at most (our own choice)
@@ -25,6 +25,10 @@ IsTooMany held p = (has_span held p ≡ false) × (max_held ≤ length held)
 -- the store lets the CPU reach each of them, and each is a value's
 abbrev pub AreHeld : (Span → Bool) → List Span → Type 0
 AreHeld holds held = All (λ p. (holds p ≡ true) × IsValueSpan p) held
+
+-- each is that of an element of a map, for maps that a store may have
+abbrev pub AreElements : List Span → Type 0
+AreElements spans = (maps : List MapShape) × AreMaps maps × All (IsElement maps) spans
 
 -- whether the address is in a span
 abbrev pub is_in : ℕ → Span → Bool

@@ -1,11 +1,11 @@
 //! The helpers.
 
-ghost use Rattle.std.specs.Prelude.{◌≡◌, ◌+◌, true, ℕ, List, Some, slice_get, slice_index};
+ghost use Rattle.std.specs.Prelude.{◌≡◌, ◌+◌, true, ℕ, List, ◌∷◌, Some, IfSome, slice_get, slice_index};
 ghost use Rattle.bpf_shared.specs.declared.events.Event.{Event};
 ghost use Rattle.bpf_shared.specs.declared.shapes.MapShape.{MapShape};
 ghost use Rattle.bpf_shared.specs.Chain.{Chain};
 ghost use Rattle.bpf_shared.specs.Shape.{IsMapShape};
-ghost use Rattle.bpf_helpers.specs.Held.{AreHeld, KeepsRun};
+ghost use Rattle.bpf_helpers.specs.Held.{AreElements, AreHeld, KeepsRun};
 ghost use Rattle.bpf_helpers.specs.Calls.{CallsHelper, CallsMap, DeletesKey, IsHelperNumber, IsMapAt, LooksUp, TakesAnswer, UpdatesMap, answer_number, lookup_number, update_number, delete_number, map_value, processor_number};
 
 use crate::fault::HelperFault;
@@ -46,6 +46,7 @@ fn number_of_answer(answer: MapAnswer) -> u64
 
 /// Goes on with a lookup's answer.
 fn take_answer(held: &mut HeldSpans, answer: Option<Span>) -> Result<u64, HelperFault>
+    requires elements { IfSome answer (λ p. AreElements (p ∷ held.old)) }
     ensures { TakesAnswer answer held.old result held.new }
 {
     match answer {

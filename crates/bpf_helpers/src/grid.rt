@@ -1,11 +1,11 @@
 //! Which element of a map lies at an address.
 
-ghost use Rattle.std.specs.Prelude.{◌≡◌, ◌<◌, ◌↔◌, ℕ, IsTrue, IfSome, IfNone, List, Some};
+ghost use Rattle.std.specs.Prelude.{◌≡◌, ◌<◌, ℕ, IfSome, IfNone, List, Some};
 ghost use Rattle.bpf_shared.specs.declared.events.Span.{Span};
 ghost use Rattle.bpf_shared.specs.declared.shapes.MapShape.{MapShape};
-ghost use Rattle.bpf_shared.specs.Shape.{IsElementSpan, IsIn};
+ghost use Rattle.bpf_shared.specs.Shape.{AreMaps, IsElementSpan, IsIn};
 ghost use Rattle.bpf_helpers.specs.Private.Grid.{IsOnGrid, IsOffset, stride_of};
-ghost use Rattle.bpf_helpers.specs.Private.Sizes.{AreMaps, AreSizesOf};
+ghost use Rattle.bpf_helpers.specs.Private.Sizes.{AreSizesOf};
 
 use bpf_shared::Span;
 
@@ -67,23 +67,6 @@ impl Grid {
             at: address - u64::from(past),
             size: u64::from(size),
         })
-    }
-
-    /// Whether the span is on the grid.
-    pub(crate) fn has(&self, span: Span) -> bool
-        ensures { IsTrue result ↔ IsOnGrid self.now.sizes span }
-    {
-        let Some((map, offset)) = offset_of(span.at) else {
-            return false;
-        };
-        let size = self.sizes[map];
-        if size == 0 || u64::from(size) != span.size {
-            return false;
-        }
-        if offset % u64::from(stride_of(size)) != 0 {
-            return false;
-        }
-        offset + span.size <= AREA
     }
 
     /// Takes a span's size for its map's, where none of them is held yet.

@@ -1,8 +1,8 @@
 //! The values that a CPU's run holds.
 
-ghost use Rattle.std.specs.Prelude.{◌≡◌, ◌<◌, ◌≤◌, [], ◌↔◌, All, length, IsTrue, true, false};
+ghost use Rattle.std.specs.Prelude.{◌≡◌, ◌<◌, ◌≤◌, [], ◌∷◌, ◌↔◌, All, length, IsTrue, true, false};
 ghost use Rattle.bpf_shared.specs.Shape.{IsValueSpan};
-ghost use Rattle.bpf_helpers.specs.Held.{AreReached, covers, has_span, is_covered, max_held, reaches, with_span};
+ghost use Rattle.bpf_helpers.specs.Held.{AreElements, AreReached, covers, has_span, is_covered, max_held, reaches, with_span};
 
 use crate::bins::Bins;
 use crate::grid::Grid;
@@ -23,8 +23,6 @@ pub struct HeldSpans {
     spans: ArrayVec<Span, MAX_HELD>,
     bins: Bins,
     grid: Grid,
-    /// Whether one of the spans isn't on the grid. No value of a map is such a one.
-    has_stray: bool,
 }
 
 impl Model for HeldSpans {
@@ -36,7 +34,7 @@ impl Model for HeldSpans {
 
     ghost view = { λ h. h.spans.items };
 
-    ghost invariant = { λ h. LeadToSpans h.bins h.grid h.has_stray h.spans.items };
+    ghost invariant = { λ h. LeadToSpans h.bins h.grid h.spans.items };
 }
 
 /// Whether a span has all bytes from an address on, this many.
@@ -55,7 +53,6 @@ impl HeldSpans {
             spans: ArrayVec::new(),
             bins: Bins::new(),
             grid: Grid::new(),
-            has_stray: false,
         }
     }
 
@@ -127,7 +124,7 @@ impl HeldSpans {
     fn element_covers(&self, address: u64, length: u64) -> bool
         ensures { result ≡ is_covered self.now address length }
     {
-        if self.has_stray || length == 0 {
+        if length == 0 {
             return self.any_covers(address, length);
         }
         match self.grid.element_at(address) {
@@ -145,14 +142,14 @@ impl HeldSpans {
     }
 
     /// Holds this span too.
-    pub fn hold(&mut self, span: Span)
+    pub(crate) fn hold(&mut self, span: Span)
         requires room { has_span self.old span ≡ false → length self.old < max_held }
+        requires elements { AreElements (span ∷ self.old) }
         ensures { self.new ≡ with_span self.old span }
     {
         if !self.has(span) {
             self.bins.put(span, self.spans.len() as u8);
             self.grid.note(span);
-            self.has_stray |= !self.grid.has(span);
             self.spans.push(span);
         }
     }

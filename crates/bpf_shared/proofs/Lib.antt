@@ -25,3 +25,4 @@ mod Listing
 pub mod OneListing
 pub mod Lasting
 pub mod Served
+pub mod Elements

@@ -54,6 +54,14 @@ abbrev pub IsElementSpan : List MapShape → ℕ → Span → Type 0
 IsElementSpan maps m p = (h : MapShape) × (i : ℕ) × IsMap maps m h × (i < elements h)
     × (p ≡ element_span m h i)
 
+-- at most 16 maps, each of a shape that a map may have
+abbrev pub AreMaps : List MapShape → Type 0
+AreMaps maps = (m : ℕ) (h : MapShape) → IsMap maps m h → (m < 16) × IsMapShape h
+
+-- the span is that of an element of one of these maps
+abbrev pub IsElement : List MapShape → Span → Type 0
+IsElement maps p = (m : ℕ) × IsElementSpan maps m p
+
 -- the span lies among the addresses of values, and is as long as a value may be
 pub record IsValueSpan (p : Span) : Type 0 where
   pub from : 0x10_0000_0000 ≤ p.at

@@ -5,7 +5,7 @@ ghost use Rattle.bpf_shared.specs.declared.events.Entry.{Entry};
 ghost use Rattle.bpf_shared.specs.declared.events.Span.{Span};
 ghost use Rattle.bpf_shared.specs.declared.events.MapAnswer.{MapAnswer};
 ghost use Rattle.bpf_shared.specs.declared.shapes.MapShape.{MapShape};
-ghost use Rattle.bpf_shared.specs.Shape.{IsMapShape, IsKeyOf, IsPairOf, IsElementSpan, IsValueSpan};
+ghost use Rattle.bpf_shared.specs.Shape.{IsMapShape, IsKeyOf, IsPairOf, IsElement, IsElementSpan, IsValueSpan, AreMaps};
 ghost use Rattle.bpf_shared.specs.Access.{bytes_in};
 ghost use Rattle.bpf_shared.specs.Store.{put};
 ghost use Rattle.bpf_shared.specs.Passage.{Calls, held_with, held_without, IsHeldPlace};
@@ -77,6 +77,8 @@ pub trait Shared {
         ensures held { held self.new ≡ held_with (held self.old) cpu result }
         ensures element { IfSome result (IsElementSpan (shapes self.old) map) }
         ensures in_range { IfSome result IsValueSpan }
+        ensures maps { AreMaps (shapes self.old) }
+        ensures elements { (p : Span) → held self.new cpu p ≡ true → IsElement (shapes self.old) p }
         ensures same { (shapes self.new ≡ shapes self.old) × (serves self.new ≡ serves self.old)
             × (running self.new ≡ running self.old) };
 

@@ -15,7 +15,7 @@ use Rattle.hop_cpu.specs.Serving.{Serving, serves, running, serves_span}
 use Rattle.hop_cpu.specs.Passing.{ExtendsHistory}
 use Rattle.hop_cpu.specs.Lemmas.Passing.{nothing}
 
-abbrev with_port : Shown → Port → Serving
+abbrev pub with_port : Shown → Port → Serving
 with_port t p = record { table = t; port = p }
 
 own_cpu : (p : Port) (c : ℕ) → (c == p.known.cpu) ≡ true → p.known.cpu ≡ c

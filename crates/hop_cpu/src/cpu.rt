@@ -79,6 +79,8 @@ impl<R: Wait> Shared for HopCpu<'_, R> {
     }
 
     fn lookup(&mut self, _cpu: u8, map: u8, key: &[u8]) -> Option<Span> {
+        // What the sizes of maps are is known of them here.
+        let _maps = self.table.about().shape.maps();
         self.port.lookup(self.rt, self.table, map, key)
     }
 

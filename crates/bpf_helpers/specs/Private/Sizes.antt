@@ -1,11 +1,7 @@
 -- The sizes of maps' values, so far as they are known.
-use Rattle.std.specs.Prelude.{◌≡◌, ℕ, ◌<◌, ◌⊎◌, List, slice_index}
+use Rattle.std.specs.Prelude.{◌≡◌, ℕ, ◌⊎◌, List, slice_index}
 use Rattle.bpf_shared.specs.declared.shapes.MapShape.{MapShape}
-use Rattle.bpf_shared.specs.Shape.{IsMap, IsMapShape}
-
--- at most 16 maps, each of a shape that a map may have
-abbrev pub AreMaps : List MapShape → Type 0
-AreMaps maps = (m : ℕ) (h : MapShape) → IsMap maps m h → (m < 16) × IsMapShape h
+use Rattle.bpf_shared.specs.Shape.{IsMap}
 
 -- a map's size is that of its values, or not known yet
 abbrev pub AreSizesOf : List MapShape → List ℕ → Type 0

@@ -1,9 +1,9 @@
-use Rattle.std.proofs.Common.{ℕ, Bool, [], ◌∷◌, ◌++◌, inl, inr, refl, sym, subst}
+use Rattle.std.proofs.Common.{◌≡◌, ℕ, Bool, true, [], ◌∷◌, ◌++◌, inl, inr, refl, sym, subst}
 use Rattle.bpf_shared.specs.declared.events.Event.TheVariants.{Lookup}
 use Rattle.bpf_shared.specs.declared.events.Span.{Span}
 use Rattle.bpf_shared.proofs.Chains.{chain_nothing, chain_call}
 use Rattle.bpf_helpers.specs.Held.{AreHeld}
-use Rattle.bpf_helpers.proofs.HeldLaws.{held_after}
+use Rattle.bpf_helpers.proofs.HeldLaws.{held_after, found_elements}
 use Rattle.bpf_helpers.proofs.calls.look_up.Goals as goal
 
 pub returns-in_default-clause-call : goal.returns-in_default-clause-call
@@ -30,3 +30,13 @@ returns-clause-held g c =
     let Q : (ℕ → Span → Bool) → Type 0 = λ held. AreHeld (held cpu) c.args.held.now in
     let before : Q (g.S.Shared.held c.read-key.new.shared) = subst Q (sym c.read-key.ensures.held) c.requires.held in
     subst P (sym c.lookup-answer.ensures.held) (held_after (g.S.Shared.held c.read-key.new.shared) cpu c.lookup-answer.result c.args.held.now c.take_answer.new.held c.take_answer.result c.lookup-answer.ensures.in_range before c.take_answer.ensures)
+
+pub take_answer-requires : goal.take_answer-requires
+take_answer-requires g c =
+    let cpu = c.args.cpu in
+    let held = g.S.Shared.held c.read-key.new.shared in
+    let before : AreHeld (held cpu) c.args.held.now = subst (λ (h : ℕ → Span → Bool). AreHeld (h cpu) c.args.held.now) (sym c.read-key.ensures.held) c.requires.held in
+    record {
+      elements = found_elements held cpu (g.S.Shared.shapes c.read-key.new.shared) c.lookup-answer.result c.args.held.now c.lookup-answer.ensures.maps
+          (λ p h. c.lookup-answer.ensures.elements p (subst (λ (f : ℕ → Span → Bool). f cpu p ≡ true) (sym c.lookup-answer.ensures.held) h)) before;
+    }

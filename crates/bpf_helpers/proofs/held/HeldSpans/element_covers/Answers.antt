@@ -10,7 +10,7 @@ returns-then-covers c =
     let zero = c.if-length-eq0.false in
     let some : 1 ≤ c.args.length = omega arith in
     let all : All (IsOnGrid c.self.inside.grid.sizes) c.args.self.now =
-    subst (λ (spans : List Span). All (IsOnGrid c.self.inside.grid.sizes) spans) c.self.view_is (c.self.invariant.on_grid c.if-self.false) in
+    subst (λ (spans : List Span). All (IsOnGrid c.self.inside.grid.sizes) spans) c.self.view_is c.self.invariant.on_grid in
     c.has.ensures ∙ if_among c.self.inside.grid.sizes c.args.self.now c.args.address c.args.length c.element_at.result all some c.element_at.ensures
     c.in-Some.span c.in-Some.is (sym c.if-covers.ensures)
 
@@ -19,7 +19,7 @@ returns-else-covers c =
     let zero = c.if-length-eq0.false in
     let some : 1 ≤ c.args.length = omega arith in
     let all : All (IsOnGrid c.self.inside.grid.sizes) c.args.self.now =
-    subst (λ (spans : List Span). All (IsOnGrid c.self.inside.grid.sizes) spans) c.self.view_is (c.self.invariant.on_grid c.if-self.false) in
+    subst (λ (spans : List Span). All (IsOnGrid c.self.inside.grid.sizes) spans) c.self.view_is c.self.invariant.on_grid in
     c.if-covers.false ∙ too_short c.self.inside.grid.sizes c.args.self.now c.args.address c.args.length c.element_at.result all some c.element_at.ensures
     c.in-Some.span c.in-Some.is (sym c.if-covers.ensures)
 
@@ -28,5 +28,5 @@ returns-in-None c =
     let zero = c.if-length-eq0.false in
     let some : 1 ≤ c.args.length = omega arith in
     let all : All (IsOnGrid c.self.inside.grid.sizes) c.args.self.now =
-    subst (λ (spans : List Span). All (IsOnGrid c.self.inside.grid.sizes) spans) c.self.view_is (c.self.invariant.on_grid c.if-self.false) in
+    subst (λ (spans : List Span). All (IsOnGrid c.self.inside.grid.sizes) spans) c.self.view_is c.self.invariant.on_grid in
     not_there c.self.inside.grid.sizes c.args.self.now c.args.address c.args.length c.element_at.result all some c.element_at.ensures c.in-None.is

@@ -1,9 +1,10 @@
-use Rattle.std.proofs.Common.{◌≡◌, ◌≢◌, ℕ, ◌<◌, true, length, Some, subst, ap, sym, ◌∙◌, arith}
+use Rattle.std.proofs.Common.{◌≡◌, ◌≢◌, ℕ, ◌<◌, true, List, length, Some, subst, ap, sym, ◌∙◌, arith}
 use Rattle.std.proofs.lemmas.List.{get_or_read}
 use Rattle.bpf_shared.specs.declared.events.Span.{Span}
 use Rattle.bpf_shared.specs.declared.events.Event.TheVariants.{Lookup}
 use Rattle.bpf_shared.specs.declared.runs.Runs.{Runs}
-use Rattle.bpf_shared.specs.Shape.{elements, element_span}
+use Rattle.bpf_shared.specs.declared.shapes.MapShape.{MapShape}
+use Rattle.bpf_shared.specs.Shape.{elements, element_span, IsElement}
 use Rattle.bpf_shared.specs.Passage.{Calls, held_with}
 use Rattle.bpf_shared.specs.Private.Runs.{no_runs}
 use Rattle.bpf_shared.specs.Private.Rows.{Rows, key_of, IsLinked, IsTable, noted_row}
@@ -11,6 +12,7 @@ use Rattle.bpf_shared.specs.Private.Contents.{Contents, runs_of, rows, size_of, 
 use Rattle.bpf_shared.proofs.Counting.{served}
 use Rattle.bpf_shared.proofs.Changing.{map_there, shape_at, read_row}
 use Rattle.bpf_shared.proofs.Looking.{looked_calls, looked_held, looked_same, looked_store, unlooked_calls}
+use Rattle.bpf_shared.proofs.Elements.{are_maps, held_is_element}
 use Rattle.bpf_shared.proofs.plain.PlainStoreShared.lookup.Goals as goal
 
 pub returns-in_err-element-clause-found : goal.returns-in_err-element-clause-found
@@ -165,3 +167,17 @@ returns-clause-same c =
     let noted : c.look_up.new.self ≡ noted_row i cpu (runs_of p cpu).count (rows p m) = c.look_up.ensures.noted ∙ (ap (λ (x : Runs). noted_row i cpu x.count c.index_mut.result.now) run ∙ ap (noted_row i cpu (runs_of p cpu).count) same) in
     let new : ◌≡◌ {A = Contents} (with_table (record { runs = runs; tables = tables }) m c.look_up.new.self) (looked p cpu m i) = ap (λ (q : Contents). with_table q m c.look_up.new.self) c.self.view_is ∙ ap (with_table p m) noted in
     (ap shapes_of new ∙ (looked_same p is cpu m i mi ii ci).shapes, ap has_cpu new, ap is_running new)
+
+pub returns-in_err-element-clause-maps : goal.returns-in_err-element-clause-maps
+returns-in_err-element-clause-maps c = are_maps c.args.self.now (subst IsStore c.self.view_is c.self.invariant)
+
+pub returns-in_err-element-clause-elements : goal.returns-in_err-element-clause-elements
+returns-in_err-element-clause-elements c = held_is_element c.args.self.now c.args.cpu
+
+pub returns-clause-maps : goal.returns-clause-maps
+returns-clause-maps c = are_maps c.args.self.now (subst IsStore c.self.view_is c.self.invariant)
+
+pub returns-clause-elements : goal.returns-clause-elements
+returns-clause-elements c = λ q held.
+    let new : Contents = with_table (record { runs = c.self.inside.runs.items; tables = c.self.inside.tables.items }) c.args.map c.look_up.new.self in
+    subst (λ (maps : List MapShape). IsElement maps q) (returns-clause-same c).0 (held_is_element new c.args.cpu q held)
