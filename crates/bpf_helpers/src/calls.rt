@@ -9,8 +9,9 @@ ghost use Rattle.bpf_helpers.specs.Held.{AreElements, AreHeld, KeepsRun};
 ghost use Rattle.bpf_helpers.specs.Calls.{CallsHelper, CallsMap, DeletesKey, IsHelperNumber, IsMapAt, LooksUp, TakesAnswer, UpdatesMap, answer_number, lookup_number, update_number, delete_number, map_value, processor_number};
 
 use crate::fault::HelperFault;
+use crate::gathered;
 use crate::held::HeldSpans;
-use crate::reading::{Bytes, find_source, read};
+use crate::reading::own_bytes;
 use bpf_mem::PrivateMemory;
 use bpf_shared::{MapAnswer, MapShape, Shared, Span};
 
@@ -30,7 +31,7 @@ pub const GET_SMP_PROCESSOR_ID: u32 = 8;
 pub const MAPS: u64 = 0x1_0000_0000;
 
 /// An answer as a program gets it: 0, or 2^64 less the error's number.
-fn number_of_answer(answer: MapAnswer) -> u64
+pub(crate) fn number_of_answer(answer: MapAnswer) -> u64
     ensures { result ≡ answer_number answer }
 {
     match answer {
@@ -45,7 +46,7 @@ fn number_of_answer(answer: MapAnswer) -> u64
 }
 
 /// Goes on with a lookup's answer.
-fn take_answer(held: &mut HeldSpans, answer: Option<Span>) -> Result<u64, HelperFault>
+pub(crate) fn take_answer(held: &mut HeldSpans, answer: Option<Span>) -> Result<u64, HelperFault>
     requires elements { IfSome answer (λ p. AreElements (p ∷ held.old)) }
     ensures { TakesAnswer answer held.old result held.new }
 {
@@ -81,13 +82,9 @@ fn look_up<S: Shared>(
     ensures held { AreHeld (S.held shared.new cpu) held.new }
     ensures keeps { KeepsRun S.shapes S.running S.held cpu shared.old shared.new }
 {
-    let at = registers[2];
-    let count = shape.key as usize;
-    let Some(place) = find_source(memory, held, at, count) else {
-        return Err(HelperFault::BadAddress);
+    let Some(key) = own_bytes(memory, registers[2], shape.key as usize) else {
+        return gathered::look_up(cpu, map, shape, registers, memory, held, shared);
     };
-    let mut room = Bytes::new();
-    let key = read(cpu, memory, held, shared, at, count, place, &mut room);
     let answer = shared.lookup(cpu, map, key);
     take_answer(held, answer)
 }
@@ -112,13 +109,9 @@ fn delete<S: Shared>(
     ensures held { S.held shared.new ≡ S.held shared.old }
     ensures keeps { KeepsRun S.shapes S.running S.held cpu shared.old shared.new }
 {
-    let at = registers[2];
-    let count = shape.key as usize;
-    let Some(place) = find_source(memory, held, at, count) else {
-        return Err(HelperFault::BadAddress);
+    let Some(key) = own_bytes(memory, registers[2], shape.key as usize) else {
+        return gathered::delete(cpu, map, shape, registers, memory, held, shared);
     };
-    let mut room = Bytes::new();
-    let key = read(cpu, memory, held, shared, at, count, place, &mut room);
     let answer = shared.delete(cpu, map, key);
     Ok(number_of_answer(answer))
 }
@@ -143,38 +136,15 @@ fn update<S: Shared>(
     ensures held { S.held shared.new ≡ S.held shared.old }
     ensures keeps { KeepsRun S.shapes S.running S.held cpu shared.old shared.new }
 {
-    let key_count = shape.key as usize;
-    let value_count = shape.value as usize;
-    let Some(key_place) = find_source(memory, held, registers[2], key_count) else {
-        return Err(HelperFault::BadAddress);
-    };
-    let Some(value_place) = find_source(memory, held, registers[3], value_count) else {
-        return Err(HelperFault::BadAddress);
-    };
-    let mut key_room = Bytes::new();
-    let key = read(
-        cpu,
-        memory,
-        held,
-        shared,
-        registers[2],
-        key_count,
-        key_place,
-        &mut key_room,
-    );
-    let mut value_room = Bytes::new();
-    let value = read(
-        cpu,
-        memory,
-        held,
-        shared,
-        registers[3],
-        value_count,
-        value_place,
-        &mut value_room,
-    );
-    let answer = shared.update(cpu, map, key, value, registers[4]);
-    Ok(number_of_answer(answer))
+    let key = own_bytes(memory, registers[2], shape.key as usize);
+    let value = own_bytes(memory, registers[3], shape.value as usize);
+    match (key, value) {
+        (Some(key), Some(value)) => {
+            let answer = shared.update(cpu, map, key, value, registers[4]);
+            Ok(number_of_answer(answer))
+        }
+        _ => gathered::update(cpu, map, shape, registers, memory, held, shared),
+    }
 }
 
 /// Calls the helper of this number on a CPU: its result, for R0. R1 to R5 have the arguments; the

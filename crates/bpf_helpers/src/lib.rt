@@ -4,6 +4,7 @@
 mod bins;
 pub mod calls;
 pub mod fault;
+mod gathered;
 mod grid;
 pub mod held;
 pub mod laws;

@@ -1,6 +1,7 @@
 //! How keys and values are read, from a CPU's own memory and from values.
 
-ghost use Rattle.std.specs.Prelude.{◌≡◌, ◌≤◌, true, All, List, length, IfSome, IfNone};
+ghost use Rattle.std.specs.Prelude.{◌≡◌, ◌≤◌, true, All, List, length, Some, IfSome, IfNone};
+ghost use Rattle.bpf_mem.specs.Memory.{bytes_at};
 ghost use Rattle.bpf_shared.specs.declared.events.Event.{Event};
 ghost use Rattle.bpf_shared.specs.Chain.{Chain};
 ghost use Rattle.bpf_shared.specs.Shape.{IsValueSpan};
@@ -24,6 +25,18 @@ pub(crate) type Bytes = ArrayVec<u8, MAX_BYTES>;
 pub(crate) enum Source {
     Private(Place),
     Held,
+}
+
+/// The bytes from an address on, where they are the CPU's own.
+#[inline]
+pub(crate) fn own_bytes(memory: &PrivateMemory, at: u64, count: usize) -> Option<&[u8]>
+    requires some { 1 ≤ count }
+    requires bounded { count ≤ 256 }
+    ensures own { IfSome result (λ b. bytes_at memory.now at count ≡ Some b.now) }
+    ensures count { IfSome result (λ b. length b.now ≡ count) }
+{
+    let place = memory.locate_bytes(at, count)?;
+    Some(memory.bytes(place, count))
 }
 
 /// Where some bytes from an address on lie; `None` where one of them can't be read.
