@@ -1,3 +1,4 @@
 pub mod Atomic
 pub mod Bytes
 pub mod Laws
+pub mod Hashes

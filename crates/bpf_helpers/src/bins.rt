@@ -6,6 +6,7 @@ ghost use Rattle.bpf_shared.specs.Passage.{same_span};
 ghost use Rattle.bpf_helpers.specs.Held.{has_span};
 ghost use Rattle.bpf_helpers.specs.Private.Bins.{AreBinned, bin_of};
 
+use bpf_base::spread;
 use bpf_shared::Span;
 
 /// Numbers of spans in bins by where the spans start, so that one is found among few.
@@ -26,7 +27,7 @@ fn bin_of(at: u64) -> usize
     ensures bin { result ≡ bin_of at }
     ensures small { result < 512 }
 {
-    (at.wrapping_mul(0x9e37_79b9_7f4a_7c15) >> 55) as usize
+    (spread(at) >> 55) as usize
 }
 
 /// Whether two spans are the same.

@@ -1,9 +1,10 @@
 //! Numbers in little-endian bytes.
 
-ghost use Rattle.std.specs.Prelude.{◌≡◌, ◌+◌, ◌^◌, ◌*◌, ◌<◌, ◌≤◌, ◌++◌, length, take, drop};
+ghost use Rattle.std.specs.Prelude.{◌≡◌, ◌+◌, ◌<◌, ◌≤◌, length};
 ghost use Rattle.bpf_base.specs.Bytes.{modulus, little_endian, low_bytes, part, with_part};
 ghost use Rattle.bpf_mem.specs.Bytes.{length_of, size_of};
 
+use bpf_base::bytes::{load_double, load_half, load_word, store_double, store_half, store_word};
 use bpf_insn::operation::{Size, Width};
 
 /// How many bytes a size has.
@@ -41,23 +42,9 @@ pub(crate) fn load(bytes: &[u8], at: usize, size: Size) -> u64
 {
     match size {
         Size::Byte => u64::from(bytes[at]),
-        Size::Half => u64::from(u16::from_le_bytes([bytes[at], bytes[at + 1]])),
-        Size::Word => u64::from(u32::from_le_bytes([
-            bytes[at],
-            bytes[at + 1],
-            bytes[at + 2],
-            bytes[at + 3],
-        ])),
-        Size::Double => u64::from_le_bytes([
-            bytes[at],
-            bytes[at + 1],
-            bytes[at + 2],
-            bytes[at + 3],
-            bytes[at + 4],
-            bytes[at + 5],
-            bytes[at + 6],
-            bytes[at + 7],
-        ]),
+        Size::Half => u64::from(load_half(bytes, at)),
+        Size::Word => u64::from(load_word(bytes, at)),
+        Size::Double => load_double(bytes, at),
     }
 }
 
@@ -69,10 +56,8 @@ pub(crate) fn store(bytes: &mut [u8], at: usize, size: Size, value: u64)
 {
     match size {
         Size::Byte => bytes[at] = (value % 0x100) as u8,
-        Size::Half => bytes[at..at + 2].copy_from_slice(&((value % 0x1_0000) as u16).to_le_bytes()),
-        Size::Word => {
-            bytes[at..at + 4].copy_from_slice(&((value % 0x1_0000_0000) as u32).to_le_bytes())
-        }
-        Size::Double => bytes[at..at + 8].copy_from_slice(&value.to_le_bytes()),
+        Size::Half => store_half(bytes, at, value),
+        Size::Word => store_word(bytes, at, value),
+        Size::Double => store_double(bytes, at, value),
     }
 }

@@ -5,6 +5,7 @@ ghost use Rattle.bpf_base.specs.Atomic.{number_after};
 ghost use Rattle.bpf_shared.specs.Access.{bytes_in};
 
 use crate::events::{AtomicOp, Size};
+use bpf_base::bytes::{load_double, load_half, load_word, store_double, store_half, store_word};
 
 /// The number at an offset.
 pub fn load(bytes: &[u8], at: usize, size: Size) -> u64
@@ -14,23 +15,9 @@ pub fn load(bytes: &[u8], at: usize, size: Size) -> u64
 {
     match size {
         Size::Byte => u64::from(bytes[at]),
-        Size::Half => u64::from(u16::from_le_bytes([bytes[at], bytes[at + 1]])),
-        Size::Word => u64::from(u32::from_le_bytes([
-            bytes[at],
-            bytes[at + 1],
-            bytes[at + 2],
-            bytes[at + 3],
-        ])),
-        Size::Double => u64::from_le_bytes([
-            bytes[at],
-            bytes[at + 1],
-            bytes[at + 2],
-            bytes[at + 3],
-            bytes[at + 4],
-            bytes[at + 5],
-            bytes[at + 6],
-            bytes[at + 7],
-        ]),
+        Size::Half => u64::from(load_half(bytes, at)),
+        Size::Word => u64::from(load_word(bytes, at)),
+        Size::Double => load_double(bytes, at),
     }
 }
 
@@ -41,11 +28,9 @@ pub fn store(bytes: &mut [u8], at: usize, size: Size, word: u64)
 {
     match size {
         Size::Byte => bytes[at] = (word % 0x100) as u8,
-        Size::Half => bytes[at..at + 2].copy_from_slice(&((word % 0x1_0000) as u16).to_le_bytes()),
-        Size::Word => {
-            bytes[at..at + 4].copy_from_slice(&((word % 0x1_0000_0000) as u32).to_le_bytes())
-        }
-        Size::Double => bytes[at..at + 8].copy_from_slice(&word.to_le_bytes()),
+        Size::Half => store_half(bytes, at, word),
+        Size::Word => store_word(bytes, at, word),
+        Size::Double => store_double(bytes, at, word),
     }
 }
 

@@ -2,7 +2,7 @@
 ghost use Rattle.std.specs.Prelude.{◌≡◌, ◌<◌, ◌≤◌};
 ghost use Rattle.bpf_shared.specs.Private.Home.{home_of};
 
-const FACTOR: u64 = 0x9e37_79b9_7f4a_7c15;
+use bpf_base::spread;
 
 /// The home of a key among so many.
 #[tactic(auto, unfolding(crate::specs::Private::Home::hash_of))]
@@ -11,8 +11,8 @@ pub fn home(key: &[u8], homes: usize) -> usize
     ensures home { result ≡ home_of homes key.now }
     ensures in_range { 0 < homes → result < homes }
 {
-    let hash = key.iter().fold(0, |hash: u64, byte| {
-        (hash ^ u64::from(*byte)).wrapping_mul(FACTOR)
-    });
+    let hash = key
+        .iter()
+        .fold(0, |hash: u64, byte| spread(hash ^ u64::from(*byte)));
     ((hash >> 32) * homes as u64 >> 32) as usize
 }

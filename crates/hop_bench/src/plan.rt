@@ -1,5 +1,7 @@
 //! What is to be timed.
 
+use bpf_base::spread;
+
 /// Calls that are drawn.
 #[derive(Clone, Copy)]
 pub enum Mix {
@@ -99,5 +101,5 @@ impl Keys {
 /// order.
 #[inline]
 pub fn key_of(number: u64) -> [u8; 8] {
-    number.wrapping_mul(0x9e37_79b9_7f4a_7c15).to_le_bytes()
+    spread(number).to_le_bytes()
 }

@@ -1,10 +1,11 @@
 -- How the spans that a run holds are kept in bins, by where they start.
-use Rattle.std.specs.Prelude.{◌≡◌, ℕ, ◌*◌, ◌/◌, ◌%◌, ◌^◌, ◌-◌, ◌<◌, ◌≤◌, List, length, Some, slice_get, slice_index}
+use Rattle.std.specs.Prelude.{◌≡◌, ℕ, ◌/◌, ◌^◌, ◌-◌, ◌<◌, ◌≤◌, List, length, Some, slice_get, slice_index}
+use Rattle.bpf_base.specs.Hashes.{spread}
 use Rattle.bpf_shared.specs.declared.events.Span.{Span}
 
--- the bin of the spans that start there: 2 ^ 64 by the golden ratio spreads them
+-- the bin of the spans that start there
 unfoldable pub bin_of : ℕ → ℕ
-bin_of at = at * 0x9e37_79b9_7f4a_7c15 % 2 ^ 64 / 2 ^ 55
+bin_of at = spread at / 2 ^ 55
 
 -- each of these spans is found from the latest one of its bin on, one earlier after the other
 pub record AreBinned (latest earlier : List ℕ) (spans : List Span) : Type 0 where

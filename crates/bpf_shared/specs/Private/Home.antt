@@ -1,8 +1,9 @@
 -- Where a key belongs: a polynomial of its bytes, whose high bits choose (our own choice).
-use Rattle.std.specs.Prelude.{ℕ, ◌*◌, ◌/◌, ◌%◌, ◌^◌, List, fold, bit_xor}
+use Rattle.std.specs.Prelude.{ℕ, ◌*◌, ◌/◌, ◌^◌, List, fold, bit_xor}
+use Rattle.bpf_base.specs.Hashes.{spread}
 
 abbrev pub hash_round : ℕ → ℕ → ℕ
-hash_round hash byte = bit_xor hash byte * 0x9e3779b97f4a7c15 % 2 ^ 64
+hash_round hash byte = spread (bit_xor hash byte)
 
 -- 32 bits of a key
 unfoldable pub hash_of : List ℕ → ℕ

@@ -1,0 +1,15 @@
+//! Numbers spread over 64 bits, for hashes.
+
+ghost use Rattle.std.specs.Prelude.{◌≡◌};
+ghost use Rattle.bpf_base.specs.Hashes.{spread};
+
+/// 2 ^ 64 by the golden ratio, which is odd.
+const GOLDEN: u64 = 0x9e37_79b9_7f4a_7c15;
+
+/// A number whose high bits depend on all bits of another one.
+#[inline]
+pub fn spread(number: u64) -> u64
+    ensures { result ≡ spread number }
+{
+    number.wrapping_mul(GOLDEN)
+}
