@@ -6,6 +6,7 @@ use Rattle.bpf_insn.specs.declared.instruction.Insn.TheVariants as insn
 use Rattle.bpf_mem.specs.Addresses.{context_base}
 use Rattle.bpf_mem.specs.Bytes.{length_of, size_of}
 use Rattle.bpf_mem.specs.Limits.{max_context}
+use Rattle.bpf_shared.specs.Shape.{first_value, map_area}
 use Rattle.bpf_cpu.specs.Row.{plain_size}
 use Rattle.bpf_faults.specs.declared.area.Region.{Region}
 use Rattle.bpf_faults.specs.declared.area.Region.TheVariants.{Context, Values, Other}
@@ -30,8 +31,8 @@ abbrev pub IsOfContext : ℕ → Type 0
 IsOfContext address = (context_base ≤ address) × (address < context_base + max_context)
 
 -- what an address is for: maps are counted on past the last one that may be there
-abbrev pub IsFor : ℕ → Region → Type 0
-IsFor address Context = IsOfContext address
-IsFor address (Values map) = (0x10_0000_0000 + 0x1000_0000 * map ≤ address)
-    × (address < 0x10_0000_0000 + 0x1000_0000 * (map + 1))
-IsFor address Other = (address < 0x10_0000_0000) × (IsOfContext address → ⊥)
+abbrev pub IsInRegion : ℕ → Region → Type 0
+IsInRegion address Context = IsOfContext address
+IsInRegion address (Values map) = (first_value + map_area * map ≤ address)
+    × (address < first_value + map_area * (map + 1))
+IsInRegion address Other = (address < first_value) × (IsOfContext address → ⊥)

@@ -1,18 +1,14 @@
 //! The areas of memory that a program reaches.
 
-ghost use Rattle.bpf_faults.specs.Access.{IsFor};
+ghost use Rattle.bpf_faults.specs.Access.{IsInRegion};
 
 use crate::evidence::Seen;
 use crate::words::Maps;
 use bpf_mem::addresses::{CONTEXT_BASE, FRAME_STRIDE, STACK_BASE};
 use bpf_mem::context::MAX_CONTEXT;
 use bpf_mem::frames::FRAME_BYTES;
+use bpf_shared::{FIRST_VALUE, MAP_AREA};
 use std::alloc::AllocError;
-
-/// Where the values of maps begin, and how far each map's begin above those of the one before.
-const VALUE_BASE: u64 = 0x10_0000_0000;
-
-const MAP_STRIDE: u64 = 0x1000_0000;
 
 /// How many held values are named.
 const NAMED_VALUES: usize = 8;
@@ -28,10 +24,10 @@ pub enum Region {
 
 /// What an address is for.
 pub fn region_of(address: u64) -> Region
-    ensures { IsFor address result }
+    ensures { IsInRegion address result }
 {
-    if address >= VALUE_BASE {
-        Region::Values(((address - VALUE_BASE) / MAP_STRIDE) as usize)
+    if address >= FIRST_VALUE {
+        Region::Values(((address - FIRST_VALUE) / MAP_AREA) as usize)
     } else if address >= CONTEXT_BASE && address - CONTEXT_BASE < MAX_CONTEXT as u64 {
         Region::Context
     } else {

@@ -7,13 +7,7 @@ ghost use Rattle.bpf_shared.specs.Shape.{AreMaps, IsElementSpan, IsIn};
 ghost use Rattle.bpf_helpers.specs.Private.Grid.{IsOnGrid, IsOffset, stride_of};
 ghost use Rattle.bpf_helpers.specs.Private.Sizes.{AreSizesOf};
 
-use bpf_shared::Span;
-
-/// Where the first map's values begin.
-const VALUES: u64 = 0x10_0000_0000;
-
-/// From the first value of a map to that of the next.
-const AREA: u64 = 0x1000_0000;
+use bpf_shared::{FIRST_VALUE, MAP_AREA, Span};
 
 /// The size of each map's values of which one is held. A map's elements lie side by side, so it
 /// tells which of them has an address.
@@ -29,10 +23,10 @@ fn offset_of(address: u64) -> Option<(usize, u64)>
     ensures some { IfSome result (λ r. IsOffset address r.0 r.1) }
     ensures none { IfNone result ((m o : ℕ) → IsOffset address m o → ⊥) }
 {
-    let above = address.checked_sub(VALUES)?;
-    let map = above / AREA;
+    let above = address.checked_sub(FIRST_VALUE)?;
+    let map = above / MAP_AREA;
     if map < 16 {
-        Some((map as usize, above % AREA))
+        Some((map as usize, above % MAP_AREA))
     } else {
         None
     }

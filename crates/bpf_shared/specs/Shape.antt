@@ -42,10 +42,18 @@ elements h = h.max + h.spare
 abbrev pub element_stride : MapShape → ℕ
 element_stride h = (h.value + 7) / 8 * 8
 
--- where the value in the i-th element of the m-th map lies (our own choice)
+-- where the first map's values begin (our own choice)
+abbrev pub first_value : ℕ
+first_value = 0x10_0000_0000
+
+-- from a map's first value to that of the next map (our own choice)
+abbrev pub map_area : ℕ
+map_area = 0x1000_0000
+
+-- where the value in the i-th element of the m-th map lies
 abbrev pub element_span : ℕ → MapShape → ℕ → Span
 element_span m h i = record {
-  at = 0x10_0000_0000 + 0x1000_0000 * m + i * element_stride h;
+  at = first_value + map_area * m + i * element_stride h;
   size = h.value;
 }
 
@@ -64,8 +72,8 @@ IsElement maps p = (m : ℕ) × IsElementSpan maps m p
 
 -- the span lies among the addresses of values, and is as long as a value may be
 pub record IsValueSpan (p : Span) : Type 0 where
-  pub from : 0x10_0000_0000 ≤ p.at
-  pub to : p.at + p.size ≤ 0x11_0000_0000
+  pub from : first_value ≤ p.at
+  pub to : p.at + p.size ≤ first_value + map_area * 16
   pub size : (1 ≤ p.size) × (p.size ≤ 256)
 
 -- the address is in the span

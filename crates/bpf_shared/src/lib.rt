@@ -16,5 +16,5 @@ mod table;
 
 pub use events::{AtomicOp, Entry, Event, MapAnswer, Size, Span, ValuePlace};
 pub use plain::PlainStore;
-pub use shapes::{MapShape, ShapeError, StoreShape};
+pub use shapes::{FIRST_VALUE, MAP_AREA, MapShape, ShapeError, StoreShape};
 pub use sharing::{Shared, Worn};

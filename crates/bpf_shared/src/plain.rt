@@ -1,5 +1,5 @@
 //! The plain store: the shared store of one thread.
-ghost use Rattle.std.specs.Prelude.{◌≡◌, ◌+◌, ◌<◌, ◌≤◌, ◌⊎◌, ℕ, true, false, IfOk, IfErr, IfSome, IfNone, length, map, nat_lt, slice_index_or};
+ghost use Rattle.std.specs.Prelude.{◌≡◌, ◌+◌, ◌<◌, ◌≤◌, ℕ, true, false, IfOk, IfErr, IfSome, IfNone, length, map, nat_lt, slice_index_or};
 ghost use Rattle.bpf_shared.specs.Shape.{IsMap, IsMapShape};
 ghost use Rattle.bpf_shared.specs.Private.Rows.{no_rows, shape_of, IsBlank, IsTable};
 ghost use Rattle.bpf_shared.specs.Private.Runs.{no_runs};
@@ -7,7 +7,7 @@ ghost use Rattle.bpf_shared.specs.Private.Runs.{no_runs};
 use crate::bytes::change;
 use crate::events::{AtomicOp, MapAnswer, Size, Span, ValuePlace};
 use crate::runs::Runs;
-use crate::shapes::{MapShape, ShapeError, StoreShape};
+use crate::shapes::{FIRST_VALUE, MAP_AREA, MapShape, ShapeError, StoreShape};
 use crate::sharing::{Shared, Worn};
 use crate::table::Table;
 use std::alloc::{AllocError, Global};
@@ -74,7 +74,7 @@ struct Reach {
 }
 
 impl PlainStore {
-    ghost use Rattle.bpf_shared.specs.Private.Contents.{IsMade, has_cpu, is_running, runs_of, size_of, span_at};
+    ghost use Rattle.bpf_shared.specs.Private.Contents.{IsMade, has_cpu, is_running, runs_of, element_count, span_at};
     ghost use Rattle.bpf_shared.specs.Private.Changes.{IsAtValue, IsAlike, IsReach};
     ghost use Rattle.bpf_shared.specs.Shows.{listed, Lists, ShowsByte, ShowsNoByte};
 
@@ -145,10 +145,10 @@ impl PlainStore {
         ensures found { IfSome result (IsReach self.now address) }
         ensures none { IfNone result (IsAtValue self.now address → ⊥) }
     {
-        let above = address.checked_sub(0x10_0000_0000)?;
-        let map = (above / 0x1000_0000) as usize;
+        let above = address.checked_sub(FIRST_VALUE)?;
+        let map = (above / MAP_AREA) as usize;
         let table = self.tables.get(map)?;
-        let within = above % 0x1000_0000;
+        let within = above % MAP_AREA;
         let stride = table.stride();
         let element = within / stride;
         let offset = within % stride;
@@ -167,13 +167,13 @@ impl PlainStore {
     fn reach(&self, at: u64) -> Reach
         requires { IsAtValue self.now at }
         ensures map { result.map < length self.now.tables }
-        ensures element { result.element < size_of self.now result.map }
+        ensures element { result.element < element_count self.now result.map }
         ensures at { at ≡ (span_at self.now result.map result.element).at + result.offset }
         ensures inside { result.offset < (span_at self.now result.map result.element).size }
     {
-        let above = at - 0x10_0000_0000;
-        let map = (above / 0x1000_0000) as usize;
-        let within = above % 0x1000_0000;
+        let above = at - FIRST_VALUE;
+        let map = (above / MAP_AREA) as usize;
+        let within = above % MAP_AREA;
         let stride = self.tables[map].stride();
         Reach {
             map,

@@ -5,6 +5,12 @@ ghost use Rattle.bpf_shared.specs.First.{first_of};
 use std::marker::Model;
 use thiserror::Error;
 
+/// Where the first map's values begin.
+pub const FIRST_VALUE: u64 = 0x10_0000_0000;
+
+/// From a map's first value to that of the next map.
+pub const MAP_AREA: u64 = 0x1000_0000;
+
 /// The sizes of a map in bytes and elements, and the mask of its keys' hashes.
 #[derive(Clone, Copy, PartialEq, Eq, Debug)]
 pub struct MapShape {

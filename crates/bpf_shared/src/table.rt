@@ -1,13 +1,13 @@
 //! A map of a `PlainStore`: its elements, which an index finds by their keys.
-ghost use Rattle.std.specs.Prelude.{◌≡◌, ◌≢◌, ◌+◌, ◌*◌, ◌<◌, ◌≤◌, ◌↔◌, ◌⊎◌, ℕ, IfOk, IfErr, IfSome, IfNone, IsTrue, length, map, slice_index};
+ghost use Rattle.std.specs.Prelude.{◌≡◌, ◌+◌, ◌*◌, ◌<◌, ◌≤◌, ◌↔◌, ◌⊎◌, ℕ, IfOk, IfSome, IfNone, IsTrue, length, map, slice_index};
 ghost use Rattle.bpf_base.specs.Bytes.{little_endian, low_bytes, modulus, part, with_part};
 ghost use Rattle.bpf_shared.specs.Access.{bytes_in};
-ghost use Rattle.bpf_shared.specs.Private.Runs.{run_of, count_of};
+ghost use Rattle.bpf_shared.specs.Private.Runs.{count_of};
 ghost use Rattle.bpf_shared.specs.Shape.{IsMapShape, IsValueSpan, elements, element_span, element_stride};
 ghost use Rattle.bpf_shared.specs.Listing.{pair_of};
 ghost use Rattle.bpf_shared.specs.Private.Pairs.{AreRowPairs, ArePairsBelow};
 ghost use Rattle.bpf_shared.specs.Private.Index.{IsHome};
-ghost use Rattle.bpf_shared.specs.Private.Rows.{AreMarked, ArePassed, GoOn, HasCurrentAt, key_of, bytes_of, run_left, run_looked_up, IsLinked, linked_count, IsTable, IsBlank, IsMissing, IsKeyAt, IsKeptRow, IsTakenRow, IsLowestFreeRow, HasCurrent, Erases, noted_row, linked_row, unlinked_row, stored_row, Forgets, PutsRow, TakesRow};
+ghost use Rattle.bpf_shared.specs.Private.Rows.{AreMarked, ArePassed, GoOn, HasCurrentAt, key_of, bytes_of, IsLinked, linked_count, IsTable, IsBlank, IsMissing, IsKeyAt, IsKeptRow, IsTakenRow, IsLowestFreeRow, HasCurrent, Erases, noted_row, linked_row, unlinked_row, stored_row, Forgets, PutsRow, TakesRow};
 
 use crate::bytes::{load, store};
 use crate::events::{MapAnswer, Size, Span};
@@ -15,7 +15,7 @@ use crate::home::home;
 use crate::index::Index;
 use crate::marks::{first_unmarked, past_marked};
 use crate::runs::Runs;
-use crate::shapes::MapShape;
+use crate::shapes::{FIRST_VALUE, MAP_AREA, MapShape};
 use std::alloc::{AllocError, Global};
 use std::marker::Model;
 
@@ -533,7 +533,7 @@ impl Table {
         ensures in_range { IsValueSpan result }
     {
         Span {
-            at: 0x10_0000_0000 + 0x1000_0000 * u64::from(map) + element as u64 * self.stride(),
+            at: FIRST_VALUE + MAP_AREA * u64::from(map) + element as u64 * self.stride(),
             size: self.shape.value,
         }
     }

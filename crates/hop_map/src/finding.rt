@@ -13,7 +13,7 @@ use crate::locked::LockedWords;
 use crate::once::Once;
 use crate::peeked::PeekedWords;
 use crate::waiting::lock_when_free;
-use bpf_shared::Span;
+use bpf_shared::{FIRST_VALUE, MAP_AREA, Span};
 use hop_seg::find;
 use hop_words::{HopTable, Lane};
 use std::sync::Wait;
@@ -27,7 +27,7 @@ pub(crate) fn span_of(table: &HopTable, map: u8, found: Option<u32>) -> Option<S
     let size = shape_of(table, map).value;
     let stride = size.div_ceil(8) * 8;
     Some(Span {
-        at: 0x10_0000_0000 + 0x1000_0000 * u64::from(map) + u64::from(element) * stride,
+        at: FIRST_VALUE + MAP_AREA * u64::from(map) + u64::from(element) * stride,
         size,
     })
 }

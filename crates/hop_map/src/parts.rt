@@ -1,7 +1,6 @@
 //! The bytes of a value as part of one of its words.
 ghost use Rattle.std.specs.Prelude.{◌≡◌, ◌+◌, ◌<◌, ◌≤◌};
 ghost use Rattle.bpf_base.specs.Bytes.{low_bytes, modulus, with_part};
-ghost use Rattle.bpf_base.specs.Atomic.{number_after};
 ghost use Rattle.bpf_shared.specs.Access.{bytes_in};
 ghost use Rattle.hop_words.specs.declared.known.Known.{Known};
 ghost use Rattle.hop_words.specs.Touching.{TouchesPart, part_address, found_part};
@@ -9,7 +8,7 @@ ghost use Rattle.hop_map.specs.Accesses.{IsValuePlace, IsHeldAt};
 
 use crate::homing::shape_of;
 use bpf_shared::bytes::{load, store};
-use bpf_shared::{Size, ValuePlace};
+use bpf_shared::{FIRST_VALUE, MAP_AREA, Size, ValuePlace};
 use hop_words::{HopTable, ValuePart};
 
 /// The word that the bytes lie in, and their place there.
@@ -21,9 +20,9 @@ pub(crate) fn part_at(table: &HopTable, at: ValuePlace, size: Size) -> ValuePart
     ensures size { result.size ≡ size }
 {
     let _cpus = table.about().shape.cpus();
-    let above = at.at - 0x10_0000_0000;
-    let map = (above / 0x1000_0000) as u8;
-    let within = above % 0x1000_0000;
+    let above = at.at - FIRST_VALUE;
+    let map = (above / MAP_AREA) as u8;
+    let within = above % MAP_AREA;
     let stride = shape_of(table, map).value.div_ceil(8) * 8;
     let offset = within % stride;
     ValuePart {

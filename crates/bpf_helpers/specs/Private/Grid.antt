@@ -1,12 +1,13 @@
 -- Where the elements of maps lie whose values have given sizes.
 use Rattle.std.specs.Prelude.{◌≡◌, ℕ, ◌+◌, ◌*◌, ◌/◌, ◌<◌, ◌≤◌, List, slice_index}
 use Rattle.bpf_shared.specs.declared.events.Span.{Span}
+use Rattle.bpf_shared.specs.Shape.{first_value, map_area}
 
 -- the address is so far behind where the first value of the map begins
 pub record IsOffset (address m offset : ℕ) : Type 0 where
   pub map : m < 16
-  pub near : offset < 0x1000_0000
-  pub at : address ≡ 0x10_0000_0000 + 0x1000_0000 * m + offset
+  pub near : offset < map_area
+  pub at : address ≡ first_value + map_area * m + offset
 
 -- from one value of this size to the next
 abbrev pub stride_of : ℕ → ℕ
@@ -19,4 +20,4 @@ pub record IsOnGrid (sizes : List ℕ) (p : Span) : Type 0 where
   pub start : IsOffset p.at map (element * stride_of p.size)
   pub size : slice_index sizes map ≡ p.size
   pub some : 1 ≤ p.size
-  pub room : element * stride_of p.size + p.size ≤ 0x1000_0000
+  pub room : element * stride_of p.size + p.size ≤ map_area
