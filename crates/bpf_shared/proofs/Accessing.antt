@@ -18,7 +18,7 @@ use Rattle.bpf_shared.specs.Sound.{IsSoundStore}
 use Rattle.bpf_shared.specs.Passage.{Calls, same_span, IsHeldPlace}
 use Rattle.bpf_shared.specs.Private.Runs.{is_run}
 use Rattle.bpf_shared.specs.Private.Rows.{Rows, bytes_of, key_of, IsLinked, run_looked_up, run_left, stored_row}
-use Rattle.bpf_shared.specs.Private.Contents.{Contents, runs_of, rows, size_of, span_at, shapes_of, has_cpu, is_running, holds, keeps, held_spans, any_below, IsUsed, StandsFor, Passes, IsStore, with_table}
+use Rattle.bpf_shared.specs.Private.Contents.{Contents, runs_of, rows, element_count, span_at, shapes_of, has_cpu, is_running, holds, keeps, held_spans, any_below, IsUsed, StandsFor, Passes, IsStore, with_table}
 use Rattle.bpf_shared.specs.Private.Changes.{IsAtValue}
 use Rattle.bpf_shared.proofs.Puts.{equal_or_not, put-same, put-other}
 use Rattle.bpf_shared.proofs.Passages.{calls}
@@ -46,10 +46,10 @@ same_spans q p h =
     λ i. record { at = x i; size = y i }
 
 -- the element whose span is held
-pub held_element : (p : Contents) (c : ℕ) (q : Span) → held_spans p c q ≡ true → (m : ℕ) × (i : ℕ) × (i < size_of p m) × (holds p c m i ≡ true) × (q ≡ span_at p m i)
+pub held_element : (p : Contents) (c : ℕ) (q : Span) → held_spans p c q ≡ true → (m : ℕ) × (i : ℕ) × (i < element_count p m) × (holds p c m i ≡ true) × (q ≡ span_at p m i)
 held_element p c q e =
-    let a = any_some (length p.tables) (λ m. any_below (size_of p m) (λ i. holds p c m i && same_span q (span_at p m i))) e in
-    let b = any_some (size_of p a.0) (λ i. holds p c a.0 i && same_span q (span_at p a.0 i)) a.2 in
+    let a = any_some (length p.tables) (λ m. any_below (element_count p m) (λ i. holds p c m i && same_span q (span_at p m i))) e in
+    let b = any_some (element_count p a.0) (λ i. holds p c a.0 i && same_span q (span_at p a.0 i)) a.2 in
     let t = both (holds p c a.0 b.0) (same_span q (span_at p a.0 b.0)) b.2 in
     (a.0, b.0, b.1, t.0, same_spans q (span_at p a.0 b.0) t.1)
 
@@ -69,7 +69,7 @@ is_at_value p c a size place =
 
 -- where the code looks for an address
 pub reach_facts : (p : Contents) (is : IsStore p) (a : ℕ) (v : IsAtValue p a) (t : Rows) (w : ℕ) → t ≡ rows p ((a - 0x10_0000_0000) / 0x1000_0000) → w ≡ element_stride t.shape
-    → ((a - 0x10_0000_0000) % 0x1000_0000 / w < size_of p ((a - 0x10_0000_0000) / 0x1000_0000))
+    → ((a - 0x10_0000_0000) % 0x1000_0000 / w < element_count p ((a - 0x10_0000_0000) / 0x1000_0000))
     × (a ≡ (span_at p ((a - 0x10_0000_0000) / 0x1000_0000) ((a - 0x10_0000_0000) % 0x1000_0000 / w)).at + (a - 0x10_0000_0000) % 0x1000_0000 % w)
     × ((a - 0x10_0000_0000) % 0x1000_0000 % w < (span_at p ((a - 0x10_0000_0000) / 0x1000_0000) ((a - 0x10_0000_0000) % 0x1000_0000 / w)).size)
 reach_facts p is a v t w row wide =
@@ -78,13 +78,13 @@ reach_facts p is a v t w row wide =
     let same : w ≡ element_stride (rows p v.0).shape = wide ∙ (ap (λ (y : Rows). element_stride y.shape) row ∙ ap (λ (n : ℕ). element_stride (rows p n).shape) r.0) in
     let element : x / w ≡ v.1 = ap (λ (k : ℕ). x / k) same ∙ r.1 in
     let offset : x % w ≡ a - (span_at p v.0 v.1).at = ap (λ (k : ℕ). x % k) same ∙ r.2 in
-    let P : ℕ → ℕ → ℕ → Type 0 = λ m e o. (e < size_of p m) × (a ≡ (span_at p m e).at + o) × (o < (span_at p m e).size) in
+    let P : ℕ → ℕ → ℕ → Type 0 = λ m e o. (e < element_count p m) × (a ≡ (span_at p m e).at + o) × (o < (span_at p m e).size) in
     let from = v.4.0 in let to = v.4.1 in
     let base : P v.0 v.1 (a - (span_at p v.0 v.1).at) = (v.3, omega arith, omega arith) in
     subst (λ (m : ℕ). P m (x / w) (x % w)) (sym r.0) (subst (λ (e : ℕ). P v.0 e (x % w)) (sym element) (subst (λ (o : ℕ). P v.0 v.1 o) (sym offset) base))
 
 -- the held element is the one that the code found
-module _ (p : Contents) (is : IsStore p) (c a : ℕ) (size : Size) (place : IsHeldPlace (held_spans p c) a (bytes_in size)) (m i o : ℕ) (l : i < size_of p m) (at : a ≡ (span_at p m i).at + o) (inside : o < (span_at p m i).size) where
+module _ (p : Contents) (is : IsStore p) (c a : ℕ) (size : Size) (place : IsHeldPlace (held_spans p c) a (bytes_in size)) (m i o : ℕ) (l : i < element_count p m) (at : a ≡ (span_at p m i).at + o) (inside : o < (span_at p m i).size) where
   found_in : IsIn a (span_at p m i)
   found_in = (omega arith, omega arith)
 
@@ -142,10 +142,10 @@ module _ (p : Contents) (is : IsStore p) (c a : ℕ) (size : Size) (place : IsHe
     low = length-low_bytes (bytes_in size) word
 
     bytes-here : bytes_of stored i ≡ with_part (bytes_of (rows p m) i) o (low_bytes (bytes_in size) word)
-    bytes-here = block-within (rows p m).values (low_bytes (bytes_in size) word) i (size_of p m) (rows p m).shape.value o (is.tables m mi).0.values l (omega (arith, fits, low))
+    bytes-here = block-within (rows p m).values (low_bytes (bytes_in size) word) i (element_count p m) (rows p m).shape.value o (is.tables m mi).0.values l (omega (arith, fits, low))
 
-    bytes-beside : (j : ℕ) → j < size_of p m → j ≢ i → bytes_of stored j ≡ bytes_of (rows p m) j
-    bytes-beside j k ne = block-beside (rows p m).values (low_bytes (bytes_in size) word) i j (size_of p m) (rows p m).shape.value o (is.tables m mi).0.values l k (omega (arith, fits, low)) ne
+    bytes-beside : (j : ℕ) → j < element_count p m → j ≢ i → bytes_of stored j ≡ bytes_of (rows p m) j
+    bytes-beside j k ne = block-beside (rows p m).values (low_bytes (bytes_in size) word) i j (element_count p m) (rows p m).shape.value o (is.tables m mi).0.values l k (omega (arith, fits, low)) ne
 
     pub store_shapes : shapes_of (with_table p m stored) ≡ shapes_of p
     store_shapes = shapes-with p m stored mi refl
@@ -165,7 +165,7 @@ module _ (p : Contents) (is : IsStore p) (c a : ℕ) (size : Size) (place : IsHe
     key-same : (n j : ℕ) → key_of (rows (with_table p m stored) n) j ≡ key_of (rows p n) j
     key-same n j = elim (rows_cases p m stored mi n) [ inl e ↦ ap (λ (t : Rows). key_of t j) e.1 ∙ ap (λ (x : ℕ). key_of (rows p x) j) (sym e.0) | inr e ↦ ap (λ (t : Rows). key_of t j) e.1 ]
 
-    size-same : (n : ℕ) → size_of (with_table p m stored) n ≡ size_of p n
+    size-same : (n : ℕ) → element_count (with_table p m stored) n ≡ element_count p n
     size-same n = ap elements (shape-with p m stored mi refl n)
 
     linked-was : (n j : ℕ) → IsLinked (rows (with_table p m stored) n) j → IsLinked (rows p n) j
@@ -178,10 +178,10 @@ module _ (p : Contents) (is : IsStore p) (c a : ℕ) (size : Size) (place : IsHe
     used-was n j (inl k) = inl (linked-was n j k)
     used-was n j (inr k) = inr (k.0, elim k.1 [ inl e ↦ inl (sym (keeps-same k.0 n j) ∙ e) | inr e ↦ inr (sym (holds-same k.0 n j) ∙ e) ])
 
-    within : (n j : ℕ) → j < size_of (with_table p m stored) n → j < size_of p n
+    within : (n j : ℕ) → j < element_count (with_table p m stored) n → j < element_count p n
     within n j k = subst (λ (x : ℕ). j < x) (size-same n) k
 
-    back : (n j : ℕ) → j < size_of p n → j < size_of (with_table p m stored) n
+    back : (n j : ℕ) → j < element_count p n → j < element_count (with_table p m stored) n
     back n j k = subst (λ (x : ℕ). j < x) (sym (size-same n)) k
 
     module _ (s : Plain) (so : IsSoundStore s) (h : StandsFor p s) where
@@ -194,7 +194,7 @@ module _ (p : Contents) (is : IsStore p) (c a : ℕ) (size : Size) (place : IsHe
           ∙ (ap (λ (k : ℕ). let y : Value = record { bytes = with_part (bytes_of (rows p m) i) k (low_bytes (bytes_in size) word); span = span_at p m i } in y) (let k : a - (span_at p m i).at ≡ o = omega arith in k)
           ∙ ap (λ (b : List ℕ). let y : Value = record { bytes = b; span = span_at p m i } in y) (sym bytes-here))
 
-      values-after : (n j : ℕ) → j < size_of p n → IsUsed p n j → (n ≡ m) ⊎ (n ≢ m)
+      values-after : (n j : ℕ) → j < element_count p n → IsUsed p n j → (n ≡ m) ⊎ (n ≢ m)
           → put s.value (h.number m i) value-new (h.number n j) ≡ record { bytes = bytes_of (rows (with_table p m stored) n) j; span = span_at (with_table p m stored) n j }
       values-after n j k u (inl e) = elim (equal_or_not j i) [
         | inl f ↦
@@ -206,7 +206,7 @@ module _ (p : Contents) (is : IsStore p) (c a : ℕ) (size : Size) (place : IsHe
             ∙ ap (λ (x : ℕ). let y : Value = record { bytes = bytes_of (rows (with_table p m stored) x) j; span = span_at (with_table p m stored) x j } in y) (sym e))))
         | inr f ↦
             let apart : h.number n j ≢ h.number m i = λ q. f ((one_number p is s so h n m j i k l u (inr (c, inr is_held)) q).1) in
-            let k' : j < size_of p m = subst (λ (x : ℕ). j < size_of p x) e k in
+            let k' : j < element_count p m = subst (λ (x : ℕ). j < element_count p x) e k in
             put-other s.value (h.number m i) (h.number n j) value-new apart
             ∙ (h.values n j k u
             ∙ (ap (λ (x : ℕ). let y : Value = record { bytes = bytes_of (rows p x) j; span = span_at p x j } in y) e

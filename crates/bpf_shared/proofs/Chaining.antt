@@ -3,7 +3,7 @@ use Rattle.std.proofs.Common.{◌≡◌, ◌≢◌, ℕ, zero, suc, ◌+◌, ◌
 use Rattle.std.specs.List.{count_by}
 use Rattle.std.proofs.lemmas.List.{get_or-set_same, get_or-set_other, length-set}
 use Rattle.std.proofs.lemmas.List.Sums.{count_by-le-length}
-use Rattle.bpf_shared.specs.Private.Chains.{Has, IsDistinct, IsChain, chain_length, Links, IsChainOf, IsAt, IsLinks, AreAsMany, Comes, Goes}
+use Rattle.bpf_shared.specs.Private.Chains.{Has, IsDistinct, IsChain, chain_length, Links, IsChainOf, IsChainedAt, IsLinks, AreAsMany, GetsChained, GetsUnchained}
 use Rattle.bpf_shared.proofs.Puts.{equal_or_not}
 use Rattle.bpf_shared.proofs.Linking.{count-unmarked, marked_inside}
 
@@ -141,7 +141,7 @@ chain-cut nexts p e inside leads link (x ∷ (y ∷ xs)) c d h = elim (equal_or_
     ]
 
 -- ---- the chains of all homes
-pub nothing_linked : (x : Links) → ((b : ℕ) → slice_index x.heads b ≡ 0) → (b i : ℕ) → IsAt x b i → ⊥
+pub nothing_linked : (x : Links) → ((b : ℕ) → slice_index x.heads b ≡ 0) → (b i : ℕ) → IsChainedAt x b i → ⊥
 nothing_linked x ends b i (([]), c, h) = h
 nothing_linked x ends b i ((y ∷ ys), c, h) = (let a : slice_index x.heads b ≡ y + 1 = c.0 in let z = ends b in omega arith)
 
@@ -153,7 +153,7 @@ empty_links x ends l = record {
   apart = λ b c i at other. absurd (nothing_linked x ends b i at);
 }
 
-pub at_chain : (x : Links) (b i : ℕ) (xs : List ℕ) → IsChainOf x b xs → IsAt x b i → Has xs i
+pub at_chain : (x : Links) (b i : ℕ) (xs : List ℕ) → IsChainOf x b xs → IsChainedAt x b i → Has xs i
 at_chain x b i xs c at = subst (λ (l : List ℕ). Has l i) (same_chain x.nexts (slice_index x.heads b) at.0 xs at.1 c) at.2
 
 pub chain_most : (x : Links) → IsLinks x → (b : ℕ) (xs : List ℕ) → IsChainOf x b xs → length xs ≤ length x.nexts
@@ -169,9 +169,9 @@ later_still link e xs some other h = elim h [
   | inr k ↦ k
 ]
 
-pub first_step : (x : Links) (is : IsLinks x) (b e : ℕ) → IsAt x b e → slice_index x.heads b ≢ e + 1
-    → (slice_index x.heads b ≢ 0) × IsAt x b (slice_index x.heads b - 1)
-    × ((rest : List ℕ) × IsChain x.nexts (slice_index x.nexts (slice_index x.heads b - 1)) rest × (length rest ≤ length x.nexts) × ((i : ℕ) → Has rest i → IsAt x b i) × Has rest e)
+pub first_step : (x : Links) (is : IsLinks x) (b e : ℕ) → IsChainedAt x b e → slice_index x.heads b ≢ e + 1
+    → (slice_index x.heads b ≢ 0) × IsChainedAt x b (slice_index x.heads b - 1)
+    × ((rest : List ℕ) × IsChain x.nexts (slice_index x.nexts (slice_index x.heads b - 1)) rest × (length rest ≤ length x.nexts) × ((i : ℕ) → Has rest i → IsChainedAt x b i) × Has rest e)
 first_step x is b e at other =
     let link = slice_index x.heads b in
     let own = is.chain b in
@@ -192,7 +192,7 @@ first_step x is b e at other =
     )
 
 -- an element comes
-module _ (x : Links) (is : IsLinks x) (b i : ℕ) (bi : b < length x.heads) (ii : i < length x.nexts) (new : (c : ℕ) → IsAt x c i → ⊥) where
+module _ (x : Links) (is : IsLinks x) (b i : ℕ) (bi : b < length x.heads) (ii : i < length x.nexts) (new : (c : ℕ) → IsChainedAt x c i → ⊥) where
   abbrev pub with_link : Links
   with_link = record { heads = set x.heads b (i + 1); nexts = set x.nexts i (slice_index x.heads b) }
 
@@ -208,24 +208,24 @@ module _ (x : Links) (is : IsLinks x) (b i : ℕ) (bi : b < length x.heads) (ii 
   longer : (xs : List ℕ) → IsChainOf x b xs → IsChainOf with_link b (i ∷ xs)
   longer xs p = (here, kept b (slice_index with_link.nexts i) xs p (get_or-set_same x.nexts i (slice_index x.heads b) 0 ii))
 
-  still : (c j : ℕ) → IsAt x c j → IsAt with_link c j
+  still : (c j : ℕ) → IsChainedAt x c j → IsChainedAt with_link c j
   still c j at = elim (equal_or_not c b) [
-    | inl s ↦ subst (λ (n : ℕ). IsAt with_link n j) (sym s) (let o : IsAt x b j = subst (λ (n : ℕ). IsAt x n j) s at in (i ∷ o.0, longer o.0 o.1, inr o.2))
+    | inl s ↦ subst (λ (n : ℕ). IsChainedAt with_link n j) (sym s) (let o : IsChainedAt x b j = subst (λ (n : ℕ). IsChainedAt x n j) s at in (i ∷ o.0, longer o.0 o.1, inr o.2))
     | inr ne ↦ (at.0, kept c (slice_index with_link.heads c) at.0 at.1 (else_ c ne), at.2)
   ]
 
-  was : (c j : ℕ) → IsAt with_link c j → ((c ≡ b) × (j ≡ i)) ⊎ IsAt x c j
+  was : (c j : ℕ) → IsChainedAt with_link c j → ((c ≡ b) × (j ≡ i)) ⊎ IsChainedAt x c j
   was c j at =
       let own = is.chain c in
       elim (equal_or_not c b) [
         | inl s ↦
             let o = is.chain b in
-            let h : Has (i ∷ o.0) j = at_chain with_link b j (i ∷ o.0) (longer o.0 o.1) (subst (λ (n : ℕ). IsAt with_link n j) s at) in
-            elim h [ inl e ↦ inl (s, e) | inr k ↦ inr (subst (λ (n : ℕ). IsAt x n j) (sym s) (o.0, o.1, k)) ]
+            let h : Has (i ∷ o.0) j = at_chain with_link b j (i ∷ o.0) (longer o.0 o.1) (subst (λ (n : ℕ). IsChainedAt with_link n j) s at) in
+            elim h [ inl e ↦ inl (s, e) | inr k ↦ inr (subst (λ (n : ℕ). IsChainedAt x n j) (sym s) (o.0, o.1, k)) ]
         | inr ne ↦ inr (own.0, own.1, at_chain with_link c j own.0 (kept c (slice_index with_link.heads c) own.0 own.1 (else_ c ne)) at)
       ]
 
-  pub comes : Comes b i x with_link
+  pub comes : GetsChained b i x with_link
   comes = record {
     many = record { homes = length-set x.heads b (i + 1); elements = length-set x.nexts i (slice_index x.heads b) };
     here = (let o = is.chain b in (i ∷ o.0, longer o.0 o.1, inl refl));
@@ -245,33 +245,33 @@ module _ (x : Links) (is : IsLinks x) (b i : ℕ) (bi : b < length x.heads) (ii 
         ]);
         inside = λ c j at. subst (λ (n : ℕ). j < n) (sym count) (elim (was c j at) [ inl p ↦ subst (λ (n : ℕ). n < length x.nexts) (sym p.1) ii | inr o ↦ is.inside c j o ]);
         apart = λ c d j p q. elim (was c j p) [
-          | inl a ↦ elim (was d j q) [ inl z ↦ a.0 ∙ sym z.0 | inr z ↦ absurd (new d (subst (IsAt x d) a.1 z)) ]
-          | inr a ↦ elim (was d j q) [ inl z ↦ absurd (new c (subst (IsAt x c) z.1 a)) | inr z ↦ is.apart c d j a z ]
+          | inl a ↦ elim (was d j q) [ inl z ↦ a.0 ∙ sym z.0 | inr z ↦ absurd (new d (subst (IsChainedAt x d) a.1 z)) ]
+          | inr a ↦ elim (was d j q) [ inl z ↦ absurd (new c (subst (IsChainedAt x c) z.1 a)) | inr z ↦ is.apart c d j a z ]
         ];
       }
 
 -- an element goes: its home has another chain, and all others have theirs
-module _ (x y : Links) (is : IsLinks x) (b e : ℕ) (at : IsAt x b e) (many : AreAsMany x y)
+module _ (x y : Links) (is : IsLinks x) (b e : ℕ) (at : IsChainedAt x b e) (many : AreAsMany x y)
     (cut : (ys : List ℕ) × IsChainOf y b ys × IsWithout e (is.chain b).0 ys) (others : (c : ℕ) → c ≢ b → IsChainOf y c (is.chain c).0) where
-  there : (c j : ℕ) → c ≢ b → IsAt x c j → j ≢ e
-  there c j ne a s = ne (is.apart c b e (subst (IsAt x c) s a) at)
+  there : (c j : ℕ) → c ≢ b → IsChainedAt x c j → j ≢ e
+  there c j ne a s = ne (is.apart c b e (subst (IsChainedAt x c) s a) at)
 
-  went : (c j : ℕ) → IsAt y c j → IsAt x c j × (j ≢ e)
+  went : (c j : ℕ) → IsChainedAt y c j → IsChainedAt x c j × (j ≢ e)
   went c j a = elim (equal_or_not c b) [
     | inl s ↦
-        let h : Has cut.0 j = at_chain y b j cut.0 cut.1 (subst (λ (n : ℕ). IsAt y n j) s a) in
+        let h : Has cut.0 j = at_chain y b j cut.0 cut.1 (subst (λ (n : ℕ). IsChainedAt y n j) s a) in
         let w = cut.2.was j h in
-        (subst (λ (n : ℕ). IsAt x n j) (sym s) ((is.chain b).0, (is.chain b).1, w.0), w.1)
+        (subst (λ (n : ℕ). IsChainedAt x n j) (sym s) ((is.chain b).0, (is.chain b).1, w.0), w.1)
     | inr ne ↦
-        let o : IsAt x c j = ((is.chain c).0, (is.chain c).1, at_chain y c j (is.chain c).0 (others c ne) a) in
+        let o : IsChainedAt x c j = ((is.chain c).0, (is.chain c).1, at_chain y c j (is.chain c).0 (others c ne) a) in
         (o, there c j ne o)
   ]
 
-  pub goes : Goes e x y
+  pub goes : GetsUnchained e x y
   goes = record {
     many = many;
     still = λ c j a none. elim (equal_or_not c b) [
-      | inl s ↦ subst (λ (n : ℕ). IsAt y n j) (sym s) (cut.0, cut.1, cut.2.still j (at_chain x b j (is.chain b).0 (is.chain b).1 (subst (λ (n : ℕ). IsAt x n j) s a)) none)
+      | inl s ↦ subst (λ (n : ℕ). IsChainedAt y n j) (sym s) (cut.0, cut.1, cut.2.still j (at_chain x b j (is.chain b).0 (is.chain b).1 (subst (λ (n : ℕ). IsChainedAt x n j) s a)) none)
       | inr ne ↦ ((is.chain c).0, others c ne, at_chain x c j (is.chain c).0 (is.chain c).1 a)
     ];
     was = went;
@@ -292,7 +292,7 @@ module _ (x y : Links) (is : IsLinks x) (b e : ℕ) (at : IsAt x b e) (many : Ar
       }
 
 -- the first element of a chain goes
-module _ (x : Links) (is : IsLinks x) (b e : ℕ) (bi : b < length x.heads) (at : IsAt x b e) (first : slice_index x.heads b ≡ e + 1) where
+module _ (x : Links) (is : IsLinks x) (b e : ℕ) (bi : b < length x.heads) (at : IsChainedAt x b e) (first : slice_index x.heads b ≡ e + 1) where
   abbrev pub without_head : Links
   without_head = record { heads = set x.heads b (slice_index x.nexts e); nexts = x.nexts }
 
@@ -308,14 +308,14 @@ module _ (x : Links) (is : IsLinks x) (b e : ℕ) (bi : b < length x.heads) (at 
   head_others : (c : ℕ) → c ≢ b → IsChainOf without_head c (is.chain c).0
   head_others c ne = subst (λ (n : ℕ). IsChain x.nexts n (is.chain c).0) (sym (get_or-set_other x.heads b c (slice_index x.nexts e) 0 ne)) (is.chain c).1
 
-  pub head_goes : Goes e x without_head
+  pub head_goes : GetsUnchained e x without_head
   head_goes = goes x without_head is b e at head_many (head_cut (is.chain b).0 (is.chain b).1 (is.chain b).2) head_others
 
   pub head_goes_links : IsLinks without_head
   head_goes_links = goes_links x without_head is b e at head_many (head_cut (is.chain b).0 (is.chain b).1 (is.chain b).2) head_others
 
 -- one behind another element goes
-module _ (x : Links) (is : IsLinks x) (b p e : ℕ) (at : IsAt x b e) (before : IsAt x b p) (leads : slice_index x.nexts p ≡ e + 1) where
+module _ (x : Links) (is : IsLinks x) (b p e : ℕ) (at : IsChainedAt x b e) (before : IsChainedAt x b p) (leads : slice_index x.nexts p ≡ e + 1) where
   abbrev pub without_link : Links
   without_link = record { heads = x.heads; nexts = set x.nexts p (slice_index x.nexts e) }
 
@@ -328,7 +328,7 @@ module _ (x : Links) (is : IsLinks x) (b p e : ℕ) (at : IsAt x b e) (before : 
   link_others : (c : ℕ) → c ≢ b → IsChainOf without_link c (is.chain c).0
   link_others c ne = chain-else x.nexts p (slice_index x.nexts e) (slice_index x.heads c) (is.chain c).0 (λ h. ne (is.apart c b p ((is.chain c).0, (is.chain c).1, h) before)) (is.chain c).1
 
-  pub link_goes : Goes e x without_link
+  pub link_goes : GetsUnchained e x without_link
   link_goes = goes x without_link is b e at link_many link_cut link_others
 
   pub link_goes_links : IsLinks without_link

@@ -8,7 +8,7 @@ use Rattle.bpf_shared.specs.declared.runs.Runs.{Runs}
 use Rattle.bpf_shared.specs.Shape.{IsMap, elements, element_span}
 use Rattle.bpf_shared.specs.Passage.{same_span}
 use Rattle.bpf_shared.specs.Private.Rows.{Rows, no_rows, shape_of, run_looked_up, run_left, IsTable}
-use Rattle.bpf_shared.specs.Private.Contents.{Contents, runs_of, rows, size_of, span_at, shapes_of, holds, held_spans, any_below, IsStore, with_table}
+use Rattle.bpf_shared.specs.Private.Contents.{Contents, runs_of, rows, element_count, span_at, shapes_of, holds, held_spans, any_below, IsStore, with_table}
 use Rattle.bpf_shared.proofs.Puts.{equal_or_not}
 use Rattle.bpf_shared.proofs.AnyBelow.{any_below_same}
 
@@ -20,16 +20,16 @@ held-same p q count shape e = λ k c x. go c x k
     span-same : (m i : ℕ) → span_at q m i ≡ span_at p m i
     span-same m i = ap (λ (h : MapShape). element_span m h i) (shape m)
 
-    inner : (c : ℕ) (x : Span) (m : ℕ) → any_below (size_of q m) (λ i. holds q c m i && same_span x (span_at q m i)) ≡ any_below (size_of p m) (λ i. holds p c m i && same_span x (span_at p m i))
+    inner : (c : ℕ) (x : Span) (m : ℕ) → any_below (element_count q m) (λ i. holds q c m i && same_span x (span_at q m i)) ≡ any_below (element_count p m) (λ i. holds p c m i && same_span x (span_at p m i))
     inner c x m =
         ap (λ (n : ℕ). any_below n (λ i. holds q c m i && same_span x (span_at q m i))) (ap elements (shape m))
-        ∙ any_below_same (size_of p m) (λ i. holds p c m i && same_span x (span_at p m i)) (λ i. holds q c m i && same_span x (span_at q m i))
+        ∙ any_below_same (element_count p m) (λ i. holds p c m i && same_span x (span_at p m i)) (λ i. holds q c m i && same_span x (span_at q m i))
         (λ i l. ap (λ (b : Bool). b && same_span x (span_at q m i)) (e c m i) ∙ ap (λ (y : Span). holds p c m i && same_span x y) (span-same m i))
 
     go : (c : ℕ) (x : Span) → held_spans q c x ≡ held_spans p c x
     go c x =
-        ap (λ (n : ℕ). any_below n (λ m. any_below (size_of q m) (λ i. holds q c m i && same_span x (span_at q m i)))) count
-        ∙ any_below_same (length p.tables) (λ m. any_below (size_of p m) (λ i. holds p c m i && same_span x (span_at p m i))) (λ m. any_below (size_of q m) (λ i. holds q c m i && same_span x (span_at q m i))) (λ m l. inner c x m)
+        ap (λ (n : ℕ). any_below n (λ m. any_below (element_count q m) (λ i. holds q c m i && same_span x (span_at q m i)))) count
+        ∙ any_below_same (length p.tables) (λ m. any_below (element_count p m) (λ i. holds p c m i && same_span x (span_at p m i))) (λ m. any_below (element_count q m) (λ i. holds q c m i && same_span x (span_at q m i))) (λ m l. inner c x m)
 
 shapes-set : (ts : List Rows) (m : ℕ) (n : Rows) → n.shape ≡ (get_or ts m no_rows).shape → map shape_of (set ts m n) ≡ map shape_of ts
 shapes-set [] m n e = refl

@@ -3,19 +3,19 @@ use Rattle.std.proofs.Common.{◌≡◌, ℕ, ◌<◌, List, length, inl, inr, s
 use Rattle.bpf_shared.specs.declared.runs.Runs.{Runs}
 use Rattle.bpf_shared.specs.Shape.{elements}
 use Rattle.bpf_shared.specs.Private.Rows.{Rows, key_of, IsLinked, IsTable, IsMissing, linked_row, unlinked_row}
-use Rattle.bpf_shared.specs.Private.Chains.{Links, IsAt, Comes, Goes}
+use Rattle.bpf_shared.specs.Private.Chains.{Links, IsChainedAt, GetsChained, GetsUnchained}
 use Rattle.bpf_shared.specs.Private.Home.{home_of}
 use Rattle.bpf_shared.specs.Private.Index.{home_at, IsIndexed}
 use Rattle.bpf_shared.proofs.Linking.{key-here, key-old, linked_here, linked_more, linked_was, unlinked_was, unlinked_still}
 
 pub linked_indexed : (t : Rows) (is : IsTable t) (i : ℕ) (key bytes : List ℕ) → IsMissing t key → i < elements t.shape → (IsLinked t i → ⊥) → length key ≡ t.shape.key → length bytes ≡ t.shape.value
-    → (x y : Links) (b : ℕ) → b ≡ home_of t.shape.max key → IsIndexed t x → Comes b i x y → IsIndexed (linked_row i key bytes t) y
+    → (x y : Links) (b : ℕ) → b ≡ home_of t.shape.max key → IsIndexed t x → GetsChained b i x y → IsIndexed (linked_row i key bytes t) y
 linked_indexed t is i key bytes missing inside free size long x y b home indexed comes = record {
   homes = comes.many.homes ∙ indexed.homes;
   elements = comes.many.elements ∙ indexed.elements;
   found = λ e l. elim (linked_was t is i key bytes missing inside free size long e l) [
-    | inl s ↦ subst (λ (n : ℕ). IsAt y (home_at (linked_row i key bytes t) n) n) (sym s) (subst (λ (n : ℕ). IsAt y n i) (home ∙ ap (home_of t.shape.max) (sym here)) comes.here)
-    | inr w ↦ subst (λ (n : ℕ). IsAt y n e) (ap (home_of t.shape.max) (sym (key-old t is i key bytes missing inside free size long e w))) (comes.still (home_at t e) e (indexed.found e w))
+    | inl s ↦ subst (λ (n : ℕ). IsChainedAt y (home_at (linked_row i key bytes t) n) n) (sym s) (subst (λ (n : ℕ). IsChainedAt y n i) (home ∙ ap (home_of t.shape.max) (sym here)) comes.here)
+    | inr w ↦ subst (λ (n : ℕ). IsChainedAt y n e) (ap (home_of t.shape.max) (sym (key-old t is i key bytes missing inside free size long e w))) (comes.still (home_at t e) e (indexed.found e w))
   ];
   linked = λ c e at. elim (comes.was c e at) [
     | inl p ↦ (
@@ -32,7 +32,7 @@ linked_indexed t is i key bytes missing inside free size long x y b home indexed
     here = key-here t is i key bytes missing inside free size long
 
 pub unlinked_indexed : (runs : List Runs) (t : Rows) (is : IsTable t) (o : ℕ) → IsLinked t o → length runs ≡ t.cpus
-    → (x y : Links) → IsIndexed t x → Goes o x y → IsIndexed (unlinked_row runs o t) y
+    → (x y : Links) → IsIndexed t x → GetsUnchained o x y → IsIndexed (unlinked_row runs o t) y
 unlinked_indexed runs t is o linked cpus x y indexed goes = record {
   homes = goes.many.homes ∙ indexed.homes;
   elements = goes.many.elements ∙ indexed.elements;

@@ -2,6 +2,7 @@ pub mod Puts
 pub mod Blocks
 pub mod Linking
 pub mod Indexing
+pub mod Homes
 pub mod Chaining
 pub mod Sorting
 pub mod Passing
@@ -21,6 +22,7 @@ pub mod Places
 pub mod Accessing
 pub mod Updating
 pub mod Settling
+pub mod Answering
 mod Listing
 pub mod OneListing
 pub mod Lasting

@@ -7,7 +7,7 @@ use Rattle.bpf_shared.specs.Shape.{IsIn, element_stride, elements}
 use Rattle.bpf_shared.specs.Store.{Plain, Value, Finds}
 use Rattle.bpf_shared.specs.Sound.{IsSoundStore}
 use Rattle.bpf_shared.specs.Private.Rows.{Rows, no_rows, key_of, bytes_of, IsTakenRow}
-use Rattle.bpf_shared.specs.Private.Contents.{Contents, rows, size_of, span_at, IsUsed, StandsFor, IsStore}
+use Rattle.bpf_shared.specs.Private.Contents.{Contents, rows, element_count, span_at, IsUsed, StandsFor, IsStore}
 use Rattle.bpf_shared.specs.Private.Changes.{IsAtValue, IsReach}
 use Rattle.bpf_shared.specs.Laws.{byte_at}
 use Rattle.bpf_shared.specs.Listing.{Pair, IsByteAt}
@@ -37,12 +37,12 @@ module _ (p : Contents) (is : IsStore p) where
   byte_in m i a = slice_index (bytes_of (rows p m) i) (a - (span_at p m i).at)
 
   module _ (s : Plain) (so : IsSoundStore s) (h : StandsFor p s) where
-    byte_of : (v m i a : ℕ) → i < size_of p m → IsUsed p m i → v ≡ h.number m i → byte_at s v a ≡ byte_in m i a
+    byte_of : (v m i a : ℕ) → i < element_count p m → IsUsed p m i → v ≡ h.number m i → byte_at s v a ≡ byte_in m i a
     byte_of v m i a l used e =
         ap (λ (z : ℕ). byte_at s z a) e ∙ ap (λ (x : Value). slice_index x.bytes (a - x.span.at)) (h.values m i l used)
 
     -- in which element the byte lies, and at which of its bytes
-    stands_at : (a b : ℕ) → IsByteAt s a b → (m : ℕ) × (i : ℕ) × (i < size_of p m) × IsTakenRow p.runs (rows p m) i × IsIn a (span_at p m i) × (b ≡ byte_in m i a)
+    stands_at : (a b : ℕ) → IsByteAt s a b → (m : ℕ) × (i : ℕ) × (i < element_count p m) × IsTakenRow p.runs (rows p m) i × IsIn a (span_at p m i) × (b ≡ byte_in m i a)
     stands_at a b (v, inl k, inside, e) =
         let f = h.found k.0 k.1.0 v k.1.1 in
         let l = linked_size p is k.0 f.0 f.1 in

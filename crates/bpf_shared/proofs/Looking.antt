@@ -13,7 +13,7 @@ use Rattle.bpf_shared.specs.Events.{span_of, after_lookup}
 use Rattle.bpf_shared.specs.Passage.{Calls, same_span, held_with}
 use Rattle.bpf_shared.specs.Private.Runs.{no_runs, is_run}
 use Rattle.bpf_shared.specs.Private.Rows.{Rows, key_of, bytes_of, run_looked_up, run_left, IsLinked, IsTable, noted_row}
-use Rattle.bpf_shared.specs.Private.Contents.{Contents, runs_of, rows, size_of, span_at, shapes_of, has_cpu, is_running, holds, keeps, any_below, held_spans, IsUsed, StandsFor, Passes, IsStore, looked}
+use Rattle.bpf_shared.specs.Private.Contents.{Contents, runs_of, rows, element_count, span_at, shapes_of, has_cpu, is_running, holds, keeps, any_below, held_spans, IsUsed, StandsFor, Passes, IsStore, looked}
 use Rattle.bpf_shared.proofs.Puts.{equal_or_not, put_pair, put_pair-old, put_pair-new}
 use Rattle.bpf_shared.proofs.Passages.{calls}
 use Rattle.bpf_shared.proofs.AnyBelow.{any_below_one}
@@ -26,7 +26,7 @@ own_or_same true h = refl
 own_or_same false true = refl
 own_or_same false false = refl
 
-module _ (p : Contents) (is : IsStore p) (c m i : ℕ) (mi : m < length p.tables) (ii : i < size_of p m) (ci : c < length p.runs) where
+module _ (p : Contents) (is : IsStore p) (c m i : ℕ) (mi : m < length p.tables) (ii : i < element_count p m) (ci : c < length p.runs) where
   abbrev row : Rows
   row = noted_row i c (runs_of p c).count (rows p m)
 
@@ -53,7 +53,7 @@ module _ (p : Contents) (is : IsStore p) (c m i : ℕ) (mi : m < length p.tables
   noted_now : run_looked_up row i c ≡ (runs_of p c).count
   noted_now =
       let inside : c < (rows p m).cpus = subst (λ (w : ℕ). c < w) (sym width) ci in
-      get_or-set_same (rows p m).looked_up (i * (rows p m).cpus + c) (runs_of p c).count 0 (omega (arith, in_block i (size_of p m) (rows p m).cpus c ii inside, table.looked_up))
+      get_or-set_same (rows p m).looked_up (i * (rows p m).cpus + c) (runs_of p c).count 0 (omega (arith, in_block i (element_count p m) (rows p m).cpus c ii inside, table.looked_up))
 
   holds_now : is_running p c ≡ true → holds (looked p c m i) c m i ≡ true
   holds_now going =
@@ -161,20 +161,20 @@ module _ (p : Contents) (is : IsStore p) (c m i : ℕ) (mi : m < length p.tables
             ap (λ (b : Bool). b && same_span x (span_at (looked p c m i) m j)) (holds_other d m j (λ e f. ne f))
             ∙ ap (λ (y : Span). holds p d m j && same_span x y) (span-same p (looked p c m i) looked_same m j)
 
-        in_map : (d : ℕ) (x : Span) → any_below (size_of (looked p c m i) m) (λ j. holds (looked p c m i) d m j && same_span x (span_at (looked p c m i) m j))
-            ≡ (((d == c) && same_span x (span_at p m i)) || any_below (size_of p m) (λ j. holds p d m j && same_span x (span_at p m j)))
+        in_map : (d : ℕ) (x : Span) → any_below (element_count (looked p c m i) m) (λ j. holds (looked p c m i) d m j && same_span x (span_at (looked p c m i) m j))
+            ≡ (((d == c) && same_span x (span_at p m i)) || any_below (element_count p m) (λ j. holds p d m j && same_span x (span_at p m j)))
         in_map d x =
             ap (λ (n : ℕ). any_below n (λ j. holds (looked p c m i) d m j && same_span x (span_at (looked p c m i) m j))) (ap elements (looked_same.shape m))
-            ∙ any_below_one (size_of p m) i (λ j. holds p d m j && same_span x (span_at p m j)) (λ j. holds (looked p c m i) d m j && same_span x (span_at (looked p c m i) m j)) ((d == c) && same_span x (span_at p m i)) ii (at_place d x) (beside d x)
+            ∙ any_below_one (element_count p m) i (λ j. holds p d m j && same_span x (span_at p m j)) (λ j. holds (looked p c m i) d m j && same_span x (span_at (looked p c m i) m j)) ((d == c) && same_span x (span_at p m i)) ii (at_place d x) (beside d x)
 
-        in_other : (d : ℕ) (x : Span) (n : ℕ) → n ≢ m → any_below (size_of (looked p c m i) n) (λ j. holds (looked p c m i) d n j && same_span x (span_at (looked p c m i) n j))
-            ≡ any_below (size_of p n) (λ j. holds p d n j && same_span x (span_at p n j))
+        in_other : (d : ℕ) (x : Span) (n : ℕ) → n ≢ m → any_below (element_count (looked p c m i) n) (λ j. holds (looked p c m i) d n j && same_span x (span_at (looked p c m i) n j))
+            ≡ any_below (element_count p n) (λ j. holds p d n j && same_span x (span_at p n j))
         in_other d x n ne = ap (λ (t : Rows). any_below (elements t.shape) (λ j. is_run (runs_of p d) (run_looked_up t j d) && same_span x (element_span n t.shape j))) (rows-else p m row mi n ne)
 
         go : (d : ℕ) (x : Span) → held_spans (looked p c m i) d x ≡ (((d == c) && same_span x (span_at p m i)) || held_spans p d x)
         go d x =
-            ap (λ (k : ℕ). any_below k (λ n. any_below (size_of (looked p c m i) n) (λ j. holds (looked p c m i) d n j && same_span x (span_at (looked p c m i) n j)))) looked_same.tables
-            ∙ any_below_one (length p.tables) m (λ n. any_below (size_of p n) (λ j. holds p d n j && same_span x (span_at p n j))) (λ n. any_below (size_of (looked p c m i) n) (λ j. holds (looked p c m i) d n j && same_span x (span_at (looked p c m i) n j))) ((d == c) && same_span x (span_at p m i)) mi (in_map d x) (in_other d x)
+            ap (λ (k : ℕ). any_below k (λ n. any_below (element_count (looked p c m i) n) (λ j. holds (looked p c m i) d n j && same_span x (span_at (looked p c m i) n j)))) looked_same.tables
+            ∙ any_below_one (length p.tables) m (λ n. any_below (element_count p n) (λ j. holds p d n j && same_span x (span_at p n j))) (λ n. any_below (element_count (looked p c m i) n) (λ j. holds (looked p c m i) d n j && same_span x (span_at (looked p c m i) n j))) ((d == c) && same_span x (span_at p m i)) mi (in_map d x) (in_other d x)
 
   pub looked_store : IsTable row → IsStore (looked p c m i)
   looked_store after = store-with p m row mi is after refl (λ j d l. bound j d l (equal_or_not (j * (rows p m).cpus + d) (i * (rows p m).cpus + c))) (λ j d l. is.left m j d l)

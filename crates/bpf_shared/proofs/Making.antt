@@ -13,7 +13,7 @@ use Rattle.bpf_shared.specs.Store.{as_made}
 use Rattle.bpf_shared.specs.Passage.{same_span}
 use Rattle.bpf_shared.specs.Private.Rows.{Rows, no_rows, shape_of, run_left, run_looked_up, IsBlank, IsLinked, IsTable}
 use Rattle.bpf_shared.specs.Private.Runs.{no_runs, is_run}
-use Rattle.bpf_shared.specs.Private.Contents.{Contents, runs_of, rows, size_of, span_at, shapes_of, IsUsed, StandsFor, IsStore, IsMade}
+use Rattle.bpf_shared.specs.Private.Contents.{Contents, runs_of, rows, element_count, span_at, shapes_of, IsUsed, StandsFor, IsStore, IsMade}
 use Rattle.bpf_shared.proofs.AnyBelow.{any_below_none}
 
 -- ---- vectors as they are made
@@ -84,7 +84,7 @@ module _ (p : Contents) (runs : (c : ℕ) → runs_of p c ≡ no_runs) (tables :
     shapes = maps;
     serves = λ c. ap (nat_lt c) cpus;
     idle = λ c. ap (λ (x : Runs). x.running) (runs c);
-    holds_nothing = λ c q. any_below_none (length p.tables) _ (λ m l. any_below_none (size_of p m) _ (λ i k. ap (λ (b : Bool). b && same_span q (span_at p m i)) (no_run c (run_looked_up (rows p m) i c))));
+    holds_nothing = λ c q. any_below_none (length p.tables) _ (λ m l. any_below_none (element_count p m) _ (λ i k. ap (λ (b : Bool). b && same_span q (span_at p m i)) (no_run c (run_looked_up (rows p m) i c))));
     shows = shows_made h cpus maps;
   }
 

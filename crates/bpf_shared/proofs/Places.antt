@@ -12,7 +12,7 @@ use Rattle.bpf_shared.specs.Choice.{IsTaken, IsLowestFree}
 use Rattle.bpf_shared.specs.Sound.{IsSoundStore}
 use Rattle.bpf_shared.specs.Private.Runs.{no_runs, is_run}
 use Rattle.bpf_shared.specs.Private.Rows.{Rows, no_rows, run_left, IsLinked, IsTakenRow, IsLowestFreeRow}
-use Rattle.bpf_shared.specs.Private.Contents.{Contents, rows, size_of, span_at, holds, keeps, IsUsed, StandsFor, IsStore}
+use Rattle.bpf_shared.specs.Private.Contents.{Contents, rows, element_count, span_at, holds, keeps, IsUsed, StandsFor, IsStore}
 use Rattle.bpf_shared.proofs.Puts.{equal_or_not}
 use Rattle.bpf_shared.proofs.Blocks.{apart_blocks}
 use Rattle.bpf_shared.proofs.Linking.{linked_inside}
@@ -78,7 +78,7 @@ linked_map p m i l = elim (cases_lt m (length p.tables)) [
   | inr k ↦ absurd (let none : false ≡ true = subst (λ (t : Rows). IsLinked t i) (get_or_past p.tables m no_rows k) l in cc)
 ]
 
-pub sized_map : (p : Contents) (m i : ℕ) → i < size_of p m → m < length p.tables
+pub sized_map : (p : Contents) (m i : ℕ) → i < element_count p m → m < length p.tables
 sized_map p m i l = elim (cases_lt m (length p.tables)) [
   | inl k ↦ k
   | inr k ↦ absurd (let none : i < 0 = subst (λ (t : Rows). i < elements t.shape) (get_or_past p.tables m no_rows k) l in omega arith)
@@ -91,34 +91,34 @@ keeps_cpu p c m i e = elim (cases_lt c (length p.runs)) [
 ]
 
 module _ (p : Contents) (is : IsStore p) where
-  shape_is : (m i : ℕ) → i < size_of p m → IsMapShape (rows p m).shape
+  shape_is : (m i : ℕ) → i < element_count p m → IsMapShape (rows p m).shape
   shape_is m i l = (is.tables m (sized_map p m i l)).0.shape
 
-  pub linked_size : (m i : ℕ) → IsLinked (rows p m) i → i < size_of p m
+  pub linked_size : (m i : ℕ) → IsLinked (rows p m) i → i < element_count p m
   linked_size m i l = linked_inside (rows p m) (is.tables m (linked_map p m i l)).0 i l
 
-  pub one_at : (m n i j a : ℕ) → i < size_of p m → j < size_of p n → IsIn a (span_at p m i) → IsIn a (span_at p n j) → (m ≡ n) × (i ≡ j)
+  pub one_at : (m n i j a : ℕ) → i < element_count p m → j < element_count p n → IsIn a (span_at p m i) → IsIn a (span_at p n j) → (m ≡ n) × (i ≡ j)
   one_at m n i j a li lj x y =
       let map : m ≡ n = one_map m n i j (rows p m).shape (rows p n).shape a (shape_is m i li) (shape_is n j lj) li lj x y in
       let here : IsIn a (span_at p m j) = subst (λ (k : ℕ). IsIn a (span_at p k j)) (sym map) y in
       (map, one_element m i j (rows p m).shape a (shape_is m i li) x here)
 
-  first_in : (m i : ℕ) → i < size_of p m → IsIn (span_at p m i).at (span_at p m i)
+  first_in : (m i : ℕ) → i < element_count p m → IsIn (span_at p m i).at (span_at p m i)
   first_in m i l = let v = (shape_is m i l).value.0 in (omega arith, omega arith)
 
-  pub one_span : (m n i j : ℕ) → i < size_of p m → j < size_of p n → span_at p m i ≡ span_at p n j → (m ≡ n) × (i ≡ j)
+  pub one_span : (m n i j : ℕ) → i < element_count p m → j < element_count p n → span_at p m i ≡ span_at p n j → (m ≡ n) × (i ≡ j)
   one_span m n i j li lj e = one_at m n i j (span_at p m i).at li lj (first_in m i li) (subst (IsIn (span_at p m i).at) e (first_in m i li))
 
   module _ (s : Plain) (so : IsSoundStore s) (h : StandsFor p s) where
-    pub span-number : (m i : ℕ) → i < size_of p m → IsUsed p m i → (s.value (h.number m i)).span ≡ span_at p m i
+    pub span-number : (m i : ℕ) → i < element_count p m → IsUsed p m i → (s.value (h.number m i)).span ≡ span_at p m i
     span-number m i l u = ap (λ (x : Value). x.span) (h.values m i l u)
 
-    pub one_number : (m n i j : ℕ) → i < size_of p m → j < size_of p n → IsUsed p m i → IsUsed p n j → h.number m i ≡ h.number n j → (m ≡ n) × (i ≡ j)
+    pub one_number : (m n i j : ℕ) → i < element_count p m → j < element_count p n → IsUsed p m i → IsUsed p n j → h.number m i ≡ h.number n j → (m ≡ n) × (i ≡ j)
     one_number m n i j li lj u w e =
         one_span m n i j li lj (sym (span-number m i li u) ∙ (ap (λ (v : ℕ). (s.value v).span) e ∙ span-number n j lj w))
 
     -- what is held is in its map, or kept
-    pub held_taken : (c m i : ℕ) → i < size_of p m → holds p c m i ≡ true → IsTakenRow p.runs (rows p m) i
+    pub held_taken : (c m i : ℕ) → i < element_count p m → holds p c m i ≡ true → IsTakenRow p.runs (rows p m) i
     held_taken c m i l e = elim (so.held c (h.number m i) (h.held_back c m i l e)) [
       | inl k ↦
           let f = h.found k.0 k.1.0 (h.number m i) k.1.1 in
@@ -131,11 +131,11 @@ module _ (p : Contents) (is : IsStore p) where
           inr (c, keeps_cpu p c m i here, here)
     ]
 
-    pub taken_up : (m i : ℕ) → i < size_of p m → IsTakenRow p.runs (rows p m) i → IsTaken s m (rows p m).shape i
+    pub taken_up : (m i : ℕ) → i < element_count p m → IsTakenRow p.runs (rows p m) i → IsTaken s m (rows p m).shape i
     taken_up m i l (inl k) = (h.number m i, inl (_, h.leads m i k), span-number m i l (inl k))
     taken_up m i l (inr k) = (h.number m i, inr (k.0, h.kept_back k.0 m i l k.2), span-number m i l (inr (k.0, inl k.2)))
 
-    pub taken_down : (m i : ℕ) → i < size_of p m → IsTaken s m (rows p m).shape i → IsTakenRow p.runs (rows p m) i
+    pub taken_down : (m i : ℕ) → i < element_count p m → IsTaken s m (rows p m).shape i → IsTakenRow p.runs (rows p m) i
     taken_down m i l (v, inl k, e) =
         let f = h.found m k.0 v k.1 in
         let there = linked_size m f.0 f.1 in
@@ -155,7 +155,7 @@ module _ (p : Contents) (is : IsStore p) where
     }
 
     -- a free element's span overlaps no live value
-    pub free_apart : (m i : ℕ) → i < size_of p m → (IsTakenRow p.runs (rows p m) i → ⊥) → (v : ℕ) → IsLive s v → IsApart (span_at p m i) (s.value v).span
+    pub free_apart : (m i : ℕ) → i < element_count p m → (IsTakenRow p.runs (rows p m) i → ⊥) → (v : ℕ) → IsLive s v → IsApart (span_at p m i) (s.value v).span
     free_apart m i l free v (inl k) a x y =
         let f = h.found k.0 k.1.0 v k.1.1 in
         let there = linked_size k.0 f.0 f.1 in

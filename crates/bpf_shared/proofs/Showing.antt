@@ -8,7 +8,7 @@ use Rattle.bpf_shared.specs.Store.{Plain, Finds}
 use Rattle.bpf_shared.specs.Passage.{same_span, held_without}
 use Rattle.bpf_shared.proofs.Puts.{equal_or_not}
 use Rattle.bpf_shared.specs.Private.Rows.{Rows, key_of, bytes_of, IsLinked}
-use Rattle.bpf_shared.specs.Private.Contents.{Contents, rows, size_of, span_at, shapes_of, is_running, holds, keeps, any_below, held_spans, IsUsed, StandsFor}
+use Rattle.bpf_shared.specs.Private.Contents.{Contents, rows, element_count, span_at, shapes_of, is_running, holds, keeps, any_below, held_spans, IsUsed, StandsFor}
 use Rattle.bpf_shared.proofs.AnyBelow.{any_below_same, any_below_none}
 
 -- the same keys, bytes and places
@@ -42,20 +42,20 @@ module _ (p q : Contents) (same : SameContent p q) where
   pub linked_still : (m i : ℕ) → IsLinked (rows p m) i → IsLinked (rows q m) i
   linked_still m i l = subst (λ (ms : List Bool). slice_index_or ms i false ≡ true) (sym (same.linked m)) l
 
-  pub within_was : (m i : ℕ) → i < size_of q m → i < size_of p m
+  pub within_was : (m i : ℕ) → i < element_count q m → i < element_count p m
   within_was m i l = subst (λ (n : ℕ). i < n) (ap elements (same.shape m)) l
 
-  pub within_still : (m i : ℕ) → i < size_of p m → i < size_of q m
+  pub within_still : (m i : ℕ) → i < element_count p m → i < element_count q m
   within_still m i l = subst (λ (n : ℕ). i < n) (sym (ap elements (same.shape m))) l
 
   -- who runs, holds and keeps what is all that can change
   pub shows_after : (s : Plain) (h : StandsFor p s) (running : ℕ → Bool) (held kept : ℕ → ℕ → Bool)
       → ((c : ℕ) → running c ≡ is_running q c)
       → ((m i : ℕ) → IsUsed q m i → IsUsed p m i)
-      → ((c v : ℕ) → held c v ≡ true → (m : ℕ) × (i : ℕ) × (i < size_of q m) × (holds q c m i ≡ true) × (v ≡ h.number m i))
-      → ((c m i : ℕ) → i < size_of q m → holds q c m i ≡ true → held c (h.number m i) ≡ true)
-      → ((c v : ℕ) → kept c v ≡ true → (m : ℕ) × (i : ℕ) × (i < size_of q m) × (keeps q c m i ≡ true) × (v ≡ h.number m i))
-      → ((c m i : ℕ) → i < size_of q m → keeps q c m i ≡ true → kept c (h.number m i) ≡ true)
+      → ((c v : ℕ) → held c v ≡ true → (m : ℕ) × (i : ℕ) × (i < element_count q m) × (holds q c m i ≡ true) × (v ≡ h.number m i))
+      → ((c m i : ℕ) → i < element_count q m → holds q c m i ≡ true → held c (h.number m i) ≡ true)
+      → ((c v : ℕ) → kept c v ≡ true → (m : ℕ) × (i : ℕ) × (i < element_count q m) × (keeps q c m i ≡ true) × (v ≡ h.number m i))
+      → ((c m i : ℕ) → i < element_count q m → keeps q c m i ≡ true → kept c (h.number m i) ≡ true)
       → StandsFor q (record s { running = running; held = held; kept = kept })
   shows_after s h running held kept runs used held_at held_back kept_at kept_back = record {
     cpus = h.cpus ∙ sym same.cpus;
@@ -79,36 +79,36 @@ module _ (p q : Contents) (same : SameContent p q) where
   pub held_spans-same : ((c m i : ℕ) → holds q c m i ≡ holds p c m i) → held_spans q ≡ held_spans p
   held_spans-same e = λ k c x. go c x k
     where
-      inner : (c : ℕ) (x : Span) (m : ℕ) → any_below (size_of q m) (λ i. holds q c m i && same_span x (span_at q m i)) ≡ any_below (size_of p m) (λ i. holds p c m i && same_span x (span_at p m i))
+      inner : (c : ℕ) (x : Span) (m : ℕ) → any_below (element_count q m) (λ i. holds q c m i && same_span x (span_at q m i)) ≡ any_below (element_count p m) (λ i. holds p c m i && same_span x (span_at p m i))
       inner c x m =
           ap (λ (n : ℕ). any_below n (λ i. holds q c m i && same_span x (span_at q m i))) (ap elements (same.shape m))
-          ∙ any_below_same (size_of p m) (λ i. holds p c m i && same_span x (span_at p m i)) (λ i. holds q c m i && same_span x (span_at q m i))
+          ∙ any_below_same (element_count p m) (λ i. holds p c m i && same_span x (span_at p m i)) (λ i. holds q c m i && same_span x (span_at q m i))
           (λ i l. ap (λ (b : Bool). b && same_span x (span_at q m i)) (e c m i) ∙ ap (λ (y : Span). holds p c m i && same_span x y) (span-same m i))
 
       go : (c : ℕ) (x : Span) → held_spans q c x ≡ held_spans p c x
       go c x =
-          ap (λ (n : ℕ). any_below n (λ m. any_below (size_of q m) (λ i. holds q c m i && same_span x (span_at q m i)))) same.tables
-          ∙ any_below_same (length p.tables) (λ m. any_below (size_of p m) (λ i. holds p c m i && same_span x (span_at p m i))) (λ m. any_below (size_of q m) (λ i. holds q c m i && same_span x (span_at q m i))) (λ m l. inner c x m)
+          ap (λ (n : ℕ). any_below n (λ m. any_below (element_count q m) (λ i. holds q c m i && same_span x (span_at q m i)))) same.tables
+          ∙ any_below_same (length p.tables) (λ m. any_below (element_count p m) (λ i. holds p c m i && same_span x (span_at p m i))) (λ m. any_below (element_count q m) (λ i. holds q c m i && same_span x (span_at q m i))) (λ m l. inner c x m)
 
   -- one CPU holds nothing any more
   pub held_spans-without : (c : ℕ) → ((d m i : ℕ) → d ≢ c → holds q d m i ≡ holds p d m i) → ((m i : ℕ) → holds q c m i ≡ false) → held_spans q ≡ held_without (held_spans p) c
   held_spans-without c other own = λ k d x. go d x k
     where
-      inner : (d : ℕ) (x : Span) → d ≢ c → (m : ℕ) → any_below (size_of q m) (λ i. holds q d m i && same_span x (span_at q m i)) ≡ any_below (size_of p m) (λ i. holds p d m i && same_span x (span_at p m i))
+      inner : (d : ℕ) (x : Span) → d ≢ c → (m : ℕ) → any_below (element_count q m) (λ i. holds q d m i && same_span x (span_at q m i)) ≡ any_below (element_count p m) (λ i. holds p d m i && same_span x (span_at p m i))
       inner d x ne m =
           ap (λ (n : ℕ). any_below n (λ i. holds q d m i && same_span x (span_at q m i))) (ap elements (same.shape m))
-          ∙ any_below_same (size_of p m) (λ i. holds p d m i && same_span x (span_at p m i)) (λ i. holds q d m i && same_span x (span_at q m i))
+          ∙ any_below_same (element_count p m) (λ i. holds p d m i && same_span x (span_at p m i)) (λ i. holds q d m i && same_span x (span_at q m i))
           (λ i l. ap (λ (b : Bool). b && same_span x (span_at q m i)) (other d m i ne) ∙ ap (λ (y : Span). holds p d m i && same_span x y) (span-same m i))
 
       nothing : (x : Span) (d : ℕ) → d ≡ c → held_spans q d x ≡ false
-      nothing x d e = any_below_none (length q.tables) (λ m. any_below (size_of q m) (λ i. holds q d m i && same_span x (span_at q m i)))
-          (λ m l. any_below_none (size_of q m) (λ i. holds q d m i && same_span x (span_at q m i)) (λ i k. ap (λ (b : Bool). b && same_span x (span_at q m i)) (ap (λ (z : ℕ). holds q z m i) e ∙ own m i)))
+      nothing x d e = any_below_none (length q.tables) (λ m. any_below (element_count q m) (λ i. holds q d m i && same_span x (span_at q m i)))
+          (λ m l. any_below_none (element_count q m) (λ i. holds q d m i && same_span x (span_at q m i)) (λ i k. ap (λ (b : Bool). b && same_span x (span_at q m i)) (ap (λ (z : ℕ). holds q z m i) e ∙ own m i)))
 
       go : (d : ℕ) (x : Span) → held_spans q d x ≡ (if d == c then false else held_spans p d x)
       go d x = elim (equal_or_not d c) [
         | inl e ↦ nothing x d e ∙ sym (ap (λ (b : Bool). if b then false else held_spans p d x) (eq-eqb d c e))
         | inr ne ↦
-            ap (λ (n : ℕ). any_below n (λ m. any_below (size_of q m) (λ i. holds q d m i && same_span x (span_at q m i)))) same.tables
-            ∙ (any_below_same (length p.tables) (λ m. any_below (size_of p m) (λ i. holds p d m i && same_span x (span_at p m i))) (λ m. any_below (size_of q m) (λ i. holds q d m i && same_span x (span_at q m i))) (λ m l. inner d x ne m)
+            ap (λ (n : ℕ). any_below n (λ m. any_below (element_count q m) (λ i. holds q d m i && same_span x (span_at q m i)))) same.tables
+            ∙ (any_below_same (length p.tables) (λ m. any_below (element_count p m) (λ i. holds p d m i && same_span x (span_at p m i))) (λ m. any_below (element_count q m) (λ i. holds q d m i && same_span x (span_at q m i))) (λ m l. inner d x ne m)
             ∙ sym (ap (λ (b : Bool). if b then false else held_spans p d x) (ne_eqb d c ne)))
       ]

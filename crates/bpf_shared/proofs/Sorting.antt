@@ -16,8 +16,8 @@ use Rattle.std.proofs.lemmas.List.{length-map, get_or-map, get_or-append_right}
 use Rattle.std.proofs.lemmas.List.Edits.{swapped_from_swap}
 use Rattle.std.proofs.lemmas.List.Sorted.{IsPermutation-keeps, IsPermutation-sym, IsPermutation-map, length_permutation, Contains-permutation}
 use Rattle.bpf_shared.specs.Private.Rows.{Rows, IsLinked, IsTable}
-use Rattle.bpf_shared.specs.Listing.{Pair, pair_at, pair_of, row_pair}
-use Rattle.bpf_shared.specs.Private.Pairs.{AreRowPairs, ArePairsBelow}
+use Rattle.bpf_shared.specs.Listing.{Pair, pair_at, pair_of}
+use Rattle.bpf_shared.specs.Private.Pairs.{row_pair, AreRowPairs, ArePairsBelow}
 use Rattle.bpf_shared.proofs.Puts.{equal_or_not}
 use Rattle.bpf_shared.proofs.Linking.{marked_inside}
 

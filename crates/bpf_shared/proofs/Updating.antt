@@ -16,7 +16,7 @@ use Rattle.bpf_shared.specs.Events.{kept_after, after_delete}
 use Rattle.bpf_shared.specs.Sound.{IsSoundStore}
 use Rattle.bpf_shared.specs.Private.Runs.{run_of, count_of, no_runs, is_run}
 use Rattle.bpf_shared.specs.Private.Rows.{Rows, key_of, bytes_of, linked_count, run_looked_up, run_left, IsLinked, IsTable, IsMissing, linked_row, unlinked_row}
-use Rattle.bpf_shared.specs.Private.Contents.{Contents, runs_of, rows, size_of, span_at, is_running, holds, keeps, IsUsed, StandsFor, IsStore, with_table}
+use Rattle.bpf_shared.specs.Private.Contents.{Contents, runs_of, rows, element_count, span_at, is_running, holds, keeps, IsUsed, StandsFor, IsStore, with_table}
 use Rattle.bpf_shared.proofs.Puts.{true_or_false, equal_or_not, put-same, put-other, put_cases, insert_cases, remove_cases}
 use Rattle.bpf_shared.proofs.Soundness.{kept_still, kept_now}
 use Rattle.bpf_shared.proofs.Lawful.{leads_new}
@@ -70,7 +70,7 @@ module _ (p : Contents) (is : IsStore p) (m k : ℕ) (mi : m < length p.tables) 
   old_linked : IsLinked (rows p m) old
   old_linked = inside
 
-  old_size : old < size_of p m
+  old_size : old < element_count p m
   old_size = linked_inside (rows p m) table k inside
 
   abbrev pub after : Contents
@@ -117,10 +117,10 @@ module _ (p : Contents) (is : IsStore p) (m k : ℕ) (mi : m < length p.tables) 
   bytes-same : (n j : ℕ) → bytes_of (rows after n) j ≡ bytes_of (rows p n) j
   bytes-same n j = elim (rows_cases p m gone mi n) [ inl e ↦ ap (λ (t : Rows). bytes_of t j) e.1 ∙ ap (λ (x : ℕ). bytes_of (rows p x) j) (sym e.0) | inr e ↦ ap (λ (t : Rows). bytes_of t j) e.1 ]
 
-  within : (n j : ℕ) → j < size_of after n → j < size_of p n
+  within : (n j : ℕ) → j < element_count after n → j < element_count p n
   within n j l = subst (λ (h : MapShape). j < elements h) (shape-same n) l
 
-  back : (n j : ℕ) → j < size_of p n → j < size_of after n
+  back : (n j : ℕ) → j < element_count p n → j < element_count after n
   back n j l = subst (λ (h : MapShape). j < elements h) (sym (shape-same n)) l
 
   pub gone_was : (n j : ℕ) → IsLinked (rows after n) j → IsLinked (rows p n) j × ((n ≡ m) → j ≢ old)
@@ -213,10 +213,10 @@ module _ (p : Contents) (is : IsStore p) (m k : ℕ) (mi : m < length p.tables) 
         ∙ (let same : len (remove (s.maps m) key) ≡ linked_count gone = omega arith in
         same ∙ ap linked_count (sym (ap (rows after) e ∙ rows-here p m gone mi)))
 
-    kept-after : (c v : ℕ) → kept_after s (get (s.maps m) key) c v ≡ true → (n : ℕ) × (i : ℕ) × (i < size_of after n) × (keeps after c n i ≡ true) × (v ≡ h.number n i)
+    kept-after : (c v : ℕ) → kept_after s (get (s.maps m) key) c v ≡ true → (n : ℕ) × (i : ℕ) × (i < element_count after n) × (keeps after c n i ≡ true) × (v ≡ h.number n i)
     kept-after c v e = go (true_or_false (s.running c)) (ap (λ (o : Option ℕ). kept_after s o c v) (sym leads-old) ∙ e)
       where
-        before : s.kept c v ≡ true → (n : ℕ) × (i : ℕ) × (i < size_of after n) × (keeps after c n i ≡ true) × (v ≡ h.number n i)
+        before : s.kept c v ≡ true → (n : ℕ) × (i : ℕ) × (i < element_count after n) × (keeps after c n i ≡ true) × (v ≡ h.number n i)
         before x =
             let f = h.kept c v x in
             elim (same_or_not f.0 f.1) [
@@ -230,7 +230,7 @@ module _ (p : Contents) (is : IsStore p) (m k : ℕ) (mi : m < length p.tables) 
             running_of true b h = refl
             running_of false b h = h
 
-        go : (s.running c ≡ true) ⊎ (s.running c ≡ false) → kept_after s (Some (h.number m old)) c v ≡ true → (n : ℕ) × (i : ℕ) × (i < size_of after n) × (keeps after c n i ≡ true) × (v ≡ h.number n i)
+        go : (s.running c ≡ true) ⊎ (s.running c ≡ false) → kept_after s (Some (h.number m old)) c v ≡ true → (n : ℕ) × (i : ℕ) × (i < element_count after n) × (keeps after c n i ≡ true) × (v ≡ h.number n i)
         go (inr r) x = before (sym (ap (λ (b : Bool). (if b then put (s.kept c) (h.number m old) true else s.kept c) v) r) ∙ x)
         go (inl r) x = elim (put_cases (s.kept c) (h.number m old) v true) [
           | inl y ↦ (m, old, back m old old_size, keeps-here c ∙ (sym (h.running c) ∙ r), y.0)
@@ -266,7 +266,7 @@ module _ (p : Contents) (is : IsStore p) (m k : ℕ) (mi : m < length p.tables) 
 abbrev pub with_value : Plain → ℕ → List ℕ → Value → Plain
 with_value s m key x = record s { maps = put s.maps m (insert (s.maps m) key s.made); made = s.made + 1; value = put s.value s.made x }
 
-module _ (p : Contents) (is : IsStore p) (m i : ℕ) (key bytes : List ℕ) (mi : m < length p.tables) (gap : IsMissing (rows p m) key) (ii : i < size_of p m) (free : IsLinked (rows p m) i → ⊥) (size : length key ≡ (rows p m).shape.key) (long : length bytes ≡ (rows p m).shape.value) where
+module _ (p : Contents) (is : IsStore p) (m i : ℕ) (key bytes : List ℕ) (mi : m < length p.tables) (gap : IsMissing (rows p m) key) (ii : i < element_count p m) (free : IsLinked (rows p m) i → ⊥) (size : length key ≡ (rows p m).shape.key) (long : length bytes ≡ (rows p m).shape.value) where
   abbrev full : Rows
   full = linked_row i key bytes (rows p m)
 
@@ -285,10 +285,10 @@ module _ (p : Contents) (is : IsStore p) (m i : ℕ) (key bytes : List ℕ) (mi 
   shape-still : (n : ℕ) → (rows later n).shape ≡ (rows p n).shape
   shape-still = shape-with p m full mi refl
 
-  inside-was : (n j : ℕ) → j < size_of later n → j < size_of p n
+  inside-was : (n j : ℕ) → j < element_count later n → j < element_count p n
   inside-was n j l = subst (λ (h : MapShape). j < elements h) (shape-still n) l
 
-  inside-still : (n j : ℕ) → j < size_of p n → j < size_of later n
+  inside-still : (n j : ℕ) → j < element_count p n → j < element_count later n
   inside-still n j l = subst (λ (h : MapShape). j < elements h) (sym (shape-still n)) l
 
   it_or_not : (n j : ℕ) → ((n ≡ m) × (j ≡ i)) ⊎ ((n ≡ m) → j ≢ i)
@@ -324,18 +324,18 @@ module _ (p : Contents) (is : IsStore p) (m i : ℕ) (key bytes : List ℕ) (mi 
   bytes-now : bytes_of (rows later m) i ≡ bytes
   bytes-now = ap (λ (t : Rows). bytes_of t i) (rows-here p m full mi) ∙ bytes-here (rows p m) here-table i key bytes gap ii free size long
 
-  key-still : (n j : ℕ) → j < size_of p n → ((n ≡ m) → j ≢ i) → key_of (rows later n) j ≡ key_of (rows p n) j
+  key-still : (n j : ℕ) → j < element_count p n → ((n ≡ m) → j ≢ i) → key_of (rows later n) j ≡ key_of (rows p n) j
   key-still n j l ne = elim (rows_cases p m full mi n) [
     | inr e ↦ ap (λ (t : Rows). key_of t j) e.1
     | inl e ↦ ap (λ (t : Rows). key_of t j) e.1
-        ∙ (key-beside (rows p m) here-table i key bytes gap ii free size long j (subst (λ (x : ℕ). j < size_of p x) e.0 l) (ne e.0) ∙ ap (λ (x : ℕ). key_of (rows p x) j) (sym e.0))
+        ∙ (key-beside (rows p m) here-table i key bytes gap ii free size long j (subst (λ (x : ℕ). j < element_count p x) e.0 l) (ne e.0) ∙ ap (λ (x : ℕ). key_of (rows p x) j) (sym e.0))
   ]
 
-  bytes-still : (n j : ℕ) → j < size_of p n → ((n ≡ m) → j ≢ i) → bytes_of (rows later n) j ≡ bytes_of (rows p n) j
+  bytes-still : (n j : ℕ) → j < element_count p n → ((n ≡ m) → j ≢ i) → bytes_of (rows later n) j ≡ bytes_of (rows p n) j
   bytes-still n j l ne = elim (rows_cases p m full mi n) [
     | inr e ↦ ap (λ (t : Rows). bytes_of t j) e.1
     | inl e ↦ ap (λ (t : Rows). bytes_of t j) e.1
-        ∙ (bytes-beside (rows p m) here-table i key bytes gap ii free size long j (subst (λ (x : ℕ). j < size_of p x) e.0 l) (ne e.0) ∙ ap (λ (x : ℕ). bytes_of (rows p x) j) (sym e.0))
+        ∙ (bytes-beside (rows p m) here-table i key bytes gap ii free size long j (subst (λ (x : ℕ). j < element_count p x) e.0 l) (ne e.0) ∙ ap (λ (x : ℕ). bytes_of (rows p x) j) (sym e.0))
   ]
 
   module _ (s : Plain) (so : IsSoundStore s) (h : StandsFor p s) (new : get (s.maps m) key ≡ None)
@@ -423,14 +423,14 @@ module _ (p : Contents) (is : IsStore p) (m i : ℕ) (key bytes : List ℕ) (mi 
     used-was' n j (inl l) ne = elim (link_was n j l) [ inl e ↦ absurd (ne e.0 e.1) | inr w ↦ inl w ]
     used-was' n j (inr u) ne = inr (u.0, elim u.1 [ inl e ↦ inl (sym (keeps-still u.0 n j) ∙ e) | inr e ↦ inr (sym (holds-still u.0 n j) ∙ e) ])
 
-    older : (n j : ℕ) → j < size_of p n → IsUsed p n j → h.number n j < s.made
+    older : (n j : ℕ) → j < element_count p n → IsUsed p n j → h.number n j < s.made
     older n j l (inl w) = so.live_made (h.number n j) (inl (n, (_, h.leads n j w)))
     older n j l (inr u) = elim u.1 [
       | inl e ↦ so.kept_made (h.number n j) (u.0, h.kept_back u.0 n j l e)
       | inr e ↦ so.live_made (h.number n j) (inr (u.0, h.held_back u.0 n j l e))
     ]
 
-    values-later : (n j : ℕ) → j < size_of later n → IsUsed later n j → put s.value s.made value (numbers n j) ≡ record { bytes = bytes_of (rows later n) j; span = span_at later n j }
+    values-later : (n j : ℕ) → j < element_count later n → IsUsed later n j → put s.value s.made value (numbers n j) ≡ record { bytes = bytes_of (rows later n) j; span = span_at later n j }
     values-later n j l u = elim (it_or_not n j) [
       | inl e ↦
           let number : numbers n j ≡ s.made = ap (λ (x : ℕ). numbers x j) e.0 ∙ (ap (numbers m) e.1 ∙ number-here) in

@@ -3,7 +3,7 @@ use Rattle.std.specs.Prelude.{List}
 use Rattle.bpf_shared.specs.declared.events.Entry.{Entry}
 use Rattle.bpf_shared.specs.Shape.{Shape}
 use Rattle.bpf_shared.specs.History.{IsLegal}
-use Rattle.bpf_shared.specs.Private.Contents.{Contents, Passes, IsMade}
+use Rattle.bpf_shared.specs.PlainStore.{Contents, Passes, IsMade}
 
 -- a passage from a store as made is a legal history
 abbrev pub PassagesAreLegal : Type 0

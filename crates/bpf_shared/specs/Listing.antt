@@ -6,7 +6,6 @@ use Rattle.std.specs.declared.cmp.Ordering.TheVariants.{Less}
 use Rattle.std.specs.Cmp.Lexicographic.{slice_cmp}
 use Rattle.bpf_shared.specs.Shape.{IsIn}
 use Rattle.bpf_shared.specs.Store.{Plain, Finds, IsInMap, IsKept}
-use Rattle.bpf_shared.specs.Private.Rows.{Rows, key_of, bytes_of}
 use Rattle.bpf_shared.specs.Laws.{byte_at}
 
 -- a key, and the bytes of its value
@@ -44,7 +43,3 @@ ListingsAreDetermined =
 -- what two vectors of a listing hold
 abbrev pub pair_of : Vec ℕ Global × Vec ℕ Global → Pair
 pair_of p = (p.0.items, p.1.items)
-
--- what an element holds
-abbrev pub row_pair : Rows → ℕ → Pair
-row_pair t i = (key_of t i, bytes_of t i)

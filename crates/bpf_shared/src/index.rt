@@ -1,7 +1,7 @@
 //! An index of a map's elements by their keys.
 ghost use Rattle.std.specs.Prelude.{◌≡◌, ◌≢◌, ◌+◌, ◌*◌, ◌<◌, ◌≤◌, ◌↔◌, ℕ, IfOk, IfSome, IfNone, IsTrue, length, slice_index};
 ghost use Rattle.bpf_base.specs.Bytes.{part};
-ghost use Rattle.bpf_shared.specs.Private.Chains.{IsAt, Comes, Goes};
+ghost use Rattle.bpf_shared.specs.Private.Chains.{IsChainedAt, GetsChained, GetsUnchained};
 
 use std::alloc::{AllocError, Global};
 use std::marker::Model;
@@ -41,7 +41,7 @@ impl Index {
         requires { elements < 0x1_0000_0000 }
         ensures homes { IfOk result (λ x. length x.heads ≡ homes) }
         ensures elements { IfOk result (λ x. length x.nexts ≡ elements) }
-        ensures none { IfOk result (λ x. (b i : ℕ) → IsAt x b i → ⊥) }
+        ensures none { IfOk result (λ x. (b i : ℕ) → IsChainedAt x b i → ⊥) }
     {
         Ok(Index {
             heads: vec![in alloc; 0; homes]?,
@@ -54,9 +54,9 @@ impl Index {
         requires home { home < length self.now.heads }
         requires keys { length keys.now ≡ length self.now.nexts * size }
         ensures found { IfSome result
-            (λ i. IsAt self.now home i × (part keys.now (i * size) size ≡ key.now)) }
+            (λ i. IsChainedAt self.now home i × (part keys.now (i * size) size ≡ key.now)) }
         ensures absent { IfNone result
-            ((i : ℕ) → IsAt self.now home i → part keys.now (i * size) size ≢ key.now) }
+            ((i : ℕ) → IsChainedAt self.now home i → part keys.now (i * size) size ≢ key.now) }
     {
         let mut link = self.heads[home];
         while link != 0 {
@@ -73,8 +73,8 @@ impl Index {
     pub fn insert(&mut self, home: usize, element: usize)
         requires home { home < length self.old.heads }
         requires element { element < length self.old.nexts }
-        requires new { (b : ℕ) → IsAt self.old b element → ⊥ }
-        ensures { Comes home element self.old self.new }
+        requires new { (b : ℕ) → IsChainedAt self.old b element → ⊥ }
+        ensures { GetsChained home element self.old self.new }
     {
         self.nexts[element] = self.heads[home];
         self.heads[home] = element as u32 + 1;
@@ -82,10 +82,10 @@ impl Index {
 
     /// The element that leads to another one, which isn't the first.
     fn before(&self, home: usize, element: usize) -> usize
-        requires element { IsAt self.now home element }
+        requires element { IsChainedAt self.now home element }
         requires home { home < length self.now.heads }
         requires behind { slice_index self.now.heads home ≢ element + 1 }
-        ensures at { IsAt self.now home result }
+        ensures at { IsChainedAt self.now home result }
         ensures leads { slice_index self.now.nexts result ≡ element + 1 }
     {
         let mut before = (self.heads[home] - 1) as usize;
@@ -100,9 +100,9 @@ impl Index {
 
     /// An element of a home goes.
     pub fn remove(&mut self, home: usize, element: usize)
-        requires element { IsAt self.old home element }
+        requires element { IsChainedAt self.old home element }
         requires home { home < length self.old.heads }
-        ensures { Goes element self.old self.new }
+        ensures { GetsUnchained element self.old self.new }
     {
         let next = self.nexts[element];
         if self.heads[home] == element as u32 + 1 {

@@ -34,15 +34,15 @@ abbrev pub IsChainOf : Links → ℕ → List ℕ → Type 0
 IsChainOf x b xs = IsChain x.nexts (slice_index x.heads b) xs
 
 -- the element is in the chain of this home
-abbrev pub IsAt : Links → ℕ → ℕ → Type 0
-IsAt x b i = (xs : List ℕ) × IsChainOf x b xs × Has xs i
+abbrev pub IsChainedAt : Links → ℕ → ℕ → Type 0
+IsChainedAt x b i = (xs : List ℕ) × IsChainOf x b xs × Has xs i
 
 -- each home has a chain, which ends, and an element is in one chain at most, once
 pub record IsLinks (x : Links) : Type 0 where
   pub fits : length x.nexts < 0x1_0000_0000
   pub chain : (b : ℕ) → (xs : List ℕ) × IsChainOf x b xs × IsDistinct xs
-  pub inside : (b i : ℕ) → IsAt x b i → i < length x.nexts
-  pub apart : (b c i : ℕ) → IsAt x b i → IsAt x c i → b ≡ c
+  pub inside : (b i : ℕ) → IsChainedAt x b i → i < length x.nexts
+  pub apart : (b c i : ℕ) → IsChainedAt x b i → IsChainedAt x c i → b ≡ c
 
 -- there are as many homes and elements
 pub record AreAsMany (old new : Links) : Type 0 where
@@ -50,14 +50,14 @@ pub record AreAsMany (old new : Links) : Type 0 where
   pub elements : length new.nexts ≡ length old.nexts
 
 -- the element came to a home, and the others stay where they are
-pub record Comes (b i : ℕ) (old new : Links) : Type 0 where
+pub record GetsChained (b i : ℕ) (old new : Links) : Type 0 where
   pub many : AreAsMany old new
-  pub here : IsAt new b i
-  pub still : (c j : ℕ) → IsAt old c j → IsAt new c j
-  pub was : (c j : ℕ) → IsAt new c j → ((c ≡ b) × (j ≡ i)) ⊎ IsAt old c j
+  pub here : IsChainedAt new b i
+  pub still : (c j : ℕ) → IsChainedAt old c j → IsChainedAt new c j
+  pub was : (c j : ℕ) → IsChainedAt new c j → ((c ≡ b) × (j ≡ i)) ⊎ IsChainedAt old c j
 
 -- the element went, and the others stay where they are
-pub record Goes (i : ℕ) (old new : Links) : Type 0 where
+pub record GetsUnchained (i : ℕ) (old new : Links) : Type 0 where
   pub many : AreAsMany old new
-  pub still : (c j : ℕ) → IsAt old c j → j ≢ i → IsAt new c j
-  pub was : (c j : ℕ) → IsAt new c j → IsAt old c j × (j ≢ i)
+  pub still : (c j : ℕ) → IsChainedAt old c j → j ≢ i → IsChainedAt new c j
+  pub was : (c j : ℕ) → IsChainedAt new c j → IsChainedAt old c j × (j ≢ i)

@@ -4,17 +4,17 @@ use Rattle.bpf_shared.specs.declared.plain.Reach.{Reach}
 use Rattle.bpf_shared.specs.Shape.{IsIn}
 use Rattle.bpf_shared.specs.Store.{Plain}
 use Rattle.bpf_shared.specs.Private.Rows.{Forgets, IsTable}
-use Rattle.bpf_shared.specs.Private.Contents.{Contents, runs_of, rows, size_of, span_at, shapes_of, has_cpu, is_running, held_spans, StandsFor}
+use Rattle.bpf_shared.specs.Private.Contents.{Contents, runs_of, rows, element_count, span_at, shapes_of, has_cpu, is_running, held_spans, StandsFor}
 
 -- the address is in the span of some element
 abbrev pub IsAtValue : Contents → ℕ → Type 0
-IsAtValue p a = (m : ℕ) × (i : ℕ) × (m < length p.tables) × (i < size_of p m)
+IsAtValue p a = (m : ℕ) × (i : ℕ) × (m < length p.tables) × (i < element_count p m)
     × IsIn a (span_at p m i)
 
 -- the byte of a value, in a map, an element and the value there
 pub record IsReach (p : Contents) (a : ℕ) (r : Reach) : Type 0 where
   pub map : r.map < length p.tables
-  pub element : r.element < size_of p r.map
+  pub element : r.element < element_count p r.map
   pub at : a ≡ (span_at p r.map r.element).at + r.offset
   pub inside : r.offset < (span_at p r.map r.element).size
 

@@ -29,8 +29,8 @@ abbrev pub rows : Contents → ℕ → Rows
 rows p m = slice_index_or p.tables m no_rows
 
 -- how many elements the map has
-abbrev pub size_of : Contents → ℕ → ℕ
-size_of p m = elements (rows p m).shape
+abbrev pub element_count : Contents → ℕ → ℕ
+element_count p m = elements (rows p m).shape
 
 abbrev pub span_at : Contents → ℕ → ℕ → Span
 span_at p m i = element_span m (rows p m).shape i
@@ -60,7 +60,7 @@ any_below (suc n) f = f n || any_below n f
 -- the span is that of an element that the CPU's run looked up
 abbrev pub held_spans : Contents → ℕ → Span → Bool
 held_spans p c q = any_below (length p.tables)
-    (λ m. any_below (size_of p m) (λ i. holds p c m i && same_span q (span_at p m i)))
+    (λ m. any_below (element_count p m) (λ i. holds p c m i && same_span q (span_at p m i)))
 
 -- the element is in the map, or some CPU keeps or holds it
 abbrev pub IsUsed : Contents → ℕ → ℕ → Type 0
@@ -78,15 +78,15 @@ pub record StandsFor (p : Contents) (s : Plain) : Type 0 where
   pub found : (m : ℕ) (key : List ℕ) (v : ℕ) → Finds s m key v
       → (i : ℕ) × IsLinked (rows p m) i × (key_of (rows p m) i ≡ key) × (v ≡ number m i)
   pub counts : (m : ℕ) → len (s.maps m) ≡ linked_count (rows p m)
-  pub values : (m i : ℕ) → i < size_of p m → IsUsed p m i
+  pub values : (m i : ℕ) → i < element_count p m → IsUsed p m i
       → s.value (number m i) ≡ record { bytes = bytes_of (rows p m) i; span = span_at p m i }
   pub held : (c v : ℕ) → s.held c v ≡ true
-      → (m : ℕ) × (i : ℕ) × (i < size_of p m) × (holds p c m i ≡ true) × (v ≡ number m i)
-  pub held_back : (c m i : ℕ) → i < size_of p m → holds p c m i ≡ true
+      → (m : ℕ) × (i : ℕ) × (i < element_count p m) × (holds p c m i ≡ true) × (v ≡ number m i)
+  pub held_back : (c m i : ℕ) → i < element_count p m → holds p c m i ≡ true
       → s.held c (number m i) ≡ true
   pub kept : (c v : ℕ) → s.kept c v ≡ true
-      → (m : ℕ) × (i : ℕ) × (i < size_of p m) × (keeps p c m i ≡ true) × (v ≡ number m i)
-  pub kept_back : (c m i : ℕ) → i < size_of p m → keeps p c m i ≡ true
+      → (m : ℕ) × (i : ℕ) × (i < element_count p m) × (keeps p c m i ≡ true) × (v ≡ number m i)
+  pub kept_back : (c m i : ℕ) → i < element_count p m → keeps p c m i ≡ true
       → s.kept c (number m i) ≡ true
 
 -- from each plain store that the old value shows, as some legal history may have left it, the

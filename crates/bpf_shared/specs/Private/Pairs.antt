@@ -3,8 +3,12 @@ use Rattle.std.specs.Prelude.{◌≡◌, ℕ, ◌<◌, List, length}
 use Rattle.std.specs.Ordering.{nat_cmp}
 use Rattle.std.specs.declared.cmp.Ordering.TheVariants.{Less}
 use Rattle.std.specs.Cmp.Lexicographic.{slice_cmp}
-use Rattle.bpf_shared.specs.Private.Rows.{Rows, IsLinked}
-use Rattle.bpf_shared.specs.Listing.{Pair, pair_at, row_pair}
+use Rattle.bpf_shared.specs.Private.Rows.{Rows, key_of, bytes_of, IsLinked}
+use Rattle.bpf_shared.specs.Listing.{Pair, pair_at}
+
+-- what an element holds
+abbrev pub row_pair : Rows → ℕ → Pair
+row_pair t i = (key_of t i, bytes_of t i)
 
 -- the k-th pair is that of the element
 abbrev pub IsPairOfElement : Rows → List Pair → ℕ → ℕ → Type 0

@@ -1,6 +1,6 @@
 use Rattle.std.proofs.Common.{◌≡◌, ◌≢◌, ℕ, ◌+◌, ◌-◌, ◌<◌, List, ◌∷◌, length, slice_index, inl, inr, refl, sym, ap, subst, ◌∙◌, arith}
 use Rattle.std.proofs.lemmas.List.{get_or_read}
-use Rattle.bpf_shared.specs.Private.Chains.{Has, IsChain, chain_length, Links, IsAt, IsLinks}
+use Rattle.bpf_shared.specs.Private.Chains.{Has, IsChain, chain_length, Links, IsChainedAt, IsLinks}
 use Rattle.bpf_shared.proofs.Chaining.{first_step, chain_step, chain_end, chain-length, later_still}
 use Rattle.bpf_shared.proofs.index.Index.before.Goals as goal
 
@@ -34,7 +34,7 @@ index-next-requires c =
     let at : b < length c.self.inside.heads.items = subst (λ (y : Links). b < length y.heads) (sym c.self.view_is) c.requires.home in
     let read : c.index.result.now ≡ slice_index x.heads b = get_or_read c.self.inside.heads.items b c.index.result.now at c.index.ensures 0 ∙ ap (λ (y : Links). slice_index y.heads b) c.self.view_is in
     let first = first_step x is b c.args.element c.requires.element c.requires.behind in
-    let own : IsAt x b (c.index.result.now - 1) = subst (λ (n : ℕ). IsAt x b (n - 1)) (sym read) first.1 in
+    let own : IsChainedAt x b (c.index.result.now - 1) = subst (λ (n : ℕ). IsChainedAt x b (n - 1)) (sym read) first.1 in
     let inside : c.index.result.now - 1 < length c.self.inside.nexts.items = subst (λ (y : Links). c.index.result.now - 1 < length y.nexts) (sym c.self.view_is) (is.inside b (c.index.result.now - 1) own) in
     omega (arith, inside, c.self.inside.nexts.ok.0)
 
@@ -48,7 +48,7 @@ loop-next-init c =
     let first = first_step x is b c.args.element c.requires.element c.requires.behind in
     let p = c.index.result.now - 1 in
     let same : slice_index x.heads b - 1 ≡ p = ap (λ (n : ℕ). n - 1) (sym read) in
-    let own : IsAt x b p = subst (IsAt x b) same first.1 in
+    let own : IsChainedAt x b p = subst (IsChainedAt x b) same first.1 in
     let inside : p < length c.self.inside.nexts.items = subst (λ (y : Links). p < length y.nexts) (sym c.self.view_is) (is.inside b p own) in
     let next : c.index-next.result.now ≡ slice_index x.nexts p = get_or_read c.self.inside.nexts.items p c.index-next.result.now inside c.index-next.ensures 0 ∙ ap (λ (y : Links). slice_index y.nexts p) c.self.view_is in
     let chain : IsChain x.nexts (slice_index x.nexts p) first.2.0 = subst (λ (n : ℕ). IsChain x.nexts (slice_index x.nexts n) first.2.0) same first.2.1 in
@@ -69,7 +69,7 @@ index-next-requires-in-loop-next c =
     let inv = c.loop-next.invariant in
     let e = c.loop-next.next - 1 in
     let step = chain_step x.nexts c.loop-next.next inv.0 (λ z. chain_end x.nexts c.loop-next.next inv.0 z inv.1 c.args.element inv.4) inv.1 in
-    let own : IsAt x b e = inv.3 e (subst (λ (l : List ℕ). Has l e) (sym step.1) (inl refl)) in
+    let own : IsChainedAt x b e = inv.3 e (subst (λ (l : List ℕ). Has l e) (sym step.1) (inl refl)) in
     let inside : e < length c.self.inside.nexts.items = subst (λ (y : Links). e < length y.nexts) (sym c.self.view_is) (is.inside b e own) in
     omega (arith, inside, c.self.inside.nexts.ok.0)
 
@@ -82,7 +82,7 @@ loop-next-smaller c =
     let inv = c.loop-next.invariant in
     let e = n - 1 in
     let step = chain_step x.nexts n inv.0 (λ z. chain_end x.nexts n inv.0 z inv.1 c.args.element inv.4) inv.1 in
-    let own : IsAt x b e = inv.3 e (subst (λ (l : List ℕ). Has l e) (sym step.1) (inl refl)) in
+    let own : IsChainedAt x b e = inv.3 e (subst (λ (l : List ℕ). Has l e) (sym step.1) (inl refl)) in
     let inside : e < length c.self.inside.nexts.items = subst (λ (y : Links). e < length y.nexts) (sym c.self.view_is) (is.inside b e own) in
     let read : c.index-next-in-loop-next.result.now ≡ slice_index x.nexts e = get_or_read c.self.inside.nexts.items e c.index-next-in-loop-next.result.now inside c.index-next-in-loop-next.ensures 0 ∙ ap (λ (y : Links). slice_index y.nexts e) c.self.view_is in
     let long : length inv.0 ≡ length (e ∷ step.0) = ap (λ (l : List ℕ). length l) step.1 in
@@ -103,7 +103,7 @@ loop-next-preserved c =
     let e = n - 1 in
     let some : n ≢ 0 = λ z. chain_end x.nexts n inv.0 z inv.1 c.args.element inv.4 in
     let step = chain_step x.nexts n inv.0 some inv.1 in
-    let own : IsAt x b e = inv.3 e (subst (λ (l : List ℕ). Has l e) (sym step.1) (inl refl)) in
+    let own : IsChainedAt x b e = inv.3 e (subst (λ (l : List ℕ). Has l e) (sym step.1) (inl refl)) in
     let inside : e < length c.self.inside.nexts.items = subst (λ (y : Links). e < length y.nexts) (sym c.self.view_is) (is.inside b e own) in
     let read : c.index-next-in-loop-next.result.now ≡ slice_index x.nexts e = get_or_read c.self.inside.nexts.items e c.index-next-in-loop-next.result.now inside c.index-next-in-loop-next.ensures 0 ∙ ap (λ (y : Links). slice_index y.nexts e) c.self.view_is in
     let long : length inv.0 ≡ length (e ∷ step.0) = ap (λ (l : List ℕ). length l) step.1 in

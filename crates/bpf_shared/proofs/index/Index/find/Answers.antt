@@ -1,7 +1,7 @@
 use Rattle.std.proofs.Common.{◌≡◌, ℕ, ◌-◌, ◌*◌, ◌<◌, true, false, List, ◌∷◌, length, slice_index, inl, inr, refl, sym, ap, subst, ◌∙◌, arith}
 use Rattle.std.proofs.lemmas.List.{get_or_read}
 use Rattle.bpf_base.specs.Bytes.{part}
-use Rattle.bpf_shared.specs.Private.Chains.{Has, IsChain, chain_length, Links, IsAt, IsLinks}
+use Rattle.bpf_shared.specs.Private.Chains.{Has, IsChain, chain_length, Links, IsChainedAt, IsLinks}
 use Rattle.bpf_shared.proofs.Blocks.{block_fits}
 use Rattle.bpf_shared.proofs.Chaining.{at_chain, chain_end, chain_most, chain_step, chain-length}
 use Rattle.bpf_shared.proofs.index.Index.find.Goals as goal
@@ -24,7 +24,7 @@ is_key_of-requires c =
     let inv = c.loop-link.invariant in
     let e = c.loop-link.link - 1 in
     let step = chain_step x.nexts c.loop-link.link inv.0 c.loop-link-test.true inv.1 in
-    let at : IsAt x b e = inv.3 e (subst (λ (l : List ℕ). Has l e) (sym step.1) (inl refl)) in
+    let at : IsChainedAt x b e = inv.3 e (subst (λ (l : List ℕ). Has l e) (sym step.1) (inl refl)) in
     omega (arith, block_fits e (length x.nexts) c.args.size (is.inside b e at), c.requires.keys)
 
 pub returns-then-is_key_of-clause-found : goal.returns-then-is_key_of-clause-found
@@ -43,7 +43,7 @@ index-link-requires-in-loop-link c =
     let inv = c.loop-link.invariant in
     let e = c.loop-link.link - 1 in
     let step = chain_step x.nexts c.loop-link.link inv.0 c.loop-link-test.true inv.1 in
-    let at : IsAt x b e = inv.3 e (subst (λ (l : List ℕ). Has l e) (sym step.1) (inl refl)) in
+    let at : IsChainedAt x b e = inv.3 e (subst (λ (l : List ℕ). Has l e) (sym step.1) (inl refl)) in
     let inside : e < length c.self.inside.nexts.items = subst (λ (y : Links). e < length y.nexts) (sym c.self.view_is) (is.inside b e at) in
     omega (arith, inside, c.self.inside.nexts.ok.0)
 
@@ -55,7 +55,7 @@ loop-link-smaller c =
     let inv = c.loop-link.invariant in
     let e = c.loop-link.link - 1 in
     let step = chain_step x.nexts c.loop-link.link inv.0 c.loop-link-test.true inv.1 in
-    let at : IsAt x b e = inv.3 e (subst (λ (l : List ℕ). Has l e) (sym step.1) (inl refl)) in
+    let at : IsChainedAt x b e = inv.3 e (subst (λ (l : List ℕ). Has l e) (sym step.1) (inl refl)) in
     let inside : e < length c.self.inside.nexts.items = subst (λ (y : Links). e < length y.nexts) (sym c.self.view_is) (is.inside b e at) in
     let read : c.index-link-in-loop-link.result.now ≡ slice_index x.nexts e = get_or_read c.self.inside.nexts.items e c.index-link-in-loop-link.result.now inside c.index-link-in-loop-link.ensures 0 ∙ ap (λ (y : Links). slice_index y.nexts e) c.self.view_is in
     let long : length inv.0 ≡ length (e ∷ step.0) = ap (λ (l : List ℕ). length l) step.1 in
@@ -74,7 +74,7 @@ loop-link-preserved c =
     let inv = c.loop-link.invariant in
     let e = c.loop-link.link - 1 in
     let step = chain_step x.nexts c.loop-link.link inv.0 c.loop-link-test.true inv.1 in
-    let at : IsAt x b e = inv.3 e (subst (λ (l : List ℕ). Has l e) (sym step.1) (inl refl)) in
+    let at : IsChainedAt x b e = inv.3 e (subst (λ (l : List ℕ). Has l e) (sym step.1) (inl refl)) in
     let inside : e < length c.self.inside.nexts.items = subst (λ (y : Links). e < length y.nexts) (sym c.self.view_is) (is.inside b e at) in
     let read : c.index-link-in-loop-link.result.now ≡ slice_index x.nexts e = get_or_read c.self.inside.nexts.items e c.index-link-in-loop-link.result.now inside c.index-link-in-loop-link.ensures 0 ∙ ap (λ (y : Links). slice_index y.nexts e) c.self.view_is in
     let long : length inv.0 ≡ length (e ∷ step.0) = ap (λ (l : List ℕ). length l) step.1 in

@@ -1,6 +1,6 @@
 use Rattle.std.proofs.Common.{◌≡◌, ℕ, ◌+◌, ◌<◌, length, set, slice_index, sym, subst, ◌∙◌, arith}
 use Rattle.std.proofs.lemmas.List.{get_or_read}
-use Rattle.bpf_shared.specs.Private.Chains.{Links, IsAt, IsLinks, Goes}
+use Rattle.bpf_shared.specs.Private.Chains.{Links, IsChainedAt, IsLinks, GetsUnchained}
 use Rattle.bpf_shared.proofs.Chaining.{head_goes, head_goes_links, link_goes, link_goes_links}
 use Rattle.bpf_shared.proofs.index.Index.remove.Goals as goal
 
@@ -30,7 +30,7 @@ invariant_of-self c =
     let b = c.args.home in
     let e = c.args.element in
     let is : IsLinks x = c.self.invariant in
-    let at : IsAt x b e = subst (λ (y : Links). IsAt y b e) (sym same) c.requires.element in
+    let at : IsChainedAt x b e = subst (λ (y : Links). IsChainedAt y b e) (sym same) c.requires.element in
     let bi : b < length x.heads = subst (λ (y : Links). b < length y.heads) (sym same) c.requires.home in
     let next : c.index-next.result.now ≡ slice_index x.nexts e = get_or_read x.nexts e c.index-next.result.now (is.inside b e at) c.index-next.ensures 0 in
     let head : c.index.result.now ≡ slice_index x.heads b = get_or_read x.heads b c.index.result.now bi c.index.ensures 0 in
@@ -43,13 +43,13 @@ returns-then-index-element c =
     let b = c.args.home in
     let e = c.args.element in
     let is : IsLinks x = c.self.invariant in
-    let at : IsAt x b e = subst (λ (y : Links). IsAt y b e) (sym same) c.requires.element in
+    let at : IsChainedAt x b e = subst (λ (y : Links). IsChainedAt y b e) (sym same) c.requires.element in
     let bi : b < length x.heads = subst (λ (y : Links). b < length y.heads) (sym same) c.requires.home in
     let next : c.index-next.result.now ≡ slice_index x.nexts e = get_or_read x.nexts e c.index-next.result.now (is.inside b e at) c.index-next.ensures 0 in
     let head : c.index.result.now ≡ slice_index x.heads b = get_or_read x.heads b c.index.result.now bi c.index.ensures 0 in
     let links : ℕ → Links = λ n. record { heads = set x.heads b n; nexts = x.nexts } in
-    subst (λ (y : Links). Goes e y (links c.index-next.result.now)) same
-    (subst (λ (n : ℕ). Goes e x (links n)) (sym next) (head_goes x is b e bi at (sym head ∙ c.if-index-element.true)))
+    subst (λ (y : Links). GetsUnchained e y (links c.index-next.result.now)) same
+    (subst (λ (n : ℕ). GetsUnchained e x (links n)) (sym next) (head_goes x is b e bi at (sym head ∙ c.if-index-element.true)))
 
 pub invariant_of-self-else-index-element : goal.invariant_of-self-else-index-element
 invariant_of-self-else-index-element c =
@@ -59,9 +59,9 @@ invariant_of-self-else-index-element c =
     let e = c.args.element in
     let p = c.before-before.result in
     let is : IsLinks x = c.self.invariant in
-    let at : IsAt x b e = subst (λ (y : Links). IsAt y b e) (sym same) c.requires.element in
+    let at : IsChainedAt x b e = subst (λ (y : Links). IsChainedAt y b e) (sym same) c.requires.element in
     let next : c.index-next.result.now ≡ slice_index x.nexts e = get_or_read x.nexts e c.index-next.result.now (is.inside b e at) c.index-next.ensures 0 in
-    let before : IsAt x b p = subst (λ (y : Links). IsAt y b p) (sym same) c.before-before.ensures.at in
+    let before : IsChainedAt x b p = subst (λ (y : Links). IsChainedAt y b p) (sym same) c.before-before.ensures.at in
     let leads : slice_index x.nexts p ≡ e + 1 = subst (λ (y : Links). slice_index y.nexts p ≡ e + 1) (sym same) c.before-before.ensures.leads in
     subst (λ (n : ℕ). IsLinks (record { heads = x.heads; nexts = set x.nexts p n })) (sym next) (link_goes_links x is b p e at before leads)
 
@@ -73,10 +73,10 @@ returns-else-index-element c =
     let e = c.args.element in
     let p = c.before-before.result in
     let is : IsLinks x = c.self.invariant in
-    let at : IsAt x b e = subst (λ (y : Links). IsAt y b e) (sym same) c.requires.element in
+    let at : IsChainedAt x b e = subst (λ (y : Links). IsChainedAt y b e) (sym same) c.requires.element in
     let next : c.index-next.result.now ≡ slice_index x.nexts e = get_or_read x.nexts e c.index-next.result.now (is.inside b e at) c.index-next.ensures 0 in
-    let before : IsAt x b p = subst (λ (y : Links). IsAt y b p) (sym same) c.before-before.ensures.at in
+    let before : IsChainedAt x b p = subst (λ (y : Links). IsChainedAt y b p) (sym same) c.before-before.ensures.at in
     let leads : slice_index x.nexts p ≡ e + 1 = subst (λ (y : Links). slice_index y.nexts p ≡ e + 1) (sym same) c.before-before.ensures.leads in
     let links : ℕ → Links = λ n. record { heads = x.heads; nexts = set x.nexts p n } in
-    subst (λ (y : Links). Goes e y (links c.index-next.result.now)) same
-    (subst (λ (n : ℕ). Goes e x (links n)) (sym next) (link_goes x is b p e at before leads))
+    subst (λ (y : Links). GetsUnchained e y (links c.index-next.result.now)) same
+    (subst (λ (n : ℕ). GetsUnchained e x (links n)) (sym next) (link_goes x is b p e at before leads))

@@ -8,7 +8,7 @@ use Rattle.bpf_shared.specs.Shape.{elements, element_span, IsElement}
 use Rattle.bpf_shared.specs.Passage.{Calls, held_with}
 use Rattle.bpf_shared.specs.Private.Runs.{no_runs}
 use Rattle.bpf_shared.specs.Private.Rows.{Rows, key_of, IsLinked, IsTable, noted_row}
-use Rattle.bpf_shared.specs.Private.Contents.{Contents, runs_of, rows, size_of, span_at, shapes_of, has_cpu, is_running, held_spans, Passes, IsStore, looked, with_table}
+use Rattle.bpf_shared.specs.Private.Contents.{Contents, runs_of, rows, element_count, span_at, shapes_of, has_cpu, is_running, held_spans, Passes, IsStore, looked, with_table}
 use Rattle.bpf_shared.proofs.Counting.{served}
 use Rattle.bpf_shared.proofs.Changing.{map_there, shape_at, read_row}
 use Rattle.bpf_shared.proofs.Looking.{looked_calls, looked_held, looked_same, looked_store, unlooked_calls}
@@ -47,7 +47,7 @@ look_up-requires-clause-element c =
     let ci = served p cpu c.requires.serves in
     let row : c.index-table.result.now ≡ rows p m = read_row p m runs tables c.index-table.result.now c.self.view_is mi c.index-table.ensures in
     let same : c.index_mut.result.now ≡ rows p m = read_row p m runs tables c.index_mut.result.now c.self.view_is mi c.index_mut.ensures.value in
-    let ii : i < size_of p m = subst (λ (t : Rows). i < elements t.shape) row c.in_ok-element.ensures.inside in
+    let ii : i < element_count p m = subst (λ (t : Rows). i < elements t.shape) row c.in_ok-element.ensures.inside in
     subst (λ (t : Rows). i < elements t.shape) (sym same) ii
 
 pub look_up-requires-clause-cpu : goal.look_up-requires-clause-cpu
@@ -63,7 +63,7 @@ look_up-requires-clause-cpu c =
     let ci = served p cpu c.requires.serves in
     let row : c.index-table.result.now ≡ rows p m = read_row p m runs tables c.index-table.result.now c.self.view_is mi c.index-table.ensures in
     let same : c.index_mut.result.now ≡ rows p m = read_row p m runs tables c.index_mut.result.now c.self.view_is mi c.index_mut.ensures.value in
-    let ii : i < size_of p m = subst (λ (t : Rows). i < elements t.shape) row c.in_ok-element.ensures.inside in
+    let ii : i < element_count p m = subst (λ (t : Rows). i < elements t.shape) row c.in_ok-element.ensures.inside in
     subst (λ (t : Rows). cpu < t.cpus) (sym same) (subst (λ (n : ℕ). cpu < n) (sym (is.tables m mi).1) ci)
 
 pub invariant_of-self : goal.invariant_of-self
@@ -79,7 +79,7 @@ invariant_of-self c =
     let ci = served p cpu c.requires.serves in
     let row : c.index-table.result.now ≡ rows p m = read_row p m runs tables c.index-table.result.now c.self.view_is mi c.index-table.ensures in
     let same : c.index_mut.result.now ≡ rows p m = read_row p m runs tables c.index_mut.result.now c.self.view_is mi c.index_mut.ensures.value in
-    let ii : i < size_of p m = subst (λ (t : Rows). i < elements t.shape) row c.in_ok-element.ensures.inside in
+    let ii : i < element_count p m = subst (λ (t : Rows). i < elements t.shape) row c.in_ok-element.ensures.inside in
     let run : c.index.result.now ≡ runs_of p cpu = get_or_read runs cpu c.index.result.now (subst (λ (q : Contents). cpu < length q.runs) (sym c.self.view_is) ci) c.index.ensures no_runs ∙ ap (λ (q : Contents). runs_of q cpu) c.self.view_is in
     let noted : c.look_up.new.self ≡ noted_row i cpu (runs_of p cpu).count (rows p m) = c.look_up.ensures.noted ∙ (ap (λ (x : Runs). noted_row i cpu x.count c.index_mut.result.now) run ∙ ap (noted_row i cpu (runs_of p cpu).count) same) in
     let new : ◌≡◌ {A = Contents} (with_table (record { runs = runs; tables = tables }) m c.look_up.new.self) (looked p cpu m i) = ap (λ (q : Contents). with_table q m c.look_up.new.self) c.self.view_is ∙ ap (with_table p m) noted in
@@ -98,7 +98,7 @@ returns-clause-found c =
     let ci = served p cpu c.requires.serves in
     let row : c.index-table.result.now ≡ rows p m = read_row p m runs tables c.index-table.result.now c.self.view_is mi c.index-table.ensures in
     let same : c.index_mut.result.now ≡ rows p m = read_row p m runs tables c.index_mut.result.now c.self.view_is mi c.index_mut.ensures.value in
-    let ii : i < size_of p m = subst (λ (t : Rows). i < elements t.shape) row c.in_ok-element.ensures.inside in
+    let ii : i < element_count p m = subst (λ (t : Rows). i < elements t.shape) row c.in_ok-element.ensures.inside in
     let run : c.index.result.now ≡ runs_of p cpu = get_or_read runs cpu c.index.result.now (subst (λ (q : Contents). cpu < length q.runs) (sym c.self.view_is) ci) c.index.ensures no_runs ∙ ap (λ (q : Contents). runs_of q cpu) c.self.view_is in
     let noted : c.look_up.new.self ≡ noted_row i cpu (runs_of p cpu).count (rows p m) = c.look_up.ensures.noted ∙ (ap (λ (x : Runs). noted_row i cpu x.count c.index_mut.result.now) run ∙ ap (noted_row i cpu (runs_of p cpu).count) same) in
     let new : ◌≡◌ {A = Contents} (with_table (record { runs = runs; tables = tables }) m c.look_up.new.self) (looked p cpu m i) = ap (λ (q : Contents). with_table q m c.look_up.new.self) c.self.view_is ∙ ap (with_table p m) noted in
@@ -122,7 +122,7 @@ returns-clause-held c =
     let ci = served p cpu c.requires.serves in
     let row : c.index-table.result.now ≡ rows p m = read_row p m runs tables c.index-table.result.now c.self.view_is mi c.index-table.ensures in
     let same : c.index_mut.result.now ≡ rows p m = read_row p m runs tables c.index_mut.result.now c.self.view_is mi c.index_mut.ensures.value in
-    let ii : i < size_of p m = subst (λ (t : Rows). i < elements t.shape) row c.in_ok-element.ensures.inside in
+    let ii : i < element_count p m = subst (λ (t : Rows). i < elements t.shape) row c.in_ok-element.ensures.inside in
     let run : c.index.result.now ≡ runs_of p cpu = get_or_read runs cpu c.index.result.now (subst (λ (q : Contents). cpu < length q.runs) (sym c.self.view_is) ci) c.index.ensures no_runs ∙ ap (λ (q : Contents). runs_of q cpu) c.self.view_is in
     let noted : c.look_up.new.self ≡ noted_row i cpu (runs_of p cpu).count (rows p m) = c.look_up.ensures.noted ∙ (ap (λ (x : Runs). noted_row i cpu x.count c.index_mut.result.now) run ∙ ap (noted_row i cpu (runs_of p cpu).count) same) in
     let new : ◌≡◌ {A = Contents} (with_table (record { runs = runs; tables = tables }) m c.look_up.new.self) (looked p cpu m i) = ap (λ (q : Contents). with_table q m c.look_up.new.self) c.self.view_is ∙ ap (with_table p m) noted in
@@ -145,7 +145,7 @@ returns-clause-element c =
     let ci = served p cpu c.requires.serves in
     let row : c.index-table.result.now ≡ rows p m = read_row p m runs tables c.index-table.result.now c.self.view_is mi c.index-table.ensures in
     let same : c.index_mut.result.now ≡ rows p m = read_row p m runs tables c.index_mut.result.now c.self.view_is mi c.index_mut.ensures.value in
-    let ii : i < size_of p m = subst (λ (t : Rows). i < elements t.shape) row c.in_ok-element.ensures.inside in
+    let ii : i < element_count p m = subst (λ (t : Rows). i < elements t.shape) row c.in_ok-element.ensures.inside in
     let span : c.span-span.result ≡ span_at p m i = c.span-span.ensures.span ∙ ap (λ (t : Rows). element_span m t.shape i) row in
     ((rows p m).shape, i, shape_at p.tables m mi, ii, span)
 
@@ -162,7 +162,7 @@ returns-clause-same c =
     let ci = served p cpu c.requires.serves in
     let row : c.index-table.result.now ≡ rows p m = read_row p m runs tables c.index-table.result.now c.self.view_is mi c.index-table.ensures in
     let same : c.index_mut.result.now ≡ rows p m = read_row p m runs tables c.index_mut.result.now c.self.view_is mi c.index_mut.ensures.value in
-    let ii : i < size_of p m = subst (λ (t : Rows). i < elements t.shape) row c.in_ok-element.ensures.inside in
+    let ii : i < element_count p m = subst (λ (t : Rows). i < elements t.shape) row c.in_ok-element.ensures.inside in
     let run : c.index.result.now ≡ runs_of p cpu = get_or_read runs cpu c.index.result.now (subst (λ (q : Contents). cpu < length q.runs) (sym c.self.view_is) ci) c.index.ensures no_runs ∙ ap (λ (q : Contents). runs_of q cpu) c.self.view_is in
     let noted : c.look_up.new.self ≡ noted_row i cpu (runs_of p cpu).count (rows p m) = c.look_up.ensures.noted ∙ (ap (λ (x : Runs). noted_row i cpu x.count c.index_mut.result.now) run ∙ ap (noted_row i cpu (runs_of p cpu).count) same) in
     let new : ◌≡◌ {A = Contents} (with_table (record { runs = runs; tables = tables }) m c.look_up.new.self) (looked p cpu m i) = ap (λ (q : Contents). with_table q m c.look_up.new.self) c.self.view_is ∙ ap (with_table p m) noted in

@@ -1,110 +1,17 @@
-use Rattle.std.proofs.Common.{◌≡◌, subst, ap, sym, ◌∙◌}
-use Rattle.bpf_shared.specs.declared.events.Event.TheVariants.{Update}
-use Rattle.bpf_shared.specs.declared.shapes.MapShape.{MapShape}
-use Rattle.bpf_shared.specs.Passage.{Calls}
-use Rattle.bpf_shared.specs.Private.Rows.{Rows, IsTable, PutsRow}
-use Rattle.bpf_shared.specs.Private.Contents.{Contents, rows, shapes_of, has_cpu, is_running, held_spans, Passes, MayLack, IsStore, with_table}
-use Rattle.bpf_shared.proofs.Changing.{map_there, same_shape, read_row}
-use Rattle.bpf_shared.proofs.Settling.{Keeps, puts_calls, puts_keeps, puts_lacks, keeps_store, keeps_held, keeps_shapes}
+use Rattle.bpf_shared.proofs.Answering.{update_leaves, update_calls, update_lacks}
 use Rattle.bpf_shared.proofs.plain.PlainStoreShared.update.Goals as goal
 
 pub invariant_of-self : goal.invariant_of-self
-invariant_of-self c =
-    let p = c.args.self.now in
-    let m = c.args.map in
-    let key = c.args.key.now in
-    let is : IsStore p = subst IsStore c.self.view_is c.self.invariant in
-    let mi = map_there p m c.requires.pair.0 c.requires.pair.1 in
-    let row : c.index_mut.result.now ≡ rows p m = read_row p m c.self.inside.runs.items c.self.inside.tables.items c.index_mut.result.now c.self.view_is mi c.index_mut.ensures.value in
-    let runs : c.deref.result.now ≡ p.runs = c.deref.ensures.value ∙ ap (λ (q : Contents). q.runs) c.self.view_is in
-    let n = c.put.new.self in
-    let bytes = c.args.value.now in
-    let flags = c.args.flags in
-    let puts : PutsRow p.runs (rows p m) key bytes flags c.put.result n = subst (λ (r : _). PutsRow r (rows p m) key bytes flags c.put.result n) runs (subst (λ (t : Rows). PutsRow c.deref.result.now t key bytes flags c.put.result n) row c.put.ensures.puts) in
-    let kept : Keeps p is c.args._cpu m key mi n = puts_keeps p is c.args._cpu m key mi bytes flags c.put.result n puts in
-    let shape = same_shape p m c.requires.pair.0 c.requires.pair.1 in
-    let size = c.requires.pair.2 ∙ ap (λ (h : MapShape). h.key) shape in
-    let long = c.requires.pair.3 ∙ ap (λ (h : MapShape). h.value) shape in
-    let new : ◌≡◌ {A = Contents} (with_table (record { runs = c.self.inside.runs.items; tables = c.self.inside.tables.items }) m n) (with_table p m n) = ap (λ (q : Contents). with_table q m n) c.self.view_is in
-    subst IsStore (sym new) (keeps_store p is c.args._cpu m key mi n kept (c.put.ensures.table (subst IsTable (sym row) (is.tables m mi).0)))
+invariant_of-self c = let left = update_leaves (record { runs = c.self.inside.runs.items; tables = c.self.inside.tables.items }) c.args.self.now c.self.view_is c.self.invariant c.args._cpu c.args.map c.args.key.now c.requires.pair.0 c.requires.pair.1 c.deref.result.now c.deref.ensures.value c.index_mut.result.now c.index_mut.ensures.value c.put.new.self c.put.ensures.table c.args.value.now c.args.flags c.put.result c.requires.pair.2 c.requires.pair.3 c.put.ensures.puts in left.store
 
 pub returns-clause-answered : goal.returns-clause-answered
-returns-clause-answered c =
-    let p = c.args.self.now in
-    let m = c.args.map in
-    let key = c.args.key.now in
-    let is : IsStore p = subst IsStore c.self.view_is c.self.invariant in
-    let mi = map_there p m c.requires.pair.0 c.requires.pair.1 in
-    let row : c.index_mut.result.now ≡ rows p m = read_row p m c.self.inside.runs.items c.self.inside.tables.items c.index_mut.result.now c.self.view_is mi c.index_mut.ensures.value in
-    let runs : c.deref.result.now ≡ p.runs = c.deref.ensures.value ∙ ap (λ (q : Contents). q.runs) c.self.view_is in
-    let n = c.put.new.self in
-    let bytes = c.args.value.now in
-    let flags = c.args.flags in
-    let puts : PutsRow p.runs (rows p m) key bytes flags c.put.result n = subst (λ (r : _). PutsRow r (rows p m) key bytes flags c.put.result n) runs (subst (λ (t : Rows). PutsRow c.deref.result.now t key bytes flags c.put.result n) row c.put.ensures.puts) in
-    let kept : Keeps p is c.args._cpu m key mi n = puts_keeps p is c.args._cpu m key mi bytes flags c.put.result n puts in
-    let shape = same_shape p m c.requires.pair.0 c.requires.pair.1 in
-    let size = c.requires.pair.2 ∙ ap (λ (h : MapShape). h.key) shape in
-    let long = c.requires.pair.3 ∙ ap (λ (h : MapShape). h.value) shape in
-    let new : ◌≡◌ {A = Contents} (with_table (record { runs = c.self.inside.runs.items; tables = c.self.inside.tables.items }) m n) (with_table p m n) = ap (λ (q : Contents). with_table q m n) c.self.view_is in
-    subst (λ (q : Contents). Calls (Passes p q) (has_cpu p) c.args._cpu (Update m key bytes flags c.put.result)) (sym new)
-    (puts_calls p is c.args._cpu m key mi bytes flags size long c.put.result n c.requires.in_run puts)
+returns-clause-answered c = update_calls (record { runs = c.self.inside.runs.items; tables = c.self.inside.tables.items }) c.args.self.now c.self.view_is c.self.invariant c.args._cpu c.args.map c.args.key.now c.requires.pair.0 c.requires.pair.1 c.deref.result.now c.deref.ensures.value c.index_mut.result.now c.index_mut.ensures.value c.put.new.self c.put.ensures.table c.args.value.now c.args.flags c.put.result c.requires.pair.2 c.requires.pair.3 c.put.ensures.puts c.requires.in_run
 
 pub returns-clause-shortage : goal.returns-clause-shortage
-returns-clause-shortage c =
-    let p = c.args.self.now in
-    let m = c.args.map in
-    let key = c.args.key.now in
-    let is : IsStore p = subst IsStore c.self.view_is c.self.invariant in
-    let mi = map_there p m c.requires.pair.0 c.requires.pair.1 in
-    let row : c.index_mut.result.now ≡ rows p m = read_row p m c.self.inside.runs.items c.self.inside.tables.items c.index_mut.result.now c.self.view_is mi c.index_mut.ensures.value in
-    let runs : c.deref.result.now ≡ p.runs = c.deref.ensures.value ∙ ap (λ (q : Contents). q.runs) c.self.view_is in
-    let n = c.put.new.self in
-    let bytes = c.args.value.now in
-    let flags = c.args.flags in
-    let puts : PutsRow p.runs (rows p m) key bytes flags c.put.result n = subst (λ (r : _). PutsRow r (rows p m) key bytes flags c.put.result n) runs (subst (λ (t : Rows). PutsRow c.deref.result.now t key bytes flags c.put.result n) row c.put.ensures.puts) in
-    let kept : Keeps p is c.args._cpu m key mi n = puts_keeps p is c.args._cpu m key mi bytes flags c.put.result n puts in
-    let shape = same_shape p m c.requires.pair.0 c.requires.pair.1 in
-    let size = c.requires.pair.2 ∙ ap (λ (h : MapShape). h.key) shape in
-    let long = c.requires.pair.3 ∙ ap (λ (h : MapShape). h.value) shape in
-    let new : ◌≡◌ {A = Contents} (with_table (record { runs = c.self.inside.runs.items; tables = c.self.inside.tables.items }) m n) (with_table p m n) = ap (λ (q : Contents). with_table q m n) c.self.view_is in
-    subst (λ (q : Contents). MayLack p q m key c.put.result) (sym new) (puts_lacks p is c.args._cpu m key mi bytes flags size long c.put.result n puts)
+returns-clause-shortage c = update_lacks (record { runs = c.self.inside.runs.items; tables = c.self.inside.tables.items }) c.args.self.now c.self.view_is c.self.invariant c.args._cpu c.args.map c.args.key.now c.requires.pair.0 c.requires.pair.1 c.deref.result.now c.deref.ensures.value c.index_mut.result.now c.index_mut.ensures.value c.put.new.self c.put.ensures.table c.args.value.now c.args.flags c.put.result c.requires.pair.2 c.requires.pair.3 c.put.ensures.puts
 
 pub returns-clause-held : goal.returns-clause-held
-returns-clause-held c =
-    let p = c.args.self.now in
-    let m = c.args.map in
-    let key = c.args.key.now in
-    let is : IsStore p = subst IsStore c.self.view_is c.self.invariant in
-    let mi = map_there p m c.requires.pair.0 c.requires.pair.1 in
-    let row : c.index_mut.result.now ≡ rows p m = read_row p m c.self.inside.runs.items c.self.inside.tables.items c.index_mut.result.now c.self.view_is mi c.index_mut.ensures.value in
-    let runs : c.deref.result.now ≡ p.runs = c.deref.ensures.value ∙ ap (λ (q : Contents). q.runs) c.self.view_is in
-    let n = c.put.new.self in
-    let bytes = c.args.value.now in
-    let flags = c.args.flags in
-    let puts : PutsRow p.runs (rows p m) key bytes flags c.put.result n = subst (λ (r : _). PutsRow r (rows p m) key bytes flags c.put.result n) runs (subst (λ (t : Rows). PutsRow c.deref.result.now t key bytes flags c.put.result n) row c.put.ensures.puts) in
-    let kept : Keeps p is c.args._cpu m key mi n = puts_keeps p is c.args._cpu m key mi bytes flags c.put.result n puts in
-    let shape = same_shape p m c.requires.pair.0 c.requires.pair.1 in
-    let size = c.requires.pair.2 ∙ ap (λ (h : MapShape). h.key) shape in
-    let long = c.requires.pair.3 ∙ ap (λ (h : MapShape). h.value) shape in
-    let new : ◌≡◌ {A = Contents} (with_table (record { runs = c.self.inside.runs.items; tables = c.self.inside.tables.items }) m n) (with_table p m n) = ap (λ (q : Contents). with_table q m n) c.self.view_is in
-    ap held_spans new ∙ keeps_held p is c.args._cpu m key mi n kept
+returns-clause-held c = let left = update_leaves (record { runs = c.self.inside.runs.items; tables = c.self.inside.tables.items }) c.args.self.now c.self.view_is c.self.invariant c.args._cpu c.args.map c.args.key.now c.requires.pair.0 c.requires.pair.1 c.deref.result.now c.deref.ensures.value c.index_mut.result.now c.index_mut.ensures.value c.put.new.self c.put.ensures.table c.args.value.now c.args.flags c.put.result c.requires.pair.2 c.requires.pair.3 c.put.ensures.puts in left.held
 
 pub returns-clause-same : goal.returns-clause-same
-returns-clause-same c =
-    let p = c.args.self.now in
-    let m = c.args.map in
-    let key = c.args.key.now in
-    let is : IsStore p = subst IsStore c.self.view_is c.self.invariant in
-    let mi = map_there p m c.requires.pair.0 c.requires.pair.1 in
-    let row : c.index_mut.result.now ≡ rows p m = read_row p m c.self.inside.runs.items c.self.inside.tables.items c.index_mut.result.now c.self.view_is mi c.index_mut.ensures.value in
-    let runs : c.deref.result.now ≡ p.runs = c.deref.ensures.value ∙ ap (λ (q : Contents). q.runs) c.self.view_is in
-    let n = c.put.new.self in
-    let bytes = c.args.value.now in
-    let flags = c.args.flags in
-    let puts : PutsRow p.runs (rows p m) key bytes flags c.put.result n = subst (λ (r : _). PutsRow r (rows p m) key bytes flags c.put.result n) runs (subst (λ (t : Rows). PutsRow c.deref.result.now t key bytes flags c.put.result n) row c.put.ensures.puts) in
-    let kept : Keeps p is c.args._cpu m key mi n = puts_keeps p is c.args._cpu m key mi bytes flags c.put.result n puts in
-    let shape = same_shape p m c.requires.pair.0 c.requires.pair.1 in
-    let size = c.requires.pair.2 ∙ ap (λ (h : MapShape). h.key) shape in
-    let long = c.requires.pair.3 ∙ ap (λ (h : MapShape). h.value) shape in
-    let new : ◌≡◌ {A = Contents} (with_table (record { runs = c.self.inside.runs.items; tables = c.self.inside.tables.items }) m n) (with_table p m n) = ap (λ (q : Contents). with_table q m n) c.self.view_is in
-    (ap shapes_of new ∙ keeps_shapes p is c.args._cpu m key mi n kept, ap has_cpu new, ap is_running new)
+returns-clause-same c = let left = update_leaves (record { runs = c.self.inside.runs.items; tables = c.self.inside.tables.items }) c.args.self.now c.self.view_is c.self.invariant c.args._cpu c.args.map c.args.key.now c.requires.pair.0 c.requires.pair.1 c.deref.result.now c.deref.ensures.value c.index_mut.result.now c.index_mut.ensures.value c.put.new.self c.put.ensures.table c.args.value.now c.args.flags c.put.result c.requires.pair.2 c.requires.pair.3 c.put.ensures.puts in (left.shapes, left.serves, left.running)

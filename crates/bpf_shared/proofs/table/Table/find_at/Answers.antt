@@ -2,19 +2,21 @@ use Rattle.std.proofs.Common.{◌≡◌, ℕ, ◌*◌, ◌<◌, List, length, sy
 use Rattle.std.proofs.lemmas.Option.{IfSome_then}
 use Rattle.bpf_base.specs.Bytes.{part}
 use Rattle.bpf_shared.specs.Private.Rows.{Rows, key_of, IsTable}
-use Rattle.bpf_shared.specs.Private.Chains.{IsAt}
+use Rattle.bpf_shared.specs.Private.Chains.{IsChainedAt}
 use Rattle.bpf_shared.specs.Private.Home.{home_of}
 use Rattle.bpf_shared.specs.Private.Index.{IsIndexed}
 use Rattle.bpf_shared.proofs.Linking.{linked_inside}
+use Rattle.bpf_shared.proofs.Homes.{home_inside}
 use Rattle.bpf_shared.proofs.Listing.{if_none}
 use Rattle.bpf_shared.proofs.table.Table.find_at.Goals as goal
 
 pub find-requires : goal.find-requires
 find-requires c =
     let t = c.args.self.now in
+    let is : IsTable t = subst IsTable c.self.view_is c.self.invariant.0 in
     let indexed : IsIndexed t c.self.inside.index = subst (λ (r : Rows). IsIndexed r c.self.inside.index) c.self.view_is c.self.invariant.1.0 in
     record {
-      home = subst (λ (n : ℕ). c.args.home < n) (sym indexed.homes) c.requires.1;
+      home = subst (λ (n : ℕ). c.args.home < n) (sym indexed.homes) (home_inside t is c.args.key.now c.args.home c.requires);
       keys = ap (length {A = ℕ}) c.deref.ensures.value ∙ (c.self.invariant.0.keys ∙ ap (λ (n : ℕ). n * c.self.inside.shape.key) (sym c.self.invariant.1.0.elements));
     }
 
@@ -41,6 +43,6 @@ returns-clause-absent c =
     let w = c.self.inside.shape.key in
     let indexed : IsIndexed t c.self.inside.index = subst (λ (r : Rows). IsIndexed r c.self.inside.index) c.self.view_is c.self.invariant.1.0 in
     if_none c.find.result c.find.ensures.absent (λ none i linked e.
-    let home = c.requires.0 ∙ ap (home_of t.shape.max) (sym e) in
+    let home = c.requires ∙ ap (home_of t.shape.max) (sym e) in
     let bytes = subst (λ (r : Rows). key_of r i ≡ c.args.key.now) (sym c.self.view_is) e in
-    none i (subst (λ (n : ℕ). IsAt c.self.inside.index n i) (sym home) (indexed.found i linked)) (ap (λ (ks : List ℕ). part ks (i * w) w) c.deref.ensures.value ∙ bytes))
+    none i (subst (λ (n : ℕ). IsChainedAt c.self.inside.index n i) (sym home) (indexed.found i linked)) (ap (λ (ks : List ℕ). part ks (i * w) w) c.deref.ensures.value ∙ bytes))

@@ -3,6 +3,7 @@ use Rattle.std.proofs.lemmas.List.{get_or-set_same, get_or-set_other}
 use Rattle.std.proofs.lemmas.Grind.{common_steps}
 use Rattle.bpf_shared.specs.Private.Rows.{Rows, ArePassed, IsTable, linked_count, linked_row}
 use Rattle.bpf_shared.specs.Private.Index.{IsIndexed}
+use Rattle.bpf_shared.proofs.Homes.{home_inside}
 use Rattle.bpf_shared.proofs.Passing.{linked_more_passed}
 use Rattle.bpf_shared.proofs.Puts.{equal_or_not}
 use Rattle.bpf_shared.proofs.Linking.{linked_table, count-more}
@@ -12,9 +13,10 @@ use Rattle.bpf_shared.proofs.table.Table.link.Goals as goal
 pub insert-requires : goal.insert-requires
 insert-requires c =
     let t = c.args.self.now in
+    let is : IsTable t = subst IsTable c.self.view_is c.self.invariant.0 in
     let indexed : IsIndexed t c.self.inside.index = subst (λ (r : Rows). IsIndexed r c.self.inside.index) c.self.view_is c.self.invariant.1.0 in
     record {
-      home = subst (λ (n : ℕ). c.args.home < n) (sym indexed.homes) c.requires.home.1;
+      home = subst (λ (n : ℕ). c.args.home < n) (sym indexed.homes) (home_inside t is c.args.key.now c.args.home c.requires.home);
       element = subst (λ (n : ℕ). c.args.element < n) (sym indexed.elements) c.requires.element;
       new = λ b at. c.requires.free (indexed.linked b c.args.element at).0;
     }
@@ -48,7 +50,7 @@ invariant_of-self c =
     let count : c.self.inside.count + 1 ≡ linked_count (linked_row e key value t) = omega arith in (
       subst IsTable (sym made) (linked_table t is e key value r.missing r.element r.free r.key r.value r.room),
       (
-        subst (λ (r : Rows). IsIndexed r c.insert.new.self) (sym made) (linked_indexed t is e key value r.missing r.element r.free r.key r.value c.self.inside.index c.insert.new.self c.args.home r.home.0 indexed c.insert.ensures),
+        subst (λ (r : Rows). IsIndexed r c.insert.new.self) (sym made) (linked_indexed t is e key value r.missing r.element r.free r.key r.value c.self.inside.index c.insert.new.self c.args.home r.home indexed c.insert.ensures),
         subst (λ (r : Rows). c.self.inside.count + 1 ≡ linked_count r) (sym made) count,
       ),
       λ i l. subst (λ (ms : List Bool). get_or ms i false ≡ true) c.deref.ensures.value (c.first_unmarked-self-inside.ensures i l),

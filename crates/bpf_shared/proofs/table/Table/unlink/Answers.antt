@@ -3,11 +3,12 @@ use Rattle.std.proofs.lemmas.List.{get_or-set_other}
 use Rattle.std.proofs.lemmas.Grind.{common_steps}
 use Rattle.bpf_shared.specs.Shape.{elements}
 use Rattle.bpf_shared.specs.declared.runs.Runs.{Runs}
-use Rattle.bpf_shared.specs.Private.Rows.{Rows, ArePassed, HasCurrentAt, IsTable, linked_count, unlinked_row}
-use Rattle.bpf_shared.specs.Private.Chains.{IsAt}
+use Rattle.bpf_shared.specs.Private.Rows.{Rows, ArePassed, HasCurrentAt, IsTable, key_of, linked_count, unlinked_row}
+use Rattle.bpf_shared.specs.Private.Chains.{IsChainedAt}
 use Rattle.bpf_shared.specs.Private.Index.{IsIndexed}
 use Rattle.bpf_shared.proofs.Passing.{unlinked_passed}
 use Rattle.bpf_shared.proofs.Blocks.{block_fits}
+use Rattle.bpf_shared.proofs.Homes.{home_inside}
 use Rattle.bpf_shared.proofs.Linking.{linked_inside, unlinked_table, count-less}
 use Rattle.bpf_shared.proofs.Indexing.{unlinked_indexed}
 use Rattle.bpf_shared.proofs.table.Table.unlink.Goals as goal
@@ -15,10 +16,11 @@ use Rattle.bpf_shared.proofs.table.Table.unlink.Goals as goal
 pub remove-requires : goal.remove-requires
 remove-requires c =
     let t = c.args.self.now in
+    let is : IsTable t = subst IsTable c.self.view_is c.self.invariant.0 in
     let indexed : IsIndexed t c.self.inside.index = subst (λ (r : Rows). IsIndexed r c.self.inside.index) c.self.view_is c.self.invariant.1.0 in
     record {
-      element = subst (λ (n : ℕ). IsAt c.self.inside.index n c.args.element) (sym c.requires.home.0) (indexed.found c.args.element c.requires.linked);
-      home = subst (λ (n : ℕ). c.args.home < n) (sym indexed.homes) c.requires.home.1;
+      element = subst (λ (n : ℕ). IsChainedAt c.self.inside.index n c.args.element) (sym c.requires.home) (indexed.found c.args.element c.requires.linked);
+      home = subst (λ (n : ℕ). c.args.home < n) (sym indexed.homes) (home_inside t is (key_of t c.args.element) c.args.home c.requires.home);
     }
 
 pub note_runs_at-requires : goal.note_runs_at-requires

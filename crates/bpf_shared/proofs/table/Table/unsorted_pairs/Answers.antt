@@ -4,8 +4,8 @@ use Rattle.std.specs.Prelude.{Vec}
 use Rattle.std.specs.declared.alloc.Global.{Global}
 use Rattle.std.proofs.lemmas.List.{get_or_read}
 use Rattle.bpf_shared.specs.Private.Rows.{Rows, IsTable, key_of, bytes_of}
-use Rattle.bpf_shared.specs.Listing.{pair_of, row_pair}
-use Rattle.bpf_shared.specs.Private.Pairs.{ArePairsBelow}
+use Rattle.bpf_shared.specs.Listing.{pair_of}
+use Rattle.bpf_shared.specs.Private.Pairs.{row_pair, ArePairsBelow}
 use Rattle.bpf_shared.proofs.Sorting.{pairs_more, pairs_past, pairs_all}
 use Rattle.bpf_shared.proofs.table.Table.unsorted_pairs.Goals as goal
 use Rattle.bpf_shared.proofs.table.Table.unsorted_pairs.Goals.{then-index+in_ok-key+in_ok-value+in_ok-push, else-index}
