@@ -1,7 +1,7 @@
 //! Claiming the free elements of a map.
 ghost use Rattle.std.specs.Prelude.{◌≡◌, ◌⊎◌, ◌+◌, ◌*◌, ◌/◌, ◌<◌, ◌≤◌, [], length, MatchOption, IsTrue, IsFalse};
 ghost use Rattle.std.specs.Int.{bit_at};
-ghost use Rattle.hop_words.specs.Ghost.{shape_at, IsElement};
+ghost use Rattle.hop_words.specs.Ghost.{shape_at, HasElement};
 ghost use Rattle.hop_words.specs.Owning.{IsInHand, tail_of};
 ghost use Rattle.bpf_shared.specs.Shape.{elements};
 ghost use Rattle.hop_arena.specs.Claiming.{Claims, Misses, TakesNothing, IsArena};
@@ -64,7 +64,7 @@ impl Arena {
     pub fn give_back(&mut self, lane: &mut Lane, table: &HopTable, element: Element)
         requires table { lane.old.table ≡ table.now.id }
         requires arena { IsArena table.now.about self.old.map self.old.elements self.old.start }
-        requires element { IsElement table.now.about element.map element.number }
+        requires element { HasElement table.now.about element.map element.number }
         requires map { element.map ≡ self.old.map }
         requires hand { IsInHand lane.old.known element.map element.number }
         ensures table { lane.new.table ≡ lane.old.table }

@@ -1,6 +1,6 @@
 //! An element that a CPU claimed.
 ghost use Rattle.std.specs.Prelude.{◌≡◌, ◌≤◌, [], length};
-ghost use Rattle.hop_words.specs.Ghost.{shape_at, IsElement};
+ghost use Rattle.hop_words.specs.Ghost.{shape_at, HasElement};
 ghost use Rattle.hop_words.specs.Layout.{words_for};
 ghost use Rattle.hop_words.specs.Owning.{IsInHand, key_filled, value_filled};
 ghost use Rattle.hop_arena.specs.Filling.{with_words, word_list};
@@ -33,7 +33,7 @@ impl Element {
     /// Writes the key and the value into the element's words, with zeros behind the last bytes.
     pub fn fill(&self, lane: &mut Lane, table: &HopTable, key: &[u8], value: &[u8])
         requires table { lane.old.table ≡ table.now.id }
-        requires element { IsElement table.now.about self.now.map self.now.number }
+        requires element { HasElement table.now.about self.now.map self.now.number }
         requires hand { IsInHand lane.old.known self.now.map self.now.number }
         requires empty { (key_filled lane.old.known.fresh ≡ 0)
             × (value_filled lane.old.known.fresh ≡ 0) }

@@ -9,7 +9,7 @@ use Rattle.hop_words.specs.declared.known.Limbo.{Limbo}
 use Rattle.hop_words.specs.declared.known.Sight.{Sight}
 use Rattle.hop_words.specs.declared.known.Sight.TheVariants.{Runs}
 use Rattle.hop_words.specs.Content.{item}
-use Rattle.hop_words.specs.Ghost.{IsElement, Each, limbo_at, no_limbo}
+use Rattle.hop_words.specs.Ghost.{HasElement, Each, limbo_at, no_limbo}
 use Rattle.hop_words.specs.Rule.{link_to}
 use Rattle.hop_words.specs.Kinds.{limbo_set, cleared, giving_old}
 use Rattle.hop_words.specs.Owning.{sighted, tail_of}
@@ -105,7 +105,7 @@ even_on ns d even p c lt = ⊎_elim
 most : (h : Shape) (m e : ℕ) → IsShape h → m < length h.maps → e < elements (map_shape h m) → e < 4294967296
 most h m e is inside few = let s = is.each m (map_shape h m) (map_is h m inside) in let a = s.max.1 in let b = s.spare in omega arith
 
-pub front_item : (a : About) (m : ℕ) (es : List ℕ) → IsShape a.shape → Each (IsElement a m) es → item (link_to es) ≡ front es
+pub front_item : (a : About) (m : ℕ) (es : List ℕ) → IsShape a.shape → Each (HasElement a m) es → item (link_to es) ≡ front es
 front_item a m [] is all = refl
 front_item a m (e ∷ es) is all =
     let z : e + 1 ≡ suc e = omega arith in
@@ -117,8 +117,8 @@ pub front_is : (es : List ℕ) (e : ℕ) → Some e ≡ front es → es ≡ e �
 front_is [] e is = cc
 front_is (x ∷ xs) e is = let z : x ≡ e = some_once x e (sym is) in ap (λ (i : ℕ). i ∷ xs) z
 
-pub first_of : (a : About) (m e : ℕ) (es : List ℕ) → es ≡ e ∷ tail_of es → Each (IsElement a m) es → IsElement a m e × Each (IsElement a m) (tail_of es)
-first_of a m e es is all = let t = subst (Each (IsElement a m)) is all in (t.0, t.1)
+pub first_of : (a : About) (m e : ℕ) (es : List ℕ) → es ≡ e ∷ tail_of es → Each (HasElement a m) es → HasElement a m e × Each (HasElement a m) (tail_of es)
+first_of a m e es is all = let t = subst (Each (HasElement a m)) is all in (t.0, t.1)
 
 -- what is known after the first element of the old batch was given back
 pub gives_on : (a : About) (m e : ℕ) (l k k' : Known) (young : Option ℕ) (ns : List ℕ) (link : ℕ) → IsShape a.shape → Tracks a k m young (Some e) ns → Notes a (limbo_at k.limbo m).noted ns
@@ -132,8 +132,8 @@ gives_on a m e l k k' young ns link is p n given linked =
       room = subst (λ (i : ℕ). m < i) (sym (length-set k.limbo m x)) p.room;
       young_is = p.young_is ∙ ap (λ (y : Limbo). front y.young) (sym now);
       old_is = ap item linked ∙ (front_item a m (tail_of (limbo_at k.limbo m).old) is rest.1 ∙ ap (λ (y : Limbo). front y.old) (sym now));
-      young_inside = subst (λ (y : Limbo). Each (IsElement a m) y.young) (sym now) p.young_inside;
-      old_inside = subst (λ (y : Limbo). Each (IsElement a m) y.old) (sym now) rest.1;
+      young_inside = subst (λ (y : Limbo). Each (HasElement a m) y.young) (sym now) p.young_inside;
+      old_inside = subst (λ (y : Limbo). Each (HasElement a m) y.old) (sym now) rest.1;
       counters = inr (subst (λ (y : Limbo). Notes a y.noted ns) (sym now) n);
     })
 

@@ -4,7 +4,7 @@ use Rattle.hop_words.specs.declared.known.About.{About}
 use Rattle.hop_words.specs.declared.known.Known.{Known}
 use Rattle.hop_words.specs.declared.known.Sight.{Sight}
 use Rattle.hop_words.specs.declared.known.Sight.TheVariants.{Runs}
-use Rattle.hop_words.specs.Ghost.{IsElement, Each, limbo_at}
+use Rattle.hop_words.specs.Ghost.{HasElement, Each, limbo_at}
 
 -- the first element of a batch
 abbrev pub front : List ℕ → Option ℕ
@@ -22,8 +22,8 @@ pub record Tracks (a : About) (l : Known) (m : ℕ) (young old : Option ℕ) (no
     pub room : m < length l.limbo
     pub young_is : young ≡ front (limbo_at l.limbo m).young
     pub old_is : old ≡ front (limbo_at l.limbo m).old
-    pub young_inside : Each (IsElement a m) (limbo_at l.limbo m).young
-    pub old_inside : Each (IsElement a m) (limbo_at l.limbo m).old
+    pub young_inside : Each (HasElement a m) (limbo_at l.limbo m).young
+    pub old_inside : Each (HasElement a m) (limbo_at l.limbo m).old
     pub counters : ((limbo_at l.limbo m).old ≡ []) ⊎ Notes a (limbo_at l.limbo m).noted noted
 
 -- of what the CPU knows only its batches of the map changed, and what it counted and saw

@@ -1,7 +1,7 @@
 //! The elements of a map that a CPU took out.
-ghost use Rattle.std.specs.Prelude.{◌≡◌, ◌⊎◌, ◌<◌, ◌≤◌, ◌%◌, ◌∷◌, [], length, None, IsTrue, IsFalse};
+ghost use Rattle.std.specs.Prelude.{◌≡◌, ◌⊎◌, ◌<◌, ◌%◌, ◌∷◌, [], length, None, IsTrue, IsFalse};
 ghost use Rattle.bpf_shared.specs.Shape.{IsShape};
-ghost use Rattle.hop_words.specs.Ghost.{IsElement, limbo_at};
+ghost use Rattle.hop_words.specs.Ghost.{HasElement, limbo_at};
 ghost use Rattle.hop_words.specs.Kinds.{retiring};
 ghost use Rattle.hop_words.specs.Owning.{tail_of};
 ghost use Rattle.hop_epoch.specs.Batch.{Tracks, Keeps, Notes, Looks, AreEven, SeesRunning, link_word};
@@ -72,7 +72,7 @@ impl Batches {
         requires tracks { Tracks table.now.about lane.old.known self.old.map self.old.young
             self.old.aged self.old.noted }
         requires map { element.map ≡ self.old.map }
-        requires element { IsElement table.now.about element.map element.number }
+        requires element { HasElement table.now.about element.map element.number }
         requires used { (limbo_at lane.old.known.limbo element.map).used
             ≡ element.number ∷ tail_of (limbo_at lane.old.known.limbo element.map).used }
         requires unlocked { lane.old.known.locks ≡ [] }

@@ -1,8 +1,5 @@
 //! Claims, runs and batches over a real store, by many threads.
-ghost use Rattle.std.specs.Prelude.{◌≡◌, ◌<◌, ◌+◌, ◌^◌, true, [], length, All, IfOk, vec_len};
-ghost use Rattle.bpf_shared.specs.History.{events_of};
-ghost use Rattle.hop_words.specs.Kinds.{run_count};
-ghost use Rattle.bpf_shared.specs.Own.{in_run};
+ghost use Rattle.std.specs.Prelude.{◌≡◌, ◌<◌, ◌+◌, true, [], length, All, IfOk};
 ghost use Rattle.hop_words.specs.Opens.{lanes_from};
 ghost use Rattle.hop_epoch.specs.Ready.{IsIdle, IsLaneReady, IsFirstArena, IsStill};
 ghost use Rattle.hop_words.specs.Trial.{IsTrial};

@@ -1,5 +1,5 @@
 -- The ports of a new store, and of one whose ports are back.
-use Rattle.std.proofs.Common.{◌≡◌, ◌≢◌, ℕ, zero, suc, ◌+◌, ◌%◌, ◌^◌, ◌<◌, ◌≤◌, true, false, List, [], ◌∷◌, ◌++◌, Option, None, length, map, All, refl, ap, sym, subst, ◌∙◌, arith, append_assoc}
+use Rattle.std.proofs.Common.{◌≡◌, ◌≢◌, ℕ, zero, suc, ◌+◌, ◌%◌, ◌<◌, ◌≤◌, List, [], ◌∷◌, ◌++◌, None, length, map, All, refl, ap, sym, subst, ◌∙◌, arith}
 use Rattle.std.proofs.lemmas.List.{length-append, get_or_append_left}
 use Rattle.std.proofs.lemmas.List.Elements.{All-nil, All-cons, All-head, All-tail}
 use Rattle.std.proofs.Math.Seq.{get_or-append_seam}
@@ -13,7 +13,7 @@ use Rattle.bpf_shared.specs.declared.events.Entry.{Entry}
 use Rattle.hop_words.specs.declared.known.About.{About}
 use Rattle.hop_words.specs.declared.known.Known.{Known}
 use Rattle.hop_words.specs.declared.known.Limbo.{Limbo}
-use Rattle.hop_words.specs.Ghost.{Each, IsElement, limbo_at, no_limbo}
+use Rattle.hop_words.specs.Ghost.{Each, HasElement, limbo_at, no_limbo}
 use Rattle.hop_words.specs.Inside.{Shown}
 use Rattle.hop_words.specs.Opens.{no_limbos, new_lane, lanes_from}
 use Rattle.bpf_shared.specs.Own.{in_run}
@@ -88,8 +88,8 @@ batches_more a l n xs x h name young aged room none = record {
       room = room;
       young_is = young ∙ ap (λ (y : Limbo). front y.young) (sym none);
       old_is = aged ∙ ap (λ (y : Limbo). front y.old) (sym none);
-      young_inside = subst (λ (y : Limbo). Each (IsElement a n) y.young) (sym none) tt;
-      old_inside = subst (λ (y : Limbo). Each (IsElement a n) y.old) (sym none) tt;
+      young_inside = subst (λ (y : Limbo). Each (HasElement a n) y.young) (sym none) tt;
+      old_inside = subst (λ (y : Limbo). Each (HasElement a n) y.old) (sym none) tt;
       counters = Rattle.std.proofs.Common.inl (ap (λ (y : Limbo). y.old) none);
     }
 

@@ -23,7 +23,7 @@ use Rattle.bpf_shared.specs.Shows.{listed}
 use Rattle.hop_words.specs.Layout.{depth, segments}
 use Rattle.hop_words.specs.Homes.{bytes_of_words}
 use Rattle.hop_words.specs.Content.{IsOnList, item}
-use Rattle.hop_words.specs.Ghost.{shape_at, segment_in, IsSegment, IsElement, Carries, Each}
+use Rattle.hop_words.specs.Ghost.{shape_at, segment_in, IsSegment, HasElement, Carries, Each}
 use Rattle.hop_words.specs.Rule.{numbered}
 use Rattle.hop_words.specs.Seats.{view as whole_view, KeepsWholeHistory}
 use Rattle.hop_words.specs.Closing.{Ending}
@@ -141,7 +141,7 @@ pub last_of : (e : Ending) → KeepsWholeHistory e.about (whole_view [] e.histor
 last_of e w = (w.ghost.last, (w, refl), subst (λ (log : List Entry). Legal (as_made e.about.shape) log w.ghost.last) (sym w.whole) w.rule.logged.legal)
 
 module _ (e : Ending) (w : KeepsWholeHistory e.about (whole_view [] e.history) e.words) (m : ℕ) where
-  pub reached_inside : (s i : ℕ) → IsSegment e.about m s → IsReached e m s i → IsElement e.about m i
+  pub reached_inside : (s i : ℕ) → IsSegment e.about m s → IsReached e m s i → HasElement e.about m i
   reached_inside s i inside r = let q = (w.shows m s inside).each i r in (w.rule.linked.within m q.0 i q.3).0
 
   home_inside : m < length e.about.shape.maps → (key : List ℕ) → IsSegment e.about m (segment_in e.about m key)

@@ -11,7 +11,7 @@ use Rattle.bpf_shared.proofs.Chains.{events_of-append, events_of-own}
 use Rattle.hop_words.specs.declared.known.About.{About}
 use Rattle.hop_words.specs.declared.known.Known.{Known}
 use Rattle.hop_words.specs.declared.known.Limbo.{Limbo}
-use Rattle.hop_words.specs.Ghost.{IsElement, Each, limbo_at}
+use Rattle.hop_words.specs.Ghost.{HasElement, Each, limbo_at}
 use Rattle.hop_words.specs.Inside.{Shown, Standing}
 use Rattle.bpf_shared.specs.Own.{turns_of, in_run}
 use Rattle.hop_words.specs.Kinds.{run_count, Saw, Told}
@@ -74,8 +74,8 @@ tracks_stay a l l' m young old ns size same t = record {
   room = subst (λ (n : ℕ). m < n) (sym size) t.room;
   young_is = t.young_is ∙ ap (λ (x : Limbo). front x.young) (sym same);
   old_is = t.old_is ∙ ap (λ (x : Limbo). front x.old) (sym same);
-  young_inside = subst (λ (x : Limbo). Each (IsElement a m) x.young) (sym same) t.young_inside;
-  old_inside = subst (λ (x : Limbo). Each (IsElement a m) x.old) (sym same) t.old_inside;
+  young_inside = subst (λ (x : Limbo). Each (HasElement a m) x.young) (sym same) t.young_inside;
+  old_inside = subst (λ (x : Limbo). Each (HasElement a m) x.old) (sym same) t.old_inside;
   counters = subst (λ (x : Limbo). (x.old ≡ []) ⊎ Notes a x.noted ns) (sym same) t.counters;
 }
 

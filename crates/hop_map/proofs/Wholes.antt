@@ -14,7 +14,7 @@ use Rattle.hop_words.specs.declared.known.Fresh.{Fresh}
 use Rattle.hop_words.specs.declared.known.Limbo.{Limbo}
 use Rattle.hop_words.specs.declared.known.Sight.{Sight}
 use Rattle.hop_words.specs.declared.known.Sight.TheVariants.{Runs}
-use Rattle.hop_words.specs.Ghost.{shape_at, limbo_at, no_limbo, IsElement, Each}
+use Rattle.hop_words.specs.Ghost.{shape_at, limbo_at, no_limbo, HasElement, Each}
 use Rattle.hop_words.specs.Rule.{done_in}
 use Rattle.hop_words.specs.Kinds.{Saw, Told, holding, retiring, with_gone}
 use Rattle.bpf_shared.specs.Own.{in_run}
@@ -49,8 +49,8 @@ tracks_as a l l1 m y o n e t = record {
   room = subst (λ (ls : List Limbo). m < length ls) (sym e) t.room;
   young_is = t.young_is ∙ ap (λ (ls : List Limbo). front (limbo_at ls m).young) (sym e);
   old_is = t.old_is ∙ ap (λ (ls : List Limbo). front (limbo_at ls m).old) (sym e);
-  young_inside = subst (λ (ls : List Limbo). Each (IsElement a m) (limbo_at ls m).young) (sym e) t.young_inside;
-  old_inside = subst (λ (ls : List Limbo). Each (IsElement a m) (limbo_at ls m).old) (sym e) t.old_inside;
+  young_inside = subst (λ (ls : List Limbo). Each (HasElement a m) (limbo_at ls m).young) (sym e) t.young_inside;
+  old_inside = subst (λ (ls : List Limbo). Each (HasElement a m) (limbo_at ls m).old) (sym e) t.old_inside;
   counters = subst (λ (ls : List Limbo). ((limbo_at ls m).old ≡ []) ⊎ Notes a (limbo_at ls m).noted n) (sym e) t.counters;
 }
 
@@ -63,8 +63,8 @@ tracks_gone a l l1 m e y o n is t =
       room = subst (λ (i : ℕ). m < i) (sym (ap (λ (ls : List Limbo). length ls) is ∙ length-set l.limbo m x)) t.room;
       young_is = t.young_is ∙ ap (λ (z : Limbo). front z.young) (sym now);
       old_is = t.old_is ∙ ap (λ (z : Limbo). front z.old) (sym now);
-      young_inside = subst (λ (z : Limbo). Each (IsElement a m) z.young) (sym now) t.young_inside;
-      old_inside = subst (λ (z : Limbo). Each (IsElement a m) z.old) (sym now) t.old_inside;
+      young_inside = subst (λ (z : Limbo). Each (HasElement a m) z.young) (sym now) t.young_inside;
+      old_inside = subst (λ (z : Limbo). Each (HasElement a m) z.old) (sym now) t.old_inside;
       counters = subst (λ (z : Limbo). (z.old ≡ []) ⊎ Notes a z.noted n) (sym now) t.counters;
     }
 

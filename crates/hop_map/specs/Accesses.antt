@@ -4,7 +4,7 @@ use Rattle.bpf_shared.specs.Shape.{element_span, Covers}
 use Rattle.bpf_shared.specs.History.{events_of}
 use Rattle.hop_words.specs.declared.known.About.{About}
 use Rattle.hop_words.specs.declared.known.Known.{Known}
-use Rattle.hop_words.specs.Ghost.{shape_at, IsElement}
+use Rattle.hop_words.specs.Ghost.{shape_at, HasElement}
 use Rattle.hop_words.specs.Kinds.{spans_of, IsAmong}
 use Rattle.bpf_shared.specs.Own.{in_run}
 
@@ -12,7 +12,7 @@ use Rattle.bpf_shared.specs.Own.{in_run}
 pub record IsValuePlace (a : About) (p n : ℕ) : Type 0 where
   pub map : ℕ
   pub element : ℕ
-  pub inside : IsElement a map element
+  pub inside : HasElement a map element
   pub covers : Covers (element_span map (shape_at a map) element) p n
   pub aligned : p % n ≡ 0
 

@@ -1,5 +1,5 @@
 //! Accesses to values: each takes effect at one step on the word that its bytes lie in.
-ghost use Rattle.std.specs.Prelude.{◌≡◌, ◌<◌, ◌≤◌, ◌+◌};
+ghost use Rattle.std.specs.Prelude.{◌≡◌, ◌<◌, ◌≤◌};
 ghost use Rattle.bpf_base.specs.Bytes.{modulus};
 ghost use Rattle.bpf_shared.specs.Access.{bytes_in};
 ghost use Rattle.bpf_shared.specs.declared.events.Event.TheVariants.{Load, Store, Atomic};

@@ -1,5 +1,5 @@
 //! What is left of a store whose ports are all back.
-ghost use Rattle.std.specs.Prelude.{◌≡◌, ◌++◌, All};
+ghost use Rattle.std.specs.Prelude.{◌≡◌, All};
 ghost use Rattle.bpf_shared.specs.Store.{Plain, as_made};
 ghost use Rattle.bpf_shared.specs.History.{Legal, IsLegal};
 ghost use Rattle.hop_map.specs.Port.{IsAllOf, IsPartOf};

@@ -1,12 +1,12 @@
 //! The pairs of a map at rest.
-ghost use Rattle.std.specs.Prelude.{◌≡◌, ◌++◌, ◌<◌, ℕ, Some, IfOk, OnOk, IfSome, length};
+ghost use Rattle.std.specs.Prelude.{◌≡◌, ◌++◌, ◌<◌, ℕ, Some, IfOk, OnOk, length};
 ghost use Rattle.bpf_base.specs.Bytes.{low_bytes};
 ghost use Rattle.bpf_shared.specs.Shape.{IsMapShape};
 ghost use Rattle.bpf_shared.specs.Store.{Plain};
 ghost use Rattle.bpf_shared.specs.Listing.{IsListing};
 ghost use Rattle.bpf_shared.specs.Shows.{listed};
 ghost use Rattle.hop_words.specs.Content.{item, IsOnList};
-ghost use Rattle.hop_words.specs.Ghost.{shape_at, IsElement, IsSegment};
+ghost use Rattle.hop_words.specs.Ghost.{shape_at, HasElement, IsSegment};
 ghost use Rattle.hop_map.specs.Dumping.{words_in, key_in, value_in, IsReached, IsLast, IsKeyAmong, AreFound, AddsPairs};
 
 use crate::closed::Closed;
@@ -37,7 +37,7 @@ fn push_word(bytes: &mut Vec<u8>, word: u64) -> Result<(), AllocError>
 
 // The key in an element's words.
 fn read_key(alloc: Global, rest: &Rest, map: u8, element: u32) -> Result<Vec<u8>, AllocError>
-    requires element { IsElement rest.now.about map element }
+    requires element { HasElement rest.now.about map element }
     ensures { IfOk result (λ key. key.items ≡ key_in rest.now map element) }
 {
     let size = shape_of(rest, map).key as usize;
@@ -57,7 +57,7 @@ fn read_key(alloc: Global, rest: &Rest, map: u8, element: u32) -> Result<Vec<u8>
 
 // The value in an element's words.
 fn read_value(alloc: Global, rest: &Rest, map: u8, element: u32) -> Result<Vec<u8>, AllocError>
-    requires element { IsElement rest.now.about map element }
+    requires element { HasElement rest.now.about map element }
     ensures { IfOk result (λ value. value.items ≡ value_in rest.now map element) }
 {
     let size = shape_of(rest, map).value as usize;
@@ -85,7 +85,7 @@ fn add(
     pairs: &mut Pairs,
 ) -> Result<(), AllocError>
     requires inside { IsSegment rest.now.about map segment }
-    requires element { IsElement rest.now.about map element }
+    requires element { HasElement rest.now.about map element }
     requires reached { IsReached rest.now map segment element }
     ensures adds { OnOk result
         (AddsPairs rest.now map (listed pairs.old.entries) (listed pairs.new.entries)) }

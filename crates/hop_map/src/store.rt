@@ -1,5 +1,5 @@
 //! A new store.
-ghost use Rattle.std.specs.Prelude.{◌≡◌, ℕ, ◌<◌, ◌%◌, ◌^◌, [], IfOk, IfErr, length};
+ghost use Rattle.std.specs.Prelude.{◌≡◌, ◌<◌, ◌%◌, ◌^◌, IfOk, IfErr, length};
 ghost use Rattle.hop_words.specs.Opens.{new_lane, no_limbos, lanes_from};
 ghost use Rattle.hop_map.specs.Port.{AreArenas, AreBatches, IsPortOf};
 ghost use Rattle.hop_map.specs.Stores.{ArePorts};

@@ -14,7 +14,7 @@ use Rattle.hop_words.specs.declared.known.Limbo.{Limbo}
 use Rattle.hop_words.specs.Layout.{words_for}
 use Rattle.hop_words.specs.Homes.{segment_of, bytes_of_words}
 use Rattle.hop_words.specs.Content.{one_if}
-use Rattle.hop_words.specs.Ghost.{segment_in, Holder, Free, Filling, Leaving, Within, is_free, is_filling, is_leaving, Carries, shape_at, IsElement, limbo_at, Each}
+use Rattle.hop_words.specs.Ghost.{segment_in, Holder, Free, Filling, Leaving, Within, is_free, is_filling, is_leaving, Carries, shape_at, HasElement, limbo_at, Each}
 use Rattle.hop_words.specs.Rule.{put_key, numbered, Keyed, Batched, Owned, times_fresh, times_limbo, Linked, StartsWith, Filled, Valued}
 use Rattle.hop_words.proofs.Small.{put_key-same, put_key-other, equal_keys, equal, here_or, put2-same, put2-other}
 
@@ -48,7 +48,7 @@ leaving_or c (Leaving d) e = let s : d ≡ c = grind (arith, nat_tests) in ap Le
 leaving_or c (Within d) e = absurd (omega arith)
 
 -- an element in hand is one that the CPU fills
-pub in_hand : (a : About) (free : ℕ → ℕ → ℕ) (fresh : ℕ → List Fresh) (limbo : ℕ → List Limbo) (holder : ℕ → ℕ → Holder) (c m : ℕ) (f : Fresh) (rest : List Fresh) → Owned a free fresh limbo holder → c < a.shape.cpus → IsElement a m f.element
+pub in_hand : (a : About) (free : ℕ → ℕ → ℕ) (fresh : ℕ → List Fresh) (limbo : ℕ → List Limbo) (holder : ℕ → ℕ → Holder) (c m : ℕ) (f : Fresh) (rest : List Fresh) → Owned a free fresh limbo holder → c < a.shape.cpus → HasElement a m f.element
     → f.map ≡ m → fresh c ≡ f ∷ rest → holder m f.element ≡ Filling c
 in_hand a free fresh limbo holder c m f rest p inside l map is = filling_or c (holder m f.element) (go (holder m f.element) refl)
   where
@@ -66,7 +66,7 @@ in_hand a free fresh limbo holder c m f rest p inside l map is = filling_or c (h
         at_most false h = absurd (omega arith)
 
 -- an element in limbo has left its map
-pub in_limbo : (a : About) (free : ℕ → ℕ → ℕ) (fresh : ℕ → List Fresh) (limbo : ℕ → List Limbo) (holder : ℕ → ℕ → Holder) (c m e : ℕ) → Owned a free fresh limbo holder → c < a.shape.cpus → IsElement a m e
+pub in_limbo : (a : About) (free : ℕ → ℕ → ℕ) (fresh : ℕ → List Fresh) (limbo : ℕ → List Limbo) (holder : ℕ → ℕ → Holder) (c m e : ℕ) → Owned a free fresh limbo holder → c < a.shape.cpus → HasElement a m e
     → 1 ≤ times_limbo e (limbo_at (limbo c) m) → holder m e ≡ Leaving c
 in_limbo a free fresh limbo holder c m e p inside l has = leaving_or c (holder m e) (let q = p.limbo_is c m e inside l in omega arith)
 
@@ -86,7 +86,7 @@ module _ (a : About) (c m e s : ℕ) (key : List ℕ) (holder : ℕ → ℕ → 
         (equal b c);
   }
     where
-      own : (n d : ℕ) → IsElement a n d → times_fresh n d rest ≡ one_if (is_filling c (held' n d))
+      own : (n d : ℕ) → HasElement a n d → times_fresh n d rest ≡ one_if (is_filling c (held' n d))
       own n d l =
           let q : times_fresh n d (f ∷ rest) ≡ one_if (is_filling c (holder n d)) = ap (times_fresh n d) (sym is) ∙ p.fresh_is c n d inside l in
           ⊎_elim
@@ -138,11 +138,11 @@ module _ (a : About) (c m e s : ℕ) (key : List ℕ) (holder : ℕ → ℕ → 
       pub not_new : (n d : ℕ) (q : List ℕ) → linked n q ≡ Some d → n ≡ m → d ≢ e
       not_new n d q is t u = let k : Within (segment_in a n q) ≡ Filling c = sym (p.within n q d is).1 ∙ ((λ i. holder (t i) (u i)) ∙ was) in cc
 
-      pub linked_comes : linked m key ≡ None → IsElement a m e → segment_in a m key ≡ s → Linked a (segment_in a) links' held'
+      pub linked_comes : linked m key ≡ None → HasElement a m e → segment_in a m key ≡ s → Linked a (segment_in a) links' held'
       linked_comes none l home = record {
         within = λ n q d is. ⊎_elim
             (λ (t : (n ≡ m) × (q ≡ key)). let same : e ≡ d = (let k : Some e ≡ Some d = sym (now_new n q t.0 t.1) ∙ is in cc) in (
-              subst (λ (x : ℕ). IsElement a n x) same (subst (λ (x : ℕ). IsElement a x e) (sym t.0) l),
+              subst (λ (x : ℕ). HasElement a n x) same (subst (λ (x : ℕ). HasElement a x e) (sym t.0) l),
               put2-same holder m e n d (Within s) t.0 (sym same) ∙ ap Within (sym home ∙ (λ i. segment_of a.seed (shape_at a (sym t.0 i)) (sym t.1 i))),
             ))
             (λ (ne : n ≡ m → q ≢ key). let w = p.within n q d (sym (now_old n q ne) ∙ is) in

@@ -23,7 +23,7 @@ use Rattle.hop_words.specs.declared.known.Change.TheVariants.{Drops}
 use Rattle.hop_words.specs.Layout.{mem, put_at}
 use Rattle.hop_words.specs.Homes.{segment_of}
 use Rattle.hop_words.specs.Content.{place_words}
-use Rattle.hop_words.specs.Ghost.{segment_in, Holder, Leaving, Within, lane, Ghost, shape_at, IsElement, limbo_at}
+use Rattle.hop_words.specs.Ghost.{segment_in, Holder, Leaving, Within, lane, Ghost, shape_at, HasElement, limbo_at}
 use Rattle.hop_words.specs.Rule.{Rule, Minded, put_key, changed, Holds, numbered}
 use Rattle.hop_words.specs.Step.{Next, Steps}
 use Rattle.hop_words.specs.Kinds.{Removes, Removed, with_gone}
@@ -51,7 +51,7 @@ module _ (a : About) (l : Known) (k : Lock) (key : List ℕ) (e : ℕ) (i : Remo
   there : g.linked m key ≡ Some e
   there = h.due.2 key i.home ∙ (ap (λ x. changed x h.due.0 key) i.nothing ∙ i.there h.due.0 h.due.1)
 
-  at_e : IsElement a m e
+  at_e : HasElement a m e
   at_e = (r.linked.within m key e there).0
 
   was : g.holder m e ≡ Within s

@@ -24,7 +24,7 @@ use Rattle.hop_words.specs.declared.known.Change.TheVariants.{Puts}
 use Rattle.hop_words.specs.Layout.{mem, put_at, words_for}
 use Rattle.hop_words.specs.Homes.{segment_of, bytes_of_words}
 use Rattle.hop_words.specs.Content.{place_words, one_if}
-use Rattle.hop_words.specs.Ghost.{segment_in, Filling, Within, lane, Era, Ghost, shape_at, IsElement, Each}
+use Rattle.hop_words.specs.Ghost.{segment_in, Filling, Within, lane, Era, Ghost, shape_at, HasElement, Each}
 use Rattle.hop_words.specs.Rule.{Rule, Worn, Minded, put_key, changed, Holds, Segment, numbered, owed, Keyed, times_lock}
 use Rattle.hop_words.specs.Step.{Next, Steps}
 use Rattle.hop_words.specs.Kinds.{Inserts, Inserted}
@@ -62,7 +62,7 @@ module _ (a : About) (l : Known) (k : Lock) (f : Fresh) (rest : List Fresh) (key
   holds : Holds a (segment_in a) (place_words w) (λ n t. w (Stamp n t)) g.eras g.linked g.holder l.cpu k
   holds = (subst (Each (Holds a (segment_in a) (place_words w) (λ n t. w (Stamp n t)) g.eras g.linked g.holder l.cpu)) (ap (λ (x : Known). x.locks) is ∙ i.lock) (r.locking l.cpu)).0
 
-  at_e : IsElement a m e
+  at_e : HasElement a m e
   at_e = (holds.inside.0, i.element)
 
   hand : g.lanes.fresh l.cpu ≡ f ∷ rest

@@ -12,7 +12,7 @@ use Rattle.hop_words.specs.declared.known.Fresh.{Fresh}
 use Rattle.hop_words.specs.Layout.{mem, put_at, words_for}
 use Rattle.hop_words.specs.Homes.{bytes_of_words}
 use Rattle.hop_words.specs.Content.{place_words, one_if}
-use Rattle.hop_words.specs.Ghost.{Holder, Free, Filling, Within, is_filling, is_leaving, Carries, lane, Ghost, shape_at, IsElement, Each}
+use Rattle.hop_words.specs.Ghost.{Holder, Free, Filling, Within, is_filling, is_leaving, Carries, lane, Ghost, shape_at, HasElement, Each}
 use Rattle.hop_words.specs.Rule.{Rule, times_fresh, StartsWith, Minded}
 use Rattle.hop_words.specs.Step.{Next, Steps}
 use Rattle.hop_words.specs.Kinds.{filling_key, filling_value}
@@ -32,7 +32,7 @@ snoc (x ∷ ns) n w old new zero l = old 0 (omega arith)
 snoc (x ∷ ns) n w old new (suc k) l = snoc ns n (λ j. w (suc j)) (λ j h. old (suc j) (omega arith)) new k (omega arith)
 
 -- an element in hand is there once, and no other CPU has it
-module _ (a : About) (w : Place → ℕ) (g : Ghost) (r : Rule a w g) (c : ℕ) (inside : c < a.shape.cpus) (f : Fresh) (rest : List Fresh) (hand : g.lanes.fresh c ≡ f ∷ rest) (at_e : IsElement a f.map f.element) where
+module _ (a : About) (w : Place → ℕ) (g : Ghost) (r : Rule a w g) (c : ℕ) (inside : c < a.shape.cpus) (f : Fresh) (rest : List Fresh) (hand : g.lanes.fresh c ≡ f ∷ rest) (at_e : HasElement a f.map f.element) where
   pub was : g.holder f.map f.element ≡ Filling c
   was = in_hand a _ g.lanes.fresh g.lanes.limbo g.holder c f.map f rest r.owned inside at_e refl hand
 
@@ -46,7 +46,7 @@ module _ (a : About) (w : Place → ℕ) (g : Ghost) (r : Rule a w g) (c : ℕ) 
   -- what others fill is another element
   pub other_apart : (b : ℕ) (d : Fresh) → b < a.shape.cpus → b ≢ c → 1 ≤ times_fresh d.map d.element (g.lanes.fresh b) → d.map ≡ f.map → d.element ≢ f.element
   other_apart b d inb ne has t u =
-      let at_d : IsElement a d.map d.element = subst (λ (n : ℕ). IsElement a n d.element) (sym t) (subst (IsElement a f.map) (sym u) at_e) in
+      let at_d : HasElement a d.map d.element = subst (λ (n : ℕ). HasElement a n d.element) (sym t) (subst (HasElement a f.map) (sym u) at_e) in
       let q = r.owned.fresh_is b d.map d.element inb at_d in
       let other = filling_most b (g.holder d.map d.element) (omega arith) in
       let same : Filling b ≡ Filling c = sym other ∙ ((λ j. g.holder (t j) (u j)) ∙ was) in
@@ -63,7 +63,7 @@ each_by P Q (f ∷ fs) all more on p = (
   each_by P Q fs all (λ d has. more d (omega arith)) on p.1,
 )
 
-module _ (a : About) (l : Known) (f : Fresh) (rest : List Fresh) (hand : l.fresh ≡ f ∷ rest) (at_e : IsElement a f.map f.element) (unlocked : l.locks ≡ []) (n : ℕ)
+module _ (a : About) (l : Known) (f : Fresh) (rest : List Fresh) (hand : l.fresh ≡ f ∷ rest) (at_e : HasElement a f.map f.element) (unlocked : l.locks ≡ []) (n : ℕ)
     (ws : List ℕ) (g : Ghost) (r : Rule a (mem a.shape ws) g) (is : lane g.lanes l.cpu ≡ l) (inside : l.cpu < a.shape.cpus) where
   abbrev w : Place → ℕ
   w = mem a.shape ws
@@ -222,16 +222,16 @@ module _ (a : About) (l : Known) (f : Fresh) (rest : List Fresh) (hand : l.fresh
       own_new : StartsWith (f.value ++ n ∷ []) (λ j. w2 (ValueWord f.map f.element j))
       own_new = snoc f.value n (λ j. w2 (ValueWord f.map f.element j)) (λ j lt. earlier j (λ e. omega arith) ∙ own_list.0.1 j lt) (put_here w (ValueWord f.map f.element (length f.value)) n)
 
-pub fill_key : (a : About) (l : Known) (f : Fresh) (rest : List Fresh) (n : ℕ) → l.fresh ≡ f ∷ rest → IsElement a f.map f.element → l.locks ≡ []
+pub fill_key : (a : About) (l : Known) (f : Fresh) (rest : List Fresh) (n : ℕ) → l.fresh ≡ f ∷ rest → HasElement a f.map f.element → l.locks ≡ []
     → Steps a l (KeyWord f.map f.element (length f.key)) (λ _. n) (λ ws found l'. l' ≡ filling_key l f rest n)
 fill_key a l f rest n hand at_e unlocked ws g sized r is inside fits = key_step a l f rest hand at_e unlocked n ws g r is inside
 
-pub fill_value : (a : About) (l : Known) (f : Fresh) (rest : List Fresh) (n : ℕ) → l.fresh ≡ f ∷ rest → IsElement a f.map f.element → l.locks ≡ []
+pub fill_value : (a : About) (l : Known) (f : Fresh) (rest : List Fresh) (n : ℕ) → l.fresh ≡ f ∷ rest → HasElement a f.map f.element → l.locks ≡ []
     → Steps a l (ValueWord f.map f.element (length f.value)) (λ _. n) (λ ws found l'. l' ≡ filling_value l f rest n)
 fill_value a l f rest n hand at_e unlocked ws g sized r is inside fits = value_step a l f rest hand at_e unlocked n ws g r is inside
 
 -- ---- give bit of the element in hand
-pub give_fresh : (a : About) (l : Known) (f : Fresh) (rest : List Fresh) → l.fresh ≡ f ∷ rest → IsElement a f.map f.element
+pub give_fresh : (a : About) (l : Known) (f : Fresh) (rest : List Fresh) → l.fresh ≡ f ∷ rest → HasElement a f.map f.element
     → Steps a l (FreeBits f.map (f.element / 64)) (λ n. bit_or n (2 ^ (f.element % 64))) (λ ws n l'. l' ≡ record l { fresh = rest })
 give_fresh a l f rest hand at_e ws g sized r is inside fits = record {
   ghost = g2;
@@ -284,7 +284,7 @@ give_fresh a l f rest hand at_e ws g sized r is inside fits = record {
     filling : g.holder f.map f.element ≡ Filling l.cpu
     filling = was a w g r l.cpu inside f rest mine at_e
 
-    own : (n d : ℕ) → IsElement a n d → times_fresh n d rest ≡ one_if (is_filling l.cpu (holder2 n d))
+    own : (n d : ℕ) → HasElement a n d → times_fresh n d rest ≡ one_if (is_filling l.cpu (holder2 n d))
     own n d l2 = ⊎_elim
         (λ (t : (n ≡ f.map) × (d ≡ f.element)). (λ j. times_fresh (t.0 j) (t.1 j) rest) ∙ (none_behind a w g r l.cpu inside f rest mine at_e ∙ ap (λ z. one_if (is_filling l.cpu z)) (sym (put2-same g.holder f.map f.element n d Free t.0 t.1))))
         (λ (ne : n ≡ f.map → d ≢ f.element).

@@ -15,7 +15,7 @@ use Rattle.hop_words.specs.declared.known.Limbo.{Limbo}
 use Rattle.hop_words.specs.declared.known.Lock.{Lock}
 use Rattle.hop_words.specs.Layout.{mem, put_at}
 use Rattle.hop_words.specs.Content.{MapWords, place_words, one_if, times}
-use Rattle.hop_words.specs.Ghost.{segment_in, Holder, Free, Leaving, Within, is_filling, is_leaving, lane, Era, Ghost, IsElement, Each, limbo_at}
+use Rattle.hop_words.specs.Ghost.{segment_in, Holder, Free, Leaving, Within, is_filling, is_leaving, lane, Era, Ghost, HasElement, Each, limbo_at}
 use Rattle.hop_words.specs.Rule.{Rule, Chained, link_to, times_limbo, Linked, Segment, Segments, Minded, Holds, Locking}
 use Rattle.bpf_shared.specs.Own.{turns_of, in_run}
 use Rattle.hop_words.specs.Step.{Steps}
@@ -70,7 +70,7 @@ holder_odd a w g r even d v h = (in_shape, odd)
     odd : w (RunCount d) % 2 ≡ 1
     odd = let c = r.runs d in_shape in let o = turns_odd in let e = even in omega arith
 
-pub give_old : (a : About) (l : Known) (m e : ℕ) (es : List ℕ) → a.count % 2 ≡ 0 → IsElement a m e → m < length l.limbo → Passed a l m e es
+pub give_old : (a : About) (l : Known) (m e : ℕ) (es : List ℕ) → a.count % 2 ≡ 0 → HasElement a m e → m < length l.limbo → Passed a l m e es
     → Steps a l (FreeBits m (e / 64)) (λ n. bit_or n (2 ^ (e % 64))) (λ ws n l'. l' ≡ giving_old l m es)
 give_old a l m e es even at_e room i ws g sized r is inside fits = record {
   ghost = g2;
@@ -83,7 +83,7 @@ give_old a l m e es even at_e room i ws g sized r is inside fits = record {
     batched = record {
       young = limbo_put (λ b n y. b < a.shape.cpus → Chained (λ d. w (Link n d)) y.young) g.lanes.limbo l.cpu m x room' (λ _. r.batched.young l.cpu m inside) (λ b n _. r.batched.young b n);
       old = limbo_put (λ b n y. b < a.shape.cpus → Chained (λ d. w (Link n d)) y.old) g.lanes.limbo l.cpu m x room' (λ _. (subst (Chained (λ d. w (Link m d))) i.old (subst (λ z. Chained (λ d. w (Link m d)) z.old) q (r.batched.old l.cpu m inside))).1) (λ b n _. r.batched.old b n);
-      noted = λ b n d c. limbo_put (λ b n y. b < a.shape.cpus → IsElement a n d → 1 ≤ times d y.old → c < length y.noted → g.last.held c (g.number n d) ≡ true → slice_index y.noted c ≡ w (RunCount c)) g.lanes.limbo l.cpu m x room'
+      noted = λ b n d c. limbo_put (λ b n y. b < a.shape.cpus → HasElement a n d → 1 ≤ times d y.old → c < length y.noted → g.last.held c (g.number n d) ≡ true → slice_index y.noted c ≡ w (RunCount c)) g.lanes.limbo l.cpu m x room'
           (λ _ at_d has few h. old_noted d c at_d (let z : times d y.old ≡ times d (e ∷ es) = ap (times d) i.old in omega arith) few h) (λ b n _. r.batched.noted b n d c) b n;
     };
     owned = record {
@@ -91,7 +91,7 @@ give_old a l m e es even at_e room i ws g sized r is inside fits = record {
           (λ j lj ne. bit_at_or (w (FreeBits m (e / 64))) (2 ^ (e % 64)) j ∙ (let z = bit_at-pow_other (e % 64) j ne in omega arith))
           (bit_at_or (w (FreeBits m (e / 64))) (2 ^ (e % 64)) (e % 64) ∙ (let z = bit_at-pow_same (e % 64) in let y = bit_at-lt (w (FreeBits m (e / 64))) (e % 64) in omega arith));
       fresh_is = λ b n d inb l2. r.owned.fresh_is b n d inb l2 ∙ sym (moved (λ z. one_if (is_filling b z)) g.holder m e (Leaving l.cpu) Free was refl n d);
-      limbo_is = λ b n d inb at_d. limbo_put (λ b n y. b < a.shape.cpus → IsElement a n d → times_limbo d y ≡ one_if (is_leaving b (holder2 n d))) g.lanes.limbo l.cpu m x room'
+      limbo_is = λ b n d inb at_d. limbo_put (λ b n y. b < a.shape.cpus → HasElement a n d → times_limbo d y ≡ one_if (is_leaving b (holder2 n d))) g.lanes.limbo l.cpu m x room'
           (λ _ at_m. own d at_m)
           (λ b n ne inb at_n. r.owned.limbo_is b n d inb at_n ∙ ⊎_elim
           (λ (t : b ≡ l.cpu). ap (λ z. one_if (is_leaving b z)) (sym (put2-other g.holder m e n d Free (λ u. absurd (ne t u)))))
@@ -142,7 +142,7 @@ give_old a l m e es even at_e room i ws g sized r is inside fits = record {
     was : g.holder m e ≡ Leaving l.cpu
     was = in_limbo a _ g.lanes.fresh g.lanes.limbo g.holder l.cpu m e r.owned inside at_e in_it
 
-    old_noted : (d c : ℕ) → IsElement a m d → 1 ≤ times d y.old → c < length (limbo_at (g.lanes.limbo l.cpu) m).noted → g.last.held c (g.number m d) ≡ true → slice_index (limbo_at (g.lanes.limbo l.cpu) m).noted c ≡ w (RunCount c)
+    old_noted : (d c : ℕ) → HasElement a m d → 1 ≤ times d y.old → c < length (limbo_at (g.lanes.limbo l.cpu) m).noted → g.last.held c (g.number m d) ≡ true → slice_index (limbo_at (g.lanes.limbo l.cpu) m).noted c ≡ w (RunCount c)
     old_noted d c at_d has few h = r.batched.noted l.cpu m d c inside at_d (subst (λ z. 1 ≤ times d z.old) (sym q) has) few h
 
     -- no CPU in a run holds it: its counter would be the one noted, which is even
@@ -156,7 +156,7 @@ give_old a l m e es even at_e room i ws g sized r is inside fits = record {
         let od = k.1 in
         omega arith
 
-    own : (d : ℕ) → IsElement a m d → times_limbo d x ≡ one_if (is_leaving l.cpu (holder2 m d))
+    own : (d : ℕ) → HasElement a m d → times_limbo d x ≡ one_if (is_leaving l.cpu (holder2 m d))
     own d at_d =
         let p = r.owned.limbo_is l.cpu m d inside at_d in
         let z : times d (limbo_at (g.lanes.limbo l.cpu) m).old ≡ times d (e ∷ es) = ap (λ (u : Limbo). times d u.old) q ∙ ap (times d) i.old in
@@ -219,7 +219,7 @@ locking_words a x x' stamp eras linked holder locks c none head hop slot minded 
     )
 
 -- ---- retire
-pub retire : (a : About) (l : Known) (m e : ℕ) (us : List ℕ) → IsElement a m e → m < length l.limbo → l.locks ≡ [] → (limbo_at l.limbo m).used ≡ e ∷ us
+pub retire : (a : About) (l : Known) (m e : ℕ) (us : List ℕ) → HasElement a m e → m < length l.limbo → l.locks ≡ [] → (limbo_at l.limbo m).used ≡ e ∷ us
     → Steps a l (Link m e) (λ _. link_to (limbo_at l.limbo m).young) (λ ws n l'. l' ≡ retiring l m e us)
 retire a l m e us at_e room unlocked used ws g sized r is inside fits = record {
   ghost = g2;
@@ -236,13 +236,13 @@ retire a l m e us at_e room unlocked used ws g sized r is inside fits = record {
       old = limbo_put (λ b n z. b < a.shape.cpus → Chained (λ d. w2 (Link n d)) z.old) g.lanes.limbo l.cpu m x room'
           (λ _. own_chain (limbo_at (g.lanes.limbo l.cpu) m).old (λ d has. omega arith) (r.batched.old l.cpu m inside))
           (λ b n ne inb. other_chain b n (limbo_at (g.lanes.limbo b) n).old ne inb (λ d has. omega arith) (r.batched.old b n inb));
-      noted = λ b n d c. limbo_put (λ b n z. b < a.shape.cpus → IsElement a n d → 1 ≤ times d z.old → c < length z.noted → g.last.held c (g.number n d) ≡ true → slice_index z.noted c ≡ w (RunCount c)) g.lanes.limbo l.cpu m x room'
+      noted = λ b n d c. limbo_put (λ b n z. b < a.shape.cpus → HasElement a n d → 1 ≤ times d z.old → c < length z.noted → g.last.held c (g.number n d) ≡ true → slice_index z.noted c ≡ w (RunCount c)) g.lanes.limbo l.cpu m x room'
           (λ inb. r.batched.noted l.cpu m d c inb) (λ b n _. r.batched.noted b n d c) b n;
     };
     owned = record {
       bits = r.owned.bits;
       fresh_is = r.owned.fresh_is;
-      limbo_is = λ b n d inb at_d. limbo_put (λ b n z. b < a.shape.cpus → IsElement a n d → times_limbo d z ≡ one_if (is_leaving b (g.holder n d))) g.lanes.limbo l.cpu m x room'
+      limbo_is = λ b n d inb at_d. limbo_put (λ b n z. b < a.shape.cpus → HasElement a n d → times_limbo d z ≡ one_if (is_leaving b (g.holder n d))) g.lanes.limbo l.cpu m x room'
           (λ inb at_m. (let z = r.owned.limbo_is l.cpu m d inb at_m in let u : times d (limbo_at (g.lanes.limbo l.cpu) m).used ≡ times d (e ∷ us) = ap (times d) used' in omega arith))
           (λ b n _ inb at_n. r.owned.limbo_is b n d inb at_n) b n inb at_d;
     };
@@ -313,7 +313,7 @@ retire a l m e us at_e room unlocked used ws g sized r is inside fits = record {
 
     other_chain : (b n : ℕ) (es : List ℕ) → (b ≡ l.cpu → n ≢ m) → b < a.shape.cpus → ((d : ℕ) → 1 ≤ times d es → 1 ≤ times_limbo d (limbo_at (g.lanes.limbo b) n)) → Chained (λ d. w (Link n d)) es → Chained (λ d. w2 (Link n d)) es
     other_chain b n es ne inb more = chained_same (λ d. w (Link n d)) (λ d. w2 (Link n d)) es (λ d has. link_else n d (λ u v.
-        let at_d : IsElement a n d = subst (λ (i : ℕ). IsElement a i d) (sym u) (subst (IsElement a m) (sym v) at_e) in
+        let at_d : HasElement a n d = subst (λ (i : ℕ). HasElement a i d) (sym u) (subst (HasElement a m) (sym v) at_e) in
         let left = in_limbo a _ g.lanes.fresh g.lanes.limbo g.holder b n d r.owned inb at_d (more d has) in
         let same : Leaving b ≡ Leaving l.cpu = sym left ∙ ((λ j. g.holder (u j) (v j)) ∙ was) in
         ne (let z : b ≡ l.cpu = cc in z) u))

@@ -10,7 +10,7 @@ use Rattle.hop_words.specs.declared.known.About.{About}
 use Rattle.hop_words.specs.declared.known.Fresh.{Fresh}
 use Rattle.hop_words.specs.declared.known.Limbo.{Limbo}
 use Rattle.hop_words.specs.Content.{one_if, times}
-use Rattle.hop_words.specs.Ghost.{segment_in, Holder, Leaving, Within, is_free, is_filling, is_leaving, Carries, IsElement, limbo_at, no_limbo}
+use Rattle.hop_words.specs.Ghost.{segment_in, Holder, Leaving, Within, is_free, is_filling, is_leaving, Carries, HasElement, limbo_at, no_limbo}
 use Rattle.hop_words.specs.Rule.{put_key, numbered, Keyed, Batched, Chained, Owned, times_limbo, Linked, Valued}
 use Rattle.hop_words.proofs.Small.{put_key-same, put_key-other, equal_keys, equal, here_or, put2-same, put2-other}
 use Rattle.hop_words.proofs.Comes.{moved}
@@ -39,12 +39,12 @@ module _ (a : About) (c m e s : ℕ) (key : List ℕ) (holder : ℕ → ℕ → 
   abbrev gone' : ℕ → ℕ → Holder
   gone' = put holder m (put (holder m) e (Leaving c))
 
-  pub owned_goes : (free : ℕ → ℕ → ℕ) (fresh : ℕ → List Fresh) (limbo : ℕ → List Limbo) → Owned a free fresh limbo holder → c < a.shape.cpus → IsElement a m e → m < length (limbo c)
+  pub owned_goes : (free : ℕ → ℕ → ℕ) (fresh : ℕ → List Fresh) (limbo : ℕ → List Limbo) → Owned a free fresh limbo holder → c < a.shape.cpus → HasElement a m e → m < length (limbo c)
       → Owned a free fresh (put limbo c (set (limbo c) m (with_used (limbo_at (limbo c) m) e))) gone'
   owned_goes free fresh limbo p inside at_e room = record {
     bits = λ n d l. p.bits n d l ∙ sym (moved (λ x. one_if (is_free x)) holder m e (Within s) (Leaving c) was refl n d);
     fresh_is = λ b n d inb l. p.fresh_is b n d inb l ∙ sym (moved (λ x. one_if (is_filling b x)) holder m e (Within s) (Leaving c) was refl n d);
-    limbo_is = λ b n d inb l. limbo_put (λ b n x. b < a.shape.cpus → IsElement a n d → times_limbo d x ≡ one_if (is_leaving b (gone' n d))) limbo c m (with_used (limbo_at (limbo c) m) e) room
+    limbo_is = λ b n d inb l. limbo_put (λ b n x. b < a.shape.cpus → HasElement a n d → times_limbo d x ≡ one_if (is_leaving b (gone' n d))) limbo c m (with_used (limbo_at (limbo c) m) e) room
         (λ _ at_d. ⊎_elim
         (λ (t : d ≡ e).
         let q = p.limbo_is c m d inside at_d in
@@ -145,7 +145,7 @@ module _ (a : About) (c m e s : ℕ) (key : List ℕ) (holder : ℕ → ℕ → 
   batched_goes link counts limbo held number p room inside = record {
     young = limbo_put (λ b n x. b < a.shape.cpus → Chained (link n) x.young) limbo c m (with_used (limbo_at (limbo c) m) e) room (λ i. p.young c m i) (λ b n _ i. p.young b n i);
     old = limbo_put (λ b n x. b < a.shape.cpus → Chained (link n) x.old) limbo c m (with_used (limbo_at (limbo c) m) e) room (λ i. p.old c m i) (λ b n _ i. p.old b n i);
-    noted = λ b n d x. limbo_put (λ b n y. b < a.shape.cpus → IsElement a n d → 1 ≤ times d y.old → x < length y.noted → held x (number n d) ≡ true → slice_index y.noted x ≡ counts x) limbo c m (with_used (limbo_at (limbo c) m) e) room
+    noted = λ b n d x. limbo_put (λ b n y. b < a.shape.cpus → HasElement a n d → 1 ≤ times d y.old → x < length y.noted → held x (number n d) ≡ true → slice_index y.noted x ≡ counts x) limbo c m (with_used (limbo_at (limbo c) m) e) room
         (p.noted c m d x) (λ b n _. p.noted b n d x) b n;
   }
 

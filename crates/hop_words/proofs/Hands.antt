@@ -5,17 +5,17 @@ use Rattle.hop_words.specs.declared.place.Place.TheVariants.{FreeBits, KeyWord, 
 use Rattle.hop_words.specs.declared.known.About.{About}
 use Rattle.hop_words.specs.declared.known.Known.{Known}
 use Rattle.hop_words.specs.declared.known.Fresh.{Fresh}
-use Rattle.hop_words.specs.Ghost.{IsElement}
+use Rattle.hop_words.specs.Ghost.{HasElement}
 use Rattle.hop_words.specs.Step.{Steps}
 use Rattle.hop_words.specs.Owning.{IsInHand, tail_of, key_filled, value_filled, with_key_word, with_value_word}
 use Rattle.hop_words.proofs.Fills.{fill_key, fill_value, give_fresh}
 
-module _ (a : About) (l : Known) (m e : ℕ) (at_e : IsElement a m e) (h : IsInHand l m e) where
+module _ (a : About) (l : Known) (m e : ℕ) (at_e : HasElement a m e) (h : IsInHand l m e) where
   abbrev f : Fresh
   f = h.0
 
-  at_f : IsElement a f.map f.element
-  at_f = subst (λ (n : ℕ). IsElement a n f.element) (sym h.2) (subst (IsElement a m) (sym h.3) at_e)
+  at_f : HasElement a f.map f.element
+  at_f = subst (λ (n : ℕ). HasElement a n f.element) (sym h.2) (subst (HasElement a m) (sym h.3) at_e)
 
   pub gives : Steps a l (FreeBits m (e / 64)) (λ n. bit_or n (2 ^ (e % 64))) (λ ws n l'. l' ≡ record l { fresh = tail_of l.fresh })
   gives =

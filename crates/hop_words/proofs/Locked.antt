@@ -8,7 +8,7 @@ use Rattle.hop_words.specs.declared.known.About.{About}
 use Rattle.hop_words.specs.declared.known.Known.{Known}
 use Rattle.hop_words.specs.declared.known.Lock.{Lock}
 use Rattle.hop_words.specs.Layout.{is_place, segments, mem}
-use Rattle.hop_words.specs.Ghost.{shape_at, IsSegment, IsElement}
+use Rattle.hop_words.specs.Ghost.{shape_at, IsSegment, HasElement}
 use Rattle.hop_words.specs.Step.{Steps}
 use Rattle.hop_words.specs.Kinds.{MayLink, writing}
 use Rattle.hop_words.specs.Locking.{lock_of, HasLock, locked_words}
@@ -30,7 +30,7 @@ hop_there a m s b at_s few = rw (lt m (length a.shape.maps) at_s.0, lt s (segmen
 pub slot_there : (a : About) (m s b : ℕ) → IsSegment a m s → b < 64 → is_place a.shape (Slot m s b) ≡ true
 slot_there a m s b at_s few = rw (lt m (length a.shape.maps) at_s.0, lt s (segments (shape_at a m)) at_s.1, lt b 64 few) refl
 
-pub link_there : (a : About) (m e : ℕ) → IsElement a m e → is_place a.shape (Link m e) ≡ true
+pub link_there : (a : About) (m e : ℕ) → HasElement a m e → is_place a.shape (Link m e) ≡ true
 link_there a m e at_e = rw (lt m (length a.shape.maps) at_e.0, lt e (elements (shape_at a m)) at_e.1) refl
 
 -- a look at any word tells nothing

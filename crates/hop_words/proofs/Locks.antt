@@ -13,7 +13,7 @@ use Rattle.hop_words.specs.declared.known.Lock.{Lock}
 use Rattle.hop_words.specs.declared.known.Change.TheVariants.{Nothing}
 use Rattle.hop_words.specs.Layout.{mem, same_place, put_at, size}
 use Rattle.hop_words.specs.Content.{place_words, Reached, IsShare}
-use Rattle.hop_words.specs.Ghost.{segment_in, Holder, Free, Filling, Leaving, Within, lane, Era, Ghost, shape_at, IsElement, IsSegment, Each}
+use Rattle.hop_words.specs.Ghost.{segment_in, Holder, Free, Filling, Leaving, Within, lane, Era, Ghost, shape_at, HasElement, IsSegment, Each}
 use Rattle.hop_words.specs.Rule.{Rule, Segment, Minded, Holds, image, changed, owed, StartsWith, done_in, times_lock}
 use Rattle.hop_words.specs.Step.{Next, Steps}
 use Rattle.hop_words.specs.Kinds.{has, LocksSegment, IsWritten}
@@ -395,7 +395,7 @@ module _ (a : About) (l : Known) (m s old : ℕ) (at_s : IsSegment a m s) (even 
     known = listing (elements (shape_at a m)) (λ e. is_within s (g.holder m e));
     known_is = λ e k.
         let b = listing_has (elements (shape_at a m)) (λ e. is_within s (g.holder m e)) e k in
-        let at_e : IsElement a m e = (at_s.0, b.0) in
+        let at_e : HasElement a m e = (at_s.0, b.0) in
         let w = within_is s (g.holder m e) b.1 in
         let q = r.linked.leads m e s at_e w in
         (at_e.1, (q.0, q.1, within_once (sym (r.linked.within m q.0 e q.1).1 ∙ w)));

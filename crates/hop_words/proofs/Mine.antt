@@ -8,7 +8,7 @@ use Rattle.hop_words.specs.declared.known.Lock.{Lock}
 use Rattle.hop_words.specs.declared.place.Place.{Place}
 use Rattle.hop_words.specs.Layout.{mem}
 use Rattle.hop_words.specs.Content.{place_words}
-use Rattle.hop_words.specs.Ghost.{segment_in, Filling, lane, Ghost, IsElement}
+use Rattle.hop_words.specs.Ghost.{segment_in, Filling, lane, Ghost, HasElement}
 use Rattle.hop_words.specs.Rule.{Rule, Holds, Minded, image}
 use Rattle.hop_words.specs.Step.{Steps}
 use Rattle.hop_words.specs.Kinds.{MayLink}
@@ -26,7 +26,7 @@ module _ (a : About) (l : Known) (k : Lock) (held : l.locks ≡ k ∷ []) (e : �
         (λ (f : (f : Fresh) × (rest : List Fresh) × (l.fresh ≡ f ∷ rest) × (f.map ≡ k.map) × (f.element ≡ e)).
         subst (Minded l.cpu k.segment)
         (sym (subst (λ (x : ℕ). g.holder k.map x ≡ Filling l.cpu) f.4
-        (in_hand a _ g.lanes.fresh g.lanes.limbo g.holder l.cpu k.map f.0 f.1 r.owned inside (subst (IsElement a k.map) (sym f.4) (h.inside.0, may.0)) f.3 (ap (λ (x : Known). x.fresh) is ∙ f.2))))
+        (in_hand a _ g.lanes.fresh g.lanes.limbo g.holder l.cpu k.map f.0 f.1 r.owned inside (subst (HasElement a k.map) (sym f.4) (h.inside.0, may.0)) f.3 (ap (λ (x : Known). x.fresh) is ∙ f.2))))
         refl)
         (λ due. let d = h.due in let t = due d.0 d.1 in subst (Minded l.cpu k.segment) (sym (r.linked.within k.map t.0 e (d.2 t.0 t.2 ∙ t.1)).1) t.2)
         may.1

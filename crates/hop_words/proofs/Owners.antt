@@ -15,7 +15,7 @@ use Rattle.hop_words.specs.declared.known.Fresh.{Fresh}
 use Rattle.hop_words.specs.declared.known.Lock.{Lock}
 use Rattle.hop_words.specs.Layout.{mem, put_at}
 use Rattle.hop_words.specs.Content.{MapWords, place_words, one_if}
-use Rattle.hop_words.specs.Ghost.{segment_in, Holder, Free, Filling, Leaving, Within, is_free, is_filling, is_leaving, Carries, lane, Era, Ghost, IsElement, Each}
+use Rattle.hop_words.specs.Ghost.{segment_in, Holder, Free, Filling, Leaving, Within, is_free, is_filling, is_leaving, Carries, lane, Era, Ghost, HasElement, Each}
 use Rattle.hop_words.specs.Rule.{Rule, times_fresh, Linked, StartsWith, Minded, Holds, Locking, Valued}
 use Rattle.hop_words.specs.Step.{Next, Steps}
 use Rattle.hop_words.specs.Kinds.{holding}
@@ -27,9 +27,9 @@ use Rattle.hop_words.proofs.Locks.{put_here, put_else}
 
 -- ---- bits
 -- the bits of the elements, where one word of them changed at one bit
-pub bits_step : (a : About) (w : Place → ℕ) (holder : ℕ → ℕ → Holder) (m e x : ℕ) (y : Holder) → ((n d : ℕ) → IsElement a n d → bit_at (w (FreeBits n (d / 64))) (d % 64) ≡ one_if (is_free (holder n d)))
+pub bits_step : (a : About) (w : Place → ℕ) (holder : ℕ → ℕ → Holder) (m e x : ℕ) (y : Holder) → ((n d : ℕ) → HasElement a n d → bit_at (w (FreeBits n (d / 64))) (d % 64) ≡ one_if (is_free (holder n d)))
     → ((j : ℕ) → j < 64 → j ≢ e % 64 → bit_at x j ≡ bit_at (w (FreeBits m (e / 64))) j) → bit_at x (e % 64) ≡ one_if (is_free y)
-    → (n d : ℕ) → IsElement a n d → bit_at (put_at w (FreeBits m (e / 64)) x (FreeBits n (d / 64))) (d % 64) ≡ one_if (is_free (put holder m (put (holder m) e y) n d))
+    → (n d : ℕ) → HasElement a n d → bit_at (put_at w (FreeBits m (e / 64)) x (FreeBits n (d / 64))) (d % 64) ≡ one_if (is_free (put holder m (put (holder m) e y) n d))
 bits_step a w holder m e x y p others own n d l = ⊎_elim
     (λ (h : (n ≡ m) × (d ≡ e)).
     ap (λ (k : ℕ). bit_at k (d % 64)) ((λ j. put_at w (FreeBits m (e / 64)) x (FreeBits (h.0 j) (h.1 j / 64))) ∙ put_here w (FreeBits m (e / 64)) x)
@@ -121,7 +121,7 @@ mask_own x mask j none = bit_at_and x mask j ∙ (let o = none in omega arith)
 pub mask_bits : (b j : ℕ) → b < 64 → j < 64 → bit_at (2 ^ 64 - 1 - 2 ^ b) j ≡ 1 - bit_at (2 ^ b) j
 mask_bits b j lb lj = bit_at_not w64 (2 ^ b) j (pow-lt lb) lj
 
-module _ (a : About) (l : Known) (m e : ℕ) (at_e : IsElement a m e) (ws : List ℕ) (g : Ghost) (r : Rule a (mem a.shape ws) g) (is : lane g.lanes l.cpu ≡ l) (inside : l.cpu < a.shape.cpus) where
+module _ (a : About) (l : Known) (m e : ℕ) (at_e : HasElement a m e) (ws : List ℕ) (g : Ghost) (r : Rule a (mem a.shape ws) g) (is : lane g.lanes l.cpu ≡ l) (inside : l.cpu < a.shape.cpus) where
   abbrev cw : Place → ℕ
   cw = mem a.shape ws
 
@@ -182,7 +182,7 @@ module _ (a : About) (l : Known) (m e : ℕ) (at_e : IsElement a m e) (ws : List
       Has : Fresh → Type 0
       Has y = StartsWith y.key (λ j. cw (KeyWord y.map y.element j)) × StartsWith y.value (λ j. cw (ValueWord y.map y.element j))
 
-      own : (n d : ℕ) → IsElement a n d → times_fresh n d fresh2 ≡ one_if (is_filling l.cpu (holder2 n d))
+      own : (n d : ℕ) → HasElement a n d → times_fresh n d fresh2 ≡ one_if (is_filling l.cpu (holder2 n d))
       own n d l2 =
           let q = r.owned.fresh_is l.cpu n d inside l2 in
           ⊎_elim
@@ -255,7 +255,7 @@ module _ (a : About) (l : Known) (m e : ℕ) (at_e : IsElement a m e) (ws : List
           (λ (ne : n ≡ m → d ≢ e). put2-other g.holder m e n d (g.holder m e) ne)
           (here_or m n e d) i
 
-pub claim_bit : (a : About) (l : Known) (m e : ℕ) → IsElement a m e → l.locks ≡ [] → Steps a l (FreeBits m (e / 64)) (λ n. bit_and n (2 ^ 64 - 1 - 2 ^ (e % 64)))
+pub claim_bit : (a : About) (l : Known) (m e : ℕ) → HasElement a m e → l.locks ≡ [] → Steps a l (FreeBits m (e / 64)) (λ n. bit_and n (2 ^ 64 - 1 - 2 ^ (e % 64)))
     (λ ws n l'. (bit_at n (e % 64) ≡ 1 → l' ≡ holding l m e) × (bit_at n (e % 64) ≡ 0 → l' ≡ l))
 claim_bit a l m e at_e unlocked ws g sized r is inside fits = dite (ℕ_discrete (bit_at (w (FreeBits m (e / 64))) (e % 64)) 1)
     (λ one. let n = claim_next a l m e at_e ws g r is inside unlocked (free_or a l m e at_e ws g r is inside one) in record {

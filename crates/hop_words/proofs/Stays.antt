@@ -11,7 +11,7 @@ use Rattle.hop_words.specs.declared.place.Place.{Place}
 use Rattle.hop_words.specs.declared.known.About.{About}
 use Rattle.hop_words.specs.declared.known.Known.{Known}
 use Rattle.hop_words.specs.Layout.{put_at, same_place}
-use Rattle.hop_words.specs.Ghost.{Filling, Carries, lane, Era, Ghost, shape_at, IsElement}
+use Rattle.hop_words.specs.Ghost.{Filling, Carries, lane, Era, Ghost, shape_at, HasElement}
 use Rattle.hop_words.specs.Rule.{Rule, Logged, Runs, Worn, numbered}
 use Rattle.bpf_shared.specs.Own.{turns_of, in_run}
 use Rattle.hop_words.specs.Step.{Next}
@@ -78,7 +78,7 @@ module _ (a : About) (w : Place → ℕ) (g : Ghost) (r : Rule a w g) (l : Known
   some_numbered f (Some x) v e = (x, refl, cc)
 
   -- a live value lies in an element that nobody fills
-  pub live_in : (v : ℕ) → IsLive g.last v → (m : ℕ) × (e : ℕ) × IsElement a m e × Carries (g.holder m e) × (g.number m e ≡ v)
+  pub live_in : (v : ℕ) → IsLive g.last v → (m : ℕ) × (e : ℕ) × HasElement a m e × Carries (g.holder m e) × (g.number m e ≡ v)
   live_in v (inl p) =
       let q = some_numbered (g.number p.0) (g.linked p.0 p.1.0) v (sym (r.keyed.leads p.0 p.1.0) ∙ p.1.1) in
       let w = r.linked.within p.0 p.1.0 q.0 q.1 in
@@ -86,7 +86,7 @@ module _ (a : About) (w : Place → ℕ) (g : Ghost) (r : Rule a w g) (l : Known
   live_in v (inr p) = r.valued.held_in p.0 v p.1
 
   -- so the element that a CPU fills overlaps no live value
-  pub place_for : (m e c : ℕ) → IsElement a m e → g.holder m e ≡ Filling c → MayLie g.last m (shape_at a m) (element_span m (shape_at a m) e)
+  pub place_for : (m e c : ℕ) → HasElement a m e → g.holder m e ≡ Filling c → MayLie g.last m (shape_at a m) (element_span m (shape_at a m) e)
   place_for m e c at_e was = record {
     element = (e, at_e.1, refl);
     apart = λ v live.
@@ -97,7 +97,7 @@ module _ (a : About) (w : Place → ℕ) (g : Ghost) (r : Rule a w g) (l : Known
   }
 
 -- two elements with one span are one
-pub span_once : (a : About) (w : Place → ℕ) (g : Ghost) → Rule a w g → (m e n d : ℕ) → IsElement a m e → IsElement a n d → element_span n (shape_at a n) d ≡ element_span m (shape_at a m) e → (n ≡ m) × (d ≡ e)
+pub span_once : (a : About) (w : Place → ℕ) (g : Ghost) → Rule a w g → (m e n d : ℕ) → HasElement a m e → HasElement a n d → element_span n (shape_at a n) d ≡ element_span m (shape_at a m) e → (n ≡ m) × (d ≡ e)
 span_once a w g r m e n d at_e at_d spans = ⊎_elim
     (λ (h : (n ≡ m) × (d ≡ e)). h)
     (λ (ne : n ≡ m → d ≢ e). absurd (spans_apart a.shape m n e d r.shaped at_e.0 at_d.0 at_e.1 at_d.1 ne (element_span m (shape_at a m) e).at start (subst (IsIn (element_span m (shape_at a m) e).at) (sym spans) start)))
@@ -107,7 +107,7 @@ span_once a w g r m e n d at_e at_d spans = ⊎_elim
     start = let z = (r.shaped.each m (shape_at a m) (map_is a.shape m at_e.0)).value.0 in (omega arith, omega arith)
 
 -- two elements that carry one value are one
-pub number_once : (a : About) (w : Place → ℕ) (g : Ghost) → Rule a w g → (m e n d : ℕ) → IsElement a m e → IsElement a n d → Carries (g.holder m e) → Carries (g.holder n d) → g.number n d ≡ g.number m e → (n ≡ m) × (d ≡ e)
+pub number_once : (a : About) (w : Place → ℕ) (g : Ghost) → Rule a w g → (m e n d : ℕ) → HasElement a m e → HasElement a n d → Carries (g.holder m e) → Carries (g.holder n d) → g.number n d ≡ g.number m e → (n ≡ m) × (d ≡ e)
 number_once a w g r m e n d at_e at_d ce cd same = span_once a w g r m e n d at_e at_d (ap (λ x. x.span) (sym (r.valued.lies n d at_d cd) ∙ (ap g.last.value same ∙ r.valued.lies m e at_e ce)))
 
 -- versions after any event

@@ -10,7 +10,7 @@ use Rattle.hop_words.specs.declared.known.Sight.{Sight}
 use Rattle.hop_words.specs.declared.known.Sight.TheVariants.{Bits, Runs}
 use Rattle.hop_words.specs.declared.known.Tally.{Tally}
 use Rattle.hop_words.specs.Layout.{mem, put_at}
-use Rattle.hop_words.specs.Ghost.{lane, Ghost, IsElement, limbo_at}
+use Rattle.hop_words.specs.Ghost.{lane, Ghost, HasElement, limbo_at}
 use Rattle.hop_words.specs.Step.{Next, Steps}
 use Rattle.hop_words.specs.Kinds.{holding, cleared}
 use Rattle.hop_words.specs.Owning.{sighted, ClaimsBit, LooksAgain}
@@ -59,7 +59,7 @@ pub with_sight : (a : About) (l : Known) (p : Place) (f : ℕ → ℕ) (told : L
     → Steps a l p f (λ ws n l'. (x : Known) × told ws n x × (l' ≡ sighted x (s n)))
 with_sight a l p f told s step ws g sized r is inside fits = seen_next a (put_at (mem a.shape ws) p (f (mem a.shape ws p))) g l.cpu (told ws (mem a.shape ws p)) (s (mem a.shape ws p)) (step ws g sized r is inside fits)
 
-pub claims : (a : About) (l : Known) (m e : ℕ) → IsElement a m e → l.locks ≡ [] → Steps a l (FreeBits m (e / 64)) (λ n. bit_and n (2 ^ 64 - 1 - 2 ^ (e % 64))) (λ ws n l'. ClaimsBit l m e n l')
+pub claims : (a : About) (l : Known) (m e : ℕ) → HasElement a m e → l.locks ≡ [] → Steps a l (FreeBits m (e / 64)) (λ n. bit_and n (2 ^ 64 - 1 - 2 ^ (e % 64))) (λ ws n l'. ClaimsBit l m e n l')
 claims a l m e at_e unlocked = told_as a l (FreeBits m (e / 64)) (λ n. bit_and n (2 ^ 64 - 1 - 2 ^ (e % 64))) (λ ws n l'. Seen n l') (λ ws n l'. ClaimsBit l m e n l') less
     (with_sight a l (FreeBits m (e / 64)) (λ n. bit_and n (2 ^ 64 - 1 - 2 ^ (e % 64))) (λ ws n y. Told n y) (λ n. Bits m (e / 64) n) (claim_bit a l m e at_e unlocked))
   where

@@ -15,7 +15,7 @@ use Rattle.hop_words.specs.declared.known.Known.{Known}
 use Rattle.hop_words.specs.declared.known.Limbo.{Limbo}
 use Rattle.hop_words.specs.Layout.{mem, put_at}
 use Rattle.hop_words.specs.Content.{one_if, times}
-use Rattle.hop_words.specs.Ghost.{is_leaving, lane, Ghost, IsElement, limbo_at}
+use Rattle.hop_words.specs.Ghost.{is_leaving, lane, Ghost, HasElement, limbo_at}
 use Rattle.hop_words.specs.Rule.{Rule, Runs, Chained, times_limbo}
 use Rattle.bpf_shared.specs.Own.{turns_of, in_run}
 use Rattle.hop_words.specs.Step.{Next, Steps}
@@ -133,7 +133,7 @@ module _ (a : About) (l : Known) (m : ℕ) (room : m < length l.limbo) (x : Limb
   room' = subst (λ (y : List Limbo). m < length y) (sym (ap (λ (z : Known). z.limbo) is)) room
 
   pub batch_next : ((e : ℕ) → times_limbo e x ≡ times_limbo e before) → Chained (λ e. w (Link m e)) x.young → Chained (λ e. w (Link m e)) x.old
-      → ((e d : ℕ) → IsElement a m e → 1 ≤ times e x.old → d < length x.noted → g.last.held d (g.number m e) ≡ true → slice_index x.noted d ≡ w (RunCount d))
+      → ((e d : ℕ) → HasElement a m e → 1 ≤ times e x.old → d < length x.noted → g.last.held d (g.number m e) ≡ true → slice_index x.noted d ≡ w (RunCount d))
       → Next a (put_at w p (w p)) g l.cpu (λ l'. l' ≡ limbo_set l m x)
   batch_next same young old noted = record {
     ghost = g3;
@@ -146,13 +146,13 @@ module _ (a : About) (l : Known) (m : ℕ) (room : m < length l.limbo) (x : Limb
       batched = record {
         young = limbo_put (λ b n y. b < a.shape.cpus → Chained (λ e. w (Link n e)) y.young) g.lanes.limbo l.cpu m x room' (λ _. young) (λ b n _. r.batched.young b n);
         old = limbo_put (λ b n y. b < a.shape.cpus → Chained (λ e. w (Link n e)) y.old) g.lanes.limbo l.cpu m x room' (λ _. old) (λ b n _. r.batched.old b n);
-        noted = λ b n e d. limbo_put (λ b n y. b < a.shape.cpus → IsElement a n e → 1 ≤ times e y.old → d < length y.noted → g.last.held d (g.number n e) ≡ true → slice_index y.noted d ≡ w (RunCount d)) g.lanes.limbo l.cpu m x room'
+        noted = λ b n e d. limbo_put (λ b n y. b < a.shape.cpus → HasElement a n e → 1 ≤ times e y.old → d < length y.noted → g.last.held d (g.number n e) ≡ true → slice_index y.noted d ≡ w (RunCount d)) g.lanes.limbo l.cpu m x room'
             (λ _. noted e d) (λ b n _. r.batched.noted b n e d) b n;
       };
       owned = record {
         bits = r.owned.bits;
         fresh_is = r.owned.fresh_is;
-        limbo_is = λ b n e inb at_e. limbo_put (λ b n y. b < a.shape.cpus → IsElement a n e → times_limbo e y ≡ one_if (is_leaving b (g.holder n e))) g.lanes.limbo l.cpu m x room'
+        limbo_is = λ b n e inb at_e. limbo_put (λ b n y. b < a.shape.cpus → HasElement a n e → times_limbo e y ≡ one_if (is_leaving b (g.holder n e))) g.lanes.limbo l.cpu m x room'
             (λ inc at_m. same e ∙ r.owned.limbo_is l.cpu m e inc at_m) (λ b n _ inb at_n. r.owned.limbo_is b n e inb at_n) b n inb at_e;
       };
       linked = r.linked;
@@ -229,7 +229,7 @@ see_counter_again a l m d room few ws g sized r is inside fits = dite (ℕ_discr
     same : w (RunCount d) ≡ slice_index y.noted d → Next a (put_at w (RunCount d) (w (RunCount d))) g l.cpu told
     same e = stay a w g l.cpu (RunCount d) told r ((λ ne. absurd (ne e)), (λ _. is))
 
-    old_noted : (e c : ℕ) → IsElement a m e → 1 ≤ times e y.old → c < length y.noted → g.last.held c (g.number m e) ≡ true → slice_index y.noted c ≡ w (RunCount c)
+    old_noted : (e c : ℕ) → HasElement a m e → 1 ≤ times e y.old → c < length y.noted → g.last.held c (g.number m e) ≡ true → slice_index y.noted c ≡ w (RunCount c)
     old_noted e c at_e has lt h = subst (λ z. 1 ≤ times e z.old → c < length z.noted → slice_index z.noted c ≡ w (RunCount c)) q (λ i j. r.batched.noted l.cpu m e c inside at_e i j h) has lt
 
     other : (w (RunCount d) ≡ slice_index y.noted d → ⊥) → Next a (put_at w (RunCount d) (w (RunCount d))) g l.cpu told

@@ -23,7 +23,7 @@ use Rattle.hop_words.specs.declared.known.Change.TheVariants.{Puts}
 use Rattle.hop_words.specs.Layout.{mem, put_at, words_for}
 use Rattle.hop_words.specs.Homes.{segment_of, bytes_of_words}
 use Rattle.hop_words.specs.Content.{place_words}
-use Rattle.hop_words.specs.Ghost.{segment_in, Holder, Filling, Leaving, Within, lane, Era, Ghost, shape_at, IsElement, limbo_at}
+use Rattle.hop_words.specs.Ghost.{segment_in, Holder, Filling, Leaving, Within, lane, Era, Ghost, shape_at, HasElement, limbo_at}
 use Rattle.hop_words.specs.Rule.{Rule, Minded, put_key, changed, owed, Holds, numbered, Keyed, Owned, Linked, done_in}
 use Rattle.bpf_shared.specs.Own.{turns_of}
 use Rattle.hop_words.specs.Step.{Next, Steps}
@@ -201,13 +201,13 @@ module _ (a : About) (l : Known) (k : Lock) (f : Fresh) (rest : List Fresh) (key
   there : g.linked m key ≡ Some o
   there = h.due.2 key i.home ∙ (ap (λ x. changed x h.due.0 key) i.nothing ∙ i.there h.due.0 h.due.1)
 
-  at_o : IsElement a m o
+  at_o : HasElement a m o
   at_o = (r.linked.within m key o there).0
 
   was_o : g.holder m o ≡ Within s
   was_o = (r.linked.within m key o there).1 ∙ ap Within i.home
 
-  at_e : IsElement a m e
+  at_e : HasElement a m e
   at_e = (h.inside.0, i.element)
 
   hand : g.lanes.fresh l.cpu ≡ f ∷ rest

@@ -22,7 +22,7 @@ use Rattle.hop_words.specs.declared.known.Fresh.{Fresh}
 use Rattle.hop_words.specs.Layout.{mem, put_at, words_for}
 use Rattle.hop_words.specs.Homes.{bytes_of_words}
 use Rattle.hop_words.specs.Content.{one_if}
-use Rattle.hop_words.specs.Ghost.{Carries, lane, Ghost, shape_at, IsElement, Each}
+use Rattle.hop_words.specs.Ghost.{Carries, lane, Ghost, shape_at, HasElement, Each}
 use Rattle.hop_words.specs.Rule.{Rule, StartsWith, Filled, times_fresh, Valued}
 use Rattle.bpf_shared.specs.Own.{turns_of}
 use Rattle.hop_words.specs.Step.{Next, Steps}
@@ -132,7 +132,7 @@ module _ (a : About) (l : Known) (m e k o b : ℕ) (i : Touches a l m e k o b) (
       where
         apart : (f : Fresh) → 1 ≤ times_fresh f.map f.element (g.lanes.fresh c) → f.map ≡ m → f.element ≢ e
         apart f has t u =
-            let at_f : IsElement a f.map f.element = subst (λ (n : ℕ). IsElement a n f.element) (sym t) (subst (IsElement a m) (sym u) i.element) in
+            let at_f : HasElement a f.map f.element = subst (λ (n : ℕ). HasElement a n f.element) (sym t) (subst (HasElement a m) (sym u) i.element) in
             let q = r.owned.fresh_is c f.map f.element inc at_f in
             let is_f = filling_most c (g.holder f.map f.element) (omega arith) in
             subst Carries ((λ j. g.holder (sym t j) (sym u j)) ∙ is_f) lies_here.0

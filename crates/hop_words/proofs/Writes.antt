@@ -9,7 +9,7 @@ use Rattle.hop_words.specs.declared.known.Fresh.{Fresh}
 use Rattle.hop_words.specs.declared.known.Lock.{Lock}
 use Rattle.hop_words.specs.Layout.{mem, at, is_place, put_at}
 use Rattle.hop_words.specs.Content.{place_words, one_if, times, Agrees}
-use Rattle.hop_words.specs.Ghost.{segment_in, Filling, Leaving, Within, lane, Era, Ghost, IsElement, limbo_at}
+use Rattle.hop_words.specs.Ghost.{segment_in, Filling, Leaving, Within, lane, Era, Ghost, HasElement, limbo_at}
 use Rattle.hop_words.specs.Rule.{Rule, Segment, Minded, Holds, image, Worn, Runs, Keyed, Batched, Chained, times_limbo, Owned, Filled, Valued, Segments, Locking, Held, times_lock}
 use Rattle.hop_words.specs.Step.{Next, Steps}
 use Rattle.hop_words.specs.Kinds.{writing, MayLink}
@@ -243,13 +243,13 @@ write_link a l k e n held there may ws g sized r is inside fits = write_next a l
     element_of (Link m d) = d
     element_of p = 0
 
-    at_e : IsElement a k.map e
+    at_e : HasElement a k.map e
     at_e = ((holds a l k held w g r is).inside.0, may.0)
 
     holder_is : (g.holder k.map e ≡ Filling l.cpu) ⊎ (g.holder k.map e ≡ Within k.segment)
     holder_is = ⊎_elim
         (λ (f : (f : Fresh) × (rest : List Fresh) × (l.fresh ≡ f ∷ rest) × (f.map ≡ k.map) × (f.element ≡ e)). inl (subst (λ (x : ℕ). g.holder k.map x ≡ Filling l.cpu) f.4
-        (in_hand a _ g.lanes.fresh g.lanes.limbo g.holder l.cpu k.map f.0 f.1 r.owned inside (subst (IsElement a k.map) (sym f.4) at_e) f.3 (ap (λ (x : Known). x.fresh) is ∙ f.2))))
+        (in_hand a _ g.lanes.fresh g.lanes.limbo g.holder l.cpu k.map f.0 f.1 r.owned inside (subst (HasElement a k.map) (sym f.4) at_e) f.3 (ap (λ (x : Known). x.fresh) is ∙ f.2))))
         (λ due. let d = (holds a l k held w g r is).due in let t = due d.0 d.1 in inr ((r.linked.within k.map t.0 e (d.2 t.0 t.2 ∙ t.1)).1 ∙ ap Within t.2))
         may.1
 
@@ -270,7 +270,7 @@ write_link a l k e n held there may ws g sized r is inside fits = write_next a l
       where
         bad : m ≡ k.map → d ≡ e → ⊥
         bad t u =
-            let at_d : IsElement a m d = subst (λ (x : ℕ). IsElement a x d) (sym t) (subst (IsElement a k.map) (sym u) at_e) in
+            let at_d : HasElement a m d = subst (λ (x : ℕ). HasElement a x d) (sym t) (subst (HasElement a k.map) (sym u) at_e) in
             let left : g.holder k.map e ≡ Leaving c = (λ j. g.holder (sym t j) (sym u j)) ∙ in_limbo a _ g.lanes.fresh g.lanes.limbo g.holder c m d r.owned in_c at_d has in
             ⊎_elim
             (λ (f : g.holder k.map e ≡ Filling l.cpu). let z : Filling l.cpu ≡ Leaving c = sym f ∙ left in cc)

@@ -89,8 +89,8 @@ pub record Ghost : Type 0 where
 abbrev pub shape_at : About → ℕ → MapShape
 shape_at a m = map_shape a.shape m
 
-abbrev pub IsElement : About → ℕ → ℕ → Type 0
-IsElement a m e = (m < length a.shape.maps) × (e < elements (shape_at a m))
+abbrev pub HasElement : About → ℕ → ℕ → Type 0
+HasElement a m e = (m < length a.shape.maps) × (e < elements (shape_at a m))
 
 abbrev pub IsSegment : About → ℕ → ℕ → Type 0
 IsSegment a m s = (m < length a.shape.maps) × (s < segments (shape_at a m))

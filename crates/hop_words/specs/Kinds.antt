@@ -24,7 +24,7 @@ use Rattle.hop_words.specs.declared.known.Change.TheVariants.{Nothing, Puts, Dro
 use Rattle.hop_words.specs.Layout.{words_for, at, size}
 use Rattle.hop_words.specs.Homes.{word_of, AreBytes}
 use Rattle.hop_words.specs.Content.{MapWords, IsShare}
-use Rattle.hop_words.specs.Ghost.{segment_in, shape_at, IsElement, Each, limbo_at}
+use Rattle.hop_words.specs.Ghost.{segment_in, shape_at, HasElement, Each, limbo_at}
 use Rattle.hop_words.specs.Rule.{image, IsPeek, StartsWith, changed, numbered, done_in}
 use Rattle.bpf_shared.specs.Own.{turns_of, in_run}
 
@@ -327,7 +327,7 @@ IsAmong p (q ∷ qs) = (p ≡ q) ⊎ IsAmong p qs
 
 -- the lane holds the value in this element, and these bytes of it lie in one word
 pub record Touches (a : About) (l : Known) (m e k o n : ℕ) : Type 0 where
-  pub element : IsElement a m e
+  pub element : HasElement a m e
   pub word : k < words_for (shape_at a m).value
   pub fits : o + n ≤ 8
   pub within : 8 * k + o + n ≤ (shape_at a m).value

@@ -9,7 +9,7 @@ use Rattle.hop_words.specs.declared.known.Known.{Known}
 use Rattle.hop_words.specs.declared.known.View.{View}
 use Rattle.hop_words.specs.declared.known.Limbo.{Limbo}
 use Rattle.hop_words.specs.declared.known.Tally.{Tally}
-use Rattle.hop_words.specs.Ghost.{IsElement, IsSegment, no_limbo}
+use Rattle.hop_words.specs.Ghost.{HasElement, IsSegment, no_limbo}
 
 -- the words as made: all elements are free, no segment is locked or has an item, and no map has a
 -- key
@@ -17,7 +17,7 @@ pub record AreNewWords (a : About) (w : Place → ℕ) : Type 0 where
   pub shaped : IsShape a.shape
   pub counts : (c : ℕ) → c < a.shape.cpus → w (RunCount c) ≡ a.count
   pub keys : (m : ℕ) → m < length a.shape.maps → w (KeyCount m) ≡ 0
-  pub bits : (m e : ℕ) → IsElement a m e → bit_at (w (FreeBits m (e / 64))) (e % 64) ≡ 1
+  pub bits : (m e : ℕ) → HasElement a m e → bit_at (w (FreeBits m (e / 64))) (e % 64) ≡ 1
   pub stamps : (m s : ℕ) → IsSegment a m s → (w (Stamp m s) % 2 ≡ 0)
       × (w (Stamp m s) / 256 ≤ a.version)
   pub heads : (m s : ℕ) → IsSegment a m s → w (Head m s) ≡ 0

@@ -30,7 +30,7 @@ use Rattle.hop_words.specs.declared.known.Change.TheVariants.{Nothing, Puts, Dro
 use Rattle.hop_words.specs.Layout.{size, mem, words_for}
 use Rattle.hop_words.specs.Homes.{bytes_of_words}
 use Rattle.hop_words.specs.Content.{one_if, MapWords, place_words, times, Reached, IsShare, Agrees}
-use Rattle.hop_words.specs.Ghost.{Holder, Free, Filling, Leaving, Within, is_free, is_filling, is_leaving, Carries, lane, Era, Ghost, shape_at, segment_in, IsElement, IsSegment, limbo_at, Each}
+use Rattle.hop_words.specs.Ghost.{Holder, Free, Filling, Leaving, Within, is_free, is_filling, is_leaving, Carries, lane, Era, Ghost, shape_at, segment_in, HasElement, IsSegment, limbo_at, Each}
 
 -- ======== history
 
@@ -87,7 +87,7 @@ pub record Batched (a : About) (link : ℕ → ℕ → ℕ) (counts : ℕ → �
     (held : ℕ → ℕ → Bool) (number : ℕ → ℕ → ℕ) : Type 0 where
   pub young : (c m : ℕ) → c < a.shape.cpus → Chained (link m) (limbo_at (limbo c) m).young
   pub old : (c m : ℕ) → c < a.shape.cpus → Chained (link m) (limbo_at (limbo c) m).old
-  pub noted : (c m e d : ℕ) → c < a.shape.cpus → IsElement a m e
+  pub noted : (c m e d : ℕ) → c < a.shape.cpus → HasElement a m e
       → 1 ≤ times e (limbo_at (limbo c) m).old → d < length (limbo_at (limbo c) m).noted
       → held d (number m e) ≡ true → slice_index (limbo_at (limbo c) m).noted d ≡ counts d
 
@@ -105,19 +105,19 @@ times_limbo e l = times e l.used + times e l.young + times e l.old
 -- each element has one holder
 pub record Owned (a : About) (free : ℕ → ℕ → ℕ) (fresh : ℕ → List Fresh) (limbo : ℕ → List Limbo)
     (holder : ℕ → ℕ → Holder) : Type 0 where
-  pub bits : (m e : ℕ) → IsElement a m e → bit_at (free m (e / 64)) (e % 64)
+  pub bits : (m e : ℕ) → HasElement a m e → bit_at (free m (e / 64)) (e % 64)
       ≡ one_if (is_free (holder m e))
-  pub fresh_is : (c m e : ℕ) → c < a.shape.cpus → IsElement a m e
+  pub fresh_is : (c m e : ℕ) → c < a.shape.cpus → HasElement a m e
       → times_fresh m e (fresh c) ≡ one_if (is_filling c (holder m e))
-  pub limbo_is : (c m e : ℕ) → c < a.shape.cpus → IsElement a m e
+  pub limbo_is : (c m e : ℕ) → c < a.shape.cpus → HasElement a m e
       → times_limbo e (limbo_at (limbo c) m) ≡ one_if (is_leaving c (holder m e))
 
 -- an element is linked where its key is at home, and nowhere else
 pub record Linked (a : About) (home : ℕ → List ℕ → ℕ) (linked : ℕ → List ℕ → Option ℕ)
     (holder : ℕ → ℕ → Holder) : Type 0 where
   pub within : (m : ℕ) (key : List ℕ) (e : ℕ) → linked m key ≡ Some e
-      → IsElement a m e × (holder m e ≡ Within (home m key))
-  pub leads : (m e s : ℕ) → IsElement a m e → holder m e ≡ Within s
+      → HasElement a m e × (holder m e ≡ Within (home m key))
+  pub leads : (m e s : ℕ) → HasElement a m e → holder m e ≡ Within s
       → (key : List ℕ) × (linked m key ≡ Some e)
   pub once : (m : ℕ) (p q : List ℕ) (e : ℕ) → linked m p ≡ Some e → linked m q ≡ Some e → p ≡ q
 
@@ -239,15 +239,15 @@ Readings a eras readings = (c : ℕ) → Each (IsSoundReading a eras) (readings 
 -- that nobody fills
 pub record Valued (a : About) (words : ℕ → ℕ → ℕ → ℕ) (made : ℕ) (value : ℕ → Value)
     (held : ℕ → ℕ → Bool) (holder : ℕ → ℕ → Holder) (number : ℕ → ℕ → ℕ) : Type 0 where
-  pub lies : (m e : ℕ) → IsElement a m e → Carries (holder m e)
+  pub lies : (m e : ℕ) → HasElement a m e → Carries (holder m e)
       → value (number m e)
       ≡ record {
         bytes = take (shape_at a m).value
             (bytes_of_words (words_for (shape_at a m).value) (words m e));
         span = element_span m (shape_at a m) e;
       }
-  pub older : (m e : ℕ) → IsElement a m e → Carries (holder m e) → number m e < made
-  pub held_in : (c v : ℕ) → held c v ≡ true → (m : ℕ) × (e : ℕ) × IsElement a m e
+  pub older : (m e : ℕ) → HasElement a m e → Carries (holder m e) → number m e < made
+  pub held_in : (c v : ℕ) → held c v ≡ true → (m : ℕ) × (e : ℕ) × HasElement a m e
       × Carries (holder m e) × (number m e ≡ v)
 
 -- ======== the rule

@@ -3,7 +3,7 @@
 ghost use Rattle.std.specs.Prelude.{◌≡◌, ◌≢◌, ◌<◌, ◌+◌, ◌%◌, ◌^◌, true, false, [], ◌∷◌, length, IsTrue, IsFalse};
 ghost use Rattle.hop_words.specs.declared.place.Place.TheVariants.{Head, Hop, Slot, Link};
 ghost use Rattle.hop_words.specs.Layout.{words_for};
-ghost use Rattle.hop_words.specs.Ghost.{shape_at, IsElement, IsSegment};
+ghost use Rattle.hop_words.specs.Ghost.{shape_at, HasElement, IsSegment};
 ghost use Rattle.hop_words.specs.Kinds.{LocksSegment, MayLink, writing};
 ghost use Rattle.hop_words.specs.Locking.{lock_of, HasLock, locked_words};
 
@@ -92,7 +92,7 @@ impl Lane {
     /// The link of an element that is linked in the locked segment, or in hand.
     pub fn read_link(&mut self, table: &HopTable, map: u8, segment: u32, element: u32) -> u64
         requires table { self.old.table ≡ table.now.id }
-        requires element { IsElement table.now.about map element }
+        requires element { HasElement table.now.about map element }
         requires lock { HasLock self.old.known map segment }
         requires linked { MayLink table.now.about self.old.known (lock_of self.old.known) element }
         ensures table { self.new.table ≡ self.old.table }
@@ -113,7 +113,7 @@ impl Lane {
         word: u32,
     ) -> u64
         requires table { self.old.table ≡ table.now.id }
-        requires element { IsElement table.now.about map element }
+        requires element { HasElement table.now.about map element }
         requires word { word < words_for (shape_at table.now.about map).key }
         requires lock { HasLock self.old.known map segment }
         requires linked { MayLink table.now.about self.old.known (lock_of self.old.known) element }
@@ -181,7 +181,7 @@ impl Lane {
     /// Writes the link of an element that is linked in the locked segment, or in hand.
     pub fn write_link(&mut self, table: &HopTable, map: u8, segment: u32, element: u32, number: u64)
         requires table { self.old.table ≡ table.now.id }
-        requires element { IsElement table.now.about map element }
+        requires element { HasElement table.now.about map element }
         requires lock { HasLock self.old.known map segment }
         requires linked { MayLink table.now.about self.old.known (lock_of self.old.known) element }
         ensures table { self.new.table ≡ self.old.table }

@@ -3,7 +3,7 @@
 ghost use Rattle.std.specs.Prelude.{◌≡◌, ◌<◌, ◌-◌, ◌/◌, ◌%◌, ◌^◌, [], ◌∷◌, length};
 ghost use Rattle.hop_words.specs.declared.known.Sight.TheVariants.{Bits};
 ghost use Rattle.hop_words.specs.Layout.{words_for};
-ghost use Rattle.hop_words.specs.Ghost.{shape_at, IsElement, limbo_at};
+ghost use Rattle.hop_words.specs.Ghost.{shape_at, HasElement, limbo_at};
 ghost use Rattle.hop_words.specs.Rule.{link_to};
 ghost use Rattle.hop_words.specs.Kinds.{Passed, giving_old, retiring};
 ghost use Rattle.hop_words.specs.Owning.{IsFreeWord, sighted, ClaimsBit, IsInHand, tail_of, key_filled, value_filled, with_key_word, with_value_word};
@@ -41,7 +41,7 @@ impl Lane {
     /// Takes an element if it is free, by one fetch-and, and answers the bits found.
     pub fn claim_bit(&mut self, table: &HopTable, map: u8, element: u32) -> u64
         requires table { self.old.table ≡ table.now.id }
-        requires element { IsElement table.now.about map element }
+        requires element { HasElement table.now.about map element }
         requires unlocked { self.old.known.locks ≡ [] }
         ensures table { self.new.table ≡ self.old.table }
         ensures claimed { ClaimsBit self.old.known map element result self.new.known }
@@ -54,7 +54,7 @@ impl Lane {
     /// Gives back the element in hand, which nobody else has seen.
     pub fn give_bit(&mut self, table: &HopTable, map: u8, element: u32)
         requires table { self.old.table ≡ table.now.id }
-        requires element { IsElement table.now.about map element }
+        requires element { HasElement table.now.about map element }
         requires hand { IsInHand self.old.known map element }
         ensures table { self.new.table ≡ self.old.table }
         ensures given { self.new.known
@@ -68,7 +68,7 @@ impl Lane {
     /// Gives back the first element of the old batch, which no running CPU can hold.
     pub fn give_old_bit(&mut self, table: &HopTable, map: u8, element: u32)
         requires table { self.old.table ≡ table.now.id }
-        requires element { IsElement table.now.about map element }
+        requires element { HasElement table.now.about map element }
         requires room { map < length self.old.known.limbo }
         requires even { table.now.about.count % 2 ≡ 0 }
         requires passed { Passed table.now.about self.old.known map element
@@ -85,7 +85,7 @@ impl Lane {
     /// Writes the next word of the key of the element in hand.
     pub fn fill_key_word(&mut self, table: &HopTable, map: u8, element: u32, word: u32, number: u64)
         requires table { self.old.table ≡ table.now.id }
-        requires element { IsElement table.now.about map element }
+        requires element { HasElement table.now.about map element }
         requires hand { IsInHand self.old.known map element }
         requires unlocked { self.old.known.locks ≡ [] }
         requires next { word ≡ key_filled self.old.known.fresh }
@@ -108,7 +108,7 @@ impl Lane {
         number: u64,
     )
         requires table { self.old.table ≡ table.now.id }
-        requires element { IsElement table.now.about map element }
+        requires element { HasElement table.now.about map element }
         requires hand { IsInHand self.old.known map element }
         requires unlocked { self.old.known.locks ≡ [] }
         requires next { word ≡ value_filled self.old.known.fresh }
@@ -125,7 +125,7 @@ impl Lane {
     /// this is.
     pub fn retire_used(&mut self, table: &HopTable, map: u8, element: u32, link: u64)
         requires table { self.old.table ≡ table.now.id }
-        requires element { IsElement table.now.about map element }
+        requires element { HasElement table.now.about map element }
         requires room { map < length self.old.known.limbo }
         requires unlocked { self.old.known.locks ≡ [] }
         requires used { (limbo_at self.old.known.limbo map).used
@@ -143,7 +143,7 @@ impl Lane {
     /// Reads the link of the first element of the old batch.
     pub fn read_old_link(&mut self, table: &HopTable, map: u8, element: u32) -> u64
         requires table { self.old.table ≡ table.now.id }
-        requires element { IsElement table.now.about map element }
+        requires element { HasElement table.now.about map element }
         requires old { (limbo_at self.old.known.limbo map).old
             ≡ element ∷ tail_of (limbo_at self.old.known.limbo map).old }
         ensures table { self.new.table ≡ self.old.table }
