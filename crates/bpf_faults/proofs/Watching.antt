@@ -1,6 +1,6 @@
 -- What rounds that are watched keep true.
-use Rattle.std.proofs.Common.{◌≡◌, ◌≢◌, ℕ, zero, suc, ◌+◌, List, [], ◌∷◌, ◌++◌, length, Option, Some, None, inl, inr, refl, sym, ap, subst, ◌∙◌, arith, append_assoc, append-nil}
-use Rattle.std.specs.Prelude.{slice_get, map, nat_lt, All, option_map, vec_len}
+use Rattle.std.proofs.Common.{◌≡◌, ℕ, suc, ◌+◌, List, [], ◌∷◌, ◌++◌, length, Option, Some, None, inl, inr, refl, sym, ap, subst, ◌∙◌, arith, append_assoc, append-nil}
+use Rattle.std.specs.Prelude.{slice_get, map, nat_lt, All, option_map}
 use Rattle.std.proofs.lemmas.List.Elements.{All-append, All-cons, All-nil, All-weaker}
 use Rattle.std.proofs.lemmas.Option.{slice_get-map}
 use Rattle.bpf_base.proofs.Lists.{slice_get-set_known, slice_get-set_other}
@@ -17,7 +17,7 @@ use Rattle.bpf_cpu.specs.declared.outcome.Outcome.TheVariants as outcome
 use Rattle.bpf_cpu.specs.State.{start}
 use Rattle.bpf_cpu.specs.Work.{IsNext}
 use Rattle.bpf_cpu.specs.Questions.{IsStanding}
-use Rattle.bpf_cpu.specs.Task.{Stage, Task, Waiting, InHand, Ended, IsAt, with_stage, waiting}
+use Rattle.bpf_cpu.specs.Task.{Stage, Task, Waiting, InHand, Ended, with_stage, waiting}
 use Rattle.bpf_cpu.specs.Schedule.{World, Settles, GoesOn, TakesTurn, RunsSchedule}
 use Rattle.bpf_cpu.specs.Rounds.{below, RunsRound, RunsRounds}
 use Rattle.bpf_cpu.specs.Machine.{MachineState, Shows}

@@ -1,7 +1,5 @@
 -- What a thread asks of its port.
-use Rattle.std.specs.Prelude.{◌≡◌, ◌%◌, ◌<◌, false, length}
-use Rattle.hop_words.specs.declared.known.About.{About}
-use Rattle.hop_words.specs.Ghost.{shape_at}
+use Rattle.std.specs.Prelude.{◌≡◌, false}
 use Rattle.hop_words.specs.Inside.{Shown}
 use Rattle.hop_words.specs.Trial.{IsTrial}
 use Rattle.hop_map.specs.Port.{Port, IsPortOf, runs}

@@ -1,5 +1,5 @@
 //! A store, and a thread for each of its CPUs.
-ghost use Rattle.std.specs.Prelude.{◌≡◌, All, IfOk};
+ghost use Rattle.std.specs.Prelude.{All, IfOk};
 ghost use Rattle.hop_bench.specs.Trial.{IsNewPort};
 
 use crate::plan::Plan;

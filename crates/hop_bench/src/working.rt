@@ -1,5 +1,5 @@
 //! What one thread does: it fills its part of the map, and then makes calls and times them.
-ghost use Rattle.std.specs.Prelude.{◌≡◌, true, OnSome};
+ghost use Rattle.std.specs.Prelude.{◌≡◌, true};
 ghost use Rattle.hop_words.specs.Trial.{IsTrial};
 ghost use Rattle.hop_map.specs.Port.{IsPortOf, runs};
 ghost use Rattle.hop_bench.specs.Trial.{IsNewPort};

@@ -1,4 +1,4 @@
-use Rattle.std.proofs.Common.{◌≡◌, ℕ, List, length, ◌∙◌, ap}
+use Rattle.std.proofs.Common.{◌≡◌, List, length, ◌∙◌, ap}
 use Rattle.std.specs.Prelude.{map, take}
 use Rattle.std.proofs.lemmas.List.{take_all}
 use Rattle.bpf_cpu.specs.declared.machine.job.Job.{Job}
