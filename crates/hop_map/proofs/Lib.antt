@@ -23,5 +23,6 @@ pub mod Dealing
 pub mod Touching
 pub mod Spliced
 pub mod Holding
+pub mod Taken
 pub mod Disturbing
 pub mod Dumps

@@ -1,4 +1,5 @@
 use Rattle.std.proofs.Common.{◌≡◌, inr, ℕ, List, [], ◌++◌, ap, sym, subst, ◌∙◌}
+use Rattle.hop_words.specs.declared.known.Known.{Known}
 use Rattle.hop_words.specs.declared.known.Sight.{Sight}
 use Rattle.hop_words.specs.Inside.{Standing}
 use Rattle.hop_words.specs.declared.known.Tally.{Tally}
@@ -7,6 +8,29 @@ use Rattle.hop_epoch.specs.Batch.{Keeps, SeesRunning}
 use Rattle.hop_epoch.proofs.Batching.{running_after, keeps_itself, keeps_then}
 use Rattle.hop_epoch.proofs.batches.Batches.reclaim.Goals as goal
 use Rattle.hop_epoch.proofs.batches.Batches.reclaim.Goals.{then-is_some+else-not-is_past, else-is_some}
+
+-- what was kept so far, and the map of the batches, which is this one still
+record Still (m : ℕ) (l k : Known) (n : ℕ) : Type 0 where
+  keeps : Keeps m l k
+  map : n ≡ m
+
+still_freed : (m : ℕ) (l past : Known) (freed x : Standing) (p : ℕ) (f s : Batches) → x ≡ freed → s ≡ f → f.map ≡ p → p ≡ m → Keeps m l past → Keeps p past freed.known → Still m l x.known s.map
+still_freed m l past freed x p f s is self same first kept frees = record {
+  keeps = subst (λ (y : Standing). Keeps m l y.known) (sym is) (keeps_then m l past freed.known kept (subst (λ (n : ℕ). Keeps n past freed.known) first frees));
+  map = ap (λ (y : Batches). y.map) self ∙ (same ∙ first);
+}
+
+still_same : (old x : Standing) (b s : Batches) → x ≡ old → s ≡ b → Still b.map old.known x.known s.map
+still_same old x b s is self = record {
+  keeps = subst (λ (y : Standing). Keeps b.map old.known y.known) (sym is) (keeps_itself b.map old.known);
+  map = ap (λ (y : Batches). y.map) self;
+}
+
+looked_again : (m : ℕ) (l k aged looked : Known) (n o : ℕ) → Still m l k n → o ≡ n → Keeps n k aged → Keeps o aged looked → Keeps m l looked
+looked_again m l k aged looked n o still same ages looks =
+    keeps_then m l aged looked
+    (keeps_then m l k aged still.keeps (subst (λ (x : ℕ). Keeps x k aged) still.map ages))
+    (subst (λ (x : ℕ). Keeps x aged looked) (same ∙ still.map) looks)
 
 pub returns-else-is_past-clause-blocked : goal.returns-else-is_past-clause-blocked
 returns-else-is_past-clause-blocked c =
@@ -27,41 +51,20 @@ returns-else-is_past-clause-blocked c =
 
 pub returns-else-is_past-clause-keeps : goal.returns-else-is_past-clause-keeps
 returns-else-is_past-clause-keeps c =
-    let m = c.args.self.now.map in
-    let l = c.args.lane.now.known in
-    let first : Keeps m l c.if-is_some.lane.known = elim c.if-is_some.branch [
-      | then-is_some+else-not-is_past w ↦ subst (λ (x : Standing). Keeps m l x.known) (sym w.lane-is)
-          (keeps_then m l w.is_past.new.lane.known w.free.new.lane.known w.is_past.ensures.looks.keeps
-          (subst (λ (n : ℕ). Keeps n w.is_past.new.lane.known w.free.new.lane.known) w.is_past.ensures.same.0 w.free.ensures.keeps))
-      | else-is_some w ↦ subst (λ (x : Standing). Keeps m l x.known) (sym w.lane-is) (keeps_itself m l)
+    let still : Still c.args.self.now.map c.args.lane.now.known c.if-is_some.lane.known c.if-is_some.self.map = elim c.if-is_some.branch [
+      | then-is_some+else-not-is_past w ↦ still_freed _ _ _ _ _ _ _ _ w.lane-is w.self-is w.free.ensures.same.0 w.is_past.ensures.same.0 w.is_past.ensures.looks.keeps w.free.ensures.keeps
+      | else-is_some w ↦ still_same _ _ _ _ w.lane-is w.self-is
     ] in
-    let map : c.if-is_some.self.map ≡ m = elim c.if-is_some.branch [
-      | then-is_some+else-not-is_past w ↦ ap (λ (x : Batches). x.map) w.self-is ∙ (w.free.ensures.same.0 ∙ w.is_past.ensures.same.0)
-      | else-is_some w ↦ ap (λ (x : Batches). x.map) w.self-is
-    ] in
-    let aged = keeps_then m l c.if-is_some.lane.known c.age.new.lane.known first (subst (λ (n : ℕ). Keeps n c.if-is_some.lane.known c.age.new.lane.known) map c.age.ensures.keeps) in
-    let same = c.age.ensures.same.0 ∙ map in
-    let looked = keeps_then m l c.age.new.lane.known c.is_past-then-is_some-2.new.lane.known aged
-    (subst (λ (n : ℕ). Keeps n c.age.new.lane.known c.is_past-then-is_some-2.new.lane.known) same c.is_past-then-is_some-2.ensures.looks.keeps) in
-    looked
+    looked_again _ _ _ _ _ _ _ still c.age.ensures.same.0 c.age.ensures.keeps c.is_past-then-is_some-2.ensures.looks.keeps
 
 pub returns-then-is_past-clause-keeps : goal.returns-then-is_past-clause-keeps
 returns-then-is_past-clause-keeps c =
+    let still : Still c.args.self.now.map c.args.lane.now.known c.if-is_some.lane.known c.if-is_some.self.map = elim c.if-is_some.branch [
+      | then-is_some+else-not-is_past w ↦ still_freed _ _ _ _ _ _ _ _ w.lane-is w.self-is w.free.ensures.same.0 w.is_past.ensures.same.0 w.is_past.ensures.looks.keeps w.free.ensures.keeps
+      | else-is_some w ↦ still_same _ _ _ _ w.lane-is w.self-is
+    ] in
     let m = c.args.self.now.map in
     let l = c.args.lane.now.known in
-    let first : Keeps m l c.if-is_some.lane.known = elim c.if-is_some.branch [
-      | then-is_some+else-not-is_past w ↦ subst (λ (x : Standing). Keeps m l x.known) (sym w.lane-is)
-          (keeps_then m l w.is_past.new.lane.known w.free.new.lane.known w.is_past.ensures.looks.keeps
-          (subst (λ (n : ℕ). Keeps n w.is_past.new.lane.known w.free.new.lane.known) w.is_past.ensures.same.0 w.free.ensures.keeps))
-      | else-is_some w ↦ subst (λ (x : Standing). Keeps m l x.known) (sym w.lane-is) (keeps_itself m l)
-    ] in
-    let map : c.if-is_some.self.map ≡ m = elim c.if-is_some.branch [
-      | then-is_some+else-not-is_past w ↦ ap (λ (x : Batches). x.map) w.self-is ∙ (w.free.ensures.same.0 ∙ w.is_past.ensures.same.0)
-      | else-is_some w ↦ ap (λ (x : Batches). x.map) w.self-is
-    ] in
-    let aged = keeps_then m l c.if-is_some.lane.known c.age.new.lane.known first (subst (λ (n : ℕ). Keeps n c.if-is_some.lane.known c.age.new.lane.known) map c.age.ensures.keeps) in
-    let same = c.age.ensures.same.0 ∙ map in
-    let looked = keeps_then m l c.age.new.lane.known c.is_past-then-is_some-2.new.lane.known aged
-    (subst (λ (n : ℕ). Keeps n c.age.new.lane.known c.is_past-then-is_some-2.new.lane.known) same c.is_past-then-is_some-2.ensures.looks.keeps) in
+    let looked : Keeps m l c.is_past-then-is_some-2.new.lane.known = looked_again _ _ _ _ _ _ _ still c.age.ensures.same.0 c.age.ensures.keeps c.is_past-then-is_some-2.ensures.looks.keeps in
     keeps_then m l c.is_past-then-is_some-2.new.lane.known c.free-then-is_past.new.lane.known looked
-    (subst (λ (n : ℕ). Keeps n c.is_past-then-is_some-2.new.lane.known c.free-then-is_past.new.lane.known) (c.is_past-then-is_some-2.ensures.same.0 ∙ same) c.free-then-is_past.ensures.keeps)
+    (subst (λ (n : ℕ). Keeps n c.is_past-then-is_some-2.new.lane.known c.free-then-is_past.new.lane.known) (c.is_past-then-is_some-2.ensures.same.0 ∙ (c.age.ensures.same.0 ∙ still.map)) c.free-then-is_past.ensures.keeps)

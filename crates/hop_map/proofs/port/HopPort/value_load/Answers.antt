@@ -1,41 +1,18 @@
-use Rattle.std.proofs.Common.{◌≡◌, ap, refl, true, sym, subst, ◌∙◌}
+use Rattle.std.proofs.Common.{refl}
 use Rattle.bpf_shared.specs.Access.{bytes_in}
-use Rattle.bpf_shared.specs.Passage.{IsHeldPlace}
 use Rattle.bpf_shared.specs.declared.events.Event.TheVariants.{Load}
-use Rattle.hop_words.specs.declared.known.Known.{Known}
-use Rattle.hop_map.specs.Port.{Port, runs, port_holds, IsPortOf}
-use Rattle.hop_map.proofs.Ports.{still_runs, port_with, port_is}
-use Rattle.hop_map.proofs.Holding.{held_at, told_fits}
+use Rattle.hop_map.proofs.Taken.{held_there, fits_after, runs_after}
 use Rattle.hop_map.proofs.port.HopPort.value_load.Goals as goal
 
 pub load_at-number-requires-clause-held : goal.load_at-number-requires-clause-held
-load_at-number-requires-clause-held c =
-    let i = c.self.inside in
-    let s = c.in-Some.lane in
-    let p = port_with s i.arenas.items i.batches.items in
-    let t = c.args.table.now in
-    let is : p ≡ c.args.self.now = sym (port_is i c.take.result s c.take.ensures.value c.in-Some.is) ∙ c.self.view_is in
-    held_at t p c.args.at.at (bytes_in c.args.size) (subst (IsPortOf t) (sym is) c.requires.fits) (subst (λ (q : Port). runs q ≡ true) (sym is) c.requires.in_run)
-    (subst (λ (q : Port). IsHeldPlace (port_holds q) c.args.at.at (bytes_in c.args.size)) (sym is) c.requires.place)
+load_at-number-requires-clause-held c = held_there c.self.inside c.take.result c.in-Some.lane c.take.ensures.value c.in-Some.is c.args.self.now c.self.view_is c.args.table.now c.requires.fits c.requires.in_run c.args.at.at (bytes_in c.args.size) c.requires.place
 
 pub returns-clause-fits : goal.returns-clause-fits
 returns-clause-fits c =
-    let i = c.self.inside in
-    let s = c.in-Some.lane in
-    let p = port_with s i.arenas.items i.batches.items in
-    let t = c.args.table.now in
-    let is : p ≡ c.args.self.now = sym (port_is i c.take.result s c.take.ensures.value c.in-Some.is) ∙ c.self.view_is in
-    let l = c.load_at-number.new.lane in
-    let e = c.load_at-number.ensures in
-    told_fits t p l.table l.known (Load c.args.at.at c.args.size c.load_at-number.result) (subst (IsPortOf t) (sym is) c.requires.fits) e.table refl e.loaded
+    fits_after c.self.inside c.take.result c.in-Some.lane c.take.ensures.value c.in-Some.is c.args.self.now c.self.view_is c.args.table.now c.requires.fits c.requires.in_run
+    c.load_at-number.new.lane.known (Load c.args.at.at c.args.size c.load_at-number.result) refl c.load_at-number.ensures.loaded c.load_at-number.new.lane.table c.load_at-number.ensures.table
 
 pub returns-clause-in_run : goal.returns-clause-in_run
 returns-clause-in_run c =
-    let i = c.self.inside in
-    let s = c.in-Some.lane in
-    let p = port_with s i.arenas.items i.batches.items in
-    let is : p ≡ c.args.self.now = sym (port_is i c.take.result s c.take.ensures.value c.in-Some.is) ∙ c.self.view_is in
-    let l = c.load_at-number.new.lane in
-    let e = c.load_at-number.ensures in
-    still_runs c.args.table.now.about p.known l.known (Load c.args.at.at c.args.size c.load_at-number.result) e.loaded.seen (ap (λ (k : Known). k.cpu) e.loaded.after) refl
-    (subst (λ (q : Port). runs q ≡ true) (sym is) c.requires.in_run)
+    runs_after c.self.inside c.take.result c.in-Some.lane c.take.ensures.value c.in-Some.is c.args.self.now c.self.view_is c.args.table.now c.requires.fits c.requires.in_run
+    c.load_at-number.new.lane.known (Load c.args.at.at c.args.size c.load_at-number.result) refl c.load_at-number.ensures.loaded

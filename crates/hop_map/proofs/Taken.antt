@@ -1,0 +1,39 @@
+-- A call of a port that takes its lane out, reads or writes a value that the run holds, and puts the lane back.
+use Rattle.std.proofs.Common.{◌≡◌, ℕ, true, [], ◌∷◌, Option, Some, ap, sym, subst, ◌∙◌}
+use Rattle.atomic_table.specs.Seated.{TableId}
+use Rattle.bpf_shared.specs.declared.events.Event.{Event}
+use Rattle.bpf_shared.specs.History.{events_of}
+use Rattle.bpf_shared.specs.Own.{turns_of, in_run}
+use Rattle.bpf_shared.specs.Passage.{IsHeldPlace}
+use Rattle.hop_words.specs.declared.known.Known.{Known}
+use Rattle.hop_words.specs.Inside.{Shown, Standing}
+use Rattle.hop_words.specs.Kinds.{Told}
+use Rattle.hop_map.specs.declared.port.HopPort.TheInside.{Inside as InPort}
+use Rattle.hop_map.specs.Accesses.{IsHeldAt}
+use Rattle.hop_map.specs.Port.{Port, port_of, port_holds, runs, IsPortOf}
+use Rattle.hop_map.proofs.Ports.{still_runs, port_with, port_is}
+use Rattle.hop_map.proofs.Holding.{held_at, told_fits}
+
+module _ (i : InPort) (o : Option Standing) (s : Standing) («from» : o ≡ i.lane) (some : o ≡ Some s) (q : Port) (view : port_of i ≡ q) (t : Shown) (fits : IsPortOf t q) (running : runs q ≡ true) where
+  abbrev taken : Port
+  taken = port_with s i.arenas.items i.batches.items
+
+  is : taken ≡ q
+  is = sym (port_is i o s «from» some) ∙ view
+
+  taken_fits : IsPortOf t taken
+  taken_fits = subst (IsPortOf t) (sym is) fits
+
+  taken_runs : runs taken ≡ true
+  taken_runs = subst (λ (p : Port). runs p ≡ true) (sym is) running
+
+  pub held_there : (at n : ℕ) → IsHeldPlace (port_holds q) at n → IsHeldAt t.about s.known at n
+  held_there at n h = held_at t taken at n taken_fits taken_runs (subst (λ (p : Port). IsHeldPlace (port_holds p) at n) (sym is) h)
+
+  -- after one event of the CPU that neither begins nor ends a run
+  module _ (l : Known) (e : Event) (quiet : turns_of (e ∷ []) ≡ 0) (told : Told t.about s.known e l) where
+    pub fits_after : (z : TableId) → z ≡ s.table → IsPortOf t (port_with (record { table = z; known = l }) i.arenas.items i.batches.items)
+    fits_after z table = told_fits t taken z l e taken_fits table quiet told
+
+    pub runs_after : in_run (events_of l.cpu l.seen) ≡ true
+    runs_after = still_runs t.about s.known l e told.seen (ap (λ (k : Known). k.cpu) told.after) quiet taken_runs
