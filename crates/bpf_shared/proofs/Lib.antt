@@ -23,6 +23,7 @@ pub mod Accessing
 pub mod Updating
 pub mod Settling
 pub mod Answering
+pub mod LookingUp
 mod Listing
 pub mod OneListing
 pub mod Lasting
