@@ -43,21 +43,23 @@ module _ (a : About) (l : Known) (m s : ℕ) (r : Ready a l m s) where
 
     pub inserts : (count : ℕ) → count < (shape_at a m).max → Inserts a l k (hand l) [] key bytes flags count
     inserts count room = record {
-      lock = r.held;
-      nothing = c.nothing;
-      hand = b.in_hand;
-      map = b'.map;
-      element = subst (λ (e : ℕ). e < elements (shape_at a k.map)) (sym b'.number) b'.inside;
-      home = b'.home;
-      key_size = b'.keyed.0;
-      size = b'.size;
-      are_bytes = b.are_bytes;
-      filled = b'.filled;
-      value = b'.value;
+      filled = record {
+        lock = r.held;
+        nothing = c.nothing;
+        hand = b.filled.in_hand;
+        map = b'.filled.map;
+        element = subst (λ (e : ℕ). e < elements (shape_at a k.map)) (sym b'.filled.number) b'.filled.inside;
+        home = b'.filled.home;
+        key_size = b'.filled.keyed.0;
+        size = b'.filled.size;
+        are_bytes = b.filled.are_bytes;
+        filled = b'.filled.filled;
+        value = b'.filled.value;
+        runs = b.filled.runs;
+      };
       absent = absent;
       flags_known = (let f = b.flags_known in omega arith);
       room = at_lock (λ n t. count < (shape_at a n).max) room;
-      runs = b.runs;
     }
 
     module _ (seen : List Entry) where
@@ -66,8 +68,8 @@ module _ (a : About) (l : Known) (m s : ℕ) (r : Ready a l m s) where
 
       own_link : (e : ℕ) → (hand l).element ≡ e → MayLink a counted (lock_of counted) e
       own_link e is = (
-        subst (λ (i : ℕ). i < elements (shape_at a k.map)) (sym b'.number ∙ is) b'.inside,
-        inr (λ before share. (key, (λ j. if key_self key j then Some (is j) else before key), b'.home)),
+        subst (λ (i : ℕ). i < elements (shape_at a k.map)) (sym b'.filled.number ∙ is) b'.filled.inside,
+        inr (λ before share. (key, (λ j. if key_self key j then Some (is j) else before key), b'.filled.home)),
       )
 
       link_on : (e : ℕ) → MayLink a l k e → MayLink a counted (lock_of counted) e
@@ -84,7 +86,7 @@ module _ (a : About) (l : Known) (m s : ℕ) (r : Ready a l m s) where
           may.1
 
       own_key : (e : ℕ) → (hand l).element ≡ e → (q : List ℕ) × HasKey (shape_at a m) (image a k.copy) m e q
-      own_key e is = (key, subst (λ (ws : List ℕ). HasKey (shape_at a m) (image a ws) m e key) (sym c.copied) (subst (λ (i : ℕ). HasKey (shape_at a m) (image a k.first) m i key) (sym b.number ∙ is) b.keyed))
+      own_key e is = (key, subst (λ (ws : List ℕ). HasKey (shape_at a m) (image a ws) m e key) (sym c.copied) (subst (λ (i : ℕ). HasKey (shape_at a m) (image a k.first) m i key) (sym b.filled.number ∙ is) b.filled.keyed))
 
       counted_known : (e : ℕ) → knows counted m e ≡ true → MayLink a counted (lock_of counted) e × ((q : List ℕ) × HasKey (shape_at a m) (image a k.copy) m e q)
       counted_known e is = go (has e k.known) refl

@@ -9,13 +9,13 @@ use Rattle.hop_words.specs.Ghost.{shape_at}
 use Rattle.hop_words.specs.Kinds.{IsKeyAbsent, Counts, Told}
 use Rattle.hop_words.specs.Locking.{lock_of, SeesRoom, SeesLack}
 use Rattle.hop_map.specs.Views.{Ready}
-use Rattle.hop_map.specs.Calls.{LockShows, Brings}
+use Rattle.hop_map.specs.Calls.{LockShows, HandFilled, Brings}
 use Rattle.hop_map.specs.Overs.{BringsOver}
 use Rattle.hop_map.specs.Updates.{Wants, Offers}
 
 module _ (a : About) (l : Known) (m s : ℕ) (key bytes : List ℕ) (flags element : ℕ) (b : Offers a l m s key bytes flags element) where
-  pub brings : flags ≢ 2 → Brings a l m s key bytes flags element
-  brings new = record {
+  filled : HandFilled a l m s key bytes element
+  filled = record {
     in_hand = b.in_hand;
     map = b.map;
     number = b.number;
@@ -26,24 +26,16 @@ module _ (a : About) (l : Known) (m s : ℕ) (key bytes : List ℕ) (flags eleme
     filled = b.valued.filled;
     value = b.valued.value;
     keyed = b.keyed;
-    flags_known = (let f = b.wants.flags_known in omega arith);
     runs = b.wants.runs;
   }
 
+  pub brings : flags ≢ 2 → Brings a l m s key bytes flags element
+  brings new = record { filled = filled; flags_known = (let f = b.wants.flags_known in omega arith) }
+
   pub brings_over : flags ≢ 1 → BringsOver a l m s key bytes flags element
   brings_over over = record {
-    in_hand = b.in_hand;
-    map = b.map;
-    number = b.number;
-    inside = b.inside;
-    home = b.wants.home;
-    size = b.wants.size;
-    are_bytes = b.wants.are_bytes;
-    filled = b.valued.filled;
-    value = b.valued.value;
-    keyed = b.keyed;
+    filled = filled;
     flags_known = zero_or_two flags b.wants.flags_known over;
-    runs = b.wants.runs;
     limbo = b.wants.limbo;
     apart = b.apart;
   }

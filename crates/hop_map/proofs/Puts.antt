@@ -95,7 +95,7 @@ module _ (x : Locked) (key bytes : List ℕ) (flags element : ℕ) (c : LockShow
   y_is = λ j. record { table = table j; about = about j; known = i.after j; map = map j; segment = segment j }
 
   keyed : HasKey (shape_at x.about x.map) (image x.about (lock_of x.known).copy) x.map element key
-  keyed = subst (λ (ws : List ℕ). HasKey (shape_at x.about x.map) (image x.about ws) x.map element key) (sym c.copied) b.keyed
+  keyed = subst (λ (ws : List ℕ). HasKey (shape_at x.about x.map) (image x.about ws) x.map element key) (sym c.copied) b.filled.keyed
 
   spelt : element_key (seen_words x1) element ≡ key
   spelt = spells x.about x.map (image x.about (lock_of x.known).copy) element key keyed
@@ -110,16 +110,16 @@ module _ (x : Locked) (key bytes : List ℕ) (flags element : ℕ) (c : LockShow
   own : IsOwn (seen_words x1).fixed element
   unfolding more
   own = record {
-    known = (or_last (has element (lock_of x.known).known) ((element == o) || false) (or_true (element == o) false (eq-eqb element o (sym b.number))), b.inside);
+    known = (or_last (has element (lock_of x.known).known) ((element == o) || false) (or_true (element == o) false (eq-eqb element o (sym b.filled.number))), b.filled.inside);
     home = ap (λ (q : List ℕ). home x.about.seed (shape_at x.about x.map).mask q % 2 ^ depth (shape_at x.about x.map)) spelt
-        ∙ (ap (λ (n : ℕ). home x.about.seed (shape_at x.about x.map).mask key % n) (sym (power_is (depth (shape_at x.about x.map)))) ∙ b.home);
+        ∙ (ap (λ (n : ℕ). home x.about.seed (shape_at x.about x.map).mask key % n) (sym (power_is (depth (shape_at x.about x.map)))) ∙ b.filled.home);
   }
 
   pub own_after : IsOwn (seen_words y).fixed element
   own_after = subst (λ (z : Locked). IsOwn (seen_words z).fixed element) (sym y_is) own
 
   none : (f : List ℕ → Option ℕ) → IsShare x.about.seed (shape_at x.about x.map) (segment_in x.about x.map) (image x.about (lock_of x.known).copy) x.map x.segment f → f key ≡ None
-  none f p = none_with x.about x.known x.map x.segment c _ key b.home gone f p
+  none f p = none_with x.about x.known x.map x.segment c _ key b.filled.home gone f p
 
   absent : SegAbsent (seen_words x1) (element_key (seen_words x1) element)
   unfolding more
@@ -143,9 +143,9 @@ module _ (x : Locked) (key bytes : List ℕ) (flags element : ℕ) (c : LockShow
       let same : knows l2 x.map ≡ kn = ap (λ (f : Fixed). f.known) g.fixed in
       let done = inserted x.about x.map x.segment kn (image x.about (lock_of x.known).copy) (image x.about (lock_of l2).copy) before p (known_by x.about x.known x.map x.segment c more before p)
       (subst (λ (n : ℕ → Bool). (e : ℕ) → n e ≡ true → (q : List ℕ) × HasKey (shape_at x.about x.map) (image x.about (lock_of l2).copy) x.map e q) same (λ e k. (r.known_is e k).1))
-      key b.home element (none before p)
+      key b.filled.home element (none before p)
       (subst (λ (n : ℕ → Bool). Gains (seen_words x1) (segment_view x.about x.map x.segment n (image x.about (lock_of l2).copy)) key element) same g) in
-      subst (λ (e : ℕ). IsShare x.about.seed (shape_at x.about (lock_of x.known).map) (segment_in x.about (lock_of x.known).map) (image x.about (lock_of l2).copy) (lock_of x.known).map (lock_of x.known).segment (put_key before key (Some e))) (sym b.number)
+      subst (λ (e : ℕ). IsShare x.about.seed (shape_at x.about (lock_of x.known).map) (segment_in x.about (lock_of x.known).map) (image x.about (lock_of l2).copy) (lock_of x.known).map (lock_of x.known).segment (put_key before key (Some e))) (sym b.filled.number)
       (subst (λ (t : ℕ). IsShare x.about.seed (shape_at x.about (lock_of x.known).map) (segment_in x.about (lock_of x.known).map) (image x.about (lock_of l2).copy) (lock_of x.known).map t (put_key before key (Some element))) (sym c.segment)
       (subst (λ (n : ℕ). IsShare x.about.seed (shape_at x.about n) (segment_in x.about n) (image x.about (lock_of l2).copy) n x.segment (put_key before key (Some element))) (sym c.map) done)))
 

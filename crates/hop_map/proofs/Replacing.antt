@@ -35,7 +35,7 @@ module _ (x : Locked) (key bytes : List ℕ) (flags element : ℕ) (c : LockShow
   over_sound = sound_with x.about x.known x.map x.segment c more
 
   pub over_spelt : element_key (seen_words x) element ≡ key
-  over_spelt = spells x.about x.map (image x.about k.copy) element key (subst (λ (ws : List ℕ). HasKey (shape_at x.about x.map) (image x.about ws) x.map element key) (sym c.copied) b.keyed)
+  over_spelt = spells x.about x.map (image x.about k.copy) element key (subst (λ (ws : List ℕ). HasKey (shape_at x.about x.map) (image x.about ws) x.map element key) (sym c.copied) b.filled.keyed)
 
   pub over_fresh : IsInSegment (seen_words x) element → ⊥
   unfolding more
@@ -46,14 +46,14 @@ module _ (x : Locked) (key bytes : List ℕ) (flags element : ℕ) (c : LockShow
       true≢false (sym q.1 ∙ b.apart)
 
   held_here : in_hand x.known.fresh x.map element ≡ true
-  held_here = subst (λ (fs : List Fresh). in_hand fs x.map element ≡ true) (sym b.in_hand)
-      ((λ j. eq-eqb (hand x.known).map x.map b.map j && (element == (hand x.known).element)) ∙ eq-eqb element (hand x.known).element (sym b.number))
+  held_here = subst (λ (fs : List Fresh). in_hand fs x.map element ≡ true) (sym b.filled.in_hand)
+      ((λ j. eq-eqb (hand x.known).map x.map b.filled.map j && (element == (hand x.known).element)) ∙ eq-eqb element (hand x.known).element (sym b.filled.number))
 
   pub over_own : IsOwn (seen_words x).fixed element
   over_own = record {
-    known = (or_last (has element k.known) _ (or_last (is_put k.change element) _ held_here), b.inside);
+    known = (or_last (has element k.known) _ (or_last (is_put k.change element) _ held_here), b.filled.inside);
     home = ap (λ (q : List ℕ). home x.about.seed (shape_at x.about x.map).mask q % 2 ^ depth (shape_at x.about x.map)) over_spelt
-        ∙ (ap (λ (n : ℕ). home x.about.seed (shape_at x.about x.map).mask key % n) (sym (power_is (depth (shape_at x.about x.map)))) ∙ b.home);
+        ∙ (ap (λ (n : ℕ). home x.about.seed (shape_at x.about x.map).mask key % n) (sym (power_is (depth (shape_at x.about x.map)))) ∙ b.filled.home);
   }
 
   abbrev lit : List ℕ → Bool → Known
@@ -68,27 +68,29 @@ module _ (x : Locked) (key bytes : List ℕ) (flags element : ℕ) (c : LockShow
   replaces ws d old r g =
       let b' : BringsOver x.about x.known k.map k.segment key bytes flags element = at_lock (λ n t. BringsOver x.about x.known n t key bytes flags element) b in
       record {
-        lock = refl;
-        nothing = c.nothing;
-        hand = b.in_hand;
-        map = b'.map;
-        element = subst (λ (e : ℕ). e < elements (shape_at x.about k.map)) (sym b'.number) b'.inside;
-        home = b'.home;
-        key_size = b'.keyed.0;
-        size = b'.size;
-        are_bytes = b.are_bytes;
-        filled = b'.filled;
-        value = b'.value;
-        there = leads_with x.about x.known x.map x.segment c more key b.home old g.was;
+        filled = record {
+          lock = refl;
+          nothing = c.nothing;
+          hand = b.filled.in_hand;
+          map = b'.filled.map;
+          element = subst (λ (e : ℕ). e < elements (shape_at x.about k.map)) (sym b'.filled.number) b'.filled.inside;
+          home = b'.filled.home;
+          key_size = b'.filled.keyed.0;
+          size = b'.filled.size;
+          are_bytes = b.filled.are_bytes;
+          filled = b'.filled.filled;
+          value = b'.filled.value;
+          runs = b.filled.runs;
+        };
+        there = leads_with x.about x.known x.map x.segment c more key b.filled.home old g.was;
         written = λ before sh.
             let p = here x.about x.known x.map x.segment c before sh in
             let done = replaced x.about x.map x.segment (λ e. has e k.known || more e) (image x.about k.copy) (image x.about ws) before p (known_by x.about x.known x.map x.segment c more before p)
-            (λ e kn. (r.known_is e kn).1) key b.home old element g in
-            subst (λ (e : ℕ). IsShare x.about.seed (shape_at x.about k.map) (segment_in x.about k.map) (image x.about ws) k.map k.segment (put_key before key (Some e))) (sym b.number)
+            (λ e kn. (r.known_is e kn).1) key b.filled.home old element g in
+            subst (λ (e : ℕ). IsShare x.about.seed (shape_at x.about k.map) (segment_in x.about k.map) (image x.about ws) k.map k.segment (put_key before key (Some e))) (sym b.filled.number)
             (at_lock (λ n t. IsShare x.about.seed (shape_at x.about n) (segment_in x.about n) (image x.about ws) n t (put_key before key (Some element))) done);
         flags_known = b.flags_known;
         room = b'.limbo;
-        runs = b.runs;
       }
 
   module _ (z : Locked) (st : Stays x z) where
@@ -113,7 +115,7 @@ module _ (x : Locked) (key bytes : List ℕ) (flags element : ℕ) (c : LockShow
         (subst (λ (a : About). Saw a z.known (Update x.map key bytes flags Done) l3.seen) st.about (subst (λ (n : ℕ). Saw z.about z.known (Update n key bytes flags Done) l3.seen) m p.seen)) in
         record { others = v.others; foreign = v.foreign; after = v.after; legal = v.legal }) in
         record {
-          inside = was_inside x.about x.known x.map x.segment c more key b.home old was;
+          inside = was_inside x.about x.known x.map x.segment c more key b.filled.home old was;
           seen = w;
           after = p.after ∙ (λ j. record (st.known j) { seen = l3.seen; fresh = []; limbo = with_gone (st.known j) (m j) old; locks = [] });
         }

@@ -30,8 +30,8 @@ pub record LockShows (a : About) (l : Known) (m s : ℕ) : Type 0 where
   pub clean : (lock_of l).dirty ≡ false
   pub sized : length (lock_of l).copy ≡ size a.shape
 
--- the lane has an element in hand, filled with a key of this segment and a value
-pub record Brings (a : About) (l : Known) (m s : ℕ) (key bytes : List ℕ) (flags element : ℕ) :
+-- in a run, the lane has an element in hand, filled with a key of this segment and a value
+pub record HandFilled (a : About) (l : Known) (m s : ℕ) (key bytes : List ℕ) (element : ℕ) :
     Type 0 where
   pub in_hand : l.fresh ≡ hand l ∷ []
   pub map : (hand l).map ≡ m
@@ -44,8 +44,13 @@ pub record Brings (a : About) (l : Known) (m s : ℕ) (key bytes : List ℕ) (fl
   pub value : (i : ℕ) → i < words_for (shape_at a m).value →
       slice_index (hand l).value i ≡ word_of bytes i
   pub keyed : HasKey (shape_at a m) (image a (lock_of l).first) m element key
-  pub flags_known : flags < 2
   pub runs : in_run (events_of l.cpu l.seen) ≡ true
+
+-- so it is for a new key
+pub record Brings (a : About) (l : Known) (m s : ℕ) (key bytes : List ℕ) (flags element : ℕ) :
+    Type 0 where
+  pub filled : HandFilled a l m s key bytes element
+  pub flags_known : flags < 2
 
 -- the new element's event, and all else as it was
 pub record Took (a : About) (l : Known) (m : ℕ) (key bytes : List ℕ) (flags : ℕ) (l2 : Known) :

@@ -13,24 +13,14 @@ use Rattle.hop_words.specs.Ghost.{shape_at}
 use Rattle.hop_words.specs.Rule.{image}
 use Rattle.hop_words.specs.Kinds.{has, Saw, with_gone}
 use Rattle.bpf_shared.specs.Own.{in_run}
-use Rattle.hop_words.specs.Locking.{lock_of, hand}
+use Rattle.hop_words.specs.Locking.{lock_of}
+use Rattle.hop_map.specs.Calls.{HandFilled}
 
--- the lane has an element in hand, filled with a key of this segment and a value
+-- the lane has an element in hand for a replacement
 pub record BringsOver (a : About) (l : Known) (m s : ℕ) (key bytes : List ℕ) (flags element : ℕ) :
     Type 0 where
-  pub in_hand : l.fresh ≡ hand l ∷ []
-  pub map : (hand l).map ≡ m
-  pub number : (hand l).element ≡ element
-  pub inside : element < elements (shape_at a m)
-  pub home : segment_of a.seed (shape_at a m) key ≡ s
-  pub size : length bytes ≡ (shape_at a m).value
-  pub are_bytes : AreBytes bytes
-  pub filled : length (hand l).value ≡ words_for (shape_at a m).value
-  pub value : (i : ℕ) → i < words_for (shape_at a m).value →
-      slice_index (hand l).value i ≡ word_of bytes i
-  pub keyed : HasKey (shape_at a m) (image a (lock_of l).first) m element key
+  pub filled : HandFilled a l m s key bytes element
   pub flags_known : (flags ≡ 0) ⊎ (flags ≡ 2)
-  pub runs : in_run (events_of l.cpu l.seen) ≡ true
   pub limbo : m < length l.limbo
   -- by what the lock told
   pub apart : has element (lock_of l).known ≡ false

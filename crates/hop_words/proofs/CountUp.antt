@@ -60,19 +60,19 @@ module _ (a : About) (l : Known) (k : Lock) (f : Fresh) (rest : List Fresh) (key
   e = f.element
 
   holds : Holds a (segment_in a) (place_words w) (λ n t. w (Stamp n t)) g.eras g.linked g.holder l.cpu k
-  holds = (subst (Each (Holds a (segment_in a) (place_words w) (λ n t. w (Stamp n t)) g.eras g.linked g.holder l.cpu)) (ap (λ (x : Known). x.locks) is ∙ i.lock) (r.locking l.cpu)).0
+  holds = (subst (Each (Holds a (segment_in a) (place_words w) (λ n t. w (Stamp n t)) g.eras g.linked g.holder l.cpu)) (ap (λ (x : Known). x.locks) is ∙ i.filled.lock) (r.locking l.cpu)).0
 
   at_e : HasElement a m e
-  at_e = (holds.inside.0, i.element)
+  at_e = (holds.inside.0, i.filled.element)
 
   hand : g.lanes.fresh l.cpu ≡ f ∷ rest
-  hand = ap (λ (x : Known). x.fresh) is ∙ i.hand
+  hand = ap (λ (x : Known). x.fresh) is ∙ i.filled.hand
 
   was : g.holder m e ≡ Filling l.cpu
-  was = in_hand a _ g.lanes.fresh g.lanes.limbo g.holder l.cpu m f rest r.owned inside at_e i.map hand
+  was = in_hand a _ g.lanes.fresh g.lanes.limbo g.holder l.cpu m f rest r.owned inside at_e i.filled.map hand
 
   none : g.linked m key ≡ None
-  none = holds.due.2 key i.home ∙ (ap (λ x. changed x holds.due.0 key) i.nothing ∙ i.absent holds.due.0 holds.due.1)
+  none = holds.due.2 key i.filled.home ∙ (ap (λ x. changed x holds.due.0 key) i.filled.nothing ∙ i.absent holds.due.0 holds.due.1)
 
   abbrev x : Value
   x = record { bytes = bytes; span = element_span m (shape_at a m) e }
@@ -108,12 +108,12 @@ module _ (a : About) (l : Known) (k : Lock) (f : Fresh) (rest : List Fresh) (key
 
   may : w (KeyCount m) ≡ old → Allowed g.last l.cpu event last'
   may found = (
-    running_is a w g r l is inside i.runs,
+    running_is a w g r l is inside i.filled.runs,
     (
       shape_at a m,
       map_there a w g r l is inside m holds.inside.0,
-      i.key_size,
-      i.size,
+      i.filled.key_size,
+      i.filled.size,
       (
         four _ _ _ _ (let t = i.flags_known in grind (arith, nat_tests))
             (ap (λ (o : Option ℕ). (flags == 1) && is_some o) get_none ∙ and_false (flags == 1))
@@ -148,7 +148,7 @@ module _ (a : About) (l : Known) (k : Lock) (f : Fresh) (rest : List Fresh) (key
   elsewhere = record {
     stamps = λ n t ne. refl;
     same_eras = λ n t ne. put2-other g.eras m s n t era' ne;
-    keys = λ n t q ne home. now_old a l.cpu m e s key g.holder was g.linked n q (λ h u. ne h (sym home ∙ ((λ j. segment_of a.seed (shape_at a (h j)) (u j)) ∙ i.home)));
+    keys = λ n t q ne home. now_old a l.cpu m e s key g.holder was g.linked n q (λ h u. ne h (sym home ∙ ((λ j. segment_of a.seed (shape_at a (h j)) (u j)) ∙ i.filled.home)));
     heads = λ n t ne. refl;
     hops = λ n t b ne. refl;
     slots = λ n t b ne. refl;
@@ -200,7 +200,7 @@ module _ (a : About) (l : Known) (k : Lock) (f : Fresh) (rest : List Fresh) (key
       holds.due.1,
       λ q home. ⊎_elim
           (λ (u : q ≡ key). ap (λ (h : List ℕ → Option ℕ). h q) (put-same g.linked m m (put_key (g.linked m) key (Some e)) refl) ∙ (put_key-same (g.linked m) key q (Some e) u ∙ sym (put_key-same holds.due.0 key q (Some e) u)))
-          (λ (u : q ≢ key). now_old a l.cpu m e s key g.holder was g.linked m q (λ _. u) ∙ (holds.due.2 q home ∙ (ap (λ y. changed y holds.due.0 q) i.nothing ∙ sym (put_key-other holds.due.0 key q (Some e) u))))
+          (λ (u : q ≢ key). now_old a l.cpu m e s key g.holder was g.linked m q (λ _. u) ∙ (holds.due.2 q home ∙ (ap (λ y. changed y holds.due.0 q) i.filled.nothing ∙ sym (put_key-other holds.due.0 key q (Some e) u))))
           (equal_keys q key),
     );
   }
@@ -215,7 +215,7 @@ module _ (a : About) (l : Known) (k : Lock) (f : Fresh) (rest : List Fresh) (key
   worn n t at_s = ⊎_elim
       (λ (h : (n ≡ m) × (t ≡ s)).
       let z = ap (λ (y : Era). y.credit) (put2-same g.eras m s n t era' h.0 h.1) in
-      let old_credit : (g.eras n t).credit ≡ 0 = ap (λ (y : Era). y.credit) (λ j. g.eras (h.0 j) (h.1 j)) ∙ (holds.credit ∙ ap (λ y. owed y) i.nothing) in
+      let old_credit : (g.eras n t).credit ≡ 0 = ap (λ (y : Era). y.credit) (λ j. g.eras (h.0 j) (h.1 j)) ∙ (holds.credit ∙ ap (λ y. owed y) i.filled.nothing) in
       let one : one_if (m == n) + 0 ≡ 1 = is_done_here n (m == n) (eq-eqb m n (sym h.0)) in
       let sum = done_in-append n g.log (entry l.cpu event ∷ []) in
       let b = r.worn n t at_s in
@@ -229,7 +229,7 @@ module _ (a : About) (l : Known) (k : Lock) (f : Fresh) (rest : List Fresh) (key
 
   spelled_is : x ≡ record { bytes = take (shape_at a m).value (bytes_of_words (words_for (shape_at a m).value) (λ j. w (ValueWord m e j))); span = element_span m (shape_at a m) e }
   spelled_is = ap (λ (b : List ℕ). record { bytes = b; span = element_span m (shape_at a m) e })
-      (sym (value_spelled a w f rest m bytes (g.lanes.fresh l.cpu) hand (r.filled l.cpu inside) i.map i.filled i.value i.size i.are_bytes))
+      (sym (value_spelled a w f rest m bytes (g.lanes.fresh l.cpu) hand (r.filled l.cpu inside) i.filled.map i.filled.filled i.filled.value i.filled.size i.filled.are_bytes))
 
   rule' : w (KeyCount m) ≡ old → Rule a (put_at w (KeyCount m) (old + 1)) g'
   rule' found = record {
@@ -240,14 +240,14 @@ module _ (a : About) (l : Known) (k : Lock) (f : Fresh) (rest : List Fresh) (key
     worn = worn;
     runs = runs_quiet a w g r l is inside (λ d. w (RunCount d)) event r.runs refl;
     batched = batched_comes a l.cpu m e s key g.holder was _ _ _ g.lanes.fresh g.lanes.limbo g.last.held g.number g.last.made r.owned r.batched;
-    owned = owned_comes a l.cpu m e s key g.holder was _ g.lanes.fresh g.lanes.limbo f rest r.owned i.map refl hand inside;
-    linked = linked_comes a l.cpu m e s key g.holder was g.linked r.linked none at_e i.home;
+    owned = owned_comes a l.cpu m e s key g.holder was _ g.lanes.fresh g.lanes.limbo f rest r.owned i.filled.map refl hand inside;
+    linked = linked_comes a l.cpu m e s key g.holder was g.linked r.linked none at_e i.filled.home;
     filled = filled_rest a l.cpu m e s key g.holder was _ _ g.lanes.fresh f rest r.filled hand inside;
     segments = segments_step a m s l.cpu (place_words w) (place_words w) _ _ g.eras g'.eras g.linked g'.linked g.holder g'.holder elsewhere r.segments r.linked (λ _. own_segment);
     locking = locking_step a m s l.cpu (place_words w) (place_words w) _ _ g.eras g'.eras g.linked g'.linked g.holder g'.holder elsewhere g.lanes.locks (k' ∷ []) r.locking alone (own_lock, tt);
     reading = readings_step a m s g.eras g'.eras g.lanes.readings upward r.reading;
     held = held_step a m s l.cpu _ _ g.eras g'.eras g.lanes.locks (k' ∷ []) inside r.held (λ odd. (ap (λ (y : Era). y.writer) now_era, (let z = lock_once k' in omega arith)))
-        (λ n t ne. (refl, put2-other g.eras m s n t era' ne, ap (times_lock n t) (sym (ap (λ (z : Known). z.locks) is ∙ i.lock))));
+        (λ n t ne. (refl, put2-other g.eras m s n t era' ne, ap (times_lock n t) (sym (ap (λ (z : Known). z.locks) is ∙ i.filled.lock))));
     valued = valued_comes a l.cpu m e s key g.holder was _ g.last.made g.last.value g.last.held g.number x r.valued spelled_is;
   }
 

@@ -77,6 +77,26 @@ module _ (a : About) (l : Known) (f : Fresh) (rest : List Fresh) (hand : l.fresh
   own_list : Each (IsFilled w) (f ∷ rest)
   own_list = subst (Each (IsFilled w)) mine (r.filled l.cpu inside)
 
+  -- the element in hand with other words, and all else as it was
+  module _ (key value : List ℕ) where
+    abbrev other : Fresh
+    other = record f { key = key; value = value }
+
+    fresh_on : (b m e : ℕ) → b < a.shape.cpus → HasElement a m e → times_fresh m e (put g.lanes.fresh l.cpu (other ∷ rest) b) ≡ one_if (is_filling b (g.holder m e))
+    fresh_on b m e inb l2 = ⊎_elim
+        (λ (t : b ≡ l.cpu). ap (times_fresh m e) (put-same g.lanes.fresh l.cpu b (other ∷ rest) t) ∙ (ap (times_fresh m e) (sym (ap g.lanes.fresh t ∙ mine)) ∙ r.owned.fresh_is b m e inb l2))
+        (λ (ne : b ≢ l.cpu). ap (times_fresh m e) (put-other g.lanes.fresh l.cpu b (other ∷ rest) ne) ∙ r.owned.fresh_is b m e inb l2)
+        (equal b l.cpu)
+
+    filled_on : (w2 : Place → ℕ) → ((d : Fresh) → (d.map ≡ f.map → d.element ≢ f.element) → IsFilled w d → IsFilled w2 d) → IsFilled w2 other
+        → (b : ℕ) → b < a.shape.cpus → Each (IsFilled w2) (put g.lanes.fresh l.cpu (other ∷ rest) b)
+    filled_on w2 keep own b inb = ⊎_elim
+        (λ (t : b ≡ l.cpu). subst (Each (IsFilled w2)) (sym (put-same g.lanes.fresh l.cpu b (other ∷ rest) t))
+        (own, each_by (IsFilled w) (IsFilled w2) rest rest (λ d h. h) (λ d h p. keep d (rest_apart a w g r l.cpu inside f rest mine at_e d h) p) own_list.1))
+        (λ (ne : b ≢ l.cpu). subst (Each (IsFilled w2)) (sym (put-other g.lanes.fresh l.cpu b (other ∷ rest) ne))
+        (each_by (IsFilled w) (IsFilled w2) (g.lanes.fresh b) (g.lanes.fresh b) (λ d h. h) (λ d h p. keep d (other_apart a w g r l.cpu inside f rest mine at_e b d inb ne h) p) (r.filled b inb)))
+        (equal b l.cpu)
+
   key_step : Next a (put_at w (KeyWord f.map f.element (length f.key)) n) g l.cpu (λ l'. l' ≡ filling_key l f rest n)
   key_step = record {
     ghost = g2;
@@ -89,19 +109,11 @@ module _ (a : About) (l : Known) (f : Fresh) (rest : List Fresh) (hand : l.fresh
       batched = r.batched;
       owned = record {
         bits = r.owned.bits;
-        fresh_is = λ b m e inb l2. ⊎_elim
-            (λ (t : b ≡ l.cpu). ap (times_fresh m e) (put-same g.lanes.fresh l.cpu b (f2 ∷ rest) t) ∙ (ap (times_fresh m e) (sym (ap g.lanes.fresh t ∙ mine)) ∙ r.owned.fresh_is b m e inb l2))
-            (λ (ne : b ≢ l.cpu). ap (times_fresh m e) (put-other g.lanes.fresh l.cpu b (f2 ∷ rest) ne) ∙ r.owned.fresh_is b m e inb l2)
-            (equal b l.cpu);
+        fresh_is = fresh_on (f.key ++ n ∷ []) f.value;
         limbo_is = r.owned.limbo_is;
       };
       linked = r.linked;
-      filled = λ b inb. ⊎_elim
-          (λ (t : b ≡ l.cpu). subst (Each (IsFilled w2)) (sym (put-same g.lanes.fresh l.cpu b (f2 ∷ rest) t))
-          ((own_new, own_list.0.1), each_by (IsFilled w) (IsFilled w2) rest rest (λ d h. h) (λ d h p. keep d (rest_apart a w g r l.cpu inside f rest mine at_e d h) p) own_list.1))
-          (λ (ne : b ≢ l.cpu). subst (Each (IsFilled w2)) (sym (put-other g.lanes.fresh l.cpu b (f2 ∷ rest) ne))
-          (each_by (IsFilled w) (IsFilled w2) (g.lanes.fresh b) (g.lanes.fresh b) (λ d h. h) (λ d h p. keep d (other_apart a w g r l.cpu inside f rest mine at_e b d inb ne h) p) (r.filled b inb)))
-          (equal b l.cpu);
+      filled = filled_on (f.key ++ n ∷ []) f.value w2 keep (own_new, own_list.0.1);
       segments = segments_words a (place_words w) (place_words w2) (λ m t. w (Stamp m t)) g.eras g.linked g.holder r.linked (λ m t. refl) (λ m t b. refl) (λ m t b. refl)
           (λ m t d h. (refl, λ k. elsewhere m d k (λ u v. let z : Within t ≡ Filling l.cpu = sym h ∙ ((λ j. g.holder (u j) (v j)) ∙ filling) in cc))) r.segments;
       locking = locking_words a (place_words w) (place_words w2) (λ m t. w (Stamp m t)) g.eras g.linked g.holder g.lanes.locks l.cpu (ap (λ (z : Known). z.locks) is ∙ unlocked) (λ m t. refl) (λ m t b. refl) (λ m t b. refl)
@@ -160,19 +172,11 @@ module _ (a : About) (l : Known) (f : Fresh) (rest : List Fresh) (hand : l.fresh
       batched = r.batched;
       owned = record {
         bits = r.owned.bits;
-        fresh_is = λ b m e inb l2. ⊎_elim
-            (λ (t : b ≡ l.cpu). ap (times_fresh m e) (put-same g.lanes.fresh l.cpu b (f2 ∷ rest) t) ∙ (ap (times_fresh m e) (sym (ap g.lanes.fresh t ∙ mine)) ∙ r.owned.fresh_is b m e inb l2))
-            (λ (ne : b ≢ l.cpu). ap (times_fresh m e) (put-other g.lanes.fresh l.cpu b (f2 ∷ rest) ne) ∙ r.owned.fresh_is b m e inb l2)
-            (equal b l.cpu);
+        fresh_is = fresh_on f.key (f.value ++ n ∷ []);
         limbo_is = r.owned.limbo_is;
       };
       linked = r.linked;
-      filled = λ b inb. ⊎_elim
-          (λ (t : b ≡ l.cpu). subst (Each (IsFilled w2)) (sym (put-same g.lanes.fresh l.cpu b (f2 ∷ rest) t))
-          ((own_list.0.0, own_new), each_by (IsFilled w) (IsFilled w2) rest rest (λ d h. h) (λ d h p. keep d (rest_apart a w g r l.cpu inside f rest mine at_e d h) p) own_list.1))
-          (λ (ne : b ≢ l.cpu). subst (Each (IsFilled w2)) (sym (put-other g.lanes.fresh l.cpu b (f2 ∷ rest) ne))
-          (each_by (IsFilled w) (IsFilled w2) (g.lanes.fresh b) (g.lanes.fresh b) (λ d h. h) (λ d h p. keep d (other_apart a w g r l.cpu inside f rest mine at_e b d inb ne h) p) (r.filled b inb)))
-          (equal b l.cpu);
+      filled = filled_on f.key (f.value ++ n ∷ []) w2 keep (own_list.0.0, own_new);
       segments = r.segments;
       locking = r.locking;
       reading = r.reading;

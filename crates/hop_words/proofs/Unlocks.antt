@@ -196,25 +196,25 @@ module _ (a : About) (l : Known) (k : Lock) (f : Fresh) (rest : List Fresh) (key
   e = f.element
 
   h : Holds a (segment_in a) (place_words w) (λ n t. w (Stamp n t)) g.eras g.linked g.holder l.cpu k
-  h = holds a l k i.lock w g r is
+  h = holds a l k i.filled.lock w g r is
 
   there : g.linked m key ≡ Some o
-  there = h.due.2 key i.home ∙ (ap (λ x. changed x h.due.0 key) i.nothing ∙ i.there h.due.0 h.due.1)
+  there = h.due.2 key i.filled.home ∙ (ap (λ x. changed x h.due.0 key) i.filled.nothing ∙ i.there h.due.0 h.due.1)
 
   at_o : HasElement a m o
   at_o = (r.linked.within m key o there).0
 
   was_o : g.holder m o ≡ Within s
-  was_o = (r.linked.within m key o there).1 ∙ ap Within i.home
+  was_o = (r.linked.within m key o there).1 ∙ ap Within i.filled.home
 
   at_e : HasElement a m e
-  at_e = (h.inside.0, i.element)
+  at_e = (h.inside.0, i.filled.element)
 
   hand : g.lanes.fresh l.cpu ≡ f ∷ rest
-  hand = ap (λ (x : Known). x.fresh) is ∙ i.hand
+  hand = ap (λ (x : Known). x.fresh) is ∙ i.filled.hand
 
   was_e : g.holder m e ≡ Filling l.cpu
-  was_e = in_hand a _ g.lanes.fresh g.lanes.limbo g.holder l.cpu m f rest r.owned inside at_e i.map hand
+  was_e = in_hand a _ g.lanes.fresh g.lanes.limbo g.holder l.cpu m f rest r.owned inside at_e i.filled.map hand
 
   room : m < length (g.lanes.limbo l.cpu)
   room = subst (λ (x : List Limbo). m < length x) (sym (ap (λ (x : Known). x.limbo) is)) i.room
@@ -309,7 +309,7 @@ module _ (a : About) (l : Known) (k : Lock) (f : Fresh) (rest : List Fresh) (key
   effect : Effect a l.cpu k (Puts key e) g.linked linked2 g.holder holder2
   effect = record {
     owes = refl;
-    keys = λ n t q ne home. linked_old n q (λ u v. ne u (sym home ∙ ((λ j. segment_of a.seed (shape_at a (u j)) (v j)) ∙ i.home)));
+    keys = λ n t q ne home. linked_old n q (λ u v. ne u (sym home ∙ ((λ j. segment_of a.seed (shape_at a (u j)) (v j)) ∙ i.filled.home)));
     theirs = λ n t b d apart ne mind. ⊎_elim
         (λ (u : (n ≡ m) × (d ≡ e)). absurd (ne u.0 (sym (subst (Minded b t) (put2-same holder1 m e n d (Within s) u.0 u.1) mind))))
         (λ (nu : n ≡ m → d ≢ e). let mind1 = subst (Minded b t) (put2-other holder1 m e n d (Within s) nu) mind in ⊎_elim
@@ -349,12 +349,12 @@ module _ (a : About) (l : Known) (k : Lock) (f : Fresh) (rest : List Fresh) (key
 
   may : Allowed g.last l.cpu event last'
   may = (
-    running_is a w g r l is inside i.runs,
+    running_is a w g r l is inside i.filled.runs,
     (
       shape_at a m,
       map_there a w g r l is inside m h.inside.0,
-      i.key_size,
-      i.size,
+      i.filled.key_size,
+      i.filled.size,
       (
         four _ _ _ _ (⊎_elim (λ (q : flags ≡ 0). grind (arith, nat_tests)) (λ (q : flags ≡ 2). grind (arith, nat_tests)) i.flags_known)
             (ap (λ (b : Bool). b && is_some (get (g.last.maps m) key)) (ne_eqb flags 1 (λ (q : flags ≡ 1). ⊎_elim (λ (p : flags ≡ 0). omega arith) (λ (p : flags ≡ 2). omega arith) i.flags_known)))
@@ -367,7 +367,7 @@ module _ (a : About) (l : Known) (k : Lock) (f : Fresh) (rest : List Fresh) (key
 
   spelled_is : x ≡ record { bytes = take (shape_at a m).value (bytes_of_words (words_for (shape_at a m).value) (λ j. w (ValueWord m e j))); span = element_span m (shape_at a m) e }
   spelled_is = ap (λ (b : List ℕ). record { bytes = b; span = element_span m (shape_at a m) e })
-      (sym (value_spelled a w f rest m bytes (g.lanes.fresh l.cpu) hand (r.filled l.cpu inside) i.map i.filled i.value i.size i.are_bytes))
+      (sym (value_spelled a w f rest m bytes (g.lanes.fresh l.cpu) hand (r.filled l.cpu inside) i.filled.map i.filled.filled i.filled.value i.filled.size i.filled.are_bytes))
 
   -- the event has taken effect, and the lock is still there
   swap_rule : Rule a w g'
@@ -375,17 +375,17 @@ module _ (a : About) (l : Known) (k : Lock) (f : Fresh) (rest : List Fresh) (key
     shaped = r.shaped;
     logged = logged_event a g.lanes.seen g.log g.last last' l.cpu event r.logged inside may;
     keyed = keyed2;
-    worn = effect_worn a l k i.lock w g r is i.nothing (Puts key e) linked2 holder2 effect event (eq-eqb m m refl);
+    worn = effect_worn a l k i.filled.lock w g r is i.filled.nothing (Puts key e) linked2 holder2 effect event (eq-eqb m m refl);
     runs = runs_quiet a w g r l is inside (λ d. w (RunCount d)) event r.runs refl;
     batched = batched_comes a l.cpu m e s key holder1 was1 _ _ _ g.lanes.fresh limbo1 g.last.held g.number g.last.made owned1
         (batched_goes a l.cpu m o s key g.holder was_o _ _ g.lanes.limbo g.last.held g.number r.batched room inside);
-    owned = owned_comes a l.cpu m e s key holder1 was1 _ g.lanes.fresh limbo1 f rest owned1 i.map refl hand inside;
-    linked = linked_comes a l.cpu m e s key holder1 was1 linked1 linked_1 none1 at_e i.home;
+    owned = owned_comes a l.cpu m e s key holder1 was1 _ g.lanes.fresh limbo1 f rest owned1 i.filled.map refl hand inside;
+    linked = linked_comes a l.cpu m e s key holder1 was1 linked1 linked_1 none1 at_e i.filled.home;
     filled = filled_rest a l.cpu m e s key holder1 was1 _ _ g.lanes.fresh f rest r.filled hand inside;
-    segments = effect_segments a l k i.lock w g r is i.nothing (Puts key e) linked2 holder2 effect;
-    locking = effect_locking a l k i.lock w g r is i.nothing (Puts key e) linked2 holder2 effect;
-    reading = effect_reading a l k i.lock w g r is i.nothing (Puts key e) linked2 holder2 effect;
-    held = effect_held a l k i.lock w g r is i.nothing (Puts key e) linked2 holder2 effect inside;
+    segments = effect_segments a l k i.filled.lock w g r is i.filled.nothing (Puts key e) linked2 holder2 effect;
+    locking = effect_locking a l k i.filled.lock w g r is i.filled.nothing (Puts key e) linked2 holder2 effect;
+    reading = effect_reading a l k i.filled.lock w g r is i.filled.nothing (Puts key e) linked2 holder2 effect;
+    held = effect_held a l k i.filled.lock w g r is i.filled.nothing (Puts key e) linked2 holder2 effect inside;
     valued = valued_comes a l.cpu m e s key holder1 was1 _ g.last.made g.last.value g.last.held g.number x
         (valued_goes a l.cpu m o s key g.holder was_o _ g.last.made g.last.value g.last.held g.number r.valued) spelled_is;
   }

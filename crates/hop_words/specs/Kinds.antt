@@ -41,9 +41,10 @@ IsKeyAbsent a k key = (before : List ℕ → Option ℕ)
     → IsShare a.seed (shape_at a k.map) (segment_in a k.map) (image a k.first) k.map k.segment
     before → before key ≡ None
 
--- ---- count up: a new key, under the lock of its segment, before a word of it is written
-pub record Inserts (a : About) (l : Known) (k : Lock) (f : Fresh) (rest : List Fresh)
-    (key bytes : List ℕ) (flags old : ℕ) : Type 0 where
+-- in a run, under the lock of a key's segment, in which nothing has changed: the lane has an element
+-- in hand that is filled with the value
+pub record HasFilled (a : About) (l : Known) (k : Lock) (f : Fresh) (rest : List Fresh)
+    (key bytes : List ℕ) : Type 0 where
   pub lock : l.locks ≡ k ∷ []
   pub nothing : k.change ≡ Nothing
   pub hand : l.fresh ≡ f ∷ rest
@@ -56,10 +57,15 @@ pub record Inserts (a : About) (l : Known) (k : Lock) (f : Fresh) (rest : List F
   pub filled : length f.value ≡ words_for (shape_at a k.map).value
   pub value : (i : ℕ) → i < words_for (shape_at a k.map).value
       → slice_index f.value i ≡ word_of bytes i
+  pub runs : in_run (events_of l.cpu l.seen) ≡ true
+
+-- ---- count up: a new key, before a word of it is written
+pub record Inserts (a : About) (l : Known) (k : Lock) (f : Fresh) (rest : List Fresh)
+    (key bytes : List ℕ) (flags old : ℕ) : Type 0 where
+  pub filled : HasFilled a l k f rest key bytes
   pub absent : IsKeyAbsent a k key
   pub flags_known : flags ≤ 1
   pub room : old < (shape_at a k.map).max
-  pub runs : in_run (events_of l.cpu l.seen) ≡ true
 
 -- where the count is the one expected, the event takes effect, the element is the map's, and its
 -- words remain to be written
@@ -242,18 +248,7 @@ pub record Removed (a : About) (l : Known) (k : Lock) (key : List ℕ) (e : ℕ)
 -- ---- unlock where a replacement takes effect
 pub record Replaces (a : About) (l : Known) (k : Lock) (f : Fresh) (rest : List Fresh)
     (key bytes : List ℕ) (flags e : ℕ) : Type 0 where
-  pub lock : l.locks ≡ k ∷ []
-  pub nothing : k.change ≡ Nothing
-  pub hand : l.fresh ≡ f ∷ rest
-  pub map : f.map ≡ k.map
-  pub element : f.element < elements (shape_at a k.map)
-  pub home : segment_in a k.map key ≡ k.segment
-  pub key_size : length key ≡ (shape_at a k.map).key
-  pub size : length bytes ≡ (shape_at a k.map).value
-  pub are_bytes : AreBytes bytes
-  pub filled : length f.value ≡ words_for (shape_at a k.map).value
-  pub value : (i : ℕ) → i < words_for (shape_at a k.map).value
-      → slice_index f.value i ≡ word_of bytes i
+  pub filled : HasFilled a l k f rest key bytes
   pub there : LeadsTo a k key e
   pub written : (before : List ℕ → Option ℕ)
       → IsShare a.seed (shape_at a k.map) (segment_in a k.map) (image a k.first) k.map k.segment
@@ -262,7 +257,6 @@ pub record Replaces (a : About) (l : Known) (k : Lock) (f : Fresh) (rest : List 
       (changed (Puts key f.element) before)
   pub flags_known : (flags ≡ 0) ⊎ (flags ≡ 2)
   pub room : k.map < length l.limbo
-  pub runs : in_run (events_of l.cpu l.seen) ≡ true
 
 pub record Replaced (a : About) (l : Known) (k : Lock) (rest : List Fresh) (key bytes : List ℕ)
     (flags e : ℕ) (l' : Known) : Type 0 where
