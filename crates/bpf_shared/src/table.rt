@@ -136,6 +136,10 @@ fn note_runs(notes: &mut [u64], runs: &[Runs])
     requires { length notes.old ≡ length runs.now }
     ensures { notes.new ≡ map count_of runs.now }
 {
+    if let [run] = runs {
+        notes[0] = run.count;
+        return;
+    }
     for (cpu, run) in runs.iter().enumerate() {
         notes[cpu] = run.count;
     }
@@ -149,12 +153,17 @@ fn note_runs_at(notes: &mut [u64], first: usize, runs: &[Runs])
     note_runs(&mut notes[first..first + runs.len()], runs);
 }
 
-/// Puts others in place of as many bytes.
+/// Puts others in place of as many bytes. Keys and values mostly have four or eight, and so many are
+/// copied without a call.
 fn put_part(bytes: &mut [u8], first: usize, others: &[u8])
     requires { first + length others.now ≤ length bytes.old }
     ensures { bytes.new ≡ with_part bytes.old first others.now }
 {
-    bytes[first..first + others.len()].copy_from_slice(others);
+    match others.len() {
+        4 => bytes[first..first + 4].copy_from_slice(others),
+        8 => bytes[first..first + 8].copy_from_slice(others),
+        count => bytes[first..first + count].copy_from_slice(others),
+    }
 }
 
 /// Takes out the notes of one CPU in so many elements.
@@ -314,8 +323,10 @@ impl Table {
         ensures same { self.new ≡ self.old }
         ensures table { IsTable self.old }
     {
+        if self.filled.max(self.passed) < element {
+            self.seen.copy_from_slice(runs);
+        }
         self.passed = element;
-        self.seen.copy_from_slice(runs);
     }
 
     /// The lowest element that is neither in the map nor kept.
