@@ -1,5 +1,6 @@
 -- What the lock tells is what the code of a segment needs.
-use Rattle.std.proofs.Common.{true≢false, ◌≡◌, ℕ, ◌<◌, Bool, true, false, ◌||◌, ◌==◌, List, [], refl, ap, sym, subst, ◌∙◌, inl, inr}
+use Rattle.std.proofs.Common.{true≢false, ◌≡◌, ℕ, ◌<◌, ◌≤◌, Bool, true, false, ◌||◌, ◌==◌, List, [], refl, ap, sym, subst, ◌∙◌, inl, inr}
+use Rattle.atomic_table.specs.Seated.{TableId}
 use Rattle.bpf_shared.specs.Shape.{elements}
 use Rattle.hop_words.specs.declared.known.About.{About}
 use Rattle.hop_words.specs.declared.known.Known.{Known}
@@ -10,7 +11,7 @@ use Rattle.hop_words.specs.Rule.{image, StartsWith}
 use Rattle.hop_words.specs.Kinds.{has, MayLink, LocksSegment, locking, Saw, with_gone}
 use Rattle.hop_words.proofs.Layouts.{one, both}
 use Rattle.hop_words.specs.Locking.{lock_of, hand}
-use Rattle.hop_map.specs.Views.{Ready, knows, in_hand}
+use Rattle.hop_map.specs.Views.{Fits, Ready, knows, in_hand}
 use Rattle.hop_map.specs.Calls.{LockShows}
 use Rattle.bpf_shared.specs.declared.events.Event.TheVariants.{Update, Delete}
 use Rattle.bpf_shared.specs.declared.events.Entry.{Entry}
@@ -69,6 +70,12 @@ pub empty_ready : (a : About) (l : Known) (m s n : ℕ) (at_s : IsSegment a m s)
 empty_ready a l m s n at_s l2 t none = ready_with a l m s n at_s l2 t (λ e k.
     let z : false ≡ true = subst (λ (fs : List Fresh). in_hand fs m e ≡ true) none k in
     absurd (true≢false (sym z)))
+
+-- so with it the words of the segment fit the table
+pub empty_fits : (id standing : TableId) (a : About) (l : Known) (m s n key_size count : ℕ) (at_s : IsSegment a m s) (l2 : Known) (t : LocksSegment a l m s n l2) → l.fresh ≡ [] → standing ≡ id
+    → key_size ≡ (shape_at a m).key → key_size ≤ 64 → count ≡ elements (shape_at a m) → Fits id a standing l2 m s key_size count
+empty_fits id standing a l m s n key_size count at_s l2 t none seated keyed small counted =
+    record { seated = seated; keyed = keyed; small = small; counted = counted; ready = empty_ready a l m s n at_s l2 t none }
 
 module _ (a : About) (l : Known) (m s n : ℕ) (at_s : IsSegment a m s) (key : List ℕ) (element : ℕ) (c : CarriesKey a l m key element) (l2 : Known) (t : LocksSegment a l m s n l2) where
   abbrev y : MapWords

@@ -1,6 +1,6 @@
 //! The steps by which an update or a deletion takes effect: at the key count, or at the unlock.
 ghost use Rattle.std.specs.Prelude.{◌≡◌, ◌<◌, ◌+◌, ◌^◌, false, length, IsTrue, IsFalse};
-ghost use Rattle.bpf_shared.specs.declared.events.Event.TheVariants.{Update, Delete, Lookup};
+ghost use Rattle.bpf_shared.specs.declared.events.Event.TheVariants.{Update, Delete};
 ghost use Rattle.hop_words.specs.Ghost.{IsSegment};
 ghost use Rattle.hop_words.specs.Rule.{owed};
 ghost use Rattle.hop_words.specs.Kinds.{Inserts, Inserted, Removes, Removed, Counts, Misflagged, Told, IsWritten, unlocking, Answers, Answered, LooksUpLocked, LookedUp, Replaces, Replaced};

@@ -1,13 +1,12 @@
 //! Making a store's words, and dealing its CPUs.
-ghost use Rattle.std.specs.Prelude.{◌≡◌, ◌+◌, ◌<◌, ◌^◌, true, [], ◌∷◌, length, IfOk, MatchOption};
+ghost use Rattle.std.specs.Prelude.{◌≡◌, ◌+◌, ◌<◌, ◌^◌, true, length, IfOk};
 ghost use Rattle.bpf_shared.specs.Shape.{IsMapShape};
 ghost use Rattle.hop_words.specs.Layout.{is_place, mem, put_at, size};
 ghost use Rattle.hop_words.specs.Ghost.{shape_at};
 ghost use Rattle.hop_words.specs.Made.{IsPartly};
-ghost use Rattle.hop_words.specs.Opens.{AreNewWords, lanes_from};
+ghost use Rattle.hop_words.specs.Opens.{AreNewWords};
 
 use crate::index::{Index, depth, elements, segments};
-use crate::known::About;
 use crate::place::Place;
 use bpf_shared::MapShape;
 use std::alloc::{AllocError, Global};

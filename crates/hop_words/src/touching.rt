@@ -1,6 +1,6 @@
 //! The steps on the words of a held value: each load, store and atomic operation takes effect at
 //! one.
-ghost use Rattle.std.specs.Prelude.{◌≡◌, ◌≢◌, ◌<◌, ◌^◌};
+ghost use Rattle.std.specs.Prelude.{◌≡◌, ◌≢◌, ◌<◌};
 ghost use Rattle.bpf_base.specs.Bytes.{low_bytes, with_part};
 ghost use Rattle.bpf_base.specs.Atomic.{number_after};
 ghost use Rattle.bpf_shared.specs.Access.{bytes_in};

@@ -6,20 +6,12 @@ use Rattle.hop_words.specs.Locking.{lock_of}
 use Rattle.hop_map.specs.Views.{Locked}
 use Rattle.hop_map.specs.Calls.{LockShows}
 use Rattle.hop_map.specs.Finding.{Looked}
-use Rattle.hop_map.proofs.Locking.{empty_ready, locked_contents}
+use Rattle.hop_map.proofs.Locking.{empty_fits, locked_contents}
 use Rattle.hop_map.proofs.Looking.{looked}
 use Rattle.hop_map.proofs.finding.find_locked.Goals as goal
 
 pub new-words-requires : goal.new-words-requires
-new-words-requires g c = record {
-  fits = record {
-    seated = c.lock_when_free-stamp.ensures.table ∙ c.requires.table;
-    keyed = c.homing-at.ensures.key;
-    small = c.homing-at.ensures.small;
-    counted = c.homing-at.ensures.elements;
-    ready = empty_ready c.args.table.now.about c.args.lane.known c.args.map c.homing-at.result.segment c.lock_when_free-stamp.result c.homing-at.ensures.inside c.lock_when_free-stamp.new.lane.known c.lock_when_free-stamp.ensures.locked c.requires.asks.fresh;
-  };
-}
+new-words-requires g c = record { fits = empty_fits _ _ c.args.table.now.about c.args.lane.known c.args.map c.homing-at.result.segment c.lock_when_free-stamp.result _ _ c.homing-at.ensures.inside c.lock_when_free-stamp.new.lane.known c.lock_when_free-stamp.ensures.locked c.requires.asks.fresh (c.lock_when_free-stamp.ensures.table ∙ c.requires.table) c.homing-at.ensures.key c.homing-at.ensures.small c.homing-at.ensures.elements }
 
 pub find_here-lane-requires-clause-contents : goal.find_here-lane-requires-clause-contents
 find_here-lane-requires-clause-contents g c =

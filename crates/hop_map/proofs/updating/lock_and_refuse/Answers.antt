@@ -2,21 +2,11 @@ use Rattle.std.proofs.Common.{◌≡◌, ℕ, sym, subst, ◌∙◌}
 use Rattle.hop_map.specs.Views.{Locked}
 use Rattle.hop_map.specs.Calls.{LockShows}
 use Rattle.hop_map.specs.Updates.{Wants, Refusal}
-use Rattle.hop_map.proofs.Locking.{empty_ready, locked_contents, locked_wants, refusal_before}
+use Rattle.hop_map.proofs.Locking.{empty_fits, locked_contents, locked_wants, refusal_before}
 use Rattle.hop_map.proofs.updating.lock_and_refuse.Goals as goal
 
 pub new-words-requires : goal.new-words-requires
-new-words-requires g c =
-    let i = c.homing-at.ensures in
-    record {
-      fits = record {
-        seated = c.lock_when_free-stamp.ensures.table ∙ c.requires.table;
-        keyed = i.key;
-        small = i.small;
-        counted = i.elements;
-        ready = empty_ready c.args.table.now.about c.args.lane.known c.args.map c.homing-at.result.segment c.lock_when_free-stamp.result i.inside c.lock_when_free-stamp.new.lane.known c.lock_when_free-stamp.ensures.locked c.requires.empty;
-      };
-    }
+new-words-requires g c = record { fits = empty_fits _ _ c.args.table.now.about c.args.lane.known c.args.map c.homing-at.result.segment c.lock_when_free-stamp.result _ _ c.homing-at.ensures.inside c.lock_when_free-stamp.new.lane.known c.lock_when_free-stamp.ensures.locked c.requires.empty (c.lock_when_free-stamp.ensures.table ∙ c.requires.table) c.homing-at.ensures.key c.homing-at.ensures.small c.homing-at.ensures.elements }
 
 pub refuse-requires-clause-contents : goal.refuse-requires-clause-contents
 refuse-requires-clause-contents g c =
