@@ -230,6 +230,7 @@ impl Table {
     }
 
     /// The element with this key that is in the map, where the key belongs to this home.
+    #[inline(always)]
     fn find_at(&self, home: usize, key: &[u8]) -> Option<usize>
         requires { IsHome self.now key.now home }
         ensures inside { IfSome result (λ i. i < elements self.now.shape) }
@@ -330,6 +331,7 @@ impl Table {
     }
 
     /// The lowest element that is neither in the map nor kept.
+    #[inline(always)]
     fn lowest_free(&self, runs: &[Runs]) -> Option<usize>
         requires { length runs.now ≡ self.now.cpus }
         ensures found { IfSome result (IsLowestFreeRow runs.now self.now) }
@@ -365,6 +367,7 @@ impl Table {
     }
 
     /// A key, which belongs to this home, and a value are put into an element.
+    #[inline(always)]
     #[tactic(auto, using(crate::proofs::Blocks::block_fits, crate::proofs::Blocks::in_block))]
     fn link(&mut self, home: usize, element: usize, key: &[u8], value: &[u8])
         requires room { linked_count self.old < self.old.shape.max }
