@@ -50,7 +50,6 @@ impl Index {
     }
 
     /// The element of a home with a key, where all keys have one size and lie one behind the other.
-    #[inline(always)]
     pub fn find(&self, home: usize, keys: &[u8], size: usize, key: &[u8]) -> Option<usize>
         requires home { home < length self.now.heads }
         requires keys { length keys.now ≡ length self.now.nexts * size }
