@@ -41,8 +41,8 @@ IsKeyAbsent a k key = (before : List ℕ → Option ℕ)
     → IsShare a.seed (shape_at a k.map) (segment_in a k.map) (image a k.first) k.map k.segment
     before → before key ≡ None
 
--- in a run, under the lock of a key's segment, in which nothing has changed: the lane has an element
--- in hand that is filled with the value
+-- in a run, under the lock of a key's segment in which nothing has changed yet, the lane has an
+-- element in hand that is filled with the value
 pub record HasFilled (a : About) (l : Known) (k : Lock) (f : Fresh) (rest : List Fresh)
     (key bytes : List ℕ) : Type 0 where
   pub lock : l.locks ≡ k ∷ []
