@@ -1,6 +1,6 @@
 //! A run file by workers.
 
-ghost use Rattle.std.specs.Prelude.{◌≡◌, IfOk, string_bytes};
+ghost use Rattle.std.specs.Prelude.{IfOk, string_bytes};
 ghost use Rattle.bpf_file.specs.File.{file_of};
 ghost use Rattle.bpf_file.specs.Runnable.{IsRunnable};
 ghost use Rattle.bpf_sched.specs.Refusing.{AreWorkers};

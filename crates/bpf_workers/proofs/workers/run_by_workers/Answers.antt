@@ -1,5 +1,3 @@
-use Rattle.std.proofs.Common.{List, ap, map, subst, sym, ◌∙◌}
-use Rattle.std.specs.Prelude.{string_bytes, String}
 use Rattle.bpf_workers.proofs.Reports.{reported}
 use Rattle.bpf_workers.proofs.workers.run_by_workers.Goals as goal
 
