@@ -1,19 +1,14 @@
 -- What `debug` replies, put together.
-use Rattle.std.proofs.Common.{Ok, Err, ◌≡◌, ℕ, List, [], ◌++◌, length, Bool, refl, sym, ap, subst, ◌∙◌, map, string_bytes}
-use Rattle.std.specs.Prelude.{Vec, All}
-use Rattle.std.specs.declared.alloc.Global.{Global}
-use Rattle.bpf_cpu.specs.Task.{Task, waiting}
-use Rattle.bpf_cpu.specs.Machine.{MachineState, Shows}
-use Rattle.bpf_jobs.specs.Printed.{first_world, any_stopped}
-use Rattle.bpf_file.specs.declared.error.FileError.TheVariants as FileError
-use Rattle.bpf_file.specs.declared.error.Reason.{Reason}
+use Rattle.std.proofs.Common.{Ok, ◌≡◌, ℕ, List, [], length, Bool, sym, subst}
+use Rattle.bpf_cpu.specs.Task.{Task}
+use Rattle.bpf_cpu.specs.Machine.{Shows}
+use Rattle.bpf_jobs.specs.Printed.{any_stopped}
 use Rattle.bpf_file.specs.declared.file.RunFile.{RunFile}
-use Rattle.bpf_file.specs.File.{File, file_of}
+use Rattle.bpf_file.specs.File.{file_of}
 use Rattle.bpf_file.specs.Reading.{IsRunFile}
 use Rattle.bpf_debug.specs.Session.{SessionState, Scene, IsShown}
-use Rattle.bpf_debug.specs.Script.{Answer, RunsScript, answer_of}
+use Rattle.bpf_debug.specs.Script.{Answer, RunsScript}
 use Rattle.bpf_run.specs.Script.{IsCut, IsDebugReply, IsScriptOfFile, first_world_of, scene_of}
-use Rattle.bpf_run.specs.declared.refusal.Refusal.{Refusal}
 use Rattle.bpf_run.specs.declared.refusal.Refusal.TheVariants as refusal
 use Rattle.bpf_run.specs.declared.reply.Reply.{Reply}
 use Rattle.bpf_run.specs.declared.reply.Reply.TheVariants as reply

@@ -1,5 +1,5 @@
 -- What is written of answers, one after the other.
-use Rattle.std.proofs.Common.{◌≡◌, ℕ, ◌+◌, ◌<◌, List, [], ◌∷◌, ◌++◌, length, get_or, take, drop, map, Result, Ok, Err, inl, inr, ◌⊎◌, refl, sym, ap, subst, ◌∙◌, append_assoc, append-nil, arith, String, Global}
+use Rattle.std.proofs.Common.{◌≡◌, ℕ, ◌+◌, ◌<◌, List, [], ◌∷◌, ◌++◌, length, get_or, take, drop, map, Result, Ok, Err, inl, inr, ◌⊎◌, refl, sym, ap, subst, ◌∙◌, append_assoc, append-nil, String, Global}
 use Rattle.std.specs.Prelude.{true, false, is_err, string_bytes, IfOk, OnErr, OnOk}
 use Rattle.std.proofs.lemmas.List.{map_more, take-append-drop}
 use Rattle.std.proofs.Math.Seq.{take-append_seam}

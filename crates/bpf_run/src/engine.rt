@@ -1,6 +1,5 @@
 //! What makes the reply to a text: one thread, or worker threads too.
 
-ghost use Rattle.std.specs.Prelude.{◌≡◌};
 ghost use Rattle.bpf_command.specs.declared.command.Command.{Command};
 ghost use Rattle.bpf_run.specs.Commands.{IsAnswer, IsForOneThread};
 

@@ -1,6 +1,6 @@
 //! Output.
 
-ghost use Rattle.std.specs.Prelude.{◌≡◌, ◌≤◌, ℕ, false, is_err, OnErr, OnOk, length, take};
+ghost use Rattle.std.specs.Prelude.{◌≡◌, ℕ, false, is_err, OnErr, OnOk, take};
 ghost use Rattle.std.specs.Io.KnownBytes.{Appends};
 
 use crate::stream::Sink;

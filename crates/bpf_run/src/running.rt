@@ -1,6 +1,6 @@
 //! `ebpf run`: the jobs of a run file, in rounds on one thread or by workers.
 
-ghost use Rattle.std.specs.Prelude.{◌≡◌, IfErr, IfOk, Ok};
+ghost use Rattle.std.specs.Prelude.{IfErr, IfOk, Ok};
 ghost use Rattle.bpf_file.specs.File.{file_of};
 ghost use Rattle.bpf_file.specs.Reading.{IsRunFile};
 ghost use Rattle.bpf_file.specs.Runnable.{IsRunnable};

@@ -1,4 +1,4 @@
-use Rattle.std.proofs.Common.{◌≡◌, List, ℕ, ap, ◌∙◌}
+use Rattle.std.proofs.Common.{List, ℕ, ap, ◌∙◌}
 use Rattle.std.specs.Prelude.{codes}
 use Rattle.bpf_run.specs.Answer.{IsPrinted, reply_text, status_of}
 use Rattle.bpf_run.specs.declared.reply.Reply.TheVariants as reply

@@ -1,6 +1,3 @@
-use Rattle.std.proofs.Common.{Result, String, Global, sym, subst}
-use Rattle.std.specs.Prelude.{OnErr, codes}
-use Rattle.bpf_run.specs.Answer.{IsPrinted}
 use Rattle.bpf_run.proofs.perform.write_line.Goals as goal
 
 pub returns-in-Err-clause-memory : goal.returns-in-Err-clause-memory
