@@ -1,7 +1,7 @@
 -- Where a key belongs is one of a map's homes.
 use Rattle.std.proofs.Common.{ℕ, ◌*◌, ◌/◌, ◌^◌, ◌<◌, ◌≤◌, List, [], ◌∷◌, arith}
-use Rattle.std.specs.Prelude.{fold}
-use Rattle.bpf_shared.specs.Private.Home.{hash_round, hash_of, home_of}
+use Rattle.std.specs.Prelude.{◌==◌, Bool, true, false, ◌||◌, fold, length}
+use Rattle.bpf_shared.specs.Private.Home.{hash_round, spread_bytes, spread_key, hash_of, home_of}
 use Rattle.bpf_shared.specs.Private.Rows.{Rows, IsTable}
 use Rattle.bpf_shared.specs.Private.Index.{IsHome}
 
@@ -9,9 +9,15 @@ rounds_fit : (hash : ℕ) (key : List ℕ) → hash < 2 ^ 64 → fold hash_round
 rounds_fit hash [] h = h
 rounds_fit hash (byte ∷ bytes) h = rounds_fit (hash_round hash byte) bytes (omega arith)
 
+bytes_fit : (is_number : Bool) (key : List ℕ) → spread_bytes is_number key < 2 ^ 64
+bytes_fit true key = omega arith
+bytes_fit false key = rounds_fit 0 key (omega arith)
+
 hash_fits : (key : List ℕ) → hash_of key < 2 ^ 32
 unfolding hash_of
-hash_fits key = let all : fold hash_round 0 key < 2 ^ 64 = rounds_fit 0 key (omega arith) in omega arith
+hash_fits key =
+    let all : spread_key key < 2 ^ 64 = bytes_fit (length key == 4 || length key == 8) key in
+    omega arith
 
 part_of : (hash homes : ℕ) → hash < 2 ^ 32 → 1 ≤ homes → hash * homes / 2 ^ 32 < homes
 part_of hash homes h some = grind arith
