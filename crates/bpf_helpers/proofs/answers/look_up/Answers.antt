@@ -1,19 +1,18 @@
-use Rattle.std.proofs.Common.{◌≡◌, ℕ, Bool, true, [], ◌∷◌, inl, inr, refl, sym, subst}
+use Rattle.std.proofs.Common.{◌≡◌, ℕ, Bool, true, sym, subst}
 use Rattle.bpf_shared.specs.declared.events.Event.TheVariants.{Lookup}
 use Rattle.bpf_shared.specs.declared.events.Span.{Span}
 use Rattle.bpf_shared.proofs.Chains.{chain_one}
 use Rattle.bpf_helpers.specs.Held.{AreHeld}
 use Rattle.bpf_helpers.proofs.HeldLaws.{held_after, found_elements}
-use Rattle.bpf_helpers.proofs.calls.look_up.Goals as goal
+use Rattle.bpf_helpers.proofs.answers.look_up.Goals as goal
 
 pub returns-clause-call : goal.returns-clause-call
 returns-clause-call g c =
-    let key = c.in-Some.key.now in
     let answer = c.lookup-answer.result in
-    let event = Lookup c.args.map key answer in (
-      event ∷ [],
+    let event = Lookup c.args.map c.args.key.now answer in (
+      answer,
       chain_one g.S.Shared.passes g.S.Shared.serves c.args.cpu c.args.shared.now c.lookup-answer.new.self event c.requires.serves c.lookup-answer.ensures.found c.lookup-answer.ensures.same.1,
-      inr (key, [], answer, inl (c.in-Some.ensures.own, refl), refl, c.take_answer.ensures),
+      c.take_answer.ensures,
     )
 
 pub returns-clause-held : goal.returns-clause-held
