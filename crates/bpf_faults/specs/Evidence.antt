@@ -1,12 +1,15 @@
 -- What is told of a fault: the state from which its step was made.
 use Rattle.std.specs.Prelude.{◌≡◌, ◌⊎◌, ℕ, List, Some, length, slice_get}
+use Rattle.std.specs.List.{Contains}
 use Rattle.bpf_cpu.specs.declared.cpu.Cpu.{Cpu}
+use Rattle.bpf_cpu.specs.declared.outcome.Fault.{Fault}
 use Rattle.bpf_cpu.specs.declared.machine.Turn.TheVariants as turn
 use Rattle.bpf_cpu.specs.declared.outcome.Outcome.TheVariants as outcome
 use Rattle.bpf_cpu.specs.State.{start}
-use Rattle.bpf_cpu.specs.Task.{Task, IsAt, Waiting, InHand}
+use Rattle.bpf_cpu.specs.Task.{Task, IsAt, Waiting, InHand, outcome_at}
 use Rattle.bpf_cpu.specs.Schedule.{World, TakesTurn, RunsSchedule}
-use Rattle.bpf_cpu.specs.Rounds.{below, RunsRounds}
+use Rattle.bpf_cpu.specs.Rounds.{below, RunsRounds, RunsToEnd}
+use Rattle.bpf_cpu.specs.Machine.{MachineState, Shows}
 use Rattle.bpf_faults.specs.declared.evidence.Evidence.{Evidence}
 use Rattle.bpf_faults.specs.declared.evidence.Seen.{Seen}
 
@@ -39,6 +42,22 @@ IsEvidenceIn w evidence =
 -- so it is in a round of the run that begins here
 abbrev pub IsEvidenceOf : World → Evidence → Type 0
 IsEvidenceOf w evidence = (n : ℕ) × (m : World) × RunsRounds n w m × IsEvidenceIn m evidence
+
+-- the job's fault at this pc has its evidence among these
+abbrev pub HasEvidence : List Evidence → (job : ℕ) → Fault → (pc : ℕ) → Type 0
+HasEvidence evidence job fault pc = (one : Evidence) × Contains evidence one
+    × (one.job ≡ job) × (one.fault ≡ fault) × (one.pc ≡ pc)
+
+-- each job that ended in a fault has its evidence
+abbrev pub HaveEvidence : List Task → List Evidence → Type 0
+HaveEvidence jobs evidence = (j : ℕ) (fault : Fault) (pc : ℕ)
+    → outcome_at jobs j ≡ Some (outcome.Fault fault pc) → HasEvidence evidence j fault pc
+
+-- rounds until no CPU has work lead from this world to the machine, and each job that ended there
+-- in a fault has its evidence
+abbrev pub LeavesNoneOut : World → MachineState → List Evidence → Type 0
+LeavesNoneOut w machine evidence =
+    (z : World) × RunsToEnd w z × Shows machine z × HaveEvidence z.jobs evidence
 
 -- the sizes of the contexts of the jobs that wait
 abbrev pub AreSizes : List Task → List ℕ → Type 0

@@ -1,16 +1,18 @@
 //! A run of a machine in rounds, watched for its faults.
 
-ghost use Rattle.std.specs.Prelude.{◌≡◌, ◌<◌, ◌≤◌, All, IfOk, IfSome, OnOk, Some, length, map, slice_get, vec_len};
+ghost use Rattle.std.specs.Prelude.{◌≡◌, ◌≢◌, ◌<◌, ◌≤◌, ℕ, true, false, All, IfOk, IfNone, IfSome, OnOk, Some, [], length, map, slice_get, vec_len};
+ghost use Rattle.bpf_cpu.specs.declared.outcome.Fault.{Fault};
 ghost use Rattle.bpf_cpu.specs.declared.machine.Turn.TheVariants as answers;
 ghost use Rattle.bpf_cpu.specs.declared.outcome.Outcome.TheVariants as outcome;
 ghost use Rattle.bpf_cpu.specs.Task.{waiting};
 ghost use Rattle.bpf_cpu.specs.Schedule.{World};
+ghost use Rattle.bpf_cpu.specs.Questions.{turns_left};
 ghost use Rattle.bpf_cpu.specs.Rounds.{RunsRound};
 ghost use Rattle.bpf_cpu.specs.Machine.{Shows};
 ghost use Rattle.bpf_mem.specs.Limits.{max_context};
 ghost use Rattle.bpf_jobs.specs.Printed.{first_world};
-ghost use Rattle.bpf_faults.specs.Evidence.{AreSizes, IsEvidenceIn, IsEvidenceOf};
-ghost use Rattle.bpf_faults.specs.Private.{AddsEvidence, IsEvidenceOfTurn, SeesNext, Watches};
+ghost use Rattle.bpf_faults.specs.Evidence.{AreSizes, HasEvidence, IsEvidenceIn, IsEvidenceOf, LeavesNoneOut};
+ghost use Rattle.bpf_faults.specs.Private.{AddsEvidence, AreWatched, HasNoWork, HaveOneInHand, IsEvidenceOfTurn, SeesNext, Watches, works};
 
 use crate::evidence::{Evidence, Seen};
 use bpf_cpu::{Fault, Job, Machine, Outcome, Standing, Turn};
@@ -73,8 +75,10 @@ fn see_next(
 
 /// The job, if it is this one, with its fault and the pc, where a turn has ended it in one.
 fn fault_of(turn: Turn, job: Option<usize>) -> Option<(usize, Fault, u32)>
-    ensures { IfSome result (λ f. (job ≡ Some f.0)
+    ensures some { IfSome result (λ f. (job ≡ Some f.0)
         × (turn ≡ answers.Ended f.0 (outcome.Fault f.1 f.2))) }
+    ensures none { IfNone result ((j : ℕ) (fault : Fault) (pc : ℕ) → job ≡ Some j
+        → turn ≢ answers.Ended j (outcome.Fault fault pc)) }
 {
     let Turn::Ended(ended, Outcome::Fault(fault, pc)) = turn else {
         return None;
@@ -95,8 +99,11 @@ fn add_evidence(
     seen: &Seen,
     evidence: &mut Vec<Evidence>,
 ) -> Result<(), AllocError>
-    ensures { OnOk result (AddsEvidence (IsEvidenceOfTurn cpu job turn seen.now)
+    ensures adds { OnOk result (AddsEvidence (IsEvidenceOfTurn cpu job turn seen.now)
         evidence.old.items evidence.new.items) }
+    ensures has { OnOk result ((j : ℕ) (fault : Fault) (pc : ℕ) → job ≡ Some j
+        → turn ≡ answers.Ended j (outcome.Fault fault pc)
+        → HasEvidence evidence.new.items j fault pc) }
 {
     let Some((job, fault, pc)) = fault_of(turn, job) else {
         return Ok(());
@@ -113,7 +120,9 @@ fn add_evidence(
 }
 
 /// Whether a turn was one of a CPU with work.
-fn works(turn: Turn) -> bool {
+fn works(turn: Turn) -> bool
+    ensures { result ≡ works turn }
+{
     !matches!(turn, Turn::Idle)
 }
 
@@ -126,8 +135,10 @@ fn watch_turn(
     seen: &mut Seen,
     evidence: &mut Vec<Evidence>,
 ) -> Result<bool, AllocError>
-    requires { AreSizes machine.old.jobs contexts.now }
-    ensures { OnOk result (Watches machine.old cpu evidence.old.items
+    requires shown { (w : World) × Shows machine.old w }
+    requires sizes { AreSizes machine.old.jobs contexts.now }
+    requires one { HaveOneInHand machine.old.jobs }
+    ensures { IfOk result (λ busy. Watches machine.old cpu evidence.old.items busy
         machine.new evidence.new.items) }
 {
     let job = see_next(alloc, machine, cpu, contexts, seen)?;
@@ -145,11 +156,16 @@ fn watch_round(
     evidence: &mut Vec<Evidence>,
 ) -> Result<bool, AllocError>
     requires shown { (w : World) × Shows machine.old w }
-    requires sizes { AreSizes machine.old.jobs contexts.now }
+    requires watched { AreWatched machine.old.jobs contexts.now evidence.old.items }
     ensures round { OnOk result ((w : World) → Shows machine.old w
         → (z : World) × RunsRound w z × Shows machine.new z
         × AddsEvidence (IsEvidenceIn w) evidence.old.items evidence.new.items) }
-    ensures sizes { OnOk result (AreSizes machine.new.jobs contexts.now) }
+    ensures watched { OnOk result
+        (AreWatched machine.new.jobs contexts.now evidence.new.items) }
+    ensures falls { IfOk result (λ worked. worked ≡ true
+        → turns_left machine.new.jobs < turns_left machine.old.jobs) }
+    ensures idle { IfOk result (λ worked. worked ≡ false
+        → (w : World) → Shows machine.new w → HasNoWork w) }
 {
     let mut worked = false;
     let end = machine.cpus();
@@ -167,19 +183,22 @@ fn watch(
     contexts: &[usize],
 ) -> Result<Vec<Evidence>, AllocError>
     requires shown { (w : World) × Shows machine.old w }
-    requires sizes { AreSizes machine.old.jobs contexts.now }
-    ensures { IfOk result (λ evidence. (w : World) → Shows machine.old w
+    requires watched { AreWatched machine.old.jobs contexts.now [] }
+    ensures shown { IfOk result (λ evidence. (w : World) → Shows machine.old w
         → All (IsEvidenceOf w) evidence.items) }
+    ensures all { IfOk result (λ evidence. (w : World) → Shows machine.old w
+        → LeavesNoneOut w machine.new evidence.items) }
 {
     let mut evidence = Vec::new(alloc);
     let mut seen = Seen::nothing(alloc);
-    'rounds: for _ in 0..u64::MAX {
+    'watching: loop {
         let worked = watch_round(alloc, machine, contexts, &mut seen, &mut evidence)?;
         if !worked {
+            // Nothing is left to do, which is to say that each job has ended.
+            machine.rounds();
             return Ok(evidence);
         }
     }
-    Ok(evidence)
 }
 
 /// Runs jobs in rounds over a new store, until each has ended: the machine that they leave, and of
@@ -194,8 +213,10 @@ pub fn evidence_of(
     requires cpus { All (λ job. job.cpu < shape.cpus) jobs.items }
     requires programs { All (λ job. job.program < vec_len programs) jobs.items }
     requires contexts { All (λ job. vec_len job.context ≤ max_context) jobs.items }
-    ensures { IfOk result (λ r. All
+    ensures shown { IfOk result (λ r. All
         (IsEvidenceOf (first_world shape programs.items (map waiting jobs.items))) r.1.items) }
+    ensures all { IfOk result (λ r. LeavesNoneOut
+        (first_world shape programs.items (map waiting jobs.items)) r.0 r.1.items) }
 {
     let sizes = context_sizes(alloc, &jobs)?;
     let mut machine = make_machine(alloc, shape, programs, jobs)?;

@@ -1,5 +1,9 @@
+use Rattle.bpf_cpu.specs.Questions.{turns_left}
 use Rattle.bpf_faults.proofs.Watching.{IsWatched}
 use Rattle.bpf_faults.proofs.watch.watch.Given as goal
 
-abbrev pub invariant-rounds : goal.invariant-rounds
-invariant-rounds l = IsWatched l.fn.machine l.fn.contexts l.machine l.evidence.items
+abbrev pub invariant-watching : goal.invariant-watching
+invariant-watching l = IsWatched l.fn.machine l.fn.contexts l.machine l.evidence.items
+
+abbrev pub decreases-watching : goal.decreases-watching
+decreases-watching l = turns_left l.machine.jobs
