@@ -30,7 +30,7 @@ use Rattle.bpf_cpu.proofs.Machines.RoundLaws.{cpus_shown}
 use Rattle.bpf_faults.specs.declared.evidence.Evidence.{Evidence}
 use Rattle.bpf_faults.specs.declared.evidence.Seen.{Seen}
 use Rattle.bpf_faults.specs.Evidence.{AreSizes, HasEvidence, HaveEvidence, IsBefore, IsEvidenceIn, IsEvidenceOf, IsSeen, LeavesNoneOut}
-use Rattle.bpf_faults.specs.Private.{AddsEvidence, AreWatched, HasEvidenceOf, HasNoWork, HaveOneInHand, IsDue, IsEvidenceOfTurn, IsEvidenceOn, SeesNext, Watches, works}
+use Rattle.bpf_faults.specs.Private.{AddsEvidence, AreWatched, HasEvidenceOf, HasNoWork, HaveOneInHand, IsToRun, IsEvidenceOfTurn, IsEvidenceOn, SeesNext, Watches, works}
 
 -- ---- sizes of contexts
 pub sizes_of : (jobs : List Job) (sizes : List ℕ) → sizes ≡ map (λ (job : Job). length job.context.items) jobs → AreSizes (map waiting jobs) sizes
@@ -90,11 +90,11 @@ record Moves (jobs : List Task) (c : ℕ) (answer : Turn) (new : List Task) : Ty
   stage : Stage
   listed : slice_get jobs job ≡ Some task
   of : task.cpu ≡ c
-  due : IsDue jobs c job
+  due : IsToRun jobs c job
   answers : IsAnswered job stage answer
   is : new ≡ with_stage jobs job task stage
 
-goes : (w : World) (c j : ℕ) (task : Task) (old : Cpu) (left : ℕ) (answer : Turn) (z : World) → slice_get w.jobs j ≡ Some task → task.cpu ≡ c → IsDue w.jobs c j
+goes : (w : World) (c j : ℕ) (task : Task) (old : Cpu) (left : ℕ) (answer : Turn) (z : World) → slice_get w.jobs j ≡ Some task → task.cpu ≡ c → IsToRun w.jobs c j
     → GoesOn w c j task old left answer z → Moves w.jobs c answer z.jobs
 goes w c j task old left answer z listed of due g = settle g.1 g.7
   where
@@ -121,14 +121,14 @@ lowest jobs c j k a b = elim (cases_order j k) [
   ]
 ]
 
-one_due : (jobs : List Task) (c j k : ℕ) → HaveOneInHand jobs → IsDue jobs c j → IsDue jobs c k → j ≡ k
+one_due : (jobs : List Task) (c j k : ℕ) → HaveOneInHand jobs → IsToRun jobs c j → IsToRun jobs c k → j ≡ k
 one_due jobs c j k one (inl a) (inl b) = one c j k a.0 b.0 a.1 b.1 a.2 b.2 a.3 b.3
 one_due jobs c j k one (inl a) (inr b) = absurd (b.0 j a.0 a.1 a.2 a.3)
 one_due jobs c j k one (inr a) (inl b) = absurd (a.0 k b.0 b.1 b.2 b.3)
 one_due jobs c j k one (inr a) (inr b) = lowest jobs c j k a b
 
 -- none of a CPU without work
-not_due : (jobs : List Task) (c k : ℕ) → IsFree jobs c → NoneWaits jobs c → IsDue jobs c k → ⊥
+not_due : (jobs : List Task) (c k : ℕ) → IsFree jobs c → NoneWaits jobs c → IsToRun jobs c k → ⊥
 not_due jobs c k free none (inl a) = free k a.0 a.1 a.2 a.3
 not_due jobs c k free none (inr a) = none k a.1.0 a.1.1 a.1.2
 
@@ -137,7 +137,7 @@ seen_job : (w : World) (c : ℕ) (answer : Turn) (z : World) (seen : Seen) (job 
     → answer ≡ turn.Ended j end → job ≡ Some j
 seen_job w c answer z seen job j end one takes sees is = at_turn (turned w c answer z takes)
   where
-    due_job : (job : Option ℕ) → SeesNext w.jobs c seen job → (k : ℕ) → IsDue w.jobs c k → job ≡ Some k
+    due_job : (job : Option ℕ) → SeesNext w.jobs c seen job → (k : ℕ) → IsToRun w.jobs c k → job ≡ Some k
     due_job None s k due = absurd (not_due w.jobs c k s.0 s.1 due)
     due_job (Some i) s k due = ap (λ (n : ℕ). Some n) (one_due w.jobs c i k one s.3 due)
 

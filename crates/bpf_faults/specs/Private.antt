@@ -14,14 +14,14 @@ use Rattle.bpf_faults.specs.declared.evidence.Seen.{Seen}
 use Rattle.bpf_faults.specs.Evidence.{AreSizes, HasEvidence, HaveEvidence, IsBefore, IsEvidenceAt, IsSeen}
 
 -- the CPU has this job in hand, or is to begin it
-abbrev pub IsDue : List Task → ℕ → ℕ → Type 0
-IsDue jobs cpu j = HasInHand jobs cpu j ⊎ IsNext jobs cpu j
+abbrev pub IsToRun : List Task → ℕ → ℕ → Type 0
+IsToRun jobs cpu j = HasInHand jobs cpu j ⊎ IsNext jobs cpu j
 
 -- the state before the CPU's next step of this job is seen; or the CPU has no work
 abbrev pub SeesNext : List Task → ℕ → Seen → Option ℕ → Type 0
 SeesNext jobs cpu seen None = IsFree jobs cpu × NoneWaits jobs cpu
 SeesNext jobs cpu seen (Some j) =
-    (state : Cpu) × IsBefore jobs cpu j state × IsSeen state seen × IsDue jobs cpu j
+    (state : Cpu) × IsBefore jobs cpu j state × IsSeen state seen × IsToRun jobs cpu j
 
 -- no CPU has two jobs in hand
 abbrev pub HaveOneInHand : List Task → Type 0
