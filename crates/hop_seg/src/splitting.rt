@@ -2,12 +2,12 @@
 //! at the places that they had, or to its overflow list.
 
 ghost use Rattle.std.specs.Prelude.{◌≡◌, ◌<◌, ◌/◌, ◌%◌, ◌^◌, ℕ, IsTrue, false, Some};
-ghost use Rattle.hop_seg.specs.Words.{Words, Fixed, replace_at, IsKnown};
+ghost use Rattle.hop_seg.specs.Words.{Words, Fixed, IsKnown};
 ghost use Rattle.hop_seg.specs.Segment.{Sound, element_key};
 ghost use Rattle.hop_seg.specs.Content.{IsListed};
 ghost use Rattle.hop_seg.specs.Spots.{IsLink};
 ghost use Rattle.hop_seg.specs.Edits.{item_taken};
-ghost use Rattle.hop_seg.specs.Split.{Front, IsEmpty, BelongsToChild, Remains, Splits, Parted, Hands, front_put, handed};
+ghost use Rattle.hop_seg.specs.Split.{Front, IsEmpty, BelongsToChild, Remains, Splits, Parted, Hands, front_with_hop, front_with_slot, front_put, handed};
 
 use crate::held::{head, next, slot};
 use crate::hop_bits::with_bit;
@@ -42,19 +42,13 @@ pub trait ChildWords: SegWords {
     fn set_child_hop(&mut self, bucket: usize, bits: u32)
         requires { bucket < 64 }
         ensures words { Self.words self.new ≡ Self.words self.old }
-        ensures child { child self.new ≡ record (child self.old) {
-          hop = replace_at (child self.old).hop
-              bucket bits;
-        } }
+        ensures child { child self.new ≡ front_with_hop (child self.old) bucket bits }
         ensures stays { stays_beside self.old self.new };
 
     fn set_child_slot(&mut self, place: usize, item: Option<u32>)
         requires { place < 64 }
         ensures words { Self.words self.new ≡ Self.words self.old }
-        ensures child { child self.new ≡ record (child self.old) {
-          slot = replace_at
-              (child self.old).slot place item;
-        } }
+        ensures child { child self.new ≡ front_with_slot (child self.old) place item }
         ensures stays { stays_beside self.old self.new };
 
     fn child_head(&mut self) -> Option<u32>
