@@ -3,6 +3,7 @@ pub mod Keys
 pub mod Places
 pub mod Written
 pub mod Writings
+pub mod Readings
 pub mod Bridge
 pub mod Counted
 pub mod Puts

@@ -4,7 +4,7 @@ use Rattle.std.proofs.lemmas.Bool.Decides.{nat_tests}
 use Rattle.bpf_shared.specs.Shape.{elements}
 use Rattle.hop_words.specs.declared.known.About.{About}
 use Rattle.hop_words.specs.declared.place.Place.{Place}
-use Rattle.hop_words.specs.declared.place.Place.TheVariants.{Head, Hop, Slot, Link, KeyWord}
+use Rattle.hop_words.specs.declared.place.Place.TheVariants.{KeyWord}
 use Rattle.hop_words.specs.Homes.{AreBytes, segment_of}
 use Rattle.hop_words.specs.Content.{MapWords, item, times, Reached, IsOnList, HopsTo, IsShare, HasKey}
 use Rattle.hop_words.specs.Ghost.{shape_at, segment_in}
@@ -31,25 +31,6 @@ rested_as x y p n is = subst (Rested x) (sym is) (rested_by x p n)
 -- the word that was read last
 pub last_peek : (x y : Peeked) (p : Place) (n : ℕ) → y ≡ peeked x p n → (w : MapWords) → HavePeeks w y → IsPeek w x.map x.segment p n
 last_peek x y p n is w all = (subst (HavePeeks w) is all).0
-
-module _ (x y : Peeked) (n : ℕ) where
-  agreed : (p : Place) → y ≡ peeked x p n → (w : SegWords) → Agreed y w → Agreed (peeked x p n) w
-  agreed p is w g = subst (λ (z : Peeked). Agreed z w) is g
-
-  pub hop_value : (m s b : ℕ) → m ≡ x.map → s ≡ x.segment → y ≡ peeked x (Hop m s b) n → (w : SegWords) → Agreed y w → n % 4294967296 ≡ w.hop b
-  hop_value m s b hm hs is w a = let g = agreed (Hop m s b) is w a in ap (λ (k : ℕ). k % 4294967296) (sym (g.peeks.0 hm hs)) ∙ ap (λ (u : SegWords). u.hop b) (sym g.shown)
-
-  pub slot_value : (m s b : ℕ) → m ≡ x.map → s ≡ x.segment → y ≡ peeked x (Slot m s b) n → (w : SegWords) → Agreed y w → item n ≡ w.slot b
-  slot_value m s b hm hs is w a = let g = agreed (Slot m s b) is w a in ap item (sym (g.peeks.0 hm hs)) ∙ ap (λ (u : SegWords). u.slot b) (sym g.shown)
-
-  pub head_value : (m s : ℕ) → m ≡ x.map → s ≡ x.segment → y ≡ peeked x (Head m s) n → (w : SegWords) → Agreed y w → item n ≡ w.head
-  head_value m s hm hs is w a = let g = agreed (Head m s) is w a in ap item (sym (g.peeks.0 hm hs)) ∙ ap (λ (u : SegWords). u.head) (sym g.shown)
-
-  pub next_value : (m e : ℕ) → m ≡ x.map → y ≡ peeked x (Link m e) n → (w : SegWords) → Agreed y w → IsKnown w.fixed e → item n ≡ w.next e
-  next_value m e hm is w a k =
-      let g = agreed (Link m e) is w a in
-      let at_e = g.known_is e (subst (λ (u : SegWords). IsKnown u.fixed e) g.shown k).0 in
-      ap item (sym (g.peeks.0 hm at_e)) ∙ ap (λ (u : SegWords). u.next e) (sym g.shown)
 
 pub limit_is : (x : Peeked) (w : SegWords) → Agreed x w → w.fixed.limit ≡ elements (shape_at x.about x.map)
 limit_is x w g = ap (λ (u : SegWords). u.fixed.limit) g.shown

@@ -16,7 +16,8 @@ ghost use Rattle.hop_map.specs.Removals.{Dropped};
 ghost use Rattle.hop_map.specs.Updates.{Wants, Offers};
 
 use crate::homing::shape_of;
-use crate::numbers::{item, link_word};
+use crate::numbers::{hop_bits, item, link_word};
+use crate::words::{head_place, hop_place, link_place, slot_place};
 use bpf_shared::MapAnswer;
 use crossbeam_utils::Backoff;
 use hop_seg::{SegReads, SegWords};
@@ -398,40 +399,22 @@ impl<'a> SegReads for LockedWords<'a> {
     }
 
     fn hop(&mut self, bucket: usize) -> u32 {
-        let place = Place::Hop {
-            map: self.map,
-            segment: self.segment,
-            bucket: bucket as u32,
-        };
-        (self.read(place) % (1 << 32)) as u32
+        hop_bits(self.read(hop_place(self.map, self.segment, bucket)))
     }
 
     fn slot(&mut self, place: usize) -> Option<u32> {
-        let place = Place::Slot {
-            map: self.map,
-            segment: self.segment,
-            place: place as u32,
-        };
-        item(self.read(place))
+        item(self.read(slot_place(self.map, self.segment, place)))
     }
 
     fn head(&mut self) -> Option<u32> {
-        let place = Place::Head {
-            map: self.map,
-            segment: self.segment,
-        };
-        item(self.read(place))
+        item(self.read(head_place(self.map, self.segment)))
     }
 
     fn next(&mut self, element: u32) -> Option<u32> {
         if element >= self.elements {
             return None;
         }
-        let place = Place::Link {
-            map: self.map,
-            element,
-        };
-        item(self.read(place))
+        item(self.read(link_place(self.map, element)))
     }
 
     fn has_key(&mut self, element: u32, key: &[u8]) -> bool {
@@ -463,36 +446,18 @@ impl<'a> SegWords for LockedWords<'a> {
     ghost stays_at_rest = { λ x y p. subst (Stays x) (sym p) (itself x) };
 
     fn set_hop(&mut self, bucket: usize, bits: u32) {
-        let place = Place::Hop {
-            map: self.map,
-            segment: self.segment,
-            bucket: bucket as u32,
-        };
-        self.write(place, u64::from(bits));
+        self.write(hop_place(self.map, self.segment, bucket), u64::from(bits));
     }
 
     fn set_slot(&mut self, place: usize, item: Option<u32>) {
-        let place = Place::Slot {
-            map: self.map,
-            segment: self.segment,
-            place: place as u32,
-        };
-        self.write(place, link_word(item));
+        self.write(slot_place(self.map, self.segment, place), link_word(item));
     }
 
     fn set_head(&mut self, element: Option<u32>) {
-        let place = Place::Head {
-            map: self.map,
-            segment: self.segment,
-        };
-        self.write(place, link_word(element));
+        self.write(head_place(self.map, self.segment), link_word(element));
     }
 
     fn set_next(&mut self, element: u32, following: Option<u32>) {
-        let place = Place::Link {
-            map: self.map,
-            element,
-        };
-        self.write(place, link_word(following));
+        self.write(link_place(self.map, element), link_word(following));
     }
 }

@@ -8,7 +8,8 @@ ghost use Rattle.hop_words.specs.Kinds.{FindsByPeeks, StampSeenAgain};
 ghost use Rattle.hop_words.specs.Peeking.{latest_reading, HasReading};
 ghost use Rattle.hop_map.specs.Peeks.{FitsPeeks, peeked, HavePeeks, Spelled, Rested};
 
-use crate::numbers::item;
+use crate::numbers::{hop_bits, item};
+use crate::words::{head_place, hop_place, link_place, slot_place};
 use hop_seg::SegReads;
 use hop_words::{HopTable, Lane, Place, word_of};
 use std::marker::Model;
@@ -92,6 +93,7 @@ impl<'a> PeekedWords<'a> {
     fn read(&mut self, place: Place) -> u64
         requires there { is_place self.old.about.shape place ≡ true }
         ensures peeked { self.new ≡ peeked self.old place result }
+        ensures rests { Rested self.old self.new }
     {
         self.lane.peek(self.table, place)
     }
@@ -139,40 +141,22 @@ impl<'a> SegReads for PeekedWords<'a> {
     }
 
     fn hop(&mut self, bucket: usize) -> u32 {
-        let place = Place::Hop {
-            map: self.map,
-            segment: self.segment,
-            bucket: bucket as u32,
-        };
-        (self.read(place) % (1 << 32)) as u32
+        hop_bits(self.read(hop_place(self.map, self.segment, bucket)))
     }
 
     fn slot(&mut self, place: usize) -> Option<u32> {
-        let place = Place::Slot {
-            map: self.map,
-            segment: self.segment,
-            place: place as u32,
-        };
-        item(self.read(place))
+        item(self.read(slot_place(self.map, self.segment, place)))
     }
 
     fn head(&mut self) -> Option<u32> {
-        let place = Place::Head {
-            map: self.map,
-            segment: self.segment,
-        };
-        item(self.read(place))
+        item(self.read(head_place(self.map, self.segment)))
     }
 
     fn next(&mut self, element: u32) -> Option<u32> {
         if element >= self.elements {
             return None;
         }
-        let place = Place::Link {
-            map: self.map,
-            element,
-        };
-        item(self.read(place))
+        item(self.read(link_place(self.map, element)))
     }
 
     fn has_key(&mut self, element: u32, key: &[u8]) -> bool {

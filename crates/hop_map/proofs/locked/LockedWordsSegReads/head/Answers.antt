@@ -1,19 +1,11 @@
-use Rattle.std.proofs.Common.{ap, sym, subst, ◌∙◌}
-use Rattle.hop_words.specs.declared.place.Place.{Place}
+use Rattle.std.proofs.Common.{ap, subst, ◌∙◌}
 use Rattle.hop_words.specs.declared.place.Place.TheVariants.{Head}
-use Rattle.hop_words.specs.Layout.{mem}
-use Rattle.hop_words.specs.Content.{item}
-use Rattle.hop_words.specs.Locking.{lock_of}
-use Rattle.hop_words.specs.Guarded.{IsGuarded}
-use Rattle.hop_seg.specs.Words.{Words}
-use Rattle.hop_map.specs.Views.{Locked, seen_words}
+use Rattle.hop_map.specs.Views.{Locked, Ready}
+use Rattle.hop_map.proofs.Readings.{head_read}
 use Rattle.hop_map.proofs.locked.LockedWordsSegReads.head.Goals as goal
 
 pub returns-clause-value : goal.returns-clause-value
 returns-clause-value c = λ w a.
-    let i = c.self.inside in
-    let p : Place = Head i.map i.segment in
-    let guarded = subst (λ (x : Locked). IsGuarded x.about x.known p) c.self.view_is (c.self.invariant.ready.map, c.self.invariant.ready.segment) in
-    c.item.ensures ∙ (ap item (c.read.ensures.value guarded)
-    ∙ (ap (λ (x : Locked). item (mem x.about.shape (lock_of x.known).copy p)) (sym c.self.view_is)
-    ∙ (ap (λ (x : Locked). (seen_words x).head) (c.self.view_is ∙ sym c.read.ensures.same) ∙ ap (λ (u : Words). u.head) (sym a))))
+    let ready = subst (λ (x : Locked). Ready x.about x.known x.map x.segment) c.read.view_is c.read.invariant.ready in
+    let at = c.head_place.ensures ∙ ap (λ (x : Locked). Head x.map x.segment) c.read.view_is in
+    c.item.ensures ∙ head_read c.args.self.now c.read-2.new.self c.head_place.result c.read-2.result ready c.read-2.ensures.same c.read-2.ensures.value w a at

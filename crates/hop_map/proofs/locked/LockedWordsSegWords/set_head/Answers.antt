@@ -1,10 +1,15 @@
-use Rattle.std.proofs.Common.{ℕ, ap, sym, ◌∙◌}
+use Rattle.std.proofs.Common.{ap, subst, ◌∙◌}
+use Rattle.hop_words.specs.declared.place.Place.{Place}
 use Rattle.hop_words.specs.declared.place.Place.TheVariants.{Head}
-use Rattle.hop_seg.specs.Words.{with_head}
-use Rattle.hop_map.specs.Views.{Locked, seen_words, written}
+use Rattle.hop_map.specs.Views.{Locked, Ready, written}
 use Rattle.hop_map.proofs.Places.{head_there}
 use Rattle.hop_map.proofs.Writings.{head_set}
 use Rattle.hop_map.proofs.locked.LockedWordsSegWords.set_head.Goals as goal
 
 pub returns-clause-words : goal.returns-clause-words
-returns-clause-words c = head_set (record { table = c.self.inside.table.now.id; about = c.self.inside.table.now.about; known = c.self.inside.lane.known; map = c.self.inside.map; segment = c.self.inside.segment }) c.self.invariant.ready c.args.element c.write.new.self c.link_word.ensures.small (head_there c.self.inside.table.now.about c.self.inside.map c.self.inside.segment c.self.invariant.ready.inside) (c.write.ensures.written ∙ (ap (λ (x : Locked). written x (Head c.self.inside.map c.self.inside.segment) c.link_word.result) (sym c.self.view_is) ∙ ap (λ (n : ℕ). written (record { table = c.self.inside.table.now.id; about = c.self.inside.table.now.about; known = c.self.inside.lane.known; map = c.self.inside.map; segment = c.self.inside.segment }) (Head c.self.inside.map c.self.inside.segment) n) c.link_word.ensures.word)) ∙ ap (λ (x : Locked). with_head (seen_words x) c.args.element) c.self.view_is
+returns-clause-words c =
+    let x = c.args.self.now in
+    let ready = subst (λ (x : Locked). Ready x.about x.known x.map x.segment) c.write.view_is c.write.invariant.ready in
+    let at = c.head_place.ensures ∙ ap (λ (x : Locked). Head x.map x.segment) c.write.view_is in
+    let is = c.write-2.ensures.written ∙ (ap (λ (p : Place). written x p c.link_word.result) at ∙ ap (written x (Head x.map x.segment)) c.link_word.ensures.word) in
+    head_set x ready c.args.element c.write-2.new.self c.link_word.ensures.small (head_there x.about x.map x.segment ready.inside) is
