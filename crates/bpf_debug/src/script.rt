@@ -1,6 +1,6 @@
 //! Scripts: lines that are followed one after the other.
 
-ghost use Rattle.std.specs.Prelude.{◌≡◌, ◌≤◌, IfOk, length, map, string_bytes};
+ghost use Rattle.std.specs.Prelude.{◌≡◌, ◌≤◌, IfOk, OnErr, length, map, string_bytes};
 ghost use Rattle.std.specs.Option.{option_copied};
 ghost use Rattle.bpf_text.specs.Lines.{lines_behind, lines_of};
 ghost use Rattle.bpf_debug.specs.Session.{Scene, IsShown};
@@ -54,9 +54,10 @@ fn follow_lines(
     session: &mut Session,
     script: &[u8],
 ) -> Result<Vec<Answer>, AllocError>
-    ensures { IfOk result (λ answers. (x : Scene) → IsShown session.old x → (y : Scene)
+    ensures answered { IfOk result (λ answers. (x : Scene) → IsShown session.old x → (y : Scene)
         × RunsScript x (lines_of script.now) (map answer_of answers.items) y
         × IsShown session.new y) }
+    ensures unchanged { OnErr result (session.new ≡ session.old) }
 {
     let mut answers = Vec::with_capacity(alloc, count_lines(script))?;
     let mut rest = Some(script);
@@ -73,15 +74,16 @@ fn follow_lines(
 
 /// What the lines of a script are answered, in their order; without a script there are none. The
 /// room for all answers is made before the first line is followed, and want of memory for that is
-/// the only refusal.
+/// the only refusal: the session is then as it was.
 pub fn run_script(
     alloc: Global,
     session: &mut Session,
     script: Option<&[u8]>,
 ) -> Result<Vec<Answer>, AllocError>
-    ensures { IfOk result (λ answers. (x : Scene) → IsShown session.old x → (y : Scene)
+    ensures answered { IfOk result (λ answers. (x : Scene) → IsShown session.old x → (y : Scene)
         × RunsScript x (lines_behind (option_copied script.entry)) (map answer_of answers.items) y
         × IsShown session.new y) }
+    ensures unchanged { OnErr result (session.new ≡ session.old) }
 {
     match script {
         Some(text) => follow_lines(alloc, session, text),

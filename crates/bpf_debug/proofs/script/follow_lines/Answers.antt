@@ -33,8 +33,8 @@ lines-preserved c =
       room = omega (arith, c.in-Ok.ensures.len, c.in-Ok.ensures.capacity, c.lines.invariant.room, count);
     }
 
-pub returns : goal.returns
-returns c =
+pub returns-clause-answered : goal.returns-clause-answered
+returns-clause-answered c =
     let lines = lines_of c.args.script.now in
     let answers = map answer_of c.lines.answers.items in
     far_end lines c.args.session.now c.lines.session answers

@@ -7,13 +7,13 @@ use Rattle.bpf_debug.specs.Session.{Scene, IsShown}
 use Rattle.bpf_debug.specs.Script.{RunsScript, answer_of}
 use Rattle.bpf_debug.proofs.script.run_script.Goals as goal
 
-pub returns-in-Some : goal.returns-in-Some
-returns-in-Some c =
+pub returns-in-Some-clause-answered : goal.returns-in-Some-clause-answered
+returns-in-Some-clause-answered c =
     let P : Option (Bor (List ℕ)) → Type 0 = λ script. IfOk c.follow_lines.result (λ answers. (x : Scene) → IsShown c.args.session.now x → (y : Scene) × RunsScript x (lines_behind (option_copied script)) (map answer_of answers.items) y × IsShown c.follow_lines.new.session y) in
-    subst P (sym c.in-Some.is) c.follow_lines.ensures
+    subst P (sym c.in-Some.is) c.follow_lines.ensures.answered
 
-pub returns-in-None : goal.returns-in-None
-returns-in-None c =
+pub returns-in-None-clause-answered : goal.returns-in-None-clause-answered
+returns-in-None-clause-answered c =
     let A : List (Result (String Global) DebugError) → Option (Bor (List ℕ)) → Type 0 = λ items script. (x : Scene) → IsShown c.args.session.now x → (y : Scene) × RunsScript x (lines_behind (option_copied script)) (map answer_of items) y × IsShown c.args.session.now y in
     let P : Option (Bor (List ℕ)) → Type 0 = A c.new.result.items in
     let Q : List (Result (String Global) DebugError) → Type 0 = λ items. A items None in
