@@ -3,7 +3,7 @@ use Rattle.bpf_shared.proofs.Chains.{chain_nothing}
 use Rattle.bpf_cpu.specs.declared.outcome.Progress.{Progress}
 use Rattle.bpf_cpu.specs.State.{at_pc}
 use Rattle.bpf_helpers.specs.Held.{AreHeld}
-use Rattle.bpf_cpu.specs.Step.{Step}
+use Rattle.bpf_cpu.specs.Private.Execute.{StepsOn}
 use Rattle.bpf_cpu.proofs.TableLaws.{start_short}
 use Rattle.bpf_cpu.proofs.StepsLaws.{IsUnderWay, begun, made_more, made_all, runs_out, chain_keeps}
 use Rattle.bpf_cpu.proofs.cpu.Cpu.make_steps.Goals as goal
@@ -14,9 +14,9 @@ returns-in-Done-clause-steps g c =
     let before = at_pc c.steps.self c.steps.pc in
     let after = at_pc c.step_from.new.self c.step_from.new.pc in
     let events = c.step_from.ensures.step in
-    let P : Progress → Type 0 = λ progress. Step (g.S.Shared.shapes c.steps.shared) c.args.program.now before events.0 progress after in
+    let P : Progress → Type 0 = λ progress. StepsOn (g.S.Shared.shapes c.steps.shared) c.args.program.now before c.steps.left events.0 progress after c.step_from.new.left in
     made_all g.S.Shared.passes g.S.Shared.serves g.met.S.Shared.follows g.S.Shared.shapes c.args.program.now c.args.budget c.args.self.now c.args.shared.now
-    c.steps._step c.steps.shared c.step_from.new.shared before after c.steps-test.true inv.number inv.keeps.shape inv.under_way c.in-Done.outcome
+    c.steps.left c.steps.shared c.step_from.new.shared before after c.step_from.new.left (omega (arith, c.steps-test.true)) inv.number inv.keeps.shape inv.under_way c.in-Done.outcome
     (events.0, events.1, subst P (sym c.in-Done.ensures) events.2)
 
 pub steps-preserved : goal.steps-preserved
@@ -24,7 +24,7 @@ steps-preserved g c =
     let inv = c.steps.invariant in
     record {
       under_way = made_more g.S.Shared.passes g.S.Shared.serves g.met.S.Shared.follows g.S.Shared.shapes c.args.program.now c.args.budget c.args.self.now c.args.shared.now
-          c.steps._step c.steps.shared c.step_from.new.shared (at_pc c.steps.self c.steps.pc) (at_pc c.step_from.new.self c.step_from.new.pc) c.steps-test.true inv.number inv.keeps.shape inv.under_way c.step_from.ensures.ready c.in-On.ensures.step;
+          c.steps.left c.steps.shared c.step_from.new.shared (at_pc c.steps.self c.steps.pc) (at_pc c.step_from.new.self c.step_from.new.pc) c.step_from.new.left (omega (arith, c.steps-test.true)) inv.number inv.keeps.shape inv.under_way c.step_from.ensures.ready c.in-On.ensures.step;
       number = c.step_from.ensures.number ∙ inv.number;
       held =
           let P : ℕ → Type 0 = λ n. AreHeld (g.S.Shared.held c.step_from.new.shared n) c.step_from.new.self.held in
@@ -35,7 +35,7 @@ steps-preserved g c =
 pub returns-clause-steps : goal.returns-clause-steps
 returns-clause-steps g c =
     let made = c.steps.invariant.under_way in
-    let all : c.steps._step ≡ c.args.budget = omega arith in
+    let all : c.steps.left ≡ 0 = omega arith in
     let P : ℕ → Type 0 = λ i. IsUnderWay (g.S.Shared.shapes c.args.shared.now) c.args.program.now c.args.budget c.args.self.now i made.0 (at_pc c.steps.self c.steps.pc) in
     (made.0, made.1, runs_out (g.S.Shared.shapes c.args.shared.now) c.args.program.now c.args.budget c.args.self.now made.0 (at_pc c.steps.self c.steps.pc) (subst P all made.2))
 
