@@ -1,4 +1,4 @@
-.PHONY: run build test check manual bench install uninstall help
+.PHONY: run build test check edits manual bench install uninstall help
 
 PREFIX ?= /usr/local
 
@@ -15,6 +15,7 @@ test: ## The whole gate: every proof, every must-fail edit, every test, then the
 	rt ci
 	install -m 755 crates/bpf_run/out/bpf_run ebpf
 	tests/segments.py --check
+	tests/edits.py --check
 	tests/run ./ebpf
 	tests/memory ./ebpf
 	tests/streams ./ebpf
@@ -26,6 +27,9 @@ manual: ## Look for mistakes in the manual page with mandoc, where that is insta
 
 check: ## The quick check while one writes: what changed is proved again
 	rt all check
+
+edits: ## Try the wrong bodies that the gate doesn't try, which takes hours; tests/edits.py CRATE tries those of one crate
+	tests/edits.py
 
 bench: build ## Time fixed programs beside other interpreters, map calls beside other maps, also by threads and workers, and texts of 16 MiB
 	cd crates/hop_bench && rt run </dev/null

@@ -1,6 +1,6 @@
 -- What follows from the definitions of steps and runs: what a store replies determines a run, and
 -- on one thread a run has one outcome.
-use Rattle.std.specs.Prelude.{◌≡◌, ℕ, ◌≤◌, List, [], ◌∷◌, Some, length, map, slice_get}
+use Rattle.std.specs.Prelude.{◌≡◌, ℕ, ◌≤◌, List, [], ◌∷◌, length, map}
 use Rattle.bpf_shared.specs.declared.events.Event.{Event}
 use Rattle.bpf_shared.specs.declared.events.Event.TheVariants.{Begin, End}
 use Rattle.bpf_shared.specs.declared.shapes.MapShape.{MapShape}
@@ -15,9 +15,6 @@ use Rattle.bpf_cpu.specs.declared.cpu.Cpu.{Cpu}
 use Rattle.bpf_cpu.specs.declared.outcome.Progress.{Progress}
 use Rattle.bpf_cpu.specs.declared.outcome.Outcome.{Outcome}
 use Rattle.bpf_cpu.specs.State.{start}
-use Rattle.bpf_cpu.specs.Task.{Task, Waiting}
-use Rattle.bpf_cpu.specs.Schedule.{World, RunsSchedule}
-use Rattle.bpf_cpu.specs.Rounds.{RunsToEnd}
 use Rattle.bpf_cpu.specs.Step.{Step, MakesSteps, Explains}
 
 -- a step asks the store what the replies before it determine, and leaves the state that all of them
@@ -53,21 +50,3 @@ PlainStepsAreDetermined =
     → MakesSteps shapes program budget old others last other
     → PlainlyLegal s (map (entry c) others) u
     → (events ≡ others) × (end ≡ last) × (new ≡ other) × (t ≡ u)
-
--- ---- schedules
-
--- a plain machine before its first turn: each job waits, with a context of at most 4,096 bytes
-pub record IsFresh (w : World) : Type 0 where
-  pub store : IsSoundStore w.store
-  pub waits : (j : ℕ) (task : Task) → slice_get w.jobs j ≡ Some task
-      → (context : List ℕ) × (task.stage ≡ Waiting context) × (length context ≤ max_context)
-
--- a schedule has one run
-abbrev pub SchedulesAreDetermined : Type 0
-SchedulesAreDetermined =
-    (w y z : World) (schedule : List ℕ) → IsFresh w
-    → RunsSchedule w schedule y → RunsSchedule w schedule z → y ≡ z
-
--- so have rounds: one last machine is left
-abbrev pub RoundsAreDetermined : Type 0
-RoundsAreDetermined = (w y z : World) → IsFresh w → RunsToEnd w y → RunsToEnd w z → y ≡ z

@@ -1,6 +1,6 @@
--- The jobs of a machine, and how far each is.
-use Rattle.std.specs.Prelude.{◌≡◌, ℕ, ◌<◌, List, Option, Some, None, option_and_then, slice_get, slice_set}
-use Rattle.bpf_cpu.specs.declared.machine.job.Job.{Job}
+-- Jobs in a list, and how far each is.
+use Rattle.std.specs.Prelude.{ℕ, List, Option, Some, None, option_and_then, slice_get}
+use Rattle.bpf_cpu.specs.declared.job.Job.{Job}
 use Rattle.bpf_cpu.specs.declared.cpu.Cpu.{Cpu}
 use Rattle.bpf_cpu.specs.declared.outcome.Outcome.{Outcome}
 
@@ -27,27 +27,6 @@ waiting job = record {
   stage = Waiting job.context.items;
 }
 
--- the j-th job is one of this CPU's, in this stage
-pub record IsAt (jobs : List Task) (cpu j : ℕ) (task : Task) (stage : Stage) : Type 0 where
-  pub listed : slice_get jobs j ≡ Some task
-  pub of : task.cpu ≡ cpu
-  pub at : task.stage ≡ stage
-
--- the CPU has no job in hand
-abbrev pub IsFree : List Task → ℕ → Type 0
-IsFree jobs cpu =
-    (j : ℕ) (task : Task) (state : Cpu) (left : ℕ) → IsAt jobs cpu j task (InHand state left) → ⊥
-
--- no job of the CPU waits that has a lower number
-abbrev pub NoneWaitsBelow : List Task → ℕ → ℕ → Type 0
-NoneWaitsBelow jobs cpu j =
-    (k : ℕ) (task : Task) (context : List ℕ) → k < j → IsAt jobs cpu k task (Waiting context) → ⊥
-
--- no job of the CPU waits
-abbrev pub NoneWaits : List Task → ℕ → Type 0
-NoneWaits jobs cpu =
-    (j : ℕ) (task : Task) (context : List ℕ) → IsAt jobs cpu j task (Waiting context) → ⊥
-
 -- how the job has ended, if it has
 abbrev pub ended : Stage → Option Outcome
 ended (Waiting context) = None
@@ -56,7 +35,3 @@ ended (Ended outcome) = Some outcome
 
 abbrev pub outcome_at : List Task → ℕ → Option Outcome
 outcome_at jobs j = option_and_then (λ task. ended task.stage) (slice_get jobs j)
-
--- the jobs with the j-th in another stage
-abbrev pub with_stage : List Task → ℕ → Task → Stage → List Task
-with_stage jobs j task stage = slice_set jobs j (record task { stage = stage })

@@ -1,8 +1,7 @@
 //! What follows from the definitions of steps and runs, as promises to the crates above.
 //!
 //! These functions do nothing: their contracts are the laws, which a proof cites.
-ghost use Rattle.bpf_cpu.specs.Questions.{TurnsFall};
-ghost use Rattle.bpf_cpu.specs.Laws.{NoMapsNoEvents, OutcomesAreDetermined, PlainStepsAreDetermined, RoundsAreDetermined, SchedulesAreDetermined, StepsAreDetermined};
+ghost use Rattle.bpf_cpu.specs.Laws.{NoMapsNoEvents, OutcomesAreDetermined, PlainStepsAreDetermined, StepsAreDetermined};
 
 /// The replies to a step's calls determine its next call, and all of them the state that it leaves.
 pub fn steps_are_determined()
@@ -28,29 +27,6 @@ pub fn no_maps_no_events()
 /// On one thread, over a plain store, the steps of a run have one course.
 pub fn plain_steps_are_determined()
     ensures { PlainStepsAreDetermined }
-{
-    bpf_mem::laws::writes_are_determined();
-    bpf_loader::laws::one_instruction_begins();
-    bpf_shared::laws::calls_have_one_reply();
-}
-
-/// Over a plain store, a schedule has one run.
-pub fn schedules_are_determined()
-    ensures { SchedulesAreDetermined }
-{
-    bpf_mem::laws::writes_are_determined();
-    bpf_loader::laws::one_instruction_begins();
-    bpf_shared::laws::calls_have_one_reply();
-}
-
-/// Each turn with work leaves fewer turns, and one that ends a job one open job less.
-pub fn turns_fall()
-    ensures { TurnsFall }
-{}
-
-/// Over a plain store, rounds leave one machine.
-pub fn rounds_are_determined()
-    ensures { RoundsAreDetermined }
 {
     bpf_mem::laws::writes_are_determined();
     bpf_loader::laws::one_instruction_begins();

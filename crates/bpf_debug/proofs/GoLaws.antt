@@ -6,13 +6,14 @@ use Rattle.std.proofs.lemmas.Bool.{eq-eqb, ne_eqb, cases_lt, cases_order, le-ltb
 use Rattle.bpf_shared.specs.PlainStore.{has_cpu}
 use Rattle.bpf_shared.proofs.Puts.{equal_or_not}
 use Rattle.bpf_cpu.specs.declared.outcome.Outcome.{Outcome}
-use Rattle.bpf_cpu.specs.declared.machine.Turn.{Turn}
-use Rattle.bpf_cpu.specs.declared.machine.Turn.TheVariants as turn
+use Rattle.bpf_machine.specs.declared.machine.Turn.{Turn}
+use Rattle.bpf_machine.specs.declared.machine.Turn.TheVariants as turn
 use Rattle.bpf_cpu.specs.declared.cpu.Cpu.{Cpu}
-use Rattle.bpf_cpu.specs.Task.{Task, IsFree, NoneWaits}
-use Rattle.bpf_cpu.specs.Schedule.{World, Settles, TakesTurn, RunsSchedule}
-use Rattle.bpf_cpu.specs.Machine.{MachineState, Shows}
-use Rattle.bpf_cpu.specs.Questions.{turns_left, open_jobs, Falls, TurnsFall}
+use Rattle.bpf_cpu.specs.Task.{Task}
+use Rattle.bpf_machine.specs.Hands.{IsFree, NoneWaits}
+use Rattle.bpf_machine.specs.Schedule.{World, Settles, TakesTurn, RunsSchedule}
+use Rattle.bpf_machine.specs.Machine.{MachineState, Shows}
+use Rattle.bpf_machine.specs.Questions.{turns_left, open_jobs, Falls, TurnsFall}
 use Rattle.std.specs.Prelude.{Option, Some, None}
 use Rattle.bpf_debug.specs.declared.breakpoint.Breakpoint.{Breakpoint}
 use Rattle.bpf_debug.specs.Answer.{ended_text, stop_line}

@@ -7,10 +7,10 @@ use Rattle.bpf_mem.specs.Laws.{WritesAreDetermined}
 use Rattle.bpf_text.specs.Lines.{fields_of}
 use Rattle.bpf_loader.specs.Laws.{OneInstructionBegins}
 use Rattle.bpf_loader.specs.Loaded.{Loaded}
-use Rattle.bpf_cpu.specs.declared.machine.Turn.{Turn}
+use Rattle.bpf_machine.specs.declared.machine.Turn.{Turn}
 use Rattle.bpf_cpu.specs.Task.{Task}
-use Rattle.bpf_cpu.specs.Schedule.{World, TakesTurn}
-use Rattle.bpf_cpu.proofs.Machines.DeterminedTurns.{IsWorld, one_turn, fresh_world}
+use Rattle.bpf_machine.specs.Schedule.{World, TakesTurn}
+use Rattle.bpf_machine.proofs.DeterminedTurns.{IsWorld, one_turn, fresh_world}
 use Rattle.bpf_debug.specs.declared.breakpoint.Breakpoint.{Breakpoint}
 use Rattle.bpf_debug.specs.declared.error.DebugError.{DebugError}
 use Rattle.bpf_debug.specs.declared.error.DebugError.TheVariants as error

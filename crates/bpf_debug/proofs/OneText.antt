@@ -8,10 +8,11 @@ use Rattle.bpf_shared.specs.Store.{Plain}
 use Rattle.bpf_shared.specs.Listing.{Pair}
 use Rattle.bpf_shared.proofs.OneListing.{one_listing}
 use Rattle.bpf_cpu.specs.declared.cpu.Cpu.{Cpu}
-use Rattle.bpf_cpu.specs.Task.{Task, InHand, IsAt, IsFree}
-use Rattle.bpf_cpu.specs.Work.{IsNext}
-use Rattle.bpf_cpu.proofs.Machines.DeterminedTurns.{IsWorld}
-use Rattle.bpf_cpu.specs.Schedule.{World}
+use Rattle.bpf_cpu.specs.Task.{Task, InHand}
+use Rattle.bpf_machine.specs.Hands.{IsAt, IsFree}
+use Rattle.bpf_machine.specs.Work.{IsNext}
+use Rattle.bpf_machine.proofs.DeterminedTurns.{IsWorld}
+use Rattle.bpf_machine.specs.Schedule.{World}
 use Rattle.bpf_debug.specs.Answer.{IsWhere, IsOff, IsRegisters, in_hand_line, waiting_line, register_lines}
 use Rattle.bpf_debug.specs.Go.{StandsAt}
 use Rattle.bpf_debug.specs.Read.{MayRead, MayNotRead, AreBytesAt, IsUnreadable, ShowsBytes, IsMemoryText, IsNamed, IsMapText, pair_lines}

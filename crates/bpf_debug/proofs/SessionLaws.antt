@@ -5,12 +5,12 @@ use Rattle.std.proofs.lemmas.List.Sums.{sum_by-le}
 use Rattle.std.proofs.Math.Nat.{mul-le-mul_left}
 use Rattle.bpf_loader.specs.Loaded.{Loaded}
 use Rattle.bpf_shared.specs.PlainStore.{has_cpu}
-use Rattle.bpf_cpu.specs.declared.machine.Turn.{Turn}
+use Rattle.bpf_machine.specs.declared.machine.Turn.{Turn}
 use Rattle.bpf_cpu.specs.Task.{Stage, Task, Waiting, InHand, Ended}
-use Rattle.bpf_cpu.specs.Schedule.{World, TakesTurn, RunsSchedule}
-use Rattle.bpf_cpu.specs.Machine.{MachineState, Shows}
-use Rattle.bpf_cpu.specs.Questions.{open_in, open_jobs}
-use Rattle.bpf_cpu.specs.Work.{IsState}
+use Rattle.bpf_machine.specs.Schedule.{World, TakesTurn, RunsSchedule}
+use Rattle.bpf_machine.specs.Machine.{MachineState, Shows}
+use Rattle.bpf_machine.specs.Questions.{open_in, open_jobs}
+use Rattle.bpf_machine.specs.Work.{IsState}
 use Rattle.bpf_cpu.specs.declared.cpu.Cpu.{Cpu}
 use Rattle.bpf_debug.specs.declared.breakpoint.Breakpoint.{Breakpoint}
 use Rattle.bpf_debug.specs.Command.{Order, Break, Step, Go, Registers, Where, Memory, Map, order_of}

@@ -4,24 +4,21 @@ use Rattle.std.specs.Prelude.{Ok, Err, codes, slice_get}
 use Rattle.std.specs.Fmt.{decimal, digits}
 use Rattle.std.proofs.lemmas.Bool.{cases_lt}
 use Rattle.bpf_shared.proofs.Puts.{equal_or_not}
-use Rattle.bpf_shared.specs.declared.events.Event.{Event}
-use Rattle.bpf_shared.specs.declared.events.Event.TheVariants.{Begin, End, Lookup, Update, Delete, Load, Store, Atomic}
+use Rattle.bpf_shared.specs.declared.events.Event.TheVariants.{Begin, End}
 use Rattle.bpf_shared.specs.declared.events.Entry.{Entry}
-use Rattle.bpf_shared.specs.declared.events.MapAnswer.{MapAnswer}
-use Rattle.bpf_shared.specs.declared.events.MapAnswer.TheVariants.{Done, Invalid, Busy, Exists, Absent, Full, NoMemory}
-use Rattle.bpf_shared.specs.declared.shapes.MapShape.{MapShape}
 use Rattle.bpf_shared.specs.Shape.{Shape}
 use Rattle.bpf_shared.specs.Store.{Plain}
-use Rattle.bpf_shared.specs.Events.{after_lookup, Updates, Deletes, Allowed}
+use Rattle.bpf_shared.specs.Choice.{PlainlyAllowed}
 use Rattle.bpf_shared.specs.History.{PlainlyLegal}
+use Rattle.bpf_shared.proofs.Leaving.{event_shape, history_shape}
 use Rattle.bpf_text.specs.Lines.{fields_of}
 use Rattle.bpf_text.specs.Words.{number_tok}
 use Rattle.bpf_loader.specs.Loaded.{Loaded}
 use Rattle.bpf_cpu.specs.declared.cpu.Cpu.{Cpu}
-use Rattle.bpf_cpu.specs.declared.machine.Turn.{Turn}
+use Rattle.bpf_machine.specs.declared.machine.Turn.{Turn}
 use Rattle.bpf_cpu.specs.declared.outcome.Outcome.{Outcome}
 use Rattle.bpf_cpu.specs.Task.{Stage, Task, Waiting, InHand, Ended}
-use Rattle.bpf_cpu.specs.Schedule.{World, Advances, Settles, GoesOn, TakesTurn, RunsSchedule}
+use Rattle.bpf_machine.specs.Schedule.{World, Advances, Settles, GoesOn, TakesTurn, RunsSchedule}
 use Rattle.bpf_debug.specs.Command.{Step, order_of}
 use Rattle.bpf_debug.specs.Answer.{IsWhere, ended_text, in_hand_line, waiting_line, idle_line}
 use Rattle.bpf_debug.specs.Session.{Scene, IsCpu, Obeys}
@@ -30,41 +27,8 @@ use Rattle.bpf_debug.specs.Laws.{step_line, StepsSpellSchedules, ScriptsMakeTurn
 use Rattle.bpf_debug.proofs.SessionLaws.{follows_runs}
 
 -- ---- turns leave the shape of the store
-found_shape : (s t : Plain) (c : ℕ) (o : Option ℕ) → t ≡ after_lookup s c o → t.shape ≡ s.shape
-found_shape s t c None e = ap (λ (p : Plain). p.shape) e
-found_shape s t c (Some v) e = ap (λ (p : Plain). p.shape) e
-
-updated_shape : (s t : Plain) (m : ℕ) (h : MapShape) (key bytes : List ℕ) (flags : ℕ) (answer : MapAnswer) → Updates s m h key bytes flags answer t → t.shape ≡ s.shape
-updated_shape s t m h key bytes flags Done u = ap (λ (p : Plain). p.shape) u.1.2
-updated_shape s t m h key bytes flags Invalid u = ap (λ (p : Plain). p.shape) u.1
-updated_shape s t m h key bytes flags Busy u = ap (λ (p : Plain). p.shape) u.1
-updated_shape s t m h key bytes flags Exists u = ap (λ (p : Plain). p.shape) u.1
-updated_shape s t m h key bytes flags Absent u = ap (λ (p : Plain). p.shape) u.1
-updated_shape s t m h key bytes flags Full u = ap (λ (p : Plain). p.shape) u.1
-updated_shape s t m h key bytes flags NoMemory u = ap (λ (p : Plain). p.shape) u.1
-
-deleted_shape : (s t : Plain) (m : ℕ) (key : List ℕ) (answer : MapAnswer) → Deletes s m key answer t → t.shape ≡ s.shape
-deleted_shape s t m key Done d = ap (λ (p : Plain). p.shape) d.1
-deleted_shape s t m key Busy d = ap (λ (p : Plain). p.shape) d
-deleted_shape s t m key Absent d = ap (λ (p : Plain). p.shape) d.1
-deleted_shape s t m key Invalid d = absurd d
-deleted_shape s t m key Exists d = absurd d
-deleted_shape s t m key Full d = absurd d
-deleted_shape s t m key NoMemory d = absurd d
-
-allowed_shape : (s t : Plain) (c : ℕ) (e : Event) → Allowed s c e t → t.shape ≡ s.shape
-allowed_shape s t c Begin a = ap (λ (p : Plain). p.shape) a.2
-allowed_shape s t c End a = ap (λ (p : Plain). p.shape) a.1
-allowed_shape s t c (Lookup m key answer) a = found_shape s t c _ a.1.2
-allowed_shape s t c (Update m key bytes flags answer) a = updated_shape s t m a.1.0 key bytes flags answer a.1.4
-allowed_shape s t c (Delete m key answer) a = deleted_shape s t m key answer a.1.1
-allowed_shape s t c (Load at size number) a = ap (λ (p : Plain). p.shape) a.1.3
-allowed_shape s t c (Store at size word) a = ap (λ (p : Plain). p.shape) a.1.2
-allowed_shape s t c (Atomic at size op operand expected number) a = ap (λ (p : Plain). p.shape) a.1.3
-
 legal_shape : (s t : Plain) (log : List Entry) → PlainlyLegal s log t → t.shape ≡ s.shape
-legal_shape s t [] legal = ap (λ (p : Plain). p.shape) (sym legal)
-legal_shape s t (e ∷ es) legal = legal_shape legal.0 t es legal.2 ∙ allowed_shape s legal.0 e.cpu e.event legal.1.0
+legal_shape = history_shape PlainlyAllowed (λ s t c e a. a.0)
 
 advances_shape : (program : Loaded) (c : ℕ) (s t : Plain) (old new : Cpu) (n left : ℕ) (end : Option Outcome) → Advances program c s old n end t new left → t.shape ≡ s.shape
 advances_shape program c s t old new zero left end a = ap (λ (p : Plain). p.shape) a.1
@@ -72,7 +36,7 @@ advances_shape program c s t old new (suc n) left end a = legal_shape s t _ a.3
 
 settles_shape : (w z : World) (c j : ℕ) (task : Task) (new : Cpu) (left : ℕ) (end : Option Outcome) (answer : Turn) → Settles w c j task new left end answer z → z.store.shape ≡ w.store.shape
 settles_shape w z c j task new left None answer a = ap (λ (x : World). x.store.shape) a.1
-settles_shape w z c j task new left (Some end) answer a = ap (λ (x : World). x.store.shape) a.3 ∙ allowed_shape w.store a.0 c End a.1.0
+settles_shape w z c j task new left (Some end) answer a = ap (λ (x : World). x.store.shape) a.3 ∙ event_shape w.store a.0 c End a.1.0
 
 goes_shape : (w z : World) (c j : ℕ) (task : Task) (old : Cpu) (left : ℕ) (answer : Turn) → GoesOn w c j task old left answer z → z.store.shape ≡ w.store.shape
 goes_shape w z c j task old left answer g =
@@ -82,7 +46,7 @@ goes_shape w z c j task old left answer g =
 turn_shape : (w z : World) (c : ℕ) (answer : Turn) → TakesTurn w c answer z → z.store.shape ≡ w.store.shape
 turn_shape w z c answer (inl t) = goes_shape w z c t.0 t.1 t.2 t.3 answer t.5
 turn_shape w z c answer (inr (inl (free, t))) =
-    goes_shape (record w { store = t.3 }) z c t.0 t.1 _ _ answer t.7 ∙ allowed_shape w.store t.3 c Begin t.6.0
+    goes_shape (record w { store = t.3 }) z c t.0 t.1 _ _ answer t.7 ∙ event_shape w.store t.3 c Begin t.6.0
 turn_shape w z c answer (inr (inr t)) = ap (λ (x : World). x.store.shape) t.3
 
 -- ---- each CPU stands somewhere

@@ -2,10 +2,11 @@
 use Rattle.std.specs.Prelude.{◌≡◌, ℕ, suc, ◌⊎◌, List, [], ◌∷◌, ◌++◌, length, codes}
 use Rattle.std.specs.Fmt.{decimal}
 use Rattle.bpf_cpu.specs.declared.cpu.Cpu.{Cpu}
-use Rattle.bpf_cpu.specs.declared.machine.Turn.{Turn}
-use Rattle.bpf_cpu.specs.declared.machine.Turn.TheVariants as turn
-use Rattle.bpf_cpu.specs.Task.{Task, InHand, IsAt, IsFree, NoneWaits}
-use Rattle.bpf_cpu.specs.Work.{IsNext}
+use Rattle.bpf_machine.specs.declared.machine.Turn.{Turn}
+use Rattle.bpf_machine.specs.declared.machine.Turn.TheVariants as turn
+use Rattle.bpf_cpu.specs.Task.{Task, InHand}
+use Rattle.bpf_machine.specs.Hands.{IsAt, IsFree, NoneWaits}
+use Rattle.bpf_machine.specs.Work.{IsNext}
 use Rattle.bpf_cpu.specs.Lines.{job_line}
 
 -- ---- where a CPU stands

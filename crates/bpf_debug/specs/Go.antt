@@ -3,10 +3,11 @@
 use Rattle.std.specs.Prelude.{◌≡◌, ℕ, ◌+◌, ◌<◌, ◌≤◌, Bool, true, false, ◌==◌, ◌&&◌, ◌⊎◌, List, [], ◌∷◌, ◌++◌, codes}
 use Rattle.std.specs.List.{list_any}
 use Rattle.bpf_cpu.specs.declared.cpu.Cpu.{Cpu}
-use Rattle.bpf_cpu.specs.declared.machine.Turn.{Turn}
-use Rattle.bpf_cpu.specs.Task.{Task, InHand, IsAt, IsFree, NoneWaits}
-use Rattle.bpf_cpu.specs.Schedule.{World, TakesTurn}
-use Rattle.bpf_cpu.specs.Work.{IsNext}
+use Rattle.bpf_machine.specs.declared.machine.Turn.{Turn}
+use Rattle.bpf_cpu.specs.Task.{Task, InHand}
+use Rattle.bpf_machine.specs.Hands.{IsAt, IsFree, NoneWaits}
+use Rattle.bpf_machine.specs.Schedule.{World, TakesTurn}
+use Rattle.bpf_machine.specs.Work.{IsNext}
 use Rattle.bpf_debug.specs.declared.breakpoint.Breakpoint.{Breakpoint}
 use Rattle.bpf_debug.specs.Answer.{ended_text, stop_line}
 

@@ -2,8 +2,8 @@
 -- `step` commands, questions change nothing, and a script has one list of answers.
 use Rattle.std.specs.Prelude.{◌≡◌, ◌≢◌, ℕ, ◌≤◌, List, [], ◌∷◌, ◌++◌, Option, All, Err, codes, map}
 use Rattle.std.specs.Fmt.{decimal}
-use Rattle.bpf_cpu.specs.Laws.{IsFresh}
-use Rattle.bpf_cpu.specs.Schedule.{World, RunsSchedule}
+use Rattle.bpf_machine.specs.Laws.{IsFresh}
+use Rattle.bpf_machine.specs.Schedule.{World, RunsSchedule}
 use Rattle.bpf_debug.specs.declared.error.DebugError.TheVariants as error
 use Rattle.bpf_debug.specs.Command.{Order, Break, Step, Go, Registers, Where, Memory, Map}
 use Rattle.bpf_debug.specs.Session.{Scene, IsCpu, CarriesOut}

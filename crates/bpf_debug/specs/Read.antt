@@ -9,7 +9,8 @@ use Rattle.bpf_shared.specs.PlainStore.{Contents, StandsFor}
 use Rattle.bpf_shared.specs.Listing.{Pair, pair_at, IsListing, IsByteAt, IsOnlyByteAt}
 use Rattle.bpf_helpers.specs.Held.{reaches}
 use Rattle.bpf_cpu.specs.declared.cpu.Cpu.{Cpu}
-use Rattle.bpf_cpu.specs.Task.{Task, InHand, IsAt}
+use Rattle.bpf_cpu.specs.Task.{Task, InHand}
+use Rattle.bpf_machine.specs.Hands.{IsAt}
 use Rattle.bpf_debug.specs.Answer.{IsOff}
 
 -- ---- bytes

@@ -3,9 +3,9 @@
 use Rattle.std.specs.Prelude.{◌≡◌, ℕ, ◌<◌, false, nat_lt, if◌then◌else◌, List, [], ◌∷◌, ◌++◌, Option, Some, None, length, slice_get}
 use Rattle.bpf_loader.specs.Loaded.{Loaded}
 use Rattle.bpf_loader.specs.Places.{IsStart}
-use Rattle.bpf_cpu.specs.declared.machine.Turn.{Turn}
-use Rattle.bpf_cpu.specs.Schedule.{World, TakesTurn, RunsSchedule}
-use Rattle.bpf_cpu.specs.Machine.{MachineState, Shows}
+use Rattle.bpf_machine.specs.declared.machine.Turn.{Turn}
+use Rattle.bpf_machine.specs.Schedule.{World, TakesTurn, RunsSchedule}
+use Rattle.bpf_machine.specs.Machine.{MachineState, Shows}
 use Rattle.bpf_debug.specs.declared.breakpoint.Breakpoint.{Breakpoint}
 use Rattle.bpf_debug.specs.declared.error.DebugError.{DebugError}
 use Rattle.bpf_debug.specs.declared.error.DebugError.TheVariants as error

@@ -1,16 +1,16 @@
 //! What `go` does: rounds of turns, up to a breakpoint or until no work is left.
 
 ghost use Rattle.std.specs.Prelude.{◌≡◌, ◌+◌, ◌*◌, ◌≤◌, ◌<◌, ◌++◌, ◌⊎◌, ◌↔◌, IsTrue, IfSome, IfNone, List, ℕ, [], true, false, length, slice_index_or, string_bytes, string_capacity, string_len};
-ghost use Rattle.bpf_cpu.specs.Schedule.{World};
-ghost use Rattle.bpf_cpu.specs.Machine.{Shows};
-ghost use Rattle.bpf_cpu.specs.Task.{IsFree, NoneWaits};
-ghost use Rattle.bpf_cpu.specs.Questions.{open_jobs};
+ghost use Rattle.bpf_machine.specs.Schedule.{World};
+ghost use Rattle.bpf_machine.specs.Machine.{Shows};
+ghost use Rattle.bpf_machine.specs.Hands.{IsFree, NoneWaits};
+ghost use Rattle.bpf_machine.specs.Questions.{open_jobs};
 ghost use Rattle.bpf_debug.specs.Go.{Goes, HasWork, AreIdle, IsUp, StandsAt, has_break};
 
 use crate::breakpoint::{Breakpoint, has_break};
 use crate::lines::{put_ended, put_stop};
 use crate::text::put;
-use bpf_cpu::{Machine, Standing};
+use bpf_machine::{Machine, Standing};
 
 /// The first of some CPUs that has work: of those from a number on and below another.
 fn first_at_work(machine: &Machine, from: u8, to: u8) -> Option<u8>
@@ -90,7 +90,7 @@ pub fn go(machine: &mut Machine, breakpoints: &[Breakpoint], out: &mut String)
         × Goes breakpoints.now w 0 [] turns text z × Shows machine.new z
         × (string_bytes out.new ≡ string_bytes out.old ++ text) }
 {
-    bpf_cpu::laws::turns_fall();
+    bpf_machine::laws::turns_fall();
     let mut gone = [false; 256];
     let mut from = 0;
     while let Some(cpu) = next_up(machine, from) {

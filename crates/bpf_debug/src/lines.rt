@@ -2,12 +2,13 @@
 
 ghost use Rattle.std.specs.Prelude.{◌≡◌, ◌+◌, ◌*◌, ◌≤◌, ◌++◌, ◌⊎◌, List, ℕ, length, string_bytes, string_capacity, string_len};
 ghost use Rattle.bpf_cpu.specs.Lines.{fault_code, outcome_text, job_line};
-ghost use Rattle.bpf_cpu.specs.Task.{IsFree};
-ghost use Rattle.bpf_cpu.specs.Questions.{IsStanding};
+ghost use Rattle.bpf_machine.specs.Hands.{IsFree};
+ghost use Rattle.bpf_machine.specs.Questions.{IsStanding};
 ghost use Rattle.bpf_debug.specs.Answer.{cpu_words, in_hand_line, waiting_line, idle_line, register_line, register_lines, break_line, stop_line, ended_text, IsWhere, IsRegisters, IsOff};
 
 use crate::text::{put, put_number};
-use bpf_cpu::{Cpu, Fault, Machine, Outcome, Standing, Turn};
+use bpf_cpu::{Cpu, Fault, Outcome};
+use bpf_machine::{Machine, Standing, Turn};
 
 /// How many bytes a line has at most.
 pub const LINE: usize = 128;

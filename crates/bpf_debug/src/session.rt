@@ -4,8 +4,8 @@ ghost use Rattle.std.specs.Prelude.{◌≡◌, ℕ, List, ◌<◌, ◌↔◌, Is
 ghost use Rattle.bpf_text.specs.Lines.{fields_of};
 ghost use Rattle.bpf_loader.specs.Loaded.{Loaded};
 ghost use Rattle.bpf_shared.specs.PlainStore.{has_cpu};
-ghost use Rattle.bpf_cpu.specs.Machine.{Shows};
-ghost use Rattle.bpf_cpu.specs.Schedule.{World, TakesTurn};
+ghost use Rattle.bpf_machine.specs.Machine.{Shows};
+ghost use Rattle.bpf_machine.specs.Schedule.{World, TakesTurn};
 ghost use Rattle.bpf_debug.specs.Answer.{IsWhere, ended_text};
 ghost use Rattle.bpf_debug.specs.Command.{Order, command_order};
 ghost use Rattle.bpf_debug.specs.Session.{IsPc};
@@ -17,8 +17,8 @@ use crate::going;
 use crate::lines::{LINE, put_break, put_ended, put_off, put_registers, put_where};
 use crate::maps::{map_lines, map_named};
 use crate::reading::bytes_line;
-use bpf_cpu::{Machine, Turn};
 use bpf_loader::Program;
+use bpf_machine::{Machine, Turn};
 use bpf_text::lines;
 use std::alloc::Global;
 use std::marker::Model;
@@ -34,8 +34,8 @@ pub struct Session {
 
 impl Model for Session {
     ghost use Rattle.std.specs.Prelude.{map, string_bytes};
-    ghost use Rattle.bpf_cpu.specs.Schedule.{World};
-    ghost use Rattle.bpf_cpu.specs.Machine.{Shows};
+    ghost use Rattle.bpf_machine.specs.Schedule.{World};
+    ghost use Rattle.bpf_machine.specs.Machine.{Shows};
     ghost use Rattle.bpf_debug.specs.Session.{SessionState};
 
     ghost Value = { SessionState };
@@ -90,9 +90,9 @@ fn take_turn(machine: &mut Machine, cpu: u8, out: &mut String)
 }
 
 impl Session {
-    ghost use Rattle.bpf_cpu.specs.Schedule.{World};
-    ghost use Rattle.bpf_cpu.specs.Machine.{Shows};
-    ghost use Rattle.bpf_cpu.specs.Task.{IsFree};
+    ghost use Rattle.bpf_machine.specs.Schedule.{World};
+    ghost use Rattle.bpf_machine.specs.Machine.{Shows};
+    ghost use Rattle.bpf_machine.specs.Hands.{IsFree};
     ghost use Rattle.bpf_debug.specs.Session.{IsNoCpu, Leaves, LeavesLine, RefusesHere, RefusesLine};
 
     /// A session without breakpoints, with the maps' names by their numbers.

@@ -9,24 +9,25 @@ use Rattle.bpf_base.proofs.Lists.{slice_get-set_known, slice_get-set_other}
 use Rattle.bpf_shared.proofs.Puts.{equal_or_not}
 use Rattle.bpf_shared.specs.PlainStore.{has_cpu}
 use Rattle.bpf_cpu.specs.declared.cpu.Cpu.{Cpu}
-use Rattle.bpf_cpu.specs.declared.machine.Standing.{Standing}
-use Rattle.bpf_cpu.specs.declared.machine.Standing.TheVariants as standing
-use Rattle.bpf_cpu.specs.declared.machine.Turn.{Turn}
-use Rattle.bpf_cpu.specs.declared.machine.Turn.TheVariants as turn
-use Rattle.bpf_cpu.specs.declared.machine.job.Job.{Job}
+use Rattle.bpf_machine.specs.declared.machine.Standing.{Standing}
+use Rattle.bpf_machine.specs.declared.machine.Standing.TheVariants as standing
+use Rattle.bpf_machine.specs.declared.machine.Turn.{Turn}
+use Rattle.bpf_machine.specs.declared.machine.Turn.TheVariants as turn
+use Rattle.bpf_cpu.specs.declared.job.Job.{Job}
 use Rattle.bpf_cpu.specs.declared.outcome.Fault.{Fault}
 use Rattle.bpf_cpu.specs.declared.outcome.Outcome.{Outcome}
 use Rattle.bpf_cpu.specs.declared.outcome.Outcome.TheVariants as outcome
 use Rattle.bpf_cpu.specs.State.{start}
-use Rattle.bpf_cpu.specs.Work.{IsNext}
-use Rattle.bpf_cpu.specs.Questions.{IsStanding, Falls, turns_left}
-use Rattle.bpf_cpu.specs.Task.{Stage, Task, Waiting, InHand, Ended, IsFree, NoneWaits, ended, outcome_at, with_stage, waiting}
-use Rattle.bpf_cpu.specs.Schedule.{World, Settles, GoesOn, TakesTurn, RunsSchedule}
-use Rattle.bpf_cpu.specs.Rounds.{below, HaveEnded, RunsRound, RunsRounds, RunsToEnd}
-use Rattle.bpf_cpu.specs.Machine.{MachineState, Shows}
-use Rattle.bpf_cpu.proofs.Machines.FallLaws.{turns_fall}
-use Rattle.bpf_cpu.proofs.Machines.TurnLaws.{runs_more}
-use Rattle.bpf_cpu.proofs.Machines.RoundLaws.{cpus_shown}
+use Rattle.bpf_machine.specs.Work.{IsNext}
+use Rattle.bpf_machine.specs.Questions.{IsStanding, Falls, turns_left}
+use Rattle.bpf_cpu.specs.Task.{Stage, Task, Waiting, InHand, Ended, ended, outcome_at, waiting}
+use Rattle.bpf_machine.specs.Hands.{IsFree, NoneWaits, with_stage}
+use Rattle.bpf_machine.specs.Schedule.{World, Settles, GoesOn, TakesTurn, RunsSchedule}
+use Rattle.bpf_machine.specs.Rounds.{below, HaveEnded, RunsRound, RunsRounds, RunsToEnd}
+use Rattle.bpf_machine.specs.Machine.{MachineState, Shows}
+use Rattle.bpf_machine.proofs.FallLaws.{turns_fall}
+use Rattle.bpf_machine.proofs.TurnLaws.{runs_more}
+use Rattle.bpf_machine.proofs.RoundLaws.{cpus_shown}
 use Rattle.bpf_faults.specs.declared.evidence.Evidence.{Evidence}
 use Rattle.bpf_faults.specs.declared.evidence.Seen.{Seen}
 use Rattle.bpf_faults.specs.Evidence.{AreSizes, HasEvidence, HaveEvidence, IsBefore, IsEvidenceIn, IsEvidenceOf, IsSeen, LeavesNoneOut}

@@ -3,13 +3,14 @@ use Rattle.std.specs.Prelude.{◌≡◌, ◌⊎◌, ℕ, List, Some, length, sli
 use Rattle.std.specs.List.{Contains}
 use Rattle.bpf_cpu.specs.declared.cpu.Cpu.{Cpu}
 use Rattle.bpf_cpu.specs.declared.outcome.Fault.{Fault}
-use Rattle.bpf_cpu.specs.declared.machine.Turn.TheVariants as turn
+use Rattle.bpf_machine.specs.declared.machine.Turn.TheVariants as turn
 use Rattle.bpf_cpu.specs.declared.outcome.Outcome.TheVariants as outcome
 use Rattle.bpf_cpu.specs.State.{start}
-use Rattle.bpf_cpu.specs.Task.{Task, IsAt, Waiting, InHand, outcome_at}
-use Rattle.bpf_cpu.specs.Schedule.{World, TakesTurn, RunsSchedule}
-use Rattle.bpf_cpu.specs.Rounds.{below, RunsRounds, RunsToEnd}
-use Rattle.bpf_cpu.specs.Machine.{MachineState, Shows}
+use Rattle.bpf_cpu.specs.Task.{Task, Waiting, InHand, outcome_at}
+use Rattle.bpf_machine.specs.Hands.{IsAt}
+use Rattle.bpf_machine.specs.Schedule.{World, TakesTurn, RunsSchedule}
+use Rattle.bpf_machine.specs.Rounds.{below, RunsRounds, RunsToEnd}
+use Rattle.bpf_machine.specs.Machine.{MachineState, Shows}
 use Rattle.bpf_faults.specs.declared.evidence.Evidence.{Evidence}
 use Rattle.bpf_faults.specs.declared.evidence.Seen.{Seen}
 

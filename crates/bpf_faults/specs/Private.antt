@@ -2,13 +2,14 @@
 use Rattle.std.specs.Prelude.{◌≡◌, ◌⊎◌, ◌<◌, ◌++◌, ℕ, Bool, true, false, List, Option, Some, None, All}
 use Rattle.bpf_cpu.specs.declared.cpu.Cpu.{Cpu}
 use Rattle.bpf_cpu.specs.declared.outcome.Fault.{Fault}
-use Rattle.bpf_cpu.specs.declared.machine.Turn.{Turn}
-use Rattle.bpf_cpu.specs.declared.machine.Turn.TheVariants as turn
+use Rattle.bpf_machine.specs.declared.machine.Turn.{Turn}
+use Rattle.bpf_machine.specs.declared.machine.Turn.TheVariants as turn
 use Rattle.bpf_cpu.specs.declared.outcome.Outcome.TheVariants as outcome
-use Rattle.bpf_cpu.specs.Task.{Task, IsAt, IsFree, NoneWaits, InHand}
-use Rattle.bpf_cpu.specs.Work.{HasInHand, IsNext}
-use Rattle.bpf_cpu.specs.Schedule.{World, TakesTurn}
-use Rattle.bpf_cpu.specs.Machine.{MachineState, Shows}
+use Rattle.bpf_cpu.specs.Task.{Task, InHand}
+use Rattle.bpf_machine.specs.Hands.{IsAt, IsFree, NoneWaits}
+use Rattle.bpf_machine.specs.Work.{HasInHand, IsNext}
+use Rattle.bpf_machine.specs.Schedule.{World, TakesTurn}
+use Rattle.bpf_machine.specs.Machine.{MachineState, Shows}
 use Rattle.bpf_faults.specs.declared.evidence.Evidence.{Evidence}
 use Rattle.bpf_faults.specs.declared.evidence.Seen.{Seen}
 use Rattle.bpf_faults.specs.Evidence.{AreSizes, HasEvidence, HaveEvidence, IsBefore, IsEvidenceAt, IsSeen}

@@ -2,22 +2,23 @@
 
 ghost use Rattle.std.specs.Prelude.{◌≡◌, ◌≢◌, ◌<◌, ◌≤◌, ℕ, true, false, All, IfOk, IfNone, IfSome, OnOk, Some, [], length, map, slice_get, vec_len};
 ghost use Rattle.bpf_cpu.specs.declared.outcome.Fault.{Fault};
-ghost use Rattle.bpf_cpu.specs.declared.machine.Turn.TheVariants as answers;
+ghost use Rattle.bpf_machine.specs.declared.machine.Turn.TheVariants as answers;
 ghost use Rattle.bpf_cpu.specs.declared.outcome.Outcome.TheVariants as outcome;
 ghost use Rattle.bpf_cpu.specs.Task.{waiting};
-ghost use Rattle.bpf_cpu.specs.Schedule.{World};
-ghost use Rattle.bpf_cpu.specs.Questions.{turns_left};
-ghost use Rattle.bpf_cpu.specs.Rounds.{RunsRound};
-ghost use Rattle.bpf_cpu.specs.Machine.{Shows};
+ghost use Rattle.bpf_machine.specs.Schedule.{World};
+ghost use Rattle.bpf_machine.specs.Questions.{turns_left};
+ghost use Rattle.bpf_machine.specs.Rounds.{RunsRound};
+ghost use Rattle.bpf_machine.specs.Machine.{Shows};
 ghost use Rattle.bpf_mem.specs.Limits.{max_context};
 ghost use Rattle.bpf_jobs.specs.Printed.{first_world};
 ghost use Rattle.bpf_faults.specs.Evidence.{AreSizes, HasEvidence, IsEvidenceIn, IsEvidenceOf, LeavesNoneOut};
 ghost use Rattle.bpf_faults.specs.Private.{AddsEvidence, AreWatched, HasNoWork, HaveOneInHand, IsEvidenceOfTurn, SeesNext, Watches, works};
 
 use crate::evidence::{Evidence, Seen};
-use bpf_cpu::{Fault, Job, Machine, Outcome, Standing, Turn};
+use bpf_cpu::{Fault, Job, Outcome};
 use bpf_jobs::make_machine;
 use bpf_loader::Program;
+use bpf_machine::{Machine, Standing, Turn};
 use bpf_shared::StoreShape;
 use std::alloc::{AllocError, Global};
 

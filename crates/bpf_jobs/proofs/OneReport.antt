@@ -3,11 +3,11 @@ use Rattle.std.proofs.Common.{◌≡◌, ℕ, Bool, true, false, List, ◌++◌,
 use Rattle.bpf_shared.specs.Store.{Plain}
 use Rattle.bpf_shared.specs.Sound.{IsSoundStore}
 use Rattle.bpf_shared.specs.PlainStore.{StandsFor}
-use Rattle.bpf_cpu.specs.Machine.{MachineState, Shows}
-use Rattle.bpf_cpu.specs.Rounds.{RunsToEnd}
+use Rattle.bpf_machine.specs.Machine.{MachineState, Shows}
+use Rattle.bpf_machine.specs.Rounds.{RunsToEnd}
 use Rattle.bpf_cpu.specs.Task.{Task}
-use Rattle.bpf_cpu.specs.Laws.{RoundsAreDetermined}
-use Rattle.bpf_cpu.specs.Schedule.{World}
+use Rattle.bpf_machine.specs.Laws.{RoundsAreDetermined}
+use Rattle.bpf_machine.specs.Schedule.{World}
 use Rattle.bpf_jobs.specs.Printed.{job_lines, AreMapsAsked, Tells, IsReport}
 use Rattle.bpf_jobs.specs.Laws.{ReportsAreDetermined}
 use Rattle.bpf_jobs.proofs.OneListing.{one_map_text}

@@ -1,7 +1,7 @@
 -- What follows from the definition of what is printed.
 use Rattle.std.specs.Prelude.{◌≡◌, ℕ, Bool, List}
-use Rattle.bpf_cpu.specs.Laws.{IsFresh}
-use Rattle.bpf_cpu.specs.Schedule.{World}
+use Rattle.bpf_machine.specs.Laws.{IsFresh}
+use Rattle.bpf_machine.specs.Schedule.{World}
 use Rattle.bpf_jobs.specs.Printed.{IsReport}
 
 -- of jobs that all wait one text is told, and whether one of them stops

@@ -9,8 +9,8 @@ use Rattle.bpf_cpu.specs.declared.outcome.Outcome.{Outcome}
 use Rattle.bpf_cpu.specs.declared.outcome.Outcome.TheVariants as outcome
 use Rattle.bpf_cpu.specs.Lines.{job_line}
 use Rattle.bpf_cpu.specs.Task.{Task, ended, outcome_at}
-use Rattle.bpf_cpu.specs.Schedule.{World}
-use Rattle.bpf_cpu.specs.Rounds.{RunsToEnd}
+use Rattle.bpf_machine.specs.Schedule.{World}
+use Rattle.bpf_machine.specs.Rounds.{RunsToEnd}
 
 -- ---- jobs
 abbrev pub end_line : ℕ → Task → Option Outcome → List ℕ

@@ -7,5 +7,5 @@ ghost use Rattle.bpf_jobs.specs.Laws.{ReportsAreDetermined};
 pub fn reports_are_determined()
     ensures { ReportsAreDetermined }
 {
-    bpf_cpu::laws::rounds_are_determined();
+    bpf_machine::laws::rounds_are_determined();
 }

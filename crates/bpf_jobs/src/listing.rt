@@ -5,7 +5,7 @@ ghost use Rattle.bpf_cpu.specs.Task.{outcome_at};
 ghost use Rattle.bpf_jobs.specs.Printed.{any_stopped, is_stop, job_lines, task_line};
 
 use crate::line::{is_stop, push_job};
-use bpf_cpu::Machine;
+use bpf_machine::Machine;
 use std::alloc::{AllocError, Global};
 
 /// Puts the line of a job behind the text, where the job has ended.

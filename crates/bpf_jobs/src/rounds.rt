@@ -6,13 +6,14 @@ ghost use Rattle.bpf_shared.specs.Store.{Plain};
 ghost use Rattle.bpf_shared.specs.Sound.{IsSoundStore};
 ghost use Rattle.bpf_shared.specs.PlainStore.{StandsFor};
 ghost use Rattle.bpf_cpu.specs.Task.{waiting};
-ghost use Rattle.bpf_cpu.specs.Machine.{Shows};
+ghost use Rattle.bpf_machine.specs.Machine.{Shows};
 ghost use Rattle.bpf_jobs.specs.Printed.{first_world, AreMapsAsked, IsReport, Tells};
 
 use crate::listing::{has_any_stopped, list_jobs};
 use crate::maps::list_maps;
-use bpf_cpu::{Job, Machine};
+use bpf_cpu::Job;
 use bpf_loader::Program;
+use bpf_machine::Machine;
 use bpf_shared::{PlainStore, StoreShape};
 use std::alloc::{AllocError, Global};
 

@@ -4,7 +4,7 @@ use Rattle.std.specs.Prelude.{All, slice_get}
 use Rattle.bpf_mem.specs.Limits.{max_context}
 use Rattle.bpf_shared.proofs.Soundness.{as_made_sound}
 use Rattle.bpf_cpu.specs.Task.{Task, Stage, Waiting, InHand, Ended, waiting}
-use Rattle.bpf_cpu.specs.Laws.{IsFresh}
+use Rattle.bpf_machine.specs.Laws.{IsFresh}
 use Rattle.bpf_jobs.specs.declared.rounds.Report.{Report}
 use Rattle.bpf_jobs.specs.Printed.{first_world, IsReport}
 use Rattle.bpf_file.specs.declared.file.RunFile.{RunFile}

@@ -1,7 +1,7 @@
 -- What `debug` replies, put together.
 use Rattle.std.proofs.Common.{Ok, ◌≡◌, ℕ, List, [], length, Bool, sym, subst}
 use Rattle.bpf_cpu.specs.Task.{Task}
-use Rattle.bpf_cpu.specs.Machine.{Shows}
+use Rattle.bpf_machine.specs.Machine.{Shows}
 use Rattle.bpf_jobs.specs.Printed.{any_stopped}
 use Rattle.bpf_file.specs.declared.file.RunFile.{RunFile}
 use Rattle.bpf_file.specs.File.{file_of}

@@ -1,10 +1,11 @@
 //! What is known of the faults in which jobs ended. They are run once more for it.
 
 use bpf_advice::Detail;
-use bpf_cpu::{Job, Machine};
+use bpf_cpu::Job;
 use bpf_faults::{Evidence, Maps, describe, evidence_of};
 use bpf_file::{RunFile, read_file};
 use bpf_insn::Insn;
+use bpf_machine::Machine;
 use bpf_text::{from_hex, to_hex};
 use std::alloc::{AllocError, Global};
 

@@ -36,6 +36,3 @@ fn main(rt: HostRuntime) -> ExitCode {
     let ending = program(&rt, rt.alloc(), words(&rt), &mut source, &mut sink);
     ExitCode::from(end(&rt, rt.alloc(), ending))
 }
-
-#[cfg(test)]
-mod tests;

@@ -1,6 +1,6 @@
 //! `ebpf debug`: a run file, and commands behind it.
 
-ghost use Rattle.std.specs.Prelude.{◌≡◌, IfOk};
+ghost use Rattle.std.specs.Prelude.{◌≡◌, IfOk, IsOkUnless};
 ghost use Rattle.std.specs.Option.{option_copied};
 ghost use Rattle.bpf_text.specs.Lines.{lines_behind};
 ghost use Rattle.bpf_file.specs.Runnable.{IsRunnable};
@@ -25,7 +25,8 @@ struct Parts<'a> {
 
 /// Whether a line ends the run file: its only word is `---`.
 fn ends_file(alloc: Global, line: &[u8]) -> Result<bool, TextError>
-    ensures { IfOk result (λ b. b ≡ ends_file line.now) }
+    ensures value { IfOk result (λ b. b ≡ ends_file line.now) }
+    ensures memory { IsOkUnless result TextError.OutOfMemory }
 {
     let words = fields(alloc, line)?;
     match words.as_slice() {
@@ -37,8 +38,9 @@ fn ends_file(alloc: Global, line: &[u8]) -> Result<bool, TextError>
 /// The run file and the commands of an input. Want of memory is the only refusal.
 #[tactic(auto, using(crate::proofs::Cutting::seen_start, crate::proofs::Cutting::seen_cut, crate::proofs::Cutting::seen_none))]
 fn cut<'a>(alloc: Global, input: &'a [u8]) -> Result<Parts<'a>, TextError>
-    ensures { IfOk result
+    ensures cut { IfOk result
         (λ p. IsCut input.now p.file.now (lines_behind (option_copied p.commands))) }
+    ensures memory { IsOkUnless result TextError.OutOfMemory }
 {
     let mut size: usize = 0;
     let mut rest = Some(input);

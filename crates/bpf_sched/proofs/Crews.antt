@@ -10,7 +10,7 @@ use Rattle.bpf_shared.specs.declared.events.Entry.{Entry}
 use Rattle.bpf_shared.specs.Own.{in_run}
 use Rattle.bpf_shared.specs.History.{events_of, IsLegal}
 use Rattle.bpf_loader.specs.Loaded.{Loaded}
-use Rattle.bpf_cpu.specs.declared.machine.job.Job.{Job}
+use Rattle.bpf_cpu.specs.declared.job.Job.{Job}
 use Rattle.bpf_cpu.specs.declared.outcome.Outcome.{Outcome}
 use Rattle.bpf_cpu.specs.State.{start}
 use Rattle.bpf_cpu.specs.Task.{Task, waiting}

@@ -1,10 +1,10 @@
 -- The workers of a store as a vector shows them between the calls that change them.
 use Rattle.std.proofs.Common.{◌≡◌, ℕ, ◌<◌, List, ◌++◌, Some, IsSome, All, length, map, get_or, take, drop, ap, sym, subst, ◌∙◌, arith}
-use Rattle.std.proofs.Math.Seq.{take-append_seam}
+use Rattle.bpf_base.proofs.Lists.{filled}
 use Rattle.bpf_shared.specs.declared.events.Entry.{Entry}
 use Rattle.bpf_shared.specs.History.{IsLegal}
 use Rattle.bpf_loader.specs.Loaded.{Loaded}
-use Rattle.bpf_cpu.specs.declared.machine.job.Job.{Job}
+use Rattle.bpf_cpu.specs.declared.job.Job.{Job}
 use Rattle.bpf_cpu.specs.declared.outcome.Outcome.{Outcome}
 use Rattle.bpf_cpu.specs.Task.{waiting}
 use Rattle.hop_words.specs.Inside.{Shown}
@@ -15,10 +15,6 @@ use Rattle.bpf_sched.specs.Explained.{IsExplained, jobs_of, ends_of}
 use Rattle.bpf_sched.specs.Working.{outcome_of}
 use Rattle.bpf_sched.specs.Worked.{AreFor, IsReadyWorker, Worked}
 use Rattle.bpf_sched.proofs.Crews.{all_ready, all_run, all_have_ports, is_all, all_explained}
-
--- what a vector shows after its whole slice was written
-pub filled : {A : Type 0} (n : ℕ) (xs ys : List A) → length xs ≡ n → take n (xs ++ drop (length xs) ys) ≡ xs
-filled n xs ys e = ap (λ (k : ℕ). take k (xs ++ drop (length xs) ys)) (sym e) ∙ take-append_seam xs (drop (length xs) ys)
 
 module _ (t : Shown) (jobs : List Job) (programs : List Loaded) (ports : List Port) (are : ArePorts t ports) (ws : List Worker) (for_jobs : AreFor (map waiting jobs) t.about.shape.cpus ws)
     (good : All (λ (job : Job). job.program < length programs) jobs)

@@ -1,6 +1,6 @@
 -- Why no job is begun, by the store's number of CPUs, the number of workers and the jobs.
 use Rattle.std.specs.Prelude.{◌≡◌, ℕ, ◌<◌, ◌≤◌, List, Some, All, slice_get}
-use Rattle.bpf_cpu.specs.declared.machine.job.Job.{Job}
+use Rattle.bpf_cpu.specs.declared.job.Job.{Job}
 use Rattle.bpf_sched.specs.declared.refusal.SchedError.{SchedError}
 use Rattle.bpf_sched.specs.declared.refusal.SchedError.TheVariants.{NoWorkers, TooManyWorkers, NoSuchCpu, OutOfMemory}
 

@@ -24,7 +24,7 @@ pub struct Assignment {
 }
 
 impl Assignment {
-    /// Runs the job, and keeps how it ended.
+    /// Runs the job, and keeps how it ended beside what it was given.
     pub fn run<S: Shared>(&mut self, programs: &[Program], shared: &mut S)
         requires new { IsNew self.old.cpu.number (length programs.now) self.old }
         requires serves { S.serves shared.old self.old.cpu.number ≡ true }
@@ -32,6 +32,7 @@ impl Assignment {
         ensures runs { (events : List Event) ×
             Runs (Chain S.passes S.serves self.old.cpu.number) (λ x. S.may_wear x self.old.cpu.number)
             (S.shapes shared.old) programs.now shared.old self.old self.new events shared.new }
+        ensures given { (self.new.program ≡ self.old.program) × (self.new.budget ≡ self.old.budget) }
         ensures keeps { KeepsRun S.shapes S.running S.held self.old.cpu.number shared.old
             shared.new }
     {

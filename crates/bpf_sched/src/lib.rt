@@ -19,6 +19,3 @@ pub use refusal::{Refused, SchedError};
 pub use room::Room;
 pub use worker::Worker;
 pub use workload::Workload;
-
-#[cfg(test)]
-mod tests;

@@ -1,10 +1,12 @@
 -- Chains of calls: the empty one, a call, and one after another.
-use Rattle.std.proofs.Common.{◌≡◌, ◌≢◌, ℕ, Bool, true, false, List, [], ◌∷◌, ◌++◌, ◌==◌, if◌then◌else◌, refl, ap, sym, ◌∙◌, eq-eqb, ne_eqb}
+use Rattle.std.proofs.Common.{◌≡◌, ◌≢◌, ℕ, ◌+◌, Bool, true, false, List, [], ◌∷◌, ◌++◌, ◌==◌, if◌then◌else◌, refl, ap, sym, ◌∙◌, arith, eq-eqb, ne_eqb}
 use Rattle.bpf_shared.specs.declared.events.Event.{Event}
+use Rattle.bpf_shared.specs.declared.events.Event.TheVariants.{Begin, End, Lookup, Update, Delete, Load, Store, Atomic}
 use Rattle.bpf_shared.specs.declared.events.Entry.{Entry}
 use Rattle.bpf_shared.specs.History.{events_of, entry}
 use Rattle.bpf_shared.specs.Passage.{Calls}
 use Rattle.bpf_shared.specs.Chain.{Chain}
+use Rattle.bpf_shared.specs.Own.{turns_of}
 
 -- ---- the events of one CPU
 cut : (e : Event) (b : Bool) (xs ys : List Event) → (if b then e ∷ (xs ++ ys) else (xs ++ ys)) ≡ (if b then e ∷ xs else xs) ++ ys
@@ -21,6 +23,18 @@ events_of-own c e = ap (λ (b : Bool). if b then e ∷ [] else []) (eq-eqb c c r
 
 pub events_of-other : (c d : ℕ) (e : Event) → d ≢ c → events_of c (entry d e ∷ []) ≡ []
 events_of-other c d e ne = ap (λ (b : Bool). if b then e ∷ [] else []) (ne_eqb d c ne)
+
+-- ---- how often runs began or ended
+pub turns_of-append : (xs ys : List Event) → turns_of (xs ++ ys) ≡ turns_of xs + turns_of ys
+turns_of-append [] ys = omega arith
+turns_of-append (Begin ∷ xs) ys = omega (arith, turns_of-append xs ys)
+turns_of-append (End ∷ xs) ys = omega (arith, turns_of-append xs ys)
+turns_of-append (Lookup m key r ∷ xs) ys = turns_of-append xs ys
+turns_of-append (Update m key b f r ∷ xs) ys = turns_of-append xs ys
+turns_of-append (Delete m key r ∷ xs) ys = turns_of-append xs ys
+turns_of-append (Load i j r ∷ xs) ys = turns_of-append xs ys
+turns_of-append (Store i j r ∷ xs) ys = turns_of-append xs ys
+turns_of-append (Atomic i j o x y r ∷ xs) ys = turns_of-append xs ys
 
 -- ---- chains
 module _ {T : Type 0} (passes : T → T → List Entry → Type 0) (serves : T → ℕ → Bool) (cpu : ℕ) where

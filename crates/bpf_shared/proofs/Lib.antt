@@ -4,12 +4,14 @@ pub mod Linking
 pub mod Indexing
 pub mod Homes
 pub mod Chaining
+pub mod Walking
 pub mod Sorting
 pub mod Passing
 pub mod Soundness
 pub mod Lawful
 pub mod Chains
 pub mod Passages
+pub mod Leaving
 pub mod Own
 pub mod Refusing
 pub mod AnyBelow
@@ -23,6 +25,7 @@ pub mod Accessing
 pub mod Updating
 pub mod Settling
 pub mod Answering
+pub mod Writing
 pub mod LookingUp
 mod Listing
 pub mod OneListing

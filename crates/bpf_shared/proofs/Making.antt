@@ -1,6 +1,6 @@
 -- A `PlainStore` as made shows the plain store as made.
 use Rattle.std.proofs.Common.{◌≡◌, ℕ, zero, suc, ◌+◌, ◌*◌, ◌<◌, ◌≤◌, nat_lt, Bool, true, false, ◌&&◌, List, [], ◌∷◌, ◌++◌, inl, inr, length, get_or, slice_index, slice_index_or, replicate, cond, map, refl, ap, sym, ◌∙◌, subst, arith}
-use Rattle.std.proofs.lemmas.List.{length-map}
+use Rattle.std.proofs.lemmas.List.{length-map, length-replicate}
 use Rattle.std.proofs.lemmas.List.Folds.{sum_by-replicate}
 use Rattle.std.specs.List.{count_by}
 use Rattle.std.specs.FinMap.{get-empty, len-empty}
@@ -8,7 +8,7 @@ use Rattle.std.specs.Ordering.{nat_cmp}
 use Rattle.std.specs.Cmp.Lexicographic.{slice_cmp}
 use Rattle.bpf_shared.specs.declared.shapes.MapShape.{MapShape}
 use Rattle.bpf_shared.specs.declared.runs.Runs.{Runs}
-use Rattle.bpf_shared.specs.Shape.{Shape, IsShape}
+use Rattle.bpf_shared.specs.Shape.{Shape, IsShape, IsMapShape, elements}
 use Rattle.bpf_shared.specs.Store.{as_made}
 use Rattle.bpf_shared.specs.Passage.{same_span}
 use Rattle.bpf_shared.specs.Private.Rows.{Rows, no_rows, shape_of, run_left, run_looked_up, IsBlank, IsLinked, IsTable}
@@ -36,6 +36,42 @@ count-none ms n e = ap (count_by (λ b. b)) e ∙ (sum_by-replicate (λ (b : Boo
     zeros : (n : ℕ) → n * 0 ≡ 0
     zeros n = omega arith
 
+-- ---- a table of vectors as they are made
+module _ (shape : MapShape) (cpus : ℕ) (linked : List Bool) (keys values looked_up left : List ℕ) (unmarked : linked ≡ replicate (elements shape) false) where
+  abbrev made : Rows
+  made = record {
+    shape = shape;
+    cpus = cpus;
+    linked = linked;
+    keys = keys;
+    values = values;
+    looked_up = looked_up;
+    left = left;
+  }
+
+  pub new_blank : (n : ℕ) → looked_up ≡ replicate n 0 → left ≡ replicate n 0 → IsBlank made
+  new_blank n no_lookups no_leaving = record {
+    empty = none_marked linked (elements shape) unmarked;
+    count = count-none linked (elements shape) unmarked;
+    looked_up = λ k. ap (λ (l : List ℕ). slice_index l k) no_lookups ∙ all_zero n k;
+    left = λ k. ap (λ (l : List ℕ). slice_index l k) no_leaving ∙ all_zero n k;
+  }
+
+  pub new_table : IsMapShape shape → cpus ≤ 16 → length keys ≡ elements shape * shape.key → length values ≡ elements shape * shape.value → (n : ℕ) → n ≡ cpus
+      → length looked_up ≡ elements shape * n → length left ≡ elements shape * n → IsTable made
+  new_table in_range few all_keys all_values n same lookups leaving = record {
+    shape = in_range;
+    cpus = few;
+    linked = ap (length {A = Bool}) unmarked ∙ length-replicate (elements shape) false;
+    keys = all_keys;
+    values = all_values;
+    looked_up = lookups ∙ ap (λ (k : ℕ). elements shape * k) same;
+    left = leaving ∙ ap (λ (k : ℕ). elements shape * k) same;
+    count = omega (arith, count-none linked (elements shape) unmarked);
+    distinct = λ i j l. absurd (none_marked linked (elements shape) unmarked i l);
+  }
+
+-- ---- blank tables
 no_rows_blank : IsBlank no_rows
 no_rows_blank = record { empty = λ i l. (let f : false ≡ true = l in cc); count = refl; looked_up = λ k. refl; left = λ k. refl }
 

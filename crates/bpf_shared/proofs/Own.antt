@@ -1,34 +1,22 @@
 -- In every legal history a CPU's own events tell whether it runs and what it holds.
-use Rattle.std.proofs.Common.{◌≡◌, ◌≢◌, ℕ, ◌+◌, ◌%◌, ◌<◌, Bool, true, false, true≢false, List, [], ◌∷◌, ◌++◌, ◌==◌, ◌&&◌, ◌||◌, if◌then◌else◌, Option, Some, None, ◌⊎◌, inl, inr, refl, ap, sym, subst, ◌∙◌, arith, eq-eqb}
+use Rattle.std.proofs.Common.{◌≡◌, ◌≢◌, ℕ, ◌+◌, ◌%◌, ◌<◌, Bool, true, false, true≢false, List, [], ◌∷◌, ◌==◌, ◌&&◌, ◌||◌, if◌then◌else◌, Option, Some, None, ◌⊎◌, inl, inr, refl, ap, sym, subst, ◌∙◌, arith, eq-eqb}
 use Rattle.std.proofs.lemmas.Bool.Decides.{nat_tests}
 use Rattle.std.specs.FinMap.{get}
 use Rattle.bpf_shared.specs.declared.events.Span.{Span}
 use Rattle.bpf_shared.specs.declared.events.Event.{Event}
 use Rattle.bpf_shared.specs.declared.events.Event.TheVariants.{Begin, End, Lookup, Update, Delete, Load, Store, Atomic}
-use Rattle.bpf_shared.specs.declared.events.MapAnswer.{MapAnswer}
-use Rattle.bpf_shared.specs.declared.events.MapAnswer.TheVariants.{Done, Invalid, Busy, Exists, Absent, Full, NoMemory}
 use Rattle.bpf_shared.specs.declared.events.Entry.{Entry}
-use Rattle.bpf_shared.specs.declared.shapes.MapShape.{MapShape}
 use Rattle.bpf_shared.specs.Store.{Plain, as_made, put}
-use Rattle.bpf_shared.specs.Events.{Allowed, Updates, Deletes, after_lookup, span_of}
+use Rattle.bpf_shared.specs.Events.{Allowed, after_lookup, span_of}
 use Rattle.bpf_shared.specs.History.{Legal, events_of, entry}
 use Rattle.bpf_shared.specs.Passage.{same_span}
 use Rattle.bpf_shared.specs.Sound.{IsSoundStore}
 use Rattle.bpf_shared.proofs.Soundness.{allowed_sound, as_made_sound}
 use Rattle.bpf_shared.proofs.Lawful.{values_stay}
+use Rattle.bpf_shared.proofs.Chains.{turns_of-append}
+use Rattle.bpf_shared.proofs.Leaving.{update_leaves, delete_leaves}
 use Rattle.bpf_shared.proofs.Puts.{put-same, put-other, put_cases}
 use Rattle.bpf_shared.specs.Own.{turns_of, no_span, held_since, held_from, HoldsAll, OwnEventsTell}
-
-pub turns_of-append : (xs ys : List Event) → turns_of (xs ++ ys) ≡ turns_of xs + turns_of ys
-turns_of-append [] ys = omega arith
-turns_of-append (Begin ∷ xs) ys = omega (arith, turns_of-append xs ys)
-turns_of-append (End ∷ xs) ys = omega (arith, turns_of-append xs ys)
-turns_of-append (Lookup m key r ∷ xs) ys = turns_of-append xs ys
-turns_of-append (Update m key b f r ∷ xs) ys = turns_of-append xs ys
-turns_of-append (Delete m key r ∷ xs) ys = turns_of-append xs ys
-turns_of-append (Load i j r ∷ xs) ys = turns_of-append xs ys
-turns_of-append (Store i j r ∷ xs) ys = turns_of-append xs ys
-turns_of-append (Atomic i j o x y r ∷ xs) ys = turns_of-append xs ys
 
 odd_up : (k : ℕ) → (k % 2 == 1) ≡ false → ((k + 1) % 2 == 1) ≡ true
 odd_up k e = grind (arith, nat_tests)
@@ -39,31 +27,7 @@ odd_down k e = grind (arith, nat_tests)
 abbrev odd : ℕ → Bool
 odd k = k % 2 == 1
 
--- ---- what an event leaves
-abbrev Same : Plain → Plain → Type 0
-Same s t = (t.running ≡ s.running) × (t.held ≡ s.held)
-
-same_by : (s t : Plain) → t ≡ s → Same s t
-same_by s t e = (ap (λ (z : Plain). z.running) e, ap (λ (z : Plain). z.held) e)
-
-update_same : (s t : Plain) (m : ℕ) (h : MapShape) (key bytes : List ℕ) (flags : ℕ) (answer : MapAnswer) → Updates s m h key bytes flags answer t → Same s t
-update_same s t m h key bytes flags Done u = (ap (λ (z : Plain). z.running) u.1.2, ap (λ (z : Plain). z.held) u.1.2)
-update_same s t m h key bytes flags Invalid u = same_by s t u.1
-update_same s t m h key bytes flags Busy u = same_by s t u.1
-update_same s t m h key bytes flags Exists u = same_by s t u.1
-update_same s t m h key bytes flags Absent u = same_by s t u.1
-update_same s t m h key bytes flags Full u = same_by s t u.1
-update_same s t m h key bytes flags NoMemory u = same_by s t u.1
-
-delete_same : (s t : Plain) (m : ℕ) (key : List ℕ) (answer : MapAnswer) → Deletes s m key answer t → Same s t
-delete_same s t m key Done u = (ap (λ (z : Plain). z.running) u.1, ap (λ (z : Plain). z.held) u.1)
-delete_same s t m key Busy u = same_by s t u
-delete_same s t m key Absent u = same_by s t u.1
-delete_same s t m key Invalid u = absurd u
-delete_same s t m key Exists u = absurd u
-delete_same s t m key Full u = absurd u
-delete_same s t m key NoMemory u = absurd u
-
+-- ---- what a lookup leaves
 looked_running : (s : Plain) (c : ℕ) (o : Option ℕ) → (after_lookup s c o).running ≡ s.running
 looked_running s c None = refl
 looked_running s c (Some v) = refl
@@ -77,8 +41,8 @@ own_runs : (c : ℕ) (s t : Plain) (e : Event) (k : ℕ) → s.running c ≡ odd
 own_runs c s t Begin k is a = ap (λ (z : Plain). z.running c) a.2 ∙ (put-same s.running c c true refl ∙ sym (odd_up k (sym is ∙ a.1)))
 own_runs c s t End k is a = ap (λ (z : Plain). z.running c) a.1 ∙ (put-same s.running c c false refl ∙ sym (odd_down k (sym is ∙ a.0)))
 own_runs c s t (Lookup m key r) k is a = ap (λ (z : Plain). z.running c) a.1.2 ∙ (ap (λ (f : ℕ → Bool). f c) (looked_running s c (get (s.maps m) key)) ∙ (is ∙ ap odd (omega arith)))
-own_runs c s t (Update m key b f r) k is a = ap (λ (g : ℕ → Bool). g c) (update_same s t m a.1.0 key b f r a.1.4).0 ∙ (is ∙ ap odd (omega arith))
-own_runs c s t (Delete m key r) k is a = ap (λ (g : ℕ → Bool). g c) (delete_same s t m key r a.1.1).0 ∙ (is ∙ ap odd (omega arith))
+own_runs c s t (Update m key b f r) k is a = ap (λ (g : ℕ → Bool). g c) (update_leaves s t m a.1.0 key b f r a.1.4).running ∙ (is ∙ ap odd (omega arith))
+own_runs c s t (Delete m key r) k is a = ap (λ (g : ℕ → Bool). g c) (delete_leaves s t m key r a.1.1).running ∙ (is ∙ ap odd (omega arith))
 own_runs c s t (Load at z n) k is a = ap (λ (x : Plain). x.running c) a.1.3 ∙ (is ∙ ap odd (omega arith))
 own_runs c s t (Store at z n) k is a = ap (λ (x : Plain). x.running c) a.1.2 ∙ (is ∙ ap odd (omega arith))
 own_runs c s t (Atomic at z o n m r) k is a = ap (λ (x : Plain). x.running c) a.1.3 ∙ (is ∙ ap odd (omega arith))
@@ -91,8 +55,8 @@ other_same c d s t (Lookup m key r) ne a = (
   ap (λ (z : Plain). z.running c) a.1.2 ∙ ap (λ (f : ℕ → Bool). f c) (looked_running s d (get (s.maps m) key)),
   ap (λ (z : Plain). z.held c) a.1.2 ∙ looked_other s c d (get (s.maps m) key) ne,
 )
-other_same c d s t (Update m key b f r) ne a = let u = update_same s t m a.1.0 key b f r a.1.4 in (ap (λ (g : ℕ → Bool). g c) u.0, ap (λ (g : ℕ → ℕ → Bool). g c) u.1)
-other_same c d s t (Delete m key r) ne a = let u = delete_same s t m key r a.1.1 in (ap (λ (g : ℕ → Bool). g c) u.0, ap (λ (g : ℕ → ℕ → Bool). g c) u.1)
+other_same c d s t (Update m key b f r) ne a = let u = update_leaves s t m a.1.0 key b f r a.1.4 in (ap (λ (g : ℕ → Bool). g c) u.running, ap (λ (g : ℕ → ℕ → Bool). g c) u.held)
+other_same c d s t (Delete m key r) ne a = let u = delete_leaves s t m key r a.1.1 in (ap (λ (g : ℕ → Bool). g c) u.running, ap (λ (g : ℕ → ℕ → Bool). g c) u.held)
 other_same c d s t (Load at z n) ne a = (ap (λ (x : Plain). x.running c) a.1.3, ap (λ (x : Plain). x.held c) a.1.3)
 other_same c d s t (Store at z n) ne a = (ap (λ (x : Plain). x.running c) a.1.2, ap (λ (x : Plain). x.held c) a.1.2)
 other_same c d s t (Atomic at z o n m r) ne a = (ap (λ (x : Plain). x.running c) a.1.3, ap (λ (x : Plain). x.held c) a.1.3)
@@ -149,8 +113,8 @@ own_holds c s t (Lookup m key None) f so holds a = stays_held c c s t (Lookup m 
     no_found None h = refl
     no_found (Some v) h = let k : None ≡ Some ((s.value v).span) = h in cc
 own_holds c s t (Lookup m key (Some p)) f so holds a = subst (λ (z : Plain). HoldsAll c z (λ q. same_span q p || f q)) (sym a.1.2) (found_held c s f p (get (s.maps m) key) a.1.1 holds)
-own_holds c s t (Update m key b g r) f so holds a = stays_held c c s t (Update m key b g r) f so a (ap (λ (g : ℕ → ℕ → Bool). g c) (update_same s t m a.1.0 key b g r a.1.4).1) holds
-own_holds c s t (Delete m key r) f so holds a = stays_held c c s t (Delete m key r) f so a (ap (λ (g : ℕ → ℕ → Bool). g c) (delete_same s t m key r a.1.1).1) holds
+own_holds c s t (Update m key b g r) f so holds a = stays_held c c s t (Update m key b g r) f so a (ap (λ (g : ℕ → ℕ → Bool). g c) (update_leaves s t m a.1.0 key b g r a.1.4).held) holds
+own_holds c s t (Delete m key r) f so holds a = stays_held c c s t (Delete m key r) f so a (ap (λ (g : ℕ → ℕ → Bool). g c) (delete_leaves s t m key r a.1.1).held) holds
 own_holds c s t (Load at z n) f so holds a = stays_held c c s t (Load at z n) f so a (ap (λ (x : Plain). x.held c) a.1.3) holds
 own_holds c s t (Store at z n) f so holds a = stays_held c c s t (Store at z n) f so a (ap (λ (x : Plain). x.held c) a.1.2) holds
 own_holds c s t (Atomic at z o n m r) f so holds a = stays_held c c s t (Atomic at z o n m r) f so a (ap (λ (x : Plain). x.held c) a.1.3) holds

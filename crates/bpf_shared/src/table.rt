@@ -131,6 +131,16 @@ fn go_on(seen: &[Runs], runs: &[Runs]) -> bool
     true
 }
 
+/// Sees these runs where further elements are passed than were under the runs seen so far.
+fn see(seen: &mut [Runs], runs: &[Runs], passed: usize, element: usize)
+    requires { length seen.old ≡ length runs.now }
+    ensures { (seen.new ≡ runs.now) ⊎ ((seen.new ≡ seen.old) × (element ≤ passed)) }
+{
+    if passed < element {
+        seen.copy_from_slice(runs);
+    }
+}
+
 /// Notes for each CPU the run that it began last.
 fn note_runs(notes: &mut [u64], runs: &[Runs])
     requires { length notes.old ≡ length runs.now }
@@ -324,9 +334,7 @@ impl Table {
         ensures same { self.new ≡ self.old }
         ensures table { IsTable self.old }
     {
-        if self.filled.max(self.passed) < element {
-            self.seen.copy_from_slice(runs);
-        }
+        see(&mut self.seen, runs, self.filled.max(self.passed), element);
         self.passed = element;
     }
 

@@ -3,7 +3,7 @@ use Rattle.std.proofs.Common.{◌≡◌, ℕ, zero, suc, ◌+◌, ◌<◌, List,
 use Rattle.std.proofs.lemmas.List.{length-map}
 use Rattle.std.specs.Prelude.{Bool, ◌||◌, option_and_then, slice_get}
 use Rattle.bpf_shared.specs.Store.{Plain}
-use Rattle.bpf_cpu.specs.declared.machine.job.Job.{Job}
+use Rattle.bpf_cpu.specs.declared.job.Job.{Job}
 use Rattle.bpf_cpu.specs.declared.outcome.Outcome.{Outcome}
 use Rattle.bpf_cpu.specs.Lines.{job_line}
 use Rattle.bpf_cpu.specs.Task.{Task, Ended, ended, waiting}

@@ -1,4 +1,2 @@
 pub mod Evenness
 pub mod Batching
-pub mod Lanes
-pub mod RunsMade

@@ -6,6 +6,3 @@ mod runs;
 
 pub use batches::{Batches, Used};
 pub use runs::{begin_run, end_run};
-
-#[cfg(test)]
-mod tests;

@@ -1,6 +1,5 @@
 pub mod Lows
 pub mod Keys
-pub mod Places
 pub mod Written
 pub mod Writings
 pub mod Readings
@@ -8,6 +7,7 @@ pub mod Bridge
 pub mod Counted
 pub mod Puts
 pub mod Locking
+pub mod Staying
 pub mod Replacing
 pub mod Homes
 pub mod Looking

@@ -11,7 +11,7 @@ use Rattle.hop_words.specs.Rule.{image, StartsWith}
 use Rattle.hop_words.specs.Kinds.{has, MayLink, LocksSegment, locking, Saw, with_gone}
 use Rattle.hop_words.proofs.Layouts.{one, both}
 use Rattle.hop_words.specs.Locking.{lock_of, hand}
-use Rattle.hop_map.specs.Views.{Fits, Ready, knows, in_hand}
+use Rattle.hop_map.specs.Views.{Fits, Locked, Ready, knows, in_hand}
 use Rattle.hop_map.specs.Calls.{LockShows}
 use Rattle.bpf_shared.specs.declared.events.Event.TheVariants.{Update, Delete}
 use Rattle.bpf_shared.specs.declared.events.Entry.{Entry}
@@ -25,6 +25,17 @@ use Rattle.hop_map.proofs.Keys.{spells}
 use Rattle.hop_map.specs.declared.dropping.Deletion.{Deletion}
 use Rattle.hop_map.specs.declared.dropping.Deletion.TheVariants.{Gone, Missing, Worn}
 use Rattle.hop_map.specs.Removals.{NamesKey, Kept, DeleteEnds}
+
+-- what is so of these parts is so of the words made of them, and the other way round
+module _ (x : Locked) (a : About) (l : Known) (m s : ℕ) (about : x.about ≡ a) (known : x.known ≡ l) (map : x.map ≡ m) (segment : x.segment ≡ s) (P : About → Known → ℕ → ℕ → Type 0) where
+  is : x ≡ record { table = x.table; about = a; known = l; map = m; segment = s }
+  is = λ j. record { table = x.table; about = about j; known = known j; map = map j; segment = segment j }
+
+  pub of_words : P a l m s → P x.about x.known x.map x.segment
+  of_words = subst (λ (z : Locked). P z.about z.known z.map z.segment) (sym is)
+
+  pub of_parts : P x.about x.known x.map x.segment → P a l m s
+  of_parts = subst (λ (z : Locked). P z.about z.known z.map z.segment) is
 
 module _ (a : About) (l : Known) (m s n : ℕ) (at_s : IsSegment a m s) (l2 : Known) (t : LocksSegment a l m s n l2) where
   abbrev x : MapWords

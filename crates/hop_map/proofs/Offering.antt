@@ -8,7 +8,7 @@ use Rattle.bpf_shared.specs.declared.events.Event.{Event}
 use Rattle.hop_words.specs.Ghost.{shape_at}
 use Rattle.hop_words.specs.Kinds.{IsKeyAbsent, Counts, Told}
 use Rattle.hop_words.specs.Locking.{lock_of, SeesRoom, SeesLack}
-use Rattle.hop_map.specs.Views.{Ready}
+use Rattle.hop_map.specs.Views.{Locked, Ready}
 use Rattle.hop_map.specs.Calls.{LockShows, HandFilled, Brings}
 use Rattle.hop_map.specs.Overs.{BringsOver}
 use Rattle.hop_map.specs.Updates.{Wants, Offers}
@@ -47,7 +47,7 @@ module _ (a : About) (l : Known) (m s : ℕ) (key bytes : List ℕ) (flags eleme
       zero_or_two (suc (suc (suc n))) few other = absurd (omega arith)
 
 -- the count may be seen
-pub counts : (a : About) (l : Known) (m s : ℕ) (key bytes : List ℕ) (flags : ℕ) → Ready a l m s → LockShows a l m s → Wants a l m s key bytes flags → IsKeyAbsent a (lock_of l) key → flags ≢ 2
+counts : (a : About) (l : Known) (m s : ℕ) (key bytes : List ℕ) (flags : ℕ) → Ready a l m s → LockShows a l m s → Wants a l m s key bytes flags → IsKeyAbsent a (lock_of l) key → flags ≢ 2
     → Counts a l (lock_of l) key bytes flags
 counts a l m s key bytes flags r c w absent new =
     let k = lock_of l in
@@ -62,6 +62,15 @@ counts a l m s key bytes flags r c w absent new =
       flags_known = (let f = w.flags_known in omega arith);
       runs = w.runs;
     }
+
+-- the same by what is known of the words' view
+pub counts_of : (x z : Locked) → x ≡ z → (key bytes : List ℕ) (flags : ℕ) → Ready x.about x.known x.map x.segment → LockShows z.about z.known z.map z.segment → Wants z.about z.known z.map z.segment key bytes flags → IsKeyAbsent z.about (lock_of z.known) key → flags ≢ 2
+    → Counts x.about x.known (lock_of x.known) key bytes flags
+counts_of x z is key bytes flags r c w absent new = counts x.about x.known x.map x.segment key bytes flags r
+    (subst (λ (y : Locked). LockShows y.about y.known y.map y.segment) (sym is) c)
+    (subst (λ (y : Locked). Wants y.about y.known y.map y.segment key bytes flags) (sym is) w)
+    (subst (λ (y : Locked). IsKeyAbsent y.about (lock_of y.known) key) (sym is) absent)
+    new
 
 -- an event that changes nothing leaves the lock as it was
 told_ready : (a : About) (l : Known) (m s : ℕ) (e : Event) (l2 : Known) → Ready a l m s → Told a l e l2 → Ready a l2 m s

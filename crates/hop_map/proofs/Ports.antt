@@ -15,7 +15,7 @@ use Rattle.hop_words.specs.Ghost.{HasElement, Each, limbo_at}
 use Rattle.hop_words.specs.Inside.{Shown, Standing}
 use Rattle.bpf_shared.specs.Own.{turns_of, in_run}
 use Rattle.hop_words.specs.Kinds.{run_count, Saw, Told}
-use Rattle.hop_words.proofs.Histories.{turns_of-append}
+use Rattle.bpf_shared.proofs.Chains.{turns_of-append}
 use Rattle.hop_epoch.specs.declared.batches.Batches.{Batches}
 use Rattle.hop_epoch.specs.Batch.{front, Notes, Tracks, Keeps}
 use Rattle.hop_arena.specs.declared.arena.Arena.{Arena}

@@ -23,6 +23,7 @@ use Rattle.hop_map.specs.Views.{Locked, Stays, Ready, in_hand, is_put, seen_word
 use Rattle.hop_map.specs.Calls.{LockShows}
 use Rattle.hop_map.specs.Removals.{NamesKey, Dropped, Kept}
 use Rattle.hop_map.proofs.Bridge.{removed}
+use Rattle.hop_map.proofs.Staying.{stays_is}
 use Rattle.hop_map.proofs.Puts.{sound_with, absent_with, leads_with, known_by, here, was_inside}
 
 -- the lock, once the key has been counted off
@@ -118,22 +119,13 @@ module _ (x : Locked) (key : List ℕ) (c : LockShows x.about x.known x.map x.se
       at_lock (λ n t. IsShare x.about.seed (shape_at x.about n) (segment_in x.about n) (image x.about ws) n t (put_key before key None)) done
 
   module _ (z : Locked) (st : Stays x z) where
-    z_is : z.known.locks ≡ lock_of z.known ∷ [] → z ≡ record x { known = lit (lock_of z.known).copy (lock_of z.known).dirty }
-    z_is held = λ j. record {
-      table = st.table j;
-      about = st.about j;
-      map = st.map j;
-      segment = st.segment j;
-      known = (st.known ∙ ap (λ (ks : List Lock). record x.known { locks = ks }) (held ∙ ap (λ (q : Lock). q ∷ []) st.lock)) j;
-    }
-
     pub drop_removes : (old : ℕ) → Loses (seen_words x) (seen_words z) key old → Ready z.about z.known z.map z.segment → Removes z.about z.known (lock_of z.known) key old
     drop_removes old g r = subst (λ (q : Locked). Loses (seen_words x) (seen_words q) key old → Removes q.about q.known (lock_of q.known) key old)
-        (sym (z_is r.held)) (λ g. removes (lock_of z.known).copy (lock_of z.known).dirty old g) g
+        (sym (stays_is x z st r.held)) (λ g. removes (lock_of z.known).copy (lock_of z.known).dirty old g) g
 
     pub drop_written : (old : ℕ) → Loses (seen_words x) (seen_words z) key old → Ready z.about z.known z.map z.segment → IsWritten z.about (dropping z.known key)
     drop_written old g r = subst (λ (q : Locked). Loses (seen_words x) (seen_words q) key old → Ready q.about q.known q.map q.segment → IsWritten q.about (dropping q.known key))
-        (sym (z_is r.held)) (λ g r. written (lock_of z.known).copy (lock_of z.known).dirty old r g) g r
+        (sym (stays_is x z st r.held)) (λ g r. written (lock_of z.known).copy (lock_of z.known).dirty old r g) g r
 
     pub drop_ends : (old : ℕ) (l3 : Known) → Dropped z.about z.known (lock_of z.known).map key old l3 → Dropped x.about x.known x.map key old l3
     drop_ends old l3 p =

@@ -21,6 +21,7 @@ use Rattle.hop_map.specs.Calls.{LockShows}
 use Rattle.hop_map.specs.Overs.{BringsOver, Over}
 use Rattle.hop_map.proofs.Keys.{spells}
 use Rattle.hop_map.proofs.Bridge.{replaced, reached_of, power_is}
+use Rattle.hop_map.proofs.Staying.{stays_is}
 use Rattle.hop_map.proofs.Puts.{sound_with, share, any_known, leads_with, known_by, here, or_last, was_inside}
 
 module _ (x : Locked) (key bytes : List ℕ) (flags element : ℕ) (c : LockShows x.about x.known x.map x.segment) (b : BringsOver x.about x.known x.map x.segment key bytes flags element) where
@@ -94,18 +95,9 @@ module _ (x : Locked) (key bytes : List ℕ) (flags element : ℕ) (c : LockShow
       }
 
   module _ (z : Locked) (st : Stays x z) where
-    z_is : z.known.locks ≡ lock_of z.known ∷ [] → z ≡ record x { known = lit (lock_of z.known).copy (lock_of z.known).dirty }
-    z_is held = λ j. record {
-      table = st.table j;
-      about = st.about j;
-      map = st.map j;
-      segment = st.segment j;
-      known = (st.known ∙ ap (λ (ks : List Lock). record x.known { locks = ks }) (held ∙ ap (λ (q : Lock). q ∷ []) st.lock)) j;
-    }
-
     pub over_replaces : (old : ℕ) → Changes (seen_words x) (seen_words z) key old element → Ready z.about z.known z.map z.segment → Replaces z.about z.known (lock_of z.known) (hand z.known) [] key bytes flags old
     over_replaces old g r = subst (λ (q : Locked). Changes (seen_words x) (seen_words q) key old element → Ready q.about q.known q.map q.segment → Replaces q.about q.known (lock_of q.known) (hand q.known) [] key bytes flags old)
-        (sym (z_is r.held)) (λ g r. replaces (lock_of z.known).copy (lock_of z.known).dirty old r g) g r
+        (sym (stays_is x z st r.held)) (λ g r. replaces (lock_of z.known).copy (lock_of z.known).dirty old r g) g r
 
     pub over_ends : (old : ℕ) (l3 : Known) → HasPair (seen_words x) key old → Replaced z.about z.known (lock_of z.known) [] key bytes flags old l3 → Over x.about x.known x.map key bytes flags old l3
     unfolding more

@@ -65,11 +65,11 @@ fn lock_and_refuse<R: Wait>(
 ) -> (Lane, MapAnswer)
     requires table { lane.table ≡ table.now.id }
     requires map { map < length table.now.about.shape.maps }
+    requires empty { lane.known.fresh ≡ [] }
+    requires idle { lane.known.locks ≡ [] }
     requires wants { Wants table.now.about lane.known map
         (segment_of table.now.about.seed (shape_at table.now.about map) key.now)
         key.now value.now flags }
-    requires empty { lane.known.fresh ≡ [] }
-    requires idle { lane.known.locks ≡ [] }
     ensures table { result.0.table ≡ table.now.id }
     ensures refused { Refusal table.now.about (counted_lock lane.known) map
         key.now value.now flags result.1 result.0.known }

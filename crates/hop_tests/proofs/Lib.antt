@@ -1,3 +1,5 @@
 pub mod Fresh
 pub mod Passing
 pub mod Trials
+pub mod Lanes
+pub mod RunsMade

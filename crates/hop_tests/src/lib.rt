@@ -4,7 +4,13 @@
 #[cfg(test)]
 mod asking;
 #[cfg(test)]
+mod claims;
+#[cfg(test)]
 mod finds;
+#[cfg(test)]
+mod hashes;
+#[cfg(test)]
+mod jobs;
 #[cfg(test)]
 mod locks;
 #[cfg(test)]

@@ -33,7 +33,7 @@ use Rattle.hop_words.proofs.Spelling.{value_spelled}
 use Rattle.hop_words.proofs.Histories.{logged_event, done_in-append}
 use Rattle.hop_words.proofs.Comes.{in_hand, now_old, linked_comes, owned_comes, keyed_comes, batched_comes, filled_rest, valued_comes}
 use Rattle.hop_words.proofs.Segs.{Elsewhere, segments_step, locking_step, Upward, readings_step, held_step, lock_once}
-use Rattle.hop_words.proofs.Stays.{stay, saw, running_is, map_there, runs_quiet, place_for}
+use Rattle.hop_words.proofs.Stays.{stay, next_as, saw, running_is, map_there, runs_quiet, place_for}
 
 pub four : (b0 b1 b2 b3 : Bool) → b0 ≡ false → b1 ≡ false → b2 ≡ false → b3 ≡ false → first_of ((Invalid, b0) ∷ (Exists, b1) ∷ (Absent, b2) ∷ (Full, b3) ∷ []) ≡ None
 four b0 b1 b2 b3 e0 e1 e2 e3 = rw (e0, e1, e2, e3) refl
@@ -283,11 +283,5 @@ pub count_up : (a : About) (l : Known) (k : Lock) (f : Fresh) (rest : List Fresh
 count_up a l k f rest key bytes flags old i ws g sized r is inside fits =
     let w = mem a.shape ws in
     exchanged (w (KeyCount k.map)) old (old + 1) (λ n. Next a (put_at w (KeyCount k.map) n) g l.cpu (λ l'. (w (KeyCount k.map) ≡ old → Inserted a l k f rest key bytes flags l') × (w (KeyCount k.map) ≢ old → l' ≡ l)))
-    (λ found. let n = next a l k f rest key bytes flags old i w g r is inside found in record {
-      ghost = n.ghost;
-      rule = n.rule;
-      others = n.others;
-      longer = n.longer;
-      says = ((λ _. n.says), (λ ne. absurd (ne found)));
-    })
+    (λ found. next_as _ _ _ _ _ _ (λ q t. ((λ _. t), (λ ne. absurd (ne found)))) (next a l k f rest key bytes flags old i w g r is inside found))
     (λ ne. stay a w g l.cpu (KeyCount k.map) _ r ((λ found. absurd (ne found)), (λ _. is)))

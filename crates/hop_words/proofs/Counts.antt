@@ -27,7 +27,7 @@ use Rattle.hop_words.specs.Kinds.{Told, Counts, Misflagged}
 use Rattle.hop_words.proofs.CountUp.{four, and_false}
 use Rattle.hop_words.proofs.Locks.{holds}
 use Rattle.hop_words.proofs.Unlocks.{noted_event, event_rule}
-use Rattle.hop_words.proofs.Stays.{put_again, stay, saw, running_is, map_there}
+use Rattle.hop_words.proofs.Stays.{put_again, stay, next_as, saw, running_is, map_there}
 
 -- a load at which an event takes effect that leaves the store as it is
 pub event_next : (a : About) (w : Place → ℕ) (g : Ghost) (r : Rule a w g) (l : Known) (is : lane g.lanes l.cpu ≡ l) (inside : l.cpu < a.shape.cpus) (p : Place) (ev : Event) → turns_of (ev ∷ []) ≡ 0 → Allowed g.last l.cpu ev g.last
@@ -103,13 +103,7 @@ pub see_count : (a : About) (l : Known) (k : Lock) (key bytes : List ℕ) (flags
 see_count a l k key bytes flags i ws g sized r is inside fits =
     let w = mem a.shape ws in
     dite (ℕ_discrete (w (KeyCount k.map)) (shape_at a k.map).max)
-    (λ full. let n = event_next a w g r l is inside (KeyCount k.map) (Update k.map key bytes flags Full) refl (may_full a l k key bytes flags i w g r is inside full) in record {
-      ghost = n.ghost;
-      rule = n.rule;
-      others = n.others;
-      longer = n.longer;
-      says = ((λ _. n.says), (λ ne. absurd (ne full)));
-    })
+    (λ full. next_as _ _ _ _ _ _ (λ q t. ((λ _. t), (λ ne. absurd (ne full)))) (event_next a w g r l is inside (KeyCount k.map) (Update k.map key bytes flags Full) refl (may_full a l k key bytes flags i w g r is inside full)))
     (λ less. stay a w g l.cpu (KeyCount k.map) _ r ((λ full. absurd (less full)), (λ _. (is, (let z = most a l k key bytes flags i w g r is inside in grind arith)))))
 
 -- without one: full, or no memory
@@ -118,20 +112,8 @@ pub see_count_lacking : (a : About) (l : Known) (k : Lock) (key bytes : List ℕ
 see_count_lacking a l k key bytes flags i ws g sized r is inside fits =
     let w = mem a.shape ws in
     dite (ℕ_discrete (w (KeyCount k.map)) (shape_at a k.map).max)
-    (λ full. let n = event_next a w g r l is inside (KeyCount k.map) (Update k.map key bytes flags Full) refl (may_full a l k key bytes flags i w g r is inside full) in record {
-      ghost = n.ghost;
-      rule = n.rule;
-      others = n.others;
-      longer = n.longer;
-      says = ((λ _. n.says), (λ ne. absurd (ne full)));
-    })
-    (λ less. let n = event_next a w g r l is inside (KeyCount k.map) (Update k.map key bytes flags NoMemory) refl (may_lack a l k key bytes flags i w g r is inside less) in record {
-      ghost = n.ghost;
-      rule = n.rule;
-      others = n.others;
-      longer = n.longer;
-      says = ((λ full. absurd (less full)), (λ _. n.says));
-    })
+    (λ full. next_as _ _ _ _ _ _ (λ q t. ((λ _. t), (λ ne. absurd (ne full)))) (event_next a w g r l is inside (KeyCount k.map) (Update k.map key bytes flags Full) refl (may_full a l k key bytes flags i w g r is inside full)))
+    (λ less. next_as _ _ _ _ _ _ (λ q t. ((λ full. absurd (less full)), (λ _. t))) (event_next a w g r l is inside (KeyCount k.map) (Update k.map key bytes flags NoMemory) refl (may_lack a l k key bytes flags i w g r is inside less)))
 
 pub see_count_misflagged : (a : About) (l : Known) (m : ℕ) (key bytes : List ℕ) (flags : ℕ) → Misflagged a l m key bytes flags → Steps a l (KeyCount m) (λ n. n) (λ ws n l'. Told a l (Update m key bytes flags Invalid) l')
 see_count_misflagged a l m key bytes flags i ws g sized r is inside fits =

@@ -20,7 +20,7 @@ use Rattle.hop_words.specs.Kinds.{has, LocksSegment, IsWritten}
 use Rattle.hop_words.proofs.Layouts.{same_is, same_self, one}
 use Rattle.hop_words.proofs.Small.{here_or, put2-same, put2-other}
 use Rattle.hop_words.proofs.Histories.{prefix_refl}
-use Rattle.hop_words.proofs.Segs.{share_same, Elsewhere, segments_step, locking_step, readings_step, held_step, lock_once, lock_else}
+use Rattle.hop_words.proofs.Segs.{share_same, Elsewhere, only_stamp, segments_step, locking_step, readings_step, held_step, lock_once, lock_else}
 use Rattle.hop_words.proofs.Shares.{share_agrees}
 use Rattle.hop_words.proofs.Stays.{stay}
 use Rattle.hop_words.proofs.Comes.{in_hand}
@@ -81,16 +81,7 @@ module _ (a : About) (l : Known) (k : Lock) (held : l.locks ≡ k ∷ []) (w : P
   w' = put_at w (Stamp k.map k.segment) v
 
   unlock_elsewhere : Elsewhere a k.map k.segment l.cpu (place_words w) (place_words w) (λ n t. w (Stamp n t)) (λ n t. w' (Stamp n t)) g.eras unlocked.eras g.linked g.linked g.holder g.holder
-  unlock_elsewhere = record {
-    stamps = λ n t ne. put_else w (Stamp k.map k.segment) (Stamp n t) v (stamp_apart k.map k.segment n t ne);
-    same_eras = λ n t ne. put2-other g.eras k.map k.segment n t era' ne;
-    keys = λ n t q ne home. refl;
-    heads = λ n t ne. refl;
-    hops = λ n t b ne. refl;
-    slots = λ n t b ne. refl;
-    within = λ n t d ne h. (refl, λ j. refl);
-    minded = λ n t b d apart ne mind. (mind, refl, λ j. refl);
-  }
+  unlock_elsewhere = only_stamp _ _ _ _ _ _ _ _ _ _ _ (λ n t ne. put_else w (Stamp k.map k.segment) (Stamp n t) v (stamp_apart k.map k.segment n t ne)) (λ n t ne. put2-other g.eras k.map k.segment n t era' ne)
 
   -- a segment that is given back as it was, or with what was written
   unlock_rule : v % 2 ≡ 0 → Segment a (segment_in a) (place_words w) v era' k.map k.segment (g.linked k.map) → (g.eras k.map k.segment).era ≤ era'.era
@@ -277,16 +268,7 @@ module _ (a : About) (l : Known) (m s old : ℕ) (at_s : IsSegment a m s) (even 
   }
 
   lock_elsewhere : Elsewhere a m s l.cpu (place_words lw) (place_words lw) (λ n t. lw (Stamp n t)) (λ n t. lw' (Stamp n t)) g.eras locked_ghost.eras g.linked g.linked g.holder g.holder
-  lock_elsewhere = record {
-    stamps = λ n t ne. put_else lw (Stamp m s) (Stamp n t) (old + 1) (stamp_apart m s n t ne);
-    same_eras = λ n t ne. put2-other g.eras m s n t lock_era ne;
-    keys = λ n t q ne home. refl;
-    heads = λ n t ne. refl;
-    hops = λ n t b ne. refl;
-    slots = λ n t b ne. refl;
-    within = λ n t d ne h. (refl, λ j. refl);
-    minded = λ n t b d apart ne mind. (mind, refl, λ j. refl);
-  }
+  lock_elsewhere = only_stamp _ _ _ _ _ _ _ _ _ _ _ (λ n t ne. put_else lw (Stamp m s) (Stamp n t) (old + 1) (stamp_apart m s n t ne)) (λ n t ne. put2-other g.eras m s n t lock_era ne)
 
   lock_seg : Segment a (segment_in a) (place_words lw) (lw (Stamp m s)) (g.eras m s) m s (g.linked m)
   lock_seg = r.segments m s at_s

@@ -21,6 +21,7 @@ use Rattle.hop_words.specs.Step.{Next, Steps}
 use Rattle.hop_words.specs.Kinds.{holding}
 use Rattle.hop_words.proofs.Small.{equal, here_or, put2-same, put2-other}
 use Rattle.hop_words.proofs.Histories.{prefix_refl}
+use Rattle.hop_words.proofs.Stays.{next_as}
 use Rattle.hop_words.proofs.Comes.{moved}
 use Rattle.hop_words.proofs.Segs.{agrees_on}
 use Rattle.hop_words.proofs.Locks.{put_here, put_else}
@@ -258,13 +259,7 @@ module _ (a : About) (l : Known) (m e : ℕ) (at_e : HasElement a m e) (ws : Lis
 pub claim_bit : (a : About) (l : Known) (m e : ℕ) → HasElement a m e → l.locks ≡ [] → Steps a l (FreeBits m (e / 64)) (λ n. bit_and n (2 ^ 64 - 1 - 2 ^ (e % 64)))
     (λ ws n l'. (bit_at n (e % 64) ≡ 1 → l' ≡ holding l m e) × (bit_at n (e % 64) ≡ 0 → l' ≡ l))
 claim_bit a l m e at_e unlocked ws g sized r is inside fits = dite (ℕ_discrete (bit_at (w (FreeBits m (e / 64))) (e % 64)) 1)
-    (λ one. let n = claim_next a l m e at_e ws g r is inside unlocked (free_or a l m e at_e ws g r is inside one) in record {
-      ghost = n.ghost;
-      rule = n.rule;
-      others = n.others;
-      longer = n.longer;
-      says = ((λ _. n.says), (λ z. absurd (omega arith)));
-    })
+    (λ one. next_as _ _ _ _ _ _ (λ q t. ((λ _. t), (λ z. absurd (omega arith)))) (claim_next a l m e at_e ws g r is inside unlocked (free_or a l m e at_e ws g r is inside one)))
     (λ ne. miss_next a l m e at_e ws g r is inside (let z = bit_at-lt (w (FreeBits m (e / 64))) (e % 64) in grind arith) _ ((λ one. absurd (ne one)), (λ _. refl)))
   where
     w : Place → ℕ

@@ -41,6 +41,21 @@ pub record Elsewhere (a : About) (m s c : ℕ) (x x' : MapWords) (stamp stamp' :
   pub within : (n t e : ℕ) → (n ≡ m → t ≢ s) → holder n e ≡ Within t → (x'.link n e ≡ x.link n e) × ((k : ℕ) → x'.key n e k ≡ x.key n e k)
   pub minded : (n t d e : ℕ) → d ≢ c → (n ≡ m → t ≢ s) → Minded d t (holder' n e) → Minded d t (holder n e) × (x'.link n e ≡ x.link n e) × ((k : ℕ) → x'.key n e k ≡ x.key n e k)
 
+-- a step by which no word changes but a stamp
+pub only_stamp : (a : About) (m s c : ℕ) (x : MapWords) (stamp stamp' : ℕ → ℕ → ℕ) (eras eras' : ℕ → ℕ → Era) (linked : ℕ → List ℕ → Option ℕ) (holder : ℕ → ℕ → Holder)
+    → ((n t : ℕ) → (n ≡ m → t ≢ s) → stamp' n t ≡ stamp n t) → ((n t : ℕ) → (n ≡ m → t ≢ s) → eras' n t ≡ eras n t)
+    → Elsewhere a m s c x x stamp stamp' eras eras' linked linked holder holder
+only_stamp a m s c x stamp stamp' eras eras' linked holder stamps same_eras = record {
+  stamps = stamps;
+  same_eras = same_eras;
+  keys = λ n t q ne home. refl;
+  heads = λ n t ne. refl;
+  hops = λ n t b ne. refl;
+  slots = λ n t b ne. refl;
+  within = λ n t d ne h. (refl, λ j. refl);
+  minded = λ n t b d apart ne mind. (mind, refl, λ j. refl);
+}
+
 module _ (a : About) (m s c : ℕ) (x x' : MapWords) (stamp stamp' : ℕ → ℕ → ℕ) (eras eras' : ℕ → ℕ → Era) (linked linked' : ℕ → List ℕ → Option ℕ) (holder holder' : ℕ → ℕ → Holder)
     (w : Elsewhere a m s c x x' stamp stamp' eras eras' linked linked' holder holder') where
   pub segments_step : Segments a (segment_in a) x stamp eras linked → Linked a (segment_in a) linked holder → (IsSegment a m s → Segment a (segment_in a) x' (stamp' m s) (eras' m s) m s (linked' m)) → Segments a (segment_in a) x' stamp' eras' linked'

@@ -45,6 +45,10 @@ stay a w g c p told r t = record {
   says = t;
 }
 
+-- what a step tells may say less
+pub next_as : (a : About) (w : Place → ℕ) (g : Ghost) (c : ℕ) (told said : Known → Type 0) → ((x : Known) → told x → said x) → Next a w g c told → Next a w g c said
+next_as a w g c told said less n = record { ghost = n.ghost; rule = n.rule; others = n.others; longer = n.longer; says = less (lane n.ghost.lanes c) n.says }
+
 module _ (a : About) (w : Place → ℕ) (g : Ghost) (r : Rule a w g) (l : Known) (is : lane g.lanes l.cpu ≡ l) (inside : l.cpu < a.shape.cpus) where
   seen_is : g.lanes.seen l.cpu ≡ l.seen
   seen_is = ap (λ (x : Known). x.seen) is

@@ -14,18 +14,13 @@ use Rattle.hop_words.specs.Ghost.{lane, Ghost, HasElement, limbo_at}
 use Rattle.hop_words.specs.Step.{Next, Steps}
 use Rattle.hop_words.specs.Kinds.{holding, cleared}
 use Rattle.hop_words.specs.Owning.{sighted, ClaimsBit, LooksAgain}
+use Rattle.hop_words.proofs.Stays.{next_as}
 use Rattle.hop_words.proofs.Owners.{claim_bit}
 use Rattle.hop_words.proofs.Turns.{see_counter_again}
 
 -- what a step tells may say less
 pub told_as : (a : About) (l : Known) (p : Place) (f : ℕ → ℕ) (told said : List ℕ → ℕ → Known → Type 0) → ((ws : List ℕ) (n : ℕ) (x : Known) → told ws n x → said ws n x) → Steps a l p f told → Steps a l p f said
-told_as a l p f told said less step ws g sized r is inside fits = let n = step ws g sized r is inside fits in record {
-  ghost = n.ghost;
-  rule = n.rule;
-  others = n.others;
-  longer = n.longer;
-  says = less ws _ _ n.says;
-}
+told_as a l p f told said less step ws g sized r is inside fits = next_as _ _ _ _ _ _ (λ x t. less ws _ x t) (step ws g sized r is inside fits)
 
 seen_next : (a : About) (w : Place → ℕ) (g : Ghost) (c : ℕ) (told : Known → Type 0) (s : Sight) → Next a w g c told → Next a w g c (λ l'. (x : Known) × told x × (l' ≡ sighted x s))
 seen_next a w g c told s n = record {

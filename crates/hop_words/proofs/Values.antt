@@ -34,7 +34,7 @@ use Rattle.hop_words.proofs.Comes.{filling_most}
 use Rattle.hop_words.proofs.WordBytes.{value_put, value_part}
 use Rattle.hop_words.proofs.Locks.{put_else}
 use Rattle.hop_words.proofs.Unlocks.{noted_event, event_rule}
-use Rattle.hop_words.proofs.Stays.{put_again, stay, saw, running_is, quiet_after, span_once, number_once, worn_more}
+use Rattle.hop_words.proofs.Stays.{put_again, stay, next_as, saw, running_is, quiet_after, span_once, number_once, worn_more}
 
 abbrev map_of : Place → ℕ
 map_of (ValueWord m e k) = m
@@ -228,13 +228,7 @@ pub value_store_part : (a : About) (l : Known) (m e k o : ℕ) (sz : Size) (old 
 value_store_part a l m e k o sz old x y i splices ws g sized r is inside fits =
     let w = mem a.shape ws in
     exchanged (w (ValueWord m e k)) old x (λ n. Next a (put_at w (ValueWord m e k) n) g l.cpu (λ l'. (w (ValueWord m e k) ≡ old → Told a l (Store (value_at a m e k o) sz y) l') × (w (ValueWord m e k) ≢ old → l' ≡ l)))
-    (λ found. let n = write_next a l m e k o (bytes_in sz) i w g r is inside x y (splices ∙ ap (λ (z : ℕ). with_part (low_bytes 8 z) o (low_bytes (bytes_in sz) y)) (sym found)) (Store (value_at a m e k o) sz y) refl (may_store a l m e k o (bytes_in sz) i w g r is inside sz y refl) in record {
-      ghost = n.ghost;
-      rule = n.rule;
-      others = n.others;
-      longer = n.longer;
-      says = ((λ _. n.says), (λ ne. absurd (ne found)));
-    })
+    (λ found. next_as _ _ _ _ _ _ (λ q t. ((λ _. t), (λ ne. absurd (ne found)))) (write_next a l m e k o (bytes_in sz) i w g r is inside x y (splices ∙ ap (λ (z : ℕ). with_part (low_bytes 8 z) o (low_bytes (bytes_in sz) y)) (sym found)) (Store (value_at a m e k o) sz y) refl (may_store a l m e k o (bytes_in sz) i w g r is inside sz y refl)))
     (λ ne. stay a w g l.cpu (ValueWord m e k) _ r ((λ found. absurd (ne found)), (λ _. is)))
 
 -- the same for an atomic operation
@@ -246,14 +240,8 @@ value_atomic_part a l m e k o sz op operand expected old x i splices ws g sized 
     let b = bytes_in sz in
     let ev = Atomic (value_at a m e k o) sz op operand expected in
     exchanged (w (ValueWord m e k)) old x (λ n. Next a (put_at w (ValueWord m e k) n) g l.cpu (λ l'. (w (ValueWord m e k) ≡ old → Told a l (ev (found_in old o b)) l') × (w (ValueWord m e k) ≢ old → l' ≡ l)))
-    (λ found. let n = write_next a l m e k o b i w g r is inside x (number_after op b (found_in (w (ValueWord m e k)) o b) operand expected)
-    (splices ∙ ap (λ (z : ℕ). with_part (low_bytes 8 z) o (low_bytes b (number_after op b (found_in z o b) operand expected))) (sym found)) (ev (found_in (w (ValueWord m e k)) o b)) refl (may_atomic a l m e k o b i w g r is inside sz op operand expected refl) in record {
-      ghost = n.ghost;
-      rule = n.rule;
-      others = n.others;
-      longer = n.longer;
-      says = ((λ _. subst (λ (z : ℕ). Told a l (ev (found_in z o b)) (lane n.ghost.lanes l.cpu)) found n.says), (λ ne. absurd (ne found)));
-    })
+    (λ found. next_as _ _ _ _ _ _ (λ q t. ((λ _. subst (λ (z : ℕ). Told a l (ev (found_in z o b)) q) found t), (λ ne. absurd (ne found)))) (write_next a l m e k o b i w g r is inside x (number_after op b (found_in (w (ValueWord m e k)) o b) operand expected)
+    (splices ∙ ap (λ (z : ℕ). with_part (low_bytes 8 z) o (low_bytes b (number_after op b (found_in z o b) operand expected))) (sym found)) (ev (found_in (w (ValueWord m e k)) o b)) refl (may_atomic a l m e k o b i w g r is inside sz op operand expected refl)))
     (λ ne. stay a w g l.cpu (ValueWord m e k) _ r ((λ found. absurd (ne found)), (λ _. is)))
 
 -- a fetch operation or a swap on a whole word

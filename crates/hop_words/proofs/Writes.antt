@@ -135,74 +135,55 @@ module _ (a : About) (l : Known) (k : Lock) (held : l.locks ≡ k ∷ []) (p : P
   }
 
 -- ---- the four words that are written under a lock
-pub write_head : (a : About) (l : Known) (k : Lock) (n : ℕ) → l.locks ≡ k ∷ [] → is_place a.shape (Head k.map k.segment) ≡ true → Steps a l (Head k.map k.segment) (λ _. n) (λ ws found l'. l' ≡ writing a l k (Head k.map k.segment) n)
-write_head a l k n held there ws g sized r is inside fits = let w = mem a.shape ws in write_next a l k held (Head k.map k.segment) there n ws g r is
-    (record { key_counts_same = refl; run_counts_same = refl; stamps_same = refl; free_same = refl; keys_same = refl; values_same = refl })
+-- the words that are one segment's alone
+abbrev IsOf : ℕ → ℕ → Place → Type 0
+IsOf m s (Head n t) = (n ≡ m) × (t ≡ s)
+IsOf m s (Hop n t b) = (n ≡ m) × (t ≡ s)
+IsOf m s (Slot n t b) = (n ≡ m) × (t ≡ s)
+IsOf m s p = ⊥
+
+write_own : (a : About) (l : Known) (k : Lock) (p : Place) (n : ℕ) → IsOf k.map k.segment p → l.locks ≡ k ∷ [] → is_place a.shape p ≡ true → Steps a l p (λ _. n) (λ ws found l'. l' ≡ writing a l k p n)
+write_own a l k p n own held there ws g sized r is inside fits = write_next a l k held p there n ws g r is
+    (record {
+      key_counts_same = λ j m. same (KeyCount m) (λ o. o) j;
+      run_counts_same = λ j c. same (RunCount c) (λ o. o) j;
+      stamps_same = λ j m s. same (Stamp m s) (λ o. o) j;
+      free_same = λ j m i. same (FreeBits m i) (λ o. o) j;
+      keys_same = λ j m e i. same (KeyWord m e i) (λ o. o) j;
+      values_same = λ j m e i. same (ValueWord m e i) (λ o. o) j;
+    })
     (record {
       stamps = λ m s ne. refl;
       same_eras = λ m s ne. put2-other g.eras k.map k.segment m s _ ne;
       keys = λ m s q ne home. refl;
-      heads = λ m s ne. put_else w (Head k.map k.segment) (Head m s) n (λ e. ne (ap map_of e) (ap segment_of e));
-      hops = λ m s b ne. refl;
-      slots = λ m s b ne. refl;
-      within = λ m s d ne i. (refl, λ j. refl);
-      minded = λ m s b d apart ne mind. (mind, refl, λ j. refl);
+      heads = λ m s ne. same (Head m s) (λ o. ne o.0 o.1);
+      hops = λ m s b ne. same (Hop m s b) (λ o. ne o.0 o.1);
+      slots = λ m s b ne. same (Slot m s b) (λ o. ne o.0 o.1);
+      within = λ m s e ne i. (links m e, keyed m e);
+      minded = λ m s d e apart ne mind. (mind, links m e, keyed m e);
     })
-    r.batched inside
+    (subst (λ x. Batched a x (run_counts (mem a.shape ws)) g.lanes.limbo g.last.held g.number) (sym all_links) r.batched) inside
   where
-    map_of : Place → ℕ
-    map_of (Head m s) = m
-    map_of p = 0
+    same : (q : Place) → (IsOf k.map k.segment q → ⊥) → put_at (mem a.shape ws) p n q ≡ mem a.shape ws q
+    same q other = put_else (mem a.shape ws) p q n (λ (e : q ≡ p). other (subst (IsOf k.map k.segment) (sym e) own))
 
-    segment_of : Place → ℕ
-    segment_of (Head m s) = s
-    segment_of p = 0
+    links : (m e : ℕ) → put_at (mem a.shape ws) p n (Link m e) ≡ mem a.shape ws (Link m e)
+    links m e = same (Link m e) (λ o. o)
+
+    all_links : ◌≡◌ {A = ℕ → ℕ → ℕ} (λ m e. put_at (mem a.shape ws) p n (Link m e)) (λ m e. mem a.shape ws (Link m e))
+    all_links = λ j m e. links m e j
+
+    keyed : (m e i : ℕ) → put_at (mem a.shape ws) p n (KeyWord m e i) ≡ mem a.shape ws (KeyWord m e i)
+    keyed m e i = same (KeyWord m e i) (λ o. o)
+
+pub write_head : (a : About) (l : Known) (k : Lock) (n : ℕ) → l.locks ≡ k ∷ [] → is_place a.shape (Head k.map k.segment) ≡ true → Steps a l (Head k.map k.segment) (λ _. n) (λ ws found l'. l' ≡ writing a l k (Head k.map k.segment) n)
+write_head a l k n = write_own a l k (Head k.map k.segment) n (refl, refl)
 
 pub write_hop : (a : About) (l : Known) (k : Lock) (b n : ℕ) → l.locks ≡ k ∷ [] → is_place a.shape (Hop k.map k.segment b) ≡ true → Steps a l (Hop k.map k.segment b) (λ _. n) (λ ws found l'. l' ≡ writing a l k (Hop k.map k.segment b) n)
-write_hop a l k b n held there ws g sized r is inside fits = let w = mem a.shape ws in write_next a l k held (Hop k.map k.segment b) there n ws g r is
-    (record { key_counts_same = refl; run_counts_same = refl; stamps_same = refl; free_same = refl; keys_same = refl; values_same = refl })
-    (record {
-      stamps = λ m s ne. refl;
-      same_eras = λ m s ne. put2-other g.eras k.map k.segment m s _ ne;
-      keys = λ m s q ne home. refl;
-      heads = λ m s ne. refl;
-      hops = λ m s d ne. put_else w (Hop k.map k.segment b) (Hop m s d) n (λ e. ne (ap map_of e) (ap segment_of e));
-      slots = λ m s b ne. refl;
-      within = λ m s d ne i. (refl, λ j. refl);
-      minded = λ m s b d apart ne mind. (mind, refl, λ j. refl);
-    })
-    r.batched inside
-  where
-    map_of : Place → ℕ
-    map_of (Hop m s b) = m
-    map_of p = 0
-
-    segment_of : Place → ℕ
-    segment_of (Hop m s b) = s
-    segment_of p = 0
+write_hop a l k b n = write_own a l k (Hop k.map k.segment b) n (refl, refl)
 
 pub write_slot : (a : About) (l : Known) (k : Lock) (b n : ℕ) → l.locks ≡ k ∷ [] → is_place a.shape (Slot k.map k.segment b) ≡ true → Steps a l (Slot k.map k.segment b) (λ _. n) (λ ws found l'. l' ≡ writing a l k (Slot k.map k.segment b) n)
-write_slot a l k b n held there ws g sized r is inside fits = let w = mem a.shape ws in write_next a l k held (Slot k.map k.segment b) there n ws g r is
-    (record { key_counts_same = refl; run_counts_same = refl; stamps_same = refl; free_same = refl; keys_same = refl; values_same = refl })
-    (record {
-      stamps = λ m s ne. refl;
-      same_eras = λ m s ne. put2-other g.eras k.map k.segment m s _ ne;
-      keys = λ m s q ne home. refl;
-      heads = λ m s ne. refl;
-      hops = λ m s d ne. refl;
-      slots = λ m s d ne. put_else w (Slot k.map k.segment b) (Slot m s d) n (λ e. ne (ap map_of e) (ap segment_of e));
-      within = λ m s d ne i. (refl, λ j. refl);
-      minded = λ m s b d apart ne mind. (mind, refl, λ j. refl);
-    })
-    r.batched inside
-  where
-    map_of : Place → ℕ
-    map_of (Slot m s b) = m
-    map_of p = 0
-
-    segment_of : Place → ℕ
-    segment_of (Slot m s b) = s
-    segment_of p = 0
+write_slot a l k b n = write_own a l k (Slot k.map k.segment b) n (refl, refl)
 
 -- ---- links
 times_one : (e : ℕ) (es : List ℕ) → 1 ≤ times e (e ∷ es)

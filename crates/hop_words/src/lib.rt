@@ -32,6 +32,3 @@ pub use lane::Lane;
 pub use place::Place;
 pub use table::{HopTable, OneRule};
 pub use touching::ValuePart;
-
-#[cfg(test)]
-mod tests;

@@ -1,6 +1,6 @@
 use Rattle.std.proofs.Common.{◌≡◌, ◌+◌, ◌*◌, ◌≤◌, length}
 use Rattle.std.specs.Prelude.{string_bytes, string_len, string_capacity}
-use Rattle.bpf_cpu.specs.Questions.{open_jobs, turns_left}
+use Rattle.bpf_machine.specs.Questions.{open_jobs, turns_left}
 use Rattle.bpf_debug.proofs.GoLaws.{Comes}
 use Rattle.bpf_debug.proofs.going.go.Given as goal
 

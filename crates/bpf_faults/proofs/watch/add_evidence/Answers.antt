@@ -1,5 +1,5 @@
 use Rattle.std.proofs.Common.{◌≡◌, sym, refl, ◌∙◌}
-use Rattle.bpf_cpu.specs.declared.machine.Turn.TheVariants as answers
+use Rattle.bpf_machine.specs.declared.machine.Turn.TheVariants as answers
 use Rattle.bpf_cpu.specs.declared.outcome.Outcome.TheVariants as outcome
 use Rattle.bpf_faults.proofs.Watching.{adds_one, has_one}
 use Rattle.bpf_faults.specs.Private.{IsEvidenceOfTurn}

@@ -1,6 +1,6 @@
 use Rattle.std.proofs.Common.{rules, ◌≡◌, ℕ, List, [], subst}
 use Rattle.std.specs.Prelude.{map}
-use Rattle.bpf_cpu.specs.declared.machine.job.Job.{Job}
+use Rattle.bpf_cpu.specs.declared.job.Job.{Job}
 use Rattle.bpf_cpu.specs.Task.{Task, waiting}
 use Rattle.bpf_jobs.specs.Printed.{first_world}
 use Rattle.bpf_faults.specs.Evidence.{AreSizes}

@@ -1,4 +1,4 @@
-use Rattle.bpf_cpu.specs.Questions.{turns_left}
+use Rattle.bpf_machine.specs.Questions.{turns_left}
 use Rattle.bpf_faults.proofs.Watching.{IsWatched}
 use Rattle.bpf_faults.proofs.watch.watch.Given as goal
 

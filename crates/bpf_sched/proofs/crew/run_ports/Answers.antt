@@ -1,9 +1,10 @@
 use Rattle.std.proofs.Common.{◌≡◌, ◌∙◌, sym, ap, length, rules, subst}
 use Rattle.std.specs.Prelude.{vec_len}
+use Rattle.bpf_base.proofs.Lists.{filled}
 use Rattle.bpf_shared.specs.History.{IsLegal}
 use Rattle.hop_words.specs.declared.known.About.{About}
 use Rattle.bpf_sched.proofs.Crews.{many}
-use Rattle.bpf_sched.proofs.Finishing.{filled, ready, run, have_ports, all_of, explained}
+use Rattle.bpf_sched.proofs.Finishing.{ready, run, have_ports, all_of, explained}
 use Rattle.bpf_sched.proofs.crew.run_ports.Goals as goal
 
 pub equip-requires : goal.equip-requires

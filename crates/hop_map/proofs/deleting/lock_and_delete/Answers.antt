@@ -1,8 +1,7 @@
-use Rattle.std.proofs.Common.{◌≡◌, ℕ, sym, subst, ◌∙◌}
-use Rattle.hop_map.specs.Views.{Locked}
+use Rattle.std.proofs.Common.{ℕ, sym, subst, ◌∙◌}
 use Rattle.hop_map.specs.Calls.{LockShows}
 use Rattle.hop_map.specs.Removals.{NamesKey, DeleteEnds}
-use Rattle.hop_map.proofs.Locking.{empty_fits, locked_contents, locked_names, delete_before}
+use Rattle.hop_map.proofs.Locking.{of_words, of_parts, empty_fits, locked_contents, locked_names, delete_before}
 use Rattle.hop_map.proofs.deleting.lock_and_delete.Goals as goal
 
 pub new-words-requires : goal.new-words-requires
@@ -10,17 +9,17 @@ new-words-requires g c = record { fits = empty_fits _ _ c.args.table.now.about c
 
 pub delete_key-requires-clause-contents : goal.delete_key-requires-clause-contents
 delete_key-requires-clause-contents g c =
-    let is : ◌≡◌ {A = Locked} c.new-words.result (record { table = c.new-words.result.table; about = c.args.table.now.about; known = c.lock_when_free-stamp.new.lane.known; map = c.args.map; segment = c.homing-at.result.segment }) = (λ j. record { table = c.new-words.result.table; about = c.new-words.ensures.about j; known = c.new-words.ensures.known j; map = c.new-words.ensures.map j; segment = c.new-words.ensures.segment j }) in
-    subst (λ (z : Locked). LockShows z.about z.known z.map z.segment) (sym is) (locked_contents c.args.table.now.about c.args.lane.known c.args.map c.homing-at.result.segment c.lock_when_free-stamp.result c.homing-at.ensures.inside c.lock_when_free-stamp.new.lane.known c.lock_when_free-stamp.ensures.locked)
+    let made = c.new-words.ensures in
+    of_words c.new-words.result _ _ _ _ made.about made.known made.map made.segment LockShows (locked_contents c.args.table.now.about c.args.lane.known c.args.map c.homing-at.result.segment c.lock_when_free-stamp.result c.homing-at.ensures.inside c.lock_when_free-stamp.new.lane.known c.lock_when_free-stamp.ensures.locked)
 
 pub delete_key-requires-clause-names : goal.delete_key-requires-clause-names
 delete_key-requires-clause-names g c =
-    let is : ◌≡◌ {A = Locked} c.new-words.result (record { table = c.new-words.result.table; about = c.args.table.now.about; known = c.lock_when_free-stamp.new.lane.known; map = c.args.map; segment = c.homing-at.result.segment }) = (λ j. record { table = c.new-words.result.table; about = c.new-words.ensures.about j; known = c.new-words.ensures.known j; map = c.new-words.ensures.map j; segment = c.new-words.ensures.segment j }) in
-    subst (λ (z : Locked). NamesKey z.about z.known z.map z.segment c.args.key.now) (sym is)
+    let made = c.new-words.ensures in
+    of_words c.new-words.result _ _ _ _ made.about made.known made.map made.segment (λ a l m s. NamesKey a l m s c.args.key.now)
     (locked_names c.args.table.now.about c.args.lane.known c.args.map c.homing-at.result.segment c.lock_when_free-stamp.result c.args.key.now c.lock_when_free-stamp.new.lane.known c.lock_when_free-stamp.ensures.locked (subst (λ (s : ℕ). NamesKey c.args.table.now.about c.args.lane.known c.args.map s c.args.key.now) (sym c.homing-at.ensures.segment) c.requires.names))
 
 pub returns-clause-ends : goal.returns-clause-ends
 returns-clause-ends g c =
-    let is : ◌≡◌ {A = Locked} c.new-words.result (record { table = c.new-words.result.table; about = c.args.table.now.about; known = c.lock_when_free-stamp.new.lane.known; map = c.args.map; segment = c.homing-at.result.segment }) = (λ j. record { table = c.new-words.result.table; about = c.new-words.ensures.about j; known = c.new-words.ensures.known j; map = c.new-words.ensures.map j; segment = c.new-words.ensures.segment j }) in
+    let made = c.new-words.ensures in
     delete_before c.args.table.now.about c.args.lane.known c.args.map c.homing-at.result.segment c.lock_when_free-stamp.result c.args.key.now c.lock_when_free-stamp.new.lane.known c.lock_when_free-stamp.ensures.locked c.requires.idle c.delete_key.result.1 c.delete_key.result.0.known
-    (subst (λ (z : Locked). DeleteEnds z.about z.known z.map c.args.key.now c.delete_key.result.1 c.delete_key.result.0.known) is c.delete_key.ensures.ends)
+    (of_parts c.new-words.result _ _ _ _ made.about made.known made.map made.segment (λ a l m s. DeleteEnds a l m c.args.key.now c.delete_key.result.1 c.delete_key.result.0.known) c.delete_key.ensures.ends)

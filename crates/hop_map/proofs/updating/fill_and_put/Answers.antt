@@ -25,36 +25,14 @@ fill-requires-clause-hand g c =
     (f, new ∙ ap (λ (fs : List Fresh). f ∷ fs) (sym (ap tail_of new)), sym c.requires.map, refl)
 
 pub fill-requires-clause-key : goal.fill-requires-clause-key
-fill-requires-clause-key g c =
-    let a = c.args.table.now.about in
-    let l = c.args.lane.known in
-    let m = c.args.map in
-    let e = c.args.element.number in
-    let key = c.args.key.now in
-    let bytes = c.args.value.now in
-    let pair = pair_at a m key bytes c.requires.pair in
-    pair.1 ∙ ap (λ (i : ℕ). (shape_at a i).key) (sym c.requires.map)
+fill-requires-clause-key g c = (pair_at c.args.table.now.about c.args.map c.args.key.now c.args.value.now c.requires.pair).1 ∙ ap (λ (i : ℕ). (shape_at c.args.table.now.about i).key) (sym c.requires.map)
 
 pub fill-requires-clause-value : goal.fill-requires-clause-value
-fill-requires-clause-value g c =
-    let a = c.args.table.now.about in
-    let l = c.args.lane.known in
-    let m = c.args.map in
-    let e = c.args.element.number in
-    let key = c.args.key.now in
-    let bytes = c.args.value.now in
-    let pair = pair_at a m key bytes c.requires.pair in
-    pair.2 ∙ ap (λ (i : ℕ). (shape_at a i).value) (sym c.requires.map)
+fill-requires-clause-value g c = (pair_at c.args.table.now.about c.args.map c.args.key.now c.args.value.now c.requires.pair).2 ∙ ap (λ (i : ℕ). (shape_at c.args.table.now.about i).value) (sym c.requires.map)
 
 pub fill-requires-clause-sizes : goal.fill-requires-clause-sizes
 fill-requires-clause-sizes g c =
-    let a = c.args.table.now.about in
-    let l = c.args.lane.known in
-    let m = c.args.map in
-    let e = c.args.element.number in
-    let key = c.args.key.now in
-    let bytes = c.args.value.now in
-    let pair = pair_at a m key bytes c.requires.pair in
+    let pair = pair_at c.args.table.now.about c.args.map c.args.key.now c.args.value.now c.requires.pair in
     let s = subst IsMapShape c.shape_of-sizes.ensures.shape c.shape_of-sizes.ensures.sizes in
     let k = pair.1 in
     let v = pair.2 in
@@ -118,9 +96,7 @@ returns-in-Refused-clause-called g c =
 pub returns-in-Refused-clause-worn : goal.returns-in-Refused-clause-worn
 returns-in-Refused-clause-worn g c =
     let a = c.args.table.now.about in
-    let l = c.args.lane.known in
     let m = c.args.map in
-    let e = c.args.element.number in
     let key = c.args.key.now in
     let bytes = c.args.value.now in
     let p : Refusal a (counted_lock c.fill.new.lane.known) m key bytes c.args.flags c.in-Refused.answer c.lock_and_put-lane.result.0.known × (c.in-Refused.answer ≢ NoMemory) = subst (λ (q : Ending). UpdateEnds a (counted_lock c.fill.new.lane.known) m key bytes c.args.flags q c.lock_and_put-lane.result.0.known) c.in-Refused.is c.lock_and_put-lane.ensures.ends in
@@ -129,9 +105,7 @@ returns-in-Refused-clause-worn g c =
 pub returns-in-Refused-clause-served : goal.returns-in-Refused-clause-served
 returns-in-Refused-clause-served g c =
     let a = c.args.table.now.about in
-    let l = c.args.lane.known in
     let m = c.args.map in
-    let e = c.args.element.number in
     let key = c.args.key.now in
     let bytes = c.args.value.now in
     let p : Refusal a (counted_lock c.fill.new.lane.known) m key bytes c.args.flags c.in-Refused.answer c.lock_and_put-lane.result.0.known × (c.in-Refused.answer ≢ NoMemory) = subst (λ (q : Ending). UpdateEnds a (counted_lock c.fill.new.lane.known) m key bytes c.args.flags q c.lock_and_put-lane.result.0.known) c.in-Refused.is c.lock_and_put-lane.ensures.ends in

@@ -1,9 +1,8 @@
-use Rattle.std.proofs.Common.{◌≡◌, ℕ, sym, subst, ◌∙◌}
-use Rattle.hop_map.specs.Views.{Locked}
+use Rattle.std.proofs.Common.{ℕ, sym, subst, ◌∙◌}
 use Rattle.hop_map.specs.Calls.{LockShows}
 use Rattle.hop_map.specs.Locks.{Readies}
 use Rattle.hop_map.specs.Updates.{Offers, UpdateEnds}
-use Rattle.hop_map.proofs.Locking.{locked_ready, locked_contents, locked_offers, ends_before}
+use Rattle.hop_map.proofs.Locking.{of_words, of_parts, locked_ready, locked_contents, locked_offers, ends_before}
 use Rattle.hop_map.proofs.updating.lock_and_put.Goals as goal
 
 pub new-words-requires : goal.new-words-requires
@@ -21,17 +20,17 @@ new-words-requires g c =
 
 pub put-requires-clause-contents : goal.put-requires-clause-contents
 put-requires-clause-contents g c =
-    let is : ◌≡◌ {A = Locked} c.new-words.result (record { table = c.new-words.result.table; about = c.args.table.now.about; known = c.lock_when_free-stamp.new.lane.known; map = c.args.map; segment = c.homing-at.result.segment }) = (λ j. record { table = c.new-words.result.table; about = c.new-words.ensures.about j; known = c.new-words.ensures.known j; map = c.new-words.ensures.map j; segment = c.new-words.ensures.segment j }) in
-    subst (λ (z : Locked). LockShows z.about z.known z.map z.segment) (sym is) (locked_contents c.args.table.now.about c.args.lane.known c.args.map c.homing-at.result.segment c.lock_when_free-stamp.result c.homing-at.ensures.inside c.lock_when_free-stamp.new.lane.known c.lock_when_free-stamp.ensures.locked)
+    let made = c.new-words.ensures in
+    of_words c.new-words.result _ _ _ _ made.about made.known made.map made.segment LockShows (locked_contents c.args.table.now.about c.args.lane.known c.args.map c.homing-at.result.segment c.lock_when_free-stamp.result c.homing-at.ensures.inside c.lock_when_free-stamp.new.lane.known c.lock_when_free-stamp.ensures.locked)
 
 pub put-requires-clause-offers : goal.put-requires-clause-offers
 put-requires-clause-offers g c =
-    let is : ◌≡◌ {A = Locked} c.new-words.result (record { table = c.new-words.result.table; about = c.args.table.now.about; known = c.lock_when_free-stamp.new.lane.known; map = c.args.map; segment = c.homing-at.result.segment }) = (λ j. record { table = c.new-words.result.table; about = c.new-words.ensures.about j; known = c.new-words.ensures.known j; map = c.new-words.ensures.map j; segment = c.new-words.ensures.segment j }) in
-    subst (λ (z : Locked). Offers z.about z.known z.map z.segment c.args.key.now c.args.value.now c.args.flags c.args.element) (sym is)
+    let made = c.new-words.ensures in
+    of_words c.new-words.result _ _ _ _ made.about made.known made.map made.segment (λ a l m s. Offers a l m s c.args.key.now c.args.value.now c.args.flags c.args.element)
     (locked_offers c.args.table.now.about c.args.lane.known c.args.map c.homing-at.result.segment c.lock_when_free-stamp.result c.homing-at.ensures.inside c.args.key.now c.args.value.now c.args.flags c.args.element (subst (λ (s : ℕ). Readies c.args.table.now.about c.args.lane.known c.args.map s c.args.key.now c.args.value.now c.args.flags c.args.element) (sym c.homing-at.ensures.segment) c.requires.readies) c.lock_when_free-stamp.new.lane.known c.lock_when_free-stamp.ensures.locked)
 
 pub returns-clause-ends : goal.returns-clause-ends
 returns-clause-ends g c =
-    let is : ◌≡◌ {A = Locked} c.new-words.result (record { table = c.new-words.result.table; about = c.args.table.now.about; known = c.lock_when_free-stamp.new.lane.known; map = c.args.map; segment = c.homing-at.result.segment }) = (λ j. record { table = c.new-words.result.table; about = c.new-words.ensures.about j; known = c.new-words.ensures.known j; map = c.new-words.ensures.map j; segment = c.new-words.ensures.segment j }) in
+    let made = c.new-words.ensures in
     ends_before c.args.table.now.about c.args.lane.known c.args.map c.homing-at.result.segment c.lock_when_free-stamp.result c.args.key.now c.args.value.now c.args.flags c.lock_when_free-stamp.new.lane.known c.lock_when_free-stamp.ensures.locked c.requires.readies.idle c.put.result.1 c.put.result.0.known
-    (subst (λ (z : Locked). UpdateEnds z.about z.known z.map c.args.key.now c.args.value.now c.args.flags c.put.result.1 c.put.result.0.known) is c.put.ensures.ends)
+    (of_parts c.new-words.result _ _ _ _ made.about made.known made.map made.segment (λ a l m s. UpdateEnds a l m c.args.key.now c.args.value.now c.args.flags c.put.result.1 c.put.result.0.known) c.put.ensures.ends)

@@ -1,8 +1,7 @@
-use Rattle.std.proofs.Common.{◌≡◌, ℕ, sym, subst, ◌∙◌}
-use Rattle.hop_map.specs.Views.{Locked}
+use Rattle.std.proofs.Common.{ℕ, sym, subst, ◌∙◌}
 use Rattle.hop_map.specs.Calls.{LockShows}
 use Rattle.hop_map.specs.Updates.{Wants, Refusal}
-use Rattle.hop_map.proofs.Locking.{empty_fits, locked_contents, locked_wants, refusal_before}
+use Rattle.hop_map.proofs.Locking.{of_words, of_parts, empty_fits, locked_contents, locked_wants, refusal_before}
 use Rattle.hop_map.proofs.updating.lock_and_refuse.Goals as goal
 
 pub new-words-requires : goal.new-words-requires
@@ -10,17 +9,17 @@ new-words-requires g c = record { fits = empty_fits _ _ c.args.table.now.about c
 
 pub refuse-requires-clause-contents : goal.refuse-requires-clause-contents
 refuse-requires-clause-contents g c =
-    let is : ◌≡◌ {A = Locked} c.new-words.result (record { table = c.new-words.result.table; about = c.args.table.now.about; known = c.lock_when_free-stamp.new.lane.known; map = c.args.map; segment = c.homing-at.result.segment }) = (λ j. record { table = c.new-words.result.table; about = c.new-words.ensures.about j; known = c.new-words.ensures.known j; map = c.new-words.ensures.map j; segment = c.new-words.ensures.segment j }) in
-    subst (λ (z : Locked). LockShows z.about z.known z.map z.segment) (sym is) (locked_contents c.args.table.now.about c.args.lane.known c.args.map c.homing-at.result.segment c.lock_when_free-stamp.result c.homing-at.ensures.inside c.lock_when_free-stamp.new.lane.known c.lock_when_free-stamp.ensures.locked)
+    let made = c.new-words.ensures in
+    of_words c.new-words.result _ _ _ _ made.about made.known made.map made.segment LockShows (locked_contents c.args.table.now.about c.args.lane.known c.args.map c.homing-at.result.segment c.lock_when_free-stamp.result c.homing-at.ensures.inside c.lock_when_free-stamp.new.lane.known c.lock_when_free-stamp.ensures.locked)
 
 pub refuse-requires-clause-wants : goal.refuse-requires-clause-wants
 refuse-requires-clause-wants g c =
-    let is : ◌≡◌ {A = Locked} c.new-words.result (record { table = c.new-words.result.table; about = c.args.table.now.about; known = c.lock_when_free-stamp.new.lane.known; map = c.args.map; segment = c.homing-at.result.segment }) = (λ j. record { table = c.new-words.result.table; about = c.new-words.ensures.about j; known = c.new-words.ensures.known j; map = c.new-words.ensures.map j; segment = c.new-words.ensures.segment j }) in
-    subst (λ (z : Locked). Wants z.about z.known z.map z.segment c.args.key.now c.args.value.now c.args.flags) (sym is)
+    let made = c.new-words.ensures in
+    of_words c.new-words.result _ _ _ _ made.about made.known made.map made.segment (λ a l m s. Wants a l m s c.args.key.now c.args.value.now c.args.flags)
     (locked_wants c.args.table.now.about c.args.lane.known c.args.map c.homing-at.result.segment c.lock_when_free-stamp.result c.args.key.now c.args.value.now c.args.flags c.lock_when_free-stamp.new.lane.known c.lock_when_free-stamp.ensures.locked (subst (λ (s : ℕ). Wants c.args.table.now.about c.args.lane.known c.args.map s c.args.key.now c.args.value.now c.args.flags) (sym c.homing-at.ensures.segment) c.requires.wants))
 
 pub returns-clause-refused : goal.returns-clause-refused
 returns-clause-refused g c =
-    let is : ◌≡◌ {A = Locked} c.new-words.result (record { table = c.new-words.result.table; about = c.args.table.now.about; known = c.lock_when_free-stamp.new.lane.known; map = c.args.map; segment = c.homing-at.result.segment }) = (λ j. record { table = c.new-words.result.table; about = c.new-words.ensures.about j; known = c.new-words.ensures.known j; map = c.new-words.ensures.map j; segment = c.new-words.ensures.segment j }) in
+    let made = c.new-words.ensures in
     refusal_before c.args.table.now.about c.args.lane.known c.args.map c.homing-at.result.segment c.lock_when_free-stamp.result c.args.key.now c.args.value.now c.args.flags c.lock_when_free-stamp.new.lane.known c.lock_when_free-stamp.ensures.locked c.requires.idle c.refuse.result.1 c.refuse.result.0.known
-    (subst (λ (z : Locked). Refusal z.about z.known z.map c.args.key.now c.args.value.now c.args.flags c.refuse.result.1 c.refuse.result.0.known) is c.refuse.ensures.refused)
+    (of_parts c.new-words.result _ _ _ _ made.about made.known made.map made.segment (λ a l m s. Refusal a l m c.args.key.now c.args.value.now c.args.flags c.refuse.result.1 c.refuse.result.0.known) c.refuse.ensures.refused)

@@ -16,7 +16,7 @@ returns-in-Done-clause-steps g c =
     let events = c.step_from.ensures.step in
     let P : Progress → Type 0 = λ progress. StepsOn (g.S.Shared.shapes c.steps.shared) c.args.program.now before c.steps.left events.0 progress after c.step_from.new.left in
     made_all g.S.Shared.passes g.S.Shared.serves g.met.S.Shared.follows g.S.Shared.shapes c.args.program.now c.args.budget c.args.self.now c.args.shared.now
-    c.steps.left c.steps.shared c.step_from.new.shared before after c.step_from.new.left (omega (arith, c.steps-test.true)) inv.number inv.keeps.shape inv.under_way c.in-Done.outcome
+    c.steps.left c.steps.shared c.step_from.new.shared before after c.step_from.new.left inv.number inv.keeps.shape inv.under_way c.in-Done.outcome
     (events.0, events.1, subst P (sym c.in-Done.ensures) events.2)
 
 pub steps-preserved : goal.steps-preserved
@@ -24,7 +24,7 @@ steps-preserved g c =
     let inv = c.steps.invariant in
     record {
       under_way = made_more g.S.Shared.passes g.S.Shared.serves g.met.S.Shared.follows g.S.Shared.shapes c.args.program.now c.args.budget c.args.self.now c.args.shared.now
-          c.steps.left c.steps.shared c.step_from.new.shared (at_pc c.steps.self c.steps.pc) (at_pc c.step_from.new.self c.step_from.new.pc) c.step_from.new.left (omega (arith, c.steps-test.true)) inv.number inv.keeps.shape inv.under_way c.step_from.ensures.ready c.in-On.ensures.step;
+          c.steps.left c.steps.shared c.step_from.new.shared (at_pc c.steps.self c.steps.pc) (at_pc c.step_from.new.self c.step_from.new.pc) c.step_from.new.left inv.number inv.keeps.shape inv.under_way c.step_from.ensures.ready c.in-On.ensures.step;
       number = c.step_from.ensures.number ∙ inv.number;
       held =
           let P : ℕ → Type 0 = λ n. AreHeld (g.S.Shared.held c.step_from.new.shared n) c.step_from.new.self.held in

@@ -4,8 +4,8 @@ use Rattle.bpf_debug.specs.Command.{Go}
 use Rattle.bpf_debug.specs.Session.{SessionState, Leaves}
 use Rattle.std.proofs.Common.{arith}
 use Rattle.bpf_debug.specs.declared.breakpoint.Breakpoint.{Breakpoint}
-use Rattle.bpf_cpu.specs.Schedule.{World}
-use Rattle.bpf_cpu.specs.Machine.{Shows}
+use Rattle.bpf_machine.specs.Schedule.{World}
+use Rattle.bpf_machine.specs.Machine.{Shows}
 use Rattle.bpf_debug.specs.Go.{Goes}
 use Rattle.bpf_debug.proofs.SessionLaws.{went, enough}
 use Rattle.bpf_debug.proofs.session.Session.go.Goals as goal

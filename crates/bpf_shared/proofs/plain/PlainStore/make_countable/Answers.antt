@@ -37,47 +37,42 @@ loop-table-preserved c =
       rest = λ m l. get_or-set_other items k m n no_rows (λ e. (let z : m ≡ k = e in omega arith)) ∙ i.rest m (omega arith);
     }
 
--- the CPU's runs are counted anew, and it is forgotten in each table; the written tables are those that the loop left
-record Anew (p : Contents) (cpu : ℕ) (q : Contents) : Type 0 where
-  idle : is_running p cpu ≡ false
-  recounts : Recounts p cpu q
+-- the CPU's runs are counted anew in the store whose parts are these, and it is forgotten in each table; the tables are those that the loop left
+module _ (parts p : Contents) (view : ◌≡◌ {A = Contents} parts p) (ok : IsStore parts) (cpu : ℕ) (serves : has_cpu p cpu ≡ true) (idle : is_running p cpu ≡ false) (run : Runs) (run_is : run ≡ get_or parts.runs cpu run)
+    (start items : List Rows) (start_is : start ≡ parts.tables) (count : length items ≡ length start)
+    (each : (m : ℕ) → m < length items → Forgets cpu (get_or start m no_rows) (get_or items m no_rows) × IsTable (get_or items m no_rows)) where
+  abbrev anew : Contents
+  anew = record { runs = set parts.runs cpu (record { count = 0; running = run.running }); tables = items }
 
-anew_of : (parts p : Contents) → ◌≡◌ {A = Contents} parts p → (cpu : ℕ) → has_cpu p cpu ≡ true → is_running p cpu ≡ false → (run : Runs) → run ≡ get_or parts.runs cpu run
-    → (start items : List Rows) → start ≡ parts.tables → length items ≡ length start
-    → ((m : ℕ) → m < length items → Forgets cpu (get_or start m no_rows) (get_or items m no_rows) × IsTable (get_or items m no_rows))
-    → Anew parts cpu (record { runs = set parts.runs cpu (record { count = 0; running = run.running }); tables = items })
-anew_of parts p view cpu serves idle run run_is start items start_is count each = record {
-  idle = subst (λ (q : Contents). is_running q cpu ≡ false) (sym view) idle;
+  as_many : length items ≡ length parts.tables
+  as_many = count ∙ ap (length {A = Rows}) start_is
+
+  served_here : has_cpu parts cpu ≡ true
+  served_here = subst (λ (q : Contents). has_cpu q cpu ≡ true) (sym view) serves
+
+  idle_here : is_running parts cpu ≡ false
+  idle_here = subst (λ (q : Contents). is_running q cpu ≡ false) (sym view) idle
+
+  recounts : Recounts parts cpu anew
   recounts = record {
-    runs = ap (λ (y : Runs). set parts.runs cpu (record { count = 0; running = y.running })) (get_or_read parts.runs cpu run (served parts cpu (subst (λ (q : Contents). has_cpu q cpu ≡ true) (sym view) serves)) run_is no_runs);
-    count = count ∙ ap (length {A = Rows}) start_is;
-    tables = λ m l. subst (λ (ts : List Rows). Forgets cpu (get_or ts m no_rows) (get_or items m no_rows) × IsTable (get_or items m no_rows)) start_is
-        (each m (let z : m < length parts.tables = l in omega (arith, z, count, ap (length {A = Rows}) start_is)));
-  };
-}
+    runs = ap (λ (y : Runs). set parts.runs cpu (record { count = 0; running = y.running })) (get_or_read parts.runs cpu run (served parts cpu served_here) run_is no_runs);
+    count = as_many;
+    tables = λ m l. subst (λ (ts : List Rows). Forgets cpu (get_or ts m no_rows) (get_or items m no_rows) × IsTable (get_or items m no_rows)) start_is (each m (let z : m < length parts.tables = l in omega (arith, z, as_many)));
+  }
+
+  recounted : IsStore anew × IsAlike p anew
+  recounted = (anew_store parts anew cpu ok served_here idle_here recounts, subst (λ (x : Contents). IsAlike x anew) view (anew_alike parts anew cpu ok served_here idle_here recounts))
 
 pub invariant_of-self : goal.invariant_of-self
 invariant_of-self c =
-    let p : Contents = record { runs = c.self.inside.runs.items; tables = c.self.inside.tables.items } in
-    let i = c.loop-table.invariant in
-    let items = c.loop-table.table-items in
-    let runs = set c.self.inside.runs.items c.args.cpu (record { count = 0; running = c.index_mut.result.now.running }) in
-    let q : Contents = record { runs = runs; tables = items } in
-    let anew : Anew p c.args.cpu q = anew_of p c.args.self.now c.self.view_is c.args.cpu c.requires.serves c.requires.idle c.index_mut.result.now c.index_mut.ensures.value c.deref_mut-table-items.result.now items c.deref_mut-table-items.ensures.value i.count
-    (λ m l. i.done m (let z : m < length items = l in omega arith)) in
-    let written = with_items_is c.self.inside.tables items (omega (arith, c.self.inside.tables.ok.0, i.count, ap (length {A = Rows}) c.deref_mut-table-items.ensures.value)) in
-    let P : List Rows → Type 0 = λ ts. IsStore (record { runs = runs; tables = ts }) in
-    subst P (sym written) (anew_store p q c.args.cpu c.self.invariant (subst (λ (x : Contents). has_cpu x c.args.cpu ≡ true) (sym c.self.view_is) c.requires.serves) anew.idle anew.recounts)
+    let many = as_many (record { runs = c.self.inside.runs.items; tables = c.self.inside.tables.items }) c.args.self.now c.self.view_is c.self.invariant c.args.cpu c.requires.serves c.requires.idle c.index_mut.result.now c.index_mut.ensures.value c.deref_mut-table-items.result.now c.loop-table.table-items c.deref_mut-table-items.ensures.value c.loop-table.invariant.count (λ m l. c.loop-table.invariant.done m (let z : m < length c.loop-table.table-items = l in omega arith)) in
+    let written = with_items_is c.self.inside.tables c.loop-table.table-items (omega (arith, c.self.inside.tables.ok.0, many)) in
+    let both = recounted (record { runs = c.self.inside.runs.items; tables = c.self.inside.tables.items }) c.args.self.now c.self.view_is c.self.invariant c.args.cpu c.requires.serves c.requires.idle c.index_mut.result.now c.index_mut.ensures.value c.deref_mut-table-items.result.now c.loop-table.table-items c.deref_mut-table-items.ensures.value c.loop-table.invariant.count (λ m l. c.loop-table.invariant.done m (let z : m < length c.loop-table.table-items = l in omega arith)) in
+    subst (λ (ts : List Rows). IsStore (record { runs = set c.self.inside.runs.items c.args.cpu (record { count = 0; running = c.index_mut.result.now.running }); tables = ts })) (sym written) both.0
 
 pub returns-clause-alike : goal.returns-clause-alike
 returns-clause-alike c =
-    let p : Contents = record { runs = c.self.inside.runs.items; tables = c.self.inside.tables.items } in
-    let i = c.loop-table.invariant in
-    let items = c.loop-table.table-items in
-    let runs = set c.self.inside.runs.items c.args.cpu (record { count = 0; running = c.index_mut.result.now.running }) in
-    let q : Contents = record { runs = runs; tables = items } in
-    let anew : Anew p c.args.cpu q = anew_of p c.args.self.now c.self.view_is c.args.cpu c.requires.serves c.requires.idle c.index_mut.result.now c.index_mut.ensures.value c.deref_mut-table-items.result.now items c.deref_mut-table-items.ensures.value i.count
-    (λ m l. i.done m (let z : m < length items = l in omega arith)) in
-    let written = with_items_is c.self.inside.tables items (omega (arith, c.self.inside.tables.ok.0, i.count, ap (length {A = Rows}) c.deref_mut-table-items.ensures.value)) in
-    let P : List Rows → Type 0 = λ ts. IsAlike c.args.self.now (record { runs = runs; tables = ts }) in
-    subst P (sym written) (subst (λ (x : Contents). IsAlike x q) c.self.view_is (anew_alike p q c.args.cpu c.self.invariant (subst (λ (x : Contents). has_cpu x c.args.cpu ≡ true) (sym c.self.view_is) c.requires.serves) anew.idle anew.recounts))
+    let many = as_many (record { runs = c.self.inside.runs.items; tables = c.self.inside.tables.items }) c.args.self.now c.self.view_is c.self.invariant c.args.cpu c.requires.serves c.requires.idle c.index_mut.result.now c.index_mut.ensures.value c.deref_mut-table-items.result.now c.loop-table.table-items c.deref_mut-table-items.ensures.value c.loop-table.invariant.count (λ m l. c.loop-table.invariant.done m (let z : m < length c.loop-table.table-items = l in omega arith)) in
+    let written = with_items_is c.self.inside.tables c.loop-table.table-items (omega (arith, c.self.inside.tables.ok.0, many)) in
+    let both = recounted (record { runs = c.self.inside.runs.items; tables = c.self.inside.tables.items }) c.args.self.now c.self.view_is c.self.invariant c.args.cpu c.requires.serves c.requires.idle c.index_mut.result.now c.index_mut.ensures.value c.deref_mut-table-items.result.now c.loop-table.table-items c.deref_mut-table-items.ensures.value c.loop-table.invariant.count (λ m l. c.loop-table.invariant.done m (let z : m < length c.loop-table.table-items = l in omega arith)) in
+    subst (λ (ts : List Rows). IsAlike c.args.self.now (record { runs = set c.self.inside.runs.items c.args.cpu (record { count = 0; running = c.index_mut.result.now.running }); tables = ts })) (sym written) both.1

@@ -1,30 +1,28 @@
-use Rattle.std.proofs.Common.{◌≡◌, ℕ, ◌-◌, ◌/◌, ◌<◌, length, subst, sym}
-use Rattle.bpf_shared.specs.Private.Contents.{rows, IsStore}
+use Rattle.std.proofs.Common.{◌≡◌, ℕ, ◌-◌, ◌/◌, ◌<◌, length, get_or, subst, sym}
+use Rattle.bpf_shared.specs.Private.Rows.{Rows}
+use Rattle.bpf_shared.specs.Private.Contents.{Contents, rows, IsStore}
+use Rattle.bpf_shared.specs.Private.Changes.{IsAtValue}
 use Rattle.bpf_shared.proofs.Changing.{read_row}
 use Rattle.bpf_shared.proofs.Places.{reached}
 use Rattle.bpf_shared.proofs.Accessing.{reach_facts}
 use Rattle.bpf_shared.proofs.plain.PlainStore.reach.Goals as goal
 
+-- of the store whose parts are these, the table that the code reads for an address
+module _ (parts p : Contents) (view : ◌≡◌ {A = Contents} parts p) (ok : IsStore parts) (a : ℕ) (v : IsAtValue p a) (t : Rows) (t_is : t ≡ get_or parts.tables ((a - 0x10_0000_0000) / 0x1000_0000) t) where
+  is : IsStore p
+  is = subst IsStore view ok
+
+  there : (a - 0x10_0000_0000) / 0x1000_0000 < length p.tables
+  there = subst (λ (n : ℕ). n < length p.tables) (sym (reached v.0 v.1 a (rows p v.0).shape (is.tables v.0 v.2).0.shape v.3 v.4).0) v.2
+
+  row : t ≡ rows p ((a - 0x10_0000_0000) / 0x1000_0000)
+  row = read_row p _ parts.runs parts.tables t view there t_is
+
 pub returns-clause-element : goal.returns-clause-element
-returns-clause-element c =
-    let p = c.args.self.now in
-    let is : IsStore p = subst IsStore c.self.view_is c.self.invariant in
-    let mi : (c.args.at - 0x10_0000_0000) / 0x1000_0000 < length p.tables = subst (λ (n : ℕ). n < length p.tables) (sym (reached c.requires.0 c.requires.1 c.args.at (rows p c.requires.0).shape (is.tables c.requires.0 c.requires.2).0.shape c.requires.3 c.requires.4).0) c.requires.2 in
-    let row : c.index.result.now ≡ rows p ((c.args.at - 0x10_0000_0000) / 0x1000_0000) = read_row p _ c.self.inside.runs.items c.self.inside.tables.items c.index.result.now c.self.view_is mi c.index.ensures in
-    (reach_facts p is c.args.at c.requires c.index.result.now c.stride-stride.result row c.stride-stride.ensures.stride).0
+returns-clause-element c = (reach_facts c.args.self.now (subst IsStore c.self.view_is c.self.invariant) c.args.at c.requires c.index.result.now c.stride-stride.result (row (record { runs = c.self.inside.runs.items; tables = c.self.inside.tables.items }) c.args.self.now c.self.view_is c.self.invariant c.args.at c.requires c.index.result.now c.index.ensures) c.stride-stride.ensures.stride).0
 
 pub returns-clause-at : goal.returns-clause-at
-returns-clause-at c =
-    let p = c.args.self.now in
-    let is : IsStore p = subst IsStore c.self.view_is c.self.invariant in
-    let mi : (c.args.at - 0x10_0000_0000) / 0x1000_0000 < length p.tables = subst (λ (n : ℕ). n < length p.tables) (sym (reached c.requires.0 c.requires.1 c.args.at (rows p c.requires.0).shape (is.tables c.requires.0 c.requires.2).0.shape c.requires.3 c.requires.4).0) c.requires.2 in
-    let row : c.index.result.now ≡ rows p ((c.args.at - 0x10_0000_0000) / 0x1000_0000) = read_row p _ c.self.inside.runs.items c.self.inside.tables.items c.index.result.now c.self.view_is mi c.index.ensures in
-    (reach_facts p is c.args.at c.requires c.index.result.now c.stride-stride.result row c.stride-stride.ensures.stride).1
+returns-clause-at c = (reach_facts c.args.self.now (subst IsStore c.self.view_is c.self.invariant) c.args.at c.requires c.index.result.now c.stride-stride.result (row (record { runs = c.self.inside.runs.items; tables = c.self.inside.tables.items }) c.args.self.now c.self.view_is c.self.invariant c.args.at c.requires c.index.result.now c.index.ensures) c.stride-stride.ensures.stride).1
 
 pub returns-clause-inside : goal.returns-clause-inside
-returns-clause-inside c =
-    let p = c.args.self.now in
-    let is : IsStore p = subst IsStore c.self.view_is c.self.invariant in
-    let mi : (c.args.at - 0x10_0000_0000) / 0x1000_0000 < length p.tables = subst (λ (n : ℕ). n < length p.tables) (sym (reached c.requires.0 c.requires.1 c.args.at (rows p c.requires.0).shape (is.tables c.requires.0 c.requires.2).0.shape c.requires.3 c.requires.4).0) c.requires.2 in
-    let row : c.index.result.now ≡ rows p ((c.args.at - 0x10_0000_0000) / 0x1000_0000) = read_row p _ c.self.inside.runs.items c.self.inside.tables.items c.index.result.now c.self.view_is mi c.index.ensures in
-    (reach_facts p is c.args.at c.requires c.index.result.now c.stride-stride.result row c.stride-stride.ensures.stride).2
+returns-clause-inside c = (reach_facts c.args.self.now (subst IsStore c.self.view_is c.self.invariant) c.args.at c.requires c.index.result.now c.stride-stride.result (row (record { runs = c.self.inside.runs.items; tables = c.self.inside.tables.items }) c.args.self.now c.self.view_is c.self.invariant c.args.at c.requires c.index.result.now c.index.ensures) c.stride-stride.ensures.stride).2

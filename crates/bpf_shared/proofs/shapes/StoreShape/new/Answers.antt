@@ -16,4 +16,7 @@ invariant_of-result c = record {
 }
 
 pub returns-clause-accepted : goal.returns-clause-accepted
-returns-clause-accepted c = (λ e. invariant_of-result c, λ is. refl)
+returns-clause-accepted c = (
+  λ e. record { cpus = (search rules, search rules); count = search rules; each = all_passed c.args.maps.items c.deref-map-items.result.now c.loop-number.number c.deref-map-items.ensures.value c.loop-number-test.false c.loop-number.invariant },
+  λ is. refl,
+)

@@ -2,7 +2,7 @@ use Rattle.std.proofs.Common.{ap, subst, ◌∙◌}
 use Rattle.hop_words.specs.declared.place.Place.{Place}
 use Rattle.hop_words.specs.declared.place.Place.TheVariants.{Head}
 use Rattle.hop_map.specs.Views.{Locked, Ready, written}
-use Rattle.hop_map.proofs.Places.{head_there}
+use Rattle.hop_words.proofs.Locked.{head_there}
 use Rattle.hop_map.proofs.Writings.{head_set}
 use Rattle.hop_map.proofs.locked.LockedWordsSegWords.set_head.Goals as goal
 

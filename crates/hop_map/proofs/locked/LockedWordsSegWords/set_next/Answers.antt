@@ -3,7 +3,7 @@ use Rattle.hop_words.specs.declared.place.Place.{Place}
 use Rattle.hop_words.specs.declared.place.Place.TheVariants.{Link}
 use Rattle.hop_map.specs.Views.{Locked, Ready, written}
 use Rattle.hop_words.specs.Guarded.{MayWrite}
-use Rattle.hop_map.proofs.Places.{link_there}
+use Rattle.hop_words.proofs.Locked.{link_there}
 use Rattle.hop_map.proofs.Written.{mine}
 use Rattle.hop_map.proofs.Writings.{next_set}
 use Rattle.hop_map.proofs.locked.LockedWordsSegWords.set_next.Goals as goal

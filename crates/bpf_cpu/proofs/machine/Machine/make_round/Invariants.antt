@@ -1,5 +1,0 @@
-use Rattle.bpf_cpu.proofs.Machines.RoundLaws.{SoFar}
-use Rattle.bpf_cpu.proofs.machine.Machine.make_round.Given as goal
-
-abbrev pub invariant-loop-cpu : goal.invariant-loop-cpu
-invariant-loop-cpu l = SoFar l.fn.self l.cpu l.worked l.self

@@ -1,9 +1,0 @@
-use Rattle.bpf_cpu.specs.Questions.{turns_left}
-use Rattle.bpf_cpu.proofs.Machines.AheadLaws.{RoundsSoFar}
-use Rattle.bpf_cpu.proofs.machine.Machine.make_rounds_ahead.Given as goal
-
-abbrev pub invariant-loop-headways : goal.invariant-loop-headways
-invariant-loop-headways l = RoundsSoFar l.fn.self l.headways l.self
-
-abbrev pub decreases-loop-headways : goal.decreases-loop-headways
-decreases-loop-headways l = turns_left l.self.jobs

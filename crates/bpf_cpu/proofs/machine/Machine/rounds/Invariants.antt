@@ -1,9 +1,0 @@
-use Rattle.bpf_cpu.specs.Questions.{turns_left}
-use Rattle.bpf_cpu.proofs.Machines.RoundLaws.{SoMany}
-use Rattle.bpf_cpu.proofs.machine.Machine.rounds.Given as goal
-
-abbrev pub invariant-loop : goal.invariant-loop
-invariant-loop l = SoMany l.fn.self l.self
-
-abbrev pub decreases-loop : goal.decreases-loop
-decreases-loop l = turns_left l.self.jobs

@@ -1,5 +1,0 @@
-use Rattle.bpf_cpu.specs.Private.Headways.{AreCounted}
-use Rattle.bpf_cpu.proofs.machine.ahead.count_headways.Given as goal
-
-abbrev pub invariant-loop-cpu : goal.invariant-loop-cpu
-invariant-loop-cpu l = AreCounted l.headways l.cpu l.working l.least

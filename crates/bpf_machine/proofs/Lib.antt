@@ -1,0 +1,14 @@
+pub mod OwnEvents
+pub mod AdvanceLaws
+pub mod AloneLaws
+pub mod BoardLaws
+pub mod WorkLaws
+pub mod BeginLaws
+pub mod ProceedLaws
+pub mod TurnLaws
+pub mod RoundLaws
+pub mod MadeLaws
+pub mod DeterminedTurns
+pub mod FallLaws
+pub mod HeadwayLaws
+pub mod AheadLaws

@@ -1,0 +1,23 @@
+-- What follows from the definitions of turns and schedules: on one thread they have one course.
+use Rattle.std.specs.Prelude.{◌≡◌, ℕ, ◌≤◌, List, Some, length, slice_get}
+use Rattle.bpf_shared.specs.Sound.{IsSoundStore}
+use Rattle.bpf_mem.specs.Limits.{max_context}
+use Rattle.bpf_cpu.specs.Task.{Task, Waiting}
+use Rattle.bpf_machine.specs.Schedule.{World, RunsSchedule}
+use Rattle.bpf_machine.specs.Rounds.{RunsToEnd}
+
+-- a plain machine before its first turn: each job waits, with a context of at most 4,096 bytes
+pub record IsFresh (w : World) : Type 0 where
+  pub store : IsSoundStore w.store
+  pub waits : (j : ℕ) (task : Task) → slice_get w.jobs j ≡ Some task
+      → (context : List ℕ) × (task.stage ≡ Waiting context) × (length context ≤ max_context)
+
+-- a schedule has one run
+abbrev pub SchedulesAreDetermined : Type 0
+SchedulesAreDetermined =
+    (w y z : World) (schedule : List ℕ) → IsFresh w
+    → RunsSchedule w schedule y → RunsSchedule w schedule z → y ≡ z
+
+-- so have rounds: one last machine is left
+abbrev pub RoundsAreDetermined : Type 0
+RoundsAreDetermined = (w y z : World) → IsFresh w → RunsToEnd w y → RunsToEnd w z → y ≡ z

@@ -1,0 +1,20 @@
+-- What callers see of a machine.
+use Rattle.std.specs.Prelude.{◌≡◌, List}
+use Rattle.bpf_shared.specs.Sound.{IsSoundStore}
+use Rattle.bpf_shared.specs.PlainStore.{Contents}
+use Rattle.bpf_shared.specs.PlainStore as plain_store
+use Rattle.bpf_loader.specs.Loaded.{Loaded}
+use Rattle.bpf_cpu.specs.Task.{Task}
+use Rattle.bpf_machine.specs.Schedule.{World}
+
+pub record MachineState : Type 0 where
+  pub store : Contents
+  pub programs : List Loaded
+  pub jobs : List Task
+
+-- the machine shows this world, whose store is one that a legal history may have left
+pub record Shows (m : MachineState) (w : World) : Type 0 where
+  pub store : plain_store.StandsFor m.store w.store
+  pub sound : IsSoundStore w.store
+  pub programs : w.programs ≡ m.programs
+  pub jobs : w.jobs ≡ m.jobs

@@ -1,0 +1,4 @@
+-- What private functions promise each other: no public clause speaks of it.
+pub mod Lanes
+pub mod Turns
+pub mod Headways

@@ -1,0 +1,7 @@
+//! A machine: jobs on the CPUs of a plain store, on one thread, in the order of any schedule.
+#![tactic(auto)]
+
+pub mod laws;
+pub mod machine;
+
+pub use machine::{Machine, Standing, Turn};

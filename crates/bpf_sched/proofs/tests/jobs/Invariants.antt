@@ -1,6 +1,0 @@
-use Rattle.std.specs.Prelude.{◌<◌, ◌≤◌, All, vec_len}
-use Rattle.bpf_mem.specs.Limits.{max_context}
-use Rattle.bpf_sched.proofs.tests.jobs.Given as goal
-
-abbrev pub invariant-jobs : goal.invariant-jobs
-invariant-jobs l = All (λ job. job.program < l.fn.programs) l.jobs.items × All (λ job. vec_len job.context ≤ max_context) l.jobs.items

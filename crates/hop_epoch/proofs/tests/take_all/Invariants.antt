@@ -1,5 +1,0 @@
-use Rattle.hop_epoch.specs.Ready.{IsLaneReady, IsFirstArena}
-use Rattle.hop_epoch.proofs.tests.take_all.Given as goal
-
-abbrev pub invariant-take : goal.invariant-take
-invariant-take l = IsLaneReady l.fn.table l.lane × IsFirstArena l.fn.table.about l.arena
