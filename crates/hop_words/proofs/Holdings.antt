@@ -1,5 +1,5 @@
 -- What a CPU holds is told by its own events.
-use Rattle.std.proofs.Common.{◌≡◌, ℕ, Bool, true, false, List, [], ◌∷◌, ◌==◌, ◌&&◌, ◌||◌, Some, None, refl, ap, sym, subst, ◌∙◌, eq-eqb, ⊎_elim}
+use Rattle.std.proofs.Common.{◌≡◌, ℕ, Bool, true, false, List, [], ◌∷◌, ◌||◌, Some, None, refl, ap, sym, subst, ◌∙◌, eq-eqb, ⊎_elim}
 use Rattle.bpf_shared.specs.declared.events.Event.{Event}
 use Rattle.bpf_shared.specs.declared.events.Event.TheVariants.{Begin, End, Lookup, Update, Delete, Load, Store, Atomic}
 use Rattle.bpf_shared.specs.declared.events.Entry.{Entry}

@@ -1,24 +1,11 @@
-use Rattle.std.proofs.Common.{◌≡◌, ℕ, true, ◌<◌, ◌+◌, ◌%◌, ◌^◌, ap, sym, subst, ◌∙◌}
+use Rattle.std.proofs.Common.{◌+◌, ◌%◌, ◌^◌}
 use mathlib.Core.Option.{none}
 use Rattle.atomic_table.specs.Table.{step}
-use Rattle.hop_words.specs.Layout.{at, is_place}
-use Rattle.hop_words.specs.Step.{Steps}
-use Rattle.hop_words.specs.Inside.{Shown, Standing, stepper_lane}
-use Rattle.hop_words.proofs.Layouts.{at_inside}
-use Rattle.hop_words.proofs.Asked.{as_asked}
+use Rattle.hop_words.proofs.Asked.{at_word}
 use Rattle.hop_words.proofs.lane.Lane.add_by.Goals as goal
 
 pub fetch_add-requires : goal.fetch_add-requires
 fetch_add-requires g c =
-    let p = c.self.inside in
     let t = c.table.inside in
-    let a = t.table.shared.key in
-    let about = ap (λ (s : Shown). s.about) c.table.view_is in
-    let there : is_place a.shape c.args.place ≡ true = ap (λ x. is_place x.shape c.args.place) about ∙ c.requires.place in
-    let spot : c.word_of-word.result ≡ at a.shape c.args.place = c.word_of-word.ensures.word ∙ ap (λ x. at x.shape c.args.place) (sym about) in (
-      ap (λ (q : Standing). q.table) c.self.view_is ∙ (c.requires.table ∙ sym (ap (λ (s : Shown). s.id) c.table.view_is)),
-      subst (λ (n : ℕ). n < t.table.shared.table_id.words) (sym spot) (subst (λ (n : ℕ). at a.shape c.args.place < n) (sym c.table.invariant.0) (at_inside a.shape c.args.place there)),
-      as_asked a t.table.shared.table_id.slots p.seat.id p.seat.me (stepper_lane p) c.args.place c.word_of-word.result (λ n. (n + c.args.more) % 2 ^ 64) g.E.Tell.told (step t.table.shared.table_id.slots c.word_of-word.result c.args.more 0 none) c.self.invariant.0 there spot
-          (subst (λ x. Steps x (stepper_lane p) c.args.place (λ n. (n + c.args.more) % 2 ^ 64) (λ ws n l. g.E.Tell.told n l)) (sym about)
-          (subst (λ (s : Standing). Steps c.args.table.now.about s.known c.args.place (λ n. (n + c.args.more) % 2 ^ 64) (λ ws n l. g.E.Tell.told n l)) (sym c.self.view_is) c.requires.step)),
-    )
+    at_word t c.self.inside c.args.table.now c.args.self.now c.args.place c.word_of-word.result (λ n. (n + c.args.more) % 2 ^ 64) g.E.Tell.told (step t.table.shared.table_id.slots c.word_of-word.result c.args.more 0 none)
+    c.table.view_is c.self.view_is c.table.invariant c.self.invariant c.requires.table c.requires.place c.word_of-word.ensures.word c.requires.step
