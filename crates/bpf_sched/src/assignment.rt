@@ -30,9 +30,11 @@ impl Assignment {
         requires serves { S.serves shared.old self.old.cpu.number ≡ true }
         requires idle { S.running shared.old self.old.cpu.number ≡ false }
         ensures runs { (events : List Event) ×
-            Runs (Chain S.passes S.serves self.old.cpu.number) (λ x. S.may_wear x self.old.cpu.number)
-            (S.shapes shared.old) programs.now shared.old self.old self.new events shared.new }
-        ensures given { (self.new.program ≡ self.old.program) × (self.new.budget ≡ self.old.budget) }
+            Runs (Chain S.passes S.serves self.old.cpu.number)
+            (λ x. S.may_wear x self.old.cpu.number) (S.shapes shared.old) programs.now shared.old
+            self.old self.new events shared.new }
+        ensures given { (self.new.program ≡ self.old.program)
+            × (self.new.budget ≡ self.old.budget) }
         ensures keeps { KeepsRun S.shapes S.running S.held self.old.cpu.number shared.old
             shared.new }
     {
