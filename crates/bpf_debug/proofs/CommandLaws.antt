@@ -2,10 +2,6 @@
 use Rattle.std.proofs.Common.{◌≡◌, ℕ, ◌≤◌, List, [], ◌∷◌, length, None, refl, arith}
 use Rattle.bpf_debug.specs.Command.{order_of}
 
-pub none_said : (fields : List (List ℕ)) → length fields ≡ 0 → None ≡ order_of fields
-none_said [] e = refl
-none_said (a ∷ fields) e = absurd (omega arith)
-
 pub too_many : (fields : List (List ℕ)) → 5 ≤ length fields → None ≡ order_of fields
 too_many [] h = refl
 too_many (a ∷ []) h = absurd (omega arith)

@@ -186,6 +186,3 @@ line_refused s fields order error.NoPc is here x shown = (order, sym is, moved s
 line_refused s fields order error.NoMap is here x shown = (order, sym is, moved s x shown order error.NoMap here)
 line_refused s fields order error.BadCommand is here x shown = absurd here
 line_refused s fields order error.OutOfMemory is here x shown = tt
-
-pub bad_line : (s : SessionState) (fields : List (List ℕ)) → (fields ≡ [] → ⊥) → order_of fields ≡ None → RefusesLine s fields error.BadCommand
-bad_line s fields some none x shown = (some, none)

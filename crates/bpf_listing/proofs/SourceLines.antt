@@ -36,12 +36,6 @@ pub record Listed (source bytes printed : List ℕ) (rest : Option (List ℕ)) (
   pub whole : (more : List ℕ) → IsSourceListing pc left (lines_behind rest) more → IsSourceListing 0 bytes (lines_of source) (printed ++ more)
   pub room : pc + 2 * rest_size rest ≤ 2 * length source + 2
 
-pub listed_start : (source bytes printed : List ℕ) → printed ≡ [] → Listed source bytes printed (Some source) 0 bytes
-listed_start source bytes printed none = record {
-  whole = λ more h. subst (λ (t : List ℕ). IsSourceListing 0 bytes (lines_of source) (t ++ more)) (sym none) h;
-  room = omega arith;
-}
-
 pub listed_next : (source bytes printed now line : List ℕ) (behind : Option (List ℕ)) (pc size : ℕ) (left first second : List ℕ)
     → Listed source bytes printed (Some now) pc left
     → lines_of now ≡ line ∷ lines_behind behind → length line + rest_size behind ≤ length now

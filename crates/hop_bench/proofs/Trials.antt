@@ -2,20 +2,17 @@
 use Rattle.std.proofs.Common.{◌≡◌, ℕ, zero, suc, ◌+◌, ◌%◌, ◌<◌, true, false, List, [], ◌∷◌, All, map, length, slice_index_or, ap, sym, subst, ◌∙◌, arith}
 use Rattle.std.proofs.lemmas.Bool.Decides.{nat_tests}
 use Rattle.std.proofs.lemmas.List.Elements.{All-nil, All-cons, All-head, All-tail}
-use Rattle.bpf_shared.specs.Shape.{IsPairOf, IsKeyOf}
 use Rattle.bpf_shared.specs.declared.events.Event.{Event}
-use Rattle.bpf_shared.specs.declared.events.Event.TheVariants.{Begin, End}
+use Rattle.bpf_shared.specs.declared.events.Event.TheVariants.{Begin}
 use Rattle.bpf_shared.specs.declared.shapes.MapShape.{MapShape}
 use Rattle.hop_words.specs.Layout.{no_map}
 use Rattle.hop_words.specs.declared.known.About.{About}
 use Rattle.hop_words.specs.declared.known.Known.{Known}
-use Rattle.hop_words.specs.Ghost.{shape_at}
 use Rattle.hop_words.specs.Inside.{Shown, nobody}
 use Rattle.hop_words.specs.Owning.{tail_of}
 use Rattle.bpf_shared.specs.Own.{in_run, turns_of}
 use Rattle.bpf_shared.specs.History.{events_of}
 use Rattle.hop_words.specs.Opens.{new_lane, lanes_from}
-use Rattle.hop_words.proofs.Small.{map_is}
 use Rattle.hop_bench.specs.Trial.{IsNewPort}
 use Rattle.hop_words.specs.Trial.{IsTrial}
 use Rattle.hop_map.specs.Port.{Port, IsPortOf, PortDoes, runs, known_of}
@@ -27,15 +24,6 @@ runs_on a p q e d quiet is = let n = turned a p.known q.known e d.seen d.cpu in 
 
 pub begun_runs : (a : About) (p q : Port) → PortDoes a p Begin q → runs p ≡ false → runs q ≡ true
 begun_runs a p q d is = let n = turned a p.known q.known Begin d.seen d.cpu in grind (arith, nat_tests)
-
-pub ended_runs : (a : About) (p q : Port) → PortDoes a p End q → runs p ≡ true → runs q ≡ false
-ended_runs a p q d is = let n = turned a p.known q.known End d.seen d.cpu in grind (arith, nat_tests)
-
-pub trial_pair : (a : About) (key bytes : List ℕ) → IsTrial a → length key ≡ 8 → length bytes ≡ 8 → IsPairOf a.shape.maps 0 key bytes
-trial_pair a key bytes t ks vs = (shape_at a 0, map_is a.shape 0 t.map, ks ∙ sym t.key, vs ∙ sym t.value)
-
-pub trial_key : (a : About) (key : List ℕ) → IsTrial a → length key ≡ 8 → IsKeyOf a.shape.maps 0 key
-trial_key a key t ks = (shape_at a 0, map_is a.shape 0 t.map, ks ∙ sym t.key)
 
 abbrev first : List Known → Known
 first [] = nobody

@@ -20,10 +20,9 @@ use Rattle.bpf_shared.specs.Own.{in_run}
 use Rattle.hop_words.specs.Seats.{view, KeepsWholeHistory}
 use Rattle.hop_words.specs.Closing.{AreAllBack}
 use Rattle.hop_arena.specs.declared.arena.Arena.{Arena}
-use Rattle.hop_arena.specs.Claiming.{IsArena}
 use Rattle.hop_epoch.specs.declared.batches.Batches.{Batches}
 use Rattle.hop_epoch.specs.Batch.{Tracks, front}
-use Rattle.hop_map.specs.Port.{Port, HasNothing, AreArenas, AreBatches, IsPortOf, IsAllOf, IsUnlocked, known_of, arena_at, batches_at, no_arena, no_batches}
+use Rattle.hop_map.specs.Port.{Port, HasNothing, AreArenas, AreBatches, IsPortOf, IsAllOf, IsUnlocked, known_of, batches_at, no_batches}
 use Rattle.hop_map.specs.Stores.{IsNewLane}
 use Rattle.hop_map.proofs.Ports.{by_equal}
 
@@ -39,32 +38,6 @@ limbo_size (suc n) = ap suc (limbo_size n)
 -- ---- one more
 last_at : {A : Type 0} (xs : List A) (x d : A) (n : ℕ) → length xs ≡ n → Rattle.std.proofs.Common.get_or (xs ++ x ∷ []) n d ≡ x
 last_at xs x d n e = subst (λ (k : ℕ). Rattle.std.proofs.Common.get_or (xs ++ x ∷ []) k d ≡ x) e (get_or-append_seam xs x [] d)
-
-pub arenas_more : (a : About) (n : ℕ) (xs : List Arena) (x : Arena) → AreArenas a n xs → x.map ≡ n → IsArena a n x.elements x.start → AreArenas a (n + 1) (xs ++ x ∷ [])
-arenas_more a n xs x h name is = record {
-  size = length-append xs (x ∷ []) ∙ ap (λ (k : ℕ). k + 1) h.size;
-  map = λ m inside. by_equal m n
-      (λ e. subst (λ (j : ℕ). (arena_at ys j).map ≡ j) (sym e) (ap (λ (y : Arena). y.map) last ∙ name))
-      (λ ne. ap (λ (y : Arena). y.map) (early m (lt m inside ne)) ∙ h.map m (lt m inside ne));
-  each = λ m inside. by_equal m n
-      (λ e. subst (λ (j : ℕ). Is j (arena_at ys j)) (sym e) (subst (Is n) (sym last) is))
-      (λ ne. subst (Is m) (sym (early m (lt m inside ne))) (h.each m (lt m inside ne)));
-}
-  where
-    ys : List Arena
-    ys = xs ++ x ∷ []
-
-    Is : ℕ → Arena → Type 0
-    Is m y = IsArena a m y.elements y.start
-
-    last : arena_at ys n ≡ x
-    last = last_at xs x no_arena n h.size
-
-    lt : (m : ℕ) → m < n + 1 → m ≢ n → m < n
-    lt m inside ne = Rattle.hop_map.proofs.Ports.less m n inside ne
-
-    early : (m : ℕ) → m < n → arena_at ys m ≡ arena_at xs m
-    early m inside = get_or_append_left xs (x ∷ []) no_arena m (let s = h.size in omega arith)
 
 pub batches_more : (a : About) (l : Known) (n : ℕ) (xs : List Batches) (x : Batches) → AreBatches a l n xs → x.map ≡ n → x.young ≡ None → x.aged ≡ None → n < length l.limbo → limbo_at l.limbo n ≡ no_limbo → AreBatches a l (n + 1) (xs ++ x ∷ [])
 batches_more a l n xs x h name young aged room none = record {

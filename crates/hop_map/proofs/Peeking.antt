@@ -32,12 +32,6 @@ rested_as x y p n is = subst (Rested x) (sym is) (rested_by x p n)
 pub last_peek : (x y : Peeked) (p : Place) (n : ℕ) → y ≡ peeked x p n → (w : MapWords) → HavePeeks w y → IsPeek w x.map x.segment p n
 last_peek x y p n is w all = (subst (HavePeeks w) is all).0
 
-pub limit_is : (x : Peeked) (w : SegWords) → Agreed x w → w.fixed.limit ≡ elements (shape_at x.about x.map)
-limit_is x w g = ap (λ (u : SegWords). u.fixed.limit) g.shown
-
-pub known_below : (x : Peeked) (w : SegWords) (e : ℕ) → Agreed x w → IsKnown w.fixed e → e < elements (shape_at x.about x.map)
-known_below x w e g k = subst (λ (n : ℕ). e < n) (limit_is x w g) k.1
-
 -- the key that a known element's words spell
 module _ (x : Peeked) (e : ℕ) (key : List ℕ) (w : SegWords) (g : Agreed x w) (k : IsKnown w.fixed e) where
   reached : Reached g.words x.map x.segment e

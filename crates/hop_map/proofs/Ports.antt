@@ -22,11 +22,11 @@ use Rattle.hop_arena.specs.declared.arena.Arena.{Arena}
 use Rattle.hop_map.specs.declared.port.HopPort.TheInside.{Inside as InPort}
 use Rattle.bpf_shared.specs.declared.events.Span.{Span}
 use Rattle.hop_arena.specs.Claiming.{IsArena}
-use Rattle.hop_map.specs.Whole.{Searches, AreBatchesOf, Rests, Called}
+use Rattle.hop_map.specs.Whole.{Searches, AreBatchesOf, Called}
 use Rattle.hop_map.specs.Finding.{Looked}
 use Rattle.bpf_shared.specs.Shape.{IsElementSpan}
 use Rattle.hop_map.proofs.Spans.{last_found_lies}
-use Rattle.hop_map.specs.Port.{AreArenas, arena_at, no_arena, Port, port_of, standing_in, HasNothing, AreBatches, IsPortOf, IsEnding, runs, batches_at, no_batches}
+use Rattle.hop_map.specs.Port.{AreArenas, arena_at, no_arena, Port, port_of, standing_in, AreBatches, IsPortOf, IsEnding, runs, batches_at, no_batches}
 
 pub apart : true ≡ false → ⊥
 apart e = cc
@@ -132,19 +132,6 @@ begins t p z l (Err e) h table told room same = moved t p z l h table (ap (λ (k
     (subst (λ (k : Known). IsLegal t.about.shape k.seen) (sym same) h.legal)
 
 -- ---- the end of a run
-pub ends_first : (t : Shown) (p : Port) (l : Known) → IsPortOf t p → HasNothing p.known → Told t.about p.known End l → IsEnding t l l p.batches
-ends_first t p l h nothing told =
-    let limbo = ap (λ (k : Known). k.limbo) told.after in record {
-      cpu = refl;
-      seen = refl;
-      nothing = record {
-        fresh = ap (λ (k : Known). k.fresh) told.after ∙ nothing.fresh;
-        locks = ap (λ (k : Known). k.locks) told.after ∙ nothing.locks;
-        used = λ m. ap (λ (x : List Limbo). (limbo_at x m).used) limbo ∙ nothing.used m;
-      };
-      limbo = ap length limbo ∙ h.limbo;
-      batches = batches_stay t.about p.known l (length t.about.shape.maps) p.batches limbo h.batches;
-    }
 
 pub reclaims : (t : Shown) (ended l l' : Known) (m : ℕ) (bs : List Batches) (b : Batches) → m < length t.about.shape.maps → b.map ≡ m → Keeps m l l' → Tracks t.about l' m b.young b.aged b.noted → IsEnding t ended l bs → IsEnding t ended l' (set bs m b)
 reclaims t ended l l' m bs b here name keeps tracks i = record {
@@ -206,29 +193,11 @@ arenas_change a n m xs x here s h = record {
     at_else : (k : ℕ) → k ≢ m → arena_at (set xs m x) k ≡ arena_at xs k
     at_else k ne = get_or-set_other xs m k x no_arena ne
 
-pub searches_at : (a : About) (n m : ℕ) (xs : List Arena) (x : Arena) → m < n → AreArenas a n xs → x ≡ get_or xs m x → Searches a m x
-searches_at a n m xs x here h is =
-    let old : x ≡ arena_at xs m = is ∙ get_or_default xs m x no_arena (let z = h.size in omega arith) in
-    let name : x.map ≡ m = ap (λ (y : Arena). y.map) old ∙ h.map m here in
-    (name, subst (λ (k : ℕ). IsArena a k x.elements x.start) (sym name) (subst (λ (y : Arena). IsArena a m y.elements y.start) (sym old) (h.each m here)))
-
 pub follows_at : (a : About) (l : Known) (n m : ℕ) (bs : List Batches) (b : Batches) → m < n → AreBatches a l n bs → b ≡ get_or bs m b → AreBatchesOf a l m b
 follows_at a l n m bs b here h is =
     let old : b ≡ batches_at bs m = is ∙ get_or_default bs m b no_batches (let z = h.size in omega arith) in
     let name : b.map ≡ m = ap (λ (y : Batches). y.map) old ∙ h.map m here in
     (name, subst (λ (k : ℕ). Tracks a l k b.young b.aged b.noted) (sym name) (subst (λ (y : Batches). Tracks a l m y.young y.aged y.noted) (sym old) (h.each m here)))
-
-pub rests_at : (l : Known) (m : ℕ) → HasNothing l → Rests l m
-rests_at l m h = record { fresh = h.fresh; locks = h.locks; used = h.used m }
-
-pub called_idle : (a : About) (l l' : Known) (m : ℕ) (e : Event) → HasNothing l → Called a l m e l' → HasNothing l'
-called_idle a l l' m e h c = record {
-  fresh = c.rests.fresh;
-  locks = c.rests.locks;
-  used = λ k. by_equal k m
-      (λ same. subst (λ (j : ℕ). (limbo_at l'.limbo j).used ≡ []) (sym same) c.rests.used)
-      (λ ne. ap (λ (x : Limbo). x.used) (c.others k ne) ∙ h.used k);
-}
 
 pub called_fits : (t : Shown) (p : Port) (z : TableId) (l : Known) (m : ℕ) (e : Event) (xs : List Arena) (b : Batches) → IsPortOf t p → z ≡ t.id → m < length t.about.shape.maps → turns_of (e ∷ []) ≡ 0
     → Called t.about p.known m e l → AreArenas t.about (length t.about.shape.maps) xs → AreBatchesOf t.about l m b → IsPortOf t (record { table = z; known = l; arenas = xs; batches = set p.batches m b })
@@ -241,13 +210,6 @@ called_fits t p z l m e xs b h table here quiet c arenas f = record {
   limbo = c.size ∙ h.limbo;
   arenas = arenas;
   batches = batches_change t.about p.known l (length t.about.shape.maps) m p.batches b c.size c.others here f.0 (subst (λ (k : ℕ). Tracks t.about l k b.young b.aged b.noted) f.0 f.1) h.batches;
-}
-
-pub looked_idle : (a : About) (l l' : Known) (m : ℕ) (key : List ℕ) (o : Option Span) → HasNothing l → Looked a l m key o l' → HasNothing l'
-looked_idle a l l' m key o h c = record {
-  fresh = ap (λ (k : Known). k.fresh) c.after ∙ h.fresh;
-  locks = ap (λ (k : Known). k.locks) c.after ∙ h.locks;
-  used = λ k. ap (λ (x : Known). (limbo_at x.limbo k).used) c.after ∙ h.used k;
 }
 
 pub looked_fits : (t : Shown) (p : Port) (z : TableId) (l : Known) (m : ℕ) (key : List ℕ) (o : Option Span) → IsPortOf t p → z ≡ t.id → Looked t.about p.known m key o l

@@ -1,8 +1,6 @@
 -- A deletion: from the lock to the unlock.
 use Rattle.std.proofs.Common.{◌≡◌, ℕ, ◌<◌, Bool, true, ◌||◌, List, [], ◌∷◌, None, refl, ap, sym, subst, ◌∙◌}
-use Rattle.bpf_shared.specs.declared.events.Entry.{Entry}
 use Rattle.bpf_shared.specs.declared.events.Event.TheVariants.{Delete}
-use Rattle.bpf_shared.specs.declared.events.MapAnswer.{MapAnswer}
 use Rattle.bpf_shared.specs.declared.events.MapAnswer.TheVariants.{Done, Absent, Busy}
 use Rattle.hop_words.specs.declared.known.About.{About}
 use Rattle.hop_words.specs.declared.known.Known.{Known}
@@ -11,7 +9,7 @@ use Rattle.hop_words.specs.declared.known.Change.TheVariants.{Drops}
 use Rattle.hop_words.specs.Content.{IsShare}
 use Rattle.hop_words.specs.Ghost.{segment_in, shape_at}
 use Rattle.hop_words.specs.Rule.{image, put_key, numbered}
-use Rattle.hop_words.specs.Kinds.{has, IsKeyAbsent, Answers, Answered, Removes, Removed, IsWritten, Saw, unlocking, with_gone}
+use Rattle.hop_words.specs.Kinds.{has, IsKeyAbsent, Answers, Removes, IsWritten, Saw, with_gone}
 use Rattle.hop_words.specs.Locking.{lock_of}
 use Rattle.hop_words.proofs.Small.{map_is}
 use Rattle.bpf_shared.specs.Shape.{Shape, IsMap, elements}
@@ -21,7 +19,7 @@ use Rattle.hop_seg.specs.Segment.{Sound as SegSound}
 use Rattle.hop_seg.specs.Content.{IsAbsent as SegAbsent, HasPair, Loses}
 use Rattle.hop_map.specs.Views.{Locked, Stays, Ready, in_hand, is_put, seen_words}
 use Rattle.hop_map.specs.Calls.{LockShows}
-use Rattle.hop_map.specs.Removals.{NamesKey, Dropped, Kept}
+use Rattle.hop_map.specs.Removals.{NamesKey, Dropped}
 use Rattle.hop_map.proofs.Bridge.{removed}
 use Rattle.hop_map.proofs.Staying.{stays_is}
 use Rattle.hop_map.proofs.Puts.{sound_with, absent_with, leads_with, known_by, here, was_inside}
@@ -29,15 +27,6 @@ use Rattle.hop_map.proofs.Puts.{sound_with, absent_with, leads_with, known_by, h
 -- the lock, once the key has been counted off
 abbrev pub dropping : Known → List ℕ → Lock
 dropping l key = record (lock_of l) { change = Drops key; dirty = true }
-
--- the two steps that end it
-pub dropped_by : (a : About) (l : Known) (key : List ℕ) (old : ℕ) (l1 l2 : Known) → Removed a l (lock_of l) key old l1 → l2 ≡ unlocking l1 → Dropped a l (lock_of l).map key old l2
-dropped_by a l key old l1 l2 r u =
-    let same : l2.seen ≡ l1.seen = ap (λ (q : Known). q.seen) u in
-    record {
-      seen = subst (λ (es : List Entry). Saw a l (Delete (lock_of l).map key Done) es) (sym same) r.seen;
-      after = u ∙ (ap unlocking r.after ∙ (λ j. record l { seen = sym same j; limbo = with_gone l (lock_of l).map old; locks = [] }));
-    }
 
 module _ (x : Locked) (key : List ℕ) (c : LockShows x.about x.known x.map x.segment) (b : NamesKey x.about x.known x.map x.segment key) where
   abbrev k : Lock
@@ -137,6 +126,3 @@ module _ (x : Locked) (key : List ℕ) (c : LockShows x.about x.known x.map x.se
           seen = w;
           after = p.after ∙ (λ j. record (st.known j) { seen = l3.seen; limbo = with_gone (st.known j) (m j) old; locks = [] });
         }
-
-pub kept_by : (a : About) (l : Known) (m : ℕ) (key : List ℕ) (r : MapAnswer) (l2 : Known) → Answered a l (lock_of l) (Delete m key r) l2 → Kept a l m key r l2
-kept_by a l m key r l2 p = record { seen = p.seen; after = p.after }

@@ -5,7 +5,7 @@ use Rattle.bpf_shared.specs.declared.shapes.MapShape.{MapShape}
 use Rattle.bpf_shared.specs.History.{events_of, entry}
 use Rattle.bpf_shared.specs.declared.events.Entry.{Entry}
 use Rattle.bpf_shared.specs.declared.events.Event.{Event}
-use Rattle.bpf_shared.specs.declared.events.Event.TheVariants.{Update, Delete}
+use Rattle.bpf_shared.specs.declared.events.Event.TheVariants.{Delete}
 use Rattle.bpf_shared.specs.declared.events.MapAnswer.{MapAnswer}
 use Rattle.bpf_shared.specs.declared.events.MapAnswer.TheVariants.{Done, Invalid, Busy, Exists, Absent, Full, NoMemory}
 use Rattle.hop_words.specs.declared.known.About.{About}
@@ -14,19 +14,18 @@ use Rattle.hop_words.specs.declared.known.Fresh.{Fresh}
 use Rattle.hop_words.specs.declared.known.Limbo.{Limbo}
 use Rattle.hop_words.specs.declared.known.Sight.{Sight}
 use Rattle.hop_words.specs.declared.known.Sight.TheVariants.{Runs}
-use Rattle.hop_words.specs.Ghost.{shape_at, limbo_at, no_limbo, HasElement, Each}
+use Rattle.hop_words.specs.Ghost.{shape_at, limbo_at, no_limbo}
 use Rattle.hop_words.specs.Rule.{done_in}
-use Rattle.hop_words.specs.Kinds.{Saw, Told, holding, retiring, with_gone}
+use Rattle.hop_words.specs.Kinds.{Saw, holding, retiring, with_gone}
 use Rattle.bpf_shared.specs.Own.{in_run}
 use Rattle.hop_words.specs.Owning.{tail_of}
 use Rattle.hop_words.proofs.Small.{map_of}
 use Rattle.hop_arena.specs.Claiming.{Sees, Misses, Claims}
 use Rattle.hop_arena.specs.declared.element.Element.{Element}
-use Rattle.hop_epoch.specs.Batch.{front, Notes, Tracks, Keeps, SeesRunning}
+use Rattle.hop_epoch.specs.Batch.{Keeps, SeesRunning}
 use Rattle.hop_epoch.proofs.Batching.{at_set, keeps_then}
 use Rattle.hop_map.specs.Locks.{counted_lock}
 use Rattle.hop_map.specs.Removals.{Dropped, Kept}
-use Rattle.hop_map.specs.Updates.{Refusal}
 use Rattle.hop_map.specs.Whole.{Rests, Called, SearchesInVain, Lacks}
 
 -- ---- the event, seen from before
@@ -44,29 +43,6 @@ pair_at a m key bytes p =
     (t.0, p.2 ∙ ap (λ (g : MapShape). g.key) (sym t.1), p.3 ∙ ap (λ (g : MapShape). g.value) (sym t.1))
 
 -- ---- batches
-pub tracks_as : (a : About) (l l1 : Known) (m : ℕ) (y o : Option ℕ) (n : List ℕ) → l1.limbo ≡ l.limbo → Tracks a l m y o n → Tracks a l1 m y o n
-tracks_as a l l1 m y o n e t = record {
-  room = subst (λ (ls : List Limbo). m < length ls) (sym e) t.room;
-  young_is = t.young_is ∙ ap (λ (ls : List Limbo). front (limbo_at ls m).young) (sym e);
-  old_is = t.old_is ∙ ap (λ (ls : List Limbo). front (limbo_at ls m).old) (sym e);
-  young_inside = subst (λ (ls : List Limbo). Each (HasElement a m) (limbo_at ls m).young) (sym e) t.young_inside;
-  old_inside = subst (λ (ls : List Limbo). Each (HasElement a m) (limbo_at ls m).old) (sym e) t.old_inside;
-  counters = subst (λ (ls : List Limbo). ((limbo_at ls m).old ≡ []) ⊎ Notes a (limbo_at ls m).noted n) (sym e) t.counters;
-}
-
--- a used element in hand is in no batch
-pub tracks_gone : (a : About) (l l1 : Known) (m e : ℕ) (y o : Option ℕ) (n : List ℕ) → l1.limbo ≡ with_gone l m e → Tracks a l m y o n → Tracks a l1 m y o n
-tracks_gone a l l1 m e y o n is t =
-    let x : Limbo = record (limbo_at l.limbo m) { used = e ∷ (limbo_at l.limbo m).used } in
-    let now : limbo_at l1.limbo m ≡ x = ap (λ (ls : List Limbo). limbo_at ls m) is ∙ at_set l m x t.room in
-    record {
-      room = subst (λ (i : ℕ). m < i) (sym (ap (λ (ls : List Limbo). length ls) is ∙ length-set l.limbo m x)) t.room;
-      young_is = t.young_is ∙ ap (λ (z : Limbo). front z.young) (sym now);
-      old_is = t.old_is ∙ ap (λ (z : Limbo). front z.old) (sym now);
-      young_inside = subst (λ (z : Limbo). Each (HasElement a m) z.young) (sym now) t.young_inside;
-      old_inside = subst (λ (z : Limbo). Each (HasElement a m) z.old) (sym now) t.old_inside;
-      counters = subst (λ (z : Limbo). (z.old ≡ []) ⊎ Notes a z.noted n) (sym now) t.counters;
-    }
 
 -- ---- looking for a free element
 pub keeps_sees : (m : ℕ) (l l1 : Known) (more : List Sight) → Sees l more l1 → Keeps m l l1
@@ -114,16 +90,6 @@ found_after a m l l1 l2 l3 first kept empty blocked (Some x) p = (
 pub kept_runs : (m : ℕ) (l l1 : Known) → Keeps m l l1 → in_run (events_of l.cpu l.seen) ≡ true → in_run (events_of l1.cpu l1.seen) ≡ true
 kept_runs m l l1 k runs = (λ j. in_run (events_of (k.cpu j) (k.seen j))) ∙ runs
 
-pub short_as : (a : About) (m : ℕ) (l l1 l2 : Known) → l2.tally.sights ≡ l1.tally.sights → l2.limbo ≡ l1.limbo → SearchesInVain a l m l1 → SearchesInVain a l m l2
-short_as a m l l1 l2 s e p = record {
-  sooner = p.sooner;
-  later = p.later;
-  sights = s ∙ p.sights;
-  kept = subst (λ (ls : List Limbo). (((limbo_at ls m).old ≡ []) × ((limbo_at ls m).young ≡ []))
-      ⊎ ((d : ℕ) × (more : List Sight) × (p.sooner ≡ Runs d (slice_index (limbo_at ls m).noted d) ∷ more) × (slice_index (limbo_at ls m).noted d % 2 ≡ 1))) (sym e) p.kept;
-  taken = p.taken;
-}
-
 -- ---- the answer
 pub lacks_of : (a : About) (l : Known) (m : ℕ) (r : MapAnswer) (l2 : Known) → (r ≡ Busy → 2 ^ 56 - 1 ≤ a.version + done_in m l2.seen) → (r ≡ NoMemory → SearchesInVain a l m l2) → Lacks a l m r l2
 lacks_of a l m Done l2 worn none = tt
@@ -133,46 +99,6 @@ lacks_of a l m Exists l2 worn none = tt
 lacks_of a l m Absent l2 worn none = tt
 lacks_of a l m Full l2 worn none = tt
 lacks_of a l m NoMemory l2 worn none = none refl
-
-pub refusal_called : (a : About) (l l1 : Known) (m : ℕ) (key bytes : List ℕ) (flags : ℕ) (r : MapAnswer) (l2 : Known) → Keeps m l l1 → Rests l m → Refusal a (counted_lock l1) m key bytes flags r l2
-    → Called a l m (Update m key bytes flags r) l2
-refusal_called a l l1 m key bytes flags r l2 k rests p = record {
-  seen = saw_as a l (counted_lock l1) (Update m key bytes flags r) l2.seen k.cpu k.seen p.seen;
-  rests = record {
-    fresh = ap (λ (q : Known). q.fresh) p.after ∙ (k.fresh ∙ rests.fresh);
-    locks = ap (λ (q : Known). q.locks) p.after;
-    used = ap (λ (q : Known). (limbo_at q.limbo m).used) p.after ∙ (k.used ∙ rests.used);
-  };
-  cpu = ap (λ (q : Known). q.cpu) p.after ∙ k.cpu;
-  readings = ap (λ (q : Known). q.readings) p.after ∙ k.readings;
-  size = ap (λ (q : Known). length q.limbo) p.after ∙ k.size;
-  others = λ n ne. ap (λ (q : Known). limbo_at q.limbo n) p.after ∙ k.others n ne;
-}
-
-pub told_called : (a : About) (l : Known) (m : ℕ) (ev : Event) (l2 : Known) → Rests l m → Told a l ev l2 → Called a l m ev l2
-told_called a l m ev l2 rests p = record {
-  seen = p.seen;
-  rests = record {
-    fresh = ap (λ (q : Known). q.fresh) p.after ∙ rests.fresh;
-    locks = ap (λ (q : Known). q.locks) p.after ∙ rests.locks;
-    used = ap (λ (q : Known). (limbo_at q.limbo m).used) p.after ∙ rests.used;
-  };
-  cpu = ap (λ (q : Known). q.cpu) p.after;
-  readings = ap (λ (q : Known). q.readings) p.after;
-  size = ap (λ (q : Known). length q.limbo) p.after;
-  others = λ n ne. ap (λ (q : Known). limbo_at q.limbo n) p.after;
-}
-
--- the call, seen from before an element was claimed
-pub called_before : (a : About) (l l1 : Known) (m e : ℕ) (ev : Event) (l2 : Known) → Keeps m (holding l m e) l1 → Called a l1 m ev l2 → Called a l m ev l2
-called_before a l l1 m e ev l2 k p = record {
-  seen = saw_as a l l1 ev l2.seen k.cpu k.seen p.seen;
-  rests = p.rests;
-  cpu = p.cpu ∙ k.cpu;
-  readings = p.readings ∙ k.readings;
-  size = p.size ∙ k.size;
-  others = λ n ne. p.others n ne ∙ k.others n ne;
-}
 
 pub key_at_map : (a : About) (m : ℕ) (key : List ℕ) → IsKeyOf a.shape.maps m key → (m < length a.shape.maps) × (length key ≡ (shape_at a m).key)
 key_at_map a m key p = let t = map_of a.shape m p.0 p.1 in (t.0, p.2 ∙ ap (λ (g : MapShape). g.key) (sym t.1))

@@ -1,5 +1,5 @@
 -- What a write leaves of the segment as it is seen.
-use Rattle.std.proofs.Common.{◌≡◌, ℕ, suc, zero, ◌+◌, ◌<◌, ◌^◌, ◌%◌, nat_lt, Bool, true, false, ◌==◌, if◌then◌else◌, Option, Some, None, refl, ap, sym, subst, ◌∙◌, arith, eq-eqb}
+use Rattle.std.proofs.Common.{◌≡◌, ℕ, suc, zero, ◌+◌, ◌<◌, ◌^◌, ◌%◌, nat_lt, Bool, true, false, ◌==◌, if◌then◌else◌, Option, Some, None, refl, ap, ◌∙◌, arith, eq-eqb}
 use Rattle.std.specs.Prelude.{IfSome}
 use Rattle.std.proofs.lemmas.Bool.Decides.{nat_tests}
 use Rattle.hop_words.specs.declared.place.Place.{Place}
@@ -9,15 +9,8 @@ use Rattle.hop_words.specs.Content.{place_words, item}
 use Rattle.hop_words.proofs.Layouts.{wrote}
 use Rattle.hop_seg.specs.Words.{Words as SegWords, with_hop, with_slot, with_head, with_next, replace_at}
 use Rattle.hop_words.specs.Locking.{lock_of}
-use Rattle.hop_map.specs.Lemmas.Keeping.{stays_itself}
-use Rattle.hop_map.specs.Views.{Locked, Ready, Stays, knows, segment_view, seen_words, written}
+use Rattle.hop_map.specs.Views.{Locked, Ready, knows, segment_view, seen_words, written}
 use Rattle.hop_epoch.specs.Batch.{link_word}
-
-pub stays_same : (x y : Locked) → y ≡ x → Stays x y
-stays_same x y e = subst (Stays x) (sym e) (stays_itself x)
-
-pub stays_written : (x y : Locked) (p : Place) (n : ℕ) → y ≡ written x p n → Stays x y
-stays_written x y p n e = subst (Stays x) (sym e) (record { table = refl; about = refl; map = refl; segment = refl; known = refl; lock = refl })
 
 -- ---- items
 pub item_word : (o : Option ℕ) → IfSome o (λ e. e < 2 ^ 32) → item (link_word o) ≡ o
