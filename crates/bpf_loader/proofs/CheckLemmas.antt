@@ -8,9 +8,9 @@ use Rattle.bpf_insn.specs.Refusal.{max_words}
 use Rattle.bpf_loader.specs.declared.refusal.LoadError.{LoadError}
 use Rattle.bpf_loader.specs.declared.refusal.LoadError.TheVariants as error
 use Rattle.bpf_insn.specs.Table.{word_length}
-use Rattle.bpf_loader.specs.Places.{Begins, IsStart, IsOutside}
-use Rattle.bpf_loader.specs.Sound.{HasAt, Applies, IsSound, IsFirstRefusal, refusal_number, place}
-use Rattle.bpf_loader.specs.Private.Checks.{IsClearBefore, IsClearAt, IsClearBelow, IsLeastAt}
+use Rattle.bpf_loader.specs.Places.{Begins, IsOutside}
+use Rattle.bpf_loader.specs.Sound.{HasAt, Applies, IsSound, refusal_number, place}
+use Rattle.bpf_loader.specs.Private.Checks.{IsClearBefore, IsClearBelow}
 use Rattle.bpf_loader.proofs.MarkLemmas.{begins_unique}
 use Rattle.bpf_loader.proofs.WordLemmas.{start_inside, words_some}
 
@@ -83,36 +83,6 @@ clear_from maps is pc some short (error.UnknownHelper q) applies at = omega arit
 clear_from maps is pc some short (error.UnknownMap q) applies at = omega arith
 clear_from maps is pc some short error.OutOfMemory applies at = absurd applies
 
--- a refusal that applies has a number below that of want of memory
-applies_code : (maps : ℕ) (is : List Insn) (e : LoadError) → Applies maps is e → refusal_number e < 14
-applies_code maps is error.Empty applies = omega arith
-applies_code maps is error.TooLong applies = omega arith
-applies_code maps is (error.WritesR10 q) applies = omega arith
-applies_code maps is (error.JumpOut q) applies = omega arith
-applies_code maps is (error.JumpIntoWide q) applies = omega arith
-applies_code maps is (error.FallsOff q) applies = omega arith
-applies_code maps is (error.UnknownHelper q) applies = omega arith
-applies_code maps is (error.UnknownMap q) applies = omega arith
-applies_code maps is error.OutOfMemory applies = absurd applies
-
-pub clear_at : (maps : ℕ) (is : List Insn) (pc : ℕ) → IsClearBelow maps is pc 14 → IsClearAt maps is pc
-clear_at maps is pc clear e applies at = omega (arith, clear e applies at, applies_code maps is e applies)
-
-start_along : (is : List Insn) (q pc : ℕ) → q ≡ pc → IsStart is q → IsStart is pc
-start_along is q pc e start = let P : ℕ → Type 0 = λ n. IsStart is n in subst P e start
-
--- at a word where no instruction begins no refusal applies
-pub clear_second : (maps : ℕ) (is : List Insn) (pc : ℕ) → is ≢ [] → word_length is ≤ max_words → ¬ IsStart is pc → IsClearAt maps is pc
-clear_second maps is pc some short none error.Empty applies at = absurd (some applies)
-clear_second maps is pc some short none error.TooLong applies at = absurd (omega (arith, applies))
-clear_second maps is pc some short none (error.WritesR10 q) applies at = none (start_along is q pc at (applies.0, applies.1))
-clear_second maps is pc some short none (error.JumpOut q) applies at = none (start_along is q pc at (applies.0, applies.1))
-clear_second maps is pc some short none (error.JumpIntoWide q) applies at = none (start_along is q pc at (applies.0, applies.1))
-clear_second maps is pc some short none (error.FallsOff q) applies at = none (start_along is q pc at (applies.0, applies.1))
-clear_second maps is pc some short none (error.UnknownHelper q) applies at = none (start_along is q pc at (applies.0, applies.1))
-clear_second maps is pc some short none (error.UnknownMap q) applies at = none (start_along is q pc at (applies.0, applies.1))
-clear_second maps is pc some short none error.OutOfMemory applies at = applies
-
 -- a refusal that applies speaks of a word of the program
 within : (maps : ℕ) (is : List Insn) (e : LoadError) → is ≢ [] → word_length is ≤ max_words → Applies maps is e → place e < word_length is
 within maps is error.Empty some short applies = absurd (some applies)
@@ -129,16 +99,3 @@ within maps is error.OutOfMemory some short applies = absurd applies
 pub sound_of_clear : (maps : ℕ) (is : List Insn) → is ≢ [] → word_length is ≤ max_words → IsClearBefore maps is (word_length is) → IsSound maps is
 sound_of_clear maps is some short clear e applies =
     absurd (omega (arith, clear e applies, within maps is e some short applies))
-
-pub clear_more : (maps : ℕ) (is : List Insn) (pc : ℕ) → IsClearBefore maps is pc → IsClearAt maps is pc → IsClearBefore maps is (pc + 1)
-clear_more maps is pc before here e applies = omega (arith, before e applies, here e applies)
-
--- the refusal of the lowest number at the first word that isn't clear is the first
-pub first_of_least : (maps : ℕ) (is : List Insn) (pc : ℕ) (e : LoadError) → IsClearBefore maps is pc → IsLeastAt maps is pc e → IsFirstRefusal maps is e
-first_of_least maps is pc e before at = record {
-  first = record {
-    applies = at.applies;
-    lowest = λ other applies. omega (arith, before other applies, at.at);
-    least = λ other applies same. at.least other applies (same ∙ at.at);
-  };
-}

@@ -269,9 +269,6 @@ module _ (p q : Contents) (c : ℕ) (is : IsStore p) (serves : has_cpu p c ≡ t
             omega arith
       ]
 
-pub alike_itself : (p : Contents) → IsAlike p p
-alike_itself p = record { shows = λ s h. h; running = refl; held = refl; serves = refl; shapes = refl }
-
 -- ---- a begin
 kept-idle : (s : Plain) (c : ℕ) → IsSoundStore s → s.running c ≡ false → put s.kept c never ≡ s.kept
 kept-idle s c so idle = λ k d v. go d v k

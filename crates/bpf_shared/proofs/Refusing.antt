@@ -1,7 +1,6 @@
 -- No test of a store's shape applies exactly where the shape is in range.
 use Rattle.std.proofs.Common.{◌≡◌, ℕ, zero, suc, ◌+◌, ◌<◌, ◌≤◌, nat_lt, Bool, true, false, List, [], ◌∷◌, ◌++◌, length, drop, get_or, Some, None, slice_get, refl, ap, sym, ◌∙◌, arith}
 use Rattle.std.proofs.lemmas.Bool.Decides.{nat_tests}
-use Rattle.std.proofs.lemmas.List.{drop_more}
 use Rattle.bpf_shared.specs.declared.shapes.MapShape.{MapShape}
 use Rattle.bpf_shared.specs.declared.shapes.ShapeError.{ShapeError}
 use Rattle.bpf_shared.specs.declared.shapes.ShapeError.TheVariants.{KeySize, ValueSize, KeyCount, SpareCount, TooManyMaps, CpuCount}
@@ -20,17 +19,6 @@ first_of-append_some ((q, true) ∷ xs) ys r e = e
 first_of-append_some ((q, false) ∷ xs) ys r e = first_of-append_some xs ys r e
 
 -- ---- the next map of a list
-pub next_passes : (hs : List MapShape) (m : ℕ) (h : MapShape) → m < length hs → h ≡ get_or hs m h → first_of (map_tests m h) ≡ None
-    → first_of (maps_tests m (drop m hs)) ≡ first_of (maps_tests (m + 1) (drop (m + 1) hs))
-next_passes hs m h l e none =
-    ap (λ (x : List MapShape). first_of (maps_tests m x)) (drop_more hs m h l)
-    ∙ first_of-append_none (map_tests m (get_or hs m h)) (maps_tests (m + 1) (drop (m + 1) hs)) (ap (λ (x : MapShape). first_of (map_tests m x)) (sym e) ∙ none)
-
-pub next_refuses : (hs : List MapShape) (m : ℕ) (h : MapShape) (r : ShapeError) → m < length hs → h ≡ get_or hs m h → first_of (map_tests m h) ≡ Some r
-    → first_of (maps_tests m (drop m hs)) ≡ Some r
-next_refuses hs m h r l e some =
-    ap (λ (x : List MapShape). first_of (maps_tests m x)) (drop_more hs m h l)
-    ∙ first_of-append_some (map_tests m (get_or hs m h)) (maps_tests (m + 1) (drop (m + 1) hs)) r (ap (λ (x : MapShape). first_of (map_tests m x)) (sym e) ∙ some)
 
 -- ---- one number
 pub outside_false : (least most n : ℕ) → outside least most n ≡ false → (least ≤ n) × (n ≤ most)
@@ -101,11 +89,6 @@ shape_passes s is =
     go true b e f = cc
     go false true e f = cc
     go false false e f = maps_pass 0 s.maps is.each
-
-pub first_two : (a b : Bool) (ts : List (ShapeError × Bool)) → a ≡ false → b ≡ false → first_of ((CpuCount, a) ∷ (TooManyMaps, b) ∷ ts) ≡ first_of ts
-first_two true b ts e f = cc
-first_two false true ts e f = cc
-first_two false false ts e f = refl
 
 pub get_within : (hs : List MapShape) (m : ℕ) (d : MapShape) → m < length hs → slice_get hs m ≡ Some (get_or hs m d)
 get_within [] m d l = absurd (omega arith)

@@ -25,12 +25,6 @@ abbrev key_at : List Pair → ℕ → List ℕ
 key_at pairs k = (pair_at pairs k).0
 
 -- ---- one more element
-pub pairs_none : (t : Rows) (pairs : List Pair) → pairs ≡ [] → ArePairsBelow t 0 pairs
-pairs_none t pairs e = record {
-  each = λ k l. absurd (let n : length pairs ≡ 0 = ap (λ (x : List Pair). length x) e in omega arith);
-  all = λ i k l. absurd (omega arith);
-  once = λ j k l m e'. absurd (let n : length pairs ≡ 0 = ap (λ (x : List Pair). length x) e in omega arith);
-}
 
 pub pairs_past : (t : Rows) (n : ℕ) (pairs : List Pair) → (IsLinked t n → ⊥) → ArePairsBelow t n pairs → ArePairsBelow t (n + 1) pairs
 pairs_past t n pairs unset a = record {

@@ -1,23 +1,17 @@
 -- Reading hex text byte by byte.
-use Rattle.std.proofs.Common.{◌≡◌, ℕ, ◌+◌, ◌*◌, ◌<◌, ◌≤◌, inl, inr, true, false, not, cond, List, [], ◌∷◌, ◌++◌, length, get_or, drop, Some, None, Result, Ok, Err, refl, sym, ap, subst, ◌∙◌, append_assoc, arith}
+use Rattle.std.proofs.Common.{◌≡◌, ℕ, ◌+◌, ◌*◌, ◌<◌, ◌≤◌, inl, inr, false, List, [], ◌∷◌, ◌++◌, length, drop, Some, None, Result, Ok, Err, refl, sym, ap, subst, ◌∙◌, append_assoc, arith}
 use Rattle.std.specs.Prelude.{◌==◌}
 use Rattle.std.proofs.lemmas.Bool.{cases_Bool, eqb-true}
-use Rattle.std.proofs.lemmas.List.{append-nil, drop_more, drop_all}
+use Rattle.std.proofs.lemmas.List.{append-nil, drop_all}
 use Rattle.hex.specs.Hex.{decode_pairs, hex_digit_value, pair_value}
 use Rattle.hex.specs.declared.error.FromHexError.{FromHexError}
 use Rattle.hex.specs.declared.error.FromHexError.TheVariants.{OddLength, InvalidHexCharacter}
 use Rattle.hex.proofs.HexLemmas.{decode_of-even, decode_of-ok}
 use Rattle.hex.proofs.Pairs.{cons_byte, decode_pairs-ok_pair}
-use Rattle.bpf_text.specs.HexText.{is_passed_over, digits_of, IsHexOf}
+use Rattle.bpf_text.specs.HexText.{digits_of, IsHexOf}
 use Rattle.bpf_text.specs.Private.Digits.{behind, IsReadTo, IsAhead}
 use Rattle.bpf_text.specs.declared.hex_text.Ahead.{Ahead}
 use Rattle.bpf_text.specs.declared.hex_text.Ahead.TheVariants as ahead
-
-digits_of-blank : (b : ℕ) (text : List ℕ) → is_passed_over b ≡ true → digits_of (b ∷ text) ≡ digits_of text
-digits_of-blank b text e = ap (λ t. cond (not t) (b ∷ digits_of text) (digits_of text)) e
-
-digits_of-digit : (b : ℕ) (text : List ℕ) → is_passed_over b ≡ false → digits_of (b ∷ text) ≡ b ∷ digits_of text
-digits_of-digit b text e = ap (λ t. cond (not t) (b ∷ digits_of text) (digits_of text)) e
 
 behind_nothing : (r : Result (List ℕ) FromHexError) → r ≡ behind [] r
 behind_nothing (Ok bytes) = refl
@@ -89,22 +83,6 @@ other b k n some none = elim (cases_Bool (b == k)) [
   | inl same ↦ let e : b ≡ k = eqb-true b k same in absurd (cc (some, none, e))
   | inr differs ↦ differs
 ]
-
-not_passed_over : (b n : ℕ) → hex_digit_value b ≡ Some n → is_passed_over b ≡ false
-not_passed_over b n some = rw (other b 32 n some refl, other b 9 n some refl, other b 13 n some refl, other b 10 n some refl) refl
-
--- a digit at a place
-pub digit_there : (text : List ℕ) (at n : ℕ) → at < length text → hex_digit_value (get_or text at 0) ≡ Some n → digits_of (drop at text) ≡ get_or text at 0 ∷ digits_of (drop (at + 1) text)
-digit_there text at n within some =
-    ap digits_of (drop_more text at 0 within) ∙ digits_of-digit (get_or text at 0) (drop (at + 1) text) (not_passed_over (get_or text at 0) n some)
-
-pub blank_there : (text : List ℕ) (at : ℕ) → at < length text → is_passed_over (get_or text at 0) ≡ true → digits_of (drop at text) ≡ digits_of (drop (at + 1) text)
-blank_there text at within blank =
-    ap digits_of (drop_more text at 0 within) ∙ digits_of-blank (get_or text at 0) (drop (at + 1) text) blank
-
-pub other_there : (text : List ℕ) (at : ℕ) → at < length text → is_passed_over (get_or text at 0) ≡ false → digits_of (drop at text) ≡ get_or text at 0 ∷ digits_of (drop (at + 1) text)
-other_there text at within not_blank =
-    ap digits_of (drop_more text at 0 within) ∙ digits_of-digit (get_or text at 0) (drop (at + 1) text) not_blank
 
 pub none_there : (text : List ℕ) (at : ℕ) → length text ≤ at → digits_of (drop at text) ≡ []
 none_there text at past = ap digits_of (drop_all at text past)

@@ -330,12 +330,6 @@ refuses : (done : List Insn) (e : TextError) (r : Meaning) → behind done (then
 refuses done e (Ok is) = refl
 refuses done e (Err f) = refl
 
-pub meant_refused : (labels : List ℕ → Option Place) (lines : List Kept) (i pc : ℕ) (d : Kept) (done : List Insn) (e : TextError) (whole : Meaning) → i < length lines
-    → behind done (kept_program labels pc (map kept_view (drop i lines))) ≡ whole → Err e ≡ meaning_of labels (get_or lines i d).line pc (source_of (get_or lines i d).source) → whole ≡ Err e
-meant_refused labels lines i pc d done e whole lt h m =
-    let rest = kept_program labels (pc + words_of (source_of (get_or lines i d).source).body) (map kept_view (drop (i + 1) lines)) in
-    sym h ∙ ap (λ x. behind done (kept_program labels pc x)) (next_lines lines i d lt) ∙ ap (λ x. behind done (then_meaning x rest)) (sym m) ∙ refuses done e rest
-
 pub meant_whole : (labels : List ℕ → Option Place) (lines : List Kept) (i pc : ℕ) (done : List Insn) (whole : Meaning) → length lines ≤ i
     → behind done (kept_program labels pc (map kept_view (drop i lines))) ≡ whole → whole ≡ Ok done
 meant_whole labels lines i pc done whole le h = sym h ∙ ap (λ x. behind done (kept_program labels pc (map kept_view x))) (drop_all i lines le) ∙ ap Ok (append-nil done)

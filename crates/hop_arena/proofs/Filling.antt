@@ -1,9 +1,9 @@
 -- Filling an element, a word at a time.
-use Rattle.std.proofs.Common.{◌≡◌, ℕ, zero, suc, List, [], ◌∷◌, ◌++◌, length, refl, ap, ◌∙◌, arith, length-append, append_assoc}
+use Rattle.std.proofs.Common.{◌≡◌, ℕ, zero, suc, List, [], ◌∷◌, ◌++◌, length, refl, ap, ◌∙◌, arith, length-append}
 use Rattle.std.proofs.lemmas.List.{append-nil}
 use Rattle.hop_words.specs.declared.known.Known.{Known}
 use Rattle.hop_words.specs.declared.known.Fresh.{Fresh}
-use Rattle.hop_words.specs.Owning.{IsInHand, tail_of, key_filled, value_filled, with_key_word, with_value_word}
+use Rattle.hop_words.specs.Owning.{IsInHand, tail_of, key_filled, value_filled}
 use Rattle.hop_words.specs.Locking.{nothing_in_hand}
 use Rattle.hop_arena.specs.Filling.{with_words, word_list}
 use Rattle.hop_words.specs.Homes.{word_of}
@@ -34,15 +34,6 @@ values_filled (x ∷ xs) m e ks vs h none = length-append x.value vs ∙ omega a
 pub no_words : (fs : List Fresh) → with_words fs [] [] ≡ fs
 no_words [] = refl
 no_words (x ∷ xs) = (λ i. record x { key = append-nil x.key i; value = append-nil x.value i } ∷ xs)
-
--- one word more
-pub key_word_on : (fs : List Fresh) (ks vs : List ℕ) (n : ℕ) → with_key_word (with_words fs ks vs) n ≡ with_words fs (ks ++ n ∷ []) vs
-key_word_on [] ks vs n = refl
-key_word_on (x ∷ xs) ks vs n = ap (λ (k : List ℕ). record x { key = k; value = x.value ++ vs } ∷ xs) (append_assoc x.key ks (n ∷ []))
-
-pub value_word_on : (fs : List Fresh) (ks vs : List ℕ) (n : ℕ) → with_value_word (with_words fs ks vs) n ≡ with_words fs ks (vs ++ n ∷ [])
-value_word_on [] ks vs n = refl
-value_word_on (x ∷ xs) ks vs n = ap (λ (v : List ℕ). record x { key = x.key ++ ks; value = v } ∷ xs) (append_assoc x.value vs (n ∷ []))
 
 pub word_count : (n : ℕ) (bs : List ℕ) → length (word_list n bs) ≡ n
 word_count zero bs = refl

@@ -10,7 +10,7 @@ use Rattle.hop_words.specs.Homes.{AreBytes, word_of, key_bucket}
 use Rattle.hop_words.specs.Content.{MapWords, IsShare, HasKey, item, HopsTo, LinksThrough, Reached, IsOnList, times}
 use Rattle.hop_words.specs.Ghost.{Each}
 use Rattle.hop_words.specs.Rule.{IsPeek}
-use Rattle.hop_words.specs.SegContract.{IsFound, WasRead, Differs, Matches, ReadHops, ReadList, ReadNone, Starts, ReadUpTo}
+use Rattle.hop_words.specs.SegContract.{WasRead, Differs, Matches, ReadHops, ReadList, ReadNone, Starts}
 use Rattle.hop_words.proofs.Small.{spelled_same, spelled_back}
 use Rattle.hop_words.proofs.Shares.{one_list, some_once, times_head, times_tail}
 
@@ -78,19 +78,6 @@ module _ (seed : ℕ) (g : MapShape) (home : List ℕ → ℕ) (m s : ℕ) (read
       not_it e k.0 k.1 (n.list_differs e (subst (λ (es : List ℕ). 1 ≤ times e es) (mine ∙ list_is n.list) o.2)))
       k.0
 
--- the key isn't there
-pub found_none : (seed : ℕ) (g : MapShape) (home : List ℕ → ℕ) (m s : ℕ) (read : List Peek) (key : List ℕ) → home key ≡ s → ReadNone seed g m s read key → IsFound seed g home m s read key None
-found_none seed g home m s read key here n x f share all = go (f key) refl
-  where
-    go : (o : Option ℕ) → f key ≡ o → f key ≡ None
-    go None e = e
-    go (Some e) is = absurd (nothing_there seed g home m s read key x f share all n e is here)
-
--- it is there, by a hop bit
-pub found_hop : (seed : ℕ) (g : MapShape) (home : List ℕ → ℕ) (m s : ℕ) (read : List Peek) (key : List ℕ) (h : ReadHops seed g m s read key) (d : ℕ) → length key ≡ g.key → AreBytes key → d < 32 → bit_at h.hop d ≡ 1 → Matches read g m (h.element d) key
-    → IsFound seed g home m s read key (Some (h.element d))
-found_hop seed g home m s read key h d lk bk l bit same x f share all = it_is seed g home m s read key x f share all (h.element d) lk bk (hop_reached seed g home m s read key x f share all h d l bit) same
-
 -- it is there, on the overflow list, which was read as far as it
 up_to : (link read : ℕ → ℕ) (n : ℕ) (xs ds : List ℕ) (e : ℕ) → LinksThrough link n xs → Starts read n ds e → ((d : ℕ) → 1 ≤ times d xs → 1 ≤ times d ds → link d ≡ read d) → 1 ≤ times e xs
 up_to link read n [] [] e p q same = let z : None ≡ Some e = sym p ∙ q in cc
@@ -100,10 +87,3 @@ up_to link read n (x ∷ xs) (d ∷ ds) e p q same =
     let h : x ≡ d = some_once x d (sym p.0 ∙ q.0) in
     let l : link x ≡ read d = same x (times_head x xs) (subst (λ (k : ℕ). 1 ≤ times k (d ∷ ds)) (sym h) (times_head d ds)) ∙ ap read h in
     times_tail e x xs (up_to link read (link x) xs ds e p.1 (subst (λ (k : ℕ). Starts read k ds e) (sym l) q.1) (λ c a b. same c (times_tail c x xs a) (times_tail c d ds b)))
-
-pub found_on_list : (seed : ℕ) (g : MapShape) (home : List ℕ → ℕ) (m s : ℕ) (read : List Peek) (key : List ℕ) (e : ℕ) (w : ReadUpTo m s read e) → length key ≡ g.key → AreBytes key → Matches read g m e key → IsFound seed g home m s read key (Some e)
-found_on_list seed g home m s read key e w lk bk same x f share all =
-    let head : x.head m s ≡ w.head = read_is x m s read (Head m s) w.head all w.head_read refl refl in
-    let there : 1 ≤ times e share.sound.list = up_to (x.link m) w.link (x.head m s) share.sound.list w.before e share.sound.follows (subst (λ (n : ℕ). Starts w.link n w.before e) (sym head) w.starts)
-    (λ d a b. read_is x m s read (Link m d) (w.link d) all (w.link_read d b) refl (inr (share.sound.list, share.sound.follows, a))) in
-    it_is seed g home m s read key x f share all e lk bk (inr (share.sound.list, share.sound.follows, there)) same
