@@ -1,16 +1,11 @@
 -- A list whose first items are changed.
-use Rattle.std.proofs.Common.{◌≡◌, ℕ, zero, suc, ◌+◌, ◌<◌, List, [], ◌∷◌, length, map, get_or, set, refl, ap, ◌∙◌, arith}
+use Rattle.std.proofs.Common.{◌≡◌, ℕ, zero, suc, List, [], ◌∷◌, length, map, refl, ap}
 
 -- f of the first n items, and the rest as they are
 abbrev pub first_mapped : {A : Type 0} → (A → A) → ℕ → List A → List A
 first_mapped f zero xs = xs
 first_mapped f (suc n) [] = []
 first_mapped f (suc n) (x ∷ xs) = f x ∷ first_mapped f n xs
-
-step : {A : Type 0} (f : A → A) (i : ℕ) (xs : List A) (d : A) → i < length xs → set (first_mapped f i xs) i (f (get_or (first_mapped f i xs) i d)) ≡ first_mapped f (suc i) xs
-step f i [] d h = absurd (omega arith)
-step f zero (x ∷ xs) d h = refl
-step f (suc i) (x ∷ xs) d h = ap (λ l. f x ∷ l) (step f i xs d (omega arith))
 
 pub first_mapped-length : {A : Type 0} (f : A → A) (xs : List A) → first_mapped f (length xs) xs ≡ map f xs
 first_mapped-length f [] = refl

@@ -1,6 +1,6 @@
 //! The command that words name: what `clap` finds in them, and what its options stand for.
 
-ghost use Rattle.std.specs.Prelude.{◌≡◌, ◌<◌, ◌≤◌, ◌⊎◌, [], codes, IfErr, IfOk, IfSome, IsSomeAnd, List, map, OnOk, option_and_then, Some, ℕ};
+ghost use Rattle.std.specs.Prelude.{◌≡◌, ◌<◌, ◌≤◌, ◌⊎◌, [], codes, IfErr, IfOk, IfSome, IsSomeAnd, map, OnOk, option_and_then, Some};
 ghost use Rattle.bpf_explain.specs.Code.{code_of};
 ghost use Rattle.clap.specs.Kinds.{FailsBy};
 ghost use Rattle.clap.specs.Takes.{is_given};

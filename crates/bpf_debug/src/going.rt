@@ -1,9 +1,8 @@
 //! What `go` does: rounds of turns, up to a breakpoint or until no work is left.
 
-ghost use Rattle.std.specs.Prelude.{◌≡◌, ◌+◌, ◌*◌, ◌≤◌, ◌<◌, ◌++◌, ◌⊎◌, ◌↔◌, IsTrue, IfSome, IfNone, List, ℕ, [], true, false, length, slice_index_or, string_bytes, string_capacity, string_len};
+ghost use Rattle.std.specs.Prelude.{◌≡◌, ◌+◌, ◌*◌, ◌≤◌, ◌<◌, ◌++◌, ◌⊎◌, IfSome, IfNone, List, ℕ, [], true, false, length, slice_index_or, string_bytes, string_capacity, string_len};
 ghost use Rattle.bpf_machine.specs.Schedule.{World};
 ghost use Rattle.bpf_machine.specs.Machine.{Shows};
-ghost use Rattle.bpf_machine.specs.Hands.{IsFree, NoneWaits};
 ghost use Rattle.bpf_machine.specs.Questions.{open_jobs};
 ghost use Rattle.bpf_debug.specs.Go.{Goes, HasWork, AreIdle, IsUp, StandsAt, has_break};
 

@@ -1,9 +1,8 @@
 //! The lines that answer commands. A line has room for 128 bytes.
 
-ghost use Rattle.std.specs.Prelude.{◌≡◌, ◌+◌, ◌*◌, ◌≤◌, ◌++◌, ◌⊎◌, List, ℕ, length, string_bytes, string_capacity, string_len};
-ghost use Rattle.bpf_cpu.specs.Lines.{fault_code, outcome_text, job_line};
+ghost use Rattle.std.specs.Prelude.{◌≡◌, ◌+◌, ◌*◌, ◌≤◌, ◌++◌, List, ℕ, length, string_bytes, string_capacity, string_len};
+ghost use Rattle.bpf_cpu.specs.Lines.{outcome_text, job_line};
 ghost use Rattle.bpf_machine.specs.Hands.{IsFree};
-ghost use Rattle.bpf_machine.specs.Questions.{IsStanding};
 ghost use Rattle.bpf_debug.specs.Answer.{cpu_words, in_hand_line, waiting_line, idle_line, register_line, register_lines, break_line, stop_line, ended_text, IsWhere, IsRegisters, IsOff};
 
 use crate::text::{put, put_number};

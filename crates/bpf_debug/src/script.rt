@@ -1,6 +1,6 @@
 //! Scripts: lines that are followed one after the other.
 
-ghost use Rattle.std.specs.Prelude.{◌≡◌, ◌≤◌, IfOk, OnErr, length, map, string_bytes};
+ghost use Rattle.std.specs.Prelude.{◌≡◌, IfOk, OnErr, length, map, string_bytes};
 ghost use Rattle.std.specs.Option.{option_copied};
 ghost use Rattle.bpf_text.specs.Lines.{lines_behind, lines_of};
 ghost use Rattle.bpf_debug.specs.Session.{Scene, IsShown};

@@ -1,6 +1,6 @@
 //! Text put into room that was made for it.
 
-ghost use Rattle.std.specs.Prelude.{◌≡◌, ◌+◌, ◌≤◌, ◌++◌, codes, length, string_bytes, string_capacity, string_len};
+ghost use Rattle.std.specs.Prelude.{◌≡◌, ◌+◌, ◌≤◌, ◌++◌, length, string_bytes, string_capacity, string_len};
 ghost use Rattle.std.specs.Fmt.{decimal};
 
 use itoa::Buffer;

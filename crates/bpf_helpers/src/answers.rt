@@ -1,6 +1,6 @@
 //! What the store answers, as programs get it.
 
-ghost use Rattle.std.specs.Prelude.{◌≡◌, true, List, [], ◌∷◌, Option, IfSome};
+ghost use Rattle.std.specs.Prelude.{◌≡◌, true, [], ◌∷◌, Option, IfSome};
 ghost use Rattle.bpf_shared.specs.declared.events.Event.{Event};
 ghost use Rattle.bpf_shared.specs.declared.events.Span.{Span};
 ghost use Rattle.bpf_shared.specs.Chain.{Chain};

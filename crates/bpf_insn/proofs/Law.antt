@@ -1,6 +1,6 @@
 -- What follows from the checks of a word against the row that it can be of: the instruction, or the
 -- first refusal that applies; and never both.
-use Rattle.std.proofs.Common.{◌≡◌, ℕ, ◌≤◌, Some, None, Ok, Err, sym, subst, ◌∙◌, arith}
+use Rattle.std.proofs.Common.{◌≡◌, ◌≤◌, Some, None, Ok, Err, sym, subst, ◌∙◌, arith}
 use Rattle.bpf_insn.specs.Table.{row_of}
 use Rattle.bpf_insn.specs.Encoding.{IsWrittenAs, Fits}
 use Rattle.bpf_insn.specs.Refusal.{IsOfRow, IsClean, IsWhole, HasRegisters, IsAmiss, IsFirstAmiss, error_number, error_at}
@@ -16,9 +16,6 @@ use Rattle.bpf_insn.proofs.Dispatch.{rebuilt, found, found_shape, one_shape}
 use Rattle.bpf_insn.proofs.Spelling.{written_of_row, written_clean, written_whole, written_registers, held, passing}
 
 -- ---- the refusals
-
-number : Fault → ℕ
-number f = error_number (error_at f 0)
 
 unknown : (w : Window) → ((i : Insn) → ¬ IsOfRow (row_of i) w.word) → IsFirstAmiss w UnknownOpcode
 unknown w n = record { applies = n; lowest = λ g a. omega arith; least = λ g a s. least g }

@@ -1,6 +1,6 @@
 //! Instructions from bytes.
 
-ghost use Rattle.std.specs.Prelude.{◌≡◌, ◌≤◌, ◌*◌, ◌+◌, drop, List, length, IfOk, IfErr};
+ghost use Rattle.std.specs.Prelude.{◌≤◌, ◌*◌, ◌+◌, List, length, IfOk, IfErr};
 ghost use Rattle.bpf_insn.specs.declared.instruction.Insn.{Insn};
 ghost use Rattle.bpf_insn.specs.Encoding.{IsEncodedAs};
 ghost use Rattle.bpf_insn.specs.Refusal.{IsSized, IsRefused, IsAnswered};

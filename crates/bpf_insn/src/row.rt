@@ -1,6 +1,6 @@
 //! A row of the table of instructions: what the fields of a word are for.
 
-ghost use Rattle.std.specs.Prelude.{◌≡◌, ◌↔◌, IsTrue, IfSome};
+ghost use Rattle.std.specs.Prelude.{◌≡◌, ◌↔◌, IsTrue};
 ghost use Rattle.bpf_insn.specs.Encoding.{value_of, first_word, second_word};
 ghost use Rattle.bpf_insn.specs.Refusal.{Selected, IsOfRow, IsZeroed, IsZeroedSecond, IsClean, IsWhole, IsRegister, HasRegisters};
 ghost use Rattle.bpf_insn.specs.Private.Bytes.{IsNarrow};

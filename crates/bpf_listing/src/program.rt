@@ -1,6 +1,6 @@
 //! The listing of a program that is given by its words.
 
-ghost use Rattle.std.specs.Prelude.{◌≡◌, ◌++◌, ◌*◌, ◌+◌, ◌≤◌, ◌<◌, ◌^◌, [], ◌∷◌, codes, IfOk, IsOkUnless, OnOk, length, string_bytes};
+ghost use Rattle.std.specs.Prelude.{◌≡◌, ◌++◌, ◌*◌, ◌+◌, ◌<◌, codes, IfOk, IsOkUnless, OnOk, string_bytes};
 ghost use Rattle.bpf_insn.specs.Encoding.{IsEncodedAs};
 ghost use Rattle.bpf_text.specs.Form.{line_of};
 ghost use Rattle.bpf_listing.specs.Program.{place_comment, program_lines};

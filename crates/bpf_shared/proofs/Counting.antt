@@ -53,9 +53,6 @@ served p c h = grind (arith, nat_tests)
 idle_run : (p : Contents) (c run : ℕ) → is_running p c ≡ false → is_run (runs_of p c) run ≡ false
 idle_run p c run e = ap (λ (b : Bool). b && (run == (runs_of p c).count)) e
 
-not_idle : (p : Contents) (c run : ℕ) → is_running p c ≡ false → is_run (runs_of p c) run ≡ true → ⊥
-not_idle p c run e h = let n = idle_run p c run e in cc
-
 -- ---- one CPU's run is over, or another begins
 module _ (p q : Contents) (c : ℕ) (same : SameContent p q) (other : (d m i : ℕ) → d ≢ c → (holds q d m i ≡ holds p d m i) × (keeps q d m i ≡ keeps p d m i)) (own : (m i : ℕ) → (holds q c m i ≡ false) × (keeps q c m i ≡ false)) where
   held_was : (d m i : ℕ) → holds q d m i ≡ true → (d ≢ c) × (holds p d m i ≡ true)

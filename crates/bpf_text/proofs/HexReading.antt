@@ -1,7 +1,5 @@
 -- Reading hex text byte by byte.
-use Rattle.std.proofs.Common.{◌≡◌, ℕ, ◌+◌, ◌*◌, ◌<◌, ◌≤◌, inl, inr, false, List, [], ◌∷◌, ◌++◌, length, drop, Some, None, Result, Ok, Err, refl, sym, ap, subst, ◌∙◌, append_assoc, arith}
-use Rattle.std.specs.Prelude.{◌==◌}
-use Rattle.std.proofs.lemmas.Bool.{cases_Bool, eqb-true}
+use Rattle.std.proofs.Common.{◌≡◌, ℕ, ◌+◌, ◌*◌, ◌≤◌, List, [], ◌∷◌, ◌++◌, length, drop, Some, None, Result, Ok, Err, refl, sym, ap, subst, ◌∙◌, append_assoc, arith}
 use Rattle.std.proofs.lemmas.List.{append-nil, drop_all}
 use Rattle.hex.specs.Hex.{decode_pairs, hex_digit_value, pair_value}
 use Rattle.hex.specs.declared.error.FromHexError.{FromHexError}
@@ -76,13 +74,6 @@ no_second text bytes a n b ds found some none before spelled =
     refused text found _ (before.read ∙ ap (behind bytes) (second_bad before.at a b n ds some none)) spelled
 
 -- ---- what stands ahead
-
--- a digit isn't passed over
-other : (b k n : ℕ) → hex_digit_value b ≡ Some n → hex_digit_value k ≡ None → (b == k) ≡ false
-other b k n some none = elim (cases_Bool (b == k)) [
-  | inl same ↦ let e : b ≡ k = eqb-true b k same in absurd (cc (some, none, e))
-  | inr differs ↦ differs
-]
 
 pub none_there : (text : List ℕ) (at : ℕ) → length text ≤ at → digits_of (drop at text) ≡ []
 none_there text at past = ap digits_of (drop_all at text past)

@@ -46,9 +46,6 @@ pub words_before-append : (ss : List Source) (s : Source) → words_before (ss +
 words_before-append [] s = omega arith
 words_before-append (t ∷ ss) s = let h = words_before-append ss s in omega arith
 
-place : ℕ → ℕ → Place
-place line pc = record { line = line; pc = pc }
-
 first_by : (q : List ℕ) (b : Bool) (o : Option (List ℕ)) (x y r : Option Place) (p : Place) → y ≡ or_else x r → cond b (Some p) y ≡ or_else (cond b (Some p) x) r
 first_by q true o x y r p e = refl
 first_by q false o x y r p e = e
@@ -325,10 +322,6 @@ meant_next labels lines i pc d done new o size whole lt h e n w =
     let rest = kept_program labels (pc + words_of (source_of (get_or lines i d).source).body) (map kept_view (drop (i + 1) lines)) in
     ap (λ x. behind new (kept_program labels (pc + x) (map kept_view (drop (i + 1) lines)))) w ∙ ap (λ x. behind x rest) n ∙ behind_one done o rest
     ∙ ap (λ m. behind done (then_meaning m rest)) e ∙ ap (λ x. behind done (kept_program labels pc x)) (sym (next_lines lines i d lt)) ∙ h
-
-refuses : (done : List Insn) (e : TextError) (r : Meaning) → behind done (then_meaning (Err e) r) ≡ Err e
-refuses done e (Ok is) = refl
-refuses done e (Err f) = refl
 
 pub meant_whole : (labels : List ℕ → Option Place) (lines : List Kept) (i pc : ℕ) (done : List Insn) (whole : Meaning) → length lines ≤ i
     → behind done (kept_program labels pc (map kept_view (drop i lines))) ≡ whole → whole ≡ Ok done

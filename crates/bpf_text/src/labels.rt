@@ -1,6 +1,6 @@
 //! Where the lines with labels stand.
 
-ghost use Rattle.std.specs.Prelude.{◌≡◌, Some, None, cond, OnOk, IsOkUnless, ℕ, List, Option, if◌then◌else◌};
+ghost use Rattle.std.specs.Prelude.{◌≡◌, Some, None, OnOk, IsOkUnless, ℕ, List, Option, if◌then◌else◌};
 ghost use Rattle.std.specs.Str.{bytes_eq};
 ghost use Rattle.std.specs.Option.{option_copied};
 ghost use Rattle.bpf_text.specs.Private.Labels.{found, or_else};

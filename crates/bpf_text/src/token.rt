@@ -1,7 +1,6 @@
 //! Lines cut into tokens.
 
 ghost use Rattle.std.specs.Prelude.{◌≡◌, ◌<◌, ◌≤◌, ◌+◌, length, take_while, drop, map, IfOk, OnOk, IsOkUnless, IsTrue, ◌↔◌};
-ghost use Rattle.bpf_spelling.specs.Signs.{sign_text};
 ghost use Rattle.bpf_text.specs.Tokens.{is_blank, word_len, front_tok, front_len, IsEnd};
 ghost use Rattle.bpf_text.specs.Private.Cutting.{BeginTokens, KeepsToken};
 ghost use Rattle.bpf_text.specs.Private.Look.{look};

@@ -1,5 +1,5 @@
 -- A whole call, from its steps.
-use Rattle.std.proofs.Common.{◌≡◌, ℕ, ◌+◌, ◌-◌, ◌%◌, ◌^◌, ◌<◌, ◌≤◌, ◌⊎◌, inl, inr, ⊎_elim, true, List, [], ◌∷◌, ◌++◌, Option, Some, None, MatchOption, length, length-set, get_or-set_other, slice_index, append_assoc, refl, ap, sym, subst, ◌∙◌}
+use Rattle.std.proofs.Common.{◌≡◌, ℕ, ◌+◌, ◌-◌, ◌^◌, ◌<◌, ◌≤◌, ◌⊎◌, inl, inr, ⊎_elim, true, List, [], ◌∷◌, ◌++◌, Option, Some, None, MatchOption, length, length-set, get_or-set_other, slice_index, append_assoc, refl, ap, sym, subst, ◌∙◌}
 use Rattle.bpf_shared.specs.Shape.{IsPairOf, IsKeyOf, elements}
 use Rattle.bpf_shared.specs.declared.shapes.MapShape.{MapShape}
 use Rattle.bpf_shared.specs.History.{events_of, entry}

@@ -1,7 +1,7 @@
 //! Reads of words that nobody else writes: what is read is what stands there.
 
 ghost use Rattle.std.specs.Prelude.{◌≡◌, ◌<◌, MatchOption};
-ghost use Rattle.hop_seg.specs.Words.{Words, IsKnown};
+ghost use Rattle.hop_seg.specs.Words.{IsKnown};
 ghost use Rattle.hop_seg.specs.Segment.{Sound};
 ghost use Rattle.hop_seg.specs.Content.{IsAbsent};
 ghost use Rattle.hop_seg.specs.Spots.{IsSpot};

@@ -1,10 +1,9 @@
 //! Insertion: at the free place nearest after the home bucket, which displacement brings into the
 //! neighbourhood where it lies beyond it, or else on the overflow list.
 
-ghost use Rattle.std.specs.Prelude.{◌≡◌, ◌<◌, ◌≤◌, IfSome, Some, None};
-ghost use Rattle.std.specs.Int.{bit_at};
+ghost use Rattle.std.specs.Prelude.{◌≡◌, ◌<◌, IfSome, Some, None};
 ghost use Rattle.hop_seg.specs.Places.{place_at as place_of};
-ghost use Rattle.hop_seg.specs.Words.{Words, IsKnown};
+ghost use Rattle.hop_seg.specs.Words.{IsKnown};
 ghost use Rattle.hop_seg.specs.Segment.{Sound, IsOwn, element_key};
 ghost use Rattle.hop_seg.specs.Content.{IsAbsent, KeepsPairs, Gains};
 ghost use Rattle.hop_seg.specs.Edits.{listed_first};

@@ -65,7 +65,7 @@ impl PlainSegment {
 
 impl SegReads for PlainSegment {
     ghost use Rattle.std.specs.Prelude.{refl, ◌≡◌};
-    ghost use Rattle.std.proofs.Common.{◌∙◌, sym, ap};
+    ghost use Rattle.std.proofs.Common.{◌∙◌, ap};
     ghost use Rattle.hop_seg.specs.Plain.{plain_words};
 
     ghost agrees = { λ x w. w ≡ plain_words x };

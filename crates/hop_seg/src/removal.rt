@@ -1,7 +1,7 @@
 //! Removal and replacement of an element that a segment has.
 
 ghost use Rattle.std.specs.Prelude.{◌≡◌, ◌<◌, ℕ};
-ghost use Rattle.hop_seg.specs.Words.{Words, IsKnown};
+ghost use Rattle.hop_seg.specs.Words.{IsKnown};
 ghost use Rattle.hop_seg.specs.Segment.{Sound, IsOwn, element_key};
 ghost use Rattle.hop_seg.specs.Content.{HasPair, IsInSegment, Loses, Changes};
 ghost use Rattle.hop_seg.specs.Edits.{with_link, unlinked, relinked, IsLinkKnown};

@@ -2,12 +2,12 @@
 //! at the places that they had, or to its overflow list.
 
 ghost use Rattle.std.specs.Prelude.{◌≡◌, ◌<◌, ◌/◌, ◌%◌, ◌^◌, ℕ, IsTrue, false, Some};
-ghost use Rattle.hop_seg.specs.Words.{Words, Fixed, IsKnown};
+ghost use Rattle.hop_seg.specs.Words.{IsKnown};
 ghost use Rattle.hop_seg.specs.Segment.{Sound, element_key};
 ghost use Rattle.hop_seg.specs.Content.{IsListed};
 ghost use Rattle.hop_seg.specs.Spots.{IsLink};
 ghost use Rattle.hop_seg.specs.Edits.{item_taken};
-ghost use Rattle.hop_seg.specs.Split.{Front, IsEmpty, BelongsToChild, Remains, Splits, Parted, Hands, front_with_hop, front_with_slot, front_put, handed};
+ghost use Rattle.hop_seg.specs.Split.{Front, IsEmpty, Remains, Splits, Parted, Hands, front_with_hop, front_with_slot, front_put, handed};
 
 use crate::held::{head, next, slot};
 use crate::hop_bits::with_bit;

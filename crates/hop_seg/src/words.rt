@@ -1,6 +1,6 @@
 //! The words of a segment, as code reads and writes them.
 
-ghost use Rattle.std.specs.Prelude.{◌≡◌, ◌<◌, ◌≤◌, ℕ, ◌↔◌, IsTrue};
+ghost use Rattle.std.specs.Prelude.{◌≡◌, ◌<◌, ◌≤◌, ◌↔◌, IsTrue};
 ghost use Rattle.hop_seg.specs.Words.{Words, with_hop, with_slot, with_head, with_next, IsKnown};
 ghost use Rattle.hop_seg.specs.Segment.{element_key};
 

@@ -1,5 +1,5 @@
 //! Lookups without a lock, while another CPU changes the segment.
-ghost use Rattle.std.specs.Prelude.{◌≡◌, All};
+ghost use Rattle.std.specs.Prelude.{All};
 ghost use Rattle.hop_tests.specs.Trial.{IsIdlePort};
 
 use crate::asking::{Call, ask_port};
@@ -7,7 +7,7 @@ use crate::stores::{a_map, new_ports};
 use crate::threads::put_zeros;
 use hop_map::{HopPort, Once};
 use hop_words::HopTable;
-use std::alloc::{AllocError, Global};
+use std::alloc::AllocError;
 use std::sync::Wait;
 use std::sync::atomic::{AtomicU64, Ordering};
 use std::test::Fail;

@@ -1,5 +1,5 @@
 //! A lock of one segment stops nobody at another.
-ghost use Rattle.std.specs.Prelude.{◌≡◌, ◌<◌, [], All, IfOk, IfSome, OnSome};
+ghost use Rattle.std.specs.Prelude.{◌≡◌, ◌<◌, All, IfOk, IfSome, OnSome};
 ghost use Rattle.hop_map.specs.Stores.{IsNewLane};
 
 use crate::stores::{a_map, a_shape};

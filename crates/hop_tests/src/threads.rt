@@ -1,5 +1,5 @@
 //! Calls of ports by threads.
-ghost use Rattle.std.specs.Prelude.{◌≡◌, All, IfOk, OnOk};
+ghost use Rattle.std.specs.Prelude.{All, IfOk, OnOk};
 ghost use Rattle.hop_map.specs.Port.{IsPortOf};
 ghost use Rattle.hop_tests.specs.Trial.{IsIdlePort};
 

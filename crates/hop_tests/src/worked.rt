@@ -1,6 +1,5 @@
 //! Calls on one thread with answers worked out by hand, over a port and over the plain store.
 ghost use Rattle.std.specs.Prelude.{◌≡◌, ◌<◌, ◌%◌, ◌^◌, true, false, IfSome};
-ghost use Rattle.hop_map.specs.Port.{IsPortOf};
 ghost use Rattle.hop_tests.specs.Trial.{IsIdlePort, IsRunning};
 
 use crate::asking::{Call, Reply, ask, ask_port, lookups_agree};

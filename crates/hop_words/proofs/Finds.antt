@@ -10,7 +10,7 @@ use Rattle.hop_words.specs.Homes.{AreBytes, word_of, key_bucket}
 use Rattle.hop_words.specs.Content.{MapWords, IsShare, HasKey, item, HopsTo, LinksThrough, Reached, IsOnList, times}
 use Rattle.hop_words.specs.Ghost.{Each}
 use Rattle.hop_words.specs.Rule.{IsPeek}
-use Rattle.hop_words.specs.SegContract.{WasRead, Differs, Matches, ReadHops, ReadList, ReadNone, Starts}
+use Rattle.hop_words.specs.SegContract.{WasRead, Differs, Matches, ReadHops, ReadList, ReadNone}
 use Rattle.hop_words.proofs.Small.{spelled_same, spelled_back}
 use Rattle.hop_words.proofs.Shares.{one_list, some_once, times_head, times_tail}
 
@@ -77,13 +77,3 @@ module _ (seed : ℕ) (g : MapShape) (home : List ℕ → ℕ) (m s : ℕ) (read
       let mine : o.0 ≡ p.sound.list = one_list (x.link m) (x.head m s) o.0 p.sound.list o.1 p.sound.follows in
       not_it e k.0 k.1 (n.list_differs e (subst (λ (es : List ℕ). 1 ≤ times e es) (mine ∙ list_is n.list) o.2)))
       k.0
-
--- it is there, on the overflow list, which was read as far as it
-up_to : (link read : ℕ → ℕ) (n : ℕ) (xs ds : List ℕ) (e : ℕ) → LinksThrough link n xs → Starts read n ds e → ((d : ℕ) → 1 ≤ times d xs → 1 ≤ times d ds → link d ≡ read d) → 1 ≤ times e xs
-up_to link read n [] [] e p q same = let z : None ≡ Some e = sym p ∙ q in cc
-up_to link read n [] (d ∷ ds) e p q same = let z : None ≡ Some d = sym p ∙ q.0 in cc
-up_to link read n (x ∷ xs) [] e p q same = let h : x ≡ e = some_once x e (sym p.0 ∙ q) in subst (λ (k : ℕ). 1 ≤ times k (x ∷ xs)) h (times_head x xs)
-up_to link read n (x ∷ xs) (d ∷ ds) e p q same =
-    let h : x ≡ d = some_once x d (sym p.0 ∙ q.0) in
-    let l : link x ≡ read d = same x (times_head x xs) (subst (λ (k : ℕ). 1 ≤ times k (d ∷ ds)) (sym h) (times_head d ds)) ∙ ap read h in
-    times_tail e x xs (up_to link read (link x) xs ds e p.1 (subst (λ (k : ℕ). Starts read k ds e) (sym l) q.1) (λ c a b. same c (times_tail c x xs a) (times_tail c d ds b)))

@@ -6,7 +6,7 @@ ghost use Rattle.bpf_text.specs.Private.Pieces.{operator_at};
 ghost use Rattle.bpf_text.specs.Private.Judging.{Gives};
 
 use crate::token::Token;
-use bpf_spelling::{Keyword, Operator, Sign};
+use bpf_spelling::{Keyword, Operator};
 
 /// Reads a sign, perhaps behind `s`, and gives what follows.
 #[tactic(auto, unfolding(crate::specs::Private::Pieces::operator_at))]

@@ -1,10 +1,8 @@
-use Rattle.std.proofs.Common.{◌≡◌, ℕ, ◌<◌, sym, subst, ap, ◌∙◌, arith, ⊎_elim, length}
-use mathlib.Core.Option.{some}
+use Rattle.std.proofs.Common.{◌≡◌, ℕ, ◌<◌, sym, ap, ◌∙◌, arith, ⊎_elim, length}
 use lib.ListN.{get_elem?}
 use Rattle.atomic_table.proofs.Lists.{at_index}
 use Rattle.hop_words.specs.declared.known.About.{About}
 use Rattle.hop_words.proofs.Small.{equal}
-use Rattle.hop_map.specs.Port.{Port}
 use Rattle.hop_tests.proofs.stores.in_order.Goals as goal
 
 pub ports-preserved : goal.ports-preserved

@@ -1,6 +1,5 @@
-use Rattle.std.proofs.Common.{List, All, sym, subst, [], ◌∷◌}
+use Rattle.std.proofs.Common.{All, sym, subst, [], ◌∷◌}
 use Rattle.std.proofs.lemmas.List.Elements.{All-nil, All-cons, All-append}
-use Rattle.hop_map.specs.Port.{Port}
 use Rattle.hop_tests.specs.Trial.{IsIdlePort}
 use Rattle.hop_tests.proofs.stores.push_port.Goals as goal
 

@@ -1,4 +1,4 @@
-use Rattle.std.specs.Prelude.{◌≡◌, true, false}
+use Rattle.std.specs.Prelude.{◌≡◌, true}
 use Rattle.hop_tests.proofs.worked.follow.Given as goal
 
 abbrev pub invariant-rows : goal.invariant-rows
