@@ -1,4 +1,4 @@
--- How the checks go on from one refusal to the next, and from one word to the next.
+-- How the checks go on from one refusal to the next, and what a list that is clear at each word is.
 use Rattle.std.proofs.Common.{◌≡◌, ◌≢◌, ℕ, ◌+◌, ◌<◌, ◌≤◌, inl, inr, List, [], Option, Some, None, cond, nat_eq, refl, sym, ap, subst, ◌∙◌, arith}
 use Rattle.std.proofs.lemmas.Int.{ints}
 use Rattle.std.specs.Prelude.{ℤ, pos, IsSomeAnd}

@@ -18,8 +18,6 @@ first_of-append_some [] ys r e = cc
 first_of-append_some ((q, true) ∷ xs) ys r e = e
 first_of-append_some ((q, false) ∷ xs) ys r e = first_of-append_some xs ys r e
 
--- ---- the next map of a list
-
 -- ---- one number
 pub outside_false : (least most n : ℕ) → outside least most n ≡ false → (least ≤ n) × (n ≤ most)
 outside_false least most n e = grind (arith, nat_tests)

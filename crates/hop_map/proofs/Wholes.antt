@@ -42,8 +42,6 @@ pair_at a m key bytes p =
     let t = map_of a.shape m p.0 p.1 in
     (t.0, p.2 ∙ ap (λ (g : MapShape). g.key) (sym t.1), p.3 ∙ ap (λ (g : MapShape). g.value) (sym t.1))
 
--- ---- batches
-
 -- ---- looking for a free element
 pub keeps_sees : (m : ℕ) (l l1 : Known) (more : List Sight) → Sees l more l1 → Keeps m l l1
 keeps_sees m l l1 more s = subst (Keeps m l) (sym s) (record { cpu = refl; seen = refl; fresh = refl; locks = refl; readings = refl; size = refl; others = λ n ne. refl; used = refl; sights = (more, refl) })
