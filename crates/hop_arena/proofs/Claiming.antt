@@ -1,37 +1,38 @@
 -- A pass over the free bits, a look at a time.
-use Rattle.std.proofs.Common.{◌≡◌, ◌≢◌, inl, inr, ⊎_elim, append_assoc, ℕ, ◌+◌, ◌*◌, ◌/◌, ◌%◌, ◌^◌, ◌<◌, ◌≤◌, min, List, [], ◌∷◌, ◌++◌, bit_and, refl, ap, sym, subst, ◌∙◌, arith}
+use Rattle.std.proofs.Common.{◌≡◌, ◌≢◌, inl, inr, ⊎_elim, append_assoc, ℕ, ◌+◌, ◌*◌, ◌/◌, ◌%◌, ◌^◌, ◌<◌, ◌≤◌, min, List, [], ◌∷◌, ◌++◌, bit_and, ap, sym, subst, ◌∙◌, arith}
 use Rattle.std.specs.Int.{bit_at, trailing_zeros, w64}
 use Rattle.std.proofs.lemmas.Nat.Bits.{bit_at_and, bit_at-lt, bit_at-trailing_zeros}
 use Rattle.hop_words.specs.declared.known.Known.{Known}
 use Rattle.hop_words.specs.declared.known.Sight.{Sight}
-use Rattle.hop_words.specs.declared.known.Sight.TheVariants.{Bits}
+use Rattle.hop_words.specs.declared.place.Place.TheVariants.{FreeBits}
+use Rattle.hop_words.specs.Sights.{IsLook, look, sighted}
+use Rattle.hop_words.specs.Ghost.{Each}
 use Rattle.hop_words.specs.Kinds.{holding}
-use Rattle.hop_words.specs.Owning.{sighted}
 use Rattle.hop_words.proofs.Small.{equal}
-use Rattle.hop_arena.specs.Claiming.{Sees, ShowsTaken, IsSeenTaken, AreSeenTaken}
+use Rattle.hop_arena.specs.Claiming.{Sees, Looks, ShowsTaken, IsSeenTaken, AreSeenTaken}
 
 -- the elements of the word whose bits aren't among these were seen not free
 abbrev pub Cleared : List Sight → ℕ → ℕ → ℕ → Type 0
 Cleared more m w bits = (j : ℕ) → j < 64 → bit_at bits j ≡ 0 → IsSeenTaken more m (64 * w + j)
 
-shows : (m w found j : ℕ) → j < 64 → bit_at found j ≡ 0 → ShowsTaken (Bits m w found) m (64 * w + j)
-shows m w found j few zero = (refl, (let z : w ≡ (64 * w + j) / 64 = grind arith in z), ap (bit_at found) (let z : (64 * w + j) % 64 ≡ j = grind arith in z) ∙ zero)
+shows : (m w found j : ℕ) → j < 64 → bit_at found j ≡ 0 → ShowsTaken (look (FreeBits m w) found) m (64 * w + j)
+shows m w found j few zero = (ap (FreeBits m) (let z : w ≡ (64 * w + j) / 64 = grind arith in z), ap (bit_at found) (let z : (64 * w + j) % 64 ≡ j = grind arith in z) ∙ zero)
 
 -- the first look
-pub first_look : (m w found : ℕ) → Cleared (Bits m w found ∷ []) m w found
+pub first_look : (m w found : ℕ) → Cleared (look (FreeBits m w) found ∷ []) m w found
 first_look m w found j few zero = inl (shows m w found j few zero)
 
 -- one look more
-pub sees_on : (l x l' : Known) (more : List Sight) (s : Sight) → Sees l more x → l' ≡ sighted x s → Sees l (s ∷ more) l'
-sees_on l x l' more s before now = now ∙ ap (λ (y : Known). sighted y s) before
+pub looks_on : (l x l' : Known) (more : List Sight) (s : Sight) → IsLook s → Looks l more x → l' ≡ sighted x s → Looks l (s ∷ more) l'
+looks_on l x l' more s is before now = (now ∙ ap (λ (y : Known). sighted y s) before.0, (is, before.1))
 
-pub holds_on : (l x l' : Known) (more : List Sight) (s : Sight) (m e : ℕ) → Sees l more x → l' ≡ sighted (holding x m e) s → Sees (holding l m e) (s ∷ more) l'
-holds_on l x l' more s m e before now = now ∙ ap (λ (y : Known). sighted (holding y m e) s) before
+pub holds_on : (l x l' : Known) (more : List Sight) (s : Sight) (m e : ℕ) → Looks l more x → l' ≡ sighted (holding x m e) s → Sees (holding l m e) (s ∷ more) l'
+holds_on l x l' more s m e before now = now ∙ ap (λ (y : Known). sighted (holding y m e) s) before.0
 
-pub look_on : (more : List Sight) (m w i bits found : ℕ) → i ≡ w → Cleared more m w bits → Cleared (Bits m i found ∷ more) m w (bit_and bits found)
+pub look_on : (more : List Sight) (m w i bits found : ℕ) → i ≡ w → Cleared more m w bits → Cleared (look (FreeBits m i) found ∷ more) m w (bit_and bits found)
 look_on more m w i bits found same before j few zero = ⊎_elim
     (λ (z : bit_at bits j ≡ 0). inr (before j few z))
-    (λ (nz : bit_at bits j ≢ 0). inl (subst (λ (k : ℕ). ShowsTaken (Bits m k found) m (64 * w + j)) (sym same) (shows m w found j few
+    (λ (nz : bit_at bits j ≢ 0). inl (subst (λ (k : ℕ). ShowsTaken (look (FreeBits m k) found) m (64 * w + j)) (sym same) (shows m w found j few
     (let b = bit_at-lt bits j in let f = bit_at-lt found j in let a : bit_at (bit_and bits found) j ≡ min (bit_at bits j) (bit_at found j) = bit_at_and bits found j in grind arith))))
     (equal (bit_at bits j) 0)
 
@@ -61,11 +62,18 @@ taken_first [] more m e t = absurd t
 taken_first (x ∷ s) more m e (inl t) = inl t
 taken_first (x ∷ s) more m e (inr t) = inr (taken_first s more m e t)
 
-pub sees_then : (l x l' : Known) (more s : List Sight) → Sees l more x → Sees x s l' → Sees l (s ++ more) l'
-sees_then l x l' more s before now = now ∙ (ap (λ (y : Known). record y { tally = record y.tally { sights = s ++ y.tally.sights } }) before ∙ ap (λ (z : List Sight). record l { tally = record l.tally { sights = z } }) (sym (append_assoc s more l.tally.sights)))
+pub each_then : (P : Sight → Type 0) (s more : List Sight) → Each P s → Each P more → Each P (s ++ more)
+each_then P [] more first rest = rest
+each_then P (x ∷ s) more first rest = (first.0, each_then P s more first.1 rest)
 
-pub holds_then : (l x l' : Known) (more s : List Sight) (m e : ℕ) → Sees l more x → Sees (holding x m e) s l' → Sees (holding l m e) (s ++ more) l'
-holds_then l x l' more s m e before now = now ∙ (ap (λ (y : Known). record (holding y m e) { tally = record y.tally { sights = s ++ y.tally.sights } }) before ∙ ap (λ (z : List Sight). record (holding l m e) { tally = record l.tally { sights = z } }) (sym (append_assoc s more l.tally.sights)))
+pub looks_then : (l x l' : Known) (more s : List Sight) → Looks l more x → Looks x s l' → Looks l (s ++ more) l'
+looks_then l x l' more s before now = (
+  now.0 ∙ (ap (λ (y : Known). record y { tally = s ++ y.tally }) before.0 ∙ ap (λ (z : List Sight). record l { tally = z }) (sym (append_assoc s more l.tally))),
+  each_then IsLook s more now.1 before.1,
+)
+
+pub holds_then : (l x l' : Known) (more s : List Sight) (m e : ℕ) → Looks l more x → Sees (holding x m e) s l' → Sees (holding l m e) (s ++ more) l'
+holds_then l x l' more s m e before now = now ∙ (ap (λ (y : Known). record (holding y m e) { tally = s ++ y.tally }) before.0 ∙ ap (λ (z : List Sight). record (holding l m e) { tally = z }) (sym (append_assoc s more l.tally)))
 
 -- one word more
 pub words_on : (s more : List Sight) (m count from w : ℕ) → AreSeenTaken more m count from w → AreSeenTaken s m count w (w + 1) → AreSeenTaken (s ++ more) m count from (w + 1)

@@ -5,19 +5,23 @@ use Rattle.bpf_shared.specs.Shape.{elements}
 use Rattle.hop_words.specs.declared.known.About.{About}
 use Rattle.hop_words.specs.declared.known.Known.{Known}
 use Rattle.hop_words.specs.declared.known.Sight.{Sight}
-use Rattle.hop_words.specs.declared.known.Sight.TheVariants.{Bits, Runs}
-use Rattle.hop_words.specs.Ghost.{shape_at}
+use Rattle.hop_words.specs.declared.place.Place.TheVariants.{FreeBits}
+use Rattle.hop_words.specs.Sights.{IsLook}
+use Rattle.hop_words.specs.Ghost.{shape_at, Each}
 use Rattle.hop_words.specs.Kinds.{holding}
 use Rattle.hop_arena.specs.declared.element.Element.{Element}
 
 -- nothing changed but what was seen: these sights, the last first
 abbrev pub Sees : Known → List Sight → Known → Type 0
-Sees l more l' = l' ≡ record l { tally = record l.tally { sights = more ++ l.tally.sights } }
+Sees l more l' = l' ≡ record l { tally = more ++ l.tally }
+
+-- and they are looks: no step among them took an element or gave one back
+abbrev pub Looks : Known → List Sight → Known → Type 0
+Looks l more l' = Sees l more l' × Each IsLook more
 
 -- the sight shows that the element wasn't free at that moment
 abbrev pub ShowsTaken : Sight → ℕ → ℕ → Type 0
-ShowsTaken (Bits n i found) m e = (n ≡ m) × (i ≡ e / 64) × (bit_at found (e % 64) ≡ 0)
-ShowsTaken (Runs c found) m e = ⊥
+ShowsTaken s m e = (s.place ≡ FreeBits m (e / 64)) × (bit_at s.found (e % 64) ≡ 0)
 
 abbrev pub IsSeenTaken : List Sight → ℕ → ℕ → Type 0
 IsSeenTaken [] m e = ⊥
@@ -30,12 +34,12 @@ AreSeenTaken more m count from to = (e : ℕ) → e < count → from ≤ e / 64 
 
 -- nothing was taken: of these words each element was seen not free, at a moment of its own
 abbrev pub TakesNothing : About → Known → ℕ → ℕ → ℕ → Known → Type 0
-TakesNothing a l m from to l' = (more : List Sight) × Sees l more l'
+TakesNothing a l m from to l' = (more : List Sight) × Looks l more l'
     × AreSeenTaken more m (elements (shape_at a m)) from to
 
 -- nothing was taken: each element of the map was seen not free, at a moment of its own
 abbrev pub Misses : About → Known → ℕ → Known → Type 0
-Misses a l m l' = (more : List Sight) × Sees l more l'
+Misses a l m l' = (more : List Sight) × Looks l more l'
     × ((e : ℕ) → e < elements (shape_at a m) → IsSeenTaken more m e)
 
 -- the element is in hand from now on

@@ -1,8 +1,8 @@
 //! Claiming the free elements of a map.
-ghost use Rattle.std.specs.Prelude.{◌≡◌, ◌⊎◌, ◌+◌, ◌*◌, ◌/◌, ◌<◌, [], length, MatchOption, IsTrue, IsFalse};
+ghost use Rattle.std.specs.Prelude.{ℕ, ◌≡◌, ◌⊎◌, ◌+◌, ◌*◌, ◌/◌, ◌<◌, [], length, MatchOption, IsTrue, IsFalse};
 ghost use Rattle.std.specs.Int.{bit_at};
 ghost use Rattle.hop_words.specs.Ghost.{shape_at, HasElement};
-ghost use Rattle.hop_words.specs.Owning.{IsInHand, tail_of};
+ghost use Rattle.hop_words.specs.Owning.{IsInHand, GivesFresh};
 ghost use Rattle.bpf_shared.specs.Shape.{elements};
 ghost use Rattle.hop_arena.specs.Claiming.{Claims, Misses, TakesNothing, IsArena};
 
@@ -68,8 +68,8 @@ impl Arena {
         requires map { element.map ≡ self.old.map }
         requires hand { IsInHand lane.old.known element.map element.number }
         ensures table { lane.new.table ≡ lane.old.table }
-        ensures given { lane.new.known
-            ≡ record lane.old.known { fresh = tail_of lane.old.known.fresh } }
+        ensures given { (found : ℕ) × GivesFresh lane.old.known element.map element.number found
+            lane.new.known }
         ensures arena { (self.new.map ≡ self.old.map) × (self.new.elements ≡ self.old.elements)
             × IsArena table.now.about self.new.map self.new.elements self.new.start }
     {

@@ -7,12 +7,13 @@ use Rattle.hop_words.specs.declared.known.About.{About}
 use Rattle.hop_words.specs.declared.known.Known.{Known}
 use Rattle.hop_words.specs.declared.known.Limbo.{Limbo}
 use Rattle.hop_words.specs.declared.known.Sight.{Sight}
-use Rattle.hop_words.specs.declared.known.Sight.TheVariants.{Runs}
+use Rattle.hop_words.specs.declared.place.Place.TheVariants.{RunCount}
+use Rattle.hop_words.specs.Sights.{look, sighted}
 use Rattle.hop_words.specs.Content.{item}
 use Rattle.hop_words.specs.Ghost.{HasElement, Each, limbo_at, no_limbo}
 use Rattle.hop_words.specs.Rule.{link_to}
 use Rattle.hop_words.specs.Kinds.{limbo_set, cleared, giving_old}
-use Rattle.hop_words.specs.Owning.{sighted, tail_of}
+use Rattle.hop_words.specs.Owning.{tail_of}
 use Rattle.hop_words.proofs.Small.{equal, map_is}
 use Rattle.hop_words.proofs.Shares.{some_once}
 use Rattle.hop_epoch.specs.Batch.{front, Notes, Tracks, Keeps, Looks, AreEven, SeesRunning}
@@ -32,7 +33,7 @@ keeps_then m l k l' p q = record {
   used = q.used ∙ p.used;
   sights = (
     q.sights.0 ++ p.sights.0,
-    q.sights.1 ∙ (ap (λ (z : List Sight). q.sights.0 ++ z) p.sights.1 ∙ sym (append_assoc q.sights.0 p.sights.0 l.tally.sights)),
+    q.sights.1 ∙ (ap (λ (z : List Sight). q.sights.0 ++ z) p.sights.1 ∙ sym (append_assoc q.sights.0 p.sights.0 l.tally)),
   );
 }
 
@@ -52,7 +53,7 @@ keeps_set m l x room same = record {
   sights = ([], refl);
 }
 
-keeps_sighted : (m : ℕ) (l k : Known) (s : Sight) → Keeps m l k → Keeps m l (sighted k s)
+pub keeps_sighted : (m : ℕ) (l k : Known) (s : Sight) → Keeps m l k → Keeps m l (sighted k s)
 keeps_sighted m l k s p = record { cpu = p.cpu; seen = p.seen; fresh = p.fresh; locks = p.locks; readings = p.readings; size = p.size; others = p.others; used = p.used; sights = (s ∷ p.sights.0, ap (λ (z : List Sight). s ∷ z) p.sights.1) }
 
 -- ---- a look at a counter
@@ -121,9 +122,9 @@ pub first_of : (a : About) (m e : ℕ) (es : List ℕ) → es ≡ e ∷ tail_of 
 first_of a m e es is all = let t = subst (Each (HasElement a m)) is all in (t.0, t.1)
 
 -- what is known after the first element of the old batch was given back
-pub gives_on : (a : About) (m e : ℕ) (l k k' : Known) (young : Option ℕ) (ns : List ℕ) (link : ℕ) → IsShape a.shape → Tracks a k m young (Some e) ns → Notes a (limbo_at k.limbo m).noted ns
-    → k' ≡ giving_old k m (tail_of (limbo_at k.limbo m).old) → link ≡ link_to (tail_of (limbo_at k.limbo m).old) → Tracks a k' m young (item link) ns
-gives_on a m e l k k' young ns link is p n given linked =
+pub gives_on : (a : About) (m e : ℕ) (l k k' : Known) (s : Sight) (young : Option ℕ) (ns : List ℕ) (link : ℕ) → IsShape a.shape → Tracks a k m young (Some e) ns → Notes a (limbo_at k.limbo m).noted ns
+    → k' ≡ sighted (giving_old k m (tail_of (limbo_at k.limbo m).old)) s → link ≡ link_to (tail_of (limbo_at k.limbo m).old) → Tracks a k' m young (item link) ns
+gives_on a m e l k k' s young ns link is p n given linked =
     let x : Limbo = record (limbo_at k.limbo m) { old = tail_of (limbo_at k.limbo m).old } in
     let now = at_set k m x p.room in
     let old = front_is (limbo_at k.limbo m).old e p.old_is in
@@ -138,10 +139,10 @@ gives_on a m e l k k' young ns link is p n given linked =
     })
 
 -- what was seen last after something else was seen
-pub running_after : (m : ℕ) (l k l' : Known) (before : List Sight) → k.tally.sights ≡ before ++ l.tally.sights → SeesRunning m k l' → SeesRunning m l l'
+pub running_after : (m : ℕ) (l k l' : Known) (before : List Sight) → k.tally ≡ before ++ l.tally → SeesRunning m k l' → SeesRunning m l l'
 running_after m l k l' before e r = (
   r.0,
   r.1 ++ before,
-  r.2 ∙ ap (λ (z : List Sight). Runs r.0 (slice_index (limbo_at l'.limbo m).noted r.0) ∷ z) (ap (λ (z : List Sight). r.1 ++ z) e ∙ sym (append_assoc r.1 before l.tally.sights)),
+  r.2 ∙ ap (λ (z : List Sight). look (RunCount r.0) (slice_index (limbo_at l'.limbo m).noted r.0) ∷ z) (ap (λ (z : List Sight). r.1 ++ z) e ∙ sym (append_assoc r.1 before l.tally)),
   r.3,
 )

@@ -3,7 +3,8 @@ use Rattle.std.specs.Prelude.{◌≡◌, ◌≢◌, ◌⊎◌, ℕ, ◌+◌, ◌
 use Rattle.hop_words.specs.declared.known.About.{About}
 use Rattle.hop_words.specs.declared.known.Known.{Known}
 use Rattle.hop_words.specs.declared.known.Sight.{Sight}
-use Rattle.hop_words.specs.declared.known.Sight.TheVariants.{Runs}
+use Rattle.hop_words.specs.declared.place.Place.TheVariants.{RunCount}
+use Rattle.hop_words.specs.Sights.{look}
 use Rattle.hop_words.specs.Ghost.{HasElement, Each, limbo_at}
 
 -- the first element of a batch
@@ -26,7 +27,7 @@ pub record Tracks (a : About) (l : Known) (m : ℕ) (young old : Option ℕ) (no
     pub old_inside : Each (HasElement a m) (limbo_at l.limbo m).old
     pub counters : ((limbo_at l.limbo m).old ≡ []) ⊎ Notes a (limbo_at l.limbo m).noted noted
 
--- of what the CPU knows only its batches of the map changed, and what it counted and saw
+-- of what the CPU knows only its batches of the map changed, and what it noted
 pub record Keeps (m : ℕ) (l l' : Known) : Type 0 where
   pub cpu : l'.cpu ≡ l.cpu
   pub seen : l'.seen ≡ l.seen
@@ -36,28 +37,28 @@ pub record Keeps (m : ℕ) (l l' : Known) : Type 0 where
   pub size : length l'.limbo ≡ length l.limbo
   pub others : (n : ℕ) → n ≢ m → limbo_at l'.limbo n ≡ limbo_at l.limbo n
   pub used : (limbo_at l'.limbo m).used ≡ (limbo_at l.limbo m).used
-  -- nothing that was seen is forgotten
-  pub sights : (more : List Sight) × (l'.tally.sights ≡ more ++ l.tally.sights)
+  -- nothing that was noted is forgotten
+  pub sights : (more : List Sight) × (l'.tally ≡ more ++ l.tally)
 
 -- the word that leads to an element, or to none
 abbrev pub link_word : Option ℕ → ℕ
 link_word None = 0
 link_word (Some e) = e + 1
 
--- the batches are as they were, but for the counters noted, and something more was seen
+-- the batches are as they were, but for the counters noted, and something more was noted
 pub record Looks (m : ℕ) (l l' : Known) : Type 0 where
   pub keeps : Keeps m l l'
   pub young : (limbo_at l'.limbo m).young ≡ (limbo_at l.limbo m).young
   pub old : (limbo_at l'.limbo m).old ≡ (limbo_at l.limbo m).old
   pub more : List Sight
-  pub sights : l'.tally.sights ≡ more ++ l.tally.sights
+  pub sights : l'.tally ≡ more ++ l.tally
 
 abbrev pub AreEven : ℕ → List ℕ → Type 0
 AreEven cpus noted = (d : ℕ) → d < cpus → slice_index noted d % 2 ≡ 0
 
--- the last that was seen on the way is a CPU that is still in the run noted with the old batch
+-- the last that was noted on the way is a CPU that is still in the run noted with the old batch
 abbrev pub SeesRunning : ℕ → Known → Known → Type 0
 SeesRunning m l l' =
-    (d : ℕ) × (more : List Sight) × (l'.tally.sights
-    ≡ Runs d (slice_index (limbo_at l'.limbo m).noted d) ∷ (more ++ l.tally.sights))
+    (d : ℕ) × (more : List Sight) × (l'.tally
+    ≡ look (RunCount d) (slice_index (limbo_at l'.limbo m).noted d) ∷ (more ++ l.tally))
     × (slice_index (limbo_at l'.limbo m).noted d % 2 ≡ 1)

@@ -168,7 +168,6 @@ impl Batches {
         ensures keeps { Keeps self.old.map lane.old.known lane.new.known }
         ensures young { (limbo_at lane.new.known.limbo self.old.map).young
             ≡ (limbo_at lane.old.known.limbo self.old.map).young }
-        ensures sights { lane.new.known.tally ≡ lane.old.known.tally }
         ensures freed { (limbo_at lane.new.known.limbo self.old.map).old ≡ [] }
     {
         while let Some(element) = self.aged {

@@ -20,7 +20,7 @@ use Rattle.bpf_shared.specs.declared.events.MapAnswer.TheVariants.{Done, Absent,
 use Rattle.hop_map.specs.declared.ending.Ending.{Ending}
 use Rattle.hop_map.specs.declared.ending.Ending.TheVariants.{Added, Replaced, Refused}
 use Rattle.hop_map.specs.Updates.{Wants, Offers, UpdateEnds, Refusal}
-use Rattle.hop_map.specs.Locks.{CarriesKey, Readies, counted_lock}
+use Rattle.hop_map.specs.Locks.{CarriesKey, Readies, with_lock}
 use Rattle.hop_map.proofs.Keys.{spells}
 use Rattle.hop_map.specs.declared.dropping.Deletion.{Deletion}
 use Rattle.hop_map.specs.declared.dropping.Deletion.TheVariants.{Gone, Missing, Worn}
@@ -114,10 +114,10 @@ module _ (a : About) (l : Known) (m s n : ℕ) (key bytes : List ℕ) (flags : �
   locked_wants b = subst (λ (q : Known). Wants a q m s key bytes flags) (sym t.after) (record { home = b.home; key_size = b.key_size; size = b.size; are_bytes = b.are_bytes; flags_known = b.flags_known; limbo = b.limbo; runs = b.runs })
 
   module _ (idle : l.locks ≡ []) where
-    saw_before : (r : MapAnswer) (seen : List Entry) → Saw a l2 (Update m key bytes flags r) seen → Saw a (counted_lock l) (Update m key bytes flags r) seen
+    saw_before : (r : MapAnswer) (seen : List Entry) → Saw a l2 (Update m key bytes flags r) seen → Saw a (with_lock l m s n) (Update m key bytes flags r) seen
     saw_before r seen p = let w = subst (λ (q : Known). Saw a q (Update m key bytes flags r) seen) t.after p in record { others = w.others; foreign = w.foreign; after = w.after; legal = w.legal }
 
-    pub refusal_before : (r : MapAnswer) (l3 : Known) → Refusal a l2 m key bytes flags r l3 → Refusal a (counted_lock l) m key bytes flags r l3
+    pub refusal_before : (r : MapAnswer) (l3 : Known) → Refusal a l2 m key bytes flags r l3 → Refusal a (with_lock l m s n) m key bytes flags r l3
     refusal_before r l3 p = record {
       seen = saw_before r l3.seen p.seen;
       after = p.after ∙ ap (λ (q : Known). record q { seen = l3.seen; locks = [] }) t.after;
@@ -125,7 +125,7 @@ module _ (a : About) (l : Known) (m s n : ℕ) (key bytes : List ℕ) (flags : �
       worn = p.worn;
     }
 
-    pub ends_before : (e : Ending) (l3 : Known) → UpdateEnds a l2 m key bytes flags e l3 → UpdateEnds a (counted_lock l) m key bytes flags e l3
+    pub ends_before : (e : Ending) (l3 : Known) → UpdateEnds a l2 m key bytes flags e l3 → UpdateEnds a (with_lock l m s n) m key bytes flags e l3
     ends_before Added l3 p = record {
       seen = saw_before Done l3.seen p.seen;
       after = p.after ∙ ap (λ (q : Known). record q { seen = l3.seen; fresh = []; locks = [] }) t.after;
@@ -156,13 +156,13 @@ module _ (a : About) (l : Known) (m s n : ℕ) (key : List ℕ) (l2 : Known) (t 
   locked_names b = subst (λ (q : Known). NamesKey a q m s key) (sym t.after) (record { home = b.home; size = b.size; limbo = b.limbo; runs = b.runs })
 
   module _ (idle : l.locks ≡ []) where
-    saw_deleted : (r : MapAnswer) (seen : List Entry) → Saw a l2 (Delete m key r) seen → Saw a (counted_lock l) (Delete m key r) seen
+    saw_deleted : (r : MapAnswer) (seen : List Entry) → Saw a l2 (Delete m key r) seen → Saw a (with_lock l m s n) (Delete m key r) seen
     saw_deleted r seen p = let w = subst (λ (q : Known). Saw a q (Delete m key r) seen) t.after p in record { others = w.others; foreign = w.foreign; after = w.after; legal = w.legal }
 
-    kept_before : (r : MapAnswer) (l3 : Known) → Kept a l2 m key r l3 → Kept a (counted_lock l) m key r l3
+    kept_before : (r : MapAnswer) (l3 : Known) → Kept a l2 m key r l3 → Kept a (with_lock l m s n) m key r l3
     kept_before r l3 p = record { seen = saw_deleted r l3.seen p.seen; after = p.after ∙ ap (λ (q : Known). record q { seen = l3.seen; locks = [] }) t.after }
 
-    pub delete_before : (d : Deletion) (l3 : Known) → DeleteEnds a l2 m key d l3 → DeleteEnds a (counted_lock l) m key d l3
+    pub delete_before : (d : Deletion) (l3 : Known) → DeleteEnds a l2 m key d l3 → DeleteEnds a (with_lock l m s n) m key d l3
     delete_before (Gone e) l3 p = (
       record { seen = saw_deleted Done l3.seen p.0.seen; after = p.0.after ∙ ap (λ (q : Known). record q { seen = l3.seen; limbo = with_gone q m e; locks = [] }) t.after },
       p.1,

@@ -1,5 +1,5 @@
 -- A lookup under the lock.
-use Rattle.std.proofs.Common.{◌≡◌, ℕ, Bool, ◌||◌, List, [], Option, Some, None, MatchOption, ap, sym, subst, ◌∙◌}
+use Rattle.std.proofs.Common.{◌≡◌, ℕ, Bool, ◌||◌, List, [], ◌∷◌, Option, Some, None, MatchOption, ap, sym, subst, ◌∙◌}
 use Rattle.bpf_shared.specs.declared.events.Event.{Event}
 use Rattle.bpf_shared.specs.declared.events.Event.TheVariants.{Lookup}
 use Rattle.hop_words.specs.declared.known.About.{About}
@@ -14,8 +14,9 @@ use Rattle.hop_seg.specs.Segment.{Sound as SegSound}
 use Rattle.hop_seg.specs.Content.{IsAbsent as SegAbsent, HasPair}
 use Rattle.hop_map.specs.Views.{Locked, Ready, in_hand, is_put, seen_words}
 use Rattle.hop_map.specs.Calls.{LockShows}
-use Rattle.hop_map.specs.Locks.{counted_lock}
-use Rattle.hop_map.specs.Finding.{AsksForKey, AsksHere, Looked}
+use Rattle.hop_words.specs.Sights.{lock_taken}
+use Rattle.hop_map.specs.Locks.{with_lock}
+use Rattle.hop_map.specs.Finding.{AsksForKey, AsksHere, Looked, TakesLock}
 use Rattle.hop_map.proofs.Puts.{sound_with, absent_with, leads_with}
 
 module _ (x : Locked) (key : List ℕ) (c : LockShows x.about x.known x.map x.segment) (b : AsksHere x.about x.known x.map x.segment key) where
@@ -51,14 +52,17 @@ module _ (a : About) (l : Known) (m s n : ℕ) (key : List ℕ) (l2 : Known) (t 
     lock_map : (lock_of l2).map ≡ m
     lock_map = ap (λ (z : Known). (lock_of z).map) t.after
 
-    after : l3 ≡ record (counted_lock l) { seen = l3.seen }
-    after = p.after ∙ (ap (λ (z : Known). record z { seen = l3.seen; locks = [] }) t.after ∙ (λ j. record (counted_lock l) { seen = l3.seen; locks = sym q.locks j }))
+    after : l3 ≡ record (with_lock l m s n) { seen = l3.seen }
+    after = p.after ∙ (ap (λ (z : Known). record z { seen = l3.seen; locks = [] }) t.after ∙ (λ j. record (with_lock l m s n) { seen = l3.seen; locks = sym q.locks j }))
 
     pub looked_readings : l3.readings ≡ l.readings
     looked_readings = ap (λ (z : Known). z.readings) after
 
-    pub looked_tally : l3.tally ≡ (counted_lock l).tally
+    looked_tally : l3.tally ≡ lock_taken m s n ∷ l.tally
     looked_tally = ap (λ (z : Known). z.tally) after
+
+    pub takes_lock : segment_in a m key ≡ s → TakesLock a l m key l3
+    takes_lock home = (n, looked_tally ∙ ap (λ (i : ℕ). lock_taken m i n ∷ l.tally) (sym home))
 
     abbrev event : Event
     event = Lookup m key (found_span a m o)

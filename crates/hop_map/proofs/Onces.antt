@@ -1,27 +1,32 @@
 -- A lookup without a lock, from its first stamp to its last.
-use Rattle.std.proofs.Common.{◌≡◌, ◌≢◌, ℕ, ◌%◌, List, [], ◌∷◌, ◌++◌, Option, ◌+◌, refl, ap, sym, subst, ◌∙◌, inl, inr, arith}
+use Rattle.std.proofs.Common.{◌≡◌, ◌≢◌, ℕ, ◌%◌, List, [], ◌∷◌, ◌++◌, Option, ◌+◌, append_assoc, refl, ap, sym, subst, ◌∙◌, inl, inr, arith}
 use Rattle.bpf_shared.specs.declared.events.Event.TheVariants.{Lookup}
 use Rattle.hop_words.specs.declared.known.About.{About}
 use Rattle.hop_words.specs.declared.known.Known.{Known}
 use Rattle.hop_words.specs.declared.known.Reading.{Reading}
-use Rattle.hop_words.specs.declared.known.Disturbance.{Disturbance}
+use Rattle.hop_words.specs.declared.place.Place.TheVariants.{Stamp}
+use Rattle.hop_words.specs.Sights.{look, sighted}
 use Rattle.bpf_shared.specs.declared.events.Span.{Span}
 use Rattle.hop_words.specs.Home.{home_of}
 use Rattle.hop_words.specs.Ghost.{segment_in, shape_at}
-use Rattle.hop_words.specs.Kinds.{StampSeenAgain, Found, Saw, noting, found_span, disturbed_by}
+use Rattle.hop_words.specs.Kinds.{StampSeenAgain, Found, Saw, noting, found_span}
 use Rattle.hop_words.specs.Peeking.{latest_reading, HasReading}
 use Rattle.hop_map.specs.Peeks.{Peeked, Rested}
-use Rattle.hop_map.specs.Finding.{AsksForKey, AsksHere, Looked, Disturbs, SeesDisturbances}
+use Rattle.hop_map.specs.Finding.{AsksForKey, AsksHere, Looked, Disturbs, ReadsOnce, all_sights, SeesDisturbances}
 
 module _ (a : About) (l : Known) (m s n : ℕ) (key : List ℕ) (q : AsksForKey a l m key) (home : segment_in a m key ≡ s) where
   -- the first stamp is locked
-  pub disturbed_first : (l1 : Known) → n % 2 ≡ 1 → l1 ≡ record l { tally = disturbed_by l.tally m s n n } → Disturbs a l m key n n l1
+  pub disturbed_first : (l1 : Known) → n % 2 ≡ 1 → l1 ≡ sighted l (look (Stamp m s) n) → Disturbs a l m key n n l1
   disturbed_first l1 odd is =
       let rd : l1.readings ≡ l.readings = ap (λ (z : Known). z.readings) is in
-      record { apart = inl odd; after = is ∙ (λ j. record l { readings = sym rd j; tally = disturbed_by l.tally m (sym home j) n n }) }
+      record {
+        sights = look (Stamp m (segment_in a m key)) n ∷ [];
+        disturbed = inl (odd, refl, refl);
+        after = is ∙ (λ j. record l { readings = sym rd j; tally = look (Stamp m (sym home j)) n ∷ l.tally });
+      }
 
   -- it isn't
-  module _ (l1 : Known) (is : l1 ≡ noting l m s n) where
+  module _ (l1 : Known) (is : l1 ≡ sighted (noting l m s n) (look (Stamp m s) n)) where
     pub begun : HasReading l1 m s
     begun = subst (λ (z : Known). HasReading z m s) (sym is) (refl, refl, refl)
 
@@ -29,11 +34,11 @@ module _ (a : About) (l : Known) (m s n : ℕ) (key : List ℕ) (q : AsksForKey 
     stamp_begun = ap (λ (z : Known). (latest_reading z).stamp) is
 
     module _ (x y : Peeked) (xa : x.about ≡ a) (xk : x.known ≡ l1) (xm : x.map ≡ m) (xs : x.segment ≡ s) (r : Rested x y) where
-      lane_is : y.known ≡ record l { readings = y.known.readings }
+      lane_is : y.known ≡ record l { readings = y.known.readings; tally = look (Stamp m s) n ∷ l.tally }
       lane_is = r.known ∙ ap (λ (z : Known). record z { readings = y.known.readings }) (xk ∙ is)
 
       abbrev there : Peeked
-      there = record y { about = a; known = record l { readings = y.known.readings }; map = m; segment = s }
+      there = record y { about = a; known = record l { readings = y.known.readings; tally = look (Stamp m s) n ∷ l.tally }; map = m; segment = s }
 
       y_is : y ≡ there
       y_is = λ j. record { table = y.table; about = (r.about ∙ xa) j; known = lane_is j; map = (r.map ∙ xm) j; segment = (r.segment ∙ xs) j }
@@ -64,10 +69,11 @@ module _ (a : About) (l : Known) (m s n : ℕ) (key : List ℕ) (q : AsksForKey 
             let at_end = seen.1 far in
             let rd : l3.readings ≡ [] = ap (λ (z : Known). z.readings) at_end in
             record {
-              apart = inr (λ e. ne (sym e));
+              sights = look (Stamp m (segment_in a m key)) last ∷ look (Stamp m (segment_in a m key)) n ∷ [];
+              disturbed = inr ((λ e. ne (sym e)), refl);
               after = at_end
-                  ∙ (ap (λ (z : Known). record z { readings = []; tally = disturbed_by z.tally (latest_reading y.known).map (latest_reading y.known).segment (latest_reading y.known).stamp last }) lane_is
-                  ∙ (λ j. record l { readings = sym rd j; tally = disturbed_by l.tally (read_map j) ((read_segment ∙ sym home) j) (read_stamp j) last }));
+                  ∙ (ap (λ (z : Known). record z { readings = []; tally = look (Stamp (latest_reading y.known).map (latest_reading y.known).segment) last ∷ z.tally }) lane_is
+                  ∙ (λ j. record l { readings = sym rd j; tally = look (Stamp (read_map j) ((read_segment ∙ sym home) j)) last ∷ look (Stamp m (sym home j)) n ∷ l.tally }));
             }
 
         -- it is the same
@@ -75,11 +81,20 @@ module _ (a : About) (l : Known) (m s n : ℕ) (key : List ℕ) (q : AsksForKey 
           found : Found y.about y.known (latest_reading y.known) key o l3
           found = seen.0 (same ∙ sym read_stamp)
 
-          after : l3 ≡ record l { seen = l3.seen; readings = [] }
-          after = found.after ∙ ap (λ (z : Known). record z { seen = l3.seen; readings = [] }) lane_is
+          after : l3 ≡ record l { seen = l3.seen; readings = []; tally = look (Stamp m s) n ∷ look (Stamp m s) n ∷ l.tally }
+          after = found.after
+              ∙ (ap (λ (z : Known). record z { seen = l3.seen; readings = []; tally = look (Stamp (latest_reading y.known).map (latest_reading y.known).segment) (latest_reading y.known).stamp ∷ z.tally }) lane_is
+              ∙ (λ j. record l { seen = l3.seen; readings = []; tally = look (Stamp (read_map j) (read_segment j)) (read_stamp j) ∷ look (Stamp m s) n ∷ l.tally }))
 
-          pub found_tally : l3.tally ≡ l.tally
+          found_tally : l3.tally ≡ look (Stamp m s) n ∷ look (Stamp m s) n ∷ l.tally
           found_tally = ap (λ (z : Known). z.tally) after
+
+          pub reads_once : n % 2 ≡ 0 → ReadsOnce a l m key l3
+          reads_once even = (
+            look (Stamp m (segment_in a m key)) n ∷ look (Stamp m (segment_in a m key)) n ∷ [],
+            (n, even, refl),
+            found_tally ∙ ap (λ (i : ℕ). look (Stamp m i) n ∷ look (Stamp m i) n ∷ l.tally) (sym home),
+          )
 
           its_event : Saw a l (Lookup m key (found_span a m o)) l3.seen
           its_event =
@@ -109,10 +124,11 @@ module _ (a : About) (l : Known) (m : ℕ) (key : List ℕ) where
 
     pub tries_more : (first last : ℕ) (y : Known) → Disturbs a x m key first last y → SeesDisturbances a l m key (n + 1) y
     tries_more first last y p =
-        let d : Disturbance = record { map = m; segment = segment_in a m key; first = first; last = last } in
         record {
-          more = d ∷ t.more;
+          more = p.sights ∷ t.more;
           count = (let c = t.count in omega arith);
-          each = ((refl, refl, p.apart), t.each);
-          after = p.after ∙ (ap (λ (z : Known). record z { readings = y.readings; tally = disturbed_by z.tally m (segment_in a m key) first last }) t.after);
+          each = ((first, last, p.disturbed), t.each);
+          after = p.after
+              ∙ (ap (λ (z : Known). record z { readings = y.readings; tally = p.sights ++ z.tally }) t.after
+              ∙ (λ j. record l { readings = y.readings; tally = sym (append_assoc p.sights (all_sights t.more) l.tally) j }));
         }

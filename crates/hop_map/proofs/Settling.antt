@@ -11,6 +11,8 @@ use Rattle.hop_words.specs.declared.known.About.{About}
 use Rattle.hop_words.specs.declared.known.Known.{Known}
 use Rattle.hop_words.specs.declared.known.Fresh.{Fresh}
 use Rattle.hop_words.specs.declared.known.Limbo.{Limbo}
+use Rattle.hop_words.specs.declared.known.Sight.{Sight}
+use Rattle.hop_words.specs.Sights.{sighted}
 use Rattle.hop_words.specs.Layout.{words_for}
 use Rattle.hop_words.specs.Homes.{segment_of, word_of, AreBytes}
 use Rattle.hop_words.specs.Ghost.{shape_at, limbo_at, no_limbo}
@@ -23,7 +25,7 @@ use Rattle.hop_arena.proofs.Filling.{word_count}
 use Rattle.hop_epoch.proofs.Batching.{at_set}
 use Rattle.hop_map.specs.Calls.{Took}
 use Rattle.hop_map.specs.Overs.{Over}
-use Rattle.hop_map.specs.Locks.{Readies, counted_lock}
+use Rattle.hop_map.specs.Locks.{Readies}
 use Rattle.hop_map.specs.Updates.{Refusal}
 use Rattle.hop_map.specs.Whole.{Called, HoldsNew}
 use Rattle.hop_map.proofs.Wholes.{saw_as}
@@ -65,10 +67,10 @@ module _ (a : About) (l : Known) (m e : ℕ) (new : HoldsNew l m e) (key bytes :
     idle = idle;
   })
 
-  module _ (used : (limbo_at l.limbo m).used ≡ []) (room : m < length l.limbo) (flags : ℕ) (l2 : Known) where
-    pub added_called : Took a (counted_lock l1) m key bytes flags l2 → Called a l m (Update m key bytes flags Done) l2
+  module _ (used : (limbo_at l.limbo m).used ≡ []) (room : m < length l.limbo) (flags : ℕ) (k : Sight) (l2 : Known) where
+    pub added_called : Took a (sighted l1 k) m key bytes flags l2 → Called a l m (Update m key bytes flags Done) l2
     added_called p = record {
-      seen = saw_as a l (counted_lock l1) (Update m key bytes flags Done) l2.seen (ap (λ (q : Known). q.cpu) filled_is) (ap (λ (q : Known). q.seen) filled_is) p.seen;
+      seen = saw_as a l (sighted l1 k) (Update m key bytes flags Done) l2.seen (ap (λ (q : Known). q.cpu) filled_is) (ap (λ (q : Known). q.seen) filled_is) p.seen;
       rests = record {
         fresh = ap (λ (q : Known). q.fresh) p.after;
         locks = ap (λ (q : Known). q.locks) p.after;
@@ -80,22 +82,22 @@ module _ (a : About) (l : Known) (m e : ℕ) (new : HoldsNew l m e) (key bytes :
       others = λ n ne. ap (λ (q : Known). limbo_at q.limbo n) p.after ∙ ap (λ (q : Known). limbo_at q.limbo n) filled_is;
     }
 
-    pub added_limbo : Took a (counted_lock l1) m key bytes flags l2 → l2.limbo ≡ l.limbo
+    pub added_limbo : Took a (sighted l1 k) m key bytes flags l2 → l2.limbo ≡ l.limbo
     added_limbo p = ap (λ (q : Known). q.limbo) p.after ∙ ap (λ (q : Known). q.limbo) filled_is
 
-    module _ (r : MapAnswer) (p : Refusal a (counted_lock l1) m key bytes flags r l2) where
+    module _ (r : MapAnswer) (p : Refusal a (sighted l1 k) m key bytes flags r l2) where
       refused_fresh : l2.fresh ≡ whole ∷ []
       refused_fresh = ap (λ (q : Known). q.fresh) p.after ∙ ap (λ (q : Known). q.fresh) filled_is
 
       pub refused_hand : IsInHand l2 m e
       refused_hand = (whole, refused_fresh ∙ ap (λ (fs : List Fresh). whole ∷ fs) (sym (ap tail_of refused_fresh)), refl, refl)
 
-      pub refused_limbo : (l3 : Known) → l3 ≡ record l2 { fresh = tail_of l2.fresh } → l3.limbo ≡ l.limbo
-      refused_limbo l3 given = ap (λ (q : Known). q.limbo) given ∙ (ap (λ (q : Known). q.limbo) p.after ∙ ap (λ (q : Known). q.limbo) filled_is)
+      pub refused_limbo : (l3 : Known) (j : Sight) → l3 ≡ sighted (record l2 { fresh = tail_of l2.fresh }) j → l3.limbo ≡ l.limbo
+      refused_limbo l3 j given = ap (λ (q : Known). q.limbo) given ∙ (ap (λ (q : Known). q.limbo) p.after ∙ ap (λ (q : Known). q.limbo) filled_is)
 
-      pub refused_called : (l3 : Known) → l3 ≡ record l2 { fresh = tail_of l2.fresh } → Called a l m (Update m key bytes flags r) l3
-      refused_called l3 given = subst (Called a l m (Update m key bytes flags r)) (sym given) (record {
-        seen = saw_as a l (counted_lock l1) (Update m key bytes flags r) l2.seen (ap (λ (q : Known). q.cpu) filled_is) (ap (λ (q : Known). q.seen) filled_is) p.seen;
+      pub refused_called : (l3 : Known) (j : Sight) → l3 ≡ sighted (record l2 { fresh = tail_of l2.fresh }) j → Called a l m (Update m key bytes flags r) l3
+      refused_called l3 j given = subst (Called a l m (Update m key bytes flags r)) (sym given) (record {
+        seen = saw_as a l (sighted l1 k) (Update m key bytes flags r) l2.seen (ap (λ (q : Known). q.cpu) filled_is) (ap (λ (q : Known). q.seen) filled_is) p.seen;
         rests = record {
           fresh = ap tail_of refused_fresh;
           locks = ap (λ (q : Known). q.locks) p.after;
@@ -107,7 +109,7 @@ module _ (a : About) (l : Known) (m e : ℕ) (new : HoldsNew l m e) (key bytes :
         others = λ n ne. ap (λ (q : Known). limbo_at q.limbo n) p.after ∙ ap (λ (q : Known). limbo_at q.limbo n) filled_is;
       })
 
-    module _ (old : ℕ) (p : Over a (counted_lock l1) m key bytes flags old l2) where
+    module _ (old : ℕ) (p : Over a (sighted l1 k) m key bytes flags old l2) where
       pub over_limbo : l2.limbo ≡ with_gone l m old
       over_limbo = ap (λ (q : Known). q.limbo) p.after ∙ ap (λ (q : Known). with_gone q m old) filled_is
 
@@ -126,7 +128,7 @@ module _ (a : About) (l : Known) (m e : ℕ) (new : HoldsNew l m e) (key bytes :
           let x : Limbo = record (limbo_at l2.limbo m) { used = tail_of (limbo_at l2.limbo m).used; young = old ∷ (limbo_at l2.limbo m).young } in
           let room2 : m < length l2.limbo = subst (λ (i : ℕ). m < i) (sym size_is) room in
           subst (Called a l m (Update m key bytes flags Done)) (sym retired) (record {
-            seen = saw_as a l (counted_lock l1) (Update m key bytes flags Done) l2.seen (ap (λ (q : Known). q.cpu) filled_is) (ap (λ (q : Known). q.seen) filled_is) p.seen;
+            seen = saw_as a l (sighted l1 k) (Update m key bytes flags Done) l2.seen (ap (λ (q : Known). q.cpu) filled_is) (ap (λ (q : Known). q.seen) filled_is) p.seen;
             rests = record {
               fresh = ap (λ (q : Known). q.fresh) p.after;
               locks = ap (λ (q : Known). q.locks) p.after;

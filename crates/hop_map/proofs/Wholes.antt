@@ -1,5 +1,5 @@
 -- A whole call, from its steps.
-use Rattle.std.proofs.Common.{◌≡◌, ℕ, ◌+◌, ◌-◌, ◌^◌, ◌<◌, ◌≤◌, ◌⊎◌, inl, inr, ⊎_elim, true, List, [], ◌∷◌, ◌++◌, Option, Some, None, MatchOption, length, length-set, get_or-set_other, slice_index, append_assoc, refl, ap, sym, subst, ◌∙◌}
+use Rattle.std.proofs.Common.{◌≡◌, ℕ, ◌+◌, ◌-◌, ◌%◌, ◌^◌, ◌<◌, ◌≤◌, ◌⊎◌, inl, inr, ⊎_elim, true, List, [], ◌∷◌, ◌++◌, Option, Some, None, MatchOption, length, length-set, get_or-set_other, slice_index, append_assoc, refl, ap, sym, subst, ◌∙◌}
 use Rattle.bpf_shared.specs.Shape.{IsPairOf, IsKeyOf, elements}
 use Rattle.bpf_shared.specs.declared.shapes.MapShape.{MapShape}
 use Rattle.bpf_shared.specs.History.{events_of, entry}
@@ -13,8 +13,9 @@ use Rattle.hop_words.specs.declared.known.Known.{Known}
 use Rattle.hop_words.specs.declared.known.Fresh.{Fresh}
 use Rattle.hop_words.specs.declared.known.Limbo.{Limbo}
 use Rattle.hop_words.specs.declared.known.Sight.{Sight}
-use Rattle.hop_words.specs.declared.known.Sight.TheVariants.{Runs}
-use Rattle.hop_words.specs.Ghost.{shape_at, limbo_at, no_limbo}
+use Rattle.hop_words.specs.declared.place.Place.TheVariants.{RunCount}
+use Rattle.hop_words.specs.Sights.{IsLook, look, lock_taken, sighted}
+use Rattle.hop_words.specs.Ghost.{shape_at, limbo_at, no_limbo, Each}
 use Rattle.hop_words.specs.Rule.{done_in}
 use Rattle.hop_words.specs.Kinds.{Saw, holding, retiring, with_gone}
 use Rattle.bpf_shared.specs.Own.{in_run}
@@ -24,9 +25,8 @@ use Rattle.hop_arena.specs.Claiming.{Sees, Misses, Claims}
 use Rattle.hop_arena.specs.declared.element.Element.{Element}
 use Rattle.hop_epoch.specs.Batch.{Keeps, SeesRunning}
 use Rattle.hop_epoch.proofs.Batching.{at_set, keeps_then}
-use Rattle.hop_map.specs.Locks.{counted_lock}
 use Rattle.hop_map.specs.Removals.{Dropped, Kept}
-use Rattle.hop_map.specs.Whole.{Rests, Called, SearchesInVain, Lacks}
+use Rattle.hop_map.specs.Whole.{Rests, Called, LeavesElements, SearchesInVain, Lacks}
 
 -- ---- the event, seen from before
 pub saw_as : (a : About) (l l1 : Known) (ev : Event) (s : List Entry) → l1.cpu ≡ l.cpu → l1.seen ≡ l.seen → Saw a l1 ev s → Saw a l ev s
@@ -49,38 +49,60 @@ keeps_sees m l l1 more s = subst (Keeps m l) (sym s) (record { cpu = refl; seen 
 pub keeps_holding : (m e : ℕ) (l l1 : Known) → Keeps m l l1 → Keeps m (holding l m e) (holding l1 m e)
 keeps_holding m e l l1 p = record { cpu = p.cpu; seen = p.seen; fresh = ap (λ (fs : List Fresh). record { map = m; element = e; key = []; value = [] } ∷ fs) p.fresh; locks = p.locks; readings = p.readings; size = p.size; others = p.others; used = p.used; sights = p.sights }
 
+each_still : (m : ℕ) (ss : List Sight) → Each IsLook ss → Each (LeavesElements m) ss
+each_still m [] t = tt
+each_still m (s ∷ ss) t = ((λ i _. t.0), each_still m ss t.1)
+
 -- the three steps that find none
 pub short : (a : About) (m : ℕ) (l l1 l2 l3 : Known) → Misses a l m l1 → Keeps m l1 l2 → ((limbo_at l2.limbo m).old ≡ [] → (limbo_at l2.limbo m).young ≡ [])
     → ((limbo_at l2.limbo m).old ≡ []) ⊎ SeesRunning m l1 l2 → Misses a l2 m l3 → SearchesInVain a l m l3
-short a m l l1 l2 l3 first kept empty blocked last = subst (SearchesInVain a l m) (sym last.1) (⊎_elim
+short a m l l1 l2 l3 first kept empty blocked last = subst (SearchesInVain a l m) (sym last.1.0) (⊎_elim
     (λ (none : (limbo_at l2.limbo m).old ≡ []). record {
       sooner = kept.sights.0 ++ first.0;
       later = last.0;
-      sights = ap (λ (z : List Sight). last.0 ++ z) (kept.sights.1 ∙ (ap (λ (z : List Sight). kept.sights.0 ++ z) one ∙ sym (append_assoc kept.sights.0 first.0 l.tally.sights)));
+      sights = ap (λ (z : List Sight). last.0 ++ z) (kept.sights.1 ∙ (ap (λ (z : List Sight). kept.sights.0 ++ z) one ∙ sym (append_assoc kept.sights.0 first.0 l.tally)));
       kept = inl (none, empty none);
+      still = each_still m last.0 last.1.1;
       taken = last.2;
     })
     (λ (r : SeesRunning m l1 l2). record {
-      sooner = Runs r.0 (slice_index (limbo_at l2.limbo m).noted r.0) ∷ (r.1 ++ first.0);
+      sooner = look (RunCount r.0) (slice_index (limbo_at l2.limbo m).noted r.0) ∷ (r.1 ++ first.0);
       later = last.0;
-      sights = ap (λ (z : List Sight). last.0 ++ z) (r.2 ∙ ap (λ (z : List Sight). Runs r.0 (slice_index (limbo_at l2.limbo m).noted r.0) ∷ z) (ap (λ (z : List Sight). r.1 ++ z) one ∙ sym (append_assoc r.1 first.0 l.tally.sights)));
+      sights = ap (λ (z : List Sight). last.0 ++ z) (r.2 ∙ ap (λ (z : List Sight). look (RunCount r.0) (slice_index (limbo_at l2.limbo m).noted r.0) ∷ z) (ap (λ (z : List Sight). r.1 ++ z) one ∙ sym (append_assoc r.1 first.0 l.tally)));
       kept = inr (r.0, r.1 ++ first.0, refl, r.3);
+      still = each_still m last.0 last.1.1;
       taken = last.2;
     })
     blocked)
   where
-    one : l1.tally.sights ≡ first.0 ++ l.tally.sights
-    one = ap (λ (q : Known). q.tally.sights) first.1
+    one : l1.tally ≡ first.0 ++ l.tally
+    one = ap (λ (q : Known). q.tally) first.1.0
+
+-- and something more was noted, that left the map's elements
+pub searched_on : (a : About) (l : Known) (m : ℕ) (l1 l2 : Known) (k : Sight) → SearchesInVain a l m l1 → LeavesElements m k → l2.tally ≡ k ∷ l1.tally → l2.limbo ≡ l1.limbo → SearchesInVain a l m l2
+searched_on a l m l1 l2 k p leaves more same = record {
+  sooner = p.sooner;
+  later = k ∷ p.later;
+  sights = more ∙ ap (λ (z : List Sight). k ∷ z) p.sights;
+  still = (leaves, p.still);
+  kept = subst (λ (ls : List Limbo).
+      (((limbo_at ls m).old ≡ []) × ((limbo_at ls m).young ≡ []))
+      ⊎ ((d : ℕ) × (more : List Sight) × (p.sooner ≡ look (RunCount d) (slice_index (limbo_at ls m).noted d) ∷ more) × (slice_index (limbo_at ls m).noted d % 2 ≡ 1))) (sym same) p.kept;
+  taken = λ e few. inr (p.taken e few);
+}
+
+pub lock_leaves : (m n s stamp : ℕ) → LeavesElements m (lock_taken n s stamp)
+lock_leaves m n s stamp i h = cc
 
 pub found_after : (a : About) (m : ℕ) (l l1 l2 l3 : Known) → Misses a l m l1 → Keeps m l1 l2 → ((limbo_at l2.limbo m).old ≡ [] → (limbo_at l2.limbo m).young ≡ [])
     → ((limbo_at l2.limbo m).old ≡ []) ⊎ SeesRunning m l1 l2 → (o : Option Element) → MatchOption o (Misses a l2 m l3) (λ (x : Element). Claims a l2 m x l3)
     → MatchOption o (Keeps m l l3 × SearchesInVain a l m l3) (λ (x : Element). Keeps m (holding l m x.number) l3 × (x.map ≡ m) × (x.number < elements (shape_at a m)))
 found_after a m l l1 l2 l3 first kept empty blocked None p = (
-  keeps_then m l l2 l3 (keeps_then m l l1 l2 (keeps_sees m l l1 first.0 first.1) kept) (keeps_sees m l2 l3 p.0 p.1),
+  keeps_then m l l2 l3 (keeps_then m l l1 l2 (keeps_sees m l l1 first.0 first.1.0) kept) (keeps_sees m l2 l3 p.0 p.1.0),
   short a m l l1 l2 l3 first kept empty blocked p,
 )
 found_after a m l l1 l2 l3 first kept empty blocked (Some x) p = (
-  keeps_then m (holding l m x.number) (holding l2 m x.number) l3 (keeps_holding m x.number l l2 (keeps_then m l l1 l2 (keeps_sees m l l1 first.0 first.1) kept)) (keeps_sees m (holding l2 m x.number) l3 p.0 p.1),
+  keeps_then m (holding l m x.number) (holding l2 m x.number) l3 (keeps_holding m x.number l l2 (keeps_then m l l1 l2 (keeps_sees m l l1 first.0 first.1.0) kept)) (keeps_sees m (holding l2 m x.number) l3 p.0 p.1),
   p.2,
   p.3,
 )
@@ -101,9 +123,9 @@ lacks_of a l m NoMemory l2 worn none = none refl
 pub key_at_map : (a : About) (m : ℕ) (key : List ℕ) → IsKeyOf a.shape.maps m key → (m < length a.shape.maps) × (length key ≡ (shape_at a m).key)
 key_at_map a m key p = let t = map_of a.shape m p.0 p.1 in (t.0, p.2 ∙ ap (λ (g : MapShape). g.key) (sym t.1))
 
-pub kept_called : (a : About) (l : Known) (m : ℕ) (key : List ℕ) (r : MapAnswer) (l2 : Known) → Rests l m → Kept a (counted_lock l) m key r l2 → Called a l m (Delete m key r) l2
-kept_called a l m key r l2 rests p = record {
-  seen = saw_as a l (counted_lock l) (Delete m key r) l2.seen refl refl p.seen;
+pub kept_called : (a : About) (l : Known) (k : Sight) (m : ℕ) (key : List ℕ) (r : MapAnswer) (l2 : Known) → Rests l m → Kept a (sighted l k) m key r l2 → Called a l m (Delete m key r) l2
+kept_called a l k m key r l2 rests p = record {
+  seen = saw_as a l (sighted l k) (Delete m key r) l2.seen refl refl p.seen;
   rests = record {
     fresh = ap (λ (q : Known). q.fresh) p.after ∙ rests.fresh;
     locks = ap (λ (q : Known). q.locks) p.after;
@@ -115,7 +137,7 @@ kept_called a l m key r l2 rests p = record {
   others = λ n ne. ap (λ (q : Known). limbo_at q.limbo n) p.after;
 }
 
-module _ (a : About) (l : Known) (m : ℕ) (key : List ℕ) (old : ℕ) (l2 : Known) (rests : Rests l m) (room : m < length l.limbo) (p : Dropped a (counted_lock l) m key old l2) where
+module _ (a : About) (l : Known) (k : Sight) (m : ℕ) (key : List ℕ) (old : ℕ) (l2 : Known) (rests : Rests l m) (room : m < length l.limbo) (p : Dropped a (sighted l k) m key old l2) where
   pub dropped_limbo : l2.limbo ≡ with_gone l m old
   dropped_limbo = ap (λ (q : Known). q.limbo) p.after
 
@@ -134,7 +156,7 @@ module _ (a : About) (l : Known) (m : ℕ) (key : List ℕ) (old : ℕ) (l2 : Kn
       let x : Limbo = record (limbo_at l2.limbo m) { used = tail_of (limbo_at l2.limbo m).used; young = old ∷ (limbo_at l2.limbo m).young } in
       let room2 : m < length l2.limbo = subst (λ (i : ℕ). m < i) (sym dropped_size) room in
       subst (Called a l m (Delete m key Done)) (sym retired) (record {
-        seen = saw_as a l (counted_lock l) (Delete m key Done) l2.seen refl refl p.seen;
+        seen = saw_as a l (sighted l k) (Delete m key Done) l2.seen refl refl p.seen;
         rests = record {
           fresh = ap (λ (q : Known). q.fresh) p.after ∙ rests.fresh;
           locks = ap (λ (q : Known). q.locks) p.after;

@@ -1,10 +1,11 @@
 -- What a call has before the lock, and right after it.
-use Rattle.std.specs.Prelude.{◌≡◌, ℕ, ◌+◌, ◌<◌, List, [], ◌∷◌, length, slice_index}
+use Rattle.std.specs.Prelude.{◌≡◌, ℕ, ◌<◌, List, [], ◌∷◌, length, slice_index}
 use Rattle.bpf_shared.specs.Shape.{elements}
 use Rattle.hop_words.specs.declared.known.About.{About}
 use Rattle.hop_words.specs.declared.known.Known.{Known}
 use Rattle.hop_words.specs.Layout.{words_for}
 use Rattle.hop_words.specs.Homes.{word_of, AreBytes}
+use Rattle.hop_words.specs.Sights.{sighted, lock_taken}
 use Rattle.hop_words.specs.Ghost.{shape_at}
 use Rattle.hop_words.specs.Locking.{hand}
 use Rattle.hop_map.specs.Updates.{Wants, Valued}
@@ -29,6 +30,6 @@ pub record Readies (a : About) (l : Known) (m s : ℕ) (key bytes : List ℕ) (f
   pub wants : Wants a l m s key bytes flags
   pub idle : l.locks ≡ []
 
--- one lock more was counted
-abbrev pub counted_lock : Known → Known
-counted_lock l = record l { tally = record l.tally { locks = l.tally.locks + 1 } }
+-- the segment's lock was taken, at this stamp, and nothing else was noted
+abbrev pub with_lock : Known → ℕ → ℕ → ℕ → Known
+with_lock l m s n = sighted l (lock_taken m s n)

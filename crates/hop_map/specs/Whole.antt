@@ -7,8 +7,9 @@ use Rattle.bpf_shared.specs.Shape.{elements}
 use Rattle.hop_words.specs.declared.known.About.{About}
 use Rattle.hop_words.specs.declared.known.Known.{Known}
 use Rattle.hop_words.specs.declared.known.Sight.{Sight}
-use Rattle.hop_words.specs.declared.known.Sight.TheVariants.{Runs}
-use Rattle.hop_words.specs.Ghost.{shape_at, limbo_at}
+use Rattle.hop_words.specs.declared.place.Place.TheVariants.{FreeBits, RunCount}
+use Rattle.hop_words.specs.Sights.{IsLook, look}
+use Rattle.hop_words.specs.Ghost.{shape_at, limbo_at, Each}
 use Rattle.hop_words.specs.Rule.{done_in}
 use Rattle.hop_words.specs.Kinds.{Saw}
 use Rattle.hop_arena.specs.declared.arena.Arena.{Arena}
@@ -34,8 +35,7 @@ pub record Rests (l : Known) (m : ℕ) : Type 0 where
   pub locks : l.locks ≡ []
   pub used : (limbo_at l.limbo m).used ≡ []
 
--- the call's event was made; of all else only the batches of the map changed, and what was counted
--- and seen
+-- the call's event was made; of all else only the batches of the map changed, and what was noted
 pub record Called (a : About) (l : Known) (m : ℕ) (event : Event) (l' : Known) : Type 0 where
   pub seen : Saw a l event l'.seen
   pub rests : Rests l' m
@@ -44,17 +44,22 @@ pub record Called (a : About) (l : Known) (m : ℕ) (event : Event) (l' : Known)
   pub size : length l'.limbo ≡ length l.limbo
   pub others : (n : ℕ) → n ≢ m → limbo_at l'.limbo n ≡ limbo_at l.limbo n
 
+-- of the map's elements, the step took none and gave none back
+abbrev pub LeavesElements : ℕ → Sight → Type 0
+LeavesElements m s = (i : ℕ) → s.place ≡ FreeBits m i → IsLook s
+
 -- the call looked for a free element in vain. First its two batches of the map were empty, or a CPU
 -- was still in the run that was noted with the old one; after that each element of the map was seen
--- not free
+-- not free, while the call took none and gave none back
 pub record SearchesInVain (a : About) (l : Known) (m : ℕ) (l' : Known) : Type 0 where
   pub sooner : List Sight
   pub later : List Sight
-  pub sights : l'.tally.sights ≡ later ++ (sooner ++ l.tally.sights)
+  pub sights : l'.tally ≡ later ++ (sooner ++ l.tally)
+  pub still : Each (LeavesElements m) later
   pub kept :
       (((limbo_at l'.limbo m).old ≡ []) × ((limbo_at l'.limbo m).young ≡ []))
       ⊎ ((d : ℕ) × (more : List Sight)
-      × (sooner ≡ Runs d (slice_index (limbo_at l'.limbo m).noted d) ∷ more)
+      × (sooner ≡ look (RunCount d) (slice_index (limbo_at l'.limbo m).noted d) ∷ more)
       × (slice_index (limbo_at l'.limbo m).noted d % 2 ≡ 1))
   pub taken : (e : ℕ) → e < elements (shape_at a m) → IsSeenTaken later m e
 

@@ -1,12 +1,12 @@
 //! A whole deletion by one CPU.
-ghost use Rattle.std.specs.Prelude.{◌≡◌, ◌<◌, true, [], length};
+ghost use Rattle.std.specs.Prelude.{ℕ, ◌≡◌, ◌<◌, true, [], length};
 ghost use Rattle.bpf_shared.specs.Shape.{IsKeyOf};
 ghost use Rattle.bpf_shared.specs.History.{events_of};
 ghost use Rattle.bpf_shared.specs.declared.events.Event.TheVariants.{Delete};
 ghost use Rattle.hop_words.specs.Homes.{segment_of};
 ghost use Rattle.hop_words.specs.Ghost.{shape_at};
 ghost use Rattle.bpf_shared.specs.Own.{in_run};
-ghost use Rattle.hop_map.specs.Locks.{counted_lock};
+ghost use Rattle.hop_map.specs.Locks.{with_lock};
 ghost use Rattle.hop_map.specs.Removals.{NamesKey, DeleteEnds};
 ghost use Rattle.hop_map.specs.Whole.{Rests, Called, Lacks, AreBatchesOf};
 
@@ -34,7 +34,8 @@ fn lock_and_delete<R: Wait>(
     requires empty { lane.known.fresh ≡ [] }
     requires idle { lane.known.locks ≡ [] }
     ensures table { result.0.table ≡ table.now.id }
-    ensures ends { DeleteEnds table.now.about (counted_lock lane.known) map
+    ensures ends { (n : ℕ) × DeleteEnds table.now.about (with_lock lane.known map
+        (segment_of table.now.about.seed (shape_at table.now.about map) key.now) n) map
         key.now result.1 result.0.known }
 {
     let mut lane = lane;

@@ -5,8 +5,7 @@ ghost use Rattle.hop_words.specs.Ghost.{shape_at};
 ghost use Rattle.hop_words.specs.Kinds.{LookedUp, found_span};
 ghost use Rattle.hop_words.specs.Locking.{lock_of};
 ghost use Rattle.hop_map.specs.Calls.{LockShows};
-ghost use Rattle.hop_map.specs.Locks.{counted_lock};
-ghost use Rattle.hop_map.specs.Finding.{AsksForKey, AsksHere, Looked, OnceEnds, Spares};
+ghost use Rattle.hop_map.specs.Finding.{AsksForKey, AsksHere, Looked, OnceEnds, TakesLock, Spares};
 
 use crate::homing::{homing, shape_of};
 use crate::locked::LockedWords;
@@ -65,7 +64,7 @@ pub fn find_locked<R: Wait>(
     ensures table { result.0.table ≡ table.now.id }
     ensures found { Looked table.now.about lane.known map key.now result.1 result.0.known }
     ensures readings { result.0.known.readings ≡ lane.known.readings }
-    ensures locked { result.0.known.tally ≡ (counted_lock lane.known).tally }
+    ensures locked { TakesLock table.now.about lane.known map key.now result.0.known }
 {
     let at = homing(table, map, key);
     let mut lane = lane;

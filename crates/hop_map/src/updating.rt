@@ -1,5 +1,5 @@
 //! A whole update by one CPU.
-ghost use Rattle.std.specs.Prelude.{◌≡◌, ◌≢◌, ◌+◌, ◌-◌, ◌%◌, ◌^◌, ◌<◌, ◌≤◌, true, [], length, None, MatchOption};
+ghost use Rattle.std.specs.Prelude.{ℕ, ◌≡◌, ◌≢◌, ◌+◌, ◌-◌, ◌%◌, ◌^◌, ◌<◌, ◌≤◌, true, [], length, None, MatchOption};
 ghost use Rattle.bpf_shared.specs.Shape.{IsPairOf, elements as elements_of};
 ghost use Rattle.bpf_shared.specs.History.{events_of};
 ghost use Rattle.bpf_shared.specs.declared.events.Event.TheVariants.{Update};
@@ -11,7 +11,7 @@ ghost use Rattle.hop_words.specs.Kinds.{holding};
 ghost use Rattle.bpf_shared.specs.Own.{in_run};
 ghost use Rattle.hop_arena.specs.Claiming.{Claims, Misses, IsArena};
 ghost use Rattle.hop_epoch.specs.Batch.{Keeps};
-ghost use Rattle.hop_map.specs.Locks.{Readies, counted_lock};
+ghost use Rattle.hop_map.specs.Locks.{Readies, with_lock};
 ghost use Rattle.hop_map.specs.Updates.{Wants, Refusal, UpdateEnds};
 ghost use Rattle.hop_map.specs.Whole.{Rests, Called, Lacks, SearchesInVain, Searches, AreBatchesOf, HoldsNew};
 
@@ -43,7 +43,8 @@ fn lock_and_put<R: Wait>(
         (segment_of table.now.about.seed (shape_at table.now.about map) key.now)
         key.now value.now flags element }
     ensures table { result.0.table ≡ table.now.id }
-    ensures ends { UpdateEnds table.now.about (counted_lock lane.known) map
+    ensures ends { (n : ℕ) × UpdateEnds table.now.about (with_lock lane.known map
+        (segment_of table.now.about.seed (shape_at table.now.about map) key.now) n) map
         key.now value.now flags result.1 result.0.known }
 {
     let mut lane = lane;
@@ -71,7 +72,8 @@ fn lock_and_refuse<R: Wait>(
         (segment_of table.now.about.seed (shape_at table.now.about map) key.now)
         key.now value.now flags }
     ensures table { result.0.table ≡ table.now.id }
-    ensures refused { Refusal table.now.about (counted_lock lane.known) map
+    ensures refused { (n : ℕ) × Refusal table.now.about (with_lock lane.known map
+        (segment_of table.now.about.seed (shape_at table.now.about map) key.now) n) map
         key.now value.now flags result.1 result.0.known }
 {
     let mut lane = lane;

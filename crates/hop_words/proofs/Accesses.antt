@@ -46,6 +46,7 @@ module _ (a : About) (l : Known) (p : ValuePart) (t : TouchesWord a l p) where
         rule = next.rule;
         others = next.others;
         longer = next.longer;
+        tally = next.tally;
         says = subst (λ (i : ℕ). Told a l (Atomic (part_address a p) Double op operand expected i) (lane next.ghost.lanes l.cpu)) (found n fits) next.says;
       }
     where

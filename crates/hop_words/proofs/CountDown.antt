@@ -151,6 +151,7 @@ module _ (a : About) (l : Known) (k : Lock) (key : List ℕ) (e : ℕ) (i : Remo
     rule = down_rule;
     others = λ d ne. rw (ne_eqb d l.cpu ne) refl;
     longer = (entry l.cpu event ∷ [], refl);
+    tally = refl;
     says = subst (Removed a l k key e) (sym down_lane) (record { seen = saw a w g r l is inside event last' may down_rule.logged; after = refl });
   }
 

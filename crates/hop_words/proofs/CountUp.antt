@@ -274,6 +274,7 @@ module _ (a : About) (l : Known) (k : Lock) (f : Fresh) (rest : List Fresh) (key
     rule = rule' found;
     others = λ d ne. rw (ne_eqb d l.cpu ne) refl;
     longer = (entry l.cpu event ∷ [], refl);
+    tally = refl;
     says = told found;
   }
 

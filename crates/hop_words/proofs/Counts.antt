@@ -39,6 +39,7 @@ event_next a w g r l is inside p ev quiet may =
       rule = subst (λ (z : Place → ℕ). Rule a z (noted_event g l.cpu ev)) (sym (put_again w p)) rule;
       others = λ d ne. rw (ne_eqb d l.cpu ne) refl;
       longer = (entry l.cpu ev ∷ [], refl);
+      tally = refl;
       says = subst (Told a l ev) (sym (rw (eq-eqb l.cpu l.cpu refl) (ap (λ (z : Known). record z { seen = g.log ++ entry l.cpu ev ∷ [] }) is))) (record { seen = saw a w g r l is inside ev g.last may rule.logged; after = refl });
     }
 

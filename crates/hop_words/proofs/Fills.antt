@@ -124,6 +124,7 @@ module _ (a : About) (l : Known) (f : Fresh) (rest : List Fresh) (hand : l.fresh
     };
     others = λ d ne. rw (ne_eqb d l.cpu ne) refl;
     longer = prefix_refl g.log;
+    tally = refl;
     says = rw (eq-eqb l.cpu l.cpu refl) (ap (λ (z : Known). record z { fresh = f2 ∷ rest }) is);
   }
     where
@@ -190,6 +191,7 @@ module _ (a : About) (l : Known) (f : Fresh) (rest : List Fresh) (hand : l.fresh
     };
     others = λ d ne. rw (ne_eqb d l.cpu ne) refl;
     longer = prefix_refl g.log;
+    tally = refl;
     says = rw (eq-eqb l.cpu l.cpu refl) (ap (λ (z : Known). record z { fresh = f2 ∷ rest }) is);
   }
     where
@@ -270,6 +272,7 @@ give_fresh a l f rest hand at_e ws g sized r is inside fits = record {
   };
   others = λ d ne. rw (ne_eqb d l.cpu ne) refl;
   longer = prefix_refl g.log;
+  tally = refl;
   says = rw (eq-eqb l.cpu l.cpu refl) (ap (λ (z : Known). record z { fresh = rest }) is);
 }
   where

@@ -109,6 +109,7 @@ give_old a l m e es even at_e room i ws g sized r is inside fits = record {
   };
   others = λ d ne. rw (ne_eqb d l.cpu ne) refl;
   longer = prefix_refl g.log;
+  tally = refl;
   says = rw (eq-eqb l.cpu l.cpu refl) (λ j. record (is j) { limbo = set (is j).limbo m (record (limbo_at (is j).limbo m) { old = es }) });
 }
   where
@@ -258,6 +259,7 @@ retire a l m e us at_e room unlocked used ws g sized r is inside fits = record {
   };
   others = λ d ne. rw (ne_eqb d l.cpu ne) refl;
   longer = prefix_refl g.log;
+  tally = refl;
   says = rw (eq-eqb l.cpu l.cpu refl) (λ j. record (is j) { limbo = set (is j).limbo m (record (limbo_at (is j).limbo m) { used = us; young = e ∷ (limbo_at (is j).limbo m).young }) });
 }
   where

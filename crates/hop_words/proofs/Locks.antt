@@ -15,6 +15,7 @@ use Rattle.hop_words.specs.Layout.{mem, same_place, put_at, size}
 use Rattle.hop_words.specs.Content.{place_words, Reached, IsShare}
 use Rattle.hop_words.specs.Ghost.{segment_in, Holder, Free, Filling, Leaving, Within, lane, Era, Ghost, shape_at, HasElement, IsSegment, Each}
 use Rattle.hop_words.specs.Rule.{Rule, Segment, Minded, Holds, image, changed, owed, StartsWith, done_in, times_lock}
+use Rattle.hop_words.specs.Sights.{sighted, lock_taken}
 use Rattle.hop_words.specs.Step.{Next, Steps}
 use Rattle.hop_words.specs.Kinds.{has, LocksSegment, IsWritten}
 use Rattle.hop_words.proofs.Layouts.{same_is, same_self, one}
@@ -263,7 +264,7 @@ module _ (a : About) (l : Known) (m s old : ℕ) (at_s : IsSegment a m s) (even 
 
   abbrev pub locked_ghost : Ghost
   locked_ghost = record g {
-    lanes = record g.lanes { locks = put g.lanes.locks l.cpu (new_lock ∷ []); tally = put g.lanes.tally l.cpu (record l.tally { locks = l.tally.locks + 1 }) };
+    lanes = record g.lanes { locks = put g.lanes.locks l.cpu (new_lock ∷ []) };
     eras = put g.eras m (put (g.eras m) s lock_era);
   }
 
@@ -366,11 +367,11 @@ module _ (a : About) (l : Known) (m s old : ℕ) (at_s : IsSegment a m s) (even 
       let z : Filling l.cpu ≡ Within s = sym fill ∙ w in
       cc
 
-  lock_told : LocksSegment a l m s old (lane locked_ghost.lanes l.cpu)
+  lock_told : LocksSegment a l m s old (sighted (lane locked_ghost.lanes l.cpu) (lock_taken m s old))
   lock_told = record {
     words = ws;
     sized = sized;
-    after = rw (eq-eqb l.cpu l.cpu refl) (ap (λ (x : Known). record x { locks = new_lock ∷ []; tally = record l.tally { locks = l.tally.locks + 1 } }) is);
+    after = rw (eq-eqb l.cpu l.cpu refl) (ap (λ (x : Known). record x { locks = new_lock ∷ []; tally = lock_taken m s old ∷ x.tally }) is);
     content = g.linked m;
     share = lock_share;
     filled = key_words l.fresh (subst (Each (λ (f : Fresh). StartsWith f.key (λ j. lw (KeyWord f.map f.element j)) × StartsWith f.value (λ j. lw (ValueWord f.map f.element j)))) (ap (λ (x : Known). x.fresh) is) (r.filled l.cpu inside));
@@ -388,15 +389,16 @@ module _ (a : About) (l : Known) (m s old : ℕ) (at_s : IsSegment a m s) (even 
   }
 
 pub lock : (a : About) (l : Known) (m s old : ℕ) → IsSegment a m s → old % 2 ≡ 0 → l.locks ≡ []
-    → Steps a l (Stamp m s) (λ n. either (n == old) (old + 1) n) (λ ws n l'. (n ≡ old → LocksSegment a l m s old l') × (n ≢ old → l' ≡ l))
+    → Steps a l (Stamp m s) (λ n. either (n == old) (old + 1) n) (λ ws n l'. (n ≡ old → LocksSegment a l m s old (sighted l' (lock_taken m s old))) × (n ≢ old → l' ≡ l))
 lock a l m s old at_s even idle ws g sized r is inside fits =
     let w = mem a.shape ws in
-    exchanged (w (Stamp m s)) old (old + 1) (λ n. Next a (put_at w (Stamp m s) n) g l.cpu (λ l'. (w (Stamp m s) ≡ old → LocksSegment a l m s old l') × (w (Stamp m s) ≢ old → l' ≡ l)))
+    exchanged (w (Stamp m s)) old (old + 1) (λ n. Next a (put_at w (Stamp m s) n) g l.cpu (λ l'. (w (Stamp m s) ≡ old → LocksSegment a l m s old (sighted l' (lock_taken m s old))) × (w (Stamp m s) ≢ old → l' ≡ l)))
     (λ found. record {
       ghost = locked_ghost a l m s old at_s even idle ws g sized r is inside found;
       rule = lock_rule a l m s old at_s even idle ws g sized r is inside found;
       others = λ d ne. rw (ne_eqb d l.cpu ne) refl;
       longer = prefix_refl g.log;
+      tally = refl;
       says = ((λ _. lock_told a l m s old at_s even idle ws g sized r is inside found), (λ ne. absurd (ne found)));
     })
     (λ ne. stay a w g l.cpu (Stamp m s) _ r ((λ found. absurd (ne found)), (λ _. is)))

@@ -19,7 +19,7 @@ use Rattle.hop_words.specs.Layout.{mem, size}
 use Rattle.hop_words.specs.Content.{item, place_words, times, Reached, LinksThrough, IsShare}
 use Rattle.hop_words.specs.Ghost.{segment_in, Free, Lanes, lane, Era, Ghost, shape_at, IsSegment, limbo_at, no_limbo}
 use Rattle.hop_words.specs.Rule.{Rule, Kept, times_limbo, Chained}
-use Rattle.hop_words.specs.Opens.{AreNewWords, no_limbos, no_tally, new_lane, lanes_from, opens}
+use Rattle.hop_words.specs.Opens.{AreNewWords, no_limbos, new_lane, lanes_from, opens}
 use Rattle.hop_words.proofs.CountDown.{nothing_in}
 
 limbo_none : (n m : ℕ) → limbo_at (no_limbos n) m ≡ no_limbo
@@ -29,7 +29,7 @@ limbo_none (suc n) (suc m) = limbo_none n m
 
 module _ (a : About) (w : Place → ℕ) (i : AreNewWords a w) where
   new_lanes : Lanes
-  new_lanes = record { seen = λ c. []; fresh = λ c. []; limbo = λ c. no_limbos (length a.shape.maps); locks = λ c. []; readings = λ c. []; tally = λ c. no_tally }
+  new_lanes = record { seen = λ c. []; fresh = λ c. []; limbo = λ c. no_limbos (length a.shape.maps); locks = λ c. []; readings = λ c. []; tally = λ c. [] }
 
   new_era : ℕ → ℕ → Era
   new_era m s = record { era = w (Stamp m s); writer = 0; dirty = false; credit = 0; old = place_words w }
@@ -38,7 +38,7 @@ module _ (a : About) (w : Place → ℕ) (i : AreNewWords a w) where
   new_ghost = record {
     log = [];
     last = as_made a.shape;
-    lanes = record { seen = λ c. []; fresh = λ c. []; limbo = λ c. no_limbos (length a.shape.maps); locks = λ c. []; readings = λ c. []; tally = λ c. no_tally };
+    lanes = record { seen = λ c. []; fresh = λ c. []; limbo = λ c. no_limbos (length a.shape.maps); locks = λ c. []; readings = λ c. []; tally = λ c. [] };
     holder = λ m e. Free;
     number = λ m e. 0;
     linked = λ m key. None;

@@ -1,9 +1,9 @@
 -- Claim bit, give bit, fill word, retire, see bits.
 use Rattle.std.proofs.Common.{◌≡◌, ◌≢◌, ℕ, ◌-◌, ◌/◌, ◌%◌, ◌^◌, ◌<◌, Bool, true, false, ◌&&◌, List, [], ◌∷◌, Option, ◌==◌, refl, ap, sym, subst, ◌∙◌, arith, eq-eqb, ne_eqb, ⊎_elim, inl, inr, ◌⊎◌, bit_and}
-use Rattle.std.proofs.lemmas.Nat.Bits.{bit_at_and, bit_at-lt, bit_at-pow_same, bit_at-pow_other, bit_at_not}
+use Rattle.std.proofs.lemmas.Nat.Bits.{bit_at_and, bit_at-lt, bit_at-pow_same, bit_at-pow_other, bit_at_not, bit_at_above, same_from_bits}
 use Rattle.std.proofs.Math.Pow.{pow-lt}
 use Rattle.std.specs.Int.{bit_at, w64}
-use native.Mathlib.Decide.{ℕ_discrete}
+use native.Mathlib.Decide.{ℕ_discrete, dec_lt}
 use mathlib.Core.Logic.{dite}
 use Rattle.bpf_shared.specs.Store.{Value, put}
 use Rattle.bpf_shared.proofs.Puts.{put-same, put-other}
@@ -122,6 +122,18 @@ mask_own x mask j none = bit_at_and x mask j ∙ (let o = none in omega arith)
 pub mask_bits : (b j : ℕ) → b < 64 → j < 64 → bit_at (2 ^ 64 - 1 - 2 ^ b) j ≡ 1 - bit_at (2 ^ b) j
 mask_bits b j lb lj = bit_at_not w64 (2 ^ b) j (pow-lt lb) lj
 
+-- a bit that is clear is cleared: the word is as it was
+pub mask_kept : (n b : ℕ) → n < 18446744073709551616 → b < 64 → bit_at n b ≡ 0 → bit_and n (2 ^ 64 - 1 - 2 ^ b) ≡ n
+mask_kept n b fits lb none = same_from_bits (bit_and n (2 ^ 64 - 1 - 2 ^ b)) n bit
+  where
+    bit : (i : ℕ) → bit_at (bit_and n (2 ^ 64 - 1 - 2 ^ b)) i ≡ bit_at n i
+    bit i = ⊎_elim
+        (λ (t : i ≡ b). mask_own n (2 ^ 64 - 1 - 2 ^ b) i (subst (λ (j : ℕ). bit_at (2 ^ 64 - 1 - 2 ^ b) j ≡ 0) (sym t) (mask_bits b b lb lb ∙ (let z = bit_at-pow_same b in omega arith))) ∙ sym (subst (λ (j : ℕ). bit_at n j ≡ 0) (sym t) none))
+        (λ (ne : i ≢ b). dite (dec_lt i 64)
+        (λ (few : i < 64). mask_other n (2 ^ 64 - 1 - 2 ^ b) i (mask_bits b i lb few ∙ (let z = bit_at-pow_other b i ne in omega arith)))
+        (λ many. let z : bit_at n i ≡ 0 = bit_at_above n 64 i fits (omega arith) in bit_at_and n (2 ^ 64 - 1 - 2 ^ b) i ∙ (omega arith)))
+        (equal i b)
+
 module _ (a : About) (l : Known) (m e : ℕ) (at_e : HasElement a m e) (ws : List ℕ) (g : Ghost) (r : Rule a (mem a.shape ws) g) (is : lane g.lanes l.cpu ≡ l) (inside : l.cpu < a.shape.cpus) where
   abbrev cw : Place → ℕ
   cw = mem a.shape ws
@@ -168,6 +180,7 @@ module _ (a : About) (l : Known) (m e : ℕ) (at_e : HasElement a m e) (ws : Lis
     };
     others = λ d ne. rw (ne_eqb d l.cpu ne) refl;
     longer = prefix_refl g.log;
+    tally = refl;
     says = rw (eq-eqb l.cpu l.cpu refl) (ap (λ (z : Known). record z { fresh = new_fresh ∷ z.fresh }) is);
   }
     where
@@ -247,6 +260,7 @@ module _ (a : About) (l : Known) (m e : ℕ) (at_e : HasElement a m e) (ws : Lis
     };
     others = λ d ne. refl;
     longer = prefix_refl g.log;
+    tally = refl;
     says = subst told (sym is) t;
   }
     where

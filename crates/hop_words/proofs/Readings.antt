@@ -16,22 +16,21 @@ use Rattle.hop_words.specs.declared.place.Place.TheVariants.{RunCount, KeyCount,
 use Rattle.hop_words.specs.declared.known.About.{About}
 use Rattle.hop_words.specs.declared.known.Known.{Known}
 use Rattle.hop_words.specs.declared.known.Reading.{Reading}
-use Rattle.hop_words.specs.declared.known.Tally.{Tally}
 use Rattle.hop_words.specs.Layout.{mem, put_at, size}
 use Rattle.hop_words.specs.Content.{MapWords, place_words, Agrees, Reached}
 use Rattle.hop_words.specs.Ghost.{segment_in, Leaving, Within, Carries, lane, Ghost, shape_at, IsSegment, Each}
 use Rattle.hop_words.specs.Rule.{Rule, Segment, IsSoundReading, Readings, IsPeek, numbered, Runs, Batched, Valued}
 use Rattle.hop_words.specs.Step.{Next, Steps}
-use Rattle.hop_words.specs.Kinds.{StampSeen, StampSeenAgain, disturbed_by, peeking, FindsByPeeks, Found, found_span}
+use Rattle.hop_words.specs.Kinds.{Saw, noting, peeking, FindsByPeeks, found_span}
 use Rattle.hop_words.proofs.Small.{equal}
 use Rattle.hop_words.proofs.Histories.{logged_event, prefix_refl}
 use Rattle.hop_words.proofs.Comes.{in_limbo}
-use Rattle.hop_words.proofs.Stays.{put_again, saw, running_is, map_there, quiet_after, number_once, worn_more}
+use Rattle.hop_words.proofs.Stays.{put_again, stay, saw, running_is, map_there, quiet_after, number_once, worn_more}
 
--- readings alone change, or what is counted
+-- readings alone change
 module _ (a : About) (w : Place → ℕ) (g : Ghost) (r : Rule a w g) (c : ℕ) where
-  abbrev with_readings : List Reading → Tally → Ghost
-  with_readings rs t = record g { lanes = record g.lanes { readings = put g.lanes.readings c rs; tally = put g.lanes.tally c t } }
+  abbrev with_readings : List Reading → Ghost
+  with_readings rs = record g { lanes = record g.lanes { readings = put g.lanes.readings c rs } }
 
   put_readings : (rs : List Reading) → Each (IsSoundReading a g.eras) rs → Readings a g.eras (put g.lanes.readings c rs)
   put_readings rs own d = ⊎_elim
@@ -39,8 +38,8 @@ module _ (a : About) (w : Place → ℕ) (g : Ghost) (r : Rule a w g) (c : ℕ) 
       (λ (ne : d ≢ c). subst (Each (IsSoundReading a g.eras)) (sym (put-other g.lanes.readings c d rs ne)) (r.reading d))
       (equal d c)
 
-  read_rule : (rs : List Reading) (t : Tally) → Each (IsSoundReading a g.eras) rs → Rule a w (with_readings rs t)
-  read_rule rs t own = record {
+  read_rule : (rs : List Reading) → Each (IsSoundReading a g.eras) rs → Rule a w (with_readings rs)
+  read_rule rs own = record {
     shaped = r.shaped;
     logged = r.logged;
     keyed = r.keyed;
@@ -57,32 +56,32 @@ module _ (a : About) (w : Place → ℕ) (g : Ghost) (r : Rule a w g) (c : ℕ) 
     valued = r.valued;
   }
 
-  read_next : (p : Place) (told : Known → Type 0) (rs : List Reading) (t : Tally) → Each (IsSoundReading a g.eras) rs → told (record (lane g.lanes c) { readings = rs; tally = t }) → Next a (put_at w p (w p)) g c told
-  read_next p told rs t own says = record {
-    ghost = with_readings rs t;
-    rule = subst (λ (v : Place → ℕ). Rule a v (with_readings rs t)) (sym (put_again w p)) (read_rule rs t own);
+  read_next : (p : Place) (told : Known → Type 0) (rs : List Reading) → Each (IsSoundReading a g.eras) rs → told (record (lane g.lanes c) { readings = rs }) → Next a (put_at w p (w p)) g c told
+  read_next p told rs own says = record {
+    ghost = with_readings rs;
+    rule = subst (λ (v : Place → ℕ). Rule a v (with_readings rs)) (sym (put_again w p)) (read_rule rs own);
     others = λ d ne. rw (ne_eqb d c ne) refl;
     longer = prefix_refl g.log;
+    tally = refl;
     says = subst told (sym after) says;
   }
     where
-      after : lane (with_readings rs t).lanes c ≡ record (lane g.lanes c) { readings = rs; tally = t }
+      after : lane (with_readings rs).lanes c ≡ record (lane g.lanes c) { readings = rs }
       after = rw (eq-eqb c c refl) refl
 
 pub even_or_odd : (n : ℕ) → (n % 2 ≡ 0) ⊎ (n % 2 ≡ 1)
 even_or_odd n = dite (ℕ_discrete (n % 2) 0) (λ e. inl e) (λ ne. inr (grind arith))
 
-pub see_stamp : (a : About) (l : Known) (m s : ℕ) → IsSegment a m s → Steps a l (Stamp m s) (λ n. n) (λ ws n l'. StampSeen l m s n l')
+pub see_stamp : (a : About) (l : Known) (m s : ℕ) → IsSegment a m s → Steps a l (Stamp m s) (λ n. n) (λ ws n l'. (n % 2 ≡ 0 → l' ≡ noting l m s n) × (n % 2 ≡ 1 → l' ≡ l))
 see_stamp a l m s at_s ws g sized r is inside fits =
     let w = mem a.shape ws in
     let n = w (Stamp m s) in
     let seg : Segment a (segment_in a) (place_words w) n (g.eras m s) m s (g.linked m) = r.segments m s at_s in
     ⊎_elim
-    (λ (even : n % 2 ≡ 0). read_next a w g r l.cpu (Stamp m s) _ (record { map = m; segment = s; stamp = n; peeks = [] } ∷ []) l.tally
+    (λ (even : n % 2 ≡ 0). read_next a w g r l.cpu (Stamp m s) _ (record { map = m; segment = s; stamp = n; peeks = [] } ∷ [])
     (record { inside = at_s; even = even; behind = (let z = (seg.clean (seg.at_rest even)).0 in omega arith); stays = λ _. tt }, tt)
-    ((λ _. ap (λ (x : Known). record x { readings = record { map = m; segment = s; stamp = n; peeks = [] } ∷ []; tally = l.tally }) is), (λ odd. absurd (omega arith))))
-    (λ (odd : n % 2 ≡ 1). read_next a w g r l.cpu (Stamp m s) _ (g.lanes.readings l.cpu) (disturbed_by l.tally m s n n) (r.reading l.cpu)
-    ((λ even. absurd (omega arith)), (λ _. ap (λ (x : Known). record x { tally = disturbed_by l.tally m s n n }) is)))
+    ((λ _. ap (λ (x : Known). record x { readings = record { map = m; segment = s; stamp = n; peeks = [] } ∷ [] }) is), (λ odd. absurd (omega arith))))
+    (λ (odd : n % 2 ≡ 1). stay a w g l.cpu (Stamp m s) _ r ((λ even. absurd (omega arith)), (λ _. is)))
     (even_or_odd n)
 
 -- the words at rest are those that stand there, while the era is the stamp noted
@@ -116,9 +115,9 @@ pub peek : (a : About) (l : Known) (rd : Reading) (p : Place) → l.readings ≡
 peek a l rd p reading ws g sized r is inside fits =
     let w = mem a.shape ws in
     let q : IsSoundReading a g.eras rd = (subst (Each (IsSoundReading a g.eras)) (ap (λ (x : Known). x.readings) is ∙ reading) (r.reading l.cpu)).0 in
-    read_next a w g r l.cpu p _ (record rd { peeks = record { place = p; number = w p } ∷ rd.peeks } ∷ []) l.tally
+    read_next a w g r l.cpu p _ (record rd { peeks = record { place = p; number = w p } ∷ rd.peeks } ∷ [])
     (record { inside = q.inside; even = q.even; behind = q.behind; stays = λ same. (is_peek rd.map rd.segment w (g.eras rd.map rd.segment).old (at_era a w g r rd q same).1 p, q.stays same) }, tt)
-    (ap (λ (x : Known). record x { readings = record rd { peeks = record { place = p; number = w p } ∷ rd.peeks } ∷ []; tally = l.tally }) is)
+    (ap (λ (x : Known). record x { readings = record rd { peeks = record { place = p; number = w p } ∷ rd.peeks } ∷ [] }) is)
 
 -- ---- see stamp again: the lookup takes effect
 some_span : (s : Plain) (n : ℕ → ℕ) (a : About) (m : ℕ) (o : Option ℕ) → ((e : ℕ) → o ≡ Some e → (s.value (n e)).span ≡ element_span m (shape_at a m) e) → found_span a m o ≡ span_of s (numbered n o)
@@ -198,18 +197,23 @@ module _ (a : About) (w : Place → ℕ) (g : Ghost) (r : Rule a w g) (c m : ℕ
         ),
       )
 
+-- the lookup's event, where the stamp is the same
+pub record AgainFound (a : About) (l : Known) (rd : Reading) (key : List ℕ) (o : Option ℕ) (l' : Known) : Type 0 where
+  pub seen : Saw a l (Lookup rd.map key (found_span a rd.map o)) l'.seen
+  pub after : l' ≡ record l { seen = l'.seen; readings = [] }
+
+abbrev pub AgainSeen : About → Known → Reading → List ℕ → Option ℕ → ℕ → Known → Type 0
+AgainSeen a l rd key o n l' = (n ≡ rd.stamp → AgainFound a l rd key o l') × (n ≢ rd.stamp → l' ≡ record l { readings = [] })
+
 pub see_again : (a : About) (l : Known) (rd : Reading) (key : List ℕ) (o : Option ℕ) → FindsByPeeks a l rd key o
-    → Steps a l (Stamp rd.map rd.segment) (λ n. n) (λ ws n l'. StampSeenAgain a l rd key o n l')
+    → Steps a l (Stamp rd.map rd.segment) (λ n. n) (λ ws n l'. AgainSeen a l rd key o n l')
 see_again a l rd key o f ws g sized r is inside fits = dite (ℕ_discrete (w (Stamp rd.map rd.segment)) rd.stamp) hit miss
   where
     w : Place → ℕ
     w = mem a.shape ws
 
     told : Known → Type 0
-    told l' = StampSeenAgain a l rd key o (w (Stamp rd.map rd.segment)) l'
-
-    more : Tally
-    more = disturbed_by l.tally rd.map rd.segment rd.stamp (w (Stamp rd.map rd.segment))
+    told l' = AgainSeen a l rd key o (w (Stamp rd.map rd.segment)) l'
 
     q : IsSoundReading a g.eras rd
     q = (subst (Each (IsSoundReading a g.eras)) (ap (λ (x : Known). x.readings) is ∙ f.reading) (r.reading l.cpu)).0
@@ -218,14 +222,15 @@ see_again a l rd key o f ws g sized r is inside fits = dite (ℕ_discrete (w (St
     seg = r.segments rd.map rd.segment q.inside
 
     miss : w (Stamp rd.map rd.segment) ≢ rd.stamp → Next a (put_at w (Stamp rd.map rd.segment) (w (Stamp rd.map rd.segment))) g l.cpu told
-    miss ne = read_next a w g r l.cpu (Stamp rd.map rd.segment) told [] more tt ((λ e. absurd (ne e)), (λ _. ap (λ (x : Known). record x { readings = []; tally = more }) is))
+    miss ne = read_next a w g r l.cpu (Stamp rd.map rd.segment) told [] tt ((λ e. absurd (ne e)), (λ _. ap (λ (x : Known). record x { readings = [] }) is))
 
     hit : w (Stamp rd.map rd.segment) ≡ rd.stamp → Next a (put_at w (Stamp rd.map rd.segment) (w (Stamp rd.map rd.segment))) g l.cpu told
     hit same = record {
       ghost = g2;
-      rule = subst (λ (v : Place → ℕ). Rule a v g2) (sym (put_again w (Stamp rd.map rd.segment))) (read_rule a w g1 rule1 l.cpu [] l.tally tt);
+      rule = subst (λ (v : Place → ℕ). Rule a v g2) (sym (put_again w (Stamp rd.map rd.segment))) (read_rule a w g1 rule1 l.cpu [] tt);
       others = λ d ne. rw (ne_eqb d l.cpu ne) refl;
       longer = (entry l.cpu event ∷ [], refl);
+      tally = refl;
       says = ((λ _. found), (λ ne. absurd (ne same)));
     }
       where
@@ -251,22 +256,10 @@ see_again a l rd key o f ws g sized r is inside fits = dite (ℕ_discrete (w (St
         rule1 = looked_rule a w g r l.cpu rd.map o key inside linked_is (found_span a rd.map o) may
 
         g2 : Ghost
-        g2 = with_readings a w g1 rule1 l.cpu [] l.tally
+        g2 = with_readings a w g1 rule1 l.cpu []
 
-        found : Found a l rd key o (lane g2.lanes l.cpu)
-        found = subst (Found a l rd key o) (sym after) (record { seen = saw a w g r l is inside event (looking a w g r l.cpu rd.map o) may rule1.logged; after = refl })
+        found : AgainFound a l rd key o (lane g2.lanes l.cpu)
+        found = subst (AgainFound a l rd key o) (sym after) (record { seen = saw a w g r l is inside event (looking a w g r l.cpu rd.map o) may rule1.logged; after = refl })
           where
             after : lane g2.lanes l.cpu ≡ record l { seen = g.log ++ entry l.cpu event ∷ []; readings = [] }
-            after = rw (eq-eqb l.cpu l.cpu refl) (ap (λ (x : Known). record x { seen = g.log ++ entry l.cpu event ∷ []; readings = []; tally = l.tally }) is)
-
-pub see_again_at : (a : About) (l : Known) (rd : Reading) (m s : ℕ) (key : List ℕ) (o : Option ℕ) → rd.map ≡ m → rd.segment ≡ s → FindsByPeeks a l rd key o
-    → Steps a l (Stamp m s) (λ n. n) (λ ws n l'. StampSeenAgain a l rd key o n l')
-see_again_at a l rd m s key o h u f =
-    subst (λ (n : ℕ). Steps a l (Stamp n s) (λ n. n) (λ ws n l'. StampSeenAgain a l rd key o n l')) h
-    (subst (λ (t : ℕ). Steps a l (Stamp rd.map t) (λ n. n) (λ ws n l'. StampSeenAgain a l rd key o n l')) u (see_again a l rd key o f))
-
--- ---- see bits: evidence alone, of which the rule says nothing
-pub see_bits : (a : About) (l : Known) (m i : ℕ) (counted : ℕ → Tally) → Steps a l (FreeBits m i) (λ n. n) (λ ws n l'. l' ≡ record l { tally = counted n })
-see_bits a l m i counted ws g sized r is inside fits =
-    let w = mem a.shape ws in
-    read_next a w g r l.cpu (FreeBits m i) _ (g.lanes.readings l.cpu) (counted (w (FreeBits m i))) (r.reading l.cpu) (ap (λ (x : Known). record x { tally = counted (w (FreeBits m i)) }) is)
+            after = rw (eq-eqb l.cpu l.cpu refl) (ap (λ (x : Known). record x { seen = g.log ++ entry l.cpu event ∷ []; readings = [] }) is)

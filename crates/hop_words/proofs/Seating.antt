@@ -10,10 +10,11 @@ use Rattle.hop_words.specs.declared.place.Place.{Place}
 use Rattle.hop_words.specs.declared.known.About.{About}
 use Rattle.hop_words.specs.declared.known.View.{View}
 use Rattle.hop_words.specs.declared.known.Known.{Known}
+use Rattle.hop_words.specs.declared.known.Sight.{Sight}
 use Rattle.hop_words.specs.Layout.{mem, at, is_place, put_at}
 use Rattle.hop_words.specs.Ghost.{lane}
 use Rattle.hop_words.specs.Rule.{Seats, solo, Kept, Rule}
-use Rattle.hop_words.specs.Step.{Steps, TellsLane}
+use Rattle.hop_words.specs.Step.{Leaves, TellsLane}
 use Rattle.hop_words.proofs.Layouts.{wrote}
 
 single : (x : Known) (j k : ℕ) (l m : Known) → get_elem? (x ∷ []) j ≡ some l → get_elem? (x ∷ []) k ≡ some m → j ≡ k
@@ -62,10 +63,10 @@ seats_step cpus log log' lanes lanes' views i l p here same others longer = reco
         (b.0, b.1, others m.cpu (λ (e : m.cpu ≡ l.cpu). ne (sym b.0 ∙ (ap p.seat e ∙ old.0))) ∙ b.2)
 
 -- a kind of step, as the table asks for it
-pub allows : (a : About) (slots id : ℕ) (l : Known) (p : Place) (f : ℕ → ℕ) (told : List ℕ → ℕ → Known → Type 0) (tells : ℕ → Known → Type 0) → is_place a.shape p ≡ true
+pub allows : (a : About) (slots id : ℕ) (l : Known) (p : Place) (f : ℕ → ℕ) (sights : ℕ → List Sight) (told : List ℕ → ℕ → Known → Type 0) (tells : ℕ → Known → Type 0) → is_place a.shape p ≡ true
     → ((ws : List ℕ) (n : ℕ) (x : Known) → told ws n x → tells n x)
-    → Steps a l p f told → Allows (Kept a) slots id (solo l, []) (at a.shape p) f (TellsLane l.cpu tells)
-allows a slots id l p f told tells here less step s k size_is spot fits =
+    → Leaves a l p f sights told → Allows (Kept a) slots id (solo l, []) (at a.shape p) f (TellsLane l.cpu tells)
+allows a slots id l p f sights told tells here less step s k size_is spot fits =
     let h = a.shape in
     let known = k.seats.known id 0 (solo l) l spot refl in
     let same : mem h s.words p ≡ slice_index s.words (at h p) = rw here refl in

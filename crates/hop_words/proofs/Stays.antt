@@ -10,11 +10,12 @@ use Rattle.bpf_shared.specs.History.{events_of, entry}
 use Rattle.hop_words.specs.declared.place.Place.{Place}
 use Rattle.hop_words.specs.declared.known.About.{About}
 use Rattle.hop_words.specs.declared.known.Known.{Known}
+use Rattle.hop_words.specs.declared.known.Sight.{Sight}
 use Rattle.hop_words.specs.Layout.{put_at, same_place}
 use Rattle.hop_words.specs.Ghost.{Filling, Carries, lane, Era, Ghost, shape_at, HasElement}
 use Rattle.hop_words.specs.Rule.{Rule, Logged, Runs, Worn, numbered}
 use Rattle.bpf_shared.specs.Own.{turns_of, in_run}
-use Rattle.hop_words.specs.Step.{Next}
+use Rattle.hop_words.specs.Step.{Noted, Next}
 use Rattle.hop_words.specs.Kinds.{Saw}
 use Rattle.hop_words.proofs.Layouts.{same_is}
 use Rattle.hop_words.proofs.Small.{map_is, spans_apart, equal, here_or}
@@ -42,12 +43,13 @@ stay a w g c p told r t = record {
   rule = subst (λ (v : Place → ℕ). Rule a v g) (sym (put_again w p)) r;
   others = λ d ne. refl;
   longer = prefix_refl g.log;
+  tally = refl;
   says = t;
 }
 
 -- what a step tells may say less
-pub next_as : (a : About) (w : Place → ℕ) (g : Ghost) (c : ℕ) (told said : Known → Type 0) → ((x : Known) → told x → said x) → Next a w g c told → Next a w g c said
-next_as a w g c told said less n = record { ghost = n.ghost; rule = n.rule; others = n.others; longer = n.longer; says = less (lane n.ghost.lanes c) n.says }
+pub next_as : (a : About) (w : Place → ℕ) (g : Ghost) (c : ℕ) (told said : Known → Type 0) {sights : List Sight} → ((x : Known) → told x → said x) → Noted a w g c sights told → Noted a w g c sights said
+next_as a w g c told said less n = record { ghost = n.ghost; rule = n.rule; others = n.others; longer = n.longer; tally = n.tally; says = less (lane n.ghost.lanes c) n.says }
 
 module _ (a : About) (w : Place → ℕ) (g : Ghost) (r : Rule a w g) (l : Known) (is : lane g.lanes l.cpu ≡ l) (inside : l.cpu < a.shape.cpus) where
   seen_is : g.lanes.seen l.cpu ≡ l.seen

@@ -1,81 +1,144 @@
--- A step of any kind that has seen something besides.
-use Rattle.std.proofs.Common.{◌≡◌, ◌≢◌, ℕ, ◌<◌, ◌/◌, ◌%◌, ◌^◌, ◌-◌, List, [], ◌∷◌, length, slice_index, bit_and, refl, ap, ◌∙◌, eq-eqb, ne_eqb}
+-- A step of any kind, as the lane notes it.
+use Rattle.std.proofs.Common.{◌≡◌, ◌≢◌, ℕ, ◌+◌, ◌<◌, ◌/◌, ◌%◌, ◌^◌, ◌-◌, ◌==◌, if◌then◌else◌, List, [], ◌∷◌, Option, length, slice_index, bit_and, bit_or, refl, ap, sym, subst, ◌∙◌, eq-eqb, ne_eqb, ⊎_elim, arith}
 use Rattle.std.specs.Int.{bit_at}
+use prog.Atomic.{either}
 use Rattle.bpf_shared.specs.Store.{put}
 use Rattle.hop_words.specs.declared.place.Place.{Place}
-use Rattle.hop_words.specs.declared.place.Place.TheVariants.{RunCount, FreeBits}
+use Rattle.hop_words.specs.declared.place.Place.TheVariants.{RunCount, FreeBits, Stamp}
 use Rattle.hop_words.specs.declared.known.About.{About}
 use Rattle.hop_words.specs.declared.known.Known.{Known}
+use Rattle.hop_words.specs.declared.known.Reading.{Reading}
 use Rattle.hop_words.specs.declared.known.Sight.{Sight}
-use Rattle.hop_words.specs.declared.known.Sight.TheVariants.{Bits, Runs}
-use Rattle.hop_words.specs.declared.known.Tally.{Tally}
 use Rattle.hop_words.specs.Layout.{mem, put_at}
-use Rattle.hop_words.specs.Ghost.{lane, Ghost, HasElement, limbo_at}
-use Rattle.hop_words.specs.Step.{Next, Steps}
-use Rattle.hop_words.specs.Kinds.{holding, cleared}
-use Rattle.hop_words.specs.Owning.{sighted, ClaimsBit, LooksAgain}
-use Rattle.hop_words.proofs.Stays.{next_as}
-use Rattle.hop_words.proofs.Owners.{claim_bit}
+use Rattle.hop_words.specs.Ghost.{lane, Ghost, HasElement, IsSegment, limbo_at}
+use Rattle.hop_words.specs.Sights.{sight, look, lock_taken, bit_cleared, bit_set, sighted}
+use Rattle.hop_words.specs.Step.{Noted, Next, Steps, Notes, NotesTaken}
+use Rattle.hop_words.specs.Kinds.{holding, cleared, noting, giving_old, Passed, StampSeen, StampSeenAgain, FindsByPeeks, LocksSegment}
+use Rattle.hop_words.specs.Owning.{ClaimsBit, GivesFresh, IsInHand, tail_of, LooksAgain}
+use Rattle.hop_words.proofs.Small.{equal}
+use Rattle.hop_words.proofs.Stays.{next_as, stay}
+use Rattle.hop_words.proofs.Owners.{claim_bit, mask_kept}
 use Rattle.hop_words.proofs.Turns.{see_counter_again}
+use Rattle.hop_words.proofs.Hands.{gives}
+use Rattle.hop_words.proofs.Gives.{give_old}
+use Rattle.hop_words.proofs.Readings.{AgainSeen, see_stamp, see_again}
+use Rattle.hop_words.proofs.Locks.{lock}
 
--- what a step tells may say less
-pub told_as : (a : About) (l : Known) (p : Place) (f : ℕ → ℕ) (told said : List ℕ → ℕ → Known → Type 0) → ((ws : List ℕ) (n : ℕ) (x : Known) → told ws n x → said ws n x) → Steps a l p f told → Steps a l p f said
-told_as a l p f told said less step ws g sized r is inside fits = next_as _ _ _ _ _ _ (λ x t. less ws _ x t) (step ws g sized r is inside fits)
+module _ (a : About) (w : Place → ℕ) (g : Ghost) (c : ℕ) (told said : Known → Type 0) (s : Sight) (less : (x : Known) → told x → said (sighted x s)) (n : Next a w g c told) where
+  abbrev noted_ghost : Ghost
+  noted_ghost = record n.ghost { lanes = record n.ghost.lanes { tally = put n.ghost.lanes.tally c (s ∷ n.ghost.lanes.tally c) } }
 
-seen_next : (a : About) (w : Place → ℕ) (g : Ghost) (c : ℕ) (told : Known → Type 0) (s : Sight) → Next a w g c told → Next a w g c (λ l'. (x : Known) × told x × (l' ≡ sighted x s))
-seen_next a w g c told s n = record {
-  ghost = record n.ghost { lanes = record n.ghost.lanes { tally = put n.ghost.lanes.tally c t } };
-  rule = record {
-    shaped = n.rule.shaped;
-    logged = n.rule.logged;
-    keyed = n.rule.keyed;
-    worn = n.rule.worn;
-    runs = n.rule.runs;
-    batched = n.rule.batched;
-    owned = n.rule.owned;
-    linked = n.rule.linked;
-    filled = n.rule.filled;
-    segments = n.rule.segments;
-    locking = n.rule.locking;
-    held = n.rule.held;
-    reading = n.rule.reading;
-    valued = n.rule.valued;
-  };
-  others = λ d ne. rw (ne_eqb d c ne) (n.others d ne);
-  longer = n.longer;
-  says = (lane n.ghost.lanes c, n.says, rw (eq-eqb c c refl) refl);
-}
-  where
-    t : Tally
-    t = record (n.ghost.lanes.tally c) { sights = s ∷ (n.ghost.lanes.tally c).sights }
+  noted_lane : lane noted_ghost.lanes c ≡ sighted (lane n.ghost.lanes c) s
+  noted_lane = rw (eq-eqb c c refl) refl
 
--- and the lane keeps what it saw
-pub with_sight : (a : About) (l : Known) (p : Place) (f : ℕ → ℕ) (told : List ℕ → ℕ → Known → Type 0) (s : ℕ → Sight) → Steps a l p f told
-    → Steps a l p f (λ ws n l'. (x : Known) × told ws n x × (l' ≡ sighted x (s n)))
-with_sight a l p f told s step ws g sized r is inside fits = seen_next a (put_at (mem a.shape ws) p (f (mem a.shape ws p))) g l.cpu (told ws (mem a.shape ws p)) (s (mem a.shape ws p)) (step ws g sized r is inside fits)
+  -- the sight goes in front, and the rule says nothing of it
+  noted_next : Noted a w g c (s ∷ []) said
+  noted_next = record {
+    ghost = noted_ghost;
+    rule = record {
+      shaped = n.rule.shaped;
+      logged = n.rule.logged;
+      keyed = n.rule.keyed;
+      worn = n.rule.worn;
+      runs = n.rule.runs;
+      batched = n.rule.batched;
+      owned = n.rule.owned;
+      linked = n.rule.linked;
+      filled = n.rule.filled;
+      segments = n.rule.segments;
+      locking = n.rule.locking;
+      held = n.rule.held;
+      reading = n.rule.reading;
+      valued = n.rule.valued;
+    };
+    others = λ d ne. rw (ne_eqb d c ne) (n.others d ne);
+    longer = n.longer;
+    tally = ap (λ (x : Known). x.tally) noted_lane ∙ ap (λ (z : List Sight). s ∷ z) n.tally;
+    says = subst said (sym noted_lane) (less (lane n.ghost.lanes c) n.says);
+  }
 
-pub claims : (a : About) (l : Known) (m e : ℕ) → HasElement a m e → l.locks ≡ [] → Steps a l (FreeBits m (e / 64)) (λ n. bit_and n (2 ^ 64 - 1 - 2 ^ (e % 64))) (λ ws n l'. ClaimsBit l m e n l')
-claims a l m e at_e unlocked = told_as a l (FreeBits m (e / 64)) (λ n. bit_and n (2 ^ 64 - 1 - 2 ^ (e % 64))) (λ ws n l'. Seen n l') (λ ws n l'. ClaimsBit l m e n l') less
-    (with_sight a l (FreeBits m (e / 64)) (λ n. bit_and n (2 ^ 64 - 1 - 2 ^ (e % 64))) (λ ws n y. Told n y) (λ n. Bits m (e / 64) n) (claim_bit a l m e at_e unlocked))
+-- a kind of step that is noted besides
+module _ (a : About) (l : Known) (p : Place) (f : ℕ → ℕ) (told said : List ℕ → ℕ → Known → Type 0) where
+  pub noted_as : ((ws : List ℕ) (n : ℕ) (x : Known) → n < 18446744073709551616 → told ws n x → said ws n (sighted x (sight p n (f n)))) → Steps a l p f told → Notes a l p f said
+  noted_as less step ws g sized r is inside fits =
+      let n = mem a.shape ws p in
+      noted_next a (put_at (mem a.shape ws) p (f n)) g l.cpu (told ws n) (said ws n) (sight p n (f n)) (λ x. less ws n x fits) (step ws g sized r is inside fits)
+
+-- a compare-exchange that is noted where it takes effect
+module _ (a : About) (l : Known) (p : Place) (old new : ℕ) (told said : List ℕ → ℕ → Known → Type 0) where
+  pub taken_as : ((ws : List ℕ) (n : ℕ) (x : Known) → n ≡ old → told ws n x → said ws n (sighted x (sight p n new))) → ((ws : List ℕ) (n : ℕ) (x : Known) → n ≢ old → told ws n x → said ws n x)
+      → Steps a l p (λ n. either (n == old) new n) told → NotesTaken a l p old new said
+  taken_as took missed step ws g sized r is inside fits =
+      let n = mem a.shape ws p in
+      let w = put_at (mem a.shape ws) p (either (n == old) new n) in
+      let next = step ws g sized r is inside fits in
+      ⊎_elim
+      (λ (same : n ≡ old). subst (λ (z : List Sight). Noted a w g l.cpu z (said ws n)) (sym (ap (λ b. if b then sight p n new ∷ [] else []) (eq-eqb n old same)))
+      (noted_next a w g l.cpu (told ws n) (said ws n) (sight p n new) (λ x. took ws n x same) next))
+      (λ (ne : n ≢ old). subst (λ (z : List Sight). Noted a w g l.cpu z (said ws n)) (sym (ap (λ b. if b then sight p n new ∷ [] else []) (ne_eqb n old ne)))
+      (next_as a w g l.cpu (told ws n) (said ws n) (λ x. missed ws n x ne) next))
+      (equal n old)
+
+-- ---- the kinds that are noted
+pub sees_bits : (a : About) (l : Known) (m i : ℕ) → Notes a l (FreeBits m i) (λ n. n) (λ ws n l'. l' ≡ sighted l (look (FreeBits m i) n))
+sees_bits a l m i = noted_as a l (FreeBits m i) (λ n. n) (λ ws n x. x ≡ l) (λ ws n l'. l' ≡ sighted l (look (FreeBits m i) n)) (λ ws n x fits t. ap (λ (y : Known). sighted y (look (FreeBits m i) n)) t)
+    (λ ws g sized r is inside fits. stay a (mem a.shape ws) g l.cpu (FreeBits m i) (λ x. x ≡ l) r is)
+
+pub claims : (a : About) (l : Known) (m e : ℕ) → HasElement a m e → l.locks ≡ [] → Notes a l (FreeBits m (e / 64)) (λ n. bit_and n (2 ^ 64 - 1 - 2 ^ (e % 64))) (λ ws n l'. ClaimsBit l m e n l')
+claims a l m e at_e unlocked = noted_as a l (FreeBits m (e / 64)) (λ n. bit_and n (2 ^ 64 - 1 - 2 ^ (e % 64))) (λ ws n x. Told n x) (λ ws n l'. ClaimsBit l m e n l')
+    (λ ws n x fits t. (
+      (λ one. ap (λ (y : Known). sighted y (bit_cleared m e n)) (t.0 one)),
+      (λ none. (λ i. sighted (t.1 none i) (sight (FreeBits m (e / 64)) n (mask_kept n (e % 64) fits (omega arith) none i)))),
+    ))
+    (claim_bit a l m e at_e unlocked)
   where
     Told : ℕ → Known → Type 0
     Told n y = (bit_at n (e % 64) ≡ 1 → y ≡ holding l m e) × (bit_at n (e % 64) ≡ 0 → y ≡ l)
 
-    Seen : ℕ → Known → Type 0
-    Seen n l' = (y : Known) × Told n y × (l' ≡ sighted y (Bits m (e / 64) n))
+pub gives_fresh : (a : About) (l : Known) (m e : ℕ) → HasElement a m e → IsInHand l m e → Notes a l (FreeBits m (e / 64)) (λ n. bit_or n (2 ^ (e % 64))) (λ ws n l'. GivesFresh l m e n l')
+gives_fresh a l m e at_e hand = noted_as a l (FreeBits m (e / 64)) (λ n. bit_or n (2 ^ (e % 64))) (λ ws n x. x ≡ record l { fresh = tail_of l.fresh }) (λ ws n l'. GivesFresh l m e n l')
+    (λ ws n x fits t. ap (λ (y : Known). sighted y (bit_set m e n)) t)
+    (gives a l m e at_e hand)
 
-    less : (ws : List ℕ) (n : ℕ) (l' : Known) → Seen n l' → ClaimsBit l m e n l'
-    less ws n l' t = ((λ one. t.2 ∙ ap (λ (y : Known). sighted y (Bits m (e / 64) n)) (t.1.0 one)), (λ none. t.2 ∙ ap (λ (y : Known). sighted y (Bits m (e / 64) n)) (t.1.1 none)))
+pub gives_old : (a : About) (l : Known) (m e : ℕ) (es : List ℕ) → a.count % 2 ≡ 0 → HasElement a m e → m < length l.limbo → Passed a l m e es → Notes a l (FreeBits m (e / 64)) (λ n. bit_or n (2 ^ (e % 64))) (λ ws n l'. l' ≡ sighted (giving_old l m es) (bit_set m e n))
+gives_old a l m e es even at_e room passed = noted_as a l (FreeBits m (e / 64)) (λ n. bit_or n (2 ^ (e % 64))) (λ ws n x. x ≡ giving_old l m es) (λ ws n l'. l' ≡ sighted (giving_old l m es) (bit_set m e n))
+    (λ ws n x fits t. ap (λ (y : Known). sighted y (bit_set m e n)) t)
+    (give_old a l m e es even at_e room passed)
 
-pub looks_again : (a : About) (l : Known) (m d : ℕ) → m < length l.limbo → d < length (limbo_at l.limbo m).noted → Steps a l (RunCount d) (λ n. n) (λ ws n l'. LooksAgain l m d n l')
-looks_again a l m d room few = told_as a l (RunCount d) (λ n. n) (λ ws n l'. Seen n l') (λ ws n l'. LooksAgain l m d n l') less
-    (with_sight a l (RunCount d) (λ n. n) (λ ws n y. Told n y) (λ n. Runs d n) (see_counter_again a l m d room few))
+pub looks_again : (a : About) (l : Known) (m d : ℕ) → m < length l.limbo → d < length (limbo_at l.limbo m).noted → Notes a l (RunCount d) (λ n. n) (λ ws n l'. LooksAgain l m d n l')
+looks_again a l m d room few = noted_as a l (RunCount d) (λ n. n) (λ ws n x. Told n x) (λ ws n l'. LooksAgain l m d n l')
+    (λ ws n x fits t. ((λ same. ap (λ (y : Known). sighted y (look (RunCount d) n)) (t.1 same)), (λ ne. ap (λ (y : Known). sighted y (look (RunCount d) n)) (t.0 ne))))
+    (see_counter_again a l m d room few)
   where
     Told : ℕ → Known → Type 0
     Told n y = (n ≢ slice_index (limbo_at l.limbo m).noted d → y ≡ cleared l m d) × (n ≡ slice_index (limbo_at l.limbo m).noted d → y ≡ l)
 
-    Seen : ℕ → Known → Type 0
-    Seen n l' = (y : Known) × Told n y × (l' ≡ sighted y (Runs d n))
+pub sees_stamp : (a : About) (l : Known) (m s : ℕ) → IsSegment a m s → Notes a l (Stamp m s) (λ n. n) (λ ws n l'. StampSeen l m s n l')
+sees_stamp a l m s at_s = noted_as a l (Stamp m s) (λ n. n) (λ ws n x. Told n x) (λ ws n l'. StampSeen l m s n l')
+    (λ ws n x fits t. ((λ even. ap (λ (y : Known). sighted y (look (Stamp m s) n)) (t.0 even)), (λ odd. ap (λ (y : Known). sighted y (look (Stamp m s) n)) (t.1 odd))))
+    (see_stamp a l m s at_s)
+  where
+    Told : ℕ → Known → Type 0
+    Told n y = (n % 2 ≡ 0 → y ≡ noting l m s n) × (n % 2 ≡ 1 → y ≡ l)
 
-    less : (ws : List ℕ) (n : ℕ) (l' : Known) → Seen n l' → LooksAgain l m d n l'
-    less ws n l' t = ((λ same. t.2 ∙ ap (λ (y : Known). sighted y (Runs d n)) (t.1.1 same)), (λ ne. t.2 ∙ ap (λ (y : Known). sighted y (Runs d n)) (t.1.0 ne)))
+pub sees_again : (a : About) (l : Known) (rd : Reading) (m s : ℕ) (key : List ℕ) (o : Option ℕ) → rd.map ≡ m → rd.segment ≡ s → FindsByPeeks a l rd key o
+    → Notes a l (Stamp m s) (λ n. n) (λ ws n l'. StampSeenAgain a l rd key o n l')
+sees_again a l rd m s key o h u f =
+    subst (λ (n : ℕ). Notes a l (Stamp n s) (λ n. n) (λ ws n l'. StampSeenAgain a l rd key o n l')) h
+    (subst (λ (t : ℕ). Notes a l (Stamp rd.map t) (λ n. n) (λ ws n l'. StampSeenAgain a l rd key o n l')) u
+    (noted_as a l (Stamp rd.map rd.segment) (λ n. n) (λ ws n x. AgainSeen a l rd key o n x) (λ ws n l'. StampSeenAgain a l rd key o n l')
+    (λ ws n x fits t. (
+      (λ same. record { seen = (t.0 same).seen; after = ap (λ (y : Known). sighted y (look (Stamp rd.map rd.segment) n)) (t.0 same).after ∙ ap (λ (i : ℕ). record l { seen = x.seen; readings = []; tally = look (Stamp rd.map rd.segment) i ∷ l.tally }) same }),
+      (λ ne. ap (λ (y : Known). sighted y (look (Stamp rd.map rd.segment) n)) (t.1 ne)),
+    ))
+    (see_again a l rd key o f)))
+
+pub locks : (a : About) (l : Known) (m s old : ℕ) → IsSegment a m s → old % 2 ≡ 0 → l.locks ≡ []
+    → NotesTaken a l (Stamp m s) old (old + 1) (λ ws n l'. (n ≡ old → LocksSegment a l m s old l') × (n ≢ old → l' ≡ l))
+locks a l m s old at_s even idle = taken_as a l (Stamp m s) old (old + 1) (λ ws n x. Told n x) (λ ws n l'. (n ≡ old → LocksSegment a l m s old l') × (n ≢ old → l' ≡ l))
+    (λ ws n x same t. ((λ _. subst (λ (i : ℕ). LocksSegment a l m s old (sighted x (sight (Stamp m s) i (old + 1)))) (sym same) (t.0 same)), (λ ne. absurd (ne same))))
+    (λ ws n x ne t. ((λ same. absurd (ne same)), t.1))
+    (lock a l m s old at_s even idle)
+  where
+    Told : ℕ → Known → Type 0
+    Told n x = (n ≡ old → LocksSegment a l m s old (sighted x (lock_taken m s old))) × (n ≢ old → x ≡ l)

@@ -97,6 +97,7 @@ module _ (a : About) (l : Known) (w : Place → ℕ) (g : Ghost) (r : Rule a w g
       rule = turn_rule;
       others = λ d ne. rw (ne_eqb d l.cpu ne) refl;
       longer = (entry l.cpu e ∷ [], refl);
+      tally = refl;
       says = subst (Told a l e) (sym (rw (eq-eqb l.cpu l.cpu refl) (ap (λ (z : Known). record z { seen = g.log ++ entry l.cpu e ∷ [] }) is))) (record { seen = saw a w g r l is inside e t may turn_rule.logged; after = refl });
     }
 
@@ -165,6 +166,7 @@ module _ (a : About) (l : Known) (m : ℕ) (room : m < length l.limbo) (x : Limb
     });
     others = λ d ne. rw (ne_eqb d l.cpu ne) refl;
     longer = prefix_refl g.log;
+    tally = refl;
     says = rw (eq-eqb l.cpu l.cpu refl) (ap (λ (z : Known). record z { limbo = set z.limbo m x }) is);
   }
 
@@ -242,4 +244,4 @@ see_counter_again a l m d room few ws g sized r is inside fits = dite (ℕ_discr
         (λ (t : c ≡ d). absurd (ne (ap (λ (k : ℕ). w (RunCount k)) (sym t) ∙ (sym (old_noted e c at_e has (subst (λ (k : ℕ). k < length y.noted) (sym t) few) h) ∙ ap (λ (k : ℕ). slice_index y.noted k) t))))
         (λ (nd : c ≢ d). get_or-set_other y.noted d c 0 0 nd ∙ old_noted e c at_e has (subst (λ (k : ℕ). c < k) (length-set y.noted d 0) lt) h)
         (equal c d)) in
-        record { ghost = n.ghost; rule = n.rule; others = n.others; longer = n.longer; says = ((λ _. n.says), (λ e. absurd (ne e))) }
+        record { ghost = n.ghost; rule = n.rule; others = n.others; longer = n.longer; tally = n.tally; says = ((λ _. n.says), (λ e. absurd (ne e))) }

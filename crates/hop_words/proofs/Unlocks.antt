@@ -49,6 +49,7 @@ unlock_written a l k held owes written ws g sized r is inside fits =
       rule = u.1;
       others = λ d ne. rw (ne_eqb d l.cpu ne) refl;
       longer = prefix_refl g.log;
+      tally = refl;
       says = rw (eq-eqb l.cpu l.cpu refl) (ap (λ (x : Known). record x { locks = [] }) is);
     }
 
@@ -62,6 +63,7 @@ unlock_silent a l k held clean ws g sized r is inside fits =
       rule = u.1;
       others = λ d ne. rw (ne_eqb d l.cpu ne) refl;
       longer = prefix_refl g.log;
+      tally = refl;
       says = rw (eq-eqb l.cpu l.cpu refl) (ap (λ (x : Known). record x { locks = [] }) is);
     }
 
@@ -93,6 +95,7 @@ unlock_answer a l k e i ws g sized r is inside fits = record {
   rule = u.1;
   others = λ d ne. rw (ne_eqb d l.cpu ne) refl;
   longer = (entry l.cpu e ∷ [], refl);
+  tally = refl;
   says = subst (Answered a l k e) (sym after) (record { seen = saw a w g r l is inside e g.last may r1.logged; worn = worn_told; after = refl });
 }
   where
@@ -144,6 +147,7 @@ unlock_lookup a l k key o i ws g sized r is inside fits = record {
   rule = u.1;
   others = λ d ne. rw (ne_eqb d l.cpu ne) refl;
   longer = (entry l.cpu event ∷ [], refl);
+  tally = refl;
   says = subst (LookedUp a l k key o) (sym after) (record { seen = saw a w g r l is inside event (looking a w g r l.cpu k.map o) may r1.logged; after = refl });
 }
   where
@@ -404,6 +408,7 @@ module _ (a : About) (l : Known) (k : Lock) (f : Fresh) (rest : List Fresh) (key
         rule = u.1;
         others = λ d ne. rw (ne_eqb d l.cpu ne) refl;
         longer = (entry l.cpu event ∷ [], refl);
+        tally = refl;
         says = subst (Replaced a l k rest key bytes flags o) (sym (after u.0)) (record { seen = saw a w g r l is inside event last' may swap_rule.logged; after = refl });
       }
     where

@@ -176,6 +176,7 @@ module _ (a : About) (l : Known) (m e k o b : ℕ) (i : Touches a l m e k o b) (
       rule = write_rule ev quiet may;
       others = λ d ne. rw (ne_eqb d l.cpu ne) refl;
       longer = (entry l.cpu ev ∷ [], refl);
+      tally = refl;
       says = subst (Told a l ev) (sym after) (record { seen = saw a w g r l is inside ev last2 may (write_rule ev quiet may).logged; after = refl });
     }
       where
@@ -212,6 +213,7 @@ value_load a l m e k o sz i ws g sized r is inside fits =
       rule = subst (λ (z : Place → ℕ). Rule a z (noted_event g l.cpu ev)) (sym (put_again w (ValueWord m e k))) rule;
       others = λ d ne. rw (ne_eqb d l.cpu ne) refl;
       longer = (entry l.cpu ev ∷ [], refl);
+      tally = refl;
       says = subst (Told a l ev) (sym (rw (eq-eqb l.cpu l.cpu refl) (ap (λ (z : Known). record z { seen = g.log ++ entry l.cpu ev ∷ [] }) is))) (record { seen = saw a w g r l is inside ev g.last may rule.logged; after = refl });
     }
 

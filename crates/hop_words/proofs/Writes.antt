@@ -131,6 +131,7 @@ module _ (a : About) (l : Known) (k : Lock) (held : l.locks ≡ k ∷ []) (p : P
     };
     others = λ d ne. rw (ne_eqb d l.cpu ne) refl;
     longer = prefix_refl g.log;
+    tally = refl;
     says = rw (eq-eqb l.cpu l.cpu refl) (ap (λ (x : Known). record x { locks = k' ∷ [] }) is);
   }
 

@@ -11,7 +11,7 @@ use Rattle.hop_words.specs.declared.known.Fresh.{Fresh}
 use Rattle.hop_words.specs.declared.known.Limbo.{Limbo}
 use Rattle.hop_words.specs.declared.known.Lock.{Lock}
 use Rattle.hop_words.specs.declared.known.Reading.{Reading}
-use Rattle.hop_words.specs.declared.known.Tally.{Tally}
+use Rattle.hop_words.specs.declared.known.Sight.{Sight}
 use Rattle.hop_words.specs.Layout.{map_shape, segments}
 use Rattle.hop_words.specs.Homes.{segment_of}
 use Rattle.hop_words.specs.Content.{MapWords}
@@ -50,7 +50,7 @@ pub record Lanes : Type 0 where
   pub limbo : ℕ → List Limbo
   pub locks : ℕ → List Lock
   pub readings : ℕ → List Reading
-  pub tally : ℕ → Tally
+  pub tally : ℕ → List Sight
 
 abbrev pub lane : Lanes → ℕ → Known
 lane x c = record {

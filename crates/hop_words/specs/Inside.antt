@@ -10,7 +10,6 @@ use Rattle.hop_words.specs.declared.lane.Lane.TheInside.{Inside as InStepper}
 use Rattle.hop_words.specs.Layout.{size}
 use Rattle.hop_words.specs.Rule.{solo}
 use Rattle.hop_words.specs.Step.{TellsLane, first_lane}
-use Rattle.hop_words.specs.Opens.{no_tally}
 
 pub record Shown : Type 0 where
   pub id : TableId
@@ -36,7 +35,7 @@ nobody = record {
   limbo = [];
   locks = [];
   readings = [];
-  tally = no_tally;
+  tally = [];
 }
 
 abbrev pub stepper_lane : InStepper → Known

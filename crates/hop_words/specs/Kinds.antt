@@ -15,13 +15,14 @@ use Rattle.hop_words.specs.declared.known.About.{About}
 use Rattle.hop_words.specs.declared.known.Known.{Known}
 use Rattle.hop_words.specs.declared.known.Fresh.{Fresh}
 use Rattle.hop_words.specs.declared.place.Place.{Place}
+use Rattle.hop_words.specs.declared.place.Place.TheVariants.{Stamp}
 use Rattle.hop_words.specs.declared.known.Limbo.{Limbo}
 use Rattle.hop_words.specs.declared.known.Lock.{Lock}
 use Rattle.hop_words.specs.declared.known.Reading.{Reading}
 use Rattle.hop_words.specs.declared.known.Peek.{Peek}
-use Rattle.hop_words.specs.declared.known.Tally.{Tally}
 use Rattle.hop_words.specs.declared.known.Change.TheVariants.{Nothing, Puts, Drops}
 use Rattle.hop_words.specs.Layout.{words_for, at, size}
+use Rattle.hop_words.specs.Sights.{look, lock_taken, sighted}
 use Rattle.hop_words.specs.Homes.{word_of, AreBytes}
 use Rattle.hop_words.specs.Content.{MapWords, IsShare}
 use Rattle.hop_words.specs.Ghost.{segment_in, shape_at, HasElement, Each, limbo_at}
@@ -79,20 +80,13 @@ pub record Inserted (a : About) (l : Known) (k : Lock) (f : Fresh) (rest : List 
   }
 
 -- ---- readings without a lock
--- one disturbed reading of the segment more, by its stamps as they were seen first and last
-abbrev pub disturbed_by : Tally → ℕ → ℕ → ℕ → ℕ → Tally
-disturbed_by t m s n i = record t {
-  disturbed = record { map = m; segment = s; first = n; last = i }
-      ∷ t.disturbed;
-}
-
 abbrev pub noting : Known → ℕ → ℕ → ℕ → Known
 noting l m s n = record l { readings = record { map = m; segment = s; stamp = n; peeks = [] } ∷ [] }
 
--- see stamp: an unlocked one is noted, a locked one is a disturbed reading
+-- see stamp: with an unlocked one a reading begins
 abbrev pub StampSeen : Known → ℕ → ℕ → ℕ → Known → Type 0
-StampSeen l m s n l' = (n % 2 ≡ 0 → l' ≡ noting l m s n)
-    × (n % 2 ≡ 1 → l' ≡ record l { tally = disturbed_by l.tally m s n n })
+StampSeen l m s n l' = (n % 2 ≡ 0 → l' ≡ sighted (noting l m s n) (look (Stamp m s) n))
+    × (n % 2 ≡ 1 → l' ≡ sighted l (look (Stamp m s) n))
 
 -- peek
 abbrev pub peeking : Known → Reading → Place → ℕ → Known
@@ -133,13 +127,17 @@ pub record FindsByPeeks (a : About) (l : Known) (r : Reading) (key : List ℕ) (
 pub record Found (a : About) (l : Known) (r : Reading) (key : List ℕ) (o : Option ℕ) (l' : Known)
     : Type 0 where
   pub seen : Saw a l (Lookup r.map key (found_span a r.map o)) l'.seen
-  pub after : l' ≡ record l { seen = l'.seen; readings = [] }
+  pub after : l' ≡ record l {
+    seen = l'.seen;
+    readings = [];
+    tally = look (Stamp r.map r.segment) r.stamp ∷ l.tally;
+  }
 
 -- the same stamp answers the lookup, another is a disturbed reading
 abbrev pub StampSeenAgain : About → Known → Reading → List ℕ → Option ℕ → ℕ → Known → Type 0
 StampSeenAgain a l r key o n l' =
     (n ≡ r.stamp → Found a l r key o l') × (n ≢ r.stamp → l'
-    ≡ record l { readings = []; tally = disturbed_by l.tally r.map r.segment r.stamp n })
+    ≡ record l { readings = []; tally = look (Stamp r.map r.segment) n ∷ l.tally })
 
 -- ---- lock
 abbrev pub has : ℕ → List ℕ → Bool
@@ -158,7 +156,7 @@ locking l m s n ws es = record l {
     known = es;
     dirty = false;
   } ∷ [];
-  tally = record l.tally { locks = l.tally.locks + 1 };
+  tally = lock_taken m s n ∷ l.tally;
 }
 
 -- the segment is sound and has some content, and what the lane filled stands in the copy

@@ -5,6 +5,7 @@ pub mod Homes
 pub mod Content
 pub mod Ghost
 pub mod Rule
+pub mod Sights
 pub mod Step
 pub mod Kinds
 pub mod Owning

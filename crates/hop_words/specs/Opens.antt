@@ -8,7 +8,6 @@ use Rattle.hop_words.specs.declared.known.About.{About}
 use Rattle.hop_words.specs.declared.known.Known.{Known}
 use Rattle.hop_words.specs.declared.known.View.{View}
 use Rattle.hop_words.specs.declared.known.Limbo.{Limbo}
-use Rattle.hop_words.specs.declared.known.Tally.{Tally}
 use Rattle.hop_words.specs.Ghost.{HasElement, IsSegment, no_limbo}
 
 -- the words as made: all elements are free, no segment is locked or has an item, and no map has a
@@ -24,9 +23,6 @@ pub record AreNewWords (a : About) (w : Place → ℕ) : Type 0 where
   pub slots : (m s p : ℕ) → IsSegment a m s → p < 64 → w (Slot m s p) ≡ 0
   pub hops : (m s b : ℕ) → IsSegment a m s → b < 64 → w (Hop m s b) ≡ 0
 
-abbrev pub no_tally : Tally
-no_tally = record { locks = 0; disturbed = []; sights = [] }
-
 abbrev pub no_limbos : ℕ → List Limbo
 no_limbos zero = []
 no_limbos (suc n) = no_limbo ∷ no_limbos n
@@ -39,7 +35,7 @@ new_lane a c = record {
   limbo = no_limbos (length a.shape.maps);
   locks = [];
   readings = [];
-  tally = no_tally;
+  tally = [];
 }
 
 abbrev pub lanes_from : About → ℕ → ℕ → List Known

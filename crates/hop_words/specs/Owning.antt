@@ -4,30 +4,35 @@ use Rattle.std.specs.Int.{bit_at}
 use Rattle.hop_words.specs.declared.known.About.{About}
 use Rattle.hop_words.specs.declared.known.Known.{Known}
 use Rattle.hop_words.specs.declared.known.Fresh.{Fresh}
-use Rattle.hop_words.specs.declared.known.Sight.{Sight}
-use Rattle.hop_words.specs.declared.known.Sight.TheVariants.{Bits, Runs}
+use Rattle.hop_words.specs.declared.place.Place.TheVariants.{FreeBits, RunCount}
 use Rattle.hop_words.specs.Layout.{free_words}
 use Rattle.hop_words.specs.Ghost.{shape_at, limbo_at}
-use Rattle.hop_words.specs.Kinds.{holding, cleared}
-
--- one thing more was seen
-abbrev pub sighted : Known → Sight → Known
-sighted l s = record l { tally = record l.tally { sights = s ∷ l.tally.sights } }
+use Rattle.hop_words.specs.Sights.{look, bit_cleared, bit_set, sighted}
+use Rattle.hop_words.specs.Kinds.{holding, cleared, giving_old}
 
 -- the word is one of the map's words of free bits
 abbrev pub IsFreeWord : About → ℕ → ℕ → Type 0
 IsFreeWord a m i = (m < length a.shape.maps) × (i < free_words (shape_at a m))
 
--- where the bit was set the element is in hand from now on, else it was seen not free
+-- where the bit was set it is taken, and the element is in hand from now on; else the word is as it
+-- was, and the element was seen not free
 abbrev pub ClaimsBit : Known → ℕ → ℕ → ℕ → Known → Type 0
 ClaimsBit l m e found l' =
-    (bit_at found (e % 64) ≡ 1 → l' ≡ sighted (holding l m e) (Bits m (e / 64) found))
-    × (bit_at found (e % 64) ≡ 0 → l' ≡ sighted l (Bits m (e / 64) found))
+    (bit_at found (e % 64) ≡ 1 → l' ≡ sighted (holding l m e) (bit_cleared m e found))
+    × (bit_at found (e % 64) ≡ 0 → l' ≡ sighted l (look (FreeBits m (e / 64)) found))
 
 -- all but the first
 abbrev pub tail_of : {A : Type 0} → List A → List A
 tail_of [] = []
 tail_of (x ∷ xs) = xs
+
+-- the element in hand is free again, and so is one of the old batch
+abbrev pub GivesFresh : Known → ℕ → ℕ → ℕ → Known → Type 0
+GivesFresh l m e found l' = l' ≡ sighted (record l { fresh = tail_of l.fresh }) (bit_set m e found)
+
+abbrev pub GivesOld : Known → ℕ → ℕ → ℕ → Known → Type 0
+GivesOld l m e found l' =
+    l' ≡ sighted (giving_old l m (tail_of (limbo_at l.limbo m).old)) (bit_set m e found)
 
 -- the element is the first in hand
 abbrev pub IsInHand : Known → ℕ → ℕ → Type 0
@@ -54,6 +59,6 @@ with_value_word (f ∷ fs) n = record f { value = f.value ++ n ∷ [] } ∷ fs
 -- a counter that isn't the one noted is noted as even from now on
 abbrev pub LooksAgain : Known → ℕ → ℕ → ℕ → Known → Type 0
 LooksAgain l m d found l' =
-    (found ≡ slice_index (limbo_at l.limbo m).noted d → l' ≡ sighted l (Runs d found))
+    (found ≡ slice_index (limbo_at l.limbo m).noted d → l' ≡ sighted l (look (RunCount d) found))
     × ((found ≡ slice_index (limbo_at l.limbo m).noted d → ⊥)
-    → l' ≡ sighted (cleared l m d) (Runs d found))
+    → l' ≡ sighted (cleared l m d) (look (RunCount d) found))

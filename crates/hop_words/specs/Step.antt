@@ -1,30 +1,54 @@
 -- What a kind of step has to give: whatever the words and the ghost are, the step of one CPU at one
 -- place keeps the rule, and its caller is told something.
-use Rattle.std.specs.Prelude.{◌≡◌, ◌≢◌, ℕ, ◌<◌, List, [], ◌∷◌, length}
+use Rattle.std.specs.Prelude.{◌≡◌, ◌≢◌, ℕ, ◌<◌, ◌==◌, if◌then◌else◌, List, [], ◌∷◌, ◌++◌, length}
+use prog.Atomic.{either}
 use mathlib.Core.List.{IsPrefix}
 use Rattle.atomic_table.specs.Table.{Me}
 use Rattle.hop_words.specs.declared.place.Place.{Place}
 use Rattle.hop_words.specs.declared.known.About.{About}
 use Rattle.hop_words.specs.declared.known.Known.{Known}
+use Rattle.hop_words.specs.declared.known.Sight.{Sight}
 use Rattle.hop_words.specs.declared.known.View.{View}
 use Rattle.hop_words.specs.Layout.{size, mem, put_at}
+use Rattle.hop_words.specs.Sights.{sight}
 use Rattle.hop_words.specs.Ghost.{Ghost, lane}
 use Rattle.hop_words.specs.Rule.{Rule, solo}
 
-pub record Next (a : About) (w : Place → ℕ) (g : Ghost) (c : ℕ) (told : Known → Type 0) : Type 0
-  where
-    pub ghost : Ghost
-    pub rule : Rule a w ghost
-    pub others : (d : ℕ) → d ≢ c → lane ghost.lanes d ≡ lane g.lanes d
-    pub longer : IsPrefix g.log ghost.log
-    pub says : told (lane ghost.lanes c)
+-- the lane's tally has these sights in front of what it had, and all else in it is as it was
+pub record Noted (a : About) (w : Place → ℕ) (g : Ghost) (c : ℕ) (sights : List Sight)
+    (told : Known → Type 0) : Type 0 where
+  pub ghost : Ghost
+  pub rule : Rule a w ghost
+  pub others : (d : ℕ) → d ≢ c → lane ghost.lanes d ≡ lane g.lanes d
+  pub longer : IsPrefix g.log ghost.log
+  pub tally : ghost.lanes.tally c ≡ sights ++ g.lanes.tally c
+  pub says : told (lane ghost.lanes c)
 
--- of the words, the number found and the lane after
-abbrev pub Steps : About → Known → Place → (ℕ → ℕ) → (List ℕ → ℕ → Known → Type 0) → Type 0
-Steps a l p f told = (ws : List ℕ) (g : Ghost) → length ws ≡ size a.shape
+-- the tally is as it was
+abbrev pub Next : About → (Place → ℕ) → Ghost → ℕ → (Known → Type 0) → Type 0
+Next a w g c told = Noted a w g c [] told
+
+-- of the words, the number found and the lane after; the sights by the number found
+abbrev pub Leaves : About → Known → Place → (ℕ → ℕ) → (ℕ → List Sight)
+    → (List ℕ → ℕ → Known → Type 0) → Type 0
+Leaves a l p f sights told = (ws : List ℕ) (g : Ghost) → length ws ≡ size a.shape
     → Rule a (mem a.shape ws) g → lane g.lanes l.cpu ≡ l → l.cpu < a.shape.cpus
     → mem a.shape ws p < 18446744073709551616
-    → Next a (put_at (mem a.shape ws) p (f (mem a.shape ws p))) g l.cpu (told ws (mem a.shape ws p))
+    → Noted a (put_at (mem a.shape ws) p (f (mem a.shape ws p))) g l.cpu
+    (sights (mem a.shape ws p)) (told ws (mem a.shape ws p))
+
+-- a step that is not noted
+abbrev pub Steps : About → Known → Place → (ℕ → ℕ) → (List ℕ → ℕ → Known → Type 0) → Type 0
+Steps a l p f told = Leaves a l p f (λ n. []) told
+
+-- a step that is noted: its place, the number found, and the number left
+abbrev pub Notes : About → Known → Place → (ℕ → ℕ) → (List ℕ → ℕ → Known → Type 0) → Type 0
+Notes a l p f told = Leaves a l p f (λ n. sight p n (f n) ∷ []) told
+
+-- a compare-exchange is noted where it takes effect
+abbrev pub NotesTaken : About → Known → Place → ℕ → ℕ → (List ℕ → ℕ → Known → Type 0) → Type 0
+NotesTaken a l p old new told = Leaves a l p (λ n. either (n == old) new n)
+    (λ n. if n == old then sight p n new ∷ [] else []) told
 
 abbrev pub TellsLane : ℕ → (ℕ → Known → Type 0) → ℕ → Me (Unit {0}) View → Type 0
 TellsLane c told n m = (m.1 ≡ []) × ((l : Known) × (m.0 ≡ solo l) × (l.cpu ≡ c) × told n l)

@@ -92,7 +92,7 @@ impl Returned {
         ensures taken { self.new.lanes ≡ self.old.lanes ++ lane.known ∷ [] }
     {
         let _cpus = table.about().shape.cpus();
-        let Lane { cpu: _, seat } = lane;
+        let seat = lane.into_seat();
         table.table.shared.join_seat::<Gather>(&mut self.seat, seat);
     }
 

@@ -77,6 +77,6 @@ impl Lanes {
         let cpu = self.next;
         self.next += 1;
         self.left -= 1;
-        Some(Lane { cpu, seat })
+        Some(Lane::seated(cpu, seat))
     }
 }

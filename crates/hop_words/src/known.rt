@@ -64,31 +64,15 @@ pub struct Reading {
     pub peeks: LinkedList<Peek>,
 }
 
-/// A reading without a lock that was disturbed: the segment's stamp as it was seen first and last.
-/// The first is locked, or the two differ.
-pub struct Disturbance {
-    pub map: u8,
-    pub segment: u32,
-    pub first: u64,
-    pub last: u64,
+/// A step as it was noted: its place, the number found there, and the number left.
+pub struct Sight {
+    pub place: Place,
+    pub found: u64,
+    pub left: u64,
 }
 
-/// What a CPU saw in passing.
-pub enum Sight {
-    /// A word of free bits.
-    Bits { map: u8, word: u32, found: u64 },
-    /// A CPU's run counter.
-    Runs { cpu: u8, found: u64 },
-}
-
-/// What was counted and seen on the way, the last first. The rule says nothing of it.
-pub struct Tally {
-    pub locks: u64,
-    pub disturbed: LinkedList<Disturbance>,
-    pub sights: LinkedList<Sight>,
-}
-
-/// A CPU and all that it knows.
+/// A CPU and all that it knows. Its tally has the steps that were noted, the last first. The rule
+/// says nothing of them: the noted steps of `lane` put them there, and no other step changes them.
 pub struct Known {
     pub cpu: u8,
     pub seen: LinkedList<Entry>,
@@ -96,7 +80,7 @@ pub struct Known {
     pub limbo: LinkedList<Limbo>,
     pub locks: LinkedList<Lock>,
     pub readings: LinkedList<Reading>,
-    pub tally: Tally,
+    pub tally: LinkedList<Sight>,
 }
 
 /// What a seat knows: its CPUs, and what it keeps of the history for others.

@@ -1,9 +1,12 @@
 //! The right of one CPU to step on the words, and the steps of the table that all kinds of step are
 //! made of.
-ghost use Rattle.std.specs.Prelude.{◌≡◌, ◌==◌, true, ℕ, ◌+◌, ◌%◌, ◌^◌, bit_and, bit_or, bit_xor};
+ghost use Rattle.std.specs.Prelude.{◌≡◌, ◌==◌, true, [], ℕ, ◌+◌, ◌%◌, ◌^◌, bit_and, bit_or, bit_xor};
 ghost use prog.Atomic.{either};
 ghost use Rattle.hop_words.specs.Layout.{is_place};
-ghost use Rattle.hop_words.specs.Step.{Steps};
+ghost use Rattle.hop_words.specs.Rule.{solo};
+ghost use Rattle.hop_words.specs.Inside.{nobody};
+ghost use Rattle.hop_words.specs.Sights.{IsQuiet};
+ghost use Rattle.hop_words.specs.Step.{Steps, Notes, NotesTaken, first_lane};
 
 use crate::known::View;
 use crate::place::Place;
@@ -15,7 +18,8 @@ use std::marker::{Brand, Model, PhantomData};
 #[derive(Drop)]
 pub struct Lane {
     pub(crate) cpu: u8,
-    pub(crate) seat: Seat<(), View>,
+    // Only the steps below are made with it.
+    seat: Seat<(), View>,
 }
 
 impl Model for Lane {
@@ -26,6 +30,27 @@ impl Model for Lane {
     ghost view = { standing };
 
     ghost invariant = { IsOne };
+}
+
+impl Lane {
+    // The lane of the only CPU that this seat has.
+    pub(crate) fn seated(cpu: u8, seat: Seat<(), View>) -> Lane
+        requires one { (seat.me ≡ (solo (first_lane nobody seat.me.0.lanes), []))
+            × ((first_lane nobody seat.me.0.lanes).cpu ≡ cpu) }
+        ensures table { result.table ≡ seat.table_id }
+        ensures known { result.known ≡ first_lane nobody seat.me.0.lanes }
+    {
+        Lane { cpu, seat }
+    }
+
+    // The seat, of which no step is made any more.
+    pub(crate) fn into_seat(self) -> Seat<(), View>
+        ensures table { result.table_id ≡ self.table }
+        ensures known { result.me ≡ (solo self.known, []) }
+    {
+        let Lane { cpu: _, seat } = self;
+        seat
+    }
 }
 
 // What a step tells: each kind picks it.
@@ -101,6 +126,7 @@ impl Lane {
     ) -> u64
         requires table { self.old.table ≡ table.now.id }
         requires place { is_place table.now.about.shape place ≡ true }
+        requires quiet { IsQuiet place }
         requires step { Steps table.now.about self.old.known place (λ n. either (n == old) new n)
             (λ ws n l. E.told n l) }
         ensures table { self.new.table ≡ self.old.table }
@@ -123,6 +149,7 @@ impl Lane {
     ) -> u64
         requires table { self.old.table ≡ table.now.id }
         requires place { is_place table.now.about.shape place ≡ true }
+        requires quiet { IsQuiet place }
         requires step { Steps table.now.about self.old.known place (λ n. bit_and n mask)
             (λ ws n l. E.told n l) }
         ensures table { self.new.table ≡ self.old.table }
@@ -145,6 +172,7 @@ impl Lane {
     ) -> u64
         requires table { self.old.table ≡ table.now.id }
         requires place { is_place table.now.about.shape place ≡ true }
+        requires quiet { IsQuiet place }
         requires step { Steps table.now.about self.old.known place (λ n. bit_or n mask)
             (λ ws n l. E.told n l) }
         ensures table { self.new.table ≡ self.old.table }
@@ -167,6 +195,7 @@ impl Lane {
     ) -> u64
         requires table { self.old.table ≡ table.now.id }
         requires place { is_place table.now.about.shape place ≡ true }
+        requires quiet { IsQuiet place }
         requires step { Steps table.now.about self.old.known place (λ n. bit_xor n mask)
             (λ ws n l. E.told n l) }
         ensures table { self.new.table ≡ self.old.table }
@@ -189,6 +218,7 @@ impl Lane {
     ) -> u64
         requires table { self.old.table ≡ table.now.id }
         requires place { is_place table.now.about.shape place ≡ true }
+        requires quiet { IsQuiet place }
         requires step { Steps table.now.about self.old.known place (λ _. new)
             (λ ws n l. E.told n l) }
         ensures table { self.new.table ≡ self.old.table }
@@ -211,6 +241,7 @@ impl Lane {
     ) -> u64
         requires table { self.old.table ≡ table.now.id }
         requires place { is_place table.now.about.shape place ≡ true }
+        requires quiet { IsQuiet place }
         requires step { Steps table.now.about self.old.known place (λ n. (n + more) % 2 ^ 64)
             (λ ws n l. E.told n l) }
         ensures table { self.new.table ≡ self.old.table }
@@ -221,5 +252,93 @@ impl Lane {
             .table
             .shared
             .fetch_add::<Told<E>>(&mut self.seat, word, more)
+    }
+}
+
+// The noted steps: each puts itself in front of the lane's tally, with the number found and the
+// number left, whatever its kind tells. An exchange does so where it takes effect.
+impl Lane {
+    #[inline(always)]
+    pub(crate) fn load_noted<E: Tell, T: Copy>(
+        &mut self,
+        table: &HopTable,
+        place: Place,
+        _said: T,
+    ) -> u64
+        requires table { self.old.table ≡ table.now.id }
+        requires place { is_place table.now.about.shape place ≡ true }
+        requires step { Notes table.now.about self.old.known place (λ n. n) (λ ws n l. E.told n l) }
+        ensures table { self.new.table ≡ self.old.table }
+        ensures told { E.told result self.new.known }
+    {
+        let word = table.word_of(place);
+        table.table.shared.load::<Told<E>>(&mut self.seat, word)
+    }
+
+    #[inline(always)]
+    pub(crate) fn and_noted<E: Tell, T: Copy>(
+        &mut self,
+        table: &HopTable,
+        place: Place,
+        mask: u64,
+        _said: T,
+    ) -> u64
+        requires table { self.old.table ≡ table.now.id }
+        requires place { is_place table.now.about.shape place ≡ true }
+        requires step { Notes table.now.about self.old.known place (λ n. bit_and n mask)
+            (λ ws n l. E.told n l) }
+        ensures table { self.new.table ≡ self.old.table }
+        ensures told { E.told result self.new.known }
+    {
+        let word = table.word_of(place);
+        table
+            .table
+            .shared
+            .fetch_and::<Told<E>>(&mut self.seat, word, mask)
+    }
+
+    #[inline(always)]
+    pub(crate) fn or_noted<E: Tell, T: Copy>(
+        &mut self,
+        table: &HopTable,
+        place: Place,
+        mask: u64,
+        _said: T,
+    ) -> u64
+        requires table { self.old.table ≡ table.now.id }
+        requires place { is_place table.now.about.shape place ≡ true }
+        requires step { Notes table.now.about self.old.known place (λ n. bit_or n mask)
+            (λ ws n l. E.told n l) }
+        ensures table { self.new.table ≡ self.old.table }
+        ensures told { E.told result self.new.known }
+    {
+        let word = table.word_of(place);
+        table
+            .table
+            .shared
+            .fetch_or::<Told<E>>(&mut self.seat, word, mask)
+    }
+
+    #[inline(always)]
+    pub(crate) fn exchange_noted<E: Tell, T: Copy>(
+        &mut self,
+        table: &HopTable,
+        place: Place,
+        old: u64,
+        new: u64,
+        _said: T,
+    ) -> u64
+        requires table { self.old.table ≡ table.now.id }
+        requires place { is_place table.now.about.shape place ≡ true }
+        requires step { NotesTaken table.now.about self.old.known place old new
+            (λ ws n l. E.told n l) }
+        ensures table { self.new.table ≡ self.old.table }
+        ensures told { E.told result self.new.known }
+    {
+        let word = table.word_of(place);
+        table
+            .table
+            .shared
+            .compare_exchange::<Told<E>>(&mut self.seat, word, old, new)
     }
 }

@@ -25,9 +25,7 @@ pub use closing::{Rest, Returned};
 pub use dealing::Lanes;
 pub use hash::home;
 pub use index::{Index, elements, segments};
-pub use known::{
-    About, Change, Disturbance, Fresh, Known, Limbo, Lock, Peek, Reading, Sight, Tally, View,
-};
+pub use known::{About, Change, Fresh, Known, Limbo, Lock, Peek, Reading, Sight, View};
 pub use lane::Lane;
 pub use place::Place;
 pub use table::{HopTable, OneRule};

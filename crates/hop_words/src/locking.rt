@@ -35,7 +35,7 @@ impl Lane {
         ensures missed { IsFalse result → self.new.known ≡ self.old.known }
     {
         let place = Place::Stamp { map, segment };
-        let found = self.exchange_by::<Brand, _>(table, place, stamp, stamp + 1, (map, segment));
+        let found = self.exchange_noted::<Brand, _>(table, place, stamp, stamp + 1, (map, segment));
         found == stamp
     }
 

@@ -1,12 +1,13 @@
 //! The steps on elements: seeing, claiming and giving back their free bits, and writing the words
 //! of one's own.
-ghost use Rattle.std.specs.Prelude.{◌≡◌, ◌<◌, ◌-◌, ◌/◌, ◌%◌, ◌^◌, [], ◌∷◌, length};
-ghost use Rattle.hop_words.specs.declared.known.Sight.TheVariants.{Bits};
+ghost use Rattle.std.specs.Prelude.{ℕ, ◌≡◌, ◌<◌, ◌-◌, ◌/◌, ◌%◌, ◌^◌, [], ◌∷◌, length};
+ghost use Rattle.hop_words.specs.declared.place.Place.TheVariants.{FreeBits};
+ghost use Rattle.hop_words.specs.Sights.{look, sighted};
 ghost use Rattle.hop_words.specs.Layout.{words_for};
 ghost use Rattle.hop_words.specs.Ghost.{shape_at, HasElement, limbo_at};
 ghost use Rattle.hop_words.specs.Rule.{link_to};
-ghost use Rattle.hop_words.specs.Kinds.{Passed, giving_old, retiring};
-ghost use Rattle.hop_words.specs.Owning.{IsFreeWord, sighted, ClaimsBit, IsInHand, tail_of, key_filled, value_filled, with_key_word, with_value_word};
+ghost use Rattle.hop_words.specs.Kinds.{Passed, retiring};
+ghost use Rattle.hop_words.specs.Owning.{IsFreeWord, ClaimsBit, GivesFresh, GivesOld, IsInHand, tail_of, key_filled, value_filled, with_key_word, with_value_word};
 
 use crate::lane::Lane;
 use crate::place::Place;
@@ -33,9 +34,9 @@ impl Lane {
         requires table { self.old.table ≡ table.now.id }
         requires inside { IsFreeWord table.now.about map word }
         ensures table { self.new.table ≡ self.old.table }
-        ensures seen { self.new.known ≡ sighted self.old.known (Bits map word result) }
+        ensures seen { self.new.known ≡ sighted self.old.known (look (FreeBits map word) result) }
     {
-        self.load_by::<Brand, _>(table, Place::FreeBits { map, word }, (map, word))
+        self.load_noted::<Brand, _>(table, Place::FreeBits { map, word }, (map, word))
     }
 
     /// Takes an element if it is free, by one fetch-and, and answers the bits found.
@@ -48,7 +49,7 @@ impl Lane {
     {
         let word = element / 64;
         let mask = all_but(element);
-        self.and_by::<Brand, _>(table, Place::FreeBits { map, word }, mask, (map, element))
+        self.and_noted::<Brand, _>(table, Place::FreeBits { map, word }, mask, (map, element))
     }
 
     /// Gives back the element in hand, which nobody else has seen.
@@ -57,12 +58,11 @@ impl Lane {
         requires element { HasElement table.now.about map element }
         requires hand { IsInHand self.old.known map element }
         ensures table { self.new.table ≡ self.old.table }
-        ensures given { self.new.known
-            ≡ record self.old.known { fresh = tail_of self.old.known.fresh } }
+        ensures given { (found : ℕ) × GivesFresh self.old.known map element found self.new.known }
     {
         let word = element / 64;
         let bit = bit_of(element);
-        self.or_by::<Brand, _>(table, Place::FreeBits { map, word }, bit, map);
+        self.or_noted::<Brand, _>(table, Place::FreeBits { map, word }, bit, (map, element));
     }
 
     /// Gives back the first element of the old batch, which no running CPU can hold.
@@ -74,12 +74,11 @@ impl Lane {
         requires passed { Passed table.now.about self.old.known map element
             (tail_of (limbo_at self.old.known.limbo map).old) }
         ensures table { self.new.table ≡ self.old.table }
-        ensures given { self.new.known
-            ≡ giving_old self.old.known map (tail_of (limbo_at self.old.known.limbo map).old) }
+        ensures given { (found : ℕ) × GivesOld self.old.known map element found self.new.known }
     {
         let word = element / 64;
         let bit = bit_of(element);
-        self.or_by::<Brand, _>(table, Place::FreeBits { map, word }, bit, map);
+        self.or_noted::<Brand, _>(table, Place::FreeBits { map, word }, bit, (map, element));
     }
 
     /// Writes the next word of the key of the element in hand.

@@ -17,10 +17,11 @@ impl Lane {
     pub fn see_stamp(&mut self, table: &HopTable, map: u8, segment: u32) -> u64
         requires table { self.old.table ≡ table.now.id }
         requires inside { IsSegment table.now.about map segment }
+        requires unlocked { self.old.known.locks ≡ [] }
         ensures table { self.new.table ≡ self.old.table }
         ensures seen { StampSeen self.old.known map segment result self.new.known }
     {
-        self.load_by::<Brand, _>(table, Place::Stamp { map, segment }, (map, segment))
+        self.load_noted::<Brand, _>(table, Place::Stamp { map, segment }, (map, segment))
     }
 
     /// Any word, which others may be writing. What it was is noted with the reading.
@@ -56,6 +57,6 @@ impl Lane {
         ensures seen { StampSeenAgain table.now.about self.old.known (latest_reading self.old.known)
             key.now found result self.new.known }
     {
-        self.load_by::<Brand, _>(table, Place::Stamp { map, segment }, (key, found))
+        self.load_noted::<Brand, _>(table, Place::Stamp { map, segment }, (key, found))
     }
 }

@@ -93,6 +93,6 @@ impl Lane {
         ensures table { self.new.table ≡ self.old.table }
         ensures looked { LooksAgain self.old.known map cpu result self.new.known }
     {
-        self.load_by::<Brand, _>(table, Place::RunCount { cpu }, (map, cpu))
+        self.load_noted::<Brand, _>(table, Place::RunCount { cpu }, (map, cpu))
     }
 }

@@ -1,14 +1,15 @@
 use Rattle.std.proofs.Common.{◌≡◌, ℕ, ◌+◌, ◌*◌, ◌/◌, ◌%◌, ◌<◌, [], ◌∷◌, refl, ap, sym, subst, ◌∙◌, arith}
 use Rattle.std.specs.Int.{bit_at, trailing_zeros, w64}
 use Rattle.std.proofs.lemmas.Nat.{and_le_l}
-use Rattle.hop_words.specs.declared.known.Sight.TheVariants.{Bits}
-use Rattle.hop_arena.proofs.Claiming.{first_look, sees_on, holds_on, look_on, all_taken, lowest, fewer}
+use Rattle.hop_words.specs.declared.place.Place.TheVariants.{FreeBits}
+use Rattle.hop_words.specs.Sights.{look, bit_cleared}
+use Rattle.hop_arena.proofs.Claiming.{first_look, looks_on, holds_on, look_on, all_taken, lowest, fewer}
 use Rattle.hop_arena.proofs.arena.claim_in.Goals as goal
 
 pub loop-bits-init : goal.loop-bits-init
 loop-bits-init c = (
   c.see_bits-bits.ensures.table ∙ c.requires.table,
-  (Bits c.args.map c.args.word c.see_bits-bits.result ∷ [], c.see_bits-bits.ensures.seen, first_look c.args.map c.args.word c.see_bits-bits.result),
+  (look (FreeBits c.args.map c.args.word) c.see_bits-bits.result ∷ [], (c.see_bits-bits.ensures.seen, (refl, tt)), first_look c.args.map c.args.word c.see_bits-bits.result),
 )
 
 pub returns-then-number-count-clause-claimed : goal.returns-then-number-count-clause-claimed
@@ -20,7 +21,9 @@ returns-then-number-count-clause-claimed c =
 pub returns-then-has_bit-clause-claimed : goal.returns-then-has_bit-clause-claimed
 returns-then-has_bit-clause-claimed c =
     let i = c.loop-bits.invariant.1 in
-    (Bits c.args.map ((64 * c.args.word + trailing_zeros w64 c.loop-bits.bits) / 64) c.claim_bit-found.result ∷ i.0, holds_on c.args.lane.now.known c.loop-bits.lane.known c.claim_bit-found.new.self.known i.0 (Bits c.args.map ((64 * c.args.word + trailing_zeros w64 c.loop-bits.bits) / 64) c.claim_bit-found.result) c.args.map (64 * c.args.word + trailing_zeros w64 c.loop-bits.bits) i.1 (c.claim_bit-found.ensures.claimed.0 (c.if-has_bit.ensures.set refl)), refl, subst (λ (n : ℕ). 64 * c.args.word + trailing_zeros w64 c.loop-bits.bits < n) c.requires.count c.if-number-count.false)
+    let e = 64 * c.args.word + trailing_zeros w64 c.loop-bits.bits in
+    let s = bit_cleared c.args.map e c.claim_bit-found.result in
+    (s ∷ i.0, holds_on c.args.lane.now.known c.loop-bits.lane.known c.claim_bit-found.new.self.known i.0 s c.args.map (64 * c.args.word + trailing_zeros w64 c.loop-bits.bits) i.1 (c.claim_bit-found.ensures.claimed.0 (c.if-has_bit.ensures.set refl)), refl, subst (λ (n : ℕ). 64 * c.args.word + trailing_zeros w64 c.loop-bits.bits < n) c.requires.count c.if-number-count.false)
 
 pub loop-bits-smaller : goal.loop-bits-smaller
 loop-bits-smaller c =
@@ -34,8 +37,8 @@ loop-bits-preserved c =
     let few = low.0 in (
       c.claim_bit-found.ensures.table ∙ c.loop-bits.invariant.0,
       (
-        Bits c.args.map ((64 * c.args.word + trailing_zeros w64 c.loop-bits.bits) / 64) c.claim_bit-found.result ∷ i.0,
-        sees_on c.args.lane.now.known c.loop-bits.lane.known c.claim_bit-found.new.self.known i.0 (Bits c.args.map ((64 * c.args.word + trailing_zeros w64 c.loop-bits.bits) / 64) c.claim_bit-found.result) i.1 (c.claim_bit-found.ensures.claimed.1 (c.if-has_bit.ensures.clear refl)),
+        look (FreeBits c.args.map ((64 * c.args.word + trailing_zeros w64 c.loop-bits.bits) / 64)) c.claim_bit-found.result ∷ i.0,
+        looks_on c.args.lane.now.known c.loop-bits.lane.known c.claim_bit-found.new.self.known i.0 (look (FreeBits c.args.map ((64 * c.args.word + trailing_zeros w64 c.loop-bits.bits) / 64)) c.claim_bit-found.result) refl i.1 (c.claim_bit-found.ensures.claimed.1 (c.if-has_bit.ensures.clear refl)),
         look_on i.0 c.args.map c.args.word ((64 * c.args.word + trailing_zeros w64 c.loop-bits.bits) / 64) c.loop-bits.bits c.claim_bit-found.result (grind arith) i.2,
       ),
     )

@@ -2,11 +2,12 @@ use Rattle.std.proofs.Common.{ℕ, ◌+◌, ◌-◌, ◌^◌, ◌<◌, ◌≤◌
 use Rattle.bpf_shared.specs.Shape.{elements}
 use Rattle.bpf_shared.specs.declared.events.MapAnswer.TheVariants.{Absent, Busy}
 use Rattle.hop_words.specs.Ghost.{shape_at, limbo_at}
+use Rattle.hop_words.specs.Homes.{segment_of}
+use Rattle.hop_words.specs.Sights.{lock_taken, sighted}
 use Rattle.hop_words.specs.Rule.{done_in}
 use Rattle.hop_words.specs.Kinds.{retiring}
 use Rattle.hop_words.specs.Owning.{tail_of}
 use Rattle.hop_map.specs.declared.dropping.Deletion.{Deletion}
-use Rattle.hop_map.specs.Locks.{counted_lock}
 use Rattle.hop_map.specs.Removals.{Dropped, Kept, DeleteEnds}
 use Rattle.hop_map.proofs.Wholes.{key_at_map, kept_called, dropped_called}
 use Rattle.hop_map.proofs.deleting.delete.Goals as goal
@@ -29,8 +30,9 @@ returns-in-Gone-clause-called g c =
     let key = c.args.key.now in
     let l2 = c.lock_and_delete-lane.result.0.known in
     let room : m < length l.limbo = subst (λ (i : ℕ). i < length l.limbo) c.requires.batches.0 c.requires.batches.1.room in
-    let p : Dropped a (counted_lock l) m key c.in-Gone.old l2 × (c.in-Gone.old < elements (shape_at a m)) = subst (λ (d : Deletion). DeleteEnds a (counted_lock l) m key d l2) c.in-Gone.is c.lock_and_delete-lane.ensures.ends in
-    dropped_called a l m key c.in-Gone.old l2 c.requires.rests room p.0 c.retire.new.lane.known
+    let k = lock_taken m (segment_of a.seed (shape_at a m) key) c.lock_and_delete-lane.ensures.ends.0 in
+    let p : Dropped a (sighted l k) m key c.in-Gone.old l2 × (c.in-Gone.old < elements (shape_at a m)) = subst (λ (d : Deletion). DeleteEnds a (sighted l k) m key d l2) c.in-Gone.is c.lock_and_delete-lane.ensures.ends.1 in
+    dropped_called a l k m key c.in-Gone.old l2 c.requires.rests room p.0 c.retire.new.lane.known
     (c.retire.ensures.retired ∙ (λ j. retiring l2 (c.new-used.ensures.map j) (c.new-used.ensures.number j) (tail_of (limbo_at l2.limbo (c.new-used.ensures.map j)).used)))
 
 pub returns-in-Missing-clause-called : goal.returns-in-Missing-clause-called
@@ -40,8 +42,9 @@ returns-in-Missing-clause-called g c =
     let m = c.args.map in
     let key = c.args.key.now in
     let l2 = c.lock_and_delete-lane.result.0.known in
-    let p : Kept a (counted_lock l) m key Absent l2 = subst (λ (d : Deletion). DeleteEnds a (counted_lock l) m key d l2) c.in-Missing.is c.lock_and_delete-lane.ensures.ends in
-    kept_called a l m key Absent l2 c.requires.rests p
+    let k = lock_taken m (segment_of a.seed (shape_at a m) key) c.lock_and_delete-lane.ensures.ends.0 in
+    let p : Kept a (sighted l k) m key Absent l2 = subst (λ (d : Deletion). DeleteEnds a (sighted l k) m key d l2) c.in-Missing.is c.lock_and_delete-lane.ensures.ends.1 in
+    kept_called a l k m key Absent l2 c.requires.rests p
 
 pub returns-in-Worn-clause-called : goal.returns-in-Worn-clause-called
 returns-in-Worn-clause-called g c =
@@ -50,5 +53,6 @@ returns-in-Worn-clause-called g c =
     let m = c.args.map in
     let key = c.args.key.now in
     let l2 = c.lock_and_delete-lane.result.0.known in
-    let p : Kept a (counted_lock l) m key Busy l2 × (2 ^ 56 - 1 ≤ a.version + done_in m l2.seen) = subst (λ (d : Deletion). DeleteEnds a (counted_lock l) m key d l2) c.in-Worn.is c.lock_and_delete-lane.ensures.ends in
-    kept_called a l m key Busy l2 c.requires.rests p.0
+    let k = lock_taken m (segment_of a.seed (shape_at a m) key) c.lock_and_delete-lane.ensures.ends.0 in
+    let p : Kept a (sighted l k) m key Busy l2 × (2 ^ 56 - 1 ≤ a.version + done_in m l2.seen) = subst (λ (d : Deletion). DeleteEnds a (sighted l k) m key d l2) c.in-Worn.is c.lock_and_delete-lane.ensures.ends.1 in
+    kept_called a l k m key Busy l2 c.requires.rests p.0

@@ -1,5 +1,6 @@
 use Rattle.std.proofs.Common.{ℕ, sym, subst, ◌∙◌}
 use Rattle.hop_map.specs.Calls.{LockShows}
+use Rattle.hop_map.specs.Locks.{with_lock}
 use Rattle.hop_map.specs.Removals.{NamesKey, DeleteEnds}
 use Rattle.hop_map.proofs.Locking.{of_words, of_parts, empty_fits, locked_contents, locked_names, delete_before}
 use Rattle.hop_map.proofs.deleting.lock_and_delete.Goals as goal
@@ -20,6 +21,9 @@ delete_key-requires-clause-names g c =
 
 pub returns-clause-ends : goal.returns-clause-ends
 returns-clause-ends g c =
-    let made = c.new-words.ensures in
-    delete_before c.args.table.now.about c.args.lane.known c.args.map c.homing-at.result.segment c.lock_when_free-stamp.result c.args.key.now c.lock_when_free-stamp.new.lane.known c.lock_when_free-stamp.ensures.locked c.requires.idle c.delete_key.result.1 c.delete_key.result.0.known
-    (of_parts c.new-words.result _ _ _ _ made.about made.known made.map made.segment (λ a l m s. DeleteEnds a l m c.args.key.now c.delete_key.result.1 c.delete_key.result.0.known) c.delete_key.ensures.ends)
+    let made = c.new-words.ensures in (
+      c.lock_when_free-stamp.result,
+      subst (λ (s : ℕ). DeleteEnds c.args.table.now.about (with_lock c.args.lane.known c.args.map s c.lock_when_free-stamp.result) c.args.map c.args.key.now c.delete_key.result.1 c.delete_key.result.0.known) c.homing-at.ensures.segment
+          (delete_before c.args.table.now.about c.args.lane.known c.args.map c.homing-at.result.segment c.lock_when_free-stamp.result c.args.key.now c.lock_when_free-stamp.new.lane.known c.lock_when_free-stamp.ensures.locked c.requires.idle c.delete_key.result.1 c.delete_key.result.0.known
+          (of_parts c.new-words.result _ _ _ _ made.about made.known made.map made.segment (λ a l m s. DeleteEnds a l m c.args.key.now c.delete_key.result.1 c.delete_key.result.0.known) c.delete_key.ensures.ends)),
+    )

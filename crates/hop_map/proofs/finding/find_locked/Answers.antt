@@ -6,7 +6,7 @@ use Rattle.hop_words.specs.Locking.{lock_of}
 use Rattle.hop_map.specs.Calls.{LockShows}
 use Rattle.hop_map.specs.Finding.{Looked}
 use Rattle.hop_map.proofs.Locking.{of_words, of_parts, empty_fits, locked_contents}
-use Rattle.hop_map.proofs.Looking.{looked}
+use Rattle.hop_map.proofs.Looking.{looked, takes_lock}
 use Rattle.hop_map.proofs.finding.find_locked.Goals as goal
 
 pub new-words-requires : goal.new-words-requires
@@ -23,3 +23,10 @@ returns-clause-found g c =
     subst (λ (o : Option Span). Looked c.args.table.now.about c.args.lane.known c.args.map c.args.key.now o c.find_here-lane.result.0.known) (sym c.span_of.ensures)
     (looked c.args.table.now.about c.args.lane.known c.args.map c.homing-at.result.segment c.lock_when_free-stamp.result c.args.key.now c.lock_when_free-stamp.new.lane.known c.lock_when_free-stamp.ensures.locked c.requires.asks c.find_here-lane.result.1 c.find_here-lane.result.0.known
     (of_parts c.new-words.result _ _ _ _ made.about made.known made.map made.segment (λ a l m s. LookedUp a l (lock_of l) c.args.key.now c.find_here-lane.result.1 c.find_here-lane.result.0.known) c.find_here-lane.ensures.found))
+
+pub returns-clause-locked : goal.returns-clause-locked
+returns-clause-locked g c =
+    let made = c.new-words.ensures in
+    takes_lock c.args.table.now.about c.args.lane.known c.args.map c.homing-at.result.segment c.lock_when_free-stamp.result c.args.key.now c.lock_when_free-stamp.new.lane.known c.lock_when_free-stamp.ensures.locked c.requires.asks c.find_here-lane.result.1 c.find_here-lane.result.0.known
+    (of_parts c.new-words.result _ _ _ _ made.about made.known made.map made.segment (λ a l m s. LookedUp a l (lock_of l) c.args.key.now c.find_here-lane.result.1 c.find_here-lane.result.0.known) c.find_here-lane.ensures.found)
+    (sym c.homing-at.ensures.segment)

@@ -11,7 +11,8 @@ use Rattle.hop_words.specs.Kinds.{retiring}
 use Rattle.hop_words.specs.Owning.{tail_of, IsInHand}
 use Rattle.hop_map.specs.declared.ending.Ending.{Ending}
 use Rattle.hop_map.specs.Overs.{Over}
-use Rattle.hop_map.specs.Locks.{Readies, counted_lock}
+use Rattle.hop_words.specs.Sights.{lock_taken, sighted}
+use Rattle.hop_map.specs.Locks.{Readies}
 use Rattle.hop_map.specs.Updates.{Refusal, UpdateEnds}
 use Rattle.hop_map.proofs.Keys.{are_bytes}
 use Rattle.hop_map.proofs.Wholes.{pair_at}
@@ -64,8 +65,9 @@ give_back-requires-clause-hand g c =
     let key = c.args.key.now in
     let bytes = c.args.value.now in
     let room : m < length l.limbo = subst (λ (i : ℕ). i < length l.limbo) c.requires.batches.0 c.requires.batches.1.room in
-    let p : Refusal a (counted_lock c.fill.new.lane.known) m key bytes c.args.flags c.in-Refused.answer c.lock_and_put-lane.result.0.known × (c.in-Refused.answer ≢ NoMemory) = subst (λ (q : Ending). UpdateEnds a (counted_lock c.fill.new.lane.known) m key bytes c.args.flags q c.lock_and_put-lane.result.0.known) c.in-Refused.is c.lock_and_put-lane.ensures.ends in
-    subst (λ (i : ℕ). IsInHand c.lock_and_put-lane.result.0.known i e) (sym c.requires.map) (refused_hand a l m e c.requires.new key bytes c.fill.new.lane.known c.fill.ensures.filled c.requires.used room c.args.flags c.lock_and_put-lane.result.0.known c.in-Refused.answer p.0)
+    let k = lock_taken m (segment_of a.seed (shape_at a m) key) c.lock_and_put-lane.ensures.ends.0 in
+    let p : Refusal a (sighted c.fill.new.lane.known k) m key bytes c.args.flags c.in-Refused.answer c.lock_and_put-lane.result.0.known × (c.in-Refused.answer ≢ NoMemory) = subst (λ (q : Ending). UpdateEnds a (sighted c.fill.new.lane.known k) m key bytes c.args.flags q c.lock_and_put-lane.result.0.known) c.in-Refused.is c.lock_and_put-lane.ensures.ends.1 in
+    subst (λ (i : ℕ). IsInHand c.lock_and_put-lane.result.0.known i e) (sym c.requires.map) (refused_hand a l m e c.requires.new key bytes c.fill.new.lane.known c.fill.ensures.filled c.requires.used room c.args.flags k c.lock_and_put-lane.result.0.known c.in-Refused.answer p.0)
 
 pub returns-in-Replaced-clause-called : goal.returns-in-Replaced-clause-called
 returns-in-Replaced-clause-called g c =
@@ -76,9 +78,10 @@ returns-in-Replaced-clause-called g c =
     let key = c.args.key.now in
     let bytes = c.args.value.now in
     let room : m < length l.limbo = subst (λ (i : ℕ). i < length l.limbo) c.requires.batches.0 c.requires.batches.1.room in
-    let p : Over a (counted_lock c.fill.new.lane.known) m key bytes c.args.flags c.in-Replaced.old c.lock_and_put-lane.result.0.known = subst (λ (q : Ending). UpdateEnds a (counted_lock c.fill.new.lane.known) m key bytes c.args.flags q c.lock_and_put-lane.result.0.known) c.in-Replaced.is c.lock_and_put-lane.ensures.ends in
+    let k = lock_taken m (segment_of a.seed (shape_at a m) key) c.lock_and_put-lane.ensures.ends.0 in
+    let p : Over a (sighted c.fill.new.lane.known k) m key bytes c.args.flags c.in-Replaced.old c.lock_and_put-lane.result.0.known = subst (λ (q : Ending). UpdateEnds a (sighted c.fill.new.lane.known k) m key bytes c.args.flags q c.lock_and_put-lane.result.0.known) c.in-Replaced.is c.lock_and_put-lane.ensures.ends.1 in
     let l2 = c.lock_and_put-lane.result.0.known in
-    over_called a l m e c.requires.new key bytes c.fill.new.lane.known c.fill.ensures.filled c.requires.used room c.args.flags c.lock_and_put-lane.result.0.known c.in-Replaced.old p c.retire.new.lane.known
+    over_called a l m e c.requires.new key bytes c.fill.new.lane.known c.fill.ensures.filled c.requires.used room c.args.flags k c.lock_and_put-lane.result.0.known c.in-Replaced.old p c.retire.new.lane.known
     (c.retire.ensures.retired ∙ (λ j. retiring l2 (c.new-used.ensures.map j) (c.new-used.ensures.number j) (tail_of (limbo_at l2.limbo (c.new-used.ensures.map j)).used)))
 
 pub returns-in-Refused-clause-called : goal.returns-in-Refused-clause-called
@@ -90,8 +93,9 @@ returns-in-Refused-clause-called g c =
     let key = c.args.key.now in
     let bytes = c.args.value.now in
     let room : m < length l.limbo = subst (λ (i : ℕ). i < length l.limbo) c.requires.batches.0 c.requires.batches.1.room in
-    let p : Refusal a (counted_lock c.fill.new.lane.known) m key bytes c.args.flags c.in-Refused.answer c.lock_and_put-lane.result.0.known × (c.in-Refused.answer ≢ NoMemory) = subst (λ (q : Ending). UpdateEnds a (counted_lock c.fill.new.lane.known) m key bytes c.args.flags q c.lock_and_put-lane.result.0.known) c.in-Refused.is c.lock_and_put-lane.ensures.ends in
-    refused_called a l m e c.requires.new key bytes c.fill.new.lane.known c.fill.ensures.filled c.requires.used room c.args.flags c.lock_and_put-lane.result.0.known c.in-Refused.answer p.0 c.give_back.new.lane.known c.give_back.ensures.given
+    let k = lock_taken m (segment_of a.seed (shape_at a m) key) c.lock_and_put-lane.ensures.ends.0 in
+    let p : Refusal a (sighted c.fill.new.lane.known k) m key bytes c.args.flags c.in-Refused.answer c.lock_and_put-lane.result.0.known × (c.in-Refused.answer ≢ NoMemory) = subst (λ (q : Ending). UpdateEnds a (sighted c.fill.new.lane.known k) m key bytes c.args.flags q c.lock_and_put-lane.result.0.known) c.in-Refused.is c.lock_and_put-lane.ensures.ends.1 in
+    refused_called a l m e c.requires.new key bytes c.fill.new.lane.known c.fill.ensures.filled c.requires.used room c.args.flags k c.lock_and_put-lane.result.0.known c.in-Refused.answer p.0 c.give_back.new.lane.known _ c.give_back.ensures.given.1
 
 pub returns-in-Refused-clause-worn : goal.returns-in-Refused-clause-worn
 returns-in-Refused-clause-worn g c =
@@ -99,8 +103,9 @@ returns-in-Refused-clause-worn g c =
     let m = c.args.map in
     let key = c.args.key.now in
     let bytes = c.args.value.now in
-    let p : Refusal a (counted_lock c.fill.new.lane.known) m key bytes c.args.flags c.in-Refused.answer c.lock_and_put-lane.result.0.known × (c.in-Refused.answer ≢ NoMemory) = subst (λ (q : Ending). UpdateEnds a (counted_lock c.fill.new.lane.known) m key bytes c.args.flags q c.lock_and_put-lane.result.0.known) c.in-Refused.is c.lock_and_put-lane.ensures.ends in
-    λ is. subst (λ (es : List Entry). 2 ^ 56 - 1 ≤ a.version + done_in m es) (sym (ap (λ (q : Known). q.seen) c.give_back.ensures.given)) (p.0.worn is)
+    let k = lock_taken m (segment_of a.seed (shape_at a m) key) c.lock_and_put-lane.ensures.ends.0 in
+    let p : Refusal a (sighted c.fill.new.lane.known k) m key bytes c.args.flags c.in-Refused.answer c.lock_and_put-lane.result.0.known × (c.in-Refused.answer ≢ NoMemory) = subst (λ (q : Ending). UpdateEnds a (sighted c.fill.new.lane.known k) m key bytes c.args.flags q c.lock_and_put-lane.result.0.known) c.in-Refused.is c.lock_and_put-lane.ensures.ends.1 in
+    λ is. subst (λ (es : List Entry). 2 ^ 56 - 1 ≤ a.version + done_in m es) (sym (ap (λ (q : Known). q.seen) c.give_back.ensures.given.1)) (p.0.worn is)
 
 pub returns-in-Refused-clause-served : goal.returns-in-Refused-clause-served
 returns-in-Refused-clause-served g c =
@@ -108,7 +113,8 @@ returns-in-Refused-clause-served g c =
     let m = c.args.map in
     let key = c.args.key.now in
     let bytes = c.args.value.now in
-    let p : Refusal a (counted_lock c.fill.new.lane.known) m key bytes c.args.flags c.in-Refused.answer c.lock_and_put-lane.result.0.known × (c.in-Refused.answer ≢ NoMemory) = subst (λ (q : Ending). UpdateEnds a (counted_lock c.fill.new.lane.known) m key bytes c.args.flags q c.lock_and_put-lane.result.0.known) c.in-Refused.is c.lock_and_put-lane.ensures.ends in
+    let k = lock_taken m (segment_of a.seed (shape_at a m) key) c.lock_and_put-lane.ensures.ends.0 in
+    let p : Refusal a (sighted c.fill.new.lane.known k) m key bytes c.args.flags c.in-Refused.answer c.lock_and_put-lane.result.0.known × (c.in-Refused.answer ≢ NoMemory) = subst (λ (q : Ending). UpdateEnds a (sighted c.fill.new.lane.known k) m key bytes c.args.flags q c.lock_and_put-lane.result.0.known) c.in-Refused.is c.lock_and_put-lane.ensures.ends.1 in
     p.1
 
 pub returns-in-Added-clause-worn : goal.returns-in-Added-clause-worn

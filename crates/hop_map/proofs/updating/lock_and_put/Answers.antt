@@ -1,6 +1,6 @@
 use Rattle.std.proofs.Common.{ℕ, sym, subst, ◌∙◌}
 use Rattle.hop_map.specs.Calls.{LockShows}
-use Rattle.hop_map.specs.Locks.{Readies}
+use Rattle.hop_map.specs.Locks.{Readies, with_lock}
 use Rattle.hop_map.specs.Updates.{Offers, UpdateEnds}
 use Rattle.hop_map.proofs.Locking.{of_words, of_parts, locked_ready, locked_contents, locked_offers, ends_before}
 use Rattle.hop_map.proofs.updating.lock_and_put.Goals as goal
@@ -31,6 +31,9 @@ put-requires-clause-offers g c =
 
 pub returns-clause-ends : goal.returns-clause-ends
 returns-clause-ends g c =
-    let made = c.new-words.ensures in
-    ends_before c.args.table.now.about c.args.lane.known c.args.map c.homing-at.result.segment c.lock_when_free-stamp.result c.args.key.now c.args.value.now c.args.flags c.lock_when_free-stamp.new.lane.known c.lock_when_free-stamp.ensures.locked c.requires.readies.idle c.put.result.1 c.put.result.0.known
-    (of_parts c.new-words.result _ _ _ _ made.about made.known made.map made.segment (λ a l m s. UpdateEnds a l m c.args.key.now c.args.value.now c.args.flags c.put.result.1 c.put.result.0.known) c.put.ensures.ends)
+    let made = c.new-words.ensures in (
+      c.lock_when_free-stamp.result,
+      subst (λ (s : ℕ). UpdateEnds c.args.table.now.about (with_lock c.args.lane.known c.args.map s c.lock_when_free-stamp.result) c.args.map c.args.key.now c.args.value.now c.args.flags c.put.result.1 c.put.result.0.known) c.homing-at.ensures.segment
+          (ends_before c.args.table.now.about c.args.lane.known c.args.map c.homing-at.result.segment c.lock_when_free-stamp.result c.args.key.now c.args.value.now c.args.flags c.lock_when_free-stamp.new.lane.known c.lock_when_free-stamp.ensures.locked c.requires.readies.idle c.put.result.1 c.put.result.0.known
+          (of_parts c.new-words.result _ _ _ _ made.about made.known made.map made.segment (λ a l m s. UpdateEnds a l m c.args.key.now c.args.value.now c.args.flags c.put.result.1 c.put.result.0.known) c.put.ensures.ends)),
+    )

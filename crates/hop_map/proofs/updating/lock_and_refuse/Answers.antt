@@ -1,5 +1,6 @@
 use Rattle.std.proofs.Common.{ℕ, sym, subst, ◌∙◌}
 use Rattle.hop_map.specs.Calls.{LockShows}
+use Rattle.hop_map.specs.Locks.{with_lock}
 use Rattle.hop_map.specs.Updates.{Wants, Refusal}
 use Rattle.hop_map.proofs.Locking.{of_words, of_parts, empty_fits, locked_contents, locked_wants, refusal_before}
 use Rattle.hop_map.proofs.updating.lock_and_refuse.Goals as goal
@@ -20,6 +21,9 @@ refuse-requires-clause-wants g c =
 
 pub returns-clause-refused : goal.returns-clause-refused
 returns-clause-refused g c =
-    let made = c.new-words.ensures in
-    refusal_before c.args.table.now.about c.args.lane.known c.args.map c.homing-at.result.segment c.lock_when_free-stamp.result c.args.key.now c.args.value.now c.args.flags c.lock_when_free-stamp.new.lane.known c.lock_when_free-stamp.ensures.locked c.requires.idle c.refuse.result.1 c.refuse.result.0.known
-    (of_parts c.new-words.result _ _ _ _ made.about made.known made.map made.segment (λ a l m s. Refusal a l m c.args.key.now c.args.value.now c.args.flags c.refuse.result.1 c.refuse.result.0.known) c.refuse.ensures.refused)
+    let made = c.new-words.ensures in (
+      c.lock_when_free-stamp.result,
+      subst (λ (s : ℕ). Refusal c.args.table.now.about (with_lock c.args.lane.known c.args.map s c.lock_when_free-stamp.result) c.args.map c.args.key.now c.args.value.now c.args.flags c.refuse.result.1 c.refuse.result.0.known) c.homing-at.ensures.segment
+          (refusal_before c.args.table.now.about c.args.lane.known c.args.map c.homing-at.result.segment c.lock_when_free-stamp.result c.args.key.now c.args.value.now c.args.flags c.lock_when_free-stamp.new.lane.known c.lock_when_free-stamp.ensures.locked c.requires.idle c.refuse.result.1 c.refuse.result.0.known
+          (of_parts c.new-words.result _ _ _ _ made.about made.known made.map made.segment (λ a l m s. Refusal a l m c.args.key.now c.args.value.now c.args.flags c.refuse.result.1 c.refuse.result.0.known) c.refuse.ensures.refused)),
+    )

@@ -1,6 +1,11 @@
-use Rattle.std.proofs.Common.{ℕ, ◌<◌, length, refl, subst, ◌∙◌, arith}
+use Rattle.std.proofs.Common.{ℕ, ◌<◌, length, refl, ap, subst, ◌∙◌, arith}
+use Rattle.hop_words.specs.declared.known.Known.{Known}
+use Rattle.hop_words.specs.Homes.{segment_of}
+use Rattle.hop_words.specs.Ghost.{shape_at}
+use Rattle.hop_words.specs.Sights.{lock_taken}
+use Rattle.hop_map.specs.Whole.{SearchesInVain}
 use Rattle.hop_map.proofs.Keys.{are_bytes}
-use Rattle.hop_map.proofs.Wholes.{pair_at, kept_runs, lacks_of}
+use Rattle.hop_map.proofs.Wholes.{pair_at, kept_runs, lacks_of, searched_on, lock_leaves}
 use Rattle.hop_map.proofs.updating.update.Goals as goal
 
 pub lock_and_refuse-requires-clause-wants : goal.lock_and_refuse-requires-clause-wants
@@ -23,3 +28,17 @@ pub returns-in-Some-clause-lacks : goal.returns-in-Some-clause-lacks
 returns-in-Some-clause-lacks g c =
     lacks_of c.args.table.now.about c.args.lane.known c.args.map c.fill_and_put.result.1 c.fill_and_put.result.0.known c.fill_and_put.ensures.worn
     (λ is. absurd (c.fill_and_put.ensures.served is))
+
+pub returns-in-None-clause-lacks : goal.returns-in-None-clause-lacks
+returns-in-None-clause-lacks g c =
+    let a = c.args.table.now.about in
+    let l = c.args.lane.known in
+    let m = c.args.map in
+    let l1 = c.claim_free.new.lane.known in
+    let l2 = c.lock_and_refuse.result.0.known in
+    let n = c.lock_and_refuse.ensures.refused.0 in
+    let p = c.lock_and_refuse.ensures.refused.1 in
+    let k = lock_taken m (segment_of a.seed (shape_at a m) c.args.key.now) n in
+    lacks_of a l m c.lock_and_refuse.result.1 l2 p.worn
+    (λ _. searched_on a l m l1 l2 k (subst (λ (i : ℕ). SearchesInVain a l i l1) c.requires.arena.0 c.in-None.ensures.claimed.1) (lock_leaves m m (segment_of a.seed (shape_at a m) c.args.key.now) n)
+    (ap (λ (q : Known). q.tally) p.after) (ap (λ (q : Known). q.limbo) p.after))

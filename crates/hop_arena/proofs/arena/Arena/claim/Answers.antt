@@ -1,7 +1,7 @@
 use Rattle.std.proofs.Common.{ℕ, ◌+◌, ◌++◌, sym, subst, ◌∙◌}
 use Rattle.hop_arena.specs.declared.arena.Arena.{Arena}
 use Rattle.hop_arena.specs.Claiming.{Claims, TakesNothing, AreSeenTaken}
-use Rattle.hop_arena.proofs.Claiming.{sees_then, holds_then, words_on, words_kept}
+use Rattle.hop_arena.proofs.Claiming.{looks_then, holds_then, words_on, words_kept}
 use Rattle.hop_arena.proofs.arena.Arena.claim.Goals as goal
 
 pub returns-in-Some-clause-claimed : goal.returns-in-Some-clause-claimed
@@ -20,7 +20,7 @@ after-preserved c =
       i.1,
       (
         t.0 ++ i.2.0,
-        sees_then c.args.lane.now.known c.after.lane.known c.claim_in.new.lane.known i.2.0 t.0 i.2.1 t.1,
+        looks_then c.args.lane.now.known c.after.lane.known c.claim_in.new.lane.known i.2.0 t.0 i.2.1 t.1,
         words_on t.0 i.2.0 c.args.self.now.map c.args.self.now.elements c.args.self.now.start c.after.word i.2.2 now,
       ),
     )
@@ -41,7 +41,7 @@ before-2-preserved c =
       i.1,
       (
         t.0 ++ i.2.0,
-        sees_then c.args.lane.now.known c.before-2.lane.known c.claim_in-in-before-2.new.lane.known i.2.0 t.0 i.2.1 t.1,
+        looks_then c.args.lane.now.known c.before-2.lane.known c.claim_in-in-before-2.new.lane.known i.2.0 t.0 i.2.1 t.1,
         words_kept t.0 i.2.0 c.args.self.now.map c.args.self.now.elements c.args.self.now.start _ i.2.2,
         words_on t.0 i.2.0 c.args.self.now.map c.args.self.now.elements 0 c.before-2.word i.2.3 now,
       ),

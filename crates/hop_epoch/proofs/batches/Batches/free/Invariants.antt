@@ -9,7 +9,6 @@ invariant-loop-self l =
     × (l.self.map ≡ l.fn.self.map) × (l.self.young ≡ l.fn.self.young) × (l.self.noted ≡ l.fn.self.noted)
     × Tracks l.fn.table.about l.lane.known l.fn.self.map l.self.young l.self.aged l.self.noted
     × Keeps l.fn.self.map l.fn.lane.known l.lane.known
-    × (l.lane.known.tally ≡ l.fn.lane.known.tally)
     × ((limbo_at l.lane.known.limbo l.fn.self.map).young ≡ (limbo_at l.fn.lane.known.limbo l.fn.self.map).young)
     × ((limbo_at l.lane.known.limbo l.fn.self.map).noted ≡ (limbo_at l.fn.lane.known.limbo l.fn.self.map).noted)
 

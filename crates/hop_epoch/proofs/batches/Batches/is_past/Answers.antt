@@ -1,7 +1,8 @@
 use Rattle.std.proofs.Common.{◌≡◌, ℕ, ◌+◌, ◌%◌, ◌<◌, List, length, slice_index, set, length-set, ap, sym, subst, ◌∙◌, arith}
 use Rattle.hop_words.specs.declared.known.About.{About}
 use Rattle.hop_words.specs.declared.known.Known.{Known}
-use Rattle.hop_words.specs.declared.known.Sight.TheVariants.{Runs}
+use Rattle.hop_words.specs.declared.place.Place.TheVariants.{RunCount}
+use Rattle.hop_words.specs.Sights.{look}
 use Rattle.hop_words.specs.Inside.{Standing}
 use Rattle.hop_words.specs.Ghost.{limbo_at}
 use Rattle.hop_words.specs.Owning.{LooksAgain}
@@ -17,7 +18,7 @@ returns-then-found-noted-clause-looks c =
     let looked = subst (λ (n : ℕ). LooksAgain c.loop-cpu.lane.known n c.loop-cpu.cpu c.see_counter_again-found.result c.see_counter_again-found.new.self.known) i.1 c.see_counter_again-found.ensures.looked in
     let cpus = c.cpus-cpu-end.ensures.cpus ∙ ap (λ (x : About). x.shape.cpus) c.about.ensures in
     let few : c.loop-cpu.cpu < c.args.table.now.about.shape.cpus = (let t = c.loop-cpu-test.true in omega arith) in
-    looks_same c.args.self.now.map c.args.lane.now.known c.loop-cpu.lane.known c.see_counter_again-found.new.self.known (Runs c.loop-cpu.cpu c.see_counter_again-found.result) i.5
+    looks_same c.args.self.now.map c.args.lane.now.known c.loop-cpu.lane.known c.see_counter_again-found.new.self.known (look (RunCount c.loop-cpu.cpu) c.see_counter_again-found.result) i.5
     (looked.0 (c.if-found-noted.true ∙ (ap (slice_index c.loop-cpu.self.noted) c.from.ensures ∙ sym (i.6.1 c.loop-cpu.cpu few))))
 
 pub loop-cpu-preserved : goal.loop-cpu-preserved
@@ -29,7 +30,7 @@ loop-cpu-preserved c = elim c.if-noted-eq1.branch [
       let k = c.loop-cpu.lane.known in
       let new = w.see_counter_again-found.new.self.known in
       let d = c.loop-cpu.cpu in
-      let s = Runs d w.see_counter_again-found.result in
+      let s = look (RunCount d) w.see_counter_again-found.result in
       let cpus = c.cpus-cpu-end.ensures.cpus ∙ ap (λ (x : About). x.shape.cpus) c.about.ensures in
       let few : d < a.shape.cpus = (let t = c.loop-cpu-test.true in omega arith) in
       let looked = subst (λ (n : ℕ). LooksAgain k n d w.see_counter_again-found.result new) i.1 w.see_counter_again-found.ensures.looked in

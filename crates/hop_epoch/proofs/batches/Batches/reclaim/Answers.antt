@@ -1,8 +1,7 @@
-use Rattle.std.proofs.Common.{◌≡◌, inr, ℕ, List, [], ◌++◌, ap, sym, subst, ◌∙◌}
+use Rattle.std.proofs.Common.{◌≡◌, inr, ℕ, List, [], ◌++◌, append_assoc, ap, sym, subst, ◌∙◌}
 use Rattle.hop_words.specs.declared.known.Known.{Known}
 use Rattle.hop_words.specs.declared.known.Sight.{Sight}
 use Rattle.hop_words.specs.Inside.{Standing}
-use Rattle.hop_words.specs.declared.known.Tally.{Tally}
 use Rattle.hop_epoch.specs.declared.batches.Batches.{Batches}
 use Rattle.hop_epoch.specs.Batch.{Keeps, SeesRunning}
 use Rattle.hop_epoch.proofs.Batching.{running_after, keeps_itself, keeps_then}
@@ -35,18 +34,18 @@ looked_again m l k aged looked n o still same ages looks =
 pub returns-else-is_past-clause-blocked : goal.returns-else-is_past-clause-blocked
 returns-else-is_past-clause-blocked c =
     let l = c.args.lane.now.known in
-    let first : (more : List Sight) × (c.if-is_some.lane.known.tally.sights ≡ more ++ l.tally.sights) = elim c.if-is_some.branch [
+    let first : (more : List Sight) × (c.if-is_some.lane.known.tally ≡ more ++ l.tally) = elim c.if-is_some.branch [
       | then-is_some+else-not-is_past w ↦ (
-        w.is_past.ensures.looks.more,
-        ap (λ (x : Standing). x.known.tally.sights) w.lane-is ∙ (ap (λ (t : Tally). t.sights) w.free.ensures.sights ∙ w.is_past.ensures.looks.sights),
+        w.free.ensures.keeps.sights.0 ++ w.is_past.ensures.looks.more,
+        ap (λ (x : Standing). x.known.tally) w.lane-is ∙ (w.free.ensures.keeps.sights.1 ∙ (ap (λ (z : List Sight). w.free.ensures.keeps.sights.0 ++ z) w.is_past.ensures.looks.sights ∙ sym (append_assoc w.free.ensures.keeps.sights.0 w.is_past.ensures.looks.more l.tally))),
       )
-      | else-is_some w ↦ ([], ap (λ (x : Standing). x.known.tally.sights) w.lane-is)
+      | else-is_some w ↦ ([], ap (λ (x : Standing). x.known.tally) w.lane-is)
     ] in
     let map : c.if-is_some.self.map ≡ c.args.self.now.map = elim c.if-is_some.branch [
       | then-is_some+else-not-is_past w ↦ ap (λ (x : Batches). x.map) w.self-is ∙ (w.free.ensures.same.0 ∙ w.is_past.ensures.same.0)
       | else-is_some w ↦ ap (λ (x : Batches). x.map) w.self-is
     ] in
-    inr (running_after c.args.self.now.map l c.age.new.lane.known c.is_past-then-is_some-2.new.lane.known first.0 (ap (λ (t : Tally). t.sights) c.age.ensures.sights ∙ first.1)
+    inr (running_after c.args.self.now.map l c.age.new.lane.known c.is_past-then-is_some-2.new.lane.known first.0 (c.age.ensures.sights ∙ first.1)
     (subst (λ (n : ℕ). SeesRunning n c.age.new.lane.known c.is_past-then-is_some-2.new.lane.known) (c.age.ensures.same.0 ∙ map) (c.is_past-then-is_some-2.ensures.blocked c.if-is_past.false)))
 
 pub returns-else-is_past-clause-keeps : goal.returns-else-is_past-clause-keeps
@@ -68,3 +67,11 @@ returns-then-is_past-clause-keeps c =
     let looked : Keeps m l c.is_past-then-is_some-2.new.lane.known = looked_again _ _ _ _ _ _ _ still c.age.ensures.same.0 c.age.ensures.keeps c.is_past-then-is_some-2.ensures.looks.keeps in
     keeps_then m l c.is_past-then-is_some-2.new.lane.known c.free-then-is_past.new.lane.known looked
     (subst (λ (n : ℕ). Keeps n c.is_past-then-is_some-2.new.lane.known c.free-then-is_past.new.lane.known) (c.is_past-then-is_some-2.ensures.same.0 ∙ (c.age.ensures.same.0 ∙ still.map)) c.free-then-is_past.ensures.keeps)
+
+pub returns-else-is_some-2-clause-keeps : goal.returns-else-is_some-2-clause-keeps
+returns-else-is_some-2-clause-keeps c =
+    let still : Still c.args.self.now.map c.args.lane.now.known c.if-is_some.lane.known c.if-is_some.self.map = elim c.if-is_some.branch [
+      | then-is_some+else-not-is_past w ↦ still_freed _ _ _ _ _ _ _ _ w.lane-is w.self-is w.free.ensures.same.0 w.is_past.ensures.same.0 w.is_past.ensures.looks.keeps w.free.ensures.keeps
+      | else-is_some w ↦ still_same _ _ _ _ w.lane-is w.self-is
+    ] in
+    still.keeps

@@ -1,7 +1,7 @@
 use Rattle.std.proofs.Common.{ℕ, ◌<◌, ap, sym, subst, ◌∙◌}
 use Rattle.bpf_shared.specs.Shape.{IsShape}
 use Rattle.hop_words.specs.declared.known.About.{About}
-use Rattle.hop_words.specs.Inside.{Shown, Standing}
+use Rattle.hop_words.specs.Inside.{Shown}
 use Rattle.hop_words.specs.Dealing.{Dealing}
 use Rattle.hop_words.specs.Seats.{Sat}
 use Rattle.hop_words.proofs.Gathers.{gathers}
@@ -13,10 +13,10 @@ join_seat-requires c =
     let t = c.table.inside.table.shared in
     let id = sym (ap (λ (x : Shown). x.id) c.table.view_is) in
     let s = c.self.inside.seat in
-    let l = c.lane.inside.seat in (
+    let l = c.into_seat-seat.result in (
       ap (λ (q : Dealing). q.table) c.self.view_is ∙ (c.requires.table ∙ id),
-      ap (λ (q : Standing). q.table) c.lane.view_is ∙ (c.requires.lane ∙ id),
-      ap (λ (m : Sat). m.1) c.lane.invariant.0,
+      c.into_seat-seat.ensures.table ∙ (c.requires.lane ∙ id),
+      ap (λ (m : Sat). m.1) c.into_seat-seat.ensures.known,
       subst (λ (n : ℕ). 0 < n) (sym c.table.invariant.0) (some_words t.key.shape (subst (λ (x : About). IsShape x.shape) (c.about.ensures ∙ sym (ap (λ (x : Shown). x.about) c.table.view_is)) c.cpus-cpus.ensures.in_range)),
       gathers t.key s.id l.id s.me.0 l.me.0,
     )

@@ -1,6 +1,5 @@
-use Rattle.std.specs.Prelude.{◌≡◌}
-use Rattle.hop_words.specs.Owning.{tail_of}
+use Rattle.hop_words.specs.Owning.{GivesFresh}
 use Rattle.hop_words.proofs.lane.Lane.give_bit.Given as goal
 
-abbrev pub ghosts-or_by : goal.ghosts-or_by
-ghosts-or_by a = record { told = λ n l. l ≡ record a.self.now.known { fresh = tail_of a.self.now.known.fresh } }
+abbrev pub ghosts-or_noted : goal.ghosts-or_noted
+ghosts-or_noted a = record { told = λ n l. GivesFresh a.self.now.known a._said.0 a._said.1 n l }

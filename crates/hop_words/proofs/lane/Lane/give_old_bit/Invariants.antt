@@ -1,8 +1,5 @@
-use Rattle.std.specs.Prelude.{◌≡◌}
-use Rattle.hop_words.specs.Ghost.{limbo_at}
-use Rattle.hop_words.specs.Kinds.{giving_old}
-use Rattle.hop_words.specs.Owning.{tail_of}
+use Rattle.hop_words.specs.Owning.{GivesOld}
 use Rattle.hop_words.proofs.lane.Lane.give_old_bit.Given as goal
 
-abbrev pub ghosts-or_by : goal.ghosts-or_by
-ghosts-or_by a = record { told = λ n l. l ≡ giving_old a.self.now.known a._said (tail_of (limbo_at a.self.now.known.limbo a._said).old) }
+abbrev pub ghosts-or_noted : goal.ghosts-or_noted
+ghosts-or_noted a = record { told = λ n l. GivesOld a.self.now.known a._said.0 a._said.1 n l }

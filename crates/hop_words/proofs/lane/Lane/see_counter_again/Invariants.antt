@@ -1,5 +1,5 @@
 use Rattle.hop_words.specs.Owning.{LooksAgain}
 use Rattle.hop_words.proofs.lane.Lane.see_counter_again.Given as goal
 
-abbrev pub ghosts-load_by : goal.ghosts-load_by
-ghosts-load_by a = record { told = λ n l. LooksAgain a.self.now.known a._said.0 a._said.1 n l }
+abbrev pub ghosts-load_noted : goal.ghosts-load_noted
+ghosts-load_noted a = record { told = λ n l. LooksAgain a.self.now.known a._said.0 a._said.1 n l }
