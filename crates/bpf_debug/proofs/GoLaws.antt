@@ -1,9 +1,9 @@
 -- How far a `go` has come, turn by turn.
 use Rattle.std.proofs.Common.{◌≡◌, ℕ, ◌+◌, ◌*◌, ◌<◌, ◌≤◌, Bool, true, false, ◌||◌, List, [], ◌∷◌, ◌++◌, length, get_or, inl, inr, ◌⊎◌, refl, sym, ap, subst, ◌∙◌, arith, append_assoc, replicate}
-use Rattle.std.specs.Prelude.{codes, slice_set, ◌==◌, nat_lt, IfSome, IfNone}
+use Rattle.std.specs.Prelude.{codes, slice_set, ◌==◌, nat_lt, IfSome, IfNone, Option, Some, None}
 use Rattle.std.proofs.lemmas.List.{get_or-replicate, get_or-set_same, get_or-set_other, append-nil}
 use Rattle.std.proofs.lemmas.Bool.{eq-eqb, ne_eqb, cases_lt, cases_order, le-ltb, lt-ltb}
-use Rattle.bpf_shared.specs.PlainStore.{has_cpu}
+use Rattle.bpf_plain.specs.PlainStore.{has_cpu}
 use Rattle.bpf_shared.proofs.Puts.{equal_or_not}
 use Rattle.bpf_cpu.specs.declared.outcome.Outcome.{Outcome}
 use Rattle.bpf_machine.specs.declared.machine.Turn.{Turn}
@@ -14,7 +14,6 @@ use Rattle.bpf_machine.specs.Hands.{IsFree, NoneWaits}
 use Rattle.bpf_machine.specs.Schedule.{World, Settles, TakesTurn, RunsSchedule}
 use Rattle.bpf_machine.specs.Machine.{MachineState, Shows}
 use Rattle.bpf_machine.specs.Questions.{turns_left, open_jobs, Falls, TurnsFall}
-use Rattle.std.specs.Prelude.{Option, Some, None}
 use Rattle.bpf_debug.specs.declared.breakpoint.Breakpoint.{Breakpoint}
 use Rattle.bpf_debug.specs.Answer.{ended_text, stop_line}
 use Rattle.bpf_debug.specs.Go.{HasWork, AreIdle, IsUp, StandsAt, has_break, has_gone, Goes, Done, Stops, Turns}

@@ -8,7 +8,7 @@ use Rattle.std.proofs.lemmas.List.{length-map, get_or-map, get_or-append_right}
 use Rattle.std.specs.declared.alloc.Global.{Global}
 use Rattle.bpf_mem.specs.declared.memory.PrivateMemory.{PrivateMemory}
 use Rattle.bpf_mem.specs.Memory.{byte_at, bytes_at}
-use Rattle.bpf_shared.specs.PlainStore.{Contents}
+use Rattle.bpf_plain.specs.PlainStore.{Contents}
 use Rattle.bpf_shared.specs.Listing.{Pair, pair_of}
 use Rattle.bpf_cpu.specs.declared.cpu.Cpu.{Cpu}
 use Rattle.bpf_debug.specs.Read.{pair_line, pair_lines, ReadsByte}

@@ -4,7 +4,7 @@ use Rattle.std.proofs.lemmas.Bool.{ltb-true}
 use Rattle.std.proofs.lemmas.List.Sums.{sum_by-le}
 use Rattle.std.proofs.Math.Nat.{mul-le-mul_left}
 use Rattle.bpf_loader.specs.Loaded.{Loaded}
-use Rattle.bpf_shared.specs.PlainStore.{has_cpu}
+use Rattle.bpf_plain.specs.PlainStore.{has_cpu}
 use Rattle.bpf_machine.specs.declared.machine.Turn.{Turn}
 use Rattle.bpf_cpu.specs.Task.{Stage, Task, Waiting, InHand, Ended}
 use Rattle.bpf_machine.specs.Schedule.{World, TakesTurn, RunsSchedule}

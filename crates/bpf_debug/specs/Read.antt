@@ -5,7 +5,7 @@ use Rattle.hex.specs.Hex.{encode_lower}
 use Rattle.bpf_mem.specs.Memory.{byte_at}
 use Rattle.bpf_shared.specs.Store.{Plain}
 use Rattle.bpf_shared.specs.Sound.{IsSoundStore}
-use Rattle.bpf_shared.specs.PlainStore.{Contents, StandsFor}
+use Rattle.bpf_plain.specs.PlainStore.{Contents, StandsFor}
 use Rattle.bpf_shared.specs.Listing.{Pair, pair_at, IsListing, IsByteAt, IsOnlyByteAt}
 use Rattle.bpf_helpers.specs.Held.{reaches}
 use Rattle.bpf_cpu.specs.declared.cpu.Cpu.{Cpu}

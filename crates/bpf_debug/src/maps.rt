@@ -1,10 +1,10 @@
 //! Maps by their names, and what they hold.
 
 ghost use Rattle.std.specs.Prelude.{◌≡◌, ◌++◌, IfOk, IfSome, IfNone, OnOk, length, map, string_bytes};
-ghost use Rattle.bpf_shared.specs.Shows.{listed};
+ghost use Rattle.bpf_shared.specs.Listing.{listed};
 ghost use Rattle.bpf_debug.specs.Read.{IsNamed, IsNoName, TellsMap, pair_line, pair_lines};
 
-use bpf_shared::PlainStore;
+use bpf_plain::PlainStore;
 use std::alloc::{AllocError, Global};
 
 /// The number of the first map of a name.

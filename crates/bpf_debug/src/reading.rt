@@ -7,7 +7,7 @@ ghost use Rattle.bpf_debug.specs.Read.{ReadsByte, ReadsNoByte, ReadsBytes, Reads
 
 use bpf_cpu::Cpu;
 use bpf_mem::PrivateMemory;
-use bpf_shared::PlainStore;
+use bpf_plain::PlainStore;
 use std::alloc::{AllocError, Global};
 
 const UNREADABLE: &str = "unreadable\n";

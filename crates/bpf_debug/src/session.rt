@@ -2,7 +2,7 @@
 
 ghost use Rattle.std.specs.Prelude.{◌≡◌, ℕ, List, ◌<◌, ◌↔◌, IsTrue, true, false, IfOk, IfErr, OnErr, IfSome, IfNone, Some, [], map, length, string_bytes, string_len, string_capacity, ◌+◌, ◌*◌, ◌++◌, ◌≤◌};
 ghost use Rattle.bpf_text.specs.Lines.{fields_of};
-ghost use Rattle.bpf_shared.specs.PlainStore.{has_cpu};
+ghost use Rattle.bpf_plain.specs.PlainStore.{has_cpu};
 ghost use Rattle.bpf_machine.specs.Machine.{Shows};
 ghost use Rattle.bpf_machine.specs.Schedule.{World, TakesTurn};
 ghost use Rattle.bpf_debug.specs.Answer.{IsWhere, ended_text};

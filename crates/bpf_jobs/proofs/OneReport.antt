@@ -2,7 +2,7 @@
 use Rattle.std.proofs.Common.{◌≡◌, ℕ, Bool, true, false, List, ◌++◌, length, sym, ap, subst, ◌∙◌}
 use Rattle.bpf_shared.specs.Store.{Plain}
 use Rattle.bpf_shared.specs.Sound.{IsSoundStore}
-use Rattle.bpf_shared.specs.PlainStore.{StandsFor}
+use Rattle.bpf_plain.specs.PlainStore.{StandsFor}
 use Rattle.bpf_machine.specs.Machine.{MachineState, Shows}
 use Rattle.bpf_machine.specs.Rounds.{RunsToEnd}
 use Rattle.bpf_cpu.specs.Task.{Task}

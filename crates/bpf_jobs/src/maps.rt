@@ -3,11 +3,11 @@
 ghost use Rattle.std.specs.Prelude.{◌≡◌, ◌++◌, IfOk, OnOk, length, map, string_bytes};
 ghost use Rattle.bpf_shared.specs.Store.{Plain};
 ghost use Rattle.bpf_shared.specs.Sound.{IsSoundStore};
-ghost use Rattle.bpf_shared.specs.PlainStore.{StandsFor};
-ghost use Rattle.bpf_shared.specs.Shows.{listed};
+ghost use Rattle.bpf_plain.specs.PlainStore.{StandsFor};
+ghost use Rattle.bpf_shared.specs.Listing.{listed};
 ghost use Rattle.bpf_jobs.specs.Printed.{AreMapLines, key_lines, key_line};
 
-use bpf_shared::PlainStore;
+use bpf_plain::PlainStore;
 use std::alloc::{AllocError, Global};
 
 /// Puts the line of a key behind the text.

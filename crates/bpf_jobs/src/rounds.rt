@@ -4,7 +4,7 @@ ghost use Rattle.std.specs.Prelude.{◌<◌, ◌≤◌, All, IfOk, map, string_b
 ghost use Rattle.bpf_mem.specs.Limits.{max_context};
 ghost use Rattle.bpf_shared.specs.Store.{Plain};
 ghost use Rattle.bpf_shared.specs.Sound.{IsSoundStore};
-ghost use Rattle.bpf_shared.specs.PlainStore.{StandsFor};
+ghost use Rattle.bpf_plain.specs.PlainStore.{StandsFor};
 ghost use Rattle.bpf_cpu.specs.Task.{waiting};
 ghost use Rattle.bpf_machine.specs.Machine.{Shows};
 ghost use Rattle.bpf_jobs.specs.Printed.{first_world, AreMapsAsked, IsReport, Tells};
@@ -14,7 +14,8 @@ use crate::maps::list_maps;
 use bpf_cpu::Job;
 use bpf_loader::Program;
 use bpf_machine::Machine;
-use bpf_shared::{PlainStore, StoreShape};
+use bpf_plain::PlainStore;
+use bpf_shared::StoreShape;
 use std::alloc::{AllocError, Global};
 
 /// What jobs have come to.

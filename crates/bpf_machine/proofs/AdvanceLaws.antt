@@ -5,7 +5,7 @@ use Rattle.bpf_shared.specs.declared.shapes.MapShape.{MapShape}
 use Rattle.bpf_shared.specs.Store.{Plain}
 use Rattle.bpf_shared.specs.Sound.{IsSoundStore}
 use Rattle.bpf_shared.specs.Chain.{Chain}
-use Rattle.bpf_shared.specs.PlainStore.{Contents, has_cpu, shapes_of, StandsFor, Passes}
+use Rattle.bpf_plain.specs.PlainStore.{Contents, has_cpu, shapes_of, StandsFor, Passes}
 use Rattle.bpf_loader.specs.Loaded.{Loaded}
 use Rattle.bpf_cpu.specs.declared.cpu.Cpu.{Cpu}
 use Rattle.bpf_cpu.specs.declared.outcome.Progress.{Progress}

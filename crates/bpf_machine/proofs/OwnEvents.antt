@@ -18,8 +18,8 @@ use Rattle.bpf_shared.specs.Chain.{Chain}
 use Rattle.bpf_shared.proofs.Chains.{chain_one}
 use Rattle.bpf_shared.specs.Sound.{IsSoundStore}
 use Rattle.bpf_shared.proofs.Puts.{equal_or_not, put_cases}
-use Rattle.bpf_shared.specs.PlainStore.{Contents, has_cpu, StandsFor, Passes}
-use Rattle.bpf_shared.proofs.Served.{runs_are_served}
+use Rattle.bpf_plain.specs.PlainStore.{Contents, has_cpu, StandsFor, Passes}
+use Rattle.bpf_plain.proofs.Served.{runs_are_served}
 
 -- each CPU that is in a run is one of the store's
 abbrev pub RunsWithin : Plain → Type 0

@@ -8,8 +8,8 @@ use Rattle.bpf_shared.specs.declared.events.Event.TheVariants.{End}
 use Rattle.bpf_shared.specs.Store.{Plain, put}
 use Rattle.bpf_shared.specs.Choice.{PlainlyAllowed}
 use Rattle.bpf_shared.specs.Sound.{IsSoundStore}
-use Rattle.bpf_shared.specs.PlainStore.{Contents, has_cpu, is_running, held_spans}
-use Rattle.bpf_shared.specs.PlainStore as plain_store
+use Rattle.bpf_plain.specs.PlainStore.{Contents, has_cpu, is_running, held_spans}
+use Rattle.bpf_plain.specs.PlainStore as plain_store
 use Rattle.bpf_machine.specs.declared.machine.Turn.TheVariants.{Ran}
 use Rattle.bpf_machine.specs.declared.machine.Turn.TheVariants as turn
 use Rattle.bpf_loader.specs.Loaded.{Loaded}

@@ -1,8 +1,8 @@
 -- What callers see of a machine.
 use Rattle.std.specs.Prelude.{◌≡◌, List}
 use Rattle.bpf_shared.specs.Sound.{IsSoundStore}
-use Rattle.bpf_shared.specs.PlainStore.{Contents}
-use Rattle.bpf_shared.specs.PlainStore as plain_store
+use Rattle.bpf_plain.specs.PlainStore.{Contents}
+use Rattle.bpf_plain.specs.PlainStore as plain_store
 use Rattle.bpf_loader.specs.Loaded.{Loaded}
 use Rattle.bpf_cpu.specs.Task.{Task}
 use Rattle.bpf_machine.specs.Schedule.{World}

@@ -6,7 +6,8 @@ mod rounds;
 
 use bpf_cpu::{Cpu, Job, Outcome};
 use bpf_loader::Program;
-use bpf_shared::{PlainStore, Shared};
+use bpf_plain::PlainStore;
+use bpf_shared::Shared;
 use lane::{
     Hand, Lane, Listed, Phase, count_cpus, first_job, list_jobs, make_lanes, make_room, put_down,
 };
@@ -66,7 +67,7 @@ impl Model for Machine {
 
     ghost Value = { MachineState };
 
-    ghost use Rattle.bpf_shared.specs.PlainStore.{has_cpu, is_running, held_spans};
+    ghost use Rattle.bpf_plain.specs.PlainStore.{has_cpu, is_running, held_spans};
     ghost use Rattle.bpf_machine.specs.Private.Lanes.{tasks_of, IsBoard};
 
     ghost view = { λ m. record {
@@ -81,7 +82,7 @@ impl Model for Machine {
 
 impl Machine {
     ghost use Rattle.std.specs.Prelude.{◌≡◌, ◌≢◌, ◌≤◌, ◌<◌, ◌⊎◌, ℕ, true, false, All, IfOk, IfErr, IfSome, IfNone, length, map, nat_lt, vec_len, option_map, slice_get};
-    ghost use Rattle.bpf_shared.specs.PlainStore.{has_cpu, is_running};
+    ghost use Rattle.bpf_plain.specs.PlainStore.{has_cpu, is_running};
     ghost use Rattle.bpf_mem.specs.Limits.{max_context};
     ghost use Rattle.bpf_cpu.specs.Task.{outcome_at, waiting};
     ghost use Rattle.bpf_machine.specs.Hands.{IsFree, NoneWaits};

@@ -4,7 +4,7 @@ ghost use Rattle.std.specs.Prelude.{◌≡◌, ◌<◌, [], All, false, IfErr, I
 ghost use Rattle.bpf_insn.specs.Encoding.{IsEncodedAs};
 ghost use Rattle.bpf_insn.specs.declared.instruction.Insn.{Insn};
 ghost use Rattle.bpf_loader.specs.Sound.{IsSound};
-ghost use Rattle.bpf_shared.specs.PlainStore.{has_cpu, is_running, shapes_of};
+ghost use Rattle.bpf_plain.specs.PlainStore.{has_cpu, is_running, shapes_of};
 ghost use Rattle.bpf_run.specs.Commands.{IsAnswer, IsAssembled, IsDisassembled, IsForOneThread, IsRun, IsWordsOf, RefusesProgram, RefusesWords, ShowsWords, shown_program};
 
 use crate::listing::word_lines;
@@ -18,7 +18,8 @@ use bpf_disassembly::disassemble;
 use bpf_insn::{Insn, decode, encode};
 use bpf_listing::{program_lines, source_lines};
 use bpf_loader::{Program, load};
-use bpf_shared::{PlainStore, ShapeError, StoreShape};
+use bpf_plain::PlainStore;
+use bpf_shared::{ShapeError, StoreShape};
 use bpf_text::{TextError, assemble, from_hex};
 use std::alloc::Global;
 use std::sync::Wait;

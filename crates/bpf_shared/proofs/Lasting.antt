@@ -16,9 +16,8 @@ use Rattle.bpf_shared.specs.History.{Legal}
 use Rattle.bpf_shared.specs.Sound.{IsSoundStore}
 use Rattle.bpf_shared.specs.Laws.{byte_at, MakesValue}
 use Rattle.bpf_shared.specs.Lasting.{ChangesKey, WritesAt, EndsRun, Without, UpdatesAreFound, DeletionsAreFound, HeldValuesStay}
-use Rattle.bpf_shared.proofs.Puts.{true_or_false, equal_or_not, put-same, put-other, put_cases, put_pair-old, insert_cases, remove_cases}
+use Rattle.bpf_shared.proofs.Puts.{true_or_false, equal_or_not, put-same, put-other, put_cases, put_pair-old, insert_cases, remove_cases, gone_key}
 use Rattle.bpf_shared.proofs.Soundness.{allowed_sound}
-use Rattle.bpf_shared.proofs.Updating.{gone_key}
 use Rattle.bpf_shared.proofs.Lawful.{refusals_change_nothing, updates_make_values, values_stay, writes_touch_named_bytes}
 
 -- ---- what a key leads to

@@ -4,6 +4,7 @@ use Rattle.std.proofs.lemmas.Bool.Decides.{nat_tests}
 use Rattle.std.specs.declared.cmp.Ordering.{Ordering}
 use Rattle.std.specs.declared.cmp.Ordering.TheVariants.{Less, Equal, Greater}
 use Rattle.std.specs.Ordering.{nat_cmp, eq_by_cmp, is_eq}
+use Rattle.std.specs.Cmp.{tied_itself}
 use Rattle.std.specs.Cmp.Lexicographic.{slice_cmp}
 use Rattle.std.proofs.lemmas.Cmp.{nat_list_cmp_total}
 use Rattle.std.proofs.lemmas.Map.Lookups.{exact_bytes}
@@ -76,3 +77,9 @@ remove_cases k key q =
       | inl h ↦ inl (same_key q key h, g ∙ ap (λ (b : Bool). cond b None (get k q)) h)
       | inr h ↦ inr (g ∙ ap (λ (b : Bool). cond b None (get k q)) h)
     ]
+
+pub gone_key : (k : Keys) (key : List ℕ) → get (remove k key) key ≡ None
+gone_key k key = get-remove nat_list_cmp_total k key key ∙ ap (λ (b : Bool). cond b None (get k key)) (itself key)
+  where
+    itself : (q : List ℕ) → eq_by_cmp (slice_cmp nat_cmp) q q ≡ true
+    itself q = ap is_eq (tied_itself nat_list_cmp_total q)

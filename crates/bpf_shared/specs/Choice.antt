@@ -1,4 +1,5 @@
--- What a `PlainStore` does where the allowed events leave a choice: its shortage, and its places.
+-- What a store of one thread does where the allowed events leave a choice: its shortage, and its
+-- places.
 use Rattle.std.specs.Prelude.{◌≡◌, ℕ, ◌<◌, ◌⊎◌}
 use Rattle.bpf_shared.specs.declared.events.MapAnswer.TheVariants.{Done, Busy, NoMemory}
 use Rattle.bpf_shared.specs.declared.events.Event.{Event}
@@ -33,6 +34,6 @@ Chosen s (Update m key bytes flags Busy) t = ⊥
 Chosen s (Delete m key Busy) t = ⊥
 Chosen s _ t = Unit {0}
 
--- what a `PlainStore` may do
+-- what a store of one thread may do
 abbrev pub PlainlyAllowed : Plain → ℕ → Event → Plain → Type 0
 PlainlyAllowed s c e t = Allowed s c e t × Chosen s e t

@@ -20,7 +20,7 @@ History step s (e ∷ es) t = (m : Plain) × step s e.cpu e.event m × History s
 abbrev pub Legal : Plain → List Entry → Plain → Type 0
 Legal = History Allowed
 
--- the same, with the choices of a `PlainStore`
+-- the same, with the choices of one thread
 abbrev pub PlainlyLegal : Plain → List Entry → Plain → Type 0
 PlainlyLegal = History PlainlyAllowed
 

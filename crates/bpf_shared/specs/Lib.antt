@@ -9,12 +9,7 @@ pub mod History
 pub mod Passage
 pub mod Chain
 pub mod Sound
-pub mod PlainStore
 pub mod Laws
 pub mod Lasting
 pub mod Listing
-pub mod Shows
 pub mod Own
-pub mod Legality
-pub mod Lemmas
-pub mod Private

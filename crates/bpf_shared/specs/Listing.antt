@@ -1,5 +1,5 @@
 -- What a look at a store tells: a map's keys with their values, and the bytes of values.
-use Rattle.std.specs.Prelude.{◌≡◌, ℕ, ◌<◌, ◌⊎◌, List, [], length, slice_index_or, Vec}
+use Rattle.std.specs.Prelude.{◌≡◌, ℕ, ◌<◌, ◌⊎◌, List, [], length, slice_index_or, map, Vec}
 use Rattle.std.specs.declared.alloc.Global.{Global}
 use Rattle.std.specs.Ordering.{nat_cmp}
 use Rattle.std.specs.declared.cmp.Ordering.TheVariants.{Less}
@@ -43,3 +43,7 @@ ListingsAreDetermined =
 -- what two vectors of a listing hold
 abbrev pub pair_of : Vec ℕ Global × Vec ℕ Global → Pair
 pair_of p = (p.0.items, p.1.items)
+
+-- what vectors of a listing hold
+abbrev pub listed : List (Vec ℕ Global × Vec ℕ Global) → List Pair
+listed pairs = map pair_of pairs

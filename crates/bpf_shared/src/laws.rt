@@ -4,7 +4,6 @@
 ghost use Rattle.bpf_shared.specs.Laws.{LegalIsSound, ValuesStay, RefusalsChangeNothing, UpdatesMakeValues, OneValueIsReached, WritesTouchNamedBytes, CallsHaveOneReply};
 ghost use Rattle.bpf_shared.specs.Lasting.{UpdatesAreFound, DeletionsAreFound, HeldValuesStay};
 ghost use Rattle.bpf_shared.specs.Own.{OwnEventsTell};
-ghost use Rattle.bpf_shared.specs.Legality.{PassagesAreLegal};
 ghost use Rattle.bpf_shared.specs.Listing.{ListingsAreDetermined};
 
 /// Each store that a legal history leads to is sound: a held value is in a map or kept for the CPU
@@ -63,11 +62,6 @@ pub fn calls_have_one_reply()
 /// hold is that of a value that it holds.
 pub fn own_events_tell()
     ensures { OwnEventsTell }
-{}
-
-/// A passage from a store as made is a legal history.
-pub fn passages_are_legal()
-    ensures { PassagesAreLegal }
 {}
 
 /// A map has one listing.

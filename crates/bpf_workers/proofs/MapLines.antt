@@ -3,8 +3,7 @@ use Rattle.std.proofs.Common.{◌≡◌, ℕ, suc, ◌+◌, ◌<◌, List, [], �
 use Rattle.std.specs.Prelude.{slice_index_or, Vec}
 use Rattle.std.proofs.lemmas.List.{get_or-map, length-map}
 use Rattle.bpf_shared.specs.Store.{Plain}
-use Rattle.bpf_shared.specs.Listing.{IsListing, pair_of}
-use Rattle.bpf_shared.specs.Shows.{listed}
+use Rattle.bpf_shared.specs.Listing.{IsListing, pair_of, listed}
 use Rattle.hop_words.specs.Closing.{Ending}
 use Rattle.hop_map.specs.Dumping.{IsLast}
 use Rattle.bpf_jobs.specs.Printed.{AreMapLines, key_lines}

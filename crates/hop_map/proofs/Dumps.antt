@@ -18,8 +18,7 @@ use Rattle.bpf_base.specs.Bytes.{low_bytes}
 use Rattle.bpf_shared.specs.declared.events.Entry.{Entry}
 use Rattle.bpf_shared.specs.Store.{Plain, Value, Finds, as_made}
 use Rattle.bpf_shared.specs.History.{Legal}
-use Rattle.bpf_shared.specs.Listing.{Pair, pair_at, pair_of, IsListing}
-use Rattle.bpf_shared.specs.Shows.{listed}
+use Rattle.bpf_shared.specs.Listing.{Pair, pair_at, pair_of, IsListing, listed}
 use Rattle.hop_words.specs.Layout.{depth, segments}
 use Rattle.hop_words.specs.Homes.{bytes_of_words}
 use Rattle.hop_words.specs.Content.{IsOnList, item}

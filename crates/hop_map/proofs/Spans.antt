@@ -20,7 +20,7 @@ use Rattle.bpf_shared.specs.Passage.{same_span}
 use Rattle.bpf_shared.specs.Own.{no_span, held_since, held_from, held_by}
 use Rattle.bpf_shared.proofs.Puts.{put_cases, insert_cases, remove_cases, put-other}
 use Rattle.bpf_shared.proofs.Soundness.{as_made_sound, allowed_sound, legal_sound, span-after_write}
-use Rattle.bpf_shared.proofs.Passages.{history_cut}
+use Rattle.bpf_shared.proofs.Histories.{history_cut}
 use Rattle.bpf_shared.proofs.Places.{stride_most, reach_most}
 
 -- a store of these maps, in which each key leads to a value in an element of its map

@@ -3,8 +3,7 @@ ghost use Rattle.std.specs.Prelude.{◌≡◌, ◌++◌, ◌<◌, ℕ, Some, IfO
 ghost use Rattle.bpf_base.specs.Bytes.{low_bytes};
 ghost use Rattle.bpf_shared.specs.Shape.{IsMapShape};
 ghost use Rattle.bpf_shared.specs.Store.{Plain};
-ghost use Rattle.bpf_shared.specs.Listing.{IsListing};
-ghost use Rattle.bpf_shared.specs.Shows.{listed};
+ghost use Rattle.bpf_shared.specs.Listing.{IsListing, listed};
 ghost use Rattle.hop_words.specs.Content.{item, IsOnList};
 ghost use Rattle.hop_words.specs.Ghost.{shape_at, HasElement, IsSegment};
 ghost use Rattle.hop_map.specs.Dumping.{words_in, key_in, value_in, IsReached, IsLast, IsKeyAmong, AreFound, AddsPairs};

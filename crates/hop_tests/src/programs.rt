@@ -8,7 +8,8 @@ use crate::stores::{a_map, a_shape, aged_ports, close, last_of, new_ports, pop_p
 use crate::texts::{ADD, CALLS, LOOK_UP};
 use bpf_cpu::{Cpu, Fault, Outcome};
 use bpf_loader::{Program, load};
-use bpf_shared::{MapShape, PlainStore, Shared};
+use bpf_plain::PlainStore;
+use bpf_shared::{MapShape, Shared};
 use bpf_text::assemble;
 use hop_cpu::HopCpu;
 use hop_map::HopPort;

@@ -4,7 +4,8 @@ ghost use Rattle.hop_tests.specs.Trial.{IsIdlePort, IsRunning};
 
 use crate::asking::{Call, Reply, ask, ask_port, lookups_agree};
 use crate::stores::{a_map, a_shape, aged_ports, new_ports, pop_port};
-use bpf_shared::{MapAnswer, MapShape, PlainStore, Shared};
+use bpf_plain::PlainStore;
+use bpf_shared::{MapAnswer, MapShape, Shared};
 use hop_map::HopPort;
 use hop_words::HopTable;
 use std::alloc::Global;

@@ -12,7 +12,7 @@ use Rattle.bpf_shared.specs.History.{Legal, events_of, entry}
 use Rattle.bpf_shared.proofs.Chains.{events_of-append, events_of-own, events_of-other, turns_of-append}
 use Rattle.bpf_shared.proofs.Leaving.{history_shape}
 use Rattle.bpf_shared.proofs.Own.{own_events_tell}
-use Rattle.bpf_shared.specs.Lemmas.Passages.{history-append}
+use Rattle.bpf_shared.proofs.Histories.{history-append}
 use Rattle.bpf_shared.proofs.Puts.{put-same, put-other}
 use Rattle.hop_words.specs.declared.known.About.{About}
 use Rattle.hop_words.specs.Rule.{Logged, done_in}

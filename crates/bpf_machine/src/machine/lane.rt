@@ -3,8 +3,8 @@
 ghost use Rattle.std.specs.Prelude.{◌≡◌, ◌<◌, ◌≤◌, ◌+◌, ℕ, true, [], length, map, All, IfOk, vec_len, vec_capacity};
 ghost use Rattle.bpf_shared.specs.Store.{Plain};
 ghost use Rattle.bpf_shared.specs.Sound.{IsSoundStore};
-ghost use Rattle.bpf_shared.specs.PlainStore.{has_cpu, is_running, held_spans, shapes_of};
-ghost use Rattle.bpf_shared.specs.PlainStore as plain_store;
+ghost use Rattle.bpf_plain.specs.PlainStore.{has_cpu, is_running, held_spans, shapes_of};
+ghost use Rattle.bpf_plain.specs.PlainStore as plain_store;
 ghost use Rattle.bpf_helpers.specs.Held.{AreHeld, KeepsRun};
 ghost use Rattle.bpf_cpu.specs.Step.{IsReady};
 ghost use Rattle.bpf_machine.specs.Schedule.{Advances};
@@ -13,7 +13,7 @@ ghost use Rattle.bpf_machine.specs.Private.Turns.{Lasts};
 
 use bpf_cpu::{Cpu, Job, Outcome, Progress};
 use bpf_loader::Program;
-use bpf_shared::PlainStore;
+use bpf_plain::PlainStore;
 use std::alloc::{AllocError, Global};
 
 /// How far a job is.

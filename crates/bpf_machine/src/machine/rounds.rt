@@ -27,7 +27,7 @@ impl Worked {
 
 impl Machine {
     ghost use Rattle.std.specs.Prelude.{◌≡◌, ◌≢◌, ◌<◌, nat_lt, true, false, Some, ℕ, slice_get};
-    ghost use Rattle.bpf_shared.specs.PlainStore.{has_cpu};
+    ghost use Rattle.bpf_plain.specs.PlainStore.{has_cpu};
     ghost use Rattle.bpf_cpu.specs.Task.{Task};
     ghost use Rattle.bpf_machine.specs.Questions.{turns_left};
     ghost use Rattle.bpf_machine.specs.Schedule.{World};

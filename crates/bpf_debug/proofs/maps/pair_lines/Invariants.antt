@@ -1,6 +1,6 @@
 use Rattle.std.proofs.Common.{◌≡◌}
 use Rattle.std.specs.Prelude.{string_bytes}
-use Rattle.bpf_shared.specs.Shows.{listed}
+use Rattle.bpf_shared.specs.Listing.{listed}
 use Rattle.bpf_debug.specs.Read.{pair_lines}
 use Rattle.bpf_debug.proofs.maps.pair_lines.Given as goal
 

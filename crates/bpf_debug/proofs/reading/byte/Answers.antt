@@ -1,5 +1,5 @@
 use Rattle.std.proofs.Common.{sym, inr, ◌∙◌}
-use Rattle.bpf_shared.specs.Shows.{ShowsNoByte}
+use Rattle.bpf_plain.specs.Shows.{ShowsNoByte}
 use Rattle.bpf_debug.specs.Read.{ReadsNoByte}
 use Rattle.bpf_debug.proofs.GoLaws.{none_weaker}
 use Rattle.bpf_debug.proofs.reading.byte.Goals as goal

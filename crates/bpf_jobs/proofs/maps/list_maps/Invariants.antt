@@ -1,7 +1,7 @@
 use Rattle.std.specs.Prelude.{map, string_bytes}
 use Rattle.bpf_shared.specs.Store.{Plain}
 use Rattle.bpf_shared.specs.Sound.{IsSoundStore}
-use Rattle.bpf_shared.specs.PlainStore.{StandsFor}
+use Rattle.bpf_plain.specs.PlainStore.{StandsFor}
 use Rattle.bpf_jobs.specs.Printed.{AreMapLines}
 use Rattle.bpf_jobs.proofs.maps.list_maps.Given as goal
 

@@ -1,6 +1,6 @@
 use Rattle.std.proofs.Common.{◌≡◌, ◌++◌}
 use Rattle.std.specs.Prelude.{string_bytes}
-use Rattle.bpf_shared.specs.Shows.{listed}
+use Rattle.bpf_shared.specs.Listing.{listed}
 use Rattle.bpf_jobs.specs.Printed.{key_lines}
 use Rattle.bpf_jobs.proofs.maps.push_map.Given as goal
 

@@ -1,6 +1,6 @@
 use Rattle.std.proofs.Common.{sym, subst}
 use Rattle.bpf_shared.specs.Store.{as_made}
-use Rattle.bpf_shared.specs.PlainStore.{Contents, StandsFor}
+use Rattle.bpf_plain.specs.PlainStore.{Contents, StandsFor}
 use Rattle.bpf_shared.proofs.Soundness.{as_made_sound}
 use Rattle.bpf_jobs.proofs.rounds.make_machine.Goals as goal
 

@@ -1,7 +1,7 @@
 use Rattle.std.proofs.Common.{List, ℕ, ◌++◌, length, ap, ◌∙◌}
 use Rattle.std.specs.Prelude.{string_bytes, Vec}
 use Rattle.std.specs.declared.alloc.Global.{Global}
-use Rattle.bpf_shared.specs.Shows.{listed}
+use Rattle.bpf_shared.specs.Listing.{listed}
 use Rattle.bpf_jobs.specs.Printed.{key_lines}
 use Rattle.bpf_workers.proofs.MapLines.{one_map_more}
 use Rattle.bpf_workers.proofs.telling.list_maps.Goals as goal

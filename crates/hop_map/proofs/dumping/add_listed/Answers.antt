@@ -1,6 +1,6 @@
 use Rattle.std.proofs.Common.{ℕ, ◌+◌, ◌≤◌, Option, Some, None, ap, sym, subst, ◌∙◌, arith}
 use Rattle.bpf_shared.specs.Shape.{elements}
-use Rattle.bpf_shared.specs.Shows.{listed}
+use Rattle.bpf_shared.specs.Listing.{listed}
 use Rattle.hop_words.specs.Content.{item}
 use Rattle.hop_seg.specs.Words.{Words as SegWords}
 use Rattle.hop_seg.proofs.Walking.{Counted, counted_begins, counted_on, counted_ends, walk_at, walk_ends}

@@ -1,5 +1,5 @@
 use Rattle.std.specs.Prelude.{ℕ, true, Option}
-use Rattle.bpf_shared.specs.Shows.{listed}
+use Rattle.bpf_shared.specs.Listing.{listed}
 use Rattle.hop_seg.proofs.Walking.{Counted}
 use Rattle.hop_map.specs.Views.{segment_view}
 use Rattle.hop_map.specs.Dumping.{words_in, key_in, IsKeyAmong, AddsPairs}

@@ -1,5 +1,5 @@
 use Rattle.std.proofs.Common.{◌≡◌, ℕ, sym, ap, ◌∙◌, arith, ⊎_elim}
-use Rattle.bpf_shared.specs.Shows.{listed}
+use Rattle.bpf_shared.specs.Listing.{listed}
 use Rattle.hop_words.specs.Content.{item}
 use Rattle.hop_words.proofs.Small.{equal}
 use Rattle.hop_map.specs.Dumping.{words_in, key_in}

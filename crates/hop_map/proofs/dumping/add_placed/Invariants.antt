@@ -1,5 +1,5 @@
 use Rattle.std.specs.Prelude.{◌≡◌, ◌<◌, ℕ, Some}
-use Rattle.bpf_shared.specs.Shows.{listed}
+use Rattle.bpf_shared.specs.Listing.{listed}
 use Rattle.hop_words.specs.Content.{item}
 use Rattle.hop_map.specs.Dumping.{words_in, key_in, IsKeyAmong, AddsPairs}
 use Rattle.hop_map.proofs.dumping.add_placed.Given as goal

@@ -1,7 +1,6 @@
-use Rattle.std.proofs.Common.{ℕ, List, subst, map}
+use Rattle.std.proofs.Common.{ℕ, List, subst, map, String, Global}
 use Rattle.std.specs.Prelude.{string_bytes}
-use Rattle.std.proofs.Common.{String, Global}
-use Rattle.bpf_shared.specs.PlainStore.{Contents}
+use Rattle.bpf_plain.specs.PlainStore.{Contents}
 use Rattle.bpf_debug.specs.Read.{IsNamed, TellsMap}
 use Rattle.bpf_debug.specs.Command.{Map}
 use Rattle.bpf_debug.specs.Session.{SessionState, Leaves}

@@ -1,6 +1,6 @@
 use Rattle.std.proofs.Common.{◌≡◌, ℕ, List, Some, sym, subst, map}
 use Rattle.std.specs.Prelude.{true, string_bytes}
-use Rattle.bpf_shared.specs.PlainStore.{has_cpu}
+use Rattle.bpf_plain.specs.PlainStore.{has_cpu}
 use Rattle.bpf_debug.specs.Command.{Step}
 use Rattle.bpf_debug.specs.Session.{SessionState, Leaves}
 use Rattle.bpf_debug.proofs.SessionLaws.{stepped}

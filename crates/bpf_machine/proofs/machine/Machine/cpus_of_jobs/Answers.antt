@@ -1,7 +1,7 @@
 use Rattle.std.proofs.Common.{◌≡◌, ◌<◌, Some, ℕ, sym, subst, ◌∙◌}
 use Rattle.std.specs.Prelude.{slice_get}
 use Rattle.std.proofs.lemmas.Bool.{ltb-true}
-use Rattle.bpf_shared.specs.PlainStore.{has_cpu, is_running, held_spans}
+use Rattle.bpf_plain.specs.PlainStore.{has_cpu, is_running, held_spans}
 use Rattle.bpf_cpu.specs.Task.{Task}
 use Rattle.bpf_machine.specs.Machine.{MachineState}
 use Rattle.bpf_machine.proofs.WorkLaws.{served}

@@ -1,7 +1,7 @@
 use Rattle.std.proofs.Common.{◌≡◌, ℕ, sym, ap, subst, ◌∙◌, Bool, true, false, arith}
 use Rattle.bpf_shared.specs.Store.{put}
 use Rattle.bpf_shared.specs.declared.events.Span.{Span}
-use Rattle.bpf_shared.specs.PlainStore.{has_cpu, is_running, held_spans}
+use Rattle.bpf_plain.specs.PlainStore.{has_cpu, is_running, held_spans}
 use Rattle.bpf_shared.specs.declared.events.Event.TheVariants.{End}
 use Rattle.bpf_helpers.specs.Held.{AreHeld}
 use Rattle.bpf_cpu.proofs.HeldLaws.{others_without}

@@ -1,6 +1,6 @@
 use Rattle.std.proofs.Common.{◌≡◌, ℕ, ◌≤◌, length, sym, ap, subst, ◌∙◌, arith}
 use Rattle.std.proofs.lemmas.Bool.{ltb-false}
-use Rattle.bpf_shared.specs.PlainStore.{has_cpu, is_running, held_spans}
+use Rattle.bpf_plain.specs.PlainStore.{has_cpu, is_running, held_spans}
 use Rattle.bpf_machine.specs.declared.machine.lane.Lane.{Lane}
 use Rattle.bpf_machine.specs.Machine.{MachineState}
 use Rattle.bpf_cpu.specs.Task.{Task, InHand}

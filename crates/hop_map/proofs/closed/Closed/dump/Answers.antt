@@ -4,8 +4,7 @@ use Rattle.std.proofs.lemmas.Map.Iter.{iter_end}
 use Rattle.std.specs.declared.alloc.Global.{Global}
 use Rattle.bpf_shared.specs.declared.shapes.MapShape.{MapShape}
 use Rattle.bpf_shared.specs.Store.{Plain}
-use Rattle.bpf_shared.specs.Listing.{IsListing}
-use Rattle.bpf_shared.specs.Shows.{listed}
+use Rattle.bpf_shared.specs.Listing.{IsListing, listed}
 use Rattle.hop_words.specs.declared.known.About.{About}
 use Rattle.hop_words.specs.Ghost.{IsSegment}
 use Rattle.hop_words.specs.Closing.{Ending}

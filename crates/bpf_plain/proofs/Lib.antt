@@ -1,0 +1,25 @@
+pub mod Blocks
+pub mod Linking
+pub mod Indexing
+pub mod Homes
+pub mod Chaining
+pub mod Walking
+pub mod Sorting
+pub mod Passing
+pub mod Passages
+pub mod AnyBelow
+pub mod Showing
+pub mod Counting
+pub mod Making
+pub mod Changing
+pub mod Looking
+pub mod Places
+pub mod Accessing
+pub mod Updating
+pub mod Settling
+pub mod Answering
+pub mod Writing
+pub mod LookingUp
+mod Listing
+pub mod Served
+pub mod Elements
