@@ -4,7 +4,8 @@ use crate::caret::caret;
 use crate::excerpt::{Language, instruction_text, line_of};
 use crate::finding::{Finding, finding_in};
 use crate::hints::hint_of;
-use bpf_explain::{Code, page_of};
+use bpf_codes::Code;
+use bpf_explain::page_of;
 use std::alloc::{AllocError, Global};
 
 /// What is known of a job's fault beside its place.

@@ -2,7 +2,7 @@
 
 use crate::forms::fitting_any;
 use crate::token::{Token, tokens_of};
-use bpf_explain::Code;
+use bpf_codes::Code;
 use std::alloc::{AllocError, Global};
 
 /// What follows a label, and how many tokens stand before it.

@@ -1,6 +1,6 @@
 //! The refusals and faults in what is printed.
 
-use bpf_explain::{Code, code_named};
+use bpf_codes::{Code, code_named};
 
 /// A refusal or a fault, and where it is.
 #[derive(Clone, Copy)]

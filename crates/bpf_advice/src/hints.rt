@@ -1,6 +1,6 @@
 //! What may be meant, where a line is spelled as LLVM or the kernel spell it.
 
-use bpf_explain::Code;
+use bpf_codes::Code;
 
 const MNEMONICS: [&str; 26] = [
     "mov", "mov32", "add", "add32", "sub", "sub32", "mul", "div", "mod", "or", "and", "xor", "lsh",

@@ -1,9 +1,10 @@
 -- An option's values among the rows that a parse found are those that the matches' getters give.
 use Rattle.std.proofs.Common.{◌≡◌, ◌<◌, ◌≤◌, ◌∙◌, List, ℕ, Option, Some, None, Result, Ok, Err, codes, refl, arith, subst, ap}
 use Rattle.std.specs.Prelude.{IfSome, IsSomeAnd, option_and_then}
-use Rattle.bpf_explain.specs.Code.{code_of}
-use Rattle.bpf_explain.specs.declared.code.Code.{Code}
-use Rattle.bpf_command.specs.declared.command.TheConstants.{MAX_BUDGET, MAX_WORKERS}
+use Rattle.bpf_codes.specs.Code.{code_of}
+use Rattle.bpf_codes.specs.declared.code.Code.{Code}
+use Rattle.bpf_command.specs.declared.command.TheConstants.{MAX_WORKERS}
+use Rattle.bpf_base.specs.declared.budget.TheConstants.{MAX_BUDGET}
 use Rattle.std.specs.Str.Parse.{ParsesUnsigned}
 use Rattle.clap.specs.Matches.{ReadsOne}
 use Rattle.clap.specs.Values.{IsUnsignedIn}

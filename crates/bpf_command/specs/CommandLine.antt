@@ -7,7 +7,8 @@ use Rattle.clap.specs.Values.{IsUnsignedIn}
 use Rattle.clap.specs.Words.{App, Row, Rule, Text, new_app, new_rule, one_of, with_rule, with_subcommand}
 use Rattle.clap.specs.declared.builder.action.ArgAction.TheVariants.{SetTrue}
 use Rattle.clap.specs.declared.builder.value_parser.ValueParser.TheVariants.{Unsigned}
-use Rattle.bpf_command.specs.declared.command.TheConstants.{MAX_BUDGET, MAX_WORKERS}
+use Rattle.bpf_command.specs.declared.command.TheConstants.{MAX_WORKERS}
+use Rattle.bpf_base.specs.declared.budget.TheConstants.{DEFAULT_BUDGET, MAX_BUDGET}
 
 -- `--budget N`: 0 to `MAX_BUDGET`, and 1,000,000 where it is left out
 abbrev pub budget : Rule
@@ -121,7 +122,7 @@ IsBudget (Some text) n = IsUnsignedIn 0 MAX_BUDGET text
 -- the budget that the options name: that of the text, and 1,000,000 where the option is left out
 abbrev pub NamesBudget : List Row → ℕ → Type 0
 NamesBudget rows n = IsBudget (one_of (codes "budget") rows) n
-    × (is_given (codes "budget") rows ≡ false → n ≡ 1000000)
+    × (is_given (codes "budget") rows ≡ false → n ≡ DEFAULT_BUDGET)
 
 -- what is found of `--workers`, if anything is: a number in the range
 abbrev pub HasWorkers : List Row → Type 0

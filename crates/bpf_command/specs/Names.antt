@@ -1,6 +1,6 @@
 -- The command that words name, or why they name none. Our own choice.
 use Rattle.std.specs.Prelude.{◌≡◌, ◌<◌, ◌≤◌, ℕ, List, Option, Some, None, Ok, IfOk, IsSomeAnd, codes, [], length, option_and_then}
-use Rattle.bpf_explain.specs.Code.{code_of}
+use Rattle.bpf_codes.specs.Code.{code_of}
 use Rattle.bpf_mem.specs.Limits.{max_context}
 use Rattle.hex.specs.Hex.{decode_of}
 use Rattle.clap.specs.Kinds.{IsAmong}

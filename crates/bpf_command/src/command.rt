@@ -1,14 +1,13 @@
 //! What the program can be asked for.
 
 ghost use Rattle.std.specs.Prelude.{◌<◌, ◌≤◌, IfSome, vec_len};
+ghost use Rattle.bpf_base.specs.declared.budget.TheConstants.{MAX_BUDGET};
 ghost use Rattle.bpf_mem.specs.Limits.{max_context};
 ghost use Rattle.bpf_command.specs.Lemmas.Ranges.{few-prop, some-prop};
-ghost use Rattle.bpf_command.specs.declared.command.TheConstants.{MAX_BUDGET, MAX_WORKERS};
+ghost use Rattle.bpf_command.specs.declared.command.TheConstants.{MAX_WORKERS};
 
-use bpf_explain::Code;
-
-/// The greatest number of steps that may be asked for.
-pub const MAX_BUDGET: u64 = 1_000_000_000;
+use bpf_base::MAX_BUDGET;
+use bpf_codes::Code;
 
 /// The greatest number of worker threads that may be asked for.
 pub const MAX_WORKERS: u8 = 16;

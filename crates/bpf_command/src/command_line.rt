@@ -1,16 +1,17 @@
 //! The command that words name: what `clap` finds in them, and what its options stand for.
 
 ghost use Rattle.std.specs.Prelude.{◌≡◌, ◌<◌, ◌≤◌, ◌⊎◌, [], codes, IfErr, IfOk, IfSome, IsSomeAnd, map, OnOk, option_and_then, Some};
-ghost use Rattle.bpf_explain.specs.Code.{code_of};
+ghost use Rattle.bpf_codes.specs.Code.{code_of};
 ghost use Rattle.clap.specs.Kinds.{FailsBy};
 ghost use Rattle.clap.specs.Takes.{is_given};
 ghost use Rattle.clap.specs.Words.{fault_of, first_of, first_value, found_of, rows_of, subcommand_name_of, subcommand_of, subcommand_rows_of};
 ghost use Rattle.bpf_command.specs.CommandLine.{ebpf, HasBudget, HasWorkers, IsCommandName, IsWorkName, NamesBudget, NamesWorkers};
 ghost use Rattle.bpf_command.specs.Names.{Asks, IsContext, Names, Refuses, RefusesContext, RefusesFound};
 
-use crate::command::{Command, FileOptions, MAX_BUDGET, MAX_WORKERS, Request, RunOptions};
+use crate::command::{Command, FileOptions, MAX_WORKERS, Request, RunOptions};
 use crate::options::ebpf_command;
-use bpf_explain::{Code, code_named};
+use bpf_base::MAX_BUDGET;
+use bpf_codes::{Code, code_named};
 use bpf_mem::context::MAX_CONTEXT;
 use clap::ArgMatches;
 use clap::error::ErrorKind;

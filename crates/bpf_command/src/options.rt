@@ -5,7 +5,8 @@ ghost use Rattle.clap.specs.Words.{app_of, rule_of, shape_of};
 ghost use Rattle.clap.specs.declared.builder.command.Command.TheViews.{out-Command as fields_of};
 ghost use Rattle.bpf_command.specs.CommandLine.{asm, bare, budget, code_rule, context, debug, disasm, ebpf, explain, explained, hex, listing, maps, one_program, pc, run, workers, working};
 
-use crate::command::{MAX_BUDGET, MAX_WORKERS};
+use crate::command::MAX_WORKERS;
+use bpf_base::MAX_BUDGET;
 use clap::{Arg, ArgAction, Command, value_parser};
 use std::alloc::{AllocError, Global};
 

@@ -1,5 +1,7 @@
 //! How a step answers, and how a job ends.
 
+use bpf_codes::Code;
+
 /// Why a job can't go on. The printed codes F1 to F6 are those of the program `ebpf`.
 #[derive(Clone, Copy, PartialEq, Eq, Debug)]
 pub enum Fault {
@@ -22,16 +24,16 @@ impl Fault {
     ghost use Rattle.bpf_cpu.specs.Lines.{fault_code};
 
     /// The code that is printed of it.
-    pub fn code(self) -> &'static str
-        ensures { result.now ≡ fault_code self }
+    pub fn code(self) -> Code
+        ensures { result ≡ fault_code self }
     {
         match self {
-            Fault::BadAddress => "F1",
-            Fault::Misaligned => "F2",
-            Fault::CallDepth => "F3",
-            Fault::NotAMap => "F4",
-            Fault::TooManyHeld => "F5",
-            Fault::Worn => "F6",
+            Fault::BadAddress => Code::F1,
+            Fault::Misaligned => Code::F2,
+            Fault::CallDepth => Code::F3,
+            Fault::NotAMap => Code::F4,
+            Fault::TooManyHeld => Code::F5,
+            Fault::Worn => Code::F6,
         }
     }
 }

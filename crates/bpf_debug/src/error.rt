@@ -1,5 +1,6 @@
 //! Why a command is refused.
 
+use bpf_codes::Code;
 use thiserror::Error;
 
 /// Why a command is refused. The session is then as it was.
@@ -27,15 +28,15 @@ impl DebugError {
     ghost use Rattle.bpf_debug.specs.Codes.{refusal_code, refusal_line};
 
     /// The code that is printed of it.
-    pub fn code(self) -> &'static str
-        ensures { result.now ≡ refusal_code self }
+    pub fn code(self) -> Code
+        ensures { result ≡ refusal_code self }
     {
         match self {
-            DebugError::NoCpu => "G1",
-            DebugError::NoPc => "G2",
-            DebugError::NoMap => "G3",
-            DebugError::BadCommand => "G4",
-            DebugError::OutOfMemory => "G5",
+            DebugError::NoCpu => Code::G1,
+            DebugError::NoPc => Code::G2,
+            DebugError::NoMap => Code::G3,
+            DebugError::BadCommand => Code::G4,
+            DebugError::OutOfMemory => Code::G5,
         }
     }
 

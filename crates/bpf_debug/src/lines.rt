@@ -133,7 +133,7 @@ fn put_fault(out: &mut String, fault: Fault, pc: u32)
     ensures room { string_capacity out.old ≤ string_capacity out.new }
 {
     put(out, "fault ");
-    put(out, fault.code());
+    put(out, fault.code().text());
     put(out, " at ");
     put_number(out, pc as u64);
 }

@@ -2,7 +2,7 @@
 use Rattle.std.specs.Prelude.{ℕ, ◌++◌, List, [], Option, Some, None, codes}
 use Rattle.bpf_explain.specs.declared.page.Example.{Example}
 use Rattle.bpf_explain.specs.declared.page.Page.{Page}
-use Rattle.bpf_explain.specs.CodeText.{code_text}
+use Rattle.bpf_codes.specs.CodeText.{code_text}
 
 -- a command, and the line that it prints
 abbrev pub example_text : Option Example → List ℕ

@@ -2,11 +2,9 @@
 //! what to do.
 #![tactic(auto)]
 
-pub mod code;
 pub mod page;
 mod pages;
 pub mod table;
 
-pub use code::{CODES, Code, code_named};
 pub use page::{Example, Page};
 pub use table::page_of;

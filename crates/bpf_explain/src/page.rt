@@ -1,6 +1,6 @@
 //! The page of a code.
 
-use crate::code::Code;
+use bpf_codes::Code;
 use std::fmt;
 
 /// A command for a shell, and the line that it prints.

@@ -2,7 +2,7 @@
 
 ghost use Rattle.std.specs.Prelude.{◌≡◌};
 
-use crate::code::Code;
+use bpf_codes::Code;
 use crate::page::Page;
 use crate::pages::{debugger, files, program, running, text, workers};
 
@@ -63,5 +63,6 @@ pub fn page_of(code: Code) -> Page
         Code::S4 => files::S4,
         Code::S5 => files::S5,
         Code::S6 => files::S6,
+        Code::S7 => files::S7,
     }
 }

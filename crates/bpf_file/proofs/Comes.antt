@@ -13,7 +13,8 @@ use Rattle.bpf_file.specs.declared.line.LineError.{LineError}
 use Rattle.bpf_file.specs.declared.line.LineError.TheVariants as line
 use Rattle.bpf_file.specs.Key.{key_text, is_key}
 use Rattle.bpf_file.specs.Form.{is_part, has_form, field_at, version_form, cpus_form, seed_form, map_form, masked_map_form, program_form, words_form, job_form, budget_form, context_form}
-use Rattle.bpf_file.specs.Statement.{Said, Version, Cpus, Seed, Map, Program, Words, Job, most_count, most_steps, count_at, with_number, map_said, work_of, statement_of}
+use Rattle.bpf_base.specs.declared.budget.TheConstants.{MAX_BUDGET}
+use Rattle.bpf_file.specs.Statement.{Said, Version, Cpus, Seed, Map, Program, Words, Job, most_count, count_at, with_number, map_said, work_of, statement_of}
 use Rattle.bpf_file.specs.Parts.{Part, group_of, is_in_order, is_full}
 use Rattle.bpf_file.specs.Rows.{first_said, later_said, may_stand, placed}
 use Rattle.bpf_file.proofs.Names.{and_both}
@@ -93,11 +94,11 @@ jobs_tell f fs =
     (either f (has_form words_form (f ∷ fs)) _ _ (λ h. (worded key.Program words_form f fs 5 refl refl h, tt))
     (either f (has_form job_form (f ∷ fs)) _ _ (λ h. (worded key.Job job_form f fs 6 refl refl h, tt))
     (either f (has_form (job_form ++ budget_form) (f ∷ fs)) _ _ (λ h.
-    numbered f (count_at (f ∷ fs) 4 most_steps) _ (λ n. (worded key.Job (job_form ++ budget_form) f fs 6 refl refl h, tt)))
+    numbered f (count_at (f ∷ fs) 4 MAX_BUDGET) _ (λ n. (worded key.Job (job_form ++ budget_form) f fs 6 refl refl h, tt)))
     (either f (has_form (job_form ++ context_form) (f ∷ fs)) _ _ (λ h.
     (worded key.Job (job_form ++ context_form) f fs 6 refl refl h, short_at (job_form ++ context_form) (f ∷ fs) 4 h refl))
     (either f (has_form (job_form ++ budget_form ++ context_form) (f ∷ fs)) _ _ (λ h.
-    numbered f (count_at (f ∷ fs) 4 most_steps) _ (λ n.
+    numbered f (count_at (f ∷ fs) 4 MAX_BUDGET) _ (λ n.
     (worded key.Job (job_form ++ budget_form ++ context_form) f fs 6 refl refl h, short_at (job_form ++ budget_form ++ context_form) (f ∷ fs) 6 h refl)))
     tt)))))
 

@@ -10,3 +10,4 @@ pub mod Reading
 pub mod Runnable
 pub mod Laws
 pub mod Private
+pub mod Diagnostic

@@ -8,7 +8,3 @@ most_programs = 256
 -- the jobs, at most
 abbrev pub most_jobs : ℕ
 most_jobs = 4096
-
--- the steps of a job whose line has no budget
-abbrev pub usual_steps : ℕ
-usual_steps = 1000000

@@ -10,7 +10,7 @@ use Rattle.bpf_shared.specs.declared.shapes.MapShape.{MapShape}
 use Rattle.bpf_shared.specs.declared.shapes.ShapeError.TheVariants as shape
 use Rattle.bpf_loader.specs.Loaded.{Loaded}
 use Rattle.bpf_cpu.specs.Task.{Waiting}
-use Rattle.bpf_file.specs.Limits.{usual_steps}
+use Rattle.bpf_base.specs.declared.budget.TheConstants.{DEFAULT_BUDGET}
 use Rattle.bpf_file.specs.declared.error.FileError.{FileError}
 use Rattle.bpf_file.specs.declared.error.FileError.TheVariants.{Refused}
 use Rattle.bpf_file.specs.declared.error.Reason.{Reason}
@@ -89,7 +89,7 @@ served cpus None = None
 
 abbrev pub steps_of : Option ℕ → ℕ
 steps_of (Some n) = n
-steps_of None = usual_steps
+steps_of None = DEFAULT_BUDGET
 
 -- the bytes of a context, none where the line has no digits
 abbrev pub context_of : Option (List ℕ) → Result (List ℕ) FromHexError

@@ -1,6 +1,7 @@
 -- What a line of a run file says, where it isn't assembly (our own choice).
 use Rattle.std.specs.Prelude.{◌≡◌, ℕ, ◌-◌, ◌^◌, nat_le, nat_lt, if◌then◌else◌, List, ◌++◌, Option, Some, None, Result, Ok, Err}
 use Rattle.std.specs.Option.{option_copied}
+use Rattle.bpf_base.specs.declared.budget.TheConstants.{MAX_BUDGET}
 use Rattle.bpf_shared.specs.declared.shapes.MapShape.{MapShape}
 use Rattle.bpf_text.specs.Words.{written_number}
 use Rattle.bpf_file.specs.declared.line.LineError.{LineError}
@@ -24,10 +25,7 @@ pub data Said : Type 0 where
 
 -- ---- numbers
 
--- the greatest budget, and the greatest size or number of CPUs that a line may have
-abbrev pub most_steps : ℕ
-most_steps = 1000000000
-
+-- the greatest size or number of CPUs that a line may have
 abbrev pub most_count : ℕ
 most_count = 2 ^ 32 - 1
 
@@ -76,7 +74,7 @@ job_said fields budget context = Ok (Job (held_at fields 1) (field_at fields 2) 
 
 abbrev pub budgeted_said : List (List ℕ) → Option (List ℕ) → Result Said LineError
 budgeted_said fields context =
-    with_number (count_at fields 4 most_steps) (λ n. job_said fields (Some n) context)
+    with_number (count_at fields 4 MAX_BUDGET) (λ n. job_said fields (Some n) context)
 
 -- a line about a program or a job
 abbrev pub work_of : List (List ℕ) → Result Said LineError

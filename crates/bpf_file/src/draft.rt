@@ -20,6 +20,7 @@ use crate::file::RunFile;
 use crate::line::LineError;
 use crate::statement::{self, JobLine, Statement};
 use crate::{form, group, program};
+use bpf_base::DEFAULT_BUDGET;
 use bpf_cpu::Job;
 use bpf_loader::Program;
 use bpf_shared::{MapShape, ShapeError, StoreShape};
@@ -32,9 +33,6 @@ const MOST_PROGRAMS: usize = 256;
 const MOST_MAPS: usize = 16;
 
 const MOST_JOBS: usize = 4_096;
-
-/// How many steps a job makes at most whose line doesn't say it.
-const STEPS: u64 = 1_000_000;
 
 /// A file as far as it goes.
 #[derive(Drop)]
@@ -303,7 +301,7 @@ impl<'a> Draft<'a> {
             return Err(FileError::Refused(line, Reason::Unknown));
         };
         let context = context_of(alloc, line, job.context)?;
-        let budget = job.budget.unwrap_or(STEPS);
+        let budget = job.budget.unwrap_or(DEFAULT_BUDGET);
         self.push_job(Job {
             cpu,
             program,

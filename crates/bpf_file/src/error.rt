@@ -1,5 +1,6 @@
 //! Why a text is no run file.
 
+use bpf_codes::{Code, Diagnostic};
 use bpf_insn::InsnError;
 use bpf_loader::LoadError;
 use bpf_shared::ShapeError;
@@ -53,6 +54,34 @@ pub enum Reason {
     /// E1, E3 and E8 to E13: a program, at its `prog` line.
     #[error("{0}")]
     Load(LoadError),
+}
+
+impl Reason {
+    ghost use Rattle.std.specs.Prelude.{◌≡◌};
+    ghost use Rattle.bpf_file.specs.Diagnostic.{reason_diagnostic};
+
+    /// What is printed of it: its code, and where it is.
+    pub fn diagnostic(self) -> Diagnostic
+        ensures { result ≡ reason_diagnostic self }
+    {
+        match self {
+            Reason::BadFirstLine => Diagnostic::new(Code::L1),
+            Reason::BadLine => Diagnostic::new(Code::L2),
+            Reason::BadNumber => Diagnostic::new(Code::L3),
+            Reason::TwiceName => Diagnostic::new(Code::L4),
+            Reason::Unknown => Diagnostic::new(Code::L5),
+            Reason::NoEnd => Diagnostic::new(Code::L6),
+            Reason::Shape(error) => error.diagnostic(),
+            Reason::NotHex => Diagnostic::new(Code::H1),
+            Reason::BadInstruction => Diagnostic::new(Code::A1),
+            Reason::BadOperand => Diagnostic::new(Code::A2),
+            Reason::UnknownLabel => Diagnostic::new(Code::A3),
+            Reason::TwiceLabel => Diagnostic::new(Code::A4),
+            Reason::FarLabel => Diagnostic::new(Code::A5),
+            Reason::Insn(error) => error.diagnostic(),
+            Reason::Load(error) => error.diagnostic(),
+        }
+    }
 }
 
 /// Why there is no file: the first refusal in reading order. Lines count from 1.

@@ -7,6 +7,7 @@ ghost use Rattle.bpf_file.specs.Statement.{count_at, held_at, Says, cpus_said, s
 
 use crate::form;
 use crate::line::LineError;
+use bpf_base::MAX_BUDGET;
 use bpf_shared::MapShape;
 use bpf_text::words::{self, NumberError};
 
@@ -40,9 +41,6 @@ pub struct JobLine<'a> {
     /// The context's bytes as hex digits, where the line has them.
     pub context: Option<&'a [u8]>,
 }
-
-/// The greatest number of steps that a job may be given.
-const MOST_STEPS: u64 = 1_000_000_000;
 
 /// The greatest size of a map, and number of CPUs, that a line may have.
 const MOST: u64 = 0xffff_ffff;
@@ -145,7 +143,7 @@ fn budgeted_job<'a>(
     ensures { Says result (budgeted_said (map (λ f. f.now) fields.now)
         (option_copied context.entry)) }
 {
-    let budget = count_at(fields, 4, MOST_STEPS)?;
+    let budget = count_at(fields, 4, MAX_BUDGET)?;
     job(fields, Some(budget), context)
 }
 

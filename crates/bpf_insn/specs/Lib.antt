@@ -7,3 +7,4 @@ pub mod First
 pub mod Refusal
 pub mod Laws
 pub mod Private
+pub mod Diagnostic

@@ -1,5 +1,6 @@
 //! Why bytes are no instructions.
 
+use bpf_codes::{Code, Diagnostic};
 use thiserror::Error;
 
 /// Why bytes are refused, in the order in which it is answered: their length, or else at the lowest
@@ -31,4 +32,25 @@ pub enum InsnError {
     /// E14: memory was refused.
     #[error("out of memory")]
     OutOfMemory,
+}
+
+impl InsnError {
+    ghost use Rattle.std.specs.Prelude.{◌≡◌};
+    ghost use Rattle.bpf_insn.specs.Diagnostic.{insn_diagnostic};
+
+    /// What is printed of it: its code, and where it is.
+    pub fn diagnostic(self) -> Diagnostic
+        ensures { result ≡ insn_diagnostic self }
+    {
+        match self {
+            InsnError::Empty => Diagnostic::new(Code::E1),
+            InsnError::Ragged(length) => Diagnostic::with_length(Code::E2, length),
+            InsnError::TooLong => Diagnostic::new(Code::E3),
+            InsnError::UnknownOpcode(pc) => Diagnostic::at_pc(Code::E4, pc),
+            InsnError::ReservedNotZero(pc) => Diagnostic::at_pc(Code::E5, pc),
+            InsnError::HalfWide(pc) => Diagnostic::at_pc(Code::E6, pc),
+            InsnError::BadRegister(pc) => Diagnostic::at_pc(Code::E7, pc),
+            InsnError::OutOfMemory => Diagnostic::new(Code::E14),
+        }
+    }
 }

@@ -21,7 +21,7 @@ impl fmt::Display for OutcomeText {
     fn fmt<W: fmt::Write>(&self, f: &mut fmt::Formatter<W>) -> fmt::Result {
         match self.0 {
             Outcome::Exit(r0) => write!(f, "r0={r0}"),
-            Outcome::Fault(fault, pc) => write!(f, "fault {} at {pc}", fault.code()),
+            Outcome::Fault(fault, pc) => write!(f, "fault {} at {pc}", fault.code().text()),
             Outcome::OutOfBudget(pc) => write!(f, "out of budget at {pc}"),
         }
     }

@@ -1,5 +1,6 @@
 //! Why a list of instructions is refused.
 
+use bpf_codes::{Code, Diagnostic};
 use thiserror::Error;
 
 /// Why a program is refused: the first that applies, by the pc and then by the number. A pc counts
@@ -33,4 +34,26 @@ pub enum LoadError {
     /// E14: memory was refused.
     #[error("Out of memory.")]
     OutOfMemory,
+}
+
+impl LoadError {
+    ghost use Rattle.std.specs.Prelude.{◌≡◌};
+    ghost use Rattle.bpf_loader.specs.Diagnostic.{load_diagnostic};
+
+    /// What is printed of it: its code, and where it is.
+    pub fn diagnostic(self) -> Diagnostic
+        ensures { result ≡ load_diagnostic self }
+    {
+        match self {
+            LoadError::Empty => Diagnostic::new(Code::E1),
+            LoadError::TooLong => Diagnostic::new(Code::E3),
+            LoadError::WritesR10(pc) => Diagnostic::at_pc(Code::E8, pc),
+            LoadError::JumpOut(pc) => Diagnostic::at_pc(Code::E9, pc),
+            LoadError::JumpIntoWide(pc) => Diagnostic::at_pc(Code::E10, pc),
+            LoadError::FallsOff(pc) => Diagnostic::at_pc(Code::E11, pc),
+            LoadError::UnknownHelper(pc) => Diagnostic::at_pc(Code::E12, pc),
+            LoadError::UnknownMap(pc) => Diagnostic::at_pc(Code::E13, pc),
+            LoadError::OutOfMemory => Diagnostic::new(Code::E14),
+        }
+    }
 }

@@ -2,7 +2,7 @@
 use Rattle.std.specs.Prelude.{◌≡◌, ℕ, ◌++◌, ◌⊎◌, List, Option, Bool, true, false, codes, map, string_bytes, take}
 use Rattle.std.specs.Io.KnownBytes.{Appends}
 use Rattle.bpf_explain.specs.Page.{page_text}
-use Rattle.bpf_explain.specs.declared.code.Code.{Code}
+use Rattle.bpf_codes.specs.declared.code.Code.{Code}
 use Rattle.bpf_explain.specs.declared.page.Page.{Page}
 use Rattle.bpf_cpu.specs.declared.outcome.Outcome.{Outcome}
 use Rattle.bpf_cpu.specs.declared.outcome.Outcome.TheVariants as outcome
@@ -12,7 +12,7 @@ use Rattle.bpf_run.specs.declared.reply.Reply.{Reply}
 use Rattle.bpf_run.specs.declared.reply.Reply.TheVariants as reply
 use Rattle.bpf_run.specs.declared.reply.Status.{Status}
 use Rattle.bpf_run.specs.declared.reply.Status.TheVariants as status
-use Rattle.bpf_run.specs.Codes.{code}
+use Rattle.bpf_run.specs.Diagnostic.{refusal_text}
 
 -- the text that a reply prints
 abbrev pub reply_text : Reply → List ℕ
@@ -20,7 +20,7 @@ reply_text (reply.Ended outcome) = outcome_text outcome ++ codes "\n"
 reply_text (reply.Text text) = string_bytes text
 reply_text (reply.Jobs text stopped) = string_bytes text
 reply_text (reply.Script answers stopped) = answers_text (map answer_of answers.items)
-reply_text (reply.Refused refusal) = codes "refused " ++ code refusal ++ codes "\n"
+reply_text (reply.Refused refusal) = codes "refused " ++ refusal_text refusal ++ codes "\n"
 
 -- how a program ends after it
 abbrev pub ended_status : Outcome → Status

@@ -3,6 +3,6 @@ pub mod Commands
 pub mod Script
 pub mod Listing
 pub mod Input
-pub mod Codes
+pub mod Diagnostic
 pub mod Laws
 pub mod Program

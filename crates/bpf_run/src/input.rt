@@ -5,6 +5,7 @@ ghost use Rattle.std.specs.Io.KnownBytes.{Consumes, IsAtEnd};
 ghost use Rattle.bpf_run.specs.Input.{is_failed_read};
 
 use crate::stream::Source;
+use bpf_codes::{Code, Diagnostic};
 use std::alloc::Global;
 
 /// The greatest number of bytes that are read as input.
@@ -20,6 +21,21 @@ pub enum InputError {
     /// There are more than `MAX_INPUT` bytes.
     TooLong,
     OutOfMemory,
+}
+
+impl InputError {
+    ghost use Rattle.bpf_run.specs.Diagnostic.{input_diagnostic};
+
+    /// What is printed of it.
+    pub fn diagnostic(self) -> Diagnostic
+        ensures { result ≡ input_diagnostic self }
+    {
+        Diagnostic::new(match self {
+            InputError::Unread => Code::L7,
+            InputError::OutOfMemory => Code::L9,
+            InputError::TooLong => Code::L10,
+        })
+    }
 }
 
 /// One read, whose bytes go behind `input`.

@@ -2,3 +2,4 @@ pub mod Explained
 pub mod Working
 pub mod Worked
 pub mod Refusing
+pub mod Diagnostic

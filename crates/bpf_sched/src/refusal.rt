@@ -1,5 +1,6 @@
 //! Why no job is begun.
 
+use bpf_codes::{Code, Diagnostic};
 use hop_map::HopStore;
 use thiserror::Error;
 
@@ -18,6 +19,23 @@ pub enum SchedError {
     /// J4: there was no memory for what the jobs need.
     #[error("out of memory")]
     OutOfMemory,
+}
+
+impl SchedError {
+    ghost use Rattle.std.specs.Prelude.{◌≡◌};
+    ghost use Rattle.bpf_sched.specs.Diagnostic.{sched_diagnostic};
+
+    /// What is printed of it: its code, and where it is.
+    pub fn diagnostic(self) -> Diagnostic
+        ensures { result ≡ sched_diagnostic self }
+    {
+        match self {
+            SchedError::NoWorkers => Diagnostic::new(Code::J1),
+            SchedError::TooManyWorkers => Diagnostic::new(Code::J2),
+            SchedError::NoSuchCpu => Diagnostic::new(Code::J3),
+            SchedError::OutOfMemory => Diagnostic::new(Code::J4),
+        }
+    }
 }
 
 /// Why no job was begun, with the store.

@@ -13,3 +13,4 @@ pub mod Laws
 pub mod Lasting
 pub mod Listing
 pub mod Own
+pub mod Diagnostic

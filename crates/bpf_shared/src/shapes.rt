@@ -2,6 +2,7 @@
 ghost use Rattle.std.specs.Prelude.{◌≡◌, ◌↔◌, Some, IfOk, IfErr, IsOk};
 ghost use Rattle.bpf_shared.specs.First.{first_of};
 
+use bpf_codes::{Code, Diagnostic};
 use std::marker::Model;
 use thiserror::Error;
 
@@ -38,6 +39,26 @@ pub enum ShapeError {
     CpuCount,
     #[error("out of memory")]
     OutOfMemory,
+}
+
+impl ShapeError {
+    ghost use Rattle.std.specs.Prelude.{◌≡◌};
+    ghost use Rattle.bpf_shared.specs.Diagnostic.{shape_diagnostic};
+
+    /// What is printed of it: its code, and where it is.
+    pub fn diagnostic(self) -> Diagnostic
+        ensures { result ≡ shape_diagnostic self }
+    {
+        match self {
+            ShapeError::KeySize { .. } => Diagnostic::new(Code::S1),
+            ShapeError::ValueSize { .. } => Diagnostic::new(Code::S2),
+            ShapeError::KeyCount { .. } => Diagnostic::new(Code::S3),
+            ShapeError::SpareCount { .. } => Diagnostic::new(Code::S4),
+            ShapeError::TooManyMaps => Diagnostic::new(Code::S5),
+            ShapeError::CpuCount => Diagnostic::new(Code::S6),
+            ShapeError::OutOfMemory => Diagnostic::new(Code::S7),
+        }
+    }
 }
 
 impl MapShape {

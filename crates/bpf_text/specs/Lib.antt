@@ -11,3 +11,4 @@ pub mod Line
 pub mod Assembly
 pub mod Laws
 pub mod Private
+pub mod Diagnostic

@@ -1,5 +1,6 @@
 //! Why a text is refused.
 
+use bpf_codes::{Code, Diagnostic};
 use thiserror::Error;
 
 /// Why a text is refused. Lines count from 1.
@@ -19,4 +20,24 @@ pub enum TextError {
     OutOfMemory,
     #[error("not the hex digits of whole bytes")]
     NotHex,
+}
+
+impl TextError {
+    ghost use Rattle.std.specs.Prelude.{◌≡◌};
+    ghost use Rattle.bpf_text.specs.Diagnostic.{text_diagnostic};
+
+    /// What is printed of it: its code, and where it is.
+    pub fn diagnostic(self) -> Diagnostic
+        ensures { result ≡ text_diagnostic self }
+    {
+        match self {
+            TextError::BadLine(line) => Diagnostic::at_line(Code::A1, line),
+            TextError::BadNumber(line) => Diagnostic::at_line(Code::A2, line),
+            TextError::UnknownLabel(line) => Diagnostic::at_line(Code::A3, line),
+            TextError::TwiceLabel(line) => Diagnostic::at_line(Code::A4, line),
+            TextError::FarLabel(line) => Diagnostic::at_line(Code::A5, line),
+            TextError::OutOfMemory => Diagnostic::new(Code::A6),
+            TextError::NotHex => Diagnostic::new(Code::H1),
+        }
+    }
 }

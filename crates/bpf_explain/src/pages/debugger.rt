@@ -1,6 +1,6 @@
 //! Commands of the debugger.
 
-use crate::code::Code;
+use bpf_codes::Code;
 use crate::page::{Example, Page};
 
 pub const G1: Page = Page {

@@ -1,6 +1,6 @@
 //! Codes of input, of run files, and of the shapes of their maps.
 
-use crate::code::Code;
+use bpf_codes::Code;
 use crate::page::{Example, Page};
 
 pub const L1: Page = Page {
@@ -185,4 +185,13 @@ pub const S6: Page = Page {
     }),
     advice: "\
 One CPU takes as many jobs as wanted, one after the other.",
+};
+
+pub const S7: Page = Page {
+    code: Code::S7,
+    meaning: "no memory for a store of this shape",
+    example: None,
+    advice: "\
+A crate that makes a store gets it. `ebpf` prints L9 instead: it lacked memory
+for the whole command.",
 };

@@ -1,6 +1,6 @@
 //! Codes of programs.
 
-use crate::code::Code;
+use bpf_codes::Code;
 use crate::page::{Example, Page};
 
 pub const E1: Page = Page {

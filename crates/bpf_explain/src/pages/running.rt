@@ -1,6 +1,6 @@
 //! Codes of faults while a program runs.
 
-use crate::code::Code;
+use bpf_codes::Code;
 use crate::page::{Example, Page};
 
 pub const F1: Page = Page {

@@ -1,6 +1,6 @@
 //! Codes of assembly text and of hex digits.
 
-use crate::code::Code;
+use bpf_codes::Code;
 use crate::page::{Example, Page};
 
 pub const A1: Page = Page {

@@ -1,6 +1,6 @@
 //! Jobs that are run by worker threads.
 
-use crate::code::Code;
+use bpf_codes::Code;
 use crate::page::Page;
 
 pub const J1: Page = Page {

@@ -1,7 +1,7 @@
 -- How codes are spelled. Our own choice.
 use Rattle.std.specs.Prelude.{ℕ, List, codes}
-use Rattle.bpf_explain.specs.declared.code.Code.{Code}
-use Rattle.bpf_explain.specs.declared.code.Code.TheVariants as code
+use Rattle.bpf_codes.specs.declared.code.Code.{Code}
+use Rattle.bpf_codes.specs.declared.code.Code.TheVariants as code
 
 abbrev pub code_text : Code → List ℕ
 code_text code.A1 = codes "A1"
@@ -56,3 +56,4 @@ code_text code.S3 = codes "S3"
 code_text code.S4 = codes "S4"
 code_text code.S5 = codes "S5"
 code_text code.S6 = codes "S6"
+code_text code.S7 = codes "S7"

@@ -1,7 +1,7 @@
 //! The codes that the program prints.
 
 ghost use Rattle.std.specs.Prelude.{◌≡◌};
-ghost use Rattle.bpf_explain.specs.Code.{code_of};
+ghost use Rattle.bpf_codes.specs.Code.{code_of};
 
 /// A code that the program prints of a refusal or a fault.
 #[derive(Clone, Copy, PartialEq, Eq, Debug)]
@@ -58,10 +58,11 @@ pub enum Code {
     S4,
     S5,
     S6,
+    S7,
 }
 
 /// All codes.
-pub const CODES: [Code; 52] = [
+pub const CODES: [Code; 53] = [
     Code::A1,
     Code::A2,
     Code::A3,
@@ -114,11 +115,12 @@ pub const CODES: [Code; 52] = [
     Code::S4,
     Code::S5,
     Code::S6,
+    Code::S7,
 ];
 
 impl Code {
     ghost use Rattle.std.specs.Prelude.{◌≡◌};
-    ghost use Rattle.bpf_explain.specs.CodeText.{code_text};
+    ghost use Rattle.bpf_codes.specs.CodeText.{code_text};
 
     /// As it is printed: a letter and a number.
     pub fn text(self) -> &'static str
@@ -177,6 +179,7 @@ impl Code {
             Code::S4 => "S4",
             Code::S5 => "S5",
             Code::S6 => "S6",
+            Code::S7 => "S7",
         }
     }
 }
