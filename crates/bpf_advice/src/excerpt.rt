@@ -3,7 +3,8 @@
 use crate::finding::Finding;
 use bpf_disassembly::disassemble;
 use bpf_insn::{Insn, decode};
-use bpf_text::{assemble, from_hex};
+use bpf_lines::from_hex;
+use bpf_text::assemble;
 use std::alloc::{AllocError, Global};
 use std::str::SplitAsciiWhitespace;
 

@@ -4,7 +4,7 @@ use Rattle.std.specs.Prelude.{nat_lt, Ok, Err}
 use Rattle.std.proofs.lemmas.Bool.{cases_order, lt-ltb}
 use Rattle.bpf_shared.specs.Laws.{CallsHaveOneReply}
 use Rattle.bpf_mem.specs.Laws.{WritesAreDetermined}
-use Rattle.bpf_text.specs.Lines.{fields_of}
+use Rattle.bpf_lines.specs.Lines.{fields_of}
 use Rattle.bpf_loader.specs.Laws.{OneInstructionBegins}
 use Rattle.bpf_loader.specs.Loaded.{Loaded}
 use Rattle.bpf_machine.specs.declared.machine.Turn.{Turn}

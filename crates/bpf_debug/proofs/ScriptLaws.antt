@@ -3,7 +3,7 @@ use Rattle.std.proofs.Common.{◌≡◌, ℕ, List, [], ◌∷◌, ◌++◌, ref
 use Rattle.std.specs.Prelude.{String, Result, Ok, Err}
 use Rattle.std.specs.declared.alloc.Global.{Global}
 use Rattle.std.proofs.lemmas.List.{map-append}
-use Rattle.bpf_text.specs.Lines.{fields_of}
+use Rattle.bpf_lines.specs.Lines.{fields_of}
 use Rattle.bpf_debug.specs.declared.error.DebugError.{DebugError}
 use Rattle.bpf_debug.specs.Session.{SessionState, Scene, IsShown, LeavesLine, RefusesLine}
 use Rattle.bpf_debug.specs.Script.{Answer, AnswersLine, RunsScript, answer_of}

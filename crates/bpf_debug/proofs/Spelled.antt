@@ -11,8 +11,8 @@ use Rattle.bpf_shared.specs.Store.{Plain}
 use Rattle.bpf_shared.specs.Choice.{PlainlyAllowed}
 use Rattle.bpf_shared.specs.History.{PlainlyLegal}
 use Rattle.bpf_shared.proofs.Leaving.{event_shape, history_shape}
-use Rattle.bpf_text.specs.Lines.{fields_of}
-use Rattle.bpf_text.specs.Words.{number_tok}
+use Rattle.bpf_lines.specs.Lines.{fields_of}
+use Rattle.bpf_lines.specs.Words.{written_number}
 use Rattle.bpf_loader.specs.Loaded.{Loaded}
 use Rattle.bpf_cpu.specs.declared.cpu.Cpu.{Cpu}
 use Rattle.bpf_machine.specs.declared.machine.Turn.{Turn}
@@ -147,12 +147,12 @@ one_more n last before c less = elim (cases_lt c n) [
 ]
 
 few : (c : ℕ) → c < 8 → IsSpelled c
-unfolding digits number_tok
+unfolding digits written_number
 few = one_more 7 (refl, refl) (one_more 6 (refl, refl) (one_more 5 (refl, refl) (one_more 4 (refl, refl)
     (one_more 3 (refl, refl) (one_more 2 (refl, refl) (one_more 1 (refl, refl) (one_more 0 (refl, refl) (λ c less. absurd (omega arith)))))))))
 
 spelled : (c : ℕ) → c < 16 → IsSpelled c
-unfolding digits number_tok
+unfolding digits written_number
 spelled = one_more 15 (refl, refl) (one_more 14 (refl, refl) (one_more 13 (refl, refl) (one_more 12 (refl, refl)
     (one_more 11 (refl, refl) (one_more 10 (refl, refl) (one_more 9 (refl, refl) (one_more 8 (refl, refl) few)))))))
 

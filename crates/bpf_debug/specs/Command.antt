@@ -1,7 +1,7 @@
 -- What a line says to the debugger (our own choice).
 use Rattle.std.specs.Prelude.{ℕ, ◌^◌, ◌&&◌, nat_le, nat_lt, if◌then◌else◌, List, [], ◌∷◌, codes, Option, Some, None, option_map, option_and_then}
 use Rattle.std.specs.Str.{bytes_eq}
-use Rattle.bpf_text.specs.Words.{written_number, is_name}
+use Rattle.bpf_lines.specs.Words.{written_number, is_name}
 use Rattle.bpf_debug.specs.declared.command.Command.{Command}
 use Rattle.bpf_debug.specs.declared.command.Command.TheVariants as command
 

@@ -1,7 +1,7 @@
 -- What a script, lines one after the other, is answered (our own choice).
 use Rattle.std.specs.Prelude.{◌≡◌, ℕ, List, [], ◌∷◌, ◌++◌, Result, Ok, Err, string_bytes, String}
 use Rattle.std.specs.declared.alloc.Global.{Global}
-use Rattle.bpf_text.specs.Lines.{fields_of}
+use Rattle.bpf_lines.specs.Lines.{fields_of}
 use Rattle.bpf_debug.specs.declared.error.DebugError.{DebugError}
 use Rattle.bpf_debug.specs.Codes.{refusal_line}
 use Rattle.bpf_debug.specs.Session.{Scene, Obeys, IsLineRefused}

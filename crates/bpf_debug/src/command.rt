@@ -4,7 +4,7 @@ ghost use Rattle.std.specs.Prelude.{◌≡◌, map, option_map};
 ghost use Rattle.std.specs.Str.{bytes_eq};
 ghost use Rattle.bpf_debug.specs.Command.{cpu_in, pc_in, address_in, count_in, one_word, two_words, three_words, four_words, order_of, command_order};
 
-use bpf_text::words::{self, NumberError};
+use bpf_lines::words::{self, NumberError};
 
 /// A command of the debugger. A number that is too large to be a CPU's, a pc or an address is none.
 #[derive(Clone, Copy)]

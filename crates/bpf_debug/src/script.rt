@@ -2,13 +2,13 @@
 
 ghost use Rattle.std.specs.Prelude.{◌≡◌, IfOk, OnErr, length, map, string_bytes};
 ghost use Rattle.std.specs.Option.{option_copied};
-ghost use Rattle.bpf_text.specs.Lines.{lines_behind, lines_of};
+ghost use Rattle.bpf_lines.specs.Lines.{lines_behind, lines_of};
 ghost use Rattle.bpf_debug.specs.Session.{Scene, IsShown};
 ghost use Rattle.bpf_debug.specs.Script.{AnswersLine, RunsScript, answer_of};
 
 use crate::error::DebugError;
 use crate::session::Session;
-use bpf_text::lines::first_line;
+use bpf_lines::lines::first_line;
 use std::alloc::{AllocError, Global};
 
 /// A line's answer: its text, or why the line is refused.

@@ -1,7 +1,7 @@
 //! A session: a machine with its breakpoints, and what commands do to it.
 
 ghost use Rattle.std.specs.Prelude.{◌≡◌, ℕ, List, ◌<◌, ◌↔◌, IsTrue, true, false, IfOk, IfErr, OnErr, IfSome, IfNone, Some, [], map, length, string_bytes, string_len, string_capacity, ◌+◌, ◌*◌, ◌++◌, ◌≤◌};
-ghost use Rattle.bpf_text.specs.Lines.{fields_of};
+ghost use Rattle.bpf_lines.specs.Lines.{fields_of};
 ghost use Rattle.bpf_plain.specs.PlainStore.{has_cpu};
 ghost use Rattle.bpf_machine.specs.Machine.{Shows};
 ghost use Rattle.bpf_machine.specs.Schedule.{World, TakesTurn};
@@ -18,7 +18,7 @@ use crate::maps::{map_lines, map_named};
 use crate::reading::bytes_line;
 use bpf_loader::Program;
 use bpf_machine::{Machine, Turn};
-use bpf_text::lines;
+use bpf_lines::lines;
 use std::alloc::Global;
 use std::marker::Model;
 

@@ -36,9 +36,9 @@ use Rattle.bpf_spelling.specs.declared.operators.Operator.TheVariants.{Plain, Si
 use Rattle.bpf_text.specs.Line.{Written}
 use Rattle.bpf_text.specs.Private.Pieces.{operator_at, target_at, label_at, cell_at}
 use Rattle.bpf_text.specs.Private.Lines.{line_at, statement_at, register_at, operation_at, lock_at, branch_at, jump_at, jump_long_at, call_at, call_local_at, store_at}
-use Rattle.bpf_text.specs.Private.Cutting.{in_line}
+use Rattle.bpf_lines.specs.Private.Cutting.{in_line}
 use Rattle.bpf_text.specs.Assembly.{Source, IsLine, AreLines, Assembles, label_of, unlabelled, IsBody, first_place, meaning_of, program_of}
-use Rattle.bpf_text.specs.Lines.{lines_of}
+use Rattle.bpf_lines.specs.Lines.{lines_of}
 use Rattle.std.specs.List.{onto_first}
 use Rattle.bpf_text.proofs.Complete.{line_complete}
 use Rattle.bpf_disassembly.proofs.Shown.{shown, form_in_line, is_apart, AreSmall, SmallInteger}

@@ -23,14 +23,16 @@ use Rattle.bpf_spelling.specs.declared.signs.Sign.{Sign}
 use Rattle.bpf_spelling.specs.declared.signs.Sign.TheVariants as sign
 use Rattle.bpf_spelling.specs.Names.{register_text, keyword_text, register_of, keyword_of}
 use Rattle.bpf_spelling.specs.Signs.{sign_text, sign_at}
-use Rattle.bpf_text.specs.Words.{is_word_byte, begins_with_digit, is_digit_of, numeral_tok, number_tok, word_tok}
+use Rattle.bpf_lines.specs.Words.{is_word_byte, begins_with_digit, is_digit_of, written_in, written_number}
+use Rattle.bpf_text.specs.Words.{number_or_junk, word_tok}
 use Rattle.bpf_spelling.specs.Token.{Tok, Register, Word, Number, Mark}
 use Rattle.bpf_spelling.specs.Form.{Item, Is, Blank, Signed, Natural, Hex, Offset, Target, wide_text, item_text, text_of}
 use Rattle.bpf_text.specs.Line.{Spells}
 use Rattle.bpf_spelling.proofs.LongestSign.{first_is_longest}
 use Rattle.bpf_spelling.specs.Private.Letters.{first_sign}
-use Rattle.bpf_text.specs.Private.Cutting.{in_line}
-use Rattle.bpf_text.specs.Tokens.{is_blank, after_blanks, word_len, front_tok, front_len, IsEnd, AreTokens}
+use Rattle.bpf_lines.specs.Private.Cutting.{in_line}
+use Rattle.bpf_lines.specs.Lines.{is_blank}
+use Rattle.bpf_text.specs.Tokens.{after_blanks, word_len, front_tok, front_len, IsEnd, AreTokens}
 use Rattle.bpf_text.proofs.Comments.{blank_first, no_blank}
 
 -- ---- words
@@ -196,12 +198,12 @@ no_prefix [] h = refl
 no_prefix (a ∷ []) h = false_right (48 == a)
 no_prefix (a ∷ b ∷ ds) h = rw (no_x b h.1.0) (false_right (48 == a))
 
-numeral_by : (base : ℕ) (ds : List ℕ) → 0 < length ds → list_all (is_digit_of base) ds ≡ true → numeral_tok base ds ≡ Number (digits_value base ds)
+numeral_by : (base : ℕ) (ds : List ℕ) → 0 < length ds → list_all (is_digit_of base) ds ≡ true → written_in base ds ≡ Some (digits_value base ds)
 numeral_by base ds some all = let long = positive (length ds) some in rw (long, all) refl
 
 decimal_numeral : (ds : List ℕ) → IsNumeral 10 ds → word_tok ds ≡ Number (digits_value 10 ds)
-unfolding word_tok number_tok
-decimal_numeral ds h = rw (decimal_first ds h, no_prefix ds h.1) (numeral_by 10 ds h.0 (digit_bytes 10 ds (omega arith) h.1).0)
+unfolding word_tok written_number
+decimal_numeral ds h = rw (decimal_first ds h, no_prefix ds h.1) (ap number_or_junk (numeral_by 10 ds h.0 (digit_bytes 10 ds (omega arith) h.1).0))
 
 pub decimal_tok : (n : ℕ) → n < 2 ^ 64 → word_tok (decimal n) ≡ Number n
 decimal_tok n h = let d = decimal_is_IsNumeral n h in decimal_numeral (decimal n) d.0 ∙ ap Number d.1
@@ -224,8 +226,8 @@ zeros_long zero ds h = h
 zeros_long (suc k) ds h = omega arith
 
 hex_numeral : (hs : List ℕ) → 0 < length hs → AllDigits 16 hs → word_tok (48 ∷ 120 ∷ hs) ≡ Number (digits_value 16 hs)
-unfolding word_tok number_tok
-hex_numeral hs some all = numeral_by 16 hs some (digit_bytes 16 hs (omega arith) all).0
+unfolding word_tok written_number
+hex_numeral hs some all = ap number_or_junk (numeral_by 16 hs some (digit_bytes 16 hs (omega arith) all).0)
 
 wide_facts : (n : ℕ) → n < 2 ^ 64 → (word_tok (wide_text n) ≡ Number n) × (list_all is_word_byte (wide_text n) ≡ true)
 wide_facts n small =

@@ -1,7 +1,7 @@
 -- Cutting a program's assembly off a text, line by line.
 use Rattle.std.proofs.Common.{◌≡◌, ℕ, ◌+◌, ◌≤◌, true, false, List, [], ◌∷◌, ◌++◌, length, length-append, take, append_assoc, append-nil, Option, Some, None, refl, sym, ap, subst, ◌∙◌, arith}
 use Rattle.std.specs.Option.{option_copied}
-use Rattle.bpf_text.specs.Lines.{lines_of, lines_behind, rest_size}
+use Rattle.bpf_lines.specs.Lines.{lines_of, lines_behind, rest_size}
 use Rattle.bpf_file.specs.declared.assembly.Assembly.{Assembly}
 use Rattle.bpf_file.specs.Programs.{text_of_lines}
 use Rattle.bpf_file.specs.Reading.{is_end}

@@ -10,7 +10,7 @@ use Rattle.hex.proofs.HexLemmas.{decode_of-ok}
 use Rattle.bpf_insn.specs.declared.instruction.Insn.{Insn}
 use Rattle.bpf_mem.specs.Limits.{max_context}
 use Rattle.bpf_cpu.specs.Task.{Task, Waiting}
-use Rattle.bpf_text.specs.Lines.{lines_of, fields_of}
+use Rattle.bpf_lines.specs.Lines.{lines_of, fields_of}
 use Rattle.std.specs.Option.{option_map}
 use Rattle.hex.specs.declared.error.FromHexError.{FromHexError}
 use Rattle.bpf_shared.specs.First.{first_of}

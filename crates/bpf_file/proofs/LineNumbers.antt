@@ -9,7 +9,7 @@ use Rattle.bpf_text.specs.declared.labels.Place.{Place}
 use Rattle.bpf_text.specs.declared.reading.LineError.{LineError}
 use Rattle.bpf_text.specs.declared.reading.LineError.TheVariants.{BadLine, BadNumber}
 use Rattle.bpf_text.specs.Line.{Written}
-use Rattle.bpf_text.specs.Lines.{lines_of}
+use Rattle.bpf_lines.specs.Lines.{lines_of}
 use Rattle.bpf_text.specs.Assembly.{Source, AreLines, Assembles, words_of, is_twice, first_place, or_far, unless_twice, at_target, named_meaning, body_meaning, meaning_of, then_meaning, program_of}
 use Rattle.bpf_file.specs.Private.Lines.{line_named}
 

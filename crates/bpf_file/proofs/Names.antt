@@ -5,7 +5,7 @@ use Rattle.std.specs.Prelude.{IsUtf8, IsAscii, slice_index}
 use Rattle.std.specs.List.{list_all}
 use Rattle.std.proofs.lemmas.Str.{IsUtf8-from_ascii}
 use Rattle.std.proofs.lemmas.Str.Ascii.{IsAscii-nil}
-use Rattle.bpf_text.specs.Words.{is_word_byte, is_word, is_name}
+use Rattle.bpf_lines.specs.Words.{is_word_byte, is_word, is_name}
 use Rattle.bpf_file.specs.declared.form.Part.{Part}
 use Rattle.bpf_file.specs.declared.form.Part.TheVariants.{Word, Name, Number}
 use Rattle.bpf_file.specs.declared.key.Key.TheVariants as key

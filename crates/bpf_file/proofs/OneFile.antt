@@ -7,7 +7,7 @@ use Rattle.bpf_insn.specs.declared.instruction.Insn.{Insn}
 use Rattle.bpf_insn.specs.declared.error.InsnError.{InsnError}
 use Rattle.bpf_insn.specs.Laws.{WordsAreDetermined, RefusalsAreDetermined}
 use Rattle.bpf_text.specs.Laws.{TextsAreDetermined}
-use Rattle.bpf_text.specs.Lines.{lines_of, fields_of}
+use Rattle.bpf_lines.specs.Lines.{lines_of, fields_of}
 use Rattle.bpf_text.specs.declared.error.TextError.{TextError}
 use Rattle.bpf_loader.specs.Laws.{FirstIsDetermined}
 use Rattle.bpf_loader.specs.Loaded.{Loaded}

@@ -1,7 +1,7 @@
 -- Reading a whole file, line by line.
 use Rattle.std.proofs.Common.{◌≡◌, ℕ, ◌+◌, ◌≤◌, List, length, Option, Some, None, Result, Ok, Err, refl, sym, subst, arith, ◌⊎◌, inl, inr}
 use Rattle.std.specs.Option.{option_copied}
-use Rattle.bpf_text.specs.Lines.{lines_of, lines_behind, rest_size}
+use Rattle.bpf_lines.specs.Lines.{lines_of, lines_behind, rest_size}
 use Rattle.bpf_file.specs.declared.error.FileError.{FileError}
 use Rattle.bpf_file.specs.declared.error.FileError.TheVariants.{Refused, OutOfMemory}
 use Rattle.bpf_file.specs.File.{File}

@@ -12,7 +12,7 @@ use Rattle.bpf_file.specs.Reading.{is_end, FieldsSay, Belongs, AreRead}
 use Rattle.bpf_file.specs.Private.Cuts.{AreOpen, IsProgramCut}
 use Rattle.bpf_file.specs.Private.Drafts.{Ends, ReadsOnFrom}
 use Rattle.bpf_file.specs.declared.assembly.Assembly.{Assembly}
-use Rattle.bpf_text.specs.Lines.{lines_of, lines_behind, fields_of}
+use Rattle.bpf_lines.specs.Lines.{lines_of, lines_behind, fields_of}
 use Rattle.std.specs.Option.{option_copied}
 use denote.Ref.{Bor}
 

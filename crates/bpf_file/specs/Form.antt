@@ -1,7 +1,7 @@
 -- The forms of the lines of a run file: what each field has to be (our own choice).
 use Rattle.std.specs.Prelude.{ℕ, ◌*◌, Bool, true, false, ◌&&◌, nat_le, List, [], ◌∷◌, ◌++◌, length, get_or, Option, Some, None}
 use Rattle.bpf_mem.specs.Limits.{max_context}
-use Rattle.bpf_text.specs.Words.{written_number, is_name}
+use Rattle.bpf_lines.specs.Words.{written_number, is_name}
 use Rattle.bpf_file.specs.declared.form.Part.{Part}
 use Rattle.bpf_file.specs.declared.form.Part.TheVariants.{Word, Name, Number, Context, Words}
 use Rattle.bpf_file.specs.declared.key.Key.TheVariants as key

@@ -56,7 +56,6 @@ refusal_behind line (text.BadNumber n) = Refused (line + n) reason.BadOperand
 refusal_behind line (text.UnknownLabel n) = Refused (line + n) reason.UnknownLabel
 refusal_behind line (text.TwiceLabel n) = Refused (line + n) reason.TwiceLabel
 refusal_behind line (text.FarLabel n) = Refused (line + n) reason.FarLabel
-refusal_behind line text.NotHex = Refused line reason.NotHex
 refusal_behind line text.OutOfMemory = OutOfMemory
 
 -- the program in the assembly behind this line; or its refusal: of the first line that has one,

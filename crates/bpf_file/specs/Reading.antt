@@ -1,7 +1,7 @@
 -- The relation between a text and the run file that it is, line by line (our own choice). A line
 -- that is refused is the first; behind it nothing counts.
 use Rattle.std.specs.Prelude.{◌≡◌, ℕ, ◌+◌, ◌==◌, Bool, true, false, if◌then◌else◌, List, [], ◌∷◌, ◌++◌, length, Result, Ok, Err, MatchResult}
-use Rattle.bpf_text.specs.Lines.{lines_of, fields_of}
+use Rattle.bpf_lines.specs.Lines.{lines_of, fields_of}
 use Rattle.bpf_loader.specs.Loaded.{Loaded}
 use Rattle.bpf_file.specs.declared.error.FileError.{FileError}
 use Rattle.bpf_file.specs.declared.error.FileError.TheVariants.{Refused}

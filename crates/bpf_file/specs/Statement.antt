@@ -3,7 +3,7 @@ use Rattle.std.specs.Prelude.{◌≡◌, ℕ, ◌-◌, ◌^◌, nat_le, nat_lt, 
 use Rattle.std.specs.Option.{option_copied}
 use Rattle.bpf_base.specs.declared.budget.TheConstants.{MAX_BUDGET}
 use Rattle.bpf_shared.specs.declared.shapes.MapShape.{MapShape}
-use Rattle.bpf_text.specs.Words.{written_number}
+use Rattle.bpf_lines.specs.Words.{written_number}
 use Rattle.bpf_file.specs.declared.line.LineError.{LineError}
 use Rattle.bpf_file.specs.declared.line.LineError.TheVariants.{BadForm, BadNumber}
 use Rattle.bpf_file.specs.declared.statement.Statement.{Statement}

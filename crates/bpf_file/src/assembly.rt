@@ -1,13 +1,13 @@
 //! The assembly of a program, cut off a run file.
 
 ghost use Rattle.std.specs.Prelude.{◌≡◌, IfOk, IsOkUnless, MatchOption};
-ghost use Rattle.bpf_text.specs.Lines.{lines_of};
+ghost use Rattle.bpf_lines.specs.Lines.{lines_of};
 ghost use Rattle.bpf_file.specs.Reading.{is_end};
 ghost use Rattle.bpf_file.specs.Private.Cuts.{AreOpen, IsProgramCut};
 
 use crate::error::FileError;
 use crate::key::Key;
-use bpf_text::lines;
+use bpf_lines::lines;
 use std::alloc::Global;
 
 /// The lines between `prog` and `end`, and what stands behind the `end`.

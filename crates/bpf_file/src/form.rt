@@ -5,7 +5,7 @@ ghost use Rattle.bpf_file.specs.Form.{is_number, is_part, has_form, field_at};
 
 use crate::key::Key;
 use bpf_mem::context::MAX_CONTEXT;
-use bpf_text::words::{self, NumberError};
+use bpf_lines::words::{self, NumberError};
 
 /// What a field of a line has to be.
 #[derive(Clone, Copy)]

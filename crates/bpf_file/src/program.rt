@@ -72,7 +72,6 @@ fn behind(line: usize, error: TextError) -> FileError
         TextError::UnknownLabel(at) => FileError::Refused(line + at, Reason::UnknownLabel),
         TextError::TwiceLabel(at) => FileError::Refused(line + at, Reason::TwiceLabel),
         TextError::FarLabel(at) => FileError::Refused(line + at, Reason::FarLabel),
-        TextError::NotHex => FileError::Refused(line, Reason::NotHex),
         TextError::OutOfMemory => FileError::OutOfMemory,
     }
 }

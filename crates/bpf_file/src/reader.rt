@@ -2,7 +2,7 @@
 
 ghost use Rattle.std.specs.Prelude.{◌≡◌, ◌≤◌, ◌<◌, ◌+◌, ◌^◌, ◌⊎◌, [], Ok, Err, IfOk, IfErr, OnOk, length};
 ghost use Rattle.std.specs.Option.{option_copied};
-ghost use Rattle.bpf_text.specs.Lines.{lines_of, lines_behind, rest_size};
+ghost use Rattle.bpf_lines.specs.Lines.{lines_of, lines_behind, rest_size};
 ghost use Rattle.bpf_file.specs.File.{file_of};
 ghost use Rattle.bpf_file.specs.Parts.{Between, Within};
 ghost use Rattle.bpf_file.specs.Reading.{IsRunFile};
@@ -14,7 +14,7 @@ use crate::assembly;
 use crate::draft::{Draft, Next};
 use crate::error::{FileError, Reason};
 use crate::file::RunFile;
-use bpf_text::lines;
+use bpf_lines::lines;
 use std::alloc::Global;
 
 #[tactic(auto, using(crate::proofs::Sections::section_read, crate::proofs::Sections::section_refused, crate::proofs::Sections::section_unended, crate::proofs::Fits::section_fits))]

@@ -9,7 +9,7 @@ use crate::form;
 use crate::line::LineError;
 use bpf_base::MAX_BUDGET;
 use bpf_shared::MapShape;
-use bpf_text::words::{self, NumberError};
+use bpf_lines::words::{self, NumberError};
 
 /// What one line says, where it isn't assembly. Names and digits are as they stand.
 #[derive(Clone, Copy)]

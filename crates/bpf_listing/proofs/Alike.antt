@@ -8,9 +8,9 @@ use Rattle.std.proofs.lemmas.List.Folds.{list_all-append}
 use Rattle.std.proofs.lemmas.List.Splits.{length-slice_split}
 use Rattle.hex.specs.Hex.{encode_lower, encode_with, lower_digits}
 use Rattle.bpf_text.specs.Assembly.{AreLines, Source, words_of}
-use Rattle.bpf_text.specs.Lines.{lines_of}
+use Rattle.bpf_lines.specs.Lines.{lines_of}
 use Rattle.bpf_text.specs.Tokens.{IsTokens}
-use Rattle.bpf_text.specs.Private.Cutting.{in_line}
+use Rattle.bpf_lines.specs.Private.Cutting.{in_line}
 use Rattle.bpf_text.specs.Laws.{CommentsSayNothing}
 use Rattle.bpf_disassembly.proofs.ReadBack.{fed_line}
 use Rattle.bpf_listing.specs.Laws.{ListingsAssembleAlike}

@@ -5,7 +5,7 @@ use Rattle.bpf_insn.specs.declared.row.Encoding.{Encoding}
 use Rattle.bpf_insn.specs.declared.row.Encoding.TheVariants.{Basic, Wide}
 use Rattle.bpf_insn.specs.declared.instruction.Insn.{Insn}
 use Rattle.bpf_text.specs.Form.{canonical, line_of}
-use Rattle.bpf_text.specs.Lines.{lines_of}
+use Rattle.bpf_lines.specs.Lines.{lines_of}
 use Rattle.bpf_disassembly.proofs.ReadBack.{end_reads, end_source, first_line, line_reads, line_source}
 use Rattle.bpf_listing.specs.Laws.{ProgramLinesAreAListing}
 use Rattle.bpf_listing.specs.Program.{place_comment, program_lines}

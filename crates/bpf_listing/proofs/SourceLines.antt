@@ -2,7 +2,7 @@
 use Rattle.std.proofs.Common.{◌≡◌, ◌≢◌, ◌==◌, ℕ, ◌+◌, ◌*◌, ◌<◌, ◌≤◌, List, [], ◌∷◌, ◌++◌, length, append_assoc, append-nil, drop, take, Option, Some, None, zero, suc, refl, sym, ap, subst, ◌∙◌, arith, codes, Ok}
 use Rattle.std.proofs.lemmas.List.Splits.{length-slice_split}
 use Rattle.bpf_text.specs.Assembly.{IsLine, Source, words_of, label_of, unlabelled}
-use Rattle.bpf_text.specs.Lines.{lines_behind, lines_of, rest_size}
+use Rattle.bpf_lines.specs.Lines.{lines_behind, lines_of, rest_size}
 use Rattle.bpf_listing.specs.Program.{place_comment}
 use Rattle.bpf_listing.specs.Source.{IsSourceListing, behind_line, feed_before}
 

@@ -4,7 +4,7 @@ use Rattle.bpf_insn.specs.Encoding.{IsEncodedAs}
 use Rattle.bpf_insn.specs.declared.instruction.Insn.{Insn}
 use Rattle.bpf_text.specs.Assembly.{Assembles}
 use Rattle.bpf_text.specs.Form.{canonical}
-use Rattle.bpf_text.specs.Lines.{lines_of}
+use Rattle.bpf_lines.specs.Lines.{lines_of}
 use Rattle.bpf_text.specs.declared.error.TextError.{TextError}
 use Rattle.bpf_listing.specs.Program.{program_lines}
 use Rattle.bpf_listing.specs.Source.{IsSourceListing}

@@ -3,7 +3,8 @@
 ghost use Rattle.std.specs.Prelude.{◌≡◌, ◌++◌, IsOkUnless, OnOk, string_bytes};
 ghost use Rattle.bpf_listing.specs.Program.{place_comment};
 
-use bpf_text::{TextError, to_hex};
+use bpf_lines::to_hex;
+use bpf_text::TextError;
 use std::alloc::Global;
 
 /// Puts a pc and its words behind the text. Fails by `OutOfMemory` alone.
@@ -17,6 +18,6 @@ pub fn push_place(
         ≡ string_bytes text.old ++ place_comment pc bytes.now) }
     ensures memory { IsOkUnless result TextError.OutOfMemory }
 {
-    let digits = to_hex(alloc, bytes)?;
+    let digits = to_hex(alloc, bytes).map_err(|_| TextError::OutOfMemory)?;
     write!(text, " ; {pc}: {digits}").map_err(|_| TextError::OutOfMemory)
 }

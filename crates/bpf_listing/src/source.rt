@@ -4,7 +4,7 @@
 ghost use Rattle.std.specs.Prelude.{◌≡◌, ◌∷◌, ◌++◌, ◌*◌, ◌+◌, ◌≤◌, IfOk, IsOkUnless, OnOk, drop, length, string_bytes};
 ghost use Rattle.std.specs.Option.{option_copied};
 ghost use Rattle.bpf_text.specs.Assembly.{IsLine, Source, words_of};
-ghost use Rattle.bpf_text.specs.Lines.{lines_behind, lines_of, rest_size};
+ghost use Rattle.bpf_lines.specs.Lines.{lines_behind, lines_of, rest_size};
 ghost use Rattle.bpf_listing.specs.Source.{IsSourceListing, behind_line, feed_before};
 
 use crate::place::push_place;

@@ -1,6 +1,6 @@
 -- Cutting a run file off an input, line by line.
 use Rattle.std.proofs.Common.{◌≡◌, ℕ, ◌+◌, true, false, List, [], ◌∷◌, ◌++◌, length, take, append_assoc, append-nil, Option, Some, None, inl, inr, refl, sym, ap, subst, ◌∙◌, arith}
-use Rattle.bpf_text.specs.Lines.{lines_of, lines_behind, rest_size}
+use Rattle.bpf_lines.specs.Lines.{lines_of, lines_behind, rest_size}
 use Rattle.bpf_file.proofs.LinesLeft.{line_cut, line_size, Remains, remains_next, passed_text}
 use Rattle.bpf_run.specs.Script.{ends_file, NoneEnds, IsCut}
 

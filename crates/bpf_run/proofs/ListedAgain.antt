@@ -10,7 +10,7 @@ use Rattle.bpf_insn.specs.Encoding.{IsEncodedAs}
 use Rattle.bpf_insn.specs.Laws.{EncodingsAreDetermined}
 use Rattle.bpf_text.specs.declared.error.TextError.{TextError}
 use Rattle.bpf_text.specs.Assembly.{Assembles}
-use Rattle.bpf_text.specs.HexText.{digits_of}
+use Rattle.bpf_lines.specs.HexText.{digits_of}
 use Rattle.bpf_text.specs.Laws.{TextsAreDetermined}
 use Rattle.bpf_listing.specs.Laws.{ListingsAssembleAlike, ProgramLinesAssembleToTheirWords}
 use Rattle.bpf_run.specs.Answer.{reply_text}

@@ -19,9 +19,10 @@ use Rattle.bpf_cpu.specs.State.{start}
 use Rattle.bpf_cpu.specs.Step.{Explains}
 use Rattle.bpf_cpu.specs.Laws.{OutcomesAreDetermined, NoMapsNoEvents}
 use Rattle.bpf_text.specs.Assembly.{Assembles}
-use Rattle.bpf_text.specs.HexText.{IsHexOf}
+use Rattle.bpf_lines.specs.HexText.{IsHexOf}
 use Rattle.bpf_text.specs.Laws.{TextsAreDetermined}
 use Rattle.bpf_text.specs.declared.error.TextError.{TextError}
+use Rattle.bpf_lines.specs.declared.hex_text.HexError.TheVariants as hex_error
 use Rattle.bpf_text.specs.declared.error.TextError.TheVariants as text_error
 use Rattle.bpf_file.specs.declared.error.FileError.TheVariants as FileError
 use Rattle.bpf_file.specs.declared.error.Reason.{Reason}
@@ -38,7 +39,7 @@ use Rattle.bpf_run.specs.Commands.{IsAnswer, IsAssembled, IsDisassembled, IsForO
 use Rattle.bpf_run.specs.Script.{first_world_of}
 use Rattle.bpf_run.specs.declared.input.TheConstants.{MAX_INPUT}
 use Rattle.bpf_run.specs.Laws.{IsOfInput, IsForAnyInput, HasShortContext, RepliesAreDetermined}
-use Rattle.bpf_text.specs.Lines.{lines_of}
+use Rattle.bpf_lines.specs.Lines.{lines_of}
 use Rattle.bpf_listing.proofs.OneListing.{one_listing as one_listing_of}
 use Rattle.bpf_command.specs.declared.command.Command.{Command}
 use Rattle.bpf_command.specs.declared.command.Command.TheVariants as command
@@ -63,7 +64,7 @@ unworn program budget old events outcome (inr worn) = absurd worn.2
 -- ---- what each kind of reply says of the text
 
 data OfWords (text : List ℕ) : Refusal → Type 0 where
-  NoDigits : ((bytes : List ℕ) → ¬ IsHexOf text bytes) → OfWords text (refusal.Text text_error.NotHex)
+  NoDigits : ((bytes : List ℕ) → ¬ IsHexOf text bytes) → OfWords text (refusal.Hex hex_error.NotHex)
   NoWords : (error : InsnError) (bytes : List ℕ) → IsHexOf text bytes → IsRefused error bytes → error ≢ insn_error.OutOfMemory → OfWords text (refusal.Insn error)
 
 data OfRun (budget : ℕ) (context text : List ℕ) : Reply → Type 0 where
@@ -85,7 +86,8 @@ of_insn text insn_error.OutOfMemory h n = absurd (n tt)
 of_insn text error h n = NoWords error h.0 h.1 h.2 (λ e. cc)
 
 of_words : (text : List ℕ) (r : Refusal) → RefusesWords text r → ¬ IsForAnyInput r → OfWords text r
-of_words text (refusal.Text text_error.NotHex) h n = NoDigits h
+of_words text (refusal.Hex hex_error.NotHex) h n = NoDigits h
+of_words text (refusal.Hex hex_error.OutOfMemory) h n = absurd (n tt)
 of_words text (refusal.Text text_error.OutOfMemory) h n = absurd (n tt)
 of_words text (refusal.Insn error) h n = of_insn text error h n
 of_words text _ h n = absurd h

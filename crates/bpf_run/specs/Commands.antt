@@ -17,9 +17,10 @@ use Rattle.bpf_file.specs.Reading.{IsRunFile}
 use Rattle.bpf_insn.specs.declared.error.InsnError.TheVariants as insn_error
 use Rattle.bpf_text.specs.Assembly.{Assembles}
 use Rattle.bpf_text.specs.Form.{canonical}
-use Rattle.bpf_text.specs.HexText.{IsHexOf}
+use Rattle.bpf_lines.specs.HexText.{IsHexOf}
+use Rattle.bpf_lines.specs.declared.hex_text.HexError.TheVariants as hex_error
 use Rattle.bpf_text.specs.declared.error.TextError.TheVariants as text_error
-use Rattle.bpf_text.specs.Lines.{lines_of}
+use Rattle.bpf_lines.specs.Lines.{lines_of}
 use Rattle.bpf_listing.specs.Program.{program_lines}
 use Rattle.bpf_listing.specs.Source.{IsSourceListing}
 use Rattle.bpf_run.specs.Listing.{word_lines}
@@ -39,7 +40,8 @@ IsWordsOf text is = (bytes : List ℕ) × IsHexOf text bytes × IsSized bytes ×
 -- why it has not: it isn't the hex digits of bytes, or the bytes are no instructions; want of
 -- memory may stand in place of any answer
 abbrev pub RefusesWords : List ℕ → Refusal → Type 0
-RefusesWords text (refusal.Text text_error.NotHex) = (bytes : List ℕ) → ¬ IsHexOf text bytes
+RefusesWords text (refusal.Hex hex_error.NotHex) = (bytes : List ℕ) → ¬ IsHexOf text bytes
+RefusesWords text (refusal.Hex hex_error.OutOfMemory) = Unit {0}
 RefusesWords text (refusal.Text text_error.OutOfMemory) = Unit {0}
 RefusesWords text (refusal.Insn error) =
     (bytes : List ℕ) × IsHexOf text bytes × IsRefused error bytes

@@ -7,6 +7,7 @@ use Rattle.bpf_codes.specs.declared.diagnostic.Diagnostic.{Diagnostic}
 use Rattle.bpf_codes.specs.Diagnostic.{nowhere, diagnostic_text}
 use Rattle.bpf_insn.specs.Diagnostic.{insn_diagnostic}
 use Rattle.bpf_loader.specs.Diagnostic.{load_diagnostic}
+use Rattle.bpf_lines.specs.Diagnostic.{hex_diagnostic}
 use Rattle.bpf_text.specs.Diagnostic.{text_diagnostic}
 use Rattle.bpf_file.specs.Diagnostic.{reason_diagnostic}
 use Rattle.bpf_run.specs.declared.input.InputError.{InputError}
@@ -23,6 +24,7 @@ input_diagnostic input.TooLong = nowhere code.L10
 abbrev pub refusal_diagnostic : Refusal → Diagnostic
 refusal_diagnostic (refusal.Input error) = input_diagnostic error
 refusal_diagnostic refusal.NotText = nowhere code.L8
+refusal_diagnostic (refusal.Hex error) = hex_diagnostic error
 refusal_diagnostic (refusal.Text error) = text_diagnostic error
 refusal_diagnostic (refusal.Insn error) = insn_diagnostic error
 refusal_diagnostic (refusal.Load error) = load_diagnostic error

@@ -4,7 +4,8 @@ use Rattle.std.specs.Prelude.{◌≡◌, ◌↔◌, ℕ, ◌≤◌, ◌/◌, fal
 use Rattle.std.specs.declared.alloc.Global.{Global}
 use Rattle.bpf_insn.specs.declared.error.InsnError.TheVariants as insn_error
 use Rattle.bpf_loader.specs.declared.refusal.LoadError.TheVariants as load_error
-use Rattle.bpf_text.specs.HexText.{IsHexOf}
+use Rattle.bpf_lines.specs.HexText.{IsHexOf}
+use Rattle.bpf_lines.specs.declared.hex_text.HexError.TheVariants as hex_error
 use Rattle.bpf_text.specs.declared.error.TextError.TheVariants as text_error
 use Rattle.bpf_mem.specs.Limits.{max_context}
 use Rattle.bpf_debug.specs.Laws.{HadMemory}
@@ -24,6 +25,7 @@ use Rattle.bpf_run.specs.declared.reply.Reply.TheVariants as reply
 abbrev pub IsForAnyInput : Refusal → Type 0
 IsForAnyInput (refusal.Input input_error.Unread) = Unit {0}
 IsForAnyInput (refusal.Input input_error.OutOfMemory) = Unit {0}
+IsForAnyInput (refusal.Hex hex_error.OutOfMemory) = Unit {0}
 IsForAnyInput (refusal.Text text_error.OutOfMemory) = Unit {0}
 IsForAnyInput (refusal.Insn insn_error.OutOfMemory) = Unit {0}
 IsForAnyInput (refusal.Load load_error.OutOfMemory) = Unit {0}

@@ -3,7 +3,7 @@
 use Rattle.std.specs.Prelude.{◌≡◌, ℕ, Bool, List, Option, IfSome, []}
 use Rattle.clap.specs.Words.{Text, fault_of, subcommand_of}
 use Rattle.clap.specs.declared.error.Error.{Error}
-use Rattle.bpf_text.specs.declared.error.TextError.TheVariants as text_error
+use Rattle.bpf_lines.specs.declared.hex_text.HexError.TheVariants as hex_error
 use Rattle.bpf_command.specs.CommandLine.{ebpf}
 use Rattle.bpf_command.specs.Names.{Asks}
 use Rattle.bpf_command.specs.declared.command.Command.{Command}
@@ -43,7 +43,7 @@ IsAsked words request = (fault_of ebpf words ≡ []) × Asks (subcommand_of ebpf
 -- the refusal that is printed where words name no command; what `clap` says is shown and isn't
 -- printed as one
 abbrev pub IsPrintedAs : CommandError → Refusal → Type 0
-IsPrintedAs command_error.NotHex r = r ≡ refusal.Text text_error.NotHex
+IsPrintedAs command_error.NotHex r = r ≡ refusal.Hex hex_error.NotHex
 IsPrintedAs command_error.OutOfMemory r = r ≡ refusal.OutOfMemory
 IsPrintedAs (command_error.Shown _) r = ⊥
 IsPrintedAs command_error.NoCode r = ⊥

@@ -1,7 +1,7 @@
 -- What `debug` replies: a run file, a line `---`, and commands behind it.
 use Rattle.std.specs.Prelude.{◌≡◌, ◌⊎◌, ℕ, Bool, true, false, List, [], ◌∷◌, ◌++◌, Ok, Err, codes, length, map}
 use Rattle.std.specs.Str.{bytes_eq}
-use Rattle.bpf_text.specs.Lines.{lines_of, fields_of}
+use Rattle.bpf_lines.specs.Lines.{lines_of, fields_of}
 use Rattle.bpf_machine.specs.Schedule.{World}
 use Rattle.bpf_jobs.specs.Printed.{first_world, any_stopped}
 use Rattle.bpf_file.specs.declared.error.FileError.TheVariants as FileError

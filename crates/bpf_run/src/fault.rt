@@ -6,7 +6,7 @@ use bpf_faults::{Evidence, Maps, describe, evidence_of};
 use bpf_file::{RunFile, read_file};
 use bpf_insn::Insn;
 use bpf_machine::Machine;
-use bpf_text::{from_hex, to_hex};
+use bpf_lines::{from_hex, to_hex};
 use std::alloc::{AllocError, Global};
 
 /// The instruction at which a fault came, by the number of each job's program.

@@ -4,7 +4,8 @@ ghost use Rattle.std.specs.Prelude.{◌≡◌, ◌<◌, ◌++◌, ◌∷◌, ◌
 ghost use Rattle.hex.specs.Hex.{encode_lower};
 ghost use Rattle.bpf_run.specs.Listing.{word_lines};
 
-use bpf_text::{TextError, to_hex};
+use bpf_lines::to_hex;
+use bpf_text::TextError;
 use std::alloc::Global;
 
 /// Puts a word's digits and a line end behind the text.
@@ -13,7 +14,7 @@ fn push_word(alloc: Global, text: &mut String, word: &[u8]) -> Result<(), TextEr
         ≡ string_bytes text.old ++ (encode_lower word.now ++ 10 ∷ [])) }
     ensures memory { IsOkUnless result TextError.OutOfMemory }
 {
-    let digits = to_hex(alloc, word)?;
+    let digits = to_hex(alloc, word).map_err(|_| TextError::OutOfMemory)?;
     text.push_str(digits.as_str())
         .map_err(|_| TextError::OutOfMemory)?;
     text.push('\n').map_err(|_| TextError::OutOfMemory)

@@ -16,11 +16,12 @@ use bpf_command::{Command, FileOptions, RunOptions};
 use bpf_cpu::Cpu;
 use bpf_disassembly::disassemble;
 use bpf_insn::{Insn, decode, encode};
+use bpf_lines::from_hex;
 use bpf_listing::{program_lines, source_lines};
 use bpf_loader::{Program, load};
 use bpf_plain::PlainStore;
 use bpf_shared::{ShapeError, StoreShape};
-use bpf_text::{TextError, assemble, from_hex};
+use bpf_text::{TextError, assemble};
 use std::alloc::Global;
 use std::sync::Wait;
 use std::thread::Threads;
@@ -30,7 +31,7 @@ fn instructions(alloc: Global, text: &str) -> Result<Vec<Insn>, Refusal>
     ensures found { IfOk result (λ v. IsWordsOf text.now v.items) }
     ensures refused { IfErr result (RefusesWords text.now) }
 {
-    let bytes = from_hex(alloc, text).map_err(Refusal::Text)?;
+    let bytes = from_hex(alloc, text).map_err(Refusal::Hex)?;
     decode(alloc, &bytes).map_err(Refusal::Insn)
 }
 
@@ -130,7 +131,7 @@ fn disassembly(alloc: Global, pc: bool, text: &str) -> Result<String, Refusal>
         × (string_bytes printed ≡ shown_program pc found.0 is)) }
     ensures refused { IfErr result (RefusesWords text.now) }
 {
-    let bytes = from_hex(alloc, text).map_err(Refusal::Text)?;
+    let bytes = from_hex(alloc, text).map_err(Refusal::Hex)?;
     let program = decode(alloc, &bytes).map_err(Refusal::Insn)?;
     let shown = shown_program(alloc, pc, &bytes, &program).map_err(Refusal::Text)?;
     Ok(shown)

@@ -16,7 +16,7 @@ use crate::refusal::Refusal;
 use crate::reply::{Reply, Status};
 use crate::stream::{Sink, Source};
 use bpf_command::{Command, CommandError, Request, request_of};
-use bpf_text::TextError;
+use bpf_lines::HexError;
 use clap::error;
 use std::alloc::Global;
 use std::io;
@@ -107,7 +107,7 @@ fn follow<T: Threads + Wait + Sync, R: Source, W: Sink>(
         Ok(Request::Page(code)) => return Ending::Exit(print_page(alloc, code, sink)),
         Err(CommandError::Shown(error)) => return Ending::Shown(error),
         Err(CommandError::NoCode) => return Ending::NoCode,
-        Err(CommandError::NotHex) => Refusal::Text(TextError::NotHex),
+        Err(CommandError::NotHex) => Refusal::Hex(HexError::NotHex),
         Err(CommandError::OutOfMemory) => Refusal::OutOfMemory,
     };
     Ending::Exit(answer(alloc, &Reply::Refused(refusal), sink))

@@ -6,6 +6,7 @@ use crate::input::InputError;
 use bpf_codes::{Code, Diagnostic};
 use bpf_file::Reason;
 use bpf_insn::InsnError;
+use bpf_lines::HexError;
 use bpf_loader::LoadError;
 use bpf_text::TextError;
 use std::fmt;
@@ -16,7 +17,9 @@ pub enum Refusal {
     Input(InputError),
     /// The input isn't UTF-8.
     NotText,
-    /// The text of a program, or hex digits.
+    /// Hex digits.
+    Hex(HexError),
+    /// The text of a program.
     Text(TextError),
     /// The words of a program.
     Insn(InsnError),
@@ -40,6 +43,7 @@ impl Refusal {
         match self {
             Refusal::Input(error) => error.diagnostic(),
             Refusal::NotText => Diagnostic::new(Code::L8),
+            Refusal::Hex(error) => error.diagnostic(),
             Refusal::Text(error) => error.diagnostic(),
             Refusal::Insn(error) => error.diagnostic(),
             Refusal::Load(error) => error.diagnostic(),

@@ -2,7 +2,7 @@
 
 ghost use Rattle.std.specs.Prelude.{◌≡◌, IfOk, IsOkUnless};
 ghost use Rattle.std.specs.Option.{option_copied};
-ghost use Rattle.bpf_text.specs.Lines.{lines_behind};
+ghost use Rattle.bpf_lines.specs.Lines.{lines_behind};
 ghost use Rattle.bpf_file.specs.Runnable.{IsRunnable};
 ghost use Rattle.bpf_run.specs.Script.{IsDebugReply, IsCut, IsScriptOfFile, ends_file};
 
@@ -11,9 +11,8 @@ use crate::reply::Reply;
 use bpf_debug::{Session, run_script};
 use bpf_file::{FileError, RunFile, read_file};
 use bpf_jobs::{has_any_stopped, make_machine};
-use bpf_text::TextError;
-use bpf_text::lines::{fields, first_line};
-use std::alloc::Global;
+use bpf_lines::lines::{fields, first_line};
+use std::alloc::{AllocError, Global};
 
 /// An input that is cut in two.
 #[derive(Clone, Copy)]
@@ -24,9 +23,8 @@ struct Parts<'a> {
 }
 
 /// Whether a line ends the run file: its only word is `---`.
-fn ends_file(alloc: Global, line: &[u8]) -> Result<bool, TextError>
-    ensures value { IfOk result (λ b. b ≡ ends_file line.now) }
-    ensures memory { IsOkUnless result TextError.OutOfMemory }
+fn ends_file(alloc: Global, line: &[u8]) -> Result<bool, AllocError>
+    ensures { IfOk result (λ b. b ≡ ends_file line.now) }
 {
     let words = fields(alloc, line)?;
     match words.as_slice() {
@@ -37,10 +35,9 @@ fn ends_file(alloc: Global, line: &[u8]) -> Result<bool, TextError>
 
 /// The run file and the commands of an input. Want of memory is the only refusal.
 #[tactic(auto, using(crate::proofs::Cutting::seen_start, crate::proofs::Cutting::seen_cut, crate::proofs::Cutting::seen_none))]
-fn cut<'a>(alloc: Global, input: &'a [u8]) -> Result<Parts<'a>, TextError>
-    ensures cut { IfOk result
+fn cut<'a>(alloc: Global, input: &'a [u8]) -> Result<Parts<'a>, AllocError>
+    ensures { IfOk result
         (λ p. IsCut input.now p.file.now (lines_behind (option_copied p.commands))) }
-    ensures memory { IsOkUnless result TextError.OutOfMemory }
 {
     let mut size: usize = 0;
     let mut rest = Some(input);

@@ -12,8 +12,10 @@ use Rattle.bpf_spelling.specs.declared.signs.TheConstants.{SIGNS}
 use Rattle.bpf_text.specs.Laws.{CommentsSayNothing}
 use Rattle.bpf_spelling.specs.Signs.{longest, sign_at, sign_text}
 use Rattle.bpf_spelling.specs.Token.{Tok}
-use Rattle.bpf_text.specs.Tokens.{is_blank, after_blanks, word_len, sign_tok, sign_len, front_tok, front_len, IsEnd, AreTokens}
-use Rattle.bpf_text.specs.Words.{is_word_byte, word_tok}
+use Rattle.bpf_lines.specs.Lines.{is_blank}
+use Rattle.bpf_text.specs.Tokens.{after_blanks, word_len, sign_tok, sign_len, front_tok, front_len, IsEnd, AreTokens}
+use Rattle.bpf_lines.specs.Words.{is_word_byte}
+use Rattle.bpf_text.specs.Words.{word_tok}
 use Rattle.bpf_text.proofs.Scanning.{length-sign_at}
 
 -- ---- blanks

@@ -1,6 +1,3 @@
-pub mod HexLemmas
-pub mod HexReading
-pub mod DigitLemmas
 pub mod Scanning
 pub mod Chains
 pub mod Sound
@@ -8,7 +5,6 @@ pub mod Complete
 pub mod LabelLemmas
 pub mod BodyLemmas
 pub mod ShortForms
-pub mod LineCuts
 pub mod TextLemmas
 pub mod Unique
 pub mod Comments

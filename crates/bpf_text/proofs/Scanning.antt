@@ -13,7 +13,8 @@ use Rattle.bpf_spelling.proofs.Finding.{found_by}
 use Rattle.bpf_spelling.proofs.LongestSign.{first_is_longest}
 use Rattle.bpf_spelling.specs.Private.Letters.{first_sign}
 use Rattle.bpf_spelling.specs.Token.{Tok}
-use Rattle.bpf_text.specs.Tokens.{is_blank, after_blanks, front_tok, front_len, IsEnd, AreTokens, IsTokens}
+use Rattle.bpf_lines.specs.Lines.{is_blank}
+use Rattle.bpf_text.specs.Tokens.{after_blanks, front_tok, front_len, IsEnd, AreTokens, IsTokens}
 use Rattle.bpf_text.specs.Private.Look.{look}
 use Rattle.bpf_text.specs.Private.Cutting.{BeginTokens, KeepsToken}
 

@@ -10,9 +10,9 @@ use Rattle.bpf_text.specs.declared.reading.LineError.{LineError}
 use Rattle.bpf_text.specs.declared.reading.LineError.TheVariants.{BadLine, BadNumber}
 use Rattle.bpf_text.specs.Private.Labels.{or_else}
 use Rattle.bpf_text.specs.Private.Sources.{source_of, KeptLine, kept_view, nothing_is, nothing_said, is_refused, any_refused, is_left_out, kept_of, kept_program, Gathers}
-use Rattle.bpf_text.specs.Lines.{lines_behind, rest_size}
+use Rattle.bpf_lines.specs.Lines.{lines_behind, rest_size}
 use Rattle.bpf_text.specs.Assembly.{Source, IsLine, AreLines, words_of, is_named, is_twice, first_place, body_meaning, meaning_of, then_meaning, program_of}
-use Rattle.bpf_text.specs.Lines.{lines_of}
+use Rattle.bpf_lines.specs.Lines.{lines_of}
 use Rattle.bpf_text.specs.Line.{Written}
 
 -- ---- lines

@@ -15,7 +15,7 @@ use Rattle.bpf_text.specs.Tokens.{after_blanks}
 use Rattle.bpf_text.specs.Line.{Written, IsSpelled}
 use Rattle.bpf_text.specs.Private.Lines.{line_at}
 use Rattle.bpf_text.specs.Assembly.{Source, IsBody, IsLine, AreLines, Assembles, label_of, unlabelled, first_place, program_of}
-use Rattle.bpf_text.specs.Lines.{lines_of}
+use Rattle.bpf_lines.specs.Lines.{lines_of}
 use Rattle.bpf_text.proofs.Complete.{line_complete}
 use Rattle.bpf_text.specs.Private.Sources.{KeptLine, kept_program, Gathers}
 use Rattle.bpf_text.proofs.TextLemmas.{kept_means}

@@ -12,7 +12,7 @@ use Rattle.bpf_text.specs.declared.labels.Place.{Place}
 use Rattle.bpf_text.specs.declared.reading.LineError.{LineError}
 use Rattle.bpf_text.specs.declared.reading.LineError.TheVariants.{BadLine, BadNumber}
 use Rattle.bpf_spelling.specs.declared.signs.Sign.TheVariants.{Colon}
-use Rattle.bpf_text.specs.Lines.{lines_of}
+use Rattle.bpf_lines.specs.Lines.{lines_of}
 use Rattle.bpf_spelling.specs.Token.{Tok, Mark}
 use Rattle.bpf_text.specs.Tokens.{IsTokens}
 use Rattle.bpf_text.specs.Line.{Written, IsSpelled, name_of}

@@ -1,4 +1,4 @@
--- What is printed where a text is refused: of assembly text A1 to A6, of hex digits H1 and A6. Our own choice.
+-- What is printed where assembly text is refused: A1 to A6. Our own choice.
 use Rattle.bpf_codes.specs.declared.code.Code.TheVariants as code
 use Rattle.bpf_codes.specs.declared.diagnostic.Diagnostic.{Diagnostic}
 use Rattle.bpf_codes.specs.Diagnostic.{nowhere, at_line}
@@ -12,4 +12,3 @@ text_diagnostic (error.UnknownLabel line) = at_line code.A3 line
 text_diagnostic (error.TwiceLabel line) = at_line code.A4 line
 text_diagnostic (error.FarLabel line) = at_line code.A5 line
 text_diagnostic error.OutOfMemory = nowhere code.A6
-text_diagnostic error.NotHex = nowhere code.H1

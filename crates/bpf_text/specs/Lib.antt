@@ -3,10 +3,8 @@ pub use Rattle.bpf_spelling.specs.Signs
 pub use Rattle.bpf_spelling.specs.Operators
 pub use Rattle.bpf_spelling.specs.Token
 pub use Rattle.bpf_spelling.specs.Form
-pub mod HexText
 pub mod Words
 pub mod Tokens
-pub mod Lines
 pub mod Line
 pub mod Assembly
 pub mod Laws

@@ -1,5 +1,4 @@
 -- What private functions of the reader compute. No public clause speaks of these definitions.
-pub mod Digits
 pub mod Look
 pub mod Pieces
 pub mod Lines

@@ -1,14 +1,13 @@
 -- The tokens of a line: the longest word, or the longest sign, one after the other. Blanks
 -- (space, tab and CR) may stand between them, and a comment from `;` behind them (our own
 -- choice).
-use Rattle.std.specs.Prelude.{◌≡◌, ℕ, Bool, ◌==◌, ◌||◌, nat_lt, if◌then◌else◌, List, [], ◌∷◌, length, take_while, take, drop, Option, Some, None}
+use Rattle.std.specs.Prelude.{◌≡◌, ℕ, nat_lt, if◌then◌else◌, List, [], ◌∷◌, length, take_while, take, drop, Option, Some, None}
 use Rattle.bpf_spelling.specs.declared.signs.Sign.{Sign}
 use Rattle.bpf_spelling.specs.Signs.{sign_text, sign_at}
-use Rattle.bpf_text.specs.Words.{is_word_byte, word_tok}
+use Rattle.bpf_lines.specs.Lines.{is_blank}
+use Rattle.bpf_lines.specs.Words.{is_word_byte}
+use Rattle.bpf_text.specs.Words.{word_tok}
 use Rattle.bpf_spelling.specs.Token.{Tok, Mark, Junk}
-
-abbrev pub is_blank : ℕ → Bool
-is_blank b = (b == 32) || ((b == 9) || (b == 13))
 
 abbrev pub after_blanks : List ℕ → List ℕ
 after_blanks text = drop (length (take_while is_blank text)) text

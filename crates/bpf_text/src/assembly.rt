@@ -9,9 +9,10 @@ ghost use Rattle.bpf_text.specs.Private.Sources.{source_of, body_of, kept_view, 
 
 use crate::error::TextError;
 use crate::labels::{self, Labels, Place};
+use crate::meaning;
 use crate::source::{self, Body, SourceLine};
-use crate::{lines, meaning};
 use bpf_insn::Insn;
+use bpf_lines::lines;
 use std::alloc::Global;
 use std::collections::HashMap;
 

@@ -18,8 +18,6 @@ pub enum TextError {
     FarLabel(usize),
     #[error("out of memory")]
     OutOfMemory,
-    #[error("not the hex digits of whole bytes")]
-    NotHex,
 }
 
 impl TextError {
@@ -37,7 +35,6 @@ impl TextError {
             TextError::TwiceLabel(line) => Diagnostic::at_line(Code::A4, line),
             TextError::FarLabel(line) => Diagnostic::at_line(Code::A5, line),
             TextError::OutOfMemory => Diagnostic::new(Code::A6),
-            TextError::NotHex => Diagnostic::new(Code::H1),
         }
     }
 }

@@ -1,14 +1,17 @@
 //! Lines cut into tokens.
 
 ghost use Rattle.std.specs.Prelude.{◌≡◌, ◌<◌, ◌≤◌, ◌+◌, length, take_while, drop, map, IfOk, OnOk, IsOkUnless, IsTrue, ◌↔◌};
-ghost use Rattle.bpf_text.specs.Tokens.{is_blank, word_len, front_tok, front_len, IsEnd};
+ghost use Rattle.bpf_lines.specs.Lines.{is_blank};
+ghost use Rattle.bpf_text.specs.Tokens.{word_len, front_tok, front_len, IsEnd};
 ghost use Rattle.bpf_text.specs.Private.Cutting.{BeginTokens, KeepsToken};
 ghost use Rattle.bpf_text.specs.Private.Look.{look};
 
 use crate::error::TextError;
-use crate::numbers::Radix;
 use crate::words;
 use bpf_insn::{Reg, Width};
+use bpf_lines::lines::is_blank;
+use bpf_lines::numbers::Radix;
+use bpf_lines::words::is_word_byte;
 use bpf_spelling::Keyword;
 use bpf_spelling::signs::{self, Sign};
 use std::alloc::Global;
@@ -27,18 +30,11 @@ pub enum Token<'a> {
     Junk,
 }
 
-/// Space, tab or CR.
-pub fn is_blank(byte: u8) -> bool
-    ensures { result ≡ is_blank byte }
-{
-    matches!(byte, b' ' | b'\t' | b'\r')
-}
-
 fn word_len(text: &[u8]) -> usize
     ensures value { result ≡ word_len text.now }
     ensures bound { result ≤ length text.now }
 {
-    text.iter().take_while(|b| words::is_word_byte(**b)).count()
+    text.iter().take_while(|b| is_word_byte(**b)).count()
 }
 
 fn blank_len(text: &[u8]) -> usize

@@ -1,7 +1,7 @@
 -- How the reader cuts a program's assembly off. Private functions cite this.
 use Rattle.std.specs.Prelude.{◌≡◌, ◌≤◌, ◌+◌, ℕ, List, [], ◌∷◌, ◌++◌, length, false, true}
 use Rattle.std.specs.Option.{option_copied}
-use Rattle.bpf_text.specs.Lines.{lines_of, lines_behind, rest_size}
+use Rattle.bpf_lines.specs.Lines.{lines_of, lines_behind, rest_size}
 use Rattle.bpf_file.specs.declared.assembly.Assembly.{Assembly}
 use Rattle.bpf_file.specs.Programs.{text_of_lines}
 use Rattle.bpf_file.specs.Reading.{is_end}

@@ -1,7 +1,7 @@
 -- What the reader has gathered so far, and what its functions answer. Private functions cite this.
 use Rattle.std.specs.Prelude.{◌≡◌, ℕ, List, [], length, map, Result, Ok, Err, Option, string_bytes}
 use Rattle.std.specs.Option.{option_copied}
-use Rattle.bpf_text.specs.Lines.{lines_behind}
+use Rattle.bpf_lines.specs.Lines.{lines_behind}
 use Rattle.bpf_cpu.specs.Task.{waiting}
 use Rattle.bpf_file.specs.declared.draft.Draft.{Draft}
 use Rattle.bpf_file.specs.declared.draft.Next.{Next}

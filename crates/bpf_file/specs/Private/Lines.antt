@@ -10,5 +10,4 @@ line_named (text.BadNumber n) = n
 line_named (text.UnknownLabel n) = n
 line_named (text.TwiceLabel n) = n
 line_named (text.FarLabel n) = n
-line_named text.NotHex = 0
 line_named text.OutOfMemory = 0

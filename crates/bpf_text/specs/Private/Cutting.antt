@@ -1,12 +1,8 @@
--- Cutting a text into lines, and a line into tokens. Private functions cite this.
-use Rattle.std.specs.Prelude.{◌≡◌, ℕ, ◌≤◌, ◌<◌, ◌⊎◌, Bool, ◌==◌, not, List, [], ◌∷◌, ◌++◌, length}
+-- Cutting a line into tokens. Private functions cite this.
+use Rattle.std.specs.Prelude.{◌≡◌, ℕ, ◌≤◌, ◌<◌, ◌⊎◌, List, [], ◌∷◌, ◌++◌, length}
 use Rattle.bpf_text.specs.declared.token.Token.{Token}
 use Rattle.bpf_spelling.specs.Token.{Tok}
 use Rattle.bpf_text.specs.Tokens.{IsTokens}
-
--- every byte but a line feed
-abbrev pub in_line : ℕ → Bool
-in_line b = not (b == 10)
 
 -- all tokens of a line, or more of them than any form has
 abbrev pub BeginTokens : List ℕ → List Tok → Type 0

@@ -11,7 +11,7 @@ use Rattle.bpf_text.specs.declared.assembly.Kept.{Kept}
 use Rattle.bpf_text.specs.declared.error.TextError.{TextError}
 use Rattle.bpf_text.specs.declared.labels.Place.{Place}
 use Rattle.bpf_text.specs.Assembly.{Source, AreLines, words_of, first_place, meaning_of, then_meaning}
-use Rattle.bpf_text.specs.Lines.{lines_of}
+use Rattle.bpf_lines.specs.Lines.{lines_of}
 
 abbrev pub body_of : Body → Result (Option Written) LineError
 body_of Empty = Ok None

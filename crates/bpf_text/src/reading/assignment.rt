@@ -2,15 +2,17 @@
 //! negation.
 
 ghost use Rattle.std.specs.Prelude.{map};
-ghost use Rattle.bpf_text.specs.Private.Look.{look, numeral_value};
+ghost use Rattle.bpf_lines.specs.Words.{numeral_value};
+ghost use Rattle.bpf_text.specs.Private.Look.{look};
 ghost use Rattle.bpf_text.specs.Private.Lines.{map_at, keyword_at, moved_at, wide_at, negative_at, number_at, assigned_at, register_at};
 ghost use Rattle.bpf_text.specs.Private.Judging.{Judged, literal_value};
 
-use crate::numbers::{self, Literal, Radix};
+use crate::numbers::Literal;
 use crate::reading::{Draft, LineError, arithmetic, atomic, ends, memory, plain};
 use crate::registers;
 use crate::token::Token;
 use bpf_insn::{AluOp, Insn, Operand, Reg, Width};
+use bpf_lines::numbers::{self, Radix};
 use bpf_spelling::{Keyword, Sign};
 
 /// Behind `R = map`.

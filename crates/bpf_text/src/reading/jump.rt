@@ -1,16 +1,18 @@
 //! Jumps, branches and calls.
 
 ghost use Rattle.std.specs.Prelude.{map};
-ghost use Rattle.bpf_text.specs.Private.Look.{look, numeral_value};
+ghost use Rattle.bpf_lines.specs.Words.{numeral_value};
+ghost use Rattle.bpf_text.specs.Private.Look.{look};
 ghost use Rattle.bpf_text.specs.Private.Lines.{jump_at, jump_long_at, branch_to, branch_end, branch_at, helper_at, call_local_at, call_at};
 ghost use Rattle.bpf_text.specs.Private.Judging.{Judged, operand_of, target_of};
 
-use crate::numbers::{self, Radix};
+use crate::numbers;
 use crate::reading::operand::{self, RawOperand};
 use crate::reading::target::{self, RawTarget};
 use crate::reading::{Draft, LineError, operator, plain};
 use crate::token::Token;
 use bpf_insn::{Condition, Insn, Reg, Width};
+use bpf_lines::numbers::Radix;
 use bpf_spelling::{Keyword, operators};
 
 /// Behind `goto`.

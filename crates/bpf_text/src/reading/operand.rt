@@ -2,14 +2,16 @@
 
 ghost use Rattle.std.specs.Prelude.{◌≡◌, map, MatchOption};
 ghost use Rattle.bpf_insn.specs.declared.instruction.Operand.TheVariants as operand;
-ghost use Rattle.bpf_text.specs.Private.Look.{look, numeral_value};
+ghost use Rattle.bpf_lines.specs.Words.{numeral_value};
+ghost use Rattle.bpf_text.specs.Private.Look.{look};
 ghost use Rattle.bpf_text.specs.Private.Pieces.{operand_at};
 ghost use Rattle.bpf_text.specs.Private.Judging.{Gives, signed_of, operand_of, FitsOperand};
 
-use crate::numbers::{Literal, Radix};
+use crate::numbers::Literal;
 use crate::registers;
 use crate::token::Token;
 use bpf_insn::{Operand, Reg, Width};
+use bpf_lines::numbers::Radix;
 use bpf_spelling::Sign;
 
 /// The second operand, its number of any size.

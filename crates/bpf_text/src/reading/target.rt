@@ -1,13 +1,15 @@
 //! A jump's target.
 
 ghost use Rattle.std.specs.Prelude.{◌≡◌, map, None};
-ghost use Rattle.bpf_text.specs.Private.Look.{look, numeral_value};
+ghost use Rattle.bpf_lines.specs.Words.{numeral_value};
+ghost use Rattle.bpf_text.specs.Private.Look.{look};
 ghost use Rattle.bpf_text.specs.Private.Pieces.{label_at, target_at};
 ghost use Rattle.bpf_text.specs.Private.Judging.{Gives, signed_of, target_of};
 
-use crate::numbers::{Literal, Radix};
+use crate::numbers::Literal;
 use crate::token::Token;
 use crate::words;
+use bpf_lines::numbers::Radix;
 use bpf_spelling::Sign;
 
 /// A jump's target: a distance of any size, or a label.

@@ -1,6 +1,6 @@
 use Rattle.std.proofs.Common.{◌≡◌, ◌+◌, ◌≤◌, length}
 use Rattle.std.specs.Option.{option_copied}
-use Rattle.bpf_text.specs.Lines.{lines_of, lines_behind, rest_size}
+use Rattle.bpf_lines.specs.Lines.{lines_of, lines_behind, rest_size}
 use Rattle.bpf_debug.proofs.script.count_lines.Given as goal
 
 abbrev pub invariant-lines : goal.invariant-lines

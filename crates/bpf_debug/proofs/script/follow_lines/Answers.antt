@@ -1,6 +1,6 @@
 use Rattle.std.proofs.Common.{◌≡◌, List, ℕ, ◌∷◌, Option, Result, Bor, map, length, sym, ap, subst, ◌∙◌, arith, String, Global}
 use Rattle.std.specs.Option.{option_copied}
-use Rattle.bpf_text.specs.Lines.{lines_behind, lines_of}
+use Rattle.bpf_lines.specs.Lines.{lines_behind, lines_of}
 use Rattle.bpf_debug.specs.declared.error.DebugError.{DebugError}
 use Rattle.bpf_debug.specs.Script.{Answer, answer_of}
 use Rattle.bpf_debug.proofs.ScriptLaws.{Far, far_start, far_next, far_end, more_answers}

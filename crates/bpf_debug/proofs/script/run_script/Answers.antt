@@ -1,7 +1,7 @@
 use Rattle.std.proofs.Common.{List, ℕ, Option, None, Result, Bor, map, sym, subst, refl, String, Global}
 use Rattle.std.specs.Prelude.{IfOk}
 use Rattle.std.specs.Option.{option_copied}
-use Rattle.bpf_text.specs.Lines.{lines_behind}
+use Rattle.bpf_lines.specs.Lines.{lines_behind}
 use Rattle.bpf_debug.specs.declared.error.DebugError.{DebugError}
 use Rattle.bpf_debug.specs.Session.{Scene, IsShown}
 use Rattle.bpf_debug.specs.Script.{RunsScript, answer_of}

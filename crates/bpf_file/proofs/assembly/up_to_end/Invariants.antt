@@ -1,5 +1,5 @@
 use Rattle.std.specs.Option.{option_copied}
-use Rattle.bpf_text.specs.Lines.{rest_size}
+use Rattle.bpf_lines.specs.Lines.{rest_size}
 use Rattle.bpf_file.proofs.Cutting.{Seen}
 use Rattle.bpf_file.proofs.assembly.up_to_end.Given as goal
 

@@ -1,5 +1,5 @@
 use Rattle.std.specs.Option.{option_copied}
-use Rattle.bpf_text.specs.Lines.{rest_size}
+use Rattle.bpf_lines.specs.Lines.{rest_size}
 use Rattle.bpf_file.specs.Private.Drafts.{part_of}
 use Rattle.bpf_file.proofs.Progress.{Progress}
 use Rattle.bpf_file.proofs.reader.read_file.Given as goal

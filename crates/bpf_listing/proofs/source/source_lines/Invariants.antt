@@ -1,6 +1,6 @@
 use Rattle.std.proofs.Common.{string_bytes}
 use Rattle.std.specs.Option.{option_copied}
-use Rattle.bpf_text.specs.Lines.{rest_size}
+use Rattle.bpf_lines.specs.Lines.{rest_size}
 use Rattle.bpf_listing.proofs.SourceLines.{Listed}
 use Rattle.bpf_listing.proofs.source.source_lines.Given as goal
 

@@ -1,7 +1,7 @@
 use Rattle.std.proofs.Common.{rules, ◌≡◌, string_bytes}
 use Rattle.bpf_insn.specs.Encoding.{IsEncodedAs}
 use Rattle.bpf_insn.specs.Refusal.{IsSized}
-use Rattle.bpf_text.specs.HexText.{IsHexOf}
+use Rattle.bpf_lines.specs.HexText.{IsHexOf}
 use Rattle.bpf_run.specs.Commands.{shown_program}
 use Rattle.bpf_run.proofs.pipeline.disassembly.Goals as goal
 

@@ -1,6 +1,6 @@
 use Rattle.std.proofs.Common.{◌≡◌, length, map, sym, subst}
 use Rattle.std.specs.Option.{option_copied}
-use Rattle.bpf_text.specs.Lines.{lines_behind}
+use Rattle.bpf_lines.specs.Lines.{lines_behind}
 use Rattle.bpf_machine.specs.Machine.{MachineState, Shows}
 use Rattle.bpf_jobs.specs.Printed.{any_stopped}
 use Rattle.bpf_file.specs.File.{file_of}

@@ -1,6 +1,6 @@
 use Rattle.std.proofs.Common.{List, ℕ, subst}
 use Rattle.std.specs.Option.{option_copied}
-use Rattle.bpf_text.specs.Lines.{lines_behind}
+use Rattle.bpf_lines.specs.Lines.{lines_behind}
 use Rattle.bpf_run.specs.Script.{IsCut}
 use Rattle.bpf_run.proofs.ScriptReplies.{of_file}
 use Rattle.bpf_run.proofs.script.debug_file.Goals as goal

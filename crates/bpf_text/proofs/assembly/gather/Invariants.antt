@@ -2,7 +2,7 @@ use Rattle.std.proofs.Common.{◌≤◌, ◌*◌, map, vec_len}
 use Rattle.std.specs.Option.{option_copied}
 use Rattle.bpf_text.specs.Private.Labels.{found}
 use Rattle.bpf_text.specs.Private.Sources.{kept_view}
-use Rattle.bpf_text.specs.Lines.{rest_size}
+use Rattle.bpf_lines.specs.Lines.{rest_size}
 use Rattle.bpf_text.proofs.TextLemmas.{Gathered}
 use Rattle.bpf_text.proofs.assembly.gather.Given as goal
 

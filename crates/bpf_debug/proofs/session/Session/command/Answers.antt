@@ -1,6 +1,6 @@
 use Rattle.std.proofs.Common.{List, ℕ, subst}
 use Rattle.std.specs.Prelude.{IfOk, string_bytes}
-use Rattle.bpf_text.specs.Lines.{fields_of}
+use Rattle.bpf_lines.specs.Lines.{fields_of}
 use Rattle.bpf_debug.specs.Session.{LeavesLine}
 use Rattle.bpf_debug.proofs.session.Session.command.Goals as goal
 

@@ -1,0 +1,4 @@
+pub mod HexLemmas
+pub mod HexReading
+pub mod DigitLemmas
+pub mod LineCuts
