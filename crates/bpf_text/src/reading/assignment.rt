@@ -7,7 +7,7 @@ ghost use Rattle.bpf_text.specs.Private.Look.{look};
 ghost use Rattle.bpf_text.specs.Private.Lines.{map_at, keyword_at, moved_at, wide_at, negative_at, number_at, assigned_at, register_at};
 ghost use Rattle.bpf_text.specs.Private.Judging.{Judged, literal_value};
 
-use crate::numbers::Literal;
+use crate::numbers::{Literal, natural};
 use crate::reading::{Draft, LineError, arithmetic, atomic, ends, memory, plain};
 use crate::registers;
 use crate::token::Token;
@@ -22,7 +22,7 @@ fn map<'a>(width: Width, dst: Reg, tokens: &[Token<'a>]) -> Result<Draft<'a>, Li
 {
     match (width, tokens) {
         (Width::Bits64, [Token::Number(radix, digits)]) => {
-            let Some(map) = numbers::natural(*radix, *digits) else {
+            let Some(map) = natural(*radix, *digits) else {
                 return Err(LineError::BadNumber);
             };
             plain(Insn::LoadMap { dst, map })

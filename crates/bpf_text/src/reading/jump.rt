@@ -6,7 +6,7 @@ ghost use Rattle.bpf_text.specs.Private.Look.{look};
 ghost use Rattle.bpf_text.specs.Private.Lines.{jump_at, jump_long_at, branch_to, branch_end, branch_at, helper_at, call_local_at, call_at};
 ghost use Rattle.bpf_text.specs.Private.Judging.{Judged, operand_of, target_of};
 
-use crate::numbers;
+use crate::numbers::natural;
 use crate::reading::operand::{self, RawOperand};
 use crate::reading::target::{self, RawTarget};
 use crate::reading::{Draft, LineError, operator, plain};
@@ -152,7 +152,7 @@ fn call_helper<'a>(
 {
     match tokens {
         [] => {
-            let Some(number) = numbers::natural(radix, digits) else {
+            let Some(number) = natural(radix, digits) else {
                 return Err(LineError::BadNumber);
             };
             plain(Insn::CallHelper { number })
