@@ -9,6 +9,7 @@ use Rattle.hop_words.specs.Step.{Steps}
 use Rattle.hop_words.specs.Kinds.{writing}
 use Rattle.hop_words.specs.Locking.{lock_of}
 use Rattle.hop_words.specs.Guarded.{IsGuarded, MayWrite}
+use Rattle.hop_words.specs.Sights.{IsQuiet}
 use Rattle.hop_words.proofs.Counts.{read_head, read_hop, read_slot}
 use Rattle.hop_words.proofs.Mine.{read_mine, read_my_key}
 use Rattle.hop_words.proofs.Stays.{stay}
@@ -46,3 +47,11 @@ module _ (a : About) (l : Known) (held : l.locks ≡ lock_of l ∷ []) where
   write_guarded (Slot m s b) n g = at_lock (λ i t. Writes n (Slot i t b)) m s g.0 g.1 (write_slot a l (lock_of l) b n held)
   write_guarded (Link m e) n g = subst (λ (i : ℕ). Writes n (Link i e)) g.0 (λ there. write_link a l (lock_of l) e n held there g.1)
   write_guarded p n g = absurd g
+
+-- they are no stamps, and no words of free bits
+pub may_quiet : (a : About) (l : Known) (p : Place) → MayWrite a l p → IsQuiet p
+may_quiet a l (Head m s) may = tt
+may_quiet a l (Hop m s b) may = tt
+may_quiet a l (Slot m s b) may = tt
+may_quiet a l (Link m e) may = tt
+may_quiet a l p may = absurd may

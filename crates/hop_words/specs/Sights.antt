@@ -27,8 +27,8 @@ bit_cleared m e n = sight (FreeBits m (e / 64)) n (bit_and n (2 ^ 64 - 1 - 2 ^ (
 abbrev pub bit_set : ℕ → ℕ → ℕ → Sight
 bit_set m e n = sight (FreeBits m (e / 64)) n (bit_or n (2 ^ (e % 64)))
 
--- a place where a step that finds and changes need not be noted: so no element is taken or given
--- back, and no lock is taken, without a sight
+-- a place where a step that changes the word need not be noted: so no element is taken or given back,
+-- and no lock is taken, without a sight
 abbrev pub IsQuiet : Place → Type 0
 IsQuiet (FreeBits m i) = ⊥
 IsQuiet (Stamp m s) = ⊥

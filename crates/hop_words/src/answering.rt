@@ -138,7 +138,7 @@ impl Lane {
         ensures unlocked { self.new.known ≡ unlocking self.old.known }
     {
         let place = Place::Stamp { map, segment };
-        self.store_by::<Brand, _>(table, place, stamp + 256, ());
+        self.unlock_by::<Brand, _>(table, place, stamp + 256, ());
     }
 
     /// Unlocks a segment that didn't change.
@@ -151,7 +151,7 @@ impl Lane {
         ensures table { self.new.table ≡ self.old.table }
         ensures unlocked { self.new.known ≡ unlocking self.old.known }
     {
-        self.store_by::<Brand, _>(table, Place::Stamp { map, segment }, stamp, ());
+        self.unlock_by::<Brand, _>(table, Place::Stamp { map, segment }, stamp, ());
     }
 
     /// Unlocks a segment that didn't change, and with it an update is answered.
@@ -177,7 +177,7 @@ impl Lane {
             (Update map key.now value.now flags answer) self.new.known }
     {
         let place = Place::Stamp { map, segment };
-        self.store_by::<Brand, _>(table, place, stamp, (map, key, value, flags, answer));
+        self.unlock_by::<Brand, _>(table, place, stamp, (map, key, value, flags, answer));
     }
 
     /// Unlocks a segment that didn't change, and with it a deletion is answered.
@@ -201,7 +201,7 @@ impl Lane {
             (Delete map key.now answer) self.new.known }
     {
         let place = Place::Stamp { map, segment };
-        self.store_by::<Brand, _>(table, place, stamp, (map, key, answer));
+        self.unlock_by::<Brand, _>(table, place, stamp, (map, key, answer));
     }
 
     /// Unlocks a segment that didn't change, and with it a lookup is answered.
@@ -225,7 +225,7 @@ impl Lane {
             found self.new.known }
     {
         let place = Place::Stamp { map, segment };
-        self.store_by::<Brand, _>(table, place, stamp, (key, found));
+        self.unlock_by::<Brand, _>(table, place, stamp, (key, found));
     }
 
     /// Unlocks a segment, and with it a replacement takes effect that has been written: the old
@@ -253,6 +253,6 @@ impl Lane {
             (tail_of self.old.known.fresh) key.now value.now flags old self.new.known }
     {
         let place = Place::Stamp { map, segment };
-        self.store_by::<Brand, _>(table, place, stamp + 256, (key, value, flags, old));
+        self.unlock_by::<Brand, _>(table, place, stamp + 256, (key, value, flags, old));
     }
 }

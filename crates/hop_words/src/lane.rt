@@ -6,6 +6,7 @@ ghost use Rattle.hop_words.specs.Layout.{is_place};
 ghost use Rattle.hop_words.specs.Rule.{solo};
 ghost use Rattle.hop_words.specs.Inside.{nobody};
 ghost use Rattle.hop_words.specs.Sights.{IsQuiet};
+ghost use Rattle.hop_words.specs.Locking.{Unlocks};
 ghost use Rattle.hop_words.specs.Step.{Steps, Notes, NotesTaken, first_lane};
 
 use crate::known::View;
@@ -103,6 +104,7 @@ impl Lane {
     )
         requires table { self.old.table ≡ table.now.id }
         requires place { is_place table.now.about.shape place ≡ true }
+        requires quiet { IsQuiet place }
         requires step { Steps table.now.about self.old.known place (λ _. new)
             (λ ws n l. E.told new l) }
         ensures table { self.new.table ≡ self.old.table }
@@ -252,6 +254,32 @@ impl Lane {
             .table
             .shared
             .fetch_add::<Told<E>>(&mut self.seat, word, more)
+    }
+}
+
+// The unlock: the one step that stores a stamp.
+impl Lane {
+    #[inline(always)]
+    pub(crate) fn unlock_by<E: Tell, T: Copy>(
+        &mut self,
+        table: &HopTable,
+        place: Place,
+        new: u64,
+        _said: T,
+    )
+        requires table { self.old.table ≡ table.now.id }
+        requires place { is_place table.now.about.shape place ≡ true }
+        requires unlocks { Unlocks self.old.known place new }
+        requires step { Steps table.now.about self.old.known place (λ _. new)
+            (λ ws n l. E.told new l) }
+        ensures table { self.new.table ≡ self.old.table }
+        ensures told { E.told new self.new.known }
+    {
+        let word = table.word_of(place);
+        table
+            .table
+            .shared
+            .store::<Told<E>>(&mut self.seat, word, new);
     }
 }
 

@@ -2,5 +2,5 @@ use Rattle.std.specs.Prelude.{◌≡◌}
 use Rattle.hop_words.specs.Kinds.{unlocking}
 use Rattle.hop_words.proofs.lane.Lane.unlock_silent.Given as goal
 
-abbrev pub ghosts-store_by : goal.ghosts-store_by
-ghosts-store_by a = record { told = λ n l. l ≡ unlocking a.self.now.known }
+abbrev pub ghosts-unlock_by : goal.ghosts-unlock_by
+ghosts-unlock_by a = record { told = λ n l. l ≡ unlocking a.self.now.known }
