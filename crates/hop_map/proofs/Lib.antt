@@ -17,6 +17,7 @@ pub mod Removing
 pub mod Offering
 pub mod Verdicts
 pub mod Wholes
+pub mod Noted
 pub mod Settling
 pub mod Spans
 pub mod Ports

@@ -1,4 +1,5 @@
 pub mod Views
+pub mod Noting
 pub mod Calls
 pub mod Removals
 pub mod Locks

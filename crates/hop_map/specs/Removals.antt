@@ -39,3 +39,8 @@ abbrev pub DeleteEnds : About → Known → ℕ → List ℕ → Deletion → Kn
 DeleteEnds a l m key (Gone e) l2 = Dropped a l m key e l2 × (e < elements (shape_at a m))
 DeleteEnds a l m key Missing l2 = Kept a l m key Absent l2
 DeleteEnds a l m key Worn l2 = Kept a l m key Busy l2 × (2 ^ 56 - 1 ≤ a.version + done_in m l2.seen)
+
+abbrev pub answer_to : Deletion → MapAnswer
+answer_to (Gone e) = Done
+answer_to Missing = Absent
+answer_to Worn = Busy

@@ -21,6 +21,7 @@ use Rattle.hop_map.specs.declared.ending.Ending.TheVariants.{Added, Replaced, Re
 use Rattle.hop_map.specs.declared.judging.Finding.{Finding}
 use Rattle.hop_map.specs.declared.judging.Finding.TheVariants.{Refuses, There, Missing}
 use Rattle.hop_map.specs.Views.{Locked, Ready, seen_words}
+use Rattle.hop_map.specs.Noting.{BusyFirst}
 use Rattle.hop_map.specs.Calls.{Took}
 use Rattle.hop_map.specs.Overs.{Over}
 
@@ -56,7 +57,7 @@ pub record Offers (a : About) (l : Known) (m s : ℕ) (key bytes : List ℕ) (fl
 -- what the lock's words and the flags say of an update
 abbrev pub Judges : Locked → List ℕ → List ℕ → ℕ → Finding → Type 0
 Judges x key bytes flags (Refuses r) =
-    (r ≢ Done) × (r ≢ NoMemory) × (r ≡ Busy → 2 ^ 56 - 1 ≤ (lock_of x.known).stamp / 256)
+    (r ≢ Done) × (r ≢ NoMemory) × BusyFirst (lock_of x.known).stamp r
     × (Ready x.about x.known x.map x.segment →
     Answers x.about x.known (lock_of x.known) (Update x.map key bytes flags r))
 Judges x key bytes flags There =
@@ -79,3 +80,8 @@ UpdateEnds a l m key bytes flags Added l2 = Took a l m key bytes flags l2
 UpdateEnds a l m key bytes flags (Replaced e) l2 = Over a l m key bytes flags e l2
 UpdateEnds a l m key bytes flags (Refused r) l2 = Refusal a l m key bytes flags r l2
     × (r ≢ NoMemory)
+
+abbrev pub answer_of : Ending → MapAnswer
+answer_of Added = Done
+answer_of (Replaced e) = Done
+answer_of (Refused r) = r

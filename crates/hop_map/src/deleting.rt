@@ -7,7 +7,8 @@ ghost use Rattle.hop_words.specs.Homes.{segment_of};
 ghost use Rattle.hop_words.specs.Ghost.{shape_at};
 ghost use Rattle.bpf_shared.specs.Own.{in_run};
 ghost use Rattle.hop_map.specs.Locks.{with_lock};
-ghost use Rattle.hop_map.specs.Removals.{NamesKey, DeleteEnds};
+ghost use Rattle.hop_map.specs.Noting.{BusyFirst, CallNotes};
+ghost use Rattle.hop_map.specs.Removals.{NamesKey, DeleteEnds, answer_to};
 ghost use Rattle.hop_map.specs.Whole.{Rests, Called, Lacks, AreBatchesOf};
 
 use crate::dropping::{Deletion, delete_key};
@@ -36,7 +37,7 @@ fn lock_and_delete<R: Wait>(
     ensures table { result.0.table ≡ table.now.id }
     ensures ends { (n : ℕ) × DeleteEnds table.now.about (with_lock lane.known map
         (segment_of table.now.about.seed (shape_at table.now.about map) key.now) n) map
-        key.now result.1 result.0.known }
+        key.now result.1 result.0.known × BusyFirst n (answer_to result.1) }
 {
     let mut lane = lane;
     let at = homing(table, map, key);
@@ -64,6 +65,8 @@ pub fn delete<R: Wait>(
     ensures called { Called table.now.about lane.known map
         (Delete map key.now result.1) result.0.known }
     ensures lacks { Lacks table.now.about lane.known map result.1 result.0.known }
+    ensures noted { CallNotes table.now.about (Delete map key.now result.1)
+        lane.known result.0.known }
     ensures batches { AreBatchesOf table.now.about result.0.known map batches.new }
 {
     let (mut lane, deletion) = lock_and_delete(rt, table, lane, map, key);

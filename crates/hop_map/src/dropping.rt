@@ -7,7 +7,8 @@ ghost use Rattle.hop_words.specs.Locking.{lock_of};
 ghost use Rattle.hop_seg.specs.Content.{HasPair};
 ghost use Rattle.hop_map.specs.Views.{seen_words as seen};
 ghost use Rattle.hop_map.specs.Calls.{LockShows};
-ghost use Rattle.hop_map.specs.Removals.{NamesKey, Dropped, DeleteEnds};
+ghost use Rattle.hop_map.specs.Noting.{BusyFirst};
+ghost use Rattle.hop_map.specs.Removals.{NamesKey, Dropped, DeleteEnds, answer_to};
 
 use crate::judging::WORN;
 use crate::locked::LockedWords;
@@ -58,6 +59,7 @@ pub(crate) fn delete_key<'a>(
     ensures table { result.0.table ≡ words.entry.table }
     ensures ends { DeleteEnds words.entry.about words.entry.known words.entry.map
         key.now result.1 result.0.known }
+    ensures order { BusyFirst stamp (answer_to result.1) }
 {
     let mut words = words;
     if stamp >= WORN {

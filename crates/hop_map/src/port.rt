@@ -4,6 +4,7 @@ ghost use Rattle.bpf_shared.specs.declared.events.Event.TheVariants.{Begin, End,
 ghost use Rattle.bpf_shared.specs.Shape.{IsMapShape, IsKeyOf, IsPairOf, IsElementSpan, IsValueSpan};
 ghost use Rattle.hop_words.specs.Kinds.{run_count};
 ghost use Rattle.hop_map.specs.Whole.{Lacks};
+ghost use Rattle.hop_map.specs.Noting.{CallNotes};
 ghost use Rattle.hop_map.specs.Finding.{OnceEnds, Spares};
 ghost use Rattle.hop_map.specs.Port.{IsPortOf, PortDoes, runs};
 
@@ -182,6 +183,8 @@ impl HopPort {
         ensures answered { PortDoes table.now.about self.old
             (Update map key.now value.now flags result) self.new }
         ensures shortage { Lacks table.now.about self.old.known map result self.new.known }
+        ensures noted { CallNotes table.now.about (Update map key.now value.now flags result)
+            self.old.known self.new.known }
         ensures fits { IsPortOf table.now self.new }
     {
         let Some(lane) = self.lane.take() else {
@@ -203,6 +206,8 @@ impl HopPort {
         ensures in_run { runs self.new ≡ true }
         ensures answered { PortDoes table.now.about self.old (Delete map key.now result) self.new }
         ensures shortage { Lacks table.now.about self.old.known map result self.new.known }
+        ensures noted { CallNotes table.now.about (Delete map key.now result)
+            self.old.known self.new.known }
         ensures fits { IsPortOf table.now self.new }
     {
         let Some(lane) = self.lane.take() else {

@@ -7,7 +7,8 @@ ghost use Rattle.hop_seg.specs.Content.{HasPair, IsAbsent};
 ghost use Rattle.hop_map.specs.Views.{seen_words as seen};
 ghost use Rattle.hop_map.specs.Overs.{Over};
 ghost use Rattle.hop_map.specs.Calls.{LockShows};
-ghost use Rattle.hop_map.specs.Updates.{Wants, Offers, Refusal, UpdateEnds};
+ghost use Rattle.hop_map.specs.Noting.{BusyFirst};
+ghost use Rattle.hop_map.specs.Updates.{Wants, Offers, Refusal, UpdateEnds, answer_of};
 
 use crate::ending::Ending;
 use crate::judging::{Finding, judge};
@@ -40,6 +41,7 @@ pub(crate) fn put_new<'a, R: Wait>(
     ensures table { result.0.table ≡ words.entry.table }
     ensures ends { UpdateEnds words.entry.about words.entry.known words.entry.map
         key.now value.now flags result.1 result.0.known }
+    ensures order { BusyFirst stamp (answer_of result.1) }
 {
     let mut words = words;
     if !words.count_in(rt, element, key, value, flags) {
@@ -97,6 +99,7 @@ pub(crate) fn put<'a, R: Wait>(
     ensures table { result.0.table ≡ words.entry.table }
     ensures ends { UpdateEnds words.entry.about words.entry.known words.entry.map
         key.now value.now flags result.1 result.0.known }
+    ensures order { BusyFirst stamp (answer_of result.1) }
 {
     let mut words = words;
     match judge(&mut words, stamp, home, key, value, flags) {
@@ -129,6 +132,7 @@ pub(crate) fn refuse<'a>(
     ensures table { result.0.table ≡ words.entry.table }
     ensures refused { Refusal words.entry.about words.entry.known words.entry.map
         key.now value.now flags result.1 result.0.known }
+    ensures order { BusyFirst stamp result.1 }
 {
     let mut words = words;
     match judge(&mut words, stamp, home, key, value, flags) {

@@ -12,7 +12,8 @@ ghost use Rattle.bpf_shared.specs.Own.{in_run};
 ghost use Rattle.hop_arena.specs.Claiming.{Claims, Misses, IsArena};
 ghost use Rattle.hop_epoch.specs.Batch.{Keeps};
 ghost use Rattle.hop_map.specs.Locks.{Readies, with_lock};
-ghost use Rattle.hop_map.specs.Updates.{Wants, Refusal, UpdateEnds};
+ghost use Rattle.hop_map.specs.Noting.{BusyFirst, CallNotes};
+ghost use Rattle.hop_map.specs.Updates.{Wants, Refusal, UpdateEnds, answer_of};
 ghost use Rattle.hop_map.specs.Whole.{Rests, Called, Lacks, SearchesInVain, Searches, AreBatchesOf, HoldsNew};
 
 use crate::ending::Ending;
@@ -45,7 +46,8 @@ fn lock_and_put<R: Wait>(
     ensures table { result.0.table ≡ table.now.id }
     ensures ends { (n : ℕ) × UpdateEnds table.now.about (with_lock lane.known map
         (segment_of table.now.about.seed (shape_at table.now.about map) key.now) n) map
-        key.now value.now flags result.1 result.0.known }
+        key.now value.now flags result.1 result.0.known
+        × BusyFirst n (answer_of result.1) }
 {
     let mut lane = lane;
     let at = homing(table, map, key);
@@ -74,7 +76,8 @@ fn lock_and_refuse<R: Wait>(
     ensures table { result.0.table ≡ table.now.id }
     ensures refused { (n : ℕ) × Refusal table.now.about (with_lock lane.known map
         (segment_of table.now.about.seed (shape_at table.now.about map) key.now) n) map
-        key.now value.now flags result.1 result.0.known }
+        key.now value.now flags result.1 result.0.known
+        × BusyFirst n result.1 }
 {
     let mut lane = lane;
     let at = homing(table, map, key);
@@ -173,6 +176,8 @@ fn fill_and_put<R: Wait>(
     ensures worn { result.1 ≡ Busy →
         2 ^ 56 - 1 ≤ table.now.about.version + done_in map result.0.known.seen }
     ensures served { result.1 ≢ NoMemory }
+    ensures noted { CallNotes table.now.about (Update map key.now value.now flags result.1)
+        lane.known result.0.known }
     ensures arena { Searches table.now.about map arena.new }
     ensures batches { AreBatchesOf table.now.about result.0.known map batches.new }
 {
@@ -225,6 +230,8 @@ pub fn update<R: Wait>(
     ensures called { Called table.now.about lane.known map
         (Update map key.now value.now flags result.1) result.0.known }
     ensures lacks { Lacks table.now.about lane.known map result.1 result.0.known }
+    ensures noted { CallNotes table.now.about (Update map key.now value.now flags result.1)
+        lane.known result.0.known }
     ensures arena { Searches table.now.about map arena.new }
     ensures batches { AreBatchesOf table.now.about result.0.known map batches.new }
 {

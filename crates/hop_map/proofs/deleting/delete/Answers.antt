@@ -1,6 +1,7 @@
-use Rattle.std.proofs.Common.{ℕ, ◌+◌, ◌-◌, ◌^◌, ◌<◌, ◌≤◌, length, refl, subst, ◌∙◌}
+use Rattle.std.proofs.Common.{ℕ, ◌+◌, ◌-◌, ◌^◌, ◌<◌, ◌≤◌, [], length, refl, ap, subst, ◌∙◌}
 use Rattle.bpf_shared.specs.Shape.{elements}
-use Rattle.bpf_shared.specs.declared.events.MapAnswer.TheVariants.{Absent, Busy}
+use Rattle.bpf_shared.specs.declared.events.MapAnswer.TheVariants.{Done, Absent, Busy}
+use Rattle.hop_words.specs.declared.known.Known.{Known}
 use Rattle.hop_words.specs.Ghost.{shape_at, limbo_at}
 use Rattle.hop_words.specs.Homes.{segment_of}
 use Rattle.hop_words.specs.Sights.{lock_taken, sighted}
@@ -8,8 +9,10 @@ use Rattle.hop_words.specs.Rule.{done_in}
 use Rattle.hop_words.specs.Kinds.{retiring}
 use Rattle.hop_words.specs.Owning.{tail_of}
 use Rattle.hop_map.specs.declared.dropping.Deletion.{Deletion}
-use Rattle.hop_map.specs.Removals.{Dropped, Kept, DeleteEnds}
+use Rattle.hop_map.specs.Noting.{BusyFirst}
+use Rattle.hop_map.specs.Removals.{Dropped, Kept, DeleteEnds, answer_to}
 use Rattle.hop_map.proofs.Wholes.{key_at_map, kept_called, dropped_called}
+use Rattle.hop_map.proofs.Noted.{delete_notes}
 use Rattle.hop_map.proofs.deleting.delete.Goals as goal
 
 pub lock_and_delete-lane-requires-clause-names : goal.lock_and_delete-lane-requires-clause-names
@@ -56,3 +59,42 @@ returns-in-Worn-clause-called g c =
     let k = lock_taken m (segment_of a.seed (shape_at a m) key) c.lock_and_delete-lane.ensures.ends.0 in
     let p : Kept a (sighted l k) m key Busy l2 × (2 ^ 56 - 1 ≤ a.version + done_in m l2.seen) = subst (λ (d : Deletion). DeleteEnds a (sighted l k) m key d l2) c.in-Worn.is c.lock_and_delete-lane.ensures.ends.1 in
     kept_called a l k m key Busy l2 c.requires.rests p.0
+
+pub returns-in-Gone-clause-noted : goal.returns-in-Gone-clause-noted
+returns-in-Gone-clause-noted g c =
+    let a = c.args.table.now.about in
+    let l = c.args.lane.known in
+    let m = c.args.map in
+    let key = c.args.key.now in
+    let ends = c.lock_and_delete-lane.ensures.ends in
+    let l2 = c.lock_and_delete-lane.result.0.known in
+    let k = lock_taken m (segment_of a.seed (shape_at a m) key) ends.0 in
+    let p : Dropped a (sighted l k) m key c.in-Gone.old l2 × (c.in-Gone.old < elements (shape_at a m)) = subst (λ (d : Deletion). DeleteEnds a (sighted l k) m key d l2) c.in-Gone.is ends.1 in
+    delete_notes a l m key Done c.retire.new.lane.known ends.0 [] (ap (λ (q : Known). q.tally) c.retire.ensures.retired ∙ ap (λ (q : Known). q.tally) p.0.after) tt
+    (subst (λ (d : Deletion). BusyFirst ends.0 (answer_to d)) c.in-Gone.is ends.2)
+
+pub returns-in-Missing-clause-noted : goal.returns-in-Missing-clause-noted
+returns-in-Missing-clause-noted g c =
+    let a = c.args.table.now.about in
+    let l = c.args.lane.known in
+    let m = c.args.map in
+    let key = c.args.key.now in
+    let ends = c.lock_and_delete-lane.ensures.ends in
+    let l2 = c.lock_and_delete-lane.result.0.known in
+    let k = lock_taken m (segment_of a.seed (shape_at a m) key) ends.0 in
+    let p : Kept a (sighted l k) m key Absent l2 = subst (λ (d : Deletion). DeleteEnds a (sighted l k) m key d l2) c.in-Missing.is ends.1 in
+    delete_notes a l m key Absent l2 ends.0 [] (ap (λ (q : Known). q.tally) p.after) tt
+    (subst (λ (d : Deletion). BusyFirst ends.0 (answer_to d)) c.in-Missing.is ends.2)
+
+pub returns-in-Worn-clause-noted : goal.returns-in-Worn-clause-noted
+returns-in-Worn-clause-noted g c =
+    let a = c.args.table.now.about in
+    let l = c.args.lane.known in
+    let m = c.args.map in
+    let key = c.args.key.now in
+    let ends = c.lock_and_delete-lane.ensures.ends in
+    let l2 = c.lock_and_delete-lane.result.0.known in
+    let k = lock_taken m (segment_of a.seed (shape_at a m) key) ends.0 in
+    let p : Kept a (sighted l k) m key Busy l2 × (2 ^ 56 - 1 ≤ a.version + done_in m l2.seen) = subst (λ (d : Deletion). DeleteEnds a (sighted l k) m key d l2) c.in-Worn.is ends.1 in
+    delete_notes a l m key Busy l2 ends.0 [] (ap (λ (q : Known). q.tally) p.0.after) tt
+    (subst (λ (d : Deletion). BusyFirst ends.0 (answer_to d)) c.in-Worn.is ends.2)

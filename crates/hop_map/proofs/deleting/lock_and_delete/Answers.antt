@@ -26,4 +26,5 @@ returns-clause-ends g c =
       subst (λ (s : ℕ). DeleteEnds c.args.table.now.about (with_lock c.args.lane.known c.args.map s c.lock_when_free-stamp.result) c.args.map c.args.key.now c.delete_key.result.1 c.delete_key.result.0.known) c.homing-at.ensures.segment
           (delete_before c.args.table.now.about c.args.lane.known c.args.map c.homing-at.result.segment c.lock_when_free-stamp.result c.args.key.now c.lock_when_free-stamp.new.lane.known c.lock_when_free-stamp.ensures.locked c.requires.idle c.delete_key.result.1 c.delete_key.result.0.known
           (of_parts c.new-words.result _ _ _ _ made.about made.known made.map made.segment (λ a l m s. DeleteEnds a l m c.args.key.now c.delete_key.result.1 c.delete_key.result.0.known) c.delete_key.ensures.ends)),
+      c.delete_key.ensures.order,
     )

@@ -8,7 +8,9 @@ returns-in-Some-clause-judges c =
     let x = c.args.words.now in
     let key = c.args.key.now in
     let pair = c.in-Some.ensures.found (seen_words x) (ap seen_words (sym c.find.ensures.rests)) (judge_sound x key c.args.value.now c.args.flags c.requires.contents c.requires.wants) c.requires.home in
-    (λ z. cc, λ z. cc, λ z. cc, exists_answers x key c.args.value.now c.args.flags c.requires.contents c.requires.wants c.if-flags-eq1.true c.in-Some.field-0 pair)
+    let less = c.if-stamp-ge-WORN.false in
+    let is = c.requires.stamp in
+    (λ z. cc, λ z. cc, omega arith, exists_answers x key c.args.value.now c.args.flags c.requires.contents c.requires.wants c.if-flags-eq1.true c.in-Some.field-0 pair)
 
 pub returns-in-Some-2-clause-judges : goal.returns-in-Some-2-clause-judges
 returns-in-Some-2-clause-judges c =
@@ -24,7 +26,9 @@ returns-in-None-clause-judges c =
     let x = c.args.words.now in
     let key = c.args.key.now in
     let gone = c.in-None.ensures.found (seen_words x) (ap seen_words (sym c.find.ensures.rests)) (judge_sound x key c.args.value.now c.args.flags c.requires.contents c.requires.wants) c.requires.home in
-    (λ z. cc, λ z. cc, λ z. cc, absent_answers x key c.args.value.now c.args.flags c.requires.contents c.requires.wants c.if-flags-eq2.true gone)
+    let less = c.if-stamp-ge-WORN.false in
+    let is = c.requires.stamp in
+    (λ z. cc, λ z. cc, omega arith, absent_answers x key c.args.value.now c.args.flags c.requires.contents c.requires.wants c.if-flags-eq2.true gone)
 
 pub returns-in-None-2-clause-judges : goal.returns-in-None-2-clause-judges
 returns-in-None-2-clause-judges c =

@@ -1,9 +1,10 @@
-use Rattle.std.proofs.Common.{◌≢◌, ℕ, ◌+◌, ◌-◌, ◌^◌, ◌<◌, ◌≤◌, List, [], ◌∷◌, length, refl, ap, sym, subst, ◌∙◌, arith}
+use Rattle.std.proofs.Common.{◌≡◌, ◌≢◌, ℕ, ◌+◌, ◌-◌, ◌^◌, ◌<◌, ◌≤◌, List, [], ◌∷◌, length, refl, ap, sym, subst, ◌∙◌, arith}
 use Rattle.bpf_shared.specs.Shape.{IsMapShape}
 use Rattle.bpf_shared.specs.declared.events.Entry.{Entry}
-use Rattle.bpf_shared.specs.declared.events.MapAnswer.TheVariants.{NoMemory}
+use Rattle.bpf_shared.specs.declared.events.MapAnswer.TheVariants.{Done, NoMemory}
 use Rattle.hop_words.specs.declared.known.Known.{Known}
 use Rattle.hop_words.specs.declared.known.Fresh.{Fresh}
+use Rattle.hop_words.specs.declared.known.Sight.{Sight}
 use Rattle.hop_words.specs.Homes.{segment_of}
 use Rattle.hop_words.specs.Ghost.{shape_at, limbo_at}
 use Rattle.hop_words.specs.Rule.{done_in}
@@ -11,11 +12,14 @@ use Rattle.hop_words.specs.Kinds.{retiring}
 use Rattle.hop_words.specs.Owning.{tail_of, IsInHand}
 use Rattle.hop_map.specs.declared.ending.Ending.{Ending}
 use Rattle.hop_map.specs.Overs.{Over}
-use Rattle.hop_words.specs.Sights.{lock_taken, sighted}
+use Rattle.hop_words.specs.Sights.{lock_taken, bit_set, sighted}
 use Rattle.hop_map.specs.Locks.{Readies}
-use Rattle.hop_map.specs.Updates.{Refusal, UpdateEnds}
+use Rattle.hop_map.specs.Calls.{Took}
+use Rattle.hop_map.specs.Noting.{BusyFirst}
+use Rattle.hop_map.specs.Updates.{Refusal, UpdateEnds, answer_of}
 use Rattle.hop_map.proofs.Keys.{are_bytes}
 use Rattle.hop_map.proofs.Wholes.{pair_at}
+use Rattle.hop_map.proofs.Noted.{update_notes, bit_leaves}
 use Rattle.hop_map.proofs.Settling.{filled_readies, refused_hand, refused_called, over_called}
 use Rattle.hop_map.proofs.updating.fill_and_put.Goals as goal
 
@@ -128,3 +132,44 @@ returns-in-Replaced-clause-worn g c = λ z. cc
 
 pub returns-in-Replaced-clause-served : goal.returns-in-Replaced-clause-served
 returns-in-Replaced-clause-served g c = λ z. cc
+
+pub returns-in-Added-clause-noted : goal.returns-in-Added-clause-noted
+returns-in-Added-clause-noted g c =
+    let a = c.args.table.now.about in
+    let m = c.args.map in
+    let key = c.args.key.now in
+    let ends = c.lock_and_put-lane.ensures.ends in
+    let l2 = c.lock_and_put-lane.result.0.known in
+    let k = lock_taken m (segment_of a.seed (shape_at a m) key) ends.0 in
+    let p : Took a (sighted c.fill.new.lane.known k) m key c.args.value.now c.args.flags l2 = subst (λ (q : Ending). UpdateEnds a (sighted c.fill.new.lane.known k) m key c.args.value.now c.args.flags q l2) c.in-Added.is ends.1 in
+    update_notes a c.args.lane.known m key Done l2 ends.0 []
+    (ap (λ (q : Known). q.tally) p.after ∙ ap (λ (q : Known). k ∷ q.tally) c.fill.ensures.filled) tt
+    (subst (λ (q : Ending). BusyFirst ends.0 (answer_of q)) c.in-Added.is ends.2) c.args.value.now c.args.flags
+
+pub returns-in-Replaced-clause-noted : goal.returns-in-Replaced-clause-noted
+returns-in-Replaced-clause-noted g c =
+    let a = c.args.table.now.about in
+    let m = c.args.map in
+    let key = c.args.key.now in
+    let ends = c.lock_and_put-lane.ensures.ends in
+    let l2 = c.lock_and_put-lane.result.0.known in
+    let k = lock_taken m (segment_of a.seed (shape_at a m) key) ends.0 in
+    let p : Over a (sighted c.fill.new.lane.known k) m key c.args.value.now c.args.flags c.in-Replaced.old l2 = subst (λ (q : Ending). UpdateEnds a (sighted c.fill.new.lane.known k) m key c.args.value.now c.args.flags q l2) c.in-Replaced.is ends.1 in
+    update_notes a c.args.lane.known m key Done c.retire.new.lane.known ends.0 []
+    (ap (λ (q : Known). q.tally) c.retire.ensures.retired ∙ (ap (λ (q : Known). q.tally) p.after ∙ ap (λ (q : Known). k ∷ q.tally) c.fill.ensures.filled)) tt
+    (subst (λ (q : Ending). BusyFirst ends.0 (answer_of q)) c.in-Replaced.is ends.2) c.args.value.now c.args.flags
+
+pub returns-in-Refused-clause-noted : goal.returns-in-Refused-clause-noted
+returns-in-Refused-clause-noted g c =
+    let a = c.args.table.now.about in
+    let m = c.args.map in
+    let key = c.args.key.now in
+    let ends = c.lock_and_put-lane.ensures.ends in
+    let l2 = c.lock_and_put-lane.result.0.known in
+    let k = lock_taken m (segment_of a.seed (shape_at a m) key) ends.0 in
+    let p : Refusal a (sighted c.fill.new.lane.known k) m key c.args.value.now c.args.flags c.in-Refused.answer l2 × (c.in-Refused.answer ≢ NoMemory) = subst (λ (q : Ending). UpdateEnds a (sighted c.fill.new.lane.known k) m key c.args.value.now c.args.flags q l2) c.in-Refused.is ends.1 in
+    let back = bit_set c.args.element.map c.args.element.number c.give_back.ensures.given.0 in
+    update_notes a c.args.lane.known m key c.in-Refused.answer c.give_back.new.lane.known ends.0 (back ∷ [])
+    (ap (λ (q : Known). q.tally) c.give_back.ensures.given.1 ∙ ap (λ (z : List Sight). back ∷ z) (ap (λ (q : Known). q.tally) p.0.after ∙ ap (λ (q : Known). k ∷ q.tally) c.fill.ensures.filled))
+    (bit_leaves c.args.element.map c.args.element.number c.give_back.ensures.given.0, tt)
+    (subst (λ (q : Ending). BusyFirst ends.0 (answer_of q)) c.in-Refused.is ends.2) c.args.value.now c.args.flags

@@ -36,4 +36,5 @@ returns-clause-ends g c =
       subst (λ (s : ℕ). UpdateEnds c.args.table.now.about (with_lock c.args.lane.known c.args.map s c.lock_when_free-stamp.result) c.args.map c.args.key.now c.args.value.now c.args.flags c.put.result.1 c.put.result.0.known) c.homing-at.ensures.segment
           (ends_before c.args.table.now.about c.args.lane.known c.args.map c.homing-at.result.segment c.lock_when_free-stamp.result c.args.key.now c.args.value.now c.args.flags c.lock_when_free-stamp.new.lane.known c.lock_when_free-stamp.ensures.locked c.requires.readies.idle c.put.result.1 c.put.result.0.known
           (of_parts c.new-words.result _ _ _ _ made.about made.known made.map made.segment (λ a l m s. UpdateEnds a l m c.args.key.now c.args.value.now c.args.flags c.put.result.1 c.put.result.0.known) c.put.ensures.ends)),
+      c.put.ensures.order,
     )

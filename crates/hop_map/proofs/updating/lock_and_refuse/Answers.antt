@@ -26,4 +26,5 @@ returns-clause-refused g c =
       subst (λ (s : ℕ). Refusal c.args.table.now.about (with_lock c.args.lane.known c.args.map s c.lock_when_free-stamp.result) c.args.map c.args.key.now c.args.value.now c.args.flags c.refuse.result.1 c.refuse.result.0.known) c.homing-at.ensures.segment
           (refusal_before c.args.table.now.about c.args.lane.known c.args.map c.homing-at.result.segment c.lock_when_free-stamp.result c.args.key.now c.args.value.now c.args.flags c.lock_when_free-stamp.new.lane.known c.lock_when_free-stamp.ensures.locked c.requires.idle c.refuse.result.1 c.refuse.result.0.known
           (of_parts c.new-words.result _ _ _ _ made.about made.known made.map made.segment (λ a l m s. Refusal a l m c.args.key.now c.args.value.now c.args.flags c.refuse.result.1 c.refuse.result.0.known) c.refuse.ensures.refused)),
+      c.refuse.ensures.order,
     )

@@ -1,4 +1,4 @@
-use Rattle.std.proofs.Common.{ℕ, ◌<◌, length, refl, ap, subst, ◌∙◌, arith}
+use Rattle.std.proofs.Common.{ℕ, ◌<◌, [], length, refl, ap, subst, ◌∙◌, arith}
 use Rattle.hop_words.specs.declared.known.Known.{Known}
 use Rattle.hop_words.specs.Homes.{segment_of}
 use Rattle.hop_words.specs.Ghost.{shape_at}
@@ -6,6 +6,7 @@ use Rattle.hop_words.specs.Sights.{lock_taken}
 use Rattle.hop_map.specs.Whole.{SearchesInVain}
 use Rattle.hop_map.proofs.Keys.{are_bytes}
 use Rattle.hop_map.proofs.Wholes.{pair_at, kept_runs, lacks_of, searched_on, lock_leaves}
+use Rattle.hop_map.proofs.Noted.{update_notes, notes_after}
 use Rattle.hop_map.proofs.updating.update.Goals as goal
 
 pub lock_and_refuse-requires-clause-wants : goal.lock_and_refuse-requires-clause-wants
@@ -42,3 +43,26 @@ returns-in-None-clause-lacks g c =
     lacks_of a l m c.lock_and_refuse.result.1 l2 p.worn
     (λ _. searched_on a l m l1 l2 k (subst (λ (i : ℕ). SearchesInVain a l i l1) c.requires.arena.0 c.in-None.ensures.claimed.1) (lock_leaves m m (segment_of a.seed (shape_at a m) c.args.key.now) n)
     (ap (λ (q : Known). q.tally) p.after) (ap (λ (q : Known). q.limbo) p.after))
+
+pub returns-then-flags-gt2-clause-noted : goal.returns-then-flags-gt2-clause-noted
+returns-then-flags-gt2-clause-noted g c =
+    let many = c.if-flags-gt2.true in
+    ([], ap (λ (q : Known). q.tally) c.see_count_misflagged.ensures.answered.after, λ few. absurd (omega arith))
+
+pub returns-in-Some-clause-noted : goal.returns-in-Some-clause-noted
+returns-in-Some-clause-noted g c =
+    let kept = c.in-Some.ensures.claimed.0 in
+    notes_after c.args.table.now.about c.args.lane.known c.claim_free.new.lane.known c.args.map c.args.key.now c.args.value.now c.args.flags c.fill_and_put.result.1 c.fill_and_put.result.0.known kept.sights.0 c.if-flags-gt2.false kept.sights.1 c.fill_and_put.ensures.noted
+
+pub returns-in-None-clause-noted : goal.returns-in-None-clause-noted
+returns-in-None-clause-noted g c =
+    let a = c.args.table.now.about in
+    let m = c.args.map in
+    let key = c.args.key.now in
+    let l1 = c.claim_free.new.lane.known in
+    let l2 = c.lock_and_refuse.result.0.known in
+    let answer = c.lock_and_refuse.result.1 in
+    let refused = c.lock_and_refuse.ensures.refused in
+    let kept = c.in-None.ensures.claimed.0 in
+    notes_after a c.args.lane.known l1 m key c.args.value.now c.args.flags answer l2 kept.sights.0 c.if-flags-gt2.false kept.sights.1
+    (update_notes a l1 m key answer l2 refused.0 [] (ap (λ (q : Known). q.tally) refused.1.after) tt refused.2 c.args.value.now c.args.flags)
