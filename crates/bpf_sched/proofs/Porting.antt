@@ -1,5 +1,5 @@
 -- What a CPU's calls over its port are to the events that the port has seen of it.
-use Rattle.std.proofs.Common.{◌≡◌, ℕ, List, Some, ◌++◌, ap, sym, subst, ◌∙◌}
+use Rattle.std.proofs.Common.{◌≡◌, ℕ, List, [], ◌∷◌, Some, ◌++◌, ap, sym, subst, ◌∙◌}
 use Rattle.bpf_shared.specs.declared.events.Event.{Event}
 use Rattle.bpf_shared.specs.Chain.{Chain}
 use Rattle.bpf_shared.specs.History.{events_of}
@@ -7,6 +7,8 @@ use Rattle.bpf_shared.proofs.Chains.{events_of-append}
 use Rattle.bpf_loader.specs.Loaded.{Loaded}
 use Rattle.hop_words.specs.Inside.{Shown}
 use Rattle.hop_map.specs.Port.{Port, IsPortOf, own_events}
+use Rattle.hop_map.specs.Noting.{CallsNote}
+use Rattle.hop_map.specs.Lemmas.Notes.{none_note, notes-append}
 use Rattle.hop_cpu.specs.Serving.{Serving, serves, IsPortWorn}
 use Rattle.hop_cpu.specs.Passing.{ExtendsHistory}
 use Rattle.bpf_sched.specs.declared.assignment.Assignment.{Assignment}
@@ -46,6 +48,24 @@ module _ {G : Type 0} (serving : G → Serving) (t : Shown) (cpu : ℕ) (program
       carried IsOf own_of (Chain (λ a b log. ExtendsHistory (serving a) (serving b) log) (λ a. serves (serving a)) cpu) (λ a. IsPortWorn (serving a) cpu) extends (explained.IsWorn t.about.count)
       moves_on is_worn t.about.shape.maps programs x y olds news events of all
 
+  -- what the port's CPU noted at the calls of all jobs
+  pub noted_by_all : (x y : G) (olds news : List Assignment) (events : List Event) → IsOf x
+      → RunsAll (Chain (λ a b log. ExtendsHistory (serving a) (serving b) log) (λ a. serves (serving a)) cpu) (λ a. IsPortWorn (serving a) cpu) t.about.shape.maps programs x olds news events y
+      → CallsNote t.about events (serving x).port.known (serving y).port.known
+  noted_by_all x y [] [] events of (none, same) =
+      subst (λ (es : List Event). CallsNote t.about es (serving x).port.known (serving y).port.known) (sym none)
+      (subst (λ (z : G). CallsNote t.about [] (serving x).port.known (serving z).port.known) (sym same) (none_note t.about (serving x).port.known))
+  noted_by_all x y [] (new ∷ news) events of all = absurd all
+  noted_by_all x y (old ∷ olds) [] events of all = absurd all
+  noted_by_all x y (old ∷ olds) (new ∷ news) events of (z, mine, rest, is, ran, others) =
+      let here : CallsNote t.about mine (serving x).port.known (serving z).port.known =
+      subst (λ (es : List Event). CallsNote t.about es (serving x).port.known (serving z).port.known) ran.way.own
+      (subst (λ (k : ℕ). CallsNote t.about (events_of k ran.way.log) (serving x).port.known (serving z).port.known) of.1
+      (subst (λ (s : Shown). CallsNote s.about (events_of (serving x).port.known.cpu ran.way.log) (serving x).port.known (serving z).port.known) of.0 ran.way.passage.noted)) in
+      subst (λ (es : List Event). CallsNote t.about es (serving x).port.known (serving y).port.known) (sym is)
+      (notes-append t.about mine rest (serving x).port.known (serving z).port.known (serving y).port.known here
+      (noted_by_all z y olds news rest (moves_on x z mine of ran.way).0 others))
+
 -- a worker whose port was behind a gate's store has worked
 pub worked : {G : Type 0} (x y : G) (serving : G → Serving) (t : Shown) (programs : List Loaded) (w v : Worker) (p q : Port) (events : List Event)
     → w.port ≡ Some p → v.port ≡ Some q → (serving x).table ≡ t → (serving x).port ≡ p → p.known.cpu ≡ w.workload.cpu → q ≡ (serving y).port → IsPortOf (serving y).table q
@@ -69,4 +89,8 @@ worked {G} x y serving t programs w v p q events was is table at cpu out fits al
       events = events;
       more = all_behind (explained.IsWorn t.about.count) t.about.shape.maps programs (own_events p) (own_events q) w.workload.jobs.items v.workload.jobs.items events ran;
       ran = ran;
+      noted = subst (λ (r : Port). CallsNote t.about events r.known q.known) at
+          (subst (λ (r : Port). CallsNote t.about events (serving x).port.known r.known) (sym out)
+          (noted_by_all serving t c programs x y w.workload.jobs.items v.workload.jobs.items events of
+          (subst (λ (s : Shown). RunsAll (Chain (λ a b log. ExtendsHistory (serving a) (serving b) log) (λ a. serves (serving a)) c) (λ a. IsPortWorn (serving a) c) s.about.shape.maps programs x w.workload.jobs.items v.workload.jobs.items events y) table all)));
     }

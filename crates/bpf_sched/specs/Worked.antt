@@ -5,6 +5,7 @@ use Rattle.bpf_loader.specs.Loaded.{Loaded}
 use Rattle.bpf_cpu.specs.Task.{Task}
 use Rattle.hop_words.specs.Inside.{Shown}
 use Rattle.hop_map.specs.Port.{Port, IsPortOf, own_events, runs}
+use Rattle.hop_map.specs.Noting.{CallsNote}
 use Rattle.bpf_sched.specs.declared.worker.Worker.{Worker}
 use Rattle.bpf_sched.specs.Explained.{IsWorn, jobs_of}
 use Rattle.bpf_sched.specs.Working.{IsNew, RunsAll, assigned}
@@ -32,7 +33,8 @@ pub record IsReadyWorker (t : Shown) (programs : ℕ) (w : Worker) : Type 0 wher
 abbrev pub extends : List Event → List Event → List Event → Type 0
 extends before after events = after ≡ before ++ events
 
--- the worker has run its jobs in order, by these events of its CPU
+-- the worker has run its jobs in order, by these events of its CPU; at each of them the CPU noted no
+-- more than it may: so a lookup took the lock only after eight disturbed readings of its own
 pub record Worked (t : Shown) (programs : List Loaded) (w v : Worker) : Type 0 where
   pub before : Port
   pub after : Port
@@ -42,5 +44,6 @@ pub record Worked (t : Shown) (programs : List Loaded) (w v : Worker) : Type 0 w
   pub cpu : after.known.cpu ≡ before.known.cpu
   pub events : List Event
   pub more : extends (own_events before) (own_events after) events
+  pub noted : CallsNote t.about events before.known after.known
   pub ran : RunsAll extends (IsWorn t.about.count) t.about.shape.maps programs (own_events before)
       w.workload.jobs.items v.workload.jobs.items events (own_events after)

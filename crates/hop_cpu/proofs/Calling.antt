@@ -8,8 +8,10 @@ use Rattle.bpf_shared.specs.declared.events.Event.TheVariants.{Begin, End, Looku
 use Rattle.bpf_shared.specs.History.{events_of, entry}
 use Rattle.bpf_shared.specs.Own.{no_span, held_since, held_from, held_by}
 use Rattle.bpf_shared.specs.Passage.{Calls, same_span, held_with, held_without}
+use Rattle.bpf_shared.proofs.Chains.{events_of-append, events_of-own}
 use Rattle.hop_words.specs.Inside.{Shown}
 use Rattle.hop_map.specs.Port.{Port, PortDoes, own_events, runs, port_holds}
+use Rattle.hop_map.specs.Noting.{CallNotes, CallsNote}
 use Rattle.hop_map.proofs.Ports.{own_after}
 use Rattle.hop_cpu.specs.Serving.{Serving, serves, running, serves_span}
 use Rattle.hop_cpu.specs.Passing.{ExtendsHistory}
@@ -26,9 +28,17 @@ pub own_value : (p : Port) (c : ℕ) (b x : Bool) → (c == p.known.cpu) ≡ tru
 own_value p c b x served is = ap (λ (t : Bool). t && x) (sym served) ∙ is
 
 module _ (t : Shown) (p q : Port) (c : ℕ) (e : Event) (d : PortDoes t.about p e q) where
+  own_event : events_of p.known.cpu (d.seen.others ++ entry p.known.cpu e ∷ []) ≡ e ∷ []
+  own_event =
+      events_of-append p.known.cpu d.seen.others (entry p.known.cpu e ∷ [])
+      ∙ (ap (λ (es : List Event). es ++ events_of p.known.cpu (entry p.known.cpu e ∷ [])) d.seen.foreign ∙ events_of-own p.known.cpu e)
+
+  noted_one : CallNotes t.about e p.known q.known → CallsNote t.about (e ∷ []) p.known q.known
+  noted_one (sights, is, may) = (sights, is, (sights, [], refl, may, refl))
+
   -- a call of the CPU that is served
-  calls : serves (with_port t p) c ≡ true → Calls (ExtendsHistory (with_port t p) (with_port t q)) (serves (with_port t p)) c e
-  calls served = record {
+  calls : CallNotes t.about e p.known q.known → serves (with_port t p) c ≡ true → Calls (ExtendsHistory (with_port t p) (with_port t q)) (serves (with_port t p)) c e
+  calls notes served = record {
     others = d.seen.others;
     foreign = λ b is. ap (λ (k : ℕ). events_of k d.seen.others) (sym (own_cpu p b is)) ∙ d.seen.foreign;
     passage = record {
@@ -36,6 +46,8 @@ module _ (t : Shown) (p q : Port) (c : ℕ) (e : Event) (d : PortDoes t.about p 
       cpu = d.cpu;
       seen = d.seen.after ∙ ap (λ (k : ℕ). p.known.seen ++ (d.seen.others ++ entry k e ∷ [])) (own_cpu p c served);
       legal = λ l. d.seen.legal;
+      noted = subst (λ (es : List Event). CallsNote t.about es p.known q.known)
+          (sym own_event ∙ ap (λ (k : ℕ). events_of p.known.cpu (d.seen.others ++ entry k e ∷ [])) (own_cpu p c served)) (noted_one notes);
     };
   }
 
@@ -105,8 +117,8 @@ module _ (x : Serving) (t : Shown) (p : Port) (is : with_port t p ≡ x) (c : �
   is_running b r = own_value p c b (runs p) own (subst (λ (z : Serving). running z c ≡ b) (sym is) r)
 
   module _ (q : Port) (e : Event) (d : PortDoes t.about p e q) where
-    pub called : Calls (ExtendsHistory x (with_port t q)) (serves x) c e
-    called = subst (λ (z : Serving). Calls (ExtendsHistory z (with_port t q)) (serves z) c e) is (calls t p q c e d own)
+    pub called : CallNotes t.about e p.known q.known → Calls (ExtendsHistory x (with_port t q)) (serves x) c e
+    called notes = subst (λ (z : Serving). Calls (ExtendsHistory z (with_port t q)) (serves z) c e) is (calls t p q c e d notes own)
 
     -- an event in a run, which goes on
     pub same : running x c ≡ true → runs q ≡ true → (t.about.shape.maps ≡ x.table.about.shape.maps) × (serves (with_port t q) ≡ serves x) × (running (with_port t q) ≡ running x)
@@ -126,9 +138,9 @@ module _ (x : Serving) (t : Shown) (p : Port) (is : with_port t p ≡ x) (c : �
   abbrev Begun : Result (Unit {0}) Worn → Port → Type 0
   Begun r q = OnOk r (PortDoes t.about p Begin q)
 
-  pub begun : (q : Port) (r : Result (Unit {0}) Worn) → Begun r q → OnOk r (Calls (ExtendsHistory x (with_port t q)) (serves x) c Begin)
-  begun q (Ok u) d = called q Begin d
-  begun q (Err w) d = tt
+  pub begun : (q : Port) (r : Result (Unit {0}) Worn) → Begun r q → OnOk r (CallNotes t.about Begin p.known q.known) → OnOk r (Calls (ExtendsHistory x (with_port t q)) (serves x) c Begin)
+  begun q (Ok u) d notes = called q Begin d notes
+  begun q (Err w) d notes = tt
 
   pub begun_held : (q : Port) (r : Result (Unit {0}) Worn) → Begun r q → OnOk r (serves_span (with_port t q) ≡ held_without (serves_span x) c)
   begun_held q (Ok u) d = subst (λ (z : Serving). serves_span (with_port t q) ≡ held_without (serves_span z) c) is (holds_none t p q c d.cpu own (held_after t p q c Begin d))

@@ -25,6 +25,7 @@ ran x y t p program budget first end is legal (events, chain, explains) =
       seen = chain.passage.seen;
       legal = subst (λ (s : Shown). IsLegal s.about.shape y.port.known.seen) chain.passage.table last;
       explains = subst (λ (es : List Event). Explains (IsPortWorn x first.number) x.table.about.shape.maps program budget first es end) (sym chain.own) explains;
+      noted = chain.passage.noted;
     }
 
 pub idle_again : (x y : Serving) → running y ≡ running x → runs x.port ≡ false → runs y.port ≡ false

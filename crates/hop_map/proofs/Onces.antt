@@ -5,14 +5,16 @@ use Rattle.hop_words.specs.declared.known.About.{About}
 use Rattle.hop_words.specs.declared.known.Known.{Known}
 use Rattle.hop_words.specs.declared.known.Reading.{Reading}
 use Rattle.hop_words.specs.declared.place.Place.TheVariants.{Stamp}
-use Rattle.hop_words.specs.Sights.{look, sighted}
+use Rattle.hop_words.specs.declared.known.Sight.{Sight}
+use Rattle.hop_words.specs.Sights.{look, lock_taken, sighted}
 use Rattle.bpf_shared.specs.declared.events.Span.{Span}
 use Rattle.hop_words.specs.Home.{home_of}
 use Rattle.hop_words.specs.Ghost.{segment_in, shape_at}
 use Rattle.hop_words.specs.Kinds.{StampSeenAgain, Found, Saw, noting, found_span}
 use Rattle.hop_words.specs.Peeking.{latest_reading, HasReading}
 use Rattle.hop_map.specs.Peeks.{Peeked, Rested}
-use Rattle.hop_map.specs.Finding.{AsksForKey, AsksHere, Looked, Disturbs, ReadsOnce, all_sights, SeesDisturbances}
+use Rattle.hop_map.specs.Finding.{AsksForKey, AsksHere, Looked, Disturbs, ReadsOnce, TakesLock, all_sights, SeesDisturbances}
+use Rattle.hop_map.specs.Noting.{CallNotes}
 
 module _ (a : About) (l : Known) (m s n : ℕ) (key : List ℕ) (q : AsksForKey a l m key) (home : segment_in a m key ≡ s) where
   -- the first stamp is locked
@@ -132,3 +134,23 @@ module _ (a : About) (l : Known) (m : ℕ) (key : List ℕ) where
               ∙ (ap (λ (z : Known). record z { readings = y.readings; tally = p.sights ++ z.tally }) t.after
               ∙ (λ j. record l { readings = y.readings; tally = sym (append_assoc p.sights (all_sights t.more) l.tally) j }));
         }
+
+    module _ (o : Option Span) (y : Known) where
+      joined : (sights : List Sight) → y.tally ≡ sights ++ x.tally → y.tally ≡ (sights ++ all_sights t.more) ++ l.tally
+      joined sights is = is ∙ (ap (λ (z : Known). sights ++ z.tally) t.after ∙ sym (append_assoc sights (all_sights t.more) l.tally))
+
+      -- after them there was one that wasn't disturbed
+      pub reading_spares : ReadsOnce a x m key y → CallNotes a (Lookup m key o) l y
+      reading_spares (sights, undisturbed, is) = (
+        sights ++ all_sights t.more,
+        joined sights is,
+        record { tries = t.more; disturbed = t.each; last = sights; all = refl; ends = inl undisturbed },
+      )
+
+      -- after eight of them the lock was taken
+      pub lock_spares : n ≡ 8 → TakesLock a x m key y → CallNotes a (Lookup m key o) l y
+      lock_spares eight (i, is) = (
+        lock_taken m (segment_in a m key) i ∷ all_sights t.more,
+        joined (lock_taken m (segment_in a m key) i ∷ []) is,
+        record { tries = t.more; disturbed = t.each; last = lock_taken m (segment_in a m key) i ∷ []; all = refl; ends = inr (t.count ∙ eight, (i, refl)) },
+      )

@@ -1,5 +1,5 @@
 -- Ports from call to call.
-use Rattle.std.proofs.Common.{◌≡◌, ◌≢◌, ◌⊎◌, ℕ, zero, suc, ◌+◌, ◌%◌, ◌^◌, ◌<◌, Bool, true, false, List, [], ◌∷◌, ◌++◌, ◌==◌, Option, Some, Result, Ok, Err, OnOk, OnErr, length, get_or, slice_get, IfSome, set, refl, ap, sym, subst, ◌∙◌, arith, eq-eqb, None}
+use Rattle.std.proofs.Common.{◌≡◌, ◌≢◌, ◌⊎◌, ℕ, zero, suc, ◌+◌, ◌%◌, ◌^◌, ◌<◌, Bool, true, false, List, [], ◌∷◌, ◌++◌, append_assoc, ◌==◌, Option, Some, Result, Ok, Err, OnOk, OnErr, length, get_or, slice_get, IfSome, set, refl, ap, sym, subst, ◌∙◌, arith, eq-eqb, None}
 use Rattle.std.proofs.lemmas.List.{get_or_default, get_or-set_same, get_or-set_other, length-set}
 use Rattle.std.proofs.lemmas.Bool.Decides.{nat_tests}
 use Rattle.atomic_table.specs.Seated.{TableId}
@@ -10,6 +10,7 @@ use Rattle.bpf_shared.specs.History.{IsLegal, events_of, entry}
 use Rattle.bpf_shared.proofs.Chains.{events_of-append, events_of-own}
 use Rattle.hop_words.specs.declared.known.About.{About}
 use Rattle.hop_words.specs.declared.known.Known.{Known}
+use Rattle.hop_words.specs.declared.known.Sight.{Sight}
 use Rattle.hop_words.specs.declared.known.Limbo.{Limbo}
 use Rattle.hop_words.specs.Ghost.{HasElement, Each, limbo_at}
 use Rattle.hop_words.specs.Inside.{Shown, Standing}
@@ -24,6 +25,7 @@ use Rattle.bpf_shared.specs.declared.events.Span.{Span}
 use Rattle.hop_arena.specs.Claiming.{IsArena}
 use Rattle.hop_map.specs.Whole.{Searches, AreBatchesOf, Called}
 use Rattle.hop_map.specs.Finding.{Looked}
+use Rattle.hop_map.specs.Noting.{CallNotes}
 use Rattle.bpf_shared.specs.Shape.{IsElementSpan}
 use Rattle.hop_map.proofs.Spans.{last_found_lies}
 use Rattle.hop_map.specs.Port.{AreArenas, arena_at, no_arena, Port, port_of, standing_in, AreBatches, IsPortOf, IsEnding, runs, batches_at, no_batches}
@@ -137,6 +139,10 @@ pub reclaims : (t : Shown) (ended l l' : Known) (m : ℕ) (bs : List Batches) (b
 reclaims t ended l l' m bs b here name keeps tracks i = record {
   cpu = keeps.cpu ∙ i.cpu;
   seen = keeps.seen ∙ i.seen;
+  sights = (
+    keeps.sights.0 ++ i.sights.0,
+    keeps.sights.1 ∙ (ap (λ (z : List Sight). keeps.sights.0 ++ z) i.sights.1 ∙ sym (append_assoc keeps.sights.0 i.sights.0 ended.tally)),
+  );
   nothing = record {
     fresh = keeps.fresh ∙ i.nothing.fresh;
     locks = keeps.locks ∙ i.nothing.locks;
@@ -239,3 +245,11 @@ ended_idle t p ended l bs told i running =
     let cpu = i.cpu ∙ ap (λ (k : Known). k.cpu) told.after in
     let n = turned t.about p.known l End (subst (Saw t.about p.known End) (sym i.seen) told.seen) cpu in
     grind (arith, nat_tests)
+
+-- ---- what a beginning and an end note
+pub begun_notes : (a : About) (l l' : Known) (r : Result (Unit {0}) Worn) → OnOk r (Told a l Begin l') → OnOk r (CallNotes a Begin l l')
+begun_notes a l l' (Ok u) told = ([], ap (λ (k : Known). k.tally) told.after, refl)
+begun_notes a l l' (Err e) told = tt
+
+pub ended_notes : (t : Shown) (p : Port) (ended l : Known) (bs : List Batches) → Told t.about p.known End ended → IsEnding t ended l bs → CallNotes t.about End p.known l
+ended_notes t p ended l bs told i = (i.sights.0, i.sights.1 ∙ ap (λ (k : Known). i.sights.0 ++ k.tally) told.after, tt)

@@ -11,6 +11,7 @@ use Rattle.hop_words.specs.Kinds.{Told}
 use Rattle.hop_map.specs.declared.port.HopPort.TheInside.{Inside as InPort}
 use Rattle.hop_map.specs.Accesses.{IsHeldAt}
 use Rattle.hop_map.specs.Port.{Port, port_of, port_holds, runs, IsPortOf}
+use Rattle.hop_map.specs.Noting.{MayNote, CallNotes}
 use Rattle.hop_map.proofs.Ports.{still_runs, port_with, port_is}
 use Rattle.hop_map.proofs.Holding.{held_at, told_fits}
 
@@ -34,6 +35,9 @@ module _ (i : InPort) (o : Option Standing) (s : Standing) («from» : o ≡ i.l
   module _ (l : Known) (e : Event) (quiet : turns_of (e ∷ []) ≡ 0) (told : Told t.about s.known e l) where
     pub fits_after : (z : TableId) → z ≡ s.table → IsPortOf t (port_with (record { table = z; known = l }) i.arenas.items i.batches.items)
     fits_after z table = told_fits t taken z l e taken_fits table quiet told
+
+    pub quiet_after : MayNote t.about e [] → CallNotes t.about e q.known l
+    quiet_after may = subst (λ (p : Port). CallNotes t.about e p.known l) is ([], ap (λ (k : Known). k.tally) told.after, may)
 
     pub runs_after : in_run (events_of l.cpu l.seen) ≡ true
     runs_after = still_runs t.about s.known l e told.seen (ap (λ (k : Known). k.cpu) told.after) quiet taken_runs

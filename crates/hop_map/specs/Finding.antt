@@ -82,10 +82,13 @@ pub record SeesDisturbances (a : About) (l : Known) (m : ℕ) (key : List ℕ) (
 abbrev pub TakesLock : About → Known → ℕ → List ℕ → Known → Type 0
 TakesLock a l m key l' = (n : ℕ) × (l'.tally ≡ lock_taken m (segment_in a m key) n ∷ l.tally)
 
--- after some readings of its own that were disturbed a lookup had one that wasn't, or it had eight,
--- and took the lock after them
-pub record Spares (a : About) (l : Known) (m : ℕ) (key : List ℕ) (l' : Known) : Type 0 where
-  pub tried : ℕ
-  pub before : Known
-  pub tries : SeesDisturbances a l m key tried before
-  pub counted : ReadsOnce a before m key l' ⊎ ((tried ≡ 8) × TakesLock a before m key l')
+-- what a lookup may note, the last first: readings that were disturbed, and then one that wasn't; or
+-- eight that were disturbed, and only then the lock
+pub record IsSparing (m s : ℕ) (sights : List Sight) : Type 0 where
+  pub tries : List (List Sight)
+  pub disturbed : Each (λ (x : List Sight). (first : ℕ) × (last : ℕ)
+      × IsDisturbed m s first last x) tries
+  pub last : List Sight
+  pub all : sights ≡ last ++ all_sights tries
+  pub ends : IsUndisturbed m s last
+      ⊎ ((length tries ≡ 8) × ((n : ℕ) × (last ≡ lock_taken m s n ∷ [])))

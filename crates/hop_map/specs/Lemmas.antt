@@ -1,3 +1,4 @@
 -- What the laws of a trait need a proof of: the toolchain wants these lemmas among the definitions.
 pub mod Keeping
+pub mod Notes
 pub mod Resting

@@ -1,5 +1,4 @@
 pub mod Views
-pub mod Noting
 pub mod Calls
 pub mod Removals
 pub mod Locks
@@ -7,6 +6,7 @@ pub mod Overs
 pub mod Whole
 pub mod Updates
 pub mod Finding
+pub mod Noting
 pub mod Port
 pub mod Stores
 pub mod Peeks

@@ -1,7 +1,7 @@
 -- What a CPU notes at a whole call.
-use Rattle.std.specs.Prelude.{◌≡◌, ℕ, ◌-◌, ◌/◌, ◌^◌, ◌<◌, ◌≤◌, List, ◌∷◌, ◌++◌}
+use Rattle.std.specs.Prelude.{◌≡◌, ℕ, ◌-◌, ◌/◌, ◌^◌, ◌<◌, ◌≤◌, List, [], ◌∷◌, ◌++◌}
 use Rattle.bpf_shared.specs.declared.events.Event.{Event}
-use Rattle.bpf_shared.specs.declared.events.Event.TheVariants.{Update, Delete}
+use Rattle.bpf_shared.specs.declared.events.Event.TheVariants.{End, Lookup, Update, Delete}
 use Rattle.bpf_shared.specs.declared.events.MapAnswer.{MapAnswer}
 use Rattle.bpf_shared.specs.declared.events.MapAnswer.TheVariants.{Busy}
 use Rattle.hop_words.specs.declared.known.About.{About}
@@ -10,6 +10,7 @@ use Rattle.hop_words.specs.declared.known.Sight.{Sight}
 use Rattle.hop_words.specs.declared.place.Place.TheVariants.{Stamp}
 use Rattle.hop_words.specs.Sights.{IsLook, lock_taken}
 use Rattle.hop_words.specs.Ghost.{segment_in, Each}
+use Rattle.hop_map.specs.Finding.{IsSparing}
 
 -- the answer is Busy where the stamp has the last version, and nowhere else: so Busy comes before
 -- Exists, Absent, Full and NoMemory
@@ -32,14 +33,26 @@ pub record IsUnderLock (m s : ℕ) (answer : MapAnswer) (sights : List Sight) : 
   pub order : BusyFirst stamp answer
 
 -- what a call with this event may note, the last first. An update with flags that are none of those
--- known takes no lock
+-- known takes no lock; a beginning and an access to a value note nothing
 abbrev pub MayNote : About → Event → List Sight → Type 0
+MayNote a (Lookup m key found) sights = IsSparing m (segment_in a m key) sights
 MayNote a (Update m key bytes flags answer) sights =
     flags ≤ 2 → IsUnderLock m (segment_in a m key) answer sights
 MayNote a (Delete m key answer) sights = IsUnderLock m (segment_in a m key) answer sights
-MayNote a event sights = Unit {0}
+MayNote a End sights = Unit {0}
+MayNote a event sights = sights ≡ []
 
 -- what the CPU noted at the call, in front of all that it had noted
 abbrev pub CallNotes : About → Event → Known → Known → Type 0
 CallNotes a event l l' = (sights : List Sight) × (l'.tally ≡ sights ++ l.tally)
     × MayNote a event sights
+
+-- at each of some calls, one after the other, no more than it may
+abbrev pub MayNoteEach : About → List Event → List Sight → Type 0
+MayNoteEach a [] sights = sights ≡ []
+MayNoteEach a (event ∷ events) sights = (mine : List Sight) × (rest : List Sight)
+    × (sights ≡ rest ++ mine) × MayNote a event mine × MayNoteEach a events rest
+
+abbrev pub CallsNote : About → List Event → Known → Known → Type 0
+CallsNote a events l l' = (sights : List Sight) × (l'.tally ≡ sights ++ l.tally)
+    × MayNoteEach a events sights

@@ -1,5 +1,5 @@
 -- What contracts see of a port, and of the store that is left when all are back.
-use Rattle.std.specs.Prelude.{◌≡◌, ℕ, ◌+◌, ◌%◌, ◌^◌, ◌<◌, Bool, true, List, [], Option, Some, None, All, length, slice_index_or}
+use Rattle.std.specs.Prelude.{◌≡◌, ℕ, ◌+◌, ◌%◌, ◌^◌, ◌<◌, Bool, true, List, [], ◌++◌, Option, Some, None, All, length, slice_index_or}
 use mathlib.Core.Option.{some}
 use lib.ListN.{get_elem?}
 use Rattle.atomic_table.specs.Seated.{TableId}
@@ -10,6 +10,7 @@ use Rattle.bpf_shared.specs.History.{IsLegal, events_of}
 use Rattle.bpf_shared.specs.Own.{held_by, in_run}
 use Rattle.hop_words.specs.declared.known.About.{About}
 use Rattle.hop_words.specs.declared.known.Known.{Known}
+use Rattle.hop_words.specs.declared.known.Sight.{Sight}
 use Rattle.hop_words.specs.Ghost.{limbo_at}
 use Rattle.hop_words.specs.Inside.{Shown, Standing, nobody}
 use Rattle.hop_words.specs.Kinds.{run_count, Saw}
@@ -139,6 +140,7 @@ IsPartOf history p = HasSeenBeginning p.known history
 pub record IsEnding (t : Shown) (ended l : Known) (bs : List Batches) : Type 0 where
   pub cpu : l.cpu ≡ ended.cpu
   pub seen : l.seen ≡ ended.seen
+  pub sights : (more : List Sight) × (l.tally ≡ more ++ ended.tally)
   pub nothing : HasNothing l
   pub limbo : length l.limbo ≡ length t.about.shape.maps
   pub batches : AreBatches t.about l (length t.about.shape.maps) bs

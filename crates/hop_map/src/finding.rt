@@ -1,11 +1,13 @@
 //! Lookups.
 ghost use Rattle.std.specs.Prelude.{◌≡◌, ◌<◌, length};
+ghost use Rattle.bpf_shared.specs.declared.events.Event.TheVariants.{Lookup};
 ghost use Rattle.hop_words.specs.Home.{home_of};
 ghost use Rattle.hop_words.specs.Ghost.{shape_at};
 ghost use Rattle.hop_words.specs.Kinds.{LookedUp, found_span};
 ghost use Rattle.hop_words.specs.Locking.{lock_of};
 ghost use Rattle.hop_map.specs.Calls.{LockShows};
-ghost use Rattle.hop_map.specs.Finding.{AsksForKey, AsksHere, Looked, OnceEnds, TakesLock, Spares};
+ghost use Rattle.hop_map.specs.Finding.{AsksForKey, AsksHere, Looked, OnceEnds, TakesLock};
+ghost use Rattle.hop_map.specs.Noting.{CallNotes};
 
 use crate::homing::{homing, shape_of};
 use crate::locked::LockedWords;
@@ -114,7 +116,8 @@ pub fn lookup<R: Wait>(
     requires asks { AsksForKey table.now.about lane.known map key.now }
     ensures table { result.0.table ≡ table.now.id }
     ensures found { Looked table.now.about lane.known map key.now result.1 result.0.known }
-    ensures spares { Spares table.now.about lane.known map key.now result.0.known }
+    ensures spares { CallNotes table.now.about (Lookup map key.now result.1)
+        lane.known result.0.known }
 {
     let mut lane = lane;
     'tries: for _tried in 0..8u32 {

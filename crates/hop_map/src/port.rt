@@ -5,7 +5,7 @@ ghost use Rattle.bpf_shared.specs.Shape.{IsMapShape, IsKeyOf, IsPairOf, IsElemen
 ghost use Rattle.hop_words.specs.Kinds.{run_count};
 ghost use Rattle.hop_map.specs.Whole.{Lacks};
 ghost use Rattle.hop_map.specs.Noting.{CallNotes};
-ghost use Rattle.hop_map.specs.Finding.{OnceEnds, Spares};
+ghost use Rattle.hop_map.specs.Finding.{OnceEnds};
 ghost use Rattle.hop_map.specs.Port.{IsPortOf, PortDoes, runs};
 
 use crate::deleting::delete;
@@ -66,6 +66,7 @@ impl HopPort {
         requires idle { runs self.old ≡ false }
         ensures in_run { OnOk result (runs self.new ≡ true) }
         ensures begun { OnOk result (PortDoes table.now.about self.old Begin self.new) }
+        ensures noted { OnOk result (CallNotes table.now.about Begin self.old.known self.new.known) }
         ensures worn { OnErr result (run_count table.now.about self.old.known ≡ 2 ^ 64 - 2) }
         ensures unchanged { OnErr result (self.new ≡ self.old) }
         ensures fits { IsPortOf table.now self.new }
@@ -84,6 +85,7 @@ impl HopPort {
         requires in_run { runs self.old ≡ true }
         ensures idle { runs self.new ≡ false }
         ensures ended { PortDoes table.now.about self.old End self.new }
+        ensures noted { CallNotes table.now.about End self.old.known self.new.known }
         ensures fits { IsPortOf table.now self.new }
     {
         let Some(mut lane) = self.lane.take() else {
@@ -153,7 +155,8 @@ impl HopPort {
         ensures found { PortDoes table.now.about self.old (Lookup map key.now result) self.new }
         ensures element { IfSome result (IsElementSpan table.now.about.shape.maps map) }
         ensures in_range { IfSome result IsValueSpan }
-        ensures spares { Spares table.now.about self.old.known map key.now self.new.known }
+        ensures spares { CallNotes table.now.about (Lookup map key.now result)
+            self.old.known self.new.known }
         ensures fits { IsPortOf table.now self.new }
     {
         let _maps = table.about().shape.maps();

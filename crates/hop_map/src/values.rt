@@ -6,6 +6,7 @@ ghost use Rattle.bpf_shared.specs.Passage.{IsHeldPlace};
 ghost use Rattle.bpf_shared.specs.declared.events.Event.TheVariants.{Load, Store, Atomic};
 ghost use Rattle.bpf_shared.specs.declared.events.Size.TheVariants.{Double};
 ghost use Rattle.hop_map.specs.Port.{IsPortOf, PortDoes, runs, port_holds};
+ghost use Rattle.hop_map.specs.Noting.{CallNotes};
 
 use crate::accessing::{change_part_at, change_word_at, load_at, store_part_at, store_word_at};
 use crate::port::HopPort;
@@ -21,6 +22,8 @@ impl HopPort {
         requires place { IsHeldPlace (port_holds self.old) at.at (bytes_in size) }
         ensures in_run { runs self.new ≡ true }
         ensures loaded { PortDoes table.now.about self.old (Load at.at size result) self.new }
+        ensures noted { CallNotes table.now.about (Load at.at size result)
+            self.old.known self.new.known }
         ensures small { result < modulus (bytes_in size) }
         ensures fits { IsPortOf table.now self.new }
     {
@@ -39,6 +42,8 @@ impl HopPort {
         requires place { IsHeldPlace (port_holds self.old) at.at 8 }
         ensures in_run { runs self.new ≡ true }
         ensures stored { PortDoes table.now.about self.old (Store at.at Double word) self.new }
+        ensures noted { CallNotes table.now.about (Store at.at Double word)
+            self.old.known self.new.known }
         ensures fits { IsPortOf table.now self.new }
     {
         let Some(mut lane) = self.lane.take() else {
@@ -63,6 +68,8 @@ impl HopPort {
         requires place { IsHeldPlace (port_holds self.old) at.at (bytes_in size) }
         ensures in_run { runs self.new ≡ true }
         ensures stored { PortDoes table.now.about self.old (Store at.at size word) self.new }
+        ensures noted { CallNotes table.now.about (Store at.at size word)
+            self.old.known self.new.known }
         ensures fits { IsPortOf table.now self.new }
     {
         let Some(mut lane) = self.lane.take() else {
@@ -88,6 +95,8 @@ impl HopPort {
         ensures in_run { runs self.new ≡ true }
         ensures changed { PortDoes table.now.about self.old
             (Atomic at.at Double op operand expected result) self.new }
+        ensures noted { CallNotes table.now.about
+            (Atomic at.at Double op operand expected result) self.old.known self.new.known }
         ensures fits { IsPortOf table.now self.new }
     {
         let Some(mut lane) = self.lane.take() else {
@@ -117,6 +126,8 @@ impl HopPort {
         ensures in_run { runs self.new ≡ true }
         ensures changed { PortDoes table.now.about self.old
             (Atomic at.at size op operand expected result) self.new }
+        ensures noted { CallNotes table.now.about
+            (Atomic at.at size op operand expected result) self.old.known self.new.known }
         ensures small { result < modulus (bytes_in size) }
         ensures fits { IsPortOf table.now self.new }
     {

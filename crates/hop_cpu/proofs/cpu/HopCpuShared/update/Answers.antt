@@ -4,7 +4,7 @@ use Rattle.hop_cpu.proofs.Calling.{called, same_held}
 use Rattle.hop_cpu.proofs.cpu.HopCpuShared.update.Goals as goal
 
 pub returns-clause-answered : goal.returns-clause-answered
-returns-clause-answered g c = called c.args.self.now c.self.inside.table.now c.self.inside.port c.self.view_is c.args._cpu c.requires.serves c.update.new.self (Update c.args.map c.args.key.now c.args.value.now c.args.flags c.update.result) c.update.ensures.answered
+returns-clause-answered g c = called c.args.self.now c.self.inside.table.now c.self.inside.port c.self.view_is c.args._cpu c.requires.serves c.update.new.self (Update c.args.map c.args.key.now c.args.value.now c.args.flags c.update.result) c.update.ensures.answered c.update.ensures.noted
 
 pub returns-clause-held : goal.returns-clause-held
 returns-clause-held g c = same_held c.args.self.now c.self.inside.table.now c.self.inside.port c.self.view_is c.args._cpu c.requires.serves c.update.new.self (Update c.args.map c.args.key.now c.args.value.now c.args.flags c.update.result) c.update.ensures.answered refl

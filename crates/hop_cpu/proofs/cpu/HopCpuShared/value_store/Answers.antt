@@ -3,12 +3,14 @@ use Rattle.bpf_shared.specs.declared.events.Size.{Size}
 use Rattle.bpf_shared.specs.declared.events.Event.TheVariants.{Store}
 use Rattle.bpf_shared.specs.declared.events.Event.{Event}
 use Rattle.hop_map.specs.Port.{PortDoes}
+use Rattle.hop_map.specs.Noting.{CallNotes}
 use Rattle.hop_cpu.proofs.Calling.{called, same, same_held}
 use Rattle.hop_cpu.proofs.cpu.HopCpuShared.value_store.Goals as goal
 
 pub returns-in-Double-clause-stored : goal.returns-in-Double-clause-stored
 returns-in-Double-clause-stored g c = called c.args.self.now c.self.inside.table.now c.self.inside.port c.self.view_is c.args._cpu c.requires.serves c.store_word.new.self (Store c.args.at.at c.args.size c.args.word)
     (subst (λ (z : Size). PortDoes c.self.inside.table.now.about c.self.inside.port (Store c.args.at.at z c.args.word) c.store_word.new.self) (sym c.in-Double.is) c.store_word.ensures.stored)
+    (subst (λ (z : Size). CallNotes c.self.inside.table.now.about (Store c.args.at.at z c.args.word) c.self.inside.port.known c.store_word.new.self.known) (sym c.in-Double.is) c.store_word.ensures.noted)
 
 pub returns-in-Double-clause-held : goal.returns-in-Double-clause-held
 returns-in-Double-clause-held g c = same_held c.args.self.now c.self.inside.table.now c.self.inside.port c.self.view_is c.args._cpu c.requires.serves c.store_word.new.self (Store c.args.at.at c.args.size c.args.word)
@@ -18,7 +20,7 @@ pub returns-in_default : goal.returns-in_default
 returns-in_default g c =
     let e : Event = Store c.args.at.at c.args.size c.args.word in
     let d = c.store_part.ensures.stored in record {
-      stored = called c.args.self.now c.self.inside.table.now c.self.inside.port c.self.view_is c.args._cpu c.requires.serves c.store_part.new.self e d;
+      stored = called c.args.self.now c.self.inside.table.now c.self.inside.port c.self.view_is c.args._cpu c.requires.serves c.store_part.new.self e d c.store_part.ensures.noted;
       held = same_held c.args.self.now c.self.inside.table.now c.self.inside.port c.self.view_is c.args._cpu c.requires.serves c.store_part.new.self e d refl;
       same = same c.args.self.now c.self.inside.table.now c.self.inside.port c.self.view_is c.args._cpu c.requires.serves c.store_part.new.self e d c.requires.in_run c.store_part.ensures.in_run;
     }

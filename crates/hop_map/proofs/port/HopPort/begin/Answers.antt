@@ -1,6 +1,8 @@
-use Rattle.std.proofs.Common.{◌≡◌, false, sym, subst, ◌∙◌}
+use Rattle.std.proofs.Common.{◌≡◌, false, OnOk, sym, subst, ◌∙◌}
+use Rattle.bpf_shared.specs.declared.events.Event.TheVariants.{Begin}
+use Rattle.hop_map.specs.Noting.{CallNotes}
 use Rattle.hop_map.specs.Port.{Port, runs, IsPortOf}
-use Rattle.hop_map.proofs.Ports.{begun_runs, port_with, port_is, begins}
+use Rattle.hop_map.proofs.Ports.{begun_runs, begun_notes, port_with, port_is, begins}
 use Rattle.hop_map.proofs.port.HopPort.begin.Goals as goal
 
 pub returns-clause-fits : goal.returns-clause-fits
@@ -19,3 +21,13 @@ returns-clause-in_run c =
     let p = port_with s i.arenas.items i.batches.items in
     let is : p ≡ c.args.self.now = sym (port_is i c.take.result s c.take.ensures.value c.in-Some.is) ∙ c.self.view_is in
     begun_runs c.args.table.now.about p.known c.begin_run-begun.new.lane.known c.begin_run-begun.result c.begin_run-begun.ensures.begun (subst (λ (q : Port). runs q ≡ false) (sym is) c.requires.idle)
+
+pub returns-clause-noted : goal.returns-clause-noted
+returns-clause-noted c =
+    let i = c.self.inside in
+    let s = c.in-Some.lane in
+    let r = c.begin_run-begun in
+    let p = port_with s i.arenas.items i.batches.items in
+    let is : p ≡ c.args.self.now = sym (port_is i c.take.result s c.take.ensures.value c.in-Some.is) ∙ c.self.view_is in
+    subst (λ (q : Port). OnOk r.result (CallNotes c.args.table.now.about Begin q.known r.new.lane.known)) is
+    (begun_notes c.args.table.now.about p.known r.new.lane.known r.result r.ensures.begun)

@@ -3,8 +3,10 @@ use Rattle.hop_arena.specs.declared.arena.Arena.{Arena}
 use Rattle.std.proofs.lemmas.List.{get_or_default}
 use Rattle.hop_epoch.specs.declared.batches.Batches.{Batches}
 use Rattle.hop_epoch.specs.Batch.{Keeps, Tracks}
+use Rattle.bpf_shared.specs.declared.events.Event.TheVariants.{End}
+use Rattle.hop_map.specs.Noting.{CallNotes}
 use Rattle.hop_map.specs.Port.{Port, IsPortOf, runs, batches_at, no_batches}
-use Rattle.hop_map.proofs.Ports.{ended_idle, port_with, port_is, reclaims, ends_last}
+use Rattle.hop_map.proofs.Ports.{ended_idle, ended_notes, port_with, port_is, reclaims, ends_last}
 use Rattle.hop_map.proofs.port.HopPort.end.Goals as goal
 
 pub maps-preserved : goal.maps-preserved
@@ -44,3 +46,13 @@ returns-clause-idle c =
     let p = port_with s i.arenas.items i.batches.items in
     let is : p ≡ c.args.self.now = sym (port_is i c.take.result s c.take.ensures.value c.in-Some.is) ∙ c.self.view_is in
     ended_idle c.args.table.now p c.end_run.new.lane.known c.maps.lane.known c.maps.self-inside.batches.items c.end_run.ensures.ended c.maps.invariant.1 (subst (λ (q : Port). runs q ≡ true) (sym is) c.requires.in_run)
+
+pub returns-clause-noted : goal.returns-clause-noted
+returns-clause-noted c =
+    let i = c.self.inside in
+    let s = c.in-Some.lane in
+    let t = c.args.table.now in
+    let p = port_with s i.arenas.items i.batches.items in
+    let is : p ≡ c.args.self.now = sym (port_is i c.take.result s c.take.ensures.value c.in-Some.is) ∙ c.self.view_is in
+    subst (λ (q : Port). CallNotes t.about End q.known c.maps.lane.known) is
+    (ended_notes t p c.end_run.new.lane.known c.maps.lane.known c.maps.self-inside.batches.items c.end_run.ensures.ended c.maps.invariant.1)

@@ -1,7 +1,7 @@
 use Rattle.std.proofs.Common.{refl}
 use Rattle.bpf_shared.specs.declared.events.Size.TheVariants.{Double}
 use Rattle.bpf_shared.specs.declared.events.Event.TheVariants.{Store}
-use Rattle.hop_map.proofs.Taken.{held_there, fits_after, runs_after}
+use Rattle.hop_map.proofs.Taken.{held_there, fits_after, quiet_after, runs_after}
 use Rattle.hop_map.proofs.port.HopPort.store_word.Goals as goal
 
 pub store_word_at-requires-clause-held : goal.store_word_at-requires-clause-held
@@ -16,3 +16,8 @@ pub returns-clause-in_run : goal.returns-clause-in_run
 returns-clause-in_run c =
     runs_after c.self.inside c.take.result c.in-Some.lane c.take.ensures.value c.in-Some.is c.args.self.now c.self.view_is c.args.table.now c.requires.fits c.requires.in_run
     c.store_word_at.new.lane.known (Store c.args.at.at Double c.args.word) refl c.store_word_at.ensures.stored
+
+pub returns-clause-noted : goal.returns-clause-noted
+returns-clause-noted c =
+    quiet_after c.self.inside c.take.result c.in-Some.lane c.take.ensures.value c.in-Some.is c.args.self.now c.self.view_is c.args.table.now c.requires.fits c.requires.in_run
+    c.store_word_at.new.lane.known (Store c.args.at.at Double c.args.word) refl c.store_word_at.ensures.stored refl

@@ -1,7 +1,7 @@
 use Rattle.std.proofs.Common.{refl}
 use Rattle.bpf_shared.specs.Access.{bytes_in}
 use Rattle.bpf_shared.specs.declared.events.Event.TheVariants.{Load}
-use Rattle.hop_map.proofs.Taken.{held_there, fits_after, runs_after}
+use Rattle.hop_map.proofs.Taken.{held_there, fits_after, quiet_after, runs_after}
 use Rattle.hop_map.proofs.port.HopPort.value_load.Goals as goal
 
 pub load_at-number-requires-clause-held : goal.load_at-number-requires-clause-held
@@ -16,3 +16,8 @@ pub returns-clause-in_run : goal.returns-clause-in_run
 returns-clause-in_run c =
     runs_after c.self.inside c.take.result c.in-Some.lane c.take.ensures.value c.in-Some.is c.args.self.now c.self.view_is c.args.table.now c.requires.fits c.requires.in_run
     c.load_at-number.new.lane.known (Load c.args.at.at c.args.size c.load_at-number.result) refl c.load_at-number.ensures.loaded
+
+pub returns-clause-noted : goal.returns-clause-noted
+returns-clause-noted c =
+    quiet_after c.self.inside c.take.result c.in-Some.lane c.take.ensures.value c.in-Some.is c.args.self.now c.self.view_is c.args.table.now c.requires.fits c.requires.in_run
+    c.load_at-number.new.lane.known (Load c.args.at.at c.args.size c.load_at-number.result) refl c.load_at-number.ensures.loaded refl
