@@ -1,5 +1,5 @@
 -- Ports from call to call.
-use Rattle.std.proofs.Common.{◌≡◌, ◌≢◌, ◌⊎◌, ℕ, zero, suc, ◌+◌, ◌%◌, ◌^◌, ◌<◌, Bool, true, false, List, [], ◌∷◌, ◌++◌, append_assoc, ◌==◌, Option, Some, Result, Ok, Err, OnOk, OnErr, length, get_or, slice_get, IfSome, set, refl, ap, sym, subst, ◌∙◌, arith, eq-eqb, None}
+use Rattle.std.proofs.Common.{◌≡◌, ◌≢◌, ◌⊎◌, ℕ, zero, suc, ◌+◌, ◌%◌, ◌^◌, ◌<◌, Bool, true, false, List, [], ◌∷◌, ◌++◌, append_assoc, ◌==◌, Option, Some, Result, Ok, Err, OnOk, OnErr, length, get_or, slice_get, slice_index, IfSome, set, inl, inr, refl, ap, sym, subst, ◌∙◌, arith, eq-eqb, None}
 use Rattle.std.proofs.lemmas.List.{get_or_default, get_or-set_same, get_or-set_other, length-set}
 use Rattle.std.proofs.lemmas.Bool.Decides.{nat_tests}
 use Rattle.atomic_table.specs.Seated.{TableId}
@@ -12,18 +12,20 @@ use Rattle.hop_words.specs.declared.known.About.{About}
 use Rattle.hop_words.specs.declared.known.Known.{Known}
 use Rattle.hop_words.specs.declared.known.Sight.{Sight}
 use Rattle.hop_words.specs.declared.known.Limbo.{Limbo}
+use Rattle.hop_words.specs.declared.place.Place.TheVariants.{RunCount}
+use Rattle.hop_words.specs.Sights.{look}
 use Rattle.hop_words.specs.Ghost.{HasElement, Each, limbo_at}
 use Rattle.hop_words.specs.Inside.{Shown, Standing}
 use Rattle.bpf_shared.specs.Own.{turns_of, in_run}
 use Rattle.hop_words.specs.Kinds.{run_count, Saw, Told}
 use Rattle.bpf_shared.proofs.Chains.{turns_of-append}
 use Rattle.hop_epoch.specs.declared.batches.Batches.{Batches}
-use Rattle.hop_epoch.specs.Batch.{front, Notes, Tracks, Keeps}
+use Rattle.hop_epoch.specs.Batch.{front, Notes, Tracks, Keeps, SeesRunning}
 use Rattle.hop_arena.specs.declared.arena.Arena.{Arena}
 use Rattle.hop_map.specs.declared.port.HopPort.TheInside.{Inside as InPort}
 use Rattle.bpf_shared.specs.declared.events.Span.{Span}
 use Rattle.hop_arena.specs.Claiming.{IsArena}
-use Rattle.hop_map.specs.Whole.{Searches, AreBatchesOf, Called}
+use Rattle.hop_map.specs.Whole.{Searches, AreBatchesOf, Called, IsReclaimed}
 use Rattle.hop_map.specs.Finding.{Looked}
 use Rattle.hop_map.specs.Noting.{CallNotes}
 use Rattle.bpf_shared.specs.Shape.{IsElementSpan}
@@ -253,3 +255,39 @@ begun_notes a l l' (Err e) told = tt
 
 pub ended_notes : (t : Shown) (p : Port) (ended l : Known) (bs : List Batches) → Told t.about p.known End ended → IsEnding t ended l bs → CallNotes t.about End p.known l
 ended_notes t p ended l bs told i = (i.sights.0, i.sights.1 ∙ ap (λ (k : Known). i.sights.0 ++ k.tally) told.after, tt)
+
+-- ---- batches that were looked at
+pub reclaimed_now : (m : ℕ) (before : List Sight) (l l' : Known) → (more : List Sight) × (l.tally ≡ more ++ before) → ((limbo_at l'.limbo m).old ≡ [] → (limbo_at l'.limbo m).young ≡ [])
+    → ((limbo_at l'.limbo m).old ≡ []) ⊎ SeesRunning m l l' → IsReclaimed m before l'
+reclaimed_now m before l l' sights empty (inl none) = inl (none, empty none)
+reclaimed_now m before l l' (more, is) empty (inr (d, sooner, seen, odd)) = inr (
+  d,
+  [],
+  sooner ++ more,
+  seen ∙ ap (λ (z : List Sight). look (RunCount d) (slice_index (limbo_at l'.limbo m).noted d) ∷ z) (ap (λ (z : List Sight). sooner ++ z) is ∙ sym (append_assoc sooner more before)),
+  odd,
+)
+
+pub reclaimed_still : (m k : ℕ) (before : List Sight) (l l' : Known) → m ≢ k → Keeps k l l' → IsReclaimed m before l → IsReclaimed m before l'
+reclaimed_still m k before l l' ne keeps (inl (old, young)) = inl (ap (λ (x : Limbo). x.old) (keeps.others m ne) ∙ old, ap (λ (x : Limbo). x.young) (keeps.others m ne) ∙ young)
+reclaimed_still m k before l l' ne keeps (inr (d, later, sooner, is, odd)) =
+    let same : slice_index (limbo_at l'.limbo m).noted d ≡ slice_index (limbo_at l.limbo m).noted d = ap (λ (x : Limbo). slice_index x.noted d) (keeps.others m ne) in
+    inr (
+      d,
+      keeps.sights.0 ++ later,
+      sooner,
+      keeps.sights.1
+          ∙ (ap (λ (z : List Sight). keeps.sights.0 ++ z) is
+          ∙ (sym (append_assoc keeps.sights.0 later (look (RunCount d) (slice_index (limbo_at l.limbo m).noted d) ∷ (sooner ++ before)))
+          ∙ ap (λ (n : ℕ). (keeps.sights.0 ++ later) ++ (look (RunCount d) n ∷ (sooner ++ before))) (sym same))),
+      ap (λ (n : ℕ). n % 2) same ∙ odd,
+    )
+
+-- of each map so far, and of one more
+pub reclaimed_more : (n : ℕ) (before : List Sight) (l l' : Known) → Keeps n l l' → ((m : ℕ) → m < n → IsReclaimed m before l) → IsReclaimed n before l' → (m : ℕ) → m < n + 1 → IsReclaimed m before l'
+reclaimed_more n before l l' keeps all here m inside = by_equal m n
+    (λ e. subst (λ (k : ℕ). IsReclaimed k before l') (sym e) here)
+    (λ ne. reclaimed_still m n before l l' ne keeps (all m (less m n inside ne)))
+
+pub ended_reclaimed : (t : Shown) (p : Port) (ended l : Known) (m : ℕ) → Told t.about p.known End ended → IsReclaimed m ended.tally l → IsReclaimed m p.known.tally l
+ended_reclaimed t p ended l m told is = subst (λ (z : List Sight). IsReclaimed m z l) (ap (λ (k : Known). k.tally) told.after) is

@@ -63,6 +63,16 @@ pub record SearchesInVain (a : About) (l : Known) (m : ℕ) (l' : Known) : Type 
       × (slice_index (limbo_at l'.limbo m).noted d % 2 ≡ 1))
   pub taken : (e : ℕ) → e < elements (shape_at a m) → IsSeenTaken later m e
 
+-- the CPU looked at its batches of the map: both are empty, or after these sights it saw a CPU still
+-- in the run that was noted with the old one
+abbrev pub IsReclaimed : ℕ → List Sight → Known → Type 0
+IsReclaimed m before l' =
+    (((limbo_at l'.limbo m).old ≡ []) × ((limbo_at l'.limbo m).young ≡ []))
+    ⊎ ((d : ℕ) × (later : List Sight) × (sooner : List Sight)
+    × (l'.tally ≡ later ++ (look (RunCount d) (slice_index (limbo_at l'.limbo m).noted d)
+    ∷ (sooner ++ before)))
+    × (slice_index (limbo_at l'.limbo m).noted d % 2 ≡ 1))
+
 -- Busy only at a segment's last version, which so many changes of the map have paid for; NoMemory
 -- only where the call looked for a free element in vain
 abbrev pub Lacks : About → Known → ℕ → MapAnswer → Known → Type 0

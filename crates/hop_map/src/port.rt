@@ -1,9 +1,9 @@
 //! A port: the right of one CPU to call the store.
-ghost use Rattle.std.specs.Prelude.{◌≡◌, ◌-◌, ◌^◌, true, false, OnOk, OnErr, slice_get, IfSome, ◌<◌};
+ghost use Rattle.std.specs.Prelude.{ℕ, ◌≡◌, ◌-◌, ◌^◌, true, false, OnOk, OnErr, length, slice_get, IfSome, ◌<◌};
 ghost use Rattle.bpf_shared.specs.declared.events.Event.TheVariants.{Begin, End, Lookup, Update, Delete};
 ghost use Rattle.bpf_shared.specs.Shape.{IsMapShape, IsKeyOf, IsPairOf, IsElementSpan, IsValueSpan};
 ghost use Rattle.hop_words.specs.Kinds.{run_count};
-ghost use Rattle.hop_map.specs.Whole.{Lacks};
+ghost use Rattle.hop_map.specs.Whole.{Lacks, IsReclaimed};
 ghost use Rattle.hop_map.specs.Noting.{CallNotes};
 ghost use Rattle.hop_map.specs.Finding.{OnceEnds};
 ghost use Rattle.hop_map.specs.Port.{IsPortOf, PortDoes, runs};
@@ -86,6 +86,8 @@ impl HopPort {
         ensures idle { runs self.new ≡ false }
         ensures ended { PortDoes table.now.about self.old End self.new }
         ensures noted { CallNotes table.now.about End self.old.known self.new.known }
+        ensures reclaimed { (m : ℕ) → m < length table.now.about.shape.maps
+            → IsReclaimed m self.old.known.tally self.new.known }
         ensures fits { IsPortOf table.now self.new }
     {
         let Some(mut lane) = self.lane.take() else {

@@ -1,4 +1,5 @@
-use Rattle.std.specs.Prelude.{◌≡◌, length}
+use Rattle.std.specs.Prelude.{◌≡◌, ℕ, ◌<◌, length}
+use Rattle.hop_map.specs.Whole.{IsReclaimed}
 use Rattle.hop_map.specs.Port.{IsEnding}
 use Rattle.hop_map.proofs.port.HopPort.end.Given as goal
 
@@ -8,3 +9,4 @@ invariant-maps l =
     × IsEnding l.fn.table l.initial.lane.known l.lane.known l.self-inside.batches.items
     × (l.map-end ≡ length l.fn.table.about.shape.maps)
     × (l.self-inside.arenas ≡ l.initial.self-inside.arenas)
+    × ((m : ℕ) → m < l.map → IsReclaimed m l.initial.lane.known.tally l.lane.known)
