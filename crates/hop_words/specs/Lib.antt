@@ -16,7 +16,6 @@ pub mod Guarded
 pub mod Opens
 pub mod Made
 pub mod Seats
-pub mod SegContract
 pub mod Inside
 pub mod Dealing
 pub mod Closing
