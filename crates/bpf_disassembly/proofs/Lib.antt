@@ -2,3 +2,9 @@ pub mod FormText
 pub mod WideText
 pub mod Shown
 pub mod ReadBack
+pub mod Ends
+pub mod FirstLines
+pub mod SourceLines
+pub mod OneListing
+pub mod Alike
+pub mod ProgramLines

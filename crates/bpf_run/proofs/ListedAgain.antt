@@ -12,7 +12,7 @@ use Rattle.bpf_text.specs.declared.error.TextError.{TextError}
 use Rattle.bpf_text.specs.Assembly.{Assembles}
 use Rattle.bpf_lines.specs.HexText.{digits_of}
 use Rattle.bpf_text.specs.Laws.{TextsAreDetermined}
-use Rattle.bpf_listing.specs.Laws.{ListingsAssembleAlike, ProgramLinesAssembleToTheirWords}
+use Rattle.bpf_disassembly.specs.Listing.Laws.{ListingsAssembleAlike, ProgramLinesAssembleToTheirWords}
 use Rattle.bpf_run.specs.Answer.{reply_text}
 use Rattle.bpf_run.specs.Commands.{IsAssembled}
 use Rattle.bpf_run.specs.Laws.{ListedWordsAreAnswered, ListingsAreAnsweredAlike}

@@ -40,7 +40,7 @@ use Rattle.bpf_run.specs.Script.{first_world_of}
 use Rattle.bpf_run.specs.declared.input.TheConstants.{MAX_INPUT}
 use Rattle.bpf_run.specs.Laws.{IsOfInput, IsForAnyInput, HasShortContext, RepliesAreDetermined}
 use Rattle.bpf_lines.specs.Lines.{lines_of}
-use Rattle.bpf_listing.proofs.OneListing.{one_listing as one_listing_of}
+use Rattle.bpf_disassembly.proofs.OneListing.{one_listing as one_listing_of}
 use Rattle.bpf_command.specs.declared.command.Command.{Command}
 use Rattle.bpf_command.specs.declared.command.Command.TheVariants as command
 use Rattle.bpf_run.specs.declared.input.InputError.TheVariants as input_error

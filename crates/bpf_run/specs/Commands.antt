@@ -21,8 +21,8 @@ use Rattle.bpf_lines.specs.HexText.{IsHexOf}
 use Rattle.bpf_lines.specs.declared.hex_text.HexError.TheVariants as hex_error
 use Rattle.bpf_text.specs.declared.error.TextError.TheVariants as text_error
 use Rattle.bpf_lines.specs.Lines.{lines_of}
-use Rattle.bpf_listing.specs.Program.{program_lines}
-use Rattle.bpf_listing.specs.Source.{IsSourceListing}
+use Rattle.bpf_disassembly.specs.Listing.Program.{program_lines}
+use Rattle.bpf_disassembly.specs.Listing.Source.{IsSourceListing}
 use Rattle.bpf_run.specs.Listing.{word_lines}
 use Rattle.bpf_command.specs.declared.command.Command.{Command}
 use Rattle.bpf_command.specs.declared.command.Command.TheVariants as command

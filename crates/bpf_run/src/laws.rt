@@ -27,7 +27,7 @@ pub fn listings_are_answered_alike()
     ensures { ListingsAreAnsweredAlike }
 {
     bpf_text::laws::texts_are_determined();
-    bpf_listing::laws::listings_assemble_alike();
+    bpf_disassembly::listing::laws::listings_assemble_alike();
 }
 
 /// What `disasm --pc` prints is assembled to the words that it was given, want of memory aside.
@@ -36,5 +36,5 @@ pub fn listed_words_are_answered()
 {
     bpf_insn::laws::encodings_are_determined();
     bpf_text::laws::texts_are_determined();
-    bpf_listing::laws::program_lines_assemble_to_their_words();
+    bpf_disassembly::listing::laws::program_lines_assemble_to_their_words();
 }

@@ -1,5 +1,0 @@
-use Rattle.bpf_listing.proofs.ProgramLines.{program_listed}
-use Rattle.bpf_listing.proofs.laws.program_lines_are_a_listing.Goals as goal
-
-pub returns : goal.returns
-returns c = program_listed
