@@ -9,6 +9,7 @@ use Rattle.hop_words.specs.Sights.{IsLook, look, sighted}
 use Rattle.hop_words.specs.Ghost.{Each}
 use Rattle.hop_words.specs.Kinds.{holding}
 use Rattle.hop_words.proofs.Small.{equal}
+use Rattle.hop_words.proofs.Sighted.{each-append}
 use Rattle.hop_arena.specs.Claiming.{Sees, Looks, ShowsTaken, IsSeenTaken, AreSeenTaken}
 
 -- the elements of the word whose bits aren't among these were seen not free
@@ -62,14 +63,10 @@ taken_first [] more m e t = absurd t
 taken_first (x ∷ s) more m e (inl t) = inl t
 taken_first (x ∷ s) more m e (inr t) = inr (taken_first s more m e t)
 
-pub each_then : (P : Sight → Type 0) (s more : List Sight) → Each P s → Each P more → Each P (s ++ more)
-each_then P [] more first rest = rest
-each_then P (x ∷ s) more first rest = (first.0, each_then P s more first.1 rest)
-
 pub looks_then : (l x l' : Known) (more s : List Sight) → Looks l more x → Looks x s l' → Looks l (s ++ more) l'
 looks_then l x l' more s before now = (
   now.0 ∙ (ap (λ (y : Known). record y { tally = s ++ y.tally }) before.0 ∙ ap (λ (z : List Sight). record l { tally = z }) (sym (append_assoc s more l.tally))),
-  each_then IsLook s more now.1 before.1,
+  each-append IsLook s more now.1 before.1,
 )
 
 pub holds_then : (l x l' : Known) (more s : List Sight) (m e : ℕ) → Looks l more x → Sees (holding x m e) s l' → Sees (holding l m e) (s ++ more) l'

@@ -6,7 +6,7 @@ use Rattle.hop_words.specs.declared.known.About.{About}
 use Rattle.hop_words.specs.declared.known.Known.{Known}
 use Rattle.hop_words.specs.declared.known.Sight.{Sight}
 use Rattle.hop_words.specs.declared.place.Place.TheVariants.{FreeBits}
-use Rattle.hop_words.specs.Sights.{IsLook}
+use Rattle.hop_words.specs.Sights.{IsLook, LeavesLocks}
 use Rattle.hop_words.specs.Ghost.{shape_at, Each}
 use Rattle.hop_words.specs.Kinds.{holding}
 use Rattle.hop_arena.specs.declared.element.Element.{Element}
@@ -42,10 +42,10 @@ abbrev pub Misses : About → Known → ℕ → Known → Type 0
 Misses a l m l' = (more : List Sight) × Looks l more l'
     × ((e : ℕ) → e < elements (shape_at a m) → IsSeenTaken more m e)
 
--- the element is in hand from now on
+-- the element is in hand from now on, and no lock was taken
 abbrev pub Claims : About → Known → ℕ → Element → Known → Type 0
 Claims a l m x l' = (more : List Sight) × Sees (holding l m x.number) more l' × (x.map ≡ m)
-    × (x.number < elements (shape_at a m))
+    × (x.number < elements (shape_at a m)) × Each LeavesLocks more
 
 -- the pass begins at one of the map's words
 abbrev pub IsArena : About → ℕ → ℕ → ℕ → Type 0

@@ -8,13 +8,14 @@ use Rattle.hop_words.specs.declared.known.Known.{Known}
 use Rattle.hop_words.specs.declared.known.Limbo.{Limbo}
 use Rattle.hop_words.specs.declared.known.Sight.{Sight}
 use Rattle.hop_words.specs.declared.place.Place.TheVariants.{RunCount}
-use Rattle.hop_words.specs.Sights.{look, sighted}
+use Rattle.hop_words.specs.Sights.{IsLook, LeavesLocks, look, sighted}
 use Rattle.hop_words.specs.Content.{item}
 use Rattle.hop_words.specs.Ghost.{HasElement, Each, limbo_at, no_limbo}
 use Rattle.hop_words.specs.Rule.{link_to}
 use Rattle.hop_words.specs.Kinds.{limbo_set, cleared, giving_old}
 use Rattle.hop_words.specs.Owning.{tail_of}
 use Rattle.hop_words.proofs.Small.{equal, map_is}
+use Rattle.hop_words.proofs.Sighted.{each-append}
 use Rattle.hop_words.proofs.Shares.{some_once}
 use Rattle.hop_epoch.specs.Batch.{front, Notes, Tracks, Keeps, Looks, AreEven, SeesRunning}
 
@@ -34,11 +35,12 @@ keeps_then m l k l' p q = record {
   sights = (
     q.sights.0 ++ p.sights.0,
     q.sights.1 ∙ (ap (λ (z : List Sight). q.sights.0 ++ z) p.sights.1 ∙ sym (append_assoc q.sights.0 p.sights.0 l.tally)),
+    each-append LeavesLocks q.sights.0 p.sights.0 q.sights.2 p.sights.2,
   );
 }
 
 pub keeps_itself : (m : ℕ) (l : Known) → Keeps m l l
-keeps_itself m l = record { cpu = refl; seen = refl; fresh = refl; locks = refl; readings = refl; size = refl; others = λ n ne. refl; used = refl; sights = ([], refl) }
+keeps_itself m l = record { cpu = refl; seen = refl; fresh = refl; locks = refl; readings = refl; size = refl; others = λ n ne. refl; used = refl; sights = ([], refl, tt) }
 
 pub keeps_set : (m : ℕ) (l : Known) (x : Limbo) → m < length l.limbo → x.used ≡ (limbo_at l.limbo m).used → Keeps m l (limbo_set l m x)
 keeps_set m l x room same = record {
@@ -50,27 +52,27 @@ keeps_set m l x room same = record {
   size = length-set l.limbo m x;
   others = λ n ne. get_or-set_other l.limbo m n x no_limbo ne;
   used = ap (λ (y : Limbo). y.used) (at_set l m x room) ∙ same;
-  sights = ([], refl);
+  sights = ([], refl, tt);
 }
 
-pub keeps_sighted : (m : ℕ) (l k : Known) (s : Sight) → Keeps m l k → Keeps m l (sighted k s)
-keeps_sighted m l k s p = record { cpu = p.cpu; seen = p.seen; fresh = p.fresh; locks = p.locks; readings = p.readings; size = p.size; others = p.others; used = p.used; sights = (s ∷ p.sights.0, ap (λ (z : List Sight). s ∷ z) p.sights.1) }
+pub keeps_sighted : (m : ℕ) (l k : Known) (s : Sight) → LeavesLocks s → Keeps m l k → Keeps m l (sighted k s)
+keeps_sighted m l k s leaves p = record { cpu = p.cpu; seen = p.seen; fresh = p.fresh; locks = p.locks; readings = p.readings; size = p.size; others = p.others; used = p.used; sights = (s ∷ p.sights.0, ap (λ (z : List Sight). s ∷ z) p.sights.1, (leaves, p.sights.2)) }
 
 -- ---- a look at a counter
-pub looks_same : (m : ℕ) (l k k' : Known) (s : Sight) → Looks m l k → k' ≡ sighted k s → Looks m l k'
-looks_same m l k k' s p e = subst (Looks m l) (sym e) (record {
-  keeps = keeps_sighted m l k s p.keeps;
+pub looks_same : (m : ℕ) (l k k' : Known) (s : Sight) → IsLook s → Looks m l k → k' ≡ sighted k s → Looks m l k'
+looks_same m l k k' s is p e = subst (Looks m l) (sym e) (record {
+  keeps = keeps_sighted m l k s (λ n i _. is) p.keeps;
   young = p.young;
   old = p.old;
   more = s ∷ p.more;
   sights = ap (λ (z : List Sight). s ∷ z) p.sights;
 })
 
-pub looks_cleared : (m d : ℕ) (l k k' : Known) (s : Sight) → m < length k.limbo → Looks m l k → k' ≡ sighted (cleared k m d) s → Looks m l k'
-looks_cleared m d l k k' s room p e =
+pub looks_cleared : (m d : ℕ) (l k k' : Known) (s : Sight) → IsLook s → m < length k.limbo → Looks m l k → k' ≡ sighted (cleared k m d) s → Looks m l k'
+looks_cleared m d l k k' s is room p e =
     let x : Limbo = record (limbo_at k.limbo m) { noted = set (limbo_at k.limbo m).noted d 0 } in
     subst (Looks m l) (sym e) (record {
-      keeps = keeps_sighted m l (cleared k m d) s (keeps_then m l k (cleared k m d) p.keeps (keeps_set m k x room refl));
+      keeps = keeps_sighted m l (cleared k m d) s (λ n i _. is) (keeps_then m l k (cleared k m d) p.keeps (keeps_set m k x room refl));
       young = ap (λ (y : Limbo). y.young) (at_set k m x room) ∙ p.young;
       old = ap (λ (y : Limbo). y.old) (at_set k m x room) ∙ p.old;
       more = s ∷ p.more;

@@ -4,7 +4,7 @@ use Rattle.hop_words.specs.declared.known.About.{About}
 use Rattle.hop_words.specs.declared.known.Known.{Known}
 use Rattle.hop_words.specs.declared.known.Sight.{Sight}
 use Rattle.hop_words.specs.declared.place.Place.TheVariants.{RunCount}
-use Rattle.hop_words.specs.Sights.{look}
+use Rattle.hop_words.specs.Sights.{look, LeavesLocks}
 use Rattle.hop_words.specs.Ghost.{HasElement, Each, limbo_at}
 
 -- the first element of a batch
@@ -37,8 +37,8 @@ pub record Keeps (m : ℕ) (l l' : Known) : Type 0 where
   pub size : length l'.limbo ≡ length l.limbo
   pub others : (n : ℕ) → n ≢ m → limbo_at l'.limbo n ≡ limbo_at l.limbo n
   pub used : (limbo_at l'.limbo m).used ≡ (limbo_at l.limbo m).used
-  -- nothing that was noted is forgotten
-  pub sights : (more : List Sight) × (l'.tally ≡ more ++ l.tally)
+  -- nothing that was noted is forgotten, and no lock was taken
+  pub sights : (more : List Sight) × (l'.tally ≡ more ++ l.tally) × Each LeavesLocks more
 
 -- the word that leads to an element, or to none
 abbrev pub link_word : Option ℕ → ℕ

@@ -13,7 +13,8 @@ use Rattle.hop_words.specs.declared.known.Known.{Known}
 use Rattle.hop_words.specs.declared.known.Sight.{Sight}
 use Rattle.hop_words.specs.declared.known.Limbo.{Limbo}
 use Rattle.hop_words.specs.declared.place.Place.TheVariants.{RunCount}
-use Rattle.hop_words.specs.Sights.{look}
+use Rattle.hop_words.specs.Sights.{LeavesLocks, look}
+use Rattle.hop_words.proofs.Sighted.{each-append}
 use Rattle.hop_words.specs.Ghost.{HasElement, Each, limbo_at}
 use Rattle.hop_words.specs.Inside.{Shown, Standing}
 use Rattle.bpf_shared.specs.Own.{turns_of, in_run}
@@ -144,6 +145,7 @@ reclaims t ended l l' m bs b here name keeps tracks i = record {
   sights = (
     keeps.sights.0 ++ i.sights.0,
     keeps.sights.1 ∙ (ap (λ (z : List Sight). keeps.sights.0 ++ z) i.sights.1 ∙ sym (append_assoc keeps.sights.0 i.sights.0 ended.tally)),
+    each-append LeavesLocks keeps.sights.0 i.sights.0 keeps.sights.2 i.sights.2,
   );
   nothing = record {
     fresh = keeps.fresh ∙ i.nothing.fresh;
@@ -254,13 +256,13 @@ begun_notes a l l' (Ok u) told = ([], ap (λ (k : Known). k.tally) told.after, r
 begun_notes a l l' (Err e) told = tt
 
 pub ended_notes : (t : Shown) (p : Port) (ended l : Known) (bs : List Batches) → Told t.about p.known End ended → IsEnding t ended l bs → CallNotes t.about End p.known l
-ended_notes t p ended l bs told i = (i.sights.0, i.sights.1 ∙ ap (λ (k : Known). i.sights.0 ++ k.tally) told.after, tt)
+ended_notes t p ended l bs told i = (i.sights.0, i.sights.1 ∙ ap (λ (k : Known). i.sights.0 ++ k.tally) told.after, i.sights.2)
 
 -- ---- batches that were looked at
-pub reclaimed_now : (m : ℕ) (before : List Sight) (l l' : Known) → (more : List Sight) × (l.tally ≡ more ++ before) → ((limbo_at l'.limbo m).old ≡ [] → (limbo_at l'.limbo m).young ≡ [])
+pub reclaimed_now : (m : ℕ) (before : List Sight) (l l' : Known) → (more : List Sight) × (l.tally ≡ more ++ before) × Each LeavesLocks more → ((limbo_at l'.limbo m).old ≡ [] → (limbo_at l'.limbo m).young ≡ [])
     → ((limbo_at l'.limbo m).old ≡ []) ⊎ SeesRunning m l l' → IsReclaimed m before l'
 reclaimed_now m before l l' sights empty (inl none) = inl (none, empty none)
-reclaimed_now m before l l' (more, is) empty (inr (d, sooner, seen, odd)) = inr (
+reclaimed_now m before l l' (more, is, leave) empty (inr (d, sooner, seen, odd)) = inr (
   d,
   [],
   sooner ++ more,

@@ -14,13 +14,14 @@ use Rattle.hop_words.specs.declared.known.Fresh.{Fresh}
 use Rattle.hop_words.specs.declared.known.Limbo.{Limbo}
 use Rattle.hop_words.specs.declared.known.Sight.{Sight}
 use Rattle.hop_words.specs.declared.place.Place.TheVariants.{RunCount}
-use Rattle.hop_words.specs.Sights.{IsLook, look, lock_taken, sighted}
+use Rattle.hop_words.specs.Sights.{IsLook, LeavesLocks, look, lock_taken, sighted}
 use Rattle.hop_words.specs.Ghost.{shape_at, limbo_at, no_limbo, Each}
 use Rattle.hop_words.specs.Rule.{done_in}
 use Rattle.hop_words.specs.Kinds.{Saw, holding, retiring, with_gone}
 use Rattle.bpf_shared.specs.Own.{in_run}
 use Rattle.hop_words.specs.Owning.{tail_of}
 use Rattle.hop_words.proofs.Small.{map_of}
+use Rattle.hop_words.proofs.Sighted.{looks_leave}
 use Rattle.hop_arena.specs.Claiming.{Sees, Misses, Claims}
 use Rattle.hop_arena.specs.declared.element.Element.{Element}
 use Rattle.hop_epoch.specs.Batch.{Keeps, SeesRunning}
@@ -43,8 +44,8 @@ pair_at a m key bytes p =
     (t.0, p.2 ∙ ap (λ (g : MapShape). g.key) (sym t.1), p.3 ∙ ap (λ (g : MapShape). g.value) (sym t.1))
 
 -- ---- looking for a free element
-pub keeps_sees : (m : ℕ) (l l1 : Known) (more : List Sight) → Sees l more l1 → Keeps m l l1
-keeps_sees m l l1 more s = subst (Keeps m l) (sym s) (record { cpu = refl; seen = refl; fresh = refl; locks = refl; readings = refl; size = refl; others = λ n ne. refl; used = refl; sights = (more, refl) })
+pub keeps_sees : (m : ℕ) (l l1 : Known) (more : List Sight) → Each LeavesLocks more → Sees l more l1 → Keeps m l l1
+keeps_sees m l l1 more leave s = subst (Keeps m l) (sym s) (record { cpu = refl; seen = refl; fresh = refl; locks = refl; readings = refl; size = refl; others = λ n ne. refl; used = refl; sights = (more, refl, leave) })
 
 pub keeps_holding : (m e : ℕ) (l l1 : Known) → Keeps m l l1 → Keeps m (holding l m e) (holding l1 m e)
 keeps_holding m e l l1 p = record { cpu = p.cpu; seen = p.seen; fresh = ap (λ (fs : List Fresh). record { map = m; element = e; key = []; value = [] } ∷ fs) p.fresh; locks = p.locks; readings = p.readings; size = p.size; others = p.others; used = p.used; sights = p.sights }
@@ -98,11 +99,11 @@ pub found_after : (a : About) (m : ℕ) (l l1 l2 l3 : Known) → Misses a l m l1
     → ((limbo_at l2.limbo m).old ≡ []) ⊎ SeesRunning m l1 l2 → (o : Option Element) → MatchOption o (Misses a l2 m l3) (λ (x : Element). Claims a l2 m x l3)
     → MatchOption o (Keeps m l l3 × SearchesInVain a l m l3) (λ (x : Element). Keeps m (holding l m x.number) l3 × (x.map ≡ m) × (x.number < elements (shape_at a m)))
 found_after a m l l1 l2 l3 first kept empty blocked None p = (
-  keeps_then m l l2 l3 (keeps_then m l l1 l2 (keeps_sees m l l1 first.0 first.1.0) kept) (keeps_sees m l2 l3 p.0 p.1.0),
+  keeps_then m l l2 l3 (keeps_then m l l1 l2 (keeps_sees m l l1 first.0 (looks_leave first.0 first.1.1) first.1.0) kept) (keeps_sees m l2 l3 p.0 (looks_leave p.0 p.1.1) p.1.0),
   short a m l l1 l2 l3 first kept empty blocked p,
 )
 found_after a m l l1 l2 l3 first kept empty blocked (Some x) p = (
-  keeps_then m (holding l m x.number) (holding l2 m x.number) l3 (keeps_holding m x.number l l2 (keeps_then m l l1 l2 (keeps_sees m l l1 first.0 first.1.0) kept)) (keeps_sees m (holding l2 m x.number) l3 p.0 p.1),
+  keeps_then m (holding l m x.number) (holding l2 m x.number) l3 (keeps_holding m x.number l l2 (keeps_then m l l1 l2 (keeps_sees m l l1 first.0 (looks_leave first.0 first.1.1) first.1.0) kept)) (keeps_sees m (holding l2 m x.number) l3 p.0 p.4 p.1),
   p.2,
   p.3,
 )

@@ -7,8 +7,7 @@ use Rattle.bpf_shared.specs.declared.events.MapAnswer.TheVariants.{Busy}
 use Rattle.hop_words.specs.declared.known.About.{About}
 use Rattle.hop_words.specs.declared.known.Known.{Known}
 use Rattle.hop_words.specs.declared.known.Sight.{Sight}
-use Rattle.hop_words.specs.declared.place.Place.TheVariants.{Stamp}
-use Rattle.hop_words.specs.Sights.{IsLook, lock_taken}
+use Rattle.hop_words.specs.Sights.{LeavesLocks, lock_taken}
 use Rattle.hop_words.specs.Ghost.{segment_in, Each}
 use Rattle.hop_map.specs.Finding.{IsSparing}
 
@@ -18,28 +17,25 @@ abbrev pub BusyFirst : ℕ → MapAnswer → Type 0
 BusyFirst stamp Busy = 2 ^ 56 - 1 ≤ stamp / 256
 BusyFirst stamp answer = stamp / 256 < 2 ^ 56 - 1
 
--- the step took no lock
-abbrev pub LeavesLocks : Sight → Type 0
-LeavesLocks s = (m i : ℕ) → s.place ≡ Stamp m i → IsLook s
-
--- the last lock that the call took was the segment's, and the version that it showed decided
--- whether the answer is Busy
+-- the call took one lock, the segment's, and the version that it showed decided whether the answer is
+-- Busy
 pub record IsUnderLock (m s : ℕ) (answer : MapAnswer) (sights : List Sight) : Type 0 where
   pub stamp : ℕ
   pub sooner : List Sight
   pub later : List Sight
   pub all : sights ≡ later ++ (lock_taken m s stamp ∷ sooner)
-  pub last : Each LeavesLocks later
+  pub only : Each LeavesLocks later × Each LeavesLocks sooner
   pub order : BusyFirst stamp answer
 
 -- what a call with this event may note, the last first. An update with flags that are none of those
--- known takes no lock; a beginning and an access to a value note nothing
+-- known notes nothing, nor does a beginning, or an access to a value; an end takes no lock
 abbrev pub MayNote : About → Event → List Sight → Type 0
 MayNote a (Lookup m key found) sights = IsSparing m (segment_in a m key) sights
 MayNote a (Update m key bytes flags answer) sights =
-    flags ≤ 2 → IsUnderLock m (segment_in a m key) answer sights
+    (flags ≤ 2 → IsUnderLock m (segment_in a m key) answer sights)
+    × (2 < flags → sights ≡ [])
 MayNote a (Delete m key answer) sights = IsUnderLock m (segment_in a m key) answer sights
-MayNote a End sights = Unit {0}
+MayNote a End sights = Each LeavesLocks sights
 MayNote a event sights = sights ≡ []
 
 -- what the CPU noted at the call, in front of all that it had noted

@@ -11,7 +11,8 @@ use Rattle.bpf_shared.specs.Own.{held_by, in_run}
 use Rattle.hop_words.specs.declared.known.About.{About}
 use Rattle.hop_words.specs.declared.known.Known.{Known}
 use Rattle.hop_words.specs.declared.known.Sight.{Sight}
-use Rattle.hop_words.specs.Ghost.{limbo_at}
+use Rattle.hop_words.specs.Sights.{LeavesLocks}
+use Rattle.hop_words.specs.Ghost.{limbo_at, Each}
 use Rattle.hop_words.specs.Inside.{Shown, Standing, nobody}
 use Rattle.hop_words.specs.Kinds.{run_count, Saw}
 use Rattle.hop_words.specs.Seats.{HasSeenBeginning}
@@ -140,7 +141,7 @@ IsPartOf history p = HasSeenBeginning p.known history
 pub record IsEnding (t : Shown) (ended l : Known) (bs : List Batches) : Type 0 where
   pub cpu : l.cpu ≡ ended.cpu
   pub seen : l.seen ≡ ended.seen
-  pub sights : (more : List Sight) × (l.tally ≡ more ++ ended.tally)
+  pub sights : (more : List Sight) × (l.tally ≡ more ++ ended.tally) × Each LeavesLocks more
   pub nothing : HasNothing l
   pub limbo : length l.limbo ≡ length t.about.shape.maps
   pub batches : AreBatches t.about l (length t.about.shape.maps) bs

@@ -16,6 +16,10 @@ IsLook s = s.left ≡ s.found
 abbrev pub look : Place → ℕ → Sight
 look p n = sight p n n
 
+-- the step took no lock
+abbrev pub LeavesLocks : Sight → Type 0
+LeavesLocks s = (m i : ℕ) → s.place ≡ Stamp m i → IsLook s
+
 -- a segment's lock was taken
 abbrev pub lock_taken : ℕ → ℕ → ℕ → Sight
 lock_taken m s n = sight (Stamp m s) n (n + 1)

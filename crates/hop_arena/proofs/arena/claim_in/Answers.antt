@@ -4,6 +4,7 @@ use Rattle.std.proofs.lemmas.Nat.{and_le_l}
 use Rattle.hop_words.specs.declared.place.Place.TheVariants.{FreeBits}
 use Rattle.hop_words.specs.Sights.{look, bit_cleared}
 use Rattle.hop_arena.proofs.Claiming.{first_look, looks_on, holds_on, look_on, all_taken, lowest, fewer}
+use Rattle.hop_words.proofs.Sighted.{looks_leave, cleared_leaves}
 use Rattle.hop_arena.proofs.arena.claim_in.Goals as goal
 
 pub loop-bits-init : goal.loop-bits-init
@@ -23,7 +24,7 @@ returns-then-has_bit-clause-claimed c =
     let i = c.loop-bits.invariant.1 in
     let e = 64 * c.args.word + trailing_zeros w64 c.loop-bits.bits in
     let s = bit_cleared c.args.map e c.claim_bit-found.result in
-    (s ∷ i.0, holds_on c.args.lane.now.known c.loop-bits.lane.known c.claim_bit-found.new.self.known i.0 s c.args.map (64 * c.args.word + trailing_zeros w64 c.loop-bits.bits) i.1 (c.claim_bit-found.ensures.claimed.0 (c.if-has_bit.ensures.set refl)), refl, subst (λ (n : ℕ). 64 * c.args.word + trailing_zeros w64 c.loop-bits.bits < n) c.requires.count c.if-number-count.false)
+    (s ∷ i.0, holds_on c.args.lane.now.known c.loop-bits.lane.known c.claim_bit-found.new.self.known i.0 s c.args.map (64 * c.args.word + trailing_zeros w64 c.loop-bits.bits) i.1 (c.claim_bit-found.ensures.claimed.0 (c.if-has_bit.ensures.set refl)), refl, subst (λ (n : ℕ). 64 * c.args.word + trailing_zeros w64 c.loop-bits.bits < n) c.requires.count c.if-number-count.false, (cleared_leaves c.args.map e c.claim_bit-found.result, looks_leave i.0 i.1.1))
 
 pub loop-bits-smaller : goal.loop-bits-smaller
 loop-bits-smaller c =

@@ -19,7 +19,8 @@ use Rattle.hop_map.specs.Noting.{BusyFirst}
 use Rattle.hop_map.specs.Updates.{Refusal, UpdateEnds, answer_of}
 use Rattle.hop_map.proofs.Keys.{are_bytes}
 use Rattle.hop_map.proofs.Wholes.{pair_at}
-use Rattle.hop_map.proofs.Noted.{update_notes, bit_leaves}
+use Rattle.hop_words.proofs.Sighted.{set_leaves}
+use Rattle.hop_map.proofs.Noted.{update_notes}
 use Rattle.hop_map.proofs.Settling.{filled_readies, refused_hand, refused_called, over_called}
 use Rattle.hop_map.proofs.updating.fill_and_put.Goals as goal
 
@@ -144,7 +145,7 @@ returns-in-Added-clause-noted g c =
     let p : Took a (sighted c.fill.new.lane.known k) m key c.args.value.now c.args.flags l2 = subst (λ (q : Ending). UpdateEnds a (sighted c.fill.new.lane.known k) m key c.args.value.now c.args.flags q l2) c.in-Added.is ends.1 in
     update_notes a c.args.lane.known m key Done l2 ends.0 []
     (ap (λ (q : Known). q.tally) p.after ∙ ap (λ (q : Known). k ∷ q.tally) c.fill.ensures.filled) tt
-    (subst (λ (q : Ending). BusyFirst ends.0 (answer_of q)) c.in-Added.is ends.2) c.args.value.now c.args.flags
+    (subst (λ (q : Ending). BusyFirst ends.0 (answer_of q)) c.in-Added.is ends.2) c.args.value.now c.args.flags c.requires.flags
 
 pub returns-in-Replaced-clause-noted : goal.returns-in-Replaced-clause-noted
 returns-in-Replaced-clause-noted g c =
@@ -157,7 +158,7 @@ returns-in-Replaced-clause-noted g c =
     let p : Over a (sighted c.fill.new.lane.known k) m key c.args.value.now c.args.flags c.in-Replaced.old l2 = subst (λ (q : Ending). UpdateEnds a (sighted c.fill.new.lane.known k) m key c.args.value.now c.args.flags q l2) c.in-Replaced.is ends.1 in
     update_notes a c.args.lane.known m key Done c.retire.new.lane.known ends.0 []
     (ap (λ (q : Known). q.tally) c.retire.ensures.retired ∙ (ap (λ (q : Known). q.tally) p.after ∙ ap (λ (q : Known). k ∷ q.tally) c.fill.ensures.filled)) tt
-    (subst (λ (q : Ending). BusyFirst ends.0 (answer_of q)) c.in-Replaced.is ends.2) c.args.value.now c.args.flags
+    (subst (λ (q : Ending). BusyFirst ends.0 (answer_of q)) c.in-Replaced.is ends.2) c.args.value.now c.args.flags c.requires.flags
 
 pub returns-in-Refused-clause-noted : goal.returns-in-Refused-clause-noted
 returns-in-Refused-clause-noted g c =
@@ -171,5 +172,5 @@ returns-in-Refused-clause-noted g c =
     let back = bit_set c.args.element.map c.args.element.number c.give_back.ensures.given.0 in
     update_notes a c.args.lane.known m key c.in-Refused.answer c.give_back.new.lane.known ends.0 (back ∷ [])
     (ap (λ (q : Known). q.tally) c.give_back.ensures.given.1 ∙ ap (λ (z : List Sight). back ∷ z) (ap (λ (q : Known). q.tally) p.0.after ∙ ap (λ (q : Known). k ∷ q.tally) c.fill.ensures.filled))
-    (bit_leaves c.args.element.map c.args.element.number c.give_back.ensures.given.0, tt)
-    (subst (λ (q : Ending). BusyFirst ends.0 (answer_of q)) c.in-Refused.is ends.2) c.args.value.now c.args.flags
+    (set_leaves c.args.element.map c.args.element.number c.give_back.ensures.given.0, tt)
+    (subst (λ (q : Ending). BusyFirst ends.0 (answer_of q)) c.in-Refused.is ends.2) c.args.value.now c.args.flags c.requires.flags

@@ -47,12 +47,12 @@ returns-in-None-clause-lacks g c =
 pub returns-then-flags-gt2-clause-noted : goal.returns-then-flags-gt2-clause-noted
 returns-then-flags-gt2-clause-noted g c =
     let many = c.if-flags-gt2.true in
-    ([], ap (λ (q : Known). q.tally) c.see_count_misflagged.ensures.answered.after, λ few. absurd (omega arith))
+    ([], ap (λ (q : Known). q.tally) c.see_count_misflagged.ensures.answered.after, ((λ few. absurd (omega arith)), (λ _. refl)))
 
 pub returns-in-Some-clause-noted : goal.returns-in-Some-clause-noted
 returns-in-Some-clause-noted g c =
     let kept = c.in-Some.ensures.claimed.0 in
-    notes_after c.args.table.now.about c.args.lane.known c.claim_free.new.lane.known c.args.map c.args.key.now c.args.value.now c.args.flags c.fill_and_put.result.1 c.fill_and_put.result.0.known kept.sights.0 c.if-flags-gt2.false kept.sights.1 c.fill_and_put.ensures.noted
+    notes_after c.args.table.now.about c.args.lane.known c.claim_free.new.lane.known c.args.map c.args.key.now c.args.value.now c.args.flags c.fill_and_put.result.1 c.fill_and_put.result.0.known kept.sights.0 c.if-flags-gt2.false kept.sights.1 kept.sights.2 c.fill_and_put.ensures.noted
 
 pub returns-in-None-clause-noted : goal.returns-in-None-clause-noted
 returns-in-None-clause-noted g c =
@@ -64,5 +64,5 @@ returns-in-None-clause-noted g c =
     let answer = c.lock_and_refuse.result.1 in
     let refused = c.lock_and_refuse.ensures.refused in
     let kept = c.in-None.ensures.claimed.0 in
-    notes_after a c.args.lane.known l1 m key c.args.value.now c.args.flags answer l2 kept.sights.0 c.if-flags-gt2.false kept.sights.1
-    (update_notes a l1 m key answer l2 refused.0 [] (ap (λ (q : Known). q.tally) refused.1.after) tt refused.2 c.args.value.now c.args.flags)
+    notes_after a c.args.lane.known l1 m key c.args.value.now c.args.flags answer l2 kept.sights.0 c.if-flags-gt2.false kept.sights.1 kept.sights.2
+    (update_notes a l1 m key answer l2 refused.0 [] (ap (λ (q : Known). q.tally) refused.1.after) tt refused.2 c.args.value.now c.args.flags c.if-flags-gt2.false)

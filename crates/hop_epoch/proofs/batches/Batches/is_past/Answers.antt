@@ -1,4 +1,4 @@
-use Rattle.std.proofs.Common.{◌≡◌, ℕ, ◌+◌, ◌%◌, ◌<◌, List, length, slice_index, set, length-set, ap, sym, subst, ◌∙◌, arith}
+use Rattle.std.proofs.Common.{◌≡◌, ℕ, ◌+◌, ◌%◌, ◌<◌, List, length, slice_index, set, length-set, ap, sym, subst, ◌∙◌, arith, refl}
 use Rattle.hop_words.specs.declared.known.About.{About}
 use Rattle.hop_words.specs.declared.known.Known.{Known}
 use Rattle.hop_words.specs.declared.place.Place.TheVariants.{RunCount}
@@ -18,7 +18,7 @@ returns-then-found-noted-clause-looks c =
     let looked = subst (λ (n : ℕ). LooksAgain c.loop-cpu.lane.known n c.loop-cpu.cpu c.see_counter_again-found.result c.see_counter_again-found.new.self.known) i.1 c.see_counter_again-found.ensures.looked in
     let cpus = c.cpus-cpu-end.ensures.cpus ∙ ap (λ (x : About). x.shape.cpus) c.about.ensures in
     let few : c.loop-cpu.cpu < c.args.table.now.about.shape.cpus = (let t = c.loop-cpu-test.true in omega arith) in
-    looks_same c.args.self.now.map c.args.lane.now.known c.loop-cpu.lane.known c.see_counter_again-found.new.self.known (look (RunCount c.loop-cpu.cpu) c.see_counter_again-found.result) i.5
+    looks_same c.args.self.now.map c.args.lane.now.known c.loop-cpu.lane.known c.see_counter_again-found.new.self.known (look (RunCount c.loop-cpu.cpu) c.see_counter_again-found.result) refl i.5
     (looked.0 (c.if-found-noted.true ∙ (ap (slice_index c.loop-cpu.self.noted) c.from.ensures ∙ sym (i.6.1 c.loop-cpu.cpu few))))
 
 pub loop-cpu-preserved : goal.loop-cpu-preserved
@@ -43,7 +43,7 @@ loop-cpu-preserved c = elim c.if-noted-eq1.branch [
         ap (λ (x : Batches). x.young) w.self-is ∙ i.2,
         ap (λ (x : Batches). x.aged) w.self-is ∙ i.3,
         subst (λ (l : Known). m < length l.limbo) (sym lane) (subst (λ (n : ℕ). m < n) (sym (ap (λ (l : Known). length l.limbo) cleared ∙ length-set k.limbo m _)) i.4),
-        subst (Looks m c.args.lane.now.known) (sym lane) (looks_cleared m d c.args.lane.now.known k new s i.4 i.5 cleared),
+        subst (Looks m c.args.lane.now.known) (sym lane) (looks_cleared m d c.args.lane.now.known k new s refl i.4 i.5 cleared),
         subst (λ (l : Known). Notes a (limbo_at l.limbo m).noted c.if-noted-eq1.self.noted) (sym lane)
             (subst (λ (ks : List ℕ). Notes a ks c.if-noted-eq1.self.noted) (sym (noted_cleared m d k new s i.4 cleared))
             (subst (λ (zs : List ℕ). Notes a (set (limbo_at k.limbo m).noted d 0) zs) (sym ns)
