@@ -16,9 +16,9 @@ use crate::going;
 use crate::lines::{LINE, put_break, put_ended, put_off, put_registers, put_where};
 use crate::maps::{map_lines, map_named};
 use crate::reading::bytes_line;
+use bpf_lines::lines;
 use bpf_loader::Program;
 use bpf_machine::{Machine, Turn};
-use bpf_lines::lines;
 use std::alloc::Global;
 use std::marker::Model;
 

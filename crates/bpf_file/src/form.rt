@@ -4,8 +4,8 @@ ghost use Rattle.std.specs.Prelude.{◌≡◌, map};
 ghost use Rattle.bpf_file.specs.Form.{is_number, is_part, has_form, field_at};
 
 use crate::key::Key;
-use bpf_mem::context::MAX_CONTEXT;
 use bpf_lines::words::{self, NumberError};
+use bpf_mem::context::MAX_CONTEXT;
 
 /// What a field of a line has to be.
 #[derive(Clone, Copy)]

@@ -8,8 +8,8 @@ ghost use Rattle.bpf_file.specs.Statement.{count_at, held_at, Says, cpus_said, s
 use crate::form;
 use crate::line::LineError;
 use bpf_base::MAX_BUDGET;
-use bpf_shared::MapShape;
 use bpf_lines::words::{self, NumberError};
+use bpf_shared::MapShape;
 
 /// What one line says, where it isn't assembly. Names and digits are as they stand.
 #[derive(Clone, Copy)]

@@ -11,4 +11,4 @@ mod rounds;
 pub use line::{OutcomeText, is_stop, push_job};
 pub use listing::has_any_stopped;
 pub use maps::push_map;
-pub use rounds::{Report, make_machine, run_jobs};
+pub use rounds::{Report, make_machine, run_in_rounds};

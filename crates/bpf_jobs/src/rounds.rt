@@ -87,7 +87,7 @@ fn tell(
 
 /// Runs jobs in rounds, until each has ended, over a new store whose maps have these names. Want of
 /// memory is the only refusal; all that the machine needs is there before its first turn.
-pub fn run_jobs(
+pub fn run_in_rounds(
     alloc: Global,
     shape: StoreShape,
     names: &[String],

@@ -49,7 +49,10 @@ pub fn numeral_of<'a>(word: &'a [u8]) -> Option<Numeral<'a>>
         numbers::is_numeral(16, digits).then_some(Numeral { radix, digits })
     } else {
         let radix = Radix::Decimal;
-        numbers::is_numeral(10, word).then_some(Numeral { radix, digits: word })
+        numbers::is_numeral(10, word).then_some(Numeral {
+            radix,
+            digits: word,
+        })
     }
 }
 

@@ -5,8 +5,8 @@ use bpf_cpu::Job;
 use bpf_faults::{Evidence, Maps, describe, evidence_of};
 use bpf_file::{RunFile, read_file};
 use bpf_insn::Insn;
-use bpf_machine::Machine;
 use bpf_lines::{from_hex, to_hex};
+use bpf_machine::Machine;
 use std::alloc::{AllocError, Global};
 
 /// The instruction at which a fault came, by the number of each job's program.

@@ -10,7 +10,7 @@ ghost use Rattle.bpf_run.specs.Commands.{IsRunByWorkers, IsRunOfFile, RefusesFil
 use crate::refusal::Refusal;
 use crate::reply::Reply;
 use bpf_file::{FileError, RunFile, read_file};
-use bpf_jobs::{Report, run_jobs};
+use bpf_jobs::{Report, run_in_rounds};
 use bpf_workers::{WorkError, run_by_workers};
 use std::alloc::Global;
 use std::sync::Wait;
@@ -45,7 +45,7 @@ pub fn run_file(alloc: Global, maps: bool, text: &str) -> Reply
         jobs,
         ..
     } = file;
-    match run_jobs(alloc, shape, &names, programs, jobs, maps) {
+    match run_in_rounds(alloc, shape, &names, programs, jobs, maps) {
         Ok(Report { text, stopped }) => Reply::Jobs(text, stopped),
         Err(_) => Reply::Refused(Refusal::OutOfMemory),
     }

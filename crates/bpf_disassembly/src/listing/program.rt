@@ -5,8 +5,8 @@ ghost use Rattle.bpf_insn.specs.Encoding.{IsEncodedAs};
 ghost use Rattle.bpf_text.specs.Form.{line_of};
 ghost use Rattle.bpf_disassembly.specs.Listing.Program.{place_comment, program_lines};
 
-use crate::listing::place::push_place;
 use crate::disassemble;
+use crate::listing::place::push_place;
 use bpf_insn::Insn;
 use bpf_text::TextError;
 use std::alloc::Global;

@@ -21,7 +21,7 @@ maps-preserved c =
     let e = c.reclaim.ensures in
     let b = c.reclaim.new.self in
     let old : c.index_mut.result.now ≡ batches_at bs c.maps.map = c.index_mut.ensures.value ∙ get_or_default bs c.maps.map c.index_mut.result.now no_batches (let n = i.1.batches.size in omega arith) in
-    let name : c.index_mut.result.now.map ≡ c.maps.map = ap (λ (x : Batches). x.map) old ∙ i.1.batches.map c.maps.map here in 
+    let name : c.index_mut.result.now.map ≡ c.maps.map = ap (λ (x : Batches). x.map) old ∙ i.1.batches.map c.maps.map here in
     let keeps : Keeps c.maps.map l l2 = subst (λ (k : ℕ). Keeps k l l2) name e.keeps in (
       e.table ∙ i.0,
       reclaims c.args.table.now c.end_run.new.lane.known l l2 c.maps.map bs b here (e.map ∙ name)

@@ -2,7 +2,7 @@ use Rattle.std.specs.Prelude.{map, string_bytes}
 use Rattle.bpf_cpu.specs.Task.{waiting}
 use Rattle.bpf_jobs.specs.Printed.{first_world}
 use Rattle.bpf_jobs.proofs.OneReport.{told}
-use Rattle.bpf_jobs.proofs.rounds.run_jobs.Goals as goal
+use Rattle.bpf_jobs.proofs.rounds.run_in_rounds.Goals as goal
 
 pub returns : goal.returns
 returns c =
