@@ -13,7 +13,7 @@ use Rattle.bpf_text.specs.declared.reading.operand.RawOperand.{RawOperand}
 use Rattle.bpf_text.specs.declared.reading.operand.RawOperand.TheVariants as raw
 use Rattle.bpf_text.specs.declared.reading.target.RawTarget.{RawTarget}
 use Rattle.bpf_text.specs.declared.reading.target.RawTarget.TheVariants as target
-use Rattle.bpf_text.specs.Private.Look.{numeral_value}
+use Rattle.bpf_lines.specs.Words.{numeral_value}
 use Rattle.bpf_text.specs.Private.Pieces.{Target}
 use Rattle.bpf_text.specs.Line.{Written}
 
