@@ -1,4 +1,4 @@
-.PHONY: run build test check edits manual bench install uninstall help
+.PHONY: run build try test check edits manual bench install uninstall help
 
 PREFIX ?= /usr/local
 
@@ -6,9 +6,12 @@ run: build ## Build the proved program as ./ebpf and run the first examples (the
 	echo 'b700000005000000 9500000000000000' | ./ebpf hex
 	./ebpf run --workers 2 --maps < examples/atomic-update.run
 
-build: ## Build the proved program as ./ebpf
-	cd crates/bpf_run && rt run -- --version </dev/null
+build: ## Prove the program and build it as ./ebpf, saying meanwhile how far that is
+	tools/prove bpf_run
 	cp crates/bpf_run/out/bpf_run ebpf
+
+try: ## Build ./ebpf-try in a minute: the same sources with the kit's checks on, of which nothing is proved
+	tools/try
 
 # rt ci sets aside what was built before, and leaves the program that it proved, built and ran: the cases take that one.
 test: ## The whole gate: every proof, every must-fail edit, every test, then the cases, refused memory, and failing reads and writes
@@ -28,7 +31,7 @@ manual: ## Look for mistakes in the manual page with mandoc, where that is insta
 check: ## The quick check while one writes: what changed is proved again
 	rt all check
 
-edits: ## Try the wrong bodies that the gate doesn't try, which takes hours; tests/edits.py CRATE tries those of one crate
+edits: ## Try the wrong bodies that the gate doesn't try, where something changed: hours at first; tests/edits.py CRATE tries one crate's
 	tests/edits.py
 
 bench: build ## Time fixed programs beside other interpreters, map calls beside other maps, also by threads and workers, and texts of 16 MiB
