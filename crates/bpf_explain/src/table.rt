@@ -2,9 +2,9 @@
 
 ghost use Rattle.std.specs.Prelude.{◌≡◌};
 
-use bpf_codes::Code;
 use crate::page::Page;
 use crate::pages::{debugger, files, program, running, text, workers};
+use bpf_codes::Code;
 
 /// The page of a code.
 pub fn page_of(code: Code) -> Page

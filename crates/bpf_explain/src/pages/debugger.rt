@@ -1,7 +1,7 @@
 //! Commands of the debugger.
 
-use bpf_codes::Code;
 use crate::page::{Example, Page};
+use bpf_codes::Code;
 
 pub const G1: Page = Page {
     code: Code::G1,

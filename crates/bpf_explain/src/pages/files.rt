@@ -1,7 +1,7 @@
 //! Codes of input, of run files, and of the shapes of their maps.
 
-use bpf_codes::Code;
 use crate::page::{Example, Page};
+use bpf_codes::Code;
 
 pub const L1: Page = Page {
     code: Code::L1,

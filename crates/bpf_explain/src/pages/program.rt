@@ -1,7 +1,7 @@
 //! Codes of programs.
 
-use bpf_codes::Code;
 use crate::page::{Example, Page};
+use bpf_codes::Code;
 
 pub const E1: Page = Page {
     code: Code::E1,

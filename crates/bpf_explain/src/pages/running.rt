@@ -1,7 +1,7 @@
 //! Codes of faults while a program runs.
 
-use bpf_codes::Code;
 use crate::page::{Example, Page};
+use bpf_codes::Code;
 
 pub const F1: Page = Page {
     code: Code::F1,

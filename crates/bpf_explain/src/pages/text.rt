@@ -1,7 +1,7 @@
 //! Codes of assembly text and of hex digits.
 
-use bpf_codes::Code;
 use crate::page::{Example, Page};
+use bpf_codes::Code;
 
 pub const A1: Page = Page {
     code: Code::A1,

@@ -1,7 +1,7 @@
 //! Jobs that are run by worker threads.
 
-use bpf_codes::Code;
 use crate::page::Page;
+use bpf_codes::Code;
 
 pub const J1: Page = Page {
     code: Code::J1,
