@@ -6,6 +6,7 @@ use Rattle.bpf_shared.specs.declared.shapes.MapShape.{MapShape}
 use Rattle.bpf_shared.specs.Shape.{Shape}
 use Rattle.bpf_shared.specs.History.{IsLegal, events_of}
 use Rattle.bpf_shared.specs.Own.{turns_of}
+use Rattle.hop_words.specs.Shortage.{HaveCauses}
 use Rattle.bpf_loader.specs.Loaded.{Loaded}
 use Rattle.bpf_cpu.specs.declared.outcome.Outcome.{Outcome}
 use Rattle.bpf_cpu.specs.State.{start}
@@ -59,12 +60,13 @@ ExplainsJobs shapes count programs before _ _ events = ⊥
 
 -- ---- all jobs
 
--- of a store of this shape, whose run counters began with this count: the history is a legal one of
--- it, and of each CPU it has the events of that CPU's jobs, in the jobs' order, and no others; they
--- explain how each job ended
-pub record IsExplained (h : Shape) (count : ℕ) (programs : List Loaded) (tasks : List Task)
+-- of a store of this shape, whose segments' versions and run counters began with these: the history
+-- is a legal one of it, whose answers of a shortage have their causes, and of each CPU it has the
+-- events of that CPU's jobs, in the jobs' order, and no others; they explain how each job ended
+pub record IsExplained (h : Shape) (version count : ℕ) (programs : List Loaded) (tasks : List Task)
     (ends : List Outcome) (history : List Entry) : Type 0 where
   pub legal : IsLegal h history
+  pub causes : HaveCauses version history
   pub each_ended : length ends ≡ length tasks
   pub each_has_cpu : (task : Task) (j : ℕ) → slice_get tasks j ≡ Some task → task.cpu < h.cpus
   pub explained : (c : ℕ) → c < h.cpus → ExplainsJobs h.maps count programs [] (jobs_of c tasks)

@@ -109,8 +109,8 @@ pub fn run_ports<R: Threads + Wait + Sync, G: Gate + Sync>(
     requires room { table.about.shape.cpus ≤ vec_capacity room.ports }
     requires ends { vec_len room.ends ≡ length jobs.now }
     ensures about { result.closed.about ≡ table.about }
-    ensures explained { IsExplained table.about.shape table.about.count programs.now
-        (map waiting jobs.now) result.outcomes.items result.closed.history }
+    ensures explained { IsExplained table.about.shape table.about.version table.about.count
+        programs.now (map waiting jobs.now) result.outcomes.items result.closed.history }
     ensures last { (last : Plain) × IsLast result.closed last
         × Legal (as_made result.closed.about.shape) result.closed.history last }
 {

@@ -72,8 +72,9 @@ pub fn run_jobs<R: Threads + Wait + Sync, G: Gate + Sync>(
     ensures cpus { OnOk result (AreHere store.table.about.shape.cpus jobs.now) }
     ensures about { IfOk result (λ r. r.closed.about ≡ store.table.about) }
     ensures explained { IfOk result
-        (λ r. IsExplained store.table.about.shape store.table.about.count
-        programs.now (map waiting jobs.now) r.outcomes.items r.closed.history) }
+        (λ r. IsExplained store.table.about.shape
+        store.table.about.version store.table.about.count programs.now
+        (map waiting jobs.now) r.outcomes.items r.closed.history) }
     ensures last { IfOk result (λ r. (last : Plain) × IsLast r.closed last
         × Legal (as_made r.closed.about.shape) r.closed.history last) }
     ensures refused { IfErr result (λ r.

@@ -17,6 +17,7 @@ use Rattle.hop_words.specs.Ghost.{Each, HasElement, limbo_at, no_limbo}
 use Rattle.hop_words.specs.Inside.{Shown}
 use Rattle.hop_words.specs.Opens.{no_limbos, new_lane, lanes_from}
 use Rattle.bpf_shared.specs.Own.{in_run}
+use Rattle.hop_words.specs.Shortage.{HaveCauses}
 use Rattle.hop_words.specs.Seats.{view, KeepsWholeHistory}
 use Rattle.hop_words.specs.Closing.{AreAllBack}
 use Rattle.hop_arena.specs.declared.arena.Arena.{Arena}
@@ -111,6 +112,9 @@ map_snoc (q ∷ ps) p = ap (λ (ls : List Known). q.known ∷ ls) (map_snoc ps p
 
 pub legal_of : (a : About) (h : List Entry) (ws : List ℕ) → KeepsWholeHistory a (view [] h) ws → IsLegal a.shape h
 legal_of a h ws w = (w.ghost.last, subst (λ (log : List Entry). Legal (as_made a.shape) log w.ghost.last) (sym w.whole) w.rule.logged.legal)
+
+pub causes_of : (a : About) (h : List Entry) (ws : List ℕ) → KeepsWholeHistory a (view [] h) ws → HaveCauses a.version h
+causes_of a h ws w = subst (HaveCauses a.version) (sym w.whole) w.rule.logged.causes
 
 unlocked_at : (ls : List Known) (k : ℕ) (l : Known) → All IsUnlocked ls → get_elem? ls k ≡ some l → l.locks ≡ []
 unlocked_at [] k l all e = absurd (some-ne-none l (sym e))

@@ -1,5 +1,5 @@
 -- A deletion: from the lock to the unlock.
-use Rattle.std.proofs.Common.{◌≡◌, ℕ, ◌<◌, Bool, true, ◌||◌, List, [], ◌∷◌, None, refl, ap, sym, subst, ◌∙◌}
+use Rattle.std.proofs.Common.{◌≡◌, ℕ, ◌-◌, ◌/◌, ◌^◌, ◌<◌, ◌≤◌, Bool, true, ◌||◌, List, [], ◌∷◌, None, refl, ap, sym, subst, ◌∙◌}
 use Rattle.bpf_shared.specs.declared.events.Event.TheVariants.{Delete}
 use Rattle.bpf_shared.specs.declared.events.MapAnswer.TheVariants.{Done, Absent, Busy}
 use Rattle.hop_words.specs.declared.known.About.{About}
@@ -54,6 +54,7 @@ module _ (x : Locked) (key : List ℕ) (c : LockShows x.about x.known x.map x.se
         clean = c.clean;
         quiet = refl;
         runs = b.runs;
+        worn = tt;
         allowed = λ s before number shape running share maps. (
           running,
           (
@@ -66,13 +67,14 @@ module _ (x : Locked) (key : List ℕ) (c : LockShows x.about x.known x.map x.se
         );
       }
 
-  -- a deletion may always be refused with Busy
-  pub worn_answers : Ready x.about x.known x.map x.segment → Answers x.about x.known k (Delete x.map key Busy)
-  worn_answers r = record {
+  -- a deletion may always be refused with Busy where the segment has its last version
+  pub worn_answers : 2 ^ 56 - 1 ≤ k.stamp / 256 → Ready x.about x.known x.map x.segment → Answers x.about x.known k (Delete x.map key Busy)
+  worn_answers worn r = record {
     lock = r.held;
     clean = c.clean;
     quiet = refl;
     runs = b.runs;
+    worn = (sym c.map, worn);
     allowed = λ s before number shape running share maps. (
       running,
       ((shape_at x.about x.map, subst (λ (h : Shape). IsMap h.maps x.map (shape_at x.about x.map)) (sym shape) (map_is x.about.shape x.map r.inside.0), b.size), refl),

@@ -16,7 +16,7 @@ use Rattle.hop_words.specs.declared.known.Sight.{Sight}
 use Rattle.hop_words.specs.declared.place.Place.TheVariants.{RunCount}
 use Rattle.hop_words.specs.Sights.{IsLook, LeavesLocks, look, lock_taken, sighted}
 use Rattle.hop_words.specs.Ghost.{shape_at, limbo_at, no_limbo, Each}
-use Rattle.hop_words.specs.Rule.{done_in}
+use Rattle.hop_words.specs.Shortage.{done_in}
 use Rattle.hop_words.specs.Kinds.{Saw, holding, retiring, with_gone}
 use Rattle.bpf_shared.specs.Own.{in_run}
 use Rattle.hop_words.specs.Owning.{tail_of}

@@ -11,7 +11,7 @@ use Rattle.hop_map.specs.declared.dropping.Deletion.{Deletion}
 use Rattle.hop_map.specs.declared.dropping.Deletion.TheVariants.{Gone, Missing, Worn}
 use Rattle.hop_words.specs.Homes.{segment_of}
 use Rattle.hop_words.specs.Ghost.{shape_at}
-use Rattle.hop_words.specs.Rule.{done_in}
+use Rattle.hop_words.specs.Shortage.{done_in}
 use Rattle.hop_words.specs.Kinds.{Saw, with_gone}
 use Rattle.bpf_shared.specs.Own.{in_run}
 

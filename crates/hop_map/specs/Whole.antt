@@ -10,7 +10,7 @@ use Rattle.hop_words.specs.declared.known.Sight.{Sight}
 use Rattle.hop_words.specs.declared.place.Place.TheVariants.{FreeBits, RunCount}
 use Rattle.hop_words.specs.Sights.{IsLook, look}
 use Rattle.hop_words.specs.Ghost.{shape_at, limbo_at, Each}
-use Rattle.hop_words.specs.Rule.{done_in}
+use Rattle.hop_words.specs.Shortage.{done_in}
 use Rattle.hop_words.specs.Kinds.{Saw}
 use Rattle.hop_arena.specs.declared.arena.Arena.{Arena}
 use Rattle.hop_arena.specs.Claiming.{IsArena, IsSeenTaken}

@@ -127,7 +127,7 @@ module _ (a : About) (l : Known) (k : Lock) (key : List ℕ) (e : ℕ) (i : Remo
   down_rule : Rule a (put_at w (KeyCount m) (w (KeyCount m) - 1)) g'
   down_rule = record {
     shaped = r.shaped;
-    logged = logged_event a g.lanes.seen g.log g.last last' l.cpu event r.logged inside may;
+    logged = logged_event a g.lanes.seen g.log g.last last' l.cpu event r.logged inside tt may;
     keyed = keyed_goes a l.cpu m e s key g.holder was g.linked (λ j. w (KeyCount j)) g.last.maps g.number r.keyed there;
     worn = effect_worn a l k i.lock w g r is i.nothing (Drops key) linked' holder' effect event (eq-eqb m m refl);
     runs = runs_quiet a w g r l is inside (λ d. w (RunCount d)) event r.runs refl;

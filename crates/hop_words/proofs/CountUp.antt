@@ -234,7 +234,7 @@ module _ (a : About) (l : Known) (k : Lock) (f : Fresh) (rest : List Fresh) (key
   rule' : w (KeyCount m) ≡ old → Rule a (put_at w (KeyCount m) (old + 1)) g'
   rule' found = record {
     shaped = r.shaped;
-    logged = logged_event a g.lanes.seen g.log g.last last' l.cpu event r.logged inside (may found);
+    logged = logged_event a g.lanes.seen g.log g.last last' l.cpu event r.logged inside tt (may found);
     keyed = subst (λ (n : ℕ). Keyed a (put (λ j. w (KeyCount j)) m (n + 1)) g'.last.maps g'.linked g'.number) found
         (keyed_comes a l.cpu m e s key g.holder was g.linked r.linked (λ j. w (KeyCount j)) g.last.maps g.number g.last.made r.keyed none);
     worn = worn;

@@ -22,6 +22,7 @@ use Rattle.hop_words.specs.Content.{place_words, IsShare}
 use Rattle.hop_words.specs.Ghost.{segment_in, lane, Ghost, shape_at}
 use Rattle.hop_words.specs.Rule.{Rule, Holds, changed, numbered, image, Minded}
 use Rattle.bpf_shared.specs.Own.{turns_of}
+use Rattle.hop_words.specs.Shortage.{HasCause}
 use Rattle.hop_words.specs.Step.{Next, Steps}
 use Rattle.hop_words.specs.Kinds.{Told, Counts, Misflagged}
 use Rattle.hop_words.proofs.CountUp.{four, and_false}
@@ -30,10 +31,10 @@ use Rattle.hop_words.proofs.Unlocks.{noted_event, event_rule}
 use Rattle.hop_words.proofs.Stays.{put_again, stay, next_as, saw, running_is, map_there}
 
 -- a load at which an event takes effect that leaves the store as it is
-pub event_next : (a : About) (w : Place → ℕ) (g : Ghost) (r : Rule a w g) (l : Known) (is : lane g.lanes l.cpu ≡ l) (inside : l.cpu < a.shape.cpus) (p : Place) (ev : Event) → turns_of (ev ∷ []) ≡ 0 → Allowed g.last l.cpu ev g.last
+pub event_next : (a : About) (w : Place → ℕ) (g : Ghost) (r : Rule a w g) (l : Known) (is : lane g.lanes l.cpu ≡ l) (inside : l.cpu < a.shape.cpus) (p : Place) (ev : Event) → turns_of (ev ∷ []) ≡ 0 → HasCause a.version g.log ev → Allowed g.last l.cpu ev g.last
     → Next a (put_at w p (w p)) g l.cpu (Told a l ev)
-event_next a w g r l is inside p ev quiet may =
-    let rule = event_rule a w g r l inside ev quiet may in
+event_next a w g r l is inside p ev quiet cause may =
+    let rule = event_rule a w g r l inside ev quiet cause may in
     record {
       ghost = noted_event g l.cpu ev;
       rule = subst (λ (z : Place → ℕ). Rule a z (noted_event g l.cpu ev)) (sym (put_again w p)) rule;
@@ -104,7 +105,7 @@ pub see_count : (a : About) (l : Known) (k : Lock) (key bytes : List ℕ) (flags
 see_count a l k key bytes flags i ws g sized r is inside fits =
     let w = mem a.shape ws in
     dite (ℕ_discrete (w (KeyCount k.map)) (shape_at a k.map).max)
-    (λ full. next_as _ _ _ _ _ _ (λ q t. ((λ _. t), (λ ne. absurd (ne full)))) (event_next a w g r l is inside (KeyCount k.map) (Update k.map key bytes flags Full) refl (may_full a l k key bytes flags i w g r is inside full)))
+    (λ full. next_as _ _ _ _ _ _ (λ q t. ((λ _. t), (λ ne. absurd (ne full)))) (event_next a w g r l is inside (KeyCount k.map) (Update k.map key bytes flags Full) refl tt (may_full a l k key bytes flags i w g r is inside full)))
     (λ less. stay a w g l.cpu (KeyCount k.map) _ r ((λ full. absurd (less full)), (λ _. (is, (let z = most a l k key bytes flags i w g r is inside in grind arith)))))
 
 -- without one: full, or no memory
@@ -113,13 +114,13 @@ pub see_count_lacking : (a : About) (l : Known) (k : Lock) (key bytes : List ℕ
 see_count_lacking a l k key bytes flags i ws g sized r is inside fits =
     let w = mem a.shape ws in
     dite (ℕ_discrete (w (KeyCount k.map)) (shape_at a k.map).max)
-    (λ full. next_as _ _ _ _ _ _ (λ q t. ((λ _. t), (λ ne. absurd (ne full)))) (event_next a w g r l is inside (KeyCount k.map) (Update k.map key bytes flags Full) refl (may_full a l k key bytes flags i w g r is inside full)))
-    (λ less. next_as _ _ _ _ _ _ (λ q t. ((λ full. absurd (less full)), (λ _. t))) (event_next a w g r l is inside (KeyCount k.map) (Update k.map key bytes flags NoMemory) refl (may_lack a l k key bytes flags i w g r is inside less)))
+    (λ full. next_as _ _ _ _ _ _ (λ q t. ((λ _. t), (λ ne. absurd (ne full)))) (event_next a w g r l is inside (KeyCount k.map) (Update k.map key bytes flags Full) refl tt (may_full a l k key bytes flags i w g r is inside full)))
+    (λ less. next_as _ _ _ _ _ _ (λ q t. ((λ full. absurd (less full)), (λ _. t))) (event_next a w g r l is inside (KeyCount k.map) (Update k.map key bytes flags NoMemory) refl tt (may_lack a l k key bytes flags i w g r is inside less)))
 
 pub see_count_misflagged : (a : About) (l : Known) (m : ℕ) (key bytes : List ℕ) (flags : ℕ) → Misflagged a l m key bytes flags → Steps a l (KeyCount m) (λ n. n) (λ ws n l'. Told a l (Update m key bytes flags Invalid) l')
 see_count_misflagged a l m key bytes flags i ws g sized r is inside fits =
     let w = mem a.shape ws in
-    event_next a w g r l is inside (KeyCount m) (Update m key bytes flags Invalid) refl
+    event_next a w g r l is inside (KeyCount m) (Update m key bytes flags Invalid) refl tt
     (running_is a w g r l is inside i.runs, (shape_at a m, map_there a w g r l is inside m i.map, i.key_size, i.size, (first_true _ _ _ _ (let t = i.unknown in grind (arith, nat_tests)), refl)))
 
 -- ---- read under lock: the words are those of the copy

@@ -12,7 +12,8 @@ use Rattle.hop_words.specs.declared.known.Change.{Change}
 use Rattle.hop_words.specs.declared.known.Change.TheVariants.{Nothing}
 use Rattle.hop_words.specs.Content.{place_words, one_if}
 use Rattle.hop_words.specs.Ghost.{segment_in, Holder, lane, Era, Ghost}
-use Rattle.hop_words.specs.Rule.{Rule, Segment, Segments, Locking, Readings, Minded, Holds, changed, owed, Worn, is_done, Held, times_lock}
+use Rattle.hop_words.specs.Shortage.{is_done}
+use Rattle.hop_words.specs.Rule.{Rule, Segment, Segments, Locking, Readings, Minded, Holds, changed, owed, Worn, Held, times_lock}
 use Rattle.hop_words.proofs.Small.{here_or, put2-same, put2-other}
 use Rattle.hop_words.proofs.Histories.{done_in-append}
 use Rattle.hop_words.proofs.Segs.{Elsewhere, segments_step, locking_step, readings_step, held_step, lock_once}

@@ -14,7 +14,8 @@ use Rattle.hop_words.specs.declared.known.Change.TheVariants.{Nothing}
 use Rattle.hop_words.specs.Layout.{mem, same_place, put_at, size}
 use Rattle.hop_words.specs.Content.{place_words, Reached, IsShare}
 use Rattle.hop_words.specs.Ghost.{segment_in, Holder, Free, Filling, Leaving, Within, lane, Era, Ghost, shape_at, HasElement, IsSegment, Each}
-use Rattle.hop_words.specs.Rule.{Rule, Segment, Minded, Holds, image, changed, owed, StartsWith, done_in, times_lock}
+use Rattle.hop_words.specs.Shortage.{done_in}
+use Rattle.hop_words.specs.Rule.{Rule, Segment, Minded, Holds, image, changed, owed, StartsWith, times_lock}
 use Rattle.hop_words.specs.Sights.{sighted, lock_taken}
 use Rattle.hop_words.specs.Step.{Next, Steps}
 use Rattle.hop_words.specs.Kinds.{has, LocksSegment, IsWritten}

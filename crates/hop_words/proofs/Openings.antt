@@ -1,5 +1,5 @@
 -- The store as made keeps the rule.
-use Rattle.std.proofs.Common.{◌≡◌, ℕ, zero, suc, ◌+◌, ◌<◌, ◌≤◌, false, true≢false, List, [], ◌∷◌, Some, None, length, refl, ap, sym, subst, ◌∙◌, arith, inl, inr}
+use Rattle.std.proofs.Common.{◌≡◌, ℕ, zero, suc, ◌+◌, ◌<◌, ◌≤◌, false, true≢false, List, [], ◌∷◌, ◌++◌, Some, None, length, refl, ap, sym, subst, ◌∙◌, arith, inl, inr}
 use mathlib.Core.Option.{some, some-injective, some-ne-none}
 use lib.ListN.{get_elem?}
 use mathlib.Core.List.{IsPrefix}
@@ -9,6 +9,7 @@ use Rattle.std.specs.Ordering.{nat_cmp}
 use Rattle.std.specs.Cmp.Lexicographic.{slice_cmp}
 use Rattle.std.specs.FinMap.{len-empty}
 use Rattle.atomic_table.specs.Table.{opening}
+use Rattle.bpf_shared.specs.declared.events.Entry.{Entry}
 use Rattle.bpf_shared.specs.Store.{as_made}
 use Rattle.hop_words.specs.declared.place.Place.{Place}
 use Rattle.hop_words.specs.declared.place.Place.TheVariants.{Stamp, Head, Hop, Link}
@@ -18,6 +19,7 @@ use Rattle.hop_words.specs.declared.known.View.{View}
 use Rattle.hop_words.specs.Layout.{mem, size}
 use Rattle.hop_words.specs.Content.{item, place_words, times, Reached, LinksThrough, IsShare}
 use Rattle.hop_words.specs.Ghost.{segment_in, Free, Lanes, lane, Era, Ghost, shape_at, IsSegment, limbo_at, no_limbo}
+use Rattle.hop_words.specs.Shortage.{HasCause}
 use Rattle.hop_words.specs.Rule.{Rule, Kept, times_limbo, Chained}
 use Rattle.hop_words.specs.Opens.{AreNewWords, no_limbos, new_lane, lanes_from, opens}
 use Rattle.hop_words.proofs.CountDown.{nothing_in}
@@ -72,10 +74,14 @@ module _ (a : About) (w : Place → ℕ) (i : AreNewWords a w) where
     all = λ key e is home. cc;
   }
 
+  none_before : (before after : List Entry) (x : Entry) → [] ≡ before ++ (x ∷ after) → HasCause a.version before x.event
+  none_before [] after x e = cc
+  none_before (y ∷ ys) after x e = cc
+
   new_rule : Rule a w new_ghost
   new_rule = record {
     shaped = i.shaped;
-    logged = record { legal = refl; begins = λ c l. ([], refl); own = λ c l. refl; others = λ c l. refl };
+    logged = record { legal = refl; begins = λ c l. ([], refl); own = λ c l. refl; others = λ c l. refl; causes = λ before after x e. none_before before after x e };
     keyed = record { counted = λ m l. i.keys m l ∙ sym (len-empty (slice_cmp nat_cmp) ℕ); leads = λ m key. nothing_in key };
     worn = λ m s at_s. (let z = (i.stamps m s at_s).1 in omega arith);
     runs = λ c l. i.counts c l ∙ omega arith;

@@ -168,7 +168,7 @@ module _ (a : About) (w : Place → ℕ) (g : Ghost) (r : Rule a w g) (c m : ℕ
   pub looked_rule : (o : Option ℕ) (key : List ℕ) (inside : c < a.shape.cpus) → g.linked m key ≡ o → (sp : Option Span) → Allowed g.last c (Lookup m key sp) (looking o) → Rule a w (record g { log = g.log ++ entry c (Lookup m key sp) ∷ []; last = looking o; lanes = record g.lanes { seen = put g.lanes.seen c (g.log ++ entry c (Lookup m key sp) ∷ []) } })
   looked_rule o key inside is sp may = record {
     shaped = r.shaped;
-    logged = logged_event a g.lanes.seen g.log g.last (looking o) c (Lookup m key sp) r.logged inside may;
+    logged = logged_event a g.lanes.seen g.log g.last (looking o) c (Lookup m key sp) r.logged inside tt may;
     keyed = rw (maps_same o) r.keyed;
     worn = worn_more a _ g.eras g.log _ r.worn;
     runs = quiet_runs;

@@ -18,6 +18,7 @@ use Rattle.hop_words.specs.Content.{one_if, times}
 use Rattle.hop_words.specs.Ghost.{is_leaving, lane, Ghost, HasElement, limbo_at}
 use Rattle.hop_words.specs.Rule.{Rule, Runs, Chained, times_limbo}
 use Rattle.bpf_shared.specs.Own.{turns_of, in_run}
+use Rattle.hop_words.specs.Shortage.{HasCause}
 use Rattle.hop_words.specs.Step.{Next, Steps}
 use Rattle.hop_words.specs.Kinds.{run_count, Told, noting_next, ageing, cleared, limbo_set}
 use Rattle.hop_words.proofs.Small.{equal}
@@ -37,7 +38,7 @@ module _ (a : About) (l : Known) (w : Place → ℕ) (g : Ghost) (r : Rule a w g
   pub runs_now : g.last.running l.cpu ≡ in_run (events_of l.cpu l.seen)
   runs_now = runs_as_known a l.cpu g.last g.log l.seen r.logged.legal own
 
-  module _ (e : Event) (once : turns_of (e ∷ []) ≡ 1) (t : Plain) (may : Allowed g.last l.cpu e t) (n : ℕ) (up : n ≡ w (RunCount l.cpu) + 1)
+  module _ (e : Event) (once : turns_of (e ∷ []) ≡ 1) (t : Plain) (may : Allowed g.last l.cpu e t) (cause : HasCause a.version g.log e) (n : ℕ) (up : n ≡ w (RunCount l.cpu) + 1)
       (maps : t.maps ≡ g.last.maps) (made : t.made ≡ g.last.made) (value : t.value ≡ g.last.value) (holds : t.held ≡ put g.last.held l.cpu never) where
     abbrev g2 : Ghost
     g2 = record g { log = g.log ++ entry l.cpu e ∷ []; last = t; lanes = record g.lanes { seen = put g.lanes.seen l.cpu (g.log ++ entry l.cpu e ∷ []) } }
@@ -68,7 +69,7 @@ module _ (a : About) (l : Known) (w : Place → ℕ) (g : Ghost) (r : Rule a w g
     turn_rule : Rule a (put_at w (RunCount l.cpu) n) g2
     turn_rule = record {
       shaped = r.shaped;
-      logged = logged_event a g.lanes.seen g.log g.last t l.cpu e r.logged inside may;
+      logged = logged_event a g.lanes.seen g.log g.last t l.cpu e r.logged inside cause may;
       keyed = rw maps r.keyed;
       worn = worn_more a (λ m s. w (Stamp m s)) g.eras g.log (entry l.cpu e) r.worn;
       runs = runs2;
@@ -105,14 +106,14 @@ pub count_begin : (a : About) (l : Known) → in_run (events_of l.cpu l.seen) �
 count_begin a l idle room ws g sized r is inside fits =
     let w = mem a.shape ws in
     let c = own_count a l w g r is inside in
-    turn_next a l w g r is inside Begin refl (after_begin g.last l.cpu) (subst (λ h. l.cpu < h.cpus) (sym (shape_is a w g r l is inside)) inside, runs_now a l w g r is inside ∙ idle, refl)
+    turn_next a l w g r is inside Begin refl (after_begin g.last l.cpu) (subst (λ h. l.cpu < h.cpus) (sym (shape_is a w g r l is inside)) inside, runs_now a l w g r is inside ∙ idle, refl) tt
     ((w (RunCount l.cpu) + 1) % 2 ^ 64) (omega arith) refl refl refl refl
 
 pub count_end : (a : About) (l : Known) → in_run (events_of l.cpu l.seen) ≡ true → run_count a l + 1 < 2 ^ 64 → Steps a l (RunCount l.cpu) (λ n. (n + 1) % 2 ^ 64) (λ ws n l'. Told a l End l')
 count_end a l running room ws g sized r is inside fits =
     let w = mem a.shape ws in
     let c = own_count a l w g r is inside in
-    turn_next a l w g r is inside End refl (after_end g.last l.cpu) (runs_now a l w g r is inside ∙ running, refl)
+    turn_next a l w g r is inside End refl (after_end g.last l.cpu) (runs_now a l w g r is inside ∙ running, refl) tt
     ((w (RunCount l.cpu) + 1) % 2 ^ 64) (omega arith) refl refl refl refl
 
 -- a load of the own counter

@@ -4,9 +4,9 @@ use Rattle.std.proofs.lemmas.Bool.Decides.{nat_tests}
 use Rattle.std.proofs.lemmas.Cmp.{nat_list_cmp_total}
 use Rattle.std.specs.FinMap.{get, insert, len, len-insert}
 use Rattle.bpf_shared.specs.declared.events.Event.{Event}
-use Rattle.bpf_shared.specs.declared.events.Event.TheVariants.{Update, Lookup}
+use Rattle.bpf_shared.specs.declared.events.Event.TheVariants.{Update, Lookup, Delete}
 use Rattle.bpf_shared.specs.declared.events.Entry.{Entry}
-use Rattle.bpf_shared.specs.declared.events.MapAnswer.TheVariants.{Done}
+use Rattle.bpf_shared.specs.declared.events.MapAnswer.TheVariants.{Done, Busy}
 use Rattle.bpf_shared.specs.Shape.{element_span}
 use Rattle.bpf_shared.specs.Store.{Plain, Keys, Value, put}
 use Rattle.bpf_shared.specs.Events.{Allowed, after_update}
@@ -24,10 +24,11 @@ use Rattle.hop_words.specs.Layout.{mem, put_at, words_for}
 use Rattle.hop_words.specs.Homes.{segment_of, bytes_of_words}
 use Rattle.hop_words.specs.Content.{place_words}
 use Rattle.hop_words.specs.Ghost.{segment_in, Holder, Filling, Leaving, Within, lane, Era, Ghost, shape_at, HasElement, limbo_at}
-use Rattle.hop_words.specs.Rule.{Rule, Minded, put_key, changed, owed, Holds, numbered, Keyed, Owned, Linked, done_in}
+use Rattle.hop_words.specs.Shortage.{done_in, HasCause}
+use Rattle.hop_words.specs.Rule.{Rule, Minded, put_key, changed, owed, Holds, numbered, Keyed, Owned, Linked}
 use Rattle.bpf_shared.specs.Own.{turns_of}
 use Rattle.hop_words.specs.Step.{Next, Steps}
-use Rattle.hop_words.specs.Kinds.{Replaces, Replaced, Answers, Answered, IsWritten, unlocking, with_gone, LooksUpLocked, LookedUp, found_span}
+use Rattle.hop_words.specs.Kinds.{Replaces, Replaced, Answers, Answered, ShowsWorn, IsWritten, unlocking, with_gone, LooksUpLocked, LookedUp, found_span}
 use Rattle.hop_words.proofs.Small.{equal_keys, equal, here_or, put2-same, put2-other, put_key-same, put_key-other}
 use Rattle.hop_words.proofs.Spelling.{value_spelled}
 use Rattle.hop_words.proofs.Histories.{logged_event, prefix_refl, done_in-append}
@@ -71,10 +72,10 @@ unlock_silent a l k held clean ws g sized r is inside fits =
 abbrev pub noted_event : Ghost → ℕ → Event → Ghost
 noted_event g c e = record g { log = g.log ++ entry c e ∷ []; lanes = record g.lanes { seen = put g.lanes.seen c (g.log ++ entry c e ∷ []) } }
 
-pub event_rule : (a : About) (w : Place → ℕ) (g : Ghost) (r : Rule a w g) (l : Known) (inside : l.cpu < a.shape.cpus) (e : Event) → turns_of (e ∷ []) ≡ 0 → Allowed g.last l.cpu e g.last → Rule a w (noted_event g l.cpu e)
-event_rule a w g r l inside e quiet may = record {
+pub event_rule : (a : About) (w : Place → ℕ) (g : Ghost) (r : Rule a w g) (l : Known) (inside : l.cpu < a.shape.cpus) (e : Event) → turns_of (e ∷ []) ≡ 0 → HasCause a.version g.log e → Allowed g.last l.cpu e g.last → Rule a w (noted_event g l.cpu e)
+event_rule a w g r l inside e quiet cause may = record {
   shaped = r.shaped;
-  logged = logged_event a g.lanes.seen g.log g.last g.last l.cpu e r.logged inside may;
+  logged = logged_event a g.lanes.seen g.log g.last g.last l.cpu e r.logged inside cause may;
   keyed = r.keyed;
   worn = worn_more a _ g.eras g.log (entry l.cpu e) r.worn;
   runs = quiet_after a (λ c. w (RunCount c)) g.log l.cpu e r.runs quiet;
@@ -88,6 +89,12 @@ event_rule a w g r l inside e quiet may = record {
   held = r.held;
   valued = r.valued;
 }
+
+-- a version that is used up at the lock has been paid for
+worn_cause : (a : About) (k : Lock) (log : List Entry) (e : Event) → ShowsWorn k e → k.stamp / 256 ≤ a.version + done_in k.map log → HasCause a.version log e
+worn_cause a k log (Update m key bytes flags Busy) s paid = let d : done_in m log ≡ done_in k.map log = ap (λ (j : ℕ). done_in j log) s.0 in let t = s.1 in omega arith
+worn_cause a k log (Delete m key Busy) s paid = let d : done_in m log ≡ done_in k.map log = ap (λ (j : ℕ). done_in j log) s.0 in let t = s.1 in omega arith
+worn_cause a k log e s paid = tt
 
 pub unlock_answer : (a : About) (l : Known) (k : Lock) (e : Event) → Answers a l k e → Steps a l (Stamp k.map k.segment) (λ _. k.stamp) (λ ws n l'. Answered a l k e l')
 unlock_answer a l k e i ws g sized r is inside fits = record {
@@ -112,13 +119,21 @@ unlock_answer a l k e i ws g sized r is inside fits = record {
     log' : List Entry
     log' = g.log ++ entry l.cpu e ∷ []
 
-    worn_told : k.stamp / 256 ≤ a.version + done_in k.map log'
-    worn_told =
+    paid : k.stamp / 256 ≤ a.version + done_in k.map g.log
+    paid =
         let b = r.worn k.map k.segment h.inside in
         let o = h.locked in
         let z = h.even in
         let q : (k.stamp + 1) / 256 ≡ k.stamp / 256 = omega arith in
         let y : w (Stamp k.map k.segment) / 256 ≡ (k.stamp + 1) / 256 = ap (λ (j : ℕ). j / 256) o in
+        omega arith
+
+    cause : HasCause a.version g.log e
+    cause = worn_cause a k g.log e i.worn paid
+
+    worn_told : k.stamp / 256 ≤ a.version + done_in k.map log'
+    worn_told =
+        let p = paid in
         let d = done_in-append k.map g.log (entry l.cpu e ∷ []) in
         omega arith
 
@@ -129,7 +144,7 @@ unlock_answer a l k e i ws g sized r is inside fits = record {
     g1 = noted_event g l.cpu e
 
     r1 : Rule a w g1
-    r1 = event_rule a w g r l inside e i.quiet may
+    r1 = event_rule a w g r l inside e i.quiet cause may
 
     is1 : lane g1.lanes l.cpu ≡ l2
     is1 = rw (eq-eqb l.cpu l.cpu refl) (ap (λ (x : Known). record x { seen = log' }) is)
@@ -377,7 +392,7 @@ module _ (a : About) (l : Known) (k : Lock) (f : Fresh) (rest : List Fresh) (key
   swap_rule : Rule a w g'
   swap_rule = record {
     shaped = r.shaped;
-    logged = logged_event a g.lanes.seen g.log g.last last' l.cpu event r.logged inside may;
+    logged = logged_event a g.lanes.seen g.log g.last last' l.cpu event r.logged inside tt may;
     keyed = keyed2;
     worn = effect_worn a l k i.filled.lock w g r is i.filled.nothing (Puts key e) linked2 holder2 effect event (eq-eqb m m refl);
     runs = runs_quiet a w g r l is inside (λ d. w (RunCount d)) event r.runs refl;

@@ -25,6 +25,7 @@ use Rattle.hop_words.specs.Content.{one_if}
 use Rattle.hop_words.specs.Ghost.{Carries, lane, Ghost, shape_at, HasElement, Each}
 use Rattle.hop_words.specs.Rule.{Rule, StartsWith, Filled, times_fresh, Valued}
 use Rattle.bpf_shared.specs.Own.{turns_of}
+use Rattle.hop_words.specs.Shortage.{HasCause}
 use Rattle.hop_words.specs.Step.{Next, Steps}
 use Rattle.hop_words.specs.Kinds.{Touches, value_at, found_in, Told}
 use Rattle.hop_words.proofs.Small.{here_or}
@@ -152,10 +153,10 @@ module _ (a : About) (l : Known) (m e k o b : ℕ) (i : Touches a l m e k o b) (
     abbrev g2 : Event → Ghost
     g2 ev = record g { log = g.log ++ entry l.cpu ev ∷ []; last = last2; lanes = record g.lanes { seen = put g.lanes.seen l.cpu (g.log ++ entry l.cpu ev ∷ []) } }
 
-    write_rule : (ev : Event) → turns_of (ev ∷ []) ≡ 0 → Allowed g.last l.cpu ev last2 → Rule a w2 (g2 ev)
-    write_rule ev quiet may = record {
+    write_rule : (ev : Event) → turns_of (ev ∷ []) ≡ 0 → HasCause a.version g.log ev → Allowed g.last l.cpu ev last2 → Rule a w2 (g2 ev)
+    write_rule ev quiet cause may = record {
       shaped = r.shaped;
-      logged = logged_event a g.lanes.seen g.log g.last last2 l.cpu ev r.logged inside may;
+      logged = logged_event a g.lanes.seen g.log g.last last2 l.cpu ev r.logged inside cause may;
       keyed = r.keyed;
       worn = worn_more a (λ n t. w (Stamp n t)) g.eras g.log (entry l.cpu ev) r.worn;
       runs = quiet_after a (λ c. w (RunCount c)) g.log l.cpu ev r.runs quiet;
@@ -170,14 +171,14 @@ module _ (a : About) (l : Known) (m e k o b : ℕ) (i : Touches a l m e k o b) (
       valued = valued2;
     }
 
-    pub write_next : (ev : Event) → turns_of (ev ∷ []) ≡ 0 → Allowed g.last l.cpu ev last2 → Next a w2 g l.cpu (Told a l ev)
-    write_next ev quiet may = record {
+    pub write_next : (ev : Event) → turns_of (ev ∷ []) ≡ 0 → HasCause a.version g.log ev → Allowed g.last l.cpu ev last2 → Next a w2 g l.cpu (Told a l ev)
+    write_next ev quiet cause may = record {
       ghost = g2 ev;
-      rule = write_rule ev quiet may;
+      rule = write_rule ev quiet cause may;
       others = λ d ne. rw (ne_eqb d l.cpu ne) refl;
       longer = (entry l.cpu ev ∷ [], refl);
       tally = refl;
-      says = subst (Told a l ev) (sym after) (record { seen = saw a w g r l is inside ev last2 may (write_rule ev quiet may).logged; after = refl });
+      says = subst (Told a l ev) (sym after) (record { seen = saw a w g r l is inside ev last2 may (write_rule ev quiet cause may).logged; after = refl });
     }
       where
         after : lane (g2 ev).lanes l.cpu ≡ record l { seen = g.log ++ entry l.cpu ev ∷ [] }
@@ -207,7 +208,7 @@ value_load a l m e k o sz i ws g sized r is inside fits =
     let w = mem a.shape ws in
     let ev = Load (value_at a m e k o) sz (found_in (w (ValueWord m e k)) o (bytes_in sz)) in
     let may = may_load a l m e k o (bytes_in sz) i w g r is inside sz refl in
-    let rule = event_rule a w g r l inside ev refl may in
+    let rule = event_rule a w g r l inside ev refl tt may in
     record {
       ghost = noted_event g l.cpu ev;
       rule = subst (λ (z : Place → ℕ). Rule a z (noted_event g l.cpu ev)) (sym (put_again w (ValueWord m e k))) rule;
@@ -222,7 +223,7 @@ pub value_store : (a : About) (l : Known) (m e k o : ℕ) (sz : Size) (x y : ℕ
     → Steps a l (ValueWord m e k) (λ _. x) (λ ws n l'. Told a l (Store (value_at a m e k o) sz y) l')
 value_store a l m e k o sz x y i splices ws g sized r is inside fits =
     let w = mem a.shape ws in
-    write_next a l m e k o (bytes_in sz) i w g r is inside x y (splices (w (ValueWord m e k))) (Store (value_at a m e k o) sz y) refl (may_store a l m e k o (bytes_in sz) i w g r is inside sz y refl)
+    write_next a l m e k o (bytes_in sz) i w g r is inside x y (splices (w (ValueWord m e k))) (Store (value_at a m e k o) sz y) refl tt (may_store a l m e k o (bytes_in sz) i w g r is inside sz y refl)
 
 -- a compare-exchange of the whole word, by which some of its bytes are stored
 pub value_store_part : (a : About) (l : Known) (m e k o : ℕ) (sz : Size) (old x y : ℕ) → Touches a l m e k o (bytes_in sz) → low_bytes 8 x ≡ with_part (low_bytes 8 old) o (low_bytes (bytes_in sz) y)
@@ -230,7 +231,7 @@ pub value_store_part : (a : About) (l : Known) (m e k o : ℕ) (sz : Size) (old 
 value_store_part a l m e k o sz old x y i splices ws g sized r is inside fits =
     let w = mem a.shape ws in
     exchanged (w (ValueWord m e k)) old x (λ n. Next a (put_at w (ValueWord m e k) n) g l.cpu (λ l'. (w (ValueWord m e k) ≡ old → Told a l (Store (value_at a m e k o) sz y) l') × (w (ValueWord m e k) ≢ old → l' ≡ l)))
-    (λ found. next_as _ _ _ _ _ _ (λ q t. ((λ _. t), (λ ne. absurd (ne found)))) (write_next a l m e k o (bytes_in sz) i w g r is inside x y (splices ∙ ap (λ (z : ℕ). with_part (low_bytes 8 z) o (low_bytes (bytes_in sz) y)) (sym found)) (Store (value_at a m e k o) sz y) refl (may_store a l m e k o (bytes_in sz) i w g r is inside sz y refl)))
+    (λ found. next_as _ _ _ _ _ _ (λ q t. ((λ _. t), (λ ne. absurd (ne found)))) (write_next a l m e k o (bytes_in sz) i w g r is inside x y (splices ∙ ap (λ (z : ℕ). with_part (low_bytes 8 z) o (low_bytes (bytes_in sz) y)) (sym found)) (Store (value_at a m e k o) sz y) refl tt (may_store a l m e k o (bytes_in sz) i w g r is inside sz y refl)))
     (λ ne. stay a w g l.cpu (ValueWord m e k) _ r ((λ found. absurd (ne found)), (λ _. is)))
 
 -- the same for an atomic operation
@@ -243,7 +244,7 @@ value_atomic_part a l m e k o sz op operand expected old x i splices ws g sized 
     let ev = Atomic (value_at a m e k o) sz op operand expected in
     exchanged (w (ValueWord m e k)) old x (λ n. Next a (put_at w (ValueWord m e k) n) g l.cpu (λ l'. (w (ValueWord m e k) ≡ old → Told a l (ev (found_in old o b)) l') × (w (ValueWord m e k) ≢ old → l' ≡ l)))
     (λ found. next_as _ _ _ _ _ _ (λ q t. ((λ _. subst (λ (z : ℕ). Told a l (ev (found_in z o b)) q) found t), (λ ne. absurd (ne found)))) (write_next a l m e k o b i w g r is inside x (number_after op b (found_in (w (ValueWord m e k)) o b) operand expected)
-    (splices ∙ ap (λ (z : ℕ). with_part (low_bytes 8 z) o (low_bytes b (number_after op b (found_in z o b) operand expected))) (sym found)) (ev (found_in (w (ValueWord m e k)) o b)) refl (may_atomic a l m e k o b i w g r is inside sz op operand expected refl)))
+    (splices ∙ ap (λ (z : ℕ). with_part (low_bytes 8 z) o (low_bytes b (number_after op b (found_in z o b) operand expected))) (sym found)) (ev (found_in (w (ValueWord m e k)) o b)) refl tt (may_atomic a l m e k o b i w g r is inside sz op operand expected refl)))
     (λ ne. stay a w g l.cpu (ValueWord m e k) _ r ((λ found. absurd (ne found)), (λ _. is)))
 
 -- a fetch operation or a swap on a whole word
@@ -254,4 +255,4 @@ value_fetch a l m e k o sz op operand expected f i splices ws g sized r is insid
     let w = mem a.shape ws in
     let n = w (ValueWord m e k) in
     write_next a l m e k o (bytes_in sz) i w g r is inside (f n) (number_after op (bytes_in sz) (found_in n o (bytes_in sz)) operand expected) (splices n fits)
-    (Atomic (value_at a m e k o) sz op operand expected (found_in n o (bytes_in sz))) refl (may_atomic a l m e k o (bytes_in sz) i w g r is inside sz op operand expected refl)
+    (Atomic (value_at a m e k o) sz op operand expected (found_in n o (bytes_in sz))) refl tt (may_atomic a l m e k o (bytes_in sz) i w g r is inside sz op operand expected refl)

@@ -1,9 +1,9 @@
 -- The kinds of step: what each asks of the lane that makes it, and what it tells.
-use Rattle.std.specs.Prelude.{◌⊎◌, ◌≡◌, ◌≢◌, ℕ, ◌+◌, ◌*◌, ◌/◌, ◌%◌, ◌<◌, ◌≤◌, Bool, true, false, ◌||◌, List, [], ◌∷◌, ◌++◌, Option, Some, None, length, slice_index, slice_set, ◌==◌}
+use Rattle.std.specs.Prelude.{◌⊎◌, ◌≡◌, ◌≢◌, ℕ, ◌+◌, ◌-◌, ◌*◌, ◌/◌, ◌%◌, ◌^◌, ◌<◌, ◌≤◌, Bool, true, false, ◌||◌, List, [], ◌∷◌, ◌++◌, Option, Some, None, length, slice_index, slice_set, ◌==◌}
 use Rattle.bpf_shared.specs.declared.events.Entry.{Entry}
 use Rattle.bpf_shared.specs.declared.events.Event.{Event}
 use Rattle.bpf_shared.specs.declared.events.Event.TheVariants.{Begin, End, Lookup, Update, Delete}
-use Rattle.bpf_shared.specs.declared.events.MapAnswer.TheVariants.{Done}
+use Rattle.bpf_shared.specs.declared.events.MapAnswer.TheVariants.{Done, Busy}
 use Rattle.bpf_shared.specs.declared.events.Span.{Span}
 use Rattle.bpf_shared.specs.Shape.{elements, element_span}
 use Rattle.std.specs.FinMap.{get}
@@ -26,7 +26,8 @@ use Rattle.hop_words.specs.Sights.{look, lock_taken, sighted}
 use Rattle.hop_words.specs.Homes.{word_of, AreBytes}
 use Rattle.hop_words.specs.Content.{MapWords, IsShare}
 use Rattle.hop_words.specs.Ghost.{segment_in, shape_at, HasElement, Each, limbo_at}
-use Rattle.hop_words.specs.Rule.{image, IsPeek, StartsWith, changed, numbered, done_in}
+use Rattle.hop_words.specs.Shortage.{done_in}
+use Rattle.hop_words.specs.Rule.{image, IsPeek, StartsWith, changed, numbered}
 use Rattle.bpf_shared.specs.Own.{turns_of, in_run}
 
 -- the event follows all that the lane had seen, and events of others
@@ -266,6 +267,12 @@ pub record Replaced (a : About) (l : Known) (k : Lock) (rest : List Fresh) (key 
     locks = [];
   }
 
+-- Busy only of the locked segment's map, and only where that has its last version
+abbrev pub ShowsWorn : Lock → Event → Type 0
+ShowsWorn k (Update m key bytes flags Busy) = (m ≡ k.map) × (2 ^ 56 - 1 ≤ k.stamp / 256)
+ShowsWorn k (Delete m key Busy) = (m ≡ k.map) × (2 ^ 56 - 1 ≤ k.stamp / 256)
+ShowsWorn k e = Unit {0}
+
 -- ---- unlock with the same version: an answer that changed nothing takes effect, whatever the
 -- store is that the lock's words can show
 pub record Answers (a : About) (l : Known) (k : Lock) (e : Event) : Type 0 where
@@ -273,6 +280,7 @@ pub record Answers (a : About) (l : Known) (k : Lock) (e : Event) : Type 0 where
   pub clean : k.dirty ≡ false
   pub quiet : turns_of (e ∷ []) ≡ 0
   pub runs : in_run (events_of l.cpu l.seen) ≡ true
+  pub worn : ShowsWorn k e
   pub allowed : (s : Plain) (before : List ℕ → Option ℕ) (number : ℕ → ℕ) → s.shape ≡ a.shape
       → s.running l.cpu ≡ true
       → IsShare a.seed (shape_at a k.map) (segment_in a k.map) (image a k.first) k.map k.segment

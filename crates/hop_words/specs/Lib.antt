@@ -4,6 +4,7 @@ pub mod Index
 pub mod Homes
 pub mod Content
 pub mod Ghost
+pub mod Shortage
 pub mod Rule
 pub mod Sights
 pub mod Step

@@ -1,5 +1,5 @@
 -- The store as made.
-use Rattle.std.specs.Prelude.{◌≡◌, ℕ, zero, suc, ◌+◌, ◌/◌, ◌%◌, ◌<◌, ◌≤◌, List, [], ◌∷◌, length}
+use Rattle.std.specs.Prelude.{◌≡◌, ℕ, zero, suc, ◌+◌, ◌/◌, ◌%◌, ◌<◌, List, [], ◌∷◌, length}
 use Rattle.std.specs.Int.{bit_at}
 use Rattle.bpf_shared.specs.Shape.{IsShape}
 use Rattle.hop_words.specs.declared.place.Place.{Place}
@@ -18,7 +18,7 @@ pub record AreNewWords (a : About) (w : Place → ℕ) : Type 0 where
   pub keys : (m : ℕ) → m < length a.shape.maps → w (KeyCount m) ≡ 0
   pub bits : (m e : ℕ) → HasElement a m e → bit_at (w (FreeBits m (e / 64))) (e % 64) ≡ 1
   pub stamps : (m s : ℕ) → IsSegment a m s → (w (Stamp m s) % 2 ≡ 0)
-      × (w (Stamp m s) / 256 ≤ a.version)
+      × (w (Stamp m s) / 256 ≡ a.version)
   pub heads : (m s : ℕ) → IsSegment a m s → w (Head m s) ≡ 0
   pub slots : (m s p : ℕ) → IsSegment a m s → p < 64 → w (Slot m s p) ≡ 0
   pub hops : (m s b : ℕ) → IsSegment a m s → b < 64 → w (Hop m s b) ≡ 0

@@ -8,9 +8,6 @@ use mathlib.Core.List.{IsPrefix}
 use lib.ListN.{get_elem?}
 use Rattle.atomic_table.specs.Table.{State}
 use Rattle.bpf_shared.specs.declared.events.Entry.{Entry}
-use Rattle.bpf_shared.specs.declared.events.Event.{Event}
-use Rattle.bpf_shared.specs.declared.events.Event.TheVariants.{Update, Delete}
-use Rattle.bpf_shared.specs.declared.events.MapAnswer.TheVariants.{Done}
 use Rattle.bpf_shared.specs.Shape.{element_span, IsShape}
 use Rattle.bpf_shared.specs.Store.{Keys, Value, Plain, as_made}
 use Rattle.bpf_shared.specs.History.{Legal, events_of}
@@ -30,27 +27,20 @@ use Rattle.hop_words.specs.declared.known.Change.TheVariants.{Nothing, Puts, Dro
 use Rattle.hop_words.specs.Layout.{size, mem, words_for}
 use Rattle.hop_words.specs.Homes.{bytes_of_words}
 use Rattle.hop_words.specs.Content.{one_if, MapWords, place_words, times, Reached, IsShare, Agrees}
+use Rattle.hop_words.specs.Shortage.{done_in, HaveCauses}
 use Rattle.hop_words.specs.Ghost.{Holder, Free, Filling, Leaving, Within, is_free, is_filling, is_leaving, Carries, lane, Era, Ghost, shape_at, segment_in, HasElement, IsSegment, limbo_at, Each}
 
 -- ======== history
 
-abbrev pub is_done : ℕ → Event → Bool
-is_done m (Update n key bytes flags Done) = n == m
-is_done m (Delete n key Done) = n == m
-is_done m e = false
-
--- how often a history changed a map
-abbrev pub done_in : ℕ → List Entry → ℕ
-done_in m [] = 0
-done_in m (x ∷ xs) = one_if (is_done m x.event) + done_in m xs
-
--- the one history is legal, and of it each CPU has seen a beginning with all its own events
+-- the one history is legal, its answers of a shortage have their causes, and of it each CPU has seen
+-- a beginning with all its own events
 pub record Logged (a : About) (seen : ℕ → List Entry) (log : List Entry) (last : Plain) : Type 0
   where
     pub legal : Legal (as_made a.shape) log last
     pub begins : (c : ℕ) → c < a.shape.cpus → IsPrefix (seen c) log
     pub own : (c : ℕ) → c < a.shape.cpus → events_of c (seen c) ≡ events_of c log
     pub others : (c : ℕ) → a.shape.cpus ≤ c → events_of c log ≡ []
+    pub causes : HaveCauses a.version log
 
 abbrev pub numbered : (ℕ → ℕ) → Option ℕ → Option ℕ
 numbered f None = None

@@ -6,7 +6,7 @@ use Rattle.hop_words.specs.declared.known.Known.{Known}
 use Rattle.hop_words.specs.Inside.{Standing}
 use Rattle.hop_map.specs.Port.{Port, known_of, standing_in, IsUnlocked}
 use Rattle.hop_map.proofs.Ports.{port_is}
-use Rattle.hop_map.proofs.Dealing.{map_snoc, legal_of, known_at, all_back}
+use Rattle.hop_map.proofs.Dealing.{map_snoc, legal_of, causes_of, known_at, all_back}
 use Rattle.hop_map.proofs.Dumps.{last_of}
 use Rattle.hop_map.proofs.closed.gather.Goals as goal
 
@@ -35,6 +35,9 @@ close-rest-requires-clause-all c =
 
 pub returns-clause-legal : goal.returns-clause-legal
 returns-clause-legal c = legal_of c.close-rest.result.about c.close-rest.result.history c.close-rest.result.words c.close-rest.ensures.whole
+
+pub returns-clause-causes : goal.returns-clause-causes
+returns-clause-causes c = causes_of c.close-rest.result.about c.close-rest.result.history c.close-rest.result.words c.close-rest.ensures.whole
 
 pub returns-clause-last : goal.returns-clause-last
 returns-clause-last c = last_of c.close-rest.result c.close-rest.ensures.whole

@@ -5,7 +5,7 @@ use Rattle.hop_words.specs.declared.known.Known.{Known}
 use Rattle.hop_words.specs.Ghost.{shape_at, limbo_at}
 use Rattle.hop_words.specs.Homes.{segment_of}
 use Rattle.hop_words.specs.Sights.{lock_taken, sighted}
-use Rattle.hop_words.specs.Rule.{done_in}
+use Rattle.hop_words.specs.Shortage.{done_in}
 use Rattle.hop_words.specs.Kinds.{retiring}
 use Rattle.hop_words.specs.Owning.{tail_of}
 use Rattle.hop_map.specs.declared.dropping.Deletion.{Deletion}

@@ -1,4 +1,4 @@
-use Rattle.std.proofs.Common.{ap, sym, subst}
+use Rattle.std.proofs.Common.{ap, sym, subst, arith}
 use Rattle.bpf_shared.specs.declared.events.Event.TheVariants.{Delete}
 use Rattle.bpf_shared.specs.declared.events.MapAnswer.TheVariants.{Absent}
 use Rattle.hop_words.specs.Kinds.{Answers}
@@ -25,4 +25,7 @@ drop_key-lane-requires-clause-there c =
     )
 
 pub unlock_delete-requires-clause-answers : goal.unlock_delete-requires-clause-answers
-unlock_delete-requires-clause-answers c = worn_answers c.args.words c.args.key.now c.requires.contents c.requires.names
+unlock_delete-requires-clause-answers c =
+    let last = c.if-stamp-ge-WORN.true in
+    let is = c.requires.stamp in
+    worn_answers c.args.words c.args.key.now c.requires.contents c.requires.names (omega arith)

@@ -1,6 +1,6 @@
 use Rattle.std.proofs.Common.{ap, sym, arith}
 use Rattle.hop_map.specs.Views.{seen_words}
-use Rattle.hop_map.proofs.Verdicts.{judge_sound, exists_answers, absent_answers}
+use Rattle.hop_map.proofs.Verdicts.{judge_sound, busy_answers, exists_answers, absent_answers}
 use Rattle.hop_map.proofs.judging.judge.Goals as goal
 
 pub returns-in-Some-clause-judges : goal.returns-in-Some-clause-judges
@@ -38,3 +38,9 @@ returns-in-None-2-clause-judges c =
     let less = c.if-stamp-ge-WORN.false in
     let is = c.requires.stamp in
     (omega arith, c.if-flags-eq2.false, gone)
+
+pub returns-then-stamp-ge-WORN-clause-judges : goal.returns-then-stamp-ge-WORN-clause-judges
+returns-then-stamp-ge-WORN-clause-judges c =
+    let last = c.if-stamp-ge-WORN.true in
+    let is = c.requires.stamp in
+    (λ z. cc, λ z. cc, omega arith, busy_answers c.args.words.now c.args.key.now c.args.value.now c.args.flags c.requires.contents c.requires.wants (omega arith))

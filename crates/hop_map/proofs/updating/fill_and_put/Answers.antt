@@ -7,7 +7,7 @@ use Rattle.hop_words.specs.declared.known.Fresh.{Fresh}
 use Rattle.hop_words.specs.declared.known.Sight.{Sight}
 use Rattle.hop_words.specs.Homes.{segment_of}
 use Rattle.hop_words.specs.Ghost.{shape_at, limbo_at}
-use Rattle.hop_words.specs.Rule.{done_in}
+use Rattle.hop_words.specs.Shortage.{done_in}
 use Rattle.hop_words.specs.Kinds.{retiring}
 use Rattle.hop_words.specs.Owning.{tail_of, IsInHand}
 use Rattle.hop_map.specs.declared.ending.Ending.{Ending}
