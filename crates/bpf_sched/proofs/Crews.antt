@@ -164,7 +164,7 @@ module _ (t : Shown) (jobs : List Job) (programs : List Loaded) (ports : List Po
           each = λ c inside. (c, get_or back c no_port, elem_at back c no_port (omega (arith, all_back)), cpu_at c inside);
         }
 
-        module _ (history : List Entry) (legal : IsLegal t.about.shape history) (causes : HaveCauses t.about.version history) (parts : All (IsPartOf history) back) (ends : List Outcome) (full : length ends ≡ length jobs)
+        module _ (history : List Entry) (legal : IsLegal t.about.shape history) (causes : HaveCauses t.about.shape t.about.version history) (parts : All (IsPartOf history) back) (ends : List Outcome) (full : length ends ≡ length jobs)
             (noted : (c : ℕ) (d : Worker) → c < length vs → ends_of c tasks ends ≡ map outcome_of (get_or vs c d).workload.jobs.items)
             (here : All (λ (job : Job). job.cpu < cpus) jobs) where
           own_at : (c : ℕ) (d : Worker) (inside : c < cpus) → events_of c history ≡ (did c d inside).events

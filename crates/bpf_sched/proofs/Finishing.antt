@@ -71,7 +71,7 @@ module _ (t : Shown) (jobs : List Job) (programs : List Loaded) (ports : List Po
       pub all_of : IsAllOf t back
       all_of = is_all t jobs programs ports are ws for_jobs good equipped same_size has_port has_jobs done as_many did back came
 
-      pub explained : (history : List Entry) → IsLegal t.about.shape history → HaveCauses t.about.version history → All (IsPartOf history) back → (ends told : List Outcome) → told ≡ ends → length ends ≡ length jobs
+      pub explained : (history : List Entry) → IsLegal t.about.shape history → HaveCauses t.about.shape t.about.version history → All (IsPartOf history) back → (ends told : List Outcome) → told ≡ ends → length ends ≡ length jobs
           → (seen : List Worker) → seen ≡ third → ((c : ℕ) (d : Worker) → c < length seen → ends_of c (map waiting jobs) ends ≡ map outcome_of (get_or seen c d).workload.jobs.items)
           → All (λ (job : Job). job.cpu < t.about.shape.cpus) jobs
           → IsExplained t.about.shape t.about.version t.about.count programs (map waiting jobs) told history

@@ -66,7 +66,7 @@ ExplainsJobs shapes count programs before _ _ events = ⊥
 pub record IsExplained (h : Shape) (version count : ℕ) (programs : List Loaded) (tasks : List Task)
     (ends : List Outcome) (history : List Entry) : Type 0 where
   pub legal : IsLegal h history
-  pub causes : HaveCauses version history
+  pub causes : HaveCauses h version history
   pub each_ended : length ends ≡ length tasks
   pub each_has_cpu : (task : Task) (j : ℕ) → slice_get tasks j ≡ Some task → task.cpu < h.cpus
   pub explained : (c : ℕ) → c < h.cpus → ExplainsJobs h.maps count programs [] (jobs_of c tasks)

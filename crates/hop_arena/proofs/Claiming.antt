@@ -1,16 +1,17 @@
 -- A pass over the free bits, a look at a time.
-use Rattle.std.proofs.Common.{◌≡◌, ◌≢◌, inl, inr, ⊎_elim, append_assoc, ℕ, ◌+◌, ◌*◌, ◌/◌, ◌%◌, ◌^◌, ◌<◌, ◌≤◌, min, List, [], ◌∷◌, ◌++◌, bit_and, ap, sym, subst, ◌∙◌, arith}
+use Rattle.std.proofs.Common.{◌≡◌, ◌≢◌, inl, inr, ⊎_elim, append_assoc, ℕ, ◌+◌, ◌*◌, ◌/◌, ◌%◌, ◌^◌, ◌<◌, ◌≤◌, true, min, List, [], ◌∷◌, ◌++◌, bit_and, ap, sym, subst, ◌∙◌, arith}
 use Rattle.std.specs.Int.{bit_at, trailing_zeros, w64}
 use Rattle.std.proofs.lemmas.Nat.Bits.{bit_at_and, bit_at-lt, bit_at-trailing_zeros}
+use Rattle.bpf_shared.specs.History.{events_of}
+use Rattle.bpf_shared.specs.Own.{in_run}
 use Rattle.hop_words.specs.declared.known.Known.{Known}
 use Rattle.hop_words.specs.declared.known.Sight.{Sight}
 use Rattle.hop_words.specs.declared.place.Place.TheVariants.{FreeBits}
-use Rattle.hop_words.specs.Sights.{IsLook, look, sighted}
-use Rattle.hop_words.specs.Ghost.{Each}
+use Rattle.hop_words.specs.Sights.{IsLook, ShowsTaken, look, sighted}
 use Rattle.hop_words.specs.Kinds.{holding}
 use Rattle.hop_words.proofs.Small.{equal}
 use Rattle.hop_words.proofs.Sighted.{each-append}
-use Rattle.hop_arena.specs.Claiming.{Sees, Looks, ShowsTaken, IsSeenTaken, AreSeenTaken}
+use Rattle.hop_arena.specs.Claiming.{Sees, Looks, IsSeenTaken, AreSeenTaken}
 
 -- the elements of the word whose bits aren't among these were seen not free
 abbrev pub Cleared : List Sight → ℕ → ℕ → ℕ → Type 0
@@ -81,3 +82,7 @@ words_on s more m count from w before now e few low high = ⊎_elim
 
 pub words_kept : (s more : List Sight) (m count from to : ℕ) → AreSeenTaken more m count from to → AreSeenTaken (s ++ more) m count from to
 words_kept s more m count from to before e few low high = taken_more s more m e (before e few low high)
+
+-- who looks is in a run as before
+pub looks_runs : (l x : Known) (more : List Sight) → Looks l more x → in_run (events_of l.cpu l.seen) ≡ true → in_run (events_of x.cpu x.seen) ≡ true
+looks_runs l x more is runs = ap (λ (y : Known). in_run (events_of y.cpu y.seen)) is.0 ∙ runs

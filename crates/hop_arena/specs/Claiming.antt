@@ -1,12 +1,10 @@
 -- What a pass over the free bits of a map saw, and what it took.
-use Rattle.std.specs.Prelude.{◌≡◌, ◌⊎◌, ℕ, ◌*◌, ◌/◌, ◌%◌, ◌<◌, ◌≤◌, List, [], ◌∷◌, ◌++◌}
-use Rattle.std.specs.Int.{bit_at}
+use Rattle.std.specs.Prelude.{◌≡◌, ◌⊎◌, ℕ, ◌*◌, ◌/◌, ◌<◌, ◌≤◌, List, [], ◌∷◌, ◌++◌}
 use Rattle.bpf_shared.specs.Shape.{elements}
 use Rattle.hop_words.specs.declared.known.About.{About}
 use Rattle.hop_words.specs.declared.known.Known.{Known}
 use Rattle.hop_words.specs.declared.known.Sight.{Sight}
-use Rattle.hop_words.specs.declared.place.Place.TheVariants.{FreeBits}
-use Rattle.hop_words.specs.Sights.{IsLook, LeavesLocks}
+use Rattle.hop_words.specs.Sights.{IsLook, LeavesLocks, ShowsTaken}
 use Rattle.hop_words.specs.Ghost.{shape_at, Each}
 use Rattle.hop_words.specs.Kinds.{holding}
 use Rattle.hop_arena.specs.declared.element.Element.{Element}
@@ -18,10 +16,6 @@ Sees l more l' = l' ≡ record l { tally = more ++ l.tally }
 -- and they are looks: no step among them took an element or gave one back
 abbrev pub Looks : Known → List Sight → Known → Type 0
 Looks l more l' = Sees l more l' × Each IsLook more
-
--- the sight shows that the element wasn't free at that moment
-abbrev pub ShowsTaken : Sight → ℕ → ℕ → Type 0
-ShowsTaken s m e = (s.place ≡ FreeBits m (e / 64)) × (bit_at s.found (e % 64) ≡ 0)
 
 abbrev pub IsSeenTaken : List Sight → ℕ → ℕ → Type 0
 IsSeenTaken [] m e = ⊥

@@ -1,9 +1,11 @@
 //! Claiming the free elements of a map.
-ghost use Rattle.std.specs.Prelude.{ℕ, ◌≡◌, ◌⊎◌, ◌+◌, ◌*◌, ◌/◌, ◌<◌, [], length, MatchOption, IsTrue, IsFalse};
+ghost use Rattle.std.specs.Prelude.{ℕ, ◌≡◌, ◌⊎◌, ◌+◌, ◌*◌, ◌/◌, ◌<◌, true, [], length, MatchOption, IsTrue, IsFalse};
 ghost use Rattle.std.specs.Int.{bit_at};
 ghost use Rattle.hop_words.specs.Ghost.{shape_at, HasElement};
 ghost use Rattle.hop_words.specs.Owning.{IsInHand, GivesFresh};
 ghost use Rattle.bpf_shared.specs.Shape.{elements};
+ghost use Rattle.bpf_shared.specs.History.{events_of};
+ghost use Rattle.bpf_shared.specs.Own.{in_run};
 ghost use Rattle.hop_arena.specs.Claiming.{Claims, Misses, TakesNothing, IsArena};
 
 use crate::element::Element;
@@ -78,13 +80,15 @@ impl Arena {
         self.start = number / 64;
     }
 
-    /// One pass over the free bits, with one fetch-and for each bit that was seen set: an element
-    /// of its own, or none where each element of the map was seen not free, at a moment of its own.
+    /// One pass over the free bits, in a run, with one fetch-and for each bit that was seen set: an
+    /// element of its own, or none where each element of the map was seen not free, at a moment of
+    /// its own.
     pub fn claim(&mut self, lane: &mut Lane, table: &HopTable) -> Option<Element>
         requires table { lane.old.table ≡ table.now.id }
         requires map { self.old.map < length table.now.about.shape.maps }
         requires arena { IsArena table.now.about self.old.map self.old.elements self.old.start }
         requires unlocked { lane.old.known.locks ≡ [] }
+        requires runs { in_run (events_of lane.old.known.cpu lane.old.known.seen) ≡ true }
         ensures table { lane.new.table ≡ lane.old.table }
         ensures claimed { MatchOption result (Misses table.now.about lane.old.known self.old.map
             lane.new.known) (λ e. Claims table.now.about lane.old.known self.old.map e
@@ -126,6 +130,7 @@ fn claim_in(lane: &mut Lane, table: &HopTable, map: u8, word: u32, count: u32) -
     requires count { count ≡ elements (shape_at table.now.about map) }
     requires inside { 64 * word < count }
     requires unlocked { lane.old.known.locks ≡ [] }
+    requires runs { in_run (events_of lane.old.known.cpu lane.old.known.seen) ≡ true }
     ensures table { lane.new.table ≡ lane.old.table }
     ensures claimed { MatchOption result
         (TakesNothing table.now.about lane.old.known map word (word + 1) lane.new.known)

@@ -113,8 +113,8 @@ map_snoc (q ∷ ps) p = ap (λ (ls : List Known). q.known ∷ ls) (map_snoc ps p
 pub legal_of : (a : About) (h : List Entry) (ws : List ℕ) → KeepsWholeHistory a (view [] h) ws → IsLegal a.shape h
 legal_of a h ws w = (w.ghost.last, subst (λ (log : List Entry). Legal (as_made a.shape) log w.ghost.last) (sym w.whole) w.rule.logged.legal)
 
-pub causes_of : (a : About) (h : List Entry) (ws : List ℕ) → KeepsWholeHistory a (view [] h) ws → HaveCauses a.version h
-causes_of a h ws w = subst (HaveCauses a.version) (sym w.whole) w.rule.logged.causes
+pub causes_of : (a : About) (h : List Entry) (ws : List ℕ) → KeepsWholeHistory a (view [] h) ws → HaveCauses a.shape a.version h
+causes_of a h ws w = subst (HaveCauses a.shape a.version) (sym w.whole) w.rule.logged.causes
 
 unlocked_at : (ls : List Known) (k : ℕ) (l : Known) → All IsUnlocked ls → get_elem? ls k ≡ some l → l.locks ≡ []
 unlocked_at [] k l all e = absurd (some-ne-none l (sym e))

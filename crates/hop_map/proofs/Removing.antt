@@ -54,7 +54,7 @@ module _ (x : Locked) (key : List ℕ) (c : LockShows x.about x.known x.map x.se
         clean = c.clean;
         quiet = refl;
         runs = b.runs;
-        worn = tt;
+        shortage = tt;
         allowed = λ s before number shape running share maps. (
           running,
           (
@@ -74,7 +74,7 @@ module _ (x : Locked) (key : List ℕ) (c : LockShows x.about x.known x.map x.se
     clean = c.clean;
     quiet = refl;
     runs = b.runs;
-    worn = (sym c.map, worn);
+    shortage = (sym c.map, worn);
     allowed = λ s before number shape running share maps. (
       running,
       ((shape_at x.about x.map, subst (λ (h : Shape). IsMap h.maps x.map (shape_at x.about x.map)) (sym shape) (map_is x.about.shape x.map r.inside.0), b.size), refl),

@@ -14,7 +14,7 @@ use Rattle.hop_words.specs.declared.known.Lock.{Lock}
 use Rattle.hop_words.specs.Content.{IsShare}
 use Rattle.hop_words.specs.Ghost.{segment_in, shape_at}
 use Rattle.hop_words.specs.Rule.{image, numbered}
-use Rattle.hop_words.specs.Kinds.{IsKeyAbsent, LeadsTo, Answers, ShowsWorn}
+use Rattle.hop_words.specs.Kinds.{IsKeyAbsent, LeadsTo, Answers, ShowsShortage, SawAllTaken}
 use Rattle.hop_words.specs.Locking.{lock_of}
 use Rattle.hop_words.proofs.Small.{map_is}
 use Rattle.hop_words.proofs.CountUp.{four, and_false}
@@ -65,18 +65,18 @@ module _ (x : Locked) (key bytes : List ℕ) (flags : ℕ) (c : LockShows x.abou
   judge_leads e h = leads_with x.about x.known x.map x.segment c more key w.home e h
 
   -- where it holds of each share that the words can show
-  answers : (r : MapAnswer) → r ≢ Done → ShowsWorn k (Update x.map key bytes flags r)
+  answers : (r : MapAnswer) → r ≢ Done → ShowsShortage x.about x.known k (Update x.map key bytes flags r)
       → ((s : Plain) (before : List ℕ → Option ℕ) → IsShare x.about.seed (shape_at x.about k.map) (segment_in x.about k.map) (image x.about k.first) k.map k.segment before
       → is_some (get (s.maps x.map) key) ≡ is_some (before key) → MayRefuse s x.map (shape_at x.about x.map) key flags r)
       → Ready x.about x.known x.map x.segment → Answers x.about x.known k (Update x.map key bytes flags r)
-  answers r undone worn may ready =
+  answers r undone short may ready =
       let w' : Wants x.about x.known k.map k.segment key bytes flags = subst (λ (t : ℕ). Wants x.about x.known k.map t key bytes flags) (sym c.segment) (subst (λ (n : ℕ). Wants x.about x.known n x.segment key bytes flags) (sym c.map) w) in
       record {
         lock = ready.held;
         clean = c.clean;
         quiet = refl;
         runs = w.runs;
-        worn = worn;
+        shortage = short;
         allowed = λ s before number shape running share maps. (
           running,
           (
@@ -105,8 +105,8 @@ module _ (x : Locked) (key bytes : List ℕ) (flags : ℕ) (c : LockShows x.abou
       let none : is_some (get (s.maps x.map) key) ≡ false = is ∙ ap is_some (judge_absent gone before share) in
       third_true _ _ _ _ known_flags ((λ j. (flags == 1) && none j) ∙ and_false (flags == 1)) (λ j. (eq-eqb flags 2 two j) && not (none j)))
 
-  pub lacking_answers : flags ≢ 1 → (e : ℕ) → HasPair (seen_words x) key e → Ready x.about x.known x.map x.segment → Answers x.about x.known k (Update x.map key bytes flags NoMemory)
-  lacking_answers other e h = answers NoMemory (λ z. cc) tt (λ s before share is.
+  pub lacking_answers : SawAllTaken x.about x.known x.map → flags ≢ 1 → (e : ℕ) → HasPair (seen_words x) key e → Ready x.about x.known x.map x.segment → Answers x.about x.known k (Update x.map key bytes flags NoMemory)
+  lacking_answers saw other e h = answers NoMemory (λ z. cc) (sym c.map, saw) (λ s before share is.
       let there : is_some (get (s.maps x.map) key) ≡ true = is ∙ ap is_some (judge_leads e h before share) in
       four _ _ _ _ known_flags (λ j. ne_eqb flags 1 other j && is_some (get (s.maps x.map) key))
       ((λ j. (flags == 2) && not (there j)) ∙ and_false (flags == 2)) (λ j. not (there j) && (len (s.maps x.map) == (shape_at x.about x.map).max)))

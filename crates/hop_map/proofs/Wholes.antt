@@ -14,20 +14,20 @@ use Rattle.hop_words.specs.declared.known.Fresh.{Fresh}
 use Rattle.hop_words.specs.declared.known.Limbo.{Limbo}
 use Rattle.hop_words.specs.declared.known.Sight.{Sight}
 use Rattle.hop_words.specs.declared.place.Place.TheVariants.{RunCount}
-use Rattle.hop_words.specs.Sights.{IsLook, LeavesLocks, look, lock_taken, sighted}
+use Rattle.hop_words.specs.Sights.{IsLook, LeavesLocks, LeavesElements, IsTakenSince, look, lock_taken, sighted}
 use Rattle.hop_words.specs.Ghost.{shape_at, limbo_at, no_limbo, Each}
 use Rattle.hop_words.specs.Shortage.{done_in}
-use Rattle.hop_words.specs.Kinds.{Saw, holding, retiring, with_gone}
+use Rattle.hop_words.specs.Kinds.{Saw, SawAllTaken, LocksSegment, holding, retiring, with_gone}
 use Rattle.bpf_shared.specs.Own.{in_run}
 use Rattle.hop_words.specs.Owning.{tail_of}
 use Rattle.hop_words.proofs.Small.{map_of}
 use Rattle.hop_words.proofs.Sighted.{looks_leave}
-use Rattle.hop_arena.specs.Claiming.{Sees, Misses, Claims}
+use Rattle.hop_arena.specs.Claiming.{Sees, IsSeenTaken, Misses, Claims}
 use Rattle.hop_arena.specs.declared.element.Element.{Element}
 use Rattle.hop_epoch.specs.Batch.{Keeps, SeesRunning}
 use Rattle.hop_epoch.proofs.Batching.{at_set, keeps_then}
 use Rattle.hop_map.specs.Removals.{Dropped, Kept}
-use Rattle.hop_map.specs.Whole.{Rests, Called, LeavesElements, SearchesInVain, Lacks}
+use Rattle.hop_map.specs.Whole.{Rests, Called, SearchesInVain, Lacks}
 
 -- ---- the event, seen from before
 pub saw_as : (a : About) (l l1 : Known) (ev : Event) (s : List Entry) → l1.cpu ≡ l.cpu → l1.seen ≡ l.seen → Saw a l1 ev s → Saw a l ev s
@@ -94,6 +94,21 @@ searched_on a l m l1 l2 k p leaves more same = record {
 
 pub lock_leaves : (m n s stamp : ℕ) → LeavesElements m (lock_taken n s stamp)
 lock_leaves m n s stamp i h = cc
+
+-- what was seen since the call's last step on an element of the map
+taken_since : (m e : ℕ) (later before : List Sight) → Each (LeavesElements m) later → IsSeenTaken later m e → IsTakenSince (later ++ before) m e
+taken_since m e [] before still seen = absurd seen
+taken_since m e (s ∷ ss) before still (inl here) = (still.0, inl here)
+taken_since m e (s ∷ ss) before still (inr later) = (still.0, inr (taken_since m e ss before still.1 later))
+
+pub saw_all : (a : About) (l : Known) (m : ℕ) (l1 : Known) → l1.fresh ≡ [] → SearchesInVain a l m l1 → SawAllTaken a l1 m
+saw_all a l m l1 empty p = record {
+  hand = empty;
+  taken = λ e few. subst (λ (z : List Sight). IsTakenSince z m e) (sym p.sights) (taken_since m e p.later (p.sooner ++ l.tally) p.still (p.taken e few));
+}
+
+pub saw_locked : (a : About) (l : Known) (m s n : ℕ) (l2 : Known) → LocksSegment a l m s n l2 → SawAllTaken a l m → SawAllTaken a l2 m
+saw_locked a l m s n l2 t p = subst (λ (q : Known). SawAllTaken a q m) (sym t.after) (record { hand = p.hand; taken = λ e few. (lock_leaves m m s n, inr (p.taken e few)) })
 
 pub found_after : (a : About) (m : ℕ) (l l1 l2 l3 : Known) → Misses a l m l1 → Keeps m l1 l2 → ((limbo_at l2.limbo m).old ≡ [] → (limbo_at l2.limbo m).young ≡ [])
     → ((limbo_at l2.limbo m).old ≡ []) ⊎ SeesRunning m l1 l2 → (o : Option Element) → MatchOption o (Misses a l2 m l3) (λ (x : Element). Claims a l2 m x l3)

@@ -7,8 +7,8 @@ use Rattle.bpf_shared.specs.Shape.{elements}
 use Rattle.hop_words.specs.declared.known.About.{About}
 use Rattle.hop_words.specs.declared.known.Known.{Known}
 use Rattle.hop_words.specs.declared.known.Sight.{Sight}
-use Rattle.hop_words.specs.declared.place.Place.TheVariants.{FreeBits, RunCount}
-use Rattle.hop_words.specs.Sights.{IsLook, look}
+use Rattle.hop_words.specs.declared.place.Place.TheVariants.{RunCount}
+use Rattle.hop_words.specs.Sights.{LeavesElements, look}
 use Rattle.hop_words.specs.Ghost.{shape_at, limbo_at, Each}
 use Rattle.hop_words.specs.Shortage.{done_in}
 use Rattle.hop_words.specs.Kinds.{Saw}
@@ -43,10 +43,6 @@ pub record Called (a : About) (l : Known) (m : ℕ) (event : Event) (l' : Known)
   pub readings : l'.readings ≡ l.readings
   pub size : length l'.limbo ≡ length l.limbo
   pub others : (n : ℕ) → n ≢ m → limbo_at l'.limbo n ≡ limbo_at l.limbo n
-
--- of the map's elements, the step took none and gave none back
-abbrev pub LeavesElements : ℕ → Sight → Type 0
-LeavesElements m s = (i : ℕ) → s.place ≡ FreeBits m i → IsLook s
 
 -- the call looked for a free element in vain. First its two batches of the map were empty, or a CPU
 -- was still in the run that was noted with the old one; after that each element of the map was seen

@@ -6,7 +6,7 @@ ghost use Rattle.hop_words.specs.Ghost.{shape_at};
 ghost use Rattle.bpf_shared.specs.declared.events.Event.TheVariants.{Delete, Update};
 ghost use Rattle.bpf_shared.specs.declared.events.MapAnswer.TheVariants.{Full, NoMemory};
 ghost use Rattle.hop_words.specs.Rule.{owed};
-ghost use Rattle.hop_words.specs.Kinds.{Inserted, IsKeyAbsent, IsWritten, unlocking, Replaces, Replaced, Removes, Answers, Answered, LooksUpLocked, LookedUp, Told};
+ghost use Rattle.hop_words.specs.Kinds.{Inserted, IsKeyAbsent, IsWritten, unlocking, Replaces, Replaced, Removes, Answers, Answered, LooksUpLocked, LookedUp, Told, SawAllTaken};
 ghost use Rattle.hop_words.specs.Locking.{lock_of, hand};
 ghost use Rattle.hop_words.specs.Guarded.{IsGuarded, MayWrite};
 ghost use Rattle.hop_map.specs.Views.{IsNoKey, written, knows, SpellsKey, Ready, Fits};
@@ -183,6 +183,7 @@ impl<'a> LockedWords<'a> {
             key.now value.now flags }
         requires absent { IsKeyAbsent self.old.about (lock_of self.old.known) key.now }
         requires new { flags ≢ 2 }
+        requires lacks { SawAllTaken self.old.about self.old.known self.old.map }
         ensures told { Told self.old.about self.old.known
             (Update self.old.map key.now value.now flags result) self.new.known }
         ensures answer { (result ≡ Full) ⊎ (result ≡ NoMemory) }

@@ -2,6 +2,7 @@
 ghost use Rattle.std.specs.Prelude.{◌≡◌, ◌≢◌, ◌<◌, ◌+◌, ◌^◌, ℕ};
 ghost use Rattle.hop_words.specs.Home.{home_of};
 ghost use Rattle.hop_words.specs.Ghost.{shape_at};
+ghost use Rattle.hop_words.specs.Kinds.{SawAllTaken};
 ghost use Rattle.hop_words.specs.Locking.{lock_of};
 ghost use Rattle.hop_seg.specs.Content.{HasPair, IsAbsent};
 ghost use Rattle.hop_map.specs.Views.{seen_words as seen};
@@ -129,6 +130,7 @@ pub(crate) fn refuse<'a>(
         key.now value.now flags }
     requires home { home ≡ home_of key.now words.about.seed (shape_at words.about words.map).mask }
     requires stamp { stamp ≡ (lock_of words.known).stamp }
+    requires lacks { SawAllTaken words.about words.known words.map }
     ensures table { result.0.table ≡ words.entry.table }
     ensures refused { Refusal words.entry.about words.entry.known words.entry.map
         key.now value.now flags result.1 result.0.known }

@@ -7,7 +7,7 @@ ghost use Rattle.bpf_shared.specs.declared.events.MapAnswer.TheVariants.{Busy, N
 ghost use Rattle.hop_words.specs.Shortage.{done_in};
 ghost use Rattle.hop_words.specs.Homes.{segment_of};
 ghost use Rattle.hop_words.specs.Ghost.{shape_at, limbo_at};
-ghost use Rattle.hop_words.specs.Kinds.{holding};
+ghost use Rattle.hop_words.specs.Kinds.{SawAllTaken, holding};
 ghost use Rattle.bpf_shared.specs.Own.{in_run};
 ghost use Rattle.hop_arena.specs.Claiming.{Claims, Misses, IsArena};
 ghost use Rattle.hop_epoch.specs.Batch.{Keeps};
@@ -73,6 +73,7 @@ fn lock_and_refuse<R: Wait>(
     requires wants { Wants table.now.about lane.known map
         (segment_of table.now.about.seed (shape_at table.now.about map) key.now)
         key.now value.now flags }
+    requires lacks { SawAllTaken table.now.about lane.known map }
     ensures table { result.0.table ≡ table.now.id }
     ensures refused { (n : ℕ) × Refusal table.now.about (with_lock lane.known map
         (segment_of table.now.about.seed (shape_at table.now.about map) key.now) n) map
@@ -97,6 +98,7 @@ fn claim_near(
     requires map { arena.old.map < length table.now.about.shape.maps }
     requires arena { Searches table.now.about arena.old.map arena.old }
     requires unlocked { lane.old.known.locks ≡ [] }
+    requires runs { in_run (events_of lane.old.known.cpu lane.old.known.seen) ≡ true }
     ensures table { lane.new.table ≡ lane.old.table }
     ensures claimed { MatchOption result
         (Misses table.now.about lane.old.known arena.old.map lane.new.known)
@@ -125,6 +127,7 @@ fn claim_free(
     requires arena { Searches table.now.about arena.old.map arena.old }
     requires batches { AreBatchesOf table.now.about lane.old.known arena.old.map batches.old }
     requires unlocked { lane.old.known.locks ≡ [] }
+    requires runs { in_run (events_of lane.old.known.cpu lane.old.known.seen) ≡ true }
     ensures table { lane.new.table ≡ lane.old.table }
     ensures claimed { let l = lane.old.known in
         MatchOption result

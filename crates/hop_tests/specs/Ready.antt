@@ -1,5 +1,5 @@
 -- What the tests' helpers ask of a lane.
-use Rattle.std.specs.Prelude.{◌≡◌, ◌<◌, false, []}
+use Rattle.std.specs.Prelude.{◌≡◌, ◌<◌, true, false, []}
 use Rattle.bpf_shared.specs.History.{events_of}
 use Rattle.hop_words.specs.declared.known.About.{About}
 use Rattle.hop_words.specs.declared.known.Known.{Known}
@@ -15,9 +15,19 @@ pub record IsIdle (a : About) (l : Known) : Type 0 where
   pub locks : l.locks ≡ []
   pub idle : in_run (events_of l.cpu l.seen) ≡ false
 
--- the lane may claim, and begin a run
+-- it is one of them, locks nothing and is in a run
+pub record IsRunning (a : About) (l : Known) : Type 0 where
+  pub inside : l.cpu < a.shape.cpus
+  pub locks : l.locks ≡ []
+  pub runs : in_run (events_of l.cpu l.seen) ≡ true
+
+-- the lane may begin a run
 abbrev pub IsLaneReady : Shown → Standing → Type 0
 IsLaneReady t s = (s.table ≡ t.id) × IsTrial t.about × IsIdle t.about s.known
+
+-- the lane may claim
+abbrev pub IsLaneRunning : Shown → Standing → Type 0
+IsLaneRunning t s = (s.table ≡ t.id) × IsTrial t.about × IsRunning t.about s.known
 
 -- the arena is that of the first map
 abbrev pub IsFirstArena : About → Arena → Type 0

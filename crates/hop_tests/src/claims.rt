@@ -1,7 +1,9 @@
 //! Claims, runs and batches over a real store, by many threads.
 ghost use Rattle.std.specs.Prelude.{◌≡◌, ◌<◌, ◌+◌, true, [], length, All, IfOk};
+ghost use Rattle.bpf_shared.specs.History.{events_of};
+ghost use Rattle.bpf_shared.specs.Own.{in_run};
 ghost use Rattle.hop_words.specs.Opens.{lanes_from};
-ghost use Rattle.hop_tests.specs.Ready.{IsIdle, IsLaneReady, IsFirstArena, IsStill};
+ghost use Rattle.hop_tests.specs.Ready.{IsIdle, IsLaneReady, IsLaneRunning, IsFirstArena, IsStill};
 ghost use Rattle.hop_words.specs.Trial.{IsTrial};
 
 use bpf_shared::{MapShape, StoreShape, Worn};
@@ -56,9 +58,9 @@ fn deal_all(alloc: Global, table: &HopTable, lanes: &mut Lanes) -> Result<Vec<La
 
 // The number of an element that is claimed for good.
 fn take_one(table: &HopTable, lane: &mut Lane, arena: &mut Arena) -> Option<u32>
-    requires ready { IsLaneReady table.now lane.old }
+    requires running { IsLaneRunning table.now lane.old }
     requires first { IsFirstArena table.now.about arena.old }
-    ensures ready { IsLaneReady table.now lane.new }
+    ensures running { IsLaneRunning table.now lane.new }
     ensures first { IsFirstArena table.now.about arena.new }
 {
     match arena.claim(lane, table) {
@@ -67,13 +69,17 @@ fn take_one(table: &HopTable, lane: &mut Lane, arena: &mut Arena) -> Option<u32>
     }
 }
 
-// Claims until no element is free.
+// In a run, claims until no element is free.
 fn take_all(alloc: Global, table: &HopTable, mut lane: Lane) -> Result<Vec<u32>, AllocError>
     requires ready { IsLaneReady table.now lane }
 {
     let cpu = lane.cpu();
     let mut arena = Arena::new(table, 0, cpu);
     let mut numbers = Vec::new(alloc);
+    match begin_run(&mut lane, table) {
+        Ok(()) => {}
+        Err(Worn) => return Ok(numbers),
+    }
     'take: for _ in 0..1000 {
         let Some(number) = take_one(table, &mut lane, &mut arena) else {
             break;
@@ -143,6 +149,7 @@ fn use_one(
     requires table { lane.old.table ≡ table.now.id }
     requires trial { IsTrial table.now.about }
     requires unlocked { lane.old.known.locks ≡ [] }
+    requires runs { in_run (events_of lane.old.known.cpu lane.old.known.seen) ≡ true }
     requires first { IsFirstArena table.now.about arena.old }
     requires sizes { (length key.now ≡ 8) × (length value.now ≡ 8) }
     ensures table { lane.new.table ≡ lane.old.table }

@@ -1,5 +1,5 @@
 -- Count down: the fetch_sub by which a deletion takes effect.
-use Rattle.std.proofs.Common.{◌≡◌, ◌≢◌, ℕ, ◌+◌, ◌-◌, ◌%◌, ◌^◌, ◌<◌, ◌≤◌, true, List, [], ◌∷◌, ◌++◌, Option, Some, None, is_some, length, set, refl, ap, sym, subst, ◌∙◌, arith, eq-eqb, ne_eqb, ⊎_elim}
+use Rattle.std.proofs.Common.{◌≡◌, ◌≢◌, ℕ, ◌+◌, ◌-◌, ◌%◌, ◌^◌, ◌<◌, ◌≤◌, true, List, [], ◌∷◌, ◌++◌, Option, Some, None, is_some, length, set, refl, ap, sym, subst, ◌∙◌, arith, eq-eqb, ne_eqb, ⊎_elim, inl, inr}
 use native.Mathlib.Decide.{ℕ_discrete}
 use mathlib.Core.Logic.{dite}
 use Rattle.std.specs.FinMap.{get, len, empty, empty_of_len, get-empty}
@@ -29,6 +29,7 @@ use Rattle.hop_words.specs.Step.{Next, Steps}
 use Rattle.hop_words.specs.Kinds.{Removes, Removed, with_gone}
 use Rattle.hop_words.proofs.Small.{equal_keys, equal, here_or, put2-same, put2-other, put_key-same, put_key-other}
 use Rattle.hop_words.proofs.Histories.{logged_event}
+use Rattle.hop_words.proofs.Shortages.{begun_more, shown_step, who_put}
 use Rattle.hop_words.proofs.Goes.{with_used, owned_goes, cut_old, linked_goes, keyed_goes, batched_goes, valued_goes}
 use Rattle.hop_words.proofs.Locks.{holds}
 use Rattle.hop_words.proofs.Effects.{Effect, effect_segments, effect_locking, effect_reading, effect_held, effect_worn}
@@ -140,6 +141,7 @@ module _ (a : About) (l : Known) (k : Lock) (key : List ℕ) (e : ℕ) (i : Remo
     reading = effect_reading a l k i.lock w g r is i.nothing (Drops key) linked' holder' effect;
     held = effect_held a l k i.lock w g r is i.nothing (Drops key) linked' holder' effect inside;
     valued = valued_goes a l.cpu m e s key g.holder was _ g.last.made g.last.value g.last.held g.number r.valued;
+    shown = shown_step a g.log log' g.last last' g.lanes.fresh g.lanes.fresh g.lanes.tally g.holder holder' (λ d. begun_more d g.log (entry l.cpu event ∷ [])) (λ p h. h) (λ n d c at is. inl (who_put g.holder m e (Leaving l.cpu) (λ c q. cc) n d c is)) (λ c n d inb at h. inr h) r.shown;
   }
 
   down_lane : lane g'.lanes l.cpu ≡ record l { seen = log'; limbo = with_gone l m e; locks = lock' ∷ [] }

@@ -1,5 +1,5 @@
 -- Count up: the compare-exchange by which the insertion of a new key takes effect.
-use Rattle.std.proofs.Common.{◌≡◌, ◌≢◌, ℕ, ◌+◌, ◌%◌, ◌<◌, ◌≤◌, Bool, true, false, true≢false, not, ◌&&◌, List, [], ◌∷◌, ◌++◌, Option, Some, None, is_some, ◌==◌, take, refl, ap, sym, subst, ◌∙◌, arith, eq-eqb, ne_eqb, ⊎_elim}
+use Rattle.std.proofs.Common.{◌≡◌, ◌≢◌, ℕ, ◌+◌, ◌%◌, ◌<◌, ◌≤◌, Bool, true, false, true≢false, not, ◌&&◌, List, [], ◌∷◌, ◌++◌, Option, Some, None, is_some, ◌==◌, take, refl, ap, sym, subst, ◌∙◌, arith, eq-eqb, ne_eqb, ⊎_elim, inl, inr}
 use Rattle.std.proofs.lemmas.Bool.Decides.{nat_tests}
 use Rattle.std.specs.FinMap.{get, len}
 use Rattle.atomic_table.proofs.Lists.{exchanged}
@@ -22,15 +22,17 @@ use Rattle.hop_words.specs.declared.known.Fresh.{Fresh}
 use Rattle.hop_words.specs.declared.known.Lock.{Lock}
 use Rattle.hop_words.specs.declared.known.Change.TheVariants.{Puts}
 use Rattle.hop_words.specs.Layout.{mem, put_at, words_for}
+use Rattle.hop_words.specs.Shortage.{HasHadValue}
 use Rattle.hop_words.specs.Homes.{segment_of, bytes_of_words}
 use Rattle.hop_words.specs.Content.{place_words, one_if}
 use Rattle.hop_words.specs.Ghost.{segment_in, Filling, Within, lane, Era, Ghost, shape_at, HasElement, Each}
-use Rattle.hop_words.specs.Rule.{Rule, Worn, Minded, put_key, changed, Holds, Segment, numbered, owed, Keyed, times_lock}
+use Rattle.hop_words.specs.Rule.{times_fresh, Rule, Worn, Minded, put_key, changed, Holds, Segment, numbered, owed, Keyed, times_lock}
 use Rattle.hop_words.specs.Step.{Next, Steps}
 use Rattle.hop_words.specs.Kinds.{Inserts, Inserted}
 use Rattle.hop_words.proofs.Small.{equal_keys, here_or, put2-same, put2-other, put_key-same, put_key-other}
 use Rattle.hop_words.proofs.Spelling.{value_spelled}
 use Rattle.hop_words.proofs.Histories.{logged_event, done_in-append}
+use Rattle.hop_words.proofs.Shortages.{begun_more, had_update, new_update, shown_step, who_put, hand_rest}
 use Rattle.hop_words.proofs.Comes.{in_hand, now_old, linked_comes, owned_comes, keyed_comes, batched_comes, filled_rest, valued_comes}
 use Rattle.hop_words.proofs.Segs.{Elsewhere, segments_step, locking_step, Upward, readings_step, held_step, lock_once}
 use Rattle.hop_words.proofs.Stays.{stay, next_as, saw, running_is, map_there, runs_quiet, place_for}
@@ -249,6 +251,12 @@ module _ (a : About) (l : Known) (k : Lock) (f : Fresh) (rest : List Fresh) (key
     held = held_step a m s l.cpu _ _ g.eras g'.eras g.lanes.locks (k' ∷ []) inside r.held (λ odd. (ap (λ (y : Era). y.writer) now_era, (let z = lock_once k' in omega arith)))
         (λ n t ne. (refl, put2-other g.eras m s n t era' ne, ap (times_lock n t) (sym (ap (λ (z : Known). z.locks) is ∙ i.filled.lock))));
     valued = valued_comes a l.cpu m e s key g.holder was _ g.last.made g.last.value g.last.held g.number x r.valued spelled_is;
+    shown = shown_step a g.log log' g.last last' g.lanes.fresh g'.lanes.fresh g.lanes.tally g.holder g'.holder (λ d. begun_more d g.log (entry l.cpu event ∷ [])) (had_update g.last m key x)
+        (λ n d c at is. inl (who_put g.holder m e (Within s) (λ c q. cc) n d c is))
+        (λ b n d inb at has. ⊎_elim
+        (λ (h : (n ≡ f.map) × (d ≡ f.element)). inl (subst (HasHadValue last') (λ j. element_span ((sym i.filled.map ∙ sym h.0) j) (shape_at a ((sym i.filled.map ∙ sym h.0) j)) (sym h.1 j)) (new_update g.last m key x)))
+        (λ (h : 1 ≤ times_fresh n d (g'.lanes.fresh b)). inr h)
+        (hand_rest g.lanes.fresh l.cpu f rest hand b n d has)) r.shown;
   }
 
   lane_is : lane g'.lanes l.cpu ≡ record l { seen = log'; fresh = rest; locks = k' ∷ [] }

@@ -1,5 +1,5 @@
 -- See count; read under lock.
-use Rattle.std.proofs.Common.{◌≡◌, ◌≢◌, ℕ, ◌<◌, ◌≤◌, nat_lt, Bool, true, false, not, ◌&&◌, List, [], ◌∷◌, ◌++◌, Option, Some, None, is_some, ◌==◌, refl, ap, sym, subst, ◌∙◌, arith, eq-eqb, ne_eqb}
+use Rattle.std.proofs.Common.{length, ◌≡◌, ◌≢◌, ℕ, ◌<◌, ◌≤◌, nat_lt, Bool, true, false, not, ◌&&◌, List, [], ◌∷◌, ◌++◌, Option, Some, None, is_some, ◌==◌, refl, ap, sym, subst, ◌∙◌, arith, eq-eqb, ne_eqb}
 use Rattle.std.proofs.lemmas.Bool.Decides.{nat_tests}
 use native.Mathlib.Decide.{ℕ_discrete}
 use mathlib.Core.Logic.{dite}
@@ -24,14 +24,15 @@ use Rattle.hop_words.specs.Rule.{Rule, Holds, changed, numbered, image, Minded}
 use Rattle.bpf_shared.specs.Own.{turns_of}
 use Rattle.hop_words.specs.Shortage.{HasCause}
 use Rattle.hop_words.specs.Step.{Next, Steps}
-use Rattle.hop_words.specs.Kinds.{Told, Counts, Misflagged}
+use Rattle.hop_words.specs.Kinds.{Told, Counts, Misflagged, SawAllTaken}
 use Rattle.hop_words.proofs.CountUp.{four, and_false}
 use Rattle.hop_words.proofs.Locks.{holds}
+use Rattle.hop_words.proofs.Shortages.{lack_cause}
 use Rattle.hop_words.proofs.Unlocks.{noted_event, event_rule}
 use Rattle.hop_words.proofs.Stays.{put_again, stay, next_as, saw, running_is, map_there}
 
 -- a load at which an event takes effect that leaves the store as it is
-pub event_next : (a : About) (w : Place → ℕ) (g : Ghost) (r : Rule a w g) (l : Known) (is : lane g.lanes l.cpu ≡ l) (inside : l.cpu < a.shape.cpus) (p : Place) (ev : Event) → turns_of (ev ∷ []) ≡ 0 → HasCause a.version g.log ev → Allowed g.last l.cpu ev g.last
+pub event_next : (a : About) (w : Place → ℕ) (g : Ghost) (r : Rule a w g) (l : Known) (is : lane g.lanes l.cpu ≡ l) (inside : l.cpu < a.shape.cpus) (p : Place) (ev : Event) → turns_of (ev ∷ []) ≡ 0 → HasCause a.shape a.version g.log l.cpu ev → Allowed g.last l.cpu ev g.last
     → Next a (put_at w p (w p)) g l.cpu (Told a l ev)
 event_next a w g r l is inside p ev quiet cause may =
     let rule = event_rule a w g r l inside ev quiet cause may in
@@ -75,6 +76,9 @@ module _ (a : About) (l : Known) (k : Lock) (key bytes : List ℕ) (flags : ℕ)
   full_is : (b : Bool) → (len (g.last.maps k.map) == (shape_at a k.map).max) ≡ b → (not (is_some (get (g.last.maps k.map) key)) && (len (g.last.maps k.map) == (shape_at a k.map).max)) ≡ b
   full_is b e = ap (λ (o : Option ℕ). not (is_some o) && (len (g.last.maps k.map) == (shape_at a k.map).max)) get_none ∙ e
 
+  pub in_map : k.map < length a.shape.maps
+  in_map = h.inside.0
+
   pub may_full : w (KeyCount k.map) ≡ (shape_at a k.map).max → Allowed g.last l.cpu (Update k.map key bytes flags Full) g.last
   may_full full = (
     running_is a w g r l is inside i.runs,
@@ -109,13 +113,13 @@ see_count a l k key bytes flags i ws g sized r is inside fits =
     (λ less. stay a w g l.cpu (KeyCount k.map) _ r ((λ full. absurd (less full)), (λ _. (is, (let z = most a l k key bytes flags i w g r is inside in grind arith)))))
 
 -- without one: full, or no memory
-pub see_count_lacking : (a : About) (l : Known) (k : Lock) (key bytes : List ℕ) (flags : ℕ) → Counts a l k key bytes flags
+pub see_count_lacking : (a : About) (l : Known) (k : Lock) (key bytes : List ℕ) (flags : ℕ) → Counts a l k key bytes flags → SawAllTaken a l k.map
     → Steps a l (KeyCount k.map) (λ n. n) (λ ws n l'. (n ≡ (shape_at a k.map).max → Told a l (Update k.map key bytes flags Full) l') × (n ≢ (shape_at a k.map).max → Told a l (Update k.map key bytes flags NoMemory) l'))
-see_count_lacking a l k key bytes flags i ws g sized r is inside fits =
+see_count_lacking a l k key bytes flags i saw ws g sized r is inside fits =
     let w = mem a.shape ws in
     dite (ℕ_discrete (w (KeyCount k.map)) (shape_at a k.map).max)
     (λ full. next_as _ _ _ _ _ _ (λ q t. ((λ _. t), (λ ne. absurd (ne full)))) (event_next a w g r l is inside (KeyCount k.map) (Update k.map key bytes flags Full) refl tt (may_full a l k key bytes flags i w g r is inside full)))
-    (λ less. next_as _ _ _ _ _ _ (λ q t. ((λ full. absurd (less full)), (λ _. t))) (event_next a w g r l is inside (KeyCount k.map) (Update k.map key bytes flags NoMemory) refl tt (may_lack a l k key bytes flags i w g r is inside less)))
+    (λ less. next_as _ _ _ _ _ _ (λ q t. ((λ full. absurd (less full)), (λ _. t))) (event_next a w g r l is inside (KeyCount k.map) (Update k.map key bytes flags NoMemory) refl (lack_cause a w g r l k.map is inside (in_map a l k key bytes flags i w g r is inside) saw) (may_lack a l k key bytes flags i w g r is inside less)))
 
 pub see_count_misflagged : (a : About) (l : Known) (m : ℕ) (key bytes : List ℕ) (flags : ℕ) → Misflagged a l m key bytes flags → Steps a l (KeyCount m) (λ n. n) (λ ws n l'. Told a l (Update m key bytes flags Invalid) l')
 see_count_misflagged a l m key bytes flags i ws g sized r is inside fits =

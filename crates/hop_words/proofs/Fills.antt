@@ -1,6 +1,7 @@
 -- Fill word: the next word of the key or of the value of the element in hand. Give bit of that element.
-use Rattle.std.proofs.Common.{◌≡◌, ◌≢◌, ℕ, zero, suc, ◌+◌, ◌/◌, ◌%◌, ◌^◌, ◌<◌, ◌≤◌, Bool, true, false, ◌&&◌, List, [], ◌∷◌, ◌++◌, ◌==◌, length, take, slice_index, bit_or, refl, ap, sym, subst, ◌∙◌, arith, eq-eqb, ne_eqb, ⊎_elim, inr}
+use Rattle.std.proofs.Common.{◌≡◌, ◌≢◌, ℕ, zero, suc, ◌+◌, ◌/◌, ◌%◌, ◌^◌, ◌<◌, ◌≤◌, Bool, true, false, ◌&&◌, List, [], ◌∷◌, ◌++◌, ◌==◌, length, take, slice_index, bit_or, refl, ap, sym, subst, ◌∙◌, arith, eq-eqb, ne_eqb, ⊎_elim, inl, inr, ◌⊎◌}
 use Rattle.std.proofs.lemmas.Nat.Bits.{bit_at_or, bit_at-lt, bit_at-pow_same, bit_at-pow_other}
+use Rattle.std.specs.Int.{bit_at}
 use Rattle.bpf_shared.specs.Store.{put}
 use Rattle.bpf_shared.specs.Shape.{element_span}
 use Rattle.bpf_shared.proofs.Puts.{put-same, put-other}
@@ -9,15 +10,19 @@ use Rattle.hop_words.specs.declared.place.Place.TheVariants.{FreeBits, Stamp, Ke
 use Rattle.hop_words.specs.declared.known.About.{About}
 use Rattle.hop_words.specs.declared.known.Known.{Known}
 use Rattle.hop_words.specs.declared.known.Fresh.{Fresh}
+use Rattle.hop_words.specs.declared.known.Sight.{Sight}
 use Rattle.hop_words.specs.Layout.{mem, put_at, words_for}
 use Rattle.hop_words.specs.Homes.{bytes_of_words}
 use Rattle.hop_words.specs.Content.{place_words, one_if}
-use Rattle.hop_words.specs.Ghost.{Holder, Free, Filling, Within, is_filling, is_leaving, Carries, lane, Ghost, shape_at, HasElement, Each}
+use Rattle.hop_words.specs.Ghost.{Holder, Free, Filling, Within, is_free, is_filling, is_leaving, Carries, lane, Ghost, shape_at, HasElement, Each}
 use Rattle.hop_words.specs.Rule.{Rule, times_fresh, StartsWith, Minded}
-use Rattle.hop_words.specs.Step.{Next, Steps}
+use Rattle.hop_words.specs.Shortage.{MayBeTaken}
+use Rattle.hop_words.specs.Sights.{LeavesElements, ShowsTaken, IsTakenSince, bit_set, sighted}
+use Rattle.hop_words.specs.Step.{Next, Steps, Notes}
 use Rattle.hop_words.specs.Kinds.{filling_key, filling_value}
 use Rattle.hop_words.proofs.Small.{equal, here_or, put2-same, put2-other}
 use Rattle.hop_words.proofs.Spelling.{IsFilled}
+use Rattle.hop_words.proofs.Shortages.{shown_step, who_put, hand_rest}
 use Rattle.hop_words.proofs.Histories.{prefix_refl}
 use Rattle.hop_words.proofs.Comes.{moved, in_hand, filling_most}
 use Rattle.hop_words.proofs.Locks.{put_here, put_else}
@@ -121,6 +126,8 @@ module _ (a : About) (l : Known) (f : Fresh) (rest : List Fresh) (hand : l.fresh
       reading = r.reading;
       held = r.held;
       valued = r.valued;
+      shown = shown_step a g.log g.log g.last g.last g.lanes.fresh (put g.lanes.fresh l.cpu (f2 ∷ rest)) g.lanes.tally g.holder g.holder (λ d h. h) (λ p h. h) (λ n d c at is. inl is)
+          (λ b m d inb at has. inr (let q = r.owned.fresh_is b m d inb at in let z : times_fresh m d (put g.lanes.fresh l.cpu (f2 ∷ rest) b) ≡ one_if (is_filling b (g.holder m d)) = fresh_on (f.key ++ n ∷ []) f.value b m d inb at in omega arith)) r.shown;
     };
     others = λ d ne. rw (ne_eqb d l.cpu ne) refl;
     longer = prefix_refl g.log;
@@ -188,6 +195,8 @@ module _ (a : About) (l : Known) (f : Fresh) (rest : List Fresh) (hand : l.fresh
         older = r.valued.older;
         held_in = r.valued.held_in;
       };
+      shown = shown_step a g.log g.log g.last g.last g.lanes.fresh (put g.lanes.fresh l.cpu (f2 ∷ rest)) g.lanes.tally g.holder g.holder (λ d h. h) (λ p h. h) (λ n d c at is. inl is)
+          (λ b m d inb at has. inr (let q = r.owned.fresh_is b m d inb at in let z : times_fresh m d (put g.lanes.fresh l.cpu (f2 ∷ rest) b) ≡ one_if (is_filling b (g.holder m d)) = fresh_on f.key (f.value ++ n ∷ []) b m d inb at in omega arith)) r.shown;
     };
     others = λ d ne. rw (ne_eqb d l.cpu ne) refl;
     longer = prefix_refl g.log;
@@ -238,7 +247,7 @@ fill_value a l f rest n hand at_e unlocked ws g sized r is inside fits = value_s
 
 -- ---- give bit of the element in hand
 pub give_fresh : (a : About) (l : Known) (f : Fresh) (rest : List Fresh) → l.fresh ≡ f ∷ rest → HasElement a f.map f.element
-    → Steps a l (FreeBits f.map (f.element / 64)) (λ n. bit_or n (2 ^ (f.element % 64))) (λ ws n l'. l' ≡ record l { fresh = rest })
+    → Notes a l (FreeBits f.map (f.element / 64)) (λ n. bit_or n (2 ^ (f.element % 64))) (λ ws n l'. l' ≡ sighted (record l { fresh = rest }) (bit_set f.map f.element n))
 give_fresh a l f rest hand at_e ws g sized r is inside fits = record {
   ghost = g2;
   rule = record {
@@ -269,11 +278,18 @@ give_fresh a l f rest hand at_e ws g sized r is inside fits = record {
     reading = r.reading;
     held = r.held;
     valued = valued_outside a g.holder f.map f.element (Filling l.cpu) Free filling _ g.last.made g.last.value g.last.held g.number (λ z. z) (λ c h z. z) r.valued;
+    shown = record {
+      begun = λ n d c at_d q. r.shown.begun n d c at_d (who_put g.holder f.map f.element Free (λ c u. cc) n d c q);
+      taken = λ b n d inb at_d seen. ⊎_elim
+          (λ (t : b ≡ l.cpu). still b n d inb at_d t (subst (λ (z : List Sight). IsTakenSince z n d) (put-same g.lanes.tally l.cpu b (given ∷ g.lanes.tally l.cpu) t) seen))
+          (λ (ne : b ≢ l.cpu). kept b n d (λ q. absurd (ne q)) (r.shown.taken b n d inb at_d (subst (λ (z : List Sight). IsTakenSince z n d) (put-other g.lanes.tally l.cpu b (given ∷ g.lanes.tally l.cpu) ne) seen)))
+          (equal b l.cpu);
+    };
   };
   others = λ d ne. rw (ne_eqb d l.cpu ne) refl;
   longer = prefix_refl g.log;
-  tally = refl;
-  says = rw (eq-eqb l.cpu l.cpu refl) (ap (λ (z : Known). record z { fresh = rest }) is);
+  tally = put-same g.lanes.tally l.cpu l.cpu (given ∷ g.lanes.tally l.cpu) refl;
+  says = rw (eq-eqb l.cpu l.cpu refl) (ap (λ (z : Known). record z { fresh = rest; tally = given ∷ z.tally }) is);
 }
   where
     w : Place → ℕ
@@ -282,14 +298,51 @@ give_fresh a l f rest hand at_e ws g sized r is inside fits = record {
     holder2 : ℕ → ℕ → Holder
     holder2 = put g.holder f.map (put (g.holder f.map) f.element Free)
 
+    given : Sight
+    given = bit_set f.map f.element (w (FreeBits f.map (f.element / 64)))
+
     g2 : Ghost
-    g2 = record g { lanes = record g.lanes { fresh = put g.lanes.fresh l.cpu rest }; holder = holder2 }
+    g2 = record g { lanes = record g.lanes { fresh = put g.lanes.fresh l.cpu rest; tally = put g.lanes.tally l.cpu (given ∷ g.lanes.tally l.cpu) }; holder = holder2 }
 
     mine : g.lanes.fresh l.cpu ≡ f ∷ rest
     mine = ap (λ (z : Known). z.fresh) is ∙ hand
 
     filling : g.holder f.map f.element ≡ Filling l.cpu
     filling = was a w g r l.cpu inside f rest mine at_e
+
+    at_f : (n : ℕ) → n ≡ f.map → (LeavesElements n given → ⊥)
+    at_f n t leaves =
+        let look : bit_or (w (FreeBits f.map (f.element / 64))) (2 ^ (f.element % 64)) ≡ w (FreeBits f.map (f.element / 64)) = leaves (f.element / 64) (λ j. FreeBits (sym t j) (f.element / 64)) in
+        let now : bit_at (bit_or (w (FreeBits f.map (f.element / 64))) (2 ^ (f.element % 64))) (f.element % 64) ≡ bit_at (w (FreeBits f.map (f.element / 64))) (f.element % 64) = ap (λ (x : ℕ). bit_at x (f.element % 64)) look in
+        let both = bit_at_or (w (FreeBits f.map (f.element / 64))) (2 ^ (f.element % 64)) (f.element % 64) in
+        let one = bit_at-pow_same (f.element % 64) in
+        let was_clear = r.owned.bits f.map f.element at_e in
+        let none : one_if (is_free (g.holder f.map f.element)) ≡ 0 = ap (λ (x : Holder). one_if (is_free x)) filling in
+        omega arith
+
+    map_of : Place → ℕ
+    map_of (FreeBits m i) = m
+    map_of p = 0
+
+    -- of another map, all is as it was
+    kept : (b n d : ℕ) → (b ≡ l.cpu → n ≢ f.map) → MayBeTaken a.shape g.log g.last b n d ⊎ (1 ≤ times_fresh n d (g.lanes.fresh b)) → MayBeTaken a.shape g.log g.last b n d ⊎ (1 ≤ times_fresh n d (put g.lanes.fresh l.cpu rest b))
+    kept b n d apart was_so = ⊎_elim
+        (λ (may : MayBeTaken a.shape g.log g.last b n d). inl may)
+        (λ (has : 1 ≤ times_fresh n d (g.lanes.fresh b)). ⊎_elim
+        (λ (t : b ≡ l.cpu). ⊎_elim
+        (λ (h : (n ≡ f.map) × (d ≡ f.element)). absurd (apart t h.0))
+        (λ (h : 1 ≤ times_fresh n d (put g.lanes.fresh l.cpu rest b)). inr h)
+        (hand_rest g.lanes.fresh l.cpu f rest mine b n d has))
+        (λ (ne : b ≢ l.cpu). inr (subst (λ (z : List Fresh). 1 ≤ times_fresh n d z) (sym (put-other g.lanes.fresh l.cpu b rest ne)) has))
+        (equal b l.cpu))
+        was_so
+
+    still : (b n d : ℕ) → b < a.shape.cpus → HasElement a n d → b ≡ l.cpu → LeavesElements n given × (ShowsTaken given n d ⊎ IsTakenSince (g.lanes.tally l.cpu) n d)
+        → MayBeTaken a.shape g.log g.last b n d ⊎ (1 ≤ times_fresh n d (put g.lanes.fresh l.cpu rest b))
+    still b n d inb at_d t seen = ⊎_elim
+        (λ (shows : ShowsTaken given n d). absurd (at_f n (sym (ap map_of shows.0)) seen.0))
+        (λ (before : IsTakenSince (g.lanes.tally l.cpu) n d). kept b n d (λ _ q. at_f n q seen.0) (r.shown.taken b n d inb at_d (subst (λ (i : ℕ). IsTakenSince (g.lanes.tally i) n d) (sym t) before)))
+        seen.1
 
     own : (n d : ℕ) → HasElement a n d → times_fresh n d rest ≡ one_if (is_filling l.cpu (holder2 n d))
     own n d l2 = ⊎_elim

@@ -6,7 +6,8 @@ use Rattle.hop_words.specs.declared.known.About.{About}
 use Rattle.hop_words.specs.declared.known.Known.{Known}
 use Rattle.hop_words.specs.declared.known.Fresh.{Fresh}
 use Rattle.hop_words.specs.Ghost.{HasElement}
-use Rattle.hop_words.specs.Step.{Steps}
+use Rattle.hop_words.specs.Sights.{bit_set, sighted}
+use Rattle.hop_words.specs.Step.{Steps, Notes}
 use Rattle.hop_words.specs.Owning.{IsInHand, tail_of, key_filled, value_filled, with_key_word, with_value_word}
 use Rattle.hop_words.proofs.Fills.{fill_key, fill_value, give_fresh}
 
@@ -17,10 +18,10 @@ module _ (a : About) (l : Known) (m e : ℕ) (at_e : HasElement a m e) (h : IsIn
   at_f : HasElement a f.map f.element
   at_f = subst (λ (n : ℕ). HasElement a n f.element) (sym h.2) (subst (HasElement a m) (sym h.3) at_e)
 
-  pub gives : Steps a l (FreeBits m (e / 64)) (λ n. bit_or n (2 ^ (e % 64))) (λ ws n l'. l' ≡ record l { fresh = tail_of l.fresh })
+  pub gives : Notes a l (FreeBits m (e / 64)) (λ n. bit_or n (2 ^ (e % 64))) (λ ws n l'. l' ≡ sighted (record l { fresh = tail_of l.fresh }) (bit_set m e n))
   gives =
-      subst (λ (n : ℕ). Steps a l (FreeBits n (e / 64)) (λ n. bit_or n (2 ^ (e % 64))) (λ ws n l'. l' ≡ record l { fresh = tail_of l.fresh })) h.2
-      (subst (λ (d : ℕ). Steps a l (FreeBits f.map (d / 64)) (λ n. bit_or n (2 ^ (d % 64))) (λ ws n l'. l' ≡ record l { fresh = tail_of l.fresh })) h.3
+      subst (λ (n : ℕ). Notes a l (FreeBits n (e / 64)) (λ n. bit_or n (2 ^ (e % 64))) (λ ws i l'. l' ≡ sighted (record l { fresh = tail_of l.fresh }) (bit_set n e i))) h.2
+      (subst (λ (d : ℕ). Notes a l (FreeBits f.map (d / 64)) (λ n. bit_or n (2 ^ (d % 64))) (λ ws i l'. l' ≡ sighted (record l { fresh = tail_of l.fresh }) (bit_set f.map d i))) h.3
       (give_fresh a l f (tail_of l.fresh) h.1 at_f))
 
   pub fills_key : (k n : ℕ) → l.locks ≡ [] → k ≡ key_filled l.fresh → Steps a l (KeyWord m e k) (λ _. n) (λ ws found l'. l' ≡ record l { fresh = with_key_word l.fresh n })

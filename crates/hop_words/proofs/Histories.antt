@@ -6,6 +6,7 @@ use mathlib.Core.List.{IsPrefix}
 use native.Mathlib.Decide.{ℕ_discrete}
 use Rattle.bpf_shared.specs.declared.events.Event.{Event}
 use Rattle.bpf_shared.specs.declared.events.Entry.{Entry}
+use Rattle.bpf_shared.specs.Shape.{Shape}
 use Rattle.bpf_shared.specs.Store.{Plain, as_made, put}
 use Rattle.bpf_shared.specs.Events.{Allowed}
 use Rattle.bpf_shared.specs.History.{Legal, events_of, entry}
@@ -67,11 +68,11 @@ cuts_more P (z ∷ zs) x all here (b ∷ bs) after y e =
     subst (λ (q : Entry). P (q ∷ bs) y) s
     (cuts_more (λ before w. P (z ∷ before) w) zs x (λ before rest w f. all (z ∷ before) rest w (ap (λ (q : List Entry). z ∷ q) f)) here bs after y t)
 
-pub causes_more : (version : ℕ) (log : List Entry) (c : ℕ) (e : Event) → HaveCauses version log → HasCause version log e → HaveCauses version (log ++ entry c e ∷ [])
-causes_more version log c e = cuts_more (λ before x. HasCause version before x.event) log (entry c e)
+pub causes_more : (h : Shape) (version : ℕ) (log : List Entry) (c : ℕ) (e : Event) → HaveCauses h version log → HasCause h version log c e → HaveCauses h version (log ++ entry c e ∷ [])
+causes_more h version log c e = cuts_more (λ before x. HasCause h version before x.cpu x.event) log (entry c e)
 
 -- ---- the history after an event of the CPU c, which has seen all of it
-pub logged_event : (a : About) (seen : ℕ → List Entry) (log : List Entry) (last t : Plain) (c : ℕ) (e : Event) → Logged a seen log last → c < a.shape.cpus → HasCause a.version log e → Allowed last c e t
+pub logged_event : (a : About) (seen : ℕ → List Entry) (log : List Entry) (last t : Plain) (c : ℕ) (e : Event) → Logged a seen log last → c < a.shape.cpus → HasCause a.shape a.version log c e → Allowed last c e t
     → Logged a (put seen c (log ++ entry c e ∷ [])) (log ++ entry c e ∷ []) t
 logged_event a seen log last t c e p inside cause may = record {
   legal = history-append Allowed (as_made a.shape) last t log (entry c e ∷ []) p.legal (t, may, refl);
@@ -82,7 +83,7 @@ logged_event a seen log last t c e p inside cause may = record {
       (λ s. ap (events_of d) (put-same seen c d now s))
       (λ ne. ap (events_of d) (put-other seen c d now ne) ∙ (p.own d h ∙ sym (log_other c d e log ne)));
   others = λ d past. log_other c d e log (λ (s : d ≡ c). omega arith) ∙ p.others d past;
-  causes = causes_more a.version log c e p.causes cause;
+  causes = causes_more a.shape a.version log c e p.causes cause;
 }
   where
     now : List Entry

@@ -128,6 +128,7 @@ module _ (a : About) (l : Known) (k : Lock) (held : l.locks ≡ k ∷ []) (w : P
       stays = λ i even le eq. let z = put2-same g.eras k.map k.segment k.map k.segment era' refl refl in let q = stays i even le (eq ∙ ap (λ (y : Era). y.era) z) in (q.0, ap (λ (y : Era). y.old) z ∙ q.1);
     }) r.reading;
     valued = r.valued;
+    shown = r.shown;
   }
 
 -- with the next version, where something took effect: the copy shows it
@@ -350,6 +351,7 @@ module _ (a : About) (l : Known) (m s old : ℕ) (at_s : IsSegment a m s) (even 
       stays = λ i ev le eq. (eq ∙ ap (λ (y : Era). y.era) era_now, ap (λ (y : Era). y.old) era_now);
     }) r.reading;
     valued = r.valued;
+    shown = r.shown;
   }
 
   key_words : (fs : List Fresh) → Each (λ (f : Fresh). StartsWith f.key (λ j. lw (KeyWord f.map f.element j)) × StartsWith f.value (λ j. lw (ValueWord f.map f.element j))) fs → Each (λ (f : Fresh). StartsWith f.key ((image a ws).key f.map f.element)) fs

@@ -74,7 +74,7 @@ module _ (a : About) (w : Place → ℕ) (i : AreNewWords a w) where
     all = λ key e is home. cc;
   }
 
-  none_before : (before after : List Entry) (x : Entry) → [] ≡ before ++ (x ∷ after) → HasCause a.version before x.event
+  none_before : (before after : List Entry) (x : Entry) → [] ≡ before ++ (x ∷ after) → HasCause a.shape a.version before x.cpu x.event
   none_before [] after x e = cc
   none_before (y ∷ ys) after x e = cc
 
@@ -107,6 +107,7 @@ module _ (a : About) (w : Place → ℕ) (i : AreNewWords a w) where
     reading = λ c. tt;
     held = λ m s at_s odd. absurd (let z = (i.stamps m s at_s).0 in omega arith);
     valued = record { lies = λ m e l has. absurd has; older = λ m e l has. absurd has; held_in = λ c v h. absurd (true≢false (sym h)) };
+    shown = record { begun = λ m e c at_e q. cc; taken = λ c m e l at_e seen. absurd seen };
   }
 
 -- each lane of the first seat is that of its CPU

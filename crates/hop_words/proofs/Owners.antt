@@ -5,7 +5,10 @@ use Rattle.std.proofs.Math.Pow.{pow-lt}
 use Rattle.std.specs.Int.{bit_at, w64}
 use native.Mathlib.Decide.{ℕ_discrete, dec_lt}
 use mathlib.Core.Logic.{dite}
+use Rattle.bpf_shared.specs.declared.events.Event.{Event}
 use Rattle.bpf_shared.specs.Store.{Value, put}
+use Rattle.bpf_shared.specs.History.{events_of}
+use Rattle.bpf_shared.specs.Own.{in_run}
 use Rattle.bpf_shared.proofs.Puts.{put-same, put-other}
 use Rattle.hop_words.specs.declared.place.Place.{Place}
 use Rattle.hop_words.specs.declared.place.Place.TheVariants.{FreeBits, Stamp, KeyWord, ValueWord}
@@ -17,10 +20,12 @@ use Rattle.hop_words.specs.Layout.{mem, put_at}
 use Rattle.hop_words.specs.Content.{MapWords, place_words, one_if}
 use Rattle.hop_words.specs.Ghost.{segment_in, Holder, Free, Filling, Leaving, Within, is_free, is_filling, is_leaving, Carries, lane, Era, Ghost, HasElement, Each}
 use Rattle.hop_words.specs.Rule.{Rule, times_fresh, Linked, StartsWith, Minded, Holds, Locking, Valued}
+use Rattle.hop_words.specs.Shortage.{HasBegun}
 use Rattle.hop_words.specs.Step.{Next, Steps}
 use Rattle.hop_words.specs.Kinds.{holding}
 use Rattle.hop_words.proofs.Small.{equal, here_or, put2-same, put2-other}
 use Rattle.hop_words.proofs.Histories.{prefix_refl}
+use Rattle.hop_words.proofs.Shortages.{runs_begun, shown_step, hand_more}
 use Rattle.hop_words.proofs.Stays.{next_as}
 use Rattle.hop_words.proofs.Comes.{moved}
 use Rattle.hop_words.proofs.Segs.{agrees_on}
@@ -145,8 +150,8 @@ module _ (a : About) (l : Known) (m e : ℕ) (at_e : HasElement a m e) (ws : Lis
   new_fresh = record { map = m; element = e; key = []; value = [] }
 
   -- a free element becomes one that the lane fills
-  claim_next : l.locks ≡ [] → g.holder m e ≡ Free → Next a (put_at cw (FreeBits m (e / 64)) (bit_and (cw (FreeBits m (e / 64))) mask)) g l.cpu (λ l'. l' ≡ holding l m e)
-  claim_next unlocked was = record {
+  claim_next : l.locks ≡ [] → in_run (events_of l.cpu l.seen) ≡ true → g.holder m e ≡ Free → Next a (put_at cw (FreeBits m (e / 64)) (bit_and (cw (FreeBits m (e / 64))) mask)) g l.cpu (λ l'. l' ≡ holding l m e)
+  claim_next unlocked runs was = record {
     ghost = g2;
     rule = record {
       shaped = r.shaped;
@@ -177,6 +182,12 @@ module _ (a : About) (l : Known) (m e : ℕ) (at_e : HasElement a m e) (ws : Lis
       reading = r.reading;
       held = r.held;
       valued = valued_outside a g.holder m e Free (Filling l.cpu) was _ g.last.made g.last.value g.last.held g.number (λ z. z) (λ c h z. z) r.valued;
+      shown = shown_step a g.log g.log g.last g.last g.lanes.fresh (put g.lanes.fresh l.cpu fresh2) g.lanes.tally g.holder holder2 (λ d h. h) (λ p h. h)
+          (λ n d c at_d q. ⊎_elim
+          (λ (h : (n ≡ m) × (d ≡ e)). let who : Filling l.cpu ≡ Filling c = sym (put2-same g.holder m e n d (Filling l.cpu) h.0 h.1) ∙ q in let same : l.cpu ≡ c = cc in inr (subst (λ (i : ℕ). HasBegun i g.log) same begun))
+          (λ (ne : n ≡ m → d ≢ e). inl (sym (put2-other g.holder m e n d (Filling l.cpu) ne) ∙ q))
+          (here_or m n e d))
+          (λ b n d inb at_d has. inr (hand_more g.lanes.fresh l.cpu new_fresh b n d has)) r.shown;
     };
     others = λ d ne. rw (ne_eqb d l.cpu ne) refl;
     longer = prefix_refl g.log;
@@ -192,6 +203,9 @@ module _ (a : About) (l : Known) (m e : ℕ) (at_e : HasElement a m e) (ws : Lis
 
       g2 : Ghost
       g2 = record g { lanes = record g.lanes { fresh = put g.lanes.fresh l.cpu fresh2 }; holder = holder2 }
+
+      begun : HasBegun l.cpu g.log
+      begun = runs_begun l.cpu g.log (subst (λ (es : List Event). in_run es ≡ true) (ap (events_of l.cpu) (sym (ap (λ (z : Known). z.seen) is)) ∙ r.logged.own l.cpu inside) runs)
 
       Has : Fresh → Type 0
       Has y = StartsWith y.key (λ j. cw (KeyWord y.map y.element j)) × StartsWith y.value (λ j. cw (ValueWord y.map y.element j))
@@ -257,6 +271,7 @@ module _ (a : About) (l : Known) (m e : ℕ) (at_e : HasElement a m e) (ws : Lis
       reading = r.reading;
       held = r.held;
       valued = r.valued;
+      shown = r.shown;
     };
     others = λ d ne. refl;
     longer = prefix_refl g.log;
@@ -270,10 +285,10 @@ module _ (a : About) (l : Known) (m e : ℕ) (at_e : HasElement a m e) (ws : Lis
           (λ (ne : n ≡ m → d ≢ e). put2-other g.holder m e n d (g.holder m e) ne)
           (here_or m n e d) i
 
-pub claim_bit : (a : About) (l : Known) (m e : ℕ) → HasElement a m e → l.locks ≡ [] → Steps a l (FreeBits m (e / 64)) (λ n. bit_and n (2 ^ 64 - 1 - 2 ^ (e % 64)))
+pub claim_bit : (a : About) (l : Known) (m e : ℕ) → HasElement a m e → l.locks ≡ [] → in_run (events_of l.cpu l.seen) ≡ true → Steps a l (FreeBits m (e / 64)) (λ n. bit_and n (2 ^ 64 - 1 - 2 ^ (e % 64)))
     (λ ws n l'. (bit_at n (e % 64) ≡ 1 → l' ≡ holding l m e) × (bit_at n (e % 64) ≡ 0 → l' ≡ l))
-claim_bit a l m e at_e unlocked ws g sized r is inside fits = dite (ℕ_discrete (bit_at (w (FreeBits m (e / 64))) (e % 64)) 1)
-    (λ one. next_as _ _ _ _ _ _ (λ q t. ((λ _. t), (λ z. absurd (omega arith)))) (claim_next a l m e at_e ws g r is inside unlocked (free_or a l m e at_e ws g r is inside one)))
+claim_bit a l m e at_e unlocked runs ws g sized r is inside fits = dite (ℕ_discrete (bit_at (w (FreeBits m (e / 64))) (e % 64)) 1)
+    (λ one. next_as _ _ _ _ _ _ (λ q t. ((λ _. t), (λ z. absurd (omega arith)))) (claim_next a l m e at_e ws g r is inside unlocked runs (free_or a l m e at_e ws g r is inside one)))
     (λ ne. miss_next a l m e at_e ws g r is inside (let z = bit_at-lt (w (FreeBits m (e / 64))) (e % 64) in grind arith) _ ((λ one. absurd (ne one)), (λ _. refl)))
   where
     w : Place → ℕ

@@ -20,10 +20,12 @@ use Rattle.hop_words.specs.Layout.{mem, put_at, size}
 use Rattle.hop_words.specs.Content.{MapWords, place_words, Agrees, Reached}
 use Rattle.hop_words.specs.Ghost.{segment_in, Leaving, Within, Carries, lane, Ghost, shape_at, IsSegment, Each}
 use Rattle.hop_words.specs.Rule.{Rule, Segment, IsSoundReading, Readings, IsPeek, numbered, Runs, Batched, Valued}
+use Rattle.hop_words.specs.Shortage.{HasHadValue}
 use Rattle.hop_words.specs.Step.{Next, Steps}
 use Rattle.hop_words.specs.Kinds.{Saw, noting, peeking, FindsByPeeks, found_span}
 use Rattle.hop_words.proofs.Small.{equal}
 use Rattle.hop_words.proofs.Histories.{logged_event, prefix_refl}
+use Rattle.hop_words.proofs.Shortages.{shown_more}
 use Rattle.hop_words.proofs.Comes.{in_limbo}
 use Rattle.hop_words.proofs.Stays.{put_again, stay, saw, running_is, map_there, quiet_after, number_once, worn_more}
 
@@ -54,6 +56,7 @@ module _ (a : About) (w : Place → ℕ) (g : Ghost) (r : Rule a w g) (c : ℕ) 
     reading = put_readings rs own;
     held = r.held;
     valued = r.valued;
+    shown = r.shown;
   }
 
   read_next : (p : Place) (told : Known → Type 0) (rs : List Reading) → Each (IsSoundReading a g.eras) rs → told (record (lane g.lanes c) { readings = rs }) → Next a (put_at w p (w p)) g c told
@@ -164,6 +167,10 @@ module _ (a : About) (w : Place → ℕ) (g : Ghost) (r : Rule a w g) (c m : ℕ
   maps_same None = refl
   maps_same (Some e) = refl
 
+  looked_had : (o : Option ℕ) (p : Span) → HasHadValue g.last p → HasHadValue (looking o) p
+  looked_had None p h = h
+  looked_had (Some e) p h = h
+
   -- the rule after a lookup, whatever else its lane has by then
   pub looked_rule : (o : Option ℕ) (key : List ℕ) (inside : c < a.shape.cpus) → g.linked m key ≡ o → (sp : Option Span) → Allowed g.last c (Lookup m key sp) (looking o) → Rule a w (record g { log = g.log ++ entry c (Lookup m key sp) ∷ []; last = looking o; lanes = record g.lanes { seen = put g.lanes.seen c (g.log ++ entry c (Lookup m key sp) ∷ []) } })
   looked_rule o key inside is sp may = record {
@@ -181,6 +188,7 @@ module _ (a : About) (w : Place → ℕ) (g : Ghost) (r : Rule a w g) (c m : ℕ
     reading = r.reading;
     held = r.held;
     valued = looked_valued o key is;
+    shown = shown_more a g.log (entry c (Lookup m key sp) ∷ []) g.last (looking o) g.lanes.fresh g.lanes.tally g.holder (looked_had o) r.shown;
   }
     where
       quiet_runs : Runs a (λ d. w (RunCount d)) (g.log ++ entry c (Lookup m key sp) ∷ [])

@@ -1,8 +1,10 @@
 -- A step of any kind, as the lane notes it.
-use Rattle.std.proofs.Common.{◌≡◌, ◌≢◌, ℕ, ◌+◌, ◌<◌, ◌/◌, ◌%◌, ◌^◌, ◌-◌, ◌==◌, if◌then◌else◌, List, [], ◌∷◌, Option, length, slice_index, bit_and, bit_or, refl, ap, sym, subst, ◌∙◌, eq-eqb, ne_eqb, ⊎_elim, arith}
+use Rattle.std.proofs.Common.{◌≡◌, ◌≢◌, ℕ, ◌+◌, ◌<◌, ◌/◌, ◌%◌, ◌^◌, ◌-◌, ◌==◌, if◌then◌else◌, Bool, true, List, [], ◌∷◌, Option, length, slice_index, bit_and, bit_or, refl, ap, sym, subst, ◌∙◌, eq-eqb, ne_eqb, ⊎_elim, arith}
 use Rattle.std.specs.Int.{bit_at}
 use prog.Atomic.{either}
 use Rattle.bpf_shared.specs.Store.{put}
+use Rattle.bpf_shared.specs.History.{events_of}
+use Rattle.bpf_shared.specs.Own.{in_run}
 use Rattle.hop_words.specs.declared.place.Place.{Place}
 use Rattle.hop_words.specs.declared.place.Place.TheVariants.{RunCount, FreeBits, Stamp}
 use Rattle.hop_words.specs.declared.known.About.{About}
@@ -14,8 +16,10 @@ use Rattle.hop_words.specs.Ghost.{lane, Ghost, HasElement, IsSegment, limbo_at}
 use Rattle.hop_words.specs.Sights.{sight, look, lock_taken, bit_cleared, bit_set, sighted}
 use Rattle.hop_words.specs.Step.{Noted, Next, Steps, Notes, NotesTaken}
 use Rattle.hop_words.specs.Kinds.{holding, cleared, noting, giving_old, Passed, StampSeen, StampSeenAgain, FindsByPeeks, LocksSegment}
-use Rattle.hop_words.specs.Owning.{ClaimsBit, GivesFresh, IsInHand, tail_of, LooksAgain}
+use Rattle.hop_words.specs.Owning.{ClaimsBit, GivesFresh, IsInHand, LooksAgain}
 use Rattle.hop_words.proofs.Small.{equal}
+use Rattle.hop_words.proofs.Shortages.{shown_noted}
+use Rattle.hop_words.proofs.Locks.{put_here}
 use Rattle.hop_words.proofs.Stays.{next_as, stay}
 use Rattle.hop_words.proofs.Owners.{claim_bit, mask_kept}
 use Rattle.hop_words.proofs.Turns.{see_counter_again}
@@ -24,14 +28,14 @@ use Rattle.hop_words.proofs.Gives.{give_old}
 use Rattle.hop_words.proofs.Readings.{AgainSeen, see_stamp, see_again}
 use Rattle.hop_words.proofs.Locks.{lock}
 
-module _ (a : About) (w : Place → ℕ) (g : Ghost) (c : ℕ) (told said : Known → Type 0) (s : Sight) (less : (x : Known) → told x → said (sighted x s)) (n : Next a w g c told) where
+module _ (a : About) (w : Place → ℕ) (g : Ghost) (c : ℕ) (told said : Known → Type 0) (s : Sight) (less : (x : Known) → told x → said (sighted x s)) (left : w s.place ≡ s.left) (n : Next a w g c told) where
   abbrev noted_ghost : Ghost
   noted_ghost = record n.ghost { lanes = record n.ghost.lanes { tally = put n.ghost.lanes.tally c (s ∷ n.ghost.lanes.tally c) } }
 
   noted_lane : lane noted_ghost.lanes c ≡ sighted (lane n.ghost.lanes c) s
   noted_lane = rw (eq-eqb c c refl) refl
 
-  -- the sight goes in front, and the rule says nothing of it
+  -- the sight goes in front: what it left is the word of its place by now
   noted_next : Noted a w g c (s ∷ []) said
   noted_next = record {
     ghost = noted_ghost;
@@ -50,6 +54,7 @@ module _ (a : About) (w : Place → ℕ) (g : Ghost) (c : ℕ) (told said : Know
       held = n.rule.held;
       reading = n.rule.reading;
       valued = n.rule.valued;
+      shown = shown_noted a w n.ghost n.rule c s left;
     };
     others = λ d ne. rw (ne_eqb d c ne) (n.others d ne);
     longer = n.longer;
@@ -62,7 +67,7 @@ module _ (a : About) (l : Known) (p : Place) (f : ℕ → ℕ) (told said : List
   pub noted_as : ((ws : List ℕ) (n : ℕ) (x : Known) → n < 18446744073709551616 → told ws n x → said ws n (sighted x (sight p n (f n)))) → Steps a l p f told → Notes a l p f said
   noted_as less step ws g sized r is inside fits =
       let n = mem a.shape ws p in
-      noted_next a (put_at (mem a.shape ws) p (f n)) g l.cpu (told ws n) (said ws n) (sight p n (f n)) (λ x. less ws n x fits) (step ws g sized r is inside fits)
+      noted_next a (put_at (mem a.shape ws) p (f n)) g l.cpu (told ws n) (said ws n) (sight p n (f n)) (λ x. less ws n x fits) (put_here (mem a.shape ws) p (f n)) (step ws g sized r is inside fits)
 
 -- a compare-exchange that is noted where it takes effect
 module _ (a : About) (l : Known) (p : Place) (old new : ℕ) (told said : List ℕ → ℕ → Known → Type 0) where
@@ -74,7 +79,7 @@ module _ (a : About) (l : Known) (p : Place) (old new : ℕ) (told said : List �
       let next = step ws g sized r is inside fits in
       ⊎_elim
       (λ (same : n ≡ old). subst (λ (z : List Sight). Noted a w g l.cpu z (said ws n)) (sym (ap (λ b. if b then sight p n new ∷ [] else []) (eq-eqb n old same)))
-      (noted_next a w g l.cpu (told ws n) (said ws n) (sight p n new) (λ x. took ws n x same) next))
+      (noted_next a w g l.cpu (told ws n) (said ws n) (sight p n new) (λ x. took ws n x same) (put_here (mem a.shape ws) p (either (n == old) new n) ∙ ap (λ (b : Bool). either b new n) (eq-eqb n old same)) next))
       (λ (ne : n ≢ old). subst (λ (z : List Sight). Noted a w g l.cpu z (said ws n)) (sym (ap (λ b. if b then sight p n new ∷ [] else []) (ne_eqb n old ne)))
       (next_as a w g l.cpu (told ws n) (said ws n) (λ x. missed ws n x ne) next))
       (equal n old)
@@ -84,21 +89,19 @@ pub sees_bits : (a : About) (l : Known) (m i : ℕ) → Notes a l (FreeBits m i)
 sees_bits a l m i = noted_as a l (FreeBits m i) (λ n. n) (λ ws n x. x ≡ l) (λ ws n l'. l' ≡ sighted l (look (FreeBits m i) n)) (λ ws n x fits t. ap (λ (y : Known). sighted y (look (FreeBits m i) n)) t)
     (λ ws g sized r is inside fits. stay a (mem a.shape ws) g l.cpu (FreeBits m i) (λ x. x ≡ l) r is)
 
-pub claims : (a : About) (l : Known) (m e : ℕ) → HasElement a m e → l.locks ≡ [] → Notes a l (FreeBits m (e / 64)) (λ n. bit_and n (2 ^ 64 - 1 - 2 ^ (e % 64))) (λ ws n l'. ClaimsBit l m e n l')
-claims a l m e at_e unlocked = noted_as a l (FreeBits m (e / 64)) (λ n. bit_and n (2 ^ 64 - 1 - 2 ^ (e % 64))) (λ ws n x. Told n x) (λ ws n l'. ClaimsBit l m e n l')
+pub claims : (a : About) (l : Known) (m e : ℕ) → HasElement a m e → l.locks ≡ [] → in_run (events_of l.cpu l.seen) ≡ true → Notes a l (FreeBits m (e / 64)) (λ n. bit_and n (2 ^ 64 - 1 - 2 ^ (e % 64))) (λ ws n l'. ClaimsBit l m e n l')
+claims a l m e at_e unlocked runs = noted_as a l (FreeBits m (e / 64)) (λ n. bit_and n (2 ^ 64 - 1 - 2 ^ (e % 64))) (λ ws n x. Told n x) (λ ws n l'. ClaimsBit l m e n l')
     (λ ws n x fits t. (
       (λ one. ap (λ (y : Known). sighted y (bit_cleared m e n)) (t.0 one)),
       (λ none. (λ i. sighted (t.1 none i) (sight (FreeBits m (e / 64)) n (mask_kept n (e % 64) fits (omega arith) none i)))),
     ))
-    (claim_bit a l m e at_e unlocked)
+    (claim_bit a l m e at_e unlocked runs)
   where
     Told : ℕ → Known → Type 0
     Told n y = (bit_at n (e % 64) ≡ 1 → y ≡ holding l m e) × (bit_at n (e % 64) ≡ 0 → y ≡ l)
 
 pub gives_fresh : (a : About) (l : Known) (m e : ℕ) → HasElement a m e → IsInHand l m e → Notes a l (FreeBits m (e / 64)) (λ n. bit_or n (2 ^ (e % 64))) (λ ws n l'. GivesFresh l m e n l')
-gives_fresh a l m e at_e hand = noted_as a l (FreeBits m (e / 64)) (λ n. bit_or n (2 ^ (e % 64))) (λ ws n x. x ≡ record l { fresh = tail_of l.fresh }) (λ ws n l'. GivesFresh l m e n l')
-    (λ ws n x fits t. ap (λ (y : Known). sighted y (bit_set m e n)) t)
-    (gives a l m e at_e hand)
+gives_fresh a l m e at_e hand = gives a l m e at_e hand
 
 pub gives_old : (a : About) (l : Known) (m e : ℕ) (es : List ℕ) → a.count % 2 ≡ 0 → HasElement a m e → m < length l.limbo → Passed a l m e es → Notes a l (FreeBits m (e / 64)) (λ n. bit_or n (2 ^ (e % 64))) (λ ws n l'. l' ≡ sighted (giving_old l m es) (bit_set m e n))
 gives_old a l m e es even at_e room passed = noted_as a l (FreeBits m (e / 64)) (λ n. bit_or n (2 ^ (e % 64))) (λ ws n x. x ≡ giving_old l m es) (λ ws n l'. l' ≡ sighted (giving_old l m es) (bit_set m e n))

@@ -4,7 +4,7 @@ use native.Mathlib.Decide.{ℕ_discrete}
 use mathlib.Core.Logic.{dite}
 use Rattle.bpf_shared.specs.declared.events.Event.{Event}
 use Rattle.bpf_shared.specs.declared.events.Event.TheVariants.{Begin, End}
-use Rattle.bpf_shared.specs.Store.{Plain, put, never}
+use Rattle.bpf_shared.specs.Store.{Value, Plain, put, never}
 use Rattle.bpf_shared.specs.Events.{Allowed, after_begin, after_end}
 use Rattle.bpf_shared.specs.History.{entry, events_of}
 use Rattle.bpf_shared.proofs.Puts.{put-same, put-other}
@@ -22,6 +22,7 @@ use Rattle.hop_words.specs.Shortage.{HasCause}
 use Rattle.hop_words.specs.Step.{Next, Steps}
 use Rattle.hop_words.specs.Kinds.{run_count, Told, noting_next, ageing, cleared, limbo_set}
 use Rattle.hop_words.proofs.Small.{equal}
+use Rattle.hop_words.proofs.Shortages.{shown_more}
 use Rattle.hop_words.proofs.Histories.{logged_event, runs_as_known, turns_own, turns_else, prefix_refl}
 use Rattle.hop_words.proofs.Goes.{limbo_put}
 use Rattle.hop_words.proofs.Locks.{put_here}
@@ -38,7 +39,7 @@ module _ (a : About) (l : Known) (w : Place → ℕ) (g : Ghost) (r : Rule a w g
   pub runs_now : g.last.running l.cpu ≡ in_run (events_of l.cpu l.seen)
   runs_now = runs_as_known a l.cpu g.last g.log l.seen r.logged.legal own
 
-  module _ (e : Event) (once : turns_of (e ∷ []) ≡ 1) (t : Plain) (may : Allowed g.last l.cpu e t) (cause : HasCause a.version g.log e) (n : ℕ) (up : n ≡ w (RunCount l.cpu) + 1)
+  module _ (e : Event) (once : turns_of (e ∷ []) ≡ 1) (t : Plain) (may : Allowed g.last l.cpu e t) (cause : HasCause a.shape a.version g.log l.cpu e) (n : ℕ) (up : n ≡ w (RunCount l.cpu) + 1)
       (maps : t.maps ≡ g.last.maps) (made : t.made ≡ g.last.made) (value : t.value ≡ g.last.value) (holds : t.held ≡ put g.last.held l.cpu never) where
     abbrev g2 : Ghost
     g2 = record g { log = g.log ++ entry l.cpu e ∷ []; last = t; lanes = record g.lanes { seen = put g.lanes.seen l.cpu (g.log ++ entry l.cpu e ∷ []) } }
@@ -90,6 +91,7 @@ module _ (a : About) (l : Known) (w : Place → ℕ) (g : Ghost) (r : Rule a w g
         older = λ m x at_x has. subst (λ (k : ℕ). g.number m x < k) (sym made) (r.valued.older m x at_x has);
         held_in = λ d v h. r.valued.held_in d v (still d v h).1;
       };
+      shown = shown_more a g.log (entry l.cpu e ∷ []) g.last t g.lanes.fresh g.lanes.tally g.holder (λ p h. (h.0, subst (λ (k : ℕ). h.0 < k) (sym made) h.1, ap (λ (f : ℕ → Value). (f h.0).span) value ∙ h.2)) r.shown;
     }
 
     pub turn_next : Next a (put_at w (RunCount l.cpu) n) g l.cpu (Told a l e)
@@ -164,6 +166,7 @@ module _ (a : About) (l : Known) (m : ℕ) (room : m < length l.limbo) (x : Limb
       reading = r.reading;
       held = r.held;
       valued = r.valued;
+      shown = r.shown;
     });
     others = λ d ne. rw (ne_eqb d l.cpu ne) refl;
     longer = prefix_refl g.log;

@@ -1,12 +1,12 @@
 -- Unlock: with what was written, with an answer that changed nothing, and with a replacement.
-use Rattle.std.proofs.Common.{◌≡◌, ◌≢◌, ℕ, ◌+◌, ◌/◌, ◌<◌, ◌≤◌, Bool, true, false, not, ◌&&◌, cond, List, [], ◌∷◌, ◌++◌, Option, Some, None, is_some, ◌==◌, length, set, take, refl, ap, sym, subst, ◌∙◌, arith, eq-eqb, ne_eqb, ⊎_elim}
+use Rattle.std.proofs.Common.{◌≡◌, ◌≢◌, ℕ, ◌+◌, ◌/◌, ◌<◌, ◌≤◌, Bool, true, false, not, ◌&&◌, cond, List, [], ◌∷◌, ◌++◌, Option, Some, None, is_some, ◌==◌, length, set, take, refl, ap, sym, subst, ◌∙◌, arith, eq-eqb, ne_eqb, ⊎_elim, inl, inr}
 use Rattle.std.proofs.lemmas.Bool.Decides.{nat_tests}
 use Rattle.std.proofs.lemmas.Cmp.{nat_list_cmp_total}
 use Rattle.std.specs.FinMap.{get, insert, len, len-insert}
 use Rattle.bpf_shared.specs.declared.events.Event.{Event}
 use Rattle.bpf_shared.specs.declared.events.Event.TheVariants.{Update, Lookup, Delete}
 use Rattle.bpf_shared.specs.declared.events.Entry.{Entry}
-use Rattle.bpf_shared.specs.declared.events.MapAnswer.TheVariants.{Done, Busy}
+use Rattle.bpf_shared.specs.declared.events.MapAnswer.TheVariants.{Done, Busy, NoMemory}
 use Rattle.bpf_shared.specs.Shape.{element_span}
 use Rattle.bpf_shared.specs.Store.{Plain, Keys, Value, put}
 use Rattle.bpf_shared.specs.Events.{Allowed, after_update}
@@ -24,14 +24,15 @@ use Rattle.hop_words.specs.Layout.{mem, put_at, words_for}
 use Rattle.hop_words.specs.Homes.{segment_of, bytes_of_words}
 use Rattle.hop_words.specs.Content.{place_words}
 use Rattle.hop_words.specs.Ghost.{segment_in, Holder, Filling, Leaving, Within, lane, Era, Ghost, shape_at, HasElement, limbo_at}
-use Rattle.hop_words.specs.Shortage.{done_in, HasCause}
-use Rattle.hop_words.specs.Rule.{Rule, Minded, put_key, changed, owed, Holds, numbered, Keyed, Owned, Linked}
+use Rattle.hop_words.specs.Shortage.{done_in, HasHadValue, HasCause}
+use Rattle.hop_words.specs.Rule.{Rule, times_fresh, Minded, put_key, changed, owed, Holds, numbered, Keyed, Owned, Linked}
 use Rattle.bpf_shared.specs.Own.{turns_of}
 use Rattle.hop_words.specs.Step.{Next, Steps}
-use Rattle.hop_words.specs.Kinds.{Replaces, Replaced, Answers, Answered, ShowsWorn, IsWritten, unlocking, with_gone, LooksUpLocked, LookedUp, found_span}
+use Rattle.hop_words.specs.Kinds.{Replaces, Replaced, Answers, Answered, ShowsShortage, IsWritten, unlocking, with_gone, LooksUpLocked, LookedUp, found_span}
 use Rattle.hop_words.proofs.Small.{equal_keys, equal, here_or, put2-same, put2-other, put_key-same, put_key-other}
 use Rattle.hop_words.proofs.Spelling.{value_spelled}
 use Rattle.hop_words.proofs.Histories.{logged_event, prefix_refl, done_in-append}
+use Rattle.hop_words.proofs.Shortages.{begun_more, had_update, new_update, shown_step, shown_more, who_put, hand_rest, lack_cause}
 use Rattle.hop_words.proofs.Comes.{leads_new, in_hand, now_old, now_new, linked_comes, owned_comes, batched_comes, filled_rest, valued_comes}
 use Rattle.hop_words.proofs.Goes.{with_used, owned_goes, cut_old, linked_goes, batched_goes, valued_goes}
 use Rattle.hop_words.proofs.Locks.{holds, unlocked, unlock_new, unlock_same}
@@ -72,7 +73,7 @@ unlock_silent a l k held clean ws g sized r is inside fits =
 abbrev pub noted_event : Ghost → ℕ → Event → Ghost
 noted_event g c e = record g { log = g.log ++ entry c e ∷ []; lanes = record g.lanes { seen = put g.lanes.seen c (g.log ++ entry c e ∷ []) } }
 
-pub event_rule : (a : About) (w : Place → ℕ) (g : Ghost) (r : Rule a w g) (l : Known) (inside : l.cpu < a.shape.cpus) (e : Event) → turns_of (e ∷ []) ≡ 0 → HasCause a.version g.log e → Allowed g.last l.cpu e g.last → Rule a w (noted_event g l.cpu e)
+pub event_rule : (a : About) (w : Place → ℕ) (g : Ghost) (r : Rule a w g) (l : Known) (inside : l.cpu < a.shape.cpus) (e : Event) → turns_of (e ∷ []) ≡ 0 → HasCause a.shape a.version g.log l.cpu e → Allowed g.last l.cpu e g.last → Rule a w (noted_event g l.cpu e)
 event_rule a w g r l inside e quiet cause may = record {
   shaped = r.shaped;
   logged = logged_event a g.lanes.seen g.log g.last g.last l.cpu e r.logged inside cause may;
@@ -88,13 +89,16 @@ event_rule a w g r l inside e quiet cause may = record {
   reading = r.reading;
   held = r.held;
   valued = r.valued;
+  shown = shown_more a g.log (entry l.cpu e ∷ []) g.last g.last g.lanes.fresh g.lanes.tally g.holder (λ p h. h) r.shown;
 }
 
--- a version that is used up at the lock has been paid for
-worn_cause : (a : About) (k : Lock) (log : List Entry) (e : Event) → ShowsWorn k e → k.stamp / 256 ≤ a.version + done_in k.map log → HasCause a.version log e
-worn_cause a k log (Update m key bytes flags Busy) s paid = let d : done_in m log ≡ done_in k.map log = ap (λ (j : ℕ). done_in j log) s.0 in let t = s.1 in omega arith
-worn_cause a k log (Delete m key Busy) s paid = let d : done_in m log ≡ done_in k.map log = ap (λ (j : ℕ). done_in j log) s.0 in let t = s.1 in omega arith
-worn_cause a k log e s paid = tt
+-- a version that is used up at the lock has been paid for, and an element that isn't to be had may be taken
+shortage_cause : (a : About) (w : Place → ℕ) (g : Ghost) → Rule a w g → (l : Known) (k : Lock) → lane g.lanes l.cpu ≡ l → l.cpu < a.shape.cpus → k.map < length a.shape.maps → k.stamp / 256 ≤ a.version + done_in k.map g.log
+    → (e : Event) → ShowsShortage a l k e → HasCause a.shape a.version g.log l.cpu e
+shortage_cause a w g r l k is inside in_map paid (Update m key bytes flags Busy) s = let d : done_in m g.log ≡ done_in k.map g.log = ap (λ (j : ℕ). done_in j g.log) s.0 in let t = s.1 in omega arith
+shortage_cause a w g r l k is inside in_map paid (Update m key bytes flags NoMemory) s = lack_cause a w g r l m is inside (subst (λ (j : ℕ). j < length a.shape.maps) (sym s.0) in_map) s.1
+shortage_cause a w g r l k is inside in_map paid (Delete m key Busy) s = let d : done_in m g.log ≡ done_in k.map g.log = ap (λ (j : ℕ). done_in j g.log) s.0 in let t = s.1 in omega arith
+shortage_cause a w g r l k is inside in_map paid e s = tt
 
 pub unlock_answer : (a : About) (l : Known) (k : Lock) (e : Event) → Answers a l k e → Steps a l (Stamp k.map k.segment) (λ _. k.stamp) (λ ws n l'. Answered a l k e l')
 unlock_answer a l k e i ws g sized r is inside fits = record {
@@ -128,8 +132,8 @@ unlock_answer a l k e i ws g sized r is inside fits = record {
         let y : w (Stamp k.map k.segment) / 256 ≡ (k.stamp + 1) / 256 = ap (λ (j : ℕ). j / 256) o in
         omega arith
 
-    cause : HasCause a.version g.log e
-    cause = worn_cause a k g.log e i.worn paid
+    cause : HasCause a.shape a.version g.log l.cpu e
+    cause = shortage_cause a w g r l k is inside h.inside.0 paid e i.shortage
 
     worn_told : k.stamp / 256 ≤ a.version + done_in k.map log'
     worn_told =
@@ -407,6 +411,12 @@ module _ (a : About) (l : Known) (k : Lock) (f : Fresh) (rest : List Fresh) (key
     held = effect_held a l k i.filled.lock w g r is i.filled.nothing (Puts key e) linked2 holder2 effect inside;
     valued = valued_comes a l.cpu m e s key holder1 was1 _ g.last.made g.last.value g.last.held g.number x
         (valued_goes a l.cpu m o s key g.holder was_o _ g.last.made g.last.value g.last.held g.number r.valued) spelled_is;
+    shown = shown_step a g.log log' g.last last' g.lanes.fresh (put g.lanes.fresh l.cpu rest) g.lanes.tally g.holder holder2 (λ d. begun_more d g.log (entry l.cpu event ∷ [])) (had_update g.last m key x)
+        (λ n d c at is. inl (who_put g.holder m o (Leaving l.cpu) (λ c q. cc) n d c (who_put holder1 m e (Within s) (λ c q. cc) n d c is)))
+        (λ b n d inb at has. ⊎_elim
+        (λ (h : (n ≡ f.map) × (d ≡ f.element)). inl (subst (HasHadValue last') (λ j. element_span ((sym i.filled.map ∙ sym h.0) j) (shape_at a ((sym i.filled.map ∙ sym h.0) j)) (sym h.1 j)) (new_update g.last m key x)))
+        (λ (h : 1 ≤ times_fresh n d (put g.lanes.fresh l.cpu rest b)). inr h)
+        (hand_rest g.lanes.fresh l.cpu f rest hand b n d has)) r.shown;
   }
 
   abbrev l2 : Known

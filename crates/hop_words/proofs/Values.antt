@@ -34,6 +34,7 @@ use Rattle.hop_words.proofs.Holdings.{holds_as_known}
 use Rattle.hop_words.proofs.Comes.{filling_most}
 use Rattle.hop_words.proofs.WordBytes.{value_put, value_part}
 use Rattle.hop_words.proofs.Locks.{put_else}
+use Rattle.hop_words.proofs.Shortages.{had_write, shown_more}
 use Rattle.hop_words.proofs.Unlocks.{noted_event, event_rule}
 use Rattle.hop_words.proofs.Stays.{put_again, stay, next_as, saw, running_is, quiet_after, span_once, number_once, worn_more}
 
@@ -153,7 +154,7 @@ module _ (a : About) (l : Known) (m e k o b : ℕ) (i : Touches a l m e k o b) (
     abbrev g2 : Event → Ghost
     g2 ev = record g { log = g.log ++ entry l.cpu ev ∷ []; last = last2; lanes = record g.lanes { seen = put g.lanes.seen l.cpu (g.log ++ entry l.cpu ev ∷ []) } }
 
-    write_rule : (ev : Event) → turns_of (ev ∷ []) ≡ 0 → HasCause a.version g.log ev → Allowed g.last l.cpu ev last2 → Rule a w2 (g2 ev)
+    write_rule : (ev : Event) → turns_of (ev ∷ []) ≡ 0 → HasCause a.shape a.version g.log l.cpu ev → Allowed g.last l.cpu ev last2 → Rule a w2 (g2 ev)
     write_rule ev quiet cause may = record {
       shaped = r.shaped;
       logged = logged_event a g.lanes.seen g.log g.last last2 l.cpu ev r.logged inside cause may;
@@ -169,9 +170,10 @@ module _ (a : About) (l : Known) (m e k o b : ℕ) (i : Touches a l m e k o b) (
       reading = r.reading;
       held = r.held;
       valued = valued2;
+      shown = shown_more a g.log (entry l.cpu ev ∷ []) g.last last2 g.lanes.fresh g.lanes.tally g.holder (had_write g.last v (value_at a m e k o) b y) r.shown;
     }
 
-    pub write_next : (ev : Event) → turns_of (ev ∷ []) ≡ 0 → HasCause a.version g.log ev → Allowed g.last l.cpu ev last2 → Next a w2 g l.cpu (Told a l ev)
+    pub write_next : (ev : Event) → turns_of (ev ∷ []) ≡ 0 → HasCause a.shape a.version g.log l.cpu ev → Allowed g.last l.cpu ev last2 → Next a w2 g l.cpu (Told a l ev)
     write_next ev quiet cause may = record {
       ghost = g2 ev;
       rule = write_rule ev quiet cause may;

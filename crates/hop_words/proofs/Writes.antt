@@ -128,6 +128,7 @@ module _ (a : About) (l : Known) (k : Lock) (held : l.locks ≡ k ∷ []) (p : P
         stays = λ i even le eq. absurd (let o = is_odd a l k held w g r is in let z = eq ∙ ap (λ (y : Era). y.era) now_era in omega arith);
       }) r.reading;
       valued = subst (λ x. Valued a x g.last.made g.last.value g.last.held g.holder g.number) (sym same.values_same) r.valued;
+      shown = r.shown;
     };
     others = λ d ne. rw (ne_eqb d l.cpu ne) refl;
     longer = prefix_refl g.log;

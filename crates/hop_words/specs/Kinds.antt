@@ -3,7 +3,7 @@ use Rattle.std.specs.Prelude.{◌⊎◌, ◌≡◌, ◌≢◌, ℕ, ◌+◌, ◌
 use Rattle.bpf_shared.specs.declared.events.Entry.{Entry}
 use Rattle.bpf_shared.specs.declared.events.Event.{Event}
 use Rattle.bpf_shared.specs.declared.events.Event.TheVariants.{Begin, End, Lookup, Update, Delete}
-use Rattle.bpf_shared.specs.declared.events.MapAnswer.TheVariants.{Done, Busy}
+use Rattle.bpf_shared.specs.declared.events.MapAnswer.TheVariants.{Done, Busy, NoMemory}
 use Rattle.bpf_shared.specs.declared.events.Span.{Span}
 use Rattle.bpf_shared.specs.Shape.{elements, element_span}
 use Rattle.std.specs.FinMap.{get}
@@ -22,7 +22,7 @@ use Rattle.hop_words.specs.declared.known.Reading.{Reading}
 use Rattle.hop_words.specs.declared.known.Peek.{Peek}
 use Rattle.hop_words.specs.declared.known.Change.TheVariants.{Nothing, Puts, Drops}
 use Rattle.hop_words.specs.Layout.{words_for, at, size}
-use Rattle.hop_words.specs.Sights.{look, lock_taken, sighted}
+use Rattle.hop_words.specs.Sights.{IsTakenSince, look, lock_taken, sighted}
 use Rattle.hop_words.specs.Homes.{word_of, AreBytes}
 use Rattle.hop_words.specs.Content.{MapWords, IsShare}
 use Rattle.hop_words.specs.Ghost.{segment_in, shape_at, HasElement, Each, limbo_at}
@@ -267,11 +267,19 @@ pub record Replaced (a : About) (l : Known) (k : Lock) (rest : List Fresh) (key 
     locks = [];
   }
 
--- Busy only of the locked segment's map, and only where that has its last version
-abbrev pub ShowsWorn : Lock → Event → Type 0
-ShowsWorn k (Update m key bytes flags Busy) = (m ≡ k.map) × (2 ^ 56 - 1 ≤ k.stamp / 256)
-ShowsWorn k (Delete m key Busy) = (m ≡ k.map) × (2 ^ 56 - 1 ≤ k.stamp / 256)
-ShowsWorn k e = Unit {0}
+-- with no element in hand the lane saw each element of the map not free, since it last took one or
+-- gave one back
+pub record SawAllTaken (a : About) (l : Known) (m : ℕ) : Type 0 where
+  pub hand : l.fresh ≡ []
+  pub taken : (e : ℕ) → e < elements (shape_at a m) → IsTakenSince l.tally m e
+
+-- Busy only where the locked segment has its last version, NoMemory only where the lane saw each
+-- element of the map not free
+abbrev pub ShowsShortage : About → Known → Lock → Event → Type 0
+ShowsShortage a l k (Update m key bytes flags Busy) = (m ≡ k.map) × (2 ^ 56 - 1 ≤ k.stamp / 256)
+ShowsShortage a l k (Update m key bytes flags NoMemory) = (m ≡ k.map) × SawAllTaken a l m
+ShowsShortage a l k (Delete m key Busy) = (m ≡ k.map) × (2 ^ 56 - 1 ≤ k.stamp / 256)
+ShowsShortage a l k e = Unit {0}
 
 -- ---- unlock with the same version: an answer that changed nothing takes effect, whatever the
 -- store is that the lock's words can show
@@ -280,7 +288,7 @@ pub record Answers (a : About) (l : Known) (k : Lock) (e : Event) : Type 0 where
   pub clean : k.dirty ≡ false
   pub quiet : turns_of (e ∷ []) ≡ 0
   pub runs : in_run (events_of l.cpu l.seen) ≡ true
-  pub worn : ShowsWorn k e
+  pub shortage : ShowsShortage a l k e
   pub allowed : (s : Plain) (before : List ℕ → Option ℕ) (number : ℕ → ℕ) → s.shape ≡ a.shape
       → s.running l.cpu ≡ true
       → IsShare a.seed (shape_at a k.map) (segment_in a k.map) (image a k.first) k.map k.segment

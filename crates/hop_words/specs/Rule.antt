@@ -1,6 +1,6 @@
--- The rule that holds between any two steps: five parts, each over the words and the fields of
+-- The rule that holds between any two steps: six parts, each over the words and the fields of
 -- lanes that it names.
-use Rattle.std.specs.Prelude.{◌≡◌, ℕ, ◌+◌, ◌/◌, ◌%◌, ◌<◌, ◌≤◌, Bool, true, false, ◌&&◌, List, [], ◌∷◌, Option, Some, None, length, take, ◌==◌, if◌then◌else◌, slice_index}
+use Rattle.std.specs.Prelude.{◌≡◌, ℕ, ◌⊎◌, ◌+◌, ◌/◌, ◌%◌, ◌<◌, ◌≤◌, Bool, true, false, ◌&&◌, List, [], ◌∷◌, Option, Some, None, length, take, ◌==◌, if◌then◌else◌, slice_index}
 use Rattle.std.specs.Int.{bit_at}
 use Rattle.std.specs.FinMap.{get, len}
 use mathlib.Core.Option.{some}
@@ -19,6 +19,7 @@ use Rattle.hop_words.specs.declared.known.Known.{Known}
 use Rattle.hop_words.specs.declared.known.View.{View}
 use Rattle.hop_words.specs.declared.known.Fresh.{Fresh}
 use Rattle.hop_words.specs.declared.known.Limbo.{Limbo}
+use Rattle.hop_words.specs.declared.known.Sight.{Sight}
 use Rattle.hop_words.specs.declared.known.Lock.{Lock}
 use Rattle.hop_words.specs.declared.known.Reading.{Reading}
 use Rattle.hop_words.specs.declared.known.Peek.{Peek}
@@ -27,7 +28,8 @@ use Rattle.hop_words.specs.declared.known.Change.TheVariants.{Nothing, Puts, Dro
 use Rattle.hop_words.specs.Layout.{size, mem, words_for}
 use Rattle.hop_words.specs.Homes.{bytes_of_words}
 use Rattle.hop_words.specs.Content.{one_if, MapWords, place_words, times, Reached, IsShare, Agrees}
-use Rattle.hop_words.specs.Shortage.{done_in, HaveCauses}
+use Rattle.hop_words.specs.Shortage.{done_in, HasBegun, MayBeTaken, HaveCauses}
+use Rattle.hop_words.specs.Sights.{IsTakenSince}
 use Rattle.hop_words.specs.Ghost.{Holder, Free, Filling, Leaving, Within, is_free, is_filling, is_leaving, Carries, lane, Era, Ghost, shape_at, segment_in, HasElement, IsSegment, limbo_at, Each}
 
 -- ======== history
@@ -40,7 +42,7 @@ pub record Logged (a : About) (seen : ℕ → List Entry) (log : List Entry) (la
     pub begins : (c : ℕ) → c < a.shape.cpus → IsPrefix (seen c) log
     pub own : (c : ℕ) → c < a.shape.cpus → events_of c (seen c) ≡ events_of c log
     pub others : (c : ℕ) → a.shape.cpus ≤ c → events_of c log ≡ []
-    pub causes : HaveCauses a.version log
+    pub causes : HaveCauses a.shape a.version log
 
 abbrev pub numbered : (ℕ → ℕ) → Option ℕ → Option ℕ
 numbered f None = None
@@ -240,6 +242,16 @@ pub record Valued (a : About) (words : ℕ → ℕ → ℕ → ℕ) (made : ℕ)
   pub held_in : (c v : ℕ) → held c v ≡ true → (m : ℕ) × (e : ℕ) × HasElement a m e
       × Carries (holder m e) × (number m e ≡ v)
 
+-- ======== shortage
+
+-- who fills an element has begun a run. An element that a CPU saw not free, since it last took one
+-- of the map or gave one back, may be another's, or the CPU has it in hand itself
+pub record Shown (a : About) (log : List Entry) (last : Plain) (fresh : ℕ → List Fresh)
+    (tally : ℕ → List Sight) (holder : ℕ → ℕ → Holder) : Type 0 where
+  pub begun : (m e c : ℕ) → HasElement a m e → holder m e ≡ Filling c → HasBegun c log
+  pub taken : (c m e : ℕ) → c < a.shape.cpus → HasElement a m e → IsTakenSince (tally c) m e
+      → MayBeTaken a.shape log last c m e ⊎ (1 ≤ times_fresh m e (fresh c))
+
 -- ======== the rule
 
 pub record Rule (a : About) (w : Place → ℕ) (g : Ghost) : Type 0 where
@@ -265,6 +277,8 @@ pub record Rule (a : About) (w : Place → ℕ) (g : Ghost) : Type 0 where
   -- values
   pub valued : Valued a (λ m e k. w (ValueWord m e k)) g.last.made g.last.value g.last.held g.holder
       g.number
+  -- shortage
+  pub shown : Shown a g.log g.last g.lanes.fresh g.lanes.tally g.holder
 
 -- ======== seats
 

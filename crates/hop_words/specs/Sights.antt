@@ -1,5 +1,6 @@
 -- What the noted steps of a CPU show. Each is in the tally as it was made, the last first.
-use Rattle.std.specs.Prelude.{◌≡◌, ℕ, ◌+◌, ◌-◌, ◌/◌, ◌%◌, ◌^◌, bit_and, bit_or, ◌∷◌}
+use Rattle.std.specs.Prelude.{◌≡◌, ◌⊎◌, ℕ, ◌+◌, ◌-◌, ◌/◌, ◌%◌, ◌^◌, bit_and, bit_or, List, [], ◌∷◌}
+use Rattle.std.specs.Int.{bit_at}
 use Rattle.hop_words.specs.declared.place.Place.{Place}
 use Rattle.hop_words.specs.declared.place.Place.TheVariants.{FreeBits, Stamp}
 use Rattle.hop_words.specs.declared.known.Known.{Known}
@@ -30,6 +31,19 @@ bit_cleared m e n = sight (FreeBits m (e / 64)) n (bit_and n (2 ^ 64 - 1 - 2 ^ (
 
 abbrev pub bit_set : ℕ → ℕ → ℕ → Sight
 bit_set m e n = sight (FreeBits m (e / 64)) n (bit_or n (2 ^ (e % 64)))
+
+-- of the map's elements, the step took none and gave none back
+abbrev pub LeavesElements : ℕ → Sight → Type 0
+LeavesElements m s = (i : ℕ) → s.place ≡ FreeBits m i → IsLook s
+
+-- the sight shows that the element wasn't free at that moment
+abbrev pub ShowsTaken : Sight → ℕ → ℕ → Type 0
+ShowsTaken s m e = (s.place ≡ FreeBits m (e / 64)) × (bit_at s.found (e % 64) ≡ 0)
+
+-- it was seen not free since the CPU last took an element of the map or gave one back
+abbrev pub IsTakenSince : List Sight → ℕ → ℕ → Type 0
+IsTakenSince [] m e = ⊥
+IsTakenSince (s ∷ ss) m e = LeavesElements m s × (ShowsTaken s m e ⊎ IsTakenSince ss m e)
 
 -- a place where a step that changes the word need not be noted: so no element is taken or given back,
 -- and no lock is taken, without a sight

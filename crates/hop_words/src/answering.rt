@@ -3,7 +3,7 @@ ghost use Rattle.std.specs.Prelude.{◌≡◌, ◌<◌, ◌+◌, ◌^◌, false,
 ghost use Rattle.bpf_shared.specs.declared.events.Event.TheVariants.{Update, Delete};
 ghost use Rattle.hop_words.specs.Ghost.{IsSegment};
 ghost use Rattle.hop_words.specs.Rule.{owed};
-ghost use Rattle.hop_words.specs.Kinds.{Inserts, Inserted, Removes, Removed, Counts, Misflagged, Told, IsWritten, unlocking, Answers, Answered, LooksUpLocked, LookedUp, Replaces, Replaced};
+ghost use Rattle.hop_words.specs.Kinds.{Inserts, Inserted, Removes, Removed, Counts, Misflagged, Told, IsWritten, unlocking, Answers, Answered, LooksUpLocked, LookedUp, Replaces, Replaced, SawAllTaken};
 ghost use Rattle.hop_words.specs.Owning.{tail_of};
 ghost use Rattle.hop_words.specs.Locking.{lock_of, hand, HasLock, SeesRoom, SeesLack};
 
@@ -99,6 +99,7 @@ impl Lane {
         requires map { (lock_of self.old.known).map ≡ map }
         requires counts { Counts table.now.about self.old.known (lock_of self.old.known) key.now
             value.now flags }
+        requires lacks { SawAllTaken table.now.about self.old.known map }
         ensures table { self.new.table ≡ self.old.table }
         ensures seen { SeesLack table.now.about self.old.known key.now value.now flags result
             self.new.known }

@@ -71,8 +71,8 @@ pub struct Sight {
     pub left: u64,
 }
 
-/// A CPU and all that it knows. Its tally has the steps that were noted, the last first. The rule
-/// says nothing of them: the noted steps of `lane` put them there, and no other step changes them.
+/// A CPU and all that it knows. Its tally has the steps that were noted, the last first: the noted
+/// steps of `lane` put them there, and no other step changes them.
 pub struct Known {
     pub cpu: u8,
     pub seen: LinkedList<Entry>,

@@ -1,6 +1,8 @@
 //! The steps on elements: seeing, claiming and giving back their free bits, and writing the words
 //! of one's own.
-ghost use Rattle.std.specs.Prelude.{ℕ, ◌≡◌, ◌<◌, ◌-◌, ◌/◌, ◌%◌, ◌^◌, [], ◌∷◌, length};
+ghost use Rattle.std.specs.Prelude.{ℕ, ◌≡◌, ◌<◌, ◌-◌, ◌/◌, ◌%◌, ◌^◌, true, [], ◌∷◌, length};
+ghost use Rattle.bpf_shared.specs.History.{events_of};
+ghost use Rattle.bpf_shared.specs.Own.{in_run};
 ghost use Rattle.hop_words.specs.declared.place.Place.TheVariants.{FreeBits};
 ghost use Rattle.hop_words.specs.Sights.{look, sighted};
 ghost use Rattle.hop_words.specs.Layout.{words_for};
@@ -39,11 +41,12 @@ impl Lane {
         self.load_noted::<Brand, _>(table, Place::FreeBits { map, word }, (map, word))
     }
 
-    /// Takes an element if it is free, by one fetch-and, and answers the bits found.
+    /// In a run, takes an element if it is free, by one fetch-and, and answers the bits found.
     pub fn claim_bit(&mut self, table: &HopTable, map: u8, element: u32) -> u64
         requires table { self.old.table ≡ table.now.id }
         requires element { HasElement table.now.about map element }
         requires unlocked { self.old.known.locks ≡ [] }
+        requires runs { in_run (events_of self.old.known.cpu self.old.known.seen) ≡ true }
         ensures table { self.new.table ≡ self.old.table }
         ensures claimed { ClaimsBit self.old.known map element result self.new.known }
     {

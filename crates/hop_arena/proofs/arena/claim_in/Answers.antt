@@ -3,7 +3,7 @@ use Rattle.std.specs.Int.{bit_at, trailing_zeros, w64}
 use Rattle.std.proofs.lemmas.Nat.{and_le_l}
 use Rattle.hop_words.specs.declared.place.Place.TheVariants.{FreeBits}
 use Rattle.hop_words.specs.Sights.{look, bit_cleared}
-use Rattle.hop_arena.proofs.Claiming.{first_look, looks_on, holds_on, look_on, all_taken, lowest, fewer}
+use Rattle.hop_arena.proofs.Claiming.{first_look, looks_on, holds_on, look_on, all_taken, lowest, fewer, looks_runs}
 use Rattle.hop_words.proofs.Sighted.{looks_leave, cleared_leaves}
 use Rattle.hop_arena.proofs.arena.claim_in.Goals as goal
 
@@ -43,3 +43,6 @@ loop-bits-preserved c =
         look_on i.0 c.args.map c.args.word ((64 * c.args.word + trailing_zeros w64 c.loop-bits.bits) / 64) c.loop-bits.bits c.claim_bit-found.result (grind arith) i.2,
       ),
     )
+
+pub claim_bit-found-requires-clause-runs : goal.claim_bit-found-requires-clause-runs
+claim_bit-found-requires-clause-runs c = let i = c.loop-bits.invariant.1 in looks_runs c.args.lane.now.known c.loop-bits.lane.known i.0 i.1 c.requires.runs

@@ -1,8 +1,10 @@
 use Rattle.std.proofs.Common.{ℕ, sym, subst, ◌∙◌}
+use Rattle.hop_words.specs.Kinds.{SawAllTaken}
 use Rattle.hop_map.specs.Calls.{LockShows}
 use Rattle.hop_map.specs.Locks.{with_lock}
 use Rattle.hop_map.specs.Updates.{Wants, Refusal}
 use Rattle.hop_map.proofs.Locking.{of_words, of_parts, empty_fits, locked_contents, locked_wants, refusal_before}
+use Rattle.hop_map.proofs.Wholes.{saw_locked}
 use Rattle.hop_map.proofs.updating.lock_and_refuse.Goals as goal
 
 pub new-words-requires : goal.new-words-requires
@@ -28,3 +30,9 @@ returns-clause-refused g c =
           (of_parts c.new-words.result _ _ _ _ made.about made.known made.map made.segment (λ a l m s. Refusal a l m c.args.key.now c.args.value.now c.args.flags c.refuse.result.1 c.refuse.result.0.known) c.refuse.ensures.refused)),
       c.refuse.ensures.order,
     )
+
+pub refuse-requires-clause-lacks : goal.refuse-requires-clause-lacks
+refuse-requires-clause-lacks g c =
+    let made = c.new-words.ensures in
+    of_words c.new-words.result _ _ _ _ made.about made.known made.map made.segment (λ a l m s. SawAllTaken a l m)
+    (saw_locked c.args.table.now.about c.args.lane.known c.args.map c.homing-at.result.segment c.lock_when_free-stamp.result c.lock_when_free-stamp.new.lane.known c.lock_when_free-stamp.ensures.locked c.requires.lacks)

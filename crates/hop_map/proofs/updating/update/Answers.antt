@@ -5,7 +5,7 @@ use Rattle.hop_words.specs.Ghost.{shape_at}
 use Rattle.hop_words.specs.Sights.{lock_taken}
 use Rattle.hop_map.specs.Whole.{SearchesInVain}
 use Rattle.hop_map.proofs.Keys.{are_bytes}
-use Rattle.hop_map.proofs.Wholes.{pair_at, kept_runs, lacks_of, searched_on, lock_leaves}
+use Rattle.hop_map.proofs.Wholes.{pair_at, kept_runs, lacks_of, searched_on, lock_leaves, saw_all}
 use Rattle.hop_map.proofs.Noted.{update_notes, notes_after}
 use Rattle.hop_map.proofs.updating.update.Goals as goal
 
@@ -66,3 +66,8 @@ returns-in-None-clause-noted g c =
     let kept = c.in-None.ensures.claimed.0 in
     notes_after a c.args.lane.known l1 m key c.args.value.now c.args.flags answer l2 kept.sights.0 c.if-flags-gt2.false kept.sights.1 kept.sights.2
     (update_notes a l1 m key answer l2 refused.0 [] (ap (λ (q : Known). q.tally) refused.1.after) tt refused.2 c.args.value.now c.args.flags c.if-flags-gt2.false)
+
+pub lock_and_refuse-requires-clause-lacks : goal.lock_and_refuse-requires-clause-lacks
+lock_and_refuse-requires-clause-lacks g c =
+    saw_all c.args.table.now.about c.args.lane.known c.args.map c.claim_free.new.lane.known (c.in-None.ensures.claimed.0.fresh ∙ c.requires.rests.fresh)
+    (subst (λ (i : ℕ). SearchesInVain c.args.table.now.about c.args.lane.known i c.claim_free.new.lane.known) c.requires.arena.0 c.in-None.ensures.claimed.1)

@@ -2,6 +2,9 @@ use Rattle.std.proofs.Common.{◌∙◌, arith}
 use Rattle.hop_tests.proofs.RunsMade.{begun, counted, runs_on, counts_on, idle_again}
 use Rattle.hop_tests.proofs.claims.run_once.Goals as goal
 
+pub use_one-alone-requires-clause-runs : goal.use_one-alone-requires-clause-runs
+use_one-alone-requires-clause-runs c = begun c.args.table.now.about c.args.lane.now.known c.begin_run.new.lane.known c.in_ok-begin_run.ensures.begun c.requires.ready.2.idle
+
 pub end_run-requires-clause-running : goal.end_run-requires-clause-running
 end_run-requires-clause-running c =
     runs_on c.begin_run.new.lane.known c.use_one-alone.new.lane.known c.use_one-alone.ensures.still

@@ -1,7 +1,7 @@
 use Rattle.std.proofs.Common.{ℕ, ◌+◌, ◌++◌, sym, subst, ◌∙◌}
 use Rattle.hop_arena.specs.declared.arena.Arena.{Arena}
 use Rattle.hop_arena.specs.Claiming.{Claims, TakesNothing, AreSeenTaken}
-use Rattle.hop_arena.proofs.Claiming.{looks_then, holds_then, words_on, words_kept}
+use Rattle.hop_arena.proofs.Claiming.{looks_then, holds_then, words_on, words_kept, looks_runs}
 use Rattle.hop_words.specs.Sights.{LeavesLocks}
 use Rattle.hop_words.proofs.Sighted.{each-append, looks_leave}
 use Rattle.hop_arena.proofs.arena.Arena.claim.Goals as goal
@@ -48,3 +48,9 @@ before-2-preserved c =
         words_on t.0 i.2.0 c.args.self.now.map c.args.self.now.elements 0 c.before-2.word i.2.3 now,
       ),
     )
+
+pub claim_in-requires-clause-runs : goal.claim_in-requires-clause-runs
+claim_in-requires-clause-runs c = let i = c.after.invariant in looks_runs c.args.lane.now.known c.after.lane.known i.2.0 i.2.1 c.requires.runs
+
+pub claim_in-requires-in-before-2-clause-runs : goal.claim_in-requires-in-before-2-clause-runs
+claim_in-requires-in-before-2-clause-runs c = let i = c.before-2.invariant in looks_runs c.args.lane.now.known c.before-2.lane.known i.2.0 i.2.1 c.requires.runs
