@@ -33,8 +33,8 @@ pub record IsReadyWorker (t : Shown) (programs : ℕ) (w : Worker) : Type 0 wher
 abbrev pub extends : List Event → List Event → List Event → Type 0
 extends before after events = after ≡ before ++ events
 
--- the worker has run its jobs in order, by these events of its CPU; at each of them the CPU noted no
--- more than it may: so a lookup took the lock only after eight disturbed readings of its own
+-- the worker has run its jobs in order, by these events of its CPU; at each of them the CPU noted
+-- no more than it may: so a lookup took the lock only after eight disturbed readings of its own
 pub record Worked (t : Shown) (programs : List Loaded) (w v : Worker) : Type 0 where
   pub before : Port
   pub after : Port

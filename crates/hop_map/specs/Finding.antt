@@ -82,8 +82,8 @@ pub record SeesDisturbances (a : About) (l : Known) (m : ℕ) (key : List ℕ) (
 abbrev pub TakesLock : About → Known → ℕ → List ℕ → Known → Type 0
 TakesLock a l m key l' = (n : ℕ) × (l'.tally ≡ lock_taken m (segment_in a m key) n ∷ l.tally)
 
--- what a lookup may note, the last first: readings that were disturbed, and then one that wasn't; or
--- eight that were disturbed, and only then the lock
+-- what a lookup may note, the last first: readings that were disturbed, and then one that wasn't;
+-- or eight that were disturbed, and only then the lock
 pub record IsSparing (m s : ℕ) (sights : List Sight) : Type 0 where
   pub tries : List (List Sight)
   pub disturbed : Each (λ (x : List Sight). (first : ℕ) × (last : ℕ)

@@ -17,8 +17,8 @@ abbrev pub BusyFirst : ℕ → MapAnswer → Type 0
 BusyFirst stamp Busy = 2 ^ 56 - 1 ≤ stamp / 256
 BusyFirst stamp answer = stamp / 256 < 2 ^ 56 - 1
 
--- the call took one lock, the segment's, and the version that it showed decided whether the answer is
--- Busy
+-- the call took one lock, the segment's, and the version that it showed decided whether the answer
+-- is Busy
 pub record IsUnderLock (m s : ℕ) (answer : MapAnswer) (sights : List Sight) : Type 0 where
   pub stamp : ℕ
   pub sooner : List Sight

@@ -59,8 +59,8 @@ pub record SearchesInVain (a : About) (l : Known) (m : ℕ) (l' : Known) : Type 
       × (slice_index (limbo_at l'.limbo m).noted d % 2 ≡ 1))
   pub taken : (e : ℕ) → e < elements (shape_at a m) → IsSeenTaken later m e
 
--- the CPU looked at its batches of the map: both are empty, or after these sights it saw a CPU still
--- in the run that was noted with the old one
+-- the CPU looked at its batches of the map: both are empty, or after these sights it saw a CPU
+-- still in the run that was noted with the old one
 abbrev pub IsReclaimed : ℕ → List Sight → Known → Type 0
 IsReclaimed m before l' =
     (((limbo_at l'.limbo m).old ≡ []) × ((limbo_at l'.limbo m).young ≡ []))

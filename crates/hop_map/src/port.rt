@@ -66,7 +66,8 @@ impl HopPort {
         requires idle { runs self.old ≡ false }
         ensures in_run { OnOk result (runs self.new ≡ true) }
         ensures begun { OnOk result (PortDoes table.now.about self.old Begin self.new) }
-        ensures noted { OnOk result (CallNotes table.now.about Begin self.old.known self.new.known) }
+        ensures noted { OnOk result (CallNotes table.now.about Begin
+            self.old.known self.new.known) }
         ensures worn { OnErr result (run_count table.now.about self.old.known ≡ 2 ^ 64 - 2) }
         ensures unchanged { OnErr result (self.new ≡ self.old) }
         ensures fits { IsPortOf table.now self.new }

@@ -1,5 +1,5 @@
 -- Passages of a CPU of the concurrent store follow each other.
-use Rattle.std.proofs.Common.{◌≡◌, ℕ, List, [], ◌++◌, refl, ap, sym, subst, ◌∙◌, append_assoc}
+use Rattle.std.proofs.Common.{ℕ, List, [], ◌++◌, refl, ap, sym, subst, ◌∙◌, append_assoc}
 use Rattle.std.proofs.lemmas.List.{append-nil}
 use Rattle.bpf_shared.specs.declared.events.Entry.{Entry}
 use Rattle.bpf_shared.specs.History.{IsLegal, events_of}
