@@ -12,7 +12,7 @@ use Rattle.bpf_file.specs.File.{file_of}
 use Rattle.bpf_jobs.specs.declared.rounds.Report.{Report}
 use Rattle.bpf_jobs.specs.Printed.{Tells}
 use Rattle.bpf_sched.specs.Explained.{IsExplained}
-use Rattle.hop_words.specs.declared.known.About.{About}
+use Rattle.hop_layout.specs.declared.about.About.{About}
 use Rattle.hop_words.specs.Closing.{Ending}
 use Rattle.hop_map.specs.Dumping.{IsLast}
 use Rattle.bpf_workers.specs.Printed.{as_ended, IsWorkersReport}

@@ -6,7 +6,7 @@ use Rattle.bpf_shared.specs.History.{events_of}
 use Rattle.bpf_shared.specs.Own.{in_run}
 use Rattle.hop_words.specs.declared.known.Known.{Known}
 use Rattle.hop_words.specs.declared.known.Sight.{Sight}
-use Rattle.hop_words.specs.declared.place.Place.TheVariants.{FreeBits}
+use Rattle.hop_layout.specs.declared.place.Place.TheVariants.{FreeBits}
 use Rattle.hop_words.specs.Sights.{IsLook, ShowsTaken, look, sighted}
 use Rattle.hop_words.specs.Kinds.{holding}
 use Rattle.hop_words.proofs.Small.{equal}

@@ -6,7 +6,7 @@ use Rattle.hop_words.specs.declared.known.Fresh.{Fresh}
 use Rattle.hop_words.specs.Owning.{IsInHand, tail_of, key_filled, value_filled}
 use Rattle.hop_words.specs.Locking.{nothing_in_hand}
 use Rattle.hop_arena.specs.Filling.{with_words, word_list}
-use Rattle.hop_words.specs.Homes.{word_of}
+use Rattle.hop_layout.specs.Words.{word_of}
 
 abbrev first : List Fresh → Fresh
 first [] = nothing_in_hand

@@ -1,7 +1,7 @@
 -- The words of an element that is filled.
 use Rattle.std.specs.Prelude.{ℕ, zero, suc, List, [], ◌∷◌, ◌++◌}
 use Rattle.hop_words.specs.declared.known.Fresh.{Fresh}
-use Rattle.hop_words.specs.Homes.{word_of}
+use Rattle.hop_layout.specs.Words.{word_of}
 
 -- the first n words of bytes
 abbrev pub word_list : ℕ → List ℕ → List ℕ

@@ -1,11 +1,12 @@
 //! An element that a CPU claimed.
 ghost use Rattle.std.specs.Prelude.{◌≡◌, ◌≤◌, [], length};
 ghost use Rattle.hop_words.specs.Ghost.{shape_at, HasElement};
-ghost use Rattle.hop_words.specs.Layout.{words_for};
+ghost use Rattle.hop_layout.specs.Layout.{words_for};
 ghost use Rattle.hop_words.specs.Owning.{IsInHand, key_filled, value_filled};
 ghost use Rattle.hop_arena.specs.Filling.{with_words, word_list};
 
-use hop_words::{HopTable, Lane, word_of};
+use hop_layout::word_of;
+use hop_words::{HopTable, Lane};
 
 /// An element in hand, which nobody else has seen: its words may be filled, and then it is linked
 /// in its map or given back. It can't be dropped, so none is lost.

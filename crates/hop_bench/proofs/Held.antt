@@ -5,7 +5,7 @@ use Rattle.bpf_shared.specs.declared.events.Event.{Event}
 use Rattle.bpf_shared.specs.declared.events.Event.TheVariants.{Lookup}
 use Rattle.bpf_shared.specs.Own.{no_span, held_since, held_from, held_by}
 use Rattle.bpf_shared.specs.Passage.{same_span, IsHeldPlace}
-use Rattle.hop_words.specs.declared.known.About.{About}
+use Rattle.hop_layout.specs.declared.about.About.{About}
 use Rattle.hop_map.specs.Port.{Port, PortDoes, own_events, port_holds}
 use Rattle.hop_map.proofs.Ports.{own_after}
 

@@ -2,19 +2,20 @@
 use Rattle.std.proofs.Common.{◌≡◌, ◌≢◌, inr, ⊎_elim, ℕ, suc, ◌+◌, ◌%◌, ◌<◌, List, [], ◌∷◌, ◌++◌, Option, Some, length, slice_index, set, length-set, get_or-set_same, get_or-set_other, append_assoc, nat_lt, true, refl, ap, sym, subst, ◌∙◌, arith}
 use Rattle.std.proofs.lemmas.Bool.Decides.{nat_tests}
 use Rattle.bpf_shared.specs.Shape.{Shape, IsShape, elements}
-use Rattle.hop_words.specs.Layout.{map_shape}
-use Rattle.hop_words.specs.declared.known.About.{About}
+use Rattle.hop_layout.specs.Layout.{map_shape}
+use Rattle.hop_layout.specs.declared.about.About.{About}
 use Rattle.hop_words.specs.declared.known.Known.{Known}
 use Rattle.hop_words.specs.declared.known.Limbo.{Limbo}
 use Rattle.hop_words.specs.declared.known.Sight.{Sight}
-use Rattle.hop_words.specs.declared.place.Place.TheVariants.{RunCount}
+use Rattle.hop_layout.specs.declared.place.Place.TheVariants.{RunCount}
 use Rattle.hop_words.specs.Sights.{IsLook, LeavesLocks, look, sighted}
 use Rattle.hop_words.specs.Content.{item}
 use Rattle.hop_words.specs.Ghost.{HasElement, Each, limbo_at, no_limbo}
 use Rattle.hop_words.specs.Rule.{link_to}
 use Rattle.hop_words.specs.Kinds.{limbo_set, cleared, giving_old}
 use Rattle.hop_words.specs.Owning.{tail_of}
-use Rattle.hop_words.proofs.Small.{equal, map_is}
+use Rattle.hop_words.proofs.Small.{equal}
+use Rattle.hop_layout.proofs.Maps.{map_is}
 use Rattle.hop_words.proofs.Sighted.{each-append}
 use Rattle.hop_words.proofs.Shares.{some_once}
 use Rattle.hop_epoch.specs.Batch.{front, Notes, Tracks, Keeps, Looks, AreEven, SeesRunning}

@@ -1,9 +1,9 @@
 -- The batches of a CPU and what it knows of them.
 use Rattle.std.specs.Prelude.{◌≡◌, ◌≢◌, ◌⊎◌, ℕ, ◌+◌, ◌%◌, ◌<◌, List, [], ◌∷◌, ◌++◌, Option, Some, None, length, slice_index}
-use Rattle.hop_words.specs.declared.known.About.{About}
+use Rattle.hop_layout.specs.declared.about.About.{About}
 use Rattle.hop_words.specs.declared.known.Known.{Known}
 use Rattle.hop_words.specs.declared.known.Sight.{Sight}
-use Rattle.hop_words.specs.declared.place.Place.TheVariants.{RunCount}
+use Rattle.hop_layout.specs.declared.place.Place.TheVariants.{RunCount}
 use Rattle.hop_words.specs.Sights.{look, LeavesLocks}
 use Rattle.hop_words.specs.Ghost.{HasElement, Each, limbo_at}
 

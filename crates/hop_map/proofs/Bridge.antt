@@ -4,10 +4,10 @@ use Rattle.std.proofs.Math.Nat.{pow-succ'}
 use Rattle.std.specs.Int.{bit_at}
 use Rattle.std.proofs.lemmas.Bool.Decides.{nat_tests}
 use Rattle.bpf_shared.specs.Shape.{elements}
-use Rattle.hop_words.specs.declared.known.About.{About}
-use Rattle.hop_words.specs.Layout.{power, depth}
-use Rattle.hop_words.specs.Homes.{segment_of, key_bucket}
-use Rattle.hop_map.specs.Views.{home}
+use Rattle.hop_layout.specs.declared.about.About.{About}
+use Rattle.hop_layout.specs.Layout.{power, depth}
+use Rattle.hop_layout.specs.Home.{segment_of, key_bucket}
+use Rattle.hop_map.specs.Views.{home, segment_view}
 use Rattle.hop_words.specs.Content.{MapWords, item, times, one_if, HopsTo, LinksThrough, Reached, HasKey, IsShare}
 use Rattle.hop_words.specs.Ghost.{segment_in, shape_at}
 use Rattle.hop_words.specs.Rule.{put_key}
@@ -19,7 +19,6 @@ use Rattle.hop_seg.specs.Segment.{Sound as SegSound, Chain, Among, KeysDiffer, I
 use Rattle.hop_seg.specs.Content.{IsPlaced, IsInSegment, HasPair, IsAbsent, Gains, Loses, Changes}
 use Rattle.hop_seg.proofs.Basics.{distance-place, place-distance}
 use Rattle.hop_seg.proofs.Walking.{listed_among}
-use Rattle.hop_map.specs.Views.{segment_view}
 use Rattle.hop_map.proofs.Keys.{spells}
 use Rattle.hop_map.proofs.Lows.{bit_low}
 

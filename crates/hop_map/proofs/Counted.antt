@@ -2,7 +2,7 @@
 use Rattle.std.proofs.Common.{◌≡◌, ℕ, ◌<◌, ◌==◌, ◌||◌, Bool, true, false, true≢false, if◌then◌else◌, List, [], ◌∷◌, Some, None, slice_index_or, IsTrue, IsFalse, refl, ap, sym, subst, ◌∙◌, arith, ⊎_elim, inr}
 use Rattle.bpf_shared.specs.Shape.{elements}
 use Rattle.bpf_shared.specs.declared.events.Entry.{Entry}
-use Rattle.hop_words.specs.declared.known.About.{About}
+use Rattle.hop_layout.specs.declared.about.About.{About}
 use Rattle.hop_words.specs.declared.known.Known.{Known}
 use Rattle.hop_words.specs.declared.known.Lock.{Lock}
 use Rattle.hop_words.specs.declared.known.Fresh.{Fresh}
@@ -12,7 +12,7 @@ use Rattle.hop_words.specs.Content.{HasKey}
 use Rattle.hop_words.specs.Ghost.{shape_at}
 use Rattle.hop_words.specs.Rule.{image, changed}
 use Rattle.hop_words.specs.Kinds.{has, MayLink, Inserts, Inserted, IsKeyAbsent}
-use Rattle.hop_words.proofs.Layouts.{one}
+use Rattle.hop_layout.proofs.Layouts.{one}
 use Rattle.hop_words.proofs.Small.{key_self, key_apart}
 use Rattle.hop_words.specs.Locking.{lock_of, hand, nothing_in_hand}
 use Rattle.hop_map.specs.Views.{Ready, knows}

@@ -10,7 +10,7 @@ use Rattle.atomic_table.proofs.Lists.{at_map}
 use Rattle.bpf_shared.specs.History.{IsLegal, Legal, events_of}
 use Rattle.bpf_shared.specs.Store.{as_made}
 use Rattle.bpf_shared.specs.declared.events.Entry.{Entry}
-use Rattle.hop_words.specs.declared.known.About.{About}
+use Rattle.hop_layout.specs.declared.about.About.{About}
 use Rattle.hop_words.specs.declared.known.Known.{Known}
 use Rattle.hop_words.specs.declared.known.Limbo.{Limbo}
 use Rattle.hop_words.specs.Ghost.{Each, HasElement, limbo_at, no_limbo}

@@ -19,8 +19,8 @@ use Rattle.bpf_shared.specs.declared.events.Entry.{Entry}
 use Rattle.bpf_shared.specs.Store.{Plain, Value, Finds, as_made}
 use Rattle.bpf_shared.specs.History.{Legal}
 use Rattle.bpf_shared.specs.Listing.{Pair, pair_at, pair_of, IsListing, listed}
-use Rattle.hop_words.specs.Layout.{depth, segments}
-use Rattle.hop_words.specs.Homes.{bytes_of_words}
+use Rattle.hop_layout.specs.Layout.{depth, segments}
+use Rattle.hop_layout.specs.Words.{bytes_of_words}
 use Rattle.hop_words.specs.Content.{IsOnList, item}
 use Rattle.hop_words.specs.Ghost.{shape_at, segment_in, IsSegment, HasElement, Carries, Each}
 use Rattle.hop_words.specs.Rule.{numbered}

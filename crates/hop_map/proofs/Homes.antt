@@ -1,6 +1,6 @@
 -- The segment of a key is one of its map's.
 use Rattle.std.proofs.Common.{ℕ, zero, suc, ◌<◌, arith}
-use Rattle.hop_words.specs.Layout.{power}
+use Rattle.hop_layout.specs.Layout.{power}
 
 pub some_power : (d : ℕ) → 0 < power d
 some_power zero = omega arith

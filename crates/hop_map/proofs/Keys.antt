@@ -1,11 +1,11 @@
 -- The key that an element's words spell.
 use Rattle.std.proofs.Common.{◌≡◌, ℕ, suc, ◌<◌, ◌↔◌, List, [], ◌∷◌, length, take, slice_index, ap, sym, ◌∙◌, arith}
-use Rattle.hop_words.specs.declared.known.About.{About}
-use Rattle.hop_words.specs.Layout.{words_for}
-use Rattle.hop_words.specs.Homes.{word_of, AreBytes}
+use Rattle.hop_layout.specs.declared.about.About.{About}
+use Rattle.hop_layout.specs.Layout.{words_for}
+use Rattle.hop_layout.specs.Words.{word_of, AreBytes}
 use Rattle.hop_words.specs.Content.{MapWords, HasKey}
 use Rattle.hop_words.specs.Ghost.{shape_at}
-use Rattle.hop_words.proofs.Small.{spelled_same, spelled_back}
+use Rattle.hop_layout.proofs.Spelled.{spelled_same, spelled_back}
 use Rattle.hop_map.specs.Views.{spelled_key}
 
 pub are_bytes : (bs : List ℕ) → ((i : ℕ) → slice_index bs i < 256) → AreBytes bs

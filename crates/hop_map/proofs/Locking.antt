@@ -2,14 +2,14 @@
 use Rattle.std.proofs.Common.{true≢false, ◌≡◌, ℕ, ◌<◌, ◌≤◌, Bool, true, false, ◌||◌, ◌==◌, List, [], refl, ap, sym, subst, ◌∙◌, inl, inr}
 use Rattle.atomic_table.specs.Seated.{TableId}
 use Rattle.bpf_shared.specs.Shape.{elements}
-use Rattle.hop_words.specs.declared.known.About.{About}
+use Rattle.hop_layout.specs.declared.about.About.{About}
 use Rattle.hop_words.specs.declared.known.Known.{Known}
 use Rattle.hop_words.specs.declared.known.Fresh.{Fresh}
 use Rattle.hop_words.specs.Content.{MapWords, HasKey}
 use Rattle.hop_words.specs.Ghost.{shape_at, IsSegment, Each}
 use Rattle.hop_words.specs.Rule.{image, StartsWith}
 use Rattle.hop_words.specs.Kinds.{has, MayLink, LocksSegment, locking, Saw, with_gone}
-use Rattle.hop_words.proofs.Layouts.{one, both}
+use Rattle.hop_layout.proofs.Layouts.{one, both}
 use Rattle.hop_words.specs.Locking.{lock_of, hand}
 use Rattle.hop_map.specs.Views.{Fits, Locked, Ready, knows, in_hand}
 use Rattle.hop_map.specs.Calls.{LockShows}

@@ -1,8 +1,8 @@
 -- What is offered under the lock serves as a new element, and in the place of another.
 use Rattle.std.proofs.Common.{◌≡◌, ◌≢◌, ℕ, zero, suc, Bool, true, false, ◌==◌, ◌≤◌, ◌⊎◌, inl, inr, List, arith, refl, sym, subst}
 use Rattle.std.proofs.lemmas.Bool.{eqb-false}
-use Rattle.hop_words.proofs.Layouts.{one}
-use Rattle.hop_words.specs.declared.known.About.{About}
+use Rattle.hop_layout.proofs.Layouts.{one}
+use Rattle.hop_layout.specs.declared.about.About.{About}
 use Rattle.hop_words.specs.declared.known.Known.{Known}
 use Rattle.bpf_shared.specs.declared.events.Event.{Event}
 use Rattle.hop_words.specs.Ghost.{shape_at}

@@ -1,14 +1,14 @@
 -- A lookup without a lock, from its first stamp to its last.
 use Rattle.std.proofs.Common.{◌≡◌, ◌≢◌, ℕ, ◌%◌, List, [], ◌∷◌, ◌++◌, Option, ◌+◌, append_assoc, refl, ap, sym, subst, ◌∙◌, inl, inr, arith}
 use Rattle.bpf_shared.specs.declared.events.Event.TheVariants.{Lookup}
-use Rattle.hop_words.specs.declared.known.About.{About}
+use Rattle.hop_layout.specs.declared.about.About.{About}
 use Rattle.hop_words.specs.declared.known.Known.{Known}
 use Rattle.hop_words.specs.declared.known.Reading.{Reading}
-use Rattle.hop_words.specs.declared.place.Place.TheVariants.{Stamp}
+use Rattle.hop_layout.specs.declared.place.Place.TheVariants.{Stamp}
 use Rattle.hop_words.specs.declared.known.Sight.{Sight}
 use Rattle.hop_words.specs.Sights.{look, lock_taken, sighted}
 use Rattle.bpf_shared.specs.declared.events.Span.{Span}
-use Rattle.hop_words.specs.Home.{home_of}
+use Rattle.hop_layout.specs.Home.{home_of}
 use Rattle.hop_words.specs.Ghost.{segment_in, shape_at}
 use Rattle.hop_words.specs.Kinds.{StampSeenAgain, Found, Saw, noting, found_span}
 use Rattle.hop_words.specs.Peeking.{latest_reading, HasReading}

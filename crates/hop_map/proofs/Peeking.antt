@@ -2,10 +2,11 @@
 use Rattle.std.proofs.Common.{◌≡◌, ℕ, zero, suc, ◌+◌, ◌%◌, ◌<◌, ◌≤◌, ◌↔◌, Bool, true, false, true≢false, IsTrue, ◌||◌, ◌==◌, nat_lt, List, [], ◌∷◌, length, Option, Some, None, MatchOption, refl, ap, sym, subst, ◌∙◌, arith, ⊎_elim, inl, inr, ◌⊎◌}
 use Rattle.std.proofs.lemmas.Bool.Decides.{nat_tests}
 use Rattle.bpf_shared.specs.Shape.{elements}
-use Rattle.hop_words.specs.declared.known.About.{About}
-use Rattle.hop_words.specs.declared.place.Place.{Place}
-use Rattle.hop_words.specs.declared.place.Place.TheVariants.{KeyWord}
-use Rattle.hop_words.specs.Homes.{AreBytes, segment_of}
+use Rattle.hop_layout.specs.declared.about.About.{About}
+use Rattle.hop_layout.specs.declared.place.Place.{Place}
+use Rattle.hop_layout.specs.declared.place.Place.TheVariants.{KeyWord}
+use Rattle.hop_layout.specs.Words.{AreBytes}
+use Rattle.hop_layout.specs.Home.{segment_of, home_of}
 use Rattle.hop_words.specs.Content.{MapWords, item, times, Reached, IsOnList, HopsTo, IsShare, HasKey}
 use Rattle.hop_words.specs.Ghost.{shape_at, segment_in}
 use Rattle.hop_words.specs.Rule.{IsPeek}
@@ -15,7 +16,6 @@ use Rattle.hop_words.proofs.Shares.{one_list}
 use Rattle.hop_seg.specs.Words.{Words as SegWords, IsKnown}
 use Rattle.hop_seg.specs.Segment.{Sound as SegSound, element_key}
 use Rattle.hop_seg.specs.Content.{IsAbsent as SegAbsent, HasPair}
-use Rattle.hop_words.specs.Home.{home_of}
 use Rattle.hop_map.specs.Views.{segment_view}
 use Rattle.hop_map.specs.Finding.{AsksHere}
 use Rattle.hop_map.specs.Peeks.{Peeked, peeked, HavePeeks, Agreed, Rested, Spelled}

@@ -7,19 +7,18 @@ use Rattle.bpf_shared.specs.declared.sharing.Worn.{Worn}
 use Rattle.bpf_shared.specs.declared.events.Event.{Event}
 use Rattle.bpf_shared.specs.declared.events.Event.TheVariants.{Begin, End, Lookup}
 use Rattle.bpf_shared.specs.History.{IsLegal, events_of, entry}
-use Rattle.bpf_shared.proofs.Chains.{events_of-append, events_of-own}
-use Rattle.hop_words.specs.declared.known.About.{About}
+use Rattle.bpf_shared.proofs.Chains.{events_of-append, events_of-own, turns_of-append}
+use Rattle.hop_layout.specs.declared.about.About.{About}
 use Rattle.hop_words.specs.declared.known.Known.{Known}
 use Rattle.hop_words.specs.declared.known.Sight.{Sight}
 use Rattle.hop_words.specs.declared.known.Limbo.{Limbo}
-use Rattle.hop_words.specs.declared.place.Place.TheVariants.{RunCount}
+use Rattle.hop_layout.specs.declared.place.Place.TheVariants.{RunCount}
 use Rattle.hop_words.specs.Sights.{LeavesLocks, look}
 use Rattle.hop_words.proofs.Sighted.{each-append}
 use Rattle.hop_words.specs.Ghost.{HasElement, Each, limbo_at}
 use Rattle.hop_words.specs.Inside.{Shown, Standing}
 use Rattle.bpf_shared.specs.Own.{turns_of, in_run}
 use Rattle.hop_words.specs.Kinds.{run_count, Saw, Told}
-use Rattle.bpf_shared.proofs.Chains.{turns_of-append}
 use Rattle.hop_epoch.specs.declared.batches.Batches.{Batches}
 use Rattle.hop_epoch.specs.Batch.{front, Notes, Tracks, Keeps, SeesRunning}
 use Rattle.hop_arena.specs.declared.arena.Arena.{Arena}

@@ -1,14 +1,14 @@
 -- A new element: from the lock to the unlock.
 use Rattle.std.proofs.Common.{◌≡◌, ℕ, ◌<◌, ◌%◌, ◌^◌, eq-eqb, Bool, true, false, ◌||◌, ◌==◌, List, [], ◌∷◌, Option, Some, None, refl, ap, sym, subst, ◌∙◌}
 use Rattle.bpf_shared.specs.Shape.{elements}
-use Rattle.hop_words.specs.declared.known.About.{About}
+use Rattle.hop_layout.specs.declared.about.About.{About}
 use Rattle.hop_words.specs.declared.known.Known.{Known}
 use Rattle.hop_words.specs.declared.known.Lock.{Lock}
 use Rattle.hop_words.specs.declared.known.Change.TheVariants.{Puts}
-use Rattle.hop_words.specs.Layout.{depth}
-use Rattle.hop_words.specs.Homes.{segment_of}
+use Rattle.hop_layout.specs.Layout.{depth}
+use Rattle.hop_layout.specs.Home.{segment_of}
 use Rattle.hop_words.specs.Locking.{lock_of, hand}
-use Rattle.hop_map.specs.Views.{home}
+use Rattle.hop_map.specs.Views.{home, Locked, Stays, Ready, knows, segment_view, locked_view, seen_words}
 use Rattle.hop_words.specs.Content.{MapWords, IsShare, HasKey}
 use Rattle.hop_words.specs.Ghost.{segment_in, shape_at}
 use Rattle.hop_words.specs.Rule.{image, put_key}
@@ -16,7 +16,6 @@ use Rattle.hop_words.specs.Kinds.{has, Inserted, IsKeyAbsent, IsWritten, LeadsTo
 use Rattle.hop_seg.specs.Words.{Fixed}
 use Rattle.hop_seg.specs.Segment.{Sound as SegSound, IsOwn, element_key}
 use Rattle.hop_seg.specs.Content.{IsAbsent as SegAbsent, HasPair, Gains}
-use Rattle.hop_map.specs.Views.{Locked, Stays, Ready, knows, segment_view, locked_view, seen_words}
 use Rattle.hop_map.specs.Calls.{LockShows, Brings}
 use Rattle.hop_map.proofs.Keys.{spells}
 use Rattle.hop_map.proofs.Counted.{or_true}

@@ -1,8 +1,8 @@
 -- What the words of a locked segment show, once one of them was read.
 use Rattle.std.proofs.Common.{◌≡◌, ℕ, ◌%◌, ap, sym, subst, ◌∙◌}
-use Rattle.hop_words.specs.declared.place.Place.{Place}
-use Rattle.hop_words.specs.declared.place.Place.TheVariants.{Head, Hop, Slot, Link}
-use Rattle.hop_words.specs.Layout.{mem}
+use Rattle.hop_layout.specs.declared.place.Place.{Place}
+use Rattle.hop_layout.specs.declared.place.Place.TheVariants.{Head, Hop, Slot, Link}
+use Rattle.hop_layout.specs.Layout.{mem}
 use Rattle.hop_words.specs.Content.{item}
 use Rattle.hop_words.specs.Locking.{lock_of}
 use Rattle.hop_words.specs.Guarded.{IsGuarded}

@@ -2,7 +2,7 @@
 use Rattle.std.proofs.Common.{◌≡◌, ℕ, ◌-◌, ◌/◌, ◌^◌, ◌<◌, ◌≤◌, Bool, true, ◌||◌, List, [], ◌∷◌, None, refl, ap, sym, subst, ◌∙◌}
 use Rattle.bpf_shared.specs.declared.events.Event.TheVariants.{Delete}
 use Rattle.bpf_shared.specs.declared.events.MapAnswer.TheVariants.{Done, Absent, Busy}
-use Rattle.hop_words.specs.declared.known.About.{About}
+use Rattle.hop_layout.specs.declared.about.About.{About}
 use Rattle.hop_words.specs.declared.known.Known.{Known}
 use Rattle.hop_words.specs.declared.known.Lock.{Lock}
 use Rattle.hop_words.specs.declared.known.Change.TheVariants.{Drops}
@@ -11,7 +11,7 @@ use Rattle.hop_words.specs.Ghost.{segment_in, shape_at}
 use Rattle.hop_words.specs.Rule.{image, put_key, numbered}
 use Rattle.hop_words.specs.Kinds.{has, IsKeyAbsent, Answers, Removes, IsWritten, Saw, with_gone}
 use Rattle.hop_words.specs.Locking.{lock_of}
-use Rattle.hop_words.proofs.Small.{map_is}
+use Rattle.hop_layout.proofs.Maps.{map_is}
 use Rattle.bpf_shared.specs.Shape.{Shape, IsMap, elements}
 use Rattle.std.specs.FinMap.{get}
 use Rattle.std.specs.Prelude.{is_some}

@@ -3,19 +3,18 @@ use Rattle.std.proofs.Common.{◌≡◌, ℕ, ◌<◌, ◌%◌, ◌^◌, eq-eqb,
 use Rattle.bpf_shared.specs.Shape.{elements}
 use Rattle.bpf_shared.specs.declared.events.Event.TheVariants.{Update}
 use Rattle.bpf_shared.specs.declared.events.MapAnswer.TheVariants.{Done}
-use Rattle.hop_words.specs.declared.known.About.{About}
+use Rattle.hop_layout.specs.declared.about.About.{About}
 use Rattle.hop_words.specs.declared.known.Known.{Known}
 use Rattle.hop_words.specs.declared.known.Lock.{Lock}
 use Rattle.hop_words.specs.declared.known.Fresh.{Fresh}
-use Rattle.hop_words.specs.Layout.{depth}
-use Rattle.hop_map.specs.Views.{home}
+use Rattle.hop_layout.specs.Layout.{depth}
+use Rattle.hop_map.specs.Views.{home, Locked, Stays, Ready, in_hand, is_put, seen_words}
 use Rattle.hop_words.specs.Content.{IsShare, HasKey}
 use Rattle.hop_words.specs.Ghost.{segment_in, shape_at}
 use Rattle.hop_words.specs.Rule.{image, put_key}
 use Rattle.hop_words.specs.Kinds.{has, Replaces, Replaced, Saw, with_gone}
 use Rattle.hop_seg.specs.Segment.{Sound as SegSound, IsOwn, element_key}
 use Rattle.hop_seg.specs.Content.{HasPair, IsInSegment, Changes}
-use Rattle.hop_map.specs.Views.{Locked, Stays, Ready, in_hand, is_put, seen_words}
 use Rattle.hop_words.specs.Locking.{lock_of, hand}
 use Rattle.hop_map.specs.Calls.{LockShows}
 use Rattle.hop_map.specs.Overs.{BringsOver, Over}

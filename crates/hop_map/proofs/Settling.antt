@@ -7,14 +7,15 @@ use Rattle.bpf_shared.specs.History.{events_of}
 use Rattle.bpf_shared.specs.declared.events.Event.TheVariants.{Update}
 use Rattle.bpf_shared.specs.declared.events.MapAnswer.{MapAnswer}
 use Rattle.bpf_shared.specs.declared.events.MapAnswer.TheVariants.{Done}
-use Rattle.hop_words.specs.declared.known.About.{About}
+use Rattle.hop_layout.specs.declared.about.About.{About}
 use Rattle.hop_words.specs.declared.known.Known.{Known}
 use Rattle.hop_words.specs.declared.known.Fresh.{Fresh}
 use Rattle.hop_words.specs.declared.known.Limbo.{Limbo}
 use Rattle.hop_words.specs.declared.known.Sight.{Sight}
 use Rattle.hop_words.specs.Sights.{sighted}
-use Rattle.hop_words.specs.Layout.{words_for}
-use Rattle.hop_words.specs.Homes.{segment_of, word_of, AreBytes}
+use Rattle.hop_layout.specs.Layout.{words_for}
+use Rattle.hop_layout.specs.Home.{segment_of}
+use Rattle.hop_layout.specs.Words.{word_of, AreBytes}
 use Rattle.hop_words.specs.Ghost.{shape_at, limbo_at, no_limbo}
 use Rattle.hop_words.specs.Kinds.{retiring, with_gone}
 use Rattle.bpf_shared.specs.Own.{in_run}

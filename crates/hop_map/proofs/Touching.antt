@@ -7,12 +7,12 @@ use Rattle.bpf_shared.specs.declared.shapes.MapShape.{MapShape}
 use Rattle.bpf_shared.specs.Access.{bytes_in}
 use Rattle.bpf_shared.specs.Shape.{IsShape, IsMapShape, IsIn, element_span, element_stride}
 use Rattle.bpf_shared.proofs.Places.{reached}
-use Rattle.hop_words.specs.declared.known.About.{About}
+use Rattle.hop_layout.specs.declared.about.About.{About}
 use Rattle.hop_words.specs.declared.known.Known.{Known}
-use Rattle.hop_words.specs.Layout.{words_for}
+use Rattle.hop_layout.specs.Layout.{words_for}
 use Rattle.hop_words.specs.Ghost.{shape_at}
 use Rattle.hop_words.specs.Kinds.{Touches}
-use Rattle.hop_words.proofs.Small.{map_is}
+use Rattle.hop_layout.proofs.Maps.{map_is}
 use Rattle.hop_map.specs.Accesses.{IsValuePlace, IsHeldAt}
 
 -- an access of this size has at least one byte

@@ -16,7 +16,7 @@ use Rattle.hop_words.specs.Ghost.{segment_in, shape_at}
 use Rattle.hop_words.specs.Rule.{image, numbered}
 use Rattle.hop_words.specs.Kinds.{IsKeyAbsent, LeadsTo, Answers, ShowsShortage, SawAllTaken}
 use Rattle.hop_words.specs.Locking.{lock_of}
-use Rattle.hop_words.proofs.Small.{map_is}
+use Rattle.hop_layout.proofs.Maps.{map_is}
 use Rattle.hop_words.proofs.CountUp.{four, and_false}
 use Rattle.hop_seg.specs.Segment.{Sound as SegSound}
 use Rattle.hop_seg.specs.Content.{HasPair, IsAbsent as SegAbsent}

@@ -8,19 +8,19 @@ use Rattle.bpf_shared.specs.declared.events.Event.{Event}
 use Rattle.bpf_shared.specs.declared.events.Event.TheVariants.{Delete}
 use Rattle.bpf_shared.specs.declared.events.MapAnswer.{MapAnswer}
 use Rattle.bpf_shared.specs.declared.events.MapAnswer.TheVariants.{Done, Invalid, Busy, Exists, Absent, Full, NoMemory}
-use Rattle.hop_words.specs.declared.known.About.{About}
+use Rattle.hop_layout.specs.declared.about.About.{About}
 use Rattle.hop_words.specs.declared.known.Known.{Known}
 use Rattle.hop_words.specs.declared.known.Fresh.{Fresh}
 use Rattle.hop_words.specs.declared.known.Limbo.{Limbo}
 use Rattle.hop_words.specs.declared.known.Sight.{Sight}
-use Rattle.hop_words.specs.declared.place.Place.TheVariants.{RunCount}
+use Rattle.hop_layout.specs.declared.place.Place.TheVariants.{RunCount}
 use Rattle.hop_words.specs.Sights.{IsLook, LeavesLocks, LeavesElements, IsTakenSince, look, lock_taken, sighted}
 use Rattle.hop_words.specs.Ghost.{shape_at, limbo_at, no_limbo, Each}
 use Rattle.hop_words.specs.Shortage.{done_in}
 use Rattle.hop_words.specs.Kinds.{Saw, SawAllTaken, LocksSegment, holding, retiring, with_gone}
 use Rattle.bpf_shared.specs.Own.{in_run}
 use Rattle.hop_words.specs.Owning.{tail_of}
-use Rattle.hop_words.proofs.Small.{map_of}
+use Rattle.hop_layout.proofs.Maps.{map_of}
 use Rattle.hop_words.proofs.Sighted.{looks_leave}
 use Rattle.hop_arena.specs.Claiming.{Sees, IsSeenTaken, Misses, Claims}
 use Rattle.hop_arena.specs.declared.element.Element.{Element}

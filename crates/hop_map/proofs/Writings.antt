@@ -2,11 +2,11 @@
 use Rattle.std.proofs.Common.{◌≡◌, ℕ, suc, zero, ◌+◌, ◌<◌, ◌^◌, ◌%◌, nat_lt, Bool, true, false, ◌==◌, if◌then◌else◌, Option, Some, None, refl, ap, ◌∙◌, arith, eq-eqb}
 use Rattle.std.specs.Prelude.{IfSome}
 use Rattle.std.proofs.lemmas.Bool.Decides.{nat_tests}
-use Rattle.hop_words.specs.declared.place.Place.{Place}
-use Rattle.hop_words.specs.declared.place.Place.TheVariants.{Head, Hop, Slot, Link}
-use Rattle.hop_words.specs.Layout.{mem, is_place, put_at}
+use Rattle.hop_layout.specs.declared.place.Place.{Place}
+use Rattle.hop_layout.specs.declared.place.Place.TheVariants.{Head, Hop, Slot, Link}
+use Rattle.hop_layout.specs.Layout.{mem, is_place, put_at}
 use Rattle.hop_words.specs.Content.{place_words, item}
-use Rattle.hop_words.proofs.Layouts.{wrote}
+use Rattle.hop_layout.proofs.Layouts.{wrote}
 use Rattle.hop_seg.specs.Words.{Words as SegWords, with_hop, with_slot, with_head, with_next, replace_at}
 use Rattle.hop_words.specs.Locking.{lock_of}
 use Rattle.hop_map.specs.Views.{Locked, Ready, knows, segment_view, seen_words, written}

@@ -1,15 +1,14 @@
 -- Under the lock: which words are guarded, and what a write leaves.
 use Rattle.std.proofs.Common.{◌≡◌, ℕ, Bool, true, length-set, if◌then◌else◌, refl, ap, ◌∙◌}
-use Rattle.hop_words.specs.declared.place.Place.{Place}
-use Rattle.hop_words.specs.declared.place.Place.TheVariants.{KeyWord}
-use Rattle.hop_words.specs.declared.known.About.{About}
+use Rattle.hop_layout.specs.declared.place.Place.{Place}
+use Rattle.hop_layout.specs.declared.place.Place.TheVariants.{KeyWord}
+use Rattle.hop_layout.specs.declared.about.About.{About}
 use Rattle.hop_words.specs.declared.known.Known.{Known}
-use Rattle.hop_words.specs.Layout.{mem, at, is_place}
+use Rattle.hop_layout.specs.Layout.{mem, at, is_place}
 use Rattle.hop_words.specs.Kinds.{writing}
 use Rattle.hop_words.specs.Locking.{lock_of}
 use Rattle.hop_words.specs.Guarded.{IsMine}
-use Rattle.hop_words.proofs.Layouts.{wrote}
-use Rattle.hop_words.specs.Locking.{lock_of}
+use Rattle.hop_layout.proofs.Layouts.{wrote}
 use Rattle.hop_map.specs.Views.{knows, Ready, IsNoKey}
 
 pub written_ready : (a : About) (l : Known) (m s : ℕ) (p : Place) (n : ℕ) → Ready a l m s → is_place a.shape p ≡ true → IsNoKey p → Ready a (writing a l (lock_of l) p n) m s

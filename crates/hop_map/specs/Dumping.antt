@@ -2,9 +2,9 @@
 use Rattle.std.specs.Prelude.{◌≡◌, ◌⊎◌, ℕ, List, [], ◌∷◌, take}
 use Rattle.bpf_shared.specs.Store.{Plain}
 use Rattle.bpf_shared.specs.Listing.{Pair}
-use Rattle.hop_words.specs.declared.place.Place.TheVariants.{ValueWord}
-use Rattle.hop_words.specs.Layout.{mem, words_for}
-use Rattle.hop_words.specs.Homes.{bytes_of_words}
+use Rattle.hop_layout.specs.declared.place.Place.TheVariants.{ValueWord}
+use Rattle.hop_layout.specs.Layout.{mem, words_for}
+use Rattle.hop_layout.specs.Words.{bytes_of_words}
 use Rattle.hop_words.specs.Content.{MapWords, Reached}
 use Rattle.hop_words.specs.Ghost.{shape_at, IsSegment, Each}
 use Rattle.hop_words.specs.Rule.{image}

@@ -3,12 +3,12 @@ use Rattle.std.specs.Prelude.{◌≡◌, ◌≢◌, ◌⊎◌, ℕ, ◌%◌, ◌
 use Rattle.bpf_shared.specs.declared.events.Event.TheVariants.{Lookup}
 use Rattle.bpf_shared.specs.declared.events.Span.{Span}
 use Rattle.bpf_shared.specs.History.{events_of}
-use Rattle.hop_words.specs.declared.known.About.{About}
+use Rattle.hop_layout.specs.declared.about.About.{About}
 use Rattle.hop_words.specs.declared.known.Known.{Known}
 use Rattle.hop_map.specs.declared.once.Once.{Once}
 use Rattle.hop_map.specs.declared.once.Once.TheVariants.{Found, Absent, Disturbed}
 use Rattle.hop_words.specs.declared.known.Sight.{Sight}
-use Rattle.hop_words.specs.declared.place.Place.TheVariants.{Stamp}
+use Rattle.hop_layout.specs.declared.place.Place.TheVariants.{Stamp}
 use Rattle.hop_words.specs.Sights.{look, lock_taken}
 use Rattle.hop_words.specs.Ghost.{shape_at, segment_in, Each}
 use Rattle.hop_words.specs.Kinds.{Saw}

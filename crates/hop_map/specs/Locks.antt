@@ -1,10 +1,10 @@
 -- What a call has before the lock, and right after it.
 use Rattle.std.specs.Prelude.{◌≡◌, ℕ, ◌<◌, List, [], ◌∷◌, length, slice_index}
 use Rattle.bpf_shared.specs.Shape.{elements}
-use Rattle.hop_words.specs.declared.known.About.{About}
+use Rattle.hop_layout.specs.declared.about.About.{About}
 use Rattle.hop_words.specs.declared.known.Known.{Known}
-use Rattle.hop_words.specs.Layout.{words_for}
-use Rattle.hop_words.specs.Homes.{word_of, AreBytes}
+use Rattle.hop_layout.specs.Layout.{words_for}
+use Rattle.hop_layout.specs.Words.{word_of, AreBytes}
 use Rattle.hop_words.specs.Sights.{sighted, lock_taken}
 use Rattle.hop_words.specs.Ghost.{shape_at}
 use Rattle.hop_words.specs.Locking.{hand}

@@ -4,7 +4,7 @@ use Rattle.bpf_shared.specs.declared.events.Event.{Event}
 use Rattle.bpf_shared.specs.declared.events.Event.TheVariants.{End, Lookup, Update, Delete}
 use Rattle.bpf_shared.specs.declared.events.MapAnswer.{MapAnswer}
 use Rattle.bpf_shared.specs.declared.events.MapAnswer.TheVariants.{Busy}
-use Rattle.hop_words.specs.declared.known.About.{About}
+use Rattle.hop_layout.specs.declared.about.About.{About}
 use Rattle.hop_words.specs.declared.known.Known.{Known}
 use Rattle.hop_words.specs.declared.known.Sight.{Sight}
 use Rattle.hop_words.specs.Sights.{LeavesLocks, lock_taken}

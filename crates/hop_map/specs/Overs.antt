@@ -1,7 +1,7 @@
 -- A replacement.
 use Rattle.std.specs.Prelude.{◌≡◌, ℕ, ◌<◌, ◌⊎◌, false, List, [], length}
 use Rattle.bpf_shared.specs.Shape.{elements}
-use Rattle.hop_words.specs.declared.known.About.{About}
+use Rattle.hop_layout.specs.declared.about.About.{About}
 use Rattle.hop_words.specs.declared.known.Known.{Known}
 use Rattle.bpf_shared.specs.declared.events.Event.TheVariants.{Update}
 use Rattle.bpf_shared.specs.declared.events.MapAnswer.TheVariants.{Done}

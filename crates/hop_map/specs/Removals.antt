@@ -5,11 +5,11 @@ use Rattle.bpf_shared.specs.declared.events.MapAnswer.{MapAnswer}
 use Rattle.bpf_shared.specs.declared.events.MapAnswer.TheVariants.{Done, Absent, Busy}
 use Rattle.bpf_shared.specs.Shape.{elements}
 use Rattle.bpf_shared.specs.History.{events_of}
-use Rattle.hop_words.specs.declared.known.About.{About}
+use Rattle.hop_layout.specs.declared.about.About.{About}
 use Rattle.hop_words.specs.declared.known.Known.{Known}
 use Rattle.hop_map.specs.declared.dropping.Deletion.{Deletion}
 use Rattle.hop_map.specs.declared.dropping.Deletion.TheVariants.{Gone, Missing, Worn}
-use Rattle.hop_words.specs.Homes.{segment_of}
+use Rattle.hop_layout.specs.Home.{segment_of}
 use Rattle.hop_words.specs.Ghost.{shape_at}
 use Rattle.hop_words.specs.Shortage.{done_in}
 use Rattle.hop_words.specs.Kinds.{Saw, with_gone}

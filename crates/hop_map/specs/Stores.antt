@@ -1,6 +1,6 @@
 -- A store that no CPU has called yet.
 use Rattle.std.specs.Prelude.{◌≡◌, ◌<◌, List, All, map}
-use Rattle.hop_words.specs.declared.known.About.{About}
+use Rattle.hop_layout.specs.declared.about.About.{About}
 use Rattle.hop_words.specs.declared.known.Known.{Known}
 use Rattle.hop_words.specs.Inside.{Shown}
 use Rattle.hop_words.specs.Opens.{new_lane, lanes_from}

@@ -5,10 +5,11 @@ use Rattle.bpf_shared.specs.History.{events_of}
 use Rattle.bpf_shared.specs.declared.events.Event.TheVariants.{Update}
 use Rattle.bpf_shared.specs.declared.events.MapAnswer.{MapAnswer}
 use Rattle.bpf_shared.specs.declared.events.MapAnswer.TheVariants.{Done, Busy, NoMemory}
-use Rattle.hop_words.specs.declared.known.About.{About}
+use Rattle.hop_layout.specs.declared.about.About.{About}
 use Rattle.hop_words.specs.declared.known.Known.{Known}
-use Rattle.hop_words.specs.Layout.{words_for}
-use Rattle.hop_words.specs.Homes.{segment_of, word_of, AreBytes}
+use Rattle.hop_layout.specs.Layout.{words_for}
+use Rattle.hop_layout.specs.Home.{segment_of}
+use Rattle.hop_layout.specs.Words.{word_of, AreBytes}
 use Rattle.hop_words.specs.Content.{HasKey}
 use Rattle.hop_words.specs.Ghost.{shape_at}
 use Rattle.hop_words.specs.Rule.{image}

@@ -2,20 +2,20 @@
 use Rattle.std.specs.Prelude.{◌≡◌, ℕ, ◌%◌, ◌^◌, ◌<◌, ◌≤◌, Bool, true, false, ◌||◌, ◌&&◌, ◌==◌, List, [], ◌∷◌, take, length}
 use Rattle.atomic_table.specs.Seated.{TableId}
 use Rattle.bpf_shared.specs.Shape.{elements}
-use Rattle.hop_words.specs.declared.known.About.{About}
+use Rattle.hop_layout.specs.declared.about.About.{About}
 use Rattle.hop_words.specs.declared.known.Known.{Known}
 use Rattle.hop_words.specs.declared.known.Fresh.{Fresh}
 use Rattle.hop_words.specs.declared.known.Change.{Change}
 use Rattle.hop_words.specs.declared.known.Change.TheVariants.{Nothing, Puts, Drops}
-use Rattle.hop_words.specs.Layout.{depth, words_for, size, mem, same_place}
-use Rattle.hop_words.specs.declared.place.Place.{Place}
-use Rattle.hop_words.specs.declared.place.Place.TheVariants.{KeyWord}
-use Rattle.hop_words.specs.Homes.{bytes_of_words, word_of}
+use Rattle.hop_layout.specs.Layout.{depth, words_for, size, mem, same_place}
+use Rattle.hop_layout.specs.declared.place.Place.{Place}
+use Rattle.hop_layout.specs.declared.place.Place.TheVariants.{KeyWord}
+use Rattle.hop_layout.specs.Words.{bytes_of_words, word_of}
 use Rattle.hop_words.specs.Content.{MapWords, item, HasKey}
 use Rattle.hop_words.specs.Ghost.{shape_at, IsSegment}
 use Rattle.hop_words.specs.Rule.{image}
 use Rattle.hop_words.specs.Kinds.{has, MayLink, writing}
-use Rattle.hop_words.specs.Home.{home_of}
+use Rattle.hop_layout.specs.Home.{home_of}
 use Rattle.hop_words.specs.Locking.{lock_of}
 use Rattle.hop_seg.specs.Words.{Words as SegWords}
 

@@ -3,7 +3,7 @@ ghost use Rattle.std.specs.Prelude.{ℕ, ◌≡◌, ◌<◌, true, [], length};
 ghost use Rattle.bpf_shared.specs.Shape.{IsKeyOf};
 ghost use Rattle.bpf_shared.specs.History.{events_of};
 ghost use Rattle.bpf_shared.specs.declared.events.Event.TheVariants.{Delete};
-ghost use Rattle.hop_words.specs.Homes.{segment_of};
+ghost use Rattle.hop_layout.specs.Home.{segment_of};
 ghost use Rattle.hop_words.specs.Ghost.{shape_at};
 ghost use Rattle.bpf_shared.specs.Own.{in_run};
 ghost use Rattle.hop_map.specs.Locks.{with_lock};

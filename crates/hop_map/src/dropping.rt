@@ -1,7 +1,7 @@
 //! A key is taken out of a map, under the lock of its segment.
 ghost use Rattle.std.specs.Prelude.{◌≡◌, ◌<◌, ◌+◌, ◌^◌, ℕ};
 ghost use Rattle.bpf_shared.specs.Shape.{elements as elements_of};
-ghost use Rattle.hop_words.specs.Home.{home_of};
+ghost use Rattle.hop_layout.specs.Home.{home_of};
 ghost use Rattle.hop_words.specs.Ghost.{shape_at};
 ghost use Rattle.hop_words.specs.Locking.{lock_of};
 ghost use Rattle.hop_seg.specs.Content.{HasPair};

@@ -11,7 +11,8 @@ ghost use Rattle.hop_map.specs.Dumping.{words_in, key_in, value_in, IsReached, I
 use crate::closed::Closed;
 use crate::numbers::item;
 use bpf_shared::MapShape;
-use hop_words::{Place, Rest, elements, segments};
+use hop_layout::{Place, elements, segments};
+use hop_words::Rest;
 use std::alloc::{AllocError, Global};
 use std::collections::BTreeMap;
 

@@ -1,7 +1,7 @@
 //! Lookups.
 ghost use Rattle.std.specs.Prelude.{◌≡◌, ◌<◌, length};
 ghost use Rattle.bpf_shared.specs.declared.events.Event.TheVariants.{Lookup};
-ghost use Rattle.hop_words.specs.Home.{home_of};
+ghost use Rattle.hop_layout.specs.Home.{home_of};
 ghost use Rattle.hop_words.specs.Ghost.{shape_at};
 ghost use Rattle.hop_words.specs.Kinds.{LookedUp, found_span};
 ghost use Rattle.hop_words.specs.Locking.{lock_of};

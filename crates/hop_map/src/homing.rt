@@ -1,12 +1,12 @@
 //! Where a key is at home, and the sizes of its map.
 ghost use Rattle.std.specs.Prelude.{◌≡◌, ◌<◌, ◌≤◌, length};
 ghost use Rattle.bpf_shared.specs.Shape.{IsMapShape, elements as elements_of};
-ghost use Rattle.hop_words.specs.Home.{home_of};
-ghost use Rattle.hop_words.specs.Homes.{segment_of};
+ghost use Rattle.hop_layout.specs.Home.{home_of, segment_of};
 ghost use Rattle.hop_words.specs.Ghost.{shape_at, IsSegment};
 
 use bpf_shared::MapShape;
-use hop_words::{HopTable, elements, home};
+use hop_layout::{elements, home};
+use hop_words::HopTable;
 
 /// The home of a key and its segment; the size of the map's keys in bytes, and how many elements
 /// the map has.

@@ -1,6 +1,6 @@
 //! What the lock's words and the flags say of an update (bpf-helpers(7)).
 ghost use Rattle.std.specs.Prelude.{◌≡◌};
-ghost use Rattle.hop_words.specs.Home.{home_of};
+ghost use Rattle.hop_layout.specs.Home.{home_of};
 ghost use Rattle.hop_words.specs.Ghost.{shape_at};
 ghost use Rattle.hop_words.specs.Locking.{lock_of};
 ghost use Rattle.hop_map.specs.Calls.{LockShows};

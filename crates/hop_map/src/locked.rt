@@ -1,7 +1,7 @@
 //! The words of a locked segment.
 ghost use Rattle.std.specs.Prelude.{◌≡◌, ◌≢◌, ◌⊎◌, ◌<◌, ◌≤◌, ◌+◌, ◌^◌, ◌↔◌, true, false, [], length, IsTrue, IsFalse, IfSome, None};
 ghost use Rattle.bpf_shared.specs.Shape.{elements as elements_of};
-ghost use Rattle.hop_words.specs.Layout.{is_place, mem};
+ghost use Rattle.hop_layout.specs.Layout.{is_place, mem};
 ghost use Rattle.hop_words.specs.Ghost.{shape_at};
 ghost use Rattle.bpf_shared.specs.declared.events.Event.TheVariants.{Delete, Update};
 ghost use Rattle.bpf_shared.specs.declared.events.MapAnswer.TheVariants.{Full, NoMemory};
@@ -21,7 +21,8 @@ use crate::words::{head_place, hop_place, link_place, slot_place};
 use bpf_shared::MapAnswer;
 use crossbeam_utils::Backoff;
 use hop_seg::{SegReads, SegWords};
-use hop_words::{HopTable, Lane, Place, word_of};
+use hop_layout::{Place, word_of};
+use hop_words::{HopTable, Lane};
 use std::marker::Model;
 use std::sync::Wait;
 

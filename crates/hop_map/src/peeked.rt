@@ -1,7 +1,7 @@
 //! The words of a segment that is read without its lock.
 ghost use Rattle.std.specs.Prelude.{◌≡◌, ◌<◌, ◌≤◌, ◌↔◌, true, length, IsTrue};
 ghost use Rattle.bpf_shared.specs.Shape.{elements as elements_of};
-ghost use Rattle.hop_words.specs.Layout.{is_place};
+ghost use Rattle.hop_layout.specs.Layout.{is_place};
 ghost use Rattle.hop_words.specs.Content.{MapWords, Reached};
 ghost use Rattle.hop_words.specs.Ghost.{shape_at};
 ghost use Rattle.hop_words.specs.Kinds.{FindsByPeeks, StampSeenAgain};
@@ -11,7 +11,8 @@ ghost use Rattle.hop_map.specs.Peeks.{FitsPeeks, peeked, HavePeeks, Spelled, Res
 use crate::numbers::{hop_bits, item};
 use crate::words::{head_place, hop_place, link_place, slot_place};
 use hop_seg::SegReads;
-use hop_words::{HopTable, Lane, Place, word_of};
+use hop_layout::{Place, word_of};
+use hop_words::{HopTable, Lane};
 use std::marker::Model;
 
 /// The words of a segment that this CPU reads while others may be writing them.

@@ -1,6 +1,6 @@
 //! An update under the lock of its key's segment.
 ghost use Rattle.std.specs.Prelude.{◌≡◌, ◌≢◌, ◌<◌, ◌+◌, ◌^◌, ℕ};
-ghost use Rattle.hop_words.specs.Home.{home_of};
+ghost use Rattle.hop_layout.specs.Home.{home_of};
 ghost use Rattle.hop_words.specs.Ghost.{shape_at};
 ghost use Rattle.hop_words.specs.Kinds.{SawAllTaken};
 ghost use Rattle.hop_words.specs.Locking.{lock_of};

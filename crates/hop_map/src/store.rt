@@ -8,7 +8,8 @@ use crate::port::HopPort;
 use bpf_shared::{ShapeError, StoreShape};
 use hop_arena::Arena;
 use hop_epoch::Batches;
-use hop_words::{About, HopTable, Lane, Lanes};
+use hop_layout::About;
+use hop_words::{HopTable, Lane, Lanes};
 use std::alloc::{AllocError, Global};
 use std::marker::Model;
 

@@ -5,7 +5,7 @@ ghost use Rattle.bpf_shared.specs.History.{events_of};
 ghost use Rattle.bpf_shared.specs.declared.events.Event.TheVariants.{Update};
 ghost use Rattle.bpf_shared.specs.declared.events.MapAnswer.TheVariants.{Busy, NoMemory};
 ghost use Rattle.hop_words.specs.Shortage.{done_in};
-ghost use Rattle.hop_words.specs.Homes.{segment_of};
+ghost use Rattle.hop_layout.specs.Home.{segment_of};
 ghost use Rattle.hop_words.specs.Ghost.{shape_at, limbo_at};
 ghost use Rattle.hop_words.specs.Kinds.{SawAllTaken, holding};
 ghost use Rattle.bpf_shared.specs.Own.{in_run};

@@ -1,8 +1,8 @@
 //! The words that a segment has in the store.
 ghost use Rattle.std.specs.Prelude.{◌≡◌, ◌<◌};
-ghost use Rattle.hop_words.specs.declared.place.Place.TheVariants.{Head, Hop, Slot, Link};
+ghost use Rattle.hop_layout.specs.declared.place.Place.TheVariants.{Head, Hop, Slot, Link};
 
-use hop_words::Place;
+use hop_layout::Place;
 
 /// The word of a bucket's hop information.
 #[inline(always)]

@@ -4,12 +4,12 @@ use Rattle.std.proofs.lemmas.List.Elements.{All-head, All-tail}
 use Rattle.bpf_shared.specs.declared.events.Event.{Event}
 use Rattle.bpf_shared.specs.declared.events.Event.TheVariants.{Begin}
 use Rattle.bpf_shared.specs.History.{events_of}
-use Rattle.hop_words.specs.declared.known.About.{About}
+use Rattle.hop_layout.specs.declared.about.About.{About}
 use Rattle.hop_words.specs.declared.known.Known.{Known}
 use Rattle.hop_words.specs.Ghost.{IsSegment, shape_at}
 use Rattle.hop_words.specs.Kinds.{Told}
 use Rattle.bpf_shared.specs.Own.{in_run}
-use Rattle.hop_words.specs.Layout.{depth}
+use Rattle.hop_layout.specs.Layout.{depth}
 use Rattle.hop_words.specs.Opens.{lanes_from}
 use Rattle.hop_map.specs.Stores.{IsNewLane}
 use Rattle.hop_map.proofs.Dealing.{lanes_new}

@@ -4,15 +4,14 @@ use Rattle.std.proofs.lemmas.Bool.Decides.{nat_tests}
 use Rattle.bpf_shared.specs.declared.events.Event.{Event}
 use Rattle.bpf_shared.specs.declared.events.Event.TheVariants.{Begin, End}
 use Rattle.bpf_shared.specs.History.{events_of, entry}
-use Rattle.bpf_shared.proofs.Chains.{events_of-append, events_of-own}
-use Rattle.hop_words.specs.declared.known.About.{About}
+use Rattle.bpf_shared.proofs.Chains.{events_of-append, events_of-own, turns_of-append}
+use Rattle.hop_layout.specs.declared.about.About.{About}
 use Rattle.hop_words.specs.declared.known.Known.{Known}
 use Rattle.hop_words.specs.declared.known.Fresh.{Fresh}
 use Rattle.hop_words.specs.declared.known.Sight.{Sight}
 use Rattle.bpf_shared.specs.Own.{turns_of, in_run}
 use Rattle.hop_words.specs.Kinds.{run_count, Told, holding}
 use Rattle.hop_words.specs.Owning.{IsInHand, tail_of}
-use Rattle.bpf_shared.proofs.Chains.{turns_of-append}
 use Rattle.hop_arena.specs.Claiming.{Sees}
 use Rattle.hop_tests.specs.Ready.{IsIdle, IsStill}
 

@@ -1,7 +1,7 @@
 -- What the tests' helpers ask of a lane.
 use Rattle.std.specs.Prelude.{◌≡◌, ◌<◌, true, false, []}
 use Rattle.bpf_shared.specs.History.{events_of}
-use Rattle.hop_words.specs.declared.known.About.{About}
+use Rattle.hop_layout.specs.declared.about.About.{About}
 use Rattle.hop_words.specs.declared.known.Known.{Known}
 use Rattle.hop_words.specs.Inside.{Shown, Standing}
 use Rattle.bpf_shared.specs.Own.{in_run}

@@ -1,6 +1,6 @@
 //! Vectors of the hash. FNV-1a's own say that `a` is 0xaf63dc4c8601ec8c and `foobar`
 //! 0x85944171f73967e8; the rest was worked out by Python's whole numbers.
-use hop_words::home;
+use hop_layout::home;
 
 #[test]
 fn homes(rt: HostRuntime) {

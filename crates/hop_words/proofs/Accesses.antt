@@ -9,17 +9,17 @@ use Rattle.bpf_base.specs.declared.atomic.Change.{Change}
 use Rattle.bpf_base.specs.declared.atomic.Change.TheVariants.{Add, Or, And, Xor, Exchange, CompareExchange}
 use Rattle.bpf_shared.specs.declared.events.Event.TheVariants.{Store, Atomic}
 use Rattle.bpf_shared.specs.declared.events.Size.TheVariants.{Double}
-use Rattle.hop_words.specs.declared.known.About.{About}
+use Rattle.hop_layout.specs.declared.about.About.{About}
 use Rattle.hop_words.specs.declared.known.Known.{Known}
-use Rattle.hop_words.specs.declared.place.Place.TheVariants.{ValueWord}
+use Rattle.hop_layout.specs.declared.place.Place.TheVariants.{ValueWord}
 use Rattle.hop_words.specs.declared.touching.ValuePart.{ValuePart}
-use Rattle.hop_words.specs.Layout.{is_place, mem, words_for}
+use Rattle.hop_layout.specs.Layout.{is_place, mem, words_for}
 use Rattle.hop_words.specs.Ghost.{shape_at, lane}
 use Rattle.hop_words.specs.Step.{Steps}
 use Rattle.hop_words.specs.Kinds.{Touches, found_in, Told}
 use Rattle.hop_words.specs.Touching.{TouchesWord, part_address}
 use Rattle.hop_words.proofs.Locked.{lt}
-use Rattle.hop_words.proofs.WordBytes.{whole_word}
+use Rattle.hop_layout.proofs.WordBytes.{whole_word}
 use Rattle.hop_words.proofs.Values.{value_store, value_fetch}
 
 pub value_there : (a : About) (l : Known) (m e k o n : ℕ) → Touches a l m e k o n → is_place a.shape (ValueWord m e k) ≡ true

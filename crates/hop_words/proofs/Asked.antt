@@ -1,18 +1,18 @@
 -- A kind of step at a call: from what it asks of a lane to what the table asks of a seat.
 use Rattle.std.proofs.Common.{◌≡◌, ℕ, true, List, [], ◌<◌, ap, sym, subst, ◌∙◌}
 use Rattle.atomic_table.specs.Table.{Allows, Me, Step}
-use Rattle.hop_words.specs.declared.place.Place.{Place}
-use Rattle.hop_words.specs.declared.known.About.{About}
+use Rattle.hop_layout.specs.declared.place.Place.{Place}
+use Rattle.hop_layout.specs.declared.about.About.{About}
 use Rattle.hop_words.specs.declared.known.Known.{Known}
 use Rattle.hop_words.specs.declared.known.Sight.{Sight}
 use Rattle.hop_words.specs.declared.known.View.{View}
-use Rattle.hop_words.specs.Layout.{is_place, at}
+use Rattle.hop_layout.specs.Layout.{is_place, at}
 use Rattle.hop_words.specs.Rule.{solo, Kept}
 use Rattle.hop_words.specs.Step.{Leaves}
 use Rattle.hop_words.specs.Inside.{Shown, Standing, shown, standing, HasLayout, IsOne, stepper_lane, tells}
 use Rattle.hop_words.specs.declared.table.HopTable.TheInside.{Inside as InTable}
 use Rattle.hop_words.specs.declared.lane.Lane.TheInside.{Inside as InStepper}
-use Rattle.hop_words.proofs.Layouts.{at_inside}
+use Rattle.hop_layout.proofs.Layouts.{at_inside}
 use Rattle.hop_words.proofs.Seating.{allows}
 
 as_asked : (a : About) (slots id : ℕ) (me : Me (Unit {0}) View) (l : Known) (p : Place) (word : ℕ) (f : ℕ → ℕ) (sights : ℕ → List Sight) (told : ℕ → Known → Type 0) (st : Step (Unit {0})) → me ≡ (solo l, []) → is_place a.shape p ≡ true → word ≡ at a.shape p

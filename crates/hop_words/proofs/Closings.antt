@@ -3,12 +3,12 @@ use Rattle.std.proofs.Common.{◌≡◌, ℕ, zero, suc, true, List, [], ◌∷�
 use mathlib.Core.Option.{some, some-injective, some-ne-none}
 use lib.ListN.{get_elem?}
 use Rattle.bpf_shared.specs.Shape.{Shape}
-use Rattle.hop_words.specs.declared.place.Place.{Place}
+use Rattle.hop_layout.specs.declared.place.Place.{Place}
 use Rattle.atomic_table.specs.Table.{Final, Seen}
-use Rattle.hop_words.specs.declared.known.About.{About}
+use Rattle.hop_layout.specs.declared.about.About.{About}
 use Rattle.hop_words.specs.declared.known.Known.{Known}
 use Rattle.hop_words.specs.declared.known.View.{View}
-use Rattle.hop_words.specs.Layout.{mem, at, is_place}
+use Rattle.hop_layout.specs.Layout.{mem, at, is_place}
 use Rattle.hop_words.specs.Rule.{Kept}
 use Rattle.hop_words.specs.Seats.{view, HasSeenBeginning, KeepsWholeHistory}
 use Rattle.hop_words.specs.Closing.{AreAllBack}

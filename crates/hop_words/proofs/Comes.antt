@@ -8,11 +8,12 @@ use Rattle.std.specs.Ordering.{is_eq}
 use Rattle.bpf_shared.specs.Shape.{element_span}
 use Rattle.bpf_shared.specs.Store.{Keys, Value, put}
 use Rattle.bpf_shared.proofs.Puts.{put-same, put-other, insert_cases}
-use Rattle.hop_words.specs.declared.known.About.{About}
+use Rattle.hop_layout.specs.declared.about.About.{About}
 use Rattle.hop_words.specs.declared.known.Fresh.{Fresh}
 use Rattle.hop_words.specs.declared.known.Limbo.{Limbo}
-use Rattle.hop_words.specs.Layout.{words_for}
-use Rattle.hop_words.specs.Homes.{segment_of, bytes_of_words}
+use Rattle.hop_layout.specs.Layout.{words_for}
+use Rattle.hop_layout.specs.Home.{segment_of}
+use Rattle.hop_layout.specs.Words.{bytes_of_words}
 use Rattle.hop_words.specs.Content.{one_if}
 use Rattle.hop_words.specs.Ghost.{segment_in, Holder, Free, Filling, Leaving, Within, is_free, is_filling, is_leaving, Carries, shape_at, HasElement, limbo_at, Each}
 use Rattle.hop_words.specs.Rule.{put_key, numbered, Keyed, Batched, Owned, times_fresh, times_limbo, Linked, StartsWith, Filled, Valued}

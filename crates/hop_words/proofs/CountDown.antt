@@ -13,15 +13,15 @@ use Rattle.bpf_shared.specs.Store.{Plain, Keys, put}
 use Rattle.bpf_shared.specs.Events.{Allowed, after_delete}
 use Rattle.bpf_shared.specs.History.{entry}
 use Rattle.bpf_shared.proofs.Puts.{put-same}
-use Rattle.hop_words.specs.declared.place.Place.{Place}
-use Rattle.hop_words.specs.declared.place.Place.TheVariants.{RunCount, KeyCount, Stamp}
-use Rattle.hop_words.specs.declared.known.About.{About}
+use Rattle.hop_layout.specs.declared.place.Place.{Place}
+use Rattle.hop_layout.specs.declared.place.Place.TheVariants.{RunCount, KeyCount, Stamp}
+use Rattle.hop_layout.specs.declared.about.About.{About}
 use Rattle.hop_words.specs.declared.known.Known.{Known}
 use Rattle.hop_words.specs.declared.known.Limbo.{Limbo}
 use Rattle.hop_words.specs.declared.known.Lock.{Lock}
 use Rattle.hop_words.specs.declared.known.Change.TheVariants.{Drops}
-use Rattle.hop_words.specs.Layout.{mem, put_at}
-use Rattle.hop_words.specs.Homes.{segment_of}
+use Rattle.hop_layout.specs.Layout.{mem, put_at}
+use Rattle.hop_layout.specs.Home.{segment_of}
 use Rattle.hop_words.specs.Content.{place_words}
 use Rattle.hop_words.specs.Ghost.{segment_in, Holder, Leaving, Within, lane, Ghost, shape_at, HasElement, limbo_at}
 use Rattle.hop_words.specs.Rule.{Rule, Minded, put_key, changed, Holds, numbered}

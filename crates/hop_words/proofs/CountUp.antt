@@ -14,16 +14,17 @@ use Rattle.bpf_shared.specs.Store.{Plain, Value, put}
 use Rattle.bpf_shared.specs.Events.{Allowed, after_update}
 use Rattle.bpf_shared.specs.History.{entry}
 use Rattle.bpf_shared.proofs.Puts.{put-same}
-use Rattle.hop_words.specs.declared.place.Place.{Place}
-use Rattle.hop_words.specs.declared.place.Place.TheVariants.{RunCount, KeyCount, Stamp, ValueWord}
-use Rattle.hop_words.specs.declared.known.About.{About}
+use Rattle.hop_layout.specs.declared.place.Place.{Place}
+use Rattle.hop_layout.specs.declared.place.Place.TheVariants.{RunCount, KeyCount, Stamp, ValueWord}
+use Rattle.hop_layout.specs.declared.about.About.{About}
 use Rattle.hop_words.specs.declared.known.Known.{Known}
 use Rattle.hop_words.specs.declared.known.Fresh.{Fresh}
 use Rattle.hop_words.specs.declared.known.Lock.{Lock}
 use Rattle.hop_words.specs.declared.known.Change.TheVariants.{Puts}
-use Rattle.hop_words.specs.Layout.{mem, put_at, words_for}
+use Rattle.hop_layout.specs.Layout.{mem, put_at, words_for}
 use Rattle.hop_words.specs.Shortage.{HasHadValue}
-use Rattle.hop_words.specs.Homes.{segment_of, bytes_of_words}
+use Rattle.hop_layout.specs.Home.{segment_of}
+use Rattle.hop_layout.specs.Words.{bytes_of_words}
 use Rattle.hop_words.specs.Content.{place_words, one_if}
 use Rattle.hop_words.specs.Ghost.{segment_in, Filling, Within, lane, Era, Ghost, shape_at, HasElement, Each}
 use Rattle.hop_words.specs.Rule.{times_fresh, Rule, Worn, Minded, put_key, changed, Holds, Segment, numbered, owed, Keyed, times_lock}

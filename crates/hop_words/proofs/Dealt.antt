@@ -2,15 +2,15 @@
 use Rattle.std.proofs.Common.{◌≡◌, ◌≢◌, ℕ, zero, suc, ◌+◌, ◌<◌, List, [], ◌∷◌, length, refl, ap, arith}
 use Rattle.atomic_table.specs.Table.{Splits}
 use Rattle.bpf_shared.specs.Shape.{Shape, IsShape}
-use Rattle.hop_words.specs.declared.known.About.{About}
+use Rattle.hop_layout.specs.declared.about.About.{About}
 use Rattle.hop_words.specs.declared.known.Known.{Known}
-use Rattle.hop_words.specs.Layout.{size}
+use Rattle.hop_layout.specs.Layout.{size}
 use Rattle.hop_words.specs.Rule.{Kept}
 use Rattle.hop_words.specs.Opens.{lanes_from}
 use Rattle.hop_words.specs.Seats.{view, dealer, dealt}
 use Rattle.hop_words.specs.Dealing.{AreNumbered}
 use Rattle.hop_words.proofs.Gathers.{deals}
-use Rattle.hop_words.proofs.Indexes.{sum_same}
+use Rattle.hop_layout.proofs.Indexes.{sum_same}
 
 pub lane_count : (a : About) (c n : ℕ) → length (lanes_from a c n) ≡ n
 lane_count a c zero = refl

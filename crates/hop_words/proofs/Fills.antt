@@ -5,14 +5,14 @@ use Rattle.std.specs.Int.{bit_at}
 use Rattle.bpf_shared.specs.Store.{put}
 use Rattle.bpf_shared.specs.Shape.{element_span}
 use Rattle.bpf_shared.proofs.Puts.{put-same, put-other}
-use Rattle.hop_words.specs.declared.place.Place.{Place}
-use Rattle.hop_words.specs.declared.place.Place.TheVariants.{FreeBits, Stamp, KeyWord, ValueWord}
-use Rattle.hop_words.specs.declared.known.About.{About}
+use Rattle.hop_layout.specs.declared.place.Place.{Place}
+use Rattle.hop_layout.specs.declared.place.Place.TheVariants.{FreeBits, Stamp, KeyWord, ValueWord}
+use Rattle.hop_layout.specs.declared.about.About.{About}
 use Rattle.hop_words.specs.declared.known.Known.{Known}
 use Rattle.hop_words.specs.declared.known.Fresh.{Fresh}
 use Rattle.hop_words.specs.declared.known.Sight.{Sight}
-use Rattle.hop_words.specs.Layout.{mem, put_at, words_for}
-use Rattle.hop_words.specs.Homes.{bytes_of_words}
+use Rattle.hop_layout.specs.Layout.{mem, put_at, words_for}
+use Rattle.hop_layout.specs.Words.{bytes_of_words}
 use Rattle.hop_words.specs.Content.{place_words, one_if}
 use Rattle.hop_words.specs.Ghost.{Holder, Free, Filling, Within, is_free, is_filling, is_leaving, Carries, lane, Ghost, shape_at, HasElement, Each}
 use Rattle.hop_words.specs.Rule.{Rule, times_fresh, StartsWith, Minded}

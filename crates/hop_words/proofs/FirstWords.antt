@@ -4,17 +4,17 @@ use Rattle.std.proofs.lemmas.Bool.Decides.{nat_tests}
 use native.Mathlib.Decide.{dec_lt}
 use mathlib.Core.Logic.{dite}
 use Rattle.bpf_shared.specs.Shape.{IsShape}
-use Rattle.hop_words.specs.declared.place.Place.{Place}
-use Rattle.hop_words.specs.declared.place.Place.TheVariants.{RunCount, KeyCount, FreeBits, Stamp, Head, Hop, Slot, Link, KeyWord, ValueWord}
-use Rattle.hop_words.specs.declared.known.About.{About}
-use Rattle.hop_words.specs.Layout.{at, is_place, mem, put_at, free_words, segments, depth}
+use Rattle.hop_layout.specs.declared.place.Place.{Place}
+use Rattle.hop_layout.specs.declared.place.Place.TheVariants.{RunCount, KeyCount, FreeBits, Stamp, Head, Hop, Slot, Link, KeyWord, ValueWord}
+use Rattle.hop_layout.specs.declared.about.About.{About}
+use Rattle.hop_layout.specs.Layout.{at, is_place, mem, put_at, free_words, segments, depth}
 use Rattle.hop_words.specs.Ghost.{shape_at}
 use Rattle.hop_words.specs.Made.{IsPartly}
 use Rattle.hop_words.specs.Opens.{AreNewWords}
 use Rattle.std.specs.Int.{bit_at}
 use Rattle.std.proofs.lemmas.Nat.Bits.{bit_at_ones}
-use Rattle.hop_words.proofs.Depths.{depth_most}
-use Rattle.hop_words.proofs.Layouts.{both}
+use Rattle.hop_layout.proofs.Depths.{depth_most}
+use Rattle.hop_layout.proofs.Layouts.{both}
 use Rattle.hop_words.proofs.Small.{equal}
 
 yes : (m n : ℕ) → m < n → nat_lt m n ≡ true

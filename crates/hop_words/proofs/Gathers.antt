@@ -12,13 +12,13 @@ use Rattle.bpf_shared.specs.declared.events.Event.{Event}
 use Rattle.bpf_shared.specs.declared.events.Entry.{Entry}
 use Rattle.bpf_shared.specs.History.{events_of}
 use Rattle.bpf_shared.proofs.Chains.{events_of-append}
-use Rattle.hop_words.specs.declared.known.About.{About}
+use Rattle.hop_layout.specs.declared.about.About.{About}
 use Rattle.hop_words.specs.declared.known.Known.{Known}
 use Rattle.hop_words.specs.declared.known.View.{View}
-use Rattle.hop_words.specs.Layout.{mem}
+use Rattle.hop_layout.specs.Layout.{mem}
 use Rattle.hop_words.specs.Ghost.{segment_in, Ghost, lane, shape_at, IsSegment}
-use Rattle.hop_words.specs.declared.place.Place.{Place}
-use Rattle.hop_words.specs.declared.place.Place.TheVariants.{Stamp}
+use Rattle.hop_layout.specs.declared.place.Place.{Place}
+use Rattle.hop_layout.specs.declared.place.Place.TheVariants.{Stamp}
 use Rattle.hop_words.specs.Content.{place_words, IsShare}
 use Rattle.hop_words.specs.Rule.{Seats, Kept, Rule, Segment, image, times_lock}
 use Rattle.hop_words.proofs.Shares.{share_agrees}

@@ -7,13 +7,13 @@ use Rattle.bpf_shared.proofs.Puts.{true_or_false}
 use Rattle.bpf_shared.specs.Sound.{IsSoundStore}
 use Rattle.bpf_shared.proofs.Soundness.{as_made_sound, legal_sound}
 use Rattle.bpf_shared.specs.History.{events_of}
-use Rattle.hop_words.specs.declared.place.Place.{Place}
-use Rattle.hop_words.specs.declared.place.Place.TheVariants.{RunCount, FreeBits, Stamp, Link}
-use Rattle.hop_words.specs.declared.known.About.{About}
+use Rattle.hop_layout.specs.declared.place.Place.{Place}
+use Rattle.hop_layout.specs.declared.place.Place.TheVariants.{RunCount, FreeBits, Stamp, Link}
+use Rattle.hop_layout.specs.declared.about.About.{About}
 use Rattle.hop_words.specs.declared.known.Known.{Known}
 use Rattle.hop_words.specs.declared.known.Limbo.{Limbo}
 use Rattle.hop_words.specs.declared.known.Lock.{Lock}
-use Rattle.hop_words.specs.Layout.{mem, put_at}
+use Rattle.hop_layout.specs.Layout.{mem, put_at}
 use Rattle.hop_words.specs.Content.{MapWords, place_words, one_if, times}
 use Rattle.hop_words.specs.Ghost.{segment_in, Holder, Free, Leaving, Within, is_filling, is_leaving, lane, Era, Ghost, HasElement, Each, limbo_at}
 use Rattle.hop_words.specs.Rule.{Rule, Chained, link_to, times_limbo, Linked, Segment, Segments, Minded, Holds, Locking}

@@ -15,7 +15,7 @@ use Rattle.bpf_shared.proofs.Leaving.{history_shape}
 use Rattle.bpf_shared.proofs.Own.{own_events_tell}
 use Rattle.bpf_shared.proofs.Histories.{history-append}
 use Rattle.bpf_shared.proofs.Puts.{put-same, put-other}
-use Rattle.hop_words.specs.declared.known.About.{About}
+use Rattle.hop_layout.specs.declared.about.About.{About}
 use Rattle.hop_words.specs.Shortage.{done_in, HasCause, HaveCauses}
 use Rattle.hop_words.specs.Rule.{Logged}
 use Rattle.bpf_shared.specs.Own.{turns_of, in_run}

@@ -4,14 +4,14 @@ use Rattle.atomic_table.proofs.Lists.{exchanged}
 use Rattle.bpf_shared.specs.Shape.{elements}
 use prog.Atomic.{either}
 use Rattle.bpf_shared.specs.Store.{put}
-use Rattle.hop_words.specs.declared.place.Place.{Place}
-use Rattle.hop_words.specs.declared.place.Place.TheVariants.{Stamp, KeyWord, ValueWord}
-use Rattle.hop_words.specs.declared.known.About.{About}
+use Rattle.hop_layout.specs.declared.place.Place.{Place}
+use Rattle.hop_layout.specs.declared.place.Place.TheVariants.{Stamp, KeyWord, ValueWord}
+use Rattle.hop_layout.specs.declared.about.About.{About}
 use Rattle.hop_words.specs.declared.known.Known.{Known}
 use Rattle.hop_words.specs.declared.known.Fresh.{Fresh}
 use Rattle.hop_words.specs.declared.known.Lock.{Lock}
 use Rattle.hop_words.specs.declared.known.Change.TheVariants.{Nothing}
-use Rattle.hop_words.specs.Layout.{mem, same_place, put_at, size}
+use Rattle.hop_layout.specs.Layout.{mem, same_place, put_at, size}
 use Rattle.hop_words.specs.Content.{place_words, Reached, IsShare}
 use Rattle.hop_words.specs.Ghost.{segment_in, Holder, Free, Filling, Leaving, Within, lane, Era, Ghost, shape_at, HasElement, IsSegment, Each}
 use Rattle.hop_words.specs.Shortage.{done_in}
@@ -19,7 +19,7 @@ use Rattle.hop_words.specs.Rule.{Rule, Segment, Minded, Holds, image, changed, o
 use Rattle.hop_words.specs.Sights.{sighted, lock_taken}
 use Rattle.hop_words.specs.Step.{Next, Steps}
 use Rattle.hop_words.specs.Kinds.{has, LocksSegment, IsWritten}
-use Rattle.hop_words.proofs.Layouts.{same_is, same_self, one}
+use Rattle.hop_layout.proofs.Layouts.{same_is, same_self, one}
 use Rattle.hop_words.proofs.Small.{here_or, put2-same, put2-other}
 use Rattle.hop_words.proofs.Histories.{prefix_refl}
 use Rattle.hop_words.proofs.Segs.{share_same, Elsewhere, only_stamp, segments_step, locking_step, readings_step, held_step, lock_once, lock_else}

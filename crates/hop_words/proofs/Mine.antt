@@ -1,12 +1,12 @@
 -- Read under lock, of an element whose link the lane may write.
 use Rattle.std.proofs.Common.{◌≡◌, ℕ, ◌<◌, List, [], ◌∷◌, refl, ap, sym, subst, ◌∙◌, ⊎_elim}
-use Rattle.hop_words.specs.declared.place.Place.TheVariants.{Link, KeyWord, Stamp}
-use Rattle.hop_words.specs.declared.known.About.{About}
+use Rattle.hop_layout.specs.declared.place.Place.TheVariants.{Link, KeyWord, Stamp}
+use Rattle.hop_layout.specs.declared.about.About.{About}
 use Rattle.hop_words.specs.declared.known.Known.{Known}
 use Rattle.hop_words.specs.declared.known.Fresh.{Fresh}
 use Rattle.hop_words.specs.declared.known.Lock.{Lock}
-use Rattle.hop_words.specs.declared.place.Place.{Place}
-use Rattle.hop_words.specs.Layout.{mem}
+use Rattle.hop_layout.specs.declared.place.Place.{Place}
+use Rattle.hop_layout.specs.Layout.{mem}
 use Rattle.hop_words.specs.Content.{place_words}
 use Rattle.hop_words.specs.Ghost.{segment_in, Filling, lane, Ghost, HasElement}
 use Rattle.hop_words.specs.Rule.{Rule, Holds, Minded, image}

@@ -11,12 +11,12 @@ use Rattle.std.specs.FinMap.{len-empty}
 use Rattle.atomic_table.specs.Table.{opening}
 use Rattle.bpf_shared.specs.declared.events.Entry.{Entry}
 use Rattle.bpf_shared.specs.Store.{as_made}
-use Rattle.hop_words.specs.declared.place.Place.{Place}
-use Rattle.hop_words.specs.declared.place.Place.TheVariants.{Stamp, Head, Hop, Link}
-use Rattle.hop_words.specs.declared.known.About.{About}
+use Rattle.hop_layout.specs.declared.place.Place.{Place}
+use Rattle.hop_layout.specs.declared.place.Place.TheVariants.{Stamp, Head, Hop, Link}
+use Rattle.hop_layout.specs.declared.about.About.{About}
 use Rattle.hop_words.specs.declared.known.Known.{Known}
 use Rattle.hop_words.specs.declared.known.View.{View}
-use Rattle.hop_words.specs.Layout.{mem, size}
+use Rattle.hop_layout.specs.Layout.{mem, size}
 use Rattle.hop_words.specs.Content.{item, place_words, times, Reached, LinksThrough, IsShare}
 use Rattle.hop_words.specs.Ghost.{segment_in, Free, Lanes, lane, Era, Ghost, shape_at, IsSegment, limbo_at, no_limbo}
 use Rattle.hop_words.specs.Shortage.{HasCause}

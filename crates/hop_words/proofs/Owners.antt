@@ -10,13 +10,13 @@ use Rattle.bpf_shared.specs.Store.{Value, put}
 use Rattle.bpf_shared.specs.History.{events_of}
 use Rattle.bpf_shared.specs.Own.{in_run}
 use Rattle.bpf_shared.proofs.Puts.{put-same, put-other}
-use Rattle.hop_words.specs.declared.place.Place.{Place}
-use Rattle.hop_words.specs.declared.place.Place.TheVariants.{FreeBits, Stamp, KeyWord, ValueWord}
-use Rattle.hop_words.specs.declared.known.About.{About}
+use Rattle.hop_layout.specs.declared.place.Place.{Place}
+use Rattle.hop_layout.specs.declared.place.Place.TheVariants.{FreeBits, Stamp, KeyWord, ValueWord}
+use Rattle.hop_layout.specs.declared.about.About.{About}
 use Rattle.hop_words.specs.declared.known.Known.{Known}
 use Rattle.hop_words.specs.declared.known.Fresh.{Fresh}
 use Rattle.hop_words.specs.declared.known.Lock.{Lock}
-use Rattle.hop_words.specs.Layout.{mem, put_at}
+use Rattle.hop_layout.specs.Layout.{mem, put_at}
 use Rattle.hop_words.specs.Content.{MapWords, place_words, one_if}
 use Rattle.hop_words.specs.Ghost.{segment_in, Holder, Free, Filling, Leaving, Within, is_free, is_filling, is_leaving, Carries, lane, Era, Ghost, HasElement, Each}
 use Rattle.hop_words.specs.Rule.{Rule, times_fresh, Linked, StartsWith, Minded, Holds, Locking, Valued}

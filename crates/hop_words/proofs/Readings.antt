@@ -11,12 +11,12 @@ use Rattle.bpf_shared.specs.Store.{Plain, put}
 use Rattle.bpf_shared.specs.Events.{Allowed, after_lookup, span_of}
 use Rattle.bpf_shared.specs.History.{entry}
 use Rattle.bpf_shared.proofs.Puts.{put-same, put-other, put_pair}
-use Rattle.hop_words.specs.declared.place.Place.{Place}
-use Rattle.hop_words.specs.declared.place.Place.TheVariants.{RunCount, KeyCount, FreeBits, Stamp, Head, Hop, Slot, Link, KeyWord, ValueWord}
-use Rattle.hop_words.specs.declared.known.About.{About}
+use Rattle.hop_layout.specs.declared.place.Place.{Place}
+use Rattle.hop_layout.specs.declared.place.Place.TheVariants.{RunCount, KeyCount, FreeBits, Stamp, Head, Hop, Slot, Link, KeyWord, ValueWord}
+use Rattle.hop_layout.specs.declared.about.About.{About}
 use Rattle.hop_words.specs.declared.known.Known.{Known}
 use Rattle.hop_words.specs.declared.known.Reading.{Reading}
-use Rattle.hop_words.specs.Layout.{mem, put_at, size}
+use Rattle.hop_layout.specs.Layout.{mem, put_at, size}
 use Rattle.hop_words.specs.Content.{MapWords, place_words, Agrees, Reached}
 use Rattle.hop_words.specs.Ghost.{segment_in, Leaving, Within, Carries, lane, Ghost, shape_at, IsSegment, Each}
 use Rattle.hop_words.specs.Rule.{Rule, Segment, IsSoundReading, Readings, IsPeek, numbered, Runs, Batched, Valued}

@@ -6,16 +6,16 @@ use lib.ListN.{get_elem?}
 use Rattle.atomic_table.specs.Table.{keeps, Allows}
 use Rattle.atomic_table.proofs.Lists.{at_set}
 use Rattle.bpf_shared.specs.declared.events.Entry.{Entry}
-use Rattle.hop_words.specs.declared.place.Place.{Place}
-use Rattle.hop_words.specs.declared.known.About.{About}
+use Rattle.hop_layout.specs.declared.place.Place.{Place}
+use Rattle.hop_layout.specs.declared.about.About.{About}
 use Rattle.hop_words.specs.declared.known.View.{View}
 use Rattle.hop_words.specs.declared.known.Known.{Known}
 use Rattle.hop_words.specs.declared.known.Sight.{Sight}
-use Rattle.hop_words.specs.Layout.{mem, at, is_place, put_at}
+use Rattle.hop_layout.specs.Layout.{mem, at, is_place, put_at}
 use Rattle.hop_words.specs.Ghost.{lane}
 use Rattle.hop_words.specs.Rule.{Seats, solo, Kept, Rule}
 use Rattle.hop_words.specs.Step.{Leaves, TellsLane}
-use Rattle.hop_words.proofs.Layouts.{wrote}
+use Rattle.hop_layout.proofs.Layouts.{wrote}
 
 single : (x : Known) (j k : ℕ) (l m : Known) → get_elem? (x ∷ []) j ≡ some l → get_elem? (x ∷ []) k ≡ some m → j ≡ k
 single x zero zero l m a b = refl

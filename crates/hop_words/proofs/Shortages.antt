@@ -11,13 +11,13 @@ use Rattle.bpf_shared.specs.History.{events_of}
 use Rattle.bpf_shared.specs.Own.{turns_of, in_run}
 use Rattle.bpf_shared.proofs.Chains.{events_of-append, turns_of-append}
 use Rattle.bpf_shared.proofs.Puts.{put-same, put-other}
-use Rattle.hop_words.specs.declared.place.Place.{Place}
-use Rattle.hop_words.specs.declared.place.Place.TheVariants.{FreeBits}
-use Rattle.hop_words.specs.declared.known.About.{About}
+use Rattle.hop_layout.specs.declared.place.Place.{Place}
+use Rattle.hop_layout.specs.declared.place.Place.TheVariants.{FreeBits}
+use Rattle.hop_layout.specs.declared.about.About.{About}
 use Rattle.hop_words.specs.declared.known.Known.{Known}
 use Rattle.hop_words.specs.declared.known.Fresh.{Fresh}
 use Rattle.hop_words.specs.declared.known.Sight.{Sight}
-use Rattle.hop_words.specs.Layout.{map_shape}
+use Rattle.hop_layout.specs.Layout.{map_shape}
 use Rattle.hop_words.specs.Content.{one_if}
 use Rattle.hop_words.specs.Ghost.{Holder, Free, Filling, Leaving, Within, is_free, is_filling, Carries, lane, Ghost, shape_at, HasElement}
 use Rattle.hop_words.specs.Shortage.{HasHadValue, HasBegun, MayBeTaken, MayLack}

@@ -1,6 +1,6 @@
 -- Sights that took no lock.
 use Rattle.std.proofs.Common.{◌≡◌, ℕ, List, [], ◌∷◌, ◌++◌}
-use Rattle.hop_words.specs.declared.place.Place.TheVariants.{FreeBits, Stamp}
+use Rattle.hop_layout.specs.declared.place.Place.TheVariants.{FreeBits, Stamp}
 use Rattle.hop_words.specs.declared.known.Sight.{Sight}
 use Rattle.hop_words.specs.Sights.{IsLook, LeavesLocks, bit_cleared, bit_set}
 use Rattle.hop_words.specs.Ghost.{Each}

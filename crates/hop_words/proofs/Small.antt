@@ -1,4 +1,4 @@
--- Keys, spans, bytes in words, and functions of two numbers.
+-- Keys, and functions of two numbers.
 use Rattle.std.proofs.Common.{◌≡◌, ◌≢◌, ℕ, zero, suc, ◌+◌, ◌*◌, ◌/◌, ◌%◌, ◌<◌, ◌≤◌, Bool, true, false, true≢false, List, [], ◌∷◌, ◌++◌, Option, Some, ◌==◌, if◌then◌else◌, length, take, drop, slice_get, slice_index_or, refl, ap, sym, subst, ◌∙◌, arith, eq-eqb, ⊎_elim, inl, inr, ◌⊎◌, mul-le-mul, length-drop, ◌-◌}
 use Rattle.std.proofs.lemmas.Bool.Decides.{nat_tests}
 use Rattle.std.proofs.lemmas.List.{take-append-le, take-append-drop, length-take-le, take_all, drop-drop}
@@ -10,10 +10,10 @@ use Rattle.bpf_shared.specs.Shape.{Shape, IsMap, IsMapShape, IsShape, elements, 
 use Rattle.bpf_base.specs.Bytes.{little_endian, low_bytes}
 use Rattle.bpf_shared.specs.Store.{put}
 use Rattle.bpf_shared.proofs.Puts.{put-same, put-other}
-use Rattle.hop_words.specs.Layout.{map_shape, no_map}
-use Rattle.hop_words.specs.Homes.{AreBytes, word_of, bytes_of_words}
+use Rattle.hop_layout.specs.Layout.{map_shape, no_map}
+use Rattle.hop_layout.specs.Words.{AreBytes, word_of, bytes_of_words}
 use Rattle.hop_words.specs.Rule.{key_is, put_key}
-use Rattle.hop_words.proofs.Layouts.{both}
+use Rattle.hop_layout.proofs.Layouts.{both}
 
 -- ---- keys
 pub key_same : (p q : List ℕ) → key_is p q ≡ true → p ≡ q
@@ -69,134 +69,3 @@ put2-other f m i n j x ne = ⊎_elim
     (λ (e : n ≡ m). ap (λ g. g j) (put-same f m n (put (f m) i x) e) ∙ (put-other (f m) i j x (ne e) ∙ ap (λ k. f k j) (sym e)))
     (λ (d : n ≢ m). ap (λ g. g j) (put-other f m n (put (f m) i x) d))
     (equal n m)
-
--- ---- shapes
-pub map_is : (h : Shape) (m : ℕ) → m < length h.maps → IsMap h.maps m (map_shape h m)
-map_is h m l = go h.maps m l
-  where
-    go : (gs : List MapShape) (m : ℕ) → m < length gs → slice_get gs m ≡ Some (slice_index_or gs m no_map)
-    go [] m l = absurd (omega arith)
-    go (g ∷ gs) zero l = refl
-    go (g ∷ gs) (suc m) l = go gs m (omega arith)
-
-pub map_of : (h : Shape) (m : ℕ) (g : MapShape) → IsMap h.maps m g → (m < length h.maps) × (map_shape h m ≡ g)
-map_of h m g is = go h.maps m is
-  where
-    go : (gs : List MapShape) (m : ℕ) → slice_get gs m ≡ Some g → (m < length gs) × (slice_index_or gs m no_map ≡ g)
-    go [] m e = cc
-    go (x ∷ gs) zero e = (omega arith, cc)
-    go (x ∷ gs) (suc m) e = let r = go gs m e in (let l = r.0 in omega arith, r.1)
-
--- ---- spans
-stride_most : (g : MapShape) → IsMapShape g → (element_stride g ≤ 256) × (g.value ≤ element_stride g)
-stride_most g s = let a = s.value.0 in let b = s.value.1 in (omega arith, omega arith)
-
-reach : (g : MapShape) (e : ℕ) → IsMapShape g → e < elements g → e * element_stride g ≤ 131071 * 256
-reach g e s l = let a = s.max.1 in let b = s.spare in let t : e ≤ 131071 = omega arith in mul-le-mul t (stride_most g s).0
-
-next_on : (e f k : ℕ) → e < f → e * k + k ≤ f * k
-next_on e f k l = let t : suc e * k ≤ f * k = mul-le-mul l (omega arith) in omega (arith, suc-mul e k)
-  where
-    suc-mul : (e k : ℕ) → suc e * k ≡ e * k + k
-    suc-mul e k = grind arith
-
-pub spans_apart : (h : Shape) (m n e f : ℕ) → IsShape h → m < length h.maps → n < length h.maps → e < elements (map_shape h m) → f < elements (map_shape h n) → (n ≡ m → f ≢ e)
-    → IsApart (element_span m (map_shape h m) e) (element_span n (map_shape h n) f)
-spans_apart h m n e f is lm ln le lf ne a x y =
-    let sm = is.each m (map_shape h m) (map_is h m lm) in
-    let sn = is.each n (map_shape h n) (map_is h n ln) in
-    let bm = reach (map_shape h m) e sm le in
-    let bn = reach (map_shape h n) f sn lf in
-    let vm = (stride_most (map_shape h m) sm).1 in
-    let vn = (stride_most (map_shape h n) sn).1 in
-    let wm = (stride_most (map_shape h m) sm).0 in
-    let wn = (stride_most (map_shape h n) sn).0 in
-    let x0 = x.0 in let x1 = x.1 in let y0 = y.0 in let y1 = y.1 in
-    ⊎_elim
-    (λ (s : n ≡ m). same s (ne s))
-    (λ (d : n ≢ m). dite (dec_lt m n)
-    (λ (l : m < n). omega arith)
-    (λ nl. dite (dec_lt n m) (λ (l : n < m). omega arith) (λ nr. d (grind arith))))
-    (equal n m)
-  where
-    value : ℕ
-    value = (map_shape h m).value
-
-    same : n ≡ m → f ≢ e → ⊥
-    same s d =
-        let sm = is.each m (map_shape h m) (map_is h m lm) in
-        let vm = (stride_most (map_shape h m) sm).1 in
-        let y' : IsIn a (element_span m (map_shape h m) f) = subst (λ k. IsIn a (element_span k (map_shape h k) f)) s y in
-        let x0 = x.0 in let x1 = x.1 in let y0 = y'.0 in let y1 = y'.1 in
-        dite (dec_lt e f)
-        (λ (l : e < f). let k = next_on e f (element_stride (map_shape h m)) l in omega arith)
-        (λ nl. dite (dec_lt f e) (λ (l : f < e). let k = next_on f e (element_stride (map_shape h m)) l in omega arith) (λ nr. d (grind arith)))
-
--- ---- bytes in words
-pub spelled_same : (n : ℕ) (f g : ℕ → ℕ) → ((k : ℕ) → k < n → f k ≡ g k) → bytes_of_words n f ≡ bytes_of_words n g
-spelled_same zero f g e = refl
-spelled_same (suc n) f g e =
-    let a = ap (low_bytes 8) (e 0 (omega arith)) in
-    let b = spelled_same n (λ k. f (k + 1)) (λ k. g (k + 1)) (λ k l. e (k + 1) (omega arith)) in
-    λ i. a i ++ b i
-
-low_of : (k : ℕ) (bs : List ℕ) → AreBytes bs → length bs ≤ k → take (length bs) (low_bytes k (little_endian bs)) ≡ bs
-low_of k [] b l = refl
-low_of zero (x ∷ bs) b l = absurd (omega arith)
-low_of (suc k) (x ∷ bs) b l =
-    let small : x < 256 = b.0 in
-    let h : (x + 256 * little_endian bs) % 256 ≡ x = grind arith in
-    let t : (x + 256 * little_endian bs) / 256 ≡ little_endian bs = grind arith in
-    let r : take (length bs) (low_bytes k ((x + 256 * little_endian bs) / 256)) ≡ bs = ap (λ (n : ℕ). take (length bs) (low_bytes k n)) t ∙ low_of k bs b.1 (omega arith) in
-    λ i. h i ∷ r i
-
-length-low : (n x : ℕ) → length (low_bytes n x) ≡ n
-length-low zero x = refl
-length-low (suc n) x = ap suc (length-low n (x / 256))
-
-bytes_take : (n : ℕ) (bs : List ℕ) → AreBytes bs → AreBytes (take n bs)
-bytes_take zero bs b = tt
-bytes_take (suc n) [] b = tt
-bytes_take (suc n) (x ∷ bs) b = (b.0, bytes_take n bs b.1)
-
-bytes_drop : (n : ℕ) (bs : List ℕ) → AreBytes bs → AreBytes (drop n bs)
-bytes_drop zero bs b = b
-bytes_drop (suc n) [] b = tt
-bytes_drop (suc n) (x ∷ bs) b = bytes_drop n bs b.1
-
-word_later : (bs : List ℕ) (k : ℕ) → word_of bs (k + 1) ≡ word_of (drop 8 bs) k
-word_later bs k = ap (λ (l : List ℕ). little_endian (take 8 l)) (ap (λ (n : ℕ). drop n bs) (let z : 8 * (k + 1) ≡ 8 + 8 * k = omega arith in z) ∙ sym (drop-drop (8 * k) 8 bs))
-
--- the words of bytes spell these bytes
-pub spelled_back : (n : ℕ) (bs : List ℕ) → AreBytes bs → length bs ≤ 8 * n → take (length bs) (bytes_of_words n (word_of bs)) ≡ bs
-spelled_back zero [] b l = refl
-spelled_back zero (x ∷ bs) b l = absurd (omega arith)
-spelled_back (suc n) bs b l = back_by (λ xs c k. spelled_back n xs c k)
-  where
-    rest : List ℕ
-    rest = bytes_of_words n (λ k. word_of bs (k + 1))
-
-    first : List ℕ
-    first = low_bytes 8 (little_endian (take 8 bs))
-
-    len : length first ≡ 8
-    len = length-low 8 (little_endian (take 8 bs))
-
-    short : (8 < length bs → ⊥) → take (length bs) (first ++ rest) ≡ bs
-    short nl =
-        let all : take 8 bs ≡ bs = take_all 8 bs (grind arith) in
-        take-append-le (length bs) first rest (grind arith) ∙ (ap (λ (x : List ℕ). take (length bs) (low_bytes 8 (little_endian x))) all ∙ low_of 8 bs b (grind arith))
-
-    long : ((xs : List ℕ) → AreBytes xs → length xs ≤ 8 * n → take (length xs) (bytes_of_words n (word_of xs)) ≡ xs) → 8 < length bs → take (length bs) (first ++ rest) ≡ bs
-    long again l8 =
-        let front : length (take 8 bs) ≡ 8 = length-take-le 8 bs (omega arith) in
-        let full : first ≡ take 8 bs = sym (take_all 8 first (omega arith)) ∙ (ap (λ (k : ℕ). take k first) (sym front) ∙ low_of 8 (take 8 bs) (bytes_take 8 bs b) (omega arith)) in
-        let back : length (drop 8 bs) ≡ length bs - 8 = length-drop 8 bs in
-        let split : length bs ≡ length first + length (drop 8 bs) = omega arith in
-        ap (λ (k : ℕ). take k (first ++ rest)) split
-        ∙ (take-append-add first rest (length (drop 8 bs))
-        ∙ ((λ i. full i ++ take (length (drop 8 bs)) (spelled_same n (λ k. word_of bs (k + 1)) (word_of (drop 8 bs)) (λ k _. word_later bs k) i))
-        ∙ (ap (λ (x : List ℕ). take 8 bs ++ x) (again (drop 8 bs) (bytes_drop 8 bs b) (omega arith)) ∙ take-append-drop 8 bs)))
-
-    back_by : ((xs : List ℕ) → AreBytes xs → length xs ≤ 8 * n → take (length xs) (bytes_of_words n (word_of xs)) ≡ xs) → take (length bs) (first ++ rest) ≡ bs
-    back_by again = dite (dec_lt 8 (length bs)) (long again) short

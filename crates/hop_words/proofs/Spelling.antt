@@ -1,14 +1,14 @@
 -- The words that a value was filled into spell it.
 use Rattle.std.proofs.Common.{◌≡◌, ℕ, ◌<◌, List, ◌∷◌, length, take, slice_index, ap, sym, subst, ◌∙◌, arith}
-use Rattle.hop_words.specs.declared.place.Place.{Place}
-use Rattle.hop_words.specs.declared.place.Place.TheVariants.{KeyWord, ValueWord}
-use Rattle.hop_words.specs.declared.known.About.{About}
+use Rattle.hop_layout.specs.declared.place.Place.{Place}
+use Rattle.hop_layout.specs.declared.place.Place.TheVariants.{KeyWord, ValueWord}
+use Rattle.hop_layout.specs.declared.about.About.{About}
 use Rattle.hop_words.specs.declared.known.Fresh.{Fresh}
-use Rattle.hop_words.specs.Layout.{words_for}
-use Rattle.hop_words.specs.Homes.{bytes_of_words, word_of, AreBytes}
+use Rattle.hop_layout.specs.Layout.{words_for}
+use Rattle.hop_layout.specs.Words.{bytes_of_words, word_of, AreBytes}
 use Rattle.hop_words.specs.Ghost.{shape_at, Each}
 use Rattle.hop_words.specs.Rule.{StartsWith}
-use Rattle.hop_words.proofs.Small.{spelled_same, spelled_back}
+use Rattle.hop_layout.proofs.Spelled.{spelled_same, spelled_back}
 
 abbrev pub IsFilled : (Place → ℕ) → Fresh → Type 0
 IsFilled w y = StartsWith y.key (λ j. w (KeyWord y.map y.element j)) × StartsWith y.value (λ j. w (ValueWord y.map y.element j))

@@ -7,18 +7,19 @@ use Rattle.bpf_shared.specs.Shape.{IsMap, IsApart, IsIn, element_span}
 use Rattle.bpf_shared.specs.Store.{Plain, as_made, put, IsLive}
 use Rattle.bpf_shared.specs.Events.{Allowed, MayLie}
 use Rattle.bpf_shared.specs.History.{events_of, entry}
-use Rattle.hop_words.specs.declared.place.Place.{Place}
-use Rattle.hop_words.specs.declared.known.About.{About}
+use Rattle.hop_layout.specs.declared.place.Place.{Place}
+use Rattle.hop_layout.specs.declared.about.About.{About}
 use Rattle.hop_words.specs.declared.known.Known.{Known}
 use Rattle.hop_words.specs.declared.known.Sight.{Sight}
-use Rattle.hop_words.specs.Layout.{put_at, same_place}
+use Rattle.hop_layout.specs.Layout.{put_at, same_place}
 use Rattle.hop_words.specs.Ghost.{Filling, Carries, lane, Era, Ghost, shape_at, HasElement}
 use Rattle.hop_words.specs.Rule.{Rule, Logged, Runs, Worn, numbered}
 use Rattle.bpf_shared.specs.Own.{turns_of, in_run}
 use Rattle.hop_words.specs.Step.{Noted, Next}
 use Rattle.hop_words.specs.Kinds.{Saw}
-use Rattle.hop_words.proofs.Layouts.{same_is}
-use Rattle.hop_words.proofs.Small.{map_is, spans_apart, equal, here_or}
+use Rattle.hop_layout.proofs.Layouts.{same_is}
+use Rattle.hop_layout.proofs.Maps.{map_is, spans_apart}
+use Rattle.hop_words.proofs.Small.{equal, here_or}
 use Rattle.hop_words.proofs.Histories.{rest_has_none, turns_own, turns_else, runs_as_known, shape_after, prefix_refl, done_in-append}
 
 -- the counters after an event that turns no run

@@ -5,13 +5,13 @@ use prog.Atomic.{either}
 use Rattle.bpf_shared.specs.Store.{put}
 use Rattle.bpf_shared.specs.History.{events_of}
 use Rattle.bpf_shared.specs.Own.{in_run}
-use Rattle.hop_words.specs.declared.place.Place.{Place}
-use Rattle.hop_words.specs.declared.place.Place.TheVariants.{RunCount, FreeBits, Stamp}
-use Rattle.hop_words.specs.declared.known.About.{About}
+use Rattle.hop_layout.specs.declared.place.Place.{Place}
+use Rattle.hop_layout.specs.declared.place.Place.TheVariants.{RunCount, FreeBits, Stamp}
+use Rattle.hop_layout.specs.declared.about.About.{About}
 use Rattle.hop_words.specs.declared.known.Known.{Known}
 use Rattle.hop_words.specs.declared.known.Reading.{Reading}
 use Rattle.hop_words.specs.declared.known.Sight.{Sight}
-use Rattle.hop_words.specs.Layout.{mem, put_at}
+use Rattle.hop_layout.specs.Layout.{mem, put_at}
 use Rattle.hop_words.specs.Ghost.{lane, Ghost, HasElement, IsSegment, limbo_at}
 use Rattle.hop_words.specs.Sights.{sight, look, lock_taken, bit_cleared, bit_set, sighted}
 use Rattle.hop_words.specs.Step.{Noted, Next, Steps, Notes, NotesTaken}
@@ -19,14 +19,13 @@ use Rattle.hop_words.specs.Kinds.{holding, cleared, noting, giving_old, Passed, 
 use Rattle.hop_words.specs.Owning.{ClaimsBit, GivesFresh, IsInHand, LooksAgain}
 use Rattle.hop_words.proofs.Small.{equal}
 use Rattle.hop_words.proofs.Shortages.{shown_noted}
-use Rattle.hop_words.proofs.Locks.{put_here}
+use Rattle.hop_words.proofs.Locks.{put_here, lock}
 use Rattle.hop_words.proofs.Stays.{next_as, stay}
 use Rattle.hop_words.proofs.Owners.{claim_bit, mask_kept}
 use Rattle.hop_words.proofs.Turns.{see_counter_again}
 use Rattle.hop_words.proofs.Hands.{gives}
 use Rattle.hop_words.proofs.Gives.{give_old}
 use Rattle.hop_words.proofs.Readings.{AgainSeen, see_stamp, see_again}
-use Rattle.hop_words.proofs.Locks.{lock}
 
 module _ (a : About) (w : Place → ℕ) (g : Ghost) (c : ℕ) (told said : Known → Type 0) (s : Sight) (less : (x : Known) → told x → said (sighted x s)) (left : w s.place ≡ s.left) (n : Next a w g c told) where
   abbrev noted_ghost : Ghost

@@ -8,12 +8,12 @@ use Rattle.bpf_shared.specs.Store.{Value, Plain, put, never}
 use Rattle.bpf_shared.specs.Events.{Allowed, after_begin, after_end}
 use Rattle.bpf_shared.specs.History.{entry, events_of}
 use Rattle.bpf_shared.proofs.Puts.{put-same, put-other}
-use Rattle.hop_words.specs.declared.place.Place.{Place}
-use Rattle.hop_words.specs.declared.place.Place.TheVariants.{RunCount, Stamp, Link}
-use Rattle.hop_words.specs.declared.known.About.{About}
+use Rattle.hop_layout.specs.declared.place.Place.{Place}
+use Rattle.hop_layout.specs.declared.place.Place.TheVariants.{RunCount, Stamp, Link}
+use Rattle.hop_layout.specs.declared.about.About.{About}
 use Rattle.hop_words.specs.declared.known.Known.{Known}
 use Rattle.hop_words.specs.declared.known.Limbo.{Limbo}
-use Rattle.hop_words.specs.Layout.{mem, put_at}
+use Rattle.hop_layout.specs.Layout.{mem, put_at}
 use Rattle.hop_words.specs.Content.{one_if, times}
 use Rattle.hop_words.specs.Ghost.{is_leaving, lane, Ghost, HasElement, limbo_at}
 use Rattle.hop_words.specs.Rule.{Rule, Runs, Chained, times_limbo}

@@ -12,16 +12,17 @@ use Rattle.bpf_shared.specs.Store.{Plain, Keys, Value, put}
 use Rattle.bpf_shared.specs.Events.{Allowed, after_update}
 use Rattle.bpf_shared.specs.History.{entry}
 use Rattle.bpf_shared.proofs.Puts.{put-same, put-other, insert_cases}
-use Rattle.hop_words.specs.declared.place.Place.{Place}
-use Rattle.hop_words.specs.declared.place.Place.TheVariants.{RunCount, KeyCount, FreeBits, Stamp, ValueWord}
-use Rattle.hop_words.specs.declared.known.About.{About}
+use Rattle.hop_layout.specs.declared.place.Place.{Place}
+use Rattle.hop_layout.specs.declared.place.Place.TheVariants.{RunCount, KeyCount, FreeBits, Stamp, ValueWord}
+use Rattle.hop_layout.specs.declared.about.About.{About}
 use Rattle.hop_words.specs.declared.known.Known.{Known}
 use Rattle.hop_words.specs.declared.known.Fresh.{Fresh}
 use Rattle.hop_words.specs.declared.known.Limbo.{Limbo}
 use Rattle.hop_words.specs.declared.known.Lock.{Lock}
 use Rattle.hop_words.specs.declared.known.Change.TheVariants.{Puts}
-use Rattle.hop_words.specs.Layout.{mem, put_at, words_for}
-use Rattle.hop_words.specs.Homes.{segment_of, bytes_of_words}
+use Rattle.hop_layout.specs.Layout.{mem, put_at, words_for}
+use Rattle.hop_layout.specs.Home.{segment_of}
+use Rattle.hop_layout.specs.Words.{bytes_of_words}
 use Rattle.hop_words.specs.Content.{place_words}
 use Rattle.hop_words.specs.Ghost.{segment_in, Holder, Filling, Leaving, Within, lane, Era, Ghost, shape_at, HasElement, limbo_at}
 use Rattle.hop_words.specs.Shortage.{done_in, HasHadValue, HasCause}

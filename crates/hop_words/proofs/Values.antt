@@ -14,13 +14,13 @@ use Rattle.bpf_shared.specs.Access.{bytes_in}
 use Rattle.bpf_shared.specs.Events.{Allowed, Reaches, number_in, after_write}
 use Rattle.bpf_shared.specs.History.{entry, events_of}
 use Rattle.bpf_shared.proofs.Puts.{put-same, put-other}
-use Rattle.hop_words.specs.declared.place.Place.{Place}
-use Rattle.hop_words.specs.declared.place.Place.TheVariants.{RunCount, Stamp, KeyWord, ValueWord}
-use Rattle.hop_words.specs.declared.known.About.{About}
+use Rattle.hop_layout.specs.declared.place.Place.{Place}
+use Rattle.hop_layout.specs.declared.place.Place.TheVariants.{RunCount, Stamp, KeyWord, ValueWord}
+use Rattle.hop_layout.specs.declared.about.About.{About}
 use Rattle.hop_words.specs.declared.known.Known.{Known}
 use Rattle.hop_words.specs.declared.known.Fresh.{Fresh}
-use Rattle.hop_words.specs.Layout.{mem, put_at, words_for}
-use Rattle.hop_words.specs.Homes.{bytes_of_words}
+use Rattle.hop_layout.specs.Layout.{mem, put_at, words_for}
+use Rattle.hop_layout.specs.Words.{bytes_of_words}
 use Rattle.hop_words.specs.Content.{one_if}
 use Rattle.hop_words.specs.Ghost.{Carries, lane, Ghost, shape_at, HasElement, Each}
 use Rattle.hop_words.specs.Rule.{Rule, StartsWith, Filled, times_fresh, Valued}
@@ -32,7 +32,7 @@ use Rattle.hop_words.proofs.Small.{here_or}
 use Rattle.hop_words.proofs.Histories.{logged_event}
 use Rattle.hop_words.proofs.Holdings.{holds_as_known}
 use Rattle.hop_words.proofs.Comes.{filling_most}
-use Rattle.hop_words.proofs.WordBytes.{value_put, value_part}
+use Rattle.hop_layout.proofs.WordBytes.{value_put, value_part}
 use Rattle.hop_words.proofs.Locks.{put_else}
 use Rattle.hop_words.proofs.Shortages.{had_write, shown_more}
 use Rattle.hop_words.proofs.Unlocks.{noted_event, event_rule}

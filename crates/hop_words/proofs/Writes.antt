@@ -1,19 +1,19 @@
 -- Write under lock, read under lock.
 use Rattle.std.proofs.Common.{◌≡◌, ◌≢◌, ℕ, ◌<◌, ◌≤◌, true, true≢false, List, [], ◌∷◌, ◌==◌, length-set, slice_set, refl, ap, sym, subst, ◌∙◌, arith, eq-eqb, ne_eqb, ⊎_elim, inl, inr, ◌⊎◌}
 use Rattle.bpf_shared.specs.Store.{put}
-use Rattle.hop_words.specs.declared.place.Place.{Place}
-use Rattle.hop_words.specs.declared.place.Place.TheVariants.{RunCount, KeyCount, FreeBits, Stamp, Head, Hop, Slot, Link, KeyWord, ValueWord}
-use Rattle.hop_words.specs.declared.known.About.{About}
+use Rattle.hop_layout.specs.declared.place.Place.{Place}
+use Rattle.hop_layout.specs.declared.place.Place.TheVariants.{RunCount, KeyCount, FreeBits, Stamp, Head, Hop, Slot, Link, KeyWord, ValueWord}
+use Rattle.hop_layout.specs.declared.about.About.{About}
 use Rattle.hop_words.specs.declared.known.Known.{Known}
 use Rattle.hop_words.specs.declared.known.Fresh.{Fresh}
 use Rattle.hop_words.specs.declared.known.Lock.{Lock}
-use Rattle.hop_words.specs.Layout.{mem, at, is_place, put_at}
+use Rattle.hop_layout.specs.Layout.{mem, at, is_place, put_at}
 use Rattle.hop_words.specs.Content.{place_words, one_if, times, Agrees}
 use Rattle.hop_words.specs.Ghost.{segment_in, Filling, Leaving, Within, lane, Era, Ghost, HasElement, limbo_at}
 use Rattle.hop_words.specs.Rule.{Rule, Segment, Minded, Holds, image, Worn, Runs, Keyed, Batched, Chained, times_limbo, Owned, Filled, Valued, Segments, Locking, Held, times_lock}
 use Rattle.hop_words.specs.Step.{Next, Steps}
 use Rattle.hop_words.specs.Kinds.{writing, MayLink}
-use Rattle.hop_words.proofs.Layouts.{wrote}
+use Rattle.hop_layout.proofs.Layouts.{wrote}
 use Rattle.hop_words.proofs.Small.{here_or, put2-same, put2-other}
 use Rattle.hop_words.proofs.Histories.{prefix_refl}
 use Rattle.hop_words.proofs.Comes.{in_hand, in_limbo}

@@ -5,11 +5,11 @@ use mathlib.Core.Option.{some}
 use lib.ListN.{get_elem?}
 use Rattle.atomic_table.specs.Table.{Step}
 use Rattle.bpf_shared.specs.declared.events.Entry.{Entry}
-use Rattle.hop_words.specs.declared.known.About.{About}
+use Rattle.hop_layout.specs.declared.about.About.{About}
 use Rattle.hop_words.specs.declared.known.Known.{Known}
 use Rattle.hop_words.specs.declared.closing.Returned.TheInside.{Inside as InReturned}
 use Rattle.hop_words.specs.declared.closing.Rest.TheInside.{Inside as InRest}
-use Rattle.hop_words.specs.Layout.{size}
+use Rattle.hop_layout.specs.Layout.{size}
 use Rattle.hop_words.specs.Dealing.{Dealing}
 use Rattle.hop_words.specs.Seats.{Sat, view, empty_view, Learned, KeepsWholeHistory}
 

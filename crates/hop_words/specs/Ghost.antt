@@ -5,15 +5,15 @@ use Rattle.bpf_shared.specs.declared.shapes.MapShape.{MapShape}
 use Rattle.bpf_shared.specs.declared.events.Entry.{Entry}
 use Rattle.bpf_shared.specs.Shape.{elements}
 use Rattle.bpf_shared.specs.Store.{Plain}
-use Rattle.hop_words.specs.declared.known.About.{About}
+use Rattle.hop_layout.specs.declared.about.About.{About}
 use Rattle.hop_words.specs.declared.known.Known.{Known}
 use Rattle.hop_words.specs.declared.known.Fresh.{Fresh}
 use Rattle.hop_words.specs.declared.known.Limbo.{Limbo}
 use Rattle.hop_words.specs.declared.known.Lock.{Lock}
 use Rattle.hop_words.specs.declared.known.Reading.{Reading}
 use Rattle.hop_words.specs.declared.known.Sight.{Sight}
-use Rattle.hop_words.specs.Layout.{map_shape, segments}
-use Rattle.hop_words.specs.Homes.{segment_of}
+use Rattle.hop_layout.specs.Layout.{map_shape, segments}
+use Rattle.hop_layout.specs.Home.{segment_of}
 use Rattle.hop_words.specs.Content.{MapWords}
 
 -- an element is free, or one CPU fills it, or one CPU took it out of its map, or it is linked in

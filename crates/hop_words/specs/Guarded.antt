@@ -1,9 +1,9 @@
 -- The words that a segment's lock guards.
 use Rattle.std.specs.Prelude.{◌≡◌, ℕ}
-use Rattle.hop_words.specs.declared.known.About.{About}
+use Rattle.hop_layout.specs.declared.about.About.{About}
 use Rattle.hop_words.specs.declared.known.Known.{Known}
-use Rattle.hop_words.specs.declared.place.Place.{Place}
-use Rattle.hop_words.specs.declared.place.Place.TheVariants.{Head, Hop, Slot, Link, KeyWord}
+use Rattle.hop_layout.specs.declared.place.Place.{Place}
+use Rattle.hop_layout.specs.declared.place.Place.TheVariants.{Head, Hop, Slot, Link, KeyWord}
 use Rattle.hop_words.specs.Kinds.{MayLink}
 use Rattle.hop_words.specs.Locking.{lock_of}
 

@@ -2,12 +2,12 @@
 use Rattle.std.specs.Prelude.{◌≡◌, ℕ, []}
 use Rattle.atomic_table.specs.Seated.{TableId}
 use Rattle.atomic_table.specs.Table.{Step, Me}
-use Rattle.hop_words.specs.declared.known.About.{About}
+use Rattle.hop_layout.specs.declared.about.About.{About}
 use Rattle.hop_words.specs.declared.known.Known.{Known}
 use Rattle.hop_words.specs.declared.known.View.{View}
 use Rattle.hop_words.specs.declared.table.HopTable.TheInside.{Inside as InTable}
 use Rattle.hop_words.specs.declared.lane.Lane.TheInside.{Inside as InStepper}
-use Rattle.hop_words.specs.Layout.{size}
+use Rattle.hop_layout.specs.Layout.{size}
 use Rattle.hop_words.specs.Rule.{solo}
 use Rattle.hop_words.specs.Step.{TellsLane, first_lane}
 

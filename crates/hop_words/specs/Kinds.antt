@@ -11,19 +11,19 @@ use Rattle.bpf_shared.specs.Store.{Plain}
 use Rattle.bpf_base.specs.Bytes.{little_endian, low_bytes, part}
 use Rattle.bpf_shared.specs.Events.{Allowed}
 use Rattle.bpf_shared.specs.History.{IsLegal, events_of, entry}
-use Rattle.hop_words.specs.declared.known.About.{About}
+use Rattle.hop_layout.specs.declared.about.About.{About}
 use Rattle.hop_words.specs.declared.known.Known.{Known}
 use Rattle.hop_words.specs.declared.known.Fresh.{Fresh}
-use Rattle.hop_words.specs.declared.place.Place.{Place}
-use Rattle.hop_words.specs.declared.place.Place.TheVariants.{Stamp}
+use Rattle.hop_layout.specs.declared.place.Place.{Place}
+use Rattle.hop_layout.specs.declared.place.Place.TheVariants.{Stamp}
 use Rattle.hop_words.specs.declared.known.Limbo.{Limbo}
 use Rattle.hop_words.specs.declared.known.Lock.{Lock}
 use Rattle.hop_words.specs.declared.known.Reading.{Reading}
 use Rattle.hop_words.specs.declared.known.Peek.{Peek}
 use Rattle.hop_words.specs.declared.known.Change.TheVariants.{Nothing, Puts, Drops}
-use Rattle.hop_words.specs.Layout.{words_for, at, size}
+use Rattle.hop_layout.specs.Layout.{words_for, at, size}
 use Rattle.hop_words.specs.Sights.{IsTakenSince, look, lock_taken, sighted}
-use Rattle.hop_words.specs.Homes.{word_of, AreBytes}
+use Rattle.hop_layout.specs.Words.{word_of, AreBytes}
 use Rattle.hop_words.specs.Content.{MapWords, IsShare}
 use Rattle.hop_words.specs.Ghost.{segment_in, shape_at, HasElement, Each, limbo_at}
 use Rattle.hop_words.specs.Shortage.{done_in}

@@ -1,7 +1,3 @@
-pub mod Home
-pub mod Layout
-pub mod Index
-pub mod Homes
 pub mod Content
 pub mod Ghost
 pub mod Shortage

@@ -2,13 +2,13 @@
 use Rattle.std.specs.Prelude.{◌≡◌, ◌≢◌, ◌⊎◌, ℕ, ◌+◌, ◌<◌, List, [], ◌∷◌, slice_index_or, false}
 use Rattle.bpf_shared.specs.declared.events.Event.TheVariants.{Update}
 use Rattle.bpf_shared.specs.declared.events.MapAnswer.TheVariants.{Full, NoMemory}
-use Rattle.hop_words.specs.declared.known.About.{About}
+use Rattle.hop_layout.specs.declared.about.About.{About}
 use Rattle.hop_words.specs.declared.known.Known.{Known}
 use Rattle.hop_words.specs.declared.known.Fresh.{Fresh}
 use Rattle.hop_words.specs.declared.known.Lock.{Lock}
 use Rattle.hop_words.specs.declared.known.Change.TheVariants.{Nothing}
-use Rattle.hop_words.specs.declared.place.Place.{Place}
-use Rattle.hop_words.specs.declared.place.Place.TheVariants.{Stamp}
+use Rattle.hop_layout.specs.declared.place.Place.{Place}
+use Rattle.hop_layout.specs.declared.place.Place.TheVariants.{Stamp}
 use Rattle.hop_words.specs.Content.{MapWords}
 use Rattle.hop_words.specs.Ghost.{shape_at}
 use Rattle.hop_words.specs.Rule.{image}

@@ -1,9 +1,9 @@
 -- The words of a store as made, one after the other.
 use Rattle.std.specs.Prelude.{◌≡◌, ℕ, ◌+◌, ◌*◌, ◌-◌, ◌^◌, Bool, true, ◌&&◌, ◌||◌, ◌==◌, if◌then◌else◌, nat_lt}
-use Rattle.hop_words.specs.declared.place.Place.{Place}
-use Rattle.hop_words.specs.declared.place.Place.TheVariants.{RunCount, FreeBits, Stamp}
-use Rattle.hop_words.specs.declared.known.About.{About}
-use Rattle.hop_words.specs.Layout.{is_place, depth}
+use Rattle.hop_layout.specs.declared.place.Place.{Place}
+use Rattle.hop_layout.specs.declared.place.Place.TheVariants.{RunCount, FreeBits, Stamp}
+use Rattle.hop_layout.specs.declared.about.About.{About}
+use Rattle.hop_layout.specs.Layout.{is_place, depth}
 use Rattle.hop_words.specs.Ghost.{shape_at}
 
 -- the word of a place as made

@@ -1,11 +1,11 @@
 -- What the steps on elements and run counters ask of what a CPU knows, and what they make of it.
 use Rattle.std.specs.Prelude.{◌≡◌, ℕ, ◌/◌, ◌%◌, ◌<◌, List, [], ◌∷◌, ◌++◌, length, slice_index}
 use Rattle.std.specs.Int.{bit_at}
-use Rattle.hop_words.specs.declared.known.About.{About}
+use Rattle.hop_layout.specs.declared.about.About.{About}
 use Rattle.hop_words.specs.declared.known.Known.{Known}
 use Rattle.hop_words.specs.declared.known.Fresh.{Fresh}
-use Rattle.hop_words.specs.declared.place.Place.TheVariants.{FreeBits, RunCount}
-use Rattle.hop_words.specs.Layout.{free_words}
+use Rattle.hop_layout.specs.declared.place.Place.TheVariants.{FreeBits, RunCount}
+use Rattle.hop_layout.specs.Layout.{free_words}
 use Rattle.hop_words.specs.Ghost.{shape_at, limbo_at}
 use Rattle.hop_words.specs.Sights.{look, bit_cleared, bit_set, sighted}
 use Rattle.hop_words.specs.Kinds.{holding, cleared, giving_old}

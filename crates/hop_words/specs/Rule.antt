@@ -12,9 +12,9 @@ use Rattle.bpf_shared.specs.Shape.{element_span, IsShape}
 use Rattle.bpf_shared.specs.Store.{Keys, Value, Plain, as_made}
 use Rattle.bpf_shared.specs.History.{Legal, events_of}
 use Rattle.bpf_shared.specs.Own.{turns_of}
-use Rattle.hop_words.specs.declared.place.Place.{Place}
-use Rattle.hop_words.specs.declared.place.Place.TheVariants.{RunCount, KeyCount, FreeBits, Stamp, Head, Hop, Slot, Link, KeyWord, ValueWord}
-use Rattle.hop_words.specs.declared.known.About.{About}
+use Rattle.hop_layout.specs.declared.place.Place.{Place}
+use Rattle.hop_layout.specs.declared.place.Place.TheVariants.{RunCount, KeyCount, FreeBits, Stamp, Head, Hop, Slot, Link, KeyWord, ValueWord}
+use Rattle.hop_layout.specs.declared.about.About.{About}
 use Rattle.hop_words.specs.declared.known.Known.{Known}
 use Rattle.hop_words.specs.declared.known.View.{View}
 use Rattle.hop_words.specs.declared.known.Fresh.{Fresh}
@@ -25,8 +25,8 @@ use Rattle.hop_words.specs.declared.known.Reading.{Reading}
 use Rattle.hop_words.specs.declared.known.Peek.{Peek}
 use Rattle.hop_words.specs.declared.known.Change.{Change}
 use Rattle.hop_words.specs.declared.known.Change.TheVariants.{Nothing, Puts, Drops}
-use Rattle.hop_words.specs.Layout.{size, mem, words_for}
-use Rattle.hop_words.specs.Homes.{bytes_of_words}
+use Rattle.hop_layout.specs.Layout.{size, mem, words_for}
+use Rattle.hop_layout.specs.Words.{bytes_of_words}
 use Rattle.hop_words.specs.Content.{one_if, MapWords, place_words, times, Reached, IsShare, Agrees}
 use Rattle.hop_words.specs.Shortage.{done_in, HasBegun, MayBeTaken, HaveCauses}
 use Rattle.hop_words.specs.Sights.{IsTakenSince}

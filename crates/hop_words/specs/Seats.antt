@@ -6,10 +6,10 @@ use lib.ListN.{get_elem?}
 use Rattle.atomic_table.specs.Table.{Me}
 use Rattle.bpf_shared.specs.declared.events.Entry.{Entry}
 use Rattle.bpf_shared.specs.History.{events_of}
-use Rattle.hop_words.specs.declared.known.About.{About}
+use Rattle.hop_layout.specs.declared.about.About.{About}
 use Rattle.hop_words.specs.declared.known.Known.{Known}
 use Rattle.hop_words.specs.declared.known.View.{View}
-use Rattle.hop_words.specs.Layout.{mem}
+use Rattle.hop_layout.specs.Layout.{mem}
 use Rattle.hop_words.specs.Content.{IsShare}
 use Rattle.hop_words.specs.Ghost.{segment_in, Ghost, shape_at, IsSegment}
 use Rattle.hop_words.specs.Rule.{Rule, image}

@@ -9,7 +9,7 @@ use Rattle.bpf_shared.specs.Shape.{Shape, elements, element_span}
 use Rattle.bpf_shared.specs.Store.{Plain, as_made}
 use Rattle.bpf_shared.specs.History.{Legal, events_of}
 use Rattle.bpf_shared.specs.Own.{turns_of}
-use Rattle.hop_words.specs.Layout.{map_shape}
+use Rattle.hop_layout.specs.Layout.{map_shape}
 use Rattle.hop_words.specs.Content.{one_if}
 
 -- ---- Busy

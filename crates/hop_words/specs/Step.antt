@@ -4,12 +4,12 @@ use Rattle.std.specs.Prelude.{◌≡◌, ◌≢◌, ℕ, ◌<◌, ◌==◌, if�
 use prog.Atomic.{either}
 use mathlib.Core.List.{IsPrefix}
 use Rattle.atomic_table.specs.Table.{Me}
-use Rattle.hop_words.specs.declared.place.Place.{Place}
-use Rattle.hop_words.specs.declared.known.About.{About}
+use Rattle.hop_layout.specs.declared.place.Place.{Place}
+use Rattle.hop_layout.specs.declared.about.About.{About}
 use Rattle.hop_words.specs.declared.known.Known.{Known}
 use Rattle.hop_words.specs.declared.known.Sight.{Sight}
 use Rattle.hop_words.specs.declared.known.View.{View}
-use Rattle.hop_words.specs.Layout.{size, mem, put_at}
+use Rattle.hop_layout.specs.Layout.{size, mem, put_at}
 use Rattle.hop_words.specs.Sights.{sight}
 use Rattle.hop_words.specs.Ghost.{Ghost, lane}
 use Rattle.hop_words.specs.Rule.{Rule, solo}

@@ -1,7 +1,7 @@
 -- What the steps on value words ask of what a CPU knows, and where they are.
 use Rattle.std.specs.Prelude.{ℕ}
 use Rattle.bpf_shared.specs.Access.{bytes_in}
-use Rattle.hop_words.specs.declared.known.About.{About}
+use Rattle.hop_layout.specs.declared.about.About.{About}
 use Rattle.hop_words.specs.declared.known.Known.{Known}
 use Rattle.hop_words.specs.declared.touching.ValuePart.{ValuePart}
 use Rattle.hop_words.specs.Kinds.{Touches, value_at, found_in}

@@ -1,6 +1,6 @@
 -- The store that tests and the bench call.
 use Rattle.std.specs.Prelude.{◌≡◌, ◌%◌, ◌<◌, length}
-use Rattle.hop_words.specs.declared.known.About.{About}
+use Rattle.hop_layout.specs.declared.about.About.{About}
 use Rattle.hop_words.specs.Ghost.{shape_at}
 
 -- the first map's keys and values have eight bytes each, and no run was counted when the store was

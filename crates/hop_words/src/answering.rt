@@ -8,8 +8,8 @@ ghost use Rattle.hop_words.specs.Owning.{tail_of};
 ghost use Rattle.hop_words.specs.Locking.{lock_of, hand, HasLock, SeesRoom, SeesLack};
 
 use crate::lane::Lane;
-use crate::place::Place;
 use crate::table::HopTable;
+use hop_layout::Place;
 use bpf_shared::MapAnswer;
 use std::marker::Brand;
 

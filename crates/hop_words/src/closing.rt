@@ -4,14 +4,13 @@ ghost use mathlib.Core.Option.{some};
 ghost use lib.ListN.{get_elem?};
 ghost use Rattle.hop_words.specs.declared.known.Known.{Known};
 ghost use Rattle.hop_words.specs.Closing.{AreAllBack};
-ghost use Rattle.hop_words.specs.Layout.{is_place, mem};
+ghost use Rattle.hop_layout.specs.Layout.{is_place, mem};
 ghost use Rattle.hop_words.specs.Seats.{HasSeenBeginning, KeepsWholeHistory, view};
 
-use crate::index::Index;
-use crate::known::{About, View};
+use crate::known::View;
 use crate::lane::Lane;
-use crate::place::Place;
 use crate::table::HopTable;
+use hop_layout::{About, Index, Place};
 use atomic_table::{Closed, Join, Play, Seat, Split};
 use std::alloc::Global;
 use std::marker::Model;
@@ -169,7 +168,7 @@ impl Rest {
         ensures about { result.now ≡ self.now.about }
         ensures whole { KeepsWholeHistory self.now.about (view [] self.now.history) self.now.words }
     {
-        &self.index.about
+        self.index.about()
     }
 
     /// The word of a place.

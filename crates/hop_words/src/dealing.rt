@@ -2,11 +2,11 @@
 ghost use Rattle.std.specs.Prelude.{◌≡◌, ◌<◌, ◌^◌, [], ◌∷◌, IfOk, MatchOption};
 ghost use Rattle.hop_words.specs.Opens.{lanes_from};
 
-use crate::index::Index;
-use crate::known::{About, View};
+use crate::known::View;
 use crate::lane::Lane;
 use crate::making::first_words;
 use crate::table::HopTable;
+use hop_layout::{About, Index};
 use atomic_table::{Seat, Split, Table};
 use std::alloc::{AllocError, Global};
 use std::marker::Model;
@@ -51,7 +51,7 @@ impl HopTable {
         let left = about.shape.cpus();
         let index = Index::new(alloc, about)?;
         let words = first_words(alloc, &index)?;
-        let (table, seat) = Table::of_words(alloc, &words, &index.about)?;
+        let (table, seat) = Table::of_words(alloc, &words, index.about())?;
         let lanes = Lanes {
             seat,
             next: 0,

@@ -1,13 +1,13 @@
 //! The words that a segment's lock guards, read and written by their places.
 ghost use Rattle.std.specs.Prelude.{◌≡◌, true, [], ◌∷◌};
-ghost use Rattle.hop_words.specs.Layout.{is_place, mem};
+ghost use Rattle.hop_layout.specs.Layout.{is_place, mem};
 ghost use Rattle.hop_words.specs.Kinds.{writing};
 ghost use Rattle.hop_words.specs.Locking.{lock_of};
 ghost use Rattle.hop_words.specs.Guarded.{IsGuarded, MayWrite};
 
 use crate::lane::Lane;
-use crate::place::Place;
 use crate::table::HopTable;
+use hop_layout::Place;
 use std::marker::Brand;
 
 impl Lane {

@@ -1,16 +1,7 @@
 //! What a seat of the table knows. No value of these types is ever made.
-use crate::place::Place;
-use bpf_shared::{Entry, StoreShape};
+use hop_layout::Place;
+use bpf_shared::Entry;
 use std::collections::LinkedList;
-
-/// What the table is told once: the shape, the hash's seed, and the version and the count as made.
-#[derive(Drop)]
-pub struct About {
-    pub shape: StoreShape,
-    pub seed: u64,
-    pub version: u64,
-    pub count: u64,
-}
 
 /// An element that its owner fills: the words of its key and of its value so far.
 pub struct Fresh {

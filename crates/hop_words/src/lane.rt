@@ -2,7 +2,7 @@
 //! made of.
 ghost use Rattle.std.specs.Prelude.{◌≡◌, ◌==◌, true, [], ℕ, ◌+◌, ◌%◌, ◌^◌, bit_and, bit_or, bit_xor};
 ghost use prog.Atomic.{either};
-ghost use Rattle.hop_words.specs.Layout.{is_place};
+ghost use Rattle.hop_layout.specs.Layout.{is_place};
 ghost use Rattle.hop_words.specs.Rule.{solo};
 ghost use Rattle.hop_words.specs.Inside.{nobody};
 ghost use Rattle.hop_words.specs.Sights.{IsQuiet};
@@ -10,8 +10,8 @@ ghost use Rattle.hop_words.specs.Locking.{Unlocks};
 ghost use Rattle.hop_words.specs.Step.{Steps, Notes, NotesTaken, first_lane};
 
 use crate::known::View;
-use crate::place::Place;
 use crate::table::HopTable;
+use hop_layout::Place;
 use atomic_table::{Play, Seat};
 use std::marker::{Brand, Model, PhantomData};
 

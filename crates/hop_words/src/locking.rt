@@ -1,15 +1,15 @@
 //! The steps on a segment under its lock. A lock is a compare-exchange of an unlocked stamp, and
 //! the unlock a store of it: with the version plus 1 where the segment changed, else with the same.
 ghost use Rattle.std.specs.Prelude.{◌≡◌, ◌<◌, ◌+◌, ◌%◌, [], IsTrue, IsFalse};
-ghost use Rattle.hop_words.specs.declared.place.Place.TheVariants.{Head, Hop, Slot, Link};
-ghost use Rattle.hop_words.specs.Layout.{words_for};
+ghost use Rattle.hop_layout.specs.declared.place.Place.TheVariants.{Head, Hop, Slot, Link};
+ghost use Rattle.hop_layout.specs.Layout.{words_for};
 ghost use Rattle.hop_words.specs.Ghost.{shape_at, HasElement, IsSegment};
 ghost use Rattle.hop_words.specs.Kinds.{LocksSegment, MayLink, writing};
 ghost use Rattle.hop_words.specs.Locking.{lock_of, HasLock, locked_words};
 
 use crate::lane::Lane;
-use crate::place::Place;
 use crate::table::HopTable;
+use hop_layout::Place;
 use std::marker::Brand;
 
 impl Lane {

@@ -1,13 +1,12 @@
 //! Making a store's words, and dealing its CPUs.
 ghost use Rattle.std.specs.Prelude.{◌≡◌, ◌+◌, ◌<◌, ◌^◌, true, length, IfOk};
 ghost use Rattle.bpf_shared.specs.Shape.{IsMapShape};
-ghost use Rattle.hop_words.specs.Layout.{is_place, mem, put_at, size};
+ghost use Rattle.hop_layout.specs.Layout.{is_place, mem, put_at, size};
 ghost use Rattle.hop_words.specs.Ghost.{shape_at};
 ghost use Rattle.hop_words.specs.Made.{IsPartly};
 ghost use Rattle.hop_words.specs.Opens.{AreNewWords};
 
-use crate::index::{Index, depth, elements, segments};
-use crate::place::Place;
+use hop_layout::{Index, Place, depth, elements, segments};
 use bpf_shared::MapShape;
 use std::alloc::{AllocError, Global};
 
@@ -39,7 +38,7 @@ fn put_map(words: &mut Vec<u64>, index: &Index, map: u8, shape: &MapShape)
     'bits: for word in 0..elements(shape).div_ceil(64) {
         put(words, index, Place::FreeBits { map, word }, u64::MAX);
     }
-    let stamp = index.about.version * 256 + 2 * u64::from(depth(shape.max));
+    let stamp = index.about().version * 256 + 2 * u64::from(depth(shape.max));
     'stamps: for segment in 0..segments(shape) {
         put(words, index, Place::Stamp { map, segment }, stamp);
     }
@@ -51,16 +50,16 @@ pub(crate) fn first_words(alloc: Global, index: &Index) -> Result<Vec<u64>, Allo
     ensures sized { IfOk result (λ v. length v.items ≡ size index.now.shape) }
     ensures made { IfOk result (λ v. AreNewWords index.now (mem index.now.shape v.items)) }
 {
-    let mut words = vec![in alloc; 0; index.words]?;
-    'runs: for cpu in 0..index.about.shape.cpus() {
+    let mut words = vec![in alloc; 0; index.words()]?;
+    'runs: for cpu in 0..index.about().shape.cpus() {
         put(
             &mut words,
             index,
             Place::RunCount { cpu },
-            index.about.count,
+            index.about().count,
         );
     }
-    'maps: for (map, shape) in index.about.shape.maps().iter().enumerate() {
+    'maps: for (map, shape) in index.about().shape.maps().iter().enumerate() {
         put_map(&mut words, index, map as u8, shape);
     }
     Ok(words)

@@ -3,17 +3,17 @@
 ghost use Rattle.std.specs.Prelude.{ℕ, ◌≡◌, ◌<◌, ◌-◌, ◌/◌, ◌%◌, ◌^◌, true, [], ◌∷◌, length};
 ghost use Rattle.bpf_shared.specs.History.{events_of};
 ghost use Rattle.bpf_shared.specs.Own.{in_run};
-ghost use Rattle.hop_words.specs.declared.place.Place.TheVariants.{FreeBits};
+ghost use Rattle.hop_layout.specs.declared.place.Place.TheVariants.{FreeBits};
 ghost use Rattle.hop_words.specs.Sights.{look, sighted};
-ghost use Rattle.hop_words.specs.Layout.{words_for};
+ghost use Rattle.hop_layout.specs.Layout.{words_for};
 ghost use Rattle.hop_words.specs.Ghost.{shape_at, HasElement, limbo_at};
 ghost use Rattle.hop_words.specs.Rule.{link_to};
 ghost use Rattle.hop_words.specs.Kinds.{Passed, retiring};
 ghost use Rattle.hop_words.specs.Owning.{IsFreeWord, ClaimsBit, GivesFresh, GivesOld, IsInHand, tail_of, key_filled, value_filled, with_key_word, with_value_word};
 
 use crate::lane::Lane;
-use crate::place::Place;
 use crate::table::HopTable;
+use hop_layout::Place;
 use std::marker::Brand;
 
 // The bit of an element in its word.

@@ -1,13 +1,13 @@
 //! Readings without a lock: a segment's stamp, then words of it, then its stamp again.
 ghost use Rattle.std.specs.Prelude.{◌≡◌, true, [], ◌∷◌};
-ghost use Rattle.hop_words.specs.Layout.{is_place};
+ghost use Rattle.hop_layout.specs.Layout.{is_place};
 ghost use Rattle.hop_words.specs.Ghost.{IsSegment};
 ghost use Rattle.hop_words.specs.Kinds.{StampSeen, StampSeenAgain, peeking, FindsByPeeks};
 ghost use Rattle.hop_words.specs.Peeking.{latest_reading, HasReading};
 
 use crate::lane::Lane;
-use crate::place::Place;
 use crate::table::HopTable;
+use hop_layout::Place;
 use std::marker::Brand;
 
 impl Lane {

@@ -8,8 +8,8 @@ ghost use Rattle.bpf_shared.specs.Own.{in_run};
 ghost use Rattle.hop_words.specs.Owning.{LooksAgain};
 
 use crate::lane::Lane;
-use crate::place::Place;
 use crate::table::HopTable;
+use hop_layout::Place;
 use std::marker::Brand;
 
 impl Lane {

@@ -1,7 +1,6 @@
 //! The table of the store's words.
-use crate::index::Index;
-use crate::known::{About, View};
-use crate::place::Place;
+use crate::known::View;
+use hop_layout::{About, Index, Place};
 use atomic_table::{Table, TableRule};
 use std::alloc::Global;
 use std::marker::Model;
@@ -39,13 +38,13 @@ impl Model for HopTable {
 impl HopTable {
     ghost use Rattle.std.specs.Prelude.{◌≡◌, ◌<◌, ◌%◌, true, length};
     ghost use Rattle.hop_words.specs.Ghost.{shape_at};
-    ghost use Rattle.hop_words.specs.Layout.{is_place, at, segments};
+    ghost use Rattle.hop_layout.specs.Layout.{is_place, at, segments};
 
     /// What the store was told when it was made.
     pub fn about(&self) -> &About
         ensures { result.now ≡ self.now.about }
     {
-        &self.index.about
+        self.index.about()
     }
 
     /// The number of the segment of a map that a home lies in.

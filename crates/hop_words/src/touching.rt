@@ -10,8 +10,8 @@ ghost use Rattle.hop_words.specs.Kinds.{Told};
 ghost use Rattle.hop_words.specs.Touching.{TouchesPart, TouchesWord, part_address, found_part};
 
 use crate::lane::Lane;
-use crate::place::Place;
 use crate::table::HopTable;
+use hop_layout::Place;
 use bpf_shared::{AtomicOp, Size};
 use std::marker::Brand;
 

@@ -2,7 +2,7 @@ use Rattle.std.proofs.Common.{◌≡◌, ◌∙◌, sym, ap, length, rules, subs
 use Rattle.std.specs.Prelude.{vec_len}
 use Rattle.bpf_base.proofs.Lists.{filled}
 use Rattle.bpf_shared.specs.History.{IsLegal}
-use Rattle.hop_words.specs.declared.known.About.{About}
+use Rattle.hop_layout.specs.declared.about.About.{About}
 use Rattle.hop_words.specs.Shortage.{HaveCauses}
 use Rattle.bpf_sched.proofs.Crews.{many}
 use Rattle.bpf_sched.proofs.Finishing.{ready, run, have_ports, all_of, explained}

@@ -1,5 +1,5 @@
 use Rattle.std.proofs.Common.{◌≡◌, ℕ, ap, subst, ◌∙◌}
-use Rattle.hop_words.specs.declared.known.About.{About}
+use Rattle.hop_layout.specs.declared.about.About.{About}
 use Rattle.bpf_sched.specs.Refusing.{IsFirstSchedError}
 use Rattle.bpf_sched.proofs.jobs.run_jobs.Goals as goal
 

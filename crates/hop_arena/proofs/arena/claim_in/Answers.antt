@@ -1,7 +1,7 @@
 use Rattle.std.proofs.Common.{◌≡◌, ℕ, ◌+◌, ◌*◌, ◌/◌, ◌%◌, ◌<◌, [], ◌∷◌, refl, ap, sym, subst, ◌∙◌, arith}
 use Rattle.std.specs.Int.{bit_at, trailing_zeros, w64}
 use Rattle.std.proofs.lemmas.Nat.{and_le_l}
-use Rattle.hop_words.specs.declared.place.Place.TheVariants.{FreeBits}
+use Rattle.hop_layout.specs.declared.place.Place.TheVariants.{FreeBits}
 use Rattle.hop_words.specs.Sights.{look, bit_cleared}
 use Rattle.hop_arena.proofs.Claiming.{first_look, looks_on, holds_on, look_on, all_taken, lowest, fewer, looks_runs}
 use Rattle.hop_words.proofs.Sighted.{looks_leave, cleared_leaves}

@@ -1,5 +1,5 @@
 use Rattle.std.proofs.Common.{refl, ap, sym, subst, ◌∙◌}
-use Rattle.hop_words.specs.declared.known.About.{About}
+use Rattle.hop_layout.specs.declared.about.About.{About}
 use Rattle.hop_words.specs.Inside.{Shown}
 use Rattle.hop_map.specs.Stores.{ArePorts}
 use Rattle.hop_bench.proofs.Trials.{trial_made, new_ports_are}

@@ -1,5 +1,5 @@
 use Rattle.std.specs.Prelude.{◌≡◌}
-use Rattle.hop_words.specs.Homes.{bytes_of_words}
+use Rattle.hop_layout.specs.Words.{bytes_of_words}
 use Rattle.hop_map.specs.Dumping.{words_in}
 use Rattle.hop_map.proofs.dumping.read_key.Given as goal
 

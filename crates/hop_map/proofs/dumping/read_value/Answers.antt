@@ -1,7 +1,7 @@
 use Rattle.std.proofs.Common.{ℕ, ◌++◌, sym, ◌∙◌}
 use Rattle.bpf_base.specs.Bytes.{low_bytes}
-use Rattle.hop_words.specs.declared.place.Place.TheVariants.{ValueWord}
-use Rattle.hop_words.specs.Layout.{mem}
+use Rattle.hop_layout.specs.declared.place.Place.TheVariants.{ValueWord}
+use Rattle.hop_layout.specs.Layout.{mem}
 use Rattle.hop_map.proofs.Dumps.{spelled_more}
 use Rattle.hop_map.proofs.dumping.read_value.Goals as goal
 

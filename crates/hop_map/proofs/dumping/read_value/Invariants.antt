@@ -1,7 +1,7 @@
 use Rattle.std.specs.Prelude.{◌≡◌}
-use Rattle.hop_words.specs.declared.place.Place.TheVariants.{ValueWord}
-use Rattle.hop_words.specs.Layout.{mem}
-use Rattle.hop_words.specs.Homes.{bytes_of_words}
+use Rattle.hop_layout.specs.declared.place.Place.TheVariants.{ValueWord}
+use Rattle.hop_layout.specs.Layout.{mem}
+use Rattle.hop_layout.specs.Words.{bytes_of_words}
 use Rattle.hop_map.proofs.dumping.read_value.Given as goal
 
 abbrev pub invariant-words : goal.invariant-words

@@ -1,9 +1,9 @@
 use Rattle.std.proofs.Common.{◌<◌, List, length, slice_index_or, sym, subst, arith}
 use Rattle.bpf_shared.specs.declared.shapes.MapShape.{MapShape}
 use Rattle.bpf_shared.specs.Shape.{IsMapShape}
-use Rattle.hop_words.specs.declared.known.About.{About}
-use Rattle.hop_words.specs.Layout.{map_shape, no_map}
-use Rattle.hop_words.proofs.Small.{map_is}
+use Rattle.hop_layout.specs.declared.about.About.{About}
+use Rattle.hop_layout.specs.Layout.{map_shape, no_map}
+use Rattle.hop_layout.proofs.Maps.{map_is}
 use Rattle.hop_map.proofs.homing.shape_of.Goals as goal
 
 pub returns-clause-sizes : goal.returns-clause-sizes

@@ -1,6 +1,6 @@
 use Rattle.std.proofs.Common.{◌*◌, subst, arith}
 use Rattle.bpf_shared.specs.Shape.{IsShape}
-use Rattle.hop_words.specs.declared.known.About.{About}
+use Rattle.hop_layout.specs.declared.about.About.{About}
 use Rattle.hop_map.proofs.Touching.{map_there, touches}
 use Rattle.hop_map.proofs.parts.part_at.Goals as goal
 

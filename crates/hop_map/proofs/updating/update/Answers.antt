@@ -1,6 +1,6 @@
 use Rattle.std.proofs.Common.{ℕ, ◌<◌, [], length, refl, ap, subst, ◌∙◌, arith}
 use Rattle.hop_words.specs.declared.known.Known.{Known}
-use Rattle.hop_words.specs.Homes.{segment_of}
+use Rattle.hop_layout.specs.Home.{segment_of}
 use Rattle.hop_words.specs.Ghost.{shape_at}
 use Rattle.hop_words.specs.Sights.{lock_taken}
 use Rattle.hop_map.specs.Whole.{SearchesInVain}

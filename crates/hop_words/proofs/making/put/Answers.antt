@@ -1,6 +1,6 @@
 use Rattle.std.proofs.Common.{ℕ, set, ap, ◌∙◌, arith}
-use Rattle.hop_words.specs.Layout.{mem}
-use Rattle.hop_words.proofs.Layouts.{at_inside, wrote}
+use Rattle.hop_layout.specs.Layout.{mem}
+use Rattle.hop_layout.proofs.Layouts.{at_inside, wrote}
 use Rattle.hop_words.proofs.making.put.Goals as goal
 
 pub index_mut-requires : goal.index_mut-requires

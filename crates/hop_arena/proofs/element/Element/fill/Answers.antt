@@ -1,6 +1,6 @@
 use Rattle.std.proofs.Common.{[], length, ap, sym, subst, ◌∙◌}
 use Rattle.hop_words.specs.declared.known.Known.{Known}
-use Rattle.hop_words.specs.Layout.{words_for}
+use Rattle.hop_layout.specs.Layout.{words_for}
 use Rattle.hop_words.specs.Owning.{IsInHand, key_filled, value_filled}
 use Rattle.hop_arena.specs.Filling.{word_list}
 use Rattle.hop_arena.proofs.Filling.{still_in_hand, keys_filled, values_filled, word_count}

@@ -1,5 +1,5 @@
 use Rattle.std.specs.Prelude.{◌≡◌, [], length}
-use Rattle.hop_words.specs.Layout.{words_for}
+use Rattle.hop_layout.specs.Layout.{words_for}
 use Rattle.hop_arena.specs.Filling.{with_words, word_list}
 use Rattle.hop_arena.proofs.element.Element.fill.Given as goal
 

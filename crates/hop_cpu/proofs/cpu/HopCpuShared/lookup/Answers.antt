@@ -2,7 +2,7 @@ use Rattle.std.proofs.Common.{◌≡◌, true, subst}
 use Rattle.bpf_shared.specs.declared.events.Event.TheVariants.{Lookup}
 use Rattle.bpf_shared.specs.declared.events.Span.{Span}
 use Rattle.bpf_shared.specs.Shape.{AreMaps, IsElement, IsShape}
-use Rattle.hop_words.specs.declared.known.About.{About}
+use Rattle.hop_layout.specs.declared.about.About.{About}
 use Rattle.hop_cpu.specs.Serving.{Serving, serves_span}
 use Rattle.hop_cpu.proofs.Calling.{called, found_held, with_port}
 use Rattle.hop_cpu.proofs.Elements.{holds_elements, shape_maps}

@@ -5,7 +5,7 @@ use Rattle.std.specs.declared.alloc.Global.{Global}
 use Rattle.bpf_shared.specs.declared.shapes.MapShape.{MapShape}
 use Rattle.bpf_shared.specs.Store.{Plain}
 use Rattle.bpf_shared.specs.Listing.{IsListing, listed}
-use Rattle.hop_words.specs.declared.known.About.{About}
+use Rattle.hop_layout.specs.declared.about.About.{About}
 use Rattle.hop_words.specs.Ghost.{IsSegment}
 use Rattle.hop_words.specs.Closing.{Ending}
 use Rattle.hop_map.specs.Dumping.{key_in, IsReached, IsKeyAmong, AreFound}

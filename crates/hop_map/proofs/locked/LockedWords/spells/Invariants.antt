@@ -1,7 +1,7 @@
 use Rattle.std.specs.Prelude.{◌≡◌, ◌<◌, ℕ, true}
-use Rattle.hop_words.specs.declared.place.Place.TheVariants.{KeyWord}
-use Rattle.hop_words.specs.Layout.{mem}
-use Rattle.hop_words.specs.Homes.{word_of}
+use Rattle.hop_layout.specs.declared.place.Place.TheVariants.{KeyWord}
+use Rattle.hop_layout.specs.Layout.{mem}
+use Rattle.hop_layout.specs.Words.{word_of}
 use Rattle.hop_words.specs.Locking.{lock_of}
 use Rattle.hop_map.specs.Views.{knows}
 use Rattle.hop_map.proofs.locked.LockedWords.spells.Given as goal

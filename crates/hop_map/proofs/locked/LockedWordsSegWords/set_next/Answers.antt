@@ -1,6 +1,6 @@
 use Rattle.std.proofs.Common.{ap, sym, subst, ◌∙◌}
-use Rattle.hop_words.specs.declared.place.Place.{Place}
-use Rattle.hop_words.specs.declared.place.Place.TheVariants.{Link}
+use Rattle.hop_layout.specs.declared.place.Place.{Place}
+use Rattle.hop_layout.specs.declared.place.Place.TheVariants.{Link}
 use Rattle.hop_map.specs.Views.{Locked, Ready, written}
 use Rattle.hop_words.specs.Guarded.{MayWrite}
 use Rattle.hop_words.proofs.Locked.{link_there}

@@ -1,6 +1,6 @@
 use Rattle.std.proofs.Common.{◌≡◌, ℕ, ap, sym, subst, ◌∙◌, arith, ⊎_elim}
-use Rattle.hop_words.specs.declared.place.Place.TheVariants.{KeyWord}
-use Rattle.hop_words.specs.Homes.{word_of}
+use Rattle.hop_layout.specs.declared.place.Place.TheVariants.{KeyWord}
+use Rattle.hop_layout.specs.Words.{word_of}
 use Rattle.hop_words.proofs.Small.{equal}
 use Rattle.hop_map.specs.Peeks.{Peeked, Rested}
 use Rattle.hop_map.specs.Lemmas.Resting.{rested_on, had_peeks}

@@ -1,9 +1,9 @@
 use Rattle.std.proofs.Common.{◌≡◌, ℕ, true, ◌<◌, ap, sym, subst, ◌∙◌}
-use Rattle.hop_words.specs.declared.known.About.{About}
+use Rattle.hop_layout.specs.declared.about.About.{About}
 use Rattle.hop_words.specs.Closing.{Ending}
 use Rattle.std.specs.Mem.Slots.{slots_items}
-use Rattle.hop_words.specs.Layout.{is_place, mem, size}
-use Rattle.hop_words.proofs.Layouts.{at_inside}
+use Rattle.hop_layout.specs.Layout.{is_place, mem, size}
+use Rattle.hop_layout.proofs.Layouts.{at_inside}
 use Rattle.hop_words.proofs.Closings.{read_at}
 use Rattle.hop_words.proofs.closing.Rest.word.Goals as goal
 

@@ -1,7 +1,7 @@
 use Rattle.std.proofs.Common.{ℕ, ◌<◌, ap, sym, subst, ◌∙◌}
 use lib.ListN.{get_elem?}
 use Rattle.bpf_shared.specs.Shape.{IsShape}
-use Rattle.hop_words.specs.declared.known.About.{About}
+use Rattle.hop_layout.specs.declared.about.About.{About}
 use Rattle.hop_words.specs.Inside.{Shown}
 use Rattle.hop_words.specs.Dealing.{Dealing}
 use Rattle.hop_words.proofs.Gathers.{learns}

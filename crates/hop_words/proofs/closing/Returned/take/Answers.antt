@@ -1,6 +1,6 @@
 use Rattle.std.proofs.Common.{ℕ, ◌<◌, ap, sym, subst, ◌∙◌}
 use Rattle.bpf_shared.specs.Shape.{IsShape}
-use Rattle.hop_words.specs.declared.known.About.{About}
+use Rattle.hop_layout.specs.declared.about.About.{About}
 use Rattle.hop_words.specs.Inside.{Shown}
 use Rattle.hop_words.specs.Dealing.{Dealing}
 use Rattle.hop_words.specs.Seats.{Sat}

@@ -1,6 +1,6 @@
 use Rattle.std.proofs.Common.{◌≢◌, ℕ, ◌<◌, length, ap, sym, subst, ◌∙◌}
 use Rattle.atomic_table.specs.Table.{Me, Splits}
-use Rattle.hop_words.specs.declared.known.About.{About}
+use Rattle.hop_layout.specs.declared.about.About.{About}
 use Rattle.hop_words.specs.declared.known.View.{View}
 use Rattle.bpf_shared.specs.Shape.{IsShape}
 use Rattle.hop_words.specs.Rule.{Kept}

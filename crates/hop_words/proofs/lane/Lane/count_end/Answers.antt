@@ -1,5 +1,5 @@
 use Rattle.std.proofs.Common.{ℕ, ◌+◌, ◌%◌, ◌^◌, sym, subst}
-use Rattle.hop_words.specs.declared.place.Place.TheVariants.{RunCount}
+use Rattle.hop_layout.specs.declared.place.Place.TheVariants.{RunCount}
 use Rattle.hop_words.specs.Step.{Steps}
 use Rattle.bpf_shared.specs.declared.events.Event.TheVariants.{End}
 use Rattle.hop_words.specs.Kinds.{Told}

@@ -1,5 +1,5 @@
 use Rattle.std.proofs.Common.{ℕ, ◌/◌, bit_or, sym, subst}
-use Rattle.hop_words.specs.declared.place.Place.TheVariants.{FreeBits}
+use Rattle.hop_layout.specs.declared.place.Place.TheVariants.{FreeBits}
 use Rattle.hop_words.specs.Step.{Notes}
 use Rattle.hop_words.specs.Ghost.{limbo_at}
 use Rattle.hop_words.specs.Owning.{tail_of, GivesOld}

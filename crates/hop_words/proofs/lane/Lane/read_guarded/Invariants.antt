@@ -1,5 +1,5 @@
 use Rattle.std.specs.Prelude.{◌≡◌}
-use Rattle.hop_words.specs.Layout.{mem}
+use Rattle.hop_layout.specs.Layout.{mem}
 use Rattle.hop_words.specs.Locking.{lock_of}
 use Rattle.hop_words.specs.Guarded.{IsGuarded}
 use Rattle.hop_words.proofs.lane.Lane.read_guarded.Given as goal

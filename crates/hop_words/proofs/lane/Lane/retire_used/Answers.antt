@@ -1,5 +1,5 @@
 use Rattle.std.proofs.Common.{◌≡◌, ℕ, sym, subst}
-use Rattle.hop_words.specs.declared.place.Place.TheVariants.{Link}
+use Rattle.hop_layout.specs.declared.place.Place.TheVariants.{Link}
 use Rattle.hop_words.specs.Ghost.{limbo_at}
 use Rattle.hop_words.specs.Step.{Steps}
 use Rattle.hop_words.specs.Kinds.{retiring}

@@ -1,5 +1,5 @@
 use Rattle.std.specs.Prelude.{◌≡◌}
-use Rattle.hop_words.specs.declared.place.Place.TheVariants.{FreeBits}
+use Rattle.hop_layout.specs.declared.place.Place.TheVariants.{FreeBits}
 use Rattle.hop_words.specs.Sights.{look, sighted}
 use Rattle.hop_words.proofs.lane.Lane.see_bits.Given as goal
 

@@ -3,10 +3,10 @@ use Rattle.std.specs.Mem.Slots.{slots_items}
 use Rattle.atomic_table.specs.Table.{Final, Seen}
 use Rattle.bpf_shared.specs.Shape.{IsShape}
 use Rattle.bpf_shared.specs.declared.events.Entry.{Entry}
-use Rattle.hop_words.specs.declared.known.About.{About}
+use Rattle.hop_layout.specs.declared.about.About.{About}
 use Rattle.hop_words.specs.declared.known.View.{View}
 use Rattle.hop_words.specs.Inside.{Shown}
-use Rattle.hop_words.specs.Layout.{size}
+use Rattle.hop_layout.specs.Layout.{size}
 use Rattle.hop_words.specs.Rule.{Kept}
 use Rattle.hop_words.specs.Seats.{Sat, view, HasSeenBeginning, KeepsWholeHistory}
 use Rattle.hop_words.specs.Closing.{AreAllBack}

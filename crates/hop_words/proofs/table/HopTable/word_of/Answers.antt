@@ -1,6 +1,6 @@
 use Rattle.std.proofs.Common.{ap, ◌∙◌}
-use Rattle.hop_words.specs.declared.known.About.{About}
-use Rattle.hop_words.specs.Layout.{at}
+use Rattle.hop_layout.specs.declared.about.About.{About}
+use Rattle.hop_layout.specs.Layout.{at}
 use Rattle.hop_words.specs.Inside.{Shown}
 use Rattle.hop_words.proofs.table.HopTable.word_of.Goals as goal
 

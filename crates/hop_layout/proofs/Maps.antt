@@ -1,0 +1,70 @@
+-- The maps of a store by their numbers, and that no two elements' spans overlap.
+use Rattle.std.proofs.Common.{◌≡◌, ◌≢◌, ℕ, zero, suc, ◌+◌, ◌*◌, ◌/◌, ◌%◌, ◌<◌, ◌≤◌, Bool, true, false, true≢false, List, [], ◌∷◌, ◌++◌, Option, Some, ◌==◌, if◌then◌else◌, length, take, drop, slice_get, slice_index_or, refl, ap, sym, subst, ◌∙◌, arith, eq-eqb, ⊎_elim, inl, inr, ◌⊎◌, mul-le-mul, length-drop, ◌-◌}
+use Rattle.std.proofs.lemmas.Bool.Decides.{nat_tests}
+use Rattle.std.proofs.lemmas.List.{take-append-le, take-append-drop, length-take-le, take_all, drop-drop}
+use Rattle.std.proofs.Math.Seq.{take-append-add}
+use mathlib.Core.Logic.{dite}
+use native.Mathlib.Decide.{ℕ_discrete, dec_lt}
+use Rattle.bpf_shared.specs.declared.shapes.MapShape.{MapShape}
+use Rattle.bpf_shared.specs.Shape.{Shape, IsMap, IsMapShape, IsShape, elements, element_stride, element_span, IsApart, IsIn}
+use Rattle.bpf_base.specs.Bytes.{little_endian, low_bytes}
+use Rattle.bpf_shared.specs.Store.{put}
+use Rattle.bpf_shared.proofs.Puts.{put-same, put-other, equal_or_not}
+use Rattle.hop_layout.specs.Layout.{map_shape, no_map}
+use Rattle.hop_layout.specs.Words.{AreBytes, word_of, bytes_of_words}
+use Rattle.hop_layout.proofs.Layouts.{both}
+use Rattle.bpf_shared.proofs.Places.{stride_most, reach_most}
+
+pub map_is : (h : Shape) (m : ℕ) → m < length h.maps → IsMap h.maps m (map_shape h m)
+map_is h m l = go h.maps m l
+  where
+    go : (gs : List MapShape) (m : ℕ) → m < length gs → slice_get gs m ≡ Some (slice_index_or gs m no_map)
+    go [] m l = absurd (omega arith)
+    go (g ∷ gs) zero l = refl
+    go (g ∷ gs) (suc m) l = go gs m (omega arith)
+
+pub map_of : (h : Shape) (m : ℕ) (g : MapShape) → IsMap h.maps m g → (m < length h.maps) × (map_shape h m ≡ g)
+map_of h m g is = go h.maps m is
+  where
+    go : (gs : List MapShape) (m : ℕ) → slice_get gs m ≡ Some g → (m < length gs) × (slice_index_or gs m no_map ≡ g)
+    go [] m e = cc
+    go (x ∷ gs) zero e = (omega arith, cc)
+    go (x ∷ gs) (suc m) e = let r = go gs m e in (let l = r.0 in omega arith, r.1)
+
+next_on : (e f k : ℕ) → e < f → e * k + k ≤ f * k
+next_on e f k l = let t : suc e * k ≤ f * k = mul-le-mul l (omega arith) in omega (arith, suc-mul e k)
+  where
+    suc-mul : (e k : ℕ) → suc e * k ≡ e * k + k
+    suc-mul e k = grind arith
+
+pub spans_apart : (h : Shape) (m n e f : ℕ) → IsShape h → m < length h.maps → n < length h.maps → e < elements (map_shape h m) → f < elements (map_shape h n) → (n ≡ m → f ≢ e)
+    → IsApart (element_span m (map_shape h m) e) (element_span n (map_shape h n) f)
+spans_apart h m n e f is lm ln le lf ne a x y =
+    let sm = is.each m (map_shape h m) (map_is h m lm) in
+    let sn = is.each n (map_shape h n) (map_is h n ln) in
+    let bm = reach_most (map_shape h m) e sm le in
+    let bn = reach_most (map_shape h n) f sn lf in
+    let vm = (stride_most (map_shape h m) sm).1 in
+    let vn = (stride_most (map_shape h n) sn).1 in
+    let wm = (stride_most (map_shape h m) sm).0 in
+    let wn = (stride_most (map_shape h n) sn).0 in
+    let x0 = x.0 in let x1 = x.1 in let y0 = y.0 in let y1 = y.1 in
+    ⊎_elim
+    (λ (s : n ≡ m). same s (ne s))
+    (λ (d : n ≢ m). dite (dec_lt m n)
+    (λ (l : m < n). omega arith)
+    (λ nl. dite (dec_lt n m) (λ (l : n < m). omega arith) (λ nr. d (grind arith))))
+    (equal_or_not n m)
+  where
+    value : ℕ
+    value = (map_shape h m).value
+
+    same : n ≡ m → f ≢ e → ⊥
+    same s d =
+        let sm = is.each m (map_shape h m) (map_is h m lm) in
+        let vm = (stride_most (map_shape h m) sm).1 in
+        let y' : IsIn a (element_span m (map_shape h m) f) = subst (λ k. IsIn a (element_span k (map_shape h k) f)) s y in
+        let x0 = x.0 in let x1 = x.1 in let y0 = y'.0 in let y1 = y'.1 in
+        dite (dec_lt e f)
+        (λ (l : e < f). let k = next_on e f (element_stride (map_shape h m)) l in omega arith)
+        (λ nl. dite (dec_lt f e) (λ (l : f < e). let k = next_on f e (element_stride (map_shape h m)) l in omega arith) (λ nr. d (grind arith)))

@@ -1,0 +1,4 @@
+pub mod Layout
+pub mod Home
+pub mod Words
+pub mod Private

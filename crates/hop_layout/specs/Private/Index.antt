@@ -1,0 +1,48 @@
+-- Where the words of each map begin, by their kinds.
+use Rattle.std.specs.Prelude.{◌≡◌, ℕ, ◌+◌, ◌*◌, ◌<◌, List, length, slice_get, Some}
+use Rattle.bpf_shared.specs.declared.shapes.MapShape.{MapShape}
+use Rattle.bpf_shared.specs.Shape.{Shape, elements}
+use Rattle.hop_layout.specs.declared.index.Bases.{Bases}
+use Rattle.hop_layout.specs.declared.place.Place.TheVariants.{KeyCount, Stamp, Link, KeyWord, ValueWord}
+use Rattle.hop_layout.specs.Layout.{at, size, words_for, map_shape, free_words, line_rest, segments, depth, map_words}
+
+abbrev pub bases : Shape → ℕ → Bases
+bases h m = record {
+  start = at h (KeyCount m);
+  segments = at h (Stamp m 0);
+  links = at h (Link m 0);
+  keys = at h (KeyWord m 0 0);
+  values = at h (ValueWord m 0 0);
+  key_words = words_for (map_shape h m).key;
+  value_words = words_for (map_shape h m).value;
+  depth = depth (map_shape h m);
+}
+
+-- the first n maps begin where they do
+abbrev pub AreBases : Shape → ℕ → List Bases → Type 0
+AreBases h n bs = (m : ℕ) → m < n → slice_get bs m ≡ Some (bases h m)
+
+pub record IsIndex (h : Shape) (bs : List Bases) (words : ℕ) : Type 0 where
+  pub each : AreBases h (length h.maps) bs
+  pub whole : words ≡ size h
+
+-- the same for a map of this shape whose words begin here
+abbrev pub bases_from : ℕ → MapShape → Bases
+bases_from start g =
+    let segment_start = start + 8 + free_words g + line_rest (free_words g) in
+    let link_start = segment_start + 130 * segments g in
+    let key_start = link_start + elements g in
+    record {
+      start = start;
+      segments = segment_start;
+      links = link_start;
+      keys = key_start;
+      values = key_start + elements g * words_for g.key;
+      key_words = words_for g.key;
+      value_words = words_for g.value;
+      depth = depth g;
+    }
+
+abbrev pub end_from : ℕ → MapShape → ℕ
+end_from start g = (bases_from start g).values + elements g * words_for g.value + line_rest
+    (map_words g)

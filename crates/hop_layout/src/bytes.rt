@@ -1,0 +1,18 @@
+//! The numbers in words.
+ghost use Rattle.std.specs.Prelude.{◌≡◌, ◌<◌, ◌*◌, length};
+ghost use Rattle.hop_layout.specs.Words.{word_of};
+
+/// Eight bytes, the lowest first, or those that are left, with zeros behind them.
+pub fn word_of(bytes: &[u8], word: usize) -> u64
+    requires { 8 * word < length bytes.now }
+    ensures { result ≡ word_of bytes.now word }
+{
+    let mut number = 0;
+    'bytes: for passed in 1..9 {
+        let at = 8 * word + (8 - passed);
+        if at < bytes.len() {
+            number = number * 256 + u64::from(bytes[at]);
+        }
+    }
+    number
+}

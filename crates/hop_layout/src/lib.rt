@@ -1,0 +1,14 @@
+//! Where the words of the concurrent store stand, and where a key belongs.
+#![tactic(auto)]
+
+mod about;
+mod bytes;
+mod hash;
+mod index;
+mod place;
+
+pub use about::About;
+pub use bytes::word_of;
+pub use hash::home;
+pub use index::{Index, depth, elements, segments};
+pub use place::Place;

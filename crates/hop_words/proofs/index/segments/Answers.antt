@@ -1,7 +1,0 @@
-use Rattle.std.proofs.Common.{ap, ◌∙◌}
-use Rattle.hop_words.specs.Layout.{power}
-use Rattle.hop_words.proofs.Depths.{segments_are}
-use Rattle.hop_words.proofs.index.segments.Goals as goal
-
-pub returns : goal.returns
-returns c = segments_are c.depth.result c.depth.ensures.most ∙ ap power c.depth.ensures.value
