@@ -16,7 +16,7 @@ use Rattle.hop_layout.proofs.Layouts.{one}
 use Rattle.hop_words.proofs.Small.{key_self, key_apart}
 use Rattle.hop_words.specs.Locking.{lock_of, hand, nothing_in_hand}
 use Rattle.hop_map.specs.Views.{Ready, knows}
-use Rattle.hop_map.specs.Calls.{LockShows, Brings}
+use Rattle.hop_map.specs.Private.Calls.{LockShows, Brings}
 
 pub or_true : (x y : Bool) → x ≡ true → (x || y) ≡ true
 or_true true y is = refl

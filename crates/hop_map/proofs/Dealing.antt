@@ -23,7 +23,8 @@ use Rattle.hop_words.specs.Closing.{AreAllBack}
 use Rattle.hop_arena.specs.declared.arena.Arena.{Arena}
 use Rattle.hop_epoch.specs.declared.batches.Batches.{Batches}
 use Rattle.hop_epoch.specs.Batch.{Tracks, front}
-use Rattle.hop_map.specs.Port.{Port, HasNothing, AreArenas, AreBatches, IsPortOf, IsAllOf, IsUnlocked, known_of, batches_at, no_batches}
+use Rattle.hop_map.specs.Port.{Port, AreArenas, AreBatches, IsPortOf, IsAllOf, known_of, batches_at, no_batches}
+use Rattle.hop_map.specs.Private.Port.{HasNothing, IsUnlocked}
 use Rattle.hop_map.specs.Stores.{IsNewLane}
 use Rattle.hop_map.proofs.Ports.{by_equal}
 

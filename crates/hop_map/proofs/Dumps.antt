@@ -30,8 +30,9 @@ use Rattle.hop_seg.specs.Words.{Words as SegWords}
 use Rattle.hop_seg.specs.Segment.{Sound as SegSound}
 use Rattle.hop_seg.specs.Content.{IsListed}
 use Rattle.hop_seg.proofs.Walking.{Counted}
-use Rattle.hop_map.specs.Views.{segment_view}
-use Rattle.hop_map.specs.Dumping.{words_in, key_in, IsReached, IsKeyAmong, IsPairFound, AreFound, AddsPairs, IsLast}
+use Rattle.hop_map.specs.Private.Views.{segment_view}
+use Rattle.hop_map.specs.Private.Dumping.{words_in, key_in, IsReached, IsKeyAmong, IsPairFound, AreFound, AddsPairs}
+use Rattle.hop_map.specs.Dumping.{IsLast}
 use Rattle.hop_map.proofs.Keys.{spells}
 use Rattle.hop_map.proofs.Bridge.{seg_sound, reached_of, chain_of, among_of}
 use Rattle.hop_map.proofs.Homes.{some_power}

@@ -15,7 +15,7 @@ use Rattle.hop_words.specs.Ghost.{shape_at}
 use Rattle.hop_words.specs.Inside.{Shown}
 use Rattle.hop_words.specs.Kinds.{spans_of, IsAmong, Told}
 use Rattle.hop_layout.proofs.Maps.{map_is}
-use Rattle.hop_map.specs.Accesses.{IsHeldAt}
+use Rattle.hop_map.specs.Private.Accesses.{IsHeldAt}
 use Rattle.hop_map.specs.Port.{Port, IsPortOf, runs, port_holds}
 use Rattle.hop_map.proofs.Spans.{held_spans_lie}
 use Rattle.hop_map.proofs.Ports.{map_inside, moved, room_stays}

@@ -12,19 +12,19 @@ use Rattle.hop_words.specs.Kinds.{has, MayLink, LocksSegment, locking, Saw, with
 use Rattle.hop_layout.proofs.Layouts.{one, both}
 use Rattle.hop_words.specs.Locking.{lock_of, hand}
 use Rattle.hop_map.specs.Views.{Fits, Locked, Ready, knows, in_hand}
-use Rattle.hop_map.specs.Calls.{LockShows}
+use Rattle.hop_map.specs.Private.Calls.{LockShows}
 use Rattle.bpf_shared.specs.declared.events.Event.TheVariants.{Update, Delete}
 use Rattle.bpf_shared.specs.declared.events.Entry.{Entry}
 use Rattle.bpf_shared.specs.declared.events.MapAnswer.{MapAnswer}
 use Rattle.bpf_shared.specs.declared.events.MapAnswer.TheVariants.{Done, Absent, Busy}
 use Rattle.hop_map.specs.declared.ending.Ending.{Ending}
 use Rattle.hop_map.specs.declared.ending.Ending.TheVariants.{Added, Replaced, Refused}
-use Rattle.hop_map.specs.Updates.{Wants, Offers, UpdateEnds, Refusal}
-use Rattle.hop_map.specs.Locks.{CarriesKey, Readies, with_lock}
+use Rattle.hop_map.specs.Private.Updates.{Wants, Offers, UpdateEnds, Refusal}
+use Rattle.hop_map.specs.Private.Locks.{CarriesKey, Readies, with_lock}
 use Rattle.hop_map.proofs.Keys.{spells}
 use Rattle.hop_map.specs.declared.dropping.Deletion.{Deletion}
 use Rattle.hop_map.specs.declared.dropping.Deletion.TheVariants.{Gone, Missing, Worn}
-use Rattle.hop_map.specs.Removals.{NamesKey, Kept, DeleteEnds}
+use Rattle.hop_map.specs.Private.Removals.{NamesKey, Kept, DeleteEnds}
 
 -- what is so of these parts is so of the words made of them, and the other way round
 module _ (x : Locked) (a : About) (l : Known) (m s : ℕ) (about : x.about ≡ a) (known : x.known ≡ l) (map : x.map ≡ m) (segment : x.segment ≡ s) (P : About → Known → ℕ → ℕ → Type 0) where

@@ -12,11 +12,13 @@ use Rattle.hop_words.specs.Kinds.{LooksUpLocked, LookedUp, Saw, LocksSegment as 
 use Rattle.hop_words.specs.Locking.{lock_of}
 use Rattle.hop_seg.specs.Segment.{Sound as SegSound}
 use Rattle.hop_seg.specs.Content.{IsAbsent as SegAbsent, HasPair}
-use Rattle.hop_map.specs.Views.{Locked, Ready, in_hand, is_put, seen_words}
-use Rattle.hop_map.specs.Calls.{LockShows}
+use Rattle.hop_map.specs.Views.{Locked, Ready, in_hand, is_put}
+use Rattle.hop_map.specs.Private.Views.{seen_words}
+use Rattle.hop_map.specs.Private.Calls.{LockShows}
 use Rattle.hop_words.specs.Sights.{lock_taken}
-use Rattle.hop_map.specs.Locks.{with_lock}
-use Rattle.hop_map.specs.Finding.{AsksForKey, AsksHere, Looked, TakesLock}
+use Rattle.hop_map.specs.Private.Locks.{with_lock}
+use Rattle.hop_map.specs.Finding.{AsksForKey, Looked, TakesLock}
+use Rattle.hop_map.specs.Private.Finding.{AsksHere}
 use Rattle.hop_map.proofs.Puts.{sound_with, absent_with, leads_with}
 
 module _ (x : Locked) (key : List ℕ) (c : LockShows x.about x.known x.map x.segment) (b : AsksHere x.about x.known x.map x.segment key) where

@@ -9,9 +9,9 @@ use Rattle.hop_words.specs.Ghost.{shape_at}
 use Rattle.hop_words.specs.Kinds.{IsKeyAbsent, Counts, Told}
 use Rattle.hop_words.specs.Locking.{lock_of, SeesRoom, SeesLack}
 use Rattle.hop_map.specs.Views.{Locked, Ready}
-use Rattle.hop_map.specs.Calls.{LockShows, HandFilled, Brings}
-use Rattle.hop_map.specs.Overs.{BringsOver}
-use Rattle.hop_map.specs.Updates.{Wants, Offers}
+use Rattle.hop_map.specs.Private.Calls.{LockShows, HandFilled, Brings}
+use Rattle.hop_map.specs.Private.Overs.{BringsOver}
+use Rattle.hop_map.specs.Private.Updates.{Wants, Offers}
 
 module _ (a : About) (l : Known) (m s : ℕ) (key bytes : List ℕ) (flags element : ℕ) (b : Offers a l m s key bytes flags element) where
   filled : HandFilled a l m s key bytes element

@@ -12,8 +12,9 @@ use Rattle.hop_layout.specs.Home.{home_of}
 use Rattle.hop_words.specs.Ghost.{segment_in, shape_at}
 use Rattle.hop_words.specs.Kinds.{StampSeenAgain, Found, Saw, noting, found_span}
 use Rattle.hop_words.specs.Peeking.{latest_reading, HasReading}
-use Rattle.hop_map.specs.Peeks.{Peeked, Rested}
-use Rattle.hop_map.specs.Finding.{AsksForKey, AsksHere, Looked, Disturbs, ReadsOnce, TakesLock, all_sights, SeesDisturbances}
+use Rattle.hop_map.specs.Private.Peeks.{Peeked, Rested}
+use Rattle.hop_map.specs.Finding.{AsksForKey, Looked, Disturbs, ReadsOnce, TakesLock, all_sights}
+use Rattle.hop_map.specs.Private.Finding.{AsksHere, SeesDisturbances}
 use Rattle.hop_map.specs.Noting.{CallNotes}
 
 module _ (a : About) (l : Known) (m s n : ℕ) (key : List ℕ) (q : AsksForKey a l m key) (home : segment_in a m key ≡ s) where

@@ -16,9 +16,9 @@ use Rattle.hop_words.proofs.Shares.{one_list}
 use Rattle.hop_seg.specs.Words.{Words as SegWords, IsKnown}
 use Rattle.hop_seg.specs.Segment.{Sound as SegSound, element_key}
 use Rattle.hop_seg.specs.Content.{IsAbsent as SegAbsent, HasPair}
-use Rattle.hop_map.specs.Views.{segment_view}
-use Rattle.hop_map.specs.Finding.{AsksHere}
-use Rattle.hop_map.specs.Peeks.{Peeked, peeked, HavePeeks, Agreed, Rested, Spelled}
+use Rattle.hop_map.specs.Private.Views.{segment_view}
+use Rattle.hop_map.specs.Private.Finding.{AsksHere}
+use Rattle.hop_map.specs.Private.Peeks.{Peeked, peeked, HavePeeks, Agreed, Rested, Spelled}
 use Rattle.hop_map.proofs.Keys.{same_spelling, other_size}
 use Rattle.hop_map.proofs.Bridge.{seg_sound, pair_leads, leads_pair}
 

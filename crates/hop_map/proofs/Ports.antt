@@ -30,7 +30,8 @@ use Rattle.hop_map.specs.Finding.{Looked}
 use Rattle.hop_map.specs.Noting.{CallNotes}
 use Rattle.bpf_shared.specs.Shape.{IsElementSpan}
 use Rattle.hop_map.proofs.Spans.{last_found_lies}
-use Rattle.hop_map.specs.Port.{AreArenas, arena_at, no_arena, Port, port_of, standing_in, AreBatches, IsPortOf, IsEnding, runs, batches_at, no_batches}
+use Rattle.hop_map.specs.Port.{AreArenas, arena_at, no_arena, Port, AreBatches, IsPortOf, runs, batches_at, no_batches}
+use Rattle.hop_map.specs.Private.Port.{port_of, standing_in, IsEnding}
 
 pub apart : true ≡ false → ⊥
 apart e = cc

@@ -8,7 +8,8 @@ use Rattle.hop_words.specs.declared.known.Change.TheVariants.{Puts}
 use Rattle.hop_layout.specs.Layout.{depth}
 use Rattle.hop_layout.specs.Home.{segment_of}
 use Rattle.hop_words.specs.Locking.{lock_of, hand}
-use Rattle.hop_map.specs.Views.{home, Locked, Stays, Ready, knows, segment_view, locked_view, seen_words}
+use Rattle.hop_map.specs.Views.{home, Locked, Stays, Ready, knows}
+use Rattle.hop_map.specs.Private.Views.{segment_view, locked_view, seen_words}
 use Rattle.hop_words.specs.Content.{MapWords, IsShare, HasKey}
 use Rattle.hop_words.specs.Ghost.{segment_in, shape_at}
 use Rattle.hop_words.specs.Rule.{image, put_key}
@@ -16,7 +17,7 @@ use Rattle.hop_words.specs.Kinds.{has, Inserted, IsKeyAbsent, IsWritten, LeadsTo
 use Rattle.hop_seg.specs.Words.{Fixed}
 use Rattle.hop_seg.specs.Segment.{Sound as SegSound, IsOwn, element_key}
 use Rattle.hop_seg.specs.Content.{IsAbsent as SegAbsent, HasPair, Gains}
-use Rattle.hop_map.specs.Calls.{LockShows, Brings}
+use Rattle.hop_map.specs.Private.Calls.{LockShows, Brings}
 use Rattle.hop_map.proofs.Keys.{spells}
 use Rattle.hop_map.proofs.Counted.{or_true}
 use Rattle.hop_map.proofs.Bridge.{seg_sound, pair_leads, leads_pair, inserted, power_is}

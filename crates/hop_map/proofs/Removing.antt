@@ -17,9 +17,10 @@ use Rattle.std.specs.FinMap.{get}
 use Rattle.std.specs.Prelude.{is_some}
 use Rattle.hop_seg.specs.Segment.{Sound as SegSound}
 use Rattle.hop_seg.specs.Content.{IsAbsent as SegAbsent, HasPair, Loses}
-use Rattle.hop_map.specs.Views.{Locked, Stays, Ready, in_hand, is_put, seen_words}
-use Rattle.hop_map.specs.Calls.{LockShows}
-use Rattle.hop_map.specs.Removals.{NamesKey, Dropped}
+use Rattle.hop_map.specs.Views.{Locked, Stays, Ready, in_hand, is_put}
+use Rattle.hop_map.specs.Private.Views.{seen_words}
+use Rattle.hop_map.specs.Private.Calls.{LockShows}
+use Rattle.hop_map.specs.Private.Removals.{NamesKey, Dropped}
 use Rattle.hop_map.proofs.Bridge.{removed}
 use Rattle.hop_map.proofs.Staying.{stays_is}
 use Rattle.hop_map.proofs.Puts.{sound_with, absent_with, leads_with, known_by, here, was_inside}

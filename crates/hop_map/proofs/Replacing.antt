@@ -8,7 +8,8 @@ use Rattle.hop_words.specs.declared.known.Known.{Known}
 use Rattle.hop_words.specs.declared.known.Lock.{Lock}
 use Rattle.hop_words.specs.declared.known.Fresh.{Fresh}
 use Rattle.hop_layout.specs.Layout.{depth}
-use Rattle.hop_map.specs.Views.{home, Locked, Stays, Ready, in_hand, is_put, seen_words}
+use Rattle.hop_map.specs.Views.{home, Locked, Stays, Ready, in_hand, is_put}
+use Rattle.hop_map.specs.Private.Views.{seen_words}
 use Rattle.hop_words.specs.Content.{IsShare, HasKey}
 use Rattle.hop_words.specs.Ghost.{segment_in, shape_at}
 use Rattle.hop_words.specs.Rule.{image, put_key}
@@ -16,8 +17,8 @@ use Rattle.hop_words.specs.Kinds.{has, Replaces, Replaced, Saw, with_gone}
 use Rattle.hop_seg.specs.Segment.{Sound as SegSound, IsOwn, element_key}
 use Rattle.hop_seg.specs.Content.{HasPair, IsInSegment, Changes}
 use Rattle.hop_words.specs.Locking.{lock_of, hand}
-use Rattle.hop_map.specs.Calls.{LockShows}
-use Rattle.hop_map.specs.Overs.{BringsOver, Over}
+use Rattle.hop_map.specs.Private.Calls.{LockShows}
+use Rattle.hop_map.specs.Private.Overs.{BringsOver, Over}
 use Rattle.hop_map.proofs.Keys.{spells}
 use Rattle.hop_map.proofs.Bridge.{replaced, reached_of, power_is}
 use Rattle.hop_map.proofs.Staying.{stays_is}

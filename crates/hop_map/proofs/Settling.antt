@@ -24,11 +24,12 @@ use Rattle.hop_words.proofs.Small.{equal}
 use Rattle.hop_arena.specs.Filling.{with_words, word_list}
 use Rattle.hop_arena.proofs.Filling.{word_count}
 use Rattle.hop_epoch.proofs.Batching.{at_set}
-use Rattle.hop_map.specs.Calls.{Took}
-use Rattle.hop_map.specs.Overs.{Over}
-use Rattle.hop_map.specs.Locks.{Readies}
-use Rattle.hop_map.specs.Updates.{Refusal}
-use Rattle.hop_map.specs.Whole.{Called, HoldsNew}
+use Rattle.hop_map.specs.Private.Calls.{Took}
+use Rattle.hop_map.specs.Private.Overs.{Over}
+use Rattle.hop_map.specs.Private.Locks.{Readies}
+use Rattle.hop_map.specs.Private.Updates.{Refusal}
+use Rattle.hop_map.specs.Whole.{Called}
+use Rattle.hop_map.specs.Private.Whole.{HoldsNew}
 use Rattle.hop_map.proofs.Wholes.{saw_as}
 
 pub words_at : (n : ℕ) (bs : List ℕ) (i : ℕ) → i < n → slice_index (word_list n bs) i ≡ word_of bs i

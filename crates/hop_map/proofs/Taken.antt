@@ -9,8 +9,9 @@ use Rattle.hop_words.specs.declared.known.Known.{Known}
 use Rattle.hop_words.specs.Inside.{Shown, Standing}
 use Rattle.hop_words.specs.Kinds.{Told}
 use Rattle.hop_map.specs.declared.port.HopPort.TheInside.{Inside as InPort}
-use Rattle.hop_map.specs.Accesses.{IsHeldAt}
-use Rattle.hop_map.specs.Port.{Port, port_of, port_holds, runs, IsPortOf}
+use Rattle.hop_map.specs.Private.Accesses.{IsHeldAt}
+use Rattle.hop_map.specs.Port.{Port, port_holds, runs, IsPortOf}
+use Rattle.hop_map.specs.Private.Port.{port_of}
 use Rattle.hop_map.specs.Noting.{MayNote, CallNotes}
 use Rattle.hop_map.proofs.Ports.{still_runs, port_with, port_is}
 use Rattle.hop_map.proofs.Holding.{held_at, told_fits}

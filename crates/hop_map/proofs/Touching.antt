@@ -13,7 +13,7 @@ use Rattle.hop_layout.specs.Layout.{words_for}
 use Rattle.hop_words.specs.Ghost.{shape_at}
 use Rattle.hop_words.specs.Kinds.{Touches}
 use Rattle.hop_layout.proofs.Maps.{map_is}
-use Rattle.hop_map.specs.Accesses.{IsValuePlace, IsHeldAt}
+use Rattle.hop_map.specs.Private.Accesses.{IsValuePlace, IsHeldAt}
 
 -- an access of this size has at least one byte
 some_bytes : (z : Size) → 1 ≤ bytes_in z

@@ -20,9 +20,10 @@ use Rattle.hop_layout.proofs.Maps.{map_is}
 use Rattle.hop_words.proofs.CountUp.{four, and_false}
 use Rattle.hop_seg.specs.Segment.{Sound as SegSound}
 use Rattle.hop_seg.specs.Content.{HasPair, IsAbsent as SegAbsent}
-use Rattle.hop_map.specs.Views.{Locked, Ready, in_hand, is_put, seen_words}
-use Rattle.hop_map.specs.Calls.{LockShows}
-use Rattle.hop_map.specs.Updates.{Wants}
+use Rattle.hop_map.specs.Views.{Locked, Ready, in_hand, is_put}
+use Rattle.hop_map.specs.Private.Views.{seen_words}
+use Rattle.hop_map.specs.Private.Calls.{LockShows}
+use Rattle.hop_map.specs.Private.Updates.{Wants}
 use Rattle.hop_map.proofs.Puts.{sound_with, absent_with, leads_with}
 
 second_true : (b0 b1 b2 b3 : Bool) → b0 ≡ false → b1 ≡ true → first_of ((Invalid, b0) ∷ (Exists, b1) ∷ (Absent, b2) ∷ (Full, b3) ∷ []) ≡ Some Exists

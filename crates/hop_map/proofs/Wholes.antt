@@ -26,7 +26,7 @@ use Rattle.hop_arena.specs.Claiming.{Sees, IsSeenTaken, Misses, Claims}
 use Rattle.hop_arena.specs.declared.element.Element.{Element}
 use Rattle.hop_epoch.specs.Batch.{Keeps, SeesRunning}
 use Rattle.hop_epoch.proofs.Batching.{at_set, keeps_then}
-use Rattle.hop_map.specs.Removals.{Dropped, Kept}
+use Rattle.hop_map.specs.Private.Removals.{Dropped, Kept}
 use Rattle.hop_map.specs.Whole.{Rests, Called, SearchesInVain, Lacks}
 
 -- ---- the event, seen from before

@@ -22,12 +22,6 @@ pub record AsksForKey (a : About) (l : Known) (m : ℕ) (key : List ℕ) : Type 
   pub fresh : l.fresh ≡ []
   pub locks : l.locks ≡ []
 
--- the key is at home in the segment
-pub record AsksHere (a : About) (l : Known) (m s : ℕ) (key : List ℕ) : Type 0 where
-  pub home : segment_in a m key ≡ s
-  pub size : length key ≡ (shape_at a m).key
-  pub runs : in_run (events_of l.cpu l.seen) ≡ true
-
 -- the lookup's event; all else is as it was, but for readings and what was noted
 pub record Looked (a : About) (l : Known) (m : ℕ) (key : List ℕ) (found : Option Span)
     (l' : Known) : Type 0 where
@@ -68,15 +62,6 @@ OnceEnds a l m key (Disturbed first last) l' = Disturbs a l m key first last l'
 abbrev pub all_sights : List (List Sight) → List Sight
 all_sights [] = []
 all_sights (x ∷ xs) = x ++ all_sights xs
-
--- so many readings of the key's segment were disturbed, and nothing else came of them
-pub record SeesDisturbances (a : About) (l : Known) (m : ℕ) (key : List ℕ) (n : ℕ) (l' : Known)
-    : Type 0 where
-  pub more : List (List Sight)
-  pub count : length more ≡ n
-  pub each : Each (λ (x : List Sight). (first : ℕ) × (last : ℕ)
-      × IsDisturbed m (segment_in a m key) first last x) more
-  pub after : l' ≡ record l { readings = l'.readings; tally = all_sights more ++ l.tally }
 
 -- the lock of the key's segment was taken, and nothing else was noted
 abbrev pub TakesLock : About → Known → ℕ → List ℕ → Known → Type 0

@@ -1,15 +1,9 @@
 pub mod Views
-pub mod Calls
-pub mod Removals
-pub mod Locks
-pub mod Overs
 pub mod Whole
-pub mod Updates
 pub mod Finding
 pub mod Noting
 pub mod Port
 pub mod Stores
-pub mod Peeks
-pub mod Accesses
 pub mod Dumping
+pub mod Private
 pub mod Lemmas

@@ -1,5 +1,5 @@
 -- What contracts see of a port, and of the store that is left when all are back.
-use Rattle.std.specs.Prelude.{◌≡◌, ℕ, ◌+◌, ◌%◌, ◌^◌, ◌<◌, Bool, true, List, [], ◌++◌, Option, Some, None, All, length, slice_index_or}
+use Rattle.std.specs.Prelude.{◌≡◌, ℕ, ◌+◌, ◌%◌, ◌^◌, ◌<◌, Bool, true, List, [], ◌++◌, None, All, length, slice_index_or}
 use mathlib.Core.Option.{some}
 use lib.ListN.{get_elem?}
 use Rattle.atomic_table.specs.Seated.{TableId}
@@ -10,17 +10,13 @@ use Rattle.bpf_shared.specs.History.{IsLegal, events_of}
 use Rattle.bpf_shared.specs.Own.{held_by, in_run}
 use Rattle.hop_layout.specs.declared.about.About.{About}
 use Rattle.hop_words.specs.declared.known.Known.{Known}
-use Rattle.hop_words.specs.declared.known.Sight.{Sight}
-use Rattle.hop_words.specs.Sights.{LeavesLocks}
-use Rattle.hop_words.specs.Ghost.{limbo_at, Each}
-use Rattle.hop_words.specs.Inside.{Shown, Standing, nobody}
+use Rattle.hop_words.specs.Inside.{Shown}
 use Rattle.hop_words.specs.Kinds.{run_count, Saw}
 use Rattle.hop_words.specs.Seats.{HasSeenBeginning}
 use Rattle.hop_arena.specs.declared.arena.Arena.{Arena}
 use Rattle.hop_arena.specs.Claiming.{IsArena}
 use Rattle.hop_epoch.specs.declared.batches.Batches.{Batches}
 use Rattle.hop_epoch.specs.Batch.{Tracks}
-use Rattle.hop_map.specs.declared.port.HopPort.TheInside.{Inside as InPort}
 
 -- a port's table, what its CPU knows, and by map where it looks for free elements and what it took
 -- out
@@ -29,45 +25,6 @@ pub record Port : Type 0 where
   pub known : Known
   pub arenas : List Arena
   pub batches : List Batches
-
-abbrev pub no_standing : Standing
-no_standing = record {
-  table = record {
-    words = 0;
-    slots = 0;
-    views_name = 0;
-    atom = 0;
-    block = 0;
-    offset = 0;
-    slot_names = [];
-  };
-  known = nobody;
-}
-
-abbrev pub standing_in : Option Standing → Standing
-standing_in None = no_standing
-standing_in (Some s) = s
-
-abbrev pub port_of : InPort → Port
-port_of p = record {
-  table = (standing_in p.lane).table;
-  known = (standing_in p.lane).known;
-  arenas = p.arenas.items;
-  batches = p.batches.items;
-}
-
--- the CPU has no element in hand, neither a fresh nor a used one, and no lock
-pub record HasNothing (l : Known) : Type 0 where
-  pub fresh : l.fresh ≡ []
-  pub locks : l.locks ≡ []
-  pub used : (m : ℕ) → (limbo_at l.limbo m).used ≡ []
-
-abbrev pub IsUnlocked : Known → Type 0
-IsUnlocked l = l.locks ≡ []
-
--- between two calls the CPU's lane is there, and owns nothing
-abbrev pub IsPortIdle : InPort → Type 0
-IsPortIdle p = (p.lane ≡ Some (standing_in p.lane)) × HasNothing (standing_in p.lane).known
 
 abbrev pub own_events : Port → List Event
 own_events p = events_of p.known.cpu p.known.seen
@@ -136,12 +93,3 @@ pub record IsAllOf (t : Shown) (ports : List Port) : Type 0 where
 -- what the port has seen is its CPU's part of this history: a beginning with all its own events
 abbrev pub IsPartOf : List Entry → Port → Type 0
 IsPartOf history p = HasSeenBeginning p.known history
-
--- what a run that has ended leaves of a CPU, while batches are looked at
-pub record IsEnding (t : Shown) (ended l : Known) (bs : List Batches) : Type 0 where
-  pub cpu : l.cpu ≡ ended.cpu
-  pub seen : l.seen ≡ ended.seen
-  pub sights : (more : List Sight) × (l.tally ≡ more ++ ended.tally) × Each LeavesLocks more
-  pub nothing : HasNothing l
-  pub limbo : length l.limbo ≡ length t.about.shape.maps
-  pub batches : AreBatches t.about l (length t.about.shape.maps) bs

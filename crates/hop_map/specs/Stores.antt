@@ -4,7 +4,6 @@ use Rattle.hop_layout.specs.declared.about.About.{About}
 use Rattle.hop_words.specs.declared.known.Known.{Known}
 use Rattle.hop_words.specs.Inside.{Shown}
 use Rattle.hop_words.specs.Opens.{new_lane, lanes_from}
-use Rattle.hop_map.specs.declared.store.HopStore.TheInside.{Inside}
 use Rattle.hop_map.specs.Port.{Port, IsPortOf, known_of}
 
 -- the table's ports, the lowest CPU first, which have seen nothing yet
@@ -15,12 +14,6 @@ pub record ArePorts (t : Shown) (ports : List Port) : Type 0 where
 pub record Store : Type 0 where
   pub table : Shown
   pub ports : List Port
-
-abbrev pub store_of : Inside → Store
-store_of s = record { table = s.table; ports = s.ports.items }
-
-abbrev pub HasAllPorts : Inside → Type 0
-HasAllPorts s = ArePorts s.table s.ports.items
 
 -- a CPU of the store that has seen nothing yet
 abbrev pub IsNewLane : About → Known → Type 0

@@ -1,5 +1,5 @@
 -- What the code of one segment sees of the shared words.
-use Rattle.std.specs.Prelude.{◌≡◌, ℕ, ◌%◌, ◌^◌, ◌<◌, ◌≤◌, Bool, true, false, ◌||◌, ◌&&◌, ◌==◌, List, [], ◌∷◌, take, length}
+use Rattle.std.specs.Prelude.{◌≡◌, ℕ, ◌%◌, ◌^◌, ◌<◌, ◌≤◌, Bool, true, false, ◌||◌, ◌&&◌, ◌==◌, List, [], ◌∷◌, length}
 use Rattle.atomic_table.specs.Seated.{TableId}
 use Rattle.bpf_shared.specs.Shape.{elements}
 use Rattle.hop_layout.specs.declared.about.About.{About}
@@ -7,43 +7,17 @@ use Rattle.hop_words.specs.declared.known.Known.{Known}
 use Rattle.hop_words.specs.declared.known.Fresh.{Fresh}
 use Rattle.hop_words.specs.declared.known.Change.{Change}
 use Rattle.hop_words.specs.declared.known.Change.TheVariants.{Nothing, Puts, Drops}
-use Rattle.hop_layout.specs.Layout.{depth, words_for, size, mem, same_place}
-use Rattle.hop_layout.specs.declared.place.Place.{Place}
-use Rattle.hop_layout.specs.declared.place.Place.TheVariants.{KeyWord}
-use Rattle.hop_layout.specs.Words.{bytes_of_words, word_of}
-use Rattle.hop_words.specs.Content.{MapWords, item, HasKey}
+use Rattle.hop_layout.specs.Layout.{size}
+use Rattle.hop_words.specs.Content.{HasKey}
 use Rattle.hop_words.specs.Ghost.{shape_at, IsSegment}
 use Rattle.hop_words.specs.Rule.{image}
-use Rattle.hop_words.specs.Kinds.{has, MayLink, writing}
+use Rattle.hop_words.specs.Kinds.{has, MayLink}
 use Rattle.hop_layout.specs.Home.{home_of}
 use Rattle.hop_words.specs.Locking.{lock_of}
-use Rattle.hop_seg.specs.Words.{Words as SegWords}
 
 -- the home of a key
 abbrev pub home : ℕ → ℕ → List ℕ → ℕ
 home seed mask key = home_of key seed mask
-
--- the key that an element's words spell
-abbrev pub spelled_key : About → ℕ → MapWords → ℕ → List ℕ
-spelled_key a m x e =
-    take (shape_at a m).key (bytes_of_words (words_for (shape_at a m).key) (x.key m e))
-
--- one segment of the words, where these elements may be read
-abbrev pub segment_view : About → ℕ → ℕ → (ℕ → Bool) → MapWords → SegWords
-segment_view a m s known x = record {
-  hop = λ b. x.hop m s b % 2 ^ 32;
-  slot = λ p. item (x.slot m s p);
-  head = item (x.head m s);
-  next = λ e. item (x.link m e);
-  fixed = record {
-    key = spelled_key a m x;
-    home = home a.seed (shape_at a m).mask;
-    known = known;
-    limit = elements (shape_at a m);
-    segment = s;
-    depth = depth (shape_at a m);
-  };
-}
 
 -- the new element, whose event has taken effect
 abbrev pub is_put : Change → ℕ → Bool
@@ -79,12 +53,6 @@ pub record Locked : Type 0 where
   pub map : ℕ
   pub segment : ℕ
 
-abbrev pub locked_view : About → Known → ℕ → ℕ → SegWords
-locked_view a l m s = segment_view a m s (knows l m) (image a (lock_of l).copy)
-
-abbrev pub seen_words : Locked → SegWords
-seen_words x = locked_view x.about x.known x.map x.segment
-
 -- all but the words: the lane's other fields, and what its lock says beside the copy
 pub record Stays (x y : Locked) : Type 0 where
   pub table : y.table ≡ x.table
@@ -103,16 +71,3 @@ pub record Fits (id : TableId) (a : About) (standing : TableId) (l : Known)
   pub small : key_size ≤ 64
   pub counted : count ≡ elements (shape_at a m)
   pub ready : Ready a l m s
-
--- it is no word of a key
-abbrev pub IsNoKey : Place → Type 0
-IsNoKey p = (m e k : ℕ) → same_place (KeyWord m e k) p ≡ false
-
-abbrev pub written : Locked → Place → ℕ → Locked
-written x p n = record x { known = writing x.about x.known (lock_of x.known) p n }
-
--- the element's words are the key's
-abbrev pub SpellsKey : About → Known → ℕ → ℕ → List ℕ → Type 0
-SpellsKey a l m e key =
-    (j : ℕ) → j < words_for (shape_at a m).key →
-    mem a.shape (lock_of l).copy (KeyWord m e j) ≡ word_of key j

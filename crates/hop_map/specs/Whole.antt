@@ -25,10 +25,6 @@ Searches a m x = (x.map ≡ m) × IsArena a x.map x.elements x.start
 abbrev pub AreBatchesOf : About → Known → ℕ → Batches → Type 0
 AreBatchesOf a l m x = (x.map ≡ m) × Tracks a l x.map x.young x.aged x.noted
 
--- the CPU has one element in hand: a new one, no word of which is filled
-abbrev pub HoldsNew : Known → ℕ → ℕ → Type 0
-HoldsNew l m e = l.fresh ≡ record { map = m; element = e; key = []; value = [] } ∷ []
-
 -- between two calls a CPU has no element in hand, and no lock
 pub record Rests (l : Known) (m : ℕ) : Type 0 where
   pub fresh : l.fresh ≡ []

@@ -5,7 +5,7 @@ ghost use Rattle.bpf_shared.specs.Access.{bytes_in};
 ghost use Rattle.bpf_shared.specs.declared.events.Event.TheVariants.{Load, Store, Atomic};
 ghost use Rattle.bpf_shared.specs.declared.events.Size.TheVariants.{Double};
 ghost use Rattle.hop_words.specs.Kinds.{Told};
-ghost use Rattle.hop_map.specs.Accesses.{IsHeldAt};
+ghost use Rattle.hop_map.specs.Private.Accesses.{IsHeldAt};
 
 use crate::parts::{number_in, part_at, with_number};
 use bpf_shared::bytes::change;

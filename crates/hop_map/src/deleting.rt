@@ -6,9 +6,9 @@ ghost use Rattle.bpf_shared.specs.declared.events.Event.TheVariants.{Delete};
 ghost use Rattle.hop_layout.specs.Home.{segment_of};
 ghost use Rattle.hop_words.specs.Ghost.{shape_at};
 ghost use Rattle.bpf_shared.specs.Own.{in_run};
-ghost use Rattle.hop_map.specs.Locks.{with_lock};
+ghost use Rattle.hop_map.specs.Private.Locks.{with_lock};
 ghost use Rattle.hop_map.specs.Noting.{BusyFirst, CallNotes};
-ghost use Rattle.hop_map.specs.Removals.{NamesKey, DeleteEnds, answer_to};
+ghost use Rattle.hop_map.specs.Private.Removals.{NamesKey, DeleteEnds, answer_to};
 ghost use Rattle.hop_map.specs.Whole.{Rests, Called, Lacks, AreBatchesOf};
 
 use crate::dropping::{Deletion, delete_key};

@@ -6,7 +6,8 @@ ghost use Rattle.bpf_shared.specs.Store.{Plain};
 ghost use Rattle.bpf_shared.specs.Listing.{IsListing, listed};
 ghost use Rattle.hop_words.specs.Content.{item, IsOnList};
 ghost use Rattle.hop_words.specs.Ghost.{shape_at, HasElement, IsSegment};
-ghost use Rattle.hop_map.specs.Dumping.{words_in, key_in, value_in, IsReached, IsLast, IsKeyAmong, AreFound, AddsPairs};
+ghost use Rattle.hop_map.specs.Private.Dumping.{words_in, key_in, value_in, IsReached, IsKeyAmong, AreFound, AddsPairs};
+ghost use Rattle.hop_map.specs.Dumping.{IsLast};
 
 use crate::closed::Closed;
 use crate::numbers::item;

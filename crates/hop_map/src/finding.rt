@@ -5,8 +5,9 @@ ghost use Rattle.hop_layout.specs.Home.{home_of};
 ghost use Rattle.hop_words.specs.Ghost.{shape_at};
 ghost use Rattle.hop_words.specs.Kinds.{LookedUp, found_span};
 ghost use Rattle.hop_words.specs.Locking.{lock_of};
-ghost use Rattle.hop_map.specs.Calls.{LockShows};
-ghost use Rattle.hop_map.specs.Finding.{AsksForKey, AsksHere, Looked, OnceEnds, TakesLock};
+ghost use Rattle.hop_map.specs.Private.Calls.{LockShows};
+ghost use Rattle.hop_map.specs.Finding.{AsksForKey, Looked, OnceEnds, TakesLock};
+ghost use Rattle.hop_map.specs.Private.Finding.{AsksHere};
 ghost use Rattle.hop_map.specs.Noting.{CallNotes};
 
 use crate::homing::{homing, shape_of};

@@ -3,8 +3,8 @@ ghost use Rattle.std.specs.Prelude.{◌≡◌};
 ghost use Rattle.hop_layout.specs.Home.{home_of};
 ghost use Rattle.hop_words.specs.Ghost.{shape_at};
 ghost use Rattle.hop_words.specs.Locking.{lock_of};
-ghost use Rattle.hop_map.specs.Calls.{LockShows};
-ghost use Rattle.hop_map.specs.Updates.{Wants, Judges};
+ghost use Rattle.hop_map.specs.Private.Calls.{LockShows};
+ghost use Rattle.hop_map.specs.Private.Updates.{Wants, Judges};
 
 use crate::locked::LockedWords;
 use bpf_shared::MapAnswer;

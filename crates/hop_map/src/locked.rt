@@ -9,11 +9,12 @@ ghost use Rattle.hop_words.specs.Rule.{owed};
 ghost use Rattle.hop_words.specs.Kinds.{Inserted, IsKeyAbsent, IsWritten, unlocking, Replaces, Replaced, Removes, Answers, Answered, LooksUpLocked, LookedUp, Told, SawAllTaken};
 ghost use Rattle.hop_words.specs.Locking.{lock_of, hand};
 ghost use Rattle.hop_words.specs.Guarded.{IsGuarded, MayWrite};
-ghost use Rattle.hop_map.specs.Views.{IsNoKey, written, knows, SpellsKey, Ready, Fits};
+ghost use Rattle.hop_map.specs.Private.Views.{IsNoKey, written, SpellsKey};
+ghost use Rattle.hop_map.specs.Views.{knows, Ready, Fits};
 ghost use Rattle.hop_words.specs.declared.known.Change.TheVariants.{Drops};
-ghost use Rattle.hop_map.specs.Calls.{LockShows, Brings};
-ghost use Rattle.hop_map.specs.Removals.{Dropped};
-ghost use Rattle.hop_map.specs.Updates.{Wants, Offers};
+ghost use Rattle.hop_map.specs.Private.Calls.{LockShows, Brings};
+ghost use Rattle.hop_map.specs.Private.Removals.{Dropped};
+ghost use Rattle.hop_map.specs.Private.Updates.{Wants, Offers};
 
 use crate::homing::shape_of;
 use crate::numbers::{hop_bits, item, link_word};
@@ -384,7 +385,7 @@ impl<'a> LockedWords<'a> {
 impl<'a> SegReads for LockedWords<'a> {
     ghost use Rattle.std.specs.Prelude.{refl, ◌≡◌};
     ghost use Rattle.std.proofs.Common.{◌∙◌, ap};
-    ghost use Rattle.hop_map.specs.Views.{seen_words as shown_words};
+    ghost use Rattle.hop_map.specs.Private.Views.{seen_words as shown_words};
 
     ghost agrees = { λ x w. w ≡ shown_words x };
 
@@ -430,7 +431,8 @@ impl<'a> SegReads for LockedWords<'a> {
 impl<'a> SegWords for LockedWords<'a> {
     ghost use Rattle.std.specs.Prelude.{refl, ◌≡◌};
     ghost use Rattle.std.proofs.Common.{ap, sym, subst};
-    ghost use Rattle.hop_map.specs.Views.{seen_words as shown_words, Stays};
+    ghost use Rattle.hop_map.specs.Private.Views.{seen_words as shown_words};
+    ghost use Rattle.hop_map.specs.Views.{Stays};
     ghost use Rattle.hop_map.specs.Lemmas.Keeping.{stays_itself as itself, stays_on as on};
 
     ghost words = { shown_words };

@@ -4,7 +4,7 @@ ghost use Rattle.bpf_base.specs.Bytes.{low_bytes, modulus, with_part};
 ghost use Rattle.bpf_shared.specs.Access.{bytes_in};
 ghost use Rattle.hop_words.specs.declared.known.Known.{Known};
 ghost use Rattle.hop_words.specs.Touching.{TouchesPart, part_address, found_part};
-ghost use Rattle.hop_map.specs.Accesses.{IsValuePlace, IsHeldAt};
+ghost use Rattle.hop_map.specs.Private.Accesses.{IsValuePlace, IsHeldAt};
 
 use crate::homing::shape_of;
 use bpf_shared::bytes::{load, store};

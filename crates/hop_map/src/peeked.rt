@@ -6,7 +6,7 @@ ghost use Rattle.hop_words.specs.Content.{MapWords, Reached};
 ghost use Rattle.hop_words.specs.Ghost.{shape_at};
 ghost use Rattle.hop_words.specs.Kinds.{FindsByPeeks, StampSeenAgain};
 ghost use Rattle.hop_words.specs.Peeking.{latest_reading, HasReading};
-ghost use Rattle.hop_map.specs.Peeks.{FitsPeeks, peeked, HavePeeks, Spelled, Rested};
+ghost use Rattle.hop_map.specs.Private.Peeks.{FitsPeeks, peeked, HavePeeks, Spelled, Rested};
 
 use crate::numbers::{hop_bits, item};
 use crate::words::{head_place, hop_place, link_place, slot_place};
@@ -27,7 +27,7 @@ pub(crate) struct PeekedWords<'a> {
 }
 
 impl<'a> Model for PeekedWords<'a> {
-    ghost use Rattle.hop_map.specs.Peeks.{Peeked, FitsPeeks};
+    ghost use Rattle.hop_map.specs.Private.Peeks.{Peeked, FitsPeeks};
 
     ghost Value = { Peeked };
 
@@ -124,7 +124,7 @@ impl<'a> PeekedWords<'a> {
 }
 
 impl<'a> SegReads for PeekedWords<'a> {
-    ghost use Rattle.hop_map.specs.Peeks.{Agreed, Rested};
+    ghost use Rattle.hop_map.specs.Private.Peeks.{Agreed, Rested};
     ghost use Rattle.hop_map.specs.Lemmas.Resting.{rested_itself as itself, rested_on as on, agreed_before as before};
 
     ghost agrees = { Agreed };

@@ -32,7 +32,8 @@ pub struct HopPort {
 }
 
 impl Model for HopPort {
-    ghost use Rattle.hop_map.specs.Port.{Port, port_of, IsPortIdle};
+    ghost use Rattle.hop_map.specs.Port.{Port};
+    ghost use Rattle.hop_map.specs.Private.Port.{port_of, IsPortIdle};
 
     ghost Value = { Port };
 

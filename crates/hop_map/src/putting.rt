@@ -5,11 +5,11 @@ ghost use Rattle.hop_words.specs.Ghost.{shape_at};
 ghost use Rattle.hop_words.specs.Kinds.{SawAllTaken};
 ghost use Rattle.hop_words.specs.Locking.{lock_of};
 ghost use Rattle.hop_seg.specs.Content.{HasPair, IsAbsent};
-ghost use Rattle.hop_map.specs.Views.{seen_words as seen};
-ghost use Rattle.hop_map.specs.Overs.{Over};
-ghost use Rattle.hop_map.specs.Calls.{LockShows};
+ghost use Rattle.hop_map.specs.Private.Views.{seen_words as seen};
+ghost use Rattle.hop_map.specs.Private.Overs.{Over};
+ghost use Rattle.hop_map.specs.Private.Calls.{LockShows};
 ghost use Rattle.hop_map.specs.Noting.{BusyFirst};
-ghost use Rattle.hop_map.specs.Updates.{Wants, Offers, Refusal, UpdateEnds, answer_of};
+ghost use Rattle.hop_map.specs.Private.Updates.{Wants, Offers, Refusal, UpdateEnds, answer_of};
 
 use crate::ending::Ending;
 use crate::judging::{Finding, judge};

@@ -21,7 +21,8 @@ pub struct HopStore {
 }
 
 impl Model for HopStore {
-    ghost use Rattle.hop_map.specs.Stores.{Store, store_of, HasAllPorts};
+    ghost use Rattle.hop_map.specs.Stores.{Store};
+    ghost use Rattle.hop_map.specs.Private.Stores.{store_of, HasAllPorts};
 
     ghost Value = { Store };
 

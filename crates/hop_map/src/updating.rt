@@ -11,10 +11,11 @@ ghost use Rattle.hop_words.specs.Kinds.{SawAllTaken, holding};
 ghost use Rattle.bpf_shared.specs.Own.{in_run};
 ghost use Rattle.hop_arena.specs.Claiming.{Claims, Misses, IsArena};
 ghost use Rattle.hop_epoch.specs.Batch.{Keeps};
-ghost use Rattle.hop_map.specs.Locks.{Readies, with_lock};
+ghost use Rattle.hop_map.specs.Private.Locks.{Readies, with_lock};
 ghost use Rattle.hop_map.specs.Noting.{BusyFirst, CallNotes};
-ghost use Rattle.hop_map.specs.Updates.{Wants, Refusal, UpdateEnds, answer_of};
-ghost use Rattle.hop_map.specs.Whole.{Rests, Called, Lacks, SearchesInVain, Searches, AreBatchesOf, HoldsNew};
+ghost use Rattle.hop_map.specs.Private.Updates.{Wants, Refusal, UpdateEnds, answer_of};
+ghost use Rattle.hop_map.specs.Whole.{Rests, Called, Lacks, SearchesInVain, Searches, AreBatchesOf};
+ghost use Rattle.hop_map.specs.Private.Whole.{HoldsNew};
 
 use crate::ending::Ending;
 use crate::homing::{homing, shape_of};

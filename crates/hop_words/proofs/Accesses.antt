@@ -15,7 +15,7 @@ use Rattle.hop_layout.specs.declared.place.Place.TheVariants.{ValueWord}
 use Rattle.hop_words.specs.declared.touching.ValuePart.{ValuePart}
 use Rattle.hop_layout.specs.Layout.{is_place, mem, words_for}
 use Rattle.hop_words.specs.Ghost.{shape_at, lane}
-use Rattle.hop_words.specs.Step.{Steps}
+use Rattle.hop_words.specs.Private.Step.{Steps}
 use Rattle.hop_words.specs.Kinds.{Touches, found_in, Told}
 use Rattle.hop_words.specs.Touching.{TouchesWord, part_address}
 use Rattle.hop_words.proofs.Locked.{lt}

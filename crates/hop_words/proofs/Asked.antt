@@ -7,9 +7,10 @@ use Rattle.hop_words.specs.declared.known.Known.{Known}
 use Rattle.hop_words.specs.declared.known.Sight.{Sight}
 use Rattle.hop_words.specs.declared.known.View.{View}
 use Rattle.hop_layout.specs.Layout.{is_place, at}
-use Rattle.hop_words.specs.Rule.{solo, Kept}
-use Rattle.hop_words.specs.Step.{Leaves}
-use Rattle.hop_words.specs.Inside.{Shown, Standing, shown, standing, HasLayout, IsOne, stepper_lane, tells}
+use Rattle.hop_words.specs.Private.Step.{solo, Leaves}
+use Rattle.hop_words.specs.Rule.{Kept}
+use Rattle.hop_words.specs.Inside.{Shown, Standing}
+use Rattle.hop_words.specs.Private.Inside.{shown, standing, HasLayout, IsOne, stepper_lane, tells}
 use Rattle.hop_words.specs.declared.table.HopTable.TheInside.{Inside as InTable}
 use Rattle.hop_words.specs.declared.lane.Lane.TheInside.{Inside as InStepper}
 use Rattle.hop_layout.proofs.Layouts.{at_inside}

@@ -25,7 +25,7 @@ use Rattle.hop_layout.specs.Home.{segment_of}
 use Rattle.hop_words.specs.Content.{place_words}
 use Rattle.hop_words.specs.Ghost.{segment_in, Holder, Leaving, Within, lane, Ghost, shape_at, HasElement, limbo_at}
 use Rattle.hop_words.specs.Rule.{Rule, Minded, put_key, changed, Holds, numbered}
-use Rattle.hop_words.specs.Step.{Next, Steps}
+use Rattle.hop_words.specs.Private.Step.{Next, Steps}
 use Rattle.hop_words.specs.Kinds.{Removes, Removed, with_gone}
 use Rattle.hop_words.proofs.Small.{equal_keys, equal, here_or, put2-same, put2-other, put_key-same, put_key-other}
 use Rattle.hop_words.proofs.Histories.{logged_event}

@@ -23,7 +23,7 @@ use Rattle.hop_words.specs.Ghost.{segment_in, lane, Ghost, shape_at}
 use Rattle.hop_words.specs.Rule.{Rule, Holds, changed, numbered, image, Minded}
 use Rattle.bpf_shared.specs.Own.{turns_of}
 use Rattle.hop_words.specs.Shortage.{HasCause}
-use Rattle.hop_words.specs.Step.{Next, Steps}
+use Rattle.hop_words.specs.Private.Step.{Next, Steps}
 use Rattle.hop_words.specs.Kinds.{Told, Counts, Misflagged, SawAllTaken}
 use Rattle.hop_words.proofs.CountUp.{four, and_false}
 use Rattle.hop_words.proofs.Locks.{holds}

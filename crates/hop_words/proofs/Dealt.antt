@@ -7,8 +7,9 @@ use Rattle.hop_words.specs.declared.known.Known.{Known}
 use Rattle.hop_layout.specs.Layout.{size}
 use Rattle.hop_words.specs.Rule.{Kept}
 use Rattle.hop_words.specs.Opens.{lanes_from}
-use Rattle.hop_words.specs.Seats.{view, dealer, dealt}
-use Rattle.hop_words.specs.Dealing.{AreNumbered}
+use Rattle.hop_words.specs.Seats.{view}
+use Rattle.hop_words.specs.Private.Seats.{dealer, dealt}
+use Rattle.hop_words.specs.Private.Dealing.{AreNumbered}
 use Rattle.hop_words.proofs.Gathers.{deals}
 use Rattle.hop_layout.proofs.Indexes.{sum_same}
 

@@ -18,8 +18,8 @@ use Rattle.hop_words.specs.Ghost.{Holder, Free, Filling, Within, is_free, is_fil
 use Rattle.hop_words.specs.Rule.{Rule, times_fresh, StartsWith, Minded}
 use Rattle.hop_words.specs.Shortage.{MayBeTaken}
 use Rattle.hop_words.specs.Sights.{LeavesElements, ShowsTaken, IsTakenSince, bit_set, sighted}
-use Rattle.hop_words.specs.Step.{Next, Steps, Notes}
-use Rattle.hop_words.specs.Kinds.{filling_key, filling_value}
+use Rattle.hop_words.specs.Private.Step.{Next, Steps, Notes}
+use Rattle.hop_words.specs.Private.Kinds.{filling_key, filling_value}
 use Rattle.hop_words.proofs.Small.{equal, here_or, put2-same, put2-other}
 use Rattle.hop_words.proofs.Spelling.{IsFilled}
 use Rattle.hop_words.proofs.Shortages.{shown_step, who_put, hand_rest}

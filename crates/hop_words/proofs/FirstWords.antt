@@ -9,8 +9,7 @@ use Rattle.hop_layout.specs.declared.place.Place.TheVariants.{RunCount, KeyCount
 use Rattle.hop_layout.specs.declared.about.About.{About}
 use Rattle.hop_layout.specs.Layout.{at, is_place, mem, put_at, free_words, segments, depth}
 use Rattle.hop_words.specs.Ghost.{shape_at}
-use Rattle.hop_words.specs.Made.{IsPartly}
-use Rattle.hop_words.specs.Opens.{AreNewWords}
+use Rattle.hop_words.specs.Private.Made.{IsPartly, AreNewWords}
 use Rattle.std.specs.Int.{bit_at}
 use Rattle.std.proofs.lemmas.Nat.Bits.{bit_at_ones}
 use Rattle.hop_layout.proofs.Depths.{depth_most}

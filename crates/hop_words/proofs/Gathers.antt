@@ -23,7 +23,8 @@ use Rattle.hop_words.specs.Content.{place_words, IsShare}
 use Rattle.hop_words.specs.Rule.{Seats, Kept, Rule, Segment, image, times_lock}
 use Rattle.hop_words.proofs.Shares.{share_agrees}
 use Rattle.hop_words.proofs.Readings.{even_or_odd}
-use Rattle.hop_words.specs.Seats.{Sat, view, empty_view, gathered, onlooker, HasSeenBeginning, Learned, KeepsWholeHistory}
+use Rattle.hop_words.specs.Private.Seats.{Sat, empty_view, gathered, onlooker, Learned}
+use Rattle.hop_words.specs.Seats.{view, HasSeenBeginning, KeepsWholeHistory}
 use Rattle.hop_words.proofs.Histories.{rest_has_none, prefix_refl}
 
 -- a view behind the others

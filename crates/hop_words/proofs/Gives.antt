@@ -18,7 +18,7 @@ use Rattle.hop_words.specs.Content.{MapWords, place_words, one_if, times}
 use Rattle.hop_words.specs.Ghost.{segment_in, Holder, Free, Leaving, Within, is_filling, is_leaving, lane, Era, Ghost, HasElement, Each, limbo_at}
 use Rattle.hop_words.specs.Rule.{Rule, Chained, link_to, times_limbo, Linked, Segment, Segments, Minded, Holds, Locking}
 use Rattle.bpf_shared.specs.Own.{turns_of, in_run}
-use Rattle.hop_words.specs.Step.{Steps}
+use Rattle.hop_words.specs.Private.Step.{Steps}
 use Rattle.hop_words.specs.Kinds.{retiring, Passed, giving_old}
 use Rattle.hop_words.proofs.Small.{equal, put2-same, put2-other}
 use Rattle.hop_words.proofs.Histories.{prefix_refl, runs_as_known}

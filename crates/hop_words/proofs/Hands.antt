@@ -7,7 +7,7 @@ use Rattle.hop_words.specs.declared.known.Known.{Known}
 use Rattle.hop_words.specs.declared.known.Fresh.{Fresh}
 use Rattle.hop_words.specs.Ghost.{HasElement}
 use Rattle.hop_words.specs.Sights.{bit_set, sighted}
-use Rattle.hop_words.specs.Step.{Steps, Notes}
+use Rattle.hop_words.specs.Private.Step.{Steps, Notes}
 use Rattle.hop_words.specs.Owning.{IsInHand, tail_of, key_filled, value_filled, with_key_word, with_value_word}
 use Rattle.hop_words.proofs.Fills.{fill_key, fill_value, give_fresh}
 

@@ -9,7 +9,7 @@ use Rattle.hop_words.specs.declared.known.Known.{Known}
 use Rattle.hop_words.specs.declared.known.Lock.{Lock}
 use Rattle.hop_layout.specs.Layout.{is_place, segments, mem}
 use Rattle.hop_words.specs.Ghost.{shape_at, IsSegment, HasElement}
-use Rattle.hop_words.specs.Step.{Steps}
+use Rattle.hop_words.specs.Private.Step.{Steps}
 use Rattle.hop_words.specs.Kinds.{MayLink, writing}
 use Rattle.hop_words.specs.Locking.{lock_of, HasLock, locked_words}
 use Rattle.hop_words.proofs.Stays.{stay}

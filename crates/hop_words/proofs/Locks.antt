@@ -17,7 +17,7 @@ use Rattle.hop_words.specs.Ghost.{segment_in, Holder, Free, Filling, Leaving, Wi
 use Rattle.hop_words.specs.Shortage.{done_in}
 use Rattle.hop_words.specs.Rule.{Rule, Segment, Minded, Holds, image, changed, owed, StartsWith, times_lock}
 use Rattle.hop_words.specs.Sights.{sighted, lock_taken}
-use Rattle.hop_words.specs.Step.{Next, Steps}
+use Rattle.hop_words.specs.Private.Step.{Next, Steps}
 use Rattle.hop_words.specs.Kinds.{has, LocksSegment, IsWritten}
 use Rattle.hop_layout.proofs.Layouts.{same_is, same_self, one}
 use Rattle.hop_words.proofs.Small.{here_or, put2-same, put2-other}

@@ -10,7 +10,7 @@ use Rattle.hop_layout.specs.Layout.{mem}
 use Rattle.hop_words.specs.Content.{place_words}
 use Rattle.hop_words.specs.Ghost.{segment_in, Filling, lane, Ghost, HasElement}
 use Rattle.hop_words.specs.Rule.{Rule, Holds, Minded, image}
-use Rattle.hop_words.specs.Step.{Steps}
+use Rattle.hop_words.specs.Private.Step.{Steps}
 use Rattle.hop_words.specs.Kinds.{MayLink}
 use Rattle.hop_words.proofs.Comes.{in_hand}
 use Rattle.hop_words.proofs.Locks.{holds}

@@ -21,7 +21,8 @@ use Rattle.hop_words.specs.Content.{item, place_words, times, Reached, LinksThro
 use Rattle.hop_words.specs.Ghost.{segment_in, Free, Lanes, lane, Era, Ghost, shape_at, IsSegment, limbo_at, no_limbo}
 use Rattle.hop_words.specs.Shortage.{HasCause}
 use Rattle.hop_words.specs.Rule.{Rule, Kept, times_limbo, Chained}
-use Rattle.hop_words.specs.Opens.{AreNewWords, no_limbos, new_lane, lanes_from, opens}
+use Rattle.hop_words.specs.Private.Made.{AreNewWords}
+use Rattle.hop_words.specs.Opens.{no_limbos, new_lane, lanes_from, opens}
 use Rattle.hop_words.proofs.CountDown.{nothing_in}
 
 limbo_none : (n m : ℕ) → limbo_at (no_limbos n) m ≡ no_limbo

@@ -21,7 +21,7 @@ use Rattle.hop_words.specs.Content.{MapWords, place_words, one_if}
 use Rattle.hop_words.specs.Ghost.{segment_in, Holder, Free, Filling, Leaving, Within, is_free, is_filling, is_leaving, Carries, lane, Era, Ghost, HasElement, Each}
 use Rattle.hop_words.specs.Rule.{Rule, times_fresh, Linked, StartsWith, Minded, Holds, Locking, Valued}
 use Rattle.hop_words.specs.Shortage.{HasBegun}
-use Rattle.hop_words.specs.Step.{Next, Steps}
+use Rattle.hop_words.specs.Private.Step.{Next, Steps}
 use Rattle.hop_words.specs.Kinds.{holding}
 use Rattle.hop_words.proofs.Small.{equal, here_or, put2-same, put2-other}
 use Rattle.hop_words.proofs.Histories.{prefix_refl}

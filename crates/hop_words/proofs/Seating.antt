@@ -13,8 +13,8 @@ use Rattle.hop_words.specs.declared.known.Known.{Known}
 use Rattle.hop_words.specs.declared.known.Sight.{Sight}
 use Rattle.hop_layout.specs.Layout.{mem, at, is_place, put_at}
 use Rattle.hop_words.specs.Ghost.{lane}
-use Rattle.hop_words.specs.Rule.{Seats, solo, Kept, Rule}
-use Rattle.hop_words.specs.Step.{Leaves, TellsLane}
+use Rattle.hop_words.specs.Rule.{Seats, Kept, Rule}
+use Rattle.hop_words.specs.Private.Step.{solo, Leaves, TellsLane}
 use Rattle.hop_layout.proofs.Layouts.{wrote}
 
 single : (x : Known) (j k : ℕ) (l m : Known) → get_elem? (x ∷ []) j ≡ some l → get_elem? (x ∷ []) k ≡ some m → j ≡ k

@@ -15,7 +15,7 @@ use Rattle.hop_layout.specs.Layout.{put_at, same_place}
 use Rattle.hop_words.specs.Ghost.{Filling, Carries, lane, Era, Ghost, shape_at, HasElement}
 use Rattle.hop_words.specs.Rule.{Rule, Logged, Runs, Worn, numbered}
 use Rattle.bpf_shared.specs.Own.{turns_of, in_run}
-use Rattle.hop_words.specs.Step.{Noted, Next}
+use Rattle.hop_words.specs.Private.Step.{Noted, Next}
 use Rattle.hop_words.specs.Kinds.{Saw}
 use Rattle.hop_layout.proofs.Layouts.{same_is}
 use Rattle.hop_layout.proofs.Maps.{map_is, spans_apart}

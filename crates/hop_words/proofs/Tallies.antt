@@ -14,7 +14,7 @@ use Rattle.hop_words.specs.declared.known.Sight.{Sight}
 use Rattle.hop_layout.specs.Layout.{mem, put_at}
 use Rattle.hop_words.specs.Ghost.{lane, Ghost, HasElement, IsSegment, limbo_at}
 use Rattle.hop_words.specs.Sights.{sight, look, lock_taken, bit_cleared, bit_set, sighted}
-use Rattle.hop_words.specs.Step.{Noted, Next, Steps, Notes, NotesTaken}
+use Rattle.hop_words.specs.Private.Step.{Noted, Next, Steps, Notes, NotesTaken}
 use Rattle.hop_words.specs.Kinds.{holding, cleared, noting, giving_old, Passed, StampSeen, StampSeenAgain, FindsByPeeks, LocksSegment}
 use Rattle.hop_words.specs.Owning.{ClaimsBit, GivesFresh, IsInHand, LooksAgain}
 use Rattle.hop_words.proofs.Small.{equal}

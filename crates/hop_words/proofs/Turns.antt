@@ -19,7 +19,7 @@ use Rattle.hop_words.specs.Ghost.{is_leaving, lane, Ghost, HasElement, limbo_at}
 use Rattle.hop_words.specs.Rule.{Rule, Runs, Chained, times_limbo}
 use Rattle.bpf_shared.specs.Own.{turns_of, in_run}
 use Rattle.hop_words.specs.Shortage.{HasCause}
-use Rattle.hop_words.specs.Step.{Next, Steps}
+use Rattle.hop_words.specs.Private.Step.{Next, Steps}
 use Rattle.hop_words.specs.Kinds.{run_count, Told, noting_next, ageing, cleared, limbo_set}
 use Rattle.hop_words.proofs.Small.{equal}
 use Rattle.hop_words.proofs.Shortages.{shown_more}

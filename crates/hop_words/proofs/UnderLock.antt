@@ -5,11 +5,10 @@ use Rattle.hop_words.specs.declared.known.Known.{Known}
 use Rattle.hop_layout.specs.declared.place.Place.{Place}
 use Rattle.hop_layout.specs.declared.place.Place.TheVariants.{RunCount, KeyCount, FreeBits, Stamp, Head, Hop, Slot, Link, KeyWord, ValueWord}
 use Rattle.hop_layout.specs.Layout.{mem, is_place}
-use Rattle.hop_words.specs.Step.{Steps}
+use Rattle.hop_words.specs.Private.Step.{Steps, IsQuiet}
 use Rattle.hop_words.specs.Kinds.{writing}
 use Rattle.hop_words.specs.Locking.{lock_of}
 use Rattle.hop_words.specs.Guarded.{IsGuarded, MayWrite}
-use Rattle.hop_words.specs.Sights.{IsQuiet}
 use Rattle.hop_words.proofs.Counts.{read_head, read_hop, read_slot}
 use Rattle.hop_words.proofs.Mine.{read_mine, read_my_key}
 use Rattle.hop_words.proofs.Stays.{stay}

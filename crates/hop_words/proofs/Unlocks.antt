@@ -28,7 +28,7 @@ use Rattle.hop_words.specs.Ghost.{segment_in, Holder, Filling, Leaving, Within, 
 use Rattle.hop_words.specs.Shortage.{done_in, HasHadValue, HasCause}
 use Rattle.hop_words.specs.Rule.{Rule, times_fresh, Minded, put_key, changed, owed, Holds, numbered, Keyed, Owned, Linked}
 use Rattle.bpf_shared.specs.Own.{turns_of}
-use Rattle.hop_words.specs.Step.{Next, Steps}
+use Rattle.hop_words.specs.Private.Step.{Next, Steps}
 use Rattle.hop_words.specs.Kinds.{Replaces, Replaced, Answers, Answered, ShowsShortage, IsWritten, unlocking, with_gone, LooksUpLocked, LookedUp, found_span}
 use Rattle.hop_words.proofs.Small.{equal_keys, equal, here_or, put2-same, put2-other, put_key-same, put_key-other}
 use Rattle.hop_words.proofs.Spelling.{value_spelled}

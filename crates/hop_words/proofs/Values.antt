@@ -26,7 +26,7 @@ use Rattle.hop_words.specs.Ghost.{Carries, lane, Ghost, shape_at, HasElement, Ea
 use Rattle.hop_words.specs.Rule.{Rule, StartsWith, Filled, times_fresh, Valued}
 use Rattle.bpf_shared.specs.Own.{turns_of}
 use Rattle.hop_words.specs.Shortage.{HasCause}
-use Rattle.hop_words.specs.Step.{Next, Steps}
+use Rattle.hop_words.specs.Private.Step.{Next, Steps}
 use Rattle.hop_words.specs.Kinds.{Touches, value_at, found_in, Told}
 use Rattle.hop_words.proofs.Small.{here_or}
 use Rattle.hop_words.proofs.Histories.{logged_event}

@@ -11,7 +11,7 @@ use Rattle.hop_layout.specs.Layout.{mem, at, is_place, put_at}
 use Rattle.hop_words.specs.Content.{place_words, one_if, times, Agrees}
 use Rattle.hop_words.specs.Ghost.{segment_in, Filling, Leaving, Within, lane, Era, Ghost, HasElement, limbo_at}
 use Rattle.hop_words.specs.Rule.{Rule, Segment, Minded, Holds, image, Worn, Runs, Keyed, Batched, Chained, times_limbo, Owned, Filled, Valued, Segments, Locking, Held, times_lock}
-use Rattle.hop_words.specs.Step.{Next, Steps}
+use Rattle.hop_words.specs.Private.Step.{Next, Steps}
 use Rattle.hop_words.specs.Kinds.{writing, MayLink}
 use Rattle.hop_layout.proofs.Layouts.{wrote}
 use Rattle.hop_words.proofs.Small.{here_or, put2-same, put2-other}

@@ -421,10 +421,3 @@ pub record Misflagged (a : About) (l : Known) (m : ℕ) (key bytes : List ℕ) (
     pub size : length bytes ≡ (shape_at a m).value
     pub unknown : 2 < flags
     pub runs : in_run (events_of l.cpu l.seen) ≡ true
-
--- ---- fill word
-abbrev pub filling_key : Known → Fresh → List Fresh → ℕ → Known
-filling_key l f rest n = record l { fresh = record f { key = f.key ++ n ∷ [] } ∷ rest }
-
-abbrev pub filling_value : Known → Fresh → List Fresh → ℕ → Known
-filling_value l f rest n = record l { fresh = record f { value = f.value ++ n ∷ [] } ∷ rest }

@@ -3,7 +3,6 @@ pub mod Ghost
 pub mod Shortage
 pub mod Rule
 pub mod Sights
-pub mod Step
 pub mod Kinds
 pub mod Owning
 pub mod Locking
@@ -11,9 +10,9 @@ pub mod Peeking
 pub mod Touching
 pub mod Guarded
 pub mod Opens
-pub mod Made
 pub mod Seats
 pub mod Inside
 pub mod Dealing
 pub mod Closing
 pub mod Trial
+pub mod Private

@@ -7,8 +7,6 @@ use Rattle.hop_words.specs.declared.known.Known.{Known}
 use Rattle.hop_words.specs.declared.known.Fresh.{Fresh}
 use Rattle.hop_words.specs.declared.known.Lock.{Lock}
 use Rattle.hop_words.specs.declared.known.Change.TheVariants.{Nothing}
-use Rattle.hop_layout.specs.declared.place.Place.{Place}
-use Rattle.hop_layout.specs.declared.place.Place.TheVariants.{Stamp}
 use Rattle.hop_words.specs.Content.{MapWords}
 use Rattle.hop_words.specs.Ghost.{shape_at}
 use Rattle.hop_words.specs.Rule.{image}
@@ -40,13 +38,6 @@ hand l = slice_index_or l.fresh 0 nothing_in_hand
 -- the CPU has this lock, and no other
 abbrev pub HasLock : Known → ℕ → ℕ → Type 0
 HasLock l m s = (l.locks ≡ lock_of l ∷ []) × ((lock_of l).map ≡ m) × ((lock_of l).segment ≡ s)
-
--- the store unlocks the segment whose lock the CPU has: its version is the one before the lock, or
--- the next
-abbrev pub Unlocks : Known → Place → ℕ → Type 0
-Unlocks l (Stamp m s) new = HasLock l m s
-    × ((new ≡ (lock_of l).stamp) ⊎ (new ≡ (lock_of l).stamp + 256))
-Unlocks l place new = ⊥
 
 -- the words of the locked segment by now
 abbrev pub locked_words : About → Known → MapWords

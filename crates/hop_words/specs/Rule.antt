@@ -301,6 +301,3 @@ pub record Kept (a : About) (s : St) : Type 0 where
   pub ghost : Ghost
   pub seats : Seats a.shape.cpus ghost.log (lane ghost.lanes) s.views
   pub rule : Rule a (mem a.shape s.words) ghost
-
-abbrev pub solo : Known → View
-solo l = record { lanes = l ∷ []; kept = [] }

@@ -1,9 +1,8 @@
 -- Cutting and joining seats, and the seat that knows the whole history.
-use Rattle.std.specs.Prelude.{◌≡◌, ℕ, take, drop, List, [], ◌++◌}
+use Rattle.std.specs.Prelude.{◌≡◌, ℕ, List, [], ◌++◌}
 use mathlib.Core.Option.{some}
 use mathlib.Core.List.{IsPrefix}
 use lib.ListN.{get_elem?}
-use Rattle.atomic_table.specs.Table.{Me}
 use Rattle.bpf_shared.specs.declared.events.Entry.{Entry}
 use Rattle.bpf_shared.specs.History.{events_of}
 use Rattle.hop_layout.specs.declared.about.About.{About}
@@ -14,38 +13,12 @@ use Rattle.hop_words.specs.Content.{IsShare}
 use Rattle.hop_words.specs.Ghost.{segment_in, Ghost, shape_at, IsSegment}
 use Rattle.hop_words.specs.Rule.{Rule, image}
 
-abbrev pub Sat : Type 0
-Sat = Me (Unit {0}) View
-
 abbrev pub view : List Known → List Entry → View
 view lanes kept = record { lanes = lanes; kept = kept }
-
-abbrev pub empty_view : View
-empty_view = view [] []
-
--- the first CPU of a seat goes to a new one
-abbrev pub dealer : View → View
-dealer v = view (drop 1 v.lanes) v.kept
-
-abbrev pub dealt : View → View
-dealt v = view (take 1 v.lanes) []
-
--- the CPUs of a second seat go behind those of a first
-abbrev pub gathered : View → View → View
-gathered v w = view (v.lanes ++ w.lanes) v.kept
-
--- a copy of what a seat keeps of the history
-abbrev pub onlooker : View → View
-onlooker v = view [] v.kept
 
 -- the lane has seen a beginning of the history, with all its own events
 abbrev pub HasSeenBeginning : Known → List Entry → Type 0
 HasSeenBeginning l log = IsPrefix l.seen log × (events_of l.cpu l.seen ≡ events_of l.cpu log)
-
--- the whole history is kept
-pub record Learned (m m' : Sat) : Type 0 where
-  pub after : m' ≡ (view m.0.lanes m'.0.kept, m.1)
-  pub within : (k : ℕ) (l : Known) → get_elem? m.0.lanes k ≡ some l → HasSeenBeginning l m'.0.kept
 
 -- what is kept is the whole history, and the words keep the rule with it
 pub record KeepsWholeHistory (a : About) (v : View) (ws : List ℕ) : Type 0 where

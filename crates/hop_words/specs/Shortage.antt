@@ -13,7 +13,6 @@ use Rattle.hop_layout.specs.Layout.{map_shape}
 use Rattle.hop_words.specs.Content.{one_if}
 
 -- ---- Busy
-
 abbrev pub is_done : ℕ → Event → Bool
 is_done m (Update n key bytes flags Done) = n == m
 is_done m (Delete n key Done) = n == m
@@ -30,7 +29,6 @@ abbrev pub MayBeWorn : ℕ → ℕ → List Entry → Type 0
 MayBeWorn version m before = 2 ^ 56 - 1 ≤ version + done_in m before
 
 -- ---- NoMemory
-
 -- a value was made where this span is
 abbrev pub HasHadValue : Plain → Span → Type 0
 HasHadValue s p = (v : ℕ) × (v < s.made) × ((s.value v).span ≡ p)
@@ -51,7 +49,6 @@ MayLack h before c m = (s : Plain) × Legal (as_made h) before s
     × ((e : ℕ) → e < elements (map_shape h m) → MayBeTaken h before s c m e)
 
 -- ---- causes
-
 -- behind these entries the CPU's event may be: Busy is answered only where a version may be used
 -- up, NoMemory only where each element of the map may be taken
 abbrev pub HasCause : Shape → ℕ → List Entry → ℕ → Event → Type 0

@@ -45,13 +45,6 @@ abbrev pub IsTakenSince : List Sight → ℕ → ℕ → Type 0
 IsTakenSince [] m e = ⊥
 IsTakenSince (s ∷ ss) m e = LeavesElements m s × (ShowsTaken s m e ⊎ IsTakenSince ss m e)
 
--- a place where a step that changes the word need not be noted: so no element is taken or given
--- back, and no lock is taken, without a sight
-abbrev pub IsQuiet : Place → Type 0
-IsQuiet (FreeBits m i) = ⊥
-IsQuiet (Stamp m s) = ⊥
-IsQuiet place = Unit {0}
-
 -- one step more was noted
 abbrev pub sighted : Known → Sight → Known
 sighted l s = record l { tally = s ∷ l.tally }

@@ -19,7 +19,7 @@ use std::marker::Model;
 struct Comes;
 
 impl Play<(), View> for Comes {
-    ghost use Rattle.hop_words.specs.Closing.{came};
+    ghost use Rattle.hop_words.specs.Private.Closing.{came};
 
     ghost then = { came };
 }
@@ -28,7 +28,7 @@ impl Play<(), View> for Comes {
 struct Gather;
 
 impl Join<View> for Gather {
-    ghost use Rattle.hop_words.specs.Seats.{gathered, empty_view};
+    ghost use Rattle.hop_words.specs.Private.Seats.{gathered, empty_view};
 
     ghost both = { gathered };
 
@@ -39,7 +39,7 @@ impl Join<View> for Gather {
 struct Learns;
 
 impl Play<(), View> for Learns {
-    ghost use Rattle.hop_words.specs.Closing.{learned};
+    ghost use Rattle.hop_words.specs.Private.Closing.{learned};
 
     ghost then = { learned };
 }
@@ -48,7 +48,7 @@ impl Play<(), View> for Learns {
 pub(crate) struct Keep;
 
 impl Split<View> for Keep {
-    ghost use Rattle.hop_words.specs.Seats.{onlooker};
+    ghost use Rattle.hop_words.specs.Private.Seats.{onlooker};
 
     ghost left = { λ v. v };
 
@@ -63,7 +63,7 @@ pub struct Returned {
 
 impl Model for Returned {
     ghost use Rattle.hop_words.specs.Dealing.{Dealing};
-    ghost use Rattle.hop_words.specs.Closing.{returned, IsReturned};
+    ghost use Rattle.hop_words.specs.Private.Closing.{returned, IsReturned};
 
     ghost Value = { Dealing };
 
@@ -119,7 +119,8 @@ pub struct Rest {
 }
 
 impl Model for Rest {
-    ghost use Rattle.hop_words.specs.Closing.{Ending, ending, IsAtRest};
+    ghost use Rattle.hop_words.specs.Closing.{Ending};
+    ghost use Rattle.hop_words.specs.Private.Closing.{ending, IsAtRest};
 
     ghost Value = { Ending };
 

@@ -15,7 +15,7 @@ use std::marker::Model;
 struct Deal;
 
 impl Split<View> for Deal {
-    ghost use Rattle.hop_words.specs.Seats.{dealer, dealt};
+    ghost use Rattle.hop_words.specs.Private.Seats.{dealer, dealt};
 
     ghost left = { dealer };
 
@@ -31,7 +31,8 @@ pub struct Lanes {
 }
 
 impl Model for Lanes {
-    ghost use Rattle.hop_words.specs.Dealing.{Dealing, dealing, IsDealing};
+    ghost use Rattle.hop_words.specs.Dealing.{Dealing};
+    ghost use Rattle.hop_words.specs.Private.Dealing.{dealing, IsDealing};
 
     ghost Value = { Dealing };
 

@@ -3,11 +3,8 @@
 ghost use Rattle.std.specs.Prelude.{◌≡◌, ◌==◌, true, [], ℕ, ◌+◌, ◌%◌, ◌^◌, bit_and, bit_or, bit_xor};
 ghost use prog.Atomic.{either};
 ghost use Rattle.hop_layout.specs.Layout.{is_place};
-ghost use Rattle.hop_words.specs.Rule.{solo};
+ghost use Rattle.hop_words.specs.Private.Step.{solo, IsQuiet, Unlocks, Steps, Notes, NotesTaken, first_lane};
 ghost use Rattle.hop_words.specs.Inside.{nobody};
-ghost use Rattle.hop_words.specs.Sights.{IsQuiet};
-ghost use Rattle.hop_words.specs.Locking.{Unlocks};
-ghost use Rattle.hop_words.specs.Step.{Steps, Notes, NotesTaken, first_lane};
 
 use crate::known::View;
 use crate::table::HopTable;
@@ -24,7 +21,8 @@ pub struct Lane {
 }
 
 impl Model for Lane {
-    ghost use Rattle.hop_words.specs.Inside.{Standing, standing, IsOne};
+    ghost use Rattle.hop_words.specs.Inside.{Standing};
+    ghost use Rattle.hop_words.specs.Private.Inside.{standing, IsOne};
 
     ghost Value = { Standing };
 
@@ -70,7 +68,7 @@ pub(crate) struct Told<E> {
 }
 
 impl<E: Tell> Play<(), View> for Told<E> {
-    ghost use Rattle.hop_words.specs.Inside.{tells};
+    ghost use Rattle.hop_words.specs.Private.Inside.{tells};
 
     ghost then = { tells E.told };
 }

@@ -3,8 +3,7 @@ ghost use Rattle.std.specs.Prelude.{◌≡◌, ◌+◌, ◌<◌, ◌^◌, true, 
 ghost use Rattle.bpf_shared.specs.Shape.{IsMapShape};
 ghost use Rattle.hop_layout.specs.Layout.{is_place, mem, put_at, size};
 ghost use Rattle.hop_words.specs.Ghost.{shape_at};
-ghost use Rattle.hop_words.specs.Made.{IsPartly};
-ghost use Rattle.hop_words.specs.Opens.{AreNewWords};
+ghost use Rattle.hop_words.specs.Private.Made.{IsPartly, AreNewWords};
 
 use hop_layout::{Index, Place, depth, elements, segments};
 use bpf_shared::MapShape;

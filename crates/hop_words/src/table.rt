@@ -26,7 +26,8 @@ pub struct HopTable {
 }
 
 impl Model for HopTable {
-    ghost use Rattle.hop_words.specs.Inside.{Shown, shown, HasLayout};
+    ghost use Rattle.hop_words.specs.Inside.{Shown};
+    ghost use Rattle.hop_words.specs.Private.Inside.{shown, HasLayout};
 
     ghost Value = { Shown };
 

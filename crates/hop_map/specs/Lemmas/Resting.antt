@@ -8,8 +8,8 @@ use Rattle.hop_words.specs.Ghost.{shape_at, segment_in, Each}
 use Rattle.hop_words.specs.Rule.{IsPeek}
 use Rattle.hop_words.specs.Peeking.{latest_reading}
 use Rattle.hop_seg.specs.Words.{Words as SegWords}
-use Rattle.hop_map.specs.Views.{segment_view}
-use Rattle.hop_map.specs.Peeks.{Peeked, HavePeeks, Agreed, Rested}
+use Rattle.hop_map.specs.Private.Views.{segment_view}
+use Rattle.hop_map.specs.Private.Peeks.{Peeked, HavePeeks, Agreed, Rested}
 
 pub rested_itself : (x : Peeked) → Rested x x
 rested_itself x = record {

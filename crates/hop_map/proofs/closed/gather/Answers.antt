@@ -4,7 +4,8 @@ use Rattle.std.proofs.lemmas.List.Elements.{All-nil, All-cons, All-append}
 use Rattle.atomic_table.proofs.Lists.{at_index}
 use Rattle.hop_words.specs.declared.known.Known.{Known}
 use Rattle.hop_words.specs.Inside.{Standing}
-use Rattle.hop_map.specs.Port.{Port, known_of, standing_in, IsUnlocked}
+use Rattle.hop_map.specs.Port.{Port, known_of}
+use Rattle.hop_map.specs.Private.Port.{standing_in, IsUnlocked}
 use Rattle.hop_map.proofs.Ports.{port_is}
 use Rattle.hop_map.proofs.Dealing.{map_snoc, legal_of, causes_of, known_at, all_back}
 use Rattle.hop_map.proofs.Dumps.{last_of}

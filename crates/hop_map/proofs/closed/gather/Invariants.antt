@@ -1,5 +1,6 @@
 use Rattle.std.specs.Prelude.{◌≡◌, ◌++◌, All, map}
-use Rattle.hop_map.specs.Port.{known_of, IsUnlocked}
+use Rattle.hop_map.specs.Port.{known_of}
+use Rattle.hop_map.specs.Private.Port.{IsUnlocked}
 use Rattle.hop_map.proofs.closed.gather.Given as goal
 
 abbrev pub invariant-ports : goal.invariant-ports

@@ -10,7 +10,7 @@ use Rattle.hop_words.specs.Kinds.{retiring}
 use Rattle.hop_words.specs.Owning.{tail_of}
 use Rattle.hop_map.specs.declared.dropping.Deletion.{Deletion}
 use Rattle.hop_map.specs.Noting.{BusyFirst}
-use Rattle.hop_map.specs.Removals.{Dropped, Kept, DeleteEnds, answer_to}
+use Rattle.hop_map.specs.Private.Removals.{Dropped, Kept, DeleteEnds, answer_to}
 use Rattle.hop_map.proofs.Wholes.{key_at_map, kept_called, dropped_called}
 use Rattle.hop_map.proofs.Noted.{delete_notes}
 use Rattle.hop_map.proofs.deleting.delete.Goals as goal

@@ -1,6 +1,6 @@
 use Rattle.std.proofs.Common.{ℕ, List, subst}
 use Rattle.bpf_shared.specs.Listing.{listed}
-use Rattle.hop_map.specs.Dumping.{IsKeyAmong}
+use Rattle.hop_map.specs.Private.Dumping.{IsKeyAmong}
 use Rattle.hop_map.proofs.Dumps.{adds_pair, adds_key}
 use Rattle.hop_map.proofs.dumping.add.Goals as goal
 

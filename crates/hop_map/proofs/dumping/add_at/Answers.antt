@@ -1,6 +1,6 @@
 use Rattle.std.proofs.Common.{◌≡◌, ap, sym, ◌∙◌, Some}
 use Rattle.hop_words.specs.Content.{item}
-use Rattle.hop_map.specs.Dumping.{words_in}
+use Rattle.hop_map.specs.Private.Dumping.{words_in}
 use Rattle.hop_map.proofs.Dumps.{at_place, reached_inside}
 use Rattle.hop_map.proofs.dumping.add_at.Goals as goal
 

@@ -4,7 +4,7 @@ use Rattle.bpf_shared.specs.Listing.{listed}
 use Rattle.hop_words.specs.Content.{item}
 use Rattle.hop_seg.specs.Words.{Words as SegWords}
 use Rattle.hop_seg.proofs.Walking.{Counted, counted_begins, counted_on, counted_ends, walk_at, walk_ends}
-use Rattle.hop_map.specs.Dumping.{key_in, IsKeyAmong}
+use Rattle.hop_map.specs.Private.Dumping.{key_in, IsKeyAmong}
 use Rattle.hop_words.proofs.Locked.{link_there}
 use Rattle.hop_map.proofs.Dumps.{seen, sound, on_list, listed_reached, reached_inside, adds_none, adds_on, walk_weaker}
 use Rattle.hop_map.proofs.dumping.add_listed.Goals as goal

@@ -1,8 +1,8 @@
 use Rattle.std.specs.Prelude.{ℕ, true, Option}
 use Rattle.bpf_shared.specs.Listing.{listed}
 use Rattle.hop_seg.proofs.Walking.{Counted}
-use Rattle.hop_map.specs.Views.{segment_view}
-use Rattle.hop_map.specs.Dumping.{words_in, key_in, IsKeyAmong, AddsPairs}
+use Rattle.hop_map.specs.Private.Views.{segment_view}
+use Rattle.hop_map.specs.Private.Dumping.{words_in, key_in, IsKeyAmong, AddsPairs}
 use Rattle.hop_map.proofs.dumping.add_listed.Given as goal
 
 abbrev pub invariant-list : goal.invariant-list

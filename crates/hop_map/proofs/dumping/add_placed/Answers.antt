@@ -2,7 +2,7 @@ use Rattle.std.proofs.Common.{◌≡◌, ℕ, sym, ap, ◌∙◌, arith, ⊎_eli
 use Rattle.bpf_shared.specs.Listing.{listed}
 use Rattle.hop_words.specs.Content.{item}
 use Rattle.hop_words.proofs.Small.{equal}
-use Rattle.hop_map.specs.Dumping.{words_in, key_in}
+use Rattle.hop_map.specs.Private.Dumping.{words_in, key_in}
 use Rattle.hop_map.proofs.Dumps.{adds_on}
 use Rattle.hop_map.proofs.dumping.add_placed.Goals as goal
 

@@ -1,7 +1,7 @@
 use Rattle.std.specs.Prelude.{◌≡◌, ◌<◌, ℕ, Some}
 use Rattle.bpf_shared.specs.Listing.{listed}
 use Rattle.hop_words.specs.Content.{item}
-use Rattle.hop_map.specs.Dumping.{words_in, key_in, IsKeyAmong, AddsPairs}
+use Rattle.hop_map.specs.Private.Dumping.{words_in, key_in, IsKeyAmong, AddsPairs}
 use Rattle.hop_map.proofs.dumping.add_placed.Given as goal
 
 abbrev pub invariant-places : goal.invariant-places

@@ -1,7 +1,7 @@
 use Rattle.std.proofs.Common.{ℕ, ◌+◌, ◌%◌, arith, ⊎_elim}
 use Rattle.bpf_shared.specs.Listing.{listed}
 use Rattle.hop_words.specs.Content.{HopsTo, IsOnList}
-use Rattle.hop_map.specs.Dumping.{words_in, key_in}
+use Rattle.hop_map.specs.Private.Dumping.{words_in, key_in}
 use Rattle.hop_map.proofs.Dumps.{adds_on}
 use Rattle.hop_map.proofs.dumping.add_segment.Goals as goal
 

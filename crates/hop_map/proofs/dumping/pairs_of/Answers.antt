@@ -1,7 +1,7 @@
 use Rattle.std.proofs.Common.{◌≡◌, ℕ, subst, ap, ◌∙◌, arith, ⊎_elim}
 use Rattle.hop_layout.specs.Layout.{segments}
 use Rattle.hop_words.proofs.Small.{equal}
-use Rattle.hop_map.specs.Dumping.{key_in, IsReached}
+use Rattle.hop_map.specs.Private.Dumping.{key_in, IsReached}
 use Rattle.hop_map.proofs.dumping.pairs_of.Goals as goal
 
 pub segments-preserved : goal.segments-preserved

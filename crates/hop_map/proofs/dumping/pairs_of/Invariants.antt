@@ -1,7 +1,7 @@
 use Rattle.std.specs.Prelude.{◌<◌, ℕ}
 use Rattle.bpf_shared.specs.Listing.{listed}
 use Rattle.hop_words.specs.Ghost.{IsSegment}
-use Rattle.hop_map.specs.Dumping.{key_in, IsReached, IsKeyAmong, AreFound}
+use Rattle.hop_map.specs.Private.Dumping.{key_in, IsReached, IsKeyAmong, AreFound}
 use Rattle.hop_map.proofs.dumping.pairs_of.Given as goal
 
 abbrev pub invariant-segments : goal.invariant-segments

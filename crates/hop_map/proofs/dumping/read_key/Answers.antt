@@ -1,6 +1,6 @@
 use Rattle.std.proofs.Common.{◌++◌, sym, ◌∙◌}
 use Rattle.bpf_base.specs.Bytes.{low_bytes}
-use Rattle.hop_map.specs.Dumping.{words_in}
+use Rattle.hop_map.specs.Private.Dumping.{words_in}
 use Rattle.hop_map.proofs.Dumps.{spelled_more}
 use Rattle.hop_map.proofs.dumping.read_key.Goals as goal
 

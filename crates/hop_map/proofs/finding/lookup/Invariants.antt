@@ -1,5 +1,5 @@
 use Rattle.std.specs.Prelude.{◌≡◌}
-use Rattle.hop_map.specs.Finding.{SeesDisturbances}
+use Rattle.hop_map.specs.Private.Finding.{SeesDisturbances}
 use Rattle.hop_map.proofs.finding.lookup.Given as goal
 
 abbrev pub invariant-tries : goal.invariant-tries

@@ -11,12 +11,12 @@ use Rattle.hop_words.specs.Shortage.{done_in}
 use Rattle.hop_words.specs.Kinds.{retiring}
 use Rattle.hop_words.specs.Owning.{tail_of, IsInHand}
 use Rattle.hop_map.specs.declared.ending.Ending.{Ending}
-use Rattle.hop_map.specs.Overs.{Over}
+use Rattle.hop_map.specs.Private.Overs.{Over}
 use Rattle.hop_words.specs.Sights.{lock_taken, bit_set, sighted}
-use Rattle.hop_map.specs.Locks.{Readies}
-use Rattle.hop_map.specs.Calls.{Took}
+use Rattle.hop_map.specs.Private.Locks.{Readies}
+use Rattle.hop_map.specs.Private.Calls.{Took}
 use Rattle.hop_map.specs.Noting.{BusyFirst}
-use Rattle.hop_map.specs.Updates.{Refusal, UpdateEnds, answer_of}
+use Rattle.hop_map.specs.Private.Updates.{Refusal, UpdateEnds, answer_of}
 use Rattle.hop_map.proofs.Keys.{are_bytes}
 use Rattle.hop_map.proofs.Wholes.{pair_at}
 use Rattle.hop_words.proofs.Sighted.{set_leaves}

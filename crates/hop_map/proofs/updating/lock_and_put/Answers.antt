@@ -1,7 +1,7 @@
 use Rattle.std.proofs.Common.{ℕ, sym, subst, ◌∙◌}
-use Rattle.hop_map.specs.Calls.{LockShows}
-use Rattle.hop_map.specs.Locks.{Readies, with_lock}
-use Rattle.hop_map.specs.Updates.{Offers, UpdateEnds}
+use Rattle.hop_map.specs.Private.Calls.{LockShows}
+use Rattle.hop_map.specs.Private.Locks.{Readies, with_lock}
+use Rattle.hop_map.specs.Private.Updates.{Offers, UpdateEnds}
 use Rattle.hop_map.proofs.Locking.{of_words, of_parts, locked_ready, locked_contents, locked_offers, ends_before}
 use Rattle.hop_map.proofs.updating.lock_and_put.Goals as goal
 

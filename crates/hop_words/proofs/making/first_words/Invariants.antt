@@ -1,6 +1,6 @@
 use Rattle.std.specs.Prelude.{◌≡◌, length}
 use Rattle.hop_layout.specs.Layout.{mem, size}
-use Rattle.hop_words.specs.Made.{IsPartly}
+use Rattle.hop_words.specs.Private.Made.{IsPartly}
 use Rattle.hop_words.proofs.making.first_words.Given as goal
 
 abbrev pub invariant-runs : goal.invariant-runs

@@ -5,7 +5,7 @@ use Rattle.hop_layout.specs.declared.about.About.{About}
 use Rattle.bpf_shared.specs.declared.shapes.MapShape.{MapShape}
 use Rattle.hop_layout.specs.Layout.{mem, put_at, depth, free_words, segments}
 use Rattle.hop_words.specs.Ghost.{shape_at}
-use Rattle.hop_words.specs.Made.{IsPartly}
+use Rattle.hop_words.specs.Private.Made.{IsPartly}
 use Rattle.hop_words.proofs.FirstWords.{bits_on, stamps_on, map_on}
 use Rattle.hop_words.proofs.making.put_map.Goals as goal
 

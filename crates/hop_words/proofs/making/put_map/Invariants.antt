@@ -1,7 +1,7 @@
 use Rattle.std.specs.Prelude.{◌≡◌, length}
 use Rattle.hop_layout.specs.Layout.{mem, size, free_words}
 use Rattle.hop_words.specs.Ghost.{shape_at}
-use Rattle.hop_words.specs.Made.{IsPartly}
+use Rattle.hop_words.specs.Private.Made.{IsPartly}
 use Rattle.hop_words.proofs.making.put_map.Given as goal
 
 abbrev pub invariant-bits : goal.invariant-bits

@@ -8,7 +8,7 @@ use Rattle.bpf_shared.specs.Listing.{IsListing, listed}
 use Rattle.hop_layout.specs.declared.about.About.{About}
 use Rattle.hop_words.specs.Ghost.{IsSegment}
 use Rattle.hop_words.specs.Closing.{Ending}
-use Rattle.hop_map.specs.Dumping.{key_in, IsReached, IsKeyAmong, AreFound}
+use Rattle.hop_map.specs.Private.Dumping.{key_in, IsReached, IsKeyAmong, AreFound}
 use Rattle.hop_map.proofs.Dumps.{listing, no_listing, sorted_keys}
 use Rattle.hop_map.proofs.closed.Closed.dump.Goals as goal
 

@@ -2,7 +2,7 @@ use Rattle.std.proofs.Common.{sym, subst, ◌∙◌}
 use Rattle.hop_words.specs.Kinds.{IsKeyAbsent}
 use Rattle.hop_words.specs.Locking.{lock_of}
 use Rattle.hop_map.specs.Views.{Locked}
-use Rattle.hop_map.specs.Calls.{Brings}
+use Rattle.hop_map.specs.Private.Calls.{Brings}
 use Rattle.hop_map.proofs.Offering.{brings}
 use Rattle.hop_map.proofs.locked.LockedWords.count_in.Goals as goal
 

@@ -6,7 +6,7 @@ use Rattle.hop_words.specs.Kinds.{IsKeyAbsent, Inserts, Inserted}
 use Rattle.hop_words.specs.Owning.{tail_of}
 use Rattle.hop_words.specs.Locking.{lock_of, hand}
 use Rattle.hop_map.specs.Views.{Locked, Ready}
-use Rattle.hop_map.specs.Calls.{LockShows, Brings}
+use Rattle.hop_map.specs.Private.Calls.{LockShows, Brings}
 use Rattle.hop_map.proofs.Counted.{inserts, counted_ready, by_answer}
 use Rattle.hop_map.proofs.locked.LockedWords.count_up.Goals as goal
 

@@ -1,5 +1,5 @@
 use Rattle.std.proofs.Common.{ap, ◌∙◌}
-use Rattle.hop_map.specs.Peeks.{Peeked, peeked}
+use Rattle.hop_map.specs.Private.Peeks.{Peeked, peeked}
 use Rattle.hop_map.proofs.Peeking.{rested_as}
 use Rattle.hop_map.proofs.peeked.PeekedWords.read.Goals as goal
 

@@ -2,7 +2,7 @@ use Rattle.std.proofs.Common.{◌≡◌, ℕ, ap, sym, subst, ◌∙◌, arith, 
 use Rattle.hop_layout.specs.declared.place.Place.TheVariants.{KeyWord}
 use Rattle.hop_layout.specs.Words.{word_of}
 use Rattle.hop_words.proofs.Small.{equal}
-use Rattle.hop_map.specs.Peeks.{Peeked, Rested}
+use Rattle.hop_map.specs.Private.Peeks.{Peeked, Rested}
 use Rattle.hop_map.specs.Lemmas.Resting.{rested_on, had_peeks}
 use Rattle.hop_map.proofs.Peeking.{rested_as, spelled_on}
 use Rattle.hop_map.proofs.peeked.PeekedWords.spells.Goals as goal

@@ -1,7 +1,7 @@
 use Rattle.std.specs.Prelude.{◌≡◌, ◌<◌, ℕ}
 use Rattle.hop_words.specs.Content.{MapWords, Reached}
 use Rattle.hop_layout.specs.Words.{word_of}
-use Rattle.hop_map.specs.Peeks.{Rested, HavePeeks}
+use Rattle.hop_map.specs.Private.Peeks.{Rested, HavePeeks}
 use Rattle.hop_map.proofs.peeked.PeekedWords.spells.Given as goal
 
 abbrev pub invariant-words : goal.invariant-words

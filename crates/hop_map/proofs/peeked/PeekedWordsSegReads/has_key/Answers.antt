@@ -1,6 +1,6 @@
 use Rattle.std.proofs.Common.{◌≡◌, length, IsTrue, false, ap, sym, subst, ◌∙◌, arith, ne_eqb}
 use Rattle.hop_words.specs.Ghost.{shape_at}
-use Rattle.hop_map.specs.Peeks.{Peeked}
+use Rattle.hop_map.specs.Private.Peeks.{Peeked}
 use Rattle.hop_map.specs.Lemmas.Resting.{agreed_before}
 use Rattle.hop_map.proofs.Keys.{are_bytes}
 use Rattle.hop_map.proofs.Peeking.{keyed_value, sized_key}

@@ -1,6 +1,6 @@
 use Rattle.std.specs.Prelude.{◌≡◌, ℕ, ◌<◌, length}
 use Rattle.hop_map.specs.Whole.{IsReclaimed}
-use Rattle.hop_map.specs.Port.{IsEnding}
+use Rattle.hop_map.specs.Private.Port.{IsEnding}
 use Rattle.hop_map.proofs.port.HopPort.end.Given as goal
 
 abbrev pub invariant-maps : goal.invariant-maps

@@ -3,7 +3,7 @@ use Rattle.bpf_shared.specs.Shape.{IsShape}
 use Rattle.hop_layout.specs.declared.about.About.{About}
 use Rattle.hop_words.specs.Inside.{Shown}
 use Rattle.hop_words.specs.Dealing.{Dealing}
-use Rattle.hop_words.specs.Seats.{Sat}
+use Rattle.hop_words.specs.Private.Seats.{Sat}
 use Rattle.hop_words.proofs.Gathers.{gathers}
 use Rattle.hop_words.proofs.Dealt.{some_words}
 use Rattle.hop_words.proofs.closing.Returned.take.Goals as goal

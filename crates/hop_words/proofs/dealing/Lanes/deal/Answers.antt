@@ -6,7 +6,7 @@ use Rattle.bpf_shared.specs.Shape.{IsShape}
 use Rattle.hop_words.specs.Rule.{Kept}
 use Rattle.hop_words.specs.Inside.{Shown}
 use Rattle.hop_words.specs.Dealing.{Dealing}
-use Rattle.hop_words.specs.Seats.{dealer, dealt}
+use Rattle.hop_words.specs.Private.Seats.{dealer, dealt}
 use Rattle.hop_words.proofs.Dealt.{deals_first, some_words}
 use Rattle.hop_words.proofs.dealing.Lanes.deal.Goals as goal
 

@@ -1,6 +1,6 @@
 use Rattle.std.proofs.Common.{ℕ, ◌/◌, bit_and, sym, subst}
 use Rattle.hop_layout.specs.declared.place.Place.TheVariants.{FreeBits}
-use Rattle.hop_words.specs.Step.{Notes}
+use Rattle.hop_words.specs.Private.Step.{Notes}
 use Rattle.hop_words.specs.Owning.{ClaimsBit}
 use Rattle.hop_words.proofs.Tallies.{claims}
 use Rattle.hop_words.proofs.lane.Lane.claim_bit.Goals as goal

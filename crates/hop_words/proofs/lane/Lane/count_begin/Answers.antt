@@ -1,6 +1,6 @@
 use Rattle.std.proofs.Common.{ℕ, ◌+◌, ◌%◌, ◌^◌, sym, subst}
 use Rattle.hop_layout.specs.declared.place.Place.TheVariants.{RunCount}
-use Rattle.hop_words.specs.Step.{Steps}
+use Rattle.hop_words.specs.Private.Step.{Steps}
 use Rattle.bpf_shared.specs.declared.events.Event.TheVariants.{Begin}
 use Rattle.hop_words.specs.Kinds.{Told}
 use Rattle.hop_words.proofs.Turns.{count_begin}

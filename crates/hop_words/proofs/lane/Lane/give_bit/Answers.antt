@@ -1,6 +1,6 @@
 use Rattle.std.proofs.Common.{ℕ, ◌/◌, bit_or, sym, subst}
 use Rattle.hop_layout.specs.declared.place.Place.TheVariants.{FreeBits}
-use Rattle.hop_words.specs.Step.{Notes}
+use Rattle.hop_words.specs.Private.Step.{Notes}
 use Rattle.hop_words.specs.Owning.{GivesFresh}
 use Rattle.hop_words.proofs.Tallies.{gives_fresh}
 use Rattle.hop_words.proofs.lane.Lane.give_bit.Goals as goal

@@ -1,6 +1,6 @@
 use Rattle.std.proofs.Common.{◌≡◌, ℕ, sym, subst}
 use Rattle.hop_layout.specs.declared.place.Place.TheVariants.{RunCount}
-use Rattle.hop_words.specs.Step.{Steps}
+use Rattle.hop_words.specs.Private.Step.{Steps}
 use Rattle.hop_words.specs.Kinds.{noting_next}
 use Rattle.hop_words.proofs.Turns.{see_counter}
 use Rattle.hop_words.proofs.lane.Lane.note_counter.Goals as goal

@@ -8,7 +8,8 @@ use Rattle.hop_words.specs.declared.known.View.{View}
 use Rattle.hop_words.specs.Inside.{Shown}
 use Rattle.hop_layout.specs.Layout.{size}
 use Rattle.hop_words.specs.Rule.{Kept}
-use Rattle.hop_words.specs.Seats.{Sat, view, HasSeenBeginning, KeepsWholeHistory}
+use Rattle.hop_words.specs.Private.Seats.{Sat}
+use Rattle.hop_words.specs.Seats.{view, HasSeenBeginning, KeepsWholeHistory}
 use Rattle.hop_words.specs.Closing.{AreAllBack}
 use Rattle.hop_words.proofs.Gathers.{copies}
 use Rattle.hop_words.proofs.Dealt.{some_words}

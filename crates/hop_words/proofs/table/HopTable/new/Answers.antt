@@ -4,9 +4,10 @@ use Rattle.hop_layout.specs.declared.about.About.{About}
 use Rattle.hop_words.specs.declared.known.View.{View}
 use Rattle.hop_layout.specs.Layout.{mem, size}
 use Rattle.hop_words.specs.Rule.{Kept}
-use Rattle.hop_words.specs.Opens.{AreNewWords, opens}
+use Rattle.hop_words.specs.Private.Made.{AreNewWords}
+use Rattle.hop_words.specs.Opens.{opens}
 use Rattle.hop_words.specs.Seats.{view}
-use Rattle.hop_words.specs.Dealing.{AreNumbered}
+use Rattle.hop_words.specs.Private.Dealing.{AreNumbered}
 use Rattle.hop_words.proofs.Openings.{opening_kept}
 use Rattle.hop_words.proofs.Dealt.{lane_count, numbered}
 use Rattle.hop_words.proofs.table.HopTable.new.Goals as goal

@@ -14,7 +14,7 @@ use Rattle.hop_words.specs.Rule.{IsPeek}
 use Rattle.hop_words.specs.Kinds.{peeking}
 use Rattle.hop_words.specs.Peeking.{latest_reading, HasReading}
 use Rattle.hop_seg.specs.Words.{Words as SegWords}
-use Rattle.hop_map.specs.Views.{segment_view}
+use Rattle.hop_map.specs.Private.Views.{segment_view}
 
 -- a segment that is read without its lock, as its users see it
 pub record Peeked : Type 0 where

@@ -8,7 +8,7 @@ use Rattle.hop_layout.specs.Words.{word_of, AreBytes}
 use Rattle.hop_words.specs.Sights.{sighted, lock_taken}
 use Rattle.hop_words.specs.Ghost.{shape_at}
 use Rattle.hop_words.specs.Locking.{hand}
-use Rattle.hop_map.specs.Updates.{Wants, Valued}
+use Rattle.hop_map.specs.Private.Updates.{Wants, Valued}
 
 -- the lane has one element in hand, filled with a key
 pub record CarriesKey (a : About) (l : Known) (m : ℕ) (key : List ℕ) (element : ℕ) : Type 0 where

@@ -8,7 +8,7 @@ use Rattle.bpf_shared.specs.declared.events.MapAnswer.TheVariants.{Done}
 use Rattle.hop_words.specs.Ghost.{shape_at}
 use Rattle.hop_words.specs.Kinds.{has, Saw, with_gone}
 use Rattle.hop_words.specs.Locking.{lock_of}
-use Rattle.hop_map.specs.Calls.{HandFilled}
+use Rattle.hop_map.specs.Private.Calls.{HandFilled}
 
 -- the lane has an element in hand for a replacement
 pub record BringsOver (a : About) (l : Known) (m s : ℕ) (key bytes : List ℕ) (flags element : ℕ) :

@@ -22,10 +22,11 @@ use Rattle.hop_map.specs.declared.ending.Ending.{Ending}
 use Rattle.hop_map.specs.declared.ending.Ending.TheVariants.{Added, Replaced, Refused}
 use Rattle.hop_map.specs.declared.judging.Finding.{Finding}
 use Rattle.hop_map.specs.declared.judging.Finding.TheVariants.{Refuses, There, Missing}
-use Rattle.hop_map.specs.Views.{Locked, Ready, seen_words}
+use Rattle.hop_map.specs.Views.{Locked, Ready}
+use Rattle.hop_map.specs.Private.Views.{seen_words}
 use Rattle.hop_map.specs.Noting.{BusyFirst}
-use Rattle.hop_map.specs.Calls.{Took}
-use Rattle.hop_map.specs.Overs.{Over}
+use Rattle.hop_map.specs.Private.Calls.{Took}
+use Rattle.hop_map.specs.Private.Overs.{Over}
 
 -- a call in a run has a key of this segment, a value, and flags that are known
 pub record Wants (a : About) (l : Known) (m s : ℕ) (key bytes : List ℕ) (flags : ℕ) : Type 0 where
