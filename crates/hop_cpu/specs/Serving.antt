@@ -5,7 +5,7 @@ use Rattle.bpf_shared.specs.declared.events.MapAnswer.{MapAnswer}
 use Rattle.hop_words.specs.Inside.{Shown}
 use Rattle.hop_words.specs.Kinds.{run_count}
 use Rattle.hop_map.specs.Port.{Port, runs, port_holds}
-use Rattle.hop_map.specs.Whole.{Lacks}
+use Rattle.hop_map.specs.Call.{IsShortage}
 
 -- a table, and the port of one of its CPUs
 pub record Serving : Type 0 where
@@ -31,4 +31,4 @@ IsPortWorn x c = run_count x.table.about x.port.known ≡ 2 ^ 64 - 2
 -- Busy only at a segment's last version, NoMemory only where the call looked for a free element in
 -- vain
 abbrev pub MayLackElement : Serving → Serving → ℕ → List ℕ → MapAnswer → Type 0
-MayLackElement x y m key answer = Lacks x.table.about x.port.known m answer y.port.known
+MayLackElement x y m key answer = IsShortage x.table.about x.port.known m answer y.port.known

@@ -7,8 +7,8 @@ use Rattle.bpf_shared.specs.Shape.{elements}
 use Rattle.hop_layout.specs.declared.about.About.{About}
 use Rattle.hop_layout.specs.Layout.{power, depth}
 use Rattle.hop_layout.specs.Home.{segment_of, key_bucket}
-use Rattle.hop_map.specs.Views.{home}
-use Rattle.hop_map.specs.Private.Views.{segment_view}
+use Rattle.hop_map.specs.LockedSegment.{home}
+use Rattle.hop_map.specs.Private.LockedSegment.{segment_view}
 use Rattle.hop_words.specs.Content.{MapWords, item, times, one_if, HopsTo, LinksThrough, Reached, HasKey, IsShare}
 use Rattle.hop_words.specs.Ghost.{segment_in, shape_at}
 use Rattle.hop_words.specs.Rule.{put_key}

@@ -15,8 +15,8 @@ use Rattle.hop_words.specs.Kinds.{has, MayLink, Inserts, Inserted, IsKeyAbsent}
 use Rattle.hop_layout.proofs.Layouts.{one}
 use Rattle.hop_words.proofs.Small.{key_self, key_apart}
 use Rattle.hop_words.specs.Locking.{lock_of, hand, nothing_in_hand}
-use Rattle.hop_map.specs.Views.{Ready, knows}
-use Rattle.hop_map.specs.Private.Calls.{LockShows, Brings}
+use Rattle.hop_map.specs.LockedSegment.{Ready, knows}
+use Rattle.hop_map.specs.Private.UnderLock.{LockShows, OffersInsertion}
 
 pub or_true : (x y : Bool) → x ≡ true → (x || y) ≡ true
 or_true true y is = refl
@@ -37,9 +37,9 @@ module _ (a : About) (l : Known) (m s : ℕ) (r : Ready a l m s) where
   at_lock : (P : ℕ → ℕ → Type 0) → P m s → P k.map k.segment
   at_lock P p = subst (P k.map) (sym r.segment) (subst (λ (n : ℕ). P n s) (sym r.map) p)
 
-  module _ (key bytes : List ℕ) (flags element : ℕ) (c : LockShows a l m s) (b : Brings a l m s key bytes flags element) (absent : IsKeyAbsent a k key) where
-    b' : Brings a l k.map k.segment key bytes flags element
-    b' = at_lock (λ n t. Brings a l n t key bytes flags element) b
+  module _ (key bytes : List ℕ) (flags element : ℕ) (c : LockShows a l m s) (b : OffersInsertion a l m s key bytes flags element) (absent : IsKeyAbsent a k key) where
+    b' : OffersInsertion a l k.map k.segment key bytes flags element
+    b' = at_lock (λ n t. OffersInsertion a l n t key bytes flags element) b
 
     pub inserts : (count : ℕ) → count < (shape_at a m).max → Inserts a l k (hand l) [] key bytes flags count
     inserts count room = record {

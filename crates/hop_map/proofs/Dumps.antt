@@ -30,7 +30,7 @@ use Rattle.hop_seg.specs.Words.{Words as SegWords}
 use Rattle.hop_seg.specs.Segment.{Sound as SegSound}
 use Rattle.hop_seg.specs.Content.{IsListed}
 use Rattle.hop_seg.proofs.Walking.{Counted}
-use Rattle.hop_map.specs.Private.Views.{segment_view}
+use Rattle.hop_map.specs.Private.LockedSegment.{segment_view}
 use Rattle.hop_map.specs.Private.Dumping.{words_in, key_in, IsReached, IsKeyAmong, IsPairFound, AreFound, AddsPairs}
 use Rattle.hop_map.specs.Dumping.{IsLast}
 use Rattle.hop_map.proofs.Keys.{spells}

@@ -6,7 +6,7 @@ use Rattle.hop_layout.specs.Words.{word_of, AreBytes}
 use Rattle.hop_words.specs.Content.{MapWords, HasKey}
 use Rattle.hop_words.specs.Ghost.{shape_at}
 use Rattle.hop_layout.proofs.Spelled.{spelled_same, spelled_back}
-use Rattle.hop_map.specs.Private.Views.{spelled_key}
+use Rattle.hop_map.specs.Private.LockedSegment.{spelled_key}
 
 pub are_bytes : (bs : List ℕ) → ((i : ℕ) → slice_index bs i < 256) → AreBytes bs
 are_bytes [] small = tt

@@ -8,11 +8,11 @@ use Rattle.hop_words.specs.declared.known.Fresh.{Fresh}
 use Rattle.hop_words.specs.Content.{MapWords, HasKey}
 use Rattle.hop_words.specs.Ghost.{shape_at, IsSegment, Each}
 use Rattle.hop_words.specs.Rule.{image, StartsWith}
-use Rattle.hop_words.specs.Kinds.{has, MayLink, LocksSegment, locking, Saw, with_gone}
+use Rattle.hop_words.specs.Kinds.{has, MayLink, LocksSegment, locking, TakesEffect, with_gone}
 use Rattle.hop_layout.proofs.Layouts.{one, both}
 use Rattle.hop_words.specs.Locking.{lock_of, hand}
-use Rattle.hop_map.specs.Views.{Fits, Locked, Ready, knows, in_hand}
-use Rattle.hop_map.specs.Private.Calls.{LockShows}
+use Rattle.hop_map.specs.LockedSegment.{Fits, Locked, Ready, knows, in_hand}
+use Rattle.hop_map.specs.Private.UnderLock.{LockShows}
 use Rattle.bpf_shared.specs.declared.events.Event.TheVariants.{Update, Delete}
 use Rattle.bpf_shared.specs.declared.events.Entry.{Entry}
 use Rattle.bpf_shared.specs.declared.events.MapAnswer.{MapAnswer}
@@ -114,8 +114,8 @@ module _ (a : About) (l : Known) (m s n : ℕ) (key bytes : List ℕ) (flags : �
   locked_wants b = subst (λ (q : Known). Wants a q m s key bytes flags) (sym t.after) (record { home = b.home; key_size = b.key_size; size = b.size; are_bytes = b.are_bytes; flags_known = b.flags_known; limbo = b.limbo; runs = b.runs })
 
   module _ (idle : l.locks ≡ []) where
-    saw_before : (r : MapAnswer) (seen : List Entry) → Saw a l2 (Update m key bytes flags r) seen → Saw a (with_lock l m s n) (Update m key bytes flags r) seen
-    saw_before r seen p = let w = subst (λ (q : Known). Saw a q (Update m key bytes flags r) seen) t.after p in record { others = w.others; foreign = w.foreign; after = w.after; legal = w.legal }
+    saw_before : (r : MapAnswer) (seen : List Entry) → TakesEffect a l2 (Update m key bytes flags r) seen → TakesEffect a (with_lock l m s n) (Update m key bytes flags r) seen
+    saw_before r seen p = let w = subst (λ (q : Known). TakesEffect a q (Update m key bytes flags r) seen) t.after p in record { others = w.others; foreign = w.foreign; after = w.after; legal = w.legal }
 
     pub refusal_before : (r : MapAnswer) (l3 : Known) → Refusal a l2 m key bytes flags r l3 → Refusal a (with_lock l m s n) m key bytes flags r l3
     refusal_before r l3 p = record {
@@ -156,8 +156,8 @@ module _ (a : About) (l : Known) (m s n : ℕ) (key : List ℕ) (l2 : Known) (t 
   locked_names b = subst (λ (q : Known). NamesKey a q m s key) (sym t.after) (record { home = b.home; size = b.size; limbo = b.limbo; runs = b.runs })
 
   module _ (idle : l.locks ≡ []) where
-    saw_deleted : (r : MapAnswer) (seen : List Entry) → Saw a l2 (Delete m key r) seen → Saw a (with_lock l m s n) (Delete m key r) seen
-    saw_deleted r seen p = let w = subst (λ (q : Known). Saw a q (Delete m key r) seen) t.after p in record { others = w.others; foreign = w.foreign; after = w.after; legal = w.legal }
+    saw_deleted : (r : MapAnswer) (seen : List Entry) → TakesEffect a l2 (Delete m key r) seen → TakesEffect a (with_lock l m s n) (Delete m key r) seen
+    saw_deleted r seen p = let w = subst (λ (q : Known). TakesEffect a q (Delete m key r) seen) t.after p in record { others = w.others; foreign = w.foreign; after = w.after; legal = w.legal }
 
     kept_before : (r : MapAnswer) (l3 : Known) → Kept a l2 m key r l3 → Kept a (with_lock l m s n) m key r l3
     kept_before r l3 p = record { seen = saw_deleted r l3.seen p.seen; after = p.after ∙ ap (λ (q : Known). record q { seen = l3.seen; locks = [] }) t.after }

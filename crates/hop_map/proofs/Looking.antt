@@ -8,13 +8,13 @@ use Rattle.hop_words.specs.declared.known.Lock.{Lock}
 use Rattle.hop_words.specs.Content.{IsShare}
 use Rattle.hop_words.specs.Ghost.{segment_in, shape_at}
 use Rattle.hop_words.specs.Rule.{image}
-use Rattle.hop_words.specs.Kinds.{LooksUpLocked, LookedUp, Saw, LocksSegment as Lock_taken, found_span}
+use Rattle.hop_words.specs.Kinds.{LooksUpLocked, LookedUp, TakesEffect, LocksSegment as Lock_taken, found_span}
 use Rattle.hop_words.specs.Locking.{lock_of}
 use Rattle.hop_seg.specs.Segment.{Sound as SegSound}
 use Rattle.hop_seg.specs.Content.{IsAbsent as SegAbsent, HasPair}
-use Rattle.hop_map.specs.Views.{Locked, Ready, in_hand, is_put}
-use Rattle.hop_map.specs.Private.Views.{seen_words}
-use Rattle.hop_map.specs.Private.Calls.{LockShows}
+use Rattle.hop_map.specs.LockedSegment.{Locked, Ready, in_hand, is_put}
+use Rattle.hop_map.specs.Private.LockedSegment.{seen_words}
+use Rattle.hop_map.specs.Private.UnderLock.{LockShows}
 use Rattle.hop_words.specs.Sights.{lock_taken}
 use Rattle.hop_map.specs.Private.Locks.{with_lock}
 use Rattle.hop_map.specs.Finding.{AsksForKey, Looked, TakesLock}
@@ -69,10 +69,10 @@ module _ (a : About) (l : Known) (m s n : ℕ) (key : List ℕ) (l2 : Known) (t 
     abbrev event : Event
     event = Lookup m key (found_span a m o)
 
-    seen : Saw a l event l3.seen
+    seen : TakesEffect a l event l3.seen
     seen =
-        let w = subst (λ (i : ℕ). Saw a l2 (Lookup i key (found_span a i o)) l3.seen) lock_map p.seen in
-        let v = subst (λ (z : Known). Saw a z event l3.seen) t.after w in
+        let w = subst (λ (i : ℕ). TakesEffect a l2 (Lookup i key (found_span a i o)) l3.seen) lock_map p.seen in
+        let v = subst (λ (z : Known). TakesEffect a z event l3.seen) t.after w in
         record { others = v.others; foreign = v.foreign; after = v.after; legal = v.legal }
 
     pub looked : Looked a l m key (found_span a m o) l3

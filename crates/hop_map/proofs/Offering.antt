@@ -8,9 +8,9 @@ use Rattle.bpf_shared.specs.declared.events.Event.{Event}
 use Rattle.hop_words.specs.Ghost.{shape_at}
 use Rattle.hop_words.specs.Kinds.{IsKeyAbsent, Counts, Told}
 use Rattle.hop_words.specs.Locking.{lock_of, SeesRoom, SeesLack}
-use Rattle.hop_map.specs.Views.{Locked, Ready}
-use Rattle.hop_map.specs.Private.Calls.{LockShows, HandFilled, Brings}
-use Rattle.hop_map.specs.Private.Overs.{BringsOver}
+use Rattle.hop_map.specs.LockedSegment.{Locked, Ready}
+use Rattle.hop_map.specs.Private.UnderLock.{LockShows, HandFilled, OffersInsertion}
+use Rattle.hop_map.specs.Private.Replacing.{OffersReplacement}
 use Rattle.hop_map.specs.Private.Updates.{Wants, Offers}
 
 module _ (a : About) (l : Known) (m s : ℕ) (key bytes : List ℕ) (flags element : ℕ) (b : Offers a l m s key bytes flags element) where
@@ -29,10 +29,10 @@ module _ (a : About) (l : Known) (m s : ℕ) (key bytes : List ℕ) (flags eleme
     runs = b.wants.runs;
   }
 
-  pub brings : flags ≢ 2 → Brings a l m s key bytes flags element
+  pub brings : flags ≢ 2 → OffersInsertion a l m s key bytes flags element
   brings new = record { filled = filled; flags_known = (let f = b.wants.flags_known in omega arith) }
 
-  pub brings_over : flags ≢ 1 → BringsOver a l m s key bytes flags element
+  pub brings_over : flags ≢ 1 → OffersReplacement a l m s key bytes flags element
   brings_over over = record {
     filled = filled;
     flags_known = zero_or_two flags b.wants.flags_known over;

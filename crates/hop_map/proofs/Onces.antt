@@ -10,9 +10,9 @@ use Rattle.hop_words.specs.Sights.{look, lock_taken, sighted}
 use Rattle.bpf_shared.specs.declared.events.Span.{Span}
 use Rattle.hop_layout.specs.Home.{home_of}
 use Rattle.hop_words.specs.Ghost.{segment_in, shape_at}
-use Rattle.hop_words.specs.Kinds.{StampSeenAgain, Found, Saw, noting, found_span}
+use Rattle.hop_words.specs.Kinds.{StampSeenAgain, Found, TakesEffect, noting, found_span}
 use Rattle.hop_words.specs.Peeking.{latest_reading, HasReading}
-use Rattle.hop_map.specs.Private.Peeks.{Peeked, Rested}
+use Rattle.hop_map.specs.Private.Peeks.{Peeked, OnlyReads}
 use Rattle.hop_map.specs.Finding.{AsksForKey, Looked, Disturbs, ReadsOnce, TakesLock, all_sights}
 use Rattle.hop_map.specs.Private.Finding.{AsksHere, SeesDisturbances}
 use Rattle.hop_map.specs.Noting.{CallNotes}
@@ -36,7 +36,7 @@ module _ (a : About) (l : Known) (m s n : ℕ) (key : List ℕ) (q : AsksForKey 
     stamp_begun : (latest_reading l1).stamp ≡ n
     stamp_begun = ap (λ (z : Known). (latest_reading z).stamp) is
 
-    module _ (x y : Peeked) (xa : x.about ≡ a) (xk : x.known ≡ l1) (xm : x.map ≡ m) (xs : x.segment ≡ s) (r : Rested x y) where
+    module _ (x y : Peeked) (xa : x.about ≡ a) (xk : x.known ≡ l1) (xm : x.map ≡ m) (xs : x.segment ≡ s) (r : OnlyReads x y) where
       lane_is : y.known ≡ record l { readings = y.known.readings; tally = look (Stamp m s) n ∷ l.tally }
       lane_is = r.known ∙ ap (λ (z : Known). record z { readings = y.known.readings }) (xk ∙ is)
 
@@ -99,10 +99,10 @@ module _ (a : About) (l : Known) (m s n : ℕ) (key : List ℕ) (q : AsksForKey 
             found_tally ∙ ap (λ (i : ℕ). look (Stamp m i) n ∷ look (Stamp m i) n ∷ l.tally) (sym home),
           )
 
-          its_event : Saw a l (Lookup m key (found_span a m o)) l3.seen
+          its_event : TakesEffect a l (Lookup m key (found_span a m o)) l3.seen
           its_event =
-              let u = subst (λ (i : ℕ). Saw y.about y.known (Lookup i key (found_span y.about i o)) l3.seen) read_map found.seen in
-              let v = subst (λ (z : Peeked). Saw z.about z.known (Lookup m key (found_span z.about m o)) l3.seen) y_is u in
+              let u = subst (λ (i : ℕ). TakesEffect y.about y.known (Lookup i key (found_span y.about i o)) l3.seen) read_map found.seen in
+              let v = subst (λ (z : Peeked). TakesEffect z.about z.known (Lookup m key (found_span z.about m o)) l3.seen) y_is u in
               record { others = v.others; foreign = v.foreign; after = v.after; legal = v.legal }
 
           pub found_once : Looked a l m key (found_span a m o) l3
@@ -121,7 +121,7 @@ module _ (a : About) (l : Known) (m : ℕ) (key : List ℕ) where
 
     pub looked_then : (o : Option Span) (y : Known) → Looked a x m key o y → Looked a l m key o y
     looked_then o y p = record {
-      seen = (let v = subst (λ (z : Known). Saw a z (Lookup m key o) y.seen) t.after p.seen in record { others = v.others; foreign = v.foreign; after = v.after; legal = v.legal });
+      seen = (let v = subst (λ (z : Known). TakesEffect a z (Lookup m key o) y.seen) t.after p.seen in record { others = v.others; foreign = v.foreign; after = v.after; legal = v.legal });
       after = p.after ∙ ap (λ (z : Known). record z { seen = y.seen; readings = y.readings; tally = y.tally }) t.after;
     }
 

@@ -16,17 +16,17 @@ use Rattle.hop_words.proofs.Shares.{one_list}
 use Rattle.hop_seg.specs.Words.{Words as SegWords, IsKnown}
 use Rattle.hop_seg.specs.Segment.{Sound as SegSound, element_key}
 use Rattle.hop_seg.specs.Content.{IsAbsent as SegAbsent, HasPair}
-use Rattle.hop_map.specs.Private.Views.{segment_view}
+use Rattle.hop_map.specs.Private.LockedSegment.{segment_view}
 use Rattle.hop_map.specs.Private.Finding.{AsksHere}
-use Rattle.hop_map.specs.Private.Peeks.{Peeked, peeked, HavePeeks, Agreed, Rested, Spelled}
+use Rattle.hop_map.specs.Private.Peeks.{Peeked, peeked, HavePeeks, Agreed, OnlyReads, Spelled}
 use Rattle.hop_map.proofs.Keys.{same_spelling, other_size}
 use Rattle.hop_map.proofs.Bridge.{seg_sound, pair_leads, leads_pair}
 
-pub rested_by : (x : Peeked) (p : Place) (n : ℕ) → Rested x (peeked x p n)
+pub rested_by : (x : Peeked) (p : Place) (n : ℕ) → OnlyReads x (peeked x p n)
 rested_by x p n = record { table = refl; about = refl; map = refl; segment = refl; known = refl; more = record { place = p; number = n } ∷ []; reading = refl }
 
-pub rested_as : (x y : Peeked) (p : Place) (n : ℕ) → y ≡ peeked x p n → Rested x y
-rested_as x y p n is = subst (Rested x) (sym is) (rested_by x p n)
+pub rested_as : (x y : Peeked) (p : Place) (n : ℕ) → y ≡ peeked x p n → OnlyReads x y
+rested_as x y p n is = subst (OnlyReads x) (sym is) (rested_by x p n)
 
 -- the word that was read last
 pub last_peek : (x y : Peeked) (p : Place) (n : ℕ) → y ≡ peeked x p n → (w : MapWords) → HavePeeks w y → IsPeek w x.map x.segment p n
@@ -49,7 +49,7 @@ module _ (x : Peeked) (e : ℕ) (key : List ℕ) (w : SegWords) (g : Agreed x w)
   pub sized_key : element_key w e ≡ key → length key ≡ (shape_at x.about x.map).key
   sized_key h = other_size x.about x.map g.words e its_key.0 key its_key.1 (ap (λ (u : SegWords). element_key u e) (sym g.shown) ∙ h)
 
-pub spelled_on : (x y z : Peeked) (m e k n : ℕ) → Rested x y → z ≡ peeked y (KeyWord m e k) n → m ≡ y.map → (w : MapWords) → HavePeeks w z → Reached w x.map x.segment e → w.key x.map e k ≡ n
+pub spelled_on : (x y z : Peeked) (m e k n : ℕ) → OnlyReads x y → z ≡ peeked y (KeyWord m e k) n → m ≡ y.map → (w : MapWords) → HavePeeks w z → Reached w x.map x.segment e → w.key x.map e k ≡ n
 spelled_on x y z m e k n r is hm w all reached =
     let q : m ≡ y.map → Reached w y.map y.segment e → w.key y.map e k ≡ n = last_peek y z (KeyWord m e k) n is w all in
     subst (λ (i : ℕ). w.key i e k ≡ n) r.map (q hm (subst (λ (i : ℕ). Reached w i y.segment e) (sym r.map) (subst (λ (t : ℕ). Reached w x.map t e) (sym r.segment) reached)))

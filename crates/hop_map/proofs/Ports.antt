@@ -18,14 +18,14 @@ use Rattle.hop_words.proofs.Sighted.{each-append}
 use Rattle.hop_words.specs.Ghost.{HasElement, Each, limbo_at}
 use Rattle.hop_words.specs.Inside.{Shown, Standing}
 use Rattle.bpf_shared.specs.Own.{turns_of, in_run}
-use Rattle.hop_words.specs.Kinds.{run_count, Saw, Told}
+use Rattle.hop_words.specs.Kinds.{run_count, TakesEffect, Told}
 use Rattle.hop_epoch.specs.declared.batches.Batches.{Batches}
 use Rattle.hop_epoch.specs.Batch.{front, Notes, Tracks, Keeps, SeesRunning}
 use Rattle.hop_arena.specs.declared.arena.Arena.{Arena}
 use Rattle.hop_map.specs.declared.port.HopPort.TheInside.{Inside as InPort}
 use Rattle.bpf_shared.specs.declared.events.Span.{Span}
 use Rattle.hop_arena.specs.Claiming.{IsArena}
-use Rattle.hop_map.specs.Whole.{Searches, AreBatchesOf, Called, IsReclaimed}
+use Rattle.hop_map.specs.Call.{Searches, AreBatchesOf, IsOneCall, IsReclaimed}
 use Rattle.hop_map.specs.Finding.{Looked}
 use Rattle.hop_map.specs.Noting.{CallNotes}
 use Rattle.bpf_shared.specs.Shape.{IsElementSpan}
@@ -54,7 +54,7 @@ pub port_is : (i : InPort) (o : Option Standing) (s : Standing) → o ≡ i.lane
 port_is i o s from is = ap (λ (x : Option Standing). port_with (standing_in x) i.arenas.items i.batches.items) (sym from ∙ is)
 
 -- ---- what a CPU's own events say, after one more
-pub own_after : (a : About) (l l' : Known) (e : Event) → Saw a l e l'.seen → l'.cpu ≡ l.cpu → events_of l'.cpu l'.seen ≡ events_of l.cpu l.seen ++ e ∷ []
+pub own_after : (a : About) (l l' : Known) (e : Event) → TakesEffect a l e l'.seen → l'.cpu ≡ l.cpu → events_of l'.cpu l'.seen ≡ events_of l.cpu l.seen ++ e ∷ []
 own_after a l l' e s same =
     let o = s.others in
     ap (λ (c : ℕ). events_of c l'.seen) same
@@ -63,11 +63,11 @@ own_after a l l' e s same =
     ∙ ap (λ (es : List Event). events_of l.cpu l.seen ++ es)
     (events_of-append l.cpu o (entry l.cpu e ∷ []) ∙ (ap (λ (es : List Event). es ++ events_of l.cpu (entry l.cpu e ∷ [])) s.foreign ∙ events_of-own l.cpu e))))
 
-pub turned : (a : About) (l l' : Known) (e : Event) → Saw a l e l'.seen → l'.cpu ≡ l.cpu → turns_of (events_of l'.cpu l'.seen) ≡ turns_of (events_of l.cpu l.seen) + turns_of (e ∷ [])
+pub turned : (a : About) (l l' : Known) (e : Event) → TakesEffect a l e l'.seen → l'.cpu ≡ l.cpu → turns_of (events_of l'.cpu l'.seen) ≡ turns_of (events_of l.cpu l.seen) + turns_of (e ∷ [])
 turned a l l' e s same = ap turns_of (own_after a l l' e s same) ∙ turns_of-append (events_of l.cpu l.seen) (e ∷ [])
 
 -- the counter has room after a quiet event, if it had room before
-pub room_stays : (a : About) (l l' : Known) (e : Event) → Saw a l e l'.seen → l'.cpu ≡ l.cpu → turns_of (e ∷ []) ≡ 0 → (in_run (events_of l.cpu l.seen) ≡ true → run_count a l + 1 < 2 ^ 64)
+pub room_stays : (a : About) (l l' : Known) (e : Event) → TakesEffect a l e l'.seen → l'.cpu ≡ l.cpu → turns_of (e ∷ []) ≡ 0 → (in_run (events_of l.cpu l.seen) ≡ true → run_count a l + 1 < 2 ^ 64)
     → in_run (events_of l'.cpu l'.seen) ≡ true → run_count a l' + 1 < 2 ^ 64
 room_stays a l l' e s same quiet room runs' =
     let turns : turns_of (events_of l'.cpu l'.seen) ≡ turns_of (events_of l.cpu l.seen) = let n = turned a l l' e s same in omega (arith, quiet) in
@@ -166,7 +166,7 @@ ends_last t p z ended l bs h running table told i =
       cpu = subst (λ (c : ℕ). c < t.about.shape.cpus) (sym cpu) h.cpu;
       even = h.even;
       room = λ now. absurd (
-          let n = turned t.about p.known l End (subst (Saw t.about p.known End) (sym i.seen) told.seen) cpu in grind (arith, nat_tests));
+          let n = turned t.about p.known l End (subst (TakesEffect t.about p.known End) (sym i.seen) told.seen) cpu in grind (arith, nat_tests));
       legal = subst (IsLegal t.about.shape) (sym i.seen) told.seen.legal;
       limbo = i.limbo;
       arenas = h.arenas;
@@ -210,7 +210,7 @@ follows_at a l n m bs b here h is =
     (name, subst (λ (k : ℕ). Tracks a l k b.young b.aged b.noted) (sym name) (subst (λ (y : Batches). Tracks a l m y.young y.aged y.noted) (sym old) (h.each m here)))
 
 pub called_fits : (t : Shown) (p : Port) (z : TableId) (l : Known) (m : ℕ) (e : Event) (xs : List Arena) (b : Batches) → IsPortOf t p → z ≡ t.id → m < length t.about.shape.maps → turns_of (e ∷ []) ≡ 0
-    → Called t.about p.known m e l → AreArenas t.about (length t.about.shape.maps) xs → AreBatchesOf t.about l m b → IsPortOf t (record { table = z; known = l; arenas = xs; batches = set p.batches m b })
+    → IsOneCall t.about p.known m e l → AreArenas t.about (length t.about.shape.maps) xs → AreBatchesOf t.about l m b → IsPortOf t (record { table = z; known = l; arenas = xs; batches = set p.batches m b })
 called_fits t p z l m e xs b h table here quiet c arenas f = record {
   table = table;
   cpu = subst (λ (k : ℕ). k < t.about.shape.cpus) (sym c.cpu) h.cpu;
@@ -235,7 +235,7 @@ pub looked_lies : (a : About) (l l' : Known) (m : ℕ) (key : List ℕ) (o : Opt
 looked_lies a l l' m key o c = last_found_lies a.shape l.seen c.seen.others l.cpu m key o (subst (IsLegal a.shape) c.seen.after c.seen.legal)
 
 -- ---- whether the port's CPU is in a run
-pub still_runs : (a : About) (l l' : Known) (e : Event) → Saw a l e l'.seen → l'.cpu ≡ l.cpu → turns_of (e ∷ []) ≡ 0 → in_run (events_of l.cpu l.seen) ≡ true → in_run (events_of l'.cpu l'.seen) ≡ true
+pub still_runs : (a : About) (l l' : Known) (e : Event) → TakesEffect a l e l'.seen → l'.cpu ≡ l.cpu → turns_of (e ∷ []) ≡ 0 → in_run (events_of l.cpu l.seen) ≡ true → in_run (events_of l'.cpu l'.seen) ≡ true
 still_runs a l l' e s same quiet runs' =
     let turns : turns_of (events_of l'.cpu l'.seen) ≡ turns_of (events_of l.cpu l.seen) = let n = turned a l l' e s same in omega (arith, quiet) in
     ap (λ (k : ℕ). k % 2 == 1) turns ∙ runs'
@@ -247,7 +247,7 @@ begun_runs a l l' (Err e) told idle = tt
 pub ended_idle : (t : Shown) (p : Port) (ended l : Known) (bs : List Batches) → Told t.about p.known End ended → IsEnding t ended l bs → runs p ≡ true → in_run (events_of l.cpu l.seen) ≡ false
 ended_idle t p ended l bs told i running =
     let cpu = i.cpu ∙ ap (λ (k : Known). k.cpu) told.after in
-    let n = turned t.about p.known l End (subst (Saw t.about p.known End) (sym i.seen) told.seen) cpu in
+    let n = turned t.about p.known l End (subst (TakesEffect t.about p.known End) (sym i.seen) told.seen) cpu in
     grind (arith, nat_tests)
 
 -- ---- what a beginning and an end note

@@ -8,8 +8,8 @@ use Rattle.hop_words.specs.declared.known.Change.TheVariants.{Puts}
 use Rattle.hop_layout.specs.Layout.{depth}
 use Rattle.hop_layout.specs.Home.{segment_of}
 use Rattle.hop_words.specs.Locking.{lock_of, hand}
-use Rattle.hop_map.specs.Views.{home, Locked, Stays, Ready, knows}
-use Rattle.hop_map.specs.Private.Views.{segment_view, locked_view, seen_words}
+use Rattle.hop_map.specs.LockedSegment.{home, Locked, Stays, Ready, knows}
+use Rattle.hop_map.specs.Private.LockedSegment.{segment_view, locked_view, seen_words}
 use Rattle.hop_words.specs.Content.{MapWords, IsShare, HasKey}
 use Rattle.hop_words.specs.Ghost.{segment_in, shape_at}
 use Rattle.hop_words.specs.Rule.{image, put_key}
@@ -17,7 +17,7 @@ use Rattle.hop_words.specs.Kinds.{has, Inserted, IsKeyAbsent, IsWritten, LeadsTo
 use Rattle.hop_seg.specs.Words.{Fixed}
 use Rattle.hop_seg.specs.Segment.{Sound as SegSound, IsOwn, element_key}
 use Rattle.hop_seg.specs.Content.{IsAbsent as SegAbsent, HasPair, Gains}
-use Rattle.hop_map.specs.Private.Calls.{LockShows, Brings}
+use Rattle.hop_map.specs.Private.UnderLock.{LockShows, OffersInsertion}
 use Rattle.hop_map.proofs.Keys.{spells}
 use Rattle.hop_map.proofs.Counted.{or_true}
 use Rattle.hop_map.proofs.Bridge.{seg_sound, pair_leads, leads_pair, inserted, power_is}
@@ -76,7 +76,7 @@ or_last true y is = refl
 or_last false y is = is
 
 -- after the count has gone up
-module _ (x : Locked) (key bytes : List ℕ) (flags element : ℕ) (c : LockShows x.about x.known x.map x.segment) (b : Brings x.about x.known x.map x.segment key bytes flags element) (gone : SegAbsent (seen_words x) key)
+module _ (x : Locked) (key bytes : List ℕ) (flags element : ℕ) (c : LockShows x.about x.known x.map x.segment) (b : OffersInsertion x.about x.known x.map x.segment key bytes flags element) (gone : SegAbsent (seen_words x) key)
     (y : Locked) (table : y.table ≡ x.table) (about : y.about ≡ x.about) (map : y.map ≡ x.map) (segment : y.segment ≡ x.segment)
     (i : Inserted x.about x.known (lock_of x.known) (hand x.known) [] key bytes flags y.known) where
   abbrev o : ℕ

@@ -7,8 +7,8 @@ use Rattle.hop_words.specs.Content.{item}
 use Rattle.hop_words.specs.Locking.{lock_of}
 use Rattle.hop_words.specs.Guarded.{IsGuarded}
 use Rattle.hop_seg.specs.Words.{Words as SegWords, IsKnown}
-use Rattle.hop_map.specs.Views.{Locked, Ready}
-use Rattle.hop_map.specs.Private.Views.{seen_words}
+use Rattle.hop_map.specs.LockedSegment.{Locked, Ready}
+use Rattle.hop_map.specs.Private.LockedSegment.{seen_words}
 use Rattle.hop_map.proofs.Written.{mine}
 
 module _ (x y : Locked) (p : Place) (n : ℕ) (r : Ready x.about x.known x.map x.segment) (same : y ≡ x) (is : IsGuarded x.about x.known p → n ≡ mem x.about.shape (lock_of x.known).copy p) (w : SegWords) (a : w ≡ seen_words y) where

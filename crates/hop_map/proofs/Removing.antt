@@ -9,7 +9,7 @@ use Rattle.hop_words.specs.declared.known.Change.TheVariants.{Drops}
 use Rattle.hop_words.specs.Content.{IsShare}
 use Rattle.hop_words.specs.Ghost.{segment_in, shape_at}
 use Rattle.hop_words.specs.Rule.{image, put_key, numbered}
-use Rattle.hop_words.specs.Kinds.{has, IsKeyAbsent, Answers, Removes, IsWritten, Saw, with_gone}
+use Rattle.hop_words.specs.Kinds.{has, IsKeyAbsent, Answers, Removes, IsWritten, TakesEffect, with_gone}
 use Rattle.hop_words.specs.Locking.{lock_of}
 use Rattle.hop_layout.proofs.Maps.{map_is}
 use Rattle.bpf_shared.specs.Shape.{Shape, IsMap, elements}
@@ -17,9 +17,9 @@ use Rattle.std.specs.FinMap.{get}
 use Rattle.std.specs.Prelude.{is_some}
 use Rattle.hop_seg.specs.Segment.{Sound as SegSound}
 use Rattle.hop_seg.specs.Content.{IsAbsent as SegAbsent, HasPair, Loses}
-use Rattle.hop_map.specs.Views.{Locked, Stays, Ready, in_hand, is_put}
-use Rattle.hop_map.specs.Private.Views.{seen_words}
-use Rattle.hop_map.specs.Private.Calls.{LockShows}
+use Rattle.hop_map.specs.LockedSegment.{Locked, Stays, Ready, in_hand, is_put}
+use Rattle.hop_map.specs.Private.LockedSegment.{seen_words}
+use Rattle.hop_map.specs.Private.UnderLock.{LockShows}
 use Rattle.hop_map.specs.Private.Removals.{NamesKey, Dropped}
 use Rattle.hop_map.proofs.Bridge.{removed}
 use Rattle.hop_map.proofs.Staying.{stays_is}
@@ -122,8 +122,8 @@ module _ (x : Locked) (key : List ℕ) (c : LockShows x.about x.known x.map x.se
     pub drop_ends : (old : ℕ) (l3 : Known) → Dropped z.about z.known (lock_of z.known).map key old l3 → Dropped x.about x.known x.map key old l3
     drop_ends old l3 p =
         let m : (lock_of z.known).map ≡ x.map = ap (λ (q : Lock). q.map) st.lock ∙ c.map in
-        let w : Saw x.about x.known (Delete x.map key Done) l3.seen = (let v = subst (λ (q : Known). Saw x.about q (Delete x.map key Done) l3.seen) st.known
-        (subst (λ (a : About). Saw a z.known (Delete x.map key Done) l3.seen) st.about (subst (λ (n : ℕ). Saw z.about z.known (Delete n key Done) l3.seen) m p.seen)) in
+        let w : TakesEffect x.about x.known (Delete x.map key Done) l3.seen = (let v = subst (λ (q : Known). TakesEffect x.about q (Delete x.map key Done) l3.seen) st.known
+        (subst (λ (a : About). TakesEffect a z.known (Delete x.map key Done) l3.seen) st.about (subst (λ (n : ℕ). TakesEffect z.about z.known (Delete n key Done) l3.seen) m p.seen)) in
         record { others = v.others; foreign = v.foreign; after = v.after; legal = v.legal }) in
         record {
           seen = w;

@@ -8,23 +8,23 @@ use Rattle.hop_words.specs.declared.known.Known.{Known}
 use Rattle.hop_words.specs.declared.known.Lock.{Lock}
 use Rattle.hop_words.specs.declared.known.Fresh.{Fresh}
 use Rattle.hop_layout.specs.Layout.{depth}
-use Rattle.hop_map.specs.Views.{home, Locked, Stays, Ready, in_hand, is_put}
-use Rattle.hop_map.specs.Private.Views.{seen_words}
+use Rattle.hop_map.specs.LockedSegment.{home, Locked, Stays, Ready, in_hand, is_put}
+use Rattle.hop_map.specs.Private.LockedSegment.{seen_words}
 use Rattle.hop_words.specs.Content.{IsShare, HasKey}
 use Rattle.hop_words.specs.Ghost.{segment_in, shape_at}
 use Rattle.hop_words.specs.Rule.{image, put_key}
-use Rattle.hop_words.specs.Kinds.{has, Replaces, Replaced, Saw, with_gone}
+use Rattle.hop_words.specs.Kinds.{has, Replaces, Replaced, TakesEffect, with_gone}
 use Rattle.hop_seg.specs.Segment.{Sound as SegSound, IsOwn, element_key}
 use Rattle.hop_seg.specs.Content.{HasPair, IsInSegment, Changes}
 use Rattle.hop_words.specs.Locking.{lock_of, hand}
-use Rattle.hop_map.specs.Private.Calls.{LockShows}
-use Rattle.hop_map.specs.Private.Overs.{BringsOver, Over}
+use Rattle.hop_map.specs.Private.UnderLock.{LockShows}
+use Rattle.hop_map.specs.Private.Replacing.{OffersReplacement, IsReplacement}
 use Rattle.hop_map.proofs.Keys.{spells}
 use Rattle.hop_map.proofs.Bridge.{replaced, reached_of, power_is}
 use Rattle.hop_map.proofs.Staying.{stays_is}
 use Rattle.hop_map.proofs.Puts.{sound_with, share, any_known, leads_with, known_by, here, or_last, was_inside}
 
-module _ (x : Locked) (key bytes : List ℕ) (flags element : ℕ) (c : LockShows x.about x.known x.map x.segment) (b : BringsOver x.about x.known x.map x.segment key bytes flags element) where
+module _ (x : Locked) (key bytes : List ℕ) (flags element : ℕ) (c : LockShows x.about x.known x.map x.segment) (b : OffersReplacement x.about x.known x.map x.segment key bytes flags element) where
   abbrev k : Lock
   k = lock_of x.known
 
@@ -67,7 +67,7 @@ module _ (x : Locked) (key bytes : List ℕ) (flags element : ℕ) (c : LockShow
       → Replaces x.about (lit ws d) (lock_of (lit ws d)) (hand (lit ws d)) [] key bytes flags old
   unfolding more
   replaces ws d old r g =
-      let b' : BringsOver x.about x.known k.map k.segment key bytes flags element = at_lock (λ n t. BringsOver x.about x.known n t key bytes flags element) b in
+      let b' : OffersReplacement x.about x.known k.map k.segment key bytes flags element = at_lock (λ n t. OffersReplacement x.about x.known n t key bytes flags element) b in
       record {
         filled = record {
           lock = refl;
@@ -99,12 +99,12 @@ module _ (x : Locked) (key bytes : List ℕ) (flags element : ℕ) (c : LockShow
     over_replaces old g r = subst (λ (q : Locked). Changes (seen_words x) (seen_words q) key old element → Ready q.about q.known q.map q.segment → Replaces q.about q.known (lock_of q.known) (hand q.known) [] key bytes flags old)
         (sym (stays_is x z st r.held)) (λ g r. replaces (lock_of z.known).copy (lock_of z.known).dirty old r g) g r
 
-    pub over_ends : (old : ℕ) (l3 : Known) → HasPair (seen_words x) key old → Replaced z.about z.known (lock_of z.known) [] key bytes flags old l3 → Over x.about x.known x.map key bytes flags old l3
+    pub over_ends : (old : ℕ) (l3 : Known) → HasPair (seen_words x) key old → Replaced z.about z.known (lock_of z.known) [] key bytes flags old l3 → IsReplacement x.about x.known x.map key bytes flags old l3
     unfolding more
     over_ends old l3 was p =
         let m : (lock_of z.known).map ≡ x.map = ap (λ (q : Lock). q.map) st.lock ∙ c.map in
-        let w : Saw x.about x.known (Update x.map key bytes flags Done) l3.seen = (let v = subst (λ (q : Known). Saw x.about q (Update x.map key bytes flags Done) l3.seen) st.known
-        (subst (λ (a : About). Saw a z.known (Update x.map key bytes flags Done) l3.seen) st.about (subst (λ (n : ℕ). Saw z.about z.known (Update n key bytes flags Done) l3.seen) m p.seen)) in
+        let w : TakesEffect x.about x.known (Update x.map key bytes flags Done) l3.seen = (let v = subst (λ (q : Known). TakesEffect x.about q (Update x.map key bytes flags Done) l3.seen) st.known
+        (subst (λ (a : About). TakesEffect a z.known (Update x.map key bytes flags Done) l3.seen) st.about (subst (λ (n : ℕ). TakesEffect z.about z.known (Update n key bytes flags Done) l3.seen) m p.seen)) in
         record { others = v.others; foreign = v.foreign; after = v.after; legal = v.legal }) in
         record {
           inside = was_inside x.about x.known x.map x.segment c more key b.filled.home old was;

@@ -24,12 +24,12 @@ use Rattle.hop_words.proofs.Small.{equal}
 use Rattle.hop_arena.specs.Filling.{with_words, word_list}
 use Rattle.hop_arena.proofs.Filling.{word_count}
 use Rattle.hop_epoch.proofs.Batching.{at_set}
-use Rattle.hop_map.specs.Private.Calls.{Took}
-use Rattle.hop_map.specs.Private.Overs.{Over}
+use Rattle.hop_map.specs.Private.UnderLock.{IsInsertion}
+use Rattle.hop_map.specs.Private.Replacing.{IsReplacement}
 use Rattle.hop_map.specs.Private.Locks.{Readies}
 use Rattle.hop_map.specs.Private.Updates.{Refusal}
-use Rattle.hop_map.specs.Whole.{Called}
-use Rattle.hop_map.specs.Private.Whole.{HoldsNew}
+use Rattle.hop_map.specs.Call.{IsOneCall}
+use Rattle.hop_map.specs.Private.Call.{HoldsNew}
 use Rattle.hop_map.proofs.Wholes.{saw_as}
 
 pub words_at : (n : ℕ) (bs : List ℕ) (i : ℕ) → i < n → slice_index (word_list n bs) i ≡ word_of bs i
@@ -70,7 +70,7 @@ module _ (a : About) (l : Known) (m e : ℕ) (new : HoldsNew l m e) (key bytes :
   })
 
   module _ (used : (limbo_at l.limbo m).used ≡ []) (room : m < length l.limbo) (flags : ℕ) (k : Sight) (l2 : Known) where
-    pub added_called : Took a (sighted l1 k) m key bytes flags l2 → Called a l m (Update m key bytes flags Done) l2
+    pub added_called : IsInsertion a (sighted l1 k) m key bytes flags l2 → IsOneCall a l m (Update m key bytes flags Done) l2
     added_called p = record {
       seen = saw_as a l (sighted l1 k) (Update m key bytes flags Done) l2.seen (ap (λ (q : Known). q.cpu) filled_is) (ap (λ (q : Known). q.seen) filled_is) p.seen;
       rests = record {
@@ -84,7 +84,7 @@ module _ (a : About) (l : Known) (m e : ℕ) (new : HoldsNew l m e) (key bytes :
       others = λ n ne. ap (λ (q : Known). limbo_at q.limbo n) p.after ∙ ap (λ (q : Known). limbo_at q.limbo n) filled_is;
     }
 
-    pub added_limbo : Took a (sighted l1 k) m key bytes flags l2 → l2.limbo ≡ l.limbo
+    pub added_limbo : IsInsertion a (sighted l1 k) m key bytes flags l2 → l2.limbo ≡ l.limbo
     added_limbo p = ap (λ (q : Known). q.limbo) p.after ∙ ap (λ (q : Known). q.limbo) filled_is
 
     module _ (r : MapAnswer) (p : Refusal a (sighted l1 k) m key bytes flags r l2) where
@@ -97,8 +97,8 @@ module _ (a : About) (l : Known) (m e : ℕ) (new : HoldsNew l m e) (key bytes :
       pub refused_limbo : (l3 : Known) (j : Sight) → l3 ≡ sighted (record l2 { fresh = tail_of l2.fresh }) j → l3.limbo ≡ l.limbo
       refused_limbo l3 j given = ap (λ (q : Known). q.limbo) given ∙ (ap (λ (q : Known). q.limbo) p.after ∙ ap (λ (q : Known). q.limbo) filled_is)
 
-      pub refused_called : (l3 : Known) (j : Sight) → l3 ≡ sighted (record l2 { fresh = tail_of l2.fresh }) j → Called a l m (Update m key bytes flags r) l3
-      refused_called l3 j given = subst (Called a l m (Update m key bytes flags r)) (sym given) (record {
+      pub refused_called : (l3 : Known) (j : Sight) → l3 ≡ sighted (record l2 { fresh = tail_of l2.fresh }) j → IsOneCall a l m (Update m key bytes flags r) l3
+      refused_called l3 j given = subst (IsOneCall a l m (Update m key bytes flags r)) (sym given) (record {
         seen = saw_as a l (sighted l1 k) (Update m key bytes flags r) l2.seen (ap (λ (q : Known). q.cpu) filled_is) (ap (λ (q : Known). q.seen) filled_is) p.seen;
         rests = record {
           fresh = ap tail_of refused_fresh;
@@ -111,7 +111,7 @@ module _ (a : About) (l : Known) (m e : ℕ) (new : HoldsNew l m e) (key bytes :
         others = λ n ne. ap (λ (q : Known). limbo_at q.limbo n) p.after ∙ ap (λ (q : Known). limbo_at q.limbo n) filled_is;
       })
 
-    module _ (old : ℕ) (p : Over a (sighted l1 k) m key bytes flags old l2) where
+    module _ (old : ℕ) (p : IsReplacement a (sighted l1 k) m key bytes flags old l2) where
       pub over_limbo : l2.limbo ≡ with_gone l m old
       over_limbo = ap (λ (q : Known). q.limbo) p.after ∙ ap (λ (q : Known). with_gone q m old) filled_is
 
@@ -125,11 +125,11 @@ module _ (a : About) (l : Known) (m e : ℕ) (new : HoldsNew l m e) (key bytes :
       size_is : length l2.limbo ≡ length l.limbo
       size_is = ap (λ (ls : List Limbo). length ls) over_limbo ∙ length-set l.limbo m (record (limbo_at l.limbo m) { used = old ∷ (limbo_at l.limbo m).used })
 
-      pub over_called : (l3 : Known) → l3 ≡ retiring l2 m old (tail_of (limbo_at l2.limbo m).used) → Called a l m (Update m key bytes flags Done) l3
+      pub over_called : (l3 : Known) → l3 ≡ retiring l2 m old (tail_of (limbo_at l2.limbo m).used) → IsOneCall a l m (Update m key bytes flags Done) l3
       over_called l3 retired =
           let x : Limbo = record (limbo_at l2.limbo m) { used = tail_of (limbo_at l2.limbo m).used; young = old ∷ (limbo_at l2.limbo m).young } in
           let room2 : m < length l2.limbo = subst (λ (i : ℕ). m < i) (sym size_is) room in
-          subst (Called a l m (Update m key bytes flags Done)) (sym retired) (record {
+          subst (IsOneCall a l m (Update m key bytes flags Done)) (sym retired) (record {
             seen = saw_as a l (sighted l1 k) (Update m key bytes flags Done) l2.seen (ap (λ (q : Known). q.cpu) filled_is) (ap (λ (q : Known). q.seen) filled_is) p.seen;
             rests = record {
               fresh = ap (λ (q : Known). q.fresh) p.after;

@@ -20,9 +20,9 @@ use Rattle.hop_layout.proofs.Maps.{map_is}
 use Rattle.hop_words.proofs.CountUp.{four, and_false}
 use Rattle.hop_seg.specs.Segment.{Sound as SegSound}
 use Rattle.hop_seg.specs.Content.{HasPair, IsAbsent as SegAbsent}
-use Rattle.hop_map.specs.Views.{Locked, Ready, in_hand, is_put}
-use Rattle.hop_map.specs.Private.Views.{seen_words}
-use Rattle.hop_map.specs.Private.Calls.{LockShows}
+use Rattle.hop_map.specs.LockedSegment.{Locked, Ready, in_hand, is_put}
+use Rattle.hop_map.specs.Private.LockedSegment.{seen_words}
+use Rattle.hop_map.specs.Private.UnderLock.{LockShows}
 use Rattle.hop_map.specs.Private.Updates.{Wants}
 use Rattle.hop_map.proofs.Puts.{sound_with, absent_with, leads_with}
 

@@ -9,8 +9,8 @@ use Rattle.hop_words.specs.Content.{place_words, item}
 use Rattle.hop_layout.proofs.Layouts.{wrote}
 use Rattle.hop_seg.specs.Words.{Words as SegWords, with_hop, with_slot, with_head, with_next, replace_at}
 use Rattle.hop_words.specs.Locking.{lock_of}
-use Rattle.hop_map.specs.Views.{Locked, Ready, knows}
-use Rattle.hop_map.specs.Private.Views.{segment_view, seen_words, written}
+use Rattle.hop_map.specs.LockedSegment.{Locked, Ready, knows}
+use Rattle.hop_map.specs.Private.LockedSegment.{segment_view, seen_words, written}
 use Rattle.hop_epoch.specs.Batch.{link_word}
 
 -- ---- items

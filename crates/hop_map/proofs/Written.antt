@@ -9,8 +9,8 @@ use Rattle.hop_words.specs.Kinds.{writing}
 use Rattle.hop_words.specs.Locking.{lock_of}
 use Rattle.hop_words.specs.Guarded.{IsMine}
 use Rattle.hop_layout.proofs.Layouts.{wrote}
-use Rattle.hop_map.specs.Views.{knows, Ready}
-use Rattle.hop_map.specs.Private.Views.{IsNoKey}
+use Rattle.hop_map.specs.LockedSegment.{knows, Ready}
+use Rattle.hop_map.specs.Private.LockedSegment.{IsNoKey}
 
 pub written_ready : (a : About) (l : Known) (m s : ℕ) (p : Place) (n : ℕ) → Ready a l m s → is_place a.shape p ≡ true → IsNoKey p → Ready a (writing a l (lock_of l) p n) m s
 written_ready a l m s p n r there no_key = record {

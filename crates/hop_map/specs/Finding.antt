@@ -11,7 +11,7 @@ use Rattle.hop_words.specs.declared.known.Sight.{Sight}
 use Rattle.hop_layout.specs.declared.place.Place.TheVariants.{Stamp}
 use Rattle.hop_words.specs.Sights.{look, lock_taken}
 use Rattle.hop_words.specs.Ghost.{shape_at, segment_in, Each}
-use Rattle.hop_words.specs.Kinds.{Saw}
+use Rattle.hop_words.specs.Kinds.{TakesEffect}
 use Rattle.bpf_shared.specs.Own.{in_run}
 
 -- a CPU in a run asks for a key of the map, with no element in hand and no lock
@@ -25,7 +25,7 @@ pub record AsksForKey (a : About) (l : Known) (m : ℕ) (key : List ℕ) : Type 
 -- the lookup's event; all else is as it was, but for readings and what was noted
 pub record Looked (a : About) (l : Known) (m : ℕ) (key : List ℕ) (found : Option Span)
     (l' : Known) : Type 0 where
-  pub seen : Saw a l (Lookup m key found) l'.seen
+  pub seen : TakesEffect a l (Lookup m key found) l'.seen
   pub after : l' ≡ record l { seen = l'.seen; readings = l'.readings; tally = l'.tally }
 
 -- a reading of the segment that was disturbed, as it was noted: the first stamp was locked, or the

@@ -1,5 +1,5 @@
-pub mod Views
-pub mod Whole
+pub mod LockedSegment
+pub mod Call
 pub mod Finding
 pub mod Noting
 pub mod Port

@@ -11,7 +11,7 @@ use Rattle.bpf_shared.specs.Own.{held_by, in_run}
 use Rattle.hop_layout.specs.declared.about.About.{About}
 use Rattle.hop_words.specs.declared.known.Known.{Known}
 use Rattle.hop_words.specs.Inside.{Shown}
-use Rattle.hop_words.specs.Kinds.{run_count, Saw}
+use Rattle.hop_words.specs.Kinds.{run_count, TakesEffect}
 use Rattle.hop_words.specs.Seats.{HasSeenBeginning}
 use Rattle.hop_arena.specs.declared.arena.Arena.{Arena}
 use Rattle.hop_arena.specs.Claiming.{IsArena}
@@ -79,7 +79,7 @@ pub record IsPortOf (t : Shown) (p : Port) : Type 0 where
 pub record PortDoes (a : About) (p : Port) (e : Event) (q : Port) : Type 0 where
   pub table : q.table ≡ p.table
   pub cpu : q.known.cpu ≡ p.known.cpu
-  pub seen : Saw a p.known e q.known.seen
+  pub seen : TakesEffect a p.known e q.known.seen
 
 abbrev pub known_of : Port → Known
 known_of p = p.known

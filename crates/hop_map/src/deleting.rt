@@ -9,7 +9,7 @@ ghost use Rattle.bpf_shared.specs.Own.{in_run};
 ghost use Rattle.hop_map.specs.Private.Locks.{with_lock};
 ghost use Rattle.hop_map.specs.Noting.{BusyFirst, CallNotes};
 ghost use Rattle.hop_map.specs.Private.Removals.{NamesKey, DeleteEnds, answer_to};
-ghost use Rattle.hop_map.specs.Whole.{Rests, Called, Lacks, AreBatchesOf};
+ghost use Rattle.hop_map.specs.Call.{IsBetweenCalls, IsOneCall, IsShortage, AreBatchesOf};
 
 use crate::dropping::{Deletion, delete_key};
 use crate::homing::homing;
@@ -58,13 +58,13 @@ pub fn delete<R: Wait>(
 ) -> (Lane, MapAnswer)
     requires table { lane.table ≡ table.now.id }
     requires batches { AreBatchesOf table.now.about lane.known map batches.old }
-    requires rests { Rests lane.known map }
+    requires rests { IsBetweenCalls lane.known map }
     requires runs { in_run (events_of lane.known.cpu lane.known.seen) ≡ true }
     requires key { IsKeyOf table.now.about.shape.maps map key.now }
     ensures table { result.0.table ≡ table.now.id }
-    ensures called { Called table.now.about lane.known map
+    ensures called { IsOneCall table.now.about lane.known map
         (Delete map key.now result.1) result.0.known }
-    ensures lacks { Lacks table.now.about lane.known map result.1 result.0.known }
+    ensures lacks { IsShortage table.now.about lane.known map result.1 result.0.known }
     ensures noted { CallNotes table.now.about (Delete map key.now result.1)
         lane.known result.0.known }
     ensures batches { AreBatchesOf table.now.about result.0.known map batches.new }

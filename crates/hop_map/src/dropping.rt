@@ -5,8 +5,8 @@ ghost use Rattle.hop_layout.specs.Home.{home_of};
 ghost use Rattle.hop_words.specs.Ghost.{shape_at};
 ghost use Rattle.hop_words.specs.Locking.{lock_of};
 ghost use Rattle.hop_seg.specs.Content.{HasPair};
-ghost use Rattle.hop_map.specs.Private.Views.{seen_words as seen};
-ghost use Rattle.hop_map.specs.Private.Calls.{LockShows};
+ghost use Rattle.hop_map.specs.Private.LockedSegment.{seen_words as seen};
+ghost use Rattle.hop_map.specs.Private.UnderLock.{LockShows};
 ghost use Rattle.hop_map.specs.Noting.{BusyFirst};
 ghost use Rattle.hop_map.specs.Private.Removals.{NamesKey, Dropped, DeleteEnds, answer_to};
 

@@ -5,7 +5,7 @@ ghost use Rattle.hop_layout.specs.Home.{home_of};
 ghost use Rattle.hop_words.specs.Ghost.{shape_at};
 ghost use Rattle.hop_words.specs.Kinds.{LookedUp, found_span};
 ghost use Rattle.hop_words.specs.Locking.{lock_of};
-ghost use Rattle.hop_map.specs.Private.Calls.{LockShows};
+ghost use Rattle.hop_map.specs.Private.UnderLock.{LockShows};
 ghost use Rattle.hop_map.specs.Finding.{AsksForKey, Looked, OnceEnds, TakesLock};
 ghost use Rattle.hop_map.specs.Private.Finding.{AsksHere};
 ghost use Rattle.hop_map.specs.Noting.{CallNotes};

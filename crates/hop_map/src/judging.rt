@@ -3,8 +3,8 @@ ghost use Rattle.std.specs.Prelude.{◌≡◌};
 ghost use Rattle.hop_layout.specs.Home.{home_of};
 ghost use Rattle.hop_words.specs.Ghost.{shape_at};
 ghost use Rattle.hop_words.specs.Locking.{lock_of};
-ghost use Rattle.hop_map.specs.Private.Calls.{LockShows};
-ghost use Rattle.hop_map.specs.Private.Updates.{Wants, Judges};
+ghost use Rattle.hop_map.specs.Private.UnderLock.{LockShows};
+ghost use Rattle.hop_map.specs.Private.Updates.{Wants, DecidesUpdate};
 
 use crate::locked::LockedWords;
 use bpf_shared::MapAnswer;
@@ -38,7 +38,7 @@ pub(crate) fn judge<'a>(
     requires home { home ≡ home_of key.now words.old.about.seed
         (shape_at words.old.about words.old.map).mask }
     requires stamp { stamp ≡ (lock_of words.old.known).stamp }
-    ensures judges { Judges words.old key.now value.now flags result }
+    ensures judges { DecidesUpdate words.old key.now value.now flags result }
     ensures same { words.new ≡ words.old }
 {
     let _size = value.len();

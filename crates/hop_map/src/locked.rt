@@ -9,10 +9,10 @@ ghost use Rattle.hop_words.specs.Rule.{owed};
 ghost use Rattle.hop_words.specs.Kinds.{Inserted, IsKeyAbsent, IsWritten, unlocking, Replaces, Replaced, Removes, Answers, Answered, LooksUpLocked, LookedUp, Told, SawAllTaken};
 ghost use Rattle.hop_words.specs.Locking.{lock_of, hand};
 ghost use Rattle.hop_words.specs.Guarded.{IsGuarded, MayWrite};
-ghost use Rattle.hop_map.specs.Private.Views.{IsNoKey, written, SpellsKey};
-ghost use Rattle.hop_map.specs.Views.{knows, Ready, Fits};
+ghost use Rattle.hop_map.specs.Private.LockedSegment.{IsNoKey, written, SpellsKey};
+ghost use Rattle.hop_map.specs.LockedSegment.{knows, Ready, Fits};
 ghost use Rattle.hop_words.specs.declared.known.Change.TheVariants.{Drops};
-ghost use Rattle.hop_map.specs.Private.Calls.{LockShows, Brings};
+ghost use Rattle.hop_map.specs.Private.UnderLock.{LockShows, OffersInsertion};
 ghost use Rattle.hop_map.specs.Private.Removals.{Dropped};
 ghost use Rattle.hop_map.specs.Private.Updates.{Wants, Offers};
 
@@ -21,8 +21,8 @@ use crate::numbers::{hop_bits, item, link_word};
 use crate::words::{head_place, hop_place, link_place, slot_place};
 use bpf_shared::MapAnswer;
 use crossbeam_utils::Backoff;
-use hop_seg::{SegReads, SegWords};
 use hop_layout::{Place, word_of};
+use hop_seg::{SegReads, SegWords};
 use hop_words::{HopTable, Lane};
 use std::marker::Model;
 use std::sync::Wait;
@@ -39,7 +39,7 @@ pub struct LockedWords<'a> {
 }
 
 impl<'a> Model for LockedWords<'a> {
-    ghost use Rattle.hop_map.specs.Views.{Locked, Fits};
+    ghost use Rattle.hop_map.specs.LockedSegment.{Locked, Fits};
 
     ghost Value = { Locked };
 
@@ -95,7 +95,7 @@ impl<'a> LockedWords<'a> {
         count: u64,
     ) -> bool
         requires contents { LockShows self.old.about self.old.known self.old.map self.old.segment }
-        requires brings { Brings self.old.about self.old.known self.old.map self.old.segment
+        requires brings { OffersInsertion self.old.about self.old.known self.old.map self.old.segment
             key.now value.now flags element }
         requires absent { IsKeyAbsent self.old.about (lock_of self.old.known) key.now }
         requires room { count < (shape_at self.old.about self.old.map).max }
@@ -385,7 +385,7 @@ impl<'a> LockedWords<'a> {
 impl<'a> SegReads for LockedWords<'a> {
     ghost use Rattle.std.specs.Prelude.{refl, ◌≡◌};
     ghost use Rattle.std.proofs.Common.{◌∙◌, ap};
-    ghost use Rattle.hop_map.specs.Private.Views.{seen_words as shown_words};
+    ghost use Rattle.hop_map.specs.Private.LockedSegment.{seen_words as shown_words};
 
     ghost agrees = { λ x w. w ≡ shown_words x };
 
@@ -431,8 +431,8 @@ impl<'a> SegReads for LockedWords<'a> {
 impl<'a> SegWords for LockedWords<'a> {
     ghost use Rattle.std.specs.Prelude.{refl, ◌≡◌};
     ghost use Rattle.std.proofs.Common.{ap, sym, subst};
-    ghost use Rattle.hop_map.specs.Private.Views.{seen_words as shown_words};
-    ghost use Rattle.hop_map.specs.Views.{Stays};
+    ghost use Rattle.hop_map.specs.Private.LockedSegment.{seen_words as shown_words};
+    ghost use Rattle.hop_map.specs.LockedSegment.{Stays};
     ghost use Rattle.hop_map.specs.Lemmas.Keeping.{stays_itself as itself, stays_on as on};
 
     ghost words = { shown_words };

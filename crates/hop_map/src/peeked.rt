@@ -6,12 +6,12 @@ ghost use Rattle.hop_words.specs.Content.{MapWords, Reached};
 ghost use Rattle.hop_words.specs.Ghost.{shape_at};
 ghost use Rattle.hop_words.specs.Kinds.{FindsByPeeks, StampSeenAgain};
 ghost use Rattle.hop_words.specs.Peeking.{latest_reading, HasReading};
-ghost use Rattle.hop_map.specs.Private.Peeks.{FitsPeeks, peeked, HavePeeks, Spelled, Rested};
+ghost use Rattle.hop_map.specs.Private.Peeks.{FitsPeeks, peeked, HavePeeks, Spelled, OnlyReads};
 
 use crate::numbers::{hop_bits, item};
 use crate::words::{head_place, hop_place, link_place, slot_place};
-use hop_seg::SegReads;
 use hop_layout::{Place, word_of};
+use hop_seg::SegReads;
 use hop_words::{HopTable, Lane};
 use std::marker::Model;
 
@@ -94,7 +94,7 @@ impl<'a> PeekedWords<'a> {
     fn read(&mut self, place: Place) -> u64
         requires there { is_place self.old.about.shape place ≡ true }
         ensures peeked { self.new ≡ peeked self.old place result }
-        ensures rests { Rested self.old self.new }
+        ensures rests { OnlyReads self.old self.new }
     {
         self.lane.peek(self.table, place)
     }
@@ -107,7 +107,7 @@ impl<'a> PeekedWords<'a> {
         ensures value { (w : MapWords) → HavePeeks w self.new →
             Reached w self.old.map self.old.segment element →
             IsTrue result ↔ Spelled self.old.about self.old.map w element key.now }
-        ensures rests { Rested self.old self.new }
+        ensures rests { OnlyReads self.old self.new }
     {
         'words: for word in 0..key.len().div_ceil(8) {
             let place = Place::KeyWord {
@@ -124,12 +124,12 @@ impl<'a> PeekedWords<'a> {
 }
 
 impl<'a> SegReads for PeekedWords<'a> {
-    ghost use Rattle.hop_map.specs.Private.Peeks.{Agreed, Rested};
+    ghost use Rattle.hop_map.specs.Private.Peeks.{Agreed, OnlyReads};
     ghost use Rattle.hop_map.specs.Lemmas.Resting.{rested_itself as itself, rested_on as on, agreed_before as before};
 
     ghost agrees = { Agreed };
 
-    ghost rests = { Rested };
+    ghost rests = { OnlyReads };
 
     ghost rests_itself = { itself };
 

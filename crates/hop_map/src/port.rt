@@ -3,7 +3,7 @@ ghost use Rattle.std.specs.Prelude.{ℕ, ◌≡◌, ◌-◌, ◌^◌, true, fals
 ghost use Rattle.bpf_shared.specs.declared.events.Event.TheVariants.{Begin, End, Lookup, Update, Delete};
 ghost use Rattle.bpf_shared.specs.Shape.{IsMapShape, IsKeyOf, IsPairOf, IsElementSpan, IsValueSpan};
 ghost use Rattle.hop_words.specs.Kinds.{run_count};
-ghost use Rattle.hop_map.specs.Whole.{Lacks, IsReclaimed};
+ghost use Rattle.hop_map.specs.Call.{IsShortage, IsReclaimed};
 ghost use Rattle.hop_map.specs.Noting.{CallNotes};
 ghost use Rattle.hop_map.specs.Finding.{OnceEnds};
 ghost use Rattle.hop_map.specs.Port.{IsPortOf, PortDoes, runs};
@@ -189,7 +189,7 @@ impl HopPort {
         ensures in_run { runs self.new ≡ true }
         ensures answered { PortDoes table.now.about self.old
             (Update map key.now value.now flags result) self.new }
-        ensures shortage { Lacks table.now.about self.old.known map result self.new.known }
+        ensures shortage { IsShortage table.now.about self.old.known map result self.new.known }
         ensures noted { CallNotes table.now.about (Update map key.now value.now flags result)
             self.old.known self.new.known }
         ensures fits { IsPortOf table.now self.new }
@@ -212,7 +212,7 @@ impl HopPort {
         requires key { IsKeyOf table.now.about.shape.maps map key.now }
         ensures in_run { runs self.new ≡ true }
         ensures answered { PortDoes table.now.about self.old (Delete map key.now result) self.new }
-        ensures shortage { Lacks table.now.about self.old.known map result self.new.known }
+        ensures shortage { IsShortage table.now.about self.old.known map result self.new.known }
         ensures noted { CallNotes table.now.about (Delete map key.now result)
             self.old.known self.new.known }
         ensures fits { IsPortOf table.now self.new }

@@ -5,9 +5,9 @@ ghost use Rattle.hop_words.specs.Ghost.{shape_at};
 ghost use Rattle.hop_words.specs.Kinds.{SawAllTaken};
 ghost use Rattle.hop_words.specs.Locking.{lock_of};
 ghost use Rattle.hop_seg.specs.Content.{HasPair, IsAbsent};
-ghost use Rattle.hop_map.specs.Private.Views.{seen_words as seen};
-ghost use Rattle.hop_map.specs.Private.Overs.{Over};
-ghost use Rattle.hop_map.specs.Private.Calls.{LockShows};
+ghost use Rattle.hop_map.specs.Private.LockedSegment.{seen_words as seen};
+ghost use Rattle.hop_map.specs.Private.Replacing.{IsReplacement};
+ghost use Rattle.hop_map.specs.Private.UnderLock.{LockShows};
 ghost use Rattle.hop_map.specs.Noting.{BusyFirst};
 ghost use Rattle.hop_map.specs.Private.Updates.{Wants, Offers, Refusal, UpdateEnds, answer_of};
 
@@ -72,7 +72,7 @@ pub(crate) fn put_over<'a>(
     requires fits { stamp + 256 < 2 ^ 64 }
     requires there { (e : ℕ) × HasPair (seen words) key.now e }
     ensures table { result.0.table ≡ words.entry.table }
-    ensures over { Over words.entry.about words.entry.known words.entry.map
+    ensures over { IsReplacement words.entry.about words.entry.known words.entry.map
         key.now value.now flags result.1 result.0.known }
 {
     let mut words = words;

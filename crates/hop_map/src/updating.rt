@@ -14,8 +14,8 @@ ghost use Rattle.hop_epoch.specs.Batch.{Keeps};
 ghost use Rattle.hop_map.specs.Private.Locks.{Readies, with_lock};
 ghost use Rattle.hop_map.specs.Noting.{BusyFirst, CallNotes};
 ghost use Rattle.hop_map.specs.Private.Updates.{Wants, Refusal, UpdateEnds, answer_of};
-ghost use Rattle.hop_map.specs.Whole.{Rests, Called, Lacks, SearchesInVain, Searches, AreBatchesOf};
-ghost use Rattle.hop_map.specs.Private.Whole.{HoldsNew};
+ghost use Rattle.hop_map.specs.Call.{IsBetweenCalls, IsOneCall, IsShortage, SearchesInVain, Searches, AreBatchesOf};
+ghost use Rattle.hop_map.specs.Private.Call.{HoldsNew};
 
 use crate::ending::Ending;
 use crate::homing::{homing, shape_of};
@@ -175,7 +175,7 @@ fn fill_and_put<R: Wait>(
     requires pair { IsPairOf table.now.about.shape.maps map key.now value.now }
     requires flags { flags ≤ 2 }
     ensures table { result.0.table ≡ table.now.id }
-    ensures called { Called table.now.about lane.known map
+    ensures called { IsOneCall table.now.about lane.known map
         (Update map key.now value.now flags result.1) result.0.known }
     ensures worn { result.1 ≡ Busy →
         2 ^ 56 - 1 ≤ table.now.about.version + done_in map result.0.known.seen }
@@ -227,13 +227,13 @@ pub fn update<R: Wait>(
     requires even { table.now.about.count % 2 ≡ 0 }
     requires arena { Searches table.now.about map arena.old }
     requires batches { AreBatchesOf table.now.about lane.known map batches.old }
-    requires rests { Rests lane.known map }
+    requires rests { IsBetweenCalls lane.known map }
     requires runs { in_run (events_of lane.known.cpu lane.known.seen) ≡ true }
     requires pair { IsPairOf table.now.about.shape.maps map key.now value.now }
     ensures table { result.0.table ≡ table.now.id }
-    ensures called { Called table.now.about lane.known map
+    ensures called { IsOneCall table.now.about lane.known map
         (Update map key.now value.now flags result.1) result.0.known }
-    ensures lacks { Lacks table.now.about lane.known map result.1 result.0.known }
+    ensures lacks { IsShortage table.now.about lane.known map result.1 result.0.known }
     ensures noted { CallNotes table.now.about (Update map key.now value.now flags result.1)
         lane.known result.0.known }
     ensures arena { Searches table.now.about map arena.new }

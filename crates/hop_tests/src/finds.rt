@@ -16,7 +16,7 @@ use std::thread::Threads;
 
 /// What a thread saw.
 #[derive(Clone, Copy, Drop)]
-struct Saw {
+struct TakesEffect {
     found: u32,
     absent: u32,
     /// Disturbed as is promised: the first stamp locked, or the two different.
@@ -25,7 +25,7 @@ struct Saw {
     changes: u32,
 }
 
-const NOTHING: Saw = Saw {
+const NOTHING: TakesEffect = TakesEffect {
     found: 0,
     absent: 0,
     disturbed: 0,
@@ -48,7 +48,7 @@ fn find_in_a_run(table: &HopTable, port: &mut HopPort) -> Option<Once>
 }
 
 // 100,000 lookups of the key 0.
-fn find_often(table: &HopTable, port: HopPort, stop: &AtomicU64) -> Saw
+fn find_often(table: &HopTable, port: HopPort, stop: &AtomicU64) -> TakesEffect
     requires idle { IsIdlePort table.now port }
 {
     let mut port = port;
@@ -68,7 +68,7 @@ fn find_often(table: &HopTable, port: HopPort, stop: &AtomicU64) -> Saw
 }
 
 // Deletes and inserts the keys 1 to 39, each in a run of its own, until the other thread is done.
-fn change_often<R: Wait>(rt: &R, table: &HopTable, port: HopPort, stop: &AtomicU64) -> Saw
+fn change_often<R: Wait>(rt: &R, table: &HopTable, port: HopPort, stop: &AtomicU64) -> TakesEffect
     requires idle { IsIdlePort table.now port }
 {
     let mut port = port;
@@ -110,11 +110,11 @@ fn find_by_threads<R: Threads + Wait + Sync>(
     rt: &R,
     table: &HopTable,
     ports: Vec<HopPort>,
-) -> Result<Vec<Saw>, AllocError>
+) -> Result<Vec<TakesEffect>, AllocError>
     requires idle { All (IsIdlePort table.now) ports.items }
 {
     let stop = AtomicU64::new(0);
-    let each = |port: HopPort| -> Saw
+    let each = |port: HopPort| -> TakesEffect
         requires { IsIdlePort table.now port }
     {
         if port.cpu() == 0 {

@@ -22,7 +22,7 @@ use Rattle.hop_words.specs.Ghost.{segment_in, Leaving, Within, Carries, lane, Gh
 use Rattle.hop_words.specs.Rule.{Rule, Segment, IsSoundReading, Readings, IsPeek, numbered, Runs, Batched, Valued}
 use Rattle.hop_words.specs.Shortage.{HasHadValue}
 use Rattle.hop_words.specs.Private.Step.{Next, Steps}
-use Rattle.hop_words.specs.Kinds.{Saw, noting, peeking, FindsByPeeks, found_span}
+use Rattle.hop_words.specs.Kinds.{TakesEffect, noting, peeking, FindsByPeeks, found_span}
 use Rattle.hop_words.proofs.Small.{equal}
 use Rattle.hop_words.proofs.Histories.{logged_event, prefix_refl}
 use Rattle.hop_words.proofs.Shortages.{shown_more}
@@ -207,7 +207,7 @@ module _ (a : About) (w : Place → ℕ) (g : Ghost) (r : Rule a w g) (c m : ℕ
 
 -- the lookup's event, where the stamp is the same
 pub record AgainFound (a : About) (l : Known) (rd : Reading) (key : List ℕ) (o : Option ℕ) (l' : Known) : Type 0 where
-  pub seen : Saw a l (Lookup rd.map key (found_span a rd.map o)) l'.seen
+  pub seen : TakesEffect a l (Lookup rd.map key (found_span a rd.map o)) l'.seen
   pub after : l' ≡ record l { seen = l'.seen; readings = [] }
 
 abbrev pub AgainSeen : About → Known → Reading → List ℕ → Option ℕ → ℕ → Known → Type 0

@@ -44,10 +44,14 @@ pub new_update : (s : Plain) (m : ℕ) (key : List ℕ) (x : Value) → HasHadVa
 new_update s m key x = (s.made, omega arith, ap (λ (y : Value). y.span) (put-same s.value s.made s.made x refl))
 
 pub had_write : (s : Plain) (v at n x : ℕ) (p : Span) → HasHadValue s p → HasHadValue (after_write s v at n x) p
-had_write s v at n x p h = (h.0, h.1, ⊎_elim
-    (λ (e : h.0 ≡ v). ap (λ (y : Value). y.span) (put-same s.value v h.0 _ e) ∙ (ap (λ (i : ℕ). (s.value i).span) (sym e) ∙ h.2))
-    (λ (ne : h.0 ≢ v). ap (λ (y : Value). y.span) (put-other s.value v h.0 _ ne) ∙ h.2)
-    (equal h.0 v))
+had_write s v at n x p h = (
+  h.0,
+  h.1,
+  ⊎_elim
+      (λ (e : h.0 ≡ v). ap (λ (y : Value). y.span) (put-same s.value v h.0 _ e) ∙ (ap (λ (i : ℕ). (s.value i).span) (sym e) ∙ h.2))
+      (λ (ne : h.0 ≢ v). ap (λ (y : Value). y.span) (put-other s.value v h.0 _ ne) ∙ h.2)
+      (equal h.0 v),
+)
 
 may_more : (h : Shape) (log log' : List Entry) (s t : Plain) (c m e : ℕ) → ((d : ℕ) → HasBegun d log → HasBegun d log') → ((p : Span) → HasHadValue s p → HasHadValue t p) → MayBeTaken h log s c m e → MayBeTaken h log' t c m e
 may_more h log log' s t c m e begun had (inl p) = inl (had (element_span m (map_shape h m) e) p)

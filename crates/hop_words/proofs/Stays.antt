@@ -16,7 +16,7 @@ use Rattle.hop_words.specs.Ghost.{Filling, Carries, lane, Era, Ghost, shape_at, 
 use Rattle.hop_words.specs.Rule.{Rule, Logged, Runs, Worn, numbered}
 use Rattle.bpf_shared.specs.Own.{turns_of, in_run}
 use Rattle.hop_words.specs.Private.Step.{Noted, Next}
-use Rattle.hop_words.specs.Kinds.{Saw}
+use Rattle.hop_words.specs.Kinds.{TakesEffect}
 use Rattle.hop_layout.proofs.Layouts.{same_is}
 use Rattle.hop_layout.proofs.Maps.{map_is, spans_apart}
 use Rattle.hop_words.proofs.Small.{equal, here_or}
@@ -57,7 +57,7 @@ module _ (a : About) (w : Place → ℕ) (g : Ghost) (r : Rule a w g) (l : Known
   seen_is = ap (λ (x : Known). x.seen) is
 
   -- what a lane has not seen is of others
-  pub saw : (e : Event) (t : Plain) → Allowed g.last l.cpu e t → Logged a (put g.lanes.seen l.cpu (g.log ++ entry l.cpu e ∷ [])) (g.log ++ entry l.cpu e ∷ []) t → Saw a l e (g.log ++ entry l.cpu e ∷ [])
+  pub saw : (e : Event) (t : Plain) → Allowed g.last l.cpu e t → Logged a (put g.lanes.seen l.cpu (g.log ++ entry l.cpu e ∷ [])) (g.log ++ entry l.cpu e ∷ []) t → TakesEffect a l e (g.log ++ entry l.cpu e ∷ [])
   saw e t may logged =
       let begins : IsPrefix l.seen g.log = subst (λ (x : List Entry). IsPrefix x g.log) seen_is (r.logged.begins l.cpu inside) in
       let own : events_of l.cpu l.seen ≡ events_of l.cpu g.log = ap (events_of l.cpu) (sym seen_is) ∙ r.logged.own l.cpu inside in

@@ -31,7 +31,7 @@ use Rattle.hop_words.specs.Rule.{image, IsPeek, StartsWith, changed, numbered}
 use Rattle.bpf_shared.specs.Own.{turns_of, in_run}
 
 -- the event follows all that the lane had seen, and events of others
-pub record Saw (a : About) (l : Known) (e : Event) (seen : List Entry) : Type 0 where
+pub record TakesEffect (a : About) (l : Known) (e : Event) (seen : List Entry) : Type 0 where
   pub others : List Entry
   pub foreign : events_of l.cpu others ≡ []
   pub after : seen ≡ l.seen ++ (others ++ entry l.cpu e ∷ [])
@@ -73,7 +73,7 @@ pub record Inserts (a : About) (l : Known) (k : Lock) (f : Fresh) (rest : List F
 -- words remain to be written
 pub record Inserted (a : About) (l : Known) (k : Lock) (f : Fresh) (rest : List Fresh)
     (key bytes : List ℕ) (flags : ℕ) (l' : Known) : Type 0 where
-  pub seen : Saw a l (Update k.map key bytes flags Done) l'.seen
+  pub seen : TakesEffect a l (Update k.map key bytes flags Done) l'.seen
   pub after : l' ≡ record l {
     seen = l'.seen;
     fresh = rest;
@@ -127,7 +127,7 @@ pub record FindsByPeeks (a : About) (l : Known) (r : Reading) (key : List ℕ) (
 
 pub record Found (a : About) (l : Known) (r : Reading) (key : List ℕ) (o : Option ℕ) (l' : Known)
     : Type 0 where
-  pub seen : Saw a l (Lookup r.map key (found_span a r.map o)) l'.seen
+  pub seen : TakesEffect a l (Lookup r.map key (found_span a r.map o)) l'.seen
   pub after : l' ≡ record l {
     seen = l'.seen;
     readings = [];
@@ -237,7 +237,7 @@ pub record Removes (a : About) (l : Known) (k : Lock) (key : List ℕ) (e : ℕ)
 
 pub record Removed (a : About) (l : Known) (k : Lock) (key : List ℕ) (e : ℕ) (l' : Known) : Type 0
   where
-    pub seen : Saw a l (Delete k.map key Done) l'.seen
+    pub seen : TakesEffect a l (Delete k.map key Done) l'.seen
     pub after : l' ≡ record l {
       seen = l'.seen;
       limbo = with_gone l k.map e;
@@ -259,7 +259,7 @@ pub record Replaces (a : About) (l : Known) (k : Lock) (f : Fresh) (rest : List 
 
 pub record Replaced (a : About) (l : Known) (k : Lock) (rest : List Fresh) (key bytes : List ℕ)
     (flags e : ℕ) (l' : Known) : Type 0 where
-  pub seen : Saw a l (Update k.map key bytes flags Done) l'.seen
+  pub seen : TakesEffect a l (Update k.map key bytes flags Done) l'.seen
   pub after : l' ≡ record l {
     seen = l'.seen;
     fresh = rest;
@@ -299,7 +299,7 @@ pub record Answers (a : About) (l : Known) (k : Lock) (e : Event) : Type 0 where
 -- and the version that was locked is paid for by Done events that were seen: so Busy tells of that
 -- many
 pub record Answered (a : About) (l : Known) (k : Lock) (e : Event) (l' : Known) : Type 0 where
-  pub seen : Saw a l e l'.seen
+  pub seen : TakesEffect a l e l'.seen
   pub worn : k.stamp / 256 ≤ a.version + done_in k.map l'.seen
   pub after : l' ≡ record l { seen = l'.seen; locks = [] }
 
@@ -317,7 +317,7 @@ pub record LooksUpLocked (a : About) (l : Known) (k : Lock) (key : List ℕ) (o 
 
 pub record LookedUp (a : About) (l : Known) (k : Lock) (key : List ℕ) (o : Option ℕ) (l' : Known)
     : Type 0 where
-  pub seen : Saw a l (Lookup k.map key (found_span a k.map o)) l'.seen
+  pub seen : TakesEffect a l (Lookup k.map key (found_span a k.map o)) l'.seen
   pub after : l' ≡ record l { seen = l'.seen; locks = [] }
 
 -- ---- values
@@ -351,7 +351,7 @@ found_in x o n = little_endian (part (low_bytes 8 x) o n)
 
 -- the event is this lane's last, and all else is as it was
 pub record Told (a : About) (l : Known) (e : Event) (l' : Known) : Type 0 where
-  pub seen : Saw a l e l'.seen
+  pub seen : TakesEffect a l e l'.seen
   pub after : l' ≡ record l { seen = l'.seen }
 
 -- ---- count run

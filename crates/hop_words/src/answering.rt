@@ -9,8 +9,8 @@ ghost use Rattle.hop_words.specs.Locking.{lock_of, hand, HasLock, SeesRoom, Sees
 
 use crate::lane::Lane;
 use crate::table::HopTable;
-use hop_layout::Place;
 use bpf_shared::MapAnswer;
+use hop_layout::Place;
 use std::marker::Brand;
 
 impl Lane {

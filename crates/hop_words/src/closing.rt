@@ -10,8 +10,8 @@ ghost use Rattle.hop_words.specs.Seats.{HasSeenBeginning, KeepsWholeHistory, vie
 use crate::known::View;
 use crate::lane::Lane;
 use crate::table::HopTable;
-use hop_layout::{About, Index, Place};
 use atomic_table::{Closed, Join, Play, Seat, Split};
+use hop_layout::{About, Index, Place};
 use std::alloc::Global;
 use std::marker::Model;
 

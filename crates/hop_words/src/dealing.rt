@@ -6,8 +6,8 @@ use crate::known::View;
 use crate::lane::Lane;
 use crate::making::first_words;
 use crate::table::HopTable;
-use hop_layout::{About, Index};
 use atomic_table::{Seat, Split, Table};
+use hop_layout::{About, Index};
 use std::alloc::{AllocError, Global};
 use std::marker::Model;
 

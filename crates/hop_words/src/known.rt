@@ -1,6 +1,6 @@
 //! What a seat of the table knows. No value of these types is ever made.
-use hop_layout::Place;
 use bpf_shared::Entry;
+use hop_layout::Place;
 use std::collections::LinkedList;
 
 /// An element that its owner fills: the words of its key and of its value so far.

@@ -8,8 +8,8 @@ ghost use Rattle.hop_words.specs.Inside.{nobody};
 
 use crate::known::View;
 use crate::table::HopTable;
-use hop_layout::Place;
 use atomic_table::{Play, Seat};
+use hop_layout::Place;
 use std::marker::{Brand, Model, PhantomData};
 
 /// The right of one CPU to step, with its number. It is seen as all that the CPU knows.

@@ -5,8 +5,8 @@ ghost use Rattle.hop_layout.specs.Layout.{is_place, mem, put_at, size};
 ghost use Rattle.hop_words.specs.Ghost.{shape_at};
 ghost use Rattle.hop_words.specs.Private.Made.{IsPartly, AreNewWords};
 
-use hop_layout::{Index, Place, depth, elements, segments};
 use bpf_shared::MapShape;
+use hop_layout::{Index, Place, depth, elements, segments};
 use std::alloc::{AllocError, Global};
 
 // Writes a word.

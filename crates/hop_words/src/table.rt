@@ -1,7 +1,7 @@
 //! The table of the store's words.
 use crate::known::View;
-use hop_layout::{About, Index, Place};
 use atomic_table::{Table, TableRule};
+use hop_layout::{About, Index, Place};
 use std::alloc::Global;
 use std::marker::Model;
 

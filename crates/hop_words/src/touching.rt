@@ -11,8 +11,8 @@ ghost use Rattle.hop_words.specs.Touching.{TouchesPart, TouchesWord, part_addres
 
 use crate::lane::Lane;
 use crate::table::HopTable;
-use hop_layout::Place;
 use bpf_shared::{AtomicOp, Size};
+use hop_layout::Place;
 use std::marker::Brand;
 
 /// Bytes of a value that lie in one of its words: so far behind the word's first.

@@ -3,7 +3,7 @@ use Rattle.std.proofs.Common.{refl, ap, ◌∙◌}
 use Rattle.hop_words.specs.declared.known.Known.{Known}
 use Rattle.hop_words.specs.declared.known.Lock.{Lock}
 use Rattle.hop_words.specs.Locking.{lock_of}
-use Rattle.hop_map.specs.Views.{Locked, Stays}
+use Rattle.hop_map.specs.LockedSegment.{Locked, Stays}
 
 pub stays_itself : (x : Locked) → Stays x x
 stays_itself x = record {

@@ -8,10 +8,10 @@ use Rattle.hop_words.specs.Ghost.{shape_at, segment_in, Each}
 use Rattle.hop_words.specs.Rule.{IsPeek}
 use Rattle.hop_words.specs.Peeking.{latest_reading}
 use Rattle.hop_seg.specs.Words.{Words as SegWords}
-use Rattle.hop_map.specs.Private.Views.{segment_view}
-use Rattle.hop_map.specs.Private.Peeks.{Peeked, HavePeeks, Agreed, Rested}
+use Rattle.hop_map.specs.Private.LockedSegment.{segment_view}
+use Rattle.hop_map.specs.Private.Peeks.{Peeked, HavePeeks, Agreed, OnlyReads}
 
-pub rested_itself : (x : Peeked) → Rested x x
+pub rested_itself : (x : Peeked) → OnlyReads x x
 rested_itself x = record {
   table = refl;
   about = refl;
@@ -22,7 +22,7 @@ rested_itself x = record {
   reading = refl;
 }
 
-pub rested_on : (x y z : Peeked) → Rested x y → Rested y z → Rested x z
+pub rested_on : (x y z : Peeked) → OnlyReads x y → OnlyReads y z → OnlyReads x z
 rested_on x y z p q = record {
   table = q.table ∙ p.table;
   about = q.about ∙ p.about;
@@ -39,7 +39,7 @@ each_after : (P : Peek → Type 0) (xs ys : List Peek) → Each P (xs ++ ys) →
 each_after P [] ys all = all
 each_after P (x ∷ xs) ys all = each_after P xs ys all.1
 
-module _ (x y : Peeked) (p : Rested x y) where
+module _ (x y : Peeked) (p : OnlyReads x y) where
   abbrev here : Peeked
   here = record x { known = y.known }
 

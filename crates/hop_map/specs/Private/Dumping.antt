@@ -8,7 +8,7 @@ use Rattle.hop_words.specs.Content.{MapWords, Reached}
 use Rattle.hop_words.specs.Ghost.{shape_at, IsSegment, Each}
 use Rattle.hop_words.specs.Rule.{image}
 use Rattle.hop_words.specs.Closing.{Ending}
-use Rattle.hop_map.specs.Private.Views.{spelled_key}
+use Rattle.hop_map.specs.Private.LockedSegment.{spelled_key}
 
 abbrev pub words_in : Ending → MapWords
 words_in e = image e.about e.words

@@ -14,7 +14,7 @@ use Rattle.hop_words.specs.Rule.{IsPeek}
 use Rattle.hop_words.specs.Kinds.{peeking}
 use Rattle.hop_words.specs.Peeking.{latest_reading, HasReading}
 use Rattle.hop_seg.specs.Words.{Words as SegWords}
-use Rattle.hop_map.specs.Private.Views.{segment_view}
+use Rattle.hop_map.specs.Private.LockedSegment.{segment_view}
 
 -- a segment that is read without its lock, as its users see it
 pub record Peeked : Type 0 where
@@ -60,7 +60,7 @@ pub record Agreed (x : Peeked) (w : SegWords) : Type 0 where
   pub shown : w ≡ segment_view x.about x.map x.segment known words
 
 -- nothing but reads lies between the two
-pub record Rested (x y : Peeked) : Type 0 where
+pub record OnlyReads (x y : Peeked) : Type 0 where
   pub table : y.table ≡ x.table
   pub about : y.about ≡ x.about
   pub map : y.map ≡ x.map

@@ -12,7 +12,7 @@ use Rattle.hop_map.specs.declared.dropping.Deletion.TheVariants.{Gone, Missing, 
 use Rattle.hop_layout.specs.Home.{segment_of}
 use Rattle.hop_words.specs.Ghost.{shape_at}
 use Rattle.hop_words.specs.Shortage.{done_in}
-use Rattle.hop_words.specs.Kinds.{Saw, with_gone}
+use Rattle.hop_words.specs.Kinds.{TakesEffect, with_gone}
 use Rattle.bpf_shared.specs.Own.{in_run}
 
 -- a call in a run has a key of this segment
@@ -25,13 +25,13 @@ pub record NamesKey (a : About) (l : Known) (m s : ℕ) (key : List ℕ) : Type 
 -- the deletion's event; the element that the key led to is in hand, and all else as it was
 pub record Dropped (a : About) (l : Known) (m : ℕ) (key : List ℕ) (old : ℕ)
     (l2 : Known) : Type 0 where
-  pub seen : Saw a l (Delete m key Done) l2.seen
+  pub seen : TakesEffect a l (Delete m key Done) l2.seen
   pub after : l2 ≡ record l { seen = l2.seen; limbo = with_gone l m old; locks = [] }
 
 -- the answer's event; nothing else changed
 pub record Kept (a : About) (l : Known) (m : ℕ) (key : List ℕ) (answer : MapAnswer)
     (l2 : Known) : Type 0 where
-  pub seen : Saw a l (Delete m key answer) l2.seen
+  pub seen : TakesEffect a l (Delete m key answer) l2.seen
   pub after : l2 ≡ record l { seen = l2.seen; locks = [] }
 
 -- how a deletion under the lock ends

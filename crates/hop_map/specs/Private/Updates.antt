@@ -14,7 +14,7 @@ use Rattle.hop_words.specs.Content.{HasKey}
 use Rattle.hop_words.specs.Ghost.{shape_at}
 use Rattle.hop_words.specs.Rule.{image}
 use Rattle.hop_words.specs.Shortage.{done_in}
-use Rattle.hop_words.specs.Kinds.{has, Saw, Answers}
+use Rattle.hop_words.specs.Kinds.{has, TakesEffect, Answers}
 use Rattle.bpf_shared.specs.Own.{in_run}
 use Rattle.hop_words.specs.Locking.{lock_of, hand}
 use Rattle.hop_seg.specs.Content.{HasPair, IsAbsent as SegAbsent}
@@ -22,11 +22,11 @@ use Rattle.hop_map.specs.declared.ending.Ending.{Ending}
 use Rattle.hop_map.specs.declared.ending.Ending.TheVariants.{Added, Replaced, Refused}
 use Rattle.hop_map.specs.declared.judging.Finding.{Finding}
 use Rattle.hop_map.specs.declared.judging.Finding.TheVariants.{Refuses, There, Missing}
-use Rattle.hop_map.specs.Views.{Locked, Ready}
-use Rattle.hop_map.specs.Private.Views.{seen_words}
+use Rattle.hop_map.specs.LockedSegment.{Locked, Ready}
+use Rattle.hop_map.specs.Private.LockedSegment.{seen_words}
 use Rattle.hop_map.specs.Noting.{BusyFirst}
-use Rattle.hop_map.specs.Private.Calls.{Took}
-use Rattle.hop_map.specs.Private.Overs.{Over}
+use Rattle.hop_map.specs.Private.UnderLock.{IsInsertion}
+use Rattle.hop_map.specs.Private.Replacing.{IsReplacement}
 
 -- a call in a run has a key of this segment, a value, and flags that are known
 pub record Wants (a : About) (l : Known) (m s : ℕ) (key bytes : List ℕ) (flags : ℕ) : Type 0 where
@@ -58,29 +58,29 @@ pub record Offers (a : About) (l : Known) (m s : ℕ) (key bytes : List ℕ) (fl
   pub apart : has element (lock_of l).known ≡ false
 
 -- what the lock's words and the flags say of an update
-abbrev pub Judges : Locked → List ℕ → List ℕ → ℕ → Finding → Type 0
-Judges x key bytes flags (Refuses r) =
+abbrev pub DecidesUpdate : Locked → List ℕ → List ℕ → ℕ → Finding → Type 0
+DecidesUpdate x key bytes flags (Refuses r) =
     (r ≢ Done) × (r ≢ NoMemory) × BusyFirst (lock_of x.known).stamp r
     × (Ready x.about x.known x.map x.segment →
     Answers x.about x.known (lock_of x.known) (Update x.map key bytes flags r))
-Judges x key bytes flags There =
+DecidesUpdate x key bytes flags There =
     ((lock_of x.known).stamp + 256 < 2 ^ 64) × (flags ≢ 1)
     × ((e : ℕ) × HasPair (seen_words x) key e)
-Judges x key bytes flags Missing =
+DecidesUpdate x key bytes flags Missing =
     ((lock_of x.known).stamp + 256 < 2 ^ 64) × (flags ≢ 2) × SegAbsent (seen_words x) key
 
 -- the answer's event, and all else as it was; Busy only where changes have worn the versions out
 pub record Refusal (a : About) (l : Known) (m : ℕ) (key bytes : List ℕ) (flags : ℕ) (r : MapAnswer)
     (l2 : Known) : Type 0 where
-  pub seen : Saw a l (Update m key bytes flags r) l2.seen
+  pub seen : TakesEffect a l (Update m key bytes flags r) l2.seen
   pub after : l2 ≡ record l { seen = l2.seen; locks = [] }
   pub refused : r ≢ Done
   pub worn : r ≡ Busy → 2 ^ 56 - 1 ≤ a.version + done_in m l2.seen
 
 -- how an update ends that has an element in hand: only with a free element to spare is none lacking
 abbrev pub UpdateEnds : About → Known → ℕ → List ℕ → List ℕ → ℕ → Ending → Known → Type 0
-UpdateEnds a l m key bytes flags Added l2 = Took a l m key bytes flags l2
-UpdateEnds a l m key bytes flags (Replaced e) l2 = Over a l m key bytes flags e l2
+UpdateEnds a l m key bytes flags Added l2 = IsInsertion a l m key bytes flags l2
+UpdateEnds a l m key bytes flags (Replaced e) l2 = IsReplacement a l m key bytes flags e l2
 UpdateEnds a l m key bytes flags (Refused r) l2 = Refusal a l m key bytes flags r l2
     × (r ≢ NoMemory)
 

@@ -1,5 +1,5 @@
 use Rattle.std.proofs.Common.{ℕ, sym, subst, ◌∙◌}
-use Rattle.hop_map.specs.Private.Calls.{LockShows}
+use Rattle.hop_map.specs.Private.UnderLock.{LockShows}
 use Rattle.hop_map.specs.Private.Locks.{with_lock}
 use Rattle.hop_map.specs.Private.Removals.{NamesKey, DeleteEnds}
 use Rattle.hop_map.proofs.Locking.{of_words, of_parts, empty_fits, locked_contents, locked_names, delete_before}

@@ -4,8 +4,8 @@ use Rattle.bpf_shared.specs.declared.events.MapAnswer.TheVariants.{Absent}
 use Rattle.hop_words.specs.Kinds.{Answers}
 use Rattle.hop_words.specs.Locking.{lock_of}
 use Rattle.hop_seg.specs.Content.{HasPair}
-use Rattle.hop_map.specs.Views.{Locked, Ready}
-use Rattle.hop_map.specs.Private.Views.{seen_words}
+use Rattle.hop_map.specs.LockedSegment.{Locked, Ready}
+use Rattle.hop_map.specs.Private.LockedSegment.{seen_words}
 use Rattle.hop_map.proofs.Removing.{drop_sound, drop_answers, worn_answers}
 use Rattle.hop_map.proofs.dropping.delete_key.Goals as goal
 

@@ -1,8 +1,8 @@
 use Rattle.std.proofs.Common.{ap, sym, subst}
 use Rattle.hop_words.specs.Kinds.{LooksUpLocked}
 use Rattle.hop_words.specs.Locking.{lock_of}
-use Rattle.hop_map.specs.Views.{Locked, Ready}
-use Rattle.hop_map.specs.Private.Views.{seen_words}
+use Rattle.hop_map.specs.LockedSegment.{Locked, Ready}
+use Rattle.hop_map.specs.Private.LockedSegment.{seen_words}
 use Rattle.hop_map.proofs.Looking.{look_sound, looks_up}
 use Rattle.hop_map.proofs.finding.find_here.Goals as goal
 

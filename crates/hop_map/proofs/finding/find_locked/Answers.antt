@@ -3,7 +3,7 @@ use Rattle.bpf_shared.specs.declared.events.Span.{Span}
 use Rattle.std.specs.Prelude.{Option}
 use Rattle.hop_words.specs.Kinds.{LookedUp}
 use Rattle.hop_words.specs.Locking.{lock_of}
-use Rattle.hop_map.specs.Private.Calls.{LockShows}
+use Rattle.hop_map.specs.Private.UnderLock.{LockShows}
 use Rattle.hop_map.specs.Finding.{Looked}
 use Rattle.hop_map.proofs.Locking.{of_words, of_parts, empty_fits, locked_contents}
 use Rattle.hop_map.proofs.Looking.{looked, takes_lock}

@@ -1,5 +1,5 @@
 use Rattle.std.proofs.Common.{ap, sym, arith}
-use Rattle.hop_map.specs.Private.Views.{seen_words}
+use Rattle.hop_map.specs.Private.LockedSegment.{seen_words}
 use Rattle.hop_map.proofs.Verdicts.{judge_sound, busy_answers, exists_answers, absent_answers}
 use Rattle.hop_map.proofs.judging.judge.Goals as goal
 

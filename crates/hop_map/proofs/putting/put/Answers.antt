@@ -3,8 +3,8 @@ use Rattle.bpf_shared.specs.declared.events.Event.TheVariants.{Update}
 use Rattle.hop_words.specs.Kinds.{Answers}
 use Rattle.hop_words.specs.Locking.{lock_of}
 use Rattle.hop_seg.specs.Content.{HasPair, IsAbsent}
-use Rattle.hop_map.specs.Views.{Locked, Ready}
-use Rattle.hop_map.specs.Private.Views.{seen_words}
+use Rattle.hop_map.specs.LockedSegment.{Locked, Ready}
+use Rattle.hop_map.specs.Private.LockedSegment.{seen_words}
 use Rattle.hop_map.proofs.putting.put.Goals as goal
 
 pub unlock_update-requires-clause-answers : goal.unlock_update-requires-clause-answers

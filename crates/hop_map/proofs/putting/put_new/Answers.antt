@@ -1,6 +1,6 @@
 use Rattle.std.proofs.Common.{ap, sym, ◌∙◌}
 use Rattle.hop_words.specs.Ghost.{shape_at}
-use Rattle.hop_map.specs.Views.{home}
+use Rattle.hop_map.specs.LockedSegment.{home}
 use Rattle.hop_map.proofs.Puts.{spelt_after, sound_after, own_after, absent_after, written_after}
 use Rattle.hop_map.proofs.Offering.{brings}
 use Rattle.hop_map.proofs.Verdicts.{judge_absent}

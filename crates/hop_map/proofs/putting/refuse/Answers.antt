@@ -3,7 +3,7 @@ use Rattle.bpf_shared.specs.declared.events.Event.TheVariants.{Update}
 use Rattle.bpf_shared.specs.declared.events.MapAnswer.TheVariants.{NoMemory}
 use Rattle.hop_words.specs.Kinds.{IsKeyAbsent, Answers, SawAllTaken}
 use Rattle.hop_words.specs.Locking.{lock_of}
-use Rattle.hop_map.specs.Views.{Locked, Ready}
+use Rattle.hop_map.specs.LockedSegment.{Locked, Ready}
 use Rattle.hop_map.proofs.Verdicts.{judge_absent, lacking_answers}
 use Rattle.hop_map.proofs.putting.refuse.Goals as goal
 

@@ -11,10 +11,10 @@ use Rattle.hop_words.specs.Shortage.{done_in}
 use Rattle.hop_words.specs.Kinds.{retiring}
 use Rattle.hop_words.specs.Owning.{tail_of, IsInHand}
 use Rattle.hop_map.specs.declared.ending.Ending.{Ending}
-use Rattle.hop_map.specs.Private.Overs.{Over}
+use Rattle.hop_map.specs.Private.Replacing.{IsReplacement}
 use Rattle.hop_words.specs.Sights.{lock_taken, bit_set, sighted}
 use Rattle.hop_map.specs.Private.Locks.{Readies}
-use Rattle.hop_map.specs.Private.Calls.{Took}
+use Rattle.hop_map.specs.Private.UnderLock.{IsInsertion}
 use Rattle.hop_map.specs.Noting.{BusyFirst}
 use Rattle.hop_map.specs.Private.Updates.{Refusal, UpdateEnds, answer_of}
 use Rattle.hop_map.proofs.Keys.{are_bytes}
@@ -84,7 +84,7 @@ returns-in-Replaced-clause-called g c =
     let bytes = c.args.value.now in
     let room : m < length l.limbo = subst (λ (i : ℕ). i < length l.limbo) c.requires.batches.0 c.requires.batches.1.room in
     let k = lock_taken m (segment_of a.seed (shape_at a m) key) c.lock_and_put-lane.ensures.ends.0 in
-    let p : Over a (sighted c.fill.new.lane.known k) m key bytes c.args.flags c.in-Replaced.old c.lock_and_put-lane.result.0.known = subst (λ (q : Ending). UpdateEnds a (sighted c.fill.new.lane.known k) m key bytes c.args.flags q c.lock_and_put-lane.result.0.known) c.in-Replaced.is c.lock_and_put-lane.ensures.ends.1 in
+    let p : IsReplacement a (sighted c.fill.new.lane.known k) m key bytes c.args.flags c.in-Replaced.old c.lock_and_put-lane.result.0.known = subst (λ (q : Ending). UpdateEnds a (sighted c.fill.new.lane.known k) m key bytes c.args.flags q c.lock_and_put-lane.result.0.known) c.in-Replaced.is c.lock_and_put-lane.ensures.ends.1 in
     let l2 = c.lock_and_put-lane.result.0.known in
     over_called a l m e c.requires.new key bytes c.fill.new.lane.known c.fill.ensures.filled c.requires.used room c.args.flags k c.lock_and_put-lane.result.0.known c.in-Replaced.old p c.retire.new.lane.known
     (c.retire.ensures.retired ∙ (λ j. retiring l2 (c.new-used.ensures.map j) (c.new-used.ensures.number j) (tail_of (limbo_at l2.limbo (c.new-used.ensures.map j)).used)))
@@ -142,7 +142,7 @@ returns-in-Added-clause-noted g c =
     let ends = c.lock_and_put-lane.ensures.ends in
     let l2 = c.lock_and_put-lane.result.0.known in
     let k = lock_taken m (segment_of a.seed (shape_at a m) key) ends.0 in
-    let p : Took a (sighted c.fill.new.lane.known k) m key c.args.value.now c.args.flags l2 = subst (λ (q : Ending). UpdateEnds a (sighted c.fill.new.lane.known k) m key c.args.value.now c.args.flags q l2) c.in-Added.is ends.1 in
+    let p : IsInsertion a (sighted c.fill.new.lane.known k) m key c.args.value.now c.args.flags l2 = subst (λ (q : Ending). UpdateEnds a (sighted c.fill.new.lane.known k) m key c.args.value.now c.args.flags q l2) c.in-Added.is ends.1 in
     update_notes a c.args.lane.known m key Done l2 ends.0 []
     (ap (λ (q : Known). q.tally) p.after ∙ ap (λ (q : Known). k ∷ q.tally) c.fill.ensures.filled) tt
     (subst (λ (q : Ending). BusyFirst ends.0 (answer_of q)) c.in-Added.is ends.2) c.args.value.now c.args.flags c.requires.flags
@@ -155,7 +155,7 @@ returns-in-Replaced-clause-noted g c =
     let ends = c.lock_and_put-lane.ensures.ends in
     let l2 = c.lock_and_put-lane.result.0.known in
     let k = lock_taken m (segment_of a.seed (shape_at a m) key) ends.0 in
-    let p : Over a (sighted c.fill.new.lane.known k) m key c.args.value.now c.args.flags c.in-Replaced.old l2 = subst (λ (q : Ending). UpdateEnds a (sighted c.fill.new.lane.known k) m key c.args.value.now c.args.flags q l2) c.in-Replaced.is ends.1 in
+    let p : IsReplacement a (sighted c.fill.new.lane.known k) m key c.args.value.now c.args.flags c.in-Replaced.old l2 = subst (λ (q : Ending). UpdateEnds a (sighted c.fill.new.lane.known k) m key c.args.value.now c.args.flags q l2) c.in-Replaced.is ends.1 in
     update_notes a c.args.lane.known m key Done c.retire.new.lane.known ends.0 []
     (ap (λ (q : Known). q.tally) c.retire.ensures.retired ∙ (ap (λ (q : Known). q.tally) p.after ∙ ap (λ (q : Known). k ∷ q.tally) c.fill.ensures.filled)) tt
     (subst (λ (q : Ending). BusyFirst ends.0 (answer_of q)) c.in-Replaced.is ends.2) c.args.value.now c.args.flags c.requires.flags

@@ -1,5 +1,5 @@
 use Rattle.std.proofs.Common.{ℕ, sym, subst, ◌∙◌}
-use Rattle.hop_map.specs.Private.Calls.{LockShows}
+use Rattle.hop_map.specs.Private.UnderLock.{LockShows}
 use Rattle.hop_map.specs.Private.Locks.{Readies, with_lock}
 use Rattle.hop_map.specs.Private.Updates.{Offers, UpdateEnds}
 use Rattle.hop_map.proofs.Locking.{of_words, of_parts, locked_ready, locked_contents, locked_offers, ends_before}

@@ -1,6 +1,6 @@
 use Rattle.std.proofs.Common.{ℕ, sym, subst, ◌∙◌}
 use Rattle.hop_words.specs.Kinds.{SawAllTaken}
-use Rattle.hop_map.specs.Private.Calls.{LockShows}
+use Rattle.hop_map.specs.Private.UnderLock.{LockShows}
 use Rattle.hop_map.specs.Private.Locks.{with_lock}
 use Rattle.hop_map.specs.Private.Updates.{Wants, Refusal}
 use Rattle.hop_map.proofs.Locking.{of_words, of_parts, empty_fits, locked_contents, locked_wants, refusal_before}

@@ -3,7 +3,7 @@ use Rattle.hop_words.specs.declared.known.Known.{Known}
 use Rattle.hop_layout.specs.Home.{segment_of}
 use Rattle.hop_words.specs.Ghost.{shape_at}
 use Rattle.hop_words.specs.Sights.{lock_taken}
-use Rattle.hop_map.specs.Whole.{SearchesInVain}
+use Rattle.hop_map.specs.Call.{SearchesInVain}
 use Rattle.hop_map.proofs.Keys.{are_bytes}
 use Rattle.hop_map.proofs.Wholes.{pair_at, kept_runs, lacks_of, searched_on, lock_leaves, saw_all}
 use Rattle.hop_map.proofs.Noted.{update_notes, notes_after}

@@ -1,8 +1,8 @@
 use Rattle.std.proofs.Common.{sym, subst, ◌∙◌}
 use Rattle.hop_words.specs.Kinds.{IsKeyAbsent}
 use Rattle.hop_words.specs.Locking.{lock_of}
-use Rattle.hop_map.specs.Views.{Locked}
-use Rattle.hop_map.specs.Private.Calls.{Brings}
+use Rattle.hop_map.specs.LockedSegment.{Locked}
+use Rattle.hop_map.specs.Private.UnderLock.{OffersInsertion}
 use Rattle.hop_map.proofs.Offering.{brings}
 use Rattle.hop_map.proofs.locked.LockedWords.count_in.Goals as goal
 
@@ -12,7 +12,7 @@ see_room-requires-clause-absent g c = subst (λ (x : Locked). IsKeyAbsent x.abou
 pub count_up-requires-clause-brings : goal.count_up-requires-clause-brings
 count_up-requires-clause-brings g c =
     let x = c.args.self.now in
-    subst (λ (x : Locked). Brings x.about x.known x.map x.segment c.args.key.now c.args.value.now c.args.flags c.args.element) (sym (c.in-Some-see_room.ensures.room.0 ∙ c.loop.invariant))
+    subst (λ (x : Locked). OffersInsertion x.about x.known x.map x.segment c.args.key.now c.args.value.now c.args.flags c.args.element) (sym (c.in-Some-see_room.ensures.room.0 ∙ c.loop.invariant))
     (brings x.about x.known x.map x.segment c.args.key.now c.args.value.now c.args.flags c.args.element c.requires.offers c.requires.new)
 
 pub count_up-requires-clause-absent : goal.count_up-requires-clause-absent

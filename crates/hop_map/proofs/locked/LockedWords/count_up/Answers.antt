@@ -5,8 +5,8 @@ use Rattle.hop_words.specs.Ghost.{shape_at}
 use Rattle.hop_words.specs.Kinds.{IsKeyAbsent, Inserts, Inserted}
 use Rattle.hop_words.specs.Owning.{tail_of}
 use Rattle.hop_words.specs.Locking.{lock_of, hand}
-use Rattle.hop_map.specs.Views.{Locked, Ready}
-use Rattle.hop_map.specs.Private.Calls.{LockShows, Brings}
+use Rattle.hop_map.specs.LockedSegment.{Locked, Ready}
+use Rattle.hop_map.specs.Private.UnderLock.{LockShows, OffersInsertion}
 use Rattle.hop_map.proofs.Counted.{inserts, counted_ready, by_answer}
 use Rattle.hop_map.proofs.locked.LockedWords.count_up.Goals as goal
 
@@ -15,7 +15,7 @@ count_up-requires-clause-inserts c =
     let i = c.self.inside in
     let v = sym c.self.view_is in
     let l : Known = i.lane.known in
-    let brings = subst (λ (x : Locked). Brings x.about x.known x.map x.segment c.args.key.now c.args.value.now c.args.flags c.args.element) v c.requires.brings in
+    let brings = subst (λ (x : Locked). OffersInsertion x.about x.known x.map x.segment c.args.key.now c.args.value.now c.args.flags c.args.element) v c.requires.brings in
     subst (λ (rest : List Fresh). Inserts i.table.now.about l (lock_of l) (hand l) rest c.args.key.now c.args.value.now c.args.flags c.args.count) (sym (ap tail_of brings.filled.in_hand))
     (inserts i.table.now.about l i.map i.segment c.self.invariant.ready c.args.key.now c.args.value.now c.args.flags c.args.element
     (subst (λ (x : Locked). LockShows x.about x.known x.map x.segment) v c.requires.contents)
@@ -29,7 +29,7 @@ invariant_of-self c =
     let i = c.self.inside in
     let v = sym c.self.view_is in
     let l : Known = i.lane.known in
-    let brings = subst (λ (x : Locked). Brings x.about x.known x.map x.segment c.args.key.now c.args.value.now c.args.flags c.args.element) v c.requires.brings in
+    let brings = subst (λ (x : Locked). OffersInsertion x.about x.known x.map x.segment c.args.key.now c.args.value.now c.args.flags c.args.element) v c.requires.brings in
     record {
       seated = c.count_up.ensures.table ∙ c.self.invariant.seated;
       keyed = c.self.invariant.keyed;

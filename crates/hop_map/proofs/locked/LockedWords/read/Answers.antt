@@ -2,7 +2,7 @@ use Rattle.std.proofs.Common.{ap, sym, subst, ◌∙◌}
 use Rattle.hop_layout.specs.Layout.{mem}
 use Rattle.hop_words.specs.Locking.{lock_of}
 use Rattle.hop_words.specs.Guarded.{IsGuarded}
-use Rattle.hop_map.specs.Views.{Locked}
+use Rattle.hop_map.specs.LockedSegment.{Locked}
 use Rattle.hop_map.proofs.locked.LockedWords.read.Goals as goal
 
 pub returns-clause-value : goal.returns-clause-value

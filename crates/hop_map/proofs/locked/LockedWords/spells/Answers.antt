@@ -6,7 +6,7 @@ use Rattle.hop_layout.specs.Words.{word_of}
 use Rattle.hop_words.specs.Locking.{lock_of}
 use Rattle.hop_words.specs.Guarded.{IsGuarded}
 use Rattle.hop_words.proofs.Small.{equal}
-use Rattle.hop_map.specs.Views.{Locked, knows}
+use Rattle.hop_map.specs.LockedSegment.{Locked, knows}
 use Rattle.hop_map.proofs.Written.{mine}
 use Rattle.hop_map.proofs.locked.LockedWords.spells.Goals as goal
 

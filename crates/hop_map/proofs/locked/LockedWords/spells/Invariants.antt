@@ -3,7 +3,7 @@ use Rattle.hop_layout.specs.declared.place.Place.TheVariants.{KeyWord}
 use Rattle.hop_layout.specs.Layout.{mem}
 use Rattle.hop_layout.specs.Words.{word_of}
 use Rattle.hop_words.specs.Locking.{lock_of}
-use Rattle.hop_map.specs.Views.{knows}
+use Rattle.hop_map.specs.LockedSegment.{knows}
 use Rattle.hop_map.proofs.locked.LockedWords.spells.Given as goal
 
 abbrev pub invariant-words : goal.invariant-words

@@ -1,7 +1,7 @@
 use Rattle.std.proofs.Common.{sym, subst}
 use Rattle.hop_words.specs.Kinds.{LooksUpLocked}
 use Rattle.hop_words.specs.Locking.{lock_of}
-use Rattle.hop_map.specs.Views.{Locked, Ready}
+use Rattle.hop_map.specs.LockedSegment.{Locked, Ready}
 use Rattle.hop_map.proofs.locked.LockedWords.unlock_lookup.Goals as goal
 
 pub unlock_lookup-requires-clause-looks : goal.unlock_lookup-requires-clause-looks

@@ -2,7 +2,7 @@ use Rattle.std.proofs.Common.{sym, subst}
 use Rattle.hop_words.specs.declared.known.Known.{Known}
 use Rattle.hop_words.specs.Kinds.{IsWritten}
 use Rattle.hop_words.specs.Locking.{lock_of}
-use Rattle.hop_map.specs.Views.{Locked, Ready}
+use Rattle.hop_map.specs.LockedSegment.{Locked, Ready}
 use Rattle.hop_map.proofs.Removing.{dropping}
 use Rattle.hop_map.proofs.locked.LockedWords.unlock_removed.Goals as goal
 

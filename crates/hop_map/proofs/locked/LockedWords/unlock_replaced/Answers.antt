@@ -3,7 +3,7 @@ use Rattle.hop_words.specs.declared.known.Fresh.{Fresh}
 use Rattle.hop_words.specs.Kinds.{Replaces, Replaced}
 use Rattle.hop_words.specs.Owning.{tail_of}
 use Rattle.hop_words.specs.Locking.{lock_of, hand}
-use Rattle.hop_map.specs.Views.{Locked, Ready}
+use Rattle.hop_map.specs.LockedSegment.{Locked, Ready}
 use Rattle.hop_map.proofs.locked.LockedWords.unlock_replaced.Goals as goal
 
 pub unlock_replaced-requires-clause-replaces : goal.unlock_replaced-requires-clause-replaces

@@ -1,8 +1,8 @@
 use Rattle.std.proofs.Common.{ap, sym, subst, ◌∙◌}
 use Rattle.hop_words.specs.declared.known.Known.{Known}
 use Rattle.hop_layout.specs.Layout.{is_place}
-use Rattle.hop_map.specs.Views.{Locked, Ready}
-use Rattle.hop_map.specs.Private.Views.{written}
+use Rattle.hop_map.specs.LockedSegment.{Locked, Ready}
+use Rattle.hop_map.specs.Private.LockedSegment.{written}
 use Rattle.hop_map.proofs.Written.{written_ready}
 use Rattle.hop_map.proofs.locked.LockedWords.write.Goals as goal
 

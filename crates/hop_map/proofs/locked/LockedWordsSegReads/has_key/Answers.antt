@@ -4,8 +4,8 @@ use Rattle.hop_words.specs.Rule.{image}
 use Rattle.hop_words.specs.Locking.{lock_of}
 use Rattle.hop_seg.specs.Words.{Words, IsKnown}
 use Rattle.hop_seg.specs.Segment.{element_key}
-use Rattle.hop_map.specs.Views.{Locked, Ready}
-use Rattle.hop_map.specs.Private.Views.{seen_words}
+use Rattle.hop_map.specs.LockedSegment.{Locked, Ready}
+use Rattle.hop_map.specs.Private.LockedSegment.{seen_words}
 use Rattle.hop_map.proofs.Keys.{are_bytes, same_spelling, other_size}
 use Rattle.hop_map.proofs.locked.LockedWordsSegReads.has_key.Goals as goal
 

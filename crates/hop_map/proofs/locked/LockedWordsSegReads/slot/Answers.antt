@@ -1,6 +1,6 @@
 use Rattle.std.proofs.Common.{ap, subst, ◌∙◌}
 use Rattle.hop_layout.specs.declared.place.Place.TheVariants.{Slot}
-use Rattle.hop_map.specs.Views.{Locked, Ready}
+use Rattle.hop_map.specs.LockedSegment.{Locked, Ready}
 use Rattle.hop_map.proofs.Readings.{slot_read}
 use Rattle.hop_map.proofs.locked.LockedWordsSegReads.slot.Goals as goal
 

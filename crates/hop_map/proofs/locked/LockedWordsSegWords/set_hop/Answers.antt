@@ -1,8 +1,8 @@
 use Rattle.std.proofs.Common.{ap, subst, ◌∙◌}
 use Rattle.hop_layout.specs.declared.place.Place.{Place}
 use Rattle.hop_layout.specs.declared.place.Place.TheVariants.{Hop}
-use Rattle.hop_map.specs.Views.{Locked, Ready}
-use Rattle.hop_map.specs.Private.Views.{written}
+use Rattle.hop_map.specs.LockedSegment.{Locked, Ready}
+use Rattle.hop_map.specs.Private.LockedSegment.{written}
 use Rattle.hop_words.proofs.Locked.{hop_there}
 use Rattle.hop_map.proofs.Writings.{hop_set}
 use Rattle.hop_map.proofs.locked.LockedWordsSegWords.set_hop.Goals as goal

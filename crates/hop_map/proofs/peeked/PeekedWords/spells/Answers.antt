@@ -2,7 +2,7 @@ use Rattle.std.proofs.Common.{◌≡◌, ℕ, ap, sym, subst, ◌∙◌, arith, 
 use Rattle.hop_layout.specs.declared.place.Place.TheVariants.{KeyWord}
 use Rattle.hop_layout.specs.Words.{word_of}
 use Rattle.hop_words.proofs.Small.{equal}
-use Rattle.hop_map.specs.Private.Peeks.{Peeked, Rested}
+use Rattle.hop_map.specs.Private.Peeks.{Peeked, OnlyReads}
 use Rattle.hop_map.specs.Lemmas.Resting.{rested_on, had_peeks}
 use Rattle.hop_map.proofs.Peeking.{rested_as, spelled_on}
 use Rattle.hop_map.proofs.peeked.PeekedWords.spells.Goals as goal
@@ -22,7 +22,7 @@ returns-then-read-word_of-clause-rests c = rested_on c.args.self.now c.words.sel
 pub words-preserved : goal.words-preserved
 words-preserved c =
     let x = c.args.self.now in
-    let on : Rested c.words.self c.read.new.self = rested_as c.words.self c.read.new.self (KeyWord c.self.inside.map c.args.element c.words.word) c.read.result c.read.ensures.peeked in
+    let on : OnlyReads c.words.self c.read.new.self = rested_as c.words.self c.read.new.self (KeyWord c.self.inside.map c.args.element c.words.word) c.read.result c.read.ensures.peeked in
     record {
       rests = rested_on x c.words.self c.read.new.self c.words.invariant.rests on;
       spelled = λ w all reached j l. ⊎_elim

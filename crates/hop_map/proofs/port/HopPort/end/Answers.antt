@@ -5,7 +5,7 @@ use Rattle.hop_epoch.specs.declared.batches.Batches.{Batches}
 use Rattle.hop_words.specs.Ghost.{limbo_at}
 use Rattle.hop_epoch.specs.Batch.{Keeps, Tracks, SeesRunning}
 use Rattle.bpf_shared.specs.declared.events.Event.TheVariants.{End}
-use Rattle.hop_map.specs.Whole.{IsReclaimed}
+use Rattle.hop_map.specs.Call.{IsReclaimed}
 use Rattle.hop_map.specs.Noting.{CallNotes}
 use Rattle.hop_map.specs.Port.{Port, IsPortOf, runs, batches_at, no_batches}
 use Rattle.hop_map.proofs.Ports.{ended_idle, ended_notes, ended_reclaimed, port_with, port_is, reclaims, reclaimed_now, reclaimed_more, ends_last}

@@ -1,5 +1,5 @@
 use Rattle.std.specs.Prelude.{◌≡◌, ℕ, ◌<◌, length}
-use Rattle.hop_map.specs.Whole.{IsReclaimed}
+use Rattle.hop_map.specs.Call.{IsReclaimed}
 use Rattle.hop_map.specs.Private.Port.{IsEnding}
 use Rattle.hop_map.proofs.port.HopPort.end.Given as goal
 

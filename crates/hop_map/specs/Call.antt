@@ -11,7 +11,7 @@ use Rattle.hop_layout.specs.declared.place.Place.TheVariants.{RunCount}
 use Rattle.hop_words.specs.Sights.{LeavesElements, look}
 use Rattle.hop_words.specs.Ghost.{shape_at, limbo_at, Each}
 use Rattle.hop_words.specs.Shortage.{done_in}
-use Rattle.hop_words.specs.Kinds.{Saw}
+use Rattle.hop_words.specs.Kinds.{TakesEffect}
 use Rattle.hop_arena.specs.declared.arena.Arena.{Arena}
 use Rattle.hop_arena.specs.Claiming.{IsArena, IsSeenTaken}
 use Rattle.hop_epoch.specs.declared.batches.Batches.{Batches}
@@ -26,15 +26,15 @@ abbrev pub AreBatchesOf : About → Known → ℕ → Batches → Type 0
 AreBatchesOf a l m x = (x.map ≡ m) × Tracks a l x.map x.young x.aged x.noted
 
 -- between two calls a CPU has no element in hand, and no lock
-pub record Rests (l : Known) (m : ℕ) : Type 0 where
+pub record IsBetweenCalls (l : Known) (m : ℕ) : Type 0 where
   pub fresh : l.fresh ≡ []
   pub locks : l.locks ≡ []
   pub used : (limbo_at l.limbo m).used ≡ []
 
 -- the call's event was made; of all else only the batches of the map changed, and what was noted
-pub record Called (a : About) (l : Known) (m : ℕ) (event : Event) (l' : Known) : Type 0 where
-  pub seen : Saw a l event l'.seen
-  pub rests : Rests l' m
+pub record IsOneCall (a : About) (l : Known) (m : ℕ) (event : Event) (l' : Known) : Type 0 where
+  pub seen : TakesEffect a l event l'.seen
+  pub rests : IsBetweenCalls l' m
   pub cpu : l'.cpu ≡ l.cpu
   pub readings : l'.readings ≡ l.readings
   pub size : length l'.limbo ≡ length l.limbo
@@ -67,7 +67,7 @@ IsReclaimed m before l' =
 
 -- Busy only at a segment's last version, which so many changes of the map have paid for; NoMemory
 -- only where the call looked for a free element in vain
-abbrev pub Lacks : About → Known → ℕ → MapAnswer → Known → Type 0
-Lacks a l m Busy l' = 2 ^ 56 - 1 ≤ a.version + done_in m l'.seen
-Lacks a l m NoMemory l' = SearchesInVain a l m l'
-Lacks a l m answer l' = Unit {0}
+abbrev pub IsShortage : About → Known → ℕ → MapAnswer → Known → Type 0
+IsShortage a l m Busy l' = 2 ^ 56 - 1 ≤ a.version + done_in m l'.seen
+IsShortage a l m NoMemory l' = SearchesInVain a l m l'
+IsShortage a l m answer l' = Unit {0}

@@ -13,7 +13,7 @@ use Rattle.hop_words.specs.Rule.{image}
 use Rattle.hop_words.specs.Kinds.{writing}
 use Rattle.hop_words.specs.Locking.{lock_of}
 use Rattle.hop_seg.specs.Words.{Words as SegWords}
-use Rattle.hop_map.specs.Views.{home, knows, Locked}
+use Rattle.hop_map.specs.LockedSegment.{home, knows, Locked}
 
 -- the key that an element's words spell
 abbrev pub spelled_key : About → ℕ → MapWords → ℕ → List ℕ

@@ -6,12 +6,12 @@ use Rattle.hop_words.specs.declared.known.Known.{Known}
 use Rattle.bpf_shared.specs.declared.events.Event.TheVariants.{Update}
 use Rattle.bpf_shared.specs.declared.events.MapAnswer.TheVariants.{Done}
 use Rattle.hop_words.specs.Ghost.{shape_at}
-use Rattle.hop_words.specs.Kinds.{has, Saw, with_gone}
+use Rattle.hop_words.specs.Kinds.{has, TakesEffect, with_gone}
 use Rattle.hop_words.specs.Locking.{lock_of}
-use Rattle.hop_map.specs.Private.Calls.{HandFilled}
+use Rattle.hop_map.specs.Private.UnderLock.{HandFilled}
 
 -- the lane has an element in hand for a replacement
-pub record BringsOver (a : About) (l : Known) (m s : ℕ) (key bytes : List ℕ) (flags element : ℕ) :
+pub record OffersReplacement (a : About) (l : Known) (m s : ℕ) (key bytes : List ℕ) (flags element : ℕ) :
     Type 0 where
   pub filled : HandFilled a l m s key bytes element
   pub flags_known : (flags ≡ 0) ⊎ (flags ≡ 2)
@@ -20,8 +20,8 @@ pub record BringsOver (a : About) (l : Known) (m s : ℕ) (key bytes : List ℕ)
   pub apart : has element (lock_of l).known ≡ false
 
 -- the replacement's event; the element that the key led to is in hand, and all else as it was
-pub record Over (a : About) (l : Known) (m : ℕ) (key bytes : List ℕ) (flags old : ℕ)
+pub record IsReplacement (a : About) (l : Known) (m : ℕ) (key bytes : List ℕ) (flags old : ℕ)
     (l2 : Known) : Type 0 where
   pub inside : old < elements (shape_at a m)
-  pub seen : Saw a l (Update m key bytes flags Done) l2.seen
+  pub seen : TakesEffect a l (Update m key bytes flags Done) l2.seen
   pub after : l2 ≡ record l { seen = l2.seen; fresh = []; limbo = with_gone l m old; locks = [] }
