@@ -16,7 +16,7 @@ use std::thread::Threads;
 
 /// What a thread saw.
 #[derive(Clone, Copy, Drop)]
-struct TakesEffect {
+struct Saw {
     found: u32,
     absent: u32,
     /// Disturbed as is promised: the first stamp locked, or the two different.
@@ -25,7 +25,7 @@ struct TakesEffect {
     changes: u32,
 }
 
-const NOTHING: TakesEffect = TakesEffect {
+const NOTHING: Saw = Saw {
     found: 0,
     absent: 0,
     disturbed: 0,
@@ -48,7 +48,7 @@ fn find_in_a_run(table: &HopTable, port: &mut HopPort) -> Option<Once>
 }
 
 // 100,000 lookups of the key 0.
-fn find_often(table: &HopTable, port: HopPort, stop: &AtomicU64) -> TakesEffect
+fn find_often(table: &HopTable, port: HopPort, stop: &AtomicU64) -> Saw
     requires idle { IsIdlePort table.now port }
 {
     let mut port = port;
@@ -68,7 +68,7 @@ fn find_often(table: &HopTable, port: HopPort, stop: &AtomicU64) -> TakesEffect
 }
 
 // Deletes and inserts the keys 1 to 39, each in a run of its own, until the other thread is done.
-fn change_often<R: Wait>(rt: &R, table: &HopTable, port: HopPort, stop: &AtomicU64) -> TakesEffect
+fn change_often<R: Wait>(rt: &R, table: &HopTable, port: HopPort, stop: &AtomicU64) -> Saw
     requires idle { IsIdlePort table.now port }
 {
     let mut port = port;
@@ -110,11 +110,11 @@ fn find_by_threads<R: Threads + Wait + Sync>(
     rt: &R,
     table: &HopTable,
     ports: Vec<HopPort>,
-) -> Result<Vec<TakesEffect>, AllocError>
+) -> Result<Vec<Saw>, AllocError>
     requires idle { All (IsIdlePort table.now) ports.items }
 {
     let stop = AtomicU64::new(0);
-    let each = |port: HopPort| -> TakesEffect
+    let each = |port: HopPort| -> Saw
         requires { IsIdlePort table.now port }
     {
         if port.cpu() == 0 {
