@@ -1,7 +1,7 @@
 //! What the crates above say of bytes and lists: bytes as little-endian numbers, lists with a part
-//! replaced, what atomic operations leave; and how many steps a job may make. The definitions are in specs/, the lemmas in proofs/;
-//! the code reads and writes numbers in bytes, does what atomic operations do, and spreads numbers
-//! for hashes.
+//! replaced, what atomic operations leave; and how many steps a job may make. The definitions are in
+//! specs/, the lemmas in proofs/; the code reads and writes numbers in bytes, does what atomic
+//! operations do, and spreads numbers for hashes.
 #![tactic(auto)]
 
 pub mod atomic;

@@ -1,5 +1,5 @@
-//! Instructions as canonical assembly text, which is read back as the same instructions, and listings
-//! of programs.
+//! Instructions as canonical assembly text, which is read back as the same instructions, and
+//! listings of programs.
 #![tactic(auto)]
 
 mod atomic;

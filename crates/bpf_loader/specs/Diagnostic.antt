@@ -1,4 +1,5 @@
--- What is printed where a list of instructions is no sound program: E1, E3 and E8 to E14. Our own choice.
+-- What is printed where a list of instructions is no sound program: E1, E3 and E8 to E14. Our own
+-- choice.
 use Rattle.bpf_codes.specs.declared.code.Code.TheVariants as code
 use Rattle.bpf_codes.specs.declared.diagnostic.Diagnostic.{Diagnostic}
 use Rattle.bpf_codes.specs.Diagnostic.{nowhere, at_pc}

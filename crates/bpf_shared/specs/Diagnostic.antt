@@ -1,4 +1,5 @@
--- What is printed where no store has a shape: S1 to S7. The line of the file names the map. Our own choice.
+-- What is printed where no store has a shape: S1 to S7. The line of the file names the map. Our
+-- own choice.
 use Rattle.bpf_codes.specs.declared.code.Code.TheVariants as code
 use Rattle.bpf_codes.specs.declared.diagnostic.Diagnostic.{Diagnostic}
 use Rattle.bpf_codes.specs.Diagnostic.{nowhere}

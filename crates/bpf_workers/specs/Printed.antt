@@ -21,9 +21,9 @@ abbrev pub store_shape : File → Shape
 store_shape f = record { cpus = f.cpus; maps = f.maps }
 
 -- one history of the file's store, new, its segments' versions and run counters at 0, explains how
--- all its jobs ended; the text has a line of each of them, in the file's order, and then, where they
--- are asked for, the lines of the maps that this history leaves; and whether some job ended in a
--- fault or out of budget
+-- all its jobs ended; the text has a line of each of them, in the file's order, and then, where
+-- they are asked for, the lines of the maps that this history leaves; and whether some job ended in
+-- a fault or out of budget
 pub record IsWorkersReport (f : File) (maps : Bool) (text : List ℕ) (stopped : Bool) : Type 0 where
   pub ends : List Outcome
   pub history : List Entry

@@ -34,8 +34,8 @@ use Rattle.hop_words.specs.Ghost.{Holder, Free, Filling, Leaving, Within, is_fre
 
 -- ======== history
 
--- the one history is legal, its answers of a shortage have their causes, and of it each CPU has seen
--- a beginning with all its own events
+-- the one history is legal, its answers of a shortage have their causes, and of it each CPU has
+-- seen a beginning with all its own events
 pub record Logged (a : About) (seen : ℕ → List Entry) (log : List Entry) (last : Plain) : Type 0
   where
     pub legal : Legal (as_made a.shape) log last

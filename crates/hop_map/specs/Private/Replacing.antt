@@ -11,8 +11,8 @@ use Rattle.hop_words.specs.Locking.{lock_of}
 use Rattle.hop_map.specs.Private.UnderLock.{HandFilled}
 
 -- the lane has an element in hand for a replacement
-pub record OffersReplacement (a : About) (l : Known) (m s : ℕ) (key bytes : List ℕ) (flags element : ℕ) :
-    Type 0 where
+pub record OffersReplacement (a : About) (l : Known) (m s : ℕ) (key bytes : List ℕ)
+    (flags element : ℕ) : Type 0 where
   pub filled : HandFilled a l m s key bytes element
   pub flags_known : (flags ≡ 0) ⊎ (flags ≡ 2)
   pub limbo : m < length l.limbo

@@ -48,13 +48,13 @@ pub record HandFilled (a : About) (l : Known) (m s : ℕ) (key bytes : List ℕ)
   pub runs : in_run (events_of l.cpu l.seen) ≡ true
 
 -- so it is for a new key
-pub record OffersInsertion (a : About) (l : Known) (m s : ℕ) (key bytes : List ℕ) (flags element : ℕ) :
-    Type 0 where
+pub record OffersInsertion (a : About) (l : Known) (m s : ℕ) (key bytes : List ℕ)
+    (flags element : ℕ) : Type 0 where
   pub filled : HandFilled a l m s key bytes element
   pub flags_known : flags < 2
 
 -- the new element's event, and all else as it was
-pub record IsInsertion (a : About) (l : Known) (m : ℕ) (key bytes : List ℕ) (flags : ℕ) (l2 : Known) :
-    Type 0 where
+pub record IsInsertion (a : About) (l : Known) (m : ℕ) (key bytes : List ℕ) (flags : ℕ)
+    (l2 : Known) : Type 0 where
   pub seen : TakesEffect a l (Update m key bytes flags Done) l2.seen
   pub after : l2 ≡ record l { seen = l2.seen; fresh = []; locks = [] }
