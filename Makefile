@@ -23,6 +23,7 @@ test: ## The whole gate: every proof, every must-fail edit, every test, then the
 	tests/memory ./ebpf
 	tests/streams ./ebpf
 	tests/docs ./ebpf
+	tests/docs --self-test ./ebpf
 	$(MAKE) manual
 
 manual: ## Look for mistakes in the manual page with mandoc, where that is installed
