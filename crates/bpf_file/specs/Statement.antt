@@ -1,5 +1,5 @@
 -- What a line of a run file says, where it isn't assembly (our own choice).
-use Rattle.std.specs.Prelude.{◌≡◌, ℕ, ◌-◌, ◌^◌, nat_le, nat_lt, if◌then◌else◌, List, ◌++◌, Option, Some, None, Result, Ok, Err}
+use Rattle.std.specs.Prelude.{◌≡◌, ℕ, ◌-◌, ◌^◌, nat_le, nat_lt, false, if◌then◌else◌, List, ◌++◌, Option, Some, None, Result, Ok, Err}
 use Rattle.std.specs.Option.{option_copied}
 use Rattle.bpf_base.specs.declared.budget.TheConstants.{MAX_BUDGET}
 use Rattle.bpf_shared.specs.declared.shapes.MapShape.{MapShape}
@@ -64,7 +64,7 @@ map_said fields mask =
     with_number (count_at fields 7 most_count) (λ max.
     with_number (count_at fields 9 most_count) (λ spare.
     Ok (Map (field_at fields 1)
-    (record { key = key; value = value; max = max; spare = spare; mask = mask }))))))
+    (record { key = key; value = value; max = max; spare = spare; mask = mask; grow = false }))))))
 
 abbrev pub masked_said : List (List ℕ) → Result Said LineError
 masked_said fields = with_number (count_at fields 11 most_count) (λ mask. map_said fields mask)

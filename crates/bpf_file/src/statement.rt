@@ -107,6 +107,7 @@ fn map<'a>(fields: &[&'a [u8]], mask: u32) -> Result<Statement<'a>, LineError>
             max,
             spare,
             mask,
+            grow: false,
         },
     ))
 }

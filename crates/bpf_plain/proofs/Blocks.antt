@@ -11,7 +11,7 @@ use Rattle.bpf_base.proofs.Parts.{length-with_part}
 pub below_or_same : (i n : ℕ) → i < n + 1 → i ≢ n → i < n
 below_or_same i n l ne = elim (cases_lt i n) [ inl k ↦ k | inr k ↦ absurd (ne (omega arith)) ]
 
-suc-mul : (i w : ℕ) → (i + 1) * w ≡ i * w + w
+pub suc-mul : (i w : ℕ) → (i + 1) * w ≡ i * w + w
 suc-mul i w = grind arith
 
 -- blocks rise

@@ -14,6 +14,13 @@ pub mod Making
 pub mod Changing
 pub mod Looking
 pub mod Places
+pub mod Alike
+pub mod SavedAlike
+pub mod Fronts
+pub mod Normal
+pub mod Reading
+pub mod Filling
+pub mod Storing
 pub mod Accessing
 pub mod Updating
 pub mod Settling
@@ -23,3 +30,4 @@ pub mod LookingUp
 mod Listing
 pub mod Served
 pub mod Elements
+pub mod KeyRows

@@ -13,7 +13,7 @@ use Rattle.bpf_shared.specs.declared.events.Event.TheVariants.{Update, Delete}
 use Rattle.bpf_shared.specs.declared.shapes.MapShape.{MapShape}
 use Rattle.bpf_shared.specs.First.{first_of}
 use Rattle.bpf_shared.specs.Shape.{IsMap, IsKeyOf, elements, element_span}
-use Rattle.bpf_shared.specs.Store.{Keys, Plain, Value, put}
+use Rattle.bpf_shared.specs.Store.{KeyMap, Plain, Value, put}
 use Rattle.bpf_shared.specs.Events.{has_key, refusals, kept_after, after_delete, after_update}
 use Rattle.bpf_shared.specs.Sound.{IsSoundStore}
 use Rattle.bpf_shared.specs.Passage.{Calls}
@@ -56,7 +56,7 @@ unchanged : (p : Contents) (m : ℕ) (n : Rows) → n ≡ rows p m → with_tabl
 unchanged p m n e = ap (with_table p m) e ∙ ap (λ (ts : List Rows). let q : Contents = record p { tables = ts } in q) (set-get_or p.tables m no_rows)
 
 -- the store with other finite maps that have the same keys and values
-other_maps : (r : Contents) (s : Plain) (maps : ℕ → Keys) → ((n : ℕ) (q : List ℕ) → get (maps n) q ≡ get (s.maps n) q) → ((n : ℕ) → len (maps n) ≡ len (s.maps n))
+other_maps : (r : Contents) (s : Plain) (maps : ℕ → KeyMap) → ((n : ℕ) (q : List ℕ) → get (maps n) q ≡ get (s.maps n) q) → ((n : ℕ) → len (maps n) ≡ len (s.maps n))
     → StandsFor r s → StandsFor r (record s { maps = maps })
 other_maps r s maps same count h = record {
   cpus = h.cpus;
@@ -73,7 +73,7 @@ other_maps r s maps same count h = record {
   kept_back = h.kept_back;
 }
 
-module _ (k : Keys) (key : List ℕ) (n v : ℕ) (there : get k key ≡ Some v) where
+module _ (k : KeyMap) (key : List ℕ) (n v : ℕ) (there : get k key ≡ Some v) where
   inserted_again : (q : List ℕ) → get (insert k key n) q ≡ get (insert (remove k key) key n) q
   inserted_again q =
       get-insert nat_list_cmp_total k key n q
@@ -246,7 +246,7 @@ module _ (p : Contents) (is : IsStore p) (c m : ℕ) (key : List ℕ) (mi : m < 
           (size ∙ ap (λ (x : MapShape). x.key) (sym shape))
           (long ∙ ap (λ (x : MapShape). x.value) (sym shape))
           t (after_delete_sound s m key so) (gone_stands p is m k mi at.linked s so h key at.is)
-          (ap (λ (x : Keys). get x key) (put-same s.maps m m (remove (s.maps m) key) refl) ∙ gone_key (s.maps m) key)
+          (ap (λ (x : KeyMap). get x key) (put-same s.maps m m (remove (s.maps m) key) refl) ∙ gone_key (s.maps m) key)
           (λ d e. unheld d (sym (holds-same p is m k mi at.linked d m i) ∙ e))
           (λ d e. unkept d (sym (keeps-else p is m k mi at.linked d m i (λ _. apart)) ∙ e)) in
           let same_contents : with_table q m (linked_row i key bytes (rows q m)) ≡ with_table p m (linked_row i key bytes (unlinked_row p.runs k row)) =
@@ -258,12 +258,12 @@ module _ (p : Contents) (is : IsStore p) (c m : ℕ) (key : List ℕ) (mi : m < 
           other_maps (with_table p m (linked_row i key bytes (unlinked_row p.runs k row))) (with_value t m key value) (put s.maps m (insert (s.maps m) key s.made))
           (λ n x. elim (equal_or_not n m) [
             | inr ne ↦
-                ap (λ (y : Keys). get y x) (put-other s.maps m n (insert (s.maps m) key s.made) ne)
-                ∙ sym (ap (λ (y : Keys). get y x) (put-other t.maps m n (insert (t.maps m) key s.made) ne) ∙ ap (λ (y : Keys). get y x) (put-other s.maps m n (remove (s.maps m) key) ne))
+                ap (λ (y : KeyMap). get y x) (put-other s.maps m n (insert (s.maps m) key s.made) ne)
+                ∙ sym (ap (λ (y : KeyMap). get y x) (put-other t.maps m n (insert (t.maps m) key s.made) ne) ∙ ap (λ (y : KeyMap). get y x) (put-other s.maps m n (remove (s.maps m) key) ne))
             | inl e ↦
-                ap (λ (y : Keys). get y x) (put-same s.maps m n (insert (s.maps m) key s.made) e)
+                ap (λ (y : KeyMap). get y x) (put-same s.maps m n (insert (s.maps m) key s.made) e)
                 ∙ (inserted_again (s.maps m) key s.made (h.number m k) leads x
-                ∙ sym (ap (λ (y : Keys). get y x) (put-same t.maps m n (insert (t.maps m) key s.made) e) ∙ ap (λ (y : Keys). get (insert y key s.made) x) (put-same s.maps m m (remove (s.maps m) key) refl)))
+                ∙ sym (ap (λ (y : KeyMap). get y x) (put-same t.maps m n (insert (t.maps m) key s.made) e) ∙ ap (λ (y : KeyMap). get (insert y key s.made) x) (put-same s.maps m m (remove (s.maps m) key) refl)))
           ])
           (λ n. elim (equal_or_not n m) [
             | inr ne ↦
@@ -272,7 +272,7 @@ module _ (p : Contents) (is : IsStore p) (c m : ℕ) (key : List ℕ) (mi : m < 
             | inl e ↦
                 ap len (put-same s.maps m n (insert (s.maps m) key s.made) e)
                 ∙ (len_again (s.maps m) key s.made (h.number m k) leads some
-                ∙ sym (ap len (put-same t.maps m n (insert (t.maps m) key s.made) e) ∙ ap (λ (y : Keys). len (insert y key s.made)) (put-same s.maps m m (remove (s.maps m) key) refl)))
+                ∙ sym (ap len (put-same t.maps m n (insert (t.maps m) key s.made) e) ∙ ap (λ (y : KeyMap). len (insert y key s.made)) (put-same s.maps m m (remove (s.maps m) key) refl)))
           ])
           moved
 

@@ -8,7 +8,7 @@ use Rattle.std.specs.FinMap.{get, insert, remove, len, contains_key, len-insert,
 use Rattle.bpf_plain.specs.declared.runs.Runs.{Runs}
 use Rattle.bpf_shared.specs.declared.shapes.MapShape.{MapShape}
 use Rattle.bpf_shared.specs.Shape.{elements, element_span}
-use Rattle.bpf_shared.specs.Store.{Keys, Plain, Value, put}
+use Rattle.bpf_shared.specs.Store.{KeyMap, Plain, Value, put}
 use Rattle.bpf_shared.specs.Events.{kept_after, after_delete}
 use Rattle.bpf_shared.specs.Sound.{IsSoundStore}
 use Rattle.bpf_plain.specs.Private.Runs.{run_of, count_of, no_runs, is_run}
@@ -161,22 +161,22 @@ module _ (p : Contents) (is : IsStore p) (m k : ℕ) (mi : m < length p.tables) 
     leads-after : (n j : ℕ) → IsLinked (rows after n) j → (n ≡ m) ⊎ (n ≢ m) → get (put s.maps m (remove (s.maps m) key) n) (key_of (rows after n) j) ≡ Some (h.number n j)
     leads-after n j l (inr ne) =
         let was = gone_was n j l in
-        ap (λ (x : Keys). get x (key_of (rows after n) j)) (put-other s.maps m n (remove (s.maps m) key) ne)
+        ap (λ (x : KeyMap). get x (key_of (rows after n) j)) (put-other s.maps m n (remove (s.maps m) key) ne)
         ∙ (ap (get (s.maps n)) (key-same n j) ∙ h.leads n j was.0)
     leads-after n j l (inl e) =
         let was = gone_was n j l in
         let here : IsLinked (rows p m) j = subst (λ (x : ℕ). IsLinked (rows p x) j) e was.0 in
-        ap (λ (x : Keys). get x (key_of (rows after n) j)) (put-same s.maps m n (remove (s.maps m) key) e)
+        ap (λ (x : KeyMap). get x (key_of (rows after n) j)) (put-same s.maps m n (remove (s.maps m) key) e)
         ∙ (ap (get (remove (s.maps m) key)) (key-same n j ∙ ap (λ (x : ℕ). key_of (rows p x) j) e)
         ∙ (still_leads (key_of (rows p m) j) (other_key j here (was.1 e)) ∙ (h.leads m j here ∙ ap (λ (x : ℕ). Some (h.number x j)) (sym e))))
 
     found-after : (n : ℕ) (q : List ℕ) (v : ℕ) → get (put s.maps m (remove (s.maps m) key) n) q ≡ Some v → (n ≡ m) ⊎ (n ≢ m)
         → (i : ℕ) × IsLinked (rows after n) i × (key_of (rows after n) i ≡ q) × (v ≡ h.number n i)
     found-after n q v e (inr ne) =
-        let f = h.found n q v (sym (ap (λ (x : Keys). get x q) (put-other s.maps m n (remove (s.maps m) key) ne)) ∙ e) in
+        let f = h.found n q v (sym (ap (λ (x : KeyMap). get x q) (put-other s.maps m n (remove (s.maps m) key) ne)) ∙ e) in
         (f.0, gone_still n f.0 f.1 (λ s. absurd (ne s)), key-same n f.0 ∙ f.2, f.3)
     found-after n q v e (inl s') =
-        let there : get (remove (s.maps m) key) q ≡ Some v = sym (ap (λ (x : Keys). get x q) (put-same s.maps m n (remove (s.maps m) key) s')) ∙ e in
+        let there : get (remove (s.maps m) key) q ≡ Some v = sym (ap (λ (x : KeyMap). get x q) (put-same s.maps m n (remove (s.maps m) key) s')) ∙ e in
         let ne : q ≢ key = λ (x : q ≡ key). (let none : None ≡ Some v = sym (ap (get (remove (s.maps m) key)) x ∙ gone_key (s.maps m) key) ∙ there in cc) in
         let f = h.found m q v (sym (still_leads q ne) ∙ there) in
         let apart : f.0 ≢ old = λ (x : f.0 ≡ old). ne (sym f.2 ∙ (ap (key_of (rows p m)) x ∙ keyed)) in (
@@ -360,7 +360,7 @@ module _ (p : Contents) (is : IsStore p) (m i : ℕ) (key bytes : List ℕ) (mi 
       | inl e ↦
           let at : key_of (rows later n) j ≡ key = ap (λ (x : ℕ). key_of (rows later x) j) e.0 ∙ (ap (key_of (rows later m)) e.1 ∙ key-now) in
           let number : numbers n j ≡ s.made = ap (λ (x : ℕ). numbers x j) e.0 ∙ (ap (numbers m) e.1 ∙ number-here) in
-          ap (λ (x : Keys). get x (key_of (rows later n) j)) (put-same s.maps m n (insert (s.maps m) key s.made) e.0)
+          ap (λ (x : KeyMap). get x (key_of (rows later n) j)) (put-same s.maps m n (insert (s.maps m) key s.made) e.0)
           ∙ (ap (get (insert (s.maps m) key s.made)) at ∙ (leads_new (s.maps m) key s.made ∙ ap (λ (x : ℕ). Some x) (sym number)))
       | inr w ↦
           let ne : (n ≡ m) → j ≢ i = not_it n j w in
@@ -369,8 +369,8 @@ module _ (p : Contents) (is : IsStore p) (m i : ℕ) (key bytes : List ℕ) (mi 
           let old : get (s.maps n) (key_of (rows p n) j) ≡ Some (h.number n j) = h.leads n j w in
           ap (get (put s.maps m (insert (s.maps m) key s.made) n)) at
           ∙ (elim (put_cases s.maps m n (insert (s.maps m) key s.made)) [
-            | inr e ↦ ap (λ (x : Keys). get x (key_of (rows p n) j)) e.1
-            | inl e ↦ ap (λ (x : Keys). get x (key_of (rows p n) j)) e.1
+            | inr e ↦ ap (λ (x : KeyMap). get x (key_of (rows p n) j)) e.1
+            | inl e ↦ ap (λ (x : KeyMap). get x (key_of (rows p n) j)) e.1
                 ∙ (other_keys (key_of (rows p n) j) (old_key n j w e.0) ∙ ap (λ (x : ℕ). get (s.maps x) (key_of (rows p n) j)) (sym e.0))
           ] ∙ (old ∙ ap (λ (x : ℕ). Some x) (sym number)))
     ]
@@ -383,9 +383,9 @@ module _ (p : Contents) (is : IsStore p) (m i : ℕ) (key bytes : List ℕ) (mi 
 
     found-later : (n : ℕ) (q : List ℕ) (v : ℕ) → get (put s.maps m (insert (s.maps m) key s.made) n) q ≡ Some v → (j : ℕ) × IsLinked (rows later n) j × (key_of (rows later n) j ≡ q) × (v ≡ numbers n j)
     found-later n q v e = elim (put_cases s.maps m n (insert (s.maps m) key s.made)) [
-      | inr x ↦ was_found n q v (sym (ap (λ (y : Keys). get y q) x.1) ∙ e)
+      | inr x ↦ was_found n q v (sym (ap (λ (y : KeyMap). get y q) x.1) ∙ e)
       | inl x ↦
-          let there : get (insert (s.maps m) key s.made) q ≡ Some v = sym (ap (λ (y : Keys). get y q) x.1) ∙ e in
+          let there : get (insert (s.maps m) key s.made) q ≡ Some v = sym (ap (λ (y : KeyMap). get y q) x.1) ∙ e in
           elim (insert_cases (s.maps m) key s.made q) [
             | inl y ↦
                 let made : v ≡ s.made = (let z : Some s.made ≡ Some v = sym y.1 ∙ there in cc) in (

@@ -1,4 +1,5 @@
 pub mod PlainStore
+pub mod Alike
 pub mod Shows
 pub mod Legality
 pub mod Lemmas

@@ -49,6 +49,16 @@ impl Index {
         })
     }
 
+    /// Becomes what another one is, which has as many homes and elements.
+    pub fn copy_from(&mut self, other: &Index)
+        requires homes { length other.now.heads ≡ length self.old.heads }
+        requires elements { length other.now.nexts ≡ length self.old.nexts }
+        ensures { self.new ≡ other.now }
+    {
+        self.heads.copy_from_slice(&other.heads);
+        self.nexts.copy_from_slice(&other.nexts);
+    }
+
     /// The element of a home with a key, where all keys have one size and lie one behind the other.
     pub fn find(&self, home: usize, keys: &[u8], size: usize, key: &[u8]) -> Option<usize>
         requires home { home < length self.now.heads }

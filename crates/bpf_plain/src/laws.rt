@@ -1,9 +1,25 @@
-//! What follows from the definition of the plain store's passages, as a promise to the crates above.
+//! What follows from the plain store's definitions, as promises to the crates above.
 //!
-//! This function does nothing: its contract is the law, which a proof cites.
+//! These functions do nothing: their contracts are the laws, which a proof cites.
+ghost use Rattle.bpf_plain.specs.Alike.{AlikeStandAlike, RestoredLooksAlike, SavedAlikeLookAlike};
 ghost use Rattle.bpf_plain.specs.Legality.{PassagesAreLegal};
 
 /// A passage from a store as made is a legal history.
 pub fn passages_are_legal()
     ensures { PassagesAreLegal }
+{}
+
+/// Contents that look alike stand for the same plain stores.
+pub fn alike_stand_alike()
+    ensures { AlikeStandAlike }
+{}
+
+/// Contents of one shape that are saved as the same bytes look alike.
+pub fn saved_alike_look_alike()
+    ensures { SavedAlikeLookAlike }
+{}
+
+/// What is restored looks like what was saved.
+pub fn restored_looks_alike()
+    ensures { RestoredLooksAlike }
 {}

@@ -4,11 +4,14 @@ ghost use Rattle.bpf_shared.specs.Shape.{IsMap, IsMapShape};
 ghost use Rattle.bpf_plain.specs.Private.Rows.{no_rows, shape_of, IsBlank, IsTable};
 ghost use Rattle.bpf_plain.specs.Private.Runs.{no_runs};
 
+mod restoring;
+mod saving;
+
 use crate::runs::Runs;
 use crate::table::Table;
 use bpf_shared::bytes::change;
 use bpf_shared::{
-    AtomicOp, FIRST_VALUE, MAP_AREA, MapAnswer, MapShape, ShapeError, Shared, Size, Span,
+    AtomicOp, FIRST_VALUE, KeyList, MAP_AREA, MapAnswer, MapShape, ShapeError, Shared, Size, Span,
     StoreShape, ValuePlace, Worn,
 };
 use std::alloc::{AllocError, Global};
@@ -230,6 +233,10 @@ impl Shared for PlainStore {
 
     fn delete(&mut self, _cpu: u8, map: u8, key: &[u8]) -> MapAnswer {
         self.tables[map as usize].take(key, &self.runs)
+    }
+
+    fn keys(&mut self, _cpu: u8, map: u8, list: &mut KeyList) {
+        self.tables[map as usize].list_keys(list);
     }
 
     fn value_load(&mut self, _cpu: u8, at: ValuePlace, size: Size) -> u64 {

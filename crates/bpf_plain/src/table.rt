@@ -5,16 +5,19 @@ ghost use Rattle.bpf_shared.specs.Access.{bytes_in};
 ghost use Rattle.bpf_plain.specs.Private.Runs.{count_of};
 ghost use Rattle.bpf_shared.specs.Shape.{IsMapShape, IsValueSpan, elements, element_span, element_stride};
 ghost use Rattle.bpf_shared.specs.Listing.{pair_of};
-ghost use Rattle.bpf_plain.specs.Private.Pairs.{AreRowPairs, ArePairsBelow};
+ghost use Rattle.bpf_plain.specs.Private.Pairs.{AreRowPairs, ArePairsBelow, AreRowKeys};
 ghost use Rattle.bpf_plain.specs.Private.Index.{IsHome};
 ghost use Rattle.bpf_plain.specs.Private.Rows.{AreMarked, ArePassed, GoOn, HasCurrentAt, key_of, bytes_of, IsLinked, linked_count, IsTable, IsBlank, IsMissing, IsKeyAt, IsKeptRow, IsTakenRow, IsLowestFreeRow, HasCurrent, Erases, noted_row, linked_row, unlinked_row, stored_row, Forgets, PutsRow, TakesRow};
+
+pub(crate) mod restoring;
+mod saving;
 
 use crate::home::home;
 use crate::index::Index;
 use crate::marks::{first_unmarked, past_marked};
 use crate::runs::Runs;
 use bpf_shared::bytes::{load, store};
-use bpf_shared::{FIRST_VALUE, MAP_AREA, MapAnswer, MapShape, Size, Span};
+use bpf_shared::{FIRST_VALUE, KeyList, MAP_AREA, MapAnswer, MapShape, Size, Span};
 use std::alloc::{AllocError, Global};
 use std::marker::Model;
 
@@ -482,6 +485,22 @@ impl Table {
         let mut pairs = self.unsorted_pairs(alloc)?;
         pairs.sort_unstable();
         Ok(pairs)
+    }
+
+    /// Lists the keys of the map in the order of their bytes.
+    pub fn list_keys(&self, list: &mut KeyList)
+        requires shape { list.old.shape ≡ self.now.shape }
+        ensures shape { list.new.shape ≡ list.old.shape }
+        ensures keys { AreRowKeys self.now list.new.keys }
+    {
+        list.clear();
+        'elements: for element in 0..self.linked.len() {
+            if !self.linked[element] {
+                continue;
+            }
+            list.add(self.key(element));
+        }
+        list.sort();
     }
 
     /// The byte at an offset in the value of an element that is in the map or kept.

@@ -1,6 +1,6 @@
 //! Calls of one's own round each helper's call: a test can hold a CPU there until another has come.
 
-use bpf_shared::{AtomicOp, MapAnswer, MapShape, Shared, Size, Span, ValuePlace, Worn};
+use bpf_shared::{AtomicOp, KeyList, MapAnswer, MapShape, Shared, Size, Span, ValuePlace, Worn};
 
 /// What is called round each lookup, update and deletion.
 pub trait Gate {
@@ -86,6 +86,11 @@ impl<S: Shared, G: Gate> Shared for Gated<'_, S, G> {
         let answer = self.store.delete(cpu, map, key);
         self.gate.after_helper(cpu);
         answer
+    }
+
+    // No helper lists keys, so the gate is not called.
+    fn keys(&mut self, cpu: u8, map: u8, list: &mut KeyList) {
+        self.store.keys(cpu, map, list);
     }
 
     fn value_load(&mut self, cpu: u8, at: ValuePlace, size: Size) -> u64 {

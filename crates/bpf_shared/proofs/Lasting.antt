@@ -4,13 +4,13 @@ use Rattle.std.proofs.lemmas.Bool.{cases_lt}
 use Rattle.std.specs.FinMap.{get, insert, remove}
 use Rattle.bpf_shared.specs.declared.events.Span.{Span}
 use Rattle.bpf_shared.specs.declared.events.Event.{Event}
-use Rattle.bpf_shared.specs.declared.events.Event.TheVariants.{Begin, End, Lookup, Update, Delete, Load, Store, Atomic}
+use Rattle.bpf_shared.specs.declared.events.Event.TheVariants.{Begin, End, Lookup, Update, Delete, Keys, Load, Store, Atomic}
 use Rattle.bpf_shared.specs.declared.events.MapAnswer.{MapAnswer}
 use Rattle.bpf_shared.specs.declared.events.MapAnswer.TheVariants.{Done, Invalid, Busy, Exists, Absent, Full, NoMemory}
 use Rattle.bpf_shared.specs.declared.events.Entry.{Entry}
 use Rattle.bpf_shared.specs.Shape.{IsIn, IsApart}
 use Rattle.bpf_shared.specs.Access.{bytes_in}
-use Rattle.bpf_shared.specs.Store.{Keys, Value, Plain, put, never}
+use Rattle.bpf_shared.specs.Store.{KeyMap, Value, Plain, put, never}
 use Rattle.bpf_shared.specs.Events.{after_lookup, after_write, span_of, Reaches, Allowed}
 use Rattle.bpf_shared.specs.History.{Legal}
 use Rattle.bpf_shared.specs.Sound.{IsSoundStore}
@@ -30,12 +30,12 @@ module _ (s t : Plain) (c m : ℕ) (key : List ℕ) where
   looked_keys (Some v) = refl
 
   -- another key of a map is put or taken
-  others_keys : (n : ℕ) (other : List ℕ) (k : Keys) → ((n ≡ m) × (other ≡ key) → ⊥) → ((key ≡ other) ⊎ (get k key ≡ get (s.maps n) key)) → get (put s.maps n k m) key ≡ led s
+  others_keys : (n : ℕ) (other : List ℕ) (k : KeyMap) → ((n ≡ m) × (other ≡ key) → ⊥) → ((key ≡ other) ⊎ (get k key ≡ get (s.maps n) key)) → get (put s.maps n k m) key ≡ led s
   others_keys n other k without cases = elim (put_cases s.maps n m k) [
-    | inr e ↦ ap (λ (x : Keys). get x key) e.1
+    | inr e ↦ ap (λ (x : KeyMap). get x key) e.1
     | inl e ↦ elim cases [
       | inl same ↦ absurd (without (sym e.0, sym same))
-      | inr same ↦ ap (λ (x : Keys). get x key) e.1 ∙ (same ∙ ap (λ (i : ℕ). get (s.maps i) key) (sym e.0))
+      | inr same ↦ ap (λ (x : KeyMap). get x key) e.1 ∙ (same ∙ ap (λ (i : ℕ). get (s.maps i) key) (sym e.0))
     ]
   ]
 
@@ -69,6 +69,7 @@ module _ (s t : Plain) (c m : ℕ) (key : List ℕ) where
   event_keys (Lookup n other answer) a without = ap led a.1.2 ∙ looked_keys (get (s.maps n) other)
   event_keys (Update n other bytes flags answer) a without = update_keys n other bytes flags answer a without
   event_keys (Delete n other answer) a without = delete_keys n other answer a without
+  event_keys (Keys n ks) a without = ap led a.3
   event_keys (Load at size found) a without = ap led a.1.3
   event_keys (Store at size word) a without = ap led a.1.2
   event_keys (Atomic at size op operand expected found) a without = ap led a.1.3
@@ -123,6 +124,7 @@ module _ (s t : Plain) (c v b : ℕ) (so : IsSoundStore s) (there : v < s.made) 
   event_byte (Lookup m key answer) a without = ap byte_in a.1.2 ∙ looked_byte (get (s.maps m) key)
   event_byte (Update m key bytes flags answer) a without = updated_byte m key bytes flags answer a
   event_byte (Delete m key answer) a without = deleted_byte m key answer a
+  event_byte (Keys m ks) a without = ap byte_in a.3
   event_byte (Load at size found) a without = ap byte_in a.1.3
   event_byte (Store at size word) a without = ap byte_in a.1.2 ∙ written_byte a.1.0 at (bytes_in size) word a.1.1 without
   event_byte (Atomic at size op operand expected found) a without = ap byte_in a.1.3 ∙ written_byte a.1.0 at (bytes_in size) _ a.1.1 without
@@ -152,7 +154,7 @@ updates_are_found s t u w c d m key bytes flags log found so a h without l =
 
 pub deletions_are_found : DeletionsAreFound
 deletions_are_found s t u w c d m key log found a h without l =
-    let gone : get (t.maps m) key ≡ None = ap (λ (z : Plain). get (z.maps m) key) a.1.1.1 ∙ (ap (λ (k : Keys). get k key) (put-same s.maps m m (remove (s.maps m) key) refl) ∙ gone_key (s.maps m) key) in
+    let gone : get (t.maps m) key ≡ None = ap (λ (z : Plain). get (z.maps m) key) a.1.1.1 ∙ (ap (λ (k : KeyMap). get k key) (put-same s.maps m m (remove (s.maps m) key) refl) ∙ gone_key (s.maps m) key) in
     l.1.1 ∙ ap (span_of u) (keys_last t u m key log h without ∙ gone)
 
 -- ---- held values
@@ -205,6 +207,7 @@ module _ (s t : Plain) (c v : ℕ) (going : s.running c ≡ true) (holds : s.hel
   event_held d (Lookup m key answer) a without = subst Holds (sym a.1.2) (looked_held d (get (s.maps m) key))
   event_held d (Update m key bytes flags answer) a without = updated_held d m key bytes flags answer a
   event_held d (Delete m key answer) a without = deleted_held d m key answer a
+  event_held d (Keys m ks) a without = refused_held a.3
   event_held d (Load at size found) a without = refused_held a.1.3
   event_held d (Store at size word) a without = subst Holds (sym a.1.2) (going, holds)
   event_held d (Atomic at size op operand expected found) a without = subst Holds (sym a.1.3) (going, holds)
@@ -248,6 +251,7 @@ module _ (s t : Plain) (c v : ℕ) (going : s.running c ≡ true) (holds : s.hel
   event_apart d (Lookup m key answer) w a l k = none_new w (ap (λ (z : Plain). z.made) a.1.2 ∙ looked_made d (get (s.maps m) key)) l k
   event_apart d (Update m key bytes flags answer) w a l k = updated_apart d m key bytes flags answer w a l k
   event_apart d (Delete m key answer) w a l k = none_new w (deleted_made d m key answer a) l k
+  event_apart d (Keys m ks) w a l k = none_new w (ap (λ (z : Plain). z.made) a.3) l k
   event_apart d (Load at size found) w a l k = none_new w (ap (λ (z : Plain). z.made) a.1.3) l k
   event_apart d (Store at size word) w a l k = none_new w (ap (λ (z : Plain). z.made) a.1.2) l k
   event_apart d (Atomic at size op operand expected found) w a l k = none_new w (ap (λ (z : Plain). z.made) a.1.3) l k

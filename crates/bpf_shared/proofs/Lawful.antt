@@ -13,7 +13,7 @@ use Rattle.bpf_base.specs.declared.atomic.Change.{Change}
 use Rattle.bpf_shared.specs.declared.events.Size.{Size}
 use Rattle.bpf_shared.specs.declared.events.Size.TheVariants.{Byte, Half, Word, Double}
 use Rattle.bpf_shared.specs.declared.events.Event.{Event}
-use Rattle.bpf_shared.specs.declared.events.Event.TheVariants.{Begin, End, Lookup, Update, Delete, Load, Store, Atomic}
+use Rattle.bpf_shared.specs.declared.events.Event.TheVariants.{Begin, End, Lookup, Update, Delete, Keys, Load, Store, Atomic}
 use Rattle.bpf_shared.specs.declared.events.MapAnswer.{MapAnswer}
 use Rattle.bpf_shared.specs.declared.events.MapAnswer.TheVariants.{Done, Invalid, Busy, Exists, Absent, Full, NoMemory}
 use Rattle.bpf_shared.specs.declared.shapes.MapShape.{MapShape}
@@ -24,7 +24,7 @@ use Rattle.bpf_base.specs.Atomic.{number_after}
 use Rattle.bpf_base.proofs.Numbers.{length-low_bytes}
 use Rattle.bpf_base.proofs.Parts.{part-with_part}
 use Rattle.bpf_shared.specs.Access.{bytes_in}
-use Rattle.bpf_shared.specs.Store.{Keys, Value, Plain}
+use Rattle.bpf_shared.specs.Store.{KeyMap, Value, Plain}
 use Rattle.bpf_shared.specs.Events.{after_lookup, refusals, after_update, Updates, Deletes, Reaches, after_write, number_in, Allowed}
 use Rattle.bpf_shared.specs.Choice.{IsShort, IsLowestFree, Chosen, PlainlyAllowed}
 use Rattle.bpf_shared.specs.Sound.{IsSoundStore}
@@ -61,7 +61,7 @@ refusals_change_nothing = (
 )
 
 -- ---- updates that are done
-pub leads_new : (k : Keys) (key : List ℕ) (n : ℕ) → get (insert k key n) key ≡ Some n
+pub leads_new : (k : KeyMap) (key : List ℕ) (n : ℕ) → get (insert k key n) key ≡ Some n
 leads_new k key n = get-insert nat_list_cmp_total k key n key ∙ ap (λ (b : Bool). cond b (Some n) (get k key)) (itself key)
   where
     itself : (q : List ℕ) → eq_by_cmp (slice_cmp nat_cmp) q q ≡ true
@@ -70,7 +70,7 @@ leads_new k key n = get-insert nat_list_cmp_total k key n key ∙ ap (λ (b : Bo
 after_update_makes : (s : Plain) (m : ℕ) (key : List ℕ) (x : Value) → MakesValue s m key x.bytes (after_update s m key x)
 after_update_makes s m key x = record {
   next = refl;
-  leads = ap (λ (k : Keys). get k key) (put-same s.maps m m (insert (s.maps m) key s.made) refl) ∙ leads_new (s.maps m) key s.made;
+  leads = ap (λ (k : KeyMap). get k key) (put-same s.maps m m (insert (s.maps m) key s.made) refl) ∙ leads_new (s.maps m) key s.made;
   bytes_new = ap (λ (y : Value). y.bytes) (put-same s.value s.made s.made x refl);
   old = λ v l. put-other s.value s.made v x (λ e. omega arith);
 }
@@ -113,6 +113,7 @@ event_stays s t c End v a l = subst (λ (z : Plain). Stays s z v) (sym a.1) (l, 
 event_stays s t c (Lookup m key answer) v a l = subst (λ (z : Plain). Stays s z v) (sym a.1.2) (looked_stays s c (get (s.maps m) key) v l)
 event_stays s t c (Update m key bytes flags answer) v a l = update_stays s t m a.1.0 key bytes flags answer v a.1.4 l
 event_stays s t c (Delete m key answer) v a l = delete_stays s t m key answer v a.1.1 l
+event_stays s t c (Keys m ks) v a l = same_stays s t v a.3 l
 event_stays s t c (Load at size found) v a l = same_stays s t v a.1.3 l
 event_stays s t c (Store at size x) v a l = subst (λ (z : Plain). Stays s z v) (sym a.1.2) (l, span-after_write s a.1.0 at _ _ v)
 event_stays s t c (Atomic at size op operand expected found) v a l = subst (λ (z : Plain). Stays s z v) (sym a.1.3) (l, span-after_write s a.1.0 at _ _ v)
@@ -306,6 +307,10 @@ determined s t u c (Delete m key x) (Delete n other y) so p q h =
     let r : PlainlyAllowed s c (Delete m key y) u = subst (λ (z : Event). PlainlyAllowed s c z u) g q in
     let once = deletes_once s t u m key x y p.0.1.1 r.0.1.1 p.1 r.1 in
     (ap (λ (a : MapAnswer). Delete m key a) once.0 ∙ sym g, once.1)
+determined s t u c (Keys m x) (Keys n y) so p q h =
+    let g : Keys n y ≡ Keys m y = cc in
+    let r : PlainlyAllowed s c (Keys m y) u = subst (λ (z : Event). PlainlyAllowed s c z u) g q in
+    (ap (λ (z : List (List ℕ)). Keys m z) (p.0.2 ∙ sym r.0.2) ∙ sym g, p.0.3 ∙ sym r.0.3)
 determined s t u c (Load at size x) (Load at' size' y) so p q h =
     let g : Load at' size' y ≡ Load at size y = cc in
     let r : PlainlyAllowed s c (Load at size y) u = subst (λ (z : Event). PlainlyAllowed s c z u) g q in

@@ -6,6 +6,8 @@ pub mod Leaving
 pub mod Own
 pub mod Refusing
 pub mod OneListing
+pub mod KeyOrder
+pub mod KeyLists
 pub mod Lasting
 pub mod Histories
 pub mod Places

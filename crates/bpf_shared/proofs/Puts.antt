@@ -9,7 +9,7 @@ use Rattle.std.specs.Cmp.Lexicographic.{slice_cmp}
 use Rattle.std.proofs.lemmas.Cmp.{nat_list_cmp_total}
 use Rattle.std.proofs.lemmas.Map.Lookups.{exact_bytes}
 use Rattle.std.specs.FinMap.{get, insert, remove, get-insert, get-remove}
-use Rattle.bpf_shared.specs.Store.{Keys, put}
+use Rattle.bpf_shared.specs.Store.{KeyMap, put}
 
 pub true_or_false : (b : Bool) → (b ≡ true) ⊎ (b ≡ false)
 true_or_false true = inl refl
@@ -62,7 +62,7 @@ is_equal Greater h = cc
 pub same_key : (p q : List ℕ) → eq_by_cmp (slice_cmp nat_cmp) p q ≡ true → p ≡ q
 same_key p q h = exact_bytes p q (is_equal (slice_cmp nat_cmp p q) h)
 
-pub insert_cases : (k : Keys) (key : List ℕ) (n : ℕ) (q : List ℕ) → ((q ≡ key) × (get (insert k key n) q ≡ Some n)) ⊎ (get (insert k key n) q ≡ get k q)
+pub insert_cases : (k : KeyMap) (key : List ℕ) (n : ℕ) (q : List ℕ) → ((q ≡ key) × (get (insert k key n) q ≡ Some n)) ⊎ (get (insert k key n) q ≡ get k q)
 insert_cases k key n q =
     let g = get-insert nat_list_cmp_total k key n q in
     elim (true_or_false (eq_by_cmp (slice_cmp nat_cmp) q key)) [
@@ -70,7 +70,7 @@ insert_cases k key n q =
       | inr h ↦ inr (g ∙ ap (λ (b : Bool). cond b (Some n) (get k q)) h)
     ]
 
-pub remove_cases : (k : Keys) (key : List ℕ) (q : List ℕ) → ((q ≡ key) × (get (remove k key) q ≡ None)) ⊎ (get (remove k key) q ≡ get k q)
+pub remove_cases : (k : KeyMap) (key : List ℕ) (q : List ℕ) → ((q ≡ key) × (get (remove k key) q ≡ None)) ⊎ (get (remove k key) q ≡ get k q)
 remove_cases k key q =
     let g = get-remove nat_list_cmp_total k key q in
     elim (true_or_false (eq_by_cmp (slice_cmp nat_cmp) q key)) [
@@ -78,7 +78,7 @@ remove_cases k key q =
       | inr h ↦ inr (g ∙ ap (λ (b : Bool). cond b None (get k q)) h)
     ]
 
-pub gone_key : (k : Keys) (key : List ℕ) → get (remove k key) key ≡ None
+pub gone_key : (k : KeyMap) (key : List ℕ) → get (remove k key) key ≡ None
 gone_key k key = get-remove nat_list_cmp_total k key key ∙ ap (λ (b : Bool). cond b None (get k key)) (itself key)
   where
     itself : (q : List ℕ) → eq_by_cmp (slice_cmp nat_cmp) q q ≡ true

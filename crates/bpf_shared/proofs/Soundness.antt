@@ -8,7 +8,7 @@ use Rattle.std.specs.Cmp.Lexicographic.{slice_cmp}
 use Rattle.bpf_shared.specs.declared.events.Span.{Span}
 use Rattle.bpf_shared.specs.declared.events.Event.{Event}
 use Rattle.bpf_shared.specs.declared.events.Entry.{Entry}
-use Rattle.bpf_shared.specs.declared.events.Event.TheVariants.{Begin, End, Lookup, Update, Delete, Load, Store, Atomic}
+use Rattle.bpf_shared.specs.declared.events.Event.TheVariants.{Begin, End, Lookup, Update, Delete, Keys, Load, Store, Atomic}
 use Rattle.bpf_shared.specs.declared.events.MapAnswer.{MapAnswer}
 use Rattle.bpf_shared.specs.declared.events.MapAnswer.TheVariants.{Done, Invalid, Busy, Exists, Absent, Full, NoMemory}
 use Rattle.bpf_shared.specs.declared.shapes.MapShape.{MapShape}
@@ -17,7 +17,7 @@ use Rattle.bpf_shared.specs.Shape.{Shape, IsMap, IsApart}
 use Rattle.bpf_base.specs.Bytes.{low_bytes, with_part}
 use Rattle.bpf_base.proofs.Numbers.{length-low_bytes}
 use Rattle.bpf_base.proofs.Parts.{length-with_part}
-use Rattle.bpf_shared.specs.Store.{Keys, Value, Plain, put, never, as_made, Finds, IsInMap, IsLive}
+use Rattle.bpf_shared.specs.Store.{KeyMap, Value, Plain, put, never, as_made, Finds, IsInMap, IsLive}
 use Rattle.bpf_shared.specs.Events.{after_begin, after_end, after_lookup, has_key, refusals, kept_after, after_update, Updates, after_delete, Deletes, Reaches, after_write, Allowed}
 use Rattle.bpf_shared.specs.History.{Legal, PlainlyLegal}
 use Rattle.bpf_shared.specs.Sound.{IsSoundStore}
@@ -149,25 +149,25 @@ kept_from s (Some v) c w h = go (s.running c) h
     go false k = inr k
 
 -- ---- a map changed at one key
-module _ (s : Plain) (m : ℕ) (key : List ℕ) (new : Keys) where
+module _ (s : Plain) (m : ℕ) (key : List ℕ) (new : KeyMap) where
   -- a value stays in its map, or it is the one that left
   stays : ((q : List ℕ) → (q ≡ key) ⊎ (get new q ≡ get (s.maps m) q)) → (d : ℕ) (q : List ℕ) (v : ℕ) → Finds s d q v → (get (put s.maps m new d) q ≡ Some v) ⊎ (get (s.maps m) key ≡ Some v)
   stays same d q v h = elim (put_cases s.maps m d new) [
-    | inr k ↦ inl (ap (λ (x : Keys). get x q) k.1 ∙ h)
+    | inr k ↦ inl (ap (λ (x : KeyMap). get x q) k.1 ∙ h)
     | inl k ↦
         let there : get (s.maps m) q ≡ Some v = ap (λ (x : ℕ). get (s.maps x) q) (sym k.0) ∙ h in
         elim (same q) [
           | inl e ↦ inr (ap (get (s.maps m)) (sym e) ∙ there)
-          | inr e ↦ inl (ap (λ (x : Keys). get x q) k.1 ∙ (e ∙ there))
+          | inr e ↦ inl (ap (λ (x : KeyMap). get x q) k.1 ∙ (e ∙ there))
         ]
   ]
 
   -- and a value that is in it was there, or is what the key leads to now
   was : (o : Option ℕ) → ((q : List ℕ) → (get new q ≡ o) ⊎ (get new q ≡ get (s.maps m) q)) → (d : ℕ) (q : List ℕ) (v : ℕ) → get (put s.maps m new d) q ≡ Some v → (o ≡ Some v) ⊎ Finds s d q v
   was o same d q v h = elim (put_cases s.maps m d new) [
-    | inr k ↦ inr (sym (ap (λ (x : Keys). get x q) k.1) ∙ h)
+    | inr k ↦ inr (sym (ap (λ (x : KeyMap). get x q) k.1) ∙ h)
     | inl k ↦
-        let there : get new q ≡ Some v = sym (ap (λ (x : Keys). get x q) k.1) ∙ h in
+        let there : get new q ≡ Some v = sym (ap (λ (x : KeyMap). get x q) k.1) ∙ h in
         elim (same q) [
           | inl e ↦ inl (sym e ∙ there)
           | inr e ↦ inr (ap (λ (x : ℕ). get (s.maps x) q) k.0 ∙ (sym e ∙ there))
@@ -206,8 +206,8 @@ module _ (s : Plain) (m : ℕ) (key : List ℕ) (so : IsSoundStore s) where
     ];
     idle = λ c r w. ((so.idle c r w).0, kept_idle s (get (s.maps m) key) c w r (so.idle c r w).1);
     keys = λ d h is. elim (put_cases s.maps m d (remove (s.maps m) key)) [
-      | inl k ↦ subst (λ (x : Keys). len x ≤ h.max) (sym k.1) (fewer h (subst (λ (x : ℕ). IsMap s.shape.maps x h) k.0 is))
-      | inr k ↦ subst (λ (x : Keys). len x ≤ h.max) (sym k.1) (so.keys d h is)
+      | inl k ↦ subst (λ (x : KeyMap). len x ≤ h.max) (sym k.1) (fewer h (subst (λ (x : ℕ). IsMap s.shape.maps x h) k.0 is))
+      | inr k ↦ subst (λ (x : KeyMap). len x ≤ h.max) (sym k.1) (so.keys d h is)
     ];
     sizes = so.sizes;
     live_made = λ w l. so.live_made w (after_delete_live w l);
@@ -240,8 +240,8 @@ module _ (s : Plain) (m : ℕ) (key : List ℕ) (so : IsSoundStore s) where
     pub after_update_sound : ((v : ℕ) → IsLive s v → IsApart x.span (s.value v).span) → length x.bytes ≡ x.span.size → ((h : MapShape) → IsMap s.shape.maps m h → is_some (get (s.maps m) key) ≡ false → len (s.maps m) < h.max) → IsSoundStore (after_update s m key x)
     after_update_sound free size room = record {
       keys = λ d h is. elim (put_cases s.maps m d (insert (s.maps m) key s.made)) [
-        | inl k ↦ (let here = subst (λ (z : ℕ). IsMap s.shape.maps z h) k.0 is in subst (λ (z : Keys). len z ≤ h.max) (sym k.1) (more h (room h here) (so.keys m h here)))
-        | inr k ↦ subst (λ (z : Keys). len z ≤ h.max) (sym k.1) (so.keys d h is)
+        | inl k ↦ (let here = subst (λ (z : ℕ). IsMap s.shape.maps z h) k.0 is in subst (λ (z : KeyMap). len z ≤ h.max) (sym k.1) (more h (room h here) (so.keys m h here)))
+        | inr k ↦ subst (λ (z : KeyMap). len z ≤ h.max) (sym k.1) (so.keys d h is)
       ];
       sizes = λ v l. elim (put_cases s.value s.made v x) [
         | inl k ↦ subst (λ (y : Value). length y.bytes ≡ y.span.size) (sym k.1) size
@@ -345,6 +345,7 @@ allowed_sound s t c End so a = subst IsSoundStore (sym a.1) (after_end_sound s c
 allowed_sound s t c (Lookup m key found) so a = subst IsSoundStore (sym a.1.2) (after_lookup_sound s c m key (get (s.maps m) key) refl a.0 so)
 allowed_sound s t c (Update m key bytes flags answer) so a = updates_sound s t m a.1.0 key bytes flags answer so a.1.1 a.1.3 a.1.4
 allowed_sound s t c (Delete m key answer) so a = deletes_sound s t m key answer so a.1.1
+allowed_sound s t c (Keys m ks) so a = subst IsSoundStore (sym a.3) so
 allowed_sound s t c (Load at size found) so a = subst IsSoundStore (sym a.1.3) so
 allowed_sound s t c (Store at size x) so a = subst IsSoundStore (sym a.1.2) (after_write_sound s c a.1.0 at _ x so a.1.1)
 allowed_sound s t c (Atomic at size op operand expected found) so a = subst IsSoundStore (sym a.1.3) (after_write_sound s c a.1.0 at _ _ so a.1.1)

@@ -12,5 +12,7 @@ pub mod Sound
 pub mod Laws
 pub mod Lasting
 pub mod Listing
+pub mod KeyOrder
 pub mod Own
 pub mod Diagnostic
+pub mod Private

@@ -7,8 +7,8 @@ use Rattle.bpf_shared.specs.declared.events.Span.{Span}
 use Rattle.bpf_shared.specs.Shape.{Shape}
 
 -- a finite map from keys, which are lists of bytes, to value numbers
-abbrev pub Keys : Type 0
-Keys = FinMap (slice_cmp nat_cmp) ℕ
+abbrev pub KeyMap : Type 0
+KeyMap = FinMap (slice_cmp nat_cmp) ℕ
 
 -- a value: its bytes, and where it lies
 pub record Value : Type 0 where
@@ -18,7 +18,7 @@ pub record Value : Type 0 where
 pub record Plain : Type 0 where
   pub shape : Shape
   -- of each map, by its number
-  pub maps : ℕ → Keys
+  pub maps : ℕ → KeyMap
   -- how many values were made; they have the numbers below it, and none is ever removed
   pub made : ℕ
   pub value : ℕ → Value

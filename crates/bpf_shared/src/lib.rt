@@ -4,10 +4,12 @@
 
 pub mod bytes;
 mod events;
+mod key_list;
 pub mod laws;
 mod shapes;
 mod sharing;
 
 pub use events::{AtomicOp, Entry, Event, MapAnswer, Size, Span, ValuePlace};
+pub use key_list::KeyList;
 pub use shapes::{FIRST_VALUE, MAP_AREA, MapShape, ShapeError, StoreShape};
 pub use sharing::{Shared, Worn};

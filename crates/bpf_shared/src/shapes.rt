@@ -12,7 +12,7 @@ pub const FIRST_VALUE: u64 = 0x10_0000_0000;
 /// From a map's first value to that of the next map.
 pub const MAP_AREA: u64 = 0x1000_0000;
 
-/// The sizes of a map in bytes and elements, and the mask of its keys' hashes.
+/// The sizes of a map in bytes and elements, the mask of its keys' hashes, and whether it grows.
 #[derive(Clone, Copy, PartialEq, Eq, Debug)]
 pub struct MapShape {
     pub key: u64,
@@ -20,6 +20,9 @@ pub struct MapShape {
     pub max: u64,
     pub spare: u64,
     pub mask: u32,
+    /// Whether the map begins with one segment and splits as it fills. A plain store takes no
+    /// notice.
+    pub grow: bool,
 }
 
 /// Why no store has this shape. Maps go by their numbers, from 0 on.

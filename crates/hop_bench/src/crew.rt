@@ -24,6 +24,7 @@ fn new_ports(alloc: Global, plan: Plan) -> Result<(HopTable, Vec<HopPort>)>
         max: plan.max,
         spare: plan.spare,
         mask: 0xffff_ffff,
+        grow: false,
     };
     let shape = StoreShape::new(plan.threads, vec![in alloc; map]?)?;
     Ok(HopStore::new(alloc, shape, 0)?.ports())

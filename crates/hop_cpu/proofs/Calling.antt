@@ -54,9 +54,9 @@ module _ (t : Shown) (p q : Port) (c : ℕ) (e : Event) (d : PortDoes t.about p 
   serves_same : serves (with_port t q) ≡ serves (with_port t p)
   serves_same = λ i b. b == d.cpu i
 
-  -- the CPU's run goes on
-  runs_on : runs p ≡ true → runs q ≡ true → running (with_port t q) ≡ running (with_port t p)
-  runs_on before after = λ i b. (b == d.cpu i) && (after ∙ sym before) i
+  -- the CPU is in a run where it was
+  runs_on : runs q ≡ runs p → running (with_port t q) ≡ running (with_port t p)
+  runs_on still = λ i b. (b == d.cpu i) && still i
 
   -- what is held after the event
   held_after : port_holds q ≡ held_since (port_holds p) e
@@ -120,10 +120,14 @@ module _ (x : Serving) (t : Shown) (p : Port) (is : with_port t p ≡ x) (c : �
     pub called : CallNotes t.about e p.known q.known → Calls (ExtendsHistory x (with_port t q)) (serves x) c e
     called notes = subst (λ (z : Serving). Calls (ExtendsHistory z (with_port t q)) (serves z) c e) is (calls t p q c e d notes own)
 
+    -- an event in a run or out of one, which stays as it is
+    pub still : runs q ≡ runs p → (t.about.shape.maps ≡ x.table.about.shape.maps) × (serves (with_port t q) ≡ serves x) × (running (with_port t q) ≡ running x)
+    still on = subst (λ (z : Serving). (t.about.shape.maps ≡ z.table.about.shape.maps) × (serves (with_port t q) ≡ serves z) × (running (with_port t q) ≡ running z)) is
+        (refl, serves_same t p q c e d, runs_on t p q c e d on)
+
     -- an event in a run, which goes on
     pub same : running x c ≡ true → runs q ≡ true → (t.about.shape.maps ≡ x.table.about.shape.maps) × (serves (with_port t q) ≡ serves x) × (running (with_port t q) ≡ running x)
-    same before after = subst (λ (z : Serving). (t.about.shape.maps ≡ z.table.about.shape.maps) × (serves (with_port t q) ≡ serves z) × (running (with_port t q) ≡ running z)) is
-        (refl, serves_same t p q c e d, runs_on t p q c e d (is_running true before) after)
+    same before after = still (after ∙ sym (is_running true before))
 
     pub same_held : held_since (port_holds p) e ≡ port_holds p → serves_span (with_port t q) ≡ serves_span x
     same_held k = subst (λ (z : Serving). serves_span (with_port t q) ≡ serves_span z) is (holds_on t p q c e d k)

@@ -2,7 +2,7 @@
 ghost use Rattle.std.specs.Prelude.{◌≡◌};
 ghost use Rattle.hop_map.specs.Port.{IsPortOf};
 
-use bpf_shared::{AtomicOp, MapAnswer, MapShape, Shared, Size, Span, ValuePlace, Worn};
+use bpf_shared::{AtomicOp, KeyList, MapAnswer, MapShape, Shared, Size, Span, ValuePlace, Worn};
 use hop_map::HopPort;
 use hop_words::HopTable;
 use std::marker::Model;
@@ -91,6 +91,10 @@ impl<R: Wait> Shared for HopCpu<'_, R> {
 
     fn delete(&mut self, _cpu: u8, map: u8, key: &[u8]) -> MapAnswer {
         self.port.delete(self.rt, self.table, map, key)
+    }
+
+    fn keys(&mut self, _cpu: u8, map: u8, list: &mut KeyList) {
+        self.port.keys(self.rt, self.table, map, list);
     }
 
     fn value_load(&mut self, _cpu: u8, at: ValuePlace, size: Size) -> u64 {

@@ -96,7 +96,7 @@ map_layout g = several (line
     ∷ [])
 
 abbrev pub no_map : MapShape
-no_map = record { key = 0; value = 0; max = 0; spare = 0; mask = 0 }
+no_map = record { key = 0; value = 0; max = 0; spare = 0; mask = 0; grow = false }
 
 abbrev pub map_shape : Shape → ℕ → MapShape
 map_shape h m = slice_index_or h.maps m no_map

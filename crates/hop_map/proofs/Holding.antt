@@ -4,7 +4,7 @@ use Rattle.std.proofs.lemmas.Bool.Decides.{nat_tests}
 use Rattle.atomic_table.specs.Seated.{TableId}
 use Rattle.bpf_shared.specs.declared.events.Span.{Span}
 use Rattle.bpf_shared.specs.declared.events.Event.{Event}
-use Rattle.bpf_shared.specs.declared.events.Event.TheVariants.{Begin, End, Lookup, Update, Delete, Load, Store, Atomic}
+use Rattle.bpf_shared.specs.declared.events.Event.TheVariants.{Begin, End, Lookup, Update, Delete, Keys, Load, Store, Atomic}
 use Rattle.bpf_shared.specs.declared.shapes.MapShape.{MapShape}
 use Rattle.bpf_shared.specs.Shape.{IsElementSpan, element_span, elements, Covers}
 use Rattle.bpf_shared.specs.History.{events_of}
@@ -48,6 +48,7 @@ held_among f ps (Lookup m key None ∷ es) all = held_among f ps es all
 held_among f ps (Lookup m key (Some q) ∷ es) all = held_among (λ p. same_span p q || f p) (q ∷ ps) es (λ p h. elim (or_cases (same_span p q) (f p) h) [ inl k ↦ inl (same_spans p q k) | inr k ↦ inr (all p k) ])
 held_among f ps (Update m key b g r ∷ es) all = held_among f ps es all
 held_among f ps (Delete m key r ∷ es) all = held_among f ps es all
+held_among f ps (Keys m ks ∷ es) all = held_among f ps es all
 held_among f ps (Load at z n ∷ es) all = held_among f ps es all
 held_among f ps (Store at z n ∷ es) all = held_among f ps es all
 held_among f ps (Atomic at z o n m r ∷ es) all = held_among f ps es all

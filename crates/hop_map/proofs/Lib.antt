@@ -28,3 +28,5 @@ pub mod Holding
 pub mod Taken
 pub mod Disturbing
 pub mod Dumps
+pub mod Gathering
+pub mod Adding

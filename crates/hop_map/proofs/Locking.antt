@@ -1,16 +1,18 @@
 -- What the lock tells is what the code of a segment needs.
-use Rattle.std.proofs.Common.{true≢false, ◌≡◌, ℕ, ◌<◌, ◌≤◌, Bool, true, false, ◌||◌, ◌==◌, List, [], refl, ap, sym, subst, ◌∙◌, inl, inr}
+use Rattle.std.proofs.Common.{true≢false, ◌≡◌, ℕ, ◌<◌, ◌≤◌, Bool, true, false, ◌||◌, ◌==◌, List, [], ◌∷◌, refl, ap, sym, subst, ◌∙◌, inl, inr}
 use Rattle.atomic_table.specs.Seated.{TableId}
 use Rattle.bpf_shared.specs.Shape.{elements}
 use Rattle.hop_layout.specs.declared.about.About.{About}
 use Rattle.hop_words.specs.declared.known.Known.{Known}
 use Rattle.hop_words.specs.declared.known.Fresh.{Fresh}
+use Rattle.hop_words.specs.declared.known.Lock.{Lock}
 use Rattle.hop_words.specs.Content.{MapWords, HasKey}
 use Rattle.hop_words.specs.Ghost.{shape_at, IsSegment, Each}
 use Rattle.hop_words.specs.Rule.{image, StartsWith}
-use Rattle.hop_words.specs.Kinds.{has, MayLink, LocksSegment, locking, TakesEffect, with_gone}
+use Rattle.hop_words.specs.Kinds.{has, MayLink, LocksSegment, locking, AreElsewhere, unlocking, TakesEffect, with_gone}
 use Rattle.hop_layout.proofs.Layouts.{one, both}
-use Rattle.hop_words.specs.Locking.{lock_of, hand}
+use Rattle.hop_words.specs.Locking.{lock_of, other_locks, unlocking_last, hand}
+use Rattle.hop_words.specs.Owning.{tail_of}
 use Rattle.hop_map.specs.LockedSegment.{Fits, Locked, Ready, knows, in_hand}
 use Rattle.hop_map.specs.Private.UnderLock.{LockShows}
 use Rattle.bpf_shared.specs.declared.events.Event.TheVariants.{Update, Delete}
@@ -73,20 +75,20 @@ module _ (a : About) (l : Known) (m s n : ℕ) (at_s : IsSegment a m s) (l2 : Kn
         go true h = linked e h
         go false h = mine e (subst (λ (b : Bool). (b || (false || in_hand l.fresh m e)) ≡ true) h k)
 
-    pub ready_with : Ready a l2 m s
-    ready_with = subst (λ (l : Known). Ready a l m s) (sym t.after) (record { held = refl; map = refl; segment = refl; inside = at_s; sized = t.sized; known_is = locked_known })
+    pub ready_with : l.locks ≡ [] → Ready a l2 m s
+    ready_with idle = subst (λ (l : Known). Ready a l m s) (sym t.after) (record { held = ap (λ (ks : List Lock). lock_of locked ∷ ks) idle; map = refl; segment = refl; inside = at_s; sized = t.sized; known_is = locked_known })
 
 -- no element is in hand
-pub empty_ready : (a : About) (l : Known) (m s n : ℕ) (at_s : IsSegment a m s) (l2 : Known) (t : LocksSegment a l m s n l2) → l.fresh ≡ [] → Ready a l2 m s
-empty_ready a l m s n at_s l2 t none = ready_with a l m s n at_s l2 t (λ e k.
+pub empty_ready : (a : About) (l : Known) (m s n : ℕ) (at_s : IsSegment a m s) (l2 : Known) (t : LocksSegment a l m s n l2) → l.fresh ≡ [] → l.locks ≡ [] → Ready a l2 m s
+empty_ready a l m s n at_s l2 t none idle = ready_with a l m s n at_s l2 t (λ e k.
     let z : false ≡ true = subst (λ (fs : List Fresh). in_hand fs m e ≡ true) none k in
-    absurd (true≢false (sym z)))
+    absurd (true≢false (sym z))) idle
 
 -- so with it the words of the segment fit the table
-pub empty_fits : (id standing : TableId) (a : About) (l : Known) (m s n key_size count : ℕ) (at_s : IsSegment a m s) (l2 : Known) (t : LocksSegment a l m s n l2) → l.fresh ≡ [] → standing ≡ id
+pub empty_fits : (id standing : TableId) (a : About) (l : Known) (m s n key_size count : ℕ) (at_s : IsSegment a m s) (l2 : Known) (t : LocksSegment a l m s n l2) → l.fresh ≡ [] → l.locks ≡ [] → standing ≡ id
     → key_size ≡ (shape_at a m).key → key_size ≤ 64 → count ≡ elements (shape_at a m) → Fits id a standing l2 m s key_size count
-empty_fits id standing a l m s n key_size count at_s l2 t none seated keyed small counted =
-    record { seated = seated; keyed = keyed; small = small; counted = counted; ready = empty_ready a l m s n at_s l2 t none }
+empty_fits id standing a l m s n key_size count at_s l2 t none idle seated keyed small counted =
+    record { seated = seated; keyed = keyed; small = small; counted = counted; ready = empty_ready a l m s n at_s l2 t none idle }
 
 module _ (a : About) (l : Known) (m s n : ℕ) (at_s : IsSegment a m s) (key : List ℕ) (element : ℕ) (c : CarriesKey a l m key element) (l2 : Known) (t : LocksSegment a l m s n l2) where
   abbrev y : MapWords
@@ -105,7 +107,7 @@ module _ (a : About) (l : Known) (m s n : ℕ) (at_s : IsSegment a m s) (key : L
         (key, subst (λ (i : ℕ). HasKey (shape_at a m) y m i key) same own_key),
       )
 
-  pub locked_ready : Ready a l2 m s
+  pub locked_ready : l.locks ≡ [] → Ready a l2 m s
   locked_ready = ready_with a l m s n at_s l2 t mine
 
 -- ---- an update
@@ -169,3 +171,13 @@ module _ (a : About) (l : Known) (m s n : ℕ) (key : List ℕ) (l2 : Known) (t 
     )
     delete_before Missing l3 p = kept_before Absent l3 p
     delete_before Worn l3 p = (kept_before Busy l3 p.0, p.1)
+
+-- ---- the one lock is the last
+pub alone_last : (l : Known) → l.locks ≡ lock_of l ∷ [] → l.locks ≡ lock_of l ∷ other_locks l
+alone_last l h = h ∙ ap (λ (ks : List Lock). lock_of l ∷ tail_of ks) (sym h)
+
+pub alone_else : (l : Known) → l.locks ≡ lock_of l ∷ [] → AreElsewhere (lock_of l) (other_locks l)
+alone_else l h = subst (AreElsewhere (lock_of l)) (sym (ap (λ (ks : List Lock). tail_of ks) h)) tt
+
+pub alone_given : (l : Known) → l.locks ≡ lock_of l ∷ [] → unlocking_last l ≡ unlocking l
+alone_given l h = ap (λ (ks : List Lock). record l { locks = tail_of ks }) h

@@ -5,7 +5,7 @@ use Rattle.std.proofs.lemmas.Bool.Decides.{nat_tests}
 use Rattle.atomic_table.specs.Seated.{TableId}
 use Rattle.bpf_shared.specs.declared.sharing.Worn.{Worn}
 use Rattle.bpf_shared.specs.declared.events.Event.{Event}
-use Rattle.bpf_shared.specs.declared.events.Event.TheVariants.{Begin, End, Lookup}
+use Rattle.bpf_shared.specs.declared.events.Event.TheVariants.{Begin, End, Lookup, Keys}
 use Rattle.bpf_shared.specs.History.{IsLegal, events_of, entry}
 use Rattle.bpf_shared.proofs.Chains.{events_of-append, events_of-own, turns_of-append}
 use Rattle.hop_layout.specs.declared.about.About.{About}
@@ -28,6 +28,7 @@ use Rattle.hop_arena.specs.Claiming.{IsArena}
 use Rattle.hop_map.specs.Call.{Searches, AreBatchesOf, IsOneCall, IsReclaimed}
 use Rattle.hop_map.specs.Finding.{Looked}
 use Rattle.hop_map.specs.Noting.{CallNotes}
+use Rattle.hop_map.specs.Private.Listing.{Listed}
 use Rattle.bpf_shared.specs.Shape.{IsElementSpan}
 use Rattle.hop_map.proofs.Spans.{last_found_lies}
 use Rattle.hop_map.specs.Port.{AreArenas, arena_at, no_arena, Port, AreBatches, IsPortOf, runs, batches_at, no_batches}
@@ -293,3 +294,12 @@ reclaimed_more n before l l' keeps all here m inside = by_equal m n
 
 pub ended_reclaimed : (t : Shown) (p : Port) (ended l : Known) (m : ℕ) → Told t.about p.known End ended → IsReclaimed m ended.tally l → IsReclaimed m p.known.tally l
 ended_reclaimed t p ended l m told is = subst (λ (z : List Sight). IsReclaimed m z l) (ap (λ (k : Known). k.tally) told.after) is
+
+-- a listing turns no run
+pub listed_fits : (t : Shown) (p : Port) (z : TableId) (l : Known) (m : ℕ) (keys : List (List ℕ)) → IsPortOf t p → z ≡ p.table → Listed t.about p.known m keys l → IsPortOf t (record { table = z; known = l; arenas = p.arenas; batches = p.batches })
+listed_fits t p z l m keys fits table e = moved t p z l fits table (ap (λ (k : Known). k.cpu) e.after) (ap (λ (k : Known). k.limbo) e.after) (room_stays t.about p.known l (Keys m keys) e.seen (ap (λ (k : Known). k.cpu) e.after) refl fits.room) e.seen.legal
+
+pub listed_runs : (a : About) (l l' : Known) (m : ℕ) (keys : List (List ℕ)) → Listed a l m keys l' → in_run (events_of l'.cpu l'.seen) ≡ in_run (events_of l.cpu l.seen)
+listed_runs a l l' m keys e =
+    let t = turned a l l' (Keys m keys) e.seen (ap (λ (k : Known). k.cpu) e.after) in
+    ap (λ (n : ℕ). n % 2 == 1) (let same : turns_of (events_of l'.cpu l'.seen) ≡ turns_of (events_of l.cpu l.seen) = omega arith in same)

@@ -6,13 +6,13 @@ use Rattle.std.specs.Ordering.{nat_cmp}
 use Rattle.std.specs.Cmp.Lexicographic.{slice_cmp}
 use Rattle.bpf_shared.specs.declared.events.Span.{Span}
 use Rattle.bpf_shared.specs.declared.events.Event.{Event}
-use Rattle.bpf_shared.specs.declared.events.Event.TheVariants.{Begin, End, Lookup, Update, Delete, Load, Store, Atomic}
+use Rattle.bpf_shared.specs.declared.events.Event.TheVariants.{Begin, End, Lookup, Update, Delete, Keys, Load, Store, Atomic}
 use Rattle.bpf_shared.specs.declared.events.MapAnswer.{MapAnswer}
 use Rattle.bpf_shared.specs.declared.events.MapAnswer.TheVariants.{Done, Invalid, Busy, Exists, Absent, Full, NoMemory}
 use Rattle.bpf_shared.specs.declared.events.Entry.{Entry}
 use Rattle.bpf_shared.specs.declared.shapes.MapShape.{MapShape}
 use Rattle.bpf_shared.specs.Shape.{Shape, IsMap, IsShape, IsElementSpan, IsValueSpan}
-use Rattle.bpf_shared.specs.Store.{Keys, Value, Plain, as_made, Finds, put}
+use Rattle.bpf_shared.specs.Store.{KeyMap, Value, Plain, as_made, Finds, put}
 use Rattle.bpf_shared.specs.Events.{Allowed, Updates, Deletes, after_write, after_lookup, span_of}
 use Rattle.bpf_shared.specs.History.{Legal, IsLegal, events_of, entry}
 use Rattle.bpf_shared.specs.Sound.{IsSoundStore}
@@ -48,9 +48,9 @@ update_lies maps s t m h key bytes flags Done so l is u = subst (Lies maps) (sym
 
     found : (n : ℕ) (q : List ℕ) (v : ℕ) → get (put s.maps m (insert (s.maps m) key s.made) n) q ≡ Some v → IsElementSpan maps n (put s.value s.made x v).span
     found n q v f = elim (put_cases s.maps m n (insert (s.maps m) key s.made)) [
-      | inr k ↦ old n q v (sym (ap (λ (z : Keys). get z q) k.1) ∙ f)
+      | inr k ↦ old n q v (sym (ap (λ (z : KeyMap). get z q) k.1) ∙ f)
       | inl k ↦ elim (insert_cases (s.maps m) key s.made q) [
-        | inl i ↦ (let made : Some v ≡ Some s.made = sym f ∙ (ap (λ (z : Keys). get z q) k.1 ∙ i.1) in
+        | inl i ↦ (let made : Some v ≡ Some s.made = sym f ∙ (ap (λ (z : KeyMap). get z q) k.1 ∙ i.1) in
             let e : v ≡ s.made = cc in
             subst (λ (j : ℕ). IsElementSpan maps j (put s.value s.made x v).span) (sym k.0)
             (elim (put_cases s.value s.made v x) [
@@ -58,7 +58,7 @@ update_lies maps s t m h key bytes flags Done so l is u = subst (Lies maps) (sym
               | inr p ↦ absurd (p.0 e)
             ]))
         | inr i ↦ subst (λ (j : ℕ). IsElementSpan maps j (put s.value s.made x v).span) (sym k.0)
-            (old m q v (sym i ∙ (sym (ap (λ (z : Keys). get z q) k.1) ∙ f)))
+            (old m q v (sym i ∙ (sym (ap (λ (z : KeyMap). get z q) k.1) ∙ f)))
       ]
     ]
 update_lies maps s t m h key bytes flags Invalid so l is u = same_lies maps s t u.1 l
@@ -73,11 +73,11 @@ delete_lies maps s t m key Done l u = subst (Lies maps) (sym u.1) (record { shap
   where
     found : (n : ℕ) (q : List ℕ) (v : ℕ) → get (put s.maps m (remove (s.maps m) key) n) q ≡ Some v → IsElementSpan maps n (s.value v).span
     found n q v f = elim (put_cases s.maps m n (remove (s.maps m) key)) [
-      | inr k ↦ l.each n q v (sym (ap (λ (z : Keys). get z q) k.1) ∙ f)
+      | inr k ↦ l.each n q v (sym (ap (λ (z : KeyMap). get z q) k.1) ∙ f)
       | inl k ↦ elim (remove_cases (s.maps m) key q) [
-        | inl i ↦ (let none : None ≡ Some v = sym i.1 ∙ (sym (ap (λ (z : Keys). get z q) k.1) ∙ f) in cc)
+        | inl i ↦ (let none : None ≡ Some v = sym i.1 ∙ (sym (ap (λ (z : KeyMap). get z q) k.1) ∙ f) in cc)
         | inr i ↦ subst (λ (j : ℕ). IsElementSpan maps j (s.value v).span) (sym k.0)
-            (l.each m q v (sym i ∙ (sym (ap (λ (z : Keys). get z q) k.1) ∙ f)))
+            (l.each m q v (sym i ∙ (sym (ap (λ (z : KeyMap). get z q) k.1) ∙ f)))
       ]
     ]
 delete_lies maps s t m key Busy l u = same_lies maps s t u l
@@ -103,6 +103,7 @@ event_lies maps s t c End so l a = subst (Lies maps) (sym a.1) (record { shape =
 event_lies maps s t c (Lookup m key answer) so l a = subst (Lies maps) (sym a.1.2) (looked_lies maps s c (get (s.maps m) key) l)
 event_lies maps s t c (Update m key bytes flags answer) so l a = update_lies maps s t m a.1.0 key bytes flags answer so l a.1.1 a.1.4
 event_lies maps s t c (Delete m key answer) so l a = delete_lies maps s t m key answer l a.1.1
+event_lies maps s t c (Keys m ks) so l a = subst (Lies maps) (sym a.3) l
 event_lies maps s t c (Load at size found) so l a = same_lies maps s t a.1.3 l
 event_lies maps s t c (Store at size x) so l a = subst (Lies maps) (sym a.1.2) (write_lies maps s a.1.0 at _ _ l)
 event_lies maps s t c (Atomic at size op operand expected found) so l a = subst (Lies maps) (sym a.1.3) (write_lies maps s a.1.0 at _ _ l)
@@ -169,6 +170,7 @@ since_lie maps s t c (Lookup m key (Some p)) f l a g = λ q h. elim (either (sam
 ]
 since_lie maps s t c (Update m key bytes flags answer) f l a g = g
 since_lie maps s t c (Delete m key answer) f l a g = g
+since_lie maps s t c (Keys m ks) f l a g = g
 since_lie maps s t c (Load at size found) f l a g = g
 since_lie maps s t c (Store at size x) f l a g = g
 since_lie maps s t c (Atomic at size op operand expected found) f l a g = g

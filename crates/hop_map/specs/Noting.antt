@@ -1,14 +1,15 @@
 -- What a CPU notes at a whole call.
-use Rattle.std.specs.Prelude.{◌≡◌, ℕ, ◌-◌, ◌/◌, ◌^◌, ◌<◌, ◌≤◌, List, [], ◌∷◌, ◌++◌}
+use Rattle.std.specs.Prelude.{◌≡◌, ℕ, zero, suc, ◌-◌, ◌/◌, ◌^◌, ◌<◌, ◌≤◌, List, [], ◌∷◌, ◌++◌}
 use Rattle.bpf_shared.specs.declared.events.Event.{Event}
-use Rattle.bpf_shared.specs.declared.events.Event.TheVariants.{End, Lookup, Update, Delete}
+use Rattle.bpf_shared.specs.declared.events.Event.TheVariants.{End, Lookup, Update, Delete, Keys}
 use Rattle.bpf_shared.specs.declared.events.MapAnswer.{MapAnswer}
 use Rattle.bpf_shared.specs.declared.events.MapAnswer.TheVariants.{Busy}
 use Rattle.hop_layout.specs.declared.about.About.{About}
 use Rattle.hop_words.specs.declared.known.Known.{Known}
 use Rattle.hop_words.specs.declared.known.Sight.{Sight}
 use Rattle.hop_words.specs.Sights.{LeavesLocks, lock_taken}
-use Rattle.hop_words.specs.Ghost.{segment_in, Each}
+use Rattle.hop_layout.specs.Layout.{segments}
+use Rattle.hop_words.specs.Ghost.{segment_in, shape_at, Each}
 use Rattle.hop_map.specs.Finding.{IsSparing}
 
 -- the answer is Busy where the stamp has the last version, and nowhere else: so Busy comes before
@@ -27,14 +28,22 @@ pub record IsUnderLock (m s : ℕ) (answer : MapAnswer) (sights : List Sight) : 
   pub only : Each LeavesLocks later × Each LeavesLocks sooner
   pub order : BusyFirst stamp answer
 
+-- the locks of the segments below n were taken, each once and by rising number
+abbrev pub TakesLocks : ℕ → ℕ → List Sight → Type 0
+TakesLocks m zero sights = sights ≡ []
+TakesLocks m (suc n) sights = (stamp : ℕ) × (sooner : List Sight)
+    × (sights ≡ lock_taken m n stamp ∷ sooner) × TakesLocks m n sooner
+
 -- what a call with this event may note, the last first. An update with flags that are none of those
--- known notes nothing, nor does a beginning, or an access to a value; an end takes no lock
+-- known notes nothing, nor does a beginning, or an access to a value; an end takes no lock, a listing those of all
+-- segments of the map
 abbrev pub MayNote : About → Event → List Sight → Type 0
 MayNote a (Lookup m key found) sights = IsSparing m (segment_in a m key) sights
 MayNote a (Update m key bytes flags answer) sights =
     (flags ≤ 2 → IsUnderLock m (segment_in a m key) answer sights)
     × (2 < flags → sights ≡ [])
 MayNote a (Delete m key answer) sights = IsUnderLock m (segment_in a m key) answer sights
+MayNote a (Keys m ks) sights = TakesLocks m (segments (shape_at a m)) sights
 MayNote a End sights = Each LeavesLocks sights
 MayNote a event sights = sights ≡ []
 

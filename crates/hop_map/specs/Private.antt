@@ -3,6 +3,7 @@ pub mod Accesses
 pub mod UnderLock
 pub mod Dumping
 pub mod Finding
+pub mod Listing
 pub mod Locks
 pub mod Replacing
 pub mod Peeks

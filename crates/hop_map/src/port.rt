@@ -1,6 +1,6 @@
 //! A port: the right of one CPU to call the store.
-ghost use Rattle.std.specs.Prelude.{ℕ, ◌≡◌, ◌-◌, ◌^◌, true, false, OnOk, OnErr, length, slice_get, IfSome, ◌<◌};
-ghost use Rattle.bpf_shared.specs.declared.events.Event.TheVariants.{Begin, End, Lookup, Update, Delete};
+ghost use Rattle.std.specs.Prelude.{ℕ, ◌≡◌, ◌-◌, ◌^◌, true, false, OnOk, OnErr, Some, length, slice_get, IfSome, ◌<◌};
+ghost use Rattle.bpf_shared.specs.declared.events.Event.TheVariants.{Begin, End, Lookup, Update, Delete, Keys};
 ghost use Rattle.bpf_shared.specs.Shape.{IsMapShape, IsKeyOf, IsPairOf, IsElementSpan, IsValueSpan};
 ghost use Rattle.hop_words.specs.Kinds.{run_count};
 ghost use Rattle.hop_map.specs.Call.{IsShortage, IsReclaimed};
@@ -10,9 +10,10 @@ ghost use Rattle.hop_map.specs.Port.{IsPortOf, PortDoes, runs};
 
 use crate::deleting::delete;
 use crate::finding::{find_locked, find_once, lookup};
+use crate::listing::list_keys;
 use crate::once::Once;
 use crate::updating::update;
-use bpf_shared::{MapAnswer, MapShape, Span, Worn};
+use bpf_shared::{KeyList, MapAnswer, MapShape, Span, Worn};
 use hop_arena::Arena;
 use hop_epoch::{Batches, begin_run, end_run};
 use hop_words::{HopTable, Lane};
@@ -127,6 +128,26 @@ impl HopPort {
         let (lane, found) = find_locked(rt, table, lane, map, key);
         self.lane = Some(lane);
         found
+    }
+
+    /// The keys of a map in the order of their bytes, listed as one step. The CPU may be in a run or
+    /// not. It takes the lock of each segment of the map, and waits for them. The list is one that
+    /// was made for the map's shape.
+    pub fn keys<R: Wait>(&mut self, rt: &R, table: &HopTable, map: u8, list: &mut KeyList)
+        requires fits { IsPortOf table.now self.old }
+        requires list { slice_get table.now.about.shape.maps map ≡ Some list.old.shape }
+        ensures in_run { runs self.new ≡ runs self.old }
+        ensures listed { PortDoes table.now.about self.old (Keys map list.new.keys) self.new }
+        ensures list { list.new.shape ≡ list.old.shape }
+        ensures noted { CallNotes table.now.about (Keys map list.new.keys)
+            self.old.known self.new.known }
+        ensures fits { IsPortOf table.now self.new }
+    {
+        let Some(mut lane) = self.lane.take() else {
+            unreachable!()
+        };
+        list_keys(rt, table, &mut lane, map, list);
+        self.lane = Some(lane);
     }
 
     /// Where the value of the key lies, by one reading of the key's segment that takes no lock and

@@ -6,7 +6,7 @@ use Rattle.std.specs.FinMap.{get, insert, len, len-insert, get-insert}
 use Rattle.std.specs.Cmp.{tied_itself}
 use Rattle.std.specs.Ordering.{is_eq}
 use Rattle.bpf_shared.specs.Shape.{element_span}
-use Rattle.bpf_shared.specs.Store.{Keys, Value, put}
+use Rattle.bpf_shared.specs.Store.{KeyMap, Value, put}
 use Rattle.bpf_shared.proofs.Puts.{put-same, put-other, insert_cases}
 use Rattle.hop_layout.specs.declared.about.About.{About}
 use Rattle.hop_words.specs.declared.known.Fresh.{Fresh}
@@ -19,7 +19,7 @@ use Rattle.hop_words.specs.Ghost.{segment_in, Holder, Free, Filling, Leaving, Wi
 use Rattle.hop_words.specs.Rule.{put_key, numbered, Keyed, Batched, Owned, times_fresh, times_limbo, Linked, StartsWith, Filled, Valued}
 use Rattle.hop_words.proofs.Small.{put_key-same, put_key-other, equal_keys, equal, here_or, put2-same, put2-other}
 
-pub leads_new : (k : Keys) (key : List ℕ) (n : ℕ) → get (insert k key n) key ≡ Some n
+pub leads_new : (k : KeyMap) (key : List ℕ) (n : ℕ) → get (insert k key n) key ≡ Some n
 leads_new k key n = get-insert nat_list_cmp_total k key n key ∙ ap (λ (b : Bool). cond b (Some n) (get k key)) (ap is_eq (tied_itself nat_list_cmp_total key))
 
 -- ---- holders
@@ -171,16 +171,16 @@ module _ (a : About) (c m e s : ℕ) (key : List ℕ) (holder : ℕ → ℕ → 
       numbered_same f g None same = refl
       numbered_same f g (Some d) same = ap Some (same d refl)
 
-      pub keyed_comes : (counts : ℕ → ℕ) (maps : ℕ → Keys) (number : ℕ → ℕ → ℕ) (v : ℕ) → Keyed a counts maps linked number → linked m key ≡ None
+      pub keyed_comes : (counts : ℕ → ℕ) (maps : ℕ → KeyMap) (number : ℕ → ℕ → ℕ) (v : ℕ) → Keyed a counts maps linked number → linked m key ≡ None
           → Keyed a (put counts m (counts m + 1)) (put maps m (insert (maps m) key v)) links' (put number m (put (number m) e v))
       keyed_comes counts maps number v k none = record {
         counted = λ n l. ⊎_elim
             (λ (t : n ≡ m). put-same counts m n (counts m + 1) t ∙ (ap (λ (x : ℕ). x + 1) (k.counted m (subst (λ (x : ℕ). x < length a.shape.maps) t l))
-            ∙ (sym longer ∙ ap (λ (x : Keys). len x) (sym (put-same maps m n (insert (maps m) key v) t)))))
-            (λ (ne : n ≢ m). put-other counts m n (counts m + 1) ne ∙ (k.counted n l ∙ ap (λ (x : Keys). len x) (sym (put-other maps m n (insert (maps m) key v) ne))))
+            ∙ (sym longer ∙ ap (λ (x : KeyMap). len x) (sym (put-same maps m n (insert (maps m) key v) t)))))
+            (λ (ne : n ≢ m). put-other counts m n (counts m + 1) ne ∙ (k.counted n l ∙ ap (λ (x : KeyMap). len x) (sym (put-other maps m n (insert (maps m) key v) ne))))
             (equal n m);
         leads = λ n q. ⊎_elim
-            (λ (t : (n ≡ m) × (q ≡ key)). ap (λ (x : Keys). get x q) (put-same maps m n (insert (maps m) key v) t.0) ∙ (new_at q t.1
+            (λ (t : (n ≡ m) × (q ≡ key)). ap (λ (x : KeyMap). get x q) (put-same maps m n (insert (maps m) key v) t.0) ∙ (new_at q t.1
             ∙ (ap Some (sym (put2-same number m e n e v t.0 refl)) ∙ ap (numbered (number' n)) (sym (now_new n q t.0 t.1)))))
             (λ (ne : n ≡ m → q ≢ key). old_at n q ne ∙ (k.leads n q ∙ (sym (numbered_same (number n) (number' n) (linked n q) (λ d is. put2-other number m e n d v (not_new n d q is))) ∙ ap (numbered (number' n)) (sym (now_old n q ne)))))
             (here_key n q);
@@ -204,11 +204,11 @@ module _ (a : About) (c m e s : ℕ) (key : List ℕ) (holder : ℕ → ℕ → 
 
           old_at : (n : ℕ) (q : List ℕ) → (n ≡ m → q ≢ key) → get (put maps m (insert (maps m) key v) n) q ≡ get (maps n) q
           old_at n q ne = ⊎_elim
-              (λ (t : n ≡ m). ap (λ (x : Keys). get x q) (put-same maps m n (insert (maps m) key v) t) ∙ (⊎_elim
+              (λ (t : n ≡ m). ap (λ (x : KeyMap). get x q) (put-same maps m n (insert (maps m) key v) t) ∙ (⊎_elim
               (λ (h : (q ≡ key) × (get (insert (maps m) key v) q ≡ Some v)). absurd (ne t h.0))
               (λ (h : get (insert (maps m) key v) q ≡ get (maps m) q). h)
               (insert_cases (maps m) key v q) ∙ ap (λ (x : ℕ). get (maps x) q) (sym t)))
-              (λ (d : n ≢ m). ap (λ (x : Keys). get x q) (put-other maps m n (insert (maps m) key v) d))
+              (λ (d : n ≢ m). ap (λ (x : KeyMap). get x q) (put-other maps m n (insert (maps m) key v) d))
               (equal n m)
 
   -- ---- batches

@@ -9,7 +9,7 @@ use Rattle.bpf_shared.specs.declared.events.Event.{Event}
 use Rattle.bpf_shared.specs.declared.events.Event.TheVariants.{Delete}
 use Rattle.bpf_shared.specs.declared.events.Entry.{Entry}
 use Rattle.bpf_shared.specs.declared.events.MapAnswer.TheVariants.{Done}
-use Rattle.bpf_shared.specs.Store.{Plain, Keys, put}
+use Rattle.bpf_shared.specs.Store.{Plain, KeyMap, put}
 use Rattle.bpf_shared.specs.Events.{Allowed, after_delete}
 use Rattle.bpf_shared.specs.History.{entry}
 use Rattle.bpf_shared.proofs.Puts.{put-same}
@@ -122,7 +122,7 @@ module _ (a : About) (l : Known) (k : Lock) (key : List ℕ) (e : ℕ) (i : Remo
 
   has_some : 1 ≤ w (KeyCount m)
   has_some = dite (ℕ_discrete (len (g.last.maps m)) 0)
-      (λ (z : len (g.last.maps m) ≡ 0). let n : None ≡ Some (g.number m e) = sym (nothing_in key) ∙ (ap (λ (x : Keys). get x key) (sym (empty_of_len (g.last.maps m) z)) ∙ get_some) in cc)
+      (λ (z : len (g.last.maps m) ≡ 0). let n : None ≡ Some (g.number m e) = sym (nothing_in key) ∙ (ap (λ (x : KeyMap). get x key) (sym (empty_of_len (g.last.maps m) z)) ∙ get_some) in cc)
       (λ nz. let c = r.keyed.counted m h.inside.0 in grind arith)
 
   down_rule : Rule a (put_at w (KeyCount m) (w (KeyCount m) - 1)) g'

@@ -1,5 +1,5 @@
 -- See count; read under lock.
-use Rattle.std.proofs.Common.{length, ◌≡◌, ◌≢◌, ℕ, ◌<◌, ◌≤◌, nat_lt, Bool, true, false, not, ◌&&◌, List, [], ◌∷◌, ◌++◌, Option, Some, None, is_some, ◌==◌, refl, ap, sym, subst, ◌∙◌, arith, eq-eqb, ne_eqb}
+use Rattle.std.proofs.Common.{length, ◌≡◌, ◌≢◌, ℕ, ◌+◌, ◌<◌, ◌≤◌, nat_lt, Bool, true, false, not, ◌&&◌, List, [], ◌∷◌, ◌++◌, Option, Some, None, is_some, ◌==◌, refl, ap, sym, subst, ◌∙◌, arith, eq-eqb, ne_eqb}
 use Rattle.std.proofs.lemmas.Bool.Decides.{nat_tests}
 use native.Mathlib.Decide.{ℕ_discrete}
 use mathlib.Core.Logic.{dite}
@@ -127,8 +127,11 @@ see_count_misflagged a l m key bytes flags i ws g sized r is inside fits =
     event_next a w g r l is inside (KeyCount m) (Update m key bytes flags Invalid) refl tt
     (running_is a w g r l is inside i.runs, (shape_at a m, map_there a w g r l is inside m i.map, i.key_size, i.size, (first_true _ _ _ _ (let t = i.unknown in grind (arith, nat_tests)), refl)))
 
--- ---- read under lock: the words are those of the copy
-module _ (a : About) (l : Known) (k : Lock) (held : l.locks ≡ k ∷ []) where
+-- ---- read under the lock taken last: the words are those of the copy, and the stamp is locked
+module _ (a : About) (l : Known) (k : Lock) {rest : List Lock} (held : l.locks ≡ k ∷ rest) where
+  pub read_stamp : Steps a l (Stamp k.map k.segment) (λ n. n) (λ ws n l'. (n ≡ k.stamp + 1) × (l' ≡ l))
+  read_stamp ws g sized r is inside fits = stay a (mem a.shape ws) g l.cpu (Stamp k.map k.segment) _ r ((holds a l k held (mem a.shape ws) g r is).locked, is)
+
   pub read_head : Steps a l (Head k.map k.segment) (λ n. n) (λ ws n l'. (n ≡ (image a k.copy).head k.map k.segment) × (l' ≡ l))
   read_head ws g sized r is inside fits = stay a (mem a.shape ws) g l.cpu (Head k.map k.segment) _ r ((holds a l k held (mem a.shape ws) g r is).copied.head, is)
 

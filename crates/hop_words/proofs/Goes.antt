@@ -4,7 +4,7 @@ use Rattle.std.proofs.lemmas.Cmp.{nat_list_cmp_total}
 use Rattle.std.specs.FinMap.{get, remove, len, len-remove, get-remove}
 use Rattle.std.specs.Cmp.{tied_itself}
 use Rattle.std.specs.Ordering.{is_eq}
-use Rattle.bpf_shared.specs.Store.{Keys, Value, put}
+use Rattle.bpf_shared.specs.Store.{KeyMap, Value, put}
 use Rattle.bpf_shared.proofs.Puts.{put-same, put-other, remove_cases}
 use Rattle.hop_layout.specs.declared.about.About.{About}
 use Rattle.hop_words.specs.declared.known.Fresh.{Fresh}
@@ -103,16 +103,16 @@ module _ (a : About) (c m e s : ℕ) (key : List ℕ) (holder : ℕ → ℕ → 
       once = λ n x y d is it. p.once n x y d (still n d x is).1 (still n d y it).1;
     }
 
-    pub keyed_goes : (counts : ℕ → ℕ) (maps : ℕ → Keys) (number : ℕ → ℕ → ℕ) → Keyed a counts maps linked number → linked m key ≡ Some e
+    pub keyed_goes : (counts : ℕ → ℕ) (maps : ℕ → KeyMap) (number : ℕ → ℕ → ℕ) → Keyed a counts maps linked number → linked m key ≡ Some e
         → Keyed a (put counts m (counts m - 1)) (put maps m (remove (maps m) key)) cut' number
     keyed_goes counts maps number k there = record {
       counted = λ n l. ⊎_elim
           (λ (t : n ≡ m). put-same counts m n (counts m - 1) t ∙ (ap (λ (x : ℕ). x - 1) (k.counted m (subst (λ (x : ℕ). x < length a.shape.maps) t l))
-          ∙ (sym shorter ∙ ap (λ (x : Keys). len x) (sym (put-same maps m n (remove (maps m) key) t)))))
-          (λ (ne : n ≢ m). put-other counts m n (counts m - 1) ne ∙ (k.counted n l ∙ ap (λ (x : Keys). len x) (sym (put-other maps m n (remove (maps m) key) ne))))
+          ∙ (sym shorter ∙ ap (λ (x : KeyMap). len x) (sym (put-same maps m n (remove (maps m) key) t)))))
+          (λ (ne : n ≢ m). put-other counts m n (counts m - 1) ne ∙ (k.counted n l ∙ ap (λ (x : KeyMap). len x) (sym (put-other maps m n (remove (maps m) key) ne))))
           (equal n m);
       leads = λ n q. ⊎_elim
-          (λ (t : (n ≡ m) × (q ≡ key)). ap (λ (x : Keys). get x q) (put-same maps m n (remove (maps m) key) t.0) ∙ (removed_at q t.1 ∙ ap (numbered (number n)) (sym (cut_new n q t.0 t.1))))
+          (λ (t : (n ≡ m) × (q ≡ key)). ap (λ (x : KeyMap). get x q) (put-same maps m n (remove (maps m) key) t.0) ∙ (removed_at q t.1 ∙ ap (numbered (number n)) (sym (cut_new n q t.0 t.1))))
           (λ (ne : n ≡ m → q ≢ key). old_at n q ne ∙ (k.leads n q ∙ ap (numbered (number n)) (sym (cut_old n q ne))))
           (here_key n q);
     }
@@ -132,11 +132,11 @@ module _ (a : About) (c m e s : ℕ) (key : List ℕ) (holder : ℕ → ℕ → 
 
         old_at : (n : ℕ) (q : List ℕ) → (n ≡ m → q ≢ key) → get (put maps m (remove (maps m) key) n) q ≡ get (maps n) q
         old_at n q ne = ⊎_elim
-            (λ (t : n ≡ m). ap (λ (x : Keys). get x q) (put-same maps m n (remove (maps m) key) t) ∙ (⊎_elim
+            (λ (t : n ≡ m). ap (λ (x : KeyMap). get x q) (put-same maps m n (remove (maps m) key) t) ∙ (⊎_elim
             (λ (h : (q ≡ key) × (get (remove (maps m) key) q ≡ None)). absurd (ne t h.0))
             (λ (h : get (remove (maps m) key) q ≡ get (maps m) q). h)
             (remove_cases (maps m) key q) ∙ ap (λ (x : ℕ). get (maps x) q) (sym t)))
-            (λ (d : n ≢ m). ap (λ (x : Keys). get x q) (put-other maps m n (remove (maps m) key) d))
+            (λ (d : n ≢ m). ap (λ (x : KeyMap). get x q) (put-other maps m n (remove (maps m) key) d))
             (equal n m)
 
   -- ---- batches

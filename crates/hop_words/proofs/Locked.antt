@@ -1,5 +1,5 @@
--- The steps under the one lock of a lane, named by map and segment.
-use Rattle.std.proofs.Common.{◌≡◌, ℕ, ◌+◌, ◌<◌, true, nat_lt, List, length, refl, sym, subst, arith}
+-- The steps under the lock that a lane took last, named by map and segment.
+use Rattle.std.proofs.Common.{◌≡◌, ℕ, ◌+◌, ◌<◌, true, nat_lt, List, ◌∷◌, length, refl, ap, sym, subst, ◌∙◌, arith}
 use Rattle.std.proofs.lemmas.Bool.Decides.{nat_tests}
 use Rattle.bpf_shared.specs.Shape.{elements}
 use Rattle.hop_layout.specs.declared.place.Place.{Place}
@@ -11,9 +11,10 @@ use Rattle.hop_layout.specs.Layout.{is_place, segments, mem}
 use Rattle.hop_words.specs.Ghost.{shape_at, IsSegment, HasElement}
 use Rattle.hop_words.specs.Private.Step.{Steps}
 use Rattle.hop_words.specs.Kinds.{MayLink, writing}
-use Rattle.hop_words.specs.Locking.{lock_of, HasLock, locked_words}
+use Rattle.hop_words.specs.Locking.{lock_of, HasLock, HasLastLock, locked_words}
+use Rattle.hop_words.specs.Owning.{tail_of}
 use Rattle.hop_words.proofs.Stays.{stay}
-use Rattle.hop_words.proofs.Counts.{read_head, read_hop, read_slot}
+use Rattle.hop_words.proofs.Counts.{read_stamp, read_head, read_hop, read_slot}
 use Rattle.hop_words.proofs.Mine.{read_mine, read_my_key}
 use Rattle.hop_words.proofs.Writes.{write_head, write_hop, write_slot, write_link}
 
@@ -94,3 +95,18 @@ at_same_stamp a l m s h stamp told e step =
     subst (λ (n : ℕ). Steps a l (Stamp n s) (λ _. stamp) told) h.1
     (subst (λ (t : ℕ). Steps a l (Stamp (lock_of l).map t) (λ _. stamp) told) h.2
     (subst (λ (i : ℕ). Steps a l (Stamp (lock_of l).map (lock_of l).segment) (λ _. i) told) (sym e) step))
+
+-- ---- the stamp of the segment that was locked last
+-- a lock with no other is the last one
+pub only_last : (l : Known) (m s : ℕ) → HasLock l m s → HasLastLock l m s
+only_last l m s h = (h.0 ∙ ap (λ (ks : List Lock). lock_of l ∷ ks) (sym (ap tail_of h.0)), h.1, h.2)
+
+module _ (a : About) (l : Known) (m s : ℕ) (h : HasLastLock l m s) where
+  last_here : (P : ℕ → ℕ → Type 0) → P (lock_of l).map (lock_of l).segment → P m s
+  last_here P p = subst (λ (n : ℕ). P n s) h.1 (subst (P (lock_of l).map) h.2 p)
+
+  pub reads_stamp : Steps a l (Stamp m s) (λ n. n) (λ ws n l'. (n ≡ (lock_of l).stamp + 1) × (l' ≡ l))
+  reads_stamp = last_here (λ n t. Steps a l (Stamp n t) (λ n. n) (λ ws i l'. (i ≡ (lock_of l).stamp + 1) × (l' ≡ l))) (read_stamp a l (lock_of l) h.0)
+
+  pub at_last_stamp : (stamp : ℕ) (told : List ℕ → ℕ → Known → Type 0) → stamp ≡ (lock_of l).stamp → Steps a l (Stamp (lock_of l).map (lock_of l).segment) (λ _. (lock_of l).stamp) told → Steps a l (Stamp m s) (λ _. stamp) told
+  at_last_stamp stamp told e step = last_here (λ n t. Steps a l (Stamp n t) (λ _. stamp) told) (subst (λ (i : ℕ). Steps a l (Stamp (lock_of l).map (lock_of l).segment) (λ _. i) told) (sym e) step)

@@ -18,12 +18,13 @@ use Rattle.hop_words.specs.Shortage.{done_in}
 use Rattle.hop_words.specs.Rule.{Rule, Segment, Minded, Holds, image, changed, owed, StartsWith, times_lock}
 use Rattle.hop_words.specs.Sights.{sighted, lock_taken}
 use Rattle.hop_words.specs.Private.Step.{Next, Steps}
-use Rattle.hop_words.specs.Kinds.{has, LocksSegment, IsWritten}
+use Rattle.hop_words.specs.Kinds.{has, locking, LocksSegment, HasRoom, IsWritten, AreElsewhere}
 use Rattle.hop_layout.proofs.Layouts.{same_is, same_self, one}
 use Rattle.hop_words.proofs.Small.{here_or, put2-same, put2-other}
 use Rattle.hop_words.proofs.Histories.{prefix_refl}
-use Rattle.hop_words.proofs.Segs.{share_same, Elsewhere, only_stamp, segments_step, locking_step, readings_step, held_step, lock_once, lock_else}
+use Rattle.hop_words.proofs.Segs.{share_same, Elsewhere, only_stamp, segments_step, locking_step, readings_step, held_step, lock_once, lock_else, each_else, each_apart}
 use Rattle.hop_words.proofs.Shares.{share_agrees}
+use Rattle.hop_words.proofs.Rooms.{shares_of, room_for}
 use Rattle.hop_words.proofs.Stays.{stay}
 use Rattle.hop_words.proofs.Comes.{in_hand}
 
@@ -54,9 +55,12 @@ stamp_apart m s n t ne e = ne (ap map_of_stamp e) (ap segment_of_stamp e)
     segment_of_stamp p = 0
 
 -- ---- what a holder of a lock knows
-module _ (a : About) (l : Known) (k : Lock) (held : l.locks ≡ k ∷ []) (w : Place → ℕ) (g : Ghost) (r : Rule a w g) (is : lane g.lanes l.cpu ≡ l) where
+module _ (a : About) (l : Known) (k : Lock) {rest : List Lock} (held : l.locks ≡ k ∷ rest) (w : Place → ℕ) (g : Ghost) (r : Rule a w g) (is : lane g.lanes l.cpu ≡ l) where
   pub holds : Holds a (segment_in a) (place_words w) (λ n t. w (Stamp n t)) g.eras g.linked g.holder l.cpu k
   holds = (subst (Each (Holds a (segment_in a) (place_words w) (λ n t. w (Stamp n t)) g.eras g.linked g.holder l.cpu)) (ap (λ (x : Known). x.locks) is ∙ held) (r.locking l.cpu)).0
+
+  pub rest_holds : Each (Holds a (segment_in a) (place_words w) (λ n t. w (Stamp n t)) g.eras g.linked g.holder l.cpu) rest
+  rest_holds = (subst (Each (Holds a (segment_in a) (place_words w) (λ n t. w (Stamp n t)) g.eras g.linked g.holder l.cpu)) (ap (λ (x : Known). x.locks) is ∙ held) (r.locking l.cpu)).1
 
   pub segment : Segment a (segment_in a) (place_words w) (w (Stamp k.map k.segment)) (g.eras k.map k.segment) k.map k.segment (g.linked k.map)
   segment = r.segments k.map k.segment holds.inside
@@ -75,15 +79,21 @@ module _ (a : About) (l : Known) (k : Lock) (held : l.locks ≡ k ∷ []) (w : P
   alone d k2 apart p h u = apart (sym p.writer ∙ (ap (λ (y : Era). y.writer) (λ j. g.eras (h j) (u j)) ∙ holds.writer))
 
 -- ---- unlock with the next version
-module _ (a : About) (l : Known) (k : Lock) (held : l.locks ≡ k ∷ []) (w : Place → ℕ) (g : Ghost) (r : Rule a w g) (is : lane g.lanes l.cpu ≡ l) (inside : l.cpu < a.shape.cpus) (era' : Era) (v : ℕ) where
+module _ (a : About) (l : Known) (k : Lock) {rest : List Lock} (held : l.locks ≡ k ∷ rest) (w : Place → ℕ) (g : Ghost) (r : Rule a w g) (is : lane g.lanes l.cpu ≡ l) (inside : l.cpu < a.shape.cpus) (elsewhere : AreElsewhere k rest) (era' : Era) (v : ℕ) where
   abbrev pub unlocked : Ghost
-  unlocked = record g { lanes = record g.lanes { locks = put g.lanes.locks l.cpu [] }; eras = put g.eras k.map (put (g.eras k.map) k.segment era') }
+  unlocked = record g { lanes = record g.lanes { locks = put g.lanes.locks l.cpu rest }; eras = put g.eras k.map (put (g.eras k.map) k.segment era') }
 
   abbrev pub w' : Place → ℕ
   w' = put_at w (Stamp k.map k.segment) v
 
   unlock_elsewhere : Elsewhere a k.map k.segment l.cpu (place_words w) (place_words w) (λ n t. w (Stamp n t)) (λ n t. w' (Stamp n t)) g.eras unlocked.eras g.linked g.linked g.holder g.holder
   unlock_elsewhere = only_stamp _ _ _ _ _ _ _ _ _ _ _ (λ n t ne. put_else w (Stamp k.map k.segment) (Stamp n t) v (stamp_apart k.map k.segment n t ne)) (λ n t ne. put2-other g.eras k.map k.segment n t era' ne)
+
+  -- the other locks of the lane: a stamp is all that changes, so they stay as those of others do
+  rest_stays : Each (Holds a (segment_in a) (place_words w) (λ n t. w' (Stamp n t)) unlocked.eras g.linked g.holder l.cpu) rest
+  rest_stays = each_apart a k.map k.segment (suc l.cpu) (place_words w) (place_words w) _ _ g.eras unlocked.eras g.linked g.linked g.holder g.holder
+      (only_stamp _ _ _ _ _ _ _ _ _ _ _ (λ n t ne. put_else w (Stamp k.map k.segment) (Stamp n t) v (stamp_apart k.map k.segment n t ne)) (λ n t ne. put2-other g.eras k.map k.segment n t era' ne))
+      l.cpu rest (λ (e : l.cpu ≡ suc l.cpu). omega arith) elsewhere (rest_holds a l k held w g r is)
 
   -- a segment that is given back as it was, or with what was written
   unlock_rule : v % 2 ≡ 0 → Segment a (segment_in a) (place_words w) v era' k.map k.segment (g.linked k.map) → (g.eras k.map k.segment).era ≤ era'.era
@@ -115,8 +125,8 @@ module _ (a : About) (l : Known) (k : Lock) (held : l.locks ≡ k ∷ []) (w : P
     segments = segments_step a k.map k.segment l.cpu (place_words w) (place_words w) _ _ g.eras unlocked.eras g.linked g.linked g.holder g.holder unlock_elsewhere r.segments r.linked
         (λ _. subst (λ (e : Era). Segment a (segment_in a) (place_words w) (w' (Stamp k.map k.segment)) e k.map k.segment (g.linked k.map)) (sym (put2-same g.eras k.map k.segment k.map k.segment era' refl refl))
         (subst (λ (n : ℕ). Segment a (segment_in a) (place_words w) n era' k.map k.segment (g.linked k.map)) (sym (put_here w (Stamp k.map k.segment) v)) own));
-    locking = locking_step a k.map k.segment l.cpu (place_words w) (place_words w) _ _ g.eras unlocked.eras g.linked g.linked g.holder g.holder unlock_elsewhere g.lanes.locks [] r.locking (alone a l k held w g r is) tt;
-    held = held_step a k.map k.segment l.cpu _ _ g.eras unlocked.eras g.lanes.locks [] inside r.held (λ odd. absurd (let z : w' (Stamp k.map k.segment) % 2 ≡ v % 2 = ap (λ (n : ℕ). n % 2) (put_here w (Stamp k.map k.segment) v) in let e = at_rest in omega arith))
+    locking = locking_step a k.map k.segment l.cpu (place_words w) (place_words w) _ _ g.eras unlocked.eras g.linked g.linked g.holder g.holder unlock_elsewhere g.lanes.locks rest r.locking (alone a l k held w g r is) rest_stays;
+    held = held_step a k.map k.segment l.cpu _ _ g.eras unlocked.eras g.lanes.locks rest inside r.held (λ odd. absurd (let z : w' (Stamp k.map k.segment) % 2 ≡ v % 2 = ap (λ (n : ℕ). n % 2) (put_here w (Stamp k.map k.segment) v) in let e = at_rest in omega arith))
         (λ n t ne. (
           put_else w (Stamp k.map k.segment) (Stamp n t) v (stamp_apart k.map k.segment n t ne),
           put2-other g.eras k.map k.segment n t era' ne,
@@ -133,10 +143,10 @@ module _ (a : About) (l : Known) (k : Lock) (held : l.locks ≡ k ∷ []) (w : P
 
 -- with the next version, where something took effect: the copy shows it
 pub unlock_new : (a : About) (l : Known) (k : Lock) (held : l.locks ≡ k ∷ []) (w : Place → ℕ) (g : Ghost) (r : Rule a w g) (is : lane g.lanes l.cpu ≡ l) (inside : l.cpu < a.shape.cpus) → owed k.change ≡ 1 → IsWritten a k
-    → (e : Era) × Rule a (put_at w (Stamp k.map k.segment) (k.stamp + 256)) (unlocked a l k held w g r is inside e (k.stamp + 256))
+    → (e : Era) × Rule a (put_at w (Stamp k.map k.segment) (k.stamp + 256)) (unlocked a l k held w g r is inside tt e (k.stamp + 256))
 unlock_new a l k held w g r is inside owes written = (
   era',
-  unlock_rule a l k held w g r is inside era' (k.stamp + 256) (let z = h.even in omega arith) own
+  unlock_rule a l k held w g r is inside tt era' (k.stamp + 256) (let z = h.even in omega arith) own
       (let z = low a l k held w g r is in let o = h.locked in omega arith)
       (λ i even le eq. absurd (let z = low a l k held w g r is in let o = h.locked in omega arith))
       (let b = r.worn k.map k.segment h.inside in let o = h.locked in let c = h.credit ∙ owes in let z = h.even in
@@ -174,11 +184,11 @@ unlock_new a l k held w g r is inside owes written = (
         mind e on = let t = share.each e on in subst (Minded l.cpu k.segment) (sym (r.linked.within k.map t.0 e t.3).1) t.2
 
 -- with the same version, where nothing was changed
-pub unlock_same : (a : About) (l : Known) (k : Lock) (held : l.locks ≡ k ∷ []) (w : Place → ℕ) (g : Ghost) (r : Rule a w g) (is : lane g.lanes l.cpu ≡ l) (inside : l.cpu < a.shape.cpus) → k.dirty ≡ false
-    → (e : Era) × Rule a (put_at w (Stamp k.map k.segment) k.stamp) (unlocked a l k held w g r is inside e k.stamp)
-unlock_same a l k held w g r is inside none = (
+pub unlock_same : (a : About) (l : Known) (k : Lock) {rest : List Lock} (held : l.locks ≡ k ∷ rest) (w : Place → ℕ) (g : Ghost) (r : Rule a w g) (is : lane g.lanes l.cpu ≡ l) (inside : l.cpu < a.shape.cpus) (elsewhere : AreElsewhere k rest) → k.dirty ≡ false
+    → (e : Era) × Rule a (put_at w (Stamp k.map k.segment) k.stamp) (unlocked a l k held w g r is inside elsewhere e k.stamp)
+unlock_same a l k held w g r is inside elsewhere none = (
   era',
-  unlock_rule a l k held w g r is inside era' k.stamp h.even own (let z = (seg.clean clean).0 in omega arith) (λ i even le eq. (eq, refl))
+  unlock_rule a l k held w g r is inside elsewhere era' k.stamp h.even own (let z = (seg.clean clean).0 in omega arith) (λ i even le eq. (eq, refl))
       (let b = r.worn k.map k.segment h.inside in let o = h.locked in let z = h.even in
       let q : (k.stamp + 1) / 256 ≡ k.stamp / 256 = omega arith in
       let y : w (Stamp k.map k.segment) / 256 ≡ (k.stamp + 1) / 256 = ap (λ (i : ℕ). i / 256) o in omega arith),
@@ -251,7 +261,7 @@ within_is s (Within t) p = ap Within (one t s p)
 within_once : {s t : ℕ} → Within s ≡ Within t → s ≡ t
 within_once h = cc
 
-module _ (a : About) (l : Known) (m s old : ℕ) (at_s : IsSegment a m s) (even : old % 2 ≡ 0) (idle : l.locks ≡ []) (ws : List ℕ) (g : Ghost) (sized : length ws ≡ size a.shape) (r : Rule a (mem a.shape ws) g) (is : lane g.lanes l.cpu ≡ l) (inside : l.cpu < a.shape.cpus) (found : mem a.shape ws (Stamp m s) ≡ old) where
+module _ (a : About) (l : Known) (m s old : ℕ) (at_s : IsSegment a m s) (even : old % 2 ≡ 0) (ws : List ℕ) (g : Ghost) (sized : length ws ≡ size a.shape) (r : Rule a (mem a.shape ws) g) (is : lane g.lanes l.cpu ≡ l) (inside : l.cpu < a.shape.cpus) (found : mem a.shape ws (Stamp m s) ≡ old) where
   abbrev pub lw : Place → ℕ
   lw = mem a.shape ws
 
@@ -266,7 +276,7 @@ module _ (a : About) (l : Known) (m s old : ℕ) (at_s : IsSegment a m s) (even 
 
   abbrev pub locked_ghost : Ghost
   locked_ghost = record g {
-    lanes = record g.lanes { locks = put g.lanes.locks l.cpu (new_lock ∷ []) };
+    lanes = record g.lanes { locks = put g.lanes.locks l.cpu (new_lock ∷ l.locks) };
     eras = put g.eras m (put (g.eras m) s lock_era);
   }
 
@@ -302,8 +312,15 @@ module _ (a : About) (l : Known) (m s old : ℕ) (at_s : IsSegment a m s) (even 
     due = (g.linked m, lock_share, λ q home. refl);
   }
 
-  nobody : (d : ℕ) (k2 : Lock) → d ≢ l.cpu → Holds a (segment_in a) (place_words lw) (λ n t. lw (Stamp n t)) g.eras g.linked g.holder d k2 → k2.map ≡ m → k2.segment ≢ s
-  nobody d k2 apart p h u = let o : lw (Stamp k2.map k2.segment) ≡ k2.stamp + 1 = p.locked in let z = p.even in let y : lw (Stamp k2.map k2.segment) ≡ lw (Stamp m s) = λ j. lw (Stamp (h j) (u j)) in let f = found in let e = even in omega arith
+  nobody : (d : ℕ) (k2 : Lock) → Holds a (segment_in a) (place_words lw) (λ n t. lw (Stamp n t)) g.eras g.linked g.holder d k2 → k2.map ≡ m → k2.segment ≢ s
+  nobody d k2 p h u = let o : lw (Stamp k2.map k2.segment) ≡ k2.stamp + 1 = p.locked in let z = p.even in let y : lw (Stamp k2.map k2.segment) ≡ lw (Stamp m s) = λ j. lw (Stamp (h j) (u j)) in let f = found in let e = even in omega arith
+
+  -- the locks that the lane has already
+  own_stay : Each (Holds a (segment_in a) (place_words lw) (λ n t. lw' (Stamp n t)) locked_ghost.eras g.linked g.holder l.cpu) l.locks
+  own_stay = each_else a m s (suc l.cpu) (place_words lw) (place_words lw) _ _ g.eras locked_ghost.eras g.linked g.linked g.holder g.holder
+      (only_stamp _ _ _ _ _ _ _ _ _ _ _ (λ n t ne. put_else lw (Stamp m s) (Stamp n t) (old + 1) (stamp_apart m s n t ne)) (λ n t ne. put2-other g.eras m s n t lock_era ne))
+      l.cpu l.locks (λ (e : l.cpu ≡ suc l.cpu). omega arith) (λ k2 p. nobody l.cpu k2 p)
+      (subst (Each (Holds a (segment_in a) (place_words lw) (λ n t. lw (Stamp n t)) g.eras g.linked g.holder l.cpu)) (ap (λ (x : Known). x.locks) is) (r.locking l.cpu))
 
   lock_rule : Rule a lw' locked_ghost
   lock_rule = record {
@@ -338,12 +355,12 @@ module _ (a : About) (l : Known) (m s old : ℕ) (at_s : IsSegment a m s) (even 
           written = λ d. absurd (true≢false (sym d));
           shows = λ _. lock_seg.shows at_rest;
         }));
-    locking = locking_step a m s l.cpu (place_words lw) (place_words lw) _ _ g.eras locked_ghost.eras g.linked g.linked g.holder g.holder lock_elsewhere g.lanes.locks (new_lock ∷ []) r.locking nobody (lock_held, tt);
-    held = held_step a m s l.cpu _ _ g.eras locked_ghost.eras g.lanes.locks (new_lock ∷ []) inside r.held (λ odd. (ap (λ (y : Era). y.writer) era_now, (let z = lock_once new_lock in omega arith)))
+    locking = locking_step a m s l.cpu (place_words lw) (place_words lw) _ _ g.eras locked_ghost.eras g.linked g.linked g.holder g.holder lock_elsewhere g.lanes.locks (new_lock ∷ l.locks) r.locking (λ d k2 apart p. nobody d k2 p) (lock_held, own_stay);
+    held = held_step a m s l.cpu _ _ g.eras locked_ghost.eras g.lanes.locks (new_lock ∷ l.locks) inside r.held (λ odd. (ap (λ (y : Era). y.writer) era_now, (let z = lock_once new_lock in omega arith)))
         (λ n t ne. (
           put_else lw (Stamp m s) (Stamp n t) (old + 1) (stamp_apart m s n t ne),
           put2-other g.eras m s n t lock_era ne,
-          (let z = lock_else m s n t ne in let y : times_lock n t (g.lanes.locks l.cpu) ≡ 0 = ap (times_lock n t) (ap (λ (z : Known). z.locks) is ∙ idle) in omega arith),
+          (let z = lock_else m s n t ne in let y : times_lock n t (g.lanes.locks l.cpu) ≡ times_lock n t l.locks = ap (times_lock n t) (ap (λ (z : Known). z.locks) is) in omega arith),
         ));
     reading = readings_step a m s g.eras locked_ghost.eras g.lanes.readings (record {
       same_eras = λ n t ne. put2-other g.eras m s n t lock_era ne;
@@ -370,11 +387,15 @@ module _ (a : About) (l : Known) (m s old : ℕ) (at_s : IsSegment a m s) (even 
       let z : Filling l.cpu ≡ Within s = sym fill ∙ w in
       cc
 
+  -- the lane, as its lock is noted
+  locked_lane : sighted (lane locked_ghost.lanes l.cpu) (lock_taken m s old) ≡ locking l m s old ws (listing (elements (shape_at a m)) (λ e. is_within s (g.holder m e)))
+  locked_lane = rw (eq-eqb l.cpu l.cpu refl) (ap (λ (x : Known). record x { locks = new_lock ∷ l.locks; tally = lock_taken m s old ∷ x.tally }) is)
+
   lock_told : LocksSegment a l m s old (sighted (lane locked_ghost.lanes l.cpu) (lock_taken m s old))
   lock_told = record {
     words = ws;
     sized = sized;
-    after = rw (eq-eqb l.cpu l.cpu refl) (ap (λ (x : Known). record x { locks = new_lock ∷ []; tally = lock_taken m s old ∷ x.tally }) is);
+    after = locked_lane;
     content = g.linked m;
     share = lock_share;
     filled = key_words l.fresh (subst (Each (λ (f : Fresh). StartsWith f.key (λ j. lw (KeyWord f.map f.element j)) × StartsWith f.value (λ j. lw (ValueWord f.map f.element j)))) (ap (λ (x : Known). x.fresh) is) (r.filled l.cpu inside));
@@ -389,19 +410,21 @@ module _ (a : About) (l : Known) (m s old : ℕ) (at_s : IsSegment a m s) (even 
     is_known = λ key e is home.
         let q = r.linked.within m key e is in
         (q.0.1, has_listing (elements (shape_at a m)) (λ e. is_within s (g.holder m e)) e q.0.1 (ap (is_within s) (q.1 ∙ ap Within home) ∙ eq-eqb s s refl));
+    room = λ clean. subst (HasRoom a m) (sym (ap (λ (x : Known). x.locks) locked_lane)) (room_for a lw' locked_ghost lock_rule (lane locked_ghost.lanes l.cpu) refl inside m at_s.0 (new_lock ∷ l.locks)
+        (shares_of a l.cpu (place_words lw) (λ n t. lw' (Stamp n t)) locked_ghost.eras g.linked g.holder (new_lock ∷ l.locks) (lock_held, own_stay) (refl, clean)));
   }
 
-pub lock : (a : About) (l : Known) (m s old : ℕ) → IsSegment a m s → old % 2 ≡ 0 → l.locks ≡ []
+pub lock : (a : About) (l : Known) (m s old : ℕ) → IsSegment a m s → old % 2 ≡ 0
     → Steps a l (Stamp m s) (λ n. either (n == old) (old + 1) n) (λ ws n l'. (n ≡ old → LocksSegment a l m s old (sighted l' (lock_taken m s old))) × (n ≢ old → l' ≡ l))
-lock a l m s old at_s even idle ws g sized r is inside fits =
+lock a l m s old at_s even ws g sized r is inside fits =
     let w = mem a.shape ws in
     exchanged (w (Stamp m s)) old (old + 1) (λ n. Next a (put_at w (Stamp m s) n) g l.cpu (λ l'. (w (Stamp m s) ≡ old → LocksSegment a l m s old (sighted l' (lock_taken m s old))) × (w (Stamp m s) ≢ old → l' ≡ l)))
     (λ found. record {
-      ghost = locked_ghost a l m s old at_s even idle ws g sized r is inside found;
-      rule = lock_rule a l m s old at_s even idle ws g sized r is inside found;
+      ghost = locked_ghost a l m s old at_s even ws g sized r is inside found;
+      rule = lock_rule a l m s old at_s even ws g sized r is inside found;
       others = λ d ne. rw (ne_eqb d l.cpu ne) refl;
       longer = prefix_refl g.log;
       tally = refl;
-      says = ((λ _. lock_told a l m s old at_s even idle ws g sized r is inside found), (λ ne. absurd (ne found)));
+      says = ((λ _. lock_told a l m s old at_s even ws g sized r is inside found), (λ ne. absurd (ne found)));
     })
     (λ ne. stay a w g l.cpu (Stamp m s) _ r ((λ found. absurd (ne found)), (λ _. is)))

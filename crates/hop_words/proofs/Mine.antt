@@ -1,5 +1,5 @@
 -- Read under lock, of an element whose link the lane may write.
-use Rattle.std.proofs.Common.{◌≡◌, ℕ, ◌<◌, List, [], ◌∷◌, refl, ap, sym, subst, ◌∙◌, ⊎_elim}
+use Rattle.std.proofs.Common.{◌≡◌, ℕ, ◌<◌, List, ◌∷◌, refl, ap, sym, subst, ◌∙◌, ⊎_elim}
 use Rattle.hop_layout.specs.declared.place.Place.TheVariants.{Link, KeyWord, Stamp}
 use Rattle.hop_layout.specs.declared.about.About.{About}
 use Rattle.hop_words.specs.declared.known.Known.{Known}
@@ -16,7 +16,7 @@ use Rattle.hop_words.proofs.Comes.{in_hand}
 use Rattle.hop_words.proofs.Locks.{holds}
 use Rattle.hop_words.proofs.Stays.{stay}
 
-module _ (a : About) (l : Known) (k : Lock) (held : l.locks ≡ k ∷ []) (e : ℕ) (may : MayLink a l k e) where
+module _ (a : About) (l : Known) (k : Lock) {rest : List Lock} (held : l.locks ≡ k ∷ rest) (e : ℕ) (may : MayLink a l k e) where
   module _ (w : Place → ℕ) (g : Ghost) (r : Rule a w g) (is : lane g.lanes l.cpu ≡ l) (inside : l.cpu < a.shape.cpus) where
     h : Holds a (segment_in a) (place_words w) (λ n t. w (Stamp n t)) g.eras g.linked g.holder l.cpu k
     h = holds a l k held w g r is

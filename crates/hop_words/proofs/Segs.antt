@@ -97,9 +97,14 @@ module _ (a : About) (m s c : ℕ) (x x' : MapWords) (stamp stamp' : ℕ → ℕ
       same : eras' k.map k.segment ≡ eras k.map k.segment
       same = w.same_eras k.map k.segment ne
 
-  each_else : (d : ℕ) (ks : List Lock) → d ≢ c → ((k : Lock) → Holds a (segment_in a) x stamp eras linked holder d k → k.map ≡ m → k.segment ≢ s) → Each (Holds a (segment_in a) x stamp eras linked holder d) ks → Each (Holds a (segment_in a) x' stamp' eras' linked' holder' d) ks
+  pub each_else : (d : ℕ) (ks : List Lock) → d ≢ c → ((k : Lock) → Holds a (segment_in a) x stamp eras linked holder d k → k.map ≡ m → k.segment ≢ s) → Each (Holds a (segment_in a) x stamp eras linked holder d) ks → Each (Holds a (segment_in a) x' stamp' eras' linked' holder' d) ks
   each_else d [] apart alone p = tt
   each_else d (k ∷ ks) apart alone p = (holds_else d k apart (alone k p.0) p.0, each_else d ks apart alone p.1)
+
+  -- a CPU keeps its other locks
+  pub each_apart : (d : ℕ) (ks : List Lock) → d ≢ c → Each (λ (k : Lock). k.map ≡ m → k.segment ≢ s) ks → Each (Holds a (segment_in a) x stamp eras linked holder d) ks → Each (Holds a (segment_in a) x' stamp' eras' linked' holder' d) ks
+  each_apart d [] apart others p = tt
+  each_apart d (k ∷ ks) apart others p = (holds_else d k apart others.0 p.0, each_apart d ks apart others.1 p.1)
 
   pub locking_step : (locks : ℕ → List Lock) (ks : List Lock) → Locking a (segment_in a) x stamp eras linked holder locks → ((d : ℕ) (k : Lock) → d ≢ c → Holds a (segment_in a) x stamp eras linked holder d k → k.map ≡ m → k.segment ≢ s)
       → Each (Holds a (segment_in a) x' stamp' eras' linked' holder' c) ks → Locking a (segment_in a) x' stamp' eras' linked' holder' (put locks c ks)

@@ -135,12 +135,12 @@ sees_again a l rd m s key o h u f =
     ))
     (see_again a l rd key o f)))
 
-pub locks : (a : About) (l : Known) (m s old : ℕ) → IsSegment a m s → old % 2 ≡ 0 → l.locks ≡ []
+pub locks : (a : About) (l : Known) (m s old : ℕ) → IsSegment a m s → old % 2 ≡ 0
     → NotesTaken a l (Stamp m s) old (old + 1) (λ ws n l'. (n ≡ old → LocksSegment a l m s old l') × (n ≢ old → l' ≡ l))
-locks a l m s old at_s even idle = taken_as a l (Stamp m s) old (old + 1) (λ ws n x. Told n x) (λ ws n l'. (n ≡ old → LocksSegment a l m s old l') × (n ≢ old → l' ≡ l))
+locks a l m s old at_s even = taken_as a l (Stamp m s) old (old + 1) (λ ws n x. Told n x) (λ ws n l'. (n ≡ old → LocksSegment a l m s old l') × (n ≢ old → l' ≡ l))
     (λ ws n x same t. ((λ _. subst (λ (i : ℕ). LocksSegment a l m s old (sighted x (sight (Stamp m s) i (old + 1)))) (sym same) (t.0 same)), (λ ne. absurd (ne same))))
     (λ ws n x ne t. ((λ same. absurd (ne same)), t.1))
-    (lock a l m s old at_s even idle)
+    (lock a l m s old at_s even)
   where
     Told : ℕ → Known → Type 0
     Told n x = (n ≡ old → LocksSegment a l m s old (sighted x (lock_taken m s old))) × (n ≢ old → x ≡ l)

@@ -1,7 +1,8 @@
 -- Words that a segment's lock guards: what their holder reads there, and that it may write them.
-use Rattle.std.proofs.Common.{◌≡◌, ℕ, true, [], ◌∷◌, subst}
+use Rattle.std.proofs.Common.{◌≡◌, ℕ, true, List, [], ◌∷◌, subst}
 use Rattle.hop_layout.specs.declared.about.About.{About}
 use Rattle.hop_words.specs.declared.known.Known.{Known}
+use Rattle.hop_words.specs.declared.known.Lock.{Lock}
 use Rattle.hop_layout.specs.declared.place.Place.{Place}
 use Rattle.hop_layout.specs.declared.place.Place.TheVariants.{RunCount, KeyCount, FreeBits, Stamp, Head, Hop, Slot, Link, KeyWord, ValueWord}
 use Rattle.hop_layout.specs.Layout.{mem, is_place}
@@ -14,7 +15,7 @@ use Rattle.hop_words.proofs.Mine.{read_mine, read_my_key}
 use Rattle.hop_words.proofs.Stays.{stay}
 use Rattle.hop_words.proofs.Writes.{write_head, write_hop, write_slot, write_link}
 
-module _ (a : About) (l : Known) (held : l.locks ≡ lock_of l ∷ []) where
+module _ (a : About) (l : Known) where
   abbrev Reads : Place → Type 0
   Reads p = Steps a l p (λ n. n) (λ ws n l'. (n ≡ mem a.shape (lock_of l).copy p) × (l' ≡ l))
 
@@ -24,12 +25,13 @@ module _ (a : About) (l : Known) (held : l.locks ≡ lock_of l ∷ []) where
   at_lock : (P : ℕ → ℕ → Type 0) (m s : ℕ) → (lock_of l).map ≡ m → (lock_of l).segment ≡ s → P (lock_of l).map (lock_of l).segment → P m s
   at_lock P m s i j p = subst (P m) j (subst (λ (n : ℕ). P n (lock_of l).segment) i p)
 
-  reads : (p : Place) → IsGuarded a l p → Reads p
-  reads (Head m s) g = at_lock (λ n t. Reads (Head n t)) m s g.0 g.1 (read_head a l (lock_of l) held)
-  reads (Hop m s b) g = at_lock (λ n t. Reads (Hop n t b)) m s g.0 g.1 (read_hop a l (lock_of l) held b)
-  reads (Slot m s b) g = at_lock (λ n t. Reads (Slot n t b)) m s g.0 g.1 (read_slot a l (lock_of l) held b)
-  reads (Link m e) g = subst (λ (n : ℕ). Reads (Link n e)) g.0 (read_mine a l (lock_of l) held e g.1)
-  reads (KeyWord m e k) g = subst (λ (n : ℕ). Reads (KeyWord n e k)) g.0 (read_my_key a l (lock_of l) held e g.1 k)
+module _ (a : About) (l : Known) {rest : List Lock} (held : l.locks ≡ lock_of l ∷ rest) where
+  reads : (p : Place) → IsGuarded a l p → Reads a l p
+  reads (Head m s) g = at_lock a l (λ n t. Reads a l (Head n t)) m s g.0 g.1 (read_head a l (lock_of l) held)
+  reads (Hop m s b) g = at_lock a l (λ n t. Reads a l (Hop n t b)) m s g.0 g.1 (read_hop a l (lock_of l) held b)
+  reads (Slot m s b) g = at_lock a l (λ n t. Reads a l (Slot n t b)) m s g.0 g.1 (read_slot a l (lock_of l) held b)
+  reads (Link m e) g = subst (λ (n : ℕ). Reads a l (Link n e)) g.0 (read_mine a l (lock_of l) held e g.1)
+  reads (KeyWord m e k) g = subst (λ (n : ℕ). Reads a l (KeyWord n e k)) g.0 (read_my_key a l (lock_of l) held e g.1 k)
   reads (RunCount c) g = absurd g
   reads (KeyCount m) g = absurd g
   reads (FreeBits m i) g = absurd g
@@ -40,11 +42,12 @@ module _ (a : About) (l : Known) (held : l.locks ≡ lock_of l ∷ []) where
   pub read_guarded : (p : Place) → Steps a l p (λ n. n) (λ ws n l'. (IsGuarded a l p → n ≡ mem a.shape (lock_of l).copy p) × (l' ≡ l))
   read_guarded p ws g sized r is inside fits = stay a (mem a.shape ws) g l.cpu p _ r ((λ guarded. (reads p guarded ws g sized r is inside fits).says.0), is)
 
+module _ (a : About) (l : Known) (held : l.locks ≡ lock_of l ∷ []) where
   pub write_guarded : (p : Place) (n : ℕ) → MayWrite a l p → is_place a.shape p ≡ true → Steps a l p (λ _. n) (λ ws found l'. l' ≡ writing a l (lock_of l) p n)
-  write_guarded (Head m s) n g = at_lock (λ i t. Writes n (Head i t)) m s g.0 g.1 (write_head a l (lock_of l) n held)
-  write_guarded (Hop m s b) n g = at_lock (λ i t. Writes n (Hop i t b)) m s g.0 g.1 (write_hop a l (lock_of l) b n held)
-  write_guarded (Slot m s b) n g = at_lock (λ i t. Writes n (Slot i t b)) m s g.0 g.1 (write_slot a l (lock_of l) b n held)
-  write_guarded (Link m e) n g = subst (λ (i : ℕ). Writes n (Link i e)) g.0 (λ there. write_link a l (lock_of l) e n held there g.1)
+  write_guarded (Head m s) n g = at_lock a l (λ i t. Writes a l n (Head i t)) m s g.0 g.1 (write_head a l (lock_of l) n held)
+  write_guarded (Hop m s b) n g = at_lock a l (λ i t. Writes a l n (Hop i t b)) m s g.0 g.1 (write_hop a l (lock_of l) b n held)
+  write_guarded (Slot m s b) n g = at_lock a l (λ i t. Writes a l n (Slot i t b)) m s g.0 g.1 (write_slot a l (lock_of l) b n held)
+  write_guarded (Link m e) n g = subst (λ (i : ℕ). Writes a l n (Link i e)) g.0 (λ there. write_link a l (lock_of l) e n held there g.1)
   write_guarded p n g = absurd g
 
 -- they are no stamps, and no words of free bits

@@ -8,7 +8,7 @@ use Rattle.bpf_shared.specs.declared.events.Event.TheVariants.{Update, Lookup, D
 use Rattle.bpf_shared.specs.declared.events.Entry.{Entry}
 use Rattle.bpf_shared.specs.declared.events.MapAnswer.TheVariants.{Done, Busy, NoMemory}
 use Rattle.bpf_shared.specs.Shape.{element_span}
-use Rattle.bpf_shared.specs.Store.{Plain, Keys, Value, put}
+use Rattle.bpf_shared.specs.Store.{Plain, KeyMap, Value, put}
 use Rattle.bpf_shared.specs.Events.{Allowed, after_update}
 use Rattle.bpf_shared.specs.History.{entry}
 use Rattle.bpf_shared.proofs.Puts.{put-same, put-other, insert_cases}
@@ -29,14 +29,15 @@ use Rattle.hop_words.specs.Shortage.{done_in, HasHadValue, HasCause}
 use Rattle.hop_words.specs.Rule.{Rule, times_fresh, Minded, put_key, changed, owed, Holds, numbered, Keyed, Owned, Linked}
 use Rattle.bpf_shared.specs.Own.{turns_of}
 use Rattle.hop_words.specs.Private.Step.{Next, Steps}
-use Rattle.hop_words.specs.Kinds.{Replaces, Replaced, Answers, Answered, ShowsShortage, IsWritten, unlocking, with_gone, LooksUpLocked, LookedUp, found_span}
+use Rattle.hop_words.specs.Kinds.{AreElsewhere, AnswersAll, AnsweredAll, Replaces, Replaced, Answers, Answered, ShowsShortage, IsWritten, unlocking, with_gone, LooksUpLocked, LookedUp, found_span}
 use Rattle.hop_words.proofs.Small.{equal_keys, equal, here_or, put2-same, put2-other, put_key-same, put_key-other}
 use Rattle.hop_words.proofs.Spelling.{value_spelled}
 use Rattle.hop_words.proofs.Histories.{logged_event, prefix_refl, done_in-append}
 use Rattle.hop_words.proofs.Shortages.{begun_more, had_update, new_update, shown_step, shown_more, who_put, hand_rest, lack_cause}
 use Rattle.hop_words.proofs.Comes.{leads_new, in_hand, now_old, now_new, linked_comes, owned_comes, batched_comes, filled_rest, valued_comes}
 use Rattle.hop_words.proofs.Goes.{with_used, owned_goes, cut_old, linked_goes, batched_goes, valued_goes}
-use Rattle.hop_words.proofs.Locks.{holds, unlocked, unlock_new, unlock_same}
+use Rattle.hop_words.proofs.Rooms.{shares_of}
+use Rattle.hop_words.proofs.Locks.{holds, rest_holds, unlocked, unlock_new, unlock_same}
 use Rattle.hop_words.proofs.Effects.{Effect, effect_segments, effect_locking, effect_reading, effect_held, effect_worn}
 use Rattle.hop_words.proofs.CountUp.{four, and_false}
 use Rattle.hop_words.proofs.Readings.{looking, looked_rule, may_look}
@@ -48,7 +49,7 @@ unlock_written a l k held owes written ws g sized r is inside fits =
     let w = mem a.shape ws in
     let u = unlock_new a l k held w g r is inside owes written in
     record {
-      ghost = unlocked a l k held w g r is inside u.0 (k.stamp + 256);
+      ghost = unlocked a l k held w g r is inside tt u.0 (k.stamp + 256);
       rule = u.1;
       others = λ d ne. rw (ne_eqb d l.cpu ne) refl;
       longer = prefix_refl g.log;
@@ -57,17 +58,17 @@ unlock_written a l k held owes written ws g sized r is inside fits =
     }
 
 -- ---- nothing was changed, and nothing is answered: after an answer that took effect at the key count
-pub unlock_silent : (a : About) (l : Known) (k : Lock) → l.locks ≡ k ∷ [] → k.dirty ≡ false → Steps a l (Stamp k.map k.segment) (λ _. k.stamp) (λ ws n l'. l' ≡ unlocking l)
-unlock_silent a l k held clean ws g sized r is inside fits =
+pub unlock_silent : (a : About) (l : Known) (k : Lock) {rest : List Lock} → l.locks ≡ k ∷ rest → AreElsewhere k rest → k.dirty ≡ false → Steps a l (Stamp k.map k.segment) (λ _. k.stamp) (λ ws n l'. l' ≡ record l { locks = rest })
+unlock_silent a l k {rest} held elsewhere clean ws g sized r is inside fits =
     let w = mem a.shape ws in
-    let u = unlock_same a l k held w g r is inside clean in
+    let u = unlock_same a l k held w g r is inside elsewhere clean in
     record {
-      ghost = unlocked a l k held w g r is inside u.0 k.stamp;
+      ghost = unlocked a l k held w g r is inside elsewhere u.0 k.stamp;
       rule = u.1;
       others = λ d ne. rw (ne_eqb d l.cpu ne) refl;
       longer = prefix_refl g.log;
       tally = refl;
-      says = rw (eq-eqb l.cpu l.cpu refl) (ap (λ (x : Known). record x { locks = [] }) is);
+      says = rw (eq-eqb l.cpu l.cpu refl) (ap (λ (x : Known). record x { locks = rest }) is);
     }
 
 -- ---- an event that leaves the store as it is, at whatever step
@@ -103,7 +104,7 @@ shortage_cause a w g r l k is inside in_map paid e s = tt
 
 pub unlock_answer : (a : About) (l : Known) (k : Lock) (e : Event) → Answers a l k e → Steps a l (Stamp k.map k.segment) (λ _. k.stamp) (λ ws n l'. Answered a l k e l')
 unlock_answer a l k e i ws g sized r is inside fits = record {
-  ghost = unlocked a l2 k i.lock w g1 r1 is1 inside u.0 k.stamp;
+  ghost = unlocked a l2 k i.lock w g1 r1 is1 inside tt u.0 k.stamp;
   rule = u.1;
   others = λ d ne. rw (ne_eqb d l.cpu ne) refl;
   longer = (entry l.cpu e ∷ [], refl);
@@ -154,16 +155,58 @@ unlock_answer a l k e i ws g sized r is inside fits = record {
     is1 : lane g1.lanes l.cpu ≡ l2
     is1 = rw (eq-eqb l.cpu l.cpu refl) (ap (λ (x : Known). record x { seen = log' }) is)
 
-    u : (e : Era) × Rule a (put_at w (Stamp k.map k.segment) k.stamp) (unlocked a l2 k i.lock w g1 r1 is1 inside e k.stamp)
-    u = unlock_same a l2 k i.lock w g1 r1 is1 inside i.clean
+    u : (e : Era) × Rule a (put_at w (Stamp k.map k.segment) k.stamp) (unlocked a l2 k i.lock w g1 r1 is1 inside tt e k.stamp)
+    u = unlock_same a l2 k i.lock w g1 r1 is1 inside tt i.clean
 
-    after : lane (unlocked a l2 k i.lock w g1 r1 is1 inside u.0 k.stamp).lanes l.cpu ≡ record l { seen = log'; locks = [] }
+    after : lane (unlocked a l2 k i.lock w g1 r1 is1 inside tt u.0 k.stamp).lanes l.cpu ≡ record l { seen = log'; locks = [] }
     after = rw (eq-eqb l.cpu l.cpu refl) (ap (λ (x : Known). record x { seen = log'; locks = [] }) is)
+
+-- ---- an answer under several locks, at the unlock of the one taken last
+module _ (a : About) (l : Known) (k : Lock) (rest : List Lock) (e : Event) (i : AnswersAll a l k rest e) (ws : List ℕ) (g : Ghost) (r : Rule a (mem a.shape ws) g) (is : lane g.lanes l.cpu ≡ l) (inside : l.cpu < a.shape.cpus) where
+  several_words : Place → ℕ
+  several_words = mem a.shape ws
+
+  abbrev HoldsHere : Lock → Type 0
+  HoldsHere = Holds a (segment_in a) (place_words (mem a.shape ws)) (λ n t. mem a.shape ws (Stamp n t)) g.eras g.linked g.holder l.cpu
+
+  several_may : Allowed g.last l.cpu e g.last
+  several_may = i.allowed g.last g.linked g.number (shape_is a (mem a.shape ws) g r l is inside) inside
+      (shares_of a l.cpu (place_words (mem a.shape ws)) (λ n t. mem a.shape ws (Stamp n t)) g.eras g.linked g.holder (k ∷ rest) (holds a l k i.lock (mem a.shape ws) g r is, rest_holds a l k i.lock (mem a.shape ws) g r is) i.clean) r.keyed.leads
+
+  abbrev several_log : List Entry
+  several_log = g.log ++ entry l.cpu e ∷ []
+
+  abbrev several_lane : Known
+  several_lane = record l { seen = several_log }
+
+  several_rule : Rule a (mem a.shape ws) (noted_event g l.cpu e)
+  several_rule = event_rule a (mem a.shape ws) g r l inside e i.quiet (i.uncaused g.log) several_may
+
+  several_is : lane (noted_event g l.cpu e).lanes l.cpu ≡ several_lane
+  several_is = rw (eq-eqb l.cpu l.cpu refl) (ap (λ (x : Known). record x { seen = several_log }) is)
+
+  several_next : Next a (put_at (mem a.shape ws) (Stamp k.map k.segment) k.stamp) g l.cpu (AnsweredAll a l rest e)
+  several_next =
+      let u = unlock_same a several_lane k i.lock (mem a.shape ws) (noted_event g l.cpu e) several_rule several_is inside i.elsewhere i.clean.0 in
+      record {
+        ghost = unlocked a several_lane k i.lock (mem a.shape ws) (noted_event g l.cpu e) several_rule several_is inside i.elsewhere u.0 k.stamp;
+        rule = u.1;
+        others = λ d ne. rw (ne_eqb d l.cpu ne) refl;
+        longer = (entry l.cpu e ∷ [], refl);
+        tally = refl;
+        says = subst (AnsweredAll a l rest e) (sym (after u.0)) (record { seen = saw a (mem a.shape ws) g r l is inside e g.last several_may several_rule.logged; after = refl });
+      }
+    where
+      after : (y : Era) → lane (unlocked a several_lane k i.lock (mem a.shape ws) (noted_event g l.cpu e) several_rule several_is inside i.elsewhere y k.stamp).lanes l.cpu ≡ record l { seen = several_log; locks = rest }
+      after y = rw (eq-eqb l.cpu l.cpu refl) (ap (λ (x : Known). record x { seen = several_log; locks = rest }) is)
+
+pub unlock_several : (a : About) (l : Known) (k : Lock) (rest : List Lock) (e : Event) → AnswersAll a l k rest e → Steps a l (Stamp k.map k.segment) (λ _. k.stamp) (λ ws n l'. AnsweredAll a l rest e l')
+unlock_several a l k rest e i ws g sized r is inside fits = several_next a l k rest e i ws g r is inside
 
 -- ---- a lookup under the lock
 pub unlock_lookup : (a : About) (l : Known) (k : Lock) (key : List ℕ) (o : Option ℕ) → LooksUpLocked a l k key o → Steps a l (Stamp k.map k.segment) (λ _. k.stamp) (λ ws n l'. LookedUp a l k key o l')
 unlock_lookup a l k key o i ws g sized r is inside fits = record {
-  ghost = unlocked a l2 k i.lock w g1 r1 is1 inside u.0 k.stamp;
+  ghost = unlocked a l2 k i.lock w g1 r1 is1 inside tt u.0 k.stamp;
   rule = u.1;
   others = λ d ne. rw (ne_eqb d l.cpu ne) refl;
   longer = (entry l.cpu event ∷ [], refl);
@@ -201,10 +244,10 @@ unlock_lookup a l k key o i ws g sized r is inside fits = record {
     is1 : lane g1.lanes l.cpu ≡ l2
     is1 = rw (eq-eqb l.cpu l.cpu refl) (ap (λ (x : Known). record x { seen = log' }) is)
 
-    u : (e : Era) × Rule a (put_at w (Stamp k.map k.segment) k.stamp) (unlocked a l2 k i.lock w g1 r1 is1 inside e k.stamp)
-    u = unlock_same a l2 k i.lock w g1 r1 is1 inside i.clean
+    u : (e : Era) × Rule a (put_at w (Stamp k.map k.segment) k.stamp) (unlocked a l2 k i.lock w g1 r1 is1 inside tt e k.stamp)
+    u = unlock_same a l2 k i.lock w g1 r1 is1 inside tt i.clean
 
-    after : lane (unlocked a l2 k i.lock w g1 r1 is1 inside u.0 k.stamp).lanes l.cpu ≡ record l { seen = log'; locks = [] }
+    after : lane (unlocked a l2 k i.lock w g1 r1 is1 inside tt u.0 k.stamp).lanes l.cpu ≡ record l { seen = log'; locks = [] }
     after = rw (eq-eqb l.cpu l.cpu refl) (ap (λ (x : Known). record x { seen = log'; locks = [] }) is)
 
 -- ---- the replacement
@@ -298,18 +341,18 @@ module _ (a : About) (l : Known) (k : Lock) (f : Fresh) (rest : List Fresh) (key
   keyed2 : Keyed a (λ j. w (KeyCount j)) last'.maps linked2 number2
   keyed2 = record {
     counted = λ n lt. ⊎_elim
-        (λ (t : n ≡ m). r.keyed.counted n lt ∙ (ap (λ j. len (g.last.maps j)) t ∙ (sym as_many ∙ ap (λ (y : Keys). len y) (sym (put-same g.last.maps m n (insert (g.last.maps m) key g.last.made) t)))))
-        (λ (ne : n ≢ m). r.keyed.counted n lt ∙ ap (λ (y : Keys). len y) (sym (put-other g.last.maps m n (insert (g.last.maps m) key g.last.made) ne)))
+        (λ (t : n ≡ m). r.keyed.counted n lt ∙ (ap (λ j. len (g.last.maps j)) t ∙ (sym as_many ∙ ap (λ (y : KeyMap). len y) (sym (put-same g.last.maps m n (insert (g.last.maps m) key g.last.made) t)))))
+        (λ (ne : n ≢ m). r.keyed.counted n lt ∙ ap (λ (y : KeyMap). len y) (sym (put-other g.last.maps m n (insert (g.last.maps m) key g.last.made) ne)))
         (equal n m);
     leads = λ n q. ⊎_elim
-        (λ (t : n ≡ m). ap (λ (y : Keys). get y q) (put-same g.last.maps m n (insert (g.last.maps m) key g.last.made) t) ∙ ⊎_elim
+        (λ (t : n ≡ m). ap (λ (y : KeyMap). get y q) (put-same g.last.maps m n (insert (g.last.maps m) key g.last.made) t) ∙ ⊎_elim
         (λ (u : q ≡ key). ap (get (insert (g.last.maps m) key g.last.made)) u ∙ (leads_new (g.last.maps m) key g.last.made ∙ (ap Some (sym (put2-same g.number m e n e g.last.made t refl)) ∙ ap (numbered (number2 n)) (sym (linked_new n q t u)))))
         (λ (u : q ≢ key). ⊎_elim
         (λ (z : (q ≡ key) × (get (insert (g.last.maps m) key g.last.made) q ≡ Some g.last.made)). absurd (u z.0))
         (λ (z : get (insert (g.last.maps m) key g.last.made) q ≡ get (g.last.maps m) q). z)
         (insert_cases (g.last.maps m) key g.last.made q) ∙ (ap (λ j. get (g.last.maps j) q) (sym t) ∙ old_leads n q (λ _. u)))
         (equal_keys q key))
-        (λ (ne : n ≢ m). ap (λ (y : Keys). get y q) (put-other g.last.maps m n (insert (g.last.maps m) key g.last.made) ne) ∙ old_leads n q (λ t. absurd (ne t)))
+        (λ (ne : n ≢ m). ap (λ (y : KeyMap). get y q) (put-other g.last.maps m n (insert (g.last.maps m) key g.last.made) ne) ∙ old_leads n q (λ t. absurd (ne t)))
         (equal n m);
   }
     where
@@ -430,7 +473,7 @@ module _ (a : About) (l : Known) (k : Lock) (f : Fresh) (rest : List Fresh) (key
   swap_next =
       let u = unlock_new a l2 lock' refl w g' swap_rule is2 inside refl i.written in
       record {
-        ghost = unlocked a l2 lock' refl w g' swap_rule is2 inside u.0 (k.stamp + 256);
+        ghost = unlocked a l2 lock' refl w g' swap_rule is2 inside tt u.0 (k.stamp + 256);
         rule = u.1;
         others = λ d ne. rw (ne_eqb d l.cpu ne) refl;
         longer = (entry l.cpu event ∷ [], refl);
@@ -438,7 +481,7 @@ module _ (a : About) (l : Known) (k : Lock) (f : Fresh) (rest : List Fresh) (key
         says = subst (Replaced a l k rest key bytes flags o) (sym (after u.0)) (record { seen = saw a w g r l is inside event last' may swap_rule.logged; after = refl });
       }
     where
-      after : (y : Era) → lane (unlocked a l2 lock' refl w g' swap_rule is2 inside y (k.stamp + 256)).lanes l.cpu ≡ record l { seen = log'; fresh = rest; limbo = with_gone l m o; locks = [] }
+      after : (y : Era) → lane (unlocked a l2 lock' refl w g' swap_rule is2 inside tt y (k.stamp + 256)).lanes l.cpu ≡ record l { seen = log'; fresh = rest; limbo = with_gone l m o; locks = [] }
       after y = rw (eq-eqb l.cpu l.cpu refl) (ap (λ (z : Known). record z { seen = log'; fresh = rest; limbo = set z.limbo m (with_used (limbo_at z.limbo m) o); locks = [] }) is)
 
 pub unlock_replaced : (a : About) (l : Known) (k : Lock) (f : Fresh) (rest : List Fresh) (key bytes : List ℕ) (flags o : ℕ) → Replaces a l k f rest key bytes flags o

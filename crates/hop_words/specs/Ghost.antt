@@ -1,6 +1,6 @@
 -- What stands behind the words, and in no word: the history, what each CPU knows, and who has which
 -- element.
-use Rattle.std.specs.Prelude.{ℕ, ◌<◌, Bool, true, false, List, [], ◌∷◌, Option, length, ◌==◌, slice_index_or}
+use Rattle.std.specs.Prelude.{◌≡◌, ℕ, ◌<◌, Bool, true, false, List, [], ◌∷◌, Option, length, ◌==◌, slice_index_or}
 use Rattle.bpf_shared.specs.declared.shapes.MapShape.{MapShape}
 use Rattle.bpf_shared.specs.declared.events.Entry.{Entry}
 use Rattle.bpf_shared.specs.Shape.{elements}
@@ -98,6 +98,14 @@ IsSegment a m s = (m < length a.shape.maps) × (s < segments (shape_at a m))
 -- the segment that a key is at home in
 abbrev pub segment_in : About → ℕ → List ℕ → ℕ
 segment_in a m key = segment_of a.seed (shape_at a m) key
+
+-- the segment that a key is at home in, as the holder of a lock knows it: the lock alone tells
+abbrev pub lock_home : About → Lock → List ℕ → ℕ
+lock_home a k = segment_in a k.map
+
+-- the key is at home in the locked segment
+abbrev pub IsHomeIn : About → Lock → List ℕ → Type 0
+IsHomeIn a k key = lock_home a k key ≡ k.segment
 
 abbrev pub no_limbo : Limbo
 no_limbo = record { used = []; young = []; old = []; noted = [] }

@@ -1,5 +1,5 @@
 -- The kinds of step: what each asks of the lane that makes it, and what it tells.
-use Rattle.std.specs.Prelude.{◌⊎◌, ◌≡◌, ◌≢◌, ℕ, ◌+◌, ◌-◌, ◌*◌, ◌/◌, ◌%◌, ◌^◌, ◌<◌, ◌≤◌, Bool, true, false, ◌||◌, List, [], ◌∷◌, ◌++◌, Option, Some, None, length, slice_index, slice_set, ◌==◌}
+use Rattle.std.specs.Prelude.{◌⊎◌, ◌≡◌, ◌≢◌, ℕ, ◌+◌, ◌-◌, ◌*◌, ◌/◌, ◌%◌, ◌^◌, ◌<◌, ◌≤◌, Bool, true, false, ◌||◌, List, [], ◌∷◌, ◌++◌, Option, Some, None, is_some, length, slice_index, slice_set, ◌==◌}
 use Rattle.bpf_shared.specs.declared.events.Entry.{Entry}
 use Rattle.bpf_shared.specs.declared.events.Event.{Event}
 use Rattle.bpf_shared.specs.declared.events.Event.TheVariants.{Begin, End, Lookup, Update, Delete}
@@ -7,6 +7,8 @@ use Rattle.bpf_shared.specs.declared.events.MapAnswer.TheVariants.{Done, Busy, N
 use Rattle.bpf_shared.specs.declared.events.Span.{Span}
 use Rattle.bpf_shared.specs.Shape.{elements, element_span}
 use Rattle.std.specs.FinMap.{get}
+use Rattle.std.specs.List.{AllByRecursion}
+use Rattle.bpf_shared.specs.KeyOrder.{AreDistinct}
 use Rattle.bpf_shared.specs.Store.{Plain}
 use Rattle.bpf_base.specs.Bytes.{little_endian, low_bytes, part}
 use Rattle.bpf_shared.specs.Events.{Allowed}
@@ -25,8 +27,8 @@ use Rattle.hop_layout.specs.Layout.{words_for, at, size}
 use Rattle.hop_words.specs.Sights.{IsTakenSince, look, lock_taken, sighted}
 use Rattle.hop_layout.specs.Words.{word_of, AreBytes}
 use Rattle.hop_words.specs.Content.{MapWords, IsShare}
-use Rattle.hop_words.specs.Ghost.{segment_in, shape_at, HasElement, Each, limbo_at}
-use Rattle.hop_words.specs.Shortage.{done_in}
+use Rattle.hop_words.specs.Ghost.{segment_in, lock_home, IsHomeIn, shape_at, HasElement, Each, limbo_at}
+use Rattle.hop_words.specs.Shortage.{done_in, HasCause}
 use Rattle.hop_words.specs.Rule.{image, IsPeek, StartsWith, changed, numbered}
 use Rattle.bpf_shared.specs.Own.{turns_of, in_run}
 
@@ -37,11 +39,18 @@ pub record TakesEffect (a : About) (l : Known) (e : Event) (seen : List Entry) :
   pub after : seen ≡ l.seen ++ (others ++ entry l.cpu e ∷ [])
   pub legal : IsLegal a.shape seen
 
+-- by the words at the lock, this may be where the keys of the locked segment lead
+abbrev pub MayShow : About → Lock → (List ℕ → Option ℕ) → Type 0
+MayShow a k f = IsShare a.seed (shape_at a k.map) (lock_home a k) (image a k.first) k.map k.segment f
+
+-- and so by the words as they are by now
+abbrev pub ShowsNow : About → Lock → (List ℕ → Option ℕ) → Type 0
+ShowsNow a k f = IsShare a.seed (shape_at a k.map) (lock_home a k) (image a k.copy) k.map k.segment f
+
 -- by all that the lock's words can show, the key isn't there
 abbrev pub IsKeyAbsent : About → Lock → List ℕ → Type 0
 IsKeyAbsent a k key = (before : List ℕ → Option ℕ)
-    → IsShare a.seed (shape_at a k.map) (segment_in a k.map) (image a k.first) k.map k.segment
-    before → before key ≡ None
+    → MayShow a k before → before key ≡ None
 
 -- in a run, under the lock of a key's segment in which nothing has changed yet, the lane has an
 -- element in hand that is filled with the value
@@ -52,7 +61,7 @@ pub record HasFilled (a : About) (l : Known) (k : Lock) (f : Fresh) (rest : List
   pub hand : l.fresh ≡ f ∷ rest
   pub map : f.map ≡ k.map
   pub element : f.element < elements (shape_at a k.map)
-  pub home : segment_in a k.map key ≡ k.segment
+  pub home : IsHomeIn a k key
   pub key_size : length key ≡ (shape_at a k.map).key
   pub size : length bytes ≡ (shape_at a k.map).value
   pub are_bytes : AreBytes bytes
@@ -156,9 +165,28 @@ locking l m s n ws es = record l {
     change = Nothing;
     known = es;
     dirty = false;
-  } ∷ [];
+  } ∷ l.locks;
   tally = lock_taken m s n ∷ l.tally;
 }
+
+-- the words at the lock show of the keys of the segment where they lead
+abbrev pub Shows : About → (ℕ → List ℕ → Option ℕ) → Lock → Type 0
+Shows a linked k = MayShow a k (linked k.map)
+
+-- by all that a lock's words can show, the key is in the map
+abbrev pub ShowsIn : About → ℕ → List ℕ → Lock → Type 0
+ShowsIn a m key k = (k.map ≡ m) × IsHomeIn a k key
+    × ((f : List ℕ → Option ℕ) → MayShow a k f → is_some (f key) ≡ true)
+
+-- by one of these locks
+abbrev pub IsShownIn : About → ℕ → List Lock → List ℕ → Type 0
+IsShownIn a m [] key = ⊥
+IsShownIn a m (k ∷ ks) key = ShowsIn a m key k ⊎ IsShownIn a m ks key
+
+-- of the keys that these locks show in the map there are no more than the map may have
+abbrev pub HasRoom : About → ℕ → List Lock → Type 0
+HasRoom a m ks = (keys : List (List ℕ)) → AreDistinct keys → AllByRecursion (IsShownIn a m ks) keys
+    → length keys ≤ (shape_at a m).max
 
 -- the segment is sound and has some content, and what the lane filled stands in the copy
 pub record LocksSegment (a : About) (l : Known) (m s n : ℕ) (l' : Known) : Type 0 where
@@ -178,6 +206,8 @@ pub record LocksSegment (a : About) (l : Known) (m s n : ℕ) (l' : Known) : Typ
       → has f.element known ≡ false
   pub is_known : (key : List ℕ) (e : ℕ) → content key ≡ Some e → segment_in a m key ≡ s
       → (e < elements (shape_at a m)) × (has e known ≡ true)
+  -- where nothing has changed under the other locks
+  pub room : Each (λ (j : Lock). j.dirty ≡ false) l.locks → HasRoom a m l'.locks
 
 -- ---- write under lock
 abbrev pub writing : About → Known → Lock → Place → ℕ → Known
@@ -192,12 +222,14 @@ writing a l k p n = record l {
 -- the copy is written: by what the words at the lock showed, it shows that with the change
 abbrev pub IsWritten : About → Lock → Type 0
 IsWritten a k = (before : List ℕ → Option ℕ)
-    → IsShare a.seed (shape_at a k.map) (segment_in a k.map) (image a k.first) k.map k.segment
-    before → IsShare a.seed (shape_at a k.map) (segment_in a k.map) (image a k.copy) k.map k.segment
-    (changed k.change before)
+    → MayShow a k before → ShowsNow a k (changed k.change before)
 
 abbrev pub unlocking : Known → Known
 unlocking l = record l { locks = [] }
+
+-- none of the locks is of this one's segment
+abbrev pub AreElsewhere : Lock → List Lock → Type 0
+AreElsewhere k ks = Each (λ (j : Lock). j.map ≡ k.map → j.segment ≢ k.segment) ks
 
 -- the lane may write the link of the element: it fills it, or the element is linked in the locked
 -- segment
@@ -206,16 +238,14 @@ MayLink a l k e = (e < elements (shape_at a k.map))
     × (((f : Fresh) × (rest : List Fresh) × (l.fresh ≡ f ∷ rest) × (f.map ≡ k.map)
     × (f.element ≡ e))
     ⊎ ((before : List ℕ → Option ℕ)
-    → IsShare a.seed (shape_at a k.map) (segment_in a k.map) (image a k.first) k.map k.segment
-    before
+    → MayShow a k before
     → (key : List ℕ) × (changed k.change before key ≡ Some e)
-    × (segment_in a k.map key ≡ k.segment)))
+    × (IsHomeIn a k key)))
 
 -- by all that the lock's words can show, the key leads to this element
 abbrev pub LeadsTo : About → Lock → List ℕ → ℕ → Type 0
 LeadsTo a k key e = (before : List ℕ → Option ℕ)
-    → IsShare a.seed (shape_at a k.map) (segment_in a k.map) (image a k.first) k.map k.segment
-    before → before key ≡ Some e
+    → MayShow a k before → before key ≡ Some e
 
 -- what the lane has of the map, with one more element in hand
 abbrev pub with_gone : Known → ℕ → ℕ → List Limbo
@@ -229,7 +259,7 @@ with_gone l m e = slice_set l.limbo m (record (limbo_at l.limbo m) {
 pub record Removes (a : About) (l : Known) (k : Lock) (key : List ℕ) (e : ℕ) : Type 0 where
   pub lock : l.locks ≡ k ∷ []
   pub nothing : k.change ≡ Nothing
-  pub home : segment_in a k.map key ≡ k.segment
+  pub home : IsHomeIn a k key
   pub key_size : length key ≡ (shape_at a k.map).key
   pub there : LeadsTo a k key e
   pub room : k.map < length l.limbo
@@ -250,10 +280,8 @@ pub record Replaces (a : About) (l : Known) (k : Lock) (f : Fresh) (rest : List 
   pub filled : HasFilled a l k f rest key bytes
   pub there : LeadsTo a k key e
   pub written : (before : List ℕ → Option ℕ)
-      → IsShare a.seed (shape_at a k.map) (segment_in a k.map) (image a k.first) k.map k.segment
-      before
-      → IsShare a.seed (shape_at a k.map) (segment_in a k.map) (image a k.copy) k.map k.segment
-      (changed (Puts key f.element) before)
+      → MayShow a k before
+      → ShowsNow a k (changed (Puts key f.element) before)
   pub flags_known : (flags ≡ 0) ⊎ (flags ≡ 2)
   pub room : k.map < length l.limbo
 
@@ -291,9 +319,8 @@ pub record Answers (a : About) (l : Known) (k : Lock) (e : Event) : Type 0 where
   pub shortage : ShowsShortage a l k e
   pub allowed : (s : Plain) (before : List ℕ → Option ℕ) (number : ℕ → ℕ) → s.shape ≡ a.shape
       → s.running l.cpu ≡ true
-      → IsShare a.seed (shape_at a k.map) (segment_in a k.map) (image a k.first) k.map k.segment
-      before
-      → ((q : List ℕ) → segment_in a k.map q ≡ k.segment
+      → MayShow a k before
+      → ((q : List ℕ) → IsHomeIn a k q
       → get (s.maps k.map) q ≡ numbered number (before q)) → Allowed s l.cpu e s
 
 -- and the version that was locked is paid for by Done events that were seen: so Busy tells of that
@@ -303,16 +330,36 @@ pub record Answered (a : About) (l : Known) (k : Lock) (e : Event) (l' : Known) 
   pub worn : k.stamp / 256 ≤ a.version + done_in k.map l'.seen
   pub after : l' ≡ record l { seen = l'.seen; locks = [] }
 
+-- ---- unlock of the lock taken last, of several under which nothing changed: an answer takes
+-- effect, whatever the store is that the words of all of them can show
+pub record AnswersAll (a : About) (l : Known) (k : Lock) (rest : List Lock) (e : Event) : Type 0
+  where
+    pub lock : l.locks ≡ k ∷ rest
+    pub clean : Each (λ (j : Lock). j.dirty ≡ false) (k ∷ rest)
+    pub elsewhere : AreElsewhere k rest
+    pub quiet : turns_of (e ∷ []) ≡ 0
+    -- it tells of no shortage
+    pub uncaused : (before : List Entry) → HasCause a.shape a.version before l.cpu e
+    pub allowed : (s : Plain) (linked : ℕ → List ℕ → Option ℕ) (number : ℕ → ℕ → ℕ)
+        → s.shape ≡ a.shape → l.cpu < a.shape.cpus → Each (Shows a linked) (k ∷ rest)
+        → ((m : ℕ) (q : List ℕ) → get (s.maps m) q ≡ numbered (number m) (linked m q))
+        → Allowed s l.cpu e s
+
+-- the others are still locked
+pub record AnsweredAll (a : About) (l : Known) (rest : List Lock) (e : Event) (l' : Known) : Type 0
+  where
+    pub seen : TakesEffect a l e l'.seen
+    pub after : l' ≡ record l { seen = l'.seen; locks = rest }
+
 -- ---- unlock with the same version: a lookup takes effect, by what the lock's words show
 pub record LooksUpLocked (a : About) (l : Known) (k : Lock) (key : List ℕ) (o : Option ℕ)
     : Type 0 where
   pub lock : l.locks ≡ k ∷ []
   pub clean : k.dirty ≡ false
-  pub home : segment_in a k.map key ≡ k.segment
+  pub home : IsHomeIn a k key
   pub key_size : length key ≡ (shape_at a k.map).key
   pub shown : (before : List ℕ → Option ℕ)
-      → IsShare a.seed (shape_at a k.map) (segment_in a k.map) (image a k.first) k.map k.segment
-      before → before key ≡ o
+      → MayShow a k before → before key ≡ o
   pub runs : in_run (events_of l.cpu l.seen) ≡ true
 
 pub record LookedUp (a : About) (l : Known) (k : Lock) (key : List ℕ) (o : Option ℕ) (l' : Known)
@@ -406,7 +453,7 @@ holding l m e = record l { fresh = record { map = m; element = e; key = []; valu
 pub record Counts (a : About) (l : Known) (k : Lock) (key bytes : List ℕ) (flags : ℕ) : Type 0 where
   pub lock : l.locks ≡ k ∷ []
   pub nothing : k.change ≡ Nothing
-  pub home : segment_in a k.map key ≡ k.segment
+  pub home : IsHomeIn a k key
   pub key_size : length key ≡ (shape_at a k.map).key
   pub size : length bytes ≡ (shape_at a k.map).value
   pub absent : IsKeyAbsent a k key

@@ -9,6 +9,7 @@ pub mod Locking
 pub mod Peeking
 pub mod Touching
 pub mod Guarded
+pub mod Listing
 pub mod Opens
 pub mod Seats
 pub mod Inside

@@ -1,5 +1,5 @@
 -- What the steps under a lock ask of what a CPU knows, and what they tell.
-use Rattle.std.specs.Prelude.{◌≡◌, ◌≢◌, ◌⊎◌, ℕ, ◌+◌, ◌<◌, List, [], ◌∷◌, slice_index_or, false}
+use Rattle.std.specs.Prelude.{◌≡◌, ◌≢◌, ℕ, ◌<◌, List, [], ◌∷◌, slice_index_or, false}
 use Rattle.bpf_shared.specs.declared.events.Event.TheVariants.{Update}
 use Rattle.bpf_shared.specs.declared.events.MapAnswer.TheVariants.{Full, NoMemory}
 use Rattle.hop_layout.specs.declared.about.About.{About}
@@ -11,6 +11,7 @@ use Rattle.hop_words.specs.Content.{MapWords}
 use Rattle.hop_words.specs.Ghost.{shape_at}
 use Rattle.hop_words.specs.Rule.{image}
 use Rattle.hop_words.specs.Kinds.{Told}
+use Rattle.hop_words.specs.Owning.{tail_of}
 
 abbrev pub no_lock : Lock
 no_lock = record {
@@ -38,6 +39,19 @@ hand l = slice_index_or l.fresh 0 nothing_in_hand
 -- the CPU has this lock, and no other
 abbrev pub HasLock : Known → ℕ → ℕ → Type 0
 HasLock l m s = (l.locks ≡ lock_of l ∷ []) × ((lock_of l).map ≡ m) × ((lock_of l).segment ≡ s)
+
+-- the locks that it took before
+abbrev pub other_locks : Known → List Lock
+other_locks l = tail_of l.locks
+
+-- the CPU took this lock last
+abbrev pub HasLastLock : Known → ℕ → ℕ → Type 0
+HasLastLock l m s =
+    (l.locks ≡ lock_of l ∷ other_locks l) × ((lock_of l).map ≡ m) × ((lock_of l).segment ≡ s)
+
+-- it gives the lock back that it took last
+abbrev pub unlocking_last : Known → Known
+unlocking_last l = record l { locks = other_locks l }
 
 -- the words of the locked segment by now
 abbrev pub locked_words : About → Known → MapWords

@@ -9,7 +9,7 @@ use lib.ListN.{get_elem?}
 use Rattle.atomic_table.specs.Table.{State}
 use Rattle.bpf_shared.specs.declared.events.Entry.{Entry}
 use Rattle.bpf_shared.specs.Shape.{element_span, IsShape}
-use Rattle.bpf_shared.specs.Store.{Keys, Value, Plain, as_made}
+use Rattle.bpf_shared.specs.Store.{KeyMap, Value, Plain, as_made}
 use Rattle.bpf_shared.specs.History.{Legal, events_of}
 use Rattle.bpf_shared.specs.Own.{turns_of}
 use Rattle.hop_layout.specs.declared.place.Place.{Place}
@@ -49,7 +49,7 @@ numbered f None = None
 numbered f (Some e) = Some (f e)
 
 -- the key counts are the numbers of keys, and each key leads to the value that lies in its element
-pub record Keyed (a : About) (counts : ℕ → ℕ) (maps : ℕ → Keys) (linked : ℕ → List ℕ → Option ℕ)
+pub record Keyed (a : About) (counts : ℕ → ℕ) (maps : ℕ → KeyMap) (linked : ℕ → List ℕ → Option ℕ)
     (number : ℕ → ℕ → ℕ) : Type 0 where
   pub counted : (m : ℕ) → m < length a.shape.maps → counts m ≡ len (maps m)
   pub leads : (m : ℕ) (key : List ℕ) → get (maps m) key ≡ numbered (number m) (linked m key)

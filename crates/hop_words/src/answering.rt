@@ -1,15 +1,17 @@
 //! The steps by which an update or a deletion takes effect: at the key count, or at the unlock.
 ghost use Rattle.std.specs.Prelude.{◌≡◌, ◌<◌, ◌+◌, ◌^◌, false, length, IsTrue, IsFalse};
-ghost use Rattle.bpf_shared.specs.declared.events.Event.TheVariants.{Update, Delete};
+ghost use Rattle.bpf_shared.specs.declared.events.Event.TheVariants.{Update, Delete, Keys};
+ghost use Rattle.bpf_shared.specs.KeyOrder.{in_order};
 ghost use Rattle.hop_words.specs.Ghost.{IsSegment};
 ghost use Rattle.hop_words.specs.Rule.{owed};
-ghost use Rattle.hop_words.specs.Kinds.{Inserts, Inserted, Removes, Removed, Counts, Misflagged, Told, IsWritten, unlocking, Answers, Answered, LooksUpLocked, LookedUp, Replaces, Replaced, SawAllTaken};
+ghost use Rattle.hop_words.specs.Kinds.{Inserts, Inserted, Removes, Removed, Counts, Misflagged, Told, IsWritten, unlocking, AreElsewhere, AnsweredAll, Answers, Answered, LooksUpLocked, LookedUp, Replaces, Replaced, SawAllTaken};
 ghost use Rattle.hop_words.specs.Owning.{tail_of};
-ghost use Rattle.hop_words.specs.Locking.{lock_of, hand, HasLock, SeesRoom, SeesLack};
+ghost use Rattle.hop_words.specs.Listing.{ListsMap};
+ghost use Rattle.hop_words.specs.Locking.{lock_of, other_locks, unlocking_last, hand, HasLock, HasLastLock, SeesRoom, SeesLack};
 
 use crate::lane::Lane;
 use crate::table::HopTable;
-use bpf_shared::MapAnswer;
+use bpf_shared::{KeyList, MapAnswer};
 use hop_layout::Place;
 use std::marker::Brand;
 
@@ -142,17 +144,40 @@ impl Lane {
         self.unlock_by::<Brand, _>(table, place, stamp + 256, ());
     }
 
-    /// Unlocks a segment that didn't change.
+    /// Unlocks the segment that was locked last, where it didn't change. Other locks stay.
     pub fn unlock_silent(&mut self, table: &HopTable, map: u8, segment: u32, stamp: u64)
         requires table { self.old.table ≡ table.now.id }
         requires inside { IsSegment table.now.about map segment }
-        requires lock { HasLock self.old.known map segment }
+        requires lock { HasLastLock self.old.known map segment }
+        requires elsewhere { AreElsewhere (lock_of self.old.known) (other_locks self.old.known) }
         requires stamp { stamp ≡ (lock_of self.old.known).stamp }
         requires clean { (lock_of self.old.known).dirty ≡ false }
         ensures table { self.new.table ≡ self.old.table }
-        ensures unlocked { self.new.known ≡ unlocking self.old.known }
+        ensures unlocked { self.new.known ≡ unlocking_last self.old.known }
     {
         self.unlock_by::<Brand, _>(table, Place::Stamp { map, segment }, stamp, ());
+    }
+
+    /// Unlocks the segment that was locked last, where this CPU has the locks of all segments of a
+    /// map and none changed, and with it the map's keys are listed: those of the list, in order.
+    pub fn unlock_keys(
+        &mut self,
+        table: &HopTable,
+        map: u8,
+        segment: u32,
+        stamp: u64,
+        list: &KeyList,
+    )
+        requires table { self.old.table ≡ table.now.id }
+        requires inside { IsSegment table.now.about map segment }
+        requires lock { HasLastLock self.old.known map segment }
+        requires stamp { stamp ≡ (lock_of self.old.known).stamp }
+        requires lists { ListsMap table.now.about self.old.known map list.now.keys }
+        ensures table { self.new.table ≡ self.old.table }
+        ensures listed { AnsweredAll table.now.about self.old.known (other_locks self.old.known)
+            (Keys map (in_order list.now.keys)) self.new.known }
+    {
+        self.unlock_by::<Brand, _>(table, Place::Stamp { map, segment }, stamp, (map, list));
     }
 
     /// Unlocks a segment that didn't change, and with it an update is answered.

@@ -2,7 +2,7 @@
 ghost use Rattle.std.specs.Prelude.{◌≡◌, true, [], ◌∷◌};
 ghost use Rattle.hop_layout.specs.Layout.{is_place, mem};
 ghost use Rattle.hop_words.specs.Kinds.{writing};
-ghost use Rattle.hop_words.specs.Locking.{lock_of};
+ghost use Rattle.hop_words.specs.Locking.{lock_of, other_locks};
 ghost use Rattle.hop_words.specs.Guarded.{IsGuarded, MayWrite};
 
 use crate::lane::Lane;
@@ -11,12 +11,12 @@ use hop_layout::Place;
 use std::marker::Brand;
 
 impl Lane {
-    /// Reads any word. Where the lock guards it, it is the word as its holder knows it.
+    /// Reads any word. Where the lock taken last guards it, it is the word as its holder knows it.
     #[inline(always)]
     pub fn read_guarded(&mut self, table: &HopTable, place: Place) -> u64
         requires table { self.old.table ≡ table.now.id }
         requires there { is_place table.now.about.shape place ≡ true }
-        requires held { self.old.known.locks ≡ lock_of self.old.known ∷ [] }
+        requires held { self.old.known.locks ≡ lock_of self.old.known ∷ other_locks self.old.known }
         ensures table { self.new.table ≡ self.old.table }
         ensures word { IsGuarded table.now.about self.old.known place →
             result ≡ mem table.now.about.shape (lock_of self.old.known).copy place }

@@ -1,11 +1,11 @@
 //! The steps on a segment under its lock. A lock is a compare-exchange of an unlocked stamp, and
 //! the unlock a store of it: with the version plus 1 where the segment changed, else with the same.
-ghost use Rattle.std.specs.Prelude.{◌≡◌, ◌<◌, ◌+◌, ◌%◌, [], IsTrue, IsFalse};
+ghost use Rattle.std.specs.Prelude.{◌≡◌, ◌<◌, ◌+◌, ◌%◌, IsTrue, IsFalse};
 ghost use Rattle.hop_layout.specs.declared.place.Place.TheVariants.{Head, Hop, Slot, Link};
 ghost use Rattle.hop_layout.specs.Layout.{words_for};
 ghost use Rattle.hop_words.specs.Ghost.{shape_at, HasElement, IsSegment};
 ghost use Rattle.hop_words.specs.Kinds.{LocksSegment, MayLink, writing};
-ghost use Rattle.hop_words.specs.Locking.{lock_of, HasLock, locked_words};
+ghost use Rattle.hop_words.specs.Locking.{lock_of, HasLock, HasLastLock, locked_words};
 
 use crate::lane::Lane;
 use crate::table::HopTable;
@@ -23,12 +23,11 @@ impl Lane {
         self.load_by::<Brand, _>(table, Place::Stamp { map, segment }, ())
     }
 
-    /// Locks a segment if its stamp is this one.
+    /// Locks a segment if its stamp is this one. The locks that the CPU has already it keeps.
     pub fn lock(&mut self, table: &HopTable, map: u8, segment: u32, stamp: u64) -> bool
         requires table { self.old.table ≡ table.now.id }
         requires inside { IsSegment table.now.about map segment }
         requires even { stamp % 2 ≡ 0 }
-        requires unlocked { self.old.known.locks ≡ [] }
         ensures table { self.new.table ≡ self.old.table }
         ensures locked { IsTrue result
             → LocksSegment table.now.about self.old.known map segment stamp self.new.known }
@@ -37,6 +36,18 @@ impl Lane {
         let place = Place::Stamp { map, segment };
         let found = self.exchange_noted::<Brand, _>(table, place, stamp, stamp + 1, (map, segment));
         found == stamp
+    }
+
+    /// The stamp of the segment that was locked last, as it was before.
+    pub fn read_locked_stamp(&mut self, table: &HopTable, map: u8, segment: u32) -> u64
+        requires table { self.old.table ≡ table.now.id }
+        requires inside { IsSegment table.now.about map segment }
+        requires lock { HasLastLock self.old.known map segment }
+        ensures table { self.new.table ≡ self.old.table }
+        ensures stamp { result ≡ (lock_of self.old.known).stamp + 1 }
+        ensures same { self.new.known ≡ self.old.known }
+    {
+        self.load_by::<Brand, _>(table, Place::Stamp { map, segment }, (map, segment))
     }
 
     /// The head of the locked segment's overflow list.

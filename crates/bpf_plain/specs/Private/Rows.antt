@@ -25,7 +25,7 @@ pub record Rows : Type 0 where
 
 abbrev pub no_rows : Rows
 no_rows = record {
-  shape = record { key = 0; value = 0; max = 0; spare = 0; mask = 0 };
+  shape = record { key = 0; value = 0; max = 0; spare = 0; mask = 0; grow = false };
   cpus = 0;
   linked = [];
   keys = [];

@@ -1,6 +1,6 @@
 -- What a kind of step has to give: whatever the words and the ghost are, the step of one CPU at one
 -- place keeps the rule, and its caller is told something.
-use Rattle.std.specs.Prelude.{◌≡◌, ◌≢◌, ℕ, ◌<◌, ◌==◌, if◌then◌else◌, List, [], ◌∷◌, ◌++◌, length, ◌⊎◌, ◌+◌, ◌/◌, ◌%◌, ◌≤◌, ◌&&◌, ◌-◌, ◌^◌}
+use Rattle.std.specs.Prelude.{◌≡◌, ◌≢◌, ℕ, ◌<◌, ◌==◌, if◌then◌else◌, List, [], ◌∷◌, ◌++◌, length, ◌⊎◌, ◌+◌}
 use prog.Atomic.{either}
 use mathlib.Core.List.{IsPrefix}
 use Rattle.atomic_table.specs.Table.{Me}
@@ -14,10 +14,8 @@ use Rattle.hop_words.specs.Sights.{sight}
 use Rattle.hop_words.specs.Ghost.{Ghost, lane}
 use Rattle.hop_words.specs.Rule.{Rule}
 use Rattle.hop_layout.specs.declared.place.Place.TheVariants.{Stamp, FreeBits}
-use Rattle.hop_words.specs.Locking.{lock_of, HasLock}
-use mathlib.Core.Option.{some}
+use Rattle.hop_words.specs.Locking.{lock_of, HasLastLock}
 use mathlib.Core.List.{IsPrefix}
-use lib.ListN.{get_elem?}
 
 -- a place where a step that changes the word need not be noted: so no element is taken or given
 -- back, and no lock is taken, without a sight
@@ -29,10 +27,10 @@ IsQuiet place = Unit {0}
 abbrev pub solo : Known → View
 solo l = record { lanes = l ∷ []; kept = [] }
 
--- the store unlocks the segment whose lock the CPU has: its version is the one before the lock, or
+-- the store unlocks the segment that the CPU locked last: its version is the one before the lock, or
 -- the next
 abbrev pub Unlocks : Known → Place → ℕ → Type 0
-Unlocks l (Stamp m s) new = HasLock l m s
+Unlocks l (Stamp m s) new = HasLastLock l m s
     × ((new ≡ (lock_of l).stamp) ⊎ (new ≡ (lock_of l).stamp + 256))
 Unlocks l place new = ⊥
 

@@ -10,7 +10,7 @@ use Rattle.hop_map.proofs.Looking.{looked, takes_lock}
 use Rattle.hop_map.proofs.finding.find_locked.Goals as goal
 
 pub new-words-requires : goal.new-words-requires
-new-words-requires g c = record { fits = empty_fits _ _ c.args.table.now.about c.args.lane.known c.args.map c.homing-at.result.segment c.lock_when_free-stamp.result _ _ c.homing-at.ensures.inside c.lock_when_free-stamp.new.lane.known c.lock_when_free-stamp.ensures.locked c.requires.asks.fresh (c.lock_when_free-stamp.ensures.table ∙ c.requires.table) c.homing-at.ensures.key c.homing-at.ensures.small c.homing-at.ensures.elements }
+new-words-requires g c = record { fits = empty_fits _ _ c.args.table.now.about c.args.lane.known c.args.map c.homing-at.result.segment c.lock_when_free-stamp.result _ _ c.homing-at.ensures.inside c.lock_when_free-stamp.new.lane.known c.lock_when_free-stamp.ensures.locked c.requires.asks.fresh c.requires.asks.locks (c.lock_when_free-stamp.ensures.table ∙ c.requires.table) c.homing-at.ensures.key c.homing-at.ensures.small c.homing-at.ensures.elements }
 
 pub find_here-lane-requires-clause-contents : goal.find_here-lane-requires-clause-contents
 find_here-lane-requires-clause-contents g c =

@@ -10,6 +10,14 @@ shape_of-requires c =
     let s = subst (λ (x : About). IsShape x.shape) c.about.ensures c.cpus-cpus.ensures.in_range in
     record { map = map_there a s c.args.at.at c.args.size c.requires.there }
 
+pub overflow_cast-map : goal.overflow_cast-map
+overflow_cast-map c =
+    let a = c.args.table.now.about in
+    let s = subst (λ (x : About). IsShape x.shape) c.about.ensures c.cpus-cpus.ensures.in_range in
+    let there = map_there a s c.args.at.at c.args.size c.requires.there in
+    let few = s.count in
+    omega arith
+
 pub returns-clause-touches : goal.returns-clause-touches
 returns-clause-touches c =
     let a = c.args.table.now.about in

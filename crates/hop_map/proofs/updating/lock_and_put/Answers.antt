@@ -14,7 +14,7 @@ new-words-requires g c =
         keyed = i.key;
         small = i.small;
         counted = i.elements;
-        ready = locked_ready c.args.table.now.about c.args.lane.known c.args.map c.homing-at.result.segment c.lock_when_free-stamp.result i.inside c.args.key.now c.args.element c.requires.readies.carries c.lock_when_free-stamp.new.lane.known c.lock_when_free-stamp.ensures.locked;
+        ready = locked_ready c.args.table.now.about c.args.lane.known c.args.map c.homing-at.result.segment c.lock_when_free-stamp.result i.inside c.args.key.now c.args.element c.requires.readies.carries c.lock_when_free-stamp.new.lane.known c.lock_when_free-stamp.ensures.locked c.requires.readies.idle;
       };
     }
 

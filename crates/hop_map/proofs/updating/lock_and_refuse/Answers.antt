@@ -8,7 +8,7 @@ use Rattle.hop_map.proofs.Wholes.{saw_locked}
 use Rattle.hop_map.proofs.updating.lock_and_refuse.Goals as goal
 
 pub new-words-requires : goal.new-words-requires
-new-words-requires g c = record { fits = empty_fits _ _ c.args.table.now.about c.args.lane.known c.args.map c.homing-at.result.segment c.lock_when_free-stamp.result _ _ c.homing-at.ensures.inside c.lock_when_free-stamp.new.lane.known c.lock_when_free-stamp.ensures.locked c.requires.empty (c.lock_when_free-stamp.ensures.table ∙ c.requires.table) c.homing-at.ensures.key c.homing-at.ensures.small c.homing-at.ensures.elements }
+new-words-requires g c = record { fits = empty_fits _ _ c.args.table.now.about c.args.lane.known c.args.map c.homing-at.result.segment c.lock_when_free-stamp.result _ _ c.homing-at.ensures.inside c.lock_when_free-stamp.new.lane.known c.lock_when_free-stamp.ensures.locked c.requires.empty c.requires.idle (c.lock_when_free-stamp.ensures.table ∙ c.requires.table) c.homing-at.ensures.key c.homing-at.ensures.small c.homing-at.ensures.elements }
 
 pub refuse-requires-clause-contents : goal.refuse-requires-clause-contents
 refuse-requires-clause-contents g c =

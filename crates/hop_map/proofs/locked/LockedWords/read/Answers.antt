@@ -3,7 +3,11 @@ use Rattle.hop_layout.specs.Layout.{mem}
 use Rattle.hop_words.specs.Locking.{lock_of}
 use Rattle.hop_words.specs.Guarded.{IsGuarded}
 use Rattle.hop_map.specs.LockedSegment.{Locked}
+use Rattle.hop_map.proofs.Locking.{alone_last}
 use Rattle.hop_map.proofs.locked.LockedWords.read.Goals as goal
+
+pub read_guarded-requires-clause-held : goal.read_guarded-requires-clause-held
+read_guarded-requires-clause-held c = alone_last c.self.inside.lane.known c.self.invariant.ready.held
 
 pub returns-clause-value : goal.returns-clause-value
 returns-clause-value c = λ guarded.
