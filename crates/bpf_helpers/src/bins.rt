@@ -68,6 +68,14 @@ impl Bins {
         false
     }
 
+    /// Become what others are.
+    pub(crate) fn copy_from(&mut self, other: &Bins)
+        ensures { self.new ≡ other.now }
+    {
+        self.latest = other.latest;
+        self.earlier = other.earlier;
+    }
+
     /// Puts the number of a span, which is next, in its bin.
     pub(crate) fn put(&mut self, span: Span, number: u8)
         ensures { (spans : List Span) → length spans ≡ number

@@ -63,6 +63,13 @@ impl Grid {
         })
     }
 
+    /// Becomes what another one is.
+    pub(crate) fn copy_from(&mut self, other: &Grid)
+        ensures { self.new ≡ other.now }
+    {
+        self.sizes = other.sizes;
+    }
+
     /// Takes a span's size for its map's, where none of them is held yet.
     pub(crate) fn note(&mut self, span: Span)
         ensures kept { (p : Span) → IsOnGrid self.old.sizes p → IsOnGrid self.new.sizes p }

@@ -44,6 +44,13 @@ fn covers(span: Span, address: u64, length: u64) -> bool
     span.at <= address && length <= span.size && address - span.at <= span.size - length
 }
 
+/// Whether lists have the same spans.
+fn same_spans(spans: &[Span], others: &[Span]) -> bool
+    ensures { IsTrue result ↔ (spans.now ≡ others.now) }
+{
+    spans == others
+}
+
 impl HeldSpans {
     /// No spans.
     pub fn new() -> HeldSpans
@@ -131,6 +138,26 @@ impl HeldSpans {
             Some(span) => covers(span, address, length) && self.has(span),
             None => false,
         }
+    }
+
+    /// Become what others are.
+    pub fn copy_from(&mut self, other: &HeldSpans)
+        ensures { self.new ≡ other.now }
+    {
+        self.spans.clear();
+        match self.spans.try_extend_from_slice(other.spans.as_slice()) {
+            Ok(()) => {}
+            Err(_) => unreachable!(),
+        }
+        self.bins.copy_from(&other.bins);
+        self.grid.copy_from(&other.grid);
+    }
+
+    /// Whether they are the same, in the same order.
+    pub fn is_same(&self, other: &HeldSpans) -> bool
+        ensures { IsTrue result ↔ (self.now ≡ other.now) }
+    {
+        same_spans(self.spans(), other.spans())
     }
 
     /// Whether one more span would be too many.

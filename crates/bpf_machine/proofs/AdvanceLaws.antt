@@ -14,7 +14,7 @@ use Rattle.bpf_cpu.specs.declared.outcome.Outcome.{Outcome}
 use Rattle.bpf_cpu.specs.declared.outcome.Outcome.TheVariants.{OutOfBudget}
 use Rattle.bpf_cpu.specs.Step.{Step, MakesQuietSteps}
 use Rattle.bpf_machine.specs.Schedule.{Advances, outcome_after}
-use Rattle.bpf_machine.specs.Private.Headways.{TakesQuietTurns}
+use Rattle.bpf_machine.specs.Headways.{TakesQuietTurns}
 use Rattle.bpf_machine.proofs.OwnEvents.{chain_leads}
 
 -- from each plain store that the first value shows, the job's step leads to one that the second shows

@@ -18,7 +18,8 @@ use Rattle.bpf_machine.specs.Rounds.{below, RunsRound, RunsRounds}
 use Rattle.bpf_machine.specs.Machine.{MachineState, Shows}
 use Rattle.bpf_machine.specs.Questions.{turns_before_end, turns_left}
 use Rattle.bpf_machine.specs.Work.{HasInHand}
-use Rattle.bpf_machine.specs.Private.Headways.{TakesQuietTurns, IsOnlyOne, RunsAhead, turns_in, headway_at, spent, HasSoMany, BothPrecede, FitsHeadway, with_jobs, IsAheadOf, Everywhere}
+use Rattle.bpf_machine.specs.Headways.{TakesQuietTurns, IsOnlyOne, RunsAhead, turns_in, BothPrecede, FitsHeadway, with_jobs, IsAheadOf}
+use Rattle.bpf_machine.specs.Private.Headways.{headway_at, spent, HasSoMany, Everywhere}
 use Rattle.bpf_machine.proofs.FallLaws.{summed, left_falls, turns_fall}
 use Rattle.bpf_machine.proofs.RoundLaws.{SoMany, Turns as Makes, idle_turn, fell, cpus_shown, rounds_join}
 use Rattle.bpf_machine.proofs.TurnLaws.{begun_at, runs_more}
@@ -111,7 +112,7 @@ module _ (m m' : MachineState) (c : ℕ) (known : ℕ → Type 0) (f g : ℕ →
 
 -- ---- all CPUs, as far as those below a number
 -- a job is as far as it is
-both_same : (programs : List Loaded) (turns : ℕ → ℕ) → ((c : ℕ) → turns c ≡ 0) → (o : Option Task) → BothPrecede programs turns o o
+pub both_same : (programs : List Loaded) (turns : ℕ → ℕ) → ((c : ℕ) → turns c ≡ 0) → (o : Option Task) → BothPrecede programs turns o o
 both_same programs turns none None = tt
 both_same programs turns none (Some task) = inl (refl, λ state left at. none task.cpu)
 
@@ -181,7 +182,7 @@ pub all_less : (first m : MachineState) (n : ℕ) (headways : List Headway) → 
 all_less first m n headways far w shows = (far.ahead w shows).4
 
 -- a CPU that is ahead by one turn less
-still_fits : (jobs : List Task) (c n : ℕ) → FitsHeadway jobs c (Turns (suc n)) → FitsHeadway jobs c (Turns n)
+pub still_fits : (jobs : List Task) (c n : ℕ) → FitsHeadway jobs c (Turns (suc n)) → FitsHeadway jobs c (Turns n)
 still_fits jobs c zero fits = λ free waits. free fits.0 fits.1.0 fits.1.1 fits.1.2 fits.1.3
 still_fits jobs c (suc n) fits = fits
 
@@ -451,6 +452,16 @@ above_idle m n headways inside w jobs shows ahead d past = go (headway_at headwa
         let fits = subst (λ (h : Headway). FitsHeadway w.jobs d h) e (ahead.fits d tt) in
         absurd (nowhere fits.0 fits.1.0 (InHand fits.1.1 fits.1.2) fits.1.3)
 
+-- lists with the same jobs
+pub equal_lists : (xs ys : List Task) → ((j : ℕ) → slice_get xs j ≡ slice_get ys j) → xs ≡ ys
+equal_lists [] [] same = refl
+equal_lists [] (y ∷ ys) same = let no : None ≡ Some y = same 0 in cc
+equal_lists (x ∷ xs) [] same = let no : Some x ≡ None = same 0 in cc
+equal_lists (x ∷ xs) (y ∷ ys) same =
+    let head : Some x ≡ Some y = same 0 in
+    let here : x ≡ y = cc in
+    ap (λ (t : Task). t ∷ xs) here ∙ ap (λ (ts : List Task). y ∷ ts) (equal_lists xs ys (λ j. same (suc j)))
+
 module _ (first m : MachineState) (n : ℕ) (cpus : (c : ℕ) → has_cpu m.store c ≡ nat_lt c n) (inside : (j : ℕ) (task : Task) → slice_get m.jobs j ≡ Some task → task.cpu < n) where
   pub passed : (old new : List Headway) (k : ℕ) → ((c : ℕ) → c < n → HasSoMany k (headway_at old c) × (headway_at new c ≡ spent k (headway_at old c))) → ((c : ℕ) → n ≤ c → headway_at new c ≡ headway_at old c)
       → RoundsSoFar first old m → RoundsSoFar first new m
@@ -489,15 +500,6 @@ module _ (first m : MachineState) (n : ℕ) (cpus : (c : ℕ) → has_cpu m.stor
       one programs turns none None (Some new) both = absurd both
       one programs turns none (Some old) None both = absurd both
       one programs turns none (Some old) (Some new) both = ap Some (sym (not_ahead programs turns (turns old.cpu) old new (none old.cpu) both))
-
-      equal_lists : (xs ys : List Task) → ((j : ℕ) → slice_get xs j ≡ slice_get ys j) → xs ≡ ys
-      equal_lists [] [] same = refl
-      equal_lists [] (y ∷ ys) same = let no : None ≡ Some y = same 0 in cc
-      equal_lists (x ∷ xs) [] same = let no : Some x ≡ None = same 0 in cc
-      equal_lists (x ∷ xs) (y ∷ ys) same =
-          let head : Some x ≡ Some y = same 0 in
-          let here : x ≡ y = cc in
-          ap (λ (t : Task). t ∷ xs) here ∙ ap (λ (ts : List Task). y ∷ ts) (equal_lists xs ys (λ j. same (suc j)))
 
 pub made_round : (first m m' : MachineState) (old new : List Headway) → RoundsSoFar first old m
     → ((w : World) (jobs : List Task) → Shows m w → IsAheadOf Everywhere (headway_at old) jobs w

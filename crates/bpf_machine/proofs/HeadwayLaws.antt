@@ -14,7 +14,7 @@ use Rattle.bpf_cpu.specs.Task.{Stage, Task, Waiting, InHand, Ended}
 use Rattle.bpf_machine.specs.Hands.{IsAt, IsFree, NoneWaits, NoneWaitsBelow, with_stage}
 use Rattle.bpf_machine.specs.Schedule.{World, Advances, Settles, GoesOn, TakesTurn}
 use Rattle.bpf_machine.specs.Work.{HasInHand}
-use Rattle.bpf_machine.specs.Private.Headways.{TakesQuietTurns, IsOnlyOne, Precedes, BothPrecede, FitsHeadway, with_jobs}
+use Rattle.bpf_machine.specs.Headways.{TakesQuietTurns, IsOnlyOne, Precedes, BothPrecede, FitsHeadway, with_jobs}
 use Rattle.bpf_machine.proofs.AloneLaws.{keeps_at}
 
 -- ---- the jobs of one CPU are not another's

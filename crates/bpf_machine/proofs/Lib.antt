@@ -6,9 +6,14 @@ pub mod WorkLaws
 pub mod BeginLaws
 pub mod ProceedLaws
 pub mod TurnLaws
+mod LengthLaws
 pub mod RoundLaws
 pub mod MadeLaws
 pub mod DeterminedTurns
 pub mod FallLaws
 pub mod HeadwayLaws
 pub mod AheadLaws
+pub mod CoverLaws
+pub mod RaceLaws
+pub mod PatientLaws
+pub mod PatientRaceLaws

@@ -4,7 +4,7 @@ use Rattle.std.specs.Prelude.{map}
 use Rattle.std.proofs.lemmas.Bool.{lt-ltb}
 use Rattle.bpf_shared.specs.declared.events.Event.{Event}
 use Rattle.bpf_shared.specs.declared.events.Entry.{Entry}
-use Rattle.bpf_shared.specs.declared.events.Event.TheVariants.{Begin, End, Lookup, Update, Delete, Load, Store, Atomic}
+use Rattle.bpf_shared.specs.declared.events.Event.TheVariants.{Begin, End, Lookup, Update, Delete, Keys, Load, Store, Atomic}
 use Rattle.bpf_shared.specs.declared.events.MapAnswer.{MapAnswer}
 use Rattle.bpf_shared.specs.declared.events.MapAnswer.TheVariants.{Done, Invalid, Busy, Exists, Absent, Full, NoMemory}
 use Rattle.bpf_shared.specs.declared.shapes.MapShape.{MapShape}
@@ -85,6 +85,11 @@ allowed_kept s t c End within a = stays s c within a.0 t (ap (λ (x : Plain). x.
 allowed_kept s t c (Lookup m key answer) within a = found s c within a.0 t _ a.1.2
 allowed_kept s t c (Update m key bytes flags answer) within a = updated s c within a.0 t m a.1.0 key bytes flags answer a.1.4
 allowed_kept s t c (Delete m key answer) within a = deleted s c within a.0 t m key answer a.1.1
+allowed_kept s t c (Keys m ks) within a = record {
+  below = a.0;
+  shape = ap (λ (x : Plain). x.shape) a.3;
+  within = subst RunsWithin (sym a.3) within;
+}
 allowed_kept s t c (Load at size number) within a = is s c within a.0 t s a.1.3 refl refl
 allowed_kept s t c (Store at size word) within a = is s c within a.0 t _ a.1.2 refl refl
 allowed_kept s t c (Atomic at size op operand expected number) within a = is s c within a.0 t _ a.1.3 refl refl

@@ -33,7 +33,7 @@ use Rattle.bpf_machine.specs.Work.{HasInHand}
 use Rattle.bpf_machine.specs.Rounds.{RunsRounds}
 use Rattle.bpf_machine.specs.Questions.{turns_before_end, turns_left}
 use Rattle.bpf_machine.specs.Private.Turns.{IsAlone, Lasts}
-use Rattle.bpf_machine.specs.Private.Headways.{TakesQuietTurns, GoesAhead, IsOnlyOne}
+use Rattle.bpf_machine.specs.Headways.{TakesQuietTurns, GoesAhead, IsOnlyOne}
 use Rattle.bpf_machine.proofs.OwnEvents.{shown_within}
 use Rattle.bpf_machine.proofs.AloneLaws.{rounds_left}
 use Rattle.bpf_machine.proofs.FallLaws.{summed}

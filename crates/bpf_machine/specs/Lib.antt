@@ -4,5 +4,9 @@ pub mod Rounds
 pub mod Machine
 pub mod Work
 pub mod Questions
+pub mod Headways
+pub mod Cover
+pub mod Race
+pub mod Patient
 pub mod Laws
 pub mod Private

@@ -1,5 +1,5 @@
 -- Schedules: lists of CPU numbers, each a turn of that CPU over a plain store.
-use Rattle.std.specs.Prelude.{◌≡◌, ℕ, zero, suc, List, [], ◌∷◌, ◌⊎◌, Option, Some, None, map, slice_get}
+use Rattle.std.specs.Prelude.{◌≡◌, ℕ, zero, suc, List, [], ◌∷◌, ◌++◌, ◌⊎◌, Option, Some, None, map, replicate, slice_get}
 use Rattle.bpf_shared.specs.declared.events.Event.{Event}
 use Rattle.bpf_shared.specs.declared.events.Event.TheVariants.{Begin, End}
 use Rattle.bpf_shared.specs.Store.{Plain}
@@ -71,3 +71,8 @@ abbrev pub RunsSchedule : World → List ℕ → World → Type 0
 RunsSchedule w [] z = z ≡ w
 RunsSchedule w (c ∷ cs) z =
     (answer : Turn) × (m : World) × TakesTurn w c answer m × RunsSchedule m cs z
+
+-- the schedule that is told by CPUs, each with how many turns it takes before the next
+abbrev pub unrolled : List (ℕ × ℕ) → List ℕ
+unrolled [] = []
+unrolled (run ∷ runs) = replicate run.1 run.0 ++ unrolled runs

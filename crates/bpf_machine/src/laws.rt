@@ -3,6 +3,9 @@
 //! These functions do nothing: their contracts are the laws, which a proof cites.
 ghost use Rattle.bpf_machine.specs.Questions.{TurnsFall};
 ghost use Rattle.bpf_machine.specs.Laws.{RoundsAreDetermined, SchedulesAreDetermined};
+ghost use Rattle.bpf_machine.specs.Cover.{ClosedSetsCover};
+ghost use Rattle.bpf_machine.specs.Race.{RacesAreKept};
+ghost use Rattle.bpf_machine.specs.Patient.{PatientSetsCover, PatientRacesAreKept};
 
 /// Over a plain store, a schedule has one run.
 pub fn schedules_are_determined()
@@ -21,6 +24,43 @@ pub fn turns_fall()
 /// Over a plain store, rounds leave one machine.
 pub fn rounds_are_determined()
     ensures { RoundsAreDetermined }
+{
+    bpf_mem::laws::writes_are_determined();
+    bpf_loader::laws::one_instruction_begins();
+    bpf_shared::laws::calls_have_one_reply();
+}
+
+/// A closed list of machines covers all that schedules lead to.
+pub fn closed_sets_cover()
+    ensures { ClosedSetsCover }
+{
+    bpf_mem::laws::writes_are_determined();
+    bpf_loader::laws::one_instruction_begins();
+    bpf_shared::laws::calls_have_one_reply();
+}
+
+/// Each race that a schedule leads to is one in what a closed list of machines shows.
+pub fn races_are_kept()
+    ensures { RacesAreKept }
+{
+    bpf_mem::laws::writes_are_determined();
+    bpf_loader::laws::one_instruction_begins();
+    bpf_shared::laws::calls_have_one_reply();
+}
+
+/// A list that is closed but for budgets covers all that schedules lead to while no job runs out of
+/// budget.
+pub fn patient_sets_cover()
+    ensures { PatientSetsCover }
+{
+    bpf_mem::laws::writes_are_determined();
+    bpf_loader::laws::one_instruction_begins();
+    bpf_shared::laws::calls_have_one_reply();
+}
+
+/// Each race that such a schedule leads to is one in what the list shows.
+pub fn patient_races_are_kept()
+    ensures { PatientRacesAreKept }
 {
     bpf_mem::laws::writes_are_determined();
     bpf_loader::laws::one_instruction_begins();

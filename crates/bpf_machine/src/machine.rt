@@ -2,6 +2,7 @@
 
 mod ahead;
 mod lane;
+mod lengths;
 mod rounds;
 
 use bpf_cpu::{Cpu, Job, Outcome};

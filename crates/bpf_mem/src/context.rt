@@ -1,6 +1,6 @@
 //! The context: the bytes that a program is given when it starts.
 
-ghost use Rattle.std.specs.Prelude.{◌≡◌, ◌+◌, ◌≤◌, length, vec_len};
+ghost use Rattle.std.specs.Prelude.{◌≡◌, ◌+◌, ◌≤◌, ◌↔◌, IsTrue, length, vec_len};
 ghost use Rattle.bpf_base.specs.Bytes.{low_bytes, with_part};
 ghost use Rattle.bpf_mem.specs.Bytes.{length_of};
 ghost use Rattle.bpf_mem.specs.Limits.{max_context};
@@ -45,6 +45,21 @@ impl Context {
         ensures bounded { length self.now ≤ max_context }
     {
         &self.bytes
+    }
+
+    /// Becomes what another context of its length is. It takes no memory.
+    pub fn copy_from(&mut self, other: &Context)
+        requires { length other.now ≡ length self.old }
+        ensures { self.new ≡ other.now }
+    {
+        self.bytes.copy_from_slice(&other.bytes);
+    }
+
+    /// Whether the bytes are those of another.
+    pub fn is_same(&self, other: &Context) -> bool
+        ensures { IsTrue result ↔ (self.now ≡ other.now) }
+    {
+        self.bytes.as_slice() == other.bytes.as_slice()
     }
 
     /// Sets the bytes at an offset to the low bytes of a number.

@@ -59,6 +59,20 @@ fn empty() -> [u8; FRAME_BYTES]
     [0; FRAME_BYTES]
 }
 
+/// Whether frames have the same bytes.
+fn same_frames(frames: &[[u8; FRAME_BYTES]], others: &[[u8; FRAME_BYTES]]) -> bool
+    ensures { IsTrue result ↔ (frames.now ≡ others.now) }
+{
+    frames == others
+}
+
+/// Whether callers get the same back.
+fn same_callers(callers: &[Caller], others: &[Caller]) -> bool
+    ensures { IsTrue result ↔ (callers.now ≡ others.now) }
+{
+    callers == others
+}
+
 impl Frames {
     /// One frame, zeroed.
     pub fn new() -> Frames
@@ -124,6 +138,38 @@ impl Frames {
         ensures { result ≡ top_of (length self.now.live) }
     {
         STACK_BASE + FRAME_STRIDE * (self.live as u64 - 1) + FRAME_BYTES as u64
+    }
+
+    /// Becomes what another one is.
+    pub fn copy_from(&mut self, other: &Frames)
+        ensures { self.new ≡ other.now }
+    {
+        let live = other.live;
+        self.frames[..live].copy_from_slice(&other.frames[..live]);
+        self.callers[..live - 1].copy_from_slice(&other.callers[..live - 1]);
+        self.live = live;
+    }
+
+    /// The bytes of the live frames, the oldest first.
+    fn live_frames(&self) -> &[[u8; FRAME_BYTES]]
+        ensures { result.now ≡ self.now.live }
+    {
+        &self.frames[..self.live]
+    }
+
+    /// What the callers of all but the oldest get back.
+    fn live_callers(&self) -> &[Caller]
+        ensures { result.now ≡ self.now.callers }
+    {
+        &self.callers[..self.live - 1]
+    }
+
+    /// Whether the live frames, and what their callers get back, are those of another.
+    pub fn is_same(&self, other: &Frames) -> bool
+        ensures { IsTrue result ↔ (self.now ≡ other.now) }
+    {
+        same_frames(self.live_frames(), other.live_frames())
+            && same_callers(self.live_callers(), other.live_callers())
     }
 
     /// A new frame, zeroed, for a function that `caller` calls.

@@ -1,5 +1,5 @@
 use Rattle.std.proofs.Common.{◌≡◌, ◌-◌, ℕ, suc, subst, arith}
-use Rattle.bpf_machine.specs.Private.Headways.{TakesQuietTurns}
+use Rattle.bpf_machine.specs.Headways.{TakesQuietTurns}
 use Rattle.bpf_machine.proofs.AdvanceLaws.{quiet_turns}
 use Rattle.bpf_machine.proofs.machine.lane.Hand.run_ahead.Goals as goal
 

@@ -1,0 +1,12 @@
+use Rattle.std.proofs.Common.{◌+◌, ◌-◌}
+use Rattle.bpf_explore.proofs.SearchLaws.{ExpandedSoFar}
+use Rattle.bpf_explore.proofs.frontier.explore.Given as goal
+
+abbrev pub invariant-loop-next : goal.invariant-loop-next
+invariant-loop-next g l =
+    let kept = g.F.Frontier.kept in
+    let is_patient = g.F.Frontier.is_patient in
+    ExpandedSoFar (is_patient l.fn.frontier) (kept l.fn.frontier) l.next (is_patient l.frontier) (kept l.frontier)
+
+abbrev pub decreases-loop-next : goal.decreases-loop-next
+decreases-loop-next g l = l.limit + 1 - l.next

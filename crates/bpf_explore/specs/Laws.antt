@@ -1,0 +1,30 @@
+-- What follows for the answers.
+use Rattle.std.specs.Prelude.{◌≡◌, ℕ, Bool, false, List, Some, slice_get}
+use Rattle.bpf_shared.specs.Store.{Plain}
+use Rattle.bpf_shared.specs.Sound.{IsSoundStore}
+use Rattle.bpf_plain.specs.PlainStore.{StandsFor}
+use Rattle.bpf_machine.specs.Schedule.{World}
+use Rattle.bpf_machine.specs.Rounds.{HaveEnded}
+use Rattle.bpf_machine.specs.Laws.{IsFresh}
+use Rattle.bpf_machine.specs.Machine.{MachineState}
+use Rattle.bpf_machine.specs.Cover.{IsShown}
+use Rattle.bpf_jobs.specs.Printed.{Tells}
+use Rattle.bpf_explore.specs.Outcomes.{Found, HaveAll}
+use Rattle.bpf_explore.specs.Search.{CoversAll}
+
+-- what is told of a machine is one of the answers
+abbrev pub IsAnswered : List (List ℕ) → Bool → List Found → MachineState → Type 0
+IsAnswered names maps answers m =
+    (i : ℕ) × (found : Found) × (slice_get answers i ≡ Some found)
+    × ((s : Plain) → IsSoundStore s → StandsFor m.store s
+    → Tells s m.jobs names maps found.text found.stopped)
+
+-- where machines cover all schedules, and what is told of each of them that has no work is an
+-- answer, no outcome is left out
+abbrev pub CoverTellsAll : Type 0
+CoverTellsAll =
+    (kept : List MachineState) (w : World) (names : List (List ℕ)) (maps : Bool)
+    (answers : List Found) → CoversAll false kept → IsFresh w → IsShown kept w
+    → ((i : ℕ) (m : MachineState) → slice_get kept i ≡ Some m → HaveEnded m.jobs
+    → IsAnswered names maps answers m)
+    → HaveAll w names maps answers

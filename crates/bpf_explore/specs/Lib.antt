@@ -1,0 +1,5 @@
+pub mod Outcomes
+pub mod Search
+pub mod Laws
+pub mod Patient
+pub mod Tuples

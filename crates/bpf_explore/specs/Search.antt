@@ -1,0 +1,47 @@
+-- The search through the machines that turns lead to: exact, or but for budgets.
+use Rattle.std.specs.Prelude.{◌≡◌, ℕ, Bool, true, false, List, ◌++◌, Some, slice_get}
+use Rattle.bpf_machine.specs.Schedule.{World, RunsSchedule}
+use Rattle.bpf_machine.specs.Rounds.{HaveEnded}
+use Rattle.bpf_machine.specs.Laws.{IsFresh}
+use Rattle.bpf_machine.specs.Machine.{MachineState}
+use Rattle.bpf_machine.specs.Hands.{IsFree, NoneWaits}
+use Rattle.bpf_machine.specs.Cover.{TurnsTo, IsKeptAs, IsClosed, IsShown, IsCovered}
+use Rattle.bpf_machine.specs.Patient.{NoneRanOut, IsKeptRichly, IsClosedRichly, IsCoveredRichly}
+
+-- all that the machine shows, a kept one shows; of a patient search, but for richer jobs
+abbrev pub IsKept : Bool → List MachineState → MachineState → Type 0
+IsKept false kept m = IsKeptAs kept m
+IsKept true kept m = IsKeptRichly kept m
+
+-- the CPU's turn was made from the i-th kept machine, and where it led is kept
+abbrev pub IsTurned : Bool → List MachineState → ℕ → ℕ → Type 0
+IsTurned patient kept i c = (m : MachineState) → slice_get kept i ≡ Some m
+    → (new : MachineState) × TurnsTo m c new × IsKept patient kept new
+
+-- so was each CPU's
+abbrev pub IsExpanded : Bool → List MachineState → ℕ → Type 0
+IsExpanded patient kept i = (c : ℕ) → IsTurned patient kept i c
+
+-- the CPU has no work in the i-th kept machine
+abbrev pub IsIdleAt : List MachineState → ℕ → ℕ → Type 0
+IsIdleAt kept i c = (m : MachineState) → slice_get kept i ≡ Some m
+    → IsFree m.jobs c × NoneWaits m.jobs c
+
+-- more machines stand behind those that were there
+abbrev pub Extends : List MachineState → List MachineState → Type 0
+Extends old new = (more : List MachineState) × (new ≡ old ++ more)
+
+-- nothing is left to be kept
+abbrev pub IsWhole : Bool → List MachineState → Type 0
+IsWhole false kept = IsClosed kept
+IsWhole true kept = IsClosedRichly kept
+
+-- all that schedules lead to from a kept machine before its first turn is covered; and where no CPU
+-- has work left, a kept machine shows it. Of a patient search, while no job runs out of budget
+abbrev pub CoversAll : Bool → List MachineState → Type 0
+CoversAll false kept =
+    (w z : World) (schedule : List ℕ) → IsFresh w → IsShown kept w → RunsSchedule w schedule z
+    → IsCovered kept z × (HaveEnded z.jobs → IsShown kept z)
+CoversAll true kept =
+    (w z : World) (schedule : List ℕ) → IsFresh w → IsShown kept w → RunsSchedule w schedule z
+    → NoneRanOut z.jobs → IsCoveredRichly kept z × (HaveEnded z.jobs → IsShown kept z)

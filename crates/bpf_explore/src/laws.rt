@@ -1,0 +1,15 @@
+//! What follows from the definitions.
+//!
+//! The functions do nothing: their contracts are the laws.
+ghost use Rattle.bpf_explore.specs.Laws.{CoverTellsAll};
+ghost use Rattle.bpf_explore.specs.Patient.{PatientTellAll};
+
+/// Where kept machines cover all schedules and are told, no outcome is left out.
+pub fn cover_tells_all()
+    ensures { CoverTellsAll }
+{}
+
+/// The same after a patient search, of outcomes in which no job is out of budget.
+pub fn patient_tell_all()
+    ensures { PatientTellAll }
+{}

@@ -1,0 +1,177 @@
+-- Closed lists of machines cover all that schedules lead to.
+use Rattle.std.proofs.Common.{◌≡◌, ◌≢◌, ◌∙◌, ℕ, zero, suc, List, [], ◌∷◌, Option, Some, None, inl, inr, refl, sym, ap, subst}
+use Rattle.std.specs.Prelude.{slice_get}
+use Rattle.bpf_shared.specs.Laws.{CallsHaveOneReply}
+use Rattle.bpf_shared.specs.Store.{put}
+use Rattle.bpf_shared.proofs.Puts.{equal_or_not, put-same, put-other}
+use Rattle.bpf_loader.specs.Loaded.{Loaded}
+use Rattle.bpf_loader.specs.Laws.{OneInstructionBegins}
+use Rattle.bpf_mem.specs.Laws.{WritesAreDetermined}
+use Rattle.bpf_cpu.specs.declared.outcome.Outcome.{Outcome}
+use Rattle.bpf_machine.specs.declared.machine.Turn.{Turn}
+use Rattle.bpf_machine.specs.declared.machine.Turn.TheVariants as turn
+use Rattle.bpf_machine.specs.declared.machine.ahead.Headway.{Headway}
+use Rattle.bpf_machine.specs.declared.machine.ahead.Headway.TheVariants.{Idle, Turns}
+use Rattle.bpf_cpu.specs.Task.{Task, InHand, Ended}
+use Rattle.bpf_machine.specs.Hands.{IsFree, NoneWaits}
+use Rattle.bpf_machine.specs.Schedule.{World, TakesTurn, RunsSchedule}
+use Rattle.bpf_machine.specs.Rounds.{HaveEnded}
+use Rattle.bpf_machine.specs.Laws.{IsFresh}
+use Rattle.bpf_machine.specs.Machine.{MachineState, Shows}
+use Rattle.bpf_machine.specs.Headways.{RunsAhead, turns_in, Precedes, BothPrecede, FitsHeadway, with_jobs, IsAheadOf}
+use Rattle.bpf_machine.specs.Cover.{TurnsTo, IsClosed, IsShown, IsAhead, IsCovered, ClosedSetsCover}
+use Rattle.bpf_machine.proofs.DeterminedTurns.{IsWorld, one_turn, fresh_world}
+use Rattle.bpf_machine.proofs.TurnLaws.{turn_idle}
+use Rattle.bpf_machine.proofs.HeadwayLaws.{turn_others, fits_kept, turn_behind, turn_comes}
+use Rattle.bpf_machine.proofs.AheadLaws.{ran_ahead, both_same, still_fits, equal_lists}
+
+-- ---- a CPU without work: its turn leads to the same machine
+pub idle_turns_to : (m : MachineState) (c : ℕ) → IsFree m.jobs c → NoneWaits m.jobs c → TurnsTo m c m
+idle_turns_to m c free none = (turn.Idle, m, Idle, turn_idle m c free none, (refl, free, none))
+
+-- ---- a CPU's headway is another
+module _ (headways : ℕ → Headway) (c : ℕ) (h : Headway) where
+  abbrev now : ℕ → Headway
+  now = put headways c h
+
+  now_is : now c ≡ h
+  now_is = put-same headways c c h refl
+
+  others_are : (d : ℕ) → d ≢ c → headways d ≡ now d
+  others_are d ne = sym (put-other headways c d h ne)
+
+  was_ahead : (d : ℕ) → d ≢ c → IsAhead now d → IsAhead headways d
+  was_ahead d ne far = (far.0, others_are d ne ∙ far.1)
+
+-- but for turns that no store sees, the world is one of which this is true
+abbrev pub IsCoveredBy : (World → Type 0) → World → Type 0
+IsCoveredBy P w =
+    (v : World) × (headways : ℕ → Headway) × P v × (with_jobs v w.jobs ≡ w) × IsAheadOf (IsAhead headways) headways w.jobs v
+
+-- ---- at first no CPU is ahead
+abbrev none_is_ahead : ℕ → Headway
+none_is_ahead c = Turns 0
+
+pub shown_is_covered : (kept : List MachineState) (w : World) → IsShown kept w → IsCovered kept w
+shown_is_covered kept w shown = (
+  w,
+  none_is_ahead,
+  shown,
+  refl,
+  record {
+    each = λ j. both_same w.programs (λ c. turns_in (none_is_ahead c)) (λ c. refl) (slice_get w.jobs j);
+    fits = λ c far. let no : Turns 0 ≡ Turns (suc far.0) = far.1 in cc;
+  },
+)
+
+-- ---- in the end none is ahead
+module _ (programs : List Loaded) (turns : ℕ → ℕ) where
+  ended_stays : (old new : Task) → (outcome : Outcome) × (old.stage ≡ Ended outcome) → Precedes programs (turns old.cpu) old new → old ≡ new
+  ended_stays old new end (inl a) = sym a.0
+  ended_stays old new end (inr a) = let no : Ended end.0 ≡ InHand a.1 a.2 = sym end.1 ∙ a.6 in cc
+
+  both_ended : (o p : Option Task) → ((task : Task) → o ≡ Some task → (outcome : Outcome) × (task.stage ≡ Ended outcome)) → BothPrecede programs turns o p → o ≡ p
+  both_ended None None ended both = refl
+  both_ended None (Some new) ended both = absurd both
+  both_ended (Some old) None ended both = absurd both
+  both_ended (Some old) (Some new) ended both = ap Some (ended_stays old new (ended old refl) both)
+
+pub ended_is_shown : (kept : List MachineState) (z : World) → IsCovered kept z → HaveEnded z.jobs → IsShown kept z
+ended_is_shown kept z (v, headways, shown, same, ahead) ended =
+    let turns : ℕ → ℕ = λ c. turns_in (headways c) in
+    let jobs : z.jobs ≡ v.jobs = equal_lists z.jobs v.jobs (λ j. both_ended v.programs turns (slice_get z.jobs j) (slice_get v.jobs j) (λ task at. ended j task at) (ahead.each j)) in
+    subst (IsShown kept) (ap (λ (ts : List Task). with_jobs v ts) (sym jobs) ∙ same) shown
+
+-- ---- a turn
+-- what is true of a world is true of another after a CPU's turn and its turns that no store sees
+abbrev pub LeadsOn : (World → Type 0) → (World → Type 0) → Type 0
+LeadsOn P Q = (v : World) (c : ℕ) → P v
+    → (answer : Turn) × (mid : MachineState) × (m : MachineState) × (h : Headway) × ((y : World) × TakesTurn v c answer y × Shows mid y) × RunsAhead mid c h m × ((y : World) → Shows m y → Q y)
+
+module _ (law : WritesAreDetermined) (begins : OneInstructionBegins) (replies : CallsHaveOneReply) where
+  module _ (P Q : World → Type 0) (stays : (v : World) → P v → Q v) (leads : LeadsOn P Q) (w z : World) (c : ℕ) (answer : Turn) (world : IsWorld w) (progress : TakesTurn w c answer z) (v : World) (headways : ℕ → Headway) (shown : P v) (same : with_jobs v w.jobs ≡ w) (ahead : IsAheadOf (IsAhead headways) headways w.jobs v) where
+    -- the turn that the definitions lead to is the one that was taken
+    is_taken : (other : Turn) (y : World) → TakesTurn (with_jobs v w.jobs) c other y → IsCoveredBy Q y → IsCoveredBy Q z
+    is_taken other y taken covered =
+        let one = one_turn law begins replies w c answer other z y world progress (subst (λ (x : World). TakesTurn x c other y) same taken) in
+        subst (IsCoveredBy Q) (sym one.worlds) covered
+
+    -- it was made ahead
+    was_made : (n : ℕ) → headways c ≡ Turns (suc n) → IsCoveredBy Q z
+    was_made n many =
+        let fits = subst (λ (h : Headway). FitsHeadway v.jobs c h) many (ahead.fits c (n, many)) in
+        let new = now headways c (Turns n) in
+        let new_is = now_is headways c (Turns n) in
+        let others = others_are headways c (Turns n) in
+        let t = turn_comes (λ d. turns_in (headways d)) (λ d. turns_in (new d)) c n v w.jobs ahead.each (ap turns_in many) (ap turns_in new_is) (λ d ne. ap turns_in (others d ne)) fits.0 fits.1 fits.2 in
+        is_taken turn.Ran (with_jobs v t.0) t.1 (
+          v,
+          new,
+          stays v shown,
+          refl,
+          record {
+            each = t.2;
+            fits = λ d far. elim (equal_or_not d c) [
+              | inl e ↦ subst (λ (k : ℕ). FitsHeadway v.jobs k (new k)) (sym e) (subst (λ (h : Headway). FitsHeadway v.jobs c h) (sym new_is) (still_fits v.jobs c n fits))
+              | inr ne ↦ subst (λ (h : Headway). FitsHeadway v.jobs d h) (others d ne) (ahead.fits d (was_ahead headways c (Turns n) d ne far))
+            ];
+          },
+        )
+
+    -- it is made from the kept machine
+    is_made : turns_in (headways c) ≡ 0 → IsCoveredBy Q z
+    is_made none =
+        let r = leads v c shown in
+        let h = r.3 in
+        let t = r.4 in
+        let b = turn_behind (λ d. turns_in (headways d)) c none v w.jobs r.0 t.0 ahead.each t.1 in
+        let new = now headways c h in
+        let others = others_are headways c h in
+        let so_far : IsAheadOf (λ d. (d ≢ c) × IsAhead headways d) headways b.0 t.0 = record {
+          each = b.2;
+          fits = λ d known. fits_kept v.jobs t.0.jobs d (turn_others v c d r.0 t.0 t.1 known.0) (headways d) (ahead.fits d known.1);
+        } in
+        let q = ran_ahead r.1 r.2 c (λ d. (d ≢ c) × IsAhead headways d) headways new b.0 t.0 t.2 so_far none others h (now_is headways c h) r.5 in
+        is_taken r.0 (with_jobs q.0 b.0) (subst (λ (x : World). TakesTurn (with_jobs v w.jobs) c r.0 x) (sym q.1.0) b.1) (
+          q.0,
+          new,
+          r.6 q.0 q.1.2,
+          refl,
+          record {
+            each = q.1.1.each;
+            fits = λ d far. elim (equal_or_not d c) [
+              | inl e ↦ q.1.1.fits d (inr e)
+              | inr ne ↦ q.1.1.fits d (inl (ne, was_ahead headways c h d ne far))
+            ];
+          },
+        )
+
+    turn_from : (h : Headway) → headways c ≡ h → IsCoveredBy Q z
+    turn_from Idle e = is_made (ap turns_in e)
+    turn_from (Turns zero) e = is_made (ap turns_in e)
+    turn_from (Turns (suc n)) e = was_made n e
+
+  pub turned : (P Q : World → Type 0) → ((v : World) → P v → Q v) → LeadsOn P Q → (w z : World) (c : ℕ) (answer : Turn) → IsWorld w → IsCoveredBy P w → TakesTurn w c answer z → IsCoveredBy Q z
+  turned P Q stays leads w z c answer world (v, headways, shown, same, ahead) progress = turn_from P Q stays leads w z c answer world progress v headways shown same ahead (headways c) refl
+
+-- ---- a schedule
+module _ (law : WritesAreDetermined) (begins : OneInstructionBegins) (replies : CallsHaveOneReply) (kept : List MachineState) (closed : IsClosed kept) where
+  covered_turn : (w z : World) (c : ℕ) (answer : Turn) → IsWorld w → IsCovered kept w → TakesTurn w c answer z → IsCovered kept z
+  covered_turn w z c answer world covered progress =
+      turned law begins replies (IsShown kept) (IsShown kept) (λ v shown. shown)
+      (λ v d shown. (let r = closed shown.0 shown.1 shown.2 d in (r.1.0, r.1.1, r.0, r.1.2, r.1.3 v shown.3, r.1.4, λ y shows. (r.2.0, r.2.1, r.2.2, r.2.3 y shows))))
+      w z c answer world covered progress
+
+  pub covered_run : (cs : List ℕ) (w z : World) → IsWorld w → IsCovered kept w → RunsSchedule w cs z → IsCovered kept z × IsWorld z
+  covered_run [] w z world covered runs = (subst (IsCovered kept) (sym runs) covered, subst IsWorld (sym runs) world)
+  covered_run (c ∷ cs) w z world covered runs =
+      let next = (one_turn law begins replies w c runs.0 runs.0 runs.1 runs.1 world runs.2 runs.2).world in
+      covered_run cs runs.1 z next (covered_turn w runs.1 c runs.0 world covered runs.2) runs.3
+
+  pub covered_from : (w z : World) (schedule : List ℕ) → IsFresh w → IsShown kept w → RunsSchedule w schedule z → IsCovered kept z × IsWorld z
+  covered_from w z schedule fresh shown runs = covered_run schedule w z (fresh_world law begins replies w fresh) (shown_is_covered kept w shown) runs
+
+pub closed_sets_cover : WritesAreDetermined → OneInstructionBegins → CallsHaveOneReply → ClosedSetsCover
+closed_sets_cover law begins replies kept w z schedule closed fresh shown runs =
+    let covered = (covered_from law begins replies kept closed w z schedule fresh shown runs).0 in
+    (covered, ended_is_shown kept z covered)

@@ -1,0 +1,138 @@
+-- Races that schedules lead to are races in what a closed list of machines shows.
+use Rattle.std.proofs.Common.{◌≡◌, ◌∙◌, ◌<◌, ◌⊎◌, ℕ, zero, suc, true, false, List, [], ◌∷◌, Some, None, inl, inr, refl, sym, ap, subst, arith}
+use Rattle.std.specs.Prelude.{map, slice_get}
+use Rattle.bpf_shared.specs.Laws.{CallsHaveOneReply}
+use Rattle.bpf_shared.specs.declared.events.Event.{Event}
+use Rattle.bpf_shared.specs.declared.events.Event.TheVariants.{Begin, End, Lookup, Update, Delete, Keys, Load, Store, Atomic}
+use Rattle.bpf_shared.specs.Shape.{Shape}
+use Rattle.bpf_shared.specs.Store.{Plain, as_made}
+use Rattle.bpf_shared.specs.Events.{Allowed}
+use Rattle.bpf_shared.specs.History.{PlainlyLegal, entry}
+use Rattle.bpf_loader.specs.Loaded.{Loaded}
+use Rattle.bpf_loader.specs.Laws.{OneInstructionBegins}
+use Rattle.bpf_mem.specs.Laws.{IsMemory, WritesAreDetermined}
+use Rattle.bpf_cpu.specs.declared.cpu.Cpu.{Cpu}
+use Rattle.bpf_cpu.specs.declared.outcome.Progress.{Progress}
+use Rattle.bpf_cpu.specs.Step.{Step}
+use Rattle.bpf_cpu.specs.Task.{Task, InHand}
+use Rattle.bpf_helpers.specs.Laws.{AreAskedAlike}
+use Rattle.bpf_cpu.proofs.Asking.{asks-end'}
+use Rattle.bpf_cpu.proofs.DeterminedRuns.{step_agrees}
+use Rattle.bpf_machine.specs.declared.machine.ahead.Headway.{Headway}
+use Rattle.bpf_machine.specs.Schedule.{World, Advances}
+use Rattle.bpf_machine.specs.Headways.{TakesQuietTurns, turns_in, Precedes, with_jobs, IsAheadOf}
+use Rattle.bpf_machine.specs.Cover.{IsAhead}
+use Rattle.bpf_machine.specs.Race.{HasNext, IsRace, RacesAreKept}
+use Rattle.bpf_machine.proofs.DeterminedTurns.{IsWorld}
+use Rattle.bpf_machine.proofs.HeadwayLaws.{before, not_ahead}
+use Rattle.bpf_machine.proofs.CoverLaws.{covered_from}
+
+-- ---- a store without CPUs allows nothing
+abbrev no_cpus : Shape → Plain
+no_cpus h = as_made (record h { cpus = 0 })
+
+not_allowed : (h : Shape) (c : ℕ) (e : Event) (t : Plain) → Allowed (no_cpus h) c e t → ⊥
+not_allowed h c Begin t a = let less = a.0 in absurd (omega arith)
+not_allowed h c End t a = let no : false ≡ true = a.0 in cc
+not_allowed h c (Lookup m key answer) t a = let no : false ≡ true = a.0 in cc
+not_allowed h c (Update m key bytes flags answer) t a = let no : false ≡ true = a.0 in cc
+not_allowed h c (Delete m key answer) t a = let no : false ≡ true = a.0 in cc
+not_allowed h c (Keys m ks) t a = let less = a.0 in absurd (omega arith)
+not_allowed h c (Load a size found) t h' = let no : false ≡ true = h'.0 in cc
+not_allowed h c (Store a size word) t h' = let no : false ≡ true = h'.0 in cc
+not_allowed h c (Atomic a size op operand expected found) t h' = let no : false ≡ true = h'.0 in cc
+
+no_events : (h : Shape) (c : ℕ) (events : List Event) (t : Plain) → PlainlyLegal (no_cpus h) (map (entry c) events) t → events ≡ []
+no_events h c [] t legal = refl
+no_events h c (e ∷ es) t legal = absurd (not_allowed h c e legal.0 legal.1.0)
+
+-- ---- a step that no store sees has no events, wherever it is made
+module _ (law : WritesAreDetermined) (begins : OneInstructionBegins) where
+  advance_events : (program : Loaded) (c : ℕ) (h : Shape) (old mid after : Cpu) (left more : ℕ) (events : List Event) (answer : Progress) → IsMemory old.memory → 0 < left
+      → Advances program c (no_cpus h) old left None (no_cpus h) mid more → Step h.maps program old events answer after → events ≡ []
+  advance_events program c h old mid after zero more events answer sound may a step = absurd (omega arith)
+  advance_events program c h old mid after (suc n) more events answer sound may a step =
+      let none = no_events h c a.0 (no_cpus h) a.3 in
+      let P : List Event → Type 0 = λ es. Step h.maps program old es a.1 mid in
+      let agrees = step_agrees law begins h.maps program old after mid answer a.1 events [] sound step (subst P none a.2) in
+      nothing_asked events agrees.asks
+    where
+      nothing_asked : (es : List Event) → AreAskedAlike es [] → es ≡ []
+      nothing_asked [] alike = refl
+      nothing_asked (e ∷ es) alike = absurd (asks-end' e es alike)
+
+  quiet_has_none : (program : Loaded) (c n : ℕ) (h : Shape) (old : Cpu) (left : ℕ) (later : Cpu) (rest : ℕ) (events : List Event) (answer : Progress) (after : Cpu) → IsMemory old.memory → 0 < left
+      → TakesQuietTurns program c n old left later rest → Step h.maps program old events answer after → (n ≡ 0) ⊎ (events ≡ [])
+  quiet_has_none program c zero h old left later rest events answer after sound may made step = inl refl
+  quiet_has_none program c (suc n) h old left later rest events answer after sound may made step =
+      inr (advance_events program c h old made.0 after left made.1 events answer sound may (made.2 (no_cpus h)) step)
+
+  -- ---- a CPU whose next step has an event isn't ahead
+  module _ (z v : World) (headways : ℕ → Headway) (same : with_jobs v z.jobs ≡ z) (ahead : IsAheadOf (IsAhead headways) headways z.jobs v) (world : IsWorld z) where
+    next_is_kept : (c pc : ℕ) (event : Event) → HasNext z c pc event → HasNext v c pc event
+    next_is_kept c pc event next =
+        let b = before v.programs (λ c. turns_in (headways c)) z.jobs v.jobs ahead.each next.job next.task next.at.listed in
+        let store : z.store ≡ v.store = ap (λ (x : World). x.store) (sym same) in
+        let programs : z.programs ≡ v.programs = ap (λ (x : World). x.programs) (sym same) in
+        let loaded : slice_get v.programs next.task.program ≡ Some next.program = subst (λ (ps : List Loaded). slice_get ps next.task.program ≡ Some next.program) programs next.loaded in
+        let step : Step v.store.shape.maps next.program next.state next.events next.answer next.after = subst (λ (s : Plain). Step s.shape.maps next.program next.state next.events next.answer next.after) store next.step in
+        let kept : b.0 ≡ next.task = stays b.0 loaded step b.2 in
+        record {
+          job = next.job;
+          task = next.task;
+          state = next.state;
+          left = next.left;
+          at = record { listed = b.1 ∙ ap Some kept; of = next.at.of; at = next.at.at };
+          stands = next.stands;
+          may = next.may;
+          program = next.program;
+          loaded = loaded;
+          events = next.events;
+          answer = next.answer;
+          after = next.after;
+          step = step;
+          store = next.store;
+          legal = subst (λ (s : Plain). PlainlyLegal s (map (entry c) next.events) next.store) store next.legal;
+          place = next.place;
+          among = next.among;
+        }
+      where
+        stays : (new : Task) → slice_get v.programs next.task.program ≡ Some next.program → Step v.store.shape.maps next.program next.state next.events next.answer next.after
+            → Precedes v.programs (turns_in (headways next.task.cpu)) next.task new → new ≡ next.task
+        stays new loaded step (inl a) = a.0
+        stays new loaded step (inr (program, state, left, later, rest, loaded', was, is, made)) =
+            let programs : Some program ≡ Some next.program = sym loaded' ∙ loaded in
+            let one : program ≡ next.program = cc in
+            let stages : InHand state left ≡ InHand next.state next.left = sym was ∙ next.at.at in
+            let states : state ≡ next.state = cc in
+            let lefts : left ≡ next.left = cc in
+            let n = turns_in (headways next.task.cpu) in
+            let made' : TakesQuietTurns next.program next.task.cpu n next.state next.left later rest = subst (λ (p : Loaded). TakesQuietTurns p next.task.cpu n next.state next.left later rest) one
+            (subst (λ (x : Cpu). TakesQuietTurns program next.task.cpu n x next.left later rest) states (subst (λ (i : ℕ). TakesQuietTurns program next.task.cpu n state i later rest) lefts made)) in
+            elim (quiet_has_none next.program next.task.cpu n v.store.shape next.state next.left later rest next.events next.answer next.after (world.memory c next.job next.task next.state next.left next.at) next.may made' step) [
+              | inl none ↦ not_ahead v.programs (λ c. turns_in (headways c)) n next.task new none (inr (program, state, left, later, rest, loaded', was, is, made))
+              | inr none ↦ let no : None ≡ Some event = subst (λ (es : List Event). slice_get es next.place ≡ Some event) none next.among in cc
+            ]
+
+    pub race_is_kept : (c pc d qc b : ℕ) → IsRace z c pc d qc b → IsRace v c pc d qc b
+    race_is_kept c pc d qc b race = record {
+      apart = race.apart;
+      first = race.first;
+      second = race.second;
+      next = next_is_kept c pc race.first race.next;
+      other = next_is_kept d qc race.second race.other;
+      writes = race.writes;
+      writes_too = race.writes_too;
+      atomic = race.atomic;
+      atomic_too = race.atomic_too;
+      touches = race.touches;
+      touches_too = race.touches_too;
+      one_writes = race.one_writes;
+      not_both = race.not_both;
+    }
+
+pub races_are_kept : WritesAreDetermined → OneInstructionBegins → CallsHaveOneReply → RacesAreKept
+races_are_kept law begins replies kept w z schedule closed fresh shown runs c pc d qc b race =
+    let r = covered_from law begins replies kept closed w z schedule fresh shown runs in
+    let covered = r.0 in
+    (covered.0, covered.2, race_is_kept law begins z covered.0 covered.1 covered.3 covered.4 r.1 c pc d qc b race)
