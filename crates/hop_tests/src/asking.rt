@@ -58,8 +58,8 @@ pub(crate) enum Reply {
     Misasked,
 }
 
-// Whether the first map has the sizes of the calls.
-fn is_fitting<S: Shared>(shared: &S) -> bool
+/// Whether the first map has the sizes of the calls.
+pub(crate) fn is_fitting<S: Shared>(shared: &S) -> bool
     ensures { IsTrue result → HasSizes (S.shapes shared.now) }
 {
     match shared.shape(0) {
@@ -76,8 +76,8 @@ enum Access {
     AddOne,
 }
 
-// Whether so many bytes lie at a place in a value, which is a multiple of their number.
-fn is_place(span: Span, place: u64, bytes: u64) -> bool
+/// Whether so many bytes lie at a place in a value, which is a multiple of their number.
+pub(crate) fn is_place(span: Span, place: u64, bytes: u64) -> bool
     requires some { 0 < bytes }
     requires in_range { IsValueSpan span }
     ensures { IsTrue result → Covers span (span.at + place) bytes

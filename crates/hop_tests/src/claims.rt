@@ -29,6 +29,7 @@ fn a_store(alloc: Global, cpus: u64, max: u64) -> Result<(HopTable, Lanes), Fail
         max,
         spare: 2,
         mask: 0xffff_ffff,
+        grow: false,
     };
     let shape = StoreShape::new(cpus, vec![in alloc; map]?)?;
     let about = About {

@@ -25,6 +25,7 @@ const fn shape(spare: u64) -> MapShape {
         max: 1,
         spare,
         mask: 0xffff_ffff,
+        grow: false,
     }
 }
 
@@ -130,6 +131,20 @@ fn no_run_begins_on_a_worn_counter(rt: HostRuntime) -> Result<(), Fail> {
     let report = reported(run(&rt, rt.alloc(), store, &programs, &list, 2, &NoGate)?)?;
     let ends = [Outcome::Fault(Fault::Worn, 0); 3];
     assert!(rt; report.outcomes.as_slice() == ends.as_slice());
+    Ok(())
+}
+
+// The second job's program isn't stepped: only the first adds.
+#[test]
+fn the_last_run_of_a_counter_is_made(rt: HostRuntime) -> Result<(), Fail> {
+    let programs = programs(rt.alloc(), &[ADD])?;
+    let shape = StoreShape::new(1, vec![in rt.alloc(); shape(1)]?)?;
+    let store = HopStore::aged(rt.alloc(), shape, 0, 0, u64::MAX - 3)?;
+    let list = [(0, 0), (0, 0)];
+    let report = reported(run(&rt, rt.alloc(), store, &programs, &list, 1, &NoGate)?)?;
+    let ends = [Outcome::Exit(0), Outcome::Fault(Fault::Worn, 0)];
+    assert!(rt; report.outcomes.as_slice() == ends.as_slice());
+    assert!(rt; has_only(rt.alloc(), &report.closed, 1_000)?);
     Ok(())
 }
 

@@ -12,6 +12,8 @@ mod hashes;
 #[cfg(test)]
 mod jobs;
 #[cfg(test)]
+mod listings;
+#[cfg(test)]
 mod locks;
 #[cfg(test)]
 mod orders;
@@ -23,5 +25,7 @@ mod stores;
 mod texts;
 #[cfg(test)]
 mod threads;
+#[cfg(test)]
+mod two_cpus;
 #[cfg(test)]
 mod worked;

@@ -148,6 +148,37 @@ fn an_order_explains_the_calls_of_four_threads(rt: HostRuntime) -> Result<(), Fa
     Ok(())
 }
 
+// Whether an order explains the calls of one key by four threads, of which one adds and deletes it
+// and the others look it up, in runs of so many calls.
+fn is_storm_explained<R: Threads + Wait + Sync>(
+    rt: &R,
+    alloc: Global,
+    run: u32,
+) -> Result<bool, Fail> {
+    let (table, ports) = new_ports(alloc, 4, a_map(1, 1_000, 0))?;
+    let backs = work_by_threads(rt, alloc, &table, ports, Work::Storm { run }, 20_000)?;
+    let (closed, notes) = close_all(alloc, table, backs)?;
+    let last = last_of(&closed.dump(alloc, 0)?, 0);
+    for noted in &notes {
+        if noted.len() != 20_000 {
+            return Err(Fail::new("a thread gave up"));
+        }
+    }
+    Ok(has_order(alloc, &notes, last)?)
+}
+
+#[test]
+fn an_order_explains_a_storm_of_lookups_in_runs_of_one(rt: HostRuntime) -> Result<(), Fail> {
+    assert!(rt; is_storm_explained(&rt, rt.alloc(), 1)?);
+    Ok(())
+}
+
+#[test]
+fn an_order_explains_a_storm_of_lookups_in_runs_of_a_thousand(rt: HostRuntime) -> Result<(), Fail> {
+    assert!(rt; is_storm_explained(&rt, rt.alloc(), 1_000)?);
+    Ok(())
+}
+
 fn put(value: u64, answer: MapAnswer) -> Noted {
     Noted {
         call: Call::Update {

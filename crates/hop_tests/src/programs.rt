@@ -27,6 +27,7 @@ const MAP: MapShape = MapShape {
     max: 1,
     spare: 1,
     mask: 0xffff_ffff,
+    grow: false,
 };
 
 fn program(alloc: Global, text: &str) -> Result<Program, Fail> {

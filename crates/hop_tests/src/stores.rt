@@ -17,6 +17,7 @@ pub(crate) fn a_map(max: u64, spare: u64, mask: u32) -> MapShape {
         max,
         spare,
         mask,
+        grow: false,
     }
 }
 

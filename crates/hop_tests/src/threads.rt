@@ -1,5 +1,5 @@
 //! Calls of ports by threads.
-ghost use Rattle.std.specs.Prelude.{All, IfOk, OnOk};
+ghost use Rattle.std.specs.Prelude.{◌<◌, All, IfOk, OnOk};
 ghost use Rattle.hop_map.specs.Port.{IsPortOf};
 ghost use Rattle.hop_tests.specs.Trial.{IsIdlePort};
 
@@ -43,6 +43,8 @@ pub(crate) enum Work {
     Bytes,
     /// Additions of 1 to a half of the key 0's value, each CPU to its own.
     Halves,
+    /// Lookups of the key 0, which CPU 0 adds and deletes in turn. A run has so many calls.
+    Storm { run: u32 },
     /// All kinds of calls of so many keys, drawn from a sequence that this number begins.
     All { keys: u64, from: u64 },
 }
@@ -108,6 +110,13 @@ fn call_of(work: Work, cpu: u8, number: u32, draw: u64) -> Call {
             key: 0,
             place: own.wrapping_mul(4),
         },
+        Work::Storm { run: _ } if cpu != 0 => Call::Find { key: 0 },
+        Work::Storm { run: _ } if number % 2 == 0 => Call::Update {
+            key: 0,
+            value: u64::from(number),
+            flags: 1,
+        },
+        Work::Storm { run: _ } => Call::Delete { key: 0 },
         Work::All { keys, from: _ } => {
             let key = (draw >> 40) % keys.max(1);
             let value = u64::from(number).wrapping_mul(16).wrapping_add(own);
@@ -116,7 +125,17 @@ fn call_of(work: Work, cpu: u8, number: u32, draw: u64) -> Call {
     }
 }
 
-// Makes so many calls in runs of eight, and notes them.
+// How many calls are made in a run.
+fn calls_in_a_run(work: Work) -> u32
+    ensures { 0 < result }
+{
+    match work {
+        Work::Storm { run } => run.max(1),
+        _ => 8,
+    }
+}
+
+// Makes so many calls, some in each run, and notes them.
 fn call_often<R: Wait>(
     rt: &R,
     table: &HopTable,
@@ -129,6 +148,7 @@ fn call_often<R: Wait>(
     ensures fits { IsPortOf table.now result }
 {
     let cpu = port.cpu();
+    let run = calls_in_a_run(work);
     let mut port = port;
     if port.begin(table).is_err() {
         return port;
@@ -147,7 +167,7 @@ fn call_often<R: Wait>(
         if noted.push(Noted { call, reply }).is_err() {
             return port;
         }
-        if number % 8 == 7 {
+        if number % run == run - 1 {
             let (after, reply) = ask_port(rt, table, port, Call::NextRun);
             port = after;
             if reply.is_none() {
@@ -159,8 +179,8 @@ fn call_often<R: Wait>(
     port
 }
 
-// Waits for the other threads, for so many turns at most.
-fn meet(arrived: &AtomicU64, threads: u64) {
+/// Waits for the other threads, for so many turns at most.
+pub(crate) fn meet(arrived: &AtomicU64, threads: u64) {
     arrived.fetch_add(1, Ordering::SeqCst);
     for _ in 0..100_000u32 {
         if arrived.load(Ordering::SeqCst) >= threads {

@@ -1,11 +1,12 @@
 //! Calls on one thread with answers worked out by hand, over a port and over the plain store.
-ghost use Rattle.std.specs.Prelude.{◌≡◌, ◌<◌, ◌%◌, ◌^◌, true, false, IfSome};
-ghost use Rattle.hop_tests.specs.Trial.{IsIdlePort, IsRunning};
+ghost use Rattle.std.specs.Prelude.{◌≡◌, ◌<◌, ◌%◌, ◌^◌, true, false};
+ghost use Rattle.hop_tests.specs.Trial.{IsIdlePort};
 
 use crate::asking::{Call, Reply, ask, ask_port, lookups_agree};
 use crate::stores::{a_map, a_shape, aged_ports, new_ports, pop_port};
 use bpf_plain::PlainStore;
 use bpf_shared::{MapAnswer, MapShape, Shared};
+use hop_layout::home;
 use hop_map::HopPort;
 use hop_words::HopTable;
 use std::alloc::Global;
@@ -14,19 +15,19 @@ use std::test::Fail;
 
 /// A call with the reply that is wanted.
 #[derive(Clone, Copy)]
-struct Row {
-    call: Call,
-    reply: Reply,
+pub(crate) struct Row {
+    pub(crate) call: Call,
+    pub(crate) reply: Reply,
 }
 
-fn put(key: u32, value: u64, flags: u64, answer: MapAnswer) -> Row {
+pub(crate) fn put(key: u32, value: u64, flags: u64, answer: MapAnswer) -> Row {
     Row {
         call: Call::Update { key, value, flags },
         reply: Reply::Answer(answer),
     }
 }
 
-fn take(key: u32, answer: MapAnswer) -> Row {
+pub(crate) fn take(key: u32, answer: MapAnswer) -> Row {
     Row {
         call: Call::Delete { key },
         reply: Reply::Answer(answer),
@@ -196,54 +197,86 @@ enum Order {
     EverySecondFirst,
 }
 
-fn key_in(order: Order, place: u32) -> u32 {
+fn place_in(order: Order, number: usize) -> usize {
     match order {
-        Order::Rising => place,
-        Order::Falling => 99u32.wrapping_sub(place),
-        Order::EverySecondFirst if place < 50 => place.wrapping_mul(2),
-        Order::EverySecondFirst => place.wrapping_mul(2).wrapping_sub(99),
+        Order::Rising => number,
+        Order::Falling => 99usize.wrapping_sub(number),
+        Order::EverySecondFirst if number < 50 => number.wrapping_mul(2),
+        Order::EverySecondFirst => number.wrapping_mul(2).wrapping_sub(99),
     }
 }
 
+// The key at a place of the list; of the place behind it, one that is never put.
+fn key_at(keys: &[u32], place: usize) -> u32 {
+    keys.get(place).copied().unwrap_or(u32::MAX)
+}
+
 // 100 keys come, each is found, they go in this order, and the others are found each time.
-fn crowd(alloc: Global, order: Order) -> Result<Vec<Row>, Fail> {
+fn crowd(alloc: Global, keys: &[u32], order: Order) -> Result<Vec<Row>, Fail> {
     let mut rows = Vec::new(alloc);
-    for key in 0..100u32 {
-        rows.push(put(key, u64::from(key), 1, MapAnswer::Done))?;
+    for key in keys {
+        rows.push(put(*key, u64::from(*key), 1, MapAnswer::Done))?;
     }
-    rows.push(put(100, 0, 1, MapAnswer::Full))?;
-    for gone in 0..101u32 {
-        for place in 0..100u32 {
-            let key = key_in(order, place);
-            let value = if place < gone {
+    rows.push(put(u32::MAX, 0, 1, MapAnswer::Full))?;
+    for gone in 0..101usize {
+        for number in 0..100usize {
+            let key = key_at(keys, place_in(order, number));
+            let value = if number < gone {
                 None
             } else {
                 Some(u64::from(key))
             };
             rows.push(find(key, value))?;
         }
-        rows.push(take(
-            key_in(order, gone),
-            if gone < 100 {
-                MapAnswer::Done
-            } else {
-                MapAnswer::Absent
-            },
-        ))?;
+        let (key, answer) = if gone < 100 {
+            (key_at(keys, place_in(order, gone)), MapAnswer::Done)
+        } else {
+            (u32::MAX, MapAnswer::Absent)
+        };
+        rows.push(take(key, answer))?;
         rows.push(next_run())?;
     }
     Ok(rows)
 }
 
-#[test]
-fn a_crowded_segment_keeps_its_keys(rt: HostRuntime) -> Result<(), Fail> {
-    let map = a_map(100, 0, 0);
+// In whatever order 100 keys are deleted, a port and the plain store keep the others.
+fn keep_a_crowd<R: Wait>(rt: &R, alloc: Global, mask: u32, keys: &[u32]) -> Result<(), Fail> {
     for order in [Order::Rising, Order::Falling, Order::EverySecondFirst] {
-        let rows = crowd(rt.alloc(), order)?;
+        let rows = crowd(alloc, keys, order)?;
         let count = rows.len();
-        assert_eq!(rt; follow_both(&rt, rt.alloc(), map, &rows)?, (count, count));
+        if follow_both(rt, alloc, a_map(100, 0, mask), &rows)? != (count, count) {
+            return Err(Fail::new("a reply isn't the one that was worked out"));
+        }
     }
     Ok(())
+}
+
+#[test]
+fn a_crowded_segment_keeps_its_keys(rt: HostRuntime) -> Result<(), Fail> {
+    let mut keys = Vec::new(rt.alloc());
+    for key in 0..100u32 {
+        keys.push(key)?;
+    }
+    keep_a_crowd(&rt, rt.alloc(), 0, &keys)
+}
+
+// The first 100 keys whose segment, of two, and bucket are these, by the hash of seed 0.
+fn keys_at_home(alloc: Global, wanted: u32) -> Result<Vec<u32>, Fail> {
+    let mask = 0x3f_0001;
+    let mut keys = Vec::new(alloc);
+    for key in 0..100_000u32 {
+        if keys.len() < 100 && home(&key.to_le_bytes(), 0, mask) == wanted {
+            keys.push(key)?;
+        }
+    }
+    Ok(keys)
+}
+
+#[test]
+fn keys_of_one_home_by_the_hash_are_kept(rt: HostRuntime) -> Result<(), Fail> {
+    let keys = keys_at_home(rt.alloc(), 0x2a_0001)?;
+    assert_eq!(rt; keys.len(), 100);
+    keep_a_crowd(&rt, rt.alloc(), 0xffff_ffff, &keys)
 }
 
 // How many rows the port of a store is answered as wanted whose segments have this version, and
@@ -313,77 +346,5 @@ fn a_worn_run_counter_begins_no_run(rt: HostRuntime) -> Result<(), Fail> {
     assert_eq!(rt; follow_aged(&rt, rt.alloc(), 0, last, &two_runs())?, 0);
     assert_eq!(rt; follow_aged(&rt, rt.alloc(), 0, last - 2, &two_runs())?, 1);
     assert_eq!(rt; follow_aged(&rt, rt.alloc(), 0, last - 4, &two_runs())?, 3);
-    Ok(())
-}
-
-// What a port is told, and the port.
-fn tell<R: Wait>(rt: &R, table: &HopTable, port: HopPort, call: Call) -> Option<(HopPort, Reply)>
-    requires running { IsRunning table.now port }
-    ensures running { IfSome result (λ r. IsRunning table.now r.0) }
-{
-    let (port, reply) = ask_port(rt, table, port, call);
-    let reply = reply?;
-    Some((port, reply))
-}
-
-// The answers of two CPUs, of which the first deletes the only element's key in its run.
-fn delete_while_another_runs<R: Wait>(
-    rt: &R,
-    table: &HopTable,
-    first: HopPort,
-    second: HopPort,
-    second_ends_first: bool,
-) -> Option<[Reply; 5]>
-    requires first { IsIdlePort table.now first }
-    requires second { IsIdlePort table.now second }
-{
-    let (mut first, mut second) = (first, second);
-    let add = put(2, 2, 1, MapAnswer::Done).call;
-    first.begin(table).ok()?;
-    second.begin(table).ok()?;
-    let (first, added) = tell(rt, table, first, put(1, 1, 1, MapAnswer::Done).call)?;
-    let (first, deleted) = tell(rt, table, first, take(1, MapAnswer::Done).call)?;
-    let (first, both_run) = tell(rt, table, first, add)?;
-    if second_ends_first {
-        second.end(table);
-    }
-    let (first, first_runs) = tell(rt, table, first, add)?;
-    let (first, _begun) = tell(rt, table, first, Call::NextRun)?;
-    let (_first, next_run) = tell(rt, table, first, add)?;
-    Some([added, deleted, both_run, first_runs, next_run])
-}
-
-// What the first of two CPUs is told of a map with one element.
-fn told_of_one_element<R: Wait>(
-    rt: &R,
-    alloc: Global,
-    second_ends_first: bool,
-) -> Result<Option<[Reply; 5]>, Fail> {
-    let (table, mut ports) = new_ports(alloc, 2, a_map(1, 0, 0xffff_ffff))?;
-    let Some(second) = pop_port(&table, &mut ports) else {
-        return Err(Fail::new("no port"));
-    };
-    let Some(first) = pop_port(&table, &mut ports) else {
-        return Err(Fail::new("no port"));
-    };
-    Ok(delete_while_another_runs(rt, &table, first, second, second_ends_first))
-}
-
-fn answers(next_run: MapAnswer) -> [Reply; 5] {
-    [
-        Reply::Answer(MapAnswer::Done),
-        Reply::Answer(MapAnswer::Done),
-        Reply::Answer(MapAnswer::NoMemory),
-        Reply::Answer(MapAnswer::NoMemory),
-        Reply::Answer(next_run),
-    ]
-}
-
-#[test]
-fn an_element_comes_back_when_both_runs_have_ended(rt: HostRuntime) -> Result<(), Fail> {
-    let told = told_of_one_element(&rt, rt.alloc(), true)?;
-    assert!(rt; told == Some(answers(MapAnswer::Done)));
-    let told = told_of_one_element(&rt, rt.alloc(), false)?;
-    assert!(rt; told == Some(answers(MapAnswer::NoMemory)));
     Ok(())
 }
