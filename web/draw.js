@@ -1,0 +1,433 @@
+'use strict';
+
+// Draws a state into the page. Whatever comes from a file, a link or the program is written as text alone.
+
+const MOST_KEYS = 200; // of a map
+const MOST_LINES = 300; // of a listing, round the current one
+const CELL = 30; // the width of a turn
+const BESIDE = 10; // turns that are drawn on each side of those in sight
+const MANY = 4; // more CPUs than these have small cards
+const COLOURS = 8;
+
+// The height of a CPU's row in the timeline, as in style.css.
+const lane_height = (file) => (file.cpus > MANY ? 18 : 24);
+
+const at = (name) => document.getElementById(name);
+
+function make(tag, look, text) {
+    const made = document.createElement(tag);
+    if (look) made.className = look;
+    if (text !== undefined) made.textContent = text;
+    return made;
+}
+
+// Writes only what differs: a state that is like the one before costs no layout.
+function write(node, text) {
+    if (node.textContent !== text) node.textContent = text;
+}
+
+const colour_of = (cpu) => `cpu-${cpu % COLOURS}`;
+const counted = (count, what) => `${count} ${what}${count === 1 ? '' : 's'}`;
+
+function number_text(number, base) {
+    if (base === 'decimal') return String(number);
+    if (base === 'hex') return `0x${number.toString(16)}`;
+    if (number < 1n << 32n) return String(number);
+    const signed = BigInt.asIntN(64, number);
+    return signed < 0n && signed >= -(1n << 31n) ? String(signed) : `0x${number.toString(16)}`;
+}
+
+const number_titles = (number) => `${number}, 0x${number.toString(16)}, signed ${BigInt.asIntN(64, number)}`;
+
+function tell(text, is_bad = false) {
+    write(at('said'), text);
+    at('said').classList.toggle('bad', is_bad);
+}
+
+// ---- The run file
+
+const row_height = () => parseFloat(getComputedStyle(at('text')).lineHeight);
+const EDGE = 6; // above the first line, as in style.css
+
+function draw_numbers() {
+    const count = at('text').value.split('\n').length;
+    if (draw_numbers.count === count) return;
+    draw_numbers.count = count;
+    at('numbers').textContent = Array.from({ length: count }, (_, line) => line + 1).join('\n');
+}
+
+// Puts numbers, places and the refusal where the text is scrolled to.
+function place_lines(refusal) {
+    const { scrollTop, scrollLeft } = at('text');
+    at('numbers').style.transform = at('stands').style.transform = `translateY(${-scrollTop}px)`;
+    if (!refusal?.line) return;
+    const top = EDGE + (refusal.line - 1) * row_height() - scrollTop;
+    at('refused-line').style.top = `${top}px`;
+    at('refusal').style.top = `${top + row_height()}px`;
+    at('caret').style.transform = `translateX(${-scrollLeft}px)`;
+}
+
+// Scrolls to a line of the text, where it isn't in sight.
+function show_line(line) {
+    const editor = at('text');
+    const top = EDGE + (line - 1) * row_height();
+    const is_seen = top >= editor.scrollTop && top + 4 * row_height() <= editor.scrollTop + editor.clientHeight;
+    if (!is_seen) editor.scrollTop = top - editor.clientHeight / 2;
+}
+
+function draw_refusal(refusal) {
+    const is_placed = Boolean(refusal?.line);
+    at('refused-line').hidden = at('refusal').hidden = !is_placed;
+    at('file-said').classList.toggle('bad', Boolean(refusal));
+    at('text').setAttribute('aria-invalid', String(Boolean(refusal)));
+    at('code-page').hidden = !refusal?.page;
+    if (!refusal) return;
+    at('stands').replaceChildren();
+    const place = is_placed ? `Line ${refusal.line} is refused` : 'The file is refused';
+    at('file-said').textContent = `${place}, ${refusal.code}: ${refusal.reason}.`;
+    at('code-page').querySelector('summary').textContent = `What ${refusal.code} means`;
+    at('code-page').querySelector('pre').textContent = refusal.page;
+    at('caret').textContent = refusal.caret ?? '';
+    at('caret').hidden = !refusal.caret;
+    at('why').textContent = [`${refusal.code}: ${refusal.reason}`, ...refusal.hints].join('. ');
+    if (is_placed && document.activeElement !== at('text')) show_line(refusal.line);
+    place_lines(refusal);
+}
+
+// Beside the lines of the file, which CPU stands where.
+function draw_stands({ file, views }, height) {
+    const rows = new Map();
+    views.after.places.forEach((place, cpu) => {
+        if (place.is_idle) return;
+        const listing = file.listings.get(file.jobs[place.job].program);
+        const row = listing.find((line) => line.pc === (place.pc ?? 0))?.row;
+        if (row !== undefined) rows.set(row, [...(rows.get(row) ?? []), cpu]);
+    });
+    const stands = [...rows].flatMap(([row, cpus]) =>
+        cpus.slice(0, 2).map((cpu, number) => {
+            const is_rest = number === 1 && cpus.length > 2;
+            const stand = make('span', `stand ${colour_of(cpu)}`, is_rest ? `+${cpus.length - 1}` : String(cpu));
+            stand.style.top = `${EDGE + row * height}px`;
+            stand.style.left = `${4 + number * 19}px`;
+            return stand;
+        }),
+    );
+    at('stands').replaceChildren(...stands);
+}
+
+// ---- Cards
+
+function make_card(cpu) {
+    const card = make('section', `card ${colour_of(cpu)}`);
+    const title = make('h2', '', `CPU ${cpu} `);
+    title.id = `cpu-${cpu}`;
+    title.append(make('span', 'place'));
+    card.setAttribute('aria-labelledby', title.id);
+    const alone = make('button', 'alone', 'Alone');
+    alone.setAttribute('aria-label', `Run CPU ${cpu} alone`);
+    alone.title = 'Turns of this CPU alone, up to its breakpoint or the end of its job';
+    const step = make('button', 'step', 'Step');
+    step.setAttribute('aria-label', `Step CPU ${cpu}`);
+    if (cpu < 10) {
+        step.append(' ', make('kbd', '', String(cpu)));
+        step.title = `Key ${cpu}`;
+    }
+    for (const button of [step, alone]) {
+        button.type = 'button';
+        button.dataset.cpu = cpu;
+    }
+    const listing = make('ol', 'listing');
+    listing.tabIndex = 0;
+    listing.dataset.cpu = cpu;
+    listing.setAttribute('role', 'listbox');
+    listing.setAttribute('aria-label', `Program of CPU ${cpu}`);
+    const registers = make('dl', 'registers');
+    for (let number = 0; number < 11; number++) registers.append(make('dt', '', `r${number}`), make('dd'));
+    card.append(title, alone, step, make('ul', 'outcomes'), make('p', 'meaning'), listing, registers, make('p', 'none'));
+    return card;
+}
+
+// What stays as long as the file: cards, and the rows of the timeline.
+function draw_frame({ file }) {
+    const cpus = [...Array(file.cpus).keys()];
+    at('cards').replaceChildren(...cpus.map(make_card));
+    // Many cards fill more than a window, so turns and maps stand above them.
+    const is_many = file.cpus > MANY;
+    document.body.classList.toggle('many', is_many);
+    at('cards')[is_many ? 'before' : 'after'](at('lower'));
+    at('names').replaceChildren(...cpus.map((cpu) => make('div', colour_of(cpu), `CPU ${cpu}`)));
+    at('track').style.height = `${file.cpus * lane_height(file)}px`;
+}
+
+function draw_bar({ file, views, shown, turns }) {
+    const has_work = Boolean(file && views?.after.places.some((place) => !place.is_idle));
+    at('start').disabled = at('back').disabled = !file || shown === 0;
+    at('forward').disabled = !file || shown === turns.length;
+    at('round').disabled = at('end').disabled = !has_work;
+    for (const button of document.querySelectorAll('.step, .alone')) {
+        button.disabled = !file || Boolean(views?.after.places[button.dataset.cpu]?.is_idle);
+    }
+}
+
+function place_text(file, place) {
+    if (place.is_idle) return 'idle';
+    const job = `job ${place.job} ${file.jobs[place.job].program}`;
+    return place.is_waiting ? `${job} · waiting` : `${job} · pc ${place.pc} · depth ${place.depth}`;
+}
+
+function draw_cards(state) {
+    const { file, views, turns, shown, known } = state;
+    const ends = Array.from({ length: file.cpus }, () => []);
+    const lasts = []; // of each CPU, its last turn that was one
+    for (let turn = 0; turn < shown; turn++) {
+        if (known[turn].ended) ends[turns[turn]].push(known[turn].ended);
+        if (!known[turn].is_none) lasts[turns[turn]] = known[turn];
+    }
+    for (const [cpu, card] of [...at('cards').children].entries()) {
+        const place = views.after.places[cpu];
+        card.classList.toggle('turned', shown > 0 && turns[shown - 1] === cpu);
+        write(card.querySelector('.place'), place_text(file, place));
+        draw_ends(card.querySelector('.outcomes'), ends[cpu]);
+        write(card.querySelector('.meaning'), state.meanings.get(ends[cpu].at(-1)?.code) ?? '');
+        const job = place.job ?? lasts[cpu]?.job;
+        const pc = place.is_waiting ? 0 : (place.pc ?? lasts[cpu]?.pc);
+        draw_listing(state, card.querySelector('.listing'), cpu, file.jobs[job]?.program, pc, place.is_idle);
+        draw_registers(state, card, views.before.registers[cpu], views.after.registers[cpu]);
+    }
+}
+
+function draw_ends(list, ends) {
+    const text = ends.map((end) => end.line).join('\n');
+    if (list.drawn === text) return;
+    list.drawn = text;
+    list.replaceChildren(...ends.map((end) => make('li', end.is_good ? '' : 'bad', end.line)));
+    list.scrollTop = list.scrollHeight;
+}
+
+function make_line(line, cpu) {
+    const row = make('li');
+    row.setAttribute('role', 'option');
+    if (line.pc !== null) {
+        row.dataset.pc = line.pc;
+        row.id = `line-${cpu}-${line.pc}`;
+    } else row.setAttribute('aria-disabled', 'true');
+    const parts = [['pc', line.pc ?? ''], ['code', line.code], ['code note', line.note]];
+    row.append(...parts.map(([look, text]) => make('span', look, text)));
+    return row;
+}
+
+// A listing, or of a long one the lines round the current one; its breakpoints and its current line.
+function draw_listing({ file, breakpoints }, list, cpu, program, pc, is_done) {
+    list.classList.toggle('done', is_done);
+    list.hidden = !program;
+    if (!program) return;
+    const whole = file.listings.get(program);
+    const current = whole.findIndex((line) => line.pc !== null && line.pc === pc);
+    const from = whole.length <= MOST_LINES ? 0 : Math.max(0, current - MOST_LINES / 2);
+    if (list.program !== program || list.from !== from || list.file !== file) {
+        list.replaceChildren(...whole.slice(from, from + MOST_LINES).map((line) => make_line(line, cpu)));
+        Object.assign(list, { program, from, file, breakpoints: '' });
+        list.removeAttribute('aria-activedescendant');
+    }
+    for (const row of list.querySelectorAll('.current')) {
+        row.classList.remove('current');
+        row.removeAttribute('aria-current');
+    }
+    draw_breakpoints(list, breakpoints[cpu]);
+    const row = list.children[current - from];
+    if (!row) return;
+    row.classList.add('current');
+    row.setAttribute('aria-current', 'step');
+}
+
+function draw_breakpoints(list, set) {
+    const drawn = [...(set ?? [])].join();
+    if (list.breakpoints === drawn) return;
+    list.breakpoints = drawn;
+    for (const row of list.querySelectorAll('[data-pc]')) {
+        const stops = Boolean(set?.has(Number(row.dataset.pc)));
+        row.classList.toggle('stops', stops);
+        if (stops) row.setAttribute('aria-description', 'breakpoint');
+        else row.removeAttribute('aria-description');
+    }
+}
+
+// Scrolls listings to these rows, where they aren't in sight.
+function show_rows(rows) {
+    const tops = rows.map((row) => {
+        const { scrollTop, clientHeight } = row.parentElement;
+        const top = row.offsetTop;
+        const is_seen = top >= scrollTop + 20 && top <= scrollTop + clientHeight - 40;
+        return is_seen ? null : top - clientHeight / 2;
+    });
+    tops.forEach((top, nth) => top === null || (rows[nth].parentElement.scrollTop = top));
+}
+
+// The registers, or where the last turn ended the job, as they were before it.
+function draw_registers(state, card, before, after) {
+    const is_over = !after && Boolean(before);
+    card.classList.toggle('runs', Boolean(after));
+    card.classList.toggle('over', is_over);
+    const said = is_over ? "The registers before the job's last step." : 'Registers are there while a job runs.';
+    write(card.querySelector('.none'), said);
+    const numbers = after ?? before;
+    if (!numbers) return;
+    card.querySelectorAll('.registers dd').forEach((cell, register) => {
+        const number = numbers[register];
+        const is_changed = !is_over && (before ? before[register] !== number : state.shown > 0 && number !== 0n);
+        const address = address_text(number, state.file);
+        write(cell, (state.base === 'short' && address) || number_text(number, state.base));
+        cell.classList.toggle('changed', is_changed);
+        if (is_changed) cell.append(make('span', 'unseen', ' changed'));
+        cell.title = [address, number_titles(number)].filter((it) => it).join(': ');
+    });
+}
+
+// ---- The timeline: the turns that are in sight, a row a CPU; those behind the shown one are pale.
+
+function draw_timeline(state, { width, scrolled }) {
+    const { file, turns, shown, known } = state;
+    write(at('count'), turns.length ? `${shown} of ${turns.length}` : '');
+    Object.assign(at('at'), { max: turns.length, value: shown, disabled: !turns.length });
+    at('track').style.minWidth = `${Math.max(turns.length * CELL + CELL, 100)}px`;
+    const first = Math.max(0, Math.floor(scrolled / CELL) - BESIDE);
+    const last = Math.min(turns.length, first + Math.ceil(width / CELL) + 2 * BESIDE);
+    Object.assign(at('track'), { first, last });
+    const height = lane_height(file);
+    const cells = Array.from({ length: file.cpus }, (_, cpu) => {
+        const lane = make('div', 'lane');
+        lane.style.top = `${(cpu + 0.5) * height - 1}px`;
+        return lane;
+    });
+    for (let turn = first; turn < last; turn++) {
+        const cell = make_turn(turns[turn], turn, shown, known[turn] ?? {});
+        cell.style.top = `${turns[turn] * height}px`;
+        cells.push(cell);
+    }
+    at('track').replaceChildren(...cells);
+}
+
+// Draws the turns that a scroll brought into sight, where they aren't drawn yet.
+function draw_scrolled(state) {
+    const seen = seen_of_timeline();
+    const { first, last } = at('track');
+    const from = Math.floor(seen.scrolled / CELL);
+    const is_drawn = first <= from && (last === state.turns.length || last >= from + seen.width / CELL);
+    if (!is_drawn) draw_timeline(state, seen);
+}
+
+// How much of the timeline is in sight, and from where on.
+function seen_of_timeline() {
+    const frame = at('turns');
+    return { width: Math.max(frame.clientWidth - at('names').offsetWidth, 100), scrolled: frame.scrollLeft };
+}
+
+// The same, scrolled so that the shown turn is in sight.
+function scrolled_to({ width, scrolled }, shown) {
+    const left = (shown - 1) * CELL;
+    const is_seen = left >= scrolled && left + CELL <= scrolled + width;
+    return { width, scrolled: is_seen ? scrolled : Math.max(0, left - width * 0.7) };
+}
+
+function make_turn(cpu, turn, shown, { pc, is_none, ended }) {
+    const cell = make('div', `turn ${colour_of(cpu)}`, is_none ? '–' : (pc ?? ''));
+    if (ended) cell.classList.add(ended.is_good ? 'ended' : 'failed');
+    if (turn >= shown) cell.classList.add('ahead');
+    if (turn === shown - 1) cell.classList.add('last');
+    cell.title = `Turn ${turn + 1}: CPU ${cpu}, ${is_none ? 'no work' : `pc ${pc}`}${ended ? `; ${ended.line}` : ''}`;
+    cell.dataset.turn = turn + 1;
+    cell.style.left = `${turn * CELL}px`;
+    return cell;
+}
+
+// ---- Maps
+
+const pairs = (hex) => hex.match(/../g) ?? [];
+const little_endian = (bytes) => BigInt(`0x${[...bytes].reverse().join('')}`);
+
+// The bytes of a value, those marked that the last turn changed.
+function bytes_cell(value, before) {
+    const cell = make('td');
+    pairs(value).forEach((byte, place) => {
+        if (place) cell.append(' ');
+        const is_same = before !== undefined && before.slice(2 * place, 2 * place + 2) === byte;
+        cell.append(is_same ? byte : make('mark', '', byte));
+    });
+    return cell;
+}
+
+function map_row(key, value, before, { shown, base }) {
+    const row = make('tr', value === undefined ? 'gone' : before === undefined ? 'new' : '');
+    const bytes = pairs(value ?? before);
+    const numbers = [];
+    for (let place = 0; place < Math.min(bytes.length, 32); place += 8) {
+        numbers.push(number_text(little_endian(bytes.slice(place, place + 8)), base));
+    }
+    row.append(make('td', '', pairs(key).join(' ')));
+    if (value === undefined) row.append(make('td', '', bytes.join(' ')), make('td', 'number', 'removed'));
+    else row.append(bytes_cell(value, shown ? before : value), make('td', 'number', numbers.join(' ')));
+    return row;
+}
+
+function map_table(name, before, after, state) {
+    const table = make('table');
+    table.append(make('caption', '', `${name} · ${counted(after.size, 'key')}`));
+    const keys = [...new Set([...before.keys(), ...after.keys()])].sort();
+    if (!keys.length) return table;
+    const head = make('tr');
+    for (const title of ['key', 'value, byte by byte', 'as numbers']) {
+        const cell = make('th', '', title);
+        cell.scope = 'col';
+        head.append(cell);
+    }
+    table.append(head, ...keys.slice(0, MOST_KEYS).map((key) => map_row(key, after.get(key), before.get(key), state)));
+    if (keys.length > MOST_KEYS) {
+        const cell = make('td', '', `and ${keys.length - MOST_KEYS} keys more`);
+        cell.colSpan = 3;
+        const row = make('tr');
+        row.append(cell);
+        table.append(row);
+    }
+    return table;
+}
+
+function draw_maps(state) {
+    const { file, views } = state;
+    const { before, after } = views;
+    const tables = file.maps.map((name) => map_table(name, before.maps.get(name), after.maps.get(name), state));
+    at('tables').replaceChildren(...(tables.length ? tables : [make('p', 'empty', 'The run file has no map.')]));
+}
+
+// ---- The whole
+
+function draw_raw({ made }) {
+    if (!made || !at('raw').open) return;
+    const last = (lines) => (lines.length > 60 ? ['…', ...lines.slice(-60)] : lines).join('\n');
+    at('asked').textContent = last(made.asked);
+    at('answered').textContent = last(made.answers);
+}
+
+function turn_text({ file, turns, shown, known, views }) {
+    if (!shown) return `No turn is made yet. ${counted(file.cpus, 'CPU')}, ${counted(file.jobs.length, 'job')}.`;
+    const { pc, is_none, ended } = known[shown - 1];
+    const what = is_none ? 'had no work' : `executed pc ${pc}`;
+    const done = views.after.places.every((place) => place.is_idle) ? ' No CPU has work.' : '';
+    return `Turn ${shown}: CPU ${turns[shown - 1]} ${what}${ended ? `, and a job ended: ${ended.line}` : ''}.${done}`;
+}
+
+// What is measured is measured before anything is written, and what is scrolled is scrolled at the end, so that
+// the browser lays the page out once.
+function draw(state) {
+    const height = row_height();
+    const seen = seen_of_timeline();
+    const wanted = scrolled_to(seen, state.shown);
+    draw_bar(state);
+    draw_cards(state);
+    draw_stands(state, height);
+    draw_maps(state);
+    draw_raw(state);
+    tell(turn_text(state));
+    draw_timeline(state, wanted);
+    if (wanted.scrolled !== seen.scrolled) at('turns').scrollLeft = wanted.scrolled;
+    show_rows([...document.querySelectorAll('.listing:not([hidden]) .current')]);
+}

@@ -1,0 +1,152 @@
+'use strict';
+
+// Calls the program, a WebAssembly module of 64-bit memory. Each call is an instance of its own, in a
+// worker, so that the page stays awake and a call can be ended; nothing is kept from call to call.
+//
+//     const engine = new Engine(ebpfModule);              // the module's bytes in base64
+//     const { status, stdout, stderr } = await engine.call(['hex'], 'b700..');
+//     engine.stop();                                      // whatever is under way is rejected
+//
+// stdout and stderr are bytes. A call is answered whole or rejected: as `Stopped`, as `Trap` where the
+// instance can't go on, or as what the browser throws where it lacks 64-bit memory.
+
+// The worker's whole text is this function's own: a page that is opened from disk can load no worker.
+function engineWorker() {
+    const WHY = {
+        1: 'the program aborted',
+        2: 'a thread was to be joined, and there is none',
+        3: 'it would wait for another thread, and there is none',
+    };
+    let compiled = null;
+
+    class Exit extends Error {}
+    class Trap extends Error {}
+
+    function joined(parts) {
+        const whole = new Uint8Array(parts.reduce((sum, part) => sum + part.length, 0));
+        let end = 0;
+        for (const part of parts) {
+            whole.set(part, end);
+            end += part.length;
+        }
+        return whole;
+    }
+
+    // What the instance may reach beside its memory. `bytes` looks at the memory anew each time: what it
+    // gave before is gone once memory has grown.
+    function imports(call, bytes) {
+        return {
+            read(file, address, room) {
+                if (file !== 0) return -1n;
+                const part = call.stdin.subarray(call.taken, call.taken + Number(room));
+                bytes(address, part.length).set(part);
+                call.taken += part.length;
+                return BigInt(part.length);
+            },
+            write(file, address, length) {
+                const parts = call.written[file];
+                if (!parts) return -1n;
+                parts.push(bytes(address, length).slice());
+                return length;
+            },
+            argument(number, address, room) {
+                const word = call.words[Number(number)];
+                if (!word) return -1n;
+                const part = word.subarray(0, Number(room));
+                bytes(address, part.length).set(part);
+                return word.length > part.length ? -2n : BigInt(word.length);
+            },
+            exit(status) {
+                call.status = status;
+                throw new Exit();
+            },
+            stop(why) {
+                throw new Trap(WHY[why]);
+            },
+        };
+    }
+
+    function answer(words, stdin) {
+        const began = performance.now();
+        const coded = ['ebpf', ...words].map((it) => new TextEncoder().encode(it));
+        const call = { words: coded, stdin, taken: 0, written: { 1: [], 2: [] }, status: null };
+        const memory = () => instance.exports.memory.buffer;
+        const bytes = (address, length) => new Uint8Array(memory(), Number(address), Number(length));
+        const instance = new WebAssembly.Instance(compiled, { page: imports(call, bytes) });
+        const made = performance.now() - began;
+        try {
+            call.status = instance.exports.start();
+        } catch (error) {
+            if (!(error instanceof Exit)) throw error;
+        }
+        const [stdout, stderr] = [joined(call.written[1]), joined(call.written[2])];
+        return { status: call.status, stdout, stderr, made, time: performance.now() - began };
+    }
+
+    function compile(base64) {
+        const binary = atob(base64);
+        const code = Uint8Array.from(binary, (letter) => letter.charCodeAt(0));
+        compiled = new WebAssembly.Module(code);
+    }
+
+    onmessage = ({ data: { number, module, words, stdin } }) => {
+        try {
+            if (module) {
+                compile(module);
+                postMessage({ number });
+                return;
+            }
+            const done = answer(words, stdin);
+            postMessage({ number, done }, [done.stdout.buffer, done.stderr.buffer]);
+        } catch (error) {
+            postMessage({ number, failed: { name: error.constructor.name, message: error.message } });
+        }
+    };
+}
+
+function failure(name, message) {
+    return Object.assign(new Error(message), { name });
+}
+
+class Engine {
+    constructor(base64) {
+        this.base64 = base64;
+        this.waiting = new Map();
+        this.number = 0;
+        this.start();
+    }
+
+    start() {
+        const place = URL.createObjectURL(new Blob([`'use strict';(${engineWorker})();`], { type: 'text/javascript' }));
+        this.worker = new Worker(place);
+        URL.revokeObjectURL(place);
+        this.worker.onmessage = ({ data: { number, done, failed } }) => {
+            const { resolve, reject } = this.waiting.get(number);
+            this.waiting.delete(number);
+            if (failed) reject(failure(failed.name, failed.message));
+            else resolve(done);
+        };
+        this.ready = this.send({ module: this.base64 });
+        this.ready.catch(() => {});
+    }
+
+    send(message) {
+        const number = this.number++;
+        return new Promise((resolve, reject) => {
+            this.waiting.set(number, { resolve, reject });
+            this.worker.postMessage({ ...message, number });
+        });
+    }
+
+    async call(words, stdin) {
+        await this.ready;
+        return this.send({ words, stdin: typeof stdin === 'string' ? new TextEncoder().encode(stdin) : stdin });
+    }
+
+    stop() {
+        this.worker.terminate();
+        for (const { reject } of this.waiting.values()) reject(failure('Stopped', 'stopped'));
+        this.waiting.clear();
+        this.start();
+    }
+}

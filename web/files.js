@@ -1,0 +1,118 @@
+'use strict';
+
+// What the page reads of a run file by itself, for display alone and only once the program has taken it:
+// the number of CPUs, the names of maps, programs and jobs, and which lines are whose.
+
+const words_of = (line) => line.replace(/;.*/, '').split(/[ \t\r]+/).filter((word) => word);
+
+// What stands before the line `---`: behind it a file has commands of the debugger, which the page makes.
+const before_commands = (text) => text.split(/^[ \t\r]*---[ \t\r]*(?:;.*)?$/m)[0];
+
+// The bytes from one value of a map to the next: its size, rounded up to a multiple of 8.
+function value_size(line) {
+    const words = words_of(line);
+    return Math.ceil(Number(words[words.indexOf('value', 2) + 1]) / 8) * 8;
+}
+
+function read_file(text) {
+    const file = { text, cpus: 1, maps: [], sizes: [], programs: new Map(), jobs: [] };
+    const lines = text.split('\n');
+    for (let number = 0; number < lines.length; number++) {
+        const [first, name, third, fourth] = words_of(lines[number]);
+        if (first === 'cpus') file.cpus = Number(name);
+        if (first === 'map') {
+            file.maps.push(name);
+            file.sizes.push(value_size(lines[number]));
+        }
+        if (first === 'job') file.jobs.push({ cpu: Number(name), program: third });
+        if (first !== 'prog') continue;
+        if (third === 'hex') {
+            file.programs.set(name, { words: fourth });
+            continue;
+        }
+        const begins = number + 1;
+        while (words_of(lines[++number])[0] !== 'end');
+        file.programs.set(name, { begins, text: with_end(lines.slice(begins, number).join('\n')) });
+    }
+    return file;
+}
+
+// The lines of a program, each with its pc where it has an instruction and the line of the file that it
+// stands on. `asm --listing` and `disasm --pc` write pc and words behind the line; a comment may look the
+// same, and is told by its pc.
+async function list_program(engine, { text, words, begins }) {
+    const command = text === undefined ? ['disasm', '--pc'] : ['asm', '--listing'];
+    const { stdout } = await engine.call(command, text ?? words);
+    const lines = text_of(stdout).replace(/\n$/, '').split('\n');
+    // The blanks that all lines begin with are left out.
+    const blanks = Math.min(...lines.filter((line) => line.trim()).map((line) => /^ */.exec(line)[0].length));
+    let next = 0;
+    return lines.map((whole, number) => {
+        const line = whole.slice(Math.min(blanks, /^ */.exec(whole)[0].length));
+        const found = /^(.*?)[ \t]*; (\d+): ((?:[0-9a-f]{16}){1,2})$/s.exec(line);
+        const is_listed = found && Number(found[2]) === next;
+        if (is_listed) next += found[3].length / 16;
+        const [, code, note] = /^([^;]*)(;.*)?$/s.exec(is_listed ? found[1] : line);
+        const row = begins === undefined ? undefined : begins + number;
+        return { pc: is_listed ? Number(found[2]) : null, code: code.trimEnd(), note: note ?? '', row };
+    });
+}
+
+// What an address is, by docs/MACHINE.md: null where it is none of a map, the context, a frame or a value.
+// Whether a run may use it, the program alone knows.
+function address_text(number, { maps, sizes }) {
+    const address = Number(number);
+    const within = (from, length) => address >= from && address < from + length;
+    if (within(0x1_0000_0000, maps.length)) return `map ${maps[address - 0x1_0000_0000]}`;
+    if (within(0x2_0000_0000, 4097)) return `context +${address - 0x2_0000_0000}`;
+    if (within(0x3_0000_0000, 8 * 0x1000)) {
+        const frame = Math.floor((address - 0x3_0000_0000) / 0x1000);
+        const below = 0x3_0000_0200 + frame * 0x1000 - address;
+        return below < 0 ? null : `frame ${frame} ${below ? -below : 'top'}`;
+    }
+    if (!within(0x10_0000_0000, maps.length * 0x1000_0000)) return null;
+    const map = Math.floor((address - 0x10_0000_0000) / 0x1000_0000);
+    const offset = (address - 0x10_0000_0000) % 0x1000_0000;
+    const rest = offset % sizes[map];
+    return `${maps[map]}[${Math.floor(offset / sizes[map])}]${rest ? ` +${rest}` : ''}`;
+}
+
+// What `debug --explain` says of a refused file: the line that it prints, and on standard error the reason,
+// the line with a caret below it, and hints.
+function read_refusal(printed, explained) {
+    const found = /^refused (?:line (\d+) )?(\S+)/.exec(printed) ?? [];
+    const [head = printed, ...rows] = explained.split('\n').filter((row) => row.trim());
+    const reason = head.replace(/^refused [^:]*: /, '');
+    const lead = `  line ${found[1]}: `;
+    const caret = rows.find((row) => /^ *\^+$/.test(row));
+    const hints = rows.filter((row) => row !== caret && !row.startsWith(lead) && !row.startsWith('  see: '));
+    return {
+        line: found[1] === undefined ? null : Number(found[1]),
+        code: found[2],
+        reason,
+        caret: caret?.slice(lead.length),
+        hints: hints.map((row) => row.trim()),
+    };
+}
+
+// What a code means, as the first line of its page says.
+async function meaning_of(engine, code) {
+    const { stdout } = await engine.call(['explain', code], '');
+    return text_of(stdout).split('\n')[0];
+}
+
+// Takes a text as the program does: its file, with listings and first places, or its refusal.
+async function take_file(engine, machine, text) {
+    const own = before_commands(text);
+    const said = await engine.call(['debug', '--explain'], script_of(own, []));
+    if (said.status === 1) {
+        const refusal = read_refusal(text_of(said.stdout).trim(), text_of(said.stderr));
+        const page = await engine.call(['explain', refusal.code], '');
+        return { refusal: { ...refusal, page: text_of(page.stdout).trim() } };
+    }
+    const file = read_file(own);
+    file.listings = new Map();
+    for (const [name, program] of file.programs) file.listings.set(name, await list_program(engine, program));
+    file.first = await machine.first(file);
+    return { file };
+}

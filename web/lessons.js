@@ -1,0 +1,424 @@
+'use strict';
+
+// Ten lessons. Each sets a run file and turns, asks for something, and tells by what the program answers
+// whether it is met. In texts, what stands between ` is code.
+
+const FIRST = `ebpf-run 1
+
+prog first
+        r0 = 6
+        r0 *= 6
+        exit
+end
+
+job 0 first
+`;
+
+const BYTES = `ebpf-run 1
+
+prog bytes
+        *(u32 *)(r10 - 4) = 0x01020304
+        r0 = *(u8 *)(r10 - 4)
+        exit
+end
+
+job 0 bytes
+`;
+
+const READ = `ebpf-run 1
+
+prog read
+        r0 = *(u8 *)(r1 + 0)
+        exit
+end
+
+job 0 read
+`;
+
+const INSERT = `ebpf-run 1
+map numbers key 4 value 8 max 4 spare 0
+
+prog insert
+        *(u32 *)(r10 - 4) = 7
+        *(u64 *)(r10 - 16) = 49
+        r1 = map 0
+        r2 = r10
+        r2 += -4
+        r3 = r10
+        r3 += -16
+        r4 = 0
+        call 2
+        exit
+end
+
+job 0 insert
+`;
+
+const ADD = `ebpf-run 1
+cpus 2
+map counter key 4 value 8 max 1 spare 1
+
+prog add
+        *(u32 *)(r10 - 4) = 0   ; the key
+        *(u64 *)(r10 - 16) = 0  ; a first value
+        r1 = map 0
+        r2 = r10
+        r2 += -4
+        r3 = r10
+        r3 += -16
+        r4 = 1                  ; only if the key isn't there
+        call 2                  ; update
+        r1 = map 0
+        r2 = r10
+        r2 += -4
+        call 1                  ; lookup: r0 is the value's address
+        r1 = *(u64 *)(r0 + 0)
+        r1 += 1
+        *(u64 *)(r0 + 0) = r1
+        r0 = 0
+        exit
+end
+
+job 0 add
+job 1 add
+`;
+
+const LOCK = `ebpf-run 1
+cpus 2
+map guarded key 4 value 16 max 1 spare 1
+
+prog count
+        *(u32 *)(r10 - 4) = 0
+        *(u64 *)(r10 - 24) = 0  ; the lock
+        *(u64 *)(r10 - 16) = 0  ; the count
+        r1 = map 0
+        r2 = r10
+        r2 += -4
+        r3 = r10
+        r3 += -24
+        r4 = 1
+        call 2
+        r1 = map 0
+        r2 = r10
+        r2 += -4
+        call 1
+        r7 = r0
+take:   r0 = 0
+        r1 = 1
+        r0 = cmpxchg_64(r7 + 0, r0, r1)
+        if r0 != 0 goto take
+        r1 = *(u64 *)(r7 + 8)
+        r1 += 1
+        *(u64 *)(r7 + 8) = r1
+        *(u64 *)(r7 + 0) = 0    ; gives the lock back
+        r0 = 0
+        exit
+end
+
+job 0 count
+job 1 count
+`;
+
+const HELD = `ebpf-run 1
+cpus 2
+map single key 4 value 8 max 1 spare 0
+
+prog hold
+        *(u32 *)(r10 - 4) = 0
+        *(u64 *)(r10 - 16) = 5
+        r1 = map 0
+        r2 = r10
+        r2 += -4
+        r3 = r10
+        r3 += -16
+        r4 = 0
+        call 2                  ; insert
+        r1 = map 0
+        r2 = r10
+        r2 += -4
+        call 1                  ; look up: from here on this run holds the value
+        r0 = *(u64 *)(r0 + 0)
+        exit
+end
+
+prog replace
+        *(u32 *)(r10 - 4) = 0
+        *(u64 *)(r10 - 16) = 6
+        r1 = map 0
+        r2 = r10
+        r2 += -4
+        call 3                  ; delete
+        r1 = map 0
+        r2 = r10
+        r2 += -4
+        r3 = r10
+        r3 += -16
+        r4 = 0
+        call 2                  ; insert another
+        exit
+end
+
+job 0 hold
+job 1 replace
+`;
+
+const times = (count, cpu) => Array(count).fill(cpu);
+
+// ---- What a check asks of a state: all of it is the program's answer.
+
+const ends_of = ({ known, shown }) => known.slice(0, shown).map((turn) => turn.ended).filter((end) => end);
+const end_of = (state, job) => ends_of(state).find((end) => end.job === job);
+const met = (said) => ({ is_met: true, said });
+const not_yet = (said) => ({ is_met: false, said });
+
+// The number in the first 8 bytes from a place on of a map's only value.
+function number_in({ views }, map, place = 0) {
+    const [value] = views.after.maps.get(map)?.values() ?? [];
+    return value === undefined ? null : little_endian(pairs(value).slice(place, place + 8));
+}
+
+function ends_with(state, job, wanted) {
+    const end = end_of(state, job);
+    if (!end) return not_yet(`Job ${job} hasn't ended.`);
+    return end.how === wanted ? met(`Job ${job} ended with ${wanted}.`) : not_yet(`Job ${job} ended: ${end.how}.`);
+}
+
+function counter_is(state, wanted) {
+    if (ends_of(state).length < 2) return not_yet('Both jobs have to end.');
+    const number = number_in(state, 'counter');
+    const said = `Both jobs have ended, and the counter is ${number}.`;
+    return number === wanted ? met(said) : not_yet(`${said} Go back, and try another order.`);
+}
+
+// Orders of turns that are the same each time: enough of them that a race of a few steps shows.
+function drawn_orders(count, length) {
+    let drawn = 9669;
+    const next = () => (drawn = (Math.imul(drawn, 1103515245) + 12345) >>> 0) >>> 16 & 1;
+    return Array.from({ length: count }, () => Array.from({ length }, next));
+}
+
+async function every_order_counts(state, machine) {
+    const orders = [[], ...drawn_orders(15, 60)];
+    const tried = `${orders.length} orders that were tried`;
+    for (const turns of orders) {
+        const { ends, maps } = await machine.outcome(state.file, turns);
+        const number = number_in({ views: { after: { maps } } }, 'counter');
+        const bad = ends.find((end) => !end.is_good);
+        const came = bad ? bad.line : `the counter ends at ${number ?? 'nothing'}`;
+        if (bad || number !== 2n) return { ...not_yet(`In one of ${tried}, ${came}.`), turns };
+    }
+    return met(`In each of ${tried}, the counter ends at 2.`);
+}
+
+function tries_in_vain(state) {
+    const { file, turns, shown, known, views } = state;
+    const listing = file.listings.get(file.jobs[1]?.program) ?? [];
+    const pc = listing.find((line) => line.code.includes('cmpxchg'))?.pc;
+    const is_try = (turn, nth) => turns[nth] === 1 && turn.pc === pc && !turn.is_none;
+    const tries = known.slice(0, shown).filter(is_try).length;
+    const is_kept = number_in(state, 'guarded') === 1n && !views.after.places[0].is_idle;
+    if (!is_kept) return not_yet('CPU 0 has to keep the lock meanwhile.');
+    const said = `CPU 1 has tried ${counted(tries, 'time')}`;
+    return tries < 2 ? not_yet(`${said}.`) : met(`${said}, and turns in its circle: the lock is still 1.`);
+}
+
+function inserts_while_held(state) {
+    const end = end_of(state, 1);
+    if (!end) return not_yet("CPU 1's job hasn't ended.");
+    if (end_of(state, 0)) return not_yet('CPU 0 has to hold its value meanwhile: set the lesson again.');
+    if (end.how === 'r0=18446744073709551604') return not_yet('call 2 answered 2^64 - 12, which is -ENOMEM.');
+    if (end.how !== 'r0=0') return not_yet(`CPU 1's job ended: ${end.how}.`);
+    return met('call 2 answered 0: the other value stands in the spare element, and CPU 0 still holds its own.');
+}
+
+function key_is_there({ views, known, shown }) {
+    const keys = views.after.maps.get('numbers');
+    if (!keys?.size) return not_yet('The map is empty.');
+    const is_old = views.before.maps.get('numbers').size > 0;
+    if (is_old) return not_yet('It is there, from an earlier turn: go back to the one that brought it.');
+    return met(`It is the instruction at pc ${known[shown - 1].pc}: call 2, which updates a map.`);
+}
+
+const LESSONS = [
+    {
+        title: 'A first program',
+        text:
+            'A program counts in eleven registers; what it leaves in `r0` is its result. `Step`, or the ' +
+            'key 0, makes one turn of CPU 0: watch `r0` beside the listing, and go back as you like.',
+        task: 'Change one number, so that the job ends with r0=42.',
+        file: FIRST,
+        turns: [],
+        check: (state) => ends_with(state, 0, 'r0=42'),
+    },
+    {
+        title: 'Memory',
+        text:
+            '`r10` points behind the last byte of the frame, 512 bytes that the program may use. A store ' +
+            'of `u32` writes four bytes there, the lowest byte of the number first.',
+        task: 'One of the four bytes is 1. Change the load of `u8`, not the store, so that the job ends with r0=1.',
+        file: BYTES,
+        turns: [0, 0],
+        check: (state) => ends_with(state, 0, 'r0=1'),
+    },
+    {
+        title: 'A fault',
+        text:
+            '`r1` is the address of the context: bytes that the job is given, here none. A load from ' +
+            'where nothing is ends the job with a fault: its name, F1, and its pc.',
+        task: 'Give the job a byte: write `ctx 2a` behind its last line. It has to end with r0=42.',
+        file: READ,
+        turns: [0],
+        check: (state) => ends_with(state, 0, 'r0=42'),
+    },
+    {
+        title: 'A map',
+        text:
+            'Maps keep values by keys, for all CPUs and from job to job. A helper takes the map in `r1`, ' +
+            'addresses of key and value in `r2` and `r3`, and flags in `r4`.',
+        task: 'Go to the turn that puts the key into the map. Which instruction was it?',
+        file: INSERT,
+        turns: [],
+        check: key_is_there,
+    },
+    {
+        title: 'Two CPUs, one counter',
+        text:
+            'Both CPUs run the same program: load the counter, add 1, store it. Both have looked it up ' +
+            'and stand before the load. You say whose turn it is, by `0` and `1`.',
+        task: 'Find an order in which the counter ends at 2.',
+        file: ADD,
+        turns: [...times(13, 0), ...times(13, 1)],
+        check: (state) => counter_is(state, 2n),
+    },
+    {
+        title: 'A lost update',
+        text:
+            'The same program and the same place. Between the load of one CPU and its store, the other ' +
+            "may load too: it doesn't see what is about to be stored.",
+        task: 'Find an order in which both jobs end, and the counter is 1: an addition is lost.',
+        file: ADD,
+        turns: [...times(13, 0), ...times(13, 1)],
+        check: (state) => counter_is(state, 1n),
+    },
+    {
+        title: 'Its repair',
+        text:
+            'An atomic addition is one step, and no other CPU stores within a step. Here the page ' +
+            'doesn\'t look at your turns: it has the program make 16 orders of its own, and shows you ' +
+            'one that goes wrong.',
+        task: 'Instead of load, addition and store, write `r1 = 1` and `lock *(u64 *)(r0 + 0) += r1`.',
+        file: ADD,
+        turns: [],
+        check: every_order_counts,
+    },
+    {
+        title: 'A lock',
+        text:
+            'The value\'s first word is a lock: `cmpxchg_64` writes 1 if it finds 0, and answers in `r0` ' +
+            'what it found, all in one step. CPU 0 has just taken the lock. Who finds 1 tries again.',
+        task: 'Let CPU 1 try twice in vain, while CPU 0 has the lock.',
+        file: LOCK,
+        turns: times(18, 0),
+        check: tries_in_vain,
+    },
+    {
+        title: 'A pointer that outlives its run',
+        text:
+            'The first job stores the address of a value in another map. The second job finds that ' +
+            'number there, but a run may only use what its own lookups found: the load at pc 7 is a ' +
+            'fault.',
+        task: 'Mend `use`: let it look the value up in map 0, and load from `r0` once. Job 1 has to end with r0=7.',
+        file: null,
+        example: 'kept-pointer',
+        turns: times(29, 0),
+        check: (state) => ends_with(state, 1, 'r0=7'),
+    },
+    {
+        title: '-ENOMEM and spare elements',
+        text:
+            'CPU 0 holds a value that it has looked up. CPU 1 deletes that key and inserts another ' +
+            'value, but the place stays taken until CPU 0\'s job ends, and the map has one element and ' +
+            'no spare one. Let CPU 1 run `Alone`: `call 2` answers `-ENOMEM`.',
+        task: 'Change the map\'s line, so that CPU 1\'s job ends with r0=0 while CPU 0 still holds its value.',
+        file: HELD,
+        turns: [...times(13, 0), ...times(12, 1)],
+        check: inserts_while_held,
+    },
+];
+
+// ---- The panel
+
+let lesson = null; // the number of the one that is open
+let checked = 0; // the number of the check that is made last
+let checking = 0; // checks under way
+
+function write_marked(node, text) {
+    node.replaceChildren(...text.split('`').map((part, nth) => (nth % 2 ? make('code', '', part) : part)));
+}
+
+function draw_lesson() {
+    const { title, text, task } = LESSONS[lesson];
+    at('lesson-title').textContent = `${lesson + 1} of ${LESSONS.length}: ${title}`;
+    write_marked(at('lesson-text'), text);
+    write_marked(at('lesson-task'), task);
+    at('lesson-said').textContent = '';
+    at('lesson-back').disabled = lesson === 0;
+    at('lesson-next').disabled = lesson === LESSONS.length - 1;
+}
+
+function show_lesson(is_shown) {
+    at('lesson').hidden = !is_shown;
+    at('lessons').setAttribute('aria-expanded', String(is_shown));
+}
+
+function close_lesson() {
+    lesson = null;
+    show_lesson(false);
+}
+
+function open_lesson(number, load) {
+    lesson = number;
+    draw_lesson();
+    show_lesson(true);
+    name_example('');
+    const { file, example, turns } = LESSONS[number];
+    return load(file ?? examples[example].text, turns);
+}
+
+// Tells whether what the lesson asks for is met. Of a check that asks the program, the last one counts.
+async function check_lesson(state) {
+    const mine = ++checked;
+    if (lesson === null) return;
+    const said = at('lesson-said');
+    if (!state.file) {
+        said.textContent = '';
+        return;
+    }
+    checking++;
+    try {
+        const { is_met, said: told, turns } = await LESSONS[lesson].check(state, machine);
+        if (mine !== checked || lesson === null) return;
+        said.replaceChildren(make('strong', '', is_met ? 'Met. ' : 'Not yet. '), told);
+        said.classList.toggle('met', is_met);
+        if (!turns) return;
+        const show = make('button', '', 'Show me');
+        show.type = 'button';
+        show.addEventListener('click', () => show_order(state.file, turns));
+        said.append(' ', show);
+    } catch (error) {
+        if (mine === checked) said.textContent = `The program gave no answer: ${error.message}`;
+    } finally {
+        checking--;
+    }
+}
+
+function listen_to_lessons(load) {
+    at('lessons').addEventListener('click', () => (lesson === null ? open_lesson(0, load) : close_lesson()));
+    at('lesson-reset').addEventListener('click', () => open_lesson(lesson, load));
+    for (const [name, by] of [['lesson-back', -1], ['lesson-next', 1]]) {
+        at(name).addEventListener('click', async () => {
+            await open_lesson(lesson + by, load);
+            at('lesson-title').focus();
+        });
+    }
+}
