@@ -1,4 +1,4 @@
-.PHONY: run build try test check edits manual bench install uninstall help
+.PHONY: run build try web test check edits soak manual bench dist install uninstall help
 
 PREFIX ?= /usr/local
 
@@ -13,8 +13,11 @@ build: ## Prove the program and build it as ./ebpf, saying meanwhile how far tha
 try: ## Build ./ebpf-try in a minute: the same sources with the kit's checks on, of which nothing is proved
 	tools/try
 
+web: build ## Make the page that steps the proved program in a browser: out/web/index.html
+	tools/web
+
 # rt ci sets aside what was built before, and leaves the program that it proved, built and ran: the cases take that one.
-test: ## The whole gate: every proof, every must-fail edit, every test, then the cases, refused memory, and failing reads and writes
+test: ## The whole gate: every proof, every must-fail edit, every test, then the cases, refused memory, failing reads and writes, and damaged input and hosts
 	rt ci
 	install -m 755 crates/bpf_run/out/bpf_run ebpf
 	tests/segments.py --check
@@ -22,8 +25,13 @@ test: ## The whole gate: every proof, every must-fail edit, every test, then the
 	tests/run ./ebpf
 	tests/memory ./ebpf
 	tests/streams ./ebpf
+	tests/hostile ./ebpf
 	tests/docs ./ebpf
 	tests/docs --self-test ./ebpf
+	tests/completions ./ebpf
+	tests/from-elf ./ebpf
+	tests/programs/compare ./ebpf
+	tests/page ./ebpf
 	$(MAKE) manual
 
 manual: ## Look for mistakes in the manual page with mandoc, where that is installed
@@ -35,20 +43,38 @@ check: ## The quick check while one writes: what changed is proved again
 edits: ## Try the wrong bodies that the gate doesn't try, where something changed: hours at first; tests/edits.py CRATE tries one crate's
 	tests/edits.py
 
-bench: build ## Time fixed programs beside other interpreters, map calls beside other maps, also by threads and workers, and texts of 16 MiB
+SOAK = 1000
+STRESS = maps/fullest-map maps/keys-that-differ-in-the-last-byte maps/sixteen-maps-by-sixteen-cpus \
+	run/kept-pointer run/sixteen-cpus-add run/two-thousand-additions
+
+soak: build ## Run each file of stress 1,000 times by 16 workers: minutes
+	for file in $(STRESS); do tests/run --times $(SOAK) ./ebpf "$$file.toml, 16 workers" || exit 1; done
+
+bench: build ## Time fixed programs beside other interpreters, map calls beside other maps, also by threads and workers, texts of 16 MiB, and the largest run file
 	cd crates/hop_bench && rt run </dev/null
 	bench/run ./ebpf
 	bench/maps ./ebpf
 	bench/threads crates/hop_bench/out/hop_bench
 	bench/workers ./ebpf
 	bench/texts ./ebpf
+	bench/largest ./ebpf
+	tests/page ./ebpf speed
 
-install: build ## Install the program and its manual page below PREFIX (/usr/local), in DESTDIR where one is given
+dist: build ## Pack the program as a tar file and a Debian package below out/dist, and try both in empty folders
+	tools/dist ./ebpf
+
+SHARE = $(DESTDIR)$(PREFIX)/share
+
+install: build ## Install the program, its manual page and completions below PREFIX (/usr/local), in DESTDIR where one is given
 	install -D -m 755 ebpf $(DESTDIR)$(PREFIX)/bin/ebpf
-	install -D -m 644 ebpf.1 $(DESTDIR)$(PREFIX)/share/man/man1/ebpf.1
+	install -D -m 644 ebpf.1 $(SHARE)/man/man1/ebpf.1
+	install -D -m 644 completions/ebpf.bash $(SHARE)/bash-completion/completions/ebpf
+	install -D -m 644 completions/_ebpf $(SHARE)/zsh/site-functions/_ebpf
+	install -D -m 644 completions/ebpf.fish $(SHARE)/fish/vendor_completions.d/ebpf.fish
 
 uninstall: ## Remove what install put there
-	rm -f $(DESTDIR)$(PREFIX)/bin/ebpf $(DESTDIR)$(PREFIX)/share/man/man1/ebpf.1
+	rm -f $(DESTDIR)$(PREFIX)/bin/ebpf $(SHARE)/man/man1/ebpf.1 $(SHARE)/bash-completion/completions/ebpf
+	rm -f $(SHARE)/zsh/site-functions/_ebpf $(SHARE)/fish/vendor_completions.d/ebpf.fish
 
 help: ## Print this list
 	@sed -n 's/^\([a-z]*\):.*## \(.*\)/\1\t\2/p' $(MAKEFILE_LIST)
