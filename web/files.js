@@ -58,7 +58,7 @@ async function list_program(engine, { text, words, begins }) {
     });
 }
 
-// What an address is, by docs/MACHINE.md: null where it is none of a map, the context, a frame or a value.
+// What an address is, by docs/reference/machine.md: null where it is none of a map, the context, a frame or a value.
 // Whether a run may use it, the program alone knows.
 function address_text(number, { maps, sizes }) {
     const address = Number(number);

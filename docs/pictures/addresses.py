@@ -1,4 +1,4 @@
-"""Prints the picture of docs/MACHINE.md: where a program's memory lies, by the constants of the code."""
+"""Prints the picture of docs/reference/machine.md: where a program's memory lies, by the constants of the code."""
 
 from drawing import Picture, constant
 

@@ -25,8 +25,8 @@ pub const L2: Page = Page {
     advice: "\
 The order is: `ebpf-run 1`, `cpus`, `seed`, maps, programs, jobs; each but the
 first may be missing. Names have at most 32 characters, contexts at most 4,096
-bytes; there are at most 256 programs and 4,096 jobs. docs/RUN-FILES.md has
-every form.",
+bytes; there are at most 256 programs and 4,096 jobs.
+docs/reference/run-files.md has every form.",
 };
 
 pub const L3: Page = Page {

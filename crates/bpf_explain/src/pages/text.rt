@@ -11,8 +11,8 @@ pub const A1: Page = Page {
         printed: "refused A1 1",
     }),
     advice: "\
-The number is the line's, counted from 1. docs/LANGUAGE.md has every form.
-Spellings of LLVM and of the kernel that differ: `r0 = 5` instead of
+The number is the line's, counted from 1. docs/reference/assembly.md has every
+form. Spellings of LLVM and of the kernel that differ: `r0 = 5` instead of
 `mov r0, 5`, `;` before a comment, `call 1` instead of a helper's name,
 `goto +3` instead of `goto pc+3`, and no `<LBB0_3>` behind a target.",
 };
