@@ -1,5 +1,6 @@
 pub mod Layouts
 pub mod Depths
+pub mod Births
 pub mod Indexes
 pub mod Parts
 pub mod Maps

@@ -1,4 +1,5 @@
 pub mod Layout
+pub mod Births
 pub mod Home
 pub mod Words
 pub mod Private

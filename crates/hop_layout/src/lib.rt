@@ -5,6 +5,7 @@ mod about;
 mod bytes;
 mod hash;
 mod index;
+pub mod laws;
 mod place;
 
 pub use about::About;
