@@ -1,5 +1,5 @@
 -- Which segments are born, and who owns a home.
-use Rattle.std.proofs.Common.{◌≡◌, ◌≢◌, ℕ, zero, suc, ◌+◌, ◌*◌, ◌-◌, ◌%◌, ◌/◌, ◌<◌, ◌≤◌, nat_lt, Bool, true, false, true≢false, ◌&&◌, ◌==◌, if◌then◌else◌, refl, ap, sym, subst, ◌∙◌, arith, eq-eqb, ne_eqb, ⊎_elim, inl, inr, ◌⊎◌}
+use Rattle.std.proofs.Common.{◌≡◌, ◌≢◌, ℕ, zero, suc, ◌+◌, ◌*◌, ◌-◌, ◌%◌, ◌/◌, ◌<◌, ◌≤◌, nat_lt, Bool, true, false, true≢false, ◌&&◌, if◌then◌else◌, refl, ap, sym, subst, ◌∙◌, arith, eq-eqb, ne_eqb, ⊎_elim, inl, inr, ◌⊎◌}
 use Rattle.std.proofs.lemmas.Bool.Decides.{nat_tests}
 use Rattle.std.proofs.Math.Nat.{add-mul-mod_self_left, mod-eq_of_lt}
 use Rattle.std.proofs.lemmas.Nat.{mod_below, div-add-mod', mod-mul-add}
@@ -7,7 +7,7 @@ use mathlib.Core.Logic.{dite}
 use native.Mathlib.Decide.{ℕ_discrete, dec_lt}
 use Rattle.bpf_shared.specs.Store.{put}
 use Rattle.hop_layout.specs.Layout.{power}
-use Rattle.hop_layout.specs.Births.{is_born, Owns, AreDepths, child_of, split_depths, EachHasOneOwner, BearsOneChild, SplitsBearOneChild}
+use Rattle.hop_layout.specs.Births.{is_born, Owns, AreDepths, child_of, split_depths, EachHasOneOwner, SplitsBearOneChild}
 
 -- ---- powers
 pub some_power : (n : ℕ) → 1 ≤ power n
@@ -67,7 +67,7 @@ both_and a b p q = (λ i. p i && b) ∙ q
 pub lt_is : (m n : ℕ) → m < n → nat_lt m n ≡ true
 lt_is m n l = grind (arith, nat_tests)
 
-ge_is : (m n : ℕ) → n ≤ m → nat_lt m n ≡ false
+pub ge_is : (m n : ℕ) → n ≤ m → nat_lt m n ≡ false
 ge_is m n l = grind (arith, nat_tests)
 
 is_lt : (m n : ℕ) → nat_lt m n ≡ true → m < n

@@ -3,7 +3,7 @@ use Rattle.std.proofs.Common.{◌≡◌, ℕ, zero, suc, pow-suc, Bool, if◌the
 use Rattle.std.proofs.lemmas.Bool.Decides.{nat_tests}
 use Rattle.std.proofs.Math.Pow.{pow_mono}
 use Rattle.bpf_shared.specs.declared.shapes.MapShape.{MapShape}
-use Rattle.hop_layout.specs.Layout.{depth_from, depth, power}
+use Rattle.hop_layout.specs.Layout.{depth_from, depth, power, segments, first_depth}
 
 twice : (d : ℕ) → 2 * (64 * 2 ^ d) ≡ 64 * 2 ^ (d + 1)
 twice d = let e : suc d ≡ d + 1 = omega arith in let p = pow-suc 2 d in let q = ap (λ (n : ℕ). 2 ^ n) e in omega arith
@@ -50,9 +50,33 @@ below (suc n) room max = choose (nat_lt room max) (depth_from n (2 * room) max) 
 pub depth_most : (g : MapShape) → depth g ≤ 10
 depth_most g = below 10 64 g.max
 
-pub segments_are : (d : ℕ) → d ≤ 10 → 1 * 2 ^ d % 4294967296 ≡ power d
-segments_are d few = let p = power_is d in let m = low_power d few in omega arith
+pub first_most : (g : MapShape) → first_depth g ≤ 10
+first_most g = go (g.grow) refl
+  where
+    go : (x : Bool) → g.grow ≡ x → first_depth g ≤ 10
+    go true e = let z : first_depth g ≡ 0 = ap (λ (y : Bool). if y then 0 else depth g) e in omega arith
+    go false e = let z : first_depth g ≡ depth g = ap (λ (y : Bool). if y then 0 else depth g) e in let m = depth_most g in omega arith
 
 pub some_power : (d : ℕ) → 0 < power d
 some_power zero = omega arith
 some_power (suc d) = let r = some_power d in omega arith
+
+first_less : (g : MapShape) → first_depth g ≤ depth g
+first_less g = go g.grow refl
+  where
+    go : (x : Bool) → g.grow ≡ x → first_depth g ≤ depth g
+    go true e = let z : first_depth g ≡ 0 = ap (λ (y : Bool). if y then 0 else depth g) e in omega arith
+    go false e = let z : first_depth g ≡ depth g = ap (λ (y : Bool). if y then 0 else depth g) e in omega arith
+
+-- as made there are no more segments than the map can have
+pub first_room : (g : MapShape) → power (first_depth g) ≤ segments g
+first_room g = go (depth g) (first_depth g) (first_less g)
+  where
+    go : (n d : ℕ) → d ≤ n → power d ≤ power n
+    go zero zero l = omega arith
+    go zero (suc d) l = absurd (omega arith)
+    go (suc n) zero l = let o = some_power (suc n) in omega arith
+    go (suc n) (suc d) l = let r = go n d (omega arith) in omega arith
+
+pub segments_are : (d : ℕ) → d ≤ 10 → 1 * 2 ^ d % 4294967296 ≡ power d
+segments_are d few = let p = power_is d in let m = low_power d few in omega arith

@@ -9,7 +9,7 @@ use Rattle.hop_layout.specs.Private.Index.{bases, bases_from, end_from, AreBases
 use Rattle.bpf_shared.specs.declared.shapes.MapShape.{MapShape}
 use Rattle.bpf_shared.specs.Shape.{Shape, elements}
 use Rattle.hop_layout.specs.declared.place.Place.TheVariants.{RunCount, KeyCount, FreeBits, Stamp, Head, Hop, Slot, Link, KeyWord, ValueWord}
-use Rattle.hop_layout.specs.Layout.{sum_below, layout_size, is_path, layout, at, size, words_for, free_words, segments, depth, map_shape, segment_layout, map_layout, map_words, line_rest}
+use Rattle.hop_layout.specs.Layout.{sum_below, layout_size, is_path, layout, at, size, words_for, free_words, segments, first_depth, map_shape, segment_layout, map_layout, map_words, line_rest}
 use Rattle.hop_layout.proofs.Layouts.{both}
 
 pub sum_same : (n k : ℕ) → sum_below n (λ j. k) ≡ n * k
@@ -93,7 +93,7 @@ bases_at h m start e = λ i. record {
   values = values i;
   key_words = words_for (map_shape h m).key;
   value_words = words_for (map_shape h m).value;
-  depth = depth (map_shape h m);
+  first = first_depth (map_shape h m);
 }
   where
     b : Bases

@@ -1,18 +1,11 @@
 -- The maps of a store by their numbers, and that no two elements' spans overlap.
-use Rattle.std.proofs.Common.{◌≡◌, ◌≢◌, ℕ, zero, suc, ◌+◌, ◌*◌, ◌/◌, ◌%◌, ◌<◌, ◌≤◌, Bool, true, false, true≢false, List, [], ◌∷◌, ◌++◌, Option, Some, ◌==◌, if◌then◌else◌, length, take, drop, slice_get, slice_index_or, refl, ap, sym, subst, ◌∙◌, arith, eq-eqb, ⊎_elim, inl, inr, ◌⊎◌, mul-le-mul, length-drop, ◌-◌}
-use Rattle.std.proofs.lemmas.Bool.Decides.{nat_tests}
-use Rattle.std.proofs.lemmas.List.{take-append-le, take-append-drop, length-take-le, take_all, drop-drop}
-use Rattle.std.proofs.Math.Seq.{take-append-add}
+use Rattle.std.proofs.Common.{◌≡◌, ◌≢◌, ℕ, zero, suc, ◌+◌, ◌*◌, ◌<◌, ◌≤◌, List, [], ◌∷◌, Some, length, slice_get, slice_index_or, refl, subst, arith, ⊎_elim, mul-le-mul}
 use mathlib.Core.Logic.{dite}
-use native.Mathlib.Decide.{ℕ_discrete, dec_lt}
+use native.Mathlib.Decide.{dec_lt}
 use Rattle.bpf_shared.specs.declared.shapes.MapShape.{MapShape}
-use Rattle.bpf_shared.specs.Shape.{Shape, IsMap, IsMapShape, IsShape, elements, element_stride, element_span, IsApart, IsIn}
-use Rattle.bpf_base.specs.Bytes.{little_endian, low_bytes}
-use Rattle.bpf_shared.specs.Store.{put}
-use Rattle.bpf_shared.proofs.Puts.{put-same, put-other, equal_or_not}
+use Rattle.bpf_shared.specs.Shape.{Shape, IsMap, IsShape, elements, element_stride, element_span, IsApart, IsIn}
+use Rattle.bpf_shared.proofs.Puts.{equal_or_not}
 use Rattle.hop_layout.specs.Layout.{map_shape, no_map}
-use Rattle.hop_layout.specs.Words.{AreBytes, word_of, bytes_of_words}
-use Rattle.hop_layout.proofs.Layouts.{both}
 use Rattle.bpf_shared.proofs.Places.{stride_most, reach_most}
 
 pub map_is : (h : Shape) (m : ℕ) → m < length h.maps → IsMap h.maps m (map_shape h m)

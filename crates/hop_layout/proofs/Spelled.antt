@@ -1,18 +1,11 @@
 -- The bytes that words spell.
-use Rattle.std.proofs.Common.{◌≡◌, ◌≢◌, ℕ, zero, suc, ◌+◌, ◌*◌, ◌/◌, ◌%◌, ◌<◌, ◌≤◌, Bool, true, false, true≢false, List, [], ◌∷◌, ◌++◌, Option, Some, ◌==◌, if◌then◌else◌, length, take, drop, slice_get, slice_index_or, refl, ap, sym, subst, ◌∙◌, arith, eq-eqb, ⊎_elim, inl, inr, ◌⊎◌, mul-le-mul, length-drop, ◌-◌}
-use Rattle.std.proofs.lemmas.Bool.Decides.{nat_tests}
+use Rattle.std.proofs.Common.{◌≡◌, ℕ, zero, suc, ◌+◌, ◌*◌, ◌/◌, ◌%◌, ◌<◌, ◌≤◌, List, [], ◌∷◌, ◌++◌, length, take, drop, refl, ap, sym, ◌∙◌, arith, length-drop, ◌-◌}
 use Rattle.std.proofs.lemmas.List.{take-append-le, take-append-drop, length-take-le, take_all, drop-drop}
 use Rattle.std.proofs.Math.Seq.{take-append-add}
 use mathlib.Core.Logic.{dite}
-use native.Mathlib.Decide.{ℕ_discrete, dec_lt}
-use Rattle.bpf_shared.specs.declared.shapes.MapShape.{MapShape}
-use Rattle.bpf_shared.specs.Shape.{Shape, IsMap, IsMapShape, IsShape, elements, element_stride, element_span, IsApart, IsIn}
+use native.Mathlib.Decide.{dec_lt}
 use Rattle.bpf_base.specs.Bytes.{little_endian, low_bytes}
-use Rattle.bpf_shared.specs.Store.{put}
-use Rattle.bpf_shared.proofs.Puts.{put-same, put-other}
-use Rattle.hop_layout.specs.Layout.{map_shape, no_map}
 use Rattle.hop_layout.specs.Words.{AreBytes, word_of, bytes_of_words}
-use Rattle.hop_layout.proofs.Layouts.{both}
 
 pub spelled_same : (n : ℕ) (f g : ℕ → ℕ) → ((k : ℕ) → k < n → f k ≡ g k) → bytes_of_words n f ≡ bytes_of_words n g
 spelled_same zero f g e = refl

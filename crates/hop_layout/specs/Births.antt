@@ -42,7 +42,8 @@ pub record BearsOneChild (depths : ℕ → ℕ) (limit s : ℕ) : Type 0 where
   pub child : is_born (split_depths depths s) limit (child_of depths s) ≡ true
   pub no_other : (t : ℕ) → is_born (split_depths depths s) limit t ≡ true
       → (t ≡ child_of depths s) ⊎ (is_born depths limit t ≡ true)
-  pub stay : (t : ℕ) → is_born depths limit t ≡ true → is_born (split_depths depths s) limit t ≡ true
+  pub stay : (t : ℕ) → is_born depths limit t ≡ true
+      → is_born (split_depths depths s) limit t ≡ true
   pub after : AreDepths (split_depths depths s) limit
 
 abbrev pub SplitsBearOneChild : Type 0

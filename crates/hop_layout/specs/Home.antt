@@ -1,7 +1,7 @@
 -- Where a key belongs: FNV-1a of 64 bits over its bytes (Fowler, Noll and Vo), folded to 32 bits
 -- under a mask, and the segment and the bucket that this names (the seed, the fold, the mask and
 -- which bits name what are our own choice).
-use Rattle.std.specs.Prelude.{ℕ, ◌*◌, ◌/◌, ◌%◌, ◌^◌, List, fold, bit_and, bit_xor, zero, suc, ◌+◌, ◌<◌, [], ◌∷◌, ◌++◌}
+use Rattle.std.specs.Prelude.{ℕ, ◌*◌, ◌/◌, ◌%◌, ◌^◌, List, fold, bit_and, bit_xor}
 use Rattle.bpf_shared.specs.declared.shapes.MapShape.{MapShape}
 use Rattle.hop_layout.specs.Layout.{depth, power}
 

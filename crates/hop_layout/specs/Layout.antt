@@ -67,6 +67,14 @@ power (suc n) = 2 * power n
 abbrev pub segments : MapShape → ℕ
 segments g = power (depth g)
 
+-- the depth of each segment as made
+abbrev pub first_depth : MapShape → ℕ
+first_depth g = if g.grow then 0 else depth g
+
+-- how many versions splits alone can take a segment on
+abbrev pub gained : MapShape → ℕ
+gained g = if g.grow then depth g else 0
+
 -- what is left of a line of eight words (64 bytes) behind so many words
 abbrev pub line_rest : ℕ → ℕ
 line_rest n = (8 - n % 8) % 8

@@ -1,9 +1,6 @@
 -- Words, and the bytes that lie in them.
-use Rattle.std.specs.Prelude.{ℕ, zero, suc, ◌+◌, ◌*◌, ◌/◌, ◌%◌, ◌^◌, ◌<◌, List, [], ◌∷◌, ◌++◌}
-use Rattle.bpf_shared.specs.declared.shapes.MapShape.{MapShape}
+use Rattle.std.specs.Prelude.{ℕ, zero, suc, ◌+◌, ◌*◌, ◌<◌, List, [], ◌∷◌, ◌++◌}
 use Rattle.bpf_base.specs.Bytes.{little_endian, low_bytes, part}
-use Rattle.hop_layout.specs.Home.{home_of}
-use Rattle.hop_layout.specs.Layout.{depth, power}
 
 abbrev pub AreBytes : List ℕ → Type 0
 AreBytes [] = Unit {0}

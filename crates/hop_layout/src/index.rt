@@ -1,6 +1,6 @@
 //! Where each word stands, as numbers that are computed once.
 ghost use Rattle.std.specs.Prelude.{◌≡◌, ◌+◌, ◌*◌, ◌%◌, ◌<◌, ◌≤◌, ◌^◌, true, length, IfOk};
-ghost use Rattle.hop_layout.specs.Layout.{is_place, at, size, line_rest, depth_from, segments, map_shape, words_for as word_count};
+ghost use Rattle.hop_layout.specs.Layout.{is_place, at, size, line_rest, depth_from, segments, map_shape, words_for as word_count, power, first_depth};
 ghost use Rattle.bpf_shared.specs.Shape.{IsMapShape, elements as element_count};
 ghost use Rattle.hop_layout.specs.Private.Index.{bases, bases_from, end_from};
 
@@ -10,8 +10,8 @@ use bpf_shared::MapShape;
 use std::alloc::{AllocError, Global};
 use std::marker::Model;
 
-/// Where a map's words begin, by their kinds, the words of a key and of a value, and how often the
-/// map's segments double.
+/// Where a map's words begin, by their kinds, the words of a key and of a value, and the depth of
+/// the map's segments as made.
 #[derive(Clone, Copy, Drop)]
 struct Bases {
     start: u32,
@@ -21,7 +21,7 @@ struct Bases {
     values: u32,
     key_words: u32,
     value_words: u32,
-    depth: u32,
+    first: u32,
 }
 
 /// Where the words of a store stand. It is seen as what the store was told when it was made.
@@ -63,6 +63,15 @@ pub fn depth(max: u64) -> u32
         }
     }
     10
+}
+
+/// The depth of a map's segments as made: one that grows begins with one segment.
+pub fn first_depth(shape: &MapShape) -> u32
+    requires { IsMapShape shape.now }
+    ensures value { result ≡ first_depth shape.now }
+    ensures most { result ≤ 10 }
+{
+    if shape.grow { 0 } else { depth(shape.max) }
 }
 
 /// How many segments a map has: a power of two.
@@ -138,7 +147,7 @@ fn lay_out(start: u32, shape: &MapShape) -> (Bases, u32)
         values,
         key_words,
         value_words,
-        depth: depth(shape.max),
+        first: first_depth(shape),
     };
     (
         bases,
@@ -216,14 +225,25 @@ impl Index {
         }
     }
 
-    /// The number of the segment that a home lies in.
+    /// The number of the segment that a home lies in as made.
     #[inline(always)]
-    pub fn segment_of(&self, map: u8, home: u32) -> u32
+    pub fn first_segment(&self, map: u8, home: u32) -> u32
         requires there { map < length self.now.shape.maps }
-        ensures segment { result ≡ home % segments (map_shape self.now.shape map) }
+        ensures segment { result ≡ home % power (first_depth (map_shape self.now.shape map)) }
         ensures inside { result < segments (map_shape self.now.shape map) }
     {
-        home % (1 << self.bases(map).depth)
+        home % (1 << self.bases(map).first)
+    }
+
+    /// The depth of a map's segments as made.
+    #[inline(always)]
+    #[tactic(auto, using(crate::proofs::Depths::first_most))]
+    pub fn first_depth_of(&self, map: u8) -> u32
+        requires there { map < length self.now.shape.maps }
+        ensures depth { result ≡ first_depth (map_shape self.now.shape map) }
+        ensures most { result ≤ 10 }
+    {
+        self.bases(map).first
     }
 
     // Where a map's words begin.

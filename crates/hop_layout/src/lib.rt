@@ -11,5 +11,5 @@ mod place;
 pub use about::About;
 pub use bytes::word_of;
 pub use hash::home;
-pub use index::{Index, depth, elements, segments};
+pub use index::{Index, depth, elements, first_depth, segments};
 pub use place::Place;

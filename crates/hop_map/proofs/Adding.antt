@@ -13,7 +13,8 @@ use Rattle.hop_layout.specs.declared.about.About.{About}
 use Rattle.hop_words.specs.declared.known.Known.{Known}
 use Rattle.hop_words.specs.declared.known.Lock.{Lock}
 use Rattle.hop_words.specs.Content.{MapWords, Reached, IsShare, IsSegmentSound, HopsTo, IsOnList, LinksThrough, item, times}
-use Rattle.hop_words.specs.Ghost.{segment_in, IsHomeIn, shape_at}
+use Rattle.hop_words.specs.Depths.{stamp_depth, home_by}
+use Rattle.hop_words.specs.Ghost.{IsHomeIn, shape_at}
 use Rattle.hop_words.specs.Rule.{image, changed}
 use Rattle.hop_words.specs.Kinds.{MayLink, IsShownIn, HasRoom}
 use Rattle.hop_words.specs.Locking.{lock_of, HasLastLock}
@@ -38,29 +39,29 @@ module _ (a : About) (l : Known) (m s : ℕ) (c : LockShows a l m s) (last : Has
   abbrev key : ℕ → List ℕ
   key e = spelled_key a m (image a (lock_of l).copy) e
 
-  share : IsShare a.seed (shape_at a m) (segment_in a m) x m s c.content
-  share = subst (λ (ws : List ℕ). IsShare a.seed (shape_at a m) (segment_in a m) (image a ws) m s c.content) (sym c.copied) c.share
+  share : IsShare a.seed (shape_at a m) (home_by a m (stamp_depth (lock_of l).stamp)) x m s c.content
+  share = subst (λ (ws : List ℕ). IsShare a.seed (shape_at a m) (home_by a m (stamp_depth (lock_of l).stamp)) (image a ws) m s c.content) (sym c.copied) c.share
 
   -- an element's key leads to it, and is at home here
   module _ (e : ℕ) (r : Reached x m s e) where
-    leads : (c.content (key e) ≡ Some e) × (segment_in a m (key e) ≡ s)
-    leads = let q = share.each e r in let same : key e ≡ q.0 = spells a m x e q.0 q.1 in (ap c.content same ∙ q.3, ap (segment_in a m) same ∙ q.2)
+    leads : (c.content (key e) ≡ Some e) × (home_by a m (stamp_depth (lock_of l).stamp) (key e) ≡ s)
+    leads = let q = share.each e r in let same : key e ≡ q.0 = spells a m x e q.0 q.1 in (ap c.content same ∙ q.3, ap (home_by a m (stamp_depth (lock_of l).stamp)) same ∙ q.2)
 
     -- by what the lock tells
     home_here : IsHomeIn a (lock_of l) (key e)
-    home_here = ap (λ (i : ℕ). segment_in a i (key e)) c.map ∙ (leads.1 ∙ sym c.segment)
+    home_here = ap (λ (i : ℕ). home_by a i (stamp_depth (lock_of l).stamp) (key e)) c.map ∙ (leads.1 ∙ sym c.segment)
 
     pub inside : e < elements (shape_at a m)
     inside = (c.all_known (key e) e leads.0 leads.1).0
 
-    shows_it : (f : List ℕ → Option ℕ) → IsShare a.seed (shape_at a m) (segment_in a m) x m s f → f (key e) ≡ Some e
+    shows_it : (f : List ℕ → Option ℕ) → IsShare a.seed (shape_at a m) (home_by a m (stamp_depth (lock_of l).stamp)) x m s f → f (key e) ≡ Some e
     shows_it f sh = let q = sh.each e r in let same : key e ≡ q.0 = spells a m x e q.0 q.1 in ap f same ∙ q.3
 
-    shows_at : (n t : ℕ) → n ≡ m → t ≡ s → (f : List ℕ → Option ℕ) → IsShare a.seed (shape_at a n) (segment_in a n) (image a k.first) n t f → f (key e) ≡ Some e
+    shows_at : (n t : ℕ) → n ≡ m → t ≡ s → (f : List ℕ → Option ℕ) → IsShare a.seed (shape_at a n) (home_by a n (stamp_depth (lock_of l).stamp)) (image a k.first) n t f → f (key e) ≡ Some e
     shows_at n t is_m is_s f sh = shows_it f
-        (subst (λ (ws : List ℕ). IsShare a.seed (shape_at a m) (segment_in a m) (image a ws) m s f) (sym c.copied)
-        (subst (λ (j : ℕ). IsShare a.seed (shape_at a m) (segment_in a m) (image a k.first) m j f) is_s
-        (subst (λ (i : ℕ). IsShare a.seed (shape_at a i) (segment_in a i) (image a k.first) i t f) is_m sh)))
+        (subst (λ (ws : List ℕ). IsShare a.seed (shape_at a m) (home_by a m (stamp_depth (lock_of l).stamp)) (image a ws) m s f) (sym c.copied)
+        (subst (λ (j : ℕ). IsShare a.seed (shape_at a m) (home_by a m (stamp_depth (lock_of l).stamp)) (image a k.first) m j f) is_s
+        (subst (λ (i : ℕ). IsShare a.seed (shape_at a i) (home_by a i (stamp_depth (lock_of l).stamp)) (image a k.first) i t f) is_m sh)))
 
     pub may : MayLink a l (lock_of l) e
     may = (
@@ -147,7 +148,7 @@ module _ (a : About) (l : Known) (m s : ℕ) (c : LockShows a l m s) (last : Has
         shown_from [] h = tt
         shown_from (q ∷ qs) h = (subst (IsShownIn a m l.locks) (sym h.0.3) (shown h.0.0 h.0.1), shown_from qs h.1)
 
-        lists_here : (f : List ℕ → Option ℕ) → IsShare a.seed (shape_at a m) (segment_in a m) x m s f → (q : List ℕ) → segment_in a m q ≡ s → (o : Option ℕ) → f q ≡ o → is_some o ≡ is_among q p.more
+        lists_here : (f : List ℕ → Option ℕ) → IsShare a.seed (shape_at a m) (home_by a m (stamp_depth (lock_of l).stamp)) x m s f → (q : List ℕ) → home_by a m (stamp_depth (lock_of l).stamp) q ≡ s → (o : Option ℕ) → f q ≡ o → is_some o ≡ is_among q p.more
         lists_here f sh q home (Some e) is =
             let t = sh.all q e is home in
             let same : key e ≡ q = spells a m x e q t.1 in
@@ -158,10 +159,10 @@ module _ (a : About) (l : Known) (m s : ℕ) (c : LockShows a l m s) (last : Has
 
         lists_at : ListsSegment a p.more (lock_of l)
         lists_at f sh q home = lists_here f
-            (subst (λ (ws : List ℕ). IsShare a.seed (shape_at a m) (segment_in a m) (image a ws) m s f) (sym c.copied)
-            (subst (λ (j : ℕ). IsShare a.seed (shape_at a m) (segment_in a m) (image a k.first) m j f) c.segment
-            (subst (λ (i : ℕ). IsShare a.seed (shape_at a i) (segment_in a i) (image a k.first) i k.segment f) c.map sh)))
-            q (ap (λ (i : ℕ). segment_in a i q) (sym c.map) ∙ (home ∙ c.segment)) (f q) refl
+            (subst (λ (ws : List ℕ). IsShare a.seed (shape_at a m) (home_by a m (stamp_depth (lock_of l).stamp)) (image a ws) m s f) (sym c.copied)
+            (subst (λ (j : ℕ). IsShare a.seed (shape_at a m) (home_by a m (stamp_depth (lock_of l).stamp)) (image a k.first) m j f) c.segment
+            (subst (λ (i : ℕ). IsShare a.seed (shape_at a i) (home_by a i (stamp_depth (lock_of l).stamp)) (image a k.first) i k.segment f) c.map sh)))
+            q (ap (λ (i : ℕ). home_by a i (stamp_depth (lock_of l).stamp) q) (sym c.map) ∙ (home ∙ c.segment)) (f q) refl
 
 -- ---- places
 module _ (a : About) (l : Known) (m s : ℕ) (old : List (List ℕ)) (o : Opens a l m s old) where

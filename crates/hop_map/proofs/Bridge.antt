@@ -5,12 +5,12 @@ use Rattle.std.specs.Int.{bit_at}
 use Rattle.std.proofs.lemmas.Bool.Decides.{nat_tests}
 use Rattle.bpf_shared.specs.Shape.{elements}
 use Rattle.hop_layout.specs.declared.about.About.{About}
-use Rattle.hop_layout.specs.Layout.{power, depth}
-use Rattle.hop_layout.specs.Home.{segment_of, key_bucket}
+use Rattle.hop_layout.specs.Layout.{power}
+use Rattle.hop_layout.specs.Home.{key_bucket}
 use Rattle.hop_map.specs.LockedSegment.{home}
 use Rattle.hop_map.specs.Private.LockedSegment.{segment_view}
 use Rattle.hop_words.specs.Content.{MapWords, item, times, one_if, HopsTo, LinksThrough, Reached, HasKey, IsShare}
-use Rattle.hop_words.specs.Ghost.{segment_in, shape_at}
+use Rattle.hop_words.specs.Ghost.{shape_at}
 use Rattle.hop_words.specs.Rule.{put_key}
 use Rattle.hop_words.proofs.Small.{equal_keys, key_self, key_apart}
 use Rattle.hop_words.proofs.Shares.{some_once, times_head, times_tail}
@@ -22,6 +22,7 @@ use Rattle.hop_seg.proofs.Basics.{distance-place, place-distance}
 use Rattle.hop_seg.proofs.Walking.{listed_among}
 use Rattle.hop_map.proofs.Keys.{spells}
 use Rattle.hop_map.proofs.Lows.{bit_low}
+use Rattle.hop_words.specs.Depths.{home_by}
 
 pub power_is : (n : ℕ) → power n ≡ 2 ^ n
 power_is zero = refl
@@ -76,9 +77,9 @@ once_of key (x ∷ xs) d e = go (x == e) refl (once_of key xs d.1 e)
         none zero h = let z : one_if (x == e) ≡ 1 = ap one_if is in omega arith
         none (suc n) h = absurd (d.0 e (among_of e xs (omega arith)) (ap key (let s : e ≡ x = grind (arith, nat_tests) in s)))
 
-module _ (a : About) (m s : ℕ) (known : ℕ → Bool) (x : MapWords) where
+module _ (a : About) (m s dp : ℕ) (known : ℕ → Bool) (x : MapWords) where
   abbrev pub v : SegWords
-  v = segment_view a m s known x
+  v = segment_view a m s dp known x
 
   pub placed_of : (e b d : ℕ) → HopsTo x m s b d e → IsPlaced v e
   placed_of e b d h = (b, d, h.0, h.1, bit_low (x.hop m s b) d h.1 ∙ h.2, h.3)
@@ -95,9 +96,9 @@ module _ (a : About) (m s : ℕ) (known : ℕ → Bool) (x : MapWords) where
   reached_of e (inr l) = inr (l.0, follows_of (x.link m) (x.head m s) l.0 l.1, times_of e l.0 l.2)
 
   -- from the rule's share to the code's soundness
-  module _ (f : List ℕ → Option ℕ) (p : IsShare a.seed (shape_at a m) (segment_in a m) x m s f)
-      (all_known : (key : List ℕ) (e : ℕ) → f key ≡ Some e → segment_of a.seed (shape_at a m) key ≡ s → (e < elements (shape_at a m)) × (known e ≡ true)) where
-    its_key : (e : ℕ) → Reached x m s e → (key : List ℕ) × HasKey (shape_at a m) x m e key × (segment_of a.seed (shape_at a m) key ≡ s) × (f key ≡ Some e) × (element_key v e ≡ key)
+  module _ (f : List ℕ → Option ℕ) (p : IsShare a.seed (shape_at a m) (home_by a m dp) x m s f)
+      (all_known : (key : List ℕ) (e : ℕ) → f key ≡ Some e → home_by a m dp key ≡ s → (e < elements (shape_at a m)) × (known e ≡ true)) where
+    its_key : (e : ℕ) → Reached x m s e → (key : List ℕ) × HasKey (shape_at a m) x m e key × (home_by a m dp key ≡ s) × (f key ≡ Some e) × (element_key v e ≡ key)
     its_key e r = let k = p.each e r in (k.0, k.1, k.2, k.3, spells a m x e k.0 k.1)
 
     leads_to : (e : ℕ) → Reached x m s e → f (element_key v e) ≡ Some e
@@ -109,7 +110,7 @@ module _ (a : About) (m s : ℕ) (known : ℕ → Bool) (x : MapWords) where
         let z = all_known k.0 e k.3 k.2 in
         record {
           known = (z.1, z.0);
-          home = ap (λ (q : List ℕ). home a.seed (shape_at a m).mask q % 2 ^ depth (shape_at a m)) k.4 ∙ (ap (λ (n : ℕ). home a.seed (shape_at a m).mask k.0 % n) (sym (power_is (depth (shape_at a m)))) ∙ k.2);
+          home = ap (λ (q : List ℕ). home a.seed (shape_at a m).mask q % 2 ^ dp) k.4 ∙ (ap (λ (n : ℕ). home a.seed (shape_at a m).mask k.0 % n) (sym (power_is dp)) ∙ k.2);
         }
 
     bucket_is : (e b d : ℕ) → HopsTo x m s b d e → home_bucket v e ≡ b
@@ -156,19 +157,19 @@ module _ (a : About) (m s : ℕ) (known : ℕ → Bool) (x : MapWords) where
     }
 
     -- the content
-    pub pair_leads : (key : List ℕ) (e : ℕ) → HasPair v key e → (f key ≡ Some e) × (segment_of a.seed (shape_at a m) key ≡ s)
+    pub pair_leads : (key : List ℕ) (e : ℕ) → HasPair v key e → (f key ≡ Some e) × (home_by a m dp key ≡ s)
     pair_leads key e h =
         let k = its_key e (reached_of e h.linked) in
         let z : k.0 ≡ key = sym k.4 ∙ h.keyed in
-        (ap f (sym z) ∙ k.3, ap (segment_of a.seed (shape_at a m)) (sym z) ∙ k.2)
+        (ap f (sym z) ∙ k.3, ap (home_by a m dp) (sym z) ∙ k.2)
 
-    pub leads_pair : (key : List ℕ) (e : ℕ) → f key ≡ Some e → segment_of a.seed (shape_at a m) key ≡ s → HasPair v key e
+    pub leads_pair : (key : List ℕ) (e : ℕ) → f key ≡ Some e → home_by a m dp key ≡ s → HasPair v key e
     leads_pair key e is home = let t = p.all key e is home in record { keyed = spells a m x e key t.1; linked = linked_of e t.0 }
 
   -- from the code's soundness to the rule's share
   module _ (q : SegSound v) (f : List ℕ → Option ℕ) (keyed : (e : ℕ) → known e ≡ true → (key : List ℕ) × HasKey (shape_at a m) x m e key)
-      (leads : (key : List ℕ) (e : ℕ) → HasPair v key e → (f key ≡ Some e) × (segment_of a.seed (shape_at a m) key ≡ s))
-      (pairs : (key : List ℕ) (e : ℕ) → f key ≡ Some e → segment_of a.seed (shape_at a m) key ≡ s → HasPair v key e) where
+      (leads : (key : List ℕ) (e : ℕ) → HasPair v key e → (f key ≡ Some e) × (home_by a m dp key ≡ s))
+      (pairs : (key : List ℕ) (e : ℕ) → f key ≡ Some e → home_by a m dp key ≡ s → HasPair v key e) where
     known_linked : (e : ℕ) → IsInSegment v e → known e ≡ true
     known_linked e (inl h) = (q.placed_own (place_at h.0 h.1) e (omega arith) h.5).known.0
     known_linked e (inr l) = (q.listed_own e (listed_among v q e l)).known.0
@@ -176,7 +177,7 @@ module _ (a : About) (m s : ℕ) (known : ℕ → Bool) (x : MapWords) where
     has : (e : ℕ) → IsInSegment v e → HasKey (shape_at a m) x m e (element_key v e)
     has e l = let k = keyed e (known_linked e l) in subst (λ (key : List ℕ). HasKey (shape_at a m) x m e key) (sym (spells a m x e k.0 k.1)) k.1
 
-    pub share_of : IsShare a.seed (shape_at a m) (segment_in a m) x m s f
+    pub share_of : IsShare a.seed (shape_at a m) (home_by a m dp) x m s f
     share_of = record {
       sound = record {
         leads = λ b d bb dd bit. let t = q.leads b d bb dd (bit_low (x.hop m s b) d dd ∙ bit) in (t.0, (bb, dd, bit, t.1));
@@ -209,57 +210,57 @@ module _ (a : About) (m s : ℕ) (known : ℕ → Bool) (x : MapWords) where
         none e (suc n) h gone = absurd (gone (among_of e q.list (omega arith)))
 
 -- ---- what the code's calls leave, as the rule asks for it
-module _ (a : About) (m s : ℕ) (known : ℕ → Bool) (x y : MapWords) (f : List ℕ → Option ℕ) (p : IsShare a.seed (shape_at a m) (segment_in a m) x m s f)
-    (all_known : (key : List ℕ) (e : ℕ) → f key ≡ Some e → segment_of a.seed (shape_at a m) key ≡ s → (e < elements (shape_at a m)) × (known e ≡ true))
-    (keyed : (e : ℕ) → known e ≡ true → (key : List ℕ) × HasKey (shape_at a m) y m e key) (key : List ℕ) (home : segment_of a.seed (shape_at a m) key ≡ s) where
-  pub absent_none : IsAbsent (segment_view a m s known x) key → f key ≡ None
+module _ (a : About) (m s dp : ℕ) (known : ℕ → Bool) (x y : MapWords) (f : List ℕ → Option ℕ) (p : IsShare a.seed (shape_at a m) (home_by a m dp) x m s f)
+    (all_known : (key : List ℕ) (e : ℕ) → f key ≡ Some e → home_by a m dp key ≡ s → (e < elements (shape_at a m)) × (known e ≡ true))
+    (keyed : (e : ℕ) → known e ≡ true → (key : List ℕ) × HasKey (shape_at a m) y m e key) (key : List ℕ) (home : home_by a m dp key ≡ s) where
+  pub absent_none : IsAbsent (segment_view a m s dp known x) key → f key ≡ None
   absent_none gone = go (f key) refl
     where
       go : (o : Option ℕ) → f key ≡ o → f key ≡ None
       go None is = is
-      go (Some e) is = absurd (gone e (leads_pair a m s known x f p all_known key e is home))
+      go (Some e) is = absurd (gone e (leads_pair a m s dp known x f p all_known key e is home))
 
-  pub none_absent : f key ≡ None → IsAbsent (segment_view a m s known x) key
-  none_absent gone e h = let t = pair_leads a m s known x f p all_known key e h in let z : None ≡ Some e = sym gone ∙ t.0 in cc
+  pub none_absent : f key ≡ None → IsAbsent (segment_view a m s dp known x) key
+  none_absent gone e h = let t = pair_leads a m s dp known x f p all_known key e h in let z : None ≡ Some e = sym gone ∙ t.0 in cc
 
-  pub inserted : (e : ℕ) → f key ≡ None → Gains (segment_view a m s known x) (segment_view a m s known y) key e → IsShare a.seed (shape_at a m) (segment_in a m) y m s (put_key f key (Some e))
-  inserted e gone g = share_of a m s known y g.sound (put_key f key (Some e)) keyed
+  pub inserted : (e : ℕ) → f key ≡ None → Gains (segment_view a m s dp known x) (segment_view a m s dp known y) key e → IsShare a.seed (shape_at a m) (home_by a m dp) y m s (put_key f key (Some e))
+  inserted e gone g = share_of a m s dp known y g.sound (put_key f key (Some e)) keyed
       (λ k d h. elim ((g.pairs k d).0 h) [
         | inl was ↦
-            let t = pair_leads a m s known x f p all_known k d was in
+            let t = pair_leads a m s dp known x f p all_known k d was in
             (other k d t.0, t.1)
         | inr new ↦
-            ((λ j. put_key f key (Some e) (new.0 j)) ∙ ((λ j. if key_self key j then Some e else f key) ∙ ap (λ (i : ℕ). Some i) (sym new.1)), ap (segment_of a.seed (shape_at a m)) new.0 ∙ home)
+            ((λ j. put_key f key (Some e) (new.0 j)) ∙ ((λ j. if key_self key j then Some e else f key) ∙ ap (λ (i : ℕ). Some i) (sym new.1)), ap (home_by a m dp) new.0 ∙ home)
       ])
       (λ k d is at_home. (g.pairs k d).1 (⊎_elim
       (λ (same : k ≡ key). inr (same, some_once d e (sym is ∙ ((λ j. put_key f key (Some e) (same j)) ∙ (λ j. if key_self key j then Some e else f key)))))
-      (λ (ne : k ≢ key). inl (leads_pair a m s known x f p all_known k d (sym (λ j. if key_apart k key ne j then Some e else f k) ∙ is) at_home))
+      (λ (ne : k ≢ key). inl (leads_pair a m s dp known x f p all_known k d (sym (λ j. if key_apart k key ne j then Some e else f k) ∙ is) at_home))
       (equal_keys k key)))
     where
       other : (k : List ℕ) (d : ℕ) → f k ≡ Some d → put_key f key (Some e) k ≡ Some d
       other k d is = (λ j. if key_apart k key (λ (same : k ≡ key). let z : None ≡ Some d = sym gone ∙ (ap f (sym same) ∙ is) in cc) j then Some e else f k) ∙ is
 
-  pub replaced : (o e : ℕ) → Changes (segment_view a m s known x) (segment_view a m s known y) key o e → IsShare a.seed (shape_at a m) (segment_in a m) y m s (put_key f key (Some e))
-  replaced o e g = share_of a m s known y g.sound (put_key f key (Some e)) keyed
+  pub replaced : (o e : ℕ) → Changes (segment_view a m s dp known x) (segment_view a m s dp known y) key o e → IsShare a.seed (shape_at a m) (home_by a m dp) y m s (put_key f key (Some e))
+  replaced o e g = share_of a m s dp known y g.sound (put_key f key (Some e)) keyed
       (λ k d h. elim ((g.pairs k d).0 h) [
         | inl was ↦
-            let t = pair_leads a m s known x f p all_known k d was.0 in
+            let t = pair_leads a m s dp known x f p all_known k d was.0 in
             ((λ j. if key_apart k key was.1 j then Some e else f k) ∙ t.0, t.1)
         | inr new ↦
-            ((λ j. put_key f key (Some e) (new.0 j)) ∙ ((λ j. if key_self key j then Some e else f key) ∙ ap (λ (i : ℕ). Some i) (sym new.1)), ap (segment_of a.seed (shape_at a m)) new.0 ∙ home)
+            ((λ j. put_key f key (Some e) (new.0 j)) ∙ ((λ j. if key_self key j then Some e else f key) ∙ ap (λ (i : ℕ). Some i) (sym new.1)), ap (home_by a m dp) new.0 ∙ home)
       ])
       (λ k d is at_home. (g.pairs k d).1 (⊎_elim
       (λ (same : k ≡ key). inr (same, some_once d e (sym is ∙ ((λ j. put_key f key (Some e) (same j)) ∙ (λ j. if key_self key j then Some e else f key)))))
-      (λ (ne : k ≢ key). inl (leads_pair a m s known x f p all_known k d (sym (λ j. if key_apart k key ne j then Some e else f k) ∙ is) at_home, ne))
+      (λ (ne : k ≢ key). inl (leads_pair a m s dp known x f p all_known k d (sym (λ j. if key_apart k key ne j then Some e else f k) ∙ is) at_home, ne))
       (equal_keys k key)))
 
-  pub removed : (e : ℕ) → Loses (segment_view a m s known x) (segment_view a m s known y) key e → IsShare a.seed (shape_at a m) (segment_in a m) y m s (put_key f key None)
-  removed e g = share_of a m s known y g.sound (put_key f key None) keyed
+  pub removed : (e : ℕ) → Loses (segment_view a m s dp known x) (segment_view a m s dp known y) key e → IsShare a.seed (shape_at a m) (home_by a m dp) y m s (put_key f key None)
+  removed e g = share_of a m s dp known y g.sound (put_key f key None) keyed
       (λ k d h.
       let was = (g.pairs k d).0 h in
-      let t = pair_leads a m s known x f p all_known k d was.0 in
+      let t = pair_leads a m s dp known x f p all_known k d was.0 in
       ((λ j. if key_apart k key was.1 j then None else f k) ∙ t.0, t.1))
       (λ k d is at_home. (g.pairs k d).1 (⊎_elim
       (λ (same : k ≡ key). absurd (let z : None ≡ Some d = sym ((λ j. put_key f key None (same j)) ∙ (λ j. if key_self key j then None else f key)) ∙ is in cc))
-      (λ (ne : k ≢ key). (leads_pair a m s known x f p all_known k d (sym (λ j. if key_apart k key ne j then None else f k) ∙ is) at_home, ne))
+      (λ (ne : k ≢ key). (leads_pair a m s dp known x f p all_known k d (sym (λ j. if key_apart k key ne j then None else f k) ∙ is) at_home, ne))
       (equal_keys k key)))

@@ -1,7 +1,6 @@
 -- The pairs of a map, as the words of a store at rest have them.
-use Rattle.std.proofs.Common.{◌≡◌, ℕ, zero, suc, ◌+◌, ◌<◌, ◌≤◌, true, List, [], ◌∷◌, ◌++◌, Option, Some, None, inl, inr, length, get_or, refl, ap, sym, subst, ◌∙◌, arith, ⊎_elim, append_assoc, Vec}
+use Rattle.std.proofs.Common.{◌≡◌, ℕ, zero, suc, ◌+◌, ◌-◌, ◌<◌, ◌≤◌, nat_lt, Bool, true, false, ◌&&◌, List, [], ◌∷◌, ◌++◌, Option, Some, None, inl, inr, length, get_or, refl, ap, sym, subst, ◌∙◌, arith, ⊎_elim, append_assoc, Vec}
 use Rattle.std.proofs.lemmas.List.{get_or-map, length-map, append-nil}
-use Rattle.std.proofs.lemmas.Nat.{mod_below}
 use Rattle.std.proofs.lemmas.Map.Keys.{Less-from_sorted}
 use Rattle.std.proofs.lemmas.Map.Lookups.{exact_bytes}
 use Rattle.std.specs.declared.alloc.Global.{Global}
@@ -19,10 +18,14 @@ use Rattle.bpf_shared.specs.declared.events.Entry.{Entry}
 use Rattle.bpf_shared.specs.Store.{Plain, Value, Finds, as_made}
 use Rattle.bpf_shared.specs.History.{Legal}
 use Rattle.bpf_shared.specs.Listing.{Pair, pair_at, pair_of, IsListing, listed}
-use Rattle.hop_layout.specs.Layout.{depth, segments}
+use Rattle.hop_layout.specs.Home.{home_of}
+use Rattle.hop_layout.specs.Layout.{depth, power}
+use Rattle.hop_layout.specs.Births.{is_born}
+use Rattle.hop_layout.proofs.Births.{low_is, high_is, lt_is, ge_is, below_or, born_small, each_has_one_owner}
 use Rattle.hop_layout.specs.Words.{bytes_of_words}
-use Rattle.hop_words.specs.Content.{IsOnList, item}
-use Rattle.hop_words.specs.Ghost.{shape_at, segment_in, IsSegment, HasElement, Carries, Each}
+use Rattle.hop_words.specs.Content.{IsOnList, IsShare, item}
+use Rattle.hop_words.specs.Depths.{IsBorn, home_by}
+use Rattle.hop_words.specs.Ghost.{shape_at, HasElement, Carries, Each}
 use Rattle.hop_words.specs.Rule.{numbered}
 use Rattle.hop_words.specs.Seats.{view as whole_view, KeepsWholeHistory}
 use Rattle.hop_words.specs.Closing.{Ending}
@@ -31,11 +34,10 @@ use Rattle.hop_seg.specs.Segment.{Sound as SegSound}
 use Rattle.hop_seg.specs.Content.{IsListed}
 use Rattle.hop_seg.proofs.Walking.{Counted}
 use Rattle.hop_map.specs.Private.LockedSegment.{segment_view}
-use Rattle.hop_map.specs.Private.Dumping.{words_in, key_in, IsReached, IsKeyAmong, IsPairFound, AreFound, AddsPairs}
+use Rattle.hop_map.specs.Private.Dumping.{rest_depths, IsBornHere, words_in, key_in, IsReached, IsKeyAmong, IsPairFound, AreFound, AddsPairs}
 use Rattle.hop_map.specs.Dumping.{IsLast}
 use Rattle.hop_map.proofs.Keys.{spells}
 use Rattle.hop_map.proofs.Bridge.{seg_sound, reached_of, chain_of, among_of}
-use Rattle.hop_map.proofs.Homes.{some_power}
 
 -- ---- words and their bytes
 -- one word more
@@ -140,12 +142,56 @@ key_at ps k l = get_or-map (λ (p : Pair). p.0) ps k ([], []) [] l
 pub last_of : (e : Ending) → KeepsWholeHistory e.about (whole_view [] e.history) e.words → (last : Plain) × IsLast e last × Legal (as_made e.about.shape) e.history last
 last_of e w = (w.ghost.last, (w, refl), subst (λ (log : List Entry). Legal (as_made e.about.shape) log w.ghost.last) (sym w.whole) w.rule.logged.legal)
 
-module _ (e : Ending) (w : KeepsWholeHistory e.about (whole_view [] e.history) e.words) (m : ℕ) where
-  pub reached_inside : (s i : ℕ) → IsSegment e.about m s → IsReached e m s i → HasElement e.about m i
-  reached_inside s i inside r = let q = (w.shows m s inside).each i r in (w.rule.linked.within m q.0 i q.3).0
+-- depths that agree on what one of them bears bear the same
+none_and : (b : Bool) → (b && false) ≡ false
+none_and true = refl
+none_and false = refl
 
-  home_inside : m < length e.about.shape.maps → (key : List ℕ) → IsSegment e.about m (segment_in e.about m key)
-  home_inside there key = (there, mod_below _ (segments (shape_at e.about m)) (some_power (depth (shape_at e.about m))))
+high_same : (d d' : ℕ → ℕ) (n p : ℕ) (b : Bool) → is_born d n p ≡ b → is_born d' n p ≡ is_born d n p → (is_born d n p ≡ true → d' p ≡ d p) → (nat_lt n (d' p) && is_born d' n p) ≡ (nat_lt n (d p) && is_born d n p)
+high_same d d' n p true is births depths = (λ j. nat_lt n (depths is j) && births j)
+high_same d d' n p false is births depths = ap (λ (b : Bool). nat_lt n (d' p) && b) (births ∙ is) ∙ (none_and (nat_lt n (d' p)) ∙ sym (ap (λ (b : Bool). nat_lt n (d p) && b) is ∙ none_and (nat_lt n (d p))))
+
+births_same : (d d' : ℕ → ℕ) (n s : ℕ) → ((t : ℕ) → is_born d n t ≡ true → d' t ≡ d t) → is_born d' n s ≡ is_born d n s
+births_same d d' zero s agree = refl
+births_same d d' (suc n) s agree =
+    let lower : (t : ℕ) → is_born d n t ≡ true → d' t ≡ d t = (λ t b. agree t (low_is d n t (born_small d n t b) ∙ b)) in
+    ⊎_elim
+    (λ (l : s < power n). low_is d' n s l ∙ (births_same d d' n s lower ∙ sym (low_is d n s l)))
+    (λ (g : power n ≤ s). high_is d' n s g ∙ (high_same d d' n (s - power n) (is_born d n (s - power n)) refl (births_same d d' n (s - power n) lower) (lower (s - power n)) ∙ sym (high_is d n s g)))
+    (below_or s (power n))
+
+-- a segment's birth, a bit at a time
+pub bit_low : (d : ℕ → ℕ) (n s : ℕ) (o : Bool) → is_born d (suc n) s ≡ o → s < power n → is_born d n s ≡ o
+bit_low d n s o is l = sym (low_is d n s l) ∙ is
+
+pub bit_high : (d : ℕ → ℕ) (n s : ℕ) (o : Bool) → is_born d (suc n) s ≡ o → power n ≤ s → n < d (s - power n) → is_born d n (s - power n) ≡ o
+bit_high d n s o is g deep = sym (high_is d n s g ∙ ap (λ (b : Bool). b && is_born d n (s - power n)) (lt_is n (d (s - power n)) deep)) ∙ is
+
+pub bit_none : (d : ℕ → ℕ) (n s : ℕ) → power n ≤ s → d (s - power n) ≤ n → is_born d (suc n) s ≡ false
+bit_none d n s g flat = high_is d n s g ∙ ap (λ (b : Bool). b && is_born d n (s - power n)) (ge_is n (d (s - power n)) flat)
+
+module _ (e : Ending) (w : KeepsWholeHistory e.about (whole_view [] e.history) e.words) (m : ℕ) where
+  -- the stamps as they stand bear the segments that are born
+  births_here : m < length e.about.shape.maps → (s : ℕ) → is_born (rest_depths e m) (depth (shape_at e.about m)) s ≡ is_born (w.ghost.depths m) (depth (shape_at e.about m)) s
+  births_here there s = births_same (w.ghost.depths m) (rest_depths e m) (depth (shape_at e.about m)) s
+      (λ t b. w.rule.deep.stamped m t (there, born_small (w.ghost.depths m) (depth (shape_at e.about m)) t b, b))
+
+  born_there : (s : ℕ) → IsBornHere e m s → IsBorn e.about w.ghost.depths m s
+  born_there s b = (b.0, b.1, sym (births_here b.0 s) ∙ b.2)
+
+  -- the words show a born segment's share
+  shows_here : (s : ℕ) → IsBornHere e m s → IsShare e.about.seed (shape_at e.about m) (home_by e.about m (rest_depths e m s)) (words_in e) m s (w.ghost.linked m)
+  shows_here s b = subst (λ (i : ℕ). IsShare e.about.seed (shape_at e.about m) (home_by e.about m i) (words_in e) m s (w.ghost.linked m)) (sym (w.rule.deep.stamped m s (born_there s b))) (w.shows m s (born_there s b))
+
+  pub reached_inside : (s i : ℕ) → IsBornHere e m s → IsReached e m s i → HasElement e.about m i
+  reached_inside s i inside r = let q = (shows_here s inside).each i r in (w.rule.linked.within m q.0 i q.3).0
+
+  -- the born segment that a key is at home in
+  home_inside : m < length e.about.shape.maps → (key : List ℕ) → (s : ℕ) × IsBornHere e m s × (home_by e.about m (rest_depths e m s) key ≡ s)
+  home_inside there key =
+      let o = each_has_one_owner (w.ghost.depths m) (depth (shape_at e.about m)) (home_of key e.about.seed (shape_at e.about m).mask) (w.rule.deep.sound m there) in
+      let small = born_small (w.ghost.depths m) (depth (shape_at e.about m)) o.0 o.1.born in
+      (o.0, (there, small, births_here there o.0 ∙ o.1.born), ap (λ (i : ℕ). home_by e.about m i key) (w.rule.deep.stamped m o.0 (there, small, o.1.born)) ∙ o.1.here)
 
   -- the element that a found key leads to
   leads : (key : List ℕ) (v : ℕ) → Finds w.ghost.last m key v → (i : ℕ) × (w.ghost.linked m key ≡ Some i)
@@ -155,13 +201,13 @@ module _ (e : Ending) (w : KeepsWholeHistory e.about (whole_view [] e.history) e
       go (Some i) at = (i, at)
       go None at = absurd (let z : Some v ≡ None = sym is ∙ (w.rule.keyed.leads m key ∙ ap (numbered (w.ghost.number m)) at) in cc)
 
-  module _ (ps : List Pair) (found : AreFound e m ps) (keys : (s i : ℕ) → IsSegment e.about m s → IsReached e m s i → IsKeyAmong (key_in e m i) ps)
+  module _ (ps : List Pair) (found : AreFound e m ps) (keys : (s i : ℕ) → IsBornHere e m s → IsReached e m s i → IsKeyAmong (key_in e m i) ps)
       (sorted : IsStrictlySortedBy (slice_cmp nat_cmp) (keys_of ps)) where
     value_there : (k : ℕ) → k < length ps → (v : ℕ) × Finds w.ghost.last m (pair_at ps k).0 v × ((pair_at ps k).1 ≡ (w.ghost.last.value v).bytes)
     value_there k l =
         let f = each_at (IsPairFound e m) ps found k l in
         let i = f.1 in
-        let q = (w.shows m f.0 f.2).each i f.3 in
+        let q = (shows_here f.0 f.2).each i f.3 in
         let key : (pair_at ps k).0 ≡ q.0 = ap (λ (p : Pair). p.0) f.4 ∙ spells e.about m (words_in e) i q.0 q.1 in
         let linked = w.rule.linked.within m q.0 i q.3 in
         let carries : Carries (w.ghost.holder m i) = subst Carries (sym linked.1) tt in
@@ -176,8 +222,8 @@ module _ (e : Ending) (w : KeepsWholeHistory e.about (whole_view [] e.history) e
         let i = leads key v is in
         let within = w.rule.linked.within m key i.0 i.1 in
         let inside = home_inside within.0.0 key in
-        let here = (w.shows m (segment_in e.about m key) inside).all key i.0 i.1 refl in
-        has_at key ps (subst (λ (x : List ℕ). IsKeyAmong x ps) (spells e.about m (words_in e) i.0 key here.1) (keys (segment_in e.about m key) i.0 inside here.0))
+        let here = (shows_here inside.0 inside.1).all key i.0 i.1 inside.2 in
+        has_at key ps (subst (λ (x : List ℕ). IsKeyAmong x ps) (spells e.about m (words_in e) i.0 key here.1) (keys inside.0 i.0 inside.1 here.0))
 
     pub listing : IsListing w.ghost.last m ps
     listing = record {
@@ -198,22 +244,22 @@ module _ (e : Ending) (w : KeepsWholeHistory e.about (whole_view [] e.history) e
   }
 
   -- ---- the overflow list
-  module _ (s : ℕ) (inside : IsSegment e.about m s) where
+  module _ (s : ℕ) (inside : IsBornHere e m s) where
     abbrev pub seen : SegWords
-    seen = segment_view e.about m s (λ i. true) (words_in e)
+    seen = segment_view e.about m s (rest_depths e m s) (λ i. true) (words_in e)
 
     pub sound : SegSound seen
-    sound = seg_sound e.about m s (λ i. true) (words_in e) (w.ghost.linked m) (w.shows m s inside) (λ key i is home. ((w.rule.linked.within m key i is).0.1, refl))
+    sound = seg_sound e.about m s (rest_depths e m s) (λ i. true) (words_in e) (w.ghost.linked m) (shows_here s inside) (λ key i is home. ((w.rule.linked.within m key i is).0.1, refl))
 
     pub listed_reached : (i : ℕ) → IsListed seen i → IsReached e m s i
-    listed_reached i l = reached_of e.about m s (λ i. true) (words_in e) i (inr l)
+    listed_reached i l = reached_of e.about m s (rest_depths e m s) (λ i. true) (words_in e) i (inr l)
 
     pub on_list : (i : ℕ) → IsOnList (words_in e) m s i → IsListed seen i
     on_list i h = (h.0, chain_of ((words_in e).link m) ((words_in e).head m s) h.0 h.1, among_of i h.0 h.2)
 
     -- the elements at places
     pub at_place : (p i : ℕ) → p < 64 → item ((words_in e).slot m s p) ≡ Some i → IsReached e m s i
-    at_place p i l is = let h = (w.shows m s inside).sound.hopped p i l is in inl (h.0, h.1, h.2)
+    at_place p i l is = let h = (shows_here s inside).sound.hopped p i l is in inl (h.0, h.1, h.2)
 
 -- ---- a walk whose goal gets weaker
 pub walk_weaker : (w : SegWords) (P Q : ℕ → Type 0) (before at : Option ℕ) (passed : ℕ) → ((i : ℕ) → P i → Q i) → Counted w P before at passed → Counted w Q before at passed

@@ -1,30 +1,35 @@
 -- A listing on its way: one segment more.
-use Rattle.std.proofs.Common.{◌≡◌, ◌≢◌, ℕ, zero, suc, ◌+◌, ◌<◌, ◌≤◌, Bool, true, false, true≢false, ◌||◌, ◌&&◌, ◌==◌, List, [], ◌∷◌, ◌++◌, length, refl, ap, sym, subst, ◌∙◌, arith, inr, ⊎_elim, eq-eqb}
+use Rattle.std.proofs.Common.{◌≡◌, ◌≢◌, ℕ, suc, ◌+◌, ◌%◌, ◌<◌, ◌≤◌, Bool, true, false, true≢false, ◌||◌, List, [], ◌∷◌, ◌++◌, length, refl, ap, sym, subst, ◌∙◌, arith, inl, inr, ⊎_elim}
 use Rattle.std.specs.List.{AllByRecursion, IsDistinct}
 use Rattle.std.specs.Ordering.{nat_cmp, eq_by_cmp, is_eq}
 use Rattle.std.specs.declared.cmp.Ordering.{Ordering}
 use Rattle.std.specs.declared.cmp.Ordering.TheVariants.{Less, Equal, Greater}
 use Rattle.std.specs.Cmp.Lexicographic.{slice_cmp}
 use Rattle.std.proofs.lemmas.Map.Lookups.{exact_bytes}
+use Rattle.std.proofs.lemmas.Nat.{mod_below}
+use Rattle.std.proofs.Math.Nat.{mod-le}
 use Rattle.bpf_shared.specs.declared.events.Event.TheVariants.{Keys}
 use Rattle.bpf_shared.specs.KeyOrder.{is_among, AreDistinct}
 use Rattle.hop_layout.specs.declared.about.About.{About}
 use Rattle.hop_words.specs.declared.known.Known.{Known}
 use Rattle.hop_words.specs.declared.known.Lock.{Lock}
-use Rattle.hop_words.specs.Content.{one_if}
-use Rattle.hop_words.specs.Ghost.{segment_in, IsHomeIn, IsSegment, Each}
-use Rattle.hop_words.specs.Rule.{times_lock}
-use Rattle.hop_words.specs.Kinds.{LocksSegment, locking, ShowsIn, IsShownIn, AreElsewhere, AnsweredAll, TakesEffect}
+use Rattle.hop_layout.specs.Home.{home_of}
+use Rattle.hop_layout.specs.Layout.{power, depth, segments}
+use Rattle.hop_layout.proofs.Births.{mod_small, mod_low, some_power}
+use Rattle.hop_words.specs.Depths.{stamp_depth, home_by}
+use Rattle.hop_words.specs.Ghost.{shape_at, IsHomeIn, IsSegment, Each}
+use Rattle.hop_words.specs.Kinds.{SaysDepth, LocksSegment, locking, ShowsIn, IsShownIn, AreElsewhere, AnsweredAll, TakesEffect}
 use Rattle.std.specs.Prelude.{slice_index_or}
-use Rattle.hop_words.specs.Locking.{lock_of, other_locks, no_lock, HasLastLock}
+use Rattle.hop_words.specs.Locking.{lock_of, other_locks, unlocking_last, no_lock, HasLastLock}
 use Rattle.hop_words.specs.Owning.{tail_of}
-use Rattle.hop_layout.proofs.Layouts.{one as same_number}
-use Rattle.hop_words.specs.Listing.{ListsSegment, ListsMap}
+use Rattle.hop_words.specs.Listing.{ListsSegment, ListsMap, IsHomeAmong}
 use Rattle.hop_words.specs.declared.known.Sight.{Sight}
 use Rattle.hop_words.specs.Sights.{lock_taken}
 use Rattle.hop_map.specs.Noting.{TakesLocks, CallNotes}
-use Rattle.hop_map.specs.Private.Listing.{Falls, Gathers, Opens, Adds, LocksMore, Listed}
+use Rattle.hop_map.specs.Private.Listing.{Falls, IsOwnedAmong, Covers, Gathers, Opens, Adds, NotesLock, LocksMore, ReadsMore, Listed}
+use Rattle.hop_map.specs.Private.Locks.{Sought, IsUnborn}
 use Rattle.hop_map.proofs.Locking.{locked_contents}
+use Rattle.hop_map.proofs.Ports.{by_equal}
 
 -- ---- keys of lists
 pub among-append : (q : List ℕ) (xs ys : List (List ℕ)) → is_among q (xs ++ ys) ≡ (is_among q xs || is_among q ys)
@@ -60,52 +65,53 @@ all_weaker : (P Q : List ℕ → Type 0) (xs : List (List ℕ)) → ((x : List �
 all_weaker P Q [] f p = tt
 all_weaker P Q (x ∷ xs) f p = (f x p.0, all_weaker P Q xs f p.1)
 
--- ---- the locks of the segments below a number
+-- ---- the locks of the born segments below a number
 pub falls_clean : (m n : ℕ) (ks : List Lock) → Falls m n ks → Each (λ (j : Lock). j.dirty ≡ false) ks
-falls_clean m zero [] f = tt
-falls_clean m zero (k ∷ ks) f = absurd f
-falls_clean m (suc n) [] f = absurd f
-falls_clean m (suc n) (k ∷ ks) f = (f.2, falls_clean m n ks f.3)
+falls_clean m n [] f = tt
+falls_clean m n (k ∷ ks) f = (f.2, falls_clean m k.segment ks f.3)
 
 pub falls_of_map : (m n : ℕ) (ks : List Lock) → Falls m n ks → Each (λ (j : Lock). j.map ≡ m) ks
-falls_of_map m zero [] f = tt
-falls_of_map m zero (k ∷ ks) f = absurd f
-falls_of_map m (suc n) [] f = absurd f
-falls_of_map m (suc n) (k ∷ ks) f = (f.0, falls_of_map m n ks f.3)
+falls_of_map m n [] f = tt
+falls_of_map m n (k ∷ ks) f = (f.0, falls_of_map m k.segment ks f.3)
+
+falls_up : (m n i : ℕ) (ks : List Lock) → n ≤ i → Falls m n ks → Falls m i ks
+falls_up m n i [] le f = tt
+falls_up m n i (k ∷ ks) le f = (f.0, (let z = f.1 in omega arith), f.2, f.3)
 
 falls_below : (m n : ℕ) (ks : List Lock) → Falls m n ks → (top : ℕ) → n ≤ top → (k : Lock) → k.segment ≡ top → AreElsewhere k ks
-falls_below m zero [] f top l k is = tt
-falls_below m zero (j ∷ ks) f top l k is = absurd f
-falls_below m (suc n) [] f top l k is = absurd f
-falls_below m (suc n) (j ∷ ks) f top l k is = ((λ same e. let z = f.1 in omega arith), falls_below m n ks f.3 top (omega arith) k is)
+falls_below m n [] f top l k is = tt
+falls_below m n (j ∷ ks) f top l k is = ((λ same e. let z = f.1 in omega arith), falls_below m j.segment ks f.3 top (let z = f.1 in omega arith) k is)
 
-pub falls_elsewhere : (m n : ℕ) (k : Lock) (ks : List Lock) → Falls m (suc n) (k ∷ ks) → AreElsewhere k ks
-falls_elsewhere m n k ks f = falls_below m n ks f.3 n (omega arith) k f.1
+pub falls_elsewhere : (m n : ℕ) (k : Lock) (ks : List Lock) → Falls m n (k ∷ ks) → AreElsewhere k ks
+falls_elsewhere m n k ks f = falls_below m k.segment ks f.3 k.segment (omega arith) k refl
 
-pub falls_all : (m n : ℕ) (ks : List Lock) → Falls m n ks → (s : ℕ) → s < n → 1 ≤ times_lock m s ks
-falls_all m zero ks f s l = absurd (omega arith)
-falls_all m (suc n) [] f s l = absurd f
-falls_all m (suc n) (k ∷ ks) f s l = go (s == n) refl (falls_all m n ks f.3 s)
-  where
-    go : (b : Bool) → (s == n) ≡ b → (s < n → 1 ≤ times_lock m s ks) → 1 ≤ one_if ((k.map == m) && (k.segment == s)) + times_lock m s ks
-    go true e below =
-        let same : s ≡ n = same_number s n e in
-        let here : one_if ((k.map == m) && (k.segment == s)) ≡ 1 = rw (eq-eqb k.map m f.0, eq-eqb k.segment s (f.1 ∙ sym same)) refl in
-        omega arith
-    go false e below =
-        let less : s < n = (let ne : s ≢ n = (λ h. true≢false (sym (eq-eqb s n h) ∙ e)) in omega arith) in
-        let rest = below less in
-        omega arith
+-- of the locks none but s has a home that s has
+abbrev Own : ℕ → ℕ → ℕ → ℕ → Lock → Type 0
+Own m s home d k = k.map ≡ m → home % power (stamp_depth k.stamp) ≡ k.segment → (k.segment ≡ s) × (stamp_depth k.stamp ≡ d)
 
--- a key that these locks show is at home in one of their segments
-shown_below : (a : About) (m n : ℕ) (ks : List Lock) (q : List ℕ) → Falls m n ks → IsShownIn a m ks q → segment_in a m q < n
-shown_below a m zero [] q f s = absurd s
-shown_below a m zero (k ∷ ks) q f s = absurd f
-shown_below a m (suc n) [] q f s = absurd f
-shown_below a m (suc n) (k ∷ ks) q f s = ⊎_elim
-    (λ (h : ShowsIn a m q k). let e = f.1 in let z = h.1 in let y : segment_in a k.map q ≡ segment_in a m q = ap (λ (i : ℕ). segment_in a i q) f.0 in omega arith)
-    (λ (t : IsShownIn a m ks q). let z = shown_below a m n ks q f.3 t in omega arith)
-    s
+-- a number that belongs to a segment below it belongs to that segment's lock
+moves : (m s owner d : ℕ) (ks : List Lock) → s % power d ≡ owner → Each (λ (j : Lock). j.map ≡ m) ks → Each (Own m owner owner d) ks → IsOwnedAmong owner ks → IsOwnedAmong s ks
+moves m s owner d [] is of owns h = absurd h
+moves m s owner d (k ∷ ks) is of owns h = ⊎_elim
+    (λ (own : owner % power (stamp_depth k.stamp) ≡ k.segment). let t = owns.0 of.0 own in inl (ap (λ (i : ℕ). s % power i) t.1 ∙ (is ∙ sym t.0)))
+    (λ (more : IsOwnedAmong owner ks). inr (moves m s owner d ks is of.1 owns.1 more))
+    h
+
+-- a lock that owns the number of its segment is among those that fall
+below : (m s n d : ℕ) (ks : List Lock) → Falls m n ks → Each (Own m s s d) ks → IsOwnedAmong s ks → s < n
+below m s n d [] f owns h = absurd h
+below m s n d (k ∷ ks) f owns h = ⊎_elim
+    (λ (own : s % power (stamp_depth k.stamp) ≡ k.segment). let t = owns.0 f.0 own in let z = f.1 in let y = t.0 in omega arith)
+    (λ (more : IsOwnedAmong s ks). let r = below m s k.segment d ks f.3 owns.1 more in let z = f.1 in omega arith)
+    h
+
+-- and is the first where none is above
+pub found_first : (m s d : ℕ) (ks : List Lock) → Falls m (s + 1) ks → Each (Own m s s d) ks → IsOwnedAmong s ks → (k : Lock) × (rest : List Lock) × (ks ≡ k ∷ rest) × (k.map ≡ m) × (k.segment ≡ s)
+found_first m s d [] f owns h = absurd h
+found_first m s d (k ∷ ks) f owns h = ⊎_elim
+    (λ (own : s % power (stamp_depth k.stamp) ≡ k.segment). (k, ks, refl, f.0, (owns.0 f.0 own).0))
+    (λ (more : IsOwnedAmong s ks). absurd (let r = below m s k.segment d ks f.3 owns.1 more in let z = f.1 in omega arith))
+    h
 
 pub not_true : (b : Bool) → (b ≡ true → ⊥) → b ≡ false
 not_true true h = absurd (h refl)
@@ -116,12 +122,23 @@ module _ (a : About) (l : Known) (m s n : ℕ) (at_s : IsSegment a m s) (keys : 
   abbrev mine : Known
   mine = locking l m s n t.words t.known
 
+  abbrev Apart : Lock → Type 0
+  Apart k = k.map ≡ m → (key : List ℕ) → IsHomeIn a k key → home_by a m (stamp_depth n) key ≢ s
+
   still_shown : AllByRecursion (IsShownIn a m l2.locks) keys
   still_shown = subst (λ (x : Known). AllByRecursion (IsShownIn a m x.locks) keys) (sym t.after) (all_weaker (IsShownIn a m l.locks) (IsShownIn a m mine.locks) keys (λ q h. inr h) g.shown)
 
+  -- a key that the other locks show isn't at home here
+  shown_apart : (q : List ℕ) (ks : List Lock) → Each Apart ks → IsShownIn a m ks q → home_by a m (stamp_depth n) q ≢ s
+  shown_apart q [] apart h = absurd h
+  shown_apart q (k ∷ ks) apart h = ⊎_elim
+      (λ (x : ShowsIn a m q k). apart.0 x.0 q x.1)
+      (λ (x : IsShownIn a m ks q). shown_apart q ks apart.1 x)
+      h
+
   -- none of the keys is at home here
-  none_home : (q : List ℕ) → segment_in a m q ≡ s → is_among q keys ≡ false
-  none_home q home = not_true (is_among q keys) (λ h. (let z = shown_below a m s l.locks q g.falls (at_key (IsShownIn a m l.locks) q keys g.shown h) in omega arith))
+  none_home : (q : List ℕ) → home_by a m (stamp_depth n) q ≡ s → is_among q keys ≡ false
+  none_home q home = not_true (is_among q keys) (λ h. shown_apart q l.locks t.others (at_key (IsShownIn a m l.locks) q keys g.shown h) home)
 
   pub opened : Opens a l2 m s keys
   opened = record {
@@ -129,7 +146,7 @@ module _ (a : About) (l : Known) (m s n : ℕ) (at_s : IsSegment a m s) (keys : 
     last = subst (λ (x : Known). HasLastLock x m s) (sym t.after) (refl, refl, refl);
     none = subst (λ (x : Known). (q : List ℕ) → IsHomeIn a (lock_of x) q → is_among q keys ≡ false) (sym t.after) none_home;
     shown = still_shown;
-    room = t.room (falls_clean m s l.locks g.falls);
+    room = t.room (falls_clean m s l.locks g.covers.falls);
     distinct = g.distinct;
   }
 
@@ -141,42 +158,114 @@ module _ (a : About) (l : Known) (m s n : ℕ) (at_s : IsSegment a m s) (keys : 
     add_lists : ListsSegment a d.more k
     add_lists = subst (λ (x : Known). ListsSegment a d.more (lock_of x)) t.after d.lists
 
-    add_here : (q : List ℕ) → is_among q d.more ≡ true → segment_in a m q ≡ s
+    add_here : (q : List ℕ) → is_among q d.more ≡ true → home_by a m (stamp_depth n) q ≡ s
     add_here = subst (λ (x : Known). (q : List ℕ) → is_among q d.more ≡ true → IsHomeIn a (lock_of x) q) t.after d.here
 
     list_here : ListsSegment a (keys ++ d.more) k
     list_here f share q home = add_lists f share q home ∙ sym (among-append q keys d.more ∙ ap (λ (b : Bool). b || is_among q d.more) (none_home q home))
 
-    list_there : (j : Lock) (ks : List Lock) (i : ℕ) → i ≤ s → Falls m i ks → Each (ListsSegment a keys) ks → Each (ListsSegment a (keys ++ d.more)) ks
-    list_there j [] i le f p = tt
-    list_there j (k ∷ ks) zero le f p = absurd f
-    list_there j (k ∷ ks) (suc i) le f p = (
-      (λ g share q home.
-          let away : is_among q d.more ≡ false = not_true (is_among q d.more) (λ h. (let z = add_here q h in let e = f.1 in let y : segment_in a k.map q ≡ segment_in a m q = ap (λ (x : ℕ). segment_in a x q) f.0 in omega arith)) in
-          p.0 g share q home ∙ sym (among-append q keys d.more ∙ (ap (λ (b : Bool). is_among q keys || b) away ∙ or_false (is_among q keys)))),
-      list_there j ks i (omega arith) f.3 p.1,
+    list_there : (ks : List Lock) → Each Apart ks → Each (λ (j : Lock). j.map ≡ m) ks → Each (ListsSegment a keys) ks → Each (ListsSegment a (keys ++ d.more)) ks
+    list_there [] apart of p = tt
+    list_there (k ∷ ks) apart of p = (
+      (λ f share q home.
+          let away : is_among q d.more ≡ false = not_true (is_among q d.more) (λ h. apart.0 of.0 q home (add_here q h)) in
+          p.0 f share q home ∙ sym (among-append q keys d.more ∙ (ap (λ (b : Bool). is_among q keys || b) away ∙ or_false (is_among q keys)))),
+      list_there ks apart.1 of.1 p.1,
     )
       where
         or_false : (b : Bool) → (b || false) ≡ b
         or_false true = refl
         or_false false = refl
 
-    up : s + 1 ≡ suc s
-    up = omega arith
+    covered : Covers a m (s + 1) mine.locks
+    covered = record {
+      falls = (refl, omega arith, refl, g.covers.falls);
+      deep = (t.deep, g.covers.deep);
+      owned = λ i le. by_equal i s
+          (λ same. inl (ap (λ (z : ℕ). z % power (stamp_depth n)) same ∙ mod_small s (power (stamp_depth n)) t.deep.room))
+          (λ ne. inr (g.covers.owned i (grind arith)));
+    }
 
-    gathered_in : Gathers a mine m (suc s) (keys ++ d.more)
+    gathered_in : Gathers a mine m (s + 1) (keys ++ d.more)
     gathered_in = record {
-      falls = (refl, refl, refl, g.falls);
-      lists = (list_here, list_there k l.locks s (omega arith) g.falls g.lists);
+      covers = covered;
+      lists = (list_here, list_there l.locks t.others (falls_of_map m s l.locks g.covers.falls) g.lists);
       shown = subst (λ (x : Known). AllByRecursion (IsShownIn a m x.locks) (keys ++ d.more)) t.after (all_append (IsShownIn a m l2.locks) keys d.more still_shown d.shown);
       distinct = subst AreDistinct d.is d.distinct;
     }
 
     pub gathered : Gathers a l2 m (s + 1) new
     gathered =
-        subst (λ (i : ℕ). Gathers a l2 m i new) (sym up)
-        (subst (λ (x : Known). Gathers a x m (suc s) new) (sym t.after)
-        (subst (Gathers a mine m (suc s)) (sym d.is) gathered_in))
+        subst (λ (x : Known). Gathers a x m (s + 1) new) (sym t.after)
+        (subst (Gathers a mine m (s + 1)) (sym d.is) gathered_in)
+
+-- ---- a segment that isn't born
+module _ (a : About) (l : Known) (m s : ℕ) (l2 : Known) (u : IsUnborn a l m s l2) where
+  same_locks : l2.locks ≡ l.locks
+  same_locks = ap (λ (x : Known). x.locks) u.sought.noted.after
+
+  less : u.owner < s
+  less = let z = u.sought.here in let y = u.other in let x = mod-le s (power (stamp_depth u.stamp)) in grind arith
+
+  itself : u.owner % power (stamp_depth u.stamp) ≡ u.owner
+  itself = mod_small u.owner (power (stamp_depth u.stamp)) u.sought.noted.deep.room
+
+  unborn_grows : s < segments (shape_at a m) → (shape_at a m).grow ≡ true
+  unborn_grows inside = go (shape_at a m).grow refl
+    where
+      go : (b : Bool) → (shape_at a m).grow ≡ b → b ≡ true
+      go true is = refl
+      go false is = absurd (u.other (sym u.sought.here ∙ (ap (λ (i : ℕ). s % power i) (u.sought.noted.deep.whole is) ∙ mod_small s (segments (shape_at a m)) inside)))
+
+  unborn_owned : Each (λ (j : Lock). j.map ≡ m) l.locks → IsOwnedAmong u.owner l.locks → IsOwnedAmong s l.locks
+  unborn_owned of own = moves m s u.owner (stamp_depth u.stamp) l.locks u.sought.here of (u.sought.noted.owns u.owner itself) own
+
+  pub passed_over : (keys : List (List ℕ)) → Gathers a l m s keys → Gathers a l2 m (s + 1) keys
+  passed_over keys g = subst (λ (x : Known). Gathers a x m (s + 1) keys) (sym u.sought.noted.after) (record {
+    covers = record {
+      falls = falls_up m s (s + 1) l.locks (omega arith) g.covers.falls;
+      deep = g.covers.deep;
+      owned = λ i le. by_equal i s
+          (λ same. subst (λ (z : ℕ). IsOwnedAmong z l.locks) (sym same) (unborn_owned (falls_of_map m s l.locks g.covers.falls) (g.covers.owned u.owner less)))
+          (λ ne. g.covers.owned i (grind arith));
+    };
+    lists = g.lists;
+    shown = g.shown;
+    distinct = g.distinct;
+  })
+
+  pub passed_notes : s < segments (shape_at a m) → NotesLock a m s l.tally l2.tally
+  passed_notes inside = inr (unborn_grows inside, ap (λ (x : Known). x.tally) u.sought.noted.after)
+
+  pub passed_more : LocksMore l l2
+  passed_more = u.sought.noted.after ∙ ap (λ (x : Known). record l { locks = x.locks; readings = x.readings; tally = x.tally }) (sym u.sought.noted.after)
+
+  -- on the way back: it has no lock
+  pub not_locked : Covers a m (s + 1) l.locks → Covers a m s l2.locks
+  not_locked c = subst (λ (ks : List Lock). Covers a m s ks) (sym same_locks) (record {
+    falls = go l.locks c.falls c.deep (u.sought.noted.owns s u.sought.here);
+    deep = c.deep;
+    owned = λ i le. c.owned i (omega arith);
+  })
+    where
+      go : (ks : List Lock) → Falls m (s + 1) ks → Each (λ (k : Lock). SaysDepth a m k.segment k.stamp) ks → Each (Own m u.owner s (stamp_depth u.stamp)) ks → Falls m s ks
+      go [] f d o = tt
+      go (k ∷ ks) f d o = (
+        f.0,
+        by_equal k.segment s
+            (λ same. absurd (u.other (sym (o.0 f.0 (mod_small s (power (stamp_depth k.stamp)) (let z = d.0.room in omega arith) ∙ sym same)).0 ∙ same)))
+            (λ ne. let z = f.1 in grind arith),
+        f.2,
+        f.3,
+      )
+
+-- a segment that is born: its lock is the last
+pub has_last : (a : About) (l : Known) (m s n : ℕ) (y : Known) → Sought a l m s s n y → Covers a m (s + 1) l.locks → HasLastLock y m s
+has_last a l m s n y q c =
+    let f = found_first m s (stamp_depth n) l.locks c.falls (q.noted.owns s q.here) (c.owned s (omega arith)) in
+    let e : y.locks ≡ f.0 ∷ f.1 = ap (λ (x : Known). x.locks) q.noted.after ∙ f.2 in
+    let head : lock_of y ≡ f.0 = ap (λ (ks : List Lock). slice_index_or ks 0 no_lock) e in
+    (e ∙ ap (λ (ks : List Lock). slice_index_or ks 0 no_lock ∷ tail_of ks) (sym e), ap (λ (k : Lock). k.map) head ∙ f.3, ap (λ (k : Lock). k.segment) head ∙ f.4)
 
 -- nothing is locked yet
 empty_distinct : AreDistinct []
@@ -185,81 +274,105 @@ empty_distinct = tt
 
 pub gathers_none : (a : About) (l : Known) (m : ℕ) → l.locks ≡ [] → Gathers a l m 0 []
 gathers_none a l m idle = record {
-  falls = subst (Falls m 0) (sym idle) tt;
+  covers = subst (Covers a m 0) (sym idle) (record { falls = tt; deep = tt; owned = λ t less. absurd (omega arith) });
   lists = subst (Each (ListsSegment a [])) (sym idle) tt;
   shown = tt;
   distinct = empty_distinct;
 }
 
-pub falls_none : (m : ℕ) (ks : List Lock) → Falls m 0 ks → ks ≡ []
-falls_none m [] f = refl
-falls_none m (k ∷ ks) f = absurd f
+pub covers_none : (a : About) (m : ℕ) (ks : List Lock) → Covers a m 0 ks → ks ≡ []
+covers_none a m [] c = refl
+covers_none a m (k ∷ ks) c = absurd (let z = c.falls.1 in omega arith)
 
 -- one lock more was taken, and noted
-pub takes_one : (m s n : ℕ) (before old new : List Sight) → (sights : List Sight) × (old ≡ sights ++ before) × TakesLocks m s sights → new ≡ lock_taken m s n ∷ old
-    → (sights : List Sight) × (new ≡ sights ++ before) × TakesLocks m (s + 1) sights
-takes_one m s n before old new (sights, is, takes) more = (
-  lock_taken m s n ∷ sights,
-  more ∙ ap (λ (z : List Sight). lock_taken m s n ∷ z) is,
-  subst (λ (i : ℕ). TakesLocks m i (lock_taken m s n ∷ sights)) (sym next) (n, sights, refl, takes),
-)
+pub takes_one : (a : About) (m s : ℕ) (before old new : List Sight) → (sights : List Sight) × (old ≡ sights ++ before) × TakesLocks a m s sights → NotesLock a m s old new
+    → (sights : List Sight) × (new ≡ sights ++ before) × TakesLocks a m (s + 1) sights
+takes_one a m s before old new (sights, is, takes) = ⊎_elim
+    (λ (more : (n : ℕ) × (new ≡ lock_taken m s n ∷ old)). (
+      lock_taken m s more.0 ∷ sights,
+      more.1 ∙ ap (λ (z : List Sight). lock_taken m s more.0 ∷ z) is,
+      subst (λ (i : ℕ). TakesLocks a m i (lock_taken m s more.0 ∷ sights)) (sym next) (inl (more.0, sights, refl, takes)),
+    ))
+    (λ (none : ((shape_at a m).grow ≡ true) × (new ≡ old)). (
+      sights,
+      none.1 ∙ is,
+      subst (λ (i : ℕ). TakesLocks a m i sights) (sym next) (inr (none.0, takes)),
+    ))
   where
     next : s + 1 ≡ suc s
     next = omega arith
 
 -- from before the first lock to behind the last unlock
-pub listed_whole : (a : About) (l l1 l2 l3 : Known) (m : ℕ) (keys : List (List ℕ)) (rest : List Lock) → LocksMore l l1 → CallNotes a (Keys m keys) l l1 → AnsweredAll a l1 rest (Keys m keys) l2 → l3 ≡ record l2 { locks = l3.locks } → l3.locks ≡ l.locks → Listed a l m keys l3
+pub listed_whole : (a : About) (l l1 l2 l3 : Known) (m : ℕ) (keys : List (List ℕ)) (rest : List Lock) → LocksMore l l1 → CallNotes a (Keys m keys) l l1 → AnsweredAll a l1 rest (Keys m keys) l2 → l3 ≡ record l2 { locks = l3.locks; readings = l3.readings } → l3.locks ≡ l.locks → Listed a l m keys l3
 listed_whole a l l1 l2 l3 m keys rest locked (sights, noted, may) p kept same = record {
   seen = subst (TakesEffect a l (Keys m keys)) (sym (ap (λ (x : Known). x.seen) whole)) (let w = subst (λ (x : Known). TakesEffect a x (Keys m keys) l2.seen) locked p.seen in record { others = w.others; foreign = w.foreign; after = w.after; legal = w.legal });
   noted = (sights, ap (λ (x : Known). x.tally) whole ∙ noted, may);
-  after = whole ∙ (λ j. record l { seen = sym (ap (λ (x : Known). x.seen) whole) j; locks = same j; tally = sym (ap (λ (x : Known). x.tally) whole) j });
+  after = whole ∙ (λ j. record l { seen = sym (ap (λ (x : Known). x.seen) whole) j; locks = same j; readings = l3.readings; tally = sym (ap (λ (x : Known). x.tally) whole) j });
 }
   where
-    whole : l3 ≡ record l { seen = l2.seen; locks = l3.locks; tally = l1.tally }
-    whole = kept ∙ (ap (λ (x : Known). record x { locks = l3.locks }) p.after ∙ ap (λ (x : Known). record x { seen = l2.seen; locks = l3.locks }) locked)
+    whole : l3 ≡ record l { seen = l2.seen; locks = l3.locks; readings = l3.readings; tally = l1.tally }
+    whole = kept ∙ (ap (λ (x : Known). record x { locks = l3.locks; readings = l3.readings }) p.after ∙ ap (λ (x : Known). record x { seen = l2.seen; locks = l3.locks; readings = l3.readings }) locked)
 
 pub locked_on : (l l1 l2 : Known) → LocksMore l l1 → LocksMore l1 l2 → LocksMore l l2
-locked_on l l1 l2 p q = q ∙ ap (λ (x : Known). record x { locks = l2.locks; tally = l2.tally }) p
+locked_on l l1 l2 p q = q ∙ ap (λ (x : Known). record x { locks = l2.locks; readings = l2.readings; tally = l2.tally }) p
 
--- ---- the lock taken last, of the segments up to n
-module _ (l : Known) (m n : ℕ) (f : Falls m (n + 1) l.locks) where
-  up_to : Falls m (suc n) l.locks
-  up_to = let e : n + 1 ≡ suc n = omega arith in subst (λ (i : ℕ). Falls m i l.locks) e f
+pub locked_read : (l l1 l2 : Known) → LocksMore l l1 → ReadsMore l1 l2 → LocksMore l l2
+locked_read l l1 l2 p q = q ∙ (ap (λ (x : Known). record x { readings = l2.readings }) p ∙ (λ j. record l { locks = sym (ap (λ (x : Known). x.locks) q) j; readings = l2.readings; tally = sym (ap (λ (x : Known). x.tally) q) j }))
 
-  at_first : (ks : List Lock) → Falls m (suc n) ks → (k : Lock) × (rest : List Lock) × (ks ≡ k ∷ rest)
-  at_first [] f = absurd f
-  at_first (k ∷ ks) f = (k, ks, refl)
+-- one lock of the others is given back, or none
+pub unlocked_on : (l x y z : Known) → x ≡ record l { locks = x.locks; readings = x.readings } → ReadsMore x y → z ≡ unlocking_last y → z ≡ record l { locks = z.locks; readings = z.readings }
+unlocked_on l x y z p q given =
+    given ∙ (ap (λ (u : Known). record u { locks = other_locks y }) q
+    ∙ (ap (λ (u : Known). record u { locks = other_locks y; readings = y.readings }) p
+    ∙ (λ j. record l { locks = sym (ap (λ (u : Known). u.locks) given) j; readings = sym (ap (λ (u : Known). u.readings) given) j })))
 
-  first : (k : Lock) × (rest : List Lock) × (l.locks ≡ k ∷ rest)
-  first = at_first l.locks up_to
+pub passed_on : (l x y : Known) → x ≡ record l { locks = x.locks; readings = x.readings } → ReadsMore x y → y ≡ record l { locks = y.locks; readings = y.readings }
+passed_on l x y p q = q ∙ (ap (λ (u : Known). record u { readings = y.readings }) p ∙ (λ j. record l { locks = sym (ap (λ (u : Known). u.locks) q) j; readings = y.readings }))
 
-  pub falls_locks : l.locks ≡ lock_of l ∷ other_locks l
-  falls_locks = first.2 ∙ ap (λ (ks : List Lock). slice_index_or ks 0 no_lock ∷ tail_of ks) (sym first.2)
+-- ---- the lock taken last
+module _ (a : About) (l : Known) (m n : ℕ) (last : HasLastLock l m n) (c : Covers a m (n + 1) l.locks) where
+  parted : Covers a m (n + 1) (lock_of l ∷ other_locks l)
+  parted = subst (Covers a m (n + 1)) last.0 c
 
-  parted : Falls m (suc n) (lock_of l ∷ other_locks l)
-  parted = subst (Falls m (suc n)) falls_locks up_to
+  pub covers_apart : AreElsewhere (lock_of l) (other_locks l)
+  covers_apart = falls_elsewhere m (n + 1) (lock_of l) (other_locks l) parted.falls
 
-  pub falls_last : HasLastLock l m n
-  falls_last = (falls_locks, parted.0, parted.1)
+  pub covers_same : (lock_of l).dirty ≡ false
+  covers_same = parted.falls.2
 
-  pub falls_apart : AreElsewhere (lock_of l) (other_locks l)
-  falls_apart = falls_elsewhere m n (lock_of l) (other_locks l) parted
-
-  pub falls_same : (lock_of l).dirty ≡ false
-  falls_same = parted.2
-
-  pub falls_others : Falls m n (other_locks l)
-  falls_others = parted.3
+  -- lower numbers belong to others
+  pub covers_others : Covers a m n (other_locks l)
+  covers_others = record {
+    falls = subst (λ (i : ℕ). Falls m i (other_locks l)) last.2 parted.falls.3;
+    deep = parted.deep.1;
+    owned = λ t le. ⊎_elim
+        (λ (own : t % power (stamp_depth (lock_of l).stamp) ≡ (lock_of l).segment). absurd (let z = mod-le t (power (stamp_depth (lock_of l).stamp)) in let y = last.2 in omega arith))
+        (λ (more : IsOwnedAmong t (other_locks l)). more)
+        (parted.owned t (omega arith));
+  }
 
 -- ---- all segments
-module _ (a : About) (l : Known) (m n : ℕ) (keys : List (List ℕ)) (there : m < length a.shape.maps) (g : Gathers a l m (n + 1) keys) (all : (s : ℕ) → IsSegment a m s → s < n + 1) where
-  pub lists_map : ListsMap a l m keys
-  lists_map = record {
-    map = there;
-    locks = falls_locks l m n g.falls;
-    of_map = falls_of_map m (n + 1) l.locks g.falls;
-    clean = falls_clean m (n + 1) l.locks g.falls;
-    elsewhere = falls_apart l m n g.falls;
-    all = λ s at_s. falls_all m (n + 1) l.locks g.falls s (all s at_s);
-    lists = g.lists;
-  }
+module _ (a : About) (m : ℕ) (key : List ℕ) where
+  abbrev all : ℕ
+  all = depth (shape_at a m)
+
+  abbrev g : ℕ
+  g = home_of key a.seed (shape_at a m).mask
+
+  home_among : (ks : List Lock) → Each (λ (j : Lock). j.map ≡ m) ks → Each (λ (k : Lock). SaysDepth a m k.segment k.stamp) ks → IsOwnedAmong (g % power all) ks → IsHomeAmong a key ks
+  home_among [] of deep h = absurd h
+  home_among (k ∷ ks) of deep h = ⊎_elim
+      (λ (own : g % power all % power (stamp_depth k.stamp) ≡ k.segment). inl (ap (λ (i : ℕ). home_by a i (stamp_depth k.stamp) key) of.0 ∙ (sym (mod_low g (stamp_depth k.stamp) all deep.0.most) ∙ own)))
+      (λ (more : IsOwnedAmong (g % power all) ks). inr (home_among ks of.1 deep.1 more))
+      h
+
+pub lists_map : (a : About) (l : Known) (m n : ℕ) (keys : List (List ℕ)) → m < length a.shape.maps → HasLastLock l m n → Covers a m (n + 1) l.locks → Each (ListsSegment a keys) l.locks → ((t : ℕ) → t < segments (shape_at a m) → IsOwnedAmong t l.locks) → ListsMap a l m keys
+lists_map a l m n keys there last c lists owned = record {
+  map = there;
+  locks = last.0;
+  of_map = falls_of_map m (n + 1) l.locks c.falls;
+  clean = falls_clean m (n + 1) l.locks c.falls;
+  elsewhere = covers_apart a l m n last c;
+  all = λ key. home_among a m key l.locks (falls_of_map m (n + 1) l.locks c.falls) c.deep (owned _ (mod_below _ (power (depth (shape_at a m))) (some_power (depth (shape_at a m)))));
+  lists = lists;
+}

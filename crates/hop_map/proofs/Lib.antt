@@ -7,6 +7,7 @@ pub mod Bridge
 pub mod Counted
 pub mod Puts
 pub mod Locking
+pub mod Ways
 pub mod Staying
 pub mod Replacing
 pub mod Homes

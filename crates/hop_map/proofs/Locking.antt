@@ -1,5 +1,5 @@
 -- What the lock tells is what the code of a segment needs.
-use Rattle.std.proofs.Common.{true≢false, ◌≡◌, ℕ, ◌<◌, ◌≤◌, Bool, true, false, ◌||◌, ◌==◌, List, [], ◌∷◌, refl, ap, sym, subst, ◌∙◌, inl, inr}
+use Rattle.std.proofs.Common.{true≢false, ◌≡◌, ℕ, ◌<◌, ◌≤◌, Bool, true, false, ◌||◌, ◌==◌, List, [], ◌∷◌, refl, ap, sym, subst, ◌∙◌, inl, inr, ◌%◌}
 use Rattle.atomic_table.specs.Seated.{TableId}
 use Rattle.bpf_shared.specs.Shape.{elements}
 use Rattle.hop_layout.specs.declared.about.About.{About}
@@ -22,11 +22,18 @@ use Rattle.bpf_shared.specs.declared.events.MapAnswer.TheVariants.{Done, Absent,
 use Rattle.hop_map.specs.declared.ending.Ending.{Ending}
 use Rattle.hop_map.specs.declared.ending.Ending.TheVariants.{Added, Replaced, Refused}
 use Rattle.hop_map.specs.Private.Updates.{Wants, Offers, UpdateEnds, Refusal}
+use Rattle.hop_map.specs.Finding.{MayOwn, home_in}
 use Rattle.hop_map.specs.Private.Locks.{CarriesKey, Readies, with_lock}
 use Rattle.hop_map.proofs.Keys.{spells}
 use Rattle.hop_map.specs.declared.dropping.Deletion.{Deletion}
 use Rattle.hop_map.specs.declared.dropping.Deletion.TheVariants.{Gone, Missing, Worn}
 use Rattle.hop_map.specs.Private.Removals.{NamesKey, Kept, DeleteEnds}
+use Rattle.hop_words.specs.Depths.{stamp_depth, home_by}
+use Rattle.hop_map.specs.Private.Updates.{Brought}
+use Rattle.hop_map.specs.Private.Locks.{Taken}
+use Rattle.hop_layout.specs.Layout.{power}
+use Rattle.hop_layout.specs.Home.{home_of}
+use Rattle.hop_map.specs.Private.Removals.{NamesKeyOf}
 
 -- what is so of these parts is so of the words made of them, and the other way round
 module _ (x : Locked) (a : About) (l : Known) (m s : ℕ) (about : x.about ≡ a) (known : x.known ≡ l) (map : x.map ≡ m) (segment : x.segment ≡ s) (P : About → Known → ℕ → ℕ → Type 0) where
@@ -112,8 +119,8 @@ module _ (a : About) (l : Known) (m s n : ℕ) (at_s : IsSegment a m s) (key : L
 
 -- ---- an update
 module _ (a : About) (l : Known) (m s n : ℕ) (key bytes : List ℕ) (flags : ℕ) (l2 : Known) (t : LocksSegment a l m s n l2) where
-  pub locked_wants : Wants a l m s key bytes flags → Wants a l2 m s key bytes flags
-  locked_wants b = subst (λ (q : Known). Wants a q m s key bytes flags) (sym t.after) (record { home = b.home; key_size = b.key_size; size = b.size; are_bytes = b.are_bytes; flags_known = b.flags_known; limbo = b.limbo; runs = b.runs })
+  pub locked_wants : Brought a l m key bytes flags → home_by a m (stamp_depth n) key ≡ s → Wants a l2 m s key bytes flags
+  locked_wants b home = subst (λ (q : Known). Wants a q m s key bytes flags) (sym t.after) (record { home = home; key_size = b.key_size; size = b.size; are_bytes = b.are_bytes; flags_known = b.flags_known; limbo = b.limbo; runs = b.runs })
 
   module _ (idle : l.locks ≡ []) where
     saw_before : (r : MapAnswer) (seen : List Entry) → TakesEffect a l2 (Update m key bytes flags r) seen → TakesEffect a (with_lock l m s n) (Update m key bytes flags r) seen
@@ -139,10 +146,10 @@ module _ (a : About) (l : Known) (m s n : ℕ) (key bytes : List ℕ) (flags : �
     }
     ends_before (Refused r) l3 p = (refusal_before r l3 p.0, p.1)
 
-module _ (a : About) (l : Known) (m s n : ℕ) (at_s : IsSegment a m s) (key bytes : List ℕ) (flags element : ℕ) (c : Readies a l m s key bytes flags element) (l2 : Known) (t : LocksSegment a l m s n l2) where
+module _ (a : About) (l : Known) (m s n : ℕ) (at_s : IsSegment a m s) (key bytes : List ℕ) (flags element : ℕ) (c : Readies a l m key bytes flags element) (l2 : Known) (t : LocksSegment a l m s n l2) (home : home_by a m (stamp_depth n) key ≡ s) where
   pub locked_offers : Offers a l2 m s key bytes flags element
   locked_offers = subst (λ (q : Known). Offers a q m s key bytes flags element) (sym t.after) (record {
-    wants = record { home = c.wants.home; key_size = c.wants.key_size; size = c.wants.size; are_bytes = c.wants.are_bytes; flags_known = c.wants.flags_known; limbo = c.wants.limbo; runs = c.wants.runs };
+    wants = record { home = home; key_size = c.brought.key_size; size = c.brought.size; are_bytes = c.brought.are_bytes; flags_known = c.brought.flags_known; limbo = c.brought.limbo; runs = c.brought.runs };
     valued = record { filled = c.valued.filled; value = c.valued.value };
     in_hand = c.carries.in_hand;
     map = c.carries.map;
@@ -154,8 +161,8 @@ module _ (a : About) (l : Known) (m s n : ℕ) (at_s : IsSegment a m s) (key byt
 
 -- ---- a deletion
 module _ (a : About) (l : Known) (m s n : ℕ) (key : List ℕ) (l2 : Known) (t : LocksSegment a l m s n l2) where
-  pub locked_names : NamesKey a l m s key → NamesKey a l2 m s key
-  locked_names b = subst (λ (q : Known). NamesKey a q m s key) (sym t.after) (record { home = b.home; size = b.size; limbo = b.limbo; runs = b.runs })
+  pub locked_names : NamesKeyOf a l m key → home_by a m (stamp_depth n) key ≡ s → NamesKey a l2 m s key
+  locked_names b home = subst (λ (q : Known). NamesKey a q m s key) (sym t.after) (record { home = home; size = b.size; limbo = b.limbo; runs = b.runs })
 
   module _ (idle : l.locks ≡ []) where
     saw_deleted : (r : MapAnswer) (seen : List Entry) → TakesEffect a l2 (Delete m key r) seen → TakesEffect a (with_lock l m s n) (Delete m key r) seen
@@ -181,3 +188,10 @@ alone_else l h = subst (AreElsewhere (lock_of l)) (sym (ap (λ (ks : List Lock).
 
 pub alone_given : (l : Known) → l.locks ≡ lock_of l ∷ [] → unlocking_last l ≡ unlocking l
 alone_given l h = ap (λ (ks : List Lock). record l { locks = tail_of ks }) h
+
+-- the key's home by the stamp that was taken
+pub taken_home : (a : About) (l : Known) (m s n h : ℕ) (key : List ℕ) (l2 : Known) → h ≡ home_of key a.seed (shape_at a m).mask → Taken a l m h s n l2 → home_by a m (stamp_depth n) key ≡ s
+taken_home a l m s n h key l2 is t = ap (λ (i : ℕ). i % power (stamp_depth n)) (sym is) ∙ t.here
+
+pub taken_own : (a : About) (l : Known) (m s n h : ℕ) (key : List ℕ) (l2 : Known) → h ≡ home_of key a.seed (shape_at a m).mask → Taken a l m h s n l2 → MayOwn a m key s
+taken_own a l m s n h key l2 same t fixed = ap (λ (i : ℕ). home_in a m key % power i) (sym (t.locked.deep.whole fixed)) ∙ taken_home a l m s n h key l2 same t

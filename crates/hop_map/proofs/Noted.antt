@@ -6,39 +6,40 @@ use Rattle.hop_layout.specs.declared.about.About.{About}
 use Rattle.hop_words.specs.declared.known.Known.{Known}
 use Rattle.hop_words.specs.declared.known.Sight.{Sight}
 use Rattle.hop_words.specs.Sights.{LeavesLocks, lock_taken}
-use Rattle.hop_words.specs.Ghost.{segment_in, Each}
+use Rattle.hop_words.specs.Ghost.{Each}
 use Rattle.hop_words.proofs.Sighted.{each-append}
+use Rattle.hop_map.specs.Finding.{MayOwn}
 use Rattle.hop_map.specs.Noting.{BusyFirst, IsUnderLock, CallNotes}
 
 -- the lock, with these sights before and after
-under_lock : (m s : ℕ) (answer : MapAnswer) (n : ℕ) (later sooner : List Sight) → Each LeavesLocks later → Each LeavesLocks sooner → BusyFirst n answer → IsUnderLock m s answer (later ++ (lock_taken m s n ∷ sooner))
-under_lock m s answer n later sooner last first order = record { stamp = n; sooner = sooner; later = later; all = refl; only = (last, first); order = order }
+under_lock : (a : About) (m : ℕ) (key : List ℕ) (s : ℕ) (answer : MapAnswer) (n : ℕ) (later sooner : List Sight) → MayOwn a m key s → Each LeavesLocks later → Each LeavesLocks sooner → BusyFirst n answer → IsUnderLock a m key answer (later ++ (lock_taken m s n ∷ sooner))
+under_lock a m key s answer n later sooner own last first order = record { segment = s; own = own; stamp = n; sooner = sooner; later = later; all = refl; only = (last, first); order = order }
 
 more_before : (later sooner more tally : List Sight) (k : Sight) → later ++ (k ∷ (sooner ++ (more ++ tally))) ≡ (later ++ (k ∷ (sooner ++ more))) ++ tally
 more_before later sooner more tally k = ap (λ (z : List Sight). later ++ (k ∷ z)) (sym (append_assoc sooner more tally)) ∙ sym (append_assoc later (k ∷ (sooner ++ more)) tally)
 
-module _ (a : About) (l : Known) (m : ℕ) (key : List ℕ) (answer : MapAnswer) (l' : Known) (n : ℕ) (later : List Sight)
-    (is : l'.tally ≡ later ++ (lock_taken m (segment_in a m key) n ∷ l.tally)) (last : Each LeavesLocks later) (order : BusyFirst n answer) where
-  is_front : l'.tally ≡ (later ++ (lock_taken m (segment_in a m key) n ∷ [])) ++ l.tally
-  is_front = is ∙ more_before later [] [] l.tally (lock_taken m (segment_in a m key) n)
+module _ (a : About) (l : Known) (m : ℕ) (key : List ℕ) (answer : MapAnswer) (l' : Known) (s n : ℕ) (own : MayOwn a m key s) (later : List Sight)
+    (is : l'.tally ≡ later ++ (lock_taken m s n ∷ l.tally)) (last : Each LeavesLocks later) (order : BusyFirst n answer) where
+  is_front : l'.tally ≡ (later ++ (lock_taken m s n ∷ [])) ++ l.tally
+  is_front = is ∙ more_before later [] [] l.tally (lock_taken m s n)
 
   -- a call that noted the lock first
   pub delete_notes : CallNotes a (Delete m key answer) l l'
-  delete_notes = (later ++ (lock_taken m (segment_in a m key) n ∷ []), is_front, under_lock m (segment_in a m key) answer n later [] last tt order)
+  delete_notes = (later ++ (lock_taken m s n ∷ []), is_front, under_lock a m key s answer n later [] own last tt order)
 
   pub update_notes : (bytes : List ℕ) (flags : ℕ) → flags ≤ 2 → CallNotes a (Update m key bytes flags answer) l l'
-  update_notes bytes flags known = (later ++ (lock_taken m (segment_in a m key) n ∷ []), is_front, ((λ few. under_lock m (segment_in a m key) answer n later [] last tt order), (λ many. absurd (omega arith))))
+  update_notes bytes flags known = (later ++ (lock_taken m s n ∷ []), is_front, ((λ few. under_lock a m key s answer n later [] own last tt order), (λ many. absurd (omega arith))))
 
 -- an update that noted something before
 pub notes_after : (a : About) (l l1 : Known) (m : ℕ) (key bytes : List ℕ) (flags : ℕ) (answer : MapAnswer) (l' : Known) (more : List Sight) → flags ≤ 2 → l1.tally ≡ more ++ l.tally → Each LeavesLocks more
     → CallNotes a (Update m key bytes flags answer) l1 l' → CallNotes a (Update m key bytes flags answer) l l'
 notes_after a l l1 m key bytes flags answer l' more few before leave (sights, is, may) =
-    let p : IsUnderLock m (segment_in a m key) answer sights = may.0 few in
-    let k = lock_taken m (segment_in a m key) p.stamp in (
+    let p : IsUnderLock a m key answer sights = may.0 few in
+    let k = lock_taken m p.segment p.stamp in (
       p.later ++ (k ∷ (p.sooner ++ more)),
       is
           ∙ (ap (λ (z : List Sight). z ++ l1.tally) p.all
           ∙ (append_assoc p.later (k ∷ p.sooner) l1.tally
           ∙ (ap (λ (z : List Sight). p.later ++ (k ∷ (p.sooner ++ z))) before ∙ more_before p.later p.sooner more l.tally k))),
-      ((λ _. under_lock m (segment_in a m key) answer p.stamp p.later (p.sooner ++ more) p.only.0 (each-append LeavesLocks p.sooner more p.only.1 leave) p.order), (λ many. absurd (omega arith))),
+      ((λ _. under_lock a m key p.segment answer p.stamp p.later (p.sooner ++ more) p.own p.only.0 (each-append LeavesLocks p.sooner more p.only.1 leave) p.order), (λ many. absurd (omega arith))),
     )

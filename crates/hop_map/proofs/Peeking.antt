@@ -6,9 +6,9 @@ use Rattle.hop_layout.specs.declared.about.About.{About}
 use Rattle.hop_layout.specs.declared.place.Place.{Place}
 use Rattle.hop_layout.specs.declared.place.Place.TheVariants.{KeyWord}
 use Rattle.hop_layout.specs.Words.{AreBytes}
-use Rattle.hop_layout.specs.Home.{segment_of, home_of}
+use Rattle.hop_layout.specs.Home.{home_of}
 use Rattle.hop_words.specs.Content.{MapWords, item, times, Reached, IsOnList, HopsTo, IsShare, HasKey}
-use Rattle.hop_words.specs.Ghost.{shape_at, segment_in}
+use Rattle.hop_words.specs.Ghost.{shape_at}
 use Rattle.hop_words.specs.Rule.{IsPeek}
 use Rattle.hop_words.specs.Kinds.{AreWithin, AllPeeks, FindsByPeeks}
 use Rattle.hop_words.specs.Peeking.{latest_reading, HasReading}
@@ -21,6 +21,7 @@ use Rattle.hop_map.specs.Private.Finding.{AsksHere}
 use Rattle.hop_map.specs.Private.Peeks.{Peeked, peeked, HavePeeks, Agreed, OnlyReads, Spelled}
 use Rattle.hop_map.proofs.Keys.{same_spelling, other_size}
 use Rattle.hop_map.proofs.Bridge.{seg_sound, pair_leads, leads_pair}
+use Rattle.hop_words.specs.Depths.{stamp_depth, home_by}
 
 pub rested_by : (x : Peeked) (p : Place) (n : ℕ) → OnlyReads x (peeked x p n)
 rested_by x p n = record { table = refl; about = refl; map = refl; segment = refl; known = refl; more = record { place = p; number = n } ∷ []; reading = refl }
@@ -102,7 +103,7 @@ place_at slot (suc n) p e l h = ⊎_elim
     last (suc p) zero l = absurd (omega arith)
     last (suc p) (suc n) l = ⊎_elim (λ (t : p ≡ n). inl (ap suc t)) (λ (t : p < n). inr (omega arith)) (last p n (omega arith))
 
-module _ (a : About) (m s : ℕ) (w : MapWords) (f : List ℕ → Option ℕ) (share : IsShare a.seed (shape_at a m) (segment_in a m) w m s f) where
+module _ (a : About) (m s dp : ℕ) (w : MapWords) (f : List ℕ → Option ℕ) (share : IsShare a.seed (shape_at a m) (home_by a m dp) w m s f) where
   abbrev leads_to : ℕ → Bool
   leads_to e = at_places (w.slot m s) 64 e || nat_lt 0 (times e share.sound.list)
 
@@ -122,37 +123,37 @@ module _ (a : About) (m s : ℕ) (w : MapWords) (f : List ℕ → Option ℕ) (s
       r
 
   module _ (within : AreWithin a m f) where
-    all_known : (key : List ℕ) (e : ℕ) → f key ≡ Some e → segment_of a.seed (shape_at a m) key ≡ s → (e < elements (shape_at a m)) × (leads_to e ≡ true)
+    all_known : (key : List ℕ) (e : ℕ) → f key ≡ Some e → home_by a m dp key ≡ s → (e < elements (shape_at a m)) × (leads_to e ≡ true)
     all_known key e is at_home = (within key e is, reached_known e (share.all key e is at_home).0)
 
-    shown_sound : SegSound (segment_view a m s leads_to w)
-    shown_sound = seg_sound a m s leads_to w f share all_known
+    shown_sound : SegSound (segment_view a m s dp leads_to w)
+    shown_sound = seg_sound a m s dp leads_to w f share all_known
 
-    shown_leads : (key : List ℕ) → segment_of a.seed (shape_at a m) key ≡ s → (o : Option ℕ) → MatchOption o (SegAbsent (segment_view a m s leads_to w) key) (λ e. HasPair (segment_view a m s leads_to w) key e) → f key ≡ o
-    shown_leads key at_home (Some e) there = (pair_leads a m s leads_to w f share all_known key e there).0
+    shown_leads : (key : List ℕ) → home_by a m dp key ≡ s → (o : Option ℕ) → MatchOption o (SegAbsent (segment_view a m s dp leads_to w) key) (λ e. HasPair (segment_view a m s dp leads_to w) key e) → f key ≡ o
+    shown_leads key at_home (Some e) there = (pair_leads a m s dp leads_to w f share all_known key e there).0
     shown_leads key at_home None gone = go (f key) refl
       where
         go : (o : Option ℕ) → f key ≡ o → f key ≡ None
         go None is = is
-        go (Some e) is = absurd (gone e (leads_pair a m s leads_to w f share all_known key e is at_home))
+        go (Some e) is = absurd (gone e (leads_pair a m s dp leads_to w f share all_known key e is at_home))
 
 -- what a find says of all words that agree is what see stamp again asks for
-module _ (y : Peeked) (key : List ℕ) (o : Option ℕ) (b : AsksHere y.about y.known y.map y.segment key) (h : ℕ) (h_is : h ≡ home_of key y.about.seed (shape_at y.about y.map).mask)
+module _ (y : Peeked) (key : List ℕ) (o : Option ℕ) (b : AsksHere y.about y.known y.map y.segment (stamp_depth (latest_reading y.known).stamp) key) (h : ℕ) (h_is : h ≡ home_of key y.about.seed (shape_at y.about y.map).mask)
     (found : (w : SegWords) → Agreed y w → SegSound w → h ≡ w.fixed.home key → MatchOption o (SegAbsent w key) (λ e. HasPair w key e)) where
-  shown_here : (w : MapWords) (f : List ℕ → Option ℕ) → IsShare y.about.seed (shape_at y.about y.map) (segment_in y.about y.map) w y.map y.segment f → AreWithin y.about y.map f → HavePeeks w y → f key ≡ o
+  shown_here : (w : MapWords) (f : List ℕ → Option ℕ) → IsShare y.about.seed (shape_at y.about y.map) (home_by y.about y.map (stamp_depth (latest_reading y.known).stamp)) w y.map y.segment f → AreWithin y.about y.map f → HavePeeks w y → f key ≡ o
   shown_here w f share within all =
-      let k = leads_to y.about y.map y.segment w f share in
-      shown_leads y.about y.map y.segment w f share within key b.home o
-      (found (segment_view y.about y.map y.segment k w)
-      (record { words = w; content = f; share = share; peeks = all; known = k; known_is = known_reached y.about y.map y.segment w f share; shown = refl })
-      (shown_sound y.about y.map y.segment w f share within) h_is)
+      let k = leads_to y.about y.map y.segment (stamp_depth (latest_reading y.known).stamp) w f share in
+      shown_leads y.about y.map y.segment (stamp_depth (latest_reading y.known).stamp) w f share within key b.home o
+      (found (segment_view y.about y.map y.segment (stamp_depth (latest_reading y.known).stamp) k w)
+      (record { words = w; content = f; share = share; peeks = all; known = k; known_is = known_reached y.about y.map y.segment (stamp_depth (latest_reading y.known).stamp) w f share; shown = refl })
+      (shown_sound y.about y.map y.segment (stamp_depth (latest_reading y.known).stamp) w f share within) h_is)
 
   pub finds : HasReading y.known y.map y.segment → FindsByPeeks y.about y.known (latest_reading y.known) key o
   finds here = record {
     reading = here.0;
     key_size = b.size ∙ ap (λ (m : ℕ). (shape_at y.about m).key) (sym here.1);
-    home = ap (λ (m : ℕ). segment_in y.about m key) here.1 ∙ (b.home ∙ sym here.2);
-    shown = subst (λ (m : ℕ). (w : MapWords) (f : List ℕ → Option ℕ) → IsShare y.about.seed (shape_at y.about m) (segment_in y.about m) w m (latest_reading y.known).segment f → AreWithin y.about m f → AllPeeks w (record (latest_reading y.known) { map = m }) → f key ≡ o) (sym here.1)
-        (subst (λ (t : ℕ). (w : MapWords) (f : List ℕ → Option ℕ) → IsShare y.about.seed (shape_at y.about y.map) (segment_in y.about y.map) w y.map t f → AreWithin y.about y.map f → AllPeeks w (record (latest_reading y.known) { map = y.map; segment = t }) → f key ≡ o) (sym here.2) shown_here);
+    home = ap (λ (m : ℕ). home_by y.about m (stamp_depth (latest_reading y.known).stamp) key) here.1 ∙ (b.home ∙ sym here.2);
+    shown = subst (λ (m : ℕ). (w : MapWords) (f : List ℕ → Option ℕ) → IsShare y.about.seed (shape_at y.about m) (home_by y.about m (stamp_depth (latest_reading y.known).stamp)) w m (latest_reading y.known).segment f → AreWithin y.about m f → AllPeeks w (record (latest_reading y.known) { map = m }) → f key ≡ o) (sym here.1)
+        (subst (λ (t : ℕ). (w : MapWords) (f : List ℕ → Option ℕ) → IsShare y.about.seed (shape_at y.about y.map) (home_by y.about y.map (stamp_depth (latest_reading y.known).stamp)) w y.map t f → AreWithin y.about y.map f → AllPeeks w (record (latest_reading y.known) { map = y.map; segment = t }) → f key ≡ o) (sym here.2) shown_here);
     runs = b.runs;
   }

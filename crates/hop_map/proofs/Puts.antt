@@ -5,13 +5,11 @@ use Rattle.hop_layout.specs.declared.about.About.{About}
 use Rattle.hop_words.specs.declared.known.Known.{Known}
 use Rattle.hop_words.specs.declared.known.Lock.{Lock}
 use Rattle.hop_words.specs.declared.known.Change.TheVariants.{Puts}
-use Rattle.hop_layout.specs.Layout.{depth}
-use Rattle.hop_layout.specs.Home.{segment_of}
 use Rattle.hop_words.specs.Locking.{lock_of, hand}
 use Rattle.hop_map.specs.LockedSegment.{home, Locked, Stays, Ready, knows}
 use Rattle.hop_map.specs.Private.LockedSegment.{segment_view, locked_view, seen_words}
 use Rattle.hop_words.specs.Content.{MapWords, IsShare, HasKey}
-use Rattle.hop_words.specs.Ghost.{segment_in, shape_at}
+use Rattle.hop_words.specs.Ghost.{shape_at, lock_home}
 use Rattle.hop_words.specs.Rule.{image, put_key}
 use Rattle.hop_words.specs.Kinds.{has, Inserted, IsKeyAbsent, IsWritten, LeadsTo}
 use Rattle.hop_seg.specs.Words.{Fixed}
@@ -21,55 +19,57 @@ use Rattle.hop_map.specs.Private.UnderLock.{LockShows, OffersInsertion}
 use Rattle.hop_map.proofs.Keys.{spells}
 use Rattle.hop_map.proofs.Counted.{or_true}
 use Rattle.hop_map.proofs.Bridge.{seg_sound, pair_leads, leads_pair, inserted, power_is}
+use Rattle.hop_words.specs.Depths.{stamp_depth, home_by}
+use Rattle.hop_map.specs.LockedSegment.{locked_home}
 
 module _ (a : About) (l : Known) (m s : ℕ) (c : LockShows a l m s) where
   abbrev x : MapWords
   x = image a (lock_of l).copy
 
   -- whatever share the words show, its elements are known
-  pub any_known : (f : List ℕ → Option ℕ) → IsShare a.seed (shape_at a m) (segment_in a m) x m s f → (key : List ℕ) (e : ℕ) → f key ≡ Some e → segment_of a.seed (shape_at a m) key ≡ s → (e < elements (shape_at a m)) × (has e (lock_of l).known ≡ true)
+  pub any_known : (f : List ℕ → Option ℕ) → IsShare a.seed (shape_at a m) (home_by a m (stamp_depth (lock_of l).stamp)) x m s f → (key : List ℕ) (e : ℕ) → f key ≡ Some e → locked_home a l m key ≡ s → (e < elements (shape_at a m)) × (has e (lock_of l).known ≡ true)
   any_known f p key e is at_home =
       let t = p.all key e is at_home in
-      let q = subst (λ (ws : List ℕ). IsShare a.seed (shape_at a m) (segment_in a m) (image a ws) m s c.content) (sym c.copied) c.share in
+      let q = subst (λ (ws : List ℕ). IsShare a.seed (shape_at a m) (home_by a m (stamp_depth (lock_of l).stamp)) (image a ws) m s c.content) (sym c.copied) c.share in
       let k = q.each e t.0 in
       c.all_known k.0 e k.3 k.2
 
   -- the share that the lock's first words show
-  pub here : (f : List ℕ → Option ℕ) → IsShare a.seed (shape_at a (lock_of l).map) (segment_in a (lock_of l).map) (image a (lock_of l).first) (lock_of l).map (lock_of l).segment f → IsShare a.seed (shape_at a m) (segment_in a m) x m s f
-  here f p = subst (λ (ws : List ℕ). IsShare a.seed (shape_at a m) (segment_in a m) (image a ws) m s f) (sym c.copied)
-      (subst (λ (t : ℕ). IsShare a.seed (shape_at a m) (segment_in a m) (image a (lock_of l).first) m t f) c.segment
-      (subst (λ (n : ℕ). IsShare a.seed (shape_at a n) (segment_in a n) (image a (lock_of l).first) n (lock_of l).segment f) c.map p))
+  pub here : (f : List ℕ → Option ℕ) → IsShare a.seed (shape_at a (lock_of l).map) (lock_home a (lock_of l)) (image a (lock_of l).first) (lock_of l).map (lock_of l).segment f → IsShare a.seed (shape_at a m) (home_by a m (stamp_depth (lock_of l).stamp)) x m s f
+  here f p = subst (λ (ws : List ℕ). IsShare a.seed (shape_at a m) (home_by a m (stamp_depth (lock_of l).stamp)) (image a ws) m s f) (sym c.copied)
+      (subst (λ (t : ℕ). IsShare a.seed (shape_at a m) (home_by a m (stamp_depth (lock_of l).stamp)) (image a (lock_of l).first) m t f) c.segment
+      (subst (λ (n : ℕ). IsShare a.seed (shape_at a n) (home_by a n (stamp_depth (lock_of l).stamp)) (image a (lock_of l).first) n (lock_of l).segment f) c.map p))
 
-  pub share : IsShare a.seed (shape_at a m) (segment_in a m) x m s c.content
-  share = subst (λ (ws : List ℕ). IsShare a.seed (shape_at a m) (segment_in a m) (image a ws) m s c.content) (sym c.copied) c.share
+  pub share : IsShare a.seed (shape_at a m) (home_by a m (stamp_depth (lock_of l).stamp)) x m s c.content
+  share = subst (λ (ws : List ℕ). IsShare a.seed (shape_at a m) (home_by a m (stamp_depth (lock_of l).stamp)) (image a ws) m s c.content) (sym c.copied) c.share
 
   module _ (more : ℕ → Bool) where
     kn : ℕ → Bool
     kn e = has e (lock_of l).known || more e
 
-    pub known_by : (f : List ℕ → Option ℕ) → IsShare a.seed (shape_at a m) (segment_in a m) x m s f → (key : List ℕ) (e : ℕ) → f key ≡ Some e → segment_of a.seed (shape_at a m) key ≡ s → (e < elements (shape_at a m)) × (has e (lock_of l).known || more e ≡ true)
+    pub known_by : (f : List ℕ → Option ℕ) → IsShare a.seed (shape_at a m) (home_by a m (stamp_depth (lock_of l).stamp)) x m s f → (key : List ℕ) (e : ℕ) → f key ≡ Some e → locked_home a l m key ≡ s → (e < elements (shape_at a m)) × (has e (lock_of l).known || more e ≡ true)
     known_by f p key e is at_home = let t = any_known f p key e is at_home in (t.0, or_true (has e (lock_of l).known) (more e) t.1)
 
-    pub sound_with : SegSound (segment_view a m s (λ e. has e (lock_of l).known || more e) x)
-    sound_with = seg_sound a m s (λ e. has e (lock_of l).known || more e) x c.content share (known_by c.content share)
+    pub sound_with : SegSound (segment_view a m s (stamp_depth (lock_of l).stamp) (λ e. has e (lock_of l).known || more e) x)
+    sound_with = seg_sound a m s (stamp_depth (lock_of l).stamp) (λ e. has e (lock_of l).known || more e) x c.content share (known_by c.content share)
 
-    module _ (key : List ℕ) (at_home : segment_of a.seed (shape_at a m) key ≡ s) where
-      pub none_with : SegAbsent (segment_view a m s (λ e. has e (lock_of l).known || more e) x) key → (f : List ℕ → Option ℕ) → IsShare a.seed (shape_at a m) (segment_in a m) x m s f → f key ≡ None
+    module _ (key : List ℕ) (at_home : locked_home a l m key ≡ s) where
+      pub none_with : SegAbsent (segment_view a m s (stamp_depth (lock_of l).stamp) (λ e. has e (lock_of l).known || more e) x) key → (f : List ℕ → Option ℕ) → IsShare a.seed (shape_at a m) (home_by a m (stamp_depth (lock_of l).stamp)) x m s f → f key ≡ None
       none_with gone f p = go (f key) refl
         where
           go : (o : Option ℕ) → f key ≡ o → f key ≡ None
           go None is = is
-          go (Some e) is = absurd (gone e (leads_pair a m s (λ e. has e (lock_of l).known || more e) x f p (known_by f p) key e is at_home))
+          go (Some e) is = absurd (gone e (leads_pair a m s (stamp_depth (lock_of l).stamp) (λ e. has e (lock_of l).known || more e) x f p (known_by f p) key e is at_home))
 
-      pub absent_with : SegAbsent (segment_view a m s (λ e. has e (lock_of l).known || more e) x) key → IsKeyAbsent a (lock_of l) key
+      pub absent_with : SegAbsent (segment_view a m s (stamp_depth (lock_of l).stamp) (λ e. has e (lock_of l).known || more e) x) key → IsKeyAbsent a (lock_of l) key
       absent_with gone f p = none_with gone f (here f p)
 
-      pub leads_with : (e : ℕ) → HasPair (segment_view a m s (λ e. has e (lock_of l).known || more e) x) key e → LeadsTo a (lock_of l) key e
-      leads_with e h f p = (pair_leads a m s (λ e. has e (lock_of l).known || more e) x f (here f p) (known_by f (here f p)) key e h).0
+      pub leads_with : (e : ℕ) → HasPair (segment_view a m s (stamp_depth (lock_of l).stamp) (λ e. has e (lock_of l).known || more e) x) key e → LeadsTo a (lock_of l) key e
+      leads_with e h f p = (pair_leads a m s (stamp_depth (lock_of l).stamp) (λ e. has e (lock_of l).known || more e) x f (here f p) (known_by f (here f p)) key e h).0
 
       -- an element that a key leads to is one of the map's
-      pub was_inside : (e : ℕ) → HasPair (segment_view a m s (λ e. has e (lock_of l).known || more e) x) key e → e < elements (shape_at a m)
-      was_inside e h = (known_by c.content share key e (pair_leads a m s (λ e. has e (lock_of l).known || more e) x c.content share (known_by c.content share) key e h).0 at_home).0
+      pub was_inside : (e : ℕ) → HasPair (segment_view a m s (stamp_depth (lock_of l).stamp) (λ e. has e (lock_of l).known || more e) x) key e → e < elements (shape_at a m)
+      was_inside e h = (known_by c.content share key e (pair_leads a m s (stamp_depth (lock_of l).stamp) (λ e. has e (lock_of l).known || more e) x c.content share (known_by c.content share) key e h).0 at_home).0
 
 pub or_last : (x y : Bool) → y ≡ true → (x || y) ≡ true
 or_last true y is = refl
@@ -111,21 +111,21 @@ module _ (x : Locked) (key bytes : List ℕ) (flags element : ℕ) (c : LockShow
   unfolding more
   own = record {
     known = (or_last (has element (lock_of x.known).known) ((element == o) || false) (or_true (element == o) false (eq-eqb element o (sym b.filled.number))), b.filled.inside);
-    home = ap (λ (q : List ℕ). home x.about.seed (shape_at x.about x.map).mask q % 2 ^ depth (shape_at x.about x.map)) spelt
-        ∙ (ap (λ (n : ℕ). home x.about.seed (shape_at x.about x.map).mask key % n) (sym (power_is (depth (shape_at x.about x.map)))) ∙ b.filled.home);
+    home = ap (λ (q : List ℕ). home x.about.seed (shape_at x.about x.map).mask q % 2 ^ (stamp_depth (lock_of x.known).stamp)) spelt
+        ∙ (ap (λ (n : ℕ). home x.about.seed (shape_at x.about x.map).mask key % n) (sym (power_is (stamp_depth (lock_of x.known).stamp))) ∙ b.filled.home);
   }
 
   pub own_after : IsOwn (seen_words y).fixed element
   own_after = subst (λ (z : Locked). IsOwn (seen_words z).fixed element) (sym y_is) own
 
-  none : (f : List ℕ → Option ℕ) → IsShare x.about.seed (shape_at x.about x.map) (segment_in x.about x.map) (image x.about (lock_of x.known).copy) x.map x.segment f → f key ≡ None
+  none : (f : List ℕ → Option ℕ) → IsShare x.about.seed (shape_at x.about x.map) (locked_home x.about x.known x.map) (image x.about (lock_of x.known).copy) x.map x.segment f → f key ≡ None
   none f p = none_with x.about x.known x.map x.segment c _ key b.filled.home gone f p
 
   absent : SegAbsent (seen_words x1) (element_key (seen_words x1) element)
   unfolding more
   absent e h =
       let p = share x.about x.known x.map x.segment c in
-      let t = pair_leads x.about x.map x.segment (λ e. has e (lock_of x.known).known || more e) (image x.about (lock_of x.known).copy) c.content p (known_by x.about x.known x.map x.segment c more c.content p) key e
+      let t = pair_leads x.about x.map x.segment (stamp_depth (lock_of x.known).stamp) (λ e. has e (lock_of x.known).known || more e) (image x.about (lock_of x.known).copy) c.content p (known_by x.about x.known x.map x.segment c more c.content p) key e
       (subst (λ (k : List ℕ). HasPair (seen_words x1) k e) spelt h) in
       let z : None ≡ Some e = sym (none c.content p) ∙ t.0 in
       cc
@@ -141,13 +141,14 @@ module _ (x : Locked) (key bytes : List ℕ) (flags element : ℕ) (c : LockShow
       let p = here x.about x.known x.map x.segment c before sh in
       let kn : ℕ → Bool = λ e. has e (lock_of x.known).known || more e in
       let same : knows l2 x.map ≡ kn = ap (λ (f : Fixed). f.known) g.fixed in
-      let done = inserted x.about x.map x.segment kn (image x.about (lock_of x.known).copy) (image x.about (lock_of l2).copy) before p (known_by x.about x.known x.map x.segment c more before p)
+      let done = inserted x.about x.map x.segment (stamp_depth (lock_of x.known).stamp) kn (image x.about (lock_of x.known).copy) (image x.about (lock_of l2).copy) before p (known_by x.about x.known x.map x.segment c more before p)
       (subst (λ (n : ℕ → Bool). (e : ℕ) → n e ≡ true → (q : List ℕ) × HasKey (shape_at x.about x.map) (image x.about (lock_of l2).copy) x.map e q) same (λ e k. (r.known_is e k).1))
       key b.filled.home element (none before p)
-      (subst (λ (n : ℕ → Bool). Gains (seen_words x1) (segment_view x.about x.map x.segment n (image x.about (lock_of l2).copy)) key element) same g) in
-      subst (λ (e : ℕ). IsShare x.about.seed (shape_at x.about (lock_of x.known).map) (segment_in x.about (lock_of x.known).map) (image x.about (lock_of l2).copy) (lock_of x.known).map (lock_of x.known).segment (put_key before key (Some e))) (sym b.filled.number)
-      (subst (λ (t : ℕ). IsShare x.about.seed (shape_at x.about (lock_of x.known).map) (segment_in x.about (lock_of x.known).map) (image x.about (lock_of l2).copy) (lock_of x.known).map t (put_key before key (Some element))) (sym c.segment)
-      (subst (λ (n : ℕ). IsShare x.about.seed (shape_at x.about n) (segment_in x.about n) (image x.about (lock_of l2).copy) n x.segment (put_key before key (Some element))) (sym c.map) done)))
+      (subst (λ (n : ℕ → Bool). Gains (seen_words x1) (segment_view x.about x.map x.segment (stamp_depth (lock_of x.known).stamp) n (image x.about (lock_of l2).copy)) key element) same
+      (subst (λ (i : ℕ). Gains (seen_words x1) (segment_view x.about x.map x.segment i (knows l2 x.map) (image x.about (lock_of l2).copy)) key element) (ap (λ (f : Fixed). f.depth) g.fixed) g)) in
+      subst (λ (e : ℕ). IsShare x.about.seed (shape_at x.about (lock_of x.known).map) (lock_home x.about (lock_of x.known)) (image x.about (lock_of l2).copy) (lock_of x.known).map (lock_of x.known).segment (put_key before key (Some e))) (sym b.filled.number)
+      (subst (λ (t : ℕ). IsShare x.about.seed (shape_at x.about (lock_of x.known).map) (lock_home x.about (lock_of x.known)) (image x.about (lock_of l2).copy) (lock_of x.known).map t (put_key before key (Some element))) (sym c.segment)
+      (subst (λ (n : ℕ). IsShare x.about.seed (shape_at x.about n) (locked_home x.about x.known n) (image x.about (lock_of l2).copy) n x.segment (put_key before key (Some element))) (sym c.map) done)))
 
   pub written_after : (z : Locked) → Stays y z → Gains (seen_words y) (seen_words z) (element_key (seen_words y) element) element → Ready z.about z.known z.map z.segment → IsWritten z.about (lock_of z.known)
   written_after z st g = subst (λ (q : Locked). (lock_of q.known ≡ record (lock_of x.known) { change = Puts key o; copy = (lock_of q.known).copy; dirty = (lock_of q.known).dirty })

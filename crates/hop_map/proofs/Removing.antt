@@ -7,7 +7,7 @@ use Rattle.hop_words.specs.declared.known.Known.{Known}
 use Rattle.hop_words.specs.declared.known.Lock.{Lock}
 use Rattle.hop_words.specs.declared.known.Change.TheVariants.{Drops}
 use Rattle.hop_words.specs.Content.{IsShare}
-use Rattle.hop_words.specs.Ghost.{segment_in, shape_at}
+use Rattle.hop_words.specs.Ghost.{shape_at}
 use Rattle.hop_words.specs.Rule.{image, put_key, numbered}
 use Rattle.hop_words.specs.Kinds.{has, IsKeyAbsent, Answers, Removes, IsWritten, TakesEffect, with_gone}
 use Rattle.hop_words.specs.Locking.{lock_of}
@@ -24,6 +24,7 @@ use Rattle.hop_map.specs.Private.Removals.{NamesKey, Dropped}
 use Rattle.hop_map.proofs.Bridge.{removed}
 use Rattle.hop_map.proofs.Staying.{stays_is}
 use Rattle.hop_map.proofs.Puts.{sound_with, absent_with, leads_with, known_by, here, was_inside}
+use Rattle.hop_words.specs.Depths.{stamp_depth, home_by}
 
 -- the lock, once the key has been counted off
 abbrev pub dropping : Known → List ℕ → Lock
@@ -106,9 +107,9 @@ module _ (x : Locked) (key : List ℕ) (c : LockShows x.about x.known x.map x.se
   unfolding more
   written ws d old r g = λ before sh.
       let p = here x.about x.known x.map x.segment c before sh in
-      let done = removed x.about x.map x.segment (λ e. has e k.known || more e) (image x.about k.copy) (image x.about ws) before p (known_by x.about x.known x.map x.segment c more before p)
+      let done = removed x.about x.map x.segment (stamp_depth k.stamp) (λ e. has e k.known || more e) (image x.about k.copy) (image x.about ws) before p (known_by x.about x.known x.map x.segment c more before p)
       (λ e kn. (r.known_is e kn).1) key b.home old g in
-      at_lock (λ n t. IsShare x.about.seed (shape_at x.about n) (segment_in x.about n) (image x.about ws) n t (put_key before key None)) done
+      at_lock (λ n t. IsShare x.about.seed (shape_at x.about n) (home_by x.about n (stamp_depth k.stamp)) (image x.about ws) n t (put_key before key None)) done
 
   module _ (z : Locked) (st : Stays x z) where
     pub drop_removes : (old : ℕ) → Loses (seen_words x) (seen_words z) key old → Ready z.about z.known z.map z.segment → Removes z.about z.known (lock_of z.known) key old

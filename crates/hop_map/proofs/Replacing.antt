@@ -7,11 +7,10 @@ use Rattle.hop_layout.specs.declared.about.About.{About}
 use Rattle.hop_words.specs.declared.known.Known.{Known}
 use Rattle.hop_words.specs.declared.known.Lock.{Lock}
 use Rattle.hop_words.specs.declared.known.Fresh.{Fresh}
-use Rattle.hop_layout.specs.Layout.{depth}
 use Rattle.hop_map.specs.LockedSegment.{home, Locked, Stays, Ready, in_hand, is_put}
 use Rattle.hop_map.specs.Private.LockedSegment.{seen_words}
 use Rattle.hop_words.specs.Content.{IsShare, HasKey}
-use Rattle.hop_words.specs.Ghost.{segment_in, shape_at}
+use Rattle.hop_words.specs.Ghost.{shape_at, lock_home}
 use Rattle.hop_words.specs.Rule.{image, put_key}
 use Rattle.hop_words.specs.Kinds.{has, Replaces, Replaced, TakesEffect, with_gone}
 use Rattle.hop_seg.specs.Segment.{Sound as SegSound, IsOwn, element_key}
@@ -23,6 +22,7 @@ use Rattle.hop_map.proofs.Keys.{spells}
 use Rattle.hop_map.proofs.Bridge.{replaced, reached_of, power_is}
 use Rattle.hop_map.proofs.Staying.{stays_is}
 use Rattle.hop_map.proofs.Puts.{sound_with, share, any_known, leads_with, known_by, here, or_last, was_inside}
+use Rattle.hop_words.specs.Depths.{stamp_depth, home_by}
 
 module _ (x : Locked) (key bytes : List ℕ) (flags element : ℕ) (c : LockShows x.about x.known x.map x.segment) (b : OffersReplacement x.about x.known x.map x.segment key bytes flags element) where
   abbrev k : Lock
@@ -42,7 +42,7 @@ module _ (x : Locked) (key bytes : List ℕ) (flags element : ℕ) (c : LockShow
   unfolding more
   over_fresh linked =
       let p = share x.about x.known x.map x.segment c in
-      let t = p.each element (reached_of x.about x.map x.segment (λ e. has e k.known || more e) (image x.about k.copy) element linked) in
+      let t = p.each element (reached_of x.about x.map x.segment (stamp_depth k.stamp) (λ e. has e k.known || more e) (image x.about k.copy) element linked) in
       let q = any_known x.about x.known x.map x.segment c c.content p t.0 element t.3 t.2 in
       true≢false (sym q.1 ∙ b.apart)
 
@@ -53,8 +53,8 @@ module _ (x : Locked) (key bytes : List ℕ) (flags element : ℕ) (c : LockShow
   pub over_own : IsOwn (seen_words x).fixed element
   over_own = record {
     known = (or_last (has element k.known) _ (or_last (is_put k.change element) _ held_here), b.filled.inside);
-    home = ap (λ (q : List ℕ). home x.about.seed (shape_at x.about x.map).mask q % 2 ^ depth (shape_at x.about x.map)) over_spelt
-        ∙ (ap (λ (n : ℕ). home x.about.seed (shape_at x.about x.map).mask key % n) (sym (power_is (depth (shape_at x.about x.map)))) ∙ b.filled.home);
+    home = ap (λ (q : List ℕ). home x.about.seed (shape_at x.about x.map).mask q % 2 ^ (stamp_depth k.stamp)) over_spelt
+        ∙ (ap (λ (n : ℕ). home x.about.seed (shape_at x.about x.map).mask key % n) (sym (power_is (stamp_depth k.stamp))) ∙ b.filled.home);
   }
 
   abbrev lit : List ℕ → Bool → Known
@@ -86,10 +86,10 @@ module _ (x : Locked) (key bytes : List ℕ) (flags element : ℕ) (c : LockShow
         there = leads_with x.about x.known x.map x.segment c more key b.filled.home old g.was;
         written = λ before sh.
             let p = here x.about x.known x.map x.segment c before sh in
-            let done = replaced x.about x.map x.segment (λ e. has e k.known || more e) (image x.about k.copy) (image x.about ws) before p (known_by x.about x.known x.map x.segment c more before p)
+            let done = replaced x.about x.map x.segment (stamp_depth k.stamp) (λ e. has e k.known || more e) (image x.about k.copy) (image x.about ws) before p (known_by x.about x.known x.map x.segment c more before p)
             (λ e kn. (r.known_is e kn).1) key b.filled.home old element g in
-            subst (λ (e : ℕ). IsShare x.about.seed (shape_at x.about k.map) (segment_in x.about k.map) (image x.about ws) k.map k.segment (put_key before key (Some e))) (sym b.filled.number)
-            (at_lock (λ n t. IsShare x.about.seed (shape_at x.about n) (segment_in x.about n) (image x.about ws) n t (put_key before key (Some element))) done);
+            subst (λ (e : ℕ). IsShare x.about.seed (shape_at x.about k.map) (lock_home x.about k) (image x.about ws) k.map k.segment (put_key before key (Some e))) (sym b.filled.number)
+            (at_lock (λ n t. IsShare x.about.seed (shape_at x.about n) (home_by x.about n (stamp_depth k.stamp)) (image x.about ws) n t (put_key before key (Some element))) done);
         flags_known = b.flags_known;
         room = b'.limbo;
       }

@@ -14,7 +14,6 @@ use Rattle.hop_words.specs.declared.known.Limbo.{Limbo}
 use Rattle.hop_words.specs.declared.known.Sight.{Sight}
 use Rattle.hop_words.specs.Sights.{sighted}
 use Rattle.hop_layout.specs.Layout.{words_for}
-use Rattle.hop_layout.specs.Home.{segment_of}
 use Rattle.hop_layout.specs.Words.{word_of, AreBytes}
 use Rattle.hop_words.specs.Ghost.{shape_at, limbo_at, no_limbo}
 use Rattle.hop_words.specs.Kinds.{retiring, with_gone}
@@ -26,7 +25,7 @@ use Rattle.hop_arena.proofs.Filling.{word_count}
 use Rattle.hop_epoch.proofs.Batching.{at_set}
 use Rattle.hop_map.specs.Private.UnderLock.{IsInsertion}
 use Rattle.hop_map.specs.Private.Replacing.{IsReplacement}
-use Rattle.hop_map.specs.Private.Locks.{Readies}
+use Rattle.hop_map.specs.Private.Locks.{locked_with, Readies}
 use Rattle.hop_map.specs.Private.Updates.{Refusal}
 use Rattle.hop_map.specs.Call.{IsOneCall}
 use Rattle.hop_map.specs.Private.Call.{HoldsNew}
@@ -49,8 +48,8 @@ module _ (a : About) (l : Known) (m e : ℕ) (new : HoldsNew l m e) (key bytes :
   filled_is = filled ∙ ap (λ (fs : List Fresh). record l { fresh = with_words fs (word_list (words_for (length key)) key) (word_list (words_for (length bytes)) bytes) }) new
 
   pub filled_readies : (flags : ℕ) → e < elements (shape_at a m) → length key ≡ (shape_at a m).key → length bytes ≡ (shape_at a m).value → AreBytes key → AreBytes bytes → flags ≤ 2
-      → m < length l.limbo → in_run (events_of l.cpu l.seen) ≡ true → l.locks ≡ [] → Readies a l1 m (segment_of a.seed (shape_at a m) key) key bytes flags e
-  filled_readies flags inside ks vs kb vb few room runs idle = subst (λ (q : Known). Readies a q m (segment_of a.seed (shape_at a m) key) key bytes flags e) (sym filled_is) (record {
+      → m < length l.limbo → in_run (events_of l.cpu l.seen) ≡ true → l.locks ≡ [] → Readies a l1 m key bytes flags e
+  filled_readies flags inside ks vs kb vb few room runs idle = subst (λ (q : Known). Readies a q m key bytes flags e) (sym filled_is) (record {
     carries = record {
       in_hand = refl;
       map = refl;
@@ -65,29 +64,28 @@ module _ (a : About) (l : Known) (m e : ℕ) (new : HoldsNew l m e) (key bytes :
       filled = word_count (words_for (length bytes)) bytes ∙ ap words_for vs;
       value = λ i less. words_at (words_for (length bytes)) bytes i (subst (λ (n : ℕ). i < words_for n) (sym vs) less);
     };
-    wants = record { home = refl; key_size = ks; size = vs; are_bytes = vb; flags_known = few; limbo = room; runs = runs };
+    brought = record { key_size = ks; size = vs; are_bytes = vb; flags_known = few; limbo = room; runs = runs };
     idle = idle;
   })
 
   module _ (used : (limbo_at l.limbo m).used ≡ []) (room : m < length l.limbo) (flags : ℕ) (k : Sight) (l2 : Known) where
-    pub added_called : IsInsertion a (sighted l1 k) m key bytes flags l2 → IsOneCall a l m (Update m key bytes flags Done) l2
+    pub added_called : IsInsertion a (locked_with l1 k) m key bytes flags l2 → IsOneCall a l m (Update m key bytes flags Done) l2
     added_called p = record {
-      seen = saw_as a l (sighted l1 k) (Update m key bytes flags Done) l2.seen (ap (λ (q : Known). q.cpu) filled_is) (ap (λ (q : Known). q.seen) filled_is) p.seen;
+      seen = saw_as a l (locked_with l1 k) (Update m key bytes flags Done) l2.seen (ap (λ (q : Known). q.cpu) filled_is) (ap (λ (q : Known). q.seen) filled_is) p.seen;
       rests = record {
         fresh = ap (λ (q : Known). q.fresh) p.after;
         locks = ap (λ (q : Known). q.locks) p.after;
         used = ap (λ (q : Known). (limbo_at q.limbo m).used) p.after ∙ (ap (λ (q : Known). (limbo_at q.limbo m).used) filled_is ∙ used);
       };
       cpu = ap (λ (q : Known). q.cpu) p.after ∙ ap (λ (q : Known). q.cpu) filled_is;
-      readings = ap (λ (q : Known). q.readings) p.after ∙ ap (λ (q : Known). q.readings) filled_is;
       size = ap (λ (q : Known). length q.limbo) p.after ∙ ap (λ (q : Known). length q.limbo) filled_is;
       others = λ n ne. ap (λ (q : Known). limbo_at q.limbo n) p.after ∙ ap (λ (q : Known). limbo_at q.limbo n) filled_is;
     }
 
-    pub added_limbo : IsInsertion a (sighted l1 k) m key bytes flags l2 → l2.limbo ≡ l.limbo
+    pub added_limbo : IsInsertion a (locked_with l1 k) m key bytes flags l2 → l2.limbo ≡ l.limbo
     added_limbo p = ap (λ (q : Known). q.limbo) p.after ∙ ap (λ (q : Known). q.limbo) filled_is
 
-    module _ (r : MapAnswer) (p : Refusal a (sighted l1 k) m key bytes flags r l2) where
+    module _ (r : MapAnswer) (p : Refusal a (locked_with l1 k) m key bytes flags r l2) where
       refused_fresh : l2.fresh ≡ whole ∷ []
       refused_fresh = ap (λ (q : Known). q.fresh) p.after ∙ ap (λ (q : Known). q.fresh) filled_is
 
@@ -99,19 +97,18 @@ module _ (a : About) (l : Known) (m e : ℕ) (new : HoldsNew l m e) (key bytes :
 
       pub refused_called : (l3 : Known) (j : Sight) → l3 ≡ sighted (record l2 { fresh = tail_of l2.fresh }) j → IsOneCall a l m (Update m key bytes flags r) l3
       refused_called l3 j given = subst (IsOneCall a l m (Update m key bytes flags r)) (sym given) (record {
-        seen = saw_as a l (sighted l1 k) (Update m key bytes flags r) l2.seen (ap (λ (q : Known). q.cpu) filled_is) (ap (λ (q : Known). q.seen) filled_is) p.seen;
+        seen = saw_as a l (locked_with l1 k) (Update m key bytes flags r) l2.seen (ap (λ (q : Known). q.cpu) filled_is) (ap (λ (q : Known). q.seen) filled_is) p.seen;
         rests = record {
           fresh = ap tail_of refused_fresh;
           locks = ap (λ (q : Known). q.locks) p.after;
           used = ap (λ (q : Known). (limbo_at q.limbo m).used) p.after ∙ (ap (λ (q : Known). (limbo_at q.limbo m).used) filled_is ∙ used);
         };
         cpu = ap (λ (q : Known). q.cpu) p.after ∙ ap (λ (q : Known). q.cpu) filled_is;
-        readings = ap (λ (q : Known). q.readings) p.after ∙ ap (λ (q : Known). q.readings) filled_is;
         size = ap (λ (q : Known). length q.limbo) p.after ∙ ap (λ (q : Known). length q.limbo) filled_is;
         others = λ n ne. ap (λ (q : Known). limbo_at q.limbo n) p.after ∙ ap (λ (q : Known). limbo_at q.limbo n) filled_is;
       })
 
-    module _ (old : ℕ) (p : IsReplacement a (sighted l1 k) m key bytes flags old l2) where
+    module _ (old : ℕ) (p : IsReplacement a (locked_with l1 k) m key bytes flags old l2) where
       pub over_limbo : l2.limbo ≡ with_gone l m old
       over_limbo = ap (λ (q : Known). q.limbo) p.after ∙ ap (λ (q : Known). with_gone q m old) filled_is
 
@@ -130,14 +127,13 @@ module _ (a : About) (l : Known) (m e : ℕ) (new : HoldsNew l m e) (key bytes :
           let x : Limbo = record (limbo_at l2.limbo m) { used = tail_of (limbo_at l2.limbo m).used; young = old ∷ (limbo_at l2.limbo m).young } in
           let room2 : m < length l2.limbo = subst (λ (i : ℕ). m < i) (sym size_is) room in
           subst (IsOneCall a l m (Update m key bytes flags Done)) (sym retired) (record {
-            seen = saw_as a l (sighted l1 k) (Update m key bytes flags Done) l2.seen (ap (λ (q : Known). q.cpu) filled_is) (ap (λ (q : Known). q.seen) filled_is) p.seen;
+            seen = saw_as a l (locked_with l1 k) (Update m key bytes flags Done) l2.seen (ap (λ (q : Known). q.cpu) filled_is) (ap (λ (q : Known). q.seen) filled_is) p.seen;
             rests = record {
               fresh = ap (λ (q : Known). q.fresh) p.after;
               locks = ap (λ (q : Known). q.locks) p.after;
               used = ap (λ (z : Limbo). z.used) (at_set l2 m x room2) ∙ ap tail_of over_used;
             };
             cpu = ap (λ (q : Known). q.cpu) p.after ∙ ap (λ (q : Known). q.cpu) filled_is;
-            readings = ap (λ (q : Known). q.readings) p.after ∙ ap (λ (q : Known). q.readings) filled_is;
             size = length-set l2.limbo m x ∙ size_is;
             others = λ n ne. get_or-set_other l2.limbo m n x no_limbo ne
                 ∙ (ap (λ (ls : List Limbo). limbo_at ls n) over_limbo ∙ get_or-set_other l.limbo m n (record (limbo_at l.limbo m) { used = old ∷ (limbo_at l.limbo m).used }) no_limbo ne);

@@ -12,7 +12,7 @@ use Rattle.bpf_shared.specs.declared.events.MapAnswer.{MapAnswer}
 use Rattle.bpf_shared.specs.declared.events.MapAnswer.TheVariants.{Done, Invalid, Busy, Exists, Absent, Full, NoMemory}
 use Rattle.hop_words.specs.declared.known.Lock.{Lock}
 use Rattle.hop_words.specs.Content.{IsShare}
-use Rattle.hop_words.specs.Ghost.{segment_in, shape_at}
+use Rattle.hop_words.specs.Ghost.{shape_at, lock_home}
 use Rattle.hop_words.specs.Rule.{image, numbered}
 use Rattle.hop_words.specs.Kinds.{IsKeyAbsent, LeadsTo, Answers, ShowsShortage, SawAllTaken}
 use Rattle.hop_words.specs.Locking.{lock_of}
@@ -67,7 +67,7 @@ module _ (x : Locked) (key bytes : List ℕ) (flags : ℕ) (c : LockShows x.abou
 
   -- where it holds of each share that the words can show
   answers : (r : MapAnswer) → r ≢ Done → ShowsShortage x.about x.known k (Update x.map key bytes flags r)
-      → ((s : Plain) (before : List ℕ → Option ℕ) → IsShare x.about.seed (shape_at x.about k.map) (segment_in x.about k.map) (image x.about k.first) k.map k.segment before
+      → ((s : Plain) (before : List ℕ → Option ℕ) → IsShare x.about.seed (shape_at x.about k.map) (lock_home x.about k) (image x.about k.first) k.map k.segment before
       → is_some (get (s.maps x.map) key) ≡ is_some (before key) → MayRefuse s x.map (shape_at x.about x.map) key flags r)
       → Ready x.about x.known x.map x.segment → Answers x.about x.known k (Update x.map key bytes flags r)
   answers r undone short may ready =

@@ -14,7 +14,7 @@ use Rattle.hop_words.specs.declared.known.Fresh.{Fresh}
 use Rattle.hop_words.specs.declared.known.Limbo.{Limbo}
 use Rattle.hop_words.specs.declared.known.Sight.{Sight}
 use Rattle.hop_layout.specs.declared.place.Place.TheVariants.{RunCount}
-use Rattle.hop_words.specs.Sights.{IsLook, LeavesLocks, LeavesElements, IsTakenSince, look, lock_taken, sighted}
+use Rattle.hop_words.specs.Sights.{IsLook, LeavesLocks, LeavesElements, IsTakenSince, look, lock_taken}
 use Rattle.hop_words.specs.Ghost.{shape_at, limbo_at, no_limbo, Each}
 use Rattle.hop_words.specs.Shortage.{done_in}
 use Rattle.hop_words.specs.Kinds.{TakesEffect, SawAllTaken, LocksSegment, holding, retiring, with_gone}
@@ -26,8 +26,10 @@ use Rattle.hop_arena.specs.Claiming.{Sees, IsSeenTaken, Misses, Claims}
 use Rattle.hop_arena.specs.declared.element.Element.{Element}
 use Rattle.hop_epoch.specs.Batch.{Keeps, SeesRunning}
 use Rattle.hop_epoch.proofs.Batching.{at_set, keeps_then}
+use Rattle.hop_map.specs.Private.Locks.{locked_with}
 use Rattle.hop_map.specs.Private.Removals.{Dropped, Kept}
 use Rattle.hop_map.specs.Call.{IsBetweenCalls, IsOneCall, SearchesInVain, IsShortage}
+use Rattle.hop_layout.specs.Layout.{gained}
 
 -- ---- the event, seen from before
 pub saw_as : (a : About) (l l1 : Known) (ev : Event) (s : List Entry) → l1.cpu ≡ l.cpu → l1.seen ≡ l.seen → TakesEffect a l1 ev s → TakesEffect a l ev s
@@ -127,7 +129,7 @@ pub kept_runs : (m : ℕ) (l l1 : Known) → Keeps m l l1 → in_run (events_of 
 kept_runs m l l1 k runs = (λ j. in_run (events_of (k.cpu j) (k.seen j))) ∙ runs
 
 -- ---- the answer
-pub lacks_of : (a : About) (l : Known) (m : ℕ) (r : MapAnswer) (l2 : Known) → (r ≡ Busy → 2 ^ 56 - 1 ≤ a.version + done_in m l2.seen) → (r ≡ NoMemory → SearchesInVain a l m l2) → IsShortage a l m r l2
+pub lacks_of : (a : About) (l : Known) (m : ℕ) (r : MapAnswer) (l2 : Known) → (r ≡ Busy → 2 ^ 56 - 1 ≤ a.version + gained (shape_at a m) + done_in m l2.seen) → (r ≡ NoMemory → SearchesInVain a l m l2) → IsShortage a l m r l2
 lacks_of a l m Done l2 worn none = tt
 lacks_of a l m Invalid l2 worn none = tt
 lacks_of a l m Busy l2 worn none = worn refl
@@ -139,21 +141,20 @@ lacks_of a l m NoMemory l2 worn none = none refl
 pub key_at_map : (a : About) (m : ℕ) (key : List ℕ) → IsKeyOf a.shape.maps m key → (m < length a.shape.maps) × (length key ≡ (shape_at a m).key)
 key_at_map a m key p = let t = map_of a.shape m p.0 p.1 in (t.0, p.2 ∙ ap (λ (g : MapShape). g.key) (sym t.1))
 
-pub kept_called : (a : About) (l : Known) (k : Sight) (m : ℕ) (key : List ℕ) (r : MapAnswer) (l2 : Known) → IsBetweenCalls l m → Kept a (sighted l k) m key r l2 → IsOneCall a l m (Delete m key r) l2
+pub kept_called : (a : About) (l : Known) (k : Sight) (m : ℕ) (key : List ℕ) (r : MapAnswer) (l2 : Known) → IsBetweenCalls l m → Kept a (locked_with l k) m key r l2 → IsOneCall a l m (Delete m key r) l2
 kept_called a l k m key r l2 rests p = record {
-  seen = saw_as a l (sighted l k) (Delete m key r) l2.seen refl refl p.seen;
+  seen = saw_as a l (locked_with l k) (Delete m key r) l2.seen refl refl p.seen;
   rests = record {
     fresh = ap (λ (q : Known). q.fresh) p.after ∙ rests.fresh;
     locks = ap (λ (q : Known). q.locks) p.after;
     used = ap (λ (q : Known). (limbo_at q.limbo m).used) p.after ∙ rests.used;
   };
   cpu = ap (λ (q : Known). q.cpu) p.after;
-  readings = ap (λ (q : Known). q.readings) p.after;
   size = ap (λ (q : Known). length q.limbo) p.after;
   others = λ n ne. ap (λ (q : Known). limbo_at q.limbo n) p.after;
 }
 
-module _ (a : About) (l : Known) (k : Sight) (m : ℕ) (key : List ℕ) (old : ℕ) (l2 : Known) (rests : IsBetweenCalls l m) (room : m < length l.limbo) (p : Dropped a (sighted l k) m key old l2) where
+module _ (a : About) (l : Known) (k : Sight) (m : ℕ) (key : List ℕ) (old : ℕ) (l2 : Known) (rests : IsBetweenCalls l m) (room : m < length l.limbo) (p : Dropped a (locked_with l k) m key old l2) where
   pub dropped_limbo : l2.limbo ≡ with_gone l m old
   dropped_limbo = ap (λ (q : Known). q.limbo) p.after
 
@@ -172,14 +173,13 @@ module _ (a : About) (l : Known) (k : Sight) (m : ℕ) (key : List ℕ) (old : �
       let x : Limbo = record (limbo_at l2.limbo m) { used = tail_of (limbo_at l2.limbo m).used; young = old ∷ (limbo_at l2.limbo m).young } in
       let room2 : m < length l2.limbo = subst (λ (i : ℕ). m < i) (sym dropped_size) room in
       subst (IsOneCall a l m (Delete m key Done)) (sym retired) (record {
-        seen = saw_as a l (sighted l k) (Delete m key Done) l2.seen refl refl p.seen;
+        seen = saw_as a l (locked_with l k) (Delete m key Done) l2.seen refl refl p.seen;
         rests = record {
           fresh = ap (λ (q : Known). q.fresh) p.after ∙ rests.fresh;
           locks = ap (λ (q : Known). q.locks) p.after;
           used = ap (λ (z : Limbo). z.used) (at_set l2 m x room2) ∙ ap tail_of dropped_used;
         };
         cpu = ap (λ (q : Known). q.cpu) p.after;
-        readings = ap (λ (q : Known). q.readings) p.after;
         size = length-set l2.limbo m x ∙ dropped_size;
         others = λ n ne. get_or-set_other l2.limbo m n x no_limbo ne
             ∙ (ap (λ (ls : List Limbo). limbo_at ls n) dropped_limbo ∙ get_or-set_other l.limbo m n (record (limbo_at l.limbo m) { used = old ∷ (limbo_at l.limbo m).used }) no_limbo ne);

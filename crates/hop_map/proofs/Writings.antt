@@ -1,5 +1,5 @@
 -- What a write leaves of the segment as it is seen.
-use Rattle.std.proofs.Common.{◌≡◌, ℕ, suc, zero, ◌+◌, ◌<◌, ◌^◌, ◌%◌, nat_lt, Bool, true, false, ◌==◌, if◌then◌else◌, Option, Some, None, refl, ap, ◌∙◌, arith, eq-eqb}
+use Rattle.std.proofs.Common.{◌≡◌, ℕ, suc, zero, ◌+◌, ◌<◌, ◌^◌, ◌%◌, nat_lt, Bool, true, false, ◌==◌, if◌then◌else◌, Option, Some, None, refl, ap, ◌∙◌, arith, eq-eqb, ◌≢◌, sym, subst}
 use Rattle.std.specs.Prelude.{IfSome}
 use Rattle.std.proofs.lemmas.Bool.Decides.{nat_tests}
 use Rattle.hop_layout.specs.declared.place.Place.{Place}
@@ -9,9 +9,15 @@ use Rattle.hop_words.specs.Content.{place_words, item}
 use Rattle.hop_layout.proofs.Layouts.{wrote}
 use Rattle.hop_seg.specs.Words.{Words as SegWords, with_hop, with_slot, with_head, with_next, replace_at}
 use Rattle.hop_words.specs.Locking.{lock_of}
-use Rattle.hop_map.specs.LockedSegment.{Locked, Ready, knows}
+use Rattle.hop_map.specs.LockedSegment.{Locked, Ready, knows, Stays}
 use Rattle.hop_map.specs.Private.LockedSegment.{segment_view, seen_words, written}
 use Rattle.hop_epoch.specs.Batch.{link_word}
+use Rattle.hop_words.specs.Depths.{stamp_depth}
+use Rattle.hop_layout.proofs.Births.{some_power}
+use Rattle.hop_words.proofs.Locks.{put_else}
+use Rattle.hop_words.specs.Ghost.{child}
+use Rattle.hop_seg.specs.Split.{Front}
+use Rattle.hop_map.specs.LockedSegment.{front_view, child_front, StaysBeside}
 
 -- ---- items
 pub item_word : (o : Option ℕ) → IfSome o (λ e. e < 2 ^ 32) → item (link_word o) ≡ o
@@ -32,7 +38,7 @@ module _ (x : Locked) (r : Ready x.about x.known x.map x.segment) where
   w = mem x.about.shape (lock_of x.known).copy
 
   seen : (Place → ℕ) → SegWords
-  seen v = segment_view x.about x.map x.segment (knows x.known x.map) (place_words v)
+  seen v = segment_view x.about x.map x.segment (stamp_depth (lock_of x.known).stamp) (knows x.known x.map) (place_words v)
 
   after : (p : Place) (n : ℕ) → is_place x.about.shape p ≡ true → seen_words (written x p n) ≡ seen (put_at w p n)
   unfolding seen w
@@ -69,3 +75,48 @@ module _ (x : Locked) (r : Ready x.about x.known x.map x.segment) where
     where
       each : (d : ℕ) → item (put_at w (Link x.map e) (link_word o) (Link x.map d)) ≡ replace_at (λ d. item (w (Link x.map d))) e o d
       each d = rw (eq-eqb x.map x.map refl) (choose item (d == e) (link_word o) (w (Link x.map d)) ∙ ap (λ (i : Option ℕ). if d == e then i else item (w (Link x.map d))) (item_word o small))
+
+-- ---- the words of the segment that would be born here
+abbrev c_of : Locked → ℕ
+c_of x = child (lock_of x.known)
+
+abbrev pub segment_at : Place → ℕ
+segment_at (Head m s) = s
+segment_at (Hop m s b) = s
+segment_at (Slot m s p) = s
+segment_at p = 0
+
+module _ (x : Locked) (r : Ready x.about x.known x.map x.segment) (p : Place) (n : ℕ) (there : is_place x.about.shape p ≡ true) where
+  wc : Place → ℕ
+  wc = mem x.about.shape (lock_of x.known).copy
+
+  front : (Place → ℕ) → Front
+  front v = front_view x.map (c_of x) (place_words v)
+
+  now : child_front (written x p n) ≡ front (put_at wc p n)
+  unfolding front wc
+  now = ap front (wrote x.about.shape (lock_of x.known).copy p n r.sized there)
+
+  pub front_kept : ((j : ℕ) → Hop x.map (c_of x) j ≢ p) → ((j : ℕ) → Slot x.map (c_of x) j ≢ p) → Head x.map (c_of x) ≢ p → (y : Locked) → y ≡ written x p n → child_front y ≡ child_front x
+  unfolding front wc
+  front_kept hop slot head y is = ap child_front is ∙ (now ∙ (λ j. record {
+    hop = λ b. put_else wc p (Hop x.map (c_of x) b) n (hop b) j % 2 ^ 32;
+    slot = λ q. item (put_else wc p (Slot x.map (c_of x) q) n (slot q) j);
+    head = item (put_else wc p (Head x.map (c_of x)) n head j);
+  }))
+
+  apart : c_of x ≢ (lock_of x.known).segment
+  apart e = let o = some_power (stamp_depth (lock_of x.known).stamp) in omega arith
+
+  -- a write of a word of the segment itself
+  pub own_kept : segment_at p ≡ x.segment → (y : Locked) → y ≡ written x p n → child_front y ≡ child_front x
+  own_kept own = front_kept
+      (λ j e. apart (ap segment_at e ∙ (own ∙ sym r.segment)))
+      (λ j e. apart (ap segment_at e ∙ (own ∙ sym r.segment)))
+      (λ e. apart (ap segment_at e ∙ (own ∙ sym r.segment)))
+
+pub stays_by : (x : Locked) (p : Place) (n : ℕ) (y : Locked) → child_front y ≡ child_front x → y ≡ written x p n → Stays x y
+stays_by x p n y kept is = subst (λ (z : Locked). child_front z ≡ child_front x → Stays x z) (sym is) (λ k. record { table = refl; about = refl; map = refl; segment = refl; known = refl; lock = refl; child = k }) kept
+
+pub stays_beside_by : (x : Locked) (p : Place) (n : ℕ) (y : Locked) → y ≡ written x p n → StaysBeside x y
+stays_beside_by x p n y is = subst (StaysBeside x) (sym is) (record { table = refl; about = refl; map = refl; segment = refl; known = refl; lock = refl })

@@ -16,6 +16,7 @@ use Rattle.hop_arena.specs.declared.arena.Arena.{Arena}
 use Rattle.hop_arena.specs.Claiming.{IsArena, IsSeenTaken}
 use Rattle.hop_epoch.specs.declared.batches.Batches.{Batches}
 use Rattle.hop_epoch.specs.Batch.{Tracks}
+use Rattle.hop_layout.specs.Layout.{gained}
 
 -- the arena is the map's
 abbrev pub Searches : About → ℕ → Arena → Type 0
@@ -36,7 +37,6 @@ pub record IsOneCall (a : About) (l : Known) (m : ℕ) (event : Event) (l' : Kno
   pub seen : TakesEffect a l event l'.seen
   pub rests : IsBetweenCalls l' m
   pub cpu : l'.cpu ≡ l.cpu
-  pub readings : l'.readings ≡ l.readings
   pub size : length l'.limbo ≡ length l.limbo
   pub others : (n : ℕ) → n ≢ m → limbo_at l'.limbo n ≡ limbo_at l.limbo n
 
@@ -68,6 +68,6 @@ IsReclaimed m before l' =
 -- Busy only at a segment's last version, which so many changes of the map have paid for; NoMemory
 -- only where the call looked for a free element in vain
 abbrev pub IsShortage : About → Known → ℕ → MapAnswer → Known → Type 0
-IsShortage a l m Busy l' = 2 ^ 56 - 1 ≤ a.version + done_in m l'.seen
+IsShortage a l m Busy l' = 2 ^ 56 - 1 ≤ a.version + gained (shape_at a m) + done_in m l'.seen
 IsShortage a l m NoMemory l' = SearchesInVain a l m l'
 IsShortage a l m answer l' = Unit {0}

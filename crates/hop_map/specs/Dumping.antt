@@ -1,5 +1,5 @@
 -- The pairs of a map, as the words of a store at rest have them.
-use Rattle.std.specs.Prelude.{◌≡◌, ◌⊎◌, ℕ, [], ◌∷◌}
+use Rattle.std.specs.Prelude.{◌≡◌, []}
 use Rattle.bpf_shared.specs.Store.{Plain}
 use Rattle.hop_words.specs.Seats.{view, KeepsWholeHistory}
 use Rattle.hop_words.specs.Closing.{Ending}

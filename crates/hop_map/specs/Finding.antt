@@ -1,5 +1,5 @@
 -- Lookups, from what a CPU knows before to what it knows after.
-use Rattle.std.specs.Prelude.{◌≡◌, ◌≢◌, ◌⊎◌, ℕ, ◌%◌, ◌<◌, true, List, [], ◌∷◌, ◌++◌, Option, Some, None, length}
+use Rattle.std.specs.Prelude.{◌≡◌, ◌≢◌, ◌⊎◌, ℕ, ◌%◌, ◌<◌, true, false, List, [], ◌∷◌, ◌++◌, Option, Some, None, length}
 use Rattle.bpf_shared.specs.declared.events.Event.TheVariants.{Lookup}
 use Rattle.bpf_shared.specs.declared.events.Span.{Span}
 use Rattle.bpf_shared.specs.History.{events_of}
@@ -9,8 +9,10 @@ use Rattle.hop_map.specs.declared.once.Once.{Once}
 use Rattle.hop_map.specs.declared.once.Once.TheVariants.{Found, Absent, Disturbed}
 use Rattle.hop_words.specs.declared.known.Sight.{Sight}
 use Rattle.hop_layout.specs.declared.place.Place.TheVariants.{Stamp}
+use Rattle.hop_layout.specs.Home.{home_of}
+use Rattle.hop_layout.specs.Layout.{power, depth}
 use Rattle.hop_words.specs.Sights.{look, lock_taken}
-use Rattle.hop_words.specs.Ghost.{shape_at, segment_in, Each}
+use Rattle.hop_words.specs.Ghost.{shape_at, Each}
 use Rattle.hop_words.specs.Kinds.{TakesEffect}
 use Rattle.bpf_shared.specs.Own.{in_run}
 
@@ -28,6 +30,16 @@ pub record Looked (a : About) (l : Known) (m : ℕ) (key : List ℕ) (found : Op
   pub seen : TakesEffect a l (Lookup m key found) l'.seen
   pub after : l' ≡ record l { seen = l'.seen; readings = l'.readings; tally = l'.tally }
 
+-- on its way to the segment of a home a reading looks at the stamps of others; in a map that
+-- doesn't grow at none, and the segment is the home's own at the map's depth
+pub record IsWay (a : About) (m home s : ℕ) (way : List Sight) : Type 0 where
+  pub looks : Each (λ (x : Sight). (t : ℕ) × (n : ℕ) × (x ≡ look (Stamp m t) n)) way
+  pub at_once : (shape_at a m).grow ≡ false
+      → (way ≡ []) × (home % power (depth (shape_at a m)) ≡ s)
+
+abbrev pub home_in : About → ℕ → List ℕ → ℕ
+home_in a m key = home_of key a.seed (shape_at a m).mask
+
 -- a reading of the segment that was disturbed, as it was noted: the first stamp was locked, or the
 -- last is another
 abbrev pub IsDisturbed : ℕ → ℕ → ℕ → ℕ → List Sight → Type 0
@@ -40,17 +52,24 @@ abbrev pub IsUndisturbed : ℕ → ℕ → List Sight → Type 0
 IsUndisturbed m s sights = (n : ℕ) × (n % 2 ≡ 0)
     × (sights ≡ look (Stamp m s) n ∷ look (Stamp m s) n ∷ [])
 
--- a disturbed reading, and nothing else came of it
+-- a disturbed reading, of the key's segment or of one on the way there, and nothing else came of it
 pub record Disturbs (a : About) (l : Known) (m : ℕ) (key : List ℕ) (first last : ℕ)
     (l' : Known) : Type 0 where
+  pub segment : ℕ
+  pub way : List Sight
+  pub is_way : IsWay a m (home_in a m key) segment way
   pub sights : List Sight
-  pub disturbed : IsDisturbed m (segment_in a m key) first last sights
-  pub after : l' ≡ record l { readings = l'.readings; tally = sights ++ l.tally }
+  pub disturbed : IsDisturbed m segment first last sights
+  pub after : l' ≡ record l { readings = l'.readings; tally = sights ++ (way ++ l.tally) }
 
 -- one undisturbed reading was noted, and nothing else
-abbrev pub ReadsOnce : About → Known → ℕ → List ℕ → Known → Type 0
-ReadsOnce a l m key l' = (sights : List Sight) × IsUndisturbed m (segment_in a m key) sights
-    × (l'.tally ≡ sights ++ l.tally)
+pub record ReadsOnce (a : About) (l : Known) (m : ℕ) (key : List ℕ) (l' : Known) : Type 0 where
+  pub segment : ℕ
+  pub way : List Sight
+  pub is_way : IsWay a m (home_in a m key) segment way
+  pub sights : List Sight
+  pub undisturbed : IsUndisturbed m segment sights
+  pub tally : l'.tally ≡ sights ++ (way ++ l.tally)
 
 -- how a lookup without a lock ends
 abbrev pub OnceEnds : About → Known → ℕ → List ℕ → Once → Known → Type 0
@@ -63,17 +82,33 @@ abbrev pub all_sights : List (List Sight) → List Sight
 all_sights [] = []
 all_sights (x ∷ xs) = x ++ all_sights xs
 
+-- a segment that may be the key's: in a map that doesn't grow the only one
+abbrev pub MayOwn : About → ℕ → List ℕ → ℕ → Type 0
+MayOwn a m key s = (shape_at a m).grow ≡ false
+    → home_in a m key % power (depth (shape_at a m)) ≡ s
+
 -- the lock of the key's segment was taken, and nothing else was noted
 abbrev pub TakesLock : About → Known → ℕ → List ℕ → Known → Type 0
-TakesLock a l m key l' = (n : ℕ) × (l'.tally ≡ lock_taken m (segment_in a m key) n ∷ l.tally)
+TakesLock a l m key l' = (s : ℕ) × (n : ℕ) × MayOwn a m key s
+    × (l'.tally ≡ lock_taken m s n ∷ l.tally)
+
+-- what one reading noted that was disturbed, and what one that was not
+abbrev pub IsDisturbedTry : About → ℕ → List ℕ → List Sight → Type 0
+IsDisturbedTry a m key x = (s : ℕ) × (way : List Sight) × (sights : List Sight) × (first : ℕ)
+    × (last : ℕ) × IsWay a m (home_in a m key) s way × IsDisturbed m s first last sights
+    × (x ≡ sights ++ way)
+
+abbrev pub IsUndisturbedTry : About → ℕ → List ℕ → List Sight → Type 0
+IsUndisturbedTry a m key x = (s : ℕ) × (way : List Sight) × (sights : List Sight)
+    × IsWay a m (home_in a m key) s way × IsUndisturbed m s sights × (x ≡ sights ++ way)
 
 -- what a lookup may note, the last first: readings that were disturbed, and then one that wasn't;
 -- or eight that were disturbed, and only then the lock
-pub record IsSparing (m s : ℕ) (sights : List Sight) : Type 0 where
+pub record IsSparing (a : About) (m : ℕ) (key : List ℕ) (sights : List Sight) : Type 0 where
   pub tries : List (List Sight)
-  pub disturbed : Each (λ (x : List Sight). (first : ℕ) × (last : ℕ)
-      × IsDisturbed m s first last x) tries
+  pub disturbed : Each (IsDisturbedTry a m key) tries
   pub last : List Sight
   pub all : sights ≡ last ++ all_sights tries
-  pub ends : IsUndisturbed m s last
-      ⊎ ((length tries ≡ 8) × ((n : ℕ) × (last ≡ lock_taken m s n ∷ [])))
+  pub ends : IsUndisturbedTry a m key last
+      ⊎ ((length tries ≡ 8)
+      × ((s : ℕ) × (n : ℕ) × MayOwn a m key s × (last ≡ lock_taken m s n ∷ [])))

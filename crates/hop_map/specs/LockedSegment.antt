@@ -1,5 +1,5 @@
 -- What the code of one segment sees of the shared words.
-use Rattle.std.specs.Prelude.{◌≡◌, ℕ, ◌%◌, ◌^◌, ◌<◌, ◌≤◌, Bool, true, false, ◌||◌, ◌&&◌, ◌==◌, List, [], ◌∷◌, length}
+use Rattle.std.specs.Prelude.{◌≡◌, ℕ, ◌%◌, ◌^◌, ◌≤◌, Bool, true, false, ◌||◌, ◌&&◌, ◌==◌, List, [], ◌∷◌, length}
 use Rattle.atomic_table.specs.Seated.{TableId}
 use Rattle.bpf_shared.specs.Shape.{elements}
 use Rattle.hop_layout.specs.declared.about.About.{About}
@@ -8,12 +8,14 @@ use Rattle.hop_words.specs.declared.known.Fresh.{Fresh}
 use Rattle.hop_words.specs.declared.known.Change.{Change}
 use Rattle.hop_words.specs.declared.known.Change.TheVariants.{Nothing, Puts, Drops}
 use Rattle.hop_layout.specs.Layout.{size}
-use Rattle.hop_words.specs.Content.{HasKey}
-use Rattle.hop_words.specs.Ghost.{shape_at, IsSegment}
+use Rattle.hop_words.specs.Content.{MapWords, item, HasKey}
+use Rattle.hop_words.specs.Ghost.{shape_at, IsSegment, child}
 use Rattle.hop_words.specs.Rule.{image}
 use Rattle.hop_words.specs.Kinds.{has, MayLink}
 use Rattle.hop_layout.specs.Home.{home_of}
 use Rattle.hop_words.specs.Locking.{lock_of}
+use Rattle.hop_words.specs.Depths.{stamp_depth, home_by}
+use Rattle.hop_seg.specs.Split.{Front}
 
 -- the home of a key
 abbrev pub home : ℕ → ℕ → List ℕ → ℕ
@@ -53,7 +55,28 @@ pub record Locked : Type 0 where
   pub map : ℕ
   pub segment : ℕ
 
+-- the words of the segment that would be born here, beside another's
+abbrev pub front_view : ℕ → ℕ → MapWords → Front
+front_view m c y = record {
+  hop = λ b. y.hop m c b % 2 ^ 32;
+  slot = λ p. item (y.slot m c p);
+  head = item (y.head m c);
+}
+
+abbrev pub child_front : Locked → Front
+child_front x = front_view x.map (child (lock_of x.known)) (image x.about (lock_of x.known).copy)
+
 -- all but the words: the lane's other fields, and what its lock says beside the copy
+pub record StaysBeside (x y : Locked) : Type 0 where
+  pub table : y.table ≡ x.table
+  pub about : y.about ≡ x.about
+  pub map : y.map ≡ x.map
+  pub segment : y.segment ≡ x.segment
+  pub known : y.known ≡ record x.known { locks = y.known.locks }
+  pub lock : lock_of y.known ≡
+      record (lock_of x.known) { copy = (lock_of y.known).copy; dirty = (lock_of y.known).dirty }
+
+-- and the words of the segment that would be born here
 pub record Stays (x y : Locked) : Type 0 where
   pub table : y.table ≡ x.table
   pub about : y.about ≡ x.about
@@ -62,6 +85,7 @@ pub record Stays (x y : Locked) : Type 0 where
   pub known : y.known ≡ record x.known { locks = y.known.locks }
   pub lock : lock_of y.known ≡
       record (lock_of x.known) { copy = (lock_of y.known).copy; dirty = (lock_of y.known).dirty }
+  pub child : child_front y ≡ child_front x
 
 -- the parts fit
 pub record Fits (id : TableId) (a : About) (standing : TableId) (l : Known)
@@ -71,3 +95,7 @@ pub record Fits (id : TableId) (a : About) (standing : TableId) (l : Known)
   pub small : key_size ≤ 64
   pub counted : count ≡ elements (shape_at a m)
   pub ready : Ready a l m s
+
+-- the segment that a key would be at home in, by the stamp that was locked
+abbrev pub locked_home : About → Known → ℕ → List ℕ → ℕ
+locked_home a l m key = home_by a m (stamp_depth (lock_of l).stamp) key

@@ -3,18 +3,18 @@ ghost use Rattle.std.specs.Prelude.{ℕ, ◌≡◌, ◌<◌, true, [], length};
 ghost use Rattle.bpf_shared.specs.Shape.{IsKeyOf};
 ghost use Rattle.bpf_shared.specs.History.{events_of};
 ghost use Rattle.bpf_shared.specs.declared.events.Event.TheVariants.{Delete};
-ghost use Rattle.hop_layout.specs.Home.{segment_of};
 ghost use Rattle.hop_words.specs.Ghost.{shape_at};
 ghost use Rattle.bpf_shared.specs.Own.{in_run};
+ghost use Rattle.hop_map.specs.Finding.{MayOwn};
 ghost use Rattle.hop_map.specs.Private.Locks.{with_lock};
 ghost use Rattle.hop_map.specs.Noting.{BusyFirst, CallNotes};
-ghost use Rattle.hop_map.specs.Private.Removals.{NamesKey, DeleteEnds, answer_to};
+ghost use Rattle.hop_map.specs.Private.Removals.{NamesKeyOf, DeleteEnds, answer_to};
 ghost use Rattle.hop_map.specs.Call.{IsBetweenCalls, IsOneCall, IsShortage, AreBatchesOf};
 
 use crate::dropping::{Deletion, delete_key};
 use crate::homing::homing;
 use crate::locked::LockedWords;
-use crate::waiting::lock_when_free;
+use crate::waiting::lock_home;
 use bpf_shared::MapAnswer;
 use hop_epoch::{Batches, Used};
 use hop_words::{HopTable, Lane};
@@ -30,20 +30,19 @@ fn lock_and_delete<R: Wait>(
 ) -> (Lane, Deletion)
     requires table { lane.table ≡ table.now.id }
     requires map { map < length table.now.about.shape.maps }
-    requires names { NamesKey table.now.about lane.known map
-        (segment_of table.now.about.seed (shape_at table.now.about map) key.now) key.now }
+    requires names { NamesKeyOf table.now.about lane.known map key.now }
     requires empty { lane.known.fresh ≡ [] }
     requires idle { lane.known.locks ≡ [] }
     ensures table { result.0.table ≡ table.now.id }
-    ensures ends { (n : ℕ) × DeleteEnds table.now.about (with_lock lane.known map
-        (segment_of table.now.about.seed (shape_at table.now.about map) key.now) n) map
-        key.now result.1 result.0.known × BusyFirst n (answer_to result.1) }
+    ensures ends { (s : ℕ) × (n : ℕ) × MayOwn table.now.about map key.now s
+        × DeleteEnds table.now.about (with_lock lane.known map s n) map key.now result.1
+        result.0.known × BusyFirst n (answer_to result.1) }
 {
     let mut lane = lane;
     let at = homing(table, map, key);
-    let stamp = lock_when_free(rt, table, &mut lane, map, at.segment);
-    let words = LockedWords::new(table, lane, map, at.segment, at.key_size, at.elements);
-    delete_key(words, stamp, at.home, key)
+    let taken = lock_home(rt, table, &mut lane, map, at.home);
+    let words = LockedWords::new(table, lane, map, taken.segment, at.key_size, at.elements);
+    delete_key(words, taken.stamp, at.home, key)
 }
 
 /// The key is to leave the map (bpf-helpers(7)). Its element goes to the CPU's young batch, since a

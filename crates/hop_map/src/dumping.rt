@@ -5,14 +5,16 @@ ghost use Rattle.bpf_shared.specs.Shape.{IsMapShape};
 ghost use Rattle.bpf_shared.specs.Store.{Plain};
 ghost use Rattle.bpf_shared.specs.Listing.{IsListing, listed};
 ghost use Rattle.hop_words.specs.Content.{item, IsOnList};
+ghost use Rattle.hop_layout.specs.Births.{is_born};
+ghost use Rattle.hop_layout.specs.Layout.{depth};
 ghost use Rattle.hop_words.specs.Ghost.{shape_at, HasElement, IsSegment};
-ghost use Rattle.hop_map.specs.Private.Dumping.{words_in, key_in, value_in, IsReached, IsKeyAmong, AreFound, AddsPairs};
+ghost use Rattle.hop_map.specs.Private.Dumping.{rest_depths, IsBornHere, words_in, key_in, value_in, IsReached, IsKeyAmong, AreFound, AddsPairs};
 ghost use Rattle.hop_map.specs.Dumping.{IsLast};
 
 use crate::closed::Closed;
 use crate::numbers::item;
 use bpf_shared::MapShape;
-use hop_layout::{Place, elements, segments};
+use hop_layout::{Place, depth, elements, segments};
 use hop_words::Rest;
 use std::alloc::{AllocError, Global};
 use std::collections::BTreeMap;
@@ -85,7 +87,7 @@ fn add(
     element: u32,
     pairs: &mut Pairs,
 ) -> Result<(), AllocError>
-    requires inside { IsSegment rest.now.about map segment }
+    requires inside { IsBornHere rest.now map segment }
     requires element { HasElement rest.now.about map element }
     requires reached { IsReached rest.now map segment element }
     ensures adds { OnOk result
@@ -109,7 +111,7 @@ fn add_at(
     place: u32,
     pairs: &mut Pairs,
 ) -> Result<(), AllocError>
-    requires inside { IsSegment rest.now.about map segment }
+    requires inside { IsBornHere rest.now map segment }
     requires place { place < 64 }
     ensures adds { OnOk result
         (AddsPairs rest.now map (listed pairs.old.entries) (listed pairs.new.entries)) }
@@ -136,7 +138,7 @@ fn add_placed(
     segment: u32,
     pairs: &mut Pairs,
 ) -> Result<(), AllocError>
-    requires inside { IsSegment rest.now.about map segment }
+    requires inside { IsBornHere rest.now map segment }
     ensures adds { OnOk result
         (AddsPairs rest.now map (listed pairs.old.entries) (listed pairs.new.entries)) }
     ensures keys { OnOk result ((p i : ℕ) → p < 64 →
@@ -157,7 +159,7 @@ fn add_listed(
     segment: u32,
     pairs: &mut Pairs,
 ) -> Result<(), AllocError>
-    requires inside { IsSegment rest.now.about map segment }
+    requires inside { IsBornHere rest.now map segment }
     ensures adds { OnOk result
         (AddsPairs rest.now map (listed pairs.old.entries) (listed pairs.new.entries)) }
     ensures keys { OnOk result ((i : ℕ) → IsOnList (words_in rest.now) map segment i →
@@ -184,7 +186,7 @@ fn add_segment(
     segment: u32,
     pairs: &mut Pairs,
 ) -> Result<(), AllocError>
-    requires inside { IsSegment rest.now.about map segment }
+    requires inside { IsBornHere rest.now map segment }
     ensures adds { OnOk result
         (AddsPairs rest.now map (listed pairs.old.entries) (listed pairs.new.entries)) }
     ensures keys { OnOk result ((i : ℕ) → IsReached rest.now map segment i →
@@ -195,16 +197,42 @@ fn add_segment(
     Ok(())
 }
 
+// Whether a segment is born, by the stamps of those that it comes from: each is another without its
+// top bit.
+fn is_born(rest: &Rest, map: u8, segment: u32) -> bool
+    requires inside { IsSegment rest.now.about map segment }
+    ensures born { result ≡ is_born (rest_depths rest.now map) (depth (shape_at rest.now.about map))
+        segment }
+{
+    let deepest = depth(shape_of(rest, map).max);
+    let mut at = segment;
+    'bits: for passed in 0..deepest {
+        let bit = deepest - 1 - passed;
+        if at < 1 << bit {
+            continue;
+        }
+        at -= 1 << bit;
+        let stamp = rest.word(Place::Stamp { map, segment: at });
+        if (stamp / 2 % 32) as u32 <= bit {
+            return false;
+        }
+    }
+    at == 0
+}
+
 // The pairs of all elements that the words of a map lead to.
 fn pairs_of(alloc: Global, rest: &Rest, map: u8) -> Result<Pairs, AllocError>
     requires map { map < length rest.now.about.shape.maps }
     ensures found { IfOk result (λ pairs. AreFound rest.now map (listed pairs.entries)) }
-    ensures keys { IfOk result (λ pairs. (s i : ℕ) → IsSegment rest.now.about map s →
+    ensures keys { IfOk result (λ pairs. (s i : ℕ) → IsBornHere rest.now map s →
         IsReached rest.now map s i → IsKeyAmong (key_in rest.now map i) (listed pairs.entries)) }
 {
     let count = segments(&shape_of(rest, map));
     let mut pairs = BTreeMap::new(alloc);
     'segments: for segment in 0..count {
+        if !is_born(rest, map, segment) {
+            continue;
+        }
         add_segment(alloc, rest, map, segment, &mut pairs)?;
     }
     Ok(pairs)

@@ -1,5 +1,6 @@
 //! Lookups.
-ghost use Rattle.std.specs.Prelude.{◌≡◌, ◌<◌, length};
+ghost use Rattle.std.specs.Prelude.{◌≡◌, ◌<◌, true, length, []};
+ghost use Rattle.hop_words.specs.declared.known.Known.{Known};
 ghost use Rattle.bpf_shared.specs.declared.events.Event.TheVariants.{Lookup};
 ghost use Rattle.hop_layout.specs.Home.{home_of};
 ghost use Rattle.hop_words.specs.Ghost.{shape_at};
@@ -7,17 +8,18 @@ ghost use Rattle.hop_words.specs.Kinds.{LookedUp, found_span};
 ghost use Rattle.hop_words.specs.Locking.{lock_of};
 ghost use Rattle.hop_map.specs.Private.UnderLock.{LockShows};
 ghost use Rattle.hop_map.specs.Finding.{AsksForKey, Looked, OnceEnds, TakesLock};
-ghost use Rattle.hop_map.specs.Private.Finding.{AsksHere};
+ghost use Rattle.hop_map.specs.Private.Finding.{AsksHere, Approaching, Walked};
 ghost use Rattle.hop_map.specs.Noting.{CallNotes};
+ghost use Rattle.hop_words.specs.Depths.{stamp_depth};
 
 use crate::homing::{homing, shape_of};
 use crate::locked::LockedWords;
 use crate::once::Once;
 use crate::peeked::PeekedWords;
-use crate::waiting::lock_when_free;
+use crate::waiting::lock_home;
 use bpf_shared::{FIRST_VALUE, MAP_AREA, Span};
 use hop_seg::find;
-use hop_words::{HopTable, Lane};
+use hop_words::{HopTable, Lane, Way, towards};
 use std::sync::Wait;
 
 /// Where the value of an element lies, if there is one.
@@ -42,7 +44,8 @@ pub(crate) fn find_here<'a>(
     key: &[u8],
 ) -> (Lane, Option<u32>)
     requires contents { LockShows words.about words.known words.map words.segment }
-    requires asks { AsksHere words.about words.known words.map words.segment key.now }
+    requires asks { AsksHere words.about words.known words.map words.segment
+        (stamp_depth (lock_of words.known).stamp) key.now }
     requires home { home ≡ home_of key.now words.about.seed (shape_at words.about words.map).mask }
     requires stamp { stamp ≡ (lock_of words.known).stamp }
     ensures table { result.0.table ≡ words.entry.table }
@@ -66,15 +69,75 @@ pub fn find_locked<R: Wait>(
     requires asks { AsksForKey table.now.about lane.known map key.now }
     ensures table { result.0.table ≡ table.now.id }
     ensures found { Looked table.now.about lane.known map key.now result.1 result.0.known }
-    ensures readings { result.0.known.readings ≡ lane.known.readings }
+    ensures readings { result.0.known.readings ≡ [] }
     ensures locked { TakesLock table.now.about lane.known map key.now result.0.known }
 {
     let at = homing(table, map, key);
     let mut lane = lane;
-    let stamp = lock_when_free(rt, table, &mut lane, map, at.segment);
-    let words = LockedWords::new(table, lane, map, at.segment, at.key_size, at.elements);
-    let (lane, found) = find_here(words, stamp, at.home, key);
+    let taken = lock_home(rt, table, &mut lane, map, at.home);
+    let words = LockedWords::new(table, lane, map, taken.segment, at.key_size, at.elements);
+    let (lane, found) = find_here(words, taken.stamp, at.home, key);
     (lane, span_of(table, map, found))
+}
+
+// The depth in a stamp.
+#[inline(always)]
+fn depth_of(stamp: u64) -> u32
+    ensures { result ≡ stamp_depth stamp }
+{
+    (stamp / 2 % 32) as u32
+}
+
+// From a segment on the way of a home that is being read to the one that the home belongs to, which
+// is read then. Answers it and its stamp, or the first on the way whose stamp is locked.
+#[inline(never)]
+fn walk(table: &HopTable, lane: Lane, map: u8, home: u32, way: Way, stamp: u64) -> (Lane, u32, u64)
+    requires table { lane.table ≡ table.now.id }
+    requires map { map < length table.now.about.shape.maps }
+    requires idle { lane.known.locks ≡ [] }
+    requires grows { (shape_at table.now.about map).grow ≡ true }
+    requires begins { (l : Known) × Approaching table.now.about l map home way stamp [] lane.known }
+    ensures table { result.0.table ≡ table.now.id }
+    ensures walked { (l : Known) → Approaching table.now.about l map home way stamp [] lane.known
+        → Walked table.now.about l map home result.1 result.2 result.0.known }
+{
+    let mut lane = lane;
+    let mut way = way;
+    let mut stamp = stamp;
+    'way: for _level in 0..11u32 {
+        let Some(next) = towards(home, way, depth_of(stamp)) else {
+            return (lane, way.segment, stamp);
+        };
+        way = next;
+        stamp = lane.see_stamp(table, map, way.segment);
+        if stamp % 2 == 1 {
+            return (lane, way.segment, stamp);
+        }
+    }
+    unreachable!()
+}
+
+// Goes to the segment that a home belongs to, without a lock, and begins to read it. Answers it and
+// its stamp, or the first segment on the way whose stamp is locked. In a map that doesn't grow it
+// is the first.
+#[inline(always)]
+fn approach(table: &HopTable, lane: Lane, map: u8, home: u32) -> (Lane, u32, u64)
+    requires table { lane.table ≡ table.now.id }
+    requires map { map < length table.now.about.shape.maps }
+    requires idle { lane.known.locks ≡ [] }
+    ensures table { result.0.table ≡ table.now.id }
+    ensures walked { Walked table.now.about lane.known map home result.1 result.2 result.0.known }
+{
+    let mut lane = lane;
+    let way = table.first_way(map, home);
+    let stamp = lane.see_stamp(table, map, way.segment);
+    if stamp % 2 == 1 {
+        return (lane, way.segment, stamp);
+    }
+    if depth_of(stamp) == way.level {
+        return (lane, way.segment, stamp);
+    }
+    walk(table, lane, map, home, way, stamp)
 }
 
 /// Where the key's value lies, by one reading of the key's segment, which takes no lock and writes
@@ -87,12 +150,11 @@ pub fn find_once(table: &HopTable, lane: Lane, map: u8, key: &[u8]) -> (Lane, On
     ensures ends { OnceEnds table.now.about lane.known map key.now result.1 result.0.known }
 {
     let at = homing(table, map, key);
-    let mut lane = lane;
-    let first = lane.see_stamp(table, map, at.segment);
+    let (lane, segment, first) = approach(table, lane, map, at.home);
     if first % 2 == 1 {
         return (lane, Once::Disturbed(first, first));
     }
-    let mut words = PeekedWords::new(table, lane, map, at.segment, at.key_size, at.elements);
+    let mut words = PeekedWords::new(table, lane, map, segment, at.key_size, at.elements);
     let found = find(&mut words, key, at.home);
     let (lane, last) = words.see_again(key, found);
     if last != first {

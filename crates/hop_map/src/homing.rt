@@ -1,19 +1,18 @@
 //! Where a key is at home, and the sizes of its map.
 ghost use Rattle.std.specs.Prelude.{◌≡◌, ◌<◌, ◌≤◌, length};
 ghost use Rattle.bpf_shared.specs.Shape.{IsMapShape, elements as elements_of};
-ghost use Rattle.hop_layout.specs.Home.{home_of, segment_of};
-ghost use Rattle.hop_words.specs.Ghost.{shape_at, IsSegment};
+ghost use Rattle.hop_layout.specs.Home.{home_of};
+ghost use Rattle.hop_words.specs.Ghost.{shape_at};
 
 use bpf_shared::MapShape;
 use hop_layout::{elements, home};
 use hop_words::HopTable;
 
-/// The home of a key and its segment; the size of the map's keys in bytes, and how many elements
+/// The home of a key; the size of the map's keys in bytes, and how many elements
 /// the map has.
 #[derive(Clone, Copy)]
 pub(crate) struct KeyHome {
     pub(crate) home: u32,
-    pub(crate) segment: u32,
     pub(crate) key_size: usize,
     pub(crate) elements: u32,
 }
@@ -32,9 +31,6 @@ pub(crate) fn homing(table: &HopTable, map: u8, key: &[u8]) -> KeyHome
     requires map { map < length table.now.about.shape.maps }
     ensures home { result.home ≡ home_of key.now table.now.about.seed
         (shape_at table.now.about map).mask }
-    ensures segment { result.segment
-        ≡ segment_of table.now.about.seed (shape_at table.now.about map) key.now }
-    ensures inside { IsSegment table.now.about map result.segment }
     ensures key { result.key_size ≡ (shape_at table.now.about map).key }
     ensures small { result.key_size ≤ 64 }
     ensures elements { result.elements ≡ elements_of (shape_at table.now.about map) }
@@ -43,7 +39,6 @@ pub(crate) fn homing(table: &HopTable, map: u8, key: &[u8]) -> KeyHome
     let home = home(key, table.about().seed, shape.mask);
     KeyHome {
         home,
-        segment: table.segment_of(map, home),
         key_size: shape.key as usize,
         elements: elements(&shape),
     }

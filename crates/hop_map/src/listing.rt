@@ -1,21 +1,21 @@
 //! A map's keys, listed as one step: the segments are locked one behind the other and read, and
 //! where all are locked the first unlock is the listing.
-ghost use Rattle.std.specs.Prelude.{◌≡◌, ◌<◌, ◌≤◌, ◌+◌, ◌*◌, ◌++◌, ◌∷◌, ℕ, [], length, take};
+ghost use Rattle.std.specs.Prelude.{◌≡◌, ◌<◌, ◌≤◌, ◌+◌, ◌*◌, ◌++◌, ◌∷◌, [], length, take, IsTrue, IsFalse};
 ghost use Rattle.bpf_base.specs.Bytes.{low_bytes};
 ghost use Rattle.hop_words.specs.Ghost.{HasElement, IsSegment, shape_at};
 ghost use Rattle.hop_words.specs.Kinds.{MayLink};
-ghost use Rattle.hop_words.specs.Locking.{lock_of, other_locks, unlocking_last};
+ghost use Rattle.hop_words.specs.Locking.{lock_of, other_locks, unlocking_last, HasLastLock};
+ghost use Rattle.hop_layout.specs.Layout.{segments};
 ghost use Rattle.hop_words.specs.Rule.{image};
-ghost use Rattle.hop_words.specs.Sights.{lock_taken};
-ghost use Rattle.hop_map.specs.Private.Listing.{Gathers, Falls, LocksMore, Adds, Listed, Opens, Part, StandsBelow};
+ghost use Rattle.hop_map.specs.Private.Listing.{Gathers, Covers, NotesLock, LocksMore, ReadsMore, Adds, Listed, Opens, Part, StandsBelow};
 ghost use Rattle.hop_map.specs.Private.LockedSegment.{spelled_key};
 
 use crate::homing::shape_of;
 use crate::numbers::item;
-use crate::waiting::lock_when_free;
+use crate::waiting::{lock_number, seek};
 use crate::words::{head_place, link_place, slot_place};
 use bpf_shared::KeyList;
-use hop_layout::{Place, segments};
+use hop_layout::{Place, segments as segment_count};
 use hop_words::{HopTable, Lane};
 use std::sync::Wait;
 
@@ -107,7 +107,7 @@ fn add_segment(table: &HopTable, lane: &mut Lane, map: u8, segment: u32, list: &
 }
 
 // Locks a segment as soon as nobody else has its lock, behind those with lower numbers, and adds
-// its keys to the list.
+// its keys to the list. One that isn't born it leaves.
 fn list_segment<R: Wait>(
     rt: &R,
     table: &HopTable,
@@ -123,22 +123,59 @@ fn list_segment<R: Wait>(
     ensures table { lane.new.table ≡ lane.old.table }
     ensures list { list.new.shape ≡ list.old.shape }
     ensures locks { LocksMore lane.old.known lane.new.known }
-    ensures noted { (n : ℕ)
-        × (lane.new.known.tally ≡ lock_taken map segment n ∷ lane.old.known.tally) }
+    ensures noted { NotesLock table.now.about map segment lane.old.known.tally
+        lane.new.known.tally }
     ensures gathers { Gathers table.now.about lane.new.known map (segment + 1) list.new.keys }
 {
-    lock_when_free(rt, table, lane, map, segment);
-    add_segment(table, lane, map, segment, list);
+    if lock_number(rt, table, lane, map, segment) {
+        add_segment(table, lane, map, segment, list);
+    }
+}
+
+// Whether the segment of this number is locked, where none above it is any more.
+fn has_lock(table: &HopTable, lane: &mut Lane, map: u8, segment: u32) -> bool
+    requires table { lane.old.table ≡ table.now.id }
+    requires inside { IsSegment table.now.about map segment }
+    requires covers { Covers table.now.about map (segment + 1) lane.old.known.locks }
+    ensures table { lane.new.table ≡ lane.old.table }
+    ensures kept { ReadsMore lane.old.known lane.new.known }
+    ensures last { IsTrue result → HasLastLock lane.new.known map segment }
+    ensures none { IsFalse result → Covers table.now.about map segment lane.new.known.locks }
+{
+    seek(table, lane, map, segment).segment == segment
+}
+
+// The highest number of a locked segment.
+fn find_last(table: &HopTable, lane: &mut Lane, map: u8, count: u32) -> u32
+    requires table { lane.old.table ≡ table.now.id }
+    requires map { map < length table.now.about.shape.maps }
+    requires some { 0 < count }
+    requires count { count ≤ segments (shape_at table.now.about map) }
+    requires covers { Covers table.now.about map count lane.old.known.locks }
+    ensures table { lane.new.table ≡ lane.old.table }
+    ensures kept { ReadsMore lane.old.known lane.new.known }
+    ensures inside { IsSegment table.now.about map result }
+    ensures last { HasLastLock lane.new.known map result }
+    ensures covers { Covers table.now.about map (result + 1) lane.new.known.locks }
+{
+    'down: for passed in 0..count {
+        let segment = count - 1 - passed;
+        if has_lock(table, lane, map, segment) {
+            return segment;
+        }
+    }
+    unreachable!()
 }
 
 // Gives the lock back that was taken last.
 fn unlock_last(table: &HopTable, lane: &mut Lane, map: u8, segment: u32)
     requires table { lane.old.table ≡ table.now.id }
     requires inside { IsSegment table.now.about map segment }
-    requires falls { Falls map (segment + 1) lane.old.known.locks }
+    requires last { HasLastLock lane.old.known map segment }
+    requires covers { Covers table.now.about map (segment + 1) lane.old.known.locks }
     ensures table { lane.new.table ≡ lane.old.table }
     ensures given { lane.new.known ≡ unlocking_last lane.old.known }
-    ensures falls { Falls map segment lane.new.known.locks }
+    ensures covers { Covers table.now.about map segment lane.new.known.locks }
 {
     let stamp = lane.read_locked_stamp(table, map, segment) - 1;
     lane.unlock_silent(table, map, segment, stamp);
@@ -161,16 +198,20 @@ pub(crate) fn list_keys<R: Wait>(
     ensures list { list.new.shape ≡ list.old.shape }
     ensures listed { Listed table.now.about lane.old.known map list.new.keys lane.new.known }
 {
-    let count = segments(&shape_of(table, map));
+    let count = segment_count(&shape_of(table, map));
     list.clear();
     'segments: for segment in 0..count {
         list_segment(rt, table, lane, map, segment, list);
     }
-    let last = count - 1;
+    let last = find_last(table, lane, map, count);
     let stamp = lane.read_locked_stamp(table, map, last) - 1;
     lane.unlock_keys(table, map, last, stamp, list);
     'others: for left in 0..last {
-        unlock_last(table, lane, map, last - 1 - left);
+        let segment = last - 1 - left;
+        if !has_lock(table, lane, map, segment) {
+            continue;
+        }
+        unlock_last(table, lane, map, segment);
     }
     list.sort();
 }

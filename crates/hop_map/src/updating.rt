@@ -5,23 +5,24 @@ ghost use Rattle.bpf_shared.specs.History.{events_of};
 ghost use Rattle.bpf_shared.specs.declared.events.Event.TheVariants.{Update};
 ghost use Rattle.bpf_shared.specs.declared.events.MapAnswer.TheVariants.{Busy, NoMemory};
 ghost use Rattle.hop_words.specs.Shortage.{done_in};
-ghost use Rattle.hop_layout.specs.Home.{segment_of};
 ghost use Rattle.hop_words.specs.Ghost.{shape_at, limbo_at};
 ghost use Rattle.hop_words.specs.Kinds.{SawAllTaken, holding};
 ghost use Rattle.bpf_shared.specs.Own.{in_run};
 ghost use Rattle.hop_arena.specs.Claiming.{Claims, Misses, IsArena};
 ghost use Rattle.hop_epoch.specs.Batch.{Keeps};
+ghost use Rattle.hop_map.specs.Finding.{MayOwn};
 ghost use Rattle.hop_map.specs.Private.Locks.{Readies, with_lock};
 ghost use Rattle.hop_map.specs.Noting.{BusyFirst, CallNotes};
-ghost use Rattle.hop_map.specs.Private.Updates.{Wants, Refusal, UpdateEnds, answer_of};
+ghost use Rattle.hop_map.specs.Private.Updates.{Brought, Refusal, UpdateEnds, answer_of};
 ghost use Rattle.hop_map.specs.Call.{IsBetweenCalls, IsOneCall, IsShortage, SearchesInVain, Searches, AreBatchesOf};
 ghost use Rattle.hop_map.specs.Private.Call.{HoldsNew};
+ghost use Rattle.hop_layout.specs.Layout.{gained};
 
 use crate::ending::Ending;
 use crate::homing::{homing, shape_of};
 use crate::locked::LockedWords;
 use crate::putting::{put, refuse};
-use crate::waiting::lock_when_free;
+use crate::waiting::lock_home;
 use bpf_shared::MapAnswer;
 use hop_arena::{Arena, Element};
 use hop_epoch::{Batches, Used};
@@ -41,20 +42,18 @@ fn lock_and_put<R: Wait>(
 ) -> (Lane, Ending)
     requires table { lane.table ≡ table.now.id }
     requires map { map < length table.now.about.shape.maps }
-    requires readies { Readies table.now.about lane.known map
-        (segment_of table.now.about.seed (shape_at table.now.about map) key.now)
-        key.now value.now flags element }
+    requires readies { Readies table.now.about lane.known map key.now value.now flags element }
     ensures table { result.0.table ≡ table.now.id }
-    ensures ends { (n : ℕ) × UpdateEnds table.now.about (with_lock lane.known map
-        (segment_of table.now.about.seed (shape_at table.now.about map) key.now) n) map
+    ensures ends { (s : ℕ) × (n : ℕ) × MayOwn table.now.about map key.now s
+        × UpdateEnds table.now.about (with_lock lane.known map s n) map
         key.now value.now flags result.1 result.0.known
         × BusyFirst n (answer_of result.1) }
 {
     let mut lane = lane;
     let at = homing(table, map, key);
-    let stamp = lock_when_free(rt, table, &mut lane, map, at.segment);
-    let words = LockedWords::new(table, lane, map, at.segment, at.key_size, at.elements);
-    put(rt, words, stamp, element, at.home, key, value, flags)
+    let taken = lock_home(rt, table, &mut lane, map, at.home);
+    let words = LockedWords::new(table, lane, map, taken.segment, at.key_size, at.elements);
+    put(rt, words, taken.stamp, element, at.home, key, value, flags)
 }
 
 // Locks the key's segment, and refuses an update for which no element is to be had.
@@ -71,21 +70,19 @@ fn lock_and_refuse<R: Wait>(
     requires map { map < length table.now.about.shape.maps }
     requires empty { lane.known.fresh ≡ [] }
     requires idle { lane.known.locks ≡ [] }
-    requires wants { Wants table.now.about lane.known map
-        (segment_of table.now.about.seed (shape_at table.now.about map) key.now)
-        key.now value.now flags }
+    requires brought { Brought table.now.about lane.known map key.now value.now flags }
     requires lacks { SawAllTaken table.now.about lane.known map }
     ensures table { result.0.table ≡ table.now.id }
-    ensures refused { (n : ℕ) × Refusal table.now.about (with_lock lane.known map
-        (segment_of table.now.about.seed (shape_at table.now.about map) key.now) n) map
+    ensures refused { (s : ℕ) × (n : ℕ) × MayOwn table.now.about map key.now s
+        × Refusal table.now.about (with_lock lane.known map s n) map
         key.now value.now flags result.1 result.0.known
         × BusyFirst n result.1 }
 {
     let mut lane = lane;
     let at = homing(table, map, key);
-    let stamp = lock_when_free(rt, table, &mut lane, map, at.segment);
-    let words = LockedWords::new(table, lane, map, at.segment, at.key_size, at.elements);
-    refuse(words, stamp, at.home, key, value, flags)
+    let taken = lock_home(rt, table, &mut lane, map, at.home);
+    let words = LockedWords::new(table, lane, map, taken.segment, at.key_size, at.elements);
+    refuse(words, taken.stamp, at.home, key, value, flags)
 }
 
 // One pass over the free bits, from the element on that the CPU gave back last.
@@ -178,7 +175,8 @@ fn fill_and_put<R: Wait>(
     ensures called { IsOneCall table.now.about lane.known map
         (Update map key.now value.now flags result.1) result.0.known }
     ensures worn { result.1 ≡ Busy →
-        2 ^ 56 - 1 ≤ table.now.about.version + done_in map result.0.known.seen }
+        2 ^ 56 - 1 ≤ table.now.about.version + gained (shape_at table.now.about map)
+        + done_in map result.0.known.seen }
     ensures served { result.1 ≢ NoMemory }
     ensures noted { CallNotes table.now.about (Update map key.now value.now flags result.1)
         lane.known result.0.known }

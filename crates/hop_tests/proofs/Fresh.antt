@@ -1,5 +1,5 @@
 -- A CPU that has begun its first run.
-use Rattle.std.proofs.Common.{◌≡◌, ◌<◌, true, List, [], ◌∷◌, ◌++◌, All, ap, sym, subst, ◌∙◌, length, arith}
+use Rattle.std.proofs.Common.{refl, ◌≡◌, ℕ, ◌<◌, true, List, [], ◌∷◌, ◌++◌, All, ap, sym, subst, ◌∙◌, length, arith}
 use Rattle.std.proofs.lemmas.List.Elements.{All-head, All-tail}
 use Rattle.bpf_shared.specs.declared.events.Event.{Event}
 use Rattle.bpf_shared.specs.declared.events.Event.TheVariants.{Begin}
@@ -7,7 +7,7 @@ use Rattle.bpf_shared.specs.History.{events_of}
 use Rattle.hop_layout.specs.declared.about.About.{About}
 use Rattle.hop_words.specs.declared.known.Known.{Known}
 use Rattle.hop_words.specs.Ghost.{IsSegment, shape_at}
-use Rattle.hop_words.specs.Kinds.{Told}
+use Rattle.hop_words.specs.Kinds.{KnowsBorn, First, Told}
 use Rattle.bpf_shared.specs.Own.{in_run}
 use Rattle.hop_layout.specs.Layout.{depth}
 use Rattle.hop_words.specs.Opens.{lanes_from}
@@ -33,3 +33,7 @@ running a l l' new begun =
     let none : events_of l.cpu l.seen ≡ [] = ap (λ (k : Known). events_of l.cpu k.seen) new.1 in
     let same : l'.cpu ≡ l.cpu = ap (λ (k : Known). k.cpu) begun.after in
     ap in_run (own_after a l l' Begin begun.seen same ∙ ap (λ (es : List Event). es ++ Begin ∷ []) none)
+
+-- a map's first segment is born from the start
+pub first_born : (a : About) (l : Known) (m : ℕ) → KnowsBorn a l m 0
+first_born a l m = First refl

@@ -44,7 +44,7 @@ fn next_lane(table: &HopTable, lanes: &mut Lanes) -> Option<Lane>
 }
 
 // Locks the first segment of the first map.
-#[tactic(auto, using(crate::proofs::Fresh::first_segment))]
+#[tactic(auto, using(crate::proofs::Fresh::first_segment, crate::proofs::Fresh::first_born))]
 fn lock_first(table: &HopTable, lane: &mut Lane) -> bool
     requires table { lane.old.table ≡ table.now.id }
     requires new { IsNewLane table.now.about lane.old.known }

@@ -12,10 +12,9 @@ use Rattle.hop_layout.specs.declared.about.About.{About}
 use Rattle.hop_words.specs.declared.known.Fresh.{Fresh}
 use Rattle.hop_words.specs.declared.known.Limbo.{Limbo}
 use Rattle.hop_layout.specs.Layout.{words_for}
-use Rattle.hop_layout.specs.Home.{segment_of}
 use Rattle.hop_layout.specs.Words.{bytes_of_words}
 use Rattle.hop_words.specs.Content.{one_if}
-use Rattle.hop_words.specs.Ghost.{segment_in, Holder, Free, Filling, Leaving, Within, is_free, is_filling, is_leaving, Carries, shape_at, HasElement, limbo_at, Each}
+use Rattle.hop_words.specs.Ghost.{Holder, Free, Filling, Leaving, Within, is_free, is_filling, is_leaving, Carries, shape_at, HasElement, limbo_at, Each}
 use Rattle.hop_words.specs.Rule.{put_key, numbered, Keyed, Batched, Owned, times_fresh, times_limbo, Linked, StartsWith, Filled, Valued}
 use Rattle.hop_words.proofs.Small.{put_key-same, put_key-other, equal_keys, equal, here_or, put2-same, put2-other}
 
@@ -23,6 +22,9 @@ pub leads_new : (k : KeyMap) (key : List ℕ) (n : ℕ) → get (insert k key n)
 leads_new k key n = get-insert nat_list_cmp_total k key n key ∙ ap (λ (b : Bool). cond b (Some n) (get k key)) (ap is_eq (tied_itself nat_list_cmp_total key))
 
 -- ---- holders
+pub within_once : {p q : List ℕ} → Within p ≡ Within q → p ≡ q
+within_once h = cc
+
 -- what a test says of each holder, where it says the same of the new one as of the old
 pub moved : {A : Type 0} (T : Holder → A) (holder : ℕ → ℕ → Holder) (m e : ℕ) (x y : Holder) → holder m e ≡ x → T y ≡ T x → (n f : ℕ) → T (put holder m (put (holder m) e y) n f) ≡ T (holder n f)
 moved T holder m e x y is same n f = ⊎_elim
@@ -73,16 +75,16 @@ in_limbo a free fresh limbo holder c m e p inside l has = leaving_or c (holder m
 
 module _ (a : About) (c m e s : ℕ) (key : List ℕ) (holder : ℕ → ℕ → Holder) (was : holder m e ≡ Filling c) where
   abbrev held' : ℕ → ℕ → Holder
-  held' = put holder m (put (holder m) e (Within s))
+  held' = put holder m (put (holder m) e (Within key))
 
   -- ---- owners
   pub owned_comes : (free : ℕ → ℕ → ℕ) (fresh : ℕ → List Fresh) (limbo : ℕ → List Limbo) (f : Fresh) (rest : List Fresh) → Owned a free fresh limbo holder → f.map ≡ m → f.element ≡ e → fresh c ≡ f ∷ rest → c < a.shape.cpus → Owned a free (put fresh c rest) limbo held'
   owned_comes free fresh limbo f rest p fm fe is inside = record {
-    bits = λ n d l. p.bits n d l ∙ sym (moved (λ x. one_if (is_free x)) holder m e (Filling c) (Within s) was refl n d);
-    limbo_is = λ b n d inb l. p.limbo_is b n d inb l ∙ sym (moved (λ x. one_if (is_leaving b x)) holder m e (Filling c) (Within s) was refl n d);
+    bits = λ n d l. p.bits n d l ∙ sym (moved (λ x. one_if (is_free x)) holder m e (Filling c) (Within key) was refl n d);
+    limbo_is = λ b n d inb l. p.limbo_is b n d inb l ∙ sym (moved (λ x. one_if (is_leaving b x)) holder m e (Filling c) (Within key) was refl n d);
     fresh_is = λ b n d inb l. ⊎_elim
         (λ (t : b ≡ c). subst (λ x. times_fresh n d (put fresh c rest x) ≡ one_if (is_filling x (held' n d))) (sym t) (ap (times_fresh n d) (put-same fresh c c rest refl) ∙ own n d l))
-        (λ (ne : b ≢ c). ap (times_fresh n d) (put-other fresh c b rest ne) ∙ (p.fresh_is b n d inb l ∙ sym (moved (λ x. one_if (is_filling b x)) holder m e (Filling c) (Within s) was
+        (λ (ne : b ≢ c). ap (times_fresh n d) (put-other fresh c b rest ne) ∙ (p.fresh_is b n d inb l ∙ sym (moved (λ x. one_if (is_filling b x)) holder m e (Filling c) (Within key) was
         (sym (ap (one_if) (ne_eqb c b (λ (q : c ≡ b). ne (sym q))))) n d)))
         (equal b c);
   }
@@ -95,12 +97,12 @@ module _ (a : About) (c m e s : ℕ) (key : List ℕ) (holder : ℕ → ℕ → 
           let one : (f.map == n) && (f.element == d) ≡ true = rw (fm, fe, t.0, t.1, eq-eqb m m refl, eq-eqb e e refl) refl in
           let hold : one_if (is_filling c (holder n d)) ≡ 1 = ap (λ x. one_if (is_filling c x)) ((λ i. holder (t.0 i) (t.1 i)) ∙ was) ∙ ap (one_if) (eq-eqb c c refl) in
           let sum : 1 + times_fresh n d rest ≡ 1 = sym (ap (λ (x : Bool). one_if (x) + times_fresh n d rest) one) ∙ (q ∙ hold) in
-          let new : one_if (is_filling c (held' n d)) ≡ 0 = ap (λ x. one_if (is_filling c x)) (put2-same holder m e n d (Within s) t.0 t.1) in
+          let new : one_if (is_filling c (held' n d)) ≡ 0 = ap (λ x. one_if (is_filling c x)) (put2-same holder m e n d (Within key) t.0 t.1) in
           omega arith)
           (λ (ne : n ≡ m → d ≢ e).
           let one : (f.map == n) && (f.element == d) ≡ false = differ n d ne in
           let sum : 0 + times_fresh n d rest ≡ one_if (is_filling c (holder n d)) = sym (ap (λ (x : Bool). one_if (x) + times_fresh n d rest) one) ∙ q in
-          let new : one_if (is_filling c (held' n d)) ≡ one_if (is_filling c (holder n d)) = ap (λ x. one_if (is_filling c x)) (put2-other holder m e n d (Within s) ne) in
+          let new : one_if (is_filling c (held' n d)) ≡ one_if (is_filling c (holder n d)) = ap (λ x. one_if (is_filling c x)) (put2-other holder m e n d (Within key) ne) in
           omega arith)
           (here_or m n e d)
         where
@@ -135,35 +137,25 @@ module _ (a : About) (c m e s : ℕ) (key : List ℕ) (holder : ℕ → ℕ → 
         (equal n m)
 
     -- an element that a key leads to isn't the new one
-    module _ (p : Linked a (segment_in a) linked holder) where
+    module _ (p : Linked a linked holder) where
       pub not_new : (n d : ℕ) (q : List ℕ) → linked n q ≡ Some d → n ≡ m → d ≢ e
-      not_new n d q is t u = let k : Within (segment_in a n q) ≡ Filling c = sym (p.within n q d is).1 ∙ ((λ i. holder (t i) (u i)) ∙ was) in cc
+      not_new n d q is t u = let k : Within q ≡ Filling c = sym (p.within n q d is).1 ∙ ((λ i. holder (t i) (u i)) ∙ was) in cc
 
-      pub linked_comes : linked m key ≡ None → HasElement a m e → segment_in a m key ≡ s → Linked a (segment_in a) links' held'
-      linked_comes none l home = record {
+      pub linked_comes : linked m key ≡ None → HasElement a m e → Linked a links' held'
+      linked_comes none l = record {
         within = λ n q d is. ⊎_elim
             (λ (t : (n ≡ m) × (q ≡ key)). let same : e ≡ d = (let k : Some e ≡ Some d = sym (now_new n q t.0 t.1) ∙ is in cc) in (
               subst (λ (x : ℕ). HasElement a n x) same (subst (λ (x : ℕ). HasElement a x e) (sym t.0) l),
-              put2-same holder m e n d (Within s) t.0 (sym same) ∙ ap Within (sym home ∙ (λ i. segment_of a.seed (shape_at a (sym t.0 i)) (sym t.1 i))),
+              put2-same holder m e n d (Within key) t.0 (sym same) ∙ ap Within (sym t.1),
             ))
             (λ (ne : n ≡ m → q ≢ key). let w = p.within n q d (sym (now_old n q ne) ∙ is) in
-            (w.0, put2-other holder m e n d (Within s) (not_new n d q (sym (now_old n q ne) ∙ is)) ∙ w.1))
+            (w.0, put2-other holder m e n d (Within key) (not_new n d q (sym (now_old n q ne) ∙ is)) ∙ w.1))
             (here_key n q);
-        leads = λ n d t el is. ⊎_elim
-            (λ (h : (n ≡ m) × (d ≡ e)). (key, now_new n key h.0 refl ∙ ap Some (sym h.1)))
-            (λ (ne : n ≡ m → d ≢ e). let w = p.leads n d t el (sym (put2-other holder m e n d (Within s) ne) ∙ is) in
-            (w.0, now_old n w.0 (λ h u. let k : None ≡ Some d = sym none ∙ ((λ i. linked (sym h i) (sym u i)) ∙ w.1) in cc) ∙ w.1))
+        leads = λ n d q el is. ⊎_elim
+            (λ (h : (n ≡ m) × (d ≡ e)). now_new n q h.0 (within_once (sym is ∙ put2-same holder m e n d (Within key) h.0 h.1)) ∙ ap Some (sym h.1))
+            (λ (ne : n ≡ m → d ≢ e). let w = p.leads n d q el (sym (put2-other holder m e n d (Within key) ne) ∙ is) in
+            now_old n q (λ h u. let k : None ≡ Some d = sym none ∙ ((λ i. linked (sym h i) (sym u i)) ∙ w) in cc) ∙ w)
             (here_or m n e d);
-        once = λ n x y d is it. ⊎_elim
-            (λ (t : (n ≡ m) × (x ≡ key)). ⊎_elim
-            (λ (u : (n ≡ m) × (y ≡ key)). t.1 ∙ sym u.1)
-            (λ (ne : n ≡ m → y ≢ key). absurd (not_new n d y (sym (now_old n y ne) ∙ it) t.0 (let k : Some e ≡ Some d = sym (now_new n x t.0 t.1) ∙ is in cc)))
-            (here_key n y))
-            (λ (ne : n ≡ m → x ≢ key). ⊎_elim
-            (λ (u : (n ≡ m) × (y ≡ key)). absurd (not_new n d x (sym (now_old n x ne) ∙ is) u.0 (let k : Some e ≡ Some d = sym (now_new n y u.0 u.1) ∙ it in cc)))
-            (λ (nf : n ≡ m → y ≢ key). p.once n x y d (sym (now_old n x ne) ∙ is) (sym (now_old n y nf) ∙ it))
-            (here_key n y))
-            (here_key n x);
       }
 
       -- ---- keys and their values
@@ -238,17 +230,17 @@ module _ (a : About) (c m e s : ℕ) (key : List ℕ) (holder : ℕ → ℕ → 
   valued_comes words made value held number x p is = record {
     lies = λ n d l has. ⊎_elim
         (λ (t : (n ≡ m) × (d ≡ e)). ap (put value made x) (put2-same number m e n d made t.0 t.1) ∙ (put-same value made made x refl ∙ (is ∙ (λ i. lying (sym t.0 i) (sym t.1 i)))))
-        (λ (ne : n ≡ m → d ≢ e). let has' = subst Carries (put2-other holder m e n d (Within s) ne) has in
+        (λ (ne : n ≡ m → d ≢ e). let has' = subst Carries (put2-other holder m e n d (Within key) ne) has in
         ap (put value made x) (put2-other number m e n d made ne) ∙ (put-other value made (number n d) x (λ (q : number n d ≡ made). let o = p.older n d l has' in omega arith) ∙ p.lies n d l has'))
         (here_or m n e d);
     older = λ n d l has. ⊎_elim
         (λ (t : (n ≡ m) × (d ≡ e)). let q = put2-same number m e n d made t.0 t.1 in omega arith)
-        (λ (ne : n ≡ m → d ≢ e). let q = put2-other number m e n d made ne in let o = p.older n d l (subst Carries (put2-other holder m e n d (Within s) ne) has) in omega arith)
+        (λ (ne : n ≡ m → d ≢ e). let q = put2-other number m e n d made ne in let o = p.older n d l (subst Carries (put2-other holder m e n d (Within key) ne) has) in omega arith)
         (here_or m n e d);
     held_in = λ b v h.
         let k = p.held_in b v h in
         let ne : k.0 ≡ m → k.1 ≢ e = λ t u. subst Carries ((λ i. holder (t i) (u i)) ∙ was) k.3 in
-        (k.0, k.1, k.2, subst Carries (sym (put2-other holder m e k.0 k.1 (Within s) ne)) k.3, put2-other number m e k.0 k.1 made ne ∙ k.4);
+        (k.0, k.1, k.2, subst Carries (sym (put2-other holder m e k.0 k.1 (Within key) ne)) k.3, put2-other number m e k.0 k.1 made ne ∙ k.4);
   }
     where
       lying : ℕ → ℕ → Value

@@ -21,9 +21,8 @@ use Rattle.hop_words.specs.declared.known.Limbo.{Limbo}
 use Rattle.hop_words.specs.declared.known.Lock.{Lock}
 use Rattle.hop_words.specs.declared.known.Change.TheVariants.{Drops}
 use Rattle.hop_layout.specs.Layout.{mem, put_at}
-use Rattle.hop_layout.specs.Home.{segment_of}
 use Rattle.hop_words.specs.Content.{place_words}
-use Rattle.hop_words.specs.Ghost.{segment_in, Holder, Leaving, Within, lane, Ghost, shape_at, HasElement, limbo_at}
+use Rattle.hop_words.specs.Ghost.{Holder, Leaving, Within, lane, Ghost, shape_at, HasElement, limbo_at, lock_home}
 use Rattle.hop_words.specs.Rule.{Rule, Minded, put_key, changed, Holds, numbered}
 use Rattle.hop_words.specs.Private.Step.{Next, Steps}
 use Rattle.hop_words.specs.Kinds.{Removes, Removed, with_gone}
@@ -34,6 +33,8 @@ use Rattle.hop_words.proofs.Goes.{with_used, owned_goes, cut_old, linked_goes, k
 use Rattle.hop_words.proofs.Locks.{holds}
 use Rattle.hop_words.proofs.Effects.{Effect, effect_segments, effect_locking, effect_reading, effect_held, effect_worn}
 use Rattle.hop_words.proofs.Stays.{saw, running_is, map_there, runs_quiet}
+use Rattle.hop_words.specs.Depths.{home_by}
+use Rattle.hop_words.proofs.Segs.{one_home}
 
 pub nothing_in : (key : List ℕ) → get {R = slice_cmp nat_cmp} (empty {X = ℕ}) key ≡ None
 nothing_in key = search (get-empty)
@@ -46,7 +47,7 @@ module _ (a : About) (l : Known) (k : Lock) (key : List ℕ) (e : ℕ) (i : Remo
   abbrev s : ℕ
   s = k.segment
 
-  h : Holds a (segment_in a) (place_words w) (λ n t. w (Stamp n t)) g.eras g.linked g.holder l.cpu k
+  h : Holds a g.depths (place_words w) (λ n t. w (Stamp n t)) g.eras g.linked g.holder l.cpu k
   h = holds a l k i.lock w g r is
 
   there : g.linked m key ≡ Some e
@@ -55,8 +56,11 @@ module _ (a : About) (l : Known) (k : Lock) (key : List ℕ) (e : ℕ) (i : Remo
   at_e : HasElement a m e
   at_e = (r.linked.within m key e there).0
 
-  was : g.holder m e ≡ Within s
-  was = (r.linked.within m key e there).1 ∙ ap Within i.home
+  was : g.holder m e ≡ Within key
+  was = (r.linked.within m key e there).1
+
+  home_is : home_by a m (g.depths m s) key ≡ s
+  home_is = ap (λ (j : ℕ). home_by a m j key) (sym h.deep) ∙ i.home
 
   limbo_is : g.lanes.limbo l.cpu ≡ l.limbo
   limbo_is = ap (λ (x : Known). x.limbo) is
@@ -73,17 +77,17 @@ module _ (a : About) (l : Known) (k : Lock) (key : List ℕ) (e : ℕ) (i : Remo
   abbrev holder' : ℕ → ℕ → Holder
   holder' = put g.holder m (put (g.holder m) e (Leaving l.cpu))
 
-  effect : Effect a l.cpu k (Drops key) g.linked linked' g.holder holder'
+  effect : Effect a g.depths l.cpu k (Drops key) g.linked linked' g.holder holder'
   effect = record {
     owes = refl;
-    keys = λ n t q ne home. cut_old a l.cpu m e s key g.holder was g.linked n q (λ u v. ne u (sym home ∙ ((λ j. segment_of a.seed (shape_at a (u j)) (v j)) ∙ i.home)));
-    theirs = λ n t b d apart ne mind. ⊎_elim
-        (λ (u : (n ≡ m) × (d ≡ e)). absurd (apart (sym (subst (Minded b t) (put2-same g.holder m e n d (Leaving l.cpu) u.0 u.1) mind))))
-        (λ (nu : n ≡ m → d ≢ e). subst (Minded b t) (put2-other g.holder m e n d (Leaving l.cpu) nu) mind)
+    keys = λ n t q b ne home. cut_old a l.cpu m e s key g.holder was g.linked n q (λ u v. ne u (one_home a g.depths m s n t q h.inside b u (ap (home_by a m (g.depths m s)) v ∙ home_is) home));
+    theirs = λ n t b d apart at_t ne mind. ⊎_elim
+        (λ (u : (n ≡ m) × (d ≡ e)). absurd (apart (sym (subst (Minded (home_by a n (g.depths n t)) b t) (put2-same g.holder m e n d (Leaving l.cpu) u.0 u.1) mind))))
+        (λ (nu : n ≡ m → d ≢ e). subst (Minded (home_by a n (g.depths n t)) b t) (put2-other g.holder m e n d (Leaving l.cpu) nu) mind)
         (here_or m n e d);
     mine = λ d mind. ⊎_elim
-        (λ (u : d ≡ e). subst (Minded l.cpu s) (sym (ap (g.holder m) u ∙ was)) refl)
-        (λ (nu : d ≢ e). subst (Minded l.cpu s) (put2-other g.holder m e m d (Leaving l.cpu) (λ _. nu)) mind)
+        (λ (u : d ≡ e). subst (Minded (lock_home a k) l.cpu s) (sym (ap (g.holder m) u ∙ was)) i.home)
+        (λ (nu : d ≢ e). subst (Minded (lock_home a k) l.cpu s) (put2-other g.holder m e m d (Leaving l.cpu) (λ _. nu)) mind)
         (equal d e);
     due = λ before same q home. ⊎_elim
         (λ (u : q ≡ key). ap (λ (f : List ℕ → Option ℕ). f q) (put-same g.linked m m (put_key (g.linked m) key None) refl) ∙ (put_key-same (g.linked m) key q None u ∙ sym (put_key-same before key q None u)))
@@ -111,6 +115,7 @@ module _ (a : About) (l : Known) (k : Lock) (key : List ℕ) (e : ℕ) (i : Remo
     holder = holder';
     number = g.number;
     linked = linked';
+    depths = g.depths;
     eras = put g.eras m (put (g.eras m) s (record { era = w (Stamp m s); writer = l.cpu; dirty = true; credit = 1; old = (g.eras m s).old }));
   }
 
@@ -128,6 +133,7 @@ module _ (a : About) (l : Known) (k : Lock) (key : List ℕ) (e : ℕ) (i : Remo
   down_rule : Rule a (put_at w (KeyCount m) (w (KeyCount m) - 1)) g'
   down_rule = record {
     shaped = r.shaped;
+    deep = r.deep;
     logged = logged_event a g.lanes.seen g.log g.last last' l.cpu event r.logged inside tt may;
     keyed = keyed_goes a l.cpu m e s key g.holder was g.linked (λ j. w (KeyCount j)) g.last.maps g.number r.keyed there;
     worn = effect_worn a l k i.lock w g r is i.nothing (Drops key) linked' holder' effect event (eq-eqb m m refl);

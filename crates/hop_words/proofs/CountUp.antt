@@ -23,10 +23,9 @@ use Rattle.hop_words.specs.declared.known.Lock.{Lock}
 use Rattle.hop_words.specs.declared.known.Change.TheVariants.{Puts}
 use Rattle.hop_layout.specs.Layout.{mem, put_at, words_for}
 use Rattle.hop_words.specs.Shortage.{HasHadValue}
-use Rattle.hop_layout.specs.Home.{segment_of}
 use Rattle.hop_layout.specs.Words.{bytes_of_words}
 use Rattle.hop_words.specs.Content.{place_words, one_if}
-use Rattle.hop_words.specs.Ghost.{segment_in, Filling, Within, lane, Era, Ghost, shape_at, HasElement, Each}
+use Rattle.hop_words.specs.Ghost.{Filling, Within, lane, Era, Ghost, shape_at, HasElement, Each, lock_home}
 use Rattle.hop_words.specs.Rule.{times_fresh, Rule, Worn, Minded, put_key, changed, Holds, Segment, numbered, owed, Keyed, times_lock}
 use Rattle.hop_words.specs.Private.Step.{Next, Steps}
 use Rattle.hop_words.specs.Kinds.{Inserts, Inserted}
@@ -35,8 +34,9 @@ use Rattle.hop_words.proofs.Spelling.{value_spelled}
 use Rattle.hop_words.proofs.Histories.{logged_event, done_in-append}
 use Rattle.hop_words.proofs.Shortages.{begun_more, had_update, new_update, shown_step, who_put, hand_rest}
 use Rattle.hop_words.proofs.Comes.{in_hand, now_old, linked_comes, owned_comes, keyed_comes, batched_comes, filled_rest, valued_comes}
-use Rattle.hop_words.proofs.Segs.{Elsewhere, segments_step, locking_step, Upward, readings_step, held_step, lock_once}
+use Rattle.hop_words.proofs.Segs.{Elsewhere, segments_step, locking_step, Upward, readings_step, held_step, lock_once, one_home}
 use Rattle.hop_words.proofs.Stays.{stay, next_as, saw, running_is, map_there, runs_quiet, place_for}
+use Rattle.hop_words.specs.Depths.{home_by}
 
 pub four : (b0 b1 b2 b3 : Bool) → b0 ≡ false → b1 ≡ false → b2 ≡ false → b3 ≡ false → first_of ((Invalid, b0) ∷ (Exists, b1) ∷ (Absent, b2) ∷ (Full, b3) ∷ []) ≡ None
 four b0 b1 b2 b3 e0 e1 e2 e3 = rw (e0, e1, e2, e3) refl
@@ -62,8 +62,8 @@ module _ (a : About) (l : Known) (k : Lock) (f : Fresh) (rest : List Fresh) (key
   abbrev e : ℕ
   e = f.element
 
-  holds : Holds a (segment_in a) (place_words w) (λ n t. w (Stamp n t)) g.eras g.linked g.holder l.cpu k
-  holds = (subst (Each (Holds a (segment_in a) (place_words w) (λ n t. w (Stamp n t)) g.eras g.linked g.holder l.cpu)) (ap (λ (x : Known). x.locks) is ∙ i.filled.lock) (r.locking l.cpu)).0
+  holds : Holds a g.depths (place_words w) (λ n t. w (Stamp n t)) g.eras g.linked g.holder l.cpu k
+  holds = (subst (Each (Holds a g.depths (place_words w) (λ n t. w (Stamp n t)) g.eras g.linked g.holder l.cpu)) (ap (λ (x : Known). x.locks) is ∙ i.filled.lock) (r.locking l.cpu)).0
 
   at_e : HasElement a m e
   at_e = (holds.inside.0, i.filled.element)
@@ -100,9 +100,10 @@ module _ (a : About) (l : Known) (k : Lock) (f : Fresh) (rest : List Fresh) (key
     log = log';
     last = last';
     lanes = record g.lanes { seen = put g.lanes.seen l.cpu log'; fresh = put g.lanes.fresh l.cpu rest; locks = put g.lanes.locks l.cpu (k' ∷ []) };
-    holder = put g.holder m (put (g.holder m) e (Within s));
+    holder = put g.holder m (put (g.holder m) e (Within key));
     number = put g.number m (put (g.number m) e g.last.made);
     linked = put g.linked m (put_key (g.linked m) key (Some e));
+    depths = g.depths;
     eras = put g.eras m (put (g.eras m) s era');
   }
 
@@ -133,7 +134,7 @@ module _ (a : About) (l : Known) (k : Lock) (f : Fresh) (rest : List Fresh) (key
   low : (g.eras m s).era ≤ w (Stamp m s)
   low = go (g.eras m s).dirty refl
     where
-      seg : Segment a (segment_in a) (place_words w) (w (Stamp m s)) (g.eras m s) m s (g.linked m)
+      seg : Segment a g.depths (place_words w) (w (Stamp m s)) (g.eras m s) m s (g.linked m)
       seg = r.segments m s holds.inside
 
       go : (b : Bool) → (g.eras m s).dirty ≡ b → (g.eras m s).era ≤ w (Stamp m s)
@@ -147,19 +148,22 @@ module _ (a : About) (l : Known) (k : Lock) (f : Fresh) (rest : List Fresh) (key
     stays = λ j even le eq. absurd (let o = is_segment_odd in let z = eq ∙ ap (λ (y : Era). y.era) (put2-same g.eras m s m s era' refl refl) in omega arith);
   }
 
-  elsewhere : Elsewhere a m s l.cpu (place_words w) (place_words w) (λ n t. w (Stamp n t)) (λ n t. w (Stamp n t)) g.eras g'.eras g.linked g'.linked g.holder g'.holder
+  home_is : home_by a m (g.depths m s) key ≡ s
+  home_is = ap (λ (i : ℕ). home_by a m i key) (sym holds.deep) ∙ i.filled.home
+
+  elsewhere : Elsewhere a g.depths m s l.cpu (place_words w) (place_words w) (λ n t. w (Stamp n t)) (λ n t. w (Stamp n t)) g.eras g'.eras g.linked g'.linked g.holder g'.holder
   elsewhere = record {
-    stamps = λ n t ne. refl;
+    stamps = λ n t off. refl;
     same_eras = λ n t ne. put2-other g.eras m s n t era' ne;
-    keys = λ n t q ne home. now_old a l.cpu m e s key g.holder was g.linked n q (λ h u. ne h (sym home ∙ ((λ j. segment_of a.seed (shape_at a (h j)) (u j)) ∙ i.filled.home)));
+    keys = λ n t q b ne home. now_old a l.cpu m e s key g.holder was g.linked n q (λ h u. ne h (one_home a g.depths m s n t q holds.inside b h (ap (home_by a m (g.depths m s)) u ∙ home_is) home));
     heads = λ n t ne. refl;
     hops = λ n t b ne. refl;
     slots = λ n t b ne. refl;
-    within = λ n t d ne h. (refl, λ j. refl);
-    minded = λ n t b d apart ne mind. (
+    within = λ n t d q b ne home h. (refl, λ j. refl);
+    minded = λ n t b d apart at_t ne mind. (
       ⊎_elim
-          (λ (h : (n ≡ m) × (d ≡ e)). absurd (ne h.0 (sym (subst (Minded b t) (put2-same g.holder m e n d (Within s) h.0 h.1) mind))))
-          (λ (nh : n ≡ m → d ≢ e). subst (Minded b t) (put2-other g.holder m e n d (Within s) nh) mind)
+          (λ (h : (n ≡ m) × (d ≡ e)). absurd (ne h.0 (one_home a g.depths m s n t key holds.inside at_t h.0 home_is (subst (Minded (home_by a n (g.depths n t)) b t) (put2-same g.holder m e n d (Within key) h.0 h.1) mind))))
+          (λ (nh : n ≡ m → d ≢ e). subst (Minded (home_by a n (g.depths n t)) b t) (put2-other g.holder m e n d (Within key) nh) mind)
           (here_or m n e d),
       refl,
       λ j. refl,
@@ -167,23 +171,24 @@ module _ (a : About) (l : Known) (k : Lock) (f : Fresh) (rest : List Fresh) (key
   }
 
   -- nobody else has this lock
-  alone : (d : ℕ) (k2 : Lock) → d ≢ l.cpu → Holds a (segment_in a) (place_words w) (λ n t. w (Stamp n t)) g.eras g.linked g.holder d k2 → k2.map ≡ m → k2.segment ≢ s
+  alone : (d : ℕ) (k2 : Lock) → d ≢ l.cpu → Holds a g.depths (place_words w) (λ n t. w (Stamp n t)) g.eras g.linked g.holder d k2 → k2.map ≡ m → k2.segment ≢ s
   alone d k2 apart p h u = apart (sym p.writer ∙ (ap (λ (y : Era). y.writer) (λ j. g.eras (h j) (u j)) ∙ holds.writer))
 
   now_era : g'.eras m s ≡ era'
   now_era = put2-same g.eras m s m s era' refl refl
 
-  own_segment : Segment a (segment_in a) (place_words w) (w (Stamp m s)) (g'.eras m s) m s (g'.linked m)
-  own_segment = subst (λ (y : Era). Segment a (segment_in a) (place_words w) (w (Stamp m s)) y m s (g'.linked m)) (sym now_era) (record {
+  own_segment : Segment a g.depths (place_words w) (w (Stamp m s)) (g'.eras m s) m s (g'.linked m)
+  own_segment = subst (λ (y : Era). Segment a g.depths (place_words w) (w (Stamp m s)) y m s (g'.linked m)) (sym now_era) (record {
     at_rest = λ even. absurd (let o = is_segment_odd in omega arith);
     clean = λ d. absurd (true≢false d);
     written = λ d. refl;
     shows = λ d. absurd (true≢false d);
   })
 
-  own_lock : Holds a (segment_in a) (place_words w) (λ n t. w (Stamp n t)) g'.eras g'.linked g'.holder l.cpu k'
+  own_lock : Holds a g.depths (place_words w) (λ n t. w (Stamp n t)) g'.eras g'.linked g'.holder l.cpu k'
   own_lock = record {
     inside = holds.inside;
+    deep = holds.deep;
     even = holds.even;
     locked = holds.locked;
     writer = ap (λ (y : Era). y.writer) now_era;
@@ -198,6 +203,8 @@ module _ (a : About) (l : Known) (k : Lock) (f : Fresh) (rest : List Fresh) (key
       link = λ d on. holds.copied.link d (mine d on);
       key = λ d j on. holds.copied.key d j (mine d on);
     };
+    beside = holds.beside;
+    beside_stamp = holds.beside_stamp;
     due = (
       holds.due.0,
       holds.due.1,
@@ -208,13 +215,13 @@ module _ (a : About) (l : Known) (k : Lock) (f : Fresh) (rest : List Fresh) (key
     );
   }
     where
-      mine : (d : ℕ) → Minded l.cpu s (g'.holder m d) → Minded l.cpu s (g.holder m d)
+      mine : (d : ℕ) → Minded (lock_home a k) l.cpu s (g'.holder m d) → Minded (lock_home a k) l.cpu s (g.holder m d)
       mine d on = ⊎_elim
-          (λ (h : (m ≡ m) × (d ≡ e)). subst (Minded l.cpu s) (sym ((λ j. g.holder m (h.1 j)) ∙ was)) refl)
-          (λ (nh : m ≡ m → d ≢ e). subst (Minded l.cpu s) (put2-other g.holder m e m d (Within s) nh) on)
+          (λ (h : (m ≡ m) × (d ≡ e)). subst (Minded (lock_home a k) l.cpu s) (sym ((λ j. g.holder m (h.1 j)) ∙ was)) refl)
+          (λ (nh : m ≡ m → d ≢ e). subst (Minded (lock_home a k) l.cpu s) (put2-other g.holder m e m d (Within key) nh) on)
           (here_or m m e d)
 
-  worn : Worn a (λ n t. w (Stamp n t)) g'.eras log'
+  worn : Worn a g.depths (λ n t. w (Stamp n t)) g'.eras log'
   worn n t at_s = ⊎_elim
       (λ (h : (n ≡ m) × (t ≡ s)).
       let z = ap (λ (y : Era). y.credit) (put2-same g.eras m s n t era' h.0 h.1) in
@@ -237,6 +244,7 @@ module _ (a : About) (l : Known) (k : Lock) (f : Fresh) (rest : List Fresh) (key
   rule' : w (KeyCount m) ≡ old → Rule a (put_at w (KeyCount m) (old + 1)) g'
   rule' found = record {
     shaped = r.shaped;
+    deep = r.deep;
     logged = logged_event a g.lanes.seen g.log g.last last' l.cpu event r.logged inside tt (may found);
     keyed = subst (λ (n : ℕ). Keyed a (put (λ j. w (KeyCount j)) m (n + 1)) g'.last.maps g'.linked g'.number) found
         (keyed_comes a l.cpu m e s key g.holder was g.linked r.linked (λ j. w (KeyCount j)) g.last.maps g.number g.last.made r.keyed none);
@@ -244,16 +252,16 @@ module _ (a : About) (l : Known) (k : Lock) (f : Fresh) (rest : List Fresh) (key
     runs = runs_quiet a w g r l is inside (λ d. w (RunCount d)) event r.runs refl;
     batched = batched_comes a l.cpu m e s key g.holder was _ _ _ g.lanes.fresh g.lanes.limbo g.last.held g.number g.last.made r.owned r.batched;
     owned = owned_comes a l.cpu m e s key g.holder was _ g.lanes.fresh g.lanes.limbo f rest r.owned i.filled.map refl hand inside;
-    linked = linked_comes a l.cpu m e s key g.holder was g.linked r.linked none at_e i.filled.home;
+    linked = linked_comes a l.cpu m e s key g.holder was g.linked r.linked none at_e;
     filled = filled_rest a l.cpu m e s key g.holder was _ _ g.lanes.fresh f rest r.filled hand inside;
-    segments = segments_step a m s l.cpu (place_words w) (place_words w) _ _ g.eras g'.eras g.linked g'.linked g.holder g'.holder elsewhere r.segments r.linked (λ _. own_segment);
-    locking = locking_step a m s l.cpu (place_words w) (place_words w) _ _ g.eras g'.eras g.linked g'.linked g.holder g'.holder elsewhere g.lanes.locks (k' ∷ []) r.locking alone (own_lock, tt);
-    reading = readings_step a m s g.eras g'.eras g.lanes.readings upward r.reading;
-    held = held_step a m s l.cpu _ _ g.eras g'.eras g.lanes.locks (k' ∷ []) inside r.held (λ odd. (ap (λ (y : Era). y.writer) now_era, (let z = lock_once k' in omega arith)))
-        (λ n t ne. (refl, put2-other g.eras m s n t era' ne, ap (times_lock n t) (sym (ap (λ (z : Known). z.locks) is ∙ i.filled.lock))));
+    segments = segments_step a g.depths m s l.cpu (place_words w) (place_words w) _ _ g.eras g'.eras g.linked g'.linked g.holder g'.holder elsewhere r.deep.sound holds.inside r.segments r.linked own_segment;
+    locking = locking_step a g.depths m s l.cpu (place_words w) (place_words w) _ _ g.eras g'.eras g.linked g'.linked g.holder g'.holder elsewhere r.deep.sound holds.inside g.lanes.locks (k' ∷ []) r.locking alone (own_lock, tt);
+    reading = readings_step a g.depths m s g.eras g'.eras g.lanes.readings upward r.reading;
+    held = held_step a g.depths m s l.cpu _ _ g.eras g'.eras g.lanes.locks (k' ∷ []) inside r.held (λ odd. (ap (λ (y : Era). y.writer) now_era, (let z = lock_once k' in omega arith)))
+        (λ n t _ ne. (refl, put2-other g.eras m s n t era' ne, ap (times_lock n t) (sym (ap (λ (z : Known). z.locks) is ∙ i.filled.lock))));
     valued = valued_comes a l.cpu m e s key g.holder was _ g.last.made g.last.value g.last.held g.number x r.valued spelled_is;
     shown = shown_step a g.log log' g.last last' g.lanes.fresh g'.lanes.fresh g.lanes.tally g.holder g'.holder (λ d. begun_more d g.log (entry l.cpu event ∷ [])) (had_update g.last m key x)
-        (λ n d c at is. inl (who_put g.holder m e (Within s) (λ c q. cc) n d c is))
+        (λ n d c at is. inl (who_put g.holder m e (Within key) (λ c q. cc) n d c is))
         (λ b n d inb at has. ⊎_elim
         (λ (h : (n ≡ f.map) × (d ≡ f.element)). inl (subst (HasHadValue last') (λ j. element_span ((sym i.filled.map ∙ sym h.0) j) (shape_at a ((sym i.filled.map ∙ sym h.0) j)) (sym h.1 j)) (new_update g.last m key x)))
         (λ (h : 1 ≤ times_fresh n d (g'.lanes.fresh b)). inr h)

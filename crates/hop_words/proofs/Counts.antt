@@ -19,7 +19,7 @@ use Rattle.hop_words.specs.declared.known.Known.{Known}
 use Rattle.hop_words.specs.declared.known.Lock.{Lock}
 use Rattle.hop_layout.specs.Layout.{mem, put_at}
 use Rattle.hop_words.specs.Content.{place_words, IsShare}
-use Rattle.hop_words.specs.Ghost.{segment_in, lane, Ghost, shape_at}
+use Rattle.hop_words.specs.Ghost.{lane, Ghost, shape_at, lock_home, IsHomeIn}
 use Rattle.hop_words.specs.Rule.{Rule, Holds, changed, numbered, image, Minded}
 use Rattle.bpf_shared.specs.Own.{turns_of}
 use Rattle.hop_words.specs.Shortage.{HasCause}
@@ -52,7 +52,7 @@ first_true : (b0 b1 b2 b3 : Bool) → b0 ≡ true → first_of ((Invalid, b0) �
 first_true b0 b1 b2 b3 e0 = rw e0 refl
 
 module _ (a : About) (l : Known) (k : Lock) (key bytes : List ℕ) (flags : ℕ) (i : Counts a l k key bytes flags) (w : Place → ℕ) (g : Ghost) (r : Rule a w g) (is : lane g.lanes l.cpu ≡ l) (inside : l.cpu < a.shape.cpus) where
-  h : Holds a (segment_in a) (place_words w) (λ n t. w (Stamp n t)) g.eras g.linked g.holder l.cpu k
+  h : Holds a g.depths (place_words w) (λ n t. w (Stamp n t)) g.eras g.linked g.holder l.cpu k
   h = holds a l k i.lock w g r is
 
   get_none : get (g.last.maps k.map) key ≡ None
@@ -142,16 +142,16 @@ module _ (a : About) (l : Known) (k : Lock) {rest : List Lock} (held : l.locks �
   read_slot b ws g sized r is inside fits = stay a (mem a.shape ws) g l.cpu (Slot k.map k.segment b) _ r ((holds a l k held (mem a.shape ws) g r is).copied.slot b, is)
 
   -- of an element that a key leads to in the locked segment, by all that its words can show
-  pub read_link : (key : List ℕ) (e : ℕ) → ((before : List ℕ → Option ℕ) → IsShare a.seed (shape_at a k.map) (segment_in a k.map) (image a k.first) k.map k.segment before → changed k.change before key ≡ Some e)
-      → segment_in a k.map key ≡ k.segment → Steps a l (Link k.map e) (λ n. n) (λ ws n l'. (n ≡ (image a k.copy).link k.map e) × (l' ≡ l))
+  pub read_link : (key : List ℕ) (e : ℕ) → ((before : List ℕ → Option ℕ) → IsShare a.seed (shape_at a k.map) (lock_home a k) (image a k.first) k.map k.segment before → changed k.change before key ≡ Some e)
+      → IsHomeIn a k key → Steps a l (Link k.map e) (λ n. n) (λ ws n l'. (n ≡ (image a k.copy).link k.map e) × (l' ≡ l))
   read_link key e leads home ws g sized r is inside fits =
       let h = holds a l k held (mem a.shape ws) g r is in
       let there : g.linked k.map key ≡ Some e = h.due.2 key home ∙ leads h.due.0 h.due.1 in
-      stay a (mem a.shape ws) g l.cpu (Link k.map e) _ r (h.copied.link e (subst (Minded l.cpu k.segment) (sym (r.linked.within k.map key e there).1) home), is)
+      stay a (mem a.shape ws) g l.cpu (Link k.map e) _ r (h.copied.link e (subst (Minded (lock_home a k) l.cpu k.segment) (sym (r.linked.within k.map key e there).1) home), is)
 
-  pub read_key : (key : List ℕ) (e j : ℕ) → ((before : List ℕ → Option ℕ) → IsShare a.seed (shape_at a k.map) (segment_in a k.map) (image a k.first) k.map k.segment before → changed k.change before key ≡ Some e)
-      → segment_in a k.map key ≡ k.segment → Steps a l (KeyWord k.map e j) (λ n. n) (λ ws n l'. (n ≡ (image a k.copy).key k.map e j) × (l' ≡ l))
+  pub read_key : (key : List ℕ) (e j : ℕ) → ((before : List ℕ → Option ℕ) → IsShare a.seed (shape_at a k.map) (lock_home a k) (image a k.first) k.map k.segment before → changed k.change before key ≡ Some e)
+      → IsHomeIn a k key → Steps a l (KeyWord k.map e j) (λ n. n) (λ ws n l'. (n ≡ (image a k.copy).key k.map e j) × (l' ≡ l))
   read_key key e j leads home ws g sized r is inside fits =
       let h = holds a l k held (mem a.shape ws) g r is in
       let there : g.linked k.map key ≡ Some e = h.due.2 key home ∙ leads h.due.0 h.due.1 in
-      stay a (mem a.shape ws) g l.cpu (KeyWord k.map e j) _ r (h.copied.key e j (subst (Minded l.cpu k.segment) (sym (r.linked.within k.map key e there).1) home), is)
+      stay a (mem a.shape ws) g l.cpu (KeyWord k.map e j) _ r (h.copied.key e j (subst (Minded (lock_home a k) l.cpu k.segment) (sym (r.linked.within k.map key e there).1) home), is)

@@ -107,6 +107,7 @@ module _ (a : About) (l : Known) (f : Fresh) (rest : List Fresh) (hand : l.fresh
     ghost = g2;
     rule = record {
       shaped = r.shaped;
+      deep = r.deep;
       logged = r.logged;
       keyed = r.keyed;
       worn = r.worn;
@@ -119,10 +120,10 @@ module _ (a : About) (l : Known) (f : Fresh) (rest : List Fresh) (hand : l.fresh
       };
       linked = r.linked;
       filled = filled_on (f.key ++ n ∷ []) f.value w2 keep (own_new, own_list.0.1);
-      segments = segments_words a (place_words w) (place_words w2) (λ m t. w (Stamp m t)) g.eras g.linked g.holder r.linked (λ m t. refl) (λ m t b. refl) (λ m t b. refl)
-          (λ m t d h. (refl, λ k. elsewhere m d k (λ u v. let z : Within t ≡ Filling l.cpu = sym h ∙ ((λ j. g.holder (u j) (v j)) ∙ filling) in cc))) r.segments;
-      locking = locking_words a (place_words w) (place_words w2) (λ m t. w (Stamp m t)) g.eras g.linked g.holder g.lanes.locks l.cpu (ap (λ (z : Known). z.locks) is ∙ unlocked) (λ m t. refl) (λ m t b. refl) (λ m t b. refl)
-          (λ m t d b ne on. (refl, λ k. elsewhere m d k (λ u v. ne (sym (subst (Minded b t) ((λ j. g.holder (u j) (v j)) ∙ filling) on))))) r.locking;
+      segments = segments_words a g.depths (place_words w) (place_words w2) (λ m t. w (Stamp m t)) g.eras g.linked g.holder r.linked (λ m t. refl) (λ m t b. refl) (λ m t b. refl)
+          (λ m d q h. (refl, λ k. elsewhere m d k (λ u v. let z : Within q ≡ Filling l.cpu = sym h ∙ ((λ j. g.holder (u j) (v j)) ∙ filling) in cc))) r.segments;
+      locking = locking_words a g.depths (place_words w) (place_words w2) (λ m t. w (Stamp m t)) g.eras g.linked g.holder g.lanes.locks l.cpu (ap (λ (z : Known). z.locks) is ∙ unlocked) (λ m t. refl) (λ m t b. refl) (λ m t b. refl)
+          (λ home m t d b ne on. (refl, λ k. elsewhere m d k (λ u v. ne (sym (subst (Minded home b t) ((λ j. g.holder (u j) (v j)) ∙ filling) on))))) r.locking;
       reading = r.reading;
       held = r.held;
       valued = r.valued;
@@ -173,6 +174,7 @@ module _ (a : About) (l : Known) (f : Fresh) (rest : List Fresh) (hand : l.fresh
     ghost = g2;
     rule = record {
       shaped = r.shaped;
+      deep = r.deep;
       logged = r.logged;
       keyed = r.keyed;
       worn = r.worn;
@@ -252,6 +254,7 @@ give_fresh a l f rest hand at_e ws g sized r is inside fits = record {
   ghost = g2;
   rule = record {
     shaped = r.shaped;
+    deep = r.deep;
     logged = r.logged;
     keyed = r.keyed;
     worn = r.worn;
@@ -274,7 +277,7 @@ give_fresh a l f rest hand at_e ws g sized r is inside fits = record {
         (λ (ne : b ≢ l.cpu). subst (Each (IsFilled w)) (sym (put-other g.lanes.fresh l.cpu b rest ne)) (r.filled b inb))
         (equal b l.cpu);
     segments = r.segments;
-    locking = locking_outside a g.holder f.map f.element (Filling l.cpu) Free filling (place_words w) (λ n t. w (Stamp n t)) g.eras g.linked g.lanes.locks (λ b. inr (λ t z. absurd z)) r.locking;
+    locking = locking_outside a g.holder f.map f.element (Filling l.cpu) Free filling g.depths (place_words w) (λ n t. w (Stamp n t)) g.eras g.linked g.lanes.locks (λ b. inr (λ home t z. absurd z)) r.locking;
     reading = r.reading;
     held = r.held;
     valued = valued_outside a g.holder f.map f.element (Filling l.cpu) Free filling _ g.last.made g.last.value g.last.held g.number (λ z. z) (λ c h z. z) r.valued;

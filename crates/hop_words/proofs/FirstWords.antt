@@ -7,14 +7,14 @@ use Rattle.bpf_shared.specs.Shape.{IsShape}
 use Rattle.hop_layout.specs.declared.place.Place.{Place}
 use Rattle.hop_layout.specs.declared.place.Place.TheVariants.{RunCount, KeyCount, FreeBits, Stamp, Head, Hop, Slot, Link, KeyWord, ValueWord}
 use Rattle.hop_layout.specs.declared.about.About.{About}
-use Rattle.hop_layout.specs.Layout.{at, is_place, mem, put_at, free_words, segments, depth}
+use Rattle.hop_layout.specs.Layout.{at, is_place, mem, put_at, free_words, segments, first_depth}
 use Rattle.hop_words.specs.Ghost.{shape_at}
 use Rattle.hop_words.specs.Private.Made.{IsPartly, AreNewWords}
 use Rattle.std.specs.Int.{bit_at}
 use Rattle.std.proofs.lemmas.Nat.Bits.{bit_at_ones}
-use Rattle.hop_layout.proofs.Depths.{depth_most}
 use Rattle.hop_layout.proofs.Layouts.{both}
 use Rattle.hop_words.proofs.Small.{equal}
+use Rattle.hop_layout.proofs.Depths.{first_most}
 
 yes : (m n : ℕ) → m < n → nat_lt m n ≡ true
 yes m n l = grind (arith, nat_tests)
@@ -65,9 +65,9 @@ bits_on a w c m i s p (KeyWord n e k) there = p (KeyWord n e k) there
 bits_on a w c m i s p (ValueWord n e k) there = p (ValueWord n e k) there
 
 abbrev fresh_stamp : About → ℕ → ℕ
-fresh_stamp a m = a.version * 256 + 2 * depth (shape_at a m)
+fresh_stamp a m = a.version * 256 + 2 * first_depth (shape_at a m)
 
-pub stamps_on : (a : About) (w : Place → ℕ) (c m i s : ℕ) → IsPartly a w c m i s → IsPartly a (put_at w (Stamp m s) (a.version * 256 + 2 * depth (shape_at a m))) c m i (s + 1)
+pub stamps_on : (a : About) (w : Place → ℕ) (c m i s : ℕ) → IsPartly a w c m i s → IsPartly a (put_at w (Stamp m s) (a.version * 256 + 2 * first_depth (shape_at a m))) c m i (s + 1)
 stamps_on a w c m i s p (RunCount d) there = p (RunCount d) there
 stamps_on a w c m i s p (KeyCount n) there = p (KeyCount n) there
 stamps_on a w c m i s p (FreeBits n j) there = p (FreeBits n j) there
@@ -152,7 +152,7 @@ whole a w shaped p = record {
   counts = λ c l. p (RunCount c) (rw (yes c a.shape.cpus l) refl) ∙ rw (yes c a.shape.cpus l) refl;
   keys = λ m l. p (KeyCount m) (rw (yes m (length a.shape.maps) l) refl);
   bits = λ m e at_e. ap (λ (n : ℕ). bit_at n (e % 64)) (p (FreeBits m (e / 64)) (rw (yes m (length a.shape.maps) at_e.0, yes (e / 64) (free_words (shape_at a m)) (omega (arith, at_e.1))) refl) ∙ rw (yes m (length a.shape.maps) at_e.0) refl) ∙ all_bits (e % 64) (omega arith);
-  stamps = λ m s at_s. let z : w (Stamp m s) ≡ a.version * 256 + 2 * depth (shape_at a m) = p (Stamp m s) (rw (yes m (length a.shape.maps) at_s.0, yes s (segments (shape_at a m)) at_s.1) refl) ∙ rw (yes m (length a.shape.maps) at_s.0) refl in let d = depth_most (shape_at a m) in (omega arith, omega arith);
+  stamps = λ m s at_s. let z : w (Stamp m s) ≡ a.version * 256 + 2 * first_depth (shape_at a m) = p (Stamp m s) (rw (yes m (length a.shape.maps) at_s.0, yes s (segments (shape_at a m)) at_s.1) refl) ∙ rw (yes m (length a.shape.maps) at_s.0) refl in let d = first_most (shape_at a m) in (omega arith, omega arith, omega arith);
   heads = λ m s at_s. p (Head m s) (rw (yes m (length a.shape.maps) at_s.0, yes s (segments (shape_at a m)) at_s.1) refl);
   slots = λ m s b at_s lb. p (Slot m s b) (rw (yes m (length a.shape.maps) at_s.0, yes s (segments (shape_at a m)) at_s.1, yes b 64 lb) refl);
   hops = λ m s b at_s lb. p (Hop m s b) (rw (yes m (length a.shape.maps) at_s.0, yes s (segments (shape_at a m)) at_s.1, yes b 64 lb) refl);

@@ -15,7 +15,7 @@ use Rattle.hop_words.specs.declared.known.Limbo.{Limbo}
 use Rattle.hop_words.specs.declared.known.Lock.{Lock}
 use Rattle.hop_layout.specs.Layout.{mem, put_at}
 use Rattle.hop_words.specs.Content.{MapWords, place_words, one_if, times}
-use Rattle.hop_words.specs.Ghost.{segment_in, Holder, Free, Leaving, Within, is_filling, is_leaving, lane, Era, Ghost, HasElement, Each, limbo_at}
+use Rattle.hop_words.specs.Ghost.{Holder, Free, Leaving, Within, is_filling, is_leaving, lane, Era, Ghost, HasElement, Each, limbo_at, lock_home}
 use Rattle.hop_words.specs.Rule.{Rule, Chained, link_to, times_limbo, Linked, Segment, Segments, Minded, Holds, Locking}
 use Rattle.bpf_shared.specs.Own.{turns_of, in_run}
 use Rattle.hop_words.specs.Private.Step.{Steps}
@@ -30,6 +30,7 @@ use Rattle.hop_words.proofs.Locks.{put_here, put_else}
 use Rattle.hop_words.proofs.Writes.{chained_same}
 use Rattle.hop_words.proofs.Owners.{bits_step, linked_outside, valued_outside, locking_outside}
 use Rattle.hop_words.proofs.Stays.{stay}
+use Rattle.hop_words.specs.Ghost.{child}
 
 limbo_of : (g : Ghost) (l : Known) (m : ℕ) → lane g.lanes l.cpu ≡ l → limbo_at (g.lanes.limbo l.cpu) m ≡ limbo_at l.limbo m
 limbo_of g l m is = ap (λ (z : Known). limbo_at z.limbo m) is
@@ -77,6 +78,7 @@ give_old a l m e es even at_e room i ws g sized r is inside fits = record {
   ghost = g2;
   rule = record {
     shaped = r.shaped;
+    deep = r.deep;
     logged = r.logged;
     keyed = r.keyed;
     worn = r.worn;
@@ -103,7 +105,7 @@ give_old a l m e es even at_e room i ws g sized r is inside fits = record {
     linked = linked_outside a g.holder m e (Leaving l.cpu) Free was g.linked (λ s z. cc) (λ s z. cc) r.linked;
     filled = r.filled;
     segments = r.segments;
-    locking = locking_outside a g.holder m e (Leaving l.cpu) Free was (place_words w) (λ n t. w (Stamp n t)) g.eras g.linked g.lanes.locks (λ b. inr (λ t z. absurd z)) r.locking;
+    locking = locking_outside a g.holder m e (Leaving l.cpu) Free was g.depths (place_words w) (λ n t. w (Stamp n t)) g.eras g.linked g.lanes.locks (λ b. inr (λ home t z. absurd z)) r.locking;
     reading = r.reading;
     held = r.held;
     valued = valued_outside a g.holder m e (Leaving l.cpu) Free was _ g.last.made g.last.value g.last.held g.number (λ z. z) (λ c h _. nobody c h) r.valued;
@@ -177,37 +179,38 @@ give_old a l m e es even at_e room i ws g sized r is inside fits = record {
 
 -- ---- words of elements that the lane has: nobody else minds them
 -- the segments, where links and keys of linked elements are as they were
-pub segments_words : (a : About) (x x' : MapWords) (stamp : ℕ → ℕ → ℕ) (eras : ℕ → ℕ → Era) (linked : ℕ → List ℕ → Option ℕ) (holder : ℕ → ℕ → Holder) → Linked a (segment_in a) linked holder
+pub segments_words : (a : About) (depths : ℕ → ℕ → ℕ) (x x' : MapWords) (stamp : ℕ → ℕ → ℕ) (eras : ℕ → ℕ → Era) (linked : ℕ → List ℕ → Option ℕ) (holder : ℕ → ℕ → Holder) → Linked a linked holder
     → ((m s : ℕ) → x'.head m s ≡ x.head m s) → ((m s b : ℕ) → x'.hop m s b ≡ x.hop m s b) → ((m s b : ℕ) → x'.slot m s b ≡ x.slot m s b)
-    → ((m t d : ℕ) → holder m d ≡ Within t → (x'.link m d ≡ x.link m d) × ((k : ℕ) → x'.key m d k ≡ x.key m d k)) → Segments a (segment_in a) x stamp eras linked → Segments a (segment_in a) x' stamp eras linked
-segments_words a x x' stamp eras linked holder l head hop slot within p n t inside = record {
+    → ((m d : ℕ) (q : List ℕ) → holder m d ≡ Within q → (x'.link m d ≡ x.link m d) × ((k : ℕ) → x'.key m d k ≡ x.key m d k)) → Segments a depths x stamp eras linked → Segments a depths x' stamp eras linked
+segments_words a depths x x' stamp eras linked holder l head hop slot within p n t inside = record {
   at_rest = q.at_rest;
   clean = λ e. (
     (q.clean e).0,
     agrees_on n t _ _ x x' _ (q.clean e).1 (head n t) (hop n t) (slot n t)
-        (λ d on. let k = (q.shows e).each d on in let z = within n t d ((l.within n k.0 d k.3).1 ∙ ap Within k.2) in (on, z.0, z.1)),
+        (λ d on. let k = (q.shows e).each d on in let z = within n d k.0 (l.within n k.0 d k.3).1 in (on, z.0, z.1)),
   );
   written = q.written;
   shows = q.shows;
 }
   where
-    q : Segment a (segment_in a) x (stamp n t) (eras n t) n t (linked n)
+    q : Segment a depths x (stamp n t) (eras n t) n t (linked n)
     q = p n t inside
 
 -- the locks of the others, where links and keys that they mind are as they were
-pub locking_words : (a : About) (x x' : MapWords) (stamp : ℕ → ℕ → ℕ) (eras : ℕ → ℕ → Era) (linked : ℕ → List ℕ → Option ℕ) (holder : ℕ → ℕ → Holder) (locks : ℕ → List Lock) (c : ℕ) → locks c ≡ []
+pub locking_words : (a : About) (depths : ℕ → ℕ → ℕ) (x x' : MapWords) (stamp : ℕ → ℕ → ℕ) (eras : ℕ → ℕ → Era) (linked : ℕ → List ℕ → Option ℕ) (holder : ℕ → ℕ → Holder) (locks : ℕ → List Lock) (c : ℕ) → locks c ≡ []
     → ((m s : ℕ) → x'.head m s ≡ x.head m s) → ((m s b : ℕ) → x'.hop m s b ≡ x.hop m s b) → ((m s b : ℕ) → x'.slot m s b ≡ x.slot m s b)
-    → ((m t d b : ℕ) → b ≢ c → Minded b t (holder m d) → (x'.link m d ≡ x.link m d) × ((k : ℕ) → x'.key m d k ≡ x.key m d k)) → Locking a (segment_in a) x stamp eras linked holder locks → Locking a (segment_in a) x' stamp eras linked holder locks
-locking_words a x x' stamp eras linked holder locks c none head hop slot minded p b = ⊎_elim
-    (λ (t : b ≡ c). subst (Each (Holds a (segment_in a) x' stamp eras linked holder b)) (sym (ap locks t ∙ none)) tt)
+    → ((home : List ℕ → ℕ) (m t d b : ℕ) → b ≢ c → Minded home b t (holder m d) → (x'.link m d ≡ x.link m d) × ((k : ℕ) → x'.key m d k ≡ x.key m d k)) → Locking a depths x stamp eras linked holder locks → Locking a depths x' stamp eras linked holder locks
+locking_words a depths x x' stamp eras linked holder locks c none head hop slot minded p b = ⊎_elim
+    (λ (t : b ≡ c). subst (Each (Holds a depths x' stamp eras linked holder b)) (sym (ap locks t ∙ none)) tt)
     (λ (ne : b ≢ c). go ne (locks b) (p b))
     (equal b c)
   where
-    go : b ≢ c → (ks : List Lock) → Each (Holds a (segment_in a) x stamp eras linked holder b) ks → Each (Holds a (segment_in a) x' stamp eras linked holder b) ks
+    go : b ≢ c → (ks : List Lock) → Each (Holds a depths x stamp eras linked holder b) ks → Each (Holds a depths x' stamp eras linked holder b) ks
     go ne [] q = tt
     go ne (k ∷ ks) q = (
       record {
         inside = q.0.inside;
+        deep = q.0.deep;
         even = q.0.even;
         locked = q.0.locked;
         writer = q.0.writer;
@@ -215,7 +218,9 @@ locking_words a x x' stamp eras linked holder locks c none head hop slot minded 
         credit = q.0.credit;
         untouched = q.0.untouched;
         sized = q.0.sized;
-        copied = agrees_on k.map k.segment _ _ x x' _ q.0.copied (head k.map k.segment) (hop k.map k.segment) (slot k.map k.segment) (λ d on. let z = minded k.map k.segment d b ne on in (on, z.0, z.1));
+        copied = agrees_on k.map k.segment _ _ x x' _ q.0.copied (head k.map k.segment) (hop k.map k.segment) (slot k.map k.segment) (λ d on. let z = minded (lock_home a k) k.map k.segment d b ne on in (on, z.0, z.1));
+        beside = record { head = head k.map (child k) ∙ q.0.beside.head; hop = λ j. hop k.map (child k) j ∙ q.0.beside.hop j; slot = λ j. slot k.map (child k) j ∙ q.0.beside.slot j };
+        beside_stamp = q.0.beside_stamp;
         due = q.0.due;
       },
       go ne ks q.1,
@@ -228,6 +233,7 @@ retire a l m e us at_e room unlocked used ws g sized r is inside fits = record {
   ghost = g2;
   rule = record {
     shaped = r.shaped;
+    deep = r.deep;
     logged = r.logged;
     keyed = r.keyed;
     worn = r.worn;
@@ -251,10 +257,10 @@ retire a l m e us at_e room unlocked used ws g sized r is inside fits = record {
     };
     linked = r.linked;
     filled = r.filled;
-    segments = segments_words a (place_words w) (place_words w2) (λ n t. w (Stamp n t)) g.eras g.linked g.holder r.linked (λ n t. refl) (λ n t b. refl) (λ n t b. refl)
-        (λ n t d h. (link_else n d (λ u v. let z : Within t ≡ Leaving l.cpu = sym h ∙ ((λ j. g.holder (u j) (v j)) ∙ was) in cc), λ k. refl)) r.segments;
-    locking = locking_words a (place_words w) (place_words w2) (λ n t. w (Stamp n t)) g.eras g.linked g.holder g.lanes.locks l.cpu (ap (λ (z : Known). z.locks) is ∙ unlocked) (λ n t. refl) (λ n t b. refl) (λ n t b. refl)
-        (λ n t d b ne on. (link_else n d (λ u v. ne (sym (subst (Minded b t) ((λ j. g.holder (u j) (v j)) ∙ was) on))), λ k. refl)) r.locking;
+    segments = segments_words a g.depths (place_words w) (place_words w2) (λ n t. w (Stamp n t)) g.eras g.linked g.holder r.linked (λ n t. refl) (λ n t b. refl) (λ n t b. refl)
+        (λ n d q h. (link_else n d (λ u v. let z : Within q ≡ Leaving l.cpu = sym h ∙ ((λ j. g.holder (u j) (v j)) ∙ was) in cc), λ k. refl)) r.segments;
+    locking = locking_words a g.depths (place_words w) (place_words w2) (λ n t. w (Stamp n t)) g.eras g.linked g.holder g.lanes.locks l.cpu (ap (λ (z : Known). z.locks) is ∙ unlocked) (λ n t. refl) (λ n t b. refl) (λ n t b. refl)
+        (λ home n t d b ne on. (link_else n d (λ u v. ne (sym (subst (Minded home b t) ((λ j. g.holder (u j) (v j)) ∙ was) on))), λ k. refl)) r.locking;
     reading = r.reading;
     held = r.held;
     valued = r.valued;

@@ -10,10 +10,10 @@ use Rattle.hop_layout.specs.declared.about.About.{About}
 use Rattle.hop_words.specs.declared.known.Fresh.{Fresh}
 use Rattle.hop_words.specs.declared.known.Limbo.{Limbo}
 use Rattle.hop_words.specs.Content.{one_if, times}
-use Rattle.hop_words.specs.Ghost.{segment_in, Holder, Leaving, Within, is_free, is_filling, is_leaving, Carries, HasElement, limbo_at, no_limbo}
+use Rattle.hop_words.specs.Ghost.{Holder, Leaving, Within, is_free, is_filling, is_leaving, Carries, HasElement, limbo_at, no_limbo}
 use Rattle.hop_words.specs.Rule.{put_key, numbered, Keyed, Batched, Chained, Owned, times_limbo, Linked, Valued}
 use Rattle.hop_words.proofs.Small.{put_key-same, put_key-other, equal_keys, equal, here_or, put2-same, put2-other}
-use Rattle.hop_words.proofs.Comes.{moved}
+use Rattle.hop_words.proofs.Comes.{moved, within_once}
 
 -- ---- what a CPU has of one map
 pub limbo_same : (xs : List Limbo) (m : ℕ) (y : Limbo) → m < length xs → limbo_at (set xs m y) m ≡ y
@@ -35,15 +35,15 @@ limbo_put P limbo c m y l own others b n = ⊎_elim
 abbrev pub with_used : Limbo → ℕ → Limbo
 with_used x e = record x { used = e ∷ x.used }
 
-module _ (a : About) (c m e s : ℕ) (key : List ℕ) (holder : ℕ → ℕ → Holder) (was : holder m e ≡ Within s) where
+module _ (a : About) (c m e s : ℕ) (key : List ℕ) (holder : ℕ → ℕ → Holder) (was : holder m e ≡ Within key) where
   abbrev gone' : ℕ → ℕ → Holder
   gone' = put holder m (put (holder m) e (Leaving c))
 
   pub owned_goes : (free : ℕ → ℕ → ℕ) (fresh : ℕ → List Fresh) (limbo : ℕ → List Limbo) → Owned a free fresh limbo holder → c < a.shape.cpus → HasElement a m e → m < length (limbo c)
       → Owned a free fresh (put limbo c (set (limbo c) m (with_used (limbo_at (limbo c) m) e))) gone'
   owned_goes free fresh limbo p inside at_e room = record {
-    bits = λ n d l. p.bits n d l ∙ sym (moved (λ x. one_if (is_free x)) holder m e (Within s) (Leaving c) was refl n d);
-    fresh_is = λ b n d inb l. p.fresh_is b n d inb l ∙ sym (moved (λ x. one_if (is_filling b x)) holder m e (Within s) (Leaving c) was refl n d);
+    bits = λ n d l. p.bits n d l ∙ sym (moved (λ x. one_if (is_free x)) holder m e (Within key) (Leaving c) was refl n d);
+    fresh_is = λ b n d inb l. p.fresh_is b n d inb l ∙ sym (moved (λ x. one_if (is_filling b x)) holder m e (Within key) (Leaving c) was refl n d);
     limbo_is = λ b n d inb l. limbo_put (λ b n x. b < a.shape.cpus → HasElement a n d → times_limbo d x ≡ one_if (is_leaving b (gone' n d))) limbo c m (with_used (limbo_at (limbo c) m) e) room
         (λ _ at_d. ⊎_elim
         (λ (t : d ≡ e).
@@ -60,7 +60,7 @@ module _ (a : About) (c m e s : ℕ) (key : List ℕ) (holder : ℕ → ℕ → 
         (equal d e))
         (λ b n ne inb l. p.limbo_is b n d inb l ∙ ⊎_elim
         (λ (t : b ≡ c). ap (λ x. one_if (is_leaving b x)) (sym (put2-other holder m e n d (Leaving c) (λ u. absurd (ne t u)))))
-        (λ (nb : b ≢ c). sym (moved (λ x. one_if (is_leaving b x)) holder m e (Within s) (Leaving c) was (ap one_if (ne_eqb c b (λ (i : c ≡ b). nb (sym i)))) n d))
+        (λ (nb : b ≢ c). sym (moved (λ x. one_if (is_leaving b x)) holder m e (Within key) (Leaving c) was (ap one_if (ne_eqb c b (λ (i : c ≡ b). nb (sym i)))) n d))
         (equal b c))
         b n inb l;
   }
@@ -91,16 +91,15 @@ module _ (a : About) (c m e s : ℕ) (key : List ℕ) (holder : ℕ → ℕ → 
         (λ (ne : n ≡ m → q ≢ key). (ne, sym (cut_old n q ne) ∙ is))
         (here_key n q)
 
-    pub linked_goes : Linked a (segment_in a) linked holder → linked m key ≡ Some e → Linked a (segment_in a) cut' gone'
+    pub linked_goes : Linked a linked holder → linked m key ≡ Some e → Linked a cut' gone'
     linked_goes p there = record {
       within = λ n q d is. let t = still n d q is in let w = p.within n q d t.1 in
-          (w.0, put2-other holder m e n d (Leaving c) (λ i u. t.0 i (p.once m q key e ((λ j. linked (sym i j) q) ∙ (t.1 ∙ ap Some u)) there)) ∙ w.1);
-      leads = λ n d t at_d is. ⊎_elim
-          (λ (h : (n ≡ m) × (d ≡ e)). let z : Leaving c ≡ Within t = sym (put2-same holder m e n d (Leaving c) h.0 h.1) ∙ is in cc)
-          (λ (ne : n ≡ m → d ≢ e). let w = p.leads n d t at_d (sym (put2-other holder m e n d (Leaving c) ne) ∙ is) in
-          (w.0, cut_old n w.0 (λ i u. ne i (let z : Some d ≡ Some e = sym w.1 ∙ ((λ j. linked (i j) (u j)) ∙ there) in cc)) ∙ w.1))
+          (w.0, put2-other holder m e n d (Leaving c) (λ i u. t.0 i (within_once (sym w.1 ∙ ((λ j. holder (i j) (u j)) ∙ was)))) ∙ w.1);
+      leads = λ n d q at_d is. ⊎_elim
+          (λ (h : (n ≡ m) × (d ≡ e)). let z : Leaving c ≡ Within q = sym (put2-same holder m e n d (Leaving c) h.0 h.1) ∙ is in cc)
+          (λ (ne : n ≡ m → d ≢ e). let w = p.leads n d q at_d (sym (put2-other holder m e n d (Leaving c) ne) ∙ is) in
+          cut_old n q (λ i u. ne i (let z : Some d ≡ Some e = sym w ∙ ((λ j. linked (i j) (u j)) ∙ there) in cc)) ∙ w)
           (here_or m n e d);
-      once = λ n x y d is it. p.once n x y d (still n d x is).1 (still n d y it).1;
     }
 
     pub keyed_goes : (counts : ℕ → ℕ) (maps : ℕ → KeyMap) (number : ℕ → ℕ → ℕ) → Keyed a counts maps linked number → linked m key ≡ Some e

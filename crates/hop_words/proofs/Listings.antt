@@ -1,7 +1,6 @@
 -- Whoever has the locks of all segments of a map, and nothing left to write, reads the last store's
 -- map in their words.
-use Rattle.std.proofs.Common.{◌≡◌, ℕ, zero, suc, ◌<◌, ◌≤◌, Bool, true, false, ◌&&◌, ◌==◌, List, [], ◌∷◌, Option, Some, None, is_some, length, refl, ap, sym, subst, ◌∙◌, arith}
-use Rattle.std.proofs.lemmas.Nat.{mod_below}
+use Rattle.std.proofs.Common.{◌≡◌, ℕ, ◌<◌, false, List, [], ◌∷◌, Option, Some, None, is_some, length, refl, ap, sym, subst, ◌∙◌, ⊎_elim}
 use Rattle.std.specs.FinMap.{get}
 use Rattle.bpf_shared.specs.declared.events.Event.TheVariants.{Keys}
 use Rattle.bpf_shared.specs.Store.{Plain}
@@ -11,46 +10,26 @@ use Rattle.hop_layout.specs.declared.about.About.{About}
 use Rattle.hop_words.specs.declared.known.Known.{Known}
 use Rattle.hop_words.specs.declared.known.Lock.{Lock}
 use Rattle.hop_layout.specs.declared.place.Place.TheVariants.{Stamp}
-use Rattle.hop_layout.specs.Layout.{depth, power, segments}
-use Rattle.hop_words.specs.Content.{one_if}
-use Rattle.hop_words.specs.Ghost.{segment_in, shape_at, Each}
-use Rattle.hop_words.specs.Rule.{numbered, times_lock}
+use Rattle.hop_words.specs.Ghost.{IsHomeIn, Each}
+use Rattle.hop_words.specs.Rule.{numbered}
 use Rattle.hop_words.specs.Private.Step.{Steps}
 use Rattle.hop_words.specs.Kinds.{Shows, AnswersAll, AnsweredAll}
 use Rattle.hop_words.specs.Locking.{lock_of, other_locks}
-use Rattle.hop_words.specs.Listing.{ListsSegment, ListsMap}
-use Rattle.hop_layout.proofs.Layouts.{one}
+use Rattle.hop_words.specs.Listing.{ListsSegment, IsHomeAmong, ListsMap}
 use Rattle.hop_words.proofs.Unlocks.{unlock_several}
-
-some_power : (d : ℕ) → 0 < power d
-some_power zero = omega arith
-some_power (suc d) = let r = some_power d in omega arith
 
 some_if_numbered : (f : ℕ → ℕ) (o : Option ℕ) → is_some (numbered f o) ≡ is_some o
 some_if_numbered f None = refl
 some_if_numbered f (Some e) = refl
 
-both : (b c : Bool) → 1 ≤ one_if (b && c) → (b ≡ true) × (c ≡ true)
-both true true l = (refl, refl)
-both true false l = absurd (omega arith)
-both false c l = absurd (omega arith)
-
--- the lock of a segment, in a list that has it
+-- by the lock of the key's segment, in a list that has it
 module _ (a : About) (linked : ℕ → List ℕ → Option ℕ) (m : ℕ) (keys : List (List ℕ)) (q : List ℕ) where
-  at_home : (ks : List Lock) → 1 ≤ times_lock m (segment_in a m q) ks → Each (Shows a linked) ks → Each (ListsSegment a keys) ks → is_some (linked m q) ≡ is_among q keys
-  at_home [] some shows lists = absurd (omega arith)
-  at_home (k ∷ ks) some shows lists = go ((k.map == m) && (k.segment == segment_in a m q)) refl (λ more. at_home ks more shows.1 lists.1)
-    where
-      here : (k.map ≡ m) → (k.segment ≡ segment_in a m q) → is_some (linked m q) ≡ is_among q keys
-      here n t =
-          let home : segment_in a k.map q ≡ k.segment = ap (λ (i : ℕ). segment_in a i q) n ∙ sym t in
-          subst (λ (i : ℕ). is_some (linked i q) ≡ is_among q keys) n (lists.0 (linked k.map) shows.0 q home)
-
-      go : (b : Bool) → ((k.map == m) && (k.segment == segment_in a m q)) ≡ b → (1 ≤ times_lock m (segment_in a m q) ks → is_some (linked m q) ≡ is_among q keys) → is_some (linked m q) ≡ is_among q keys
-      go true is rest =
-          let b = both (k.map == m) (k.segment == segment_in a m q) (let z : one_if ((k.map == m) && (k.segment == segment_in a m q)) ≡ 1 = ap one_if is in omega arith) in
-          here (one k.map m b.0) (one k.segment (segment_in a m q) b.1)
-      go false is rest = rest (let z : one_if ((k.map == m) && (k.segment == segment_in a m q)) ≡ 0 = ap one_if is in omega arith)
+  at_home : (ks : List Lock) → IsHomeAmong a q ks → Each (λ (k : Lock). k.map ≡ m) ks → Each (Shows a linked) ks → Each (ListsSegment a keys) ks → is_some (linked m q) ≡ is_among q keys
+  at_home [] some of shows lists = absurd some
+  at_home (k ∷ ks) some of shows lists = ⊎_elim
+      (λ (home : IsHomeIn a k q). subst (λ (i : ℕ). is_some (linked i q) ≡ is_among q keys) of.0 (lists.0 (linked k.map) shows.0 q home))
+      (λ (more : IsHomeAmong a q ks). at_home ks more of.1 shows.1 lists.1)
+      some
 
 module _ (a : About) (l : Known) (m : ℕ) (keys : List (List ℕ)) (i : ListsMap a l m keys) where
   abbrev k : Lock
@@ -65,7 +44,7 @@ module _ (a : About) (l : Known) (m : ℕ) (keys : List (List ℕ)) (i : ListsMa
   listed s linked number shows leads = in_order_is (s.maps m) keys (λ q.
       ap is_some (leads m q) ∙ (some_if_numbered (number m) (linked m q)
       ∙ at_home a linked m keys q (k ∷ rest)
-      (subst (λ (ks : List Lock). 1 ≤ times_lock m (segment_in a m q) ks) i.locks (i.all (segment_in a m q) (i.map, mod_below _ (segments (shape_at a m)) (some_power (depth (shape_at a m))))))
+      (subst (IsHomeAmong a q) i.locks (i.all q)) (subst (Each (λ (j : Lock). j.map ≡ m)) i.locks i.of_map)
       shows (subst (Each (ListsSegment a keys)) i.locks i.lists)))
 
   pub lists_all : AnswersAll a l k rest (Keys m (in_order keys))

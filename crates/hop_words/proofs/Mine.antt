@@ -8,7 +8,7 @@ use Rattle.hop_words.specs.declared.known.Lock.{Lock}
 use Rattle.hop_layout.specs.declared.place.Place.{Place}
 use Rattle.hop_layout.specs.Layout.{mem}
 use Rattle.hop_words.specs.Content.{place_words}
-use Rattle.hop_words.specs.Ghost.{segment_in, Filling, lane, Ghost, HasElement}
+use Rattle.hop_words.specs.Ghost.{Filling, lane, Ghost, HasElement, lock_home}
 use Rattle.hop_words.specs.Rule.{Rule, Holds, Minded, image}
 use Rattle.hop_words.specs.Private.Step.{Steps}
 use Rattle.hop_words.specs.Kinds.{MayLink}
@@ -18,17 +18,17 @@ use Rattle.hop_words.proofs.Stays.{stay}
 
 module _ (a : About) (l : Known) (k : Lock) {rest : List Lock} (held : l.locks ≡ k ∷ rest) (e : ℕ) (may : MayLink a l k e) where
   module _ (w : Place → ℕ) (g : Ghost) (r : Rule a w g) (is : lane g.lanes l.cpu ≡ l) (inside : l.cpu < a.shape.cpus) where
-    h : Holds a (segment_in a) (place_words w) (λ n t. w (Stamp n t)) g.eras g.linked g.holder l.cpu k
+    h : Holds a g.depths (place_words w) (λ n t. w (Stamp n t)) g.eras g.linked g.holder l.cpu k
     h = holds a l k held w g r is
 
-    mine : Minded l.cpu k.segment (g.holder k.map e)
+    mine : Minded (lock_home a k) l.cpu k.segment (g.holder k.map e)
     mine = ⊎_elim
         (λ (f : (f : Fresh) × (rest : List Fresh) × (l.fresh ≡ f ∷ rest) × (f.map ≡ k.map) × (f.element ≡ e)).
-        subst (Minded l.cpu k.segment)
+        subst (Minded (lock_home a k) l.cpu k.segment)
         (sym (subst (λ (x : ℕ). g.holder k.map x ≡ Filling l.cpu) f.4
         (in_hand a _ g.lanes.fresh g.lanes.limbo g.holder l.cpu k.map f.0 f.1 r.owned inside (subst (HasElement a k.map) (sym f.4) (h.inside.0, may.0)) f.3 (ap (λ (x : Known). x.fresh) is ∙ f.2))))
         refl)
-        (λ due. let d = h.due in let t = due d.0 d.1 in subst (Minded l.cpu k.segment) (sym (r.linked.within k.map t.0 e (d.2 t.0 t.2 ∙ t.1)).1) t.2)
+        (λ due. let d = h.due in let t = due d.0 d.1 in subst (Minded (lock_home a k) l.cpu k.segment) (sym (r.linked.within k.map t.0 e (d.2 t.0 t.2 ∙ t.1)).1) t.2)
         may.1
 
   pub read_mine : Steps a l (Link k.map e) (λ n. n) (λ ws n l'. (n ≡ (image a k.copy).link k.map e) × (l' ≡ l))

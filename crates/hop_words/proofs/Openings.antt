@@ -1,5 +1,5 @@
 -- The store as made keeps the rule.
-use Rattle.std.proofs.Common.{◌≡◌, ℕ, zero, suc, ◌+◌, ◌<◌, ◌≤◌, false, true≢false, List, [], ◌∷◌, ◌++◌, Some, None, length, refl, ap, sym, subst, ◌∙◌, arith, inl, inr}
+use Rattle.std.proofs.Common.{◌≡◌, ℕ, zero, suc, ◌+◌, ◌<◌, ◌≤◌, false, true≢false, List, [], ◌∷◌, ◌++◌, Some, None, length, refl, ap, sym, subst, ◌∙◌, arith, inl, inr, ◌-◌, nat_lt, Bool, true, ◌&&◌, if◌then◌else◌, ⊎_elim}
 use mathlib.Core.Option.{some, some-injective, some-ne-none}
 use lib.ListN.{get_elem?}
 use mathlib.Core.List.{IsPrefix}
@@ -16,19 +16,43 @@ use Rattle.hop_layout.specs.declared.place.Place.TheVariants.{Stamp, Head, Hop, 
 use Rattle.hop_layout.specs.declared.about.About.{About}
 use Rattle.hop_words.specs.declared.known.Known.{Known}
 use Rattle.hop_words.specs.declared.known.View.{View}
-use Rattle.hop_layout.specs.Layout.{mem, size}
+use Rattle.hop_layout.specs.Layout.{mem, size, first_depth, depth, power}
 use Rattle.hop_words.specs.Content.{item, place_words, times, Reached, LinksThrough, IsShare}
-use Rattle.hop_words.specs.Ghost.{segment_in, Free, Lanes, lane, Era, Ghost, shape_at, IsSegment, limbo_at, no_limbo}
+use Rattle.hop_words.specs.Ghost.{Free, Lanes, lane, Era, Ghost, shape_at, IsSegment, limbo_at, no_limbo}
 use Rattle.hop_words.specs.Shortage.{HasCause}
 use Rattle.hop_words.specs.Rule.{Rule, Kept, times_limbo, Chained}
 use Rattle.hop_words.specs.Private.Made.{AreNewWords}
 use Rattle.hop_words.specs.Opens.{no_limbos, new_lane, lanes_from, opens}
 use Rattle.hop_words.proofs.CountDown.{nothing_in}
+use Rattle.hop_words.specs.Depths.{home_by}
+use Rattle.hop_layout.specs.Births.{is_born, AreDepths}
+use Rattle.hop_layout.proofs.Births.{born_small, below_or, low_is, high_is}
+use Rattle.bpf_shared.specs.declared.shapes.MapShape.{MapShape}
+use Rattle.std.proofs.lemmas.Bool.Decides.{nat_tests}
 
 limbo_none : (n m : ℕ) → limbo_at (no_limbos n) m ≡ no_limbo
 limbo_none zero m = refl
 limbo_none (suc n) zero = refl
 limbo_none (suc n) (suc m) = limbo_none n m
+
+-- the depths as made
+no_depth : (limit n s : ℕ) → is_born (λ t. 0) n s ≡ true → s ≡ 0
+no_depth limit zero s b = let z = b in grind (arith, nat_tests)
+no_depth limit (suc n) s b = ⊎_elim
+    (λ (l : s < power n). no_depth limit n s (sym (low_is (λ t. 0) n s l) ∙ b))
+    (λ (h : power n ≤ s). let z : nat_lt n 0 && is_born (λ t. 0) n (s - power n) ≡ true = sym (high_is (λ t. 0) n s h) ∙ b in let y : nat_lt n 0 ≡ false = (grind (arith, nat_tests)) in absurd (true≢false (sym z ∙ ap (λ (x : Bool). x && is_born (λ t. 0) n (s - power n)) y)))
+    (below_or s (power n))
+
+first_sound : (g : MapShape) → AreDepths (λ s. first_depth g) (depth g)
+first_sound g s b = go (g.grow) refl
+  where
+    go : (x : Bool) → g.grow ≡ x → (s < power (first_depth g)) × (first_depth g ≤ depth g)
+    go true e = let z : first_depth g ≡ 0 = ap (λ (y : Bool). if y then 0 else depth g) e in
+        let n = no_depth (depth g) (depth g) s (subst (λ (k : ℕ). is_born (λ t. k) (depth g) s ≡ true) z b) in
+        let p : power (first_depth g) ≡ 1 = ap power z in (omega arith, omega arith)
+    go false e = let z : first_depth g ≡ depth g = ap (λ (y : Bool). if y then 0 else depth g) e in
+        let p : power (first_depth g) ≡ power (depth g) = ap power z in
+        let n = born_small (λ t. first_depth g) (depth g) s b in (omega arith, omega arith)
 
 module _ (a : About) (w : Place → ℕ) (i : AreNewWords a w) where
   new_lanes : Lanes
@@ -45,6 +69,7 @@ module _ (a : About) (w : Place → ℕ) (i : AreNewWords a w) where
     holder = λ m e. Free;
     number = λ m e. 0;
     linked = λ m key. None;
+    depths = λ m s. first_depth (shape_at a m);
     eras = λ m s. record { era = w (Stamp m s); writer = 0; dirty = false; credit = 0; old = place_words w };
   }
 
@@ -59,7 +84,7 @@ module _ (a : About) (w : Place → ℕ) (i : AreNewWords a w) where
       go [] f has = omega arith
       go (x ∷ xs) f has = let z : None ≡ Some x = ap item (sym (i.heads m s at_s)) ∙ f.0 in cc
 
-  empty_share : (m s : ℕ) → IsSegment a m s → IsShare a.seed (shape_at a m) (segment_in a m) (place_words w) m s (λ key. None)
+  empty_share : (m s : ℕ) → IsSegment a m s → IsShare a.seed (shape_at a m) (home_by a m (first_depth (shape_at a m))) (place_words w) m s (λ key. None)
   empty_share m s at_s = record {
     sound = record {
       leads = λ b d lb ld one. absurd (no_bit m s b d at_s lb one);
@@ -82,9 +107,14 @@ module _ (a : About) (w : Place → ℕ) (i : AreNewWords a w) where
   new_rule : Rule a w new_ghost
   new_rule = record {
     shaped = i.shaped;
+    deep = record {
+      sound = λ m in_m. first_sound (shape_at a m);
+      stamped = λ m s b. (i.stamps m s (b.0, b.1)).2;
+      whole = λ m s in_m in_s no. ap (λ (y : Bool). if y then 0 else depth (shape_at a m)) no;
+    };
     logged = record { legal = refl; begins = λ c l. ([], refl); own = λ c l. refl; others = λ c l. refl; causes = λ before after x e. none_before before after x e };
     keyed = record { counted = λ m l. i.keys m l ∙ sym (len-empty (slice_cmp nat_cmp) ℕ); leads = λ m key. nothing_in key };
-    worn = λ m s at_s. (let z = (i.stamps m s at_s).1 in omega arith);
+    worn = λ m s b. (let z = (i.stamps m s (b.0, b.1)).1 in omega arith);
     runs = λ c l. i.counts c l ∙ omega arith;
     batched = record {
       young = λ c m l. subst (λ x. Chained (λ e. w (Link m e)) x.young) (sym (limbo_none (length a.shape.maps) m)) tt;
@@ -96,9 +126,9 @@ module _ (a : About) (w : Place → ℕ) (i : AreNewWords a w) where
       fresh_is = λ c m e l at_e. refl;
       limbo_is = λ c m e l at_e. ap (times_limbo e) (limbo_none (length a.shape.maps) m);
     };
-    linked = record { within = λ m key e is. cc; leads = λ m e s l is. cc; once = λ m p q e is it. cc };
+    linked = record { within = λ m key e is. cc; leads = λ m e key l is. cc };
     filled = λ c l. tt;
-    segments = λ m s at_s. record {
+    segments = λ m s b. let at_s : IsSegment a m s = (b.0, b.1) in record {
       at_rest = λ e. refl;
       clean = λ d. ((let z = (i.stamps m s at_s).0 in omega arith), record { head = refl; hop = λ b. refl; slot = λ b. refl; link = λ e on. refl; key = λ e k on. refl });
       written = λ d. absurd (true≢false (sym d));
@@ -106,7 +136,7 @@ module _ (a : About) (w : Place → ℕ) (i : AreNewWords a w) where
     };
     locking = λ c. tt;
     reading = λ c. tt;
-    held = λ m s at_s odd. absurd (let z = (i.stamps m s at_s).0 in omega arith);
+    held = λ m s b odd. absurd (let z = (i.stamps m s (b.0, b.1)).0 in omega arith);
     valued = record { lies = λ m e l has. absurd has; older = λ m e l has. absurd has; held_in = λ c v h. absurd (true≢false (sym h)) };
     shown = record { begun = λ m e c at_e q. cc; taken = λ c m e l at_e seen. absurd seen };
   }

@@ -18,7 +18,7 @@ use Rattle.hop_words.specs.declared.known.Fresh.{Fresh}
 use Rattle.hop_words.specs.declared.known.Lock.{Lock}
 use Rattle.hop_layout.specs.Layout.{mem, put_at}
 use Rattle.hop_words.specs.Content.{MapWords, place_words, one_if}
-use Rattle.hop_words.specs.Ghost.{segment_in, Holder, Free, Filling, Leaving, Within, is_free, is_filling, is_leaving, Carries, lane, Era, Ghost, HasElement, Each}
+use Rattle.hop_words.specs.Ghost.{Holder, Free, Filling, Leaving, Within, is_free, is_filling, is_leaving, Carries, lane, Era, Ghost, HasElement, Each, lock_home}
 use Rattle.hop_words.specs.Rule.{Rule, times_fresh, Linked, StartsWith, Minded, Holds, Locking, Valued}
 use Rattle.hop_words.specs.Shortage.{HasBegun}
 use Rattle.hop_words.specs.Private.Step.{Next, Steps}
@@ -64,14 +64,13 @@ module _ (a : About) (holder : ℕ → ℕ → Holder) (m e : ℕ) (x y : Holder
   abbrev pub holder' : ℕ → ℕ → Holder
   holder' = put holder m (put (holder m) e y)
 
-  pub linked_outside : (linked : ℕ → List ℕ → Option ℕ) → ((s : ℕ) → x ≡ Within s → ⊥) → ((s : ℕ) → y ≡ Within s → ⊥) → Linked a (segment_in a) linked holder → Linked a (segment_in a) linked holder'
+  pub linked_outside : (linked : ℕ → List ℕ → Option ℕ) → ((q : List ℕ) → x ≡ Within q → ⊥) → ((q : List ℕ) → y ≡ Within q → ⊥) → Linked a linked holder → Linked a linked holder'
   linked_outside linked nx ny p = record {
     within = λ n q d is. let k = p.within n q d is in (k.0, put2-other holder m e n d y (λ t u. nx _ (sym was ∙ ((λ j. holder (sym t j) (sym u j)) ∙ k.1))) ∙ k.1);
     leads = λ n d s l is. ⊎_elim
         (λ (h : (n ≡ m) × (d ≡ e)). absurd (ny s (sym (put2-same holder m e n d y h.0 h.1) ∙ is)))
         (λ (ne : n ≡ m → d ≢ e). p.leads n d s l (sym (put2-other holder m e n d y ne) ∙ is))
         (here_or m n e d);
-    once = p.once;
   }
 
   pub valued_outside : (words : ℕ → ℕ → ℕ → ℕ) (made : ℕ) (value : ℕ → Value) (held : ℕ → ℕ → Bool) (number : ℕ → ℕ → ℕ) → (Carries y → ⊥) → ((c : ℕ) → held c (number m e) ≡ true → Carries x → ⊥)
@@ -86,18 +85,19 @@ module _ (a : About) (holder : ℕ → ℕ → Holder) (m e : ℕ) (x y : Holder
       away : (n d : ℕ) → Carries (holder' n d) → n ≡ m → d ≢ e
       away n d has t u = ny (subst Carries (put2-same holder m e n d y t u) has)
 
-  pub locking_outside : (xw : MapWords) (stamp : ℕ → ℕ → ℕ) (eras : ℕ → ℕ → Era) (linked : ℕ → List ℕ → Option ℕ) (locks : ℕ → List Lock) → ((b : ℕ) → (locks b ≡ []) ⊎ ((t : ℕ) → Minded b t y → Minded b t x))
-      → Locking a (segment_in a) xw stamp eras linked holder locks → Locking a (segment_in a) xw stamp eras linked holder' locks
-  locking_outside xw stamp eras linked locks fewer p b = ⊎_elim
-      (λ (none : locks b ≡ []). subst (Each (Holds a (segment_in a) xw stamp eras linked holder' b)) (sym none) tt)
-      (λ (less : (t : ℕ) → Minded b t y → Minded b t x). go less (locks b) (p b))
+  pub locking_outside : (depths : ℕ → ℕ → ℕ) (xw : MapWords) (stamp : ℕ → ℕ → ℕ) (eras : ℕ → ℕ → Era) (linked : ℕ → List ℕ → Option ℕ) (locks : ℕ → List Lock) → ((b : ℕ) → (locks b ≡ []) ⊎ ((home : List ℕ → ℕ) (t : ℕ) → Minded home b t y → Minded home b t x))
+      → Locking a depths xw stamp eras linked holder locks → Locking a depths xw stamp eras linked holder' locks
+  locking_outside depths xw stamp eras linked locks fewer p b = ⊎_elim
+      (λ (none : locks b ≡ []). subst (Each (Holds a depths xw stamp eras linked holder' b)) (sym none) tt)
+      (λ (less : (home : List ℕ → ℕ) (t : ℕ) → Minded home b t y → Minded home b t x). go less (locks b) (p b))
       (fewer b)
     where
-      go : ((t : ℕ) → Minded b t y → Minded b t x) → (ks : List Lock) → Each (Holds a (segment_in a) xw stamp eras linked holder b) ks → Each (Holds a (segment_in a) xw stamp eras linked holder' b) ks
+      go : ((home : List ℕ → ℕ) (t : ℕ) → Minded home b t y → Minded home b t x) → (ks : List Lock) → Each (Holds a depths xw stamp eras linked holder b) ks → Each (Holds a depths xw stamp eras linked holder' b) ks
       go less [] q = tt
       go less (k ∷ ks) q = (
         record {
           inside = q.0.inside;
+          deep = q.0.deep;
           even = q.0.even;
           locked = q.0.locked;
           writer = q.0.writer;
@@ -105,16 +105,18 @@ module _ (a : About) (holder : ℕ → ℕ → Holder) (m e : ℕ) (x y : Holder
           credit = q.0.credit;
           untouched = q.0.untouched;
           sized = q.0.sized;
-          copied = agrees_on k.map k.segment _ _ xw xw _ q.0.copied refl (λ j. refl) (λ j. refl) (λ d on. (mind k.map k.segment d on, refl, λ j. refl));
+          copied = agrees_on k.map k.segment _ _ xw xw _ q.0.copied refl (λ j. refl) (λ j. refl) (λ d on. (mind (lock_home a k) k.map k.segment d on, refl, λ j. refl));
+          beside = q.0.beside;
+          beside_stamp = q.0.beside_stamp;
           due = q.0.due;
         },
         go less ks q.1,
       )
         where
-          mind : (n t d : ℕ) → Minded b t (holder' n d) → Minded b t (holder n d)
-          mind n t d on = ⊎_elim
-              (λ (h : (n ≡ m) × (d ≡ e)). subst (Minded b t) (sym ((λ j. holder (h.0 j) (h.1 j)) ∙ was)) (less t (subst (Minded b t) (put2-same holder m e n d y h.0 h.1) on)))
-              (λ (ne : n ≡ m → d ≢ e). subst (Minded b t) (put2-other holder m e n d y ne) on)
+          mind : (home : List ℕ → ℕ) (n t d : ℕ) → Minded home b t (holder' n d) → Minded home b t (holder n d)
+          mind home n t d on = ⊎_elim
+              (λ (h : (n ≡ m) × (d ≡ e)). subst (Minded home b t) (sym ((λ j. holder (h.0 j) (h.1 j)) ∙ was)) (less home t (subst (Minded home b t) (put2-same holder m e n d y h.0 h.1) on)))
+              (λ (ne : n ≡ m → d ≢ e). subst (Minded home b t) (put2-other holder m e n d y ne) on)
               (here_or m n e d)
 
 -- ---- claim bit
@@ -155,6 +157,7 @@ module _ (a : About) (l : Known) (m e : ℕ) (at_e : HasElement a m e) (ws : Lis
     ghost = g2;
     rule = record {
       shaped = r.shaped;
+      deep = r.deep;
       logged = r.logged;
       keyed = r.keyed;
       worn = r.worn;
@@ -177,8 +180,8 @@ module _ (a : About) (l : Known) (m e : ℕ) (at_e : HasElement a m e) (ws : Lis
           (λ (ne : c ≢ l.cpu). subst (Each Has) (sym (put-other g.lanes.fresh l.cpu c fresh2 ne)) (r.filled c inc))
           (equal c l.cpu);
       segments = r.segments;
-      locking = locking_outside a g.holder m e Free (Filling l.cpu) was (place_words cw) (λ n t. cw (Stamp n t)) g.eras g.linked g.lanes.locks
-          (λ b. ⊎_elim (λ (t : b ≡ l.cpu). inl (ap g.lanes.locks t ∙ (ap (λ (z : Known). z.locks) is ∙ unlocked))) (λ (ne : b ≢ l.cpu). inr (λ t on. absurd (ne (sym on)))) (equal b l.cpu)) r.locking;
+      locking = locking_outside a g.holder m e Free (Filling l.cpu) was g.depths (place_words cw) (λ n t. cw (Stamp n t)) g.eras g.linked g.lanes.locks
+          (λ b. ⊎_elim (λ (t : b ≡ l.cpu). inl (ap g.lanes.locks t ∙ (ap (λ (z : Known). z.locks) is ∙ unlocked))) (λ (ne : b ≢ l.cpu). inr (λ home t on. absurd (ne (sym on)))) (equal b l.cpu)) r.locking;
       reading = r.reading;
       held = r.held;
       valued = valued_outside a g.holder m e Free (Filling l.cpu) was _ g.last.made g.last.value g.last.held g.number (λ z. z) (λ c h z. z) r.valued;
@@ -250,6 +253,7 @@ module _ (a : About) (l : Known) (m e : ℕ) (at_e : HasElement a m e) (ws : Lis
     ghost = g;
     rule = record {
       shaped = r.shaped;
+      deep = r.deep;
       logged = r.logged;
       keyed = r.keyed;
       worn = r.worn;

@@ -1,5 +1,5 @@
 -- Readings without a lock: see stamp, peek, see stamp again.
-use Rattle.std.proofs.Common.{◌≡◌, ◌≢◌, ℕ, ◌%◌, ◌<◌, Bool, true, false, List, [], ◌∷◌, ◌++◌, Option, Some, None, length, refl, ap, sym, subst, ◌∙◌, arith, eq-eqb, ne_eqb, ⊎_elim, inl, inr, ◌⊎◌}
+use Rattle.std.proofs.Common.{◌≡◌, ◌≢◌, ℕ, ◌%◌, ◌<◌, Bool, true, false, List, [], ◌∷◌, ◌++◌, Option, Some, None, length, refl, ap, sym, subst, ◌∙◌, arith, eq-eqb, ne_eqb, ⊎_elim, inl, inr, ◌⊎◌, ◌-◌, ◌≤◌}
 use native.Mathlib.Decide.{ℕ_discrete}
 use mathlib.Core.Logic.{dite}
 use Rattle.std.specs.FinMap.{get}
@@ -15,34 +15,39 @@ use Rattle.hop_layout.specs.declared.place.Place.{Place}
 use Rattle.hop_layout.specs.declared.place.Place.TheVariants.{RunCount, KeyCount, FreeBits, Stamp, Head, Hop, Slot, Link, KeyWord, ValueWord}
 use Rattle.hop_layout.specs.declared.about.About.{About}
 use Rattle.hop_words.specs.declared.known.Known.{Known}
+use Rattle.hop_words.specs.declared.known.Lock.{Lock}
 use Rattle.hop_words.specs.declared.known.Reading.{Reading}
-use Rattle.hop_layout.specs.Layout.{mem, put_at, size}
-use Rattle.hop_words.specs.Content.{MapWords, place_words, Agrees, Reached}
-use Rattle.hop_words.specs.Ghost.{segment_in, Leaving, Within, Carries, lane, Ghost, shape_at, IsSegment, Each}
-use Rattle.hop_words.specs.Rule.{Rule, Segment, IsSoundReading, Readings, IsPeek, numbered, Runs, Batched, Valued}
+use Rattle.hop_layout.specs.Layout.{mem, put_at, size, power, depth}
+use Rattle.hop_words.specs.Content.{MapWords, place_words, Agrees, Reached, IsShare}
+use Rattle.hop_words.specs.Ghost.{Leaving, Within, Carries, lane, Ghost, shape_at, Each, Era}
+use Rattle.hop_words.specs.Rule.{Rule, Segment, Holds, IsSoundReading, Readings, IsPeek, numbered, Runs, Batched, Valued}
 use Rattle.hop_words.specs.Shortage.{HasHadValue}
 use Rattle.hop_words.specs.Private.Step.{Next, Steps}
-use Rattle.hop_words.specs.Kinds.{TakesEffect, noting, peeking, FindsByPeeks, found_span}
+use Rattle.hop_words.specs.Kinds.{TakesEffect, noting, peeking, FindsByPeeks, found_span, KnowsBorn, SaysDepth, StampNoted}
 use Rattle.hop_words.proofs.Small.{equal}
 use Rattle.hop_words.proofs.Histories.{logged_event, prefix_refl}
 use Rattle.hop_words.proofs.Shortages.{shown_more}
 use Rattle.hop_words.proofs.Comes.{in_limbo}
 use Rattle.hop_words.proofs.Stays.{put_again, stay, saw, running_is, map_there, quiet_after, number_once, worn_more}
+use Rattle.hop_words.specs.Depths.{stamp_depth, IsBorn, home_by}
+use Rattle.hop_layout.proofs.Births.{one_owner}
+use Rattle.hop_words.proofs.Locks.{known_born}
 
 -- readings alone change
 module _ (a : About) (w : Place → ℕ) (g : Ghost) (r : Rule a w g) (c : ℕ) where
   abbrev with_readings : List Reading → Ghost
   with_readings rs = record g { lanes = record g.lanes { readings = put g.lanes.readings c rs } }
 
-  put_readings : (rs : List Reading) → Each (IsSoundReading a g.eras) rs → Readings a g.eras (put g.lanes.readings c rs)
+  put_readings : (rs : List Reading) → Each (IsSoundReading a g.depths g.eras) rs → Readings a g.depths g.eras (put g.lanes.readings c rs)
   put_readings rs own d = ⊎_elim
-      (λ (t : d ≡ c). subst (Each (IsSoundReading a g.eras)) (sym (put-same g.lanes.readings c d rs t)) own)
-      (λ (ne : d ≢ c). subst (Each (IsSoundReading a g.eras)) (sym (put-other g.lanes.readings c d rs ne)) (r.reading d))
+      (λ (t : d ≡ c). subst (Each (IsSoundReading a g.depths g.eras)) (sym (put-same g.lanes.readings c d rs t)) own)
+      (λ (ne : d ≢ c). subst (Each (IsSoundReading a g.depths g.eras)) (sym (put-other g.lanes.readings c d rs ne)) (r.reading d))
       (equal d c)
 
-  read_rule : (rs : List Reading) → Each (IsSoundReading a g.eras) rs → Rule a w (with_readings rs)
+  read_rule : (rs : List Reading) → Each (IsSoundReading a g.depths g.eras) rs → Rule a w (with_readings rs)
   read_rule rs own = record {
     shaped = r.shaped;
+    deep = r.deep;
     logged = r.logged;
     keyed = r.keyed;
     worn = r.worn;
@@ -59,7 +64,7 @@ module _ (a : About) (w : Place → ℕ) (g : Ghost) (r : Rule a w g) (c : ℕ) 
     shown = r.shown;
   }
 
-  read_next : (p : Place) (told : Known → Type 0) (rs : List Reading) → Each (IsSoundReading a g.eras) rs → told (record (lane g.lanes c) { readings = rs }) → Next a (put_at w p (w p)) g c told
+  read_next : (p : Place) (told : Known → Type 0) (rs : List Reading) → Each (IsSoundReading a g.depths g.eras) rs → told (record (lane g.lanes c) { readings = rs }) → Next a (put_at w p (w p)) g c told
   read_next p told rs own says = record {
     ghost = with_readings rs;
     rule = subst (λ (v : Place → ℕ). Rule a v (with_readings rs)) (sym (put_again w p)) (read_rule rs own);
@@ -75,24 +80,70 @@ module _ (a : About) (w : Place → ℕ) (g : Ghost) (r : Rule a w g) (c : ℕ) 
 pub even_or_odd : (n : ℕ) → (n % 2 ≡ 0) ⊎ (n % 2 ≡ 1)
 even_or_odd n = dite (ℕ_discrete (n % 2) 0) (λ e. inl e) (λ ne. inr (grind arith))
 
-pub see_stamp : (a : About) (l : Known) (m s : ℕ) → IsSegment a m s → Steps a l (Stamp m s) (λ n. n) (λ ws n l'. (n % 2 ≡ 0 → l' ≡ noting l m s n) × (n % 2 ≡ 1 → l' ≡ l))
-see_stamp a l m s at_s ws g sized r is inside fits =
+-- what a born segment's stamp says of its depth
+pub says_depth : (a : About) (w : Place → ℕ) (g : Ghost) (r : Rule a w g) (m s : ℕ) → IsBorn a g.depths m s → SaysDepth a m s (w (Stamp m s))
+says_depth a w g r m s b =
+    let says = r.deep.stamped m s b in
+    let k = r.deep.sound m b.0 s b.2 in
+    record { room = subst (λ (i : ℕ). s < power i) (sym says) k.0; most = (let z = k.1 in omega arith); whole = λ no. says ∙ r.deep.whole m s b.0 b.1 no }
+
+pub see_stamp : (a : About) (l : Known) (m s : ℕ) → m < length a.shape.maps → KnowsBorn a l m s → Steps a l (Stamp m s) (λ n. n) (λ ws n l'. SaysDepth a m s n × (n % 2 ≡ 0 → l' ≡ noting l m s n) × (n % 2 ≡ 1 → l' ≡ l))
+see_stamp a l m s in_m knows ws g sized r is inside fits =
     let w = mem a.shape ws in
     let n = w (Stamp m s) in
-    let seg : Segment a (segment_in a) (place_words w) n (g.eras m s) m s (g.linked m) = r.segments m s at_s in
+    let at_s = known_born a w g r l is m s in_m knows in
+    let says = says_depth a w g r m s at_s in
+    let seg : Segment a g.depths (place_words w) n (g.eras m s) m s (g.linked m) = r.segments m s at_s in
     ⊎_elim
     (λ (even : n % 2 ≡ 0). read_next a w g r l.cpu (Stamp m s) _ (record { map = m; segment = s; stamp = n; peeks = [] } ∷ [])
-    (record { inside = at_s; even = even; behind = (let z = (seg.clean (seg.at_rest even)).0 in omega arith); stays = λ _. tt }, tt)
-    ((λ _. ap (λ (x : Known). record x { readings = record { map = m; segment = s; stamp = n; peeks = [] } ∷ [] }) is), (λ odd. absurd (omega arith))))
-    (λ (odd : n % 2 ≡ 1). stay a w g l.cpu (Stamp m s) _ r ((λ even. absurd (omega arith)), (λ _. is)))
+    (record { inside = at_s; deep = (let z = r.deep.stamped m s at_s in omega arith); even = even; behind = (let z = (seg.clean (seg.at_rest even)).0 in omega arith); stays = λ _. tt }, tt)
+    (says, (λ _. ap (λ (x : Known). record x { readings = record { map = m; segment = s; stamp = n; peeks = [] } ∷ [] }) is), (λ odd. absurd (omega arith))))
+    (λ (odd : n % 2 ≡ 1). stay a w g l.cpu (Stamp m s) _ r (says, (λ even. absurd (omega arith)), (λ _. is)))
     (even_or_odd n)
 
+-- two born segments that own one home are one
+owned_once : (a : About) (w : Place → ℕ) (g : Ghost) (r : Rule a w g) (c m s home : ℕ) → IsBorn a g.depths m s → home % power (g.depths m s) ≡ s
+    → (ks : List Lock) → Each (Holds a g.depths (place_words w) (λ i j. w (Stamp i j)) g.eras g.linked g.holder c) ks
+    → Each (λ (k : Lock). k.map ≡ m → home % power (stamp_depth k.stamp) ≡ k.segment → (k.segment ≡ s) × (stamp_depth k.stamp ≡ stamp_depth (w (Stamp m s)))) ks
+owned_once a w g r c m s home at_s own [] p = tt
+owned_once a w g r c m s home at_s own (k ∷ ks) p = (
+  (λ e here.
+      let b : IsBorn a g.depths m k.segment = subst (λ (i : ℕ). IsBorn a g.depths i k.segment) e p.0.inside in
+      let d : stamp_depth k.stamp ≡ g.depths m k.segment = p.0.deep ∙ ap (λ (i : ℕ). g.depths i k.segment) e in
+      let same : k.segment ≡ s = one_owner (g.depths m) (depth (shape_at a m)) k.segment s home b.2 at_s.2 (ap (λ (i : ℕ). home % power i) (sym d) ∙ here) own in
+      (same, d ∙ (ap (g.depths m) same ∙ sym (r.deep.stamped m s at_s)))),
+  owned_once a w g r c m s home at_s own ks p.1,
+)
+
+-- a stamp on the way to a key's segment, locked or not: what the lock took is noted of a locked one
+pub note_stamp : (a : About) (l : Known) (m s : ℕ) → m < length a.shape.maps → KnowsBorn a l m s → Steps a l (Stamp m s) (λ n. n) (λ ws n l'. StampNoted a l m s n l')
+note_stamp a l m s in_m knows ws g sized r is inside fits =
+    let w = mem a.shape ws in
+    let n = w (Stamp m s) in
+    let at_s = known_born a w g r l is m s in_m knows in
+    let seg : Segment a g.depths (place_words w) n (g.eras m s) m s (g.linked m) = r.segments m s at_s in
+    read_next a w g r l.cpu (Stamp m s) _ (record { map = m; segment = s; stamp = n - n % 2; peeks = [] } ∷ [])
+    (record { inside = at_s; deep = (let z = r.deep.stamped m s at_s in omega arith); even = (omega arith); behind = behind n (g.eras m s) seg; stays = λ _. tt }, tt)
+    (record {
+      deep = says_depth a w g r m s at_s;
+      owns = λ home own. owned_once a w g r l.cpu m s home at_s (ap (λ (i : ℕ). home % power i) (sym (r.deep.stamped m s at_s)) ∙ own) l.locks
+          (subst (Each (Holds a g.depths (place_words w) (λ i j. w (Stamp i j)) g.eras g.linked g.holder l.cpu)) (ap (λ (x : Known). x.locks) is) (r.locking l.cpu));
+      after = ap (λ (x : Known). record x { readings = record { map = m; segment = s; stamp = n - n % 2; peeks = [] } ∷ [] }) is;
+    })
+  where
+    behind : (n : ℕ) (e : Era) → Segment a g.depths (place_words (mem a.shape ws)) n e m s (g.linked m) → n - n % 2 ≤ e.era
+    behind n e seg = go e.dirty refl
+      where
+        go : (b : Bool) → e.dirty ≡ b → n - n % 2 ≤ e.era
+        go true d = let z = seg.written d in omega arith
+        go false d = let z = (seg.clean d).0 in omega arith
+
 -- the words at rest are those that stand there, while the era is the stamp noted
-pub at_era : (a : About) (w : Place → ℕ) (g : Ghost) (r : Rule a w g) (rd : Reading) → IsSoundReading a g.eras rd → rd.stamp ≡ (g.eras rd.map rd.segment).era
+pub at_era : (a : About) (w : Place → ℕ) (g : Ghost) (r : Rule a w g) (rd : Reading) → IsSoundReading a g.depths g.eras rd → rd.stamp ≡ (g.eras rd.map rd.segment).era
     → ((g.eras rd.map rd.segment).dirty ≡ false) × Agrees rd.map rd.segment (Reached (g.eras rd.map rd.segment).old rd.map rd.segment) (place_words w) (g.eras rd.map rd.segment).old
 at_era a w g r rd q same = (clean, (seg.clean clean).1)
   where
-    seg : Segment a (segment_in a) (place_words w) (w (Stamp rd.map rd.segment)) (g.eras rd.map rd.segment) rd.map rd.segment (g.linked rd.map)
+    seg : Segment a g.depths (place_words w) (w (Stamp rd.map rd.segment)) (g.eras rd.map rd.segment) rd.map rd.segment (g.linked rd.map)
     seg = r.segments rd.map rd.segment q.inside
 
     go : (b : Bool) → (g.eras rd.map rd.segment).dirty ≡ b → b ≡ false
@@ -117,9 +168,9 @@ is_peek m s w x k (ValueWord n e i) = tt
 pub peek : (a : About) (l : Known) (rd : Reading) (p : Place) → l.readings ≡ rd ∷ [] → Steps a l p (λ n. n) (λ ws n l'. l' ≡ peeking l rd p n)
 peek a l rd p reading ws g sized r is inside fits =
     let w = mem a.shape ws in
-    let q : IsSoundReading a g.eras rd = (subst (Each (IsSoundReading a g.eras)) (ap (λ (x : Known). x.readings) is ∙ reading) (r.reading l.cpu)).0 in
+    let q : IsSoundReading a g.depths g.eras rd = (subst (Each (IsSoundReading a g.depths g.eras)) (ap (λ (x : Known). x.readings) is ∙ reading) (r.reading l.cpu)).0 in
     read_next a w g r l.cpu p _ (record rd { peeks = record { place = p; number = w p } ∷ rd.peeks } ∷ [])
-    (record { inside = q.inside; even = q.even; behind = q.behind; stays = λ same. (is_peek rd.map rd.segment w (g.eras rd.map rd.segment).old (at_era a w g r rd q same).1 p, q.stays same) }, tt)
+    (record { inside = q.inside; deep = q.deep; even = q.even; behind = q.behind; stays = λ same. (is_peek rd.map rd.segment w (g.eras rd.map rd.segment).old (at_era a w g r rd q same).1 p, q.stays same) }, tt)
     (ap (λ (x : Known). record x { readings = record rd { peeks = record { place = p; number = w p } ∷ rd.peeks } ∷ [] }) is)
 
 -- ---- see stamp again: the lookup takes effect
@@ -147,7 +198,7 @@ module _ (a : About) (w : Place → ℕ) (g : Ghost) (r : Rule a w g) (c m : ℕ
         let k = r.linked.within m key e is in
         let left = in_limbo a _ g.lanes.fresh g.lanes.limbo g.holder b n d r.owned inb at_d (omega arith) in
         let one = number_once a w g r m e n d k.0 at_d (subst Carries (sym k.1) tt) (subst Carries (sym left) tt) t.1 in
-        let bad : Leaving b ≡ Within (segment_in a m key) = sym left ∙ ((λ i. g.holder (one.0 i) (one.1 i)) ∙ k.1) in cc)
+        let bad : Leaving b ≡ Within key = sym left ∙ ((λ i. g.holder (one.0 i) (one.1 i)) ∙ k.1) in cc)
         (λ (h : g.last.held x (g.number n d) ≡ true). r.batched.noted b n d x inb at_d has few h)
         (put_pair g.last.held c (g.number m e) x (g.number n d) holds);
   }
@@ -175,9 +226,10 @@ module _ (a : About) (w : Place → ℕ) (g : Ghost) (r : Rule a w g) (c m : ℕ
   pub looked_rule : (o : Option ℕ) (key : List ℕ) (inside : c < a.shape.cpus) → g.linked m key ≡ o → (sp : Option Span) → Allowed g.last c (Lookup m key sp) (looking o) → Rule a w (record g { log = g.log ++ entry c (Lookup m key sp) ∷ []; last = looking o; lanes = record g.lanes { seen = put g.lanes.seen c (g.log ++ entry c (Lookup m key sp) ∷ []) } })
   looked_rule o key inside is sp may = record {
     shaped = r.shaped;
+    deep = r.deep;
     logged = logged_event a g.lanes.seen g.log g.last (looking o) c (Lookup m key sp) r.logged inside tt may;
     keyed = rw (maps_same o) r.keyed;
-    worn = worn_more a _ g.eras g.log _ r.worn;
+    worn = worn_more a g.depths _ g.eras g.log _ r.worn;
     runs = quiet_runs;
     batched = looked_batched o key is;
     owned = r.owned;
@@ -223,10 +275,10 @@ see_again a l rd key o f ws g sized r is inside fits = dite (ℕ_discrete (w (St
     told : Known → Type 0
     told l' = AgainSeen a l rd key o (w (Stamp rd.map rd.segment)) l'
 
-    q : IsSoundReading a g.eras rd
-    q = (subst (Each (IsSoundReading a g.eras)) (ap (λ (x : Known). x.readings) is ∙ f.reading) (r.reading l.cpu)).0
+    q : IsSoundReading a g.depths g.eras rd
+    q = (subst (Each (IsSoundReading a g.depths g.eras)) (ap (λ (x : Known). x.readings) is ∙ f.reading) (r.reading l.cpu)).0
 
-    seg : Segment a (segment_in a) (place_words w) (w (Stamp rd.map rd.segment)) (g.eras rd.map rd.segment) rd.map rd.segment (g.linked rd.map)
+    seg : Segment a g.depths (place_words w) (w (Stamp rd.map rd.segment)) (g.eras rd.map rd.segment) rd.map rd.segment (g.linked rd.map)
     seg = r.segments rd.map rd.segment q.inside
 
     miss : w (Stamp rd.map rd.segment) ≢ rd.stamp → Next a (put_at w (Stamp rd.map rd.segment) (w (Stamp rd.map rd.segment))) g l.cpu told
@@ -252,7 +304,7 @@ see_again a l rd key o f ws g sized r is inside fits = dite (ℕ_discrete (w (St
         era_is = let z = (seg.clean clean).0 in let e = q.even in omega arith
 
         linked_is : g.linked rd.map key ≡ o
-        linked_is = f.shown (g.eras rd.map rd.segment).old (g.linked rd.map) (seg.shows clean) (λ p e leads. (r.linked.within rd.map p e leads).0.1) (q.stays era_is)
+        linked_is = f.shown (g.eras rd.map rd.segment).old (g.linked rd.map) (subst (λ (i : ℕ). IsShare a.seed (shape_at a rd.map) (home_by a rd.map i) (g.eras rd.map rd.segment).old rd.map rd.segment (g.linked rd.map)) (sym (ap stamp_depth (sym same) ∙ r.deep.stamped rd.map rd.segment q.inside)) (seg.shows clean)) (λ p e leads. (r.linked.within rd.map p e leads).0.1) (q.stays era_is)
 
         may : Allowed g.last l.cpu event (looking a w g r l.cpu rd.map o)
         may = may_look a w g r l.cpu rd.map o key linked_is (running_is a w g r l is inside f.runs) (map_there a w g r l is inside rd.map q.inside.0) f.key_size

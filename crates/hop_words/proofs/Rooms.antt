@@ -10,19 +10,19 @@ use Rattle.hop_layout.specs.declared.about.About.{About}
 use Rattle.hop_words.specs.declared.known.Known.{Known}
 use Rattle.hop_words.specs.declared.known.Lock.{Lock}
 use Rattle.hop_words.specs.Content.{MapWords}
-use Rattle.hop_words.specs.Ghost.{segment_in, Holder, lane, Era, Ghost, shape_at, Each}
+use Rattle.hop_words.specs.Ghost.{lock_home, Holder, lane, Era, Ghost, shape_at, Each}
 use Rattle.hop_words.specs.Rule.{Rule, Holds, changed, numbered, image}
 use Rattle.hop_words.specs.Kinds.{Shows, ShowsIn, IsShownIn, HasRoom}
 use Rattle.hop_words.proofs.Segs.{share_same}
 use Rattle.hop_words.proofs.Stays.{map_there}
 
-module _ (a : About) (c : ℕ) (x : MapWords) (stamp : ℕ → ℕ → ℕ) (eras : ℕ → ℕ → Era) (linked : ℕ → List ℕ → Option ℕ) (holder : ℕ → ℕ → Holder) where
+module _ (a : About) (depths : ℕ → ℕ → ℕ) (c : ℕ) (x : MapWords) (stamp : ℕ → ℕ → ℕ) (eras : ℕ → ℕ → Era) (linked : ℕ → List ℕ → Option ℕ) (holder : ℕ → ℕ → Holder) where
   -- the words at the lock show what is linked
-  share_of : (j : Lock) → Holds a (segment_in a) x stamp eras linked holder c j → j.dirty ≡ false → Shows a linked j
-  share_of j h clean = share_same a.seed (shape_at a j.map) (segment_in a j.map) (image a j.first) j.map j.segment h.due.0 (linked j.map)
+  share_of : (j : Lock) → Holds a depths x stamp eras linked holder c j → j.dirty ≡ false → Shows a linked j
+  share_of j h clean = share_same a.seed (shape_at a j.map) (lock_home a j) (image a j.first) j.map j.segment h.due.0 (linked j.map)
       (λ q home. h.due.2 q home ∙ ap (λ y. changed y h.due.0 q) (h.untouched clean).1) h.due.1
 
-  pub shares_of : (ks : List Lock) → Each (Holds a (segment_in a) x stamp eras linked holder c) ks → Each (λ (j : Lock). j.dirty ≡ false) ks → Each (Shows a linked) ks
+  pub shares_of : (ks : List Lock) → Each (Holds a depths x stamp eras linked holder c) ks → Each (λ (j : Lock). j.dirty ≡ false) ks → Each (Shows a linked) ks
   shares_of [] hs cs = tt
   shares_of (j ∷ ks) hs cs = (share_of j hs.0 cs.0, shares_of ks hs.1 cs.1)
 

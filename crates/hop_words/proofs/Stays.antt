@@ -118,5 +118,5 @@ pub number_once : (a : About) (w : Place → ℕ) (g : Ghost) → Rule a w g →
 number_once a w g r m e n d at_e at_d ce cd same = span_once a w g r m e n d at_e at_d (ap (λ x. x.span) (sym (r.valued.lies n d at_d cd) ∙ (ap g.last.value same ∙ r.valued.lies m e at_e ce)))
 
 -- versions after any event
-pub worn_more : (a : About) (stamp : ℕ → ℕ → ℕ) (eras : ℕ → ℕ → Era) (log : List Entry) (x : Entry) → Worn a stamp eras log → Worn a stamp eras (log ++ x ∷ [])
-worn_more a stamp eras log x p m s at_s = let z = done_in-append m log (x ∷ []) in let b = p m s at_s in omega arith
+pub worn_more : (a : About) (depths stamp : ℕ → ℕ → ℕ) (eras : ℕ → ℕ → Era) (log : List Entry) (x : Entry) → Worn a depths stamp eras log → Worn a depths stamp eras (log ++ x ∷ [])
+worn_more a depths stamp eras log x p m s at_s = let z = done_in-append m log (x ∷ []) in let b = p m s at_s in omega arith

@@ -12,10 +12,11 @@ use Rattle.hop_words.specs.declared.known.Known.{Known}
 use Rattle.hop_words.specs.declared.known.Reading.{Reading}
 use Rattle.hop_words.specs.declared.known.Sight.{Sight}
 use Rattle.hop_layout.specs.Layout.{mem, put_at}
-use Rattle.hop_words.specs.Ghost.{lane, Ghost, HasElement, IsSegment, limbo_at}
-use Rattle.hop_words.specs.Sights.{sight, look, lock_taken, bit_cleared, bit_set, sighted}
+use Rattle.hop_words.specs.Ghost.{lane, Ghost, HasElement, limbo_at}
+use Rattle.hop_words.specs.Sights.{sight, look, lock_taken, split_made, bit_cleared, bit_set, sighted}
 use Rattle.hop_words.specs.Private.Step.{Noted, Next, Steps, Notes, NotesTaken}
-use Rattle.hop_words.specs.Kinds.{holding, cleared, noting, giving_old, Passed, StampSeen, StampSeenAgain, FindsByPeeks, LocksSegment}
+use Rattle.hop_words.specs.Kinds.{holding, cleared, noting, giving_old, Passed, StampSeen, StampSeenAgain, FindsByPeeks, LocksSegment, SaysDepth, KnowsBorn, Splits, unlocking}
+use Rattle.hop_words.specs.Locking.{lock_of, HasLock}
 use Rattle.hop_words.specs.Owning.{ClaimsBit, GivesFresh, IsInHand, LooksAgain}
 use Rattle.hop_words.proofs.Small.{equal}
 use Rattle.hop_words.proofs.Shortages.{shown_noted}
@@ -25,6 +26,8 @@ use Rattle.hop_words.proofs.Owners.{claim_bit, mask_kept}
 use Rattle.hop_words.proofs.Turns.{see_counter_again}
 use Rattle.hop_words.proofs.Hands.{gives}
 use Rattle.hop_words.proofs.Gives.{give_old}
+use Rattle.hop_words.proofs.Publishing.{publish_split}
+use Rattle.hop_words.proofs.Locked.{at_stamp}
 use Rattle.hop_words.proofs.Readings.{AgainSeen, see_stamp, see_again}
 
 module _ (a : About) (w : Place → ℕ) (g : Ghost) (c : ℕ) (told said : Known → Type 0) (s : Sight) (less : (x : Known) → told x → said (sighted x s)) (left : w s.place ≡ s.left) (n : Next a w g c told) where
@@ -40,6 +43,7 @@ module _ (a : About) (w : Place → ℕ) (g : Ghost) (c : ℕ) (told said : Know
     ghost = noted_ghost;
     rule = record {
       shaped = n.rule.shaped;
+      deep = n.rule.deep;
       logged = n.rule.logged;
       keyed = n.rule.keyed;
       worn = n.rule.worn;
@@ -115,13 +119,13 @@ looks_again a l m d room few = noted_as a l (RunCount d) (λ n. n) (λ ws n x. T
     Told : ℕ → Known → Type 0
     Told n y = (n ≢ slice_index (limbo_at l.limbo m).noted d → y ≡ cleared l m d) × (n ≡ slice_index (limbo_at l.limbo m).noted d → y ≡ l)
 
-pub sees_stamp : (a : About) (l : Known) (m s : ℕ) → IsSegment a m s → Notes a l (Stamp m s) (λ n. n) (λ ws n l'. StampSeen l m s n l')
-sees_stamp a l m s at_s = noted_as a l (Stamp m s) (λ n. n) (λ ws n x. Told n x) (λ ws n l'. StampSeen l m s n l')
-    (λ ws n x fits t. ((λ even. ap (λ (y : Known). sighted y (look (Stamp m s) n)) (t.0 even)), (λ odd. ap (λ (y : Known). sighted y (look (Stamp m s) n)) (t.1 odd))))
-    (see_stamp a l m s at_s)
+pub sees_stamp : (a : About) (l : Known) (m s : ℕ) → m < length a.shape.maps → KnowsBorn a l m s → Notes a l (Stamp m s) (λ n. n) (λ ws n l'. StampSeen a l m s n l')
+sees_stamp a l m s in_m knows = noted_as a l (Stamp m s) (λ n. n) (λ ws n x. Told n x) (λ ws n l'. StampSeen a l m s n l')
+    (λ ws n x fits t. (t.0, (λ even. ap (λ (y : Known). sighted y (look (Stamp m s) n)) (t.1 even)), (λ odd. ap (λ (y : Known). sighted y (look (Stamp m s) n)) (t.2 odd))))
+    (see_stamp a l m s in_m knows)
   where
     Told : ℕ → Known → Type 0
-    Told n y = (n % 2 ≡ 0 → y ≡ noting l m s n) × (n % 2 ≡ 1 → y ≡ l)
+    Told n y = SaysDepth a m s n × (n % 2 ≡ 0 → y ≡ noting l m s n) × (n % 2 ≡ 1 → y ≡ l)
 
 pub sees_again : (a : About) (l : Known) (rd : Reading) (m s : ℕ) (key : List ℕ) (o : Option ℕ) → rd.map ≡ m → rd.segment ≡ s → FindsByPeeks a l rd key o
     → Notes a l (Stamp m s) (λ n. n) (λ ws n l'. StampSeenAgain a l rd key o n l')
@@ -135,12 +139,18 @@ sees_again a l rd m s key o h u f =
     ))
     (see_again a l rd key o f)))
 
-pub locks : (a : About) (l : Known) (m s old : ℕ) → IsSegment a m s → old % 2 ≡ 0
+pub locks : (a : About) (l : Known) (m s old : ℕ) → m < length a.shape.maps → KnowsBorn a l m s → old % 2 ≡ 0
     → NotesTaken a l (Stamp m s) old (old + 1) (λ ws n l'. (n ≡ old → LocksSegment a l m s old l') × (n ≢ old → l' ≡ l))
-locks a l m s old at_s even = taken_as a l (Stamp m s) old (old + 1) (λ ws n x. Told n x) (λ ws n l'. (n ≡ old → LocksSegment a l m s old l') × (n ≢ old → l' ≡ l))
+locks a l m s old in_m knows even = taken_as a l (Stamp m s) old (old + 1) (λ ws n x. Told n x) (λ ws n l'. (n ≡ old → LocksSegment a l m s old l') × (n ≢ old → l' ≡ l))
     (λ ws n x same t. ((λ _. subst (λ (i : ℕ). LocksSegment a l m s old (sighted x (sight (Stamp m s) i (old + 1)))) (sym same) (t.0 same)), (λ ne. absurd (ne same))))
     (λ ws n x ne t. ((λ same. absurd (ne same)), t.1))
-    (lock a l m s old at_s even)
+    (lock a l m s old in_m knows even)
   where
     Told : ℕ → Known → Type 0
     Told n x = (n ≡ old → LocksSegment a l m s old (sighted x (lock_taken m s old))) × (n ≢ old → x ≡ l)
+
+-- the split is noted with the lock's number and the one that it leaves
+pub publishes : (a : About) (l : Known) (m s stamp n : ℕ) → HasLock l m s → stamp ≡ (lock_of l).stamp → Splits a l (lock_of l) n → Notes a l (Stamp m s) (λ _. stamp + 258) (λ ws i l'. l' ≡ sighted (unlocking l) (split_made m s stamp))
+publishes a l m s stamp n h e i = noted_as a l (Stamp m s) (λ _. stamp + 258) (λ ws i x. (i ≡ (lock_of l).stamp + 1) × (x ≡ unlocking l)) (λ ws i l'. l' ≡ sighted (unlocking l) (split_made m s stamp))
+    (λ ws i x fits t. (λ j. sighted (t.1 j) (sight (Stamp m s) ((t.0 ∙ ap (λ (y : ℕ). y + 1) (sym e)) j) (stamp + 258))))
+    (at_stamp a l m s h stamp 258 (λ ws i x. (i ≡ (lock_of l).stamp + 1) × (x ≡ unlocking l)) e (publish_split a l (lock_of l) n i))

@@ -70,9 +70,10 @@ module _ (a : About) (l : Known) (w : Place → ℕ) (g : Ghost) (r : Rule a w g
     turn_rule : Rule a (put_at w (RunCount l.cpu) n) g2
     turn_rule = record {
       shaped = r.shaped;
+      deep = r.deep;
       logged = logged_event a g.lanes.seen g.log g.last t l.cpu e r.logged inside cause may;
       keyed = rw maps r.keyed;
-      worn = worn_more a (λ m s. w (Stamp m s)) g.eras g.log (entry l.cpu e) r.worn;
+      worn = worn_more a g.depths (λ m s. w (Stamp m s)) g.eras g.log (entry l.cpu e) r.worn;
       runs = runs2;
       batched = record {
         young = r.batched.young;
@@ -143,6 +144,7 @@ module _ (a : About) (l : Known) (m : ℕ) (room : m < length l.limbo) (x : Limb
     ghost = g3;
     rule = subst (λ (v : Place → ℕ). Rule a v g3) (sym (put_again w p)) (record {
       shaped = r.shaped;
+      deep = r.deep;
       logged = r.logged;
       keyed = r.keyed;
       worn = r.worn;

@@ -1,5 +1,5 @@
 -- Unlock: with what was written, with an answer that changed nothing, and with a replacement.
-use Rattle.std.proofs.Common.{◌≡◌, ◌≢◌, ℕ, ◌+◌, ◌/◌, ◌<◌, ◌≤◌, Bool, true, false, not, ◌&&◌, cond, List, [], ◌∷◌, ◌++◌, Option, Some, None, is_some, ◌==◌, length, set, take, refl, ap, sym, subst, ◌∙◌, arith, eq-eqb, ne_eqb, ⊎_elim, inl, inr}
+use Rattle.std.proofs.Common.{◌≡◌, ◌≢◌, ℕ, ◌+◌, ◌/◌, ◌<◌, ◌≤◌, Bool, true, false, not, ◌&&◌, cond, List, [], ◌∷◌, ◌++◌, Option, Some, None, is_some, ◌==◌, length, set, take, refl, ap, sym, subst, ◌∙◌, arith, eq-eqb, ne_eqb, ⊎_elim, inl, inr, if◌then◌else◌}
 use Rattle.std.proofs.lemmas.Bool.Decides.{nat_tests}
 use Rattle.std.proofs.lemmas.Cmp.{nat_list_cmp_total}
 use Rattle.std.specs.FinMap.{get, insert, len, len-insert}
@@ -20,11 +20,10 @@ use Rattle.hop_words.specs.declared.known.Fresh.{Fresh}
 use Rattle.hop_words.specs.declared.known.Limbo.{Limbo}
 use Rattle.hop_words.specs.declared.known.Lock.{Lock}
 use Rattle.hop_words.specs.declared.known.Change.TheVariants.{Puts}
-use Rattle.hop_layout.specs.Layout.{mem, put_at, words_for}
-use Rattle.hop_layout.specs.Home.{segment_of}
+use Rattle.hop_layout.specs.Layout.{mem, put_at, words_for, depth, first_depth, gained}
 use Rattle.hop_layout.specs.Words.{bytes_of_words}
 use Rattle.hop_words.specs.Content.{place_words}
-use Rattle.hop_words.specs.Ghost.{segment_in, Holder, Filling, Leaving, Within, lane, Era, Ghost, shape_at, HasElement, limbo_at}
+use Rattle.hop_words.specs.Ghost.{Holder, Filling, Leaving, Within, lane, Era, Ghost, shape_at, HasElement, limbo_at, lock_home}
 use Rattle.hop_words.specs.Shortage.{done_in, HasHadValue, HasCause}
 use Rattle.hop_words.specs.Rule.{Rule, times_fresh, Minded, put_key, changed, owed, Holds, numbered, Keyed, Owned, Linked}
 use Rattle.bpf_shared.specs.Own.{turns_of}
@@ -42,6 +41,16 @@ use Rattle.hop_words.proofs.Effects.{Effect, effect_segments, effect_locking, ef
 use Rattle.hop_words.proofs.CountUp.{four, and_false}
 use Rattle.hop_words.proofs.Readings.{looking, looked_rule, may_look}
 use Rattle.hop_words.proofs.Stays.{saw, running_is, map_there, quiet_after, runs_quiet, place_for, shape_is, worn_more}
+use Rattle.hop_words.specs.Depths.{IsBorn, home_by}
+use Rattle.hop_words.proofs.Segs.{one_home}
+
+-- ---- how far splits took a segment's version
+gains : (a : About) (w : Place → ℕ) (g : Ghost) (r : Rule a w g) (m s : ℕ) → IsBorn a g.depths m s → g.depths m s ≤ gained (shape_at a m) + first_depth (shape_at a m)
+gains a w g r m s b = go ((shape_at a m).grow) refl
+  where
+    go : (x : Bool) → (shape_at a m).grow ≡ x → g.depths m s ≤ gained (shape_at a m) + first_depth (shape_at a m)
+    go true e = let z : gained (shape_at a m) ≡ depth (shape_at a m) = ap (λ (y : Bool). if y then depth (shape_at a m) else 0) e in let k = (r.deep.sound m b.0 s b.2).1 in omega arith
+    go false e = let z : first_depth (shape_at a m) ≡ depth (shape_at a m) = ap (λ (y : Bool). if y then 0 else depth (shape_at a m)) e in let k = r.deep.whole m s b.0 b.1 e in omega arith
 
 -- ---- what took effect before is written now
 pub unlock_written : (a : About) (l : Known) (k : Lock) → l.locks ≡ k ∷ [] → owed k.change ≡ 1 → IsWritten a k → Steps a l (Stamp k.map k.segment) (λ _. k.stamp + 256) (λ ws n l'. l' ≡ unlocking l)
@@ -78,9 +87,10 @@ noted_event g c e = record g { log = g.log ++ entry c e ∷ []; lanes = record g
 pub event_rule : (a : About) (w : Place → ℕ) (g : Ghost) (r : Rule a w g) (l : Known) (inside : l.cpu < a.shape.cpus) (e : Event) → turns_of (e ∷ []) ≡ 0 → HasCause a.shape a.version g.log l.cpu e → Allowed g.last l.cpu e g.last → Rule a w (noted_event g l.cpu e)
 event_rule a w g r l inside e quiet cause may = record {
   shaped = r.shaped;
+  deep = r.deep;
   logged = logged_event a g.lanes.seen g.log g.last g.last l.cpu e r.logged inside cause may;
   keyed = r.keyed;
-  worn = worn_more a _ g.eras g.log (entry l.cpu e) r.worn;
+  worn = worn_more a g.depths _ g.eras g.log (entry l.cpu e) r.worn;
   runs = quiet_after a (λ c. w (RunCount c)) g.log l.cpu e r.runs quiet;
   batched = r.batched;
   owned = r.owned;
@@ -95,11 +105,11 @@ event_rule a w g r l inside e quiet cause may = record {
 }
 
 -- a version that is used up at the lock has been paid for, and an element that isn't to be had may be taken
-shortage_cause : (a : About) (w : Place → ℕ) (g : Ghost) → Rule a w g → (l : Known) (k : Lock) → lane g.lanes l.cpu ≡ l → l.cpu < a.shape.cpus → k.map < length a.shape.maps → k.stamp / 256 ≤ a.version + done_in k.map g.log
+shortage_cause : (a : About) (w : Place → ℕ) (g : Ghost) → Rule a w g → (l : Known) (k : Lock) → lane g.lanes l.cpu ≡ l → l.cpu < a.shape.cpus → k.map < length a.shape.maps → k.stamp / 256 ≤ a.version + gained (shape_at a k.map) + done_in k.map g.log
     → (e : Event) → ShowsShortage a l k e → HasCause a.shape a.version g.log l.cpu e
-shortage_cause a w g r l k is inside in_map paid (Update m key bytes flags Busy) s = let d : done_in m g.log ≡ done_in k.map g.log = ap (λ (j : ℕ). done_in j g.log) s.0 in let t = s.1 in omega arith
+shortage_cause a w g r l k is inside in_map paid (Update m key bytes flags Busy) s = let d : gained (shape_at a m) + done_in m g.log ≡ gained (shape_at a k.map) + done_in k.map g.log = ap (λ (j : ℕ). gained (shape_at a j) + done_in j g.log) s.0 in let t = s.1 in omega arith
 shortage_cause a w g r l k is inside in_map paid (Update m key bytes flags NoMemory) s = lack_cause a w g r l m is inside (subst (λ (j : ℕ). j < length a.shape.maps) (sym s.0) in_map) s.1
-shortage_cause a w g r l k is inside in_map paid (Delete m key Busy) s = let d : done_in m g.log ≡ done_in k.map g.log = ap (λ (j : ℕ). done_in j g.log) s.0 in let t = s.1 in omega arith
+shortage_cause a w g r l k is inside in_map paid (Delete m key Busy) s = let d : gained (shape_at a m) + done_in m g.log ≡ gained (shape_at a k.map) + done_in k.map g.log = ap (λ (j : ℕ). gained (shape_at a j) + done_in j g.log) s.0 in let t = s.1 in omega arith
 shortage_cause a w g r l k is inside in_map paid e s = tt
 
 pub unlock_answer : (a : About) (l : Known) (k : Lock) (e : Event) → Answers a l k e → Steps a l (Stamp k.map k.segment) (λ _. k.stamp) (λ ws n l'. Answered a l k e l')
@@ -115,7 +125,7 @@ unlock_answer a l k e i ws g sized r is inside fits = record {
     w : Place → ℕ
     w = mem a.shape ws
 
-    h : Holds a (segment_in a) (place_words w) (λ n t. w (Stamp n t)) g.eras g.linked g.holder l.cpu k
+    h : Holds a g.depths (place_words w) (λ n t. w (Stamp n t)) g.eras g.linked g.holder l.cpu k
     h = holds a l k i.lock w g r is
 
     may : Allowed g.last l.cpu e g.last
@@ -125,19 +135,20 @@ unlock_answer a l k e i ws g sized r is inside fits = record {
     log' : List Entry
     log' = g.log ++ entry l.cpu e ∷ []
 
-    paid : k.stamp / 256 ≤ a.version + done_in k.map g.log
+    paid : k.stamp / 256 ≤ a.version + gained (shape_at a k.map) + done_in k.map g.log
     paid =
         let b = r.worn k.map k.segment h.inside in
         let o = h.locked in
         let z = h.even in
         let q : (k.stamp + 1) / 256 ≡ k.stamp / 256 = omega arith in
         let y : w (Stamp k.map k.segment) / 256 ≡ (k.stamp + 1) / 256 = ap (λ (j : ℕ). j / 256) o in
+        let f = gains a w g r k.map k.segment h.inside in
         omega arith
 
     cause : HasCause a.shape a.version g.log l.cpu e
     cause = shortage_cause a w g r l k is inside h.inside.0 paid e i.shortage
 
-    worn_told : k.stamp / 256 ≤ a.version + done_in k.map log'
+    worn_told : k.stamp / 256 ≤ a.version + gained (shape_at a k.map) + done_in k.map log'
     worn_told =
         let p = paid in
         let d = done_in-append k.map g.log (entry l.cpu e ∷ []) in
@@ -167,11 +178,11 @@ module _ (a : About) (l : Known) (k : Lock) (rest : List Lock) (e : Event) (i : 
   several_words = mem a.shape ws
 
   abbrev HoldsHere : Lock → Type 0
-  HoldsHere = Holds a (segment_in a) (place_words (mem a.shape ws)) (λ n t. mem a.shape ws (Stamp n t)) g.eras g.linked g.holder l.cpu
+  HoldsHere = Holds a g.depths (place_words (mem a.shape ws)) (λ n t. mem a.shape ws (Stamp n t)) g.eras g.linked g.holder l.cpu
 
   several_may : Allowed g.last l.cpu e g.last
   several_may = i.allowed g.last g.linked g.number (shape_is a (mem a.shape ws) g r l is inside) inside
-      (shares_of a l.cpu (place_words (mem a.shape ws)) (λ n t. mem a.shape ws (Stamp n t)) g.eras g.linked g.holder (k ∷ rest) (holds a l k i.lock (mem a.shape ws) g r is, rest_holds a l k i.lock (mem a.shape ws) g r is) i.clean) r.keyed.leads
+      (shares_of a g.depths l.cpu (place_words (mem a.shape ws)) (λ n t. mem a.shape ws (Stamp n t)) g.eras g.linked g.holder (k ∷ rest) (holds a l k i.lock (mem a.shape ws) g r is, rest_holds a l k i.lock (mem a.shape ws) g r is) i.clean) r.keyed.leads
 
   abbrev several_log : List Entry
   several_log = g.log ++ entry l.cpu e ∷ []
@@ -217,7 +228,7 @@ unlock_lookup a l k key o i ws g sized r is inside fits = record {
     w : Place → ℕ
     w = mem a.shape ws
 
-    h : Holds a (segment_in a) (place_words w) (λ n t. w (Stamp n t)) g.eras g.linked g.holder l.cpu k
+    h : Holds a g.depths (place_words w) (λ n t. w (Stamp n t)) g.eras g.linked g.holder l.cpu k
     h = holds a l k i.lock w g r is
 
     event : Event
@@ -262,7 +273,7 @@ module _ (a : About) (l : Known) (k : Lock) (f : Fresh) (rest : List Fresh) (key
   abbrev e : ℕ
   e = f.element
 
-  h : Holds a (segment_in a) (place_words w) (λ n t. w (Stamp n t)) g.eras g.linked g.holder l.cpu k
+  h : Holds a g.depths (place_words w) (λ n t. w (Stamp n t)) g.eras g.linked g.holder l.cpu k
   h = holds a l k i.filled.lock w g r is
 
   there : g.linked m key ≡ Some o
@@ -271,8 +282,11 @@ module _ (a : About) (l : Known) (k : Lock) (f : Fresh) (rest : List Fresh) (key
   at_o : HasElement a m o
   at_o = (r.linked.within m key o there).0
 
-  was_o : g.holder m o ≡ Within s
-  was_o = (r.linked.within m key o there).1 ∙ ap Within i.filled.home
+  was_o : g.holder m o ≡ Within key
+  was_o = (r.linked.within m key o there).1
+
+  home_is : home_by a m (g.depths m s) key ≡ s
+  home_is = ap (λ (j : ℕ). home_by a m j key) (sym h.deep) ∙ i.filled.home
 
   at_e : HasElement a m e
   at_e = (h.inside.0, i.filled.element)
@@ -287,7 +301,7 @@ module _ (a : About) (l : Known) (k : Lock) (f : Fresh) (rest : List Fresh) (key
   room = subst (λ (x : List Limbo). m < length x) (sym (ap (λ (x : Known). x.limbo) is)) i.room
 
   not_o : e ≢ o
-  not_o q = let z : Filling l.cpu ≡ Within s = sym was_e ∙ (ap (g.holder m) q ∙ was_o) in cc
+  not_o q = let z : Filling l.cpu ≡ Within key = sym was_e ∙ (ap (g.holder m) q ∙ was_o) in cc
 
   -- first the old element leaves, then the new one comes
   abbrev holder1 : ℕ → ℕ → Holder
@@ -308,11 +322,11 @@ module _ (a : About) (l : Known) (k : Lock) (f : Fresh) (rest : List Fresh) (key
   owned1 : Owned a (λ n j. w (FreeBits n j)) g.lanes.fresh limbo1 holder1
   owned1 = owned_goes a l.cpu m o s key g.holder was_o _ g.lanes.fresh g.lanes.limbo r.owned inside at_o room
 
-  linked_1 : Linked a (segment_in a) linked1 holder1
+  linked_1 : Linked a linked1 holder1
   linked_1 = linked_goes a l.cpu m o s key g.holder was_o g.linked r.linked there
 
   abbrev holder2 : ℕ → ℕ → Holder
-  holder2 = put holder1 m (put (holder1 m) e (Within s))
+  holder2 = put holder1 m (put (holder1 m) e (Within key))
 
   abbrev linked2 : ℕ → List ℕ → Option ℕ
   linked2 = put linked1 m (put_key (linked1 m) key (Some e))
@@ -367,28 +381,28 @@ module _ (a : About) (l : Known) (k : Lock) (f : Fresh) (rest : List Fresh) (key
       old_leads n q ne = r.keyed.leads n q ∙ (sym (number_kept n (g.linked n q) (λ d eq u t. not_e n d q eq t u)) ∙ ap (numbered (number2 n)) (sym (linked_old n q ne)))
         where
           not_e : (n d : ℕ) (q : List ℕ) → g.linked n q ≡ Some d → n ≡ m → d ≢ e
-          not_e n d q eq t u = let z : Within (segment_in a n q) ≡ Filling l.cpu = sym (r.linked.within n q d eq).1 ∙ ((λ j. g.holder (t j) (u j)) ∙ was_e) in cc
+          not_e n d q eq t u = let z : Within q ≡ Filling l.cpu = sym (r.linked.within n q d eq).1 ∙ ((λ j. g.holder (t j) (u j)) ∙ was_e) in cc
 
           number_kept : (n : ℕ) (y : Option ℕ) → ((d : ℕ) → y ≡ Some d → d ≡ e → n ≡ m → ⊥) → numbered (number2 n) y ≡ numbered (g.number n) y
           number_kept n None not = refl
           number_kept n (Some d) not = ap Some (put2-other g.number m e n d g.last.made (λ t u. not d refl u t))
 
-  effect : Effect a l.cpu k (Puts key e) g.linked linked2 g.holder holder2
+  effect : Effect a g.depths l.cpu k (Puts key e) g.linked linked2 g.holder holder2
   effect = record {
     owes = refl;
-    keys = λ n t q ne home. linked_old n q (λ u v. ne u (sym home ∙ ((λ j. segment_of a.seed (shape_at a (u j)) (v j)) ∙ i.filled.home)));
-    theirs = λ n t b d apart ne mind. ⊎_elim
-        (λ (u : (n ≡ m) × (d ≡ e)). absurd (ne u.0 (sym (subst (Minded b t) (put2-same holder1 m e n d (Within s) u.0 u.1) mind))))
-        (λ (nu : n ≡ m → d ≢ e). let mind1 = subst (Minded b t) (put2-other holder1 m e n d (Within s) nu) mind in ⊎_elim
-        (λ (u : (n ≡ m) × (d ≡ o)). absurd (apart (sym (subst (Minded b t) (put2-same g.holder m o n d (Leaving l.cpu) u.0 u.1) mind1))))
-        (λ (no : n ≡ m → d ≢ o). subst (Minded b t) (put2-other g.holder m o n d (Leaving l.cpu) no) mind1)
+    keys = λ n t q b ne home. linked_old n q (λ u v. ne u (one_home a g.depths m s n t q h.inside b u (ap (home_by a m (g.depths m s)) v ∙ home_is) home));
+    theirs = λ n t b d apart at_t ne mind. ⊎_elim
+        (λ (u : (n ≡ m) × (d ≡ e)). absurd (ne u.0 (one_home a g.depths m s n t key h.inside at_t u.0 home_is (subst (Minded (home_by a n (g.depths n t)) b t) (put2-same holder1 m e n d (Within key) u.0 u.1) mind))))
+        (λ (nu : n ≡ m → d ≢ e). let mind1 = subst (Minded (home_by a n (g.depths n t)) b t) (put2-other holder1 m e n d (Within key) nu) mind in ⊎_elim
+        (λ (u : (n ≡ m) × (d ≡ o)). absurd (apart (sym (subst (Minded (home_by a n (g.depths n t)) b t) (put2-same g.holder m o n d (Leaving l.cpu) u.0 u.1) mind1))))
+        (λ (no : n ≡ m → d ≢ o). subst (Minded (home_by a n (g.depths n t)) b t) (put2-other g.holder m o n d (Leaving l.cpu) no) mind1)
         (here_or m n o d))
         (here_or m n e d);
     mine = λ d mind. ⊎_elim
-        (λ (u : d ≡ e). subst (Minded l.cpu s) (sym (ap (g.holder m) u ∙ was_e)) refl)
+        (λ (u : d ≡ e). subst (Minded (lock_home a k) l.cpu s) (sym (ap (g.holder m) u ∙ was_e)) refl)
         (λ (nu : d ≢ e). ⊎_elim
-        (λ (u : d ≡ o). subst (Minded l.cpu s) (sym (ap (g.holder m) u ∙ was_o)) refl)
-        (λ (no : d ≢ o). subst (Minded l.cpu s) (put2-other g.holder m o m d (Leaving l.cpu) (λ _. no)) (subst (Minded l.cpu s) (put2-other holder1 m e m d (Within s) (λ _. nu)) mind))
+        (λ (u : d ≡ o). subst (Minded (lock_home a k) l.cpu s) (sym (ap (g.holder m) u ∙ was_o)) i.filled.home)
+        (λ (no : d ≢ o). subst (Minded (lock_home a k) l.cpu s) (put2-other g.holder m o m d (Leaving l.cpu) (λ _. no)) (subst (Minded (lock_home a k) l.cpu s) (put2-other holder1 m e m d (Within key) (λ _. nu)) mind))
         (equal d o))
         (equal d e);
     due = λ before same q home. ⊎_elim
@@ -411,6 +425,7 @@ module _ (a : About) (l : Known) (k : Lock) (f : Fresh) (rest : List Fresh) (key
     holder = holder2;
     number = number2;
     linked = linked2;
+    depths = g.depths;
     eras = put g.eras m (put (g.eras m) s (record { era = w (Stamp m s); writer = l.cpu; dirty = true; credit = 1; old = (g.eras m s).old }));
   }
 
@@ -440,6 +455,7 @@ module _ (a : About) (l : Known) (k : Lock) (f : Fresh) (rest : List Fresh) (key
   swap_rule : Rule a w g'
   swap_rule = record {
     shaped = r.shaped;
+    deep = r.deep;
     logged = logged_event a g.lanes.seen g.log g.last last' l.cpu event r.logged inside tt may;
     keyed = keyed2;
     worn = effect_worn a l k i.filled.lock w g r is i.filled.nothing (Puts key e) linked2 holder2 effect event (eq-eqb m m refl);
@@ -447,7 +463,7 @@ module _ (a : About) (l : Known) (k : Lock) (f : Fresh) (rest : List Fresh) (key
     batched = batched_comes a l.cpu m e s key holder1 was1 _ _ _ g.lanes.fresh limbo1 g.last.held g.number g.last.made owned1
         (batched_goes a l.cpu m o s key g.holder was_o _ _ g.lanes.limbo g.last.held g.number r.batched room inside);
     owned = owned_comes a l.cpu m e s key holder1 was1 _ g.lanes.fresh limbo1 f rest owned1 i.filled.map refl hand inside;
-    linked = linked_comes a l.cpu m e s key holder1 was1 linked1 linked_1 none1 at_e i.filled.home;
+    linked = linked_comes a l.cpu m e s key holder1 was1 linked1 linked_1 none1 at_e;
     filled = filled_rest a l.cpu m e s key holder1 was1 _ _ g.lanes.fresh f rest r.filled hand inside;
     segments = effect_segments a l k i.filled.lock w g r is i.filled.nothing (Puts key e) linked2 holder2 effect;
     locking = effect_locking a l k i.filled.lock w g r is i.filled.nothing (Puts key e) linked2 holder2 effect;
@@ -456,7 +472,7 @@ module _ (a : About) (l : Known) (k : Lock) (f : Fresh) (rest : List Fresh) (key
     valued = valued_comes a l.cpu m e s key holder1 was1 _ g.last.made g.last.value g.last.held g.number x
         (valued_goes a l.cpu m o s key g.holder was_o _ g.last.made g.last.value g.last.held g.number r.valued) spelled_is;
     shown = shown_step a g.log log' g.last last' g.lanes.fresh (put g.lanes.fresh l.cpu rest) g.lanes.tally g.holder holder2 (λ d. begun_more d g.log (entry l.cpu event ∷ [])) (had_update g.last m key x)
-        (λ n d c at is. inl (who_put g.holder m o (Leaving l.cpu) (λ c q. cc) n d c (who_put holder1 m e (Within s) (λ c q. cc) n d c is)))
+        (λ n d c at is. inl (who_put g.holder m o (Leaving l.cpu) (λ c q. cc) n d c (who_put holder1 m e (Within key) (λ c q. cc) n d c is)))
         (λ b n d inb at has. ⊎_elim
         (λ (h : (n ≡ f.map) × (d ≡ f.element)). inl (subst (HasHadValue last') (λ j. element_span ((sym i.filled.map ∙ sym h.0) j) (shape_at a ((sym i.filled.map ∙ sym h.0) j)) (sym h.1 j)) (new_update g.last m key x)))
         (λ (h : 1 ≤ times_fresh n d (put g.lanes.fresh l.cpu rest b)). inr h)

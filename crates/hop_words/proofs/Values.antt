@@ -157,9 +157,10 @@ module _ (a : About) (l : Known) (m e k o b : ℕ) (i : Touches a l m e k o b) (
     write_rule : (ev : Event) → turns_of (ev ∷ []) ≡ 0 → HasCause a.shape a.version g.log l.cpu ev → Allowed g.last l.cpu ev last2 → Rule a w2 (g2 ev)
     write_rule ev quiet cause may = record {
       shaped = r.shaped;
+      deep = r.deep;
       logged = logged_event a g.lanes.seen g.log g.last last2 l.cpu ev r.logged inside cause may;
       keyed = r.keyed;
-      worn = worn_more a (λ n t. w (Stamp n t)) g.eras g.log (entry l.cpu ev) r.worn;
+      worn = worn_more a g.depths (λ n t. w (Stamp n t)) g.eras g.log (entry l.cpu ev) r.worn;
       runs = quiet_after a (λ c. w (RunCount c)) g.log l.cpu ev r.runs quiet;
       batched = r.batched;
       owned = r.owned;

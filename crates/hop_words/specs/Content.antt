@@ -87,6 +87,12 @@ pub record IsShare (seed : ℕ) (g : MapShape) (home : List ℕ → ℕ) (x : Ma
   pub all : (key : List ℕ) (e : ℕ) → f key ≡ Some e → home key ≡ s
       → Reached x m s e × HasKey g x m e key
 
+-- the same words in a segment, but for its elements'
+pub record AgreesFront (m s : ℕ) (x y : MapWords) : Type 0 where
+  pub head : x.head m s ≡ y.head m s
+  pub hop : (b : ℕ) → x.hop m s b ≡ y.hop m s b
+  pub slot : (b : ℕ) → x.slot m s b ≡ y.slot m s b
+
 -- the same words in a segment, and in the elements that are meant
 pub record Agrees (m s : ℕ) (on : ℕ → Type 0) (x y : MapWords) : Type 0 where
   pub head : x.head m s ≡ y.head m s

@@ -1,5 +1,5 @@
 -- The lanes that aren't dealt yet.
-use Rattle.std.specs.Prelude.{◌≡◌, ℕ, ◌+◌, ◌≤◌, List, [], ◌∷◌}
+use Rattle.std.specs.Prelude.{List}
 use Rattle.atomic_table.specs.Seated.{TableId}
 use Rattle.hop_words.specs.declared.known.Known.{Known}
 

@@ -1,6 +1,6 @@
 -- What stands behind the words, and in no word: the history, what each CPU knows, and who has which
 -- element.
-use Rattle.std.specs.Prelude.{◌≡◌, ℕ, ◌<◌, Bool, true, false, List, [], ◌∷◌, Option, length, ◌==◌, slice_index_or}
+use Rattle.std.specs.Prelude.{◌≡◌, ℕ, ◌+◌, ◌<◌, Bool, true, false, List, [], ◌∷◌, Option, length, ◌==◌, slice_index_or}
 use Rattle.bpf_shared.specs.declared.shapes.MapShape.{MapShape}
 use Rattle.bpf_shared.specs.declared.events.Entry.{Entry}
 use Rattle.bpf_shared.specs.Shape.{elements}
@@ -12,17 +12,17 @@ use Rattle.hop_words.specs.declared.known.Limbo.{Limbo}
 use Rattle.hop_words.specs.declared.known.Lock.{Lock}
 use Rattle.hop_words.specs.declared.known.Reading.{Reading}
 use Rattle.hop_words.specs.declared.known.Sight.{Sight}
-use Rattle.hop_layout.specs.Layout.{map_shape, segments}
-use Rattle.hop_layout.specs.Home.{segment_of}
+use Rattle.hop_layout.specs.Layout.{map_shape, segments, power}
 use Rattle.hop_words.specs.Content.{MapWords}
+use Rattle.hop_words.specs.Depths.{stamp_depth, home_by}
 
--- an element is free, or one CPU fills it, or one CPU took it out of its map, or it is linked in
--- one segment
+-- an element is free, or one CPU fills it, or one CPU took it out of its map, or a key of its
+-- map leads to it
 pub data Holder : Type 0 where
   Free : Holder
   Filling : ℕ → Holder
   Leaving : ℕ → Holder
-  Within : ℕ → Holder
+  Within : List ℕ → Holder
 
 abbrev pub is_free : Holder → Bool
 is_free Free = true
@@ -41,7 +41,7 @@ abbrev pub Carries : Holder → Type 0
 Carries Free = ⊥
 Carries (Filling c) = ⊥
 Carries (Leaving c) = Unit {0}
-Carries (Within s) = Unit {0}
+Carries (Within key) = Unit {0}
 
 -- what the CPUs know, field by field
 pub record Lanes : Type 0 where
@@ -83,6 +83,8 @@ pub record Ghost : Type 0 where
   pub number : ℕ → ℕ → ℕ
   -- by map and key: the element that the key leads to
   pub linked : ℕ → List ℕ → Option ℕ
+  -- by map and segment: the depth of a born one
+  pub depths : ℕ → ℕ → ℕ
   -- by map and segment
   pub eras : ℕ → ℕ → Era
 
@@ -95,17 +97,17 @@ HasElement a m e = (m < length a.shape.maps) × (e < elements (shape_at a m))
 abbrev pub IsSegment : About → ℕ → ℕ → Type 0
 IsSegment a m s = (m < length a.shape.maps) × (s < segments (shape_at a m))
 
--- the segment that a key is at home in
-abbrev pub segment_in : About → ℕ → List ℕ → ℕ
-segment_in a m key = segment_of a.seed (shape_at a m) key
-
--- the segment that a key is at home in, as the holder of a lock knows it: the lock alone tells
+-- the segment that a key would be at home in, by the stamp that was locked: the lock alone tells
 abbrev pub lock_home : About → Lock → List ℕ → ℕ
-lock_home a k = segment_in a k.map
+lock_home a k = home_by a k.map (stamp_depth k.stamp)
 
 -- the key is at home in the locked segment
 abbrev pub IsHomeIn : About → Lock → List ℕ → Type 0
 IsHomeIn a k key = lock_home a k key ≡ k.segment
+
+-- the segment that is born when the locked one splits
+abbrev pub child : Lock → ℕ
+child k = k.segment + power (stamp_depth k.stamp)
 
 abbrev pub no_limbo : Limbo
 no_limbo = record { used = []; young = []; old = []; noted = [] }

@@ -23,14 +23,15 @@ use Rattle.hop_words.specs.declared.known.Lock.{Lock}
 use Rattle.hop_words.specs.declared.known.Reading.{Reading}
 use Rattle.hop_words.specs.declared.known.Peek.{Peek}
 use Rattle.hop_words.specs.declared.known.Change.TheVariants.{Nothing, Puts, Drops}
-use Rattle.hop_layout.specs.Layout.{words_for, at, size}
+use Rattle.hop_layout.specs.Layout.{words_for, at, size, mem, power, depth, gained}
 use Rattle.hop_words.specs.Sights.{IsTakenSince, look, lock_taken, sighted}
 use Rattle.hop_layout.specs.Words.{word_of, AreBytes}
 use Rattle.hop_words.specs.Content.{MapWords, IsShare}
-use Rattle.hop_words.specs.Ghost.{segment_in, lock_home, IsHomeIn, shape_at, HasElement, Each, limbo_at}
+use Rattle.hop_words.specs.Ghost.{lock_home, IsHomeIn, child, shape_at, HasElement, Each, limbo_at}
 use Rattle.hop_words.specs.Shortage.{done_in, HasCause}
 use Rattle.hop_words.specs.Rule.{image, IsPeek, StartsWith, changed, numbered}
 use Rattle.bpf_shared.specs.Own.{turns_of, in_run}
+use Rattle.hop_words.specs.Depths.{stamp_depth, home_by}
 
 -- the event follows all that the lane had seen, and events of others
 pub record TakesEffect (a : About) (l : Known) (e : Event) (seen : List Entry) : Type 0 where
@@ -93,10 +94,35 @@ pub record Inserted (a : About) (l : Known) (k : Lock) (f : Fresh) (rest : List 
 abbrev pub noting : Known → ℕ → ℕ → ℕ → Known
 noting l m s n = record l { readings = record { map = m; segment = s; stamp = n; peeks = [] } ∷ [] }
 
+-- what a stamp says of its segment's depth
+pub record SaysDepth (a : About) (m s n : ℕ) : Type 0 where
+  pub room : s < power (stamp_depth n)
+  pub most : stamp_depth n ≤ depth (shape_at a m)
+  pub whole : (shape_at a m).grow ≡ false → stamp_depth n ≡ depth (shape_at a m)
+
+-- the CPU knows that the segment is born: the first is, and each of a map that doesn't grow; else
+-- it has seen the stamp of the segment, or of its parent with a depth above its top bit
+pub data KnowsBorn (a : About) (l : Known) (m s : ℕ) : Type 0 where
+  First : s ≡ 0 → KnowsBorn a l m s
+  Whole : (shape_at a m).grow ≡ false → s < power (depth (shape_at a m)) → KnowsBorn a l m s
+  Seen : (r : Reading) → l.readings ≡ r ∷ [] → r.map ≡ m → r.segment ≡ s → KnowsBorn a l m s
+  Child : (r : Reading) (u : ℕ) → l.readings ≡ r ∷ [] → r.map ≡ m → r.segment < power u
+      → u < stamp_depth r.stamp → s ≡ r.segment + power u → KnowsBorn a l m s
+
 -- see stamp: with an unlocked one a reading begins
-abbrev pub StampSeen : Known → ℕ → ℕ → ℕ → Known → Type 0
-StampSeen l m s n l' = (n % 2 ≡ 0 → l' ≡ sighted (noting l m s n) (look (Stamp m s) n))
+abbrev pub StampSeen : About → Known → ℕ → ℕ → ℕ → Known → Type 0
+StampSeen a l m s n l' = SaysDepth a m s n
+    × (n % 2 ≡ 0 → l' ≡ sighted (noting l m s n) (look (Stamp m s) n))
     × (n % 2 ≡ 1 → l' ≡ sighted l (look (Stamp m s) n))
+
+-- note stamp: whether the segment is locked or not. Of the segments that the CPU has locked none
+-- but this one has a home that this one has
+pub record StampNoted (a : About) (l : Known) (m s n : ℕ) (l' : Known) : Type 0 where
+  pub deep : SaysDepth a m s n
+  pub owns : (home : ℕ) → home % power (stamp_depth n) ≡ s
+      → Each (λ (k : Lock). k.map ≡ m → home % power (stamp_depth k.stamp) ≡ k.segment
+      → (k.segment ≡ s) × (stamp_depth k.stamp ≡ stamp_depth n)) l.locks
+  pub after : l' ≡ noting l m s (n - n % 2)
 
 -- peek
 abbrev pub peeking : Known → Reading → Place → ℕ → Known
@@ -114,11 +140,15 @@ AllPeeks x r = Each (λ (p : Peek). IsPeek x r.map r.segment p.place p.number) r
 abbrev pub AreWithin : About → ℕ → (List ℕ → Option ℕ) → Type 0
 AreWithin a m f = (key : List ℕ) (e : ℕ) → f key ≡ Some e → e < elements (shape_at a m)
 
+-- the segment that a key would be at home in, by the stamp that was noted
+abbrev pub reading_home : About → Reading → List ℕ → ℕ
+reading_home a r = home_by a r.map (stamp_depth r.stamp)
+
 -- what was peeked shows where the key leads: so it does in every segment of which all this was
 -- peeked
 abbrev pub ShowsKey : About → Reading → List ℕ → Option ℕ → Type 0
 ShowsKey a r key o = (x : MapWords) (f : List ℕ → Option ℕ)
-    → IsShare a.seed (shape_at a r.map) (segment_in a r.map) x r.map r.segment f
+    → IsShare a.seed (shape_at a r.map) (reading_home a r) x r.map r.segment f
     → AreWithin a r.map f → AllPeeks x r → f key ≡ o
 
 abbrev pub found_span : About → ℕ → Option ℕ → Option Span
@@ -130,7 +160,7 @@ pub record FindsByPeeks (a : About) (l : Known) (r : Reading) (key : List ℕ) (
     : Type 0 where
   pub reading : l.readings ≡ r ∷ []
   pub key_size : length key ≡ (shape_at a r.map).key
-  pub home : segment_in a r.map key ≡ r.segment
+  pub home : reading_home a r key ≡ r.segment
   pub shown : ShowsKey a r key o
   pub runs : in_run (events_of l.cpu l.seen) ≡ true
 
@@ -166,6 +196,7 @@ locking l m s n ws es = record l {
     known = es;
     dirty = false;
   } ∷ l.locks;
+  readings = [];
   tally = lock_taken m s n ∷ l.tally;
 }
 
@@ -190,22 +221,26 @@ HasRoom a m ks = (keys : List (List ℕ)) → AreDistinct keys → AllByRecursio
 
 -- the segment is sound and has some content, and what the lane filled stands in the copy
 pub record LocksSegment (a : About) (l : Known) (m s n : ℕ) (l' : Known) : Type 0 where
+  pub deep : SaysDepth a m s n
   -- the elements to which keys lead here
   pub known : List ℕ
   pub words : List ℕ
   pub sized : length words ≡ size a.shape
   pub after : l' ≡ locking l m s n words known
   pub content : List ℕ → Option ℕ
-  pub share : IsShare a.seed (shape_at a m) (segment_in a m) (image a words) m s content
+  pub share : IsShare a.seed (shape_at a m) (home_by a m (stamp_depth n)) (image a words) m s content
   pub filled : Each (λ (f : Fresh). StartsWith f.key ((image a words).key f.map f.element)) l.fresh
   pub known_is : (e : ℕ) → has e known ≡ true
       → (e < elements (shape_at a m)) × ((key : List ℕ) × (content key ≡ Some e)
-      × (segment_in a m key ≡ s))
+      × (home_by a m (stamp_depth n) key ≡ s))
   -- an element in hand is none of them
   pub apart : (f : Fresh) (rest : List Fresh) → l.fresh ≡ f ∷ rest → f.map ≡ m
       → has f.element known ≡ false
-  pub is_known : (key : List ℕ) (e : ℕ) → content key ≡ Some e → segment_in a m key ≡ s
+  pub is_known : (key : List ℕ) (e : ℕ) → content key ≡ Some e → home_by a m (stamp_depth n) key ≡ s
       → (e < elements (shape_at a m)) × (has e known ≡ true)
+  -- no key is at home here and in another segment that the CPU has locked
+  pub others : Each (λ (k : Lock). k.map ≡ m → (key : List ℕ) → IsHomeIn a k key
+      → home_by a m (stamp_depth n) key ≢ s) l.locks
   -- where nothing has changed under the other locks
   pub room : Each (λ (j : Lock). j.dirty ≡ false) l.locks → HasRoom a m l'.locks
 
@@ -327,7 +362,7 @@ pub record Answers (a : About) (l : Known) (k : Lock) (e : Event) : Type 0 where
 -- many
 pub record Answered (a : About) (l : Known) (k : Lock) (e : Event) (l' : Known) : Type 0 where
   pub seen : TakesEffect a l e l'.seen
-  pub worn : k.stamp / 256 ≤ a.version + done_in k.map l'.seen
+  pub worn : k.stamp / 256 ≤ a.version + gained (shape_at a k.map) + done_in k.map l'.seen
   pub after : l' ≡ record l { seen = l'.seen; locks = [] }
 
 -- ---- unlock of the lock taken last, of several under which nothing changed: an answer takes
@@ -468,3 +503,20 @@ pub record Misflagged (a : About) (l : Known) (m : ℕ) (key bytes : List ℕ) (
     pub size : length bytes ≡ (shape_at a m).value
     pub unknown : 2 < flags
     pub runs : in_run (events_of l.cpu l.seen) ≡ true
+
+-- ---- publish split: the child's words and stamp are written, and the parent's words are without
+-- what is the child's
+pub record Splits (a : About) (l : Known) (k : Lock) (n : ℕ) : Type 0 where
+  pub lock : l.locks ≡ k ∷ []
+  pub nothing : k.change ≡ Nothing
+  pub room : stamp_depth k.stamp < depth (shape_at a k.map)
+  pub stamp : mem a.shape k.copy (Stamp k.map (child k)) ≡ n
+  pub even : n % 2 ≡ 0
+  pub deep : stamp_depth n ≡ stamp_depth k.stamp + 1
+  pub version : n / 256 ≤ a.version
+  pub parted : (before : List ℕ → Option ℕ)
+      → MayShow a k before
+      → IsShare a.seed (shape_at a k.map) (home_by a k.map (stamp_depth k.stamp + 1))
+      (image a k.copy) k.map k.segment before
+      × IsShare a.seed (shape_at a k.map) (home_by a k.map (stamp_depth k.stamp + 1))
+      (image a k.copy) k.map (child k) before

@@ -1,4 +1,5 @@
 pub mod Content
+pub mod Depths
 pub mod Ghost
 pub mod Shortage
 pub mod Rule
@@ -15,5 +16,6 @@ pub mod Seats
 pub mod Inside
 pub mod Dealing
 pub mod Closing
+pub mod Walking
 pub mod Trial
 pub mod Private

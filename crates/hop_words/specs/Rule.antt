@@ -25,12 +25,13 @@ use Rattle.hop_words.specs.declared.known.Reading.{Reading}
 use Rattle.hop_words.specs.declared.known.Peek.{Peek}
 use Rattle.hop_words.specs.declared.known.Change.{Change}
 use Rattle.hop_words.specs.declared.known.Change.TheVariants.{Nothing, Puts, Drops}
-use Rattle.hop_layout.specs.Layout.{size, mem, words_for}
+use Rattle.hop_layout.specs.Layout.{size, mem, words_for, first_depth}
 use Rattle.hop_layout.specs.Words.{bytes_of_words}
-use Rattle.hop_words.specs.Content.{one_if, MapWords, place_words, times, Reached, IsShare, Agrees}
+use Rattle.hop_words.specs.Content.{one_if, MapWords, place_words, times, Reached, IsShare, Agrees, AgreesFront}
 use Rattle.hop_words.specs.Shortage.{done_in, HasBegun, MayBeTaken, HaveCauses}
 use Rattle.hop_words.specs.Sights.{IsTakenSince}
-use Rattle.hop_words.specs.Ghost.{Holder, Free, Filling, Leaving, Within, is_free, is_filling, is_leaving, Carries, lane, Era, Ghost, shape_at, segment_in, HasElement, IsSegment, limbo_at, Each}
+use Rattle.hop_words.specs.Ghost.{Holder, Free, Filling, Leaving, Within, is_free, is_filling, is_leaving, Carries, lane, Era, Ghost, shape_at, HasElement, limbo_at, lock_home, IsHomeIn, child, Each}
+use Rattle.hop_words.specs.Depths.{stamp_depth, IsBorn, home_by, Deep}
 
 -- ======== history
 
@@ -54,10 +55,11 @@ pub record Keyed (a : About) (counts : ℕ → ℕ) (maps : ℕ → KeyMap) (lin
   pub counted : (m : ℕ) → m < length a.shape.maps → counts m ≡ len (maps m)
   pub leads : (m : ℕ) (key : List ℕ) → get (maps m) key ≡ numbered (number m) (linked m key)
 
--- versions go up by Done events alone
-abbrev pub Worn : About → (ℕ → ℕ → ℕ) → (ℕ → ℕ → Era) → List Entry → Type 0
-Worn a stamp eras log = (m s : ℕ) → IsSegment a m s
-    → stamp m s / 256 + (eras m s).credit ≤ a.version + done_in m log
+-- versions go up by Done events and by splits alone
+abbrev pub Worn : About → (ℕ → ℕ → ℕ) → (ℕ → ℕ → ℕ) → (ℕ → ℕ → Era) → List Entry → Type 0
+Worn a depths stamp eras log = (m s : ℕ) → IsBorn a depths m s
+    → stamp m s / 256 + (eras m s).credit + first_depth (shape_at a m)
+    ≤ a.version + depths m s + done_in m log
 
 -- ======== runs
 
@@ -104,14 +106,13 @@ pub record Owned (a : About) (free : ℕ → ℕ → ℕ) (fresh : ℕ → List 
   pub limbo_is : (c m e : ℕ) → c < a.shape.cpus → HasElement a m e
       → times_limbo e (limbo_at (limbo c) m) ≡ one_if (is_leaving c (holder m e))
 
--- an element is linked where its key is at home, and nowhere else
-pub record Linked (a : About) (home : ℕ → List ℕ → ℕ) (linked : ℕ → List ℕ → Option ℕ)
-    (holder : ℕ → ℕ → Holder) : Type 0 where
-  pub within : (m : ℕ) (key : List ℕ) (e : ℕ) → linked m key ≡ Some e
-      → HasElement a m e × (holder m e ≡ Within (home m key))
-  pub leads : (m e s : ℕ) → HasElement a m e → holder m e ≡ Within s
-      → (key : List ℕ) × (linked m key ≡ Some e)
-  pub once : (m : ℕ) (p q : List ℕ) (e : ℕ) → linked m p ≡ Some e → linked m q ≡ Some e → p ≡ q
+-- a key leads to an element that is linked under it
+pub record Linked (a : About) (linked : ℕ → List ℕ → Option ℕ) (holder : ℕ → ℕ → Holder) : Type 0
+  where
+    pub within : (m : ℕ) (key : List ℕ) (e : ℕ) → linked m key ≡ Some e
+        → HasElement a m e × (holder m e ≡ Within key)
+    pub leads : (m e : ℕ) (key : List ℕ) → HasElement a m e → holder m e ≡ Within key
+        → linked m key ≡ Some e
 
 abbrev pub StartsWith : List ℕ → (ℕ → ℕ) → Type 0
 StartsWith ns w = (k : ℕ) → k < length ns → w k ≡ slice_index ns k
@@ -125,25 +126,26 @@ Filled a key value fresh = (c : ℕ) → c < a.shape.cpus
 -- ======== segments
 
 -- the words at rest stay until a lock changes something, and show the segment's share of the keys
-pub record Segment (a : About) (home : ℕ → List ℕ → ℕ) (x : MapWords) (stamp : ℕ) (r : Era)
+pub record Segment (a : About) (depths : ℕ → ℕ → ℕ) (x : MapWords) (stamp : ℕ) (r : Era)
     (m s : ℕ) (f : List ℕ → Option ℕ) : Type 0 where
   pub at_rest : stamp % 2 ≡ 0 → r.dirty ≡ false
   pub clean : r.dirty ≡ false → (r.era + stamp % 2 ≡ stamp) × Agrees m s (Reached r.old m s) x r.old
   pub written : r.dirty ≡ true → r.era ≡ stamp
-  pub shows : r.dirty ≡ false → IsShare a.seed (shape_at a m) (home m) r.old m s f
+  pub shows : r.dirty ≡ false → IsShare a.seed (shape_at a m) (home_by a m (depths m s)) r.old m s f
 
-abbrev pub Segments : About → (ℕ → List ℕ → ℕ) → MapWords → (ℕ → ℕ → ℕ) → (ℕ → ℕ → Era)
+abbrev pub Segments : About → (ℕ → ℕ → ℕ) → MapWords → (ℕ → ℕ → ℕ) → (ℕ → ℕ → Era)
     → (ℕ → List ℕ → Option ℕ) → Type 0
-Segments a home x stamp eras linked = (m s : ℕ) → IsSegment a m s
-    → Segment a home x (stamp m s) (eras m s) m s (linked m)
+Segments a depths x stamp eras linked = (m s : ℕ) → IsBorn a depths m s
+    → Segment a depths x (stamp m s) (eras m s) m s (linked m)
 
 -- ---- locks
--- an element whose link and key words nobody but the holder c of the lock writes
-abbrev pub Minded : ℕ → ℕ → Holder → Type 0
-Minded c s Free = ⊥
-Minded c s (Filling d) = d ≡ c
-Minded c s (Leaving d) = d ≡ c
-Minded c s (Within t) = t ≡ s
+-- an element whose link and key words nobody but the holder c of the lock writes (home: the segment
+-- of each key)
+abbrev pub Minded : (List ℕ → ℕ) → ℕ → ℕ → Holder → Type 0
+Minded home c s Free = ⊥
+Minded home c s (Filling d) = d ≡ c
+Minded home c s (Leaving d) = d ≡ c
+Minded home c s (Within key) = home key ≡ s
 
 abbrev pub key_is : List ℕ → List ℕ → Bool
 key_is [] [] = true
@@ -168,16 +170,17 @@ image a ws = place_words (mem a.shape ws)
 
 -- the keys lead where the words at the lock said, but for what took effect since: that remains to
 -- be written
-abbrev pub IsDue : About → (ℕ → List ℕ → ℕ) → Lock → (List ℕ → Option ℕ) → Type 0
-IsDue a home k f = (before : List ℕ → Option ℕ)
-    × IsShare a.seed (shape_at a k.map) (home k.map) (image a k.first) k.map k.segment before
-    × ((key : List ℕ) → home k.map key ≡ k.segment → f key ≡ changed k.change before key)
+abbrev pub IsDue : About → Lock → (List ℕ → Option ℕ) → Type 0
+IsDue a k f = (before : List ℕ → Option ℕ)
+    × IsShare a.seed (shape_at a k.map) (lock_home a k) (image a k.first) k.map k.segment before
+    × ((key : List ℕ) → IsHomeIn a k key → f key ≡ changed k.change before key)
 
 -- the CPU c has the lock, and its copy is what the words are
-pub record Holds (a : About) (home : ℕ → List ℕ → ℕ) (x : MapWords) (stamp : ℕ → ℕ → ℕ)
+pub record Holds (a : About) (depths : ℕ → ℕ → ℕ) (x : MapWords) (stamp : ℕ → ℕ → ℕ)
     (eras : ℕ → ℕ → Era) (linked : ℕ → List ℕ → Option ℕ) (holder : ℕ → ℕ → Holder) (c : ℕ)
     (k : Lock) : Type 0 where
-  pub inside : IsSegment a k.map k.segment
+  pub inside : IsBorn a depths k.map k.segment
+  pub deep : stamp_depth k.stamp ≡ depths k.map k.segment
   pub even : k.stamp % 2 ≡ 0
   pub locked : stamp k.map k.segment ≡ k.stamp + 1
   pub writer : (eras k.map k.segment).writer ≡ c
@@ -185,13 +188,17 @@ pub record Holds (a : About) (home : ℕ → List ℕ → ℕ) (x : MapWords) (s
   pub credit : (eras k.map k.segment).credit ≡ owed k.change
   pub untouched : k.dirty ≡ false → (k.copy ≡ k.first) × (k.change ≡ Nothing)
   pub sized : length k.copy ≡ size a.shape
-  pub copied : Agrees k.map k.segment (λ e. Minded c k.segment (holder k.map e)) x (image a k.copy)
-  pub due : IsDue a home k (linked k.map)
+  pub copied : Agrees k.map k.segment (λ e. Minded (lock_home a k) c k.segment (holder k.map e)) x
+      (image a k.copy)
+  -- and so are the words of the segment that would be born here
+  pub beside : AgreesFront k.map (child k) x (image a k.copy)
+  pub beside_stamp : stamp k.map (child k) ≡ mem a.shape k.copy (Stamp k.map (child k))
+  pub due : IsDue a k (linked k.map)
 
-abbrev pub Locking : About → (ℕ → List ℕ → ℕ) → MapWords → (ℕ → ℕ → ℕ) → (ℕ → ℕ → Era)
+abbrev pub Locking : About → (ℕ → ℕ → ℕ) → MapWords → (ℕ → ℕ → ℕ) → (ℕ → ℕ → Era)
     → (ℕ → List ℕ → Option ℕ) → (ℕ → ℕ → Holder) → (ℕ → List Lock) → Type 0
-Locking a home x stamp eras linked holder locks = (c : ℕ)
-    → Each (Holds a home x stamp eras linked holder c) (locks c)
+Locking a depths x stamp eras linked holder locks = (c : ℕ)
+    → Each (Holds a depths x stamp eras linked holder c) (locks c)
 
 -- how often a list of locks has this segment's
 abbrev pub times_lock : ℕ → ℕ → List Lock → ℕ
@@ -199,8 +206,8 @@ times_lock m s [] = 0
 times_lock m s (k ∷ ks) = one_if ((k.map == m) && (k.segment == s)) + times_lock m s ks
 
 -- a locked segment has a holder
-abbrev pub Held : About → (ℕ → ℕ → ℕ) → (ℕ → ℕ → Era) → (ℕ → List Lock) → Type 0
-Held a stamp eras locks = (m s : ℕ) → IsSegment a m s → stamp m s % 2 ≡ 1
+abbrev pub Held : About → (ℕ → ℕ → ℕ) → (ℕ → ℕ → ℕ) → (ℕ → ℕ → Era) → (ℕ → List Lock) → Type 0
+Held a depths stamp eras locks = (m s : ℕ) → IsBorn a depths m s → stamp m s % 2 ≡ 1
     → ((eras m s).writer < a.shape.cpus) × (1 ≤ times_lock m s (locks (eras m s).writer))
 
 -- ---- readings
@@ -214,16 +221,18 @@ IsPeek x m s (KeyWord n e k) i = n ≡ m → Reached x m s e → x.key m e k ≡
 IsPeek x m s p i = Unit {0}
 
 -- while the stamp is the one noted, each word peeked has the number peeked
-pub record IsSoundReading (a : About) (eras : ℕ → ℕ → Era) (r : Reading) : Type 0 where
-  pub inside : IsSegment a r.map r.segment
+pub record IsSoundReading (a : About) (depths : ℕ → ℕ → ℕ) (eras : ℕ → ℕ → Era) (r : Reading)
+    : Type 0 where
+  pub inside : IsBorn a depths r.map r.segment
+  pub deep : stamp_depth r.stamp ≤ depths r.map r.segment
   pub even : r.stamp % 2 ≡ 0
   pub behind : r.stamp ≤ (eras r.map r.segment).era
   pub stays : r.stamp ≡ (eras r.map r.segment).era
       → Each (λ (p : Peek). IsPeek (eras r.map r.segment).old r.map r.segment p.place p.number)
       r.peeks
 
-abbrev pub Readings : About → (ℕ → ℕ → Era) → (ℕ → List Reading) → Type 0
-Readings a eras readings = (c : ℕ) → Each (IsSoundReading a eras) (readings c)
+abbrev pub Readings : About → (ℕ → ℕ → ℕ) → (ℕ → ℕ → Era) → (ℕ → List Reading) → Type 0
+Readings a depths eras readings = (c : ℕ) → Each (IsSoundReading a depths eras) (readings c)
 
 -- ======== values
 
@@ -259,21 +268,22 @@ pub record Rule (a : About) (w : Place → ℕ) (g : Ghost) : Type 0 where
   -- history
   pub logged : Logged a g.lanes.seen g.log g.last
   pub keyed : Keyed a (λ m. w (KeyCount m)) g.last.maps g.linked g.number
-  pub worn : Worn a (λ m s. w (Stamp m s)) g.eras g.log
+  pub worn : Worn a g.depths (λ m s. w (Stamp m s)) g.eras g.log
   -- runs
   pub runs : Runs a (λ c. w (RunCount c)) g.log
   pub batched : Batched a (λ m e. w (Link m e)) (λ c. w (RunCount c)) g.lanes.limbo g.last.held
       g.number
   -- owners
   pub owned : Owned a (λ m i. w (FreeBits m i)) g.lanes.fresh g.lanes.limbo g.holder
-  pub linked : Linked a (segment_in a) g.linked g.holder
+  pub linked : Linked a g.linked g.holder
   pub filled : Filled a (λ m e k. w (KeyWord m e k)) (λ m e k. w (ValueWord m e k)) g.lanes.fresh
   -- segments
-  pub segments : Segments a (segment_in a) (place_words w) (λ m s. w (Stamp m s)) g.eras g.linked
-  pub locking : Locking a (segment_in a) (place_words w) (λ m s. w (Stamp m s)) g.eras g.linked
+  pub deep : Deep a (λ m s. w (Stamp m s)) g.depths
+  pub segments : Segments a g.depths (place_words w) (λ m s. w (Stamp m s)) g.eras g.linked
+  pub locking : Locking a g.depths (place_words w) (λ m s. w (Stamp m s)) g.eras g.linked
       g.holder g.lanes.locks
-  pub held : Held a (λ m s. w (Stamp m s)) g.eras g.lanes.locks
-  pub reading : Readings a g.eras g.lanes.readings
+  pub held : Held a g.depths (λ m s. w (Stamp m s)) g.eras g.lanes.locks
+  pub reading : Readings a g.depths g.eras g.lanes.readings
   -- values
   pub valued : Valued a (λ m e k. w (ValueWord m e k)) g.last.made g.last.value g.last.held g.holder
       g.number

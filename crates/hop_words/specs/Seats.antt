@@ -1,8 +1,6 @@
 -- Cutting and joining seats, and the seat that knows the whole history.
-use Rattle.std.specs.Prelude.{◌≡◌, ℕ, List, [], ◌++◌}
-use mathlib.Core.Option.{some}
+use Rattle.std.specs.Prelude.{◌≡◌, ℕ, List}
 use mathlib.Core.List.{IsPrefix}
-use lib.ListN.{get_elem?}
 use Rattle.bpf_shared.specs.declared.events.Entry.{Entry}
 use Rattle.bpf_shared.specs.History.{events_of}
 use Rattle.hop_layout.specs.declared.about.About.{About}
@@ -10,8 +8,9 @@ use Rattle.hop_words.specs.declared.known.Known.{Known}
 use Rattle.hop_words.specs.declared.known.View.{View}
 use Rattle.hop_layout.specs.Layout.{mem}
 use Rattle.hop_words.specs.Content.{IsShare}
-use Rattle.hop_words.specs.Ghost.{segment_in, Ghost, shape_at, IsSegment}
+use Rattle.hop_words.specs.Ghost.{Ghost, shape_at}
 use Rattle.hop_words.specs.Rule.{Rule, image}
+use Rattle.hop_words.specs.Depths.{IsBorn, home_by}
 
 abbrev pub view : List Known → List Entry → View
 view lanes kept = record { lanes = lanes; kept = kept }
@@ -25,7 +24,8 @@ pub record KeepsWholeHistory (a : About) (v : View) (ws : List ℕ) : Type 0 whe
   pub ghost : Ghost
   pub whole : v.kept ≡ ghost.log
   pub rule : Rule a (mem a.shape ws) ghost
-  -- where no lane has a lock, each segment's words are at rest, and show its share of the last
+  -- where no lane has a lock, each born segment's words are at rest, and show its share of the last
   -- store's keys
-  pub shows : (m s : ℕ) → IsSegment a m s
-      → IsShare a.seed (shape_at a m) (segment_in a m) (image a ws) m s (ghost.linked m)
+  pub shows : (m s : ℕ) → IsBorn a ghost.depths m s
+      → IsShare a.seed (shape_at a m) (home_by a m (ghost.depths m s)) (image a ws) m s
+      (ghost.linked m)

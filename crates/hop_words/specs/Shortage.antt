@@ -9,7 +9,7 @@ use Rattle.bpf_shared.specs.Shape.{Shape, elements, element_span}
 use Rattle.bpf_shared.specs.Store.{Plain, as_made}
 use Rattle.bpf_shared.specs.History.{Legal, events_of}
 use Rattle.bpf_shared.specs.Own.{turns_of}
-use Rattle.hop_layout.specs.Layout.{map_shape}
+use Rattle.hop_layout.specs.Layout.{map_shape, gained}
 use Rattle.hop_words.specs.Content.{one_if}
 
 -- ---- Busy
@@ -23,10 +23,10 @@ abbrev pub done_in : ℕ → List Entry → ℕ
 done_in m [] = 0
 done_in m (x ∷ xs) = one_if (is_done m x.event) + done_in m xs
 
--- a segment's version goes up with each change, from the one that the store was made with to the
--- last, 2 ^ 56 - 1: so many changes of the map may have used one up
-abbrev pub MayBeWorn : ℕ → ℕ → List Entry → Type 0
-MayBeWorn version m before = 2 ^ 56 - 1 ≤ version + done_in m before
+-- a segment's version goes up with each change and each split, from the one that the store was made
+-- with to the last, 2 ^ 56 - 1: so many changes of the map may have used one up
+abbrev pub MayBeWorn : Shape → ℕ → ℕ → List Entry → Type 0
+MayBeWorn h version m before = 2 ^ 56 - 1 ≤ version + gained (map_shape h m) + done_in m before
 
 -- ---- NoMemory
 -- a value was made where this span is
@@ -52,9 +52,9 @@ MayLack h before c m = (s : Plain) × Legal (as_made h) before s
 -- behind these entries the CPU's event may be: Busy is answered only where a version may be used
 -- up, NoMemory only where each element of the map may be taken
 abbrev pub HasCause : Shape → ℕ → List Entry → ℕ → Event → Type 0
-HasCause h version before c (Update m key bytes flags Busy) = MayBeWorn version m before
+HasCause h version before c (Update m key bytes flags Busy) = MayBeWorn h version m before
 HasCause h version before c (Update m key bytes flags NoMemory) = MayLack h before c m
-HasCause h version before c (Delete m key Busy) = MayBeWorn version m before
+HasCause h version before c (Delete m key Busy) = MayBeWorn h version m before
 HasCause h version before c e = Unit {0}
 
 -- so may each of a history, behind those before it

@@ -25,6 +25,10 @@ LeavesLocks s = (m i : ℕ) → s.place ≡ Stamp m i → IsLook s
 abbrev pub lock_taken : ℕ → ℕ → ℕ → Sight
 lock_taken m s n = sight (Stamp m s) n (n + 1)
 
+-- a segment was split, and with that unlocked: the version is the next, and the depth one more
+abbrev pub split_made : ℕ → ℕ → ℕ → Sight
+split_made m s n = sight (Stamp m s) (n + 1) (n + 258)
+
 -- an element's bit was cleared among those found, and was set
 abbrev pub bit_cleared : ℕ → ℕ → ℕ → Sight
 bit_cleared m e n = sight (FreeBits m (e / 64)) n (bit_and n (2 ^ 64 - 1 - 2 ^ (e % 64)))

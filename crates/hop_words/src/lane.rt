@@ -3,7 +3,7 @@
 ghost use Rattle.std.specs.Prelude.{◌≡◌, ◌==◌, true, [], ℕ, ◌+◌, ◌%◌, ◌^◌, bit_and, bit_or, bit_xor};
 ghost use prog.Atomic.{either};
 ghost use Rattle.hop_layout.specs.Layout.{is_place};
-ghost use Rattle.hop_words.specs.Private.Step.{solo, IsQuiet, Unlocks, Steps, Notes, NotesTaken, first_lane};
+ghost use Rattle.hop_words.specs.Private.Step.{solo, IsQuiet, Unlocks, IsBesideStamp, IsSplit, Steps, Notes, NotesTaken, first_lane};
 ghost use Rattle.hop_words.specs.Inside.{nobody};
 
 use crate::known::View;
@@ -255,7 +255,7 @@ impl Lane {
     }
 }
 
-// The unlock: the one step that stores a stamp.
+// The unlock, and the stamp of a segment that isn't born: the steps that store a stamp unnoted.
 impl Lane {
     #[inline(always)]
     pub(crate) fn unlock_by<E: Tell, T: Copy>(
@@ -268,6 +268,31 @@ impl Lane {
         requires table { self.old.table ≡ table.now.id }
         requires place { is_place table.now.about.shape place ≡ true }
         requires unlocks { Unlocks self.old.known place new }
+        requires step { Steps table.now.about self.old.known place (λ _. new)
+            (λ ws n l. E.told new l) }
+        ensures table { self.new.table ≡ self.old.table }
+        ensures told { E.told new self.new.known }
+    {
+        let word = table.word_of(place);
+        table
+            .table
+            .shared
+            .store::<Told<E>>(&mut self.seat, word, new);
+    }
+}
+
+impl Lane {
+    #[inline(always)]
+    pub(crate) fn beside_by<E: Tell, T: Copy>(
+        &mut self,
+        table: &HopTable,
+        place: Place,
+        new: u64,
+        _said: T,
+    )
+        requires table { self.old.table ≡ table.now.id }
+        requires place { is_place table.now.about.shape place ≡ true }
+        requires beside { IsBesideStamp self.old.known place new }
         requires step { Steps table.now.about self.old.known place (λ _. new)
             (λ ws n l. E.told new l) }
         ensures table { self.new.table ≡ self.old.table }
@@ -366,5 +391,29 @@ impl Lane {
             .table
             .shared
             .compare_exchange::<Told<E>>(&mut self.seat, word, old, new)
+    }
+
+    // The unlock by which a segment is born.
+    #[inline(always)]
+    pub(crate) fn split_noted<E: Tell, T: Copy>(
+        &mut self,
+        table: &HopTable,
+        place: Place,
+        new: u64,
+        _said: T,
+    )
+        requires table { self.old.table ≡ table.now.id }
+        requires place { is_place table.now.about.shape place ≡ true }
+        requires splits { IsSplit self.old.known place new }
+        requires step { Notes table.now.about self.old.known place (λ _. new)
+            (λ ws n l. E.told new l) }
+        ensures table { self.new.table ≡ self.old.table }
+        ensures told { E.told new self.new.known }
+    {
+        let word = table.word_of(place);
+        table
+            .table
+            .shared
+            .store::<Told<E>>(&mut self.seat, word, new);
     }
 }

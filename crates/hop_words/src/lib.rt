@@ -12,8 +12,10 @@ mod making;
 mod owning;
 mod peeking;
 mod running;
+mod splitting;
 mod table;
 mod touching;
+mod walking;
 
 pub use closing::{Rest, Returned};
 pub use dealing::Lanes;
@@ -21,3 +23,4 @@ pub use known::{Change, Fresh, Known, Limbo, Lock, Peek, Reading, Sight, View};
 pub use lane::Lane;
 pub use table::{HopTable, OneRule};
 pub use touching::ValuePart;
+pub use walking::{Way, towards};

@@ -4,7 +4,7 @@ ghost use Rattle.std.specs.Prelude.{◌≡◌, ◌<◌, ◌+◌, ◌%◌, IsTrue
 ghost use Rattle.hop_layout.specs.declared.place.Place.TheVariants.{Head, Hop, Slot, Link};
 ghost use Rattle.hop_layout.specs.Layout.{words_for};
 ghost use Rattle.hop_words.specs.Ghost.{shape_at, HasElement, IsSegment};
-ghost use Rattle.hop_words.specs.Kinds.{LocksSegment, MayLink, writing};
+ghost use Rattle.hop_words.specs.Kinds.{LocksSegment, MayLink, writing, KnowsBorn};
 ghost use Rattle.hop_words.specs.Locking.{lock_of, HasLock, HasLastLock, locked_words};
 
 use crate::lane::Lane;
@@ -27,6 +27,7 @@ impl Lane {
     pub fn lock(&mut self, table: &HopTable, map: u8, segment: u32, stamp: u64) -> bool
         requires table { self.old.table ≡ table.now.id }
         requires inside { IsSegment table.now.about map segment }
+        requires born { KnowsBorn table.now.about self.old.known map segment }
         requires even { stamp % 2 ≡ 0 }
         ensures table { self.new.table ≡ self.old.table }
         ensures locked { IsTrue result

@@ -6,7 +6,7 @@ ghost use Rattle.hop_words.specs.Ghost.{shape_at};
 ghost use Rattle.hop_words.specs.Private.Made.{IsPartly, AreNewWords};
 
 use bpf_shared::MapShape;
-use hop_layout::{Index, Place, depth, elements, segments};
+use hop_layout::{Index, Place, elements, first_depth, segments};
 use std::alloc::{AllocError, Global};
 
 // Writes a word.
@@ -37,7 +37,7 @@ fn put_map(words: &mut Vec<u64>, index: &Index, map: u8, shape: &MapShape)
     'bits: for word in 0..elements(shape).div_ceil(64) {
         put(words, index, Place::FreeBits { map, word }, u64::MAX);
     }
-    let stamp = index.about().version * 256 + 2 * u64::from(depth(shape.max));
+    let stamp = index.about().version * 256 + 2 * u64::from(first_depth(shape));
     'stamps: for segment in 0..segments(shape) {
         put(words, index, Place::Stamp { map, segment }, stamp);
     }

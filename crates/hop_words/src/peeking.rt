@@ -2,7 +2,7 @@
 ghost use Rattle.std.specs.Prelude.{◌≡◌, true, [], ◌∷◌};
 ghost use Rattle.hop_layout.specs.Layout.{is_place};
 ghost use Rattle.hop_words.specs.Ghost.{IsSegment};
-ghost use Rattle.hop_words.specs.Kinds.{StampSeen, StampSeenAgain, peeking, FindsByPeeks};
+ghost use Rattle.hop_words.specs.Kinds.{StampSeen, StampSeenAgain, peeking, FindsByPeeks, KnowsBorn, StampNoted};
 ghost use Rattle.hop_words.specs.Peeking.{latest_reading, HasReading};
 
 use crate::lane::Lane;
@@ -18,10 +18,24 @@ impl Lane {
         requires table { self.old.table ≡ table.now.id }
         requires inside { IsSegment table.now.about map segment }
         requires unlocked { self.old.known.locks ≡ [] }
+        requires born { KnowsBorn table.now.about self.old.known map segment }
         ensures table { self.new.table ≡ self.old.table }
-        ensures seen { StampSeen self.old.known map segment result self.new.known }
+        ensures seen { StampSeen table.now.about self.old.known map segment result self.new.known }
     {
         self.load_noted::<Brand, _>(table, Place::Stamp { map, segment }, (map, segment))
+    }
+
+    /// A segment's stamp on the way to another, whether locked or not. Which of its children are
+    /// born is known from here on.
+    pub fn note_stamp(&mut self, table: &HopTable, map: u8, segment: u32) -> u64
+        requires table { self.old.table ≡ table.now.id }
+        requires inside { IsSegment table.now.about map segment }
+        requires born { KnowsBorn table.now.about self.old.known map segment }
+        ensures table { self.new.table ≡ self.old.table }
+        ensures noted { StampNoted table.now.about self.old.known map segment result
+            self.new.known }
+    {
+        self.load_by::<Brand, _>(table, Place::Stamp { map, segment }, (map, segment))
     }
 
     /// Any word, which others may be writing. What it was is noted with the reading.

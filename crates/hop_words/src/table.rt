@@ -1,5 +1,6 @@
 //! The table of the store's words.
 use crate::known::View;
+use crate::walking::Way;
 use atomic_table::{Table, TableRule};
 use hop_layout::{About, Index, Place};
 use std::alloc::Global;
@@ -37,9 +38,12 @@ impl Model for HopTable {
 }
 
 impl HopTable {
-    ghost use Rattle.std.specs.Prelude.{◌≡◌, ◌<◌, ◌%◌, true, length};
-    ghost use Rattle.hop_words.specs.Ghost.{shape_at};
-    ghost use Rattle.hop_layout.specs.Layout.{is_place, at, segments};
+    ghost use Rattle.std.specs.Prelude.{◌≡◌, ◌<◌, ◌≤◌, ◌%◌, true, length};
+    ghost use Rattle.hop_words.specs.declared.known.Known.{Known};
+    ghost use Rattle.hop_words.specs.Kinds.{KnowsBorn};
+    ghost use Rattle.hop_words.specs.Walking.{IsOnWay};
+    ghost use Rattle.hop_words.specs.Ghost.{shape_at, IsSegment};
+    ghost use Rattle.hop_layout.specs.Layout.{is_place, at, first_depth};
 
     /// What the store was told when it was made.
     pub fn about(&self) -> &About
@@ -48,14 +52,21 @@ impl HopTable {
         self.index.about()
     }
 
-    /// The number of the segment of a map that a home lies in.
+    /// Where the way of a home begins: at segment 0 of a map that grows, else at the home's own
+    /// segment.
     #[inline(always)]
-    pub fn segment_of(&self, map: u8, home: u32) -> u32
+    pub fn first_way(&self, map: u8, home: u32) -> Way
         requires map { map < length self.now.about.shape.maps }
-        ensures segment { result ≡ home % segments (shape_at self.now.about map) }
-        ensures inside { result < segments (shape_at self.now.about map) }
+        ensures way { IsOnWay home result }
+        ensures level { result.level ≡ first_depth (shape_at self.now.about map) }
+        ensures few { result.level ≤ 10 }
+        ensures inside { IsSegment self.now.about map result.segment }
+        ensures born { (l : Known) → KnowsBorn self.now.about l map result.segment }
     {
-        self.index.segment_of(map, home)
+        Way {
+            segment: self.index.first_segment(map, home),
+            level: self.index.first_depth_of(map),
+        }
     }
 
     // Where the word of a place stands.

@@ -4,7 +4,7 @@ use Rattle.bpf_shared.specs.declared.shapes.MapShape.{MapShape}
 use Rattle.bpf_shared.specs.Shape.{Shape, elements}
 use Rattle.hop_layout.specs.declared.index.Bases.{Bases}
 use Rattle.hop_layout.specs.declared.place.Place.TheVariants.{KeyCount, Stamp, Link, KeyWord, ValueWord}
-use Rattle.hop_layout.specs.Layout.{at, size, words_for, map_shape, free_words, line_rest, segments, depth, map_words}
+use Rattle.hop_layout.specs.Layout.{at, size, words_for, map_shape, free_words, line_rest, segments, first_depth, map_words}
 
 abbrev pub bases : Shape → ℕ → Bases
 bases h m = record {
@@ -15,7 +15,7 @@ bases h m = record {
   values = at h (ValueWord m 0 0);
   key_words = words_for (map_shape h m).key;
   value_words = words_for (map_shape h m).value;
-  depth = depth (map_shape h m);
+  first = first_depth (map_shape h m);
 }
 
 -- the first n maps begin where they do
@@ -40,7 +40,7 @@ bases_from start g =
       values = key_start + elements g * words_for g.key;
       key_words = words_for g.key;
       value_words = words_for g.value;
-      depth = depth g;
+      first = first_depth g;
     }
 
 abbrev pub end_from : ℕ → MapShape → ℕ

@@ -4,12 +4,13 @@ use Rattle.hop_words.specs.declared.known.Known.{Known}
 use Rattle.hop_words.specs.declared.known.Reading.{Reading}
 use Rattle.hop_words.specs.declared.known.Peek.{Peek}
 use Rattle.hop_words.specs.Content.{MapWords, Reached, IsShare}
-use Rattle.hop_words.specs.Ghost.{shape_at, segment_in, Each}
+use Rattle.hop_words.specs.Ghost.{shape_at, Each}
 use Rattle.hop_words.specs.Rule.{IsPeek}
 use Rattle.hop_words.specs.Peeking.{latest_reading}
 use Rattle.hop_seg.specs.Words.{Words as SegWords}
 use Rattle.hop_map.specs.Private.LockedSegment.{segment_view}
 use Rattle.hop_map.specs.Private.Peeks.{Peeked, HavePeeks, Agreed, OnlyReads}
+use Rattle.hop_words.specs.Depths.{stamp_depth, home_by}
 
 pub rested_itself : (x : Peeked) → OnlyReads x x
 rested_itself x = record {
@@ -60,16 +61,26 @@ module _ (x y : Peeked) (p : OnlyReads x y) where
       (subst (λ (r : Reading). Each P r.peeks) p.reading
       (subst (λ (z : Peeked). HavePeeks w z) back all))
 
+  -- the stamp noted is the same
+  pub one_stamp : (latest_reading y.known).stamp ≡ (latest_reading x.known).stamp
+  one_stamp = ap (λ (r : Reading). r.stamp) p.reading
+
   unfoldable pub agreed_before : (w : SegWords) → Agreed y w → Agreed x w
   agreed_before w g = record {
     words = g.words;
     content = g.content;
-    share = subst (λ (z : Peeked). IsShare z.about.seed (shape_at z.about z.map)
-        (segment_in z.about z.map) g.words z.map z.segment g.content) back g.share;
+    share = subst (λ (i : ℕ). IsShare x.about.seed (shape_at x.about x.map)
+        (home_by x.about x.map (stamp_depth i)) g.words x.map x.segment g.content) one_stamp
+        (subst (λ (z : Peeked). IsShare z.about.seed (shape_at z.about z.map)
+        (home_by z.about z.map (stamp_depth (latest_reading y.known).stamp)) g.words z.map z.segment
+        g.content) back g.share);
     peeks = had_peeks g.words g.peeks;
     known = g.known;
     known_is = subst (λ (z : Peeked). (e : ℕ) → g.known e ≡ true
         → Reached g.words z.map z.segment e) back g.known_is;
     shown = g.shown
-        ∙ ap (λ (z : Peeked). segment_view z.about z.map z.segment g.known g.words) back;
+        ∙ (ap (λ (z : Peeked). segment_view z.about z.map z.segment
+        (stamp_depth (latest_reading y.known).stamp) g.known g.words) back
+        ∙ ap (λ (i : ℕ). segment_view x.about x.map x.segment (stamp_depth i) g.known g.words)
+        one_stamp);
   }

@@ -1,5 +1,5 @@
 -- What a whole call leaves in hand.
-use Rattle.std.specs.Prelude.{◌≡◌, ◌≢◌, ◌⊎◌, ℕ, ◌+◌, ◌-◌, ◌%◌, ◌^◌, ◌<◌, ◌≤◌, [], ◌∷◌, ◌++◌}
+use Rattle.std.specs.Prelude.{◌≡◌, ℕ, [], ◌∷◌}
 use Rattle.hop_words.specs.declared.known.Known.{Known}
 
 -- the CPU has one element in hand: a new one, no word of which is filled

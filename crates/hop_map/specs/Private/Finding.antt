@@ -1,24 +1,57 @@
 -- What a lookup asks of its key.
-use Rattle.std.specs.Prelude.{◌≡◌, ◌≢◌, ◌⊎◌, ℕ, ◌%◌, ◌<◌, true, List, [], ◌∷◌, ◌++◌, length}
+use Rattle.std.specs.Prelude.{◌≡◌, ℕ, ◌%◌, ◌≤◌, true, List, ◌∷◌, ◌++◌, length}
 use Rattle.bpf_shared.specs.History.{events_of}
 use Rattle.hop_layout.specs.declared.about.About.{About}
+use Rattle.hop_layout.specs.declared.place.Place.TheVariants.{Stamp}
+use Rattle.hop_layout.specs.Layout.{power}
 use Rattle.hop_words.specs.declared.known.Known.{Known}
 use Rattle.hop_words.specs.declared.known.Sight.{Sight}
-use Rattle.hop_words.specs.Ghost.{shape_at, segment_in, Each}
+use Rattle.hop_words.specs.declared.walking.Way.{Way}
+use Rattle.hop_words.specs.Depths.{stamp_depth, home_by}
+use Rattle.hop_words.specs.Ghost.{shape_at, IsSegment, Each}
+use Rattle.hop_words.specs.Kinds.{SaysDepth, noting}
+use Rattle.hop_words.specs.Sights.{look}
+use Rattle.hop_words.specs.Walking.{IsOnWay}
 use Rattle.bpf_shared.specs.Own.{in_run}
-use Rattle.hop_map.specs.Finding.{IsDisturbed, all_sights}
+use Rattle.hop_map.specs.Finding.{IsWay, IsDisturbedTry, all_sights}
 
--- the key is at home in the segment
-pub record AsksHere (a : About) (l : Known) (m s : ℕ) (key : List ℕ) : Type 0 where
-  pub home : segment_in a m key ≡ s
+-- the key is at home in the segment of this depth
+pub record AsksHere (a : About) (l : Known) (m s d : ℕ) (key : List ℕ) : Type 0 where
+  pub home : home_by a m d key ≡ s
   pub size : length key ≡ (shape_at a m).key
   pub runs : in_run (events_of l.cpu l.seen) ≡ true
 
--- so many readings of the key's segment were disturbed, and nothing else came of them
+-- so many readings were disturbed, and nothing else came of them
 pub record SeesDisturbances (a : About) (l : Known) (m : ℕ) (key : List ℕ) (n : ℕ) (l' : Known)
     : Type 0 where
   pub more : List (List Sight)
   pub count : length more ≡ n
-  pub each : Each (λ (x : List Sight). (first : ℕ) × (last : ℕ)
-      × IsDisturbed m (segment_in a m key) first last x) more
+  pub each : Each (IsDisturbedTry a m key) more
   pub after : l' ≡ record l { readings = l'.readings; tally = all_sights more ++ l.tally }
+
+-- the lane begins to read a segment, whose stamp it looked at after these sights
+abbrev pub reading_at : Known → ℕ → ℕ → ℕ → List Sight → Known
+reading_at l m s n way =
+    record (noting l m s n) { tally = look (Stamp m s) n ∷ (way ++ l.tally) }
+
+-- on the way to the segment of a home, by this segment, whose stamp was unlocked
+pub record Approaching (a : About) (l : Known) (m home : ℕ) (w : Way) (n : ℕ) (way : List Sight)
+    (l' : Known) : Type 0 where
+  pub after : l' ≡ reading_at l m w.segment n way
+  pub looks : Each (λ (x : Sight). (t : ℕ) × (i : ℕ) × (x ≡ look (Stamp m t) i)) way
+  pub inside : IsSegment a m w.segment
+  pub even : n % 2 ≡ 0
+  pub deep : SaysDepth a m w.segment n
+  pub on_way : IsOnWay home w
+  pub level : w.level ≤ 10
+
+-- the segment of a home is being read, or one on the way was locked
+pub record Walked (a : About) (l : Known) (m home s n : ℕ) (l' : Known) : Type 0 where
+  pub way : List Sight
+  pub is_way : IsWay a m home s way
+  pub inside : IsSegment a m s
+  pub free : n % 2 ≡ 0 → (l' ≡ reading_at l m s n way) × (home % power (stamp_depth n) ≡ s)
+  pub locked : n % 2 ≡ 1 → l' ≡ record l {
+    readings = l'.readings;
+    tally = look (Stamp m s) n ∷ (way ++ l.tally);
+  }

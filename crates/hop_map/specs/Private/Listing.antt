@@ -1,34 +1,52 @@
 -- A listing on its way: what the CPU has locked and listed so far.
-use Rattle.std.specs.Prelude.{◌≡◌, ℕ, zero, suc, ◌<◌, ◌≤◌, ◌⊎◌, false, true, List, [], ◌∷◌, ◌++◌, Some}
+use Rattle.std.specs.Prelude.{◌≡◌, ℕ, ◌%◌, ◌<◌, ◌≤◌, ◌⊎◌, false, true, List, [], ◌∷◌, ◌++◌, Some}
 use Rattle.std.specs.List.{AllByRecursion}
 use Rattle.bpf_shared.specs.declared.events.Event.TheVariants.{Keys}
 use Rattle.bpf_shared.specs.KeyOrder.{is_among, AreDistinct}
 use Rattle.hop_layout.specs.declared.about.About.{About}
 use Rattle.hop_words.specs.declared.known.Known.{Known}
 use Rattle.hop_words.specs.declared.known.Lock.{Lock}
+use Rattle.hop_layout.specs.Layout.{power}
+use Rattle.hop_words.specs.declared.known.Sight.{Sight}
+use Rattle.hop_words.specs.Sights.{lock_taken}
+use Rattle.hop_words.specs.Depths.{stamp_depth}
 use Rattle.hop_words.specs.Content.{Reached, item, times}
-use Rattle.hop_words.specs.Ghost.{IsHomeIn, Each}
+use Rattle.hop_words.specs.Ghost.{IsHomeIn, shape_at, Each}
 use Rattle.hop_words.specs.Rule.{image}
-use Rattle.hop_words.specs.Kinds.{TakesEffect, IsShownIn, HasRoom}
+use Rattle.hop_words.specs.Kinds.{TakesEffect, IsShownIn, HasRoom, SaysDepth}
 use Rattle.hop_words.specs.Locking.{lock_of, HasLastLock}
 use Rattle.hop_words.specs.Listing.{ListsSegment}
 use Rattle.hop_map.specs.Noting.{CallNotes}
 use Rattle.hop_map.specs.Private.LockedSegment.{spelled_key}
 use Rattle.hop_map.specs.Private.UnderLock.{LockShows}
 
--- these are the locks of the segments below n, the last one first, and nothing has changed under any
+-- these are locks of segments below n, the highest first, and nothing has changed under any
 abbrev pub Falls : ℕ → ℕ → List Lock → Type 0
-Falls m zero [] = Unit {0}
-Falls m zero (k ∷ ks) = ⊥
-Falls m (suc n) [] = ⊥
-Falls m (suc n) (k ∷ ks) = (k.map ≡ m) × (k.segment ≡ n) × (k.dirty ≡ false) × Falls m n ks
+Falls m n [] = Unit {0}
+Falls m n (k ∷ ks) = (k.map ≡ m) × (k.segment < n) × (k.dirty ≡ false) × Falls m k.segment ks
 
--- the segments below n are locked, and the list has their keys
+-- the home belongs to one of these locks' segments
+abbrev pub IsOwnedAmong : ℕ → List Lock → Type 0
+IsOwnedAmong home [] = ⊥
+IsOwnedAmong home (k ∷ ks) = (home % power (stamp_depth k.stamp) ≡ k.segment) ⊎ IsOwnedAmong home ks
+
+-- they are those of all born segments below n: each number below n belongs to one, as a home
+pub record Covers (a : About) (m n : ℕ) (ks : List Lock) : Type 0 where
+  pub falls : Falls m n ks
+  pub deep : Each (λ (k : Lock). SaysDepth a m k.segment k.stamp) ks
+  pub owned : (t : ℕ) → t < n → IsOwnedAmong t ks
+
+-- the born segments below n are locked, and the list has their keys
 pub record Gathers (a : About) (l : Known) (m n : ℕ) (keys : List (List ℕ)) : Type 0 where
-  pub falls : Falls m n l.locks
+  pub covers : Covers a m n l.locks
   pub lists : Each (ListsSegment a keys) l.locks
   pub shown : AllByRecursion (IsShownIn a m l.locks) keys
   pub distinct : AreDistinct keys
+
+-- the segment's lock was taken; or the map grows, and none was
+abbrev pub NotesLock : About → ℕ → ℕ → List Sight → List Sight → Type 0
+NotesLock a m s old new = ((n : ℕ) × (new ≡ lock_taken m s n ∷ old))
+    ⊎ (((shape_at a m).grow ≡ true) × (new ≡ old))
 
 -- what the keys of the segment that was locked last are added to: keys of other segments, each
 -- once, with room for all that the locks show
@@ -69,13 +87,17 @@ StandsBelow a l m s n e = (p : ℕ) × (p < n) × (p < 64)
 abbrev pub StandsOr : About → Known → ℕ → ℕ → List ℕ → ℕ → Type 0
 StandsOr a l m s es e = StandsBelow a l m s 64 e ⊎ (1 ≤ times e es)
 
--- more is locked now, and noted; all else is as it was
+-- more is locked now, and noted; all else but what was read is as it was
 abbrev pub LocksMore : Known → Known → Type 0
-LocksMore l l' = l' ≡ record l { locks = l'.locks; tally = l'.tally }
+LocksMore l l' = l' ≡ record l { locks = l'.locks; readings = l'.readings; tally = l'.tally }
 
--- the listing's event, and what the CPU noted at it; all else is as it was
+-- all but what was read is as it was
+abbrev pub ReadsMore : Known → Known → Type 0
+ReadsMore l l' = l' ≡ record l { readings = l'.readings }
+
+-- the listing's event, and what the CPU noted at it; all else but what was read is as it was
 pub record Listed (a : About) (l : Known) (m : ℕ) (keys : List (List ℕ)) (l' : Known) : Type 0
   where
     pub seen : TakesEffect a l (Keys m keys) l'.seen
     pub noted : CallNotes a (Keys m keys) l l'
-    pub after : l' ≡ record l { seen = l'.seen; tally = l'.tally }
+    pub after : l' ≡ record l { seen = l'.seen; readings = l'.readings; tally = l'.tally }

@@ -1,13 +1,14 @@
 -- What the code of one segment sees of the shared words.
-use Rattle.std.specs.Prelude.{◌≡◌, ℕ, ◌%◌, ◌^◌, ◌<◌, ◌≤◌, Bool, false, ◌||◌, ◌&&◌, ◌==◌, List, [], ◌∷◌, take}
+use Rattle.std.specs.Prelude.{◌≡◌, ℕ, ◌%◌, ◌^◌, ◌<◌, Bool, false, List, take}
 use Rattle.bpf_shared.specs.Shape.{elements}
 use Rattle.hop_layout.specs.declared.about.About.{About}
 use Rattle.hop_words.specs.declared.known.Known.{Known}
-use Rattle.hop_layout.specs.Layout.{depth, words_for, mem, same_place}
+use Rattle.hop_layout.specs.Layout.{words_for, mem, same_place}
 use Rattle.hop_layout.specs.declared.place.Place.{Place}
 use Rattle.hop_layout.specs.declared.place.Place.TheVariants.{KeyWord}
 use Rattle.hop_layout.specs.Words.{bytes_of_words, word_of}
 use Rattle.hop_words.specs.Content.{MapWords, item}
+use Rattle.hop_words.specs.Depths.{stamp_depth}
 use Rattle.hop_words.specs.Ghost.{shape_at}
 use Rattle.hop_words.specs.Rule.{image}
 use Rattle.hop_words.specs.Kinds.{writing}
@@ -20,9 +21,9 @@ abbrev pub spelled_key : About → ℕ → MapWords → ℕ → List ℕ
 spelled_key a m x e =
     take (shape_at a m).key (bytes_of_words (words_for (shape_at a m).key) (x.key m e))
 
--- one segment of the words, where these elements may be read
-abbrev pub segment_view : About → ℕ → ℕ → (ℕ → Bool) → MapWords → SegWords
-segment_view a m s known x = record {
+-- one segment of the words, of this depth, where these elements may be read
+abbrev pub segment_view : About → ℕ → ℕ → ℕ → (ℕ → Bool) → MapWords → SegWords
+segment_view a m s depth known x = record {
   hop = λ b. x.hop m s b % 2 ^ 32;
   slot = λ p. item (x.slot m s p);
   head = item (x.head m s);
@@ -33,12 +34,13 @@ segment_view a m s known x = record {
     known = known;
     limit = elements (shape_at a m);
     segment = s;
-    depth = depth (shape_at a m);
+    depth = depth;
   };
 }
 
 abbrev pub locked_view : About → Known → ℕ → ℕ → SegWords
-locked_view a l m s = segment_view a m s (knows l m) (image a (lock_of l).copy)
+locked_view a l m s =
+    segment_view a m s (stamp_depth (lock_of l).stamp) (knows l m) (image a (lock_of l).copy)
 
 abbrev pub seen_words : Locked → SegWords
 seen_words x = locked_view x.about x.known x.map x.segment

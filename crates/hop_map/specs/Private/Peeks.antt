@@ -9,12 +9,13 @@ use Rattle.hop_layout.specs.declared.place.Place.{Place}
 use Rattle.hop_layout.specs.Layout.{words_for}
 use Rattle.hop_layout.specs.Words.{word_of}
 use Rattle.hop_words.specs.Content.{MapWords, Reached, IsShare}
-use Rattle.hop_words.specs.Ghost.{shape_at, segment_in, IsSegment, Each}
+use Rattle.hop_words.specs.Ghost.{shape_at, IsSegment, Each}
 use Rattle.hop_words.specs.Rule.{IsPeek}
 use Rattle.hop_words.specs.Kinds.{peeking}
 use Rattle.hop_words.specs.Peeking.{latest_reading, HasReading}
 use Rattle.hop_seg.specs.Words.{Words as SegWords}
 use Rattle.hop_map.specs.Private.LockedSegment.{segment_view}
+use Rattle.hop_words.specs.Depths.{stamp_depth, home_by}
 
 -- a segment that is read without its lock, as its users see it
 pub record Peeked : Type 0 where
@@ -53,11 +54,13 @@ pub record Agreed (x : Peeked) (w : SegWords) : Type 0 where
   pub words : MapWords
   pub content : List ℕ → Option ℕ
   pub share : IsShare x.about.seed (shape_at x.about x.map)
-      (segment_in x.about x.map) words x.map x.segment content
+      (home_by x.about x.map (stamp_depth (latest_reading x.known).stamp)) words x.map x.segment
+      content
   pub peeks : HavePeeks words x
   pub known : ℕ → Bool
   pub known_is : (e : ℕ) → known e ≡ true → Reached words x.map x.segment e
-  pub shown : w ≡ segment_view x.about x.map x.segment known words
+  pub shown : w ≡ segment_view x.about x.map x.segment
+      (stamp_depth (latest_reading x.known).stamp) known words
 
 -- nothing but reads lies between the two
 pub record OnlyReads (x y : Peeked) : Type 0 where

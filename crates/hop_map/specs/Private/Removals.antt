@@ -9,15 +9,22 @@ use Rattle.hop_layout.specs.declared.about.About.{About}
 use Rattle.hop_words.specs.declared.known.Known.{Known}
 use Rattle.hop_map.specs.declared.dropping.Deletion.{Deletion}
 use Rattle.hop_map.specs.declared.dropping.Deletion.TheVariants.{Gone, Missing, Worn}
-use Rattle.hop_layout.specs.Home.{segment_of}
 use Rattle.hop_words.specs.Ghost.{shape_at}
 use Rattle.hop_words.specs.Shortage.{done_in}
 use Rattle.hop_words.specs.Kinds.{TakesEffect, with_gone}
 use Rattle.bpf_shared.specs.Own.{in_run}
+use Rattle.hop_map.specs.LockedSegment.{locked_home}
+use Rattle.hop_layout.specs.Layout.{gained}
 
 -- a call in a run has a key of this segment
 pub record NamesKey (a : About) (l : Known) (m s : ℕ) (key : List ℕ) : Type 0 where
-  pub home : segment_of a.seed (shape_at a m) key ≡ s
+  pub home : locked_home a l m key ≡ s
+  pub size : length key ≡ (shape_at a m).key
+  pub limbo : m < length l.limbo
+  pub runs : in_run (events_of l.cpu l.seen) ≡ true
+
+-- before the segment is known
+pub record NamesKeyOf (a : About) (l : Known) (m : ℕ) (key : List ℕ) : Type 0 where
   pub size : length key ≡ (shape_at a m).key
   pub limbo : m < length l.limbo
   pub runs : in_run (events_of l.cpu l.seen) ≡ true
@@ -38,7 +45,8 @@ pub record Kept (a : About) (l : Known) (m : ℕ) (key : List ℕ) (answer : Map
 abbrev pub DeleteEnds : About → Known → ℕ → List ℕ → Deletion → Known → Type 0
 DeleteEnds a l m key (Gone e) l2 = Dropped a l m key e l2 × (e < elements (shape_at a m))
 DeleteEnds a l m key Missing l2 = Kept a l m key Absent l2
-DeleteEnds a l m key Worn l2 = Kept a l m key Busy l2 × (2 ^ 56 - 1 ≤ a.version + done_in m l2.seen)
+DeleteEnds a l m key Worn l2 = Kept a l m key Busy l2
+    × (2 ^ 56 - 1 ≤ a.version + gained (shape_at a m) + done_in m l2.seen)
 
 abbrev pub answer_to : Deletion → MapAnswer
 answer_to (Gone e) = Done

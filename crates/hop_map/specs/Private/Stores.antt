@@ -1,5 +1,4 @@
 -- What a store of ports is made of.
-use Rattle.std.specs.Prelude.{◌≡◌, ◌<◌}
 use Rattle.hop_map.specs.declared.store.HopStore.TheInside.{Inside}
 use Rattle.hop_map.specs.Stores.{ArePorts, Store}
 

@@ -8,23 +8,25 @@ use Rattle.bpf_shared.specs.declared.events.Event.TheVariants.{Update}
 use Rattle.bpf_shared.specs.declared.events.MapAnswer.TheVariants.{Done}
 use Rattle.bpf_shared.specs.History.{events_of}
 use Rattle.hop_layout.specs.Layout.{words_for, size}
-use Rattle.hop_layout.specs.Home.{segment_of}
 use Rattle.hop_layout.specs.Words.{word_of, AreBytes}
 use Rattle.hop_words.specs.Content.{IsShare, HasKey}
-use Rattle.hop_words.specs.Ghost.{segment_in, shape_at}
+use Rattle.hop_words.specs.Ghost.{shape_at}
 use Rattle.hop_words.specs.Rule.{image}
 use Rattle.hop_words.specs.Kinds.{has, TakesEffect}
 use Rattle.bpf_shared.specs.Own.{in_run}
 use Rattle.hop_words.specs.Locking.{lock_of, hand}
+use Rattle.hop_words.specs.Depths.{stamp_depth, home_by}
+use Rattle.hop_map.specs.LockedSegment.{locked_home}
 
 -- what the words showed when they were locked; nothing has changed since
 pub record LockShows (a : About) (l : Known) (m s : ℕ) : Type 0 where
   pub map : (lock_of l).map ≡ m
   pub segment : (lock_of l).segment ≡ s
   pub content : List ℕ → Option ℕ
-  pub share : IsShare a.seed (shape_at a m) (segment_in a m) (image a (lock_of l).first) m s content
+  pub share : IsShare a.seed (shape_at a m) (home_by a m (stamp_depth (lock_of l).stamp))
+      (image a (lock_of l).first) m s content
   pub all_known : (key : List ℕ) (e : ℕ) → content key ≡ Some e →
-      segment_of a.seed (shape_at a m) key ≡ s →
+      locked_home a l m key ≡ s →
       (e < elements (shape_at a m)) × (has e (lock_of l).known ≡ true)
   pub copied : (lock_of l).copy ≡ (lock_of l).first
   pub nothing : (lock_of l).change ≡ Nothing
@@ -38,7 +40,7 @@ pub record HandFilled (a : About) (l : Known) (m s : ℕ) (key bytes : List ℕ)
   pub map : (hand l).map ≡ m
   pub number : (hand l).element ≡ element
   pub inside : element < elements (shape_at a m)
-  pub home : segment_of a.seed (shape_at a m) key ≡ s
+  pub home : locked_home a l m key ≡ s
   pub size : length bytes ≡ (shape_at a m).value
   pub are_bytes : AreBytes bytes
   pub filled : length (hand l).value ≡ words_for (shape_at a m).value

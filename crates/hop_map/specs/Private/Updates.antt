@@ -8,7 +8,6 @@ use Rattle.bpf_shared.specs.declared.events.MapAnswer.TheVariants.{Done, Busy, N
 use Rattle.hop_layout.specs.declared.about.About.{About}
 use Rattle.hop_words.specs.declared.known.Known.{Known}
 use Rattle.hop_layout.specs.Layout.{words_for}
-use Rattle.hop_layout.specs.Home.{segment_of}
 use Rattle.hop_layout.specs.Words.{word_of, AreBytes}
 use Rattle.hop_words.specs.Content.{HasKey}
 use Rattle.hop_words.specs.Ghost.{shape_at}
@@ -27,10 +26,21 @@ use Rattle.hop_map.specs.Private.LockedSegment.{seen_words}
 use Rattle.hop_map.specs.Noting.{BusyFirst}
 use Rattle.hop_map.specs.Private.UnderLock.{IsInsertion}
 use Rattle.hop_map.specs.Private.Replacing.{IsReplacement}
+use Rattle.hop_layout.specs.Layout.{gained}
+use Rattle.hop_map.specs.LockedSegment.{locked_home}
 
--- a call in a run has a key of this segment, a value, and flags that are known
+-- a call in a run has a key of the map, a value, and flags that are known
+pub record Brought (a : About) (l : Known) (m : ℕ) (key bytes : List ℕ) (flags : ℕ) : Type 0 where
+  pub key_size : length key ≡ (shape_at a m).key
+  pub size : length bytes ≡ (shape_at a m).value
+  pub are_bytes : AreBytes bytes
+  pub flags_known : flags ≤ 2
+  pub limbo : m < length l.limbo
+  pub runs : in_run (events_of l.cpu l.seen) ≡ true
+
+-- so it has a key of the locked segment
 pub record Wants (a : About) (l : Known) (m s : ℕ) (key bytes : List ℕ) (flags : ℕ) : Type 0 where
-  pub home : segment_of a.seed (shape_at a m) key ≡ s
+  pub home : locked_home a l m key ≡ s
   pub key_size : length key ≡ (shape_at a m).key
   pub size : length bytes ≡ (shape_at a m).value
   pub are_bytes : AreBytes bytes
@@ -75,7 +85,7 @@ pub record Refusal (a : About) (l : Known) (m : ℕ) (key bytes : List ℕ) (fla
   pub seen : TakesEffect a l (Update m key bytes flags r) l2.seen
   pub after : l2 ≡ record l { seen = l2.seen; locks = [] }
   pub refused : r ≢ Done
-  pub worn : r ≡ Busy → 2 ^ 56 - 1 ≤ a.version + done_in m l2.seen
+  pub worn : r ≡ Busy → 2 ^ 56 - 1 ≤ a.version + gained (shape_at a m) + done_in m l2.seen
 
 -- how an update ends that has an element in hand: only with a free element to spare is none lacking
 abbrev pub UpdateEnds : About → Known → ℕ → List ℕ → List ℕ → ℕ → Ending → Known → Type 0

@@ -1,8 +1,6 @@
 -- What the end of a store is made of.
-use Rattle.std.specs.Prelude.{◌≡◌, ℕ, ◌<◌, []}
+use Rattle.std.specs.Prelude.{◌≡◌, ℕ, []}
 use Rattle.std.specs.Mem.Slots.{slots_items, slots_len, IsFull}
-use mathlib.Core.Option.{some}
-use lib.ListN.{get_elem?}
 use Rattle.atomic_table.specs.Table.{Step}
 use Rattle.hop_words.specs.declared.closing.Returned.TheInside.{Inside as InReturned}
 use Rattle.hop_words.specs.declared.closing.Rest.TheInside.{Inside as InRest}

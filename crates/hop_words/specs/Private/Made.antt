@@ -1,9 +1,10 @@
 -- The words of a store as made, one after the other.
-use Rattle.std.specs.Prelude.{◌≡◌, ℕ, ◌+◌, ◌*◌, ◌-◌, ◌^◌, Bool, true, ◌&&◌, ◌||◌, ◌==◌, if◌then◌else◌, nat_lt, ◌/◌, ◌%◌, ◌<◌, [], ◌∷◌, length}
+use Rattle.std.specs.Prelude.{◌≡◌, ℕ, ◌+◌, ◌*◌, ◌-◌, ◌^◌, Bool, true, ◌&&◌, ◌||◌, ◌==◌, if◌then◌else◌, nat_lt, ◌/◌, ◌%◌, ◌<◌, length}
 use Rattle.hop_layout.specs.declared.place.Place.{Place}
 use Rattle.hop_layout.specs.declared.place.Place.TheVariants.{RunCount, FreeBits, Stamp, KeyCount, Head, Hop, Slot}
 use Rattle.hop_layout.specs.declared.about.About.{About}
-use Rattle.hop_layout.specs.Layout.{is_place, depth}
+use Rattle.hop_layout.specs.Layout.{is_place, first_depth}
+use Rattle.hop_words.specs.Depths.{stamp_depth}
 use Rattle.hop_words.specs.Ghost.{shape_at, HasElement, IsSegment}
 use Rattle.std.specs.Int.{bit_at}
 use Rattle.bpf_shared.specs.Shape.{IsShape}
@@ -17,6 +18,7 @@ pub record AreNewWords (a : About) (w : Place → ℕ) : Type 0 where
   pub bits : (m e : ℕ) → HasElement a m e → bit_at (w (FreeBits m (e / 64))) (e % 64) ≡ 1
   pub stamps : (m s : ℕ) → IsSegment a m s → (w (Stamp m s) % 2 ≡ 0)
       × (w (Stamp m s) / 256 ≡ a.version)
+      × (stamp_depth (w (Stamp m s)) ≡ first_depth (shape_at a m))
   pub heads : (m s : ℕ) → IsSegment a m s → w (Head m s) ≡ 0
   pub slots : (m s p : ℕ) → IsSegment a m s → p < 64 → w (Slot m s p) ≡ 0
   pub hops : (m s b : ℕ) → IsSegment a m s → b < 64 → w (Hop m s b) ≡ 0
@@ -25,7 +27,7 @@ pub record AreNewWords (a : About) (w : Place → ℕ) : Type 0 where
 abbrev pub made : About → Place → ℕ
 made a (RunCount c) = a.count
 made a (FreeBits m i) = 2 ^ 64 - 1
-made a (Stamp m s) = a.version * 256 + 2 * depth (shape_at a m)
+made a (Stamp m s) = a.version * 256 + 2 * first_depth (shape_at a m)
 made a p = 0
 
 -- the place comes before these many run counters, maps, words of free bits and segments of the next

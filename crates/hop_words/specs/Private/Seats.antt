@@ -1,7 +1,6 @@
 -- How seats are cut and joined, and one that learns the whole history.
 use Rattle.std.specs.Prelude.{◌≡◌, ℕ, take, drop, [], ◌++◌}
 use mathlib.Core.Option.{some}
-use mathlib.Core.List.{IsPrefix}
 use lib.ListN.{get_elem?}
 use Rattle.atomic_table.specs.Table.{Me}
 use Rattle.hop_words.specs.declared.known.Known.{Known}

@@ -1,6 +1,6 @@
 -- What a kind of step has to give: whatever the words and the ghost are, the step of one CPU at one
 -- place keeps the rule, and its caller is told something.
-use Rattle.std.specs.Prelude.{◌≡◌, ◌≢◌, ℕ, ◌<◌, ◌==◌, if◌then◌else◌, List, [], ◌∷◌, ◌++◌, length, ◌⊎◌, ◌+◌}
+use Rattle.std.specs.Prelude.{◌≡◌, ◌≢◌, ℕ, ◌<◌, ◌==◌, if◌then◌else◌, List, [], ◌∷◌, ◌++◌, length, ◌⊎◌, ◌+◌, ◌%◌}
 use prog.Atomic.{either}
 use mathlib.Core.List.{IsPrefix}
 use Rattle.atomic_table.specs.Table.{Me}
@@ -11,10 +11,10 @@ use Rattle.hop_words.specs.declared.known.Sight.{Sight}
 use Rattle.hop_words.specs.declared.known.View.{View}
 use Rattle.hop_layout.specs.Layout.{size, mem, put_at}
 use Rattle.hop_words.specs.Sights.{sight}
-use Rattle.hop_words.specs.Ghost.{Ghost, lane}
+use Rattle.hop_words.specs.Ghost.{Ghost, lane, child}
 use Rattle.hop_words.specs.Rule.{Rule}
 use Rattle.hop_layout.specs.declared.place.Place.TheVariants.{Stamp, FreeBits}
-use Rattle.hop_words.specs.Locking.{lock_of, HasLastLock}
+use Rattle.hop_words.specs.Locking.{lock_of, HasLock, HasLastLock}
 use mathlib.Core.List.{IsPrefix}
 
 -- a place where a step that changes the word need not be noted: so no element is taken or given
@@ -28,11 +28,23 @@ abbrev pub solo : Known → View
 solo l = record { lanes = l ∷ []; kept = [] }
 
 -- the store unlocks the segment that the CPU locked last: its version is the one before the lock, or
--- the next
+-- the next, and its depth the same
 abbrev pub Unlocks : Known → Place → ℕ → Type 0
 Unlocks l (Stamp m s) new = HasLastLock l m s
     × ((new ≡ (lock_of l).stamp) ⊎ (new ≡ (lock_of l).stamp + 256))
 Unlocks l place new = ⊥
+
+-- the store unlocks the only segment that the CPU has locked, with the next version and one depth
+-- more
+abbrev pub IsSplit : Known → Place → ℕ → Type 0
+IsSplit l (Stamp m s) new = HasLock l m s × (new ≡ (lock_of l).stamp + 258)
+IsSplit l place new = ⊥
+
+-- the store leaves an unlocked stamp to the segment that is born when the locked one splits
+abbrev pub IsBesideStamp : Known → Place → ℕ → Type 0
+IsBesideStamp l (Stamp m s) new =
+    ((lock_of l).map ≡ m) × (child (lock_of l) ≡ s) × (new % 2 ≡ 0)
+IsBesideStamp l place new = ⊥
 
 -- the lane's tally has these sights in front of what it had, and all else in it is as it was
 pub record Noted (a : About) (w : Place → ℕ) (g : Ghost) (c : ℕ) (sights : List Sight)

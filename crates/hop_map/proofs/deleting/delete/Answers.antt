@@ -1,15 +1,16 @@
-use Rattle.std.proofs.Common.{ℕ, ◌+◌, ◌-◌, ◌^◌, ◌<◌, ◌≤◌, [], length, refl, ap, subst, ◌∙◌}
+use Rattle.std.proofs.Common.{ℕ, ◌+◌, ◌-◌, ◌^◌, ◌<◌, ◌≤◌, [], length, ap, subst, ◌∙◌}
 use Rattle.bpf_shared.specs.Shape.{elements}
 use Rattle.bpf_shared.specs.declared.events.MapAnswer.TheVariants.{Done, Absent, Busy}
 use Rattle.hop_words.specs.declared.known.Known.{Known}
 use Rattle.hop_words.specs.Ghost.{shape_at, limbo_at}
-use Rattle.hop_layout.specs.Home.{segment_of}
-use Rattle.hop_words.specs.Sights.{lock_taken, sighted}
+use Rattle.hop_layout.specs.Layout.{gained}
+use Rattle.hop_words.specs.Sights.{lock_taken}
 use Rattle.hop_words.specs.Shortage.{done_in}
 use Rattle.hop_words.specs.Kinds.{retiring}
 use Rattle.hop_words.specs.Owning.{tail_of}
 use Rattle.hop_map.specs.declared.dropping.Deletion.{Deletion}
 use Rattle.hop_map.specs.Noting.{BusyFirst}
+use Rattle.hop_map.specs.Private.Locks.{locked_with}
 use Rattle.hop_map.specs.Private.Removals.{Dropped, Kept, DeleteEnds, answer_to}
 use Rattle.hop_map.proofs.Wholes.{key_at_map, kept_called, dropped_called}
 use Rattle.hop_map.proofs.Noted.{delete_notes}
@@ -19,7 +20,6 @@ pub lock_and_delete-lane-requires-clause-names : goal.lock_and_delete-lane-requi
 lock_and_delete-lane-requires-clause-names g c =
     let l = c.args.lane.known in
     record {
-      home = refl;
       size = (key_at_map c.args.table.now.about c.args.map c.args.key.now c.requires.key).1;
       limbo = subst (λ (i : ℕ). i < length l.limbo) c.requires.batches.0 c.requires.batches.1.room;
       runs = c.requires.runs;
@@ -33,8 +33,8 @@ returns-in-Gone-clause-called g c =
     let key = c.args.key.now in
     let l2 = c.lock_and_delete-lane.result.0.known in
     let room : m < length l.limbo = subst (λ (i : ℕ). i < length l.limbo) c.requires.batches.0 c.requires.batches.1.room in
-    let k = lock_taken m (segment_of a.seed (shape_at a m) key) c.lock_and_delete-lane.ensures.ends.0 in
-    let p : Dropped a (sighted l k) m key c.in-Gone.old l2 × (c.in-Gone.old < elements (shape_at a m)) = subst (λ (d : Deletion). DeleteEnds a (sighted l k) m key d l2) c.in-Gone.is c.lock_and_delete-lane.ensures.ends.1 in
+    let k = lock_taken m c.lock_and_delete-lane.ensures.ends.0 c.lock_and_delete-lane.ensures.ends.1 in
+    let p : Dropped a (locked_with l k) m key c.in-Gone.old l2 × (c.in-Gone.old < elements (shape_at a m)) = subst (λ (d : Deletion). DeleteEnds a (locked_with l k) m key d l2) c.in-Gone.is c.lock_and_delete-lane.ensures.ends.3 in
     dropped_called a l k m key c.in-Gone.old l2 c.requires.rests room p.0 c.retire.new.lane.known
     (c.retire.ensures.retired ∙ (λ j. retiring l2 (c.new-used.ensures.map j) (c.new-used.ensures.number j) (tail_of (limbo_at l2.limbo (c.new-used.ensures.map j)).used)))
 
@@ -45,8 +45,8 @@ returns-in-Missing-clause-called g c =
     let m = c.args.map in
     let key = c.args.key.now in
     let l2 = c.lock_and_delete-lane.result.0.known in
-    let k = lock_taken m (segment_of a.seed (shape_at a m) key) c.lock_and_delete-lane.ensures.ends.0 in
-    let p : Kept a (sighted l k) m key Absent l2 = subst (λ (d : Deletion). DeleteEnds a (sighted l k) m key d l2) c.in-Missing.is c.lock_and_delete-lane.ensures.ends.1 in
+    let k = lock_taken m c.lock_and_delete-lane.ensures.ends.0 c.lock_and_delete-lane.ensures.ends.1 in
+    let p : Kept a (locked_with l k) m key Absent l2 = subst (λ (d : Deletion). DeleteEnds a (locked_with l k) m key d l2) c.in-Missing.is c.lock_and_delete-lane.ensures.ends.3 in
     kept_called a l k m key Absent l2 c.requires.rests p
 
 pub returns-in-Worn-clause-called : goal.returns-in-Worn-clause-called
@@ -56,8 +56,8 @@ returns-in-Worn-clause-called g c =
     let m = c.args.map in
     let key = c.args.key.now in
     let l2 = c.lock_and_delete-lane.result.0.known in
-    let k = lock_taken m (segment_of a.seed (shape_at a m) key) c.lock_and_delete-lane.ensures.ends.0 in
-    let p : Kept a (sighted l k) m key Busy l2 × (2 ^ 56 - 1 ≤ a.version + done_in m l2.seen) = subst (λ (d : Deletion). DeleteEnds a (sighted l k) m key d l2) c.in-Worn.is c.lock_and_delete-lane.ensures.ends.1 in
+    let k = lock_taken m c.lock_and_delete-lane.ensures.ends.0 c.lock_and_delete-lane.ensures.ends.1 in
+    let p : Kept a (locked_with l k) m key Busy l2 × (2 ^ 56 - 1 ≤ a.version + gained (shape_at a m) + done_in m l2.seen) = subst (λ (d : Deletion). DeleteEnds a (locked_with l k) m key d l2) c.in-Worn.is c.lock_and_delete-lane.ensures.ends.3 in
     kept_called a l k m key Busy l2 c.requires.rests p.0
 
 pub returns-in-Gone-clause-noted : goal.returns-in-Gone-clause-noted
@@ -68,10 +68,10 @@ returns-in-Gone-clause-noted g c =
     let key = c.args.key.now in
     let ends = c.lock_and_delete-lane.ensures.ends in
     let l2 = c.lock_and_delete-lane.result.0.known in
-    let k = lock_taken m (segment_of a.seed (shape_at a m) key) ends.0 in
-    let p : Dropped a (sighted l k) m key c.in-Gone.old l2 × (c.in-Gone.old < elements (shape_at a m)) = subst (λ (d : Deletion). DeleteEnds a (sighted l k) m key d l2) c.in-Gone.is ends.1 in
-    delete_notes a l m key Done c.retire.new.lane.known ends.0 [] (ap (λ (q : Known). q.tally) c.retire.ensures.retired ∙ ap (λ (q : Known). q.tally) p.0.after) tt
-    (subst (λ (d : Deletion). BusyFirst ends.0 (answer_to d)) c.in-Gone.is ends.2)
+    let k = lock_taken m ends.0 ends.1 in
+    let p : Dropped a (locked_with l k) m key c.in-Gone.old l2 × (c.in-Gone.old < elements (shape_at a m)) = subst (λ (d : Deletion). DeleteEnds a (locked_with l k) m key d l2) c.in-Gone.is ends.3 in
+    delete_notes a l m key Done c.retire.new.lane.known ends.0 ends.1 ends.2 [] (ap (λ (q : Known). q.tally) c.retire.ensures.retired ∙ ap (λ (q : Known). q.tally) p.0.after) tt
+    (subst (λ (d : Deletion). BusyFirst ends.1 (answer_to d)) c.in-Gone.is ends.4)
 
 pub returns-in-Missing-clause-noted : goal.returns-in-Missing-clause-noted
 returns-in-Missing-clause-noted g c =
@@ -81,10 +81,10 @@ returns-in-Missing-clause-noted g c =
     let key = c.args.key.now in
     let ends = c.lock_and_delete-lane.ensures.ends in
     let l2 = c.lock_and_delete-lane.result.0.known in
-    let k = lock_taken m (segment_of a.seed (shape_at a m) key) ends.0 in
-    let p : Kept a (sighted l k) m key Absent l2 = subst (λ (d : Deletion). DeleteEnds a (sighted l k) m key d l2) c.in-Missing.is ends.1 in
-    delete_notes a l m key Absent l2 ends.0 [] (ap (λ (q : Known). q.tally) p.after) tt
-    (subst (λ (d : Deletion). BusyFirst ends.0 (answer_to d)) c.in-Missing.is ends.2)
+    let k = lock_taken m ends.0 ends.1 in
+    let p : Kept a (locked_with l k) m key Absent l2 = subst (λ (d : Deletion). DeleteEnds a (locked_with l k) m key d l2) c.in-Missing.is ends.3 in
+    delete_notes a l m key Absent l2 ends.0 ends.1 ends.2 [] (ap (λ (q : Known). q.tally) p.after) tt
+    (subst (λ (d : Deletion). BusyFirst ends.1 (answer_to d)) c.in-Missing.is ends.4)
 
 pub returns-in-Worn-clause-noted : goal.returns-in-Worn-clause-noted
 returns-in-Worn-clause-noted g c =
@@ -94,7 +94,7 @@ returns-in-Worn-clause-noted g c =
     let key = c.args.key.now in
     let ends = c.lock_and_delete-lane.ensures.ends in
     let l2 = c.lock_and_delete-lane.result.0.known in
-    let k = lock_taken m (segment_of a.seed (shape_at a m) key) ends.0 in
-    let p : Kept a (sighted l k) m key Busy l2 × (2 ^ 56 - 1 ≤ a.version + done_in m l2.seen) = subst (λ (d : Deletion). DeleteEnds a (sighted l k) m key d l2) c.in-Worn.is ends.1 in
-    delete_notes a l m key Busy l2 ends.0 [] (ap (λ (q : Known). q.tally) p.0.after) tt
-    (subst (λ (d : Deletion). BusyFirst ends.0 (answer_to d)) c.in-Worn.is ends.2)
+    let k = lock_taken m ends.0 ends.1 in
+    let p : Kept a (locked_with l k) m key Busy l2 × (2 ^ 56 - 1 ≤ a.version + gained (shape_at a m) + done_in m l2.seen) = subst (λ (d : Deletion). DeleteEnds a (locked_with l k) m key d l2) c.in-Worn.is ends.3 in
+    delete_notes a l m key Busy l2 ends.0 ends.1 ends.2 [] (ap (λ (q : Known). q.tally) p.0.after) tt
+    (subst (λ (d : Deletion). BusyFirst ends.1 (answer_to d)) c.in-Worn.is ends.4)

@@ -5,17 +5,18 @@ use Rattle.bpf_shared.specs.declared.events.MapAnswer.TheVariants.{Done, NoMemor
 use Rattle.hop_words.specs.declared.known.Known.{Known}
 use Rattle.hop_words.specs.declared.known.Fresh.{Fresh}
 use Rattle.hop_words.specs.declared.known.Sight.{Sight}
-use Rattle.hop_layout.specs.Home.{segment_of}
+use Rattle.hop_layout.specs.Layout.{gained}
 use Rattle.hop_words.specs.Ghost.{shape_at, limbo_at}
 use Rattle.hop_words.specs.Shortage.{done_in}
 use Rattle.hop_words.specs.Kinds.{retiring}
 use Rattle.hop_words.specs.Owning.{tail_of, IsInHand}
 use Rattle.hop_map.specs.declared.ending.Ending.{Ending}
 use Rattle.hop_map.specs.Private.Replacing.{IsReplacement}
-use Rattle.hop_words.specs.Sights.{lock_taken, bit_set, sighted}
+use Rattle.hop_words.specs.Sights.{lock_taken, bit_set}
 use Rattle.hop_map.specs.Private.Locks.{Readies}
 use Rattle.hop_map.specs.Private.UnderLock.{IsInsertion}
 use Rattle.hop_map.specs.Noting.{BusyFirst}
+use Rattle.hop_map.specs.Private.Locks.{locked_with}
 use Rattle.hop_map.specs.Private.Updates.{Refusal, UpdateEnds, answer_of}
 use Rattle.hop_map.proofs.Keys.{are_bytes}
 use Rattle.hop_map.proofs.Wholes.{pair_at}
@@ -56,7 +57,7 @@ lock_and_put-lane-requires-clause-readies g c =
     let bytes = c.args.value.now in
     let pair = pair_at a m key bytes c.requires.pair in
     let room : m < length l.limbo = subst (λ (i : ℕ). i < length l.limbo) c.requires.batches.0 c.requires.batches.1.room in
-    subst (λ (n : ℕ). Readies a c.fill.new.lane.known m (segment_of a.seed (shape_at a m) key) key bytes c.args.flags n) (sym c.number-number.ensures)
+    subst (λ (n : ℕ). Readies a c.fill.new.lane.known m key bytes c.args.flags n) (sym c.number-number.ensures)
     (filled_readies a l m e c.requires.new key bytes c.fill.new.lane.known c.fill.ensures.filled c.args.flags c.requires.inside pair.1 pair.2
     (are_bytes key (λ i. let f = c.type_inv.key i in omega arith)) (are_bytes bytes (λ i. let f = c.type_inv.value i in omega arith))
     c.requires.flags room c.requires.runs c.requires.idle)
@@ -70,8 +71,8 @@ give_back-requires-clause-hand g c =
     let key = c.args.key.now in
     let bytes = c.args.value.now in
     let room : m < length l.limbo = subst (λ (i : ℕ). i < length l.limbo) c.requires.batches.0 c.requires.batches.1.room in
-    let k = lock_taken m (segment_of a.seed (shape_at a m) key) c.lock_and_put-lane.ensures.ends.0 in
-    let p : Refusal a (sighted c.fill.new.lane.known k) m key bytes c.args.flags c.in-Refused.answer c.lock_and_put-lane.result.0.known × (c.in-Refused.answer ≢ NoMemory) = subst (λ (q : Ending). UpdateEnds a (sighted c.fill.new.lane.known k) m key bytes c.args.flags q c.lock_and_put-lane.result.0.known) c.in-Refused.is c.lock_and_put-lane.ensures.ends.1 in
+    let k = lock_taken m c.lock_and_put-lane.ensures.ends.0 c.lock_and_put-lane.ensures.ends.1 in
+    let p : Refusal a (locked_with c.fill.new.lane.known k) m key bytes c.args.flags c.in-Refused.answer c.lock_and_put-lane.result.0.known × (c.in-Refused.answer ≢ NoMemory) = subst (λ (q : Ending). UpdateEnds a (locked_with c.fill.new.lane.known k) m key bytes c.args.flags q c.lock_and_put-lane.result.0.known) c.in-Refused.is c.lock_and_put-lane.ensures.ends.3 in
     subst (λ (i : ℕ). IsInHand c.lock_and_put-lane.result.0.known i e) (sym c.requires.map) (refused_hand a l m e c.requires.new key bytes c.fill.new.lane.known c.fill.ensures.filled c.requires.used room c.args.flags k c.lock_and_put-lane.result.0.known c.in-Refused.answer p.0)
 
 pub returns-in-Replaced-clause-called : goal.returns-in-Replaced-clause-called
@@ -83,8 +84,8 @@ returns-in-Replaced-clause-called g c =
     let key = c.args.key.now in
     let bytes = c.args.value.now in
     let room : m < length l.limbo = subst (λ (i : ℕ). i < length l.limbo) c.requires.batches.0 c.requires.batches.1.room in
-    let k = lock_taken m (segment_of a.seed (shape_at a m) key) c.lock_and_put-lane.ensures.ends.0 in
-    let p : IsReplacement a (sighted c.fill.new.lane.known k) m key bytes c.args.flags c.in-Replaced.old c.lock_and_put-lane.result.0.known = subst (λ (q : Ending). UpdateEnds a (sighted c.fill.new.lane.known k) m key bytes c.args.flags q c.lock_and_put-lane.result.0.known) c.in-Replaced.is c.lock_and_put-lane.ensures.ends.1 in
+    let k = lock_taken m c.lock_and_put-lane.ensures.ends.0 c.lock_and_put-lane.ensures.ends.1 in
+    let p : IsReplacement a (locked_with c.fill.new.lane.known k) m key bytes c.args.flags c.in-Replaced.old c.lock_and_put-lane.result.0.known = subst (λ (q : Ending). UpdateEnds a (locked_with c.fill.new.lane.known k) m key bytes c.args.flags q c.lock_and_put-lane.result.0.known) c.in-Replaced.is c.lock_and_put-lane.ensures.ends.3 in
     let l2 = c.lock_and_put-lane.result.0.known in
     over_called a l m e c.requires.new key bytes c.fill.new.lane.known c.fill.ensures.filled c.requires.used room c.args.flags k c.lock_and_put-lane.result.0.known c.in-Replaced.old p c.retire.new.lane.known
     (c.retire.ensures.retired ∙ (λ j. retiring l2 (c.new-used.ensures.map j) (c.new-used.ensures.number j) (tail_of (limbo_at l2.limbo (c.new-used.ensures.map j)).used)))
@@ -98,8 +99,8 @@ returns-in-Refused-clause-called g c =
     let key = c.args.key.now in
     let bytes = c.args.value.now in
     let room : m < length l.limbo = subst (λ (i : ℕ). i < length l.limbo) c.requires.batches.0 c.requires.batches.1.room in
-    let k = lock_taken m (segment_of a.seed (shape_at a m) key) c.lock_and_put-lane.ensures.ends.0 in
-    let p : Refusal a (sighted c.fill.new.lane.known k) m key bytes c.args.flags c.in-Refused.answer c.lock_and_put-lane.result.0.known × (c.in-Refused.answer ≢ NoMemory) = subst (λ (q : Ending). UpdateEnds a (sighted c.fill.new.lane.known k) m key bytes c.args.flags q c.lock_and_put-lane.result.0.known) c.in-Refused.is c.lock_and_put-lane.ensures.ends.1 in
+    let k = lock_taken m c.lock_and_put-lane.ensures.ends.0 c.lock_and_put-lane.ensures.ends.1 in
+    let p : Refusal a (locked_with c.fill.new.lane.known k) m key bytes c.args.flags c.in-Refused.answer c.lock_and_put-lane.result.0.known × (c.in-Refused.answer ≢ NoMemory) = subst (λ (q : Ending). UpdateEnds a (locked_with c.fill.new.lane.known k) m key bytes c.args.flags q c.lock_and_put-lane.result.0.known) c.in-Refused.is c.lock_and_put-lane.ensures.ends.3 in
     refused_called a l m e c.requires.new key bytes c.fill.new.lane.known c.fill.ensures.filled c.requires.used room c.args.flags k c.lock_and_put-lane.result.0.known c.in-Refused.answer p.0 c.give_back.new.lane.known _ c.give_back.ensures.given.1
 
 pub returns-in-Refused-clause-worn : goal.returns-in-Refused-clause-worn
@@ -108,9 +109,9 @@ returns-in-Refused-clause-worn g c =
     let m = c.args.map in
     let key = c.args.key.now in
     let bytes = c.args.value.now in
-    let k = lock_taken m (segment_of a.seed (shape_at a m) key) c.lock_and_put-lane.ensures.ends.0 in
-    let p : Refusal a (sighted c.fill.new.lane.known k) m key bytes c.args.flags c.in-Refused.answer c.lock_and_put-lane.result.0.known × (c.in-Refused.answer ≢ NoMemory) = subst (λ (q : Ending). UpdateEnds a (sighted c.fill.new.lane.known k) m key bytes c.args.flags q c.lock_and_put-lane.result.0.known) c.in-Refused.is c.lock_and_put-lane.ensures.ends.1 in
-    λ is. subst (λ (es : List Entry). 2 ^ 56 - 1 ≤ a.version + done_in m es) (sym (ap (λ (q : Known). q.seen) c.give_back.ensures.given.1)) (p.0.worn is)
+    let k = lock_taken m c.lock_and_put-lane.ensures.ends.0 c.lock_and_put-lane.ensures.ends.1 in
+    let p : Refusal a (locked_with c.fill.new.lane.known k) m key bytes c.args.flags c.in-Refused.answer c.lock_and_put-lane.result.0.known × (c.in-Refused.answer ≢ NoMemory) = subst (λ (q : Ending). UpdateEnds a (locked_with c.fill.new.lane.known k) m key bytes c.args.flags q c.lock_and_put-lane.result.0.known) c.in-Refused.is c.lock_and_put-lane.ensures.ends.3 in
+    λ is. subst (λ (es : List Entry). 2 ^ 56 - 1 ≤ a.version + gained (shape_at a m) + done_in m es) (sym (ap (λ (q : Known). q.seen) c.give_back.ensures.given.1)) (p.0.worn is)
 
 pub returns-in-Refused-clause-served : goal.returns-in-Refused-clause-served
 returns-in-Refused-clause-served g c =
@@ -118,8 +119,8 @@ returns-in-Refused-clause-served g c =
     let m = c.args.map in
     let key = c.args.key.now in
     let bytes = c.args.value.now in
-    let k = lock_taken m (segment_of a.seed (shape_at a m) key) c.lock_and_put-lane.ensures.ends.0 in
-    let p : Refusal a (sighted c.fill.new.lane.known k) m key bytes c.args.flags c.in-Refused.answer c.lock_and_put-lane.result.0.known × (c.in-Refused.answer ≢ NoMemory) = subst (λ (q : Ending). UpdateEnds a (sighted c.fill.new.lane.known k) m key bytes c.args.flags q c.lock_and_put-lane.result.0.known) c.in-Refused.is c.lock_and_put-lane.ensures.ends.1 in
+    let k = lock_taken m c.lock_and_put-lane.ensures.ends.0 c.lock_and_put-lane.ensures.ends.1 in
+    let p : Refusal a (locked_with c.fill.new.lane.known k) m key bytes c.args.flags c.in-Refused.answer c.lock_and_put-lane.result.0.known × (c.in-Refused.answer ≢ NoMemory) = subst (λ (q : Ending). UpdateEnds a (locked_with c.fill.new.lane.known k) m key bytes c.args.flags q c.lock_and_put-lane.result.0.known) c.in-Refused.is c.lock_and_put-lane.ensures.ends.3 in
     p.1
 
 pub returns-in-Added-clause-worn : goal.returns-in-Added-clause-worn
@@ -141,11 +142,11 @@ returns-in-Added-clause-noted g c =
     let key = c.args.key.now in
     let ends = c.lock_and_put-lane.ensures.ends in
     let l2 = c.lock_and_put-lane.result.0.known in
-    let k = lock_taken m (segment_of a.seed (shape_at a m) key) ends.0 in
-    let p : IsInsertion a (sighted c.fill.new.lane.known k) m key c.args.value.now c.args.flags l2 = subst (λ (q : Ending). UpdateEnds a (sighted c.fill.new.lane.known k) m key c.args.value.now c.args.flags q l2) c.in-Added.is ends.1 in
-    update_notes a c.args.lane.known m key Done l2 ends.0 []
+    let k = lock_taken m ends.0 ends.1 in
+    let p : IsInsertion a (locked_with c.fill.new.lane.known k) m key c.args.value.now c.args.flags l2 = subst (λ (q : Ending). UpdateEnds a (locked_with c.fill.new.lane.known k) m key c.args.value.now c.args.flags q l2) c.in-Added.is ends.3 in
+    update_notes a c.args.lane.known m key Done l2 ends.0 ends.1 ends.2 []
     (ap (λ (q : Known). q.tally) p.after ∙ ap (λ (q : Known). k ∷ q.tally) c.fill.ensures.filled) tt
-    (subst (λ (q : Ending). BusyFirst ends.0 (answer_of q)) c.in-Added.is ends.2) c.args.value.now c.args.flags c.requires.flags
+    (subst (λ (q : Ending). BusyFirst ends.1 (answer_of q)) c.in-Added.is ends.4) c.args.value.now c.args.flags c.requires.flags
 
 pub returns-in-Replaced-clause-noted : goal.returns-in-Replaced-clause-noted
 returns-in-Replaced-clause-noted g c =
@@ -154,11 +155,11 @@ returns-in-Replaced-clause-noted g c =
     let key = c.args.key.now in
     let ends = c.lock_and_put-lane.ensures.ends in
     let l2 = c.lock_and_put-lane.result.0.known in
-    let k = lock_taken m (segment_of a.seed (shape_at a m) key) ends.0 in
-    let p : IsReplacement a (sighted c.fill.new.lane.known k) m key c.args.value.now c.args.flags c.in-Replaced.old l2 = subst (λ (q : Ending). UpdateEnds a (sighted c.fill.new.lane.known k) m key c.args.value.now c.args.flags q l2) c.in-Replaced.is ends.1 in
-    update_notes a c.args.lane.known m key Done c.retire.new.lane.known ends.0 []
+    let k = lock_taken m ends.0 ends.1 in
+    let p : IsReplacement a (locked_with c.fill.new.lane.known k) m key c.args.value.now c.args.flags c.in-Replaced.old l2 = subst (λ (q : Ending). UpdateEnds a (locked_with c.fill.new.lane.known k) m key c.args.value.now c.args.flags q l2) c.in-Replaced.is ends.3 in
+    update_notes a c.args.lane.known m key Done c.retire.new.lane.known ends.0 ends.1 ends.2 []
     (ap (λ (q : Known). q.tally) c.retire.ensures.retired ∙ (ap (λ (q : Known). q.tally) p.after ∙ ap (λ (q : Known). k ∷ q.tally) c.fill.ensures.filled)) tt
-    (subst (λ (q : Ending). BusyFirst ends.0 (answer_of q)) c.in-Replaced.is ends.2) c.args.value.now c.args.flags c.requires.flags
+    (subst (λ (q : Ending). BusyFirst ends.1 (answer_of q)) c.in-Replaced.is ends.4) c.args.value.now c.args.flags c.requires.flags
 
 pub returns-in-Refused-clause-noted : goal.returns-in-Refused-clause-noted
 returns-in-Refused-clause-noted g c =
@@ -167,10 +168,10 @@ returns-in-Refused-clause-noted g c =
     let key = c.args.key.now in
     let ends = c.lock_and_put-lane.ensures.ends in
     let l2 = c.lock_and_put-lane.result.0.known in
-    let k = lock_taken m (segment_of a.seed (shape_at a m) key) ends.0 in
-    let p : Refusal a (sighted c.fill.new.lane.known k) m key c.args.value.now c.args.flags c.in-Refused.answer l2 × (c.in-Refused.answer ≢ NoMemory) = subst (λ (q : Ending). UpdateEnds a (sighted c.fill.new.lane.known k) m key c.args.value.now c.args.flags q l2) c.in-Refused.is ends.1 in
+    let k = lock_taken m ends.0 ends.1 in
+    let p : Refusal a (locked_with c.fill.new.lane.known k) m key c.args.value.now c.args.flags c.in-Refused.answer l2 × (c.in-Refused.answer ≢ NoMemory) = subst (λ (q : Ending). UpdateEnds a (locked_with c.fill.new.lane.known k) m key c.args.value.now c.args.flags q l2) c.in-Refused.is ends.3 in
     let back = bit_set c.args.element.map c.args.element.number c.give_back.ensures.given.0 in
-    update_notes a c.args.lane.known m key c.in-Refused.answer c.give_back.new.lane.known ends.0 (back ∷ [])
+    update_notes a c.args.lane.known m key c.in-Refused.answer c.give_back.new.lane.known ends.0 ends.1 ends.2 (back ∷ [])
     (ap (λ (q : Known). q.tally) c.give_back.ensures.given.1 ∙ ap (λ (z : List Sight). back ∷ z) (ap (λ (q : Known). q.tally) p.0.after ∙ ap (λ (q : Known). k ∷ q.tally) c.fill.ensures.filled))
     (set_leaves c.args.element.map c.args.element.number c.give_back.ensures.given.0, tt)
-    (subst (λ (q : Ending). BusyFirst ends.0 (answer_of q)) c.in-Refused.is ends.2) c.args.value.now c.args.flags c.requires.flags
+    (subst (λ (q : Ending). BusyFirst ends.1 (answer_of q)) c.in-Refused.is ends.4) c.args.value.now c.args.flags c.requires.flags

@@ -1,7 +1,5 @@
 use Rattle.std.proofs.Common.{ℕ, ◌<◌, [], length, refl, ap, subst, ◌∙◌, arith}
 use Rattle.hop_words.specs.declared.known.Known.{Known}
-use Rattle.hop_layout.specs.Home.{segment_of}
-use Rattle.hop_words.specs.Ghost.{shape_at}
 use Rattle.hop_words.specs.Sights.{lock_taken}
 use Rattle.hop_map.specs.Call.{SearchesInVain}
 use Rattle.hop_map.proofs.Keys.{are_bytes}
@@ -9,14 +7,13 @@ use Rattle.hop_map.proofs.Wholes.{pair_at, kept_runs, lacks_of, searched_on, loc
 use Rattle.hop_map.proofs.Noted.{update_notes, notes_after}
 use Rattle.hop_map.proofs.updating.update.Goals as goal
 
-pub lock_and_refuse-requires-clause-wants : goal.lock_and_refuse-requires-clause-wants
-lock_and_refuse-requires-clause-wants g c =
+pub lock_and_refuse-requires-clause-brought : goal.lock_and_refuse-requires-clause-brought
+lock_and_refuse-requires-clause-brought g c =
     let a = c.args.table.now.about in
     let l1 = c.claim_free.new.lane.known in
     let pair = pair_at a c.args.map c.args.key.now c.args.value.now c.requires.pair in
     let batches = c.claim_free.ensures.batches in
     record {
-      home = refl;
       key_size = pair.1;
       size = pair.2;
       are_bytes = are_bytes c.args.value.now (λ i. let f = c.type_inv.value i in omega arith);
@@ -37,11 +34,12 @@ returns-in-None-clause-lacks g c =
     let m = c.args.map in
     let l1 = c.claim_free.new.lane.known in
     let l2 = c.lock_and_refuse.result.0.known in
-    let n = c.lock_and_refuse.ensures.refused.0 in
-    let p = c.lock_and_refuse.ensures.refused.1 in
-    let k = lock_taken m (segment_of a.seed (shape_at a m) c.args.key.now) n in
+    let s = c.lock_and_refuse.ensures.refused.0 in
+    let n = c.lock_and_refuse.ensures.refused.1 in
+    let p = c.lock_and_refuse.ensures.refused.3 in
+    let k = lock_taken m s n in
     lacks_of a l m c.lock_and_refuse.result.1 l2 p.worn
-    (λ _. searched_on a l m l1 l2 k (subst (λ (i : ℕ). SearchesInVain a l i l1) c.requires.arena.0 c.in-None.ensures.claimed.1) (lock_leaves m m (segment_of a.seed (shape_at a m) c.args.key.now) n)
+    (λ _. searched_on a l m l1 l2 k (subst (λ (i : ℕ). SearchesInVain a l i l1) c.requires.arena.0 c.in-None.ensures.claimed.1) (lock_leaves m m s n)
     (ap (λ (q : Known). q.tally) p.after) (ap (λ (q : Known). q.limbo) p.after))
 
 pub returns-then-flags-gt2-clause-noted : goal.returns-then-flags-gt2-clause-noted
@@ -65,7 +63,7 @@ returns-in-None-clause-noted g c =
     let refused = c.lock_and_refuse.ensures.refused in
     let kept = c.in-None.ensures.claimed.0 in
     notes_after a c.args.lane.known l1 m key c.args.value.now c.args.flags answer l2 kept.sights.0 c.if-flags-gt2.false kept.sights.1 kept.sights.2
-    (update_notes a l1 m key answer l2 refused.0 [] (ap (λ (q : Known). q.tally) refused.1.after) tt refused.2 c.args.value.now c.args.flags c.if-flags-gt2.false)
+    (update_notes a l1 m key answer l2 refused.0 refused.1 refused.2 [] (ap (λ (q : Known). q.tally) refused.3.after) tt refused.4 c.args.value.now c.args.flags c.if-flags-gt2.false)
 
 pub lock_and_refuse-requires-clause-lacks : goal.lock_and_refuse-requires-clause-lacks
 lock_and_refuse-requires-clause-lacks g c =

@@ -4,7 +4,7 @@ use Rattle.hop_layout.specs.declared.place.Place.TheVariants.{RunCount}
 use Rattle.hop_layout.specs.declared.about.About.{About}
 use Rattle.bpf_shared.specs.declared.shapes.MapShape.{MapShape}
 use Rattle.bpf_shared.specs.Shape.{IsMapShape, IsShape}
-use Rattle.hop_layout.specs.Layout.{mem, put_at, map_shape, no_map, size}
+use Rattle.hop_layout.specs.Layout.{mem, put_at, map_shape, no_map}
 use Rattle.hop_words.specs.Private.Made.{IsPartly}
 use Rattle.hop_layout.proofs.Maps.{map_is}
 use Rattle.hop_words.proofs.FirstWords.{runs_on, zeros, whole}

@@ -3,7 +3,7 @@ use Rattle.hop_layout.specs.declared.place.Place.{Place}
 use Rattle.hop_layout.specs.declared.place.Place.TheVariants.{Stamp}
 use Rattle.hop_layout.specs.declared.about.About.{About}
 use Rattle.bpf_shared.specs.declared.shapes.MapShape.{MapShape}
-use Rattle.hop_layout.specs.Layout.{mem, put_at, depth, free_words, segments}
+use Rattle.hop_layout.specs.Layout.{mem, put_at, free_words, segments, first_depth}
 use Rattle.hop_words.specs.Ghost.{shape_at}
 use Rattle.hop_words.specs.Private.Made.{IsPartly}
 use Rattle.hop_words.proofs.FirstWords.{bits_on, stamps_on, map_on}
@@ -20,8 +20,8 @@ pub stamps-preserved : goal.stamps-preserved
 stamps-preserved c =
     let a = c.args.index.now in
     let w : Place → ℕ = mem a.shape c.stamps.words.items in
-    let number : c.about.result.now.version * 256 + 2 * c.from.result ≡ a.version * 256 + 2 * depth (shape_at a c.args.map) =
-    (let v = ap (λ (x : About). x.version) c.about.ensures in let f = c.from.ensures in let d = c.depth.ensures.value in let s = ap (λ (g : MapShape). depth g) c.requires.shape in omega arith) in (
+    let number : c.about.result.now.version * 256 + 2 * c.from.result ≡ a.version * 256 + 2 * first_depth (shape_at a c.args.map) =
+    (let v = ap (λ (x : About). x.version) c.about.ensures in let f = c.from.ensures in let d = c.first_depth.ensures.value in let s = ap (λ (g : MapShape). first_depth g) c.requires.shape in omega arith) in (
       c.put-in-stamps.ensures.sized,
       subst (λ (v : Place → ℕ). IsPartly a v a.shape.cpus c.args.map (free_words (shape_at a c.args.map)) (c.stamps.segment + 1)) (sym (c.put-in-stamps.ensures.put ∙ ap (λ (n : ℕ). put_at w (Stamp c.args.map c.stamps.segment) n) number))
           (stamps_on a w a.shape.cpus c.args.map (free_words (shape_at a c.args.map)) c.stamps.segment c.stamps.invariant.1),

@@ -6,9 +6,8 @@ use Rattle.bpf_shared.specs.declared.shapes.MapShape.{MapShape}
 use Rattle.bpf_shared.specs.Store.{Plain}
 use Rattle.bpf_shared.specs.Listing.{IsListing, listed}
 use Rattle.hop_layout.specs.declared.about.About.{About}
-use Rattle.hop_words.specs.Ghost.{IsSegment}
 use Rattle.hop_words.specs.Closing.{Ending}
-use Rattle.hop_map.specs.Private.Dumping.{key_in, IsReached, IsKeyAmong, AreFound}
+use Rattle.hop_map.specs.Private.Dumping.{IsBornHere, key_in, IsReached, IsKeyAmong, AreFound}
 use Rattle.hop_map.proofs.Dumps.{listing, no_listing, sorted_keys}
 use Rattle.hop_map.proofs.closed.Closed.dump.Goals as goal
 
@@ -35,8 +34,8 @@ returns c = record {
       let end = iter_end (λ (x : Vec ℕ Global × Vec ℕ Global). x) es c.found.yielded _ _ _ _ c.into_iter-pair-iterator.ensures.into_iter_gives.0 c.found.yielded_by c.in-None.is c.next.ensures.steps in
       let all : c.found.pairs.items ≡ es = c.found.invariant ∙ (sym (map-id c.found.yielded) ∙ end.0) in
       let found : AreFound e m (listed es) = subst (λ (z : Ending). AreFound z m (listed es)) c.self.view_is c.in_ok-found.ensures.found in
-      let keys : (s i : ℕ) → IsSegment e.about m s → IsReached e m s i → IsKeyAmong (key_in e m i) (listed es)
-      = subst (λ (z : Ending). (s i : ℕ) → IsSegment z.about m s → IsReached z m s i → IsKeyAmong (key_in z m i) (listed es)) c.self.view_is c.in_ok-found.ensures.keys in
+      let keys : (s i : ℕ) → IsBornHere e m s → IsReached e m s i → IsKeyAmong (key_in e m i) (listed es)
+      = subst (λ (z : Ending). (s i : ℕ) → IsBornHere z m s → IsReached z m s i → IsKeyAmong (key_in z m i) (listed es)) c.self.view_is c.in_ok-found.ensures.keys in
       subst (λ (xs : Entries). IsListing last m (listed xs)) (sym all)
       (subst (λ (s : Plain). IsListing s m (listed es)) (sym is.1) (listing e is.0 m (listed es) found keys (sorted_keys es c.len.ensures.ordered)));
 }

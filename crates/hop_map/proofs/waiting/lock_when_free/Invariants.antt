@@ -1,5 +1,0 @@
-use Rattle.std.specs.Prelude.{◌≡◌}
-use Rattle.hop_map.proofs.waiting.lock_when_free.Given as goal
-
-abbrev pub invariant-tries : goal.invariant-tries
-invariant-tries g l = l.lane ≡ l.fn.lane
