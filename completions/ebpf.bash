@@ -1,6 +1,6 @@
 # Completion of ebpf for bash; made by tests/completions --write.
 _ebpf() {
-    local word=${COMP_WORDS[COMP_CWORD]} before=${COMP_WORDS[COMP_CWORD - 1]} words
+    local word=${COMP_WORDS[COMP_CWORD]} before=${COMP_WORDS[COMP_CWORD - 1]} words files
     COMPREPLY=()
     case $before in
         --budget|--ctx|--workers) return ;;
@@ -10,13 +10,14 @@ _ebpf() {
         *) words= ;;
     esac
     [ "$COMP_CWORD" -gt 1 ] && case ${COMP_WORDS[1]} in
-        hex) words='--explain --budget --ctx -h --help' ;;
-        asm) words='--explain --listing -h --help' ;;
-        disasm) words='--explain --pc -h --help' ;;
-        run) words='--explain --maps --workers -h --help' ;;
-        debug) words='--explain -h --help' ;;
+        hex) words='--explain --budget --ctx -h --help' files=1 ;;
+        asm) words='--explain --listing -h --help' files=1 ;;
+        disasm) words='--explain --pc -h --help' files=1 ;;
+        run) words='--explain --maps --workers -h --help' files=1 ;;
+        debug) words='--explain -h --help' files=1 ;;
         explain) words='-h --help' ;;
     esac
     COMPREPLY=($(compgen -W "$words" -- "$word"))
+    [ -n "$files" ] && COMPREPLY+=($(compgen -f -- "$word"))
 }
 complete -F _ebpf ebpf

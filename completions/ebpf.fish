@@ -12,16 +12,21 @@ complete -c ebpf -n '__fish_seen_subcommand_from hex' -l explain -f -d 'Explains
 complete -c ebpf -n '__fish_seen_subcommand_from hex' -l budget -x -d 'The greatest number of steps, 0 to 1000000000'
 complete -c ebpf -n '__fish_seen_subcommand_from hex' -l ctx -x -d 'The bytes of the context, at most 4096, two digits a byte'
 complete -c ebpf -n '__fish_seen_subcommand_from hex' -s h -l help -f -d 'Print help'
+complete -c ebpf -n '__fish_seen_subcommand_from hex' -F
 complete -c ebpf -n '__fish_seen_subcommand_from asm' -l explain -f -d 'Explains a refusal or a fault on standard error'
 complete -c ebpf -n '__fish_seen_subcommand_from asm' -l listing -f -d 'Prints the text with the pc and the words of each line behind it, as a comment'
 complete -c ebpf -n '__fish_seen_subcommand_from asm' -s h -l help -f -d 'Print help'
+complete -c ebpf -n '__fish_seen_subcommand_from asm' -F
 complete -c ebpf -n '__fish_seen_subcommand_from disasm' -l explain -f -d 'Explains a refusal or a fault on standard error'
 complete -c ebpf -n '__fish_seen_subcommand_from disasm' -l pc -f -d 'Prints the pc and the words of each line behind it, as a comment'
 complete -c ebpf -n '__fish_seen_subcommand_from disasm' -s h -l help -f -d 'Print help'
+complete -c ebpf -n '__fish_seen_subcommand_from disasm' -F
 complete -c ebpf -n '__fish_seen_subcommand_from run' -l explain -f -d 'Explains a refusal or a fault on standard error'
 complete -c ebpf -n '__fish_seen_subcommand_from run' -l maps -f -d 'Prints the maps afterwards, a line a key: map NAME KEY=VALUE'
 complete -c ebpf -n '__fish_seen_subcommand_from run' -l workers -x -d 'Runs the CPUs at once, by 1 to 16 threads, over a store that they share'
 complete -c ebpf -n '__fish_seen_subcommand_from run' -s h -l help -f -d 'Print help'
+complete -c ebpf -n '__fish_seen_subcommand_from run' -F
 complete -c ebpf -n '__fish_seen_subcommand_from debug' -l explain -f -d 'Explains a refusal or a fault on standard error'
 complete -c ebpf -n '__fish_seen_subcommand_from debug' -s h -l help -f -d 'Print help'
+complete -c ebpf -n '__fish_seen_subcommand_from debug' -F
 complete -c ebpf -n '__fish_seen_subcommand_from explain' -s h -l help -f -d 'Print help'

@@ -14,7 +14,7 @@ use Rattle.clap.specs.declared.builder.value_parser.ValueParser.TheVariants.{Uns
 use Rattle.clap.specs.declared.parser.matches.ValueSource.TheVariants.{DefaultValue}
 use Rattle.clap.proofs.ValueTestLemmas.{accepts-Accepts}
 use Rattle.bpf_base.specs.declared.budget.TheConstants.{MAX_BUDGET}
-use Rattle.bpf_command.specs.CommandLine.{HasBudget, budget, context, ebpf, explained, hex}
+use Rattle.bpf_command.specs.CommandLine.{HasBudget, budget, context, ebpf, explained, file, hex}
 use Rattle.bpf_command.proofs.Ranges as range
 use Rattle.bpf_command.proofs.Ranges.{find_missing, no_default}
 use Rattle.bpf_command.proofs.Subcommands.{AllHave, found_known}
@@ -45,12 +45,16 @@ context_keeps : Keeps AreFine false (filled context)
 context_keeps values rows e fine =
     range.other_used_fine (codes "budget") 0 MAX_BUDGET (codes "ctx") (values_or_missing (filled context) values) rows refl fine
 
+file_keeps : Keeps AreFine false (filled file)
+file_keeps values rows e fine =
+    range.other_used_fine (codes "budget") 0 MAX_BUDGET (codes "file") (values_or_missing (filled file) values) rows refl fine
+
 explained_keeps : Keeps AreFine false (filled explained)
 explained_keeps values rows e fine =
     range.other_used_fine (codes "budget") 0 MAX_BUDGET (codes "explain") (values_or_missing (filled explained) values) rows refl fine
 
 rules_keep : range.AllKeep (codes "budget") 0 MAX_BUDGET rules
-rules_keep = (explained_keeps, (budget_keeps, (context_keeps, ((λ values rows e fine. fine), tt))))
+rules_keep = (explained_keeps, (budget_keeps, (context_keeps, (file_keeps, ((λ values rows e fine. fine), tt)))))
 
 -- ---- the rows
 
@@ -85,8 +89,9 @@ finished_budget h fine =
     let start = with_default (settled rules h).rows (filled explained) in
     let first = with_default start (filled budget) in
     let second = with_default first (filled context) in
+    let third = with_default second (filled file) in
     let started = range.default_fine (codes "budget") 0 MAX_BUDGET (codes "explain") (codes "false" ∷ []) (settled rules h).rows refl fine in
-    subst HasBudget (sym (no_default (has_row (codes "help") second) second ∙ no_default (has_row (codes "ctx") first) first)) (with_budget start started)
+    subst HasBudget (sym (no_default (has_row (codes "help") third) third ∙ no_default (has_row (codes "file") second) second ∙ no_default (has_row (codes "ctx") first) first)) (with_budget start started)
 
 -- the options of `hex`, after a parse of its words with no fault
 hex_budget : (words : List Text) → level_fault hex_built [] nothing_held words false [] ≡ [] → HasBudget (rows_after rules [] words)

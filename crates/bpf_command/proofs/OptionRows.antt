@@ -1,10 +1,11 @@
 -- An option's values among the rows that a parse found are those that the matches' getters give.
-use Rattle.std.proofs.Common.{◌≡◌, ◌<◌, ◌≤◌, ◌∙◌, List, ℕ, Option, Some, None, Result, Ok, Err, codes, refl, arith, subst, ap}
+use Rattle.std.proofs.Common.{cond, true, false, ◌≡◌, ◌<◌, ◌≤◌, ◌∙◌, List, ℕ, Option, Some, None, Result, Ok, Err, codes, refl, arith, subst, ap, sym}
 use Rattle.std.specs.Prelude.{IfSome, IsSomeAnd, option_and_then}
 use Rattle.bpf_codes.specs.Code.{code_of}
 use Rattle.bpf_codes.specs.declared.code.Code.{Code}
 use Rattle.bpf_command.specs.declared.command.TheConstants.{MAX_WORKERS}
 use Rattle.bpf_base.specs.declared.budget.TheConstants.{MAX_BUDGET}
+use Rattle.std.specs.Str.{bytes_eq}
 use Rattle.std.specs.Str.Parse.{ParsesUnsigned}
 use Rattle.clap.specs.Matches.{ReadsOne}
 use Rattle.clap.specs.Values.{IsUnsignedIn}
@@ -15,7 +16,7 @@ use Rattle.clap.specs.Takes.{is_given}
 use Rattle.clap.proofs.TakesLemmas.{present_row}
 use Rattle.clap.proofs.WalkLemmas.{first_value-rows, one_text-rows}
 use Rattle.bpf_command.specs.CommandLine.{HasBudget, HasWorkers, IsBudget, IsWorkers, NamesBudget, NamesWorkers}
-use Rattle.bpf_command.specs.Names.{IsContext, RefusesContext}
+use Rattle.bpf_command.specs.Names.{IsContext, RefusesContext, file_in, file_named}
 use Rattle.bpf_command.specs.declared.command_line.CommandError.{CommandError}
 
 pub context_in_rows : (f : Found) (bytes : List ℕ) → IsContext (first_value f (codes "ctx")) bytes → IsContext (first_of (codes "ctx") (rows_of f)) bytes
@@ -83,6 +84,20 @@ budget_limited (Some text) n b = omega arith
 pub limited : (rows : List Row) (n : Option ℕ) → IsSomeAnd n (NamesBudget rows) → IfSome n (λ n. n ≤ MAX_BUDGET)
 limited rows None h = tt
 limited rows (Some n) h = budget_limited (one_of (codes "budget") rows) n h.0
+
+-- what the getter gives of the file is what stands among the rows
+pub no_file : (f : Found) → first_value f (codes "file") ≡ None → None ≡ file_in (rows_of f)
+no_file f none = ap (option_and_then file_named) (sym none ∙ first_value-rows f (codes "file"))
+
+file_in_rows : (f : Found) (word : Text) → Some word ≡ first_value f (codes "file") → file_named word ≡ file_in (rows_of f)
+file_in_rows f word is = ap (option_and_then file_named) (is ∙ first_value-rows f (codes "file"))
+
+pub dash_in_rows : (f : Found) (word : Text) → Some word ≡ first_value f (codes "file") → true ≡ bytes_eq word (codes "-") → None ≡ file_in (rows_of f)
+dash_in_rows f word is dash = ap (λ b. cond b None (Some word)) dash ∙ file_in_rows f word is
+
+pub name_in_rows : (f : Found) (word name : Text) → Some word ≡ first_value f (codes "file") → false ≡ bytes_eq word (codes "-") → name ≡ word
+    → Some name ≡ file_in (rows_of f)
+name_in_rows f word name is other same = ap (λ (t : Text). Some t) same ∙ ap (λ b. cond b None (Some word)) other ∙ file_in_rows f word is
 
 -- an option was given where it has an entry that no default made
 -- the code that a text among the rows spells

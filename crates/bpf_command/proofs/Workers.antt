@@ -8,7 +8,7 @@ use Rattle.clap.specs.Faults.{repeat_fault, check_fault, defaults_fault, level_f
 use Rattle.clap.specs.Walk.{with_default, row_text, values_or_missing, Held, Row, Rule, Text, answers_to, finished, has_row, nothing_held, rows_after, settled, walk, walk_from}
 use Rattle.clap.specs.Words.{fault_of, subcommand_of}
 use Rattle.bpf_command.specs.declared.command.TheConstants.{MAX_WORKERS}
-use Rattle.bpf_command.specs.CommandLine.{HasWorkers, ebpf, explained, maps, run, workers}
+use Rattle.bpf_command.specs.CommandLine.{HasWorkers, ebpf, explained, file, maps, run, workers}
 use Rattle.bpf_command.proofs.Ranges as range
 use Rattle.bpf_command.proofs.Ranges.{no_default}
 use Rattle.bpf_command.proofs.Subcommands.{AllHave, found_known}
@@ -39,12 +39,16 @@ maps_keep : Keeps AreFine false (filled maps)
 maps_keep values rows e fine =
     range.other_used_fine (codes "workers") 1 MAX_WORKERS (codes "maps") (values_or_missing (filled maps) values) rows refl fine
 
+file_keeps : Keeps AreFine false (filled file)
+file_keeps values rows e fine =
+    range.other_used_fine (codes "workers") 1 MAX_WORKERS (codes "file") (values_or_missing (filled file) values) rows refl fine
+
 explained_keeps : Keeps AreFine false (filled explained)
 explained_keeps values rows e fine =
     range.other_used_fine (codes "workers") 1 MAX_WORKERS (codes "explain") (values_or_missing (filled explained) values) rows refl fine
 
 rules_keep : range.AllKeep (codes "workers") 1 MAX_WORKERS rules
-rules_keep = (explained_keeps, (maps_keep, (workers_keep, ((λ values rows e fine. fine), tt))))
+rules_keep = (explained_keeps, (maps_keep, (workers_keep, (file_keeps, ((λ values rows e fine. fine), tt)))))
 
 -- ---- the rows
 
@@ -66,9 +70,10 @@ finished_workers h fine =
     let start = with_default (settled rules h).rows (filled explained) in
     let first = with_default start (filled maps) in
     let second = with_default first (filled workers) in
+    let third = with_default second (filled file) in
     let started = range.default_fine (codes "workers") 1 MAX_WORKERS (codes "explain") (codes "false" ∷ []) (settled rules h).rows refl fine in
     let both = range.default_fine (codes "workers") 1 MAX_WORKERS (codes "maps") (codes "false" ∷ []) start refl started in
-    subst HasWorkers (sym (no_default (has_row (codes "help") second) second ∙ no_default (has_row (codes "workers") first) first)) (has_workers first both)
+    subst HasWorkers (sym (no_default (has_row (codes "help") third) third ∙ no_default (has_row (codes "file") second) second ∙ no_default (has_row (codes "workers") first) first)) (has_workers first both)
 
 -- the options of `run`, after a parse of its words with no fault
 run_workers : (words : List Text) → level_fault run_built [] nothing_held words false [] ≡ [] → HasWorkers (rows_after rules [] words)

@@ -30,8 +30,15 @@ explained = record (new_rule (codes "explain")) {
   action = Some SetTrue;
 }
 
+-- `FILE`
+abbrev pub file : Rule
+file = record (new_rule (codes "file")) { value_names = 1 }
+
+abbrev pub hex_options : App
+hex_options = with_rule (with_rule (with_rule (new_app (codes "hex")) explained) budget) context
+
 abbrev pub hex : App
-hex = with_rule (with_rule (with_rule (new_app (codes "hex")) explained) budget) context
+hex = with_rule hex_options file
 
 -- `--listing`
 abbrev pub listing : Rule
@@ -41,14 +48,14 @@ listing = record (new_rule (codes "listing")) {
 }
 
 abbrev pub asm : App
-asm = with_rule (with_rule (new_app (codes "asm")) explained) listing
+asm = with_rule (with_rule (with_rule (new_app (codes "asm")) explained) listing) file
 
 -- `--pc`
 abbrev pub pc : Rule
 pc = record (new_rule (codes "pc")) { long = Some (codes "pc"); action = Some SetTrue }
 
 abbrev pub disasm : App
-disasm = with_rule (with_rule (new_app (codes "disasm")) explained) pc
+disasm = with_rule (with_rule (with_rule (new_app (codes "disasm")) explained) pc) file
 
 -- `--maps`
 abbrev pub maps : Rule
@@ -62,8 +69,11 @@ workers = record (new_rule (codes "workers")) {
   parser = Some (Unsigned 1 MAX_WORKERS);
 }
 
+abbrev pub run_options : App
+run_options = with_rule (with_rule (with_rule (new_app (codes "run")) explained) maps) workers
+
 abbrev pub run : App
-run = with_rule (with_rule (with_rule (new_app (codes "run")) explained) maps) workers
+run = with_rule run_options file
 
 -- the code that `explain` is asked for
 abbrev pub code_rule : Rule
@@ -73,7 +83,7 @@ abbrev pub explain : App
 explain = with_rule (new_app (codes "explain")) code_rule
 
 abbrev pub debug : App
-debug = with_rule (new_app (codes "debug")) explained
+debug = with_rule (with_rule (new_app (codes "debug")) explained) file
 
 -- the program, before its commands are added
 abbrev pub bare : App

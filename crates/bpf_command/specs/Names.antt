@@ -1,5 +1,6 @@
 -- The command that words name, or why they name none. Our own choice.
-use Rattle.std.specs.Prelude.{◌≡◌, ◌<◌, ◌≤◌, ℕ, List, Option, Some, None, Ok, IfOk, IsSomeAnd, codes, [], length, option_and_then}
+use Rattle.std.specs.Prelude.{◌≡◌, ◌<◌, ◌≤◌, ℕ, List, Option, Some, None, Ok, IfOk, IsSomeAnd, codes, [], cond, length, option_and_then, option_map, string_bytes}
+use Rattle.std.specs.Str.{bytes_eq}
 use Rattle.bpf_codes.specs.Code.{code_of}
 use Rattle.bpf_mem.specs.Limits.{max_context}
 use Rattle.hex.specs.Hex.{decode_of}
@@ -40,10 +41,19 @@ Names (Some found) (command.Run options) = (found.0 ≡ codes "run")
     × (options.maps ≡ is_given (codes "maps") found.1) × NamesWorkers found.1 options.workers
 Names (Some found) command.Debug = found.0 ≡ codes "debug"
 
--- what is asked for: a command, perhaps with `--explain`, or the page of a code
+-- the file that is read in place of standard input, which `-` names too
+abbrev pub file_named : Text → Option Text
+file_named word = cond (bytes_eq word (codes "-")) None (Some word)
+
+abbrev pub file_in : List Row → Option Text
+file_in rows = option_and_then file_named (first_of (codes "file") rows)
+
+-- what is asked for: a command of a file or of standard input, perhaps with `--explain`, or the
+-- page of a code
 abbrev pub Asks : Option (Text × List Row) → Request → Type 0
 Asks None _ = ⊥
-Asks (Some found) (request.Perform command explain) = Names (Some found) command
+Asks (Some found) (request.Perform command file explain) = Names (Some found) command
+    × (option_map string_bytes file ≡ file_in found.1)
     × (explain ≡ is_given (codes "explain") found.1)
 Asks (Some found) (request.Page code) = (found.0 ≡ codes "explain")
     × (option_and_then code_of (first_of (codes "code") found.1) ≡ Some code)

@@ -54,7 +54,12 @@ pub enum Command {
 pub enum Request {
     /// To do a command, and to explain its refusal or fault beside the answer where that is asked
     /// for. What the command answers doesn't depend on it.
-    Perform { command: Command, explain: bool },
+    Perform {
+        command: Command,
+        /// What is read in place of standard input.
+        file: Option<String>,
+        explain: bool,
+    },
     /// To print the page of a code.
     Page(Code),
 }

@@ -1,12 +1,12 @@
 //! The command that words name: what `clap` finds in them, and what its options stand for.
 
-ghost use Rattle.std.specs.Prelude.{◌≡◌, ◌<◌, ◌≤◌, ◌⊎◌, [], codes, IfErr, IfOk, IfSome, IsSomeAnd, map, OnOk, option_and_then, Some};
+ghost use Rattle.std.specs.Prelude.{◌≡◌, ◌<◌, ◌≤◌, ◌⊎◌, [], codes, IfErr, IfOk, IfSome, IsOkUnless, IsSomeAnd, map, OnOk, option_and_then, option_map, Some, string_bytes};
 ghost use Rattle.bpf_codes.specs.Code.{code_of};
 ghost use Rattle.clap.specs.Kinds.{FailsBy};
 ghost use Rattle.clap.specs.Takes.{is_given};
 ghost use Rattle.clap.specs.Words.{fault_of, first_of, first_value, found_of, rows_of, subcommand_name_of, subcommand_of, subcommand_rows_of};
 ghost use Rattle.bpf_command.specs.CommandLine.{ebpf, HasBudget, HasWorkers, IsCommandName, IsWorkName, NamesBudget, NamesWorkers};
-ghost use Rattle.bpf_command.specs.Names.{Asks, IsContext, Names, Refuses, RefusesContext, RefusesFound};
+ghost use Rattle.bpf_command.specs.Names.{Asks, file_in, IsContext, Names, Refuses, RefusesContext, RefusesFound};
 
 use crate::command::{Command, FileOptions, MAX_WORKERS, Request, RunOptions};
 use crate::options::ebpf_command;
@@ -160,6 +160,25 @@ fn asked_code(options: &ArgMatches) -> Option<Code>
     }
 }
 
+/// The file that is to be read in place of standard input.
+#[tactic(auto, using(crate::proofs::OptionRows::no_file))]
+fn asked_file(alloc: Global, options: &ArgMatches) -> Result<Option<String>, CommandError>
+    ensures named { IfOk result (λ file.
+        option_map string_bytes file ≡ file_in (rows_of (found_of options.now))) }
+    ensures memory { IsOkUnless result CommandError.OutOfMemory }
+{
+    let Some(name) = options.get_str("file") else {
+        return Ok(None);
+    };
+    if name == "-" {
+        return Ok(None);
+    }
+    match name.to_string(alloc) {
+        Ok(name) => Ok(Some(name)),
+        Err(_) => Err(CommandError::OutOfMemory),
+    }
+}
+
 fn requested(alloc: Global, name: &str, options: &ArgMatches) -> Result<Request, CommandError>
     requires known { IsCommandName name.now }
     requires checked { name.now ≡ codes "hex" → HasBudget (rows_of (found_of options.now)) }
@@ -174,8 +193,13 @@ fn requested(alloc: Global, name: &str, options: &ArgMatches) -> Result<Request,
         };
     }
     let command = named(alloc, name, options)?;
+    let file = asked_file(alloc, options)?;
     let explain = is_given(options, "explain");
-    Ok(Request::Perform { command, explain })
+    Ok(Request::Perform {
+        command,
+        file,
+        explain,
+    })
 }
 
 /// What the words ask for, of which the first is the program's name.

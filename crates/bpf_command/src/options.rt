@@ -3,7 +3,7 @@
 ghost use Rattle.std.specs.Prelude.{◌≡◌, false, IfOk};
 ghost use Rattle.clap.specs.Words.{app_of, rule_of, shape_of};
 ghost use Rattle.clap.specs.declared.builder.command.Command.TheViews.{out-Command as fields_of};
-ghost use Rattle.bpf_command.specs.CommandLine.{asm, bare, budget, code_rule, context, debug, disasm, ebpf, explain, explained, hex, listing, maps, one_program, pc, run, workers, working};
+ghost use Rattle.bpf_command.specs.CommandLine.{asm, bare, budget, code_rule, context, debug, disasm, ebpf, explain, explained, file, hex, listing, maps, hex_options, one_program, pc, run, run_options, workers, working};
 
 use crate::command::MAX_WORKERS;
 use bpf_base::MAX_BUDGET;
@@ -14,12 +14,12 @@ const HEX_NOTES: &str = "\
 Prints r0=N, fault Fk at PC or out of budget at PC, where a PC counts words of 8 bytes from 0.
 R1 holds the address of the context. Blanks and line ends between digits are passed over.
 
-The program is read from standard input, as in
+For example
   $ echo 'b700000005000000 9500000000000000' | ebpf hex
   r0=5";
 
 const ASM_NOTES: &str = "\
-The text is read from standard input, as in
+For example
   $ printf 'r0 = 5\\nexit\\n' | ebpf asm
   b700000005000000
   9500000000000000
@@ -30,7 +30,7 @@ The text is read from standard input, as in
 What --listing and 'ebpf disasm --pc' print is assembly text again. A pc counts words from 0.";
 
 const DISASM_NOTES: &str = "\
-The digits are read from standard input, as in
+For example
   $ echo 'b700000005000000 9500000000000000' | ebpf disasm
   r0 = 5
   exit
@@ -45,7 +45,7 @@ Each CPU that has work makes one turn, in rising order, until none has work. Wit
 CPUs run at once, each its jobs in order, and what they do to shared values mixes as it comes. Then
 a line a job is printed: job J cpu C r0=N, fault Fk at PC or out of budget at PC.
 
-The run file is read from standard input, as in
+For example
   $ printf 'ebpf-run 1\\nprog a\\nr0 = 5\\nexit\\nend\\njob 0 a\\n' | ebpf run
   job 0 cpu 0 r0=5";
 
@@ -70,15 +70,14 @@ The commands, one a line, with a CPU C, a pc P, an address A and a number N of b
   map NAME    the keys of a map with their values, KEY=VALUE in hex
 
 A job that ends prints its line. A command that is refused prints 'refused' and a code, changes
-nothing, and the next one is read. A run file, a line '---' and the commands are read from standard
-input, as in
+nothing, and the next one is read. The input is a run file, a line '---' and the commands, as in
   $ printf 'ebpf-run 1\\nprog a\\nr0 = 5\\nexit\\nend\\njob 0 a\\n---\\nstep 0\\ngo\\n' | ebpf debug
   cpu 0 job 0 pc 1 depth 1
   job 0 cpu 0 r0=5
   done";
 
 const EBPF_NOTES: &str = "\
-All input is standard input, read whole first, and all answers go to standard output, as in
+Input is a FILE or standard input, read whole first, and all answers go to standard output, as in
   $ echo 'b700000005000000 9500000000000000' | ebpf hex
   r0=5
 
@@ -87,6 +86,16 @@ Exit status:
   1  the input is refused, and the refusal printed, or the output failed
   2  the command line is at fault
   3  the program, or a job, ended in a fault or out of budget";
+
+/// Where a command's input is read from.
+fn file_argument<'a>(alloc: Global) -> Arg<'a>
+    ensures rule { rule_of result ≡ file }
+    ensures own { result.global ≡ false }
+{
+    Arg::new(alloc, "file").value_name("FILE").help(
+        "The file to read; without one, or where it is -, standard input",
+    )
+}
 
 fn budget_option<'a>(alloc: Global) -> Arg<'a>
     ensures rule { rule_of result ≡ budget }
@@ -119,8 +128,9 @@ fn explain_option<'a>(alloc: Global) -> Arg<'a>
         .help("Explains a refusal or a fault on standard error")
 }
 
-fn hex_command<'a>(alloc: Global) -> Result<Command<'a>, AllocError>
-    ensures shape { IfOk result (λ c. shape_of c ≡ hex.top) }
+/// The command `hex` before its file.
+fn hex_options<'a>(alloc: Global) -> Result<Command<'a>, AllocError>
+    ensures shape { IfOk result (λ c. shape_of c ≡ hex_options.top) }
     ensures own { IfOk result (λ c. (fields_of c).has_globals ≡ false) }
 {
     Command::new(alloc, "hex")
@@ -129,6 +139,13 @@ fn hex_command<'a>(alloc: Global) -> Result<Command<'a>, AllocError>
         .arg(explain_option(alloc))?
         .arg(budget_option(alloc))?
         .arg(context_option(alloc))
+}
+
+fn hex_command<'a>(alloc: Global) -> Result<Command<'a>, AllocError>
+    ensures shape { IfOk result (λ c. shape_of c ≡ hex.top) }
+    ensures own { IfOk result (λ c. (fields_of c).has_globals ≡ false) }
+{
+    hex_options(alloc)?.arg(file_argument(alloc))
 }
 
 fn listing_option<'a>(alloc: Global) -> Arg<'a>
@@ -159,7 +176,8 @@ fn asm_command<'a>(alloc: Global) -> Result<Command<'a>, AllocError>
         .about("Turns assembly text into words, one line of 16 hex digits a word")
         .after_help(ASM_NOTES)
         .arg(explain_option(alloc))?
-        .arg(listing_option(alloc))
+        .arg(listing_option(alloc))?
+        .arg(file_argument(alloc))
 }
 
 fn disasm_command<'a>(alloc: Global) -> Result<Command<'a>, AllocError>
@@ -170,7 +188,8 @@ fn disasm_command<'a>(alloc: Global) -> Result<Command<'a>, AllocError>
         .about("Turns words given as hex digits into assembly text")
         .after_help(DISASM_NOTES)
         .arg(explain_option(alloc))?
-        .arg(pc_option(alloc))
+        .arg(pc_option(alloc))?
+        .arg(file_argument(alloc))
 }
 
 fn maps_option<'a>(alloc: Global) -> Arg<'a>
@@ -194,8 +213,9 @@ fn workers_option<'a>(alloc: Global) -> Arg<'a>
         .help("Runs the CPUs at once, by 1 to 16 threads, over a store that they share")
 }
 
-fn run_command<'a>(alloc: Global) -> Result<Command<'a>, AllocError>
-    ensures shape { IfOk result (λ c. shape_of c ≡ run.top) }
+/// The command `run` before its file.
+fn run_options<'a>(alloc: Global) -> Result<Command<'a>, AllocError>
+    ensures shape { IfOk result (λ c. shape_of c ≡ run_options.top) }
     ensures own { IfOk result (λ c. (fields_of c).has_globals ≡ false) }
 {
     Command::new(alloc, "run")
@@ -206,6 +226,13 @@ fn run_command<'a>(alloc: Global) -> Result<Command<'a>, AllocError>
         .arg(workers_option(alloc))
 }
 
+fn run_command<'a>(alloc: Global) -> Result<Command<'a>, AllocError>
+    ensures shape { IfOk result (λ c. shape_of c ≡ run.top) }
+    ensures own { IfOk result (λ c. (fields_of c).has_globals ≡ false) }
+{
+    run_options(alloc)?.arg(file_argument(alloc))
+}
+
 fn debug_command<'a>(alloc: Global) -> Result<Command<'a>, AllocError>
     ensures shape { IfOk result (λ c. shape_of c ≡ debug.top) }
     ensures own { IfOk result (λ c. (fields_of c).has_globals ≡ false) }
@@ -213,7 +240,8 @@ fn debug_command<'a>(alloc: Global) -> Result<Command<'a>, AllocError>
     Command::new(alloc, "debug")
         .about("Runs the jobs of a run file by commands, and shows what they ask for")
         .after_help(DEBUG_NOTES)
-        .arg(explain_option(alloc))
+        .arg(explain_option(alloc))?
+        .arg(file_argument(alloc))
 }
 
 fn code_argument<'a>(alloc: Global) -> Arg<'a>

@@ -1,6 +1,6 @@
 -- What a command does between its reading and its writing, and what the words of a command line ask
 -- for.
-use Rattle.std.specs.Prelude.{◌≡◌, ℕ, Bool, List, Option, IfSome, []}
+use Rattle.std.specs.Prelude.{◌≡◌, ℕ, Bool, List, Option, Some, None, IfSome, [], option_map, string_bytes}
 use Rattle.clap.specs.Words.{Text, fault_of, subcommand_of}
 use Rattle.clap.specs.declared.error.Error.{Error}
 use Rattle.bpf_lines.specs.declared.hex_text.HexError.TheVariants as hex_error
@@ -27,13 +27,22 @@ Performs command input read_failed old new write_failed status = (r : Reply)
     × (read_failed ≡ is_unread r) × IfSome input (λ bytes. IsReply command bytes r)
     × Prints r old new write_failed status
 
--- a command that is asked for is performed, with `--explain` as without it; of a page that is
--- asked for nothing is read
-abbrev pub Follows : Request → (unread : Type 0) → (input : Option (List ℕ)) → (read_failed : Bool)
+-- the bytes that are read: those of the file that is named, or of standard input
+abbrev pub input_of : (standard : Option (List ℕ)) → (files : Text → Option (List ℕ))
+    → Option Text → Option (List ℕ)
+input_of standard files None = standard
+input_of standard files (Some name) = files name
+
+-- a command that is asked for is performed of its input, with `--explain` as without it; of a page
+-- that is asked for nothing is read
+abbrev pub Follows : Request → (unread : Type 0) → (standard : Option (List ℕ))
+    → (files : Text → Option (List ℕ)) → (read_failed : Bool)
     → (old new : Option (List ℕ)) → (write_failed : Bool) → Status → Type 0
-Follows (request.Perform command explain) unread input read_failed old new write_failed status =
-    Performs command input read_failed old new write_failed status
-Follows (request.Page code) unread input read_failed old new write_failed status =
+Follows (request.Perform command file explain) unread standard files read_failed old new
+    write_failed status =
+    Performs command (input_of standard files (option_map string_bytes file)) read_failed old new
+    write_failed status
+Follows (request.Page code) unread standard files read_failed old new write_failed status =
     unread × PrintsPage code old new write_failed status
 
 -- the words ask for this, and `clap` finds no fault in them

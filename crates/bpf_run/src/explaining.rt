@@ -8,6 +8,7 @@ use bpf_command::{Command, FileOptions};
 use bpf_cpu::Outcome;
 use bpf_jobs::OutcomeText;
 use std::alloc::{AllocError, Global};
+use std::io;
 
 const BY_WORKERS: &str =
     "  no more is known of a run by workers; without them the CPUs take turns, and it is repeated\n";
@@ -28,6 +29,13 @@ pub enum Subject {
     Workers,
     /// Commands of the debugger.
     Script,
+}
+
+/// What is asked: to explain the answer of a command to a file, or to standard input.
+#[derive(Drop)]
+pub struct Question {
+    pub subject: Subject,
+    pub file: Option<String>,
 }
 
 impl Subject {
@@ -107,12 +115,26 @@ fn explanation(alloc: Global, subject: &Subject, done: &Performed) -> Result<Str
     advise(alloc, subject.language(), input, printed.as_str(), &details)
 }
 
-/// Explains the refusals and faults of an answer, unless it couldn't be printed.
-pub fn explain<P: Eprint>(rt: &P, alloc: Global, subject: &Subject, done: &Performed) {
+/// Explains the refusals and faults of an answer, unless it couldn't be printed: first why the input
+/// couldn't be read, if it couldn't.
+pub fn explain<P: Eprint>(
+    rt: &P,
+    alloc: Global,
+    question: &Question,
+    done: &Performed,
+    failure: Option<&io::Error>,
+) {
     if done.status == Status::Failed {
         return;
     }
-    if let Ok(text) = explanation(alloc, subject, done) {
+    if let Some(failure) = failure {
+        let name = question
+            .file
+            .as_ref()
+            .map_or("standard input", String::as_str);
+        let _ = eprintln!(rt; "{name}: {failure}");
+    }
+    if let Ok(text) = explanation(alloc, &question.subject, done) {
         let _ = eprint!(rt; "{}", text.as_str());
     }
 }

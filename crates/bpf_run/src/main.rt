@@ -11,6 +11,7 @@ pub mod output;
 pub mod perform;
 pub mod pipeline;
 pub mod program;
+pub mod reader;
 pub mod recorder;
 pub mod refusal;
 pub mod reply;
@@ -19,6 +20,7 @@ pub mod script;
 pub mod stream;
 
 use program::{end, program};
+use reader::Reader;
 use recorder::Recorder;
 use std::env::Env;
 use std::process::ExitCode;
@@ -31,8 +33,8 @@ fn words(rt: &(impl Env + AllocGlobal)) -> io::Result<Vec<String>> {
 }
 
 fn main(rt: HostRuntime) -> ExitCode {
-    let mut source = Recorder::new(rt.stdin());
+    let mut source = Reader::new(&rt, rt.stdin());
     let mut sink = Recorder::new(rt.stdout());
     let ending = program(&rt, rt.alloc(), words(&rt), &mut source, &mut sink);
-    ExitCode::from(end(&rt, rt.alloc(), ending))
+    ExitCode::from(end(&rt, rt.alloc(), ending, source.failure()))
 }

@@ -1,11 +1,11 @@
 //! A whole command: what it reads, does and writes.
 
-ghost use Rattle.std.specs.Prelude.{◌≡◌, ◌≤◌, ◌≢◌, ◌+◌, codes, false, map, IfOk, IfSome, OnErr, List, length, string_bytes, ℕ};
+ghost use Rattle.std.specs.Prelude.{◌≡◌, ◌≤◌, ◌≢◌, ◌+◌, codes, false, map, option_map, IfOk, IfSome, OnErr, List, length, string_bytes, ℕ};
 ghost use Rattle.std.specs.Io.KnownBytes.{Consumes};
 ghost use Rattle.bpf_debug.specs.Script.{answer_of, answer_text, answers_text};
 ghost use Rattle.bpf_run.specs.Answer.{Prints, PrintsPage, IsPrinted};
 ghost use Rattle.bpf_run.specs.Commands.{IsForOneThread, IsReply, is_unread};
-ghost use Rattle.bpf_run.specs.Program.{Performs};
+ghost use Rattle.bpf_run.specs.Program.{input_of, Performs};
 ghost use Rattle.bpf_run.specs.declared.reply.Reply.{Reply};
 
 use crate::engine::{Engine, OneThread, WithWorkers};
@@ -219,4 +219,36 @@ pub fn perform_threads<T: Threads + Wait + Sync, R: Source, W: Sink>(
     ensures reads { R.reads source.new ≤ R.reads source.old + (MAX_INPUT + 1) }
 {
     perform_by(&WithWorkers(rt), alloc, command, source, sink)
+}
+
+/// The whole command, of the file where one is named: opens it, reads all of it, and writes the
+/// reply.
+pub fn perform_of<T: Threads + Wait + Sync, R: Source, W: Sink>(
+    rt: &T,
+    alloc: Global,
+    command: Command,
+    file: Option<&str>,
+    source: &mut R,
+    sink: &mut W,
+) -> Performed
+    requires readable { R.has_failed source.old ≡ false }
+    requires writable { W.has_failed sink.old ≡ false }
+    ensures replies { Performs command
+        (input_of (R.remaining source.old) (R.file source.old) (option_map (λ s. s.now) file))
+        (R.has_failed source.new) (W.contents sink.old) (W.contents sink.new)
+        (W.has_failed sink.new) result.status }
+    ensures reads { R.reads source.new ≤ R.reads source.old + (MAX_INPUT + 1) }
+{
+    if let Some(name) = file
+        && source.open(name).is_err()
+    {
+        let reply = Reply::Refused(Refusal::Input(InputError::Unread));
+        let status = answer(alloc, &reply, sink);
+        return Performed {
+            status,
+            reply,
+            input: Vec::new(alloc),
+        };
+    }
+    perform_threads(rt, alloc, command, source, sink)
 }

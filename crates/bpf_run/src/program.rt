@@ -1,17 +1,17 @@
 //! The whole program: from its words, a source and a sink to its exit status.
 
-ghost use Rattle.std.specs.Prelude.{◌≡◌, ◌≢◌, ◌≤◌, ◌⊎◌, false, map, string_bytes, IfErr, IfOk, IsErr, IsOkAnd};
+ghost use Rattle.std.specs.Prelude.{◌≡◌, ◌≢◌, ◌≤◌, ◌⊎◌, false, map, option_map, string_bytes, IfErr, IfOk, IsErr, IsOkAnd};
 ghost use Rattle.clap.specs.Words.{kind_of};
 ghost use Rattle.clap.specs.declared.error.kind.ErrorKind.TheVariants as kind;
 ghost use Rattle.bpf_command.specs.Names.{Refuses};
 ghost use Rattle.bpf_command.specs.declared.command.Request.{Request};
 ghost use Rattle.bpf_command.specs.declared.command_line.CommandError.{CommandError};
 ghost use Rattle.bpf_run.specs.Answer.{Prints, exit_status};
-ghost use Rattle.bpf_run.specs.Program.{Follows, IfExit, IfNoCode, IfNotText, IfShown, IsAsked, IsPrintedAs, Performs};
+ghost use Rattle.bpf_run.specs.Program.{Follows, IfExit, IfNoCode, IfNotText, IfShown, IsAsked, input_of, IsPrintedAs, Performs};
 ghost use Rattle.bpf_run.specs.declared.refusal.Refusal.{Refusal};
 
-use crate::explaining::{Subject, explain};
-use crate::perform::{Performed, answer, perform_threads, print_page};
+use crate::explaining::{Question, Subject, explain};
+use crate::perform::{Performed, answer, perform_of, print_page};
 use crate::refusal::Refusal;
 use crate::reply::{Reply, Status};
 use crate::stream::{Sink, Source};
@@ -30,7 +30,7 @@ pub enum Ending {
     /// To exit with this status.
     Exit(Status),
     /// The same, and to explain what came of the command on standard error.
-    Explained(Subject, Performed),
+    Explained(Question, Performed),
     /// To show what `clap` says: a fault of the words, help or the version.
     Shown(clap::Error),
     /// To say that a word isn't UTF-8.
@@ -52,15 +52,17 @@ fn perform_for<T: Threads + Wait + Sync, R: Source, W: Sink>(
     rt: &T,
     alloc: Global,
     command: Command,
+    file: Option<String>,
     explain: bool,
     source: &mut R,
     sink: &mut W,
 ) -> Ending
     requires readable { R.has_failed source.old ≡ false }
     requires writable { W.has_failed sink.old ≡ false }
-    ensures performed { IfExit result (λ status.
-        Performs command (R.remaining source.old) (R.has_failed source.new)
-        (W.contents sink.old) (W.contents sink.new) (W.has_failed sink.new) status) }
+    ensures performed { IfExit result (λ status. Performs command
+        (input_of (R.remaining source.old) (R.file source.old) (option_map string_bytes file))
+        (R.has_failed source.new) (W.contents sink.old) (W.contents sink.new)
+        (W.has_failed sink.new) status) }
     ensures shown { IfShown result (λ e. ⊥) }
     ensures text { IfNotText result ⊥ }
     ensures code { IfNoCode result ⊥ }
@@ -70,9 +72,10 @@ fn perform_for<T: Threads + Wait + Sync, R: Source, W: Sink>(
     } else {
         None
     };
-    let done = perform_threads(rt, alloc, command, source, sink);
+    let name = file.as_ref().map(String::as_str);
+    let done = perform_of(rt, alloc, command, name, source, sink);
     match subject {
-        Some(subject) => Ending::Explained(subject, done),
+        Some(subject) => Ending::Explained(Question { subject, file }, done),
         None => Ending::Exit(done.status),
     }
 }
@@ -88,7 +91,7 @@ fn follow<T: Threads + Wait + Sync, R: Source, W: Sink>(
     requires readable { R.has_failed source.old ≡ false }
     requires writable { W.has_failed sink.old ≡ false }
     ensures performed { IfExit result (λ status. IfOk asked (λ request.
-        Follows request (source.new ≡ source.old) (R.remaining source.old)
+        Follows request (source.new ≡ source.old) (R.remaining source.old) (R.file source.old)
         (R.has_failed source.new) (W.contents sink.old) (W.contents sink.new)
         (W.has_failed sink.new) status)) }
     ensures refused { IfExit result (λ status. IfErr asked (λ e. (source.new ≡ source.old)
@@ -101,8 +104,14 @@ fn follow<T: Threads + Wait + Sync, R: Source, W: Sink>(
         × (source.new ≡ source.old) × (sink.new ≡ sink.old)) }
 {
     let refusal = match asked {
-        Ok(Request::Perform { command, explain }) => {
-            return perform_for(rt, alloc, command, explain, source, sink);
+        Ok(
+            Request::Perform {
+                command,
+                file,
+                explain,
+            },
+        ) => {
+            return perform_for(rt, alloc, command, file, explain, source, sink);
         }
         Ok(Request::Page(code)) => return Ending::Exit(print_page(alloc, code, sink)),
         Err(CommandError::Shown(error)) => return Ending::Shown(error),
@@ -164,9 +173,6 @@ fn show<P: Print + Eprint>(rt: &P, error: &clap::Error) -> u8
 {
     let shown = error.print(rt);
     if error.use_stderr() {
-        if error.kind() == error::ErrorKind::UnknownArgument {
-            let _ = eprintln!(rt; "\nInput is standard input, as in 'ebpf asm < FILE'.");
-        }
         USAGE
     } else if shown.is_ok() {
         0
@@ -185,8 +191,14 @@ fn exit<P: Eprint>(rt: &P, status: Status) -> u8
     status.code()
 }
 
-/// Does what is left to do, and gives the exit status as a number.
-pub fn end<P: Print + Eprint>(rt: &P, alloc: Global, ending: Ending) -> u8
+/// Does what is left to do, and gives the exit status as a number. `failure` is why the input
+/// couldn't be read, if it couldn't.
+pub fn end<P: Print + Eprint>(
+    rt: &P,
+    alloc: Global,
+    ending: Ending,
+    failure: Option<&io::Error>,
+) -> u8
     ensures exit { IfExit ending (λ status. result ≡ exit_status status) }
     ensures fault { IfShown ending (λ e. kind_of e ≢ kind.DisplayHelp
         → kind_of e ≢ kind.DisplayVersion → result ≡ USAGE) }
@@ -197,8 +209,8 @@ pub fn end<P: Print + Eprint>(rt: &P, alloc: Global, ending: Ending) -> u8
 {
     match ending {
         Ending::Exit(status) => exit(rt, status),
-        Ending::Explained(subject, done) => {
-            explain(rt, alloc, &subject, &done);
+        Ending::Explained(question, done) => {
+            explain(rt, alloc, &question, &done, failure);
             exit(rt, done.status)
         }
         Ending::Shown(error) => show(rt, &error),

@@ -1,46 +1,28 @@
-//! Readers and writers of std as sources and sinks.
+//! A writer of std as a sink.
 
 ghost use Rattle.std.specs.Prelude.{◌≡◌, false};
 
-use crate::stream::{Sink, Source};
+use crate::stream::Sink;
 use std::io;
-use std::io::{ErrorKind, Read, Write};
+use std::io::{ErrorKind, Write};
 
-/// A reader or a writer, with a record of what became of its calls. Each call is one call of it.
+/// A writer, and whether its last call failed. Each call is one call of it.
 #[derive(Drop)]
-pub struct Recorder<T> {
-    inner: T,
+pub struct Recorder<W> {
+    inner: W,
     failed: bool,
-    calls: u64,
 }
 
-impl<T> Recorder<T> {
-    /// A record with no calls.
-    pub fn new(inner: T) -> Recorder<T>
+impl<W> Recorder<W> {
+    /// A writer of which no call failed.
+    pub fn new(inner: W) -> Recorder<W>
         ensures kept { result.inner ≡ inner }
         ensures working { result.failed ≡ false }
-        ensures unused { result.calls ≡ 0 }
     {
         Recorder {
             inner,
             failed: false,
-            calls: 0,
         }
-    }
-}
-
-impl<R: Read> Source for Recorder<R> {
-    ghost remaining = { λ s. R.remaining s.inner };
-
-    ghost has_failed = { λ s. s.failed };
-
-    ghost reads = { λ s. s.calls };
-
-    fn read(&mut self, room: &mut [u8]) -> io::Result<usize> {
-        self.calls = self.calls.saturating_add(1);
-        let read = self.inner.read(room);
-        self.failed = read.is_err();
-        read
     }
 }
 

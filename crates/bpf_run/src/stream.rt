@@ -1,22 +1,33 @@
 //! Where input comes from and where output goes. A source and a sink know whether a call of theirs
 //! failed, and are asked nothing more after that.
 
-ghost use Rattle.std.specs.Prelude.{◌≡◌, ◌+◌, ◌-◌, ◌<◌, ◌^◌, ℕ, Bool, List, Option, false, is_err, IfOk, length, min};
+ghost use Rattle.std.specs.Prelude.{◌≡◌, ◌+◌, ◌-◌, ◌<◌, ◌^◌, ℕ, Bool, List, Option, false, is_err, IfOk, IfSome, OnOk, length, min};
 ghost use Rattle.std.specs.Io.{ReadsAtMost, WritesAtMost};
 ghost use Rattle.std.specs.Io.KnownBytes.{Keeps, ReadConsumes, WriteAppends};
 
 use std::io;
 
-/// What input is read from.
+/// What input is read from: standard input, and a file from when one is opened in its place.
 pub trait Source {
     /// The bytes that reads will give from here on, where they are known.
     ghost remaining: { Self → Option (List ℕ) };
 
-    /// Whether a read failed.
+    /// The bytes of the file of a name, where they are known.
+    ghost file: { Self → List ℕ → Option (List ℕ) };
+
+    /// Whether a read failed, or a file couldn't be opened.
     ghost has_failed: { Self → Bool };
 
     /// How many reads were made, counted up to the greatest `u64`.
     ghost reads: { Self → ℕ };
+
+    /// Opens the file of this name: what is read from here on is the file.
+    fn open(&mut self, name: &str) -> io::Result<()>
+        requires { has_failed self.old ≡ false }
+        ensures opened { OnOk result (IfSome (file self.old name.now)
+            (λ bytes. remaining self.new ≡ Some bytes)) }
+        ensures told { has_failed self.new ≡ is_err result }
+        ensures counted { reads self.new ≡ reads self.old };
 
     /// One read.
     fn read(&mut self, room: &mut [u8]) -> io::Result<usize>

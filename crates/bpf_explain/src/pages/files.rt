@@ -84,8 +84,8 @@ pub const L7: Page = Page {
         printed: "refused L7",
     }),
     advice: "\
-Something is wrong with what standard input is: a folder, or a disk that fails.
-A failed read isn't tried again.",
+It is a folder, a FILE that isn't there or that you may not read, or a disk that fails: `--explain`
+says which. A failed read isn't tried again.",
 };
 
 pub const L8: Page = Page {
