@@ -234,7 +234,7 @@ pub fn perform_of<T: Threads + Wait + Sync, R: Source, W: Sink>(
     requires readable { R.has_failed source.old ≡ false }
     requires writable { W.has_failed sink.old ≡ false }
     ensures replies { Performs command
-        (input_of (R.remaining source.old) (R.file source.old) (option_map (λ s. s.now) file))
+        (input_of (R.remaining source.old) (R.file source.old) (option_map (λ s. s.now) file.entry))
         (R.has_failed source.new) (W.contents sink.old) (W.contents sink.new)
         (W.has_failed sink.new) result.status }
     ensures reads { R.reads source.new ≤ R.reads source.old + (MAX_INPUT + 1) }

@@ -135,7 +135,7 @@ pub fn program<T: Threads + Wait + Sync, R: Source, W: Sink>(
     requires writable { W.has_failed sink.old ≡ false }
     ensures followed { IfExit result (λ status. IfOk words (λ words.
         ((request : Request) × IsAsked (map string_bytes words.items) request
-        × Follows request (source.new ≡ source.old) (R.remaining source.old)
+        × Follows request (source.new ≡ source.old) (R.remaining source.old) (R.file source.old)
         (R.has_failed source.new) (W.contents sink.old) (W.contents sink.new)
         (W.has_failed sink.new) status)
         ⊎ ((e : CommandError) × Refuses (map string_bytes words.items) e

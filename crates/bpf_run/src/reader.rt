@@ -1,6 +1,7 @@
 //! Standard input as a source, in whose place a file can be opened.
 
-ghost use Rattle.std.specs.Prelude.{◌≡◌, false, true, IsSome, None, is_some, option_map_or};
+ghost use Rattle.std.specs.Prelude.{◌≡◌, None, is_some};
+ghost use Rattle.std.specs.Option.{option_map_or};
 
 use crate::stream::Source;
 use std::fs::{File, Files};
