@@ -1,7 +1,10 @@
 -- A reply to what was read is one to what the reader had left.
-use Rattle.std.proofs.Common.{◌≡◌, ◌<◌, ℕ, List, Option, Some, None, inl, length, refl, subst}
+use Rattle.std.proofs.Common.{◌≡◌, ◌<◌, ℕ, List, Bool, true, Option, Some, None, inl, length, refl, subst}
 use Rattle.std.specs.Prelude.{IfSome}
-use Rattle.bpf_run.specs.Commands.{IsReply}
+use Rattle.bpf_run.specs.Commands.{IsReply, is_unread}
+use Rattle.bpf_run.specs.Program.{Performs}
+use Rattle.bpf_run.specs.Answer.{Prints}
+use Rattle.bpf_run.specs.declared.reply.Status.{Status}
 use Rattle.bpf_run.specs.declared.input.TheConstants.{MAX_INPUT}
 use Rattle.bpf_command.specs.declared.command.Command.{Command}
 use Rattle.bpf_run.specs.declared.input.InputError.{InputError}
@@ -20,3 +23,15 @@ unread None c e long = tt
 unread (Some input) c input_error.Unread long = inl (refusal.Input input_error.Unread, refl, tt)
 unread (Some input) c input_error.TooLong long = inl (refusal.Input input_error.TooLong, refl, long refl)
 unread (Some input) c input_error.OutOfMemory long = inl (refusal.Input input_error.OutOfMemory, refl, tt)
+
+-- what is done of a file that was opened is done of its bytes, where they are known
+pub opened : (known mid : Option (List ℕ)) (c : Command) (failed : Bool) (old new : Option (List ℕ)) (lost : Bool) (s : Status)
+    → IfSome known (λ bytes. mid ≡ Some bytes) → Performs c mid failed old new lost s → Performs c known failed old new lost s
+opened None mid c failed old new lost s same done = (done.0, done.1, tt, done.3)
+opened (Some bytes) mid c failed old new lost s same done = subst (λ (o : Option (List ℕ)). Performs c o failed old new lost s) same done
+
+-- a file that can't be opened is answered as a read that failed
+pub unopened : (known : Option (List ℕ)) (c : Command) (failed : Bool) (old new : Option (List ℕ)) (lost : Bool) (s : Status)
+    → failed ≡ true → Prints (reply.Refused (refusal.Input input_error.Unread)) old new lost s → Performs c known failed old new lost s
+unopened known c failed old new lost s told printed =
+    (reply.Refused (refusal.Input input_error.Unread), told, unread known c input_error.Unread (λ e. cc), printed)

@@ -221,8 +221,36 @@ pub fn perform_threads<T: Threads + Wait + Sync, R: Source, W: Sink>(
     perform_by(&WithWorkers(rt), alloc, command, source, sink)
 }
 
-/// The whole command, of the file where one is named: opens it, reads all of it, and writes the
-/// reply.
+/// The whole command, of a file: opens it, reads all of it, and writes the reply.
+fn perform_file<T: Threads + Wait + Sync, R: Source, W: Sink>(
+    rt: &T,
+    alloc: Global,
+    command: Command,
+    name: &str,
+    source: &mut R,
+    sink: &mut W,
+) -> Performed
+    requires readable { R.has_failed source.old ≡ false }
+    requires writable { W.has_failed sink.old ≡ false }
+    ensures replies { Performs command (R.file source.old name.now) (R.has_failed source.new)
+        (W.contents sink.old) (W.contents sink.new) (W.has_failed sink.new) result.status }
+    ensures reads { R.reads source.new ≤ R.reads source.old + (MAX_INPUT + 1) }
+{
+    match source.open(name) {
+        Ok(()) => perform_threads(rt, alloc, command, source, sink),
+        Err(_) => {
+            let reply = Reply::Refused(Refusal::Input(InputError::Unread));
+            let status = answer(alloc, &reply, sink);
+            Performed {
+                status,
+                reply,
+                input: Vec::new(alloc),
+            }
+        }
+    }
+}
+
+/// The whole command, of the file where one is named.
 pub fn perform_of<T: Threads + Wait + Sync, R: Source, W: Sink>(
     rt: &T,
     alloc: Global,
@@ -239,16 +267,8 @@ pub fn perform_of<T: Threads + Wait + Sync, R: Source, W: Sink>(
         (W.has_failed sink.new) result.status }
     ensures reads { R.reads source.new ≤ R.reads source.old + (MAX_INPUT + 1) }
 {
-    if let Some(name) = file
-        && source.open(name).is_err()
-    {
-        let reply = Reply::Refused(Refusal::Input(InputError::Unread));
-        let status = answer(alloc, &reply, sink);
-        return Performed {
-            status,
-            reply,
-            input: Vec::new(alloc),
-        };
+    match file {
+        Some(name) => perform_file(rt, alloc, command, name, source, sink),
+        None => perform_threads(rt, alloc, command, source, sink),
     }
-    perform_threads(rt, alloc, command, source, sink)
 }
