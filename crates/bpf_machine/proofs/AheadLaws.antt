@@ -101,7 +101,7 @@ module _ (m m' : MachineState) (c : ℕ) (known : ℕ → Type 0) (f g : ℕ →
             each = goes_ahead (λ d. turns_in (f d)) (λ d. turns_in (g d)) c w jobs ahead.each none (λ d ne. ap turns_in (others d ne)) j task state left program later rest at loaded made single;
             fits = fits_all (record w { jobs = news }) (λ d ne. set_others w.jobs c j task now at.listed at.of d ne) (subst (λ (h : Headway). FitsHeadway news c h) (sym e) (fits_one n news has single));
           },
-          subst (λ (x : MachineState). Shows x (record w { jobs = news })) (sym goes.9) (record { store = shows.store; sound = shows.sound; programs = shows.programs; jobs = ap (λ (ts : List Task). with_stage ts j task now) shows.jobs }),
+          subst (λ (x : MachineState). Shows x (record w { jobs = news })) (sym goes.9) (record { store = shows.store; sound = shows.sound; programs = shows.programs; jobs = ap (λ (ts : List Task). with_stage ts j task now) shows.jobs; lists = shows.lists }),
           subst (λ (x : MachineState). turns_left x.jobs ≤ turns_left m.jobs) (sym goes.9) (omega (arith, sum, turns, less)),
         ),
       )

@@ -21,7 +21,8 @@ use Rattle.bpf_machine.specs.declared.machine.Turn.TheVariants as turn
 use Rattle.bpf_cpu.specs.Step.{Step, MakesSteps}
 use Rattle.bpf_cpu.specs.Task.{Stage, Task, Waiting, InHand, Ended}
 use Rattle.bpf_machine.specs.Hands.{IsAt, IsFree, NoneWaits, with_stage}
-use Rattle.bpf_machine.specs.Schedule.{World, Advances, Settles, GoesOn, TakesTurn, RunsSchedule}
+use Rattle.bpf_machine.specs.Schedule.{World, Advances, Lists, Settles, GoesOn, TakesTurn, RunsSchedule}
+use Rattle.bpf_machine.proofs.ListLaws.{with_end, lists_jobs}
 use Rattle.bpf_machine.specs.Rounds.{below, RunsRound, RunsRounds}
 use Rattle.bpf_machine.specs.Private.Turns.{IsAlone, Lasts}
 use Rattle.bpf_machine.proofs.OwnEvents.{RunsWithin, legal_shape}
@@ -61,7 +62,7 @@ goes_idle w c j d task old left answer z listed of g ne idle = settle g.1 g.7
         subst P (sym (ap (λ (x : World). x.jobs) s.1)) (stays_idle w.jobs c j task (InHand g.3 g.4) listed of d ne idle)
     settle (Some end) s =
         let P : List Task → Type 0 = λ ts. IsIdle ts d in
-        subst P (sym (ap (λ (x : World). x.jobs) s.3)) (stays_idle w.jobs c j task (Ended end) listed of d ne idle)
+        subst P (sym (lists_jobs (with_end w j task end s.0) c z s.3)) (stays_idle w.jobs c j task (Ended end) listed of d ne idle)
 
 pub turn_idles : (w : World) (c d : ℕ) (answer : Turn) (z : World) → TakesTurn w c answer z → d ≢ c → IsIdle w.jobs d → IsIdle z.jobs d
 turn_idles w c d answer z (inl a) ne idle = goes_idle w c a.0 d a.1 a.2 a.3 answer z a.4.listed a.4.of a.5 ne idle
@@ -105,14 +106,15 @@ advances_shape program c s old zero end t new left within a = (ap (λ (x : Plain
 advances_shape program c s old (suc n) end t new left within a = legal_shape s t (map (entry c) a.0) within a.3
 
 module _ (c j : ℕ) (program : Loaded) (end : Outcome) (t q : Plain) (allowed : PlainlyAllowed t c End q) where
-  pub rounds_left : (k : ℕ) (w : World) (task : Task) (state : Cpu) (left : ℕ) → RunsWithin w.store → c < w.store.shape.cpus → IsAlone w.jobs c
+  pub rounds_left : (k : ℕ) (w z : World) (task : Task) (state : Cpu) (left : ℕ) → RunsWithin w.store → c < w.store.shape.cpus → IsAlone w.jobs c
       → slice_get w.programs task.program ≡ Some program → IsAt w.jobs c j task (InHand state left) → Lasts program c k w.store state left end t
-      → RunsRounds (suc k) w (record w { store = q; jobs = with_stage w.jobs j task (Ended end) })
-  rounds_left zero w task state left within inside alone loaded at lasts =
-      let z : World = record w { store = q; jobs = with_stage w.jobs j task (Ended end) } in
-      let progress : TakesTurn w c (turn.Ended j end) z = inl (j, task, state, left, at, (program, Some end, t, lasts.0, lasts.1, loaded, lasts.2, (q, allowed, refl, refl))) in
-      (w, refl, round_alone w c (turn.Ended j end) z progress alone (stays_alone w.jobs c j task (Ended end) at.listed at.of alone) inside)
-  rounds_left (suc k) w task state left within inside alone loaded at lasts =
+      → Lists (with_end w j task end q) c z → RunsRounds (suc k) w z
+  rounds_left zero w z task state left within inside alone loaded at lasts lists =
+      let progress : TakesTurn w c (turn.Ended j end) z = inl (j, task, state, left, at, (program, Some end, t, lasts.0, lasts.1, loaded, lasts.2, (q, allowed, refl, lists))) in
+      let P : List Task → Type 0 = λ ts. IsAlone ts c in
+      let still = subst P (sym (lists_jobs (with_end w j task end q) c z lists)) (stays_alone w.jobs c j task (Ended end) at.listed at.of alone) in
+      (w, refl, round_alone w c (turn.Ended j end) z progress alone still inside)
+  rounds_left (suc k) w z task state left within inside alone loaded at lasts lists =
       let m = lasts.0 in
       let now : Stage = InHand lasts.1 lasts.2 in
       let y : World = record w { store = m; jobs = with_stage w.jobs j task now } in
@@ -120,10 +122,10 @@ module _ (c j : ℕ) (program : Loaded) (end : Outcome) (t q : Plain) (allowed :
       let still : IsAlone y.jobs c = stays_alone w.jobs c j task now at.listed at.of alone in
       let kept = advances_shape program c w.store state left None m lasts.1 lasts.2 within lasts.3 in
       let there : c < y.store.shape.cpus = subst (λ (h : Shape). c < h.cpus) (sym kept.0) inside in
-      let rest = rounds_left k y (record task { stage = now }) lasts.1 lasts.2 kept.1 there still loaded (begun_at w.jobs c j task (InHand state left) now at) lasts.4 in
-      let same = ap (λ (ts : List Task). record w { store = q; jobs = ts }) (set_twice w.jobs j (record task { stage = now }) (record task { stage = Ended end })) in
-      let P : World → Type 0 = λ z. RunsRounds (suc k) y z in
-      rounds_before (suc k) w y _ (round_alone w c turn.Ran y progress alone still inside) (subst P same rest)
+      let same = set_twice w.jobs j (record task { stage = now }) (record task { stage = Ended end }) in
+      let listing = subst (λ (ts : List Task). Lists (record w { store = q; jobs = ts }) c z) (sym same) lists in
+      let rest = rounds_left k y z (record task { stage = now }) lasts.1 lasts.2 kept.1 there still loaded (begun_at w.jobs c j task (InHand state left) now at) lasts.4 listing in
+      rounds_before (suc k) w y z (round_alone w c turn.Ran y progress alone still inside) rest
 
 -- ---- steps that are made in one loop are turns
 legal_parts : (s t : Plain) (xs ys : List Entry) → PlainlyLegal s (xs ++ ys) t → (m : Plain) × PlainlyLegal s xs m × PlainlyLegal m ys t

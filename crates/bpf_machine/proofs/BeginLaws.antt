@@ -60,7 +60,7 @@ module _ (store : Contents) (programs : List Loaded) (jobs : List Listed) (lanes
   idle = (board.each_lane c at.within).runs ∙ ap (λ (o : Option Hand). is_some o) none_in_hand
 
   module _ (e : Listed) (seen : e ≡ slice_index_or jobs j e) where
-    listed : slice_get jobs j ≡ Some e
+    pub listed : slice_get jobs j ≡ Some e
     listed = slice_get_read jobs (length jobs) j e refl job_within seen
 
     same : at.job ≡ e

@@ -19,9 +19,10 @@ use Rattle.bpf_cpu.specs.declared.outcome.Outcome.{Outcome}
 use Rattle.bpf_cpu.specs.State.{start}
 use Rattle.bpf_cpu.specs.Task.{Stage, Task, Waiting, InHand, Ended}
 use Rattle.bpf_machine.specs.Hands.{IsAt, IsFree, NoneWaitsBelow, with_stage}
-use Rattle.bpf_machine.specs.Schedule.{World, outcome_after, Advances, Settles, GoesOn, TakesTurn, RunsSchedule}
+use Rattle.bpf_machine.specs.Schedule.{World, outcome_after, Advances, Lists, Settles, GoesOn, TakesTurn, RunsSchedule}
 use Rattle.bpf_machine.specs.Rounds.{below, HaveEnded, RunsRound, RunsRounds}
 use Rattle.bpf_machine.specs.Laws.{IsFresh, SchedulesAreDetermined, RoundsAreDetermined}
+use Rattle.bpf_machine.proofs.ListLaws.{with_end, lists_jobs, lists_store, one_list}
 use Rattle.bpf_cpu.proofs.DeterminedRuns.{start_memory, stays_sound, step_agrees, same_replies}
 use Rattle.bpf_base.proofs.Lists.{slice_get-set_known, slice_get-set_other}
 
@@ -116,15 +117,16 @@ module _ (law : WritesAreDetermined) (begins : OneInstructionBegins) (replies : 
       }
   one_settled w c j task new left (Some end) answer other y z store memory a b =
       let one = replies w.store a.0 b.0 c End End store a.1 b.1 refl in
-      let Q : World → Type 0 = λ w. IsSoundStore w.store in
+      let m : World = with_end w j task end a.0 in
+      let there : Lists m c z = subst (λ (s : Plain). Lists (with_end w j task end s) c z) (sym one.1) b.3 in
       record {
         answers = a.2 ∙ sym b.2;
-        worlds = a.3 ∙ ap (λ (s : Plain). record w { store = s; jobs = with_stage w.jobs j task (Ended end) }) one.1 ∙ sym b.3;
-        store = subst Q (sym a.3) (allowed_sound w.store a.0 c End store a.1.0);
+        worlds = one_list m c y z a.3 there;
+        store = subst IsSoundStore (sym (lists_store m c y a.3)) (allowed_sound w.store a.0 c End store a.1.0);
         stage = Ended end;
         kept = λ state left e. cc;
         waits_not = λ context e. cc;
-        jobs = ap (λ (w : World). w.jobs) a.3;
+        jobs = lists_jobs m c y a.3;
       }
 
   one_going : (w : World) (c j : ℕ) (task : Task) (old : Cpu) (left : ℕ) (answer other : Turn) (y z : World) → IsSoundStore w.store → IsMemory old.memory

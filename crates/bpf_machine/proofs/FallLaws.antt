@@ -15,6 +15,7 @@ use Rattle.bpf_cpu.specs.State.{start}
 use Rattle.bpf_cpu.specs.Task.{Stage, Task, InHand, Ended}
 use Rattle.bpf_machine.specs.Hands.{with_stage}
 use Rattle.bpf_machine.specs.Schedule.{World, Advances, Settles, GoesOn}
+use Rattle.bpf_machine.proofs.ListLaws.{with_end, lists_jobs, lists_programs}
 use Rattle.bpf_machine.specs.Questions.{turns_before_end, open_in, Falls, TurnsFall}
 
 -- what a sum over jobs is after one of them has another stage
@@ -51,12 +52,13 @@ goes_falls w c j task old left answer z at more one g = settle g.1 g.6 g.7
         subst P (sym jobs) (subst F (sym s.0) (omega arith, omega arith), length-set w.jobs j _, ap (λ (x : World). x.programs) s.1)
     settle (Some end) a s =
         let stage : Stage = Ended end in
-        let jobs : z.jobs ≡ with_stage w.jobs j task stage = ap (λ (x : World). x.jobs) s.3 in
+        let m : World = with_end w j task end s.0 in
+        let jobs : z.jobs ≡ with_stage w.jobs j task stage = lists_jobs m c z s.3 in
         let turns = summed (λ t. turns_before_end t.budget t.stage) w.jobs j task stage at in
         let opens = summed (λ t. open_in t.stage) w.jobs j task stage at in
         let F : Turn → Type 0 = λ t. Falls t w.jobs (with_stage w.jobs j task stage) in
         let P : List Task → Type 0 = λ ts. Falls answer w.jobs ts × (length ts ≡ length w.jobs) × (z.programs ≡ w.programs) in
-        subst P (sym jobs) (subst F (sym s.2) (omega arith, omega arith), length-set w.jobs j _, ap (λ (x : World). x.programs) s.3)
+        subst P (sym jobs) (subst F (sym s.2) (omega arith, omega arith), length-set w.jobs j _, lists_programs m c z s.3)
 
 pub turns_fall : TurnsFall
 turns_fall w z c answer (inl hand) =

@@ -11,10 +11,11 @@ use Rattle.bpf_machine.specs.declared.machine.Turn.TheVariants as turn
 use Rattle.bpf_machine.specs.declared.machine.ahead.Headway.{Headway}
 use Rattle.bpf_machine.specs.declared.machine.ahead.Headway.TheVariants.{Idle, Turns}
 use Rattle.bpf_cpu.specs.Task.{Stage, Task, Waiting, InHand, Ended}
-use Rattle.bpf_machine.specs.Hands.{IsAt, IsFree, NoneWaits, NoneWaitsBelow, with_stage}
+use Rattle.bpf_machine.specs.Hands.{IsAt, IsFree, NoneWaits, NoneWaitsBelow, SomeWaits, with_stage}
 use Rattle.bpf_machine.specs.Schedule.{World, Advances, Settles, GoesOn, TakesTurn}
 use Rattle.bpf_machine.specs.Work.{HasInHand}
 use Rattle.bpf_machine.specs.Headways.{TakesQuietTurns, IsOnlyOne, Precedes, BothPrecede, FitsHeadway, with_jobs}
+use Rattle.bpf_machine.proofs.ListLaws.{with_end, lists_jobs, lists_programs, lists_along}
 use Rattle.bpf_machine.proofs.AloneLaws.{keeps_at}
 
 -- ---- the jobs of one CPU are not another's
@@ -44,7 +45,7 @@ goes_others w c j d task old left answer z listed of g ne = settle g.1 g.7
     settle None s =
         subst (λ (ts : List Task). SameJobs w.jobs ts d) (sym (ap (λ (x : World). x.jobs) s.1)) (set_others w.jobs c j task (InHand g.3 g.4) listed of d ne)
     settle (Some end) s =
-        subst (λ (ts : List Task). SameJobs w.jobs ts d) (sym (ap (λ (x : World). x.jobs) s.3)) (set_others w.jobs c j task (Ended end) listed of d ne)
+        subst (λ (ts : List Task). SameJobs w.jobs ts d) (sym (lists_jobs (with_end w j task end s.0) c z s.3)) (set_others w.jobs c j task (Ended end) listed of d ne)
 
 pub turn_others : (w : World) (c d : ℕ) (answer : Turn) (z : World) → TakesTurn w c answer z → d ≢ c → SameJobs w.jobs z.jobs d
 turn_others w c d answer z (inl a) ne = goes_others w c a.0 d a.1 a.2 a.3 answer z a.4.listed a.4.of a.5 ne
@@ -179,10 +180,15 @@ module _ (turns : ℕ → ℕ) (c : ℕ) (none : turns c ≡ 0) where
           )
       settle (Some end) a s =
           let stage = Ended end in
-          let later = with_stage jobs j task stage in (
+          let later = with_stage jobs j task stage in
+          let m : World = with_end w j task end s.0 in
+          let both : Each later m = set_both w.programs turns jobs w.jobs each j task (record task { stage = stage }) task (record task { stage = stage }) there listed (nothing (record task { stage = stage }) refl) in
+          let some : SomeWaits m.jobs c → SomeWaits later c = λ h. (h.0, h.1, h.2, waits_behind w.programs turns later m.jobs both c h.0 h.1 h.2 h.3) in
+          let P : List Loaded → Type 0 = λ ps. (k : ℕ) → BothPrecede ps turns (slice_get later k) (slice_get z.jobs k) in
+          let Q : List Task → Type 0 = λ ts. (k : ℕ) → BothPrecede w.programs turns (slice_get later k) (slice_get ts k) in (
             later,
-            (g.0, Some end, g.2, g.3, g.4, g.5, a, (s.0, s.1, s.2, ap (λ (x : World). with_jobs x later) s.3)),
-            subst (λ (x : World). Each later x) (sym s.3) (set_both w.programs turns jobs w.jobs each j task (record task { stage = stage }) task (record task { stage = stage }) there listed (nothing (record task { stage = stage }) refl)),
+            (g.0, Some end, g.2, g.3, g.4, g.5, a, (s.0, s.1, s.2, lists_along m c z later some (none_behind w.programs turns later m.jobs both c) s.3)),
+            subst P (sym (lists_programs m c z s.3)) (subst Q (sym (lists_jobs m c z s.3)) both),
           )
 
   pub turn_behind : (w : World) (jobs : List Task) (answer : Turn) (z : World) → Each jobs w → TakesTurn w c answer z → (later : List Task) × TakesTurn (with_jobs w jobs) c answer (with_jobs z later) × Each later z

@@ -1,5 +1,6 @@
 pub mod OwnEvents
 pub mod AdvanceLaws
+pub mod ListLaws
 pub mod AloneLaws
 pub mod BoardLaws
 pub mod WorkLaws
@@ -9,6 +10,8 @@ pub mod TurnLaws
 mod LengthLaws
 pub mod RoundLaws
 pub mod MadeLaws
+pub mod KeyListLaws
+pub mod ListingLaws
 pub mod DeterminedTurns
 pub mod FallLaws
 pub mod HeadwayLaws

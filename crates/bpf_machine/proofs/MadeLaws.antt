@@ -15,11 +15,11 @@ use Rattle.bpf_cpu.specs.Task.{Task, waiting}
 use Rattle.bpf_machine.specs.Private.Lanes.{IsFirstJob, first_entry, lane_of, tasks_of, IsListed, IsLane, IsBoard}
 
 -- what is true of each job is true of the one at a place
-all_at : {A : Type 0} (P : A → Type 0) (xs : List A) (k : ℕ) (x : A) → All P xs → slice_get xs k ≡ Some x → P x
+pub all_at : {A : Type 0} (P : A → Type 0) (xs : List A) (k : ℕ) (x : A) → All P xs → slice_get xs k ≡ Some x → P x
 all_at P xs k x all at = subst P (get_or_from_slice_get xs k x x at) (All-get_or P xs k x (slice_get_within xs k x at) all)
 
 -- the job that a listed one was made of
-listed_at : (jobs : List Job) (k : ℕ) (x : Listed) → slice_get (map first_entry jobs) k ≡ Some x → (job : Job) × (slice_get jobs k ≡ Some job) × (x ≡ first_entry job)
+pub listed_at : (jobs : List Job) (k : ℕ) (x : Listed) → slice_get (map first_entry jobs) k ≡ Some x → (job : Job) × (slice_get jobs k ≡ Some job) × (x ≡ first_entry job)
 listed_at jobs k x at = go (slice_get jobs k) refl
   where
     shown : option_map first_entry (slice_get jobs k) ≡ Some x

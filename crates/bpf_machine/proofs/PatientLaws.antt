@@ -17,7 +17,7 @@ use Rattle.bpf_machine.specs.declared.machine.Turn.{Turn}
 use Rattle.bpf_machine.specs.declared.machine.ahead.Headway.{Headway}
 use Rattle.bpf_cpu.specs.State.{start}
 use Rattle.bpf_cpu.specs.Task.{Stage, Task, Waiting, InHand, Ended}
-use Rattle.bpf_machine.specs.Hands.{IsAt, IsFree, NoneWaits, NoneWaitsBelow, with_stage}
+use Rattle.bpf_machine.specs.Hands.{IsAt, IsFree, NoneWaits, NoneWaitsBelow, SomeWaits, with_stage}
 use Rattle.bpf_machine.specs.Schedule.{World, outcome_after, Advances, Settles, GoesOn, TakesTurn, RunsSchedule}
 use Rattle.bpf_machine.specs.Rounds.{HaveEnded}
 use Rattle.bpf_machine.specs.Work.{HasInHand}
@@ -26,6 +26,7 @@ use Rattle.bpf_machine.specs.Headways.{TakesQuietTurns, turns_in, Precedes, Both
 use Rattle.bpf_machine.specs.declared.machine.ahead.Headway.TheVariants as headway
 use Rattle.bpf_machine.specs.Cover.{IsShown, IsCovered}
 use Rattle.bpf_machine.specs.Patient.{NoneRanOut, IsRicher, AsRich, IsShownRichly, IsClosedRichly, IsCoveredRichly, PatientSetsCover}
+use Rattle.bpf_machine.proofs.ListLaws.{with_end, lists_jobs, lists_along}
 use Rattle.bpf_machine.proofs.DeterminedTurns.{IsWorld, one_turn, fresh_world}
 use Rattle.bpf_machine.proofs.CoverLaws.{IsCoveredBy, turned, shown_is_covered, ended_is_shown}
 
@@ -215,12 +216,15 @@ goes_rich w jobs c j task new state left more k answer z rich at sum same progra
         )
     settle (Some end) a s =
         let later = with_stage jobs j new (Ended end) in
-        let is : z.jobs ≡ with_stage w.jobs j task (Ended end) = ap (λ (x : World). x.jobs) s.3 in
+        let m : World = with_end w j task end s.0 in
+        let is : z.jobs ≡ m.jobs = lists_jobs m c z s.3 in
+        let both : AsRich m.jobs later = rich_set w.jobs jobs j (record task { stage = Ended end }) (record new { stage = Ended end }) rich (inl (same (Ended end))) in
+        let some : SomeWaits m.jobs c → SomeWaits later c = λ h. (h.0, h.1, h.2, wait_now m.jobs later both c h.0 h.1 h.2 h.3) in
         let not_out : (pc : ℕ) → end ≡ OutOfBudget pc → ⊥ = λ pc e. none j (record task { stage = Ended end }) pc (ap (λ (ts : List Task). slice_get ts j) is ∙ set_there w.jobs j task end at) (ap Ended e) in
         let made = subst (λ (n : ℕ). Advances g.0 c w.store state n (Some end) g.2 g.3 (g.4 + k)) (sym sum) (advance_end g.0 c k w.store state left end g.2 g.3 g.4 not_out a) in (
           later,
-          (g.0, Some end, g.2, g.3, g.4 + k, loaded, made, (s.0, s.1, s.2, ap (λ (x : World). with_jobs x later) s.3)),
-          subst (λ (ts : List Task). AsRich ts later) (sym is) (rich_set w.jobs jobs j (record task { stage = Ended end }) (record new { stage = Ended end }) rich (inl (same (Ended end)))),
+          (g.0, Some end, g.2, g.3, g.4 + k, loaded, made, (s.0, s.1, s.2, lists_along m c z later some (waits_rich m.jobs later both c) s.3)),
+          subst (λ (ts : List Task). AsRich ts later) (sym is) both,
         )
 
 rich_turn : (w : World) (jobs : List Task) (c : ℕ) (answer : Turn) (z : World) → AsRich w.jobs jobs → TakesTurn w c answer z → NoneRanOut z.jobs
@@ -249,7 +253,7 @@ goes_keeps w c k j task state left answer z g ne = settle g.1 g.7
   where
     settle : (end : Option Outcome) → Settles (record w { store = g.2 }) c k task g.3 g.4 end answer z → slice_get z.jobs j ≡ slice_get w.jobs j
     settle None s = ap (λ (x : World). slice_get x.jobs j) s.1 ∙ slice_get-set_other w.jobs k j _ ne
-    settle (Some end) s = ap (λ (x : World). slice_get x.jobs j) s.3 ∙ slice_get-set_other w.jobs k j _ ne
+    settle (Some end) s = ap (λ (ts : List Task). slice_get ts j) (lists_jobs (with_end w k task end s.0) c z s.3) ∙ slice_get-set_other w.jobs k j _ ne
 
 -- jobs in two stages are two
 other_job : (jobs : List Task) (c j k : ℕ) (task was : Task) (end : Outcome) (stage : Stage) → slice_get jobs j ≡ Some task → task.stage ≡ Ended end → IsAt jobs c k was stage → (stage ≡ Ended end → ⊥) → j ≢ k

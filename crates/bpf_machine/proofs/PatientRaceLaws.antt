@@ -1,5 +1,5 @@
 -- Races that schedules lead to while no job runs out of budget.
-use Rattle.std.proofs.Common.{◌≡◌, ◌∙◌, ◌+◌, ◌<◌, ℕ, List, [], ◌∷◌, Some, sym, ap, subst, arith}
+use Rattle.std.proofs.Common.{◌∙◌, ◌+◌, ℕ, List, [], ◌∷◌, sym, ap, subst, arith}
 use Rattle.std.specs.Prelude.{slice_get}
 use Rattle.bpf_shared.specs.Laws.{CallsHaveOneReply}
 use Rattle.bpf_shared.specs.declared.events.Event.{Event}

@@ -23,23 +23,26 @@ use Rattle.bpf_machine.specs.declared.machine.lane.Lane.{Lane}
 use Rattle.bpf_helpers.specs.Held.{AreHeld}
 use Rattle.bpf_cpu.specs.Step.{IsReady}
 use Rattle.bpf_cpu.specs.Task.{Task, InHand, Ended}
-use Rattle.bpf_machine.specs.Hands.{with_stage, IsAt}
+use Rattle.bpf_machine.specs.Hands.{with_stage, IsAt, IsFree}
+use Rattle.bpf_machine.specs.Listings.{Listing}
 use Rattle.std.proofs.lemmas.List.{get_or-set_same, set-get_or}
 use Rattle.bpf_shared.specs.declared.events.Span.{Span}
 use Rattle.bpf_machine.specs.Private.Lanes.{lane_of, no_lane, stage_of, task_of, tasks_of, FitsLane, IsHand, IsBoard}
-use Rattle.bpf_machine.specs.Schedule.{World, Advances, GoesOn}
+use Rattle.bpf_machine.specs.Schedule.{World, Advances, Lists, GoesOn}
 use Rattle.bpf_machine.specs.Machine.{MachineState, Shows}
 use Rattle.bpf_machine.specs.Work.{HasInHand}
 use Rattle.bpf_machine.specs.Rounds.{RunsRounds}
 use Rattle.bpf_machine.specs.Questions.{turns_before_end, turns_left}
 use Rattle.bpf_machine.specs.Private.Turns.{IsAlone, Lasts}
+use Rattle.bpf_machine.specs.Private.KeyLists.{HasJob}
 use Rattle.bpf_machine.specs.Headways.{TakesQuietTurns, GoesAhead, IsOnlyOne}
+use Rattle.bpf_machine.proofs.ListLaws.{with_end}
 use Rattle.bpf_machine.proofs.OwnEvents.{shown_within}
 use Rattle.bpf_machine.proofs.AloneLaws.{rounds_left}
 use Rattle.bpf_machine.proofs.FallLaws.{summed}
 use Rattle.bpf_base.proofs.Lists.{slice_get-set_known}
 use Rattle.bpf_machine.proofs.BoardLaws.{tasks_changed, board_changed}
-use Rattle.bpf_machine.proofs.WorkLaws.{HandAt, hand_at, lane_read}
+use Rattle.bpf_machine.proofs.WorkLaws.{HandAt, hand_at, behind, shown_hand, shows_job, lane_read}
 
 -- the job that a machine shows in hand is one of the lists that it shows
 pub job_in_hand : (s t : MachineState) (c j : ℕ) → s ≡ t → HasInHand t.jobs c j → HasInHand s.jobs c j
@@ -105,7 +108,7 @@ module _ (store : Contents) (programs : List Loaded) (jobs : List Listed) (lanes
       number = is.number
 
       module _ (e : Listed) (seen : e ≡ slice_index_or jobs j e) where
-        listed : slice_get jobs j ≡ Some e
+        pub listed : slice_get jobs j ≡ Some e
         listed = slice_get_read jobs (length jobs) j e refl job_within seen
 
         same : at.job ≡ e
@@ -204,15 +207,15 @@ module _ (store : Contents) (programs : List Loaded) (jobs : List Listed) (lanes
                 inside
 
             -- in each world that the machine shows, the CPU goes on with the job, which stays in hand
-            pub proceeds_kept : (after : Contents) → ((s : Plain) → IsSoundStore s → plain_store.StandsFor store s → (t : Plain) × Advances program h.cpu.number s h.cpu h.left None t h'.cpu h'.left × IsSoundStore t × plain_store.StandsFor after t)
-                → (w : World) → Shows (record { store = store; programs = programs; jobs = tasks_of lanes jobs }) w
-                → (z : World) × GoesOn w c j task state left Ran z × Shows (record { store = after; programs = programs; jobs = tasks_of (slice_set lanes c l') (slice_set jobs j e) }) z
-            proceeds_kept after advance w shows =
+            pub proceeds_kept : (lists : Option (List Listing)) (after : Contents) → ((s : Plain) → IsSoundStore s → plain_store.StandsFor store s → (t : Plain) × Advances program h.cpu.number s h.cpu h.left None t h'.cpu h'.left × IsSoundStore t × plain_store.StandsFor after t)
+                → (w : World) → Shows (record { store = store; programs = programs; jobs = tasks_of lanes jobs; lists = lists }) w
+                → (z : World) × GoesOn w c j task state left Ran z × Shows (record { store = after; programs = programs; jobs = tasks_of (slice_set lanes c l') (slice_set jobs j e); lists = lists }) z
+            proceeds_kept lists after advance w shows =
                 let r = advance w.store shows.sound shows.store in
                 let z : World = record w { store = r.0; jobs = with_stage w.jobs j task (InHand h'.cpu h'.left) } in (
                   z,
                   (program, None, r.0, h'.cpu, h'.left, loaded_there w shows.programs, advances w.store None r.0 h'.cpu h'.left r.1, (refl, refl)),
-                  record { store = r.3; sound = r.2; programs = shows.programs; jobs = ap (λ (ts : List Task). with_stage ts j task (InHand h'.cpu h'.left)) shows.jobs ∙ sym kept_tasks },
+                  record { store = r.3; sound = r.2; programs = shows.programs; jobs = ap (λ (ts : List Task). with_stage ts j task (InHand h'.cpu h'.left)) shows.jobs ∙ sym kept_tasks; lists = shows.lists },
                 )
 
             -- ---- the store is as it was, and what the CPU holds
@@ -238,9 +241,9 @@ module _ (store : Contents) (programs : List Loaded) (jobs : List Listed) (lanes
                 sym there.told ∙ (ap (λ (x : Hand). x.job) (sym one) ∙ (job ∙ told))
 
             -- it takes turns that no store sees
-            kept_goes : (n : ℕ) → TakesQuietTurns program h.cpu.number n h.cpu h.left h'.cpu h'.left
-                → GoesAhead (record { store = store; programs = programs; jobs = tasks_of lanes jobs }) c j n (record { store = store; programs = programs; jobs = tasks_of (slice_set lanes c l') (slice_set jobs j e) })
-            kept_goes n made =
+            kept_goes : (lists : Option (List Listing)) (n : ℕ) → TakesQuietTurns program h.cpu.number n h.cpu h.left h'.cpu h'.left
+                → GoesAhead (record { store = store; programs = programs; jobs = tasks_of lanes jobs; lists = lists }) c j n (record { store = store; programs = programs; jobs = tasks_of (slice_set lanes c l') (slice_set jobs j e); lists = lists })
+            kept_goes lists n made =
                 let here : TakesQuietTurns program c n state left h'.cpu h'.left =
                 subst (λ (k : ℕ). TakesQuietTurns program c n state k h'.cpu h'.left) left_is
                 (subst (λ (x : Cpu). TakesQuietTurns program c n x h.left h'.cpu h'.left) state_is (subst (λ (k : ℕ). TakesQuietTurns program k n h.cpu h.left h'.cpu h'.left) number made))
@@ -254,18 +257,18 @@ module _ (store : Contents) (programs : List Loaded) (jobs : List Listed) (lanes
                   in_hand,
                   ap (λ (t : Task). slice_get programs t.program) shown ∙ loaded,
                   here,
-                  ap (λ (ts : List Task). record { store = store; programs = programs; jobs = ts }) kept_tasks,
+                  ap (λ (ts : List Task). record { store = store; programs = programs; jobs = ts; lists = lists }) kept_tasks,
                 )
 
             pub ahead_one : h'.cpu.held ≡ h.cpu.held → IsOnlyOne (tasks_of (slice_set lanes c l') jobs) c j
             ahead_one same_held = subst (λ (js : List Listed). IsOnlyOne (tasks_of (slice_set lanes c l') js) c j) unchanged (kept_one store (still_kept same_held))
 
-            pub ahead_goes : (view : MachineState) → record { store = store; programs = programs; jobs = tasks_of lanes jobs } ≡ view → (n : ℕ) → TakesQuietTurns program h.cpu.number n h.cpu h.left h'.cpu h'.left
-                → GoesAhead view c j n (record { store = store; programs = programs; jobs = tasks_of (slice_set lanes c l') jobs })
-            ahead_goes view view_is n made =
-                let new : List Listed → MachineState = λ js. record { store = store; programs = programs; jobs = tasks_of (slice_set lanes c l') js } in
+            pub ahead_goes : (lists : Option (List Listing)) (view : MachineState) → record { store = store; programs = programs; jobs = tasks_of lanes jobs; lists = lists } ≡ view → (n : ℕ) → TakesQuietTurns program h.cpu.number n h.cpu h.left h'.cpu h'.left
+                → GoesAhead view c j n (record { store = store; programs = programs; jobs = tasks_of (slice_set lanes c l') jobs; lists = lists })
+            ahead_goes lists view view_is n made =
+                let new : List Listed → MachineState = λ js. record { store = store; programs = programs; jobs = tasks_of (slice_set lanes c l') js; lists = lists } in
                 subst (λ (s : MachineState). GoesAhead s c j n (new jobs)) view_is
-                (subst (λ (js : List Listed). GoesAhead (record { store = store; programs = programs; jobs = tasks_of lanes jobs }) c j n (new js)) unchanged (kept_goes n made))
+                (subst (λ (js : List Listed). GoesAhead (record { store = store; programs = programs; jobs = tasks_of lanes jobs; lists = lists }) c j n (new js)) unchanged (kept_goes lists n made))
 
           -- it ends, and the lane is empty
           module _ (outcome : Outcome) (k : Lane) (down : k ≡ record { hand = None; next = l.next }) where
@@ -296,44 +299,67 @@ module _ (store : Contents) (programs : List Loaded) (jobs : List Listed) (lanes
                 next_of
                 inside)
 
+            -- the machine as the job has ended, before the CPU lists
+            abbrev pub ended : Option (List Listing) → Contents → MachineState
+            ended lists after = record { store = after; programs = programs; jobs = tasks_of (slice_set lanes c k) (slice_set jobs j e''); lists = lists }
+
+            pub ended_free : IsFree (tasks_of (slice_set lanes c k) (slice_set jobs j e'')) c
+            ended_free i t now rest at =
+                let b = behind (slice_set jobs j e'') (slice_set lanes c k) c i t (InHand now rest) at in
+                let shown_stage : stage_of (lane_of (slice_set lanes c k) b.job.cpu).hand b.job.phase ≡ InHand now rest = sym (ap (λ (x : Task). x.stage) b.shown) ∙ at.at in
+                let x = shown_hand (lane_of (slice_set lanes c k) b.job.cpu).hand b.job.phase now rest shown_stage in
+                let has_one : (lane_of (slice_set lanes c k) c).hand ≡ Some x.0 = subst (λ (n : ℕ). (lane_of (slice_set lanes c k) n).hand ≡ Some x.0) b.of x.1 in
+                let has_none : (lane_of (slice_set lanes c k) c).hand ≡ None = ap (λ (y : Lane). y.hand) (get_or-set_same lanes c k no_lane lane_within ∙ down) in
+                let no : None ≡ Some x.0 = sym has_none ∙ has_one in
+                cc
+
+            pub ended_job : HasJob (tasks_of (slice_set lanes c k) (slice_set jobs j e'')) c
+            ended_job = (j, task_of (slice_set lanes c k) e'', shows_job (slice_set jobs j e'') (slice_set lanes c k) j e'' (slice_get-set_known jobs j e'' e listed), of)
+
+            shown_end : (lists : Option (List Listing)) (after : Contents) (w : World) (q : Plain) → Shows (record { store = store; programs = programs; jobs = tasks_of lanes jobs; lists = lists }) w → IsSoundStore q → plain_store.StandsFor after q → Shows (ended lists after) (with_end w j task outcome q)
+            shown_end lists after w q shows sound stands =
+                record { store = stands; sound = sound; programs = shows.programs; jobs = ap (λ (ts : List Task). with_stage ts j task (Ended outcome)) shows.jobs ∙ sym ended_tasks; lists = shows.lists }
+
             -- in each world that the machine shows, the CPU goes on with the job, which ends
-            pub proceeds_ended : (mid after : Contents) (new : Cpu) (rest : ℕ) → ((s : Plain) → IsSoundStore s → plain_store.StandsFor store s → (t : Plain) × Advances program h.cpu.number s h.cpu h.left (Some outcome) t new rest × IsSoundStore t × plain_store.StandsFor mid t)
+            pub proceeds_ended : (lists : Option (List Listing)) (mid after : Contents) (last : MachineState) (new : Cpu) (rest : ℕ) → ((s : Plain) → IsSoundStore s → plain_store.StandsFor store s → (t : Plain) × Advances program h.cpu.number s h.cpu h.left (Some outcome) t new rest × IsSoundStore t × plain_store.StandsFor mid t)
                 → ((s : Plain) → IsSoundStore s → plain_store.StandsFor mid s → (t : Plain) × PlainlyAllowed s c End t × IsSoundStore t × plain_store.StandsFor after t)
-                → (w : World) → Shows (record { store = store; programs = programs; jobs = tasks_of lanes jobs }) w
-                → (z : World) × GoesOn w c j task state left (turn.Ended j outcome) z × Shows (record { store = after; programs = programs; jobs = tasks_of (slice_set lanes c k) (slice_set jobs j e'') }) z
-            proceeds_ended mid after new rest advance end w shows =
+                → ((w : World) → Shows (ended lists after) w → (z : World) × Lists w c z × Shows last z)
+                → (w : World) → Shows (record { store = store; programs = programs; jobs = tasks_of lanes jobs; lists = lists }) w
+                → (z : World) × GoesOn w c j task state left (turn.Ended j outcome) z × Shows last z
+            proceeds_ended lists mid after last new rest advance end listing w shows =
                 let r = advance w.store shows.sound shows.store in
                 let q = end r.0 r.2 r.3 in
-                let z : World = record w { store = q.0; jobs = with_stage w.jobs j task (Ended outcome) } in (
-                  z,
-                  (program, Some outcome, r.0, new, rest, loaded_there w shows.programs, advances w.store (Some outcome) r.0 new rest r.1, (q.0, q.1, refl, refl)),
-                  record { store = q.3; sound = q.2; programs = shows.programs; jobs = ap (λ (ts : List Task). with_stage ts j task (Ended outcome)) shows.jobs ∙ sym ended_tasks },
+                let l = listing (with_end w j task outcome q.0) (shown_end lists after w q.0 shows q.2 q.3) in (
+                  l.0,
+                  (program, Some outcome, r.0, new, rest, loaded_there w shows.programs, advances w.store (Some outcome) r.0 new rest r.1, (q.0, q.1, refl, l.1)),
+                  l.2,
                 )
 
             -- in each world that the machine shows, as many rounds as the job has turns left end it
-            pub finishes_ended : (view : MachineState) → record { store = store; programs = programs; jobs = tasks_of lanes jobs } ≡ view → (mid after : Contents) → ((s : Plain) → IsSoundStore s → plain_store.StandsFor store s → (t : Plain) × (turns : ℕ) × Lasts program h.cpu.number turns s h.cpu h.left outcome t × IsSoundStore t × plain_store.StandsFor mid t)
+            pub finishes_ended : (lists : Option (List Listing)) (view : MachineState) → record { store = store; programs = programs; jobs = tasks_of lanes jobs; lists = lists } ≡ view → (mid after : Contents) (last : MachineState) → ((s : Plain) → IsSoundStore s → plain_store.StandsFor store s → (t : Plain) × (turns : ℕ) × Lasts program h.cpu.number turns s h.cpu h.left outcome t × IsSoundStore t × plain_store.StandsFor mid t)
                 → ((s : Plain) → IsSoundStore s → plain_store.StandsFor mid s → (t : Plain) × PlainlyAllowed s c End t × IsSoundStore t × plain_store.StandsFor after t)
+                → ((w : World) → Shows (ended lists after) w → (z : World) × Lists w c z × Shows last z)
                 → IsAlone view.jobs c
                 → (w : World) → Shows view w
-                → (z : World) × ((n : ℕ) × RunsRounds n w z) × Shows (record { store = after; programs = programs; jobs = tasks_of (slice_set lanes c k) (slice_set jobs j e'') }) z
-            finishes_ended view view_is mid after lasting end alone_there w shown_world =
-                let shows : Shows (record { store = store; programs = programs; jobs = tasks_of lanes jobs }) w = subst (λ (s : MachineState). Shows s w) (sym view_is) shown_world in
+                → (z : World) × ((n : ℕ) × RunsRounds n w z) × Shows last z
+            finishes_ended lists view view_is mid after last lasting end listing alone_there w shown_world =
+                let shows : Shows (record { store = store; programs = programs; jobs = tasks_of lanes jobs; lists = lists }) w = subst (λ (s : MachineState). Shows s w) (sym view_is) shown_world in
                 let alone_here : IsAlone (tasks_of lanes jobs) c = subst (λ (s : MachineState). IsAlone s.jobs c) (sym view_is) alone_there in
                 let r = lasting w.store shows.sound shows.store in
                 let q = end r.0 r.3 r.4 in
-                let z : World = record w { store = q.0; jobs = with_stage w.jobs j task (Ended outcome) } in
+                let l = listing (with_end w j task outcome q.0) (shown_end lists after w q.0 shows q.2 q.3) in
                 let there : IsAt w.jobs c j task (InHand state left) = subst (λ (ts : List Task). IsAt ts c j task (InHand state left)) (sym shows.jobs) in_hand in
                 let inside : c < w.store.shape.cpus = subst (λ (n : ℕ). c < n) (sym shows.store.cpus) (ltb-true c (length store.runs) serves) in
                 let few : IsAlone w.jobs c = subst (λ (ts : List Task). IsAlone ts c) (sym shows.jobs) alone_here in (
-                  z,
-                  (suc r.1, rounds_left c j program outcome r.0 q.0 q.1 r.1 w task state left (shown_within store w.store shows.store) inside few (loaded_there w shows.programs) there (lasts_here r.1 w.store r.0 outcome r.2)),
-                  record { store = q.3; sound = q.2; programs = shows.programs; jobs = ap (λ (ts : List Task). with_stage ts j task (Ended outcome)) shows.jobs ∙ sym ended_tasks },
+                  l.0,
+                  (suc r.1, rounds_left c j program outcome r.0 q.0 q.1 r.1 w l.0 task state left (shown_within store w.store shows.store) inside few (loaded_there w shows.programs) there (lasts_here r.1 w.store r.0 outcome r.2) l.1),
+                  l.2,
                 )
 
             -- and the jobs have fewer turns left
-            pub finishes_less : (view : MachineState) → record { store = store; programs = programs; jobs = tasks_of lanes jobs } ≡ view → turns_left (tasks_of (slice_set lanes c k) (slice_set jobs j e'')) < turns_left view.jobs
-            finishes_less view view_is =
+            pub finishes_less : (lists : Option (List Listing)) (view : MachineState) → record { store = store; programs = programs; jobs = tasks_of lanes jobs; lists = lists } ≡ view → (last : List Task) → last ≡ tasks_of (slice_set lanes c k) (slice_set jobs j e'') → turns_left last < turns_left view.jobs
+            finishes_less lists view view_is last last_is =
                 let sum = summed (λ t. turns_before_end t.budget t.stage) (tasks_of lanes jobs) j task (Ended outcome) in_hand.listed in
                 let some : turns_before_end task.budget task.stage ≡ left + 1 = ap (turns_before_end task.budget) in_hand.at in
-                subst (λ (s : MachineState). turns_left (tasks_of (slice_set lanes c k) (slice_set jobs j e'')) < turns_left s.jobs) view_is
-                (subst (λ (ts : List Task). turns_left ts < turns_left (tasks_of lanes jobs)) (sym ended_tasks) (omega (arith, sum, some)))
+                subst (λ (s : MachineState). turns_left last < turns_left s.jobs) view_is
+                (subst (λ (ts : List Task). turns_left ts < turns_left (tasks_of lanes jobs)) (sym (last_is ∙ ended_tasks)) (omega (arith, sum, some)))

@@ -6,9 +6,10 @@ use Rattle.bpf_cpu.specs.declared.outcome.Outcome.{Outcome}
 use Rattle.bpf_machine.specs.declared.machine.Turn.{Turn}
 use Rattle.bpf_machine.specs.declared.machine.Turn.TheVariants.{Idle}
 use Rattle.bpf_cpu.specs.State.{start}
-use Rattle.bpf_cpu.specs.Task.{Stage, Task, InHand, Waiting}
+use Rattle.bpf_cpu.specs.Task.{Stage, Task, InHand, Waiting, Ended}
 use Rattle.bpf_machine.specs.Hands.{IsAt, IsFree, NoneWaits, NoneWaitsBelow, with_stage}
-use Rattle.bpf_machine.specs.Schedule.{World, Settles, GoesOn, TakesTurn, RunsSchedule}
+use Rattle.bpf_machine.specs.Schedule.{World, Lists, Settles, GoesOn, TakesTurn, RunsSchedule}
+use Rattle.bpf_machine.specs.Listings.{listing_at}
 use Rattle.bpf_machine.specs.Machine.{MachineState, Shows}
 use Rattle.bpf_machine.specs.Work.{HasInHand, IsNext, BeginsJob, Proceeds}
 use Rattle.bpf_base.proofs.Lists.{slice_get-set_known, set_twice}
@@ -34,7 +35,8 @@ settles_over : (w : World) (c j : ℕ) (task : Task) (stage : Stage) (new : Cpu)
 settles_over w c j task stage new left None answer z settles =
     (settles.0, settles.1 ∙ ap (λ (ts : List Task). record w { jobs = ts }) (set_twice w.jobs j (record task { stage = stage }) (record task { stage = InHand new left })))
 settles_over w c j task stage new left (Some end) answer z settles =
-    (settles.0, settles.1, settles.2, settles.3 ∙ ap (λ (ts : List Task). record { store = settles.0; programs = w.programs; jobs = ts }) (set_twice w.jobs j (record task { stage = stage }) _))
+    let P : List Task → Type 0 = λ ts. Lists (record w { store = settles.0; jobs = ts }) c z in
+    (settles.0, settles.1, settles.2, subst P (set_twice w.jobs j (record task { stage = stage }) (record task { stage = Ended end })) settles.3)
 
 pub turn_in_hand : (old new : MachineState) (c j : ℕ) (answer : Turn) → HasInHand old.jobs c j → Proceeds old c j answer new
     → (w : World) → Shows old w → (z : World) × TakesTurn w c answer z × Shows new z
@@ -57,6 +59,7 @@ turn_begins old mid new c j answer next begins proceeds w shows =
       sound = run.2;
       programs = shows.programs ∙ sym begins.3;
       jobs = ap (λ (ts : List Task). with_stage ts j task now) shows.jobs ∙ sym begins.4;
+      lists = shows.lists ∙ ap listing_at (sym begins.6);
     } in
     let r = proceeds (record task { stage = now }) state task.budget (begun_now old mid c j begins) there shown in
     let on = r.1 in

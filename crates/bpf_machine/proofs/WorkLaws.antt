@@ -23,13 +23,13 @@ use Rattle.bpf_machine.specs.Work.{HasInHand, IsState, IsNext, IsWork}
 use Rattle.bpf_machine.specs.Private.Lanes.{lane_of, no_lane, stage_of, task_of, tasks_of, FitsLane, IsHand, IsBoard}
 
 -- the job behind a shown one
-record IsBehind (jobs : List Listed) (lanes : List Lane) (c j : ℕ) (task : Task) : Type 0 where
-  job : Listed
-  listed : slice_get jobs j ≡ Some job
-  of : job.cpu ≡ c
-  shown : task ≡ task_of lanes job
+pub record IsBehind (jobs : List Listed) (lanes : List Lane) (c j : ℕ) (task : Task) : Type 0 where
+  pub job : Listed
+  pub listed : slice_get jobs j ≡ Some job
+  pub of : job.cpu ≡ c
+  pub shown : task ≡ task_of lanes job
 
-behind : (jobs : List Listed) (lanes : List Lane) (c j : ℕ) (task : Task) (stage : Stage) → IsAt (tasks_of lanes jobs) c j task stage → IsBehind jobs lanes c j task
+pub behind : (jobs : List Listed) (lanes : List Lane) (c j : ℕ) (task : Task) (stage : Stage) → IsAt (tasks_of lanes jobs) c j task stage → IsBehind jobs lanes c j task
 behind jobs lanes c j task stage at = go (slice_get jobs j) refl
   where
     shown : option_map (task_of lanes) (slice_get jobs j) ≡ Some task
@@ -47,7 +47,7 @@ pub shows_job : (jobs : List Listed) (lanes : List Lane) (j : ℕ) (x : Listed) 
 shows_job jobs lanes j x at = slice_get-map (task_of lanes) jobs j ∙ ap (λ (o : Option Listed). option_map (task_of lanes) o) at
 
 -- a hand that is shown is there
-shown_hand : (o : Option Hand) (p : Phase) (state : Cpu) (left : ℕ) → stage_of o p ≡ InHand state left → (h : Hand) × (o ≡ Some h) × (p ≡ phase.InHand) × (h.cpu ≡ state) × (h.left ≡ left)
+pub shown_hand : (o : Option Hand) (p : Phase) (state : Cpu) (left : ℕ) → stage_of o p ≡ InHand state left → (h : Hand) × (o ≡ Some h) × (p ≡ phase.InHand) × (h.cpu ≡ state) × (h.left ≡ left)
 shown_hand o (phase.Waiting context) state left e = cc
 shown_hand o (phase.Ended outcome) state left e = cc
 shown_hand None phase.InHand state left e = cc

@@ -24,6 +24,11 @@ abbrev pub NoneWaits : List Task → ℕ → Type 0
 NoneWaits jobs cpu =
     (j : ℕ) (task : Task) (context : List ℕ) → IsAt jobs cpu j task (Waiting context) → ⊥
 
+-- some job of the CPU waits
+abbrev pub SomeWaits : List Task → ℕ → Type 0
+SomeWaits jobs cpu =
+    (j : ℕ) × (task : Task) × (context : List ℕ) × IsAt jobs cpu j task (Waiting context)
+
 -- the jobs with the j-th in another stage
 abbrev pub with_stage : List Task → ℕ → Task → Stage → List Task
 with_stage jobs j task stage = slice_set jobs j (record task { stage = stage })

@@ -1,4 +1,5 @@
 pub mod Hands
+pub mod Listings
 pub mod Schedule
 pub mod Rounds
 pub mod Machine

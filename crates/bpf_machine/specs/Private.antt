@@ -2,3 +2,4 @@
 pub mod Lanes
 pub mod Turns
 pub mod Headways
+pub mod KeyLists

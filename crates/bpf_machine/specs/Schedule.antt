@@ -2,7 +2,7 @@
 use Rattle.std.specs.Prelude.{◌≡◌, ℕ, zero, suc, List, [], ◌∷◌, ◌++◌, ◌⊎◌, Option, Some, None, map, replicate, slice_get}
 use Rattle.bpf_shared.specs.declared.events.Event.{Event}
 use Rattle.bpf_shared.specs.declared.events.Event.TheVariants.{Begin, End}
-use Rattle.bpf_shared.specs.Store.{Plain}
+use Rattle.bpf_shared.specs.Store.{Plain, put}
 use Rattle.bpf_shared.specs.Choice.{PlainlyAllowed}
 use Rattle.bpf_shared.specs.History.{PlainlyLegal, entry}
 use Rattle.bpf_loader.specs.Loaded.{Loaded}
@@ -16,12 +16,15 @@ use Rattle.bpf_machine.specs.declared.machine.Turn.TheVariants as turn
 use Rattle.bpf_cpu.specs.State.{start}
 use Rattle.bpf_cpu.specs.Step.{Step}
 use Rattle.bpf_cpu.specs.Task.{Task, Waiting, InHand, Ended}
-use Rattle.bpf_machine.specs.Hands.{IsAt, IsFree, NoneWaitsBelow, NoneWaits, with_stage}
+use Rattle.bpf_machine.specs.Hands.{IsAt, IsFree, NoneWaitsBelow, NoneWaits, SomeWaits, with_stage}
+use Rattle.bpf_machine.specs.Listings.{Listing, listed_now}
 
 pub record World : Type 0 where
   pub store : Plain
   pub programs : List Loaded
   pub jobs : List Task
+  -- by CPU
+  pub lists : ℕ → Listing
 
 -- the outcome of a job, where it has one after a step that leaves this many
 abbrev pub outcome_after : Progress → ℕ → Cpu → Option Outcome
@@ -38,13 +41,20 @@ Advances program c s old (suc n) end t new left =
     × PlainlyLegal s (map (entry c) events) t
     × (end ≡ outcome_after answer n new) × (left ≡ n)
 
--- then it stays in hand, or it has an outcome and ends
+-- the CPU lists the keys of the maps, if none of its jobs waits and it lists at all; the store stays
+abbrev pub Lists : World → ℕ → World → Type 0
+Lists w c z =
+    (SomeWaits w.jobs c × (z ≡ w))
+    ⊎ (NoneWaits w.jobs c
+    × (z ≡ record w { lists = put w.lists c (listed_now w.store (w.lists c)) }))
+
+-- then it stays in hand; or it has an outcome and ends, and with its last job the CPU lists
 abbrev pub Settles : World → ℕ → ℕ → Task → Cpu → ℕ → Option Outcome → Turn → World → Type 0
 Settles w c j task new left None answer z =
     (answer ≡ turn.Ran) × (z ≡ record w { jobs = with_stage w.jobs j task (InHand new left) })
 Settles w c j task new left (Some end) answer z =
     (s : Plain) × PlainlyAllowed w.store c End s × (answer ≡ turn.Ended j end)
-    × (z ≡ record w { store = s; jobs = with_stage w.jobs j task (Ended end) })
+    × Lists (record w { store = s; jobs = with_stage w.jobs j task (Ended end) }) c z
 
 -- the CPU goes on with a job, from this state and with so many steps left
 abbrev pub GoesOn : World → ℕ → ℕ → Task → Cpu → ℕ → Turn → World → Type 0

@@ -44,6 +44,7 @@ BeginsJob old cpu j new =
     × (new.jobs ≡ with_stage old.jobs j task (InHand (start cpu context) task.budget))
     × ((s : Plain) → IsSoundStore s → plain_store.StandsFor old.store s → (t : Plain)
     × PlainlyAllowed s cpu Begin t × IsSoundStore t × plain_store.StandsFor new.store t)
+    × (new.lists ≡ old.lists)
 
 -- the CPU goes on with the j-th job, from this state and with so many steps left
 abbrev pub Proceeds : MachineState → ℕ → ℕ → Turn → MachineState → Type 0

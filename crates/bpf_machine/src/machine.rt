@@ -3,6 +3,7 @@
 mod ahead;
 mod lane;
 mod lengths;
+mod listing;
 mod rounds;
 
 use bpf_cpu::{Cpu, Job, Outcome};
@@ -12,6 +13,7 @@ use bpf_shared::Shared;
 use lane::{
     Hand, Lane, Listed, Phase, count_cpus, first_job, list_jobs, make_lanes, make_room, put_down,
 };
+use listing::{KeyLists, make_asked};
 use std::alloc::Global;
 use std::marker::Model;
 use std::mem;
@@ -61,6 +63,10 @@ pub struct Machine {
     jobs: Vec<Listed>,
     /// By CPU. CPUs beyond them have no jobs.
     lanes: Vec<Lane>,
+    /// Whether lists of keys are asked for.
+    keys: bool,
+    /// By CPU, where they are.
+    lists: Vec<KeyLists>,
 }
 
 impl Model for Machine {
@@ -68,17 +74,20 @@ impl Model for Machine {
 
     ghost Value = { MachineState };
 
-    ghost use Rattle.bpf_plain.specs.PlainStore.{has_cpu, is_running, held_spans};
+    ghost use Rattle.bpf_plain.specs.PlainStore.{has_cpu, is_running, held_spans, shapes_of};
     ghost use Rattle.bpf_machine.specs.Private.Lanes.{tasks_of, IsBoard};
+    ghost use Rattle.bpf_machine.specs.Private.KeyLists.{listings, FitLists};
 
     ghost view = { λ m. record {
       store = m.store;
       programs = m.programs.items;
       jobs = tasks_of m.lanes.items m.jobs.items;
+      lists = listings m.keys m.lists.items;
     } };
 
     ghost invariant = { λ m. IsBoard (has_cpu m.store) (is_running m.store) (held_spans m.store)
-        m.programs.items m.jobs.items m.lanes.items };
+        m.programs.items m.jobs.items m.lanes.items
+        × FitLists (shapes_of m.store) m.jobs.items m.keys m.lists.items };
 }
 
 impl Machine {
@@ -88,6 +97,7 @@ impl Machine {
     ghost use Rattle.bpf_cpu.specs.Task.{outcome_at, waiting};
     ghost use Rattle.bpf_machine.specs.Hands.{IsFree, NoneWaits};
     ghost use Rattle.bpf_machine.specs.Schedule.{World, TakesTurn, RunsSchedule};
+    ghost use Rattle.bpf_machine.specs.Listings.{first_lists, listing_at};
     ghost use Rattle.bpf_machine.specs.Machine.{Shows};
     ghost use Rattle.bpf_machine.specs.Work.{BeginsJob, Proceeds, IsWork, IsNext, HasInHand, IsState};
     ghost use Rattle.bpf_machine.specs.Questions.{IsStanding, turns_left};
@@ -108,12 +118,58 @@ impl Machine {
         ensures store { IfOk result (λ m. m.store ≡ store) }
         ensures programs { IfOk result (λ m. m.programs ≡ programs.items) }
         ensures jobs { IfOk result (λ m. m.jobs ≡ map waiting jobs.items) }
+        ensures lists { IfOk result (λ m. listing_at m.lists ≡ first_lists false) }
+        ensures refused { IfErr result
+            (λ r. (r.store ≡ store) × (r.programs ≡ programs) × (r.jobs ≡ jobs)) }
+    {
+        Machine::make(alloc, store, programs, jobs, false)
+    }
+
+    /// The same, in which each CPU lists the keys of all maps in the turn that ends its last job.
+    pub fn with_keys(
+        alloc: Global,
+        store: PlainStore,
+        programs: Vec<Program>,
+        jobs: Vec<Job>,
+    ) -> Result<Machine, Refused>
+        requires idle { (cpu : ℕ) → is_running store cpu ≡ false }
+        requires cpus { All (λ job. has_cpu store job.cpu ≡ true) jobs.items }
+        requires programs { All (λ job. job.program < vec_len programs) jobs.items }
+        requires contexts { All (λ job. vec_len job.context ≤ max_context) jobs.items }
+        ensures store { IfOk result (λ m. m.store ≡ store) }
+        ensures programs { IfOk result (λ m. m.programs ≡ programs.items) }
+        ensures jobs { IfOk result (λ m. m.jobs ≡ map waiting jobs.items) }
+        ensures lists { IfOk result (λ m. listing_at m.lists ≡ first_lists true) }
+        ensures refused { IfErr result
+            (λ r. (r.store ≡ store) × (r.programs ≡ programs) × (r.jobs ≡ jobs)) }
+    {
+        Machine::make(alloc, store, programs, jobs, true)
+    }
+
+    /// A machine, with or without lists.
+    fn make(
+        alloc: Global,
+        store: PlainStore,
+        programs: Vec<Program>,
+        jobs: Vec<Job>,
+        keys: bool,
+    ) -> Result<Machine, Refused>
+        requires idle { (cpu : ℕ) → is_running store cpu ≡ false }
+        requires cpus { All (λ job. has_cpu store job.cpu ≡ true) jobs.items }
+        requires programs { All (λ job. job.program < vec_len programs) jobs.items }
+        requires contexts { All (λ job. vec_len job.context ≤ max_context) jobs.items }
+        ensures store { IfOk result (λ m. m.store ≡ store) }
+        ensures programs { IfOk result (λ m. m.programs ≡ programs.items) }
+        ensures jobs { IfOk result (λ m. m.jobs ≡ map waiting jobs.items) }
+        ensures lists { IfOk result (λ m. listing_at m.lists ≡ first_lists keys) }
         ensures refused { IfErr result
             (λ r. (r.store ≡ store) × (r.programs ≡ programs) × (r.jobs ≡ jobs)) }
     {
         let cpus = count_cpus(&jobs);
-        match make_room(alloc, jobs.len(), cpus) {
-            Ok((room, lanes)) => {
+        let made = make_room(alloc, jobs.len(), cpus);
+        let asked = make_asked(alloc, &store, &jobs, cpus, keys);
+        match (made, asked) {
+            (Ok((room, lanes)), Ok(lists)) => {
                 let listed = list_jobs(jobs, room);
                 let lanes = make_lanes(&listed, cpus, lanes);
                 Ok(Machine {
@@ -121,9 +177,11 @@ impl Machine {
                     programs,
                     jobs: listed,
                     lanes,
+                    keys,
+                    lists,
                 })
             }
-            Err(_) => Err(Refused {
+            _ => Err(Refused {
                 store,
                 programs,
                 jobs,
@@ -132,8 +190,8 @@ impl Machine {
     }
 
     /// One turn of a CPU: it begins its lowest waiting job where it has none in hand, makes one
-    /// step of it unless the budget is used up, and ends it where it has an outcome then. It takes
-    /// no memory.
+    /// step of it unless the budget is used up, and ends it where it has an outcome then. With its
+    /// last job it lists the keys of all maps, where lists are asked for. It takes no memory.
     pub fn turn(&mut self, cpu: u8) -> Turn
         ensures turn { (w : World) → Shows self.old w
             → (z : World) × TakesTurn w cpu result z × Shows self.new z }
@@ -297,6 +355,7 @@ impl Machine {
                 self.store.end(cpu);
                 listed.phase = Phase::Ended(outcome);
                 put_down(lane);
+                self.list_at_end(cpu);
                 Turn::Ended(job, outcome)
             }
         }
@@ -320,5 +379,6 @@ impl Machine {
         self.store.end(cpu);
         listed.phase = Phase::Ended(outcome);
         put_down(lane);
+        self.list_at_end(cpu);
     }
 }
