@@ -19,6 +19,7 @@ use Rattle.bpf_machine.specs.declared.machine.Turn.{Turn}
 use Rattle.bpf_cpu.specs.declared.outcome.Outcome.{Outcome}
 use Rattle.bpf_cpu.specs.Task.{Stage, Task, Waiting, InHand, Ended}
 use Rattle.bpf_machine.specs.Schedule.{World, Advances, Settles, GoesOn, TakesTurn, RunsSchedule}
+use Rattle.bpf_machine.proofs.ListLaws.{with_end, lists_store}
 use Rattle.bpf_debug.specs.Command.{Step, order_of}
 use Rattle.bpf_debug.specs.Answer.{IsWhere, ended_text, in_hand_line, waiting_line, idle_line}
 use Rattle.bpf_debug.specs.Session.{Scene, IsCpu, Obeys}
@@ -36,7 +37,7 @@ advances_shape program c s t old new (suc n) left end a = legal_shape s t _ a.3
 
 settles_shape : (w z : World) (c j : ℕ) (task : Task) (new : Cpu) (left : ℕ) (end : Option Outcome) (answer : Turn) → Settles w c j task new left end answer z → z.store.shape ≡ w.store.shape
 settles_shape w z c j task new left None answer a = ap (λ (x : World). x.store.shape) a.1
-settles_shape w z c j task new left (Some end) answer a = ap (λ (x : World). x.store.shape) a.3 ∙ event_shape w.store a.0 c End a.1.0
+settles_shape w z c j task new left (Some end) answer a = ap (λ (s : Plain). s.shape) (lists_store (with_end w j task end a.0) c z a.3) ∙ event_shape w.store a.0 c End a.1.0
 
 goes_shape : (w z : World) (c j : ℕ) (task : Task) (old : Cpu) (left : ℕ) (answer : Turn) → GoesOn w c j task old left answer z → z.store.shape ≡ w.store.shape
 goes_shape w z c j task old left answer g =

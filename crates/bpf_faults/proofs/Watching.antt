@@ -23,6 +23,7 @@ use Rattle.bpf_machine.specs.Questions.{IsStanding, Falls, turns_left}
 use Rattle.bpf_cpu.specs.Task.{Stage, Task, Waiting, InHand, Ended, ended, outcome_at, waiting}
 use Rattle.bpf_machine.specs.Hands.{IsFree, NoneWaits, with_stage}
 use Rattle.bpf_machine.specs.Schedule.{World, Settles, GoesOn, TakesTurn, RunsSchedule}
+use Rattle.bpf_machine.proofs.ListLaws.{with_end, lists_jobs}
 use Rattle.bpf_machine.specs.Rounds.{below, HaveEnded, RunsRound, RunsRounds, RunsToEnd}
 use Rattle.bpf_machine.specs.Machine.{MachineState, Shows}
 use Rattle.bpf_machine.proofs.FallLaws.{turns_fall}
@@ -101,7 +102,7 @@ goes w c j task old left answer z listed of due g = settle g.1 g.7
   where
     settle : (end : Option Outcome) → Settles (record w { store = g.2 }) c j task g.3 g.4 end answer z → Moves w.jobs c answer z.jobs
     settle None s = record { job = j; task = task; stage = InHand g.3 g.4; listed = listed; of = of; due = due; answers = s.0; is = ap (λ (x : World). x.jobs) s.1 }
-    settle (Some end) s = record { job = j; task = task; stage = Ended end; listed = listed; of = of; due = due; answers = s.2; is = ap (λ (x : World). x.jobs) s.3 }
+    settle (Some end) s = record { job = j; task = task; stage = Ended end; listed = listed; of = of; due = due; answers = s.2; is = lists_jobs (with_end w j task end s.0) c z s.3 }
 
 abbrev Turned : World → ℕ → Turn → World → Type 0
 Turned w c answer z = Moves w.jobs c answer z.jobs ⊎ (IsFree w.jobs c × NoneWaits w.jobs c × (answer ≡ turn.Idle) × (z ≡ w))

@@ -1,3 +1,4 @@
 pub mod LineLaws
+pub mod ListLines
 pub mod OneListing
 pub mod OneReport

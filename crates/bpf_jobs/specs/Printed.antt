@@ -1,5 +1,6 @@
 -- What is printed of jobs that are run in rounds. Our own choice.
 use Rattle.std.specs.Prelude.{◌≡◌, ℕ, zero, suc, ◌++◌, ◌||◌, Bool, true, false, List, [], Option, Some, None, codes, length, slice_get, slice_index_or}
+use Rattle.std.specs.Fmt.{decimal}
 use Rattle.hex.specs.Hex.{encode_lower}
 use Rattle.bpf_shared.specs.Shape.{Shape}
 use Rattle.bpf_shared.specs.Store.{Plain, as_made}
@@ -9,6 +10,7 @@ use Rattle.bpf_cpu.specs.declared.outcome.Outcome.{Outcome}
 use Rattle.bpf_cpu.specs.declared.outcome.Outcome.TheVariants as outcome
 use Rattle.bpf_cpu.specs.Lines.{job_line}
 use Rattle.bpf_cpu.specs.Task.{Task, ended, outcome_at}
+use Rattle.bpf_machine.specs.Listings.{first_lists, made_keys}
 use Rattle.bpf_machine.specs.Schedule.{World}
 use Rattle.bpf_machine.specs.Rounds.{RunsToEnd}
 
@@ -59,22 +61,67 @@ AreMapLines s names (suc m) text = (before : List ℕ) × (pairs : List Pair)
     × AreMapLines s names m before × IsListing s m pairs
     × (text ≡ before ++ key_lines (slice_index_or names m []) (length pairs) pairs)
 
+-- ---- lists of keys
+-- a blank and the key in lower case hex
+abbrev pub key_word : List ℕ → List ℕ
+key_word key = codes " " ++ encode_lower key
+
+-- of the first n keys
+abbrev pub key_words : ℕ → List (List ℕ) → List ℕ
+key_words zero keys = []
+key_words (suc n) keys = key_words n keys ++ key_word (slice_index_or keys n [])
+
+-- the line of the keys of a map that a CPU has listed
+abbrev pub list_line : ℕ → List ℕ → List (List ℕ) → List ℕ
+list_line cpu name keys =
+    codes "keys cpu " ++ decimal cpu ++ codes " " ++ name ++ key_words (length keys) keys
+    ++ codes "\n"
+
+-- a line a map, of the first n, which have these names
+abbrev pub cpu_lines : ℕ → List (List ℕ) → ℕ → List (List (List ℕ)) → List ℕ
+cpu_lines cpu names zero lists = []
+cpu_lines cpu names (suc m) lists =
+    cpu_lines cpu names m lists
+    ++ list_line cpu (slice_index_or names m []) (slice_index_or lists m [])
+
+-- of the first n CPUs, what each has listed
+abbrev pub list_lines : (ℕ → List (List (List ℕ))) → List (List ℕ) → ℕ → List ℕ
+list_lines lists names zero = []
+list_lines lists names (suc c) =
+    list_lines lists names c ++ cpu_lines c names (length (lists c)) (lists c)
+
 -- ---- a run
 -- a new store with these programs and jobs
 abbrev pub first_world : Shape → List Loaded → List Task → World
-first_world h programs jobs = record { store = as_made h; programs = programs; jobs = jobs }
+first_world h programs jobs =
+    record { store = as_made h; programs = programs; jobs = jobs; lists = first_lists false }
+
+-- the same, in which lists of keys are asked for or not
+abbrev pub asked_world : Bool → Shape → List Loaded → List Task → World
+asked_world keys h programs jobs =
+    record (first_world h programs jobs) { lists = first_lists keys }
 
 abbrev pub AreMapsAsked : Bool → Plain → List (List ℕ) → List ℕ → Type 0
 AreMapsAsked false s names text = text ≡ []
 AreMapsAsked true s names text = AreMapLines s names (length names) text
 
--- the text has the lines of the jobs, and then, where they are asked for, those of the maps; and
--- whether some job ended in a fault or out of budget
+-- the text has the lines of the jobs, then these of lists, and then, where they are asked for, those
+-- of the maps; and whether some job ended in a fault or out of budget
+abbrev pub TellsWith : List ℕ → Plain → List Task → List (List ℕ) → Bool → List ℕ → Bool → Type 0
+TellsWith lists s jobs names maps text stopped =
+    (lines : List ℕ) × AreMapsAsked maps s names lines
+    × (text ≡ job_lines (length jobs) jobs ++ (lists ++ lines))
+    × (stopped ≡ any_stopped (length jobs) jobs)
+
+-- without lists
 abbrev pub Tells : Plain → List Task → List (List ℕ) → Bool → List ℕ → Bool → Type 0
-Tells s jobs names maps text stopped = (lines : List ℕ) × AreMapsAsked maps s names lines
-    × (text ≡ job_lines (length jobs) jobs ++ lines) × (stopped ≡ any_stopped (length jobs) jobs)
+Tells s jobs names maps text stopped = TellsWith [] s jobs names maps text stopped
+
+-- what the CPUs of a machine have listed
+abbrev pub lines_of_lists : World → List (List ℕ) → List ℕ
+lines_of_lists z names = list_lines (λ c. made_keys (z.lists c)) names z.store.shape.cpus
 
 -- rounds lead to a last machine, of which this is told
 abbrev pub IsReport : World → List (List ℕ) → Bool → List ℕ → Bool → Type 0
-IsReport w names maps text stopped =
-    (z : World) × RunsToEnd w z × Tells z.store z.jobs names maps text stopped
+IsReport w names maps text stopped = (z : World) × RunsToEnd w z
+    × TellsWith (lines_of_lists z names) z.store z.jobs names maps text stopped

@@ -5,10 +5,12 @@
 pub mod laws;
 mod line;
 mod listing;
+mod lists;
 mod maps;
 mod rounds;
 
 pub use line::{OutcomeText, is_stop, push_job};
 pub use listing::has_any_stopped;
+pub use lists::push_lists;
 pub use maps::push_map;
-pub use rounds::{Report, make_machine, run_in_rounds};
+pub use rounds::{Report, make_machine, run_in_rounds, run_jobs};

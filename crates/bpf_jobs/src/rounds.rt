@@ -7,9 +7,11 @@ ghost use Rattle.bpf_shared.specs.Sound.{IsSoundStore};
 ghost use Rattle.bpf_plain.specs.PlainStore.{StandsFor};
 ghost use Rattle.bpf_cpu.specs.Task.{waiting};
 ghost use Rattle.bpf_machine.specs.Machine.{Shows};
-ghost use Rattle.bpf_jobs.specs.Printed.{first_world, AreMapsAsked, IsReport, Tells};
+ghost use Rattle.bpf_machine.specs.Schedule.{World};
+ghost use Rattle.bpf_jobs.specs.Printed.{asked_world, first_world, AreMapsAsked, IsReport, lines_of_lists, TellsWith};
 
 use crate::listing::{has_any_stopped, list_jobs};
+use crate::lists::list_keys;
 use crate::maps::list_maps;
 use bpf_cpu::Job;
 use bpf_loader::Program;
@@ -21,7 +23,7 @@ use std::alloc::{AllocError, Global};
 /// What jobs have come to.
 #[derive(Drop)]
 pub struct Report {
-    /// A line a job, and then those of the maps, where they were asked for.
+    /// A line a job, then those of lists of keys and those of the maps, where they were asked for.
     pub text: String,
     /// Whether some job ended in a fault or out of budget.
     pub stopped: bool,
@@ -41,12 +43,36 @@ pub fn make_machine(
     ensures { IfOk result (λ m. Shows m
         (first_world shape programs.items (map waiting jobs.items))) }
 {
+    make_asked(alloc, shape, programs, jobs, false)
+}
+
+/// The same, which is to list keys or not.
+fn make_asked(
+    alloc: Global,
+    shape: StoreShape,
+    programs: Vec<Program>,
+    jobs: Vec<Job>,
+    keys: bool,
+) -> Result<Machine, AllocError>
+    requires cpus { All (λ job. job.cpu < shape.cpus) jobs.items }
+    requires programs { All (λ job. job.program < vec_len programs) jobs.items }
+    requires contexts { All (λ job. vec_len job.context ≤ max_context) jobs.items }
+    ensures { IfOk result (λ m. Shows m
+        (asked_world keys shape programs.items (map waiting jobs.items))) }
+{
     let Ok(store) = PlainStore::new(alloc, shape) else {
         return Err(AllocError);
     };
-    match Machine::new(alloc, store, programs, jobs) {
-        Ok(machine) => Ok(machine),
-        Err(_) => Err(AllocError),
+    if keys {
+        match Machine::with_keys(alloc, store, programs, jobs) {
+            Ok(machine) => Ok(machine),
+            Err(_) => Err(AllocError),
+        }
+    } else {
+        match Machine::new(alloc, store, programs, jobs) {
+            Ok(machine) => Ok(machine),
+            Err(_) => Err(AllocError),
+        }
     }
 }
 
@@ -74,19 +100,45 @@ fn tell(
     names: &[String],
     maps: bool,
 ) -> Result<Report, AllocError>
-    ensures { IfOk result (λ r. (s : Plain) → IsSoundStore s → StandsFor machine.now.store s
-        → Tells s machine.now.jobs (map string_bytes names.now) maps
-        (string_bytes r.text) r.stopped) }
+    ensures { IfOk result (λ r. (w : World) → Shows machine.now w
+        → TellsWith (lines_of_lists w (map string_bytes names.now)) w.store w.jobs
+        (map string_bytes names.now) maps (string_bytes r.text) r.stopped) }
 {
     let mut text = list_jobs(alloc, machine)?;
+    let lists = list_keys(alloc, machine, names)?;
+    text.push_str(lists.as_str())?;
     let lines = asked_lines(alloc, machine.store(), names, maps)?;
     text.push_str(lines.as_str())?;
     let stopped = has_any_stopped(machine);
     Ok(Report { text, stopped })
 }
 
-/// Runs jobs in rounds, until each has ended, over a new store whose maps have these names. Want of
-/// memory is the only refusal; all that the machine needs is there before its first turn.
+/// Runs jobs in rounds, until each has ended, over a new store whose maps have these names. Where
+/// keys are asked for, each CPU lists those of all maps with the end of its last job. Want of memory
+/// is the only refusal; all that the machine needs is there before its first turn.
+pub fn run_jobs(
+    alloc: Global,
+    shape: StoreShape,
+    names: &[String],
+    programs: Vec<Program>,
+    jobs: Vec<Job>,
+    keys: bool,
+    maps: bool,
+) -> Result<Report, AllocError>
+    requires cpus { All (λ job. job.cpu < shape.cpus) jobs.items }
+    requires programs { All (λ job. job.program < vec_len programs) jobs.items }
+    requires contexts { All (λ job. vec_len job.context ≤ max_context) jobs.items }
+    ensures { IfOk result (λ r. IsReport
+        (asked_world keys shape programs.items (map waiting jobs.items))
+        (map string_bytes names.now) maps (string_bytes r.text) r.stopped) }
+{
+    let mut machine = make_asked(alloc, shape, programs, jobs, keys)?;
+    machine.rounds();
+    let report = tell(alloc, &machine, names, maps)?;
+    Ok(report)
+}
+
+/// The same without lists of keys.
 pub fn run_in_rounds(
     alloc: Global,
     shape: StoreShape,
@@ -101,8 +153,5 @@ pub fn run_in_rounds(
     ensures { IfOk result (λ r. IsReport (first_world shape programs.items (map waiting jobs.items))
         (map string_bytes names.now) maps (string_bytes r.text) r.stopped) }
 {
-    let mut machine = make_machine(alloc, shape, programs, jobs)?;
-    machine.rounds();
-    let report = tell(alloc, &machine, names, maps)?;
-    Ok(report)
+    run_jobs(alloc, shape, names, programs, jobs, false, maps)
 }
