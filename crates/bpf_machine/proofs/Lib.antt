@@ -20,3 +20,6 @@ pub mod CoverLaws
 pub mod RaceLaws
 pub mod PatientLaws
 pub mod PatientRaceLaws
+pub mod HostLaws
+pub mod StandLaws
+pub mod PartLaws

@@ -9,5 +9,6 @@ pub mod Headways
 pub mod Cover
 pub mod Race
 pub mod Patient
+pub mod Parts
 pub mod Laws
 pub mod Private

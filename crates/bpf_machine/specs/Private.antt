@@ -3,3 +3,4 @@ pub mod Lanes
 pub mod Turns
 pub mod Headways
 pub mod KeyLists
+pub mod Parts

@@ -4,6 +4,7 @@ mod ahead;
 mod lane;
 mod lengths;
 mod listing;
+mod parts;
 mod rounds;
 
 use bpf_cpu::{Cpu, Job, Outcome};
@@ -14,6 +15,7 @@ use lane::{
     Hand, Lane, Listed, Phase, count_cpus, first_job, list_jobs, make_lanes, make_room, put_down,
 };
 use listing::{KeyLists, make_asked};
+pub use parts::KeptJob;
 use std::alloc::Global;
 use std::marker::Model;
 use std::mem;
@@ -102,6 +104,7 @@ impl Machine {
     ghost use Rattle.bpf_machine.specs.Work.{BeginsJob, Proceeds, IsWork, IsNext, HasInHand, IsState};
     ghost use Rattle.bpf_machine.specs.Questions.{IsStanding, turns_left};
     ghost use Rattle.bpf_machine.specs.Rounds.{RunsRounds};
+    ghost use Rattle.bpf_machine.specs.Parts.{IsSameHost};
     ghost use Rattle.bpf_machine.specs.Private.Turns.{IsAlone};
 
     /// A machine whose jobs all wait. It makes all the room that they will ever need.
@@ -196,6 +199,7 @@ impl Machine {
         ensures turn { (w : World) → Shows self.old w
             → (z : World) × TakesTurn w cpu result z × Shows self.new z }
         ensures idle { result ≡ Turn.Idle → self.new ≡ self.old }
+        ensures same { IsSameHost self.old self.new }
     {
         match self.work(cpu) {
             Work::InHand(job) => self.proceed(cpu, job),
@@ -314,7 +318,8 @@ impl Machine {
     /// Begins a CPU's next job.
     fn begin(&mut self, cpu: u8, job: usize)
         requires { IsNext self.old.jobs cpu job }
-        ensures { BeginsJob self.old cpu job self.new }
+        ensures begins { BeginsJob self.old cpu job self.new }
+        ensures same { IsSameHost self.old self.new }
     {
         let lane = &mut self.lanes[cpu as usize];
         let listed = &mut self.jobs[job];
@@ -343,6 +348,7 @@ impl Machine {
         requires { HasInHand self.old.jobs cpu job }
         ensures proceeds { Proceeds self.old cpu job result self.new }
         ensures works { result ≢ Turn.Idle }
+        ensures same { IsSameHost self.old self.new }
     {
         let lane = &mut self.lanes[cpu as usize];
         let Some(hand) = &mut lane.hand else {

@@ -6,11 +6,13 @@ impl Machine {
     ghost use Rattle.std.specs.Prelude.{replicate};
     ghost use Rattle.bpf_machine.specs.Schedule.{World, RunsSchedule, unrolled};
     ghost use Rattle.bpf_machine.specs.Machine.{Shows};
+    ghost use Rattle.bpf_machine.specs.Parts.{IsSameHost};
 
     /// So many turns of a CPU.
     fn repeat(&mut self, cpu: u8, turns: u64)
-        ensures { (w : World) → Shows self.old w
+        ensures runs { (w : World) → Shows self.old w
             → (z : World) × RunsSchedule w (replicate turns cpu) z × Shows self.new z }
+        ensures same { IsSameHost self.old self.new }
     {
         for _ in 0..turns {
             self.turn(cpu);
@@ -20,8 +22,9 @@ impl Machine {
     /// The turns of a schedule that is told by CPUs, each with how many turns it takes before the
     /// next.
     pub fn turns_by(&mut self, runs: &[(u8, u64)])
-        ensures { (w : World) → Shows self.old w
+        ensures runs { (w : World) → Shows self.old w
             → (z : World) × RunsSchedule w (unrolled runs.now) z × Shows self.new z }
+        ensures same { IsSameHost self.old self.new }
     {
         for (cpu, turns) in runs {
             self.repeat(*cpu, *turns);

@@ -125,6 +125,7 @@ fn list_all(store: &mut PlainStore, cpu: u8, lists: &mut [KeyList])
 }
 
 impl Machine {
+    ghost use Rattle.bpf_machine.specs.Parts.{IsSameHost};
     ghost use Rattle.std.specs.Prelude.{◌≡◌, map, option_map, slice_get};
     ghost use Rattle.bpf_shared.specs.Store.{put};
     ghost use Rattle.bpf_machine.specs.Hands.{IsFree};
@@ -139,6 +140,7 @@ impl Machine {
         ensures lists { (w : World) → Shows self.old w → Shows self.new
             (record w { lists = put w.lists cpu (listed_now w.store (w.lists cpu)) }) }
         ensures jobs { self.new.jobs ≡ self.old.jobs }
+        ensures same { IsSameHost self.old self.new }
     {
         if !self.keys {
             return;
@@ -155,6 +157,7 @@ impl Machine {
         ensures lists { (w : World) → Shows self.old w
             → (z : World) × Lists w cpu z × Shows self.new z }
         ensures jobs { self.new.jobs ≡ self.old.jobs }
+        ensures same { IsSameHost self.old self.new }
     {
         match self.work(cpu) {
             Work::Nothing => self.make_list(cpu),

@@ -1,4 +1,4 @@
-use Rattle.std.proofs.Common.{Some, length, refl, sym, ap, subst, ◌∙◌, arith}
+use Rattle.std.proofs.Common.{ℕ, Bool, Some, length, refl, sym, ap, subst, ◌∙◌, arith}
 use Rattle.std.specs.Prelude.{slice_set}
 use Rattle.bpf_plain.specs.PlainStore.{shapes_of}
 use Rattle.std.proofs.lemmas.List.{length-set}
@@ -10,6 +10,8 @@ use Rattle.bpf_machine.specs.Private.Lanes.{tasks_of}
 use Rattle.bpf_machine.specs.Private.KeyLists.{listings}
 use Rattle.bpf_machine.proofs.KeyListLaws.{still_fit}
 use Rattle.bpf_machine.specs.Work.{BeginsJob}
+use Rattle.bpf_machine.specs.Parts.{IsSameHost}
+use Rattle.bpf_machine.proofs.HostLaws.{same_count}
 use Rattle.bpf_machine.proofs.OwnEvents.{call_leads}
 use Rattle.bpf_machine.proofs.BeginLaws.{next_job, lane_within, job_within, listed, program_within, short, serves, idle, waiting, begun_tasks, begun_board}
 use Rattle.bpf_machine.proofs.machine.Machine.begin.Goals as goal
@@ -85,8 +87,8 @@ invariant_of-self c =
       still_fit (shapes_of m.store) (shapes_of c.begin.new.self) m.jobs.items c.args.job e e' m.keys m.lists.items c.in-Ok.ensures.same.0 entry refl c.self.invariant.1,
     )
 
-pub returns : goal.returns
-returns c =
+pub returns-clause-begins : goal.returns-clause-begins
+returns-clause-begins c =
     let m = c.self.inside in
     let next = next_job _ _ c.args.cpu c.args.job c.self.view_is c.requires in
     let e = c.index_mut-listed.result.now in
@@ -105,3 +107,19 @@ returns c =
       call_leads m.store c.begin.new.self c.args.cpu Begin (serves m.store m.programs.items m.jobs.items m.lanes.items c.self.invariant.0 c.args.cpu c.args.job next) c.in-Ok.ensures.begun c.in-Ok.ensures.same.1,
       refl,
     )
+
+pub returns-clause-same : goal.returns-clause-same
+returns-clause-same c =
+    let m = c.self.inside in
+    let e = c.index_mut-listed.result.now in
+    let hand : Hand = record { job = c.args.job; cpu = c.new-start.result; left = e.budget } in
+    let lanes = slice_set m.lanes.items c.args.cpu (record { hand = Some hand; next = c.first_job-lane.result }) in
+    let jobs = slice_set m.jobs.items c.args.job (record { cpu = e.cpu; program = e.program; budget = e.budget; phase = c.replace.new.dest }) in
+    let new : MachineState = record { store = c.begin.new.self; programs = m.programs.items; jobs = tasks_of lanes jobs; lists = listings m.keys m.lists.items } in
+    let H : MachineState → Type 0 = λ s. IsSameHost s new in
+    subst H c.self.view_is (record {
+      programs = refl;
+      jobs = same_count m.lanes.items lanes m.jobs.items c.args.job (record { cpu = e.cpu; program = e.program; budget = e.budget; phase = c.replace.new.dest });
+      shape = (λ n. ap (λ (f : ℕ → Bool). f n) c.in-Ok.ensures.same.1, c.in-Ok.ensures.same.0);
+      lists = λ none. none;
+    })

@@ -1,5 +1,5 @@
-use Rattle.std.proofs.Common.{◌≡◌, true, length, sym, ap, subst, ◌∙◌, refl, vec_len, arith, rules}
-use Rattle.std.specs.Prelude.{map}
+use Rattle.std.proofs.Common.{◌≡◌, ℕ, Bool, true, length, sym, ap, subst, ◌∙◌, refl, vec_len, arith, rules}
+use Rattle.std.specs.Prelude.{map, slice_set}
 use Rattle.std.specs.Vec.{with_items}
 use Rattle.std.proofs.lemmas.List.{length-map}
 use Rattle.bpf_base.proofs.Lists.{filled}
@@ -7,7 +7,11 @@ use Rattle.bpf_shared.specs.declared.shapes.MapShape.{MapShape}
 use Rattle.bpf_shared.specs.KeyOrder.{Listed}
 use Rattle.bpf_plain.specs.PlainStore.{shapes_of}
 use Rattle.bpf_machine.specs.declared.machine.listing.KeyLists.{KeyLists}
-use Rattle.bpf_machine.specs.Private.KeyLists.{AreListsOf}
+use Rattle.bpf_machine.specs.Machine.{MachineState}
+use Rattle.bpf_machine.specs.Parts.{IsSameHost}
+use Rattle.bpf_machine.specs.Private.Lanes.{tasks_of}
+use Rattle.bpf_machine.specs.Private.KeyLists.{AreListsOf, listings}
+use Rattle.bpf_machine.proofs.HostLaws.{some_lists}
 use Rattle.bpf_machine.proofs.ListingLaws.{has_job, serves, lists_within, are_lists, still_fit, shows_listed, same_board}
 use Rattle.bpf_machine.proofs.machine.Machine.make_list.Goals as goal
 
@@ -60,3 +64,18 @@ returns-clause-lists c =
     let items : l'.maps.items ≡ new = filled (vec_len l.maps) new l.maps.items long in
     shows_listed m.store m.programs.items m.jobs.items m.lanes.items c.self.invariant.0 c.args.cpu has m.keys m.lists.items asked c.self.invariant.1 l c.index_mut-lists.ensures.value l' refl c.list_all.new.store c.list_all.ensures.shapes (subst (AreListsOf (shapes_of m.store)) (sym items) c.list_all.ensures.lists)
     (λ s sound stands. (let told = c.list_all.ensures.keys s sound stands in (told.0, ap (map (λ (x : Listed). x.keys)) items ∙ told.1))) c.args.self.now c.self.view_is
+
+pub returns-clause-same : goal.returns-clause-same
+returns-clause-same c =
+    let m = c.self.inside in
+    let asked : m.keys ≡ true = search rules in
+    let l = c.index_mut-lists.result.now in
+    let l' : KeyLists = record { maps = with_items l.maps c.list_all.new.lists; made = true } in
+    let new : MachineState = record { store = c.list_all.new.store; programs = m.programs.items; jobs = tasks_of m.lanes.items m.jobs.items; lists = listings m.keys (slice_set m.lists.items c.args.cpu l') } in
+    let H : MachineState → Type 0 = λ s. IsSameHost s new in
+    subst H c.self.view_is (record {
+      programs = refl;
+      jobs = refl;
+      shape = (λ n. ap (λ (f : ℕ → Bool). f n) c.list_all.ensures.same.0, c.list_all.ensures.shapes);
+      lists = λ none. some_lists m.keys m.lists.items asked none;
+    })

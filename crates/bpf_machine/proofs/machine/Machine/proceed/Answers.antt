@@ -14,6 +14,8 @@ use Rattle.bpf_machine.specs.Private.Lanes.{tasks_of}
 use Rattle.bpf_machine.specs.Private.KeyLists.{listings}
 use Rattle.bpf_machine.proofs.KeyListLaws.{still_fit}
 use Rattle.bpf_machine.specs.Work.{Proceeds}
+use Rattle.bpf_machine.specs.Parts.{IsSameHost}
+use Rattle.bpf_machine.proofs.HostLaws.{same_count, same_host_still}
 use Rattle.bpf_cpu.proofs.HeldLaws.{others_without}
 use Rattle.bpf_machine.proofs.OwnEvents.{call_leads}
 use Rattle.bpf_machine.proofs.ProceedLaws.{job_in_hand, lane_within, job_within, serves, running, never_empty, number, program_within, listed, held_now, ready, kept_board, ended_board, ended_job, ended_free, proceeds_kept, proceeds_ended}
@@ -137,3 +139,35 @@ returns-in-Some-advance-clause-proceeds c =
     let Q : MachineState → Type 0 = λ s. Proceeds s c.args.cpu c.args.job (turn.Ended c.args.job c.in-Some-advance.outcome) last in
     subst Q c.self.view_is (λ task state left at w shows.
     proceeds_ended m.store m.programs.items m.jobs.items m.lanes.items c.self.invariant.0 c.args.cpu c.args.job (task, state, left, at) _ c.index_mut-lane.ensures.value _ c.in-Some.is _ c.index_mut-listed.ensures.value _ c.index.ensures c.in-Some-advance.outcome _ c.put_down.ensures lists c.advance.new.store c.end.new.self last c.advance.new.self.cpu c.advance.new.self.left c.in-Some-advance.ensures.advance ends c.list_at_end.ensures.lists w shows)
+
+pub returns-in-None-clause-same : goal.returns-in-None-clause-same
+returns-in-None-clause-same c =
+    let m = c.self.inside in
+    let l = c.index_mut-lane.result.now in
+    let e = c.index_mut-listed.result.now in
+    let lanes = slice_set m.lanes.items c.args.cpu (record { hand = Some c.advance.new.self; next = l.next }) in
+    let new : MachineState = record { store = c.advance.new.store; programs = m.programs.items; jobs = tasks_of lanes (slice_set m.jobs.items c.args.job e); lists = listings m.keys m.lists.items } in
+    let H : MachineState → Type 0 = λ s. IsSameHost s new in
+    subst H c.self.view_is (record {
+      programs = refl;
+      jobs = same_count m.lanes.items lanes m.jobs.items c.args.job e;
+      shape = (λ n. ap (λ (f : ℕ → Bool). f n) c.advance.ensures.serves, c.advance.ensures.keeps.shape);
+      lists = λ none. none;
+    })
+
+pub returns-in-Some-advance-clause-same : goal.returns-in-Some-advance-clause-same
+returns-in-Some-advance-clause-same c =
+    let m = c.self.inside in
+    let e = c.index_mut-listed.result.now in
+    let end : Listed = record { cpu = e.cpu; program = e.program; budget = e.budget; phase = Ended c.in-Some-advance.outcome } in
+    let lanes = slice_set m.lanes.items c.args.cpu c.put_down.new.lane in
+    let mid : MachineState = record { store = c.end.new.self; programs = m.programs.items; jobs = tasks_of lanes (slice_set m.jobs.items c.args.job end); lists = listings m.keys m.lists.items } in
+    let H : MachineState → Type 0 = λ s. IsSameHost s mid in
+    same_host_still c.args.self.now mid c.list_at_end.new.self
+    (subst H c.self.view_is (record {
+      programs = refl;
+      jobs = same_count m.lanes.items lanes m.jobs.items c.args.job end;
+      shape = (λ n. ap (λ (f : ℕ → Bool). f n) (c.end.ensures.same.1 ∙ c.advance.ensures.serves), c.end.ensures.same.0 ∙ c.advance.ensures.keeps.shape);
+      lists = λ none. none;
+    }))
+    c.list_at_end.ensures.same

@@ -1,0 +1,76 @@
+-- A machine's lists, as they are made again of kept jobs.
+use Rattle.std.specs.Prelude.{◌≡◌, ℕ, ◌<◌, ◌≤◌, Bool, true, false, List, Option, Some, None, length, slice_index_or}
+use Rattle.bpf_machine.specs.declared.machine.lane.Listed.{Listed}
+use Rattle.bpf_machine.specs.declared.machine.lane.Phase.{Phase}
+use Rattle.bpf_machine.specs.declared.machine.lane.Phase.TheVariants as phase
+use Rattle.bpf_machine.specs.declared.machine.lane.Hand.{Hand}
+use Rattle.bpf_machine.specs.declared.machine.lane.Lane.{Lane}
+use Rattle.bpf_machine.specs.declared.machine.parts.KeptStage.{KeptStage}
+use Rattle.bpf_machine.specs.declared.machine.parts.KeptStage.TheVariants as kept
+use Rattle.bpf_cpu.specs.Task.{Stage, Task, Waiting, InHand, Ended}
+use Rattle.bpf_machine.specs.Parts.{chosen_at}
+use Rattle.bpf_machine.specs.Private.Lanes.{stage_of}
+
+abbrev pub kept_stage : KeptStage → Stage
+kept_stage (kept.Waiting context) = Waiting context.items
+kept_stage (kept.InHand state left) = InHand state left
+kept_stage (kept.Ended outcome) = Ended outcome
+
+abbrev pub in_hand : Stage → Bool
+in_hand (Waiting context) = false
+in_hand (InHand state left) = true
+in_hand (Ended outcome) = false
+
+abbrev pub waits : Stage → Bool
+waits (Waiting context) = true
+waits (InHand state left) = false
+waits (Ended outcome) = false
+
+-- the task is that of a job on the CPU of this lane
+pub record IsReadAs (l : Lane) (x : Listed) (task : Task) : Type 0 where
+  pub cpu : x.cpu ≡ task.cpu
+  pub program : x.program ≡ task.program
+  pub budget : x.budget ≡ task.budget
+  pub stage : task.stage ≡ stage_of l.hand x.phase
+
+-- ---- entries
+abbrev pub no_entry : Listed
+no_entry = record { cpu = 0; program = 0; budget = 0; phase = phase.InHand }
+
+abbrev pub entry_at : List Listed → ℕ → Listed
+entry_at jobs k = slice_index_or jobs k no_entry
+
+abbrev pub IsPhaseOf : Stage → Phase → Type 0
+IsPhaseOf (Waiting context) (phase.Waiting v) = v.items ≡ context
+IsPhaseOf (InHand state left) phase.InHand = Unit {0}
+IsPhaseOf (Ended outcome) (phase.Ended end) = end ≡ outcome
+IsPhaseOf _ _ = ⊥
+
+pub record IsEntryOf (task : Task) (x : Listed) : Type 0 where
+  pub cpu : x.cpu ≡ task.cpu
+  pub program : x.program ≡ task.program
+  pub budget : x.budget ≡ task.budget
+  pub phase : IsPhaseOf task.stage x.phase
+
+-- ---- lanes
+-- the hand that a job in this stage has
+abbrev pub IsHandOf : Stage → ℕ → Option Hand → Type 0
+IsHandOf (Waiting context) j o = o ≡ None
+IsHandOf (InHand state left) j o = o ≡ Some (record { job = j; cpu = state; left = left })
+IsHandOf (Ended outcome) j o = o ≡ None
+
+-- the CPU's first job that waits, or the number of all jobs
+pub record IsFirstWaiting (parts : List Task) (numbers : List ℕ) (c n : ℕ) : Type 0 where
+  pub within : n ≤ length numbers
+  pub none : (k : ℕ) → k < n → (chosen_at parts numbers k).cpu ≡ c
+      → waits (chosen_at parts numbers k).stage ≡ false
+  pub found : n < length numbers → ((chosen_at parts numbers n).cpu ≡ c)
+      × (waits (chosen_at parts numbers n).stage ≡ true)
+
+pub record IsLaneOf (parts : List Task) (numbers : List ℕ) (c : ℕ) (l : Lane) : Type 0 where
+  pub hand : (h : Hand) → l.hand ≡ Some h → (h.job < length numbers)
+      × ((chosen_at parts numbers h.job).cpu ≡ c)
+      × ((chosen_at parts numbers h.job).stage ≡ InHand h.cpu h.left)
+  pub free : l.hand ≡ None → (k : ℕ) → k < length numbers → (chosen_at parts numbers k).cpu ≡ c
+      → in_hand (chosen_at parts numbers k).stage ≡ false
+  pub next : IsFirstWaiting parts numbers c l.next
