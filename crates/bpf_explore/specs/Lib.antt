@@ -3,3 +3,4 @@ pub mod Search
 pub mod Laws
 pub mod Patient
 pub mod Tuples
+pub mod Stores

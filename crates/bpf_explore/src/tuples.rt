@@ -1,7 +1,7 @@
 //! Tuples of numbers under numbers: what is kept once is found again.
 
-ghost use Rattle.std.specs.Prelude.{◌≡◌, ◌+◌, ◌*◌, ◌≤◌, [], true, IfOk, IfSome, OnErr, length};
-ghost use Rattle.bpf_explore.specs.Tuples.{TupleList, IsTuple, HasTuples, ExtendsTuples};
+ghost use Rattle.std.specs.Prelude.{◌≡◌, ◌<◌, ◌≤◌, ◌⊎◌, [], true, IfOk, IfSome, OnErr, length};
+ghost use Rattle.bpf_explore.specs.Tuples.{TupleList, IsTuple, AreWhole, with_tuple};
 
 use crate::slots::{place_of, put, room_for};
 use bpf_base::spread;
@@ -22,14 +22,14 @@ pub struct Tuples {
 }
 
 impl Model for Tuples {
-    ghost use Rattle.bpf_explore.specs.Tuples.{TupleList, HasTuples};
+    ghost use Rattle.bpf_explore.specs.Tuples.{TupleList, AreWhole};
 
     ghost Value = { TupleList };
 
-    ghost view = { λ t. record { width = t.width; numbers = t.numbers.items } };
+    ghost view = { λ t. record { width = t.width; count = t.count; numbers = t.numbers.items } };
 
     ghost invariant = { λ t.
-        HasTuples (record { width = t.width; numbers = t.numbers.items }) t.count };
+        AreWhole (record { width = t.width; count = t.count; numbers = t.numbers.items }) };
 }
 
 /// Where a tuple is looked for first.
@@ -43,8 +43,7 @@ impl Tuples {
     /// Nothing is kept.
     pub fn new(alloc: Global, width: usize) -> Tuples
         requires { 1 ≤ width }
-        ensures width { result.width ≡ width }
-        ensures numbers { result.numbers ≡ [] }
+        ensures { result ≡ record { width = width; count = 0; numbers = [] } }
     {
         Tuples {
             width,
@@ -56,15 +55,18 @@ impl Tuples {
 
     /// How many tuples are kept.
     pub fn count(&self) -> usize
-        ensures { HasTuples self.now result }
+        ensures count { result ≡ self.now.count }
+        ensures whole { AreWhole self.now }
     {
         self.count
     }
 
     /// The tuple of a number.
     pub fn tuple(&self, number: usize) -> &[u32]
-        requires { number * self.now.width + self.now.width ≤ length self.now.numbers }
-        ensures { IsTuple self.now number result.now }
+        requires { number < self.now.count }
+        ensures tuple { IsTuple self.now number result.now }
+        ensures width { length result.now ≡ self.now.width }
+        ensures some { 1 ≤ self.now.width }
     {
         let first = number * self.width;
         &self.numbers[first..first + self.width]
@@ -112,7 +114,7 @@ impl Tuples {
     pub fn keep(&mut self, alloc: Global, tuple: &[u32]) -> Result<usize, AllocError>
         requires { length tuple.now ≡ self.old.width }
         ensures found { IfOk result (λ n. IsTuple self.new n tuple.now) }
-        ensures extends { ExtendsTuples self.old self.new }
+        ensures adds { (self.new ≡ self.old) ⊎ (self.new ≡ with_tuple self.old tuple.now) }
         ensures err { OnErr result (self.new ≡ self.old) }
     {
         let hash = hash_of(tuple);
