@@ -1,5 +1,6 @@
 pub mod CommandLaws
 pub mod GoLaws
+pub mod ManyTurns
 pub mod SessionLaws
 pub mod ReadLaws
 pub mod ScriptLaws

@@ -1,5 +1,5 @@
 -- Over a machine whose jobs all wait, a script has one list of answers.
-use Rattle.std.proofs.Common.{◌≡◌, ◌≢◌, ℕ, ◌+◌, ◌<◌, ◌≤◌, true, false, List, [], ◌∷◌, ◌++◌, Some, None, ◌⊎◌, inl, inr, refl, sym, ap, subst, ◌∙◌, arith}
+use Rattle.std.proofs.Common.{◌≡◌, ◌≢◌, ℕ, zero, suc, ◌+◌, ◌<◌, ◌≤◌, true, false, List, [], ◌∷◌, ◌++◌, Some, None, ◌⊎◌, inl, inr, refl, sym, ap, subst, ◌∙◌, arith}
 use Rattle.std.specs.Prelude.{nat_lt, Ok, Err}
 use Rattle.std.proofs.lemmas.Bool.{cases_order, lt-ltb}
 use Rattle.bpf_shared.specs.Laws.{CallsHaveOneReply}
@@ -15,14 +15,15 @@ use Rattle.bpf_debug.specs.declared.breakpoint.Breakpoint.{Breakpoint}
 use Rattle.bpf_debug.specs.declared.error.DebugError.{DebugError}
 use Rattle.bpf_debug.specs.declared.error.DebugError.TheVariants as error
 use Rattle.bpf_debug.specs.Answer.{IsWhere, ended_text, stop_line}
-use Rattle.bpf_debug.specs.Command.{Order, Break, Step, Go, Registers, Where, Memory, Map, order_of}
+use Rattle.bpf_debug.specs.Command.{Order, Break, Delete, Step, StepTimes, Go, Registers, Where, Memory, Map, Keys, order_of}
+use Rattle.bpf_debug.specs.Turns.{MakesTurns}
 use Rattle.bpf_debug.specs.Go.{HasWork, AreIdle, IsUp, StandsAt, Goes, Done, Stops, Turns, has_break, has_gone}
-use Rattle.bpf_debug.specs.Read.{IsMapText}
+use Rattle.bpf_debug.specs.Read.{IsMapText, IsKeysText}
 use Rattle.bpf_debug.specs.Session.{Scene, CarriesOut, Obeys, RefusesOrder, RefusesFields, IsLineRefused}
 use Rattle.bpf_debug.specs.Script.{Answer, AnswersLine, RunsScript}
 use Rattle.bpf_debug.specs.Laws.{HadMemory, ScriptsAreDetermined}
 use Rattle.bpf_debug.proofs.GoLaws.{free_has_no_work}
-use Rattle.bpf_debug.proofs.OneText.{one_place, one_where, one_registers, one_memory, one_name, one_map}
+use Rattle.bpf_debug.proofs.OneText.{one_place, one_where, one_registers, one_memory, one_name, one_map, one_keys}
 
 -- ---- who is up
 idle_not_up : (jobs : List Task) (a b c : ℕ) → AreIdle jobs a b → HasWork jobs c → a ≤ c → c < b → ⊥
@@ -57,6 +58,8 @@ cpu_refused x y (Break (Some c) None) text turns f r = absurd f
 cpu_refused x y (Break None p) text turns f r = absurd f
 cpu_refused x y (Step (Some c)) text turns f r = no_cpu c x.world.store.shape.cpus f.0 r
 cpu_refused x y (Step None) text turns f r = absurd f
+cpu_refused x y (StepTimes (Some c) n) text turns f r = no_cpu c x.world.store.shape.cpus f.0 r
+cpu_refused x y (StepTimes None n) text turns f r = absurd f
 cpu_refused x y Go text turns f r = r
 cpu_refused x y (Registers (Some c)) text turns f r = no_cpu c x.world.store.shape.cpus f.0 r
 cpu_refused x y (Registers None) text turns f r = absurd f
@@ -65,22 +68,34 @@ cpu_refused x y (Where None) text turns f r = absurd f
 cpu_refused x y (Memory (Some c) at n) text turns f r = no_cpu c x.world.store.shape.cpus f.0 r
 cpu_refused x y (Memory None at n) text turns f r = absurd f
 cpu_refused x y (Map name) text turns f r = r
+cpu_refused x y (Keys name) text turns f r = r
+cpu_refused x y (Delete (Some c) (Some p)) text turns f r = no_cpu c x.world.store.shape.cpus f.0 r
+cpu_refused x y (Delete (Some c) None) text turns f r = absurd f
+cpu_refused x y (Delete None p) text turns f r = absurd f
 
 pc_refused : (x y : Scene) (order : Order) (text turns : List ℕ) → CarriesOut x order text turns y → RefusesOrder x.world.store.shape.cpus x.world.programs x.names order error.NoPc → ⊥
 pc_refused x y (Break (Some c) (Some p)) text turns f r = r.1 f.1.0
 pc_refused x y (Break (Some c) None) text turns f r = absurd f
 pc_refused x y (Break None p) text turns f r = absurd f
 pc_refused x y (Step c) text turns f r = absurd r
+pc_refused x y (StepTimes c n) text turns f r = absurd r
 pc_refused x y Go text turns f r = absurd r
 pc_refused x y (Registers c) text turns f r = absurd r
 pc_refused x y (Where c) text turns f r = absurd r
 pc_refused x y (Memory c at n) text turns f r = absurd r
 pc_refused x y (Map name) text turns f r = absurd r
+pc_refused x y (Keys name) text turns f r = absurd r
+pc_refused x y (Delete (Some c) (Some p)) text turns f r = r.1 f.1.0
+pc_refused x y (Delete (Some c) None) text turns f r = absurd f
+pc_refused x y (Delete None p) text turns f r = absurd f
 
 map_refused : (x y : Scene) (order : Order) (text turns : List ℕ) → CarriesOut x order text turns y → RefusesOrder x.world.store.shape.cpus x.world.programs x.names order error.NoMap → ⊥
 map_refused x y (Map name) text turns f r = r f.0 f.1.0
+map_refused x y (Keys name) text turns f r = r f.0 f.1.0
 map_refused x y (Break c p) text turns f r = absurd r
+map_refused x y (Delete c p) text turns f r = absurd r
 map_refused x y (Step c) text turns f r = absurd r
+map_refused x y (StepTimes c n) text turns f r = absurd r
 map_refused x y Go text turns f r = absurd r
 map_refused x y (Registers c) text turns f r = absurd r
 map_refused x y (Where c) text turns f r = absurd r
@@ -113,28 +128,37 @@ module _ (cpus : ℕ) (programs : List Loaded) (names : List (List ℕ)) where
   cpu_or_pc (Break c p) a b = b.0 a
   cpu_or_pc (Step c) a b = absurd b
   cpu_or_pc Go a b = absurd b
+  cpu_or_pc (StepTimes c n) a b = absurd b
   cpu_or_pc (Registers c) a b = absurd b
   cpu_or_pc (Where c) a b = absurd b
   cpu_or_pc (Memory c at n) a b = absurd b
   cpu_or_pc (Map name) a b = absurd b
+  cpu_or_pc (Keys name) a b = absurd b
+  cpu_or_pc (Delete c p) a b = b.0 a
 
   cpu_or_map : (order : Order) → RefusesOrder cpus programs names order error.NoCpu → RefusesOrder cpus programs names order error.NoMap → ⊥
   cpu_or_map (Break c p) a b = absurd b
   cpu_or_map (Step c) a b = absurd b
   cpu_or_map Go a b = absurd b
+  cpu_or_map (StepTimes c n) a b = absurd b
   cpu_or_map (Registers c) a b = absurd b
   cpu_or_map (Where c) a b = absurd b
   cpu_or_map (Memory c at n) a b = absurd b
   cpu_or_map (Map name) a b = absurd a
+  cpu_or_map (Keys name) a b = absurd a
+  cpu_or_map (Delete c p) a b = absurd b
 
   pc_or_map : (order : Order) → RefusesOrder cpus programs names order error.NoPc → RefusesOrder cpus programs names order error.NoMap → ⊥
   pc_or_map (Break c p) a b = absurd b
   pc_or_map (Step c) a b = absurd b
   pc_or_map Go a b = absurd b
+  pc_or_map (StepTimes c n) a b = absurd b
   pc_or_map (Registers c) a b = absurd b
   pc_or_map (Where c) a b = absurd b
   pc_or_map (Memory c at n) a b = absurd b
   pc_or_map (Map name) a b = absurd a
+  pc_or_map (Keys name) a b = absurd a
+  pc_or_map (Delete c p) a b = absurd b
 
   module _ (fields : List (List ℕ)) where
     abbrev Why : DebugError → Type 0
@@ -220,6 +244,19 @@ module _ (law : WritesAreDetermined) (begins : OneInstructionBegins) (replies : 
         world = go.world;
       }
 
+  one_turns : (w : World) (c n : ℕ) (text other : List ℕ) (y z : World) → IsWorld w → MakesTurns w c n text y → MakesTurns w c n other z → OneGo text other y z
+  one_turns w c zero text other y z world a b =
+      record { texts = a.0 ∙ sym b.0; worlds = a.1 ∙ sym b.1; world = subst (λ (v : World). IsWorld v) (sym a.1) world }
+  one_turns w c (suc n) text other y z world a b =
+      let so_far = one_turns w c n a.1 b.1 a.0 b.0 world a.3 b.3 in
+      let P : World → Type 0 = λ v. TakesTurn v c b.2 z in
+      let one = one_turn law begins replies a.0 c a.2 b.2 y z so_far.world a.4 (subst P (sym so_far.worlds) b.4) in
+      record {
+        texts = a.5 ∙ ap (λ (t : List ℕ). t ++ ended_text c a.2) so_far.texts ∙ ap (λ (t : Turn). b.1 ++ ended_text c t) one.answers ∙ sym b.5;
+        worlds = one.worlds;
+        world = one.world;
+      }
+
   -- ---- a command, and a line
   record OneEnd (text other : List ℕ) (y z : Scene) : Type 0 where
     texts : text ≡ other
@@ -236,6 +273,13 @@ module _ (law : WritesAreDetermined) (begins : OneInstructionBegins) (replies : 
     scenes = a.1.3 ∙ sym b.1.3;
     world = subst (λ (s : Scene). IsWorld s.world) (sym a.1.3) world;
   }
+  one_follow x y z (Delete (Some c) (Some p)) text other turns others world a b = record {
+    texts = a.1.1 ∙ sym b.1.1;
+    scenes = a.1.3 ∙ sym b.1.3;
+    world = subst (λ (s : Scene). IsWorld s.world) (sym a.1.3) world;
+  }
+  one_follow x y z (Delete (Some c) None) text other turns others world a b = absurd a
+  one_follow x y z (Delete None p) text other turns others world a b = absurd a
   one_follow x y z (Break (Some c) None) text other turns others world a b = absurd a
   one_follow x y z (Break None p) text other turns others world a b = absurd a
   one_follow x y z (Step (Some c)) text other turns others world (has, a) (had, b) =
@@ -247,6 +291,16 @@ module _ (law : WritesAreDetermined) (begins : OneInstructionBegins) (replies : 
         scenes = a.7 ∙ ap (λ (w : World). record x { world = w }) one.worlds ∙ sym b.7;
         world = subst (λ (s : Scene). IsWorld s.world) (sym a.7) one.world;
       }
+  one_follow x y z (StepTimes (Some c) n) text other turns others world (has, a) (had, b) =
+      let one = one_turns x.world c n a.1 b.1 a.0 b.0 world a.3 b.3 in
+      let P : World → Type 0 = λ w. IsWhere w.jobs c b.2 in
+      let place = one_where a.0 one.world c a.2 b.2 a.4 (subst P (sym one.worlds) b.4) in
+      record {
+        texts = a.5 ∙ ap (λ (t : List ℕ). t ++ a.2) one.texts ∙ ap (λ (t : List ℕ). b.1 ++ t) place ∙ sym b.5;
+        scenes = a.7 ∙ ap (λ (w : World). record x { world = w }) one.worlds ∙ sym b.7;
+        world = subst (λ (s : Scene). IsWorld s.world) (sym a.7) one.world;
+      }
+  one_follow x y z (StepTimes None n) text other turns others world a b = absurd a
   one_follow x y z (Step None) text other turns others world a b = absurd a
   one_follow x y z Go text other turns others world a b =
       let one = one_go x.breaks x.world 0 [] turns others text other a.0 b.0 world a.1 b.1 in
@@ -265,6 +319,10 @@ module _ (law : WritesAreDetermined) (begins : OneInstructionBegins) (replies : 
       let same = one_name x.names name a.0 b.0 a.1 b.1 in
       let P : ℕ → Type 0 = λ m. IsMapText x.world.store m other in
       asked x y z text other turns others world (one_map x.world.store a.0 text other a.2 (subst P (sym same) b.2)) a.3 b.3
+  one_follow x y z (Keys name) text other turns others world a b =
+      let same = one_name x.names name a.0 b.0 a.1 b.1 in
+      let P : ℕ → Type 0 = λ m. IsKeysText x.world.store m other in
+      asked x y z text other turns others world (one_keys x.world.store a.0 text other a.2 (subst P (sym same) b.2)) a.3 b.3
 
   one_line : (x y z : Scene) (fields : List (List ℕ)) (text other turns others : List ℕ) → IsWorld x.world → Obeys x fields text turns y → Obeys x fields other others z → OneEnd text other y z
   one_line x y z [] text other turns others world a b = asked x y z text other turns others world (a.0 ∙ sym b.0) a.1 b.1

@@ -15,7 +15,7 @@ use Rattle.bpf_machine.proofs.DeterminedTurns.{IsWorld}
 use Rattle.bpf_machine.specs.Schedule.{World}
 use Rattle.bpf_debug.specs.Answer.{IsWhere, IsOff, IsRegisters, in_hand_line, waiting_line, register_lines}
 use Rattle.bpf_debug.specs.Go.{StandsAt}
-use Rattle.bpf_debug.specs.Read.{MayRead, MayNotRead, AreBytesAt, IsUnreadable, ShowsBytes, IsMemoryText, IsNamed, IsMapText, pair_lines}
+use Rattle.bpf_debug.specs.Read.{MayRead, MayNotRead, AreBytesAt, IsUnreadable, ShowsBytes, IsMemoryText, IsNamed, IsMapText, IsKeysText, pair_lines, key_lines}
 
 -- ---- where a CPU stands
 
@@ -126,3 +126,6 @@ one_name names name m n a b = elim (cases_order m n) [
 
 pub one_map : (s : Plain) (m : ℕ) (text other : List ℕ) → IsMapText s m text → IsMapText s m other → text ≡ other
 one_map s m text other a b = a.2 ∙ ap (λ (pairs : List Pair). pair_lines (length pairs) pairs) (one_listing s m a.0 b.0 a.1 b.1) ∙ sym b.2
+
+pub one_keys : (s : Plain) (m : ℕ) (text other : List ℕ) → IsKeysText s m text → IsKeysText s m other → text ≡ other
+one_keys s m text other a b = a.2 ∙ ap (λ (pairs : List Pair). key_lines (length pairs) pairs) (one_listing s m a.0 b.0 a.1 b.1) ∙ sym b.2

@@ -11,7 +11,7 @@ use Rattle.bpf_mem.specs.Memory.{byte_at, bytes_at}
 use Rattle.bpf_plain.specs.PlainStore.{Contents}
 use Rattle.bpf_shared.specs.Listing.{Pair, pair_of}
 use Rattle.bpf_cpu.specs.declared.cpu.Cpu.{Cpu}
-use Rattle.bpf_debug.specs.Read.{pair_line, pair_lines, ReadsByte}
+use Rattle.bpf_debug.specs.Read.{key_line, key_lines, pair_line, pair_lines, ReadsByte}
 
 -- ---- one byte
 alone : (o : Option ℕ) → option_and_then (λ (b : ℕ). option_map (λ (bs : List ℕ). b ∷ bs) (Some [])) o ≡ option_map (λ (b : ℕ). b ∷ []) o
@@ -54,6 +54,14 @@ one_pair_more text new pairs i x inside e so_far more =
     let next : suc i ≡ i + 1 = omega arith in
     subst (λ (n : ℕ). new ≡ pair_lines n (map pair_of pairs)) next
     (more ∙ ap (λ (t : List ℕ). t ++ pair_line (x.0.items, x.1.items)) so_far ∙ ap (λ (p : Pair). pair_lines i (map pair_of pairs) ++ pair_line p) (sym pair))
+
+pub one_key_more : (text new : List ℕ) (pairs : List (Vec ℕ Global × Vec ℕ Global)) (i : ℕ) (x : Vec ℕ Global × Vec ℕ Global) → i < length pairs → x ≡ get_or pairs i x
+    → text ≡ key_lines i (map pair_of pairs) → new ≡ text ++ key_line (x.0.items, x.1.items) → new ≡ key_lines (i + 1) (map pair_of pairs)
+one_key_more text new pairs i x inside e so_far more =
+    let pair : get_or (map pair_of pairs) i ([], []) ≡ pair_of x = get_or-map pair_of pairs i x ([], []) inside ∙ ap pair_of (sym e) in
+    let next : suc i ≡ i + 1 = omega arith in
+    subst (λ (n : ℕ). new ≡ key_lines n (map pair_of pairs)) next
+    (more ∙ ap (λ (t : List ℕ). t ++ key_line (x.0.items, x.1.items)) so_far ∙ ap (λ (p : Pair). key_lines i (map pair_of pairs) ++ key_line p) (sym pair))
 
 -- ---- names
 pub name_there : (names : List (String Global)) (own : String Global) (m : ℕ) → m < length names → own ≡ get_or names m own → slice_get (map (λ n. string_bytes n) names) m ≡ Some (string_bytes own)

@@ -1,5 +1,5 @@
 -- What a session's commands do, from what its functions ensure.
-use Rattle.std.proofs.Common.{◌≡◌, ℕ, ◌+◌, ◌*◌, ◌<◌, ◌≤◌, Bool, true, false, List, [], ◌∷◌, ◌++◌, length, inl, inr, refl, sym, ap, subst, ◌∙◌, arith, Option, Some, None, if◌then◌else◌}
+use Rattle.std.proofs.Common.{◌≡◌, ℕ, ◌+◌, ◌*◌, ◌<◌, ◌≤◌, Bool, true, false, List, [], ◌∷◌, ◌++◌, length, inl, inr, refl, sym, ap, subst, ◌∙◌, arith, Option, Some, None, if◌then◌else◌, replicate}
 use Rattle.std.proofs.lemmas.Bool.{ltb-true}
 use Rattle.std.proofs.lemmas.List.Sums.{sum_by-le}
 use Rattle.std.proofs.Math.Nat.{mul-le-mul_left}
@@ -13,14 +13,16 @@ use Rattle.bpf_machine.specs.Questions.{open_in, open_jobs}
 use Rattle.bpf_machine.specs.Work.{IsState}
 use Rattle.bpf_cpu.specs.declared.cpu.Cpu.{Cpu}
 use Rattle.bpf_debug.specs.declared.breakpoint.Breakpoint.{Breakpoint}
-use Rattle.bpf_debug.specs.Command.{Order, Break, Step, Go, Registers, Where, Memory, Map, order_of}
+use Rattle.bpf_debug.specs.Command.{Order, Break, Delete, Step, StepTimes, Go, Registers, Where, Memory, Map, Keys, order_of}
 use Rattle.bpf_debug.specs.declared.error.DebugError.{DebugError}
 use Rattle.bpf_debug.specs.declared.error.DebugError.TheVariants as error
-use Rattle.bpf_debug.specs.Answer.{IsWhere, IsRegisters, IsOff, ended_text, break_line}
-use Rattle.bpf_debug.specs.Read.{IsMemoryText, IsNamed, TellsBytes, TellsMap}
-use Rattle.bpf_debug.specs.Go.{Goes, has_break}
+use Rattle.bpf_debug.specs.Answer.{IsWhere, IsRegisters, IsOff, ended_text, break_line, deleted_line}
+use Rattle.bpf_debug.specs.Read.{IsMemoryText, IsNamed, TellsBytes, TellsKeys, TellsMap}
+use Rattle.bpf_debug.specs.Go.{Goes, has_break, without_break}
 use Rattle.bpf_debug.specs.Session.{SessionState, Scene, IsShown, IsPc, with_break, CarriesOut, Obeys, Leaves, LeavesLine, RefusesOrder, RefusesHere, RefusesLine}
+use Rattle.bpf_debug.specs.Turns.{MakesTurns}
 use Rattle.bpf_debug.proofs.GoLaws.{goes_runs}
+use Rattle.bpf_debug.proofs.ManyTurns.{made_runs}
 
 -- ---- room
 
@@ -61,6 +63,20 @@ module _ (m : MachineState) (names : List (List ℕ)) (breaks : List Breakpoint)
         record { world = t.2; names = shown.names; breaks = shown.breaks },
       )
 
+  pub stepped_times : (n : MachineState) (c count : ℕ) (room place last : List ℕ) → has_cpu m.store c ≡ true → room ≡ [] → IsWhere n.jobs c place
+      → ((w : World) → Shows m w → (z : World) × (before : List ℕ) × MakesTurns w c count before z × Shows n z × (last ≡ (room ++ before) ++ place))
+      → Leaves (record { machine = m; names = names; breaks = breaks }) (StepTimes (Some c) count) last (record { machine = n; names = names; breaks = breaks })
+  stepped_times n c count room place last has empty stands turns x shown =
+      let t = turns x.world shown.world in
+      let J : List Task → Type 0 = λ jobs. IsWhere jobs c place in
+      let whole : last ≡ t.1 ++ place = t.4 ∙ ap (λ (s : List ℕ). (s ++ t.1) ++ place) empty in
+      let y : Scene = record x { world = t.0 } in (
+        y,
+        replicate count c,
+        (is_cpu m x.world c has shown.world, (t.0, t.1, place, t.2, subst J (sym t.3.jobs) stands, whole, refl, refl)),
+        record { world = t.3; names = shown.names; breaks = shown.breaks },
+      )
+
   pub went : (n : MachineState) (room last : List ℕ) → room ≡ []
       → ((w : World) → Shows m w → (z : World) × (turns : List ℕ) × (text : List ℕ) × Goes breaks w 0 [] turns text z × Shows n z × (last ≡ room ++ text))
       → Leaves (record { machine = m; names = names; breaks = breaks }) Go last (record { machine = n; names = names; breaks = breaks })
@@ -82,6 +98,18 @@ module _ (m : MachineState) (names : List (List ℕ)) (breaks : List Breakpoint)
         [],
         (is_cpu m x.world c has shown.world, (subst P (sym shown.world.programs) begins, alone room last (break_line c p) empty put, refl, refl)),
         record { world = shown.world; names = shown.names; breaks = ap (λ (bs : List Breakpoint). with_break bs c p) shown.breaks ∙ sym kept },
+      )
+
+  pub unbroken : (c p : ℕ) (fewer : List Breakpoint) (room last : List ℕ) → has_cpu m.store c ≡ true → IsPc m.programs p
+      → fewer ≡ without_break breaks c p → room ≡ [] → last ≡ room ++ deleted_line c p
+      → Leaves (record { machine = m; names = names; breaks = breaks }) (Delete (Some c) (Some p)) last (record { machine = m; names = names; breaks = fewer })
+  unbroken c p fewer room last has begins kept empty put x shown =
+      let y : Scene = record x { breaks = without_break x.breaks c p } in
+      let P : List Loaded → Type 0 = λ ps. IsPc ps p in (
+        y,
+        [],
+        (is_cpu m x.world c has shown.world, (subst P (sym shown.world.programs) begins, alone room last (deleted_line c p) empty put, refl, refl)),
+        record { world = shown.world; names = shown.names; breaks = ap (λ (bs : List Breakpoint). without_break bs c p) shown.breaks ∙ sym kept },
       )
 
 -- a breakpoint that is there, and one more
@@ -128,14 +156,26 @@ told_map s name m last named tells x shown =
     let N : List (List ℕ) → Type 0 = λ names. IsNamed names name m in
     (x, [], (m, subst N (sym shown.names) named, tells x.world.store shown.world.sound shown.world.store, (refl, refl)), shown)
 
+pub told_keys : (s : SessionState) (name : List ℕ) (m : ℕ) (last : List ℕ) → IsNamed s.names name m → TellsKeys s.machine.store m last → Leaves s (Keys name) last s
+told_keys s name m last named tells x shown =
+    let N : List (List ℕ) → Type 0 = λ names. IsNamed names name m in
+    (x, [], (m, subst N (sym shown.names) named, tells x.world.store shown.world.sound shown.world.store, (refl, refl)), shown)
+
 -- ---- each command's turns are a schedule
 pub follows_runs : (x : Scene) (order : Order) (text turns : List ℕ) (y : Scene) → CarriesOut x order text turns y → RunsSchedule x.world turns y.world
 follows_runs x (Break (Some c) (Some p)) text turns y f =
     let P : List ℕ → Type 0 = λ cs. RunsSchedule x.world cs y.world in
     subst P (sym f.1.2) (ap (λ (z : Scene). z.world) f.1.3)
+follows_runs x (Delete (Some c) (Some p)) text turns y f =
+    let P : List ℕ → Type 0 = λ cs. RunsSchedule x.world cs y.world in
+    subst P (sym f.1.2) (ap (λ (z : Scene). z.world) f.1.3)
 follows_runs x (Step (Some c)) text turns y f =
     let P : List ℕ → Type 0 = λ cs. RunsSchedule x.world cs y.world in
     subst P (sym f.1.6) (f.1.0, f.1.1, f.1.3, ap (λ (z : Scene). z.world) f.1.7)
+follows_runs x (StepTimes (Some c) n) text turns y f =
+    let P : List ℕ → Type 0 = λ cs. RunsSchedule x.world cs y.world in
+    let Q : World → Type 0 = λ w. RunsSchedule x.world (replicate n c) w in
+    subst P (sym f.1.6) (subst Q (sym (ap (λ (z : Scene). z.world) f.1.7)) (made_runs x.world c n f.1.1 f.1.0 f.1.3))
 follows_runs x Go text turns y f =
     let P : World → Type 0 = λ w. RunsSchedule x.world turns w in
     subst P (sym (ap (λ (z : Scene). z.world) f.2)) (goes_runs x.breaks x.world 0 [] turns text f.0 f.1)
@@ -151,9 +191,15 @@ follows_runs x (Memory (Some c) at n) text turns y f =
 follows_runs x (Map name) text turns y f =
     let P : List ℕ → Type 0 = λ cs. RunsSchedule x.world cs y.world in
     subst P (sym f.3.0) (ap (λ (z : Scene). z.world) f.3.1)
+follows_runs x (Keys name) text turns y f =
+    let P : List ℕ → Type 0 = λ cs. RunsSchedule x.world cs y.world in
+    subst P (sym f.3.0) (ap (λ (z : Scene). z.world) f.3.1)
 follows_runs x (Break None p) text turns y f = absurd f
 follows_runs x (Break (Some c) None) text turns y f = absurd f
+follows_runs x (Delete None p) text turns y f = absurd f
+follows_runs x (Delete (Some c) None) text turns y f = absurd f
 follows_runs x (Step None) text turns y f = absurd f
+follows_runs x (StepTimes None n) text turns y f = absurd f
 follows_runs x (Registers None) text turns y f = absurd f
 follows_runs x (Where None) text turns y f = absurd f
 follows_runs x (Memory None at n) text turns y f = absurd f

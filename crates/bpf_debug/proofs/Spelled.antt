@@ -25,6 +25,7 @@ use Rattle.bpf_debug.specs.Answer.{IsWhere, ended_text, in_hand_line, waiting_li
 use Rattle.bpf_debug.specs.Session.{Scene, IsCpu, Obeys}
 use Rattle.bpf_debug.specs.Script.{Answer, AnswersLine}
 use Rattle.bpf_debug.specs.Laws.{step_line, StepsSpellSchedules, ScriptsMakeTurns}
+use Rattle.bpf_debug.proofs.ManyTurns.{both_run}
 use Rattle.bpf_debug.proofs.SessionLaws.{follows_runs}
 
 -- ---- turns leave the shape of the store
@@ -181,10 +182,6 @@ steps_spell_schedules x (c ∷ cs) z few each runs =
     (Ok one.0 ∷ rest.0, (m, one.1, rest.1))
 
 -- ---- the turns of a script
-both_run : (cs ds : List ℕ) (w m z : World) → RunsSchedule w cs m → RunsSchedule m ds z → RunsSchedule w (cs ++ ds) z
-both_run [] ds w m z a b = subst (λ (x : World). RunsSchedule x ds z) a b
-both_run (c ∷ cs) ds w m z a b = (a.0, a.1, a.2, both_run cs ds a.1 m z a.3 b)
-
 line_runs : (x y : Scene) (fields : List (List ℕ)) (text turns : List ℕ) → Obeys x fields text turns y → RunsSchedule x.world turns y.world
 line_runs x y [] text turns o = subst (λ (cs : List ℕ). RunsSchedule x.world cs y.world) (sym o.1.0) (ap (λ (z : Scene). z.world) o.1.1)
 line_runs x y (f ∷ fs) text turns o = follows_runs x o.0 text turns y o.2

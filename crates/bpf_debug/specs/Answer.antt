@@ -67,5 +67,8 @@ ended_text c turn.Idle = []
 abbrev pub break_line : ℕ → ℕ → List ℕ
 break_line c p = codes "break " ++ decimal c ++ codes " " ++ decimal p ++ codes " set\n"
 
+abbrev pub deleted_line : ℕ → ℕ → List ℕ
+deleted_line c p = codes "break " ++ decimal c ++ codes " " ++ decimal p ++ codes " deleted\n"
+
 abbrev pub stop_line : ℕ → ℕ → List ℕ
 stop_line c p = codes "stop " ++ decimal c ++ codes " " ++ decimal p ++ codes "\n"

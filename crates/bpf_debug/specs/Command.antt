@@ -9,8 +9,12 @@ use Rattle.bpf_debug.specs.declared.command.Command.TheVariants as command
 pub data Order : Type 0 where
   -- `break C P`: the pc P is a breakpoint of the CPU C
   Break : Option ℕ → Option ℕ → Order
+  -- `delete C P`: it is one no more
+  Delete : Option ℕ → Option ℕ → Order
   -- `step C`: one turn
   Step : Option ℕ → Order
+  -- `step C N`: N turns
+  StepTimes : Option ℕ → ℕ → Order
   -- `go`: turns up to a breakpoint, or until no work is left
   Go : Order
   -- `regs C`
@@ -21,6 +25,8 @@ pub data Order : Type 0 where
   Memory : Option ℕ → Option ℕ → ℕ → Order
   -- `map NAME`
   Map : List ℕ → Order
+  -- `keys NAME`
+  Keys : List ℕ → Order
 
 -- a word is a number of any size, and this one where it is below the limit
 abbrev pub number_below : ℕ → List ℕ → Option (Option ℕ)
@@ -40,12 +46,21 @@ address_in = number_below (2 ^ 64)
 abbrev pub most_shown : ℕ
 most_shown = 256
 
--- a number of bytes, 1 to `most_shown`
-abbrev pub few_of : ℕ → Option ℕ
-few_of n = if nat_le 1 n && nat_le n most_shown then Some n else None
+-- a number from 1 to the most
+abbrev pub few_of : ℕ → ℕ → Option ℕ
+few_of most n = if nat_le 1 n && nat_le n most then Some n else None
 
+-- a number of bytes
 abbrev pub count_in : List ℕ → Option ℕ
-count_in word = option_and_then few_of (written_number word)
+count_in word = option_and_then (few_of most_shown) (written_number word)
+
+-- how many turns are made at once, at most
+abbrev pub most_turns : ℕ
+most_turns = 1000000
+
+-- a number of turns
+abbrev pub turns_in : List ℕ → Option ℕ
+turns_in word = option_and_then (few_of most_turns) (written_number word)
 
 -- ---- commands by the number of their words
 abbrev pub one_word : List ℕ → Option Order
@@ -57,13 +72,18 @@ two_words w a =
     else (if bytes_eq (codes "regs") w then option_map Registers (cpu_in a)
     else (if bytes_eq (codes "where") w then option_map Where (cpu_in a)
     else (if bytes_eq (codes "map") w then (if is_name a then Some (Map a) else None)
-    else None)))
+    else (if bytes_eq (codes "keys") w then (if is_name a then Some (Keys a) else None)
+    else None))))
 
 abbrev pub three_words : List ℕ → List ℕ → List ℕ → Option Order
 three_words w a b =
     if bytes_eq (codes "break") w
     then option_and_then (λ c. option_map (Break c) (pc_in b)) (cpu_in a)
-    else None
+    else (if bytes_eq (codes "delete") w
+    then option_and_then (λ c. option_map (Delete c) (pc_in b)) (cpu_in a)
+    else (if bytes_eq (codes "step") w
+    then option_and_then (λ c. option_map (StepTimes c) (turns_in b)) (cpu_in a)
+    else None))
 
 abbrev pub four_words : List ℕ → List ℕ → List ℕ → List ℕ → Option Order
 four_words w a b c =
@@ -83,9 +103,12 @@ order_of fields = None
 -- ---- what a reader answers
 abbrev pub command_order : Command → Order
 command_order (command.Break c p) = Break c p
+command_order (command.Delete c p) = Delete c p
 command_order (command.Step c) = Step c
+command_order (command.StepTimes c n) = StepTimes c n
 command_order command.Go = Go
 command_order (command.Registers c) = Registers c
 command_order (command.Where c) = Where c
 command_order (command.Memory c a n) = Memory c a n
 command_order (command.Map name) = Map name.now
+command_order (command.Keys name) = Keys name.now

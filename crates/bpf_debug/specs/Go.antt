@@ -1,6 +1,6 @@
 -- What `go` does: rounds over the CPUs in rising order, one turn for each that has work, up to a
 -- breakpoint (our own choice).
-use Rattle.std.specs.Prelude.{◌≡◌, ℕ, ◌+◌, ◌<◌, ◌≤◌, Bool, true, false, ◌==◌, ◌&&◌, ◌⊎◌, List, [], ◌∷◌, ◌++◌, codes}
+use Rattle.std.specs.Prelude.{◌≡◌, ℕ, ◌+◌, ◌<◌, ◌≤◌, Bool, true, false, ◌==◌, ◌&&◌, ◌⊎◌, List, [], ◌∷◌, ◌++◌, codes, filter, not}
 use Rattle.std.specs.List.{list_any}
 use Rattle.bpf_cpu.specs.declared.cpu.Cpu.{Cpu}
 use Rattle.bpf_machine.specs.declared.machine.Turn.{Turn}
@@ -44,6 +44,10 @@ is_break c p b = (b.cpu == c) && (b.pc == p)
 
 abbrev pub has_break : List Breakpoint → ℕ → ℕ → Bool
 has_break breaks c p = list_any (is_break c p) breaks
+
+-- those but this one
+abbrev pub without_break : List Breakpoint → ℕ → ℕ → List Breakpoint
+without_break breaks c p = filter (λ b. not (is_break c p b)) breaks
 
 -- whether the CPU has made a turn among these
 abbrev pub has_gone : List ℕ → ℕ → Bool

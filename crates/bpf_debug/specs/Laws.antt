@@ -5,7 +5,7 @@ use Rattle.std.specs.Fmt.{decimal}
 use Rattle.bpf_machine.specs.Laws.{IsFresh}
 use Rattle.bpf_machine.specs.Schedule.{World, RunsSchedule}
 use Rattle.bpf_debug.specs.declared.error.DebugError.TheVariants as error
-use Rattle.bpf_debug.specs.Command.{Order, Break, Step, Go, Registers, Where, Memory, Map}
+use Rattle.bpf_debug.specs.Command.{Order, Break, Delete, Step, StepTimes, Go, Registers, Where, Memory, Map, Keys}
 use Rattle.bpf_debug.specs.Session.{Scene, IsCpu, CarriesOut}
 use Rattle.bpf_debug.specs.Script.{Answer, RunsScript}
 
@@ -35,8 +35,11 @@ IsQuestion (Registers c) = Unit {0}
 IsQuestion (Where c) = Unit {0}
 IsQuestion (Memory c at n) = Unit {0}
 IsQuestion (Map name) = Unit {0}
+IsQuestion (Keys name) = Unit {0}
+IsQuestion (Delete c p) = ⊥
 IsQuestion (Break c p) = ⊥
 IsQuestion (Step c) = ⊥
+IsQuestion (StepTimes c n) = ⊥
 IsQuestion Go = ⊥
 
 -- a question makes no turn and changes nothing; a breakpoint makes none, and leaves the machine
@@ -45,6 +48,8 @@ QuestionsChangeNothing =
     ((x y : Scene) (order : Order) (text turns : List ℕ) → IsQuestion order
     → CarriesOut x order text turns y → (turns ≡ []) × (y ≡ x))
     × ((x y : Scene) (c p : Option ℕ) (text turns : List ℕ) → CarriesOut x (Break c p) text turns y
+    → (turns ≡ []) × (y.world ≡ x.world))
+    × ((x y : Scene) (c p : Option ℕ) (text turns : List ℕ) → CarriesOut x (Delete c p) text turns y
     → (turns ≡ []) × (y.world ≡ x.world))
 
 -- ---- one list of answers

@@ -1,6 +1,7 @@
 pub mod Command
 pub mod Answer
 pub mod Go
+pub mod Turns
 pub mod Read
 pub mod Session
 pub mod Codes

@@ -101,5 +101,20 @@ abbrev pub IsMapText : Plain → ℕ → List ℕ → Type 0
 IsMapText s m text =
     (pairs : List Pair) × IsListing s m pairs × (text ≡ pair_lines (length pairs) pairs)
 
+-- the keys of a map alone, in their order
+abbrev pub key_line : Pair → List ℕ
+key_line p = encode_lower p.0 ++ codes "\n"
+
+abbrev pub key_lines : ℕ → List Pair → List ℕ
+key_lines zero pairs = []
+key_lines (suc n) pairs = key_lines n pairs ++ key_line (pair_at pairs n)
+
+abbrev pub IsKeysText : Plain → ℕ → List ℕ → Type 0
+IsKeysText s m text =
+    (pairs : List Pair) × IsListing s m pairs × (text ≡ key_lines (length pairs) pairs)
+
+abbrev pub TellsKeys : Contents → ℕ → List ℕ → Type 0
+TellsKeys p m text = (s : Plain) → IsSoundStore s → StandsFor p s → IsKeysText s m text
+
 abbrev pub TellsMap : Contents → ℕ → List ℕ → Type 0
 TellsMap p m text = (s : Plain) → IsSoundStore s → StandsFor p s → IsMapText s m text

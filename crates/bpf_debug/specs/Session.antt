@@ -1,6 +1,6 @@
 -- What commands do: the turns that each makes, what it answers, and why one is refused (our own
 -- choice).
-use Rattle.std.specs.Prelude.{◌≡◌, ℕ, ◌<◌, false, nat_lt, if◌then◌else◌, List, [], ◌∷◌, ◌++◌, Option, Some, None, length, slice_get}
+use Rattle.std.specs.Prelude.{◌≡◌, ℕ, ◌<◌, replicate, false, nat_lt, if◌then◌else◌, List, [], ◌∷◌, ◌++◌, Option, Some, None, length, slice_get}
 use Rattle.bpf_loader.specs.Loaded.{Loaded}
 use Rattle.bpf_loader.specs.Places.{IsStart}
 use Rattle.bpf_machine.specs.declared.machine.Turn.{Turn}
@@ -9,10 +9,11 @@ use Rattle.bpf_machine.specs.Machine.{MachineState, Shows}
 use Rattle.bpf_debug.specs.declared.breakpoint.Breakpoint.{Breakpoint}
 use Rattle.bpf_debug.specs.declared.error.DebugError.{DebugError}
 use Rattle.bpf_debug.specs.declared.error.DebugError.TheVariants as error
-use Rattle.bpf_debug.specs.Command.{Order, Break, Step, Go, Registers, Where, Memory, Map, order_of}
-use Rattle.bpf_debug.specs.Answer.{IsWhere, IsRegisters, ended_text, break_line}
-use Rattle.bpf_debug.specs.Go.{Goes, has_break}
-use Rattle.bpf_debug.specs.Read.{IsMemoryText, IsNamed, IsNoName, IsMapText}
+use Rattle.bpf_debug.specs.Command.{Order, Break, Delete, Step, StepTimes, Go, Registers, Where, Memory, Map, Keys, order_of}
+use Rattle.bpf_debug.specs.Answer.{IsWhere, IsRegisters, ended_text, break_line, deleted_line}
+use Rattle.bpf_debug.specs.Turns.{MakesTurns}
+use Rattle.bpf_debug.specs.Go.{Goes, has_break, without_break}
+use Rattle.bpf_debug.specs.Read.{IsMemoryText, IsNamed, IsNoName, IsMapText, IsKeysText}
 
 -- what callers see of a session: its machine, the names of the maps by their numbers, and the
 -- breakpoints
@@ -50,11 +51,22 @@ SetsBreak x c p text turns y =
     IsPc x.world.programs p × (text ≡ break_line c p) × (turns ≡ [])
     × (y ≡ record x { breaks = with_break x.breaks c p })
 
+abbrev pub DeletesBreak : Scene → ℕ → ℕ → List ℕ → List ℕ → Scene → Type 0
+DeletesBreak x c p text turns y =
+    IsPc x.world.programs p × (text ≡ deleted_line c p) × (turns ≡ [])
+    × (y ≡ record x { breaks = without_break x.breaks c p })
+
 abbrev pub StepsCpu : Scene → ℕ → List ℕ → List ℕ → Scene → Type 0
 StepsCpu x c text turns y =
     (answer : Turn) × (m : World) × (where_text : List ℕ) × TakesTurn x.world c answer m
     × IsWhere m.jobs c where_text × (text ≡ ended_text c answer ++ where_text)
     × (turns ≡ c ∷ []) × (y ≡ record x { world = m })
+
+abbrev pub StepsTimes : Scene → ℕ → ℕ → List ℕ → List ℕ → Scene → Type 0
+StepsTimes x c n text turns y =
+    (m : World) × (before : List ℕ) × (where_text : List ℕ) × MakesTurns x.world c n before m
+    × IsWhere m.jobs c where_text × (text ≡ before ++ where_text)
+    × (turns ≡ replicate n c) × (y ≡ record x { world = m })
 
 abbrev pub RunsOn : Scene → List ℕ → List ℕ → Scene → Type 0
 RunsOn x text turns y =
@@ -70,7 +82,9 @@ IsCpu x c = c < x.world.store.shape.cpus
 -- each order with its text and turns
 abbrev pub CarriesOut : Scene → Order → List ℕ → List ℕ → Scene → Type 0
 CarriesOut x (Break (Some c) (Some p)) text turns y = IsCpu x c × SetsBreak x c p text turns y
+CarriesOut x (Delete (Some c) (Some p)) text turns y = IsCpu x c × DeletesBreak x c p text turns y
 CarriesOut x (Step (Some c)) text turns y = IsCpu x c × StepsCpu x c text turns y
+CarriesOut x (StepTimes (Some c) n) text turns y = IsCpu x c × StepsTimes x c n text turns y
 CarriesOut x Go text turns y = RunsOn x text turns y
 CarriesOut x (Registers (Some c)) text turns y =
     IsCpu x c × IsRegisters x.world.jobs c text × ChangesNothing x turns y
@@ -80,6 +94,8 @@ CarriesOut x (Memory (Some c) at n) text turns y =
     IsCpu x c × IsMemoryText x.world.store x.world.jobs c at n text × ChangesNothing x turns y
 CarriesOut x (Map name) text turns y =
     (m : ℕ) × IsNamed x.names name m × IsMapText x.world.store m text × ChangesNothing x turns y
+CarriesOut x (Keys name) text turns y =
+    (m : ℕ) × IsNamed x.names name m × IsKeysText x.world.store m text × ChangesNothing x turns y
 CarriesOut x order text turns y = ⊥
 
 -- a line without a word does and answers nothing
@@ -117,19 +133,24 @@ IsNoPc programs (Some p) = IsPc programs p → ⊥
 
 abbrev pub NamesNoCpu : ℕ → Order → Type 0
 NamesNoCpu cpus (Break c p) = IsNoCpu cpus c
+NamesNoCpu cpus (Delete c p) = IsNoCpu cpus c
 NamesNoCpu cpus (Step c) = IsNoCpu cpus c
+NamesNoCpu cpus (StepTimes c n) = IsNoCpu cpus c
 NamesNoCpu cpus Go = ⊥
 NamesNoCpu cpus (Registers c) = IsNoCpu cpus c
 NamesNoCpu cpus (Where c) = IsNoCpu cpus c
 NamesNoCpu cpus (Memory c at n) = IsNoCpu cpus c
 NamesNoCpu cpus (Map name) = ⊥
+NamesNoCpu cpus (Keys name) = ⊥
 
 abbrev pub NamesNoPc : ℕ → List Loaded → Order → Type 0
 NamesNoPc cpus programs (Break c p) = (IsNoCpu cpus c → ⊥) × IsNoPc programs p
+NamesNoPc cpus programs (Delete c p) = (IsNoCpu cpus c → ⊥) × IsNoPc programs p
 NamesNoPc cpus programs order = ⊥
 
 abbrev pub NamesNoMap : List (List ℕ) → Order → Type 0
 NamesNoMap names (Map name) = IsNoName names name
+NamesNoMap names (Keys name) = IsNoName names name
 NamesNoMap names order = ⊥
 
 -- why an order is refused

@@ -2,7 +2,7 @@
 
 ghost use Rattle.std.specs.Prelude.{◌≡◌, map, option_map};
 ghost use Rattle.std.specs.Str.{bytes_eq};
-ghost use Rattle.bpf_debug.specs.Command.{cpu_in, pc_in, address_in, count_in, one_word, two_words, three_words, four_words, order_of, command_order};
+ghost use Rattle.bpf_debug.specs.Command.{cpu_in, pc_in, address_in, count_in, turns_in, one_word, two_words, three_words, four_words, order_of, command_order};
 
 use bpf_lines::words::{self, NumberError};
 
@@ -11,8 +11,12 @@ use bpf_lines::words::{self, NumberError};
 pub enum Command<'a> {
     /// A pc is a breakpoint of a CPU.
     Break(Option<u8>, Option<u32>),
+    /// A pc is no breakpoint of a CPU.
+    Delete(Option<u8>, Option<u32>),
     /// One turn of a CPU.
     Step(Option<u8>),
+    /// So many turns of a CPU.
+    StepTimes(Option<u8>, u32),
     /// Turns in rounds, up to a breakpoint or until no work is left.
     Go,
     /// A CPU's registers.
@@ -23,6 +27,8 @@ pub enum Command<'a> {
     Memory(Option<u8>, Option<u64>, usize),
     /// The keys of the map of this name, with their values.
     Map(&'a [u8]),
+    /// The same without their values.
+    Keys(&'a [u8]),
 }
 
 /// Whether a word is this one.
@@ -90,6 +96,19 @@ fn count_in(word: &[u8]) -> Option<usize>
     }
 }
 
+/// How many turns are made at once, at most.
+const MOST_TURNS: u64 = 1_000_000;
+
+/// A number of turns, 1 to `MOST_TURNS`.
+fn turns_in(word: &[u8]) -> Option<u32>
+    ensures { result ≡ turns_in word.now }
+{
+    match words::number(word) {
+        Ok(number) if number >= 1 && number <= MOST_TURNS => Some(number as u32),
+        _ => None,
+    }
+}
+
 fn one_word<'a>(word: &[u8]) -> Option<Command<'a>>
     ensures { option_map command_order result ≡ one_word word.now }
 {
@@ -114,6 +133,8 @@ fn two_words<'a>(word: &[u8], first: &'a [u8]) -> Option<Command<'a>>
         Some(Command::Where(cpu))
     } else if is(word, "map") && words::is_name(first) {
         Some(Command::Map(first))
+    } else if is(word, "keys") && words::is_name(first) {
+        Some(Command::Keys(first))
     } else {
         None
     }
@@ -122,12 +143,21 @@ fn two_words<'a>(word: &[u8], first: &'a [u8]) -> Option<Command<'a>>
 fn three_words<'a>(word: &[u8], first: &[u8], second: &[u8]) -> Option<Command<'a>>
     ensures { option_map command_order result ≡ three_words word.now first.now second.now }
 {
-    if !is(word, "break") {
-        return None;
+    if is(word, "break") {
+        let cpu = cpu_in(first)?;
+        let pc = pc_in(second)?;
+        Some(Command::Break(cpu, pc))
+    } else if is(word, "delete") {
+        let cpu = cpu_in(first)?;
+        let pc = pc_in(second)?;
+        Some(Command::Delete(cpu, pc))
+    } else if is(word, "step") {
+        let cpu = cpu_in(first)?;
+        let count = turns_in(second)?;
+        Some(Command::StepTimes(cpu, count))
+    } else {
+        None
     }
-    let cpu = cpu_in(first)?;
-    let pc = pc_in(second)?;
-    Some(Command::Break(cpu, pc))
 }
 
 fn four_words<'a>(word: &[u8], first: &[u8], second: &[u8], third: &[u8]) -> Option<Command<'a>>

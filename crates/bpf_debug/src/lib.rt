@@ -12,6 +12,7 @@ mod reading;
 pub mod script;
 pub mod session;
 mod text;
+mod turns;
 
 pub use command::Command;
 pub use error::DebugError;

@@ -3,7 +3,7 @@
 ghost use Rattle.std.specs.Prelude.{◌≡◌, ◌+◌, ◌*◌, ◌≤◌, ◌++◌, List, ℕ, length, string_bytes, string_capacity, string_len};
 ghost use Rattle.bpf_cpu.specs.Lines.{outcome_text, job_line};
 ghost use Rattle.bpf_machine.specs.Hands.{IsFree};
-ghost use Rattle.bpf_debug.specs.Answer.{cpu_words, in_hand_line, waiting_line, idle_line, register_line, register_lines, break_line, stop_line, ended_text, IsWhere, IsRegisters, IsOff};
+ghost use Rattle.bpf_debug.specs.Answer.{cpu_words, in_hand_line, waiting_line, idle_line, register_line, register_lines, break_line, deleted_line, stop_line, ended_text, IsWhere, IsRegisters, IsOff};
 
 use crate::text::{put, put_number};
 use bpf_cpu::{Cpu, Fault, Outcome};
@@ -206,6 +206,18 @@ pub fn put_break(out: &mut String, cpu: u8, pc: u32)
     put(out, " ");
     put_number(out, pc as u64);
     put(out, " set\n");
+}
+
+/// Puts that a pc is no breakpoint of a CPU.
+pub fn put_deleted(out: &mut String, cpu: u8, pc: u32)
+    requires { string_len out.old + 128 ≤ string_capacity out.old }
+    ensures { string_bytes out.new ≡ string_bytes out.old ++ deleted_line cpu pc }
+{
+    put(out, "break ");
+    put_number(out, cpu as u64);
+    put(out, " ");
+    put_number(out, pc as u64);
+    put(out, " deleted\n");
 }
 
 /// Puts that a CPU is at a breakpoint.

@@ -1,8 +1,8 @@
 //! Maps by their names, and what they hold.
 
-ghost use Rattle.std.specs.Prelude.{◌≡◌, ◌++◌, IfOk, IfSome, IfNone, OnOk, length, map, string_bytes};
+ghost use Rattle.std.specs.Prelude.{◌≡◌, ◌++◌, IfOk, IfSome, IfNone, List, OnOk, length, map, string_bytes, ℕ};
 ghost use Rattle.bpf_shared.specs.Listing.{listed};
-ghost use Rattle.bpf_debug.specs.Read.{IsNamed, IsNoName, TellsMap, pair_line, pair_lines};
+ghost use Rattle.bpf_debug.specs.Read.{IsNamed, IsNoName, TellsKeys, TellsMap, key_line, key_lines, pair_line, pair_lines};
 
 use bpf_plain::PlainStore;
 use std::alloc::{AllocError, Global};
@@ -50,4 +50,34 @@ pub fn map_lines(alloc: Global, store: &PlainStore, map: usize) -> Result<String
 {
     let pairs = store.dump(alloc, map as u64)?;
     pair_lines(alloc, &pairs)
+}
+
+/// Puts the line of a key without its value behind the text.
+fn push_key(alloc: Global, text: &mut String, key: &[u8]) -> Result<(), AllocError>
+    ensures { OnOk result ((value : List ℕ) → string_bytes text.new
+        ≡ string_bytes text.old ++ key_line (key.now, value)) }
+{
+    let key = hex::encode(alloc, key)?;
+    let line = format!(in alloc; "{key}\n")?;
+    text.push_str(line.as_str())
+}
+
+/// The lines of keys without their values, in their order.
+fn key_lines(alloc: Global, pairs: &[(Vec<u8>, Vec<u8>)]) -> Result<String, AllocError>
+    ensures { IfOk result
+        (λ text. string_bytes text ≡ key_lines (length pairs.now) (listed pairs.now)) }
+{
+    let mut text = String::new(alloc);
+    for pair in pairs {
+        push_key(alloc, &mut text, &pair.0)?;
+    }
+    Ok(text)
+}
+
+/// The lines of a map's keys, in their order.
+pub fn key_lines_of(alloc: Global, store: &PlainStore, map: usize) -> Result<String, AllocError>
+    ensures { IfOk result (λ text. TellsKeys store.now map (string_bytes text)) }
+{
+    let pairs = store.dump(alloc, map as u64)?;
+    key_lines(alloc, &pairs)
 }

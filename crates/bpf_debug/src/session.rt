@@ -9,13 +9,14 @@ ghost use Rattle.bpf_debug.specs.Answer.{IsWhere, ended_text};
 ghost use Rattle.bpf_debug.specs.Command.{Order, command_order};
 ghost use Rattle.bpf_debug.specs.Session.{IsPc};
 
-use crate::breakpoint::{Breakpoint, has_break};
+use crate::breakpoint::{Breakpoint, has_break, remove_break};
 use crate::command::{Command, command_of};
 use crate::error::DebugError;
 use crate::going;
-use crate::lines::{LINE, put_break, put_ended, put_off, put_registers, put_where};
-use crate::maps::{map_lines, map_named};
+use crate::lines::{LINE, put_break, put_deleted, put_ended, put_off, put_registers, put_where};
+use crate::maps::{key_lines_of, map_lines, map_named};
 use crate::reading::bytes_line;
+use crate::turns::take_turns;
 use bpf_lines::lines;
 use bpf_loader::Program;
 use bpf_machine::{Machine, Turn};
@@ -159,6 +160,38 @@ impl Session {
         self.step_at(alloc, cpu)
     }
 
+    fn step_times_at(&mut self, alloc: Global, cpu: u8, count: u32) -> Result<String, DebugError>
+        requires { has_cpu self.old.machine.store cpu ≡ true }
+        ensures answered { IfOk result (λ text.
+            Leaves self.old (Order.StepTimes (Some cpu) count) (string_bytes text) self.new) }
+        ensures refused { IfErr result (λ e. e ≡ DebugError.OutOfMemory) }
+        ensures unchanged { OnErr result (self.new ≡ self.old) }
+    {
+        let Some(mut out) = make_room(alloc, self.machine.jobs()) else {
+            return Err(DebugError::OutOfMemory);
+        };
+        take_turns(&mut self.machine, cpu, count, &mut out);
+        Ok(out)
+    }
+
+    fn step_times(
+        &mut self,
+        alloc: Global,
+        number: Option<u8>,
+        count: u32,
+    ) -> Result<String, DebugError>
+        ensures answered { IfOk result (λ text.
+            Leaves self.old (Order.StepTimes number count) (string_bytes text) self.new) }
+        ensures refused { IfErr result
+            (λ e. RefusesHere self.old (Order.StepTimes number count) e) }
+        ensures unchanged { OnErr result (self.new ≡ self.old) }
+    {
+        let Some(cpu) = self.cpu(number) else {
+            return Err(DebugError::NoCpu);
+        };
+        self.step_times_at(alloc, cpu, count)
+    }
+
     fn go(&mut self, alloc: Global) -> Result<String, DebugError>
         ensures answered { IfOk result
             (λ text. Leaves self.old Order.Go (string_bytes text) self.new) }
@@ -226,6 +259,57 @@ impl Session {
             return Err(DebugError::NoCpu);
         };
         self.break_at(alloc, cpu, pc)
+    }
+
+    /// No breakpoint of a CPU, at a pc of some program.
+    fn delete_break(&mut self, alloc: Global, cpu: u8, pc: u32) -> Result<String, DebugError>
+        requires served { has_cpu self.old.machine.store cpu ≡ true }
+        requires begins { IsPc self.old.machine.programs pc }
+        ensures answered { IfOk result (λ text.
+            Leaves self.old (Order.Delete (Some cpu) (Some pc)) (string_bytes text) self.new) }
+        ensures refused { IfErr result (λ e. e ≡ DebugError.OutOfMemory) }
+        ensures unchanged { OnErr result (self.new ≡ self.old) }
+    {
+        let Some(mut out) = make_room(alloc, 1) else {
+            return Err(DebugError::OutOfMemory);
+        };
+        put_deleted(&mut out, cpu, pc);
+        remove_break(&mut self.breakpoints, cpu, pc);
+        Ok(out)
+    }
+
+    fn delete_at(&mut self, alloc: Global, cpu: u8, pc: Option<u32>) -> Result<String, DebugError>
+        requires { has_cpu self.old.machine.store cpu ≡ true }
+        ensures answered { IfOk result (λ text.
+            Leaves self.old (Order.Delete (Some cpu) pc) (string_bytes text) self.new) }
+        ensures refused { IfErr result
+            (λ e. RefusesHere self.old (Order.Delete (Some cpu) pc) e) }
+        ensures unchanged { OnErr result (self.new ≡ self.old) }
+    {
+        let Some(at) = pc else {
+            return Err(DebugError::NoPc);
+        };
+        if !is_pc(self.machine.programs(), at) {
+            return Err(DebugError::NoPc);
+        }
+        self.delete_break(alloc, cpu, at)
+    }
+
+    fn delete(
+        &mut self,
+        alloc: Global,
+        number: Option<u8>,
+        pc: Option<u32>,
+    ) -> Result<String, DebugError>
+        ensures answered { IfOk result (λ text.
+            Leaves self.old (Order.Delete number pc) (string_bytes text) self.new) }
+        ensures refused { IfErr result (λ e. RefusesHere self.old (Order.Delete number pc) e) }
+        ensures unchanged { OnErr result (self.new ≡ self.old) }
+    {
+        let Some(cpu) = self.cpu(number) else {
+            return Err(DebugError::NoCpu);
+        };
+        self.delete_at(alloc, cpu, pc)
     }
 
     fn registers_at(&self, alloc: Global, cpu: u8) -> Result<String, DebugError>
@@ -350,6 +434,20 @@ impl Session {
         }
     }
 
+    fn keys(&self, alloc: Global, name: &[u8]) -> Result<String, DebugError>
+        ensures answered { IfOk result
+            (λ text. Leaves self.now (Order.Keys name.now) (string_bytes text) self.now) }
+        ensures refused { IfErr result (λ e. RefusesHere self.now (Order.Keys name.now) e) }
+    {
+        let Some(map) = map_named(&self.names, name) else {
+            return Err(DebugError::NoMap);
+        };
+        match key_lines_of(alloc, self.machine.store(), map) {
+            Ok(text) => Ok(text),
+            Err(_) => Err(DebugError::OutOfMemory),
+        }
+    }
+
     fn follow<'a>(&mut self, alloc: Global, command: Command<'a>) -> Result<String, DebugError>
         ensures answered { IfOk result
             (λ text. Leaves self.old (command_order command.entry) (string_bytes text) self.new) }
@@ -358,12 +456,15 @@ impl Session {
     {
         match command {
             Command::Break(cpu, pc) => self.break_cpu(alloc, cpu, pc),
+            Command::Delete(cpu, pc) => self.delete(alloc, cpu, pc),
             Command::Step(cpu) => self.step(alloc, cpu),
+            Command::StepTimes(cpu, count) => self.step_times(alloc, cpu, count),
             Command::Go => self.go(alloc),
             Command::Registers(cpu) => self.registers(alloc, cpu),
             Command::Where(cpu) => self.standing(alloc, cpu),
             Command::Memory(cpu, address, count) => self.memory(alloc, cpu, address, count),
             Command::Map(name) => self.map(alloc, name),
+            Command::Keys(name) => self.keys(alloc, name),
         }
     }
 

@@ -39,3 +39,18 @@ pub returns-in-Map-clause-answered : goal.returns-in-Map-clause-answered
 returns-in-Map-clause-answered c =
     let P : Command → Type 0 = λ o. IfOk c.map.result (λ text. Leaves c.args.self.now (command_order o) (string_bytes text) c.args.self.now) in
     subst P (sym c.in-Map.is) c.map.ensures.answered
+
+pub returns-in-Keys-clause-answered : goal.returns-in-Keys-clause-answered
+returns-in-Keys-clause-answered c =
+    let P : Command → Type 0 = λ o. IfOk c.keys.result (λ text. Leaves c.args.self.now (command_order o) (string_bytes text) c.args.self.now) in
+    subst P (sym c.in-Keys.is) c.keys.ensures.answered
+
+pub returns-in-Delete-clause-answered : goal.returns-in-Delete-clause-answered
+returns-in-Delete-clause-answered c =
+    let P : Command → Type 0 = λ o. IfOk c.delete.result (λ text. Leaves c.args.self.now (command_order o) (string_bytes text) c.delete.new.self) in
+    subst P (sym c.in-Delete.is) c.delete.ensures.answered
+
+pub returns-in-StepTimes-clause-answered : goal.returns-in-StepTimes-clause-answered
+returns-in-StepTimes-clause-answered c =
+    let P : Command → Type 0 = λ o. IfOk c.step_times.result (λ text. Leaves c.args.self.now (command_order o) (string_bytes text) c.step_times.new.self) in
+    subst P (sym c.in-StepTimes.is) c.step_times.ensures.answered

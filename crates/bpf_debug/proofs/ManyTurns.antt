@@ -1,0 +1,75 @@
+-- Turns of one CPU, one after the other: a schedule, and how far they have come.
+use Rattle.std.proofs.Common.{◌≡◌, ℕ, zero, suc, ◌+◌, ◌*◌, ◌≤◌, List, [], ◌∷◌, ◌++◌, refl, sym, ap, subst, ◌∙◌, arith, append_assoc, replicate}
+use Rattle.std.proofs.lemmas.List.{append-nil, replicate-append-replicate}
+use Rattle.bpf_cpu.specs.declared.outcome.Outcome.{Outcome}
+use Rattle.bpf_cpu.specs.Task.{Task}
+use Rattle.bpf_machine.specs.declared.machine.Turn.{Turn}
+use Rattle.bpf_machine.specs.declared.machine.Turn.TheVariants as turn
+use Rattle.bpf_machine.specs.Schedule.{World, TakesTurn, RunsSchedule}
+use Rattle.bpf_machine.specs.Machine.{MachineState, Shows}
+use Rattle.bpf_machine.specs.Questions.{open_jobs, Falls, TurnsFall}
+use Rattle.bpf_debug.specs.Answer.{ended_text}
+use Rattle.bpf_debug.specs.Turns.{MakesTurns}
+use Rattle.bpf_debug.proofs.GoLaws.{room_left}
+
+-- ---- they are a schedule
+pub both_run : (cs ds : List ℕ) (w m z : World) → RunsSchedule w cs m → RunsSchedule m ds z → RunsSchedule w (cs ++ ds) z
+both_run [] ds w m z a b = subst (λ (x : World). RunsSchedule x ds z) a b
+both_run (c ∷ cs) ds w m z a b = (a.0, a.1, a.2, both_run cs ds a.1 m z a.3 b)
+
+pub made_runs : (w : World) (c n : ℕ) (text : List ℕ) (z : World) → MakesTurns w c n text z → RunsSchedule w (replicate n c) z
+made_runs w c zero text z made = made.1
+made_runs w c (suc n) text z made =
+    let next : n + 1 ≡ suc n = omega arith in
+    let more : replicate n c ++ c ∷ [] ≡ replicate (suc n) c = replicate-append-replicate n 1 c ∙ ap (λ (k : ℕ). replicate k c) next in
+    subst (λ (cs : List ℕ). RunsSchedule w cs z) more
+    (both_run (replicate n c) (c ∷ []) w made.0 z (made_runs w c n made.1 made.0 made.3) (made.2, z, made.4, refl))
+
+-- ---- how far they have come
+abbrev pub Made : MachineState → ℕ → List ℕ → MachineState → ℕ → List ℕ → Type 0
+Made old c before new n after =
+    (w : World) → Shows old w → (z : World) × (text : List ℕ) × MakesTurns w c n text z × Shows new z × (after ≡ before ++ text)
+
+pub none_made : (old : MachineState) (c : ℕ) (before : List ℕ) → Made old c before old 0 before
+none_made old c before w shows = (w, [], (refl, refl), shows, sym (append-nil before))
+
+pub one_made : (old new next : MachineState) (c n : ℕ) (before after last : List ℕ) (answer : Turn) → Made old c before new n after
+    → ((w : World) → Shows new w → (z : World) × TakesTurn w c answer z × Shows next z) → last ≡ after ++ ended_text c answer
+    → Made old c before next (n + 1) last
+one_made old new next c n before after last answer made turns put w shows =
+    let r = made w shows in
+    let t = turns r.0 r.3 in
+    let text : List ℕ = r.1 ++ ended_text c answer in
+    let step : suc n ≡ n + 1 = omega arith in
+    let more : MakesTurns w c (suc n) text t.0 = (r.0, r.1, answer, r.2, t.1, refl) in (
+      t.0,
+      text,
+      subst (λ (k : ℕ). MakesTurns w c k text t.0) step more,
+      t.2,
+      put ∙ ap (λ (s : List ℕ). s ++ ended_text c answer) r.4 ∙ append_assoc before r.1 (ended_text c answer),
+    )
+
+-- what a turn takes of the jobs that haven't ended
+pub turn_falls : TurnsFall → (old new next : MachineState) (c n : ℕ) (before after : List ℕ) (answer : Turn) (w : World) → Shows old w
+    → Made old c before new n after → ((w : World) → Shows new w → (z : World) × TakesTurn w c answer z × Shows next z)
+    → Falls answer new.jobs next.jobs
+turn_falls law old new next c n before after answer w shows made turns =
+    let r = made w shows in
+    let t = turns r.0 r.3 in
+    let f = (law r.0 t.0 c answer t.1).0 in
+    let P : List Task → Type 0 = λ jobs. Falls answer jobs t.0.jobs in
+    let Q : List Task → Type 0 = λ jobs. Falls answer new.jobs jobs in
+    subst Q t.2.jobs (subst P r.3.jobs f)
+
+-- the room that is left is enough, whatever the turn was
+pub room_kept : (answer : Turn) (old new : List Task) (size more room wide : ℕ) → Falls answer old new
+    → size + 128 * open_jobs old + 128 ≤ room → room ≤ wide → more ≤ size + 128
+    → (((j : ℕ) (end : Outcome) → answer ≡ turn.Ended j end → ⊥) → more ≡ size)
+    → more + 128 * open_jobs new + 128 ≤ wide
+room_kept turn.Ran old new size more room wide f fits grows most none = room_left turn.Ran old new size more room wide f (λ e. cc) fits grows most none
+room_kept (turn.Ended j end) old new size more room wide f fits grows most none = room_left (turn.Ended j end) old new size more room wide f (λ e. cc) fits grows most none
+room_kept turn.Idle old new size more room wide f fits grows most none =
+    let same : more ≡ size = none (λ j end e. cc) in
+    let opens : open_jobs new ≡ open_jobs old = ap (λ (jobs : List Task). open_jobs jobs) f in
+    let step : 128 * open_jobs new ≡ 128 * open_jobs old = ap (λ (n : ℕ). 128 * n) opens in
+    omega arith

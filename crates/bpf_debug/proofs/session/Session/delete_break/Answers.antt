@@ -1,0 +1,19 @@
+use Rattle.std.proofs.Common.{◌≡◌, ℕ, List, Some, sym, subst, ◌∙◌, map}
+use Rattle.std.specs.Prelude.{true, string_bytes}
+use Rattle.bpf_plain.specs.PlainStore.{has_cpu}
+use Rattle.bpf_debug.specs.Command.{Delete}
+use Rattle.bpf_debug.specs.Session.{SessionState, Leaves, IsPc}
+use Rattle.bpf_debug.proofs.SessionLaws.{unbroken}
+use Rattle.bpf_debug.proofs.session.Session.delete_break.Goals as goal
+
+pub returns-clause-answered : goal.returns-clause-answered
+returns-clause-answered c =
+    let m = c.self.inside in
+    let names : List (List ℕ) = map (λ n. string_bytes n) m.names.items in
+    let breaks = m.breakpoints.items in
+    let fewer = c.remove_break.new.breakpoints.items in
+    let last = string_bytes c.put_deleted.new.out in
+    let P : SessionState → Type 0 = λ s. Leaves s (Delete (Some c.args.cpu) (Some c.args.pc)) last (record { machine = m.machine; names = names; breaks = fewer }) in
+    let H : SessionState → Type 0 = λ s. has_cpu s.machine.store c.args.cpu ≡ true in
+    let I : SessionState → Type 0 = λ s. IsPc s.machine.programs c.args.pc in
+    subst P c.self.view_is (unbroken m.machine names breaks c.args.cpu c.args.pc fewer (string_bytes c.in-Some.out) last (subst H (sym c.self.view_is) c.requires.served) (subst I (sym c.self.view_is) c.requires.begins) c.remove_break.ensures c.in-Some.ensures.empty c.put_deleted.ensures)

@@ -1,0 +1,26 @@
+use Rattle.std.proofs.Common.{◌≡◌, ℕ, List, Some, sym, subst, map, arith}
+use Rattle.std.specs.Prelude.{true, string_bytes}
+use Rattle.bpf_plain.specs.PlainStore.{has_cpu}
+use Rattle.bpf_debug.specs.Command.{StepTimes}
+use Rattle.bpf_debug.specs.Session.{SessionState, Leaves}
+use Rattle.bpf_debug.proofs.SessionLaws.{enough, stepped_times}
+use Rattle.bpf_debug.proofs.session.Session.step_times_at.Goals as goal
+
+pub take_turns-requires-clause-room : goal.take_turns-requires-clause-room
+take_turns-requires-clause-room c =
+    let few = enough c.self.inside.machine.jobs c.jobs.result _ c.jobs.ensures c.in-Some.ensures.room in
+    omega (arith, few, c.in-Some.ensures.size)
+
+pub invariant_of-self : goal.invariant_of-self
+invariant_of-self c = let t = c.take_turns.ensures.2 c.self.invariant.0 c.self.invariant.1 in (t.0, t.3)
+
+pub returns-clause-answered : goal.returns-clause-answered
+returns-clause-answered c =
+    let m = c.self.inside in
+    let names : List (List ℕ) = map (λ n. string_bytes n) m.names.items in
+    let n = c.take_turns.new.machine in
+    let t = c.take_turns.ensures in
+    let last = string_bytes c.take_turns.new.out in
+    let P : SessionState → Type 0 = λ s. Leaves s (StepTimes (Some c.args.cpu) c.args.count) last (record { machine = n; names = names; breaks = m.breakpoints.items }) in
+    let H : SessionState → Type 0 = λ s. has_cpu s.machine.store c.args.cpu ≡ true in
+    subst P c.self.view_is (stepped_times m.machine names m.breakpoints.items n c.args.cpu c.args.count (string_bytes c.in-Some.out) t.0 last (subst H (sym c.self.view_is) c.requires) c.in-Some.ensures.empty t.1 t.2)

@@ -1,0 +1,42 @@
+//! Turns of one CPU, one after the other.
+
+ghost use Rattle.std.specs.Prelude.{◌≡◌, ◌+◌, ◌*◌, ◌≤◌, ◌++◌, List, ℕ, string_bytes, string_capacity, string_len};
+ghost use Rattle.bpf_machine.specs.Schedule.{World};
+ghost use Rattle.bpf_machine.specs.Machine.{Shows};
+ghost use Rattle.bpf_machine.specs.Questions.{open_jobs};
+ghost use Rattle.bpf_debug.specs.Answer.{IsWhere};
+ghost use Rattle.bpf_debug.specs.Turns.{MakesTurns};
+
+use crate::lines::{put_ended, put_where};
+use bpf_machine::Machine;
+
+/// So many turns of a CPU, with the lines of the jobs that end.
+fn make_turns(machine: &mut Machine, cpu: u8, count: u32, out: &mut String)
+    requires shown { (w : World) × Shows machine.old w }
+    requires room { string_len out.old + 128 * open_jobs machine.old.jobs + 128
+        ≤ string_capacity out.old }
+    ensures made { (w : World) → Shows machine.old w → (z : World) × (text : List ℕ)
+        × MakesTurns w cpu count text z × Shows machine.new z
+        × (string_bytes out.new ≡ string_bytes out.old ++ text) }
+    ensures room { string_len out.new + 128 ≤ string_capacity out.new }
+{
+    bpf_machine::laws::turns_fall();
+    for _ in 0..count {
+        let turn = machine.turn(cpu);
+        put_ended(out, cpu, turn);
+    }
+}
+
+/// So many turns of a CPU, with the lines of the jobs that end and that of where it stands then.
+pub fn take_turns(machine: &mut Machine, cpu: u8, count: u32, out: &mut String)
+    requires shown { (w : World) × Shows machine.old w }
+    requires room { string_len out.old + 128 * open_jobs machine.old.jobs + 128
+        ≤ string_capacity out.old }
+    ensures { (place : List ℕ) × IsWhere machine.new.jobs cpu place
+        × ((w : World) → Shows machine.old w → (z : World) × (before : List ℕ)
+        × MakesTurns w cpu count before z × Shows machine.new z
+        × (string_bytes out.new ≡ (string_bytes out.old ++ before) ++ place)) }
+{
+    make_turns(machine, cpu, count, out);
+    put_where(out, machine, cpu);
+}
