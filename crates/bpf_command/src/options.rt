@@ -62,12 +62,15 @@ Nothing is read. The code is what stands behind 'refused' or 'fault', as in
 const DEBUG_NOTES: &str = "\
 The commands, one a line, with a CPU C, a pc P, an address A and a number N of bytes (1 to 256):
   break C P   'go' stops before C executes the instruction at P
+  delete C P  takes that breakpoint back
   step C      one turn of C
+  step C N    N turns of C, 1 to 1000000
   go          rounds of turns, up to a breakpoint or until no CPU has work
   regs C      the registers
   where C     the job in hand, the pc and the depth of calls
   mem C A N   bytes in hex, as C's program may read them, or 'unreadable'
   map NAME    the keys of a map with their values, KEY=VALUE in hex
+  keys NAME   the keys alone
 
 A job that ends prints its line. A command that is refused prints 'refused' and a code, changes
 nothing, and the next one is read. The input is a run file, a line '---' and the commands, as in
