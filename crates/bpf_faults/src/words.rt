@@ -6,7 +6,7 @@ use crate::operand::{Access, access_of, register};
 use bpf_cpu::Fault;
 use bpf_helpers::calls::MAPS;
 use bpf_insn::{Insn, Reg};
-use bpf_shared::MapShape;
+use bpf_shared::{MapShape, Span};
 use std::alloc::{AllocError, Global};
 
 /// The maps that a program may be given, by their numbers.
@@ -41,6 +41,30 @@ impl Maps<'_> {
     }
 }
 
+/// The held value that begins last before an address, unless the address is another value's.
+fn value_before(seen: &Seen, address: u64) -> Option<Span> {
+    let mut found: Option<Span> = None;
+    for span in &seen.held {
+        let is_near = address >= span.at && address - span.at < span.size.saturating_mul(2);
+        if is_near && found.is_none_or(|other| span.at > other.at) {
+            found = Some(*span);
+        }
+    }
+    found
+}
+
+/// How far behind the end of a held value the bytes end, where that is what is wrong with them.
+fn push_behind(text: &mut String, span: Span, map: &str, end: u64) -> Result<(), AllocError> {
+    let behind = end.saturating_sub(span.at.saturating_add(span.size));
+    text.push_str("  hint: the access ends ")?;
+    push_count(text, behind)?;
+    write!(
+        text,
+        " behind the value of {map} at 0x{:x}, which has {}\n",
+        span.at, span.size
+    )
+}
+
 /// What may be meant by bytes that can't be reached.
 fn push_hint(
     text: &mut String,
@@ -48,6 +72,7 @@ fn push_hint(
     maps: &Maps<'_>,
     base: Reg,
     address: u64,
+    length: u64,
 ) -> Result<(), AllocError> {
     let number = base.number();
     if register(seen, base) == 0 {
@@ -55,6 +80,11 @@ fn push_hint(
             text,
             "  hint: r{number} is 0: so are registers at first, and the answer of a lookup that finds no key\n"
         );
+    }
+    if let Region::Values(map) = region_of(address)
+        && let Some(span) = value_before(seen, address)
+    {
+        return push_behind(text, span, maps.name(map), address.saturating_add(length));
     }
     match region_of(address) {
         Region::Values(map) if map < maps.shapes.len() => write!(
@@ -110,7 +140,7 @@ fn push_access(
     push_place(text, &access)?;
     text.push_str(")\n")?;
     push_areas(text, seen, maps)?;
-    push_hint(text, seen, maps, access.base, address)
+    push_hint(text, seen, maps, access.base, address, access.length)
 }
 
 /// The key or the value that a helper can't reach, of so many bytes.
@@ -128,7 +158,7 @@ fn push_argument(
     push_count(text, length)?;
     write!(text, " at 0x{address:x} (r{})\n", base.number())?;
     push_areas(text, seen, maps)?;
-    push_hint(text, seen, maps, base, address)
+    push_hint(text, seen, maps, base, address, length)
 }
 
 /// Which argument of a helper can't be reached: the key is tried before the value.
