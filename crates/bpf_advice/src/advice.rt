@@ -1,9 +1,12 @@
 //! All that is said beside an answer.
 
 use crate::caret::caret;
+use crate::comments::push_warnings;
 use crate::excerpt::{Language, instruction_text, line_of};
+use crate::expected::expected;
 use crate::finding::{Finding, finding_in};
 use crate::hints::hint_of;
+use crate::inputs::push_input;
 use bpf_codes::Code;
 use bpf_explain::page_of;
 use std::alloc::{AllocError, Global};
@@ -14,6 +17,15 @@ pub struct Detail {
     pub job: usize,
     /// Lines, each with its end.
     pub text: String,
+}
+
+/// What was read.
+#[derive(Clone, Copy)]
+pub struct Input<'a> {
+    pub language: Language,
+    pub bytes: &'a [u8],
+    /// The bytes as text, empty where they are none.
+    pub text: &'a str,
 }
 
 /// What is known of the faults of an answer.
@@ -50,25 +62,44 @@ fn push_line(
     text.push_str("^\n")
 }
 
-/// What the text has at the finding, and what may be meant.
+/// The line that a finding is of, and what is said of it.
+fn push_found_line(
+    alloc: Global,
+    text: &mut String,
+    input: &str,
+    number: usize,
+    finding: &Finding,
+) -> Result<(), AllocError> {
+    let Some(line) = line_of(input, number) else {
+        return Ok(());
+    };
+    if let Some(expected) = expected(alloc, finding.code, input, line)? {
+        let place = expected.place.min(line.len());
+        push_line(alloc, text, number, line, Some(place))?;
+        return write!(text, "  hint: {}\n", expected.text.as_str());
+    }
+    let place = caret(alloc, finding.code, line.as_bytes())?;
+    push_line(alloc, text, number, line, place)?;
+    match hint_of(finding.code, line) {
+        Some(hint) => write!(text, "  hint: {hint}\n"),
+        None => Ok(()),
+    }
+}
+
+/// What the input has at the finding, and what may be meant.
 fn push_place(
     alloc: Global,
     text: &mut String,
-    language: Language,
-    input: &str,
+    input: &Input<'_>,
     finding: &Finding,
 ) -> Result<(), AllocError> {
-    if let Some(number) = finding.line
-        && let Some(line) = line_of(input, number)
-    {
-        let place = caret(alloc, finding.code, line.as_bytes())?;
-        push_line(alloc, text, number, line, place)?;
-        if let Some(hint) = hint_of(finding.code, line) {
-            write!(text, "  hint: {hint}\n")?;
-        }
+    if let Some(number) = finding.line {
+        push_found_line(alloc, text, input.text, number, finding)?;
+    } else if input.language != Language::RunFile || finding.code == Code::L8 {
+        push_input(text, finding.code, input.text, input.bytes)?;
     }
     if let Some(pc) = finding.pc
-        && let Some(insn) = instruction_text(alloc, language, input, finding)
+        && let Some(insn) = instruction_text(alloc, input.language, input.text, finding)
     {
         write!(text, "  pc {pc}: {}", insn.as_str())?;
     }
@@ -100,11 +131,10 @@ fn push_details(
 }
 
 /// What there is to say of each refusal and fault in what was printed: the line or the instruction,
-/// what the code means, and what may be meant.
+/// what the code means, and what may be meant; and warnings of instructions in comments.
 pub fn advise(
     alloc: Global,
-    language: Language,
-    input: &str,
+    input: &Input<'_>,
     printed: &str,
     details: &Details<'_>,
 ) -> Result<String, AllocError> {
@@ -113,10 +143,13 @@ pub fn advise(
         if let Some(finding) = finding_in(line) {
             let page = page_of(finding.code);
             write!(text, "{line}: {}\n", page.meaning)?;
-            push_place(alloc, &mut text, language, input, &finding)?;
+            push_place(alloc, &mut text, input, &finding)?;
             push_details(&mut text, &finding, details)?;
             write!(text, "  see: ebpf explain {}\n", finding.code.text())?;
         }
+    }
+    if input.language != Language::Words {
+        push_warnings(alloc, &mut text, input.text)?;
     }
     Ok(text)
 }

@@ -1,8 +1,9 @@
 //! The place in a line at which a refusal points.
 
-use crate::forms::fitting_any;
+use crate::forms::{fitting_any, is_number, is_register};
 use crate::token::{Token, tokens_of};
 use bpf_codes::Code;
+use bpf_text::{TextError, assemble_bytes};
 use std::alloc::{AllocError, Global};
 
 /// What follows a label, and how many tokens stand before it.
@@ -13,10 +14,24 @@ fn unlabelled<'t, 'a>(tokens: &'t [Token<'a>]) -> &'t [Token<'a>] {
     }
 }
 
+/// The last register: of a line that has a form but for its registers, the one that isn't the
+/// same as another.
+fn last_register(tokens: &[Token<'_>]) -> Option<usize> {
+    let mut found = None;
+    for token in tokens {
+        if is_register(token.text) {
+            found = Some(token.start);
+        }
+    }
+    found
+}
+
 /// The first token that no form has there, or the line's end.
 fn misfit(line: &[u8], tokens: &[Token<'_>]) -> Option<usize> {
     let rest = unlabelled(tokens);
-    let count = fitting_any(rest)?;
+    let Some(count) = fitting_any(rest) else {
+        return last_register(rest);
+    };
     match rest.get(count) {
         Some(token) => Some(token.start),
         None => match rest.last() {
@@ -26,20 +41,31 @@ fn misfit(line: &[u8], tokens: &[Token<'_>]) -> Option<usize> {
     }
 }
 
-/// The last number that has five digits or more.
-fn great_number(tokens: &[Token<'_>]) -> Option<usize> {
-    let mut found = None;
-    for token in tokens {
-        if token.text.len() >= 5
-            && token
-                .text
-                .iter()
-                .all(|b| b.is_ascii_hexdigit() || *b == b'x')
-        {
-            found = Some(token.start);
+/// The line with 0 for each of its numbers but that of this token.
+fn with_number(alloc: Global, tokens: &[Token<'_>], kept: usize) -> Result<Vec<u8>, AllocError> {
+    let mut text = Vec::new(alloc);
+    for (place, token) in tokens.iter().enumerate() {
+        if place != kept && is_number(token.text) {
+            text.push(b'0')?;
+        } else {
+            text.extend_from_slice(token.text)?;
+        }
+        text.push(b' ')?;
+    }
+    Ok(text)
+}
+
+/// The first number that is out of its range, whatever the others are.
+fn unfit_number(alloc: Global, tokens: &[Token<'_>]) -> Result<Option<usize>, AllocError> {
+    for (place, token) in tokens.iter().enumerate() {
+        if is_number(token.text) {
+            let line = with_number(alloc, tokens, place)?;
+            if matches!(assemble_bytes(alloc, &line), Err(TextError::BadNumber(_))) {
+                return Ok(Some(token.start));
+            }
         }
     }
-    found
+    Ok(None)
 }
 
 /// The place that a refusal of the line points at, in bytes of the line.
@@ -47,7 +73,7 @@ pub fn caret(alloc: Global, code: Code, line: &[u8]) -> Result<Option<usize>, Al
     let tokens = tokens_of(alloc, line)?;
     let place = match code {
         Code::A1 => misfit(line, &tokens),
-        Code::A2 => great_number(&tokens),
+        Code::A2 => unfit_number(alloc, &tokens)?,
         Code::A3 | Code::A5 => tokens.last().map(|token| token.start),
         Code::A4 => tokens.first().map(|token| token.start),
         _ => None,

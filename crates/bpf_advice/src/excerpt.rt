@@ -67,11 +67,25 @@ fn insns_of_program(alloc: Global, file: &str, line: usize) -> Option<Vec<Insn>>
 }
 
 /// What stands between blanks in a line, to its comment.
-fn fields(line: &str) -> SplitAsciiWhitespace<'_> {
+pub fn fields(line: &str) -> SplitAsciiWhitespace<'_> {
     line.split(';')
         .next()
         .unwrap_or("")
         .split_ascii_whitespace()
+}
+
+/// Where the words of a line begin, in bytes.
+pub fn places_of(alloc: Global, line: &str) -> Result<Vec<usize>, AllocError> {
+    let mut places = Vec::new(alloc);
+    let mut behind_blank = true;
+    for (place, byte) in line.as_bytes().iter().enumerate() {
+        let is_blank = byte.is_ascii_whitespace();
+        if behind_blank && !is_blank {
+            places.push(place)?;
+        }
+        behind_blank = is_blank;
+    }
+    Ok(places)
 }
 
 /// The name of a job's program, the job's number counted from 0.

@@ -49,7 +49,13 @@ fn is_numbered(text: &[u8], letter: u8) -> bool {
     }
 }
 
-fn is_number(text: &[u8]) -> bool {
+/// Whether a word is a register of either width.
+pub fn is_register(text: &[u8]) -> bool {
+    is_numbered(text, b'r') || is_numbered(text, b'w')
+}
+
+/// Whether a word is a number, of any size.
+pub fn is_number(text: &[u8]) -> bool {
     match text {
         [b'0', b'x', digits @ ..] => {
             !digits.is_empty() && digits.iter().all(|b| b.is_ascii_hexdigit())

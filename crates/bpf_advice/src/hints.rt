@@ -24,6 +24,14 @@ fn lacks_offset(line: &str) -> bool {
     }
 }
 
+/// Whether a digit stands right before `ll`.
+fn joins_wide(line: &str) -> bool {
+    match line.split_once("ll") {
+        Some((before, _)) => before.ends_with(|letter: char| letter.is_ascii_hexdigit()),
+        None => false,
+    }
+}
+
 /// Whether the line swaps bytes.
 fn swaps_bytes(line: &str) -> bool {
     line.contains("= be") || line.contains("= le") || line.contains("= bswap")
@@ -31,7 +39,13 @@ fn swaps_bytes(line: &str) -> bool {
 
 /// Hints that a line's spelling gives.
 fn spelling_hint(line: &str) -> Option<&'static str> {
-    if line.contains("//") || line.contains('#') {
+    if line.contains("call") && line.contains('#') {
+        Some("a helper is called by its number alone: `call 1`")
+    } else if line.trim().starts_with('.') || line.contains("file format") {
+        Some(
+            "text of clang or objdump: `llvm-objcopy -O binary --only-section=.text` takes words out of the object, and `xxd -p` makes hex digits of them",
+        )
+    } else if line.contains("//") || line.contains('#') {
         Some("a comment begins with `;`")
     } else if begins_as_mnemonic(line) {
         Some("operations are written as in C: `r0 = 5`, `r0 += r1`, `r0 = *(u32 *)(r1 + 0)`")
@@ -45,8 +59,10 @@ fn spelling_hint(line: &str) -> Option<&'static str> {
         Some("memory is loaded and stored by `r` registers: `*(u32 *)(r1 + 0) = r2`")
     } else if swaps_bytes(line) {
         Some("bytes are swapped in one register: `r1 = be16 r1`")
-    } else if line.contains("ll") {
+    } else if joins_wide(line) {
         Some("`ll` stands behind a blank: `r0 = 5 ll`")
+    } else if line.contains(" ll") {
+        Some("`ll` stands behind a number: `r0 = 5 ll`")
     } else {
         None
     }

@@ -5,11 +5,14 @@
 
 mod advice;
 mod caret;
+mod comments;
 mod excerpt;
+mod expected;
 mod finding;
 mod forms;
 mod hints;
+mod inputs;
 mod token;
 
-pub use advice::{Detail, Details, advise};
+pub use advice::{Detail, Details, Input, advise};
 pub use excerpt::Language;

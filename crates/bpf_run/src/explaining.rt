@@ -3,7 +3,7 @@
 use crate::fault::{details_of_file, details_of_program};
 use crate::perform::{Performed, answer_text};
 use crate::reply::{Reply, Status};
-use bpf_advice::{Detail, Details, Language, advise};
+use bpf_advice::{Detail, Details, Input, Language, advise};
 use bpf_command::{Command, FileOptions};
 use bpf_cpu::Outcome;
 use bpf_jobs::OutcomeText;
@@ -106,13 +106,18 @@ fn details(alloc: Global, subject: &Subject, reply: &Reply, input: &str) -> Vec<
 /// What there is to say of an answer, from what was read and what was printed.
 fn explanation(alloc: Global, subject: &Subject, done: &Performed) -> Result<String, AllocError> {
     let printed = printed(alloc, &done.reply)?;
-    let input = str::from_utf8(&done.input).unwrap_or("");
-    let known = details(alloc, subject, &done.reply, input);
+    let text = str::from_utf8(&done.input).unwrap_or("");
+    let known = details(alloc, subject, &done.reply, text);
+    let input = Input {
+        language: subject.language(),
+        bytes: &done.input,
+        text,
+    };
     let details = Details {
         known: &known,
         otherwise: subject.otherwise(),
     };
-    advise(alloc, subject.language(), input, printed.as_str(), &details)
+    advise(alloc, &input, printed.as_str(), &details)
 }
 
 /// Explains the refusals and faults of an answer, unless it couldn't be printed: first why the input
