@@ -1,12 +1,16 @@
 -- What all workers of a store did, in the store's one history.
-use Rattle.std.proofs.Common.{◌≡◌, ℕ, zero, suc, ◌+◌, ◌<◌, ◌==◌, Bool, true, false, List, [], ◌∷◌, ◌++◌, None, Some, Option, IsSome, slice_get, All, cond, length, map, get_or, refl, ap, sym, subst, ◌∙◌, arith}
+use Rattle.std.proofs.Common.{◌≡◌, ℕ, zero, suc, ◌+◌, ◌<◌, ◌≤◌, ◌==◌, Bool, true, false, List, [], ◌∷◌, ◌++◌, None, Some, Option, IsSome, slice_get, All, cond, length, map, get_or, refl, ap, sym, subst, ◌∙◌, arith}
+use Rattle.std.specs.Prelude.{option_map}
 use Rattle.std.proofs.lemmas.List.{get_or-map, get_or_default, length-map}
+use Rattle.std.proofs.lemmas.Option.{slice_get-map, slice_get-get_or}
 use Rattle.std.proofs.lemmas.List.Elements.{All-nil, All-cons}
 use Rattle.std.proofs.lemmas.Bool.Decides.{nat_tests}
 use mathlib.Core.Option.{some}
 use lib.ListN.{get_elem?}
 use Rattle.bpf_shared.specs.declared.events.Event.{Event}
 use Rattle.bpf_shared.specs.declared.events.Entry.{Entry}
+use Rattle.bpf_shared.specs.declared.shapes.MapShape.{MapShape}
+use Rattle.bpf_shared.specs.KeyOrder.{Listed}
 use Rattle.bpf_shared.specs.Own.{in_run}
 use Rattle.bpf_shared.specs.History.{events_of, IsLegal}
 use Rattle.bpf_loader.specs.Loaded.{Loaded}
@@ -23,10 +27,10 @@ use Rattle.hop_map.specs.Stores.{ArePorts}
 use Rattle.bpf_sched.specs.declared.assignment.Assignment.{Assignment}
 use Rattle.bpf_sched.specs.declared.worker.Worker.{Worker}
 use Rattle.hop_words.specs.Shortage.{HaveCauses}
-use Rattle.bpf_sched.specs.Explained.{ExplainsJobs, IsExplained, IsWorn, waiting_context, jobs_of, ends_of}
-use Rattle.bpf_sched.specs.Working.{IsNew, RunsAll, assigned, outcome_of}
-use Rattle.bpf_sched.specs.Worked.{AreFor, IsReadyWorker, Worked, extends}
-use Rattle.bpf_sched.proofs.Told.{explains_jobs, ran_all}
+use Rattle.bpf_sched.specs.Explained.{ExplainsJobs, IsExplained, IsWorn, waiting_context, jobs_of, ends_of, keys_events, listed_maps}
+use Rattle.bpf_sched.specs.Working.{AreListsFor, IsNew, RunsAndLists, assigned, outcome_of}
+use Rattle.bpf_sched.specs.Worked.{AreFor, IsReadyWorker, Worked, extends, found_in, listed_by}
+use Rattle.bpf_sched.proofs.Told.{explains_lists, ran_all}
 
 long_lanes : (a : About) (c n : ℕ) → length (lanes_from a c n) ≡ n
 long_lanes a c zero = refl
@@ -65,7 +69,24 @@ cpu_below n [] all task j is = absurd (nothing task is)
 cpu_below n (job ∷ jobs) all task zero is = subst (λ (x : Task). x.cpu < n) (some_same (waiting job) task is) (all 0 job (omega arith))
 cpu_below n (job ∷ jobs) all task (suc j) is = cpu_below n jobs (λ i d inside. all (suc i) d (omega arith)) task j is
 
-module _ (t : Shown) (jobs : List Job) (programs : List Loaded) (ports : List Port) (are : ArePorts t ports) (ws : List Worker) (for_jobs : AreFor (map waiting jobs) t.about.shape.cpus ws)
+-- lists of as many maps as are listed are few, and each was made for the map of its number
+fit_lists : (keys : Bool) (maps : List MapShape) (tasks : List Task) (lists : List Listed) → length maps ≤ 16 → map (λ (l : Listed). l.shape) lists ≡ listed_maps keys maps tasks → AreListsFor maps lists
+fit_lists keys maps tasks lists few same = record {
+  few = omega (arith, length-map lists (λ (l : Listed). l.shape), ap length same, most keys tasks);
+  each = λ m l at. there keys tasks m l.shape (ap (λ (hs : List MapShape). slice_get hs m) (sym same) ∙ (slice_get-map (λ (l : Listed). l.shape) lists m ∙ ap (option_map (λ (l : Listed). l.shape)) at));
+}
+  where
+    most : (keys : Bool) (tasks : List Task) → length (listed_maps keys maps tasks) ≤ length maps
+    most false tasks = omega arith
+    most true [] = omega arith
+    most true (task ∷ tasks) = omega arith
+
+    there : (keys : Bool) (tasks : List Task) (m : ℕ) (h : MapShape) → slice_get (listed_maps keys maps tasks) m ≡ Some h → slice_get maps m ≡ Some h
+    there false tasks m h e = cc
+    there true [] m h e = cc
+    there true (task ∷ tasks) m h e = e
+
+module _ {keys : Bool} (t : Shown) (jobs : List Job) (programs : List Loaded) (ports : List Port) (are : ArePorts t ports) (ws : List Worker) (for_jobs : AreFor keys t.about.shape.maps (map waiting jobs) t.about.shape.cpus ws)
     (good : All (λ (job : Job). job.program < length programs) jobs) where
   abbrev tasks : List Task
   tasks = map waiting jobs
@@ -94,11 +115,14 @@ module _ (t : Shown) (jobs : List Job) (programs : List Loaded) (ports : List Po
     given_at : (i : ℕ) (d : Worker) → i < cpus → (get_or equipped i d).workload.jobs.items ≡ map assigned (jobs_of i tasks)
     given_at i d inside = ap (λ w. w.jobs.items) (has_jobs i d (omega (arith, for_jobs.size))) ∙ (for_jobs.each i d inside).jobs
 
+    lists_at : (i : ℕ) (d : Worker) → i < cpus → map (λ list. list.shape) (get_or equipped i d).workload.lists.items ≡ listed_maps keys t.about.shape.maps (jobs_of i tasks)
+    lists_at i d inside = ap (λ w. map (λ list. list.shape) w.lists.items) (has_jobs i d (omega (arith, for_jobs.size))) ∙ (for_jobs.each i d inside).lists
+
     number_at : (i : ℕ) (d : Worker) → i < cpus → (get_or equipped i d).workload.cpu ≡ i
     number_at i d inside = ap (λ w. w.cpu) (has_jobs i d (omega (arith, for_jobs.size))) ∙ (for_jobs.each i d inside).number
 
-    ready_at : (i : ℕ) (d : Worker) → i < cpus → IsReadyWorker t (length programs) (get_or equipped i d)
-    ready_at i d inside = record {
+    ready_at : length t.about.shape.maps ≤ 16 → (i : ℕ) (d : Worker) → i < cpus → IsReadyWorker t (length programs) (get_or equipped i d)
+    ready_at few i d inside = record {
       port = get_or ports i no_port;
       has = has_port i d no_port (omega (arith, for_jobs.size));
       fits = are.each i no_port (omega (arith, many));
@@ -106,10 +130,11 @@ module _ (t : Shown) (jobs : List Job) (programs : List Loaded) (ports : List Po
       cpu = ap (λ (l : Known). l.cpu) (known_at i inside) ∙ sym (number_at i d inside);
       new = subst (λ c. All (IsNew c (length programs)) (get_or equipped i d).workload.jobs.items) (sym (number_at i d inside))
           (subst (All (IsNew i (length programs))) (sym (given_at i d inside)) (new_all i (length programs) jobs good));
+      lists = fit_lists keys t.about.shape.maps (jobs_of i tasks) (get_or equipped i d).workload.lists.items few (lists_at i d inside);
     }
 
-    pub all_ready : All (IsReadyWorker t (length programs)) equipped
-    all_ready = λ i d inside. ready_at i d (omega (arith, size, for_jobs.size))
+    pub all_ready : length t.about.shape.maps ≤ 16 → All (IsReadyWorker t (length programs)) equipped
+    all_ready few = λ i d inside. ready_at few i d (omega (arith, size, for_jobs.size))
 
     module _ (vs : List Worker) (long : length vs ≡ length equipped) (each : (i : ℕ) (d : Worker) → i < length equipped → Worked t programs (get_or equipped i d) (get_or vs i d)) where
       did : (i : ℕ) (d : Worker) → i < cpus → Worked t programs (get_or equipped i d) (get_or vs i d)
@@ -119,7 +144,7 @@ module _ (t : Shown) (jobs : List Job) (programs : List Loaded) (ports : List Po
       all_run i d inside =
           let at : i < cpus = omega (arith, long, size, for_jobs.size) in
           let w = did i d at in
-          ran_all extends (IsWorn t.about.count) t.about.shape.maps programs (own_events w.before) (own_events w.after) (get_or equipped i d).workload.jobs.items (get_or vs i d).workload.jobs.items w.events w.ran
+          ran_all extends (IsWorn t.about.count) t.about.shape.maps programs (own_events w.before) w.ran.last (get_or equipped i d).workload.jobs.items (get_or vs i d).workload.jobs.items w.ran.ran w.ran.runs
           ∙ (ap length (given_at i d at) ∙ length-map (jobs_of i tasks) assigned)
 
       pub all_have_ports : All (λ (w : Worker). IsSome w.port) vs
@@ -175,23 +200,39 @@ module _ (t : Shown) (jobs : List Job) (programs : List Loaded) (ports : List Po
               ∙ (ap own_events (back_at c d inside)
               ∙ (w.more ∙ ap (λ (l : List Event). l ++ w.events) (ap own_events (was_at c d inside) ∙ nothing_seen c inside)))
 
-          explained_at : (c : ℕ) → c < cpus → ExplainsJobs t.about.shape.maps t.about.count programs [] (jobs_of c tasks) (ends_of c tasks ends) (events_of c history)
+          -- what a CPU has listed, as its worker has it
+          found_at : (c : ℕ) (d : Worker) → c < cpus → listed_by (map (λ (w : Worker). w.workload.lists) vs) c ≡ map (λ list. list.keys) (get_or vs c d).workload.lists.items
+          found_at c d inside =
+              ap found_in (slice_get-map (λ (w : Worker). w.workload.lists) vs c ∙ ap (option_map (λ (w : Worker). w.workload.lists)) (slice_get-get_or vs c d (omega (arith, long, size, for_jobs.size))))
+
+          listed_at : (c : ℕ) → c < cpus → length (listed_by (map (λ (w : Worker). w.workload.lists) vs) c) ≡ length (listed_maps keys t.about.shape.maps (jobs_of c tasks))
+          listed_at c inside =
+              let d = worker_at c inside in
+              let v = (get_or vs c d).workload.lists.items in
+              ap length (found_at c d inside)
+              ∙ (length-map v (λ (l : Listed). l.keys)
+              ∙ (sym (length-map v (λ (l : Listed). l.shape)) ∙ ap length ((did c d inside).same ∙ lists_at c d inside)))
+
+          explained_at : (c : ℕ) → c < cpus → ExplainsJobs t.about.shape.maps t.about.count programs [] (jobs_of c tasks) (ends_of c tasks ends) (keys_events 0 (listed_by (map (λ (w : Worker). w.workload.lists) vs) c)) (events_of c history)
           explained_at c inside =
               let d = worker_at c inside in
               let w = did c d inside in
               let news = (get_or vs c d).workload.jobs.items in
-              let from_none : RunsAll extends (IsWorn t.about.count) t.about.shape.maps programs [] (map assigned (jobs_of c tasks)) news w.events (own_events w.after) =
-              subst (λ (l : List Assignment). RunsAll extends (IsWorn t.about.count) t.about.shape.maps programs [] l news w.events (own_events w.after)) (given_at c d inside)
-              (subst (λ (l : List Event). RunsAll extends (IsWorn t.about.count) t.about.shape.maps programs l (get_or equipped c d).workload.jobs.items news w.events (own_events w.after)) (ap own_events (was_at c d inside) ∙ nothing_seen c inside) w.ran) in
-              subst (λ (l : List Event). ExplainsJobs t.about.shape.maps t.about.count programs [] (jobs_of c tasks) (ends_of c tasks ends) l) (sym (own_at c d inside))
-              (subst (λ (l : List Outcome). ExplainsJobs t.about.shape.maps t.about.count programs [] (jobs_of c tasks) l w.events) (sym (noted c d (omega (arith, long, size, for_jobs.size))))
-              (explains_jobs t.about.shape.maps t.about.count programs [] (own_events w.after) (jobs_of c tasks) news w.events from_none))
+              let found = map (λ list. list.keys) (get_or vs c d).workload.lists.items in
+              let from_none : RunsAndLists extends (IsWorn t.about.count) t.about.shape.maps programs [] (map assigned (jobs_of c tasks)) news found w.events (own_events w.after) =
+              subst (λ (l : List Assignment). RunsAndLists extends (IsWorn t.about.count) t.about.shape.maps programs [] l news found w.events (own_events w.after)) (given_at c d inside)
+              (subst (λ (l : List Event). RunsAndLists extends (IsWorn t.about.count) t.about.shape.maps programs l (get_or equipped c d).workload.jobs.items news found w.events (own_events w.after)) (ap own_events (was_at c d inside) ∙ nothing_seen c inside) w.ran) in
+              subst (λ (l : List Event). ExplainsJobs t.about.shape.maps t.about.count programs [] (jobs_of c tasks) (ends_of c tasks ends) (keys_events 0 (listed_by (map (λ (w : Worker). w.workload.lists) vs) c)) l) (sym (own_at c d inside))
+              (subst (λ (l : List (List (List ℕ))). ExplainsJobs t.about.shape.maps t.about.count programs [] (jobs_of c tasks) (ends_of c tasks ends) (keys_events 0 l) w.events) (sym (found_at c d inside))
+              (subst (λ (l : List Outcome). ExplainsJobs t.about.shape.maps t.about.count programs [] (jobs_of c tasks) l (keys_events 0 found) w.events) (sym (noted c d (omega (arith, long, size, for_jobs.size))))
+              (explains_lists t.about.shape.maps t.about.count programs [] (own_events w.after) (jobs_of c tasks) news found w.events from_none)))
 
-          pub all_explained : IsExplained t.about.shape t.about.version t.about.count programs tasks ends history
+          pub all_explained : IsExplained t.about.shape t.about.version t.about.count programs tasks keys ends (listed_by (map (λ (w : Worker). w.workload.lists) vs)) history
           all_explained = record {
             legal = legal;
             causes = causes;
             each_ended = full ∙ sym (length-map jobs waiting);
             each_has_cpu = λ task j is. cpu_below cpus jobs here task j is;
+            each_listed = listed_at;
             explained = explained_at;
           }

@@ -1,6 +1,9 @@
 -- The workers of a store as a vector shows them between the calls that change them.
-use Rattle.std.proofs.Common.{◌≡◌, ℕ, ◌<◌, List, ◌++◌, Some, IsSome, All, length, map, get_or, take, drop, ap, sym, subst, ◌∙◌, arith}
+use Rattle.std.proofs.Common.{◌≡◌, ℕ, ◌<◌, ◌≤◌, Bool, List, ◌++◌, Some, IsSome, All, length, map, get_or, take, drop, ap, sym, subst, ◌∙◌, arith}
+use Rattle.std.specs.Prelude.{Vec}
+use Rattle.std.specs.declared.alloc.Global.{Global}
 use Rattle.bpf_base.proofs.Lists.{filled}
+use Rattle.bpf_shared.specs.KeyOrder.{Listed}
 use Rattle.bpf_shared.specs.declared.events.Entry.{Entry}
 use Rattle.bpf_shared.specs.History.{IsLegal}
 use Rattle.bpf_loader.specs.Loaded.{Loaded}
@@ -14,10 +17,10 @@ use Rattle.bpf_sched.specs.declared.worker.Worker.{Worker}
 use Rattle.hop_words.specs.Shortage.{HaveCauses}
 use Rattle.bpf_sched.specs.Explained.{IsExplained, jobs_of, ends_of}
 use Rattle.bpf_sched.specs.Working.{outcome_of}
-use Rattle.bpf_sched.specs.Worked.{AreFor, IsReadyWorker, Worked}
+use Rattle.bpf_sched.specs.Worked.{AreFor, IsReadyWorker, Worked, listed_by}
 use Rattle.bpf_sched.proofs.Crews.{all_ready, all_run, all_have_ports, is_all, all_explained}
 
-module _ (t : Shown) (jobs : List Job) (programs : List Loaded) (ports : List Port) (are : ArePorts t ports) (ws : List Worker) (for_jobs : AreFor (map waiting jobs) t.about.shape.cpus ws)
+module _ {keys : Bool} (t : Shown) (jobs : List Job) (programs : List Loaded) (ports : List Port) (are : ArePorts t ports) (ws : List Worker) (for_jobs : AreFor keys t.about.shape.maps (map waiting jobs) t.about.shape.cpus ws)
     (good : All (λ (job : Job). job.program < length programs) jobs)
     (first equipped : List Worker) (n : ℕ) (was : first ≡ ws) (long : length first ≡ n) (size : length equipped ≡ length first)
     (ported : (c : ℕ) (d : Worker) (p : Port) → c < length first → (get_or equipped c d).port ≡ Some (get_or ports c p))
@@ -37,8 +40,8 @@ module _ (t : Shown) (jobs : List Job) (programs : List Loaded) (ports : List Po
   has_jobs : (c : ℕ) (d : Worker) → c < length ws → (get_or equipped c d).workload ≡ (get_or ws c d).workload
   has_jobs c d inside = kept c d (omega (arith, ap length was)) ∙ ap (λ (l : List Worker). (get_or l c d).workload) was
 
-  pub ready : (shown : List Worker) → shown ≡ second → All (IsReadyWorker t (length programs)) shown
-  ready shown is = subst (All (IsReadyWorker t (length programs))) (sym (is ∙ same_second)) (all_ready t jobs programs ports are ws for_jobs good equipped same_size has_port has_jobs)
+  pub ready : length t.about.shape.maps ≤ 16 → (shown : List Worker) → shown ≡ second → All (IsReadyWorker t (length programs)) shown
+  ready few shown is = subst (All (IsReadyWorker t (length programs))) (sym (is ∙ same_second)) (all_ready t jobs programs ports are ws for_jobs good equipped same_size has_port has_jobs few)
 
   module _ (shown : List Worker) (is : shown ≡ second) (done : List Worker) (still : length done ≡ length shown)
       (each : (i : ℕ) (d : Worker) → i < length shown → Worked t programs (get_or shown i d) (get_or done i d)) where
@@ -71,11 +74,12 @@ module _ (t : Shown) (jobs : List Job) (programs : List Loaded) (ports : List Po
       pub all_of : IsAllOf t back
       all_of = is_all t jobs programs ports are ws for_jobs good equipped same_size has_port has_jobs done as_many did back came
 
-      pub explained : (history : List Entry) → IsLegal t.about.shape history → HaveCauses t.about.shape t.about.version history → All (IsPartOf history) back → (ends told : List Outcome) → told ≡ ends → length ends ≡ length jobs
+      pub explained : (lists : List (Vec Listed Global)) → lists ≡ map (λ (w : Worker). w.workload.lists) third → (history : List Entry) → IsLegal t.about.shape history → HaveCauses t.about.shape t.about.version history → All (IsPartOf history) back → (ends told : List Outcome) → told ≡ ends → length ends ≡ length jobs
           → (seen : List Worker) → seen ≡ third → ((c : ℕ) (d : Worker) → c < length seen → ends_of c (map waiting jobs) ends ≡ map outcome_of (get_or seen c d).workload.jobs.items)
           → All (λ (job : Job). job.cpu < t.about.shape.cpus) jobs
-          → IsExplained t.about.shape t.about.version t.about.count programs (map waiting jobs) told history
-      explained history legal causes parts ends told same full seen at noted here =
-          subst (λ (l : List Outcome). IsExplained t.about.shape t.about.version t.about.count programs (map waiting jobs) l history) (sym same)
+          → IsExplained t.about.shape t.about.version t.about.count programs (map waiting jobs) keys told (listed_by lists) history
+      explained lists listed history legal causes parts ends told same full seen at noted here =
+          subst (λ (l : List (Vec Listed Global)). IsExplained t.about.shape t.about.version t.about.count programs (map waiting jobs) keys told (listed_by l) history) (sym (listed ∙ ap (map (λ (w : Worker). w.workload.lists)) same_third))
+          (subst (λ (l : List Outcome). IsExplained t.about.shape t.about.version t.about.count programs (map waiting jobs) keys l (listed_by (map (λ (w : Worker). w.workload.lists) done)) history) (sym same)
           (all_explained t jobs programs ports are ws for_jobs good equipped same_size has_port has_jobs done as_many did back came history legal causes parts ends full
-          (subst (λ (l : List Worker). (c : ℕ) (d : Worker) → c < length l → ends_of c (map waiting jobs) ends ≡ map outcome_of (get_or l c d).workload.jobs.items) (at ∙ same_third) noted) here)
+          (subst (λ (l : List Worker). (c : ℕ) (d : Worker) → c < length l → ends_of c (map waiting jobs) ends ≡ map outcome_of (get_or l c d).workload.jobs.items) (at ∙ same_third) noted) here))

@@ -9,3 +9,4 @@ pub mod Porting
 pub mod Crews
 pub mod Finishing
 pub mod Refusing
+pub mod Listing

@@ -1,5 +1,5 @@
 -- What a CPU's calls over its port are to the events that the port has seen of it.
-use Rattle.std.proofs.Common.{◌≡◌, ℕ, List, [], ◌∷◌, Some, ◌++◌, ap, sym, subst, ◌∙◌}
+use Rattle.std.proofs.Common.{◌≡◌, ℕ, List, [], ◌∷◌, Some, ◌++◌, map, ap, sym, subst, ◌∙◌}
 use Rattle.bpf_shared.specs.declared.events.Event.{Event}
 use Rattle.bpf_shared.specs.Chain.{Chain}
 use Rattle.bpf_shared.specs.History.{events_of}
@@ -13,10 +13,11 @@ use Rattle.hop_cpu.specs.Serving.{Serving, serves, IsPortWorn}
 use Rattle.hop_cpu.specs.Passing.{ExtendsHistory}
 use Rattle.bpf_sched.specs.declared.assignment.Assignment.{Assignment}
 use Rattle.bpf_sched.specs.Explained as explained
-use Rattle.bpf_sched.specs.Working.{RunsAll}
+use Rattle.bpf_sched.specs.Working.{RunsAll, RunsAndLists}
 use Rattle.bpf_sched.specs.Worked.{Worked, extends}
 use Rattle.bpf_sched.specs.declared.worker.Worker.{Worker}
-use Rattle.bpf_sched.proofs.Told.{all_behind, carried}
+use Rattle.bpf_sched.specs.Explained.{keys_events}
+use Rattle.bpf_sched.proofs.Told.{lists_behind, carried, carried_lists}
 
 -- a value of a gate's store, of which the port's CPU is seen
 module _ {G : Type 0} (serving : G → Serving) (t : Shown) (cpu : ℕ) (programs : List Loaded) where
@@ -41,15 +42,30 @@ module _ {G : Type 0} (serving : G → Serving) (t : Shown) (cpu : ℕ) (program
   is_worn : (x : G) → IsOf x → IsPortWorn (serving x) cpu → explained.IsWorn t.about.count (own_of x)
   is_worn x of worn = subst (λ (s : Shown). explained.IsWorn s.about.count (own_of x)) of.0 worn
 
-  pub over_port : (x y : G) (olds news : List Assignment) (events : List Event) → IsOf x
+  over_port : (x y : G) (olds news : List Assignment) (events : List Event) → IsOf x
       → RunsAll (Chain (λ a b log. ExtendsHistory (serving a) (serving b) log) (λ a. serves (serving a)) cpu) (λ a. IsPortWorn (serving a) cpu) t.about.shape.maps programs x olds news events y
       → IsOf y × RunsAll extends (explained.IsWorn t.about.count) t.about.shape.maps programs (own_of x) olds news events (own_of y)
   over_port x y olds news events of all =
       carried IsOf own_of (Chain (λ a b log. ExtendsHistory (serving a) (serving b) log) (λ a. serves (serving a)) cpu) (λ a. IsPortWorn (serving a) cpu) extends (explained.IsWorn t.about.count)
       moves_on is_worn t.about.shape.maps programs x y olds news events of all
 
+  pub lists_over_port : (x y : G) (olds news : List Assignment) (lists : List (List (List ℕ))) (events : List Event) → IsOf x
+      → RunsAndLists (Chain (λ a b log. ExtendsHistory (serving a) (serving b) log) (λ a. serves (serving a)) cpu) (λ a. IsPortWorn (serving a) cpu) t.about.shape.maps programs x olds news lists events y
+      → IsOf y × RunsAndLists extends (explained.IsWorn t.about.count) t.about.shape.maps programs (own_of x) olds news lists events (own_of y)
+  lists_over_port x y olds news lists events of all =
+      carried_lists IsOf own_of (Chain (λ a b log. ExtendsHistory (serving a) (serving b) log) (λ a. serves (serving a)) cpu) (λ a. IsPortWorn (serving a) cpu) extends (explained.IsWorn t.about.count)
+      moves_on is_worn t.about.shape.maps programs x y olds news lists events of all
+
+  -- what the port's CPU noted on a way
+  chain_notes : (x z : G) (mine : List Event) → IsOf x → Chain (λ a b log. ExtendsHistory (serving a) (serving b) log) (λ a. serves (serving a)) cpu x z mine
+      → CallsNote t.about mine (serving x).port.known (serving z).port.known
+  chain_notes x z mine of way =
+      subst (λ (es : List Event). CallsNote t.about es (serving x).port.known (serving z).port.known) way.own
+      (subst (λ (k : ℕ). CallsNote t.about (events_of k way.log) (serving x).port.known (serving z).port.known) of.1
+      (subst (λ (s : Shown). CallsNote s.about (events_of (serving x).port.known.cpu way.log) (serving x).port.known (serving z).port.known) of.0 way.passage.noted))
+
   -- what the port's CPU noted at the calls of all jobs
-  pub noted_by_all : (x y : G) (olds news : List Assignment) (events : List Event) → IsOf x
+  noted_by_all : (x y : G) (olds news : List Assignment) (events : List Event) → IsOf x
       → RunsAll (Chain (λ a b log. ExtendsHistory (serving a) (serving b) log) (λ a. serves (serving a)) cpu) (λ a. IsPortWorn (serving a) cpu) t.about.shape.maps programs x olds news events y
       → CallsNote t.about events (serving x).port.known (serving y).port.known
   noted_by_all x y [] [] events of (none, same) =
@@ -58,27 +74,34 @@ module _ {G : Type 0} (serving : G → Serving) (t : Shown) (cpu : ℕ) (program
   noted_by_all x y [] (new ∷ news) events of all = absurd all
   noted_by_all x y (old ∷ olds) [] events of all = absurd all
   noted_by_all x y (old ∷ olds) (new ∷ news) events of (z, mine, rest, is, ran, others) =
-      let here : CallsNote t.about mine (serving x).port.known (serving z).port.known =
-      subst (λ (es : List Event). CallsNote t.about es (serving x).port.known (serving z).port.known) ran.way.own
-      (subst (λ (k : ℕ). CallsNote t.about (events_of k ran.way.log) (serving x).port.known (serving z).port.known) of.1
-      (subst (λ (s : Shown). CallsNote s.about (events_of (serving x).port.known.cpu ran.way.log) (serving x).port.known (serving z).port.known) of.0 ran.way.passage.noted)) in
+      let here = chain_notes x z mine of ran.way in
       subst (λ (es : List Event). CallsNote t.about es (serving x).port.known (serving y).port.known) (sym is)
       (notes-append t.about mine rest (serving x).port.known (serving z).port.known (serving y).port.known here
       (noted_by_all z y olds news rest (moves_on x z mine of ran.way).0 others))
 
+  pub noted_by_lists : (x y : G) (olds news : List Assignment) (lists : List (List (List ℕ))) (events : List Event) → IsOf x
+      → RunsAndLists (Chain (λ a b log. ExtendsHistory (serving a) (serving b) log) (λ a. serves (serving a)) cpu) (λ a. IsPortWorn (serving a) cpu) t.about.shape.maps programs x olds news lists events y
+      → CallsNote t.about events (serving x).port.known (serving y).port.known
+  noted_by_lists x y olds news lists events of all =
+      let there = (over_port x all.last olds news all.ran of all.runs).0 in
+      subst (λ (es : List Event). CallsNote t.about es (serving x).port.known (serving y).port.known) (sym all.cut)
+      (notes-append t.about all.ran (keys_events 0 lists) (serving x).port.known (serving all.last).port.known (serving y).port.known
+      (noted_by_all x all.last olds news all.ran of all.runs) (chain_notes all.last y (keys_events 0 lists) there all.way))
+
 -- a worker whose port was behind a gate's store has worked
 pub worked : {G : Type 0} (x y : G) (serving : G → Serving) (t : Shown) (programs : List Loaded) (w v : Worker) (p q : Port) (events : List Event)
     → w.port ≡ Some p → v.port ≡ Some q → (serving x).table ≡ t → (serving x).port ≡ p → p.known.cpu ≡ w.workload.cpu → q ≡ (serving y).port → IsPortOf (serving y).table q
-    → RunsAll (Chain (λ a b log. ExtendsHistory (serving a) (serving b) log) (λ a. serves (serving a)) w.workload.cpu) (λ a. IsPortWorn (serving a) w.workload.cpu) (serving x).table.about.shape.maps
-    programs x w.workload.jobs.items v.workload.jobs.items events y
+    → RunsAndLists (Chain (λ a b log. ExtendsHistory (serving a) (serving b) log) (λ a. serves (serving a)) w.workload.cpu) (λ a. IsPortWorn (serving a) w.workload.cpu) (serving x).table.about.shape.maps
+    programs x w.workload.jobs.items v.workload.jobs.items (map (λ list. list.keys) v.workload.lists.items) events y
+    → map (λ list. list.shape) v.workload.lists.items ≡ map (λ list. list.shape) w.workload.lists.items
     → Worked t programs w v
-worked {G} x y serving t programs w v p q events was is table at cpu out fits all =
+worked {G} x y serving t programs w v p q events was is table at cpu out fits all same =
     let c = w.workload.cpu in
     let of : ((serving x).table ≡ t) × ((serving x).port.known.cpu ≡ c) = (table, ap (λ (r : Port). r.known.cpu) at ∙ cpu) in
-    let told = over_port serving t c programs x y w.workload.jobs.items v.workload.jobs.items events of
-    (subst (λ (s : Shown). RunsAll (Chain (λ a b log. ExtendsHistory (serving a) (serving b) log) (λ a. serves (serving a)) c) (λ a. IsPortWorn (serving a) c) s.about.shape.maps programs x w.workload.jobs.items v.workload.jobs.items events y) table all) in
-    let ran = subst (λ (r : Port). RunsAll extends (explained.IsWorn t.about.count) t.about.shape.maps programs (own_events r) w.workload.jobs.items v.workload.jobs.items events (own_events q)) at
-    (subst (λ (r : Port). RunsAll extends (explained.IsWorn t.about.count) t.about.shape.maps programs (own_events (serving x).port) w.workload.jobs.items v.workload.jobs.items events (own_events r)) (sym out) told.1) in
+    let told = lists_over_port serving t c programs x y w.workload.jobs.items v.workload.jobs.items (map (λ list. list.keys) v.workload.lists.items) events of
+    (subst (λ (s : Shown). RunsAndLists (Chain (λ a b log. ExtendsHistory (serving a) (serving b) log) (λ a. serves (serving a)) c) (λ a. IsPortWorn (serving a) c) s.about.shape.maps programs x w.workload.jobs.items v.workload.jobs.items (map (λ list. list.keys) v.workload.lists.items) events y) table all) in
+    let ran = subst (λ (r : Port). RunsAndLists extends (explained.IsWorn t.about.count) t.about.shape.maps programs (own_events r) w.workload.jobs.items v.workload.jobs.items (map (λ list. list.keys) v.workload.lists.items) events (own_events q)) at
+    (subst (λ (r : Port). RunsAndLists extends (explained.IsWorn t.about.count) t.about.shape.maps programs (own_events (serving x).port) w.workload.jobs.items v.workload.jobs.items (map (λ list. list.keys) v.workload.lists.items) events (own_events r)) (sym out) told.1) in
     record {
       before = p;
       after = q;
@@ -87,10 +110,11 @@ worked {G} x y serving t programs w v p q events was is table at cpu out fits al
       fits = subst (λ (s : Shown). IsPortOf s q) told.0.0 fits;
       cpu = ap (λ (r : Port). r.known.cpu) out ∙ (told.0.1 ∙ sym cpu);
       events = events;
-      more = all_behind (explained.IsWorn t.about.count) t.about.shape.maps programs (own_events p) (own_events q) w.workload.jobs.items v.workload.jobs.items events ran;
+      more = lists_behind (explained.IsWorn t.about.count) t.about.shape.maps programs (own_events p) (own_events q) w.workload.jobs.items v.workload.jobs.items (map (λ list. list.keys) v.workload.lists.items) events ran;
       ran = ran;
+      same = same;
       noted = subst (λ (r : Port). CallsNote t.about events r.known q.known) at
           (subst (λ (r : Port). CallsNote t.about events (serving x).port.known r.known) (sym out)
-          (noted_by_all serving t c programs x y w.workload.jobs.items v.workload.jobs.items events of
-          (subst (λ (s : Shown). RunsAll (Chain (λ a b log. ExtendsHistory (serving a) (serving b) log) (λ a. serves (serving a)) c) (λ a. IsPortWorn (serving a) c) s.about.shape.maps programs x w.workload.jobs.items v.workload.jobs.items events y) table all)));
+          (noted_by_lists serving t c programs x y w.workload.jobs.items v.workload.jobs.items (map (λ list. list.keys) v.workload.lists.items) events of
+          (subst (λ (s : Shown). RunsAndLists (Chain (λ a b log. ExtendsHistory (serving a) (serving b) log) (λ a. serves (serving a)) c) (λ a. IsPortWorn (serving a) c) s.about.shape.maps programs x w.workload.jobs.items v.workload.jobs.items (map (λ list. list.keys) v.workload.lists.items) events y) table all)));
     }

@@ -9,8 +9,8 @@ use Rattle.bpf_cpu.specs.declared.outcome.Outcome.{Outcome}
 use Rattle.bpf_cpu.specs.Step.{Explains}
 use Rattle.bpf_cpu.specs.Task.{Task}
 use Rattle.bpf_sched.specs.declared.assignment.Assignment.{Assignment}
-use Rattle.bpf_sched.specs.Explained.{IsWorn, ExplainsJobs}
-use Rattle.bpf_sched.specs.Working.{RunsAll, assigned, outcome_of}
+use Rattle.bpf_sched.specs.Explained.{IsWorn, ExplainsJobs, keys_events}
+use Rattle.bpf_sched.specs.Working.{RunsAll, RunsAndLists, assigned, outcome_of}
 use Rattle.bpf_sched.specs.Worked.{extends}
 
 -- where one reason for F6 is another
@@ -46,19 +46,27 @@ module _ {T U : Type 0} (is : T → Type 0) (seen_as : T → U) (moves : T → T
         ),
       )
 
--- what a CPU did with its jobs explains how they ended
-pub explains_jobs : (shapes : List MapShape) (count : ℕ) (programs : List Loaded) (before after : List Event) (tasks : List Task) (news : List Assignment) (events : List Event)
+  -- and then its lists
+  pub carried_lists : (x y : T) (olds news : List Assignment) (lists : List (List (List ℕ))) (events : List Event) → is x → RunsAndLists moves worn shapes programs x olds news lists events y
+      → is y × RunsAndLists goes spent shapes programs (seen_as x) olds news lists events (seen_as y)
+  carried_lists x y olds news lists events i all =
+      let ran = carried x all.last olds news all.ran i all.runs in
+      let told = on all.last y (keys_events 0 lists) ran.0 all.way in
+      (told.0, record { ran = all.ran; cut = all.cut; last = seen_as all.last; runs = ran.1; way = told.1 })
+
+-- what a CPU did with its jobs explains how they ended, and other events may come behind
+pub explains_jobs : (shapes : List MapShape) (count : ℕ) (programs : List Loaded) (before after : List Event) (tasks : List Task) (news : List Assignment) (events last : List Event)
     → RunsAll extends (IsWorn count) shapes programs before (map assigned tasks) news events after
-    → ExplainsJobs shapes count programs before tasks (map outcome_of news) events
-explains_jobs shapes count programs before after [] [] events all = all.0
-explains_jobs shapes count programs before after [] (n ∷ news) events all = absurd all
-explains_jobs shapes count programs before after (t ∷ tasks) [] events all = absurd all
-explains_jobs shapes count programs before after (t ∷ tasks) (n ∷ news) events (z, mine, rest, cut, run, all) = (
+    → ExplainsJobs shapes count programs before tasks (map outcome_of news) last (events ++ last)
+explains_jobs shapes count programs before after [] [] events last all = ap (λ (l : List Event). l ++ last) all.0
+explains_jobs shapes count programs before after [] (n ∷ news) events last all = absurd all
+explains_jobs shapes count programs before after (t ∷ tasks) [] events last all = absurd all
+explains_jobs shapes count programs before after (t ∷ tasks) (n ∷ news) events last (z, mine, rest, cut, run, all) = (
   mine,
-  rest,
-  cut,
+  rest ++ last,
+  ap (λ (l : List Event). l ++ last) cut ∙ append_assoc mine rest last,
   record { program = run.program; listed = run.listed; explained = run.explained },
-  explains_jobs shapes count programs (before ++ mine) after tasks news rest (subst (λ (x : List Event). RunsAll extends (IsWorn count) shapes programs x (map assigned tasks) news rest after) run.way all),
+  explains_jobs shapes count programs (before ++ mine) after tasks news rest last (subst (λ (x : List Event). RunsAll extends (IsWorn count) shapes programs x (map assigned tasks) news rest after) run.way all),
 )
 
 -- it ran as many as it was given
@@ -78,3 +86,17 @@ all_behind worn shapes programs before after (o ∷ olds) [] events all = absurd
 all_behind worn shapes programs before after (o ∷ olds) (n ∷ news) events (z, mine, rest, cut, run, all) =
     all_behind worn shapes programs z after olds news rest all
     ∙ (ap (λ (l : List Event). l ++ rest) run.way ∙ (append_assoc before mine rest ∙ ap (λ (l : List Event). before ++ l) (sym cut)))
+
+pub lists_behind : (worn : List Event → Type 0) (shapes : List MapShape) (programs : List Loaded) (before after : List Event) (olds news : List Assignment) (lists : List (List (List ℕ))) (events : List Event)
+    → RunsAndLists extends worn shapes programs before olds news lists events after → extends before after events
+lists_behind worn shapes programs before after olds news lists events all =
+    all.way
+    ∙ (ap (λ (l : List Event). l ++ keys_events 0 lists) (all_behind worn shapes programs before all.last olds news all.ran all.runs)
+    ∙ (append_assoc before all.ran (keys_events 0 lists) ∙ ap (λ (l : List Event). before ++ l) (sym all.cut)))
+
+pub explains_lists : (shapes : List MapShape) (count : ℕ) (programs : List Loaded) (before after : List Event) (tasks : List Task) (news : List Assignment) (lists : List (List (List ℕ))) (events : List Event)
+    → RunsAndLists extends (IsWorn count) shapes programs before (map assigned tasks) news lists events after
+    → ExplainsJobs shapes count programs before tasks (map outcome_of news) (keys_events 0 lists) events
+explains_lists shapes count programs before after tasks news lists events all =
+    subst (λ (l : List Event). ExplainsJobs shapes count programs before tasks (map outcome_of news) (keys_events 0 lists) l) (sym all.cut)
+    (explains_jobs shapes count programs before all.last tasks news all.ran (keys_events 0 lists) all.runs)

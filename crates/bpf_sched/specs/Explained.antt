@@ -1,6 +1,7 @@
 -- What explains how all jobs of a store ended: one history of the store.
-use Rattle.std.specs.Prelude.{◌≡◌, ℕ, ◌+◌, ◌-◌, ◌<◌, ◌^◌, Bool, ◌==◌, if◌then◌else◌, List, [], ◌∷◌, ◌++◌, Some, filter, length, slice_get}
+use Rattle.std.specs.Prelude.{◌≡◌, ℕ, suc, ◌+◌, ◌-◌, ◌<◌, ◌^◌, Bool, true, false, ◌==◌, if◌then◌else◌, List, [], ◌∷◌, ◌++◌, Some, filter, length, slice_get}
 use Rattle.bpf_shared.specs.declared.events.Event.{Event}
+use Rattle.bpf_shared.specs.declared.events.Event.TheVariants.{Keys}
 use Rattle.bpf_shared.specs.declared.events.Entry.{Entry}
 use Rattle.bpf_shared.specs.declared.shapes.MapShape.{MapShape}
 use Rattle.bpf_shared.specs.Shape.{Shape}
@@ -33,6 +34,19 @@ pub record ExplainsJob (shapes : List MapShape) (count : ℕ) (programs : List L
   pub explained : Explains (IsWorn count before) shapes program task.budget
       (start task.cpu (waiting_context task.stage)) events end
 
+-- ---- lists of keys
+
+-- listings of the maps from the m-th on, one behind the other, which find these keys
+abbrev pub keys_events : ℕ → List (List (List ℕ)) → List Event
+keys_events m [] = []
+keys_events m (found ∷ more) = Keys m found ∷ keys_events (suc m) more
+
+-- the maps that a CPU with these jobs lists: all, where lists are asked for, if it has a job
+abbrev pub listed_maps : Bool → List MapShape → List Task → List MapShape
+listed_maps false maps tasks = []
+listed_maps true maps [] = []
+listed_maps true maps (task ∷ tasks) = maps
+
 -- ---- the jobs of one CPU
 
 abbrev pub jobs_of : ℕ → List Task → List Task
@@ -48,26 +62,32 @@ picked test (x ∷ xs) (y ∷ ys) = if test x then y ∷ picked test xs ys else 
 abbrev pub ends_of : ℕ → List Task → List Outcome → List Outcome
 ends_of c tasks ends = picked (λ task. task.cpu == c) tasks ends
 
--- the events are those of these jobs, in the jobs' order, and explain how each ended
+-- the events are those of these jobs, in the jobs' order, and explain how each ended; and then
+-- these last ones
 abbrev pub ExplainsJobs : List MapShape → ℕ → List Loaded → List Event → List Task → List Outcome
-    → List Event → Type 0
-ExplainsJobs shapes count programs before [] [] events = events ≡ []
-ExplainsJobs shapes count programs before (task ∷ tasks) (end ∷ ends) events =
+    → List Event → List Event → Type 0
+ExplainsJobs shapes count programs before [] [] last events = events ≡ last
+ExplainsJobs shapes count programs before (task ∷ tasks) (end ∷ ends) last events =
     (mine : List Event) × (rest : List Event) × (events ≡ mine ++ rest)
     × ExplainsJob shapes count programs task end before mine
-    × ExplainsJobs shapes count programs (before ++ mine) tasks ends rest
-ExplainsJobs shapes count programs before _ _ events = ⊥
+    × ExplainsJobs shapes count programs (before ++ mine) tasks ends last rest
+ExplainsJobs shapes count programs before _ _ last events = ⊥
 
 -- ---- all jobs
 
 -- of a store of this shape, whose segments' versions and run counters began with these: the history
 -- is a legal one of it, whose answers of a shortage have their causes, and of each CPU it has the
--- events of that CPU's jobs, in the jobs' order, and no others; they explain how each job ended
+-- events of that CPU's jobs, in the jobs' order, which explain how each job ended; then, where lists
+-- are asked for and the CPU has a job, one listing of each map, in the maps' order; and no others.
+-- `lists` says what each CPU has listed, by map
 pub record IsExplained (h : Shape) (version count : ℕ) (programs : List Loaded) (tasks : List Task)
-    (ends : List Outcome) (history : List Entry) : Type 0 where
+    (keys : Bool) (ends : List Outcome) (lists : ℕ → List (List (List ℕ))) (history : List Entry)
+    : Type 0 where
   pub legal : IsLegal h history
   pub causes : HaveCauses h version history
   pub each_ended : length ends ≡ length tasks
   pub each_has_cpu : (task : Task) (j : ℕ) → slice_get tasks j ≡ Some task → task.cpu < h.cpus
+  pub each_listed : (c : ℕ) → c < h.cpus
+      → length (lists c) ≡ length (listed_maps keys h.maps (jobs_of c tasks))
   pub explained : (c : ℕ) → c < h.cpus → ExplainsJobs h.maps count programs [] (jobs_of c tasks)
-      (ends_of c tasks ends) (events_of c history)
+      (ends_of c tasks ends) (keys_events 0 (lists c)) (events_of c history)

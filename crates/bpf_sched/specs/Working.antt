@@ -1,7 +1,8 @@
 -- What a CPU does with its jobs, over any store: from one state of the store to another, in order.
-use Rattle.std.specs.Prelude.{◌≡◌, ℕ, ◌<◌, List, [], ◌∷◌, ◌++◌, Some, slice_get}
+use Rattle.std.specs.Prelude.{◌≡◌, ℕ, ◌<◌, ◌≤◌, List, [], ◌∷◌, ◌++◌, Some, length, slice_get}
 use Rattle.bpf_shared.specs.declared.events.Event.{Event}
 use Rattle.bpf_shared.specs.declared.shapes.MapShape.{MapShape}
+use Rattle.bpf_shared.specs.KeyOrder.{Listed}
 use Rattle.bpf_loader.specs.Loaded.{Loaded}
 use Rattle.bpf_cpu.specs.declared.outcome.Outcome.{Outcome}
 use Rattle.bpf_cpu.specs.declared.outcome.Outcome.TheVariants.{OutOfBudget}
@@ -9,7 +10,7 @@ use Rattle.bpf_cpu.specs.State.{start}
 use Rattle.bpf_cpu.specs.Task.{Task}
 use Rattle.bpf_cpu.specs.Step.{Explains}
 use Rattle.bpf_sched.specs.declared.assignment.Assignment.{Assignment}
-use Rattle.bpf_sched.specs.Explained.{waiting_context}
+use Rattle.bpf_sched.specs.Explained.{keys_events, waiting_context}
 
 -- what a job that waits needs to be run
 abbrev pub assigned : Task → Assignment
@@ -48,3 +49,19 @@ RunsAll {T} moves worn shapes programs x (old ∷ olds) (new ∷ news) events y 
     × Runs moves worn shapes programs x old new mine z
     × RunsAll moves worn shapes programs z olds news rest y
 RunsAll {T} moves worn shapes programs x _ _ events y = ⊥
+
+-- and then all maps are listed that the CPU has lists for: these are the keys that are found
+pub record RunsAndLists {T : Type 0} (moves : T → T → List Event → Type 0) (worn : T → Type 0)
+    (shapes : List MapShape) (programs : List Loaded) (x : T) (olds news : List Assignment)
+    (lists : List (List (List ℕ))) (events : List Event) (y : T) : Type 0 where
+  pub ran : List Event
+  pub cut : events ≡ ran ++ keys_events 0 lists
+  pub last : T
+  pub runs : RunsAll moves worn shapes programs x olds news ran last
+  pub way : moves last y (keys_events 0 lists)
+
+-- each list was made for the map of its number; they are few
+pub record AreListsFor (shapes : List MapShape) (lists : List Listed) : Type 0 where
+  pub few : length lists ≤ 16
+  pub each : (m : ℕ) (list : Listed) → slice_get lists m ≡ Some list
+      → slice_get shapes m ≡ Some list.shape

@@ -8,7 +8,7 @@ ghost use Rattle.hop_map.specs.Dumping.{IsLast};
 ghost use Rattle.hop_map.specs.Port.{Port};
 ghost use Rattle.hop_map.specs.Stores.{ArePorts};
 ghost use Rattle.bpf_sched.specs.Explained.{IsExplained};
-ghost use Rattle.bpf_sched.specs.Worked.{AreFor, IsReadyWorker, Worked};
+ghost use Rattle.bpf_sched.specs.Worked.{AreFor, IsReadyWorker, listed_by, Worked};
 ghost use Rattle.bpf_sched.specs.declared.worker.Worker.{Worker};
 
 use crate::gate::Gate;
@@ -17,6 +17,7 @@ use crate::telling::note_all;
 use crate::worker::{Worker, work};
 use bpf_cpu::{Job, Outcome};
 use bpf_loader::Program;
+use bpf_shared::KeyList;
 use hop_map::{Closed, HopPort, gather};
 use hop_words::HopTable;
 use std::sync::Wait;
@@ -39,23 +40,27 @@ pub(crate) fn equip(workers: &mut [Worker], ports: Vec<HopPort>)
     }
 }
 
-/// Takes the ports back.
-pub(crate) fn dismiss(workers: Vec<Worker>, room: Vec<HopPort>) -> Vec<HopPort>
-    requires empty { room.items ≡ [] }
-    requires room { vec_len workers ≤ vec_capacity room }
+/// Takes the ports and the lists back.
+pub(crate) fn dismiss(
+    workers: Vec<Worker>,
+    mut ports: Vec<HopPort>,
+    mut lists: Vec<Vec<KeyList>>,
+) -> (Vec<HopPort>, Vec<Vec<KeyList>>)
+    requires empty { (ports.items ≡ []) × (lists.items ≡ []) }
+    requires room { (vec_len workers ≤ vec_capacity ports)
+        × (vec_len workers ≤ vec_capacity lists) }
     requires ports { All (λ w. IsSome w.port) workers.items }
-    ensures { map Some result.items ≡ map (λ w. w.port) workers.items }
+    ensures ports { map Some result.0.items ≡ map (λ w. w.port) workers.items }
+    ensures lists { result.1.items ≡ map (λ w. w.workload.lists) workers.items }
 {
-    let mut ports = room;
     for worker in workers {
-        let Worker { port, workload: _ } = worker;
+        let Worker { port, workload } = worker;
         let Some(port) = port else { unreachable!() };
-        match ports.push(port) {
-            Ok(()) => {}
-            Err(_) => unreachable!(),
-        }
+        let (Ok(()), Ok(())) = (ports.push(port), lists.push(workload.lists)) else {
+            unreachable!()
+        };
     }
-    ports
+    (ports, lists)
 }
 
 /// Runs all workers, in so many threads at most. Where a thread can't be started, the others do its
@@ -81,15 +86,19 @@ pub(crate) fn work_all<R: Threads + Wait + Sync, G: Gate + Sync>(
     thread::for_each_mut(rt, workers, threads, &each);
 }
 
-/// How all jobs ended, in the order of their list, and what is left of the store.
+/// How all jobs ended, in the order of their list, what CPUs have listed, and what is left of the
+/// store.
 #[derive(Drop)]
 pub struct Report {
     pub outcomes: Vec<Outcome>,
+    /// By CPU, and of each by map; none where lists weren't asked for or the CPU has no job.
+    pub lists: Vec<Vec<KeyList>>,
     pub closed: Closed,
 }
 
 /// Runs all jobs over the ports of a store that no CPU has called yet, each CPU's in their order,
-/// by so many workers at most. It takes no memory.
+/// by so many workers at most; and where lists are asked for, each CPU with jobs lists all maps'
+/// keys behind them. It takes no memory.
 pub fn run_ports<R: Threads + Wait + Sync, G: Gate + Sync>(
     rt: &R,
     table: HopTable,
@@ -104,29 +113,36 @@ pub fn run_ports<R: Threads + Wait + Sync, G: Gate + Sync>(
     requires workers { 0 < workers }
     requires programs { All (λ job. job.program < length programs.now) jobs.now }
     requires cpus { All (λ job. job.cpu < table.about.shape.cpus) jobs.now }
-    requires assigned { AreFor (map waiting jobs.now) table.about.shape.cpus room.workers.items }
-    requires empty { room.ports.items ≡ [] }
-    requires room { table.about.shape.cpus ≤ vec_capacity room.ports }
+    requires assigned { AreFor room.keys table.about.shape.maps (map waiting jobs.now)
+        table.about.shape.cpus room.workers.items }
+    requires empty { (room.ports.items ≡ []) × (room.lists.items ≡ []) }
+    requires room { (table.about.shape.cpus ≤ vec_capacity room.ports)
+        × (table.about.shape.cpus ≤ vec_capacity room.lists) }
     requires ends { vec_len room.ends ≡ length jobs.now }
     ensures about { result.closed.about ≡ table.about }
     ensures explained { IsExplained table.about.shape table.about.version table.about.count
-        programs.now (map waiting jobs.now) result.outcomes.items result.closed.history }
+        programs.now (map waiting jobs.now) room.keys result.outcomes.items
+        (listed_by result.lists.items) result.closed.history }
     ensures last { (last : Plain) × IsLast result.closed last
         × Legal (as_made result.closed.about.shape) result.closed.history last }
 {
     let _few = table.about().shape.cpus();
+    let _maps = table.about().shape.maps();
     let Room {
+        keys: _,
         workers: mut crew,
         ports: back,
+        lists: listed,
         mut ends,
     } = room;
     equip(&mut crew, ports);
     work_all(rt, &table, programs, gate, workers, &mut crew);
     note_all(jobs, &crew, &mut ends);
-    let ports = dismiss(crew, back);
+    let (ports, lists) = dismiss(crew, back, listed);
     let closed = gather(table, ports);
     Report {
         outcomes: ends,
+        lists,
         closed,
     }
 }

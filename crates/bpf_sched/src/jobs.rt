@@ -8,6 +8,7 @@ ghost use Rattle.bpf_cpu.specs.Task.{waiting};
 ghost use Rattle.hop_map.specs.Dumping.{IsLast};
 ghost use Rattle.bpf_sched.specs.Explained.{IsExplained};
 ghost use Rattle.bpf_sched.specs.Refusing.{AreHere, AreWorkers, HasOutside, IsFirstSchedError};
+ghost use Rattle.bpf_sched.specs.Worked.{listed_by};
 
 use crate::crew::{Report, run_ports};
 use crate::gate::Gate;
@@ -54,9 +55,10 @@ fn check(cpus: u8, workers: usize, jobs: &[Job]) -> Result<(), SchedError>
     Ok(())
 }
 
-/// Runs all jobs over the store, each CPU's in their order, by so many workers. One history of the
-/// store explains how they all ended. Where it is refused no job is begun, and the store is handed
-/// back as it was.
+/// Runs all jobs over the store, each CPU's in their order, by so many workers; and where lists of
+/// keys are asked for, each CPU with jobs lists all maps behind them. One history of the store
+/// explains how they all ended and what was listed. Where it is refused no job is begun, and the
+/// store is handed back as it was.
 pub fn run_jobs<R: Threads + Wait + Sync, G: Gate + Sync>(
     rt: &R,
     alloc: Global,
@@ -64,6 +66,7 @@ pub fn run_jobs<R: Threads + Wait + Sync, G: Gate + Sync>(
     programs: &[Program],
     jobs: &[Job],
     workers: usize,
+    keys: bool,
     gate: &G,
 ) -> Result<Report, Refused>
     requires programs { All (λ job. job.program < length programs.now) jobs.now }
@@ -74,18 +77,20 @@ pub fn run_jobs<R: Threads + Wait + Sync, G: Gate + Sync>(
     ensures explained { IfOk result
         (λ r. IsExplained store.table.about.shape
         store.table.about.version store.table.about.count programs.now
-        (map waiting jobs.now) r.outcomes.items r.closed.history) }
+        (map waiting jobs.now) keys r.outcomes.items (listed_by r.lists.items)
+        r.closed.history) }
     ensures last { IfOk result (λ r. (last : Plain) × IsLast r.closed last
         × Legal (as_made r.closed.about.shape) r.closed.history last) }
     ensures refused { IfErr result (λ r.
         IsFirstSchedError store.table.about.shape.cpus workers jobs.now r.error) }
     ensures store { IfErr result (λ r. r.store ≡ store) }
 {
-    let cpus = store.about().shape.cpus();
+    let shape = &store.about().shape;
+    let cpus = shape.cpus();
     if let Err(error) = check(cpus, workers, jobs) {
         return Err(Refused { error, store });
     }
-    let Ok(room) = Room::new(alloc, cpus, jobs) else {
+    let Ok(room) = Room::new(alloc, cpus, shape.maps(), jobs, keys) else {
         let error = SchedError::OutOfMemory;
         return Err(Refused { error, store });
     };

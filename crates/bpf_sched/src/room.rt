@@ -1,9 +1,9 @@
-//! All memory that jobs take, asked for before the first begins.
+//! All memory that jobs and lists of keys take, asked for before the first job begins.
 
-ghost use Rattle.std.specs.Prelude.{◌≡◌, ◌≤◌, [], All, IfOk, length, map, vec_capacity, vec_len};
+ghost use Rattle.std.specs.Prelude.{◌≡◌, ◌≤◌, [], All, IfOk, length, List, map, vec_capacity, vec_len};
 ghost use Rattle.bpf_mem.specs.Limits.{max_context};
-ghost use Rattle.bpf_cpu.specs.Task.{waiting};
-ghost use Rattle.bpf_sched.specs.Explained.{jobs_of};
+ghost use Rattle.bpf_cpu.specs.Task.{Task, waiting};
+ghost use Rattle.bpf_sched.specs.Explained.{jobs_of, listed_maps};
 ghost use Rattle.bpf_sched.specs.Working.{assigned};
 ghost use Rattle.bpf_sched.specs.Worked.{AreFor};
 
@@ -11,15 +11,19 @@ use crate::assignment::Assignment;
 use crate::worker::Worker;
 use crate::workload::Workload;
 use bpf_cpu::{Cpu, Job, Outcome};
+use bpf_shared::{KeyList, MapShape};
 use hop_map::HopPort;
 use std::alloc::{AllocError, Global};
 
-/// Workers without their ports, and room for the ports when they are back and for how all jobs
-/// ended.
+/// Workers without their ports, and room for the ports and the lists when they are back and for how
+/// all jobs ended.
 #[derive(Drop)]
 pub struct Room {
+    /// Whether lists of keys are asked for.
+    pub keys: bool,
     pub workers: Vec<Worker>,
     pub ports: Vec<HopPort>,
+    pub lists: Vec<Vec<KeyList>>,
     pub ends: Vec<Outcome>,
 }
 
@@ -51,17 +55,52 @@ fn assign(alloc: Global, cpu: u8, jobs: &[Job]) -> Result<Vec<Assignment>, Alloc
     Ok(list)
 }
 
+/// A list for the keys of each of these maps.
+fn make_lists(alloc: Global, maps: &[MapShape]) -> Result<Vec<KeyList>, AllocError>
+    ensures { IfOk result (λ v. map (λ list. list.shape) v.items ≡ maps.now) }
+{
+    let mut lists = Vec::with_capacity(alloc, maps.len())?;
+    for shape in maps {
+        lists.push(KeyList::new(alloc, shape)?)?;
+    }
+    Ok(lists)
+}
+
+/// The lists that a CPU with these jobs takes.
+fn assign_lists(
+    alloc: Global,
+    keys: bool,
+    maps: &[MapShape],
+    jobs: &[Assignment],
+) -> Result<Vec<KeyList>, AllocError>
+    ensures { (tasks : List Task) → jobs.now ≡ map assigned tasks → IfOk result
+        (λ v. map (λ list. list.shape) v.items ≡ listed_maps keys maps.now tasks) }
+{
+    if keys && !jobs.is_empty() {
+        make_lists(alloc, maps)
+    } else {
+        Ok(Vec::new(alloc))
+    }
+}
+
 /// A worker for each of so many CPUs.
-fn enlist(alloc: Global, cpus: u8, jobs: &[Job]) -> Result<Vec<Worker>, AllocError>
+fn enlist(
+    alloc: Global,
+    cpus: u8,
+    maps: &[MapShape],
+    jobs: &[Job],
+    keys: bool,
+) -> Result<Vec<Worker>, AllocError>
     requires { All (λ job. vec_len job.context ≤ max_context) jobs.now }
-    ensures { IfOk result (λ v. AreFor (map waiting jobs.now) cpus v.items) }
+    ensures { IfOk result (λ v. AreFor keys maps.now (map waiting jobs.now) cpus v.items) }
 {
     let mut workers = Vec::with_capacity(alloc, usize::from(cpus))?;
     for cpu in 0..cpus {
         let jobs = assign(alloc, cpu, jobs)?;
+        let lists = assign_lists(alloc, keys, maps, &jobs)?;
         workers.push(Worker {
             port: None,
-            workload: Workload { cpu, jobs },
+            workload: Workload { cpu, jobs, lists },
         })?;
     }
     Ok(workers)
@@ -79,16 +118,28 @@ fn blank(alloc: Global, jobs: usize) -> Result<Vec<Outcome>, AllocError>
 }
 
 impl Room {
-    /// All that these jobs take, on a store of so many CPUs.
-    pub fn new(alloc: Global, cpus: u8, jobs: &[Job]) -> Result<Room, AllocError>
+    /// All that these jobs take, on a store of so many CPUs with these maps; and all that lists of
+    /// the maps' keys take, where they are asked for.
+    pub fn new(
+        alloc: Global,
+        cpus: u8,
+        maps: &[MapShape],
+        jobs: &[Job],
+        keys: bool,
+    ) -> Result<Room, AllocError>
         requires { All (λ job. vec_len job.context ≤ max_context) jobs.now }
-        ensures workers { IfOk result (λ r. AreFor (map waiting jobs.now) cpus r.workers.items) }
+        ensures keys { IfOk result (λ r. r.keys ≡ keys) }
+        ensures workers { IfOk result
+            (λ r. AreFor keys maps.now (map waiting jobs.now) cpus r.workers.items) }
         ensures ports { IfOk result (λ r. (r.ports.items ≡ []) × (cpus ≤ vec_capacity r.ports)) }
+        ensures lists { IfOk result (λ r. (r.lists.items ≡ []) × (cpus ≤ vec_capacity r.lists)) }
         ensures ends { IfOk result (λ r. vec_len r.ends ≡ length jobs.now) }
     {
         Ok(Room {
-            workers: enlist(alloc, cpus, jobs)?,
+            keys,
+            workers: enlist(alloc, cpus, maps, jobs, keys)?,
             ports: Vec::with_capacity(alloc, usize::from(cpus))?,
+            lists: Vec::with_capacity(alloc, usize::from(cpus))?,
             ends: blank(alloc, jobs.len())?,
         })
     }

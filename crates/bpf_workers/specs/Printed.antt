@@ -1,5 +1,5 @@
 -- What is printed of a run file whose jobs are run by workers. Our own choice.
-use Rattle.std.specs.Prelude.{ℕ, Bool, List, [], ◌∷◌}
+use Rattle.std.specs.Prelude.{ℕ, Bool, false, List, [], ◌∷◌}
 use Rattle.bpf_shared.specs.declared.events.Entry.{Entry}
 use Rattle.bpf_shared.specs.Shape.{Shape}
 use Rattle.bpf_shared.specs.Store.{Plain, as_made}
@@ -26,8 +26,10 @@ store_shape f = record { cpus = f.cpus; maps = f.maps }
 -- a fault or out of budget
 pub record IsWorkersReport (f : File) (maps : Bool) (text : List ℕ) (stopped : Bool) : Type 0 where
   pub ends : List Outcome
+  -- none is asked for
+  pub lists : ℕ → List (List (List ℕ))
   pub history : List Entry
   pub last : Plain
-  pub explained : IsExplained (store_shape f) 0 0 f.programs f.jobs ends history
+  pub explained : IsExplained (store_shape f) 0 0 f.programs f.jobs false ends lists history
   pub leads : Legal (as_made (store_shape f)) history last
   pub tells : Tells last (as_ended f.jobs ends) f.names maps text stopped

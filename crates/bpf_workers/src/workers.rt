@@ -59,6 +59,7 @@ pub fn run_by_workers<R: Threads + Wait + Sync>(
         &programs,
         &jobs,
         usize::from(workers),
+        false,
         &NoGate,
     ) {
         Ok(done) => done,

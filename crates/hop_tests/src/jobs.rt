@@ -77,7 +77,7 @@ fn run<R: Threads + Wait + Sync, G: Gate + Sync>(
     gate: &G,
 ) -> Result<Result<Report, Refused>, Fail> {
     let jobs = jobs(alloc, list, programs.len())?;
-    Ok(run_jobs(rt, alloc, store, programs, &jobs, workers, gate))
+    Ok(run_jobs(rt, alloc, store, programs, &jobs, workers, false, gate))
 }
 
 // The report, where there is one.

@@ -8,4 +8,6 @@ invariant-loop-worker l = record {
   split : l.yielded ++ l.worker-iterator.rest.items ≡ l.fn.workers.items;
   ports : map Some l.ports.items ≡ map (λ (w : Worker). w.port) l.yielded;
   room : length l.fn.workers.items ≤ vec_capacity l.ports;
+  lists : l.lists.items ≡ map (λ (w : Worker). w.workload.lists) l.yielded;
+  lists_room : length l.fn.workers.items ≤ vec_capacity l.lists;
 }

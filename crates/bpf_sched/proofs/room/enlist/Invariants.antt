@@ -4,4 +4,4 @@ use Rattle.bpf_sched.specs.Worked.{AreFor}
 use Rattle.bpf_sched.proofs.room.enlist.Given as goal
 
 abbrev pub invariant-loop-cpu : goal.invariant-loop-cpu
-invariant-loop-cpu l = AreFor (map waiting l.jobs) l.cpu l.workers.items
+invariant-loop-cpu l = AreFor l.keys l.maps (map waiting l.jobs) l.cpu l.workers.items

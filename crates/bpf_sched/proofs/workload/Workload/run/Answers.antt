@@ -1,23 +1,26 @@
-use Rattle.std.proofs.Common.{arith}
-use Rattle.bpf_sched.proofs.UnderWay.{is_new, is_served, is_idle, goes_on}
+use Rattle.std.proofs.Common.{◌≡◌, ℕ, List, ◌++◌, length, map, refl, sym, ap, subst, ◌∙◌}
+use Rattle.std.specs.Prelude.{vec_len}
+use Rattle.std.proofs.lemmas.List.{length-map}
+use Rattle.bpf_base.proofs.Lists.{filled}
+use Rattle.bpf_shared.specs.declared.events.Event.{Event}
+use Rattle.bpf_shared.specs.declared.shapes.MapShape.{MapShape}
+use Rattle.bpf_shared.specs.Chain.{Chain}
+use Rattle.bpf_shared.specs.KeyOrder.{Listed}
+use Rattle.bpf_sched.specs.Explained.{keys_events}
+use Rattle.bpf_sched.specs.Working.{RunsAndLists}
 use Rattle.bpf_sched.proofs.workload.Workload.run.Goals as goal
 
-pub run-requires-clause-new : goal.run-requires-clause-new
-run-requires-clause-new g c =
+pub returns-clause-runs : goal.returns-clause-runs
+returns-clause-runs g c =
     let S = g.S.Shared in
-    is_new S.passes S.serves S.running S.held S.may_wear S.shapes c.args.programs.now c.args.self.now.cpu c.args.shared.now c.args.self.now.jobs.items c.requires.new c.loop-job.job c.loop-job.shared c.loop-job.self.cpu c.loop-job.self.jobs.items c.loop-job.invariant (omega arith) c.index_mut.result.now c.index_mut.ensures.value
-
-pub run-requires-clause-serves : goal.run-requires-clause-serves
-run-requires-clause-serves g c =
-    let S = g.S.Shared in
-    is_served S.passes S.serves S.running S.held S.may_wear S.shapes c.args.programs.now c.args.self.now.cpu c.args.shared.now c.args.self.now.jobs.items c.requires.new c.loop-job.job c.loop-job.shared c.loop-job.self.cpu c.loop-job.self.jobs.items c.loop-job.invariant (omega arith) c.index_mut.result.now c.index_mut.ensures.value c.requires.serves
-
-pub run-requires-clause-idle : goal.run-requires-clause-idle
-run-requires-clause-idle g c =
-    let S = g.S.Shared in
-    is_idle S.passes S.serves S.running S.held S.may_wear S.shapes c.args.programs.now c.args.self.now.cpu c.args.shared.now c.args.self.now.jobs.items c.requires.new c.loop-job.job c.loop-job.shared c.loop-job.self.cpu c.loop-job.self.jobs.items c.loop-job.invariant (omega arith) c.index_mut.result.now c.index_mut.ensures.value c.requires.idle
-
-pub loop-job-preserved : goal.loop-job-preserved
-loop-job-preserved g c =
-    let S = g.S.Shared in
-    goes_on S.passes S.serves S.running S.held S.may_wear S.shapes c.args.programs.now c.args.self.now.cpu c.args.shared.now c.args.self.now.jobs.items c.requires.new c.loop-job.job c.loop-job.shared c.loop-job.self.cpu c.loop-job.self.jobs.items c.loop-job.invariant (omega arith) c.index_mut.result.now c.index_mut.ensures.value c.run.new.self c.run.new.shared c.run.ensures.runs.0 c.run.ensures.runs.1 c.run.ensures.keeps
+    let cpu = c.args.self.now.cpu in
+    let new = c.list_keys.new.lists in
+    let v = c.run_jobs.new.self.lists in
+    let long : length new ≡ vec_len v = sym (length-map new (λ (list : Listed). list.shape)) ∙ (ap (length {A = MapShape}) c.list_keys.ensures.lists ∙ (length-map c.deref_mut.result.now (λ (list : Listed). list.shape) ∙ c.deref_mut.ensures.len)) in
+    let items = filled (vec_len v) new v.items long in
+    let found = map (λ (list : Listed). list.keys) new in
+    let ran = c.run_jobs.ensures.runs in
+    let chain : Chain S.passes S.serves cpu c.run_jobs.new.shared c.list_keys.new.shared (keys_events 0 found) =
+    subst (λ (k : ℕ). Chain S.passes S.serves k c.run_jobs.new.shared c.list_keys.new.shared (keys_events 0 found)) c.run_jobs.ensures.same.0 c.list_keys.ensures.chain in
+    let P : List Listed → Type 0 = λ ls. (events : List Event) × RunsAndLists (Chain S.passes S.serves cpu) (λ x. S.may_wear x cpu) (S.shapes c.args.shared.now) c.args.programs.now c.args.shared.now c.args.self.now.jobs.items c.run_jobs.new.self.jobs.items (map (λ list. list.keys) ls) events c.list_keys.new.shared in
+    subst P (sym items) (ran.0 ++ keys_events 0 found, record { ran = ran.0; cut = refl; last = c.run_jobs.new.shared; runs = ran.1; way = chain })
