@@ -2,5 +2,7 @@
 #![tactic(auto)]
 
 mod printed;
+mod reading;
 
 pub use printed::push_runs;
+pub use reading::{run_in, runs_in, runs_of};
