@@ -1,8 +1,9 @@
 -- How schedules are spelled: CPUs, each with how many turns it makes before the next. Our own
 -- choice.
-use Rattle.std.specs.Prelude.{◌≡◌, ℕ, zero, suc, ◌^◌, ◌==◌, ◌++◌, Bool, nat_lt, if◌then◌else◌, List, [], Any, Option, Some, None, option_map, option_and_then, codes, map, slice_index_or}
+use Rattle.std.specs.Prelude.{◌≡◌, ℕ, zero, suc, ◌^◌, ◌<◌, ◌==◌, ◌++◌, Bool, nat_lt, if◌then◌else◌, List, [], All, Any, Option, Some, None, option_map, option_and_then, codes, length, map, slice_index_or}
 use Rattle.std.specs.Fmt.{decimal}
 use Rattle.std.specs.List.{before_first, after_first}
+use Rattle.bpf_lines.specs.Lines.{fields_of}
 use Rattle.bpf_lines.specs.Words.{written_number}
 
 -- so many turns of a CPU
@@ -37,3 +38,12 @@ SpellRuns words runs = map run_in words ≡ map (λ run. Some run) runs
 -- some word spells none
 abbrev pub SpellNone : List (List ℕ) → Type 0
 SpellNone words = Any (λ word. run_in word ≡ None) words
+
+-- ---- what is printed is read back
+
+abbrev pub IsRun : ℕ × ℕ → Type 0
+IsRun run = (run.0 < 2 ^ 8) × (run.1 < 2 ^ 64)
+
+abbrev pub PrintedIsReadBack : Type 0
+PrintedIsReadBack =
+    (runs : List (ℕ × ℕ)) → All IsRun runs → SpellRuns (fields_of (runs_text (length runs) runs)) runs

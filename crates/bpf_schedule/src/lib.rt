@@ -5,4 +5,4 @@ mod printed;
 mod reading;
 
 pub use printed::push_runs;
-pub use reading::{run_in, runs_in, runs_of};
+pub use reading::{printed_is_read_back, run_in, runs_in, runs_of};

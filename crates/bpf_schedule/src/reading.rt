@@ -3,7 +3,7 @@
 ghost use Rattle.std.specs.Prelude.{◌≡◌, ◌^◌, ◌≤◌, IfOk, IfSome, IfNone, length, map};
 ghost use Rattle.std.specs.List.{before_first, after_first};
 ghost use Rattle.bpf_lines.specs.Lines.{fields_of};
-ghost use Rattle.bpf_schedule.specs.Spelling.{is_star, number_below, run_in, SpellRuns, SpellNone};
+ghost use Rattle.bpf_schedule.specs.Spelling.{is_star, number_below, run_in, PrintedIsReadBack, SpellRuns, SpellNone};
 
 use bpf_lines::{lines, words};
 use std::alloc::{AllocError, Global};
@@ -88,3 +88,9 @@ pub fn runs_in(alloc: Global, text: &[u8]) -> Result<Option<Vec<(u8, u64)>>, All
     let words = lines::fields(alloc, text)?;
     runs_of(alloc, &words)
 }
+
+/// What `push_runs` prints is read back as the same runs. This function does nothing: its contract
+/// is the law.
+pub fn printed_is_read_back()
+    ensures { PrintedIsReadBack }
+{}
