@@ -1,5 +1,5 @@
 -- What a call of a port is to the shared store that has the port.
-use Rattle.std.proofs.Common.{◌≡◌, ℕ, Bool, true, false, List, [], ◌∷◌, ◌++◌, ◌==◌, ◌&&◌, ◌||◌, if◌then◌else◌, refl, ap, sym, ◌∙◌, subst, arith, Option, Some, None, Result, Ok, Err, OnOk, OnErr}
+use Rattle.std.proofs.Common.{◌≡◌, ℕ, Bool, true, false, List, [], ◌∷◌, ◌++◌, ◌==◌, ◌&&◌, ◌||◌, if◌then◌else◌, refl, ap, sym, ◌∙◌, subst, arith, Option, Some, None, Result, Ok, Err, OnOk, OnErr, inl}
 use Rattle.std.proofs.lemmas.Bool.Decides.{nat_tests}
 use Rattle.bpf_shared.specs.declared.sharing.Worn.{Worn}
 use Rattle.bpf_shared.specs.declared.events.Span.{Span}
@@ -34,11 +34,11 @@ module _ (t : Shown) (p q : Port) (c : ℕ) (e : Event) (d : PortDoes t.about p 
       ∙ (ap (λ (es : List Event). es ++ events_of p.known.cpu (entry p.known.cpu e ∷ [])) d.seen.foreign ∙ events_of-own p.known.cpu e)
 
   noted_one : CallNotes t.about e p.known q.known → CallsNote t.about (e ∷ []) p.known q.known
-  noted_one (sights, is, may) = (sights, is, (sights, [], refl, may, refl))
+  noted_one (sights, is, may) = (sights, is, (sights, [], refl, inl may, refl))
 
   -- a call of the CPU that is served
-  calls : CallNotes t.about e p.known q.known → serves (with_port t p) c ≡ true → Calls (ExtendsHistory (with_port t p) (with_port t q)) (serves (with_port t p)) c e
-  calls notes served = record {
+  calls_growing : CallsNote t.about (e ∷ []) p.known q.known → serves (with_port t p) c ≡ true → Calls (ExtendsHistory (with_port t p) (with_port t q)) (serves (with_port t p)) c e
+  calls_growing notes served = record {
     others = d.seen.others;
     foreign = λ b is. ap (λ (k : ℕ). events_of k d.seen.others) (sym (own_cpu p b is)) ∙ d.seen.foreign;
     passage = record {
@@ -47,9 +47,12 @@ module _ (t : Shown) (p q : Port) (c : ℕ) (e : Event) (d : PortDoes t.about p 
       seen = d.seen.after ∙ ap (λ (k : ℕ). p.known.seen ++ (d.seen.others ++ entry k e ∷ [])) (own_cpu p c served);
       legal = λ l. d.seen.legal;
       noted = subst (λ (es : List Event). CallsNote t.about es p.known q.known)
-          (sym own_event ∙ ap (λ (k : ℕ). events_of p.known.cpu (d.seen.others ++ entry k e ∷ [])) (own_cpu p c served)) (noted_one notes);
+          (sym own_event ∙ ap (λ (k : ℕ). events_of p.known.cpu (d.seen.others ++ entry k e ∷ [])) (own_cpu p c served)) notes;
     };
   }
+
+  calls : CallNotes t.about e p.known q.known → serves (with_port t p) c ≡ true → Calls (ExtendsHistory (with_port t p) (with_port t q)) (serves (with_port t p)) c e
+  calls notes served = calls_growing (noted_one notes) served
 
   serves_same : serves (with_port t q) ≡ serves (with_port t p)
   serves_same = λ i b. b == d.cpu i
@@ -119,6 +122,9 @@ module _ (x : Serving) (t : Shown) (p : Port) (is : with_port t p ≡ x) (c : �
   module _ (q : Port) (e : Event) (d : PortDoes t.about p e q) where
     pub called : CallNotes t.about e p.known q.known → Calls (ExtendsHistory x (with_port t q)) (serves x) c e
     called notes = subst (λ (z : Serving). Calls (ExtendsHistory z (with_port t q)) (serves z) c e) is (calls t p q c e d notes own)
+
+    pub called_growing : CallsNote t.about (e ∷ []) p.known q.known → Calls (ExtendsHistory x (with_port t q)) (serves x) c e
+    called_growing notes = subst (λ (z : Serving). Calls (ExtendsHistory z (with_port t q)) (serves z) c e) is (calls_growing t p q c e d notes own)
 
     -- an event in a run or out of one, which stays as it is
     pub still : runs q ≡ runs p → (t.about.shape.maps ≡ x.table.about.shape.maps) × (serves (with_port t q) ≡ serves x) × (running (with_port t q) ≡ running x)

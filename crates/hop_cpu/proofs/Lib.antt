@@ -1,3 +1,4 @@
 pub mod Calling
 pub mod Elements
 pub mod Ran
+pub mod Grown

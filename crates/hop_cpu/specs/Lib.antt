@@ -1,4 +1,5 @@
 pub mod Serving
 pub mod Passing
+pub mod Growing
 pub mod Running
 pub mod Lemmas

@@ -2,6 +2,7 @@
 ghost use Rattle.std.specs.Prelude.{◌≡◌};
 ghost use Rattle.hop_map.specs.Port.{IsPortOf};
 
+use crate::growing::update_growing;
 use bpf_shared::{AtomicOp, KeyList, MapAnswer, MapShape, Shared, Size, Span, ValuePlace, Worn};
 use hop_map::HopPort;
 use hop_words::HopTable;
@@ -85,8 +86,7 @@ impl<R: Wait> Shared for HopCpu<'_, R> {
     }
 
     fn update(&mut self, _cpu: u8, map: u8, key: &[u8], value: &[u8], flags: u64) -> MapAnswer {
-        self.port
-            .update(self.rt, self.table, map, key, value, flags)
+        update_growing(self.rt, self.table, &mut self.port, map, key, value, flags)
     }
 
     fn delete(&mut self, _cpu: u8, map: u8, key: &[u8]) -> MapAnswer {

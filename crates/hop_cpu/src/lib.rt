@@ -2,6 +2,7 @@
 #![tactic(auto)]
 
 mod cpu;
+mod growing;
 mod running;
 
 pub use cpu::HopCpu;

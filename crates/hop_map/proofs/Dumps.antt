@@ -1,5 +1,5 @@
 -- The pairs of a map, as the words of a store at rest have them.
-use Rattle.std.proofs.Common.{◌≡◌, ℕ, zero, suc, ◌+◌, ◌-◌, ◌<◌, ◌≤◌, nat_lt, Bool, true, false, ◌&&◌, List, [], ◌∷◌, ◌++◌, Option, Some, None, inl, inr, length, get_or, refl, ap, sym, subst, ◌∙◌, arith, ⊎_elim, append_assoc, Vec}
+use Rattle.std.proofs.Common.{◌≡◌, ℕ, zero, suc, ◌+◌, ◌-◌, ◌<◌, ◌≤◌, nat_lt, if◌then◌else◌, ◌==◌, Bool, true, false, ◌&&◌, List, [], ◌∷◌, ◌++◌, Option, Some, None, inl, inr, length, get_or, refl, ap, sym, subst, ◌∙◌, arith, ⊎_elim, append_assoc, Vec}
 use Rattle.std.proofs.lemmas.List.{get_or-map, length-map, append-nil}
 use Rattle.std.proofs.lemmas.Map.Keys.{Less-from_sorted}
 use Rattle.std.proofs.lemmas.Map.Lookups.{exact_bytes}
@@ -19,9 +19,9 @@ use Rattle.bpf_shared.specs.Store.{Plain, Value, Finds, as_made}
 use Rattle.bpf_shared.specs.History.{Legal}
 use Rattle.bpf_shared.specs.Listing.{Pair, pair_at, pair_of, IsListing, listed}
 use Rattle.hop_layout.specs.Home.{home_of}
-use Rattle.hop_layout.specs.Layout.{depth, power}
+use Rattle.hop_layout.specs.Layout.{depth, power, segments}
 use Rattle.hop_layout.specs.Births.{is_born}
-use Rattle.hop_layout.proofs.Births.{low_is, high_is, lt_is, ge_is, below_or, born_small, each_has_one_owner}
+use Rattle.hop_layout.proofs.Births.{low_is, high_is, lt_is, ge_is, both_and, power_mono, below_or, born_small, each_has_one_owner}
 use Rattle.hop_layout.specs.Words.{bytes_of_words}
 use Rattle.hop_words.specs.Content.{IsOnList, IsShare, item}
 use Rattle.hop_words.specs.Depths.{IsBorn, home_by}
@@ -34,8 +34,8 @@ use Rattle.hop_seg.specs.Segment.{Sound as SegSound}
 use Rattle.hop_seg.specs.Content.{IsListed}
 use Rattle.hop_seg.proofs.Walking.{Counted}
 use Rattle.hop_map.specs.Private.LockedSegment.{segment_view}
-use Rattle.hop_map.specs.Private.Dumping.{rest_depths, IsBornHere, words_in, key_in, IsReached, IsKeyAmong, IsPairFound, AreFound, AddsPairs}
-use Rattle.hop_map.specs.Dumping.{IsLast}
+use Rattle.hop_map.specs.Private.Dumping.{words_in, key_in, IsReached, IsKeyAmong, IsPairFound, AreFound, AddsPairs}
+use Rattle.hop_map.specs.Dumping.{born_below, rest_depths, IsBornHere, IsLast}
 use Rattle.hop_map.proofs.Keys.{spells}
 use Rattle.hop_map.proofs.Bridge.{seg_sound, reached_of, chain_of, among_of}
 
@@ -185,6 +185,28 @@ module _ (e : Ending) (w : KeepsWholeHistory e.about (whole_view [] e.history) e
 
   pub reached_inside : (s i : ℕ) → IsBornHere e m s → IsReached e m s i → HasElement e.about m i
   reached_inside s i inside r = let q = (shows_here s inside).each i r in (w.rule.linked.within m q.0 i q.3).0
+
+  -- in a map that doesn't grow each segment is born
+  module _ (there : m < length e.about.shape.maps) (fixed : (shape_at e.about m).grow ≡ false) where
+    born_fixed : (n s : ℕ) → s < power n → n ≤ depth (shape_at e.about m) → is_born (w.ghost.depths m) n s ≡ true
+    born_fixed zero s few le = let is : s ≡ 0 = omega arith in ap (λ (i : ℕ). i == 0) is
+    born_fixed (suc n) s few le = ⊎_elim
+        (λ (low : s < power n). low_is (w.ghost.depths m) n s low ∙ born_fixed n s low (omega arith))
+        (λ (high : power n ≤ s).
+        let up = power_mono n (depth (shape_at e.about m)) (omega arith) in
+        let z = w.rule.deep.whole m (s - power n) there (omega arith) fixed in
+        high_is (w.ghost.depths m) n s high ∙ both_and _ _ (lt_is n (w.ghost.depths m (s - power n)) (omega arith)) (born_fixed n (s - power n) (omega arith) (omega arith)))
+        (below_or s (power n))
+
+    born_all : (n : ℕ) → n ≤ segments (shape_at e.about m) → born_below e m n ≡ n
+    born_all zero le = refl
+    born_all (suc n) le =
+        let born : is_born (rest_depths e m) (depth (shape_at e.about m)) n ≡ true = births_here there n ∙ born_fixed (depth (shape_at e.about m)) n (omega arith) (omega arith) in
+        let more = born_all n (omega arith) in
+        ap (λ (b : Bool). if b then born_below e m n + 1 else born_below e m n) born ∙ omega arith
+
+    pub born_whole : born_below e m (segments (shape_at e.about m)) ≡ segments (shape_at e.about m)
+    born_whole = born_all (segments (shape_at e.about m)) (omega arith)
 
   -- the born segment that a key is at home in
   home_inside : m < length e.about.shape.maps → (key : List ℕ) → (s : ℕ) × IsBornHere e m s × (home_by e.about m (rest_depths e m s) key ≡ s)

@@ -31,3 +31,6 @@ pub mod Disturbing
 pub mod Dumps
 pub mod Gathering
 pub mod Adding
+pub mod Parting
+pub mod Dividing
+pub mod Splits

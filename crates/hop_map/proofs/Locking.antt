@@ -135,7 +135,7 @@ module _ (a : About) (l : Known) (m s n : ℕ) (key bytes : List ℕ) (flags : �
     }
 
     pub ends_before : (e : Ending) (l3 : Known) → UpdateEnds a l2 m key bytes flags e l3 → UpdateEnds a (with_lock l m s n) m key bytes flags e l3
-    ends_before Added l3 p = record {
+    ends_before (Added spilled) l3 p = record {
       seen = saw_before Done l3.seen p.seen;
       after = p.after ∙ ap (λ (q : Known). record q { seen = l3.seen; fresh = []; locks = [] }) t.after;
     }

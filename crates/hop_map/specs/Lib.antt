@@ -3,6 +3,7 @@ pub mod Call
 pub mod Finding
 pub mod Noting
 pub mod Port
+pub mod Splitting
 pub mod Stores
 pub mod Dumping
 pub mod Private

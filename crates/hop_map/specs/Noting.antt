@@ -7,7 +7,7 @@ use Rattle.bpf_shared.specs.declared.events.MapAnswer.TheVariants.{Busy}
 use Rattle.hop_layout.specs.declared.about.About.{About}
 use Rattle.hop_words.specs.declared.known.Known.{Known}
 use Rattle.hop_words.specs.declared.known.Sight.{Sight}
-use Rattle.hop_words.specs.Sights.{LeavesLocks, lock_taken}
+use Rattle.hop_words.specs.Sights.{LeavesLocks, lock_taken, split_made}
 use Rattle.hop_layout.specs.Layout.{segments}
 use Rattle.hop_words.specs.Ghost.{shape_at, Each}
 use Rattle.hop_map.specs.Finding.{IsSparing, MayOwn}
@@ -57,11 +57,25 @@ abbrev pub CallNotes : About → Event → Known → Known → Type 0
 CallNotes a event l l' = (sights : List Sight) × (l'.tally ≡ sights ++ l.tally)
     × MayNote a event sights
 
+-- a split that may come behind a call: behind an update of a map that grows. It took the lock of a
+-- segment, and the segment split or didn't
+abbrev pub IsGrowth : About → Event → List Sight → Type 0
+IsGrowth a (Update m key bytes flags answer) sights = ((shape_at a m).grow ≡ true)
+    × ((s : ℕ) × (n : ℕ) × ((sights ≡ lock_taken m s n ∷ [])
+    ⊎ (sights ≡ split_made m s n ∷ (lock_taken m s n ∷ []))))
+IsGrowth a event sights = ⊥
+
+-- what a call may note, and a split behind it
+abbrev pub MayNoteGrowing : About → Event → List Sight → Type 0
+MayNoteGrowing a event sights = MayNote a event sights
+    ⊎ ((later : List Sight) × (sooner : List Sight) × (sights ≡ later ++ sooner)
+    × IsGrowth a event later × MayNote a event sooner)
+
 -- at each of some calls, one after the other, no more than it may
 abbrev pub MayNoteEach : About → List Event → List Sight → Type 0
 MayNoteEach a [] sights = sights ≡ []
 MayNoteEach a (event ∷ events) sights = (mine : List Sight) × (rest : List Sight)
-    × (sights ≡ rest ++ mine) × MayNote a event mine × MayNoteEach a events rest
+    × (sights ≡ rest ++ mine) × MayNoteGrowing a event mine × MayNoteEach a events rest
 
 abbrev pub CallsNote : About → List Event → Known → Known → Type 0
 CallsNote a events l l' = (sights : List Sight) × (l'.tally ≡ sights ++ l.tally)

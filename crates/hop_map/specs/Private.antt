@@ -9,6 +9,7 @@ pub mod Replacing
 pub mod Peeks
 pub mod Port
 pub mod Removals
+pub mod Splitting
 pub mod Stores
 pub mod Updates
 pub mod LockedSegment

@@ -42,6 +42,7 @@ pub fn gather(table: HopTable, ports: Vec<HopPort>) -> Closed
             lane,
             arenas: _,
             batches: _,
+            spilled: _,
         } = port;
         let Some(lane) = lane else { unreachable!() };
         back.take(&table, lane);

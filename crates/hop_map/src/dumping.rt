@@ -1,15 +1,15 @@
 //! The pairs of a map at rest.
-ghost use Rattle.std.specs.Prelude.{◌≡◌, ◌++◌, ◌<◌, ℕ, Some, IfOk, OnOk, length};
+ghost use Rattle.std.specs.Prelude.{◌≡◌, ◌++◌, ◌<◌, ◌≤◌, ℕ, false, Some, IfOk, OnOk, length};
 ghost use Rattle.bpf_base.specs.Bytes.{low_bytes};
 ghost use Rattle.bpf_shared.specs.Shape.{IsMapShape};
 ghost use Rattle.bpf_shared.specs.Store.{Plain};
 ghost use Rattle.bpf_shared.specs.Listing.{IsListing, listed};
 ghost use Rattle.hop_words.specs.Content.{item, IsOnList};
 ghost use Rattle.hop_layout.specs.Births.{is_born};
-ghost use Rattle.hop_layout.specs.Layout.{depth};
+ghost use Rattle.hop_layout.specs.Layout.{depth, segments};
 ghost use Rattle.hop_words.specs.Ghost.{shape_at, HasElement, IsSegment};
-ghost use Rattle.hop_map.specs.Private.Dumping.{rest_depths, IsBornHere, words_in, key_in, value_in, IsReached, IsKeyAmong, AreFound, AddsPairs};
-ghost use Rattle.hop_map.specs.Dumping.{IsLast};
+ghost use Rattle.hop_map.specs.Private.Dumping.{words_in, key_in, value_in, IsReached, IsKeyAmong, AreFound, AddsPairs};
+ghost use Rattle.hop_map.specs.Dumping.{rest_depths, IsBornHere, born_below, IsLast};
 
 use crate::closed::Closed;
 use crate::numbers::item;
@@ -238,6 +238,21 @@ fn pairs_of(alloc: Global, rest: &Rest, map: u8) -> Result<Pairs, AllocError>
     Ok(pairs)
 }
 
+// How many segments of a map are born.
+fn count_born(rest: &Rest, map: u8) -> u32
+    requires map { map < length rest.now.about.shape.maps }
+    ensures counted { result ≡ born_below rest.now map (segments (shape_at rest.now.about map)) }
+{
+    let count = segments(&shape_of(rest, map));
+    let mut born = 0;
+    'segments: for segment in 0..count {
+        if is_born(rest, map, segment) {
+            born += 1;
+        }
+    }
+    born
+}
+
 impl Closed {
     /// The keys of a map with their values, in the keys' order; of no map there are none. Want of
     /// memory is the only refusal.
@@ -254,5 +269,21 @@ impl Closed {
             pairs.push(pair)?;
         }
         Ok(pairs)
+    }
+
+    /// How many segments of a map are born; of no map there are none.
+    pub fn segments(&self, map: u64) -> u32
+        ensures none { length self.now.about.shape.maps ≤ map → result ≡ 0 }
+        ensures counted { map < length self.now.about.shape.maps →
+            result ≡ born_below self.now map (segments (shape_at self.now.about map)) }
+        ensures whole { (last : Plain) → IsLast self.now last →
+            map < length self.now.about.shape.maps →
+            (shape_at self.now.about map).grow ≡ false →
+            result ≡ segments (shape_at self.now.about map) }
+    {
+        if map >= self.rest.about().shape.maps().len() as u64 {
+            return 0;
+        }
+        count_born(&self.rest, map as u8)
     }
 }

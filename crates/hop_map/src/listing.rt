@@ -26,8 +26,8 @@ fn bytes_of(number: u64) -> [u8; 8]
     number.to_le_bytes()
 }
 
-// Puts a word behind the words before it, its lowest byte first.
-fn put_word(bytes: &mut [u8], word: usize, number: u64)
+/// Puts a word behind the words before it, its lowest byte first.
+pub(crate) fn put_word(bytes: &mut [u8], word: usize, number: u64)
     requires fits { 8 * word + 8 ≤ length bytes.old }
     ensures size { length bytes.new ≡ length bytes.old }
     ensures put { take (8 * word + 8) bytes.new ≡ take (8 * word) bytes.old ++ low_bytes 8 number }

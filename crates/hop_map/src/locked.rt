@@ -1,15 +1,17 @@
 //! The words of a locked segment.
-ghost use Rattle.std.specs.Prelude.{◌≡◌, ◌≢◌, ◌⊎◌, ◌<◌, ◌≤◌, ◌+◌, ◌^◌, ◌↔◌, true, false, [], length, IsTrue, IsFalse, IfSome, None};
-ghost use Rattle.bpf_shared.specs.Shape.{elements as elements_of};
+ghost use Rattle.std.specs.Prelude.{◌≡◌, ◌≢◌, ◌⊎◌, ◌<◌, ◌≤◌, ◌+◌, ◌%◌, ◌^◌, ◌↔◌, true, false, [], length, IsTrue, IsFalse, IfSome, None, take};
+ghost use Rattle.bpf_shared.specs.Shape.{IsMapShape, elements as elements_of};
+ghost use Rattle.hop_layout.specs.Home.{home_of};
+ghost use Rattle.hop_words.specs.Rule.{image, owed};
 ghost use Rattle.hop_layout.specs.Layout.{is_place, mem};
-ghost use Rattle.hop_words.specs.Ghost.{shape_at};
+ghost use Rattle.hop_words.specs.Ghost.{shape_at, IsSegment};
 ghost use Rattle.bpf_shared.specs.declared.events.Event.TheVariants.{Delete, Update};
 ghost use Rattle.bpf_shared.specs.declared.events.MapAnswer.TheVariants.{Full, NoMemory};
-ghost use Rattle.hop_words.specs.Rule.{owed};
-ghost use Rattle.hop_words.specs.Kinds.{Inserted, IsKeyAbsent, IsWritten, unlocking, Replaces, Replaced, Removes, Answers, Answered, LooksUpLocked, LookedUp, Told, SawAllTaken};
+ghost use Rattle.hop_words.specs.Kinds.{Inserted, IsKeyAbsent, IsWritten, unlocking, Splits, Replaces, Replaced, Removes, Answers, Answered, LooksUpLocked, LookedUp, Told, SawAllTaken};
 ghost use Rattle.hop_words.specs.Locking.{lock_of, hand};
-ghost use Rattle.hop_words.specs.Guarded.{IsGuarded, MayWrite};
-ghost use Rattle.hop_map.specs.Private.LockedSegment.{IsNoKey, written, SpellsKey};
+ghost use Rattle.hop_words.specs.Guarded.{IsGuarded, MayWrite, IsGuardedBeside, IsWordBeside, IsStampBeside};
+ghost use Rattle.hop_words.specs.Sights.{sighted, split_made};
+ghost use Rattle.hop_map.specs.Private.LockedSegment.{IsNoKey, written, SpellsKey, spelled_key};
 ghost use Rattle.hop_map.specs.LockedSegment.{knows, Ready, Fits};
 ghost use Rattle.hop_words.specs.declared.known.Change.TheVariants.{Drops};
 ghost use Rattle.hop_map.specs.Private.UnderLock.{LockShows, OffersInsertion};
@@ -17,11 +19,12 @@ ghost use Rattle.hop_map.specs.Private.Removals.{Dropped};
 ghost use Rattle.hop_map.specs.Private.Updates.{Wants, Offers};
 
 use crate::homing::shape_of;
+use crate::listing::put_word;
 use crate::numbers::{hop_bits, item, link_word};
 use crate::words::{head_place, hop_place, link_place, slot_place};
-use bpf_shared::MapAnswer;
+use bpf_shared::{MapAnswer, MapShape};
 use crossbeam_utils::Backoff;
-use hop_layout::{Place, word_of};
+use hop_layout::{Place, home, word_of};
 use hop_seg::{SegReads, SegWords};
 use hop_words::{HopTable, Lane};
 use std::marker::Model;
@@ -337,6 +340,92 @@ impl<'a> LockedWords<'a> {
         lane
     }
 
+    /// The map's number.
+    pub(crate) fn map(&self) -> u8
+        ensures map { result ≡ self.now.map }
+        ensures ready { Ready self.now.about self.now.known self.now.map self.now.segment }
+    {
+        self.map
+    }
+
+    /// The segment's number.
+    pub(crate) fn segment(&self) -> u32
+        ensures segment { result ≡ self.now.segment }
+        ensures inside { IsSegment self.now.about self.now.map self.now.segment }
+    {
+        self.segment
+    }
+
+    /// The shape of the segment's map.
+    pub(crate) fn shape(&self) -> MapShape
+        ensures shape { result ≡ shape_at self.now.about self.now.map }
+        ensures sizes { IsMapShape result }
+    {
+        shape_of(self.table, self.map)
+    }
+
+    /// The seed of the maps' hashes.
+    fn seed(&self) -> u64
+        ensures { result ≡ self.now.about.seed }
+    {
+        self.table.about().seed
+    }
+
+    /// The version that segments are made with.
+    pub(crate) fn version(&self) -> u64
+        ensures { result ≡ self.now.about.version }
+    {
+        self.table.about().version
+    }
+
+    /// A word of the segment that is born when this one splits.
+    pub(crate) fn read_beside(&mut self, place: Place) -> u64
+        requires there { is_place self.old.about.shape place ≡ true }
+        requires beside { IsGuardedBeside self.old.known place }
+        ensures value { result ≡ mem self.old.about.shape (lock_of self.old.known).copy place }
+        ensures same { self.new ≡ self.old }
+    {
+        self.lane.read_beside(self.table, place)
+    }
+
+    /// Writes a word of that segment.
+    pub(crate) fn write_beside(&mut self, place: Place, number: u64)
+        requires there { is_place self.old.about.shape place ≡ true }
+        requires beside { IsWordBeside self.old.known place }
+        requires no_key { IsNoKey place }
+        ensures written { self.new ≡ written self.old place number }
+    {
+        self.lane.write_beside(self.table, place, number);
+    }
+
+    /// Writes the stamp of that segment.
+    pub(crate) fn write_stamp_beside(&mut self, place: Place, stamp: u64)
+        requires there { is_place self.old.about.shape place ≡ true }
+        requires beside { IsStampBeside self.old.known place }
+        requires no_key { IsNoKey place }
+        requires even { stamp % 2 ≡ 0 }
+        ensures written { self.new ≡ written self.old place stamp }
+    {
+        self.lane.write_stamp_beside(self.table, place, stamp);
+    }
+
+    /// Gives the lock back with one depth more, and with it that segment is born.
+    pub(crate) fn unlock_split(self, stamp: u64, child_stamp: u64) -> Lane
+        requires stamp { stamp ≡ (lock_of self.known).stamp }
+        requires fits { stamp + 258 < 2 ^ 64 }
+        requires splits { let l = self.known in
+            Ready self.about l self.map self.segment →
+            Splits self.about l (lock_of l) child_stamp }
+        ensures table { result.table ≡ self.entry.table }
+        ensures known { result.known ≡ sighted (unlocking self.entry.known)
+            (split_made self.entry.map self.entry.segment stamp) }
+    {
+        let (table, map, segment) = (self.table, self.map, self.segment);
+        let mut lane = self.lane;
+        lane.publish_split(table, map, segment, stamp, child_stamp);
+        lane
+    }
+
     #[inline(always)]
     fn read(&mut self, place: Place) -> u64
         requires there { is_place self.old.about.shape place ≡ true }
@@ -379,6 +468,44 @@ impl<'a> LockedWords<'a> {
             }
         }
         true
+    }
+    /// The bytes of an element's key, and what lies behind them.
+    fn key_bytes(&mut self, element: u32, size: usize) -> [u8; 64]
+        requires inside { element < elements_of (shape_at self.old.about self.old.map) }
+        requires known { knows self.old.known self.old.map element ≡ true }
+        requires size { size ≡ (shape_at self.old.about self.old.map).key }
+        requires small { size ≤ 64 }
+        ensures key { take size result ≡ spelled_key self.old.about self.old.map
+            (image self.old.about (lock_of self.old.known).copy) element }
+        ensures same { self.new ≡ self.old }
+    {
+        let mut bytes = [0u8; 64];
+        'words: for word in 0..size.div_ceil(8) {
+            let place = Place::KeyWord {
+                map: self.map,
+                element,
+                word: word as u32,
+            };
+            put_word(&mut bytes, word, self.read(place));
+        }
+        bytes
+    }
+
+    /// The home of an element's key.
+    pub(crate) fn home_of_key(&mut self, element: u32) -> u32
+        requires inside { element < elements_of (shape_at self.old.about self.old.map) }
+        requires known { knows self.old.known self.old.map element ≡ true }
+        ensures home { let g = shape_at self.old.about self.old.map in
+            result ≡ home_of (spelled_key self.old.about self.old.map
+            (image self.old.about (lock_of self.old.known).copy) element)
+            self.old.about.seed g.mask }
+        ensures same { self.new ≡ self.old }
+    {
+        let shape = self.shape();
+        let seed = self.seed();
+        let size = shape.key as usize;
+        let bytes = self.key_bytes(element, size);
+        home(&bytes[..size], seed, shape.mask)
     }
 }
 

@@ -7,11 +7,14 @@ ghost use Rattle.hop_map.specs.Call.{IsShortage, IsReclaimed};
 ghost use Rattle.hop_map.specs.Noting.{CallNotes};
 ghost use Rattle.hop_map.specs.Finding.{OnceEnds};
 ghost use Rattle.hop_map.specs.Port.{IsPortOf, PortDoes, runs};
+ghost use Rattle.hop_map.specs.Splitting.{SplitEnds};
 
 use crate::deleting::delete;
 use crate::finding::{find_locked, find_once, lookup};
+use crate::growth::Growth;
 use crate::listing::list_keys;
 use crate::once::Once;
+use crate::splitting::split_segment;
 use crate::updating::update;
 use bpf_shared::{KeyList, MapAnswer, MapShape, Span, Worn};
 use hop_arena::Arena;
@@ -30,6 +33,7 @@ pub struct HopPort {
     pub(crate) arenas: Vec<Arena>,
     // by map
     pub(crate) batches: Vec<Batches>,
+    pub(crate) spilled: Option<u32>,
 }
 
 impl Model for HopPort {
@@ -221,8 +225,11 @@ impl HopPort {
         let place = usize::from(map);
         let arena = &mut self.arenas[place];
         let batches = &mut self.batches[place];
-        let (lane, answer) = update(rt, table, lane, arena, batches, map, key, value, flags);
+        let (lane, answer, spilled) = update(
+            rt, table, lane, arena, batches, map, key, value, flags,
+        );
         self.lane = Some(lane);
+        self.spilled = spilled;
         answer
     }
 
@@ -245,5 +252,29 @@ impl HopPort {
         let (lane, answer) = delete(rt, table, lane, batches, map, key);
         self.lane = Some(lane);
         answer
+    }
+
+    /// The segment to whose overflow list the last update's new key went, if it went to one.
+    pub fn spilled(&self) -> Option<u32> {
+        self.spilled
+    }
+
+    /// Splits the segment of a map that a home belongs to, if its depth and its version let it. The
+    /// home of a born segment's own number belongs to that segment. It is no event: the map has the
+    /// keys and values that it had. The CPU may be in a run or not, and waits for the segment's lock.
+    pub fn split<R: Wait>(&mut self, rt: &R, table: &HopTable, map: u8, home: u32) -> Growth
+        requires fits { IsPortOf table.now self.old }
+        requires map { map < length table.now.about.shape.maps }
+        ensures in_run { runs self.new ≡ runs self.old }
+        ensures ends { SplitEnds table.now.about self.old.known map home result self.new.known }
+        ensures else_same { self.new ≡ record self.old { known = self.new.known } }
+        ensures fits { IsPortOf table.now self.new }
+    {
+        let Some(lane) = self.lane.take() else {
+            unreachable!()
+        };
+        let (lane, growth) = split_segment(rt, table, lane, map, home);
+        self.lane = Some(lane);
+        growth
     }
 }

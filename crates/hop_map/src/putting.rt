@@ -1,10 +1,11 @@
 //! An update under the lock of its key's segment.
-ghost use Rattle.std.specs.Prelude.{◌≡◌, ◌≢◌, ◌<◌, ◌+◌, ◌^◌, ℕ};
+ghost use Rattle.std.specs.Prelude.{◌≡◌, ◌≢◌, ◌<◌, ◌+◌, ◌^◌, ℕ, Some, None};
 ghost use Rattle.hop_layout.specs.Home.{home_of};
 ghost use Rattle.hop_words.specs.Ghost.{shape_at};
 ghost use Rattle.hop_words.specs.Kinds.{SawAllTaken};
 ghost use Rattle.hop_words.specs.Locking.{lock_of};
 ghost use Rattle.hop_seg.specs.Content.{HasPair, IsAbsent};
+ghost use Rattle.hop_seg.specs.declared.insertion.Landing.TheVariants.{Neighbourhood, OverflowList};
 ghost use Rattle.hop_map.specs.Private.LockedSegment.{seen_words as seen};
 ghost use Rattle.hop_map.specs.Private.Replacing.{IsReplacement};
 ghost use Rattle.hop_map.specs.Private.UnderLock.{LockShows};
@@ -15,9 +16,20 @@ use crate::ending::Ending;
 use crate::judging::{Finding, judge};
 use crate::locked::LockedWords;
 use bpf_shared::MapAnswer;
-use hop_seg::{insert, replace};
+use hop_seg::{Landing, insert, replace};
 use hop_words::Lane;
 use std::sync::Wait;
+
+// The segment, if the element went to its overflow list.
+fn spilled_to(landing: Landing, segment: u32) -> Option<u32>
+    ensures near { landing ≡ Neighbourhood → result ≡ None }
+    ensures listed { landing ≡ OverflowList → result ≡ Some segment }
+{
+    match landing {
+        Landing::Neighbourhood => None,
+        Landing::OverflowList => Some(segment),
+    }
+}
 
 /// Adds the key that the segment doesn't have, with the element in hand, if the map has room for
 /// one key more. Gives the lock back.
@@ -48,8 +60,10 @@ pub(crate) fn put_new<'a, R: Wait>(
     if !words.count_in(rt, element, key, value, flags) {
         return (words.unlock_silent(stamp), Ending::Refused(MapAnswer::Full));
     }
-    let _landing = insert(&mut words, element, home);
-    (words.unlock_written(stamp), Ending::Added)
+    let segment = words.segment();
+    let landing = insert(&mut words, element, home);
+    let spilled = spilled_to(landing, segment);
+    (words.unlock_written(stamp), Ending::Added(spilled))
 }
 
 /// Puts the element in hand in the place of the one that the key has, and gives the lock back.

@@ -76,6 +76,7 @@ fn new_port(alloc: Global, table: &HopTable, lane: Lane) -> Result<HopPort, Allo
         lane: Some(lane),
         arenas,
         batches,
+        spilled: None,
     })
 }
 

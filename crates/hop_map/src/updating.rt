@@ -147,7 +147,8 @@ fn claim_free(
 }
 
 // Fills a new element, and puts it, as the flags say. Where the update is refused the element is
-// given back, and where it took the place of another, that one is retired.
+// given back, and where it took the place of another, that one is retired. Answers too which
+// segment's overflow list a new key went to.
 fn fill_and_put<R: Wait>(
     rt: &R,
     table: &HopTable,
@@ -159,7 +160,7 @@ fn fill_and_put<R: Wait>(
     key: &[u8],
     value: &[u8],
     flags: u64,
-) -> (Lane, MapAnswer)
+) -> (Lane, MapAnswer, Option<u32>)
     requires table { lane.table ≡ table.now.id }
     requires arena { Searches table.now.about map arena.old }
     requires batches { AreBatchesOf table.now.about lane.known map batches.old }
@@ -189,19 +190,19 @@ fn fill_and_put<R: Wait>(
     let number = element.number();
     let (mut lane, ending) = lock_and_put(rt, table, lane, map, number, key, value, flags);
     match ending {
-        Ending::Added => {
+        Ending::Added(spilled) => {
             let _linked = element.into_number();
-            (lane, MapAnswer::Done)
+            (lane, MapAnswer::Done, spilled)
         }
         Ending::Replaced(old) => {
             let _linked = element.into_number();
             let used = Used::new(&lane, map, old);
             batches.retire(&mut lane, table, used);
-            (lane, MapAnswer::Done)
+            (lane, MapAnswer::Done, None)
         }
         Ending::Refused(answer) => {
             arena.give_back(&mut lane, table, element);
-            (lane, answer)
+            (lane, answer, None)
         }
     }
 }
@@ -209,7 +210,7 @@ fn fill_and_put<R: Wait>(
 /// A value of these bytes is to stand under the key: always for the flags 0, where the key isn't
 /// there yet for 1, where it is there for 2 (bpf-helpers(7)). The value gets an element of its own,
 /// which is claimed and filled before the key's segment is locked, and given back where the update
-/// is refused.
+/// is refused. Answers too which segment's overflow list a new key went to.
 pub fn update<R: Wait>(
     rt: &R,
     table: &HopTable,
@@ -220,7 +221,7 @@ pub fn update<R: Wait>(
     key: &[u8],
     value: &[u8],
     flags: u64,
-) -> (Lane, MapAnswer)
+) -> (Lane, MapAnswer, Option<u32>)
     requires table { lane.table ≡ table.now.id }
     requires even { table.now.about.count % 2 ≡ 0 }
     requires arena { Searches table.now.about map arena.old }
@@ -240,10 +241,13 @@ pub fn update<R: Wait>(
     let mut lane = lane;
     if flags > 2 {
         lane.see_count_misflagged(table, map, key, value, flags);
-        return (lane, MapAnswer::Invalid);
+        return (lane, MapAnswer::Invalid, None);
     }
     match claim_free(table, &mut lane, arena, batches) {
-        None => lock_and_refuse(rt, table, lane, map, key, value, flags),
+        None => {
+            let (lane, answer) = lock_and_refuse(rt, table, lane, map, key, value, flags);
+            (lane, answer, None)
+        }
         Some(element) => fill_and_put(
             rt, table, lane, arena, batches, element, map, key, value, flags,
         ),

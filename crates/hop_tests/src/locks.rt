@@ -75,7 +75,7 @@ fn first_update<R: Wait>(rt: &R, table: &HopTable, lane: Lane, key: u32) -> Opti
         Err(_) => return None,
     }
     let key = key.to_le_bytes();
-    let (_lane, answer) = update(
+    let (_lane, answer, _spilled) = update(
         rt,
         table,
         lane,

@@ -1,14 +1,14 @@
 -- What a listing has found so far.
 use Rattle.std.specs.Prelude.{◌≡◌, ◌⊎◌, ℕ, List, [], ◌∷◌, take}
 use Rattle.bpf_shared.specs.Listing.{Pair}
-use Rattle.hop_layout.specs.declared.place.Place.TheVariants.{Stamp, ValueWord}
+use Rattle.hop_layout.specs.declared.place.Place.TheVariants.{ValueWord}
 use Rattle.hop_layout.specs.Layout.{mem, words_for}
 use Rattle.hop_layout.specs.Words.{bytes_of_words}
 use Rattle.hop_words.specs.Content.{MapWords, Reached}
 use Rattle.hop_words.specs.Ghost.{shape_at, Each}
-use Rattle.hop_words.specs.Depths.{stamp_depth, IsBorn}
 use Rattle.hop_words.specs.Rule.{image}
 use Rattle.hop_words.specs.Closing.{Ending}
+use Rattle.hop_map.specs.Dumping.{IsBornHere}
 use Rattle.hop_map.specs.Private.LockedSegment.{spelled_key}
 
 abbrev pub words_in : Ending → MapWords
@@ -30,13 +30,6 @@ IsReached e m s i = Reached (words_in e) m s i
 abbrev pub IsKeyAmong : List ℕ → List Pair → Type 0
 IsKeyAmong key [] = ⊥
 IsKeyAmong key (p ∷ ps) = (p.0 ≡ key) ⊎ IsKeyAmong key ps
-
--- the depths of segments, by the stamps as they stand
-abbrev pub rest_depths : Ending → ℕ → ℕ → ℕ
-rest_depths e m s = stamp_depth (mem e.about.shape e.words (Stamp m s))
-
-abbrev pub IsBornHere : Ending → ℕ → ℕ → Type 0
-IsBornHere e m s = IsBorn e.about (rest_depths e) m s
 
 -- the pair of an element that some born segment's words lead to
 abbrev pub IsPairFound : Ending → ℕ → Pair → Type 0

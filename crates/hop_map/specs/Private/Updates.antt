@@ -89,12 +89,12 @@ pub record Refusal (a : About) (l : Known) (m : ℕ) (key bytes : List ℕ) (fla
 
 -- how an update ends that has an element in hand: only with a free element to spare is none lacking
 abbrev pub UpdateEnds : About → Known → ℕ → List ℕ → List ℕ → ℕ → Ending → Known → Type 0
-UpdateEnds a l m key bytes flags Added l2 = IsInsertion a l m key bytes flags l2
+UpdateEnds a l m key bytes flags (Added spilled) l2 = IsInsertion a l m key bytes flags l2
 UpdateEnds a l m key bytes flags (Replaced e) l2 = IsReplacement a l m key bytes flags e l2
 UpdateEnds a l m key bytes flags (Refused r) l2 = Refusal a l m key bytes flags r l2
     × (r ≢ NoMemory)
 
 abbrev pub answer_of : Ending → MapAnswer
-answer_of Added = Done
+answer_of (Added spilled) = Done
 answer_of (Replaced e) = Done
 answer_of (Refused r) = r

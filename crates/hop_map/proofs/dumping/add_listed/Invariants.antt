@@ -2,7 +2,8 @@ use Rattle.std.specs.Prelude.{ℕ, true, Option}
 use Rattle.bpf_shared.specs.Listing.{listed}
 use Rattle.hop_seg.proofs.Walking.{Counted}
 use Rattle.hop_map.specs.Private.LockedSegment.{segment_view}
-use Rattle.hop_map.specs.Private.Dumping.{rest_depths, words_in, key_in, IsKeyAmong, AddsPairs}
+use Rattle.hop_map.specs.Private.Dumping.{words_in, key_in, IsKeyAmong, AddsPairs}
+use Rattle.hop_map.specs.Dumping.{rest_depths}
 use Rattle.hop_map.proofs.dumping.add_listed.Given as goal
 
 abbrev pub invariant-list : goal.invariant-list

@@ -4,7 +4,7 @@ use Rattle.hop_layout.specs.Layout.{depth, power}
 use Rattle.hop_layout.proofs.Depths.{segments_are}
 use Rattle.hop_words.specs.Depths.{stamp_depth}
 use Rattle.hop_words.specs.Ghost.{shape_at}
-use Rattle.hop_map.specs.Private.Dumping.{rest_depths}
+use Rattle.hop_map.specs.Dumping.{rest_depths}
 use Rattle.hop_map.proofs.Dumps.{bit_low, bit_high, bit_none}
 use Rattle.hop_map.proofs.dumping.is_born.Goals as goal
 

@@ -3,7 +3,8 @@ use Rattle.hop_layout.specs.Births.{is_born}
 use Rattle.hop_layout.specs.Layout.{segments, depth}
 use Rattle.hop_words.specs.Ghost.{shape_at}
 use Rattle.hop_words.proofs.Small.{equal}
-use Rattle.hop_map.specs.Private.Dumping.{rest_depths, key_in, IsReached}
+use Rattle.hop_map.specs.Private.Dumping.{key_in, IsReached}
+use Rattle.hop_map.specs.Dumping.{rest_depths}
 use Rattle.hop_map.proofs.dumping.pairs_of.Goals as goal
 
 pub segments-preserved : goal.segments-preserved

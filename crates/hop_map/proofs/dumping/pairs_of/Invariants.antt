@@ -1,6 +1,7 @@
 use Rattle.std.specs.Prelude.{◌<◌, ℕ}
 use Rattle.bpf_shared.specs.Listing.{listed}
-use Rattle.hop_map.specs.Private.Dumping.{IsBornHere, key_in, IsReached, IsKeyAmong, AreFound}
+use Rattle.hop_map.specs.Private.Dumping.{key_in, IsReached, IsKeyAmong, AreFound}
+use Rattle.hop_map.specs.Dumping.{IsBornHere}
 use Rattle.hop_map.proofs.dumping.pairs_of.Given as goal
 
 abbrev pub invariant-segments : goal.invariant-segments

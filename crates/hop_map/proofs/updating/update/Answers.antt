@@ -7,8 +7,8 @@ use Rattle.hop_map.proofs.Wholes.{pair_at, kept_runs, lacks_of, searched_on, loc
 use Rattle.hop_map.proofs.Noted.{update_notes, notes_after}
 use Rattle.hop_map.proofs.updating.update.Goals as goal
 
-pub lock_and_refuse-requires-clause-brought : goal.lock_and_refuse-requires-clause-brought
-lock_and_refuse-requires-clause-brought g c =
+pub lock_and_refuse-lane-requires-clause-brought : goal.lock_and_refuse-lane-requires-clause-brought
+lock_and_refuse-lane-requires-clause-brought g c =
     let a = c.args.table.now.about in
     let l1 = c.claim_free.new.lane.known in
     let pair = pair_at a c.args.map c.args.key.now c.args.value.now c.requires.pair in
@@ -33,12 +33,12 @@ returns-in-None-clause-lacks g c =
     let l = c.args.lane.known in
     let m = c.args.map in
     let l1 = c.claim_free.new.lane.known in
-    let l2 = c.lock_and_refuse.result.0.known in
-    let s = c.lock_and_refuse.ensures.refused.0 in
-    let n = c.lock_and_refuse.ensures.refused.1 in
-    let p = c.lock_and_refuse.ensures.refused.3 in
+    let l2 = c.lock_and_refuse-lane.result.0.known in
+    let s = c.lock_and_refuse-lane.ensures.refused.0 in
+    let n = c.lock_and_refuse-lane.ensures.refused.1 in
+    let p = c.lock_and_refuse-lane.ensures.refused.3 in
     let k = lock_taken m s n in
-    lacks_of a l m c.lock_and_refuse.result.1 l2 p.worn
+    lacks_of a l m c.lock_and_refuse-lane.result.1 l2 p.worn
     (λ _. searched_on a l m l1 l2 k (subst (λ (i : ℕ). SearchesInVain a l i l1) c.requires.arena.0 c.in-None.ensures.claimed.1) (lock_leaves m m s n)
     (ap (λ (q : Known). q.tally) p.after) (ap (λ (q : Known). q.limbo) p.after))
 
@@ -58,14 +58,14 @@ returns-in-None-clause-noted g c =
     let m = c.args.map in
     let key = c.args.key.now in
     let l1 = c.claim_free.new.lane.known in
-    let l2 = c.lock_and_refuse.result.0.known in
-    let answer = c.lock_and_refuse.result.1 in
-    let refused = c.lock_and_refuse.ensures.refused in
+    let l2 = c.lock_and_refuse-lane.result.0.known in
+    let answer = c.lock_and_refuse-lane.result.1 in
+    let refused = c.lock_and_refuse-lane.ensures.refused in
     let kept = c.in-None.ensures.claimed.0 in
     notes_after a c.args.lane.known l1 m key c.args.value.now c.args.flags answer l2 kept.sights.0 c.if-flags-gt2.false kept.sights.1 kept.sights.2
     (update_notes a l1 m key answer l2 refused.0 refused.1 refused.2 [] (ap (λ (q : Known). q.tally) refused.3.after) tt refused.4 c.args.value.now c.args.flags c.if-flags-gt2.false)
 
-pub lock_and_refuse-requires-clause-lacks : goal.lock_and_refuse-requires-clause-lacks
-lock_and_refuse-requires-clause-lacks g c =
+pub lock_and_refuse-lane-requires-clause-lacks : goal.lock_and_refuse-lane-requires-clause-lacks
+lock_and_refuse-lane-requires-clause-lacks g c =
     saw_all c.args.table.now.about c.args.lane.known c.args.map c.claim_free.new.lane.known (c.in-None.ensures.claimed.0.fresh ∙ c.requires.rests.fresh)
     (subst (λ (i : ℕ). SearchesInVain c.args.table.now.about c.args.lane.known i c.claim_free.new.lane.known) c.requires.arena.0 c.in-None.ensures.claimed.1)

@@ -7,7 +7,8 @@ use Rattle.bpf_shared.specs.Store.{Plain}
 use Rattle.bpf_shared.specs.Listing.{IsListing, listed}
 use Rattle.hop_layout.specs.declared.about.About.{About}
 use Rattle.hop_words.specs.Closing.{Ending}
-use Rattle.hop_map.specs.Private.Dumping.{IsBornHere, key_in, IsReached, IsKeyAmong, AreFound}
+use Rattle.hop_map.specs.Private.Dumping.{key_in, IsReached, IsKeyAmong, AreFound}
+use Rattle.hop_map.specs.Dumping.{IsBornHere}
 use Rattle.hop_map.proofs.Dumps.{listing, no_listing, sorted_keys}
 use Rattle.hop_map.proofs.closed.Closed.dump.Goals as goal
 

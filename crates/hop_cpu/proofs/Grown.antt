@@ -1,0 +1,89 @@
+-- An update, and a split behind it.
+use Rattle.std.proofs.Common.{◌≡◌, ℕ, Bool, true, false, not, List, [], ◌∷◌, ◌++◌, refl, ap, sym, subst, ◌∙◌, append_assoc, inl, inr, ⊎_elim}
+use Rattle.std.proofs.lemmas.List.{append-nil}
+use Rattle.bpf_shared.specs.declared.events.Event.{Event}
+use Rattle.bpf_shared.specs.declared.events.MapAnswer.{MapAnswer}
+use Rattle.bpf_shared.specs.declared.events.Event.TheVariants.{Update}
+use Rattle.bpf_shared.specs.History.{events_of}
+use Rattle.bpf_shared.specs.Own.{in_run}
+use Rattle.hop_layout.specs.declared.about.About.{About}
+use Rattle.hop_words.specs.declared.known.Known.{Known}
+use Rattle.hop_words.specs.declared.known.Sight.{Sight}
+use Rattle.hop_words.specs.Kinds.{TakesEffect}
+use Rattle.hop_words.specs.Ghost.{shape_at}
+use Rattle.hop_words.specs.Sights.{lock_taken, split_made}
+use Rattle.hop_map.specs.declared.growth.Growth.{Growth}
+use Rattle.hop_map.specs.declared.growth.Growth.TheVariants.{Grown, AtDepth, Worn}
+use Rattle.hop_map.specs.Splitting.{SplitEnds}
+use Rattle.hop_map.specs.Port.{Port, PortDoes, runs}
+use Rattle.hop_map.specs.Noting.{MayNote, CallNotes, CallsNote}
+use Rattle.hop_cpu.specs.Growing.{NotesGrowth, Grows}
+
+-- ---- a split that was tried, or none
+pub grows_none : (a : About) (m : ℕ) (p : Port) → Grows a m p p
+grows_none a m p = record { more = []; notes = inl refl; tally = refl; known = refl; same = refl }
+
+pub grows_split : (a : About) (m home : ℕ) (p q : Port) (g : Growth) → (shape_at a m).grow ≡ true → q ≡ record p { known = q.known } → SplitEnds a p.known m home g q.known → Grows a m p q
+grows_split a m home p q Grown grow same (s, n, owns, less, version, is) = record {
+  more = split_made m s n ∷ (lock_taken m s n ∷ []);
+  notes = inr (grow, (s, n, inr refl));
+  tally = ap (λ (k : Known). k.tally) is;
+  known = is ∙ (λ j. record p.known { readings = sym (ap (λ (k : Known). k.readings) is) j; tally = sym (ap (λ (k : Known). k.tally) is) j });
+  same = same;
+}
+grows_split a m home p q AtDepth grow same (s, n, owns, at, is) = record {
+  more = lock_taken m s n ∷ [];
+  notes = inr (grow, (s, n, inl refl));
+  tally = ap (λ (k : Known). k.tally) is;
+  known = is ∙ (λ j. record p.known { readings = sym (ap (λ (k : Known). k.readings) is) j; tally = sym (ap (λ (k : Known). k.tally) is) j });
+  same = same;
+}
+grows_split a m home p q Worn grow same (s, n, owns, less, version, is) = record {
+  more = lock_taken m s n ∷ [];
+  notes = inr (grow, (s, n, inl refl));
+  tally = ap (λ (k : Known). k.tally) is;
+  known = is ∙ (λ j. record p.known { readings = sym (ap (λ (k : Known). k.readings) is) j; tally = sym (ap (λ (k : Known). k.tally) is) j });
+  same = same;
+}
+
+-- ---- behind an update
+module _ (a : About) (m : ℕ) (p q r : Port) (g : Grows a m q r) where
+  saw : r.known.seen ≡ q.known.seen
+  saw = ap (λ (k : Known). k.seen) g.known
+
+  cpu : r.known.cpu ≡ q.known.cpu
+  cpu = ap (λ (k : Known). k.cpu) g.known
+
+  pub does_on : (e : Event) → PortDoes a p e q → PortDoes a p e r
+  does_on e d = record {
+    table = ap (λ (z : Port). z.table) g.same ∙ d.table;
+    cpu = cpu ∙ d.cpu;
+    seen = subst (TakesEffect a p.known e) (sym saw) d.seen;
+  }
+
+  pub runs_on : runs q ≡ true → runs r ≡ true
+  runs_on is = (λ j. in_run (events_of (cpu j) (saw j))) ∙ is
+
+  module _ (key bytes : List ℕ) (flags : ℕ) (answer : MapAnswer) where
+    pub notes_on : CallNotes a (Update m key bytes flags answer) p.known q.known → CallsNote a (Update m key bytes flags answer ∷ []) p.known r.known
+    notes_on (sights, is, may) = (
+      g.more ++ sights,
+      g.tally ∙ (ap (λ (z : List Sight). g.more ++ z) is ∙ sym (append_assoc g.more sights p.known.tally)),
+      (
+        g.more ++ sights,
+        [],
+        refl,
+        ⊎_elim
+            (λ (none : g.more ≡ []). inl (subst (λ (z : List Sight). MayNote a (Update m key bytes flags answer) z) (sym (ap (λ (z : List Sight). z ++ sights) none)) may))
+            (λ grown. inr (g.more, sights, refl, grown, may))
+            g.notes,
+        refl,
+      ),
+    )
+
+pub notes_alone : (a : About) (e : Event) (l l' : Known) → CallNotes a e l l' → CallsNote a (e ∷ []) l l'
+notes_alone a e l l' (sights, is, may) = (sights, is, (sights, [], refl, inl may, refl))
+
+pub was_true : (b : Bool) → not b ≡ false → b ≡ true
+was_true true is = refl
+was_true false is = cc

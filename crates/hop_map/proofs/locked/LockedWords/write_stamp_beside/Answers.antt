@@ -1,0 +1,24 @@
+use Rattle.std.proofs.Common.{ap, sym, subst, ◌∙◌}
+use Rattle.hop_words.specs.declared.known.Known.{Known}
+use Rattle.hop_layout.specs.Layout.{is_place}
+use Rattle.hop_map.specs.LockedSegment.{Locked, Ready}
+use Rattle.hop_map.specs.Private.LockedSegment.{written}
+use Rattle.hop_map.proofs.Written.{written_ready}
+use Rattle.hop_map.proofs.locked.LockedWords.write_stamp_beside.Goals as goal
+
+pub invariant_of-self : goal.invariant_of-self
+invariant_of-self c = let i = c.self.inside in record {
+  seated = c.write_stamp_beside.ensures.table ∙ c.self.invariant.seated;
+  keyed = c.self.invariant.keyed;
+  small = c.self.invariant.small;
+  counted = c.self.invariant.counted;
+  ready = subst (λ (l : Known). Ready i.table.now.about l i.map i.segment) (sym c.write_stamp_beside.ensures.written)
+      (written_ready i.table.now.about i.lane.known i.map i.segment c.args.place c.args.stamp c.self.invariant.ready
+      (ap (λ (x : Locked). is_place x.about.shape c.args.place) c.self.view_is ∙ c.requires.there) c.requires.no_key);
+}
+
+pub returns : goal.returns
+returns c = let i = c.self.inside in record {
+  written = (λ j. record { table = i.table.now.id; about = i.table.now.about; known = c.write_stamp_beside.ensures.written j; map = i.map; segment = i.segment })
+      ∙ ap (λ (x : Locked). written x c.args.place c.args.stamp) c.self.view_is;
+}
