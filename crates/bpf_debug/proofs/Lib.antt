@@ -1,8 +1,10 @@
 pub mod CommandLaws
 pub mod GoLaws
 pub mod ManyTurns
+pub mod Weaker
 pub mod SessionLaws
 pub mod ReadLaws
+pub mod ScheduleLaws
 pub mod ScriptLaws
 pub mod OneText
 pub mod OneScript

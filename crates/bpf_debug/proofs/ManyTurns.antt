@@ -1,15 +1,16 @@
--- Turns of one CPU, one after the other: a schedule, and how far they have come.
-use Rattle.std.proofs.Common.{◌≡◌, ℕ, zero, suc, ◌+◌, ◌*◌, ◌≤◌, List, [], ◌∷◌, ◌++◌, refl, sym, ap, subst, ◌∙◌, arith, append_assoc, replicate}
-use Rattle.std.proofs.lemmas.List.{append-nil, replicate-append-replicate}
+-- Turns of one CPU, one after the other, and those of a schedule: how far they have come.
+use Rattle.std.proofs.Common.{◌≡◌, ℕ, zero, suc, ◌+◌, ◌*◌, ◌≤◌, List, [], ◌∷◌, ◌++◌, refl, sym, ap, subst, ◌∙◌, arith, append_assoc, replicate, drop, get_or, length, ◌<◌}
+use Rattle.std.proofs.Math.Seq.{drop-cons}
+use Rattle.std.proofs.lemmas.List.{append-nil, drop_all, replicate-append-replicate}
 use Rattle.bpf_cpu.specs.declared.outcome.Outcome.{Outcome}
 use Rattle.bpf_cpu.specs.Task.{Task}
 use Rattle.bpf_machine.specs.declared.machine.Turn.{Turn}
 use Rattle.bpf_machine.specs.declared.machine.Turn.TheVariants as turn
-use Rattle.bpf_machine.specs.Schedule.{World, TakesTurn, RunsSchedule}
+use Rattle.bpf_machine.specs.Schedule.{World, TakesTurn, RunsSchedule, unrolled}
 use Rattle.bpf_machine.specs.Machine.{MachineState, Shows}
 use Rattle.bpf_machine.specs.Questions.{open_jobs, Falls, TurnsFall}
 use Rattle.bpf_debug.specs.Answer.{ended_text}
-use Rattle.bpf_debug.specs.Turns.{MakesTurns}
+use Rattle.bpf_debug.specs.Turns.{MakesTurns, MakesRuns}
 use Rattle.bpf_debug.proofs.GoLaws.{room_left}
 
 -- ---- they are a schedule
@@ -73,3 +74,49 @@ room_kept turn.Idle old new size more room wide f fits grows most none =
     let opens : open_jobs new ≡ open_jobs old = ap (λ (jobs : List Task). open_jobs jobs) f in
     let step : 128 * open_jobs new ≡ 128 * open_jobs old = ap (λ (n : ℕ). 128 * n) opens in
     omega arith
+
+-- ---- a schedule's turns
+pub all_runs : (w : World) (runs : List (ℕ × ℕ)) (text : List ℕ) (z : World) → MakesRuns w runs text z → RunsSchedule w (unrolled runs) z
+all_runs w [] text z made = made.1
+all_runs w (run ∷ runs) text z made =
+    both_run (replicate run.1 run.0) (unrolled runs) w made.0 z (made_runs w run.0 run.1 made.1 made.0 made.3) (all_runs made.0 runs made.2 z made.4)
+
+-- some runs have been made, and these are left
+abbrev pub RunsFar : MachineState → List (ℕ × ℕ) → List ℕ → MachineState → List (ℕ × ℕ) → List ℕ → Type 0
+RunsFar old runs start new rest after =
+    (w : World) → Shows old w → (m : World) × (before : List ℕ) × Shows new m × (after ≡ start ++ before)
+    × ((more : List ℕ) (z : World) → MakesRuns m rest more z → MakesRuns w runs (before ++ more) z)
+
+pub no_run : (old : MachineState) (runs : List (ℕ × ℕ)) (start : List ℕ) → RunsFar old runs start old runs start
+no_run old runs start w shows = (w, [], shows, sym (append-nil start), λ more z made. made)
+
+pub one_run : (old new next : MachineState) (runs rest left : List (ℕ × ℕ)) (run : ℕ × ℕ) (start after last : List ℕ) → RunsFar old runs start new rest after → rest ≡ run ∷ left
+    → Made new run.0 after next run.1 last → RunsFar old runs start next left last
+one_run old new next runs rest left run start after last far is made w shows =
+    let f = far w shows in
+    let t = made f.0 f.2 in (
+      t.0,
+      f.1 ++ t.1,
+      t.3,
+      t.4 ∙ ap (λ (s : List ℕ). s ++ t.1) f.3 ∙ append_assoc start f.1 t.1,
+      λ more z runs_on.
+          let all : MakesRuns f.0 (run ∷ left) (t.1 ++ more) z = (t.0, t.1, more, t.2, runs_on, refl) in
+          let R : List (ℕ × ℕ) → Type 0 = λ rs. MakesRuns f.0 rs (t.1 ++ more) z in
+          subst (λ (s : List ℕ). MakesRuns w runs s z) (sym (append_assoc f.1 t.1 more)) (f.4 (t.1 ++ more) z (subst R (sym is) all)),
+    )
+
+pub run_next : (runs : List (ℕ × ℕ)) (at : ℕ) → at < length runs → drop at runs ≡ get_or runs at (0, 0) ∷ drop (at + 1) runs
+run_next runs at inside =
+    let next : suc at ≡ at + 1 = omega arith in
+    drop-cons runs at (0, 0) inside ∙ ap (λ (i : ℕ). get_or runs at (0, 0) ∷ drop i runs) next
+
+pub none_left : (runs : List (ℕ × ℕ)) (at : ℕ) → length runs ≤ at → drop at runs ≡ []
+none_left runs at past = drop_all at runs past
+
+pub runs_made : (old new : MachineState) (runs rest : List (ℕ × ℕ)) (start after : List ℕ) → RunsFar old runs start new rest after → rest ≡ []
+    → (w : World) → Shows old w → (z : World) × (text : List ℕ) × MakesRuns w runs text z × Shows new z × (after ≡ start ++ text)
+runs_made old new runs rest start after far none w shows =
+    let f = far w shows in
+    let R : List (ℕ × ℕ) → Type 0 = λ rs. MakesRuns f.0 rs [] f.0 in
+    let end : MakesRuns f.0 [] [] f.0 = (refl, refl) in
+    (f.0, f.1, subst (λ (s : List ℕ). MakesRuns w runs s f.0) (append-nil f.1) (f.4 [] f.0 (subst R (sym none) end)), f.2, f.3)

@@ -15,8 +15,8 @@ use Rattle.bpf_debug.specs.declared.breakpoint.Breakpoint.{Breakpoint}
 use Rattle.bpf_debug.specs.declared.error.DebugError.{DebugError}
 use Rattle.bpf_debug.specs.declared.error.DebugError.TheVariants as error
 use Rattle.bpf_debug.specs.Answer.{IsWhere, ended_text, stop_line}
-use Rattle.bpf_debug.specs.Command.{Order, Break, Delete, Step, StepTimes, Go, Registers, Where, Memory, Map, Keys, order_of}
-use Rattle.bpf_debug.specs.Turns.{MakesTurns}
+use Rattle.bpf_debug.specs.Command.{Order, Break, Delete, Step, StepTimes, Steps, Go, Registers, Where, Memory, Map, Keys, order_of}
+use Rattle.bpf_debug.specs.Turns.{MakesTurns, MakesRuns, last_cpu}
 use Rattle.bpf_debug.specs.Go.{HasWork, AreIdle, IsUp, StandsAt, Goes, Done, Stops, Turns, has_break, has_gone}
 use Rattle.bpf_debug.specs.Read.{IsMapText, IsKeysText}
 use Rattle.bpf_debug.specs.Session.{Scene, CarriesOut, Obeys, RefusesOrder, RefusesFields, IsLineRefused}
@@ -60,6 +60,7 @@ cpu_refused x y (Step (Some c)) text turns f r = no_cpu c x.world.store.shape.cp
 cpu_refused x y (Step None) text turns f r = absurd f
 cpu_refused x y (StepTimes (Some c) n) text turns f r = no_cpu c x.world.store.shape.cpus f.0 r
 cpu_refused x y (StepTimes None n) text turns f r = absurd f
+cpu_refused x y (Steps runs) text turns f r = let both : true ≡ false = sym f.0 ∙ r in cc
 cpu_refused x y Go text turns f r = r
 cpu_refused x y (Registers (Some c)) text turns f r = no_cpu c x.world.store.shape.cpus f.0 r
 cpu_refused x y (Registers None) text turns f r = absurd f
@@ -79,6 +80,7 @@ pc_refused x y (Break (Some c) None) text turns f r = absurd f
 pc_refused x y (Break None p) text turns f r = absurd f
 pc_refused x y (Step c) text turns f r = absurd r
 pc_refused x y (StepTimes c n) text turns f r = absurd r
+pc_refused x y (Steps runs) text turns f r = absurd r
 pc_refused x y Go text turns f r = absurd r
 pc_refused x y (Registers c) text turns f r = absurd r
 pc_refused x y (Where c) text turns f r = absurd r
@@ -96,6 +98,7 @@ map_refused x y (Break c p) text turns f r = absurd r
 map_refused x y (Delete c p) text turns f r = absurd r
 map_refused x y (Step c) text turns f r = absurd r
 map_refused x y (StepTimes c n) text turns f r = absurd r
+map_refused x y (Steps runs) text turns f r = absurd r
 map_refused x y Go text turns f r = absurd r
 map_refused x y (Registers c) text turns f r = absurd r
 map_refused x y (Where c) text turns f r = absurd r
@@ -128,6 +131,7 @@ module _ (cpus : ℕ) (programs : List Loaded) (names : List (List ℕ)) where
   cpu_or_pc (Break c p) a b = b.0 a
   cpu_or_pc (Step c) a b = absurd b
   cpu_or_pc Go a b = absurd b
+  cpu_or_pc (Steps runs) a b = absurd b
   cpu_or_pc (StepTimes c n) a b = absurd b
   cpu_or_pc (Registers c) a b = absurd b
   cpu_or_pc (Where c) a b = absurd b
@@ -140,6 +144,7 @@ module _ (cpus : ℕ) (programs : List Loaded) (names : List (List ℕ)) where
   cpu_or_map (Break c p) a b = absurd b
   cpu_or_map (Step c) a b = absurd b
   cpu_or_map Go a b = absurd b
+  cpu_or_map (Steps runs) a b = absurd b
   cpu_or_map (StepTimes c n) a b = absurd b
   cpu_or_map (Registers c) a b = absurd b
   cpu_or_map (Where c) a b = absurd b
@@ -152,6 +157,7 @@ module _ (cpus : ℕ) (programs : List Loaded) (names : List (List ℕ)) where
   pc_or_map (Break c p) a b = absurd b
   pc_or_map (Step c) a b = absurd b
   pc_or_map Go a b = absurd b
+  pc_or_map (Steps runs) a b = absurd b
   pc_or_map (StepTimes c n) a b = absurd b
   pc_or_map (Registers c) a b = absurd b
   pc_or_map (Where c) a b = absurd b
@@ -257,6 +263,19 @@ module _ (law : WritesAreDetermined) (begins : OneInstructionBegins) (replies : 
         world = one.world;
       }
 
+  one_schedule : (w : World) (runs : List (ℕ × ℕ)) (text other : List ℕ) (y z : World) → IsWorld w → MakesRuns w runs text y → MakesRuns w runs other z → OneGo text other y z
+  one_schedule w [] text other y z world a b =
+      record { texts = a.0 ∙ sym b.0; worlds = a.1 ∙ sym b.1; world = subst (λ (v : World). IsWorld v) (sym a.1) world }
+  one_schedule w (run ∷ runs) text other y z world a b =
+      let first = one_turns w run.0 run.1 a.1 b.1 a.0 b.0 world a.3 b.3 in
+      let P : World → Type 0 = λ v. MakesRuns v runs b.2 z in
+      let rest = one_schedule a.0 runs a.2 b.2 y z first.world a.4 (subst P (sym first.worlds) b.4) in
+      record {
+        texts = a.5 ∙ ap (λ (t : List ℕ). t ++ a.2) first.texts ∙ ap (λ (t : List ℕ). b.1 ++ t) rest.texts ∙ sym b.5;
+        worlds = rest.worlds;
+        world = rest.world;
+      }
+
   -- ---- a command, and a line
   record OneEnd (text other : List ℕ) (y z : Scene) : Type 0 where
     texts : text ≡ other
@@ -295,6 +314,15 @@ module _ (law : WritesAreDetermined) (begins : OneInstructionBegins) (replies : 
       let one = one_turns x.world c n a.1 b.1 a.0 b.0 world a.3 b.3 in
       let P : World → Type 0 = λ w. IsWhere w.jobs c b.2 in
       let place = one_where a.0 one.world c a.2 b.2 a.4 (subst P (sym one.worlds) b.4) in
+      record {
+        texts = a.5 ∙ ap (λ (t : List ℕ). t ++ a.2) one.texts ∙ ap (λ (t : List ℕ). b.1 ++ t) place ∙ sym b.5;
+        scenes = a.7 ∙ ap (λ (w : World). record x { world = w }) one.worlds ∙ sym b.7;
+        world = subst (λ (s : Scene). IsWorld s.world) (sym a.7) one.world;
+      }
+  one_follow x y z (Steps runs) text other turns others world (has, a) (had, b) =
+      let one = one_schedule x.world runs a.1 b.1 a.0 b.0 world a.3 b.3 in
+      let P : World → Type 0 = λ w. IsWhere w.jobs (last_cpu runs) b.2 in
+      let place = one_where a.0 one.world (last_cpu runs) a.2 b.2 a.4 (subst P (sym one.worlds) b.4) in
       record {
         texts = a.5 ∙ ap (λ (t : List ℕ). t ++ a.2) one.texts ∙ ap (λ (t : List ℕ). b.1 ++ t) place ∙ sym b.5;
         scenes = a.7 ∙ ap (λ (w : World). record x { world = w }) one.worlds ∙ sym b.7;

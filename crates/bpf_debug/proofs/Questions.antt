@@ -1,6 +1,6 @@
 -- Questions make no turn, and change nothing.
 use Rattle.std.proofs.Common.{◌≡◌, ℕ, List, [], Option, Some, None, ap}
-use Rattle.bpf_debug.specs.Command.{Order, Break, Delete, Step, StepTimes, Go, Registers, Where, Memory, Map, Keys}
+use Rattle.bpf_debug.specs.Command.{Order, Break, Delete, Step, StepTimes, Steps, Go, Registers, Where, Memory, Map, Keys}
 use Rattle.bpf_debug.specs.Session.{Scene, CarriesOut}
 use Rattle.bpf_debug.specs.Laws.{IsQuestion, QuestionsChangeNothing}
 
@@ -17,6 +17,7 @@ asks x y (Delete c p) text turns q f = absurd q
 asks x y (Break c p) text turns q f = absurd q
 asks x y (Step c) text turns q f = absurd q
 asks x y (StepTimes c n) text turns q f = absurd q
+asks x y (Steps runs) text turns q f = absurd q
 asks x y Go text turns q f = absurd q
 
 breaks : (x y : Scene) (c p : Option ℕ) (text turns : List ℕ) → CarriesOut x (Break c p) text turns y → (turns ≡ []) × (y.world ≡ x.world)

@@ -7,22 +7,22 @@ use Rattle.bpf_loader.specs.Loaded.{Loaded}
 use Rattle.bpf_plain.specs.PlainStore.{has_cpu}
 use Rattle.bpf_machine.specs.declared.machine.Turn.{Turn}
 use Rattle.bpf_cpu.specs.Task.{Stage, Task, Waiting, InHand, Ended}
-use Rattle.bpf_machine.specs.Schedule.{World, TakesTurn, RunsSchedule}
+use Rattle.bpf_machine.specs.Schedule.{World, TakesTurn, RunsSchedule, unrolled}
 use Rattle.bpf_machine.specs.Machine.{MachineState, Shows}
 use Rattle.bpf_machine.specs.Questions.{open_in, open_jobs}
 use Rattle.bpf_machine.specs.Work.{IsState}
 use Rattle.bpf_cpu.specs.declared.cpu.Cpu.{Cpu}
 use Rattle.bpf_debug.specs.declared.breakpoint.Breakpoint.{Breakpoint}
-use Rattle.bpf_debug.specs.Command.{Order, Break, Delete, Step, StepTimes, Go, Registers, Where, Memory, Map, Keys, order_of}
+use Rattle.bpf_debug.specs.Command.{Order, Break, Delete, Step, StepTimes, Steps, Go, Registers, Where, Memory, Map, Keys, order_of}
 use Rattle.bpf_debug.specs.declared.error.DebugError.{DebugError}
 use Rattle.bpf_debug.specs.declared.error.DebugError.TheVariants as error
 use Rattle.bpf_debug.specs.Answer.{IsWhere, IsRegisters, IsOff, ended_text, break_line, deleted_line}
 use Rattle.bpf_debug.specs.Read.{IsMemoryText, IsNamed, TellsBytes, TellsKeys, TellsMap}
 use Rattle.bpf_debug.specs.Go.{Goes, has_break, without_break}
-use Rattle.bpf_debug.specs.Session.{SessionState, Scene, IsShown, IsPc, with_break, CarriesOut, Obeys, Leaves, LeavesLine, RefusesOrder, RefusesHere, RefusesLine}
-use Rattle.bpf_debug.specs.Turns.{MakesTurns}
+use Rattle.bpf_debug.specs.Session.{SessionState, Scene, IsShown, IsPc, are_cpus, with_break, CarriesOut, Obeys, Leaves, LeavesLine, RefusesOrder, RefusesHere, RefusesLine}
+use Rattle.bpf_debug.specs.Turns.{MakesTurns, MakesRuns, last_cpu}
 use Rattle.bpf_debug.proofs.GoLaws.{goes_runs}
-use Rattle.bpf_debug.proofs.ManyTurns.{made_runs}
+use Rattle.bpf_debug.proofs.ManyTurns.{all_runs, made_runs}
 
 -- ---- room
 
@@ -74,6 +74,21 @@ module _ (m : MachineState) (names : List (List ℕ)) (breaks : List Breakpoint)
         y,
         replicate count c,
         (is_cpu m x.world c has shown.world, (t.0, t.1, place, t.2, subst J (sym t.3.jobs) stands, whole, refl, refl)),
+        record { world = t.3; names = shown.names; breaks = shown.breaks },
+      )
+
+  pub stepped_runs : (n : MachineState) (runs : List (ℕ × ℕ)) (room place last : List ℕ) → are_cpus (length m.store.runs) runs ≡ true → room ≡ [] → IsWhere n.jobs (last_cpu runs) place
+      → ((w : World) → Shows m w → (z : World) × (before : List ℕ) × MakesRuns w runs before z × Shows n z × (last ≡ (room ++ before) ++ place))
+      → Leaves (record { machine = m; names = names; breaks = breaks }) (Steps runs) last (record { machine = n; names = names; breaks = breaks })
+  stepped_runs n runs room place last has empty stands turns x shown =
+      let t = turns x.world shown.world in
+      let J : List Task → Type 0 = λ jobs. IsWhere jobs (last_cpu runs) place in
+      let H : ℕ → Type 0 = λ cpus. are_cpus cpus runs ≡ true in
+      let whole : last ≡ t.1 ++ place = t.4 ∙ ap (λ (s : List ℕ). (s ++ t.1) ++ place) empty in
+      let y : Scene = record x { world = t.0 } in (
+        y,
+        unrolled runs,
+        (subst H (sym shown.world.store.cpus) has, (t.0, t.1, place, t.2, subst J (sym t.3.jobs) stands, whole, refl, refl)),
         record { world = t.3; names = shown.names; breaks = shown.breaks },
       )
 
@@ -176,6 +191,10 @@ follows_runs x (StepTimes (Some c) n) text turns y f =
     let P : List ℕ → Type 0 = λ cs. RunsSchedule x.world cs y.world in
     let Q : World → Type 0 = λ w. RunsSchedule x.world (replicate n c) w in
     subst P (sym f.1.6) (subst Q (sym (ap (λ (z : Scene). z.world) f.1.7)) (made_runs x.world c n f.1.1 f.1.0 f.1.3))
+follows_runs x (Steps runs) text turns y f =
+    let P : List ℕ → Type 0 = λ cs. RunsSchedule x.world cs y.world in
+    let Q : World → Type 0 = λ w. RunsSchedule x.world (unrolled runs) w in
+    subst P (sym f.1.6) (subst Q (sym (ap (λ (z : Scene). z.world) f.1.7)) (all_runs x.world runs f.1.1 f.1.0 f.1.3))
 follows_runs x Go text turns y f =
     let P : World → Type 0 = λ w. RunsSchedule x.world turns w in
     subst P (sym (ap (λ (z : Scene). z.world) f.2)) (goes_runs x.breaks x.world 0 [] turns text f.0 f.1)

@@ -1,8 +1,9 @@
 -- Any schedule is spelled by `step` commands, and scripts make turns alone.
 use Rattle.std.proofs.Common.{◌≡◌, ℕ, zero, suc, ◌+◌, ◌<◌, List, [], ◌∷◌, ◌++◌, get_or, Option, Some, None, ◌⊎◌, inl, inr, refl, sym, ap, subst, ◌∙◌, arith}
-use Rattle.std.specs.Prelude.{Ok, Err, codes, slice_get}
+use Rattle.std.specs.Prelude.{All, Ok, Err, codes, map, nat_lt, replicate, slice_get, true}
 use Rattle.std.specs.Fmt.{decimal, digits}
-use Rattle.std.proofs.lemmas.Bool.{cases_lt}
+use Rattle.std.proofs.lemmas.Bool.{cases_lt, ltb-true, and_parts}
+use Rattle.std.proofs.lemmas.List.Elements.{All-append, All-nil, All-replicate}
 use Rattle.bpf_shared.proofs.Puts.{equal_or_not}
 use Rattle.bpf_shared.specs.declared.events.Event.TheVariants.{Begin, End}
 use Rattle.bpf_shared.specs.declared.events.Entry.{Entry}
@@ -18,14 +19,14 @@ use Rattle.bpf_cpu.specs.declared.cpu.Cpu.{Cpu}
 use Rattle.bpf_machine.specs.declared.machine.Turn.{Turn}
 use Rattle.bpf_cpu.specs.declared.outcome.Outcome.{Outcome}
 use Rattle.bpf_cpu.specs.Task.{Stage, Task, Waiting, InHand, Ended}
-use Rattle.bpf_machine.specs.Schedule.{World, Advances, Settles, GoesOn, TakesTurn, RunsSchedule}
+use Rattle.bpf_machine.specs.Schedule.{World, Advances, Settles, GoesOn, TakesTurn, RunsSchedule, unrolled}
 use Rattle.bpf_machine.proofs.ListLaws.{with_end, lists_store}
 use Rattle.bpf_debug.specs.Command.{Step, order_of}
 use Rattle.bpf_debug.specs.Answer.{IsWhere, ended_text, in_hand_line, waiting_line, idle_line}
-use Rattle.bpf_debug.specs.Session.{Scene, IsCpu, Obeys}
-use Rattle.bpf_debug.specs.Script.{Answer, AnswersLine}
-use Rattle.bpf_debug.specs.Laws.{step_line, StepsSpellSchedules, ScriptsMakeTurns}
-use Rattle.bpf_debug.proofs.ManyTurns.{both_run}
+use Rattle.bpf_debug.specs.Session.{Scene, IsCpu, Obeys, are_cpus}
+use Rattle.bpf_debug.specs.Script.{Answer, AnswersLine, RunsScript}
+use Rattle.bpf_debug.specs.Laws.{step_line, StepsSpellSchedules, SchedulesAreSteps, ScriptsMakeTurns}
+use Rattle.bpf_debug.proofs.ManyTurns.{all_runs, both_run}
 use Rattle.bpf_debug.proofs.SessionLaws.{follows_runs}
 
 -- ---- turns leave the shape of the store
@@ -180,6 +181,19 @@ steps_spell_schedules x (c ∷ cs) z few each runs =
     let rest = steps_spell_schedules m cs z (omega (arith, ap (λ (h : Shape). h.cpus) shape))
     (λ k d inside. subst (λ (h : Shape). P h (get_or cs k d)) (sym shape) (each (suc k) d (omega arith))) runs.3 in
     (Ok one.0 ∷ rest.0, (m, one.1, rest.1))
+
+-- ---- a schedule in run lengths
+of_cpus : (x : Scene) (runs : List (ℕ × ℕ)) → are_cpus x.world.store.shape.cpus runs ≡ true → All (IsCpu x) (unrolled runs)
+of_cpus x [] each = All-nil (IsCpu x)
+of_cpus x (run ∷ runs) each =
+    let both = and_parts (nat_lt run.0 x.world.store.shape.cpus) (are_cpus x.world.store.shape.cpus runs) each in
+    All-append (IsCpu x) (replicate run.1 run.0) (unrolled runs) (All-replicate (IsCpu x) run.1 run.0 (ltb-true run.0 x.world.store.shape.cpus both.0)) (of_cpus x runs both.1)
+
+pub schedules_are_steps : SchedulesAreSteps
+schedules_are_steps x y runs text turns few done =
+    let steps = done.1 in
+    let spelled_out = steps_spell_schedules x (unrolled runs) steps.0 few (of_cpus x runs done.0) (all_runs x.world runs steps.1 steps.0 steps.3) in
+    (spelled_out.0, subst (λ (s : Scene). RunsScript x (map step_line (unrolled runs)) spelled_out.0 s) (sym steps.7) spelled_out.1)
 
 -- ---- the turns of a script
 line_runs : (x y : Scene) (fields : List (List ℕ)) (text turns : List ℕ) → Obeys x fields text turns y → RunsSchedule x.world turns y.world

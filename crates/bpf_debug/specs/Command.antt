@@ -1,7 +1,9 @@
 -- What a line says to the debugger (our own choice).
-use Rattle.std.specs.Prelude.{ℕ, ◌^◌, ◌&&◌, nat_le, nat_lt, if◌then◌else◌, List, [], ◌∷◌, codes, Option, Some, None, option_map, option_and_then}
+use Rattle.std.specs.Prelude.{ℕ, Bool, ◌^◌, ◌&&◌, nat_le, nat_lt, if◌then◌else◌, List, [], ◌∷◌, codes, length, Option, Some, None, option_map, option_and_then}
+use Rattle.std.specs.List.{list_all}
 use Rattle.std.specs.Str.{bytes_eq}
 use Rattle.bpf_lines.specs.Words.{written_number, is_name}
+use Rattle.bpf_schedule.specs.Spelling.{run_in}
 use Rattle.bpf_debug.specs.declared.command.Command.{Command}
 use Rattle.bpf_debug.specs.declared.command.Command.TheVariants as command
 
@@ -15,6 +17,8 @@ pub data Order : Type 0 where
   Step : Option ℕ → Order
   -- `step C N`: N turns
   StepTimes : Option ℕ → ℕ → Order
+  -- `steps S`: the turns of a schedule, CPUs each with how many turns it makes before the next
+  Steps : List (ℕ × ℕ) → Order
   -- `go`: turns up to a breakpoint, or until no work is left
   Go : Order
   -- `regs C`
@@ -92,13 +96,36 @@ four_words w a b c =
     (address_in b)) (cpu_in a)
     else None
 
+abbrev pub few_words : List (List ℕ) → Option Order
+few_words (w ∷ []) = one_word w
+few_words (w ∷ a ∷ []) = two_words w a
+few_words (w ∷ a ∷ b ∷ []) = three_words w a b
+few_words (w ∷ a ∷ b ∷ c ∷ []) = four_words w a b c
+few_words fields = None
+
+-- ---- a schedule: any number of words
+
+-- what each word of a list is read as, where each is something
+abbrev pub read_all : (List ℕ → Option (ℕ × ℕ)) → List (List ℕ) → Option (List (ℕ × ℕ))
+read_all f [] = Some []
+read_all f (w ∷ ws) =
+    option_and_then (λ run. option_map (λ runs. run ∷ runs) (read_all f ws)) (f w)
+
+abbrev pub is_short : ℕ × ℕ → Bool
+is_short run = nat_le run.1 most_turns
+
+-- one run or more, each of so many turns at most
+abbrev pub steps_of : List (ℕ × ℕ) → Option Order
+steps_of runs = if nat_lt 0 (length runs) && list_all is_short runs then Some (Steps runs) else None
+
+abbrev pub schedule_in : List (List ℕ) → Option Order
+schedule_in words = option_and_then steps_of (read_all run_in words)
+
 -- WHAT A LINE'S FIELDS SAY, if that is a command
 abbrev pub order_of : List (List ℕ) → Option Order
-order_of (w ∷ []) = one_word w
-order_of (w ∷ a ∷ []) = two_words w a
-order_of (w ∷ a ∷ b ∷ []) = three_words w a b
-order_of (w ∷ a ∷ b ∷ c ∷ []) = four_words w a b c
-order_of fields = None
+order_of [] = None
+order_of (w ∷ words) =
+    if bytes_eq (codes "steps") w then schedule_in words else few_words (w ∷ words)
 
 -- ---- what a reader answers
 abbrev pub command_order : Command → Order

@@ -3,9 +3,9 @@
 use Rattle.std.specs.Prelude.{◌≡◌, ◌≢◌, ℕ, ◌≤◌, List, [], ◌∷◌, ◌++◌, Option, All, Err, codes, map}
 use Rattle.std.specs.Fmt.{decimal}
 use Rattle.bpf_machine.specs.Laws.{IsFresh}
-use Rattle.bpf_machine.specs.Schedule.{World, RunsSchedule}
+use Rattle.bpf_machine.specs.Schedule.{World, RunsSchedule, unrolled}
 use Rattle.bpf_debug.specs.declared.error.DebugError.TheVariants as error
-use Rattle.bpf_debug.specs.Command.{Order, Break, Delete, Step, StepTimes, Go, Registers, Where, Memory, Map, Keys}
+use Rattle.bpf_debug.specs.Command.{Order, Break, Delete, Step, StepTimes, Steps, Go, Registers, Where, Memory, Map, Keys}
 use Rattle.bpf_debug.specs.Session.{Scene, IsCpu, CarriesOut}
 use Rattle.bpf_debug.specs.Script.{Answer, RunsScript}
 
@@ -21,6 +21,13 @@ StepsSpellSchedules =
     (x : Scene) (schedule : List ℕ) (z : World) → x.world.store.shape.cpus ≤ 16
     → All (IsCpu x) schedule → RunsSchedule x.world schedule z → (answers : List Answer)
     × RunsScript x (map step_line schedule) answers (record x { world = z })
+
+-- a `steps` of a schedule leaves what the script of its `step` commands, one a turn, leaves
+abbrev pub SchedulesAreSteps : Type 0
+SchedulesAreSteps =
+    (x y : Scene) (runs : List (ℕ × ℕ)) (text turns : List ℕ) → x.world.store.shape.cpus ≤ 16
+    → CarriesOut x (Steps runs) text turns y → (answers : List Answer)
+    × RunsScript x (map step_line (unrolled runs)) answers y
 
 -- what a script leaves is what some schedule leaves
 abbrev pub ScriptsMakeTurns : Type 0
@@ -40,6 +47,7 @@ IsQuestion (Delete c p) = ⊥
 IsQuestion (Break c p) = ⊥
 IsQuestion (Step c) = ⊥
 IsQuestion (StepTimes c n) = ⊥
+IsQuestion (Steps runs) = ⊥
 IsQuestion Go = ⊥
 
 -- a question makes no turn and changes nothing; a breakpoint makes none, and leaves the machine

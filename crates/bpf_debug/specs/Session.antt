@@ -1,17 +1,18 @@
 -- What commands do: the turns that each makes, what it answers, and why one is refused (our own
 -- choice).
-use Rattle.std.specs.Prelude.{◌≡◌, ℕ, ◌<◌, replicate, false, nat_lt, if◌then◌else◌, List, [], ◌∷◌, ◌++◌, Option, Some, None, length, slice_get}
+use Rattle.std.specs.Prelude.{◌≡◌, ℕ, ◌<◌, replicate, Bool, true, false, nat_lt, if◌then◌else◌, List, [], ◌∷◌, ◌++◌, Option, Some, None, length, slice_get}
+use Rattle.std.specs.List.{list_all}
 use Rattle.bpf_loader.specs.Loaded.{Loaded}
 use Rattle.bpf_loader.specs.Places.{IsStart}
 use Rattle.bpf_machine.specs.declared.machine.Turn.{Turn}
-use Rattle.bpf_machine.specs.Schedule.{World, TakesTurn, RunsSchedule}
+use Rattle.bpf_machine.specs.Schedule.{World, TakesTurn, RunsSchedule, unrolled}
 use Rattle.bpf_machine.specs.Machine.{MachineState, Shows}
 use Rattle.bpf_debug.specs.declared.breakpoint.Breakpoint.{Breakpoint}
 use Rattle.bpf_debug.specs.declared.error.DebugError.{DebugError}
 use Rattle.bpf_debug.specs.declared.error.DebugError.TheVariants as error
-use Rattle.bpf_debug.specs.Command.{Order, Break, Delete, Step, StepTimes, Go, Registers, Where, Memory, Map, Keys, order_of}
+use Rattle.bpf_debug.specs.Command.{Order, Break, Delete, Step, StepTimes, Steps, Go, Registers, Where, Memory, Map, Keys, order_of}
 use Rattle.bpf_debug.specs.Answer.{IsWhere, IsRegisters, ended_text, break_line, deleted_line}
-use Rattle.bpf_debug.specs.Turns.{MakesTurns}
+use Rattle.bpf_debug.specs.Turns.{MakesTurns, MakesRuns, last_cpu}
 use Rattle.bpf_debug.specs.Go.{Goes, has_break, without_break}
 use Rattle.bpf_debug.specs.Read.{IsMemoryText, IsNamed, IsNoName, IsMapText, IsKeysText}
 
@@ -68,6 +69,13 @@ StepsTimes x c n text turns y =
     × IsWhere m.jobs c where_text × (text ≡ before ++ where_text)
     × (turns ≡ replicate n c) × (y ≡ record x { world = m })
 
+-- a schedule's turns
+abbrev pub StepsRuns : Scene → List (ℕ × ℕ) → List ℕ → List ℕ → Scene → Type 0
+StepsRuns x runs text turns y =
+    (m : World) × (before : List ℕ) × (where_text : List ℕ) × MakesRuns x.world runs before m
+    × IsWhere m.jobs (last_cpu runs) where_text × (text ≡ before ++ where_text)
+    × (turns ≡ unrolled runs) × (y ≡ record x { world = m })
+
 abbrev pub RunsOn : Scene → List ℕ → List ℕ → Scene → Type 0
 RunsOn x text turns y =
     (m : World) × Goes x.breaks x.world 0 [] turns text m × (y ≡ record x { world = m })
@@ -79,12 +87,18 @@ ChangesNothing x turns y = (turns ≡ []) × (y ≡ x)
 abbrev pub IsCpu : Scene → ℕ → Type 0
 IsCpu x c = c < x.world.store.shape.cpus
 
+-- each CPU of a schedule is one of so many
+abbrev pub are_cpus : ℕ → List (ℕ × ℕ) → Bool
+are_cpus cpus runs = list_all (λ run. nat_lt run.0 cpus) runs
+
 -- each order with its text and turns
 abbrev pub CarriesOut : Scene → Order → List ℕ → List ℕ → Scene → Type 0
 CarriesOut x (Break (Some c) (Some p)) text turns y = IsCpu x c × SetsBreak x c p text turns y
 CarriesOut x (Delete (Some c) (Some p)) text turns y = IsCpu x c × DeletesBreak x c p text turns y
 CarriesOut x (Step (Some c)) text turns y = IsCpu x c × StepsCpu x c text turns y
 CarriesOut x (StepTimes (Some c) n) text turns y = IsCpu x c × StepsTimes x c n text turns y
+CarriesOut x (Steps runs) text turns y =
+    (are_cpus x.world.store.shape.cpus runs ≡ true) × StepsRuns x runs text turns y
 CarriesOut x Go text turns y = RunsOn x text turns y
 CarriesOut x (Registers (Some c)) text turns y =
     IsCpu x c × IsRegisters x.world.jobs c text × ChangesNothing x turns y
@@ -136,6 +150,7 @@ NamesNoCpu cpus (Break c p) = IsNoCpu cpus c
 NamesNoCpu cpus (Delete c p) = IsNoCpu cpus c
 NamesNoCpu cpus (Step c) = IsNoCpu cpus c
 NamesNoCpu cpus (StepTimes c n) = IsNoCpu cpus c
+NamesNoCpu cpus (Steps runs) = are_cpus cpus runs ≡ false
 NamesNoCpu cpus Go = ⊥
 NamesNoCpu cpus (Registers c) = IsNoCpu cpus c
 NamesNoCpu cpus (Where c) = IsNoCpu cpus c

@@ -2,7 +2,7 @@
 
 ghost use Rattle.std.specs.Prelude.{◌≡◌, map, option_map};
 ghost use Rattle.std.specs.Str.{bytes_eq};
-ghost use Rattle.bpf_debug.specs.Command.{cpu_in, pc_in, address_in, count_in, turns_in, one_word, two_words, three_words, four_words, order_of, command_order};
+ghost use Rattle.bpf_debug.specs.Command.{cpu_in, pc_in, address_in, count_in, turns_in, one_word, two_words, three_words, four_words, few_words, command_order};
 
 use bpf_lines::words::{self, NumberError};
 
@@ -16,7 +16,7 @@ pub enum Command<'a> {
     /// One turn of a CPU.
     Step(Option<u8>),
     /// So many turns of a CPU.
-    StepTimes(Option<u8>, u32),
+    StepTimes(Option<u8>, u64),
     /// Turns in rounds, up to a breakpoint or until no work is left.
     Go,
     /// A CPU's registers.
@@ -32,7 +32,7 @@ pub enum Command<'a> {
 }
 
 /// Whether a word is this one.
-fn is(word: &[u8], text: &str) -> bool
+pub fn is(word: &[u8], text: &str) -> bool
     ensures { result ≡ bytes_eq text.now word.now }
 {
     text.as_bytes() == word
@@ -97,14 +97,14 @@ fn count_in(word: &[u8]) -> Option<usize>
 }
 
 /// How many turns are made at once, at most.
-const MOST_TURNS: u64 = 1_000_000;
+pub const MOST_TURNS: u64 = 1_000_000;
 
 /// A number of turns, 1 to `MOST_TURNS`.
-fn turns_in(word: &[u8]) -> Option<u32>
+fn turns_in(word: &[u8]) -> Option<u64>
     ensures { result ≡ turns_in word.now }
 {
     match words::number(word) {
-        Ok(number) if number >= 1 && number <= MOST_TURNS => Some(number as u32),
+        Ok(number) if number >= 1 && number <= MOST_TURNS => Some(number),
         _ => None,
     }
 }
@@ -172,9 +172,9 @@ fn four_words<'a>(word: &[u8], first: &[u8], second: &[u8], third: &[u8]) -> Opt
     Some(Command::Memory(cpu, address, count))
 }
 
-/// The command that a line's fields say; `None` where they say none.
+/// The command that few fields say; `None` where they say none.
 pub fn command_of<'a>(fields: &[&'a [u8]]) -> Option<Command<'a>>
-    ensures { option_map command_order result ≡ order_of (map (λ f. f.now) fields.now) }
+    ensures { option_map command_order result ≡ few_words (map (λ f. f.now) fields.now) }
 {
     match fields {
         [word] => one_word(word),

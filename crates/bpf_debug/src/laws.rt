@@ -1,11 +1,16 @@
 //! What follows from the definitions of commands and scripts, as promises to the crates above.
 //!
 //! These functions do nothing: their contracts are the laws.
-ghost use Rattle.bpf_debug.specs.Laws.{QuestionsChangeNothing, ScriptsAreDetermined, ScriptsMakeTurns, StepsSpellSchedules};
+ghost use Rattle.bpf_debug.specs.Laws.{QuestionsChangeNothing, SchedulesAreSteps, ScriptsAreDetermined, ScriptsMakeTurns, StepsSpellSchedules};
 
 /// Any schedule is spelled by `step` commands.
 pub fn steps_spell_schedules()
     ensures { StepsSpellSchedules }
+{}
+
+/// A `steps` of a schedule leaves what its `step` commands leave, one a turn.
+pub fn schedules_are_steps()
+    ensures { SchedulesAreSteps }
 {}
 
 /// What a script leaves is what some schedule leaves.

@@ -9,6 +9,7 @@ pub mod laws;
 mod lines;
 mod maps;
 mod reading;
+mod schedule;
 pub mod script;
 pub mod session;
 mod text;

@@ -6,8 +6,8 @@ ghost use Rattle.bpf_plain.specs.PlainStore.{has_cpu};
 ghost use Rattle.bpf_machine.specs.Machine.{Shows};
 ghost use Rattle.bpf_machine.specs.Schedule.{World, TakesTurn};
 ghost use Rattle.bpf_debug.specs.Answer.{IsWhere, ended_text};
-ghost use Rattle.bpf_debug.specs.Command.{Order, command_order};
-ghost use Rattle.bpf_debug.specs.Session.{IsPc};
+ghost use Rattle.bpf_debug.specs.Command.{Order, command_order, few_words, order_of, schedule_in};
+ghost use Rattle.bpf_debug.specs.Session.{IsPc, are_cpus};
 
 use crate::breakpoint::{Breakpoint, has_break, remove_break};
 use crate::command::{Command, command_of};
@@ -16,7 +16,8 @@ use crate::going;
 use crate::lines::{LINE, put_break, put_deleted, put_ended, put_off, put_registers, put_where};
 use crate::maps::{key_lines_of, map_lines, map_named};
 use crate::reading::bytes_line;
-use crate::turns::take_turns;
+use crate::schedule::{is_schedule, schedule_in};
+use crate::turns::{take_runs, take_turns};
 use bpf_lines::lines;
 use bpf_loader::Program;
 use bpf_machine::{Machine, Turn};
@@ -59,6 +60,13 @@ fn is_pc(programs: &[Program], pc: u32) -> bool
         }
     }
     false
+}
+
+/// Whether each CPU of a schedule is one of so many.
+fn are_cpus(runs: &[(u8, u64)], cpus: u8) -> bool
+    ensures { result ≡ are_cpus cpus runs.now }
+{
+    runs.iter().all(|run| run.0 < cpus)
 }
 
 /// Room for so many lines and some more.
@@ -160,7 +168,7 @@ impl Session {
         self.step_at(alloc, cpu)
     }
 
-    fn step_times_at(&mut self, alloc: Global, cpu: u8, count: u32) -> Result<String, DebugError>
+    fn step_times_at(&mut self, alloc: Global, cpu: u8, count: u64) -> Result<String, DebugError>
         requires { has_cpu self.old.machine.store cpu ≡ true }
         ensures answered { IfOk result (λ text.
             Leaves self.old (Order.StepTimes (Some cpu) count) (string_bytes text) self.new) }
@@ -178,7 +186,7 @@ impl Session {
         &mut self,
         alloc: Global,
         number: Option<u8>,
-        count: u32,
+        count: u64,
     ) -> Result<String, DebugError>
         ensures answered { IfOk result (λ text.
             Leaves self.old (Order.StepTimes number count) (string_bytes text) self.new) }
@@ -190,6 +198,42 @@ impl Session {
             return Err(DebugError::NoCpu);
         };
         self.step_times_at(alloc, cpu, count)
+    }
+
+    /// Whether each CPU of a schedule is one of the machine's.
+    fn has_cpus(&self, runs: &[(u8, u64)]) -> bool
+        ensures { result ≡ are_cpus (length self.now.machine.store.runs) runs.now }
+    {
+        are_cpus(runs, self.machine.cpus())
+    }
+
+    fn steps_at(&mut self, alloc: Global, runs: &[(u8, u64)]) -> Result<String, DebugError>
+        requires some { 0 < length runs.now }
+        requires served { are_cpus (length self.old.machine.store.runs) runs.now ≡ true }
+        ensures answered { IfOk result
+            (λ text. Leaves self.old (Order.Steps runs.now) (string_bytes text) self.new) }
+        ensures refused { IfErr result (λ e. e ≡ DebugError.OutOfMemory) }
+        ensures unchanged { OnErr result (self.new ≡ self.old) }
+    {
+        let Some(mut out) = make_room(alloc, self.machine.jobs()) else {
+            return Err(DebugError::OutOfMemory);
+        };
+        take_runs(&mut self.machine, runs, &mut out);
+        Ok(out)
+    }
+
+    fn steps(&mut self, alloc: Global, runs: &[(u8, u64)]) -> Result<String, DebugError>
+        requires { 0 < length runs.now }
+        ensures answered { IfOk result
+            (λ text. Leaves self.old (Order.Steps runs.now) (string_bytes text) self.new) }
+        ensures refused { IfErr result (λ e. RefusesHere self.old (Order.Steps runs.now) e) }
+        ensures unchanged { OnErr result (self.new ≡ self.old) }
+    {
+        if self.has_cpus(runs) {
+            self.steps_at(alloc, runs)
+        } else {
+            Err(DebugError::NoCpu)
+        }
     }
 
     fn go(&mut self, alloc: Global) -> Result<String, DebugError>
@@ -468,18 +512,59 @@ impl Session {
         }
     }
 
+    /// Does what few fields say.
+    fn obey_few(&mut self, alloc: Global, fields: &[&[u8]]) -> Result<String, DebugError>
+        requires some { map (λ f. f.now) fields.now ≡ [] → ⊥ }
+        requires few { order_of (map (λ f. f.now) fields.now)
+            ≡ few_words (map (λ f. f.now) fields.now) }
+        ensures answered { IfOk result (λ text.
+            LeavesLine self.old (map (λ f. f.now) fields.now) (string_bytes text) self.new) }
+        ensures refused { IfErr result (λ e. RefusesLine self.old (map (λ f. f.now) fields.now) e) }
+        ensures unchanged { OnErr result (self.new ≡ self.old) }
+    {
+        match command_of(fields) {
+            Some(command) => self.follow(alloc, command),
+            None => Err(DebugError::BadCommand),
+        }
+    }
+
+    /// Makes the turns that the words behind `steps` spell.
+    fn obey_schedule(
+        &mut self,
+        alloc: Global,
+        fields: &[&[u8]],
+        words: &[&[u8]],
+    ) -> Result<String, DebugError>
+        requires some { map (λ f. f.now) fields.now ≡ [] → ⊥ }
+        requires said { order_of (map (λ f. f.now) fields.now)
+            ≡ schedule_in (map (λ f. f.now) words.now) }
+        ensures answered { IfOk result (λ text.
+            LeavesLine self.old (map (λ f. f.now) fields.now) (string_bytes text) self.new) }
+        ensures refused { IfErr result (λ e. RefusesLine self.old (map (λ f. f.now) fields.now) e) }
+        ensures unchanged { OnErr result (self.new ≡ self.old) }
+    {
+        match schedule_in(alloc, words) {
+            Ok(Some(runs)) => self.steps(alloc, &runs),
+            Ok(None) => Err(DebugError::BadCommand),
+            Err(_) => Err(DebugError::OutOfMemory),
+        }
+    }
+
     fn obey(&mut self, alloc: Global, fields: &[&[u8]]) -> Result<String, DebugError>
         ensures answered { IfOk result (λ text.
             LeavesLine self.old (map (λ f. f.now) fields.now) (string_bytes text) self.new) }
         ensures refused { IfErr result (λ e. RefusesLine self.old (map (λ f. f.now) fields.now) e) }
         ensures unchanged { OnErr result (self.new ≡ self.old) }
     {
-        if fields.is_empty() {
-            return Ok(String::new(alloc));
-        }
-        match command_of(fields) {
-            Some(command) => self.follow(alloc, command),
-            None => Err(DebugError::BadCommand),
+        match fields {
+            [] => Ok(String::new(alloc)),
+            [word, words @ ..] => {
+                if is_schedule(word, words) {
+                    self.obey_schedule(alloc, fields, words)
+                } else {
+                    self.obey_few(alloc, fields)
+                }
+            }
         }
     }
 

@@ -1,4 +1,4 @@
-use Rattle.std.proofs.Common.{◌≡◌, ◌+◌, ◌*◌, ◌≤◌}
+use Rattle.std.proofs.Common.{◌+◌, ◌*◌, ◌≤◌}
 use Rattle.std.specs.Prelude.{string_bytes, string_len, string_capacity}
 use Rattle.bpf_machine.specs.Questions.{open_jobs}
 use Rattle.bpf_debug.proofs.ManyTurns.{Made}
