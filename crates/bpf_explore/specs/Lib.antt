@@ -4,3 +4,5 @@ pub mod Laws
 pub mod Patient
 pub mod Tuples
 pub mod Stores
+pub mod Album
+pub mod Private

@@ -1,6 +1,7 @@
 //! All outcomes of jobs, whatever the order of the CPUs' turns.
 #![tactic(auto)]
 
+mod album;
 mod frontier;
 mod interner;
 pub mod laws;
@@ -9,6 +10,7 @@ mod slots;
 mod stores;
 mod tuples;
 
+pub use album::Album;
 pub use frontier::{Frontier, explore};
 pub use interner::Interner;
 pub use parts::Parts;

@@ -1,0 +1,249 @@
+-- A machine and what it is kept as.
+use Rattle.std.proofs.Common.{◌≡◌, ◌∙◌, ℕ, zero, suc, ◌+◌, ◌<◌, ◌≤◌, ◌⊎◌, true, false, inl, inr, List, [], ◌∷◌, ◌++◌, Option, Some, None, length, drop, refl, sym, ap, subst, append-nil, arith}
+use Rattle.std.specs.Prelude.{All, nat_lt, slice_get, slice_index_or}
+use Rattle.std.proofs.lemmas.Bool.{ltb-true}
+use Rattle.std.proofs.lemmas.List.{length-drop, length-map}
+use Rattle.std.proofs.lemmas.Option.{slice_get_within}
+use Rattle.bpf_base.proofs.Lists.{slice_get-front}
+use Rattle.bpf_shared.specs.Shape.{Shape}
+use Rattle.bpf_plain.specs.PlainStore.{Contents, has_cpu, IsSavedAs}
+use Rattle.bpf_plain.specs.Alike.{IsSameShape, LookAlike}
+use Rattle.bpf_plain.proofs.Alike.{alike_stand_alike}
+use Rattle.bpf_plain.proofs.SavedAlike.{saved_alike_look_alike}
+use Rattle.bpf_loader.specs.Loaded.{Loaded}
+use Rattle.bpf_cpu.specs.Task.{Stage, Task, Waiting, InHand}
+use Rattle.bpf_machine.specs.Hands.{IsAt}
+use Rattle.bpf_machine.specs.Listings.{Listing, listing_at}
+use Rattle.bpf_machine.specs.Machine.{MachineState, Shows}
+use Rattle.bpf_machine.specs.Parts.{CanStand, IsSameHost, chosen, made_of, no_task}
+use Rattle.bpf_machine.specs.Schedule.{World}
+use Rattle.bpf_machine.specs.Cover.{TurnsTo, IsKeptAs}
+use Rattle.bpf_explore.specs.Search.{IsTurned, IsIdleAt, Extends}
+use Rattle.bpf_explore.specs.Stores.{IsOfShape, no_store}
+use Rattle.bpf_explore.specs.Tuples.{TupleList, tuple_at, with_tuple}
+use Rattle.bpf_explore.specs.Private.Album.{Shelf, machine_of, machine_at, machines, IsState, IsShelf, Grows, FitsShelf, AddsOne, ShowsFirst, AreNumbersOf, AreKeptUnder}
+use Rattle.bpf_explore.proofs.StandAlike.{can_stand}
+use Rattle.bpf_explore.proofs.ShelfLaws.{machines_length, machines_at, shapes_still, same_shelf, same_kept, more_shelf, more_kept}
+
+pub one_shape : (h : Shape) (p q : Contents) → IsOfShape h p → IsOfShape h q → IsSameShape p q
+one_shape h p q a b = (λ c. b.1 c ∙ sym (a.1 c), b.0 ∙ sym a.0)
+
+-- turns keep the host
+pub shape_still : (h : Shape) (old new : MachineState) → IsSameHost old new → IsOfShape h old.store → IsOfShape h new.store
+shape_still h old new same shape = (same.shape.1 ∙ shape.0, λ c. same.shape.0 c ∙ shape.1 c)
+
+-- what is saved as the machine's store is, with jobs that stand as its jobs do
+module _ (h : Shape) (s : Shelf) (m : MachineState) (tuple bytes : List ℕ) (fits : FitsShelf h s m) (shapes : (n : ℕ) → n < length s.stores → IsOfShape h (slice_index_or s.stores n no_store))
+    (stored : slice_index_or tuple 0 0 < length s.stores) (saved : IsSavedAs m.store bytes) (kept : IsSavedAs (slice_index_or s.stores (slice_index_or tuple 0 0) no_store) bytes)
+    (within : All (λ n. n < length s.parts) (drop 1 tuple)) (jobs : chosen s.parts (drop 1 tuple) ≡ m.jobs) where
+  abbrev store : Contents
+  store = slice_index_or s.stores (slice_index_or tuple 0 0) no_store
+
+  alike : LookAlike m.store store
+  alike = saved_alike_look_alike m.store store bytes (one_shape h m.store store fits.shape (shapes (slice_index_or tuple 0 0) stored)) saved kept
+
+  stands_there : CanStand m → CanStand (machine_of s tuple)
+  stands_there is =
+      let there = can_stand m.store store alike m.programs m.jobs m.lists None is in
+      let P : List Loaded → Type 0 = λ ps. CanStand (record { store = store; programs = ps; jobs = m.jobs; lists = None }) in
+      let J : List Task → Type 0 = λ ts. CanStand (record { store = store; programs = s.programs; jobs = ts; lists = None }) in
+      subst J (sym jobs) (subst P (sym fits.programs) there)
+
+  pub is_state : CanStand m → IsState s tuple
+  is_state is = record { stored = stored; within = within; stands = stands_there is }
+
+  pub shown_there : (w : World) → Shows m w → Shows (machine_of s tuple) w
+  shown_there w shows = record {
+    store = alike_stand_alike m.store store w.store alike shows.store;
+    sound = shows.sound;
+    programs = shows.programs ∙ sym fits.programs;
+    jobs = shows.jobs ∙ sym jobs;
+    lists = shows.lists ∙ ap (λ (o : Option (List Listing)). listing_at o) fits.lists;
+  }
+
+-- a machine is kept under the number of its state
+pub kept_as : (s : Shelf) (m : MachineState) (n : ℕ) (tuple : List ℕ) → n < s.states.count → tuple_at s.states n ≡ tuple
+    → ((w : World) → Shows m w → Shows (machine_of s tuple) w) → IsKeptAs (machines s s.states.count) m
+kept_as s m n tuple less at shows = (
+  n,
+  machine_at s n,
+  machines_at s s.states.count n less,
+  λ w here. subst (λ (t : List ℕ). Shows (machine_of s t) w) (sym at) (shows w here),
+)
+
+-- ---- another machine of the same programs to work with
+abbrev pub shelf_of : List Loaded → List Contents → List Task → TupleList → Shelf
+shelf_of programs stores parts states = record { programs = programs; stores = stores; parts = parts; states = states }
+
+module _ (h : Shape) (stores : List Contents) (parts : List Task) (states : TupleList) (m new : MachineState) (programs : new.programs ≡ m.programs) where
+  same_shelf_as : shelf_of new.programs stores parts states ≡ shelf_of m.programs stores parts states
+  same_shelf_as = ap (λ (ps : List Loaded). shelf_of ps stores parts states) programs
+
+  pub kept_with : machines (shelf_of new.programs stores parts states) states.count ≡ machines (shelf_of m.programs stores parts states) states.count
+  kept_with = ap (λ (s : Shelf). machines s states.count) same_shelf_as
+
+  pub fits_with : IsShelf h (shelf_of m.programs stores parts states) → IsOfShape h new.store → states.width ≡ length new.jobs + 1 → new.lists ≡ None
+      → IsShelf h (shelf_of new.programs stores parts states) × FitsShelf h (shelf_of new.programs stores parts states) new
+  fits_with is shape width lists = (subst (IsShelf h) (sym same_shelf_as) is, record { shape = shape; programs = refl; width = width; lists = lists })
+
+-- after turns
+pub fits_after : (h : Shape) (stores : List Contents) (parts : List Task) (states : TupleList) (m new : MachineState) → IsSameHost m new
+    → IsShelf h (shelf_of m.programs stores parts states) × FitsShelf h (shelf_of m.programs stores parts states) m
+    → IsShelf h (shelf_of new.programs stores parts states) × FitsShelf h (shelf_of new.programs stores parts states) new
+fits_after h stores parts states m new same (is, fits) =
+    fits_with h stores parts states m new same.programs is (shape_still h m new same fits.shape) (fits.width ∙ ap (λ (n : ℕ). n + 1) (sym same.jobs)) (same.lists fits.lists)
+
+-- ---- a kept machine to work with
+pub record IsReadable (h : Shape) (s : Shelf) (m : MachineState) (place : ℕ) (store : Contents) (parts : List Task) (jobs : List ℕ) : Type 0 where
+  pub shape : IsSameShape store m.store
+  pub within : All (λ n. n < length parts) jobs
+  pub stands : CanStand (made_of store m.programs parts jobs)
+  pub is : made_of store m.programs parts jobs ≡ machine_at s place
+  pub shaped : IsOfShape h store
+  pub width : s.states.width ≡ length (chosen parts jobs) + 1
+
+pub readable : (h : Shape) (s : Shelf) (m : MachineState) (place : ℕ) (tuple : List ℕ) (store : Contents) (parts : List Task) (jobs : List ℕ) → IsShelf h s → FitsShelf h s m → place < s.states.count → tuple_at s.states place ≡ tuple → length tuple ≡ s.states.width → 1 ≤ s.states.width
+    → store ≡ slice_index_or s.stores (slice_index_or tuple 0 0) no_store → parts ≡ s.parts → jobs ≡ drop 1 tuple → IsReadable h s m place store parts jobs
+readable h s m place tuple store parts jobs is fits less at size some stored same numbered =
+    let state : IsState s tuple = subst (IsState s) at (is.states place less) in
+    let there = slice_index_or s.stores (slice_index_or tuple 0 0) no_store in
+    let shaped : IsOfShape h there = is.shapes (slice_index_or tuple 0 0) state.stored in
+    let made : made_of there m.programs s.parts (drop 1 tuple) ≡ machine_of s tuple = ap (λ (ps : List Loaded). made_of there ps s.parts (drop 1 tuple)) (sym fits.programs) in
+    let numbers = length-map (drop 1 tuple) (λ n. slice_index_or s.parts n no_task) in
+    let rest = length-drop 1 tuple in
+    let ready : IsReadable h s m place there s.parts (drop 1 tuple) = record {
+      shape = one_shape h there m.store shaped fits.shape;
+      within = state.within;
+      stands = subst CanStand (sym made) state.stands;
+      is = made ∙ ap (machine_of s) (sym at);
+      shaped = shaped;
+      width = omega arith;
+    } in
+    subst (λ (p : Contents). IsReadable h s m place p parts jobs) (sym stored) (subst (λ (ts : List Task). IsReadable h s m place there ts jobs) (sym same) (subst (λ (ns : List ℕ). IsReadable h s m place there s.parts ns) (sym numbered) ready))
+
+pub stored_inside : (h : Shape) (s : Shelf) (place : ℕ) (tuple : List ℕ) → IsShelf h s → place < s.states.count → tuple_at s.states place ≡ tuple → slice_index_or tuple 0 0 < length s.stores
+stored_inside h s place tuple is less at = let state : IsState s tuple = subst (IsState s) at (is.states place less) in state.stored
+
+-- what is restored
+pub restored_fits : (h : Shape) (stores : List Contents) (parts : List Task) (states : TupleList) (m new : MachineState) (place : ℕ) (store : Contents) (read : List Task) (jobs : List ℕ) → IsShelf h (shelf_of m.programs stores parts states)
+    → IsReadable h (shelf_of m.programs stores parts states) m place store read jobs → new ≡ made_of store m.programs read jobs
+    → IsShelf h (shelf_of new.programs stores parts states) × FitsShelf h (shelf_of new.programs stores parts states) new
+restored_fits h stores parts states m new place there read jobs is ready e =
+    fits_with h stores parts states m new (ap (λ (n : MachineState). n.programs) e) is (subst (λ (n : MachineState). IsOfShape h n.store) (sym e) ready.shaped)
+    (ready.width ∙ ap (λ (n : MachineState). length n.jobs + 1) (sym e)) (ap (λ (n : MachineState). n.lists) e)
+
+-- the numbers of a store and of jobs, one behind the other
+pub numbered_under : (stores : List Contents) (parts : List Task) (m : MachineState) (before new : List ℕ) (store : ℕ) → before ≡ store ∷ [] → store < length stores
+    → ((saved : List ℕ) × IsSavedAs m.store saved × IsSavedAs (slice_index_or stores store no_store) saved) → ((more : List ℕ) × (new ≡ before ++ more) × AreNumbersOf parts more m.jobs) → AreKeptUnder stores parts m new
+numbered_under stores parts m before new store first stored alike numbered =
+    let more = numbered.0 in
+    let e : new ≡ store ∷ more = numbered.1 ∙ ap (λ (ns : List ℕ). ns ++ more) first in
+    let count : length more ≡ length m.jobs = sym (length-map more (λ n. slice_index_or parts n no_task)) ∙ ap (λ (ts : List Task). length ts) numbered.2.1 in
+    subst (AreKeptUnder stores parts m) (sym e) (record {
+      stored = stored;
+      bytes = alike.0;
+      saved = alike.1;
+      alike = alike.2;
+      jobs = numbered.2;
+      size = omega arith;
+    })
+
+-- ---- a state is kept
+module _ (h : Shape) (s : Shelf) (m : MachineState) (stores : List Contents) (parts : List Task) (is : IsShelf h s) (fits : FitsShelf h s m)
+    (adds : (stores ≡ s.stores) ⊎ (stores ≡ s.stores ++ m.store ∷ [])) (grows : (more : List Task) × (parts ≡ s.parts ++ more)) where
+  abbrev with_states : TupleList → Shelf
+  with_states states = shelf_of s.programs stores parts states
+
+  grown : (states : TupleList) → Grows s (with_states states) m.store
+  grown states = record { programs = refl; stores = adds; parts = grows }
+
+  fits_grown : (states : TupleList) → states.width ≡ s.states.width → FitsShelf h (with_states states) m
+  fits_grown states width = record { shape = fits.shape; programs = fits.programs; width = width ∙ fits.width; lists = fits.lists }
+
+  pub same_invariant : IsShelf h (with_states s.states) × FitsShelf h (with_states s.states) m
+  same_invariant = (same_shelf s (with_states s.states) m.store (grown s.states) h fits.shape is refl, fits_grown s.states refl)
+
+  pub same_adds : AddsOne (machines s s.states.count) (machines (with_states s.states) s.states.count)
+  same_adds = inl (same_kept s (with_states s.states) m.store (grown s.states) h fits.shape is refl)
+
+  module _ (tuple : List ℕ) (under : AreKeptUnder stores parts m tuple) (stands : CanStand m) where
+    shapes_there : (states : TupleList) → (n : ℕ) → n < length stores → IsOfShape h (slice_index_or stores n no_store)
+    shapes_there states = shapes_still s (with_states s.states) m.store (grown s.states) h fits.shape is.shapes
+
+    state_there : (states : TupleList) → states.width ≡ s.states.width → IsState (with_states states) tuple
+    state_there states width =
+        is_state h (with_states states) m tuple under.bytes (fits_grown states width) (shapes_there states) under.stored under.saved under.alike under.jobs.0 under.jobs.1 stands
+
+    pub kept_there : (states : TupleList) (n : ℕ) → states.width ≡ s.states.width → (n < states.count) × (tuple_at states n ≡ tuple) → IsKeptAs (machines (with_states states) states.count) m
+    kept_there states n width found =
+        kept_as (with_states states) m n tuple found.0 found.1 (shown_there h (with_states states) m tuple under.bytes (fits_grown states width) (shapes_there states) under.stored under.saved under.alike under.jobs.0 under.jobs.1)
+
+    width_after : (states : TupleList) → (states ≡ s.states) ⊎ (states ≡ with_tuple s.states tuple) → states.width ≡ s.states.width
+    width_after states (inl e) = ap (λ (t : TupleList). t.width) e
+    width_after states (inr e) = ap (λ (t : TupleList). t.width) e
+
+    pub kept_after : (states : TupleList) (n : ℕ) → (states ≡ s.states) ⊎ (states ≡ with_tuple s.states tuple) → (n < states.count) × (tuple_at states n ≡ tuple) → IsKeptAs (machines (with_states states) states.count) m
+    kept_after states n now found = kept_there states n (width_after states now) found
+
+    pub invariant_after : (states : TupleList) → length tuple ≡ s.states.width → (states ≡ s.states) ⊎ (states ≡ with_tuple s.states tuple) → IsShelf h (with_states states) × FitsShelf h (with_states states) m
+    invariant_after states size (inl e) = (same_shelf s (with_states states) m.store (grown states) h fits.shape is e, fits_grown states (ap (λ (t : TupleList). t.width) e))
+    invariant_after states size (inr e) =
+        let width : states.width ≡ s.states.width = ap (λ (t : TupleList). t.width) e in
+        (more_shelf s (with_states states) m.store (grown states) h fits.shape is tuple size (state_there states width) e, fits_grown states width)
+
+    pub adds_after : (states : TupleList) → length tuple ≡ s.states.width → (states ≡ s.states) ⊎ (states ≡ with_tuple s.states tuple) → AddsOne (machines s s.states.count) (machines (with_states states) states.count)
+    adds_after states size (inl e) = inl (same_kept s (with_states states) m.store (grown states) h fits.shape is e)
+    adds_after states size (inr e) =
+        let width : states.width ≡ s.states.width = ap (λ (t : TupleList). t.width) e in
+        inr (machine_at (with_states states) s.states.count, more_kept s (with_states states) m.store (grown states) h fits.shape is tuple size (state_there states width) e)
+
+pub adds_extends : (old new : List MachineState) → AddsOne old new → Extends old new
+adds_extends old new (inl e) = ([], e ∙ sym (append-nil old))
+adds_extends old new (inr (m, e)) = (m ∷ [], e)
+
+kept_first : (one m : MachineState) (i : ℕ) (x : MachineState) → slice_get (one ∷ []) i ≡ Some x → ((w : World) → Shows m w → Shows x w) → (w : World) → Shows m w → Shows one w
+kept_first one m zero x at shows w here = let same : x ≡ one = cc in subst (λ (n : MachineState). Shows n w) same (shows w here)
+kept_first one m (suc i) x at shows w here = cc
+
+nothing_there : (i : ℕ) (x : MachineState) → slice_get [] i ≡ Some x → ⊥
+nothing_there i x at = cc
+
+-- the first that is kept
+pub first_kept : (old kept : List MachineState) (m : MachineState) → old ≡ [] → AddsOne old kept → IsKeptAs kept m → ShowsFirst kept m
+first_kept old kept m none (inl e) is =
+    absurd (nothing_there is.0 is.1 (subst (λ (ms : List MachineState). slice_get ms is.0 ≡ Some is.1) (e ∙ none) is.2))
+first_kept old kept m none (inr (one, e)) is =
+    let only : kept ≡ one ∷ [] = e ∙ ap (λ (ms : List MachineState). ms ++ one ∷ []) none in
+    let there : slice_get (one ∷ []) is.0 ≡ Some is.1 = subst (λ (ms : List MachineState). slice_get ms is.0 ≡ Some is.1) only is.2 in
+    (one, ap (λ (ms : List MachineState). slice_get ms 0) only, kept_first one m is.0 is.1 there is.3)
+
+-- ---- each kept machine
+pub kept_inside : (s : Shelf) (i : ℕ) → i < length (machines s s.states.count) → i < s.states.count
+kept_inside s i less = let count = machines_length s s.states.count in omega arith
+
+pub kept_is : (s : Shelf) (i : ℕ) (m : MachineState) → slice_get (machines s s.states.count) i ≡ Some m → (i < s.states.count) × (m ≡ machine_at s i)
+kept_is s i m at =
+    let less = kept_inside s i (slice_get_within (machines s s.states.count) i m at) in
+    let two : Some m ≡ Some (machine_at s i) = sym at ∙ machines_at s s.states.count i less in
+    (less, cc)
+
+-- no job is on a CPU beyond the store's
+pub idle_beyond : (h : Shape) (s : Shelf) → IsShelf h s → (i c : ℕ) → h.cpus ≤ c → IsIdleAt (machines s s.states.count) i c
+idle_beyond h s is i c beyond m at =
+    let k = kept_is s i m at in
+    let state = is.states i k.0 in
+    let stands : CanStand m = subst CanStand (sym k.1) state.stands in
+    let shape : IsOfShape h m.store = subst (λ (n : MachineState). IsOfShape h n.store) (sym k.1) (is.shapes (slice_index_or (tuple_at s.states i) 0 0) state.stored) in
+    let nobody : (j : ℕ) (task : Task) (stage : Stage) → IsAt m.jobs c j task stage → ⊥ = λ j task stage here. (
+    let serves : nat_lt c h.cpus ≡ true = sym (shape.1 c) ∙ subst (λ (d : ℕ). has_cpu m.store d ≡ true) here.of (stands.served j task here.listed) in
+    let less = ltb-true c h.cpus serves in
+    omega arith) in
+    (λ j task state left here. nobody j task (InHand state left) here, λ j task context here. nobody j task (Waiting context) here)
+
+-- ---- a turn from a kept machine
+pub turned : (old new : List MachineState) (place cpu : ℕ) (m after : MachineState) → slice_get old place ≡ Some m → Extends old new → TurnsTo m cpu after → IsKeptAs new after → IsTurned false new place cpu
+turned old new place cpu m after at more turns kept other there =
+    let still : slice_get new place ≡ Some m = ap (λ (ms : List MachineState). slice_get ms place) more.1 ∙ (slice_get-front old more.0 place (slice_get_within old place m at) ∙ at) in
+    let two : Some m ≡ Some other = sym still ∙ there in
+    let same : m ≡ other = cc in
+    (after, subst (λ (n : MachineState). TurnsTo n cpu after) same turns, kept)

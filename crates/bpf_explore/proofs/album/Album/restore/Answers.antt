@@ -1,0 +1,39 @@
+use Rattle.std.proofs.Common.{◌∙◌, ◌<◌, Some, length, sym, ap, subst}
+use Rattle.std.specs.Prelude.{slice_get}
+use Rattle.bpf_machine.specs.Machine.{MachineState}
+use Rattle.bpf_explore.specs.Private.Album.{AlbumState}
+use Rattle.bpf_explore.proofs.ShelfLaws.{machines_at}
+use Rattle.bpf_explore.proofs.AlbumLaws.{shelf_of, kept_inside, readable, stored_inside}
+use Rattle.bpf_explore.proofs.album.Album.restore.Goals as goal
+
+pub tuple-tuple-requires : goal.tuple-tuple-requires
+tuple-tuple-requires c =
+    let m = c.self.inside in
+    let shelf = shelf_of m.machine.programs m.stores m.parts m.states in
+    kept_inside shelf c.args.place (subst (λ (a : AlbumState). c.args.place < length a.kept) (sym c.self.view_is) c.requires)
+
+pub store-store-requires : goal.store-store-requires
+store-store-requires c =
+    let m = c.self.inside in
+    let shelf = shelf_of m.machine.programs m.stores m.parts m.states in
+    let less = kept_inside shelf c.args.place (subst (λ (a : AlbumState). c.args.place < length a.kept) (sym c.self.view_is) c.requires) in
+    stored_inside m.shape shelf c.args.place c.tuple-tuple.result.now c.self.invariant.0 less c.tuple-tuple.ensures.tuple.1
+
+pub restore-requires : goal.restore-requires
+restore-requires c =
+    let m = c.self.inside in
+    let shelf = shelf_of m.machine.programs m.stores m.parts m.states in
+    let tuple = c.tuple-tuple.result.now in
+    let less = kept_inside shelf c.args.place (subst (λ (a : AlbumState). c.args.place < length a.kept) (sym c.self.view_is) c.requires) in
+    let ready = readable m.shape shelf m.machine c.args.place tuple c.store-store.result.now c.jobs.result.now c.behind_first-numbers.result.now c.self.invariant.0 c.self.invariant.1 less c.tuple-tuple.ensures.tuple.1 c.tuple-tuple.ensures.width c.tuple-tuple.ensures.some c.store-store.ensures c.jobs.ensures c.behind_first-numbers.ensures in
+    record { lists = c.self.invariant.1.lists; shape = ready.shape; within = ready.within; stands = ready.stands }
+
+pub returns-clause-ok : goal.returns-clause-ok
+returns-clause-ok c =
+    let m = c.self.inside in
+    let shelf = shelf_of m.machine.programs m.stores m.parts m.states in
+    let tuple = c.tuple-tuple.result.now in
+    let less = kept_inside shelf c.args.place (subst (λ (a : AlbumState). c.args.place < length a.kept) (sym c.self.view_is) c.requires) in
+    let ready = readable m.shape shelf m.machine c.args.place tuple c.store-store.result.now c.jobs.result.now c.behind_first-numbers.result.now c.self.invariant.0 c.self.invariant.1 less c.tuple-tuple.ensures.tuple.1 c.tuple-tuple.ensures.width c.tuple-tuple.ensures.some c.store-store.ensures c.jobs.ensures c.behind_first-numbers.ensures in
+    ap (λ (a : AlbumState). slice_get a.kept c.args.place) (sym c.self.view_is)
+    ∙ (machines_at shelf m.states.count c.args.place less ∙ ap (λ (n : MachineState). Some n) (sym (c.in_ok-restore.ensures.ok ∙ ready.is)))

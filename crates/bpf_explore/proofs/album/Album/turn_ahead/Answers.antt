@@ -1,0 +1,21 @@
+use Rattle.std.proofs.Common.{◌∙◌, ap, subst}
+use Rattle.bpf_machine.specs.Machine.{MachineState}
+use Rattle.bpf_machine.specs.Cover.{TurnsTo}
+use Rattle.bpf_explore.specs.Private.Album.{AlbumState}
+use Rattle.bpf_explore.proofs.AlbumLaws.{fits_after, kept_with}
+use Rattle.bpf_explore.proofs.album.Album.turn_ahead.Goals as goal
+
+pub invariant_of-self : goal.invariant_of-self
+invariant_of-self c =
+    let m = c.self.inside in
+    fits_after m.shape m.stores m.parts m.states m.machine c.turn_ahead.new.self c.turn_ahead.ensures.same c.self.invariant
+
+pub returns-clause-turns : goal.returns-clause-turns
+returns-clause-turns c =
+    let machine = ap (λ (a : AlbumState). a.machine) c.self.view_is in
+    subst (λ (old : MachineState). TurnsTo old c.args.cpu c.turn_ahead.new.self) machine c.turn_ahead.ensures.turns
+
+pub returns-clause-same : goal.returns-clause-same
+returns-clause-same c =
+    let m = c.self.inside in
+    kept_with m.shape m.stores m.parts m.states m.machine c.turn_ahead.new.self c.turn_ahead.ensures.same.programs ∙ ap (λ (a : AlbumState). a.kept) c.self.view_is

@@ -1,0 +1,323 @@
+//! Machines that a search keeps: each store and each job once, and of each machine their numbers.
+
+ghost use Rattle.std.specs.Prelude.{◌≡◌, ◌<◌, ◌≤◌, ◌++◌, ◌∷◌, ◌⊎◌, List, [], ℕ, IfOk, OnOk, drop, length, slice_index_or};
+ghost use Rattle.bpf_cpu.specs.Task.{Task};
+ghost use Rattle.bpf_plain.specs.PlainStore.{IsSavedAs};
+ghost use Rattle.bpf_explore.specs.Stores.{IsOfShape, no_store};
+ghost use Rattle.bpf_explore.specs.Private.Album.{AreKeptUnder, AreNumbersOf, IsNumberOf};
+
+use crate::frontier::Frontier;
+use crate::parts::Parts;
+use crate::stores::Stores;
+use crate::tuples::Tuples;
+use bpf_machine::Machine;
+use bpf_shared::StoreShape;
+use std::alloc::{AllocError, Global};
+use std::marker::Model;
+
+/// The number in 32 bits. One that is greater counts as want of memory.
+fn number_of(count: usize) -> Result<u32, AllocError>
+    ensures { IfOk result (λ n. n ≡ count) }
+{
+    u32::try_from(count).map_err(|_| AllocError)
+}
+
+/// The number under which a machine's job is kept.
+fn keep_job(
+    alloc: Global,
+    parts: &mut Parts,
+    machine: &Machine,
+    job: usize,
+) -> Result<u32, AllocError>
+    requires { job < length machine.now.jobs }
+    ensures grows { (more : List Task) × (parts.new ≡ parts.old ++ more) }
+    ensures number { IfOk result (λ n. IsNumberOf parts.new n machine.now.jobs job) }
+{
+    let number = parts.keep(alloc, machine, job)?;
+    number_of(number)
+}
+
+/// Puts the numbers under which a machine's jobs are kept behind what is there.
+fn keep_jobs(
+    alloc: Global,
+    parts: &mut Parts,
+    machine: &Machine,
+    numbers: &mut Vec<u32>,
+) -> Result<(), AllocError>
+    ensures grows { (more : List Task) × (parts.new ≡ parts.old ++ more) }
+    ensures numbers { OnOk result ((more : List ℕ)
+        × (numbers.new.items ≡ numbers.old.items ++ more)
+        × AreNumbersOf parts.new more machine.now.jobs) }
+{
+    for job in 0..machine.jobs() {
+        let number = keep_job(alloc, parts, machine, job)?;
+        numbers.push(number)?;
+    }
+    Ok(())
+}
+
+/// The number under which a machine's store is kept. What it is saved as is written over the bytes.
+fn keep_store(
+    alloc: Global,
+    stores: &mut Stores,
+    shape: &StoreShape,
+    machine: &Machine,
+    bytes: &mut Vec<u8>,
+) -> Result<u32, AllocError>
+    requires { IsOfShape shape.now machine.now.store }
+    ensures adds { (stores.new ≡ stores.old)
+        ⊎ (stores.new ≡ stores.old ++ machine.now.store ∷ []) }
+    ensures within { IfOk result (λ n. n < length stores.new) }
+    ensures alike { IfOk result (λ n. (saved : List ℕ) × IsSavedAs machine.now.store saved
+        × IsSavedAs (slice_index_or stores.new n no_store) saved) }
+{
+    bytes.clear();
+    let store = machine.store();
+    store.save(bytes)?;
+    let number = stores.keep(alloc, shape, store, bytes)?;
+    number_of(number)
+}
+
+/// The numbers under which a machine's store and jobs are kept are written over the numbers.
+fn keep_machine(
+    alloc: Global,
+    shape: &StoreShape,
+    machine: &Machine,
+    stores: &mut Stores,
+    parts: &mut Parts,
+    bytes: &mut Vec<u8>,
+    numbers: &mut Vec<u32>,
+) -> Result<(), AllocError>
+    requires { IsOfShape shape.now machine.now.store }
+    ensures adds { (stores.new ≡ stores.old)
+        ⊎ (stores.new ≡ stores.old ++ machine.now.store ∷ []) }
+    ensures grows { (more : List Task) × (parts.new ≡ parts.old ++ more) }
+    ensures numbers { OnOk result
+        (AreKeptUnder stores.new parts.new machine.now numbers.new.items) }
+{
+    numbers.clear();
+    let store = keep_store(alloc, stores, shape, machine, bytes)?;
+    numbers.push(store)?;
+    keep_jobs(alloc, parts, machine, numbers)?;
+    Ok(())
+}
+
+/// The numbers behind the first.
+fn behind_first(numbers: &[u32]) -> &[u32]
+    requires { 1 ≤ length numbers.now }
+    ensures { result.now ≡ drop 1 numbers.now }
+{
+    &numbers[1..]
+}
+
+/// Machines of one host, each under its number, in the order in which they came, and one to work
+/// with.
+#[derive(Drop)]
+pub struct Album {
+    alloc: Global,
+    shape: StoreShape,
+    machine: Machine,
+    stores: Stores,
+    parts: Parts,
+    states: Tuples,
+    /// Of each state, that of which a CPU's turn led there first, and the CPU.
+    origins: Vec<(u32, u8)>,
+    /// Room to save a store.
+    bytes: Vec<u8>,
+    /// Room for the numbers of a state.
+    numbers: Vec<u32>,
+}
+
+impl Model for Album {
+    ghost use Rattle.std.specs.Prelude.{◌≡◌, ◌+◌, length};
+    ghost use Rattle.bpf_explore.specs.Album.{AlbumState};
+    ghost use Rattle.bpf_explore.specs.Private.Album.{Shelf, machines, IsShelf, FitsShelf};
+
+    ghost Value = { AlbumState };
+
+    ghost view = { λ a. let shelf : Shelf = record {
+      programs = a.machine.programs;
+      stores = a.stores;
+      parts = a.parts;
+      states = a.states;
+    } in
+        record { machine = a.machine; kept = machines shelf a.states.count } };
+
+    ghost invariant = { λ a. let shelf : Shelf = record {
+      programs = a.machine.programs;
+      stores = a.stores;
+      parts = a.parts;
+      states = a.states;
+    } in
+        IsShelf a.shape shelf × FitsShelf a.shape shelf a.machine };
+}
+
+impl Album {
+    ghost use Rattle.std.specs.Prelude.{◌≡◌, ◌<◌, ℕ, [], IfOk, OnOk, Some, None, length, slice_get};
+    ghost use Rattle.bpf_machine.specs.Machine.{Shows};
+    ghost use Rattle.bpf_machine.specs.Schedule.{World, RunsSchedule, unrolled};
+    ghost use Rattle.bpf_machine.specs.Cover.{TurnsTo, IsKeptAs};
+    ghost use Rattle.bpf_explore.specs.Stores.{IsOfShape};
+    ghost use Rattle.bpf_explore.specs.Album.{ShowsFirst};
+    ghost use Rattle.bpf_explore.specs.Private.Album.{AddsOne};
+
+    /// Nothing is kept yet.
+    fn empty(alloc: Global, shape: StoreShape, machine: Machine) -> Result<Album, AllocError>
+        requires shape { IsOfShape shape machine.store }
+        requires lists { machine.lists ≡ None }
+        ensures machine { IfOk result (λ a. a.machine ≡ machine) }
+        ensures empty { IfOk result (λ a. a.kept ≡ []) }
+    {
+        let width = machine.jobs().checked_add(1).ok_or(AllocError)?;
+        Ok(Album {
+            alloc,
+            shape,
+            machine,
+            stores: Stores::new(alloc),
+            parts: Parts::new(alloc),
+            states: Tuples::new(alloc, width),
+            origins: Vec::new(alloc),
+            bytes: Vec::new(alloc),
+            numbers: Vec::new(alloc),
+        })
+    }
+
+    /// The machine to work with.
+    pub fn machine(&self) -> &Machine
+        ensures machine { result.now ≡ self.now.machine }
+        ensures lists { self.now.machine.lists ≡ None }
+    {
+        &self.machine
+    }
+
+    /// How many are kept.
+    pub fn len(&self) -> usize
+        ensures { result ≡ length self.now.kept }
+    {
+        self.states.count()
+    }
+
+    /// Takes a kept machine to work with.
+    pub fn restore(&mut self, place: usize) -> Result<(), AllocError>
+        requires { place < length self.old.kept }
+        ensures ok { OnOk result (slice_get self.old.kept place ≡ Some self.new.machine) }
+        ensures same { self.new.kept ≡ self.old.kept }
+    {
+        let tuple = self.states.tuple(place);
+        let store = self.stores.store(tuple[0] as usize);
+        let numbers = behind_first(tuple);
+        self.machine
+            .restore(self.alloc, store, self.parts.jobs(), numbers)?;
+        Ok(())
+    }
+
+    /// One turn of a CPU, and then its turns that no store sees. How many of these.
+    pub fn turn_ahead(&mut self, cpu: u8) -> u64
+        ensures turns { TurnsTo self.old.machine cpu self.new.machine }
+        ensures same { self.new.kept ≡ self.old.kept }
+    {
+        self.machine.turn_ahead(cpu)
+    }
+
+    /// The turns of a schedule that is told by CPUs, each with how many turns it takes before the
+    /// next.
+    pub fn turns_by(&mut self, runs: &[(u8, u64)])
+        ensures runs { (w : World) → Shows self.old.machine w
+            → (z : World) × RunsSchedule w (unrolled runs.now) z × Shows self.new.machine z }
+        ensures same { self.new.kept ≡ self.old.kept }
+    {
+        self.machine.turns_by(runs)
+    }
+
+    /// Keeps the machine, unless one that shows all that it shows is found.
+    fn keep_state(&mut self) -> Result<(), AllocError>
+        ensures kept { OnOk result (IsKeptAs self.new.kept self.new.machine) }
+        ensures adds { AddsOne self.old.kept self.new.kept }
+        ensures same { self.new.machine ≡ self.old.machine }
+    {
+        self.machine.stands();
+        keep_machine(
+            self.alloc,
+            &self.shape,
+            &self.machine,
+            &mut self.stores,
+            &mut self.parts,
+            &mut self.bytes,
+            &mut self.numbers,
+        )?;
+        self.states.keep(self.alloc, &self.numbers)?;
+        Ok(())
+    }
+
+    /// Notes of a new state that a CPU's turn led there from another.
+    fn note_origin(&mut self, from: u32, cpu: u8) -> Result<(), AllocError>
+        ensures { self.new ≡ self.old }
+    {
+        if self.origins.len() < self.states.count() {
+            self.origins.push((from, cpu))?;
+        }
+        Ok(())
+    }
+
+    /// Keeps the machine, where a CPU's turn led from a state.
+    fn keep(&mut self, from: u32, cpu: u8) -> Result<(), AllocError>
+        ensures kept { OnOk result (IsKeptAs self.new.kept self.new.machine) }
+        ensures adds { AddsOne self.old.kept self.new.kept }
+        ensures same { self.new.machine ≡ self.old.machine }
+    {
+        self.keep_state()?;
+        self.note_origin(from, cpu)?;
+        Ok(())
+    }
+
+    /// The CPUs whose turns led to a kept machine from the first. Nothing is promised of them.
+    pub fn way(&self, place: usize) -> Result<Vec<u8>, AllocError> {
+        let mut way = Vec::new(self.alloc);
+        let mut state = place;
+        while let Some((from, cpu)) = self.origins.get(state) {
+            let from = *from as usize;
+            if from >= state {
+                break;
+            }
+            way.push(*cpu)?;
+            state = from;
+        }
+        way.reverse();
+        Ok(way)
+    }
+
+    /// Machines of which the first is kept.
+    pub fn new(alloc: Global, shape: StoreShape, machine: Machine) -> Result<Album, AllocError>
+        requires shape { IsOfShape shape machine.store }
+        requires lists { machine.lists ≡ None }
+        ensures { IfOk result (λ a. ShowsFirst a.kept machine) }
+    {
+        let mut album = Album::empty(alloc, shape, machine)?;
+        album.keep(0, 0)?;
+        Ok(album)
+    }
+}
+
+impl Frontier for Album {
+    ghost use Rattle.std.specs.Prelude.{false};
+
+    ghost kept = { λ a. a.kept };
+
+    ghost is_patient = { λ a. false };
+
+    fn count(&self) -> usize {
+        self.len()
+    }
+
+    fn cpus(&self) -> u8 {
+        self.shape.cpus()
+    }
+
+    fn turn(&mut self, place: usize, cpu: u8) -> Result<(), AllocError> {
+        let from = number_of(place)?;
+        self.restore(place)?;
+        self.turn_ahead(cpu);
+        self.keep(from, cpu)?;
+        Ok(())
+    }
+}
