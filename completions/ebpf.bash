@@ -13,7 +13,7 @@ _ebpf() {
         hex) words='--explain --budget --ctx -h --help' files=1 ;;
         asm) words='--explain --listing -h --help' files=1 ;;
         disasm) words='--explain --pc -h --help' files=1 ;;
-        run) words='--explain --maps --workers -h --help' files=1 ;;
+        run) words='--explain --keys --maps --workers -h --help' files=1 ;;
         debug) words='--explain -h --help' files=1 ;;
         explain) words='-h --help' ;;
     esac

@@ -22,6 +22,7 @@ complete -c ebpf -n '__fish_seen_subcommand_from disasm' -l pc -f -d 'Prints the
 complete -c ebpf -n '__fish_seen_subcommand_from disasm' -s h -l help -f -d 'Print help'
 complete -c ebpf -n '__fish_seen_subcommand_from disasm' -F
 complete -c ebpf -n '__fish_seen_subcommand_from run' -l explain -f -d 'Explains a refusal or a fault on standard error'
+complete -c ebpf -n '__fish_seen_subcommand_from run' -l keys -f -d 'Lists each map'\''s keys as each CPU'\''s last job ends: keys cpu C NAME KEY ..'
 complete -c ebpf -n '__fish_seen_subcommand_from run' -l maps -f -d 'Prints the maps afterwards, a line a key: map NAME KEY=VALUE'
 complete -c ebpf -n '__fish_seen_subcommand_from run' -l workers -x -d 'Runs the CPUs at once, by 1 to 16 threads, over a store that they share'
 complete -c ebpf -n '__fish_seen_subcommand_from run' -s h -l help -f -d 'Print help'

@@ -6,7 +6,7 @@ use Rattle.clap.specs.Kinds.{Kinds, or_else}
 use Rattle.clap.specs.Simple.{Shape, argument_words, built, entered, label_of, names_of, rows_at, subcommand_rows}
 use Rattle.clap.specs.Faults.{check_fault, defaults_fault, entered_fault, is_simple_and_free, level_fault, settle_fault, walk_fault}
 use Rattle.clap.specs.Walk.{Held, Row, Text, answers_to, finished, nothing_held, settled, stop_after, walk, walk_from}
-use Rattle.clap.specs.Words.{fault_of, subcommand_name_of, subcommand_of, subcommand_rows_of}
+use Rattle.clap.specs.Words.{fault_of, is_simple, subcommand_name_of, subcommand_of, subcommand_rows_of}
 use Rattle.clap.specs.declared.parser.matches.ArgMatches.{ArgMatches}
 use Rattle.clap.specs.declared.parser.matches.ArgMatches.TheViews.{out-ArgMatches, out-SubCommand}
 use Rattle.clap.specs.declared.parser.matches.SubCommand.{SubCommand}
@@ -100,6 +100,10 @@ name_known m words e found = by_name (out-ArgMatches m).subcommand (rw found (na
     by_name : {Z : Type 0} (b : Option (Box SubCommand Z)) → NamesKnown (subcommand_rows b) → IsSomeAnd (option_map (λ b. (out-SubCommand (box_value b)).name.now) b) IsCommandName
     by_name None h = h
     by_name (Some b) h = h
+
+-- clap's contract tells what is found by such a command line
+pub is_matched : is_simple ebpf ≡ true
+is_matched = refl
 
 -- clap's contract tells the faults of such a command line
 pub is_told : is_simple_and_free ebpf ≡ true

@@ -8,7 +8,7 @@ use Rattle.clap.specs.Faults.{repeat_fault, check_fault, defaults_fault, level_f
 use Rattle.clap.specs.Walk.{with_default, row_text, values_or_missing, Held, Row, Rule, Text, answers_to, finished, has_row, nothing_held, rows_after, settled, walk, walk_from}
 use Rattle.clap.specs.Words.{fault_of, subcommand_of}
 use Rattle.bpf_command.specs.declared.command.TheConstants.{MAX_WORKERS}
-use Rattle.bpf_command.specs.CommandLine.{HasWorkers, ebpf, explained, file, maps, run, workers}
+use Rattle.bpf_command.specs.CommandLine.{HasWorkers, ebpf, explained, file, keys, maps, run, workers}
 use Rattle.bpf_command.proofs.Ranges as range
 use Rattle.bpf_command.proofs.Ranges.{no_default}
 use Rattle.bpf_command.proofs.Subcommands.{AllHave, found_known}
@@ -35,6 +35,10 @@ workers_keep (v ∷ vs) rows e fine =
     let passed = range.first_passes (codes "workers") 1 MAX_WORKERS v vs (last_free repeat own (last_free count (or_else repeat own) e)) in
     range.used_fine (codes "workers") 1 MAX_WORKERS (codes "workers") (v ∷ vs) rows (λ same. (refl, refl, passed)) fine
 
+keys_keep : Keeps AreFine false (filled keys)
+keys_keep values rows e fine =
+    range.other_used_fine (codes "workers") 1 MAX_WORKERS (codes "keys") (values_or_missing (filled keys) values) rows refl fine
+
 maps_keep : Keeps AreFine false (filled maps)
 maps_keep values rows e fine =
     range.other_used_fine (codes "workers") 1 MAX_WORKERS (codes "maps") (values_or_missing (filled maps) values) rows refl fine
@@ -48,7 +52,7 @@ explained_keeps values rows e fine =
     range.other_used_fine (codes "workers") 1 MAX_WORKERS (codes "explain") (values_or_missing (filled explained) values) rows refl fine
 
 rules_keep : range.AllKeep (codes "workers") 1 MAX_WORKERS rules
-rules_keep = (explained_keeps, (maps_keep, (workers_keep, (file_keeps, ((λ values rows e fine. fine), tt)))))
+rules_keep = (explained_keeps, (keys_keep, (maps_keep, (workers_keep, (file_keeps, ((λ values rows e fine. fine), tt))))))
 
 -- ---- the rows
 
@@ -64,16 +68,18 @@ own_text (Some r) h = some_text (row_text r) (range.given_text (codes "workers")
 has_workers : (rows : List Row) → AreFine rows → HasWorkers rows
 has_workers rows fine = own_text (find (λ r. bytes_eq r.id (codes "workers")) rows) (range.if_found (codes "workers") 1 MAX_WORKERS rows fine)
 
--- `--explain` and `--maps` have defaults, and no other option of `run` has one
+-- `--explain`, `--keys` and `--maps` have defaults, and no other option of `run` has one
 finished_workers : (h : Held) → AreFine (settled rules h).rows → HasWorkers (finished rules h)
 finished_workers h fine =
     let start = with_default (settled rules h).rows (filled explained) in
-    let first = with_default start (filled maps) in
+    let listing = with_default start (filled keys) in
+    let first = with_default listing (filled maps) in
     let second = with_default first (filled workers) in
     let third = with_default second (filled file) in
     let started = range.default_fine (codes "workers") 1 MAX_WORKERS (codes "explain") (codes "false" ∷ []) (settled rules h).rows refl fine in
-    let both = range.default_fine (codes "workers") 1 MAX_WORKERS (codes "maps") (codes "false" ∷ []) start refl started in
-    subst HasWorkers (sym (no_default (has_row (codes "help") third) third ∙ no_default (has_row (codes "file") second) second ∙ no_default (has_row (codes "workers") first) first)) (has_workers first both)
+    let listed = range.default_fine (codes "workers") 1 MAX_WORKERS (codes "keys") (codes "false" ∷ []) start refl started in
+    let all = range.default_fine (codes "workers") 1 MAX_WORKERS (codes "maps") (codes "false" ∷ []) listing refl listed in
+    subst HasWorkers (sym (no_default (has_row (codes "help") third) third ∙ no_default (has_row (codes "file") second) second ∙ no_default (has_row (codes "workers") first) first)) (has_workers first all)
 
 -- the options of `run`, after a parse of its words with no fault
 run_workers : (words : List Text) → level_fault run_built [] nothing_held words false [] ≡ [] → HasWorkers (rows_after rules [] words)

@@ -57,6 +57,10 @@ pc = record (new_rule (codes "pc")) { long = Some (codes "pc"); action = Some Se
 abbrev pub disasm : App
 disasm = with_rule (with_rule (with_rule (new_app (codes "disasm")) explained) pc) file
 
+-- `--keys`
+abbrev pub keys : Rule
+keys = record (new_rule (codes "keys")) { long = Some (codes "keys"); action = Some SetTrue }
+
 -- `--maps`
 abbrev pub maps : Rule
 maps = record (new_rule (codes "maps")) { long = Some (codes "maps"); action = Some SetTrue }
@@ -69,8 +73,11 @@ workers = record (new_rule (codes "workers")) {
   parser = Some (Unsigned 1 MAX_WORKERS);
 }
 
+abbrev pub run_shows : App
+run_shows = with_rule (with_rule (with_rule (new_app (codes "run")) explained) keys) maps
+
 abbrev pub run_options : App
-run_options = with_rule (with_rule (with_rule (new_app (codes "run")) explained) maps) workers
+run_options = with_rule run_shows workers
 
 abbrev pub run : App
 run = with_rule run_options file

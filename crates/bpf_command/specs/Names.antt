@@ -38,6 +38,7 @@ Names (Some found) (command.Asm listing) = (found.0 ≡ codes "asm")
 Names (Some found) (command.Disasm pc) = (found.0 ≡ codes "disasm")
     × (pc ≡ is_given (codes "pc") found.1)
 Names (Some found) (command.Run options) = (found.0 ≡ codes "run")
+    × (options.keys ≡ is_given (codes "keys") found.1)
     × (options.maps ≡ is_given (codes "maps") found.1) × NamesWorkers found.1 options.workers
 Names (Some found) command.Debug = found.0 ≡ codes "debug"
 

@@ -25,6 +25,8 @@ pub struct RunOptions {
 /// The options of `run`, in their ranges.
 #[derive(PartialEq, Eq, Debug, Drop)]
 pub struct FileOptions {
+    /// To list the keys of all maps behind each CPU's last job, and to print the lists.
+    pub keys: bool,
     /// To print the maps afterwards.
     pub maps: bool,
     /// The number of worker threads; without one the CPUs take turns on one thread.

@@ -142,6 +142,7 @@ fn named(alloc: Global, name: &str, options: &ArgMatches) -> Result<Command, Com
             pc: is_given(options, "pc"),
         }),
         "run" => Ok(Command::Run(FileOptions {
+            keys: is_given(options, "keys"),
             maps: is_given(options, "maps"),
             workers: workers_of(options),
         })),

@@ -3,7 +3,7 @@
 ghost use Rattle.std.specs.Prelude.{◌≡◌, false, IfOk};
 ghost use Rattle.clap.specs.Words.{app_of, rule_of, shape_of};
 ghost use Rattle.clap.specs.declared.builder.command.Command.TheViews.{out-Command as fields_of};
-ghost use Rattle.bpf_command.specs.CommandLine.{asm, bare, budget, code_rule, context, debug, disasm, ebpf, explain, explained, file, hex, listing, maps, hex_options, one_program, pc, run, run_options, workers, working};
+ghost use Rattle.bpf_command.specs.CommandLine.{asm, bare, budget, code_rule, context, debug, disasm, ebpf, explain, explained, file, hex, hex_options, keys, listing, maps, one_program, pc, run, run_options, run_shows, workers, working};
 
 use crate::command::MAX_WORKERS;
 use bpf_base::MAX_BUDGET;
@@ -43,7 +43,9 @@ A pc counts words of 8 bytes from 0.";
 const RUN_NOTES: &str = "\
 Each CPU that has work makes one turn, in rising order, until none has work. With --workers the
 CPUs run at once, each its jobs in order, and what they do to shared values mixes as it comes. Then
-a line a job is printed: job J cpu C r0=N, fault Fk at PC or out of budget at PC.
+a line a job is printed: job J cpu C r0=N, fault Fk at PC or out of budget at PC. With --keys each
+CPU lists the keys of all maps with the end of its last job, each list as they were at one moment,
+and behind the lines of jobs stands one a list: keys cpu C NAME and the keys in hex.
 
 For example
   $ printf 'ebpf-run 1\\nprog a\\nr0 = 5\\nexit\\nend\\njob 0 a\\n' | ebpf run
@@ -195,6 +197,16 @@ fn disasm_command<'a>(alloc: Global) -> Result<Command<'a>, AllocError>
         .arg(file_argument(alloc))
 }
 
+fn keys_option<'a>(alloc: Global) -> Arg<'a>
+    ensures rule { rule_of result ≡ keys }
+    ensures own { result.global ≡ false }
+{
+    Arg::new(alloc, "keys")
+        .long("keys")
+        .action(ArgAction::SetTrue)
+        .help("Lists each map's keys as each CPU's last job ends: keys cpu C NAME KEY ..")
+}
+
 fn maps_option<'a>(alloc: Global) -> Arg<'a>
     ensures rule { rule_of result ≡ maps }
     ensures own { result.global ≡ false }
@@ -216,17 +228,25 @@ fn workers_option<'a>(alloc: Global) -> Arg<'a>
         .help("Runs the CPUs at once, by 1 to 16 threads, over a store that they share")
 }
 
-/// The command `run` before its file.
-fn run_options<'a>(alloc: Global) -> Result<Command<'a>, AllocError>
-    ensures shape { IfOk result (λ c. shape_of c ≡ run_options.top) }
+/// The command `run` with what it is to print.
+fn run_shows<'a>(alloc: Global) -> Result<Command<'a>, AllocError>
+    ensures shape { IfOk result (λ c. shape_of c ≡ run_shows.top) }
     ensures own { IfOk result (λ c. (fields_of c).has_globals ≡ false) }
 {
     Command::new(alloc, "run")
         .about("Runs the jobs of a run file, over its maps")
         .after_help(RUN_NOTES)
         .arg(explain_option(alloc))?
-        .arg(maps_option(alloc))?
-        .arg(workers_option(alloc))
+        .arg(keys_option(alloc))?
+        .arg(maps_option(alloc))
+}
+
+/// The command `run` before its file.
+fn run_options<'a>(alloc: Global) -> Result<Command<'a>, AllocError>
+    ensures shape { IfOk result (λ c. shape_of c ≡ run_options.top) }
+    ensures own { IfOk result (λ c. (fields_of c).has_globals ≡ false) }
+{
+    run_shows(alloc)?.arg(workers_option(alloc))
 }
 
 fn run_command<'a>(alloc: Global) -> Result<Command<'a>, AllocError>

@@ -6,13 +6,13 @@ use Rattle.bpf_shared.proofs.Soundness.{as_made_sound}
 use Rattle.bpf_cpu.specs.Task.{Task, Stage, Waiting, InHand, Ended, waiting}
 use Rattle.bpf_machine.specs.Laws.{IsFresh}
 use Rattle.bpf_jobs.specs.declared.rounds.Report.{Report}
-use Rattle.bpf_jobs.specs.Printed.{first_world, IsReport}
+use Rattle.bpf_jobs.specs.Printed.{asked_world, IsReport}
 use Rattle.bpf_file.specs.declared.file.RunFile.{RunFile}
 use Rattle.bpf_file.specs.File.{File, file_of}
 use Rattle.bpf_file.specs.Reading.{IsRunFile}
 use Rattle.bpf_file.specs.Runnable.{WaitsShort, IsJobFor, CanRun}
 use Rattle.bpf_run.specs.Commands.{IsRunOfFile}
-use Rattle.bpf_run.specs.Script.{first_world_of}
+use Rattle.bpf_run.specs.Script.{asked_world_of, first_world_of}
 use Rattle.bpf_run.specs.declared.reply.Reply.TheVariants as reply
 
 each : (P : Task → Type 0) (tasks : List Task) → All P tasks → (j : ℕ) (task : Task)
@@ -38,10 +38,13 @@ fresh f can = record {
       waits task task.stage refl job.stage;
 }
 
+pub fresh_asked : (keys : Bool) (f : File) → CanRun f → IsFresh (asked_world_of keys f)
+fresh_asked keys f can = record { store = (fresh f can).store; waits = (fresh f can).waits }
+
 -- what was told of the file that was read is what the text's file wants told
-pub told : (maps : Bool) (text : List ℕ) (file : RunFile) (r : Report)
+pub told : (keys maps : Bool) (text : List ℕ) (file : RunFile) (r : Report)
     → IsRunFile text (Ok (file_of file))
-    → IsReport (first_world file.shape file.programs.items (map waiting file.jobs.items))
+    → IsReport (asked_world keys file.shape file.programs.items (map waiting file.jobs.items))
     (map string_bytes file.names.items) maps (string_bytes r.text) r.stopped
-    → IsRunOfFile maps text (reply.Jobs r.text r.stopped)
-told maps text file r said report = (file_of file, said, report)
+    → IsRunOfFile keys maps text (reply.Jobs r.text r.stopped)
+told keys maps text file r said report = (file_of file, said, report)

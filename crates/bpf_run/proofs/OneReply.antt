@@ -32,11 +32,11 @@ use Rattle.bpf_file.specs.Laws.{FilesAreDetermined, FilesCanRun}
 use Rattle.bpf_jobs.specs.Laws.{ReportsAreDetermined}
 use Rattle.bpf_jobs.specs.Printed.{IsReport}
 use Rattle.bpf_debug.specs.Laws.{ScriptsAreDetermined}
-use Rattle.bpf_run.proofs.FreshFiles.{fresh}
+use Rattle.bpf_run.proofs.FreshFiles.{fresh_asked}
 use Rattle.bpf_run.proofs.OneDebug.{PrintsAs, one_debug}
 use Rattle.bpf_run.specs.Answer.{jobs_status, status_of, reply_text}
 use Rattle.bpf_run.specs.Commands.{IsAnswer, IsAssembled, IsDisassembled, IsForOneThread, IsReply, IsRun, IsRunBy, IsRunOfFile, IsWordsOf, RefusesAssembly, RefusesInput, RefusesProgram, RefusesWords, ShowsWords, shown_program}
-use Rattle.bpf_run.specs.Script.{first_world_of}
+use Rattle.bpf_run.specs.Script.{asked_world_of}
 use Rattle.bpf_run.specs.declared.input.TheConstants.{MAX_INPUT}
 use Rattle.bpf_run.specs.Laws.{IsOfInput, IsForAnyInput, HasShortContext, RepliesAreDetermined}
 use Rattle.bpf_lines.specs.Lines.{lines_of}
@@ -125,26 +125,26 @@ of_listing pc text (reply.Ended outcome) h n = absurd h
 of_listing pc text (reply.Jobs printed stopped) h n = absurd h
 of_listing pc text (reply.Script answers stopped) h n = absurd h
 
-data OfFile (maps : Bool) (text : List ℕ) : Reply → Type 0 where
-  Told : (printed : _) (stopped : Bool) → IsRunOfFile maps text (reply.Jobs printed stopped)
-      → OfFile maps text (reply.Jobs printed stopped)
+data OfFile (keys maps : Bool) (text : List ℕ) : Reply → Type 0 where
+  Told : (printed : _) (stopped : Bool) → IsRunOfFile keys maps text (reply.Jobs printed stopped)
+      → OfFile keys maps text (reply.Jobs printed stopped)
   NoFile : (line : ℕ) (why : Reason) → IsRunFile text (Err (FileError.Refused line why))
-      → OfFile maps text (reply.Refused (refusal.File line why))
+      → OfFile keys maps text (reply.Refused (refusal.File line why))
 
-of_refused_file : (maps : Bool) (text : List ℕ) (r : Refusal)
-    → IsRunOfFile maps text (reply.Refused r) → ¬ IsForAnyInput r
-    → OfFile maps text (reply.Refused r)
-of_refused_file maps text (refusal.File line why) h n = NoFile line why h
-of_refused_file maps text refusal.OutOfMemory h n = absurd (n tt)
-of_refused_file maps text _ h n = absurd h
+of_refused_file : (keys maps : Bool) (text : List ℕ) (r : Refusal)
+    → IsRunOfFile keys maps text (reply.Refused r) → ¬ IsForAnyInput r
+    → OfFile keys maps text (reply.Refused r)
+of_refused_file keys maps text (refusal.File line why) h n = NoFile line why h
+of_refused_file keys maps text refusal.OutOfMemory h n = absurd (n tt)
+of_refused_file keys maps text _ h n = absurd h
 
-of_file : (maps : Bool) (text : List ℕ) (r : Reply) → IsRunOfFile maps text r → IsOfInput r
-    → OfFile maps text r
-of_file maps text (reply.Jobs printed stopped) h n = Told printed stopped h
-of_file maps text (reply.Refused r) h n = of_refused_file maps text r h n
-of_file maps text (reply.Ended outcome) h n = absurd h
-of_file maps text (reply.Text printed) h n = absurd h
-of_file maps text (reply.Script answers stopped) h n = absurd h
+of_file : (keys maps : Bool) (text : List ℕ) (r : Reply) → IsRunOfFile keys maps text r → IsOfInput r
+    → OfFile keys maps text r
+of_file keys maps text (reply.Jobs printed stopped) h n = Told printed stopped h
+of_file keys maps text (reply.Refused r) h n = of_refused_file keys maps text r h n
+of_file keys maps text (reply.Ended outcome) h n = absurd h
+of_file keys maps text (reply.Text printed) h n = absurd h
+of_file keys maps text (reply.Script answers stopped) h n = absurd h
 
 data OfInput (c : Command) (input : List ℕ) : Reply → Type 0 where
   TooLong : MAX_INPUT < length input → OfInput c input (reply.Refused (refusal.Input input_error.TooLong))
@@ -238,16 +238,16 @@ module _ (words : WordsAreDetermined) (encodings : EncodingsAreDetermined) (refu
   one_assembly listing text r s (NoAssembly e b) (Assembled p a) = let both : Ok a.0 ≡ Err e = texts text (Ok a.0) (Err e) a.2 b in absurd cc
   one_assembly listing text r s (NoAssembly e a) (NoAssembly f b) = let both = texts text (Err e) (Err f) a b in let same : e ≡ f = cc in prints r s (ap (λ error. reply.Refused (refusal.Text error)) same)
 
-  one_file : (maps : Bool) (text : List ℕ) (r s : Reply) → OfFile maps text r → OfFile maps text s → PrintsAs r s
-  one_file maps text r s (Told p x a) (Told q y b) =
+  one_file : (keys maps : Bool) (text : List ℕ) (r s : Reply) → OfFile keys maps text r → OfFile keys maps text s → PrintsAs r s
+  one_file keys maps text r s (Told p x a) (Told q y b) =
       let both : Ok a.0 ≡ Ok b.0 = files text (Ok a.0) (Ok b.0) a.1 b.1 in
       let same : a.0 ≡ b.0 = cc in
-      let P : File → Type 0 = λ f. IsReport (first_world_of f) f.names maps (string_bytes q) y in
-      let told = reports (first_world_of a.0) a.0.names maps (string_bytes p) (string_bytes q) x y (fresh a.0 (runs text a.0 a.1)) a.2 (subst P (sym same) b.2) in
+      let P : File → Type 0 = λ f. IsReport (asked_world_of keys f) f.names maps (string_bytes q) y in
+      let told = reports (asked_world_of keys a.0) a.0.names maps (string_bytes p) (string_bytes q) x y (fresh_asked keys a.0 (runs text a.0 a.1)) a.2 (subst P (sym same) b.2) in
       (told.0, ap jobs_status told.1)
-  one_file maps text r s (Told p x a) (NoFile line why b) = let both : Ok a.0 ≡ Err (FileError.Refused line why) = files text (Ok a.0) (Err (FileError.Refused line why)) a.1 b in absurd cc
-  one_file maps text r s (NoFile line why b) (Told p x a) = let both : Ok a.0 ≡ Err (FileError.Refused line why) = files text (Ok a.0) (Err (FileError.Refused line why)) a.1 b in absurd cc
-  one_file maps text r s (NoFile line why a) (NoFile place reason b) =
+  one_file keys maps text r s (Told p x a) (NoFile line why b) = let both : Ok a.0 ≡ Err (FileError.Refused line why) = files text (Ok a.0) (Err (FileError.Refused line why)) a.1 b in absurd cc
+  one_file keys maps text r s (NoFile line why b) (Told p x a) = let both : Ok a.0 ≡ Err (FileError.Refused line why) = files text (Ok a.0) (Err (FileError.Refused line why)) a.1 b in absurd cc
+  one_file keys maps text r s (NoFile line why a) (NoFile place reason b) =
       let both = files text (Err (FileError.Refused line why)) (Err (FileError.Refused place reason)) a b in
       prints r s cc
 
@@ -257,10 +257,11 @@ module _ (words : WordsAreDetermined) (encodings : EncodingsAreDetermined) (refu
   one_answer (command.Asm listing) text r s h t a b n m = one_assembly listing text r s (of_assembly listing text r a n) (of_assembly listing text s b m)
   one_answer (command.Disasm pc) text r s h t a b n m = one_listing pc text r s (of_listing pc text r a n) (of_listing pc text s b m)
   one_answer (command.Run options) text r s h t a b n m =
+      let keys = options.keys in
       let maps = options.maps in
-      let one = subst (λ (w : Option ℕ). IsRunBy w maps text r) t a in
-      let other = subst (λ (w : Option ℕ). IsRunBy w maps text s) t b in
-      one_file maps text r s (of_file maps text r one n) (of_file maps text s other m)
+      let one = subst (λ (w : Option ℕ). IsRunBy w keys maps text r) t a in
+      let other = subst (λ (w : Option ℕ). IsRunBy w keys maps text s) t b in
+      one_file keys maps text r s (of_file keys maps text r one n) (of_file keys maps text s other m)
   one_answer command.Debug text r s h t a b n m = one_debug files runs scripts text r s a b n m
 
   one_input : (c : Command) (input : List ℕ) (r s : Reply) → HasShortContext c → IsForOneThread c → OfInput c input r → OfInput c input s → IsOfInput r → IsOfInput s → PrintsAs r s

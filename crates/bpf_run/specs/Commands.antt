@@ -10,7 +10,7 @@ use Rattle.bpf_cpu.specs.State.{start}
 use Rattle.bpf_cpu.specs.Step.{Explains}
 use Rattle.bpf_jobs.specs.Printed.{IsReport}
 use Rattle.bpf_workers.specs.Printed.{IsWorkersReport}
-use Rattle.bpf_run.specs.Script.{first_world_of, IsScriptOfFile}
+use Rattle.bpf_run.specs.Script.{asked_world_of, IsScriptOfFile}
 use Rattle.bpf_file.specs.declared.error.FileError.TheVariants as FileError
 use Rattle.bpf_file.specs.File.{File}
 use Rattle.bpf_file.specs.Reading.{IsRunFile}
@@ -106,35 +106,38 @@ RefusesFile text (refusal.File line why) = IsRunFile text (Err (FileError.Refuse
 RefusesFile text refusal.OutOfMemory = Unit {0}
 RefusesFile text _ = ⊥
 
--- `run`: the lines of the jobs that the file says, run in rounds over a new store of its maps, and
--- then those of the maps where they are asked for; or the file's first refusal
-abbrev pub IsRunOfFile : Bool → List ℕ → Reply → Type 0
-IsRunOfFile maps text (reply.Jobs printed stopped) = (f : File) × IsRunFile text (Ok f)
-    × IsReport (first_world_of f) f.names maps (string_bytes printed) stopped
-IsRunOfFile maps text (reply.Refused r) = RefusesFile text r
-IsRunOfFile maps text _ = ⊥
+-- `run`: the lines of the jobs that the file says, run in rounds over a new store of its maps; then
+-- where they are asked for, those of the keys that each CPU lists with the end of its last job, and
+-- those of the maps; or the file's first refusal
+abbrev pub IsRunOfFile : (keys maps : Bool) → List ℕ → Reply → Type 0
+IsRunOfFile keys maps text (reply.Jobs printed stopped) = (f : File) × IsRunFile text (Ok f)
+    × IsReport (asked_world_of keys f) f.names maps (string_bytes printed) stopped
+IsRunOfFile keys maps text (reply.Refused r) = RefusesFile text r
+IsRunOfFile keys maps text _ = ⊥
 
 -- `run --workers`: the lines of the jobs that the file says, ended as one history of a new store of
--- its maps explains, and then those of the maps that this history leaves, where they are asked for;
--- or the file's first refusal; or, of a file that is accepted, want of memory for its jobs
-abbrev pub IsRunByWorkers : Bool → List ℕ → Reply → Type 0
-IsRunByWorkers maps text (reply.Jobs printed stopped) = (f : File) × IsRunFile text (Ok f)
-    × IsWorkersReport f maps (string_bytes printed) stopped
-IsRunByWorkers maps text (reply.Refused refusal.JobsOutOfMemory) =
+-- its maps explains; then, where they are asked for, those of the keys that each CPU lists in this
+-- history behind its jobs, and those of the maps that it leaves; or the file's first refusal; or, of
+-- a file that is accepted, want of memory for its jobs and lists
+abbrev pub IsRunByWorkers : (keys maps : Bool) → List ℕ → Reply → Type 0
+IsRunByWorkers keys maps text (reply.Jobs printed stopped) = (f : File) × IsRunFile text (Ok f)
+    × IsWorkersReport f keys maps (string_bytes printed) stopped
+IsRunByWorkers keys maps text (reply.Refused refusal.JobsOutOfMemory) =
     (f : File) × IsRunFile text (Ok f)
-IsRunByWorkers maps text (reply.Refused r) = RefusesFile text r
-IsRunByWorkers maps text _ = ⊥
+IsRunByWorkers keys maps text (reply.Refused r) = RefusesFile text r
+IsRunByWorkers keys maps text _ = ⊥
 
-abbrev pub IsRunBy : Option ℕ → Bool → List ℕ → Reply → Type 0
-IsRunBy None maps text r = IsRunOfFile maps text r
-IsRunBy (Some workers) maps text r = IsRunByWorkers maps text r
+abbrev pub IsRunBy : Option ℕ → (keys maps : Bool) → List ℕ → Reply → Type 0
+IsRunBy None keys maps text r = IsRunOfFile keys maps text r
+IsRunBy (Some workers) keys maps text r = IsRunByWorkers keys maps text r
 
 -- what a command replies to the text
 abbrev pub IsAnswer : Command → List ℕ → Reply → Type 0
 IsAnswer (command.Hex options) text r = IsRun options.budget options.context.items text r
 IsAnswer (command.Asm listing) text r = IsAssembled listing text r
 IsAnswer (command.Disasm pc) text r = IsDisassembled pc text r
-IsAnswer (command.Run options) text r = IsRunBy options.workers options.maps text r
+IsAnswer (command.Run options) text r =
+    IsRunBy options.workers options.keys options.maps text r
 IsAnswer command.Debug text r = IsScriptOfFile text r
 
 -- it asks for no workers

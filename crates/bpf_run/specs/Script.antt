@@ -3,7 +3,7 @@ use Rattle.std.specs.Prelude.{◌≡◌, ◌⊎◌, ℕ, Bool, true, false, List
 use Rattle.std.specs.Str.{bytes_eq}
 use Rattle.bpf_lines.specs.Lines.{lines_of, fields_of}
 use Rattle.bpf_machine.specs.Schedule.{World}
-use Rattle.bpf_jobs.specs.Printed.{first_world, any_stopped}
+use Rattle.bpf_jobs.specs.Printed.{any_stopped, asked_world, first_world}
 use Rattle.bpf_file.specs.declared.error.FileError.TheVariants as FileError
 use Rattle.bpf_file.specs.declared.file.RunFile.{RunFile}
 use Rattle.bpf_file.specs.File.{File, file_of}
@@ -44,7 +44,12 @@ IsCut input file commands =
 abbrev pub first_world_of : File → World
 first_world_of f = first_world (record { cpus = f.cpus; maps = f.maps }) f.programs f.jobs
 
--- it, without breakpoints
+-- the same, in which lists of keys are asked for or not
+abbrev pub asked_world_of : Bool → File → World
+asked_world_of keys f =
+    asked_world keys (record { cpus = f.cpus; maps = f.maps }) f.programs f.jobs
+
+-- the first of these, without breakpoints
 abbrev pub scene_of : File → Scene
 scene_of f = record { world = first_world_of f; names = f.names; breaks = [] }
 

@@ -157,10 +157,11 @@ pub fn reply(alloc: Global, command: Command, text: &str) -> Reply
         Command::Disasm { pc } => disassembled(alloc, pc, text),
         Command::Run(
             FileOptions {
+                keys,
                 maps,
                 workers: None,
             },
-        ) => run_file(alloc, maps, text),
+        ) => run_file(alloc, keys, maps, text),
         Command::Run(
             FileOptions {
                 workers: Some(_),
@@ -183,10 +184,11 @@ pub fn reply_by_workers<T: Threads + Wait + Sync>(
     match command {
         Command::Run(
             FileOptions {
+                keys,
                 maps,
                 workers: Some(workers),
             },
-        ) => run_file_by_workers(rt, alloc, workers, maps, text),
+        ) => run_file_by_workers(rt, alloc, workers, keys, maps, text),
         command => reply(alloc, command, text),
     }
 }

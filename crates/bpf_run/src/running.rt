@@ -10,7 +10,7 @@ ghost use Rattle.bpf_run.specs.Commands.{IsRunByWorkers, IsRunOfFile, RefusesFil
 use crate::refusal::Refusal;
 use crate::reply::Reply;
 use bpf_file::{FileError, RunFile, read_file};
-use bpf_jobs::{Report, run_in_rounds};
+use bpf_jobs::{Report, run_jobs};
 use bpf_workers::{WorkError, run_by_workers};
 use std::alloc::Global;
 use std::sync::Wait;
@@ -31,8 +31,8 @@ fn file_in(alloc: Global, text: &str) -> Result<RunFile, Refusal>
 
 /// `ebpf run`.
 #[tactic(auto, using(crate::proofs::FreshFiles::told))]
-pub fn run_file(alloc: Global, maps: bool, text: &str) -> Reply
-    ensures { IsRunOfFile maps text.now result }
+pub fn run_file(alloc: Global, keys: bool, maps: bool, text: &str) -> Reply
+    ensures { IsRunOfFile keys maps text.now result }
 {
     let file = match file_in(alloc, text) {
         Ok(file) => file,
@@ -45,7 +45,7 @@ pub fn run_file(alloc: Global, maps: bool, text: &str) -> Reply
         jobs,
         ..
     } = file;
-    match run_in_rounds(alloc, shape, &names, programs, jobs, maps) {
+    match run_jobs(alloc, shape, &names, programs, jobs, keys, maps) {
         Ok(Report { text, stopped }) => Reply::Jobs(text, stopped),
         Err(_) => Reply::Refused(Refusal::OutOfMemory),
     }
@@ -56,17 +56,18 @@ pub fn run_file_by_workers<T: Threads + Wait + Sync>(
     rt: &T,
     alloc: Global,
     workers: u8,
+    keys: bool,
     maps: bool,
     text: &str,
 ) -> Reply
     requires { AreWorkers workers }
-    ensures { IsRunByWorkers maps text.now result }
+    ensures { IsRunByWorkers keys maps text.now result }
 {
     let file = match file_in(alloc, text) {
         Ok(file) => file,
         Err(reason) => return Reply::Refused(reason),
     };
-    match run_by_workers(rt, alloc, file, workers, maps) {
+    match run_by_workers(rt, alloc, file, workers, keys, maps) {
         Ok(Report { text, stopped }) => Reply::Jobs(text, stopped),
         Err(WorkError::Jobs) => Reply::Refused(Refusal::JobsOutOfMemory),
         Err(WorkError::OutOfMemory) => Reply::Refused(Refusal::OutOfMemory),

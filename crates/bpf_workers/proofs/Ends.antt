@@ -1,5 +1,5 @@
 -- Jobs that have ended, one by one.
-use Rattle.std.proofs.Common.{◌≡◌, ℕ, zero, suc, ◌+◌, ◌<◌, List, [], ◌∷◌, ◌++◌, length, map, get_or, Option, Some, refl, sym, ap, subst, ◌∙◌, arith}
+use Rattle.std.proofs.Common.{◌≡◌, ℕ, zero, suc, ◌+◌, ◌<◌, List, [], ◌∷◌, ◌++◌, length, map, get_or, Option, Some, refl, sym, ap, subst, ◌∙◌, append_assoc, arith}
 use Rattle.std.proofs.lemmas.List.{length-map}
 use Rattle.std.specs.Prelude.{Bool, ◌||◌, option_and_then, slice_get}
 use Rattle.bpf_shared.specs.Store.{Plain}
@@ -7,7 +7,7 @@ use Rattle.bpf_cpu.specs.declared.job.Job.{Job}
 use Rattle.bpf_cpu.specs.declared.outcome.Outcome.{Outcome}
 use Rattle.bpf_cpu.specs.Lines.{job_line}
 use Rattle.bpf_cpu.specs.Task.{Task, Ended, ended, waiting}
-use Rattle.bpf_jobs.specs.Printed.{any_stopped, is_stop, AreMapsAsked, job_lines, task_line, Tells}
+use Rattle.bpf_jobs.specs.Printed.{any_stopped, is_stop, AreMapsAsked, job_lines, task_line, TellsWith}
 use Rattle.bpf_workers.specs.Printed.{as_ended}
 
 pub length_ended : (tasks : List Task) (ends : List Outcome) → length ends ≡ length tasks → length (as_ended tasks ends) ≡ length tasks
@@ -69,16 +69,19 @@ one_stop_more tasks ends j end so_far stop inside sizes before is =
     ∙ ap (λ (o : Option Task). any_stopped j all || is_stop (option_and_then (λ (task : Task). ended task.stage) o)) (sym found))
 
 -- all that is told of jobs that have ended so
-pub told : (jobs : List Job) (ends : List Outcome) (last : Plain) (names : List (List ℕ)) (maps : Bool) (text lines new : List ℕ) (stopped : Bool)
-    → length ends ≡ length jobs → AreMapsAsked maps last names lines → text ≡ job_lines (length jobs) (as_ended (map waiting jobs) ends) → new ≡ text ++ lines
+pub told : (jobs : List Job) (ends : List Outcome) (last : Plain) (names : List (List ℕ)) (maps : Bool) (text listed keys lines both new : List ℕ) (stopped : Bool)
+    → length ends ≡ length jobs → AreMapsAsked maps last names lines → text ≡ job_lines (length jobs) (as_ended (map waiting jobs) ends) → keys ≡ listed
+    → both ≡ text ++ keys → new ≡ both ++ lines
     → ((tasks : List Task) → length tasks ≡ length ends → stopped ≡ any_stopped (length ends) (as_ended tasks ends))
-    → Tells last (as_ended (map waiting jobs) ends) names maps new stopped
-told jobs ends last names maps text lines new stopped sizes asked line more stops =
+    → TellsWith listed last (as_ended (map waiting jobs) ends) names maps new stopped
+told jobs ends last names maps text listed keys lines both new stopped sizes asked line lists more all_more stops =
     let all = as_ended (map waiting jobs) ends in
     let tasks : length (map waiting jobs) ≡ length jobs = length-map jobs waiting in
     let whole : length all ≡ length jobs = length_ended (map waiting jobs) ends (sizes ∙ sym tasks) ∙ tasks in (
       lines,
       asked,
-      more ∙ ap (λ (t : List ℕ). t ++ lines) (line ∙ ap (λ (n : ℕ). job_lines n all) (sym whole)),
+      all_more ∙ (ap (λ (t : List ℕ). t ++ lines) more ∙ (append_assoc text keys lines
+          ∙ (ap (λ (t : List ℕ). t ++ (keys ++ lines)) (line ∙ ap (λ (n : ℕ). job_lines n all) (sym whole))
+          ∙ ap (λ (t : List ℕ). job_lines (length all) all ++ (t ++ lines)) lists))),
       stops (map waiting jobs) (tasks ∙ sym sizes) ∙ ap (λ (n : ℕ). any_stopped n all) (sizes ∙ sym whole),
     )

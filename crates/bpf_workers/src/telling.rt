@@ -1,14 +1,17 @@
-//! The lines of jobs that workers have run, and of the maps that they leave.
+//! The lines of jobs that workers have run, of what their CPUs have listed, and of the maps that
+//! they leave.
 
-ghost use Rattle.std.specs.Prelude.{◌≡◌, IfOk, length, List, map, string_bytes};
+ghost use Rattle.std.specs.Prelude.{◌≡◌, ◌++◌, IfOk, OnOk, length, List, map, string_bytes};
 ghost use Rattle.bpf_shared.specs.Store.{Plain};
 ghost use Rattle.bpf_cpu.specs.Task.{Task, waiting};
-ghost use Rattle.bpf_jobs.specs.Printed.{any_stopped, AreMapsAsked, AreMapLines, job_lines, Tells};
+ghost use Rattle.bpf_jobs.specs.Printed.{any_stopped, AreMapsAsked, AreMapLines, cpu_lines, job_lines, list_lines, TellsWith};
+ghost use Rattle.bpf_sched.specs.Worked.{listed_by};
 ghost use Rattle.hop_map.specs.Dumping.{IsLast};
 ghost use Rattle.bpf_workers.specs.Printed.{as_ended};
 
 use bpf_cpu::{Job, Outcome};
-use bpf_jobs::{Report, is_stop, push_job, push_map};
+use bpf_jobs::{Report, is_stop, push_job, push_lists, push_map};
+use bpf_shared::KeyList;
 use hop_map::Closed;
 use std::alloc::{AllocError, Global};
 
@@ -35,6 +38,41 @@ fn has_stopped(ends: &[Outcome]) -> bool
         stopped |= is_stop(*end);
     }
     stopped
+}
+
+/// Puts the lines of all that a CPU has listed behind the text, where lists are told by CPU.
+fn push_listed(
+    alloc: Global,
+    text: &mut String,
+    cpu: u8,
+    names: &[String],
+    lists: &[Vec<KeyList>],
+) -> Result<(), AllocError>
+    ensures { OnOk result (string_bytes text.new ≡ string_bytes text.old
+        ++ cpu_lines cpu (map string_bytes names.now) (length (listed_by lists.now cpu))
+        (listed_by lists.now cpu)) }
+{
+    match lists.get(usize::from(cpu)) {
+        Some(found) => push_lists(alloc, text, cpu, names, found),
+        None => Ok(()),
+    }
+}
+
+/// The lines of all that CPUs have listed, by rising CPU.
+fn list_keys(
+    alloc: Global,
+    lists: &[Vec<KeyList>],
+    cpus: u8,
+    names: &[String],
+) -> Result<String, AllocError>
+    ensures { IfOk result (λ text. string_bytes text
+        ≡ list_lines (listed_by lists.now) (map string_bytes names.now) cpus) }
+{
+    let mut text = String::new(alloc);
+    for cpu in 0..cpus {
+        push_listed(alloc, &mut text, cpu, names, lists)?;
+    }
+    Ok(text)
 }
 
 /// The lines of all maps, which have these names, in the order of their numbers.
@@ -67,21 +105,27 @@ fn asked_lines(
     }
 }
 
-/// What is printed of jobs that have ended so, and of what is left of their store.
+/// What is printed of jobs that have ended so, of what so many CPUs have listed, and of what is left
+/// of their store.
 pub(crate) fn tell(
     alloc: Global,
     jobs: &[Job],
     ends: &[Outcome],
+    lists: &[Vec<KeyList>],
+    cpus: u8,
     closed: &Closed,
     names: &[String],
     maps: bool,
 ) -> Result<Report, AllocError>
     requires { length ends.now ≡ length jobs.now }
     ensures { IfOk result (λ r. (last : Plain) → IsLast closed.now last
-        → Tells last (as_ended (map waiting jobs.now) ends.now) (map string_bytes names.now) maps
+        → TellsWith (list_lines (listed_by lists.now) (map string_bytes names.now) cpus)
+        last (as_ended (map waiting jobs.now) ends.now) (map string_bytes names.now) maps
         (string_bytes r.text) r.stopped) }
 {
     let mut text = list_jobs(alloc, jobs, ends)?;
+    let keys = list_keys(alloc, lists, cpus, names)?;
+    text.push_str(keys.as_str())?;
     let lines = asked_lines(alloc, closed, names, maps)?;
     text.push_str(lines.as_str())?;
     let stopped = has_stopped(ends);

@@ -28,18 +28,20 @@ pub enum WorkError {
 }
 
 /// Runs the jobs of a run file by so many workers, over a new store, and makes what is printed of
-/// them. Want of memory is the only refusal; all that the jobs need is there before the first
+/// them. Where keys are asked for, each CPU with jobs lists those of all maps behind them. Want of
+/// memory is the only refusal; all that the jobs and the lists need is there before the first
 /// begins.
 pub fn run_by_workers<R: Threads + Wait + Sync>(
     rt: &R,
     alloc: Global,
     file: RunFile,
     workers: u8,
+    keys: bool,
     maps: bool,
 ) -> Result<Report, WorkError>
     requires file { IsRunnable file }
     requires workers { AreWorkers workers }
-    ensures { IfOk result (λ r. IsWorkersReport (file_of file) maps
+    ensures { IfOk result (λ r. IsWorkersReport (file_of file) keys maps
         (string_bytes r.text) r.stopped) }
 {
     let RunFile {
@@ -49,6 +51,7 @@ pub fn run_by_workers<R: Threads + Wait + Sync>(
         programs,
         jobs,
     } = file;
+    let cpus = shape.cpus();
     let Ok(store) = HopStore::new(alloc, shape, seed) else {
         return Err(WorkError::OutOfMemory);
     };
@@ -59,7 +62,7 @@ pub fn run_by_workers<R: Threads + Wait + Sync>(
         &programs,
         &jobs,
         usize::from(workers),
-        false,
+        keys,
         &NoGate,
     ) {
         Ok(done) => done,
@@ -72,7 +75,16 @@ pub fn run_by_workers<R: Threads + Wait + Sync>(
         // There are workers, not too many, and a file's jobs are on its CPUs.
         Err(_) => unreachable!(),
     };
-    match tell(alloc, &jobs, &done.outcomes, &done.closed, &names, maps) {
+    match tell(
+        alloc,
+        &jobs,
+        &done.outcomes,
+        &done.lists,
+        cpus,
+        &done.closed,
+        &names,
+        maps,
+    ) {
         Ok(report) => Ok(report),
         Err(_) => Err(WorkError::OutOfMemory),
     }

@@ -1,12 +1,18 @@
 use Rattle.std.proofs.Common.{List, ℕ, ◌++◌, ap, map, ◌∙◌}
 use Rattle.std.specs.Prelude.{string_bytes}
+use Rattle.bpf_jobs.specs.Printed.{list_lines}
+use Rattle.bpf_sched.specs.Worked.{listed_by}
 use Rattle.bpf_workers.proofs.Ends.{told}
 use Rattle.bpf_workers.proofs.telling.tell.Goals as goal
 
 pub returns : goal.returns
 returns c last known =
     let text = string_bytes c.in_ok-text.text in
-    told c.args.jobs.now c.args.ends.now last (map string_bytes c.args.names.now) c.args.maps text (string_bytes c.in_ok-lines.lines) (string_bytes c.push_str.new.self) c.has_stopped-stopped.result
-    c.requires (c.in_ok-lines.ensures last known) c.in_ok-text.ensures
+    let both = string_bytes c.push_str.new.self in
+    let names = map string_bytes c.args.names.now in
+    told c.args.jobs.now c.args.ends.now last names c.args.maps text (list_lines (listed_by c.args.lists.now) names c.args.cpus)
+    (string_bytes c.in_ok-keys.keys) (string_bytes c.in_ok-lines.lines) both (string_bytes c.push_str-2.new.self) c.has_stopped-stopped.result
+    c.requires (c.in_ok-lines.ensures last known) c.in_ok-text.ensures c.in_ok-keys.ensures
     (c.in_ok-push_str.ensures.bytes ∙ ap (λ (more : List ℕ). text ++ more) c.as_str.ensures.value)
+    (c.in_ok-push_str-2.ensures.bytes ∙ ap (λ (more : List ℕ). both ++ more) c.as_str-2.ensures.value)
     c.has_stopped-stopped.ensures
