@@ -67,6 +67,7 @@ The commands, one a line, with a CPU C, a pc P, an address A and a number N of b
   delete C P  takes that breakpoint back
   step C      one turn of C
   step C N    N turns of C, 1 to 1000000
+  steps C*N ..  the turns of a schedule: N turns of C, then those of the next word
   go          rounds of turns, up to a breakpoint or until no CPU has work
   regs C      the registers
   where C     the job in hand, the pc and the depth of calls
