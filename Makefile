@@ -26,6 +26,7 @@ test: ## The whole gate: every proof, every must-fail edit, every test, then the
 	tests/memory ./ebpf
 	tests/streams ./ebpf
 	tests/hostile ./ebpf
+	tests/orders ./ebpf
 	tests/docs ./ebpf
 	tests/docs --self-test ./ebpf
 	tests/completions ./ebpf

@@ -1,0 +1,336 @@
+"""A small model of CPUs that run programs over one map, for a few instructions, and every outcome
+that any order of their turns can have, by going through all of it.
+
+It shares nothing with the program: states are Python values, each turn of each CPU is made from each
+state, and nothing is left out for being private. What the instructions, helpers and turns do is
+written down here after docs/reference/machine.md.
+"""
+
+import random
+
+WORD = 2**64
+EEXIST, ENOENT, E2BIG, ENOMEM = WORD - 17, WORD - 2, WORD - 7, WORD - 12
+KEY, VALUE = "key", "value"
+NO_CPU = frozenset()
+
+# An instruction is its text, its words, and what it does: a tuple of a name and operands.
+
+
+def text_of(instruction):
+    kind, *operands = instruction
+    return {
+        "set": "{0} = {1}",
+        "copy": "{0} = {1}",
+        "plus": "{0} += {1}",
+        "key": "*(u32 *)(r10 - 4) = {0}",
+        "value": "*(u64 *)(r10 - 16) = {0}",
+        "map": "r1 = map 0",
+        "top2": "r2 = r10",
+        "to_key": "r2 += -4",
+        "top3": "r3 = r10",
+        "to_value": "r3 += -16",
+        "call": "call {0}",
+        "load": "{0} = *(u64 *)({1} + 0)",
+        "store": "*(u64 *)({0} + 0) = {1}",
+        "add": "lock *(u64 *)({0} + 0) += {1}",
+        "fetch_add": "{1} = atomic_fetch_add((u64 *)({0} + 0), {1})",
+        "exchange": "{1} = xchg_64({0} + 0, {1})",
+        "compare": "r0 = cmpxchg_64({0} + 0, r0, {1})",
+        "if_zero": "if {0} == 0 goto +{1}",
+        "exit": "exit",
+    }[kind].format(*operands)
+
+
+def words_of(instruction):
+    return 2 if instruction[0] == "map" else 1
+
+
+class Program:
+    def __init__(self, instructions):
+        self.instructions = instructions
+        self.at = {}
+        pc = 0
+        for instruction in instructions:
+            self.at[pc] = instruction
+            pc += words_of(instruction)
+
+    def lines(self):
+        return [text_of(instruction) for instruction in self.instructions]
+
+
+# What a CPU has in hand: job, pc, registers, the key's and the value's bytes, steps left, the held
+# elements. A register holds a number, or ("element", n) for a value's address.
+# What the store has: keys with their elements, each element's value, the CPUs in a run, and of each
+# element the CPUs that keep it.
+
+
+class File:
+    def __init__(self, cpus, most, spare, jobs):
+        self.cpus, self.most, self.spare = cpus, most, spare
+        # (cpu, program, budget)
+        self.jobs = jobs
+
+    def text(self):
+        lines = ["ebpf-run 1", f"cpus {self.cpus}", f"map m key 4 value 8 max {self.most} spare {self.spare}"]
+        for number, (_, program, _) in enumerate(self.jobs):
+            lines += [f"prog p{number}", *program.lines(), "end"]
+        lines += [f"job {cpu} p{n} budget {budget}" for n, (cpu, _, budget) in enumerate(self.jobs)]
+        return "".join(line + "\n" for line in lines)
+
+    def first(self):
+        elements = tuple((0, NO_CPU) for _ in range(self.most + self.spare))
+        return ((), elements, frozenset()), (None,) * self.cpus, (None,) * len(self.jobs)
+
+    # A state is the store, each CPU's hand, each job's outcome.
+
+    def next_job(self, state, cpu):
+        for number, (its, _, _) in enumerate(self.jobs):
+            if its == cpu and state[2][number] is None:
+                return number
+        return None
+
+    def turn(self, state, cpu):
+        """The state after the CPU's turn, or none where it has no work."""
+        store, hands, ends = state
+        hand = hands[cpu]
+        if hand is None:
+            job = self.next_job(state, cpu)
+            if job is None:
+                return None
+            registers = tuple([0] * 10)
+            hand = (job, 0, registers, (0, 0), self.jobs[job][2], frozenset())
+            store = (store[0], store[1], store[2] | {cpu})
+        job, pc, registers, frame, left, held = hand
+        if left == 0:
+            outcome = f"out of budget at {pc}"
+        else:
+            left -= 1
+            store, made = self.step(store, cpu, hand)
+            if isinstance(made, str):
+                outcome = made
+            else:
+                pc, registers, frame, held = made
+                outcome = f"out of budget at {pc}" if left == 0 else None
+        if outcome is None:
+            hand = (job, pc, registers, frame, left, held)
+        else:
+            hand = None
+            ends = tuple(outcome if n == job else end for n, end in enumerate(ends))
+            elements = tuple((value, kept - {cpu}) for value, kept in store[1])
+            store = (store[0], elements, store[2] - {cpu})
+        return store, tuple(hand if n == cpu else other for n, other in enumerate(hands)), ends
+
+    def step(self, store, cpu, hand):
+        """The store, and where the CPU goes on, or the job's outcome."""
+        job, pc, registers, frame, _, held = hand
+        instruction = self.jobs[job][1].at[pc]
+        kind, *operands = instruction
+        after = pc + words_of(instruction)
+        number = {f"r{n}": n for n in range(10)}
+
+        def value(operand):
+            return registers[number[operand]]
+
+        def put(name, what):
+            return tuple(what if n == number[name] else old for n, old in enumerate(registers))
+
+        def on(new_registers=registers, new_frame=frame, new_held=held, new_pc=after):
+            return new_pc, new_registers, new_frame, new_held
+
+        keys, elements, running = store
+        if kind in ("set", "copy", "plus"):
+            target, source = operands
+            if kind == "set":
+                return store, on(put(target, source % WORD))
+            if kind == "copy":
+                return store, on(put(target, value(source)))
+            return store, on(put(target, (value(target) + source) % WORD))
+        if kind == "key":
+            return store, on(new_frame=(operands[0], frame[1]))
+        if kind == "value":
+            return store, on(new_frame=(frame[0], operands[0]))
+        if kind in ("map", "top2", "to_key", "top3", "to_value"):
+            return store, on()
+        if kind == "if_zero":
+            taken = value(operands[0]) == 0
+            return store, on(new_pc=after + (operands[1] if taken else 0))
+        if kind == "exit":
+            return store, f"r0={registers[0]}"
+        if kind == "call":
+            return self.call(store, cpu, operands[0], registers, frame, held, on)
+        pointer = value(operands[1] if kind == "load" else operands[0])
+        if not isinstance(pointer, tuple) or pointer[1] not in held:
+            return store, f"fault F1 at {pc}"
+        place = pointer[1]
+        old = elements[place][0]
+
+        def written(new):
+            new_elements = tuple(
+                (new % WORD, kept) if n == place else (was, kept) for n, (was, kept) in enumerate(elements)
+            )
+            return keys, new_elements, running
+
+        if kind == "load":
+            return store, on(put(operands[0], old))
+        if kind == "store":
+            return written(value(operands[1])), on()
+        if kind == "add":
+            return written(old + value(operands[1])), on()
+        if kind == "fetch_add":
+            return written(old + value(operands[1])), on(put(operands[1], old))
+        if kind == "exchange":
+            return written(value(operands[1])), on(put(operands[1], old))
+        # compare
+        new = value(operands[1]) if old == registers[0] else old
+        return written(new), on(put("r0", old))
+
+    def call(self, store, cpu, helper, registers, frame, held, on):
+        """What a helper answers; R1 to R5 are 0 behind it."""
+        keys, elements, running = store
+        found = dict(keys)
+        key = frame[0]
+
+        def answered(store, answer, held=held):
+            return store, on((answer, 0, 0, 0, 0, 0) + registers[6:], new_held=held)
+
+        def freed(elements, place):
+            return tuple((v, running if n == place else k) for n, (v, k) in enumerate(elements))
+
+        if helper == 8:
+            return answered(store, cpu)
+        if helper == 1:
+            if key not in found:
+                return answered(store, 0)
+            return answered(store, ("element", found[key]), held | {found[key]})
+        if helper == 3:
+            if key not in found:
+                return answered(store, ENOENT)
+            left = tuple(sorted((k, e) for k, e in found.items() if k != key))
+            return answered((left, freed(elements, found[key]), running), 0)
+        flags = registers[4]
+        if flags == 1 and key in found:
+            return answered(store, EEXIST)
+        if flags == 2 and key not in found:
+            return answered(store, ENOENT)
+        if key not in found and len(found) == self.most:
+            return answered(store, E2BIG)
+        used = set(found.values())
+        free = [n for n, (_, kept) in enumerate(elements) if n not in used and not kept]
+        if not free:
+            return answered(store, ENOMEM)
+        place = free[0]
+        if key in found:
+            elements = freed(elements, found[key])
+        elements = tuple((frame[1], NO_CPU) if n == place else e for n, e in enumerate(elements))
+        found[key] = place
+        return answered((tuple(sorted(found.items())), elements, running), 0)
+
+    def report(self, state):
+        (keys, elements, _), _, ends = state
+        lines = [f"job {n} cpu {self.jobs[n][0]} {end}" for n, end in enumerate(ends)]
+        lines += sorted(
+            f"map m {key.to_bytes(4, 'little').hex()}={elements[place][0].to_bytes(8, 'little').hex()}"
+            for key, place in keys
+        )
+        return "".join(line + "\n" for line in lines)
+
+    def outcomes(self, most):
+        """All reports, or none where there are more states than so many."""
+        seen, reports, waiting = set(), set(), [self.first()]
+        while waiting:
+            state = waiting.pop()
+            if state in seen:
+                continue
+            seen.add(state)
+            if len(seen) > most:
+                return None
+            new = [self.turn(state, cpu) for cpu in range(self.cpus)]
+            if all(after is None for after in new):
+                reports.add(self.report(state))
+            waiting += [after for after in new if after is not None]
+        return reports
+
+    def by(self, schedule):
+        """The report of the turns of a list of CPUs, and then of rounds."""
+        state = self.first()
+        for cpu in schedule:
+            state = (self.turn(state, cpu) if cpu < self.cpus else None) or state
+        while True:
+            any_work = False
+            for cpu in range(self.cpus):
+                after = self.turn(state, cpu)
+                if after is not None:
+                    state, any_work = after, True
+            if not any_work:
+                return self.report(state)
+
+
+def pointer_to(key):
+    return [("key", key), ("map",), ("top2",), ("to_key",), ("call", 1), ("copy", "r6", "r0")]
+
+
+def update(key, number, flags):
+    return [
+        ("key", key),
+        ("value", number),
+        ("map",),
+        ("top2",),
+        ("to_key",),
+        ("top3",),
+        ("to_value",),
+        ("set", "r4", flags),
+        ("call", 2),
+        ("copy", "r7", "r0"),
+    ]
+
+
+def draw_key(draw):
+    return 1 if draw.random() < 0.2 else 0
+
+
+def draw_call(draw):
+    """A change of the map, whose answer is kept in R7."""
+    key = draw_key(draw)
+    if draw.random() < 0.3:
+        return [("key", key), ("map",), ("top2",), ("to_key",), ("call", 3), ("copy", "r7", "r0")]
+    return update(key, draw.randrange(1, 4), draw.choice([0, 0, 1, 2]))
+
+
+def draw_access(draw):
+    """A look at a value, and something done to it: where the key is absent a fault, or nothing."""
+    lines = pointer_to(draw_key(draw))
+    number = draw.randrange(1, 4)
+    kind = draw.choice(["load", "store", "add", "fetch_add", "exchange", "compare", "slow"])
+    if kind == "load":
+        body = [("load", "r7", "r6")]
+    elif kind == "slow":
+        body = [("load", "r7", "r6"), ("plus", "r7", number), ("store", "r6", "r7")]
+    elif kind == "compare":
+        body = [("set", "r0", draw.randrange(3)), ("set", "r7", number), ("compare", "r6", "r7"), ("copy", "r7", "r0")]
+    else:
+        body = [("set", "r7", number), (kind, "r6", "r7")]
+    if draw.random() < 0.3:
+        body += [("load", "r7", "r6")]
+    return lines + ([("if_zero", "r6", len(body))] if draw.random() < 0.7 else []) + body
+
+
+def draw_program(draw):
+    lines = update(0, draw.randrange(3), 1) if draw.random() < 0.6 else []
+    for _ in range(draw.randrange(1, 3)):
+        lines += draw_call(draw) if draw.random() < 0.3 else draw_access(draw)
+    # No address is told: what R0 ends with is a number.
+    return Program(lines + [("copy", "r0", "r7"), ("exit",)])
+
+
+def draw_file(seed):
+    draw = random.Random(seed)
+    cpus = draw.choice([2, 2, 3])
+    jobs = [(cpu, draw_program(draw)) for cpu in range(cpus)]
+    if cpus == 2 and draw.random() < 0.4:
+        jobs.append((draw.randrange(2), draw_program(draw)))
+    return File(
+        cpus,
+        draw.choice([1, 2]),
+        draw.choice([0, 0, 1]),
+        [(cpu, program, draw.choice([1000] * 5 + [draw.randrange(20)])) for cpu, program in jobs],
+    )
