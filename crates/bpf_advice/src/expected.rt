@@ -13,8 +13,8 @@ pub struct Expectation {
 }
 
 /// The forms of lines. Pieces stand between blanks: `NAME`, `N` and `HEX` are a name, a number and
-/// hex digits, any other is itself.
-const FORMS: [&str; 10] = [
+/// hex digits, any other is itself. The last two are of version 2 alone.
+const FORMS: [&str; 12] = [
     "cpus N",
     "seed N",
     "map NAME key N value N max N spare N",
@@ -25,7 +25,27 @@ const FORMS: [&str; 10] = [
     "job N NAME budget N",
     "job N NAME ctx HEX",
     "job N NAME budget N ctx HEX",
+    "map NAME key N value N max N spare N grow",
+    "map NAME key N value N max N spare N mask N grow",
 ];
+
+/// How many forms version 1 has.
+const FORMS_OF_ONE: usize = 10;
+
+/// How many forms the file's version has, by the first line that says something.
+fn forms_of(file: &str) -> usize {
+    for line in file.split('\n') {
+        let mut words = fields(line);
+        if words.next().is_some() {
+            return if words.next() == Some("2") {
+                FORMS.len()
+            } else {
+                FORMS_OF_ONE
+            };
+        }
+    }
+    FORMS_OF_ONE
+}
 
 fn is_name(word: &str) -> bool {
     let begins = word.starts_with(|letter: char| letter.is_ascii_alphabetic() || letter == '_');
@@ -67,10 +87,11 @@ fn piece_at(form: &'static str, count: usize) -> &'static str {
 /// a form.
 fn pieces_expected(
     alloc: Global,
+    forms: usize,
     words: &[&str],
 ) -> Result<Option<(usize, Vec<&'static str>)>, AllocError> {
     let mut most: usize = 0;
-    for form in FORMS {
+    for form in FORMS.into_iter().take(forms) {
         let count = fitting(form, words);
         if count == words.len() && piece_at(form, count).is_empty() {
             return Ok(None);
@@ -78,7 +99,7 @@ fn pieces_expected(
         most = most.max(count);
     }
     let mut pieces: Vec<&'static str> = Vec::new(alloc);
-    for form in FORMS {
+    for form in FORMS.into_iter().take(forms) {
         let piece = piece_at(form, most);
         if fitting(form, words) == most && !pieces.iter().any(|other| *other == piece) {
             pieces.push(piece)?;
@@ -123,8 +144,13 @@ fn order_of_lines(first: &str) -> &'static str {
 }
 
 /// What is said of a line that has no form there (L2).
-fn of_form(alloc: Global, words: &[&str], places: &[usize]) -> Result<Expectation, AllocError> {
-    match pieces_expected(alloc, words)? {
+fn of_form(
+    alloc: Global,
+    forms: usize,
+    words: &[&str],
+    places: &[usize],
+) -> Result<Expectation, AllocError> {
+    match pieces_expected(alloc, forms, words)? {
         Some((count, pieces)) => Ok(Expectation {
             place: places.get(count).copied().unwrap_or(usize::MAX),
             text: listing(alloc, &pieces)?,
@@ -244,7 +270,7 @@ pub fn expected(
     }
     let places = places_of(alloc, line)?;
     match code {
-        Code::L2 => Ok(Some(of_form(alloc, &words, &places)?)),
+        Code::L2 => Ok(Some(of_form(alloc, forms_of(file), &words, &places)?)),
         Code::L3 => of_number(alloc, &words, &places),
         Code::L5 => of_job(alloc, file, &words, &places),
         _ => Ok(None),

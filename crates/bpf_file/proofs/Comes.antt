@@ -4,6 +4,7 @@ use Rattle.std.specs.Prelude.{slice_get}
 use Rattle.std.proofs.lemmas.Bool.Decides.{nat_tests}
 use Rattle.std.proofs.lemmas.Slice.Eq.{bytes_eq-Decides}
 use Rattle.bpf_mem.specs.Limits.{max_context}
+use Rattle.bpf_file.specs.declared.error.Reason.{Reason}
 use Rattle.bpf_file.specs.declared.error.Reason.TheVariants as reason
 use Rattle.bpf_file.specs.declared.form.Part.{Part as Piece}
 use Rattle.bpf_file.specs.declared.form.Part.TheVariants.{Word, Context}
@@ -12,9 +13,9 @@ use Rattle.bpf_file.specs.declared.key.Key.TheVariants as key
 use Rattle.bpf_file.specs.declared.line.LineError.{LineError}
 use Rattle.bpf_file.specs.declared.line.LineError.TheVariants as line
 use Rattle.bpf_file.specs.Key.{key_text, is_key}
-use Rattle.bpf_file.specs.Form.{is_part, has_form, field_at, version_form, cpus_form, seed_form, map_form, masked_map_form, program_form, words_form, job_form, budget_form, context_form}
+use Rattle.bpf_file.specs.Form.{is_part, has_form, field_at, version_form, second_version_form, cpus_form, seed_form, map_form, masked_map_form, growing_map_form, growing_masked_map_form, program_form, words_form, job_form, budget_form, context_form}
 use Rattle.bpf_base.specs.declared.budget.TheConstants.{MAX_BUDGET}
-use Rattle.bpf_file.specs.Statement.{Said, Version, Cpus, Seed, Map, Program, Words, Job, most_count, count_at, with_number, map_said, work_of, statement_of}
+use Rattle.bpf_file.specs.Statement.{Said, Version, Cpus, Seed, Map, Program, Words, Job, most_count, count_at, with_number, map_said, work_of, growing_of, statement_of}
 use Rattle.bpf_file.specs.Parts.{Part, group_of, is_in_order, is_full}
 use Rattle.bpf_file.specs.Rows.{first_said, later_said, may_stand, placed}
 use Rattle.bpf_file.proofs.Names.{and_both}
@@ -22,7 +23,7 @@ use Rattle.bpf_file.proofs.Names.{and_both}
 -- ---- the group of what a line says
 
 abbrev pub said_group : Said → ℕ
-said_group Version = 1
+said_group (Version may_grow) = 1
 said_group (Cpus n) = 2
 said_group (Seed n) = 3
 said_group (Map name h) = 4
@@ -78,8 +79,8 @@ numbered f (Err e) said h = tt
 
 -- ---- each line
 
-maps_tell : (f : List ℕ) (fields : List (List ℕ)) (mask : ℕ) → group_of f ≡ 4 → TellsAll f (map_said fields mask)
-maps_tell f fields mask e =
+maps_tell : (f : List ℕ) (fields : List (List ℕ)) (mask : ℕ) (grow : Bool) → group_of f ≡ 4 → TellsAll f (map_said fields mask grow)
+maps_tell f fields mask grow e =
     numbered f (count_at fields 3 most_count) _ (λ key.
     numbered f (count_at fields 5 most_count) _ (λ value.
     numbered f (count_at fields 7 most_count) _ (λ max.
@@ -102,19 +103,30 @@ jobs_tell f fs =
     (worded key.Job (job_form ++ budget_form ++ context_form) f fs 6 refl refl h, short_at (job_form ++ budget_form ++ context_form) (f ∷ fs) 6 h refl)))
     tt)))))
 
-lines_tell : (f : List ℕ) (fs : List (List ℕ)) → TellsAll f (statement_of (f ∷ fs))
-lines_tell f fs =
+grows_tell : (may_grow : Bool) (f : List ℕ) (fs : List (List ℕ)) → TellsAll f (growing_of may_grow (f ∷ fs))
+grows_tell false f fs = jobs_tell f fs
+grows_tell true f fs =
+    either f (has_form growing_map_form (f ∷ fs)) _ _ (λ h.
+    maps_tell f (f ∷ fs) (2 ^ 32 - 1) true (worded key.Map growing_map_form f fs 4 refl refl h))
+    (either f (has_form growing_masked_map_form (f ∷ fs)) _ _ (λ h.
+    numbered f (count_at (f ∷ fs) 11 most_count) _ (λ mask.
+    maps_tell f (f ∷ fs) mask true (worded key.Map growing_masked_map_form f fs 4 refl refl h)))
+    (jobs_tell f fs))
+
+lines_tell : (may_grow : Bool) (f : List ℕ) (fs : List (List ℕ)) → TellsAll f (statement_of may_grow (f ∷ fs))
+lines_tell may_grow f fs =
     either f (has_form version_form (f ∷ fs)) _ _ (λ h. (worded key.RunFile version_form f fs 1 refl refl h, tt))
+    (either f (has_form second_version_form (f ∷ fs)) _ _ (λ h. (worded key.RunFile second_version_form f fs 1 refl refl h, tt))
     (either f (has_form cpus_form (f ∷ fs)) _ _ (λ h.
     numbered f (count_at (f ∷ fs) 1 most_count) _ (λ n. (worded key.Cpus cpus_form f fs 2 refl refl h, tt)))
     (either f (has_form seed_form (f ∷ fs)) _ _ (λ h.
     numbered f (count_at (f ∷ fs) 1 (2 ^ 64 - 1)) _ (λ n. (worded key.Seed seed_form f fs 3 refl refl h, tt)))
     (either f (has_form map_form (f ∷ fs)) _ _ (λ h.
-    maps_tell f (f ∷ fs) (2 ^ 32 - 1) (worded key.Map map_form f fs 4 refl refl h))
+    maps_tell f (f ∷ fs) (2 ^ 32 - 1) false (worded key.Map map_form f fs 4 refl refl h))
     (either f (has_form masked_map_form (f ∷ fs)) _ _ (λ h.
     numbered f (count_at (f ∷ fs) 11 most_count) _ (λ mask.
-    maps_tell f (f ∷ fs) mask (worded key.Map masked_map_form f fs 4 refl refl h)))
-    (jobs_tell f fs)))))
+    maps_tell f (f ∷ fs) mask false (worded key.Map masked_map_form f fs 4 refl refl h)))
+    (grows_tell may_grow f fs))))))
 
 -- ---- where it may stand
 
@@ -139,15 +151,18 @@ pub before : (last group n : ℕ) → IsInPlace last group → group < n → las
 before last group n (inl h) g = omega arith
 before last group n (inr (h, k)) g = omega arith
 
-only_version : (r : Result Said LineError) (s : Said) → first_said r ≡ Ok s → s ≡ Version
-only_version (Ok Version) s e = cc
-only_version (Ok (Cpus c)) s e = cc
-only_version (Ok (Seed n)) s e = cc
-only_version (Ok (Map name h)) s e = cc
-only_version (Ok (Program name)) s e = cc
-only_version (Ok (Words name digits)) s e = cc
-only_version (Ok (Job cpu name steps context)) s e = cc
-only_version (Err x) s e = cc
+no_said : (r : Result Said Reason) (s : Said) → r ≡ Err reason.BadFirstLine → r ≡ Ok s → ⊥
+no_said r s e f = cc
+
+only_version : (r : Result Said LineError) (s : Said) → first_said r ≡ Ok s → (may_grow : Bool) × (s ≡ Version may_grow)
+only_version (Ok (Version may_grow)) s e = (may_grow, cc)
+only_version (Ok (Cpus c)) s e = absurd (no_said (first_said (Ok (Cpus c))) s refl e)
+only_version (Ok (Seed n)) s e = absurd (no_said (first_said (Ok (Seed n))) s refl e)
+only_version (Ok (Map name h)) s e = absurd (no_said (first_said (Ok (Map name h))) s refl e)
+only_version (Ok (Program name)) s e = absurd (no_said (first_said (Ok (Program name))) s refl e)
+only_version (Ok (Words name digits)) s e = absurd (no_said (first_said (Ok (Words name digits))) s refl e)
+only_version (Ok (Job cpu name steps context)) s e = absurd (no_said (first_said (Ok (Job cpu name steps context))) s refl e)
+only_version (Err x) s e = absurd (no_said (first_said (Err x)) s refl e)
 
 later : (r : Result Said LineError) (s : Said) → later_said r ≡ Ok s → r ≡ Ok s
 later (Ok t) s e = cc
@@ -173,8 +188,8 @@ placed_comes p f r s tells e = by_first (p.group == 0) refl e
     by_first : (b : Bool) → (p.group == 0) ≡ b → (if b then first_said r else (if may_stand p (group_of f) then later_said r else Err reason.BadLine)) ≡ Ok s → Comes p s
     by_first true h e =
         let C : Said → Type 0 = Comes p in
-        subst C (sym (only_version r s e)) (inl (no_group p.group h), tt)
+        subst C (sym (only_version r s e).1) (inl (no_group p.group h), tt)
     by_first false h e = by_stand (may_stand p (group_of f)) refl e
 
-pub comes : (p : Part) (f : List ℕ) (fs : List (List ℕ)) (s : Said) → placed p f (statement_of (f ∷ fs)) ≡ Ok s → Comes p s
-comes p f fs s e = placed_comes p f (statement_of (f ∷ fs)) s (lines_tell f fs) e
+pub comes : (p : Part) (f : List ℕ) (fs : List (List ℕ)) (s : Said) → placed p f (statement_of p.may_grow (f ∷ fs)) ≡ Ok s → Comes p s
+comes p f fs s e = placed_comes p f (statement_of p.may_grow (f ∷ fs)) s (lines_tell p.may_grow f fs) e

@@ -139,8 +139,8 @@ IsIdle p = (p.file.jobs ≡ []) × (p.file.programs ≡ [])
 idle : (p : Part) (group : ℕ) → IsFit p → IsInPlace p.group group → group < 5 → IsIdle p
 idle p group f h g = (f.no_jobs (before p.group group 6 h (omega arith)), f.no_programs (before p.group group 5 h g))
 
-fit_first : (p : Part) → IsFit p → IsIdle p → IsFit (with_first p)
-fit_first p f i = record {
+fit_first : (p : Part) (may_grow : Bool) → IsFit p → IsIdle p → IsFit (with_first p may_grow)
+fit_first p may_grow f i = record {
   cpus = f.cpus;
   count = f.count;
   maps = f.maps;
@@ -257,7 +257,7 @@ fit_job n p (Some c) None steps context hc hk hb f = tt
 fit_job n p None k steps context hc hk hb f = tt
 
 adds_fit : (n : ℕ) (p : Part) (s : Said) (r : Result State FileError) → AddsLine n p s r → Comes p s → IsFit p → IsFitResult r
-adds_fit n p Version r e c f = subst IsFitResult (sym e) (fit_first p f (idle p 1 f c.0 (omega arith)))
+adds_fit n p (Version may_grow) r e c f = subst IsFitResult (sym e) (fit_first p may_grow f (idle p 1 f c.0 (omega arith)))
 adds_fit n p (Cpus k) r e c f = subst IsFitResult (sym e) (fit_unless n (cpus_refusal k) _ (fit_cpus p k f (idle p 2 f c.0 (omega arith))))
 adds_fit n p (Seed s) r e c f = subst IsFitResult (sym e) (fit_seed p s f (idle p 3 f c.0 (omega arith)))
 adds_fit n p (Map name h) r e c f = subst IsFitResult (sym e) (fit_unless n (map_refusal p name h) _ (fit_map p name h f (idle p 4 f c.0 (omega arith))))
@@ -278,7 +278,7 @@ says_fit n p (Err why) r e c f = subst IsFitResult (sym e) tt
 fields_fit : (n : ℕ) (p : Part) (fs : List (List ℕ)) (r : Result State FileError) → FieldsSay n p fs r → IsFit p → IsFitResult r
 fields_fit n p [] r e f = subst IsFitResult (sym e) f
 fields_fit n p (g ∷ gs) r a f =
-    says_fit n p (placed p g (statement_of (g ∷ gs))) r a (λ s e. comes p g gs s e) f
+    says_fit n p (placed p g (statement_of p.may_grow (g ∷ gs))) r a (λ s e. comes p g gs s e) f
 
 -- ---- as the reader meets them
 

@@ -9,7 +9,7 @@ use Rattle.bpf_lines.specs.Words.{is_word_byte, is_word, is_name}
 use Rattle.bpf_file.specs.declared.form.Part.{Part}
 use Rattle.bpf_file.specs.declared.form.Part.TheVariants.{Word, Name, Number}
 use Rattle.bpf_file.specs.declared.key.Key.TheVariants as key
-use Rattle.bpf_file.specs.Form.{is_part, has_form, field_at, map_form, masked_map_form}
+use Rattle.bpf_file.specs.Form.{is_part, has_form, field_at, map_form, masked_map_form, growing_map_form, growing_masked_map_form}
 
 pub and_both : (a b : Bool) → (a && b) ≡ true → (a ≡ true) × (b ≡ true)
 and_both true b e = (refl, e)
@@ -58,3 +58,9 @@ map_named fs e = named_field (Word key.Map) sizes fs e
 
 pub masked_map_named : (fs : List (List ℕ)) → has_form masked_map_form fs ≡ true → IsUtf8 (field_at fs 1)
 masked_map_named fs e = named_field (Word key.Map) (sizes ++ Word key.Mask ∷ Number ∷ []) fs e
+
+pub growing_map_named : (fs : List (List ℕ)) → has_form growing_map_form fs ≡ true → IsUtf8 (field_at fs 1)
+growing_map_named fs e = named_field (Word key.Map) (sizes ++ Word key.Grow ∷ []) fs e
+
+pub growing_masked_map_named : (fs : List (List ℕ)) → has_form growing_masked_map_form fs ≡ true → IsUtf8 (field_at fs 1)
+growing_masked_map_named fs e = named_field (Word key.Map) (sizes ++ Word key.Mask ∷ Number ∷ Word key.Grow ∷ []) fs e

@@ -65,7 +65,7 @@ one_of_words W R F None n p name digits r q (o, a, e) (u, b, f) =
     e ∙ ap (program_added p name) (one_by_digits W R F n (length p.file.maps) (decode_of digits) o u a b) ∙ sym f
 
 one_row : WordsAreDetermined → RefusalsAreDetermined → FirstIsDetermined → (n : ℕ) (p : Part) (s : Said) (r q : Result State FileError) → AddsLine n p s r → AddsLine n p s q → r ≡ q
-one_row W R F n p Version r q e f = e ∙ sym f
+one_row W R F n p (Version may_grow) r q e f = e ∙ sym f
 one_row W R F n p (Cpus c) r q e f = e ∙ sym f
 one_row W R F n p (Seed s) r q e f = e ∙ sym f
 one_row W R F n p (Map name h) r q e f = e ∙ sym f
@@ -79,7 +79,7 @@ one_saying W R F n p (Err why) r q e f = e ∙ sym f
 
 one_of_fields : WordsAreDetermined → RefusalsAreDetermined → FirstIsDetermined → (n : ℕ) (p : Part) (fs : List (List ℕ)) (r q : Result State FileError) → FieldsSay n p fs r → FieldsSay n p fs q → r ≡ q
 one_of_fields W R F n p [] r q e f = e ∙ sym f
-one_of_fields W R F n p (g ∷ gs) r q a b = one_saying W R F n p (placed p g (statement_of (g ∷ gs))) r q a b
+one_of_fields W R F n p (g ∷ gs) r q a b = one_saying W R F n p (placed p g (statement_of p.may_grow (g ∷ gs))) r q a b
 
 one_belonging : TextsAreDetermined → FirstIsDetermined → (end : Bool) (p : Part) (from : ℕ) (name : List ℕ) (ls : List (List ℕ)) (l : List ℕ) (r q : Result State FileError) → Belongs end p from name ls l r → Belongs end p from name ls l q → r ≡ q
 one_belonging T F true p from name ls l r q (o, a, e) (u, b, f) =

@@ -38,6 +38,10 @@ field_at fields at = get_or fields at []
 abbrev pub version_form : List Part
 version_form = Word key.RunFile ∷ Word key.One ∷ []
 
+-- `ebpf-run 2`
+abbrev pub second_version_form : List Part
+second_version_form = Word key.RunFile ∷ Word key.Two ∷ []
+
 -- `cpus N`
 abbrev pub cpus_form : List Part
 cpus_form = Word key.Cpus ∷ Number ∷ []
@@ -54,6 +58,13 @@ map_form =
 
 abbrev pub masked_map_form : List Part
 masked_map_form = map_form ++ Word key.Mask ∷ Number ∷ []
+
+-- in version 2 also with `grow` behind that
+abbrev pub growing_map_form : List Part
+growing_map_form = map_form ++ Word key.Grow ∷ []
+
+abbrev pub growing_masked_map_form : List Part
+growing_masked_map_form = masked_map_form ++ Word key.Grow ∷ []
 
 -- `prog NAME`, and `prog NAME hex DIGITS`
 abbrev pub program_form : List Part

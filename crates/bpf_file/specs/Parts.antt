@@ -1,6 +1,6 @@
 -- How far a run file goes: what the lines before one have said, and which line may follow (our
 -- own choice).
-use Rattle.std.specs.Prelude.{ℕ, ◌+◌, ◌==◌, ◌&&◌, ◌||◌, nat_le, nat_lt, Bool, if◌then◌else◌, List, [], ◌∷◌, ◌++◌, length, Option, Some, None}
+use Rattle.std.specs.Prelude.{ℕ, ◌+◌, ◌==◌, ◌&&◌, ◌||◌, nat_le, nat_lt, Bool, false, if◌then◌else◌, List, [], ◌∷◌, ◌++◌, length, Option, Some, None}
 use Rattle.std.specs.Option.{option_map}
 use Rattle.std.specs.Str.{bytes_eq}
 use Rattle.bpf_shared.specs.declared.shapes.MapShape.{MapShape}
@@ -11,10 +11,11 @@ use Rattle.bpf_file.specs.declared.key.Key.TheVariants as key
 use Rattle.bpf_file.specs.Key.{is_key}
 use Rattle.bpf_file.specs.File.{File}
 
--- the group of the last line that said something, 0 before the first one; the programs' names by
--- their numbers; and the file as far as it goes
+-- the group of the last line that said something, 0 before the first one; whether maps may grow,
+-- by the first line; the programs' names by their numbers; and the file as far as it goes
 pub record Part : Type 0 where
   pub group : ℕ
+  pub may_grow : Bool
   pub titles : List (List ℕ)
   pub file : File
 
@@ -28,6 +29,7 @@ pub data State : Type 0 where
 abbrev pub nothing : Part
 nothing = record {
   group = 0;
+  may_grow = false;
   titles = [];
   file = record { cpus = 1; seed = 0; names = []; maps = []; programs = []; jobs = [] };
 }
@@ -66,8 +68,8 @@ place_of name (n ∷ ns) =
 
 -- ---- what one more line adds
 
-abbrev pub with_first : Part → Part
-with_first p = record p { group = 1 }
+abbrev pub with_first : Part → Bool → Part
+with_first p may_grow = record p { group = 1; may_grow = may_grow }
 
 abbrev pub with_cpus : Part → ℕ → Part
 with_cpus p n = record p { group = 2; file = record p.file { cpus = n } }

@@ -24,7 +24,7 @@ AddsOrRefuses n p (Err why) r = r ≡ Err (Refused n why)
 -- by its fields: a line without any says nothing
 abbrev pub FieldsSay : ℕ → Part → List (List ℕ) → Result State FileError → Type 0
 FieldsSay n p [] r = r ≡ Ok (Between p)
-FieldsSay n p (f ∷ fs) r = AddsOrRefuses n p (placed p f (statement_of (f ∷ fs))) r
+FieldsSay n p (f ∷ fs) r = AddsOrRefuses n p (placed p f (statement_of p.may_grow (f ∷ fs))) r
 
 -- ---- one line of a program
 

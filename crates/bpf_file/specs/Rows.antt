@@ -31,7 +31,7 @@ unless n (Some why) p = Err (Refused n why)
 
 -- the first line that says anything
 abbrev pub first_said : Result Said LineError → Result Said Reason
-first_said (Ok Version) = Ok Version
+first_said (Ok (Version may_grow)) = Ok (Version may_grow)
 first_said said = Err reason.BadFirstLine
 
 -- any other
@@ -108,7 +108,7 @@ job_added n p None program steps context = Err (Refused n reason.Unknown)
 
 -- after so much of the file its n-th line says this: then the file goes on so, or is refused
 abbrev pub AddsLine : ℕ → Part → Said → Result State FileError → Type 0
-AddsLine n p Version r = r ≡ Ok (Between (with_first p))
+AddsLine n p (Version may_grow) r = r ≡ Ok (Between (with_first p may_grow))
 AddsLine n p (Cpus c) r = r ≡ unless n (cpus_refusal c) (with_cpus p c)
 AddsLine n p (Seed s) r = r ≡ Ok (Between (with_seed p s))
 AddsLine n p (Map name h) r = r ≡ unless n (map_refusal p name h) (with_map p name h)

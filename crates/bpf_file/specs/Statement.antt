@@ -1,5 +1,5 @@
 -- What a line of a run file says, where it isn't assembly (our own choice).
-use Rattle.std.specs.Prelude.{◌≡◌, ℕ, ◌-◌, ◌^◌, nat_le, nat_lt, false, if◌then◌else◌, List, ◌++◌, Option, Some, None, Result, Ok, Err}
+use Rattle.std.specs.Prelude.{◌≡◌, ℕ, ◌-◌, ◌^◌, nat_le, nat_lt, Bool, true, false, if◌then◌else◌, List, ◌++◌, Option, Some, None, Result, Ok, Err}
 use Rattle.std.specs.Option.{option_copied}
 use Rattle.bpf_base.specs.declared.budget.TheConstants.{MAX_BUDGET}
 use Rattle.bpf_shared.specs.declared.shapes.MapShape.{MapShape}
@@ -8,14 +8,14 @@ use Rattle.bpf_file.specs.declared.line.LineError.{LineError}
 use Rattle.bpf_file.specs.declared.line.LineError.TheVariants.{BadForm, BadNumber}
 use Rattle.bpf_file.specs.declared.statement.Statement.{Statement}
 use Rattle.bpf_file.specs.declared.statement.Statement.TheVariants as statement
-use Rattle.bpf_file.specs.Form.{has_form, field_at, version_form, cpus_form, seed_form, map_form, masked_map_form, program_form, words_form, job_form, budget_form, context_form}
+use Rattle.bpf_file.specs.Form.{has_form, field_at, version_form, second_version_form, cpus_form, seed_form, map_form, masked_map_form, growing_map_form, growing_masked_map_form, program_form, words_form, job_form, budget_form, context_form}
 
--- the first line; how many CPUs there are; the seed of the maps; a map by its name; a program by
--- its name, its assembly following, or with its words as hex digits; a job: its CPU, where 64
--- bits hold its number, its program's name, and its budget and its context's digits, where the
--- line has them
+-- the first line, and whether maps may grow behind it; how many CPUs there are; the seed of the
+-- maps; a map by its name; a program by its name, its assembly following, or with its words as hex
+-- digits; a job: its CPU, where 64 bits hold its number, its program's name, and its budget and
+-- its context's digits, where the line has them
 pub data Said : Type 0 where
-  Version : Said
+  Version : Bool → Said
   Cpus : ℕ → Said
   Seed : ℕ → Said
   Map : List ℕ → MapShape → Said
@@ -57,17 +57,18 @@ cpus_said fields = with_number (count_at fields 1 most_count) (λ n. Ok (Cpus n)
 abbrev pub seed_said : List (List ℕ) → Result Said LineError
 seed_said fields = with_number (count_at fields 1 (2 ^ 64 - 1)) (λ n. Ok (Seed n))
 
-abbrev pub map_said : List (List ℕ) → ℕ → Result Said LineError
-map_said fields mask =
+abbrev pub map_said : List (List ℕ) → ℕ → Bool → Result Said LineError
+map_said fields mask grow =
     with_number (count_at fields 3 most_count) (λ key.
     with_number (count_at fields 5 most_count) (λ value.
     with_number (count_at fields 7 most_count) (λ max.
     with_number (count_at fields 9 most_count) (λ spare.
     Ok (Map (field_at fields 1)
-    (record { key = key; value = value; max = max; spare = spare; mask = mask; grow = false }))))))
+    (record { key = key; value = value; max = max; spare = spare; mask = mask; grow = grow }))))))
 
-abbrev pub masked_said : List (List ℕ) → Result Said LineError
-masked_said fields = with_number (count_at fields 11 most_count) (λ mask. map_said fields mask)
+abbrev pub masked_said : List (List ℕ) → Bool → Result Said LineError
+masked_said fields grow =
+    with_number (count_at fields 11 most_count) (λ mask. map_said fields mask grow)
 
 abbrev pub job_said : List (List ℕ) → Option ℕ → Option (List ℕ) → Result Said LineError
 job_said fields budget context = Ok (Job (held_at fields 1) (field_at fields 2) budget context)
@@ -89,20 +90,29 @@ work_of fields =
     then budgeted_said fields (Some (field_at fields 6))
     else Err BadForm)))))
 
--- WHAT A LINE SAYS, by its fields
-abbrev pub statement_of : List (List ℕ) → Result Said LineError
-statement_of fields =
-    if has_form version_form fields then Ok Version
+-- a line about a map that grows, where there may be such, or about a program or a job
+abbrev pub growing_of : Bool → List (List ℕ) → Result Said LineError
+growing_of false fields = work_of fields
+growing_of true fields =
+    if has_form growing_map_form fields then map_said fields (2 ^ 32 - 1) true
+    else (if has_form growing_masked_map_form fields then masked_said fields true
+    else work_of fields)
+
+-- WHAT A LINE SAYS, by whether maps may grow and by its fields
+abbrev pub statement_of : Bool → List (List ℕ) → Result Said LineError
+statement_of may_grow fields =
+    if has_form version_form fields then Ok (Version false)
+    else (if has_form second_version_form fields then Ok (Version true)
     else (if has_form cpus_form fields then cpus_said fields
     else (if has_form seed_form fields then seed_said fields
-    else (if has_form map_form fields then map_said fields (2 ^ 32 - 1)
-    else (if has_form masked_map_form fields then masked_said fields
-    else work_of fields))))
+    else (if has_form map_form fields then map_said fields (2 ^ 32 - 1) false
+    else (if has_form masked_map_form fields then masked_said fields false
+    else growing_of may_grow fields)))))
 
 -- ---- what a reader answers
 
 abbrev pub said_by : Statement → Said
-said_by statement.Version = Version
+said_by (statement.Version may_grow) = Version may_grow
 said_by (statement.Cpus n) = Cpus n
 said_by (statement.Seed n) = Seed n
 said_by (statement.Map name shape) = Map name.now shape

@@ -39,6 +39,8 @@ const MOST_JOBS: usize = 4_096;
 pub struct Draft<'a> {
     /// The group of the last line that said something, 0 before the first.
     pub group: u8,
+    /// Whether maps may grow, by the first line.
+    pub may_grow: bool,
     pub cpus: u8,
     pub seed: u64,
     pub names: Vec<String>,
@@ -61,7 +63,7 @@ fn first_said<'a>(said: Result<Statement<'a>, LineError>) -> Result<Statement<'a
     ensures { said_in result ≡ first_said (said_in said.entry) }
 {
     match said {
-        Ok(Statement::Version) => Ok(Statement::Version),
+        Ok(Statement::Version(may_grow)) => Ok(Statement::Version(may_grow)),
         _ => Err(Reason::BadFirstLine),
     }
 }
@@ -110,6 +112,7 @@ impl<'a> Draft<'a> {
     {
         Draft {
             group: 0,
+            may_grow: false,
             cpus: 1,
             seed: 0,
             names: Vec::new(alloc),
@@ -139,9 +142,9 @@ impl<'a> Draft<'a> {
     fn said<'b>(&self, fields: &[&'b [u8]]) -> Result<Statement<'b>, Reason>
         ensures { said_in result ≡ placed (part_of self.now)
             (field_at (map (λ f. f.now) fields.now) 0)
-            (statement_of (map (λ f. f.now) fields.now)) }
+            (statement_of self.now.may_grow (map (λ f. f.now) fields.now)) }
     {
-        let said = statement::said(fields);
+        let said = statement::said(self.may_grow, fields);
         if self.group == 0 {
             first_said(said)
         } else if self.may_stand(group::group_of(form::field_at(fields, 0))) {
@@ -321,8 +324,9 @@ impl<'a> Draft<'a> {
         ensures { Added line (part_of self.old) (said_by said.entry) (part_of self.new) result }
     {
         match said {
-            Statement::Version => {
+            Statement::Version(may_grow) => {
                 self.group = 1;
+                self.may_grow = may_grow;
                 Ok(Next::Line)
             }
             Statement::Cpus(cpus) => self.set_cpus(line, cpus),

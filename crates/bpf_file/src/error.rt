@@ -10,7 +10,7 @@ use thiserror::Error;
 #[derive(Clone, Copy, PartialEq, Eq, Debug, Error)]
 pub enum Reason {
     /// L1: the first line that says anything, or line 1 where none does.
-    #[error("a run file begins with `ebpf-run 1`")]
+    #[error("a run file begins with `ebpf-run 1` or `ebpf-run 2`")]
     BadFirstLine,
     /// L2: its form, or its place among the others, or it is one too many.
     #[error("no such line may stand here")]

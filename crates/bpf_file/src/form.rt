@@ -23,6 +23,9 @@ pub enum Part {
 /// `ebpf-run 1`
 pub const VERSION: [Part; 2] = [Part::Word(Key::RunFile), Part::Word(Key::One)];
 
+/// `ebpf-run 2`
+pub const SECOND_VERSION: [Part; 2] = [Part::Word(Key::RunFile), Part::Word(Key::Two)];
+
 /// `cpus N`
 pub const CPUS: [Part; 2] = [Part::Word(Key::Cpus), Part::Number];
 
@@ -57,6 +60,38 @@ pub const MASKED_MAP: [Part; 12] = [
     Part::Number,
     Part::Word(Key::Mask),
     Part::Number,
+];
+
+/// A map that grows, in version 2: `grow` behind the sizes.
+pub const GROWING_MAP: [Part; 11] = [
+    Part::Word(Key::Map),
+    Part::Name,
+    Part::Word(Key::KeySize),
+    Part::Number,
+    Part::Word(Key::ValueSize),
+    Part::Number,
+    Part::Word(Key::Max),
+    Part::Number,
+    Part::Word(Key::Spare),
+    Part::Number,
+    Part::Word(Key::Grow),
+];
+
+/// `grow` behind the mask.
+pub const GROWING_MASKED_MAP: [Part; 13] = [
+    Part::Word(Key::Map),
+    Part::Name,
+    Part::Word(Key::KeySize),
+    Part::Number,
+    Part::Word(Key::ValueSize),
+    Part::Number,
+    Part::Word(Key::Max),
+    Part::Number,
+    Part::Word(Key::Spare),
+    Part::Number,
+    Part::Word(Key::Mask),
+    Part::Number,
+    Part::Word(Key::Grow),
 ];
 
 /// `prog NAME`, before lines of assembly.

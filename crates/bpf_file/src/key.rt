@@ -10,6 +10,8 @@ pub enum Key {
     RunFile,
     /// `1`, the version
     One,
+    /// `2`, the version in which maps may grow
+    Two,
     Cpus,
     Seed,
     Map,
@@ -19,6 +21,8 @@ pub enum Key {
     Max,
     Spare,
     Mask,
+    /// Behind a map that begins with one segment and splits it as keys come.
+    Grow,
     Program,
     Hex,
     Job,
@@ -36,6 +40,7 @@ impl Key {
         match self {
             Key::RunFile => "ebpf-run",
             Key::One => "1",
+            Key::Two => "2",
             Key::Cpus => "cpus",
             Key::Seed => "seed",
             Key::Map => "map",
@@ -44,6 +49,7 @@ impl Key {
             Key::Max => "max",
             Key::Spare => "spare",
             Key::Mask => "mask",
+            Key::Grow => "grow",
             Key::Program => "prog",
             Key::Hex => "hex",
             Key::Job => "job",

@@ -1,9 +1,9 @@
 //! What a line of a run file says.
 
-ghost use Rattle.std.specs.Prelude.{◌≡◌, ◌≤◌, map, IfOk, IsUtf8};
+ghost use Rattle.std.specs.Prelude.{◌≡◌, ◌≤◌, true, map, IfOk, IsUtf8};
 ghost use Rattle.std.specs.Option.{option_copied};
 ghost use Rattle.bpf_file.specs.Form.{field_at};
-ghost use Rattle.bpf_file.specs.Statement.{count_at, held_at, Says, cpus_said, seed_said, map_said, masked_said, job_said, budgeted_said, work_of, statement_of};
+ghost use Rattle.bpf_file.specs.Statement.{count_at, held_at, Says, cpus_said, seed_said, map_said, masked_said, job_said, budgeted_said, work_of, growing_of, statement_of};
 
 use crate::form;
 use crate::line::LineError;
@@ -14,8 +14,8 @@ use bpf_shared::MapShape;
 /// What one line says, where it isn't assembly. Names and digits are as they stand.
 #[derive(Clone, Copy)]
 pub enum Statement<'a> {
-    /// The first line.
-    Version,
+    /// The first line, and whether maps may grow behind it.
+    Version(bool),
     /// How many CPUs there are.
     Cpus(u64),
     /// The seed of the maps' hashes.
@@ -88,9 +88,9 @@ fn seed<'a>(fields: &[&'a [u8]]) -> Result<Statement<'a>, LineError>
 }
 
 /// A map with this mask, whose second field is a name.
-fn map<'a>(fields: &[&'a [u8]], mask: u32) -> Result<Statement<'a>, LineError>
+fn map<'a>(fields: &[&'a [u8]], mask: u32, grow: bool) -> Result<Statement<'a>, LineError>
     requires { IsUtf8 (field_at (map (λ f. f.now) fields.now) 1) }
-    ensures { Says result (map_said (map (λ f. f.now) fields.now) mask) }
+    ensures { Says result (map_said (map (λ f. f.now) fields.now) mask grow) }
 {
     let key = count_at(fields, 3, MOST)?;
     let value = count_at(fields, 5, MOST)?;
@@ -107,17 +107,17 @@ fn map<'a>(fields: &[&'a [u8]], mask: u32) -> Result<Statement<'a>, LineError>
             max,
             spare,
             mask,
-            grow: false,
+            grow,
         },
     ))
 }
 
-fn masked_map<'a>(fields: &[&'a [u8]]) -> Result<Statement<'a>, LineError>
+fn masked_map<'a>(fields: &[&'a [u8]], grow: bool) -> Result<Statement<'a>, LineError>
     requires { IsUtf8 (field_at (map (λ f. f.now) fields.now) 1) }
-    ensures { Says result (masked_said (map (λ f. f.now) fields.now)) }
+    ensures { Says result (masked_said (map (λ f. f.now) fields.now) grow) }
 {
     let mask = count_at(fields, 11, MOST)?;
-    map(fields, mask as u32)
+    map(fields, mask as u32, grow)
 }
 
 /// A job with this budget and context.
@@ -169,20 +169,37 @@ fn work<'a>(fields: &[&'a [u8]]) -> Result<Statement<'a>, LineError>
     }
 }
 
-/// What a line with these fields says.
-pub fn said<'a>(fields: &[&'a [u8]]) -> Result<Statement<'a>, LineError>
-    ensures { Says result (statement_of (map (λ f. f.now) fields.now)) }
+/// A line about a map that grows, or about a program or a job.
+fn growing<'a>(fields: &[&'a [u8]]) -> Result<Statement<'a>, LineError>
+    ensures { Says result (growing_of true (map (λ f. f.now) fields.now)) }
+{
+    if form::has_form(&form::GROWING_MAP, fields) {
+        map(fields, u32::MAX, true)
+    } else if form::has_form(&form::GROWING_MASKED_MAP, fields) {
+        masked_map(fields, true)
+    } else {
+        work(fields)
+    }
+}
+
+/// What a line with these fields says, where maps may grow or may not.
+pub fn said<'a>(may_grow: bool, fields: &[&'a [u8]]) -> Result<Statement<'a>, LineError>
+    ensures { Says result (statement_of may_grow (map (λ f. f.now) fields.now)) }
 {
     if form::has_form(&form::VERSION, fields) {
-        Ok(Statement::Version)
+        Ok(Statement::Version(false))
+    } else if form::has_form(&form::SECOND_VERSION, fields) {
+        Ok(Statement::Version(true))
     } else if form::has_form(&form::CPUS, fields) {
         cpus(fields)
     } else if form::has_form(&form::SEED, fields) {
         seed(fields)
     } else if form::has_form(&form::MAP, fields) {
-        map(fields, u32::MAX)
+        map(fields, u32::MAX, false)
     } else if form::has_form(&form::MASKED_MAP, fields) {
-        masked_map(fields)
+        masked_map(fields, false)
+    } else if may_grow {
+        growing(fields)
     } else {
         work(fields)
     }

@@ -5,7 +5,7 @@ use bpf_codes::Code;
 
 pub const L1: Page = Page {
     code: Code::L1,
-    meaning: "the first line of the run file isn't `ebpf-run 1`",
+    meaning: "the first line of the run file is neither `ebpf-run 1` nor `ebpf-run 2`",
     example: Some(Example {
         command: "printf 'cpus 2\\n' | ebpf run",
         printed: "refused line 1 L1",
@@ -25,7 +25,8 @@ pub const L2: Page = Page {
     advice: "\
 The order is: `ebpf-run 1`, `cpus`, `seed`, maps, programs, jobs; each but the
 first may be missing. Names have at most 32 characters, contexts at most 4,096
-bytes; there are at most 256 programs and 4,096 jobs.
+bytes; there are at most 256 programs and 4,096 jobs. A map may end with `grow`
+only where the first line is `ebpf-run 2`.
 docs/reference/run-files.md has every form.",
 };
 

@@ -25,6 +25,7 @@ use denote.Ref.{Bor}
 abbrev pub part_of : Draft → Part
 part_of d = record {
   group = d.group;
+  may_grow = d.may_grow;
   titles = map (λ t. t.now) d.titles.items;
   file = record {
     cpus = d.cpus;
