@@ -4,3 +4,6 @@ pub mod StandAlike
 pub mod ShelfLaws
 pub mod KeepLaws
 pub mod AlbumLaws
+pub mod AnswerLaws
+pub mod TellLaws
+pub mod ExploreLaws

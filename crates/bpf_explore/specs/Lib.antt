@@ -5,4 +5,5 @@ pub mod Patient
 pub mod Tuples
 pub mod Stores
 pub mod Album
+pub mod Listing
 pub mod Private

@@ -1,2 +1,3 @@
 -- What private functions promise each other: no public clause speaks of it.
 pub mod Album
+pub mod Answers

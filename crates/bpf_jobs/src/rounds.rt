@@ -94,7 +94,7 @@ fn asked_lines(
 }
 
 /// What is printed of a machine whose jobs have ended.
-fn tell(
+pub fn tell(
     alloc: Global,
     machine: &Machine,
     names: &[String],

@@ -1,0 +1,65 @@
+-- From a shape and its jobs to the answers.
+use Rattle.std.proofs.Common.{◌≡◌, ◌∙◌, ℕ, zero, suc, ◌≤◌, Bool, true, false, List, [], ◌∷◌, Option, Some, None, length, map, vec_len, refl, sym, ap, arith}
+use Rattle.std.specs.Prelude.{All, nat_lt, slice_get}
+use Rattle.std.proofs.lemmas.List.{get_or_past}
+use Rattle.std.proofs.lemmas.Option.{slice_get_within}
+use Rattle.bpf_base.proofs.Lists.{slice_get-front}
+use Rattle.bpf_mem.specs.Limits.{max_context}
+use Rattle.bpf_shared.specs.Shape.{Shape}
+use Rattle.bpf_loader.specs.Loaded.{Loaded}
+use Rattle.bpf_cpu.specs.declared.job.Job.{Job}
+use Rattle.bpf_cpu.specs.Task.{Task, Waiting, waiting}
+use Rattle.bpf_machine.specs.Laws.{IsFresh}
+use Rattle.bpf_machine.specs.Listings.{Listing, Never, Due, first_lists, listing_at}
+use Rattle.bpf_machine.specs.Machine.{MachineState, Shows}
+use Rattle.bpf_machine.specs.Schedule.{World}
+use Rattle.bpf_machine.specs.Cover.{IsShown}
+use Rattle.bpf_jobs.specs.Printed.{first_world}
+use Rattle.bpf_explore.specs.Laws.{CoverTellsAll}
+use Rattle.bpf_explore.specs.Outcomes.{Found, AreOutcomes, IsExplored}
+use Rattle.bpf_explore.specs.Search.{CoversAll, Extends}
+use Rattle.bpf_explore.specs.Stores.{IsOfShape}
+use Rattle.bpf_explore.specs.Private.Album.{ShowsFirst}
+use Rattle.bpf_explore.specs.Private.Answers.{IsFirst, IsAnsweredAt}
+
+-- ---- the first machine
+pub first_shape : (h : Shape) (m : MachineState) (programs : List Loaded) (jobs : List Task) → Shows m (first_world h programs jobs) → IsOfShape h m.store
+first_shape h m programs jobs shows = (sym shows.store.maps, λ c. ap (λ (n : ℕ). nat_lt c n) (sym shows.store.cpus))
+
+none_of : (o : Option (List Listing)) → first_lists false ≡ listing_at o → o ≡ None
+none_of None e = refl
+none_of (Some all) e =
+    let two : Never ≡ Due = ap (λ (f : ℕ → Listing). f (length all)) e ∙ get_or_past all (length all) Due (omega arith) in
+    cc
+
+pub first_lists_none : (h : Shape) (m : MachineState) (programs : List Loaded) (jobs : List Task) → Shows m (first_world h programs jobs) → m.lists ≡ None
+first_lists_none h m programs jobs shows = none_of m.lists shows.lists
+
+-- each job waits
+job_waits : (jobs : List Job) → All (λ job. vec_len job.context ≤ max_context) jobs → (j : ℕ) (task : Task) → slice_get (map waiting jobs) j ≡ Some task
+    → (context : List ℕ) × (task.stage ≡ Waiting context) × (length context ≤ max_context)
+job_waits [] all j task at = cc
+job_waits (x ∷ xs) all zero task at =
+    let same : waiting x ≡ task = cc in
+    let short : vec_len x.context ≤ max_context = all 0 x (omega arith) in
+    let size = x.context.ok.0 in
+    (x.context.items, sym (ap (λ (t : Task). t.stage) same), omega arith)
+job_waits (x ∷ xs) all (suc j) task at = job_waits xs (λ k d h. all (suc k) d (omega arith)) j task at
+
+pub first_fresh : (h : Shape) (m : MachineState) (programs : List Loaded) (jobs : List Job) → All (λ job. vec_len job.context ≤ max_context) jobs → Shows m (first_world h programs (map waiting jobs)) → IsFresh (first_world h programs (map waiting jobs))
+first_fresh h m programs jobs short shows = record { store = shows.sound; waits = job_waits jobs short }
+
+-- ---- what is kept first stays first
+pub still_first : (old new : List MachineState) (m : MachineState) (w : World) → ShowsFirst old m → Extends old new → Shows m w → IsFirst new w
+still_first old new m w (one, at, shows) more here =
+    (one, ap (λ (ms : List MachineState). slice_get ms 0) more.1 ∙ (slice_get-front old more.0 0 (slice_get_within old 0 one at) ∙ at), shows w here)
+
+pub explored : CoverTellsAll → (kept : List MachineState) (w : World) (names : List (List ℕ)) (maps : Bool) (answers : List Found) (whole told all : Bool) → IsFresh w → IsFirst kept w
+    → (whole ≡ true → CoversAll false kept) → ((u : World) → IsFirst kept u → AreOutcomes u names maps answers) → (told ≡ true → (i : ℕ) → IsAnsweredAt kept names maps answers i)
+    → (all ≡ true → (whole ≡ true) × (told ≡ true)) → IsExplored w names maps answers all
+explored law kept w names maps answers whole told all fresh first covers outcomes answered both = record {
+  outcomes = outcomes w first;
+  complete = λ is. (let b = both is in
+      let shown : IsShown kept w = (0, first.0, first.1, first.2) in
+      law kept w names maps answers (covers b.0) fresh shown (λ i m at ended. answered b.1 i m at ended));
+}

@@ -1,0 +1,16 @@
+use Rattle.std.proofs.Common.{ℕ, List, map, string_bytes, refl, sym, subst}
+use Rattle.bpf_machine.specs.Machine.{MachineState, Shows}
+use Rattle.bpf_machine.specs.Rounds.{HaveEnded}
+use Rattle.bpf_machine.specs.Schedule.{World, RunsSchedule, unrolled}
+use Rattle.bpf_explore.specs.Outcomes.{Found}
+use Rattle.bpf_explore.proofs.TellLaws.{ends_by}
+use Rattle.bpf_explore.proofs.answers.replay.Goals as goal
+
+pub returns-clause-ends : goal.returns-clause-ends
+returns-clause-ends c =
+    let last = c.turns_by.new.self.machine in
+    let found : Found = record { text = string_bytes c.in_ok-text.field-0.text; stopped = c.in_ok-text.field-0.stopped; by = c.args.by.items } in
+    ends_by c.args.album.now.kept c.restore.new.self.machine last (map string_bytes c.args.names.now) c.args.maps found c.in_ok-restore.ensures.ok c.machine.ensures.lists
+    (subst (λ (m : MachineState). HaveEnded m.jobs) c.machine.ensures.machine (c.if-not-have_ended.ensures.ended refl))
+    (λ w shows. subst (λ (by : List (ℕ × ℕ)). (z : World) × RunsSchedule w (unrolled by) z × Shows last z) c.deref.ensures.value (c.turns_by.ensures.runs w shows))
+    (λ w shows. c.in_ok-text.ensures w (subst (λ (m : MachineState). Shows m w) (sym c.machine-2.ensures.machine) shows))

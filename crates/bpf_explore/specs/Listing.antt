@@ -1,0 +1,35 @@
+-- How answers are printed. Our own choice.
+use Rattle.std.specs.Prelude.{ℕ, zero, suc, ◌++◌, Bool, List, [], codes, length, slice_index_or, if◌then◌else◌, false}
+use Rattle.std.specs.Fmt.{decimal}
+use Rattle.bpf_schedule.specs.Spelling.{runs_text}
+use Rattle.bpf_explore.specs.Outcomes.{Found}
+
+-- the schedule on a line, and then what is told
+abbrev pub answer_text : Found → List ℕ
+answer_text found = codes "by" ++ runs_text (length found.by) found.by ++ codes "\n" ++ found.text
+
+abbrev pub no_answer : Found
+no_answer = record { text = []; stopped = false; by = [] }
+
+-- the first n of them
+abbrev pub answers_text : ℕ → List Found → List ℕ
+answers_text zero answers = []
+answers_text (suc n) answers =
+    answers_text n answers ++ answer_text (slice_index_or answers n no_answer)
+
+-- whether they are all
+abbrev pub all_text : Bool → List ℕ
+all_text all = if all then codes "all" else codes "not all"
+
+-- how many they are, and how many states were kept
+abbrev pub counts_text : ℕ → ℕ → List ℕ
+counts_text outcomes states =
+    codes ": " ++ (decimal outcomes
+    ++ (codes " outcomes, " ++ (decimal states ++ codes " states\n")))
+
+abbrev pub last_line : Bool → ℕ → ℕ → List ℕ
+last_line all outcomes states = all_text all ++ counts_text outcomes states
+
+abbrev pub explored_text : List Found → Bool → ℕ → List ℕ
+explored_text answers all states =
+    answers_text (length answers) answers ++ last_line all (length answers) states

@@ -1,0 +1,47 @@
+-- Answers while they are found.
+use Rattle.std.specs.Prelude.{◌≡◌, ℕ, ◌<◌, ◌≤◌, Bool, List, Some, length, slice_get}
+use Rattle.std.specs.declared.cmp.Ordering.TheVariants.{Less}
+use Rattle.std.specs.Ordering.{nat_cmp}
+use Rattle.std.specs.Cmp.Lexicographic.{slice_cmp}
+use Rattle.bpf_machine.specs.Schedule.{World}
+use Rattle.bpf_machine.specs.Rounds.{HaveEnded}
+use Rattle.bpf_machine.specs.Machine.{MachineState, Shows}
+use Rattle.bpf_explore.specs.Outcomes.{Found, EndsBy}
+use Rattle.bpf_explore.specs.Laws.{IsAnswered}
+
+-- the first kept machine shows the world
+abbrev pub IsFirst : List MachineState → World → Type 0
+IsFirst kept w = (m : MachineState) × (slice_get kept 0 ≡ Some m) × Shows m w
+
+-- in the order of their texts' bytes, none twice
+abbrev pub AreSorted : List Found → Type 0
+AreSorted answers = (i j : ℕ) (found later : Found) → i < j → slice_get answers i ≡ Some found
+    → slice_get answers j ≡ Some later → slice_cmp nat_cmp found.text later.text ≡ Less
+
+-- each is an outcome by its own schedule
+abbrev pub AllEnd : World → List (List ℕ) → Bool → List Found → Type 0
+AllEnd w names maps answers = (i : ℕ) (found : Found) → slice_get answers i ≡ Some found
+    → EndsBy w names maps found
+
+-- none is lost
+abbrev pub KeepsAll : List Found → List Found → Type 0
+KeepsAll old new = (i : ℕ) (found : Found) → slice_get old i ≡ Some found
+    → (j : ℕ) × (slice_get new j ≡ Some found)
+
+-- here a text is to stand: those before are less, and those behind greater
+pub record IsPlaceOf (answers : List Found) (text : List ℕ) (i : ℕ) : Type 0 where
+  pub within : i ≤ length answers
+  pub before : (k : ℕ) (found : Found) → k < i → slice_get answers k ≡ Some found
+      → slice_cmp nat_cmp found.text text ≡ Less
+  pub behind : (k : ℕ) (found : Found) → i ≤ k → slice_get answers k ≡ Some found
+      → slice_cmp nat_cmp text found.text ≡ Less
+
+-- the i-th tells this
+abbrev pub TellsAt : List Found → ℕ → List ℕ → Bool → Type 0
+TellsAt answers i text stopped = (found : Found) × (slice_get answers i ≡ Some found)
+    × (found.text ≡ text) × (found.stopped ≡ stopped)
+
+-- what is told of the i-th kept machine, if it has no work, is one of them
+abbrev pub IsAnsweredAt : List MachineState → List (List ℕ) → Bool → List Found → ℕ → Type 0
+IsAnsweredAt kept names maps answers i = (m : MachineState) → slice_get kept i ≡ Some m
+    → HaveEnded m.jobs → IsAnswered names maps answers m
