@@ -6,6 +6,8 @@ mod asking;
 #[cfg(test)]
 mod claims;
 #[cfg(test)]
+mod crowds;
+#[cfg(test)]
 mod finds;
 #[cfg(test)]
 mod hashes;
