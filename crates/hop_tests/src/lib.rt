@@ -10,6 +10,8 @@ mod crowds;
 #[cfg(test)]
 mod finds;
 #[cfg(test)]
+mod growing;
+#[cfg(test)]
 mod hashes;
 #[cfg(test)]
 mod jobs;

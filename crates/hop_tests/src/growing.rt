@@ -1,0 +1,122 @@
+//! Maps that grow: their segments, and what they have, after calls of one port and of threads.
+ghost use Rattle.std.specs.Prelude.{◌<◌, ◌^◌};
+
+use crate::asking::{Call, Reply};
+use crate::stores::{a_map, aged_ports, close, new_ports, pop_port, push_port};
+use crate::threads::{Work, close_all, put_zeros, work_by_threads};
+use bpf_shared::{MapAnswer, MapShape};
+use hop_map::Growth;
+use std::alloc::Global;
+use std::sync::Wait;
+use std::test::Fail;
+use std::thread::Threads;
+
+// A map that begins with one segment.
+fn growing(max: u64, spare: u64, mask: u32) -> MapShape {
+    MapShape {
+        grow: true,
+        ..a_map(max, spare, mask)
+    }
+}
+
+// How many segments and how many keys a map has, into which one port has put so many.
+fn filled<R: Wait>(rt: &R, alloc: Global, map: MapShape, keys: u32) -> Result<(u32, usize), Fail> {
+    let (table, mut ports) = new_ports(alloc, 1, map)?;
+    put_zeros(rt, &table, &mut ports, keys)?;
+    let closed = close(table, ports)?;
+    Ok((closed.segments(0), closed.dump(alloc, 0)?.len()))
+}
+
+// With the mask 0 all keys are at home in one bucket, whose neighbourhood has 32 places.
+#[test]
+fn a_segment_splits_behind_the_first_overflow(rt: HostRuntime) -> Result<(), Fail> {
+    let map = growing(100, 0, 0);
+    assert_eq!(rt; filled(&rt, rt.alloc(), map, 32)?, (1, 32));
+    assert_eq!(rt; filled(&rt, rt.alloc(), map, 33)?, (2, 33));
+    assert_eq!(rt; filled(&rt, rt.alloc(), map, 100)?, (2, 100));
+    assert_eq!(rt; filled(&rt, rt.alloc(), growing(64, 0, 0), 64)?, (1, 64));
+    Ok(())
+}
+
+// A map that doesn't grow has all its segments from the first on, as many as its keys ask for.
+#[test]
+fn a_map_that_does_not_grow_keeps_its_segments(rt: HostRuntime) -> Result<(), Fail> {
+    assert_eq!(rt; filled(&rt, rt.alloc(), a_map(100, 0, 0), 0)?, (2, 0));
+    assert_eq!(rt; filled(&rt, rt.alloc(), a_map(100, 0, 0), 100)?, (2, 100));
+    assert_eq!(rt;
+        filled(&rt, rt.alloc(), a_map(65_536, 0, 0), 1)?,
+        (1_024, 1)
+    );
+    Ok(())
+}
+
+// How two splits of segment 0 end, in a new store whose segments have this version, and how many
+// segments there are then.
+fn split_twice<R: Wait>(
+    rt: &R,
+    alloc: Global,
+    map: MapShape,
+    version: u64,
+) -> Result<(Growth, Growth, u32), Fail>
+    requires version { version < 2 ^ 56 }
+{
+    let (table, mut ports) = aged_ports(alloc, 1, map, version, 0)?;
+    let Some(mut port) = pop_port(&table, &mut ports) else {
+        return Err(Fail::new("no port"));
+    };
+    let Some(_map) = port.shape(&table, 0) else {
+        return Err(Fail::new("no map"));
+    };
+    let first = port.split(rt, &table, 0, 0);
+    let second = port.split(rt, &table, 0, 0);
+    push_port(&table, &mut ports, port)?;
+    let closed = close(table, ports)?;
+    Ok((first, second, closed.segments(0)))
+}
+
+#[test]
+fn a_split_ends_by_depth_before_version(rt: HostRuntime) -> Result<(), Fail> {
+    let last = (1 << 56) - 1;
+    let alloc = rt.alloc();
+    let once = (Growth::Grown, Growth::AtDepth, 2);
+    assert_eq!(rt; split_twice(&rt, alloc, growing(65, 0, 0), 0)?, once);
+    assert_eq!(rt; split_twice(&rt, alloc, growing(65, 0, 0), last - 1)?, once);
+    let worn = (Growth::Worn, Growth::Worn, 1);
+    assert_eq!(rt; split_twice(&rt, alloc, growing(65, 0, 0), last)?, worn);
+    let deep = (Growth::AtDepth, Growth::AtDepth, 1);
+    assert_eq!(rt; split_twice(&rt, alloc, growing(64, 0, 0), last)?, deep);
+    let fixed = (Growth::AtDepth, Growth::AtDepth, 2);
+    assert_eq!(rt; split_twice(&rt, alloc, a_map(65, 0, 0), 0)?, fixed);
+    Ok(())
+}
+
+// How many segments and how many keys a map has, into which so many threads have put so many each.
+fn filled_by_threads<R: Threads + Wait + Sync>(
+    rt: &R,
+    alloc: Global,
+    map: MapShape,
+    threads: u32,
+    keys: u32,
+) -> Result<(u32, usize), Fail> {
+    let (table, ports) = new_ports(alloc, u64::from(threads), map)?;
+    let work = Work::OwnKeys { cpus: threads };
+    let backs = work_by_threads(rt, alloc, &table, ports, work, keys)?;
+    let (closed, _notes) = close_all(alloc, table, backs)?;
+    Ok((closed.segments(0), closed.dump(alloc, 0)?.len()))
+}
+
+#[test]
+fn threads_make_a_map_grow(rt: HostRuntime) -> Result<(), Fail> {
+    let two = filled_by_threads(&rt, rt.alloc(), growing(128, 0, 1), 2, 64)?;
+    assert_eq!(rt; two, (2, 128));
+    let (segments, keys) = filled_by_threads(
+        &rt,
+        rt.alloc(),
+        growing(65_536, 0, 0xffff_ffff),
+        4,
+        16_384,
+    )?;
+    assert_eq!(rt; keys, 65_536);
+    assert!(rt; (2..=1_024).contains(&segments));
+    Ok(())
+}
