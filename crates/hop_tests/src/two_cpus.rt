@@ -99,8 +99,12 @@ fn replace_while_another_runs<R: Wait>(
 {
     let (mut first, mut second) = (first, second);
     let replace = put(0, 2, 2, MapAnswer::Done).call;
-    second.begin(table).ok()?;
-    first.begin(table).ok()?;
+    let Ok(()) = second.begin(table) else {
+        return None;
+    };
+    let Ok(()) = first.begin(table) else {
+        return None;
+    };
     let (first, inserted) = tell(rt, table, first, put(0, 1, 1, MapAnswer::Done).call)?;
     let (first, replaced) = tell(rt, table, first, replace)?;
     let (first, _begun) = tell(rt, table, first, Call::NextRun)?;
