@@ -20,8 +20,8 @@ use Rattle.bpf_cpu.specs.State.{start}
 use Rattle.bpf_cpu.specs.Task.{Stage, Task, Waiting, InHand, Ended}
 use Rattle.bpf_machine.specs.Hands.{IsAt, IsFree, NoneWaitsBelow, with_stage}
 use Rattle.bpf_machine.specs.Schedule.{World, outcome_after, Advances, Lists, Settles, GoesOn, TakesTurn, RunsSchedule}
-use Rattle.bpf_machine.specs.Rounds.{below, HaveEnded, RunsRound, RunsRounds}
-use Rattle.bpf_machine.specs.Laws.{IsFresh, SchedulesAreDetermined, RoundsAreDetermined}
+use Rattle.bpf_machine.specs.Rounds.{below, HaveEnded, RunsRound, RunsRounds, RunsToEnd}
+use Rattle.bpf_machine.specs.Laws.{IsFresh, SchedulesAreDetermined, RoundsAreDetermined, RunsByAreDetermined}
 use Rattle.bpf_machine.proofs.ListLaws.{with_end, lists_jobs, lists_store, one_list}
 use Rattle.bpf_cpu.proofs.DeterminedRuns.{start_memory, stays_sound, step_agrees, same_replies}
 use Rattle.bpf_base.proofs.Lists.{slice_get-set_known, slice_get-set_other}
@@ -34,7 +34,7 @@ pub record IsWorld (w : World) : Type 0 where
   pub short : (c j : ℕ) (task : Task) (context : List ℕ) → IsAt w.jobs c j task (Waiting context) → length context ≤ 4096
 
 -- a job in two stages is in one
-same_stage : (jobs : List Task) (c j : ℕ) (task other : Task) (stage now : Stage) → IsAt jobs c j task stage → IsAt jobs c j other now → (task ≡ other) × (stage ≡ now)
+pub same_stage : (jobs : List Task) (c j : ℕ) (task other : Task) (stage now : Stage) → IsAt jobs c j task stage → IsAt jobs c j other now → (task ≡ other) × (stage ≡ now)
 same_stage jobs c j task other stage now a b =
     let listed : Some task ≡ Some other = sym a.listed ∙ b.listed in
     let same : task ≡ other = cc in
@@ -229,7 +229,7 @@ module _ (law : WritesAreDetermined) (begins : OneInstructionBegins) (replies : 
       let here : IsWorld (record w { store = s }) = record { store = sound; memory = world.memory; one = world.one; short = world.short } in
       settled_turn (record w { store = s }) c j task (Waiting context) answer other y z here at (λ k v now l ne h. free k v now l h) settled
 
-  same_lowest : (jobs : List Task) (c j k : ℕ) (task t : Task) (context bytes : List ℕ) → IsAt jobs c j task (Waiting context) → NoneWaitsBelow jobs c j → IsAt jobs c k t (Waiting bytes) → NoneWaitsBelow jobs c k → k ≡ j
+  pub same_lowest : (jobs : List Task) (c j k : ℕ) (task t : Task) (context bytes : List ℕ) → IsAt jobs c j task (Waiting context) → NoneWaitsBelow jobs c j → IsAt jobs c k t (Waiting bytes) → NoneWaitsBelow jobs c k → k ≡ j
   same_lowest jobs c j k task t context bytes at lowest at' lowest' = elim (cases_order k j) [
     | inl e ↦ e
     | inr rest ↦ elim rest [
@@ -258,14 +258,14 @@ module _ (law : WritesAreDetermined) (begins : OneInstructionBegins) (replies : 
   one_turn w c answer other y z world (inr (inr a)) (inr (inr b)) = record { answers = a.2 ∙ sym b.2; worlds = a.3 ∙ sym b.3; world = subst IsWorld (sym a.3) world }
 
   -- ---- a schedule
-  one_run : (cs : List ℕ) (w y z : World) → IsWorld w → RunsSchedule w cs y → RunsSchedule w cs z → y ≡ z
+  pub one_run : (cs : List ℕ) (w y z : World) → IsWorld w → RunsSchedule w cs y → RunsSchedule w cs z → y ≡ z
   one_run [] w y z world a b = a ∙ sym b
   one_run (c ∷ cs) w y z world a b =
       let progress = one_turn w c a.0 b.0 a.1 b.1 world a.2 b.2 in
       let P : World → Type 0 = λ m. RunsSchedule m cs z in
       one_run cs a.1 y z progress.world a.3 (subst P (sym progress.worlds) b.3)
 
-  runs_world : (cs : List ℕ) (w z : World) → IsWorld w → RunsSchedule w cs z → IsWorld z
+  pub runs_world : (cs : List ℕ) (w z : World) → IsWorld w → RunsSchedule w cs z → IsWorld z
   runs_world [] w z world runs = subst IsWorld (sym runs) world
   runs_world (c ∷ cs) w z world runs = runs_world cs runs.1 z (one_turn w c runs.0 runs.0 runs.1 runs.1 world runs.2 runs.2).world runs.3
 
@@ -278,7 +278,7 @@ module _ (law : WritesAreDetermined) (begins : OneInstructionBegins) (replies : 
       (one_run (below a.0.store.shape.cpus) a.0 y z before.1 a.2 (subst P (sym before.0) b.2), runs_world (below a.0.store.shape.cpus) a.0 y before.1 a.2)
 
   -- where all jobs have ended, nothing changes
-  stays_ended : (w : World) (c : ℕ) (answer : Turn) (z : World) → HaveEnded w.jobs → TakesTurn w c answer z → z ≡ w
+  pub stays_ended : (w : World) (c : ℕ) (answer : Turn) (z : World) → HaveEnded w.jobs → TakesTurn w c answer z → z ≡ w
   stays_ended w c answer z ended (inl a) = let end = ended a.0 a.1 a.4.listed in let no : InHand a.2 a.3 ≡ Ended end.0 = sym a.4.at ∙ end.1 in cc
   stays_ended w c answer z ended (inr (inl (free, a))) = let end = ended a.0 a.1 a.4.listed in let no : Waiting a.2 ≡ Ended end.0 = sym a.4.at ∙ end.1 in cc
   stays_ended w c answer z ended (inr (inr a)) = a.3
@@ -320,8 +320,18 @@ module _ (law : WritesAreDetermined) (begins : OneInstructionBegins) (replies : 
   pub schedules_are_determined : SchedulesAreDetermined
   schedules_are_determined w y z schedule fresh a b = one_run schedule w y z (fresh_world w fresh) a b
 
-  pub rounds_are_determined : RoundsAreDetermined
-  rounds_are_determined w y z fresh (n, a, ended) (m, b, over) = elim (cases_lt n m) [
-    | inl less ↦ more_rounds (m - n) n m w y z (omega arith) (fresh_world w fresh) ended a b
-    | inr least ↦ sym (more_rounds (n - m) m n w z y (omega arith) (fresh_world w fresh) over b a)
+  one_end : (w y z : World) → IsWorld w → RunsToEnd w y → RunsToEnd w z → y ≡ z
+  one_end w y z world (n, a, ended) (m, b, over) = elim (cases_lt n m) [
+    | inl less ↦ more_rounds (m - n) n m w y z (omega arith) world ended a b
+    | inr least ↦ sym (more_rounds (n - m) m n w z y (omega arith) world over b a)
   ]
+
+  pub rounds_are_determined : RoundsAreDetermined
+  rounds_are_determined w y z fresh a b = one_end w y z (fresh_world w fresh) a b
+
+  pub runs_by_are_determined : RunsByAreDetermined
+  runs_by_are_determined w y z schedule fresh (m, a, ended) (n, b, over) =
+      let world = fresh_world w fresh in
+      let same : m ≡ n = one_run schedule w m n world a b in
+      let P : World → Type 0 = λ x. RunsToEnd x z in
+      one_end m y z (runs_world schedule w m world a) ended (subst P (sym same) over)

@@ -1,10 +1,13 @@
 -- Schedules that are told in run lengths.
-use Rattle.std.proofs.Common.{◌≡◌, ◌∙◌, ℕ, ◌+◌, ◌<◌, ◌≤◌, List, [], ◌∷◌, ◌++◌, append_assoc, append-nil, length, take, replicate, get_or, refl, sym, ap, subst}
-use Rattle.std.proofs.lemmas.List.{take_more, take_all}
+use Rattle.std.proofs.Common.{◌≡◌, ◌∙◌, ℕ, zero, suc, ◌+◌, ◌-◌, ◌<◌, ◌≤◌, List, [], ◌∷◌, ◌++◌, append_assoc, append-nil, length, take, replicate, get_or, inr, refl, sym, ap, subst, arith}
+use Rattle.std.proofs.lemmas.List.{replicate-append-replicate, take_more, take_all}
 use Rattle.std.proofs.lemmas.Grind.{replicate_next}
 use Rattle.bpf_machine.specs.declared.machine.Turn.{Turn}
+use Rattle.bpf_machine.specs.declared.machine.Turn.TheVariants.{Idle}
+use Rattle.bpf_machine.specs.Hands.{IsFree, NoneWaits}
 use Rattle.bpf_machine.specs.Schedule.{World, TakesTurn, RunsSchedule, unrolled}
 use Rattle.bpf_machine.specs.Machine.{MachineState, Shows}
+use Rattle.bpf_machine.proofs.RoundLaws.{idle_turn}
 use Rattle.bpf_machine.proofs.TurnLaws.{runs_more}
 
 -- the run of a schedule, as machines show it
@@ -21,6 +24,24 @@ one_more old mid new c n answer runs turn w shows =
     let r = runs w shows in
     let t = turn r.0 r.2 in
     (t.0, subst (λ (cs : List ℕ). RunsSchedule w cs t.0) (sym (replicate_next n c)) (runs_more w (replicate n c) c r.0 answer t.0 r.1 t.1), t.2)
+
+idle_turns : (w : World) (c n : ℕ) → IsFree w.jobs c → NoneWaits w.jobs c → RunsSchedule w (replicate n c) w
+idle_turns w c zero free none = refl
+idle_turns w c (suc n) free none = (Idle, w, inr (inr (free, none, refl, refl)), idle_turns w c n free none)
+
+-- behind an idle turn of it the others change nothing
+pub rest_idle : (old mid new : MachineState) (c k n : ℕ) (answer : Turn) → k ≤ n → Runs old (replicate k c) mid → ((w : World) → Shows mid w → (z : World) × TakesTurn w c answer z × Shows new z)
+    → answer ≡ Idle → new ≡ mid → Runs old (replicate n c) new
+rest_idle old mid new c k n answer within runs turn idle stays w shows =
+    let r = runs w shows in
+    let t = turn r.0 r.2 in
+    let none = idle_turn r.0 c answer t.0 t.1 idle in
+    let rest = idle_turns r.0 c (n - k) none.0 none.1 in
+    let all : replicate n c ≡ replicate k c ++ replicate (n - k) c =
+    ap (λ (i : ℕ). replicate i c) (omega arith) ∙ sym (replicate-append-replicate k (n - k) c)
+    in
+    let run = runs_both w (replicate k c) (replicate (n - k) c) r.0 r.0 r.1 rest in
+    (r.0, subst (λ (cs : List ℕ). RunsSchedule w cs r.0) (sym all) run, subst (λ (m : MachineState). Shows m r.0) (sym stays) r.2)
 
 -- ---- run lengths
 unrolled-append : (xs ys : List (ℕ × ℕ)) → unrolled (xs ++ ys) ≡ unrolled xs ++ unrolled ys

@@ -13,13 +13,16 @@ pub mod MadeLaws
 pub mod KeyListLaws
 pub mod ListingLaws
 pub mod DeterminedTurns
+pub mod HappeningLaws
 pub mod FallLaws
 pub mod HeadwayLaws
 pub mod AheadLaws
+mod QuietLaws
 pub mod CoverLaws
 pub mod RaceLaws
 pub mod PatientLaws
 pub mod PatientRaceLaws
 pub mod HostLaws
 pub mod StandLaws
+mod FillLaws
 pub mod PartLaws

@@ -2,7 +2,7 @@
 use Rattle.std.proofs.Common.{◌≡◌, ◌≢◌, ℕ, suc, ◌+◌, ◌<◌, ◌≤◌, arith, Bool, true, false, List, Option, Some, None, is_some, length, refl, sym, ap, subst, ◌∙◌}
 use Rattle.std.specs.Prelude.{slice_get, slice_set, slice_index_or}
 use Rattle.std.proofs.lemmas.Bool.{ltb-true}
-use Rattle.std.proofs.lemmas.Option.{slice_get_within, slice_get_read}
+use Rattle.std.proofs.lemmas.Option.{slice_get_within, slice_get_read, get_or_from_slice_get}
 use Rattle.bpf_shared.proofs.Puts.{put-same, put-other}
 use Rattle.bpf_shared.specs.declared.events.Event.TheVariants.{End}
 use Rattle.bpf_shared.specs.Store.{Plain, put}
@@ -22,7 +22,7 @@ use Rattle.bpf_machine.specs.declared.machine.lane.Hand.{Hand}
 use Rattle.bpf_machine.specs.declared.machine.lane.Lane.{Lane}
 use Rattle.bpf_helpers.specs.Held.{AreHeld}
 use Rattle.bpf_cpu.specs.Step.{IsReady}
-use Rattle.bpf_cpu.specs.Task.{Task, InHand, Ended}
+use Rattle.bpf_cpu.specs.Task.{Stage, Task, InHand, Ended}
 use Rattle.bpf_machine.specs.Hands.{with_stage, IsAt, IsFree}
 use Rattle.bpf_machine.specs.Listings.{Listing}
 use Rattle.std.proofs.lemmas.List.{get_or-set_same, set-get_or}
@@ -35,6 +35,7 @@ use Rattle.bpf_machine.specs.Rounds.{RunsRounds}
 use Rattle.bpf_machine.specs.Questions.{turns_before_end, turns_left}
 use Rattle.bpf_machine.specs.Private.Turns.{IsAlone, Lasts}
 use Rattle.bpf_machine.specs.Private.KeyLists.{HasJob}
+use Rattle.bpf_machine.specs.Patient.{Refills}
 use Rattle.bpf_machine.specs.Headways.{TakesQuietTurns, GoesAhead, IsOnlyOne}
 use Rattle.bpf_machine.proofs.ListLaws.{with_end}
 use Rattle.bpf_machine.proofs.OwnEvents.{shown_within}
@@ -101,7 +102,7 @@ module _ (store : Contents) (programs : List Loaded) (jobs : List Listed) (lanes
       pub left_is : h.left ≡ left
       left_is = subst (λ (x : Hand). x.left ≡ left) hand_same at.left_is
 
-      is : IsHand programs jobs c h
+      pub is : IsHand programs jobs c h
       is = subst (λ (x : Hand). IsHand programs jobs c x) hand_same at.is
 
       pub number : h.cpu.number ≡ c
@@ -142,6 +143,10 @@ module _ (store : Contents) (programs : List Loaded) (jobs : List Listed) (lanes
 
         inside : l.next ≤ length jobs
         inside = subst (λ (y : Lane). y.next ≤ length jobs) was (board.each_lane c at.within).within
+
+        -- its program, where it isn't read
+        pub program_there : is.program ≡ slice_index_or programs e.program is.program
+        program_there = sym (get_or_from_slice_get programs e.program is.program is.program (ap (λ (x : Listed). slice_get programs x.program) (sym hand_job) ∙ is.loaded))
 
         module _ (program : Loaded) (fetched : program ≡ slice_index_or programs e.program program) where
           loaded : slice_get programs e.program ≡ Some program
@@ -259,6 +264,29 @@ module _ (store : Contents) (programs : List Loaded) (jobs : List Listed) (lanes
                   here,
                   ap (λ (ts : List Task). record { store = store; programs = programs; jobs = ts; lists = lists }) kept_tasks,
                 )
+
+            -- it has more steps left
+            kept_refills : (lists : Option (List Listing)) (more : ℕ) → h'.cpu ≡ h.cpu → h'.left ≡ h.left + more → e.budget ≤ h.left + more
+                → Refills (record { store = store; programs = programs; jobs = tasks_of lanes jobs; lists = lists }) c j (record { store = store; programs = programs; jobs = tasks_of (slice_set lanes c l') (slice_set jobs j e); lists = lists })
+            kept_refills lists more same grown enough =
+                let at_stage : Stage → List Task = λ s. with_stage (tasks_of lanes jobs) j task s in
+                let cpus : at_stage (InHand h'.cpu h'.left) ≡ at_stage (InHand state h'.left) = ap (λ (x : Cpu). at_stage (InHand x h'.left)) (same ∙ state_is) in
+                let lefts : at_stage (InHand state h'.left) ≡ at_stage (InHand state (left + more)) = ap (λ (n : ℕ). at_stage (InHand state n)) (grown ∙ ap (λ (n : ℕ). n + more) left_is) in (
+                  task,
+                  state,
+                  left,
+                  more,
+                  in_hand,
+                  subst (λ (t : Task). t.budget ≤ left + more) (sym shown) (subst (λ (n : ℕ). e.budget ≤ n + more) left_is enough),
+                  ap (λ (ts : List Task). record { store = store; programs = programs; jobs = ts; lists = lists }) (kept_tasks ∙ (cpus ∙ lefts)),
+                )
+
+            pub refills : (lists : Option (List Listing)) (view : MachineState) → record { store = store; programs = programs; jobs = tasks_of lanes jobs; lists = lists } ≡ view → (more : ℕ) → h'.cpu ≡ h.cpu → h'.left ≡ h.left + more → e.budget ≤ h.left + more
+                → Refills view c j (record { store = store; programs = programs; jobs = tasks_of (slice_set lanes c l') jobs; lists = lists })
+            refills lists view view_is more same grown enough =
+                let new : List Listed → MachineState = λ js. record { store = store; programs = programs; jobs = tasks_of (slice_set lanes c l') js; lists = lists } in
+                subst (λ (s : MachineState). Refills s c j (new jobs)) view_is
+                (subst (λ (js : List Listed). Refills (record { store = store; programs = programs; jobs = tasks_of lanes jobs; lists = lists }) c j (new js)) unchanged (kept_refills lists more same grown enough))
 
             pub ahead_one : h'.cpu.held ≡ h.cpu.held → IsOnlyOne (tasks_of (slice_set lanes c l') jobs) c j
             ahead_one same_held = subst (λ (js : List Listed). IsOnlyOne (tasks_of (slice_set lanes c l') js) c j) unchanged (kept_one store (still_kept same_held))

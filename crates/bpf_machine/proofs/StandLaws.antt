@@ -20,6 +20,7 @@ use Rattle.bpf_machine.specs.Hands.{IsAt, IsFree}
 use Rattle.bpf_machine.specs.Work.{HasInHand}
 use Rattle.bpf_machine.specs.Listings.{Listing}
 use Rattle.bpf_machine.specs.Machine.{MachineState}
+use Rattle.bpf_machine.specs.Hashes.{mix, stage_hash, task_hash}
 use Rattle.bpf_machine.specs.Parts.{FitsHand, CanStand}
 use Rattle.bpf_machine.specs.Private.Lanes.{lane_of, no_lane, stage_of, tasks_of, FitsLane, IsBoard}
 use Rattle.bpf_machine.specs.Private.Parts.{IsReadAs}
@@ -131,3 +132,17 @@ read_as jobs lanes j e l task inside read within lane is =
     ∙ (ap (λ (n : ℕ). Some (record { cpu = n; program = e.program; budget = e.budget; stage = task.stage })) is.cpu
     ∙ (ap (λ (n : ℕ). Some (record { cpu = task.cpu; program = n; budget = e.budget; stage = task.stage })) is.program
     ∙ ap (λ (n : ℕ). Some (record { cpu = task.cpu; program = task.program; budget = n; stage = task.stage })) is.budget))
+
+-- and back
+pub read_back : (jobs : List Listed) (lanes : List Lane) (j : ℕ) (e : Listed) (l : Lane) (task : Task) → j < length jobs → e ≡ slice_index_or jobs j e → e.cpu < length lanes → l ≡ slice_index_or lanes e.cpu l
+    → slice_get (tasks_of lanes jobs) j ≡ Some task → IsReadAs l e task
+read_back jobs lanes j e l task inside read within lane at =
+    let here : Task = record { cpu = e.cpu; program = e.program; budget = e.budget; stage = stage_of l.hand e.phase } in
+    let two : Some here ≡ Some task = sym (read_task jobs lanes j e l (stage_of l.hand e.phase) inside read within lane refl) ∙ at in
+    let one : here ≡ task = cc in
+    record { cpu = ap (λ (t : Task). t.cpu) one; program = ap (λ (t : Task). t.program) one; budget = ap (λ (t : Task). t.budget) one; stage = sym (ap (λ (t : Task). t.stage) one) }
+
+pub hashed_as : (l : Lane) (e : Listed) (task : Task) → IsReadAs l e task → stage_hash (mix e.cpu e.program) (stage_of l.hand e.phase) ≡ task_hash task
+hashed_as l e task is =
+    ap (λ (n : ℕ). stage_hash (mix n e.program) (stage_of l.hand e.phase)) is.cpu
+    ∙ (ap (λ (n : ℕ). stage_hash (mix task.cpu n) (stage_of l.hand e.phase)) is.program ∙ ap (stage_hash (mix task.cpu task.program)) (sym is.stage))

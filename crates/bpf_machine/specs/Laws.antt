@@ -4,7 +4,8 @@ use Rattle.bpf_shared.specs.Sound.{IsSoundStore}
 use Rattle.bpf_mem.specs.Limits.{max_context}
 use Rattle.bpf_cpu.specs.Task.{Task, Waiting}
 use Rattle.bpf_machine.specs.Schedule.{World, RunsSchedule}
-use Rattle.bpf_machine.specs.Rounds.{RunsToEnd}
+use Rattle.bpf_machine.specs.Rounds.{RunsBy, RunsToEnd}
+use Rattle.bpf_machine.specs.Happenings.{Happening, RunsByWith}
 
 -- a plain machine before its first turn: each job waits, with a context of at most 4,096 bytes
 pub record IsFresh (w : World) : Type 0 where
@@ -21,3 +22,15 @@ SchedulesAreDetermined =
 -- so have rounds: one last machine is left
 abbrev pub RoundsAreDetermined : Type 0
 RoundsAreDetermined = (w y z : World) → IsFresh w → RunsToEnd w y → RunsToEnd w z → y ≡ z
+
+-- and so have rounds behind a schedule
+abbrev pub RunsByAreDetermined : Type 0
+RunsByAreDetermined =
+    (w y z : World) (schedule : List ℕ) → IsFresh w
+    → RunsBy w schedule y → RunsBy w schedule z → y ≡ z
+
+-- and so has what happens in them
+abbrev pub HappeningsAreDetermined : Type 0
+HappeningsAreDetermined =
+    (w y z : World) (schedule : List ℕ) (log other : List Happening) → IsFresh w
+    → RunsByWith w schedule log y → RunsByWith w schedule other z → (log ≡ other) × (y ≡ z)

@@ -2,6 +2,7 @@ pub mod Hands
 pub mod Listings
 pub mod Schedule
 pub mod Rounds
+pub mod Happenings
 pub mod Machine
 pub mod Work
 pub mod Questions
@@ -9,6 +10,8 @@ pub mod Headways
 pub mod Cover
 pub mod Race
 pub mod Patient
+pub mod Kept
 pub mod Parts
+pub mod Hashes
 pub mod Laws
 pub mod Private

@@ -28,3 +28,7 @@ HaveEnded jobs = (j : ℕ) (task : Task) → slice_get jobs j ≡ Some task
 -- rounds until no CPU has work
 abbrev pub RunsToEnd : World → World → Type 0
 RunsToEnd w z = (n : ℕ) × RunsRounds n w z × HaveEnded z.jobs
+
+-- the turns of a schedule, and behind them rounds, from CPU 0 on
+abbrev pub RunsBy : World → List ℕ → World → Type 0
+RunsBy w schedule z = (y : World) × RunsSchedule w schedule y × RunsToEnd y z

@@ -2,7 +2,8 @@
 //!
 //! These functions do nothing: their contracts are the laws, which a proof cites.
 ghost use Rattle.bpf_machine.specs.Questions.{TurnsFall};
-ghost use Rattle.bpf_machine.specs.Laws.{RoundsAreDetermined, SchedulesAreDetermined};
+ghost use Rattle.bpf_machine.specs.Happenings.{HappeningsAreOfRuns};
+ghost use Rattle.bpf_machine.specs.Laws.{HappeningsAreDetermined, RoundsAreDetermined, RunsByAreDetermined, SchedulesAreDetermined};
 ghost use Rattle.bpf_machine.specs.Cover.{ClosedSetsCover};
 ghost use Rattle.bpf_machine.specs.Race.{RacesAreKept};
 ghost use Rattle.bpf_machine.specs.Patient.{PatientSetsCover, PatientRacesAreKept};
@@ -24,6 +25,29 @@ pub fn turns_fall()
 /// Over a plain store, rounds leave one machine.
 pub fn rounds_are_determined()
     ensures { RoundsAreDetermined }
+{
+    bpf_mem::laws::writes_are_determined();
+    bpf_loader::laws::one_instruction_begins();
+    bpf_shared::laws::calls_have_one_reply();
+}
+
+/// So do rounds behind the turns of a schedule.
+pub fn runs_by_are_determined()
+    ensures { RunsByAreDetermined }
+{
+    bpf_mem::laws::writes_are_determined();
+    bpf_loader::laws::one_instruction_begins();
+    bpf_shared::laws::calls_have_one_reply();
+}
+
+/// Rounds behind a schedule, with what happens in them, are rounds behind that schedule.
+pub fn happenings_are_of_runs()
+    ensures { HappeningsAreOfRuns }
+{}
+
+/// Over a plain store, one thing happens in them.
+pub fn happenings_are_determined()
+    ensures { HappeningsAreDetermined }
 {
     bpf_mem::laws::writes_are_determined();
     bpf_loader::laws::one_instruction_begins();

@@ -1,6 +1,7 @@
 //! A machine: jobs on the CPUs of a plain store, on one thread, in the order of any schedule.
 
 mod ahead;
+mod budgets;
 mod lane;
 mod lengths;
 mod listing;
@@ -15,7 +16,7 @@ use lane::{
     Hand, Lane, Listed, Phase, count_cpus, first_job, list_jobs, make_lanes, make_room, put_down,
 };
 use listing::{KeyLists, make_asked};
-pub use parts::KeptJob;
+pub use parts::{KeptJob, KeptStage};
 use std::alloc::Global;
 use std::marker::Model;
 use std::mem;

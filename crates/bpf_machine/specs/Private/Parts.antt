@@ -5,16 +5,9 @@ use Rattle.bpf_machine.specs.declared.machine.lane.Phase.{Phase}
 use Rattle.bpf_machine.specs.declared.machine.lane.Phase.TheVariants as phase
 use Rattle.bpf_machine.specs.declared.machine.lane.Hand.{Hand}
 use Rattle.bpf_machine.specs.declared.machine.lane.Lane.{Lane}
-use Rattle.bpf_machine.specs.declared.machine.parts.KeptStage.{KeptStage}
-use Rattle.bpf_machine.specs.declared.machine.parts.KeptStage.TheVariants as kept
 use Rattle.bpf_cpu.specs.Task.{Stage, Task, Waiting, InHand, Ended}
 use Rattle.bpf_machine.specs.Parts.{chosen_at}
 use Rattle.bpf_machine.specs.Private.Lanes.{stage_of}
-
-abbrev pub kept_stage : KeptStage → Stage
-kept_stage (kept.Waiting context) = Waiting context.items
-kept_stage (kept.InHand state left) = InHand state left
-kept_stage (kept.Ended outcome) = Ended outcome
 
 abbrev pub in_hand : Stage → Bool
 in_hand (Waiting context) = false
@@ -74,3 +67,22 @@ pub record IsLaneOf (parts : List Task) (numbers : List ℕ) (c : ℕ) (l : Lane
   pub free : l.hand ≡ None → (k : ℕ) → k < length numbers → (chosen_at parts numbers k).cpu ≡ c
       → in_hand (chosen_at parts numbers k).stage ≡ false
   pub next : IsFirstWaiting parts numbers c l.next
+
+-- ---- lanes that are filled anew, without memory
+-- the CPU's first job in hand
+pub record IsFirstHand (parts : List Task) (numbers : List ℕ) (c j : ℕ) : Type 0 where
+  pub within : j < length numbers
+  pub of : (chosen_at parts numbers j).cpu ≡ c
+  pub found : in_hand (chosen_at parts numbers j).stage ≡ true
+  pub first : (k : ℕ) → k < j → (chosen_at parts numbers k).cpu ≡ c
+      → in_hand (chosen_at parts numbers k).stage ≡ false
+
+-- the job's context is as long as that of the hand
+abbrev pub FitsIn : Stage → Option Hand → Type 0
+FitsIn (InHand state left) (Some h) =
+    length state.memory.context ≡ length h.cpu.memory.context
+FitsIn _ _ = ⊥
+
+abbrev pub CanFill : List Task → List ℕ → ℕ → Lane → Type 0
+CanFill parts numbers c l = (j : ℕ) → IsFirstHand parts numbers c j
+    → FitsIn (chosen_at parts numbers j).stage l.hand

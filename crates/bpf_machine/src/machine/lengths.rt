@@ -1,6 +1,6 @@
 //! Schedules that are told in run lengths.
 
-use super::Machine;
+use super::{Machine, Turn};
 
 impl Machine {
     ghost use Rattle.std.specs.Prelude.{replicate};
@@ -8,14 +8,16 @@ impl Machine {
     ghost use Rattle.bpf_machine.specs.Machine.{Shows};
     ghost use Rattle.bpf_machine.specs.Parts.{IsSameHost};
 
-    /// So many turns of a CPU.
+    /// So many turns of a CPU. Those behind an idle one are idle too, and aren't made.
     fn repeat(&mut self, cpu: u8, turns: u64)
         ensures runs { (w : World) → Shows self.old w
             → (z : World) × RunsSchedule w (replicate turns cpu) z × Shows self.new z }
         ensures same { IsSameHost self.old self.new }
     {
         for _ in 0..turns {
-            self.turn(cpu);
+            if let Turn::Idle = self.turn(cpu) {
+                break;
+            }
         }
     }
 

@@ -1,13 +1,16 @@
 //! Jobs of a machine that are kept as they stand, and a machine that is made again of such jobs and
 //! a store.
 
-ghost use Rattle.std.specs.Prelude.{◌≡◌, ◌<◌, ◌≤◌, ℕ, true, false, All, IfOk, IfSome, IfNone, length};
+ghost use Rattle.std.specs.Prelude.{◌≡◌, ◌<◌, ◌≤◌, ℕ, true, false, All, IfOk, IfSome, IfNone, OnOk, OnErr, Some, None, length};
+ghost use Rattle.bpf_cpu.specs.Task.{InHand, Ended};
+ghost use Rattle.bpf_machine.specs.Hashes.{mix, stage_hash, task_hash};
 ghost use Rattle.bpf_machine.specs.Parts.{chosen_at};
 ghost use Rattle.bpf_machine.specs.Private.Lanes.{lane_of, stage_of};
-ghost use Rattle.bpf_machine.specs.Private.Parts.{kept_stage, IsReadAs, in_hand, waits, entry_at, IsEntryOf, IsHandOf, IsFirstWaiting, IsLaneOf};
+ghost use Rattle.bpf_machine.specs.Kept.{kept_stage};
+ghost use Rattle.bpf_machine.specs.Private.Parts.{IsReadAs, in_hand, waits, entry_at, IsEntryOf, IsHandOf, IsFirstWaiting, IsLaneOf, FitsIn, CanFill};
 
 use super::Machine;
-use crate::machine::lane::{Hand, Lane, Listed, Phase};
+use crate::machine::lane::{Hand, Lane, Listed, Phase, put_down};
 use bpf_base::spread;
 use bpf_cpu::{Cpu, Outcome};
 use bpf_plain::PlainStore;
@@ -16,7 +19,7 @@ use std::marker::Model;
 
 /// How far a kept job is.
 #[derive(Drop)]
-pub(crate) enum KeptStage {
+pub enum KeptStage {
     /// It waits, with its context.
     Waiting(Vec<u8>),
     /// It is in its CPU's hand, with so many steps left.
@@ -35,7 +38,7 @@ pub struct KeptJob {
 
 impl Model for KeptJob {
     ghost use Rattle.bpf_cpu.specs.Task.{Task};
-    ghost use Rattle.bpf_machine.specs.Private.Parts.{kept_stage};
+    ghost use Rattle.bpf_machine.specs.Kept.{kept_stage};
 
     ghost Value = { Task };
 
@@ -82,8 +85,10 @@ fn keep_stage(alloc: Global, lane: &Lane, phase: &Phase) -> Result<KeptStage, Al
 
 /// Whether the job in a CPU's hand is in this state, with so many steps left.
 fn is_in_hand(lane: &Lane, cpu: &Cpu, left: u64) -> bool
-    ensures { result ≡ true → kept_stage (KeptStage.InHand cpu.now left)
+    ensures same { result ≡ true → kept_stage (KeptStage.InHand cpu.now left)
         ≡ stage_of lane.now.hand Phase.InHand }
+    ensures differs { result ≡ false → kept_stage (KeptStage.InHand cpu.now left)
+        ≡ stage_of lane.now.hand Phase.InHand → ⊥ }
 {
     match &lane.hand {
         Some(hand) => hand.left == left && hand.cpu.is_same(cpu),
@@ -93,12 +98,18 @@ fn is_in_hand(lane: &Lane, cpu: &Cpu, left: u64) -> bool
 
 /// Whether a job in this phase on the CPU of this lane is in this stage.
 fn is_stage(lane: &Lane, phase: &Phase, stage: &KeptStage) -> bool
-    ensures { result ≡ true → kept_stage stage.now ≡ stage_of lane.now.hand phase.now }
+    ensures same { result ≡ true → kept_stage stage.now ≡ stage_of lane.now.hand phase.now }
+    ensures differs { result ≡ false → kept_stage stage.now ≡ stage_of lane.now.hand phase.now
+        → ⊥ }
 {
     match stage {
         KeptStage::Waiting(context) => match phase {
             Phase::Waiting(other) => context.as_slice() == other.as_slice(),
-            _ => false,
+            Phase::InHand => match &lane.hand {
+                Some(_) => false,
+                None => context.is_empty(),
+            },
+            Phase::Ended(_) => false,
         },
         KeptStage::InHand(cpu, left) => match phase {
             Phase::InHand => is_in_hand(lane, cpu, *left),
@@ -112,6 +123,27 @@ fn is_stage(lane: &Lane, phase: &Phase, stage: &KeptStage) -> bool
 }
 
 impl KeptJob {
+    /// The number of its program.
+    pub fn program(&self) -> usize
+        ensures { result ≡ self.now.program }
+    {
+        self.program
+    }
+
+    /// How many steps it may make in all.
+    pub fn budget(&self) -> u64
+        ensures { result ≡ self.now.budget }
+    {
+        self.budget
+    }
+
+    /// How far it is, with what it goes on from.
+    pub fn into_stage(self) -> KeptStage
+        ensures { kept_stage result ≡ self.stage }
+    {
+        self.stage
+    }
+
     fn is_in_hand(&self) -> bool
         ensures { result ≡ in_hand self.now.stage }
     {
@@ -130,6 +162,30 @@ impl KeptJob {
         }
     }
 
+    /// Whether it has an outcome.
+    pub fn has_ended(&self) -> bool
+        ensures ended { result ≡ true
+            → (outcome : Outcome) × (self.now.stage ≡ Ended outcome) }
+        ensures going { result ≡ false → (outcome : Outcome) → self.now.stage ≡ Ended outcome → ⊥ }
+    {
+        match &self.stage {
+            KeptStage::Ended(_) => true,
+            KeptStage::Waiting(_) | KeptStage::InHand(_, _) => false,
+        }
+    }
+
+    /// A number by which it is found.
+    pub fn hash(&self) -> u64
+        ensures { result ≡ task_hash self.now }
+    {
+        let first = mix(self.cpu as u64, self.program as u64);
+        match &self.stage {
+            KeptStage::Waiting(_) => mix(first, 1),
+            KeptStage::InHand(cpu, left) => hash_of_hand(first, cpu, *left),
+            KeptStage::Ended(_) => mix(first, 2),
+        }
+    }
+
     /// The CPU's number.
     fn cpu(&self) -> u8
         ensures { result ≡ self.now.cpu }
@@ -139,15 +195,18 @@ impl KeptJob {
 
     /// Whether it is a listed job's, but for the stage.
     fn is_of(&self, listed: &Listed) -> bool
-        ensures { result ≡ true → (listed.now.cpu ≡ self.now.cpu)
+        ensures same { result ≡ true → (listed.now.cpu ≡ self.now.cpu)
             × (listed.now.program ≡ self.now.program) × (listed.now.budget ≡ self.now.budget) }
+        ensures differs { result ≡ false → listed.now.cpu ≡ self.now.cpu
+            → listed.now.program ≡ self.now.program → listed.now.budget ≡ self.now.budget → ⊥ }
     {
         listed.cpu == self.cpu && listed.program == self.program && listed.budget == self.budget
     }
 
     /// Whether it is how a listed job stands on the CPU of this lane.
     fn is_at(&self, lane: &Lane, listed: &Listed) -> bool
-        ensures { result ≡ true → IsReadAs lane.now listed.now self.now }
+        ensures same { result ≡ true → IsReadAs lane.now listed.now self.now }
+        ensures differs { result ≡ false → IsReadAs lane.now listed.now self.now → ⊥ }
     {
         if !self.is_of(listed) {
             return false;
@@ -209,6 +268,9 @@ fn find_hand(parts: &[KeptJob], numbers: &[u32], cpu: u8) -> Option<usize>
     ensures of { IfSome result (λ j. (chosen_at parts.now numbers.now j).cpu ≡ cpu) }
     ensures found { IfSome result
         (λ j. in_hand (chosen_at parts.now numbers.now j).stage ≡ true) }
+    ensures first { IfSome result (λ j. (k : ℕ) → k < j
+        → (chosen_at parts.now numbers.now k).cpu ≡ cpu
+        → in_hand (chosen_at parts.now numbers.now k).stage ≡ false) }
     ensures none { IfNone result ((k : ℕ) → k < length numbers.now
         → (chosen_at parts.now numbers.now k).cpu ≡ cpu
         → in_hand (chosen_at parts.now numbers.now k).stage ≡ false) }
@@ -269,15 +331,177 @@ fn lanes_of_kept(
     Ok(lanes)
 }
 
-/// A number of a state, for hashes alone.
-fn mix(hash: u64, number: u64) -> u64 {
+/// Whether a job's state can be copied into what a lane has in hand: their contexts are as long.
+fn fits_hand(lane: &Lane, part: &KeptJob) -> bool
+    ensures { result ≡ true → FitsIn part.now.stage lane.now.hand }
+{
+    match &part.stage {
+        KeptStage::InHand(cpu, _) => match &lane.hand {
+            Some(hand) => has_context_of(cpu, &hand.cpu),
+            None => false,
+        },
+        KeptStage::Waiting(_) | KeptStage::Ended(_) => false,
+    }
+}
+
+/// Whether two states have contexts of one length.
+fn has_context_of(cpu: &Cpu, other: &Cpu) -> bool
+    ensures { result ≡ true → length cpu.now.memory.context ≡ length other.now.memory.context }
+{
+    cpu.memory.context.bytes().len() == other.memory.context.bytes().len()
+}
+
+/// Whether a CPU's lane can become that of these jobs without memory.
+fn can_fill(lane: &Lane, parts: &[KeptJob], numbers: &[u32], cpu: u8) -> bool
+    requires { All (λ n. n < length parts.now) numbers.now }
+    ensures { result ≡ true → CanFill parts.now numbers.now cpu lane.now }
+{
+    match find_hand(parts, numbers, cpu) {
+        Some(job) => fits_hand(lane, &parts[numbers[job] as usize]),
+        None => true,
+    }
+}
+
+/// The same of each CPU's.
+fn can_fill_all(lanes: &[Lane], parts: &[KeptJob], numbers: &[u32], cpus: u8) -> bool
+    requires { All (λ n. n < length parts.now) numbers.now }
+    ensures count { result ≡ true → length lanes.now ≡ cpus }
+    ensures each { result ≡ true → (c : ℕ) → c < cpus
+        → CanFill parts.now numbers.now c (lane_of lanes.now c) }
+{
+    if lanes.len() != cpus as usize {
+        return false;
+    }
+    for cpu in 0..cpus {
+        if !can_fill(&lanes[cpu as usize], parts, numbers, cpu) {
+            return false;
+        }
+    }
+    true
+}
+
+/// A hand becomes that of a job, which has this number.
+fn fill_hand(hand: &mut Hand, part: &KeptJob, job: usize)
+    requires { FitsIn part.now.stage (Some hand.old) }
+    ensures stage { part.now.stage ≡ InHand hand.new.cpu hand.new.left }
+    ensures job { hand.new.job ≡ job }
+{
+    match &part.stage {
+        KeptStage::InHand(cpu, left) => {
+            hand.job = job;
+            hand.cpu.copy_from(cpu);
+            hand.left = *left;
+        }
+        KeptStage::Waiting(_) | KeptStage::Ended(_) => unreachable!(),
+    }
+}
+
+/// A CPU's lane has in hand what these jobs have.
+fn take_up(lane: &mut Lane, parts: &[KeptJob], numbers: &[u32], cpu: u8)
+    requires within { All (λ n. n < length parts.now) numbers.now }
+    requires fits { CanFill parts.now numbers.now cpu lane.old }
+    ensures hand { (h : Hand) → lane.new.hand ≡ Some h → (h.job < length numbers.now)
+        × ((chosen_at parts.now numbers.now h.job).cpu ≡ cpu)
+        × ((chosen_at parts.now numbers.now h.job).stage ≡ InHand h.cpu h.left) }
+    ensures free { lane.new.hand ≡ None → (k : ℕ) → k < length numbers.now
+        → (chosen_at parts.now numbers.now k).cpu ≡ cpu
+        → in_hand (chosen_at parts.now numbers.now k).stage ≡ false }
+{
+    match find_hand(parts, numbers, cpu) {
+        Some(job) => match &mut lane.hand {
+            Some(hand) => fill_hand(hand, &parts[numbers[job] as usize], job),
+            None => unreachable!(),
+        },
+        None => put_down(lane),
+    }
+}
+
+/// A CPU's lane becomes that of these jobs.
+fn fill_lane(lane: &mut Lane, parts: &[KeptJob], numbers: &[u32], cpu: u8)
+    requires within { All (λ n. n < length parts.now) numbers.now }
+    requires fits { CanFill parts.now numbers.now cpu lane.old }
+    ensures { IsLaneOf parts.now numbers.now cpu lane.new }
+{
+    take_up(lane, parts, numbers, cpu);
+    lane.next = find_waiting(parts, numbers, cpu);
+}
+
+/// The same of each CPU's.
+fn fill_all(lanes: &mut Vec<Lane>, parts: &[KeptJob], numbers: &[u32], cpus: u8)
+    requires within { All (λ n. n < length parts.now) numbers.now }
+    requires count { length lanes.old.items ≡ cpus }
+    requires each { (c : ℕ) → c < cpus
+        → CanFill parts.now numbers.now c (lane_of lanes.old.items c) }
+    ensures count { length lanes.new.items ≡ cpus }
+    ensures each { (c : ℕ) → c < cpus
+        → IsLaneOf parts.now numbers.now c (lane_of lanes.new.items c) }
+{
+    for cpu in 0..cpus {
+        fill_lane(&mut lanes[cpu as usize], parts, numbers, cpu);
+    }
+}
+
+/// Lanes become those of these jobs. Unchanged where there is no memory; none is taken where what
+/// is in hand can be written over.
+fn renew_lanes(
+    alloc: Global,
+    lanes: &mut Vec<Lane>,
+    parts: &[KeptJob],
+    numbers: &[u32],
+    cpus: u8,
+) -> Result<(), AllocError>
+    requires { All (λ n. n < length parts.now) numbers.now }
+    ensures count { OnOk result (length lanes.new.items ≡ cpus) }
+    ensures each { OnOk result ((c : ℕ) → c < cpus
+        → IsLaneOf parts.now numbers.now c (lane_of lanes.new.items c)) }
+    ensures err { OnErr result (lanes.new.items ≡ lanes.old.items) }
+{
+    if can_fill_all(lanes, parts, numbers, cpus) {
+        fill_all(lanes, parts, numbers, cpus);
+        return Ok(());
+    }
+    let made = lanes_of_kept(alloc, parts, numbers, cpus)?;
+    *lanes = made;
+    Ok(())
+}
+
+/// One more number of what is hashed.
+fn mix(hash: u64, number: u64) -> u64
+    ensures { result ≡ mix hash number }
+{
     spread(hash ^ number)
 }
 
+/// A number by which a job in hand is found, behind one of its own.
+fn hash_of_hand(first: u64, cpu: &Cpu, left: u64) -> u64
+    ensures { result ≡ stage_hash first (InHand cpu.now left) }
+{
+    let hash = mix(mix(first, cpu.pc as u64), left);
+    cpu.registers
+        .iter()
+        .fold(hash, |hash: u64, word| spread(hash ^ *word))
+}
+
+/// The same of a job in this phase on the CPU of this lane.
+fn hash_of_stage(first: u64, lane: &Lane, phase: &Phase) -> u64
+    ensures { result ≡ stage_hash first (stage_of lane.now.hand phase.now) }
+{
+    match phase {
+        Phase::Waiting(_) => mix(first, 1),
+        Phase::Ended(_) => mix(first, 2),
+        Phase::InHand => match &lane.hand {
+            Some(hand) => hash_of_hand(first, &hand.cpu, hand.left),
+            None => mix(first, 1),
+        },
+    }
+}
+
 impl Machine {
-    ghost use Rattle.std.specs.Prelude.{◌≡◌, ◌<◌, ℕ, true, All, IfOk, OnOk, OnErr, Some, None, length, slice_get};
+    ghost use Rattle.std.specs.Prelude.{◌≡◌, ◌<◌, ℕ, true, false, All, IfOk, OnOk, OnErr, Some, None, length, slice_get};
     ghost use Rattle.bpf_plain.specs.Alike.{IsSameShape};
+    ghost use Rattle.bpf_cpu.specs.Task.{Task};
     ghost use Rattle.bpf_machine.specs.Parts.{CanStand, made_of};
+    ghost use Rattle.bpf_machine.specs.Hashes.{task_hash};
 
     /// A job as it stands.
     pub fn kept_job(&self, alloc: Global, job: usize) -> Result<KeptJob, AllocError>
@@ -297,35 +521,22 @@ impl Machine {
     /// Whether a job stands as a kept one stood.
     pub fn is_kept_job(&self, job: usize, kept: &KeptJob) -> bool
         requires { job < length self.now.jobs }
-        ensures { result ≡ true → slice_get self.now.jobs job ≡ Some kept.now }
+        ensures same { result ≡ true → slice_get self.now.jobs job ≡ Some kept.now }
+        ensures differs { result ≡ false → slice_get self.now.jobs job ≡ Some kept.now → ⊥ }
     {
         let listed = &self.jobs[job];
         kept.is_at(&self.lanes[listed.cpu as usize], listed)
     }
 
-    /// A number by which jobs that stand alike are found. Nothing is promised of it.
-    pub fn hash_of_job(&self, job: usize) -> u64 {
-        let Some(listed) = self.jobs.get(job) else {
-            return 0;
-        };
-        let hash = mix(job as u64, listed.program as u64);
-        match &listed.phase {
-            Phase::Waiting(_) => mix(hash, 1),
-            Phase::Ended(_) => mix(hash, 2),
-            Phase::InHand => match self.lanes.get(listed.cpu as usize) {
-                Some(
-                    Lane {
-                        hand: Some(hand),
-                        ..
-                    },
-                ) => hand
-                    .cpu
-                    .registers
-                    .iter()
-                    .fold(mix(hash, hand.left), |hash: u64, word| mix(hash, *word)),
-                _ => hash,
-            },
-        }
+    /// A number by which jobs that stand alike are found.
+    pub fn hash_of_job(&self, job: usize) -> u64
+        requires { job < length self.now.jobs }
+        ensures { (task : Task) → slice_get self.now.jobs job ≡ Some task
+            → result ≡ task_hash task }
+    {
+        let listed = &self.jobs[job];
+        let first = mix(listed.cpu as u64, listed.program as u64);
+        hash_of_stage(first, &self.lanes[listed.cpu as usize], &listed.phase)
     }
 
     /// The machine's store, programs and jobs fit each other.
@@ -353,10 +564,10 @@ impl Machine {
         ensures err { OnErr result (self.new ≡ self.old) }
     {
         let jobs = list_kept(alloc, parts, numbers)?;
-        let lanes = lanes_of_kept(alloc, parts, numbers, self.store.cpus())?;
+        let cpus = self.store.cpus();
+        renew_lanes(alloc, &mut self.lanes, parts, numbers, cpus)?;
         self.store.copy_from(store);
         self.jobs = jobs;
-        self.lanes = lanes;
         Ok(())
     }
 }

@@ -2,7 +2,7 @@ use Rattle.std.proofs.Common.{◌≡◌, Some, subst, arith}
 use Rattle.std.specs.Prelude.{slice_get}
 use Rattle.bpf_cpu.specs.Task.{Task}
 use Rattle.bpf_machine.specs.Machine.{MachineState}
-use Rattle.bpf_machine.specs.Private.Parts.{kept_stage}
+use Rattle.bpf_machine.specs.Kept.{kept_stage}
 use Rattle.bpf_machine.specs.Private.KeyLists.{listings}
 use Rattle.bpf_machine.proofs.StandLaws.{entry_inside, job_inside, read_task}
 use Rattle.bpf_machine.proofs.machine.Machine.kept_job.Goals as goal

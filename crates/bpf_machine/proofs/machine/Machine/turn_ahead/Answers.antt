@@ -1,0 +1,11 @@
+use Rattle.bpf_machine.specs.declared.machine.ahead.Headway.TheVariants.{Idle, Turns}
+use Rattle.bpf_machine.proofs.QuietLaws.{ran_runs}
+use Rattle.bpf_machine.proofs.machine.Machine.turn_ahead.Goals as goal
+
+pub returns-in-Turns-clause-runs : goal.returns-in-Turns-clause-runs
+returns-in-Turns-clause-runs c =
+    ran_runs c.args.self.now c.turn.new.self c.run_ahead.new.self c.args.cpu c.turn.result (Turns c.in-Turns.turns) c.turn.ensures.turn c.in-Turns.ensures
+
+pub returns-in-Idle-clause-runs : goal.returns-in-Idle-clause-runs
+returns-in-Idle-clause-runs c =
+    ran_runs c.args.self.now c.turn.new.self c.run_ahead.new.self c.args.cpu c.turn.result Idle c.turn.ensures.turn c.in-Idle.ensures
