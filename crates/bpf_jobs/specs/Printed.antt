@@ -11,8 +11,8 @@ use Rattle.bpf_cpu.specs.declared.outcome.Outcome.TheVariants as outcome
 use Rattle.bpf_cpu.specs.Lines.{job_line}
 use Rattle.bpf_cpu.specs.Task.{Task, ended, outcome_at}
 use Rattle.bpf_machine.specs.Listings.{first_lists, made_keys}
-use Rattle.bpf_machine.specs.Schedule.{World}
-use Rattle.bpf_machine.specs.Rounds.{RunsToEnd}
+use Rattle.bpf_machine.specs.Schedule.{World, unrolled}
+use Rattle.bpf_machine.specs.Rounds.{RunsBy, RunsToEnd}
 
 -- ---- jobs
 abbrev pub end_line : ℕ → Task → Option Outcome → List ℕ
@@ -124,4 +124,10 @@ lines_of_lists z names = list_lines (λ c. made_keys (z.lists c)) names z.store.
 -- rounds lead to a last machine, of which this is told
 abbrev pub IsReport : World → List (List ℕ) → Bool → List ℕ → Bool → Type 0
 IsReport w names maps text stopped = (z : World) × RunsToEnd w z
+    × TellsWith (lines_of_lists z names) z.store z.jobs names maps text stopped
+
+-- the turns of a schedule, CPUs each with how many turns it takes before the next, and rounds behind
+-- them lead to a last machine, of which this is told
+abbrev pub IsReportBy : World → List (ℕ × ℕ) → List (List ℕ) → Bool → List ℕ → Bool → Type 0
+IsReportBy w runs names maps text stopped = (z : World) × RunsBy w (unrolled runs) z
     × TellsWith (lines_of_lists z names) z.store z.jobs names maps text stopped

@@ -8,7 +8,7 @@ ghost use Rattle.bpf_plain.specs.PlainStore.{StandsFor};
 ghost use Rattle.bpf_cpu.specs.Task.{waiting};
 ghost use Rattle.bpf_machine.specs.Machine.{Shows};
 ghost use Rattle.bpf_machine.specs.Schedule.{World};
-ghost use Rattle.bpf_jobs.specs.Printed.{asked_world, first_world, AreMapsAsked, IsReport, lines_of_lists, TellsWith};
+ghost use Rattle.bpf_jobs.specs.Printed.{asked_world, first_world, AreMapsAsked, IsReport, IsReportBy, lines_of_lists, TellsWith};
 
 use crate::listing::{has_any_stopped, list_jobs};
 use crate::lists::list_keys;
@@ -47,7 +47,7 @@ pub fn make_machine(
 }
 
 /// The same, which is to list keys or not.
-fn make_asked(
+pub fn make_asked(
     alloc: Global,
     shape: StoreShape,
     programs: Vec<Program>,
@@ -132,13 +132,36 @@ pub fn run_jobs(
         (asked_world keys shape programs.items (map waiting jobs.items))
         (map string_bytes names.now) maps (string_bytes r.text) r.stopped) }
 {
+    run_jobs_by(alloc, shape, names, programs, jobs, &[], keys, maps)
+}
+
+/// The same behind the turns of a schedule: CPUs, each with how many turns it takes before the next.
+/// Turns of a CPU without work change nothing, so those of one that the store hasn't do neither.
+pub fn run_jobs_by(
+    alloc: Global,
+    shape: StoreShape,
+    names: &[String],
+    programs: Vec<Program>,
+    jobs: Vec<Job>,
+    schedule: &[(u8, u64)],
+    keys: bool,
+    maps: bool,
+) -> Result<Report, AllocError>
+    requires cpus { All (λ job. job.cpu < shape.cpus) jobs.items }
+    requires programs { All (λ job. job.program < vec_len programs) jobs.items }
+    requires contexts { All (λ job. vec_len job.context ≤ max_context) jobs.items }
+    ensures { IfOk result (λ r. IsReportBy
+        (asked_world keys shape programs.items (map waiting jobs.items)) schedule.now
+        (map string_bytes names.now) maps (string_bytes r.text) r.stopped) }
+{
     let mut machine = make_asked(alloc, shape, programs, jobs, keys)?;
+    machine.turns_by(schedule);
     machine.rounds();
     let report = tell(alloc, &machine, names, maps)?;
     Ok(report)
 }
 
-/// The same without lists of keys.
+/// Without a schedule and lists of keys.
 pub fn run_in_rounds(
     alloc: Global,
     shape: StoreShape,
