@@ -95,7 +95,7 @@ module _ {keys : Bool} (t : Shown) (jobs : List Job) (programs : List Loaded) (p
   cpus = t.about.shape.cpus
 
   abbrev no_port : Port
-  no_port = record { table = t.id; known = new_lane t.about 0; arenas = []; batches = [] }
+  no_port = record { table = t.id; known = new_lane t.about 0; arenas = []; batches = []; spilled = None }
 
   pub many : length ports ≡ cpus
   many = sym (length-map ports known_of) ∙ (ap length are.new ∙ long_lanes t.about 0 cpus)

@@ -1,8 +1,9 @@
 -- An update, and a split behind it.
-use Rattle.std.proofs.Common.{◌≡◌, ℕ, Bool, true, false, not, List, [], ◌∷◌, ◌++◌, refl, ap, sym, subst, ◌∙◌, append_assoc, inl, inr, ⊎_elim}
+use Rattle.std.proofs.Common.{◌≡◌, ℕ, Bool, true, false, not, List, [], ◌∷◌, ◌++◌, refl, ap, sym, subst, ◌∙◌, append_assoc, Option, Some, None, IfSome, inl, inr, ⊎_elim}
 use Rattle.std.proofs.lemmas.List.{append-nil}
 use Rattle.bpf_shared.specs.declared.events.Event.{Event}
 use Rattle.bpf_shared.specs.declared.events.MapAnswer.{MapAnswer}
+use Rattle.bpf_shared.specs.declared.events.MapAnswer.TheVariants.{Done}
 use Rattle.bpf_shared.specs.declared.events.Event.TheVariants.{Update}
 use Rattle.bpf_shared.specs.History.{events_of}
 use Rattle.bpf_shared.specs.Own.{in_run}
@@ -16,34 +17,47 @@ use Rattle.hop_map.specs.declared.growth.Growth.{Growth}
 use Rattle.hop_map.specs.declared.growth.Growth.TheVariants.{Grown, AtDepth, Worn}
 use Rattle.hop_map.specs.Splitting.{SplitEnds}
 use Rattle.hop_map.specs.Port.{Port, PortDoes, runs}
-use Rattle.hop_map.specs.Noting.{MayNote, CallNotes, CallsNote}
-use Rattle.hop_cpu.specs.Growing.{NotesGrowth, Grows}
+use Rattle.hop_map.specs.Call.{IsShortage}
+use Rattle.hop_map.specs.Noting.{MayNote, CallNotes, CallsNote, LockedLast}
+use Rattle.hop_cpu.specs.Growing.{NotesGrowth, Grows, HasTriedSplit}
+
+some_is : (s t : ℕ) → Some s ≡ Some t → s ≡ t
+some_is s t is = cc
+
+pub none_some : {A : Type 0} {x : A} → None ≡ Some x → ⊥
+none_some is = cc
 
 -- ---- a split that was tried, or none
-pub grows_none : (a : About) (m : ℕ) (p : Port) → Grows a m p p
-grows_none a m p = record { more = []; notes = inl refl; tally = refl; known = refl; same = refl }
+pub grows_none : (a : About) (m : ℕ) (p : Port) → ((s : ℕ) → p.spilled ≡ Some s → (shape_at a m).grow ≡ true → ⊥) → Grows a m p p
+grows_none a m p never = record { more = []; notes = inl refl; tally = refl; known = refl; same = refl; untried = λ _. refl; tried = λ s is grow. absurd (never s is grow) }
 
-pub grows_split : (a : About) (m home : ℕ) (p q : Port) (g : Growth) → (shape_at a m).grow ≡ true → q ≡ record p { known = q.known } → SplitEnds a p.known m home g q.known → Grows a m p q
-grows_split a m home p q Grown grow same (s, n, owns, less, version, is) = record {
+pub grows_split : (a : About) (m home : ℕ) (p q : Port) (g : Growth) → p.spilled ≡ Some home → (shape_at a m).grow ≡ true → q ≡ record p { known = q.known } → SplitEnds a p.known m home g q.known → Grows a m p q
+grows_split a m home p q Grown spilled grow same (s, n, owns, less, version, is) = record {
   more = split_made m s n ∷ (lock_taken m s n ∷ []);
   notes = inr (grow, (s, n, inr refl));
   tally = ap (λ (k : Known). k.tally) is;
   known = is ∙ (λ j. record p.known { readings = sym (ap (λ (k : Known). k.readings) is) j; tally = sym (ap (λ (k : Known). k.tally) is) j });
   same = same;
+  untried = λ none. absurd (none_some (sym none ∙ spilled));
+  tried = λ t there _. (Grown, subst (λ (h : ℕ). SplitEnds a p.known m h Grown q.known) (some_is home t (sym spilled ∙ there)) (s, n, owns, less, version, is));
 }
-grows_split a m home p q AtDepth grow same (s, n, owns, at, is) = record {
+grows_split a m home p q AtDepth spilled grow same (s, n, owns, at, is) = record {
   more = lock_taken m s n ∷ [];
   notes = inr (grow, (s, n, inl refl));
   tally = ap (λ (k : Known). k.tally) is;
   known = is ∙ (λ j. record p.known { readings = sym (ap (λ (k : Known). k.readings) is) j; tally = sym (ap (λ (k : Known). k.tally) is) j });
   same = same;
+  untried = λ none. absurd (none_some (sym none ∙ spilled));
+  tried = λ t there _. (AtDepth, subst (λ (h : ℕ). SplitEnds a p.known m h AtDepth q.known) (some_is home t (sym spilled ∙ there)) (s, n, owns, at, is));
 }
-grows_split a m home p q Worn grow same (s, n, owns, less, version, is) = record {
+grows_split a m home p q Worn spilled grow same (s, n, owns, less, version, is) = record {
   more = lock_taken m s n ∷ [];
   notes = inr (grow, (s, n, inl refl));
   tally = ap (λ (k : Known). k.tally) is;
   known = is ∙ (λ j. record p.known { readings = sym (ap (λ (k : Known). k.readings) is) j; tally = sym (ap (λ (k : Known). k.tally) is) j });
   same = same;
+  untried = λ none. absurd (none_some (sym none ∙ spilled));
+  tried = λ t there _. (Worn, subst (λ (h : ℕ). SplitEnds a p.known m h Worn q.known) (some_is home t (sym spilled ∙ there)) (s, n, owns, less, version, is));
 }
 
 -- ---- behind an update
@@ -60,6 +74,21 @@ module _ (a : About) (m : ℕ) (p q r : Port) (g : Grows a m q r) where
     cpu = cpu ∙ d.cpu;
     seen = subst (TakesEffect a p.known e) (sym saw) d.seen;
   }
+
+  pub tried_on : HasTriedSplit a m r
+  tried_on s there grow =
+      let t = g.tried s (ap (λ (z : Port). z.spilled) (sym g.same) ∙ there) grow in
+      (q.known, t.0, t.1)
+
+  -- only a new key goes to a list
+  pub shortage_on : (answer : MapAnswer) → IfSome q.spilled (λ s. (answer ≡ Done) × LockedLast m s q.known) → IsShortage a p.known m answer q.known → IsShortage a p.known m answer r.known
+  shortage_on answer spilled short = go q.spilled refl
+    where
+      go : (o : Option ℕ) → q.spilled ≡ o → IsShortage a p.known m answer r.known
+      go None is = subst (λ (z : Port). IsShortage a p.known m answer z.known) (sym (g.untried is)) short
+      go (Some s) is =
+          let done = subst (λ (o : Option ℕ). IfSome o (λ s. (answer ≡ Done) × LockedLast m s q.known)) is spilled in
+          subst (λ (x : MapAnswer). IsShortage a p.known m x r.known) (sym done.0) tt
 
   pub runs_on : runs q ≡ true → runs r ≡ true
   runs_on is = (λ j. in_run (events_of (cpu j) (saw j))) ∙ is
@@ -81,9 +110,10 @@ module _ (a : About) (m : ℕ) (p q r : Port) (g : Grows a m q r) where
       ),
     )
 
-pub notes_alone : (a : About) (e : Event) (l l' : Known) → CallNotes a e l l' → CallsNote a (e ∷ []) l l'
-notes_alone a e l l' (sights, is, may) = (sights, is, (sights, [], refl, inl may, refl))
-
 pub was_true : (b : Bool) → not b ≡ false → b ≡ true
 was_true true is = refl
 was_true false is = cc
+
+pub was_false : (b : Bool) → not b ≡ true → b ≡ true → ⊥
+was_false true is on = cc
+was_false false is on = cc

@@ -5,7 +5,7 @@ ghost use Rattle.bpf_shared.specs.Shape.{IsPairOf};
 ghost use Rattle.hop_map.specs.Call.{IsShortage};
 ghost use Rattle.hop_map.specs.Noting.{CallsNote};
 ghost use Rattle.hop_map.specs.Port.{IsPortOf, PortDoes, runs};
-ghost use Rattle.hop_cpu.specs.Growing.{Grows};
+ghost use Rattle.hop_cpu.specs.Growing.{Grows, HasTriedSplit};
 
 use bpf_shared::MapAnswer;
 use hop_map::HopPort;
@@ -52,13 +52,10 @@ pub(crate) fn update_growing<R: Wait>(
     ensures shortage { IsShortage table.now.about port.old.known map result port.new.known }
     ensures noted { CallsNote table.now.about (Update map key.now value.now flags result ∷ [])
         port.old.known port.new.known }
+    ensures tried { HasTriedSplit table.now.about map port.new }
     ensures fits { IsPortOf table.now port.new }
 {
-    match port.update(rt, table, map, key, value, flags) {
-        MapAnswer::Done => {
-            grow(rt, table, port, map);
-            MapAnswer::Done
-        }
-        refused => refused,
-    }
+    let answer = port.update(rt, table, map, key, value, flags);
+    grow(rt, table, port, map);
+    answer
 }

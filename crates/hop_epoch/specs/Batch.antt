@@ -1,5 +1,5 @@
 -- The batches of a CPU and what it knows of them.
-use Rattle.std.specs.Prelude.{◌≡◌, ◌≢◌, ◌⊎◌, ℕ, ◌+◌, ◌%◌, ◌<◌, List, [], ◌∷◌, ◌++◌, Option, Some, None, length, slice_index}
+use Rattle.std.specs.Prelude.{◌≡◌, ◌≢◌, ◌⊎◌, ℕ, ◌+◌, ◌%◌, ◌<◌, Bool, false, List, [], ◌∷◌, ◌++◌, Option, Some, None, length, slice_index}
 use Rattle.hop_layout.specs.declared.about.About.{About}
 use Rattle.hop_words.specs.declared.known.Known.{Known}
 use Rattle.hop_words.specs.declared.known.Sight.{Sight}
@@ -62,3 +62,8 @@ SeesRunning m l l' =
     (d : ℕ) × (more : List Sight) × (l'.tally
     ≡ look (RunCount d) (slice_index (limbo_at l'.limbo m).noted d) ∷ (more ++ l.tally))
     × (slice_index (limbo_at l'.limbo m).noted d % 2 ≡ 1)
+
+-- an old batch waits for others where this CPU's own run isn't the one that was noted with it
+abbrev pub WaitsForOthers : Option ℕ → Type 0 → Bool → Type 0
+WaitsForOthers None own waits = waits ≡ false
+WaitsForOthers (Some e) own waits = (own → waits ≡ false) × (waits ≡ false → own)

@@ -1,10 +1,10 @@
 //! The elements of a map that a CPU took out.
-ghost use Rattle.std.specs.Prelude.{◌≡◌, ◌⊎◌, ◌<◌, ◌%◌, ◌∷◌, [], length, None, IsTrue, IsFalse};
+ghost use Rattle.std.specs.Prelude.{◌≡◌, ◌⊎◌, ◌<◌, ◌%◌, ◌∷◌, [], length, slice_index, None, IsTrue, IsFalse};
 ghost use Rattle.bpf_shared.specs.Shape.{IsShape};
 ghost use Rattle.hop_words.specs.Ghost.{HasElement, limbo_at};
-ghost use Rattle.hop_words.specs.Kinds.{retiring};
+ghost use Rattle.hop_words.specs.Kinds.{retiring, run_count};
 ghost use Rattle.hop_words.specs.Owning.{tail_of};
-ghost use Rattle.hop_epoch.specs.Batch.{Tracks, Keeps, Notes, Looks, AreEven, SeesRunning, link_word};
+ghost use Rattle.hop_epoch.specs.Batch.{Tracks, Keeps, Notes, Looks, AreEven, SeesRunning, WaitsForOthers, link_word};
 ghost use Rattle.hop_words.specs.Content.{item};
 
 use hop_words::{HopTable, Lane};
@@ -120,6 +120,24 @@ impl Batches {
                 self.free(lane, table);
             }
         }
+    }
+
+    /// Whether the old batch waits for the run of another CPU, and not for this CPU's own run.
+    pub fn waits_for_others(&self, lane: &mut Lane, table: &HopTable) -> bool
+        requires table { lane.old.table ≡ table.now.id }
+        requires inside { lane.old.known.cpu < table.now.about.shape.cpus }
+        ensures table { lane.new.table ≡ lane.old.table }
+        ensures same { lane.new.known ≡ lane.old.known }
+        ensures waits { WaitsForOthers self.now.aged
+            (slice_index self.now.noted lane.old.known.cpu ≡ run_count table.now.about lane.old.known)
+            result }
+    {
+        let _cpus = table.about().shape.cpus();
+        if self.aged.is_none() {
+            return false;
+        }
+        let count = lane.see_own_counter(table);
+        self.noted[usize::from(lane.cpu())] != count
     }
 
     // Whether each counter noted with the old batch is even, or another by now, which is then noted

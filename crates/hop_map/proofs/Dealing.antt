@@ -86,7 +86,7 @@ starts_idle a l new = record {
 }
 
 pub starts : (t : Shown) (z : TableId) (l : Known) (xs : List Arena) (bs : List Batches) → z ≡ t.id → l.cpu < t.about.shape.cpus → t.about.count % 2 ≡ 0 → l ≡ new_lane t.about l.cpu
-    → AreArenas t.about (length t.about.shape.maps) xs → AreBatches t.about l (length t.about.shape.maps) bs → IsPortOf t (record { table = z; known = l; arenas = xs; batches = bs })
+    → AreArenas t.about (length t.about.shape.maps) xs → AreBatches t.about l (length t.about.shape.maps) bs → IsPortOf t (record { table = z; known = l; arenas = xs; batches = bs; spilled = None })
 starts t z l xs bs table cpu even new arenas batches = record {
   table = table;
   cpu = cpu;

@@ -1,5 +1,5 @@
 -- A split under the lock: what the child's words become, and what publishing asks for.
-use Rattle.std.proofs.Common.{◌≡◌, ℕ, ◌+◌, ◌-◌, ◌*◌, ◌/◌, ◌%◌, ◌^◌, ◌<◌, ◌≤◌, ◌≢◌, Bool, true, false, ◌||◌, ◌==◌, if◌then◌else◌, List, [], ◌∷◌, Option, Some, None, length, refl, ap, sym, subst, ◌∙◌, arith, eq-eqb}
+use Rattle.std.proofs.Common.{◌≡◌, ℕ, ◌+◌, ◌-◌, ◌*◌, ◌/◌, ◌%◌, ◌^◌, ◌<◌, ◌≤◌, ◌≢◌, Bool, true, false, ◌||◌, ◌==◌, if◌then◌else◌, List, Option, length, refl, ap, sym, subst, ◌∙◌, arith, eq-eqb}
 use Rattle.std.specs.Prelude.{IfSome}
 use Rattle.std.proofs.lemmas.Bool.Decides.{nat_tests}
 use Rattle.hop_layout.specs.declared.about.About.{About}
@@ -10,7 +10,6 @@ use Rattle.hop_layout.specs.Layout.{power, depth, segments, mem, is_place, put_a
 use Rattle.hop_layout.proofs.Layouts.{wrote}
 use Rattle.hop_words.specs.declared.known.Known.{Known}
 use Rattle.hop_words.specs.declared.known.Lock.{Lock}
-use Rattle.hop_words.specs.declared.known.Change.TheVariants.{Nothing}
 use Rattle.hop_words.specs.Content.{MapWords, place_words, item, HasKey, IsShare}
 use Rattle.hop_words.specs.Depths.{stamp_depth, home_by}
 use Rattle.hop_words.specs.Ghost.{shape_at, child, IsSegment}

@@ -88,7 +88,7 @@ held_at t p at n fits running h = record {
 
 -- ---- one event more
 pub told_fits : (t : Shown) (p : Port) (z : TableId) (l : Known) (e : Event) → IsPortOf t p → z ≡ p.table → turns_of (e ∷ []) ≡ 0 → Told t.about p.known e l
-    → IsPortOf t (record { table = z; known = l; arenas = p.arenas; batches = p.batches })
+    → IsPortOf t (record { table = z; known = l; arenas = p.arenas; batches = p.batches; spilled = p.spilled })
 told_fits t p z l e h table quiet c =
     let cpu = ap (λ (k : Known). k.cpu) c.after in
     moved t p z l h table cpu (ap (λ (k : Known). k.limbo) c.after) (room_stays t.about p.known l e c.seen cpu quiet h.room) c.seen.legal

@@ -1,6 +1,7 @@
 -- Where the lock's sight stands among those of a whole call.
-use Rattle.std.proofs.Common.{◌≡◌, ℕ, ◌≤◌, List, [], ◌∷◌, ◌++◌, append_assoc, refl, ap, sym, ◌∙◌, arith}
+use Rattle.std.proofs.Common.{◌≡◌, ℕ, ◌≤◌, List, [], ◌∷◌, ◌++◌, Option, Some, None, IfSome, append_assoc, refl, ap, sym, ◌∙◌, arith}
 use Rattle.bpf_shared.specs.declared.events.MapAnswer.{MapAnswer}
+use Rattle.bpf_shared.specs.declared.events.MapAnswer.TheVariants.{Done}
 use Rattle.bpf_shared.specs.declared.events.Event.TheVariants.{Update, Delete}
 use Rattle.hop_layout.specs.declared.about.About.{About}
 use Rattle.hop_words.specs.declared.known.Known.{Known}
@@ -9,7 +10,7 @@ use Rattle.hop_words.specs.Sights.{LeavesLocks, lock_taken}
 use Rattle.hop_words.specs.Ghost.{Each}
 use Rattle.hop_words.proofs.Sighted.{each-append}
 use Rattle.hop_map.specs.Finding.{MayOwn}
-use Rattle.hop_map.specs.Noting.{BusyFirst, IsUnderLock, CallNotes}
+use Rattle.hop_map.specs.Noting.{BusyFirst, IsUnderLock, CallNotes, LockedLast}
 
 -- the lock, with these sights before and after
 under_lock : (a : About) (m : ℕ) (key : List ℕ) (s : ℕ) (answer : MapAnswer) (n : ℕ) (later sooner : List Sight) → MayOwn a m key s → Each LeavesLocks later → Each LeavesLocks sooner → BusyFirst n answer → IsUnderLock a m key answer (later ++ (lock_taken m s n ∷ sooner))
@@ -43,3 +44,8 @@ notes_after a l l1 m key bytes flags answer l' more few before leave (sights, is
           ∙ (ap (λ (z : List Sight). p.later ++ (k ∷ (p.sooner ++ z))) before ∙ more_before p.later p.sooner more l.tally k))),
       ((λ _. under_lock a m key p.segment answer p.stamp p.later (p.sooner ++ more) p.own p.only.0 (each-append LeavesLocks p.sooner more p.only.1 leave) p.order), (λ many. absurd (omega arith))),
     )
+
+-- the lock of the segment to whose list a new key went is the last that was taken
+pub spilled_last : (m s n : ℕ) (l : Known) (before : List Sight) (o : Option ℕ) → IfSome o (λ t. t ≡ s) → l.tally ≡ lock_taken m s n ∷ before → IfSome o (λ t. (Done ≡ Done) × LockedLast m t l)
+spilled_last m s n l before None here is = tt
+spilled_last m s n l before (Some t) here is = (refl, (n, [], before, is ∙ ap (λ (i : ℕ). lock_taken m i n ∷ before) (sym here), tt))

@@ -1,11 +1,11 @@
 -- What a split of a segment leaves, as publishing it asks for it.
-use Rattle.std.proofs.Common.{◌≡◌, ℕ, suc, ◌+◌, ◌^◌, ◌%◌, ◌<◌, Bool, true, List, Option, Some, refl, ap, sym, subst, ◌∙◌, arith, ⊎_elim, inl, inr}
+use Rattle.std.proofs.Common.{◌≡◌, ℕ, ◌+◌, ◌^◌, ◌%◌, ◌<◌, Bool, true, List, Option, Some, ap, sym, ◌∙◌, arith, ⊎_elim, inl, inr}
 use Rattle.bpf_shared.specs.Shape.{elements}
 use Rattle.hop_layout.specs.declared.about.About.{About}
 use Rattle.hop_layout.specs.Layout.{power}
 use Rattle.hop_layout.specs.Home.{home_of}
 use Rattle.hop_words.specs.Depths.{home_by}
-use Rattle.hop_words.specs.Content.{MapWords, item, HasKey, IsShare}
+use Rattle.hop_words.specs.Content.{MapWords, HasKey, IsShare}
 use Rattle.hop_words.specs.Ghost.{shape_at}
 use Rattle.hop_layout.proofs.Births.{mod_small, mod_once, some_power}
 use Rattle.hop_words.proofs.Publishing.{home_up}
@@ -13,7 +13,7 @@ use Rattle.hop_seg.specs.Places.{place_at, home_segment}
 use Rattle.hop_seg.specs.Words.{Words as SegWords}
 use Rattle.hop_seg.specs.Segment.{Sound as SegSound, element_key}
 use Rattle.hop_seg.specs.Content.{IsInSegment, HasPair}
-use Rattle.hop_seg.specs.Split.{Front, Splits}
+use Rattle.hop_seg.specs.Split.{Splits}
 use Rattle.hop_seg.proofs.Walking.{listed_among}
 use Rattle.hop_map.specs.LockedSegment.{front_view}
 use Rattle.hop_map.specs.Private.LockedSegment.{segment_view}

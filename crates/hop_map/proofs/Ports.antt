@@ -47,12 +47,12 @@ by_equal {P} n m same other = go (n == m) refl
 pub less : (m n : ℕ) → m < n + 1 → m ≢ n → m < n
 less m n inside ne = grind arith
 
-abbrev pub port_with : Standing → List Arena → List Batches → Port
-port_with s xs bs = record { table = s.table; known = s.known; arenas = xs; batches = bs }
+abbrev pub port_with : Standing → List Arena → List Batches → Option ℕ → Port
+port_with s xs bs o = record { table = s.table; known = s.known; arenas = xs; batches = bs; spilled = o }
 
 -- the port whose lane was taken out
-pub port_is : (i : InPort) (o : Option Standing) (s : Standing) → o ≡ i.lane → o ≡ Some s → port_of i ≡ port_with s i.arenas.items i.batches.items
-port_is i o s from is = ap (λ (x : Option Standing). port_with (standing_in x) i.arenas.items i.batches.items) (sym from ∙ is)
+pub port_is : (i : InPort) (o : Option Standing) (s : Standing) → o ≡ i.lane → o ≡ Some s → port_of i ≡ port_with s i.arenas.items i.batches.items i.spilled
+port_is i o s from is = ap (λ (x : Option Standing). port_with (standing_in x) i.arenas.items i.batches.items i.spilled) (sym from ∙ is)
 
 -- ---- what a CPU's own events say, after one more
 pub own_after : (a : About) (l l' : Known) (e : Event) → TakesEffect a l e l'.seen → l'.cpu ≡ l.cpu → events_of l'.cpu l'.seen ≡ events_of l.cpu l.seen ++ e ∷ []
@@ -117,7 +117,7 @@ batches_change a l l' n m bs b size others here name t h = record {
 -- ---- ports
 -- a port stays one, where the batches are as they were
 pub moved : (t : Shown) (p : Port) (z : TableId) (l : Known) → IsPortOf t p → z ≡ p.table → l.cpu ≡ p.known.cpu → l.limbo ≡ p.known.limbo
-    → (in_run (events_of l.cpu l.seen) ≡ true → run_count t.about l + 1 < 2 ^ 64) → IsLegal t.about.shape l.seen → IsPortOf t (record { table = z; known = l; arenas = p.arenas; batches = p.batches })
+    → (in_run (events_of l.cpu l.seen) ≡ true → run_count t.about l + 1 < 2 ^ 64) → IsLegal t.about.shape l.seen → IsPortOf t (record { table = z; known = l; arenas = p.arenas; batches = p.batches; spilled = p.spilled })
 moved t p z l h table cpu limbo room legal = record {
   table = table ∙ h.table;
   cpu = subst (λ (c : ℕ). c < t.about.shape.cpus) (sym cpu) h.cpu;
@@ -130,7 +130,7 @@ moved t p z l h table cpu limbo room legal = record {
 }
 
 pub begins : (t : Shown) (p : Port) (z : TableId) (l : Known) (r : Result (Unit {0}) Worn) → IsPortOf t p → z ≡ p.table → OnOk r (Told t.about p.known Begin l) → OnOk r (run_count t.about p.known + 2 < 2 ^ 64)
-    → OnErr r (l ≡ p.known) → IsPortOf t (record { table = z; known = l; arenas = p.arenas; batches = p.batches })
+    → OnErr r (l ≡ p.known) → IsPortOf t (record { table = z; known = l; arenas = p.arenas; batches = p.batches; spilled = p.spilled })
 begins t p z l (Ok u) h table told room same = moved t p z l h table (ap (λ (k : Known). k.cpu) told.after) (ap (λ (k : Known). k.limbo) told.after)
     (λ now. let n = turned t.about p.known l Begin told.seen (ap (λ (k : Known). k.cpu) told.after) in omega (arith, room)) told.seen.legal
 begins t p z l (Err e) h table told room same = moved t p z l h table (ap (λ (k : Known). k.cpu) same) (ap (λ (k : Known). k.limbo) same)
@@ -160,8 +160,8 @@ reclaims t ended l l' m bs b here name keeps tracks i = record {
 }
 
 -- the run has ended
-pub ends_last : (t : Shown) (p : Port) (z : TableId) (ended l : Known) (bs : List Batches) → IsPortOf t p → runs p ≡ true → z ≡ t.id → Told t.about p.known End ended → IsEnding t ended l bs → IsPortOf t (record { table = z; known = l; arenas = p.arenas; batches = bs })
-ends_last t p z ended l bs h running table told i =
+pub ends_last : (t : Shown) (p : Port) (z : TableId) (ended l : Known) (bs : List Batches) (o : Option ℕ) → IsPortOf t p → runs p ≡ true → z ≡ t.id → Told t.about p.known End ended → IsEnding t ended l bs → IsPortOf t (record { table = z; known = l; arenas = p.arenas; batches = bs; spilled = o })
+ends_last t p z ended l bs o h running table told i =
     let cpu = i.cpu ∙ ap (λ (k : Known). k.cpu) told.after in record {
       table = table;
       cpu = subst (λ (c : ℕ). c < t.about.shape.cpus) (sym cpu) h.cpu;
@@ -210,9 +210,9 @@ follows_at a l n m bs b here h is =
     let name : b.map ≡ m = ap (λ (y : Batches). y.map) old ∙ h.map m here in
     (name, subst (λ (k : ℕ). Tracks a l k b.young b.aged b.noted) (sym name) (subst (λ (y : Batches). Tracks a l m y.young y.aged y.noted) (sym old) (h.each m here)))
 
-pub called_fits : (t : Shown) (p : Port) (z : TableId) (l : Known) (m : ℕ) (e : Event) (xs : List Arena) (b : Batches) → IsPortOf t p → z ≡ t.id → m < length t.about.shape.maps → turns_of (e ∷ []) ≡ 0
-    → IsOneCall t.about p.known m e l → AreArenas t.about (length t.about.shape.maps) xs → AreBatchesOf t.about l m b → IsPortOf t (record { table = z; known = l; arenas = xs; batches = set p.batches m b })
-called_fits t p z l m e xs b h table here quiet c arenas f = record {
+pub called_fits : (t : Shown) (p : Port) (z : TableId) (l : Known) (m : ℕ) (e : Event) (xs : List Arena) (b : Batches) (o : Option ℕ) → IsPortOf t p → z ≡ t.id → m < length t.about.shape.maps → turns_of (e ∷ []) ≡ 0
+    → IsOneCall t.about p.known m e l → AreArenas t.about (length t.about.shape.maps) xs → AreBatchesOf t.about l m b → IsPortOf t (record { table = z; known = l; arenas = xs; batches = set p.batches m b; spilled = o })
+called_fits t p z l m e xs b o h table here quiet c arenas f = record {
   table = table;
   cpu = subst (λ (k : ℕ). k < t.about.shape.cpus) (sym c.cpu) h.cpu;
   even = h.even;
@@ -224,7 +224,7 @@ called_fits t p z l m e xs b h table here quiet c arenas f = record {
 }
 
 pub looked_fits : (t : Shown) (p : Port) (z : TableId) (l : Known) (m : ℕ) (key : List ℕ) (o : Option Span) → IsPortOf t p → z ≡ t.id → Looked t.about p.known m key o l
-    → IsPortOf t (record { table = z; known = l; arenas = p.arenas; batches = p.batches })
+    → IsPortOf t (record { table = z; known = l; arenas = p.arenas; batches = p.batches; spilled = p.spilled })
 looked_fits t p z l m key o h table c = moved t p z l h (table ∙ sym h.table) cpu (ap (λ (k : Known). k.limbo) c.after)
     (room_stays t.about p.known l (Lookup m key o) c.seen cpu refl h.room) c.seen.legal
   where
@@ -296,7 +296,7 @@ pub ended_reclaimed : (t : Shown) (p : Port) (ended l : Known) (m : ℕ) → Tol
 ended_reclaimed t p ended l m told is = subst (λ (z : List Sight). IsReclaimed m z l) (ap (λ (k : Known). k.tally) told.after) is
 
 -- a listing turns no run
-pub listed_fits : (t : Shown) (p : Port) (z : TableId) (l : Known) (m : ℕ) (keys : List (List ℕ)) → IsPortOf t p → z ≡ p.table → Listed t.about p.known m keys l → IsPortOf t (record { table = z; known = l; arenas = p.arenas; batches = p.batches })
+pub listed_fits : (t : Shown) (p : Port) (z : TableId) (l : Known) (m : ℕ) (keys : List (List ℕ)) → IsPortOf t p → z ≡ p.table → Listed t.about p.known m keys l → IsPortOf t (record { table = z; known = l; arenas = p.arenas; batches = p.batches; spilled = p.spilled })
 listed_fits t p z l m keys fits table e = moved t p z l fits table (ap (λ (k : Known). k.cpu) e.after) (ap (λ (k : Known). k.limbo) e.after) (room_stays t.about p.known l (Keys m keys) e.seen (ap (λ (k : Known). k.cpu) e.after) refl fits.room) e.seen.legal
 
 pub listed_runs : (a : About) (l l' : Known) (m : ℕ) (keys : List (List ℕ)) → Listed a l m keys l' → in_run (events_of l'.cpu l'.seen) ≡ in_run (events_of l.cpu l.seen)

@@ -1,13 +1,12 @@
 -- What a CPU knows after a split, and what its port is.
-use Rattle.std.proofs.Common.{◌≡◌, ℕ, ◌+◌, ◌^◌, ◌<◌, true, List, [], ◌∷◌, refl, ap, sym, subst, ◌∙◌}
+use Rattle.std.proofs.Common.{◌≡◌, ℕ, ◌+◌, ◌^◌, ◌<◌, true, [], ◌∷◌, ap, sym, subst, ◌∙◌}
 use Rattle.atomic_table.specs.Seated.{TableId}
 use Rattle.bpf_shared.specs.History.{IsLegal, events_of}
 use Rattle.bpf_shared.specs.Own.{in_run}
 use Rattle.hop_layout.specs.declared.about.About.{About}
 use Rattle.hop_words.specs.declared.known.Known.{Known}
-use Rattle.hop_words.specs.declared.known.Sight.{Sight}
 use Rattle.hop_words.specs.Inside.{Shown}
-use Rattle.hop_words.specs.Kinds.{LocksSegment, unlocking, run_count}
+use Rattle.hop_words.specs.Kinds.{unlocking, run_count}
 use Rattle.hop_words.specs.Sights.{sighted, split_made, lock_taken}
 use Rattle.hop_map.specs.declared.growth.Growth.{Growth}
 use Rattle.hop_map.specs.declared.growth.Growth.TheVariants.{Grown, AtDepth, Worn}
@@ -41,7 +40,7 @@ only a l m home Grown l' (s, n, owns, less, version, is) = is ∙ (λ j. record 
 only a l m home AtDepth l' (s, n, owns, same, is) = is ∙ (λ j. record l { readings = []; tally = sym (ap (λ (k : Known). k.tally) is) j })
 only a l m home Worn l' (s, n, owns, less, version, is) = is ∙ (λ j. record l { readings = []; tally = sym (ap (λ (k : Known). k.tally) is) j })
 
-pub split_fits : (t : Shown) (p : Port) (z : TableId) (l : Known) (m home : ℕ) (g : Growth) → IsPortOf t p → z ≡ t.id → SplitEnds t.about p.known m home g l → IsPortOf t (record { table = z; known = l; arenas = p.arenas; batches = p.batches })
+pub split_fits : (t : Shown) (p : Port) (z : TableId) (l : Known) (m home : ℕ) (g : Growth) → IsPortOf t p → z ≡ t.id → SplitEnds t.about p.known m home g l → IsPortOf t (record { table = z; known = l; arenas = p.arenas; batches = p.batches; spilled = p.spilled })
 split_fits t p z l m home g h table e =
     let is = only t.about p.known m home g l e in
     moved t p z l h (table ∙ sym h.table) (ap (λ (k : Known). k.cpu) is) (ap (λ (k : Known). k.limbo) is)

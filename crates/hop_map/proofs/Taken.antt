@@ -18,7 +18,7 @@ use Rattle.hop_map.proofs.Holding.{held_at, told_fits}
 
 module _ (i : InPort) (o : Option Standing) (s : Standing) («from» : o ≡ i.lane) (some : o ≡ Some s) (q : Port) (view : port_of i ≡ q) (t : Shown) (fits : IsPortOf t q) (running : runs q ≡ true) where
   abbrev taken : Port
-  taken = port_with s i.arenas.items i.batches.items
+  taken = port_with s i.arenas.items i.batches.items i.spilled
 
   is : taken ≡ q
   is = sym (port_is i o s «from» some) ∙ view
@@ -34,7 +34,7 @@ module _ (i : InPort) (o : Option Standing) (s : Standing) («from» : o ≡ i.l
 
   -- after one event of the CPU that neither begins nor ends a run
   module _ (l : Known) (e : Event) (quiet : turns_of (e ∷ []) ≡ 0) (told : Told t.about s.known e l) where
-    pub fits_after : (z : TableId) → z ≡ s.table → IsPortOf t (port_with (record { table = z; known = l }) i.arenas.items i.batches.items)
+    pub fits_after : (z : TableId) → z ≡ s.table → IsPortOf t (port_with (record { table = z; known = l }) i.arenas.items i.batches.items i.spilled)
     fits_after z table = told_fits t taken z l e taken_fits table quiet told
 
     pub quiet_after : MayNote t.about e [] → CallNotes t.about e q.known l

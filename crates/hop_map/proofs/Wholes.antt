@@ -1,6 +1,6 @@
 -- A whole call, from its steps.
 use Rattle.std.proofs.Common.{◌≡◌, ℕ, ◌+◌, ◌-◌, ◌%◌, ◌^◌, ◌<◌, ◌≤◌, ◌⊎◌, inl, inr, ⊎_elim, true, List, [], ◌∷◌, ◌++◌, Option, Some, None, MatchOption, length, length-set, get_or-set_other, slice_index, append_assoc, refl, ap, sym, subst, ◌∙◌}
-use Rattle.bpf_shared.specs.Shape.{IsPairOf, IsKeyOf, elements}
+use Rattle.bpf_shared.specs.Shape.{IsPairOf, IsKeyOf}
 use Rattle.bpf_shared.specs.declared.shapes.MapShape.{MapShape}
 use Rattle.bpf_shared.specs.History.{events_of, entry}
 use Rattle.bpf_shared.specs.declared.events.Entry.{Entry}
@@ -28,6 +28,7 @@ use Rattle.hop_epoch.specs.Batch.{Keeps, SeesRunning}
 use Rattle.hop_epoch.proofs.Batching.{at_set, keeps_then}
 use Rattle.hop_map.specs.Private.Locks.{locked_with}
 use Rattle.hop_map.specs.Private.Removals.{Dropped, Kept}
+use Rattle.hop_map.specs.Private.Updates.{ClaimsOrLacks}
 use Rattle.hop_map.specs.Call.{IsBetweenCalls, IsOneCall, SearchesInVain, IsShortage}
 use Rattle.hop_layout.specs.Layout.{gained}
 
@@ -56,30 +57,41 @@ each_still : (m : ℕ) (ss : List Sight) → Each IsLook ss → Each (LeavesElem
 each_still m [] t = tt
 each_still m (s ∷ ss) t = ((λ i _. t.0), each_still m ss t.1)
 
--- the three steps that find none
-pub short : (a : About) (m : ℕ) (l l1 l2 l3 : Known) → Misses a l m l1 → Keeps m l1 l2 → ((limbo_at l2.limbo m).old ≡ [] → (limbo_at l2.limbo m).young ≡ [])
-    → ((limbo_at l2.limbo m).old ≡ []) ⊎ SeesRunning m l1 l2 → Misses a l2 m l3 → SearchesInVain a l m l3
-short a m l l1 l2 l3 first kept empty blocked last = subst (SearchesInVain a l m) (sym last.1.0) (⊎_elim
+-- the two steps that find none
+pub short : (a : About) (m : ℕ) (l l2 l3 : Known) → Keeps m l l2 → ((limbo_at l2.limbo m).old ≡ [] → (limbo_at l2.limbo m).young ≡ [])
+    → ((limbo_at l2.limbo m).old ≡ []) ⊎ SeesRunning m l l2 → Misses a l2 m l3 → SearchesInVain a l m l3
+short a m l l2 l3 kept empty blocked last = subst (SearchesInVain a l m) (sym last.1.0) (⊎_elim
     (λ (none : (limbo_at l2.limbo m).old ≡ []). record {
-      sooner = kept.sights.0 ++ first.0;
+      sooner = kept.sights.0;
       later = last.0;
-      sights = ap (λ (z : List Sight). last.0 ++ z) (kept.sights.1 ∙ (ap (λ (z : List Sight). kept.sights.0 ++ z) one ∙ sym (append_assoc kept.sights.0 first.0 l.tally)));
+      sights = ap (λ (z : List Sight). last.0 ++ z) kept.sights.1;
       kept = inl (none, empty none);
       still = each_still m last.0 last.1.1;
       taken = last.2;
     })
-    (λ (r : SeesRunning m l1 l2). record {
-      sooner = look (RunCount r.0) (slice_index (limbo_at l2.limbo m).noted r.0) ∷ (r.1 ++ first.0);
+    (λ (r : SeesRunning m l l2). record {
+      sooner = look (RunCount r.0) (slice_index (limbo_at l2.limbo m).noted r.0) ∷ r.1;
       later = last.0;
-      sights = ap (λ (z : List Sight). last.0 ++ z) (r.2 ∙ ap (λ (z : List Sight). look (RunCount r.0) (slice_index (limbo_at l2.limbo m).noted r.0) ∷ z) (ap (λ (z : List Sight). r.1 ++ z) one ∙ sym (append_assoc r.1 first.0 l.tally)));
-      kept = inr (r.0, r.1 ++ first.0, refl, r.3);
+      sights = ap (λ (z : List Sight). last.0 ++ z) r.2;
+      kept = inr (r.0, r.1, refl, r.3);
       still = each_still m last.0 last.1.1;
       taken = last.2;
     })
     blocked)
-  where
-    one : l1.tally ≡ first.0 ++ l.tally
-    one = ap (λ (q : Known). q.tally) first.1.0
+
+-- what was noted before such a search
+pub in_vain_after : (a : About) (m : ℕ) (l k l' : Known) → Keeps m l k → SearchesInVain a k m l' → SearchesInVain a l m l'
+in_vain_after a m l k l' kept p = record {
+  sooner = p.sooner ++ kept.sights.0;
+  later = p.later;
+  sights = p.sights ∙ ap (λ (z : List Sight). p.later ++ z) (ap (λ (z : List Sight). p.sooner ++ z) kept.sights.1 ∙ sym (append_assoc p.sooner kept.sights.0 l.tally));
+  still = p.still;
+  kept = ⊎_elim
+      (λ none. inl none)
+      (λ r. inr (r.0, r.1 ++ kept.sights.0, ap (λ (z : List Sight). z ++ kept.sights.0) r.2, r.3))
+      p.kept;
+  taken = p.taken;
+}
 
 -- and something more was noted, that left the map's elements
 pub searched_on : (a : About) (l : Known) (m : ℕ) (l1 l2 : Known) (k : Sight) → SearchesInVain a l m l1 → LeavesElements m k → l2.tally ≡ k ∷ l1.tally → l2.limbo ≡ l1.limbo → SearchesInVain a l m l2
@@ -112,17 +124,35 @@ saw_all a l m l1 empty p = record {
 pub saw_locked : (a : About) (l : Known) (m s n : ℕ) (l2 : Known) → LocksSegment a l m s n l2 → SawAllTaken a l m → SawAllTaken a l2 m
 saw_locked a l m s n l2 t p = subst (λ (q : Known). SawAllTaken a q m) (sym t.after) (record { hand = p.hand; taken = λ e few. (lock_leaves m m s n, inr (p.taken e few)) })
 
-pub found_after : (a : About) (m : ℕ) (l l1 l2 l3 : Known) → Misses a l m l1 → Keeps m l1 l2 → ((limbo_at l2.limbo m).old ≡ [] → (limbo_at l2.limbo m).young ≡ [])
-    → ((limbo_at l2.limbo m).old ≡ []) ⊎ SeesRunning m l1 l2 → (o : Option Element) → MatchOption o (Misses a l2 m l3) (λ (x : Element). Claims a l2 m x l3)
-    → MatchOption o (Keeps m l l3 × SearchesInVain a l m l3) (λ (x : Element). Keeps m (holding l m x.number) l3 × (x.map ≡ m) × (x.number < elements (shape_at a m)))
-found_after a m l l1 l2 l3 first kept empty blocked None p = (
-  keeps_then m l l2 l3 (keeps_then m l l1 l2 (keeps_sees m l l1 first.0 (looks_leave first.0 first.1.1) first.1.0) kept) (keeps_sees m l2 l3 p.0 (looks_leave p.0 p.1.1) p.1.0),
-  short a m l l1 l2 l3 first kept empty blocked p,
+pub missed_keeps : (a : About) (m : ℕ) (l l1 : Known) → Misses a l m l1 → Keeps m l l1
+missed_keeps a m l l1 p = keeps_sees m l l1 p.0 (looks_leave p.0 p.1.1) p.1.0
+
+pub claimed_keeps : (a : About) (m : ℕ) (l l1 : Known) (x : Element) → Claims a l m x l1 → Keeps m (holding l m x.number) l1
+claimed_keeps a m l l1 x p = keeps_sees m (holding l m x.number) l1 p.0 p.4 p.1
+
+pub found_at_once : (a : About) (m : ℕ) (l l1 : Known) (x : Element) → Claims a l m x l1 → ClaimsOrLacks a l m (Some x) l1
+found_at_once a m l l1 x p = (claimed_keeps a m l l1 x p, p.2, p.3)
+
+pub found_after : (a : About) (m : ℕ) (l l2 l3 : Known) → Keeps m l l2 → ((limbo_at l2.limbo m).old ≡ [] → (limbo_at l2.limbo m).young ≡ [])
+    → ((limbo_at l2.limbo m).old ≡ []) ⊎ SeesRunning m l l2 → (o : Option Element) → MatchOption o (Misses a l2 m l3) (λ (x : Element). Claims a l2 m x l3)
+    → ClaimsOrLacks a l m o l3
+found_after a m l l2 l3 kept empty blocked None p = (
+  keeps_then m l l2 l3 kept (missed_keeps a m l2 l3 p),
+  short a m l l2 l3 kept empty blocked p,
 )
-found_after a m l l1 l2 l3 first kept empty blocked (Some x) p = (
-  keeps_then m (holding l m x.number) (holding l2 m x.number) l3 (keeps_holding m x.number l l2 (keeps_then m l l1 l2 (keeps_sees m l l1 first.0 (looks_leave first.0 first.1.1) first.1.0) kept)) (keeps_sees m (holding l2 m x.number) l3 p.0 p.4 p.1),
+found_after a m l l2 l3 kept empty blocked (Some x) p = (
+  keeps_then m (holding l m x.number) (holding l2 m x.number) l3 (keeps_holding m x.number l l2 kept) (claimed_keeps a m l2 l3 x p),
   p.2,
   p.3,
+)
+
+-- the same, seen from before
+pub found_later : (a : About) (m : ℕ) (l k l' : Known) → Keeps m l k → (o : Option Element) → ClaimsOrLacks a k m o l' → ClaimsOrLacks a l m o l'
+found_later a m l k l' kept None p = (keeps_then m l k l' kept p.0, in_vain_after a m l k l' kept p.1)
+found_later a m l k l' kept (Some x) p = (
+  keeps_then m (holding l m x.number) (holding k m x.number) l' (keeps_holding m x.number l k kept) p.0,
+  p.1,
+  p.2,
 )
 
 pub kept_runs : (m : ℕ) (l l1 : Known) → Keeps m l l1 → in_run (events_of l.cpu l.seen) ≡ true → in_run (events_of l1.cpu l1.seen) ≡ true

@@ -57,6 +57,11 @@ abbrev pub CallNotes : About → Event → Known → Known → Type 0
 CallNotes a event l l' = (sights : List Sight) × (l'.tally ≡ sights ++ l.tally)
     × MayNote a event sights
 
+-- of the locks that the CPU took the last is that of this segment
+abbrev pub LockedLast : ℕ → ℕ → Known → Type 0
+LockedLast m s l = (stamp : ℕ) × (later : List Sight) × (sooner : List Sight)
+    × (l.tally ≡ later ++ (lock_taken m s stamp ∷ sooner)) × Each LeavesLocks later
+
 -- a split that may come behind a call: behind an update of a map that grows. It took the lock of a
 -- segment, and the segment split or didn't
 abbrev pub IsGrowth : About → Event → List Sight → Type 0

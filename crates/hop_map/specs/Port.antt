@@ -1,5 +1,5 @@
 -- What contracts see of a port, and of the store that is left when all are back.
-use Rattle.std.specs.Prelude.{◌≡◌, ℕ, ◌+◌, ◌%◌, ◌^◌, ◌<◌, Bool, true, List, [], None, All, length, slice_index_or}
+use Rattle.std.specs.Prelude.{◌≡◌, ℕ, ◌+◌, ◌%◌, ◌^◌, ◌<◌, Bool, true, List, [], Option, None, All, length, slice_index_or}
 use mathlib.Core.Option.{some}
 use lib.ListN.{get_elem?}
 use Rattle.atomic_table.specs.Seated.{TableId}
@@ -18,13 +18,14 @@ use Rattle.hop_arena.specs.Claiming.{IsArena}
 use Rattle.hop_epoch.specs.declared.batches.Batches.{Batches}
 use Rattle.hop_epoch.specs.Batch.{Tracks}
 
--- a port's table, what its CPU knows, and by map where it looks for free elements and what it took
--- out
+-- a port's table, what its CPU knows, by map where it looks for free elements and what it took out,
+-- and the segment to whose overflow list the last update's new key went
 pub record Port : Type 0 where
   pub table : TableId
   pub known : Known
   pub arenas : List Arena
   pub batches : List Batches
+  pub spilled : Option ℕ
 
 abbrev pub own_events : Port → List Event
 own_events p = events_of p.known.cpu p.known.seen

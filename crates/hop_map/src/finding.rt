@@ -1,5 +1,5 @@
 //! Lookups.
-ghost use Rattle.std.specs.Prelude.{◌≡◌, ◌<◌, true, length, []};
+ghost use Rattle.std.specs.Prelude.{◌≡◌, ◌<◌, ◌%◌, true, length, []};
 ghost use Rattle.hop_words.specs.declared.known.Known.{Known};
 ghost use Rattle.bpf_shared.specs.declared.events.Event.TheVariants.{Lookup};
 ghost use Rattle.hop_layout.specs.Home.{home_of};
@@ -8,11 +8,11 @@ ghost use Rattle.hop_words.specs.Kinds.{LookedUp, found_span};
 ghost use Rattle.hop_words.specs.Locking.{lock_of};
 ghost use Rattle.hop_map.specs.Private.UnderLock.{LockShows};
 ghost use Rattle.hop_map.specs.Finding.{AsksForKey, Looked, OnceEnds, TakesLock};
-ghost use Rattle.hop_map.specs.Private.Finding.{AsksHere, Approaching, Walked};
+ghost use Rattle.hop_map.specs.Private.Finding.{AsksHere, IsHomed, Approaching, Walked};
 ghost use Rattle.hop_map.specs.Noting.{CallNotes};
 ghost use Rattle.hop_words.specs.Depths.{stamp_depth};
 
-use crate::homing::{homing, shape_of};
+use crate::homing::{KeyHome, homing, shape_of};
 use crate::locked::LockedWords;
 use crate::once::Once;
 use crate::peeked::PeekedWords;
@@ -117,27 +117,68 @@ fn walk(table: &HopTable, lane: Lane, map: u8, home: u32, way: Way, stamp: u64) 
     unreachable!()
 }
 
-// Goes to the segment that a home belongs to, without a lock, and begins to read it. Answers it and
-// its stamp, or the first segment on the way whose stamp is locked. In a map that doesn't grow it
-// is the first.
+// From the first stamp of the key's segment, which was unlocked, to its last: that answers the lookup,
+// or is another.
 #[inline(always)]
-fn approach(table: &HopTable, lane: Lane, map: u8, home: u32) -> (Lane, u32, u64)
+fn read_segment(
+    table: &HopTable,
+    lane: Lane,
+    map: u8,
+    segment: u32,
+    first: u64,
+    at: KeyHome,
+    key: &[u8],
+) -> (Lane, Once)
+    requires table { lane.table ≡ table.now.id }
+    requires homed { IsHomed table.now.about map key.now at }
+    requires even { first % 2 ≡ 0 }
+    requires begins { (l : Known) × AsksForKey table.now.about l map key.now
+        × Walked table.now.about l map at.home segment first lane.known }
+    ensures table { result.0.table ≡ table.now.id }
+    ensures ends { (l : Known) → AsksForKey table.now.about l map key.now
+        → Walked table.now.about l map at.home segment first lane.known
+        → OnceEnds table.now.about l map key.now result.1 result.0.known }
+{
+    let mut words = PeekedWords::new(table, lane, map, segment, at.key_size, at.elements);
+    let found = find(&mut words, key, at.home);
+    let (lane, last) = words.see_again(key, found);
+    if last != first {
+        return (lane, Once::Disturbed(first, last));
+    }
+    match span_of(table, map, found) {
+        Some(span) => (lane, Once::Found(span)),
+        None => (lane, Once::Absent),
+    }
+}
+
+// A lookup without a lock from the first segment on, which isn't the key's: only in a map that grows
+// are there others on the way. It stands out of line, so that a map that doesn't grow doesn't pay.
+#[inline(never)]
+fn find_on_way(
+    table: &HopTable,
+    lane: Lane,
+    map: u8,
+    way: Way,
+    first: u64,
+    at: KeyHome,
+    key: &[u8],
+) -> (Lane, Once)
     requires table { lane.table ≡ table.now.id }
     requires map { map < length table.now.about.shape.maps }
-    requires idle { lane.known.locks ≡ [] }
+    requires homed { IsHomed table.now.about map key.now at }
+    requires grows { (shape_at table.now.about map).grow ≡ true }
+    requires begins { (l : Known) × AsksForKey table.now.about l map key.now
+        × Approaching table.now.about l map at.home way first [] lane.known }
     ensures table { result.0.table ≡ table.now.id }
-    ensures walked { Walked table.now.about lane.known map home result.1 result.2 result.0.known }
+    ensures ends { (l : Known) → AsksForKey table.now.about l map key.now
+        → Approaching table.now.about l map at.home way first [] lane.known
+        → OnceEnds table.now.about l map key.now result.1 result.0.known }
 {
-    let mut lane = lane;
-    let way = table.first_way(map, home);
-    let stamp = lane.see_stamp(table, map, way.segment);
+    let (lane, segment, stamp) = walk(table, lane, map, at.home, way, first);
     if stamp % 2 == 1 {
-        return (lane, way.segment, stamp);
+        return (lane, Once::Disturbed(stamp, stamp));
     }
-    if depth_of(stamp) == way.level {
-        return (lane, way.segment, stamp);
-    }
-    walk(table, lane, map, home, way, stamp)
+    read_segment(table, lane, map, segment, stamp, at, key)
 }
 
 /// Where the key's value lies, by one reading of the key's segment, which takes no lock and writes
@@ -149,21 +190,18 @@ pub fn find_once(table: &HopTable, lane: Lane, map: u8, key: &[u8]) -> (Lane, On
     ensures table { result.0.table ≡ table.now.id }
     ensures ends { OnceEnds table.now.about lane.known map key.now result.1 result.0.known }
 {
+    let mut lane = lane;
     let at = homing(table, map, key);
-    let (lane, segment, first) = approach(table, lane, map, at.home);
+    let way = table.first_way(map, at.home);
+    let first = lane.see_stamp(table, map, way.segment);
+    // Unlocked, and of this depth: the segment is the key's.
+    if first % 64 == 2 * u64::from(way.level) {
+        return read_segment(table, lane, map, way.segment, first, at, key);
+    }
     if first % 2 == 1 {
         return (lane, Once::Disturbed(first, first));
     }
-    let mut words = PeekedWords::new(table, lane, map, segment, at.key_size, at.elements);
-    let found = find(&mut words, key, at.home);
-    let (lane, last) = words.see_again(key, found);
-    if last != first {
-        return (lane, Once::Disturbed(first, last));
-    }
-    match span_of(table, map, found) {
-        Some(span) => (lane, Once::Found(span)),
-        None => (lane, Once::Absent),
-    }
+    find_on_way(table, lane, map, way, first, at, key)
 }
 
 /// Where the key's value lies. Up to eight readings take no lock; where each was disturbed, the CPU

@@ -4,7 +4,8 @@ ghost use Rattle.bpf_shared.specs.declared.events.Event.TheVariants.{Begin, End,
 ghost use Rattle.bpf_shared.specs.Shape.{IsMapShape, IsKeyOf, IsPairOf, IsElementSpan, IsValueSpan};
 ghost use Rattle.hop_words.specs.Kinds.{run_count};
 ghost use Rattle.hop_map.specs.Call.{IsShortage, IsReclaimed};
-ghost use Rattle.hop_map.specs.Noting.{CallNotes};
+ghost use Rattle.bpf_shared.specs.declared.events.MapAnswer.TheVariants.{Done};
+ghost use Rattle.hop_map.specs.Noting.{CallNotes, LockedLast};
 ghost use Rattle.hop_map.specs.Finding.{OnceEnds};
 ghost use Rattle.hop_map.specs.Port.{IsPortOf, PortDoes, runs};
 ghost use Rattle.hop_map.specs.Splitting.{SplitEnds};
@@ -217,6 +218,8 @@ impl HopPort {
         ensures shortage { IsShortage table.now.about self.old.known map result self.new.known }
         ensures noted { CallNotes table.now.about (Update map key.now value.now flags result)
             self.old.known self.new.known }
+        ensures spilled { IfSome self.new.spilled (λ s. (result ≡ Done)
+            × LockedLast map s self.new.known) }
         ensures fits { IsPortOf table.now self.new }
     {
         let Some(lane) = self.lane.take() else {
@@ -255,7 +258,9 @@ impl HopPort {
     }
 
     /// The segment to whose overflow list the last update's new key went, if it went to one.
-    pub fn spilled(&self) -> Option<u32> {
+    pub fn spilled(&self) -> Option<u32>
+        ensures spilled { result ≡ self.now.spilled }
+    {
         self.spilled
     }
 

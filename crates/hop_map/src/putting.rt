@@ -1,5 +1,5 @@
 //! An update under the lock of its key's segment.
-ghost use Rattle.std.specs.Prelude.{◌≡◌, ◌≢◌, ◌<◌, ◌+◌, ◌^◌, ℕ, Some, None};
+ghost use Rattle.std.specs.Prelude.{◌≡◌, ◌≢◌, ◌<◌, ◌+◌, ◌^◌, ℕ, Some, None, IfSome};
 ghost use Rattle.hop_layout.specs.Home.{home_of};
 ghost use Rattle.hop_words.specs.Ghost.{shape_at};
 ghost use Rattle.hop_words.specs.Kinds.{SawAllTaken};
@@ -10,7 +10,7 @@ ghost use Rattle.hop_map.specs.Private.LockedSegment.{seen_words as seen};
 ghost use Rattle.hop_map.specs.Private.Replacing.{IsReplacement};
 ghost use Rattle.hop_map.specs.Private.UnderLock.{LockShows};
 ghost use Rattle.hop_map.specs.Noting.{BusyFirst};
-ghost use Rattle.hop_map.specs.Private.Updates.{Wants, Offers, Refusal, UpdateEnds, answer_of};
+ghost use Rattle.hop_map.specs.Private.Updates.{Wants, Offers, Refusal, UpdateEnds, SpillsTo, answer_of};
 
 use crate::ending::Ending;
 use crate::judging::{Finding, judge};
@@ -24,6 +24,7 @@ use std::sync::Wait;
 fn spilled_to(landing: Landing, segment: u32) -> Option<u32>
     ensures near { landing ≡ Neighbourhood → result ≡ None }
     ensures listed { landing ≡ OverflowList → result ≡ Some segment }
+    ensures segment { IfSome result (λ s. s ≡ segment) }
 {
     match landing {
         Landing::Neighbourhood => None,
@@ -55,6 +56,7 @@ pub(crate) fn put_new<'a, R: Wait>(
     ensures ends { UpdateEnds words.entry.about words.entry.known words.entry.map
         key.now value.now flags result.1 result.0.known }
     ensures order { BusyFirst stamp (answer_of result.1) }
+    ensures spilled { SpillsTo words.entry.segment result.1 }
 {
     let mut words = words;
     if !words.count_in(rt, element, key, value, flags) {
@@ -115,6 +117,7 @@ pub(crate) fn put<'a, R: Wait>(
     ensures ends { UpdateEnds words.entry.about words.entry.known words.entry.map
         key.now value.now flags result.1 result.0.known }
     ensures order { BusyFirst stamp (answer_of result.1) }
+    ensures spilled { SpillsTo words.entry.segment result.1 }
 {
     let mut words = words;
     match judge(&mut words, stamp, home, key, value, flags) {

@@ -1,9 +1,9 @@
 //! A whole update by one CPU.
-ghost use Rattle.std.specs.Prelude.{ℕ, ◌≡◌, ◌≢◌, ◌+◌, ◌-◌, ◌%◌, ◌^◌, ◌<◌, ◌≤◌, true, [], length, None, MatchOption};
+ghost use Rattle.std.specs.Prelude.{ℕ, ◌≡◌, ◌≢◌, ◌+◌, ◌-◌, ◌%◌, ◌^◌, ◌<◌, ◌≤◌, true, [], length, None, IfSome, MatchOption};
 ghost use Rattle.bpf_shared.specs.Shape.{IsPairOf, elements as elements_of};
 ghost use Rattle.bpf_shared.specs.History.{events_of};
 ghost use Rattle.bpf_shared.specs.declared.events.Event.TheVariants.{Update};
-ghost use Rattle.bpf_shared.specs.declared.events.MapAnswer.TheVariants.{Busy, NoMemory};
+ghost use Rattle.bpf_shared.specs.declared.events.MapAnswer.TheVariants.{Done, Busy, NoMemory};
 ghost use Rattle.hop_words.specs.Shortage.{done_in};
 ghost use Rattle.hop_words.specs.Ghost.{shape_at, limbo_at};
 ghost use Rattle.hop_words.specs.Kinds.{SawAllTaken, holding};
@@ -12,8 +12,8 @@ ghost use Rattle.hop_arena.specs.Claiming.{Claims, Misses, IsArena};
 ghost use Rattle.hop_epoch.specs.Batch.{Keeps};
 ghost use Rattle.hop_map.specs.Finding.{MayOwn};
 ghost use Rattle.hop_map.specs.Private.Locks.{Readies, with_lock};
-ghost use Rattle.hop_map.specs.Noting.{BusyFirst, CallNotes};
-ghost use Rattle.hop_map.specs.Private.Updates.{Brought, Refusal, UpdateEnds, answer_of};
+ghost use Rattle.hop_map.specs.Noting.{BusyFirst, CallNotes, LockedLast};
+ghost use Rattle.hop_map.specs.Private.Updates.{Brought, Refusal, UpdateEnds, SpillsTo, ClaimsOrLacks, answer_of};
 ghost use Rattle.hop_map.specs.Call.{IsBetweenCalls, IsOneCall, IsShortage, SearchesInVain, Searches, AreBatchesOf};
 ghost use Rattle.hop_map.specs.Private.Call.{HoldsNew};
 ghost use Rattle.hop_layout.specs.Layout.{gained};
@@ -24,6 +24,7 @@ use crate::locked::LockedWords;
 use crate::putting::{put, refuse};
 use crate::waiting::lock_home;
 use bpf_shared::MapAnswer;
+use crossbeam_utils::Backoff;
 use hop_arena::{Arena, Element};
 use hop_epoch::{Batches, Used};
 use hop_words::{HopTable, Lane};
@@ -47,7 +48,7 @@ fn lock_and_put<R: Wait>(
     ensures ends { (s : ℕ) × (n : ℕ) × MayOwn table.now.about map key.now s
         × UpdateEnds table.now.about (with_lock lane.known map s n) map
         key.now value.now flags result.1 result.0.known
-        × BusyFirst n (answer_of result.1) }
+        × BusyFirst n (answer_of result.1) × SpillsTo s result.1 }
 {
     let mut lane = lane;
     let at = homing(table, map, key);
@@ -111,9 +112,12 @@ fn claim_near(
     arena.claim(lane, table)
 }
 
-// A free element of the map: where none is found, the CPU's own batches are looked at, and then
-// there is a second pass.
-fn claim_free(
+// How often an update that found no free element looks once more where only another CPU's run keeps
+// what this CPU took out. Before each time it lets others go on.
+const PATIENCE: u32 = 24;
+
+// A free element of the map, after the CPU's own batches were looked at.
+fn reclaim_and_claim(
     table: &HopTable,
     lane: &mut Lane,
     arena: &mut Arena,
@@ -127,23 +131,52 @@ fn claim_free(
     requires unlocked { lane.old.known.locks ≡ [] }
     requires runs { in_run (events_of lane.old.known.cpu lane.old.known.seen) ≡ true }
     ensures table { lane.new.table ≡ lane.old.table }
-    ensures claimed { let l = lane.old.known in
-        MatchOption result
-        (Keeps arena.old.map l lane.new.known
-        × SearchesInVain table.now.about l arena.old.map lane.new.known)
-        (λ e. Keeps arena.old.map (holding l arena.old.map e.number) lane.new.known
-        × (e.map ≡ arena.old.map)
-        × (e.number < elements_of (shape_at table.now.about arena.old.map))) }
+    ensures claimed { ClaimsOrLacks table.now.about lane.old.known arena.old.map result
+        lane.new.known }
     ensures arena { Searches table.now.about arena.old.map arena.new }
     ensures batches { AreBatchesOf table.now.about lane.new.known arena.old.map batches.new }
 {
-    match claim_near(table, lane, arena, batches) {
-        Some(element) => Some(element),
-        None => {
-            batches.reclaim(lane, table);
-            claim_near(table, lane, arena, batches)
-        }
+    batches.reclaim(lane, table);
+    claim_near(table, lane, arena, batches)
+}
+
+// A free element of the map: where none is found, the CPU's own batches are looked at, and then
+// there is a second pass. Where only the runs of others keep what this CPU took out, it is patient:
+// one of them may have been taken off its core.
+fn claim_free(
+    table: &HopTable,
+    lane: &mut Lane,
+    arena: &mut Arena,
+    batches: &mut Batches,
+) -> Option<Element>
+    requires table { lane.old.table ≡ table.now.id }
+    requires inside { lane.old.known.cpu < table.now.about.shape.cpus }
+    requires even { table.now.about.count % 2 ≡ 0 }
+    requires map { arena.old.map < length table.now.about.shape.maps }
+    requires arena { Searches table.now.about arena.old.map arena.old }
+    requires batches { AreBatchesOf table.now.about lane.old.known arena.old.map batches.old }
+    requires unlocked { lane.old.known.locks ≡ [] }
+    requires runs { in_run (events_of lane.old.known.cpu lane.old.known.seen) ≡ true }
+    ensures table { lane.new.table ≡ lane.old.table }
+    ensures claimed { ClaimsOrLacks table.now.about lane.old.known arena.old.map result
+        lane.new.known }
+    ensures arena { Searches table.now.about arena.old.map arena.new }
+    ensures batches { AreBatchesOf table.now.about lane.new.known arena.old.map batches.new }
+{
+    if let Some(element) = claim_near(table, lane, arena, batches) {
+        return Some(element);
     }
+    let backoff = Backoff::new();
+    'patience: for _tried in 0..PATIENCE {
+        if let Some(element) = reclaim_and_claim(table, lane, arena, batches) {
+            return Some(element);
+        }
+        if !batches.waits_for_others(lane, table) {
+            return None;
+        }
+        backoff.snooze();
+    }
+    reclaim_and_claim(table, lane, arena, batches)
 }
 
 // Fills a new element, and puts it, as the flags say. Where the update is refused the element is
@@ -181,6 +214,7 @@ fn fill_and_put<R: Wait>(
     ensures served { result.1 ≢ NoMemory }
     ensures noted { CallNotes table.now.about (Update map key.now value.now flags result.1)
         lane.known result.0.known }
+    ensures spilled { IfSome result.2 (λ s. (result.1 ≡ Done) × LockedLast map s result.0.known) }
     ensures arena { Searches table.now.about map arena.new }
     ensures batches { AreBatchesOf table.now.about result.0.known map batches.new }
 {
@@ -223,6 +257,7 @@ pub fn update<R: Wait>(
     flags: u64,
 ) -> (Lane, MapAnswer, Option<u32>)
     requires table { lane.table ≡ table.now.id }
+    requires inside { lane.known.cpu < table.now.about.shape.cpus }
     requires even { table.now.about.count % 2 ≡ 0 }
     requires arena { Searches table.now.about map arena.old }
     requires batches { AreBatchesOf table.now.about lane.known map batches.old }
@@ -235,6 +270,7 @@ pub fn update<R: Wait>(
     ensures lacks { IsShortage table.now.about lane.known map result.1 result.0.known }
     ensures noted { CallNotes table.now.about (Update map key.now value.now flags result.1)
         lane.known result.0.known }
+    ensures spilled { IfSome result.2 (λ s. (result.1 ≡ Done) × LockedLast map s result.0.known) }
     ensures arena { Searches table.now.about map arena.new }
     ensures batches { AreBatchesOf table.now.about result.0.known map batches.new }
 {

@@ -11,8 +11,8 @@ use std::sync::Wait;
 use std::test::Fail;
 use std::thread::Threads;
 
-// A map that begins with one segment.
-fn growing(max: u64, spare: u64, mask: u32) -> MapShape {
+/// A map that begins with one segment.
+pub(crate) fn growing(max: u64, spare: u64, mask: u32) -> MapShape {
     MapShape {
         grow: true,
         ..a_map(max, spare, mask)

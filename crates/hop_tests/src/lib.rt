@@ -24,6 +24,8 @@ mod orders;
 #[cfg(test)]
 mod programs;
 #[cfg(test)]
+mod splits;
+#[cfg(test)]
 mod stores;
 #[cfg(test)]
 mod texts;

@@ -1,8 +1,10 @@
 -- What a lookup asks of its key.
 use Rattle.std.specs.Prelude.{◌≡◌, ℕ, ◌%◌, ◌≤◌, true, List, ◌∷◌, ◌++◌, length}
 use Rattle.bpf_shared.specs.History.{events_of}
+use Rattle.bpf_shared.specs.Shape.{elements as elements_of}
 use Rattle.hop_layout.specs.declared.about.About.{About}
 use Rattle.hop_layout.specs.declared.place.Place.TheVariants.{Stamp}
+use Rattle.hop_layout.specs.Home.{home_of}
 use Rattle.hop_layout.specs.Layout.{power}
 use Rattle.hop_words.specs.declared.known.Known.{Known}
 use Rattle.hop_words.specs.declared.known.Sight.{Sight}
@@ -13,6 +15,7 @@ use Rattle.hop_words.specs.Kinds.{SaysDepth, noting}
 use Rattle.hop_words.specs.Sights.{look}
 use Rattle.hop_words.specs.Walking.{IsOnWay}
 use Rattle.bpf_shared.specs.Own.{in_run}
+use Rattle.hop_map.specs.declared.homing.KeyHome.{KeyHome}
 use Rattle.hop_map.specs.Finding.{IsWay, IsDisturbedTry, all_sights}
 
 -- the key is at home in the segment of this depth
@@ -20,6 +23,13 @@ pub record AsksHere (a : About) (l : Known) (m s d : ℕ) (key : List ℕ) : Typ
   pub home : home_by a m d key ≡ s
   pub size : length key ≡ (shape_at a m).key
   pub runs : in_run (events_of l.cpu l.seen) ≡ true
+
+-- where a key of the map is at home, with the sizes of the map
+pub record IsHomed (a : About) (m : ℕ) (key : List ℕ) (at : KeyHome) : Type 0 where
+  pub home : at.home ≡ home_of key a.seed (shape_at a m).mask
+  pub key_size : at.key_size ≡ (shape_at a m).key
+  pub small : at.key_size ≤ 64
+  pub elements : at.elements ≡ elements_of (shape_at a m)
 
 -- so many readings were disturbed, and nothing else came of them
 pub record SeesDisturbances (a : About) (l : Known) (m : ℕ) (key : List ℕ) (n : ℕ) (l' : Known)

@@ -33,6 +33,7 @@ port_of p = record {
   known = (standing_in p.lane).known;
   arenas = p.arenas.items;
   batches = p.batches.items;
+  spilled = p.spilled;
 }
 
 -- the CPU has no element in hand, neither a fresh nor a used one, and no lock

@@ -1,5 +1,5 @@
 -- An update, from under the lock to the whole call.
-use Rattle.std.specs.Prelude.{◌≡◌, ◌≢◌, ℕ, ◌+◌, ◌-◌, ◌^◌, ◌<◌, ◌≤◌, true, false, List, [], ◌∷◌, length, slice_index}
+use Rattle.std.specs.Prelude.{◌≡◌, ◌≢◌, ℕ, ◌+◌, ◌-◌, ◌^◌, ◌<◌, ◌≤◌, true, false, List, [], ◌∷◌, Option, Some, None, IfSome, length, slice_index}
 use Rattle.bpf_shared.specs.Shape.{elements}
 use Rattle.bpf_shared.specs.History.{events_of}
 use Rattle.bpf_shared.specs.declared.events.Event.TheVariants.{Update}
@@ -13,7 +13,7 @@ use Rattle.hop_words.specs.Content.{HasKey}
 use Rattle.hop_words.specs.Ghost.{shape_at}
 use Rattle.hop_words.specs.Rule.{image}
 use Rattle.hop_words.specs.Shortage.{done_in}
-use Rattle.hop_words.specs.Kinds.{has, TakesEffect, Answers}
+use Rattle.hop_words.specs.Kinds.{has, holding, TakesEffect, Answers}
 use Rattle.bpf_shared.specs.Own.{in_run}
 use Rattle.hop_words.specs.Locking.{lock_of, hand}
 use Rattle.hop_seg.specs.Content.{HasPair, IsAbsent as SegAbsent}
@@ -24,6 +24,9 @@ use Rattle.hop_map.specs.declared.judging.Finding.TheVariants.{Refuses, There, M
 use Rattle.hop_map.specs.LockedSegment.{Locked, Ready}
 use Rattle.hop_map.specs.Private.LockedSegment.{seen_words}
 use Rattle.hop_map.specs.Noting.{BusyFirst}
+use Rattle.hop_map.specs.Call.{SearchesInVain}
+use Rattle.hop_arena.specs.declared.element.Element.{Element}
+use Rattle.hop_epoch.specs.Batch.{Keeps}
 use Rattle.hop_map.specs.Private.UnderLock.{IsInsertion}
 use Rattle.hop_map.specs.Private.Replacing.{IsReplacement}
 use Rattle.hop_layout.specs.Layout.{gained}
@@ -98,3 +101,15 @@ abbrev pub answer_of : Ending → MapAnswer
 answer_of (Added spilled) = Done
 answer_of (Replaced e) = Done
 answer_of (Refused r) = r
+
+-- a new key that went to an overflow list went to that of this segment
+abbrev pub SpillsTo : ℕ → Ending → Type 0
+SpillsTo s (Added spilled) = IfSome spilled (λ t. t ≡ s)
+SpillsTo s (Replaced e) = Unit {0}
+SpillsTo s (Refused r) = Unit {0}
+
+-- the element in hand is new, or each was looked for in vain
+abbrev pub ClaimsOrLacks : About → Known → ℕ → Option Element → Known → Type 0
+ClaimsOrLacks a l m None l' = Keeps m l l' × SearchesInVain a l m l'
+ClaimsOrLacks a l m (Some x) l' = Keeps m (holding l m x.number) l' × (x.map ≡ m)
+    × (x.number < elements (shape_at a m))

@@ -1,101 +1,48 @@
-use Rattle.std.proofs.Common.{◌≡◌, ◌%◌, sym, subst, ◌∙◌, arith, Option}
-use Rattle.bpf_shared.specs.declared.events.Span.{Span}
-use Rattle.hop_map.specs.Finding.{Looked}
-use Rattle.hop_map.proofs.Peeking.{finds}
-use Rattle.hop_map.proofs.Onces.{asks_there, home_there, disturbed_first, disturbed_last, found_once, reads_once, walked_home, way_of}
+use Rattle.std.proofs.Common.{arith}
+use Rattle.hop_map.proofs.Onces.{disturbed_first, way_of}
+use Rattle.hop_map.proofs.Ways.{first_stopped, first_there, first_near, first_grows}
 use Rattle.hop_map.proofs.finding.find_once.Goals as goal
 
-pub see_again-lane-requires : goal.see_again-lane-requires
-see_again-lane-requires c =
-    let a = c.args.table.now.about in
-    let l = c.args.lane.known in
-    let m = c.args.map in
-    let key = c.args.key.now in
-    let at = c.homing-at in
-    let w = c.approach-lane in
-    let s = w.result.1 in
-    let n = w.result.2 in
-    let way = way_of a m s at.result.home key w.ensures.walked.way at.ensures.home w.ensures.walked.is_way in
-    let even : n % 2 ≡ 0 = (let z = c.if-first-eq1.false in omega arith) in
-    let free = w.ensures.walked.free even in
-    let home = walked_home a m s n at.result.home key at.ensures.home free.1 in
-    let x = c.new-words in
-    let y = c.find-found.new.words in
-    let b = asks_there a l m s n key c.requires.asks w.ensures.walked.way way home w.result.0.known free.0 x.result y x.ensures.about x.ensures.known x.ensures.map x.ensures.segment c.find-found.ensures.rests in
-    let h = home_there a l m s n key c.requires.asks w.ensures.walked.way way home w.result.0.known free.0 x.result y x.ensures.about x.ensures.known x.ensures.map x.ensures.segment c.find-found.ensures.rests at.result.home at.ensures.home in
-    record { finds = finds y key c.find-found.result b at.result.home h c.find-found.ensures.found }
+pub read_segment-requires-clause-homed : goal.read_segment-requires-clause-homed
+read_segment-requires-clause-homed c = record {
+  home = c.homing-at.ensures.home;
+  key_size = c.homing-at.ensures.key;
+  small = c.homing-at.ensures.small;
+  elements = c.homing-at.ensures.elements;
+}
 
-pub returns-in-Some-clause-ends : goal.returns-in-Some-clause-ends
-returns-in-Some-clause-ends c =
-    let a = c.args.table.now.about in
-    let l = c.args.lane.known in
-    let m = c.args.map in
-    let key = c.args.key.now in
-    let at = c.homing-at in
-    let w = c.approach-lane in
-    let s = w.result.1 in
-    let n = w.result.2 in
-    let way = way_of a m s at.result.home key w.ensures.walked.way at.ensures.home w.ensures.walked.is_way in
-    let even : n % 2 ≡ 0 = (let z = c.if-first-eq1.false in omega arith) in
-    let free = w.ensures.walked.free even in
-    let home = walked_home a m s n at.result.home key at.ensures.home free.1 in
-    let x = c.new-words in
-    let y = c.find-found.new.words in
-    let l3 = c.see_again-lane.result.0.known in (
-      subst (λ (o : Option Span). Looked a l m key o l3) (sym c.span_of.ensures ∙ c.in-Some.is)
-          (found_once a l m s n key c.requires.asks w.ensures.walked.way way home w.result.0.known free.0 x.result y x.ensures.about x.ensures.known x.ensures.map x.ensures.segment c.find-found.ensures.rests c.find-found.result c.see_again-lane.result.1 l3 c.see_again-lane.ensures.seen c.if-last-first.false),
-      reads_once a l m s n key c.requires.asks w.ensures.walked.way way home w.result.0.known free.0 x.result y x.ensures.about x.ensures.known x.ensures.map x.ensures.segment c.find-found.ensures.rests c.find-found.result c.see_again-lane.result.1 l3 c.see_again-lane.ensures.seen c.if-last-first.false even,
-    )
+pub read_segment-requires-clause-even : goal.read_segment-requires-clause-even
+read_segment-requires-clause-even c = let z = c.if-first-from.true in let l = c.from.ensures in omega arith
 
-pub returns-in-None-clause-ends : goal.returns-in-None-clause-ends
-returns-in-None-clause-ends c =
-    let a = c.args.table.now.about in
-    let l = c.args.lane.known in
-    let m = c.args.map in
-    let key = c.args.key.now in
-    let at = c.homing-at in
-    let w = c.approach-lane in
-    let s = w.result.1 in
-    let n = w.result.2 in
-    let way = way_of a m s at.result.home key w.ensures.walked.way at.ensures.home w.ensures.walked.is_way in
-    let even : n % 2 ≡ 0 = (let z = c.if-first-eq1.false in omega arith) in
-    let free = w.ensures.walked.free even in
-    let home = walked_home a m s n at.result.home key at.ensures.home free.1 in
-    let x = c.new-words in
-    let y = c.find-found.new.words in
-    let l3 = c.see_again-lane.result.0.known in (
-      subst (λ (o : Option Span). Looked a l m key o l3) (sym c.span_of.ensures ∙ c.in-None.is)
-          (found_once a l m s n key c.requires.asks w.ensures.walked.way way home w.result.0.known free.0 x.result y x.ensures.about x.ensures.known x.ensures.map x.ensures.segment c.find-found.ensures.rests c.find-found.result c.see_again-lane.result.1 l3 c.see_again-lane.ensures.seen c.if-last-first.false),
-      reads_once a l m s n key c.requires.asks w.ensures.walked.way way home w.result.0.known free.0 x.result y x.ensures.about x.ensures.known x.ensures.map x.ensures.segment c.find-found.ensures.rests c.find-found.result c.see_again-lane.result.1 l3 c.see_again-lane.ensures.seen c.if-last-first.false even,
-    )
+pub read_segment-requires-clause-begins : goal.read_segment-requires-clause-begins
+read_segment-requires-clause-begins c = (c.args.lane.known, c.requires.asks, first_there c.args.table.now.about c.args.lane.known c.args.map c.homing-at.result.home c.see_stamp-first.result c.first_way-way.result c.see_stamp-first.new.self.known c.first_way-way.ensures.inside c.first_way-way.ensures.way c.first_way-way.ensures.level c.first_way-way.ensures.few c.see_stamp-first.ensures.seen (let z = c.if-first-from.true in let l = c.from.ensures in omega arith) (let z = c.if-first-from.true in let l = c.from.ensures in let f = c.first_way-way.ensures.few in omega arith))
+
+pub returns-then-first-from-clause-ends : goal.returns-then-first-from-clause-ends
+returns-then-first-from-clause-ends c = c.read_segment.ensures.ends c.args.lane.known c.requires.asks (first_there c.args.table.now.about c.args.lane.known c.args.map c.homing-at.result.home c.see_stamp-first.result c.first_way-way.result c.see_stamp-first.new.self.known c.first_way-way.ensures.inside c.first_way-way.ensures.way c.first_way-way.ensures.level c.first_way-way.ensures.few c.see_stamp-first.ensures.seen (let z = c.if-first-from.true in let l = c.from.ensures in omega arith) (let z = c.if-first-from.true in let l = c.from.ensures in let f = c.first_way-way.ensures.few in omega arith))
 
 pub returns-then-first-eq1-clause-ends : goal.returns-then-first-eq1-clause-ends
 returns-then-first-eq1-clause-ends c =
     let a = c.args.table.now.about in
-    let l = c.args.lane.known in
     let m = c.args.map in
     let key = c.args.key.now in
-    let at = c.homing-at in
-    let w = c.approach-lane in
-    let s = w.result.1 in
-    let n = w.result.2 in
-    let way = way_of a m s at.result.home key w.ensures.walked.way at.ensures.home w.ensures.walked.is_way in
-    disturbed_first a l m s n key c.requires.asks w.ensures.walked.way way w.result.0.known c.if-first-eq1.true (w.ensures.walked.locked c.if-first-eq1.true)
+    let odd = c.if-first-eq1.true in
+    let walked = first_stopped c.args.table.now.about c.args.lane.known c.args.map c.homing-at.result.home c.see_stamp-first.result c.first_way-way.result c.see_stamp-first.new.self.known c.first_way-way.ensures.inside c.first_way-way.ensures.way c.first_way-way.ensures.level c.first_way-way.ensures.few c.see_stamp-first.ensures.seen odd in
+    let way = way_of a m c.first_way-way.result.segment c.homing-at.result.home key walked.way c.homing-at.ensures.home walked.is_way in
+    disturbed_first a c.args.lane.known m c.first_way-way.result.segment c.see_stamp-first.result key c.requires.asks walked.way way c.see_stamp-first.new.self.known odd (walked.locked odd)
 
-pub returns-then-last-first-clause-ends : goal.returns-then-last-first-clause-ends
-returns-then-last-first-clause-ends c =
-    let a = c.args.table.now.about in
-    let l = c.args.lane.known in
-    let m = c.args.map in
-    let key = c.args.key.now in
-    let at = c.homing-at in
-    let w = c.approach-lane in
-    let s = w.result.1 in
-    let n = w.result.2 in
-    let way = way_of a m s at.result.home key w.ensures.walked.way at.ensures.home w.ensures.walked.is_way in
-    let even : n % 2 ≡ 0 = (let z = c.if-first-eq1.false in omega arith) in
-    let free = w.ensures.walked.free even in
-    let home = walked_home a m s n at.result.home key at.ensures.home free.1 in
-    let x = c.new-words in
-    let y = c.find-found.new.words in
-    disturbed_last a l m s n key c.requires.asks w.ensures.walked.way way home w.result.0.known free.0 x.result y x.ensures.about x.ensures.known x.ensures.map x.ensures.segment c.find-found.ensures.rests c.find-found.result c.see_again-lane.result.1 c.see_again-lane.result.0.known c.see_again-lane.ensures.seen c.if-last-first.true
+pub find_on_way-requires-clause-homed : goal.find_on_way-requires-clause-homed
+find_on_way-requires-clause-homed c = record {
+  home = c.homing-at.ensures.home;
+  key_size = c.homing-at.ensures.key;
+  small = c.homing-at.ensures.small;
+  elements = c.homing-at.ensures.elements;
+}
+
+pub find_on_way-requires-clause-grows : goal.find_on_way-requires-clause-grows
+find_on_way-requires-clause-grows c = first_grows c.args.table.now.about c.args.lane.known c.args.map c.homing-at.result.home c.see_stamp-first.result c.first_way-way.result c.see_stamp-first.new.self.known c.first_way-way.ensures.inside c.first_way-way.ensures.way c.first_way-way.ensures.level c.first_way-way.ensures.few c.see_stamp-first.ensures.seen (λ e. c.if-first-from.false (let z = c.if-first-eq1.false in let l = c.from.ensures in omega (arith, e)))
+
+pub find_on_way-requires-clause-begins : goal.find_on_way-requires-clause-begins
+find_on_way-requires-clause-begins c = (c.args.lane.known, c.requires.asks, first_near c.args.table.now.about c.args.lane.known c.args.map c.homing-at.result.home c.see_stamp-first.result c.first_way-way.result c.see_stamp-first.new.self.known c.first_way-way.ensures.inside c.first_way-way.ensures.way c.first_way-way.ensures.level c.first_way-way.ensures.few c.see_stamp-first.ensures.seen (let z = c.if-first-eq1.false in omega arith))
+
+pub returns-clause-ends : goal.returns-clause-ends
+returns-clause-ends c = c.find_on_way.ensures.ends c.args.lane.known c.requires.asks (first_near c.args.table.now.about c.args.lane.known c.args.map c.homing-at.result.home c.see_stamp-first.result c.first_way-way.result c.see_stamp-first.new.self.known c.first_way-way.ensures.inside c.first_way-way.ensures.way c.first_way-way.ensures.level c.first_way-way.ensures.few c.see_stamp-first.ensures.seen (let z = c.if-first-eq1.false in omega arith))

@@ -1,29 +1,62 @@
-use Rattle.std.proofs.Common.{ℕ, ◌⊎◌, [], ◌≡◌, MatchOption, ap, subst, ◌∙◌}
-use Rattle.hop_words.specs.Ghost.{limbo_at}
-use Rattle.hop_arena.specs.Claiming.{Misses, Claims}
+use Rattle.std.proofs.Common.{ℕ, Some, None, Option, sym, subst, ◌∙◌}
+use Rattle.hop_words.specs.declared.known.Known.{Known}
 use Rattle.hop_arena.specs.declared.element.Element.{Element}
-use Rattle.hop_epoch.specs.declared.batches.Batches.{Batches}
-use Rattle.hop_epoch.specs.Batch.{Keeps, SeesRunning}
-use Rattle.hop_arena.proofs.Claiming.{looks_runs}
-use Rattle.hop_map.proofs.Wholes.{found_after, kept_runs}
+use Rattle.hop_epoch.specs.Batch.{Keeps}
+use Rattle.hop_epoch.proofs.Batching.{keeps_then}
+use Rattle.hop_map.specs.Call.{Searches, AreBatchesOf}
+use Rattle.hop_map.specs.Private.Updates.{ClaimsOrLacks}
+use Rattle.hop_map.proofs.Wholes.{found_at_once, found_later}
 use Rattle.hop_map.proofs.updating.claim_free.Goals as goal
 
-pub returns-in-None-clause-claimed : goal.returns-in-None-clause-claimed
-returns-in-None-clause-claimed c =
+pub returns-in-Some-clause-claimed : goal.returns-in-Some-clause-claimed
+returns-in-Some-clause-claimed c = found_at_once c.args.table.now.about c.args.arena.now.map c.args.lane.now.known c.claim_near.new.lane.known c.in-Some.element c.in-Some.ensures.claimed
+
+pub returns-in-Some-reclaim_and_claim-clause-claimed : goal.returns-in-Some-reclaim_and_claim-clause-claimed
+returns-in-Some-reclaim_and_claim-clause-claimed c =
+    let a = c.args.table.now.about in
+    let i = c.patience.invariant in
+    let k = c.patience.lane.known in
+    let l' = c.reclaim_and_claim.new.lane.known in
+    let e = c.in-Some-reclaim_and_claim.element in
+    found_later a c.args.arena.now.map c.args.lane.now.known k l' i.keeps (Some e)
+    (subst (λ (n : ℕ). ClaimsOrLacks a k n (Some e) l') i.arena.0 c.in-Some-reclaim_and_claim.ensures.claimed)
+
+pub returns-then-not-waits_for_others-clause-claimed : goal.returns-then-not-waits_for_others-clause-claimed
+returns-then-not-waits_for_others-clause-claimed c =
     let a = c.args.table.now.about in
     let m = c.args.arena.now.map in
-    let l1 = c.claim_near.new.lane.known in
-    let l2 = c.reclaim.new.lane.known in
-    let l3 = c.claim_near-in-None.new.lane.known in
-    let same = ap (λ (b : Batches). b.map) c.claim_near.ensures.batches ∙ c.requires.batches.0 in
-    found_after a m c.args.lane.now.known l1 l2 l3 c.in-None.ensures.claimed
-    (subst (λ (i : ℕ). Keeps i l1 l2) same c.reclaim.ensures.keeps)
-    (subst (λ (i : ℕ). (limbo_at l2.limbo i).old ≡ [] → (limbo_at l2.limbo i).young ≡ []) same c.reclaim.ensures.empty)
-    (subst (λ (i : ℕ). ((limbo_at l2.limbo i).old ≡ []) ⊎ SeesRunning i l1 l2) same c.reclaim.ensures.blocked)
-    c.claim_near-in-None.result
-    (subst (λ (i : ℕ). MatchOption c.claim_near-in-None.result (Misses a l2 i l3) (λ (x : Element). Claims a l2 i x l3)) c.claim_near.ensures.arena.0 c.claim_near-in-None.ensures.claimed)
+    let l = c.args.lane.now.known in
+    let i = c.patience.invariant in
+    let k = c.patience.lane.known in
+    let l' = c.reclaim_and_claim.new.lane.known in
+    let found : ClaimsOrLacks a k c.patience.arena.map None l' = subst (λ (o : Option Element). ClaimsOrLacks a k c.patience.arena.map o l') c.in_default-reclaim_and_claim.is c.reclaim_and_claim.ensures.claimed in
+    subst (λ (z : Known). ClaimsOrLacks a l m None z) (sym c.waits_for_others.ensures.same)
+    (found_later a m l k l' i.keeps None (subst (λ (n : ℕ). ClaimsOrLacks a k n None l') i.arena.0 found))
 
-pub claim_near-requires-in-None-clause-runs : goal.claim_near-requires-in-None-clause-runs
-claim_near-requires-in-None-clause-runs c =
-    let l1 = c.claim_near.new.lane.known in
-    kept_runs _ l1 c.reclaim.new.lane.known c.reclaim.ensures.keeps (looks_runs c.args.lane.now.known l1 c.in-None.ensures.claimed.0 c.in-None.ensures.claimed.1 c.requires.runs)
+pub patience-preserved : goal.patience-preserved
+patience-preserved c =
+    let a = c.args.table.now.about in
+    let m = c.args.arena.now.map in
+    let l = c.args.lane.now.known in
+    let i = c.patience.invariant in
+    let k = c.patience.lane.known in
+    let l' = c.reclaim_and_claim.new.lane.known in
+    let e = c.reclaim_and_claim.ensures in
+    let same = sym c.waits_for_others.ensures.same in
+    let found : ClaimsOrLacks a k c.patience.arena.map None l' = subst (λ (o : Option Element). ClaimsOrLacks a k c.patience.arena.map o l') c.in_default-reclaim_and_claim.is e.claimed in
+    record {
+      table = c.waits_for_others.ensures.table ∙ (e.table ∙ i.table);
+      keeps = subst (Keeps m l) same (keeps_then m l k l' i.keeps (subst (λ (n : ℕ). Keeps n k l') i.arena.0 found.0));
+      arena = subst (λ (n : ℕ). Searches a n c.reclaim_and_claim.new.arena) i.arena.0 e.arena;
+      batches = subst (λ (z : Known). AreBatchesOf a z m c.reclaim_and_claim.new.batches) same (subst (λ (n : ℕ). AreBatchesOf a l' n c.reclaim_and_claim.new.batches) i.arena.0 e.batches);
+    }
+
+pub returns-clause-claimed : goal.returns-clause-claimed
+returns-clause-claimed c =
+    let a = c.args.table.now.about in
+    let i = c.patience.invariant in
+    let k = c.patience.lane.known in
+    let o = c.reclaim_and_claim-2.result in
+    let l' = c.reclaim_and_claim-2.new.lane.known in
+    found_later a c.args.arena.now.map c.args.lane.now.known k l' i.keeps o
+    (subst (λ (n : ℕ). ClaimsOrLacks a k n o l') i.arena.0 c.reclaim_and_claim-2.ensures.claimed)

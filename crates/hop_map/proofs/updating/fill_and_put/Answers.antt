@@ -17,11 +17,11 @@ use Rattle.hop_map.specs.Private.Locks.{Readies}
 use Rattle.hop_map.specs.Private.UnderLock.{IsInsertion}
 use Rattle.hop_map.specs.Noting.{BusyFirst}
 use Rattle.hop_map.specs.Private.Locks.{locked_with}
-use Rattle.hop_map.specs.Private.Updates.{Refusal, UpdateEnds, answer_of}
+use Rattle.hop_map.specs.Private.Updates.{Refusal, UpdateEnds, SpillsTo, answer_of}
 use Rattle.hop_map.proofs.Keys.{are_bytes}
 use Rattle.hop_map.proofs.Wholes.{pair_at}
 use Rattle.hop_words.proofs.Sighted.{set_leaves}
-use Rattle.hop_map.proofs.Noted.{update_notes}
+use Rattle.hop_map.proofs.Noted.{update_notes, spilled_last}
 use Rattle.hop_map.proofs.Settling.{filled_readies, refused_hand, refused_called, over_called}
 use Rattle.hop_map.proofs.updating.fill_and_put.Goals as goal
 
@@ -175,3 +175,13 @@ returns-in-Refused-clause-noted g c =
     (ap (λ (q : Known). q.tally) c.give_back.ensures.given.1 ∙ ap (λ (z : List Sight). back ∷ z) (ap (λ (q : Known). q.tally) p.0.after ∙ ap (λ (q : Known). k ∷ q.tally) c.fill.ensures.filled))
     (set_leaves c.args.element.map c.args.element.number c.give_back.ensures.given.0, tt)
     (subst (λ (q : Ending). BusyFirst ends.1 (answer_of q)) c.in-Refused.is ends.4) c.args.value.now c.args.flags c.requires.flags
+
+pub returns-in-Added-clause-spilled : goal.returns-in-Added-clause-spilled
+returns-in-Added-clause-spilled g c =
+    let a = c.args.table.now.about in
+    let m = c.args.map in
+    let ends = c.lock_and_put-lane.ensures.ends in
+    let l2 = c.lock_and_put-lane.result.0.known in
+    let k = lock_taken m ends.0 ends.1 in
+    let p : IsInsertion a (locked_with c.fill.new.lane.known k) m c.args.key.now c.args.value.now c.args.flags l2 = subst (λ (q : Ending). UpdateEnds a (locked_with c.fill.new.lane.known k) m c.args.key.now c.args.value.now c.args.flags q l2) c.in-Added.is ends.3 in
+    spilled_last m ends.0 ends.1 l2 c.fill.new.lane.known.tally c.in-Added.spilled (subst (λ (q : Ending). SpillsTo ends.0 q) c.in-Added.is ends.5) (ap (λ (q : Known). q.tally) p.after)

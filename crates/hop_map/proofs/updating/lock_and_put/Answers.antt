@@ -1,6 +1,6 @@
-use Rattle.std.proofs.Common.{◌∙◌}
+use Rattle.std.proofs.Common.{ℕ, subst, ◌∙◌}
 use Rattle.hop_map.specs.Private.UnderLock.{LockShows}
-use Rattle.hop_map.specs.Private.Updates.{Offers, UpdateEnds}
+use Rattle.hop_map.specs.Private.Updates.{Offers, SpillsTo, UpdateEnds}
 use Rattle.hop_map.proofs.Locking.{of_words, of_parts, locked_ready, locked_contents, locked_offers, ends_before, taken_home, taken_own}
 use Rattle.hop_map.proofs.updating.lock_and_put.Goals as goal
 
@@ -37,4 +37,5 @@ returns-clause-ends g c =
       ends_before c.args.table.now.about c.args.lane.known c.args.map c.lock_home-taken.result.segment c.lock_home-taken.result.stamp c.args.key.now c.args.value.now c.args.flags c.lock_home-taken.new.lane.known c.lock_home-taken.ensures.taken.locked c.requires.readies.idle c.put.result.1 c.put.result.0.known
           (of_parts c.new-words.result _ _ _ _ made.about made.known made.map made.segment (λ a l m s. UpdateEnds a l m c.args.key.now c.args.value.now c.args.flags c.put.result.1 c.put.result.0.known) c.put.ensures.ends),
       c.put.ensures.order,
+      subst (λ (i : ℕ). SpillsTo i c.put.result.1) made.segment c.put.ensures.spilled,
     )

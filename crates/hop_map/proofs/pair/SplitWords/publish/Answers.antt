@@ -5,7 +5,6 @@ use Rattle.hop_layout.specs.Layout.{depth}
 use Rattle.hop_layout.proofs.Depths.{depth_most}
 use Rattle.hop_words.specs.Depths.{stamp_depth}
 use Rattle.hop_words.specs.Ghost.{shape_at, child, IsSegment}
-use Rattle.hop_words.specs.Guarded.{IsStampBeside}
 use Rattle.hop_words.specs.Locking.{lock_of}
 use Rattle.hop_map.specs.LockedSegment.{Locked, Ready}
 use Rattle.hop_map.specs.Private.LockedSegment.{written}

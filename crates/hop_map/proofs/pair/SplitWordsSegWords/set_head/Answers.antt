@@ -1,4 +1,4 @@
-use Rattle.std.proofs.Common.{ap, subst, ◌∙◌}
+use Rattle.std.proofs.Common.{subst}
 use Rattle.hop_map.specs.LockedSegment.{Locked, Stays}
 use Rattle.hop_map.proofs.pair.SplitWordsSegWords.set_head.Goals as goal
 

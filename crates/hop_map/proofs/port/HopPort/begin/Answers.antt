@@ -11,14 +11,14 @@ returns-clause-fits c =
     let s = c.in-Some.lane in
     let l = c.begin_run-begun.new.lane in
     let e = c.begin_run-begun.ensures in
-    let is : port_with s i.arenas.items i.batches.items ≡ c.args.self.now = sym (port_is i c.take.result s c.take.ensures.value c.in-Some.is) ∙ c.self.view_is in
-    begins c.args.table.now (port_with s i.arenas.items i.batches.items) l.table l.known c.begin_run-begun.result (subst (IsPortOf c.args.table.now) (sym is) c.requires.fits) e.table e.begun e.room e.unchanged
+    let is : port_with s i.arenas.items i.batches.items i.spilled ≡ c.args.self.now = sym (port_is i c.take.result s c.take.ensures.value c.in-Some.is) ∙ c.self.view_is in
+    begins c.args.table.now (port_with s i.arenas.items i.batches.items i.spilled) l.table l.known c.begin_run-begun.result (subst (IsPortOf c.args.table.now) (sym is) c.requires.fits) e.table e.begun e.room e.unchanged
 
 pub returns-clause-in_run : goal.returns-clause-in_run
 returns-clause-in_run c =
     let i = c.self.inside in
     let s = c.in-Some.lane in
-    let p = port_with s i.arenas.items i.batches.items in
+    let p = port_with s i.arenas.items i.batches.items i.spilled in
     let is : p ≡ c.args.self.now = sym (port_is i c.take.result s c.take.ensures.value c.in-Some.is) ∙ c.self.view_is in
     begun_runs c.args.table.now.about p.known c.begin_run-begun.new.lane.known c.begin_run-begun.result c.begin_run-begun.ensures.begun (subst (λ (q : Port). runs q ≡ false) (sym is) c.requires.idle)
 
@@ -27,7 +27,7 @@ returns-clause-noted c =
     let i = c.self.inside in
     let s = c.in-Some.lane in
     let r = c.begin_run-begun in
-    let p = port_with s i.arenas.items i.batches.items in
+    let p = port_with s i.arenas.items i.batches.items i.spilled in
     let is : p ≡ c.args.self.now = sym (port_is i c.take.result s c.take.ensures.value c.in-Some.is) ∙ c.self.view_is in
     subst (λ (q : Port). OnOk r.result (CallNotes c.args.table.now.about Begin q.known r.new.lane.known)) is
     (begun_notes c.args.table.now.about p.known r.new.lane.known r.result r.ensures.begun)

@@ -39,18 +39,18 @@ pub returns-clause-fits : goal.returns-clause-fits
 returns-clause-fits c =
     let i = c.self.inside in
     let s = c.in-Some.lane in
-    let p = port_with s i.arenas.items i.batches.items in
+    let p = port_with s i.arenas.items i.batches.items i.spilled in
     let t = c.args.table.now in
     let is : p ≡ c.args.self.now = sym (port_is i c.take.result s c.take.ensures.value c.in-Some.is) ∙ c.self.view_is in
     let m = c.maps.invariant in
-    subst (λ (xs : List Arena). IsPortOf t (record { table = c.maps.lane.table; known = c.maps.lane.known; arenas = xs; batches = c.maps.self-inside.batches.items })) (ap (λ (v : Vec Arena Global). v.items) (sym m.3))
-    (ends_last t p c.maps.lane.table c.end_run.new.lane.known c.maps.lane.known c.maps.self-inside.batches.items (subst (IsPortOf t) (sym is) c.requires.fits) (subst (λ (q : Port). runs q ≡ true) (sym is) c.requires.in_run) m.0 c.end_run.ensures.ended m.1)
+    subst (λ (xs : List Arena). IsPortOf t (record { table = c.maps.lane.table; known = c.maps.lane.known; arenas = xs; batches = c.maps.self-inside.batches.items; spilled = c.maps.self-inside.spilled })) (ap (λ (v : Vec Arena Global). v.items) (sym m.3))
+    (ends_last t p c.maps.lane.table c.end_run.new.lane.known c.maps.lane.known c.maps.self-inside.batches.items c.maps.self-inside.spilled (subst (IsPortOf t) (sym is) c.requires.fits) (subst (λ (q : Port). runs q ≡ true) (sym is) c.requires.in_run) m.0 c.end_run.ensures.ended m.1)
 
 pub returns-clause-idle : goal.returns-clause-idle
 returns-clause-idle c =
     let i = c.self.inside in
     let s = c.in-Some.lane in
-    let p = port_with s i.arenas.items i.batches.items in
+    let p = port_with s i.arenas.items i.batches.items i.spilled in
     let is : p ≡ c.args.self.now = sym (port_is i c.take.result s c.take.ensures.value c.in-Some.is) ∙ c.self.view_is in
     ended_idle c.args.table.now p c.end_run.new.lane.known c.maps.lane.known c.maps.self-inside.batches.items c.end_run.ensures.ended c.maps.invariant.1 (subst (λ (q : Port). runs q ≡ true) (sym is) c.requires.in_run)
 
@@ -59,7 +59,7 @@ returns-clause-noted c =
     let i = c.self.inside in
     let s = c.in-Some.lane in
     let t = c.args.table.now in
-    let p = port_with s i.arenas.items i.batches.items in
+    let p = port_with s i.arenas.items i.batches.items i.spilled in
     let is : p ≡ c.args.self.now = sym (port_is i c.take.result s c.take.ensures.value c.in-Some.is) ∙ c.self.view_is in
     subst (λ (q : Port). CallNotes t.about End q.known c.maps.lane.known) is
     (ended_notes t p c.end_run.new.lane.known c.maps.lane.known c.maps.self-inside.batches.items c.end_run.ensures.ended c.maps.invariant.1)
@@ -69,7 +69,7 @@ returns-clause-reclaimed c =
     let i = c.self.inside in
     let s = c.in-Some.lane in
     let t = c.args.table.now in
-    let p = port_with s i.arenas.items i.batches.items in
+    let p = port_with s i.arenas.items i.batches.items i.spilled in
     let is : p ≡ c.args.self.now = sym (port_is i c.take.result s c.take.ensures.value c.in-Some.is) ∙ c.self.view_is in
     let all = c.maps.invariant.2 in
     let past = c.maps-test.false in

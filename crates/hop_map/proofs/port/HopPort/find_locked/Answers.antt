@@ -12,7 +12,7 @@ pub returns-clause-fits : goal.returns-clause-fits
 returns-clause-fits g c =
     let i = c.self.inside in
     let s = c.in-Some.lane in
-    let p = port_with s i.arenas.items i.batches.items in
+    let p = port_with s i.arenas.items i.batches.items i.spilled in
     let t = c.args.table.now in
     let is : p ≡ c.args.self.now = sym (port_is i c.take.result s c.take.ensures.value c.in-Some.is) ∙ c.self.view_is in
     let l = c.find_locked-lane.result.0 in
@@ -23,7 +23,7 @@ pub returns-clause-in_run : goal.returns-clause-in_run
 returns-clause-in_run g c =
     let i = c.self.inside in
     let s = c.in-Some.lane in
-    let p = port_with s i.arenas.items i.batches.items in
+    let p = port_with s i.arenas.items i.batches.items i.spilled in
     let is : p ≡ c.args.self.now = sym (port_is i c.take.result s c.take.ensures.value c.in-Some.is) ∙ c.self.view_is in
     let l = c.find_locked-lane.result.0 in
     let e = c.find_locked-lane.ensures in

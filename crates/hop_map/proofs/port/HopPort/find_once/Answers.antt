@@ -8,7 +8,7 @@ pub returns-clause-fits : goal.returns-clause-fits
 returns-clause-fits c =
     let i = c.self.inside in
     let s = c.in-Some.lane in
-    let p = port_with s i.arenas.items i.batches.items in
+    let p = port_with s i.arenas.items i.batches.items i.spilled in
     let t = c.args.table.now in
     let is : p ≡ c.args.self.now = sym (port_is i c.take.result s c.take.ensures.value c.in-Some.is) ∙ c.self.view_is in
     let l = c.find_once-lane.result.0 in
@@ -19,7 +19,7 @@ pub returns-clause-in_run : goal.returns-clause-in_run
 returns-clause-in_run c =
     let i = c.self.inside in
     let s = c.in-Some.lane in
-    let p = port_with s i.arenas.items i.batches.items in
+    let p = port_with s i.arenas.items i.batches.items i.spilled in
     let is : p ≡ c.args.self.now = sym (port_is i c.take.result s c.take.ensures.value c.in-Some.is) ∙ c.self.view_is in
     let l = c.find_once-lane.result.0 in
     once_runs c.args.table.now.about p.known l.known c.args.map c.args.key.now c.find_once-lane.result.1 c.find_once-lane.ensures.ends
