@@ -1,5 +1,5 @@
 -- A machine and what it is kept as.
-use Rattle.std.proofs.Common.{◌≡◌, ◌∙◌, ℕ, zero, suc, ◌+◌, ◌<◌, ◌≤◌, ◌⊎◌, true, false, inl, inr, List, [], ◌∷◌, ◌++◌, Option, Some, None, length, drop, refl, sym, ap, subst, append-nil, arith}
+use Rattle.std.proofs.Common.{◌≡◌, ◌∙◌, ℕ, ◌+◌, ◌<◌, ◌≤◌, ◌⊎◌, true, false, inl, inr, List, [], ◌∷◌, ◌++◌, Option, Some, None, length, drop, refl, sym, ap, subst, append-nil, arith}
 use Rattle.std.specs.Prelude.{All, nat_lt, slice_get, slice_index_or}
 use Rattle.std.proofs.lemmas.Bool.{ltb-true}
 use Rattle.std.proofs.lemmas.List.{length-drop, length-map}
@@ -22,6 +22,7 @@ use Rattle.bpf_explore.specs.Search.{IsTurned, IsIdleAt, Extends}
 use Rattle.bpf_explore.specs.Stores.{IsOfShape, no_store}
 use Rattle.bpf_explore.specs.Tuples.{TupleList, tuple_at, with_tuple}
 use Rattle.bpf_explore.specs.Private.Album.{Shelf, machine_of, machine_at, machines, IsState, IsShelf, Grows, FitsShelf, AddsOne, ShowsFirst, AreNumbersOf, AreKeptUnder}
+use Rattle.bpf_explore.proofs.KeptLaws.{tuple_new}
 use Rattle.bpf_explore.proofs.StandAlike.{can_stand}
 use Rattle.bpf_explore.proofs.ShelfLaws.{machines_length, machines_at, shapes_still, same_shelf, same_kept, more_shelf, more_kept}
 
@@ -163,7 +164,7 @@ module _ (h : Shape) (s : Shelf) (m : MachineState) (stores : List Contents) (pa
   pub same_invariant : IsShelf h (with_states s.states) × FitsShelf h (with_states s.states) m
   same_invariant = (same_shelf s (with_states s.states) m.store (grown s.states) h fits.shape is refl, fits_grown s.states refl)
 
-  pub same_adds : AddsOne (machines s s.states.count) (machines (with_states s.states) s.states.count)
+  pub same_adds : AddsOne (machines s s.states.count) m (machines (with_states s.states) s.states.count)
   same_adds = inl (same_kept s (with_states s.states) m.store (grown s.states) h fits.shape is refl)
 
   module _ (tuple : List ℕ) (under : AreKeptUnder stores parts m tuple) (stands : CanStand m) where
@@ -191,31 +192,32 @@ module _ (h : Shape) (s : Shelf) (m : MachineState) (stores : List Contents) (pa
         let width : states.width ≡ s.states.width = ap (λ (t : TupleList). t.width) e in
         (more_shelf s (with_states states) m.store (grown states) h fits.shape is tuple size (state_there states width) e, fits_grown states width)
 
-    pub adds_after : (states : TupleList) → length tuple ≡ s.states.width → (states ≡ s.states) ⊎ (states ≡ with_tuple s.states tuple) → AddsOne (machines s s.states.count) (machines (with_states states) states.count)
+    pub adds_after : (states : TupleList) → length tuple ≡ s.states.width → (states ≡ s.states) ⊎ (states ≡ with_tuple s.states tuple) → AddsOne (machines s s.states.count) m (machines (with_states states) states.count)
     adds_after states size (inl e) = inl (same_kept s (with_states states) m.store (grown states) h fits.shape is e)
     adds_after states size (inr e) =
         let width : states.width ≡ s.states.width = ap (λ (t : TupleList). t.width) e in
-        inr (machine_at (with_states states) s.states.count, more_kept s (with_states states) m.store (grown states) h fits.shape is tuple size (state_there states width) e)
+        let last : tuple_at states s.states.count ≡ tuple = ap (λ (t : TupleList). tuple_at t s.states.count) e ∙ tuple_new s.states tuple is.whole size in
+        let shows = shown_there h (with_states states) m tuple under.bytes (fits_grown states width) (shapes_there states) under.stored under.saved under.alike under.jobs.0 under.jobs.1 in
+        inr (
+          machine_at (with_states states) s.states.count,
+          more_kept s (with_states states) m.store (grown states) h fits.shape is tuple size (state_there states width) e,
+          λ w here. subst (λ (t : List ℕ). Shows (machine_of (with_states states) t) w) (sym last) (shows w here),
+        )
 
-pub adds_extends : (old new : List MachineState) → AddsOne old new → Extends old new
-adds_extends old new (inl e) = ([], e ∙ sym (append-nil old))
-adds_extends old new (inr (m, e)) = (m ∷ [], e)
-
-kept_first : (one m : MachineState) (i : ℕ) (x : MachineState) → slice_get (one ∷ []) i ≡ Some x → ((w : World) → Shows m w → Shows x w) → (w : World) → Shows m w → Shows one w
-kept_first one m zero x at shows w here = let same : x ≡ one = cc in subst (λ (n : MachineState). Shows n w) same (shows w here)
-kept_first one m (suc i) x at shows w here = cc
+pub adds_extends : (old new : List MachineState) (m : MachineState) → AddsOne old m new → Extends old new
+adds_extends old new m (inl e) = ([], e ∙ sym (append-nil old))
+adds_extends old new m (inr (one, e, shows)) = (one ∷ [], e)
 
 nothing_there : (i : ℕ) (x : MachineState) → slice_get [] i ≡ Some x → ⊥
 nothing_there i x at = cc
 
 -- the first that is kept
-pub first_kept : (old kept : List MachineState) (m : MachineState) → old ≡ [] → AddsOne old kept → IsKeptAs kept m → ShowsFirst kept m
+pub first_kept : (old kept : List MachineState) (m : MachineState) → old ≡ [] → AddsOne old m kept → IsKeptAs kept m → (length kept ≡ 1) × ShowsFirst kept m
 first_kept old kept m none (inl e) is =
     absurd (nothing_there is.0 is.1 (subst (λ (ms : List MachineState). slice_get ms is.0 ≡ Some is.1) (e ∙ none) is.2))
-first_kept old kept m none (inr (one, e)) is =
+first_kept old kept m none (inr (one, e, shows)) is =
     let only : kept ≡ one ∷ [] = e ∙ ap (λ (ms : List MachineState). ms ++ one ∷ []) none in
-    let there : slice_get (one ∷ []) is.0 ≡ Some is.1 = subst (λ (ms : List MachineState). slice_get ms is.0 ≡ Some is.1) only is.2 in
-    (one, ap (λ (ms : List MachineState). slice_get ms 0) only, kept_first one m is.0 is.1 there is.3)
+    (ap (λ (ms : List MachineState). length ms) only, (one, ap (λ (ms : List MachineState). slice_get ms 0) only, shows))
 
 -- ---- each kept machine
 pub kept_inside : (s : Shelf) (i : ℕ) → i < length (machines s s.states.count) → i < s.states.count
@@ -226,6 +228,10 @@ kept_is s i m at =
     let less = kept_inside s i (slice_get_within (machines s s.states.count) i m at) in
     let two : Some m ≡ Some (machine_at s i) = sym at ∙ machines_at s s.states.count i less in
     (less, cc)
+
+-- its jobs are those of its numbers
+pub kept_jobs : (s : Shelf) (i : ℕ) (m : MachineState) → slice_get (machines s s.states.count) i ≡ Some m → m.jobs ≡ chosen s.parts (drop 1 (tuple_at s.states i))
+kept_jobs s i m at = ap (λ (n : MachineState). n.jobs) (kept_is s i m at).1
 
 -- no job is on a CPU beyond the store's
 pub idle_beyond : (h : Shape) (s : Shelf) → IsShelf h s → (i c : ℕ) → h.cpus ≤ c → IsIdleAt (machines s s.states.count) i c
@@ -241,9 +247,11 @@ idle_beyond h s is i c beyond m at =
     (λ j task state left here. nobody j task (InHand state left) here, λ j task context here. nobody j task (Waiting context) here)
 
 -- ---- a turn from a kept machine
+pub still_at : (old new : List MachineState) (place : ℕ) (m : MachineState) → slice_get old place ≡ Some m → Extends old new → slice_get new place ≡ Some m
+still_at old new place m at more = ap (λ (ms : List MachineState). slice_get ms place) more.1 ∙ (slice_get-front old more.0 place (slice_get_within old place m at) ∙ at)
+
 pub turned : (old new : List MachineState) (place cpu : ℕ) (m after : MachineState) → slice_get old place ≡ Some m → Extends old new → TurnsTo m cpu after → IsKeptAs new after → IsTurned false new place cpu
 turned old new place cpu m after at more turns kept other there =
-    let still : slice_get new place ≡ Some m = ap (λ (ms : List MachineState). slice_get ms place) more.1 ∙ (slice_get-front old more.0 place (slice_get_within old place m at) ∙ at) in
-    let two : Some m ≡ Some other = sym still ∙ there in
+    let two : Some m ≡ Some other = sym (still_at old new place m at more) ∙ there in
     let same : m ≡ other = cc in
     (after, subst (λ (n : MachineState). TurnsTo n cpu after) same turns, kept)

@@ -1,6 +1,6 @@
 -- Answers, of which one more is put in its place.
-use Rattle.std.proofs.Common.{◌≡◌, ◌∙◌, ℕ, zero, suc, ◌+◌, ◌-◌, ◌<◌, ◌≤◌, Bool, true, List, [], ◌∷◌, Option, Some, inl, inr, length, get_or, take, drop, refl, sym, ap, subst, arith}
-use Rattle.std.specs.Prelude.{slice_get, insert, IfSome}
+use Rattle.std.proofs.Common.{◌≡◌, ◌∙◌, ℕ, zero, suc, ◌+◌, ◌-◌, ◌<◌, ◌≤◌, Bool, List, [], ◌∷◌, Some, inl, inr, length, get_or, take, drop, refl, sym, ap, subst, arith}
+use Rattle.std.specs.Prelude.{slice_get, insert}
 use Rattle.std.specs.declared.cmp.Ordering.{Ordering}
 use Rattle.std.specs.declared.cmp.Ordering.TheVariants.{Less, Equal, Greater}
 use Rattle.std.specs.Ordering.{nat_cmp}
@@ -14,7 +14,7 @@ use Rattle.bpf_base.proofs.Lists.{slice_get-append, slice_get-front, slice_get-t
 use Rattle.bpf_machine.specs.Machine.{MachineState}
 use Rattle.bpf_machine.specs.Schedule.{World}
 use Rattle.bpf_explore.specs.Outcomes.{Found, EndsBy}
-use Rattle.bpf_explore.specs.Private.Answers.{AreSorted, AllEnd, IsFirst, KeepsAll, IsPlaceOf, IsAnsweredAt}
+use Rattle.bpf_explore.specs.Private.Answers.{AreSorted, AllEnd, IsFirst, KeepsAll, IsPlaceOf, IsAnsweredAt, Gathered}
 
 abbrev text_cmp : List ℕ → List ℕ → Ordering
 text_cmp = slice_cmp nat_cmp
@@ -30,7 +30,7 @@ module _ (xs : List Found) (i : ℕ) (x : Found) (within : i ≤ length xs) wher
   front_length : length (take i xs) ≡ i
   front_length = let e = length-take i xs in omega arith
 
-  data Origin (k : ℕ) (y : Found) : Type 0 where
+  pub data Origin (k : ℕ) (y : Found) : Type 0 where
     Before : k < i → slice_get xs k ≡ Some y → Origin k y
     Here : k ≡ i → x ≡ y → Origin k y
     Behind : (j : ℕ) → k ≡ suc j → i ≤ j → slice_get xs j ≡ Some y → Origin k y
@@ -53,7 +53,7 @@ module _ (xs : List Found) (i : ℕ) (x : Found) (within : i ≤ length xs) wher
   origin_behind zero y above at = absurd (omega arith)
   origin_behind (suc j) y above at = Behind j refl (omega arith) (sym (at_behind j (omega arith)) ∙ at)
 
-  origin : (k : ℕ) (y : Found) → slice_get (insert xs i x) k ≡ Some y → Origin k y
+  pub origin : (k : ℕ) (y : Found) → slice_get (insert xs i x) k ≡ Some y → Origin k y
   origin k y at = elim (cases_lt k i) [
     | inl less ↦ Before less (sym (at_before k less) ∙ at)
     | inr past ↦ elim (cases_lt i k) [
@@ -96,13 +96,6 @@ module _ (xs : List Found) (i : ℕ) (x : Found) (within : i ≤ length xs) wher
       | Behind j qe above qa ↦ sorted k j found later (omega arith) pa qa
     ]
   ]
-
--- ---- what is said of an answer that is there
-pub some_by : (P : Found → Type 0) (o : Option Found) (x : Found) → o ≡ Some x → IfSome o P → P x
-some_by P o x e h = subst (λ (s : Option Found). IfSome s P) e h
-
-pub ends_still : (old new : List MachineState) (names : List (List ℕ)) (maps : Bool) (x : Found) → new ≡ old → ((w : World) → IsFirst new w → EndsBy w names maps x) → (w : World) → IsFirst old w → EndsBy w names maps x
-ends_still old new names maps x same ends w first = ends w (subst (λ (kept : List MachineState). IsFirst kept w) (sym same) first)
 
 -- ---- where more answers stand
 pub answered_still : (kept : List MachineState) (names : List (List ℕ)) (maps : Bool) (old new : List Found) (i : ℕ) → KeepsAll old new → IsAnsweredAt kept names maps old i → IsAnsweredAt kept names maps new i
@@ -163,31 +156,25 @@ place_behind answers text i past far = record {
 }
 
 -- ---- what is gathered of the kept machines below a number
-pub record Gathered (kept : List MachineState) (names : List (List ℕ)) (maps : Bool) (place : ℕ) (whole : Bool) (answers : List Found) : Type 0 where
-  pub sorted : AreSorted answers
-  pub ends : (w : World) → IsFirst kept w → AllEnd w names maps answers
-  pub answered : whole ≡ true → (i : ℕ) → i < place → IsAnsweredAt kept names maps answers i
-
-pub none_gathered : (kept : List MachineState) (names : List (List ℕ)) (maps : Bool) → Gathered kept names maps 0 true []
+pub none_gathered : (kept : List MachineState) (names : List (List ℕ)) (maps : Bool) → Gathered kept names maps 0 []
 none_gathered kept names maps = record {
   sorted = λ i j found later less at there. cc;
   ends = λ w first i found at. cc;
-  answered = λ whole i less. absurd (omega arith);
+  answered = λ i less. absurd (omega arith);
 }
 
-pub more_gathered : (kept : List MachineState) (names : List (List ℕ)) (maps : Bool) (place : ℕ) (whole answered now : Bool) (old new : List Found) → Gathered kept names maps place whole old → AreSorted new → KeepsAll old new
-    → ((w : World) → IsFirst kept w → AllEnd w names maps old → AllEnd w names maps new) → (answered ≡ true → IsAnsweredAt kept names maps new place) → (now ≡ true → (whole ≡ true) × (answered ≡ true))
-    → Gathered kept names maps (place + 1) now new
-more_gathered kept names maps place whole answered now old new far sorted keeps ends here both = record {
+pub more_gathered : (kept : List MachineState) (names : List (List ℕ)) (maps : Bool) (place : ℕ) (old new : List Found) → Gathered kept names maps place old → AreSorted new → KeepsAll old new
+    → ((w : World) → IsFirst kept w → AllEnd w names maps new) → IsAnsweredAt kept names maps new place → Gathered kept names maps (place + 1) new
+more_gathered kept names maps place old new far sorted keeps ends here = record {
   sorted = sorted;
-  ends = λ w first. ends w first (far.ends w first);
-  answered = λ is i less. (let b = both is in elim (cases_lt i place) [
-    | inl below ↦ answered_still kept names maps old new i keeps (far.answered b.0 i below)
-    | inr past ↦ let e : place ≡ i = omega arith in subst (λ (k : ℕ). IsAnsweredAt kept names maps new k) e (here b.1)
-  ]);
+  ends = ends;
+  answered = λ i less. elim (cases_lt i place) [
+    | inl below ↦ answered_still kept names maps old new i keeps (far.answered i below)
+    | inr past ↦ let e : place ≡ i = omega arith in subst (λ (k : ℕ). IsAnsweredAt kept names maps new k) e here
+  ];
 }
 
-pub all_gathered : (kept : List MachineState) (names : List (List ℕ)) (maps : Bool) (place : ℕ) (whole : Bool) (answers : List Found) → length kept ≤ place → Gathered kept names maps place whole answers → whole ≡ true → (i : ℕ) → IsAnsweredAt kept names maps answers i
-all_gathered kept names maps place whole answers past far is i m at ended =
+pub all_gathered : (kept : List MachineState) (names : List (List ℕ)) (maps : Bool) (place : ℕ) (answers : List Found) → length kept ≤ place → Gathered kept names maps place answers → (i : ℕ) → IsAnsweredAt kept names maps answers i
+all_gathered kept names maps place answers past far i m at ended =
     let inside = slice_get_within kept i m at in
-    far.answered is i (omega arith) m at ended
+    far.answered i (omega arith) m at ended

@@ -1,5 +1,5 @@
 -- From a shape and its jobs to the answers.
-use Rattle.std.proofs.Common.{◌≡◌, ◌∙◌, ℕ, zero, suc, ◌≤◌, Bool, true, false, List, [], ◌∷◌, Option, Some, None, length, map, vec_len, refl, sym, ap, arith}
+use Rattle.std.proofs.Common.{◌≡◌, ◌∙◌, ℕ, zero, suc, ◌<◌, ◌≤◌, Bool, true, false, List, [], ◌∷◌, Option, Some, None, length, map, vec_len, refl, sym, ap, arith}
 use Rattle.std.specs.Prelude.{All, nat_lt, slice_get}
 use Rattle.std.proofs.lemmas.List.{get_or_past}
 use Rattle.std.proofs.lemmas.Option.{slice_get_within}
@@ -19,7 +19,8 @@ use Rattle.bpf_explore.specs.Laws.{CoverTellsAll}
 use Rattle.bpf_explore.specs.Outcomes.{Found, AreOutcomes, IsExplored}
 use Rattle.bpf_explore.specs.Search.{CoversAll, Extends}
 use Rattle.bpf_explore.specs.Stores.{IsOfShape}
-use Rattle.bpf_explore.specs.Private.Album.{ShowsFirst}
+use Rattle.bpf_explore.specs.Album.{ShowsFirst, AreApart, AreLed}
+use Rattle.bpf_explore.proofs.TrailLaws.{are_reached}
 use Rattle.bpf_explore.specs.Private.Answers.{IsFirst, IsAnsweredAt}
 
 -- ---- the first machine
@@ -54,12 +55,13 @@ pub still_first : (old new : List MachineState) (m : MachineState) (w : World) �
 still_first old new m w (one, at, shows) more here =
     (one, ap (λ (ms : List MachineState). slice_get ms 0) more.1 ∙ (slice_get-front old more.0 0 (slice_get_within old 0 one at) ∙ at), shows w here)
 
-pub explored : CoverTellsAll → (kept : List MachineState) (w : World) (names : List (List ℕ)) (maps : Bool) (answers : List Found) (whole told all : Bool) → IsFresh w → IsFirst kept w
-    → (whole ≡ true → CoversAll false kept) → ((u : World) → IsFirst kept u → AreOutcomes u names maps answers) → (told ≡ true → (i : ℕ) → IsAnsweredAt kept names maps answers i)
-    → (all ≡ true → (whole ≡ true) × (told ≡ true)) → IsExplored w names maps answers all
-explored law kept w names maps answers whole told all fresh first covers outcomes answered both = record {
+pub explored : CoverTellsAll → (kept : List MachineState) (w : World) (names : List (List ℕ)) (maps : Bool) (answers : List Found) (all : Bool) (limit : ℕ) → IsFresh w → IsFirst kept w
+    → (all ≡ true → CoversAll false kept) → ((u : World) → IsFirst kept u → AreOutcomes u names maps answers) → ((i : ℕ) → IsAnsweredAt kept names maps answers i)
+    → (all ≡ false → limit < length kept) → AreLed kept → AreApart kept → IsExplored w names maps answers all limit (length kept)
+explored law kept w names maps answers all limit fresh first covers outcomes answered met led apart = record {
   outcomes = outcomes w first;
-  complete = λ is. (let b = both is in
-      let shown : IsShown kept w = (0, first.0, first.1, first.2) in
-      law kept w names maps answers (covers b.0) fresh shown (λ i m at ended. answered b.1 i m at ended));
+  complete = λ is. (let shown : IsShown kept w = (0, first.0, first.1, first.2) in
+      law kept w names maps answers (covers is) fresh shown (λ i m at ended. answered i m at ended));
+  counted = are_reached kept w first led apart;
+  met = met;
 }

@@ -1,9 +1,17 @@
+pub mod SlotLaws
+pub mod KeptLaws
 pub mod SearchLaws
 pub mod OutcomeLaws
 pub mod StandAlike
 pub mod ShelfLaws
 pub mod KeepLaws
 pub mod AlbumLaws
+pub mod OneStore
+pub mod ApartLaws
+pub mod StopLaws
+pub mod TrailLaws
 pub mod AnswerLaws
 pub mod TellLaws
+pub mod RichLaws
+pub mod PatienceLaws
 pub mod ExploreLaws

@@ -1,20 +1,19 @@
 -- What is kept of machines stays, where more is kept.
-use Rattle.std.proofs.Common.{◌≡◌, ◌∙◌, ℕ, zero, suc, ◌+◌, ◌*◌, ◌<◌, ◌≤◌, List, [], ◌∷◌, ◌++◌, Some, None, inl, inr, length, take, drop, refl, sym, ap, subst, add-one, length-append, arith}
+use Rattle.std.proofs.Common.{◌≡◌, ◌∙◌, ℕ, zero, suc, ◌+◌, ◌<◌, ◌≤◌, List, [], ◌∷◌, ◌++◌, Some, None, inl, inr, length, drop, refl, sym, ap, subst, add-one, length-append, arith}
 use Rattle.std.specs.Prelude.{All, slice_get, slice_index_or}
 use Rattle.std.proofs.Math.ListN.{get_or-append}
-use Rattle.std.proofs.Math.Seq.{drop-append_seam, get_or-append_seam}
+use Rattle.std.proofs.Math.Seq.{get_or-append_seam}
 use Rattle.std.proofs.lemmas.Bool.{cases_lt}
-use Rattle.std.proofs.lemmas.List.{length-drop, take_all, take-append-le, drop-append-le}
 use Rattle.bpf_base.proofs.Lists.{slice_get-append, slice_get-front}
 use Rattle.bpf_shared.specs.Shape.{Shape}
 use Rattle.bpf_plain.specs.PlainStore.{Contents}
-use Rattle.bpf_plain.proofs.Blocks.{block_fits, suc-mul}
 use Rattle.bpf_loader.specs.Loaded.{Loaded}
 use Rattle.bpf_cpu.specs.Task.{Task}
 use Rattle.bpf_machine.specs.Machine.{MachineState}
 use Rattle.bpf_machine.specs.Parts.{CanStand, chosen, no_task}
 use Rattle.bpf_explore.specs.Stores.{IsOfShape, no_store}
 use Rattle.bpf_explore.specs.Tuples.{TupleList, tuple_at, AreWhole, with_tuple}
+use Rattle.bpf_explore.proofs.KeptLaws.{tuple_still, tuple_new, whole_new}
 use Rattle.bpf_explore.specs.Private.Album.{Shelf, machine_of, machine_at, machines, IsState, IsShelf, Grows}
 
 -- ---- jobs by their numbers
@@ -28,25 +27,6 @@ chosen_still parts more (n ∷ ns) all =
 
 pub within_still : (parts more : List Task) (numbers : List ℕ) → All (λ n. n < length parts) numbers → All (λ n. n < length (parts ++ more)) numbers
 within_still parts more numbers all k d less = let here = all k d less in let both = length-append parts more in omega arith
-
--- ---- tuples
-tuple_still : (t : TupleList) (tuple : List ℕ) (i : ℕ) → AreWhole t → i < t.count → tuple_at (with_tuple t tuple) i ≡ tuple_at t i
-tuple_still t tuple i whole less =
-    let fits : i * t.width + t.width ≤ t.count * t.width = block_fits i t.count t.width less in
-    let size = whole.1 in
-    let first : i * t.width ≤ length t.numbers = omega arith in
-    let left = length-drop (i * t.width) t.numbers in
-    let room : t.width ≤ length (drop (i * t.width) t.numbers) = omega arith in
-    ap (λ (ns : List ℕ). take t.width ns) (drop-append-le (i * t.width) t.numbers tuple first)
-    ∙ take-append-le t.width (drop (i * t.width) t.numbers) tuple room
-
-tuple_new : (t : TupleList) (tuple : List ℕ) → AreWhole t → length tuple ≡ t.width → tuple_at (with_tuple t tuple) t.count ≡ tuple
-tuple_new t tuple whole size =
-    ap (λ (n : ℕ). take t.width (drop n (t.numbers ++ tuple))) (sym whole.1)
-    ∙ (ap (λ (ns : List ℕ). take t.width ns) (drop-append_seam t.numbers tuple) ∙ take_all t.width tuple (omega arith))
-
-whole_new : (t : TupleList) (tuple : List ℕ) → AreWhole t → length tuple ≡ t.width → AreWhole (with_tuple t tuple)
-whole_new t tuple whole size = (whole.0, length-append t.numbers tuple ∙ (let next = suc-mul t.count t.width in let old = whole.1 in omega arith))
 
 -- ---- the kept machines
 pub machines_length : (s : Shelf) (n : ℕ) → length (machines s n) ≡ n

@@ -1,18 +1,22 @@
 -- What is told of machines that list no keys, and which of them have ended.
-use Rattle.std.proofs.Common.{◌≡◌, ◌∙◌, ℕ, zero, suc, ◌+◌, ◌<◌, ◌≤◌, Bool, List, [], Option, Some, None, inl, inr, length, get_or, refl, sym, ap, subst, append-nil, arith}
-use Rattle.std.specs.Prelude.{slice_get, option_and_then}
-use Rattle.std.proofs.lemmas.Option.{slice_get-get_or, slice_get_within}
+use Rattle.std.proofs.Common.{◌≡◌, ◌∙◌, ℕ, zero, suc, ◌+◌, ◌<◌, ◌≤◌, Bool, List, [], Option, Some, None, inl, inr, length, refl, sym, ap, subst, append-nil, arith}
+use Rattle.std.specs.Prelude.{slice_get, slice_index_or}
+use Rattle.std.proofs.lemmas.Option.{slice_get_within, slice_get_read, get_or_from_slice_get}
 use Rattle.std.proofs.lemmas.Bool.{cases_lt}
 use Rattle.bpf_shared.specs.Store.{Plain}
 use Rattle.bpf_shared.specs.Sound.{IsSoundStore}
 use Rattle.bpf_plain.specs.PlainStore.{StandsFor}
 use Rattle.bpf_cpu.specs.declared.outcome.Outcome.{Outcome}
-use Rattle.bpf_cpu.specs.Task.{Stage, Task, Waiting, InHand, Ended, ended, outcome_at}
+use Rattle.bpf_cpu.specs.Task.{Task, Ended}
 use Rattle.bpf_machine.specs.Listings.{Listing, listing_at, made_keys}
 use Rattle.bpf_machine.specs.Machine.{MachineState, Shows}
-use Rattle.bpf_machine.specs.Parts.{no_task}
+use Rattle.bpf_machine.specs.Parts.{chosen, chosen_at, no_task}
+use Rattle.bpf_machine.proofs.PartLaws.{chosen_is, chosen_count}
 use Rattle.bpf_machine.specs.Rounds.{HaveEnded}
-use Rattle.bpf_machine.specs.Schedule.{World, RunsSchedule, unrolled}
+use Rattle.bpf_machine.specs.Schedule.{World, unrolled}
+use Rattle.bpf_explore.specs.Album.{LeadsFrom, HaveEndedAt, AreLed}
+use Rattle.bpf_explore.specs.Private.Answers.{AllEnd}
+use Rattle.bpf_explore.proofs.StopLaws.{same_stop, runs_length}
 use Rattle.bpf_jobs.specs.Printed.{list_lines, lines_of_lists, Tells, TellsWith}
 use Rattle.bpf_explore.specs.Laws.{IsAnswered}
 use Rattle.bpf_explore.specs.Outcomes.{Found, EndsBy}
@@ -53,51 +57,74 @@ answered_by kept m names maps answers place i found text stopped at none told th
     subst (IsAnswered names maps answers) one (i, found, there, tells)
 
 -- or that has work
-pub has_work : (kept : List MachineState) (m shown : MachineState) (names : List (List ℕ)) (maps : Bool) (answers : List Found) (place : ℕ) → slice_get kept place ≡ Some m → shown ≡ m → (HaveEnded shown.jobs → ⊥) → IsAnsweredAt kept names maps answers place
-has_work kept m shown names maps answers place at same works other here ended =
+pub has_work : (kept : List MachineState) (names : List (List ℕ)) (maps : Bool) (answers : List Found) (place : ℕ) → (HaveEndedAt kept place → ⊥) → IsAnsweredAt kept names maps answers place
+has_work kept names maps answers place works m at ended = absurd (works (λ other here. (
     let two : Some m ≡ Some other = sym at ∙ here in
-    let one : other ≡ shown = cc in
-    absurd (works (subst (λ (n : MachineState). HaveEnded n.jobs) one ended))
+    let one : m ≡ other = cc in
+    subst (λ (n : MachineState). HaveEnded n.jobs) one ended)))
+
+-- ---- what is told of a kept machine without work
+module _ (kept : List MachineState) (m : MachineState) (names : List (List ℕ)) (maps : Bool) (place : ℕ) (text : List ℕ) (stopped : Bool) (at : slice_get kept place ≡ Some m) (none : m.lists ≡ None) (ended : HaveEndedAt kept place)
+    (told : (w : World) → Shows m w → TellsWith (lines_of_lists w names) w.store w.jobs names maps text stopped) where
+  shown_is : (z : World) (other : MachineState) → slice_get kept place ≡ Some other → Shows other z → Shows m z
+  shown_is z other there shows =
+      let two : Some other ≡ Some m = sym there ∙ at in
+      let one : other ≡ m = cc in
+      subst (λ (n : MachineState). Shows n z) one shows
+
+  ended_in : (z : World) → Shows m z → HaveEnded z.jobs
+  ended_in z shows = subst HaveEnded (sym shows.jobs) (ended m at)
+
+  tells_in : (z : World) → Shows m z → Tells z.store z.jobs names maps text stopped
+  tells_in z shows = tells_none m z names maps text stopped none shows (told z shows)
+
+  -- a schedule that leads there ends by it
+  pub ends_by : (by : List (ℕ × ℕ)) → LeadsFrom kept 0 (unrolled by) place → (w : World) → IsFirst kept w → EndsBy w names maps (record { text = text; stopped = stopped; by = by })
+  ends_by by leads w first =
+      let r = leads w first in
+      let shows = shown_is r.0 r.2.0 r.2.1 r.2.2 in
+      (r.0, r.1, ended_in r.0 shows, tells_in r.0 shows)
+
+  -- an answer of the same text tells the same of stops
+  pub stopped_same : (answers : List Found) (i : ℕ) (found : Found) → AreLed kept → place < length kept → ((w : World) × IsFirst kept w) → ((w : World) → IsFirst kept w → AllEnd w names maps answers) → slice_get answers i ≡ Some found → found.text ≡ text → found.stopped ≡ stopped
+  stopped_same answers i found led inside (w, first) all there same =
+      let other = all w first i found there in
+      let way = led place inside in
+      let r = way.1 w first in
+      let shows = shown_is r.0 r.2.0 r.2.1 r.2.2 in
+      let z = other.0 in
+      let count : length z.jobs ≡ length r.0.jobs = runs_length (unrolled found.by) w z other.1 ∙ sym (runs_length way.0 w r.0 r.1) in
+      let tells : Tells z.store z.jobs names maps text found.stopped = subst (λ (t : List ℕ). Tells z.store z.jobs names maps t found.stopped) same other.3 in
+      same_stop z.store r.0.store z.jobs r.0.jobs names maps text found.stopped stopped count other.2 (ended_in r.0 shows) tells (tells_in r.0 shows)
 
 -- ---- jobs that have ended
-stage_ended : (stage : Stage) (o : Outcome) → Some o ≡ ended stage → (outcome : Outcome) × (stage ≡ Ended outcome)
-stage_ended (Waiting context) o e = cc
-stage_ended (InHand state left) o e = cc
-stage_ended (Ended outcome) o e = (outcome, refl)
-
-read_outcome : (jobs : List Task) (j : ℕ) (task : Task) → slice_get jobs j ≡ Some task → outcome_at jobs j ≡ ended task.stage
-read_outcome jobs j task at = ap (λ (o : Option Task). option_and_then (λ t. ended t.stage) o) at
-
-pub job_ended : (jobs : List Task) (j : ℕ) (o : Outcome) → Some o ≡ outcome_at jobs j → (task : Task) → slice_get jobs j ≡ Some task → (outcome : Outcome) × (task.stage ≡ Ended outcome)
-job_ended jobs j o e task at = stage_ended task.stage o (e ∙ read_outcome jobs j task at)
-
-pub job_open : (jobs : List Task) (j : ℕ) → j < length jobs → None ≡ outcome_at jobs j → HaveEnded jobs → ⊥
-job_open jobs j inside e all =
-    let task = get_or jobs j no_task in
-    let at = slice_get-get_or jobs j no_task inside in
-    let over = all j task at in
-    let none : None ≡ Some over.0 = e ∙ (read_outcome jobs j task at ∙ ap ended over.1) in
-    cc
-
--- ---- the end of a schedule from the first machine
-pub ends_by : (kept : List MachineState) (first last : MachineState) (names : List (List ℕ)) (maps : Bool) (found : Found) → slice_get kept 0 ≡ Some first → last.lists ≡ None → HaveEnded last.jobs
-    → ((w : World) → Shows first w → (z : World) × RunsSchedule w (unrolled found.by) z × Shows last z)
-    → ((w : World) → Shows last w → TellsWith (lines_of_lists w names) w.store w.jobs names maps found.text found.stopped)
-    → (w : World) → IsFirst kept w → EndsBy w names maps found
-ends_by kept first last names maps found at none over runs told w (m, there, shows) =
-    let two : Some m ≡ Some first = sym there ∙ at in
-    let one : m ≡ first = cc in
-    let run = runs w (subst (λ (n : MachineState). Shows n w) one shows) in
-    (run.0, run.1, subst HaveEnded (sym run.2.jobs) over, tells_none last run.0 names maps found.text found.stopped none run.2 (told run.0 run.2))
+this_part : (parts : List Task) (numbers : List ℕ) (n : ℕ) (part : Task) → n < length numbers → slice_index_or numbers n 0 < length parts → part ≡ slice_index_or parts (slice_index_or numbers n 0) part → (task : Task) → slice_get (chosen parts numbers) n ≡ Some task → part ≡ task
+this_part parts numbers n part inside within read task at =
+    let two : Some (chosen_at parts numbers n) ≡ Some task = sym (chosen_is parts numbers n inside) ∙ at in
+    let one : chosen_at parts numbers n ≡ task = cc in
+    let here : slice_index_or parts (slice_index_or numbers n 0) no_task ≡ part = get_or_from_slice_get parts (slice_index_or numbers n 0) part no_task (slice_get_read parts (length parts) (slice_index_or numbers n 0) part refl within read) in
+    sym here ∙ one
 
 abbrev pub HaveEndedBelow : List Task → ℕ → Type 0
 HaveEndedBelow jobs n = (j : ℕ) (task : Task) → j < n → slice_get jobs j ≡ Some task → (outcome : Outcome) × (task.stage ≡ Ended outcome)
 
-pub next_ended : (jobs : List Task) (n : ℕ) (o : Outcome) → HaveEndedBelow jobs n → Some o ≡ outcome_at jobs n → HaveEndedBelow jobs (n + 1)
-next_ended jobs n o far e j task less at = elim (cases_lt j n) [
+pub next_ended : (parts : List Task) (numbers : List ℕ) (n : ℕ) (part : Task) → n < length numbers → slice_index_or numbers n 0 < length parts → part ≡ slice_index_or parts (slice_index_or numbers n 0) part → HaveEndedBelow (chosen parts numbers) n → ((outcome : Outcome) × (part.stage ≡ Ended outcome)) → HaveEndedBelow (chosen parts numbers) (n + 1)
+next_ended parts numbers n part inside within read far end j task less at = elim (cases_lt j n) [
   | inl below ↦ far j task below at
-  | inr past ↦ let same : n ≡ j = omega arith in job_ended jobs j o (e ∙ ap (outcome_at jobs) same) task at
+  | inr past ↦
+      let same : j ≡ n = omega arith in
+      let here : part ≡ task = this_part parts numbers n part inside within read task (ap (slice_get (chosen parts numbers)) (sym same) ∙ at) in
+      subst (λ (t : Task). (outcome : Outcome) × (t.stage ≡ Ended outcome)) here end
 ]
 
-pub all_ended : (jobs : List Task) (n : ℕ) → length jobs ≤ n → HaveEndedBelow jobs n → HaveEnded jobs
-all_ended jobs n past far j task at = let inside = slice_get_within jobs j task at in far j task (omega arith) at
+pub goes_on : (parts : List Task) (numbers : List ℕ) (n : ℕ) (part : Task) → n < length numbers → slice_index_or numbers n 0 < length parts → part ≡ slice_index_or parts (slice_index_or numbers n 0) part → ((outcome : Outcome) → part.stage ≡ Ended outcome → ⊥) → HaveEnded (chosen parts numbers) → ⊥
+goes_on parts numbers n part inside within read going all =
+    let at = chosen_is parts numbers n inside in
+    let end = all n (chosen_at parts numbers n) at in
+    going end.0 (ap (λ (t : Task). t.stage) (this_part parts numbers n part inside within read (chosen_at parts numbers n) at) ∙ end.1)
+
+pub all_ended : (parts : List Task) (numbers : List ℕ) (n : ℕ) → length numbers ≤ n → HaveEndedBelow (chosen parts numbers) n → HaveEnded (chosen parts numbers)
+all_ended parts numbers n past far j task at =
+    let inside = slice_get_within (chosen parts numbers) j task at in
+    let count = chosen_count parts numbers in
+    far j task (omega arith) at

@@ -1,5 +1,5 @@
 -- What jobs may come to, whatever the order of the CPUs' turns.
-use Rattle.std.specs.Prelude.{◌≡◌, ℕ, ◌<◌, Bool, true, List, Some, slice_get}
+use Rattle.std.specs.Prelude.{◌≡◌, ℕ, ◌<◌, Bool, true, false, List, Some, length, slice_get}
 use Rattle.std.specs.declared.cmp.Ordering.TheVariants.{Less}
 use Rattle.std.specs.Ordering.{nat_cmp}
 use Rattle.std.specs.Cmp.Lexicographic.{slice_cmp}
@@ -48,8 +48,20 @@ abbrev pub HaveAll : World → List (List ℕ) → Bool → List Found → Type 
 HaveAll w names maps answers = (text : List ℕ) (stopped : Bool) → IsOutcome w names maps text stopped
     → IsTold answers text stopped
 
--- the answers, and whether they are all
+-- schedules lead to so many machines, of which no two are the same
+pub record AreReached (w : World) (states : ℕ) : Type 0 where
+  pub worlds : List World
+  pub count : length worlds ≡ states
+  pub reached : (i : ℕ) (z : World) → slice_get worlds i ≡ Some z
+      → (schedule : List ℕ) × RunsSchedule w schedule z
+  pub apart : (i j : ℕ) (z : World) → slice_get worlds i ≡ Some z → slice_get worlds j ≡ Some z
+      → i ≡ j
+
+-- the answers, whether they are all, and how many states were kept: not all are told only where
+-- these are more than the limit
 pub record IsExplored (w : World) (names : List (List ℕ)) (maps : Bool) (answers : List Found)
-    (all : Bool) : Type 0 where
+    (all : Bool) (limit states : ℕ) : Type 0 where
   pub outcomes : AreOutcomes w names maps answers
   pub complete : all ≡ true → HaveAll w names maps answers
+  pub counted : AreReached w states
+  pub met : all ≡ false → limit < states

@@ -1,6 +1,9 @@
 -- Outcomes in which no job is out of budget.
-use Rattle.std.specs.Prelude.{◌≡◌, ℕ, Bool, true, List, Some, slice_get}
-use Rattle.bpf_machine.specs.Schedule.{World, RunsSchedule}
+use Rattle.std.specs.Prelude.{◌≡◌, ℕ, ◌<◌, Bool, true, List, Some, slice_get}
+use Rattle.std.specs.declared.cmp.Ordering.TheVariants.{Less}
+use Rattle.std.specs.Ordering.{nat_cmp}
+use Rattle.std.specs.Cmp.Lexicographic.{slice_cmp}
+use Rattle.bpf_machine.specs.Schedule.{World, RunsSchedule, unrolled}
 use Rattle.bpf_machine.specs.Rounds.{HaveEnded}
 use Rattle.bpf_machine.specs.Laws.{IsFresh}
 use Rattle.bpf_machine.specs.Machine.{MachineState}
@@ -22,6 +25,26 @@ IsPatientOutcome w names maps text stopped =
 abbrev pub HaveAllPatient : World → List (List ℕ) → Bool → List Found → Type 0
 HaveAllPatient w names maps answers = (text : List ℕ) (stopped : Bool)
     → IsPatientOutcome w names maps text stopped → IsTold answers text stopped
+
+-- the answer is one of them, by its own schedule
+abbrev pub EndsPatiently : World → List (List ℕ) → Bool → Found → Type 0
+EndsPatiently w names maps found =
+    (z : World) × RunsSchedule w (unrolled found.by) z × HaveEnded z.jobs × NoneRanOut z.jobs
+    × Tells z.store z.jobs names maps found.text found.stopped
+
+-- each answer is one, and they stand in the order of their texts' bytes, none twice
+pub record ArePatient (w : World) (names : List (List ℕ)) (maps : Bool) (answers : List Found)
+    : Type 0 where
+  pub each : (i : ℕ) (found : Found) → slice_get answers i ≡ Some found
+      → EndsPatiently w names maps found
+  pub sorted : (i j : ℕ) (found later : Found) → i < j → slice_get answers i ≡ Some found
+      → slice_get answers j ≡ Some later → slice_cmp nat_cmp found.text later.text ≡ Less
+
+-- the answers of a patient search, and whether they are all
+pub record IsExploredPatiently (w : World) (names : List (List ℕ)) (maps : Bool)
+    (answers : List Found) (all : Bool) : Type 0 where
+  pub outcomes : ArePatient w names maps answers
+  pub complete : all ≡ true → HaveAllPatient w names maps answers
 
 -- where kept machines cover all schedules in which no job runs out of budget, and what is told of each
 -- of them that has no work is an answer, no outcome in which no job is out of budget is left out

@@ -1,3 +1,7 @@
 -- What private functions promise each other: no public clause speaks of it.
+pub mod Slots
+pub mod Kept
 pub mod Album
+pub mod Trail
 pub mod Answers
+pub mod Patience

@@ -1,22 +1,23 @@
 //! Machines that a search keeps: each store and each job once, and of each machine their numbers.
 
-ghost use Rattle.std.specs.Prelude.{◌≡◌, ◌<◌, ◌≤◌, ◌++◌, ◌∷◌, ◌⊎◌, List, [], ℕ, IfOk, OnOk, drop, length, slice_index_or};
+ghost use Rattle.std.specs.Prelude.{◌≡◌, ◌<◌, ◌≤◌, ◌++◌, ◌∷◌, ◌⊎◌, List, [], ℕ, true, false, All, IfOk, OnOk, drop, length, slice_index_or};
 ghost use Rattle.bpf_cpu.specs.Task.{Task};
 ghost use Rattle.bpf_plain.specs.PlainStore.{IsSavedAs};
+ghost use Rattle.bpf_machine.specs.Parts.{chosen};
+ghost use Rattle.bpf_machine.specs.Rounds.{HaveEnded};
 ghost use Rattle.bpf_explore.specs.Stores.{IsOfShape, no_store};
 ghost use Rattle.bpf_explore.specs.Private.Album.{AreKeptUnder, AreNumbersOf, IsNumberOf};
 
-use crate::frontier::Frontier;
 use crate::parts::Parts;
 use crate::stores::Stores;
 use crate::tuples::Tuples;
-use bpf_machine::Machine;
+use bpf_machine::{KeptJob, Machine};
 use bpf_shared::StoreShape;
 use std::alloc::{AllocError, Global};
 use std::marker::Model;
 
 /// The number in 32 bits. One that is greater counts as want of memory.
-fn number_of(count: usize) -> Result<u32, AllocError>
+pub(crate) fn number_of(count: usize) -> Result<u32, AllocError>
     ensures { IfOk result (λ n. n ≡ count) }
 {
     u32::try_from(count).map_err(|_| AllocError)
@@ -56,6 +57,23 @@ fn keep_jobs(
     Ok(())
 }
 
+/// Takes all bytes out. Called, and first of all, so that who calls it sets up its frame before that:
+/// LLVM would put it behind a few instructions, and lose a register there.
+#[inline(never)]
+fn clear_bytes(bytes: &mut Vec<u8>)
+    ensures { bytes.new.items ≡ [] }
+{
+    bytes.clear();
+}
+
+/// The same of numbers.
+#[inline(never)]
+fn clear_numbers(numbers: &mut Vec<u32>)
+    ensures { numbers.new.items ≡ [] }
+{
+    numbers.clear();
+}
+
 /// The number under which a machine's store is kept. What it is saved as is written over the bytes.
 fn keep_store(
     alloc: Global,
@@ -71,7 +89,7 @@ fn keep_store(
     ensures alike { IfOk result (λ n. (saved : List ℕ) × IsSavedAs machine.now.store saved
         × IsSavedAs (slice_index_or stores.new n no_store) saved) }
 {
-    bytes.clear();
+    clear_bytes(bytes);
     let store = machine.store();
     store.save(bytes)?;
     let number = stores.keep(alloc, shape, store, bytes)?;
@@ -95,7 +113,7 @@ fn keep_machine(
     ensures numbers { OnOk result
         (AreKeptUnder stores.new parts.new machine.now numbers.new.items) }
 {
-    numbers.clear();
+    clear_numbers(numbers);
     let store = keep_store(alloc, stores, shape, machine, bytes)?;
     numbers.push(store)?;
     keep_jobs(alloc, parts, machine, numbers)?;
@@ -110,6 +128,20 @@ fn behind_first(numbers: &[u32]) -> &[u32]
     &numbers[1..]
 }
 
+/// Whether each of the jobs that have these numbers has ended.
+fn have_ended(parts: &[KeptJob], numbers: &[u32]) -> bool
+    requires { All (λ n. n < length parts.now) numbers.now }
+    ensures ended { result ≡ true → HaveEnded (chosen parts.now numbers.now) }
+    ensures works { result ≡ false → HaveEnded (chosen parts.now numbers.now) → ⊥ }
+{
+    for job in 0..numbers.len() {
+        if !parts[numbers[job] as usize].has_ended() {
+            return false;
+        }
+    }
+    true
+}
+
 /// Machines of one host, each under its number, in the order in which they came, and one to work
 /// with.
 #[derive(Drop)]
@@ -120,8 +152,6 @@ pub struct Album {
     stores: Stores,
     parts: Parts,
     states: Tuples,
-    /// Of each state, that of which a CPU's turn led there first, and the CPU.
-    origins: Vec<(u32, u8)>,
     /// Room to save a store.
     bytes: Vec<u8>,
     /// Room for the numbers of a state.
@@ -153,12 +183,14 @@ impl Model for Album {
 }
 
 impl Album {
-    ghost use Rattle.std.specs.Prelude.{◌≡◌, ◌<◌, ℕ, [], IfOk, OnOk, Some, None, length, slice_get};
+    ghost use Rattle.std.specs.Prelude.{◌≡◌, ◌<◌, ◌≤◌, ◌∷◌, ℕ, [], true, false, IfOk, OnOk, Some, None, length, replicate, slice_get};
     ghost use Rattle.bpf_machine.specs.Machine.{Shows};
     ghost use Rattle.bpf_machine.specs.Schedule.{World, RunsSchedule, unrolled};
     ghost use Rattle.bpf_machine.specs.Cover.{TurnsTo, IsKeptAs};
+    ghost use Rattle.bpf_machine.specs.Patient.{IsRefilled};
+    ghost use Rattle.bpf_explore.specs.Search.{IsIdleAt};
     ghost use Rattle.bpf_explore.specs.Stores.{IsOfShape};
-    ghost use Rattle.bpf_explore.specs.Album.{ShowsFirst};
+    ghost use Rattle.bpf_explore.specs.Album.{ShowsFirst, AreApart, HaveEndedAt};
     ghost use Rattle.bpf_explore.specs.Private.Album.{AddsOne};
 
     /// Nothing is kept yet.
@@ -176,7 +208,6 @@ impl Album {
             stores: Stores::new(alloc),
             parts: Parts::new(alloc),
             states: Tuples::new(alloc, width),
-            origins: Vec::new(alloc),
             bytes: Vec::new(alloc),
             numbers: Vec::new(alloc),
         })
@@ -214,25 +245,35 @@ impl Album {
     /// One turn of a CPU, and then its turns that no store sees. How many of these.
     pub fn turn_ahead(&mut self, cpu: u8) -> u64
         ensures turns { TurnsTo self.old.machine cpu self.new.machine }
+        ensures runs { (w : World) → Shows self.old.machine w → (z : World)
+            × RunsSchedule w (cpu ∷ replicate result cpu) z × Shows self.new.machine z }
         ensures same { self.new.kept ≡ self.old.kept }
     {
         self.machine.turn_ahead(cpu)
     }
 
+    /// Gives the job that a CPU has in hand, if it has one, its whole budget back.
+    pub fn refill(&mut self, cpu: u8)
+        ensures refills { IsRefilled self.old.machine cpu self.new.machine }
+        ensures same { self.new.kept ≡ self.old.kept }
+    {
+        self.machine.refill(cpu);
+    }
+
     /// The turns of a schedule that is told by CPUs, each with how many turns it takes before the
     /// next.
     pub fn turns_by(&mut self, runs: &[(u8, u64)])
-        ensures runs { (w : World) → Shows self.old.machine w
-            → (z : World) × RunsSchedule w (unrolled runs.now) z × Shows self.new.machine z }
+        ensures runs { (w : World) → Shows self.old.machine w → (z : World)
+            × RunsSchedule w (unrolled runs.now) z × Shows self.new.machine z }
         ensures same { self.new.kept ≡ self.old.kept }
     {
         self.machine.turns_by(runs)
     }
 
     /// Keeps the machine, unless one that shows all that it shows is found.
-    fn keep_state(&mut self) -> Result<(), AllocError>
+    pub(crate) fn keep(&mut self) -> Result<(), AllocError>
         ensures kept { OnOk result (IsKeptAs self.new.kept self.new.machine) }
-        ensures adds { AddsOne self.old.kept self.new.kept }
+        ensures adds { AddsOne self.old.kept self.old.machine self.new.kept }
         ensures same { self.new.machine ≡ self.old.machine }
     {
         self.machine.stands();
@@ -249,75 +290,40 @@ impl Album {
         Ok(())
     }
 
-    /// Notes of a new state that a CPU's turn led there from another.
-    fn note_origin(&mut self, from: u32, cpu: u8) -> Result<(), AllocError>
-        ensures { self.new ≡ self.old }
+    /// How many CPUs there are: those of the numbers below it.
+    pub fn cpus(&self) -> u8
+        ensures { (i c : ℕ) → result ≤ c → IsIdleAt self.now.kept i c }
     {
-        if self.origins.len() < self.states.count() {
-            self.origins.push((from, cpu))?;
-        }
-        Ok(())
+        self.shape.cpus()
     }
 
-    /// Keeps the machine, where a CPU's turn led from a state.
-    fn keep(&mut self, from: u32, cpu: u8) -> Result<(), AllocError>
-        ensures kept { OnOk result (IsKeptAs self.new.kept self.new.machine) }
-        ensures adds { AddsOne self.old.kept self.new.kept }
-        ensures same { self.new.machine ≡ self.old.machine }
+    /// Whether each job of a kept machine has ended.
+    pub fn has_ended(&self, place: usize) -> bool
+        requires { place < length self.now.kept }
+        ensures ended { result ≡ true → HaveEndedAt self.now.kept place }
+        ensures works { result ≡ false → HaveEndedAt self.now.kept place → ⊥ }
     {
-        self.keep_state()?;
-        self.note_origin(from, cpu)?;
-        Ok(())
+        have_ended(self.parts.jobs(), behind_first(self.states.tuple(place)))
     }
 
-    /// The CPUs whose turns led to a kept machine from the first. Nothing is promised of them.
-    pub fn way(&self, place: usize) -> Result<Vec<u8>, AllocError> {
-        let mut way = Vec::new(self.alloc);
-        let mut state = place;
-        while let Some((from, cpu)) = self.origins.get(state) {
-            let from = *from as usize;
-            if from >= state {
-                break;
-            }
-            way.push(*cpu)?;
-            state = from;
-        }
-        way.reverse();
-        Ok(way)
+    /// No world is shown by two of the kept machines.
+    pub fn apart(&self)
+        ensures { AreApart self.now.kept }
+    {
+        self.stores.apart();
+        self.parts.apart();
+        self.states.apart();
     }
 
     /// Machines of which the first is kept.
     pub fn new(alloc: Global, shape: StoreShape, machine: Machine) -> Result<Album, AllocError>
         requires shape { IsOfShape shape machine.store }
         requires lists { machine.lists ≡ None }
-        ensures { IfOk result (λ a. ShowsFirst a.kept machine) }
+        ensures one { IfOk result (λ a. length a.kept ≡ 1) }
+        ensures first { IfOk result (λ a. ShowsFirst a.kept machine) }
     {
         let mut album = Album::empty(alloc, shape, machine)?;
-        album.keep(0, 0)?;
+        album.keep()?;
         Ok(album)
-    }
-}
-
-impl Frontier for Album {
-    ghost use Rattle.std.specs.Prelude.{false};
-
-    ghost kept = { λ a. a.kept };
-
-    ghost is_patient = { λ a. false };
-
-    fn count(&self) -> usize {
-        self.len()
-    }
-
-    fn cpus(&self) -> u8 {
-        self.shape.cpus()
-    }
-
-    fn turn(&mut self, place: usize, cpu: u8) -> Result<(), AllocError> {
-        let from = number_of(place)?;
-        self.restore(place)?;
-        self.turn_ahead(cpu);
-        self.keep(from, cpu)?;
-        Ok(())
     }
 }

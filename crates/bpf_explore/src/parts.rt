@@ -1,10 +1,12 @@
 //! Jobs as they stand, under numbers: one that stands as a kept one stood is found again.
 
-ghost use Rattle.std.specs.Prelude.{◌≡◌, ◌<◌, ◌++◌, ◌∷◌, ◌⊎◌, [], true, Some, IfOk, IfSome, length, slice_get, slice_index_or};
+ghost use Rattle.std.specs.Prelude.{◌≡◌, ◌<◌, ◌++◌, ◌∷◌, ◌⊎◌, ℕ, [], true, false, Some, IfOk, IfSome, IfNone, OnOk, OnErr, length, slice_get, slice_index_or};
 ghost use Rattle.bpf_cpu.specs.Task.{Task};
+ghost use Rattle.bpf_machine.specs.Hashes.{task_hash};
 ghost use Rattle.bpf_machine.specs.Parts.{no_task};
+ghost use Rattle.bpf_explore.specs.Private.Kept.{part_at, ArePartsApart};
 
-use crate::slots::{place_of, put, room_for};
+use crate::slots::{note, room_for, slot_of};
 use bpf_machine::{KeptJob, Machine};
 use std::alloc::{AllocError, Global};
 use std::marker::Model;
@@ -14,8 +16,6 @@ use std::marker::Model;
 #[derive(Drop)]
 pub struct Parts {
     kept: Vec<KeptJob>,
-    /// By number.
-    hashes: Vec<u64>,
     /// By place, one more than the number of a job, from the place of its hash on; 0 where none is.
     slots: Vec<u32>,
 }
@@ -23,10 +23,13 @@ pub struct Parts {
 impl Model for Parts {
     ghost use Rattle.std.specs.Prelude.{List};
     ghost use Rattle.bpf_cpu.specs.Task.{Task};
+    ghost use Rattle.bpf_explore.specs.Private.Kept.{HoldsParts};
 
     ghost Value = { List Task };
 
     ghost view = { λ p. p.kept.items };
+
+    ghost invariant = { λ p. HoldsParts p.kept.items p.slots.items };
 }
 
 impl Parts {
@@ -36,7 +39,6 @@ impl Parts {
     {
         Parts {
             kept: Vec::new(alloc),
-            hashes: Vec::new(alloc),
             slots: Vec::new(alloc),
         }
     }
@@ -48,12 +50,21 @@ impl Parts {
         &self.kept
     }
 
+    /// No job is kept twice.
+    pub fn apart(&self)
+        ensures { ArePartsApart self.now }
+    {
+        let _ = &self.kept;
+    }
+
     /// Whether the machine's job stands as that of this number stood.
     fn is_at(&self, number: usize, machine: &Machine, job: usize) -> bool
         requires { job < length machine.now.jobs }
         ensures within { result ≡ true → number < length self.now }
         ensures same { result ≡ true → slice_get machine.now.jobs job
             ≡ Some (slice_index_or self.now number no_task) }
+        ensures differs { result ≡ false → number < length self.now
+            → slice_get machine.now.jobs job ≡ Some (part_at self.now number) → ⊥ }
     {
         match self.kept.get(number) {
             Some(kept) => machine.is_kept_job(job, kept),
@@ -61,16 +72,23 @@ impl Parts {
         }
     }
 
-    /// The number under which a job stands so, if it is found.
+    /// The number under which a job stands so that has this hash, if it is kept.
     fn find(&self, hash: u64, machine: &Machine, job: usize) -> Option<usize>
-        requires { job < length machine.now.jobs }
+        requires job { job < length machine.now.jobs }
+        requires hash { (task : Task) → slice_get machine.now.jobs job ≡ Some task
+            → hash ≡ task_hash task }
         ensures within { IfSome result (λ n. n < length self.now) }
         ensures same { IfSome result (λ n. slice_get machine.now.jobs job
             ≡ Some (slice_index_or self.now n no_task)) }
+        ensures none { IfNone result ((n : ℕ) → n < length self.now
+            → slice_get machine.now.jobs job ≡ Some (part_at self.now n) → ⊥) }
     {
         for step in 0..self.slots.len() {
-            let slot = self.slots[place_of(hash, step, self.slots.len())];
-            let number = (slot as usize).checked_sub(1)?;
+            let slot = slot_of(&self.slots, hash, step);
+            if slot == 0 {
+                return None;
+            }
+            let number = slot as usize - 1;
             if self.is_at(number, machine, job) {
                 return Some(number);
             }
@@ -82,18 +100,33 @@ impl Parts {
     fn widen(&mut self, alloc: Global) -> Result<(), AllocError>
         ensures { self.new ≡ self.old }
     {
-        if self.hashes.len() < self.slots.len() / 2 {
+        if self.kept.len() < self.slots.len() / 2 {
             return Ok(());
         }
-        let mut slots = room_for(alloc, self.hashes.len())?;
-        for (number, hash) in self.hashes.iter().enumerate() {
-            put(&mut slots, *hash, number);
+        let mut slots = room_for(alloc, self.slots.len())?;
+        for number in 0..self.kept.len() {
+            note(&mut slots, self.kept[number].hash(), number)?;
         }
         self.slots = slots;
         Ok(())
     }
 
-    /// Keeps a machine's job as it stands, unless it is found. Its number.
+    /// Puts a job behind those that are kept, of which it is none. Its number.
+    fn add(&mut self, hash: u64, job: KeptJob) -> Result<usize, AllocError>
+        requires hash { hash ≡ task_hash job }
+        requires new { (n : ℕ) → n < length self.old → part_at self.old n ≡ job → ⊥ }
+        ensures within { IfOk result (λ n. n < length self.new) }
+        ensures is { IfOk result (λ n. part_at self.new n ≡ job) }
+        ensures adds { OnOk result (self.new ≡ self.old ++ job ∷ []) }
+        ensures err { OnErr result (self.new ≡ self.old) }
+    {
+        let number = self.kept.len();
+        note(&mut self.slots, hash, number)?;
+        self.kept.push(job)?;
+        Ok(number)
+    }
+
+    /// Keeps a machine's job as it stands, unless one that stood so is kept. Its number.
     pub fn keep(
         &mut self,
         alloc: Global,
@@ -112,11 +145,8 @@ impl Parts {
             return Ok(number);
         }
         self.widen(alloc)?;
-        let number = self.kept.len();
         let kept = machine.kept_job(alloc, job)?;
-        self.hashes.push(hash)?;
-        self.kept.push(kept)?;
-        put(&mut self.slots, hash, number);
+        let number = self.add(hash, kept)?;
         Ok(number)
     }
 }

@@ -1,10 +1,12 @@
 //! Stores under numbers: one that looks like a kept one is found again.
 
-ghost use Rattle.std.specs.Prelude.{◌≡◌, ◌<◌, ◌++◌, ◌∷◌, ◌⊎◌, [], true, IfOk, IfSome, length, slice_index_or};
+ghost use Rattle.std.specs.Prelude.{◌≡◌, ◌<◌, ◌++◌, ◌∷◌, ◌⊎◌, ℕ, List, [], true, false, IfOk, IfSome, IfNone, OnOk, OnErr, length, slice_index_or};
 ghost use Rattle.bpf_plain.specs.PlainStore.{IsSavedAs};
 ghost use Rattle.bpf_explore.specs.Stores.{IsOfShape, no_store};
+ghost use Rattle.bpf_explore.specs.Private.Slots.{hash_of};
+ghost use Rattle.bpf_explore.specs.Private.Kept.{store_at, AreStoresApart, HoldsStores};
 
-use crate::slots::{place_of, put, room_for};
+use crate::slots::{note, room_for, slot_of};
 use bpf_base::spread;
 use bpf_plain::PlainStore;
 use bpf_shared::StoreShape;
@@ -41,14 +43,19 @@ pub struct Stores {
 impl Model for Stores {
     ghost use Rattle.std.specs.Prelude.{List};
     ghost use Rattle.bpf_plain.specs.PlainStore.{Contents};
+    ghost use Rattle.bpf_explore.specs.Private.Kept.{HoldsStores};
 
     ghost Value = { List Contents };
 
     ghost view = { λ s. s.kept.items };
+
+    ghost invariant = { λ s. HoldsStores s.kept.items s.slots.items };
 }
 
 /// Where a store is looked for first.
-fn hash_of(bytes: &[u8]) -> u64 {
+fn hash_of(bytes: &[u8]) -> u64
+    ensures { result ≡ hash_of bytes.now }
+{
     bytes
         .iter()
         .fold(0, |hash: u64, byte| spread(hash ^ u64::from(*byte)))
@@ -81,12 +88,16 @@ fn copy_store(
 impl Saved {
     /// Whether it is saved as these bytes.
     fn is(&self, bytes: &[u8]) -> bool
-        ensures { result ≡ true → IsSavedAs self.now bytes.now }
+        ensures same { result ≡ true → IsSavedAs self.now bytes.now }
+        ensures differs { result ≡ false → IsSavedAs self.now bytes.now → ⊥ }
     {
         self.bytes.as_slice() == bytes
     }
 
-    fn hash(&self) -> u64 {
+    /// Where it is looked for first.
+    fn hash(&self) -> u64
+        ensures { (bytes : List ℕ) → IsSavedAs self.now bytes → result ≡ hash_of bytes }
+    {
         hash_of(&self.bytes)
     }
 
@@ -139,6 +150,8 @@ impl Stores {
         ensures within { result ≡ true → number < length self.now }
         ensures saved { result ≡ true
             → IsSavedAs (slice_index_or self.now number no_store) bytes.now }
+        ensures differs { result ≡ false → number < length self.now
+            → IsSavedAs (store_at self.now number) bytes.now → ⊥ }
     {
         match self.kept.get(number) {
             Some(saved) => saved.is(bytes),
@@ -146,15 +159,21 @@ impl Stores {
         }
     }
 
-    /// The number of a store that is saved as these bytes, if it is found.
+    /// The number of a store that is saved as these bytes, which have this hash, if it is kept.
     fn find(&self, hash: u64, bytes: &[u8]) -> Option<usize>
+        requires { hash ≡ hash_of bytes.now }
         ensures within { IfSome result (λ n. n < length self.now) }
         ensures saved { IfSome result
             (λ n. IsSavedAs (slice_index_or self.now n no_store) bytes.now) }
+        ensures none { IfNone result ((n : ℕ) → n < length self.now
+            → IsSavedAs (store_at self.now n) bytes.now → ⊥) }
     {
         for step in 0..self.slots.len() {
-            let slot = self.slots[place_of(hash, step, self.slots.len())];
-            let number = (slot as usize).checked_sub(1)?;
+            let slot = slot_of(&self.slots, hash, step);
+            if slot == 0 {
+                return None;
+            }
+            let number = slot as usize - 1;
             if self.is_at(number, bytes) {
                 return Some(number);
             }
@@ -169,16 +188,42 @@ impl Stores {
         if self.kept.len() < self.slots.len() / 2 {
             return Ok(());
         }
-        let mut slots = room_for(alloc, self.kept.len())?;
-        for (number, saved) in self.kept.iter().enumerate() {
-            put(&mut slots, saved.hash(), number);
+        let mut slots = room_for(alloc, self.slots.len())?;
+        for number in 0..self.kept.len() {
+            note(&mut slots, self.kept[number].hash(), number)?;
         }
         self.slots = slots;
         Ok(())
     }
 
-    /// Keeps a store that is saved as these bytes, unless one that is saved so is found. Its
-    /// number.
+    /// No two stores are saved as the same bytes.
+    pub fn apart(&self)
+        ensures apart { AreStoresApart self.now }
+        ensures saved { (i : ℕ) → i < length self.now
+            → (bytes : List ℕ) × IsSavedAs (store_at self.now i) bytes }
+    {
+        let _ = &self.kept;
+    }
+
+    /// Puts a store behind those that are kept, none of which is saved as its bytes. Its number.
+    fn add(&mut self, hash: u64, bytes: &[u8], saved: Saved) -> Result<usize, AllocError>
+        requires saved { IsSavedAs saved bytes.now }
+        requires hash { hash ≡ hash_of bytes.now }
+        requires new { (n : ℕ) → n < length self.old → IsSavedAs (store_at self.old n) bytes.now
+            → ⊥ }
+        ensures within { IfOk result (λ n. n < length self.new) }
+        ensures is { IfOk result (λ n. store_at self.new n ≡ saved) }
+        ensures adds { OnOk result (self.new ≡ self.old ++ saved ∷ []) }
+        ensures err { OnErr result (self.new ≡ self.old) }
+    {
+        let _ = bytes.len();
+        let number = self.kept.len();
+        note(&mut self.slots, hash, number)?;
+        self.kept.push(saved)?;
+        Ok(number)
+    }
+
+    /// Keeps a store that is saved as these bytes, unless one that is saved so is kept. Its number.
     pub fn keep(
         &mut self,
         alloc: Global,
@@ -198,10 +243,8 @@ impl Stores {
             return Ok(number);
         }
         self.widen(alloc)?;
-        let number = self.kept.len();
         let saved = save(alloc, shape, store, bytes)?;
-        self.kept.push(saved)?;
-        put(&mut self.slots, hash, number);
+        let number = self.add(hash, bytes, saved)?;
         Ok(number)
     }
 }

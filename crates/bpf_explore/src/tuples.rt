@@ -1,9 +1,11 @@
 //! Tuples of numbers under numbers: what is kept once is found again.
 
-ghost use Rattle.std.specs.Prelude.{◌≡◌, ◌<◌, ◌≤◌, ◌⊎◌, [], true, IfOk, IfSome, OnErr, length};
+ghost use Rattle.std.specs.Prelude.{◌≡◌, ◌<◌, ◌≤◌, ◌⊎◌, ℕ, [], true, false, IfOk, IfSome, IfNone, OnOk, OnErr, length};
 ghost use Rattle.bpf_explore.specs.Tuples.{TupleList, IsTuple, AreWhole, with_tuple};
+ghost use Rattle.bpf_explore.specs.Private.Slots.{hash_of};
+ghost use Rattle.bpf_explore.specs.Private.Kept.{AreTuplesApart};
 
-use crate::slots::{place_of, put, room_for};
+use crate::slots::{note, room_for, slot_of};
 use bpf_base::spread;
 use std::alloc::{AllocError, Global};
 use std::marker::Model;
@@ -22,18 +24,22 @@ pub struct Tuples {
 }
 
 impl Model for Tuples {
-    ghost use Rattle.bpf_explore.specs.Tuples.{TupleList, AreWhole};
+    ghost use Rattle.bpf_explore.specs.Tuples.{TupleList};
+    ghost use Rattle.bpf_explore.specs.Private.Kept.{HoldsTuples};
 
     ghost Value = { TupleList };
 
     ghost view = { λ t. record { width = t.width; count = t.count; numbers = t.numbers.items } };
 
     ghost invariant = { λ t.
-        AreWhole (record { width = t.width; count = t.count; numbers = t.numbers.items }) };
+        HoldsTuples (record { width = t.width; count = t.count; numbers = t.numbers.items })
+        t.slots.items };
 }
 
 /// Where a tuple is looked for first.
-fn hash_of(tuple: &[u32]) -> u64 {
+fn hash_of(tuple: &[u32]) -> u64
+    ensures { result ≡ hash_of tuple.now }
+{
     tuple
         .iter()
         .fold(0, |hash: u64, number| spread(hash ^ u64::from(*number)))
@@ -75,18 +81,24 @@ impl Tuples {
     /// Whether a tuple is kept under this number.
     #[tactic(auto, using(bpf_plain::proofs::Blocks::block_fits))]
     fn is_at(&self, number: usize, tuple: &[u32]) -> bool
-        ensures { result ≡ true → IsTuple self.now number tuple.now }
+        ensures same { result ≡ true → IsTuple self.now number tuple.now }
+        ensures differs { result ≡ false → IsTuple self.now number tuple.now → ⊥ }
     {
         number < self.count && self.tuple(number) == tuple
     }
 
-    /// The number of a tuple, if it is found.
+    /// The number of a tuple that has this hash, if it is kept.
     fn find(&self, hash: u64, tuple: &[u32]) -> Option<usize>
-        ensures { IfSome result (λ n. IsTuple self.now n tuple.now) }
+        requires { hash ≡ hash_of tuple.now }
+        ensures found { IfSome result (λ n. IsTuple self.now n tuple.now) }
+        ensures none { IfNone result ((n : ℕ) → IsTuple self.now n tuple.now → ⊥) }
     {
         for step in 0..self.slots.len() {
-            let slot = self.slots[place_of(hash, step, self.slots.len())];
-            let number = (slot as usize).checked_sub(1)?;
+            let slot = slot_of(&self.slots, hash, step);
+            if slot == 0 {
+                return None;
+            }
+            let number = slot as usize - 1;
             if self.is_at(number, tuple) {
                 return Some(number);
             }
@@ -102,15 +114,38 @@ impl Tuples {
         if self.count < self.slots.len() / 2 {
             return Ok(());
         }
-        let mut slots = room_for(alloc, self.count)?;
+        let mut slots = room_for(alloc, self.slots.len())?;
         for number in 0..self.count {
-            put(&mut slots, hash_of(self.tuple(number)), number);
+            note(&mut slots, hash_of(self.tuple(number)), number)?;
         }
         self.slots = slots;
         Ok(())
     }
 
-    /// Keeps a tuple, unless it is found. Its number. Where memory lacks, what is kept stays.
+    /// No tuple is kept twice.
+    pub fn apart(&self)
+        ensures { AreTuplesApart self.now }
+    {
+        let _ = &self.count;
+    }
+
+    /// Puts a tuple behind those that are kept, of which it is none. Its number.
+    fn add(&mut self, hash: u64, tuple: &[u32]) -> Result<usize, AllocError>
+        requires width { length tuple.now ≡ self.old.width }
+        requires hash { hash ≡ hash_of tuple.now }
+        requires new { (n : ℕ) → IsTuple self.old n tuple.now → ⊥ }
+        ensures found { IfOk result (λ n. IsTuple self.new n tuple.now) }
+        ensures adds { OnOk result (self.new ≡ with_tuple self.old tuple.now) }
+        ensures err { OnErr result (self.new ≡ self.old) }
+    {
+        let number = self.count;
+        note(&mut self.slots, hash, number)?;
+        self.numbers.extend_from_slice(tuple)?;
+        self.count += 1;
+        Ok(number)
+    }
+
+    /// Keeps a tuple, unless it is kept. Its number. Where memory lacks, what is kept stays.
     pub fn keep(&mut self, alloc: Global, tuple: &[u32]) -> Result<usize, AllocError>
         requires { length tuple.now ≡ self.old.width }
         ensures found { IfOk result (λ n. IsTuple self.new n tuple.now) }
@@ -122,10 +157,7 @@ impl Tuples {
             return Ok(number);
         }
         self.widen(alloc)?;
-        self.numbers.extend_from_slice(tuple)?;
-        let number = self.count;
-        self.count += 1;
-        put(&mut self.slots, hash, number);
+        let number = self.add(hash, tuple)?;
         Ok(number)
     }
 }

@@ -5,7 +5,8 @@ use Rattle.bpf_shared.specs.Shape.{Shape}
 use Rattle.bpf_plain.specs.PlainStore.{Contents, IsSavedAs}
 use Rattle.bpf_loader.specs.Loaded.{Loaded}
 use Rattle.bpf_cpu.specs.Task.{Task}
-use Rattle.bpf_machine.specs.Machine.{MachineState}
+use Rattle.bpf_machine.specs.Schedule.{World}
+use Rattle.bpf_machine.specs.Machine.{MachineState, Shows}
 use Rattle.bpf_machine.specs.Parts.{CanStand, chosen, made_of, no_task}
 use Rattle.bpf_explore.specs.Stores.{IsOfShape, no_store}
 use Rattle.bpf_explore.specs.Tuples.{TupleList, tuple_at, AreWhole}
@@ -69,9 +70,10 @@ pub record AreKeptUnder (stores : List Contents) (parts : List Task) (m : Machin
   pub jobs : AreNumbersOf parts (drop 1 tuple) m.jobs
   pub size : length tuple ≡ length m.jobs + 1
 
--- at most one more is kept
-abbrev pub AddsOne : List MachineState → List MachineState → Type 0
-AddsOne old new = (new ≡ old) ⊎ ((m : MachineState) × (new ≡ old ++ m ∷ []))
+-- at most one more is kept, which shows all that the machine shows
+abbrev pub AddsOne : List MachineState → MachineState → List MachineState → Type 0
+AddsOne old m new = (new ≡ old)
+    ⊎ ((one : MachineState) × (new ≡ old ++ one ∷ []) × ((w : World) → Shows m w → Shows one w))
 
 -- the machine fits what is kept
 pub record FitsShelf (h : Shape) (s : Shelf) (m : MachineState) : Type 0 where

@@ -36,12 +36,14 @@ pub record IsPlaceOf (answers : List Found) (text : List ℕ) (i : ℕ) : Type 0
   pub behind : (k : ℕ) (found : Found) → i ≤ k → slice_get answers k ≡ Some found
       → slice_cmp nat_cmp text found.text ≡ Less
 
--- the i-th tells this
-abbrev pub TellsAt : List Found → ℕ → List ℕ → Bool → Type 0
-TellsAt answers i text stopped = (found : Found) × (slice_get answers i ≡ Some found)
-    × (found.text ≡ text) × (found.stopped ≡ stopped)
-
 -- what is told of the i-th kept machine, if it has no work, is one of them
 abbrev pub IsAnsweredAt : List MachineState → List (List ℕ) → Bool → List Found → ℕ → Type 0
 IsAnsweredAt kept names maps answers i = (m : MachineState) → slice_get kept i ≡ Some m
     → HaveEnded m.jobs → IsAnswered names maps answers m
+
+-- what is told of the kept machines below a number
+pub record Gathered (kept : List MachineState) (names : List (List ℕ)) (maps : Bool) (place : ℕ)
+    (answers : List Found) : Type 0 where
+  pub sorted : AreSorted answers
+  pub ends : (w : World) → IsFirst kept w → AllEnd w names maps answers
+  pub answered : (i : ℕ) → i < place → IsAnsweredAt kept names maps answers i

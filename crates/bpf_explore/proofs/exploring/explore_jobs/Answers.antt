@@ -1,11 +1,12 @@
-use Rattle.std.proofs.Common.{◌≡◌, ◌<◌, map, string_bytes, sym, subst}
+use Rattle.std.proofs.Common.{◌≡◌, ◌∙◌, ◌<◌, List, length, map, string_bytes, sym, ap, subst}
 use Rattle.std.specs.Prelude.{All}
 use Rattle.bpf_shared.specs.Shape.{Shape}
 use Rattle.bpf_cpu.specs.declared.job.Job.{Job}
 use Rattle.bpf_cpu.specs.Task.{waiting}
-use Rattle.bpf_machine.specs.Machine.{Shows}
+use Rattle.bpf_machine.specs.Machine.{MachineState, Shows}
 use Rattle.bpf_machine.specs.Schedule.{World}
 use Rattle.bpf_jobs.specs.Printed.{first_world}
+use Rattle.bpf_explore.specs.Outcomes.{IsExplored}
 use Rattle.bpf_explore.specs.Stores.{IsOfShape}
 use Rattle.bpf_explore.proofs.ExploreLaws.{first_shape, first_lists_none, first_fresh, still_first, explored}
 use Rattle.bpf_explore.proofs.exploring.explore_jobs.Goals as goal
@@ -31,16 +32,30 @@ pub new-requires-clause-lists : goal.new-requires-clause-lists
 new-requires-clause-lists c =
     first_lists_none c.in_ok-copy.copy c.in_ok-machine.machine c.args.programs.items (map waiting c.args.jobs.items) c.in_ok-machine.ensures
 
-pub returns : goal.returns
-returns c =
+pub gather-requires : goal.gather-requires
+gather-requires c =
     let same : c.in_ok-copy.copy ≡ c.args.shape = c.in_ok-copy.ensures in
     let m = c.in_ok-machine.machine in
     let programs = c.args.programs.items in
     let jobs = c.args.jobs.items in
     let w : World = first_world c.args.shape programs (map waiting jobs) in
     let shows = subst (λ (h : Shape). Shows m (first_world h programs (map waiting jobs))) same c.in_ok-machine.ensures in
+    (w, still_first c.in_ok-explorer.explorer.kept c.explore.new.frontier.kept m w c.in_ok-explorer.ensures c.explore.ensures.extends shows)
+
+pub returns : goal.returns
+returns c =
+    let same : c.in_ok-copy.copy ≡ c.args.shape = c.in_ok-copy.ensures in
+    let m = c.in_ok-machine.machine in
+    let programs = c.args.programs.items in
+    let jobs = c.args.jobs.items in
+    let names = map string_bytes c.args.names.now in
+    let w : World = first_world c.args.shape programs (map waiting jobs) in
+    let shows = subst (λ (h : Shape). Shows m (first_world h programs (map waiting jobs))) same c.in_ok-machine.ensures in
     let kept = c.explore.new.frontier.kept in
-    explored c.cover_tells_all.ensures kept w (map string_bytes c.args.names.now) c.args.maps c.in_ok-answers.answers.items c.in_ok-whole.whole c.in_ok-answers.told c.both-all.result
+    let answers = c.in_ok-answers.answers.items in
+    let count : c.len-states.result ≡ length kept = c.len-states.ensures ∙ ap (λ (ms : List MachineState). length ms) c.gather.ensures.same in
+    subst (IsExplored w names c.args.maps answers c.in_ok-all.all c.args.limit) (sym count)
+    (explored c.cover_tells_all.ensures kept w names c.args.maps answers c.in_ok-all.all c.args.limit
     (first_fresh c.args.shape m programs jobs c.requires.contexts shows)
-    (still_first c.in_ok-album.album.kept kept m w c.in_ok-album.ensures c.explore.ensures.extends shows)
-    c.in_ok-whole.ensures.covers c.in_ok-answers.ensures.outcomes c.in_ok-answers.ensures.answered c.both-all.ensures
+    (still_first c.in_ok-explorer.explorer.kept kept m w c.in_ok-explorer.ensures c.explore.ensures.extends shows)
+    c.in_ok-all.ensures.covers c.in_ok-answers.ensures.outcomes c.in_ok-answers.ensures.answered c.in_ok-all.ensures.met c.leads.ensures c.apart.ensures)

@@ -1,10 +1,58 @@
-use Rattle.std.proofs.Common.{sym, subst}
-use Rattle.bpf_machine.specs.Cover.{IsKeptAs}
-use Rattle.bpf_explore.specs.Private.Album.{AddsOne, AlbumState}
+use Rattle.std.proofs.Common.{◌∙◌, sym, subst}
+use Rattle.bpf_explore.specs.Private.Album.{AddsOne, AlbumState, AreKeptUnder, machines}
+use Rattle.bpf_explore.proofs.AlbumLaws.{shelf_of, same_invariant, same_adds, invariant_after, adds_after, kept_after}
 use Rattle.bpf_explore.proofs.album.Album.keep.Goals as goal
 
-pub returns-clause-kept : goal.returns-clause-kept
-returns-clause-kept c = subst (λ (a : AlbumState). IsKeptAs a.kept a.machine) (sym c.note_origin.ensures) c.in_ok-keep_state.ensures.kept
+pub invariant_of-self : goal.invariant_of-self
+invariant_of-self c =
+    let m = c.self.inside in
+    let shelf = shelf_of m.machine.programs m.stores m.parts m.states in
+    same_invariant m.shape shelf m.machine c.keep_machine.new.stores c.keep_machine.new.parts c.self.invariant.0 c.self.invariant.1 c.keep_machine.ensures.adds c.keep_machine.ensures.grows
+
+pub returns-in_err-keep_machine-clause-adds : goal.returns-in_err-keep_machine-clause-adds
+returns-in_err-keep_machine-clause-adds c =
+    let m = c.self.inside in
+    let shelf = shelf_of m.machine.programs m.stores m.parts m.states in
+    let kept = machines (shelf_of m.machine.programs c.keep_machine.new.stores c.keep_machine.new.parts m.states) m.states.count in
+    subst (λ (a : AlbumState). AddsOne a.kept a.machine kept) c.self.view_is (same_adds m.shape shelf m.machine c.keep_machine.new.stores c.keep_machine.new.parts c.self.invariant.0 c.self.invariant.1 c.keep_machine.ensures.adds c.keep_machine.ensures.grows)
+
+pub invariant_of-self-in_err-keep : goal.invariant_of-self-in_err-keep
+invariant_of-self-in_err-keep c =
+    let m = c.self.inside in
+    let shelf = shelf_of m.machine.programs m.stores m.parts m.states in
+    let under = subst (AreKeptUnder c.keep_machine.new.stores c.keep_machine.new.parts m.machine) (sym c.deref.ensures.value) c.in_ok-keep_machine.ensures.numbers in
+    let size = under.size ∙ sym c.self.invariant.1.width in
+    invariant_after m.shape shelf m.machine c.keep_machine.new.stores c.keep_machine.new.parts c.self.invariant.0 c.self.invariant.1 c.keep_machine.ensures.adds c.keep_machine.ensures.grows c.deref.result.now under c.stands.ensures c.keep.new.self size c.keep.ensures.adds
+
+pub invariant_of-self-2 : goal.invariant_of-self-2
+invariant_of-self-2 c =
+    let m = c.self.inside in
+    let shelf = shelf_of m.machine.programs m.stores m.parts m.states in
+    let under = subst (AreKeptUnder c.keep_machine.new.stores c.keep_machine.new.parts m.machine) (sym c.deref.ensures.value) c.in_ok-keep_machine.ensures.numbers in
+    let size = under.size ∙ sym c.self.invariant.1.width in
+    invariant_after m.shape shelf m.machine c.keep_machine.new.stores c.keep_machine.new.parts c.self.invariant.0 c.self.invariant.1 c.keep_machine.ensures.adds c.keep_machine.ensures.grows c.deref.result.now under c.stands.ensures c.keep.new.self size c.keep.ensures.adds
+
+pub returns-in_err-keep-clause-adds : goal.returns-in_err-keep-clause-adds
+returns-in_err-keep-clause-adds c =
+    let m = c.self.inside in
+    let shelf = shelf_of m.machine.programs m.stores m.parts m.states in
+    let under = subst (AreKeptUnder c.keep_machine.new.stores c.keep_machine.new.parts m.machine) (sym c.deref.ensures.value) c.in_ok-keep_machine.ensures.numbers in
+    let size = under.size ∙ sym c.self.invariant.1.width in
+    let kept = machines (shelf_of m.machine.programs c.keep_machine.new.stores c.keep_machine.new.parts c.keep.new.self) c.keep.new.self.count in
+    subst (λ (a : AlbumState). AddsOne a.kept a.machine kept) c.self.view_is (adds_after m.shape shelf m.machine c.keep_machine.new.stores c.keep_machine.new.parts c.self.invariant.0 c.self.invariant.1 c.keep_machine.ensures.adds c.keep_machine.ensures.grows c.deref.result.now under c.stands.ensures c.keep.new.self size c.keep.ensures.adds)
 
 pub returns-clause-adds : goal.returns-clause-adds
-returns-clause-adds c = subst (λ (a : AlbumState). AddsOne c.args.self.now.kept a.kept) (sym c.note_origin.ensures) c.keep_state.ensures.adds
+returns-clause-adds c =
+    let m = c.self.inside in
+    let shelf = shelf_of m.machine.programs m.stores m.parts m.states in
+    let under = subst (AreKeptUnder c.keep_machine.new.stores c.keep_machine.new.parts m.machine) (sym c.deref.ensures.value) c.in_ok-keep_machine.ensures.numbers in
+    let size = under.size ∙ sym c.self.invariant.1.width in
+    let kept = machines (shelf_of m.machine.programs c.keep_machine.new.stores c.keep_machine.new.parts c.keep.new.self) c.keep.new.self.count in
+    subst (λ (a : AlbumState). AddsOne a.kept a.machine kept) c.self.view_is (adds_after m.shape shelf m.machine c.keep_machine.new.stores c.keep_machine.new.parts c.self.invariant.0 c.self.invariant.1 c.keep_machine.ensures.adds c.keep_machine.ensures.grows c.deref.result.now under c.stands.ensures c.keep.new.self size c.keep.ensures.adds)
+
+pub returns-clause-kept : goal.returns-clause-kept
+returns-clause-kept c =
+    let m = c.self.inside in
+    let shelf = shelf_of m.machine.programs m.stores m.parts m.states in
+    let under = subst (AreKeptUnder c.keep_machine.new.stores c.keep_machine.new.parts m.machine) (sym c.deref.ensures.value) c.in_ok-keep_machine.ensures.numbers in
+    kept_after m.shape shelf m.machine c.keep_machine.new.stores c.keep_machine.new.parts c.self.invariant.0 c.self.invariant.1 c.keep_machine.ensures.adds c.keep_machine.ensures.grows c.deref.result.now under c.stands.ensures c.keep.new.self c.in_ok-keep.field-0 c.keep.ensures.adds c.in_ok-keep.ensures.found

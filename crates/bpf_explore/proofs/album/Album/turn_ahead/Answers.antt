@@ -1,5 +1,5 @@
-use Rattle.std.proofs.Common.{◌∙◌, ap, subst}
-use Rattle.bpf_machine.specs.Machine.{MachineState}
+use Rattle.std.proofs.Common.{◌∙◌, ap, sym, subst}
+use Rattle.bpf_machine.specs.Machine.{MachineState, Shows}
 use Rattle.bpf_machine.specs.Cover.{TurnsTo}
 use Rattle.bpf_explore.specs.Private.Album.{AlbumState}
 use Rattle.bpf_explore.proofs.AlbumLaws.{fits_after, kept_with}
@@ -19,3 +19,8 @@ pub returns-clause-same : goal.returns-clause-same
 returns-clause-same c =
     let m = c.self.inside in
     kept_with m.shape m.stores m.parts m.states m.machine c.turn_ahead.new.self c.turn_ahead.ensures.same.programs ∙ ap (λ (a : AlbumState). a.kept) c.self.view_is
+
+pub returns-clause-runs : goal.returns-clause-runs
+returns-clause-runs c w shows =
+    let machine = ap (λ (a : AlbumState). a.machine) c.self.view_is in
+    c.turn_ahead.ensures.runs w (subst (λ (m : MachineState). Shows m w) (sym machine) shows)

@@ -1,0 +1,128 @@
+-- Answers of a patient search.
+use Rattle.std.proofs.Common.{◌≡◌, ◌∙◌, ℕ, ◌+◌, ◌<◌, ◌≤◌, Bool, true, List, [], Option, Some, None, inl, inr, length, refl, sym, ap, subst, arith}
+use Rattle.std.specs.Prelude.{slice_get, insert, option_and_then, IfSome}
+use Rattle.std.proofs.lemmas.Bool.{cases_lt}
+use Rattle.std.proofs.lemmas.Option.{slice_get_within}
+use Rattle.bpf_cpu.specs.declared.outcome.Outcome.{Outcome}
+use Rattle.bpf_cpu.specs.declared.outcome.Outcome.TheVariants.{OutOfBudget}
+use Rattle.bpf_cpu.specs.Task.{Stage, Task, Waiting, InHand, Ended, ended, outcome_at}
+use Rattle.bpf_machine.specs.Machine.{MachineState, Shows}
+use Rattle.bpf_machine.specs.Patient.{NoneRanOut}
+use Rattle.bpf_machine.specs.Rounds.{HaveEnded}
+use Rattle.bpf_machine.specs.Schedule.{World, RunsSchedule, unrolled}
+use Rattle.bpf_jobs.specs.Printed.{lines_of_lists, TellsWith}
+use Rattle.bpf_explore.specs.Outcomes.{Found}
+use Rattle.bpf_machine.specs.Laws.{IsFresh}
+use Rattle.bpf_machine.specs.Cover.{IsShown}
+use Rattle.bpf_explore.specs.Search.{CoversAll}
+use Rattle.bpf_explore.specs.Patient.{EndsPatiently, ArePatient, IsExploredPatiently, PatientTellAll}
+use Rattle.bpf_explore.specs.Private.Answers.{AreSorted, IsFirst, KeepsAll, IsAnsweredAt}
+use Rattle.bpf_explore.specs.Private.Patience.{AllEndPatiently}
+use Rattle.bpf_explore.proofs.AnswerLaws.{Before, Here, Behind, origin, answered_still}
+use Rattle.bpf_explore.proofs.TellLaws.{tells_none}
+
+pub all_end_patiently : (xs : List Found) (i : ℕ) (x : Found) (within : i ≤ length xs) (w : World) (names : List (List ℕ)) (maps : Bool) → EndsPatiently w names maps x → AllEndPatiently w names maps xs → AllEndPatiently w names maps (insert xs i x)
+all_end_patiently xs i x within w names maps one all k y at = elim (origin xs i x within k y at) [
+  | Before pl there ↦ all k y there
+  | Here e same ↦ subst (EndsPatiently w names maps) same one
+  | Behind j e above there ↦ all j y there
+]
+
+-- ---- what is said of an answer that is there
+pub some_by : (P : Found → Type 0) (o : Option Found) (x : Found) → o ≡ Some x → IfSome o P → P x
+some_by P o x e h = subst (λ (s : Option Found). IfSome s P) e h
+
+pub ends_still : (old new : List MachineState) (names : List (List ℕ)) (maps : Bool) (x : Found) → new ≡ old → ((w : World) → IsFirst new w → EndsPatiently w names maps x) → (w : World) → IsFirst old w → EndsPatiently w names maps x
+ends_still old new names maps x same ends w first = ends w (subst (λ (kept : List MachineState). IsFirst kept w) (sym same) first)
+
+-- ---- the end of a schedule from the first machine
+pub ends_patiently : (kept : List MachineState) (first last : MachineState) (names : List (List ℕ)) (maps : Bool) (found : Found) → slice_get kept 0 ≡ Some first → last.lists ≡ None → HaveEnded last.jobs → NoneRanOut last.jobs
+    → ((w : World) → Shows first w → (z : World) × RunsSchedule w (unrolled found.by) z × Shows last z)
+    → ((w : World) → Shows last w → TellsWith (lines_of_lists w names) w.store w.jobs names maps found.text found.stopped)
+    → (w : World) → IsFirst kept w → EndsPatiently w names maps found
+ends_patiently kept first last names maps found at none over well runs told w (m, there, shows) =
+    let two : Some m ≡ Some first = sym there ∙ at in
+    let one : m ≡ first = cc in
+    let run = runs w (subst (λ (n : MachineState). Shows n w) one shows) in
+    (run.0, run.1, subst HaveEnded (sym run.2.jobs) over, subst NoneRanOut (sym run.2.jobs) well, tells_none last run.0 names maps found.text found.stopped none run.2 (told run.0 run.2))
+
+-- ---- jobs that have ended
+stage_ended : (stage : Stage) (o : Outcome) → Some o ≡ ended stage → (outcome : Outcome) × (stage ≡ Ended outcome)
+stage_ended (Waiting context) o e = cc
+stage_ended (InHand state left) o e = cc
+stage_ended (Ended outcome) o e = (outcome, refl)
+
+read_outcome : (jobs : List Task) (j : ℕ) (task : Task) → slice_get jobs j ≡ Some task → outcome_at jobs j ≡ ended task.stage
+read_outcome jobs j task at = ap (λ (o : Option Task). option_and_then (λ t. ended t.stage) o) at
+
+job_ended : (jobs : List Task) (j : ℕ) (o : Outcome) → Some o ≡ outcome_at jobs j → (task : Task) → slice_get jobs j ≡ Some task → (outcome : Outcome) × (task.stage ≡ Ended outcome)
+job_ended jobs j o e task at = stage_ended task.stage o (e ∙ read_outcome jobs j task at)
+
+stage_is : (stage : Stage) (o : Outcome) → Some o ≡ ended stage → stage ≡ Ended o
+stage_is (Waiting context) o e = cc
+stage_is (InHand state left) o e = cc
+stage_is (Ended outcome) o e = let one : o ≡ outcome = cc in ap Ended (sym one)
+
+-- ---- jobs that have ended, none out of budget
+abbrev pub EndedWellBelow : List Task → ℕ → Type 0
+EndedWellBelow jobs n = (j : ℕ) (task : Task) → j < n → slice_get jobs j ≡ Some task → (outcome : Outcome) × (task.stage ≡ Ended outcome) × ((pc : ℕ) → outcome ≡ OutOfBudget pc → ⊥)
+
+pub next_ended_well : (jobs : List Task) (n : ℕ) (o : Outcome) → EndedWellBelow jobs n → Some o ≡ outcome_at jobs n → ((pc : ℕ) → o ≡ OutOfBudget pc → ⊥) → EndedWellBelow jobs (n + 1)
+next_ended_well jobs n o far e well j task less at = elim (cases_lt j n) [
+  | inl below ↦ far j task below at
+  | inr past ↦
+      let same : n ≡ j = omega arith in
+      let there : Some o ≡ ended task.stage = e ∙ (ap (outcome_at jobs) same ∙ read_outcome jobs j task at) in
+      (o, stage_is task.stage o there, well)
+]
+
+pub all_ended_well : (jobs : List Task) (n : ℕ) → length jobs ≤ n → EndedWellBelow jobs n → HaveEnded jobs × NoneRanOut jobs
+all_ended_well jobs n past far = (
+  λ j task at. (let inside = slice_get_within jobs j task at in let r = far j task (omega arith) at in (r.0, r.1)),
+  λ j task pc at out. (
+      let inside = slice_get_within jobs j task at in
+      let r = far j task (omega arith) at in
+      let same : Ended r.0 ≡ Ended (OutOfBudget pc) = sym r.1 ∙ out in
+      let one : r.0 ≡ OutOfBudget pc = cc in
+      r.2 pc one),
+)
+
+-- ---- what is gathered of the kept machines below a number
+pub record Gathered (kept : List MachineState) (names : List (List ℕ)) (maps : Bool) (place : ℕ) (whole : Bool) (answers : List Found) : Type 0 where
+  pub sorted : AreSorted answers
+  pub ends : (w : World) → IsFirst kept w → AllEndPatiently w names maps answers
+  pub answered : whole ≡ true → (i : ℕ) → i < place → IsAnsweredAt kept names maps answers i
+
+pub none_gathered : (kept : List MachineState) (names : List (List ℕ)) (maps : Bool) → Gathered kept names maps 0 true []
+none_gathered kept names maps = record {
+  sorted = λ i j found later less at there. cc;
+  ends = λ w first i found at. cc;
+  answered = λ whole i less. absurd (omega arith);
+}
+
+pub more_gathered : (kept : List MachineState) (names : List (List ℕ)) (maps : Bool) (place : ℕ) (whole answered now : Bool) (old new : List Found) → Gathered kept names maps place whole old → AreSorted new → KeepsAll old new
+    → ((w : World) → IsFirst kept w → AllEndPatiently w names maps old → AllEndPatiently w names maps new) → (answered ≡ true → IsAnsweredAt kept names maps new place) → (now ≡ true → (whole ≡ true) × (answered ≡ true))
+    → Gathered kept names maps (place + 1) now new
+more_gathered kept names maps place whole answered now old new far sorted keeps ends here both = record {
+  sorted = sorted;
+  ends = λ w first. ends w first (far.ends w first);
+  answered = λ is i less. (let b = both is in elim (cases_lt i place) [
+    | inl below ↦ answered_still kept names maps old new i keeps (far.answered b.0 i below)
+    | inr past ↦ let e : place ≡ i = omega arith in subst (λ (k : ℕ). IsAnsweredAt kept names maps new k) e (here b.1)
+  ]);
+}
+
+pub all_gathered : (kept : List MachineState) (names : List (List ℕ)) (maps : Bool) (place : ℕ) (whole : Bool) (answers : List Found) → length kept ≤ place → Gathered kept names maps place whole answers → whole ≡ true → (i : ℕ) → IsAnsweredAt kept names maps answers i
+all_gathered kept names maps place whole answers past far is i m at ended =
+    let inside = slice_get_within kept i m at in
+    far.answered is i (omega arith) m at ended
+
+pub explored_patiently : PatientTellAll → (kept : List MachineState) (w : World) (names : List (List ℕ)) (maps : Bool) (answers : List Found) (whole told all : Bool) → IsFresh w → IsFirst kept w
+    → (whole ≡ true → CoversAll true kept) → ((u : World) → IsFirst kept u → ArePatient u names maps answers) → (told ≡ true → (i : ℕ) → IsAnsweredAt kept names maps answers i)
+    → (all ≡ true → (whole ≡ true) × (told ≡ true)) → IsExploredPatiently w names maps answers all
+explored_patiently law kept w names maps answers whole told all fresh first covers outcomes answered both = record {
+  outcomes = outcomes w first;
+  complete = λ is. (let b = both is in
+      let shown : IsShown kept w = (0, first.0, first.1, first.2) in
+      law kept w names maps answers (covers b.0) fresh shown (λ i m at ended. answered b.1 i m at ended));
+}

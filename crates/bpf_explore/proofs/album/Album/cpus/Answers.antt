@@ -1,0 +1,13 @@
+use Rattle.std.proofs.Common.{◌≤◌, subst, arith}
+use Rattle.bpf_explore.specs.Search.{IsIdleAt}
+use Rattle.bpf_explore.specs.Private.Album.{AlbumState}
+use Rattle.bpf_explore.proofs.AlbumLaws.{shelf_of, idle_beyond}
+use Rattle.bpf_explore.proofs.album.Album.cpus.Goals as goal
+
+pub returns : goal.returns
+returns c i k above =
+    let m = c.self.inside in
+    let shelf = shelf_of m.machine.programs m.stores m.parts m.states in
+    let count = c.cpus.ensures.cpus in
+    let beyond : m.shape.cpus ≤ k = omega arith in
+    subst (λ (a : AlbumState). IsIdleAt a.kept i k) c.self.view_is (idle_beyond m.shape shelf c.self.invariant.0 i k beyond)

@@ -1,0 +1,44 @@
+use Rattle.std.proofs.Common.{◌∙◌, ◌<◌, List, true, length, map, string_bytes, refl, sym, subst, arith}
+use Rattle.bpf_machine.specs.Machine.{MachineState}
+use Rattle.bpf_explore.specs.Outcomes.{Found}
+use Rattle.bpf_explore.specs.Private.Answers.{IsFirst, IsAnsweredAt}
+use Rattle.bpf_explore.proofs.PatienceLaws.{Gathered, none_gathered, more_gathered, all_gathered}
+use Rattle.bpf_explore.proofs.patience.gather_patiently.Goals as goal
+
+pub loop-place-init : goal.loop-place-init
+loop-place-init c =
+    let names = map string_bytes c.args.names.now in
+    let kept = c.args.explorer.now.kept in
+    (refl, subst (λ (answers : List Found). Gathered kept names c.args.maps 0 true answers) (sym c.new-answers.ensures.items) (none_gathered kept names c.args.maps))
+
+pub answer_at-requires-clause-place : goal.answer_at-requires-clause-place
+answer_at-requires-clause-place c = subst (λ (kept : List MachineState). c.loop-place.place < length kept) (sym c.loop-place.invariant.0) (omega arith)
+
+pub answer_at-requires-clause-sorted : goal.answer_at-requires-clause-sorted
+answer_at-requires-clause-sorted c = c.loop-place.invariant.1.sorted
+
+pub returns-in_err-answered-clause-same : goal.returns-in_err-answered-clause-same
+returns-in_err-answered-clause-same c = c.answer_at.ensures.same ∙ c.loop-place.invariant.0
+
+pub loop-place-preserved : goal.loop-place-preserved
+loop-place-preserved c =
+    let names = map string_bytes c.args.names.now in
+    let kept = c.args.explorer.now.kept in
+    let same = c.loop-place.invariant.0 in
+    let far = c.loop-place.invariant.1 in (
+      c.answer_at.ensures.same ∙ same,
+      more_gathered kept names c.args.maps c.loop-place.place c.loop-place.whole c.in_ok-answered.answered c.both-whole.result c.loop-place.answers.items c.answer_at.new.answers.items far c.answer_at.ensures.sorted c.answer_at.ensures.keeps
+          (λ w first all. c.answer_at.ensures.ends w (subst (λ (ms : List MachineState). IsFirst ms w) (sym same) first) all)
+          (λ is. subst (λ (ms : List MachineState). IsAnsweredAt ms names c.args.maps c.answer_at.new.answers.items c.loop-place.place) same (c.in_ok-answered.ensures.answered is))
+          c.both-whole.ensures,
+    )
+
+pub returns-clause-same : goal.returns-clause-same
+returns-clause-same c = c.loop-place.invariant.0
+
+pub returns-clause-outcomes : goal.returns-clause-outcomes
+returns-clause-outcomes c w first = record { each = c.loop-place.invariant.1.ends w first; sorted = c.loop-place.invariant.1.sorted }
+
+pub returns-clause-answered : goal.returns-clause-answered
+returns-clause-answered c =
+    all_gathered c.args.explorer.now.kept (map string_bytes c.args.names.now) c.args.maps c.loop-place.place c.loop-place.whole c.loop-place.answers.items (omega arith) c.loop-place.invariant.1

@@ -1,0 +1,7 @@
+use Rattle.std.proofs.Common.{◌≡◌, map}
+use Rattle.std.specs.Prelude.{string_bytes}
+use Rattle.bpf_explore.proofs.PatienceLaws.{Gathered}
+use Rattle.bpf_explore.proofs.patience.gather_patiently.Given as goal
+
+abbrev pub invariant-loop-place : goal.invariant-loop-place
+invariant-loop-place l = (l.explorer.kept ≡ l.fn.explorer.kept) × Gathered l.fn.explorer.kept (map string_bytes l.names) l.maps l.place l.whole l.answers.items

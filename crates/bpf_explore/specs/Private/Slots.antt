@@ -1,0 +1,24 @@
+-- Places of numbers, by hashes.
+use Rattle.std.specs.Prelude.{◌≡◌, ◌≢◌, ℕ, ◌+◌, ◌-◌, ◌/◌, ◌%◌, ◌^◌, ◌<◌, List, bit_and, fold, length, slice_index_or}
+use Rattle.bpf_machine.specs.Hashes.{mix}
+
+-- where a list of numbers is looked for
+abbrev pub hash_of : List ℕ → ℕ
+hash_of numbers = fold mix 0 numbers
+
+-- the place of a hash among so many, or one so many steps behind it
+abbrev pub place_at : ℕ → ℕ → ℕ → ℕ
+place_at hash step places = bit_and ((hash / 2 ^ 32 + step) % 2 ^ 64) (places - 1)
+
+-- what stands there; 0 where nothing does
+abbrev pub slot_at : List ℕ → ℕ → ℕ → ℕ
+slot_at slots hash step = slice_index_or slots (place_at hash step (length slots)) 0
+
+-- this mark stands in the row of places behind the hash, before the first where nothing does
+abbrev pub IsMarked : List ℕ → ℕ → ℕ → Type 0
+IsMarked slots hash mark = (step : ℕ) × (step < length slots) × (slot_at slots hash step ≡ mark)
+    × ((before : ℕ) → before < step → slot_at slots hash before ≢ 0)
+
+-- so does that of a number
+abbrev pub IsPut : List ℕ → ℕ → ℕ → Type 0
+IsPut slots hash number = IsMarked slots hash (number + 1)

@@ -1,0 +1,21 @@
+-- How kept machines came about.
+use Rattle.std.specs.Prelude.{◌≡◌, ℕ, ◌<◌, List, ◌∷◌, length, replicate, slice_index_or}
+use Rattle.bpf_machine.specs.Machine.{MachineState}
+use Rattle.bpf_explore.specs.declared.explorer.Origin.{Origin}
+use Rattle.bpf_explore.specs.Album.{LeadsFrom}
+
+abbrev pub no_origin : Origin
+no_origin = record { from = 0; ahead = 0; cpu = 0 }
+
+abbrev pub origin_at : List Origin → ℕ → Origin
+origin_at origins i = slice_index_or origins i no_origin
+
+-- a turn of the CPU, and so many more, led to the i-th from an earlier one
+pub record IsOrigin (kept : List MachineState) (i : ℕ) (o : Origin) : Type 0 where
+  pub before : o.«from» < i
+  pub leads : LeadsFrom kept o.«from» (o.cpu ∷ replicate o.ahead o.cpu) i
+
+-- so each came about but the first
+pub record AreOrigins (kept : List MachineState) (origins : List Origin) : Type 0 where
+  pub count : length origins ≡ length kept
+  pub each : (i : ℕ) → 0 < i → i < length kept → IsOrigin kept i (origin_at origins i)

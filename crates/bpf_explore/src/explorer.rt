@@ -1,0 +1,186 @@
+//! The search: an album of machines, of each of which it is known how it came about.
+
+ghost use Rattle.std.specs.Prelude.{◌≡◌, ◌++◌, IfOk, OnOk, replicate, reverse};
+ghost use Rattle.bpf_machine.specs.Schedule.{unrolled};
+
+use crate::album::{Album, number_of};
+use crate::frontier::Frontier;
+use bpf_machine::Machine;
+use bpf_shared::StoreShape;
+use std::alloc::{AllocError, Global};
+use std::marker::Model;
+
+/// How a kept machine came about: by a CPU's turn from an earlier one, and so many of its turns
+/// behind it that no store sees.
+#[derive(Clone, Copy)]
+pub(crate) struct Origin {
+    pub from: u32,
+    pub ahead: u32,
+    pub cpu: u8,
+}
+
+/// The number of turns in 32 bits. One that is greater counts as want of memory.
+pub(crate) fn turns_of(count: u64) -> Result<u32, AllocError>
+    ensures { IfOk result (λ n. n ≡ count) }
+{
+    u32::try_from(count).map_err(|_| AllocError)
+}
+
+/// Puts turns of a CPU behind a schedule that is told backwards.
+pub(crate) fn push_turns(by: &mut Vec<(u8, u64)>, cpu: u8, turns: u64) -> Result<(), AllocError>
+    ensures { OnOk result (unrolled (reverse by.new.items)
+        ≡ replicate turns cpu ++ unrolled (reverse by.old.items)) }
+{
+    let Some((last, more)) = by.pop() else {
+        by.push((cpu, turns))?;
+        return Ok(());
+    };
+    if last == cpu
+        && let Some(sum) = more.checked_add(turns)
+    {
+        by.push((cpu, sum))?;
+        return Ok(());
+    }
+    by.push((last, more))?;
+    by.push((cpu, turns))?;
+    Ok(())
+}
+
+/// An album, and how each of its machines came about.
+#[derive(Drop)]
+pub struct Explorer {
+    alloc: Global,
+    album: Album,
+    /// Of each machine; that of the first isn't read.
+    origins: Vec<Origin>,
+}
+
+impl Model for Explorer {
+    ghost use Rattle.bpf_explore.specs.Album.{AlbumState};
+    ghost use Rattle.bpf_explore.specs.Private.Trail.{AreOrigins};
+
+    ghost Value = { AlbumState };
+
+    ghost view = { λ e. e.album };
+
+    ghost invariant = { λ e. AreOrigins e.album.kept e.origins.items };
+}
+
+impl Explorer {
+    ghost use Rattle.std.specs.Prelude.{◌≡◌, ◌<◌, true, false, IfOk, OnOk, Some, None, length, slice_get};
+    ghost use Rattle.bpf_machine.specs.Schedule.{unrolled};
+    ghost use Rattle.bpf_explore.specs.Stores.{IsOfShape};
+    ghost use Rattle.bpf_explore.specs.Album.{ShowsFirst, AreApart, AreLed, LeadsFrom, HaveEndedAt};
+
+    /// A search of which the first machine is kept.
+    pub fn new(alloc: Global, shape: StoreShape, machine: Machine) -> Result<Explorer, AllocError>
+        requires shape { IsOfShape shape machine.store }
+        requires lists { machine.lists ≡ None }
+        ensures { IfOk result (λ e. ShowsFirst e.kept machine) }
+    {
+        let album = Album::new(alloc, shape, machine)?;
+        let mut origins = Vec::new(alloc);
+        origins.push(Origin {
+            from: 0,
+            ahead: 0,
+            cpu: 0,
+        })?;
+        Ok(Explorer {
+            alloc,
+            album,
+            origins,
+        })
+    }
+
+    /// The machine to work with.
+    pub fn machine(&self) -> &Machine
+        ensures machine { result.now ≡ self.now.machine }
+        ensures lists { self.now.machine.lists ≡ None }
+    {
+        self.album.machine()
+    }
+
+    /// How many are kept.
+    pub fn len(&self) -> usize
+        ensures { result ≡ length self.now.kept }
+    {
+        self.album.len()
+    }
+
+    /// Whether each job of a kept machine has ended.
+    pub fn has_ended(&self, place: usize) -> bool
+        requires { place < length self.now.kept }
+        ensures ended { result ≡ true → HaveEndedAt self.now.kept place }
+        ensures works { result ≡ false → HaveEndedAt self.now.kept place → ⊥ }
+    {
+        self.album.has_ended(place)
+    }
+
+    /// Takes a kept machine to work with.
+    pub fn restore(&mut self, place: usize) -> Result<(), AllocError>
+        requires { place < length self.old.kept }
+        ensures ok { OnOk result (slice_get self.old.kept place ≡ Some self.new.machine) }
+        ensures same { self.new.kept ≡ self.old.kept }
+    {
+        self.album.restore(place)
+    }
+
+    /// A schedule that leads to a kept machine from the first: CPUs, each with how many turns it
+    /// makes before the next.
+    pub fn way(&self, place: usize) -> Result<Vec<(u8, u64)>, AllocError>
+        requires { place < length self.now.kept }
+        ensures { IfOk result (λ by. LeadsFrom self.now.kept 0 (unrolled by.items) place) }
+    {
+        let mut by = Vec::new(self.alloc);
+        let mut state = place;
+        while state > 0 {
+            let origin = self.origins[state];
+            push_turns(&mut by, origin.cpu, origin.ahead as u64 + 1)?;
+            state = origin.from as usize;
+        }
+        by.reverse();
+        Ok(by)
+    }
+
+    /// A schedule leads to each of them.
+    pub fn leads(&self)
+        ensures { AreLed self.now.kept }
+    {
+        let _ = &self.origins;
+    }
+
+    /// No world is shown by two of them.
+    pub fn apart(&self)
+        ensures { AreApart self.now.kept }
+    {
+        self.album.apart();
+    }
+}
+
+impl Frontier for Explorer {
+    ghost use Rattle.std.specs.Prelude.{false};
+
+    ghost kept = { λ e. e.kept };
+
+    ghost is_patient = { λ e. false };
+
+    fn count(&self) -> usize {
+        self.len()
+    }
+
+    fn cpus(&self) -> u8 {
+        self.album.cpus()
+    }
+
+    fn turn(&mut self, place: usize, cpu: u8) -> Result<(), AllocError> {
+        let from = number_of(place)?;
+        self.album.restore(place)?;
+        let made = self.album.turn_ahead(cpu);
+        let ahead = turns_of(made)?;
+        self.origins.push(Origin { from, ahead, cpu })?;
+        let kept = self.album.keep();
+        self.origins.truncate(self.album.len());
+        kept?;
+        Ok(())
+    }
+}
