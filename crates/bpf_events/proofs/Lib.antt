@@ -1,0 +1,4 @@
+pub mod Noting
+pub mod Watched
+pub mod Told
+pub mod Histories

@@ -1,0 +1,67 @@
+//! Jobs from their beginning to their history and what is printed of them.
+
+ghost use Rattle.std.specs.Prelude.{◌≡◌, ◌<◌, ◌≤◌, All, IfOk, map, string_bytes, vec_len};
+ghost use Rattle.bpf_mem.specs.Limits.{max_context};
+ghost use Rattle.bpf_cpu.specs.Task.{waiting};
+ghost use Rattle.bpf_jobs.specs.Printed.{asked_world};
+ghost use Rattle.bpf_events.specs.Private.Recording.{IsRecorderOf};
+ghost use Rattle.bpf_events.specs.Reports.{IsHistory};
+
+use crate::recorder::Recorder;
+use crate::telling::{make_rounds, make_turns};
+use bpf_cpu::Job;
+use bpf_jobs::{Report, make_asked, tell};
+use bpf_loader::Program;
+use bpf_plain::PlainStore;
+use bpf_shared::StoreShape;
+use std::alloc::{AllocError, Global};
+
+/// A recorder over a new store of this shape.
+fn make_recorder(alloc: Global, shape: &StoreShape) -> Result<Recorder, AllocError>
+    ensures { IfOk result (IsRecorderOf shape.now) }
+{
+    let mut maps = Vec::with_capacity(alloc, shape.maps().len())?;
+    maps.extend_from_slice(shape.maps())?;
+    let copy = StoreShape::new(u64::from(shape.cpus()), maps).map_err(|_| AllocError)?;
+    let store = PlainStore::new(alloc, copy).map_err(|_| AllocError)?;
+    Ok(Recorder::new(alloc, store))
+}
+
+/// Runs jobs over a new store whose maps have these names: the turns of a schedule, CPUs, each with
+/// how many it takes before the next, and then rounds until each job has ended. The text has a line
+/// for each event at the store, in their order, and behind them what `run_jobs_by` of bpf_jobs
+/// tells. Want of memory is the only refusal.
+pub fn run_with_history(
+    alloc: Global,
+    shape: StoreShape,
+    names: &[String],
+    programs: Vec<Program>,
+    jobs: Vec<Job>,
+    schedule: &[(u8, u64)],
+    keys: bool,
+    maps: bool,
+) -> Result<Report, AllocError>
+    requires cpus { All (λ job. job.cpu < shape.cpus) jobs.items }
+    requires programs { All (λ job. job.program < vec_len programs) jobs.items }
+    requires contexts { All (λ job. vec_len job.context ≤ max_context) jobs.items }
+    ensures { IfOk result (λ r. IsHistory
+        (asked_world keys shape programs.items (map waiting jobs.items)) schedule.now
+        (map string_bytes names.now) maps (string_bytes r.text) r.stopped) }
+{
+    let mut recorder = make_recorder(alloc, &shape)?;
+    let mut machine = make_asked(alloc, shape, programs, jobs, keys)?;
+    let mut text = String::new(alloc);
+    make_turns(
+        alloc,
+        &mut machine,
+        &mut recorder,
+        &mut text,
+        names,
+        schedule,
+    )?;
+    make_rounds(alloc, &mut machine, &mut recorder, &mut text, names)?;
+    let report = tell(alloc, &machine, names, maps)?;
+    text.push_str(report.text.as_str())?;
+    let stopped = report.stopped;
+    Ok(Report { text, stopped })
+}

@@ -1,0 +1,21 @@
+//! What follows from the definition of a history.
+//!
+//! The functions do nothing: their contracts are the laws.
+ghost use Rattle.bpf_events.specs.Reports.{HistoriesAreDetermined, HistoriesAreOfReports};
+
+/// Behind the lines of a history stands the report of its run.
+pub fn histories_are_of_reports()
+    ensures { HistoriesAreOfReports }
+{
+    bpf_machine::laws::happenings_are_of_runs();
+}
+
+/// What is printed is a function of the store's shape, the maps' names, the programs, the jobs and
+/// the schedule.
+pub fn histories_are_determined()
+    ensures { HistoriesAreDetermined }
+{
+    bpf_machine::laws::happenings_are_determined();
+    bpf_jobs::laws::reports_by_are_determined();
+    bpf_machine::laws::happenings_are_of_runs();
+}

@@ -1,0 +1,224 @@
+//! Turns that are made and told of.
+
+ghost use Rattle.std.specs.Prelude.{◌≡◌, ◌++◌, ℕ, false, IfOk, OnOk, Some, map, replicate, string_bytes};
+ghost use Rattle.bpf_plain.specs.Alike.{IsSameShape};
+ghost use Rattle.bpf_machine.specs.Happenings.{end_events, happening};
+ghost use Rattle.bpf_machine.specs.Machine.{Shows};
+ghost use Rattle.bpf_machine.specs.Rounds.{below, HaveEnded};
+ghost use Rattle.bpf_machine.specs.Schedule.{World, unrolled};
+ghost use Rattle.bpf_events.specs.Lines.{history_lines};
+ghost use Rattle.bpf_events.specs.Private.Recording.{event_of};
+ghost use Rattle.bpf_events.specs.Private.Told.{ARound, AreTold, OneTurn, SomeRounds, Turns};
+ghost use Rattle.bpf_events.specs.Private.Watching.{noted};
+
+use crate::lines::push_note;
+use crate::note::Note;
+use crate::recorder::Recorder;
+use crate::watching::watch;
+use bpf_machine::{Machine, Turn};
+use std::alloc::{AllocError, Global};
+
+/// Puts the lines of a CPU's calls behind the text, which were noted of a job at a pc.
+fn push_notes(
+    alloc: Global,
+    text: &mut String,
+    names: &[String],
+    cpu: u8,
+    job: usize,
+    pc: u32,
+    notes: &[Note],
+) -> Result<(), AllocError>
+    ensures { OnOk result (string_bytes text.new ≡ string_bytes text.old
+        ++ history_lines (map string_bytes names.now)
+        (map (happening cpu job pc) (map event_of notes.now))) }
+{
+    for note in notes {
+        push_note(alloc, text, names, cpu, job, pc, note)?;
+    }
+    Ok(())
+}
+
+/// Puts the line of a run's end behind the text, where a turn comes to that.
+fn push_end(
+    alloc: Global,
+    text: &mut String,
+    names: &[String],
+    cpu: u8,
+    job: usize,
+    pc: u32,
+    answer: Turn,
+) -> Result<(), AllocError>
+    ensures { OnOk result (string_bytes text.new ≡ string_bytes text.old
+        ++ history_lines (map string_bytes names.now)
+        (map (happening cpu job pc) (end_events answer))) }
+{
+    match answer {
+        Turn::Ended(_, _) => {
+            push_note(alloc, text, names, cpu, job, pc, &Note::End)?;
+            Ok(())
+        }
+        Turn::Ran | Turn::Idle => Ok(()),
+    }
+}
+
+/// Puts the lines of a turn that comes to this behind the text, of which these calls were noted.
+fn push_worked(
+    alloc: Global,
+    text: &mut String,
+    names: &[String],
+    cpu: u8,
+    job: usize,
+    pc: u32,
+    notes: &[Note],
+    answer: Turn,
+) -> Result<(), AllocError>
+    ensures { OnOk result (string_bytes text.new ≡ string_bytes text.old
+        ++ history_lines (map string_bytes names.now)
+        (noted cpu (Some (job, pc)) (map event_of notes.now) answer)) }
+{
+    push_notes(alloc, text, names, cpu, job, pc, notes)?;
+    push_end(alloc, text, names, cpu, job, pc, answer)?;
+    Ok(())
+}
+
+/// The same where a CPU may have no work.
+fn push_turn(
+    alloc: Global,
+    text: &mut String,
+    names: &[String],
+    cpu: u8,
+    at: Option<(usize, u32)>,
+    notes: &[Note],
+    answer: Turn,
+) -> Result<(), AllocError>
+    ensures { OnOk result (string_bytes text.new ≡ string_bytes text.old
+        ++ history_lines (map string_bytes names.now)
+        (noted cpu at (map event_of notes.now) answer)) }
+{
+    match at {
+        Some((job, pc)) => push_worked(alloc, text, names, cpu, job, pc, notes, answer),
+        None => Ok(()),
+    }
+}
+
+/// Makes one turn of a CPU, and tells what happens in it.
+fn make_turn(
+    alloc: Global,
+    machine: &mut Machine,
+    recorder: &mut Recorder,
+    text: &mut String,
+    names: &[String],
+    cpu: u8,
+) -> Result<Turn, AllocError>
+    requires { IsSameShape machine.old.store recorder.old.store }
+    ensures told { IfOk result (λ answer. AreTold (OneTurn cpu answer) (map string_bytes names.now)
+        machine.old (string_bytes text.old) machine.new (string_bytes text.new)) }
+    ensures idle { IfOk result (λ answer. answer ≡ Turn.Idle → machine.new ≡ machine.old) }
+    ensures shape { OnOk result (IsSameShape machine.new.store recorder.new.store) }
+{
+    let at = watch(alloc, machine, recorder, cpu)?;
+    let answer = machine.turn(cpu);
+    push_turn(alloc, text, names, cpu, at, recorder.notes(), answer)?;
+    Ok(answer)
+}
+
+/// So many turns of a CPU. Those behind an idle one are idle too, and aren't made.
+fn make_run(
+    alloc: Global,
+    machine: &mut Machine,
+    recorder: &mut Recorder,
+    text: &mut String,
+    names: &[String],
+    cpu: u8,
+    turns: u64,
+) -> Result<(), AllocError>
+    requires { IsSameShape machine.old.store recorder.old.store }
+    ensures told { OnOk result (AreTold (Turns (replicate turns cpu)) (map string_bytes names.now)
+        machine.old (string_bytes text.old) machine.new (string_bytes text.new)) }
+    ensures shape { OnOk result (IsSameShape machine.new.store recorder.new.store) }
+{
+    for _ in 0..turns {
+        if let Turn::Idle = make_turn(alloc, machine, recorder, text, names, cpu)? {
+            break;
+        }
+    }
+    Ok(())
+}
+
+/// The turns of a schedule: CPUs, each with how many turns it takes before the next.
+pub(crate) fn make_turns(
+    alloc: Global,
+    machine: &mut Machine,
+    recorder: &mut Recorder,
+    text: &mut String,
+    names: &[String],
+    schedule: &[(u8, u64)],
+) -> Result<(), AllocError>
+    requires { IsSameShape machine.old.store recorder.old.store }
+    ensures told { OnOk result (AreTold (Turns (unrolled schedule.now)) (map string_bytes names.now)
+        machine.old (string_bytes text.old) machine.new (string_bytes text.new)) }
+    ensures shape { OnOk result (IsSameShape machine.new.store recorder.new.store) }
+{
+    for (cpu, turns) in schedule {
+        make_run(alloc, machine, recorder, text, names, *cpu, *turns)?;
+    }
+    Ok(())
+}
+
+/// Whether some turn had work, with one more that came to this.
+fn has_worked(worked: bool, answer: Turn) -> bool
+    ensures { result ≡ false → (worked ≡ false) × (answer ≡ Turn.Idle) }
+{
+    match answer {
+        Turn::Idle => worked,
+        Turn::Ran | Turn::Ended(_, _) => true,
+    }
+}
+
+/// One round: each CPU with work makes one turn, in rising order. Whether any had work.
+fn make_round(
+    alloc: Global,
+    machine: &mut Machine,
+    recorder: &mut Recorder,
+    text: &mut String,
+    names: &[String],
+) -> Result<bool, AllocError>
+    requires { IsSameShape machine.old.store recorder.old.store }
+    ensures told { OnOk result (AreTold ARound (map string_bytes names.now)
+        machine.old (string_bytes text.old) machine.new (string_bytes text.new)) }
+    ensures ended { IfOk result (λ worked. worked ≡ false → ((w : World) × Shows machine.old w)
+        → HaveEnded machine.new.jobs) }
+    ensures shape { OnOk result (IsSameShape machine.new.store recorder.new.store) }
+{
+    machine.stands();
+    let mut worked = false;
+    for cpu in 0..machine.cpus() {
+        let answer = make_turn(alloc, machine, recorder, text, names, cpu)?;
+        worked = has_worked(worked, answer);
+    }
+    Ok(worked)
+}
+
+/// Rounds until no CPU has work.
+pub(crate) fn make_rounds(
+    alloc: Global,
+    machine: &mut Machine,
+    recorder: &mut Recorder,
+    text: &mut String,
+    names: &[String],
+) -> Result<(), AllocError>
+    requires shape { IsSameShape machine.old.store recorder.old.store }
+    requires shows { (w : World) × Shows machine.old w }
+    ensures told { OnOk result (AreTold SomeRounds (map string_bytes names.now)
+        machine.old (string_bytes text.old) machine.new (string_bytes text.new)) }
+    ensures ended { OnOk result (HaveEnded machine.new.jobs) }
+{
+    for _ in 0..u64::MAX {
+        let worked = make_round(alloc, machine, recorder, text, names)?;
+        if !worked {
+            return Ok(());
+        }
+    }
+    // Each round makes a step, and no jobs have budgets for so many.
+    Err(AllocError)
+}
