@@ -1,0 +1,2 @@
+mod TestLines
+mod Verdicts

@@ -1,0 +1,4 @@
+pub mod Expectation
+pub mod Verdict
+pub mod Laws
+pub mod Listing

@@ -1,0 +1,14 @@
+//! What a run file expects of its outcomes, and whether they are so.
+#![tactic(auto)]
+
+mod checking;
+mod expectation;
+mod judging;
+pub mod laws;
+mod lines;
+mod listing;
+
+pub use checking::{Checked, check_explored};
+pub use expectation::{Expectation, Often, expectations};
+pub use judging::{Conclusion, Verdict, conclusion_of, judge};
+pub use listing::list_checked;
