@@ -16,6 +16,8 @@ use Rattle.bpf_machine.specs.Machine.{MachineState, Shows}
 use Rattle.bpf_machine.specs.Questions.{turns_left, open_jobs, Falls, TurnsFall}
 use Rattle.bpf_debug.specs.declared.breakpoint.Breakpoint.{Breakpoint}
 use Rattle.bpf_debug.specs.Answer.{ended_text, stop_line}
+use Rattle.bpf_debug.specs.Course.{KeepsOn}
+use Rattle.bpf_debug.proofs.CourseLaws.{keeps_none, keeps_more}
 use Rattle.bpf_debug.specs.Go.{HasWork, AreIdle, IsUp, StandsAt, has_break, has_gone, Goes, Done, Stops, Turns}
 
 -- ---- a CPU with work makes a turn
@@ -53,19 +55,18 @@ same_count a b same = elim (cases_order a b) [
 pub count_is : (m : MachineState) (n : ℕ) → ((c : ℕ) → has_cpu m.store c ≡ nat_lt c n) → n ≡ length m.store.runs
 count_is m n same = sym (same_count (length m.store.runs) n same)
 
-pub up_here : (jobs : List Task) (cpus n «from» c : ℕ) → n ≡ cpus → («from» ≤ c) × (c < n) × HasWork jobs c × AreIdle jobs «from» c → IsUp jobs cpus «from» c
-up_here jobs cpus n «from» c e found = record { within = omega (arith, found.1); works = found.2; first = inl (found.0, found.3) }
+pub up_here : (jobs : List Task) (low high «from» c : ℕ) → low ≤ «from» → («from» ≤ c) × (c < high) × HasWork jobs c × AreIdle jobs «from» c → IsUp jobs low high «from» c
+up_here jobs low high «from» c below found = record { above = omega (arith, found.0); within = found.1; works = found.2; first = inl (found.0, found.3) }
 
-pub up_again : (jobs : List Task) (cpus n m «from» c : ℕ) → n ≡ cpus → m ≤ n → m ≤ «from» → AreIdle jobs «from» n
-    → (0 ≤ c) × (c < m) × HasWork jobs c × AreIdle jobs 0 c → IsUp jobs cpus «from» c
-up_again jobs cpus n m «from» c e small low none found =
-    let I : ℕ → Type 0 = λ k. AreIdle jobs «from» k in
-    record { within = omega (arith, found.1); works = found.2; first = inr (omega (arith, found.1), subst I e none, found.3) }
+pub up_again : (jobs : List Task) (low high least «from» c : ℕ) → least ≤ high → least ≤ «from» → AreIdle jobs «from» high
+    → (low ≤ c) × (c < least) × HasWork jobs c × AreIdle jobs low c → IsUp jobs low high «from» c
+up_again jobs low high least «from» c small few none found =
+    record { above = found.0; within = omega (arith, found.1); works = found.2; first = inr (omega (arith, found.1), none, found.3) }
 
-pub all_idle : (jobs : List Task) (cpus n m «from» : ℕ) → n ≡ cpus → (m ≡ «from») ⊎ (m ≡ n) → AreIdle jobs «from» n → AreIdle jobs 0 m → AreIdle jobs 0 cpus
-all_idle jobs cpus n m «from» e least high low d above below = elim (cases_lt d m) [
-  | inl less ↦ low d above less
-  | inr past ↦ elim least [ inl is ↦ high d (omega arith) (omega arith) | inr is ↦ absurd (omega arith) ]
+pub all_idle : (jobs : List Task) (low high least «from» : ℕ) → (least ≡ «from») ⊎ (least ≡ high) → AreIdle jobs «from» high → AreIdle jobs low least → AreIdle jobs low high
+all_idle jobs low high least «from» is beyond before d above below = elim (cases_lt d least) [
+  | inl less ↦ before d above less
+  | inr past ↦ elim is [ inl same ↦ beyond d (omega arith) below | inr same ↦ absurd (omega arith) ]
 ]
 
 pub some_weaker : (P Q : ℕ → Type 0) (o : Option ℕ) → ((n : ℕ) → P n → Q n) → IfSome o P → IfSome o Q
@@ -82,29 +83,36 @@ none_is A (Some n) h never = absurd (never n refl)
 
 -- ---- how far it has come
 
-pub record Reached (breaks : List Breakpoint) (w : World) (before : List ℕ) (new : MachineState)
-    («from» : ℕ) (marks : List Bool) (after : List ℕ) : Type 0 where
-  pub here : World
-  pub turns : List ℕ
-  pub text : List ℕ
-  pub gone : List ℕ
-  pub shows : Shows new here
-  pub put : after ≡ before ++ text
-  pub marked : (c : ℕ) → c < 256 → get_or marks c false ≡ has_gone gone c
-  pub onward : (rest more : List ℕ) (z : World) → Goes breaks here «from» gone rest more z
-      → Goes breaks w 0 [] (turns ++ rest) (text ++ more) z
+-- what is kept of the turns
+abbrev pub Notes : Type 0
+Notes = Option (List (ℕ × ℕ))
 
-abbrev pub Comes : List Breakpoint → MachineState → List ℕ → MachineState → ℕ → List Bool → List ℕ → Type 0
-Comes breaks old before new «from» marks after =
-    (w : World) → Shows old w → Reached breaks w before new «from» marks after
+pub record Reached (breaks : List Breakpoint) (low high : ℕ) (noted : Notes) (w : World) (before : List ℕ)
+    (new : MachineState) («from» : ℕ) (marks : List Bool) (notes : Notes) (after : List ℕ) : Type 0
+  where
+    pub here : World
+    pub turns : List ℕ
+    pub text : List ℕ
+    pub gone : List ℕ
+    pub shows : Shows new here
+    pub keeps : KeepsOn noted turns notes
+    pub put : after ≡ before ++ text
+    pub marked : (c : ℕ) → c < 256 → get_or marks c false ≡ has_gone gone c
+    pub onward : (rest more : List ℕ) (z : World) → Goes breaks low high here «from» gone rest more z
+        → Goes breaks low high w low [] (turns ++ rest) (text ++ more) z
 
-pub starts : (breaks : List Breakpoint) (old : MachineState) (before : List ℕ) → Comes breaks old before old 0 (replicate 256 false) before
-starts breaks old before w shows = record {
+abbrev pub Comes : List Breakpoint → ℕ → ℕ → Notes → MachineState → List ℕ → MachineState → ℕ → List Bool → Notes → List ℕ → Type 0
+Comes breaks low high noted old before new «from» marks notes after =
+    (w : World) → Shows old w → Reached breaks low high noted w before new «from» marks notes after
+
+pub starts : (breaks : List Breakpoint) (low high : ℕ) (noted : Notes) (old : MachineState) (before : List ℕ) → Comes breaks low high noted old before old low (replicate 256 false) noted before
+starts breaks low high noted old before w shows = record {
   here = w;
   turns = [];
   text = [];
   gone = [];
   shows = shows;
+  keeps = keeps_none noted;
   put = sym (append-nil before);
   marked = λ c small. get_or-replicate 256 c false false small;
   onward = λ rest more z goes. goes;
@@ -126,35 +134,33 @@ marked_more marks gone c inside was d small = elim (equal_or_not d c) [
       get_or-set_other marks c d true false ne ∙ was d small ∙ sym others
 ]
 
-module _ (breaks : List Breakpoint) (old new : MachineState) (before : List ℕ) («from» : ℕ) (marks : List Bool) (after : List ℕ) (comes : Comes breaks old before new «from» marks after) where
-  cpus : (w : World) → Shows new w → length new.store.runs ≡ w.store.shape.cpus
-  cpus w shows = sym shows.store.cpus
-
+module _ (breaks : List Breakpoint) (low high : ℕ) (noted : Notes) (old new : MachineState) (before : List ℕ) («from» : ℕ) (marks : List Bool) (notes : Notes) (after : List ℕ) (comes : Comes breaks low high noted old before new «from» marks notes after) where
   -- the CPU that is up makes its turn
-  pub turned : (next : MachineState) (c : ℕ) (answer : Turn) → c < 256 → c < length marks
-      → IsUp new.jobs (length new.store.runs) «from» c
+  pub turned : (next : MachineState) (c : ℕ) (answer : Turn) (more : Notes) → c < 256 → c < length marks
+      → IsUp new.jobs low high «from» c
       → ((get_or marks c false ≡ false) ⊎ ((p : ℕ) × StandsAt new.jobs c p × (has_break breaks c p ≡ false)))
       → ((w : World) → Shows new w → (z : World) × TakesTurn w c answer z × Shows next z)
-      → Comes breaks old before next (c + 1) (slice_set marks c true) (after ++ ended_text c answer)
-  turned next c answer small inside up may turns w shows =
+      → KeepsOn notes (c ∷ []) more
+      → Comes breaks low high noted old before next (c + 1) (slice_set marks c true) more (after ++ ended_text c answer)
+  turned next c answer more small inside up may turns keeps w shows =
       let r = comes w shows in
       let t = turns r.here r.shows in
-      let J : List Task → Type 0 = λ jobs. IsUp jobs r.here.store.shape.cpus «from» c in
-      let N : ℕ → Type 0 = λ n. IsUp new.jobs n «from» c in
-      let is_up = subst J (sym r.shows.jobs) (subst N (cpus r.here r.shows) up) in
+      let J : List Task → Type 0 = λ jobs. IsUp jobs low high «from» c in
+      let is_up = subst J (sym r.shows.jobs) up in
       record {
         here = t.0;
         turns = r.turns ++ c ∷ [];
         text = r.text ++ ended_text c answer;
         gone = c ∷ r.gone;
         shows = t.2;
+        keeps = keeps_more noted notes more r.turns (c ∷ []) r.keeps keeps;
         put = ap (λ (s : List ℕ). s ++ ended_text c answer) r.put ∙ append_assoc before r.text (ended_text c answer);
         marked = marked_more marks r.gone c inside r.marked;
         onward = λ rest more z goes. (
             let one = Turns is_up (free r.gone r.here r.shows r.marked) t.1 goes in
             let all = r.onward (c ∷ rest) (ended_text c answer ++ more) z one in
-            let P : List ℕ → Type 0 = λ xs. Goes breaks w 0 [] xs (r.text ++ (ended_text c answer ++ more)) z in
-            let Q : List ℕ → Type 0 = λ xs. Goes breaks w 0 [] ((r.turns ++ c ∷ []) ++ rest) xs z in
+            let P : List ℕ → Type 0 = λ xs. Goes breaks low high w low [] xs (r.text ++ (ended_text c answer ++ more)) z in
+            let Q : List ℕ → Type 0 = λ xs. Goes breaks low high w low [] ((r.turns ++ c ∷ []) ++ rest) xs z in
             subst Q (sym (append_assoc r.text (ended_text c answer) more)) (subst P (sym (append_assoc r.turns (c ∷ []) rest)) all));
       }
     where
@@ -167,44 +173,44 @@ module _ (breaks : List Breakpoint) (old new : MachineState) (before : List ℕ)
 
   abbrev pub Ends : List ℕ → Type 0
   Ends last =
-      (w : World) → Shows old w → (z : World) × (turns : List ℕ) × (text : List ℕ) × Goes breaks w 0 [] turns text z × Shows new z × (last ≡ before ++ text)
+      (w : World) → Shows old w → (z : World) × (turns : List ℕ) × (text : List ℕ) × Goes breaks low high w low [] turns text z × Shows new z × KeepsOn noted turns notes × (last ≡ before ++ text)
 
-  pub ended : AreIdle new.jobs 0 (length new.store.runs) → Ends (after ++ codes "done\n")
+  pub ended : AreIdle new.jobs low high → Ends (after ++ codes "done\n")
   ended idle w shows =
       let r = comes w shows in
-      let J : List Task → Type 0 = λ jobs. AreIdle jobs 0 r.here.store.shape.cpus in
-      let N : ℕ → Type 0 = λ n. AreIdle new.jobs 0 n in
-      let still = subst J (sym r.shows.jobs) (subst N (cpus r.here r.shows) idle) in (
+      let J : List Task → Type 0 = λ jobs. AreIdle jobs low high in
+      let still = subst J (sym r.shows.jobs) idle in (
         r.here,
         r.turns ++ [],
         r.text ++ codes "done\n",
         r.onward [] (codes "done\n") r.here (Done still),
         r.shows,
+        subst (λ (cs : List ℕ). KeepsOn noted cs notes) (sym (append-nil r.turns)) r.keeps,
         ap (λ (s : List ℕ). s ++ codes "done\n") r.put ∙ append_assoc before r.text (codes "done\n"),
       )
 
-  pub stopped : (c p : ℕ) → c < 256 → IsUp new.jobs (length new.store.runs) «from» c → get_or marks c false ≡ true
+  pub stopped : (c p : ℕ) → c < 256 → IsUp new.jobs low high «from» c → get_or marks c false ≡ true
       → StandsAt new.jobs c p → has_break breaks c p ≡ true → Ends (after ++ stop_line c p)
   stopped c p small up went stands break w shows =
       let r = comes w shows in
-      let J : List Task → Type 0 = λ jobs. IsUp jobs r.here.store.shape.cpus «from» c in
-      let N : ℕ → Type 0 = λ n. IsUp new.jobs n «from» c in
+      let J : List Task → Type 0 = λ jobs. IsUp jobs low high «from» c in
       let S : List Task → Type 0 = λ jobs. StandsAt jobs c p in
-      let is_up = subst J (sym r.shows.jobs) (subst N (cpus r.here r.shows) up) in (
+      let is_up = subst J (sym r.shows.jobs) up in (
         r.here,
         r.turns ++ [],
         r.text ++ stop_line c p,
         r.onward [] (stop_line c p) r.here (Stops is_up (sym (r.marked c small) ∙ went) (subst S (sym r.shows.jobs) stands) break),
         r.shows,
+        subst (λ (cs : List ℕ). KeepsOn noted cs notes) (sym (append-nil r.turns)) r.keeps,
         ap (λ (s : List ℕ). s ++ stop_line c p) r.put ∙ append_assoc before r.text (stop_line c p),
       )
 
 -- ---- the measure, and the room
-pub falls : TurnsFall → (breaks : List Breakpoint) (old new next : MachineState) (before after : List ℕ) («from» : ℕ) (marks : List Bool) (c : ℕ) (answer : Turn)
-    → (w : World) → Shows old w → Comes breaks old before new «from» marks after
+pub falls : TurnsFall → (breaks : List Breakpoint) (low high : ℕ) (noted notes : Notes) (old new next : MachineState) (before after : List ℕ) («from» : ℕ) (marks : List Bool) (c : ℕ) (answer : Turn)
+    → (w : World) → Shows old w → Comes breaks low high noted old before new «from» marks notes after
     → ((w : World) → Shows new w → (z : World) × TakesTurn w c answer z × Shows next z)
     → Falls answer new.jobs next.jobs
-falls law breaks old new next before after «from» marks c answer w shows comes turns =
+falls law breaks low high noted notes old new next before after «from» marks c answer w shows comes turns =
     let r = comes w shows in
     let t = turns r.here r.shows in
     let f = (law r.here t.0 c answer t.1).0 in
@@ -212,11 +218,11 @@ falls law breaks old new next before after «from» marks c answer w shows comes
     let Q : List Task → Type 0 = λ jobs. Falls answer new.jobs jobs in
     subst Q t.2.jobs (subst P r.shows.jobs f)
 
-pub not_idle : (breaks : List Breakpoint) (old new next : MachineState) (before after : List ℕ) («from» : ℕ) (marks : List Bool) (c : ℕ) (answer : Turn)
-    → (w : World) → Shows old w → Comes breaks old before new «from» marks after → HasWork new.jobs c
+pub not_idle : (breaks : List Breakpoint) (low high : ℕ) (noted notes : Notes) (old new next : MachineState) (before after : List ℕ) («from» : ℕ) (marks : List Bool) (c : ℕ) (answer : Turn)
+    → (w : World) → Shows old w → Comes breaks low high noted old before new «from» marks notes after → HasWork new.jobs c
     → ((w : World) → Shows new w → (z : World) × TakesTurn w c answer z × Shows next z)
     → answer ≡ turn.Idle → ⊥
-not_idle breaks old new next before after «from» marks c answer w shows comes has turns idle =
+not_idle breaks low high noted notes old new next before after «from» marks c answer w shows comes has turns idle =
     let r = comes w shows in
     let t = turns r.here r.shows in
     let P : List Task → Type 0 = λ jobs. HasWork jobs c in
@@ -244,7 +250,7 @@ room_left (turn.Ended j end) old new size more room wide f works fits grows most
 room_left turn.Idle old new size more room wide f works fits grows most none = absurd (works refl)
 
 -- ---- the turns of a `go` are a schedule
-pub goes_runs : (breaks : List Breakpoint) (w : World) («from» : ℕ) (gone turns text : List ℕ) (z : World) → Goes breaks w «from» gone turns text z → RunsSchedule w turns z
-goes_runs breaks w «from» gone turns text z (Done idle) = refl
-goes_runs breaks w «from» gone turns text z (Stops up went stands break) = refl
-goes_runs breaks w «from» gone turns text z (Turns {answer = answer} {m = m} up may takes goes) = (answer, m, takes, goes_runs breaks m _ _ _ _ z goes)
+pub goes_runs : (breaks : List Breakpoint) (low high : ℕ) (w : World) («from» : ℕ) (gone turns text : List ℕ) (z : World) → Goes breaks low high w «from» gone turns text z → RunsSchedule w turns z
+goes_runs breaks low high w «from» gone turns text z (Done idle) = refl
+goes_runs breaks low high w «from» gone turns text z (Stops up went stands break) = refl
+goes_runs breaks low high w «from» gone turns text z (Turns {answer = answer} {m = m} up may takes goes) = (answer, m, takes, goes_runs breaks low high m _ _ _ _ z goes)

@@ -1,10 +1,12 @@
 pub mod CommandLaws
+pub mod CourseLaws
 pub mod GoLaws
 pub mod ManyTurns
 pub mod Weaker
 pub mod SessionLaws
 pub mod ReadLaws
 pub mod ScheduleLaws
+pub mod ToldLaws
 pub mod ScriptLaws
 pub mod OneText
 pub mod OneScript

@@ -1,7 +1,6 @@
 -- Turns of one CPU, one after the other, and those of a schedule: how far they have come.
-use Rattle.std.proofs.Common.{◌≡◌, ℕ, zero, suc, ◌+◌, ◌*◌, ◌≤◌, List, [], ◌∷◌, ◌++◌, refl, sym, ap, subst, ◌∙◌, arith, append_assoc, replicate, drop, get_or, length, ◌<◌}
-use Rattle.std.proofs.Math.Seq.{drop-cons}
-use Rattle.std.proofs.lemmas.List.{append-nil, drop_all, replicate-append-replicate}
+use Rattle.std.proofs.Common.{◌≡◌, ℕ, zero, suc, ◌+◌, ◌*◌, ◌≤◌, List, [], ◌∷◌, ◌++◌, refl, sym, ap, subst, ◌∙◌, arith, append_assoc, replicate}
+use Rattle.std.proofs.lemmas.List.{append-nil, replicate-append-replicate}
 use Rattle.bpf_cpu.specs.declared.outcome.Outcome.{Outcome}
 use Rattle.bpf_cpu.specs.Task.{Task}
 use Rattle.bpf_machine.specs.declared.machine.Turn.{Turn}
@@ -104,14 +103,6 @@ one_run old new next runs rest left run start after last far is made w shows =
           let R : List (ℕ × ℕ) → Type 0 = λ rs. MakesRuns f.0 rs (t.1 ++ more) z in
           subst (λ (s : List ℕ). MakesRuns w runs s z) (sym (append_assoc f.1 t.1 more)) (f.4 (t.1 ++ more) z (subst R (sym is) all)),
     )
-
-pub run_next : (runs : List (ℕ × ℕ)) (at : ℕ) → at < length runs → drop at runs ≡ get_or runs at (0, 0) ∷ drop (at + 1) runs
-run_next runs at inside =
-    let next : suc at ≡ at + 1 = omega arith in
-    drop-cons runs at (0, 0) inside ∙ ap (λ (i : ℕ). get_or runs at (0, 0) ∷ drop i runs) next
-
-pub none_left : (runs : List (ℕ × ℕ)) (at : ℕ) → length runs ≤ at → drop at runs ≡ []
-none_left runs at past = drop_all at runs past
 
 pub runs_made : (old new : MachineState) (runs rest : List (ℕ × ℕ)) (start after : List ℕ) → RunsFar old runs start new rest after → rest ≡ []
     → (w : World) → Shows old w → (z : World) × (text : List ℕ) × MakesRuns w runs text z × Shows new z × (after ≡ start ++ text)

@@ -1,5 +1,5 @@
 -- Over a machine whose jobs all wait, a script has one list of answers.
-use Rattle.std.proofs.Common.{◌≡◌, ◌≢◌, ℕ, zero, suc, ◌+◌, ◌<◌, ◌≤◌, true, false, List, [], ◌∷◌, ◌++◌, Some, None, ◌⊎◌, inl, inr, refl, sym, ap, subst, ◌∙◌, arith}
+use Rattle.std.proofs.Common.{◌≡◌, ◌≢◌, ℕ, zero, suc, ◌+◌, ◌<◌, ◌≤◌, true, false, List, [], ◌∷◌, ◌++◌, Some, None, ◌⊎◌, inl, inr, refl, sym, ap, subst, ◌∙◌, arith, replicate}
 use Rattle.std.specs.Prelude.{nat_lt, Ok, Err}
 use Rattle.std.proofs.lemmas.Bool.{cases_order, lt-ltb}
 use Rattle.bpf_shared.specs.Laws.{CallsHaveOneReply}
@@ -9,17 +9,17 @@ use Rattle.bpf_loader.specs.Laws.{OneInstructionBegins}
 use Rattle.bpf_loader.specs.Loaded.{Loaded}
 use Rattle.bpf_machine.specs.declared.machine.Turn.{Turn}
 use Rattle.bpf_cpu.specs.Task.{Task}
-use Rattle.bpf_machine.specs.Schedule.{World, TakesTurn}
+use Rattle.bpf_machine.specs.Schedule.{World, TakesTurn, unrolled}
 use Rattle.bpf_machine.proofs.DeterminedTurns.{IsWorld, one_turn, fresh_world}
 use Rattle.bpf_debug.specs.declared.breakpoint.Breakpoint.{Breakpoint}
 use Rattle.bpf_debug.specs.declared.error.DebugError.{DebugError}
 use Rattle.bpf_debug.specs.declared.error.DebugError.TheVariants as error
 use Rattle.bpf_debug.specs.Answer.{IsWhere, ended_text, stop_line}
-use Rattle.bpf_debug.specs.Command.{Order, Break, Delete, Step, StepTimes, Steps, Go, Registers, Where, Memory, Map, Keys, order_of}
+use Rattle.bpf_debug.specs.Command.{Order, Break, Delete, Step, StepTimes, Steps, Go, Registers, Where, Memory, Map, Keys, Schedule, GoTo, Maps, Jobs, Mark, order_of}
 use Rattle.bpf_debug.specs.Turns.{MakesTurns, MakesRuns, last_cpu}
 use Rattle.bpf_debug.specs.Go.{HasWork, AreIdle, IsUp, StandsAt, Goes, Done, Stops, Turns, has_break, has_gone}
 use Rattle.bpf_debug.specs.Read.{IsMapText, IsKeysText}
-use Rattle.bpf_debug.specs.Session.{Scene, CarriesOut, Obeys, RefusesOrder, RefusesFields, IsLineRefused}
+use Rattle.bpf_debug.specs.Session.{Scene, Answers, CarriesOut, Obeys, behind, RefusesOrder, RefusesFields, IsLineRefused}
 use Rattle.bpf_debug.specs.Script.{Answer, AnswersLine, RunsScript}
 use Rattle.bpf_debug.specs.Laws.{HadMemory, ScriptsAreDetermined}
 use Rattle.bpf_debug.proofs.GoLaws.{free_has_no_work}
@@ -29,21 +29,21 @@ use Rattle.bpf_debug.proofs.OneText.{one_place, one_where, one_registers, one_me
 idle_not_up : (jobs : List Task) (a b c : ℕ) → AreIdle jobs a b → HasWork jobs c → a ≤ c → c < b → ⊥
 idle_not_up jobs a b c idle works above below = let i = idle c above below in free_has_no_work jobs c works i.0 i.1
 
-one_up : (jobs : List Task) (cpus «from» c d : ℕ) → IsUp jobs cpus «from» c → IsUp jobs cpus «from» d → c ≡ d
-one_up jobs cpus «from» c d a b = elim (cases_order c d) [
+one_up : (jobs : List Task) (low high «from» c d : ℕ) → IsUp jobs low high «from» c → IsUp jobs low high «from» d → c ≡ d
+one_up jobs low high «from» c d a b = elim (cases_order c d) [
   | inl e ↦ e
   | inr rest ↦ elim rest [ inl below ↦ absurd (later c d a b below) | inr above ↦ absurd (later d c b a above) ]
 ]
   where
-    later : (c d : ℕ) → IsUp jobs cpus «from» c → IsUp jobs cpus «from» d → c < d → ⊥
+    later : (c d : ℕ) → IsUp jobs low high «from» c → IsUp jobs low high «from» d → c < d → ⊥
     later c d a b less = elim (a.first) [
       | inl x ↦ elim (b.first) [
         | inl y ↦ idle_not_up jobs «from» d c y.1 a.works x.0 less
         | inr y ↦ absurd (omega (arith, x.0, y.0))
       ]
       | inr x ↦ elim (b.first) [
-        | inl y ↦ idle_not_up jobs «from» cpus d x.1 b.works y.0 b.within
-        | inr y ↦ idle_not_up jobs 0 d c y.2 a.works (omega arith) less
+        | inl y ↦ idle_not_up jobs «from» high d x.1 b.works y.0 b.within
+        | inr y ↦ idle_not_up jobs low d c y.2 a.works a.above less
       ]
     ]
 
@@ -52,78 +52,97 @@ one_up jobs cpus «from» c d a b = elim (cases_order c d) [
 no_cpu : (c cpus : ℕ) → c < cpus → nat_lt c cpus ≡ false → ⊥
 no_cpu c cpus less out = let both : true ≡ false = sym (lt-ltb c cpus less) ∙ out in cc
 
-cpu_refused : (x y : Scene) (order : Order) (text turns : List ℕ) → CarriesOut x order text turns y → RefusesOrder x.world.store.shape.cpus x.world.programs x.names order error.NoCpu → ⊥
-cpu_refused x y (Break (Some c) (Some p)) text turns f r = no_cpu c x.world.store.shape.cpus f.0 r
-cpu_refused x y (Break (Some c) None) text turns f r = absurd f
-cpu_refused x y (Break None p) text turns f r = absurd f
-cpu_refused x y (Step (Some c)) text turns f r = no_cpu c x.world.store.shape.cpus f.0 r
-cpu_refused x y (Step None) text turns f r = absurd f
-cpu_refused x y (StepTimes (Some c) n) text turns f r = no_cpu c x.world.store.shape.cpus f.0 r
-cpu_refused x y (StepTimes None n) text turns f r = absurd f
-cpu_refused x y (Steps runs) text turns f r = let both : true ≡ false = sym f.0 ∙ r in cc
-cpu_refused x y Go text turns f r = r
-cpu_refused x y (Registers (Some c)) text turns f r = no_cpu c x.world.store.shape.cpus f.0 r
-cpu_refused x y (Registers None) text turns f r = absurd f
-cpu_refused x y (Where (Some c)) text turns f r = no_cpu c x.world.store.shape.cpus f.0 r
-cpu_refused x y (Where None) text turns f r = absurd f
-cpu_refused x y (Memory (Some c) at n) text turns f r = no_cpu c x.world.store.shape.cpus f.0 r
-cpu_refused x y (Memory None at n) text turns f r = absurd f
-cpu_refused x y (Map name) text turns f r = r
-cpu_refused x y (Keys name) text turns f r = r
-cpu_refused x y (Delete (Some c) (Some p)) text turns f r = no_cpu c x.world.store.shape.cpus f.0 r
-cpu_refused x y (Delete (Some c) None) text turns f r = absurd f
-cpu_refused x y (Delete None p) text turns f r = absurd f
+cpu_refused : (x y : Scene) (order : Order) (text : List ℕ) → CarriesOut x order text y → RefusesOrder x.world.store.shape.cpus x.world.programs x.names order error.NoCpu → ⊥
+cpu_refused x y (Break (Some c) (Some p)) text f r = no_cpu c x.world.store.shape.cpus f.0 r
+cpu_refused x y (Break (Some c) None) text f r = absurd f
+cpu_refused x y (Break None p) text f r = absurd f
+cpu_refused x y (Step (Some c)) text f r = no_cpu c x.world.store.shape.cpus f.0 r
+cpu_refused x y (Step None) text f r = absurd f
+cpu_refused x y (StepTimes (Some c) n) text f r = no_cpu c x.world.store.shape.cpus f.0 r
+cpu_refused x y (StepTimes None n) text f r = absurd f
+cpu_refused x y (Steps runs) text f r = let both : true ≡ false = sym f.0 ∙ r in cc
+cpu_refused x y Go text f r = r
+cpu_refused x y (Registers (Some c)) text f r = no_cpu c x.world.store.shape.cpus f.0.0 r
+cpu_refused x y (Registers None) text f r = absurd f.0
+cpu_refused x y (Where (Some c)) text f r = no_cpu c x.world.store.shape.cpus f.0.0 r
+cpu_refused x y (Where None) text f r = absurd f.0
+cpu_refused x y (Memory (Some c) at n) text f r = no_cpu c x.world.store.shape.cpus f.0.0 r
+cpu_refused x y (Memory None at n) text f r = absurd f.0
+cpu_refused x y (Map name) text f r = r
+cpu_refused x y (Keys name) text f r = r
+cpu_refused x y Schedule text f r = r
+cpu_refused x y (GoTo (Some c) (Some p)) text f r = no_cpu c x.world.store.shape.cpus f.0 r
+cpu_refused x y (GoTo (Some c) None) text f r = absurd f
+cpu_refused x y (GoTo None p) text f r = absurd f
+cpu_refused x y Maps text f r = r
+cpu_refused x y Jobs text f r = r
+cpu_refused x y (Mark n) text f r = r
+cpu_refused x y (Delete (Some c) (Some p)) text f r = no_cpu c x.world.store.shape.cpus f.0 r
+cpu_refused x y (Delete (Some c) None) text f r = absurd f
+cpu_refused x y (Delete None p) text f r = absurd f
 
-pc_refused : (x y : Scene) (order : Order) (text turns : List ℕ) → CarriesOut x order text turns y → RefusesOrder x.world.store.shape.cpus x.world.programs x.names order error.NoPc → ⊥
-pc_refused x y (Break (Some c) (Some p)) text turns f r = r.1 f.1.0
-pc_refused x y (Break (Some c) None) text turns f r = absurd f
-pc_refused x y (Break None p) text turns f r = absurd f
-pc_refused x y (Step c) text turns f r = absurd r
-pc_refused x y (StepTimes c n) text turns f r = absurd r
-pc_refused x y (Steps runs) text turns f r = absurd r
-pc_refused x y Go text turns f r = absurd r
-pc_refused x y (Registers c) text turns f r = absurd r
-pc_refused x y (Where c) text turns f r = absurd r
-pc_refused x y (Memory c at n) text turns f r = absurd r
-pc_refused x y (Map name) text turns f r = absurd r
-pc_refused x y (Keys name) text turns f r = absurd r
-pc_refused x y (Delete (Some c) (Some p)) text turns f r = r.1 f.1.0
-pc_refused x y (Delete (Some c) None) text turns f r = absurd f
-pc_refused x y (Delete None p) text turns f r = absurd f
+pc_refused : (x y : Scene) (order : Order) (text : List ℕ) → CarriesOut x order text y → RefusesOrder x.world.store.shape.cpus x.world.programs x.names order error.NoPc → ⊥
+pc_refused x y (Break (Some c) (Some p)) text f r = r.1 f.1.0
+pc_refused x y (Break (Some c) None) text f r = absurd f
+pc_refused x y (Break None p) text f r = absurd f
+pc_refused x y (Step c) text f r = absurd r
+pc_refused x y (StepTimes c n) text f r = absurd r
+pc_refused x y (Steps runs) text f r = absurd r
+pc_refused x y Go text f r = absurd r
+pc_refused x y (Registers c) text f r = absurd r
+pc_refused x y (Where c) text f r = absurd r
+pc_refused x y (Memory c at n) text f r = absurd r
+pc_refused x y (Map name) text f r = absurd r
+pc_refused x y (Keys name) text f r = absurd r
+pc_refused x y Schedule text f r = absurd r
+pc_refused x y (GoTo (Some c) (Some p)) text f r = r.1 f.1.0
+pc_refused x y (GoTo (Some c) None) text f r = absurd f
+pc_refused x y (GoTo None p) text f r = absurd f
+pc_refused x y Maps text f r = absurd r
+pc_refused x y Jobs text f r = absurd r
+pc_refused x y (Mark n) text f r = absurd r
+pc_refused x y (Delete (Some c) (Some p)) text f r = r.1 f.1.0
+pc_refused x y (Delete (Some c) None) text f r = absurd f
+pc_refused x y (Delete None p) text f r = absurd f
 
-map_refused : (x y : Scene) (order : Order) (text turns : List ℕ) → CarriesOut x order text turns y → RefusesOrder x.world.store.shape.cpus x.world.programs x.names order error.NoMap → ⊥
-map_refused x y (Map name) text turns f r = r f.0 f.1.0
-map_refused x y (Keys name) text turns f r = r f.0 f.1.0
-map_refused x y (Break c p) text turns f r = absurd r
-map_refused x y (Delete c p) text turns f r = absurd r
-map_refused x y (Step c) text turns f r = absurd r
-map_refused x y (StepTimes c n) text turns f r = absurd r
-map_refused x y (Steps runs) text turns f r = absurd r
-map_refused x y Go text turns f r = absurd r
-map_refused x y (Registers c) text turns f r = absurd r
-map_refused x y (Where c) text turns f r = absurd r
-map_refused x y (Memory c at n) text turns f r = absurd r
+map_refused : (x y : Scene) (order : Order) (text : List ℕ) → CarriesOut x order text y → RefusesOrder x.world.store.shape.cpus x.world.programs x.names order error.NoMap → ⊥
+map_refused x y (Map name) text f r = r f.0.0 f.0.1.0
+map_refused x y (Keys name) text f r = r f.0.0 f.0.1.0
+map_refused x y Schedule text f r = absurd r
+map_refused x y (GoTo c p) text f r = absurd r
+map_refused x y Maps text f r = absurd r
+map_refused x y Jobs text f r = absurd r
+map_refused x y (Mark n) text f r = absurd r
+map_refused x y (Break c p) text f r = absurd r
+map_refused x y (Delete c p) text f r = absurd r
+map_refused x y (Step c) text f r = absurd r
+map_refused x y (StepTimes c n) text f r = absurd r
+map_refused x y (Steps runs) text f r = absurd r
+map_refused x y Go text f r = absurd r
+map_refused x y (Registers c) text f r = absurd r
+map_refused x y (Where c) text f r = absurd r
+map_refused x y (Memory c at n) text f r = absurd r
 
 same_order : (fields : List (List ℕ)) (a b : Order) → order_of fields ≡ Some a → order_of fields ≡ Some b → a ≡ b
 same_order fields a b e f = let both : Some a ≡ Some b = sym e ∙ f in cc
 
-line_refused : (x y : Scene) (fields : List (List ℕ)) (text turns : List ℕ) (e : DebugError) → Obeys x fields text turns y → e ≢ error.OutOfMemory → IsLineRefused x fields e → ⊥
-line_refused x y [] text turns error.BadCommand o memory r = r.0 refl
-line_refused x y [] text turns error.OutOfMemory o memory r = memory refl
-line_refused x y [] text turns error.NoCpu o memory r = let both : None ≡ Some r.0 = r.1 in cc
-line_refused x y [] text turns error.NoPc o memory r = let both : None ≡ Some r.0 = r.1 in cc
-line_refused x y [] text turns error.NoMap o memory r = let both : None ≡ Some r.0 = r.1 in cc
-line_refused x y (f ∷ fs) text turns error.BadCommand o memory r = let both : Some o.0 ≡ None = sym o.1 ∙ r.1 in cc
-line_refused x y (f ∷ fs) text turns error.OutOfMemory o memory r = memory refl
-line_refused x y (f ∷ fs) text turns error.NoCpu o memory r =
-    let P : Order → Type 0 = λ order. CarriesOut x order text turns y in
-    cpu_refused x y r.0 text turns (subst P (same_order (f ∷ fs) o.0 r.0 o.1 r.1) o.2) r.2
-line_refused x y (f ∷ fs) text turns error.NoPc o memory r =
-    let P : Order → Type 0 = λ order. CarriesOut x order text turns y in
-    pc_refused x y r.0 text turns (subst P (same_order (f ∷ fs) o.0 r.0 o.1 r.1) o.2) r.2
-line_refused x y (f ∷ fs) text turns error.NoMap o memory r =
-    let P : Order → Type 0 = λ order. CarriesOut x order text turns y in
-    map_refused x y r.0 text turns (subst P (same_order (f ∷ fs) o.0 r.0 o.1 r.1) o.2) r.2
+line_refused : (x y : Scene) (fields : List (List ℕ)) (text : List ℕ) (e : DebugError) → Obeys x fields text y → e ≢ error.OutOfMemory → IsLineRefused x fields e → ⊥
+line_refused x y [] text error.BadCommand o memory r = r.0 refl
+line_refused x y [] text error.OutOfMemory o memory r = memory refl
+line_refused x y [] text error.NoCpu o memory r = let both : None ≡ Some r.0 = r.1 in cc
+line_refused x y [] text error.NoPc o memory r = let both : None ≡ Some r.0 = r.1 in cc
+line_refused x y [] text error.NoMap o memory r = let both : None ≡ Some r.0 = r.1 in cc
+line_refused x y (f ∷ fs) text error.BadCommand o memory r = let both : Some o.0 ≡ None = sym o.1 ∙ r.1 in cc
+line_refused x y (f ∷ fs) text error.OutOfMemory o memory r = memory refl
+line_refused x y (f ∷ fs) text error.NoCpu o memory r =
+    let P : Order → Type 0 = λ order. CarriesOut x order text y in
+    cpu_refused x y r.0 text (subst P (same_order (f ∷ fs) o.0 r.0 o.1 r.1) o.2) r.2
+line_refused x y (f ∷ fs) text error.NoPc o memory r =
+    let P : Order → Type 0 = λ order. CarriesOut x order text y in
+    pc_refused x y r.0 text (subst P (same_order (f ∷ fs) o.0 r.0 o.1 r.1) o.2) r.2
+line_refused x y (f ∷ fs) text error.NoMap o memory r =
+    let P : Order → Type 0 = λ order. CarriesOut x order text y in
+    map_refused x y r.0 text (subst P (same_order (f ∷ fs) o.0 r.0 o.1 r.1) o.2) r.2
 
 -- a line is refused for one reason
 module _ (cpus : ℕ) (programs : List Loaded) (names : List (List ℕ)) where
@@ -138,6 +157,11 @@ module _ (cpus : ℕ) (programs : List Loaded) (names : List (List ℕ)) where
   cpu_or_pc (Memory c at n) a b = absurd b
   cpu_or_pc (Map name) a b = absurd b
   cpu_or_pc (Keys name) a b = absurd b
+  cpu_or_pc Schedule a b = absurd b
+  cpu_or_pc (GoTo c p) a b = b.0 a
+  cpu_or_pc Maps a b = absurd b
+  cpu_or_pc Jobs a b = absurd b
+  cpu_or_pc (Mark n) a b = absurd b
   cpu_or_pc (Delete c p) a b = b.0 a
 
   cpu_or_map : (order : Order) → RefusesOrder cpus programs names order error.NoCpu → RefusesOrder cpus programs names order error.NoMap → ⊥
@@ -151,6 +175,11 @@ module _ (cpus : ℕ) (programs : List Loaded) (names : List (List ℕ)) where
   cpu_or_map (Memory c at n) a b = absurd b
   cpu_or_map (Map name) a b = absurd a
   cpu_or_map (Keys name) a b = absurd a
+  cpu_or_map Schedule a b = absurd b
+  cpu_or_map (GoTo c p) a b = absurd b
+  cpu_or_map Maps a b = absurd b
+  cpu_or_map Jobs a b = absurd b
+  cpu_or_map (Mark n) a b = absurd b
   cpu_or_map (Delete c p) a b = absurd b
 
   pc_or_map : (order : Order) → RefusesOrder cpus programs names order error.NoPc → RefusesOrder cpus programs names order error.NoMap → ⊥
@@ -164,6 +193,11 @@ module _ (cpus : ℕ) (programs : List Loaded) (names : List (List ℕ)) where
   pc_or_map (Memory c at n) a b = absurd b
   pc_or_map (Map name) a b = absurd a
   pc_or_map (Keys name) a b = absurd a
+  pc_or_map Schedule a b = absurd b
+  pc_or_map (GoTo c p) a b = absurd b
+  pc_or_map Maps a b = absurd b
+  pc_or_map Jobs a b = absurd b
+  pc_or_map (Mark n) a b = absurd b
   pc_or_map (Delete c p) a b = absurd b
 
   module _ (fields : List (List ℕ)) where
@@ -219,36 +253,38 @@ module _ (law : WritesAreDetermined) (begins : OneInstructionBegins) (replies : 
     worlds : y ≡ z
     world : IsWorld y
 
-  one_go : (breaks : List Breakpoint) (w : World) («from» : ℕ) (gone turns others text other : List ℕ) (y z : World) → IsWorld w
-      → Goes breaks w «from» gone turns text y → Goes breaks w «from» gone others other z → OneGo text other y z
-  one_go breaks w «from» gone turns others text other y z world (Done idle) (Done still) = record { texts = refl; worlds = refl; world = world }
-  one_go breaks w «from» gone turns others text other y z world (Done idle) (Stops {c = c} up went stands break) = absurd (idle_not_up w.jobs 0 w.store.shape.cpus c idle up.works (omega arith) up.within)
-  one_go breaks w «from» gone turns others text other y z world (Done idle) (Turns {c = c} up may takes goes) = absurd (idle_not_up w.jobs 0 w.store.shape.cpus c idle up.works (omega arith) up.within)
-  one_go breaks w «from» gone turns others text other y z world (Stops {c = c} up went stands break) (Done idle) = absurd (idle_not_up w.jobs 0 w.store.shape.cpus c idle up.works (omega arith) up.within)
-  one_go breaks w «from» gone turns others text other y z world (Stops {c = c} {p = p} up went stands break) (Stops {c = d} {p = q} up' went' stands' break') =
-      let same : c ≡ d = one_up w.jobs w.store.shape.cpus «from» c d up up' in
+  one_go : (breaks : List Breakpoint) (low high : ℕ) (w : World) («from» : ℕ) (gone turns others text other : List ℕ) (y z : World) → IsWorld w
+      → Goes breaks low high w «from» gone turns text y → Goes breaks low high w «from» gone others other z → (turns ≡ others) × OneGo text other y z
+  one_go breaks low high w «from» gone turns others text other y z world (Done idle) (Done still) = (refl, record { texts = refl; worlds = refl; world = world })
+  one_go breaks low high w «from» gone turns others text other y z world (Done idle) (Stops {c = c} up went stands break) = absurd (idle_not_up w.jobs low high c idle up.works up.above up.within)
+  one_go breaks low high w «from» gone turns others text other y z world (Done idle) (Turns {c = c} up may takes goes) = absurd (idle_not_up w.jobs low high c idle up.works up.above up.within)
+  one_go breaks low high w «from» gone turns others text other y z world (Stops {c = c} up went stands break) (Done idle) = absurd (idle_not_up w.jobs low high c idle up.works up.above up.within)
+  one_go breaks low high w «from» gone turns others text other y z world (Stops {c = c} {p = p} up went stands break) (Stops {c = d} {p = q} up' went' stands' break') =
+      let same : c ≡ d = one_up w.jobs low high «from» c d up up' in
       let P : ℕ → Type 0 = λ n. StandsAt w.jobs n q in
       let place : p ≡ q = one_place w world c p q stands (subst P (sym same) stands') in
-      record { texts = ap (λ (n : ℕ). stop_line n p) same ∙ ap (stop_line d) place; worlds = refl; world = world }
-  one_go breaks w «from» gone turns others text other y z world (Stops {c = c} {p = p} up went stands break) (Turns {c = d} up' may takes goes) =
-      absurd (stops_here breaks w gone c d p world (one_up w.jobs w.store.shape.cpus «from» c d up up') went stands break may)
-  one_go breaks w «from» gone turns others text other y z world (Turns {c = c} up may takes goes) (Done idle) = absurd (idle_not_up w.jobs 0 w.store.shape.cpus c idle up.works (omega arith) up.within)
-  one_go breaks w «from» gone turns others text other y z world (Turns {c = d} up' may takes goes) (Stops {c = c} {p = p} up went stands break) =
-      absurd (stops_here breaks w gone c d p world (one_up w.jobs w.store.shape.cpus «from» c d up up') went stands break may)
-  one_go breaks w «from» gone turns others text other y z world (Turns {c = c} {answer = answer} {m = m} {turns = ts} {text = more} up may takes goes) (Turns {c = d} {answer = reply} {m = n} {turns = us} {text = rest} up' may' takes' goes') =
-      let same : d ≡ c = one_up w.jobs w.store.shape.cpus «from» d c up' up in
+      (refl, record { texts = ap (λ (n : ℕ). stop_line n p) same ∙ ap (stop_line d) place; worlds = refl; world = world })
+  one_go breaks low high w «from» gone turns others text other y z world (Stops {c = c} {p = p} up went stands break) (Turns {c = d} up' may takes goes) =
+      absurd (stops_here breaks w gone c d p world (one_up w.jobs low high «from» c d up up') went stands break may)
+  one_go breaks low high w «from» gone turns others text other y z world (Turns {c = c} up may takes goes) (Done idle) = absurd (idle_not_up w.jobs low high c idle up.works up.above up.within)
+  one_go breaks low high w «from» gone turns others text other y z world (Turns {c = d} up' may takes goes) (Stops {c = c} {p = p} up went stands break) =
+      absurd (stops_here breaks w gone c d p world (one_up w.jobs low high «from» c d up up') went stands break may)
+  one_go breaks low high w «from» gone turns others text other y z world (Turns {c = c} {answer = answer} {m = m} {turns = ts} {text = more} up may takes goes) (Turns {c = d} {answer = reply} {m = n} {turns = us} {text = rest} up' may' takes' goes') =
+      let same : d ≡ c = one_up w.jobs low high «from» d c up' up in
       let P : ℕ → Type 0 = λ e. TakesTurn w e reply n in
       let one = one_turn law begins replies w c answer reply m n world takes (subst P same takes') in
-      let Q : ℕ → Type 0 = λ e. Goes breaks n (e + 1) (e ∷ gone) us rest z in
-      let R : World → Type 0 = λ x. Goes breaks x (c + 1) (c ∷ gone) us rest z in
-      let go = one_go breaks m (c + 1) (c ∷ gone) ts us more rest y z one.world goes (subst R (sym one.worlds) (subst Q same goes')) in
-      record {
-        texts = ap (λ (t : Turn). ended_text c t ++ more) one.answers
-            ∙ ap (λ (e : ℕ). ended_text e reply ++ more) (sym same)
-            ∙ ap (λ (t : List ℕ). ended_text d reply ++ t) go.texts;
-        worlds = go.worlds;
-        world = go.world;
-      }
+      let Q : ℕ → Type 0 = λ e. Goes breaks low high n (e + 1) (e ∷ gone) us rest z in
+      let R : World → Type 0 = λ x. Goes breaks low high x (c + 1) (c ∷ gone) us rest z in
+      let go = one_go breaks low high m (c + 1) (c ∷ gone) ts us more rest y z one.world goes (subst R (sym one.worlds) (subst Q same goes')) in (
+        ap (λ (e : ℕ). e ∷ ts) (sym same) ∙ ap (λ (cs : List ℕ). d ∷ cs) go.0,
+        record {
+          texts = ap (λ (t : Turn). ended_text c t ++ more) one.answers
+              ∙ ap (λ (e : ℕ). ended_text e reply ++ more) (sym same)
+              ∙ ap (λ (t : List ℕ). ended_text d reply ++ t) go.1.texts;
+          worlds = go.1.worlds;
+          world = go.1.world;
+        },
+      )
 
   one_turns : (w : World) (c n : ℕ) (text other : List ℕ) (y z : World) → IsWorld w → MakesTurns w c n text y → MakesTurns w c n other z → OneGo text other y z
   one_turns w c zero text other y z world a b =
@@ -282,81 +318,121 @@ module _ (law : WritesAreDetermined) (begins : OneInstructionBegins) (replies : 
     scenes : y ≡ z
     world : IsWorld y.world
 
-  asked : (x y z : Scene) (text other turns others : List ℕ) → IsWorld x.world → text ≡ other → (turns ≡ []) × (y ≡ x) → (others ≡ []) × (z ≡ x) → OneEnd text other y z
-  asked x y z text other turns others world same a b =
-      record { texts = same; scenes = a.1 ∙ sym b.1; world = subst (λ (s : Scene). IsWorld s.world) (sym a.1) world }
+  -- a question has one answer
+  one_answer_to : (x : Scene) (order : Order) (text other : List ℕ) → IsWorld x.world → Answers x order text → Answers x order other → text ≡ other
+  one_answer_to x (Registers (Some c)) text other world a b = one_registers x.world world c text other a.1 b.1
+  one_answer_to x (Registers None) text other world a b = absurd a
+  one_answer_to x (Where (Some c)) text other world a b = one_where x.world world c text other a.1 b.1
+  one_answer_to x (Where None) text other world a b = absurd a
+  one_answer_to x (Memory (Some c) at n) text other world a b = one_memory x.world world c at n text other a.1 b.1
+  one_answer_to x (Memory None at n) text other world a b = absurd a
+  one_answer_to x (Map name) text other world a b =
+      let same = one_name x.names name a.0 b.0 a.1 b.1 in
+      let P : ℕ → Type 0 = λ m. IsMapText x.world.store m other in
+      one_map x.world.store a.0 text other a.2 (subst P (sym same) b.2)
+  one_answer_to x (Keys name) text other world a b =
+      let same = one_name x.names name a.0 b.0 a.1 b.1 in
+      let P : ℕ → Type 0 = λ m. IsKeysText x.world.store m other in
+      one_keys x.world.store a.0 text other a.2 (subst P (sym same) b.2)
+  one_answer_to x Schedule text other world a b = a ∙ sym b
+  one_answer_to x Maps text other world a b = a ∙ sym b
+  one_answer_to x Jobs text other world a b = a ∙ sym b
+  one_answer_to x (Mark n) text other world a b = a ∙ sym b
+  one_answer_to x (GoTo c p) text other world a b = absurd a
+  one_answer_to x (Break c p) text other world a b = absurd a
+  one_answer_to x (Delete c p) text other world a b = absurd a
+  one_answer_to x (Step c) text other world a b = absurd a
+  one_answer_to x (StepTimes c n) text other world a b = absurd a
+  one_answer_to x (Steps runs) text other world a b = absurd a
+  one_answer_to x Go text other world a b = absurd a
 
-  one_follow : (x y z : Scene) (order : Order) (text other turns others : List ℕ) → IsWorld x.world → CarriesOut x order text turns y → CarriesOut x order other others z → OneEnd text other y z
-  one_follow x y z (Break (Some c) (Some p)) text other turns others world a b = record {
-    texts = a.1.1 ∙ sym b.1.1;
-    scenes = a.1.3 ∙ sym b.1.3;
-    world = subst (λ (s : Scene). IsWorld s.world) (sym a.1.3) world;
+  asked : (x y z : Scene) (order : Order) (text other : List ℕ) → IsWorld x.world → Answers x order text × (y ≡ x) → Answers x order other × (z ≡ x) → OneEnd text other y z
+  asked x y z order text other world a b = record {
+    texts = one_answer_to x order text other world a.0 b.0;
+    scenes = a.1 ∙ sym b.1;
+    world = subst (λ (s : Scene). IsWorld s.world) (sym a.1) world;
   }
-  one_follow x y z (Delete (Some c) (Some p)) text other turns others world a b = record {
-    texts = a.1.1 ∙ sym b.1.1;
-    scenes = a.1.3 ∙ sym b.1.3;
-    world = subst (λ (s : Scene). IsWorld s.world) (sym a.1.3) world;
+
+  went_alike : (x y z : Scene) (turns others text other : List ℕ) (m n : World) → (turns ≡ others) × OneGo text other m n → y ≡ behind x turns m → z ≡ behind x others n → OneEnd text other y z
+  went_alike x y z turns others text other m n both a b = record {
+    texts = both.1.texts;
+    scenes = a ∙ ap (λ (w : World). behind x turns w) both.1.worlds ∙ ap (λ (cs : List ℕ). behind x cs n) both.0 ∙ sym b;
+    world = subst (λ (s : Scene). IsWorld s.world) (sym a) both.1.world;
   }
-  one_follow x y z (Delete (Some c) None) text other turns others world a b = absurd a
-  one_follow x y z (Delete None p) text other turns others world a b = absurd a
-  one_follow x y z (Break (Some c) None) text other turns others world a b = absurd a
-  one_follow x y z (Break None p) text other turns others world a b = absurd a
-  one_follow x y z (Step (Some c)) text other turns others world (has, a) (had, b) =
+
+  one_follow : (x y z : Scene) (order : Order) (text other : List ℕ) → IsWorld x.world → CarriesOut x order text y → CarriesOut x order other z → OneEnd text other y z
+  one_follow x y z (Break (Some c) (Some p)) text other world a b = record {
+    texts = a.1.1 ∙ sym b.1.1;
+    scenes = a.1.2 ∙ sym b.1.2;
+    world = subst (λ (s : Scene). IsWorld s.world) (sym a.1.2) world;
+  }
+  one_follow x y z (Delete (Some c) (Some p)) text other world a b = record {
+    texts = a.1.1 ∙ sym b.1.1;
+    scenes = a.1.2 ∙ sym b.1.2;
+    world = subst (λ (s : Scene). IsWorld s.world) (sym a.1.2) world;
+  }
+  one_follow x y z (Delete (Some c) None) text other world a b = absurd a
+  one_follow x y z (Delete None p) text other world a b = absurd a
+  one_follow x y z (Break (Some c) None) text other world a b = absurd a
+  one_follow x y z (Break None p) text other world a b = absurd a
+  one_follow x y z (Step (Some c)) text other world (has, a) (had, b) =
       let one = one_turn law begins replies x.world c a.0 b.0 a.1 b.1 world a.3 b.3 in
       let P : World → Type 0 = λ w. IsWhere w.jobs c b.2 in
       let place = one_where a.1 one.world c a.2 b.2 a.4 (subst P (sym one.worlds) b.4) in
       record {
         texts = a.5 ∙ ap (λ (t : Turn). ended_text c t ++ a.2) one.answers ∙ ap (λ (t : List ℕ). ended_text c b.0 ++ t) place ∙ sym b.5;
-        scenes = a.7 ∙ ap (λ (w : World). record x { world = w }) one.worlds ∙ sym b.7;
-        world = subst (λ (s : Scene). IsWorld s.world) (sym a.7) one.world;
+        scenes = a.6 ∙ ap (λ (w : World). behind x (c ∷ []) w) one.worlds ∙ sym b.6;
+        world = subst (λ (s : Scene). IsWorld s.world) (sym a.6) one.world;
       }
-  one_follow x y z (StepTimes (Some c) n) text other turns others world (has, a) (had, b) =
+  one_follow x y z (StepTimes (Some c) n) text other world (has, a) (had, b) =
       let one = one_turns x.world c n a.1 b.1 a.0 b.0 world a.3 b.3 in
       let P : World → Type 0 = λ w. IsWhere w.jobs c b.2 in
       let place = one_where a.0 one.world c a.2 b.2 a.4 (subst P (sym one.worlds) b.4) in
       record {
         texts = a.5 ∙ ap (λ (t : List ℕ). t ++ a.2) one.texts ∙ ap (λ (t : List ℕ). b.1 ++ t) place ∙ sym b.5;
-        scenes = a.7 ∙ ap (λ (w : World). record x { world = w }) one.worlds ∙ sym b.7;
-        world = subst (λ (s : Scene). IsWorld s.world) (sym a.7) one.world;
+        scenes = a.6 ∙ ap (λ (w : World). behind x (replicate n c) w) one.worlds ∙ sym b.6;
+        world = subst (λ (s : Scene). IsWorld s.world) (sym a.6) one.world;
       }
-  one_follow x y z (Steps runs) text other turns others world (has, a) (had, b) =
+  one_follow x y z (Steps runs) text other world (has, a) (had, b) =
       let one = one_schedule x.world runs a.1 b.1 a.0 b.0 world a.3 b.3 in
       let P : World → Type 0 = λ w. IsWhere w.jobs (last_cpu runs) b.2 in
       let place = one_where a.0 one.world (last_cpu runs) a.2 b.2 a.4 (subst P (sym one.worlds) b.4) in
       record {
         texts = a.5 ∙ ap (λ (t : List ℕ). t ++ a.2) one.texts ∙ ap (λ (t : List ℕ). b.1 ++ t) place ∙ sym b.5;
-        scenes = a.7 ∙ ap (λ (w : World). record x { world = w }) one.worlds ∙ sym b.7;
-        world = subst (λ (s : Scene). IsWorld s.world) (sym a.7) one.world;
+        scenes = a.6 ∙ ap (λ (w : World). behind x (unrolled runs) w) one.worlds ∙ sym b.6;
+        world = subst (λ (s : Scene). IsWorld s.world) (sym a.6) one.world;
       }
-  one_follow x y z (StepTimes None n) text other turns others world a b = absurd a
-  one_follow x y z (Step None) text other turns others world a b = absurd a
-  one_follow x y z Go text other turns others world a b =
-      let one = one_go x.breaks x.world 0 [] turns others text other a.0 b.0 world a.1 b.1 in
-      record {
-        texts = one.texts;
-        scenes = a.2 ∙ ap (λ (w : World). record x { world = w }) one.worlds ∙ sym b.2;
-        world = subst (λ (s : Scene). IsWorld s.world) (sym a.2) one.world;
-      }
-  one_follow x y z (Registers (Some c)) text other turns others world a b = asked x y z text other turns others world (one_registers x.world world c text other a.1 b.1) a.2 b.2
-  one_follow x y z (Registers None) text other turns others world a b = absurd a
-  one_follow x y z (Where (Some c)) text other turns others world a b = asked x y z text other turns others world (one_where x.world world c text other a.1 b.1) a.2 b.2
-  one_follow x y z (Where None) text other turns others world a b = absurd a
-  one_follow x y z (Memory (Some c) at n) text other turns others world a b = asked x y z text other turns others world (one_memory x.world world c at n text other a.1 b.1) a.2 b.2
-  one_follow x y z (Memory None at n) text other turns others world a b = absurd a
-  one_follow x y z (Map name) text other turns others world a b =
-      let same = one_name x.names name a.0 b.0 a.1 b.1 in
-      let P : ℕ → Type 0 = λ m. IsMapText x.world.store m other in
-      asked x y z text other turns others world (one_map x.world.store a.0 text other a.2 (subst P (sym same) b.2)) a.3 b.3
-  one_follow x y z (Keys name) text other turns others world a b =
-      let same = one_name x.names name a.0 b.0 a.1 b.1 in
-      let P : ℕ → Type 0 = λ m. IsKeysText x.world.store m other in
-      asked x y z text other turns others world (one_keys x.world.store a.0 text other a.2 (subst P (sym same) b.2)) a.3 b.3
+  one_follow x y z (StepTimes None n) text other world a b = absurd a
+  one_follow x y z (Step None) text other world a b = absurd a
+  one_follow x y z Go text other world a b =
+      let both = one_go x.breaks 0 x.world.store.shape.cpus x.world 0 [] a.1 b.1 text other a.0 b.0 world a.2 b.2 in
+      went_alike x y z a.1 b.1 text other a.0 b.0 both a.3 b.3
+  one_follow x y z (GoTo (Some c) (Some p)) text other world (has, a) (had, b) =
+      let u = a.1 in
+      let v = b.1 in
+      let both = one_go (record { cpu = c; pc = p } ∷ []) c (c + 1) x.world c [] u.1 v.1 text other u.0 v.0 world u.2 v.2 in
+      went_alike x y z u.1 v.1 text other u.0 v.0 both u.3 v.3
+  one_follow x y z (GoTo (Some c) None) text other world a b = absurd a
+  one_follow x y z (GoTo None p) text other world a b = absurd a
+  one_follow x y z Maps text other world a b = asked x y z Maps text other world a b
+  one_follow x y z Jobs text other world a b = asked x y z Jobs text other world a b
+  one_follow x y z (Mark n) text other world a b = asked x y z (Mark n) text other world a b
+  one_follow x y z (Registers c) text other world a b = asked x y z (Registers c) text other world a b
+  one_follow x y z (Where c) text other world a b = asked x y z (Where c) text other world a b
+  one_follow x y z (Memory c at n) text other world a b = asked x y z (Memory c at n) text other world a b
+  one_follow x y z (Map name) text other world a b = asked x y z (Map name) text other world a b
+  one_follow x y z (Keys name) text other world a b = asked x y z (Keys name) text other world a b
+  one_follow x y z Schedule text other world a b = asked x y z Schedule text other world a b
 
-  one_line : (x y z : Scene) (fields : List (List ℕ)) (text other turns others : List ℕ) → IsWorld x.world → Obeys x fields text turns y → Obeys x fields other others z → OneEnd text other y z
-  one_line x y z [] text other turns others world a b = asked x y z text other turns others world (a.0 ∙ sym b.0) a.1 b.1
-  one_line x y z (f ∷ fs) text other turns others world a b =
-      let P : Order → Type 0 = λ order. CarriesOut x order other others z in
-      one_follow x y z a.0 text other turns others world a.2 (subst P (same_order (f ∷ fs) b.0 a.0 b.1 a.1) b.2)
+  one_line : (x y z : Scene) (fields : List (List ℕ)) (text other : List ℕ) → IsWorld x.world → Obeys x fields text y → Obeys x fields other z → OneEnd text other y z
+  one_line x y z [] text other world a b = record {
+    texts = a.0 ∙ sym b.0;
+    scenes = a.1 ∙ sym b.1;
+    world = subst (λ (s : Scene). IsWorld s.world) (sym a.1) world;
+  }
+  one_line x y z (f ∷ fs) text other world a b =
+      let P : Order → Type 0 = λ order. CarriesOut x order other z in
+      one_follow x y z a.0 text other world a.2 (subst P (same_order (f ∷ fs) b.0 a.0 b.1 a.1) b.2)
 
   -- ---- a script
   record OneAnswer (answer other : Answer) (y z : Scene) : Type 0 where
@@ -367,10 +443,10 @@ module _ (law : WritesAreDetermined) (begins : OneInstructionBegins) (replies : 
   one_answer : (x y z : Scene) (line : List ℕ) (answer other : Answer) → IsWorld x.world → AnswersLine x line answer y → AnswersLine x line other z
       → answer ≢ Err error.OutOfMemory → other ≢ Err error.OutOfMemory → OneAnswer answer other y z
   one_answer x y z line (Ok text) (Ok other) world a b n m =
-      let one = one_line x y z (fields_of line) text other a.0 b.0 world a.1 b.1 in
+      let one = one_line x y z (fields_of line) text other world a b in
       record { answers = ap (λ (t : List ℕ). Ok t) one.texts; scenes = one.scenes; world = one.world }
-  one_answer x y z line (Ok text) (Err e) world a b n m = absurd (line_refused x y (fields_of line) text a.0 e a.1 (λ is. m (ap (λ (f : DebugError). Err f) is)) b.0)
-  one_answer x y z line (Err e) (Ok text) world a b n m = absurd (line_refused x z (fields_of line) text b.0 e b.1 (λ is. n (ap (λ (f : DebugError). Err f) is)) a.0)
+  one_answer x y z line (Ok text) (Err e) world a b n m = absurd (line_refused x y (fields_of line) text e a (λ is. m (ap (λ (f : DebugError). Err f) is)) b.0)
+  one_answer x y z line (Err e) (Ok text) world a b n m = absurd (line_refused x z (fields_of line) text e b (λ is. n (ap (λ (f : DebugError). Err f) is)) a.0)
   one_answer x y z line (Err e) (Err f) world a b n m =
       let same = one_reason x.world.store.shape.cpus x.world.programs x.names (fields_of line) e f (λ is. n (ap (λ (g : DebugError). Err g) is)) (λ is. m (ap (λ (g : DebugError). Err g) is)) a.0 b.0 in
       record {

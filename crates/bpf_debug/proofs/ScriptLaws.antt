@@ -13,7 +13,7 @@ abbrev pub OneLine : SessionState → SessionState → List ℕ → Answer → T
 OneLine old new line answer = (x : Scene) → IsShown old x → (y : Scene) × AnswersLine x line answer y × IsShown new y
 
 pub line_done : (old new : SessionState) (line text : List ℕ) → LeavesLine old (fields_of line) text new → OneLine old new line (Ok text)
-line_done old new line text leaves x shown = let l = leaves x shown in (l.0, (l.1, l.2), l.4)
+line_done old new line text leaves x shown = let l = leaves x shown in (l.0, l.1, l.3)
 
 pub line_refused : (old new : SessionState) (line : List ℕ) (e : DebugError) → RefusesLine old (fields_of line) e → new ≡ old → OneLine old new line (Err e)
 line_refused old new line e refuses same x shown = (x, (refuses x shown, refl), subst (λ (s : SessionState). IsShown s x) (sym same) shown)

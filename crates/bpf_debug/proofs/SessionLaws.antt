@@ -3,8 +3,11 @@ use Rattle.std.proofs.Common.{◌≡◌, ℕ, ◌+◌, ◌*◌, ◌<◌, ◌≤�
 use Rattle.std.proofs.lemmas.Bool.{ltb-true}
 use Rattle.std.proofs.lemmas.List.Sums.{sum_by-le}
 use Rattle.std.proofs.Math.Nat.{mul-le-mul_left}
+use Rattle.std.specs.Prelude.{codes}
+use Rattle.bpf_schedule.specs.Spelling.{runs_text}
 use Rattle.bpf_loader.specs.Loaded.{Loaded}
-use Rattle.bpf_plain.specs.PlainStore.{has_cpu}
+use Rattle.bpf_shared.specs.declared.shapes.MapShape.{MapShape}
+use Rattle.bpf_plain.specs.PlainStore.{has_cpu, shapes_of}
 use Rattle.bpf_machine.specs.declared.machine.Turn.{Turn}
 use Rattle.bpf_cpu.specs.Task.{Stage, Task, Waiting, InHand, Ended}
 use Rattle.bpf_machine.specs.Schedule.{World, TakesTurn, RunsSchedule, unrolled}
@@ -13,16 +16,18 @@ use Rattle.bpf_machine.specs.Questions.{open_in, open_jobs}
 use Rattle.bpf_machine.specs.Work.{IsState}
 use Rattle.bpf_cpu.specs.declared.cpu.Cpu.{Cpu}
 use Rattle.bpf_debug.specs.declared.breakpoint.Breakpoint.{Breakpoint}
-use Rattle.bpf_debug.specs.Command.{Order, Break, Delete, Step, StepTimes, Steps, Go, Registers, Where, Memory, Map, Keys, order_of}
+use Rattle.bpf_debug.specs.Command.{Order, Break, Delete, Step, StepTimes, Steps, Go, Registers, Where, Memory, Map, Keys, Schedule, GoTo, Maps, Jobs, Mark, order_of}
 use Rattle.bpf_debug.specs.declared.error.DebugError.{DebugError}
 use Rattle.bpf_debug.specs.declared.error.DebugError.TheVariants as error
 use Rattle.bpf_debug.specs.Answer.{IsWhere, IsRegisters, IsOff, ended_text, break_line, deleted_line}
 use Rattle.bpf_debug.specs.Read.{IsMemoryText, IsNamed, TellsBytes, TellsKeys, TellsMap}
 use Rattle.bpf_debug.specs.Go.{Goes, has_break, without_break}
-use Rattle.bpf_debug.specs.Session.{SessionState, Scene, IsShown, IsPc, are_cpus, with_break, CarriesOut, Obeys, Leaves, LeavesLine, RefusesOrder, RefusesHere, RefusesLine}
+use Rattle.bpf_debug.specs.Told.{shape_lines, told_jobs, mark_line}
+use Rattle.bpf_debug.specs.Course.{IsKept, KeepsOn, runs_of}
+use Rattle.bpf_debug.specs.Session.{SessionState, Scene, IsShown, IsCourse, IsPc, are_cpus, behind, with_break, Answers, CarriesOut, Obeys, Leaves, LeavesLine, RefusesOrder, RefusesHere, RefusesLine}
 use Rattle.bpf_debug.specs.Turns.{MakesTurns, MakesRuns, last_cpu}
 use Rattle.bpf_debug.proofs.GoLaws.{goes_runs}
-use Rattle.bpf_debug.proofs.ManyTurns.{all_runs, made_runs}
+use Rattle.bpf_debug.proofs.ManyTurns.{all_runs, both_run, made_runs}
 
 -- ---- room
 
@@ -47,84 +52,96 @@ is_cpu m w c has shows = let below : c < length m.store.runs = ltb-true c (lengt
 pub alone : (room last text : List ℕ) → room ≡ [] → last ≡ room ++ text → last ≡ text
 alone room last text empty e = e ∙ ap (λ (s : List ℕ). s ++ text) empty
 
-module _ (m : MachineState) (names : List (List ℕ)) (breaks : List Breakpoint) where
-  pub stepped : (n : MachineState) (c : ℕ) (answer : Turn) (room place last : List ℕ) → has_cpu m.store c ≡ true → room ≡ []
+module _ (m : MachineState) (names : List (List ℕ)) (breaks : List Breakpoint) (kept : Option (List (ℕ × ℕ))) where
+  -- a session of these, and what it is with another machine and turns more
+  abbrev session : SessionState
+  session = record { machine = m; names = names; breaks = breaks; course = kept }
+
+  abbrev moved_on : MachineState → Option (List (ℕ × ℕ)) → SessionState
+  moved_on n more = record { machine = n; names = names; breaks = breaks; course = more }
+
+  pub stepped : (n : MachineState) (more : Option (List (ℕ × ℕ))) (c : ℕ) (answer : Turn) (room place last : List ℕ) → has_cpu m.store c ≡ true → room ≡ []
       → ((w : World) → Shows m w → (z : World) × TakesTurn w c answer z × Shows n z)
-      → IsWhere n.jobs c place → last ≡ (room ++ ended_text c answer) ++ place
-      → Leaves (record { machine = m; names = names; breaks = breaks }) (Step (Some c)) last (record { machine = n; names = names; breaks = breaks })
-  stepped n c answer room place last has empty turns stands put x shown =
+      → IsWhere n.jobs c place → last ≡ (room ++ ended_text c answer) ++ place → KeepsOn kept (c ∷ []) more
+      → Leaves session (Step (Some c)) last (moved_on n more)
+  stepped n more c answer room place last has empty turns stands put keeps x shown =
       let t = turns x.world shown.world in
       let J : List Task → Type 0 = λ jobs. IsWhere jobs c place in
-      let whole : last ≡ ended_text c answer ++ place = put ∙ ap (λ (s : List ℕ). (s ++ ended_text c answer) ++ place) empty in
-      let y : Scene = record x { world = t.0 } in (
-        y,
-        c ∷ [],
-        (is_cpu m x.world c has shown.world, (answer, t.0, place, t.1, subst J (sym t.2.jobs) stands, whole, refl, refl)),
-        record { world = t.2; names = shown.names; breaks = shown.breaks },
+      let whole : last ≡ ended_text c answer ++ place = put ∙ ap (λ (s : List ℕ). (s ++ ended_text c answer) ++ place) empty in (
+        behind x (c ∷ []) t.0,
+        (is_cpu m x.world c has shown.world, (answer, t.0, place, t.1, subst J (sym t.2.jobs) stands, whole, refl)),
+        record { world = t.2; names = shown.names; breaks = shown.breaks; turns = keeps x.turns shown.turns },
       )
 
-  pub stepped_times : (n : MachineState) (c count : ℕ) (room place last : List ℕ) → has_cpu m.store c ≡ true → room ≡ [] → IsWhere n.jobs c place
+  pub stepped_times : (n : MachineState) (more : Option (List (ℕ × ℕ))) (c count : ℕ) (room place last : List ℕ) → has_cpu m.store c ≡ true → room ≡ [] → IsWhere n.jobs c place
       → ((w : World) → Shows m w → (z : World) × (before : List ℕ) × MakesTurns w c count before z × Shows n z × (last ≡ (room ++ before) ++ place))
-      → Leaves (record { machine = m; names = names; breaks = breaks }) (StepTimes (Some c) count) last (record { machine = n; names = names; breaks = breaks })
-  stepped_times n c count room place last has empty stands turns x shown =
+      → KeepsOn kept (replicate count c) more → Leaves session (StepTimes (Some c) count) last (moved_on n more)
+  stepped_times n more c count room place last has empty stands turns keeps x shown =
       let t = turns x.world shown.world in
       let J : List Task → Type 0 = λ jobs. IsWhere jobs c place in
-      let whole : last ≡ t.1 ++ place = t.4 ∙ ap (λ (s : List ℕ). (s ++ t.1) ++ place) empty in
-      let y : Scene = record x { world = t.0 } in (
-        y,
-        replicate count c,
-        (is_cpu m x.world c has shown.world, (t.0, t.1, place, t.2, subst J (sym t.3.jobs) stands, whole, refl, refl)),
-        record { world = t.3; names = shown.names; breaks = shown.breaks },
+      let whole : last ≡ t.1 ++ place = t.4 ∙ ap (λ (s : List ℕ). (s ++ t.1) ++ place) empty in (
+        behind x (replicate count c) t.0,
+        (is_cpu m x.world c has shown.world, (t.0, t.1, place, t.2, subst J (sym t.3.jobs) stands, whole, refl)),
+        record { world = t.3; names = shown.names; breaks = shown.breaks; turns = keeps x.turns shown.turns },
       )
 
-  pub stepped_runs : (n : MachineState) (runs : List (ℕ × ℕ)) (room place last : List ℕ) → are_cpus (length m.store.runs) runs ≡ true → room ≡ [] → IsWhere n.jobs (last_cpu runs) place
+  pub stepped_runs : (n : MachineState) (more : Option (List (ℕ × ℕ))) (runs : List (ℕ × ℕ)) (room place last : List ℕ) → are_cpus (length m.store.runs) runs ≡ true → room ≡ [] → IsWhere n.jobs (last_cpu runs) place
       → ((w : World) → Shows m w → (z : World) × (before : List ℕ) × MakesRuns w runs before z × Shows n z × (last ≡ (room ++ before) ++ place))
-      → Leaves (record { machine = m; names = names; breaks = breaks }) (Steps runs) last (record { machine = n; names = names; breaks = breaks })
-  stepped_runs n runs room place last has empty stands turns x shown =
+      → KeepsOn kept (unrolled runs) more → Leaves session (Steps runs) last (moved_on n more)
+  stepped_runs n more runs room place last has empty stands turns keeps x shown =
       let t = turns x.world shown.world in
       let J : List Task → Type 0 = λ jobs. IsWhere jobs (last_cpu runs) place in
       let H : ℕ → Type 0 = λ cpus. are_cpus cpus runs ≡ true in
-      let whole : last ≡ t.1 ++ place = t.4 ∙ ap (λ (s : List ℕ). (s ++ t.1) ++ place) empty in
-      let y : Scene = record x { world = t.0 } in (
-        y,
-        unrolled runs,
-        (subst H (sym shown.world.store.cpus) has, (t.0, t.1, place, t.2, subst J (sym t.3.jobs) stands, whole, refl, refl)),
-        record { world = t.3; names = shown.names; breaks = shown.breaks },
+      let whole : last ≡ t.1 ++ place = t.4 ∙ ap (λ (s : List ℕ). (s ++ t.1) ++ place) empty in (
+        behind x (unrolled runs) t.0,
+        (subst H (sym shown.world.store.cpus) has, (t.0, t.1, place, t.2, subst J (sym t.3.jobs) stands, whole, refl)),
+        record { world = t.3; names = shown.names; breaks = shown.breaks; turns = keeps x.turns shown.turns },
       )
 
-  pub went : (n : MachineState) (room last : List ℕ) → room ≡ []
-      → ((w : World) → Shows m w → (z : World) × (turns : List ℕ) × (text : List ℕ) × Goes breaks w 0 [] turns text z × Shows n z × (last ≡ room ++ text))
-      → Leaves (record { machine = m; names = names; breaks = breaks }) Go last (record { machine = n; names = names; breaks = breaks })
-  went n room last empty goes x shown =
+  pub went : (n : MachineState) (more : Option (List (ℕ × ℕ))) (cpus : ℕ) (room last : List ℕ) → room ≡ [] → cpus ≡ length m.store.runs
+      → ((w : World) → Shows m w → (z : World) × (turns : List ℕ) × (text : List ℕ) × Goes breaks 0 cpus w 0 [] turns text z × Shows n z × KeepsOn kept turns more × (last ≡ room ++ text))
+      → Leaves session Go last (moved_on n more)
+  went n more cpus room last empty count goes x shown =
       let g = goes x.world shown.world in
-      let B : List Breakpoint → Type 0 = λ bs. Goes bs x.world 0 [] g.1 last g.0 in
-      let T : List ℕ → Type 0 = λ text. Goes breaks x.world 0 [] g.1 text g.0 in
-      let all = subst B (sym shown.breaks) (subst T (sym (alone room last g.2 empty g.5)) g.3) in
-      let y : Scene = record x { world = g.0 } in
-      (y, g.1, (g.0, all, refl), record { world = g.4; names = shown.names; breaks = shown.breaks })
+      let B : List Breakpoint → Type 0 = λ bs. Goes bs 0 x.world.store.shape.cpus x.world 0 [] g.1 last g.0 in
+      let C : ℕ → Type 0 = λ h. Goes breaks 0 h x.world 0 [] g.1 last g.0 in
+      let T : List ℕ → Type 0 = λ text. Goes breaks 0 cpus x.world 0 [] g.1 text g.0 in
+      let all = subst B (sym shown.breaks) (subst C (count ∙ sym shown.world.store.cpus) (subst T (sym (alone room last g.2 empty g.6)) g.3)) in
+      (behind x g.1 g.0, (g.0, g.1, all, refl), record { world = g.4; names = shown.names; breaks = shown.breaks; turns = g.5 x.turns shown.turns })
+
+  pub went_to : (n : MachineState) (more : Option (List (ℕ × ℕ))) (c p : ℕ) (room last : List ℕ) → room ≡ [] → has_cpu m.store c ≡ true → IsPc m.programs p
+      → ((w : World) → Shows m w → (z : World) × (turns : List ℕ) × (text : List ℕ) × Goes (record { cpu = c; pc = p } ∷ []) c (c + 1) w c [] turns text z × Shows n z × KeepsOn kept turns more × (last ≡ room ++ text))
+      → Leaves session (GoTo (Some c) (Some p)) last (moved_on n more)
+  went_to n more c p room last empty has begins goes x shown =
+      let g = goes x.world shown.world in
+      let T : List ℕ → Type 0 = λ text. Goes (record { cpu = c; pc = p } ∷ []) c (c + 1) x.world c [] g.1 text g.0 in
+      let P : List Loaded → Type 0 = λ ps. IsPc ps p in
+      let all = subst T (sym (alone room last g.2 empty g.6)) g.3 in (
+        behind x g.1 g.0,
+        (is_cpu m x.world c has shown.world, (subst P (sym shown.world.programs) begins, (g.0, g.1, all, refl))),
+        record { world = g.4; names = shown.names; breaks = shown.breaks; turns = g.5 x.turns shown.turns },
+      )
 
   pub broken : (c p : ℕ) (more : List Breakpoint) (room last : List ℕ) → has_cpu m.store c ≡ true → IsPc m.programs p
       → more ≡ with_break breaks c p → room ≡ [] → last ≡ room ++ break_line c p
-      → Leaves (record { machine = m; names = names; breaks = breaks }) (Break (Some c) (Some p)) last (record { machine = m; names = names; breaks = more })
-  broken c p more room last has begins kept empty put x shown =
+      → Leaves session (Break (Some c) (Some p)) last (record { machine = m; names = names; breaks = more; course = kept })
+  broken c p more room last has begins same empty put x shown =
       let y : Scene = record x { breaks = with_break x.breaks c p } in
       let P : List Loaded → Type 0 = λ ps. IsPc ps p in (
         y,
-        [],
-        (is_cpu m x.world c has shown.world, (subst P (sym shown.world.programs) begins, alone room last (break_line c p) empty put, refl, refl)),
-        record { world = shown.world; names = shown.names; breaks = ap (λ (bs : List Breakpoint). with_break bs c p) shown.breaks ∙ sym kept },
+        (is_cpu m x.world c has shown.world, (subst P (sym shown.world.programs) begins, alone room last (break_line c p) empty put, refl)),
+        record { world = shown.world; names = shown.names; breaks = ap (λ (bs : List Breakpoint). with_break bs c p) shown.breaks ∙ sym same; turns = shown.turns },
       )
 
   pub unbroken : (c p : ℕ) (fewer : List Breakpoint) (room last : List ℕ) → has_cpu m.store c ≡ true → IsPc m.programs p
       → fewer ≡ without_break breaks c p → room ≡ [] → last ≡ room ++ deleted_line c p
-      → Leaves (record { machine = m; names = names; breaks = breaks }) (Delete (Some c) (Some p)) last (record { machine = m; names = names; breaks = fewer })
-  unbroken c p fewer room last has begins kept empty put x shown =
+      → Leaves session (Delete (Some c) (Some p)) last (record { machine = m; names = names; breaks = fewer; course = kept })
+  unbroken c p fewer room last has begins same empty put x shown =
       let y : Scene = record x { breaks = without_break x.breaks c p } in
       let P : List Loaded → Type 0 = λ ps. IsPc ps p in (
         y,
-        [],
-        (is_cpu m x.world c has shown.world, (subst P (sym shown.world.programs) begins, alone room last (deleted_line c p) empty put, refl, refl)),
-        record { world = shown.world; names = shown.names; breaks = ap (λ (bs : List Breakpoint). without_break bs c p) shown.breaks ∙ sym kept },
+        (is_cpu m x.world c has shown.world, (subst P (sym shown.world.programs) begins, alone room last (deleted_line c p) empty put, refl)),
+        record { world = shown.world; names = shown.names; breaks = ap (λ (bs : List Breakpoint). without_break bs c p) shown.breaks ∙ sym same; turns = shown.turns },
       )
 
 -- a breakpoint that is there, and one more
@@ -141,7 +158,7 @@ told_where s c room last has empty place x shown =
     let J : List Task → Type 0 = λ jobs. IsWhere jobs c last in
     let T : List ℕ → Type 0 = λ text. IsWhere s.machine.jobs c text in
     let same = alone room last place.0 empty place.2 in
-    (x, [], (is_cpu s.machine x.world c has shown.world, subst J (sym shown.world.jobs) (subst T (sym same) place.1), (refl, refl)), shown)
+    (x, ((is_cpu s.machine x.world c has shown.world, subst J (sym shown.world.jobs) (subst T (sym same) place.1)), refl), shown)
 
 pub told_registers : (s : SessionState) (c : ℕ) (room last : List ℕ) → has_cpu s.machine.store c ≡ true → room ≡ []
     → ((text : List ℕ) × IsRegisters s.machine.jobs c text × (last ≡ room ++ text)) → Leaves s (Registers (Some c)) last s
@@ -149,14 +166,14 @@ told_registers s c room last has empty place x shown =
     let J : List Task → Type 0 = λ jobs. IsRegisters jobs c last in
     let T : List ℕ → Type 0 = λ text. IsRegisters s.machine.jobs c text in
     let same = alone room last place.0 empty place.2 in
-    (x, [], (is_cpu s.machine x.world c has shown.world, subst J (sym shown.world.jobs) (subst T (sym same) place.1), (refl, refl)), shown)
+    (x, ((is_cpu s.machine x.world c has shown.world, subst J (sym shown.world.jobs) (subst T (sym same) place.1)), refl), shown)
 
 pub told_bytes : (s : SessionState) (c : ℕ) (at : Option ℕ) (n : ℕ) (last : List ℕ) (state : Cpu) → has_cpu s.machine.store c ≡ true
     → IsState s.machine.jobs c state → TellsBytes s.machine.store state at n last → Leaves s (Memory (Some c) at n) last s
 told_bytes s c at n last state has hand tells x shown =
     let shows = tells x.world.store shown.world.sound shown.world.store in
     let J : List Task → Type 0 = λ jobs. IsMemoryText x.world.store jobs c at n last in
-    (x, [], (is_cpu s.machine x.world c has shown.world, subst J (sym shown.world.jobs) (inl (hand.0, hand.1, state, hand.2, hand.3, shows)), (refl, refl)), shown)
+    (x, ((is_cpu s.machine x.world c has shown.world, subst J (sym shown.world.jobs) (inl (hand.0, hand.1, state, hand.2, hand.3, shows))), refl), shown)
 
 pub told_off : (s : SessionState) (c : ℕ) (at : Option ℕ) (n : ℕ) (room last : List ℕ) → has_cpu s.machine.store c ≡ true → room ≡ []
     → ((text : List ℕ) × IsOff s.machine.jobs c text × (last ≡ room ++ text)) → Leaves s (Memory (Some c) at n) last s
@@ -164,76 +181,87 @@ told_off s c at n room last has empty place x shown =
     let J : List Task → Type 0 = λ jobs. IsMemoryText x.world.store jobs c at n last in
     let T : List ℕ → Type 0 = λ text. IsMemoryText x.world.store s.machine.jobs c at n text in
     let same = alone room last place.0 empty place.2 in
-    (x, [], (is_cpu s.machine x.world c has shown.world, subst J (sym shown.world.jobs) (subst T (sym same) (inr place.1)), (refl, refl)), shown)
+    (x, ((is_cpu s.machine x.world c has shown.world, subst J (sym shown.world.jobs) (subst T (sym same) (inr place.1))), refl), shown)
 
 pub told_map : (s : SessionState) (name : List ℕ) (m : ℕ) (last : List ℕ) → IsNamed s.names name m → TellsMap s.machine.store m last → Leaves s (Map name) last s
 told_map s name m last named tells x shown =
     let N : List (List ℕ) → Type 0 = λ names. IsNamed names name m in
-    (x, [], (m, subst N (sym shown.names) named, tells x.world.store shown.world.sound shown.world.store, (refl, refl)), shown)
+    (x, ((m, subst N (sym shown.names) named, tells x.world.store shown.world.sound shown.world.store), refl), shown)
 
 pub told_keys : (s : SessionState) (name : List ℕ) (m : ℕ) (last : List ℕ) → IsNamed s.names name m → TellsKeys s.machine.store m last → Leaves s (Keys name) last s
 told_keys s name m last named tells x shown =
     let N : List (List ℕ) → Type 0 = λ names. IsNamed names name m in
-    (x, [], (m, subst N (sym shown.names) named, tells x.world.store shown.world.sound shown.world.store, (refl, refl)), shown)
+    (x, ((m, subst N (sym shown.names) named, tells x.world.store shown.world.sound shown.world.store), refl), shown)
+
+pub told_course : (s : SessionState) (runs : List (ℕ × ℕ)) (last : List ℕ) → s.course ≡ Some runs → last ≡ codes "steps" ++ runs_text (length runs) runs ++ codes "\n"
+    → Leaves s Schedule last s
+told_course s runs last is put x shown =
+    let K : Option (List (ℕ × ℕ)) → Type 0 = λ kept. IsKept kept x.turns in
+    let told : runs ≡ runs_of x.turns = subst K is shown.turns in
+    (x, (put ∙ ap (λ (rs : List (ℕ × ℕ)). codes "steps" ++ runs_text (length rs) rs ++ codes "\n") told, refl), shown)
+
+pub told_maps : (s : SessionState) (last : List ℕ) → last ≡ shape_lines s.names (shapes_of s.machine.store) (length s.names) → Leaves s Maps last s
+told_maps s last put x shown =
+    let N : List (List ℕ) → Type 0 = λ ns. last ≡ shape_lines ns x.world.store.shape.maps (length ns) in
+    let M : List MapShape → Type 0 = λ maps. last ≡ shape_lines s.names maps (length s.names) in
+    (x, (subst N (sym shown.names) (subst M (sym shown.world.store.maps) put), refl), shown)
+
+pub told_of_jobs : (s : SessionState) (room last : List ℕ) → room ≡ [] → last ≡ room ++ told_jobs (length s.machine.jobs) s.machine.jobs → Leaves s Jobs last s
+told_of_jobs s room last empty put x shown =
+    let J : List Task → Type 0 = λ jobs. last ≡ told_jobs (length jobs) jobs in
+    (x, (subst J (sym shown.world.jobs) (alone room last _ empty put), refl), shown)
+
+pub told_mark : (s : SessionState) (n : ℕ) (room last : List ℕ) → room ≡ [] → last ≡ room ++ mark_line n → Leaves s (Mark n) last s
+told_mark s n room last empty put x shown = (x, (alone room last (mark_line n) empty put, refl), shown)
 
 -- ---- each command's turns are a schedule
-pub follows_runs : (x : Scene) (order : Order) (text turns : List ℕ) (y : Scene) → CarriesOut x order text turns y → RunsSchedule x.world turns y.world
-follows_runs x (Break (Some c) (Some p)) text turns y f =
-    let P : List ℕ → Type 0 = λ cs. RunsSchedule x.world cs y.world in
-    subst P (sym f.1.2) (ap (λ (z : Scene). z.world) f.1.3)
-follows_runs x (Delete (Some c) (Some p)) text turns y f =
-    let P : List ℕ → Type 0 = λ cs. RunsSchedule x.world cs y.world in
-    subst P (sym f.1.2) (ap (λ (z : Scene). z.world) f.1.3)
-follows_runs x (Step (Some c)) text turns y f =
-    let P : List ℕ → Type 0 = λ cs. RunsSchedule x.world cs y.world in
-    subst P (sym f.1.6) (f.1.0, f.1.1, f.1.3, ap (λ (z : Scene). z.world) f.1.7)
-follows_runs x (StepTimes (Some c) n) text turns y f =
-    let P : List ℕ → Type 0 = λ cs. RunsSchedule x.world cs y.world in
-    let Q : World → Type 0 = λ w. RunsSchedule x.world (replicate n c) w in
-    subst P (sym f.1.6) (subst Q (sym (ap (λ (z : Scene). z.world) f.1.7)) (made_runs x.world c n f.1.1 f.1.0 f.1.3))
-follows_runs x (Steps runs) text turns y f =
-    let P : List ℕ → Type 0 = λ cs. RunsSchedule x.world cs y.world in
-    let Q : World → Type 0 = λ w. RunsSchedule x.world (unrolled runs) w in
-    subst P (sym f.1.6) (subst Q (sym (ap (λ (z : Scene). z.world) f.1.7)) (all_runs x.world runs f.1.1 f.1.0 f.1.3))
-follows_runs x Go text turns y f =
-    let P : World → Type 0 = λ w. RunsSchedule x.world turns w in
-    subst P (sym (ap (λ (z : Scene). z.world) f.2)) (goes_runs x.breaks x.world 0 [] turns text f.0 f.1)
-follows_runs x (Registers (Some c)) text turns y f =
-    let P : List ℕ → Type 0 = λ cs. RunsSchedule x.world cs y.world in
-    subst P (sym f.2.0) (ap (λ (z : Scene). z.world) f.2.1)
-follows_runs x (Where (Some c)) text turns y f =
-    let P : List ℕ → Type 0 = λ cs. RunsSchedule x.world cs y.world in
-    subst P (sym f.2.0) (ap (λ (z : Scene). z.world) f.2.1)
-follows_runs x (Memory (Some c) at n) text turns y f =
-    let P : List ℕ → Type 0 = λ cs. RunsSchedule x.world cs y.world in
-    subst P (sym f.2.0) (ap (λ (z : Scene). z.world) f.2.1)
-follows_runs x (Map name) text turns y f =
-    let P : List ℕ → Type 0 = λ cs. RunsSchedule x.world cs y.world in
-    subst P (sym f.3.0) (ap (λ (z : Scene). z.world) f.3.1)
-follows_runs x (Keys name) text turns y f =
-    let P : List ℕ → Type 0 = λ cs. RunsSchedule x.world cs y.world in
-    subst P (sym f.3.0) (ap (λ (z : Scene). z.world) f.3.1)
-follows_runs x (Break None p) text turns y f = absurd f
-follows_runs x (Break (Some c) None) text turns y f = absurd f
-follows_runs x (Delete None p) text turns y f = absurd f
-follows_runs x (Delete (Some c) None) text turns y f = absurd f
-follows_runs x (Step None) text turns y f = absurd f
-follows_runs x (StepTimes None n) text turns y f = absurd f
-follows_runs x (Registers None) text turns y f = absurd f
-follows_runs x (Where None) text turns y f = absurd f
-follows_runs x (Memory None at n) text turns y f = absurd f
+-- some turns more lead on
+led_on : (x y : Scene) (turns : List ℕ) (w : World) → RunsSchedule x.world turns w → y ≡ behind x turns w → IsCourse x → IsCourse y × (y.first ≡ x.first)
+led_on x y turns w runs is course =
+    (subst IsCourse (sym is) (both_run x.turns turns x.first x.world w course runs), ap (λ (z : Scene). z.first) is)
+
+stays : (x y : Scene) → y ≡ x → IsCourse x → IsCourse y × (y.first ≡ x.first)
+stays x y is course = (subst IsCourse (sym is) course, ap (λ (z : Scene). z.first) is)
+
+pub follows_on : (x : Scene) (order : Order) (text : List ℕ) (y : Scene) → CarriesOut x order text y → IsCourse x → IsCourse y × (y.first ≡ x.first)
+follows_on x (Break (Some c) (Some p)) text y f course = (subst IsCourse (sym f.1.2) course, ap (λ (z : Scene). z.first) f.1.2)
+follows_on x (Delete (Some c) (Some p)) text y f course = (subst IsCourse (sym f.1.2) course, ap (λ (z : Scene). z.first) f.1.2)
+follows_on x (Step (Some c)) text y f course = led_on x y (c ∷ []) f.1.1 (f.1.0, f.1.1, f.1.3, refl) f.1.6 course
+follows_on x (StepTimes (Some c) n) text y f course = led_on x y (replicate n c) f.1.0 (made_runs x.world c n f.1.1 f.1.0 f.1.3) f.1.6 course
+follows_on x (Steps runs) text y f course = led_on x y (unrolled runs) f.1.0 (all_runs x.world runs f.1.1 f.1.0 f.1.3) f.1.6 course
+follows_on x Go text y f course = led_on x y f.1 f.0 (goes_runs x.breaks 0 x.world.store.shape.cpus x.world 0 [] f.1 text f.0 f.2) f.3 course
+follows_on x (GoTo (Some c) (Some p)) text y f course =
+    let went = f.1.1 in
+    led_on x y went.1 went.0 (goes_runs (record { cpu = c; pc = p } ∷ []) c (c + 1) x.world c [] went.1 text went.0 went.2) went.3 course
+follows_on x (GoTo (Some c) None) text y f course = absurd f
+follows_on x (GoTo None p) text y f course = absurd f
+follows_on x (Registers c) text y f course = stays x y f.1 course
+follows_on x (Where c) text y f course = stays x y f.1 course
+follows_on x (Memory c at n) text y f course = stays x y f.1 course
+follows_on x (Map name) text y f course = stays x y f.1 course
+follows_on x (Keys name) text y f course = stays x y f.1 course
+follows_on x Schedule text y f course = stays x y f.1 course
+follows_on x Maps text y f course = stays x y f.1 course
+follows_on x Jobs text y f course = stays x y f.1 course
+follows_on x (Mark n) text y f course = stays x y f.1 course
+follows_on x (Break None p) text y f course = absurd f
+follows_on x (Break (Some c) None) text y f course = absurd f
+follows_on x (Delete None p) text y f course = absurd f
+follows_on x (Delete (Some c) None) text y f course = absurd f
+follows_on x (Step None) text y f course = absurd f
+follows_on x (StepTimes None n) text y f course = absurd f
 
 -- ---- lines
 pub no_line : (s : SessionState) (fields : List (List ℕ)) (text : List ℕ) → fields ≡ [] → text ≡ [] → LeavesLine s fields text s
 no_line s fields text e none x shown =
-    let P : List (List ℕ) → Type 0 = λ fs. Obeys x fs text [] x in
-    (x, [], subst P (sym e) (none, (refl, refl)), refl, shown)
+    let P : List (List ℕ) → Type 0 = λ fs. Obeys x fs text x in
+    (x, subst P (sym e) (none, refl), λ course. course, shown)
 
 pub line_done : (s t : SessionState) (fields : List (List ℕ)) (order : Order) (text : List ℕ) → Some order ≡ order_of fields → Leaves s order text t → LeavesLine s fields text t
 line_done s t [] order text e leaves x shown = let no : Some order ≡ None = e in cc
 line_done s t (f ∷ fs) order text e leaves x shown =
     let l = leaves x shown in
-    (l.0, l.1, (order, sym e, l.2), follows_runs x order text l.1 l.0 l.2, l.3)
+    (l.0, (order, sym e, l.1), λ course. (follows_on x order text l.0 l.1 course).0, l.2)
 
 -- ---- refusals
 module _ (s : SessionState) (x : Scene) (shown : IsShown s x) where

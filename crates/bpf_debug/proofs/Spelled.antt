@@ -1,5 +1,5 @@
 -- Any schedule is spelled by `step` commands, and scripts make turns alone.
-use Rattle.std.proofs.Common.{◌≡◌, ℕ, zero, suc, ◌+◌, ◌<◌, List, [], ◌∷◌, ◌++◌, get_or, Option, Some, None, ◌⊎◌, inl, inr, refl, sym, ap, subst, ◌∙◌, arith}
+use Rattle.std.proofs.Common.{◌≡◌, ℕ, zero, suc, ◌+◌, ◌<◌, List, [], ◌∷◌, ◌++◌, get_or, append_assoc, append-nil, Option, Some, None, ◌⊎◌, inl, inr, refl, sym, ap, subst, ◌∙◌, arith}
 use Rattle.std.specs.Prelude.{All, Ok, Err, codes, map, nat_lt, replicate, slice_get, true}
 use Rattle.std.specs.Fmt.{decimal, digits}
 use Rattle.std.proofs.lemmas.Bool.{cases_lt, ltb-true, and_parts}
@@ -19,15 +19,15 @@ use Rattle.bpf_cpu.specs.declared.cpu.Cpu.{Cpu}
 use Rattle.bpf_machine.specs.declared.machine.Turn.{Turn}
 use Rattle.bpf_cpu.specs.declared.outcome.Outcome.{Outcome}
 use Rattle.bpf_cpu.specs.Task.{Stage, Task, Waiting, InHand, Ended}
-use Rattle.bpf_machine.specs.Schedule.{World, Advances, Settles, GoesOn, TakesTurn, RunsSchedule, unrolled}
+use Rattle.bpf_machine.specs.Schedule.{World, Advances, Settles, GoesOn, TakesTurn, unrolled}
 use Rattle.bpf_machine.proofs.ListLaws.{with_end, lists_store}
 use Rattle.bpf_debug.specs.Command.{Step, order_of}
 use Rattle.bpf_debug.specs.Answer.{IsWhere, ended_text, in_hand_line, waiting_line, idle_line}
-use Rattle.bpf_debug.specs.Session.{Scene, IsCpu, Obeys, are_cpus}
+use Rattle.bpf_debug.specs.Session.{Scene, IsCpu, IsCourse, Obeys, are_cpus, behind}
 use Rattle.bpf_debug.specs.Script.{Answer, AnswersLine, RunsScript}
-use Rattle.bpf_debug.specs.Laws.{step_line, StepsSpellSchedules, SchedulesAreSteps, ScriptsMakeTurns}
-use Rattle.bpf_debug.proofs.ManyTurns.{all_runs, both_run}
-use Rattle.bpf_debug.proofs.SessionLaws.{follows_runs}
+use Rattle.bpf_debug.specs.Laws.{step_line, BeginningsComeFirst, StepsSpellSchedules, SchedulesAreSteps, ScriptsMakeTurns}
+use Rattle.bpf_debug.proofs.ManyTurns.{all_runs}
+use Rattle.bpf_debug.proofs.SessionLaws.{follows_on}
 
 -- ---- turns leave the shape of the store
 legal_shape : (s t : Plain) (log : List Entry) → PlainlyLegal s log t → t.shape ≡ s.shape
@@ -161,26 +161,34 @@ spelled = one_more 15 (refl, refl) (one_more 14 (refl, refl) (one_more 13 (refl,
 
 -- a turn is what its line does
 step_done : (x : Scene) (c : ℕ) (answer : Turn) (m : World) → c < 16 → IsCpu x c → TakesTurn x.world c answer m
-    → (text : List ℕ) × AnswersLine x (step_line c) (Ok text) (record x { world = m })
+    → (text : List ℕ) × AnswersLine x (step_line c) (Ok text) (behind x (c ∷ []) m)
 step_done x c answer m small has takes =
     let place = stands c m.jobs in
     let text : List ℕ = ended_text c answer ++ place.0 in
-    let y : Scene = record x { world = m } in
+    let y : Scene = behind x (c ∷ []) m in
     let is = spelled c small in
-    let does : Obeys x (codes "step" ∷ decimal c ∷ []) text (c ∷ []) y = (Step (Some c), is.1, (has, (answer, m, place.0, takes, place.1, refl, refl, refl))) in
-    (text, (c ∷ [], subst (λ (fs : List (List ℕ)). Obeys x fs text (c ∷ []) y) (sym is.0) does))
+    let does : Obeys x (codes "step" ∷ decimal c ∷ []) text y = (Step (Some c), is.1, (has, (answer, m, place.0, takes, place.1, refl, refl))) in
+    (text, subst (λ (fs : List (List ℕ)). Obeys x fs text y) (sym is.0) does)
+
+-- no turn more, and a turn before others
+behind_none : (x : Scene) (z : World) → z ≡ x.world → behind x [] z ≡ x
+behind_none x z is = ap (λ (w : World). behind x [] w) is ∙ ap (λ (turns : List ℕ). record x { turns = turns }) (append-nil x.turns)
+
+behind_both : (x : Scene) (a b : List ℕ) (m z : World) → behind (behind x a m) b z ≡ behind x (a ++ b) z
+behind_both x a b m z = ap (λ (turns : List ℕ). record x { world = z; turns = turns }) (append_assoc x.turns a b)
 
 pub steps_spell_schedules : StepsSpellSchedules
-steps_spell_schedules x [] z few each runs = ([], ap (λ (w : World). record x { world = w }) runs)
+steps_spell_schedules x [] z few each runs = ([], behind_none x z runs)
 steps_spell_schedules x (c ∷ cs) z few each runs =
     let has : IsCpu x c = each 0 c (omega arith) in
     let shape = turn_shape x.world runs.1 c runs.0 runs.2 in
-    let m : Scene = record x { world = runs.1 } in
+    let m : Scene = behind x (c ∷ []) runs.1 in
     let P : Shape → ℕ → Type 0 = λ h d. d < h.cpus in
     let one = step_done x c runs.0 runs.1 (omega (arith, has)) has runs.2 in
     let rest = steps_spell_schedules m cs z (omega (arith, ap (λ (h : Shape). h.cpus) shape))
     (λ k d inside. subst (λ (h : Shape). P h (get_or cs k d)) (sym shape) (each (suc k) d (omega arith))) runs.3 in
-    (Ok one.0 ∷ rest.0, (m, one.1, rest.1))
+    let all : RunsScript m (map step_line cs) rest.0 (behind x (c ∷ cs) z) = subst (λ (y : Scene). RunsScript m (map step_line cs) rest.0 y) (behind_both x (c ∷ []) cs runs.1 z) rest.1 in
+    (Ok one.0 ∷ rest.0, (m, one.1, all))
 
 -- ---- a schedule in run lengths
 of_cpus : (x : Scene) (runs : List (ℕ × ℕ)) → are_cpus x.world.store.shape.cpus runs ≡ true → All (IsCpu x) (unrolled runs)
@@ -190,25 +198,33 @@ of_cpus x (run ∷ runs) each =
     All-append (IsCpu x) (replicate run.1 run.0) (unrolled runs) (All-replicate (IsCpu x) run.1 run.0 (ltb-true run.0 x.world.store.shape.cpus both.0)) (of_cpus x runs both.1)
 
 pub schedules_are_steps : SchedulesAreSteps
-schedules_are_steps x y runs text turns few done =
+schedules_are_steps x y runs text few done =
     let steps = done.1 in
     let spelled_out = steps_spell_schedules x (unrolled runs) steps.0 few (of_cpus x runs done.0) (all_runs x.world runs steps.1 steps.0 steps.3) in
-    (spelled_out.0, subst (λ (s : Scene). RunsScript x (map step_line (unrolled runs)) spelled_out.0 s) (sym steps.7) spelled_out.1)
+    (spelled_out.0, subst (λ (s : Scene). RunsScript x (map step_line (unrolled runs)) spelled_out.0 s) (sym steps.6) spelled_out.1)
 
 -- ---- the turns of a script
-line_runs : (x y : Scene) (fields : List (List ℕ)) (text turns : List ℕ) → Obeys x fields text turns y → RunsSchedule x.world turns y.world
-line_runs x y [] text turns o = subst (λ (cs : List ℕ). RunsSchedule x.world cs y.world) (sym o.1.0) (ap (λ (z : Scene). z.world) o.1.1)
-line_runs x y (f ∷ fs) text turns o = follows_runs x o.0 text turns y o.2
+line_course : (x y : Scene) (fields : List (List ℕ)) (text : List ℕ) → Obeys x fields text y → IsCourse x → IsCourse y × (y.first ≡ x.first)
+line_course x y [] text o course = (subst IsCourse (sym o.1) course, ap (λ (z : Scene). z.first) o.1)
+line_course x y (f ∷ fs) text o course = follows_on x o.0 text y o.2 course
 
-answer_runs : (x y : Scene) (line : List ℕ) (answer : Answer) → AnswersLine x line answer y → (turns : List ℕ) × RunsSchedule x.world turns y.world
-answer_runs x y line (Ok text) a = (a.0, line_runs x y (fields_of line) text a.0 a.1)
-answer_runs x y line (Err e) a = ([], ap (λ (z : Scene). z.world) a.1)
+answer_course : (x y : Scene) (line : List ℕ) (answer : Answer) → AnswersLine x line answer y → IsCourse x → IsCourse y × (y.first ≡ x.first)
+answer_course x y line (Ok text) a course = line_course x y (fields_of line) text a course
+answer_course x y line (Err e) a course = (subst IsCourse (sym a.1) course, ap (λ (z : Scene). z.first) a.1)
 
 pub scripts_make_turns : ScriptsMakeTurns
-scripts_make_turns x y [] [] runs = ([], ap (λ (z : Scene). z.world) runs)
-scripts_make_turns x y [] (answer ∷ answers) runs = absurd runs
-scripts_make_turns x y (line ∷ lines) [] runs = absurd runs
-scripts_make_turns x y (line ∷ lines) (answer ∷ answers) runs =
-    let one = answer_runs x runs.0 line answer runs.1 in
-    let rest = scripts_make_turns runs.0 y lines answers runs.2 in
-    (one.0 ++ rest.0, both_run one.0 rest.0 x.world runs.0.world y.world one.1 rest.1)
+scripts_make_turns x y [] [] runs course = (subst IsCourse (sym runs) course, ap (λ (z : Scene). z.first) runs)
+scripts_make_turns x y [] (answer ∷ answers) runs course = absurd runs
+scripts_make_turns x y (line ∷ lines) [] runs course = absurd runs
+scripts_make_turns x y (line ∷ lines) (answer ∷ answers) runs course =
+    let one = answer_course x runs.0 line answer runs.1 course in
+    let rest = scripts_make_turns runs.0 y lines answers runs.2 one.0 in
+    (rest.0, rest.1 ∙ one.1)
+
+-- ---- the beginning of a script
+pub beginnings_come_first : BeginningsComeFirst
+beginnings_come_first x y [] more answers runs = (x, [], answers, refl, refl, runs)
+beginnings_come_first x y (line ∷ lines) more [] runs = absurd runs
+beginnings_come_first x y (line ∷ lines) more (answer ∷ answers) runs =
+    let rest = beginnings_come_first runs.0 y lines more answers runs.2 in
+    (rest.0, answer ∷ rest.1, rest.2, ap (λ (all : List Answer). answer ∷ all) rest.3, (runs.0, runs.1, rest.4), rest.5)

@@ -1,5 +1,5 @@
 -- What a line says to the debugger (our own choice).
-use Rattle.std.specs.Prelude.{ℕ, Bool, ◌^◌, ◌&&◌, nat_le, nat_lt, if◌then◌else◌, List, [], ◌∷◌, codes, length, Option, Some, None, option_map, option_and_then}
+use Rattle.std.specs.Prelude.{ℕ, Bool, ◌^◌, ◌&&◌, ◌||◌, nat_le, nat_lt, if◌then◌else◌, List, [], ◌∷◌, codes, length, Option, Some, None, option_map, option_and_then}
 use Rattle.std.specs.List.{list_all}
 use Rattle.std.specs.Str.{bytes_eq}
 use Rattle.bpf_lines.specs.Words.{written_number, is_name}
@@ -31,6 +31,16 @@ pub data Order : Type 0 where
   Map : List ℕ → Order
   -- `keys NAME`
   Keys : List ℕ → Order
+  -- `schedule`: the turns made so far
+  Schedule : Order
+  -- `go C until P`, `step C until P`: turns of C up to the pc P, or until it has no work left
+  GoTo : Option ℕ → Option ℕ → Order
+  -- `maps`
+  Maps : Order
+  -- `jobs`
+  Jobs : Order
+  -- `mark N`
+  Mark : ℕ → Order
 
 -- a word is a number of any size, and this one where it is below the limit
 abbrev pub number_below : ℕ → List ℕ → Option (Option ℕ)
@@ -66,9 +76,19 @@ most_turns = 1000000
 abbrev pub turns_in : List ℕ → Option ℕ
 turns_in word = option_and_then (few_of most_turns) (written_number word)
 
+-- a number of 64 bits
+abbrev pub mark_in : List ℕ → Option ℕ
+mark_in word =
+    option_and_then (λ n. if nat_lt n (2 ^ 64) then Some n else None) (written_number word)
+
 -- ---- commands by the number of their words
 abbrev pub one_word : List ℕ → Option Order
-one_word w = if bytes_eq (codes "go") w then Some Go else None
+one_word w =
+    if bytes_eq (codes "go") w then Some Go
+    else (if bytes_eq (codes "schedule") w then Some Schedule
+    else (if bytes_eq (codes "maps") w then Some Maps
+    else (if bytes_eq (codes "jobs") w then Some Jobs
+    else None)))
 
 abbrev pub two_words : List ℕ → List ℕ → Option Order
 two_words w a =
@@ -77,7 +97,8 @@ two_words w a =
     else (if bytes_eq (codes "where") w then option_map Where (cpu_in a)
     else (if bytes_eq (codes "map") w then (if is_name a then Some (Map a) else None)
     else (if bytes_eq (codes "keys") w then (if is_name a then Some (Keys a) else None)
-    else None))))
+    else (if bytes_eq (codes "mark") w then option_map Mark (mark_in a)
+    else None)))))
 
 abbrev pub three_words : List ℕ → List ℕ → List ℕ → Option Order
 three_words w a b =
@@ -94,7 +115,9 @@ four_words w a b c =
     if bytes_eq (codes "mem") w
     then option_and_then (λ cpu. option_and_then (λ at. option_map (Memory cpu at) (count_in c))
     (address_in b)) (cpu_in a)
-    else None
+    else (if (bytes_eq (codes "go") w || bytes_eq (codes "step") w) && bytes_eq (codes "until") b
+    then option_and_then (λ cpu. option_map (GoTo cpu) (pc_in c)) (cpu_in a)
+    else None)
 
 abbrev pub few_words : List (List ℕ) → Option Order
 few_words (w ∷ []) = one_word w
@@ -139,3 +162,8 @@ command_order (command.Where c) = Where c
 command_order (command.Memory c a n) = Memory c a n
 command_order (command.Map name) = Map name.now
 command_order (command.Keys name) = Keys name.now
+command_order command.Schedule = Schedule
+command_order (command.GoTo c p) = GoTo c p
+command_order command.Maps = Maps
+command_order command.Jobs = Jobs
+command_order (command.Mark n) = Mark n

@@ -1,4 +1,4 @@
--- What `go` does: rounds over the CPUs in rising order, one turn for each that has work, up to a
+-- What `go` does: rounds over CPUs in rising order, one turn for each that has work, up to a
 -- breakpoint (our own choice).
 use Rattle.std.specs.Prelude.{◌≡◌, ℕ, ◌+◌, ◌<◌, ◌≤◌, Bool, true, false, ◌==◌, ◌&&◌, ◌⊎◌, List, [], ◌∷◌, ◌++◌, codes, filter, not}
 use Rattle.std.specs.List.{list_any}
@@ -23,12 +23,14 @@ abbrev pub AreIdle : List Task → ℕ → ℕ → Type 0
 AreIdle jobs «from» to =
     (c : ℕ) → «from» ≤ c → c < to → IsFree jobs c × NoneWaits jobs c
 
--- of so many CPUs the first with work, from a number on, and then from CPU 0 on: a new round
-pub record IsUp (jobs : List Task) (cpus «from» c : ℕ) : Type 0 where
-  pub within : c < cpus
+-- of the CPUs from one number on and below another the first with work, from a number on, and then
+-- from the first of them on: a new round
+pub record IsUp (jobs : List Task) (low high «from» c : ℕ) : Type 0 where
+  pub above : low ≤ c
+  pub within : c < high
   pub works : HasWork jobs c
   pub first : ((«from» ≤ c) × AreIdle jobs «from» c)
-      ⊎ ((c < «from») × AreIdle jobs «from» cpus × AreIdle jobs 0 c)
+      ⊎ ((c < «from») × AreIdle jobs «from» high × AreIdle jobs low c)
 
 -- ---- breakpoints
 
@@ -55,23 +57,25 @@ has_gone turns c = list_any (λ d. d == c) turns
 
 -- ---- all turns of a `go`
 
--- From this world, the next number in the round, and the CPUs that have made turns (the last of
--- them first): these turns, this text, and the world after them.
-pub data Goes (breaks : List Breakpoint) : World → ℕ → List ℕ → List ℕ → List ℕ → World → Type 0
+-- Of the CPUs from one number on and below another: from this world, the next number in the round,
+-- and the CPUs that have made turns (the last of them first): these turns, this text, and the world
+-- after them.
+pub data Goes (breaks : List Breakpoint) (low high : ℕ)
+    : World → ℕ → List ℕ → List ℕ → List ℕ → World → Type 0
   where
     -- no work is left
     Done : {w : World} {«from» : ℕ} {gone : List ℕ}
-        → AreIdle w.jobs 0 w.store.shape.cpus → Goes breaks w «from» gone [] (codes "done\n") w
+        → AreIdle w.jobs low high → Goes breaks low high w «from» gone [] (codes "done\n") w
     -- the CPU that is up has made a turn, and is at a breakpoint of its
     Stops : {w : World} {«from» : ℕ} {gone : List ℕ} {c p : ℕ}
-        → IsUp w.jobs w.store.shape.cpus «from» c → has_gone gone c ≡ true
+        → IsUp w.jobs low high «from» c → has_gone gone c ≡ true
         → StandsAt w.jobs c p → has_break breaks c p ≡ true
-        → Goes breaks w «from» gone [] (stop_line c p) w
+        → Goes breaks low high w «from» gone [] (stop_line c p) w
     -- or it makes a turn
     Turns : {w : World} {«from» : ℕ} {gone : List ℕ} {c : ℕ} {answer : Turn} {m : World}
         {turns text : List ℕ} {z : World}
-        → IsUp w.jobs w.store.shape.cpus «from» c
+        → IsUp w.jobs low high «from» c
         → (has_gone gone c ≡ false)
         ⊎ ((p : ℕ) × StandsAt w.jobs c p × (has_break breaks c p ≡ false))
-        → TakesTurn w c answer m → Goes breaks m (c + 1) (c ∷ gone) turns text z
-        → Goes breaks w «from» gone (c ∷ turns) (ended_text c answer ++ text) z
+        → TakesTurn w c answer m → Goes breaks low high m (c + 1) (c ∷ gone) turns text z
+        → Goes breaks low high w «from» gone (c ∷ turns) (ended_text c answer ++ text) z

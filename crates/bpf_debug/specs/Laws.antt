@@ -1,12 +1,14 @@
 -- What follows from the definitions of commands and scripts: any order of turns is spelled by
 -- `step` commands, questions change nothing, and a script has one list of answers.
-use Rattle.std.specs.Prelude.{◌≡◌, ◌≢◌, ℕ, ◌≤◌, List, [], ◌∷◌, ◌++◌, Option, All, Err, codes, map}
+use Rattle.std.specs.Prelude.{◌≡◌, ◌≢◌, ℕ, ◌≤◌, true, List, [], ◌∷◌, ◌++◌, Option, All, Err, codes, map}
+use Rattle.std.specs.List.{list_all}
 use Rattle.std.specs.Fmt.{decimal}
 use Rattle.bpf_machine.specs.Laws.{IsFresh}
 use Rattle.bpf_machine.specs.Schedule.{World, RunsSchedule, unrolled}
 use Rattle.bpf_debug.specs.declared.error.DebugError.TheVariants as error
-use Rattle.bpf_debug.specs.Command.{Order, Break, Delete, Step, StepTimes, Steps, Go, Registers, Where, Memory, Map, Keys}
-use Rattle.bpf_debug.specs.Session.{Scene, IsCpu, CarriesOut}
+use Rattle.bpf_debug.specs.Command.{Order, Break, Delete, Step, StepTimes, Steps, Go, Registers, Where, Memory, Map, Keys, Schedule, GoTo, Maps, Jobs, Mark, is_short}
+use Rattle.bpf_debug.specs.Course.{runs_of}
+use Rattle.bpf_debug.specs.Session.{Scene, IsCpu, IsCourse, CarriesOut, behind}
 use Rattle.bpf_debug.specs.Script.{Answer, RunsScript}
 
 -- ---- turns
@@ -20,20 +22,34 @@ abbrev pub StepsSpellSchedules : Type 0
 StepsSpellSchedules =
     (x : Scene) (schedule : List ℕ) (z : World) → x.world.store.shape.cpus ≤ 16
     → All (IsCpu x) schedule → RunsSchedule x.world schedule z → (answers : List Answer)
-    × RunsScript x (map step_line schedule) answers (record x { world = z })
+    × RunsScript x (map step_line schedule) answers (behind x schedule z)
 
 -- a `steps` of a schedule leaves what the script of its `step` commands, one a turn, leaves
 abbrev pub SchedulesAreSteps : Type 0
 SchedulesAreSteps =
-    (x y : Scene) (runs : List (ℕ × ℕ)) (text turns : List ℕ) → x.world.store.shape.cpus ≤ 16
-    → CarriesOut x (Steps runs) text turns y → (answers : List Answer)
+    (x y : Scene) (runs : List (ℕ × ℕ)) (text : List ℕ) → x.world.store.shape.cpus ≤ 16
+    → CarriesOut x (Steps runs) text y → (answers : List Answer)
     × RunsScript x (map step_line (unrolled runs)) answers y
 
--- what a script leaves is what some schedule leaves
+-- the turns of a scene lead from its first machine to its own, and so they do behind any script
 abbrev pub ScriptsMakeTurns : Type 0
 ScriptsMakeTurns =
     (x y : Scene) (lines : List (List ℕ)) (answers : List Answer) → RunsScript x lines answers y
-    → (schedule : List ℕ) × RunsSchedule x.world schedule y.world
+    → IsCourse x → IsCourse y × (y.first ≡ x.first)
+
+-- run lengths tell their turns, and `steps` takes them: no run is longer than one may be
+abbrev pub RunsTellTurns : Type 0
+RunsTellTurns =
+    (turns : List ℕ) → (unrolled (runs_of turns) ≡ turns)
+    × (list_all is_short (runs_of turns) ≡ true)
+
+-- what the beginning of a script is answered is the beginning of what it is answered
+abbrev pub BeginningsComeFirst : Type 0
+BeginningsComeFirst =
+    (x y : Scene) (lines more : List (List ℕ)) (answers : List Answer)
+    → RunsScript x (lines ++ more) answers y → (m : Scene) × (first : List Answer)
+    × (others : List Answer) × (answers ≡ first ++ others) × RunsScript x lines first m
+    × RunsScript m more others y
 
 -- ---- questions
 
@@ -43,22 +59,27 @@ IsQuestion (Where c) = Unit {0}
 IsQuestion (Memory c at n) = Unit {0}
 IsQuestion (Map name) = Unit {0}
 IsQuestion (Keys name) = Unit {0}
+IsQuestion Schedule = Unit {0}
+IsQuestion Maps = Unit {0}
+IsQuestion Jobs = Unit {0}
+IsQuestion (Mark n) = Unit {0}
 IsQuestion (Delete c p) = ⊥
 IsQuestion (Break c p) = ⊥
 IsQuestion (Step c) = ⊥
 IsQuestion (StepTimes c n) = ⊥
 IsQuestion (Steps runs) = ⊥
 IsQuestion Go = ⊥
+IsQuestion (GoTo c p) = ⊥
 
--- a question makes no turn and changes nothing; a breakpoint makes none, and leaves the machine
+-- a question changes nothing; a breakpoint makes no turn, and leaves the machine
 abbrev pub QuestionsChangeNothing : Type 0
 QuestionsChangeNothing =
-    ((x y : Scene) (order : Order) (text turns : List ℕ) → IsQuestion order
-    → CarriesOut x order text turns y → (turns ≡ []) × (y ≡ x))
-    × ((x y : Scene) (c p : Option ℕ) (text turns : List ℕ) → CarriesOut x (Break c p) text turns y
-    → (turns ≡ []) × (y.world ≡ x.world))
-    × ((x y : Scene) (c p : Option ℕ) (text turns : List ℕ) → CarriesOut x (Delete c p) text turns y
-    → (turns ≡ []) × (y.world ≡ x.world))
+    ((x y : Scene) (order : Order) (text : List ℕ) → IsQuestion order → CarriesOut x order text y
+    → y ≡ x)
+    × ((x y : Scene) (c p : Option ℕ) (text : List ℕ) → CarriesOut x (Break c p) text y
+    → (y.turns ≡ x.turns) × (y.world ≡ x.world))
+    × ((x y : Scene) (c p : Option ℕ) (text : List ℕ) → CarriesOut x (Delete c p) text y
+    → (y.turns ≡ x.turns) × (y.world ≡ x.world))
 
 -- ---- one list of answers
 

@@ -2,7 +2,9 @@ pub mod Command
 pub mod Answer
 pub mod Go
 pub mod Turns
+pub mod Course
 pub mod Read
+pub mod Told
 pub mod Session
 pub mod Codes
 pub mod Script

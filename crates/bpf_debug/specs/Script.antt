@@ -13,7 +13,7 @@ Answer = Result (List ℕ) DebugError
 -- what a line is answered, and what is there after it: what it says is done, or it is refused and
 -- changes nothing
 abbrev pub AnswersLine : Scene → List ℕ → Answer → Scene → Type 0
-AnswersLine x line (Ok text) y = (turns : List ℕ) × Obeys x (fields_of line) text turns y
+AnswersLine x line (Ok text) y = Obeys x (fields_of line) text y
 AnswersLine x line (Err e) y = IsLineRefused x (fields_of line) e × (y ≡ x)
 
 -- an answer for each line, in their order

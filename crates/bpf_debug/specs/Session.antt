@@ -1,6 +1,6 @@
 -- What commands do: the turns that each makes, what it answers, and why one is refused (our own
 -- choice).
-use Rattle.std.specs.Prelude.{◌≡◌, ℕ, ◌<◌, replicate, Bool, true, false, nat_lt, if◌then◌else◌, List, [], ◌∷◌, ◌++◌, Option, Some, None, length, slice_get}
+use Rattle.std.specs.Prelude.{◌≡◌, ℕ, ◌+◌, ◌<◌, replicate, Bool, true, false, nat_lt, if◌then◌else◌, List, [], ◌∷◌, ◌++◌, Option, Some, None, length, slice_get}
 use Rattle.std.specs.List.{list_all}
 use Rattle.bpf_loader.specs.Loaded.{Loaded}
 use Rattle.bpf_loader.specs.Places.{IsStart}
@@ -10,29 +10,43 @@ use Rattle.bpf_machine.specs.Machine.{MachineState, Shows}
 use Rattle.bpf_debug.specs.declared.breakpoint.Breakpoint.{Breakpoint}
 use Rattle.bpf_debug.specs.declared.error.DebugError.{DebugError}
 use Rattle.bpf_debug.specs.declared.error.DebugError.TheVariants as error
-use Rattle.bpf_debug.specs.Command.{Order, Break, Delete, Step, StepTimes, Steps, Go, Registers, Where, Memory, Map, Keys, order_of}
+use Rattle.bpf_debug.specs.Command.{Order, Break, Delete, Step, StepTimes, Steps, Go, Registers, Where, Memory, Map, Keys, Schedule, GoTo, Maps, Jobs, Mark, order_of}
 use Rattle.bpf_debug.specs.Answer.{IsWhere, IsRegisters, ended_text, break_line, deleted_line}
 use Rattle.bpf_debug.specs.Turns.{MakesTurns, MakesRuns, last_cpu}
+use Rattle.bpf_debug.specs.Course.{IsKept, course_line}
 use Rattle.bpf_debug.specs.Go.{Goes, has_break, without_break}
+use Rattle.bpf_debug.specs.Told.{shape_lines, told_jobs, mark_line}
 use Rattle.bpf_debug.specs.Read.{IsMemoryText, IsNamed, IsNoName, IsMapText, IsKeysText}
 
--- what callers see of a session: its machine, the names of the maps by their numbers, and the
--- breakpoints
+-- what callers see of a session: its machine, the names of the maps by their numbers, the
+-- breakpoints, and the turns made so far in run lengths, where there was room for them
 pub record SessionState : Type 0 where
   pub machine : MachineState
   pub names : List (List ℕ)
   pub breaks : List Breakpoint
+  pub course : Option (List (ℕ × ℕ))
 
--- a plain machine with those
+-- a plain machine with those, that before the first turn, and the turns that were made since
 pub record Scene : Type 0 where
   pub world : World
   pub names : List (List ℕ)
   pub breaks : List Breakpoint
+  pub first : World
+  pub turns : List ℕ
 
 pub record IsShown (s : SessionState) (x : Scene) : Type 0 where
   pub world : Shows s.machine x.world
   pub names : x.names ≡ s.names
   pub breaks : x.breaks ≡ s.breaks
+  pub turns : IsKept s.course x.turns
+
+-- the turns lead from the first machine to this one
+abbrev pub IsCourse : Scene → Type 0
+IsCourse x = RunsSchedule x.first x.turns x.world
+
+-- the scene behind some turns more, which lead to this machine
+abbrev pub behind : Scene → List ℕ → World → Scene
+behind x turns w = record x { world = w; turns = x.turns ++ turns }
 
 -- some program has an instruction that begins at the pc
 abbrev pub IsPc : List Loaded → ℕ → Type 0
@@ -45,44 +59,49 @@ abbrev pub with_break : List Breakpoint → ℕ → ℕ → List Breakpoint
 with_break breaks c p =
     if has_break breaks c p then breaks else breaks ++ record { cpu = c; pc = p } ∷ []
 
--- ---- what a command does: what it answers, its turns, and what is there after them
+-- ---- what a command does: what it answers, and what is there after it, with its turns
 
-abbrev pub SetsBreak : Scene → ℕ → ℕ → List ℕ → List ℕ → Scene → Type 0
-SetsBreak x c p text turns y =
-    IsPc x.world.programs p × (text ≡ break_line c p) × (turns ≡ [])
+abbrev pub SetsBreak : Scene → ℕ → ℕ → List ℕ → Scene → Type 0
+SetsBreak x c p text y =
+    IsPc x.world.programs p × (text ≡ break_line c p)
     × (y ≡ record x { breaks = with_break x.breaks c p })
 
-abbrev pub DeletesBreak : Scene → ℕ → ℕ → List ℕ → List ℕ → Scene → Type 0
-DeletesBreak x c p text turns y =
-    IsPc x.world.programs p × (text ≡ deleted_line c p) × (turns ≡ [])
+abbrev pub DeletesBreak : Scene → ℕ → ℕ → List ℕ → Scene → Type 0
+DeletesBreak x c p text y =
+    IsPc x.world.programs p × (text ≡ deleted_line c p)
     × (y ≡ record x { breaks = without_break x.breaks c p })
 
-abbrev pub StepsCpu : Scene → ℕ → List ℕ → List ℕ → Scene → Type 0
-StepsCpu x c text turns y =
+abbrev pub StepsCpu : Scene → ℕ → List ℕ → Scene → Type 0
+StepsCpu x c text y =
     (answer : Turn) × (m : World) × (where_text : List ℕ) × TakesTurn x.world c answer m
     × IsWhere m.jobs c where_text × (text ≡ ended_text c answer ++ where_text)
-    × (turns ≡ c ∷ []) × (y ≡ record x { world = m })
+    × (y ≡ behind x (c ∷ []) m)
 
-abbrev pub StepsTimes : Scene → ℕ → ℕ → List ℕ → List ℕ → Scene → Type 0
-StepsTimes x c n text turns y =
+abbrev pub StepsTimes : Scene → ℕ → ℕ → List ℕ → Scene → Type 0
+StepsTimes x c n text y =
     (m : World) × (before : List ℕ) × (where_text : List ℕ) × MakesTurns x.world c n before m
     × IsWhere m.jobs c where_text × (text ≡ before ++ where_text)
-    × (turns ≡ replicate n c) × (y ≡ record x { world = m })
+    × (y ≡ behind x (replicate n c) m)
 
 -- a schedule's turns
-abbrev pub StepsRuns : Scene → List (ℕ × ℕ) → List ℕ → List ℕ → Scene → Type 0
-StepsRuns x runs text turns y =
+abbrev pub StepsRuns : Scene → List (ℕ × ℕ) → List ℕ → Scene → Type 0
+StepsRuns x runs text y =
     (m : World) × (before : List ℕ) × (where_text : List ℕ) × MakesRuns x.world runs before m
     × IsWhere m.jobs (last_cpu runs) where_text × (text ≡ before ++ where_text)
-    × (turns ≡ unrolled runs) × (y ≡ record x { world = m })
+    × (y ≡ behind x (unrolled runs) m)
 
-abbrev pub RunsOn : Scene → List ℕ → List ℕ → Scene → Type 0
-RunsOn x text turns y =
-    (m : World) × Goes x.breaks x.world 0 [] turns text m × (y ≡ record x { world = m })
+-- rounds of all CPUs, up to a breakpoint
+abbrev pub RunsOn : Scene → List ℕ → Scene → Type 0
+RunsOn x text y =
+    (m : World) × (turns : List ℕ)
+    × Goes x.breaks 0 x.world.store.shape.cpus x.world 0 [] turns text m × (y ≡ behind x turns m)
 
--- a question changes nothing
-abbrev pub ChangesNothing : Scene → List ℕ → Scene → Type 0
-ChangesNothing x turns y = (turns ≡ []) × (y ≡ x)
+-- the same of one CPU alone, up to one pc, whatever the breakpoints are
+abbrev pub RunsTo : Scene → ℕ → ℕ → List ℕ → Scene → Type 0
+RunsTo x c p text y =
+    IsPc x.world.programs p × ((m : World) × (turns : List ℕ)
+    × Goes (record { cpu = c; pc = p } ∷ []) c (c + 1) x.world c [] turns text m
+    × (y ≡ behind x turns m))
 
 abbrev pub IsCpu : Scene → ℕ → Type 0
 IsCpu x c = c < x.world.store.shape.cpus
@@ -91,46 +110,55 @@ IsCpu x c = c < x.world.store.shape.cpus
 abbrev pub are_cpus : ℕ → List (ℕ × ℕ) → Bool
 are_cpus cpus runs = list_all (λ run. nat_lt run.0 cpus) runs
 
--- each order with its text and turns
-abbrev pub CarriesOut : Scene → Order → List ℕ → List ℕ → Scene → Type 0
-CarriesOut x (Break (Some c) (Some p)) text turns y = IsCpu x c × SetsBreak x c p text turns y
-CarriesOut x (Delete (Some c) (Some p)) text turns y = IsCpu x c × DeletesBreak x c p text turns y
-CarriesOut x (Step (Some c)) text turns y = IsCpu x c × StepsCpu x c text turns y
-CarriesOut x (StepTimes (Some c) n) text turns y = IsCpu x c × StepsTimes x c n text turns y
-CarriesOut x (Steps runs) text turns y =
-    (are_cpus x.world.store.shape.cpus runs ≡ true) × StepsRuns x runs text turns y
-CarriesOut x Go text turns y = RunsOn x text turns y
-CarriesOut x (Registers (Some c)) text turns y =
-    IsCpu x c × IsRegisters x.world.jobs c text × ChangesNothing x turns y
-CarriesOut x (Where (Some c)) text turns y =
-    IsCpu x c × IsWhere x.world.jobs c text × ChangesNothing x turns y
-CarriesOut x (Memory (Some c) at n) text turns y =
-    IsCpu x c × IsMemoryText x.world.store x.world.jobs c at n text × ChangesNothing x turns y
-CarriesOut x (Map name) text turns y =
-    (m : ℕ) × IsNamed x.names name m × IsMapText x.world.store m text × ChangesNothing x turns y
-CarriesOut x (Keys name) text turns y =
-    (m : ℕ) × IsNamed x.names name m × IsKeysText x.world.store m text × ChangesNothing x turns y
-CarriesOut x order text turns y = ⊥
+-- what a question is answered: it makes no turn and changes nothing
+abbrev pub Answers : Scene → Order → List ℕ → Type 0
+Answers x (Registers (Some c)) text = IsCpu x c × IsRegisters x.world.jobs c text
+Answers x (Where (Some c)) text = IsCpu x c × IsWhere x.world.jobs c text
+Answers x (Memory (Some c) at n) text =
+    IsCpu x c × IsMemoryText x.world.store x.world.jobs c at n text
+Answers x (Map name) text = (m : ℕ) × IsNamed x.names name m × IsMapText x.world.store m text
+Answers x (Keys name) text = (m : ℕ) × IsNamed x.names name m × IsKeysText x.world.store m text
+Answers x Schedule text = text ≡ course_line x.turns
+Answers x Maps text = text ≡ shape_lines x.names x.world.store.shape.maps (length x.names)
+Answers x Jobs text = text ≡ told_jobs (length x.world.jobs) x.world.jobs
+Answers x (Mark n) text = text ≡ mark_line n
+Answers x order text = ⊥
+
+-- each order with its text
+abbrev pub CarriesOut : Scene → Order → List ℕ → Scene → Type 0
+CarriesOut x (Break (Some c) (Some p)) text y = IsCpu x c × SetsBreak x c p text y
+CarriesOut x (Delete (Some c) (Some p)) text y = IsCpu x c × DeletesBreak x c p text y
+CarriesOut x (Step (Some c)) text y = IsCpu x c × StepsCpu x c text y
+CarriesOut x (StepTimes (Some c) n) text y = IsCpu x c × StepsTimes x c n text y
+CarriesOut x (Steps runs) text y =
+    (are_cpus x.world.store.shape.cpus runs ≡ true) × StepsRuns x runs text y
+CarriesOut x Go text y = RunsOn x text y
+CarriesOut x (GoTo (Some c) (Some p)) text y = IsCpu x c × RunsTo x c p text y
+CarriesOut x (Break c p) text y = ⊥
+CarriesOut x (Delete c p) text y = ⊥
+CarriesOut x (Step None) text y = ⊥
+CarriesOut x (StepTimes None n) text y = ⊥
+CarriesOut x (GoTo c p) text y = ⊥
+CarriesOut x order text y = Answers x order text × (y ≡ x)
 
 -- a line without a word does and answers nothing
-abbrev pub Obeys : Scene → List (List ℕ) → List ℕ → List ℕ → Scene → Type 0
-Obeys x [] text turns y = (text ≡ []) × ChangesNothing x turns y
-Obeys x (field ∷ fields) text turns y =
-    (order : Order) × (order_of (field ∷ fields) ≡ Some order) × CarriesOut x order text turns y
+abbrev pub Obeys : Scene → List (List ℕ) → List ℕ → Scene → Type 0
+Obeys x [] text y = (text ≡ []) × (y ≡ x)
+Obeys x (field ∷ fields) text y =
+    (order : Order) × (order_of (field ∷ fields) ≡ Some order) × CarriesOut x order text y
 
 -- ---- what a session does with one
 
 -- from each scene that the session showed, the order is followed, to one that it shows now
 abbrev pub Leaves : SessionState → Order → List ℕ → SessionState → Type 0
 Leaves s order text t =
-    (x : Scene) → IsShown s x → (y : Scene) × (turns : List ℕ) × CarriesOut x order text turns y
-    × IsShown t y
+    (x : Scene) → IsShown s x → (y : Scene) × CarriesOut x order text y × IsShown t y
 
--- the same of a line; the world after it is what its turns, as a schedule, leave
+-- the same of a line; the turns then lead from the first machine to that one
 abbrev pub LeavesLine : SessionState → List (List ℕ) → List ℕ → SessionState → Type 0
 LeavesLine s fields text t =
-    (x : Scene) → IsShown s x → (y : Scene) × (turns : List ℕ) × Obeys x fields text turns y
-    × RunsSchedule x.world turns y.world × IsShown t y
+    (x : Scene) → IsShown s x → (y : Scene) × Obeys x fields text y × (IsCourse x → IsCourse y)
+    × IsShown t y
 
 -- ---- refusals: G4 is tested first, then G1; of a machine with so many CPUs, these programs, and
 -- maps of these names
@@ -157,10 +185,16 @@ NamesNoCpu cpus (Where c) = IsNoCpu cpus c
 NamesNoCpu cpus (Memory c at n) = IsNoCpu cpus c
 NamesNoCpu cpus (Map name) = ⊥
 NamesNoCpu cpus (Keys name) = ⊥
+NamesNoCpu cpus Schedule = ⊥
+NamesNoCpu cpus (GoTo c p) = IsNoCpu cpus c
+NamesNoCpu cpus Maps = ⊥
+NamesNoCpu cpus Jobs = ⊥
+NamesNoCpu cpus (Mark n) = ⊥
 
 abbrev pub NamesNoPc : ℕ → List Loaded → Order → Type 0
 NamesNoPc cpus programs (Break c p) = (IsNoCpu cpus c → ⊥) × IsNoPc programs p
 NamesNoPc cpus programs (Delete c p) = (IsNoCpu cpus c → ⊥) × IsNoPc programs p
+NamesNoPc cpus programs (GoTo c p) = (IsNoCpu cpus c → ⊥) × IsNoPc programs p
 NamesNoPc cpus programs order = ⊥
 
 abbrev pub NamesNoMap : List (List ℕ) → Order → Type 0

@@ -2,7 +2,7 @@
 
 ghost use Rattle.std.specs.Prelude.{◌≡◌, map, option_map};
 ghost use Rattle.std.specs.Str.{bytes_eq};
-ghost use Rattle.bpf_debug.specs.Command.{cpu_in, pc_in, address_in, count_in, turns_in, one_word, two_words, three_words, four_words, few_words, command_order};
+ghost use Rattle.bpf_debug.specs.Command.{cpu_in, pc_in, address_in, count_in, turns_in, mark_in, one_word, two_words, three_words, four_words, few_words, command_order};
 
 use bpf_lines::words::{self, NumberError};
 
@@ -29,6 +29,16 @@ pub enum Command<'a> {
     Map(&'a [u8]),
     /// The same without their values.
     Keys(&'a [u8]),
+    /// The turns made so far.
+    Schedule,
+    /// Turns of a CPU, up to a pc or until it has no work left.
+    GoTo(Option<u8>, Option<u32>),
+    /// The maps, with their names and sizes.
+    Maps,
+    /// The jobs, with how those that ended have ended.
+    Jobs,
+    /// A number to be told again.
+    Mark(u64),
 }
 
 /// Whether a word is this one.
@@ -109,11 +119,24 @@ fn turns_in(word: &[u8]) -> Option<u64>
     }
 }
 
+/// A number of 64 bits.
+fn mark_in(word: &[u8]) -> Option<u64>
+    ensures { result ≡ mark_in word.now }
+{
+    words::number(word).ok()
+}
+
 fn one_word<'a>(word: &[u8]) -> Option<Command<'a>>
     ensures { option_map command_order result ≡ one_word word.now }
 {
     if is(word, "go") {
         Some(Command::Go)
+    } else if is(word, "schedule") {
+        Some(Command::Schedule)
+    } else if is(word, "maps") {
+        Some(Command::Maps)
+    } else if is(word, "jobs") {
+        Some(Command::Jobs)
     } else {
         None
     }
@@ -135,6 +158,9 @@ fn two_words<'a>(word: &[u8], first: &'a [u8]) -> Option<Command<'a>>
         Some(Command::Map(first))
     } else if is(word, "keys") && words::is_name(first) {
         Some(Command::Keys(first))
+    } else if is(word, "mark") {
+        let number = mark_in(first)?;
+        Some(Command::Mark(number))
     } else {
         None
     }
@@ -163,13 +189,18 @@ fn three_words<'a>(word: &[u8], first: &[u8], second: &[u8]) -> Option<Command<'
 fn four_words<'a>(word: &[u8], first: &[u8], second: &[u8], third: &[u8]) -> Option<Command<'a>>
     ensures { option_map command_order result ≡ four_words word.now first.now second.now third.now }
 {
-    if !is(word, "mem") {
-        return None;
+    if is(word, "mem") {
+        let cpu = cpu_in(first)?;
+        let address = address_in(second)?;
+        let count = count_in(third)?;
+        Some(Command::Memory(cpu, address, count))
+    } else if (is(word, "go") || is(word, "step")) && is(second, "until") {
+        let cpu = cpu_in(first)?;
+        let pc = pc_in(third)?;
+        Some(Command::GoTo(cpu, pc))
+    } else {
+        None
     }
-    let cpu = cpu_in(first)?;
-    let address = address_in(second)?;
-    let count = count_in(third)?;
-    Some(Command::Memory(cpu, address, count))
 }
 
 /// The command that few fields say; `None` where they say none.

@@ -4,9 +4,11 @@ ghost use Rattle.std.specs.Prelude.{◌≡◌, ◌+◌, ◌*◌, ◌≤◌, ◌<
 ghost use Rattle.bpf_machine.specs.Schedule.{World};
 ghost use Rattle.bpf_machine.specs.Machine.{Shows};
 ghost use Rattle.bpf_machine.specs.Questions.{open_jobs};
+ghost use Rattle.bpf_debug.specs.Course.{KeepsOn};
 ghost use Rattle.bpf_debug.specs.Go.{Goes, HasWork, AreIdle, IsUp, StandsAt, has_break};
 
 use crate::breakpoint::{Breakpoint, has_break};
+use crate::course::Course;
 use crate::lines::{put_ended, put_stop};
 use crate::text::put;
 use bpf_machine::{Machine, Standing};
@@ -27,16 +29,17 @@ fn first_at_work(machine: &Machine, from: u8, to: u8) -> Option<u8>
     None
 }
 
-/// The CPU that is up: the first with work from a number on, and then from CPU 0 on.
-pub fn next_up(machine: &Machine, from: u8) -> Option<u8>
-    ensures up { IfSome result (λ c. IsUp machine.now.jobs (length machine.now.store.runs) from c) }
+/// The CPU that is up, of those from a number on and below another: the first with work from a
+/// number on, and then from the first of them on.
+pub fn next_up(machine: &Machine, low: u8, high: u8, from: u8) -> Option<u8>
+    requires { low ≤ from }
+    ensures up { IfSome result (λ c. IsUp machine.now.jobs low high from c) }
     ensures few { IfSome result (λ c. c < 255) }
-    ensures idle { IfNone result (AreIdle machine.now.jobs 0 (length machine.now.store.runs)) }
+    ensures idle { IfNone result (AreIdle machine.now.jobs low high) }
 {
-    let cpus = machine.cpus();
-    match first_at_work(machine, from, cpus) {
+    match first_at_work(machine, from, high) {
         Some(cpu) => Some(cpu),
-        None => first_at_work(machine, 0, from.min(cpus)),
+        None => first_at_work(machine, low, from.min(high)),
     }
 }
 
@@ -80,25 +83,35 @@ fn stop_before(
     }
 }
 
-/// All turns of a `go`, with the lines of the jobs that end and the last line.
-pub fn go(machine: &mut Machine, breakpoints: &[Breakpoint], out: &mut String)
+/// All turns of a `go` of the CPUs from a number on and below another, with the lines of the jobs
+/// that end and the last line.
+pub fn go(
+    machine: &mut Machine,
+    breakpoints: &[Breakpoint],
+    low: u8,
+    high: u8,
+    course: &mut Course,
+    out: &mut String,
+)
     requires shown { (w : World) × Shows machine.old w }
     requires room { string_len out.old + 128 * open_jobs machine.old.jobs + 128
         ≤ string_capacity out.old }
     ensures { (w : World) → Shows machine.old w → (z : World) × (turns : List ℕ) × (text : List ℕ)
-        × Goes breakpoints.now w 0 [] turns text z × Shows machine.new z
+        × Goes breakpoints.now low high w low [] turns text z × Shows machine.new z
+        × KeepsOn course.old turns course.new
         × (string_bytes out.new ≡ string_bytes out.old ++ text) }
 {
     bpf_machine::laws::turns_fall();
     let mut gone = [false; 256];
-    let mut from = 0;
-    while let Some(cpu) = next_up(machine, from) {
+    let mut from = low;
+    while let Some(cpu) = next_up(machine, low, high, from) {
         if let Some(pc) = stop_before(machine, breakpoints, &gone, cpu) {
             put_stop(out, cpu, pc);
             return;
         }
         let turn = machine.turn(cpu);
         put_ended(out, cpu, turn);
+        course.add(cpu);
         gone[cpu as usize] = true;
         from = cpu + 1;
     }

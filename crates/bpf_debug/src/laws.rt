@@ -1,7 +1,7 @@
 //! What follows from the definitions of commands and scripts, as promises to the crates above.
 //!
 //! These functions do nothing: their contracts are the laws.
-ghost use Rattle.bpf_debug.specs.Laws.{QuestionsChangeNothing, SchedulesAreSteps, ScriptsAreDetermined, ScriptsMakeTurns, StepsSpellSchedules};
+ghost use Rattle.bpf_debug.specs.Laws.{BeginningsComeFirst, QuestionsChangeNothing, RunsTellTurns, SchedulesAreSteps, ScriptsAreDetermined, ScriptsMakeTurns, StepsSpellSchedules};
 
 /// Any schedule is spelled by `step` commands.
 pub fn steps_spell_schedules()
@@ -13,12 +13,22 @@ pub fn schedules_are_steps()
     ensures { SchedulesAreSteps }
 {}
 
-/// What a script leaves is what some schedule leaves.
+/// The turns that are told lead from the first machine to the one that a script leaves.
 pub fn scripts_make_turns()
     ensures { ScriptsMakeTurns }
 {}
 
-/// Questions make no turn, and change nothing.
+/// Run lengths are those of their turns, and `steps` takes them.
+pub fn runs_tell_turns()
+    ensures { RunsTellTurns }
+{}
+
+/// The beginning of a script is answered whatever comes behind it.
+pub fn beginnings_come_first()
+    ensures { BeginningsComeFirst }
+{}
+
+/// Questions change nothing.
 pub fn questions_change_nothing()
     ensures { QuestionsChangeNothing }
 {}

@@ -3,6 +3,7 @@
 
 pub mod breakpoint;
 pub mod command;
+mod course;
 pub mod error;
 mod going;
 pub mod laws;
@@ -13,6 +14,7 @@ mod schedule;
 pub mod script;
 pub mod session;
 mod text;
+mod told;
 mod turns;
 
 pub use command::Command;

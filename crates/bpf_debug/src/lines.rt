@@ -1,8 +1,9 @@
 //! The lines that answer commands. A line has room for 128 bytes.
 
-ghost use Rattle.std.specs.Prelude.{◌≡◌, ◌+◌, ◌*◌, ◌≤◌, ◌++◌, List, ℕ, length, string_bytes, string_capacity, string_len};
+ghost use Rattle.std.specs.Prelude.{◌≡◌, ◌+◌, ◌*◌, ◌≤◌, ◌++◌, List, ℕ, length, slice_get, string_bytes, string_capacity, string_len};
 ghost use Rattle.bpf_cpu.specs.Lines.{outcome_text, job_line};
 ghost use Rattle.bpf_machine.specs.Hands.{IsFree};
+ghost use Rattle.bpf_debug.specs.Told.{mark_line, open_line, told_job, told_jobs};
 ghost use Rattle.bpf_debug.specs.Answer.{cpu_words, in_hand_line, waiting_line, idle_line, register_line, register_lines, break_line, deleted_line, stop_line, ended_text, IsWhere, IsRegisters, IsOff};
 
 use crate::text::{put, put_number};
@@ -229,5 +230,56 @@ pub fn put_stop(out: &mut String, cpu: u8, pc: u32)
     put_number(out, cpu as u64);
     put(out, " ");
     put_number(out, pc as u64);
+    put(out, "\n");
+}
+
+fn put_open(out: &mut String, cpu: u8, job: usize)
+    requires { string_len out.old + 128 ≤ string_capacity out.old }
+    ensures text { string_bytes out.new ≡ string_bytes out.old ++ open_line job cpu }
+    ensures size { string_len out.new ≤ string_len out.old + 128 }
+    ensures room { string_capacity out.old ≤ string_capacity out.new }
+{
+    put(out, "job ");
+    put_number(out, job as u64);
+    put(out, " cpu ");
+    put_number(out, cpu as u64);
+    put(out, " open\n");
+}
+
+/// Puts the line of a job: how it ended, or that it hasn't.
+fn put_told(out: &mut String, machine: &Machine, job: usize)
+    requires { string_len out.old + 128 ≤ string_capacity out.old }
+    ensures text { string_bytes out.new
+        ≡ string_bytes out.old ++ told_job job (slice_get machine.now.jobs job) }
+    ensures size { string_len out.new ≤ string_len out.old + 128 }
+    ensures room { string_capacity out.old ≤ string_capacity out.new }
+{
+    let Some(cpu) = machine.cpu_of(job) else {
+        return;
+    };
+    let Some(outcome) = machine.outcome(job) else {
+        return put_open(out, cpu, job);
+    };
+    put_job(out, cpu, job, outcome);
+}
+
+/// Puts a line a job, in the order of the machine's list.
+pub fn put_jobs(out: &mut String, machine: &Machine)
+    requires { string_len out.old + 128 * length machine.now.jobs ≤ string_capacity out.old }
+    ensures { string_bytes out.new
+        ≡ string_bytes out.old ++ told_jobs (length machine.now.jobs) machine.now.jobs }
+{
+    for job in 0..machine.jobs() {
+        put_told(out, machine, job);
+    }
+}
+
+/// Puts a number that was asked for.
+pub fn put_mark(out: &mut String, number: u64)
+    requires { string_len out.old + 128 ≤ string_capacity out.old }
+    ensures { string_bytes out.new ≡ string_bytes out.old ++ mark_line number }
+{
+    put(out, "mark ");
+    put_number(out, number);
     put(out, "\n");
 }

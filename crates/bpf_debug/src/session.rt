@@ -1,4 +1,4 @@
-//! A session: a machine with its breakpoints, and what commands do to it.
+//! A session: a machine with its breakpoints and its turns, and what commands do to it.
 
 ghost use Rattle.std.specs.Prelude.{◌≡◌, ℕ, List, ◌<◌, ◌↔◌, IsTrue, true, false, IfOk, IfErr, OnErr, IfSome, IfNone, Some, [], map, length, string_bytes, string_len, string_capacity, ◌+◌, ◌*◌, ◌++◌, ◌≤◌};
 ghost use Rattle.bpf_lines.specs.Lines.{fields_of};
@@ -11,12 +11,16 @@ ghost use Rattle.bpf_debug.specs.Session.{IsPc, are_cpus};
 
 use crate::breakpoint::{Breakpoint, has_break, remove_break};
 use crate::command::{Command, command_of};
+use crate::course::{Course, course_line};
 use crate::error::DebugError;
 use crate::going;
-use crate::lines::{LINE, put_break, put_deleted, put_ended, put_off, put_registers, put_where};
+use crate::lines::{
+    LINE, put_break, put_deleted, put_ended, put_jobs, put_mark, put_off, put_registers, put_where,
+};
 use crate::maps::{key_lines_of, map_lines, map_named};
 use crate::reading::bytes_line;
 use crate::schedule::{is_schedule, schedule_in};
+use crate::told::shape_lines;
 use crate::turns::{take_runs, take_turns};
 use bpf_lines::lines;
 use bpf_loader::Program;
@@ -31,6 +35,8 @@ pub struct Session {
     /// The maps' names, by their numbers.
     names: Vec<String>,
     breakpoints: Vec<Breakpoint>,
+    /// The turns made so far.
+    course: Course,
 }
 
 impl Model for Session {
@@ -45,6 +51,7 @@ impl Model for Session {
       machine = s.machine;
       names = map (λ n. string_bytes n) s.names.items;
       breaks = s.breakpoints.items;
+      course = s.course;
     } };
 
     ghost invariant = { λ s. (w : World) × Shows s.machine w };
@@ -83,6 +90,16 @@ fn make_room(alloc: Global, lines: usize) -> Option<String>
     }
 }
 
+/// The number behind a CPU's.
+fn next_cpu(machine: &Machine, cpu: u8) -> u8
+    requires { has_cpu machine.now.store cpu ≡ true }
+    ensures { result ≡ cpu + 1 }
+{
+    let cpus = machine.cpus();
+    prove!(cpu < cpus);
+    cpu + 1
+}
+
 /// One turn of a CPU, with the line of the job that it ends and that of where the CPU stands then.
 fn take_turn(machine: &mut Machine, cpu: u8, out: &mut String)
     requires { string_len out.old + 256 ≤ string_capacity out.old }
@@ -109,11 +126,13 @@ impl Session {
         ensures machine { result.machine ≡ machine }
         ensures names { result.names ≡ map (λ n. string_bytes n) names.items }
         ensures breaks { result.breaks ≡ [] }
+        ensures course { result.course ≡ Some [] }
     {
         Session {
             machine,
             names,
             breakpoints: Vec::new(alloc),
+            course: Course::new(alloc),
         }
     }
 
@@ -152,7 +171,11 @@ impl Session {
         let Some(mut out) = make_room(alloc, 2) else {
             return Err(DebugError::OutOfMemory);
         };
+        if !self.course.reserve(1) {
+            return Err(DebugError::OutOfMemory);
+        }
         take_turn(&mut self.machine, cpu, &mut out);
+        self.course.add(cpu);
         Ok(out)
     }
 
@@ -178,7 +201,11 @@ impl Session {
         let Some(mut out) = make_room(alloc, self.machine.jobs()) else {
             return Err(DebugError::OutOfMemory);
         };
+        if !self.course.reserve(2) {
+            return Err(DebugError::OutOfMemory);
+        }
         take_turns(&mut self.machine, cpu, count, &mut out);
+        self.course.add_times(cpu, count);
         Ok(out)
     }
 
@@ -218,7 +245,11 @@ impl Session {
         let Some(mut out) = make_room(alloc, self.machine.jobs()) else {
             return Err(DebugError::OutOfMemory);
         };
+        if !self.course.reserve(runs.len().saturating_mul(2)) {
+            return Err(DebugError::OutOfMemory);
+        }
         take_runs(&mut self.machine, runs, &mut out);
+        self.course.add_runs(runs);
         Ok(out)
     }
 
@@ -245,8 +276,81 @@ impl Session {
         let Some(mut out) = make_room(alloc, self.machine.jobs()) else {
             return Err(DebugError::OutOfMemory);
         };
-        going::go(&mut self.machine, &self.breakpoints, &mut out);
+        if !self.course.reserve(usize::MAX) {
+            return Err(DebugError::OutOfMemory);
+        }
+        let cpus = self.machine.cpus();
+        going::go(
+            &mut self.machine,
+            &self.breakpoints,
+            0,
+            cpus,
+            &mut self.course,
+            &mut out,
+        );
         Ok(out)
+    }
+
+    /// Turns of one CPU, up to a pc of some program.
+    fn go_to_pc(&mut self, alloc: Global, cpu: u8, pc: u32) -> Result<String, DebugError>
+        requires served { has_cpu self.old.machine.store cpu ≡ true }
+        requires begins { IsPc self.old.machine.programs pc }
+        ensures answered { IfOk result (λ text.
+            Leaves self.old (Order.GoTo (Some cpu) (Some pc)) (string_bytes text) self.new) }
+        ensures refused { IfErr result (λ e. e ≡ DebugError.OutOfMemory) }
+        ensures unchanged { OnErr result (self.new ≡ self.old) }
+    {
+        let Some(mut out) = make_room(alloc, self.machine.jobs()) else {
+            return Err(DebugError::OutOfMemory);
+        };
+        if !self.course.reserve(usize::MAX) {
+            return Err(DebugError::OutOfMemory);
+        }
+        let place = [Breakpoint { cpu, pc }];
+        let next = next_cpu(&self.machine, cpu);
+        going::go(
+            &mut self.machine,
+            &place,
+            cpu,
+            next,
+            &mut self.course,
+            &mut out,
+        );
+        Ok(out)
+    }
+
+    fn go_to_at(&mut self, alloc: Global, cpu: u8, pc: Option<u32>) -> Result<String, DebugError>
+        requires { has_cpu self.old.machine.store cpu ≡ true }
+        ensures answered { IfOk result (λ text.
+            Leaves self.old (Order.GoTo (Some cpu) pc) (string_bytes text) self.new) }
+        ensures refused { IfErr result
+            (λ e. RefusesHere self.old (Order.GoTo (Some cpu) pc) e) }
+        ensures unchanged { OnErr result (self.new ≡ self.old) }
+    {
+        let Some(at) = pc else {
+            return Err(DebugError::NoPc);
+        };
+        if !is_pc(self.machine.programs(), at) {
+            return Err(DebugError::NoPc);
+        }
+        self.go_to_pc(alloc, cpu, at)
+    }
+
+    fn go_to(
+        &mut self,
+        alloc: Global,
+        number: Option<u8>,
+        pc: Option<u32>,
+    ) -> Result<String, DebugError>
+        ensures answered { IfOk result (λ text.
+            Leaves self.old (Order.GoTo number pc) (string_bytes text) self.new) }
+        ensures refused { IfErr result (λ e. RefusesHere self.old (Order.GoTo number pc) e) }
+        ensures unchanged { OnErr result (self.new ≡ self.old) }
+    {
+        let Some(cpu) = self.cpu(number) else {
+            return Err(DebugError::NoCpu);
+        };
+        self.go_to_at(alloc, cpu, pc)
     }
 
     /// A breakpoint of a CPU, at a pc of some program.
@@ -492,6 +596,55 @@ impl Session {
         }
     }
 
+    fn schedule(&self, alloc: Global) -> Result<String, DebugError>
+        ensures answered { IfOk result
+            (λ text. Leaves self.now Order.Schedule (string_bytes text) self.now) }
+        ensures refused { IfErr result (λ e. RefusesHere self.now Order.Schedule e) }
+    {
+        let Some(runs) = self.course.runs() else {
+            return Err(DebugError::OutOfMemory);
+        };
+        match course_line(alloc, runs) {
+            Ok(text) => Ok(text),
+            Err(_) => Err(DebugError::OutOfMemory),
+        }
+    }
+
+    fn maps(&self, alloc: Global) -> Result<String, DebugError>
+        ensures answered { IfOk result
+            (λ text. Leaves self.now Order.Maps (string_bytes text) self.now) }
+        ensures refused { IfErr result (λ e. RefusesHere self.now Order.Maps e) }
+    {
+        match shape_lines(alloc, self.machine.store(), &self.names) {
+            Ok(text) => Ok(text),
+            Err(_) => Err(DebugError::OutOfMemory),
+        }
+    }
+
+    fn jobs(&self, alloc: Global) -> Result<String, DebugError>
+        ensures answered { IfOk result
+            (λ text. Leaves self.now Order.Jobs (string_bytes text) self.now) }
+        ensures refused { IfErr result (λ e. RefusesHere self.now Order.Jobs e) }
+    {
+        let Some(mut out) = make_room(alloc, self.machine.jobs()) else {
+            return Err(DebugError::OutOfMemory);
+        };
+        put_jobs(&mut out, &self.machine);
+        Ok(out)
+    }
+
+    fn mark(&self, alloc: Global, number: u64) -> Result<String, DebugError>
+        ensures answered { IfOk result
+            (λ text. Leaves self.now (Order.Mark number) (string_bytes text) self.now) }
+        ensures refused { IfErr result (λ e. RefusesHere self.now (Order.Mark number) e) }
+    {
+        let Some(mut out) = make_room(alloc, 1) else {
+            return Err(DebugError::OutOfMemory);
+        };
+        put_mark(&mut out, number);
+        Ok(out)
+    }
+
     fn follow<'a>(&mut self, alloc: Global, command: Command<'a>) -> Result<String, DebugError>
         ensures answered { IfOk result
             (λ text. Leaves self.old (command_order command.entry) (string_bytes text) self.new) }
@@ -509,6 +662,11 @@ impl Session {
             Command::Memory(cpu, address, count) => self.memory(alloc, cpu, address, count),
             Command::Map(name) => self.map(alloc, name),
             Command::Keys(name) => self.keys(alloc, name),
+            Command::Schedule => self.schedule(alloc),
+            Command::GoTo(cpu, pc) => self.go_to(alloc, cpu, pc),
+            Command::Maps => self.maps(alloc),
+            Command::Jobs => self.jobs(alloc),
+            Command::Mark(number) => self.mark(alloc, number),
         }
     }
 

@@ -1,4 +1,4 @@
-use Rattle.std.proofs.Common.{◌≡◌, ℕ, ◌+◌, true, false, List, length, get_or, ◌⊎◌, refl, sym, subst, ◌∙◌, arith}
+use Rattle.std.proofs.Common.{◌≡◌, ℕ, ◌+◌, true, false, List, get_or, ◌⊎◌, refl, sym, subst, ◌∙◌, arith}
 use Rattle.std.specs.Prelude.{string_bytes, string_len, string_capacity, slice_set}
 use Rattle.std.proofs.lemmas.List.{length-set}
 use Rattle.bpf_debug.specs.Go.{AreIdle, StandsAt, has_break}
@@ -7,25 +7,34 @@ use Rattle.bpf_debug.proofs.going.go.Goals as goal
 
 pub loop-cpu-init : goal.loop-cpu-init
 loop-cpu-init c = record {
-  comes = starts c.args.breakpoints.now c.args.machine.now (string_bytes c.args.out.now);
+  comes = starts c.args.breakpoints.now c.args.low c.args.high c.args.course.now c.args.machine.now (string_bytes c.args.out.now);
   room = c.requires.room;
   size = refl;
+  above = omega arith;
 }
 
 pub returns-in-Some-stop_before : goal.returns-in-Some-stop_before
 returns-in-Some-stop_before c =
     let breaks = c.args.breakpoints.now in
+    let low = c.args.low in
+    let high = c.args.high in
+    let noted = c.args.course.now in
+    let notes = c.loop-cpu.course in
     let old = c.args.machine.now in
     let new = c.loop-cpu.machine in
     let before = string_bytes c.args.out.now in
     let after = string_bytes c.loop-cpu.out in
-    let E : List ℕ → Type 0 = Ends breaks old new before c.loop-cpu.from c.loop-cpu.gone after c.loop-cpu.invariant.comes in
+    let E : List ℕ → Type 0 = Ends breaks low high noted old new before c.loop-cpu.from c.loop-cpu.gone notes after c.loop-cpu.invariant.comes in
     let small = c.in-Some.ensures.few in
-    subst E (sym c.put_stop.ensures) (stopped breaks old new before c.loop-cpu.from c.loop-cpu.gone after c.loop-cpu.invariant.comes c.in-Some.cpu c.in-Some-stop_before.pc (omega arith) c.in-Some.ensures.up c.in-Some-stop_before.ensures.stop.0 c.in-Some-stop_before.ensures.stop.1 c.in-Some-stop_before.ensures.stop.2)
+    subst E (sym c.put_stop.ensures) (stopped breaks low high noted old new before c.loop-cpu.from c.loop-cpu.gone notes after c.loop-cpu.invariant.comes c.in-Some.cpu c.in-Some-stop_before.pc (omega arith) c.in-Some.ensures.up c.in-Some-stop_before.ensures.stop.0 c.in-Some-stop_before.ensures.stop.1 c.in-Some-stop_before.ensures.stop.2)
 
 pub loop-cpu-smaller : goal.loop-cpu-smaller
 loop-cpu-smaller c =
     let breaks = c.args.breakpoints.now in
+    let low = c.args.low in
+    let high = c.args.high in
+    let noted = c.args.course.now in
+    let notes = c.loop-cpu.course in
     let old = c.args.machine.now in
     let new = c.loop-cpu.machine in
     let next = c.turn-turn.new.self in
@@ -34,12 +43,16 @@ loop-cpu-smaller c =
     let w = c.requires.shown.0 in
     let shows = c.requires.shown.1 in
     fewer c.turn-turn.result new.jobs next.jobs
-    (falls c.turns_fall.ensures breaks old new next before after c.loop-cpu.from c.loop-cpu.gone c.in-Some.cpu c.turn-turn.result w shows c.loop-cpu.invariant.comes c.turn-turn.ensures.turn)
-    (not_idle breaks old new next before after c.loop-cpu.from c.loop-cpu.gone c.in-Some.cpu c.turn-turn.result w shows c.loop-cpu.invariant.comes c.in-Some.ensures.up.works c.turn-turn.ensures.turn)
+    (falls c.turns_fall.ensures breaks low high noted notes old new next before after c.loop-cpu.from c.loop-cpu.gone c.in-Some.cpu c.turn-turn.result w shows c.loop-cpu.invariant.comes c.turn-turn.ensures.turn)
+    (not_idle breaks low high noted notes old new next before after c.loop-cpu.from c.loop-cpu.gone c.in-Some.cpu c.turn-turn.result w shows c.loop-cpu.invariant.comes c.in-Some.ensures.up.works c.turn-turn.ensures.turn)
 
 pub loop-cpu-preserved : goal.loop-cpu-preserved
 loop-cpu-preserved c =
     let breaks = c.args.breakpoints.now in
+    let low = c.args.low in
+    let high = c.args.high in
+    let noted = c.args.course.now in
+    let notes = c.loop-cpu.course in
     let old = c.args.machine.now in
     let new = c.loop-cpu.machine in
     let next = c.turn-turn.new.self in
@@ -55,23 +68,28 @@ loop-cpu-preserved c =
     let may : (get_or marks cpu false ≡ false) ⊎ ((p : ℕ) × StandsAt new.jobs cpu p × (has_break breaks cpu p ≡ false)) =
     none_is _ c.stop_before.result c.stop_before.ensures.free c.in_default-stop_before.not-Some
     in
-    let fall = falls c.turns_fall.ensures breaks old new next before after c.loop-cpu.from marks cpu c.turn-turn.result w shows comes c.turn-turn.ensures.turn in
-    let works = not_idle breaks old new next before after c.loop-cpu.from marks cpu c.turn-turn.result w shows comes c.in-Some.ensures.up.works c.turn-turn.ensures.turn in
-    let T : List ℕ → Type 0 = λ s. Comes breaks old before next (cpu + 1) (slice_set marks cpu true) s in
+    let fall = falls c.turns_fall.ensures breaks low high noted notes old new next before after c.loop-cpu.from marks cpu c.turn-turn.result w shows comes c.turn-turn.ensures.turn in
+    let works = not_idle breaks low high noted notes old new next before after c.loop-cpu.from marks cpu c.turn-turn.result w shows comes c.in-Some.ensures.up.works c.turn-turn.ensures.turn in
+    let T : List ℕ → Type 0 = λ s. Comes breaks low high noted old before next (cpu + 1) (slice_set marks cpu true) c.add.new.self s in
     record {
-      comes = subst T (sym c.put_ended.ensures.text) (turned breaks old new before c.loop-cpu.from marks after comes next cpu c.turn-turn.result (omega arith) (omega arith) c.in-Some.ensures.up may c.turn-turn.ensures.turn);
+      comes = subst T (sym c.put_ended.ensures.text) (turned breaks low high noted old new before c.loop-cpu.from marks notes after comes next cpu c.turn-turn.result c.add.new.self (omega arith) (omega arith) c.in-Some.ensures.up may c.turn-turn.ensures.turn c.add.ensures);
       room = room_left c.turn-turn.result new.jobs next.jobs (string_len c.loop-cpu.out) (string_len c.put_ended.new.out) (string_capacity c.loop-cpu.out) (string_capacity c.put_ended.new.out) fall works c.loop-cpu.invariant.room c.put_ended.ensures.room c.put_ended.ensures.size c.put_ended.ensures.none;
       size = length-set marks cpu true ∙ size;
+      above = (let up = c.in-Some.ensures.up.above in omega arith);
     }
 
 pub returns : goal.returns
 returns c =
     let breaks = c.args.breakpoints.now in
+    let low = c.args.low in
+    let high = c.args.high in
+    let noted = c.args.course.now in
+    let notes = c.loop-cpu.course in
     let old = c.args.machine.now in
     let new = c.loop-cpu.machine in
     let before = string_bytes c.args.out.now in
     let after = string_bytes c.loop-cpu.out in
     let comes = c.loop-cpu.invariant.comes in
-    let E : List ℕ → Type 0 = Ends breaks old new before c.loop-cpu.from c.loop-cpu.gone after comes in
-    let idle = none_is (AreIdle new.jobs 0 (length new.store.runs)) c.next_up.result c.next_up.ensures.idle c.in_default.not-Some in
-    subst E (sym c.put.ensures.text) (ended breaks old new before c.loop-cpu.from c.loop-cpu.gone after comes idle)
+    let E : List ℕ → Type 0 = Ends breaks low high noted old new before c.loop-cpu.from c.loop-cpu.gone notes after comes in
+    let idle = none_is (AreIdle new.jobs low high) c.next_up.result c.next_up.ensures.idle c.in_default.not-Some in
+    subst E (sym c.put.ensures.text) (ended breaks low high noted old new before c.loop-cpu.from c.loop-cpu.gone notes after comes idle)

@@ -6,9 +6,10 @@ use Rattle.bpf_debug.proofs.going.go.Given as goal
 
 abbrev pub invariant-loop-cpu : goal.invariant-loop-cpu
 invariant-loop-cpu l = record {
-  comes : Comes l.breakpoints l.fn.machine (string_bytes l.fn.out) l.machine l.from l.gone (string_bytes l.out);
+  comes : Comes l.breakpoints l.low l.high l.fn.course l.fn.machine (string_bytes l.fn.out) l.machine l.from l.gone l.course (string_bytes l.out);
   room : string_len l.out + 128 * open_jobs l.machine.jobs + 128 ≤ string_capacity l.out;
   size : length l.gone ≡ 256;
+  above : l.low ≤ l.from;
 }
 
 abbrev pub decreases-loop-cpu : goal.decreases-loop-cpu

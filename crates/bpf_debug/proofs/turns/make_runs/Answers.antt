@@ -1,6 +1,7 @@
 use Rattle.std.proofs.Common.{◌+◌, drop, get_or}
 use Rattle.std.specs.Prelude.{string_bytes}
-use Rattle.bpf_debug.proofs.ManyTurns.{no_run, one_run, runs_made, run_next, none_left}
+use Rattle.bpf_debug.proofs.CourseLaws.{run_next, none_left}
+use Rattle.bpf_debug.proofs.ManyTurns.{no_run, one_run, runs_made}
 use Rattle.bpf_debug.proofs.turns.make_runs.Goals as goal
 
 pub loop-run-init : goal.loop-run-init

@@ -54,3 +54,28 @@ pub returns-in-StepTimes-clause-answered : goal.returns-in-StepTimes-clause-answ
 returns-in-StepTimes-clause-answered c =
     let P : Command → Type 0 = λ o. IfOk c.step_times.result (λ text. Leaves c.args.self.now (command_order o) (string_bytes text) c.step_times.new.self) in
     subst P (sym c.in-StepTimes.is) c.step_times.ensures.answered
+
+pub returns-in-Schedule-clause-answered : goal.returns-in-Schedule-clause-answered
+returns-in-Schedule-clause-answered c =
+    let P : Command → Type 0 = λ o. IfOk c.schedule.result (λ text. Leaves c.args.self.now (command_order o) (string_bytes text) c.args.self.now) in
+    subst P (sym c.in-Schedule.is) c.schedule.ensures.answered
+
+pub returns-in-GoTo-clause-answered : goal.returns-in-GoTo-clause-answered
+returns-in-GoTo-clause-answered c =
+    let P : Command → Type 0 = λ o. IfOk c.go_to.result (λ text. Leaves c.args.self.now (command_order o) (string_bytes text) c.go_to.new.self) in
+    subst P (sym c.in-GoTo.is) c.go_to.ensures.answered
+
+pub returns-in-Maps-clause-answered : goal.returns-in-Maps-clause-answered
+returns-in-Maps-clause-answered c =
+    let P : Command → Type 0 = λ o. IfOk c.maps.result (λ text. Leaves c.args.self.now (command_order o) (string_bytes text) c.args.self.now) in
+    subst P (sym c.in-Maps.is) c.maps.ensures.answered
+
+pub returns-in-Jobs-clause-answered : goal.returns-in-Jobs-clause-answered
+returns-in-Jobs-clause-answered c =
+    let P : Command → Type 0 = λ o. IfOk c.jobs.result (λ text. Leaves c.args.self.now (command_order o) (string_bytes text) c.args.self.now) in
+    subst P (sym c.in-Jobs.is) c.jobs.ensures.answered
+
+pub returns-in-Mark-clause-answered : goal.returns-in-Mark-clause-answered
+returns-in-Mark-clause-answered c =
+    let P : Command → Type 0 = λ o. IfOk c.mark.result (λ text. Leaves c.args.self.now (command_order o) (string_bytes text) c.args.self.now) in
+    subst P (sym c.in-Mark.is) c.mark.ensures.answered

@@ -1,12 +1,14 @@
-use Rattle.std.proofs.Common.{◌≡◌, ℕ, ◌++◌, [], List, subst, map}
+use Rattle.std.proofs.Common.{◌≡◌, ℕ, ◌++◌, [], List, Option, subst, map}
 use Rattle.std.specs.Prelude.{string_bytes}
 use Rattle.bpf_debug.specs.Command.{Go}
+use Rattle.bpf_debug.specs.Course.{KeepsOn}
 use Rattle.bpf_debug.specs.Session.{SessionState, Leaves}
 use Rattle.std.proofs.Common.{arith}
 use Rattle.bpf_debug.specs.declared.breakpoint.Breakpoint.{Breakpoint}
 use Rattle.bpf_machine.specs.Schedule.{World}
 use Rattle.bpf_machine.specs.Machine.{Shows}
 use Rattle.bpf_debug.specs.Go.{Goes}
+use Rattle.bpf_debug.proofs.GoLaws.{count_is}
 use Rattle.bpf_debug.proofs.SessionLaws.{went, enough}
 use Rattle.bpf_debug.proofs.session.Session.go.Goals as goal
 
@@ -15,16 +17,19 @@ go-requires-clause-room c =
     let few = enough c.self.inside.machine.jobs c.jobs.result _ c.jobs.ensures c.in-Some.ensures.room in
     omega (arith, few, c.in-Some.ensures.size)
 
-pub invariant_of-self : goal.invariant_of-self
-invariant_of-self c = let g = c.go.ensures c.self.invariant.0 c.self.invariant.1 in (g.0, g.4)
+pub invariant_of-self-2 : goal.invariant_of-self-2
+invariant_of-self-2 c = let g = c.go.ensures c.self.invariant.0 c.self.invariant.1 in (g.0, g.4)
 
 pub returns-clause-answered : goal.returns-clause-answered
 returns-clause-answered c =
     let m = c.self.inside in
     let names : List (List ℕ) = map (λ n. string_bytes n) m.names.items in
     let n = c.go.new.machine in
+    let k = c.go.new.course in
+    let cpus = c.cpus-cpus.result in
     let last = string_bytes c.go.new.out in
     let room = string_bytes c.in-Some.out in
-    let P : SessionState → Type 0 = λ s. Leaves s Go last (record { machine = n; names = names; breaks = m.breakpoints.items }) in
-    let G : List Breakpoint → Type 0 = λ bs. (w : World) → Shows m.machine w → (z : World) × (turns : List ℕ) × (text : List ℕ) × Goes bs w 0 [] turns text z × Shows n z × (last ≡ room ++ text) in
-    subst P c.self.view_is (went m.machine names m.breakpoints.items n room last c.in-Some.ensures.empty (subst G c.deref.ensures.value c.go.ensures))
+    let P : SessionState → Type 0 = λ s. Leaves s Go last (record { machine = n; names = names; breaks = m.breakpoints.items; course = k }) in
+    let G : List Breakpoint → Option (List (ℕ × ℕ)) → Type 0 = λ bs h. (w : World) → Shows m.machine w → (z : World) × (turns : List ℕ) × (text : List ℕ) × Goes bs 0 cpus w 0 [] turns text z × Shows n z × KeepsOn h turns k × (last ≡ room ++ text) in
+    let F : List Breakpoint → Type 0 = λ bs. G bs m.course in
+    subst P c.self.view_is (went m.machine names m.breakpoints.items m.course n k cpus room last c.in-Some.ensures.empty (count_is m.machine cpus c.cpus-cpus.ensures) (subst F c.deref.ensures.value (subst (G c.deref.result.now) c.reserve.ensures c.go.ensures)))

@@ -11,7 +11,7 @@ pub returns-in-Ok-clause-answered : goal.returns-in-Ok-clause-answered
 returns-in-Ok-clause-answered c =
     let m = c.self.inside in
     let names : List (List ℕ) = map (λ n. string_bytes n) m.names.items in
-    let s : SessionState = record { machine = m.machine; names = names; breaks = m.breakpoints.items } in
+    let s : SessionState = record { machine = m.machine; names = names; breaks = m.breakpoints.items; course = m.course } in
     let N : List (String Global) → Type 0 = λ ns. IsNamed (map (λ n. string_bytes n) ns) c.args.name.now c.in-Some.map in
     let T : Contents → Type 0 = λ p. TellsMap p c.in-Some.map (string_bytes c.in-Ok.text) in
     let P : SessionState → Type 0 = λ t. Leaves t (Map c.args.name.now) (string_bytes c.in-Ok.text) t in

@@ -10,7 +10,7 @@ pub returns-clause-answered : goal.returns-clause-answered
 returns-clause-answered c =
     let m = c.self.inside in
     let names : List (List ℕ) = map (λ n. string_bytes n) m.names.items in
-    let s : SessionState = record { machine = m.machine; names = names; breaks = m.breakpoints.items } in
+    let s : SessionState = record { machine = m.machine; names = names; breaks = m.breakpoints.items; course = m.course } in
     let last = string_bytes c.put_registers.new.out in
     let P : SessionState → Type 0 = λ t. Leaves t (Registers (Some c.args.cpu)) last t in
     let H : SessionState → Type 0 = λ t. has_cpu t.machine.store c.args.cpu ≡ true in

@@ -1,0 +1,36 @@
+-- The turns that a session has made: its course, as it is told and kept (our own choice).
+use Rattle.std.specs.Prelude.{◌≡◌, ℕ, ◌+◌, ◌==◌, ◌&&◌, nat_lt, if◌then◌else◌, List, [], ◌∷◌, ◌++◌, Option, Some, None, codes, length}
+use Rattle.bpf_schedule.specs.Spelling.{runs_text}
+use Rattle.bpf_debug.specs.Command.{most_turns}
+
+-- one turn more: of the last run, where that is of the CPU and may have one more, or else a run of
+-- its own
+abbrev pub with_turn : List (ℕ × ℕ) → ℕ → List (ℕ × ℕ)
+with_turn [] c = (c, 1) ∷ []
+with_turn (run ∷ []) c =
+    if (run.0 == c) && nat_lt run.1 most_turns then (c, run.1 + 1) ∷ [] else run ∷ (c, 1) ∷ []
+with_turn (run ∷ next ∷ runs) c = run ∷ with_turn (next ∷ runs) c
+
+-- some turns more, in their order
+abbrev pub with_turns : List (ℕ × ℕ) → List ℕ → List (ℕ × ℕ)
+with_turns runs [] = runs
+with_turns runs (c ∷ turns) = with_turns (with_turn runs c) turns
+
+-- THE RUN LENGTHS OF TURNS
+abbrev pub runs_of : List ℕ → List (ℕ × ℕ)
+runs_of turns = with_turns [] turns
+
+-- they are told as the command that makes them
+abbrev pub course_line : List ℕ → List ℕ
+course_line turns =
+    codes "steps" ++ runs_text (length (runs_of turns)) (runs_of turns) ++ codes "\n"
+
+-- ---- what is kept of turns: their run lengths, as long as there is room
+
+abbrev pub IsKept : Option (List (ℕ × ℕ)) → List ℕ → Type 0
+IsKept None turns = Unit {0}
+IsKept (Some runs) turns = runs ≡ runs_of turns
+
+-- whatever turns were kept, these behind them are kept then
+abbrev pub KeepsOn : Option (List (ℕ × ℕ)) → List ℕ → Option (List (ℕ × ℕ)) → Type 0
+KeepsOn old more new = (turns : List ℕ) → IsKept old turns → IsKept new (turns ++ more)
