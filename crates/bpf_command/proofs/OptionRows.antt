@@ -4,7 +4,6 @@ use Rattle.std.specs.Prelude.{IfSome, IsSomeAnd, option_and_then}
 use Rattle.bpf_codes.specs.Code.{code_of}
 use Rattle.bpf_codes.specs.declared.code.Code.{Code}
 use Rattle.bpf_command.specs.declared.command.TheConstants.{MAX_WORKERS}
-use Rattle.bpf_base.specs.declared.budget.TheConstants.{MAX_BUDGET}
 use Rattle.std.specs.Str.{bytes_eq}
 use Rattle.std.specs.Str.Parse.{ParsesUnsigned}
 use Rattle.clap.specs.Matches.{ReadsOne}
@@ -15,8 +14,8 @@ use Rattle.clap.specs.Facts.{is_present}
 use Rattle.clap.specs.Takes.{is_given}
 use Rattle.clap.proofs.TakesLemmas.{present_row}
 use Rattle.clap.proofs.WalkLemmas.{first_value-rows, one_text-rows}
-use Rattle.bpf_command.specs.CommandLine.{HasBudget, HasWorkers, IsBudget, IsWorkers, NamesBudget, NamesWorkers}
-use Rattle.bpf_command.specs.Names.{IsContext, RefusesContext, file_in, file_named}
+use Rattle.bpf_command.specs.CommandLine.{HasLimited, HasWorkers, IsLimited, IsWorkers, NamesLimited, NamesWorkers}
+use Rattle.bpf_command.specs.Names.{IsContext, IsSchedule, RefusesContext, RefusesSchedule, file_in, file_named}
 use Rattle.bpf_command.specs.declared.command_line.CommandError.{CommandError}
 
 pub context_in_rows : (f : Found) (bytes : List ℕ) → IsContext (first_value f (codes "ctx")) bytes → IsContext (first_of (codes "ctx") (rows_of f)) bytes
@@ -25,24 +24,31 @@ context_in_rows f bytes h = rw (← first_value-rows f (codes "ctx")) h
 pub no_context_in_rows : (f : Found) (e : CommandError) → RefusesContext (first_value f (codes "ctx")) e → RefusesContext (first_of (codes "ctx") (rows_of f)) e
 no_context_in_rows f e h = rw (← first_value-rows f (codes "ctx")) h
 
+pub schedule_in_rows : (f : Found) (runs : List (ℕ × ℕ)) → IsSchedule (first_value f (codes "by")) runs → IsSchedule (first_of (codes "by") (rows_of f)) runs
+schedule_in_rows f runs h = rw (← first_value-rows f (codes "by")) h
+
+pub no_schedule_in_rows : (f : Found) (e : CommandError) → RefusesSchedule (first_value f (codes "by")) e → RefusesSchedule (first_of (codes "by") (rows_of f)) e
+no_schedule_in_rows f e h = rw (← first_value-rows f (codes "by")) h
+
 -- a getter that reads the text of a number gives the number
-module _ (E : Type 0) (Gives : Text → Result ℕ E → Type 0) (parses : (t : Text) (x : Result ℕ E) → Gives t x → ParsesUnsigned 64 10 t x) where
-  number_read : (text : Text) (n : Option ℕ) → IsUnsignedIn 0 MAX_BUDGET text → ReadsOne Gives text n → IsSomeAnd n (IsBudget (Some text))
-  number_read text None h g = absurd (parses text (Err g.0) g.1 (h.0, h.1))
+module _ (id : Text) (most : ℕ) (small : most < 18446744073709551616)
+    (E : Type 0) (Gives : Text → Result ℕ E → Type 0) (parses : (t : Text) (x : Result ℕ E) → Gives t x → ParsesUnsigned 64 10 t x) where
+  number_read : (text : Text) (n : Option ℕ) → IsUnsignedIn 0 most text → ReadsOne Gives text n → IsSomeAnd n (IsLimited most (Some text))
+  number_read text None h g = absurd (parses text (Err g.0) g.1 (h.0, omega arith))
   number_read text (Some n) h g = (h, (parses text (Ok n) g).1)
 
-  text_read : (text : Option Text) (n : Option ℕ) → IsSomeAnd text (IsUnsignedIn 0 MAX_BUDGET) → ((t : Text) → text ≡ Some t → ReadsOne Gives t n)
-      → IsSomeAnd n (IsBudget text)
+  text_read : (text : Option Text) (n : Option ℕ) → IsSomeAnd text (IsUnsignedIn 0 most) → ((t : Text) → text ≡ Some t → ReadsOne Gives t n)
+      → IsSomeAnd n (IsLimited most text)
   text_read None n h read = absurd h
   text_read (Some text) n h read = number_read text n h (read text refl)
 
-  pub budget_read : (f : Found) (n : Option ℕ) → HasBudget (rows_of f) → ((t : Text) → one_text f (codes "budget") ≡ Some t → ReadsOne Gives t n)
-      → IsSomeAnd n (NamesBudget (rows_of f))
-  budget_read f n h read = with_default n (text_read (one_of (codes "budget") (rows_of f)) n h.0 (λ t e. read t (one_text-rows f (codes "budget") ∙ e)))
+  pub limited_read : (f : Found) (n : Option ℕ) → HasLimited id most (rows_of f) → ((t : Text) → one_text f id ≡ Some t → ReadsOne Gives t n)
+      → IsSomeAnd n (NamesLimited id most (rows_of f))
+  limited_read f n h read = with_default n (text_read (one_of id (rows_of f)) n h.0 (λ t e. read t (one_text-rows f id ∙ e)))
     where
-      with_default : (n : Option ℕ) → IsSomeAnd n (IsBudget (one_of (codes "budget") (rows_of f))) → IsSomeAnd n (NamesBudget (rows_of f))
+      with_default : (n : Option ℕ) → IsSomeAnd n (IsLimited most (one_of id (rows_of f))) → IsSomeAnd n (NamesLimited id most (rows_of f))
       with_default None b = absurd b
-      with_default (Some n) b = (b, λ e. (subst (λ o. IsBudget o n) (h.1 e) b).1)
+      with_default (Some n) b = (b, λ e. (subst (λ o. IsLimited most o n) (h.1 e) b).1)
 
 module _ (E : Type 0) (Gives : Text → Result ℕ E → Type 0) (parses : (t : Text) (x : Result ℕ E) → Gives t x → ParsesUnsigned 8 10 t x) where
   count_read : (text : Text) (n : Option ℕ) → IsUnsignedIn 1 MAX_WORKERS text → ReadsOne Gives text n → IsWorkers (Some text) n
@@ -76,14 +82,14 @@ workers_few rows n h = few (one_of (codes "workers") rows) n h
     few None (Some n) h = cc
     few (Some text) (Some n) h = omega arith
 
-budget_limited : (text : Option Text) (n : ℕ) → IsBudget text n → n ≤ MAX_BUDGET
-budget_limited None n b = absurd b
-budget_limited (Some text) n b = omega arith
+named_limited : (most : ℕ) (text : Option Text) (n : ℕ) → IsLimited most text n → n ≤ most
+named_limited most None n b = absurd b
+named_limited most (Some text) n b = omega arith
 
--- a budget that is named is in the range
-pub limited : (rows : List Row) (n : Option ℕ) → IsSomeAnd n (NamesBudget rows) → IfSome n (λ n. n ≤ MAX_BUDGET)
-limited rows None h = tt
-limited rows (Some n) h = budget_limited (one_of (codes "budget") rows) n h.0
+-- a number that is named is in the range
+pub limited : (id : Text) (most : ℕ) (rows : List Row) (n : Option ℕ) → IsSomeAnd n (NamesLimited id most rows) → IfSome n (λ n. n ≤ most)
+limited id most rows None h = tt
+limited id most rows (Some n) h = named_limited most (one_of id rows) n h.0
 
 -- what the getter gives of the file is what stands among the rows
 pub no_file : (f : Found) → first_value f (codes "file") ≡ None → None ≡ file_in (rows_of f)

@@ -2,16 +2,18 @@
 use Rattle.std.proofs.Common.{sym, ◌∙◌, true≢false, ◌≡◌, ◌||◌, ◌++◌, ℕ, List, [], ◌∷◌, Bool, true, false, cond, Option, Some, None, option_map, refl}
 use Rattle.std.specs.Prelude.{IfSome, IsSomeAnd, find, slice_get}
 use Rattle.std.specs.Str.{bytes_eq}
-use Rattle.clap.specs.Kinds.{value_kinds, values_kinds}
+use Rattle.clap.specs.Faults.{check_fault, defaults_fault, level_fault, settle_fault, walk_fault}
+use Rattle.clap.specs.Kinds.{or_else, value_kinds, values_kinds}
+use Rattle.clap.specs.Simple.{Shape}
 use Rattle.clap.specs.Values.{read_as, IsUnsignedIn, refused_kind}
 use Rattle.clap.specs.ValueTests.{accepts}
-use Rattle.clap.specs.Walk.{row_text, Row, Rule, Text, at_row, has_row, more_values, with_values, without}
+use Rattle.clap.specs.Walk.{row_text, Row, Rule, Text, at_row, finished, has_row, more_values, nothing_held, settled, walk, walk_from, with_values, without}
 use Rattle.clap.specs.declared.builder.value_parser.Reading.TheVariants.{AsWritten}
 use Rattle.clap.specs.declared.builder.value_parser.ValueParser.TheVariants.{Unsigned}
 use Rattle.clap.specs.declared.parser.matches.ValueSource.{ValueSource}
 use Rattle.clap.specs.declared.parser.matches.ValueSource.TheVariants.{CommandLine, DefaultValue}
 use Rattle.clap.proofs.ValueTestLemmas.{accepts-Accepts}
-use Rattle.bpf_command.proofs.Walks.{Keeps, first_free}
+use Rattle.bpf_command.proofs.Walks.{Keeps, first_free, last_free, settle_kept, walk_kept}
 
 -- what follows a cut of rows by an id
 pub find_missing : (id : Text) (change : Row → List Row) (missing rows : List Row) → has_row id rows ≡ false
@@ -112,6 +114,20 @@ module _ (id : Text) (low high : ℕ) where
         | true ↦ all.0
         | false ↦ found_keeps test rest all.1
       ]
+
+  -- what a parse of a command's words with no fault leaves
+  pub settled_fine : (s : Shape) → s.args_override_self ≡ false → AllKeep s.rules → (words : List Text) → level_fault s [] nothing_held words false [] ≡ []
+      → AreFine (settled s.rules (walk s.rules [] nothing_held words).held).rows
+  settled_fine s own all words e =
+      let end = (walk s.rules [] nothing_held words).held in
+      let last = check_fault s (finished s.rules end) false in
+      let third = defaults_fault (settled s.rules end).rows s.rules in
+      let second = settle_fault s.rules s.args_override_self end in
+      let first = walk_fault s [] (walk_from nothing_held) words in
+      let keeps : (test : Rule → Bool) → IfSome (find test s.rules) (Keeps AreFine s.args_override_self) = λ test. rw own (found_keeps test s.rules all) in
+      let walked : AreFine end.rows = walk_kept AreFine s [] keeps words (walk_from nothing_held) (first_free first (or_else second (or_else third last)) e) tt in
+      let settles = first_free second (or_else third last) (last_free first (or_else second (or_else third last)) e) in
+      settle_kept AreFine s.rules s.args_override_self keeps end settles walked
 
   -- ---- the option's own row
 

@@ -1,5 +1,5 @@
 -- Where `clap` finds no fault, the words name one of the program's commands.
-use Rattle.std.proofs.Common.{◌≡◌, List, [], ◌∷◌, Bool, true, false, Option, Some, None, option_map, is_some, refl, inl, inr, cond}
+use Rattle.std.proofs.Common.{◌∙◌, ap, sym, true≢false, ◌≡◌, List, [], ◌∷◌, Bool, true, false, Option, Some, None, option_map, is_some, refl, inl, inr, cond}
 use Rattle.std.specs.Prelude.{IfSome, IsSomeAnd, find}
 use Rattle.std.specs.Option.{option_map_or}
 use Rattle.clap.specs.Kinds.{Kinds, or_else}
@@ -12,6 +12,8 @@ use Rattle.clap.specs.declared.parser.matches.ArgMatches.TheViews.{out-ArgMatche
 use Rattle.clap.specs.declared.parser.matches.SubCommand.{SubCommand}
 use Rattle.std.specs.Prelude.{Box}
 use Rattle.std.specs.Box.{box_value}
+use Rattle.std.specs.Str.{bytes_eq}
+use Rattle.std.proofs.lemmas.Slice.Eq.{bytes_eq-Decides}
 use Rattle.bpf_command.specs.CommandLine.{IsCommandName, ebpf}
 use Rattle.bpf_command.proofs.Walks.{first_free, last_free}
 
@@ -35,7 +37,22 @@ find_known words test (s ∷ rest) known e =
 
 entered_known : (stop : Option (Text × List Text)) → is_some (entered (built ebpf) stop) ≡ true → NamesKnown (entered (built ebpf) stop)
 entered_known None e = cc
-entered_known (Some p) e = find_known p.1 (λ s. answers_to p.0 (label_of s)) (built ebpf).subs (inr (inl refl), (inr (inr (inl refl)), (inr (inr (inr (inl refl))), (inr (inr (inr (inr (inl refl)))), (inr (inr (inr (inr (inr refl)))), (inl refl, tt)))))) e
+entered_known (Some p) e = find_known p.1 (λ s. answers_to p.0 (label_of s)) (built ebpf).subs (
+  inr (inl refl),
+  (
+    inr (inr (inl refl)),
+    (
+      inr (inr (inr (inl refl))),
+      (
+        inr (inr (inr (inr (inl refl)))),
+        (
+          inr (inr (inr (inr (inr (inl refl))))),
+          (inr (inr (inr (inr (inr (inr (inl refl)))))), (inr (inr (inr (inr (inr (inr (inr refl)))))), (inl refl, tt))),
+        ),
+      ),
+    ),
+  ),
+) e
 
 has_command : (rows : List Row) (b : Bool) → check_fault (built ebpf).top rows b ≡ [] → b ≡ true
 has_command rows true e = refl
@@ -64,6 +81,10 @@ parts_free words e =
     let after_second = last_free second (or_else third (or_else fourth last)) after_first in
     let after_third = last_free third (or_else fourth last) after_second in
     (first_free second (or_else third (or_else fourth last)) after_first, last_free fourth last after_third)
+
+-- a command of another name
+pub other_name : (own name : Text) → bytes_eq name own ≡ false → name ≡ own → ⊥
+other_name own name other is = true≢false (sym (ap (λ t. bytes_eq t own) is ∙ (bytes_eq-Decides own own).1 refl) ∙ other)
 
 -- what holds of each subcommand that is parsed with no fault
 module _ (Known : Text × List Row → Type 0) where

@@ -8,10 +8,10 @@ use Rattle.clap.specs.Faults.{repeat_fault, check_fault, defaults_fault, level_f
 use Rattle.clap.specs.Walk.{with_default, row_text, values_or_missing, Held, Row, Rule, Text, answers_to, finished, has_row, nothing_held, rows_after, settled, walk, walk_from}
 use Rattle.clap.specs.Words.{fault_of, subcommand_of}
 use Rattle.bpf_command.specs.declared.command.TheConstants.{MAX_WORKERS}
-use Rattle.bpf_command.specs.CommandLine.{HasWorkers, ebpf, explained, file, keys, maps, run, workers}
+use Rattle.bpf_command.specs.CommandLine.{HasWorkers, ebpf, explained, file, keys, maps, run, schedule, workers}
 use Rattle.bpf_command.proofs.Ranges as range
 use Rattle.bpf_command.proofs.Ranges.{no_default}
-use Rattle.bpf_command.proofs.Subcommands.{AllHave, found_known}
+use Rattle.bpf_command.proofs.Subcommands.{AllHave, found_known, other_name}
 use Rattle.bpf_command.proofs.Walks.{Keeps, first_free, last_free, settle_kept, walk_kept}
 
 abbrev AreFine : List Row → Type 0
@@ -43,6 +43,10 @@ maps_keep : Keeps AreFine false (filled maps)
 maps_keep values rows e fine =
     range.other_used_fine (codes "workers") 1 MAX_WORKERS (codes "maps") (values_or_missing (filled maps) values) rows refl fine
 
+schedule_keeps : Keeps AreFine false (filled schedule)
+schedule_keeps values rows e fine =
+    range.other_used_fine (codes "workers") 1 MAX_WORKERS (codes "by") (values_or_missing (filled schedule) values) rows refl fine
+
 file_keeps : Keeps AreFine false (filled file)
 file_keeps values rows e fine =
     range.other_used_fine (codes "workers") 1 MAX_WORKERS (codes "file") (values_or_missing (filled file) values) rows refl fine
@@ -52,7 +56,7 @@ explained_keeps values rows e fine =
     range.other_used_fine (codes "workers") 1 MAX_WORKERS (codes "explain") (values_or_missing (filled explained) values) rows refl fine
 
 rules_keep : range.AllKeep (codes "workers") 1 MAX_WORKERS rules
-rules_keep = (explained_keeps, (keys_keep, (maps_keep, (workers_keep, (file_keeps, ((λ values rows e fine. fine), tt))))))
+rules_keep = (explained_keeps, (keys_keep, (maps_keep, (schedule_keeps, (workers_keep, (file_keeps, ((λ values rows e fine. fine), tt)))))))
 
 -- ---- the rows
 
@@ -73,26 +77,23 @@ finished_workers : (h : Held) → AreFine (settled rules h).rows → HasWorkers 
 finished_workers h fine =
     let start = with_default (settled rules h).rows (filled explained) in
     let listing = with_default start (filled keys) in
-    let first = with_default listing (filled maps) in
+    let shown = with_default listing (filled maps) in
+    let first = with_default shown (filled schedule) in
     let second = with_default first (filled workers) in
     let third = with_default second (filled file) in
     let started = range.default_fine (codes "workers") 1 MAX_WORKERS (codes "explain") (codes "false" ∷ []) (settled rules h).rows refl fine in
     let listed = range.default_fine (codes "workers") 1 MAX_WORKERS (codes "keys") (codes "false" ∷ []) start refl started in
     let all = range.default_fine (codes "workers") 1 MAX_WORKERS (codes "maps") (codes "false" ∷ []) listing refl listed in
-    subst HasWorkers (sym (no_default (has_row (codes "help") third) third ∙ no_default (has_row (codes "file") second) second ∙ no_default (has_row (codes "workers") first) first)) (has_workers first all)
+    let same =
+    no_default (has_row (codes "help") third) third ∙ (no_default (has_row (codes "file") second) second
+    ∙ (no_default (has_row (codes "workers") first) first ∙ no_default (has_row (codes "by") shown) shown))
+    in
+    subst HasWorkers (sym same) (has_workers shown all)
 
 -- the options of `run`, after a parse of its words with no fault
 run_workers : (words : List Text) → level_fault run_built [] nothing_held words false [] ≡ [] → HasWorkers (rows_after rules [] words)
 run_workers words e =
-    let end = (walk rules [] nothing_held words).held in
-    let last = check_fault run_built (finished rules end) false in
-    let third = defaults_fault (settled rules end).rows rules in
-    let second = settle_fault rules false end in
-    let first = walk_fault run_built [] (walk_from nothing_held) words in
-    let keeps = λ (test : Rule → Bool). range.found_keeps (codes "workers") 1 MAX_WORKERS test rules rules_keep in
-    let walked : AreFine end.rows = walk_kept AreFine run_built [] keeps words (walk_from nothing_held) (first_free first (or_else second (or_else third last)) e) tt in
-    let settles = first_free second (or_else third last) (last_free first (or_else second (or_else third last)) e) in
-    finished_workers end (settle_kept AreFine rules false keeps end settles walked)
+    finished_workers (walk rules [] nothing_held words).held (range.settled_fine (codes "workers") 1 MAX_WORKERS run_built refl rules_keep words e)
 
 -- ---- the subcommands
 
@@ -100,21 +101,24 @@ run_workers words e =
 abbrev pub WorkersKnown : Text × List Row → Type 0
 WorkersKnown found = found.0 ≡ codes "run" → HasWorkers found.1
 
-other_name : (name : Text) → bytes_eq name (codes "run") ≡ false → name ≡ codes "run" → ⊥
-other_name name other is = true≢false (sym (ap (λ t. bytes_eq t (codes "run")) is) ∙ other)
-
 all_known : AllHave WorkersKnown (built ebpf).subs
 all_known = (
-  (λ words e is. absurd (other_name (codes "hex") refl is)),
+  (λ words e is. absurd (other_name (codes "run") (codes "hex") refl is)),
   (
-    (λ words e is. absurd (other_name (codes "asm") refl is)),
+    (λ words e is. absurd (other_name (codes "run") (codes "asm") refl is)),
     (
-      (λ words e is. absurd (other_name (codes "disasm") refl is)),
+      (λ words e is. absurd (other_name (codes "run") (codes "disasm") refl is)),
       (
         (λ words e is. run_workers words e),
         (
-          (λ words e is. absurd (other_name (codes "debug") refl is)),
-          ((λ words e is. absurd (other_name (codes "explain") refl is)), tt),
+          (λ words e is. absurd (other_name (codes "run") (codes "explore") refl is)),
+          (
+            (λ words e is. absurd (other_name (codes "run") (codes "check") refl is)),
+            (
+              (λ words e is. absurd (other_name (codes "run") (codes "debug") refl is)),
+              ((λ words e is. absurd (other_name (codes "run") (codes "explain") refl is)), tt),
+            ),
+          ),
         ),
       ),
     ),

@@ -1,5 +1,5 @@
 -- The command line of `ebpf`, in clap's terms, and the numbers that its words name. Our own choice.
-use Rattle.std.specs.Prelude.{◌≡◌, ◌⊎◌, ℕ, List, Option, Some, None, IfSome, IsSomeAnd, codes, [], ◌∷◌, true, false}
+use Rattle.std.specs.Prelude.{◌≡◌, ◌⊎◌, ℕ, List, Option, Some, None, IfSome, IsSomeAnd, codes, [], ◌∷◌, Bool, ◌&&◌, true, false}
 use Rattle.std.specs.Str.Parse.{digits_value, without_leading_plus}
 use Rattle.clap.specs.Simple.{new_shape}
 use Rattle.clap.specs.Takes.{is_given}
@@ -7,17 +7,21 @@ use Rattle.clap.specs.Values.{IsUnsignedIn}
 use Rattle.clap.specs.Words.{App, Row, Rule, Text, new_app, new_rule, one_of, with_rule, with_subcommand}
 use Rattle.clap.specs.declared.builder.action.ArgAction.TheVariants.{SetTrue}
 use Rattle.clap.specs.declared.builder.value_parser.ValueParser.TheVariants.{Unsigned}
-use Rattle.bpf_command.specs.declared.command.TheConstants.{MAX_WORKERS}
-use Rattle.bpf_base.specs.declared.budget.TheConstants.{DEFAULT_BUDGET, MAX_BUDGET}
+use Rattle.bpf_command.specs.declared.command.TheConstants.{MAX_LIMIT, MAX_WORKERS}
+use Rattle.bpf_base.specs.declared.budget.TheConstants.{MAX_BUDGET}
 
--- `--budget N`: 0 to `MAX_BUDGET`, and 1,000,000 where it is left out
-abbrev pub budget : Rule
-budget = record (new_rule (codes "budget")) {
-  long = Some (codes "budget");
+-- an option `--ID N`: 0 to `most`, and 1,000,000 where it is left out
+abbrev pub limited : Text → ℕ → Rule
+limited id most = record (new_rule id) {
+  long = Some id;
   value_names = 1;
-  parser = Some (Unsigned 0 MAX_BUDGET);
+  parser = Some (Unsigned 0 most);
   defaults = codes "1000000" ∷ [];
 }
+
+-- `--budget N`
+abbrev pub budget : Rule
+budget = limited (codes "budget") MAX_BUDGET
 
 -- `--ctx HEX`
 abbrev pub context : Rule
@@ -76,11 +80,29 @@ workers = record (new_rule (codes "workers")) {
 abbrev pub run_shows : App
 run_shows = with_rule (with_rule (with_rule (new_app (codes "run")) explained) keys) maps
 
+-- `--by S`
+abbrev pub schedule : Rule
+schedule = record (new_rule (codes "by")) { long = Some (codes "by"); value_names = 1 }
+
 abbrev pub run_options : App
-run_options = with_rule run_shows workers
+run_options = with_rule (with_rule run_shows schedule) workers
 
 abbrev pub run : App
 run = with_rule run_options file
+
+-- `--limit N`
+abbrev pub limit : Rule
+limit = limited (codes "limit") MAX_LIMIT
+
+-- a command that searches through all schedules
+abbrev pub searching : Text → App
+searching name = with_rule (with_rule (with_rule (new_app name) explained) limit) file
+
+abbrev pub explore : App
+explore = searching (codes "explore")
+
+abbrev pub check : App
+check = searching (codes "check")
 
 -- the code that `explain` is asked for
 abbrev pub code_rule : Rule
@@ -107,9 +129,14 @@ bare = record {
 abbrev pub one_program : App
 one_program = with_subcommand (with_subcommand (with_subcommand bare hex.top) asm.top) disasm.top
 
--- and `ebpf run` and `ebpf debug` for a run file
+-- and `ebpf run`, `ebpf explore` and `ebpf check` for a run file
+abbrev pub for_files : App
+for_files = with_subcommand (with_subcommand (with_subcommand one_program run.top) explore.top)
+    check.top
+
+-- and `ebpf debug` for one with commands behind it
 abbrev pub working : App
-working = with_subcommand (with_subcommand one_program run.top) debug.top
+working = with_subcommand for_files debug.top
 
 -- and `ebpf explain`, with `--help` and `--version`
 abbrev pub ebpf : App
@@ -118,28 +145,46 @@ ebpf = with_subcommand working explain.top
 -- the name of one of those that do work
 abbrev pub IsWorkName : Text → Type 0
 IsWorkName name = (name ≡ codes "hex") ⊎ ((name ≡ codes "asm") ⊎ ((name ≡ codes "disasm")
-    ⊎ ((name ≡ codes "run") ⊎ (name ≡ codes "debug"))))
+    ⊎ ((name ≡ codes "run") ⊎ ((name ≡ codes "explore") ⊎ ((name ≡ codes "check")
+    ⊎ (name ≡ codes "debug"))))))
 
--- the name of one of the six
+-- the name of one of those that search
+abbrev pub IsSearchName : Text → Type 0
+IsSearchName name = (name ≡ codes "explore") ⊎ (name ≡ codes "check")
+
+-- the name of one of the eight
 abbrev pub IsCommandName : Text → Type 0
 IsCommandName name = (name ≡ codes "explain") ⊎ IsWorkName name
 
--- what is found of `--budget`: a number in the range, and the default where it isn't given
-abbrev pub HasBudget : List Row → Type 0
-HasBudget rows = IsSomeAnd (one_of (codes "budget") rows) (IsUnsignedIn 0 MAX_BUDGET)
-    × (is_given (codes "budget") rows ≡ false
-    → one_of (codes "budget") rows ≡ Some (codes "1000000"))
+-- what is found of such an option: a number in the range, and the default where it isn't given
+abbrev pub HasLimited : Text → ℕ → List Row → Type 0
+HasLimited id most rows = IsSomeAnd (one_of id rows) (IsUnsignedIn 0 most)
+    × (is_given id rows ≡ false → one_of id rows ≡ Some (codes "1000000"))
 
--- the budget that a text names: a number in the range, in decimal digits
-abbrev pub IsBudget : Option Text → ℕ → Type 0
-IsBudget None n = ⊥
-IsBudget (Some text) n = IsUnsignedIn 0 MAX_BUDGET text
+abbrev pub HasBudget : List Row → Type 0
+HasBudget = HasLimited (codes "budget") MAX_BUDGET
+
+abbrev pub HasLimit : List Row → Type 0
+HasLimit = HasLimited (codes "limit") MAX_LIMIT
+
+-- the number that a text names: one in the range, in decimal digits
+abbrev pub IsLimited : ℕ → Option Text → ℕ → Type 0
+IsLimited most None n = ⊥
+IsLimited most (Some text) n = IsUnsignedIn 0 most text
     × (n ≡ digits_value 10 (without_leading_plus text))
 
--- the budget that the options name: that of the text, and 1,000,000 where the option is left out
+-- the number that such an option names: that of the text, and 1,000,000 where it is left out
+abbrev pub NamesLimited : Text → ℕ → List Row → ℕ → Type 0
+NamesLimited id most rows n = IsLimited most (one_of id rows) n
+    × (is_given id rows ≡ false → n ≡ 1000000)
+
+-- the budget that the options name
 abbrev pub NamesBudget : List Row → ℕ → Type 0
-NamesBudget rows n = IsBudget (one_of (codes "budget") rows) n
-    × (is_given (codes "budget") rows ≡ false → n ≡ DEFAULT_BUDGET)
+NamesBudget = NamesLimited (codes "budget") MAX_BUDGET
+
+-- the limit that they name
+abbrev pub NamesLimit : List Row → ℕ → Type 0
+NamesLimit = NamesLimited (codes "limit") MAX_LIMIT
 
 -- what is found of `--workers`, if anything is: a number in the range
 abbrev pub HasWorkers : List Row → Type 0
@@ -156,3 +201,7 @@ IsWorkers (Some text) (Some n) = IsUnsignedIn 1 MAX_WORKERS text
 -- the number of workers that the options name, if the option is given
 abbrev pub NamesWorkers : List Row → Option ℕ → Type 0
 NamesWorkers rows n = IsWorkers (one_of (codes "workers") rows) n
+
+-- a schedule and a number of workers are given
+abbrev pub are_both : List Row → Bool
+are_both rows = is_given (codes "by") rows && is_given (codes "workers") rows

@@ -1,13 +1,15 @@
 -- The command that words name, or why they name none. Our own choice.
-use Rattle.std.specs.Prelude.{◌≡◌, ◌<◌, ◌≤◌, ℕ, List, Option, Some, None, Ok, IfOk, IsSomeAnd, codes, [], cond, length, option_and_then, option_map, string_bytes}
+use Rattle.std.specs.Prelude.{◌≡◌, ◌<◌, ◌≤◌, ℕ, List, true, false, Option, Some, None, Ok, IfOk, IsSomeAnd, codes, [], cond, length, option_and_then, option_map, string_bytes}
 use Rattle.std.specs.Str.{bytes_eq}
 use Rattle.bpf_codes.specs.Code.{code_of}
+use Rattle.bpf_lines.specs.Lines.{fields_of}
+use Rattle.bpf_schedule.specs.Spelling.{SpellNone, SpellRuns}
 use Rattle.bpf_mem.specs.Limits.{max_context}
 use Rattle.hex.specs.Hex.{decode_of}
 use Rattle.clap.specs.Kinds.{IsAmong}
 use Rattle.clap.specs.Takes.{is_given}
 use Rattle.clap.specs.Words.{Row, Text, fault_of, first_of, kind_of, subcommand_of}
-use Rattle.bpf_command.specs.CommandLine.{NamesBudget, NamesWorkers, ebpf}
+use Rattle.bpf_command.specs.CommandLine.{NamesBudget, NamesLimit, NamesWorkers, are_both, ebpf}
 use Rattle.bpf_command.specs.declared.command.Command.{Command}
 use Rattle.bpf_command.specs.declared.command.Command.TheVariants as command
 use Rattle.bpf_command.specs.declared.command.Request.{Request}
@@ -27,6 +29,17 @@ RefusesContext (Some digits) error.NotHex =
 RefusesContext _ error.OutOfMemory = Unit {0}
 RefusesContext _ _ = ⊥
 
+-- the runs of the schedule that a text spells; none where the option is left out
+abbrev pub IsSchedule : Option Text → List (ℕ × ℕ) → Type 0
+IsSchedule None runs = runs ≡ []
+IsSchedule (Some text) runs = SpellRuns (fields_of text) runs
+
+-- the text is refused as a schedule
+abbrev pub RefusesSchedule : Option Text → CommandError → Type 0
+RefusesSchedule (Some text) error.NoSchedule = SpellNone (fields_of text)
+RefusesSchedule _ error.OutOfMemory = Unit {0}
+RefusesSchedule _ _ = ⊥
+
 -- the command that `clap` finds in the words: a subcommand's name, and what is found of its options
 abbrev pub Names : Option (Text × List Row) → Command → Type 0
 Names None _ = ⊥
@@ -39,7 +52,13 @@ Names (Some found) (command.Disasm pc) = (found.0 ≡ codes "disasm")
     × (pc ≡ is_given (codes "pc") found.1)
 Names (Some found) (command.Run options) = (found.0 ≡ codes "run")
     × (options.keys ≡ is_given (codes "keys") found.1)
-    × (options.maps ≡ is_given (codes "maps") found.1) × NamesWorkers found.1 options.workers
+    × (options.maps ≡ is_given (codes "maps") found.1)
+    × IsSchedule (first_of (codes "by") found.1) options.by.items
+    × NamesWorkers found.1 options.workers × (are_both found.1 ≡ false)
+Names (Some found) (command.Explore options) = (found.0 ≡ codes "explore")
+    × NamesLimit found.1 options.limit
+Names (Some found) (command.Check options) = (found.0 ≡ codes "check")
+    × NamesLimit found.1 options.limit
 Names (Some found) command.Debug = found.0 ≡ codes "debug"
 
 -- the file that is read in place of standard input, which `-` names too
@@ -59,10 +78,14 @@ Asks (Some found) (request.Perform command file explain) = Names (Some found) co
 Asks (Some found) (request.Page code) = (found.0 ≡ codes "explain")
     × (option_and_then code_of (first_of (codes "code") found.1) ≡ Some code)
 
--- why what `clap` finds can't be done: a context that is none, or a code that isn't printed
+-- why what `clap` finds can't be done: a context or a schedule that is none, a schedule beside
+-- workers, or a code that isn't printed
 abbrev pub RefusesFound : Text × List Row → CommandError → Type 0
 RefusesFound found error.NotHex = (found.0 ≡ codes "hex")
     × RefusesContext (first_of (codes "ctx") found.1) error.NotHex
+RefusesFound found error.NoSchedule = (found.0 ≡ codes "run") × (are_both found.1 ≡ false)
+    × RefusesSchedule (first_of (codes "by") found.1) error.NoSchedule
+RefusesFound found error.TwoWays = (found.0 ≡ codes "run") × (are_both found.1 ≡ true)
 RefusesFound found error.NoCode = (found.0 ≡ codes "explain")
     × (option_and_then code_of (first_of (codes "code") found.1) ≡ None)
 RefusesFound found error.OutOfMemory = Unit {0}

@@ -4,13 +4,16 @@ ghost use Rattle.std.specs.Prelude.{◌<◌, ◌≤◌, IfSome, vec_len};
 ghost use Rattle.bpf_base.specs.declared.budget.TheConstants.{MAX_BUDGET};
 ghost use Rattle.bpf_mem.specs.Limits.{max_context};
 ghost use Rattle.bpf_command.specs.Lemmas.Ranges.{few-prop, some-prop};
-ghost use Rattle.bpf_command.specs.declared.command.TheConstants.{MAX_WORKERS};
+ghost use Rattle.bpf_command.specs.declared.command.TheConstants.{MAX_LIMIT, MAX_WORKERS};
 
 use bpf_base::MAX_BUDGET;
 use bpf_codes::Code;
 
 /// The greatest number of worker threads that may be asked for.
 pub const MAX_WORKERS: u8 = 16;
+
+/// The greatest limit that may be asked for.
+pub const MAX_LIMIT: u64 = 1_000_000_000;
 
 /// The options of `hex`, in their ranges.
 #[derive(PartialEq, Eq, Debug, Drop)]
@@ -29,10 +32,20 @@ pub struct FileOptions {
     pub keys: bool,
     /// To print the maps afterwards.
     pub maps: bool,
+    /// The turns that come before rounds: CPUs, each with how many it takes before the next.
+    pub by: Vec<(u8, u64)>,
     /// The number of worker threads; without one the CPUs take turns on one thread.
     pub workers: Option<u8>,
     ghost some: { IfSome workers (λ n. 0 < n) } by { some-prop workers },
     ghost few: { IfSome workers (λ n. n ≤ MAX_WORKERS) } by { few-prop workers MAX_WORKERS },
+}
+
+/// The options of `explore` and `check`, in their ranges.
+#[derive(PartialEq, Eq, Debug, Drop)]
+pub struct ExploreOptions {
+    /// The search ends once more states than this are kept.
+    pub limit: u64,
+    ghost limited: { limit ≤ MAX_LIMIT },
 }
 
 /// A command with its options.
@@ -47,6 +60,10 @@ pub enum Command {
     Disasm { pc: bool },
     /// Run the jobs of a run file.
     Run(FileOptions),
+    /// Find what the jobs of a run file can come to, by every schedule.
+    Explore(ExploreOptions),
+    /// Tell by every schedule whether a run file's outcomes are as its comments expect.
+    Check(ExploreOptions),
     /// Run the jobs of a run file by commands, and show what they ask for.
     Debug,
 }

@@ -1,14 +1,16 @@
 //! The command that words name: what `clap` finds in them, and what its options stand for.
 
-ghost use Rattle.std.specs.Prelude.{◌≡◌, ◌<◌, ◌≤◌, ◌⊎◌, [], codes, IfErr, IfOk, IfSome, IsOkUnless, IsSomeAnd, map, OnOk, option_and_then, option_map, Some, string_bytes};
+ghost use Rattle.std.specs.Prelude.{◌≡◌, ◌<◌, ◌≤◌, [], codes, IfErr, IfOk, IfSome, IsOkUnless, IsSomeAnd, map, OnOk, option_and_then, option_map, Some, string_bytes};
 ghost use Rattle.bpf_codes.specs.Code.{code_of};
 ghost use Rattle.clap.specs.Kinds.{FailsBy};
 ghost use Rattle.clap.specs.Takes.{is_given};
 ghost use Rattle.clap.specs.Words.{fault_of, first_of, first_value, found_of, rows_of, subcommand_name_of, subcommand_of, subcommand_rows_of};
-ghost use Rattle.bpf_command.specs.CommandLine.{ebpf, HasBudget, HasWorkers, IsCommandName, IsWorkName, NamesBudget, NamesWorkers};
-ghost use Rattle.bpf_command.specs.Names.{Asks, file_in, IsContext, Names, Refuses, RefusesContext, RefusesFound};
+ghost use Rattle.bpf_command.specs.CommandLine.{ebpf, HasBudget, HasLimit, HasWorkers, IsCommandName, IsSearchName, IsWorkName, NamesBudget, NamesLimit, NamesWorkers};
+ghost use Rattle.bpf_command.specs.Names.{Asks, file_in, IsContext, IsSchedule, Names, Refuses, RefusesContext, RefusesFound, RefusesSchedule};
 
-use crate::command::{Command, FileOptions, MAX_WORKERS, Request, RunOptions};
+use crate::command::{
+    Command, ExploreOptions, FileOptions, MAX_LIMIT, MAX_WORKERS, Request, RunOptions,
+};
 use crate::options::ebpf_command;
 use bpf_base::MAX_BUDGET;
 use bpf_codes::{Code, code_named};
@@ -27,6 +29,10 @@ pub enum CommandError {
     Shown(clap::Error),
     /// The context isn't pairs of hex digits, or has too many bytes.
     NotHex,
+    /// The schedule isn't one.
+    NoSchedule,
+    /// A schedule stands beside a number of workers, whose CPUs take no turns.
+    TwoWays,
     /// The page is asked for of a code that the program doesn't print.
     NoCode,
     OutOfMemory,
@@ -41,6 +47,8 @@ fn matches_of<'a, S: AsStr>(alloc: Global, words: &'a [S]) -> Result<ArgMatches<
         (λ found. found.0 ≡ codes "hex" → HasBudget found.1)) }
     ensures counted { IfOk result (λ m. IfSome (subcommand_rows_of m)
         (λ found. found.0 ≡ codes "run" → HasWorkers found.1)) }
+    ensures limited { IfOk result (λ m. IfSome (subcommand_rows_of m)
+        (λ found. IsSearchName found.0 → HasLimit found.1)) }
     ensures faults { FailsBy (fault_of ebpf (map S.text words.entry.now)) result }
 {
     let matches = ebpf_command(alloc)?.try_get_matches_from(words)?;
@@ -116,6 +124,36 @@ fn workers_of(options: &ArgMatches) -> Option<u8>
     options.get_one::<u8>("workers")
 }
 
+/// What `clap` reads of `--limit`, or its default.
+fn found_limit(options: &ArgMatches) -> Option<u64>
+    requires limited { HasLimit (rows_of (found_of options.now)) }
+    ensures named { IsSomeAnd result (NamesLimit (rows_of (found_of options.now))) }
+    ensures limited { IfSome result (λ n. n ≤ MAX_LIMIT) }
+{
+    options.get_one::<u64>("limit")
+}
+
+fn limit_of(options: &ArgMatches) -> u64
+    requires limited { HasLimit (rows_of (found_of options.now)) }
+    ensures named { NamesLimit (rows_of (found_of options.now)) result }
+    ensures limited { result ≤ MAX_LIMIT }
+{
+    let Some(limit) = found_limit(options) else {
+        unreachable!();
+    };
+    limit
+}
+
+/// The options of a command that searches.
+fn search_of(options: &ArgMatches) -> ExploreOptions
+    requires limited { HasLimit (rows_of (found_of options.now)) }
+    ensures { NamesLimit (rows_of (found_of options.now)) result.limit }
+{
+    ExploreOptions {
+        limit: limit_of(options),
+    }
+}
+
 /// Whether this option is given. A default's value has a source of its own.
 #[tactic(auto, using(crate::proofs::OptionRows::given_in_rows))]
 fn is_given(options: &ArgMatches, id: &str) -> bool
@@ -124,14 +162,48 @@ fn is_given(options: &ArgMatches, id: &str) -> bool
     options.contains_id(id) && options.value_source(id) != Some(ValueSource::DefaultValue)
 }
 
+/// The schedule that `--by` spells, of no turns where it isn't given.
+fn schedule_of(alloc: Global, options: &ArgMatches) -> Result<Vec<(u8, u64)>, CommandError>
+    ensures given { IfOk result (λ v.
+        IsSchedule (first_value (found_of options.now) (codes "by")) v.items) }
+    ensures refused { IfErr result
+        (RefusesSchedule (first_value (found_of options.now) (codes "by"))) }
+{
+    let Some(text) = options.get_str("by") else {
+        return Ok(Vec::new(alloc));
+    };
+    match bpf_schedule::runs_in(alloc, text.as_bytes()) {
+        Ok(Some(runs)) => Ok(runs),
+        Ok(None) => Err(CommandError::NoSchedule),
+        Err(_) => Err(CommandError::OutOfMemory),
+    }
+}
+
+#[tactic(auto, using(crate::proofs::OptionRows::schedule_in_rows, crate::proofs::OptionRows::no_schedule_in_rows))]
+fn run_of(alloc: Global, options: &ArgMatches) -> Result<Command, CommandError>
+    requires counted { HasWorkers (rows_of (found_of options.now)) }
+    ensures named { IfOk result (Names (Some (codes "run", rows_of (found_of options.now)))) }
+    ensures refused { IfErr result (RefusesFound (codes "run", rows_of (found_of options.now))) }
+{
+    if is_given(options, "by") && is_given(options, "workers") {
+        return Err(CommandError::TwoWays);
+    }
+    let by = schedule_of(alloc, options)?;
+    Ok(Command::Run(FileOptions {
+        keys: is_given(options, "keys"),
+        maps: is_given(options, "maps"),
+        by,
+        workers: workers_of(options),
+    }))
+}
+
 fn named(alloc: Global, name: &str, options: &ArgMatches) -> Result<Command, CommandError>
     requires known { IsWorkName name.now }
     requires checked { name.now ≡ codes "hex" → HasBudget (rows_of (found_of options.now)) }
     requires counted { name.now ≡ codes "run" → HasWorkers (rows_of (found_of options.now)) }
+    requires limited { IsSearchName name.now → HasLimit (rows_of (found_of options.now)) }
     ensures named { IfOk result (Names (Some (name.now, rows_of (found_of options.now)))) }
-    ensures refused { IfErr result (λ e. (e ≡ CommandError.OutOfMemory)
-        ⊎ ((e ≡ CommandError.NotHex) × (name.now ≡ codes "hex")
-        × RefusesContext (first_of (codes "ctx") (rows_of (found_of options.now))) e)) }
+    ensures refused { IfErr result (RefusesFound (name.now, rows_of (found_of options.now))) }
 {
     match name {
         "hex" => hex_of(alloc, options),
@@ -141,11 +213,9 @@ fn named(alloc: Global, name: &str, options: &ArgMatches) -> Result<Command, Com
         "disasm" => Ok(Command::Disasm {
             pc: is_given(options, "pc"),
         }),
-        "run" => Ok(Command::Run(FileOptions {
-            keys: is_given(options, "keys"),
-            maps: is_given(options, "maps"),
-            workers: workers_of(options),
-        })),
+        "run" => run_of(alloc, options),
+        "explore" => Ok(Command::Explore(search_of(options))),
+        "check" => Ok(Command::Check(search_of(options))),
         _ => Ok(Command::Debug),
     }
 }
@@ -184,6 +254,7 @@ fn requested(alloc: Global, name: &str, options: &ArgMatches) -> Result<Request,
     requires known { IsCommandName name.now }
     requires checked { name.now ≡ codes "hex" → HasBudget (rows_of (found_of options.now)) }
     requires counted { name.now ≡ codes "run" → HasWorkers (rows_of (found_of options.now)) }
+    requires limited { IsSearchName name.now → HasLimit (rows_of (found_of options.now)) }
     ensures asked { IfOk result (Asks (Some (name.now, rows_of (found_of options.now)))) }
     ensures refused { IfErr result (RefusesFound (name.now, rows_of (found_of options.now))) }
 {

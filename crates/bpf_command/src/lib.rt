@@ -5,5 +5,7 @@ pub mod command;
 pub mod command_line;
 mod options;
 
-pub use command::{Command, FileOptions, MAX_WORKERS, Request, RunOptions};
+pub use command::{
+    Command, ExploreOptions, FileOptions, MAX_LIMIT, MAX_WORKERS, Request, RunOptions,
+};
 pub use command_line::{CommandError, request_of};

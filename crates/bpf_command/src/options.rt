@@ -3,9 +3,9 @@
 ghost use Rattle.std.specs.Prelude.{◌≡◌, false, IfOk};
 ghost use Rattle.clap.specs.Words.{app_of, rule_of, shape_of};
 ghost use Rattle.clap.specs.declared.builder.command.Command.TheViews.{out-Command as fields_of};
-ghost use Rattle.bpf_command.specs.CommandLine.{asm, bare, budget, code_rule, context, debug, disasm, ebpf, explain, explained, file, hex, hex_options, keys, listing, maps, one_program, pc, run, run_options, run_shows, workers, working};
+ghost use Rattle.bpf_command.specs.CommandLine.{asm, bare, budget, check, code_rule, context, debug, disasm, ebpf, explain, explained, explore, file, for_files, hex, hex_options, keys, limit, listing, maps, one_program, pc, run, run_options, run_shows, schedule, workers, working};
 
-use crate::command::MAX_WORKERS;
+use crate::command::{MAX_LIMIT, MAX_WORKERS};
 use bpf_base::MAX_BUDGET;
 use clap::{Arg, ArgAction, Command, value_parser};
 use std::alloc::{AllocError, Global};
@@ -41,15 +41,49 @@ For example
 A pc counts words of 8 bytes from 0.";
 
 const RUN_NOTES: &str = "\
-Each CPU that has work makes one turn, in rising order, until none has work. With --workers the
-CPUs run at once, each its jobs in order, and what they do to shared values mixes as it comes. Then
-a line a job is printed: job J cpu C r0=N, fault Fk at PC or out of budget at PC. With --keys each
-CPU lists the keys of all maps with the end of its last job, each list as they were at one moment,
-and behind the lines of jobs stands one a list: keys cpu C NAME and the keys in hex.
+Each CPU that has work makes one turn, in rising order, until none has work. With --by the turns of
+a schedule come first, N turns of CPU C a word C*N; those of a CPU without work change nothing. With
+--workers the CPUs run at once, each its jobs in order, and what they do to shared values mixes as
+it comes. Then a line a job is printed: job J cpu C r0=N, fault Fk at PC or out of budget at PC.
+With --keys each CPU lists the keys of all maps with the end of its last job, each list as they were
+at one moment, and behind the lines of jobs stands one a list: keys cpu C NAME and the keys in hex.
 
 For example
   $ printf 'ebpf-run 1\\nprog a\\nr0 = 5\\nexit\\nend\\njob 0 a\\n' | ebpf run
-  job 0 cpu 0 r0=5";
+  job 0 cpu 0 r0=5
+  $ ebpf run --by '1*10' examples/first-insert.run
+  job 0 cpu 0 r0=18446744073709551599
+  job 1 cpu 1 r0=0";
+
+const EXPLORE_NOTES: &str = "\
+Prints each outcome once, in the order of its bytes: what 'run --maps' prints, behind a line 'by'
+with a schedule that leads there, N turns of CPU C a word C*N. Then a line says whether these are
+all, whatever the order of turns, how many they are, and how many states were kept: 'not all' where
+more than --limit were kept.
+
+For example
+  $ ebpf explore examples/first-insert.run
+  by 0*11 1*11
+  job 0 cpu 0 r0=0
+  job 1 cpu 1 r0=18446744073709551599
+  map winner 00000000=0000000000000000
+  by 0*9 1*10 0*2 1*1
+  job 0 cpu 0 r0=18446744073709551599
+  job 1 cpu 1 r0=0
+  map winner 00000000=0100000000000000
+  all: 2 outcomes, 20 states";
+
+const CHECK_NOTES: &str = "\
+A comment of the run file says what is expected: '; always LINE', '; sometimes LINE' or '; never
+LINE', where LINE is one that 'run --maps' prints. Each is a test, by every order of turns: 'ok', or
+'not ok' and on a line '# by' a schedule that shows it, which 'run --by' takes, or why it can't be
+told. The form is TAP; the exit status is 3 where an outcome isn't as expected, and 4 where all that
+was told is, but more than --limit states were kept.
+
+For example
+  $ printf '; never job 0 cpu 0 r0=1\\nebpf-run 1\\nprog a\\nr0 = 5\\nexit\\nend\\njob 0 a\\n' | ebpf check
+  1..1
+  ok 1 - never job 0 cpu 0 r0=1";
 
 const EXPLAIN_NOTES: &str = "\
 Nothing is read. The code is what stands behind 'refused' or 'fault', as in
@@ -69,11 +103,16 @@ The commands, one a line, with a CPU C, a pc P, an address A and a number N of b
   step C N    N turns of C, 1 to 1000000
   steps C*N ..  the turns of a schedule: N turns of C, then those of the next word
   go          rounds of turns, up to a breakpoint or until no CPU has work
+  go C until P  turns of C alone, up to the pc P or until it has no work; step C until P is the same
   regs C      the registers
   where C     the job in hand, the pc and the depth of calls
   mem C A N   bytes in hex, as C's program may read them, or 'unreadable'
   map NAME    the keys of a map with their values, KEY=VALUE in hex
   keys NAME   the keys alone
+  schedule    the turns made so far, as the 'steps' that makes them
+  maps        the maps with their sizes, as the run file has them
+  jobs        the jobs, with how each ended, or 'open'
+  mark N      prints 'mark N', the end of the answers before it
 
 A job that ends prints its line. A command that is refused prints 'refused' and a code, changes
 nothing, and the next one is read. The input is a run file, a line '---' and the commands, as in
@@ -91,7 +130,8 @@ Exit status:
   0  the answer is printed
   1  the input is refused, and the refusal printed, or the output failed
   2  the command line is at fault
-  3  the program, or a job, ended in a fault or out of budget";
+  3  the program, or a job, ended in a fault or out of budget; of check: a test isn't ok
+  4  the search met its limit: not all outcomes are printed, or not all tests could be told";
 
 /// Where a command's input is read from.
 fn file_argument<'a>(alloc: Global) -> Arg<'a>
@@ -218,6 +258,15 @@ fn maps_option<'a>(alloc: Global) -> Arg<'a>
         .help("Prints the maps afterwards, a line a key: map NAME KEY=VALUE")
 }
 
+fn schedule_option<'a>(alloc: Global) -> Arg<'a>
+    ensures rule { rule_of result ≡ schedule }
+    ensures own { result.global ≡ false }
+{
+    Arg::new(alloc, "by").long("by").value_name("S").help(
+        "Makes the turns of a schedule before the rounds, as '0*9 1*10 0*2'",
+    )
+}
+
 fn workers_option<'a>(alloc: Global) -> Arg<'a>
     ensures rule { rule_of result ≡ workers }
     ensures own { result.global ≡ false }
@@ -247,7 +296,9 @@ fn run_options<'a>(alloc: Global) -> Result<Command<'a>, AllocError>
     ensures shape { IfOk result (λ c. shape_of c ≡ run_options.top) }
     ensures own { IfOk result (λ c. (fields_of c).has_globals ≡ false) }
 {
-    run_shows(alloc)?.arg(workers_option(alloc))
+    run_shows(alloc)?
+        .arg(schedule_option(alloc))?
+        .arg(workers_option(alloc))
 }
 
 fn run_command<'a>(alloc: Global) -> Result<Command<'a>, AllocError>
@@ -255,6 +306,42 @@ fn run_command<'a>(alloc: Global) -> Result<Command<'a>, AllocError>
     ensures own { IfOk result (λ c. (fields_of c).has_globals ≡ false) }
 {
     run_options(alloc)?.arg(file_argument(alloc))
+}
+
+fn limit_option<'a>(alloc: Global) -> Arg<'a>
+    ensures rule { rule_of result ≡ limit }
+    ensures own { result.global ≡ false }
+{
+    Arg::new(alloc, "limit")
+        .long("limit")
+        .value_name("N")
+        .value_parser(value_parser!(u64).range(0..=MAX_LIMIT as i64))
+        .default_value("1000000")
+        .help("Ends the search once more states than this are kept, 0 to 1000000000")
+}
+
+fn explore_command<'a>(alloc: Global) -> Result<Command<'a>, AllocError>
+    ensures shape { IfOk result (λ c. shape_of c ≡ explore.top) }
+    ensures own { IfOk result (λ c. (fields_of c).has_globals ≡ false) }
+{
+    Command::new(alloc, "explore")
+        .about("Finds all that the jobs of a run file can come to, by every order of turns")
+        .after_help(EXPLORE_NOTES)
+        .arg(explain_option(alloc))?
+        .arg(limit_option(alloc))?
+        .arg(file_argument(alloc))
+}
+
+fn check_command<'a>(alloc: Global) -> Result<Command<'a>, AllocError>
+    ensures shape { IfOk result (λ c. shape_of c ≡ check.top) }
+    ensures own { IfOk result (λ c. (fields_of c).has_globals ≡ false) }
+{
+    Command::new(alloc, "check")
+        .about("Tells whether all that a run file's jobs can come to is as its comments expect")
+        .after_help(CHECK_NOTES)
+        .arg(explain_option(alloc))?
+        .arg(limit_option(alloc))?
+        .arg(file_argument(alloc))
 }
 
 fn debug_command<'a>(alloc: Global) -> Result<Command<'a>, AllocError>
@@ -309,12 +396,21 @@ fn program_commands<'a>(alloc: Global) -> Result<Command<'a>, AllocError>
     with_asm.subcommand(disasm_command(alloc)?)
 }
 
+/// The commands for one program, and those for a run file.
+fn file_commands<'a>(alloc: Global) -> Result<Command<'a>, AllocError>
+    ensures app { IfOk result (λ c. app_of c ≡ for_files) }
+{
+    let with_run = program_commands(alloc)?.subcommand(run_command(alloc)?)?;
+    let with_explore = with_run.subcommand(explore_command(alloc)?)?;
+    with_explore.subcommand(check_command(alloc)?)
+}
+
 /// The commands that do work.
 fn working_commands<'a>(alloc: Global) -> Result<Command<'a>, AllocError>
     ensures app { IfOk result (λ c. app_of c ≡ working) }
 {
-    let with_run = program_commands(alloc)?.subcommand(run_command(alloc)?)?;
-    with_run.subcommand(debug_command(alloc)?)
+    let with_files = file_commands(alloc)?;
+    with_files.subcommand(debug_command(alloc)?)
 }
 
 /// The command line of the whole program.

@@ -6,6 +6,7 @@ use Rattle.clap.specs.declared.error.Error.{Error}
 use Rattle.clap.specs.Words.{App, HasMatchesOf, Text, app_of, fault_of, subcommand_of, subcommand_rows_of}
 use Rattle.bpf_command.specs.CommandLine.{ebpf}
 use Rattle.bpf_command.proofs.Budget.{BudgetKnown, budget_known}
+use Rattle.bpf_command.proofs.Limit.{LimitKnown, limit_known}
 use Rattle.bpf_command.proofs.Subcommands.{is_matched, is_told, name_known}
 use Rattle.bpf_command.proofs.Workers.{WorkersKnown, workers_known}
 use Rattle.bpf_command.proofs.command_line.matches_of.Goals as goal
@@ -54,3 +55,9 @@ returns-clause-counted g c =
     let words : List Text = map g.S.AsStr.text c.args.words.now in
     let found : subcommand_rows_of c.in_ok-matches.matches ≡ subcommand_of ebpf words = returns-clause-found g c in
     subst (λ o. IfSome o WorkersKnown) (sym found) (workers_known words (returns-clause-faults g c))
+
+pub returns-clause-limited : goal.returns-clause-limited
+returns-clause-limited g c =
+    let words : List Text = map g.S.AsStr.text c.args.words.now in
+    let found : subcommand_rows_of c.in_ok-matches.matches ≡ subcommand_of ebpf words = returns-clause-found g c in
+    subst (λ o. IfSome o LimitKnown) (sym found) (limit_known words (returns-clause-faults g c))
