@@ -7,7 +7,7 @@ use Rattle.bpf_command.specs.Names.{Asks, Refuses}
 use Rattle.bpf_command.specs.declared.command.Request.{Request}
 use Rattle.bpf_command.specs.declared.command_line.CommandError.{CommandError}
 use Rattle.bpf_command.specs.declared.command_line.CommandError.TheVariants as error
-use Rattle.bpf_run.specs.Program.{IfExit, IfNoCode, IfShown, IsAsked}
+use Rattle.bpf_run.specs.Program.{error_of, IfExit, IfShown, IfMisused, IsAsked}
 use Rattle.bpf_run.specs.declared.program.Ending.{Ending}
 use Rattle.bpf_run.specs.declared.program.Ending.TheVariants as ending
 use Rattle.bpf_run.specs.declared.reply.Status.{Status}
@@ -28,7 +28,7 @@ exits words (Err e) (ending.Explained language done) P U R accepted named refuse
 exits words (Err e) (ending.Exit status) P U R accepted named refused performed printed = inr (e, refused, printed.0, printed.1)
 exits words asked (ending.Shown e) P U R accepted named refused performed printed = tt
 exits words asked ending.NotText P U R accepted named refused performed printed = tt
-exits words asked ending.NoCode P U R accepted named refused performed printed = tt
+exits words asked (ending.Misused misuse) P U R accepted named refused performed printed = tt
 
 shows : (words : List Text) (asked : Result Request CommandError) (end : Ending) (U V : Type 0) → IfErr asked (Refuses words)
     → IfShown end (λ e. (asked ≡ Err (error.Shown e)) × U × V) → IfShown end (λ e. Refuses words (error.Shown e) × U × V)
@@ -36,15 +36,15 @@ shows words asked (ending.Exit status) U V refused shown = tt
 shows words asked (ending.Shown e) U V refused shown = (subst (λ (a : Result Request CommandError). IfErr a (Refuses words)) shown.0 refused, shown.1, shown.2)
 shows words asked ending.NotText U V refused shown = tt
 shows words asked (ending.Explained language done) U V refused shown = tt
-shows words asked ending.NoCode U V refused shown = tt
+shows words asked (ending.Misused misuse) U V refused shown = tt
 
 lacks : (words : List Text) (asked : Result Request CommandError) (end : Ending) (U V : Type 0) → IfErr asked (Refuses words)
-    → IfNoCode end ((asked ≡ Err error.NoCode) × U × V) → IfNoCode end (Refuses words error.NoCode × U × V)
+    → IfMisused end (λ u. (asked ≡ Err (error_of u)) × U × V) → IfMisused end (λ u. Refuses words (error_of u) × U × V)
 lacks words asked (ending.Exit status) U V refused lacking = tt
 lacks words asked (ending.Explained language done) U V refused lacking = tt
 lacks words asked (ending.Shown e) U V refused lacking = tt
 lacks words asked ending.NotText U V refused lacking = tt
-lacks words asked ending.NoCode U V refused lacking =
+lacks words asked (ending.Misused misuse) U V refused lacking =
     (subst (λ (a : Result Request CommandError). IfErr a (Refuses words)) lacking.0 refused, lacking.1, lacking.2)
 
 -- the words are the texts of some values, and `asked` is what the command line answers to them
@@ -69,9 +69,9 @@ module _ (X A E : Type 0) (text : X → Text) (items_of : A → List X) (words :
       (shows (map text given) asked end U V refused shown) in
       subst (λ (w : Result A E). IfShown end (λ e. IsOkAnd w (λ w. Refuses (map text (items_of w)) (error.Shown e)) × U × V)) (sym is) known
 
-  pub lacked : (U V : Type 0) → IfErr asked (Refuses (map text given)) → IfNoCode end ((asked ≡ Err error.NoCode) × U × V)
-      → IfNoCode end (IsOkAnd words (λ w. Refuses (map text (items_of w)) error.NoCode) × U × V)
+  pub lacked : (U V : Type 0) → IfErr asked (Refuses (map text given)) → IfMisused end (λ u. (asked ≡ Err (error_of u)) × U × V)
+      → IfMisused end (λ u. IsOkAnd words (λ w. Refuses (map text (items_of w)) (error_of u)) × U × V)
   lacked U V refused lacking =
-      let known = subst (λ (xs : List X). IfNoCode end (Refuses (map text xs) error.NoCode × U × V)) same
+      let known = subst (λ (xs : List X). IfMisused end (λ u. Refuses (map text xs) (error_of u) × U × V)) same
       (lacks (map text given) asked end U V refused lacking) in
-      subst (λ (w : Result A E). IfNoCode end (IsOkAnd w (λ w. Refuses (map text (items_of w)) error.NoCode) × U × V)) (sym is) known
+      subst (λ (w : Result A E). IfMisused end (λ u. IsOkAnd w (λ w. Refuses (map text (items_of w)) (error_of u)) × U × V)) (sym is) known

@@ -6,12 +6,12 @@ use Rattle.bpf_shared.proofs.Soundness.{as_made_sound}
 use Rattle.bpf_cpu.specs.Task.{Task, Stage, Waiting, InHand, Ended, waiting}
 use Rattle.bpf_machine.specs.Laws.{IsFresh}
 use Rattle.bpf_jobs.specs.declared.rounds.Report.{Report}
-use Rattle.bpf_jobs.specs.Printed.{asked_world, IsReport}
+use Rattle.bpf_jobs.specs.Printed.{asked_world, IsReportBy}
 use Rattle.bpf_file.specs.declared.file.RunFile.{RunFile}
 use Rattle.bpf_file.specs.File.{File, file_of}
 use Rattle.bpf_file.specs.Reading.{IsRunFile}
 use Rattle.bpf_file.specs.Runnable.{WaitsShort, IsJobFor, CanRun}
-use Rattle.bpf_run.specs.Commands.{IsRunOfFile}
+use Rattle.bpf_run.specs.Running.{IsRunOfFile}
 use Rattle.bpf_run.specs.Script.{asked_world_of, first_world_of}
 use Rattle.bpf_run.specs.declared.reply.Reply.TheVariants as reply
 
@@ -42,9 +42,9 @@ pub fresh_asked : (keys : Bool) (f : File) → CanRun f → IsFresh (asked_world
 fresh_asked keys f can = record { store = (fresh f can).store; waits = (fresh f can).waits }
 
 -- what was told of the file that was read is what the text's file wants told
-pub told : (keys maps : Bool) (text : List ℕ) (file : RunFile) (r : Report)
+pub told : (by : List (ℕ × ℕ)) (keys maps : Bool) (text : List ℕ) (file : RunFile) (r : Report)
     → IsRunFile text (Ok (file_of file))
-    → IsReport (asked_world keys file.shape file.programs.items (map waiting file.jobs.items))
-    (map string_bytes file.names.items) maps (string_bytes r.text) r.stopped
-    → IsRunOfFile keys maps text (reply.Jobs r.text r.stopped)
-told keys maps text file r said report = (file_of file, said, report)
+    → IsReportBy (asked_world keys file.shape file.programs.items (map waiting file.jobs.items))
+    by (map string_bytes file.names.items) maps (string_bytes r.text) r.stopped
+    → IsRunOfFile by keys maps text (reply.Jobs r.text r.stopped)
+told by keys maps text file r said report = (file_of file, said, report)

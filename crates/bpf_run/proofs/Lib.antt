@@ -1,6 +1,8 @@
 pub mod KnownBytes
 pub mod ReplyLemmas
 pub mod OneReply
+pub mod OneExplored
+pub mod SeenAgain
 pub mod OneDebug
 pub mod Followed
 pub mod FreshFiles

@@ -29,13 +29,14 @@ use Rattle.bpf_file.specs.declared.error.Reason.{Reason}
 use Rattle.bpf_file.specs.File.{File}
 use Rattle.bpf_file.specs.Reading.{IsRunFile}
 use Rattle.bpf_file.specs.Laws.{FilesAreDetermined, FilesCanRun}
-use Rattle.bpf_jobs.specs.Laws.{ReportsAreDetermined}
-use Rattle.bpf_jobs.specs.Printed.{IsReport}
+use Rattle.bpf_jobs.specs.Laws.{ReportsByAreDetermined}
+use Rattle.bpf_jobs.specs.Printed.{IsReportBy}
 use Rattle.bpf_debug.specs.Laws.{ScriptsAreDetermined}
 use Rattle.bpf_run.proofs.FreshFiles.{fresh_asked}
 use Rattle.bpf_run.proofs.OneDebug.{PrintsAs, one_debug}
 use Rattle.bpf_run.specs.Answer.{jobs_status, status_of, reply_text}
-use Rattle.bpf_run.specs.Commands.{IsAnswer, IsAssembled, IsDisassembled, IsForOneThread, IsReply, IsRun, IsRunBy, IsRunOfFile, IsWordsOf, RefusesAssembly, RefusesInput, RefusesProgram, RefusesWords, ShowsWords, shown_program}
+use Rattle.bpf_run.specs.Commands.{IsAnswer, IsAssembled, IsDisassembled, IsForOneSchedule, IsForOneThread, IsReply, IsRun, IsWordsOf, RefusesAssembly, RefusesInput, RefusesProgram, RefusesWords, ShowsWords, shown_program}
+use Rattle.bpf_run.specs.Running.{IsRunBy, IsRunOfFile}
 use Rattle.bpf_run.specs.Script.{asked_world_of}
 use Rattle.bpf_run.specs.declared.input.TheConstants.{MAX_INPUT}
 use Rattle.bpf_run.specs.Laws.{IsOfInput, IsForAnyInput, HasShortContext, RepliesAreDetermined}
@@ -104,6 +105,7 @@ of_run budget context text (reply.Refused r) h n = of_program budget context tex
 of_run budget context text (reply.Text printed) h n = absurd h
 of_run budget context text (reply.Jobs printed stopped) h n = absurd h
 of_run budget context text (reply.Script answers stopped) h n = absurd h
+of_run budget context text (reply.Outcomes printed stopped all) h n = absurd h
 
 of_refused_text : (listing : Bool) (text : List ℕ) (error : TextError) → RefusesAssembly text (refusal.Text error) → ¬ IsForAnyInput (refusal.Text error) → OfAssembly listing text (reply.Refused (refusal.Text error))
 of_refused_text listing text error (inl memory) n = absurd (n (subst (λ (e : TextError). IsForAnyInput (refusal.Text e)) (sym memory) tt))
@@ -117,6 +119,7 @@ of_assembly listing text (reply.Refused r) h n = absurd h
 of_assembly listing text (reply.Ended outcome) h n = absurd h
 of_assembly listing text (reply.Jobs printed stopped) h n = absurd h
 of_assembly listing text (reply.Script answers stopped) h n = absurd h
+of_assembly listing text (reply.Outcomes printed stopped all) h n = absurd h
 
 of_listing : (pc : Bool) (text : List ℕ) (r : Reply) → IsDisassembled pc text r → IsOfInput r → OfListing pc text r
 of_listing pc text (reply.Text printed) h n = Listed printed h
@@ -124,27 +127,29 @@ of_listing pc text (reply.Refused r) h n = Unlisted r (of_words text r h n)
 of_listing pc text (reply.Ended outcome) h n = absurd h
 of_listing pc text (reply.Jobs printed stopped) h n = absurd h
 of_listing pc text (reply.Script answers stopped) h n = absurd h
+of_listing pc text (reply.Outcomes printed stopped all) h n = absurd h
 
-data OfFile (keys maps : Bool) (text : List ℕ) : Reply → Type 0 where
-  Told : (printed : _) (stopped : Bool) → IsRunOfFile keys maps text (reply.Jobs printed stopped)
-      → OfFile keys maps text (reply.Jobs printed stopped)
+data OfFile (by : List (ℕ × ℕ)) (keys maps : Bool) (text : List ℕ) : Reply → Type 0 where
+  Told : (printed : _) (stopped : Bool) → IsRunOfFile by keys maps text (reply.Jobs printed stopped)
+      → OfFile by keys maps text (reply.Jobs printed stopped)
   NoFile : (line : ℕ) (why : Reason) → IsRunFile text (Err (FileError.Refused line why))
-      → OfFile keys maps text (reply.Refused (refusal.File line why))
+      → OfFile by keys maps text (reply.Refused (refusal.File line why))
 
-of_refused_file : (keys maps : Bool) (text : List ℕ) (r : Refusal)
-    → IsRunOfFile keys maps text (reply.Refused r) → ¬ IsForAnyInput r
-    → OfFile keys maps text (reply.Refused r)
-of_refused_file keys maps text (refusal.File line why) h n = NoFile line why h
-of_refused_file keys maps text refusal.OutOfMemory h n = absurd (n tt)
-of_refused_file keys maps text _ h n = absurd h
+of_refused_file : (by : List (ℕ × ℕ)) (keys maps : Bool) (text : List ℕ) (r : Refusal)
+    → IsRunOfFile by keys maps text (reply.Refused r) → ¬ IsForAnyInput r
+    → OfFile by keys maps text (reply.Refused r)
+of_refused_file by keys maps text (refusal.File line why) h n = NoFile line why h
+of_refused_file by keys maps text refusal.OutOfMemory h n = absurd (n tt)
+of_refused_file by keys maps text _ h n = absurd h
 
-of_file : (keys maps : Bool) (text : List ℕ) (r : Reply) → IsRunOfFile keys maps text r → IsOfInput r
-    → OfFile keys maps text r
-of_file keys maps text (reply.Jobs printed stopped) h n = Told printed stopped h
-of_file keys maps text (reply.Refused r) h n = of_refused_file keys maps text r h n
-of_file keys maps text (reply.Ended outcome) h n = absurd h
-of_file keys maps text (reply.Text printed) h n = absurd h
-of_file keys maps text (reply.Script answers stopped) h n = absurd h
+of_file : (by : List (ℕ × ℕ)) (keys maps : Bool) (text : List ℕ) (r : Reply) → IsRunOfFile by keys maps text r → IsOfInput r
+    → OfFile by keys maps text r
+of_file by keys maps text (reply.Jobs printed stopped) h n = Told printed stopped h
+of_file by keys maps text (reply.Refused r) h n = of_refused_file by keys maps text r h n
+of_file by keys maps text (reply.Ended outcome) h n = absurd h
+of_file by keys maps text (reply.Text printed) h n = absurd h
+of_file by keys maps text (reply.Script answers stopped) h n = absurd h
+of_file by keys maps text (reply.Outcomes printed stopped all) h n = absurd h
 
 data OfInput (c : Command) (input : List ℕ) : Reply → Type 0 where
   TooLong : MAX_INPUT < length input → OfInput c input (reply.Refused (refusal.Input input_error.TooLong))
@@ -169,7 +174,7 @@ one_showing : (listing : Bool) (text bytes p q : List ℕ) → ShowsWords listin
 one_showing false text bytes p q a b = a ∙ sym b
 one_showing true text bytes p q a b = one_listing_of 0 bytes (lines_of text) p q a b
 
-module _ (words : WordsAreDetermined) (encodings : EncodingsAreDetermined) (refusals : RefusalsAreDetermined) (firsts : FirstIsDetermined) (texts : TextsAreDetermined) (outcomes : OutcomesAreDetermined) (events : NoMapsNoEvents) (files : FilesAreDetermined) (runs : FilesCanRun) (reports : ReportsAreDetermined) (scripts : ScriptsAreDetermined) where
+module _ (words : WordsAreDetermined) (encodings : EncodingsAreDetermined) (refusals : RefusalsAreDetermined) (firsts : FirstIsDetermined) (texts : TextsAreDetermined) (outcomes : OutcomesAreDetermined) (events : NoMapsNoEvents) (files : FilesAreDetermined) (runs : FilesCanRun) (reports : ReportsByAreDetermined) (scripts : ScriptsAreDetermined) where
   same_bytes : (text xs ys : List ℕ) → IsHexOf text xs → IsHexOf text ys → xs ≡ ys
   same_bytes text xs ys a b = cc
 
@@ -238,42 +243,45 @@ module _ (words : WordsAreDetermined) (encodings : EncodingsAreDetermined) (refu
   one_assembly listing text r s (NoAssembly e b) (Assembled p a) = let both : Ok a.0 ≡ Err e = texts text (Ok a.0) (Err e) a.2 b in absurd cc
   one_assembly listing text r s (NoAssembly e a) (NoAssembly f b) = let both = texts text (Err e) (Err f) a b in let same : e ≡ f = cc in prints r s (ap (λ error. reply.Refused (refusal.Text error)) same)
 
-  one_file : (keys maps : Bool) (text : List ℕ) (r s : Reply) → OfFile keys maps text r → OfFile keys maps text s → PrintsAs r s
-  one_file keys maps text r s (Told p x a) (Told q y b) =
+  one_file : (by : List (ℕ × ℕ)) (keys maps : Bool) (text : List ℕ) (r s : Reply) → OfFile by keys maps text r → OfFile by keys maps text s → PrintsAs r s
+  one_file by keys maps text r s (Told p x a) (Told q y b) =
       let both : Ok a.0 ≡ Ok b.0 = files text (Ok a.0) (Ok b.0) a.1 b.1 in
       let same : a.0 ≡ b.0 = cc in
-      let P : File → Type 0 = λ f. IsReport (asked_world_of keys f) f.names maps (string_bytes q) y in
-      let told = reports (asked_world_of keys a.0) a.0.names maps (string_bytes p) (string_bytes q) x y (fresh_asked keys a.0 (runs text a.0 a.1)) a.2 (subst P (sym same) b.2) in
+      let P : File → Type 0 = λ f. IsReportBy (asked_world_of keys f) by f.names maps (string_bytes q) y in
+      let told = reports (asked_world_of keys a.0) by a.0.names maps (string_bytes p) (string_bytes q) x y (fresh_asked keys a.0 (runs text a.0 a.1)) a.2 (subst P (sym same) b.2) in
       (told.0, ap jobs_status told.1)
-  one_file keys maps text r s (Told p x a) (NoFile line why b) = let both : Ok a.0 ≡ Err (FileError.Refused line why) = files text (Ok a.0) (Err (FileError.Refused line why)) a.1 b in absurd cc
-  one_file keys maps text r s (NoFile line why b) (Told p x a) = let both : Ok a.0 ≡ Err (FileError.Refused line why) = files text (Ok a.0) (Err (FileError.Refused line why)) a.1 b in absurd cc
-  one_file keys maps text r s (NoFile line why a) (NoFile place reason b) =
+  one_file by keys maps text r s (Told p x a) (NoFile line why b) = let both : Ok a.0 ≡ Err (FileError.Refused line why) = files text (Ok a.0) (Err (FileError.Refused line why)) a.1 b in absurd cc
+  one_file by keys maps text r s (NoFile line why b) (Told p x a) = let both : Ok a.0 ≡ Err (FileError.Refused line why) = files text (Ok a.0) (Err (FileError.Refused line why)) a.1 b in absurd cc
+  one_file by keys maps text r s (NoFile line why a) (NoFile place reason b) =
       let both = files text (Err (FileError.Refused line why)) (Err (FileError.Refused place reason)) a b in
       prints r s cc
 
-  one_answer : (c : Command) (text : List ℕ) (r s : Reply) → HasShortContext c → IsForOneThread c → IsAnswer c text r → IsAnswer c text s → IsOfInput r → IsOfInput s → PrintsAs r s
-  one_answer (command.Hex options) text r s h t a b n m =
+  one_answer : (c : Command) (text : List ℕ) (r s : Reply) → HasShortContext c → IsForOneThread c → IsForOneSchedule c → IsAnswer c text r → IsAnswer c text s → IsOfInput r → IsOfInput s → PrintsAs r s
+  one_answer (command.Hex options) text r s h t o a b n m =
       prints r s (one_run options.budget options.context.items text r s h (of_run options.budget options.context.items text r a n) (of_run options.budget options.context.items text s b m))
-  one_answer (command.Asm listing) text r s h t a b n m = one_assembly listing text r s (of_assembly listing text r a n) (of_assembly listing text s b m)
-  one_answer (command.Disasm pc) text r s h t a b n m = one_listing pc text r s (of_listing pc text r a n) (of_listing pc text s b m)
-  one_answer (command.Run options) text r s h t a b n m =
+  one_answer (command.Asm listing) text r s h t o a b n m = one_assembly listing text r s (of_assembly listing text r a n) (of_assembly listing text s b m)
+  one_answer (command.Disasm pc) text r s h t o a b n m = one_listing pc text r s (of_listing pc text r a n) (of_listing pc text s b m)
+  one_answer (command.Run options) text r s h t o a b n m =
+      let by = options.by.items in
       let keys = options.keys in
       let maps = options.maps in
-      let one = subst (λ (w : Option ℕ). IsRunBy w keys maps text r) t a in
-      let other = subst (λ (w : Option ℕ). IsRunBy w keys maps text s) t b in
-      one_file keys maps text r s (of_file keys maps text r one n) (of_file keys maps text s other m)
-  one_answer command.Debug text r s h t a b n m = one_debug files runs scripts text r s a b n m
+      let one = subst (λ (w : Option ℕ). IsRunBy w by keys maps text r) t a in
+      let other = subst (λ (w : Option ℕ). IsRunBy w by keys maps text s) t b in
+      one_file by keys maps text r s (of_file by keys maps text r one n) (of_file by keys maps text s other m)
+  one_answer command.Debug text r s h t o a b n m = one_debug files runs scripts text r s a b n m
+  one_answer (command.Explore options) text r s h t o a b n m = absurd o
+  one_answer (command.Check options) text r s h t o a b n m = absurd o
 
-  one_input : (c : Command) (input : List ℕ) (r s : Reply) → HasShortContext c → IsForOneThread c → OfInput c input r → OfInput c input s → IsOfInput r → IsOfInput s → PrintsAs r s
-  one_input c input r s h t (TooLong long) (TooLong more) n m = prints r s refl
-  one_input c input r s h t (TooLong long) (NotText fits other) n m = absurd (omega arith)
-  one_input c input r s h t (TooLong long) (Answered q fits text b) n m = absurd (omega arith)
-  one_input c input r s h t (NotText fits other) (TooLong long) n m = absurd (omega arith)
-  one_input c input r s h t (NotText fits other) (NotText whole none) n m = prints r s refl
-  one_input c input r s h t (NotText fits other) (Answered q whole text b) n m = absurd (other text)
-  one_input c input r s h t (Answered q fits text a) (TooLong long) n m = absurd (omega arith)
-  one_input c input r s h t (Answered q fits text a) (NotText whole other) n m = absurd (other text)
-  one_input c input r s h t (Answered q fits text a) (Answered p whole known b) n m = one_answer c input r s h t a b n m
+  one_input : (c : Command) (input : List ℕ) (r s : Reply) → HasShortContext c → IsForOneThread c → IsForOneSchedule c → OfInput c input r → OfInput c input s → IsOfInput r → IsOfInput s → PrintsAs r s
+  one_input c input r s h t o (TooLong long) (TooLong more) n m = prints r s refl
+  one_input c input r s h t o (TooLong long) (NotText fits other) n m = absurd (omega arith)
+  one_input c input r s h t o (TooLong long) (Answered q fits text b) n m = absurd (omega arith)
+  one_input c input r s h t o (NotText fits other) (TooLong long) n m = absurd (omega arith)
+  one_input c input r s h t o (NotText fits other) (NotText whole none) n m = prints r s refl
+  one_input c input r s h t o (NotText fits other) (Answered q whole text b) n m = absurd (other text)
+  one_input c input r s h t o (Answered q fits text a) (TooLong long) n m = absurd (omega arith)
+  one_input c input r s h t o (Answered q fits text a) (NotText whole other) n m = absurd (other text)
+  one_input c input r s h t o (Answered q fits text a) (Answered p whole known b) n m = one_answer c input r s h t o a b n m
 
   pub replies_are_determined : RepliesAreDetermined
-  replies_are_determined c input r s h t a b n m = one_input c input r s h t (of_input c input r a n) (of_input c input s b m) n m
+  replies_are_determined c input r s h t o a b n m = one_input c input r s h t o (of_input c input r a n) (of_input c input s b m) n m

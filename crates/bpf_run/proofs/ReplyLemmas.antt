@@ -1,7 +1,7 @@
 -- A reply to what was read is one to what the reader had left.
 use Rattle.std.proofs.Common.{◌≡◌, ◌<◌, ℕ, List, Bool, true, Option, Some, None, inl, length, refl, subst}
 use Rattle.std.specs.Prelude.{IfSome}
-use Rattle.bpf_run.specs.Commands.{IsReply, is_unread}
+use Rattle.bpf_run.specs.Commands.{IsReply}
 use Rattle.bpf_run.specs.Program.{Performs}
 use Rattle.bpf_run.specs.Answer.{Prints}
 use Rattle.bpf_run.specs.declared.reply.Status.{Status}

@@ -1,11 +1,12 @@
 -- What `debug` replies, put together.
-use Rattle.std.proofs.Common.{Ok, ◌≡◌, ℕ, List, [], length, Bool, sym, subst}
+use Rattle.std.proofs.Common.{Ok, ◌≡◌, ℕ, List, [], length, Bool, Option, Some, refl, sym, subst}
 use Rattle.bpf_cpu.specs.Task.{Task}
 use Rattle.bpf_machine.specs.Machine.{Shows}
 use Rattle.bpf_jobs.specs.Printed.{any_stopped}
 use Rattle.bpf_file.specs.declared.file.RunFile.{RunFile}
 use Rattle.bpf_file.specs.File.{file_of}
 use Rattle.bpf_file.specs.Reading.{IsRunFile}
+use Rattle.bpf_debug.specs.Course.{IsKept}
 use Rattle.bpf_debug.specs.Session.{SessionState, Scene, IsShown}
 use Rattle.bpf_debug.specs.Script.{Answer, RunsScript}
 use Rattle.bpf_run.specs.Script.{IsCut, IsDebugReply, IsScriptOfFile, first_world_of, scene_of}
@@ -22,16 +23,18 @@ of_file input file commands f (reply.Refused r) cut said h = absurd h
 of_file input file commands f (reply.Ended outcome) cut said h = absurd h
 of_file input file commands f (reply.Text text) cut said h = absurd h
 of_file input file commands f (reply.Jobs text stopped) cut said h = absurd h
+of_file input file commands f (reply.Outcomes text stopped all) cut said h = absurd h
 
 -- the session that was made of a file, and what its machine tells in the end
 pub ended : (f : RunFile) (commands : List (List ℕ)) (s t : SessionState) (answers : List Answer) (stopped : Bool)
-    → Shows s.machine (first_world_of (file_of f)) → s.names ≡ (file_of f).names → s.breaks ≡ []
+    → Shows s.machine (first_world_of (file_of f)) → s.names ≡ (file_of f).names → s.breaks ≡ [] → s.course ≡ Some []
     → ((x : Scene) → IsShown s x → (y : Scene) × RunsScript x commands answers y × IsShown t y)
     → stopped ≡ any_stopped (length t.machine.jobs) t.machine.jobs
     → (y : Scene) × RunsScript (scene_of (file_of f)) commands answers y
     × (stopped ≡ any_stopped (length y.world.jobs) y.world.jobs)
-ended f commands s t answers stopped shows names breaks follows tells =
-    let done = follows (scene_of (file_of f)) (record { world = shows; names = sym names; breaks = sym breaks }) in
+ended f commands s t answers stopped shows names breaks course follows tells =
+    let kept : IsKept s.course [] = subst (λ (o : Option (List (ℕ × ℕ))). IsKept o []) (sym course) refl in
+    let done = follows (scene_of (file_of f)) (record { world = shows; names = sym names; breaks = sym breaks; turns = kept }) in
     let P : List Task → Type 0 = λ jobs. stopped ≡ any_stopped (length jobs) jobs in (
       done.0,
       done.1,

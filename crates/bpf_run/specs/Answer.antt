@@ -19,6 +19,7 @@ abbrev pub reply_text : Reply → List ℕ
 reply_text (reply.Ended outcome) = outcome_text outcome ++ codes "\n"
 reply_text (reply.Text text) = string_bytes text
 reply_text (reply.Jobs text stopped) = string_bytes text
+reply_text (reply.Outcomes text stopped all) = string_bytes text
 reply_text (reply.Script answers stopped) = answers_text (map answer_of answers.items)
 reply_text (reply.Refused refusal) = codes "refused " ++ refusal_text refusal ++ codes "\n"
 
@@ -33,11 +34,17 @@ abbrev pub jobs_status : Bool → Status
 jobs_status true = status.Stopped
 jobs_status false = status.Done
 
+-- of outcomes: whether one of them has such a job, and whether they are all
+abbrev pub outcomes_status : (stopped all : Bool) → Status
+outcomes_status stopped true = jobs_status stopped
+outcomes_status stopped false = status.Incomplete
+
 abbrev pub status_of : Reply → Status
 status_of (reply.Ended outcome) = ended_status outcome
 status_of (reply.Text text) = status.Done
 status_of (reply.Jobs text stopped) = jobs_status stopped
 status_of (reply.Script answers stopped) = jobs_status stopped
+status_of (reply.Outcomes text stopped all) = outcomes_status stopped all
 status_of (reply.Refused refusal) = status.Refused
 
 abbrev pub exit_status : Status → ℕ
@@ -45,6 +52,7 @@ exit_status status.Done = 0
 exit_status status.Refused = 1
 exit_status status.Failed = 1
 exit_status status.Stopped = 3
+exit_status status.Incomplete = 4
 
 -- the text is written, and this status answered; or a write failed, and what is written is a
 -- beginning of the text
@@ -61,6 +69,8 @@ Prints (reply.Text text) old new failed answered =
     IsPrinted (string_bytes text) status.Done old new failed answered
 Prints (reply.Jobs text stopped) old new failed answered =
     IsPrinted (string_bytes text) (jobs_status stopped) old new failed answered
+Prints (reply.Outcomes text stopped all) old new failed answered =
+    IsPrinted (string_bytes text) (outcomes_status stopped all) old new failed answered
 Prints (reply.Script answers stopped) old new failed answered =
     IsPrinted (answers_text (map answer_of answers.items))
     (jobs_status stopped) old new failed answered

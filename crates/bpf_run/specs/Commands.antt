@@ -1,5 +1,5 @@
 -- What each command replies to the text that it read.
-use Rattle.std.specs.Prelude.{◌≡◌, ◌≢◌, ◌≤◌, ◌<◌, ◌⊎◌, ◌/◌, ℕ, Bool, true, false, List, [], All, Option, Some, None, Err, Ok, IsUtf8, length, string_bytes}
+use Rattle.std.specs.Prelude.{◌≡◌, ◌≢◌, ◌≤◌, ◌<◌, ◌⊎◌, ◌/◌, ℕ, Bool, true, false, List, [], All, None, Err, Ok, IsUtf8, length, string_bytes}
 use Rattle.bpf_insn.specs.declared.instruction.Insn.{Insn}
 use Rattle.bpf_insn.specs.Encoding.{IsEncodedAs}
 use Rattle.bpf_insn.specs.Refusal.{IsRefused, IsSized}
@@ -8,12 +8,10 @@ use Rattle.bpf_loader.specs.declared.refusal.LoadError.TheVariants as load_error
 use Rattle.bpf_shared.specs.declared.events.Event.{Event}
 use Rattle.bpf_cpu.specs.State.{start}
 use Rattle.bpf_cpu.specs.Step.{Explains}
-use Rattle.bpf_jobs.specs.Printed.{IsReport}
-use Rattle.bpf_workers.specs.Printed.{IsWorkersReport}
-use Rattle.bpf_run.specs.Script.{asked_world_of, IsScriptOfFile}
-use Rattle.bpf_file.specs.declared.error.FileError.TheVariants as FileError
-use Rattle.bpf_file.specs.File.{File}
-use Rattle.bpf_file.specs.Reading.{IsRunFile}
+use Rattle.bpf_run.specs.Checking.{IsCheckedFile}
+use Rattle.bpf_run.specs.Exploring.{IsExploredFile}
+use Rattle.bpf_run.specs.Running.{IsRunBy}
+use Rattle.bpf_run.specs.Script.{IsScriptOfFile}
 use Rattle.bpf_insn.specs.declared.error.InsnError.TheVariants as insn_error
 use Rattle.bpf_text.specs.Assembly.{Assembles}
 use Rattle.bpf_text.specs.Form.{canonical}
@@ -63,6 +61,7 @@ IsRun budget context text (reply.Refused r) = RefusesProgram text r
 IsRun budget context text (reply.Text printed) = ⊥
 IsRun budget context text (reply.Jobs printed stopped) = ⊥
 IsRun budget context text (reply.Script answers stopped) = ⊥
+IsRun budget context text (reply.Outcomes printed stopped all) = ⊥
 
 -- `asm`: the words of the instructions that the text stands for, a line of 16 hex digits each
 abbrev pub RefusesAssembly : List ℕ → Refusal → Type 0
@@ -84,6 +83,7 @@ IsAssembled listing text (reply.Refused r) = RefusesAssembly text r
 IsAssembled listing text (reply.Ended outcome) = ⊥
 IsAssembled listing text (reply.Jobs printed stopped) = ⊥
 IsAssembled listing text (reply.Script answers stopped) = ⊥
+IsAssembled listing text (reply.Outcomes printed stopped all) = ⊥
 
 -- `disasm`: the canonical text of the instructions, and with `--pc` each line with its pc and its
 -- words behind it
@@ -99,37 +99,7 @@ IsDisassembled pc text (reply.Refused r) = RefusesWords text r
 IsDisassembled pc text (reply.Ended outcome) = ⊥
 IsDisassembled pc text (reply.Jobs printed stopped) = ⊥
 IsDisassembled pc text (reply.Script answers stopped) = ⊥
-
--- why a text is no run file: its first refusal; want of memory may stand in place of any answer
-abbrev pub RefusesFile : List ℕ → Refusal → Type 0
-RefusesFile text (refusal.File line why) = IsRunFile text (Err (FileError.Refused line why))
-RefusesFile text refusal.OutOfMemory = Unit {0}
-RefusesFile text _ = ⊥
-
--- `run`: the lines of the jobs that the file says, run in rounds over a new store of its maps; then
--- where they are asked for, those of the keys that each CPU lists with the end of its last job, and
--- those of the maps; or the file's first refusal
-abbrev pub IsRunOfFile : (keys maps : Bool) → List ℕ → Reply → Type 0
-IsRunOfFile keys maps text (reply.Jobs printed stopped) = (f : File) × IsRunFile text (Ok f)
-    × IsReport (asked_world_of keys f) f.names maps (string_bytes printed) stopped
-IsRunOfFile keys maps text (reply.Refused r) = RefusesFile text r
-IsRunOfFile keys maps text _ = ⊥
-
--- `run --workers`: the lines of the jobs that the file says, ended as one history of a new store of
--- its maps explains; then, where they are asked for, those of the keys that each CPU lists in this
--- history behind its jobs, and those of the maps that it leaves; or the file's first refusal; or, of
--- a file that is accepted, want of memory for its jobs and lists
-abbrev pub IsRunByWorkers : (keys maps : Bool) → List ℕ → Reply → Type 0
-IsRunByWorkers keys maps text (reply.Jobs printed stopped) = (f : File) × IsRunFile text (Ok f)
-    × IsWorkersReport f keys maps (string_bytes printed) stopped
-IsRunByWorkers keys maps text (reply.Refused refusal.JobsOutOfMemory) =
-    (f : File) × IsRunFile text (Ok f)
-IsRunByWorkers keys maps text (reply.Refused r) = RefusesFile text r
-IsRunByWorkers keys maps text _ = ⊥
-
-abbrev pub IsRunBy : Option ℕ → (keys maps : Bool) → List ℕ → Reply → Type 0
-IsRunBy None keys maps text r = IsRunOfFile keys maps text r
-IsRunBy (Some workers) keys maps text r = IsRunByWorkers keys maps text r
+IsDisassembled pc text (reply.Outcomes printed stopped all) = ⊥
 
 -- what a command replies to the text
 abbrev pub IsAnswer : Command → List ℕ → Reply → Type 0
@@ -137,13 +107,21 @@ IsAnswer (command.Hex options) text r = IsRun options.budget options.context.ite
 IsAnswer (command.Asm listing) text r = IsAssembled listing text r
 IsAnswer (command.Disasm pc) text r = IsDisassembled pc text r
 IsAnswer (command.Run options) text r =
-    IsRunBy options.workers options.keys options.maps text r
+    IsRunBy options.workers options.by.items options.keys options.maps text r
 IsAnswer command.Debug text r = IsScriptOfFile text r
+IsAnswer (command.Explore options) text r = IsExploredFile options.limit text r
+IsAnswer (command.Check options) text r = IsCheckedFile options.limit text r
 
 -- it asks for no workers
 abbrev pub IsForOneThread : Command → Type 0
 IsForOneThread (command.Run options) = options.workers ≡ None
 IsForOneThread _ = Unit {0}
+
+-- it doesn't choose among schedules
+abbrev pub IsForOneSchedule : Command → Type 0
+IsForOneSchedule (command.Explore options) = ⊥
+IsForOneSchedule (command.Check options) = ⊥
+IsForOneSchedule _ = Unit {0}
 
 -- ---- input
 

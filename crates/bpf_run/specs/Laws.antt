@@ -1,6 +1,6 @@
 -- What follows from the definitions: what a command prints is a function of the bytes that it
 -- reads, and listings are assembled again.
-use Rattle.std.specs.Prelude.{◌≡◌, ◌↔◌, ℕ, ◌≤◌, ◌/◌, false, true, List, String, length, map, string_bytes}
+use Rattle.std.specs.Prelude.{◌≡◌, ◌↔◌, ℕ, ◌≤◌, ◌/◌, false, true, Bool, List, Some, String, length, map, slice_get, string_bytes}
 use Rattle.std.specs.declared.alloc.Global.{Global}
 use Rattle.bpf_insn.specs.declared.error.InsnError.TheVariants as insn_error
 use Rattle.bpf_loader.specs.declared.refusal.LoadError.TheVariants as load_error
@@ -8,11 +8,14 @@ use Rattle.bpf_lines.specs.HexText.{IsHexOf}
 use Rattle.bpf_lines.specs.declared.hex_text.HexError.TheVariants as hex_error
 use Rattle.bpf_text.specs.declared.error.TextError.TheVariants as text_error
 use Rattle.bpf_mem.specs.Limits.{max_context}
+use Rattle.bpf_explore.specs.Outcomes.{Found}
 use Rattle.bpf_debug.specs.Laws.{HadMemory}
 use Rattle.bpf_debug.specs.Script.{answer_of}
 use Rattle.bpf_run.specs.Answer.{status_of, reply_text}
-use Rattle.bpf_run.specs.Commands.{IsAssembled, IsDisassembled, IsForOneThread, IsReply}
+use Rattle.bpf_run.specs.Commands.{IsAssembled, IsDisassembled, IsForOneSchedule, IsForOneThread, IsReply}
+use Rattle.bpf_run.specs.Exploring.{AreAnswersTo, any_stopped_of, told_of}
 use Rattle.bpf_run.specs.Listing.{word_lines}
+use Rattle.bpf_run.specs.Running.{IsRunOfFile}
 use Rattle.bpf_command.specs.declared.command.Command.{Command}
 use Rattle.bpf_command.specs.declared.command.Command.TheVariants as command
 use Rattle.bpf_run.specs.declared.input.InputError.TheVariants as input_error
@@ -44,10 +47,12 @@ abbrev pub HasShortContext : Command → Type 0
 HasShortContext (command.Hex options) = length options.context.items ≤ max_context
 HasShortContext _ = Unit {0}
 
--- replies of one input print one text, with one exit status, where no workers are asked for
+-- replies of one input print one text, with one exit status, where no workers are asked for, and no
+-- schedule is chosen
 abbrev pub RepliesAreDetermined : Type 0
 RepliesAreDetermined = (c : Command) (input : List ℕ) (r s : Reply) → HasShortContext c
-    → IsForOneThread c → IsReply c input r → IsReply c input s → IsOfInput r → IsOfInput s
+    → IsForOneThread c → IsForOneSchedule c → IsReply c input r → IsReply c input s
+    → IsOfInput r → IsOfInput s
     → (reply_text r ≡ reply_text s) × (status_of r ≡ status_of s)
 
 -- what `asm --listing` prints is assembled as the text that is listed: `asm` has the same replies
@@ -63,3 +68,18 @@ ListedWordsAreAnswered = (text bytes : List ℕ) (listing : String Global) (r : 
     → IsHexOf text bytes → IsDisassembled true text (reply.Text listing)
     → IsAssembled false (string_bytes listing) r → IsOfInput r
     → reply_text r ≡ word_lines (length bytes / 8) bytes
+
+-- searches of one input that both found all outcomes tell the same of them, in the same order
+abbrev pub OutcomesAreDetermined : Type 0
+OutcomesAreDetermined = (text : List ℕ) (xs ys : List Found) (limit states more others : ℕ)
+    → AreAnswersTo text xs true limit states → AreAnswersTo text ys true more others
+    → (map told_of xs ≡ map told_of ys) × (any_stopped_of xs ≡ any_stopped_of ys)
+
+-- what a search shows of an outcome, `run --by` with its schedule prints
+abbrev pub WitnessesAreSeenAgain : Type 0
+WitnessesAreSeenAgain =
+    (text : List ℕ) (answers : List Found) (all : Bool) (limit states i : ℕ) (found : Found)
+    (printed : String Global) (stopped : Bool) → AreAnswersTo text answers all limit states
+    → slice_get answers i ≡ Some found
+    → IsRunOfFile found.by false true text (reply.Jobs printed stopped)
+    → (string_bytes printed ≡ found.text) × (stopped ≡ found.stopped)

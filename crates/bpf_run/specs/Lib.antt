@@ -1,5 +1,8 @@
 pub mod Answer
 pub mod Commands
+pub mod Running
+pub mod Exploring
+pub mod Checking
 pub mod Script
 pub mod Listing
 pub mod Input

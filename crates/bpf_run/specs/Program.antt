@@ -15,6 +15,8 @@ use Rattle.bpf_run.specs.Answer.{Prints, PrintsPage}
 use Rattle.bpf_run.specs.Commands.{IsReply, is_unread}
 use Rattle.bpf_run.specs.declared.program.Ending.{Ending}
 use Rattle.bpf_run.specs.declared.program.Ending.TheVariants as ending
+use Rattle.bpf_run.specs.declared.program.Misuse.{Misuse}
+use Rattle.bpf_run.specs.declared.program.Misuse.TheVariants as misuse
 use Rattle.bpf_run.specs.declared.refusal.Refusal.{Refusal}
 use Rattle.bpf_run.specs.declared.refusal.Refusal.TheVariants as refusal
 use Rattle.bpf_run.specs.declared.reply.Reply.{Reply}
@@ -56,6 +58,14 @@ IsPrintedAs command_error.NotHex r = r ≡ refusal.Hex hex_error.NotHex
 IsPrintedAs command_error.OutOfMemory r = r ≡ refusal.OutOfMemory
 IsPrintedAs (command_error.Shown _) r = ⊥
 IsPrintedAs command_error.NoCode r = ⊥
+IsPrintedAs command_error.NoSchedule r = ⊥
+IsPrintedAs command_error.TwoWays r = ⊥
+
+-- what is wrong with words in which `clap` finds no fault
+abbrev pub error_of : Misuse → CommandError
+error_of misuse.Code = command_error.NoCode
+error_of misuse.Schedule = command_error.NoSchedule
+error_of misuse.TwoWays = command_error.TwoWays
 
 -- ---- what is left to do
 
@@ -72,6 +82,6 @@ abbrev pub IfNotText : Ending → Type 0 → Type 0
 IfNotText ending.NotText P = P
 IfNotText _ P = Unit {0}
 
-abbrev pub IfNoCode : Ending → Type 0 → Type 0
-IfNoCode ending.NoCode P = P
-IfNoCode _ P = Unit {0}
+abbrev pub IfMisused : Ending → (Misuse → Type 0) → Type 0
+IfMisused (ending.Misused misuse) P = P misuse
+IfMisused _ P = Unit {0}

@@ -49,9 +49,15 @@ abbrev pub asked_world_of : Bool → File → World
 asked_world_of keys f =
     asked_world keys (record { cpus = f.cpus; maps = f.maps }) f.programs f.jobs
 
--- the first of these, without breakpoints
+-- the first of these, without breakpoints or turns
 abbrev pub scene_of : File → Scene
-scene_of f = record { world = first_world_of f; names = f.names; breaks = [] }
+scene_of f = record {
+  world = first_world_of f;
+  names = f.names;
+  breaks = [];
+  first = first_world_of f;
+  turns = [];
+}
 
 -- the commands' answers, one after the other, over the machine of the file, and whether some job
 -- of it then has ended in a fault or out of budget; or the file's first refusal

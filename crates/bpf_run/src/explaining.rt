@@ -13,8 +13,14 @@ use std::io;
 const BY_WORKERS: &str =
     "  no more is known of a run by workers; without them the CPUs take turns, and it is repeated\n";
 
+const BY_TURNS: &str =
+    "  hint: 'steps' of 'ebpf debug' makes these turns; then 'regs' and 'mem' show what the CPU has\n";
+
 const BY_COMMANDS: &str =
     "  hint: 'break CPU PC' stops there; then 'regs' and 'mem' show what the CPU has\n";
+
+const BY_SCHEDULES: &str =
+    "  hint: the line 'by' above the outcome is a schedule that leads to this fault\n";
 
 /// What is to be explained: of which command an answer is, as far as that matters.
 #[derive(Drop)]
@@ -25,10 +31,16 @@ pub enum Subject {
     Program { budget: u64, context: Vec<u8> },
     /// The jobs of a run file, in rounds.
     Rounds,
+    /// The same behind turns that are given.
+    Turns,
     /// The same by workers.
     Workers,
     /// Commands of the debugger.
     Script,
+    /// The jobs of a run file, by all schedules.
+    Schedules,
+    /// What a run file expects of them.
+    Tests,
 }
 
 /// What is asked: to explain the answer of a command to a file, or to standard input.
@@ -51,9 +63,17 @@ impl Subject {
                 },
                 Err(_) => Subject::Words,
             },
-            Command::Run(FileOptions { workers: None, .. }) => Subject::Rounds,
-            Command::Run(_) => Subject::Workers,
+            Command::Run(
+                FileOptions {
+                    workers: Some(_),
+                    ..
+                },
+            ) => Subject::Workers,
+            Command::Run(FileOptions { by, .. }) if by.is_empty() => Subject::Rounds,
+            Command::Run(_) => Subject::Turns,
             Command::Debug => Subject::Script,
+            Command::Explore(_) => Subject::Schedules,
+            Command::Check(_) => Subject::Tests,
         }
     }
 
@@ -61,15 +81,22 @@ impl Subject {
         match self {
             Subject::Assembly => Language::Assembly,
             Subject::Words | Subject::Program { .. } => Language::Words,
-            Subject::Rounds | Subject::Workers | Subject::Script => Language::RunFile,
+            Subject::Rounds
+            | Subject::Turns
+            | Subject::Workers
+            | Subject::Script
+            | Subject::Schedules
+            | Subject::Tests => Language::RunFile,
         }
     }
 
     /// What is said of a fault of which nothing more is known.
     fn otherwise(&self) -> &'static str {
         match self {
+            Subject::Turns => BY_TURNS,
             Subject::Workers => BY_WORKERS,
             Subject::Script => BY_COMMANDS,
+            Subject::Schedules => BY_SCHEDULES,
             _ => "",
         }
     }
@@ -78,7 +105,9 @@ impl Subject {
 /// What a reply prints.
 fn printed(alloc: Global, reply: &Reply) -> Result<String, AllocError> {
     match reply {
-        Reply::Text(text) | Reply::Jobs(text, _) => text.as_str().to_string(alloc),
+        Reply::Text(text) | Reply::Jobs(text, _) | Reply::Outcomes { text, .. } => {
+            text.as_str().to_string(alloc)
+        }
         Reply::Script(answers, _) => {
             let mut text = String::new(alloc);
             for answer in answers {

@@ -1,7 +1,7 @@
 //! What follows from the definitions of replies.
 //!
 //! These functions do nothing: their contracts are the laws.
-ghost use Rattle.bpf_run.specs.Laws.{ListedWordsAreAnswered, ListingsAreAnsweredAlike, RepliesAreDetermined};
+ghost use Rattle.bpf_run.specs.Laws.{ListedWordsAreAnswered, ListingsAreAnsweredAlike, OutcomesAreDetermined, RepliesAreDetermined, WitnessesAreSeenAgain};
 
 /// What a command prints is a function of the bytes that it reads, want of memory and failing reads
 /// aside.
@@ -17,8 +17,24 @@ pub fn replies_are_determined()
     bpf_cpu::laws::no_maps_no_events();
     bpf_file::laws::files_are_determined();
     bpf_file::laws::files_can_run();
-    bpf_jobs::laws::reports_are_determined();
+    bpf_jobs::laws::reports_by_are_determined();
     bpf_debug::laws::scripts_are_determined();
+}
+
+/// Searches of one input that both found all outcomes tell the same of them, in the same order.
+pub fn outcomes_are_determined()
+    ensures { OutcomesAreDetermined }
+{
+    bpf_file::laws::files_are_determined();
+}
+
+/// What a search shows of an outcome, `run --by` with its schedule prints.
+pub fn witnesses_are_seen_again()
+    ensures { WitnessesAreSeenAgain }
+{
+    bpf_file::laws::files_are_determined();
+    bpf_file::laws::files_can_run();
+    bpf_jobs::laws::reports_by_are_determined();
 }
 
 /// What `asm --listing` prints is assembled as the text that is listed: `asm` has the same replies

@@ -1,8 +1,10 @@
 //! The program `ebpf`: reads its words, does what they name, and nothing more.
 #![tactic(auto)]
 
+pub mod checking;
 pub mod engine;
 mod explaining;
+pub mod exploring;
 mod fault;
 pub mod input;
 pub mod laws;

@@ -7,12 +7,14 @@ ghost use Rattle.bpf_loader.specs.Sound.{IsSound};
 ghost use Rattle.bpf_plain.specs.PlainStore.{has_cpu, is_running, shapes_of};
 ghost use Rattle.bpf_run.specs.Commands.{IsAnswer, IsAssembled, IsDisassembled, IsForOneThread, IsRun, IsWordsOf, RefusesProgram, RefusesWords, ShowsWords, shown_program};
 
+use crate::checking::check_file;
+use crate::exploring::explore_file;
 use crate::listing::word_lines;
 use crate::refusal::Refusal;
 use crate::reply::Reply;
 use crate::running::{run_file, run_file_by_workers};
 use crate::script::debug_file;
-use bpf_command::{Command, FileOptions, RunOptions};
+use bpf_command::{Command, ExploreOptions, FileOptions, RunOptions};
 use bpf_cpu::Cpu;
 use bpf_disassembly::{disassemble, program_lines, source_lines};
 use bpf_insn::{Insn, decode, encode};
@@ -157,11 +159,12 @@ pub fn reply(alloc: Global, command: Command, text: &str) -> Reply
         Command::Disasm { pc } => disassembled(alloc, pc, text),
         Command::Run(
             FileOptions {
+                by,
                 keys,
                 maps,
                 workers: None,
             },
-        ) => run_file(alloc, keys, maps, text),
+        ) => run_file(alloc, &by, keys, maps, text),
         Command::Run(
             FileOptions {
                 workers: Some(_),
@@ -169,6 +172,8 @@ pub fn reply(alloc: Global, command: Command, text: &str) -> Reply
             },
         ) => unreachable!(),
         Command::Debug => debug_file(alloc, text),
+        Command::Explore(ExploreOptions { limit }) => explore_file(alloc, limit, text),
+        Command::Check(ExploreOptions { limit }) => check_file(alloc, limit, text),
     }
 }
 
@@ -187,6 +192,7 @@ pub fn reply_by_workers<T: Threads + Wait + Sync>(
                 keys,
                 maps,
                 workers: Some(workers),
+                ..
             },
         ) => run_file_by_workers(rt, alloc, workers, keys, maps, text),
         command => reply(alloc, command, text),

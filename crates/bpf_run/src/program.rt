@@ -7,7 +7,8 @@ ghost use Rattle.bpf_command.specs.Names.{Refuses};
 ghost use Rattle.bpf_command.specs.declared.command.Request.{Request};
 ghost use Rattle.bpf_command.specs.declared.command_line.CommandError.{CommandError};
 ghost use Rattle.bpf_run.specs.Answer.{Prints, exit_status};
-ghost use Rattle.bpf_run.specs.Program.{Follows, IfExit, IfNoCode, IfNotText, IfShown, IsAsked, input_of, IsPrintedAs, Performs};
+ghost use Rattle.bpf_run.specs.Program.{Follows, error_of, IfExit, IfNotText, IfShown, IfMisused, IsAsked, input_of, IsPrintedAs, Performs};
+ghost use Rattle.bpf_run.specs.declared.program.Misuse.{Misuse};
 ghost use Rattle.bpf_run.specs.declared.refusal.Refusal.{Refusal};
 
 use crate::explaining::{Question, Subject, explain};
@@ -24,6 +25,28 @@ use std::io::ErrorKind;
 use std::sync::Wait;
 use std::thread::Threads;
 
+/// What is wrong with words that `clap` takes.
+#[derive(Clone, Copy, PartialEq, Eq, Debug)]
+pub enum Misuse {
+    /// The program doesn't print the code that is to be explained.
+    Code,
+    /// A text spells no schedule.
+    Schedule,
+    /// Jobs are to be run by a schedule and by workers.
+    TwoWays,
+}
+
+impl Misuse {
+    /// What is said of it.
+    fn text(self) -> &'static str {
+        match self {
+            Misuse::Code => NO_CODE,
+            Misuse::Schedule => NO_SCHEDULE,
+            Misuse::TwoWays => TWO_WAYS,
+        }
+    }
+}
+
 /// What is left to do once the words have been followed.
 #[derive(Drop)]
 pub enum Ending {
@@ -35,14 +58,24 @@ pub enum Ending {
     Shown(clap::Error),
     /// To say that a word isn't UTF-8.
     NotText,
-    /// To say that the program doesn't print the code that is to be explained.
-    NoCode,
+    /// To say what is wrong with the words, where `clap` finds no fault.
+    Misused(Misuse),
 }
 
 const NO_CODE: &str = "\
 no such code is printed: there are A1 to A6, E1 to E14, F1 to F6, G1 to G5, H1, J1 to J4, L1 to L10 and S1 to S7
 
 For more information, try 'ebpf explain --help'.";
+
+const NO_SCHEDULE: &str = "\
+no schedule: it has words C*N, a CPU and how many turns it makes, as in '0*9 1*10 0*2'
+
+For more information, try 'ebpf run --help'.";
+
+const TWO_WAYS: &str = "\
+jobs are run by the turns of '--by' or by '--workers'
+
+For more information, try 'ebpf run --help'.";
 
 /// The exit status after a fault of the command line.
 pub const USAGE: u8 = 2;
@@ -65,7 +98,7 @@ fn perform_for<T: Threads + Wait + Sync, R: Source, W: Sink>(
         (W.has_failed sink.new) status) }
     ensures shown { IfShown result (λ e. ⊥) }
     ensures text { IfNotText result ⊥ }
-    ensures code { IfNoCode result ⊥ }
+    ensures misused { IfMisused result (λ _. ⊥) }
 {
     let subject = if explain {
         Some(Subject::of(&command))
@@ -100,7 +133,7 @@ fn follow<T: Threads + Wait + Sync, R: Source, W: Sink>(
     ensures shown { IfShown result (λ e. (asked ≡ Err (CommandError.Shown e))
         × (source.new ≡ source.old) × (sink.new ≡ sink.old)) }
     ensures text { IfNotText result ⊥ }
-    ensures code { IfNoCode result ((asked ≡ Err CommandError.NoCode)
+    ensures misused { IfMisused result (λ misuse. (asked ≡ Err (error_of misuse))
         × (source.new ≡ source.old) × (sink.new ≡ sink.old)) }
 {
     let refusal = match asked {
@@ -115,7 +148,9 @@ fn follow<T: Threads + Wait + Sync, R: Source, W: Sink>(
         }
         Ok(Request::Page(code)) => return Ending::Exit(print_page(alloc, code, sink)),
         Err(CommandError::Shown(error)) => return Ending::Shown(error),
-        Err(CommandError::NoCode) => return Ending::NoCode,
+        Err(CommandError::NoCode) => return Ending::Misused(Misuse::Code),
+        Err(CommandError::NoSchedule) => return Ending::Misused(Misuse::Schedule),
+        Err(CommandError::TwoWays) => return Ending::Misused(Misuse::TwoWays),
         Err(CommandError::NotHex) => Refusal::Hex(HexError::NotHex),
         Err(CommandError::OutOfMemory) => Refusal::OutOfMemory,
     };
@@ -150,8 +185,8 @@ pub fn program<T: Threads + Wait + Sync, R: Source, W: Sink>(
         × (source.new ≡ source.old) × (sink.new ≡ sink.old)) }
     ensures not_text { IfNotText result (IsErr words
         × (source.new ≡ source.old) × (sink.new ≡ sink.old)) }
-    ensures no_code { IfNoCode result (IsOkAnd words (λ words.
-        Refuses (map string_bytes words.items) CommandError.NoCode)
+    ensures misused { IfMisused result (λ misuse. IsOkAnd words (λ words.
+        Refuses (map string_bytes words.items) (error_of misuse))
         × (source.new ≡ source.old) × (sink.new ≡ sink.old)) }
 {
     match words {
@@ -205,7 +240,7 @@ pub fn end<P: Print + Eprint>(
     ensures help { IfShown ending (λ e. kind_of e ≡ kind.DisplayHelp → result ≤ 1) }
     ensures version { IfShown ending (λ e. kind_of e ≡ kind.DisplayVersion → result ≤ 1) }
     ensures not_text { IfNotText ending (result ≡ USAGE) }
-    ensures no_code { IfNoCode ending (result ≡ USAGE) }
+    ensures misused { IfMisused ending (λ _. result ≡ USAGE) }
 {
     match ending {
         Ending::Exit(status) => exit(rt, status),
@@ -218,8 +253,8 @@ pub fn end<P: Print + Eprint>(
             let _ = eprintln!(rt; "error: the command line isn't UTF-8");
             USAGE
         }
-        Ending::NoCode => {
-            let _ = eprintln!(rt; "error: {NO_CODE}");
+        Ending::Misused(misuse) => {
+            let _ = eprintln!(rt; "error: {}", misuse.text());
             USAGE
         }
     }

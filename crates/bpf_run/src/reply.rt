@@ -13,8 +13,10 @@ pub enum Status {
     Refused,
     /// The output couldn't be written.
     Failed,
-    /// A program was run to a fault, or out of its budget.
+    /// A program was run to a fault, or out of its budget; or a test isn't ok.
     Stopped,
+    /// Not all outcomes were found, or not all tests could be told.
+    Incomplete,
 }
 
 impl Status {
@@ -29,6 +31,7 @@ impl Status {
             Status::Done => 0,
             Status::Refused | Status::Failed => 1,
             Status::Stopped => 3,
+            Status::Incomplete => 4,
         }
     }
 }
@@ -45,6 +48,14 @@ pub enum Reply {
     /// What the lines of a script are answered, and whether some job ended in a fault or out of
     /// budget.
     Script(Vec<Answer>, bool),
+    /// The lines of outcomes, or of tests of them.
+    Outcomes {
+        text: String,
+        /// Whether in one of them a job ended in a fault or out of budget, or a test isn't ok.
+        stopped: bool,
+        /// Whether they are all, or all that tests ask was told.
+        all: bool,
+    },
     Refused(Refusal),
 }
 
@@ -59,6 +70,9 @@ impl Reply {
             Reply::Ended(Outcome::Exit(_)) | Reply::Text(_) => Status::Done,
             Reply::Jobs(_, false) | Reply::Script(_, false) => Status::Done,
             Reply::Ended(_) | Reply::Jobs(_, true) | Reply::Script(_, true) => Status::Stopped,
+            Reply::Outcomes { all: false, .. } => Status::Incomplete,
+            Reply::Outcomes { stopped: true, .. } => Status::Stopped,
+            Reply::Outcomes { .. } => Status::Done,
             Reply::Refused(_) => Status::Refused,
         }
     }

@@ -5,19 +5,19 @@ ghost use Rattle.bpf_file.specs.File.{file_of};
 ghost use Rattle.bpf_file.specs.Reading.{IsRunFile};
 ghost use Rattle.bpf_file.specs.Runnable.{IsRunnable};
 ghost use Rattle.bpf_sched.specs.Refusing.{AreWorkers};
-ghost use Rattle.bpf_run.specs.Commands.{IsRunByWorkers, IsRunOfFile, RefusesFile};
+ghost use Rattle.bpf_run.specs.Running.{IsRunByWorkers, IsRunOfFile, RefusesFile};
 
 use crate::refusal::Refusal;
 use crate::reply::Reply;
 use bpf_file::{FileError, RunFile, read_file};
-use bpf_jobs::{Report, run_jobs};
+use bpf_jobs::{Report, run_jobs_by};
 use bpf_workers::{WorkError, run_by_workers};
 use std::alloc::Global;
 use std::sync::Wait;
 use std::thread::Threads;
 
 /// The run file that a text says.
-fn file_in(alloc: Global, text: &str) -> Result<RunFile, Refusal>
+pub(crate) fn file_in(alloc: Global, text: &str) -> Result<RunFile, Refusal>
     ensures said { IfOk result (λ f. IsRunFile text.now (Ok (file_of f))) }
     ensures fits { IfOk result IsRunnable }
     ensures refused { IfErr result (RefusesFile text.now) }
@@ -29,10 +29,10 @@ fn file_in(alloc: Global, text: &str) -> Result<RunFile, Refusal>
     }
 }
 
-/// `ebpf run`.
+/// `ebpf run`: these turns, and then rounds.
 #[tactic(auto, using(crate::proofs::FreshFiles::told))]
-pub fn run_file(alloc: Global, keys: bool, maps: bool, text: &str) -> Reply
-    ensures { IsRunOfFile keys maps text.now result }
+pub fn run_file(alloc: Global, by: &[(u8, u64)], keys: bool, maps: bool, text: &str) -> Reply
+    ensures { IsRunOfFile by.now keys maps text.now result }
 {
     let file = match file_in(alloc, text) {
         Ok(file) => file,
@@ -45,7 +45,7 @@ pub fn run_file(alloc: Global, keys: bool, maps: bool, text: &str) -> Reply
         jobs,
         ..
     } = file;
-    match run_jobs(alloc, shape, &names, programs, jobs, keys, maps) {
+    match run_jobs_by(alloc, shape, &names, programs, jobs, by, keys, maps) {
         Ok(Report { text, stopped }) => Reply::Jobs(text, stopped),
         Err(_) => Reply::Refused(Refusal::OutOfMemory),
     }

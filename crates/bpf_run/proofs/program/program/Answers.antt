@@ -26,7 +26,7 @@ returns-in-Ok-clause-shown g c =
     shown_of _ _ _ string_bytes (λ v. v.items) c.args.words c.in-Ok.words c.in-Ok.is c.deref.result.now c.deref.ensures.value c.request_of.result c.follow.result
     _ _ c.request_of.ensures.refused c.follow.ensures.shown
 
-pub returns-in-Ok-clause-no_code : goal.returns-in-Ok-clause-no_code
-returns-in-Ok-clause-no_code g c =
+pub returns-in-Ok-clause-misused : goal.returns-in-Ok-clause-misused
+returns-in-Ok-clause-misused g c =
     lacked _ _ _ string_bytes (λ v. v.items) c.args.words c.in-Ok.words c.in-Ok.is c.deref.result.now c.deref.ensures.value c.request_of.result c.follow.result
-    _ _ c.request_of.ensures.refused c.follow.ensures.code
+    _ _ c.request_of.ensures.refused c.follow.ensures.misused

@@ -3,16 +3,16 @@ use Rattle.std.specs.Prelude.{string_bytes}
 use Rattle.bpf_cpu.specs.Task.{waiting}
 use Rattle.bpf_file.specs.File.{file_of}
 use Rattle.bpf_file.specs.Reading.{IsRunFile}
-use Rattle.bpf_jobs.specs.Printed.{asked_world, IsReport}
+use Rattle.bpf_jobs.specs.Printed.{asked_world, IsReportBy}
 use Rattle.bpf_run.proofs.FreshFiles.{told}
 use Rattle.bpf_run.proofs.running.run_file.Goals as goal
 
-pub returns-in-Ok-run_jobs : goal.returns-in-Ok-run_jobs
-returns-in-Ok-run_jobs c =
+pub returns-in-Ok-run_jobs_by : goal.returns-in-Ok-run_jobs_by
+returns-in-Ok-run_jobs_by c =
     let file = c.in-Ok.file in
-    let report = c.in-Ok-run_jobs.field-0 in
+    let report = c.in-Ok-run_jobs_by.field-0 in
     let said : IsRunFile c.args.text.now (Ok (file_of file)) = search rules in
     let w = asked_world c.args.keys file.shape file.programs.items (map waiting file.jobs.items) in
-    let printed = subst (λ names. IsReport w (map string_bytes names) c.args.maps (string_bytes report.text) report.stopped)
-    c.deref.ensures.value c.in-Ok-run_jobs.ensures in
-    told c.args.keys c.args.maps c.args.text.now file report said printed
+    let printed = subst (λ names. IsReportBy w c.args.by.now (map string_bytes names) c.args.maps (string_bytes report.text) report.stopped)
+    c.deref.ensures.value c.in-Ok-run_jobs_by.ensures in
+    told c.args.by.now c.args.keys c.args.maps c.args.text.now file report said printed
