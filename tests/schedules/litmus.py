@@ -4,12 +4,16 @@ all operations can have, and a run file that does the same.
 An operation is ("read", variable, register), ("write", variable, number), ("add", variable, number,
 register), ("exchange", variable, number, register) or ("compare", variable, expected, number,
 register): add and exchange are atomic and put the number found into the register, compare puts the
-new number where the expected one stands. What a CPU comes to is its registers, in order, as digits.
+new number where the expected one stands. Or it is ("write sum", variable, register, number), which
+writes the register's number and this one together, or ("unless", register, number, count), which
+passes over so many operations unless the register has this number. What a CPU comes to is its
+registers, in order, as digits.
 
 The enumeration knows nothing of BPF: it takes one operation of some CPU after the other.
 """
 
 READ, WRITE, ADD, EXCHANGE, COMPARE = "read", "write", "add", "exchange", "compare"
+SUM, UNLESS = "write sum", "unless"
 
 # By name: what it shows, and each CPU's operations. Named as in the literature (herd7, the Linux
 # kernel's memory model); the outcome that weaker processors add is one that none of these may have.
@@ -106,23 +110,31 @@ TESTS = {
         "Store buffering whose writes are exchanges: not both read 0.",
         [[(EXCHANGE, "x", 1, "b"), (READ, "y", "a")], [(EXCHANGE, "y", 1, "b"), (READ, "x", "a")]],
     ),
+    "lock": (
+        "Who takes the lock x adds to y by a read and a write: no addition is lost of two that both took it.",
+        2 * [[(COMPARE, "x", 0, 1, "a"), (UNLESS, "a", 0, 3), (READ, "y", "b"), (SUM, "y", "b", 1), (WRITE, "x", 0)]],
+    ),
 }
 
 
 def variables_of(cpus):
-    return sorted({operation[1] for cpu in cpus for operation in cpu})
+    return sorted({operation[1] for cpu in cpus for operation in cpu if operation[0] != UNLESS})
 
 
 def registers_of(cpu):
-    return sorted({op[-1] for op in cpu if op[0] != WRITE})
+    return sorted({op[-1] for op in cpu if op[0] in (READ, ADD, EXCHANGE, COMPARE)})
 
 
 def performed(operation, memory, registers):
     """What memory and registers are after the operation."""
     kind, variable = operation[0], operation[1]
+    if kind == UNLESS:
+        return memory, registers
     found = memory[variable]
     if kind == WRITE:
         return {**memory, variable: operation[2]}, registers
+    if kind == SUM:
+        return {**memory, variable: registers[operation[2]] + operation[3]}, registers
     left = {
         READ: found,
         ADD: found + operation[2] if kind == ADD else None,
@@ -130,6 +142,12 @@ def performed(operation, memory, registers):
         COMPARE: (operation[3] if found == operation[2] else found) if kind == COMPARE else None,
     }[kind]
     return {**memory, variable: left}, {**registers, operation[-1]: found}
+
+
+def passed(operation, registers):
+    """How many operations the CPU goes on by."""
+    skips = operation[0] == UNLESS and registers[operation[1]] != operation[2]
+    return 1 + (operation[3] if skips else 0)
 
 
 def outcomes(cpus):
@@ -145,19 +163,19 @@ def outcomes(cpus):
         places, memory, registers = state
         if all(place == len(cpu) for place, cpu in zip(places, cpus)):
             numbers = tuple(
-                int("".join(str(dict(known)[name]) for name in registers_of(cpu)) or "0")
+                int("".join(str(dict(known).get(name, 0)) for name in registers_of(cpu)) or "0")
                 for known, cpu in zip(registers, cpus)
             )
             ended.add((numbers, memory))
             continue
         for number, cpu in enumerate(cpus):
             if places[number] < len(cpu):
-                new_memory, new_registers = performed(
-                    cpu[places[number]], dict(zip(names, memory)), dict(registers[number])
-                )
+                operation, known = cpu[places[number]], dict(registers[number])
+                new_memory, new_registers = performed(operation, dict(zip(names, memory)), known)
+                by = passed(operation, known)
                 waiting.append(
                     (
-                        tuple(p + (n == number) for n, p in enumerate(places)),
+                        tuple(p + (by if n == number else 0) for n, p in enumerate(places)),
                         tuple(new_memory[name] for name in names),
                         tuple(
                             tuple(sorted(new_registers.items())) if n == number else known
@@ -182,7 +200,7 @@ def program_of(cpu, names):
     """The lines of a CPU's program: it inserts each of its variables unless it is there, looks it up,
     and then does its operations."""
     lines, places = [], {}
-    for register, name in enumerate(sorted({op[1] for op in cpu}), start=6):
+    for register, name in enumerate(variables_of([cpu]), start=6):
         places[name] = f"r{register}"
         lines += [
             f"*(u32 *)(r10 - 4) = {names.index(name)}",
@@ -201,10 +219,20 @@ def program_of(cpu, names):
             f"r{register} = r0",
         ]
     saved = {name: 24 + 8 * n for n, name in enumerate(registers_of(cpu))}
-    for operation in cpu:
+    labels = {}
+    for number, operation in enumerate(cpu):
+        if number in labels:
+            lines += [f"{labels[number]}:"]
+        if operation[0] == UNLESS:
+            labels[number + 1 + operation[3]] = label = f"after{number}"
+            lines += [f"r1 = *(u64 *)(r10 - {saved[operation[1]]})", f"if r1 != {operation[2]} goto {label}"]
+            continue
         at = f"*(u64 *)({places[operation[1]]} + 0)"
         if operation[0] == WRITE:
             lines += [f"r1 = {operation[2]}", f"{at} = r1"]
+            continue
+        if operation[0] == SUM:
+            lines += [f"r1 = *(u64 *)(r10 - {saved[operation[2]]})", f"r1 += {operation[3]}", f"{at} = r1"]
             continue
         if operation[0] == READ:
             lines += [f"r1 = {at}"]
@@ -220,6 +248,7 @@ def program_of(cpu, names):
                 "r1 = r0",
             ]
         lines += [f"*(u64 *)(r10 - {saved[operation[-1]]}) = r1"]
+    lines += [f"{labels[len(cpu)]}:"] if len(cpu) in labels else []
     lines += ["r0 = 0"]
     for place in saved.values():
         lines += ["r0 *= 10", f"r1 = *(u64 *)(r10 - {place})", "r0 += r1"]

@@ -36,7 +36,7 @@ def text_of(instruction):
         "fetch_add": "{1} = atomic_fetch_add((u64 *)({0} + 0), {1})",
         "exchange": "{1} = xchg_64({0} + 0, {1})",
         "compare": "r0 = cmpxchg_64({0} + 0, r0, {1})",
-        "if_zero": "if {0} == 0 goto +{1}",
+        "if_zero": "if {0} == 0 goto {1:+}",
         "exit": "exit",
     }[kind].format(*operands)
 
