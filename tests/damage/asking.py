@@ -59,6 +59,8 @@ class Documented:
 
 
 OUTCOME = rb"(r0=\d+|fault F[1-6] at \d+|out of budget at \d+)"
+KEYS = rb"(map \w+ ([0-9a-f]{2})+=([0-9a-f]{2})+\n)*"
+FOUND = rb"(by( \d+\*\d+)*\n(job \d+ cpu \d+ " + OUTCOME + rb"\n)*" + KEYS + rb")*"
 LINE_OF_A_FILE = r"line \d+ (L[1-6]|S[1-6]|H1|A[1-5]|E1|E3|E2 \d+|E[4-9] \d+|E1[0-3] \d+)"
 DOCUMENTED = {
     "hex": [
@@ -72,8 +74,13 @@ DOCUMENTED = {
     ],
     "asm": [Documented(0, rb"([0-9a-f]{16}\n)*"), refused(r"A[1-5] \d+", "L8")],
     "run": [
-        Documented(0, rb"(job \d+ cpu \d+ r0=\d+\n)*(map \w+ ([0-9a-f]{2})+=([0-9a-f]{2})+\n)*"),
-        Documented(3, rb"(job \d+ cpu \d+ " + OUTCOME + rb"\n)+(map \w+ ([0-9a-f]{2})+=([0-9a-f]{2})+\n)*"),
+        Documented(0, rb"(job \d+ cpu \d+ r0=\d+\n)*" + KEYS),
+        Documented(3, rb"(job \d+ cpu \d+ " + OUTCOME + rb"\n)+" + KEYS),
+        refused(LINE_OF_A_FILE, "L8"),
+    ],
+    "explore": [
+        *(Documented(status, FOUND + rb"all: \d+ outcomes, \d+ states\n") for status in (0, 3)),
+        Documented(4, FOUND + rb"not all: \d+ outcomes, \d+ states\n"),
         refused(LINE_OF_A_FILE, "L8"),
     ],
     "debug": [
@@ -81,7 +88,8 @@ DOCUMENTED = {
             Documented(
                 status,
                 rb"((break \d+ \d+ set|stop \d+ \d+|done|r\d+=\d+|cpu \d+ (idle|job \d+ (waiting|pc \d+ depth [1-8]))"
-                rb"|job \d+ cpu \d+ " + OUTCOME + rb"|([0-9a-f]{2})+|unreadable|([0-9a-f]{2})+=([0-9a-f]{2})+"
+                rb"|job \d+ cpu \d+ (open|" + OUTCOME + rb")|([0-9a-f]{2})+|unreadable|([0-9a-f]{2})+=([0-9a-f]{2})+"
+                rb"|break \d+ \d+ deleted|steps( \d+\*\d+)*|map \w+ key \d+ value \d+ max \d+ spare \d+( grow)?|mark \d+"
                 rb"|refused G[1-4])\n)*",
             )
             for status in (0, 3)

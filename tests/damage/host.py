@@ -102,6 +102,16 @@ def few_addresses(tally, program):
             tally.see(f"{name} of the largest file with 1/{part} of it, less 1 MiB", got in refused, got)
 
 
+def few_addresses_for_states(tally, program):
+    """A search whose states are more than memory: each keeps the 65,536 elements of the map that it is of."""
+    text = (
+        b"ebpf-run 1\nmap m key 4 value 8 max 65536 spare 0\nprog fill\nr6 = 65536\nnext: *(u32 *)(r10 - 4) = r6\nr1 = map 0\n"
+        b"r2 = r10\nr2 += -4\nr3 = r10\nr3 += -16\nr4 = 0\ncall 2\nr6 += -1\nif r6 != 0 goto next\nexit\nend\njob 0 fill\n"
+    )
+    got = within(program.path, ["explore"], text, 256 * MIB)
+    tally.see("explore with 256 MiB for more states than these hold", got == (b"refused L9\n", b"", 1), got)
+
+
 def counting_file():
     """16 CPUs add 1 to one value a hundred times each."""
     key = "r1 = map 0\nr2 = r10\nr2 += -4\n"
@@ -142,6 +152,7 @@ def hosts(program):
     with tempfile.TemporaryDirectory() as folder:
         unwritable(tally, program.path)
         few_addresses(tally, program)
+        few_addresses_for_states(tally, program)
         few_threads(tally, program, preloaded(folder, "fail_thread"))
         other_memory(tally, program, preloaded(folder, "fill_alloc"))
     return tally

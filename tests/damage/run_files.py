@@ -1,4 +1,4 @@
-"""Run files, by `run` and `run --workers`."""
+"""Run files, by `run`, `run --workers` and `explore`."""
 
 import re
 
@@ -9,6 +9,9 @@ from damage.texts import a_line, damaged, labels_alone
 NAMES = ["a", "b", "m", "n", "x" * 32, "x" * 33, "9", "end", "job"]
 EDGES = ["0", "1", "8", "16", "17", "64", "65", "256", "257", "0x7", "-1", "4294967296", "", "x"]
 LAST = re.compile(rb"[ \t\r]*end[ \t\r]*(;.*)?")
+# How many states of a file are searched, and what is told of them.
+STATES = "200"
+LAST_LINE = re.compile(rb"^all: .*\n", re.M)
 PUT = "*(u32 *)(r10 - 4) = 0|*(u64 *)(r10 - 16) = 7|r1 = map 0|r2 = r10|r2 += -4|r3 = r10|r3 += -16|r4 = 0|call 2|exit"
 FIND = "*(u32 *)(r10 - 4) = 0|r1 = map 0|r2 = r10|r2 += -4|call 1|if r0 == 0 goto none|r0 = *(u64 *)(r0 + 0)|none: exit"
 CONTEXT = "r0 = *(u8 *)(r1 + 0)|r2 = 9|r0 += r2|call f|exit|f: r0 += 1|exit"
@@ -99,11 +102,24 @@ class RunFiles:
             is_run = by_workers.status != 1 and is_documented("run", by_workers)
             holds = by_workers == got if got.status == 1 else is_run
             self.tally.see(f"{name} is refused by workers where it is without", holds, (text, got, by_workers))
+        if number % 4 == 2 or got.status == 1:
+            self.see_explored(name, text, got)
         if at := re.fullmatch(rb"refused line (\d+) (L1|L6|\w+).*\n", got.stdout):
             self.see_lowest(name, text.split(b"\n"), int(at[1]), at[2], got)
 
     def finish(self):
         return self.tally
+
+    def see_explored(self, name, text, got):
+        """What is refused by `run` is so by `explore`; of what isn't, the outcome by rounds is one of all."""
+        explored = self.program(["explore", "--limit", STATES], text)
+        if got.status == 1:
+            holds = explored == got
+        else:
+            outcomes = re.split(rb"^by.*\n", b"\n" + explored.stdout, flags=re.M)[1:]
+            holds = is_documented("explore", explored)
+            holds = holds and (explored.status == 4 or got.stdout in [LAST_LINE.sub(b"", it) for it in outcomes])
+        self.tally.see(f"{name} is explored, or refused as by rounds", holds, (text, got, explored))
 
     def see_lowest(self, name, lines, line, code, got):
         """A line is refused so without what is behind it, or behind the program that it is in; if it goes too, no line

@@ -7,8 +7,9 @@ from damage.run_files import a_damaged_file, a_file
 COMMANDS = [
     *("step C", "step C", "step C", "step C", "go", "go", "regs C", "where C", "break C P", "map M", "mem C A N", ""),
     *("mem 0 0x300000000 8", "mem C 0x200000000 4", "mem C 0x1000000000 8", "map m", "map n", "break 0 1"),
+    *("step C N", "steps S", "steps S S S", "go C until P", "delete C P", "keys M", "schedule", "maps", "jobs", "mark P"),
 ]
-TOKENS = ["step", "go", "regs", "where", "mem", "map", "break", "quit"]
+TOKENS = ["step", "steps", "go", "until", "regs", "where", "mem", "map", "break", "schedule", "mark", "quit"]
 TOKENS += ["---", ";", "-1", "+1", "257", "é", "\x00", "0x", "x" * 33]
 DRAWN = {
     "C": lambda drawn: str(drawn.below(5)),
@@ -16,7 +17,12 @@ DRAWN = {
     "M": lambda drawn: drawn.one_of(["m", "n", "o", "p", "q", "a"]),
     "A": lambda drawn: hex(drawn.one_of([0x200000000, 0x300000000, 0x1000000000, 0x1010000000, 0]) + drawn.below(520)),
     "N": lambda drawn: str(drawn.one_of([0, 1, 2, 8, 256, 257])),
+    "S": lambda drawn: f"{drawn.below(4)}*{drawn.one_of([0, 1, 2, 8, 30])}",
 }
+# Where the answers to what is drawn end, and what is asked behind them.
+MARK = b"mark 4711"
+ASKED = [b"schedule", b"jobs"] + [b"%s %d" % (word, cpu) for cpu in range(4) for word in (b"where", b"regs")]
+ASKED += [b"map %s" % name for name in (b"m", b"n", b"o")]
 
 
 def a_command(drawn):
@@ -53,6 +59,21 @@ class Scripts:
         before = self.program(["debug"], kept)
         holds = before.status in (0, got.status) and got.stdout.startswith(before.stdout)
         self.tally.see(f"{name} is answered so without what is behind", holds, (text, got, kept, before))
+
+        if number % 4 == 0:
+            self.see_schedule(name, file, commands)
+
+    def see_schedule(self, name, file, commands):
+        """What `schedule` tells makes the same machine again: its turns, given to another session, leave it so."""
+        asked = self.told_behind(file, commands)
+        again = self.told_behind(file, asked[:1])
+        self.tally.see(f"{name} is made again by its schedule", asked == again and asked, (file, commands, asked, again))
+
+    def told_behind(self, file, commands):
+        """The answers to what is asked behind commands."""
+        got = self.program(["debug"], file + b"\n---\n" + b"\n".join([*commands, MARK, *ASKED]))
+        lines = got.stdout.splitlines()
+        return lines[len(lines) - lines[::-1].index(MARK) :] if MARK in lines else []
 
     def finish(self):
         return self.tally
