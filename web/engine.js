@@ -7,7 +7,7 @@
 //     const { status, stdout, stderr } = await engine.call(['hex'], 'b700..');
 //     engine.stop();                                      // whatever is under way is rejected
 //
-// stdout and stderr are bytes. A call is answered whole or rejected: as `Stopped`, as `Trap` where the
+// A third argument may have files that a command names, as bytes. stdout and stderr are bytes. A call is answered whole or rejected: as `Stopped`, as `Trap` where the
 // instance can't go on, or as what the browser throws where it lacks 64-bit memory.
 
 // The worker's whole text is this function's own: a page that is opened from disk can load no worker.
@@ -17,6 +17,8 @@ function engineWorker() {
         2: 'a thread was to be joined, and there is none',
         3: 'it would wait for another thread, and there is none',
     };
+    const [ENOENT, EISDIR] = [2, 21];
+    const FIRST_FILE = 3; // behind standard input, output and error
     let compiled = null;
 
     class Exit extends Error {}
@@ -37,11 +39,18 @@ function engineWorker() {
     function imports(call, bytes) {
         return {
             read(file, address, room) {
-                if (file !== 0) return -1n;
-                const part = call.stdin.subarray(call.taken, call.taken + Number(room));
+                const from = file === 0 ? call : call.opened[file - FIRST_FILE];
+                if (!from) return -1n;
+                const part = from.stdin.subarray(from.taken, from.taken + Number(room));
                 bytes(address, part.length).set(part);
-                call.taken += part.length;
+                from.taken += part.length;
                 return BigInt(part.length);
+            },
+            open(address, length) {
+                const name = new TextDecoder().decode(bytes(address, length));
+                if (name === '.') return -BigInt(EISDIR);
+                if (!Object.hasOwn(call.files, name)) return -BigInt(ENOENT);
+                return BigInt(FIRST_FILE + call.opened.push({ stdin: call.files[name], taken: 0 }) - 1);
             },
             write(file, address, length) {
                 const parts = call.written[file];
@@ -66,10 +75,10 @@ function engineWorker() {
         };
     }
 
-    function answer(words, stdin) {
+    function answer(words, stdin, files) {
         const began = performance.now();
         const coded = ['ebpf', ...words].map((it) => new TextEncoder().encode(it));
-        const call = { words: coded, stdin, taken: 0, written: { 1: [], 2: [] }, status: null };
+        const call = { words: coded, stdin, taken: 0, files, opened: [], written: { 1: [], 2: [] }, status: null };
         const memory = () => instance.exports.memory.buffer;
         const bytes = (address, length) => new Uint8Array(memory(), Number(address), Number(length));
         const instance = new WebAssembly.Instance(compiled, { page: imports(call, bytes) });
@@ -89,14 +98,14 @@ function engineWorker() {
         compiled = new WebAssembly.Module(code);
     }
 
-    onmessage = ({ data: { number, module, words, stdin } }) => {
+    onmessage = ({ data: { number, module, words, stdin, files } }) => {
         try {
             if (module) {
                 compile(module);
                 postMessage({ number });
                 return;
             }
-            const done = answer(words, stdin);
+            const done = answer(words, stdin, files);
             postMessage({ number, done }, [done.stdout.buffer, done.stderr.buffer]);
         } catch (error) {
             postMessage({ number, failed: { name: error.constructor.name, message: error.message } });
@@ -138,9 +147,9 @@ class Engine {
         });
     }
 
-    async call(words, stdin) {
+    async call(words, stdin, files = {}) {
         await this.ready;
-        return this.send({ words, stdin: typeof stdin === 'string' ? new TextEncoder().encode(stdin) : stdin });
+        return this.send({ words, stdin: typeof stdin === 'string' ? new TextEncoder().encode(stdin) : stdin, files });
     }
 
     stop() {

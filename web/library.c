@@ -1,6 +1,6 @@
 /* What the program asks of the C library, for a page in a browser: one thread, a heap, standard input,
-   output and error, the arguments and an end. The page gives five functions; the linker allows nothing
-   else that is undefined, so a program that asks for more isn't linked.
+   output and error, files to be read, the arguments and an end. The page gives six functions; the linker
+   allows nothing else that is undefined, so a program that asks for more isn't linked.
 
    Each call of the program has an instance and a memory of its own, so nothing is ever given back to
    the browser but the whole. */
@@ -15,6 +15,7 @@ typedef unsigned __int128 wide;
 #define GIVEN(name) __attribute__((import_module("page"), import_name(name)))
 GIVEN("read") long page_read(int from, void *to, size room);
 GIVEN("write") long page_write(int to, const void *from, size length);
+GIVEN("open") long page_open(const void *name, size length);
 GIVEN("argument") long page_argument(size number, void *to, size room);
 GIVEN("exit") _Noreturn void page_exit(int status);
 
@@ -173,6 +174,25 @@ wide __lshrti3(wide number, int by) {
 static int error;
 int rattle_errno(void) { return error; }
 void rattle_set_errno(int to) { error = to; }
+
+/* The page answers the number of an open file, or that of an error less than 0. */
+int open(const char *name, int how, ...) {
+    long file = page_open(name, strlen(name));
+    if (file >= 0) return file;
+    error = -file;
+    return -1;
+}
+
+int close(int file) { return 0; }
+
+int __xpg_strerror_r(int number, char *to, size room) {
+    const char *text = number == 2 ? "No such file or directory" : number == 21 ? "Is a directory" : "Unknown error";
+    size length = strlen(text);
+    if (length >= room) return 34; /* ERANGE */
+    memcpy(to, text, length + 1);
+    return 0;
+}
+
 long read(int from, void *to, size room) { return page_read(from, to, room); }
 long write(int to, const void *from, size length) { return page_write(to, from, length); }
 long __write(int to, const void *from, size length) { return page_write(to, from, length); }

@@ -30,6 +30,30 @@ function read_end(line) {
     return { line, job: Number(job), how: how.join(' '), code, is_good: how[0].startsWith('r0=') };
 }
 
+// Turns in run lengths, as the program writes and takes them: `0*2 1*1` is two turns of CPU 0 and one of CPU 1.
+function schedule_of(turns) {
+    const runs = [];
+    for (const cpu of turns) {
+        const last = runs.at(-1);
+        if (last?.cpu === cpu) last.turns++;
+        else runs.push({ cpu, turns: 1 });
+    }
+    return runs.map((run) => `${run.cpu}*${run.turns}`).join(' ');
+}
+
+// The turns of a schedule, or null where they are more than these.
+function turns_of_schedule(schedule, most) {
+    const runs = schedule.split(' ').filter((word) => word).map((word) => word.split('*').map(Number));
+    if (runs.reduce((sum, [, turns]) => sum + turns, 0) > most) return null;
+    return runs.flatMap(([cpu, turns]) => Array(turns).fill(cpu));
+}
+
+// The commands that make turns: those that were told before at once, each of the others by itself.
+function commands_of(turns, known) {
+    const told = turns.slice(0, known);
+    return [...(told.length ? [`steps ${schedule_of(told)}`] : []), ...turns.slice(known).map((cpu) => `step ${cpu}`)];
+}
+
 class Answers {
     constructor(text) {
         this.lines = text.split('\n');
@@ -45,6 +69,12 @@ class Answers {
         const line = this.line();
         if (!line.startsWith('job ')) return { ended: null, place: read_place(line) };
         return { ended: read_end(line), place: read_place(this.line()) };
+    }
+
+    // What turns came to: of those that were told before, which were made at once, nothing is read again.
+    turns(count, known) {
+        if (known.length) this.next += known.filter((turn) => turn.ended).length + 1;
+        return [...known, ...Array.from({ length: count - known.length }, () => this.turn())];
     }
 
     registers() {
@@ -92,22 +122,23 @@ class Machine {
     // Makes turns (CPU numbers) of a run file that the program takes. Gives the machine before and after
     // turn `shown`, and what each turn came to: those of `known` were told before and aren't read again.
     async make(file, turns, shown, known = []) {
-        const steps = turns.map((cpu) => `step ${cpu}`);
         const asks = questions(file);
         const before = Math.max(shown - 1, 0);
-        const asked = [...steps.slice(0, before), ...asks];
-        if (shown) asked.push(steps[before], ...asks);
-        asked.push(...steps.slice(shown));
+        // The turns before the last one that is shown, that one, and those behind it.
+        const parts = [[0, before], [before, shown], [shown, turns.length]].map(([from, to]) => ({
+            turns: turns.slice(from, to),
+            known: known.slice(from, to),
+        }));
+        const commands = parts.map((part) => commands_of(part.turns, part.known.length));
+        const asked = [...commands[0], ...asks, ...commands[1], ...(shown ? asks : []), ...commands[2]];
         const { stdout, time } = await this.engine.call(['debug'], script_of(file.text, asked));
         const answers = new Answers(text_of(stdout));
-        const made = { turns: [], views: {}, asked, answers: answers.lines, time };
-        for (let turn = 0; turn <= turns.length; turn++) {
-            if (turn === before) made.views.before = answers.view(file);
-            if (turn === shown) made.views.after = shown ? answers.view(file) : made.views.before;
-            if (turn === turns.length) break;
-            if (turn < known.length) answers.next += known[turn].ended ? 2 : 1;
-            made.turns.push(known[turn] ?? answers.turn());
-        }
+        const read = (part) => answers.turns(part.turns.length, part.known);
+        const made = { turns: read(parts[0]), views: {}, asked, answers: answers.lines, time };
+        made.views.before = answers.view(file);
+        made.turns.push(...read(parts[1]));
+        made.views.after = shown ? answers.view(file) : made.views.before;
+        made.turns.push(...read(parts[2]));
         add_starts(file, turns, made.turns);
         return made;
     }
@@ -116,16 +147,6 @@ class Machine {
     async first(file) {
         const { stdout } = await this.engine.call(['debug'], script_of(file.text, questions(file)));
         return new Answers(text_of(stdout)).view(file);
-    }
-
-    // How each job ended and what the maps hold once a list of turns, and then rounds, are made.
-    async outcome(file, turns) {
-        const asked = [...turns.map((cpu) => `step ${cpu}`), 'go', ...questions(file)];
-        const { stdout } = await this.engine.call(['debug'], script_of(file.text, asked));
-        const answers = new Answers(text_of(stdout));
-        const ends = turns.map(() => answers.turn().ended).filter((end) => end);
-        for (let line = answers.line(); line !== 'done'; line = answers.line()) ends.push(read_end(line));
-        return { ends, ...answers.view(file) };
     }
 }
 

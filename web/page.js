@@ -97,6 +97,7 @@ async function take(text, turns = [], shown = turns.length) {
     const mine = ++reading;
     const { file, refusal } = await take_file(engine, machine, text);
     if (mine !== reading) return;
+    if (state.text !== text) forget_search();
     state.text = text;
     state.refusal = refusal ?? null;
     draw_refusal(refusal);
@@ -227,6 +228,49 @@ function toggle_breakpoint(cpu, pc) {
     tell(`CPU ${cpu}, pc ${pc}: ${set.has(pc) ? 'a breakpoint' : 'no breakpoint any more'}.`);
 }
 
+// ---- Every schedule
+
+async function explore() {
+    const text = state.file?.text;
+    if (text === undefined) return;
+    search.came = null;
+    const going = search_all(text, draw_every);
+    draw_every(search);
+    try {
+        await going;
+    } catch (error) {
+        if (error.name !== 'Stopped') {
+            search.is_on = false;
+            draw_every(search);
+            tell(`The search gave no answer: ${error.message}`, true);
+        }
+    }
+}
+
+function end_search() {
+    stop_search();
+    draw_every(search);
+}
+
+// What was found is of a text that stands no more.
+function forget_search() {
+    stop_search();
+    search.came = null;
+    draw_every(search);
+}
+
+// Sets the turns to a schedule that leads to an outcome.
+function show_outcome(number) {
+    const { file } = state;
+    const turns = turns_of_schedule(search.came.found[number].schedule, MOST_TURNS);
+    if (!file) return;
+    if (turns === null) {
+        tell(`${MOST_TURNS} turns are the most that this page makes.`, true);
+        return;
+    }
+    show_order(file, turns);
+}
+
 // ---- Links and copies
 
 let keeping = 0;
@@ -282,8 +326,14 @@ async function copy(text, what) {
 }
 
 function script_of_state() {
-    const steps = state.turns.slice(0, state.shown).map((cpu) => `step ${cpu}`);
-    return script_of(before_commands(state.text), steps);
+    const turns = state.turns.slice(0, state.shown);
+    return script_of(before_commands(state.text), commands_of(turns, turns.length));
+}
+
+// A command for the native program, which makes the turns and then rounds.
+function command_of_state() {
+    const by = state.shown ? ` --by '${schedule_of(state.turns.slice(0, state.shown))}'` : '';
+    return `ebpf run --maps${by}`;
 }
 
 // ---- Examples and lessons
@@ -292,10 +342,7 @@ function script_of_state() {
 function show_order(file, turns) {
     if (state.file !== file) return;
     Object.assign(state, { turns: [], shown: 0, known: [] });
-    act(async () => {
-        await go_on(file, [], turns);
-        await run_to_end();
-    });
+    act(() => go_on(file, [], turns));
 }
 
 function name_example(name) {
@@ -399,6 +446,7 @@ function listen_to_header() {
     chooser.addEventListener('change', () => chooser.value && load_example(chooser.value));
     at('copy-link').addEventListener('click', copy_link);
     at('copy-script').addEventListener('click', () => copy(script_of_state(), 'The script'));
+    at('copy-by').addEventListener('click', () => copy(command_of_state(), 'The command'));
     at('to-copy').addEventListener('blur', ({ target }) => (target.hidden = true));
 }
 
@@ -409,6 +457,15 @@ function listen_to_timeline() {
         if (turn < state.turns.length) show_after(turn + 1);
     });
     at('turns').addEventListener('scroll', () => state.file && state.views && draw_scrolled(state), { passive: true });
+}
+
+function listen_to_every() {
+    at('explore').addEventListener('click', explore);
+    at('every-stop').addEventListener('click', end_search);
+    at('found').addEventListener('click', ({ target }) => {
+        const number = target.closest('button')?.dataset.outcome;
+        if (number !== undefined) show_outcome(Number(number));
+    });
 }
 
 function listen() {
@@ -423,6 +480,7 @@ function listen() {
     listen_to_editor();
     listen_to_cards();
     listen_to_timeline();
+    listen_to_every();
     listen_to_lessons(load);
     document.addEventListener('keydown', listen_to_keys);
     window.addEventListener('hashchange', () => location.hash !== kept && open_link());

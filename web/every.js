@@ -1,0 +1,99 @@
+'use strict';
+
+// Every schedule: the outcomes that `ebpf explore` finds of a run file, each with a schedule that leads
+// there and that the timeline can show. The search has an engine of its own, so that CPUs can be stepped
+// meanwhile, and is made with greater and greater limits, so that what is found is seen before its end.
+
+const LIMITS = [1000, 30000, 1000000]; // of states
+const MOST_OUTCOMES = 200; // that are listed
+
+// What `explore` prints: a line `by` before the lines of each outcome, and a last line.
+function read_explored(printed) {
+    const lines = printed.trimEnd().split('\n');
+    const last = /^(all|not all): (\d+) outcomes, (\d+) states$/.exec(lines.pop());
+    if (!last) throw new Error(printed.trim());
+    const found = [];
+    for (const line of lines) {
+        if (/^by( |$)/.test(line)) found.push({ schedule: line.slice(3), lines: [] });
+        else found.at(-1).lines.push(line);
+    }
+    return { found, is_all: last[1] === 'all', states: Number(last[3]) };
+}
+
+const search = { engine: null, number: 0, is_on: false, came: null };
+
+// Searches a file's schedules, and shows what is found so far. Another search, or `stop_search`, ends this one.
+async function search_all(text, show) {
+    stop_search();
+    const mine = search.number;
+    search.engine ??= new Engine(ebpfModule);
+    search.is_on = true;
+    for (const limit of LIMITS) {
+        const { stdout } = await search.engine.call(['explore', '--limit', String(limit)], text);
+        if (mine !== search.number) return;
+        const came = read_explored(text_of(stdout));
+        search.is_on = !came.is_all && limit !== LIMITS.at(-1);
+        search.came = came;
+        show(search);
+        if (!search.is_on) return;
+    }
+}
+
+// Ends the search, whose call is rejected.
+function stop_search() {
+    search.number++;
+    if (search.is_on) search.engine.stop();
+    search.is_on = false;
+}
+
+// ---- Drawing
+
+function every_text({ came, is_on }) {
+    if (!came) return is_on ? 'Searching…' : '';
+    const what = `${counted(came.found.length, 'outcome')}, ${counted(came.states, 'state')}`;
+    if (came.is_all) return `All: ${what}. No order of turns has another.`;
+    return is_on ? `So far: ${what}. Searching…` : `Not all: ${what}, and there may be more.`;
+}
+
+// An outcome, in which the lines that not all of them have stand out.
+function outcome_row({ schedule, lines }, number, is_shared) {
+    const row = make('li');
+    const said = make('pre');
+    for (const line of lines) said.append(make('span', is_shared(line) ? 'shared' : '', line), '\n');
+    const by = make('code', 'by', schedule ? `by ${schedule}` : 'by no turn');
+    by.title = 'A schedule that leads there: N turns of CPU C are C*N';
+    const button = make('button', '', 'Show me');
+    button.type = 'button';
+    button.dataset.outcome = number;
+    button.setAttribute('aria-label', `Show me outcome ${number + 1}`);
+    row.append(button, said, by);
+    return row;
+}
+
+function draw_every(state) {
+    const { came, is_on } = state;
+    write(at('every-said'), every_text(state));
+    at('every-stop').hidden = !is_on;
+    at('explore').disabled = is_on;
+    if (at('found').drawn === came) return;
+    at('found').drawn = came;
+    const found = came?.found ?? [];
+    const counts = new Map();
+    for (const line of found.flatMap(({ lines }) => lines)) counts.set(line, (counts.get(line) ?? 0) + 1);
+    const rows = found.slice(0, MOST_OUTCOMES).map((it, number) => outcome_row(it, number, (line) => counts.get(line) === found.length));
+    if (found.length > MOST_OUTCOMES) rows.push(make('li', 'empty', `and ${found.length - MOST_OUTCOMES} more`));
+    at('found').replaceChildren(...rows);
+}
+
+// Marks the outcome whose schedule the turns are.
+function mark_outcome({ turns }) {
+    if (!search.came) return;
+    const by = schedule_of(turns);
+    search.came.found.slice(0, MOST_OUTCOMES).forEach(({ schedule }, number) => {
+        const row = at('found').children[number];
+        const is_shown = schedule === by && turns.length > 0;
+        row.classList.toggle('shown', is_shown);
+        if (is_shown) row.setAttribute('aria-current', 'true');
+        else row.removeAttribute('aria-current');
+    });
+}
