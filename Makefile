@@ -20,6 +20,7 @@ web: build ## Make the page that steps the proved program in a browser: out/web/
 test: ## The whole gate: every proof, every must-fail edit, every test, then the cases, refused memory, failing reads and writes, and damaged input and hosts
 	rt ci
 	install -m 755 crates/bpf_run/out/bpf_run ebpf
+	tests/probes ./ebpf
 	tests/segments.py --check
 	tests/edits.py --check
 	tests/run ./ebpf
@@ -27,6 +28,8 @@ test: ## The whole gate: every proof, every must-fail edit, every test, then the
 	tests/streams ./ebpf
 	tests/hostile ./ebpf
 	tests/orders ./ebpf
+	tests/explore ./ebpf
+	tests/check ./ebpf
 	tests/docs ./ebpf
 	tests/docs --self-test ./ebpf
 	tests/completions ./ebpf
@@ -51,12 +54,13 @@ STRESS = maps/fullest-map maps/keys-that-differ-in-the-last-byte maps/sixteen-ma
 soak: build ## Run each file of stress 1,000 times by 16 workers: minutes
 	for file in $(STRESS); do tests/run --times $(SOAK) ./ebpf "$$file.toml, 16 workers" || exit 1; done
 
-bench: build ## Time fixed programs beside other interpreters, map calls beside other maps, also by threads and workers, texts of 16 MiB, and the largest run file
+bench: build ## Time fixed programs beside other interpreters, map calls beside other maps, also by threads and workers, every schedule beside SPIN, texts of 16 MiB, and the largest run file
 	cd crates/hop_bench && rt run </dev/null
 	bench/run ./ebpf
 	bench/maps ./ebpf
 	bench/threads crates/hop_bench/out/hop_bench
 	bench/workers ./ebpf
+	bench/explore ./ebpf
 	bench/texts ./ebpf
 	bench/largest ./ebpf
 	tests/page ./ebpf speed
