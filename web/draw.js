@@ -8,6 +8,9 @@ const CELL = 30; // the width of a turn
 const BESIDE = 10; // turns that are drawn on each side of those in sight
 const MANY = 4; // more CPUs than these have small cards
 const COLOURS = 8;
+const CPU_KEYS = [...'0123456789ABCDEF']; // a key a CPU
+const FRAME = 2 * HALF_FRAME;
+const ZERO = '0'.repeat(16); // a word of a frame, in hex
 
 // The height of a CPU's row in the timeline, as in style.css.
 const lane_height = (file) => (file.cpus > MANY ? 18 : 24);
@@ -128,10 +131,9 @@ function make_card(cpu) {
     alone.title = 'Turns of this CPU alone, up to its breakpoint or the end of its job';
     const step = make('button', 'step', 'Step');
     step.setAttribute('aria-label', `Step CPU ${cpu}`);
-    if (cpu < 10) {
-        step.append(' ', make('kbd', '', String(cpu)));
-        step.title = `Key ${cpu}`;
-    }
+    step.append(' ', make('kbd', '', CPU_KEYS[cpu]));
+    step.title = `Key ${CPU_KEYS[cpu]}`;
+    step.setAttribute('aria-keyshortcuts', cpu < 10 ? CPU_KEYS[cpu] : `Shift+${CPU_KEYS[cpu]}`);
     for (const button of [step, alone]) {
         button.type = 'button';
         button.dataset.cpu = cpu;
@@ -143,7 +145,9 @@ function make_card(cpu) {
     listing.setAttribute('aria-label', `Program of CPU ${cpu}`);
     const registers = make('dl', 'registers');
     for (let number = 0; number < 11; number++) registers.append(make('dt', '', `r${number}`), make('dd'));
-    card.append(title, alone, step, make('ul', 'outcomes'), make('p', 'meaning'), listing, registers, make('p', 'none'));
+    const stack = make('table', 'stack');
+    stack.setAttribute('aria-label', `Stack of CPU ${cpu}`);
+    card.append(title, alone, step, make('ul', 'outcomes'), make('p', 'meaning'), listing, registers, stack, make('p', 'none'));
     return card;
 }
 
@@ -193,6 +197,7 @@ function draw_cards(state) {
         const pc = place.is_waiting ? 0 : (place.pc ?? lasts[cpu]?.pc);
         draw_listing(state, card.querySelector('.listing'), cpu, file.jobs[job]?.program, pc, place.is_idle);
         draw_registers(state, card, views.before.registers[cpu], views.after.registers[cpu]);
+        draw_stack(state, card.querySelector('.stack'), cpu);
     }
 }
 
@@ -283,6 +288,46 @@ function draw_registers(state, card, before, after) {
     });
 }
 
+// The words of a frame that aren't 0, or weren't before, from its top down: where each begins below the top, its
+// bytes, and those before.
+function frame_words(bytes, before) {
+    const words = [];
+    for (let below = 8; below <= FRAME; below += 8) {
+        const from = 2 * (FRAME - below);
+        words.push({ below, bytes: bytes.slice(from, from + 16), before: before?.slice(from, from + 16) });
+    }
+    return words.filter((word) => word.bytes !== ZERO || (word.before ?? ZERO) !== ZERO);
+}
+
+function stack_row(state, name, { below, bytes, before }) {
+    const row = make('tr');
+    const title = make('th', '', `${name} - ${below}`);
+    title.scope = 'row';
+    const is_new = state.shown > 0;
+    row.append(title, bytes_cell(bytes, is_new ? (before ?? ZERO) : bytes), make('td', 'number', value_text(bytes, state)));
+    return row;
+}
+
+// The live frames, the current one first; where the last turn ended the job, as they were before it.
+function draw_stack(state, table, cpu) {
+    const { before, after } = state.views;
+    const place = after.places[cpu];
+    const is_over = place.depth === undefined;
+    const depth = is_over ? (before.places[cpu].depth ?? 0) : place.depth;
+    const rows = [];
+    for (let frame = depth - 1; frame >= 0; frame--) {
+        const [old, now] = [before.frames[cpu][frame], (is_over ? before : after).frames[cpu][frame]];
+        if (!now) continue;
+        const name = frame === depth - 1 ? 'r10' : `frame ${frame}`;
+        rows.push(...frame_words(now, is_over ? now : old).map((word) => [name, word]));
+    }
+    const drawn = JSON.stringify([state.base, state.shown > 0, is_over, rows]);
+    if (table.drawn === drawn) return;
+    table.drawn = drawn;
+    table.hidden = !rows.length;
+    table.replaceChildren(...rows.map(([name, word]) => stack_row(state, name, word)));
+}
+
 // ---- The timeline: the turns that are in sight, a row a CPU; those behind the shown one are pale.
 
 function draw_timeline(state, { width, scrolled }) {
@@ -345,6 +390,12 @@ function make_turn(cpu, turn, shown, { pc, is_none, ended }) {
 const pairs = (hex) => hex.match(/../g) ?? [];
 const little_endian = (bytes) => BigInt(`0x${[...bytes].reverse().join('')}`);
 
+// Bytes as a number: what an address is, where it is one.
+function value_text(bytes, { base, file }) {
+    const number = little_endian(pairs(bytes));
+    return (base === 'short' && address_text(number, file)) || number_text(number, base);
+}
+
 // The bytes of a value, those marked that the last turn changed.
 function bytes_cell(value, before) {
     const cell = make('td');
@@ -394,7 +445,7 @@ function map_table(name, before, after, state) {
 function draw_maps(state) {
     const { file, views } = state;
     const { before, after } = views;
-    const tables = file.maps.map((name) => map_table(name, before.maps.get(name), after.maps.get(name), state));
+    const tables = file.maps.map(({ name }) => map_table(name, before.maps.get(name), after.maps.get(name), state));
     at('tables').replaceChildren(...(tables.length ? tables : [make('p', 'empty', 'The run file has no map.')]));
 }
 

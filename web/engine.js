@@ -7,8 +7,9 @@
 //     const { status, stdout, stderr } = await engine.call(['hex'], 'b700..');
 //     engine.stop();                                      // whatever is under way is rejected
 //
-// A third argument may have files that a command names, as bytes. stdout and stderr are bytes. A call is answered whole or rejected: as `Stopped`, as `Trap` where the
-// instance can't go on, or as what the browser throws where it lacks 64-bit memory.
+// A third argument may have files that a command names, as bytes. stdout and stderr are bytes. A call is answered
+// whole or rejected: as `Stopped`, as `Trap` where the instance can't go on, or as what the browser throws where it
+// lacks 64-bit memory. The module is compiled once: another engine, or this one after a stop, takes what was compiled.
 
 // The worker's whole text is this function's own: a page that is opened from disk can load no worker.
 function engineWorker() {
@@ -101,8 +102,9 @@ function engineWorker() {
     onmessage = ({ data: { number, module, words, stdin, files } }) => {
         try {
             if (module) {
-                compile(module);
-                postMessage({ number });
+                if (typeof module === 'string') compile(module);
+                else compiled = module;
+                postMessage({ number, done: compiled });
                 return;
             }
             const done = answer(words, stdin, files);
@@ -118,8 +120,9 @@ function failure(name, message) {
 }
 
 class Engine {
-    constructor(base64) {
-        this.base64 = base64;
+    // Of the module's bytes in base64, or of another engine.
+    constructor(source) {
+        this.module = source instanceof Engine ? source.module : source;
         this.waiting = new Map();
         this.number = 0;
         this.start();
@@ -135,7 +138,9 @@ class Engine {
             if (failed) reject(failure(failed.name, failed.message));
             else resolve(done);
         };
-        this.ready = this.send({ module: this.base64 });
+        this.ready = this.send({ module: this.module }).then((compiled) => {
+            this.module = compiled;
+        });
         this.ready.catch(() => {});
     }
 

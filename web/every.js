@@ -4,7 +4,7 @@
 // there and that the timeline can show. The search has an engine of its own, so that CPUs can be stepped
 // meanwhile, and is made with greater and greater limits, so that what is found is seen before its end.
 
-const LIMITS = [1000, 30000, 1000000]; // of states
+const LIMITS = [1000, 10000, 100000, 1000000]; // of states
 const MOST_OUTCOMES = 200; // that are listed
 
 // What `explore` prints: a line `by` before the lines of each outcome, and a last line.
@@ -20,23 +20,25 @@ function read_explored(printed) {
     return { found, is_all: last[1] === 'all', states: Number(last[3]) };
 }
 
-const search = { engine: null, number: 0, is_on: false, came: null };
+// `stage` counts the limits that are searched through.
+const search = { engine: null, number: 0, is_on: false, stage: 0, came: null };
 
 // Searches a file's schedules, and shows what is found so far. Another search, or `stop_search`, ends this one.
 async function search_all(text, show) {
     stop_search();
     const mine = search.number;
-    search.engine ??= new Engine(ebpfModule);
-    search.is_on = true;
+    search.engine ??= new Engine(engine);
+    Object.assign(search, { is_on: true, stage: 0, came: null });
     for (const limit of LIMITS) {
+        show(search);
         const { stdout } = await search.engine.call(['explore', '--limit', String(limit)], text);
         if (mine !== search.number) return;
-        const came = read_explored(text_of(stdout));
-        search.is_on = !came.is_all && limit !== LIMITS.at(-1);
-        search.came = came;
-        show(search);
-        if (!search.is_on) return;
+        search.came = read_explored(text_of(stdout));
+        search.stage++;
+        if (search.came.is_all) break;
     }
+    search.is_on = false;
+    show(search);
 }
 
 // Ends the search, whose call is rejected.
@@ -48,11 +50,14 @@ function stop_search() {
 
 // ---- Drawing
 
-function every_text({ came, is_on }) {
-    if (!came) return is_on ? 'Searching…' : '';
-    const what = `${counted(came.found.length, 'outcome')}, ${counted(came.states, 'state')}`;
+const in_thousands = (number) => number.toLocaleString('en');
+
+function every_text({ came, is_on, stage }) {
+    const goes_on = is_on ? `Searching up to ${in_thousands(LIMITS[stage])} states…` : '';
+    if (!came) return goes_on;
+    const what = `${counted(came.found.length, 'outcome')}, ${in_thousands(came.states)} states`;
     if (came.is_all) return `All: ${what}. No order of turns has another.`;
-    return is_on ? `So far: ${what}. Searching…` : `Not all: ${what}, and there may be more.`;
+    return is_on ? `So far: ${what}. ${goes_on}` : `Not all: ${what}, and there may be more.`;
 }
 
 // An outcome, in which the lines that not all of them have stand out.
@@ -73,7 +78,8 @@ function outcome_row({ schedule, lines }, number, is_shared) {
 function draw_every(state) {
     const { came, is_on } = state;
     write(at('every-said'), every_text(state));
-    at('every-stop').hidden = !is_on;
+    at('every-stop').hidden = at('every-bar').hidden = !is_on;
+    Object.assign(at('every-bar'), { max: LIMITS.length, value: state.stage });
     at('explore').disabled = is_on;
     if (at('found').drawn === came) return;
     at('found').drawn = came;

@@ -1,40 +1,30 @@
 'use strict';
 
 // What the page reads of a run file by itself, for display alone and only once the program has taken it:
-// the number of CPUs, the names of maps, programs and jobs, and which lines are whose.
+// which lines are which program's, and whose program a job runs. All else the debugger tells.
 
 const words_of = (line) => line.replace(/;.*/, '').split(/[ \t\r]+/).filter((word) => word);
 
 // What stands before the line `---`: behind it a file has commands of the debugger, which the page makes.
 const before_commands = (text) => text.split(/^[ \t\r]*---[ \t\r]*(?:;.*)?$/m)[0];
 
-// The bytes from one value of a map to the next: its size, rounded up to a multiple of 8.
-function value_size(line) {
-    const words = words_of(line);
-    return Math.ceil(Number(words[words.indexOf('value', 2) + 1]) / 8) * 8;
-}
-
+// The programs of a file, with the lines that are theirs, and of each job its line and its program.
 function read_file(text) {
-    const file = { text, cpus: 1, maps: [], sizes: [], programs: new Map(), jobs: [] };
+    const [programs, ran] = [new Map(), []];
     const lines = text.split('\n');
     for (let number = 0; number < lines.length; number++) {
         const [first, name, third, fourth] = words_of(lines[number]);
-        if (first === 'cpus') file.cpus = Number(name);
-        if (first === 'map') {
-            file.maps.push(name);
-            file.sizes.push(value_size(lines[number]));
-        }
-        if (first === 'job') file.jobs.push({ cpu: Number(name), program: third });
+        if (first === 'job') ran.push({ row: number, program: third });
         if (first !== 'prog') continue;
         if (third === 'hex') {
-            file.programs.set(name, { words: fourth });
+            programs.set(name, { words: fourth });
             continue;
         }
         const begins = number + 1;
         while (words_of(lines[++number])[0] !== 'end');
-        file.programs.set(name, { begins, text: with_end(lines.slice(begins, number).join('\n')) });
+        programs.set(name, { begins, text: with_end(lines.slice(begins, number).join('\n')) });
     }
-    return file;
+    return { text, programs, ran };
 }
 
 // The lines of a program, each with its pc where it has an instruction and the line of the file that it
@@ -58,12 +48,15 @@ async function list_program(engine, { text, words, begins }) {
     });
 }
 
+// The bytes from one value of a map to the next: its size, rounded up to a multiple of 8.
+const pace_of = ({ value }) => Math.ceil(value / 8) * 8;
+
 // What an address is, by docs/reference/machine.md: null where it is none of a map, the context, a frame or a value.
 // Whether a run may use it, the program alone knows.
-function address_text(number, { maps, sizes }) {
+function address_text(number, { maps }) {
     const address = Number(number);
     const within = (from, length) => address >= from && address < from + length;
-    if (within(0x1_0000_0000, maps.length)) return `map ${maps[address - 0x1_0000_0000]}`;
+    if (within(0x1_0000_0000, maps.length)) return `map ${maps[address - 0x1_0000_0000].name}`;
     if (within(0x2_0000_0000, 4097)) return `context +${address - 0x2_0000_0000}`;
     if (within(0x3_0000_0000, 8 * 0x1000)) {
         const frame = Math.floor((address - 0x3_0000_0000) / 0x1000);
@@ -73,8 +66,9 @@ function address_text(number, { maps, sizes }) {
     if (!within(0x10_0000_0000, maps.length * 0x1000_0000)) return null;
     const map = Math.floor((address - 0x10_0000_0000) / 0x1000_0000);
     const offset = (address - 0x10_0000_0000) % 0x1000_0000;
-    const rest = offset % sizes[map];
-    return `${maps[map]}[${Math.floor(offset / sizes[map])}]${rest ? ` +${rest}` : ''}`;
+    const pace = pace_of(maps[map]);
+    const rest = offset % pace;
+    return `${maps[map].name}[${Math.floor(offset / pace)}]${rest ? ` +${rest}` : ''}`;
 }
 
 // What `debug --explain` says of a refused file: the line that it prints, and on standard error the reason,
@@ -113,6 +107,7 @@ async function take_file(engine, machine, text) {
     const file = read_file(own);
     file.listings = new Map();
     for (const [name, program] of file.programs) file.listings.set(name, await list_program(engine, program));
-    file.first = await machine.first(file);
+    await machine.learn(file);
+    file.jobs.forEach((job, number) => Object.assign(job, file.ran[number]));
     return { file };
 }

@@ -162,6 +162,46 @@ job 0 hold
 job 1 replace
 `;
 
+const SEGMENT = `ebpf-run 1
+map segment key 4 value 8 max 1 spare 1
+
+; A byte is a place: 0 where it is free, else the number of its item's bucket, and 1.
+prog fill
+        *(u32 *)(r10 - 4) = 0
+        *(u32 *)(r10 - 16) = 0x03010201 ; places 0 to 3: buckets 0, 1, 0, 2
+        *(u32 *)(r10 - 12) = 2          ; place 4: bucket 1
+        r1 = map 0
+        r2 = r10
+        r2 += -4
+        r3 = r10
+        r3 += -16
+        r4 = 0
+        call 2
+        exit
+end
+
+; An item of bucket 0 comes. That of the place which the context says moves to place 5.
+prog insert
+        r6 = *(u8 *)(r1 + 0)
+        *(u32 *)(r10 - 4) = 0
+        r1 = map 0
+        r2 = r10
+        r2 += -4
+        call 1
+        r2 = r0
+        r2 += r6
+        r3 = *(u8 *)(r2 + 0)    ; the item there
+        *(u8 *)(r0 + 5) = r3    ; moves to place 5,
+        *(u8 *)(r2 + 0) = 1     ; and the new one comes
+        r0 = 6
+        r0 -= r3                ; how far 5 is behind its bucket
+        exit
+end
+
+job 0 fill
+job 0 insert ctx 00
+`;
+
 const times = (count, cpu) => Array(count).fill(cpu);
 
 // ---- What a check asks of a state: all of it is the program's answer.
@@ -277,20 +317,11 @@ const LESSONS = [
         check: key_is_there,
     },
     {
-        title: 'Two CPUs, one counter',
-        text:
-            'Both CPUs run the same program: load the counter, add 1, store it. Both have looked it up ' +
-            'and stand before the load. You say whose turn it is, by `0` and `1`.',
-        task: 'Find an order in which the counter ends at 2.',
-        file: ADD,
-        turns: [...times(13, 0), ...times(13, 1)],
-        check: (state) => counter_is(state, 2n),
-    },
-    {
         title: 'A lost update',
         text:
-            'The same program and the same place. Between the load of one CPU and its store, the other ' +
-            "may load too: it doesn't see what is about to be stored.",
+            'Both CPUs run the same program: load the counter, add 1, store it. Both have looked it up ' +
+            'and stand before the load; `0` and `1` say whose turn it is. One after the other, they ' +
+            'count to 2. But between the load of one and its store, the other may load too.',
         task: 'Find an order in which both jobs end, and the counter is 1: an addition is lost.',
         file: ADD,
         turns: [...times(13, 0), ...times(13, 1)],
@@ -339,6 +370,18 @@ const LESSONS = [
         file: HELD,
         turns: [...times(13, 0), ...times(12, 1)],
         check: inserts_while_held,
+    },
+    {
+        title: 'How a segment displaces',
+        text:
+            'On threads (`--workers`) a map is a hopscotch table: an item stands near its bucket, so that ' +
+            'a lookup reads few places. Here a program plays it in 8 places, of which 4 are near: the ' +
+            'bucket\'s own and the 3 behind it. The free place 5 is too far from bucket 0, so an item ' +
+            'moves there, and the new one takes its place.',
+        task: 'Which item stays near its bucket at place 5? Name its place behind `ctx`: job 1 has to end with r0=3.',
+        file: SEGMENT,
+        turns: times(11 + 8, 0),
+        check: (state) => ends_with(state, 1, 'r0=3'),
     },
 ];
 

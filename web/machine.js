@@ -5,13 +5,16 @@
 // asks for one. What is asked and how the answers are read stands here alone, so a command that tells
 // more at once changes this file.
 
-// No command, so the debugger refuses it in one line, which ends the lines of a map before it.
-const END_OF_MAP = 'end-of-map';
-const ENDED_MAP = 'refused G4';
+const MOST_CPUS = 16;
+const MARK = 'mark 0'; // is answered by itself, and so ends an answer of any number of lines
+const NO_CPU = 'refused G1';
+const HALF_FRAME = 256; // bytes: the most that `mem` tells at once
 
 const text_of = (bytes) => new TextDecoder().decode(bytes);
 const with_end = (text) => (text.endsWith('\n') || !text ? text : `${text}\n`);
 const script_of = (text, commands) => `${with_end(text)}---\n${commands.map((line) => `${line}\n`).join('')}`;
+
+const list_of = (count, make) => Array.from({ length: count }, (_, number) => make(number));
 
 // `cpu C idle`, `cpu C job J waiting` or `cpu C job J pc P depth D`.
 function read_place(line) {
@@ -85,33 +88,53 @@ class Answers {
         return lines.map((line) => BigInt(line.slice(line.indexOf('=') + 1)));
     }
 
-    map() {
-        const keys = new Map();
-        for (let line = this.line(); line !== ENDED_MAP; line = this.line()) {
-            const [key, value] = line.split('=');
-            if (value === undefined) throw new Error(`the debugger answered ${line || 'less than it was asked'}`);
-            keys.set(key, value);
+    // The lines up to the mark.
+    until_mark() {
+        const lines = [];
+        for (let line = this.line(); line !== MARK; line = this.line()) {
+            if (!line) throw new Error('the debugger answered less than it was asked');
+            lines.push(line);
         }
-        return keys;
+        return lines;
+    }
+
+    map() {
+        return new Map(this.until_mark().map((line) => line.split('=')));
+    }
+
+    // The bytes of a frame, in hex; null where it isn't live.
+    frame() {
+        const halves = [this.line(), this.line()];
+        return halves.every((half) => half.length === 2 * HALF_FRAME) ? halves.join('') : null;
     }
 
     view(file) {
-        const cpus = Array.from({ length: file.cpus });
         return {
-            places: cpus.map(() => read_place(this.line())),
-            registers: cpus.map(() => this.registers()),
-            maps: new Map(file.maps.map((name) => [name, this.map()])),
+            places: list_of(file.cpus, () => read_place(this.line())),
+            registers: list_of(file.cpus, () => this.registers()),
+            frames: list_of(file.cpus, () => list_of(file.frames, () => this.frame())),
+            maps: new Map(file.maps.map(({ name }) => [name, this.map()])),
         };
     }
 }
 
+const FRAMES = 0x3_0000_0000;
+const frame_asks = (cpu, frame) =>
+    [0, HALF_FRAME].map((half) => `mem ${cpu} 0x${(FRAMES + 0x1000 * frame + half).toString(16)} ${HALF_FRAME}`);
+
 function questions(file) {
-    const cpus = [...Array(file.cpus).keys()];
     return [
-        ...cpus.map((cpu) => `where ${cpu}`),
-        ...cpus.map((cpu) => `regs ${cpu}`),
-        ...file.maps.flatMap((name) => [`map ${name}`, END_OF_MAP]),
+        ...list_of(file.cpus, (cpu) => `where ${cpu}`),
+        ...list_of(file.cpus, (cpu) => `regs ${cpu}`),
+        ...list_of(file.cpus, (cpu) => list_of(file.frames, (frame) => frame_asks(cpu, frame))).flat(2),
+        ...file.maps.flatMap(({ name }) => [`map ${name}`, MARK]),
     ];
+}
+
+// `map NAME key K value V max M spare S`, and ` grow` behind it of a map that grows.
+function read_shape(line) {
+    const [, name, , key, , value, , most, , spare] = line.split(' ');
+    return { name, key: Number(key), value: Number(value), most: Number(most), spare: Number(spare) };
 }
 
 class Machine {
@@ -140,13 +163,38 @@ class Machine {
         made.views.after = shown ? answers.view(file) : made.views.before;
         made.turns.push(...read(parts[2]));
         add_starts(file, turns, made.turns);
-        return made;
+        const deepest = Math.max(...Object.values(made.views).flatMap(({ places }) => places.map(({ depth }) => depth ?? 0)));
+        if (deepest <= file.frames) return made;
+        // So many frames are asked for as were ever live: here more.
+        file.frames = deepest;
+        return this.make(file, turns, shown, known);
     }
 
-    // The machine before any turn, of a file whose first places aren't known yet.
-    async first(file) {
-        const { stdout } = await this.engine.call(['debug'], script_of(file.text, questions(file)));
-        return new Answers(text_of(stdout)).view(file);
+    async answers(file, asked) {
+        const { stdout } = await this.engine.call(['debug'], script_of(file.text, asked));
+        return new Answers(text_of(stdout));
+    }
+
+    // Learns what the program tells of a file that it takes: how many CPUs there are, the maps, whose jobs are,
+    // and the machine before any turn.
+    async learn(file) {
+        const told = await this.answers(file, [...list_of(MOST_CPUS, (cpu) => `where ${cpu}`), 'maps', MARK, 'jobs', MARK]);
+        file.cpus = list_of(MOST_CPUS, () => told.line()).filter((line) => line !== NO_CPU).length;
+        file.maps = told.until_mark().map(read_shape);
+        file.jobs = told.until_mark().map((line) => ({ cpu: Number(line.split(' ')[3]) }));
+        file.frames = 1;
+        file.first = (await this.answers(file, questions(file))).view(file);
+    }
+
+    // The turns with those behind them that CPU C makes alone until it stands at this pc, and whether it does; null
+    // where they are more than the most.
+    async make_until(file, turns, cpu, pc, most) {
+        const own = commands_of(turns, turns.length);
+        const told = await this.answers(file, [...own, MARK, `go ${cpu} until ${pc}`, MARK, 'schedule']);
+        told.until_mark();
+        const is_there = told.until_mark().at(-1) === `stop ${cpu} ${pc}`;
+        const all = turns_of_schedule(told.line().replace(/^steps ?/, ''), most);
+        return all && { turns: all, is_there };
     }
 }
 

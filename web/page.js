@@ -215,10 +215,19 @@ function run_alone(cpu) {
     return make_turns([cpu], (_, { ended, place }) => ended || stops_at(cpu, place), press_again);
 }
 
-// This CPU alone, up to this pc or to the end of its job.
-function run_to(cpu, pc) {
-    const never = (count) => `CPU ${cpu} doesn't come to pc ${pc} in ${counted(count, 'turn')} of its own.`;
-    return make_turns([cpu], (_, { ended, place }) => ended || place.pc === pc, never);
+// This CPU alone, up to this pc, or until it has no work left.
+async function run_to(cpu, pc) {
+    await asking;
+    const { file, turns, shown } = state;
+    if (!file) return;
+    const own = turns.slice(0, shown);
+    const made = await machine.make_until(file, own, cpu, pc, MOST_TURNS);
+    if (!made) {
+        tell(`CPU ${cpu} doesn't come to pc ${pc} in the ${MOST_TURNS} turns that this page makes at most.`, true);
+        return;
+    }
+    await go_on(file, own, made.turns.slice(own.length));
+    if (!made.is_there) tell(`CPU ${cpu} has no work left, and came to no pc ${pc}.`, true);
 }
 
 function toggle_breakpoint(cpu, pc) {
@@ -233,11 +242,8 @@ function toggle_breakpoint(cpu, pc) {
 async function explore() {
     const text = state.file?.text;
     if (text === undefined) return;
-    search.came = null;
-    const going = search_all(text, draw_every);
-    draw_every(search);
     try {
-        await going;
+        await search_all(text, draw_every);
     } catch (error) {
         if (error.name !== 'Stopped') {
             search.is_on = false;
@@ -371,10 +377,11 @@ function listen_to_keys(event) {
     if (!at('keys').checked || event.ctrlKey || event.metaKey || event.altKey) return;
     if (event.target.closest('textarea, select, input:not([type=checkbox])')) return;
     const name = KEYS[event.key];
-    if (!name && !/^\d$/.test(event.key)) return;
+    const cpu = CPU_KEYS.indexOf(event.key);
+    if (!name && cpu < 0) return;
     event.preventDefault();
     if (event.repeat && asking) return; // a key that is held steps as fast as it is answered
-    if (!name) step(Number(event.key));
+    if (!name) step(cpu);
     else if (!at(name).disabled) ACTS[name]();
 }
 
