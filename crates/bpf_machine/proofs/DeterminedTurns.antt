@@ -41,11 +41,11 @@ same_stage jobs c j task other stage now a b =
     (same, sym a.at ∙ ap (λ (t : Task). t.stage) same ∙ b.at)
 
 -- a job after another one's stage has changed
-data Changed (jobs : List Task) (c j : ℕ) (stage : Stage) (d k : ℕ) (task : Task) (now : Stage) : Type 0 where
+pub data Changed (jobs : List Task) (c j : ℕ) (stage : Stage) (d k : ℕ) (task : Task) (now : Stage) : Type 0 where
   Same : k ≡ j → d ≡ c → now ≡ stage → Changed jobs c j stage d k task now
   Other : k ≢ j → IsAt jobs d k task now → Changed jobs c j stage d k task now
 
-changed : (jobs : List Task) (c j : ℕ) (was : Task) (before stage : Stage) (d k : ℕ) (task : Task) (now : Stage) → IsAt jobs c j was before → IsAt (with_stage jobs j was stage) d k task now → Changed jobs c j stage d k task now
+pub changed : (jobs : List Task) (c j : ℕ) (was : Task) (before stage : Stage) (d k : ℕ) (task : Task) (now : Stage) → IsAt jobs c j was before → IsAt (with_stage jobs j was stage) d k task now → Changed jobs c j stage d k task now
 changed jobs c j was before stage d k task now at new = elim (equal_or_not k j) [
   | inl e ↦
       let P : ℕ → Type 0 = λ k. slice_get (with_stage jobs j was stage) k ≡ Some task in

@@ -1,11 +1,10 @@
 -- Lanes that are filled anew.
-use Rattle.std.proofs.Common.{◌≡◌, ◌∙◌, ◌+◌, ◌<◌, ◌≤◌, ℕ, true, false, List, Option, Some, inl, inr, length, refl, sym, ap, subst, arith}
+use Rattle.std.proofs.Common.{◌≡◌, ◌∙◌, ◌+◌, ◌<◌, ◌≤◌, ℕ, true, false, List, inl, inr, length, refl, sym, subst, arith}
 use Rattle.std.specs.Prelude.{All, slice_index_or, slice_set}
 use Rattle.std.proofs.lemmas.Option.{slice_get_read, get_or_from_slice_get}
 use Rattle.std.proofs.lemmas.Bool.{cases_lt}
 use Rattle.std.proofs.lemmas.List.{length-set, get_or-set_same, get_or-set_other}
 use Rattle.bpf_cpu.specs.Task.{Task}
-use Rattle.bpf_machine.specs.declared.machine.lane.Hand.{Hand}
 use Rattle.bpf_machine.specs.declared.machine.lane.Lane.{Lane}
 use Rattle.bpf_machine.specs.Parts.{chosen_at, no_task}
 use Rattle.bpf_machine.specs.Private.Lanes.{lane_of, no_lane}

@@ -22,6 +22,8 @@ pub mod CoverLaws
 pub mod RaceLaws
 pub mod PatientLaws
 pub mod PatientRaceLaws
+pub mod EndLaws
+pub mod SpareLaws
 pub mod HostLaws
 pub mod StandLaws
 mod FillLaws

@@ -22,9 +22,9 @@ use Rattle.bpf_machine.specs.Schedule.{World, outcome_after, Advances, Settles, 
 use Rattle.bpf_machine.specs.Rounds.{HaveEnded}
 use Rattle.bpf_machine.specs.Work.{HasInHand}
 use Rattle.bpf_machine.specs.Machine.{MachineState}
-use Rattle.bpf_machine.specs.Headways.{TakesQuietTurns, turns_in, Precedes, BothPrecede, FitsHeadway, with_jobs}
+use Rattle.bpf_machine.specs.Headways.{TakesQuietTurns, turns_in, Precedes, BothPrecede, FitsHeadway, with_jobs, IsAheadOf}
 use Rattle.bpf_machine.specs.declared.machine.ahead.Headway.TheVariants as headway
-use Rattle.bpf_machine.specs.Cover.{IsShown, IsCovered}
+use Rattle.bpf_machine.specs.Cover.{IsShown, IsAhead, IsCovered}
 use Rattle.bpf_machine.specs.Patient.{NoneRanOut, IsRicher, AsRich, IsShownRichly, IsClosedRichly, IsCoveredRichly, PatientSetsCover}
 use Rattle.bpf_machine.proofs.ListLaws.{with_end, lists_jobs, lists_along}
 use Rattle.bpf_machine.proofs.DeterminedTurns.{IsWorld, one_turn, fresh_world}
@@ -107,7 +107,7 @@ wait_richer : (old new : Task) (context : List ℕ) → IsRicher old new → old
 wait_richer old new context (inl same) at = same
 wait_richer old new context (inr a) at = let no : InHand a.0 a.1 ≡ Waiting context = sym a.3 ∙ at in cc
 
-end_richer : (old new : Task) (end : Outcome) → IsRicher old new → old.stage ≡ Ended end → new ≡ old
+pub end_richer : (old new : Task) (end : Outcome) → IsRicher old new → old.stage ≡ Ended end → new ≡ old
 end_richer old new end (inl same) at = same
 end_richer old new end (inr a) at = let no : InHand a.0 a.1 ≡ Ended end = sym a.3 ∙ at in cc
 
@@ -118,7 +118,7 @@ richer_again x y z (inr (state, left, k, was, is)) more =
     let sum : left + k + there.0 ≡ left + (k + there.0) = omega arith in
     inr (state, left, k + there.0, was, there.1 ∙ (ap (λ (t : Task). record t { stage = InHand state (left + k + there.0) }) is ∙ ap (λ (n : ℕ). record x { stage = InHand state n }) sum))
 
-rich_again : (xs ys zs : List Task) → AsRich xs ys → AsRich ys zs → AsRich xs zs
+pub rich_again : (xs ys zs : List Task) → AsRich xs ys → AsRich ys zs → AsRich xs zs
 rich_again [] [] [] a b = tt
 rich_again [] [] (z ∷ zs) a b = absurd b
 rich_again [] (y ∷ ys) zs a b = absurd a
@@ -132,7 +132,7 @@ rich_at (a ∷ xs) [] j x rich at = absurd rich
 rich_at (a ∷ xs) (b ∷ ys) zero x rich at = let same : a ≡ x = cc in (b, refl, subst (λ (t : Task). IsRicher t b) same rich.0)
 rich_at (a ∷ xs) (b ∷ ys) (suc j) x rich at = rich_at xs ys j x rich.1 at
 
-rich_back : (xs ys : List Task) (j : ℕ) (y : Task) → AsRich xs ys → slice_get ys j ≡ Some y → (x : Task) × (slice_get xs j ≡ Some x) × IsRicher x y
+pub rich_back : (xs ys : List Task) (j : ℕ) (y : Task) → AsRich xs ys → slice_get ys j ≡ Some y → (x : Task) × (slice_get xs j ≡ Some x) × IsRicher x y
 rich_back xs [] j y rich at = let no : None ≡ Some y = at in cc
 rich_back [] (b ∷ ys) j y rich at = absurd rich
 rich_back (a ∷ xs) (b ∷ ys) zero y rich at = let same : b ≡ y = cc in (a, refl, subst (λ (t : Task). IsRicher a t) same rich.0)
@@ -145,7 +145,7 @@ rich_set (a ∷ xs) [] j x y rich more = absurd rich
 rich_set (a ∷ xs) (b ∷ ys) zero x y rich more = (more, rich.1)
 rich_set (a ∷ xs) (b ∷ ys) (suc j) x y rich more = (rich.0, rich_set xs ys j x y rich.1 more)
 
-rich_ended : (xs ys : List Task) → AsRich xs ys → HaveEnded xs → ys ≡ xs
+pub rich_ended : (xs ys : List Task) → AsRich xs ys → HaveEnded xs → ys ≡ xs
 rich_ended [] [] rich ended = refl
 rich_ended [] (y ∷ ys) rich ended = absurd rich
 rich_ended (x ∷ xs) [] rich ended = absurd rich
@@ -155,7 +155,7 @@ rich_ended (x ∷ xs) (y ∷ ys) rich ended =
 
 -- ---- a world with richer jobs
 module _ (olds news : List Task) (rich : AsRich olds news) where
-  hand_back : (c j : ℕ) (task : Task) (state : Cpu) (left : ℕ) → IsAt news c j task (InHand state left) → (old : Task) × (rest : ℕ) × IsAt olds c j old (InHand state rest)
+  pub hand_back : (c j : ℕ) (task : Task) (state : Cpu) (left : ℕ) → IsAt news c j task (InHand state left) → (old : Task) × (rest : ℕ) × IsAt olds c j old (InHand state rest)
   hand_back c j task state left at =
       let b = rich_back olds news j task rich at.listed in
       let h = richer_back b.0 task state left b.2 at.at in
@@ -166,7 +166,7 @@ module _ (olds news : List Task) (rich : AsRich olds news) where
       let b = rich_back olds news j task rich at.listed in
       record { listed = b.1 ∙ ap Some (sym (richer_wait b.0 task context b.2 at.at)); of = at.of; at = at.at }
 
-  wait_now : (c j : ℕ) (task : Task) (context : List ℕ) → IsAt olds c j task (Waiting context) → IsAt news c j task (Waiting context)
+  pub wait_now : (c j : ℕ) (task : Task) (context : List ℕ) → IsAt olds c j task (Waiting context) → IsAt news c j task (Waiting context)
   wait_now c j task context at =
       let b = rich_at olds news j task rich at.listed in
       record { listed = b.1 ∙ ap Some (wait_richer task b.0 context b.2 at.at); of = at.of; at = at.at }
@@ -227,7 +227,7 @@ goes_rich w jobs c j task new state left more k answer z rich at sum same progra
           subst (λ (ts : List Task). AsRich ts later) (sym is) both,
         )
 
-rich_turn : (w : World) (jobs : List Task) (c : ℕ) (answer : Turn) (z : World) → AsRich w.jobs jobs → TakesTurn w c answer z → NoneRanOut z.jobs
+pub rich_turn : (w : World) (jobs : List Task) (c : ℕ) (answer : Turn) (z : World) → AsRich w.jobs jobs → TakesTurn w c answer z → NoneRanOut z.jobs
     → (later : List Task) × TakesTurn (with_jobs w jobs) c answer (with_jobs z later) × AsRich z.jobs later
 rich_turn w jobs c answer z rich (inl (j, task, state, left, at, g)) none =
     let b = rich_at w.jobs jobs j task rich at.listed in
@@ -262,14 +262,14 @@ other_job jobs c j k task was end stage at ended there differs e =
     let same : task ≡ was = cc in
     differs (sym there.at ∙ (ap (λ (t : Task). t.stage) (sym same) ∙ ended))
 
-stays_ended : (w : World) (c : ℕ) (answer : Turn) (z : World) (j : ℕ) (task : Task) (end : Outcome) → TakesTurn w c answer z → slice_get w.jobs j ≡ Some task → task.stage ≡ Ended end → slice_get z.jobs j ≡ Some task
+pub stays_ended : (w : World) (c : ℕ) (answer : Turn) (z : World) (j : ℕ) (task : Task) (end : Outcome) → TakesTurn w c answer z → slice_get w.jobs j ≡ Some task → task.stage ≡ Ended end → slice_get z.jobs j ≡ Some task
 stays_ended w c answer z j task end (inl a) at ended =
     goes_keeps w c a.0 j a.1 a.2 a.3 answer z a.5 (other_job w.jobs c j a.0 task a.1 end (InHand a.2 a.3) at ended a.4 (λ e. cc)) ∙ at
 stays_ended w c answer z j task end (inr (inl (free, a))) at ended =
     goes_keeps (record w { store = a.3 }) c a.0 j a.1 (start c a.2) a.1.budget answer z a.7 (other_job w.jobs c j a.0 task a.1 end (Waiting a.2) at ended a.4 (λ e. cc)) ∙ at
 stays_ended w c answer z j task end (inr (inr a)) at ended = ap (λ (x : World). slice_get x.jobs j) a.3 ∙ at
 
-none_ran_before : (cs : List ℕ) (w z : World) → RunsSchedule w cs z → NoneRanOut z.jobs → NoneRanOut w.jobs
+pub none_ran_before : (cs : List ℕ) (w z : World) → RunsSchedule w cs z → NoneRanOut z.jobs → NoneRanOut w.jobs
 none_ran_before [] w z runs none = subst (λ (x : World). NoneRanOut x.jobs) runs none
 none_ran_before (c ∷ cs) w z runs none = λ j task pc at ended.
     none_ran_before cs runs.1 z runs.3 none j task pc (stays_ended w c runs.0 runs.1 j task (OutOfBudget pc) runs.2 at ended) ended
@@ -303,7 +303,7 @@ module _ (programs : List Loaded) (turns : ℕ → ℕ) where
 
 -- a CPU with a headway fits it still
 module _ (olds news : List Task) (rich : AsRich olds news) where
-  hand_rich : (c j : ℕ) → HasInHand olds c j → HasInHand news c j
+  pub hand_rich : (c j : ℕ) → HasInHand olds c j → HasInHand news c j
   hand_rich c j (task, state, left, at) =
       let b = rich_at olds news j task rich at.listed in
       let h = richer_hand task b.0 state left b.2 at.at in
@@ -316,26 +316,31 @@ module _ (olds news : List Task) (rich : AsRich olds news) where
     λ k (task, state, left, at). (let b = hand_back olds news rich c k task state left at in fits.2 k (b.0, state, b.1, b.2)),
   )
 
+-- ---- what is true of a world with richer jobs
+abbrev pub Richly : (World → Type 0) → World → Type 0
+Richly P w = (jobs : List Task) × AsRich w.jobs jobs × P (with_jobs w jobs)
+
+pub enriched_by : (y v : World) (headways : ℕ → Headway) (jobs : List Task) → AsRich v.jobs jobs → with_jobs v y.jobs ≡ y → IsAheadOf (IsAhead headways) headways y.jobs v
+    → (more : List Task) × AsRich y.jobs more × (with_jobs (with_jobs v jobs) more ≡ with_jobs y more) × IsAheadOf (IsAhead headways) headways more (with_jobs v jobs)
+enriched_by y v headways jobs rich same ahead =
+    let turns : ℕ → ℕ = λ c. turns_in (headways c) in
+    let b = behind_rich v.programs turns y.jobs v.jobs jobs ahead.each rich in (
+      b.0,
+      b.1,
+      ap (λ (x : World). with_jobs x b.0) same,
+      record {
+        each = b.2;
+        fits = λ c far. subst (λ (h : Headway). FitsHeadway jobs c h) (sym far.1) (fits_rich v.jobs jobs rich c far.0 (subst (λ (h : Headway). FitsHeadway v.jobs c h) far.1 (ahead.fits c far)));
+      },
+    )
+
+pub enriched : (P : World → Type 0) (y : World) → IsCoveredBy (Richly P) y → (jobs : List Task) × AsRich y.jobs jobs × IsCoveredBy P (with_jobs y jobs)
+enriched P y (v, headways, (jobs, rich, shown), same, ahead) =
+    let e = enriched_by y v headways jobs rich same ahead in
+    (e.0, e.1, (with_jobs v jobs, headways, shown, e.2, e.3))
+
 -- ---- a turn, and a schedule
 module _ (law : WritesAreDetermined) (begins : OneInstructionBegins) (replies : CallsHaveOneReply) (kept : List MachineState) (closed : IsClosedRichly kept) where
-  enriched : (y : World) → IsCoveredBy (IsShownRichly kept) y → IsCoveredRichly kept y
-  enriched y (v, headways, (jobs, rich, shown), same, ahead) =
-      let turns : ℕ → ℕ = λ c. turns_in (headways c) in
-      let b = behind_rich v.programs turns y.jobs v.jobs jobs ahead.each rich in (
-        b.0,
-        b.1,
-        (
-          with_jobs v jobs,
-          headways,
-          shown,
-          ap (λ (x : World). with_jobs x b.0) same,
-          record {
-            each = b.2;
-            fits = λ c far. subst (λ (h : Headway). FitsHeadway jobs c h) (sym far.1) (fits_rich v.jobs jobs rich c far.0 (subst (λ (h : Headway). FitsHeadway v.jobs c h) far.1 (ahead.fits c far)));
-          },
-        ),
-      )
-
   patient_turn : (w z : World) (c : ℕ) (answer : Turn) → IsWorld w → IsCoveredRichly kept w → TakesTurn w c answer z → NoneRanOut z.jobs → IsCoveredRichly kept z
   patient_turn w z c answer world (jobs, rich, covered) progress none =
       let t = rich_turn w jobs c answer z rich progress none in
@@ -343,7 +348,7 @@ module _ (law : WritesAreDetermined) (begins : OneInstructionBegins) (replies : 
       (λ v d shown. (let r = closed shown.0 shown.1 d shown.2 in (r.1.0, r.1.1, r.0, r.1.2, r.1.3 v shown.3, r.1.4, r.2)))
       (with_jobs w jobs) (with_jobs z t.0) c answer (rich_world w jobs rich world) covered t.1
       in
-      let e = enriched (with_jobs z t.0) there in
+      let e = enriched (IsShown kept) (with_jobs z t.0) there in
       (e.0, rich_again z.jobs t.0 e.0 t.2 e.1, e.2)
 
   pub patient_run : (cs : List ℕ) (w z : World) → IsWorld w → IsCoveredRichly kept w → RunsSchedule w cs z → NoneRanOut z.jobs → IsCoveredRichly kept z

@@ -60,7 +60,7 @@ module _ (w : World) (jobs : List Task) (rich : AsRich w.jobs jobs) where
   }
 
 module _ (law : WritesAreDetermined) (begins : OneInstructionBegins) (replies : CallsHaveOneReply) where
-  world_after : (cs : List ℕ) (w z : World) → IsWorld w → RunsSchedule w cs z → IsWorld z
+  pub world_after : (cs : List ℕ) (w z : World) → IsWorld w → RunsSchedule w cs z → IsWorld z
   world_after [] w z world runs = subst IsWorld (sym runs) world
   world_after (c ∷ cs) w z world runs = world_after cs runs.1 z (one_turn law begins replies w c runs.0 runs.0 runs.1 runs.1 world runs.2 runs.2).world runs.3
 

@@ -7,7 +7,7 @@ use Rattle.bpf_machine.specs.Schedule.{World, TakesTurn, RunsSchedule}
 use Rattle.bpf_machine.specs.Rounds.{HaveEnded}
 use Rattle.bpf_machine.specs.Machine.{MachineState, Shows}
 use Rattle.bpf_machine.specs.Laws.{IsFresh}
-use Rattle.bpf_machine.specs.Headways.{RunsAhead, IsAheadOf, with_jobs}
+use Rattle.bpf_machine.specs.Headways.{RunsAhead, turns_in, IsAheadOf, with_jobs}
 
 -- a CPU's turn, and then turns of its own that no store sees
 abbrev pub TurnsTo : MachineState → ℕ → MachineState → Type 0
@@ -15,6 +15,13 @@ TurnsTo old c new =
     (answer : Turn) × (mid : MachineState) × (headway : Headway)
     × ((w : World) → Shows old w → (z : World) × TakesTurn w c answer z × Shows mid z)
     × RunsAhead mid c headway new
+
+-- the same where these are so many
+abbrev pub TurnsAhead : MachineState → ℕ → ℕ → MachineState → Type 0
+TurnsAhead old c n new =
+    (answer : Turn) × (mid : MachineState) × (headway : Headway)
+    × ((w : World) → Shows old w → (z : World) × TakesTurn w c answer z × Shows mid z)
+    × RunsAhead mid c headway new × (turns_in headway ≡ n)
 
 -- all that the machine shows, one kept machine shows
 abbrev pub IsKeptAs : List MachineState → MachineState → Type 0

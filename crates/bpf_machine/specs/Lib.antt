@@ -10,6 +10,8 @@ pub mod Headways
 pub mod Cover
 pub mod Race
 pub mod Patient
+pub mod Ends
+pub mod Budgets
 pub mod Kept
 pub mod Parts
 pub mod Hashes

@@ -174,6 +174,20 @@ impl KeptJob {
         }
     }
 
+    /// Whether it has ended out of budget.
+    pub fn is_out_of_budget(&self) -> bool
+        ensures out { result ≡ true
+            → (pc : ℕ) × (self.now.stage ≡ Ended (Outcome.OutOfBudget pc)) }
+        ensures not { result ≡ false → (pc : ℕ)
+            → self.now.stage ≡ Ended (Outcome.OutOfBudget pc) → ⊥ }
+    {
+        match &self.stage {
+            KeptStage::Ended(Outcome::OutOfBudget(_)) => true,
+            KeptStage::Ended(Outcome::Exit(_) | Outcome::Fault(_, _)) => false,
+            KeptStage::Waiting(_) | KeptStage::InHand(_, _) => false,
+        }
+    }
+
     /// A number by which it is found.
     pub fn hash(&self) -> u64
         ensures { result ≡ task_hash self.now }
@@ -187,7 +201,7 @@ impl KeptJob {
     }
 
     /// The CPU's number.
-    fn cpu(&self) -> u8
+    pub fn cpu(&self) -> u8
         ensures { result ≡ self.now.cpu }
     {
         self.cpu

@@ -1,7 +1,6 @@
 use Rattle.std.proofs.Common.{◌≡◌, ◌∙◌, ℕ, Some, sym, ap, subst, arith}
 use Rattle.std.specs.Prelude.{slice_get}
-use Rattle.bpf_cpu.specs.Task.{Stage}
-use Rattle.bpf_machine.specs.Hashes.{mix, stage_hash}
+use Rattle.bpf_machine.specs.Hashes.{stage_hash}
 use Rattle.bpf_machine.specs.Machine.{MachineState}
 use Rattle.bpf_machine.specs.Private.KeyLists.{listings}
 use Rattle.bpf_machine.specs.Private.Lanes.{stage_of}

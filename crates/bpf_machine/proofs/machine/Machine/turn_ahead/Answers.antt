@@ -1,3 +1,4 @@
+use Rattle.std.proofs.Common.{refl}
 use Rattle.bpf_machine.specs.declared.machine.ahead.Headway.TheVariants.{Idle, Turns}
 use Rattle.bpf_machine.proofs.QuietLaws.{ran_runs}
 use Rattle.bpf_machine.proofs.machine.Machine.turn_ahead.Goals as goal
@@ -9,3 +10,9 @@ returns-in-Turns-clause-runs c =
 pub returns-in-Idle-clause-runs : goal.returns-in-Idle-clause-runs
 returns-in-Idle-clause-runs c =
     ran_runs c.args.self.now c.turn.new.self c.run_ahead.new.self c.args.cpu c.turn.result Idle c.turn.ensures.turn c.in-Idle.ensures
+
+pub returns-in-Turns-clause-ahead : goal.returns-in-Turns-clause-ahead
+returns-in-Turns-clause-ahead c = (c.turn.result, c.turn.new.self, Turns c.in-Turns.turns, c.turn.ensures.turn, c.in-Turns.ensures, refl)
+
+pub returns-in-Idle-clause-ahead : goal.returns-in-Idle-clause-ahead
+returns-in-Idle-clause-ahead c = (c.turn.result, c.turn.new.self, Idle, c.turn.ensures.turn, c.in-Idle.ensures, refl)

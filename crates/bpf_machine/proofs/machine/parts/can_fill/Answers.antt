@@ -1,4 +1,4 @@
-use Rattle.std.proofs.Common.{◌≡◌, sym, ap, subst}
+use Rattle.std.proofs.Common.{sym, subst}
 use Rattle.bpf_cpu.specs.Task.{Task}
 use Rattle.bpf_machine.specs.Private.Parts.{IsFirstHand, FitsIn}
 use Rattle.bpf_machine.proofs.FillLaws.{read_chosen, fits_first, none_first}

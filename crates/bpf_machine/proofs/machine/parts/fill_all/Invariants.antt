@@ -1,6 +1,3 @@
-use Rattle.std.proofs.Common.{◌≡◌, ◌<◌, ◌≤◌, ℕ, length}
-use Rattle.bpf_machine.specs.Private.Lanes.{lane_of}
-use Rattle.bpf_machine.specs.Private.Parts.{CanFill, IsLaneOf}
 use Rattle.bpf_machine.proofs.FillLaws.{FilledSoFar}
 use Rattle.bpf_machine.proofs.machine.parts.fill_all.Given as goal
 
