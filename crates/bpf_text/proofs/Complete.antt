@@ -43,7 +43,7 @@ use Rattle.bpf_text.proofs.Chains.{same_width-refl, same_register-refl}
 
 -- ---- the tokens that an item has at the front
 
-token_then : (t : Tok) (next : List Tok → Type 0) (ts : List Tok) → TokenThen t next ts → (rest : List Tok) × (ts ≡ t ∷ rest) × next rest
+pub token_then : (t : Tok) (next : List Tok → Type 0) (ts : List Tok) → TokenThen t next ts → (rest : List Tok) × (ts ≡ t ∷ rest) × next rest
 token_then t next [] h = absurd h
 token_then t next (u ∷ us) h = (us, ap (λ x. x ∷ us) h.0, h.1)
 
@@ -58,7 +58,7 @@ tokens_then (p ∷ ps) is ts h =
 tokens_end : (ps ts : List Tok) → Spells (map Is ps ++ []) ts → ts ≡ ps
 tokens_end ps ts h = let all = tokens_then ps [] ts h in all.1 ∙ ap (λ x. ps ++ x) all.2 ∙ append-nil ps
 
-natural_then : (z : ℤ) (next : List Tok → Type 0) (ts : List Tok) → NaturalThen z next ts → (n : ℕ) × (rest : List Tok) × (z ≡ pos n) × (ts ≡ Number n ∷ rest) × next rest
+pub natural_then : (z : ℤ) (next : List Tok → Type 0) (ts : List Tok) → NaturalThen z next ts → (n : ℕ) × (rest : List Tok) × (z ≡ pos n) × (ts ≡ Number n ∷ rest) × next rest
 natural_then z next (Number n ∷ ts) h = (n, ts, h.0, refl, h.1)
 natural_then z next ts h = absurd h
 
@@ -66,22 +66,22 @@ negated_then : (z : ℤ) (next : List Tok → Type 0) (ts : List Tok) → Negate
 negated_then z next (Number n ∷ ts) h = (n, ts, h.0, refl, h.1)
 negated_then z next ts h = absurd h
 
-abbrev minus : Bool → List Tok → List Tok
+abbrev pub minus : Bool → List Tok → List Tok
 minus true ts = Mark sign.Minus ∷ ts
 minus false ts = ts
 
-abbrev either_sign : Bool → List Tok → List Tok
+abbrev pub either_sign : Bool → List Tok → List Tok
 either_sign true ts = Mark sign.Minus ∷ ts
 either_sign false ts = Mark sign.Plus ∷ ts
 
 -- a number with what stands before it
-record Written_number (before : Bool → List Tok → List Tok) (z : ℤ) (next : List Tok → Type 0) (ts : List Tok) : Type 0 where
-  negative : Bool
-  size : ℕ
-  rest : List Tok
-  value : z ≡ signed_of negative size
-  tokens : ts ≡ before negative (Number size ∷ rest)
-  follows : next rest
+pub record Written_number (before : Bool → List Tok → List Tok) (z : ℤ) (next : List Tok → Type 0) (ts : List Tok) : Type 0 where
+  pub negative : Bool
+  pub size : ℕ
+  pub rest : List Tok
+  pub value : z ≡ signed_of negative size
+  pub tokens : ts ≡ before negative (Number size ∷ rest)
+  pub follows : next rest
 
 negative_number : (before : Bool → List Tok → List Tok) (z : ℤ) (next : List Tok → Type 0) (ts : List Tok) → NegatedThen z next ts → Written_number before z next (before true ts)
 negative_number before z next ts h = let n = negated_then z next ts h in record { negative = true; size = n.0; rest = n.1; value = n.2; tokens = ap (before true) n.3; follows = n.4 }
@@ -89,12 +89,12 @@ negative_number before z next ts h = let n = negated_then z next ts h in record 
 natural_number : (before : Bool → List Tok → List Tok) (z : ℤ) (next : List Tok → Type 0) (ts : List Tok) → NaturalThen z next ts → Written_number before z next (before false ts)
 natural_number before z next ts h = let n = natural_then z next ts h in record { negative = false; size = n.0; rest = n.1; value = n.2; tokens = ap (before false) n.3; follows = n.4 }
 
-signed_then : (z : ℤ) (next : List Tok → Type 0) (ts : List Tok) → SignedThen z next ts → Written_number minus z next ts
+pub signed_then : (z : ℤ) (next : List Tok → Type 0) (ts : List Tok) → SignedThen z next ts → Written_number minus z next ts
 signed_then z next (Mark sign.Minus ∷ ts) h = negative_number minus z next ts h
 signed_then z next (Number n ∷ ts) h = natural_number minus z next (Number n ∷ ts) h
 signed_then z next ts h = absurd h
 
-offset_then : (z : ℤ) (next : List Tok → Type 0) (ts : List Tok) → OffsetThen z next ts → Written_number either_sign z next ts
+pub offset_then : (z : ℤ) (next : List Tok → Type 0) (ts : List Tok) → OffsetThen z next ts → Written_number either_sign z next ts
 offset_then z next (Mark sign.Minus ∷ ts) h = negative_number either_sign z next ts h
 offset_then z next (Mark sign.Plus ∷ ts) h = natural_number either_sign z next ts h
 offset_then z next ts h = absurd h
@@ -166,12 +166,12 @@ full_operator (Plain m) is ts s = let f = tokens_then (Mark m ∷ []) is ts s in
 full_operator (SignedBy m) is ts s = let f = tokens_then (Word key.Signed ∷ Mark m ∷ []) is ts s in (f.0, ap operator_at f.1, f.2)
 
 -- each operation is found by how it is written
-named_operation : (op : AluOp) → operation_named (operator_of op) ≡ Some op
+pub named_operation : (op : AluOp) → operation_named (operator_of op) ≡ Some op
 unfolding operation_named
 named_operation alu.Add = refl
 named_operation op = refl
 
-named_condition : (c : Condition) → condition_named (comparison_of c) ≡ Some c
+pub named_condition : (c : Condition) → condition_named (comparison_of c) ≡ Some c
 unfolding condition_named
 named_condition test.Eq = refl
 named_condition c = refl
@@ -294,13 +294,13 @@ full_compare_exchange w b o r ts s =
     ap line_at front.1 ∙ compare_exchange_by w b o r front.0 place.0 place.1 (tokens_end (Mark sign.Comma ∷ Register w R0 ∷ Mark sign.Comma ∷ Register w r ∷ Mark sign.Close ∷ []) place.0 place.2)
 
 -- each atomic operation is found by its form
-abbrev IsNamed : AtomicOp → AtomicForm → Type 0
+abbrev pub IsNamed : AtomicOp → AtomicForm → Type 0
 IsNamed op (form.Locked k) = locked_op k ≡ Some op
 IsNamed op (form.Fetch k) = fetched_op k ≡ Some op
 IsNamed op form.Exchange = atomic.Exchange ≡ op
 IsNamed op form.CompareExchange = atomic.CompareExchange ≡ op
 
-named_atomic : (op : AtomicOp) → IsNamed op (atomic_form op)
+pub named_atomic : (op : AtomicOp) → IsNamed op (atomic_form op)
 unfolding locked_op fetched_op
 named_atomic atomic.Add = refl
 named_atomic op = refl

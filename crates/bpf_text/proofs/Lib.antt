@@ -2,9 +2,13 @@ pub mod Scanning
 pub mod Chains
 pub mod Sound
 pub mod Complete
+pub mod Choices
+pub mod Fitting
+pub mod Beginning
 pub mod LabelLemmas
 pub mod BodyLemmas
 pub mod ShortForms
+pub mod Misfits
 pub mod TextLemmas
 pub mod Unique
 pub mod Comments

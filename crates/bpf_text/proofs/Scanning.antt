@@ -15,6 +15,7 @@ use Rattle.bpf_spelling.specs.Private.Letters.{first_sign}
 use Rattle.bpf_spelling.specs.Token.{Tok}
 use Rattle.bpf_lines.specs.Lines.{is_blank}
 use Rattle.bpf_text.specs.Tokens.{after_blanks, front_tok, front_len, IsEnd, AreTokens, IsTokens}
+use Rattle.bpf_text.specs.Misfit.{StandBehind, ArePlaces}
 use Rattle.bpf_text.specs.Private.Look.{look}
 use Rattle.bpf_text.specs.Private.Cutting.{BeginTokens, KeepsToken}
 
@@ -114,3 +115,36 @@ same_tokens (t ∷ ts) (u ∷ us) text a b =
     let rest = same_tokens ts us (after_blanks (drop (front_len text) text)) a.2 b.2 in
     let first : u ≡ t = b.1 ∙ sym a.1 in
     ap (λ x. x ∷ us) first ∙ ap (λ x. t ∷ x) rest
+
+-- ---- the places of tokens
+
+-- so many bytes stand before the tokens of what stands at this place, and these before those of
+-- the whole line
+pub record Placed (line placed : List ℕ) (at : ℕ) : Type 0 where
+  pub on : (ps : List ℕ) → StandBehind line (drop at line) ps → ArePlaces line (placed ++ ps)
+
+pub placed_start : (line placed : List ℕ) (at : ℕ) → placed ≡ [] → at ≡ length (take_while is_blank line) → Placed line placed at
+placed_start line placed at none e = record {
+  on = λ ps h. let P : ℕ → Type 0 = λ k. StandBehind line (drop k line) ps in
+      let Q : List ℕ → Type 0 = λ qs. ArePlaces line (qs ++ ps) in
+      subst Q (sym none) (subst P e h);
+}
+
+pub placed_next : (line placed new : List ℕ) (at n next : ℕ) → Placed line placed at → (IsEnd (drop at line) → ⊥) → at ≤ length line → new ≡ placed ++ at ∷ [] → n ≡ front_len (drop at line) → next ≡ (at + n) + length (take_while is_blank (drop (at + n) line)) → Placed line new next
+placed_next line placed new at n next p more within pushed len e = record { on = on }
+  where
+    place : drop next line ≡ after_blanks (drop (front_len (drop at line)) (drop at line))
+    place =
+        ap (λ k. drop k line) e
+        ∙ sym (drop-drop (length (take_while is_blank (drop (at + n) line))) (at + n) line)
+        ∙ ap after_blanks (sym (drop-drop n at line) ∙ ap (λ k. drop k (drop at line)) len)
+
+    on : (ps : List ℕ) → StandBehind line (drop next line) ps → ArePlaces line (new ++ ps)
+    on [] h = absurd h
+    on (q ∷ ps) h =
+        let P : List ℕ → Type 0 = λ text. StandBehind line text (q ∷ ps) in
+        let Q : List ℕ → Type 0 = λ qs. ArePlaces line qs in
+        subst Q (sym (ap (λ (qs : List ℕ). qs ++ q ∷ ps) pushed ∙ append_assoc placed (at ∷ []) (q ∷ ps))) (p.on (at ∷ q ∷ ps) (within, refl, more, subst P place h))
+
+pub placed_end : (line placed new : List ℕ) (at : ℕ) → Placed line placed at → IsEnd (drop at line) → at ≤ length line → new ≡ placed ++ at ∷ [] → ArePlaces line new
+placed_end line placed new at p e within pushed = let Q : List ℕ → Type 0 = λ qs. ArePlaces line qs in subst Q (sym pushed) (p.on (at ∷ []) (within, refl, e))

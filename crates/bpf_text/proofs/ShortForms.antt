@@ -106,7 +106,7 @@ form_length (insn.Store z b o s) (Some name) = omega arith
 form_length (insn.LoadNumber d n) (Some name) = omega arith
 form_length (insn.LoadMap d n) (Some name) = omega arith
 
-spelled_short : (i : Written) (ts : List Tok) → IsSpelled i ts → length ts ≤ 40
+pub spelled_short : (i : Written) (ts : List Tok) → IsSpelled i ts → length ts ≤ 40
 spelled_short i ts s = let l = spells_short (form_of i.insn i.name) ts s in let k = form_length i.insn i.name in omega arith
 
 -- ---- the first tokens of a long line
@@ -120,7 +120,7 @@ cut_more : (name : Option (List ℕ)) (us ts rest : List Tok) → cut name (us +
 cut_more (Some name) us ts rest = refl
 cut_more None us ts rest = refl
 
-front_body : (a b : Tok) (ts rest : List Tok) → unlabelled (a ∷ b ∷ (ts ++ rest)) ≡ unlabelled (a ∷ b ∷ ts) ++ rest
+pub front_body : (a b : Tok) (ts rest : List Tok) → unlabelled (a ∷ b ∷ (ts ++ rest)) ≡ unlabelled (a ∷ b ∷ ts) ++ rest
 unfolding unlabelled
 front_body a (Mark Colon) ts rest = cut_more (name_of a) ts (a ∷ Mark Colon ∷ ts) rest
 front_body a b ts rest = refl
@@ -129,13 +129,13 @@ cut_long : (name : Option (List ℕ)) (us ts : List Tok) → length ts ≤ 2 + l
 cut_long (Some name) us ts l = l
 cut_long None us ts l = omega arith
 
-body_long : (a b : Tok) (ts : List Tok) → length ts ≤ length (unlabelled (a ∷ b ∷ ts))
+pub body_long : (a b : Tok) (ts : List Tok) → length ts ≤ length (unlabelled (a ∷ b ∷ ts))
 unfolding unlabelled
 body_long a (Mark Colon) ts = let l = cut_long (name_of a) ts (a ∷ Mark Colon ∷ ts) (omega arith) in omega arith
 body_long a b ts = omega arith
 
 -- what is long has no form, and more of it hasn't either
-still_refused : (body : Result (Option Written) LineError) (ts rest : List Tok) → 41 ≤ length ts → IsBody body ts → IsBody body (ts ++ rest)
+pub still_refused : (body : Result (Option Written) LineError) (ts rest : List Tok) → 41 ≤ length ts → IsBody body ts → IsBody body (ts ++ rest)
 still_refused (Ok None) ts rest long is = absurd (let none : length ts ≡ 0 = ap length is in omega arith)
 still_refused (Ok (Some i)) ts rest long is = absurd (let l = spelled_short i ts is.0 in omega arith)
 still_refused (Err BadNumber) ts rest long is = absurd (let l = spelled_short is.0 ts is.1 in omega arith)

@@ -105,23 +105,23 @@ operator_sound (Word key.Signed ∷ Mark s ∷ ts) = λ is h. (refl, (refl, h))
 operator_sound (Mark s ∷ ts) = λ is h. (refl, h)
 operator_sound ts = tt
 
-operation_sound : (o : Operator) → IfSome (operation_named o) (λ op. operator_of op ≡ o)
+pub operation_sound : (o : Operator) → IfSome (operation_named o) (λ op. operator_of op ≡ o)
 unfolding operation_named
 operation_sound o = found_by (λ op. same_operator (operator_of op) o) ALU_OPS (λ op. operator_of op ≡ o) (λ op e. same_operator-true (operator_of op) o e)
 
-condition_sound : (o : Operator) → IfSome (condition_named o) (λ c. comparison_of c ≡ o)
+pub condition_sound : (o : Operator) → IfSome (condition_named o) (λ c. comparison_of c ≡ o)
 unfolding condition_named
 condition_sound o = found_by (λ c. same_operator (comparison_of c) o) CONDITIONS (λ c. comparison_of c ≡ o) (λ c e. same_operator-true (comparison_of c) o e)
 
-locked_op_sound : (s : Sign) → IfSome (locked_op s) (λ op. atomic_form op ≡ form.Locked s)
+pub locked_op_sound : (s : Sign) → IfSome (locked_op s) (λ op. atomic_form op ≡ form.Locked s)
 unfolding locked_op
 locked_op_sound s = found_by (λ op. is_locked_by (atomic_form op) s) ATOMIC_OPS (λ op. atomic_form op ≡ form.Locked s) (λ op e. is_locked_by-true (atomic_form op) s e)
 
-fetched_op_sound : (k : Keyword) → IfSome (fetched_op k) (λ op. atomic_form op ≡ form.Fetch k)
+pub fetched_op_sound : (k : Keyword) → IfSome (fetched_op k) (λ op. atomic_form op ≡ form.Fetch k)
 unfolding fetched_op
 fetched_op_sound k = found_by (λ op. is_fetched_by (atomic_form op) k) ATOMIC_OPS (λ op. atomic_form op ≡ form.Fetch k) (λ op e. is_fetched_by-true (atomic_form op) k e)
 
-extension_sound : (w : Width) (z : SignedSize) → IfSome (extension_of w z) (λ e. (extended_width e ≡ w) × (extended_size e ≡ z))
+pub extension_sound : (w : Width) (z : SignedSize) → IfSome (extension_of w z) (λ e. (extended_width e ≡ w) × (extended_size e ≡ z))
 unfolding extension_of
 extension_sound Bits32 signed_size.Byte = (refl, refl)
 extension_sound Bits32 signed_size.Half = (refl, refl)

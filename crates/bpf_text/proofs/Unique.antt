@@ -28,10 +28,10 @@ nothing_read : line_at [] ≡ None
 unfolding line_at
 nothing_read = refl
 
-not_nothing : (ts : List Tok) (i : Written) → IsSpelled i ts → ts ≡ [] → ⊥
+pub not_nothing : (ts : List Tok) (i : Written) → IsSpelled i ts → ts ≡ [] → ⊥
 not_nothing ts i s e = let both : Some i ≡ None = sym (line_complete i.insn i.name ts s) ∙ ap line_at e ∙ nothing_read in cc
 
-one_body : (ts : List Tok) (a b : Result (Option Written) LineError) → IsBody a ts → IsBody b ts → a ≡ b
+pub one_body : (ts : List Tok) (a b : Result (Option Written) LineError) → IsBody a ts → IsBody b ts → a ≡ b
 one_body ts (Ok None) (Ok None) x y = refl
 one_body ts (Ok None) (Ok (Some j)) x y = absurd (not_nothing ts j y.0 x)
 one_body ts (Ok None) (Err BadNumber) x y = absurd (not_nothing ts y.0 y.1 x)

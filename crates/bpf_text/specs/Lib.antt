@@ -7,6 +7,7 @@ pub mod Words
 pub mod Tokens
 pub mod Line
 pub mod Assembly
+pub mod Misfit
 pub mod Laws
 pub mod Private
 pub mod Diagnostic

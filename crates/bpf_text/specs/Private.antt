@@ -6,3 +6,4 @@ pub mod Judging
 pub mod Labels
 pub mod Sources
 pub mod Cutting
+pub mod Forms

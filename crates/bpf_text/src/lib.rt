@@ -3,10 +3,13 @@
 
 pub mod assembly;
 pub mod error;
+mod forms;
 mod labels;
 pub mod laws;
 mod meaning;
+pub mod misfit;
 mod numbers;
+pub mod places;
 mod reading;
 mod registers;
 pub mod sizes;
@@ -17,4 +20,7 @@ mod words;
 
 pub use assembly::{assemble, assemble_bytes};
 pub use error::TextError;
+pub use misfit::{Misfit, misfit_in};
+pub use places::token_places;
+pub use reading::LineError;
 pub use sizes::line_size;

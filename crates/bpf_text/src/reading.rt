@@ -6,7 +6,7 @@ ghost use Rattle.bpf_text.specs.Private.Lines.{plain, ends, statement_at, line_a
 ghost use Rattle.bpf_text.specs.Private.Judging.{Judged};
 
 mod address;
-mod arithmetic;
+pub(crate) mod arithmetic;
 mod assignment;
 mod atomic;
 mod jump;

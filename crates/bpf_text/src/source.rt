@@ -34,7 +34,7 @@ pub struct SourceLine<'a> {
 
 /// A line's label, and what follows it.
 #[tactic(auto, unfolding(crate::specs::Assembly::label_of, crate::specs::Assembly::unlabelled))]
-fn labelled<'t, 'a>(tokens: &'t [Token<'a>]) -> (Option<&'a [u8]>, &'t [Token<'a>])
+pub(crate) fn labelled<'t, 'a>(tokens: &'t [Token<'a>]) -> (Option<&'a [u8]>, &'t [Token<'a>])
     ensures label { option_copied result.0 ≡ label_of (map look tokens.now) }
     ensures rest { map look result.1.now ≡ unlabelled (map look tokens.now) }
 {
@@ -58,7 +58,7 @@ fn code<'a>(draft: Draft<'a>) -> Body<'a>
 }
 
 /// What stands behind a line's label.
-fn behind_label<'a>(tokens: &[Token<'a>]) -> Body<'a>
+pub(crate) fn behind_label<'a>(tokens: &[Token<'a>]) -> Body<'a>
     ensures { IsBody (body_of result) (map look tokens.now) }
 {
     match tokens {

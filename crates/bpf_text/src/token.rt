@@ -37,7 +37,7 @@ fn word_len(text: &[u8]) -> usize
     text.iter().take_while(|b| is_word_byte(**b)).count()
 }
 
-fn blank_len(text: &[u8]) -> usize
+pub(crate) fn blank_len(text: &[u8]) -> usize
     ensures value { result ≡ length (take_while is_blank text.now) }
     ensures bound { result ≤ length text.now }
 {
@@ -64,7 +64,7 @@ fn front<'a>(text: &'a [u8]) -> (Token<'a>, usize)
 }
 
 /// The token at a place of the line, and its length.
-fn front_at<'a>(line: &'a [u8], at: usize) -> (Token<'a>, usize)
+pub(crate) fn front_at<'a>(line: &'a [u8], at: usize) -> (Token<'a>, usize)
     requires { at < length line.now }
     ensures token { look result.0 ≡ front_tok (drop at line.now) }
     ensures len { result.1 ≡ front_len (drop at line.now) }
@@ -75,7 +75,7 @@ fn front_at<'a>(line: &'a [u8], at: usize) -> (Token<'a>, usize)
 }
 
 /// The place behind the blanks.
-fn skip_blanks(line: &[u8], at: usize) -> usize
+pub(crate) fn skip_blanks(line: &[u8], at: usize) -> usize
     requires { at ≤ length line.now }
     ensures value { result ≡ at + length (take_while is_blank (drop at line.now)) }
     ensures bound { result ≤ length line.now }
@@ -94,7 +94,7 @@ fn is_end(text: &[u8]) -> bool
 }
 
 /// Whether the line's tokens end at this place.
-fn ends_at(line: &[u8], at: usize) -> bool
+pub(crate) fn ends_at(line: &[u8], at: usize) -> bool
     requires { at ≤ length line.now }
     ensures { IsTrue result ↔ IsEnd (drop at line.now) }
 {

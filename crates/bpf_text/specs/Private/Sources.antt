@@ -2,6 +2,7 @@
 use Rattle.std.specs.Prelude.{◌≡◌, ℕ, ◌+◌, Bool, true, false, ◌&&◌, ◌||◌, if◌then◌else◌, List, [], ◌∷◌, Option, Some, None, Result, Ok, Err}
 use Rattle.std.specs.Option.{option_copied}
 use Rattle.bpf_text.specs.declared.reading.LineError.{LineError}
+use Rattle.bpf_text.specs.declared.reading.LineError.TheVariants.{BadNumber}
 use Rattle.bpf_text.specs.declared.source.Body.{Body}
 use Rattle.bpf_text.specs.declared.source.Body.TheVariants.{Empty, Code, Named, Refused}
 use Rattle.bpf_text.specs.declared.source.SourceLine.{SourceLine}
@@ -21,6 +22,10 @@ body_of (Refused e) = Err e
 
 abbrev pub source_of : SourceLine → Source
 source_of s = record { label = option_copied s.label; body = body_of s.body }
+
+abbrev pub is_bad_number : Result (Option Written) LineError → Bool
+is_bad_number (Err BadNumber) = true
+is_bad_number body = false
 
 -- ---- lines that say something
 

@@ -75,7 +75,7 @@ pub(crate) fn operation<'a>(
 }
 
 #[tactic(auto, unfolding(crate::specs::Private::Pieces::extension_of))]
-fn extension(width: Width, size: SignedSize) -> Option<SignExtension>
+pub(crate) fn extension(width: Width, size: SignedSize) -> Option<SignExtension>
     ensures { result ≡ extension_of width size }
 {
     match (width, size) {

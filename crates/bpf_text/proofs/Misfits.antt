@@ -1,0 +1,169 @@
+-- Where a line is refused, by its first tokens.
+use Rattle.std.proofs.Common.{◌≡◌, ℕ, zero, suc, ◌+◌, ◌-◌, ◌<◌, ◌≤◌, Bool, true, false, List, [], ◌∷◌, ◌++◌, length, map, take, drop, Option, Some, None, Result, Ok, Err, ◌⊎◌, inl, inr, refl, sym, ap, subst, ◌∙◌, arith, length-append, append-nil}
+use Rattle.std.specs.Prelude.{IsTrue, ◌↔◌, OnErr}
+use Rattle.std.proofs.Math.Nat.{eq-or-lt_of_le}
+use Rattle.std.proofs.lemmas.List.{length-map, length-take, take-append-le}
+use Rattle.bpf_insn.specs.declared.instruction.Insn.TheVariants as insn
+use Rattle.bpf_spelling.specs.declared.keywords.Keyword.TheVariants as key
+use Rattle.bpf_spelling.specs.declared.signs.Sign.TheVariants.{Colon}
+use Rattle.bpf_spelling.specs.Token.{Tok, Word, Mark}
+use Rattle.bpf_text.specs.declared.misfit.Misfit.{Misfit}
+use Rattle.bpf_text.specs.declared.reading.LineError.{LineError}
+use Rattle.bpf_text.specs.declared.reading.LineError.TheVariants.{BadLine, BadNumber}
+use Rattle.bpf_text.specs.declared.source.Body.{Body}
+use Rattle.bpf_text.specs.declared.source.Body.TheVariants.{Empty, Code, Named, Refused}
+use Rattle.bpf_text.specs.declared.token.Token.{Token}
+use Rattle.bpf_text.specs.Line.{Written, name_of}
+use Rattle.bpf_text.specs.Assembly.{IsBody, Source, label_of, unlabelled, cut}
+use Rattle.bpf_text.specs.Misfit.{GoesOn, IsMisfit, IsRefusedAt, IsUnfit, StandsAt, with_numbers, zeroed}
+use Rattle.bpf_text.specs.Tokens.{IsTokens}
+use Rattle.bpf_text.specs.Private.Cutting.{BeginTokens}
+use Rattle.bpf_text.specs.Private.Look.{look}
+use Rattle.bpf_text.specs.Private.Sources.{body_of, is_bad_number}
+use Rattle.bpf_text.proofs.ShortForms.{spelled_short, front_body, body_long, still_refused, line_of_tokens}
+use Rattle.bpf_text.proofs.Unique.{one_body, not_nothing}
+
+-- ---- numbers
+
+bad_number : (body : Result (Option Written) LineError) (ts : List Tok) → is_bad_number body ≡ true → IsBody body ts → IsUnfit ts
+bad_number (Err BadNumber) ts e h = h
+bad_number (Err BadLine) ts e h = cc
+bad_number (Ok o) ts e h = cc
+
+pub unfit_is : (body : Result (Option Written) LineError) (ts : List Tok) (b : Bool) → b ≡ is_bad_number body → IsBody body ts → IsTrue b ↔ IsUnfit ts
+unfit_is body ts b e h = (λ t. bad_number body ts (sym e ∙ t) h, λ u. e ∙ ap is_bad_number (one_body ts body (Err BadNumber) h u))
+
+pub map-take : {A B : Type 0} (f : A → B) (n : ℕ) (xs : List A) → map f (take n xs) ≡ take n (map f xs)
+map-take f zero xs = refl
+map-take f (suc n) [] = refl
+map-take f (suc n) (x ∷ xs) = ap (λ ys. f x ∷ ys) (map-take f n xs)
+
+take-whole : {A : Type 0} (n : ℕ) (xs : List A) → length xs ≤ n → take n xs ≡ xs
+take-whole zero [] le = refl
+take-whole zero (x ∷ xs) le = absurd (omega arith)
+take-whole (suc n) [] le = refl
+take-whole (suc n) (x ∷ xs) le = ap (λ ys. x ∷ ys) (take-whole n xs (omega arith))
+
+drop-whole : {A : Type 0} (n : ℕ) (xs : List A) → length xs ≤ n → drop n xs ≡ []
+drop-whole zero [] le = refl
+drop-whole zero (x ∷ xs) le = absurd (omega arith)
+drop-whole (suc n) [] le = refl
+drop-whole (suc n) (x ∷ xs) le = drop-whole n xs (omega arith)
+
+all_numbers : (n : ℕ) (ts : List Tok) → length ts ≤ n → with_numbers n ts ≡ ts
+all_numbers n ts le = ap (λ us. us ++ map zeroed (drop n ts)) (take-whole n ts le) ∙ ap (λ us. ts ++ map zeroed us) (drop-whole n ts le) ∙ append-nil ts
+
+-- of unfit tokens one is the first with which they are so
+pub some_unfit : (ts : List Tok) → IsUnfit ts → ((k : ℕ) → k < length ts → IsUnfit (with_numbers (k + 1) ts) → ⊥) → ⊥
+some_unfit [] u none = not_nothing [] u.0 u.1 refl
+some_unfit (t ∷ ts) u none = none (length ts) (omega arith) (subst IsUnfit (sym (all_numbers (length ts + 1) (t ∷ ts) (omega arith))) u)
+
+-- ---- tokens at which no form goes on
+
+pub nothing_goes_on : GoesOn []
+nothing_goes_on = (record { insn = insn.Exit; name = None }, Word key.Exit ∷ [], (refl, refl))
+
+pub goes_on_short : (n : ℕ) (ts : List Tok) → n ≤ length ts → GoesOn (take n ts) → n ≤ 40
+goes_on_short n ts le g =
+    let short = spelled_short g.0 (take n ts ++ g.1) g.2 in
+    omega (arith, short, length-append (take n ts) g.1, length-take n ts)
+
+-- ---- the label
+
+cut_within : (name : Option (List ℕ)) (us ts : List Tok) → length us ≤ length ts → length (cut name us ts) ≤ length ts
+cut_within (Some name) us ts le = le
+cut_within None us ts le = omega arith
+
+pub unlabelled_within : (ts : List Tok) → length (unlabelled ts) ≤ length ts
+unfolding unlabelled
+unlabelled_within (t ∷ Mark Colon ∷ ts) = cut_within (name_of t) ts (t ∷ Mark Colon ∷ ts) (omega arith)
+unlabelled_within ts = omega arith
+
+-- ---- a line by its first tokens
+
+long_stands : (why : LineError) (n : ℕ) (us rest : List Tok) → 41 ≤ length us → IsBody (Err why) us → StandsAt why n us → StandsAt why n (us ++ rest)
+long_stands BadNumber n us rest long body stands = absurd (let short = spelled_short body.0 us body.1 in omega arith)
+long_stands BadLine n us rest long body (goes, inl same) = absurd (let short = goes_on_short n us (omega arith) goes in omega arith)
+long_stands BadLine n us rest long body (goes, inr (lt, left)) =
+    let front : take n (us ++ rest) ≡ take n us = take-append-le n us rest (omega arith) in
+    let more : take (n + 1) (us ++ rest) ≡ take (n + 1) us = take-append-le (n + 1) us rest (omega arith) in
+    (subst GoesOn (sym front) goes, inr (omega (arith, length-append us rest), λ g. left (subst GoesOn more g)))
+
+refused_long : (line : List ℕ) (ts rest : List Tok) (m : Misfit) (n : ℕ) → IsTokens line (ts ++ rest) → 64 ≤ length ts → IsBody (Err m.why) (unlabelled ts) → StandsAt m.why n (unlabelled ts) → m.token + length (unlabelled ts) ≡ length ts + n → IsRefusedAt line m
+refused_long line [] rest m n cut_up long body stands counted = absurd (omega arith)
+refused_long line (a ∷ []) rest m n cut_up long body stands counted = absurd (omega arith)
+refused_long line (a ∷ b ∷ ts) rest m n cut_up long body stands counted =
+    let us = unlabelled (a ∷ b ∷ ts) in
+    let le = body_long a b ts in
+    let same : unlabelled (a ∷ b ∷ (ts ++ rest)) ≡ us ++ rest = front_body a b ts rest in
+    let P : List Tok → Type 0 = λ vs. IsBody (Err m.why) vs in
+    let Q : List Tok → Type 0 = λ vs. StandsAt m.why n vs in
+    record {
+      tokens = a ∷ b ∷ (ts ++ rest);
+      cut_up = cut_up;
+      refused = subst P (sym same) (still_refused (Err m.why) us rest (omega arith) body);
+      behind = n;
+      counted = omega (arith, ap length same, length-append us rest, length-append ts rest, counted);
+      stands = subst Q (sym same) (long_stands m.why n us rest (omega arith) body stands);
+    }
+
+pub refused_at : (line : List ℕ) (ts : List Tok) (m : Misfit) (n : ℕ) → BeginTokens line ts → IsBody (Err m.why) (unlabelled ts) → StandsAt m.why n (unlabelled ts) → m.token + length (unlabelled ts) ≡ length ts + n → IsRefusedAt line m
+refused_at line ts m n (rest, cut_up, inl none) body stands counted = record {
+  tokens = ts;
+  cut_up = subst (λ (us : List Tok). IsTokens line us) (ap (λ (r : List Tok). ts ++ r) none ∙ append-nil ts) cut_up;
+  refused = body;
+  behind = n;
+  counted = counted;
+  stands = stands;
+}
+refused_at line ts m n (rest, cut_up, inr long) body stands counted = refused_long line ts rest m n cut_up long body stands counted
+
+not_refused : (body : Body) → ((e : LineError) → body ≡ Refused e → ⊥) → OnErr (body_of body) ⊥
+not_refused Empty none = tt
+not_refused (Code i) none = tt
+not_refused (Named i name) none = tt
+not_refused (Refused e) none = none e refl
+
+pub not_misfit : (line : List ℕ) (ts : List Tok) (body : Body) → BeginTokens line ts → IsBody (body_of body) (unlabelled ts) → ((e : LineError) → body ≡ Refused e → ⊥) → IsMisfit line None
+not_misfit line ts body begin is none =
+    let s : Source = record { label = label_of ts; body = body_of body } in
+    (s, line_of_tokens line ts s begin refl is, not_refused body none)
+
+-- ---- for the functions
+
+-- what is known of a length
+pub seen_within : (tokens seen rest : List Token) (len : ℕ) → seen ≡ tokens → map look rest ≡ unlabelled (map look seen) → len ≡ length tokens → length rest ≤ len
+seen_within tokens seen rest len same label l = omega (arith, ap length label, unlabelled_within (map look seen), length-map rest look, length-map seen look, ap length same, l)
+
+pub misfit_found : (line : List ℕ) (tokens seen rest : List Token) (why : LineError) (len n : ℕ) → BeginTokens line (map look tokens) → seen ≡ tokens → map look rest ≡ unlabelled (map look seen)
+    → IsBody (Err why) (map look rest) → StandsAt why n (map look rest) → len ≡ length tokens → IsRefusedAt line (record { why = why; token = (len - length rest) + n })
+misfit_found line tokens seen rest why len n begin same label body stands l =
+    let le = seen_within tokens seen rest len same label l in
+    let B : List Token → Type 0 = λ ts. BeginTokens line (map look ts) in
+    let P : List Tok → Type 0 = λ us. IsBody (Err why) us in
+    let Q : List Tok → Type 0 = λ us. StandsAt why n us in
+    refused_at line (map look seen) (record { why = why; token = (len - length rest) + n }) n (subst B (sym same) begin) (subst P label body) (subst Q label stands)
+    (omega (arith, le, ap length label, length-map rest look, length-map seen look, ap length same, l))
+
+pub none_found : (line : List ℕ) (tokens seen rest : List Token) (body : Body) → BeginTokens line (map look tokens) → seen ≡ tokens → map look rest ≡ unlabelled (map look seen)
+    → IsBody (body_of body) (map look rest) → ((e : LineError) → body ≡ Refused e → ⊥) → IsMisfit line None
+none_found line tokens seen rest body begin same label is none =
+    let B : List Token → Type 0 = λ ts. BeginTokens line (map look ts) in
+    let P : List Tok → Type 0 = λ us. IsBody (body_of body) us in
+    not_misfit line (map look seen) body (subst B (sym same) begin) (subst P label is) none
+
+pub none_unfit : (ts : List Tok) (made seen : List Token) (n : ℕ) (b : Bool) → ((k : ℕ) → k < n → IsUnfit (with_numbers (k + 1) ts) → ⊥) → seen ≡ made → map look made ≡ with_numbers (n + 1) ts
+    → b ≡ false → (IsTrue b ↔ IsUnfit (map look seen)) → (k : ℕ) → k < n + 1 → IsUnfit (with_numbers (k + 1) ts) → ⊥
+none_unfit ts made seen n b before same with none is k lt u = by_place (eq-or-lt_of_le {n = k} {m = n} (omega arith))
+  where
+    false_true : false ≡ true → ⊥
+    false_true e = cc
+
+    by_place : (k ≡ n) ⊎ (k < n) → ⊥
+    by_place (inr less) = before k less u
+    by_place (inl here) =
+        let same_tokens : map look seen ≡ with_numbers (k + 1) ts = ap (map look) same ∙ with ∙ ap (λ m. with_numbers (m + 1) ts) (sym here) in
+        false_true (sym none ∙ is.1 (subst IsUnfit (sym same_tokens) u))
+
+pub goes_on_of : (b : Bool) (n : ℕ) (tokens : List Token) → (IsTrue b ↔ GoesOn (map look (take n tokens))) → IsTrue b ↔ GoesOn (take n (map look tokens))
+goes_on_of b n tokens h = let P : List Tok → Type 0 = λ ts. IsTrue b ↔ GoesOn ts in subst P (map-take look n tokens) h

@@ -1,0 +1,131 @@
+//! Where a line is refused: at the token at which no form goes on, or at a number.
+
+ghost use Rattle.std.specs.Prelude.{◌≡◌, ◌≤◌, ◌↔◌, length, map, take, Err, IfOk, IsOkUnless, IsTrue};
+ghost use Rattle.bpf_text.specs.Assembly.{IsBody};
+ghost use Rattle.bpf_text.specs.Misfit.{GoesOn, IsLeftAt, IsMisfit, IsUnfit, IsUnfitAt, StandsAt, with_numbers, zeroed};
+ghost use Rattle.bpf_text.specs.Private.Sources.{body_of, is_bad_number};
+ghost use Rattle.bpf_text.specs.Private.Look.{look};
+
+use crate::error::TextError;
+use crate::forms::goes_on;
+use crate::reading::LineError;
+use crate::source::{self, Body};
+use crate::token::{self, Token};
+use bpf_lines::numbers::Radix;
+use std::alloc::Global;
+
+/// The token at which a line is refused.
+#[derive(Clone, Copy)]
+pub struct Misfit {
+    /// Why the line is refused.
+    pub why: LineError,
+    /// How many tokens of the line stand before it. There are no more where tokens lack at the
+    /// line's end.
+    pub token: usize,
+}
+
+fn zeroed<'a>(token: Token<'a>) -> Token<'a>
+    ensures { look result ≡ zeroed (look token.entry) }
+{
+    match token {
+        Token::Number(..) => Token::Number(Radix::Decimal, "0".as_bytes()),
+        other => other,
+    }
+}
+
+/// So many of the tokens, and the others with 0 for each of their numbers.
+fn with_numbers<'a>(
+    alloc: Global,
+    tokens: &[Token<'a>],
+    count: usize,
+) -> Result<Vec<Token<'a>>, TextError>
+    requires { count ≤ length tokens.now }
+    ensures same { IfOk result (λ v. map look v.items ≡ with_numbers count (map look tokens.now)) }
+    ensures memory { IsOkUnless result TextError.OutOfMemory }
+{
+    let (front, others) = tokens.split_at(count);
+    let mut made = Vec::from_slice(alloc, front).map_err(|_| TextError::OutOfMemory)?;
+    for token in others {
+        made.push(zeroed(*token))
+            .map_err(|_| TextError::OutOfMemory)?;
+    }
+    Ok(made)
+}
+
+fn is_bad_number(body: &Body<'_>) -> bool
+    ensures { result ≡ is_bad_number (body_of body.now) }
+{
+    matches!(body, Body::Refused(LineError::BadNumber))
+}
+
+/// Whether tokens have a form, and a number of theirs is out of its range.
+fn is_unfit(tokens: &[Token<'_>]) -> bool
+    ensures { IsTrue result ↔ IsUnfit (map look tokens.now) }
+{
+    is_bad_number(&source::behind_label(tokens))
+}
+
+/// How many tokens stand before the first number that is out of its range.
+fn unfit_at(alloc: Global, tokens: &[Token<'_>]) -> Result<usize, TextError>
+    requires { IsUnfit (map look tokens.now) }
+    ensures first { IfOk result (λ n. IsUnfitAt n (map look tokens.now)) }
+    ensures bound { IfOk result (λ n. n ≤ length tokens.now) }
+    ensures memory { IsOkUnless result TextError.OutOfMemory }
+{
+    for n in 0..tokens.len() {
+        let some = with_numbers(alloc, tokens, n + 1)?;
+        if is_unfit(&some) {
+            return Ok(n);
+        }
+    }
+    unreachable!()
+}
+
+/// Whether some form goes on behind so many of the tokens.
+fn goes_on_behind(tokens: &[Token<'_>], count: usize) -> bool
+    requires { count ≤ length tokens.now }
+    ensures { IsTrue result ↔ GoesOn (take count (map look tokens.now)) }
+{
+    goes_on(&tokens[..count])
+}
+
+/// How many tokens stand before the first at which no form goes on.
+fn left_at(tokens: &[Token<'_>]) -> usize
+    ensures first { IsLeftAt result (map look tokens.now) }
+    ensures bound { result ≤ length tokens.now }
+{
+    for n in 0..tokens.len() {
+        if !goes_on_behind(tokens, n + 1) {
+            return n;
+        }
+    }
+    tokens.len()
+}
+
+/// How many tokens of an instruction stand before the one at which it is refused.
+fn stands_at(alloc: Global, why: LineError, tokens: &[Token<'_>]) -> Result<usize, TextError>
+    requires { IsBody (Err why) (map look tokens.now) }
+    ensures first { IfOk result (λ n. StandsAt why n (map look tokens.now)) }
+    ensures bound { IfOk result (λ n. n ≤ length tokens.now) }
+    ensures memory { IsOkUnless result TextError.OutOfMemory }
+{
+    match why {
+        LineError::BadLine => Ok(left_at(tokens)),
+        LineError::BadNumber => unfit_at(alloc, tokens),
+    }
+}
+
+/// Where a line is refused by itself, if it is. Fails by `OutOfMemory` alone.
+pub fn misfit_in(alloc: Global, line: &[u8]) -> Result<Option<Misfit>, TextError>
+    ensures found { IfOk result (λ m. IsMisfit line.now m) }
+    ensures memory { IsOkUnless result TextError.OutOfMemory }
+{
+    let tokens = token::tokens_of(alloc, line)?;
+    let (_, rest) = source::labelled(&tokens);
+    let Body::Refused(why) = source::behind_label(rest) else {
+        return Ok(None);
+    };
+    let behind = stands_at(alloc, why, rest)?;
+    let token = tokens.len() - rest.len() + behind;
+    Ok(Some(Misfit { why, token }))
+}
