@@ -78,9 +78,9 @@ fn push_found_line(
         push_line(alloc, text, number, line, Some(place))?;
         return write!(text, "  hint: {}\n", expected.text.as_str());
     }
-    let place = caret(alloc, finding.code, line.as_bytes())?;
+    let place = caret(alloc, finding.code, line.as_bytes());
     push_line(alloc, text, number, line, place)?;
-    match hint_of(finding.code, line) {
+    match hint_of(finding.code, line, place) {
         Some(hint) => write!(text, "  hint: {hint}\n"),
         None => Ok(()),
     }

@@ -1,8 +1,8 @@
 //! What a line of a run file should have, where it is refused.
 
 use crate::excerpt::{fields, places_of};
-use crate::forms::is_number;
 use bpf_codes::Code;
+use bpf_lines::words::numeral_of;
 use std::alloc::{AllocError, Global};
 
 /// What is said of a line, and the place in its bytes that it is said of.
@@ -60,7 +60,7 @@ fn is_name(word: &str) -> bool {
 fn fits(piece: &str, word: &str) -> bool {
     match piece {
         "NAME" => is_name(word),
-        "N" => is_number(word.as_bytes()),
+        "N" => numeral_of(word.as_bytes()).is_some(),
         "HEX" => true,
         _ => piece == word,
     }

@@ -24,12 +24,10 @@ fn lacks_offset(line: &str) -> bool {
     }
 }
 
-/// Whether a digit stands right before `ll`.
-fn joins_wide(line: &str) -> bool {
-    match line.split_once("ll") {
-        Some((before, _)) => before.ends_with(|letter: char| letter.is_ascii_hexdigit()),
-        None => false,
-    }
+/// Whether a number and `ll` are written as one word.
+fn joins_wide(left: &str) -> bool {
+    let word = left.split(' ').next().unwrap_or("");
+    word.ends_with("ll") && word.starts_with(|letter: char| letter.is_ascii_digit())
 }
 
 /// Whether the line swaps bytes.
@@ -37,41 +35,41 @@ fn swaps_bytes(line: &str) -> bool {
     line.contains("= be") || line.contains("= le") || line.contains("= bswap")
 }
 
-/// Hints that a line's spelling gives.
-fn spelling_hint(line: &str) -> Option<&'static str> {
-    if line.contains("call") && line.contains('#') {
+/// Hints that a line's spelling gives, and what is left of it where no form goes on.
+fn spelling_hint(line: &str, left: &str) -> Option<&'static str> {
+    if left.starts_with('#') && line.trim().starts_with("call") {
         Some("a helper is called by its number alone: `call 1`")
     } else if line.trim().starts_with('.') || line.contains("file format") {
         Some(
             "text of clang or objdump: `llvm-objcopy -O binary --only-section=.text` takes words out of the object, and `xxd -p` makes hex digits of them",
         )
-    } else if line.contains("//") || line.contains('#') {
+    } else if left.starts_with("//") || left.starts_with('#') {
         Some("a comment begins with `;`")
     } else if begins_as_mnemonic(line) {
         Some("operations are written as in C: `r0 = 5`, `r0 += r1`, `r0 = *(u32 *)(r1 + 0)`")
-    } else if line.contains('<') && line.contains('>') && line.contains("goto") {
+    } else if left.starts_with('<') && line.contains('>') && line.contains("goto") {
         Some("a target is a distance or a label alone: leave `<..>` out")
     } else if line.contains("pc+") || line.contains("pc-") {
         Some("a jump's distance stands alone: `goto +3`, `goto -3`")
-    } else if lacks_offset(line) {
+    } else if left.starts_with(')') && lacks_offset(line) {
         Some("an address has an offset: `*(u32 *)(r1 + 0)`")
-    } else if line.contains("*)(r") && line.contains('w') {
+    } else if left.starts_with('w') && line.contains("*)(r") {
         Some("memory is loaded and stored by `r` registers: `*(u32 *)(r1 + 0) = r2`")
     } else if swaps_bytes(line) {
         Some("bytes are swapped in one register: `r1 = be16 r1`")
-    } else if joins_wide(line) {
+    } else if joins_wide(left) {
         Some("`ll` stands behind a blank: `r0 = 5 ll`")
-    } else if line.contains(" ll") {
+    } else if left.starts_with("ll") {
         Some("`ll` stands behind a number: `r0 = 5 ll`")
     } else {
         None
     }
 }
 
-/// What may be meant by the line that is refused.
-pub fn hint_of(code: Code, line: &str) -> Option<&'static str> {
+/// What may be meant by the line that is refused at this place.
+pub fn hint_of(code: Code, line: &str, place: Option<usize>) -> Option<&'static str> {
     match code {
-        Code::A1 => spelling_hint(line),
+        Code::A1 => spelling_hint(line, line.get(place?..)?),
         Code::A3 if line.contains("call") => {
             Some(
                 "a helper is called by its number: 1 looks up, 2 updates, 3 deletes, 8 gives the CPU",

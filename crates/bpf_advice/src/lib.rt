@@ -9,10 +9,8 @@ mod comments;
 mod excerpt;
 mod expected;
 mod finding;
-mod forms;
 mod hints;
 mod inputs;
-mod token;
 
 pub use advice::{Detail, Details, Input, advise};
 pub use excerpt::Language;
