@@ -91,8 +91,31 @@ impl Batches {
 
     /// Gives the old batch back where no running CPU can hold an element of it: where each counter
     /// noted with it was even, or is another by now. An old batch that is empty is followed by the
-    /// young one, which is tested at once.
+    /// young one, which is tested at once. Where both are empty it looks at no counter.
+    #[inline(always)]
     pub fn reclaim(&mut self, lane: &mut Lane, table: &HopTable)
+        requires table { lane.old.table ≡ table.now.id }
+        requires even { table.now.about.count % 2 ≡ 0 }
+        requires tracks { Tracks table.now.about lane.old.known self.old.map self.old.young
+            self.old.aged self.old.noted }
+        ensures table { lane.new.table ≡ lane.old.table }
+        ensures map { self.new.map ≡ self.old.map }
+        ensures tracks { Tracks table.now.about lane.new.known self.new.map self.new.young
+            self.new.aged self.new.noted }
+        ensures keeps { Keeps self.old.map lane.old.known lane.new.known }
+        ensures empty { (limbo_at lane.new.known.limbo self.old.map).old ≡ []
+            → (limbo_at lane.new.known.limbo self.old.map).young ≡ [] }
+        ensures blocked { ((limbo_at lane.new.known.limbo self.old.map).old ≡ [])
+            ⊎ SeesRunning self.old.map lane.old.known lane.new.known }
+    {
+        if self.aged.is_none() && self.young.is_none() {
+            return;
+        }
+        self.pass_on(lane, table);
+    }
+
+    // The same out of line, where one of them isn't empty.
+    fn pass_on(&mut self, lane: &mut Lane, table: &HopTable)
         requires table { lane.old.table ≡ table.now.id }
         requires even { table.now.about.count % 2 ≡ 0 }
         requires tracks { Tracks table.now.about lane.old.known self.old.map self.old.young

@@ -5,8 +5,8 @@ use Rattle.hop_words.specs.Inside.{Standing}
 use Rattle.hop_epoch.specs.declared.batches.Batches.{Batches}
 use Rattle.hop_epoch.specs.Batch.{Keeps, SeesRunning}
 use Rattle.hop_epoch.proofs.Batching.{running_after, keeps_itself, keeps_then}
-use Rattle.hop_epoch.proofs.batches.Batches.reclaim.Goals as goal
-use Rattle.hop_epoch.proofs.batches.Batches.reclaim.Goals.{then-is_some+else-not-is_past, else-is_some}
+use Rattle.hop_epoch.proofs.batches.Batches.pass_on.Goals as goal
+use Rattle.hop_epoch.proofs.batches.Batches.pass_on.Goals.{then-is_some+else-not-is_past, else-is_some}
 
 -- what was kept so far, and the map of the batches, which is this one still
 record Still (m : ℕ) (l k : Known) (n : ℕ) : Type 0 where
