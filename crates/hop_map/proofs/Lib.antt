@@ -14,6 +14,7 @@ pub mod Homes
 pub mod Looking
 pub mod Peeking
 pub mod Onces
+pub mod Loads
 pub mod Removing
 pub mod Offering
 pub mod Verdicts

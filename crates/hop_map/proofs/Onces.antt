@@ -6,18 +6,23 @@ use Rattle.hop_words.specs.declared.known.Known.{Known}
 use Rattle.hop_words.specs.declared.known.Reading.{Reading}
 use Rattle.hop_layout.specs.declared.place.Place.TheVariants.{Stamp}
 use Rattle.hop_words.specs.declared.known.Sight.{Sight}
-use Rattle.hop_words.specs.Sights.{look, lock_taken}
+use Rattle.hop_words.specs.declared.known.Peek.{Peek}
+use Rattle.hop_words.specs.Sights.{look, lock_taken, IsLook}
 use Rattle.bpf_shared.specs.declared.events.Span.{Span}
 use Rattle.hop_layout.specs.Home.{home_of}
 use Rattle.hop_layout.specs.Layout.{power}
 use Rattle.hop_words.specs.Depths.{stamp_depth, home_by}
-use Rattle.hop_words.specs.Ghost.{shape_at}
+use Rattle.hop_words.specs.Ghost.{shape_at, Each}
 use Rattle.hop_words.specs.Kinds.{StampSeenAgain, Found, TakesEffect, found_span}
 use Rattle.hop_words.specs.Peeking.{latest_reading, HasReading}
-use Rattle.hop_map.specs.Private.Peeks.{Peeked, OnlyReads}
+use Rattle.hop_map.specs.Private.Peeks.{Peeked, OnlyReads, looks_of}
 use Rattle.hop_map.specs.Finding.{AsksForKey, Looked, Disturbs, ReadsOnce, TakesLock, IsWay, home_in, all_sights}
 use Rattle.hop_map.specs.Private.Finding.{AsksHere, SeesDisturbances, reading_at}
 use Rattle.hop_map.specs.Noting.{CallNotes}
+
+pub all_looks : (ps : List Peek) → Each IsLook (looks_of ps)
+all_looks [] = tt
+all_looks (p ∷ ps) = (refl, all_looks ps)
 
 -- the home by which the key was sought
 pub walked_home : (a : About) (m s n h : ℕ) (key : List ℕ) → h ≡ home_of key a.seed (shape_at a m).mask → h % power (stamp_depth n) ≡ s → home_by a m (stamp_depth n) key ≡ s
@@ -50,11 +55,21 @@ module _ (a : About) (l : Known) (m s n : ℕ) (key : List ℕ) (q : AsksForKey 
       abbrev before : List Sight
       before = look (Stamp m s) n ∷ (way ++ l.tally)
 
-      lane_is : y.known ≡ record l { readings = y.known.readings; tally = before }
-      lane_is = r.known ∙ ap (λ (z : Known). record z { readings = y.known.readings }) (xk ∙ is)
+      -- the words that were looked at since
+      abbrev words : List Sight
+      words = looks_of r.more
+
+      abbrev by_now : List Sight
+      by_now = words ++ before
+
+      noted_now : y.known.tally ≡ by_now
+      noted_now = r.noted ∙ ap (λ (z : Known). words ++ z.tally) (xk ∙ is)
+
+      lane_is : y.known ≡ record l { readings = y.known.readings; tally = by_now }
+      lane_is = r.known ∙ (ap (λ (z : Known). record z { readings = y.known.readings; tally = y.known.tally }) (xk ∙ is) ∙ (λ j. record l { readings = y.known.readings; tally = noted_now j }))
 
       abbrev there : Peeked
-      there = record y { about = a; known = record l { readings = y.known.readings; tally = before }; map = m; segment = s }
+      there = record y { about = a; known = record l { readings = y.known.readings; tally = by_now }; map = m; segment = s }
 
       y_is : y ≡ there
       y_is = λ j. record { table = y.table; about = (r.about ∙ xa) j; known = lane_is j; map = (r.map ∙ xm) j; segment = (r.segment ∙ xs) j }
@@ -68,7 +83,7 @@ module _ (a : About) (l : Known) (m s n : ℕ) (key : List ℕ) (q : AsksForKey 
       read_segment : (latest_reading y.known).segment ≡ s
       read_segment = ap (λ (z : Reading). z.segment) first ∙ begun.2
 
-      read_stamp : (latest_reading y.known).stamp ≡ n
+      pub read_stamp : (latest_reading y.known).stamp ≡ n
       read_stamp = ap (λ (z : Reading). z.stamp) first ∙ stamp_begun
 
       pub asks_there : AsksHere y.about y.known y.map y.segment (stamp_depth (latest_reading y.known).stamp) key
@@ -77,6 +92,10 @@ module _ (a : About) (l : Known) (m s n : ℕ) (key : List ℕ) (q : AsksForKey 
 
       pub home_there : (h : ℕ) → h ≡ home_of key a.seed (shape_at a m).mask → h ≡ home_of key y.about.seed (shape_at y.about y.map).mask
       home_there h is = subst (λ (z : Peeked). h ≡ home_of key z.about.seed (shape_at z.about z.map).mask) (sym y_is) is
+
+      -- the first stamp lies between the words and the way
+      apart : by_now ≡ (words ++ look (Stamp m s) n ∷ []) ++ (way ++ l.tally)
+      apart = sym (append_assoc words (look (Stamp m s) n ∷ []) (way ++ l.tally))
 
       module _ (o : Option ℕ) (last : ℕ) (l3 : Known) (seen : StampSeenAgain y.about y.known (latest_reading y.known) key o last l3) where
         -- the last stamp is another
@@ -89,11 +108,12 @@ module _ (a : About) (l : Known) (m s n : ℕ) (key : List ℕ) (q : AsksForKey 
               segment = s;
               way = way;
               is_way = is_way;
-              sights = look (Stamp m s) last ∷ look (Stamp m s) n ∷ [];
-              disturbed = inr ((λ e. ne (sym e)), refl);
+              sights = look (Stamp m s) last ∷ (words ++ look (Stamp m s) n ∷ []);
+              disturbed = inr ((λ e. ne (sym e)), (words, all_looks r.more, refl));
               after = at_end
                   ∙ (ap (λ (z : Known). record z { readings = []; tally = look (Stamp (latest_reading y.known).map (latest_reading y.known).segment) last ∷ z.tally }) lane_is
-                  ∙ (λ j. record l { readings = sym rd j; tally = look (Stamp (read_map j) (read_segment j)) last ∷ before }));
+                  ∙ ((λ j. record l { readings = sym rd j; tally = look (Stamp (read_map j) (read_segment j)) last ∷ by_now })
+                  ∙ (λ j. record l { readings = l3.readings; tally = look (Stamp m s) last ∷ apart j })));
             }
 
         -- it is the same
@@ -101,12 +121,12 @@ module _ (a : About) (l : Known) (m s n : ℕ) (key : List ℕ) (q : AsksForKey 
           found : Found y.about y.known (latest_reading y.known) key o l3
           found = seen.0 (same ∙ sym read_stamp)
 
-          after : l3 ≡ record l { seen = l3.seen; readings = []; tally = look (Stamp m s) n ∷ before }
+          after : l3 ≡ record l { seen = l3.seen; readings = []; tally = look (Stamp m s) n ∷ by_now }
           after = found.after
               ∙ (ap (λ (z : Known). record z { seen = l3.seen; readings = []; tally = look (Stamp (latest_reading y.known).map (latest_reading y.known).segment) (latest_reading y.known).stamp ∷ z.tally }) lane_is
-              ∙ (λ j. record l { seen = l3.seen; readings = []; tally = look (Stamp (read_map j) (read_segment j)) (read_stamp j) ∷ before }))
+              ∙ (λ j. record l { seen = l3.seen; readings = []; tally = look (Stamp (read_map j) (read_segment j)) (read_stamp j) ∷ by_now }))
 
-          found_tally : l3.tally ≡ look (Stamp m s) n ∷ before
+          found_tally : l3.tally ≡ look (Stamp m s) n ∷ by_now
           found_tally = ap (λ (z : Known). z.tally) after
 
           pub reads_once : n % 2 ≡ 0 → ReadsOnce a l m key l3
@@ -114,9 +134,9 @@ module _ (a : About) (l : Known) (m s n : ℕ) (key : List ℕ) (q : AsksForKey 
             segment = s;
             way = way;
             is_way = is_way;
-            sights = look (Stamp m s) n ∷ look (Stamp m s) n ∷ [];
-            undisturbed = (n, even, refl);
-            tally = found_tally;
+            sights = look (Stamp m s) n ∷ (words ++ look (Stamp m s) n ∷ []);
+            undisturbed = (n, words, even, all_looks r.more, refl);
+            tally = found_tally ∙ ap (λ (ss : List Sight). look (Stamp m s) n ∷ ss) apart;
           }
 
           its_event : TakesEffect a l (Lookup m key (found_span a m o)) l3.seen

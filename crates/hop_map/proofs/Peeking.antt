@@ -24,7 +24,7 @@ use Rattle.hop_map.proofs.Bridge.{seg_sound, pair_leads, leads_pair}
 use Rattle.hop_words.specs.Depths.{stamp_depth, home_by}
 
 pub rested_by : (x : Peeked) (p : Place) (n : ℕ) → OnlyReads x (peeked x p n)
-rested_by x p n = record { table = refl; about = refl; map = refl; segment = refl; known = refl; more = record { place = p; number = n } ∷ []; reading = refl }
+rested_by x p n = record { table = refl; about = refl; map = refl; segment = refl; known = refl; more = record { place = p; number = n } ∷ []; reading = refl; noted = refl }
 
 pub rested_as : (x y : Peeked) (p : Place) (n : ℕ) → y ≡ peeked x p n → OnlyReads x y
 rested_as x y p n is = subst (OnlyReads x) (sym is) (rested_by x p n)

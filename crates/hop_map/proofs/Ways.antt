@@ -1,5 +1,5 @@
 -- On the way to the segment of a home.
-use Rattle.std.proofs.Common.{◌≡◌, ◌≢◌, ℕ, ◌+◌, ◌-◌, ◌/◌, ◌%◌, ◌≤◌, Bool, true, false, true≢false, if◌then◌else◌, List, [], ◌∷◌, ◌++◌, refl, ap, sym, subst, ◌∙◌, arith}
+use Rattle.std.proofs.Common.{◌≡◌, ◌≢◌, ℕ, ◌+◌, ◌-◌, ◌/◌, ◌%◌, ◌≤◌, Bool, true, false, true≢false, if◌then◌else◌, List, [], ◌∷◌, ◌++◌, length, refl, ap, sym, subst, ◌∙◌, arith}
 use Rattle.bpf_shared.specs.declared.shapes.MapShape.{MapShape}
 use Rattle.hop_layout.specs.declared.about.About.{About}
 use Rattle.hop_layout.specs.declared.place.Place.TheVariants.{Stamp}
@@ -97,6 +97,7 @@ module _ (a : About) (l : Known) (m home n : ℕ) (w : Way) (y : Known) (at_w : 
   first_stopped odd = record {
     way = [];
     is_way = first_way;
+    short = omega arith;
     inside = at_w;
     free = λ even. absurd (omega arith);
     locked = λ _. seen.2 odd ∙ (λ j. record l { readings = sym (ap (λ (z : Known). z.readings) (seen.2 odd)) j; tally = look (Stamp m w.segment) n ∷ l.tally });
@@ -106,13 +107,14 @@ module _ (a : About) (l : Known) (m home n : ℕ) (w : Way) (y : Known) (at_w : 
   first_there even same = record {
     way = [];
     is_way = first_way;
+    short = omega arith;
     inside = at_w;
     free = λ _. (seen.1 even, ap (λ (i : ℕ). home % power i) same ∙ on_way.1);
     locked = λ odd. absurd (omega arith);
   }
 
   pub first_near : n % 2 ≡ 0 → Approaching a l m home w n [] y
-  first_near even = record { after = seen.1 even; looks = tt; inside = at_w; even = even; deep = seen.0; on_way = on_way; level = few }
+  first_near even = record { after = seen.1 even; looks = tt; inside = at_w; even = even; deep = seen.0; on_way = on_way; level = few; few = omega arith; short = omega arith }
 
   pub first_grows : stamp_depth n ≢ w.level → (shape_at a m).grow ≡ true
   first_grows ne = go (shape_at a m).grow refl
@@ -135,7 +137,7 @@ module _ (a : About) (l : Known) (m home n : ℕ) (w : Way) (way : List Sight) (
   grown grows s more looks = record { looks = looks; at_once = λ fixed. absurd (true≢false (sym grows ∙ fixed)) }
 
   pub near_there : (shape_at a m).grow ≡ true → home % power (stamp_depth n) ≡ w.segment → Walked a l m home w.segment n x
-  near_there grows here = record { way = way; is_way = grown grows w.segment way t.looks; inside = t.inside; free = λ _. (t.after, here); locked = λ odd. absurd (let z = t.even in omega arith) }
+  near_there grows here = record { way = way; is_way = grown grows w.segment way t.looks; short = t.short; inside = t.inside; free = λ _. (t.after, here); locked = λ odd. absurd (let z = t.even in omega arith) }
 
   module _ (next : Way) (on_way : IsOnWay home next) (e : IsNext w (stamp_depth n) next) where
     pub near_inside : IsSegment a m next.segment
@@ -143,6 +145,10 @@ module _ (a : About) (l : Known) (m home n : ℕ) (w : Way) (way : List Sight) (
 
     pub near_born : KnowsBorn a x m next.segment
     near_born = Child rn e.0 read_now refl e.4 e.2 e.5
+
+    -- the way is no longer than the map is deep
+    longer : length (look (Stamp m w.segment) n ∷ way) ≤ depth (shape_at a m)
+    longer = let z = e.2 in let y = e.3 in let f = t.few in let o = t.deep.most in omega arith
 
     module _ (i : ℕ) (y : Known) (seen : StampSeen a x m next.segment i y) where
       pub nearer : i % 2 ≡ 0 → Approaching a l m home next i (look (Stamp m w.segment) n ∷ way) y
@@ -154,12 +160,15 @@ module _ (a : About) (l : Known) (m home n : ℕ) (w : Way) (way : List Sight) (
         deep = seen.0;
         on_way = on_way;
         level = (let z = e.1 in let k = e.2 in let o = t.deep.most in let ten = depth_most (shape_at a m) in omega arith);
+        few = (let z = e.1 in let y = e.3 in let f = t.few in omega arith);
+        short = longer;
       }
 
       pub near_stopped : (shape_at a m).grow ≡ true → i % 2 ≡ 1 → Walked a l m home next.segment i y
       near_stopped grows odd = record {
         way = look (Stamp m w.segment) n ∷ way;
         is_way = grown grows next.segment (look (Stamp m w.segment) n ∷ way) ((w.segment, n, refl), t.looks);
+        short = longer;
         inside = near_inside;
         free = λ even. absurd (omega arith);
         locked = λ _.

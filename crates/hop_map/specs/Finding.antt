@@ -1,5 +1,5 @@
 -- Lookups, from what a CPU knows before to what it knows after.
-use Rattle.std.specs.Prelude.{◌≡◌, ◌≢◌, ◌⊎◌, ℕ, ◌%◌, ◌<◌, true, false, List, [], ◌∷◌, ◌++◌, Option, Some, None, length}
+use Rattle.std.specs.Prelude.{◌≡◌, ◌≢◌, ◌⊎◌, ℕ, ◌+◌, ◌*◌, ◌%◌, ◌<◌, ◌≤◌, true, false, List, [], ◌∷◌, ◌++◌, Option, Some, None, length}
 use Rattle.bpf_shared.specs.declared.events.Event.TheVariants.{Lookup}
 use Rattle.bpf_shared.specs.declared.events.Span.{Span}
 use Rattle.bpf_shared.specs.History.{events_of}
@@ -10,8 +10,9 @@ use Rattle.hop_map.specs.declared.once.Once.TheVariants.{Found, Absent, Disturbe
 use Rattle.hop_words.specs.declared.known.Sight.{Sight}
 use Rattle.hop_layout.specs.declared.place.Place.TheVariants.{Stamp}
 use Rattle.hop_layout.specs.Home.{home_of}
-use Rattle.hop_layout.specs.Layout.{power, depth}
-use Rattle.hop_words.specs.Sights.{look, lock_taken}
+use Rattle.hop_layout.specs.Layout.{power, depth, words_for}
+use Rattle.bpf_shared.specs.Shape.{elements}
+use Rattle.hop_words.specs.Sights.{look, lock_taken, IsLook}
 use Rattle.hop_words.specs.Ghost.{shape_at, Each}
 use Rattle.hop_words.specs.Kinds.{TakesEffect}
 use Rattle.bpf_shared.specs.Own.{in_run}
@@ -41,16 +42,17 @@ abbrev pub home_in : About → ℕ → List ℕ → ℕ
 home_in a m key = home_of key a.seed (shape_at a m).mask
 
 -- a reading of the segment that was disturbed, as it was noted: the first stamp was locked, or the
--- last is another
+-- last is another; between the two it looked at words
 abbrev pub IsDisturbed : ℕ → ℕ → ℕ → ℕ → List Sight → Type 0
 IsDisturbed m s first last sights =
     ((first % 2 ≡ 1) × (first ≡ last) × (sights ≡ look (Stamp m s) first ∷ []))
-    ⊎ ((first ≢ last) × (sights ≡ look (Stamp m s) last ∷ look (Stamp m s) first ∷ []))
+    ⊎ ((first ≢ last) × ((words : List Sight) × Each IsLook words
+    × (sights ≡ look (Stamp m s) last ∷ (words ++ look (Stamp m s) first ∷ []))))
 
 -- a reading that was not: its stamp was unlocked, first and last the same
 abbrev pub IsUndisturbed : ℕ → ℕ → List Sight → Type 0
-IsUndisturbed m s sights = (n : ℕ) × (n % 2 ≡ 0)
-    × (sights ≡ look (Stamp m s) n ∷ look (Stamp m s) n ∷ [])
+IsUndisturbed m s sights = (n : ℕ) × (words : List Sight) × (n % 2 ≡ 0) × Each IsLook words
+    × (sights ≡ look (Stamp m s) n ∷ (words ++ look (Stamp m s) n ∷ []))
 
 -- a disturbed reading, of the key's segment or of one on the way there, and nothing else came of it
 pub record Disturbs (a : About) (l : Known) (m : ℕ) (key : List ℕ) (first last : ℕ)
@@ -76,6 +78,20 @@ abbrev pub OnceEnds : About → Known → ℕ → List ℕ → Once → Known �
 OnceEnds a l m key (Found p) l' = Looked a l m key (Some p) l' × ReadsOnce a l m key l'
 OnceEnds a l m key Absent l' = Looked a l m key None l' × ReadsOnce a l m key l'
 OnceEnds a l m key (Disturbed first last) l' = Disturbs a l m key first last l'
+
+-- the most words that a lookup without a lock loads: of each depth a stamp and of the last one the
+-- same again, a hop word and a list's head; of each of 32 places and of each element the word that
+-- leads to it and those of its key
+abbrev pub most_loads : About → ℕ → ℕ
+most_loads a m = depth (shape_at a m) + 4
+    + (32 + elements (shape_at a m)) * (1 + words_for (shape_at a m).key)
+
+-- the CPU noted looks and nothing else, no more than so many
+pub record LooksAtMost (most : ℕ) (l l' : Known) : Type 0 where
+  pub sights : List Sight
+  pub noted : l'.tally ≡ sights ++ l.tally
+  pub looks : Each IsLook sights
+  pub few : length sights ≤ most
 
 -- all that readings noted, the last first
 abbrev pub all_sights : List (List Sight) → List Sight

@@ -6,5 +6,6 @@ pub mod Port
 pub mod Splitting
 pub mod Stores
 pub mod Dumping
+pub mod Stats
 pub mod Private
 pub mod Lemmas

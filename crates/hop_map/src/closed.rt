@@ -6,6 +6,7 @@ ghost use Rattle.hop_words.specs.Shortage.{HaveCauses};
 ghost use Rattle.hop_map.specs.Port.{IsAllOf, IsPartOf};
 ghost use Rattle.hop_map.specs.Dumping.{IsLast};
 
+use crate::counts::MapCounts;
 use crate::port::HopPort;
 use hop_words::{HopTable, Rest, Returned};
 use std::marker::Model;
@@ -14,6 +15,7 @@ use std::marker::Model;
 #[derive(Drop)]
 pub struct Closed {
     pub(crate) rest: Rest,
+    pub(crate) counts: MapCounts,
 }
 
 impl Model for Closed {
@@ -37,17 +39,20 @@ pub fn gather(table: HopTable, ports: Vec<HopPort>) -> Closed
     ensures parts { All (IsPartOf result.history) ports.items }
 {
     let mut back = Returned::new(&table);
+    let mut counts = MapCounts::new();
     'ports: for port in ports {
         let HopPort {
             lane,
             arenas: _,
             batches: _,
             spilled: _,
+            counts: mine,
         } = port;
+        counts.add(&mine);
         let Some(lane) = lane else { unreachable!() };
         back.take(&table, lane);
     }
     let rest = table.close(back);
     let _shape = &rest.about().shape;
-    Closed { rest }
+    Closed { rest, counts }
 }

@@ -1,10 +1,10 @@
 //! A key is taken out of a map, under the lock of its segment.
-ghost use Rattle.std.specs.Prelude.{◌≡◌, ◌<◌, ◌+◌, ◌^◌, ℕ};
+ghost use Rattle.std.specs.Prelude.{◌≡◌, ◌<◌, ◌+◌, ◌^◌};
 ghost use Rattle.bpf_shared.specs.Shape.{elements as elements_of};
 ghost use Rattle.hop_layout.specs.Home.{home_of};
 ghost use Rattle.hop_words.specs.Ghost.{shape_at};
 ghost use Rattle.hop_words.specs.Locking.{lock_of};
-ghost use Rattle.hop_seg.specs.Content.{HasPair};
+ghost use Rattle.hop_seg.specs.Spots.{IsSpot};
 ghost use Rattle.hop_map.specs.Private.LockedSegment.{seen_words as seen};
 ghost use Rattle.hop_map.specs.Private.UnderLock.{LockShows};
 ghost use Rattle.hop_map.specs.Noting.{BusyFirst};
@@ -13,7 +13,7 @@ ghost use Rattle.hop_map.specs.Private.Removals.{NamesKey, Dropped, DeleteEnds, 
 use crate::judging::WORN;
 use crate::locked::LockedWords;
 use bpf_shared::MapAnswer;
-use hop_seg::{find, remove};
+use hop_seg::{Spot, locate, remove_at};
 use hop_words::Lane;
 
 /// What became of a key that was to be taken out.
@@ -26,22 +26,28 @@ pub(crate) enum Deletion {
     Worn,
 }
 
-/// Takes out a key that the segment has, and gives the lock back. Answers the key's element, which
-/// is in hand from now on.
-pub(crate) fn drop_key<'a>(words: LockedWords<'a>, stamp: u64, home: u32, key: &[u8]) -> (Lane, u32)
+/// Takes out a key where it was found, and gives the lock back. Answers the key's element, which is
+/// in hand from now on.
+pub(crate) fn drop_key<'a>(
+    words: LockedWords<'a>,
+    stamp: u64,
+    found: Spot,
+    home: u32,
+    key: &[u8],
+) -> (Lane, u32)
     requires contents { LockShows words.about words.known words.map words.segment }
     requires names { NamesKey words.about words.known words.map words.segment key.now }
     requires home { home ≡ home_of key.now words.about.seed (shape_at words.about words.map).mask }
     requires stamp { stamp ≡ (lock_of words.known).stamp }
     requires fits { stamp + 256 < 2 ^ 64 }
-    requires there { (e : ℕ) × HasPair (seen words) key.now e }
+    requires there { IsSpot (seen words) key.now found }
     ensures table { result.0.table ≡ words.entry.table }
     ensures inside { result.1 < elements_of (shape_at words.entry.about words.entry.map) }
     ensures dropped { Dropped words.entry.about words.entry.known words.entry.map
         key.now result.1 result.0.known }
 {
     let mut words = words;
-    let element = remove(&mut words, key, home);
+    let element = remove_at(&mut words, found, key, home);
     (words.unlock_removed(stamp, key, element), element)
 }
 
@@ -68,13 +74,13 @@ pub(crate) fn delete_key<'a>(
             Deletion::Worn,
         );
     }
-    match find(&mut words, key, home) {
+    match locate(&mut words, key, home) {
         None => (
             words.unlock_delete(stamp, key, MapAnswer::Absent),
             Deletion::Missing,
         ),
-        Some(_there) => {
-            let (lane, element) = drop_key(words, stamp, home, key);
+        Some(found) => {
+            let (lane, element) = drop_key(words, stamp, found, home, key);
             (lane, Deletion::Gone(element))
         }
     }

@@ -23,7 +23,7 @@ use std::collections::BTreeMap;
 type Pairs = BTreeMap<Vec<u8>, Vec<u8>>;
 
 // The sizes of a map.
-fn shape_of(rest: &Rest, map: u8) -> MapShape
+pub(crate) fn shape_of(rest: &Rest, map: u8) -> MapShape
     requires map { map < length rest.now.about.shape.maps }
     ensures shape { result ≡ shape_at rest.now.about map }
     ensures sizes { IsMapShape result }
@@ -199,7 +199,7 @@ fn add_segment(
 
 // Whether a segment is born, by the stamps of those that it comes from: each is another without its
 // top bit.
-fn is_born(rest: &Rest, map: u8, segment: u32) -> bool
+pub(crate) fn is_born(rest: &Rest, map: u8, segment: u32) -> bool
     requires inside { IsSegment rest.now.about map segment }
     ensures born { result ≡ is_born (rest_depths rest.now map) (depth (shape_at rest.now.about map))
         segment }
@@ -239,7 +239,7 @@ fn pairs_of(alloc: Global, rest: &Rest, map: u8) -> Result<Pairs, AllocError>
 }
 
 // How many segments of a map are born.
-fn count_born(rest: &Rest, map: u8) -> u32
+pub(crate) fn count_born(rest: &Rest, map: u8) -> u32
     requires map { map < length rest.now.about.shape.maps }
     ensures counted { result ≡ born_below rest.now map (segments (shape_at rest.now.about map)) }
 {

@@ -7,11 +7,12 @@ ghost use Rattle.hop_words.specs.Ghost.{shape_at};
 ghost use Rattle.hop_words.specs.Kinds.{LookedUp, found_span};
 ghost use Rattle.hop_words.specs.Locking.{lock_of};
 ghost use Rattle.hop_map.specs.Private.UnderLock.{LockShows};
-ghost use Rattle.hop_map.specs.Finding.{AsksForKey, Looked, OnceEnds, TakesLock};
+ghost use Rattle.hop_map.specs.Finding.{AsksForKey, Looked, OnceEnds, TakesLock, LooksAtMost, most_loads};
 ghost use Rattle.hop_map.specs.Private.Finding.{AsksHere, IsHomed, Approaching, Walked};
 ghost use Rattle.hop_map.specs.Noting.{CallNotes};
 ghost use Rattle.hop_words.specs.Depths.{stamp_depth};
 
+use crate::counts::MapCounts;
 use crate::homing::{KeyHome, homing, shape_of};
 use crate::locked::LockedWords;
 use crate::once::Once;
@@ -138,6 +139,9 @@ fn read_segment(
     ensures ends { (l : Known) → AsksForKey table.now.about l map key.now
         → Walked table.now.about l map at.home segment first lane.known
         → OnceEnds table.now.about l map key.now result.1 result.0.known }
+    ensures loads { (l : Known) → AsksForKey table.now.about l map key.now
+        → Walked table.now.about l map at.home segment first lane.known
+        → LooksAtMost (most_loads table.now.about map) l result.0.known }
 {
     let mut words = PeekedWords::new(table, lane, map, segment, at.key_size, at.elements);
     let found = find(&mut words, key, at.home);
@@ -173,6 +177,9 @@ fn find_on_way(
     ensures ends { (l : Known) → AsksForKey table.now.about l map key.now
         → Approaching table.now.about l map at.home way first [] lane.known
         → OnceEnds table.now.about l map key.now result.1 result.0.known }
+    ensures loads { (l : Known) → AsksForKey table.now.about l map key.now
+        → Approaching table.now.about l map at.home way first [] lane.known
+        → LooksAtMost (most_loads table.now.about map) l result.0.known }
 {
     let (lane, segment, stamp) = walk(table, lane, map, at.home, way, first);
     if stamp % 2 == 1 {
@@ -183,12 +190,13 @@ fn find_on_way(
 
 /// Where the key's value lies, by one reading of the key's segment, which takes no lock and writes
 /// no word. Where the segment's stamp was locked or is another by the end, it answers nothing but
-/// that.
+/// that. It loads at most `most_loads` words: each load is noted.
 pub fn find_once(table: &HopTable, lane: Lane, map: u8, key: &[u8]) -> (Lane, Once)
     requires table { lane.table ≡ table.now.id }
     requires asks { AsksForKey table.now.about lane.known map key.now }
     ensures table { result.0.table ≡ table.now.id }
     ensures ends { OnceEnds table.now.about lane.known map key.now result.1 result.0.known }
+    ensures loads { LooksAtMost (most_loads table.now.about map) lane.known result.0.known }
 {
     let mut lane = lane;
     let at = homing(table, map, key);
@@ -205,11 +213,12 @@ pub fn find_once(table: &HopTable, lane: Lane, map: u8, key: &[u8]) -> (Lane, On
 }
 
 /// Where the key's value lies. Up to eight readings take no lock; where each was disturbed, the CPU
-/// waits for the lock.
-pub fn lookup<R: Wait>(
+/// waits for the lock. The counts tell of both.
+pub(crate) fn lookup<R: Wait>(
     rt: &R,
     table: &HopTable,
     lane: Lane,
+    counts: &mut MapCounts,
     map: u8,
     key: &[u8],
 ) -> (Lane, Option<Span>)
@@ -227,8 +236,9 @@ pub fn lookup<R: Wait>(
         match once {
             Once::Found(span) => return (lane, Some(span)),
             Once::Absent => return (lane, None),
-            Once::Disturbed(_, _) => {}
+            Once::Disturbed(_, _) => counts.disturbed(map),
         }
     }
+    counts.locked(map);
     find_locked(rt, table, lane, map, key)
 }

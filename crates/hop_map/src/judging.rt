@@ -8,7 +8,7 @@ ghost use Rattle.hop_map.specs.Private.Updates.{Wants, DecidesUpdate};
 
 use crate::locked::LockedWords;
 use bpf_shared::MapAnswer;
-use hop_seg::find;
+use hop_seg::{Spot, locate};
 
 /// The least stamp of the last version. A segment with this version can't change any more.
 pub(crate) const WORN: u64 = u64::MAX - 255;
@@ -17,8 +17,8 @@ pub(crate) const WORN: u64 = u64::MAX - 255;
 pub(crate) enum Finding {
     /// It is refused.
     Refuses(MapAnswer),
-    /// The key is there, and may be replaced.
-    There,
+    /// The key is there, where the words lead to it so, and may be replaced.
+    There(Spot),
     /// The key isn't there, and may be added.
     Missing,
 }
@@ -45,9 +45,9 @@ pub(crate) fn judge<'a>(
     if stamp >= WORN {
         return Finding::Refuses(MapAnswer::Busy);
     }
-    match find(words, key, home) {
+    match locate(words, key, home) {
         Some(_) if flags == 1 => Finding::Refuses(MapAnswer::Exists),
-        Some(_) => Finding::There,
+        Some(found) => Finding::There(found),
         None if flags == 2 => Finding::Refuses(MapAnswer::Absent),
         None => Finding::Missing,
     }

@@ -86,15 +86,23 @@ impl<'a> SplitWords<'a> {
 impl<'a> SegReads for SplitWords<'a> {
     ghost use Rattle.std.specs.Prelude.{refl, ◌≡◌};
     ghost use Rattle.std.proofs.Common.{◌∙◌, ap};
-    ghost use Rattle.hop_map.specs.Private.LockedSegment.{seen_words as shown_words};
+    ghost use Rattle.hop_map.specs.Private.LockedSegment.{seen_words as shown_words, locked_elements};
 
     ghost agrees = { λ x w. w ≡ shown_words x };
 
     ghost rests = { λ x y. y ≡ x };
 
+    ghost reads = { λ x. 0 };
+
+    ghost key_words = { λ x. 0 };
+
+    ghost count = { locked_elements };
+
     ghost rests_itself = { λ x. refl };
 
     ghost rests_on = { λ x y z p q. q ∙ p };
+
+    ghost rests_alike = { λ x y p. (ap locked_elements p, refl) };
 
     ghost agreed_before = { λ x y w p a. a ∙ ap shown_words p };
 

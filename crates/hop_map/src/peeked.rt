@@ -1,12 +1,12 @@
 //! The words of a segment that is read without its lock.
-ghost use Rattle.std.specs.Prelude.{◌≡◌, ◌<◌, ◌≤◌, ◌↔◌, true, length, IsTrue};
+ghost use Rattle.std.specs.Prelude.{◌≡◌, ◌+◌, ◌<◌, ◌≤◌, ◌↔◌, true, length, IsTrue};
 ghost use Rattle.bpf_shared.specs.Shape.{elements as elements_of};
 ghost use Rattle.hop_layout.specs.Layout.{is_place};
 ghost use Rattle.hop_words.specs.Content.{MapWords, Reached};
 ghost use Rattle.hop_words.specs.Ghost.{shape_at};
 ghost use Rattle.hop_words.specs.Kinds.{FindsByPeeks, StampSeenAgain};
 ghost use Rattle.hop_words.specs.Peeking.{latest_reading, HasReading};
-ghost use Rattle.hop_map.specs.Private.Peeks.{FitsPeeks, peeked, HavePeeks, Spelled, OnlyReads};
+ghost use Rattle.hop_map.specs.Private.Peeks.{FitsPeeks, peeked, HavePeeks, Spelled, OnlyReads, looks_noted, key_words_of};
 
 use crate::numbers::{hop_bits, item};
 use crate::words::{head_place, hop_place, link_place, slot_place};
@@ -95,6 +95,7 @@ impl<'a> PeekedWords<'a> {
         requires there { is_place self.old.about.shape place ≡ true }
         ensures peeked { self.new ≡ peeked self.old place result }
         ensures rests { OnlyReads self.old self.new }
+        ensures looks { looks_noted self.new ≡ looks_noted self.old + 1 }
     {
         self.lane.peek(self.table, place)
     }
@@ -108,6 +109,7 @@ impl<'a> PeekedWords<'a> {
             Reached w self.old.map self.old.segment element →
             IsTrue result ↔ Spelled self.old.about self.old.map w element key.now }
         ensures rests { OnlyReads self.old self.new }
+        ensures looks { looks_noted self.new ≤ looks_noted self.old + key_words_of self.old }
     {
         'words: for word in 0..key.len().div_ceil(8) {
             let place = Place::KeyWord {
@@ -124,16 +126,24 @@ impl<'a> PeekedWords<'a> {
 }
 
 impl<'a> SegReads for PeekedWords<'a> {
-    ghost use Rattle.hop_map.specs.Private.Peeks.{Agreed, OnlyReads};
-    ghost use Rattle.hop_map.specs.Lemmas.Resting.{rested_itself as itself, rested_on as on, agreed_before as before};
+    ghost use Rattle.hop_map.specs.Private.Peeks.{Agreed, OnlyReads, looks_noted, key_words_of, elements_in};
+    ghost use Rattle.hop_map.specs.Lemmas.Resting.{rested_itself as itself, rested_on as on, rested_alike as alike, agreed_before as before};
 
     ghost agrees = { Agreed };
 
     ghost rests = { OnlyReads };
 
+    ghost reads = { looks_noted };
+
+    ghost key_words = { key_words_of };
+
+    ghost count = { elements_in };
+
     ghost rests_itself = { itself };
 
     ghost rests_on = { on };
+
+    ghost rests_alike = { alike };
 
     ghost agreed_before = { λ x y w p a. before x y p w a };
 

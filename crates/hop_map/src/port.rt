@@ -6,10 +6,11 @@ ghost use Rattle.hop_words.specs.Kinds.{run_count};
 ghost use Rattle.hop_map.specs.Call.{IsShortage, IsReclaimed};
 ghost use Rattle.bpf_shared.specs.declared.events.MapAnswer.TheVariants.{Done};
 ghost use Rattle.hop_map.specs.Noting.{CallNotes, LockedLast};
-ghost use Rattle.hop_map.specs.Finding.{OnceEnds};
+ghost use Rattle.hop_map.specs.Finding.{OnceEnds, LooksAtMost, most_loads};
 ghost use Rattle.hop_map.specs.Port.{IsPortOf, PortDoes, runs};
 ghost use Rattle.hop_map.specs.Splitting.{SplitEnds};
 
+use crate::counts::MapCounts;
 use crate::deleting::delete;
 use crate::finding::{find_locked, find_once, lookup};
 use crate::growth::Growth;
@@ -35,6 +36,7 @@ pub struct HopPort {
     // by map
     pub(crate) batches: Vec<Batches>,
     pub(crate) spilled: Option<u32>,
+    pub(crate) counts: MapCounts,
 }
 
 impl Model for HopPort {
@@ -157,7 +159,7 @@ impl HopPort {
 
     /// Where the value of the key lies, by one reading of the key's segment that takes no lock and
     /// writes no word; the CPU holds that value until its run ends. A reading that others disturbed
-    /// answers the two stamps that it saw, and is no event.
+    /// answers the two stamps that it saw, and is no event. It loads at most `most_loads` words.
     pub fn find_once(&mut self, table: &HopTable, map: u8, key: &[u8]) -> Once
         requires fits { IsPortOf table.now self.old }
         requires in_run { runs self.old ≡ true }
@@ -165,6 +167,8 @@ impl HopPort {
         ensures in_run { runs self.new ≡ true }
         ensures table { self.new.table ≡ self.old.table }
         ensures ends { OnceEnds table.now.about self.old.known map key.now result self.new.known }
+        ensures loads { LooksAtMost (most_loads table.now.about map) self.old.known
+            self.new.known }
         ensures fits { IsPortOf table.now self.new }
     {
         let Some(lane) = self.lane.take() else {
@@ -193,7 +197,7 @@ impl HopPort {
         let Some(lane) = self.lane.take() else {
             unreachable!()
         };
-        let (lane, found) = lookup(rt, table, lane, map, key);
+        let (lane, found) = lookup(rt, table, lane, &mut self.counts, map, key);
         self.lane = Some(lane);
         found
     }
@@ -280,6 +284,7 @@ impl HopPort {
         };
         let (lane, growth) = split_segment(rt, table, lane, map, home);
         self.lane = Some(lane);
+        self.counts.split(map, growth);
         growth
     }
 }

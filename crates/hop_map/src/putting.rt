@@ -4,7 +4,8 @@ ghost use Rattle.hop_layout.specs.Home.{home_of};
 ghost use Rattle.hop_words.specs.Ghost.{shape_at};
 ghost use Rattle.hop_words.specs.Kinds.{SawAllTaken};
 ghost use Rattle.hop_words.specs.Locking.{lock_of};
-ghost use Rattle.hop_seg.specs.Content.{HasPair, IsAbsent};
+ghost use Rattle.hop_seg.specs.Content.{IsAbsent};
+ghost use Rattle.hop_seg.specs.Spots.{IsSpot};
 ghost use Rattle.hop_seg.specs.declared.insertion.Landing.TheVariants.{Neighbourhood, OverflowList};
 ghost use Rattle.hop_map.specs.Private.LockedSegment.{seen_words as seen};
 ghost use Rattle.hop_map.specs.Private.Replacing.{IsReplacement};
@@ -16,7 +17,7 @@ use crate::ending::Ending;
 use crate::judging::{Finding, judge};
 use crate::locked::LockedWords;
 use bpf_shared::MapAnswer;
-use hop_seg::{Landing, insert, replace};
+use hop_seg::{Landing, Spot, insert, replace_at};
 use hop_words::Lane;
 use std::sync::Wait;
 
@@ -68,11 +69,13 @@ pub(crate) fn put_new<'a, R: Wait>(
     (words.unlock_written(stamp), Ending::Added(spilled))
 }
 
-/// Puts the element in hand in the place of the one that the key has, and gives the lock back.
+/// Puts the element in hand in the place of the one that the key has, where it was found, and gives
+/// the lock back.
 /// Answers the old element, which is in hand from now on.
 pub(crate) fn put_over<'a>(
     words: LockedWords<'a>,
     stamp: u64,
+    found: Spot,
     element: u32,
     home: u32,
     key: &[u8],
@@ -86,13 +89,13 @@ pub(crate) fn put_over<'a>(
     requires home { home ≡ home_of key.now words.about.seed (shape_at words.about words.map).mask }
     requires stamp { stamp ≡ (lock_of words.known).stamp }
     requires fits { stamp + 256 < 2 ^ 64 }
-    requires there { (e : ℕ) × HasPair (seen words) key.now e }
+    requires there { IsSpot (seen words) key.now found }
     ensures table { result.0.table ≡ words.entry.table }
     ensures over { IsReplacement words.entry.about words.entry.known words.entry.map
         key.now value.now flags result.1 result.0.known }
 {
     let mut words = words;
-    let old = replace(&mut words, key, home, element);
+    let old = replace_at(&mut words, found, key, home, element);
     (words.unlock_replaced(stamp, key, value, flags, old), old)
 }
 
@@ -125,8 +128,8 @@ pub(crate) fn put<'a, R: Wait>(
             words.unlock_update(stamp, key, value, flags, answer),
             Ending::Refused(answer),
         ),
-        Finding::There => {
-            let (lane, old) = put_over(words, stamp, element, home, key, value, flags);
+        Finding::There(found) => {
+            let (lane, old) = put_over(words, stamp, found, element, home, key, value, flags);
             (lane, Ending::Replaced(old))
         }
         Finding::Missing => put_new(rt, words, stamp, element, home, key, value, flags),
@@ -159,7 +162,7 @@ pub(crate) fn refuse<'a>(
             words.unlock_update(stamp, key, value, flags, answer),
             answer,
         ),
-        Finding::There => (
+        Finding::There(_) => (
             words.unlock_update(stamp, key, value, flags, MapAnswer::NoMemory),
             MapAnswer::NoMemory,
         ),

@@ -4,6 +4,7 @@ ghost use Rattle.hop_words.specs.Opens.{new_lane, no_limbos, lanes_from};
 ghost use Rattle.hop_map.specs.Port.{AreArenas, AreBatches, IsPortOf};
 ghost use Rattle.hop_map.specs.Stores.{ArePorts};
 
+use crate::counts::MapCounts;
 use crate::port::HopPort;
 use bpf_shared::{ShapeError, StoreShape};
 use hop_arena::Arena;
@@ -77,6 +78,7 @@ fn new_port(alloc: Global, table: &HopTable, lane: Lane) -> Result<HopPort, Allo
         arenas,
         batches,
         spilled: None,
+        counts: MapCounts::new(),
     })
 }
 

@@ -15,8 +15,8 @@ pub mod splitting;
 pub mod words;
 
 pub use insertion::{Landing, insert};
-pub use removal::{remove, replace};
-pub use search::find;
+pub use removal::{remove, remove_at, replace, replace_at};
+pub use search::{Spot, find, locate};
 pub use splitting::{ChildWords, split};
 pub use words::{SegReads, SegWords};
 

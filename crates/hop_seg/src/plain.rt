@@ -74,7 +74,15 @@ impl SegReads for PlainSegment {
 
     ghost rests_itself = { λ x. refl };
 
+    ghost reads = { λ x. 0 };
+
+    ghost key_words = { λ x. 0 };
+
+    ghost count = { λ x. 256 };
+
     ghost rests_on = { λ x y z p q. q ∙ p };
+
+    ghost rests_alike = { λ x y p. (refl, refl) };
 
     ghost agreed_before = { λ x y w p a. a ∙ ap plain_words p };
 

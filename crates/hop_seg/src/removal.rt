@@ -5,7 +5,7 @@ ghost use Rattle.hop_seg.specs.Words.{IsKnown};
 ghost use Rattle.hop_seg.specs.Segment.{Sound, IsOwn, element_key};
 ghost use Rattle.hop_seg.specs.Content.{HasPair, IsInSegment, Loses, Changes};
 ghost use Rattle.hop_seg.specs.Edits.{with_link, unlinked, relinked, IsLinkKnown};
-ghost use Rattle.hop_seg.specs.Spots.{IsLink};
+ghost use Rattle.hop_seg.specs.Spots.{IsLink, IsSpot};
 
 use crate::held::{next, spot};
 use crate::items::{change_item, take_item};
@@ -24,6 +24,18 @@ pub fn remove<S: SegWords>(words: &mut S, key: &[u8], home: u32) -> u32
     let Some(found) = spot(words, key, home) else {
         unreachable!()
     };
+    remove_at(words, found, key, home)
+}
+
+/// The same where the words were seen to lead to the element so: there is no second search.
+pub fn remove_at<S: SegWords>(words: &mut S, found: Spot, key: &[u8], home: u32) -> u32
+    requires sound { Sound (S.words words.old) }
+    requires home { home ≡ (S.words words.old).fixed.home key.now }
+    requires found { IsSpot (S.words words.old) key.now found }
+    ensures loses { Loses (S.words words.old) (S.words words.new) key.now result }
+    ensures stays { S.stays words.old words.new }
+{
+    let _key = key.len();
     match found {
         Spot::Near { distance, element } => {
             take_item(words, bucket_of(home), distance);
@@ -51,6 +63,21 @@ pub fn replace<S: SegWords>(words: &mut S, key: &[u8], home: u32, new: u32) -> u
     let Some(found) = spot(words, key, home) else {
         unreachable!()
     };
+    replace_at(words, found, key, home, new)
+}
+
+/// The same where the words were seen to lead to the old element so: there is no second search.
+pub fn replace_at<S: SegWords>(words: &mut S, found: Spot, key: &[u8], home: u32, new: u32) -> u32
+    requires sound { Sound (S.words words.old) }
+    requires home { home ≡ (S.words words.old).fixed.home key.now }
+    requires found { IsSpot (S.words words.old) key.now found }
+    requires own { IsOwn (S.words words.old).fixed new }
+    requires keyed { element_key (S.words words.old) new ≡ key.now }
+    requires fresh { IsInSegment (S.words words.old) new → ⊥ }
+    ensures changes { Changes (S.words words.old) (S.words words.new) key.now result new }
+    ensures stays { S.stays words.old words.new }
+{
+    let _key = key.len();
     match found {
         Spot::Near { distance, element } => {
             change_item(words, bucket_of(home), distance, new);

@@ -4,7 +4,7 @@
 //! each answer is true of all sound words that agree with what was read: over words that nobody
 //! else writes these are the words themselves.
 
-ghost use Rattle.std.specs.Prelude.{◌≡◌, ◌<◌, MatchOption};
+ghost use Rattle.std.specs.Prelude.{◌≡◌, ◌<◌, ◌≤◌, ◌+◌, ◌*◌, MatchOption};
 ghost use Rattle.std.specs.Int.{bit_at};
 ghost use Rattle.hop_seg.specs.Words.{Words};
 ghost use Rattle.hop_seg.specs.Segment.{Sound};
@@ -27,22 +27,27 @@ pub enum Spot {
 /// The element of this key, if the segment has it. The home is the key's.
 ///
 /// It reads the places that the home bucket's hop information shows, then the overflow list, up to
-/// as many links as there are elements.
+/// as many links as there are elements: at most two words, and for each of 32 places and each
+/// element one and those of a key.
 pub fn find<S: SegReads>(words: &mut S, key: &[u8], home: u32) -> Option<u32>
     ensures found { (w : Words) → S.agrees words.new w → Sound w → home ≡ w.fixed.home key.now →
         MatchOption result (IsAbsent w key.now) (HasPair w key.now) }
     ensures rests { S.rests words.old words.new }
+    ensures reads { S.reads words.new ≤ S.reads words.old + 2
+        + (32 + S.count words.old) * (1 + S.key_words words.old) }
 {
     match locate(words, key, home)? {
         Spot::Near { element, .. } | Spot::Listed { element, .. } => Some(element),
     }
 }
 
-/// Where the words lead to the element of this key.
-pub(crate) fn locate<S: SegReads>(words: &mut S, key: &[u8], home: u32) -> Option<Spot>
+/// Where the words lead to the element of this key, if the segment has it. The home is the key's.
+pub fn locate<S: SegReads>(words: &mut S, key: &[u8], home: u32) -> Option<Spot>
     ensures found { (w : Words) → S.agrees words.new w → Sound w → home ≡ w.fixed.home key.now →
         MatchOption result (IsAbsent w key.now) (IsSpot w key.now) }
     ensures rests { S.rests words.old words.new }
+    ensures reads { S.reads words.new ≤ S.reads words.old + 2
+        + (32 + S.count words.old) * (1 + S.key_words words.old) }
 {
     if let Some(spot) = locate_near(words, key, bucket_of(home)) {
         return Some(spot);
@@ -56,6 +61,8 @@ fn locate_near<S: SegReads>(words: &mut S, key: &[u8], bucket: usize) -> Option<
     ensures found { (w : Words) → S.agrees words.new w → Sound w → bucket ≡ bucket_for w key.now →
         MatchOption result (NoneNear w bucket key.now) (IsSpot w key.now) }
     ensures rests { S.rests words.old words.new }
+    ensures reads { S.reads words.new
+        ≤ S.reads words.old + 1 + 32 * (1 + S.key_words words.old) }
 {
     let mut left = words.hop(bucket);
     'bits: while left != 0 {
@@ -76,6 +83,7 @@ fn keyed_item<S: SegReads>(words: &mut S, key: &[u8], bucket: usize, distance: u
         bit_at (w.hop bucket) distance ≡ 1 →
         MatchOption result (NoneAt w bucket key.now distance) (IsKeyed w bucket key.now distance) }
     ensures rests { S.rests words.old words.new }
+    ensures reads { S.reads words.new ≤ S.reads words.old + (1 + S.key_words words.old) }
 {
     let element = words.slot(place_at(bucket, distance))?;
     if words.has_key(element, key) {
@@ -91,6 +99,8 @@ fn locate_listed<S: SegReads>(words: &mut S, key: &[u8]) -> Option<Spot>
     ensures found { (w : Words) → S.agrees words.new w → Sound w →
         MatchOption result (NoneListed w key.now) (IsSpot w key.now) }
     ensures rests { S.rests words.old words.new }
+    ensures reads { S.reads words.new
+        ≤ S.reads words.old + 1 + S.count words.old * (1 + S.key_words words.old) }
 {
     let elements = words.elements();
     let mut before = None;

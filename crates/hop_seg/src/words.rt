@@ -1,6 +1,6 @@
 //! The words of a segment, as code reads and writes them.
 
-ghost use Rattle.std.specs.Prelude.{◌≡◌, ◌<◌, ◌≤◌, ◌↔◌, IsTrue};
+ghost use Rattle.std.specs.Prelude.{◌≡◌, ◌<◌, ◌≤◌, ◌+◌, ◌↔◌, ℕ, IsTrue};
 ghost use Rattle.hop_seg.specs.Words.{Words, with_hop, with_slot, with_head, with_next, IsKnown};
 ghost use Rattle.hop_seg.specs.Segment.{element_key};
 
@@ -17,42 +17,61 @@ pub trait SegReads {
     /// Nothing but reads lies between the two.
     ghost rests: { Self → Self → Type 0 };
 
+    /// How many words were read so far: who counts none may say 0.
+    ghost reads: { Self → ℕ };
+
+    /// To compare a key takes at most so many reads.
+    ghost key_words: { Self → ℕ };
+
+    /// Elements have numbers below it.
+    ghost count: { Self → ℕ };
+
     /// Elements have numbers below it.
     fn elements(&self) -> u32
-        ensures { (w : Words) → agrees self.now w → w.fixed.limit ≤ result };
+        ensures limit { (w : Words) → agrees self.now w → w.fixed.limit ≤ result }
+        ensures count { result ≡ count self.now };
 
     /// The hop information of a bucket.
     fn hop(&mut self, bucket: usize) -> u32
         requires { bucket < 64 }
         ensures value { (w : Words) → agrees self.new w → result ≡ w.hop bucket }
-        ensures rests { rests self.old self.new };
+        ensures rests { rests self.old self.new }
+        ensures reads { reads self.new ≤ reads self.old + 1 };
 
     /// The item at a place.
     fn slot(&mut self, place: usize) -> Option<u32>
         requires { place < 64 }
         ensures value { (w : Words) → agrees self.new w → result ≡ w.slot place }
-        ensures rests { rests self.old self.new };
+        ensures rests { rests self.old self.new }
+        ensures reads { reads self.new ≤ reads self.old + 1 };
 
     /// The first element of the overflow list.
     fn head(&mut self) -> Option<u32>
         ensures value { (w : Words) → agrees self.new w → result ≡ w.head }
-        ensures rests { rests self.old self.new };
+        ensures rests { rests self.old self.new }
+        ensures reads { reads self.new ≤ reads self.old + 1 };
 
     /// The element that an element's link leads to.
     fn next(&mut self, element: u32) -> Option<u32>
         ensures value { (w : Words) → agrees self.new w → IsKnown w.fixed element →
             result ≡ w.next element }
-        ensures rests { rests self.old self.new };
+        ensures rests { rests self.old self.new }
+        ensures reads { reads self.new ≤ reads self.old + 1 };
 
     /// Whether this is the element's key.
     fn has_key(&mut self, element: u32, key: &[u8]) -> bool
         ensures value { (w : Words) → agrees self.new w → IsKnown w.fixed element →
             IsTrue result ↔ (element_key w element ≡ key.now) }
-        ensures rests { rests self.old self.new };
+        ensures rests { rests self.old self.new }
+        ensures reads { reads self.new ≤ reads self.old + key_words self.old };
 
     ghost rests_itself: { (x : Self) → rests x x };
 
     ghost rests_on: { (x y z : Self) → rests x y → rests y z → rests x z };
+
+    /// A read changes neither.
+    ghost rests_alike: { (x y : Self) → rests x y →
+        (count y ≡ count x) × (key_words y ≡ key_words x) };
 
     /// What was read earlier is still agreed with.
     ghost agreed_before: { (x y : Self) (w : Words) → rests x y → agrees y w → agrees x w };

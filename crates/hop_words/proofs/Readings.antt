@@ -23,7 +23,7 @@ use Rattle.hop_words.specs.Ghost.{Leaving, Within, Carries, lane, Ghost, shape_a
 use Rattle.hop_words.specs.Rule.{Rule, Segment, Holds, IsSoundReading, Readings, IsPeek, numbered, Runs, Batched, Valued}
 use Rattle.hop_words.specs.Shortage.{HasHadValue}
 use Rattle.hop_words.specs.Private.Step.{Next, Steps}
-use Rattle.hop_words.specs.Kinds.{TakesEffect, noting, peeking, FindsByPeeks, found_span, KnowsBorn, SaysDepth, StampNoted}
+use Rattle.hop_words.specs.Kinds.{TakesEffect, noting, FindsByPeeks, found_span, KnowsBorn, SaysDepth, StampNoted}
 use Rattle.hop_words.proofs.Small.{equal}
 use Rattle.hop_words.proofs.Histories.{logged_event, prefix_refl}
 use Rattle.hop_words.proofs.Shortages.{shown_more}
@@ -165,7 +165,11 @@ is_peek m s w x k (Link n e) = λ h u. sym (k.link e u) ∙ (λ j. w (Link (sym 
 is_peek m s w x k (KeyWord n e i) = λ h u. sym (k.key e i u) ∙ (λ j. w (KeyWord (sym h j) e i))
 is_peek m s w x k (ValueWord n e i) = tt
 
-pub peek : (a : About) (l : Known) (rd : Reading) (p : Place) → l.readings ≡ rd ∷ [] → Steps a l p (λ n. n) (λ ws n l'. l' ≡ peeking l rd p n)
+-- the reading has one word more
+abbrev pub read_more : Known → Reading → Place → ℕ → Known
+read_more l r p n = record l { readings = record r { peeks = record { place = p; number = n } ∷ r.peeks } ∷ [] }
+
+pub peek : (a : About) (l : Known) (rd : Reading) (p : Place) → l.readings ≡ rd ∷ [] → Steps a l p (λ n. n) (λ ws n l'. l' ≡ read_more l rd p n)
 peek a l rd p reading ws g sized r is inside fits =
     let w = mem a.shape ws in
     let q : IsSoundReading a g.depths g.eras rd = (subst (Each (IsSoundReading a g.depths g.eras)) (ap (λ (x : Known). x.readings) is ∙ reading) (r.reading l.cpu)).0 in

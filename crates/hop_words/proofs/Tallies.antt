@@ -15,7 +15,7 @@ use Rattle.hop_layout.specs.Layout.{mem, put_at}
 use Rattle.hop_words.specs.Ghost.{lane, Ghost, HasElement, limbo_at}
 use Rattle.hop_words.specs.Sights.{sight, look, lock_taken, split_made, bit_cleared, bit_set, sighted}
 use Rattle.hop_words.specs.Private.Step.{Noted, Next, Steps, Notes, NotesTaken}
-use Rattle.hop_words.specs.Kinds.{holding, cleared, noting, giving_old, Passed, StampSeen, StampSeenAgain, FindsByPeeks, LocksSegment, SaysDepth, KnowsBorn, Splits, unlocking}
+use Rattle.hop_words.specs.Kinds.{holding, cleared, noting, peeking, giving_old, Passed, StampSeen, StampSeenAgain, FindsByPeeks, LocksSegment, SaysDepth, KnowsBorn, Splits, unlocking}
 use Rattle.hop_words.specs.Locking.{lock_of, HasLock}
 use Rattle.hop_words.specs.Owning.{ClaimsBit, GivesFresh, IsInHand, LooksAgain}
 use Rattle.hop_words.proofs.Small.{equal}
@@ -28,7 +28,7 @@ use Rattle.hop_words.proofs.Hands.{gives}
 use Rattle.hop_words.proofs.Gives.{give_old}
 use Rattle.hop_words.proofs.Publishing.{publish_split}
 use Rattle.hop_words.proofs.Locked.{at_stamp}
-use Rattle.hop_words.proofs.Readings.{AgainSeen, see_stamp, see_again}
+use Rattle.hop_words.proofs.Readings.{AgainSeen, read_more, peek, see_stamp, see_again}
 
 module _ (a : About) (w : Place → ℕ) (g : Ghost) (c : ℕ) (told said : Known → Type 0) (s : Sight) (less : (x : Known) → told x → said (sighted x s)) (left : w s.place ≡ s.left) (n : Next a w g c told) where
   abbrev noted_ghost : Ghost
@@ -126,6 +126,9 @@ sees_stamp a l m s in_m knows = noted_as a l (Stamp m s) (λ n. n) (λ ws n x. T
   where
     Told : ℕ → Known → Type 0
     Told n y = SaysDepth a m s n × (n % 2 ≡ 0 → y ≡ noting l m s n) × (n % 2 ≡ 1 → y ≡ l)
+
+pub peeks : (a : About) (l : Known) (rd : Reading) (p : Place) → l.readings ≡ rd ∷ [] → Notes a l p (λ n. n) (λ ws n l'. l' ≡ peeking l rd p n)
+peeks a l rd p reading = noted_as a l p (λ n. n) (λ ws n x. x ≡ read_more l rd p n) (λ ws n l'. l' ≡ peeking l rd p n) (λ ws n x fits t. ap (λ (y : Known). sighted y (look p n)) t) (peek a l rd p reading)
 
 pub sees_again : (a : About) (l : Known) (rd : Reading) (m s : ℕ) (key : List ℕ) (o : Option ℕ) → rd.map ≡ m → rd.segment ≡ s → FindsByPeeks a l rd key o
     → Notes a l (Stamp m s) (λ n. n) (λ ws n l'. StampSeenAgain a l rd key o n l')

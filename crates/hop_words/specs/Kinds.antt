@@ -124,13 +124,14 @@ pub record StampNoted (a : About) (l : Known) (m s n : ℕ) (l' : Known) : Type 
       → (k.segment ≡ s) × (stamp_depth k.stamp ≡ stamp_depth n)) l.locks
   pub after : l' ≡ noting l m s (n - n % 2)
 
--- peek
+-- peek: the reading has the word, and the look is noted
 abbrev pub peeking : Known → Reading → Place → ℕ → Known
 peeking l r p n = record l {
   readings = record r {
     peeks = record { place = p; number = n }
         ∷ r.peeks;
   } ∷ [];
+  tally = look p n ∷ l.tally;
 }
 
 abbrev pub AllPeeks : MapWords → Reading → Type 0

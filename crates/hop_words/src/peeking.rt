@@ -38,7 +38,7 @@ impl Lane {
         self.load_by::<Brand, _>(table, Place::Stamp { map, segment }, (map, segment))
     }
 
-    /// Any word, which others may be writing. What it was is noted with the reading.
+    /// Any word, which others may be writing. What it was is kept with the reading, and noted.
     #[inline(always)]
     pub fn peek(&mut self, table: &HopTable, place: Place) -> u64
         requires table { self.old.table ≡ table.now.id }
@@ -48,7 +48,7 @@ impl Lane {
         ensures peeked { self.new.known
             ≡ peeking self.old.known (latest_reading self.old.known) place result }
     {
-        self.load_by::<Brand, _>(table, place, ())
+        self.load_noted::<Brand, _>(table, place, ())
     }
 
     /// The segment's stamp again, where all that was read shows what the key leads to. The same

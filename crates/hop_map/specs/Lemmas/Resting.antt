@@ -3,13 +3,15 @@ use Rattle.std.proofs.Common.{◌≡◌, ℕ, List, [], ◌∷◌, ◌++◌, tru
 use Rattle.hop_words.specs.declared.known.Known.{Known}
 use Rattle.hop_words.specs.declared.known.Reading.{Reading}
 use Rattle.hop_words.specs.declared.known.Peek.{Peek}
+use Rattle.hop_words.specs.declared.known.Sight.{Sight}
+use Rattle.hop_words.specs.Sights.{look}
 use Rattle.hop_words.specs.Content.{MapWords, Reached, IsShare}
 use Rattle.hop_words.specs.Ghost.{shape_at, Each}
 use Rattle.hop_words.specs.Rule.{IsPeek}
 use Rattle.hop_words.specs.Peeking.{latest_reading}
 use Rattle.hop_seg.specs.Words.{Words as SegWords}
 use Rattle.hop_map.specs.Private.LockedSegment.{segment_view}
-use Rattle.hop_map.specs.Private.Peeks.{Peeked, HavePeeks, Agreed, OnlyReads}
+use Rattle.hop_map.specs.Private.Peeks.{Peeked, HavePeeks, Agreed, OnlyReads, looks_of, key_words_of, elements_in}
 use Rattle.hop_words.specs.Depths.{stamp_depth, home_by}
 
 pub rested_itself : (x : Peeked) → OnlyReads x x
@@ -21,7 +23,14 @@ rested_itself x = record {
   known = refl;
   more = [];
   reading = refl;
+  noted = refl;
 }
+
+-- looks at more words are more looks
+pub looks_append : (xs ys : List Peek) → looks_of (xs ++ ys) ≡ looks_of xs ++ looks_of ys
+looks_append [] ys = refl
+looks_append (x ∷ xs) ys =
+    ap (λ (ss : List Sight). look x.place x.number ∷ ss) (looks_append xs ys)
 
 pub rested_on : (x y z : Peeked) → OnlyReads x y → OnlyReads y z → OnlyReads x z
 rested_on x y z p q = record {
@@ -29,11 +38,17 @@ rested_on x y z p q = record {
   about = q.about ∙ p.about;
   map = q.map ∙ p.map;
   segment = q.segment ∙ p.segment;
-  known = q.known ∙ ap (λ (l : Known). record l { readings = z.known.readings }) p.known;
+  known = q.known ∙ ap (λ (l : Known). record l {
+    readings = z.known.readings;
+    tally = z.known.tally;
+  }) p.known;
   more = q.more ++ p.more;
   reading = q.reading ∙ (ap (λ (r : Reading). record r { peeks = q.more ++ r.peeks }) p.reading
       ∙ (λ j. record (latest_reading x.known)
       { peeks = sym (append_assoc q.more p.more (latest_reading x.known).peeks) j }));
+  noted = q.noted ∙ (ap (λ (ss : List Sight). looks_of q.more ++ ss) p.noted
+      ∙ (sym (append_assoc (looks_of q.more) (looks_of p.more) x.known.tally)
+      ∙ ap (λ (ss : List Sight). ss ++ x.known.tally) (sym (looks_append q.more p.more))));
 }
 
 each_after : (P : Peek → Type 0) (xs ys : List Peek) → Each P (xs ++ ys) → Each P ys
@@ -52,6 +67,10 @@ module _ (x y : Peeked) (p : OnlyReads x y) where
     map = p.map j;
     segment = p.segment j;
   }
+
+  -- the sizes of the map are the same
+  pub rested_alike : (elements_in y ≡ elements_in x) × (key_words_of y ≡ key_words_of x)
+  rested_alike = (ap elements_in back, ap key_words_of back)
 
   -- what was read later was read too
   pub had_peeks : (w : MapWords) → HavePeeks w y → HavePeeks w x

@@ -5,7 +5,7 @@ use Rattle.bpf_shared.specs.Shape.{elements as elements_of}
 use Rattle.hop_layout.specs.declared.about.About.{About}
 use Rattle.hop_layout.specs.declared.place.Place.TheVariants.{Stamp}
 use Rattle.hop_layout.specs.Home.{home_of}
-use Rattle.hop_layout.specs.Layout.{power}
+use Rattle.hop_layout.specs.Layout.{power, depth}
 use Rattle.hop_words.specs.declared.known.Known.{Known}
 use Rattle.hop_words.specs.declared.known.Sight.{Sight}
 use Rattle.hop_words.specs.declared.walking.Way.{Way}
@@ -54,11 +54,14 @@ pub record Approaching (a : About) (l : Known) (m home : ℕ) (w : Way) (n : ℕ
   pub deep : SaysDepth a m w.segment n
   pub on_way : IsOnWay home w
   pub level : w.level ≤ 10
+  pub few : length way ≤ w.level
+  pub short : length way ≤ depth (shape_at a m)
 
 -- the segment of a home is being read, or one on the way was locked
 pub record Walked (a : About) (l : Known) (m home s n : ℕ) (l' : Known) : Type 0 where
   pub way : List Sight
   pub is_way : IsWay a m home s way
+  pub short : length way ≤ depth (shape_at a m)
   pub inside : IsSegment a m s
   pub free : n % 2 ≡ 0 → (l' ≡ reading_at l m s n way) × (home % power (stamp_depth n) ≡ s)
   pub locked : n % 2 ≡ 1 → l' ≡ record l {

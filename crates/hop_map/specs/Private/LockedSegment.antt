@@ -57,3 +57,7 @@ abbrev pub SpellsKey : About → Known → ℕ → ℕ → List ℕ → Type 0
 SpellsKey a l m e key =
     (j : ℕ) → j < words_for (shape_at a m).key →
     mem a.shape (lock_of l).copy (KeyWord m e j) ≡ word_of key j
+
+-- how many elements the map has
+abbrev pub locked_elements : Locked → ℕ
+locked_elements x = elements (shape_at x.about x.map)

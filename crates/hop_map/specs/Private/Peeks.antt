@@ -1,10 +1,12 @@
 -- What the code of one segment sees of words that others may be writing.
-use Rattle.std.specs.Prelude.{◌≡◌, ℕ, ◌<◌, ◌≤◌, Bool, true, List, ◌++◌, Option}
+use Rattle.std.specs.Prelude.{◌≡◌, ℕ, ◌<◌, ◌≤◌, Bool, true, List, [], ◌∷◌, ◌++◌, Option, length}
 use Rattle.atomic_table.specs.Seated.{TableId}
 use Rattle.bpf_shared.specs.Shape.{elements}
 use Rattle.hop_layout.specs.declared.about.About.{About}
 use Rattle.hop_words.specs.declared.known.Known.{Known}
 use Rattle.hop_words.specs.declared.known.Peek.{Peek}
+use Rattle.hop_words.specs.declared.known.Sight.{Sight}
+use Rattle.hop_words.specs.Sights.{look}
 use Rattle.hop_layout.specs.declared.place.Place.{Place}
 use Rattle.hop_layout.specs.Layout.{words_for}
 use Rattle.hop_layout.specs.Words.{word_of}
@@ -62,13 +64,30 @@ pub record Agreed (x : Peeked) (w : SegWords) : Type 0 where
   pub shown : w ≡ segment_view x.about x.map x.segment
       (stamp_depth (latest_reading x.known).stamp) known words
 
+-- what reads noted, the last first
+abbrev pub looks_of : List Peek → List Sight
+looks_of [] = []
+looks_of (p ∷ ps) = look p.place p.number ∷ looks_of ps
+
 -- nothing but reads lies between the two
 pub record OnlyReads (x y : Peeked) : Type 0 where
   pub table : y.table ≡ x.table
   pub about : y.about ≡ x.about
   pub map : y.map ≡ x.map
   pub segment : y.segment ≡ x.segment
-  pub known : y.known ≡ record x.known { readings = y.known.readings }
+  pub known : y.known ≡ record x.known { readings = y.known.readings; tally = y.known.tally }
   pub more : List Peek
   pub reading : latest_reading y.known
       ≡ record (latest_reading x.known) { peeks = more ++ (latest_reading x.known).peeks }
+  pub noted : y.known.tally ≡ looks_of more ++ x.known.tally
+
+-- how many looks were noted so far
+abbrev pub looks_noted : Peeked → ℕ
+looks_noted x = length x.known.tally
+
+-- how many words a key of the map has, and how many elements the map
+abbrev pub key_words_of : Peeked → ℕ
+key_words_of x = words_for (shape_at x.about x.map).key
+
+abbrev pub elements_in : Peeked → ℕ
+elements_in x = elements (shape_at x.about x.map)

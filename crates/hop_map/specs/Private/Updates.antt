@@ -16,7 +16,8 @@ use Rattle.hop_words.specs.Shortage.{done_in}
 use Rattle.hop_words.specs.Kinds.{has, holding, TakesEffect, Answers}
 use Rattle.bpf_shared.specs.Own.{in_run}
 use Rattle.hop_words.specs.Locking.{lock_of, hand}
-use Rattle.hop_seg.specs.Content.{HasPair, IsAbsent as SegAbsent}
+use Rattle.hop_seg.specs.Content.{IsAbsent as SegAbsent}
+use Rattle.hop_seg.specs.Spots.{IsSpot}
 use Rattle.hop_map.specs.declared.ending.Ending.{Ending}
 use Rattle.hop_map.specs.declared.ending.Ending.TheVariants.{Added, Replaced, Refused}
 use Rattle.hop_map.specs.declared.judging.Finding.{Finding}
@@ -76,9 +77,8 @@ DecidesUpdate x key bytes flags (Refuses r) =
     (r ≢ Done) × (r ≢ NoMemory) × BusyFirst (lock_of x.known).stamp r
     × (Ready x.about x.known x.map x.segment →
     Answers x.about x.known (lock_of x.known) (Update x.map key bytes flags r))
-DecidesUpdate x key bytes flags There =
-    ((lock_of x.known).stamp + 256 < 2 ^ 64) × (flags ≢ 1)
-    × ((e : ℕ) × HasPair (seen_words x) key e)
+DecidesUpdate x key bytes flags (There found) =
+    ((lock_of x.known).stamp + 256 < 2 ^ 64) × (flags ≢ 1) × IsSpot (seen_words x) key found
 DecidesUpdate x key bytes flags Missing =
     ((lock_of x.known).stamp + 256 < 2 ^ 64) × (flags ≢ 2) × SegAbsent (seen_words x) key
 

@@ -1,6 +1,7 @@
 use Rattle.std.proofs.Common.{ap, ◌∙◌, arith}
 use Rattle.hop_words.specs.declared.known.Known.{Known}
 use Rattle.hop_map.proofs.Onces.{disturbed_first, way_of}
+use Rattle.hop_map.proofs.Loads.{loads_stopped}
 use Rattle.hop_map.proofs.finding.find_on_way.Goals as goal
 
 pub walk-lane-requires-clause-begins : goal.walk-lane-requires-clause-begins
@@ -31,3 +32,11 @@ read_segment-requires-clause-begins c =
 
 pub returns-clause-ends : goal.returns-clause-ends
 returns-clause-ends c = λ l asks near. c.read_segment.ensures.ends l asks (c.walk-lane.ensures.walked l near)
+
+pub returns-then-stamp-eq1-clause-loads : goal.returns-then-stamp-eq1-clause-loads
+returns-then-stamp-eq1-clause-loads c = λ l asks near.
+    let w = c.walk-lane in
+    loads_stopped c.args.table.now.about l c.args.map c.args.at.home w.result.1 w.result.2 w.result.0.known (w.ensures.walked l near) c.if-stamp-eq1.true
+
+pub returns-clause-loads : goal.returns-clause-loads
+returns-clause-loads c = λ l asks near. c.read_segment.ensures.loads l asks (c.walk-lane.ensures.walked l near)

@@ -1,5 +1,6 @@
 use Rattle.std.proofs.Common.{arith}
 use Rattle.hop_map.proofs.Onces.{disturbed_first, way_of}
+use Rattle.hop_map.proofs.Loads.{loads_stopped}
 use Rattle.hop_map.proofs.Ways.{first_stopped, first_there, first_near, first_grows}
 use Rattle.hop_map.proofs.finding.find_once.Goals as goal
 
@@ -46,3 +47,15 @@ find_on_way-requires-clause-begins c = (c.args.lane.known, c.requires.asks, firs
 
 pub returns-clause-ends : goal.returns-clause-ends
 returns-clause-ends c = c.find_on_way.ensures.ends c.args.lane.known c.requires.asks (first_near c.args.table.now.about c.args.lane.known c.args.map c.homing-at.result.home c.see_stamp-first.result c.first_way-way.result c.see_stamp-first.new.self.known c.first_way-way.ensures.inside c.first_way-way.ensures.way c.first_way-way.ensures.level c.first_way-way.ensures.few c.see_stamp-first.ensures.seen (let z = c.if-first-eq1.false in omega arith))
+
+pub returns-then-first-from-clause-loads : goal.returns-then-first-from-clause-loads
+returns-then-first-from-clause-loads c = c.read_segment.ensures.loads c.args.lane.known c.requires.asks (first_there c.args.table.now.about c.args.lane.known c.args.map c.homing-at.result.home c.see_stamp-first.result c.first_way-way.result c.see_stamp-first.new.self.known c.first_way-way.ensures.inside c.first_way-way.ensures.way c.first_way-way.ensures.level c.first_way-way.ensures.few c.see_stamp-first.ensures.seen (let z = c.if-first-from.true in let l = c.from.ensures in omega arith) (let z = c.if-first-from.true in let l = c.from.ensures in let f = c.first_way-way.ensures.few in omega arith))
+
+pub returns-clause-loads : goal.returns-clause-loads
+returns-clause-loads c = c.find_on_way.ensures.loads c.args.lane.known c.requires.asks (first_near c.args.table.now.about c.args.lane.known c.args.map c.homing-at.result.home c.see_stamp-first.result c.first_way-way.result c.see_stamp-first.new.self.known c.first_way-way.ensures.inside c.first_way-way.ensures.way c.first_way-way.ensures.level c.first_way-way.ensures.few c.see_stamp-first.ensures.seen (let z = c.if-first-eq1.false in omega arith))
+
+pub returns-then-first-eq1-clause-loads : goal.returns-then-first-eq1-clause-loads
+returns-then-first-eq1-clause-loads c =
+    let odd = c.if-first-eq1.true in
+    loads_stopped c.args.table.now.about c.args.lane.known c.args.map c.homing-at.result.home c.first_way-way.result.segment c.see_stamp-first.result c.see_stamp-first.new.self.known
+    (first_stopped c.args.table.now.about c.args.lane.known c.args.map c.homing-at.result.home c.see_stamp-first.result c.first_way-way.result c.see_stamp-first.new.self.known c.first_way-way.ensures.inside c.first_way-way.ensures.way c.first_way-way.ensures.level c.first_way-way.ensures.few c.see_stamp-first.ensures.seen odd) odd

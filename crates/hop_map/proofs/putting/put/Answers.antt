@@ -2,7 +2,8 @@ use Rattle.std.proofs.Common.{sym, subst}
 use Rattle.bpf_shared.specs.declared.events.Event.TheVariants.{Update}
 use Rattle.hop_words.specs.Kinds.{Answers}
 use Rattle.hop_words.specs.Locking.{lock_of}
-use Rattle.hop_seg.specs.Content.{HasPair, IsAbsent}
+use Rattle.hop_seg.specs.Content.{IsAbsent}
+use Rattle.hop_seg.specs.Spots.{IsSpot}
 use Rattle.hop_map.specs.LockedSegment.{Locked, Ready}
 use Rattle.hop_map.specs.Private.LockedSegment.{seen_words}
 use Rattle.hop_map.proofs.putting.put.Goals as goal
@@ -14,8 +15,7 @@ unlock_update-requires-clause-answers g c =
 
 pub put_over-lane-requires-clause-there : goal.put_over-lane-requires-clause-there
 put_over-lane-requires-clause-there g c =
-    let j = c.in-There.ensures.judges in
-    (j.2.0, subst (λ (z : Locked). HasPair (seen_words z) c.args.key.now j.2.0) (sym c.judge.ensures.same) j.2.1)
+    subst (λ (z : Locked). IsSpot (seen_words z) c.args.key.now c.in-There.found) (sym c.judge.ensures.same) c.in-There.ensures.judges.2
 
 pub put_new-requires-clause-absent : goal.put_new-requires-clause-absent
 put_new-requires-clause-absent g c =

@@ -1,9 +1,9 @@
-use Rattle.std.proofs.Common.{◌≡◌, ℕ, inl, inr, sym, ◌∙◌, subst, arith}
-use Rattle.std.proofs.lemmas.Bool.{cases_eq}
+use Rattle.std.proofs.Common.{◌≡◌, ℕ, ◌+◌, ◌≤◌, inl, inr, sym, ◌∙◌, subst, arith}
+use Rattle.std.proofs.lemmas.Bool.{cases_eq, cases_lt}
 use Rattle.std.specs.Int.{bit_at}
 use Rattle.hop_seg.specs.Words.{without_bit}
 use Rattle.hop_seg.specs.Spots.{NoneAt}
-use Rattle.hop_seg.proofs.Basics.{cleared}
+use Rattle.hop_seg.proofs.Basics.{cleared, one_more, no_more}
 use Rattle.hop_seg.proofs.search.locate_near.Goals as goal
 
 pub bits-smaller : goal.bits-smaller
@@ -33,4 +33,54 @@ bits-preserved g c =
               | inr other ↦ inr other
             ]
           ];
+      reads =
+          let r = c.bits.invariant.reads in
+          let b = 1 + g.S.SegReads.key_words c.args.words.now in
+          let past : r.0 ≤ d = elim (cases_lt d r.0) [
+            | inl early ↦ absurd (let z = r.2 d early in let y = c.nearest-distance.ensures.set in omega arith)
+            | inr late ↦ late
+          ] in
+          let few = no_more r.0 d b past in
+          let more = one_more d b in
+          let same = g.met.S.SegReads.rests_alike _ _ c.bits.invariant.rests in
+          let k = c.keyed_item.ensures.reads in (
+            d + 1,
+            (let z = c.nearest-distance.ensures.in_range in omega arith),
+            (λ j low. elim (cases_eq j d) [
+              | inl e ↦ subst (λ (x : ℕ). bit_at x j ≡ 0) (sym cut) (subst (λ (x : ℕ). bit_at (without_bit c.bits.left d) x ≡ 0) (sym e) gone.1)
+              | inr ne ↦ subst (λ (x : ℕ). bit_at x j ≡ 0) (sym cut) (gone.2 j (let z = c.nearest-distance.ensures.in_range in omega arith) ne ∙ c.nearest-distance.ensures.first j (omega arith))
+            ]),
+            omega (arith, r.3, same.1),
+          );
     }
+
+pub bits-init : goal.bits-init
+bits-init g c = record {
+  rests = c.hop-left.ensures.rests;
+  left = λ w a d small set. subst (λ (x : ℕ). bit_at x d ≡ 1) (c.hop-left.ensures.value w a) set;
+  passed = λ w a s b d e near. inl (subst (λ (x : ℕ). bit_at x d ≡ 1) (sym (c.hop-left.ensures.value w a)) near.bit);
+  reads = (0, omega arith, (λ d low. absurd (omega arith)), (let h = c.hop-left.ensures.reads in omega arith));
+}
+
+pub returns-in-Some-clause-reads : goal.returns-in-Some-clause-reads
+returns-in-Some-clause-reads g c =
+    let r = c.bits.invariant.reads in
+    let d = c.nearest-distance.result in
+    let b = 1 + g.S.SegReads.key_words c.args.words.now in
+    let past : r.0 ≤ d = elim (cases_lt d r.0) [
+      | inl early ↦ absurd (let z = r.2 d early in let y = c.nearest-distance.ensures.set in omega arith)
+      | inr late ↦ late
+    ] in
+    let few = no_more r.0 d b past in
+    let more = one_more d b in
+    let most = no_more (d + 1) 32 b (let z = c.nearest-distance.ensures.in_range in omega arith) in
+    let same = g.met.S.SegReads.rests_alike _ _ c.bits.invariant.rests in
+    let k = c.keyed_item.ensures.reads in
+    omega (arith, r.3, same.1)
+
+pub returns-clause-reads : goal.returns-clause-reads
+returns-clause-reads g c =
+    let r = c.bits.invariant.reads in
+    let b = 1 + g.S.SegReads.key_words c.args.words.now in
+    let most = no_more r.0 32 b r.1 in
+    omega (arith, r.3)

@@ -25,6 +25,7 @@ words-preserved c =
     let on : OnlyReads c.words.self c.read.new.self = rested_as c.words.self c.read.new.self (KeyWord c.self.inside.map c.args.element c.words.word) c.read.result c.read.ensures.peeked in
     record {
       rests = rested_on x c.words.self c.read.new.self c.words.invariant.rests on;
+      looks = let i = c.words.invariant.looks in let r = c.read.ensures.looks in omega arith;
       spelled = λ w all reached j l. ⊎_elim
           (λ (e : j ≡ c.words.word). subst (λ (i : ℕ). w.key x.map c.args.element i ≡ word_of c.args.key.now i) (sym e)
           (spelled_on x c.words.self c.read.new.self c.self.inside.map c.args.element c.words.word c.read.result c.words.invariant.rests c.read.ensures.peeked (ap (λ (x : Peeked). x.map) c.self.view_is) w all reached

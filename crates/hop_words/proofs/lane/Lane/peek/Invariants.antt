@@ -3,5 +3,5 @@ use Rattle.hop_words.specs.Kinds.{peeking}
 use Rattle.hop_words.specs.Peeking.{latest_reading}
 use Rattle.hop_words.proofs.lane.Lane.peek.Given as goal
 
-abbrev pub ghosts-load_by : goal.ghosts-load_by
-ghosts-load_by a = record { told = λ n l. l ≡ peeking a.self.now.known (latest_reading a.self.now.known) a.place n }
+abbrev pub ghosts-load_noted : goal.ghosts-load_noted
+ghosts-load_noted a = record { told = λ n l. l ≡ peeking a.self.now.known (latest_reading a.self.now.known) a.place n }

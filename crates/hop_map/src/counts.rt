@@ -1,0 +1,82 @@
+//! How often ports went rare ways. Nothing rests on these numbers: they are told to whoever sizes a
+//! map, and no contract speaks of them.
+
+use crate::growth::Growth;
+
+/// How often a port did so at one map.
+#[derive(Clone, Copy)]
+pub(crate) struct Counts {
+    /// Segments that it split.
+    pub(crate) splits: u64,
+    /// Readings of its lookups that others disturbed.
+    pub(crate) disturbed: u64,
+    /// Lookups that took the lock.
+    pub(crate) locks: u64,
+}
+
+/// The same by map, of which there are at most 16.
+#[derive(Clone, Copy)]
+pub(crate) struct MapCounts {
+    maps: [Counts; 16],
+}
+
+impl MapCounts {
+    /// None so far.
+    pub(crate) fn new() -> MapCounts {
+        MapCounts {
+            maps: [Counts {
+                splits: 0,
+                disturbed: 0,
+                locks: 0,
+            }; 16],
+        }
+    }
+
+    /// One more disturbed reading.
+    pub(crate) fn disturbed(&mut self, map: u8) {
+        if let Some(counts) = self.maps.get_mut(usize::from(map)) {
+            counts.disturbed = counts.disturbed.wrapping_add(1);
+        }
+    }
+
+    /// One more lookup that takes the lock.
+    pub(crate) fn locked(&mut self, map: u8) {
+        if let Some(counts) = self.maps.get_mut(usize::from(map)) {
+            counts.locks = counts.locks.wrapping_add(1);
+        }
+    }
+
+    /// One more segment that split, if it did.
+    pub(crate) fn split(&mut self, map: u8, growth: Growth) {
+        if growth == Growth::Grown {
+            if let Some(counts) = self.maps.get_mut(usize::from(map)) {
+                counts.splits = counts.splits.wrapping_add(1);
+            }
+        }
+    }
+
+    /// Those of another port, too.
+    pub(crate) fn add(&mut self, others: &MapCounts) {
+        for map in 0..16 {
+            let more = others.maps[map];
+            let counts = self.maps[map];
+            self.maps[map] = Counts {
+                splits: counts.splits.wrapping_add(more.splits),
+                disturbed: counts.disturbed.wrapping_add(more.disturbed),
+                locks: counts.locks.wrapping_add(more.locks),
+            };
+        }
+    }
+
+    /// Those of a map; of no map there are none.
+    pub(crate) fn at(&self, map: u8) -> Counts {
+        match self.maps.get(usize::from(map)) {
+            Some(counts) => *counts,
+            None => Counts {
+                splits: 0,
+                disturbed: 0,
+                locks: 0,
+            },
+        }
+    }
+}
