@@ -2,7 +2,9 @@
 //! them.
 #![tactic(auto)]
 
+mod stats;
 mod telling;
 mod workers;
 
-pub use workers::{WorkError, run_by_workers};
+pub use telling::Counted;
+pub use workers::{WorkError, run_by_workers, run_counted};

@@ -8,12 +8,20 @@ ghost use Rattle.bpf_jobs.specs.Printed.{any_stopped, AreMapsAsked, AreMapLines,
 ghost use Rattle.bpf_sched.specs.Worked.{listed_by};
 ghost use Rattle.hop_map.specs.Dumping.{IsLast};
 ghost use Rattle.bpf_workers.specs.Printed.{as_ended};
+ghost use Rattle.bpf_workers.specs.Stats.{AreStatsAsked};
 
+use crate::stats::asked_stats;
 use bpf_cpu::{Job, Outcome};
 use bpf_jobs::{Report, is_stop, push_job, push_lists, push_map};
 use bpf_shared::KeyList;
 use hop_map::Closed;
 use std::alloc::{AllocError, Global};
+
+/// What is printed of a run file, and beside it what is told of its maps.
+pub struct Counted {
+    pub report: Report,
+    pub stats: String,
+}
 
 /// A line a job, in the order of their list, of jobs that have ended so.
 fn list_jobs(alloc: Global, jobs: &[Job], ends: &[Outcome]) -> Result<String, AllocError>
@@ -107,7 +115,7 @@ fn asked_lines(
 
 /// What is printed of jobs that have ended so, of what so many CPUs have listed, and of what is left
 /// of their store.
-pub(crate) fn tell(
+fn tell(
     alloc: Global,
     jobs: &[Job],
     ends: &[Outcome],
@@ -130,4 +138,29 @@ pub(crate) fn tell(
     text.push_str(lines.as_str())?;
     let stopped = has_stopped(ends);
     Ok(Report { text, stopped })
+}
+
+/// The same, and beside it the lines of the maps' numbers, where they are asked for.
+pub(crate) fn tell_counted(
+    alloc: Global,
+    jobs: &[Job],
+    ends: &[Outcome],
+    lists: &[Vec<KeyList>],
+    cpus: u8,
+    closed: &Closed,
+    names: &[String],
+    maps: bool,
+    stats: bool,
+) -> Result<Counted, AllocError>
+    requires { length ends.now ≡ length jobs.now }
+    ensures told { IfOk result (λ r. (last : Plain) → IsLast closed.now last
+        → TellsWith (list_lines (listed_by lists.now) (map string_bytes names.now) cpus)
+        last (as_ended (map waiting jobs.now) ends.now) (map string_bytes names.now) maps
+        (string_bytes r.report.text) r.report.stopped) }
+    ensures stats { IfOk result (λ r. AreStatsAsked stats closed.now (map string_bytes names.now)
+        (string_bytes r.stats)) }
+{
+    let report = tell(alloc, jobs, ends, lists, cpus, closed, names, maps)?;
+    let stats = asked_stats(alloc, closed, names, stats)?;
+    Ok(Counted { report, stats })
 }

@@ -5,8 +5,9 @@ ghost use Rattle.bpf_file.specs.File.{file_of};
 ghost use Rattle.bpf_file.specs.Runnable.{IsRunnable};
 ghost use Rattle.bpf_sched.specs.Refusing.{AreWorkers};
 ghost use Rattle.bpf_workers.specs.Printed.{IsWorkersReport};
+ghost use Rattle.bpf_workers.specs.Stats.{TellsStats};
 
-use crate::telling::tell;
+use crate::telling::{Counted, tell_counted};
 use bpf_file::RunFile;
 use bpf_jobs::Report;
 use bpf_sched::{NoGate, Refused, SchedError, run_jobs};
@@ -44,6 +45,28 @@ pub fn run_by_workers<R: Threads + Wait + Sync>(
     ensures { IfOk result (λ r. IsWorkersReport (file_of file) keys maps
         (string_bytes r.text) r.stopped) }
 {
+    let Counted { report, stats: _ } = run_counted(rt, alloc, file, workers, keys, maps, false)?;
+    Ok(report)
+}
+
+/// The same, and beside it a line a map of its numbers, where they are asked for: its segments, keys,
+/// keys on overflow lists and free elements, as the store is left; splits, readings that were
+/// disturbed and lookups under a lock, as the ports counted them.
+pub fn run_counted<R: Threads + Wait + Sync>(
+    rt: &R,
+    alloc: Global,
+    file: RunFile,
+    workers: u8,
+    keys: bool,
+    maps: bool,
+    stats: bool,
+) -> Result<Counted, WorkError>
+    requires file { IsRunnable file }
+    requires workers { AreWorkers workers }
+    ensures told { IfOk result (λ r. IsWorkersReport (file_of file) keys maps
+        (string_bytes r.report.text) r.report.stopped) }
+    ensures stats { IfOk result (λ r. TellsStats stats (file_of file) (string_bytes r.stats)) }
+{
     let RunFile {
         shape,
         seed,
@@ -75,7 +98,7 @@ pub fn run_by_workers<R: Threads + Wait + Sync>(
         // There are workers, not too many, and a file's jobs are on its CPUs.
         Err(_) => unreachable!(),
     };
-    match tell(
+    match tell_counted(
         alloc,
         &jobs,
         &done.outcomes,
@@ -84,8 +107,9 @@ pub fn run_by_workers<R: Threads + Wait + Sync>(
         &done.closed,
         &names,
         maps,
+        stats,
     ) {
-        Ok(report) => Ok(report),
+        Ok(counted) => Ok(counted),
         Err(_) => Err(WorkError::OutOfMemory),
     }
 }
