@@ -30,6 +30,7 @@ test: ## The whole gate: every proof, every must-fail edit, every test, then the
 	tests/orders ./ebpf
 	tests/explore ./ebpf
 	tests/check ./ebpf
+	tests/campaign ./ebpf
 	tests/docs ./ebpf
 	tests/docs --self-test ./ebpf
 	tests/completions ./ebpf
@@ -54,13 +55,14 @@ STRESS = maps/fullest-map maps/keys-that-differ-in-the-last-byte maps/sixteen-ma
 soak: build ## Run each file of stress 1,000 times by 16 workers: minutes
 	for file in $(STRESS); do tests/run --times $(SOAK) ./ebpf "$$file.toml, 16 workers" || exit 1; done
 
-bench: build ## Time fixed programs beside other interpreters, map calls beside other maps, also by threads and workers, every schedule beside SPIN, texts of 16 MiB, and the largest run file
+bench: build ## Time fixed programs beside other interpreters, map calls beside other maps, also by threads and workers, every schedule beside SPIN, thousands of files beside xargs, texts of 16 MiB, and the largest run file
 	cd crates/hop_bench && rt run </dev/null
 	bench/run ./ebpf
 	bench/maps ./ebpf
 	bench/threads crates/hop_bench/out/hop_bench
 	bench/workers ./ebpf
 	bench/explore ./ebpf
+	bench/campaign ./ebpf
 	bench/texts ./ebpf
 	bench/largest ./ebpf
 	tests/page ./ebpf speed
