@@ -5,7 +5,7 @@ use crate::asking::{Call, Reply};
 use crate::stores::{a_map, aged_ports, close, new_ports, pop_port, push_port};
 use crate::threads::{Work, close_all, put_zeros, work_by_threads};
 use bpf_shared::{MapAnswer, MapShape};
-use hop_map::Growth;
+use hop_map::{Growth, MapStats};
 use std::alloc::Global;
 use std::sync::Wait;
 use std::test::Fail;
@@ -87,6 +87,27 @@ fn a_split_ends_by_depth_before_version(rt: HostRuntime) -> Result<(), Fail> {
     assert_eq!(rt; split_twice(&rt, alloc, growing(64, 0, 0), last)?, deep);
     let fixed = (Growth::AtDepth, Growth::AtDepth, 2);
     assert_eq!(rt; split_twice(&rt, alloc, a_map(65, 0, 0), 0)?, fixed);
+    Ok(())
+}
+
+// All keys are at home in one bucket: 32 stand in its neighbourhood, the others on the overflow list
+// of the parent, since the child has none of them.
+#[test]
+fn numbers_of_a_map_that_has_grown(rt: HostRuntime) -> Result<(), Fail> {
+    let (table, mut ports) = new_ports(rt.alloc(), 1, growing(100, 8, 0))?;
+    put_zeros(&rt, &table, &mut ports, 90)?;
+    let closed = close(table, ports)?;
+    let stats = MapStats {
+        segments: 2,
+        keys: 90,
+        overflow: 58,
+        free: 18,
+        splits: 1,
+        disturbed: 0,
+        locks: 0,
+    };
+    assert_eq!(rt; closed.stats(0), Some(stats));
+    assert_eq!(rt; closed.stats(1), None);
     Ok(())
 }
 
