@@ -1,5 +1,5 @@
 -- What a recorder notes of a turn that is to be made.
-use Rattle.std.proofs.Common.{◌≡◌, ◌∙◌, ℕ, suc, Bool, true, false, List, [], ◌∷◌, ◌++◌, append_assoc, append-nil, length, get_or, ◌⊎◌, Some, None, map, inl, inr, refl, sym, ap, subst}
+use Rattle.std.proofs.Common.{◌≡◌, ◌∙◌, ℕ, suc, Bool, true, false, List, [], ◌∷◌, ◌++◌, append_assoc, append-nil, length, get_or, ◌⊎◌, ◌<◌, zero, arith, Some, None, map, inl, inr, refl, sym, ap, subst}
 use Rattle.std.specs.Prelude.{slice_get}
 use Rattle.std.proofs.lemmas.Option.{slice_get_read}
 use Rattle.bpf_shared.specs.declared.events.Event.{Event}
@@ -16,9 +16,10 @@ use Rattle.bpf_helpers.specs.Held.{AreHeld}
 use Rattle.bpf_loader.specs.Loaded.{Loaded}
 use Rattle.bpf_cpu.specs.declared.cpu.Cpu.{Cpu}
 use Rattle.bpf_cpu.specs.declared.outcome.Progress.{Progress}
+use Rattle.bpf_cpu.specs.declared.outcome.Progress.TheVariants.{On}
 use Rattle.bpf_cpu.specs.State.{start}
 use Rattle.bpf_cpu.specs.Step.{IsReady, Step}
-use Rattle.bpf_cpu.specs.Task.{Stage, Task, Waiting, InHand}
+use Rattle.bpf_cpu.specs.Task.{Stage, Task, Waiting, InHand, Ended}
 use Rattle.bpf_machine.specs.declared.machine.Turn.{Turn}
 use Rattle.bpf_machine.specs.Hands.{IsAt, IsFree, NoneWaits, NoneWaitsBelow}
 use Rattle.bpf_machine.specs.Happenings.{happening, end_events, HasEvents}
@@ -27,7 +28,7 @@ use Rattle.bpf_machine.specs.Parts.{CanStand}
 use Rattle.bpf_machine.specs.Work.{HasInHand, IsNext}
 use Rattle.bpf_machine.proofs.OwnEvents.{chain_leads, call_leads}
 use Rattle.bpf_events.specs.Private.Recording.{Recording, PassesNoted}
-use Rattle.bpf_events.specs.Private.Watching.{FitsStage, IsWatched, NotesBegin, NotesStage, NotesStep, noted}
+use Rattle.bpf_events.specs.Private.Watching.{CanStepAt, FitsStage, IsQuietAt, IsWatched, NotesBegin, NotesStage, NotesStep, noted}
 
 abbrev serves : Recording → ℕ → Bool
 serves r = has_cpu r.store
@@ -53,6 +54,18 @@ step_noted program old new left m answer x y more own step =
           let Q : List MapShape → Type 0 = λ h. Step h program old step.0 answer new in
           (step.0, (answer, new, r.0, subst Q (sym shows.maps) step.2, r.1), note.1 ∙ ap (λ (es : List Event). x.events ++ es) mine),
     ))
+
+-- a step that no store sees
+pub quiet_noted : (program : Loaded) (stage : Stage) (pc c budget : ℕ) (x y : Recording) → IsQuietAt program stage pc → x.lost ≡ false → y.events ≡ x.events
+    → NotesStage program c stage budget x y pc
+quiet_noted program (Waiting context) pc c budget x y quiet kept same = absurd quiet
+quiet_noted program (Ended outcome) pc c budget x y quiet kept same = absurd quiet
+quiet_noted program (InHand state left) pc c budget x y (at, more, (new, step)) kept same =
+    (at, quiet left more)
+  where
+    quiet : (left : ℕ) → 0 < left → NotesStep program state left x y
+    quiet zero more = absurd (omega arith)
+    quiet (suc n) more = λ fine. (kept, λ s sound shows. ([], (On, new, s, step s.shape.maps, refl), same ∙ sym (append-nil x.events)))
 
 -- ---- the beginning of a run
 pub begin_serves : (state : Cpu) (c : ℕ) (context : List ℕ) (x m : Recording) → state ≡ start c context → serves m ≡ serves x → has_cpu x.store c ≡ true → has_cpu m.store state.number ≡ true
@@ -189,3 +202,25 @@ kept_watched m c j pc task program x y stage budget stands work listed loaded st
     let P : Stage → Type 0 = λ s. NotesStage program c s budget x y pc in
     let Q : ℕ → Type 0 = λ n. NotesStage program c task.stage n x y pc in
     stage_watched m c j pc task program x y work listed loaded store fresh kept (stage_fits m c j task program x stands work listed loaded store) (subst Q all (subst P is notes))
+
+-- a job in hand can make a step
+can_step : (program : Loaded) (c : ℕ) (x : Recording) (stage : Stage) → FitsStage program c stage x → CanStepAt program stage
+can_step program c x (Waiting context) fits = tt
+can_step program c x (InHand state left) fits = fits.1
+can_step program c x (Ended outcome) fits = tt
+
+-- the store's contents with no notes
+abbrev pub unnoted : Contents → ℕ → Recording
+unnoted s c = record { store = s; cpu = c; events = []; lost = false }
+
+pub kept_steps : (m : MachineState) (c j : ℕ) (task : Task) (program : Loaded) (stage : Stage) → CanStand m → HasInHand m.jobs c j ⊎ IsNext m.jobs c j
+    → slice_get m.jobs j ≡ Some task → slice_get m.programs task.program ≡ Some program → stage ≡ task.stage → CanStepAt program stage
+kept_steps m c j task program stage stands work listed loaded is =
+    can_step program c (unnoted m.store c) stage (kept_fits m c j task program (unnoted m.store c) stage stands work listed loaded refl is)
+
+pub quiet_watched : (m : MachineState) (c j pc : ℕ) (task : Task) (program : Loaded) (y : Recording) (stage : Stage) → CanStand m → HasInHand m.jobs c j ⊎ IsNext m.jobs c j
+    → slice_get m.jobs j ≡ Some task → slice_get m.programs task.program ≡ Some program → y.events ≡ [] → y.lost ≡ false → stage ≡ task.stage
+    → IsQuietAt program stage pc → IsWatched m c (Some (j, pc)) y.events
+quiet_watched m c j pc task program y stage stands work listed loaded none kept is quiet =
+    let x = unnoted m.store c in
+    kept_watched m c j pc task program x y stage task.budget stands work listed loaded refl refl kept is refl (quiet_noted program stage pc c task.budget x y quiet refl none)

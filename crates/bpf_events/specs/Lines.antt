@@ -1,6 +1,6 @@
 -- How a history is printed: a line an event. Our own choice.
-use Rattle.std.specs.Prelude.{ℕ, ◌++◌, List, [], ◌∷◌, Option, Some, None, codes, length, slice_index_or}
-use Rattle.std.specs.Fmt.{decimal}
+use Rattle.std.specs.Prelude.{ℕ, false, ◌++◌, List, [], ◌∷◌, Option, Some, None, codes, length, slice_index_or}
+use Rattle.std.specs.Fmt.{decimal, digits}
 use Rattle.hex.specs.Hex.{encode_lower}
 use Rattle.bpf_base.specs.declared.atomic.Change.{Change}
 use Rattle.bpf_base.specs.declared.atomic.Change.TheVariants as change
@@ -18,10 +18,14 @@ use Rattle.bpf_machine.specs.Happenings.{Happening}
 abbrev pub name_of : List (List ℕ) → ℕ → List ℕ
 name_of names m = slice_index_or names m []
 
+-- an address, in hex
+abbrev pub address_text : ℕ → List ℕ
+address_text at = codes "0x" ++ digits 16 false at
+
 -- where a value lies
 abbrev pub place_text : Option Span → List ℕ
 place_text None = codes "none"
-place_text (Some span) = decimal span.at
+place_text (Some span) = address_text span.at
 
 -- the answer to an update or a deletion
 abbrev pub answer_text : MapAnswer → List ℕ
@@ -49,7 +53,7 @@ size_text size.Double = codes "8"
 
 -- so many bytes, from an address on
 abbrev pub bytes_text : ℕ → Size → List ℕ
-bytes_text at size = size_text size ++ codes " at " ++ decimal at
+bytes_text at size = size_text size ++ (codes " at " ++ address_text at)
 
 -- the operand, and where an exchange looks at it the number that is expected
 abbrev pub operand_text : Change → ℕ → ℕ → List ℕ

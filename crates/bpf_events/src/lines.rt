@@ -25,7 +25,7 @@ fn place_text(alloc: Global, place: Option<Span>) -> Result<String, AllocError>
     ensures { IfOk result (λ text. string_bytes text ≡ place_text place) }
 {
     match place {
-        Some(span) => format!(in alloc; "{}", span.at),
+        Some(span) => format!(in alloc; "0x{:x}", span.at),
         None => format!(in alloc; "none"),
     }
 }
@@ -81,7 +81,7 @@ fn push_both(text: &mut String, word: &str, rest: &str) -> Result<(), AllocError
 fn push_bytes(alloc: Global, text: &mut String, at: u64, size: Size) -> Result<(), AllocError>
     ensures { OnOk result (string_bytes text.new ≡ string_bytes text.old ++ bytes_text at size) }
 {
-    let place = format!(in alloc; " at {at}")?;
+    let place = format!(in alloc; " at 0x{at:x}")?;
     push_both(text, size_text(size), place.as_str())
 }
 

@@ -49,6 +49,14 @@ impl Recorder {
         }
     }
 
+    /// Forgets its notes.
+    pub(crate) fn forget(&mut self)
+        ensures { self.new ≡ record self.old { events = []; lost = false } }
+    {
+        self.notes.clear();
+        self.lost = false;
+    }
+
     /// Forgets its notes, and notes the calls of this CPU over a store with these contents.
     pub(crate) fn restart(&mut self, store: &PlainStore, cpu: u8)
         requires { IsSameShape store.now self.old.store }

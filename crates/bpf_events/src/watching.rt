@@ -1,13 +1,13 @@
 //! What a turn does at the store, noted before the turn is made.
 
-ghost use Rattle.std.specs.Prelude.{◌≡◌, ◌<◌, ◌≤◌, true, false, IfOk, length, slice_get};
+ghost use Rattle.std.specs.Prelude.{◌≡◌, ◌<◌, ◌≤◌, true, false, IfNone, IfOk, IfSome, length, slice_get};
 ghost use Rattle.bpf_mem.specs.Limits.{max_context};
 ghost use Rattle.bpf_plain.specs.Alike.{IsSameShape};
 ghost use Rattle.bpf_plain.specs.PlainStore.{has_cpu, held_spans, is_running};
 ghost use Rattle.bpf_helpers.specs.Held.{AreHeld};
 ghost use Rattle.bpf_cpu.specs.Step.{IsReady};
 ghost use Rattle.bpf_machine.specs.Kept.{kept_stage};
-ghost use Rattle.bpf_events.specs.Private.Watching.{FitsStage, IsWatched, NotesBegin, NotesStage, NotesStep};
+ghost use Rattle.bpf_events.specs.Private.Watching.{CanStepAt, FitsStage, IsQuietAt, IsWatched, NotesBegin, NotesStage, NotesStep};
 
 use crate::recorder::Recorder;
 use bpf_cpu::Cpu;
@@ -79,8 +79,28 @@ fn note_stage(
     }
 }
 
+/// Makes the next step of a job in hand, where no store sees it. The pc at which the CPU stood.
+fn make_quiet_step(program: &Program, stage: &mut KeptStage) -> Option<u32>
+    requires { CanStepAt program.now (kept_stage stage.old) }
+    ensures quiet { IfSome result (IsQuietAt program.now (kept_stage stage.old)) }
+    ensures same { IfNone result (kept_stage stage.new ≡ kept_stage stage.old) }
+{
+    let KeptStage::InHand(state, left) = stage else {
+        return None;
+    };
+    if *left == 0 {
+        return None;
+    }
+    let pc = state.pc;
+    if state.make_quiet_steps(program, 1) == 0 {
+        return None;
+    }
+    Some(pc)
+}
+
 /// Notes what a CPU's next turn does at the store, but for the end of its job. The job, and the pc
-/// at which the CPU stands; `None` of a CPU without work.
+/// at which the CPU stands; `None` of a CPU without work. The store is copied only for steps that it
+/// sees.
 pub(crate) fn watch(
     alloc: Global,
     machine: &Machine,
@@ -92,14 +112,19 @@ pub(crate) fn watch(
     ensures shape { IsSameShape machine.now.store recorder.new.store }
 {
     machine.stands();
-    recorder.restart(machine.store(), cpu);
+    recorder.forget();
     let Some(job) = machine.job(cpu) else {
         return Ok(None);
     };
     let kept = machine.kept_job(alloc, job)?;
     let program = &machine.programs()[kept.program()];
     let budget = kept.budget();
-    let pc = note_stage(recorder, program, cpu, kept.into_stage(), budget);
+    let mut stage = kept.into_stage();
+    if let Some(pc) = make_quiet_step(program, &mut stage) {
+        return Ok(Some((job, pc)));
+    }
+    recorder.restart(machine.store(), cpu);
+    let pc = note_stage(recorder, program, cpu, stage, budget);
     if recorder.is_lost() {
         return Err(AllocError);
     }

@@ -1,8 +1,9 @@
 -- What a recorder notes of a turn before it is made.
-use Rattle.std.specs.Prelude.{◌≡◌, ℕ, ◌≤◌, true, false, List, [], ◌∷◌, ◌++◌, Option, Some, None, length, map}
+use Rattle.std.specs.Prelude.{◌≡◌, ℕ, ◌<◌, ◌≤◌, true, false, List, [], ◌∷◌, ◌++◌, Option, Some, None, length, map}
 use Rattle.bpf_mem.specs.Limits.{max_context}
 use Rattle.bpf_shared.specs.declared.events.Event.{Event}
 use Rattle.bpf_shared.specs.declared.events.Event.TheVariants.{Begin}
+use Rattle.bpf_shared.specs.declared.shapes.MapShape.{MapShape}
 use Rattle.bpf_shared.specs.Store.{Plain}
 use Rattle.bpf_shared.specs.Sound.{IsSoundStore}
 use Rattle.bpf_shared.specs.Choice.{PlainlyAllowed}
@@ -11,7 +12,8 @@ use Rattle.bpf_helpers.specs.Held.{AreHeld}
 use Rattle.bpf_loader.specs.Loaded.{Loaded}
 use Rattle.bpf_cpu.specs.declared.cpu.Cpu.{Cpu}
 use Rattle.bpf_cpu.specs.State.{start}
-use Rattle.bpf_cpu.specs.Step.{IsReady}
+use Rattle.bpf_cpu.specs.declared.outcome.Progress.TheVariants.{On}
+use Rattle.bpf_cpu.specs.Step.{IsReady, Step}
 use Rattle.bpf_cpu.specs.Task.{Stage, Waiting, InHand, Ended}
 use Rattle.bpf_machine.specs.declared.machine.Turn.{Turn}
 use Rattle.bpf_machine.specs.Happenings.{Happening, happening, end_events, HasEvents, Happens}
@@ -47,6 +49,19 @@ FitsStage program c (Waiting context) x =
 FitsStage program c (InHand state left) x = (state.number ≡ c) × IsReady program state
     × AreHeld (held_spans x.store c) state.held × (is_running x.store c ≡ true)
 FitsStage program c (Ended outcome) x = ⊥
+
+-- a job in hand can make a step
+abbrev pub CanStepAt : Loaded → Stage → Type 0
+CanStepAt program (Waiting context) = Unit {0}
+CanStepAt program (InHand state left) = IsReady program state
+CanStepAt program (Ended outcome) = Unit {0}
+
+-- a job in hand makes a step from this pc that no store sees
+abbrev pub IsQuietAt : Loaded → Stage → ℕ → Type 0
+IsQuietAt program (Waiting context) pc = ⊥
+IsQuietAt program (InHand state left) pc = (pc ≡ state.pc) × (0 < left)
+    × ((new : Cpu) × ((shapes : List MapShape) → Step shapes program state [] On new))
+IsQuietAt program (Ended outcome) pc = ⊥
 
 -- what happens in a turn that comes to this, where these events were noted of a job at a pc
 abbrev pub noted : ℕ → Option (ℕ × ℕ) → List Event → Turn → List Happening
