@@ -1,2 +1,3 @@
 mod TestLines
 mod Verdicts
+mod SingleRuns

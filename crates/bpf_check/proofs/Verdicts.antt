@@ -4,12 +4,13 @@ use Rattle.std.specs.Prelude.{slice_get}
 use Rattle.std.specs.List.{position, position_from}
 use Rattle.std.proofs.lemmas.Iterator.Adapters.{position_from-zero}
 use Rattle.bpf_machine.specs.Schedule.{World, unrolled}
-use Rattle.bpf_explore.specs.Outcomes.{Found, AreOutcomes, HaveAll, IsTold, IsOutcome}
+use Rattle.bpf_explore.specs.Outcomes.{EndsBy, Found}
+use Rattle.bpf_explore.specs.Patient.{EndsPatiently}
 use Rattle.bpf_check.specs.declared.expectation.Often.{Often}
 use Rattle.bpf_check.specs.declared.expectation.Often.TheVariants as often
 use Rattle.bpf_check.specs.Expectation.{Expected, has_line}
-use Rattle.bpf_check.specs.Laws.{VerdictsAreTrue}
-use Rattle.bpf_check.specs.Verdict.{IsMet, IsOutcomeText, IsTrueVerdict, decides, decides_by, verdict_at}
+use Rattle.bpf_check.specs.Laws.{PatientVerdictsAreTrue, VerdictsAreTrue}
+use Rattle.bpf_check.specs.Verdict.{IsOutcomeText, IsPatientText, IsTrueOf, decides, decides_by, verdict_at}
 
 -- ---- the first element that passes a test
 module _ {X : Type 0} (test : X → Bool) where
@@ -59,42 +60,57 @@ lie : (b : Bool) → b ≡ true → not b ≡ true → ⊥
 lie true has lacks = cc
 lie false has lacks = cc
 
-module _ (w : World) (names : List (List ℕ)) (answers : List Found) (line : List ℕ) where
+-- answers show texts, each by its own schedule
+module _ (IsText : List ℕ → Type 0) (IsAnswer : Found → Type 0) (answers : List Found) (line : List ℕ)
+    (tells : (found : Found) → IsAnswer found → IsText found.text)
+    (each : (i : ℕ) (found : Found) → slice_get answers i ≡ Some found → IsAnswer found) where
   abbrev told : Often → Found → Bool
   told o found = decides_by o (has_line line found.text)
 
   abbrev expects : Often → Expected
   expects o = record { often = o; line = line }
 
-  is_outcome : (i : ℕ) (found : Found) → AreOutcomes w names true answers → slice_get answers i ≡ Some found → IsOutcomeText w names found.text
-  is_outcome i found are at = (found.stopped, (unrolled found.by, are.each i found at))
+  is_text : (i : ℕ) (found : Found) → slice_get answers i ≡ Some found → IsText found.text
+  is_text i found at = tells found (each i found at)
 
-  -- of an outcome's text holds what holds of each answer's
-  for_each : (P : List ℕ → Type 0) → HaveAll w names true answers → ((i : ℕ) (found : Found) → slice_get answers i ≡ Some found → P found.text)
-      → (text : List ℕ) → IsOutcomeText w names text → P text
-  for_each P have each text is = let there = have text is.0 is.1 in subst P there.3 (each there.0 there.1 there.2)
+  -- none is left out
+  abbrev AreAll : Type 0
+  AreAll = (text : List ℕ) → IsText text → (i : ℕ) × (found : Found) × (slice_get answers i ≡ Some found) × (found.text ≡ text)
 
-  decided : (o : Often) (all : Bool) (place : Option ℕ) → AreOutcomes w names true answers → (all ≡ true → HaveAll w names true answers)
-      → Finds (told o) answers place → IsTrueVerdict w names answers all (expects o) (verdict_at o place all)
-  decided often.Always all (Some i) are have found = (
-    (λ met. let has = met found.0.text (is_outcome i found.0 are found.1) in lie _ has found.2),
-    (found.0, found.1, are.each i found.0 found.1, found.2),
+  -- of each text holds what holds of each answer's
+  for_each : (P : List ℕ → Type 0) → AreAll → ((i : ℕ) (found : Found) → slice_get answers i ≡ Some found → P found.text)
+      → (text : List ℕ) → IsText text → P text
+  for_each P have here text is = let there = have text is in subst P there.3 (here there.0 there.1 there.2)
+
+  decided : (o : Often) (all : Bool) (place : Option ℕ) → (all ≡ true → AreAll)
+      → Finds (told o) answers place → IsTrueOf IsText IsAnswer answers all (expects o) (verdict_at o place all)
+  decided often.Always all (Some i) have found = (
+    (λ met. let has = met found.0.text (is_text i found.0 found.1) in lie _ has found.2),
+    (found.0, found.1, each i found.0 found.1, found.2),
   )
-  decided often.Always true None are have none =
+  decided often.Always true None have none =
       λ text is. for_each (λ t. has_line line t ≡ true) (have refl) (λ i found at. has_it _ (none i found at)) text is
-  decided often.Always false None are have none = refl
-  decided often.Sometimes all (Some i) are have found = (found.0.text, is_outcome i found.0 are found.1, found.2)
-  decided often.Sometimes true None are have none =
+  decided often.Always false None have none = refl
+  decided often.Sometimes all (Some i) have found = (found.0.text, is_text i found.0 found.1, found.2)
+  decided often.Sometimes true None have none =
       λ met. let lacks = for_each (λ t. has_line line t ≡ false) (have refl) none met.0 met.1 in let has = met.2 in cc
-  decided often.Sometimes false None are have none = refl
-  decided often.Never all (Some i) are have found = (
-    (λ met. let lacks = met found.0.text (is_outcome i found.0 are found.1) in let has = found.2 in cc),
-    (found.0, found.1, are.each i found.0 found.1, found.2),
+  decided often.Sometimes false None have none = refl
+  decided often.Never all (Some i) have found = (
+    (λ met. let lacks = met found.0.text (is_text i found.0 found.1) in let has = found.2 in cc),
+    (found.0, found.1, each i found.0 found.1, found.2),
   )
-  decided often.Never true None are have none =
+  decided often.Never true None have none =
       λ text is. for_each (λ t. has_line line t ≡ false) (have refl) none text is
-  decided often.Never false None are have none = refl
+  decided often.Never false None have none = refl
 
 pub verdicts_true : VerdictsAreTrue
 verdicts_true w names answers all e are have =
-    decided w names answers e.line e.often all _ are have (finds (λ found. decides e found.text) answers)
+    decided (IsOutcomeText w names) (EndsBy w names true) answers e.line (λ found ends. (found.stopped, (unrolled found.by, ends))) are.each
+    e.often all _ (λ whole text is. let there = have whole text is.0 is.1 in (there.0, there.1, there.2, there.3))
+    (finds (λ found. decides e found.text) answers)
+
+pub patient_verdicts_true : PatientVerdictsAreTrue
+patient_verdicts_true w names answers all e are have =
+    decided (IsPatientText w names) (EndsPatiently w names true) answers e.line (λ found ends. (found.stopped, (unrolled found.by, ends.0, ends.1, ends.2, ends.3, ends.4))) are.each
+    e.often all _ (λ whole text is. let there = have whole text is.0 is.1 in (there.0, there.1, there.2, there.3))
+    (finds (λ found. decides e found.text) answers)

@@ -2,3 +2,4 @@ pub mod Expectation
 pub mod Verdict
 pub mod Laws
 pub mod Listing
+pub mod Single

@@ -3,6 +3,7 @@ use Rattle.std.specs.Prelude.{◌≡◌, ℕ, Bool, true, false, not, List, Opti
 use Rattle.std.specs.List.{list_any, position}
 use Rattle.bpf_machine.specs.Schedule.{World}
 use Rattle.bpf_explore.specs.Outcomes.{Found, EndsBy, IsOutcome}
+use Rattle.bpf_explore.specs.Patient.{EndsPatiently, IsPatientOutcome}
 use Rattle.bpf_check.specs.declared.expectation.Often.{Often}
 use Rattle.bpf_check.specs.declared.expectation.Often.TheVariants as often
 use Rattle.bpf_check.specs.declared.judging.Verdict.{Verdict}
@@ -83,14 +84,29 @@ conclusion_of verdicts = concluded (list_any is_refused verdicts) (list_any is_u
 
 -- ---- verdicts are true
 
--- the answer at this place is an outcome by its own schedule, which decides
-abbrev pub IsShownAt : World → List (List ℕ) → List Found → Expected → ℕ → Type 0
-IsShownAt w names answers e i = (found : Found) × (slice_get answers i ≡ Some found)
-    × EndsBy w names true found × (decides e found.text ≡ true)
+-- the answer at this place is one by its own schedule, and decides
+abbrev pub IsShownAt : (IsAnswer : Found → Type 0) → List Found → Expected → ℕ → Type 0
+IsShownAt IsAnswer answers e i = (found : Found) × (slice_get answers i ≡ Some found)
+    × IsAnswer found × (decides e found.text ≡ true)
 
+-- what a verdict says of texts, of which answers by their schedules show some
+abbrev pub IsTrueOf : (IsText : List ℕ → Type 0) → (IsAnswer : Found → Type 0) → List Found → Bool
+    → Expected → Verdict → Type 0
+IsTrueOf IsText IsAnswer answers all e verdict.Holds = Meet IsText e
+IsTrueOf IsText IsAnswer answers all e (verdict.Shown i) =
+    (Meet IsText e → ⊥) × IsShownAt IsAnswer answers e i
+IsTrueOf IsText IsAnswer answers all e verdict.Refuted = Meet IsText e → ⊥
+IsTrueOf IsText IsAnswer answers all e verdict.Untold = all ≡ false
+
+-- of all schedules
 abbrev pub IsTrueVerdict : World → List (List ℕ) → List Found → Bool → Expected → Verdict → Type 0
-IsTrueVerdict w names answers all e verdict.Holds = IsMet w names e
-IsTrueVerdict w names answers all e (verdict.Shown i) =
-    (IsMet w names e → ⊥) × IsShownAt w names answers e i
-IsTrueVerdict w names answers all e verdict.Refuted = IsMet w names e → ⊥
-IsTrueVerdict w names answers all e verdict.Untold = all ≡ false
+IsTrueVerdict w names answers all e v =
+    IsTrueOf (IsOutcomeText w names) (EndsBy w names true) answers all e v
+
+-- of those in which no job is out of budget
+abbrev pub IsPatientText : World → List (List ℕ) → List ℕ → Type 0
+IsPatientText w names text = (stopped : Bool) × IsPatientOutcome w names true text stopped
+
+abbrev pub IsTruePatiently : World → List (List ℕ) → List Found → Bool → Expected → Verdict → Type 0
+IsTruePatiently w names answers all e v =
+    IsTrueOf (IsPatientText w names) (EndsPatiently w names true) answers all e v

@@ -1,9 +1,20 @@
 //! What follows from the definitions.
 //!
-//! The function does nothing: its contract is the law.
-ghost use Rattle.bpf_check.specs.Laws.{VerdictsAreTrue};
+//! The functions do nothing: their contracts are the laws.
+ghost use Rattle.bpf_check.specs.Laws.{PatientVerdictsAreTrue, VerdictsAreTrue};
+ghost use Rattle.bpf_check.specs.Single.{RunsAreJudged};
 
 /// Each verdict by answers that are outcomes is true.
 pub fn verdicts_are_true()
     ensures { VerdictsAreTrue }
+{}
+
+/// So is each by answers of a patient search.
+pub fn patient_verdicts_are_true()
+    ensures { PatientVerdictsAreTrue }
+{}
+
+/// What is said of one run is true of it.
+pub fn runs_are_judged()
+    ensures { RunsAreJudged }
 {}

@@ -7,8 +7,10 @@ mod judging;
 pub mod laws;
 mod lines;
 mod listing;
+mod single;
 
 pub use checking::{Checked, check_explored};
 pub use expectation::{Expectation, Often, expectations};
 pub use judging::{Conclusion, Verdict, conclusion_of, judge};
 pub use listing::list_checked;
+pub use single::{Judged, check_printed};

@@ -37,7 +37,7 @@ fn push_line(text: &mut String, line: &[u8]) -> Result<(), AllocError>
 }
 
 /// Puts an expectation behind the text.
-fn push_expected(text: &mut String, expectation: &Expectation) -> Result<(), AllocError>
+pub(crate) fn push_expected(text: &mut String, expectation: &Expectation) -> Result<(), AllocError>
     ensures { OnOk result (string_bytes text.new
         ≡ string_bytes text.old ++ expected_text expectation.now) }
 {
@@ -57,7 +57,7 @@ fn ok_text(verdict: Verdict) -> &'static str
 }
 
 /// Puts the number of a test behind the text.
-fn push_number(alloc: Global, text: &mut String, number: usize) -> Result<(), AllocError>
+pub(crate) fn push_number(alloc: Global, text: &mut String, number: usize) -> Result<(), AllocError>
     ensures { OnOk result (string_bytes text.new ≡ string_bytes text.old ++ number_text number) }
 {
     let number = format!(in alloc; "{number} - ")?;
@@ -115,7 +115,7 @@ fn push_test(
 }
 
 /// The line that says how many tests there are.
-fn plan(alloc: Global, count: usize) -> Result<String, AllocError>
+pub(crate) fn plan(alloc: Global, count: usize) -> Result<String, AllocError>
     ensures { IfOk result (λ text. string_bytes text ≡ plan_text count) }
 {
     format!(in alloc; "1..{count}\n")

@@ -1,0 +1,75 @@
+-- What a run file expects, against what one run of its jobs prints. Our own choice.
+use Rattle.std.specs.Prelude.{◌≡◌, ℕ, zero, suc, ◌+◌, Bool, true, false, not, ◌++◌, List, [], codes, if◌then◌else◌, length, slice_index_or}
+use Rattle.std.specs.List.{list_any}
+use Rattle.bpf_machine.specs.Schedule.{World}
+use Rattle.bpf_check.specs.declared.expectation.Often.{Often}
+use Rattle.bpf_check.specs.declared.expectation.Often.TheVariants as often
+use Rattle.bpf_check.specs.Expectation.{Expected, has_line}
+use Rattle.bpf_check.specs.Listing.{expected_text, no_expectation, number_text, plan_text}
+use Rattle.bpf_check.specs.Verdict.{IsMet, IsOutcomeText, Meet}
+
+-- ---- the one text
+
+-- it shows that outcomes aren't as expected: the line isn't there, or one is that none is to have
+abbrev pub is_refuted_by : Often → Bool → Bool
+is_refuted_by often.Always has = not has
+is_refuted_by often.Sometimes has = false
+is_refuted_by often.Never has = has
+
+abbrev pub is_refuted : List ℕ → Expected → Bool
+is_refuted text e = is_refuted_by e.often (has_line e.line text)
+
+abbrev pub is_any_refuted : List ℕ → List Expected → Bool
+is_any_refuted text expected = list_any (λ e. is_refuted text e) expected
+
+-- nor does it show that they are: another outcome may have the line
+abbrev pub is_open_by : Often → Bool → Bool
+is_open_by often.Always has = false
+is_open_by often.Sometimes has = not has
+is_open_by often.Never has = false
+
+abbrev pub is_open : List ℕ → Expected → Bool
+is_open text e = is_open_by e.often (has_line e.line text)
+
+-- SO WHAT ONE RUN REFUTES DOESN'T HOLD of the outcomes of all schedules, of which its own is one;
+-- what it neither refutes nor leaves open would hold if there were no other
+abbrev pub RunsAreJudged : Type 0
+RunsAreJudged = (w : World) (names : List (List ℕ)) (text : List ℕ) (e : Expected)
+    → IsOutcomeText w names text → (is_refuted text e ≡ true → IsMet w names e → ⊥)
+    × (is_refuted text e ≡ false → is_open text e ≡ false → Meet (λ t. t ≡ text) e)
+
+-- ---- as it is printed
+
+abbrev pub refuted_text : Bool → List ℕ
+refuted_text refuted = if refuted then codes "not ok " else codes "ok "
+
+-- a test that is left open is skipped, in TAP's form
+abbrev pub open_text : Bool → List ℕ
+open_text left = if left then codes " # SKIP this run doesn't print it\n" else codes "\n"
+
+abbrev pub shown_text : Often → List ℕ
+shown_text often.Always = codes "# this run doesn't print it\n"
+shown_text often.Sometimes = []
+shown_text often.Never = codes "# this run prints it\n"
+
+-- why it isn't ok
+abbrev pub why_text : Often → Bool → List ℕ
+why_text o refuted = if refuted then shown_text o else []
+
+-- a test of this number
+abbrev pub judged_test : List ℕ → ℕ → Expected → List ℕ
+judged_test text n e =
+    refuted_text (is_refuted text e) ++ number_text n ++ expected_text e
+    ++ open_text (is_open text e) ++ why_text e.often (is_refuted text e)
+
+-- the first n tests; they count from 1
+abbrev pub judged_tests : List ℕ → ℕ → List Expected → List ℕ
+judged_tests text zero expected = []
+judged_tests text (suc n) expected =
+    judged_tests text n expected
+    ++ judged_test text (n + 1) (slice_index_or expected n no_expectation)
+
+-- the plan, and each test
+abbrev pub judged_text : List ℕ → List Expected → List ℕ
+judged_text text expected =
+    plan_text (length expected) ++ judged_tests text (length expected) expected
