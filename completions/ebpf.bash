@@ -3,7 +3,7 @@ _ebpf() {
     local word=${COMP_WORDS[COMP_CWORD]} before=${COMP_WORDS[COMP_CWORD - 1]} words files
     COMPREPLY=()
     case $before in
-        --budget|--by|--ctx|--limit|--workers) return ;;
+        --budget|--by|--ctx|--limit|--show|--workers) return ;;
     esac
     case ${COMP_CWORD}:${COMP_WORDS[1]} in
         1:*) words='hex asm disasm run explore check debug explain -h --help -V --version' ;;
@@ -13,9 +13,9 @@ _ebpf() {
         hex) words='--explain --budget --ctx -h --help' files=1 ;;
         asm) words='--explain --listing -h --help' files=1 ;;
         disasm) words='--explain --pc -h --help' files=1 ;;
-        run) words='--explain --keys --maps --by --workers -h --help' files=1 ;;
-        explore) words='--explain --limit -h --help' files=1 ;;
-        check) words='--explain --limit -h --help' files=1 ;;
+        run) words='--explain --keys --maps --events --check --by --workers -h --help' files=1 ;;
+        explore) words='--explain --patient --limit --show -h --help' files=1 ;;
+        check) words='--explain --patient --limit -h --help' files=1 ;;
         debug) words='--explain -h --help' files=1 ;;
         explain) words='-h --help' ;;
     esac

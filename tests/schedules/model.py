@@ -10,6 +10,7 @@ import random
 
 WORD = 2**64
 EEXIST, ENOENT, E2BIG, ENOMEM = WORD - 17, WORD - 2, WORD - 7, WORD - 12
+ANSWERS = {0: "done", EEXIST: "EEXIST", ENOENT: "ENOENT", E2BIG: "E2BIG", ENOMEM: "ENOMEM"}
 KEY, VALUE = "key", "value"
 NO_CPU = frozenset()
 
@@ -250,19 +251,65 @@ class File:
             waiting += [after for after in new if after is not None]
         return reports
 
+    def events(self, state, cpu):
+        """What the CPU does at the map in its next turn, a line each, and whether its job ends."""
+        (keys, elements, running), hands, _ = state
+        done = [] if hands[cpu] else ["begin"]
+        number = self.next_job(state, cpu)
+        hand = hands[cpu] or (number, 0, (0,) * 10, (0, 0), self.jobs[number][2], NO_CPU)
+        job, pc, registers, frame, left, _ = hand
+        if left:
+            _, made = self.step((keys, elements, running | {cpu}), cpu, hand)
+            if not isinstance(made, str):
+                done += self.call_told(state[0], registers, frame, self.jobs[job][1].at[pc], made[1][0])
+        if self.turn(state, cpu)[2][job] is not None:
+            done.append("end")
+        return "".join(f"cpu {cpu} job {job} pc {pc} {what}\n" for what in done)
+
+    def call_told(self, store, registers, frame, instruction, answer):
+        """The call of the map that an instruction makes, if it makes one; R0 then has the answer."""
+        kind, *operands = instruction
+        keys, elements, _ = store
+
+        def place(element):
+            return f"0x{0x1000000000 + 8 * element:x}"
+
+        if kind == "call":
+            key = frame[0].to_bytes(4, "little").hex()
+            if operands[0] == 1:
+                found = dict(keys).get(frame[0])
+                return [f"lookup m {key} = {'none' if found is None else place(found)}"]
+            if operands[0] == 2:
+                value = frame[1].to_bytes(8, "little").hex()
+                return [f"update m {key} {value} flags {registers[4]} = {ANSWERS[answer]}"]
+            return [f"delete m {key} = {ANSWERS[answer]}"] if operands[0] == 3 else []
+        if kind not in ("load", "store", "add", "fetch_add", "exchange", "compare"):
+            return []
+        values = {f"r{n}": number for n, number in enumerate(registers)}
+        element = values[operands[1] if kind == "load" else operands[0]][1]
+        old, at = elements[element][0], f"8 at {place(element)}"
+        if kind == "load":
+            return [f"load {at} = {old}"]
+        if kind == "store":
+            return [f"store {at} {values[operands[1]]}"]
+        name = {"add": "add", "fetch_add": "add", "exchange": "xchg", "compare": "cmpxchg"}[kind]
+        expected = f" expected {registers[0]}" if kind == "compare" else ""
+        return [f"{name} {at} {values[operands[1]]}{expected} = {old}"]
+
     def by(self, schedule):
-        """The report of the turns of a list of CPUs, and then of rounds."""
-        state = self.first()
-        for cpu in schedule:
-            state = (self.turn(state, cpu) if cpu < self.cpus else None) or state
+        """What happens in the turns of a list of CPUs, and then in rounds, a line each, and their report."""
+        state, told = self.first(), ""
+        cpus = [cpu for cpu in schedule if cpu < self.cpus]
         while True:
             any_work = False
-            for cpu in range(self.cpus):
+            for cpu in cpus:
                 after = self.turn(state, cpu)
                 if after is not None:
+                    told += self.events(state, cpu)
                     state, any_work = after, True
-            if not any_work:
-                return self.report(state)
+            if not any_work and cpus == list(range(self.cpus)):
+                return told, self.report(state)
+            cpus = list(range(self.cpus))
 
 
 def pointer_to(key):

@@ -5,4 +5,6 @@ pub mod Ranges
 pub mod Limited
 pub mod Budget
 pub mod Limit
+pub mod Counted
 pub mod Workers
+pub mod Shown

@@ -7,7 +7,7 @@ use Rattle.clap.specs.Faults.{level_fault}
 use Rattle.clap.specs.Walk.{with_default, values_or_missing, Held, Row, Rule, Text, answers_to, finished, has_row, nothing_held, rows_after, settled, walk}
 use Rattle.clap.specs.Words.{fault_of, subcommand_of}
 use Rattle.bpf_command.specs.declared.command.TheConstants.{MAX_LIMIT}
-use Rattle.bpf_command.specs.CommandLine.{HasLimit, IsSearchName, ebpf, explained, explore, file, limit}
+use Rattle.bpf_command.specs.CommandLine.{HasLimit, IsSearchName, check, ebpf, explained, explore, file, limit, patient, show}
 use Rattle.bpf_command.proofs.Limited.{limited_keeps, with_limited}
 use Rattle.bpf_command.proofs.Ranges as range
 use Rattle.bpf_command.proofs.Ranges.{no_default}
@@ -19,15 +19,31 @@ AreFine = range.AreFine (codes "limit") 0 MAX_LIMIT
 
 -- ---- the rules
 
--- a command as it is built, and the options of one that searches with what building fills in
-abbrev built_as : Text → Shape
-built_as name = unwrap_or (find (λ s. answers_to name (label_of s)) (built ebpf).subs) explore.top
+-- the commands that search as they are built, and the options of each with what building fills in
+abbrev explore_built : Shape
+explore_built =
+    unwrap_or (find (λ s. answers_to (codes "explore") (label_of s)) (built ebpf).subs) explore.top
 
-abbrev rules : List Rule
-rules = (built_as (codes "explore")).rules
+abbrev check_built : Shape
+check_built =
+    unwrap_or (find (λ s. answers_to (codes "check") (label_of s)) (built ebpf).subs) check.top
+
+abbrev explore_rules : List Rule
+explore_rules = explore_built.rules
+
+abbrev check_rules : List Rule
+check_rules = check_built.rules
 
 limit_keeps : Keeps AreFine false (filled limit)
 limit_keeps = limited_keeps (codes "limit") MAX_LIMIT refl refl
+
+show_keeps : Keeps AreFine false (filled show)
+show_keeps values rows e fine =
+    range.other_used_fine (codes "limit") 0 MAX_LIMIT (codes "show") (values_or_missing (filled show) values) rows refl fine
+
+patient_keeps : Keeps AreFine false (filled patient)
+patient_keeps values rows e fine =
+    range.other_used_fine (codes "limit") 0 MAX_LIMIT (codes "patient") (values_or_missing (filled patient) values) rows refl fine
 
 file_keeps : Keeps AreFine false (filled file)
 file_keeps values rows e fine =
@@ -37,26 +53,56 @@ explained_keeps : Keeps AreFine false (filled explained)
 explained_keeps values rows e fine =
     range.other_used_fine (codes "limit") 0 MAX_LIMIT (codes "explain") (values_or_missing (filled explained) values) rows refl fine
 
-rules_keep : range.AllKeep (codes "limit") 0 MAX_LIMIT rules
-rules_keep = (explained_keeps, (limit_keeps, (file_keeps, ((λ values rows e fine. fine), tt))))
+explore_keeps : range.AllKeep (codes "limit") 0 MAX_LIMIT explore_rules
+explore_keeps =
+    (explained_keeps, (patient_keeps, (limit_keeps, (show_keeps, (file_keeps, ((λ values rows e fine. fine), tt))))))
 
--- no other option but `--explain` has a default
-finished_limit : (h : Held) → AreFine (settled rules h).rows → HasLimit (finished rules h)
-finished_limit h fine =
-    let start = with_default (settled rules h).rows (filled explained) in
-    let first = with_default start (filled limit) in
+check_keeps : range.AllKeep (codes "limit") 0 MAX_LIMIT check_rules
+check_keeps =
+    (explained_keeps, (patient_keeps, (limit_keeps, (file_keeps, ((λ values rows e fine. fine), tt)))))
+
+-- ---- the rows
+
+-- the flags have defaults, and the limit
+waiting_fine : (rows : List Row) → AreFine rows → AreFine (with_default (with_default rows (filled explained)) (filled patient))
+waiting_fine rows fine =
+    let start = with_default rows (filled explained) in
+    let started = range.default_fine (codes "limit") 0 MAX_LIMIT (codes "explain") (codes "false" ∷ []) rows refl fine in
+    range.default_fine (codes "limit") 0 MAX_LIMIT (codes "patient") (codes "false" ∷ []) start refl started
+
+limited_fine : (rows : List Row) → AreFine rows
+    → HasLimit (with_default (with_default (with_default rows (filled explained)) (filled patient)) (filled limit))
+limited_fine rows fine =
+    with_limited (codes "limit") MAX_LIMIT refl refl (with_default (with_default rows (filled explained)) (filled patient)) (waiting_fine rows fine)
+
+finished_explore : (h : Held) → AreFine (settled explore_rules h).rows → HasLimit (finished explore_rules h)
+finished_explore h fine =
+    let rows = (settled explore_rules h).rows in
+    let first = with_default (with_default (with_default rows (filled explained)) (filled patient)) (filled limit) in
+    let second = with_default first (filled show) in
+    let third = with_default second (filled file) in
+    let same =
+    no_default (has_row (codes "help") third) third ∙ (no_default (has_row (codes "file") second) second
+    ∙ no_default (has_row (codes "show") first) first)
+    in
+    subst HasLimit (sym same) (limited_fine rows fine)
+
+finished_check : (h : Held) → AreFine (settled check_rules h).rows → HasLimit (finished check_rules h)
+finished_check h fine =
+    let rows = (settled check_rules h).rows in
+    let first = with_default (with_default (with_default rows (filled explained)) (filled patient)) (filled limit) in
     let second = with_default first (filled file) in
-    let started = range.default_fine (codes "limit") 0 MAX_LIMIT (codes "explain") (codes "false" ∷ []) (settled rules h).rows refl fine in
-    subst HasLimit (sym (no_default (has_row (codes "help") second) second ∙ no_default (has_row (codes "file") first) first)) (with_limited (codes "limit") MAX_LIMIT refl refl start started)
+    let same = no_default (has_row (codes "help") second) second ∙ no_default (has_row (codes "file") first) first in
+    subst HasLimit (sym same) (limited_fine rows fine)
 
 -- the options of either, after a parse of its words with no fault
-explore_limit : (words : List Text) → level_fault (built_as (codes "explore")) [] nothing_held words false [] ≡ [] → HasLimit (rows_after rules [] words)
+explore_limit : (words : List Text) → level_fault explore_built [] nothing_held words false [] ≡ [] → HasLimit (rows_after explore_rules [] words)
 explore_limit words e =
-    finished_limit (walk rules [] nothing_held words).held (range.settled_fine (codes "limit") 0 MAX_LIMIT (built_as (codes "explore")) refl rules_keep words e)
+    finished_explore (walk explore_rules [] nothing_held words).held (range.settled_fine (codes "limit") 0 MAX_LIMIT explore_built refl explore_keeps words e)
 
-check_limit : (words : List Text) → level_fault (built_as (codes "check")) [] nothing_held words false [] ≡ [] → HasLimit (rows_after rules [] words)
+check_limit : (words : List Text) → level_fault check_built [] nothing_held words false [] ≡ [] → HasLimit (rows_after check_rules [] words)
 check_limit words e =
-    finished_limit (walk rules [] nothing_held words).held (range.settled_fine (codes "limit") 0 MAX_LIMIT (built_as (codes "check")) refl rules_keep words e)
+    finished_check (walk check_rules [] nothing_held words).held (range.settled_fine (codes "limit") 0 MAX_LIMIT check_built refl check_keeps words e)
 
 no_search : (name : Text) → bytes_eq name (codes "explore") ≡ false → bytes_eq name (codes "check") ≡ false → IsSearchName name → ⊥
 no_search name first second (inl is) = other_name (codes "explore") name first is

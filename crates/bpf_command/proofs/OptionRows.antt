@@ -1,9 +1,8 @@
 -- An option's values among the rows that a parse found are those that the matches' getters give.
-use Rattle.std.proofs.Common.{cond, true, false, ◌≡◌, ◌<◌, ◌≤◌, ◌∙◌, List, ℕ, Option, Some, None, Result, Ok, Err, codes, refl, arith, subst, ap, sym}
+use Rattle.std.proofs.Common.{cond, true, false, ◌≡◌, ◌<◌, ◌≤◌, ◌^◌, ◌∙◌, List, ℕ, Option, Some, None, Result, Ok, Err, codes, refl, arith, subst, ap, sym}
 use Rattle.std.specs.Prelude.{IfSome, IsSomeAnd, option_and_then}
 use Rattle.bpf_codes.specs.Code.{code_of}
 use Rattle.bpf_codes.specs.declared.code.Code.{Code}
-use Rattle.bpf_command.specs.declared.command.TheConstants.{MAX_WORKERS}
 use Rattle.std.specs.Str.{bytes_eq}
 use Rattle.std.specs.Str.Parse.{ParsesUnsigned}
 use Rattle.clap.specs.Matches.{ReadsOne}
@@ -14,7 +13,7 @@ use Rattle.clap.specs.Facts.{is_present}
 use Rattle.clap.specs.Takes.{is_given}
 use Rattle.clap.proofs.TakesLemmas.{present_row}
 use Rattle.clap.proofs.WalkLemmas.{first_value-rows, one_text-rows}
-use Rattle.bpf_command.specs.CommandLine.{HasLimited, HasWorkers, IsLimited, IsWorkers, NamesLimited, NamesWorkers}
+use Rattle.bpf_command.specs.CommandLine.{HasCount, HasLimited, IsCount, IsLimited, NamesCount, NamesLimited}
 use Rattle.bpf_command.specs.Names.{IsContext, IsSchedule, RefusesContext, RefusesSchedule, file_in, file_named}
 use Rattle.bpf_command.specs.declared.command_line.CommandError.{CommandError}
 
@@ -50,34 +49,36 @@ module _ (id : Text) (most : ℕ) (small : most < 18446744073709551616)
       with_default None b = absurd b
       with_default (Some n) b = (b, λ e. (subst (λ o. IsLimited most o n) (h.1 e) b).1)
 
-module _ (E : Type 0) (Gives : Text → Result ℕ E → Type 0) (parses : (t : Text) (x : Result ℕ E) → Gives t x → ParsesUnsigned 8 10 t x) where
-  count_read : (text : Text) (n : Option ℕ) → IsUnsignedIn 1 MAX_WORKERS text → ReadsOne Gives text n → IsWorkers (Some text) n
+-- the same of a count
+module _ (id : Text) (most bits : ℕ) (small : most < 2 ^ bits)
+    (E : Type 0) (Gives : Text → Result ℕ E → Type 0) (parses : (t : Text) (x : Result ℕ E) → Gives t x → ParsesUnsigned bits 10 t x) where
+  count_read : (text : Text) (n : Option ℕ) → IsUnsignedIn 1 most text → ReadsOne Gives text n → IsCount most (Some text) n
   count_read text None h g = absurd (parses text (Err g.0) g.1 (h.0, omega arith))
   count_read text (Some n) h g = (h, (parses text (Ok n) g).1)
 
-  any_read : (text : Option Text) (n : Option ℕ) → IfSome text (IsUnsignedIn 1 MAX_WORKERS) → (text ≡ None → n ≡ None)
-      → ((t : Text) → text ≡ Some t → ReadsOne Gives t n) → IsWorkers text n
+  any_read : (text : Option Text) (n : Option ℕ) → IfSome text (IsUnsignedIn 1 most) → (text ≡ None → n ≡ None)
+      → ((t : Text) → text ≡ Some t → ReadsOne Gives t n) → IsCount most text n
   any_read None n h none read = none refl
   any_read (Some text) n h none read = count_read text n h (read text refl)
 
-  pub workers_read : (f : Found) (n : Option ℕ) → HasWorkers (rows_of f) → (one_text f (codes "workers") ≡ None → n ≡ None)
-      → ((t : Text) → one_text f (codes "workers") ≡ Some t → ReadsOne Gives t n) → NamesWorkers (rows_of f) n
-  workers_read f n h none read =
-      any_read (one_of (codes "workers") (rows_of f)) n h (λ e. none (one_text-rows f (codes "workers") ∙ e)) (λ t e. read t (one_text-rows f (codes "workers") ∙ e))
+  pub counted_read : (f : Found) (n : Option ℕ) → HasCount id most (rows_of f) → (one_text f id ≡ None → n ≡ None)
+      → ((t : Text) → one_text f id ≡ Some t → ReadsOne Gives t n) → NamesCount id most (rows_of f) n
+  counted_read f n h none read =
+      any_read (one_of id (rows_of f)) n h (λ e. none (one_text-rows f id ∙ e)) (λ t e. read t (one_text-rows f id ∙ e))
 
--- a number of workers that is named is in the range
-pub workers_some : (rows : List Row) (n : Option ℕ) → NamesWorkers rows n → IfSome n (λ n. 0 < n)
-workers_some rows n h = some (one_of (codes "workers") rows) n h
+-- a count that is named is in the range
+pub counted_some : (id : Text) (most : ℕ) (rows : List Row) (n : Option ℕ) → NamesCount id most rows n → IfSome n (λ n. 0 < n)
+counted_some id most rows n h = some (one_of id rows) n h
   where
-    some : (text : Option Text) (n : Option ℕ) → IsWorkers text n → IfSome n (λ n. 0 < n)
+    some : (text : Option Text) (n : Option ℕ) → IsCount most text n → IfSome n (λ n. 0 < n)
     some text None h = tt
     some None (Some n) h = cc
     some (Some text) (Some n) h = omega arith
 
-pub workers_few : (rows : List Row) (n : Option ℕ) → NamesWorkers rows n → IfSome n (λ n. n ≤ MAX_WORKERS)
-workers_few rows n h = few (one_of (codes "workers") rows) n h
+pub counted_few : (id : Text) (most : ℕ) (rows : List Row) (n : Option ℕ) → NamesCount id most rows n → IfSome n (λ n. n ≤ most)
+counted_few id most rows n h = few (one_of id rows) n h
   where
-    few : (text : Option Text) (n : Option ℕ) → IsWorkers text n → IfSome n (λ n. n ≤ MAX_WORKERS)
+    few : (text : Option Text) (n : Option ℕ) → IsCount most text n → IfSome n (λ n. n ≤ most)
     few text None h = tt
     few None (Some n) h = cc
     few (Some text) (Some n) h = omega arith

@@ -1,18 +1,18 @@
 -- Where `clap` finds no fault, a number of workers that `run` is given is in its range.
 use Rattle.std.proofs.Common.{unwrap_or, ◌∙◌, sym, subst, true≢false, ap, ◌≡◌, List, [], ◌∷◌, Bool, false, codes, Option, Some, None, refl}
-use Rattle.std.specs.Prelude.{length, option_and_then, IfSome, IsSomeAnd, find}
+use Rattle.std.specs.Prelude.{IfSome, find}
 use Rattle.std.specs.Str.{bytes_eq}
-use Rattle.clap.specs.Kinds.{range_kinds, or_else}
 use Rattle.clap.specs.Simple.{filled, Shape, built, label_of}
-use Rattle.clap.specs.Faults.{repeat_fault, check_fault, defaults_fault, level_fault, settle_fault, values_fault, walk_fault}
-use Rattle.clap.specs.Walk.{with_default, row_text, values_or_missing, Held, Row, Rule, Text, answers_to, finished, has_row, nothing_held, rows_after, settled, walk, walk_from}
+use Rattle.clap.specs.Faults.{level_fault}
+use Rattle.clap.specs.Walk.{with_default, values_or_missing, Held, Row, Rule, Text, answers_to, finished, has_row, nothing_held, rows_after, settled, walk}
 use Rattle.clap.specs.Words.{fault_of, subcommand_of}
 use Rattle.bpf_command.specs.declared.command.TheConstants.{MAX_WORKERS}
-use Rattle.bpf_command.specs.CommandLine.{HasWorkers, ebpf, explained, file, keys, maps, run, schedule, workers}
+use Rattle.bpf_command.specs.CommandLine.{HasWorkers, ebpf, events, explained, file, judged, keys, maps, run, schedule, workers}
+use Rattle.bpf_command.proofs.Counted.{counted_keeps, has_count}
 use Rattle.bpf_command.proofs.Ranges as range
 use Rattle.bpf_command.proofs.Ranges.{no_default}
 use Rattle.bpf_command.proofs.Subcommands.{AllHave, found_known, other_name}
-use Rattle.bpf_command.proofs.Walks.{Keeps, first_free, last_free, settle_kept, walk_kept}
+use Rattle.bpf_command.proofs.Walks.{Keeps}
 
 abbrev AreFine : List Row → Type 0
 AreFine = range.AreFine (codes "workers") 1 MAX_WORKERS
@@ -27,13 +27,7 @@ abbrev rules : List Rule
 rules = run_built.rules
 
 workers_keep : Keeps AreFine false (filled workers)
-workers_keep [] rows e fine = cc
-workers_keep (v ∷ vs) rows e fine =
-    let count = range_kinds 1 1 (length (v ∷ vs)) in
-    let repeat = repeat_fault false (codes "workers") rows in
-    let own = values_fault (filled workers) (v ∷ vs) in
-    let passed = range.first_passes (codes "workers") 1 MAX_WORKERS v vs (last_free repeat own (last_free count (or_else repeat own) e)) in
-    range.used_fine (codes "workers") 1 MAX_WORKERS (codes "workers") (v ∷ vs) rows (λ same. (refl, refl, passed)) fine
+workers_keep = counted_keeps (codes "workers") MAX_WORKERS
 
 keys_keep : Keeps AreFine false (filled keys)
 keys_keep values rows e fine =
@@ -42,6 +36,14 @@ keys_keep values rows e fine =
 maps_keep : Keeps AreFine false (filled maps)
 maps_keep values rows e fine =
     range.other_used_fine (codes "workers") 1 MAX_WORKERS (codes "maps") (values_or_missing (filled maps) values) rows refl fine
+
+events_keep : Keeps AreFine false (filled events)
+events_keep values rows e fine =
+    range.other_used_fine (codes "workers") 1 MAX_WORKERS (codes "events") (values_or_missing (filled events) values) rows refl fine
+
+judged_keeps : Keeps AreFine false (filled judged)
+judged_keeps values rows e fine =
+    range.other_used_fine (codes "workers") 1 MAX_WORKERS (codes "check") (values_or_missing (filled judged) values) rows refl fine
 
 schedule_keeps : Keeps AreFine false (filled schedule)
 schedule_keeps values rows e fine =
@@ -56,39 +58,32 @@ explained_keeps values rows e fine =
     range.other_used_fine (codes "workers") 1 MAX_WORKERS (codes "explain") (values_or_missing (filled explained) values) rows refl fine
 
 rules_keep : range.AllKeep (codes "workers") 1 MAX_WORKERS rules
-rules_keep = (explained_keeps, (keys_keep, (maps_keep, (schedule_keeps, (workers_keep, (file_keeps, ((λ values rows e fine. fine), tt)))))))
+rules_keep =
+    (explained_keeps, (keys_keep, (maps_keep, (events_keep, (judged_keeps, (schedule_keeps, (workers_keep, (file_keeps, ((λ values rows e fine. fine), tt)))))))))
 
 -- ---- the rows
 
-own_text : (r : Option Row) → IfSome r (range.IsGiven (codes "workers") 1 MAX_WORKERS)
-    → IfSome (option_and_then row_text r) (range.InRange (codes "workers") 1 MAX_WORKERS)
-own_text None h = tt
-own_text (Some r) h = some_text (row_text r) (range.given_text (codes "workers") 1 MAX_WORKERS r h)
-  where
-    some_text : (text : Option Text) → IsSomeAnd text (range.InRange (codes "workers") 1 MAX_WORKERS) → IfSome text (range.InRange (codes "workers") 1 MAX_WORKERS)
-    some_text None h = tt
-    some_text (Some text) h = h
-
-has_workers : (rows : List Row) → AreFine rows → HasWorkers rows
-has_workers rows fine = own_text (find (λ r. bytes_eq r.id (codes "workers")) rows) (range.if_found (codes "workers") 1 MAX_WORKERS rows fine)
-
--- `--explain`, `--keys` and `--maps` have defaults, and no other option of `run` has one
+-- the flags have defaults, and no other option of `run` has one
 finished_workers : (h : Held) → AreFine (settled rules h).rows → HasWorkers (finished rules h)
 finished_workers h fine =
     let start = with_default (settled rules h).rows (filled explained) in
     let listing = with_default start (filled keys) in
     let shown = with_default listing (filled maps) in
-    let first = with_default shown (filled schedule) in
+    let told = with_default shown (filled events) in
+    let tested = with_default told (filled judged) in
+    let first = with_default tested (filled schedule) in
     let second = with_default first (filled workers) in
     let third = with_default second (filled file) in
     let started = range.default_fine (codes "workers") 1 MAX_WORKERS (codes "explain") (codes "false" ∷ []) (settled rules h).rows refl fine in
     let listed = range.default_fine (codes "workers") 1 MAX_WORKERS (codes "keys") (codes "false" ∷ []) start refl started in
-    let all = range.default_fine (codes "workers") 1 MAX_WORKERS (codes "maps") (codes "false" ∷ []) listing refl listed in
+    let both = range.default_fine (codes "workers") 1 MAX_WORKERS (codes "maps") (codes "false" ∷ []) listing refl listed in
+    let more = range.default_fine (codes "workers") 1 MAX_WORKERS (codes "events") (codes "false" ∷ []) shown refl both in
+    let all = range.default_fine (codes "workers") 1 MAX_WORKERS (codes "check") (codes "false" ∷ []) told refl more in
     let same =
     no_default (has_row (codes "help") third) third ∙ (no_default (has_row (codes "file") second) second
-    ∙ (no_default (has_row (codes "workers") first) first ∙ no_default (has_row (codes "by") shown) shown))
+    ∙ (no_default (has_row (codes "workers") first) first ∙ no_default (has_row (codes "by") tested) tested))
     in
-    subst HasWorkers (sym same) (has_workers shown all)
+    subst HasWorkers (sym same) (has_count (codes "workers") MAX_WORKERS tested all)
 
 -- the options of `run`, after a parse of its words with no fault
 run_workers : (words : List Text) → level_fault run_built [] nothing_held words false [] ≡ [] → HasWorkers (rows_after rules [] words)

@@ -1,5 +1,5 @@
 -- The command line of `ebpf`, in clap's terms, and the numbers that its words name. Our own choice.
-use Rattle.std.specs.Prelude.{◌≡◌, ◌⊎◌, ℕ, List, Option, Some, None, IfSome, IsSomeAnd, codes, [], ◌∷◌, Bool, ◌&&◌, true, false}
+use Rattle.std.specs.Prelude.{◌≡◌, ◌⊎◌, ℕ, List, Option, Some, None, IfSome, IsSomeAnd, codes, [], ◌∷◌, Bool, ◌&&◌, ◌||◌, true, false}
 use Rattle.std.specs.Str.Parse.{digits_value, without_leading_plus}
 use Rattle.clap.specs.Simple.{new_shape}
 use Rattle.clap.specs.Takes.{is_given}
@@ -69,16 +69,31 @@ keys = record (new_rule (codes "keys")) { long = Some (codes "keys"); action = S
 abbrev pub maps : Rule
 maps = record (new_rule (codes "maps")) { long = Some (codes "maps"); action = Some SetTrue }
 
--- `--workers N`: 1 to `MAX_WORKERS`
-abbrev pub workers : Rule
-workers = record (new_rule (codes "workers")) {
-  long = Some (codes "workers");
+-- an option `--ID N`: 1 to `most`
+abbrev pub counted : Text → ℕ → Rule
+counted id most = record (new_rule id) {
+  long = Some id;
   value_names = 1;
-  parser = Some (Unsigned 1 MAX_WORKERS);
+  parser = Some (Unsigned 1 most);
 }
 
+-- `--workers N`
+abbrev pub workers : Rule
+workers = counted (codes "workers") MAX_WORKERS
+
+-- `--events`
+abbrev pub events : Rule
+events = record (new_rule (codes "events")) { long = Some (codes "events"); action = Some SetTrue }
+
+-- `--check`
+abbrev pub judged : Rule
+judged = record (new_rule (codes "check")) { long = Some (codes "check"); action = Some SetTrue }
+
+abbrev pub run_lists : App
+run_lists = with_rule (with_rule (with_rule (new_app (codes "run")) explained) keys) maps
+
 abbrev pub run_shows : App
-run_shows = with_rule (with_rule (with_rule (new_app (codes "run")) explained) keys) maps
+run_shows = with_rule (with_rule run_lists events) judged
 
 -- `--by S`
 abbrev pub schedule : Rule
@@ -94,15 +109,26 @@ run = with_rule run_options file
 abbrev pub limit : Rule
 limit = limited (codes "limit") MAX_LIMIT
 
+-- `--patient`
+abbrev pub patient : Rule
+patient = record (new_rule (codes "patient")) {
+  long = Some (codes "patient");
+  action = Some SetTrue;
+}
+
 -- a command that searches through all schedules
 abbrev pub searching : Text → App
-searching name = with_rule (with_rule (with_rule (new_app name) explained) limit) file
+searching name = with_rule (with_rule (with_rule (new_app name) explained) patient) limit
+
+-- `--show K`
+abbrev pub show : Rule
+show = counted (codes "show") MAX_LIMIT
 
 abbrev pub explore : App
-explore = searching (codes "explore")
+explore = with_rule (with_rule (searching (codes "explore")) show) file
 
 abbrev pub check : App
-check = searching (codes "check")
+check = with_rule (searching (codes "check")) file
 
 -- the code that `explain` is asked for
 abbrev pub code_rule : Rule
@@ -186,22 +212,42 @@ NamesBudget = NamesLimited (codes "budget") MAX_BUDGET
 abbrev pub NamesLimit : List Row → ℕ → Type 0
 NamesLimit = NamesLimited (codes "limit") MAX_LIMIT
 
--- what is found of `--workers`, if anything is: a number in the range
-abbrev pub HasWorkers : List Row → Type 0
-HasWorkers rows = IfSome (one_of (codes "workers") rows) (IsUnsignedIn 1 MAX_WORKERS)
+-- what is found of an option that counts, if anything is: a number in the range
+abbrev pub HasCount : Text → ℕ → List Row → Type 0
+HasCount id most rows = IfSome (one_of id rows) (IsUnsignedIn 1 most)
 
--- the number of workers that a text names: one in the range, in decimal digits; none where there
--- is no text
-abbrev pub IsWorkers : Option Text → Option ℕ → Type 0
-IsWorkers None n = n ≡ None
-IsWorkers (Some text) None = ⊥
-IsWorkers (Some text) (Some n) = IsUnsignedIn 1 MAX_WORKERS text
+-- the number that a text names: one in the range, in decimal digits; none where there is no text
+abbrev pub IsCount : ℕ → Option Text → Option ℕ → Type 0
+IsCount most None n = n ≡ None
+IsCount most (Some text) None = ⊥
+IsCount most (Some text) (Some n) = IsUnsignedIn 1 most text
     × (n ≡ digits_value 10 (without_leading_plus text))
 
--- the number of workers that the options name, if the option is given
-abbrev pub NamesWorkers : List Row → Option ℕ → Type 0
-NamesWorkers rows n = IsWorkers (one_of (codes "workers") rows) n
+-- the number that such an option names, if it is given
+abbrev pub NamesCount : Text → ℕ → List Row → Option ℕ → Type 0
+NamesCount id most rows n = IsCount most (one_of id rows) n
 
--- a schedule and a number of workers are given
-abbrev pub are_both : List Row → Bool
-are_both rows = is_given (codes "by") rows && is_given (codes "workers") rows
+abbrev pub HasWorkers : List Row → Type 0
+HasWorkers = HasCount (codes "workers") MAX_WORKERS
+
+-- the number of workers that the options name
+abbrev pub NamesWorkers : List Row → Option ℕ → Type 0
+NamesWorkers = NamesCount (codes "workers") MAX_WORKERS
+
+abbrev pub HasShown : List Row → Type 0
+HasShown = HasCount (codes "show") MAX_LIMIT
+
+-- the number of the outcome that they name
+abbrev pub NamesShown : List Row → Option ℕ → Type 0
+NamesShown = NamesCount (codes "show") MAX_LIMIT
+
+-- what only CPUs that take turns can do is asked for
+abbrev pub wants_turns : List Row → Bool
+wants_turns rows = is_given (codes "by") rows
+    || (is_given (codes "events") rows || is_given (codes "check") rows)
+
+-- options are given of which one rules out the other: that beside workers, or both what happens
+-- and a verdict
+abbrev pub do_clash : List Row → Bool
+do_clash rows = (is_given (codes "workers") rows && wants_turns rows)
+    || (is_given (codes "events") rows && is_given (codes "check") rows)

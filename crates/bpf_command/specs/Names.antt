@@ -9,7 +9,8 @@ use Rattle.hex.specs.Hex.{decode_of}
 use Rattle.clap.specs.Kinds.{IsAmong}
 use Rattle.clap.specs.Takes.{is_given}
 use Rattle.clap.specs.Words.{Row, Text, fault_of, first_of, kind_of, subcommand_of}
-use Rattle.bpf_command.specs.CommandLine.{NamesBudget, NamesLimit, NamesWorkers, are_both, ebpf}
+use Rattle.bpf_command.specs.CommandLine.{NamesBudget, NamesLimit, NamesShown, NamesWorkers, do_clash, ebpf}
+use Rattle.bpf_command.specs.declared.command.SearchOptions.{SearchOptions}
 use Rattle.bpf_command.specs.declared.command.Command.{Command}
 use Rattle.bpf_command.specs.declared.command.Command.TheVariants as command
 use Rattle.bpf_command.specs.declared.command.Request.{Request}
@@ -40,6 +41,11 @@ RefusesSchedule (Some text) error.NoSchedule = SpellNone (fields_of text)
 RefusesSchedule _ error.OutOfMemory = Unit {0}
 RefusesSchedule _ _ = ⊥
 
+-- the options of a search
+abbrev pub NamesSearch : List Row → SearchOptions → Type 0
+NamesSearch rows options = NamesLimit rows options.limit
+    × (options.patient ≡ is_given (codes "patient") rows)
+
 -- the command that `clap` finds in the words: a subcommand's name, and what is found of its options
 abbrev pub Names : Option (Text × List Row) → Command → Type 0
 Names None _ = ⊥
@@ -54,11 +60,23 @@ Names (Some found) (command.Run options) = (found.0 ≡ codes "run")
     × (options.keys ≡ is_given (codes "keys") found.1)
     × (options.maps ≡ is_given (codes "maps") found.1)
     × IsSchedule (first_of (codes "by") found.1) options.by.items
-    × NamesWorkers found.1 options.workers × (are_both found.1 ≡ false)
+    × NamesWorkers found.1 options.workers × (do_clash found.1 ≡ false)
+    × (is_given (codes "events") found.1 ≡ false) × (is_given (codes "check") found.1 ≡ false)
+Names (Some found) (command.History options) = (found.0 ≡ codes "run")
+    × (options.keys ≡ is_given (codes "keys") found.1)
+    × (options.maps ≡ is_given (codes "maps") found.1)
+    × IsSchedule (first_of (codes "by") found.1) options.by.items
+    × (do_clash found.1 ≡ false) × (is_given (codes "events") found.1 ≡ true)
+Names (Some found) (command.Judge options) = (found.0 ≡ codes "run")
+    × (options.keys ≡ is_given (codes "keys") found.1)
+    × IsSchedule (first_of (codes "by") found.1) options.by.items
+    × (do_clash found.1 ≡ false) × (is_given (codes "check") found.1 ≡ true)
 Names (Some found) (command.Explore options) = (found.0 ≡ codes "explore")
-    × NamesLimit found.1 options.limit
+    × NamesSearch found.1 options × NamesShown found.1 None
+Names (Some found) (command.Show options) = (found.0 ≡ codes "explore")
+    × NamesSearch found.1 options.search × NamesShown found.1 (Some options.outcome)
 Names (Some found) (command.Check options) = (found.0 ≡ codes "check")
-    × NamesLimit found.1 options.limit
+    × NamesSearch found.1 options
 Names (Some found) command.Debug = found.0 ≡ codes "debug"
 
 -- the file that is read in place of standard input, which `-` names too
@@ -78,14 +96,14 @@ Asks (Some found) (request.Perform command file explain) = Names (Some found) co
 Asks (Some found) (request.Page code) = (found.0 ≡ codes "explain")
     × (option_and_then code_of (first_of (codes "code") found.1) ≡ Some code)
 
--- why what `clap` finds can't be done: a context or a schedule that is none, a schedule beside
--- workers, or a code that isn't printed
+-- why what `clap` finds can't be done: a context or a schedule that is none, options of which one
+-- rules out the other, or a code that isn't printed
 abbrev pub RefusesFound : Text × List Row → CommandError → Type 0
 RefusesFound found error.NotHex = (found.0 ≡ codes "hex")
     × RefusesContext (first_of (codes "ctx") found.1) error.NotHex
-RefusesFound found error.NoSchedule = (found.0 ≡ codes "run") × (are_both found.1 ≡ false)
+RefusesFound found error.NoSchedule = (found.0 ≡ codes "run") × (do_clash found.1 ≡ false)
     × RefusesSchedule (first_of (codes "by") found.1) error.NoSchedule
-RefusesFound found error.TwoWays = (found.0 ≡ codes "run") × (are_both found.1 ≡ true)
+RefusesFound found error.TwoWays = (found.0 ≡ codes "run") × (do_clash found.1 ≡ true)
 RefusesFound found error.NoCode = (found.0 ≡ codes "explain")
     × (option_and_then code_of (first_of (codes "code") found.1) ≡ None)
 RefusesFound found error.OutOfMemory = Unit {0}

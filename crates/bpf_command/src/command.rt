@@ -40,12 +40,44 @@ pub struct FileOptions {
     ghost few: { IfSome workers (λ n. n ≤ MAX_WORKERS) } by { few-prop workers MAX_WORKERS },
 }
 
-/// The options of `explore` and `check`, in their ranges.
+/// The options of a run in turns on one thread that is told with all that happens in it.
 #[derive(PartialEq, Eq, Debug, Drop)]
-pub struct ExploreOptions {
+pub struct HistoryOptions {
+    /// To list the keys of all maps behind each CPU's last job, and to print the lists.
+    pub keys: bool,
+    /// To print the maps afterwards.
+    pub maps: bool,
+    /// The turns that come before rounds: CPUs, each with how many it takes before the next.
+    pub by: Vec<(u8, u64)>,
+}
+
+/// The options of a run in turns on one thread that is judged.
+#[derive(PartialEq, Eq, Debug, Drop)]
+pub struct JudgeOptions {
+    /// To list the keys of all maps behind each CPU's last job: what is expected of the lists is
+    /// judged too.
+    pub keys: bool,
+    /// The turns that come before rounds: CPUs, each with how many it takes before the next.
+    pub by: Vec<(u8, u64)>,
+}
+
+/// The options of a search through all schedules, in their ranges.
+#[derive(PartialEq, Eq, Debug, Drop)]
+pub struct SearchOptions {
     /// The search ends once more states than this are kept.
     pub limit: u64,
+    /// To look for outcomes in which no budget is used up.
+    pub patient: bool,
     ghost limited: { limit ≤ MAX_LIMIT },
+}
+
+/// The options of a search of which one outcome is shown.
+#[derive(PartialEq, Eq, Debug, Drop)]
+pub struct ShowOptions {
+    /// The number of the outcome, counted from 1.
+    pub outcome: u64,
+    pub search: SearchOptions,
+    ghost counted: { 0 < outcome },
 }
 
 /// A command with its options.
@@ -60,10 +92,16 @@ pub enum Command {
     Disasm { pc: bool },
     /// Run the jobs of a run file.
     Run(FileOptions),
+    /// Run them in turns, and tell all that happens.
+    History(HistoryOptions),
+    /// Run them in turns, and tell whether the outcome is as the comments of the file expect.
+    Judge(JudgeOptions),
     /// Find what the jobs of a run file can come to, by every schedule.
-    Explore(ExploreOptions),
+    Explore(SearchOptions),
+    /// Tell all that happens on the way to one of these outcomes.
+    Show(ShowOptions),
     /// Tell by every schedule whether a run file's outcomes are as its comments expect.
-    Check(ExploreOptions),
+    Check(SearchOptions),
     /// Run the jobs of a run file by commands, and show what they ask for.
     Debug,
 }

@@ -5,11 +5,12 @@ ghost use Rattle.bpf_codes.specs.Code.{code_of};
 ghost use Rattle.clap.specs.Kinds.{FailsBy};
 ghost use Rattle.clap.specs.Takes.{is_given};
 ghost use Rattle.clap.specs.Words.{fault_of, first_of, first_value, found_of, rows_of, subcommand_name_of, subcommand_of, subcommand_rows_of};
-ghost use Rattle.bpf_command.specs.CommandLine.{ebpf, HasBudget, HasLimit, HasWorkers, IsCommandName, IsSearchName, IsWorkName, NamesBudget, NamesLimit, NamesWorkers};
-ghost use Rattle.bpf_command.specs.Names.{Asks, file_in, IsContext, IsSchedule, Names, Refuses, RefusesContext, RefusesFound, RefusesSchedule};
+ghost use Rattle.bpf_command.specs.CommandLine.{ebpf, do_clash, HasBudget, HasLimit, HasShown, HasWorkers, IsCommandName, IsSearchName, IsWorkName, NamesBudget, NamesLimit, NamesShown, NamesWorkers};
+ghost use Rattle.bpf_command.specs.Names.{Asks, file_in, IsContext, IsSchedule, Names, NamesSearch, Refuses, RefusesContext, RefusesFound, RefusesSchedule};
 
 use crate::command::{
-    Command, ExploreOptions, FileOptions, MAX_LIMIT, MAX_WORKERS, Request, RunOptions,
+    Command, FileOptions, HistoryOptions, JudgeOptions, MAX_LIMIT, MAX_WORKERS, Request,
+    RunOptions, SearchOptions, ShowOptions,
 };
 use crate::options::ebpf_command;
 use bpf_base::MAX_BUDGET;
@@ -31,7 +32,8 @@ pub enum CommandError {
     NotHex,
     /// The schedule isn't one.
     NoSchedule,
-    /// A schedule stands beside a number of workers, whose CPUs take no turns.
+    /// Options stand there of which one rules out the other: a schedule, events or a check beside
+    /// a number of workers, whose CPUs take no turns; or events beside a check.
     TwoWays,
     /// The page is asked for of a code that the program doesn't print.
     NoCode,
@@ -49,6 +51,8 @@ fn matches_of<'a, S: AsStr>(alloc: Global, words: &'a [S]) -> Result<ArgMatches<
         (λ found. found.0 ≡ codes "run" → HasWorkers found.1)) }
     ensures limited { IfOk result (λ m. IfSome (subcommand_rows_of m)
         (λ found. IsSearchName found.0 → HasLimit found.1)) }
+    ensures shown { IfOk result (λ m. IfSome (subcommand_rows_of m)
+        (λ found. found.0 ≡ codes "explore" → HasShown found.1)) }
     ensures faults { FailsBy (fault_of ebpf (map S.text words.entry.now)) result }
 {
     let matches = ebpf_command(alloc)?.try_get_matches_from(words)?;
@@ -144,14 +148,13 @@ fn limit_of(options: &ArgMatches) -> u64
     limit
 }
 
-/// The options of a command that searches.
-fn search_of(options: &ArgMatches) -> ExploreOptions
-    requires limited { HasLimit (rows_of (found_of options.now)) }
-    ensures { NamesLimit (rows_of (found_of options.now)) result.limit }
+/// What `clap` reads of `--show`, if it is given.
+fn shown_of(options: &ArgMatches) -> Option<u64>
+    requires shown { HasShown (rows_of (found_of options.now)) }
+    ensures named { NamesShown (rows_of (found_of options.now)) result }
+    ensures counted { IfSome result (λ n. 0 < n) }
 {
-    ExploreOptions {
-        limit: limit_of(options),
-    }
+    options.get_one::<u64>("show")
 }
 
 /// Whether this option is given. A default's value has a source of its own.
@@ -179,22 +182,63 @@ fn schedule_of(alloc: Global, options: &ArgMatches) -> Result<Vec<(u8, u64)>, Co
     }
 }
 
+/// Whether options are given of which one rules out the other.
+fn do_clash(options: &ArgMatches) -> bool
+    ensures { result ≡ do_clash (rows_of (found_of options.now)) }
+{
+    let events = is_given(options, "events");
+    let check = is_given(options, "check");
+    let turns = is_given(options, "by") || events || check;
+    is_given(options, "workers") && turns || events && check
+}
+
 #[tactic(auto, using(crate::proofs::OptionRows::schedule_in_rows, crate::proofs::OptionRows::no_schedule_in_rows))]
 fn run_of(alloc: Global, options: &ArgMatches) -> Result<Command, CommandError>
     requires counted { HasWorkers (rows_of (found_of options.now)) }
     ensures named { IfOk result (Names (Some (codes "run", rows_of (found_of options.now)))) }
     ensures refused { IfErr result (RefusesFound (codes "run", rows_of (found_of options.now))) }
 {
-    if is_given(options, "by") && is_given(options, "workers") {
+    if do_clash(options) {
         return Err(CommandError::TwoWays);
     }
     let by = schedule_of(alloc, options)?;
+    let keys = is_given(options, "keys");
+    let maps = is_given(options, "maps");
+    if is_given(options, "events") {
+        return Ok(Command::History(HistoryOptions { keys, maps, by }));
+    }
+    if is_given(options, "check") {
+        return Ok(Command::Judge(JudgeOptions { keys, by }));
+    }
     Ok(Command::Run(FileOptions {
-        keys: is_given(options, "keys"),
-        maps: is_given(options, "maps"),
+        keys,
+        maps,
         by,
         workers: workers_of(options),
     }))
+}
+
+/// The options of a command that searches.
+fn search_of(options: &ArgMatches) -> SearchOptions
+    requires limited { HasLimit (rows_of (found_of options.now)) }
+    ensures { NamesSearch (rows_of (found_of options.now)) result }
+{
+    SearchOptions {
+        limit: limit_of(options),
+        patient: is_given(options, "patient"),
+    }
+}
+
+fn explore_of(options: &ArgMatches) -> Command
+    requires limited { HasLimit (rows_of (found_of options.now)) }
+    requires shown { HasShown (rows_of (found_of options.now)) }
+    ensures { Names (Some (codes "explore", rows_of (found_of options.now))) result }
+{
+    let search = search_of(options);
+    match shown_of(options) {
+        Some(outcome) => Command::Show(ShowOptions { outcome, search }),
+        None => Command::Explore(search),
+    }
 }
 
 fn named(alloc: Global, name: &str, options: &ArgMatches) -> Result<Command, CommandError>
@@ -202,6 +246,7 @@ fn named(alloc: Global, name: &str, options: &ArgMatches) -> Result<Command, Com
     requires checked { name.now ≡ codes "hex" → HasBudget (rows_of (found_of options.now)) }
     requires counted { name.now ≡ codes "run" → HasWorkers (rows_of (found_of options.now)) }
     requires limited { IsSearchName name.now → HasLimit (rows_of (found_of options.now)) }
+    requires shown { name.now ≡ codes "explore" → HasShown (rows_of (found_of options.now)) }
     ensures named { IfOk result (Names (Some (name.now, rows_of (found_of options.now)))) }
     ensures refused { IfErr result (RefusesFound (name.now, rows_of (found_of options.now))) }
 {
@@ -214,7 +259,7 @@ fn named(alloc: Global, name: &str, options: &ArgMatches) -> Result<Command, Com
             pc: is_given(options, "pc"),
         }),
         "run" => run_of(alloc, options),
-        "explore" => Ok(Command::Explore(search_of(options))),
+        "explore" => Ok(explore_of(options)),
         "check" => Ok(Command::Check(search_of(options))),
         _ => Ok(Command::Debug),
     }
@@ -255,6 +300,7 @@ fn requested(alloc: Global, name: &str, options: &ArgMatches) -> Result<Request,
     requires checked { name.now ≡ codes "hex" → HasBudget (rows_of (found_of options.now)) }
     requires counted { name.now ≡ codes "run" → HasWorkers (rows_of (found_of options.now)) }
     requires limited { IsSearchName name.now → HasLimit (rows_of (found_of options.now)) }
+    requires shown { name.now ≡ codes "explore" → HasShown (rows_of (found_of options.now)) }
     ensures asked { IfOk result (Asks (Some (name.now, rows_of (found_of options.now)))) }
     ensures refused { IfErr result (RefusesFound (name.now, rows_of (found_of options.now))) }
 {

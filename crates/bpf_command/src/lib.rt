@@ -6,6 +6,7 @@ pub mod command_line;
 mod options;
 
 pub use command::{
-    Command, ExploreOptions, FileOptions, MAX_LIMIT, MAX_WORKERS, Request, RunOptions,
+    Command, FileOptions, HistoryOptions, JudgeOptions, MAX_LIMIT, MAX_WORKERS, Request,
+    RunOptions, SearchOptions, ShowOptions,
 };
 pub use command_line::{CommandError, request_of};

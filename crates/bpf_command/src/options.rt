@@ -3,7 +3,7 @@
 ghost use Rattle.std.specs.Prelude.{◌≡◌, false, IfOk};
 ghost use Rattle.clap.specs.Words.{app_of, rule_of, shape_of};
 ghost use Rattle.clap.specs.declared.builder.command.Command.TheViews.{out-Command as fields_of};
-ghost use Rattle.bpf_command.specs.CommandLine.{asm, bare, budget, check, code_rule, context, debug, disasm, ebpf, explain, explained, explore, file, for_files, hex, hex_options, keys, limit, listing, maps, one_program, pc, run, run_options, run_shows, schedule, workers, working};
+ghost use Rattle.bpf_command.specs.CommandLine.{asm, bare, budget, check, code_rule, context, debug, disasm, ebpf, events, explain, explained, explore, file, for_files, hex, hex_options, judged, keys, limit, listing, maps, one_program, patient, pc, run, run_lists, run_options, run_shows, schedule, searching, show, workers, working};
 
 use crate::command::{MAX_LIMIT, MAX_WORKERS};
 use bpf_base::MAX_BUDGET;
@@ -47,6 +47,9 @@ a schedule come first, N turns of CPU C a word C*N; those of a CPU without work 
 it comes. Then a line a job is printed: job J cpu C r0=N, fault Fk at PC or out of budget at PC.
 With --keys each CPU lists the keys of all maps with the end of its last job, each list as they were
 at one moment, and behind the lines of jobs stands one a list: keys cpu C NAME and the keys in hex.
+With --events all that CPUs do at the maps comes first, a line an event: cpu C job J pc P, what is
+done, and behind = the answer. With --check the answer is that of 'ebpf check', for this order of
+turns alone. Neither goes beside --workers.
 
 For example
   $ printf 'ebpf-run 1\\nprog a\\nr0 = 5\\nexit\\nend\\njob 0 a\\n' | ebpf run
@@ -59,7 +62,10 @@ const EXPLORE_NOTES: &str = "\
 Prints each outcome once, in the order of its bytes: what 'run --maps' prints, behind a line 'by'
 with a schedule that leads there, N turns of CPU C a word C*N. Then a line says whether these are
 all, whatever the order of turns, how many they are, and how many states were kept: 'not all' where
-more than --limit were kept.
+more than --limit were kept. With --show K the K-th of them is printed alone, by its schedule, as
+'run --events --maps --by' does; where there are fewer, that is said with status 1.
+
+With --patient outcomes are those in which no budget is used up: for CPUs that wait for each other.
 
 For example
   $ ebpf explore examples/first-insert.run
@@ -78,7 +84,8 @@ A comment of the run file says what is expected: '; always LINE', '; sometimes L
 LINE', where LINE is one that 'run --maps' prints. Each is a test, by every order of turns: 'ok', or
 'not ok' and on a line '# by' a schedule that shows it, which 'run --by' takes, or why it can't be
 told. The form is TAP; the exit status is 3 where an outcome isn't as expected, and 4 where all that
-was told is, but more than --limit states were kept.
+was told is, but more than --limit states were kept. With --patient outcomes are those in which no
+budget is used up.
 
 For example
   $ printf '; never job 0 cpu 0 r0=1\\nebpf-run 1\\nprog a\\nr0 = 5\\nexit\\nend\\njob 0 a\\n' | ebpf check
@@ -278,9 +285,29 @@ fn workers_option<'a>(alloc: Global) -> Arg<'a>
         .help("Runs the CPUs at once, by 1 to 16 threads, over a store that they share")
 }
 
-/// The command `run` with what it is to print.
-fn run_shows<'a>(alloc: Global) -> Result<Command<'a>, AllocError>
-    ensures shape { IfOk result (λ c. shape_of c ≡ run_shows.top) }
+fn events_option<'a>(alloc: Global) -> Arg<'a>
+    ensures rule { rule_of result ≡ events }
+    ensures own { result.global ≡ false }
+{
+    Arg::new(alloc, "events")
+        .long("events")
+        .action(ArgAction::SetTrue)
+        .help("Prints all that CPUs do at the maps first, a line an event")
+}
+
+fn judged_option<'a>(alloc: Global) -> Arg<'a>
+    ensures rule { rule_of result ≡ judged }
+    ensures own { result.global ≡ false }
+{
+    Arg::new(alloc, "check")
+        .long("check")
+        .action(ArgAction::SetTrue)
+        .help("Prints whether the outcome is as the file's comments expect, as 'ebpf check' does")
+}
+
+/// The command `run` with the lists that it is to print.
+fn run_lists<'a>(alloc: Global) -> Result<Command<'a>, AllocError>
+    ensures shape { IfOk result (λ c. shape_of c ≡ run_lists.top) }
     ensures own { IfOk result (λ c. (fields_of c).has_globals ≡ false) }
 {
     Command::new(alloc, "run")
@@ -289,6 +316,16 @@ fn run_shows<'a>(alloc: Global) -> Result<Command<'a>, AllocError>
         .arg(explain_option(alloc))?
         .arg(keys_option(alloc))?
         .arg(maps_option(alloc))
+}
+
+/// The command `run` with what it is to print.
+fn run_shows<'a>(alloc: Global) -> Result<Command<'a>, AllocError>
+    ensures shape { IfOk result (λ c. shape_of c ≡ run_shows.top) }
+    ensures own { IfOk result (λ c. (fields_of c).has_globals ≡ false) }
+{
+    run_lists(alloc)?
+        .arg(events_option(alloc))?
+        .arg(judged_option(alloc))
 }
 
 /// The command `run` before its file.
@@ -320,15 +357,46 @@ fn limit_option<'a>(alloc: Global) -> Arg<'a>
         .help("Ends the search once more states than this are kept, 0 to 1000000000")
 }
 
+fn patient_option<'a>(alloc: Global) -> Arg<'a>
+    ensures rule { rule_of result ≡ patient }
+    ensures own { result.global ≡ false }
+{
+    Arg::new(alloc, "patient")
+        .long("patient")
+        .action(ArgAction::SetTrue)
+        .help("Looks for outcomes in which no budget is used up, as where CPUs wait for others")
+}
+
+fn show_option<'a>(alloc: Global) -> Arg<'a>
+    ensures rule { rule_of result ≡ show }
+    ensures own { result.global ≡ false }
+{
+    Arg::new(alloc, "show")
+        .long("show")
+        .value_name("K")
+        .value_parser(value_parser!(u64).range(1..=MAX_LIMIT as i64))
+        .help("Prints what happens on the way to the K-th outcome, and no other outcome")
+}
+
+/// A command that searches, with the options of a search.
+fn searching<'a>(alloc: Global, name: &'static str) -> Result<Command<'a>, AllocError>
+    ensures shape { IfOk result (λ c. shape_of c ≡ (searching name.now).top) }
+    ensures own { IfOk result (λ c. (fields_of c).has_globals ≡ false) }
+{
+    Command::new(alloc, name)
+        .arg(explain_option(alloc))?
+        .arg(patient_option(alloc))?
+        .arg(limit_option(alloc))
+}
+
 fn explore_command<'a>(alloc: Global) -> Result<Command<'a>, AllocError>
     ensures shape { IfOk result (λ c. shape_of c ≡ explore.top) }
     ensures own { IfOk result (λ c. (fields_of c).has_globals ≡ false) }
 {
-    Command::new(alloc, "explore")
+    searching(alloc, "explore")?
         .about("Finds all that the jobs of a run file can come to, by every order of turns")
         .after_help(EXPLORE_NOTES)
-        .arg(explain_option(alloc))?
-        .arg(limit_option(alloc))?
+        .arg(show_option(alloc))?
         .arg(file_argument(alloc))
 }
 
@@ -336,11 +404,9 @@ fn check_command<'a>(alloc: Global) -> Result<Command<'a>, AllocError>
     ensures shape { IfOk result (λ c. shape_of c ≡ check.top) }
     ensures own { IfOk result (λ c. (fields_of c).has_globals ≡ false) }
 {
-    Command::new(alloc, "check")
+    searching(alloc, "check")?
         .about("Tells whether all that a run file's jobs can come to is as its comments expect")
         .after_help(CHECK_NOTES)
-        .arg(explain_option(alloc))?
-        .arg(limit_option(alloc))?
         .arg(file_argument(alloc))
 }
 

@@ -7,11 +7,12 @@ use Rattle.bpf_cpu.specs.Task.{Task, Stage, Waiting, InHand, Ended, waiting}
 use Rattle.bpf_machine.specs.Laws.{IsFresh}
 use Rattle.bpf_jobs.specs.declared.rounds.Report.{Report}
 use Rattle.bpf_jobs.specs.Printed.{asked_world, IsReportBy}
+use Rattle.bpf_events.specs.Reports.{IsHistory}
 use Rattle.bpf_file.specs.declared.file.RunFile.{RunFile}
 use Rattle.bpf_file.specs.File.{File, file_of}
 use Rattle.bpf_file.specs.Reading.{IsRunFile}
 use Rattle.bpf_file.specs.Runnable.{WaitsShort, IsJobFor, CanRun}
-use Rattle.bpf_run.specs.Running.{IsRunOfFile}
+use Rattle.bpf_run.specs.Running.{IsHistoryOfFile, IsToldBy}
 use Rattle.bpf_run.specs.Script.{asked_world_of, first_world_of}
 use Rattle.bpf_run.specs.declared.reply.Reply.TheVariants as reply
 
@@ -46,5 +47,13 @@ pub told : (by : List (ℕ × ℕ)) (keys maps : Bool) (text : List ℕ) (file :
     → IsRunFile text (Ok (file_of file))
     → IsReportBy (asked_world keys file.shape file.programs.items (map waiting file.jobs.items))
     by (map string_bytes file.names.items) maps (string_bytes r.text) r.stopped
-    → IsRunOfFile by keys maps text (reply.Jobs r.text r.stopped)
+    → (f : File) × IsRunFile text (Ok f) × IsToldBy by keys maps f (string_bytes r.text) r.stopped
 told by keys maps text file r said report = (file_of file, said, report)
+
+-- and so with all that happens
+pub history : (by : List (ℕ × ℕ)) (keys maps : Bool) (text : List ℕ) (file : RunFile) (r : Report)
+    → IsRunFile text (Ok (file_of file))
+    → IsHistory (asked_world keys file.shape file.programs.items (map waiting file.jobs.items))
+    by (map string_bytes file.names.items) maps (string_bytes r.text) r.stopped
+    → IsHistoryOfFile by keys maps text (reply.Jobs r.text r.stopped)
+history by keys maps text file r said report = (file_of file, said, report)

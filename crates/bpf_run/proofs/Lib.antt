@@ -1,3 +1,4 @@
+mod ShownReplies
 pub mod KnownBytes
 pub mod ReplyLemmas
 pub mod OneReply

@@ -35,6 +35,7 @@ moved a b alike (reply.Ended outcome) h = absurd h
 moved a b alike (reply.Jobs printed stopped) h = absurd h
 moved a b alike (reply.Script answers stopped) h = absurd h
 moved a b alike (reply.Outcomes printed stopped all) h = absurd h
+moved a b alike (reply.NoOutcome printed all) h = absurd h
 
 pub listing_answered : TextsAreDetermined → ListingsAssembleAlike → ListingsAreAnsweredAlike
 listing_answered texts listings text listing r h =

@@ -58,6 +58,7 @@ of_debug input (reply.Ended outcome) h n = absurd h
 of_debug input (reply.Text text) h n = absurd h
 of_debug input (reply.Jobs text stopped) h n = absurd h
 of_debug input (reply.Outcomes text stopped all) h n = absurd h
+of_debug input (reply.NoOutcome text all) h n = absurd h
 
 abbrev pub PrintsAs : Reply → Reply → Type 0
 PrintsAs r s = (reply_text r ≡ reply_text s) × (status_of r ≡ status_of s)

@@ -29,14 +29,17 @@ use Rattle.bpf_file.specs.declared.error.Reason.{Reason}
 use Rattle.bpf_file.specs.File.{File}
 use Rattle.bpf_file.specs.Reading.{IsRunFile}
 use Rattle.bpf_file.specs.Laws.{FilesAreDetermined, FilesCanRun}
+use Rattle.bpf_file.specs.Runnable.{CanRun}
 use Rattle.bpf_jobs.specs.Laws.{ReportsByAreDetermined}
-use Rattle.bpf_jobs.specs.Printed.{IsReportBy}
+use Rattle.bpf_events.specs.Reports.{HistoriesAreDetermined}
+use Rattle.bpf_check.specs.Expectation.{expectations_of}
+use Rattle.bpf_check.specs.Single.{is_any_refuted, judged_text}
 use Rattle.bpf_debug.specs.Laws.{ScriptsAreDetermined}
 use Rattle.bpf_run.proofs.FreshFiles.{fresh_asked}
 use Rattle.bpf_run.proofs.OneDebug.{PrintsAs, one_debug}
 use Rattle.bpf_run.specs.Answer.{jobs_status, status_of, reply_text}
 use Rattle.bpf_run.specs.Commands.{IsAnswer, IsAssembled, IsDisassembled, IsForOneSchedule, IsForOneThread, IsReply, IsRun, IsWordsOf, RefusesAssembly, RefusesInput, RefusesProgram, RefusesWords, ShowsWords, shown_program}
-use Rattle.bpf_run.specs.Running.{IsRunBy, IsRunOfFile}
+use Rattle.bpf_run.specs.Running.{IsHistoryBy, IsJudgedBy, IsOfFile, IsRunBy, IsToldBy}
 use Rattle.bpf_run.specs.Script.{asked_world_of}
 use Rattle.bpf_run.specs.declared.input.TheConstants.{MAX_INPUT}
 use Rattle.bpf_run.specs.Laws.{IsOfInput, IsForAnyInput, HasShortContext, RepliesAreDetermined}
@@ -106,6 +109,7 @@ of_run budget context text (reply.Text printed) h n = absurd h
 of_run budget context text (reply.Jobs printed stopped) h n = absurd h
 of_run budget context text (reply.Script answers stopped) h n = absurd h
 of_run budget context text (reply.Outcomes printed stopped all) h n = absurd h
+of_run budget context text (reply.NoOutcome printed all) h n = absurd h
 
 of_refused_text : (listing : Bool) (text : List ℕ) (error : TextError) → RefusesAssembly text (refusal.Text error) → ¬ IsForAnyInput (refusal.Text error) → OfAssembly listing text (reply.Refused (refusal.Text error))
 of_refused_text listing text error (inl memory) n = absurd (n (subst (λ (e : TextError). IsForAnyInput (refusal.Text e)) (sym memory) tt))
@@ -120,6 +124,7 @@ of_assembly listing text (reply.Ended outcome) h n = absurd h
 of_assembly listing text (reply.Jobs printed stopped) h n = absurd h
 of_assembly listing text (reply.Script answers stopped) h n = absurd h
 of_assembly listing text (reply.Outcomes printed stopped all) h n = absurd h
+of_assembly listing text (reply.NoOutcome printed all) h n = absurd h
 
 of_listing : (pc : Bool) (text : List ℕ) (r : Reply) → IsDisassembled pc text r → IsOfInput r → OfListing pc text r
 of_listing pc text (reply.Text printed) h n = Listed printed h
@@ -128,28 +133,33 @@ of_listing pc text (reply.Ended outcome) h n = absurd h
 of_listing pc text (reply.Jobs printed stopped) h n = absurd h
 of_listing pc text (reply.Script answers stopped) h n = absurd h
 of_listing pc text (reply.Outcomes printed stopped all) h n = absurd h
+of_listing pc text (reply.NoOutcome printed all) h n = absurd h
 
-data OfFile (by : List (ℕ × ℕ)) (keys maps : Bool) (text : List ℕ) : Reply → Type 0 where
-  Told : (printed : _) (stopped : Bool) → IsRunOfFile by keys maps text (reply.Jobs printed stopped)
-      → OfFile by keys maps text (reply.Jobs printed stopped)
+data OfFile (Told : File → List ℕ → Bool → Type 0) (text : List ℕ) : Reply → Type 0 where
+  Told_of : (printed : _) (stopped : Bool) → IsOfFile Told text (reply.Jobs printed stopped)
+      → OfFile Told text (reply.Jobs printed stopped)
   NoFile : (line : ℕ) (why : Reason) → IsRunFile text (Err (FileError.Refused line why))
-      → OfFile by keys maps text (reply.Refused (refusal.File line why))
+      → OfFile Told text (reply.Refused (refusal.File line why))
 
-of_refused_file : (by : List (ℕ × ℕ)) (keys maps : Bool) (text : List ℕ) (r : Refusal)
-    → IsRunOfFile by keys maps text (reply.Refused r) → ¬ IsForAnyInput r
-    → OfFile by keys maps text (reply.Refused r)
-of_refused_file by keys maps text (refusal.File line why) h n = NoFile line why h
-of_refused_file by keys maps text refusal.OutOfMemory h n = absurd (n tt)
-of_refused_file by keys maps text _ h n = absurd h
+of_refused_file : (Told : File → List ℕ → Bool → Type 0) (text : List ℕ) (r : Refusal)
+    → IsOfFile Told text (reply.Refused r) → ¬ IsForAnyInput r → OfFile Told text (reply.Refused r)
+of_refused_file Told text (refusal.File line why) h n = NoFile line why h
+of_refused_file Told text refusal.OutOfMemory h n = absurd (n tt)
+of_refused_file Told text _ h n = absurd h
 
-of_file : (by : List (ℕ × ℕ)) (keys maps : Bool) (text : List ℕ) (r : Reply) → IsRunOfFile by keys maps text r → IsOfInput r
-    → OfFile by keys maps text r
-of_file by keys maps text (reply.Jobs printed stopped) h n = Told printed stopped h
-of_file by keys maps text (reply.Refused r) h n = of_refused_file by keys maps text r h n
-of_file by keys maps text (reply.Ended outcome) h n = absurd h
-of_file by keys maps text (reply.Text printed) h n = absurd h
-of_file by keys maps text (reply.Script answers stopped) h n = absurd h
-of_file by keys maps text (reply.Outcomes printed stopped all) h n = absurd h
+of_file : (Told : File → List ℕ → Bool → Type 0) (text : List ℕ) (r : Reply) → IsOfFile Told text r → IsOfInput r
+    → OfFile Told text r
+of_file Told text (reply.Jobs printed stopped) h n = Told_of printed stopped h
+of_file Told text (reply.Refused r) h n = of_refused_file Told text r h n
+of_file Told text (reply.Ended outcome) h n = absurd h
+of_file Told text (reply.Text printed) h n = absurd h
+of_file Told text (reply.Script answers stopped) h n = absurd h
+of_file Told text (reply.Outcomes printed stopped all) h n = absurd h
+of_file Told text (reply.NoOutcome printed all) h n = absurd h
+
+-- of a file that can run one text is told
+abbrev IsOne : (File → List ℕ → Bool → Type 0) → Type 0
+IsOne Told = (f : File) → CanRun f → (p q : List ℕ) (x y : Bool) → Told f p x → Told f q y → (p ≡ q) × (x ≡ y)
 
 data OfInput (c : Command) (input : List ℕ) : Reply → Type 0 where
   TooLong : MAX_INPUT < length input → OfInput c input (reply.Refused (refusal.Input input_error.TooLong))
@@ -174,7 +184,7 @@ one_showing : (listing : Bool) (text bytes p q : List ℕ) → ShowsWords listin
 one_showing false text bytes p q a b = a ∙ sym b
 one_showing true text bytes p q a b = one_listing_of 0 bytes (lines_of text) p q a b
 
-module _ (words : WordsAreDetermined) (encodings : EncodingsAreDetermined) (refusals : RefusalsAreDetermined) (firsts : FirstIsDetermined) (texts : TextsAreDetermined) (outcomes : OutcomesAreDetermined) (events : NoMapsNoEvents) (files : FilesAreDetermined) (runs : FilesCanRun) (reports : ReportsByAreDetermined) (scripts : ScriptsAreDetermined) where
+module _ (words : WordsAreDetermined) (encodings : EncodingsAreDetermined) (refusals : RefusalsAreDetermined) (firsts : FirstIsDetermined) (texts : TextsAreDetermined) (outcomes : OutcomesAreDetermined) (events : NoMapsNoEvents) (files : FilesAreDetermined) (runs : FilesCanRun) (reports : ReportsByAreDetermined) (histories : HistoriesAreDetermined) (scripts : ScriptsAreDetermined) where
   same_bytes : (text xs ys : List ℕ) → IsHexOf text xs → IsHexOf text ys → xs ≡ ys
   same_bytes text xs ys a b = cc
 
@@ -243,18 +253,33 @@ module _ (words : WordsAreDetermined) (encodings : EncodingsAreDetermined) (refu
   one_assembly listing text r s (NoAssembly e b) (Assembled p a) = let both : Ok a.0 ≡ Err e = texts text (Ok a.0) (Err e) a.2 b in absurd cc
   one_assembly listing text r s (NoAssembly e a) (NoAssembly f b) = let both = texts text (Err e) (Err f) a b in let same : e ≡ f = cc in prints r s (ap (λ error. reply.Refused (refusal.Text error)) same)
 
-  one_file : (by : List (ℕ × ℕ)) (keys maps : Bool) (text : List ℕ) (r s : Reply) → OfFile by keys maps text r → OfFile by keys maps text s → PrintsAs r s
-  one_file by keys maps text r s (Told p x a) (Told q y b) =
+  one_told : (by : List (ℕ × ℕ)) (keys maps : Bool) → IsOne (IsToldBy by keys maps)
+  one_told by keys maps f can p q x y a b = reports (asked_world_of keys f) by f.names maps p q x y (fresh_asked keys f can) a b
+
+  one_history : (by : List (ℕ × ℕ)) (keys maps : Bool) → IsOne (IsHistoryBy by keys maps)
+  one_history by keys maps f can p q x y a b = histories (asked_world_of keys f) by f.names maps p q x y (fresh_asked keys f can) a b
+
+  one_judged : (by : List (ℕ × ℕ)) (keys : Bool) (text : List ℕ) → IsOne (IsJudgedBy by keys text)
+  one_judged by keys text f can p q x y (lines, stopped, a, c, e) (others, halted, b, d, g) =
+      let same = (one_told by keys true f can lines others stopped halted a b).0 in
+      (c ∙ ap (λ (t : List ℕ). judged_text t (expectations_of text)) same ∙ sym d, e ∙ ap (λ (t : List ℕ). is_any_refuted t (expectations_of text)) same ∙ sym g)
+
+  one_file : (Told : File → List ℕ → Bool → Type 0) → IsOne Told → (text : List ℕ) (r s : Reply) → OfFile Told text r → OfFile Told text s → PrintsAs r s
+  one_file Told one text r s (Told_of p x a) (Told_of q y b) =
       let both : Ok a.0 ≡ Ok b.0 = files text (Ok a.0) (Ok b.0) a.1 b.1 in
       let same : a.0 ≡ b.0 = cc in
-      let P : File → Type 0 = λ f. IsReportBy (asked_world_of keys f) by f.names maps (string_bytes q) y in
-      let told = reports (asked_world_of keys a.0) by a.0.names maps (string_bytes p) (string_bytes q) x y (fresh_asked keys a.0 (runs text a.0 a.1)) a.2 (subst P (sym same) b.2) in
+      let P : File → Type 0 = λ f. Told f (string_bytes q) y in
+      let told = one a.0 (runs text a.0 a.1) (string_bytes p) (string_bytes q) x y a.2 (subst P (sym same) b.2) in
       (told.0, ap jobs_status told.1)
-  one_file by keys maps text r s (Told p x a) (NoFile line why b) = let both : Ok a.0 ≡ Err (FileError.Refused line why) = files text (Ok a.0) (Err (FileError.Refused line why)) a.1 b in absurd cc
-  one_file by keys maps text r s (NoFile line why b) (Told p x a) = let both : Ok a.0 ≡ Err (FileError.Refused line why) = files text (Ok a.0) (Err (FileError.Refused line why)) a.1 b in absurd cc
-  one_file by keys maps text r s (NoFile line why a) (NoFile place reason b) =
+  one_file Told one text r s (Told_of p x a) (NoFile line why b) = let both : Ok a.0 ≡ Err (FileError.Refused line why) = files text (Ok a.0) (Err (FileError.Refused line why)) a.1 b in absurd cc
+  one_file Told one text r s (NoFile line why b) (Told_of p x a) = let both : Ok a.0 ≡ Err (FileError.Refused line why) = files text (Ok a.0) (Err (FileError.Refused line why)) a.1 b in absurd cc
+  one_file Told one text r s (NoFile line why a) (NoFile place reason b) =
       let both = files text (Err (FileError.Refused line why)) (Err (FileError.Refused place reason)) a b in
       prints r s cc
+
+  -- and so to all that is told of a file
+  one_of_file : (Told : File → List ℕ → Bool → Type 0) → IsOne Told → (text : List ℕ) (r s : Reply) → IsOfFile Told text r → IsOfFile Told text s → IsOfInput r → IsOfInput s → PrintsAs r s
+  one_of_file Told one text r s a b n m = one_file Told one text r s (of_file Told text r a n) (of_file Told text s b m)
 
   one_answer : (c : Command) (text : List ℕ) (r s : Reply) → HasShortContext c → IsForOneThread c → IsForOneSchedule c → IsAnswer c text r → IsAnswer c text s → IsOfInput r → IsOfInput s → PrintsAs r s
   one_answer (command.Hex options) text r s h t o a b n m =
@@ -267,9 +292,16 @@ module _ (words : WordsAreDetermined) (encodings : EncodingsAreDetermined) (refu
       let maps = options.maps in
       let one = subst (λ (w : Option ℕ). IsRunBy w by keys maps text r) t a in
       let other = subst (λ (w : Option ℕ). IsRunBy w by keys maps text s) t b in
-      one_file by keys maps text r s (of_file by keys maps text r one n) (of_file by keys maps text s other m)
+      one_of_file (IsToldBy by keys maps) (one_told by keys maps) text r s one other n m
+  one_answer (command.History options) text r s h t o a b n m =
+      let by = options.by.items in
+      one_of_file (IsHistoryBy by options.keys options.maps) (one_history by options.keys options.maps) text r s a b n m
+  one_answer (command.Judge options) text r s h t o a b n m =
+      let by = options.by.items in
+      one_of_file (IsJudgedBy by options.keys text) (one_judged by options.keys text) text r s a b n m
   one_answer command.Debug text r s h t o a b n m = one_debug files runs scripts text r s a b n m
   one_answer (command.Explore options) text r s h t o a b n m = absurd o
+  one_answer (command.Show options) text r s h t o a b n m = absurd o
   one_answer (command.Check options) text r s h t o a b n m = absurd o
 
   one_input : (c : Command) (input : List ℕ) (r s : Reply) → HasShortContext c → IsForOneThread c → IsForOneSchedule c → OfInput c input r → OfInput c input s → IsOfInput r → IsOfInput s → PrintsAs r s

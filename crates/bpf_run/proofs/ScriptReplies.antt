@@ -24,6 +24,7 @@ of_file input file commands f (reply.Ended outcome) cut said h = absurd h
 of_file input file commands f (reply.Text text) cut said h = absurd h
 of_file input file commands f (reply.Jobs text stopped) cut said h = absurd h
 of_file input file commands f (reply.Outcomes text stopped all) cut said h = absurd h
+of_file input file commands f (reply.NoOutcome text all) cut said h = absurd h
 
 -- the session that was made of a file, and what its machine tells in the end
 pub ended : (f : RunFile) (commands : List (List ℕ)) (s t : SessionState) (answers : List Answer) (stopped : Bool)

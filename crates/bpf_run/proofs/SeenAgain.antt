@@ -14,8 +14,11 @@ use Rattle.bpf_jobs.specs.Printed.{IsReportBy, TellsWith, cpu_lines, list_lines,
 use Rattle.bpf_explore.specs.Outcomes.{EndsBy, Found}
 use Rattle.bpf_file.specs.File.{File}
 use Rattle.bpf_file.specs.Laws.{FilesAreDetermined, FilesCanRun}
+use Rattle.bpf_file.specs.Reading.{IsRunFile}
 use Rattle.bpf_run.proofs.FreshFiles.{fresh}
-use Rattle.bpf_run.specs.Laws.{WitnessesAreSeenAgain}
+use Rattle.bpf_events.specs.Reports.{HistoriesAreOfReports}
+use Rattle.bpf_run.specs.Exploring.{AreFoundBy}
+use Rattle.bpf_run.specs.Laws.{ShownAreFound, WitnessesAreSeenAgain}
 use Rattle.bpf_run.specs.Script.{first_world_of}
 
 -- ---- a machine that never lists never will
@@ -73,10 +76,34 @@ reported w names maps found never (z, runs, ended, tells) =
     let none : lines_of_lists z names ≡ [] = no_lines (λ c. made_keys (z.lists c)) names z.store.shape.cpus (λ c. ap made_keys (silent c)) in
     (z, (z, runs, (zero, refl, ended)), subst (λ (lines : List ℕ). TellsWith lines z.store z.jobs names maps found.text found.stopped) (sym none) tells)
 
-pub witnesses_are_seen_again : FilesAreDetermined → FilesCanRun → ReportsByAreDetermined → WitnessesAreSeenAgain
-witnesses_are_seen_again files runs reports text answers all limit states i found printed stopped (f, said, explored) at (g, read, report) =
+-- what a search found is the outcome of its schedule
+abbrev IsFoundIn : List ℕ → Found → Type 0
+IsFoundIn text found = (f : File) × IsRunFile text (Ok f) × EndsBy (first_world_of f) f.names true found
+
+is_found : (patient : Bool) (text : List ℕ) (answers : List Found) (all : Bool) (limit states i : ℕ) (found : Found)
+    → AreFoundBy patient text answers all limit states → slice_get answers i ≡ Some found → IsFoundIn text found
+is_found false text answers all limit states i found (f, said, explored) at = (f, said, explored.outcomes.each i found at)
+is_found true text answers all limit states i found (f, said, explored) at =
+    let (z, leads, ended, none, tells) = explored.outcomes.each i found at in
+    (f, said, (z, leads, ended, tells))
+
+-- and the report of that schedule
+one_report : FilesAreDetermined → FilesCanRun → ReportsByAreDetermined → (text : List ℕ) (found : Found) (g : File) (printed : List ℕ) (stopped : Bool)
+    → IsFoundIn text found → IsRunFile text (Ok g) → IsReportBy (first_world_of g) found.by g.names true printed stopped
+    → (printed ≡ found.text) × (stopped ≡ found.stopped)
+one_report files runs reports text found g printed stopped (f, said, ends) read report =
     let both : Ok g ≡ Ok f = files text (Ok g) (Ok f) read said in
     let same : g ≡ f = cc in
     let w = first_world_of f in
-    let known = subst (λ (h : File). IsReportBy (first_world_of h) found.by h.names true (string_bytes printed) stopped) same report in
-    reports w found.by f.names true (string_bytes printed) found.text stopped found.stopped (fresh f (runs text f said)) known (reported w f.names true found (λ c. refl) (explored.outcomes.each i found at))
+    let known = subst (λ (h : File). IsReportBy (first_world_of h) found.by h.names true printed stopped) same report in
+    reports w found.by f.names true printed found.text stopped found.stopped (fresh f (runs text f said)) known (reported w f.names true found (λ c. refl) ends)
+
+pub witnesses_are_seen_again : FilesAreDetermined → FilesCanRun → ReportsByAreDetermined → WitnessesAreSeenAgain
+witnesses_are_seen_again files runs reports patient text answers all limit states i found printed stopped explored at (g, read, report) =
+    one_report files runs reports text found g (string_bytes printed) stopped (is_found patient text answers all limit states i found explored at) read report
+
+pub shown_are_found : FilesAreDetermined → FilesCanRun → ReportsByAreDetermined → HistoriesAreOfReports → ShownAreFound
+shown_are_found files runs reports histories patient text answers all limit states i found printed stopped explored at (g, read, history) =
+    let (lines, told, report, both) = histories (first_world_of g) found.by g.names true (string_bytes printed) stopped history in
+    let one = one_report files runs reports text found g told stopped (is_found patient text answers all limit states i found explored at) read report in
+    (lines, both ∙ ap (λ (t : List ℕ). lines ++ t) one.0, one.1)

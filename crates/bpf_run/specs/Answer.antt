@@ -20,6 +20,7 @@ reply_text (reply.Ended outcome) = outcome_text outcome ++ codes "\n"
 reply_text (reply.Text text) = string_bytes text
 reply_text (reply.Jobs text stopped) = string_bytes text
 reply_text (reply.Outcomes text stopped all) = string_bytes text
+reply_text (reply.NoOutcome text all) = string_bytes text
 reply_text (reply.Script answers stopped) = answers_text (map answer_of answers.items)
 reply_text (reply.Refused refusal) = codes "refused " ++ refusal_text refusal ++ codes "\n"
 
@@ -39,12 +40,18 @@ abbrev pub outcomes_status : (stopped all : Bool) → Status
 outcomes_status stopped true = jobs_status stopped
 outcomes_status stopped false = status.Incomplete
 
+-- of an outcome that there isn't: whether those that were found are all
+abbrev pub missing_status : (all : Bool) → Status
+missing_status true = status.Refused
+missing_status false = status.Incomplete
+
 abbrev pub status_of : Reply → Status
 status_of (reply.Ended outcome) = ended_status outcome
 status_of (reply.Text text) = status.Done
 status_of (reply.Jobs text stopped) = jobs_status stopped
 status_of (reply.Script answers stopped) = jobs_status stopped
 status_of (reply.Outcomes text stopped all) = outcomes_status stopped all
+status_of (reply.NoOutcome text all) = missing_status all
 status_of (reply.Refused refusal) = status.Refused
 
 abbrev pub exit_status : Status → ℕ
@@ -71,6 +78,8 @@ Prints (reply.Jobs text stopped) old new failed answered =
     IsPrinted (string_bytes text) (jobs_status stopped) old new failed answered
 Prints (reply.Outcomes text stopped all) old new failed answered =
     IsPrinted (string_bytes text) (outcomes_status stopped all) old new failed answered
+Prints (reply.NoOutcome text all) old new failed answered =
+    IsPrinted (string_bytes text) (missing_status all) old new failed answered
 Prints (reply.Script answers stopped) old new failed answered =
     IsPrinted (answers_text (map answer_of answers.items))
     (jobs_status stopped) old new failed answered

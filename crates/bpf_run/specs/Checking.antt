@@ -6,7 +6,7 @@ use Rattle.bpf_check.specs.Listing.{checked_text}
 use Rattle.bpf_check.specs.Verdict.{conclusion_of, verdicts_of}
 use Rattle.bpf_check.specs.declared.judging.Conclusion.{Conclusion}
 use Rattle.bpf_check.specs.declared.judging.Conclusion.TheVariants as conclusion
-use Rattle.bpf_run.specs.Exploring.{AreAnswersTo}
+use Rattle.bpf_run.specs.Exploring.{AreFoundBy}
 use Rattle.bpf_run.specs.Running.{RefusesFile}
 use Rattle.bpf_run.specs.declared.reply.Reply.{Reply}
 use Rattle.bpf_run.specs.declared.reply.Reply.TheVariants as reply
@@ -24,12 +24,13 @@ is_told conclusion.Untold = false
 
 -- `check`: a test an expectation, each with its verdict by the answers of a search through all
 -- schedules; or the file's first refusal
-abbrev pub IsCheckedFile : (limit : ℕ) → List ℕ → Reply → Type 0
-IsCheckedFile limit text (reply.Outcomes printed unmet told) =
-    (answers : List Found) × (all : Bool) × (states : ℕ) × AreAnswersTo text answers all limit states
+abbrev pub IsCheckedFile : (patient : Bool) → (limit : ℕ) → List ℕ → Reply → Type 0
+IsCheckedFile patient limit text (reply.Outcomes printed unmet told) =
+    (answers : List Found) × (all : Bool) × (states : ℕ)
+    × AreFoundBy patient text answers all limit states
     × (string_bytes printed ≡ checked_text answers (expectations_of text)
     (verdicts_of answers all (expectations_of text)))
     × (unmet ≡ is_unmet (conclusion_of (verdicts_of answers all (expectations_of text))))
     × (told ≡ is_told (conclusion_of (verdicts_of answers all (expectations_of text))))
-IsCheckedFile limit text (reply.Refused r) = RefusesFile text r
-IsCheckedFile limit text _ = ⊥
+IsCheckedFile patient limit text (reply.Refused r) = RefusesFile text r
+IsCheckedFile patient limit text _ = ⊥

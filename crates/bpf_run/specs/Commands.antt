@@ -9,8 +9,8 @@ use Rattle.bpf_shared.specs.declared.events.Event.{Event}
 use Rattle.bpf_cpu.specs.State.{start}
 use Rattle.bpf_cpu.specs.Step.{Explains}
 use Rattle.bpf_run.specs.Checking.{IsCheckedFile}
-use Rattle.bpf_run.specs.Exploring.{IsExploredFile}
-use Rattle.bpf_run.specs.Running.{IsRunBy}
+use Rattle.bpf_run.specs.Exploring.{IsExploredFile, IsShownFile}
+use Rattle.bpf_run.specs.Running.{IsHistoryOfFile, IsJudgedOfFile, IsRunBy}
 use Rattle.bpf_run.specs.Script.{IsScriptOfFile}
 use Rattle.bpf_insn.specs.declared.error.InsnError.TheVariants as insn_error
 use Rattle.bpf_text.specs.Assembly.{Assembles}
@@ -62,6 +62,7 @@ IsRun budget context text (reply.Text printed) = ⊥
 IsRun budget context text (reply.Jobs printed stopped) = ⊥
 IsRun budget context text (reply.Script answers stopped) = ⊥
 IsRun budget context text (reply.Outcomes printed stopped all) = ⊥
+IsRun budget context text (reply.NoOutcome printed all) = ⊥
 
 -- `asm`: the words of the instructions that the text stands for, a line of 16 hex digits each
 abbrev pub RefusesAssembly : List ℕ → Refusal → Type 0
@@ -84,6 +85,7 @@ IsAssembled listing text (reply.Ended outcome) = ⊥
 IsAssembled listing text (reply.Jobs printed stopped) = ⊥
 IsAssembled listing text (reply.Script answers stopped) = ⊥
 IsAssembled listing text (reply.Outcomes printed stopped all) = ⊥
+IsAssembled listing text (reply.NoOutcome printed all) = ⊥
 
 -- `disasm`: the canonical text of the instructions, and with `--pc` each line with its pc and its
 -- words behind it
@@ -100,6 +102,7 @@ IsDisassembled pc text (reply.Ended outcome) = ⊥
 IsDisassembled pc text (reply.Jobs printed stopped) = ⊥
 IsDisassembled pc text (reply.Script answers stopped) = ⊥
 IsDisassembled pc text (reply.Outcomes printed stopped all) = ⊥
+IsDisassembled pc text (reply.NoOutcome printed all) = ⊥
 
 -- what a command replies to the text
 abbrev pub IsAnswer : Command → List ℕ → Reply → Type 0
@@ -109,8 +112,13 @@ IsAnswer (command.Disasm pc) text r = IsDisassembled pc text r
 IsAnswer (command.Run options) text r =
     IsRunBy options.workers options.by.items options.keys options.maps text r
 IsAnswer command.Debug text r = IsScriptOfFile text r
-IsAnswer (command.Explore options) text r = IsExploredFile options.limit text r
-IsAnswer (command.Check options) text r = IsCheckedFile options.limit text r
+IsAnswer (command.History options) text r =
+    IsHistoryOfFile options.by.items options.keys options.maps text r
+IsAnswer (command.Judge options) text r = IsJudgedOfFile options.by.items options.keys text r
+IsAnswer (command.Explore options) text r = IsExploredFile options.patient options.limit text r
+IsAnswer (command.Show options) text r =
+    IsShownFile options.search.patient options.search.limit options.outcome text r
+IsAnswer (command.Check options) text r = IsCheckedFile options.patient options.limit text r
 
 -- it asks for no workers
 abbrev pub IsForOneThread : Command → Type 0
@@ -120,6 +128,7 @@ IsForOneThread _ = Unit {0}
 -- it doesn't choose among schedules
 abbrev pub IsForOneSchedule : Command → Type 0
 IsForOneSchedule (command.Explore options) = ⊥
+IsForOneSchedule (command.Show options) = ⊥
 IsForOneSchedule (command.Check options) = ⊥
 IsForOneSchedule _ = Unit {0}
 

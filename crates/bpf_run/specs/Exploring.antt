@@ -1,12 +1,15 @@
 -- What `explore` replies: every outcome of a run file's jobs, whatever the order of the CPUs' turns.
-use Rattle.std.specs.Prelude.{◌≡◌, ℕ, Bool, true, List, Ok, string_bytes}
+use Rattle.std.specs.Prelude.{◌≡◌, ◌<◌, ◌-◌, ◌++◌, ℕ, Bool, true, false, List, Ok, Some, codes, length, slice_get, string_bytes}
+use Rattle.std.specs.Fmt.{decimal}
 use Rattle.std.specs.List.{list_any}
 use Rattle.bpf_explore.specs.Listing.{explored_text}
 use Rattle.bpf_explore.specs.Outcomes.{Found, IsExplored}
+use Rattle.bpf_explore.specs.Patient.{IsExploredPatiently}
 use Rattle.bpf_file.specs.File.{File}
 use Rattle.bpf_file.specs.Reading.{IsRunFile}
-use Rattle.bpf_run.specs.Running.{RefusesFile}
+use Rattle.bpf_run.specs.Running.{IsHistoryOfFile, RefusesFile}
 use Rattle.bpf_run.specs.Script.{first_world_of}
+use Rattle.bpf_run.specs.declared.refusal.Refusal.TheVariants as refusal
 use Rattle.bpf_run.specs.declared.reply.Reply.{Reply}
 use Rattle.bpf_run.specs.declared.reply.Reply.TheVariants as reply
 
@@ -25,12 +28,53 @@ abbrev pub AreAnswersTo : List ℕ → List Found → (all : Bool) → (limit st
 AreAnswersTo text answers all limit states = (f : File) × IsRunFile text (Ok f)
     × IsExplored (first_world_of f) f.names true answers all limit states
 
+-- those of this search or of a patient one: outcomes in which no budget is used up
+abbrev pub AreFoundOf : (patient : Bool) → File → List Found → (all : Bool) → (limit states : ℕ)
+    → Type 0
+AreFoundOf false f answers all limit states =
+    IsExplored (first_world_of f) f.names true answers all limit states
+AreFoundOf true f answers all limit states =
+    IsExploredPatiently (first_world_of f) f.names true answers all
+
+abbrev pub AreFoundBy : (patient : Bool) → List ℕ → List Found → (all : Bool)
+    → (limit states : ℕ) → Type 0
+AreFoundBy patient text answers all limit states = (f : File) × IsRunFile text (Ok f)
+    × AreFoundOf patient f answers all limit states
+
 -- `explore`: the answers, a schedule before each, whether they are all, and after how many states;
 -- or the file's first refusal
-abbrev pub IsExploredFile : (limit : ℕ) → List ℕ → Reply → Type 0
-IsExploredFile limit text (reply.Outcomes printed stopped all) =
-    (answers : List Found) × (states : ℕ) × AreAnswersTo text answers all limit states
+abbrev pub IsExploredFile : (patient : Bool) → (limit : ℕ) → List ℕ → Reply → Type 0
+IsExploredFile patient limit text (reply.Outcomes printed stopped all) =
+    (answers : List Found) × (states : ℕ) × AreFoundBy patient text answers all limit states
     × (string_bytes printed ≡ explored_text answers all states)
     × (stopped ≡ any_stopped_of answers)
-IsExploredFile limit text (reply.Refused r) = RefusesFile text r
-IsExploredFile limit text _ = ⊥
+IsExploredFile patient limit text (reply.Refused r) = RefusesFile text r
+IsExploredFile patient limit text _ = ⊥
+
+-- that there is no outcome of this number, but so many
+abbrev pub missing_text : ℕ → ℕ → List ℕ
+missing_text number count =
+    codes "no outcome "
+    ++ (decimal number ++ (codes ": " ++ (decimal count ++ codes " were found\n")))
+
+-- this is replied of it; or want of memory
+abbrev pub IsMissing : (number count : ℕ) → (all : Bool) → Reply → Type 0
+IsMissing number count all (reply.NoOutcome printed whole) =
+    (string_bytes printed ≡ missing_text number count) × (whole ≡ all)
+IsMissing number count all (reply.Refused refusal.OutOfMemory) = Unit {0}
+IsMissing number count all _ = ⊥
+
+-- `explore --show`: all that happens by the schedule of the answer of this number, which counts from
+-- 1, and what it comes to; or that there are fewer; or the file's first refusal
+abbrev pub IsShownFile : (patient : Bool) → (limit number : ℕ) → List ℕ → Reply → Type 0
+IsShownFile patient limit number text (reply.Jobs printed stopped) =
+    (answers : List Found) × (all : Bool) × (states : ℕ) × (found : Found)
+    × AreFoundBy patient text answers all limit states
+    × (slice_get answers (number - 1) ≡ Some found)
+    × IsHistoryOfFile found.by false true text (reply.Jobs printed stopped)
+IsShownFile patient limit number text (reply.NoOutcome printed all) =
+    (answers : List Found) × (states : ℕ) × AreFoundBy patient text answers all limit states
+    × (length answers < number)
+    × (string_bytes printed ≡ missing_text number (length answers))
+IsShownFile patient limit number text (reply.Refused r) = RefusesFile text r
+IsShownFile patient limit number text _ = ⊥

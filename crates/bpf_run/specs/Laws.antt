@@ -1,6 +1,6 @@
 -- What follows from the definitions: what a command prints is a function of the bytes that it
 -- reads, and listings are assembled again.
-use Rattle.std.specs.Prelude.{◌≡◌, ◌↔◌, ℕ, ◌≤◌, ◌/◌, false, true, Bool, List, Some, String, length, map, slice_get, string_bytes}
+use Rattle.std.specs.Prelude.{◌≡◌, ◌↔◌, ℕ, ◌≤◌, ◌/◌, ◌++◌, false, true, Bool, List, Some, String, length, map, slice_get, string_bytes}
 use Rattle.std.specs.declared.alloc.Global.{Global}
 use Rattle.bpf_insn.specs.declared.error.InsnError.TheVariants as insn_error
 use Rattle.bpf_loader.specs.declared.refusal.LoadError.TheVariants as load_error
@@ -13,9 +13,9 @@ use Rattle.bpf_debug.specs.Laws.{HadMemory}
 use Rattle.bpf_debug.specs.Script.{answer_of}
 use Rattle.bpf_run.specs.Answer.{status_of, reply_text}
 use Rattle.bpf_run.specs.Commands.{IsAssembled, IsDisassembled, IsForOneSchedule, IsForOneThread, IsReply}
-use Rattle.bpf_run.specs.Exploring.{AreAnswersTo, any_stopped_of, told_of}
+use Rattle.bpf_run.specs.Exploring.{AreAnswersTo, AreFoundBy, any_stopped_of, told_of}
 use Rattle.bpf_run.specs.Listing.{word_lines}
-use Rattle.bpf_run.specs.Running.{IsRunOfFile}
+use Rattle.bpf_run.specs.Running.{IsHistoryOfFile, IsRunOfFile}
 use Rattle.bpf_command.specs.declared.command.Command.{Command}
 use Rattle.bpf_command.specs.declared.command.Command.TheVariants as command
 use Rattle.bpf_run.specs.declared.input.InputError.TheVariants as input_error
@@ -78,8 +78,18 @@ OutcomesAreDetermined = (text : List ℕ) (xs ys : List Found) (limit states mor
 -- what a search shows of an outcome, `run --by` with its schedule prints
 abbrev pub WitnessesAreSeenAgain : Type 0
 WitnessesAreSeenAgain =
-    (text : List ℕ) (answers : List Found) (all : Bool) (limit states i : ℕ) (found : Found)
-    (printed : String Global) (stopped : Bool) → AreAnswersTo text answers all limit states
-    → slice_get answers i ≡ Some found
+    (patient : Bool) (text : List ℕ) (answers : List Found) (all : Bool) (limit states i : ℕ)
+    (found : Found) (printed : String Global) (stopped : Bool)
+    → AreFoundBy patient text answers all limit states → slice_get answers i ≡ Some found
     → IsRunOfFile found.by false true text (reply.Jobs printed stopped)
     → (string_bytes printed ≡ found.text) × (stopped ≡ found.stopped)
+
+-- what is shown of an outcome, `explore --show` prints behind all that happens on the way there
+abbrev pub ShownAreFound : Type 0
+ShownAreFound =
+    (patient : Bool) (text : List ℕ) (answers : List Found) (all : Bool) (limit states i : ℕ)
+    (found : Found) (printed : String Global) (stopped : Bool)
+    → AreFoundBy patient text answers all limit states → slice_get answers i ≡ Some found
+    → IsHistoryOfFile found.by false true text (reply.Jobs printed stopped)
+    → (lines : List ℕ) × (string_bytes printed ≡ lines ++ found.text)
+    × (stopped ≡ found.stopped)

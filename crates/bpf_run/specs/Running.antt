@@ -1,6 +1,9 @@
 -- What `run` replies: the jobs of a run file, in rounds or by workers.
-use Rattle.std.specs.Prelude.{ℕ, Bool, List, Option, Some, None, Err, Ok, string_bytes}
+use Rattle.std.specs.Prelude.{◌≡◌, ℕ, Bool, true, List, Option, Some, None, Err, Ok, string_bytes}
 use Rattle.bpf_jobs.specs.Printed.{IsReportBy}
+use Rattle.bpf_events.specs.Reports.{IsHistory}
+use Rattle.bpf_check.specs.Expectation.{expectations_of}
+use Rattle.bpf_check.specs.Single.{is_any_refuted, judged_text}
 use Rattle.bpf_workers.specs.Printed.{IsWorkersReport}
 use Rattle.bpf_file.specs.declared.error.FileError.TheVariants as FileError
 use Rattle.bpf_file.specs.File.{File}
@@ -17,14 +20,43 @@ RefusesFile text (refusal.File line why) = IsRunFile text (Err (FileError.Refuse
 RefusesFile text refusal.OutOfMemory = Unit {0}
 RefusesFile text _ = ⊥
 
--- `run`: the lines of the jobs that the file says, run over a new store of its maps, first by these
--- turns of CPUs and then in rounds; then where they are asked for, those of the keys that each CPU
--- lists with the end of its last job, and those of the maps; or the file's first refusal
+-- what is told of the jobs of the file that the text says is of this kind; or the file's first
+-- refusal
+abbrev pub IsOfFile : (Told : File → List ℕ → Bool → Type 0) → List ℕ → Reply → Type 0
+IsOfFile Told text (reply.Jobs printed stopped) = (f : File) × IsRunFile text (Ok f)
+    × Told f (string_bytes printed) stopped
+IsOfFile Told text (reply.Refused r) = RefusesFile text r
+IsOfFile Told text _ = ⊥
+
+-- `run`: the lines of the jobs, run over a new store of the file's maps, first by these turns of CPUs
+-- and then in rounds; then where they are asked for, those of the keys that each CPU lists with the
+-- end of its last job, and those of the maps
+abbrev pub IsToldBy : (by : List (ℕ × ℕ)) → (keys maps : Bool) → File → List ℕ → Bool → Type 0
+IsToldBy by keys maps f printed stopped =
+    IsReportBy (asked_world_of keys f) by f.names maps printed stopped
+
 abbrev pub IsRunOfFile : (by : List (ℕ × ℕ)) → (keys maps : Bool) → List ℕ → Reply → Type 0
-IsRunOfFile by keys maps text (reply.Jobs printed stopped) = (f : File) × IsRunFile text (Ok f)
-    × IsReportBy (asked_world_of keys f) by f.names maps (string_bytes printed) stopped
-IsRunOfFile by keys maps text (reply.Refused r) = RefusesFile text r
-IsRunOfFile by keys maps text _ = ⊥
+IsRunOfFile by keys maps = IsOfFile (IsToldBy by keys maps)
+
+-- `run --events`: these behind the lines of all that happens in these turns and rounds
+abbrev pub IsHistoryBy : (by : List (ℕ × ℕ)) → (keys maps : Bool) → File → List ℕ → Bool → Type 0
+IsHistoryBy by keys maps f printed stopped =
+    IsHistory (asked_world_of keys f) by f.names maps printed stopped
+
+abbrev pub IsHistoryOfFile : (by : List (ℕ × ℕ)) → (keys maps : Bool) → List ℕ → Reply → Type 0
+IsHistoryOfFile by keys maps = IsOfFile (IsHistoryBy by keys maps)
+
+-- `run --check`: a test for each thing that the text expects, of the lines that these turns and
+-- rounds come to, those of the maps among them; and whether one is refuted
+abbrev pub IsJudgedBy : (by : List (ℕ × ℕ)) → (keys : Bool) → (text : List ℕ) → File → List ℕ
+    → Bool → Type 0
+IsJudgedBy by keys text f printed refuted =
+    (lines : List ℕ) × (stopped : Bool) × IsToldBy by keys true f lines stopped
+    × (printed ≡ judged_text lines (expectations_of text))
+    × (refuted ≡ is_any_refuted lines (expectations_of text))
+
+abbrev pub IsJudgedOfFile : (by : List (ℕ × ℕ)) → (keys : Bool) → List ℕ → Reply → Type 0
+IsJudgedOfFile by keys text = IsOfFile (IsJudgedBy by keys text) text
 
 -- `run --workers`: the lines of the jobs that the file says, ended as one history of a new store of
 -- its maps explains; then, where they are asked for, those of the keys that each CPU lists in this

@@ -4,11 +4,11 @@
 ghost use Rattle.std.specs.Prelude.{◌≡◌};
 ghost use Rattle.bpf_run.specs.Checking.{IsCheckedFile, is_told, is_unmet};
 
-use crate::exploring::explore;
+use crate::exploring::found_in;
 use crate::refusal::Refusal;
 use crate::reply::Reply;
-use crate::running::file_in;
 use bpf_check::{Checked, Conclusion, check_explored};
+use bpf_command::SearchOptions;
 use std::alloc::Global;
 
 fn is_unmet(conclusion: Conclusion) -> bool
@@ -23,16 +23,13 @@ fn is_told(conclusion: Conclusion) -> bool
     !matches!(conclusion, Conclusion::Untold)
 }
 
-/// `ebpf check`, whose search ends where more than `limit` states are kept.
-pub fn check_file(alloc: Global, limit: u64, text: &str) -> Reply
-    ensures { IsCheckedFile limit text.now result }
+/// `ebpf check`.
+pub fn check_file(alloc: Global, options: SearchOptions, text: &str) -> Reply
+    ensures { IsCheckedFile options.patient options.limit text.now result }
 {
-    let file = match file_in(alloc, text) {
-        Ok(file) => file,
+    let explored = match found_in(alloc, options, text) {
+        Ok(explored) => explored,
         Err(refusal) => return Reply::Refused(refusal),
-    };
-    let Ok(explored) = explore(alloc, file, limit as usize) else {
-        return Reply::Refused(Refusal::OutOfMemory);
     };
     match check_explored(alloc, text.as_bytes(), &explored) {
         Ok(Checked { text, conclusion }) => Reply::Outcomes {

@@ -4,7 +4,7 @@ use crate::fault::{details_of_file, details_of_program};
 use crate::perform::{Performed, answer_text};
 use crate::reply::{Reply, Status};
 use bpf_advice::{Detail, Details, Input, Language, advise};
-use bpf_command::{Command, FileOptions};
+use bpf_command::{Command, FileOptions, HistoryOptions};
 use bpf_cpu::Outcome;
 use bpf_jobs::OutcomeText;
 use std::alloc::{AllocError, Global};
@@ -21,6 +21,9 @@ const BY_COMMANDS: &str =
 
 const BY_SCHEDULES: &str =
     "  hint: the line 'by' above the outcome is a schedule that leads to this fault\n";
+
+const BY_ONE_SCHEDULE: &str =
+    "  hint: 'ebpf explore' prints the turns that lead to this fault, and 'steps' of 'ebpf debug' makes them\n";
 
 /// What is to be explained: of which command an answer is, as far as that matters.
 #[derive(Drop)]
@@ -39,6 +42,8 @@ pub enum Subject {
     Script,
     /// The jobs of a run file, by all schedules.
     Schedules,
+    /// One outcome of these.
+    Shown,
     /// What a run file expects of them.
     Tests,
 }
@@ -71,6 +76,10 @@ impl Subject {
             ) => Subject::Workers,
             Command::Run(FileOptions { by, .. }) if by.is_empty() => Subject::Rounds,
             Command::Run(_) => Subject::Turns,
+            Command::History(HistoryOptions { by, .. }) if by.is_empty() => Subject::Rounds,
+            Command::History(_) => Subject::Turns,
+            Command::Show(_) => Subject::Shown,
+            Command::Judge(_) => Subject::Tests,
             Command::Debug => Subject::Script,
             Command::Explore(_) => Subject::Schedules,
             Command::Check(_) => Subject::Tests,
@@ -86,6 +95,7 @@ impl Subject {
             | Subject::Workers
             | Subject::Script
             | Subject::Schedules
+            | Subject::Shown
             | Subject::Tests => Language::RunFile,
         }
     }
@@ -97,6 +107,7 @@ impl Subject {
             Subject::Workers => BY_WORKERS,
             Subject::Script => BY_COMMANDS,
             Subject::Schedules => BY_SCHEDULES,
+            Subject::Shown => BY_ONE_SCHEDULE,
             _ => "",
         }
     }
@@ -105,9 +116,10 @@ impl Subject {
 /// What a reply prints.
 fn printed(alloc: Global, reply: &Reply) -> Result<String, AllocError> {
     match reply {
-        Reply::Text(text) | Reply::Jobs(text, _) | Reply::Outcomes { text, .. } => {
-            text.as_str().to_string(alloc)
-        }
+        Reply::Text(text)
+        | Reply::Jobs(text, _)
+        | Reply::Outcomes { text, .. }
+        | Reply::NoOutcome { text, .. } => text.as_str().to_string(alloc),
         Reply::Script(answers, _) => {
             let mut text = String::new(alloc);
             for answer in answers {

@@ -1,7 +1,7 @@
 //! What follows from the definitions of replies.
 //!
 //! These functions do nothing: their contracts are the laws.
-ghost use Rattle.bpf_run.specs.Laws.{ListedWordsAreAnswered, ListingsAreAnsweredAlike, OutcomesAreDetermined, RepliesAreDetermined, WitnessesAreSeenAgain};
+ghost use Rattle.bpf_run.specs.Laws.{ListedWordsAreAnswered, ListingsAreAnsweredAlike, OutcomesAreDetermined, RepliesAreDetermined, ShownAreFound, WitnessesAreSeenAgain};
 
 /// What a command prints is a function of the bytes that it reads, want of memory and failing reads
 /// aside.
@@ -18,6 +18,7 @@ pub fn replies_are_determined()
     bpf_file::laws::files_are_determined();
     bpf_file::laws::files_can_run();
     bpf_jobs::laws::reports_by_are_determined();
+    bpf_events::laws::histories_are_determined();
     bpf_debug::laws::scripts_are_determined();
 }
 
@@ -35,6 +36,16 @@ pub fn witnesses_are_seen_again()
     bpf_file::laws::files_are_determined();
     bpf_file::laws::files_can_run();
     bpf_jobs::laws::reports_by_are_determined();
+}
+
+/// What `explore --show` prints ends with the outcome that it shows.
+pub fn shown_are_found()
+    ensures { ShownAreFound }
+{
+    bpf_file::laws::files_are_determined();
+    bpf_file::laws::files_can_run();
+    bpf_jobs::laws::reports_by_are_determined();
+    bpf_events::laws::histories_are_of_reports();
 }
 
 /// What `asm --listing` prints is assembled as the text that is listed: `asm` has the same replies

@@ -88,9 +88,10 @@ pub fn answer<W: Sink>(alloc: Global, reply: &Reply, sink: &mut W) -> Status
         (W.has_failed sink.new) result }
 {
     match reply {
-        Reply::Text(text) | Reply::Jobs(text, _) | Reply::Outcomes { text, .. } => {
-            write_text(sink, text.as_str(), reply.status())
-        }
+        Reply::Text(text)
+        | Reply::Jobs(text, _)
+        | Reply::Outcomes { text, .. }
+        | Reply::NoOutcome { text, .. } => write_text(sink, text.as_str(), reply.status()),
         Reply::Script(answers, _) => write_answers(answers, reply.status(), sink),
         Reply::Ended(outcome) => {
             let line = format!(in alloc; "{}\n", OutcomeText(*outcome));

@@ -8,13 +8,15 @@ ghost use Rattle.bpf_plain.specs.PlainStore.{has_cpu, is_running, shapes_of};
 ghost use Rattle.bpf_run.specs.Commands.{IsAnswer, IsAssembled, IsDisassembled, IsForOneThread, IsRun, IsWordsOf, RefusesProgram, RefusesWords, ShowsWords, shown_program};
 
 use crate::checking::check_file;
-use crate::exploring::explore_file;
+use crate::exploring::{explore_file, show_file};
 use crate::listing::word_lines;
 use crate::refusal::Refusal;
 use crate::reply::Reply;
-use crate::running::{run_file, run_file_by_workers};
+use crate::running::{judge_file, run_file, run_file_by_workers, run_file_with_history};
 use crate::script::debug_file;
-use bpf_command::{Command, ExploreOptions, FileOptions, RunOptions};
+use bpf_command::{
+    Command, FileOptions, HistoryOptions, JudgeOptions, RunOptions, ShowOptions,
+};
 use bpf_cpu::Cpu;
 use bpf_disassembly::{disassemble, program_lines, source_lines};
 use bpf_insn::{Insn, decode, encode};
@@ -172,8 +174,13 @@ pub fn reply(alloc: Global, command: Command, text: &str) -> Reply
             },
         ) => unreachable!(),
         Command::Debug => debug_file(alloc, text),
-        Command::Explore(ExploreOptions { limit }) => explore_file(alloc, limit, text),
-        Command::Check(ExploreOptions { limit }) => check_file(alloc, limit, text),
+        Command::History(HistoryOptions { by, keys, maps }) => {
+            run_file_with_history(alloc, &by, keys, maps, text)
+        }
+        Command::Judge(JudgeOptions { by, keys }) => judge_file(alloc, &by, keys, text),
+        Command::Explore(search) => explore_file(alloc, search, text),
+        Command::Show(ShowOptions { outcome, search }) => show_file(alloc, search, outcome, text),
+        Command::Check(search) => check_file(alloc, search, text),
     }
 }
 

@@ -32,7 +32,7 @@ pub enum Misuse {
     Code,
     /// A text spells no schedule.
     Schedule,
-    /// Jobs are to be run by a schedule and by workers.
+    /// Options stand there of which one rules out the other, as a schedule and workers.
     TwoWays,
 }
 
@@ -73,7 +73,7 @@ no schedule: it has words C*N, a CPU and how many turns it makes, as in '0*9 1*1
 For more information, try 'ebpf run --help'.";
 
 const TWO_WAYS: &str = "\
-jobs are run by the turns of '--by' or by '--workers'
+'--workers' goes with none of '--by', '--events' and '--check', nor '--events' with '--check'
 
 For more information, try 'ebpf run --help'.";
 

@@ -9,7 +9,7 @@ use bpf_debug::Answer;
 pub enum Status {
     /// What was asked for is printed.
     Done,
-    /// A refusal is printed.
+    /// A refusal is printed, or that there is no such outcome.
     Refused,
     /// The output couldn't be written.
     Failed,
@@ -43,7 +43,8 @@ pub enum Reply {
     Ended(Outcome),
     /// Whole lines.
     Text(String),
-    /// The lines of jobs, and whether one of them ended in a fault or out of budget.
+    /// The lines of jobs, and whether one of them ended in a fault or out of budget; or those of
+    /// tests of them, and whether one isn't ok.
     Jobs(String, bool),
     /// What the lines of a script are answered, and whether some job ended in a fault or out of
     /// budget.
@@ -54,6 +55,12 @@ pub enum Reply {
         /// Whether in one of them a job ended in a fault or out of budget, or a test isn't ok.
         stopped: bool,
         /// Whether they are all, or all that tests ask was told.
+        all: bool,
+    },
+    /// A search found no outcome of the number that was asked for.
+    NoOutcome {
+        text: String,
+        /// Whether it found all that there are.
         all: bool,
     },
     Refused(Refusal),
@@ -73,7 +80,8 @@ impl Reply {
             Reply::Outcomes { all: false, .. } => Status::Incomplete,
             Reply::Outcomes { stopped: true, .. } => Status::Stopped,
             Reply::Outcomes { .. } => Status::Done,
-            Reply::Refused(_) => Status::Refused,
+            Reply::NoOutcome { all: false, .. } => Status::Incomplete,
+            Reply::NoOutcome { .. } | Reply::Refused(_) => Status::Refused,
         }
     }
 }

@@ -1,14 +1,16 @@
 //! `ebpf run`: the jobs of a run file, in rounds on one thread or by workers.
 
-ghost use Rattle.std.specs.Prelude.{IfErr, IfOk, Ok};
-ghost use Rattle.bpf_file.specs.File.{file_of};
+ghost use Rattle.std.specs.Prelude.{IfErr, IfOk, Ok, string_bytes};
+ghost use Rattle.bpf_file.specs.File.{File, file_of};
 ghost use Rattle.bpf_file.specs.Reading.{IsRunFile};
 ghost use Rattle.bpf_file.specs.Runnable.{IsRunnable};
 ghost use Rattle.bpf_sched.specs.Refusing.{AreWorkers};
-ghost use Rattle.bpf_run.specs.Running.{IsRunByWorkers, IsRunOfFile, RefusesFile};
+ghost use Rattle.bpf_run.specs.Running.{IsHistoryOfFile, IsJudgedOfFile, IsRunByWorkers, IsRunOfFile, IsToldBy, RefusesFile};
 
 use crate::refusal::Refusal;
 use crate::reply::Reply;
+use bpf_check::{Judged, check_printed};
+use bpf_events::run_with_history;
 use bpf_file::{FileError, RunFile, read_file};
 use bpf_jobs::{Report, run_jobs_by};
 use bpf_workers::{WorkError, run_by_workers};
@@ -29,10 +31,67 @@ pub(crate) fn file_in(alloc: Global, text: &str) -> Result<RunFile, Refusal>
     }
 }
 
-/// `ebpf run`: these turns, and then rounds.
+/// What is told of the jobs that a text says, by these turns and then in rounds.
 #[tactic(auto, using(crate::proofs::FreshFiles::told))]
+fn report_by(
+    alloc: Global,
+    by: &[(u8, u64)],
+    keys: bool,
+    maps: bool,
+    text: &str,
+) -> Result<Report, Refusal>
+    ensures told { IfOk result (λ report. (f : File) × IsRunFile text.now (Ok f)
+        × IsToldBy by.now keys maps f (string_bytes report.text) report.stopped) }
+    ensures refused { IfErr result (RefusesFile text.now) }
+{
+    let file = file_in(alloc, text)?;
+    let RunFile {
+        shape,
+        names,
+        programs,
+        jobs,
+        ..
+    } = file;
+    match run_jobs_by(alloc, shape, &names, programs, jobs, by, keys, maps) {
+        Ok(report) => Ok(report),
+        Err(_) => Err(Refusal::OutOfMemory),
+    }
+}
+
+/// `ebpf run`: these turns, and then rounds.
 pub fn run_file(alloc: Global, by: &[(u8, u64)], keys: bool, maps: bool, text: &str) -> Reply
     ensures { IsRunOfFile by.now keys maps text.now result }
+{
+    match report_by(alloc, by, keys, maps, text) {
+        Ok(Report { text, stopped }) => Reply::Jobs(text, stopped),
+        Err(refusal) => Reply::Refused(refusal),
+    }
+}
+
+/// `ebpf run --check`: whether these turns and rounds come to what the file's comments expect.
+pub fn judge_file(alloc: Global, by: &[(u8, u64)], keys: bool, text: &str) -> Reply
+    ensures { IsJudgedOfFile by.now keys text.now result }
+{
+    let report = match report_by(alloc, by, keys, true, text) {
+        Ok(report) => report,
+        Err(refusal) => return Reply::Refused(refusal),
+    };
+    match check_printed(alloc, text.as_bytes(), report.text.as_str()) {
+        Ok(Judged { text, refuted }) => Reply::Jobs(text, refuted),
+        Err(_) => Reply::Refused(Refusal::OutOfMemory),
+    }
+}
+
+/// `ebpf run --events`: these turns and then rounds, with all that happens in them.
+#[tactic(auto, using(crate::proofs::FreshFiles::history))]
+pub fn run_file_with_history(
+    alloc: Global,
+    by: &[(u8, u64)],
+    keys: bool,
+    maps: bool,
+    text: &str,
+) -> Reply
+    ensures { IsHistoryOfFile by.now keys maps text.now result }
 {
     let file = match file_in(alloc, text) {
         Ok(file) => file,
@@ -45,7 +104,7 @@ pub fn run_file(alloc: Global, by: &[(u8, u64)], keys: bool, maps: bool, text: &
         jobs,
         ..
     } = file;
-    match run_jobs_by(alloc, shape, &names, programs, jobs, by, keys, maps) {
+    match run_with_history(alloc, shape, &names, programs, jobs, by, keys, maps) {
         Ok(Report { text, stopped }) => Reply::Jobs(text, stopped),
         Err(_) => Reply::Refused(Refusal::OutOfMemory),
     }

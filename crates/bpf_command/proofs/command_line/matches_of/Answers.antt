@@ -7,6 +7,7 @@ use Rattle.clap.specs.Words.{App, HasMatchesOf, Text, app_of, fault_of, subcomma
 use Rattle.bpf_command.specs.CommandLine.{ebpf}
 use Rattle.bpf_command.proofs.Budget.{BudgetKnown, budget_known}
 use Rattle.bpf_command.proofs.Limit.{LimitKnown, limit_known}
+use Rattle.bpf_command.proofs.Shown.{ShownKnown, shown_known}
 use Rattle.bpf_command.proofs.Subcommands.{is_matched, is_told, name_known}
 use Rattle.bpf_command.proofs.Workers.{WorkersKnown, workers_known}
 use Rattle.bpf_command.proofs.command_line.matches_of.Goals as goal
@@ -61,3 +62,9 @@ returns-clause-limited g c =
     let words : List Text = map g.S.AsStr.text c.args.words.now in
     let found : subcommand_rows_of c.in_ok-matches.matches ≡ subcommand_of ebpf words = returns-clause-found g c in
     subst (λ o. IfSome o LimitKnown) (sym found) (limit_known words (returns-clause-faults g c))
+
+pub returns-clause-shown : goal.returns-clause-shown
+returns-clause-shown g c =
+    let words : List Text = map g.S.AsStr.text c.args.words.now in
+    let found : subcommand_rows_of c.in_ok-matches.matches ≡ subcommand_of ebpf words = returns-clause-found g c in
+    subst (λ o. IfSome o ShownKnown) (sym found) (shown_known words (returns-clause-faults g c))

@@ -5,14 +5,14 @@ use Rattle.bpf_file.specs.File.{file_of}
 use Rattle.bpf_file.specs.Reading.{IsRunFile}
 use Rattle.bpf_jobs.specs.Printed.{asked_world, IsReportBy}
 use Rattle.bpf_run.proofs.FreshFiles.{told}
-use Rattle.bpf_run.proofs.running.run_file.Goals as goal
+use Rattle.bpf_run.proofs.running.report_by.Goals as goal
 
-pub returns-in-Ok-run_jobs_by : goal.returns-in-Ok-run_jobs_by
-returns-in-Ok-run_jobs_by c =
-    let file = c.in-Ok.file in
-    let report = c.in-Ok-run_jobs_by.field-0 in
+pub returns-in-Ok-clause-told : goal.returns-in-Ok-clause-told
+returns-in-Ok-clause-told c =
+    let file = c.in_ok-file.file in
+    let report = c.in-Ok.report in
     let said : IsRunFile c.args.text.now (Ok (file_of file)) = search rules in
     let w = asked_world c.args.keys file.shape file.programs.items (map waiting file.jobs.items) in
     let printed = subst (λ names. IsReportBy w c.args.by.now (map string_bytes names) c.args.maps (string_bytes report.text) report.stopped)
-    c.deref.ensures.value c.in-Ok-run_jobs_by.ensures in
+    c.deref.ensures.value c.in-Ok.ensures in
     told c.args.by.now c.args.keys c.args.maps c.args.text.now file report said printed

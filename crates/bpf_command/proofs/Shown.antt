@@ -1,0 +1,108 @@
+-- Where `clap` finds no fault, the number of an outcome that `explore` is given is in its range.
+use Rattle.std.proofs.Common.{unwrap_or, ◌∙◌, sym, subst, true≢false, ap, ◌≡◌, List, [], ◌∷◌, Bool, false, codes, Option, Some, None, refl}
+use Rattle.std.specs.Prelude.{IfSome, find}
+use Rattle.std.specs.Str.{bytes_eq}
+use Rattle.clap.specs.Simple.{filled, Shape, built, label_of}
+use Rattle.clap.specs.Faults.{level_fault}
+use Rattle.clap.specs.Walk.{with_default, values_or_missing, Held, Row, Rule, Text, answers_to, finished, has_row, nothing_held, rows_after, settled, walk}
+use Rattle.clap.specs.Words.{fault_of, subcommand_of}
+use Rattle.bpf_command.specs.declared.command.TheConstants.{MAX_LIMIT}
+use Rattle.bpf_command.specs.CommandLine.{HasShown, ebpf, explained, explore, file, limit, patient, show}
+use Rattle.bpf_command.proofs.Counted.{counted_keeps, has_count}
+use Rattle.bpf_command.proofs.Ranges as range
+use Rattle.bpf_command.proofs.Ranges.{no_default}
+use Rattle.bpf_command.proofs.Subcommands.{AllHave, found_known, other_name}
+use Rattle.bpf_command.proofs.Walks.{Keeps}
+
+abbrev AreFine : List Row → Type 0
+AreFine = range.AreFine (codes "show") 1 MAX_LIMIT
+
+-- ---- the rules
+
+-- `explore` as it is built, and its options with what building fills in
+abbrev explore_built : Shape
+explore_built =
+    unwrap_or (find (λ s. answers_to (codes "explore") (label_of s)) (built ebpf).subs) explore.top
+
+abbrev rules : List Rule
+rules = explore_built.rules
+
+show_keeps : Keeps AreFine false (filled show)
+show_keeps = counted_keeps (codes "show") MAX_LIMIT
+
+patient_keeps : Keeps AreFine false (filled patient)
+patient_keeps values rows e fine =
+    range.other_used_fine (codes "show") 1 MAX_LIMIT (codes "patient") (values_or_missing (filled patient) values) rows refl fine
+
+limit_keeps : Keeps AreFine false (filled limit)
+limit_keeps values rows e fine =
+    range.other_used_fine (codes "show") 1 MAX_LIMIT (codes "limit") (values_or_missing (filled limit) values) rows refl fine
+
+file_keeps : Keeps AreFine false (filled file)
+file_keeps values rows e fine =
+    range.other_used_fine (codes "show") 1 MAX_LIMIT (codes "file") (values_or_missing (filled file) values) rows refl fine
+
+explained_keeps : Keeps AreFine false (filled explained)
+explained_keeps values rows e fine =
+    range.other_used_fine (codes "show") 1 MAX_LIMIT (codes "explain") (values_or_missing (filled explained) values) rows refl fine
+
+rules_keep : range.AllKeep (codes "show") 1 MAX_LIMIT rules
+rules_keep =
+    (explained_keeps, (patient_keeps, (limit_keeps, (show_keeps, (file_keeps, ((λ values rows e fine. fine), tt))))))
+
+-- ---- the rows
+
+-- the flags and the limit have defaults, and no other option of `explore` has one
+finished_shown : (h : Held) → AreFine (settled rules h).rows → HasShown (finished rules h)
+finished_shown h fine =
+    let start = with_default (settled rules h).rows (filled explained) in
+    let waits = with_default start (filled patient) in
+    let bounded = with_default waits (filled limit) in
+    let first = with_default bounded (filled show) in
+    let second = with_default first (filled file) in
+    let started = range.default_fine (codes "show") 1 MAX_LIMIT (codes "explain") (codes "false" ∷ []) (settled rules h).rows refl fine in
+    let waited = range.default_fine (codes "show") 1 MAX_LIMIT (codes "patient") (codes "false" ∷ []) start refl started in
+    let all = range.default_fine (codes "show") 1 MAX_LIMIT (codes "limit") (codes "1000000" ∷ []) waits refl waited in
+    let same =
+    no_default (has_row (codes "help") second) second ∙ (no_default (has_row (codes "file") first) first
+    ∙ no_default (has_row (codes "show") bounded) bounded)
+    in
+    subst HasShown (sym same) (has_count (codes "show") MAX_LIMIT bounded all)
+
+-- the options of `explore`, after a parse of its words with no fault
+explore_shown : (words : List Text) → level_fault explore_built [] nothing_held words false [] ≡ [] → HasShown (rows_after rules [] words)
+explore_shown words e =
+    finished_shown (walk rules [] nothing_held words).held (range.settled_fine (codes "show") 1 MAX_LIMIT explore_built refl rules_keep words e)
+
+-- ---- the subcommands
+
+-- for `explore`, the number of an outcome that is given is in its range
+abbrev pub ShownKnown : Text × List Row → Type 0
+ShownKnown found = found.0 ≡ codes "explore" → HasShown found.1
+
+all_known : AllHave ShownKnown (built ebpf).subs
+all_known = (
+  (λ words e is. absurd (other_name (codes "explore") (codes "hex") refl is)),
+  (
+    (λ words e is. absurd (other_name (codes "explore") (codes "asm") refl is)),
+    (
+      (λ words e is. absurd (other_name (codes "explore") (codes "disasm") refl is)),
+      (
+        (λ words e is. absurd (other_name (codes "explore") (codes "run") refl is)),
+        (
+          (λ words e is. explore_shown words e),
+          (
+            (λ words e is. absurd (other_name (codes "explore") (codes "check") refl is)),
+            (
+              (λ words e is. absurd (other_name (codes "explore") (codes "debug") refl is)),
+              ((λ words e is. absurd (other_name (codes "explore") (codes "explain") refl is)), tt),
+            ),
+          ),
+        ),
+      ),
+    ),
+  ),
+)
+
+pub shown_known : (words : List Text) → fault_of ebpf words ≡ [] → IfSome (subcommand_of ebpf words) ShownKnown
+shown_known words e = found_known ShownKnown all_known words e

@@ -1,0 +1,16 @@
+use Rattle.std.proofs.Common.{rules, ◌≡◌, ◌-◌, ℕ, false, true, List, Some, subst}
+use Rattle.std.specs.Prelude.{slice_get}
+use Rattle.bpf_run.specs.Exploring.{AreFoundBy}
+use Rattle.bpf_run.specs.Running.{IsHistoryOfFile}
+use Rattle.bpf_run.proofs.ShownReplies.{shown}
+use Rattle.bpf_run.proofs.exploring.show_file.Goals as goal
+
+pub returns-in-Some : goal.returns-in-Some
+returns-in-Some c =
+    let explored = c.in-Ok.explored in
+    let text = c.args.text.now in
+    let found = c.in-Some.answer.now in
+    let history = subst (λ (runs : List (ℕ × ℕ)). IsHistoryOfFile runs false true text c.run_file_with_history.result) c.by.ensures c.run_file_with_history.ensures in
+    let are : AreFoundBy c.args.options.patient text explored.answers.items explored.all c.args.options.limit explored.states = search rules in
+    let at : slice_get explored.answers.items (c.args.outcome - 1) ≡ Some found = search rules in
+    shown c.args.options.patient c.args.options.limit c.args.outcome text explored.answers.items explored.all explored.states found c.run_file_with_history.result are at history
