@@ -1,14 +1,14 @@
 -- The turns of a session, in run lengths.
-use Rattle.std.proofs.Common.{◌≡◌, ℕ, zero, suc, ◌+◌, ◌<◌, ◌≤◌, Bool, true, false, ◌&&◌, List, [], ◌∷◌, ◌++◌, length, drop, get_or, Option, Some, None, refl, sym, ap, subst, ◌∙◌, arith, append_assoc, append-nil, replicate, if◌then◌else◌}
+use Rattle.std.proofs.Common.{◌≡◌, ℕ, zero, suc, ◌+◌, ◌-◌, ◌<◌, ◌≤◌, take, Bool, true, false, ◌&&◌, List, [], ◌∷◌, ◌++◌, length, drop, get_or, Option, Some, None, refl, sym, ap, subst, ◌∙◌, arith, append_assoc, append-nil, replicate, if◌then◌else◌}
 use Rattle.std.specs.Prelude.{◌==◌, nat_lt, slice_set}
 use Rattle.std.specs.List.{list_all}
 use Rattle.std.proofs.lemmas.Bool.{and_parts, ltb-true, eqb-true, eq-eqb, ne_eqb, le-leb, lt-ltb, le-ltb}
 use Rattle.std.proofs.Math.Seq.{drop-cons}
-use Rattle.std.proofs.lemmas.List.{drop_all, replicate-append-replicate}
+use Rattle.std.proofs.lemmas.List.{drop_all, length-append, length-replicate, replicate-append-replicate}
 use Rattle.bpf_machine.specs.Schedule.{unrolled}
 use Rattle.bpf_debug.specs.Command.{is_short, most_turns}
 use Rattle.bpf_debug.specs.Laws.{RunsTellTurns}
-use Rattle.bpf_debug.specs.Course.{with_turn, with_turns, IsKept, KeepsOn}
+use Rattle.bpf_debug.specs.Course.{with_turn, with_turns, DropsTurn, HaveTurns, IsKept, KeepsOn, TakesBack}
 
 -- ---- the next run, and none
 pub run_next : (runs : List (ℕ × ℕ)) (at : ℕ) → at < length runs → drop at runs ≡ get_or runs at (0, 0) ∷ drop (at + 1) runs
@@ -122,3 +122,104 @@ all_short runs (c ∷ turns) short = all_short (with_turn runs c) turns (short_m
 
 pub runs_tell_turns : RunsTellTurns
 runs_tell_turns turns = (turns_more [] turns, all_short [] turns refl)
+
+-- ---- the last turn is taken away
+abbrev Undoes : List (ℕ × ℕ) → ℕ → List (ℕ × ℕ) → ℕ → ℕ × ℕ → Type 0
+Undoes runs d longer n last =
+    (last.0 ≡ d) × (1 < last.1 → slice_set longer n (last.0, last.1 - 1) ≡ runs) × (last.1 ≤ 1 → take n longer ≡ runs)
+
+one_undone : (run last : ℕ × ℕ) (d n : ℕ) (b : Bool) → ((run.0 == d) && nat_lt run.1 most_turns) ≡ b → 0 < run.1
+    → n + 1 ≡ length (if b then (d, run.1 + 1) ∷ [] else run ∷ (d, 1) ∷ []) → last ≡ get_or (if b then (d, run.1 + 1) ∷ [] else run ∷ (d, 1) ∷ []) n last
+    → Undoes (run ∷ []) d (if b then (d, run.1 + 1) ∷ [] else run ∷ (d, 1) ∷ []) n last
+one_undone run last d zero true e some size is =
+    let own : run.0 ≡ d = eqb-true run.0 d (and_parts (run.0 == d) (nat_lt run.1 most_turns) e).0 in
+    let whose : last.0 ≡ d = ap (λ (r : ℕ × ℕ). r.0) is in
+    let count : last.1 ≡ run.1 + 1 = ap (λ (r : ℕ × ℕ). r.1) is in
+    let less : last.1 - 1 ≡ run.1 = omega (arith, count) in
+    let back : (last.0, last.1 - 1) ≡ run = ap (λ (c : ℕ). (c, last.1 - 1)) (whose ∙ sym own) ∙ ap (λ (k : ℕ). (run.0, k)) less in
+    (whose, λ more. ap (λ (r : ℕ × ℕ). r ∷ []) back, λ few. absurd (omega (arith, count, few, some)))
+one_undone run last d (suc n) true e some size is = absurd (omega (arith, size))
+one_undone run last d zero false e some size is = absurd (omega (arith, size))
+one_undone run last d (suc zero) false e some size is =
+    let count : last.1 ≡ 1 = ap (λ (r : ℕ × ℕ). r.1) is in
+    (ap (λ (r : ℕ × ℕ). r.0) is, λ more. absurd (omega (arith, count, more)), λ few. refl)
+one_undone run last d (suc (suc n)) false e some size is = absurd (omega (arith, size))
+
+some_of : (run : ℕ × ℕ) (d : ℕ) (b : Bool) → 1 ≤ length (if b then (d, run.1 + 1) ∷ [] else run ∷ (d, 1) ∷ [])
+some_of run d true = omega arith
+some_of run d false = omega arith
+
+some_there : (runs : List (ℕ × ℕ)) (d : ℕ) → 1 ≤ length (with_turn runs d)
+some_there [] d = omega arith
+some_there (run ∷ []) d = some_of run d ((run.0 == d) && nat_lt run.1 most_turns)
+some_there (run ∷ next ∷ runs) d = omega arith
+
+last_undone : (runs : List (ℕ × ℕ)) (last : ℕ × ℕ) (d n : ℕ) → HaveTurns runs → n + 1 ≡ length (with_turn runs d) → last ≡ get_or (with_turn runs d) n last
+    → Undoes runs d (with_turn runs d) n last
+last_undone [] last d zero some size is =
+    let count : last.1 ≡ 1 = ap (λ (r : ℕ × ℕ). r.1) is in
+    (ap (λ (r : ℕ × ℕ). r.0) is, λ more. absurd (omega (arith, count, more)), λ few. refl)
+last_undone [] last d (suc n) some size is = absurd (omega (arith, size))
+last_undone (run ∷ []) last d n some size is = one_undone run last d n ((run.0 == d) && nat_lt run.1 most_turns) refl some.0 size is
+last_undone (run ∷ next ∷ runs) last d zero some size is = absurd (omega (arith, size, some_there (next ∷ runs) d))
+last_undone (run ∷ next ∷ runs) last d (suc n) some size is =
+    let u = last_undone (next ∷ runs) last d n some.1 (omega (arith, size)) is in
+    (u.0, λ more. ap (λ (rs : List (ℕ × ℕ)). run ∷ rs) (u.1 more), λ few. ap (λ (rs : List (ℕ × ℕ)). run ∷ rs) (u.2 few))
+
+-- of the last of some runs, which has more turns than one, or one
+pub drops_one : (old new : List (ℕ × ℕ)) (last : ℕ × ℕ) (n : ℕ) → n + 1 ≡ length old → last ≡ get_or old n last → 1 < last.1 → new ≡ slice_set old n (last.0, last.1 - 1) → DropsTurn old new last.0
+drops_one old new last n size is more put runs d some was =
+    let U : List (ℕ × ℕ) → Type 0 = λ rs. (last.0 ≡ d) × (1 < last.1 → slice_set rs n (last.0, last.1 - 1) ≡ runs) × (last.1 ≤ 1 → take n rs ≡ runs) in
+    let u = subst U (sym was) (last_undone runs last d n some (size ∙ ap (λ (rs : List (ℕ × ℕ)). length rs) was) (is ∙ ap (λ (rs : List (ℕ × ℕ)). get_or rs n last) was)) in
+    (put ∙ u.1 more, u.0)
+
+pub drops_run : (old new : List (ℕ × ℕ)) (last : ℕ × ℕ) (n : ℕ) → n + 1 ≡ length old → last ≡ get_or old n last → last.1 ≤ 1 → new ≡ take n old → DropsTurn old new last.0
+drops_run old new last n size is few put runs d some was =
+    let U : List (ℕ × ℕ) → Type 0 = λ rs. (last.0 ≡ d) × (1 < last.1 → slice_set rs n (last.0, last.1 - 1) ≡ runs) × (last.1 ≤ 1 → take n rs ≡ runs) in
+    let u = subst U (sym was) (last_undone runs last d n some (size ∙ ap (λ (rs : List (ℕ × ℕ)). length rs) was) (is ∙ ap (λ (rs : List (ℕ × ℕ)). get_or rs n last) was)) in
+    (put ∙ u.2 few, u.0)
+
+-- there is a last one
+pub drops_none : (old new : List (ℕ × ℕ)) (c : ℕ) → length old ≡ 0 → DropsTurn old new c
+drops_none old new c none runs d some was =
+    absurd (omega (arith, none, ap (λ (rs : List (ℕ × ℕ)). length rs) was, some_there runs d))
+
+-- ---- each run has a turn
+still_one : (run : ℕ × ℕ) (d : ℕ) (b : Bool) → 0 < run.1 → HaveTurns (if b then (d, run.1 + 1) ∷ [] else run ∷ (d, 1) ∷ [])
+still_one run d true some = (omega arith, tt)
+still_one run d false some = (some, (omega arith, tt))
+
+still_turns : (runs : List (ℕ × ℕ)) (d : ℕ) → HaveTurns runs → HaveTurns (with_turn runs d)
+still_turns [] d some = (omega arith, tt)
+still_turns (run ∷ []) d some = still_one run d ((run.0 == d) && nat_lt run.1 most_turns) some.0
+still_turns (run ∷ next ∷ runs) d some = (some.0, still_turns (next ∷ runs) d some.1)
+
+all_turns : (runs : List (ℕ × ℕ)) (turns : List ℕ) → HaveTurns runs → HaveTurns (with_turns runs turns)
+all_turns runs [] some = some
+all_turns runs (c ∷ turns) some = all_turns (with_turn runs c) turns (still_turns runs c some)
+
+-- ---- turns are taken away, one after the other
+pub took_none : (runs : List (ℕ × ℕ)) → TakesBack runs 0 runs 0
+took_none runs turns [] size is = (is ∙ ap (λ (cs : List ℕ). with_turns [] cs) (append-nil turns), refl)
+took_none runs turns (c ∷ more) size is = absurd (omega (arith, size))
+
+pub took_more : (old mid new : List (ℕ × ℕ)) (n c d : ℕ) → TakesBack old n mid c → DropsTurn mid new d → TakesBack old (n + 1) new d
+took_more old mid new n c d before drops turns [] size is = absurd (omega (arith, size))
+took_more old mid new n c d before drops turns (e ∷ more) size is =
+    let t = before (turns ++ e ∷ []) more (omega (arith, size)) (is ∙ ap (λ (cs : List ℕ). with_turns [] cs) (sym (append_assoc turns (e ∷ []) more))) in
+    drops (with_turns [] turns) e (all_turns [] turns tt) (t.0 ∙ more_turns [] turns (e ∷ []))
+
+-- where all turns are kept, as the flag says
+pub kept_runs : (b : Bool) (old : Option (List (ℕ × ℕ))) (runs told : List (ℕ × ℕ)) → (if b then Some runs else None) ≡ old → old ≡ Some told → runs ≡ told
+kept_runs true old runs told is kept = let both : Some runs ≡ Some told = is ∙ kept in cc
+kept_runs false old runs told is kept = let both : None ≡ Some told = is ∙ kept in cc
+
+-- ---- how many there are
+pub unrolled_more : (run : ℕ × ℕ) (runs : List (ℕ × ℕ)) → length (unrolled (run ∷ runs)) ≡ run.1 + length (unrolled runs)
+unrolled_more run runs = length-append (replicate run.1 run.0) (unrolled runs) ∙ ap (λ (k : ℕ). k + length (unrolled runs)) (length-replicate run.1 run.0)
+
+pub left_next : (runs : List (ℕ × ℕ)) (at : ℕ) → at < length runs → length (unrolled (drop at runs)) ≡ (get_or runs at (0, 0)).1 + length (unrolled (drop (at + 1) runs))
+left_next runs at inside = ap (λ (rs : List (ℕ × ℕ)). length (unrolled rs)) (run_next runs at inside) ∙ unrolled_more (get_or runs at (0, 0)) (drop (at + 1) runs)
+
+pub left_none : (runs : List (ℕ × ℕ)) (at : ℕ) → length runs ≤ at → length (unrolled (drop at runs)) ≡ 0
+left_none runs at past = ap (λ (rs : List (ℕ × ℕ)). length (unrolled rs)) (none_left runs at past)

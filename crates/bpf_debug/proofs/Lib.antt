@@ -1,5 +1,6 @@
 pub mod CommandLaws
 pub mod CourseLaws
+pub mod OriginLaws
 pub mod GoLaws
 pub mod ManyTurns
 pub mod Weaker

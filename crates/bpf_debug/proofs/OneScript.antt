@@ -1,5 +1,5 @@
 -- Over a machine whose jobs all wait, a script has one list of answers.
-use Rattle.std.proofs.Common.{◌≡◌, ◌≢◌, ℕ, zero, suc, ◌+◌, ◌<◌, ◌≤◌, true, false, List, [], ◌∷◌, ◌++◌, Some, None, ◌⊎◌, inl, inr, refl, sym, ap, subst, ◌∙◌, arith, replicate}
+use Rattle.std.proofs.Common.{◌≡◌, ◌≢◌, ℕ, zero, suc, ◌+◌, ◌<◌, ◌≤◌, true, false, List, [], ◌∷◌, ◌++◌, length, Option, Some, None, ◌⊎◌, inl, inr, refl, sym, ap, subst, ◌∙◌, arith, replicate}
 use Rattle.std.specs.Prelude.{nat_lt, Ok, Err}
 use Rattle.std.proofs.lemmas.Bool.{cases_order, lt-ltb}
 use Rattle.bpf_shared.specs.Laws.{CallsHaveOneReply}
@@ -10,16 +10,17 @@ use Rattle.bpf_loader.specs.Loaded.{Loaded}
 use Rattle.bpf_machine.specs.declared.machine.Turn.{Turn}
 use Rattle.bpf_cpu.specs.Task.{Task}
 use Rattle.bpf_machine.specs.Schedule.{World, TakesTurn, unrolled}
-use Rattle.bpf_machine.proofs.DeterminedTurns.{IsWorld, one_turn, fresh_world}
+use Rattle.bpf_machine.proofs.DeterminedTurns.{IsWorld, one_turn, one_run, runs_world, fresh_world}
 use Rattle.bpf_debug.specs.declared.breakpoint.Breakpoint.{Breakpoint}
 use Rattle.bpf_debug.specs.declared.error.DebugError.{DebugError}
 use Rattle.bpf_debug.specs.declared.error.DebugError.TheVariants as error
 use Rattle.bpf_debug.specs.Answer.{IsWhere, ended_text, stop_line}
-use Rattle.bpf_debug.specs.Command.{Order, Break, Delete, Step, StepTimes, Steps, Go, Registers, Where, Memory, Map, Keys, Schedule, GoTo, Maps, Jobs, Mark, order_of}
+use Rattle.bpf_debug.specs.Command.{Order, Break, Delete, Step, StepTimes, Steps, Go, Registers, Where, Memory, Map, Keys, Schedule, GoTo, Maps, Jobs, Mark, Back, Help, order_of}
 use Rattle.bpf_debug.specs.Turns.{MakesTurns, MakesRuns, last_cpu}
 use Rattle.bpf_debug.specs.Go.{HasWork, AreIdle, IsUp, StandsAt, Goes, Done, Stops, Turns, has_break, has_gone}
 use Rattle.bpf_debug.specs.Read.{IsMapText, IsKeysText}
-use Rattle.bpf_debug.specs.Session.{Scene, Answers, CarriesOut, Obeys, behind, RefusesOrder, RefusesFields, IsLineRefused}
+use Rattle.bpf_debug.specs.Course.{cpu_before, turns_before}
+use Rattle.bpf_debug.specs.Session.{Scene, Answers, CarriesOut, Obeys, behind, undone, RefusesOrder, RefusesFields, IsLineRefused}
 use Rattle.bpf_debug.specs.Script.{Answer, AnswersLine, RunsScript}
 use Rattle.bpf_debug.specs.Laws.{HadMemory, ScriptsAreDetermined}
 use Rattle.bpf_debug.proofs.GoLaws.{free_has_no_work}
@@ -52,7 +53,7 @@ one_up jobs low high «from» c d a b = elim (cases_order c d) [
 no_cpu : (c cpus : ℕ) → c < cpus → nat_lt c cpus ≡ false → ⊥
 no_cpu c cpus less out = let both : true ≡ false = sym (lt-ltb c cpus less) ∙ out in cc
 
-cpu_refused : (x y : Scene) (order : Order) (text : List ℕ) → CarriesOut x order text y → RefusesOrder x.world.store.shape.cpus x.world.programs x.names order error.NoCpu → ⊥
+cpu_refused : (x y : Scene) (order : Order) (text : List ℕ) → CarriesOut x order text y → RefusesOrder x.world.store.shape.cpus x.world.programs x.names (Some (length x.turns)) order error.NoCpu → ⊥
 cpu_refused x y (Break (Some c) (Some p)) text f r = no_cpu c x.world.store.shape.cpus f.0 r
 cpu_refused x y (Break (Some c) None) text f r = absurd f
 cpu_refused x y (Break None p) text f r = absurd f
@@ -77,11 +78,13 @@ cpu_refused x y (GoTo None p) text f r = absurd f
 cpu_refused x y Maps text f r = r
 cpu_refused x y Jobs text f r = r
 cpu_refused x y (Mark n) text f r = r
+cpu_refused x y (Back n) text f r = r
+cpu_refused x y Help text f r = r
 cpu_refused x y (Delete (Some c) (Some p)) text f r = no_cpu c x.world.store.shape.cpus f.0 r
 cpu_refused x y (Delete (Some c) None) text f r = absurd f
 cpu_refused x y (Delete None p) text f r = absurd f
 
-pc_refused : (x y : Scene) (order : Order) (text : List ℕ) → CarriesOut x order text y → RefusesOrder x.world.store.shape.cpus x.world.programs x.names order error.NoPc → ⊥
+pc_refused : (x y : Scene) (order : Order) (text : List ℕ) → CarriesOut x order text y → RefusesOrder x.world.store.shape.cpus x.world.programs x.names (Some (length x.turns)) order error.NoPc → ⊥
 pc_refused x y (Break (Some c) (Some p)) text f r = r.1 f.1.0
 pc_refused x y (Break (Some c) None) text f r = absurd f
 pc_refused x y (Break None p) text f r = absurd f
@@ -101,11 +104,13 @@ pc_refused x y (GoTo None p) text f r = absurd f
 pc_refused x y Maps text f r = absurd r
 pc_refused x y Jobs text f r = absurd r
 pc_refused x y (Mark n) text f r = absurd r
+pc_refused x y (Back n) text f r = absurd r
+pc_refused x y Help text f r = absurd r
 pc_refused x y (Delete (Some c) (Some p)) text f r = r.1 f.1.0
 pc_refused x y (Delete (Some c) None) text f r = absurd f
 pc_refused x y (Delete None p) text f r = absurd f
 
-map_refused : (x y : Scene) (order : Order) (text : List ℕ) → CarriesOut x order text y → RefusesOrder x.world.store.shape.cpus x.world.programs x.names order error.NoMap → ⊥
+map_refused : (x y : Scene) (order : Order) (text : List ℕ) → CarriesOut x order text y → RefusesOrder x.world.store.shape.cpus x.world.programs x.names (Some (length x.turns)) order error.NoMap → ⊥
 map_refused x y (Map name) text f r = r f.0.0 f.0.1.0
 map_refused x y (Keys name) text f r = r f.0.0 f.0.1.0
 map_refused x y Schedule text f r = absurd r
@@ -113,6 +118,8 @@ map_refused x y (GoTo c p) text f r = absurd r
 map_refused x y Maps text f r = absurd r
 map_refused x y Jobs text f r = absurd r
 map_refused x y (Mark n) text f r = absurd r
+map_refused x y (Back n) text f r = absurd r
+map_refused x y Help text f r = absurd r
 map_refused x y (Break c p) text f r = absurd r
 map_refused x y (Delete c p) text f r = absurd r
 map_refused x y (Step c) text f r = absurd r
@@ -123,6 +130,26 @@ map_refused x y (Registers c) text f r = absurd r
 map_refused x y (Where c) text f r = absurd r
 map_refused x y (Memory c at n) text f r = absurd r
 
+turns_refused : (x y : Scene) (order : Order) (text : List ℕ) → CarriesOut x order text y → RefusesOrder x.world.store.shape.cpus x.world.programs x.names (Some (length x.turns)) order error.NoTurns → ⊥
+turns_refused x y (Back n) text f r = omega (arith, f.0, r)
+turns_refused x y (Map name) text f r = absurd r
+turns_refused x y (Keys name) text f r = absurd r
+turns_refused x y Schedule text f r = absurd r
+turns_refused x y (GoTo c p) text f r = absurd r
+turns_refused x y Maps text f r = absurd r
+turns_refused x y Jobs text f r = absurd r
+turns_refused x y (Mark n) text f r = absurd r
+turns_refused x y Help text f r = absurd r
+turns_refused x y (Break c p) text f r = absurd r
+turns_refused x y (Delete c p) text f r = absurd r
+turns_refused x y (Step c) text f r = absurd r
+turns_refused x y (StepTimes c n) text f r = absurd r
+turns_refused x y (Steps runs) text f r = absurd r
+turns_refused x y Go text f r = absurd r
+turns_refused x y (Registers c) text f r = absurd r
+turns_refused x y (Where c) text f r = absurd r
+turns_refused x y (Memory c at n) text f r = absurd r
+
 same_order : (fields : List (List ℕ)) (a b : Order) → order_of fields ≡ Some a → order_of fields ≡ Some b → a ≡ b
 same_order fields a b e f = let both : Some a ≡ Some b = sym e ∙ f in cc
 
@@ -132,6 +159,7 @@ line_refused x y [] text error.OutOfMemory o memory r = memory refl
 line_refused x y [] text error.NoCpu o memory r = let both : None ≡ Some r.0 = r.1 in cc
 line_refused x y [] text error.NoPc o memory r = let both : None ≡ Some r.0 = r.1 in cc
 line_refused x y [] text error.NoMap o memory r = let both : None ≡ Some r.0 = r.1 in cc
+line_refused x y [] text error.NoTurns o memory r = let both : None ≡ Some r.0 = r.1 in cc
 line_refused x y (f ∷ fs) text error.BadCommand o memory r = let both : Some o.0 ≡ None = sym o.1 ∙ r.1 in cc
 line_refused x y (f ∷ fs) text error.OutOfMemory o memory r = memory refl
 line_refused x y (f ∷ fs) text error.NoCpu o memory r =
@@ -143,10 +171,13 @@ line_refused x y (f ∷ fs) text error.NoPc o memory r =
 line_refused x y (f ∷ fs) text error.NoMap o memory r =
     let P : Order → Type 0 = λ order. CarriesOut x order text y in
     map_refused x y r.0 text (subst P (same_order (f ∷ fs) o.0 r.0 o.1 r.1) o.2) r.2
+line_refused x y (f ∷ fs) text error.NoTurns o memory r =
+    let P : Order → Type 0 = λ order. CarriesOut x order text y in
+    turns_refused x y r.0 text (subst P (same_order (f ∷ fs) o.0 r.0 o.1 r.1) o.2) r.2
 
 -- a line is refused for one reason
-module _ (cpus : ℕ) (programs : List Loaded) (names : List (List ℕ)) where
-  cpu_or_pc : (order : Order) → RefusesOrder cpus programs names order error.NoCpu → RefusesOrder cpus programs names order error.NoPc → ⊥
+module _ (cpus : ℕ) (programs : List Loaded) (names : List (List ℕ)) (count : Option ℕ) where
+  cpu_or_pc : (order : Order) → RefusesOrder cpus programs names count order error.NoCpu → RefusesOrder cpus programs names count order error.NoPc → ⊥
   cpu_or_pc (Break c p) a b = b.0 a
   cpu_or_pc (Step c) a b = absurd b
   cpu_or_pc Go a b = absurd b
@@ -162,9 +193,11 @@ module _ (cpus : ℕ) (programs : List Loaded) (names : List (List ℕ)) where
   cpu_or_pc Maps a b = absurd b
   cpu_or_pc Jobs a b = absurd b
   cpu_or_pc (Mark n) a b = absurd b
+  cpu_or_pc (Back n) a b = absurd b
+  cpu_or_pc Help a b = absurd b
   cpu_or_pc (Delete c p) a b = b.0 a
 
-  cpu_or_map : (order : Order) → RefusesOrder cpus programs names order error.NoCpu → RefusesOrder cpus programs names order error.NoMap → ⊥
+  cpu_or_map : (order : Order) → RefusesOrder cpus programs names count order error.NoCpu → RefusesOrder cpus programs names count order error.NoMap → ⊥
   cpu_or_map (Break c p) a b = absurd b
   cpu_or_map (Step c) a b = absurd b
   cpu_or_map Go a b = absurd b
@@ -180,9 +213,11 @@ module _ (cpus : ℕ) (programs : List Loaded) (names : List (List ℕ)) where
   cpu_or_map Maps a b = absurd b
   cpu_or_map Jobs a b = absurd b
   cpu_or_map (Mark n) a b = absurd b
+  cpu_or_map (Back n) a b = absurd b
+  cpu_or_map Help a b = absurd b
   cpu_or_map (Delete c p) a b = absurd b
 
-  pc_or_map : (order : Order) → RefusesOrder cpus programs names order error.NoPc → RefusesOrder cpus programs names order error.NoMap → ⊥
+  pc_or_map : (order : Order) → RefusesOrder cpus programs names count order error.NoPc → RefusesOrder cpus programs names count order error.NoMap → ⊥
   pc_or_map (Break c p) a b = absurd b
   pc_or_map (Step c) a b = absurd b
   pc_or_map Go a b = absurd b
@@ -198,20 +233,91 @@ module _ (cpus : ℕ) (programs : List Loaded) (names : List (List ℕ)) where
   pc_or_map Maps a b = absurd b
   pc_or_map Jobs a b = absurd b
   pc_or_map (Mark n) a b = absurd b
+  pc_or_map (Back n) a b = absurd b
+  pc_or_map Help a b = absurd b
   pc_or_map (Delete c p) a b = absurd b
+
+  cpu_or_turns : (order : Order) → RefusesOrder cpus programs names count order error.NoCpu → RefusesOrder cpus programs names count order error.NoTurns → ⊥
+  cpu_or_turns (Back n) a b = absurd a
+  cpu_or_turns (Break c p) a b = absurd b
+  cpu_or_turns (Step c) a b = absurd b
+  cpu_or_turns Go a b = absurd b
+  cpu_or_turns (Steps runs) a b = absurd b
+  cpu_or_turns (StepTimes c n) a b = absurd b
+  cpu_or_turns (Registers c) a b = absurd b
+  cpu_or_turns (Where c) a b = absurd b
+  cpu_or_turns (Memory c at n) a b = absurd b
+  cpu_or_turns (Map name) a b = absurd b
+  cpu_or_turns (Keys name) a b = absurd b
+  cpu_or_turns Schedule a b = absurd b
+  cpu_or_turns (GoTo c p) a b = absurd b
+  cpu_or_turns Maps a b = absurd b
+  cpu_or_turns Jobs a b = absurd b
+  cpu_or_turns (Mark n) a b = absurd b
+  cpu_or_turns Help a b = absurd b
+  cpu_or_turns (Delete c p) a b = absurd b
+
+  pc_or_turns : (order : Order) → RefusesOrder cpus programs names count order error.NoPc → RefusesOrder cpus programs names count order error.NoTurns → ⊥
+  pc_or_turns (Back n) a b = absurd a
+  pc_or_turns (Break c p) a b = absurd b
+  pc_or_turns (Step c) a b = absurd b
+  pc_or_turns Go a b = absurd b
+  pc_or_turns (Steps runs) a b = absurd b
+  pc_or_turns (StepTimes c n) a b = absurd b
+  pc_or_turns (Registers c) a b = absurd b
+  pc_or_turns (Where c) a b = absurd b
+  pc_or_turns (Memory c at n) a b = absurd b
+  pc_or_turns (Map name) a b = absurd b
+  pc_or_turns (Keys name) a b = absurd b
+  pc_or_turns Schedule a b = absurd b
+  pc_or_turns (GoTo c p) a b = absurd b
+  pc_or_turns Maps a b = absurd b
+  pc_or_turns Jobs a b = absurd b
+  pc_or_turns (Mark n) a b = absurd b
+  pc_or_turns Help a b = absurd b
+  pc_or_turns (Delete c p) a b = absurd b
+
+  map_or_turns : (order : Order) → RefusesOrder cpus programs names count order error.NoMap → RefusesOrder cpus programs names count order error.NoTurns → ⊥
+  map_or_turns (Back n) a b = absurd a
+  map_or_turns (Break c p) a b = absurd b
+  map_or_turns (Step c) a b = absurd b
+  map_or_turns Go a b = absurd b
+  map_or_turns (Steps runs) a b = absurd b
+  map_or_turns (StepTimes c n) a b = absurd b
+  map_or_turns (Registers c) a b = absurd b
+  map_or_turns (Where c) a b = absurd b
+  map_or_turns (Memory c at n) a b = absurd b
+  map_or_turns (Map name) a b = absurd b
+  map_or_turns (Keys name) a b = absurd b
+  map_or_turns Schedule a b = absurd b
+  map_or_turns (GoTo c p) a b = absurd b
+  map_or_turns Maps a b = absurd b
+  map_or_turns Jobs a b = absurd b
+  map_or_turns (Mark n) a b = absurd b
+  map_or_turns Help a b = absurd b
+  map_or_turns (Delete c p) a b = absurd b
 
   module _ (fields : List (List ℕ)) where
     abbrev Why : DebugError → Type 0
-    Why e = RefusesFields cpus programs names fields e
+    Why e = RefusesFields cpus programs names count fields e
 
     both_cpu_pc : Why error.NoCpu → Why error.NoPc → ⊥
-    both_cpu_pc a b = cpu_or_pc b.0 (subst (λ (o : Order). RefusesOrder cpus programs names o error.NoCpu) (same_order fields a.0 b.0 a.1 b.1) a.2) b.2
+    both_cpu_pc a b = cpu_or_pc b.0 (subst (λ (o : Order). RefusesOrder cpus programs names count o error.NoCpu) (same_order fields a.0 b.0 a.1 b.1) a.2) b.2
 
     both_cpu_map : Why error.NoCpu → Why error.NoMap → ⊥
-    both_cpu_map a b = cpu_or_map b.0 (subst (λ (o : Order). RefusesOrder cpus programs names o error.NoCpu) (same_order fields a.0 b.0 a.1 b.1) a.2) b.2
+    both_cpu_map a b = cpu_or_map b.0 (subst (λ (o : Order). RefusesOrder cpus programs names count o error.NoCpu) (same_order fields a.0 b.0 a.1 b.1) a.2) b.2
 
     both_pc_map : Why error.NoPc → Why error.NoMap → ⊥
-    both_pc_map a b = pc_or_map b.0 (subst (λ (o : Order). RefusesOrder cpus programs names o error.NoPc) (same_order fields a.0 b.0 a.1 b.1) a.2) b.2
+    both_pc_map a b = pc_or_map b.0 (subst (λ (o : Order). RefusesOrder cpus programs names count o error.NoPc) (same_order fields a.0 b.0 a.1 b.1) a.2) b.2
+
+    both_cpu_turns : Why error.NoCpu → Why error.NoTurns → ⊥
+    both_cpu_turns a b = cpu_or_turns b.0 (subst (λ (o : Order). RefusesOrder cpus programs names count o error.NoCpu) (same_order fields a.0 b.0 a.1 b.1) a.2) b.2
+
+    both_pc_turns : Why error.NoPc → Why error.NoTurns → ⊥
+    both_pc_turns a b = pc_or_turns b.0 (subst (λ (o : Order). RefusesOrder cpus programs names count o error.NoPc) (same_order fields a.0 b.0 a.1 b.1) a.2) b.2
+
+    both_map_turns : Why error.NoMap → Why error.NoTurns → ⊥
+    both_map_turns a b = map_or_turns b.0 (subst (λ (o : Order). RefusesOrder cpus programs names count o error.NoMap) (same_order fields a.0 b.0 a.1 b.1) a.2) b.2
 
     bad : Why error.BadCommand → (order : Order) → order_of fields ≡ Some order → ⊥
     bad a order said = let both : None ≡ Some order = sym a.1 ∙ said in cc
@@ -233,6 +339,15 @@ module _ (cpus : ℕ) (programs : List Loaded) (names : List (List ℕ)) where
     one_reason error.BadCommand error.NoPc n m a b = absurd (bad a b.0 b.1)
     one_reason error.BadCommand error.NoMap n m a b = absurd (bad a b.0 b.1)
     one_reason error.BadCommand error.BadCommand n m a b = refl
+    one_reason error.NoCpu error.NoTurns n m a b = absurd (both_cpu_turns a b)
+    one_reason error.NoPc error.NoTurns n m a b = absurd (both_pc_turns a b)
+    one_reason error.NoMap error.NoTurns n m a b = absurd (both_map_turns a b)
+    one_reason error.BadCommand error.NoTurns n m a b = absurd (bad a b.0 b.1)
+    one_reason error.NoTurns error.NoCpu n m a b = absurd (both_cpu_turns b a)
+    one_reason error.NoTurns error.NoPc n m a b = absurd (both_pc_turns b a)
+    one_reason error.NoTurns error.NoMap n m a b = absurd (both_map_turns b a)
+    one_reason error.NoTurns error.BadCommand n m a b = absurd (bad b a.0 a.1)
+    one_reason error.NoTurns error.NoTurns n m a b = refl
     one_reason error.OutOfMemory f n m a b = absurd (n refl)
     one_reason e error.OutOfMemory n m a b = absurd (m refl)
 
@@ -317,6 +432,7 @@ module _ (law : WritesAreDetermined) (begins : OneInstructionBegins) (replies : 
     texts : text ≡ other
     scenes : y ≡ z
     world : IsWorld y.world
+    first : IsWorld y.first
 
   -- a question has one answer
   one_answer_to : (x : Scene) (order : Order) (text other : List ℕ) → IsWorld x.world → Answers x order text → Answers x order other → text ≡ other
@@ -338,6 +454,8 @@ module _ (law : WritesAreDetermined) (begins : OneInstructionBegins) (replies : 
   one_answer_to x Maps text other world a b = a ∙ sym b
   one_answer_to x Jobs text other world a b = a ∙ sym b
   one_answer_to x (Mark n) text other world a b = a ∙ sym b
+  one_answer_to x Help text other world a b = a ∙ sym b
+  one_answer_to x (Back n) text other world a b = absurd a
   one_answer_to x (GoTo c p) text other world a b = absurd a
   one_answer_to x (Break c p) text other world a b = absurd a
   one_answer_to x (Delete c p) text other world a b = absurd a
@@ -346,36 +464,40 @@ module _ (law : WritesAreDetermined) (begins : OneInstructionBegins) (replies : 
   one_answer_to x (Steps runs) text other world a b = absurd a
   one_answer_to x Go text other world a b = absurd a
 
-  asked : (x y z : Scene) (order : Order) (text other : List ℕ) → IsWorld x.world → Answers x order text × (y ≡ x) → Answers x order other × (z ≡ x) → OneEnd text other y z
-  asked x y z order text other world a b = record {
+  asked : (x y z : Scene) (order : Order) (text other : List ℕ) → IsWorld x.world → IsWorld x.first → Answers x order text × (y ≡ x) → Answers x order other × (z ≡ x) → OneEnd text other y z
+  asked x y z order text other world first a b = record {
     texts = one_answer_to x order text other world a.0 b.0;
     scenes = a.1 ∙ sym b.1;
     world = subst (λ (s : Scene). IsWorld s.world) (sym a.1) world;
+    first = subst (λ (s : Scene). IsWorld s.first) (sym a.1) first;
   }
 
-  went_alike : (x y z : Scene) (turns others text other : List ℕ) (m n : World) → (turns ≡ others) × OneGo text other m n → y ≡ behind x turns m → z ≡ behind x others n → OneEnd text other y z
-  went_alike x y z turns others text other m n both a b = record {
+  went_alike : (x y z : Scene) (turns others text other : List ℕ) (m n : World) → IsWorld x.first → (turns ≡ others) × OneGo text other m n → y ≡ behind x turns m → z ≡ behind x others n → OneEnd text other y z
+  went_alike x y z turns others text other m n first both a b = record {
     texts = both.1.texts;
     scenes = a ∙ ap (λ (w : World). behind x turns w) both.1.worlds ∙ ap (λ (cs : List ℕ). behind x cs n) both.0 ∙ sym b;
     world = subst (λ (s : Scene). IsWorld s.world) (sym a) both.1.world;
+    first = subst (λ (s : Scene). IsWorld s.first) (sym a) first;
   }
 
-  one_follow : (x y z : Scene) (order : Order) (text other : List ℕ) → IsWorld x.world → CarriesOut x order text y → CarriesOut x order other z → OneEnd text other y z
-  one_follow x y z (Break (Some c) (Some p)) text other world a b = record {
+  one_follow : (x y z : Scene) (order : Order) (text other : List ℕ) → IsWorld x.world → IsWorld x.first → CarriesOut x order text y → CarriesOut x order other z → OneEnd text other y z
+  one_follow x y z (Break (Some c) (Some p)) text other world first a b = record {
     texts = a.1.1 ∙ sym b.1.1;
     scenes = a.1.2 ∙ sym b.1.2;
     world = subst (λ (s : Scene). IsWorld s.world) (sym a.1.2) world;
+    first = subst (λ (s : Scene). IsWorld s.first) (sym a.1.2) first;
   }
-  one_follow x y z (Delete (Some c) (Some p)) text other world a b = record {
+  one_follow x y z (Delete (Some c) (Some p)) text other world first a b = record {
     texts = a.1.1 ∙ sym b.1.1;
     scenes = a.1.2 ∙ sym b.1.2;
     world = subst (λ (s : Scene). IsWorld s.world) (sym a.1.2) world;
+    first = subst (λ (s : Scene). IsWorld s.first) (sym a.1.2) first;
   }
-  one_follow x y z (Delete (Some c) None) text other world a b = absurd a
-  one_follow x y z (Delete None p) text other world a b = absurd a
-  one_follow x y z (Break (Some c) None) text other world a b = absurd a
-  one_follow x y z (Break None p) text other world a b = absurd a
-  one_follow x y z (Step (Some c)) text other world (has, a) (had, b) =
+  one_follow x y z (Delete (Some c) None) text other world first a b = absurd a
+  one_follow x y z (Delete None p) text other world first a b = absurd a
+  one_follow x y z (Break (Some c) None) text other world first a b = absurd a
+  one_follow x y z (Break None p) text other world first a b = absurd a
+  one_follow x y z (Step (Some c)) text other world first (has, a) (had, b) =
       let one = one_turn law begins replies x.world c a.0 b.0 a.1 b.1 world a.3 b.3 in
       let P : World → Type 0 = λ w. IsWhere w.jobs c b.2 in
       let place = one_where a.1 one.world c a.2 b.2 a.4 (subst P (sym one.worlds) b.4) in
@@ -383,8 +505,9 @@ module _ (law : WritesAreDetermined) (begins : OneInstructionBegins) (replies : 
         texts = a.5 ∙ ap (λ (t : Turn). ended_text c t ++ a.2) one.answers ∙ ap (λ (t : List ℕ). ended_text c b.0 ++ t) place ∙ sym b.5;
         scenes = a.6 ∙ ap (λ (w : World). behind x (c ∷ []) w) one.worlds ∙ sym b.6;
         world = subst (λ (s : Scene). IsWorld s.world) (sym a.6) one.world;
+        first = subst (λ (s : Scene). IsWorld s.first) (sym a.6) first;
       }
-  one_follow x y z (StepTimes (Some c) n) text other world (has, a) (had, b) =
+  one_follow x y z (StepTimes (Some c) n) text other world first (has, a) (had, b) =
       let one = one_turns x.world c n a.1 b.1 a.0 b.0 world a.3 b.3 in
       let P : World → Type 0 = λ w. IsWhere w.jobs c b.2 in
       let place = one_where a.0 one.world c a.2 b.2 a.4 (subst P (sym one.worlds) b.4) in
@@ -392,8 +515,9 @@ module _ (law : WritesAreDetermined) (begins : OneInstructionBegins) (replies : 
         texts = a.5 ∙ ap (λ (t : List ℕ). t ++ a.2) one.texts ∙ ap (λ (t : List ℕ). b.1 ++ t) place ∙ sym b.5;
         scenes = a.6 ∙ ap (λ (w : World). behind x (replicate n c) w) one.worlds ∙ sym b.6;
         world = subst (λ (s : Scene). IsWorld s.world) (sym a.6) one.world;
+        first = subst (λ (s : Scene). IsWorld s.first) (sym a.6) first;
       }
-  one_follow x y z (Steps runs) text other world (has, a) (had, b) =
+  one_follow x y z (Steps runs) text other world first (has, a) (had, b) =
       let one = one_schedule x.world runs a.1 b.1 a.0 b.0 world a.3 b.3 in
       let P : World → Type 0 = λ w. IsWhere w.jobs (last_cpu runs) b.2 in
       let place = one_where a.0 one.world (last_cpu runs) a.2 b.2 a.4 (subst P (sym one.worlds) b.4) in
@@ -401,73 +525,91 @@ module _ (law : WritesAreDetermined) (begins : OneInstructionBegins) (replies : 
         texts = a.5 ∙ ap (λ (t : List ℕ). t ++ a.2) one.texts ∙ ap (λ (t : List ℕ). b.1 ++ t) place ∙ sym b.5;
         scenes = a.6 ∙ ap (λ (w : World). behind x (unrolled runs) w) one.worlds ∙ sym b.6;
         world = subst (λ (s : Scene). IsWorld s.world) (sym a.6) one.world;
+        first = subst (λ (s : Scene). IsWorld s.first) (sym a.6) first;
       }
-  one_follow x y z (StepTimes None n) text other world a b = absurd a
-  one_follow x y z (Step None) text other world a b = absurd a
-  one_follow x y z Go text other world a b =
+  one_follow x y z (StepTimes None n) text other world first a b = absurd a
+  one_follow x y z (Step None) text other world first a b = absurd a
+  one_follow x y z Go text other world first a b =
       let both = one_go x.breaks 0 x.world.store.shape.cpus x.world 0 [] a.1 b.1 text other a.0 b.0 world a.2 b.2 in
-      went_alike x y z a.1 b.1 text other a.0 b.0 both a.3 b.3
-  one_follow x y z (GoTo (Some c) (Some p)) text other world (has, a) (had, b) =
+      went_alike x y z a.1 b.1 text other a.0 b.0 first both a.3 b.3
+  one_follow x y z (GoTo (Some c) (Some p)) text other world first (has, a) (had, b) =
       let u = a.1 in
       let v = b.1 in
       let both = one_go (record { cpu = c; pc = p } ∷ []) c (c + 1) x.world c [] u.1 v.1 text other u.0 v.0 world u.2 v.2 in
-      went_alike x y z u.1 v.1 text other u.0 v.0 both u.3 v.3
-  one_follow x y z (GoTo (Some c) None) text other world a b = absurd a
-  one_follow x y z (GoTo None p) text other world a b = absurd a
-  one_follow x y z Maps text other world a b = asked x y z Maps text other world a b
-  one_follow x y z Jobs text other world a b = asked x y z Jobs text other world a b
-  one_follow x y z (Mark n) text other world a b = asked x y z (Mark n) text other world a b
-  one_follow x y z (Registers c) text other world a b = asked x y z (Registers c) text other world a b
-  one_follow x y z (Where c) text other world a b = asked x y z (Where c) text other world a b
-  one_follow x y z (Memory c at n) text other world a b = asked x y z (Memory c at n) text other world a b
-  one_follow x y z (Map name) text other world a b = asked x y z (Map name) text other world a b
-  one_follow x y z (Keys name) text other world a b = asked x y z (Keys name) text other world a b
-  one_follow x y z Schedule text other world a b = asked x y z Schedule text other world a b
+      went_alike x y z u.1 v.1 text other u.0 v.0 first both u.3 v.3
+  one_follow x y z (GoTo (Some c) None) text other world first a b = absurd a
+  one_follow x y z (GoTo None p) text other world first a b = absurd a
+  one_follow x y z (Back n) text other world first a b =
+      let back = turns_before x.turns n in
+      let u = a.1 in
+      let v = b.1 in
+      let one : u.0 ≡ v.0 = one_run law begins replies back x.first u.0 v.0 first u.1 v.1 in
+      let there : IsWorld u.0 = runs_world law begins replies back x.first u.0 first u.1 in
+      let P : World → Type 0 = λ w. IsWhere w.jobs (cpu_before x.turns n) other in
+      record {
+        texts = one_where u.0 there (cpu_before x.turns n) text other u.2 (subst P (sym one) v.2);
+        scenes = u.3 ∙ ap (λ (w : World). undone x n w) one ∙ sym v.3;
+        world = subst (λ (s : Scene). IsWorld s.world) (sym u.3) there;
+        first = subst (λ (s : Scene). IsWorld s.first) (sym u.3) first;
+      }
+  one_follow x y z Help text other world first a b = asked x y z Help text other world first a b
+  one_follow x y z Maps text other world first a b = asked x y z Maps text other world first a b
+  one_follow x y z Jobs text other world first a b = asked x y z Jobs text other world first a b
+  one_follow x y z (Mark n) text other world first a b = asked x y z (Mark n) text other world first a b
+  one_follow x y z (Registers c) text other world first a b = asked x y z (Registers c) text other world first a b
+  one_follow x y z (Where c) text other world first a b = asked x y z (Where c) text other world first a b
+  one_follow x y z (Memory c at n) text other world first a b = asked x y z (Memory c at n) text other world first a b
+  one_follow x y z (Map name) text other world first a b = asked x y z (Map name) text other world first a b
+  one_follow x y z (Keys name) text other world first a b = asked x y z (Keys name) text other world first a b
+  one_follow x y z Schedule text other world first a b = asked x y z Schedule text other world first a b
 
-  one_line : (x y z : Scene) (fields : List (List ℕ)) (text other : List ℕ) → IsWorld x.world → Obeys x fields text y → Obeys x fields other z → OneEnd text other y z
-  one_line x y z [] text other world a b = record {
+  one_line : (x y z : Scene) (fields : List (List ℕ)) (text other : List ℕ) → IsWorld x.world → IsWorld x.first → Obeys x fields text y → Obeys x fields other z → OneEnd text other y z
+  one_line x y z [] text other world first a b = record {
     texts = a.0 ∙ sym b.0;
     scenes = a.1 ∙ sym b.1;
     world = subst (λ (s : Scene). IsWorld s.world) (sym a.1) world;
+    first = subst (λ (s : Scene). IsWorld s.first) (sym a.1) first;
   }
-  one_line x y z (f ∷ fs) text other world a b =
+  one_line x y z (f ∷ fs) text other world first a b =
       let P : Order → Type 0 = λ order. CarriesOut x order other z in
-      one_follow x y z a.0 text other world a.2 (subst P (same_order (f ∷ fs) b.0 a.0 b.1 a.1) b.2)
+      one_follow x y z a.0 text other world first a.2 (subst P (same_order (f ∷ fs) b.0 a.0 b.1 a.1) b.2)
 
   -- ---- a script
   record OneAnswer (answer other : Answer) (y z : Scene) : Type 0 where
     answers : answer ≡ other
     scenes : y ≡ z
     world : IsWorld y.world
+    first : IsWorld y.first
 
-  one_answer : (x y z : Scene) (line : List ℕ) (answer other : Answer) → IsWorld x.world → AnswersLine x line answer y → AnswersLine x line other z
+  one_answer : (x y z : Scene) (line : List ℕ) (answer other : Answer) → IsWorld x.world → IsWorld x.first → AnswersLine x line answer y → AnswersLine x line other z
       → answer ≢ Err error.OutOfMemory → other ≢ Err error.OutOfMemory → OneAnswer answer other y z
-  one_answer x y z line (Ok text) (Ok other) world a b n m =
-      let one = one_line x y z (fields_of line) text other world a b in
-      record { answers = ap (λ (t : List ℕ). Ok t) one.texts; scenes = one.scenes; world = one.world }
-  one_answer x y z line (Ok text) (Err e) world a b n m = absurd (line_refused x y (fields_of line) text e a (λ is. m (ap (λ (f : DebugError). Err f) is)) b.0)
-  one_answer x y z line (Err e) (Ok text) world a b n m = absurd (line_refused x z (fields_of line) text e b (λ is. n (ap (λ (f : DebugError). Err f) is)) a.0)
-  one_answer x y z line (Err e) (Err f) world a b n m =
-      let same = one_reason x.world.store.shape.cpus x.world.programs x.names (fields_of line) e f (λ is. n (ap (λ (g : DebugError). Err g) is)) (λ is. m (ap (λ (g : DebugError). Err g) is)) a.0 b.0 in
+  one_answer x y z line (Ok text) (Ok other) world first a b n m =
+      let one = one_line x y z (fields_of line) text other world first a b in
+      record { answers = ap (λ (t : List ℕ). Ok t) one.texts; scenes = one.scenes; world = one.world; first = one.first }
+  one_answer x y z line (Ok text) (Err e) world first a b n m = absurd (line_refused x y (fields_of line) text e a (λ is. m (ap (λ (f : DebugError). Err f) is)) b.0)
+  one_answer x y z line (Err e) (Ok text) world first a b n m = absurd (line_refused x z (fields_of line) text e b (λ is. n (ap (λ (f : DebugError). Err f) is)) a.0)
+  one_answer x y z line (Err e) (Err f) world first a b n m =
+      let same = one_reason x.world.store.shape.cpus x.world.programs x.names (Some (length x.turns)) (fields_of line) e f (λ is. n (ap (λ (g : DebugError). Err g) is)) (λ is. m (ap (λ (g : DebugError). Err g) is)) a.0 b.0 in
       record {
         answers = ap (λ (g : DebugError). Err g) same;
         scenes = a.1 ∙ sym b.1;
         world = subst (λ (s : Scene). IsWorld s.world) (sym a.1) world;
+        first = subst (λ (s : Scene). IsWorld s.first) (sym a.1) first;
       }
 
-  one_script : (x y z : Scene) (lines : List (List ℕ)) (answers others : List Answer) → IsWorld x.world → RunsScript x lines answers y → RunsScript x lines others z
+  one_script : (x y z : Scene) (lines : List (List ℕ)) (answers others : List Answer) → IsWorld x.world → IsWorld x.first → RunsScript x lines answers y → RunsScript x lines others z
       → HadMemory answers → HadMemory others → (answers ≡ others) × (y ≡ z)
-  one_script x y z [] [] [] world a b n m = (refl, a ∙ sym b)
-  one_script x y z [] [] (c ∷ cs) world a b n m = absurd b
-  one_script x y z [] (c ∷ cs) others world a b n m = absurd a
-  one_script x y z (l ∷ ls) [] others world a b n m = absurd a
-  one_script x y z (l ∷ ls) (c ∷ cs) [] world a b n m = absurd b
-  one_script x y z (l ∷ ls) (c ∷ cs) (d ∷ ds) world a b n m =
-      let one = one_answer x a.0 b.0 l c d world a.1 b.1 n.0 m.0 in
+  one_script x y z [] [] [] world first a b n m = (refl, a ∙ sym b)
+  one_script x y z [] [] (c ∷ cs) world first a b n m = absurd b
+  one_script x y z [] (c ∷ cs) others world first a b n m = absurd a
+  one_script x y z (l ∷ ls) [] others world first a b n m = absurd a
+  one_script x y z (l ∷ ls) (c ∷ cs) [] world first a b n m = absurd b
+  one_script x y z (l ∷ ls) (c ∷ cs) (d ∷ ds) world first a b n m =
+      let one = one_answer x a.0 b.0 l c d world first a.1 b.1 n.0 m.0 in
       let P : Scene → Type 0 = λ s. RunsScript s ls ds z in
-      let rest = one_script a.0 y z ls cs ds one.world a.2 (subst P (sym one.scenes) b.2) n.1 m.1 in
+      let rest = one_script a.0 y z ls cs ds one.world one.first a.2 (subst P (sym one.scenes) b.2) n.1 m.1 in
       (ap (λ (e : Answer). e ∷ cs) one.answers ∙ ap (λ (es : List Answer). d ∷ es) rest.0, rest.1)
 
   pub scripts_are_determined : ScriptsAreDetermined
-  scripts_are_determined x y z lines answers others fresh a b n m =
-      one_script x y z lines answers others (fresh_world law begins replies x.world fresh) a b n m
+  scripts_are_determined x y z lines answers others fresh before a b n m =
+      one_script x y z lines answers others (fresh_world law begins replies x.world fresh) (fresh_world law begins replies x.first before) a b n m

@@ -1,6 +1,7 @@
 -- What a session's commands do, from what its functions ensure.
-use Rattle.std.proofs.Common.{◌≡◌, ℕ, ◌+◌, ◌*◌, ◌<◌, ◌≤◌, Bool, true, false, List, [], ◌∷◌, ◌++◌, length, inl, inr, refl, sym, ap, subst, ◌∙◌, arith, Option, Some, None, if◌then◌else◌, replicate}
+use Rattle.std.proofs.Common.{◌≡◌, ℕ, ◌+◌, ◌-◌, ◌*◌, ◌<◌, ◌≤◌, drop, get_or, Bool, true, false, List, [], ◌∷◌, ◌++◌, length, inl, inr, refl, sym, ap, subst, ◌∙◌, arith, Option, Some, None, if◌then◌else◌, replicate}
 use Rattle.std.proofs.lemmas.Bool.{ltb-true}
+use Rattle.std.proofs.lemmas.List.{get_or-drop, length-drop, take-append-drop}
 use Rattle.std.proofs.lemmas.List.Sums.{sum_by-le}
 use Rattle.std.proofs.Math.Nat.{mul-le-mul_left}
 use Rattle.std.specs.Prelude.{codes}
@@ -12,20 +13,24 @@ use Rattle.bpf_machine.specs.declared.machine.Turn.{Turn}
 use Rattle.bpf_cpu.specs.Task.{Stage, Task, Waiting, InHand, Ended}
 use Rattle.bpf_machine.specs.Schedule.{World, TakesTurn, RunsSchedule, unrolled}
 use Rattle.bpf_machine.specs.Machine.{MachineState, Shows}
+use Rattle.bpf_machine.specs.Parts.{CanStand, IsSameHost}
 use Rattle.bpf_machine.specs.Questions.{open_in, open_jobs}
 use Rattle.bpf_machine.specs.Work.{IsState}
 use Rattle.bpf_cpu.specs.declared.cpu.Cpu.{Cpu}
 use Rattle.bpf_debug.specs.declared.breakpoint.Breakpoint.{Breakpoint}
-use Rattle.bpf_debug.specs.Command.{Order, Break, Delete, Step, StepTimes, Steps, Go, Registers, Where, Memory, Map, Keys, Schedule, GoTo, Maps, Jobs, Mark, order_of}
+use Rattle.bpf_debug.specs.Command.{Order, Break, Delete, Step, StepTimes, Steps, Go, Registers, Where, Memory, Map, Keys, Schedule, GoTo, Maps, Jobs, Mark, Back, Help, order_of}
 use Rattle.bpf_debug.specs.declared.error.DebugError.{DebugError}
 use Rattle.bpf_debug.specs.declared.error.DebugError.TheVariants as error
 use Rattle.bpf_debug.specs.Answer.{IsWhere, IsRegisters, IsOff, ended_text, break_line, deleted_line}
 use Rattle.bpf_debug.specs.Read.{IsMemoryText, IsNamed, TellsBytes, TellsKeys, TellsMap}
 use Rattle.bpf_debug.specs.Go.{Goes, has_break, without_break}
 use Rattle.bpf_debug.specs.Told.{shape_lines, told_jobs, mark_line}
-use Rattle.bpf_debug.specs.Course.{IsKept, KeepsOn, runs_of}
-use Rattle.bpf_debug.specs.Session.{SessionState, Scene, IsShown, IsCourse, IsPc, are_cpus, behind, with_break, Answers, CarriesOut, Obeys, Leaves, LeavesLine, RefusesOrder, RefusesHere, RefusesLine}
+use Rattle.bpf_debug.specs.Course.{AreFewer, IsKept, KeepsOn, TakesBack, count_of, cpu_before, runs_of, turns_before}
+use Rattle.bpf_debug.specs.Origin.{OriginState, CanRewind, first_of}
+use Rattle.bpf_debug.specs.Help.{help_text}
+use Rattle.bpf_debug.specs.Session.{SessionState, Scene, IsShown, IsCourse, IsPc, are_cpus, behind, undone, with_break, CarriesOut, Obeys, Leaves, LeavesLine, NamesNoTurns, RefusesOrder, RefusesHere, RefusesLine}
 use Rattle.bpf_debug.specs.Turns.{MakesTurns, MakesRuns, last_cpu}
+use Rattle.bpf_debug.proofs.CourseLaws.{runs_tell_turns}
 use Rattle.bpf_debug.proofs.GoLaws.{goes_runs}
 use Rattle.bpf_debug.proofs.ManyTurns.{all_runs, both_run, made_runs}
 
@@ -48,100 +53,150 @@ enough jobs count room counted fits =
 pub is_cpu : (m : MachineState) (w : World) (c : ℕ) → has_cpu m.store c ≡ true → Shows m w → c < w.store.shape.cpus
 is_cpu m w c has shows = let below : c < length m.store.runs = ltb-true c (length m.store.runs) has in omega (arith, shows.store.cpus)
 
+-- ---- a machine that can be made what it was
+pub can_still : (o : OriginState) (m n : MachineState) → IsSameHost m n → CanRewind o m → CanRewind o n
+can_still o m n same can = record {
+  lists = same.lists can.lists;
+  shape = (λ c. same.shape.0 c ∙ can.shape.0 c, same.shape.1 ∙ can.shape.1);
+  within = can.within;
+  stands = subst (λ (ps : List Loaded). CanStand (first_of o ps)) (sym same.programs) can.stands;
+  shown = (can.shown.0, subst (λ (ps : List Loaded). Shows (first_of o ps) can.shown.0) (sym same.programs) can.shown.1);
+}
+
+-- the machine that was made again
+pub can_rewound : (o : OriginState) (m n : MachineState) → n ≡ first_of o m.programs → CanRewind o m → CanRewind o n
+can_rewound o m n is can =
+    let first : CanRewind o (first_of o m.programs) = record { lists = refl; shape = (λ c. refl, refl); within = can.within; stands = can.stands; shown = can.shown } in
+    subst (CanRewind o) (sym is) first
+
 -- ---- text behind an empty one
 pub alone : (room last text : List ℕ) → room ≡ [] → last ≡ room ++ text → last ≡ text
 alone room last text empty e = e ∙ ap (λ (s : List ℕ). s ++ text) empty
 
-module _ (m : MachineState) (names : List (List ℕ)) (breaks : List Breakpoint) (kept : Option (List (ℕ × ℕ))) where
+module _ (m : MachineState) (o : OriginState) (names : List (List ℕ)) (breaks : List Breakpoint) (kept : Option (List (ℕ × ℕ))) where
   -- a session of these, and what it is with another machine and turns more
   abbrev session : SessionState
-  session = record { machine = m; names = names; breaks = breaks; course = kept }
+  session = record { machine = m; first = first_of o m.programs; names = names; breaks = breaks; course = kept }
 
   abbrev moved_on : MachineState → Option (List (ℕ × ℕ)) → SessionState
-  moved_on n more = record { machine = n; names = names; breaks = breaks; course = more }
+  moved_on n more = record { machine = n; first = first_of o n.programs; names = names; breaks = breaks; course = more }
+
+  still_first : (n : MachineState) (w : World) → IsSameHost m n → Shows (first_of o m.programs) w → Shows (first_of o n.programs) w
+  still_first n w same shows = subst (λ (ps : List Loaded). Shows (first_of o ps) w) (sym same.programs) shows
 
   pub stepped : (n : MachineState) (more : Option (List (ℕ × ℕ))) (c : ℕ) (answer : Turn) (room place last : List ℕ) → has_cpu m.store c ≡ true → room ≡ []
       → ((w : World) → Shows m w → (z : World) × TakesTurn w c answer z × Shows n z)
       → IsWhere n.jobs c place → last ≡ (room ++ ended_text c answer) ++ place → KeepsOn kept (c ∷ []) more
-      → Leaves session (Step (Some c)) last (moved_on n more)
-  stepped n more c answer room place last has empty turns stands put keeps x shown =
+      → IsSameHost m n → Leaves session (Step (Some c)) last (moved_on n more)
+  stepped n more c answer room place last has empty turns stands put keeps same x shown =
       let t = turns x.world shown.world in
       let J : List Task → Type 0 = λ jobs. IsWhere jobs c place in
       let whole : last ≡ ended_text c answer ++ place = put ∙ ap (λ (s : List ℕ). (s ++ ended_text c answer) ++ place) empty in (
         behind x (c ∷ []) t.0,
         (is_cpu m x.world c has shown.world, (answer, t.0, place, t.1, subst J (sym t.2.jobs) stands, whole, refl)),
-        record { world = t.2; names = shown.names; breaks = shown.breaks; turns = keeps x.turns shown.turns },
+        record { world = t.2; first = still_first n x.first same shown.first; names = shown.names; breaks = shown.breaks; turns = keeps x.turns shown.turns },
       )
 
   pub stepped_times : (n : MachineState) (more : Option (List (ℕ × ℕ))) (c count : ℕ) (room place last : List ℕ) → has_cpu m.store c ≡ true → room ≡ [] → IsWhere n.jobs c place
       → ((w : World) → Shows m w → (z : World) × (before : List ℕ) × MakesTurns w c count before z × Shows n z × (last ≡ (room ++ before) ++ place))
-      → KeepsOn kept (replicate count c) more → Leaves session (StepTimes (Some c) count) last (moved_on n more)
-  stepped_times n more c count room place last has empty stands turns keeps x shown =
+      → KeepsOn kept (replicate count c) more → IsSameHost m n → Leaves session (StepTimes (Some c) count) last (moved_on n more)
+  stepped_times n more c count room place last has empty stands turns keeps same x shown =
       let t = turns x.world shown.world in
       let J : List Task → Type 0 = λ jobs. IsWhere jobs c place in
       let whole : last ≡ t.1 ++ place = t.4 ∙ ap (λ (s : List ℕ). (s ++ t.1) ++ place) empty in (
         behind x (replicate count c) t.0,
         (is_cpu m x.world c has shown.world, (t.0, t.1, place, t.2, subst J (sym t.3.jobs) stands, whole, refl)),
-        record { world = t.3; names = shown.names; breaks = shown.breaks; turns = keeps x.turns shown.turns },
+        record { world = t.3; first = still_first n x.first same shown.first; names = shown.names; breaks = shown.breaks; turns = keeps x.turns shown.turns },
       )
 
   pub stepped_runs : (n : MachineState) (more : Option (List (ℕ × ℕ))) (runs : List (ℕ × ℕ)) (room place last : List ℕ) → are_cpus (length m.store.runs) runs ≡ true → room ≡ [] → IsWhere n.jobs (last_cpu runs) place
       → ((w : World) → Shows m w → (z : World) × (before : List ℕ) × MakesRuns w runs before z × Shows n z × (last ≡ (room ++ before) ++ place))
-      → KeepsOn kept (unrolled runs) more → Leaves session (Steps runs) last (moved_on n more)
-  stepped_runs n more runs room place last has empty stands turns keeps x shown =
+      → KeepsOn kept (unrolled runs) more → IsSameHost m n → Leaves session (Steps runs) last (moved_on n more)
+  stepped_runs n more runs room place last has empty stands turns keeps same x shown =
       let t = turns x.world shown.world in
       let J : List Task → Type 0 = λ jobs. IsWhere jobs (last_cpu runs) place in
       let H : ℕ → Type 0 = λ cpus. are_cpus cpus runs ≡ true in
       let whole : last ≡ t.1 ++ place = t.4 ∙ ap (λ (s : List ℕ). (s ++ t.1) ++ place) empty in (
         behind x (unrolled runs) t.0,
         (subst H (sym shown.world.store.cpus) has, (t.0, t.1, place, t.2, subst J (sym t.3.jobs) stands, whole, refl)),
-        record { world = t.3; names = shown.names; breaks = shown.breaks; turns = keeps x.turns shown.turns },
+        record { world = t.3; first = still_first n x.first same shown.first; names = shown.names; breaks = shown.breaks; turns = keeps x.turns shown.turns },
       )
 
   pub went : (n : MachineState) (more : Option (List (ℕ × ℕ))) (cpus : ℕ) (room last : List ℕ) → room ≡ [] → cpus ≡ length m.store.runs
       → ((w : World) → Shows m w → (z : World) × (turns : List ℕ) × (text : List ℕ) × Goes breaks 0 cpus w 0 [] turns text z × Shows n z × KeepsOn kept turns more × (last ≡ room ++ text))
-      → Leaves session Go last (moved_on n more)
-  went n more cpus room last empty count goes x shown =
+      → IsSameHost m n → Leaves session Go last (moved_on n more)
+  went n more cpus room last empty count goes same x shown =
       let g = goes x.world shown.world in
       let B : List Breakpoint → Type 0 = λ bs. Goes bs 0 x.world.store.shape.cpus x.world 0 [] g.1 last g.0 in
       let C : ℕ → Type 0 = λ h. Goes breaks 0 h x.world 0 [] g.1 last g.0 in
       let T : List ℕ → Type 0 = λ text. Goes breaks 0 cpus x.world 0 [] g.1 text g.0 in
       let all = subst B (sym shown.breaks) (subst C (count ∙ sym shown.world.store.cpus) (subst T (sym (alone room last g.2 empty g.6)) g.3)) in
-      (behind x g.1 g.0, (g.0, g.1, all, refl), record { world = g.4; names = shown.names; breaks = shown.breaks; turns = g.5 x.turns shown.turns })
+      (behind x g.1 g.0, (g.0, g.1, all, refl), record { world = g.4; first = still_first n x.first same shown.first; names = shown.names; breaks = shown.breaks; turns = g.5 x.turns shown.turns })
 
   pub went_to : (n : MachineState) (more : Option (List (ℕ × ℕ))) (c p : ℕ) (room last : List ℕ) → room ≡ [] → has_cpu m.store c ≡ true → IsPc m.programs p
       → ((w : World) → Shows m w → (z : World) × (turns : List ℕ) × (text : List ℕ) × Goes (record { cpu = c; pc = p } ∷ []) c (c + 1) w c [] turns text z × Shows n z × KeepsOn kept turns more × (last ≡ room ++ text))
-      → Leaves session (GoTo (Some c) (Some p)) last (moved_on n more)
-  went_to n more c p room last empty has begins goes x shown =
+      → IsSameHost m n → Leaves session (GoTo (Some c) (Some p)) last (moved_on n more)
+  went_to n more c p room last empty has begins goes same x shown =
       let g = goes x.world shown.world in
       let T : List ℕ → Type 0 = λ text. Goes (record { cpu = c; pc = p } ∷ []) c (c + 1) x.world c [] g.1 text g.0 in
       let P : List Loaded → Type 0 = λ ps. IsPc ps p in
       let all = subst T (sym (alone room last g.2 empty g.6)) g.3 in (
         behind x g.1 g.0,
         (is_cpu m x.world c has shown.world, (subst P (sym shown.world.programs) begins, (g.0, g.1, all, refl))),
-        record { world = g.4; names = shown.names; breaks = shown.breaks; turns = g.5 x.turns shown.turns },
+        record { world = g.4; first = still_first n x.first same shown.first; names = shown.names; breaks = shown.breaks; turns = g.5 x.turns shown.turns },
       )
 
   pub broken : (c p : ℕ) (more : List Breakpoint) (room last : List ℕ) → has_cpu m.store c ≡ true → IsPc m.programs p
       → more ≡ with_break breaks c p → room ≡ [] → last ≡ room ++ break_line c p
-      → Leaves session (Break (Some c) (Some p)) last (record { machine = m; names = names; breaks = more; course = kept })
+      → Leaves session (Break (Some c) (Some p)) last (record { machine = m; first = first_of o m.programs; names = names; breaks = more; course = kept })
   broken c p more room last has begins same empty put x shown =
       let y : Scene = record x { breaks = with_break x.breaks c p } in
       let P : List Loaded → Type 0 = λ ps. IsPc ps p in (
         y,
         (is_cpu m x.world c has shown.world, (subst P (sym shown.world.programs) begins, alone room last (break_line c p) empty put, refl)),
-        record { world = shown.world; names = shown.names; breaks = ap (λ (bs : List Breakpoint). with_break bs c p) shown.breaks ∙ sym same; turns = shown.turns },
+        record { world = shown.world; first = shown.first; names = shown.names; breaks = ap (λ (bs : List Breakpoint). with_break bs c p) shown.breaks ∙ sym same; turns = shown.turns },
       )
 
   pub unbroken : (c p : ℕ) (fewer : List Breakpoint) (room last : List ℕ) → has_cpu m.store c ≡ true → IsPc m.programs p
       → fewer ≡ without_break breaks c p → room ≡ [] → last ≡ room ++ deleted_line c p
-      → Leaves session (Delete (Some c) (Some p)) last (record { machine = m; names = names; breaks = fewer; course = kept })
+      → Leaves session (Delete (Some c) (Some p)) last (record { machine = m; first = first_of o m.programs; names = names; breaks = fewer; course = kept })
   unbroken c p fewer room last has begins same empty put x shown =
       let y : Scene = record x { breaks = without_break x.breaks c p } in
       let P : List Loaded → Type 0 = λ ps. IsPc ps p in (
         y,
         (is_cpu m x.world c has shown.world, (subst P (sym shown.world.programs) begins, alone room last (deleted_line c p) empty put, refl)),
-        record { world = shown.world; names = shown.names; breaks = ap (λ (bs : List Breakpoint). without_break bs c p) shown.breaks ∙ sym same; turns = shown.turns },
+        record { world = shown.world; first = shown.first; names = shown.names; breaks = ap (λ (bs : List Breakpoint). without_break bs c p) shown.breaks ∙ sym same; turns = shown.turns },
+      )
+
+  pub went_back : (rewound n : MachineState) (runs fewer : List (ℕ × ℕ)) (count c : ℕ) (room last : List ℕ) → kept ≡ Some runs → count ≤ length (unrolled runs) → rewound ≡ first_of o m.programs → TakesBack runs count fewer c
+      → ((w : World) → Shows rewound w → (z : World) × RunsSchedule w (unrolled fewer) z × Shows n z) → IsSameHost rewound n
+      → room ≡ [] → ((text : List ℕ) × IsWhere n.jobs c text × (last ≡ room ++ text)) → Leaves session (Back count) last (moved_on n (Some fewer))
+  went_back rewound n runs fewer count c room last is enough again takes turns same empty stands x shown =
+      let told : runs ≡ runs_of x.turns = subst (λ (h : Option (List (ℕ × ℕ))). IsKept h x.turns) is shown.turns in
+      let sized : length (unrolled runs) ≡ length x.turns = ap (λ (rs : List (ℕ × ℕ)). length (unrolled rs)) told ∙ ap (λ (cs : List ℕ). length cs) (runs_tell_turns x.turns).0 in
+      let before : List ℕ = turns_before x.turns count in
+      let more : List ℕ = drop (length x.turns - count) x.turns in
+      let cut : before ++ more ≡ x.turns = take-append-drop (length x.turns - count) x.turns in
+      let size : length more ≡ length x.turns - (length x.turns - count) = length-drop (length x.turns - count) x.turns in
+      let t = takes before more (omega (arith, size, sized, enough)) (told ∙ ap (λ (cs : List ℕ). runs_of cs) (sym cut)) in
+      let z = turns x.first (subst (λ (r : MachineState). Shows r x.first) (sym again) shown.first) in
+      let led : unrolled fewer ≡ before = ap (λ (rs : List (ℕ × ℕ)). unrolled rs) t.0 ∙ (runs_tell_turns before).0 in
+      let past : length x.turns - count + 0 ≡ length x.turns - count = omega arith in
+      let whose : c ≡ cpu_before x.turns count = t.1 ∙ get_or-drop (length x.turns - count) x.turns 0 0 ∙ ap (λ (i : ℕ). get_or x.turns i 0) past in
+      let told_place : last ≡ stands.0 = alone room last stands.0 empty stands.2 in
+      let W : ℕ → List Task → List ℕ → Type 0 = λ d jobs text. IsWhere jobs d text in
+      let place : IsWhere z.0.jobs (cpu_before x.turns count) last =
+      subst (λ (d : ℕ). W d z.0.jobs last) whose (subst (λ (jobs : List Task). W c jobs last) (sym z.2.jobs) (subst (λ (text : List ℕ). W c n.jobs text) (sym told_place) stands.1)) in
+      let programs : n.programs ≡ m.programs = same.programs ∙ ap (λ (r : MachineState). r.programs) again in (
+        undone x count z.0,
+        (omega (arith, sized, enough), (z.0, subst (λ (cs : List ℕ). RunsSchedule x.first cs z.0) led z.1, place, refl)),
+        record {
+          world = z.2;
+          first = subst (λ (ps : List Loaded). Shows (first_of o ps) x.first) (sym programs) shown.first;
+          names = shown.names;
+          breaks = shown.breaks;
+          turns = t.0;
+        },
       )
 
 -- a breakpoint that is there, and one more
@@ -214,6 +269,9 @@ told_of_jobs s room last empty put x shown =
 pub told_mark : (s : SessionState) (n : ℕ) (room last : List ℕ) → room ≡ [] → last ≡ room ++ mark_line n → Leaves s (Mark n) last s
 told_mark s n room last empty put x shown = (x, (alone room last (mark_line n) empty put, refl), shown)
 
+pub told_help : (s : SessionState) (last : List ℕ) → last ≡ help_text → Leaves s Help last s
+told_help s last put x shown = (x, (put, refl), shown)
+
 -- ---- each command's turns are a schedule
 -- some turns more lead on
 led_on : (x y : Scene) (turns : List ℕ) (w : World) → RunsSchedule x.world turns w → y ≡ behind x turns w → IsCourse x → IsCourse y × (y.first ≡ x.first)
@@ -244,6 +302,9 @@ follows_on x Schedule text y f course = stays x y f.1 course
 follows_on x Maps text y f course = stays x y f.1 course
 follows_on x Jobs text y f course = stays x y f.1 course
 follows_on x (Mark n) text y f course = stays x y f.1 course
+follows_on x Help text y f course = stays x y f.1 course
+follows_on x (Back n) text y f course =
+    (subst IsCourse (sym f.1.3) f.1.1, ap (λ (z : Scene). z.first) f.1.3)
 follows_on x (Break None p) text y f course = absurd f
 follows_on x (Break (Some c) None) text y f course = absurd f
 follows_on x (Delete None p) text y f course = absurd f
@@ -264,18 +325,55 @@ line_done s t (f ∷ fs) order text e leaves x shown =
     (l.0, (order, sym e, l.1), λ course. (follows_on x order text l.0 l.1 course).0, l.2)
 
 -- ---- refusals
+-- the turns that are told are as many as were made
+fewer : (kept : Option (List (ℕ × ℕ))) (turns : List ℕ) (n : ℕ) → IsKept kept turns → AreFewer (count_of kept) n → length turns < n
+fewer None turns n is less = absurd less
+fewer (Some runs) turns n is less =
+    let sized : length (unrolled runs) ≡ length turns = ap (λ (rs : List (ℕ × ℕ)). length (unrolled rs)) is ∙ ap (λ (cs : List ℕ). length cs) (runs_tell_turns turns).0 in
+    omega (arith, sized, less)
+
+few_turns : (kept : Option (List (ℕ × ℕ))) (turns : List ℕ) (order : Order) → IsKept kept turns → NamesNoTurns (count_of kept) order → NamesNoTurns (Some (length turns)) order
+few_turns kept turns (Back n) is few = fewer kept turns n is few
+few_turns kept turns (Break c p) is few = absurd few
+few_turns kept turns (Delete c p) is few = absurd few
+few_turns kept turns (Step c) is few = absurd few
+few_turns kept turns (StepTimes c n) is few = absurd few
+few_turns kept turns (Steps runs) is few = absurd few
+few_turns kept turns Go is few = absurd few
+few_turns kept turns (Registers c) is few = absurd few
+few_turns kept turns (Where c) is few = absurd few
+few_turns kept turns (Memory c at n) is few = absurd few
+few_turns kept turns (Map name) is few = absurd few
+few_turns kept turns (Keys name) is few = absurd few
+few_turns kept turns Schedule is few = absurd few
+few_turns kept turns (GoTo c p) is few = absurd few
+few_turns kept turns Maps is few = absurd few
+few_turns kept turns Jobs is few = absurd few
+few_turns kept turns (Mark n) is few = absurd few
+few_turns kept turns Help is few = absurd few
+
+counted : (cpus : ℕ) (programs : List Loaded) (names : List (List ℕ)) (kept : Option (List (ℕ × ℕ))) (turns : List ℕ) (order : Order) (e : DebugError) → IsKept kept turns
+    → RefusesOrder cpus programs names (count_of kept) order e → RefusesOrder cpus programs names (Some (length turns)) order e
+counted cpus programs names kept turns order error.NoCpu is here = here
+counted cpus programs names kept turns order error.NoPc is here = here
+counted cpus programs names kept turns order error.NoMap is here = here
+counted cpus programs names kept turns order error.BadCommand is here = here
+counted cpus programs names kept turns order error.OutOfMemory is here = here
+counted cpus programs names kept turns order error.NoTurns is here = few_turns kept turns order is here
+
 module _ (s : SessionState) (x : Scene) (shown : IsShown s x) where
   -- what a session refuses, its scenes refuse
-  moved : (order : Order) (e : DebugError) → RefusesHere s order e → RefusesOrder x.world.store.shape.cpus x.world.programs x.names order e
+  moved : (order : Order) (e : DebugError) → RefusesHere s order e → RefusesOrder x.world.store.shape.cpus x.world.programs x.names (Some (length x.turns)) order e
   moved order e here =
-      let C : ℕ → Type 0 = λ cpus. RefusesOrder cpus x.world.programs x.names order e in
-      let P : List Loaded → Type 0 = λ programs. RefusesOrder (length s.machine.store.runs) programs x.names order e in
-      let N : List (List ℕ) → Type 0 = λ names. RefusesOrder (length s.machine.store.runs) s.machine.programs names order e in
-      subst C (sym shown.world.store.cpus) (subst P (sym shown.world.programs) (subst N (sym shown.names) here))
+      let C : ℕ → Type 0 = λ cpus. RefusesOrder cpus x.world.programs x.names (Some (length x.turns)) order e in
+      let P : List Loaded → Type 0 = λ programs. RefusesOrder (length s.machine.store.runs) programs x.names (Some (length x.turns)) order e in
+      let N : List (List ℕ) → Type 0 = λ names. RefusesOrder (length s.machine.store.runs) s.machine.programs names (Some (length x.turns)) order e in
+      subst C (sym shown.world.store.cpus) (subst P (sym shown.world.programs) (subst N (sym shown.names) (counted (length s.machine.store.runs) s.machine.programs s.names s.course x.turns order e shown.turns here)))
 
 pub line_refused : (s : SessionState) (fields : List (List ℕ)) (order : Order) (e : DebugError) → Some order ≡ order_of fields → RefusesHere s order e → RefusesLine s fields e
 line_refused s fields order error.NoCpu is here x shown = (order, sym is, moved s x shown order error.NoCpu here)
 line_refused s fields order error.NoPc is here x shown = (order, sym is, moved s x shown order error.NoPc here)
 line_refused s fields order error.NoMap is here x shown = (order, sym is, moved s x shown order error.NoMap here)
+line_refused s fields order error.NoTurns is here x shown = (order, sym is, moved s x shown order error.NoTurns here)
 line_refused s fields order error.BadCommand is here x shown = absurd here
 line_refused s fields order error.OutOfMemory is here x shown = tt

@@ -33,6 +33,8 @@ pub data Order : Type 0 where
   Keys : List ℕ → Order
   -- `schedule`: the turns made so far
   Schedule : Order
+  -- `back N`: the last N turns are undone
+  Back : ℕ → Order
   -- `go C until P`, `step C until P`: turns of C up to the pc P, or until it has no work left
   GoTo : Option ℕ → Option ℕ → Order
   -- `maps`
@@ -41,6 +43,8 @@ pub data Order : Type 0 where
   Jobs : Order
   -- `mark N`
   Mark : ℕ → Order
+  -- `help`
+  Help : Order
 
 -- a word is a number of any size, and this one where it is below the limit
 abbrev pub number_below : ℕ → List ℕ → Option (Option ℕ)
@@ -88,7 +92,8 @@ one_word w =
     else (if bytes_eq (codes "schedule") w then Some Schedule
     else (if bytes_eq (codes "maps") w then Some Maps
     else (if bytes_eq (codes "jobs") w then Some Jobs
-    else None)))
+    else (if bytes_eq (codes "help") w then Some Help
+    else None))))
 
 abbrev pub two_words : List ℕ → List ℕ → Option Order
 two_words w a =
@@ -98,7 +103,8 @@ two_words w a =
     else (if bytes_eq (codes "map") w then (if is_name a then Some (Map a) else None)
     else (if bytes_eq (codes "keys") w then (if is_name a then Some (Keys a) else None)
     else (if bytes_eq (codes "mark") w then option_map Mark (mark_in a)
-    else None)))))
+    else (if bytes_eq (codes "back") w then option_map Back (turns_in a)
+    else None))))))
 
 abbrev pub three_words : List ℕ → List ℕ → List ℕ → Option Order
 three_words w a b =
@@ -167,3 +173,5 @@ command_order (command.GoTo c p) = GoTo c p
 command_order command.Maps = Maps
 command_order command.Jobs = Jobs
 command_order (command.Mark n) = Mark n
+command_order (command.Back n) = Back n
+command_order command.Help = Help

@@ -1,6 +1,7 @@
 -- The turns that a session has made: its course, as it is told and kept (our own choice).
-use Rattle.std.specs.Prelude.{◌≡◌, ℕ, ◌+◌, ◌==◌, ◌&&◌, nat_lt, if◌then◌else◌, List, [], ◌∷◌, ◌++◌, Option, Some, None, codes, length}
+use Rattle.std.specs.Prelude.{◌≡◌, ℕ, ◌+◌, ◌-◌, ◌<◌, ◌==◌, ◌&&◌, nat_lt, if◌then◌else◌, List, [], ◌∷◌, ◌++◌, Option, Some, None, codes, length, option_map, slice_index_or, take}
 use Rattle.bpf_schedule.specs.Spelling.{runs_text}
+use Rattle.bpf_machine.specs.Schedule.{unrolled}
 use Rattle.bpf_debug.specs.Command.{most_turns}
 
 -- one turn more: of the last run, where that is of the CPU and may have one more, or else a run of
@@ -34,3 +35,40 @@ IsKept (Some runs) turns = runs ≡ runs_of turns
 -- whatever turns were kept, these behind them are kept then
 abbrev pub KeepsOn : Option (List (ℕ × ℕ)) → List ℕ → Option (List (ℕ × ℕ)) → Type 0
 KeepsOn old more new = (turns : List ℕ) → IsKept old turns → IsKept new (turns ++ more)
+
+-- ---- turns undone
+
+-- these turns without the last n
+abbrev pub turns_before : List ℕ → ℕ → List ℕ
+turns_before turns n = take (length turns - n) turns
+
+-- whose turn the first of the last n is
+abbrev pub cpu_before : List ℕ → ℕ → ℕ
+cpu_before turns n = slice_index_or turns (length turns - n) 0
+
+-- each run has a turn
+abbrev pub HaveTurns : List (ℕ × ℕ) → Type 0
+HaveTurns [] = Unit {0}
+HaveTurns (run ∷ runs) = (0 < run.1) × HaveTurns runs
+
+-- one turn less of runs that have turns: the last, and this is the CPU whose it was
+abbrev pub DropsTurn : List (ℕ × ℕ) → List (ℕ × ℕ) → ℕ → Type 0
+DropsTurn old new c =
+    (runs : List (ℕ × ℕ)) (d : ℕ) → HaveTurns runs → old ≡ with_turn runs d
+    → (new ≡ runs) × (c ≡ d)
+
+-- of all turns that were told so, the last n are told no more, and this CPU is that of the first of
+-- them
+abbrev pub TakesBack : List (ℕ × ℕ) → ℕ → List (ℕ × ℕ) → ℕ → Type 0
+TakesBack old n new c =
+    (turns more : List ℕ) → length more ≡ n → old ≡ runs_of (turns ++ more)
+    → (new ≡ runs_of turns) × (c ≡ slice_index_or more 0 0)
+
+-- how many turns are told, where they are
+abbrev pub count_of : Option (List (ℕ × ℕ)) → Option ℕ
+count_of = option_map (λ runs. length (unrolled runs))
+
+-- fewer than n turns are told
+abbrev pub AreFewer : Option ℕ → ℕ → Type 0
+AreFewer None n = ⊥
+AreFewer (Some count) n = count < n

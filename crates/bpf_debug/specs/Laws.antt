@@ -6,7 +6,7 @@ use Rattle.std.specs.Fmt.{decimal}
 use Rattle.bpf_machine.specs.Laws.{IsFresh}
 use Rattle.bpf_machine.specs.Schedule.{World, RunsSchedule, unrolled}
 use Rattle.bpf_debug.specs.declared.error.DebugError.TheVariants as error
-use Rattle.bpf_debug.specs.Command.{Order, Break, Delete, Step, StepTimes, Steps, Go, Registers, Where, Memory, Map, Keys, Schedule, GoTo, Maps, Jobs, Mark, is_short}
+use Rattle.bpf_debug.specs.Command.{Order, Break, Delete, Step, StepTimes, Steps, Go, Registers, Where, Memory, Map, Keys, Schedule, GoTo, Maps, Jobs, Mark, Back, Help, is_short}
 use Rattle.bpf_debug.specs.Course.{runs_of}
 use Rattle.bpf_debug.specs.Session.{Scene, IsCpu, IsCourse, CarriesOut, behind}
 use Rattle.bpf_debug.specs.Script.{Answer, RunsScript}
@@ -63,6 +63,8 @@ IsQuestion Schedule = Unit {0}
 IsQuestion Maps = Unit {0}
 IsQuestion Jobs = Unit {0}
 IsQuestion (Mark n) = Unit {0}
+IsQuestion Help = Unit {0}
+IsQuestion (Back n) = ⊥
 IsQuestion (Delete c p) = ⊥
 IsQuestion (Break c p) = ⊥
 IsQuestion (Step c) = ⊥
@@ -88,10 +90,10 @@ abbrev pub HadMemory : List Answer → Type 0
 HadMemory [] = Unit {0}
 HadMemory (answer ∷ answers) = (answer ≢ Err error.OutOfMemory) × HadMemory answers
 
--- over a machine whose jobs all wait a script has one list of answers, and leaves one machine, with
--- the same breakpoints
+-- over a machine whose jobs all wait, and that was such a one before its first turn, a script has one
+-- list of answers, and leaves one machine, with the same breakpoints
 abbrev pub ScriptsAreDetermined : Type 0
 ScriptsAreDetermined =
     (x y z : Scene) (lines : List (List ℕ)) (answers others : List Answer) → IsFresh x.world
-    → RunsScript x lines answers y → RunsScript x lines others z → HadMemory answers
-    → HadMemory others → (answers ≡ others) × (y ≡ z)
+    → IsFresh x.first → RunsScript x lines answers y → RunsScript x lines others z
+    → HadMemory answers → HadMemory others → (answers ≡ others) × (y ≡ z)

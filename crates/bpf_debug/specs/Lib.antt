@@ -3,8 +3,10 @@ pub mod Answer
 pub mod Go
 pub mod Turns
 pub mod Course
+pub mod Origin
 pub mod Read
 pub mod Told
+pub mod Help
 pub mod Session
 pub mod Codes
 pub mod Script

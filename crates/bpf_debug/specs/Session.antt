@@ -1,6 +1,6 @@
 -- What commands do: the turns that each makes, what it answers, and why one is refused (our own
 -- choice).
-use Rattle.std.specs.Prelude.{◌≡◌, ℕ, ◌+◌, ◌<◌, replicate, Bool, true, false, nat_lt, if◌then◌else◌, List, [], ◌∷◌, ◌++◌, Option, Some, None, length, slice_get}
+use Rattle.std.specs.Prelude.{◌≡◌, ℕ, ◌+◌, ◌<◌, ◌≤◌, replicate, Bool, true, false, nat_lt, if◌then◌else◌, List, [], ◌∷◌, ◌++◌, Option, Some, None, length, slice_get}
 use Rattle.std.specs.List.{list_all}
 use Rattle.bpf_loader.specs.Loaded.{Loaded}
 use Rattle.bpf_loader.specs.Places.{IsStart}
@@ -10,18 +10,21 @@ use Rattle.bpf_machine.specs.Machine.{MachineState, Shows}
 use Rattle.bpf_debug.specs.declared.breakpoint.Breakpoint.{Breakpoint}
 use Rattle.bpf_debug.specs.declared.error.DebugError.{DebugError}
 use Rattle.bpf_debug.specs.declared.error.DebugError.TheVariants as error
-use Rattle.bpf_debug.specs.Command.{Order, Break, Delete, Step, StepTimes, Steps, Go, Registers, Where, Memory, Map, Keys, Schedule, GoTo, Maps, Jobs, Mark, order_of}
+use Rattle.bpf_debug.specs.Command.{Order, Break, Delete, Step, StepTimes, Steps, Go, Registers, Where, Memory, Map, Keys, Schedule, GoTo, Maps, Jobs, Mark, Back, Help, order_of}
 use Rattle.bpf_debug.specs.Answer.{IsWhere, IsRegisters, ended_text, break_line, deleted_line}
 use Rattle.bpf_debug.specs.Turns.{MakesTurns, MakesRuns, last_cpu}
-use Rattle.bpf_debug.specs.Course.{IsKept, course_line}
+use Rattle.bpf_debug.specs.Course.{AreFewer, IsKept, count_of, course_line, cpu_before, turns_before}
 use Rattle.bpf_debug.specs.Go.{Goes, has_break, without_break}
 use Rattle.bpf_debug.specs.Told.{shape_lines, told_jobs, mark_line}
+use Rattle.bpf_debug.specs.Help.{help_text}
 use Rattle.bpf_debug.specs.Read.{IsMemoryText, IsNamed, IsNoName, IsMapText, IsKeysText}
 
--- what callers see of a session: its machine, the names of the maps by their numbers, the
--- breakpoints, and the turns made so far in run lengths, where there was room for them
+-- what callers see of a session: its machine, the same before the first turn, the names of the maps
+-- by their numbers, the breakpoints, and the turns made so far in run lengths, where there was room
+-- for them
 pub record SessionState : Type 0 where
   pub machine : MachineState
+  pub first : MachineState
   pub names : List (List ℕ)
   pub breaks : List Breakpoint
   pub course : Option (List (ℕ × ℕ))
@@ -36,6 +39,7 @@ pub record Scene : Type 0 where
 
 pub record IsShown (s : SessionState) (x : Scene) : Type 0 where
   pub world : Shows s.machine x.world
+  pub first : Shows s.first x.first
   pub names : x.names ≡ s.names
   pub breaks : x.breaks ≡ s.breaks
   pub turns : IsKept s.course x.turns
@@ -47,6 +51,10 @@ IsCourse x = RunsSchedule x.first x.turns x.world
 -- the scene behind some turns more, which lead to this machine
 abbrev pub behind : Scene → List ℕ → World → Scene
 behind x turns w = record x { world = w; turns = x.turns ++ turns }
+
+-- the first machine with all turns but the last n
+abbrev pub undone : Scene → ℕ → World → Scene
+undone x n w = record x { world = w; turns = turns_before x.turns n }
 
 -- some program has an instruction that begins at the pc
 abbrev pub IsPc : List Loaded → ℕ → Type 0
@@ -103,6 +111,12 @@ RunsTo x c p text y =
     × Goes (record { cpu = c; pc = p } ∷ []) c (c + 1) x.world c [] turns text m
     × (y ≡ behind x turns m))
 
+-- the last turns are undone, this many, and where the CPU of the first of them stands again
+abbrev pub GoesBack : Scene → ℕ → List ℕ → Scene → Type 0
+GoesBack x n text y =
+    (n ≤ length x.turns) × ((m : World) × RunsSchedule x.first (turns_before x.turns n) m
+    × IsWhere m.jobs (cpu_before x.turns n) text × (y ≡ undone x n m))
+
 abbrev pub IsCpu : Scene → ℕ → Type 0
 IsCpu x c = c < x.world.store.shape.cpus
 
@@ -122,6 +136,7 @@ Answers x Schedule text = text ≡ course_line x.turns
 Answers x Maps text = text ≡ shape_lines x.names x.world.store.shape.maps (length x.names)
 Answers x Jobs text = text ≡ told_jobs (length x.world.jobs) x.world.jobs
 Answers x (Mark n) text = text ≡ mark_line n
+Answers x Help text = text ≡ help_text
 Answers x order text = ⊥
 
 -- each order with its text
@@ -134,6 +149,7 @@ CarriesOut x (Steps runs) text y =
     (are_cpus x.world.store.shape.cpus runs ≡ true) × StepsRuns x runs text y
 CarriesOut x Go text y = RunsOn x text y
 CarriesOut x (GoTo (Some c) (Some p)) text y = IsCpu x c × RunsTo x c p text y
+CarriesOut x (Back n) text y = GoesBack x n text y
 CarriesOut x (Break c p) text y = ⊥
 CarriesOut x (Delete c p) text y = ⊥
 CarriesOut x (Step None) text y = ⊥
@@ -160,8 +176,8 @@ LeavesLine s fields text t =
     (x : Scene) → IsShown s x → (y : Scene) × Obeys x fields text y × (IsCourse x → IsCourse y)
     × IsShown t y
 
--- ---- refusals: G4 is tested first, then G1; of a machine with so many CPUs, these programs, and
--- maps of these names
+-- ---- refusals: G4 is tested first, then G1; of a machine with so many CPUs, these programs, maps of
+-- these names, and so many turns, where they are told
 
 -- no CPU has this number
 abbrev pub IsNoCpu : ℕ → Option ℕ → Type 0
@@ -190,6 +206,8 @@ NamesNoCpu cpus (GoTo c p) = IsNoCpu cpus c
 NamesNoCpu cpus Maps = ⊥
 NamesNoCpu cpus Jobs = ⊥
 NamesNoCpu cpus (Mark n) = ⊥
+NamesNoCpu cpus (Back n) = ⊥
+NamesNoCpu cpus Help = ⊥
 
 abbrev pub NamesNoPc : ℕ → List Loaded → Order → Type 0
 NamesNoPc cpus programs (Break c p) = (IsNoCpu cpus c → ⊥) × IsNoPc programs p
@@ -202,30 +220,38 @@ NamesNoMap names (Map name) = IsNoName names name
 NamesNoMap names (Keys name) = IsNoName names name
 NamesNoMap names order = ⊥
 
+abbrev pub NamesNoTurns : Option ℕ → Order → Type 0
+NamesNoTurns count (Back n) = AreFewer count n
+NamesNoTurns count order = ⊥
+
 -- why an order is refused
-abbrev pub RefusesOrder : ℕ → List Loaded → List (List ℕ) → Order → DebugError → Type 0
-RefusesOrder cpus programs names order error.NoCpu = NamesNoCpu cpus order
-RefusesOrder cpus programs names order error.NoPc = NamesNoPc cpus programs order
-RefusesOrder cpus programs names order error.NoMap = NamesNoMap names order
-RefusesOrder cpus programs names order error.BadCommand = ⊥
-RefusesOrder cpus programs names order error.OutOfMemory = Unit {0}
+abbrev pub RefusesOrder
+    : ℕ → List Loaded → List (List ℕ) → Option ℕ → Order → DebugError → Type 0
+RefusesOrder cpus programs names count order error.NoCpu = NamesNoCpu cpus order
+RefusesOrder cpus programs names count order error.NoPc = NamesNoPc cpus programs order
+RefusesOrder cpus programs names count order error.NoMap = NamesNoMap names order
+RefusesOrder cpus programs names count order error.BadCommand = ⊥
+RefusesOrder cpus programs names count order error.OutOfMemory = Unit {0}
+RefusesOrder cpus programs names count order error.NoTurns = NamesNoTurns count order
 
 -- the same of what a session shows
 abbrev pub RefusesHere : SessionState → Order → DebugError → Type 0
 RefusesHere s order e =
-    RefusesOrder (length s.machine.store.runs) s.machine.programs s.names order e
+    RefusesOrder (length s.machine.store.runs) s.machine.programs s.names (count_of s.course) order e
 
 -- why a line is refused; want of memory may stand in place of any answer
-abbrev pub RefusesFields : ℕ → List Loaded → List (List ℕ) → List (List ℕ) → DebugError → Type 0
-RefusesFields cpus programs names fields error.BadCommand =
+abbrev pub RefusesFields
+    : ℕ → List Loaded → List (List ℕ) → Option ℕ → List (List ℕ) → DebugError → Type 0
+RefusesFields cpus programs names count fields error.BadCommand =
     (fields ≡ [] → ⊥) × (order_of fields ≡ None)
-RefusesFields cpus programs names fields error.OutOfMemory = Unit {0}
-RefusesFields cpus programs names fields e =
-    (order : Order) × (order_of fields ≡ Some order) × RefusesOrder cpus programs names order e
+RefusesFields cpus programs names count fields error.OutOfMemory = Unit {0}
+RefusesFields cpus programs names count fields e = (order : Order) × (order_of fields ≡ Some order)
+    × RefusesOrder cpus programs names count order e
 
 -- the same of a scene
 abbrev pub IsLineRefused : Scene → List (List ℕ) → DebugError → Type 0
-IsLineRefused x fields e = RefusesFields x.world.store.shape.cpus x.world.programs x.names fields e
+IsLineRefused x fields e =
+    RefusesFields x.world.store.shape.cpus x.world.programs x.names (Some (length x.turns)) fields e
 
 -- from each scene that the session shows, the line is refused
 abbrev pub RefusesLine : SessionState → List (List ℕ) → DebugError → Type 0

@@ -39,6 +39,10 @@ pub enum Command<'a> {
     Jobs,
     /// A number to be told again.
     Mark(u64),
+    /// So many turns are undone.
+    Back(u64),
+    /// The commands.
+    Help,
 }
 
 /// Whether a word is this one.
@@ -137,6 +141,8 @@ fn one_word<'a>(word: &[u8]) -> Option<Command<'a>>
         Some(Command::Maps)
     } else if is(word, "jobs") {
         Some(Command::Jobs)
+    } else if is(word, "help") {
+        Some(Command::Help)
     } else {
         None
     }
@@ -161,6 +167,9 @@ fn two_words<'a>(word: &[u8], first: &'a [u8]) -> Option<Command<'a>>
     } else if is(word, "mark") {
         let number = mark_in(first)?;
         Some(Command::Mark(number))
+    } else if is(word, "back") {
+        let count = turns_in(first)?;
+        Some(Command::Back(count))
     } else {
         None
     }

@@ -1,11 +1,13 @@
 //! The turns that a session has made, in run lengths.
 
-ghost use Rattle.std.specs.Prelude.{◌≡◌, [], ◌∷◌, ◌++◌, IfOk, OnOk, codes, length, string_bytes};
+ghost use Rattle.std.specs.Prelude.{◌≡◌, ◌<◌, ◌≤◌, [], ◌∷◌, ◌++◌, IfOk, OnOk, codes, length, string_bytes};
 ghost use Rattle.std.specs.Bool.{OnFalse, OnTrue};
 ghost use Rattle.bpf_schedule.specs.Spelling.{runs_text};
-ghost use Rattle.bpf_debug.specs.Course.{with_turn};
+ghost use Rattle.bpf_machine.specs.Schedule.{unrolled};
+ghost use Rattle.bpf_debug.specs.Course.{DropsTurn, TakesBack, with_turn};
 
 use crate::command::MOST_TURNS;
+use bpf_machine::Machine;
 use bpf_schedule::push_runs;
 use std::alloc::{AllocError, Global};
 use std::marker::Model;
@@ -60,6 +62,48 @@ fn add_turn(runs: &mut Vec<(u8, u64)>, cpu: u8) -> Result<(), AllocError>
     Ok(())
 }
 
+/// Takes the last turn away. Whose it was.
+fn drop_turn(runs: &mut Vec<(u8, u64)>) -> u8
+    ensures { DropsTurn runs.old.items runs.new.items result }
+{
+    let Some(place) = runs.len().checked_sub(1) else {
+        return 0;
+    };
+    let last = runs[place];
+    if last.1 > 1 {
+        runs[place] = (last.0, last.1 - 1);
+    } else {
+        runs.truncate(place);
+    }
+    last.0
+}
+
+/// Takes away the last turns, this many. Whose the first of them was.
+fn take_back(runs: &mut Vec<(u8, u64)>, count: u64) -> u8
+    ensures { TakesBack runs.old.items count runs.new.items result }
+{
+    let mut first = 0;
+    for _ in 0..count {
+        first = drop_turn(runs);
+    }
+    first
+}
+
+/// Whether there are so many turns.
+pub fn has_turns(runs: &[(u8, u64)], count: u64) -> bool
+    ensures yes { OnTrue result (count ≤ length (unrolled runs.now)) }
+    ensures no { OnFalse result (length (unrolled runs.now) < count) }
+{
+    let mut left = count;
+    for run in runs {
+        if run.1 >= left {
+            return true;
+        }
+        left -= run.1;
+    }
+    left == 0
+}
+
 /// The line of a schedule, as the command that makes it.
 pub fn course_line(alloc: Global, runs: &[(u8, u64)]) -> Result<String, AllocError>
     ensures { IfOk result (λ text. string_bytes text
@@ -72,9 +116,11 @@ pub fn course_line(alloc: Global, runs: &[(u8, u64)]) -> Result<String, AllocErr
 }
 
 impl Course {
-    ghost use Rattle.std.specs.Prelude.{◌≡◌, List, [], ◌∷◌, Some, None, IfSome, IfNone, replicate};
-    ghost use Rattle.bpf_machine.specs.Schedule.{unrolled};
-    ghost use Rattle.bpf_debug.specs.Course.{KeepsOn};
+    ghost use Rattle.std.specs.Prelude.{◌≡◌, ℕ, List, [], ◌∷◌, Some, None, IfSome, IfNone, replicate};
+    ghost use Rattle.bpf_machine.specs.Schedule.{World, RunsSchedule, unrolled};
+    ghost use Rattle.bpf_machine.specs.Machine.{Shows};
+    ghost use Rattle.bpf_machine.specs.Parts.{IsSameHost};
+    ghost use Rattle.bpf_debug.specs.Course.{KeepsOn, TakesBack};
 
     /// No turn has been made.
     pub fn new(alloc: Global) -> Course
@@ -138,6 +184,24 @@ impl Course {
         for _ in 0..count {
             self.add(cpu);
         }
+    }
+
+    /// Takes the last turns away, this many, where turns are told. Whose the first of them was.
+    pub fn take_back(&mut self, count: u64) -> u8
+        ensures { (runs : List (ℕ × ℕ)) → self.old ≡ Some runs → (fewer : List (ℕ × ℕ))
+            × (self.new ≡ Some fewer) × TakesBack runs count fewer result }
+    {
+        take_back(&mut self.runs, count)
+    }
+
+    /// Makes all turns, where they are told.
+    pub fn repeat(&self, machine: &mut Machine)
+        ensures turns { (runs : List (ℕ × ℕ)) → self.now ≡ Some runs
+            → (w : World) → Shows machine.old w
+            → (z : World) × RunsSchedule w (unrolled runs) z × Shows machine.new z }
+        ensures same { IsSameHost machine.old machine.new }
+    {
+        machine.turns_by(&self.runs);
     }
 
     /// The turns of a schedule have been made.

@@ -21,6 +21,9 @@ pub enum DebugError {
     /// G5
     #[error("out of memory")]
     OutOfMemory,
+    /// G4
+    #[error("so many turns were not made")]
+    NoTurns,
 }
 
 impl DebugError {
@@ -37,6 +40,7 @@ impl DebugError {
             DebugError::NoMap => Code::G3,
             DebugError::BadCommand => Code::G4,
             DebugError::OutOfMemory => Code::G5,
+            DebugError::NoTurns => Code::G4,
         }
     }
 
@@ -50,6 +54,7 @@ impl DebugError {
             DebugError::NoMap => "refused G3\n",
             DebugError::BadCommand => "refused G4\n",
             DebugError::OutOfMemory => "refused G5\n",
+            DebugError::NoTurns => "refused G4\n",
         }
     }
 }

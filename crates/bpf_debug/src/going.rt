@@ -3,6 +3,7 @@
 ghost use Rattle.std.specs.Prelude.{◌≡◌, ◌+◌, ◌*◌, ◌≤◌, ◌<◌, ◌++◌, ◌⊎◌, IfSome, IfNone, List, ℕ, [], true, false, length, slice_index_or, string_bytes, string_capacity, string_len};
 ghost use Rattle.bpf_machine.specs.Schedule.{World};
 ghost use Rattle.bpf_machine.specs.Machine.{Shows};
+ghost use Rattle.bpf_machine.specs.Parts.{IsSameHost};
 ghost use Rattle.bpf_machine.specs.Questions.{open_jobs};
 ghost use Rattle.bpf_debug.specs.Course.{KeepsOn};
 ghost use Rattle.bpf_debug.specs.Go.{Goes, HasWork, AreIdle, IsUp, StandsAt, has_break};
@@ -96,10 +97,12 @@ pub fn go(
     requires shown { (w : World) × Shows machine.old w }
     requires room { string_len out.old + 128 * open_jobs machine.old.jobs + 128
         ≤ string_capacity out.old }
-    ensures { (w : World) → Shows machine.old w → (z : World) × (turns : List ℕ) × (text : List ℕ)
+    ensures goes { (w : World) → Shows machine.old w → (z : World) × (turns : List ℕ)
+        × (text : List ℕ)
         × Goes breakpoints.now low high w low [] turns text z × Shows machine.new z
         × KeepsOn course.old turns course.new
         × (string_bytes out.new ≡ string_bytes out.old ++ text) }
+    ensures same { IsSameHost machine.old machine.new }
 {
     bpf_machine::laws::turns_fall();
     let mut gone = [false; 256];

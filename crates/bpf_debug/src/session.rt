@@ -1,23 +1,27 @@
 //! A session: a machine with its breakpoints and its turns, and what commands do to it.
 
-ghost use Rattle.std.specs.Prelude.{◌≡◌, ℕ, List, ◌<◌, ◌↔◌, IsTrue, true, false, IfOk, IfErr, OnErr, IfSome, IfNone, Some, [], map, length, string_bytes, string_len, string_capacity, ◌+◌, ◌*◌, ◌++◌, ◌≤◌};
+ghost use Rattle.std.specs.Prelude.{◌≡◌, ℕ, List, ◌<◌, ◌↔◌, IsTrue, true, false, IfOk, IfErr, OnErr, IfSome, IfNone, Some, None, List, [], map, length, string_bytes, string_len, string_capacity, ◌+◌, ◌*◌, ◌++◌, ◌≤◌};
 ghost use Rattle.bpf_lines.specs.Lines.{fields_of};
 ghost use Rattle.bpf_plain.specs.PlainStore.{has_cpu};
 ghost use Rattle.bpf_machine.specs.Machine.{Shows};
-ghost use Rattle.bpf_machine.specs.Schedule.{World, TakesTurn};
+ghost use Rattle.bpf_machine.specs.Parts.{IsSameHost};
+ghost use Rattle.bpf_machine.specs.Schedule.{World, TakesTurn, unrolled};
 ghost use Rattle.bpf_debug.specs.Answer.{IsWhere, ended_text};
 ghost use Rattle.bpf_debug.specs.Command.{Order, command_order, few_words, order_of, schedule_in};
+ghost use Rattle.bpf_debug.specs.Origin.{IsOfShape};
 ghost use Rattle.bpf_debug.specs.Session.{IsPc, are_cpus};
 
 use crate::breakpoint::{Breakpoint, has_break, remove_break};
 use crate::command::{Command, command_of};
-use crate::course::{Course, course_line};
+use crate::course::{Course, course_line, has_turns};
 use crate::error::DebugError;
 use crate::going;
+use crate::help::help_text;
 use crate::lines::{
     LINE, put_break, put_deleted, put_ended, put_jobs, put_mark, put_off, put_registers, put_where,
 };
 use crate::maps::{key_lines_of, map_lines, map_named};
+use crate::origin::Origin;
 use crate::reading::bytes_line;
 use crate::schedule::{is_schedule, schedule_in};
 use crate::told::shape_lines;
@@ -25,13 +29,16 @@ use crate::turns::{take_runs, take_turns};
 use bpf_lines::lines;
 use bpf_loader::Program;
 use bpf_machine::{Machine, Turn};
-use std::alloc::Global;
+use bpf_shared::StoreShape;
+use std::alloc::{AllocError, Global};
 use std::marker::Model;
 
 /// A machine that commands run and look at.
 #[derive(Drop)]
 pub struct Session {
     machine: Machine,
+    /// What the machine is made again of, as it was before the first turn.
+    origin: Origin,
     /// The maps' names, by their numbers.
     names: Vec<String>,
     breakpoints: Vec<Breakpoint>,
@@ -43,18 +50,20 @@ impl Model for Session {
     ghost use Rattle.std.specs.Prelude.{map, string_bytes};
     ghost use Rattle.bpf_machine.specs.Schedule.{World};
     ghost use Rattle.bpf_machine.specs.Machine.{Shows};
+    ghost use Rattle.bpf_debug.specs.Origin.{CanRewind, first_of};
     ghost use Rattle.bpf_debug.specs.Session.{SessionState};
 
     ghost Value = { SessionState };
 
     ghost view = { λ s. record {
       machine = s.machine;
+      first = first_of s.origin s.machine.programs;
       names = map (λ n. string_bytes n) s.names.items;
       breaks = s.breakpoints.items;
       course = s.course;
     } };
 
-    ghost invariant = { λ s. (w : World) × Shows s.machine w };
+    ghost invariant = { λ s. (w : World) × Shows s.machine w × CanRewind s.origin s.machine };
 }
 
 /// Whether some program has an instruction that begins at a pc.
@@ -103,11 +112,12 @@ fn next_cpu(machine: &Machine, cpu: u8) -> u8
 /// One turn of a CPU, with the line of the job that it ends and that of where the CPU stands then.
 fn take_turn(machine: &mut Machine, cpu: u8, out: &mut String)
     requires { string_len out.old + 256 ≤ string_capacity out.old }
-    ensures { (answer : Turn) × (place : List ℕ)
+    ensures made { (answer : Turn) × (place : List ℕ)
         × ((w : World) → Shows machine.old w → (z : World) × TakesTurn w cpu answer z
         × Shows machine.new z)
         × IsWhere machine.new.jobs cpu place
         × (string_bytes out.new ≡ (string_bytes out.old ++ ended_text cpu answer) ++ place) }
+    ensures same { IsSameHost machine.old machine.new }
 {
     let turn = machine.turn(cpu);
     put_ended(out, cpu, turn);
@@ -120,20 +130,32 @@ impl Session {
     ghost use Rattle.bpf_machine.specs.Hands.{IsFree};
     ghost use Rattle.bpf_debug.specs.Session.{IsNoCpu, Leaves, LeavesLine, RefusesHere, RefusesLine};
 
-    /// A session without breakpoints, with the maps' names by their numbers.
-    pub fn new(alloc: Global, machine: Machine, names: Vec<String>) -> Session
-        requires { (w : World) × Shows machine w }
-        ensures machine { result.machine ≡ machine }
-        ensures names { result.names ≡ map (λ n. string_bytes n) names.items }
-        ensures breaks { result.breaks ≡ [] }
-        ensures course { result.course ≡ Some [] }
+    /// A session without breakpoints, with the maps' names by their numbers, over a machine whose
+    /// store has this shape. What it takes to make the machine again is kept: want of memory for
+    /// that is the only refusal.
+    pub fn new(
+        alloc: Global,
+        shape: StoreShape,
+        machine: Machine,
+        names: Vec<String>,
+    ) -> Result<Session, AllocError>
+        requires shown { (w : World) × Shows machine w }
+        requires shape { IsOfShape shape machine.store }
+        requires lists { machine.lists ≡ None }
+        ensures machine { IfOk result (λ s. s.machine ≡ machine) }
+        ensures first { IfOk result (λ s. s.first ≡ machine) }
+        ensures names { IfOk result (λ s. s.names ≡ map (λ n. string_bytes n) names.items) }
+        ensures breaks { IfOk result (λ s. s.breaks ≡ []) }
+        ensures course { IfOk result (λ s. s.course ≡ Some []) }
     {
-        Session {
+        let origin = Origin::new(alloc, shape, &machine)?;
+        Ok(Session {
             machine,
+            origin,
             names,
             breakpoints: Vec::new(alloc),
             course: Course::new(alloc),
-        }
+        })
     }
 
     /// The machine.
@@ -351,6 +373,43 @@ impl Session {
             return Err(DebugError::NoCpu);
         };
         self.go_to_at(alloc, cpu, pc)
+    }
+
+    /// Undoes so many turns, which there are.
+    fn back_by(&mut self, alloc: Global, count: u64) -> Result<String, DebugError>
+        requires { (runs : List (ℕ × ℕ)) × (self.old.course ≡ Some runs)
+            × (count ≤ length (unrolled runs)) }
+        ensures answered { IfOk result
+            (λ text. Leaves self.old (Order.Back count) (string_bytes text) self.new) }
+        ensures refused { IfErr result (λ e. e ≡ DebugError.OutOfMemory) }
+        ensures unchanged { OnErr result (self.new ≡ self.old) }
+    {
+        let Some(mut out) = make_room(alloc, 1) else {
+            return Err(DebugError::OutOfMemory);
+        };
+        let Ok(()) = self.origin.rewind(alloc, &mut self.machine) else {
+            return Err(DebugError::OutOfMemory);
+        };
+        let cpu = self.course.take_back(count);
+        self.course.repeat(&mut self.machine);
+        put_where(&mut out, &self.machine, cpu);
+        Ok(out)
+    }
+
+    fn back(&mut self, alloc: Global, count: u64) -> Result<String, DebugError>
+        ensures answered { IfOk result
+            (λ text. Leaves self.old (Order.Back count) (string_bytes text) self.new) }
+        ensures refused { IfErr result (λ e. RefusesHere self.old (Order.Back count) e) }
+        ensures unchanged { OnErr result (self.new ≡ self.old) }
+    {
+        let Some(runs) = self.course.runs() else {
+            return Err(DebugError::OutOfMemory);
+        };
+        if has_turns(runs, count) {
+            self.back_by(alloc, count)
+        } else {
+            Err(DebugError::NoTurns)
+        }
     }
 
     /// A breakpoint of a CPU, at a pc of some program.
@@ -645,6 +704,17 @@ impl Session {
         Ok(out)
     }
 
+    fn help(&self, alloc: Global) -> Result<String, DebugError>
+        ensures answered { IfOk result
+            (λ text. Leaves self.now Order.Help (string_bytes text) self.now) }
+        ensures refused { IfErr result (λ e. RefusesHere self.now Order.Help e) }
+    {
+        match help_text(alloc) {
+            Ok(text) => Ok(text),
+            Err(_) => Err(DebugError::OutOfMemory),
+        }
+    }
+
     fn follow<'a>(&mut self, alloc: Global, command: Command<'a>) -> Result<String, DebugError>
         ensures answered { IfOk result
             (λ text. Leaves self.old (command_order command.entry) (string_bytes text) self.new) }
@@ -667,6 +737,8 @@ impl Session {
             Command::Maps => self.maps(alloc),
             Command::Jobs => self.jobs(alloc),
             Command::Mark(number) => self.mark(alloc, number),
+            Command::Back(count) => self.back(alloc, count),
+            Command::Help => self.help(alloc),
         }
     }
 

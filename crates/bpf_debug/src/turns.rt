@@ -3,6 +3,7 @@
 ghost use Rattle.std.specs.Prelude.{◌≡◌, ◌+◌, ◌*◌, ◌<◌, ◌≤◌, ◌++◌, List, ℕ, length, string_bytes, string_capacity, string_len};
 ghost use Rattle.bpf_machine.specs.Schedule.{World};
 ghost use Rattle.bpf_machine.specs.Machine.{Shows};
+ghost use Rattle.bpf_machine.specs.Parts.{IsSameHost};
 ghost use Rattle.bpf_machine.specs.Questions.{open_jobs};
 ghost use Rattle.bpf_debug.specs.Answer.{IsWhere};
 ghost use Rattle.bpf_debug.specs.Turns.{MakesRuns, MakesTurns, last_cpu};
@@ -18,6 +19,7 @@ fn make_turns(machine: &mut Machine, cpu: u8, count: u64, out: &mut String)
     ensures made { (w : World) → Shows machine.old w → (z : World) × (text : List ℕ)
         × MakesTurns w cpu count text z × Shows machine.new z
         × (string_bytes out.new ≡ string_bytes out.old ++ text) }
+    ensures same { IsSameHost machine.old machine.new }
     ensures room { string_len out.new + 128 * open_jobs machine.new.jobs + 128
         ≤ string_capacity out.new }
 {
@@ -33,10 +35,11 @@ pub fn take_turns(machine: &mut Machine, cpu: u8, count: u64, out: &mut String)
     requires shown { (w : World) × Shows machine.old w }
     requires room { string_len out.old + 128 * open_jobs machine.old.jobs + 128
         ≤ string_capacity out.old }
-    ensures { (place : List ℕ) × IsWhere machine.new.jobs cpu place
+    ensures made { (place : List ℕ) × IsWhere machine.new.jobs cpu place
         × ((w : World) → Shows machine.old w → (z : World) × (before : List ℕ)
         × MakesTurns w cpu count before z × Shows machine.new z
         × (string_bytes out.new ≡ (string_bytes out.old ++ before) ++ place)) }
+    ensures same { IsSameHost machine.old machine.new }
 {
     make_turns(machine, cpu, count, out);
     put_where(out, machine, cpu);
@@ -50,6 +53,7 @@ fn make_runs(machine: &mut Machine, runs: &[(u8, u64)], out: &mut String)
     ensures made { (w : World) → Shows machine.old w → (z : World) × (text : List ℕ)
         × MakesRuns w runs.now text z × Shows machine.new z
         × (string_bytes out.new ≡ string_bytes out.old ++ text) }
+    ensures same { IsSameHost machine.old machine.new }
     ensures room { string_len out.new + 128 ≤ string_capacity out.new }
 {
     for run in runs {
@@ -72,10 +76,11 @@ pub fn take_runs(machine: &mut Machine, runs: &[(u8, u64)], out: &mut String)
     requires shown { (w : World) × Shows machine.old w }
     requires room { string_len out.old + 128 * open_jobs machine.old.jobs + 128
         ≤ string_capacity out.old }
-    ensures { (place : List ℕ) × IsWhere machine.new.jobs (last_cpu runs.now) place
+    ensures made { (place : List ℕ) × IsWhere machine.new.jobs (last_cpu runs.now) place
         × ((w : World) → Shows machine.old w → (z : World) × (before : List ℕ)
         × MakesRuns w runs.now before z × Shows machine.new z
         × (string_bytes out.new ≡ (string_bytes out.old ++ before) ++ place)) }
+    ensures same { IsSameHost machine.old machine.new }
 {
     make_runs(machine, runs, out);
     put_where(out, machine, last_cpu(runs));

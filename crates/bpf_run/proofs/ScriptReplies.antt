@@ -28,14 +28,14 @@ of_file input file commands f (reply.NoOutcome text all) cut said h = absurd h
 
 -- the session that was made of a file, and what its machine tells in the end
 pub ended : (f : RunFile) (commands : List (List ℕ)) (s t : SessionState) (answers : List Answer) (stopped : Bool)
-    → Shows s.machine (first_world_of (file_of f)) → s.names ≡ (file_of f).names → s.breaks ≡ [] → s.course ≡ Some []
+    → Shows s.machine (first_world_of (file_of f)) → Shows s.first (first_world_of (file_of f)) → s.names ≡ (file_of f).names → s.breaks ≡ [] → s.course ≡ Some []
     → ((x : Scene) → IsShown s x → (y : Scene) × RunsScript x commands answers y × IsShown t y)
     → stopped ≡ any_stopped (length t.machine.jobs) t.machine.jobs
     → (y : Scene) × RunsScript (scene_of (file_of f)) commands answers y
     × (stopped ≡ any_stopped (length y.world.jobs) y.world.jobs)
-ended f commands s t answers stopped shows names breaks course follows tells =
+ended f commands s t answers stopped shows first names breaks course follows tells =
     let kept : IsKept s.course [] = subst (λ (o : Option (List (ℕ × ℕ))). IsKept o []) (sym course) refl in
-    let done = follows (scene_of (file_of f)) (record { world = shows; names = sym names; breaks = sym breaks; turns = kept }) in
+    let done = follows (scene_of (file_of f)) (record { world = shows; first = first; names = sym names; breaks = sym breaks; turns = kept }) in
     let P : List Task → Type 0 = λ jobs. stopped ≡ any_stopped (length jobs) jobs in (
       done.0,
       done.1,

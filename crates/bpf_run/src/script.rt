@@ -1,17 +1,25 @@
 //! `ebpf debug`: a run file, and commands behind it.
 
-ghost use Rattle.std.specs.Prelude.{◌≡◌, IfOk, IsOkUnless};
+ghost use Rattle.std.specs.Prelude.{◌≡◌, ◌<◌, ◌≤◌, All, IfOk, IsOkUnless, Some, [], map, string_bytes, vec_len};
 ghost use Rattle.std.specs.Option.{option_copied};
 ghost use Rattle.bpf_lines.specs.Lines.{lines_behind};
+ghost use Rattle.bpf_mem.specs.Limits.{max_context};
+ghost use Rattle.bpf_cpu.specs.Task.{waiting};
+ghost use Rattle.bpf_machine.specs.Machine.{Shows};
+ghost use Rattle.bpf_jobs.specs.Printed.{first_world};
 ghost use Rattle.bpf_file.specs.Runnable.{IsRunnable};
 ghost use Rattle.bpf_run.specs.Script.{IsDebugReply, IsCut, IsScriptOfFile, ends_file};
 
 use crate::refusal::Refusal;
 use crate::reply::Reply;
+use bpf_cpu::Job;
 use bpf_debug::{Session, run_script};
+use bpf_explore::copy_shape;
 use bpf_file::{FileError, RunFile, read_file};
 use bpf_jobs::{has_any_stopped, make_machine};
 use bpf_lines::lines::{fields, first_line};
+use bpf_loader::Program;
+use bpf_shared::StoreShape;
 use std::alloc::{AllocError, Global};
 
 /// An input that is cut in two.
@@ -72,6 +80,31 @@ pub fn debug_file(alloc: Global, input: &str) -> Reply
     }
 }
 
+/// A session over a new store of this shape, whose maps have these names, and jobs that all wait.
+/// Want of memory is the only refusal.
+fn make_session(
+    alloc: Global,
+    shape: StoreShape,
+    names: Vec<String>,
+    programs: Vec<Program>,
+    jobs: Vec<Job>,
+) -> Result<Session, AllocError>
+    requires cpus { All (λ job. job.cpu < shape.cpus) jobs.items }
+    requires programs { All (λ job. job.program < vec_len programs) jobs.items }
+    requires contexts { All (λ job. vec_len job.context ≤ max_context) jobs.items }
+    ensures machine { IfOk result (λ s. Shows s.machine
+        (first_world shape programs.items (map waiting jobs.items))) }
+    ensures first { IfOk result (λ s. s.first ≡ s.machine) }
+    ensures names { IfOk result (λ s. s.names ≡ map (λ n. string_bytes n) names.items) }
+    ensures breaks { IfOk result (λ s. s.breaks ≡ []) }
+    ensures course { IfOk result (λ s. s.course ≡ Some []) }
+{
+    let copy = copy_shape(alloc, &shape)?;
+    let machine = make_machine(alloc, copy, programs, jobs)?;
+    let session = Session::new(alloc, shape, machine, names)?;
+    Ok(session)
+}
+
 /// What commands are answered over the machine of a run file.
 fn debug(alloc: Global, file: RunFile, commands: Option<&[u8]>) -> Reply
     requires { IsRunnable file }
@@ -84,10 +117,9 @@ fn debug(alloc: Global, file: RunFile, commands: Option<&[u8]>) -> Reply
         jobs,
         ..
     } = file;
-    let Ok(machine) = make_machine(alloc, shape, programs, jobs) else {
+    let Ok(mut session) = make_session(alloc, shape, names, programs, jobs) else {
         return Reply::Refused(Refusal::OutOfMemory);
     };
-    let mut session = Session::new(alloc, machine, names);
     match run_script(alloc, &mut session, commands) {
         Ok(answers) => Reply::Script(answers, has_any_stopped(session.machine())),
         Err(_) => Reply::Refused(Refusal::OutOfMemory),

@@ -2,19 +2,21 @@ use Rattle.std.proofs.Common.{◌≡◌, ℕ, ◌+◌, true, false, List, get_or
 use Rattle.std.specs.Prelude.{string_bytes, string_len, string_capacity, slice_set}
 use Rattle.std.proofs.lemmas.List.{length-set}
 use Rattle.bpf_debug.specs.Go.{AreIdle, StandsAt, has_break}
+use Rattle.bpf_machine.proofs.HostLaws.{same_host, same_host_still}
 use Rattle.bpf_debug.proofs.GoLaws.{Comes, Ends, starts, turned, ended, stopped, falls, fewer, not_idle, room_left, none_is}
 use Rattle.bpf_debug.proofs.going.go.Goals as goal
 
 pub loop-cpu-init : goal.loop-cpu-init
 loop-cpu-init c = record {
   comes = starts c.args.breakpoints.now c.args.low c.args.high c.args.course.now c.args.machine.now (string_bytes c.args.out.now);
+  same = same_host c.args.machine.now;
   room = c.requires.room;
   size = refl;
   above = omega arith;
 }
 
-pub returns-in-Some-stop_before : goal.returns-in-Some-stop_before
-returns-in-Some-stop_before c =
+pub returns-in-Some-stop_before-clause-goes : goal.returns-in-Some-stop_before-clause-goes
+returns-in-Some-stop_before-clause-goes c =
     let breaks = c.args.breakpoints.now in
     let low = c.args.low in
     let high = c.args.high in
@@ -73,13 +75,14 @@ loop-cpu-preserved c =
     let T : List ℕ → Type 0 = λ s. Comes breaks low high noted old before next (cpu + 1) (slice_set marks cpu true) c.add.new.self s in
     record {
       comes = subst T (sym c.put_ended.ensures.text) (turned breaks low high noted old new before c.loop-cpu.from marks notes after comes next cpu c.turn-turn.result c.add.new.self (omega arith) (omega arith) c.in-Some.ensures.up may c.turn-turn.ensures.turn c.add.ensures);
+      same = same_host_still old new next c.loop-cpu.invariant.same c.turn-turn.ensures.same;
       room = room_left c.turn-turn.result new.jobs next.jobs (string_len c.loop-cpu.out) (string_len c.put_ended.new.out) (string_capacity c.loop-cpu.out) (string_capacity c.put_ended.new.out) fall works c.loop-cpu.invariant.room c.put_ended.ensures.room c.put_ended.ensures.size c.put_ended.ensures.none;
       size = length-set marks cpu true ∙ size;
       above = (let up = c.in-Some.ensures.up.above in omega arith);
     }
 
-pub returns : goal.returns
-returns c =
+pub returns-clause-goes : goal.returns-clause-goes
+returns-clause-goes c =
     let breaks = c.args.breakpoints.now in
     let low = c.args.low in
     let high = c.args.high in

@@ -2,8 +2,8 @@ use Rattle.std.proofs.Common.{ℕ, List, ◌++◌, ap, subst, ◌∙◌}
 use Rattle.bpf_debug.specs.Answer.{IsWhere}
 use Rattle.bpf_debug.proofs.turns.take_runs.Goals as goal
 
-pub returns : goal.returns
-returns c =
+pub returns-clause-made : goal.returns-clause-made
+returns-clause-made c =
     let place = c.put_where.ensures.text in
     let J : ℕ → Type 0 = λ cpu. IsWhere c.make_runs.new.machine.jobs cpu place.0 in (
       place.0,

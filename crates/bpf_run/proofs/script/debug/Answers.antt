@@ -14,6 +14,7 @@ returns-in-Ok-run_script c =
     let f = c.args.file in
     let T : MachineState → Type 0 = λ m. c.has_any_stopped.result ≡ any_stopped (length m.jobs) m.jobs in
     let S : MachineState → Type 0 = λ m. Shows m (first_world_of (file_of f)) in
-    ended f (lines_behind (option_copied c.args.commands)) c.new-session.result c.run_script.new.session (map answer_of c.in-Ok-run_script.answers.items) c.has_any_stopped.result
-    (subst S (sym c.new-session.ensures.machine) c.in-Ok.ensures) c.new-session.ensures.names c.new-session.ensures.breaks c.new-session.ensures.course c.in-Ok-run_script.ensures.answered
+    let made = c.in-Ok.ensures in
+    ended f (lines_behind (option_copied c.args.commands)) c.in-Ok.session c.run_script.new.session (map answer_of c.in-Ok-run_script.answers.items) c.has_any_stopped.result
+    made.machine (subst S (sym made.first) made.machine) made.names made.breaks made.course c.in-Ok-run_script.ensures.answered
     (subst T c.machine.ensures c.has_any_stopped.ensures)

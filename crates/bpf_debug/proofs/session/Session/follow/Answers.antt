@@ -79,3 +79,13 @@ pub returns-in-Mark-clause-answered : goal.returns-in-Mark-clause-answered
 returns-in-Mark-clause-answered c =
     let P : Command → Type 0 = λ o. IfOk c.mark.result (λ text. Leaves c.args.self.now (command_order o) (string_bytes text) c.args.self.now) in
     subst P (sym c.in-Mark.is) c.mark.ensures.answered
+
+pub returns-in-Back-clause-answered : goal.returns-in-Back-clause-answered
+returns-in-Back-clause-answered c =
+    let P : Command → Type 0 = λ o. IfOk c.back.result (λ text. Leaves c.args.self.now (command_order o) (string_bytes text) c.back.new.self) in
+    subst P (sym c.in-Back.is) c.back.ensures.answered
+
+pub returns-in-Help-clause-answered : goal.returns-in-Help-clause-answered
+returns-in-Help-clause-answered c =
+    let P : Command → Type 0 = λ o. IfOk c.help.result (λ text. Leaves c.args.self.now (command_order o) (string_bytes text) c.args.self.now) in
+    subst P (sym c.in-Help.is) c.help.ensures.answered

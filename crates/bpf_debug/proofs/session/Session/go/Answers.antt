@@ -1,5 +1,6 @@
 use Rattle.std.proofs.Common.{◌≡◌, ℕ, ◌++◌, [], List, Option, subst, map}
 use Rattle.std.specs.Prelude.{string_bytes}
+use Rattle.bpf_debug.specs.Origin.{first_of}
 use Rattle.bpf_debug.specs.Command.{Go}
 use Rattle.bpf_debug.specs.Course.{KeepsOn}
 use Rattle.bpf_debug.specs.Session.{SessionState, Leaves}
@@ -9,7 +10,7 @@ use Rattle.bpf_machine.specs.Schedule.{World}
 use Rattle.bpf_machine.specs.Machine.{Shows}
 use Rattle.bpf_debug.specs.Go.{Goes}
 use Rattle.bpf_debug.proofs.GoLaws.{count_is}
-use Rattle.bpf_debug.proofs.SessionLaws.{went, enough}
+use Rattle.bpf_debug.proofs.SessionLaws.{can_still, went, enough}
 use Rattle.bpf_debug.proofs.session.Session.go.Goals as goal
 
 pub go-requires-clause-room : goal.go-requires-clause-room
@@ -18,7 +19,7 @@ go-requires-clause-room c =
     omega (arith, few, c.in-Some.ensures.size)
 
 pub invariant_of-self-2 : goal.invariant_of-self-2
-invariant_of-self-2 c = let g = c.go.ensures c.self.invariant.0 c.self.invariant.1 in (g.0, g.4)
+invariant_of-self-2 c = let g = c.go.ensures.goes c.self.invariant.0 c.self.invariant.1 in (g.0, g.4, can_still c.self.inside.origin c.self.inside.machine c.go.new.machine c.go.ensures.same c.self.invariant.2)
 
 pub returns-clause-answered : goal.returns-clause-answered
 returns-clause-answered c =
@@ -29,7 +30,7 @@ returns-clause-answered c =
     let cpus = c.cpus-cpus.result in
     let last = string_bytes c.go.new.out in
     let room = string_bytes c.in-Some.out in
-    let P : SessionState → Type 0 = λ s. Leaves s Go last (record { machine = n; names = names; breaks = m.breakpoints.items; course = k }) in
+    let P : SessionState → Type 0 = λ s. Leaves s Go last (record { machine = n; first = first_of m.origin n.programs; names = names; breaks = m.breakpoints.items; course = k }) in
     let G : List Breakpoint → Option (List (ℕ × ℕ)) → Type 0 = λ bs h. (w : World) → Shows m.machine w → (z : World) × (turns : List ℕ) × (text : List ℕ) × Goes bs 0 cpus w 0 [] turns text z × Shows n z × KeepsOn h turns k × (last ≡ room ++ text) in
     let F : List Breakpoint → Type 0 = λ bs. G bs m.course in
-    subst P c.self.view_is (went m.machine names m.breakpoints.items m.course n k cpus room last c.in-Some.ensures.empty (count_is m.machine cpus c.cpus-cpus.ensures) (subst F c.deref.ensures.value (subst (G c.deref.result.now) c.reserve.ensures c.go.ensures)))
+    subst P c.self.view_is (went m.machine m.origin names m.breakpoints.items m.course n k cpus room last c.in-Some.ensures.empty (count_is m.machine cpus c.cpus-cpus.ensures) (subst F c.deref.ensures.value (subst (G c.deref.result.now) c.reserve.ensures c.go.ensures.goes)) c.go.ensures.same)

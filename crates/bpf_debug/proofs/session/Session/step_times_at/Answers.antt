@@ -1,10 +1,11 @@
 use Rattle.std.proofs.Common.{◌≡◌, ℕ, List, Option, Some, sym, subst, map, arith, replicate}
 use Rattle.std.specs.Prelude.{true, string_bytes}
 use Rattle.bpf_plain.specs.PlainStore.{has_cpu}
+use Rattle.bpf_debug.specs.Origin.{first_of}
 use Rattle.bpf_debug.specs.Command.{StepTimes}
 use Rattle.bpf_debug.specs.Course.{KeepsOn}
 use Rattle.bpf_debug.specs.Session.{SessionState, Leaves}
-use Rattle.bpf_debug.proofs.SessionLaws.{enough, stepped_times}
+use Rattle.bpf_debug.proofs.SessionLaws.{can_still, enough, stepped_times}
 use Rattle.bpf_debug.proofs.session.Session.step_times_at.Goals as goal
 
 pub take_turns-requires-clause-room : goal.take_turns-requires-clause-room
@@ -13,17 +14,17 @@ take_turns-requires-clause-room c =
     omega (arith, few, c.in-Some.ensures.size)
 
 pub invariant_of-self-2 : goal.invariant_of-self-2
-invariant_of-self-2 c = let t = c.take_turns.ensures.2 c.self.invariant.0 c.self.invariant.1 in (t.0, t.3)
+invariant_of-self-2 c = let t = c.take_turns.ensures.made.2 c.self.invariant.0 c.self.invariant.1 in (t.0, t.3, can_still c.self.inside.origin c.self.inside.machine c.take_turns.new.machine c.take_turns.ensures.same c.self.invariant.2)
 
 pub returns-clause-answered : goal.returns-clause-answered
 returns-clause-answered c =
     let m = c.self.inside in
     let names : List (List ℕ) = map (λ n. string_bytes n) m.names.items in
     let n = c.take_turns.new.machine in
-    let t = c.take_turns.ensures in
+    let t = c.take_turns.ensures.made in
     let k = c.add_times.new.self in
     let N : Option (List (ℕ × ℕ)) → Type 0 = λ h. KeepsOn h (replicate c.args.count c.args.cpu) k in
     let last = string_bytes c.take_turns.new.out in
-    let P : SessionState → Type 0 = λ s. Leaves s (StepTimes (Some c.args.cpu) c.args.count) last (record { machine = n; names = names; breaks = m.breakpoints.items; course = k }) in
+    let P : SessionState → Type 0 = λ s. Leaves s (StepTimes (Some c.args.cpu) c.args.count) last (record { machine = n; first = first_of m.origin n.programs; names = names; breaks = m.breakpoints.items; course = k }) in
     let H : SessionState → Type 0 = λ s. has_cpu s.machine.store c.args.cpu ≡ true in
-    subst P c.self.view_is (stepped_times m.machine names m.breakpoints.items m.course n k c.args.cpu c.args.count (string_bytes c.in-Some.out) t.0 last (subst H (sym c.self.view_is) c.requires) c.in-Some.ensures.empty t.1 t.2 (subst N c.reserve.ensures c.add_times.ensures))
+    subst P c.self.view_is (stepped_times m.machine m.origin names m.breakpoints.items m.course n k c.args.cpu c.args.count (string_bytes c.in-Some.out) t.0 last (subst H (sym c.self.view_is) c.requires) c.in-Some.ensures.empty t.1 t.2 (subst N c.reserve.ensures c.add_times.ensures) c.take_turns.ensures.same)

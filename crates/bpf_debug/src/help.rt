@@ -1,0 +1,35 @@
+//! The commands, a line each.
+
+ghost use Rattle.std.specs.Prelude.{◌≡◌, IfOk, string_bytes};
+ghost use Rattle.bpf_debug.specs.Help.{help_text};
+
+use std::alloc::{AllocError, Global};
+
+/// What `help` answers.
+const HELP: &str = "\
+step C         one turn of CPU C, then where it stands
+step C N       N turns of CPU C
+steps C*N ..   N turns of CPU C, then those of the next word
+go             rounds of turns, up to a breakpoint or until no work is left
+go C until P   turns of CPU C, up to pc P
+back N         undoes the last N turns
+break C P      go stops CPU C before pc P
+delete C P     no more
+where C        where CPU C stands
+regs C         its registers
+mem C A N      N bytes from address A on, as its program may read them
+map NAME       the keys of a map with their values
+keys NAME      the keys alone
+maps           the maps with their sizes
+jobs           how each job ended
+schedule       the turns made so far, as the steps that makes them
+mark N         mark N
+help           these lines
+";
+
+/// The commands, a line each.
+pub fn help_text(alloc: Global) -> Result<String, AllocError>
+    ensures { IfOk result (λ text. string_bytes text ≡ help_text) }
+{
+    HELP.to_string(alloc)
+}
