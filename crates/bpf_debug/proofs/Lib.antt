@@ -6,6 +6,7 @@ pub mod ManyTurns
 pub mod Weaker
 pub mod SessionLaws
 pub mod ReadLaws
+pub mod HeldLaws
 pub mod ScheduleLaws
 pub mod ToldLaws
 pub mod ScriptLaws

@@ -15,7 +15,7 @@ use Rattle.bpf_debug.specs.declared.breakpoint.Breakpoint.{Breakpoint}
 use Rattle.bpf_debug.specs.declared.error.DebugError.{DebugError}
 use Rattle.bpf_debug.specs.declared.error.DebugError.TheVariants as error
 use Rattle.bpf_debug.specs.Answer.{IsWhere, ended_text, stop_line}
-use Rattle.bpf_debug.specs.Command.{Order, Break, Delete, Step, StepTimes, Steps, Go, Registers, Where, Memory, Map, Keys, Schedule, GoTo, Maps, Jobs, Mark, Back, Help, order_of}
+use Rattle.bpf_debug.specs.Command.{Order, Break, Delete, Step, StepTimes, Steps, Go, Registers, Where, Memory, Map, Keys, Schedule, GoTo, Maps, Jobs, Mark, Back, Help, Held, order_of}
 use Rattle.bpf_debug.specs.Turns.{MakesTurns, MakesRuns, last_cpu}
 use Rattle.bpf_debug.specs.Go.{HasWork, AreIdle, IsUp, StandsAt, Goes, Done, Stops, Turns, has_break, has_gone}
 use Rattle.bpf_debug.specs.Read.{IsMapText, IsKeysText}
@@ -24,7 +24,7 @@ use Rattle.bpf_debug.specs.Session.{Scene, Answers, CarriesOut, Obeys, behind, u
 use Rattle.bpf_debug.specs.Script.{Answer, AnswersLine, RunsScript}
 use Rattle.bpf_debug.specs.Laws.{HadMemory, ScriptsAreDetermined}
 use Rattle.bpf_debug.proofs.GoLaws.{free_has_no_work}
-use Rattle.bpf_debug.proofs.OneText.{one_place, one_where, one_registers, one_memory, one_name, one_map, one_keys}
+use Rattle.bpf_debug.proofs.OneText.{one_place, one_where, one_registers, one_memory, one_held_text, one_name, one_map, one_keys}
 
 -- ---- who is up
 idle_not_up : (jobs : List Task) (a b c : ℕ) → AreIdle jobs a b → HasWork jobs c → a ≤ c → c < b → ⊥
@@ -80,6 +80,8 @@ cpu_refused x y Jobs text f r = r
 cpu_refused x y (Mark n) text f r = r
 cpu_refused x y (Back n) text f r = r
 cpu_refused x y Help text f r = r
+cpu_refused x y (Held (Some c)) text f r = no_cpu c x.world.store.shape.cpus f.0.0 r
+cpu_refused x y (Held None) text f r = absurd f.0
 cpu_refused x y (Delete (Some c) (Some p)) text f r = no_cpu c x.world.store.shape.cpus f.0 r
 cpu_refused x y (Delete (Some c) None) text f r = absurd f
 cpu_refused x y (Delete None p) text f r = absurd f
@@ -106,6 +108,7 @@ pc_refused x y Jobs text f r = absurd r
 pc_refused x y (Mark n) text f r = absurd r
 pc_refused x y (Back n) text f r = absurd r
 pc_refused x y Help text f r = absurd r
+pc_refused x y (Held c) text f r = absurd r
 pc_refused x y (Delete (Some c) (Some p)) text f r = r.1 f.1.0
 pc_refused x y (Delete (Some c) None) text f r = absurd f
 pc_refused x y (Delete None p) text f r = absurd f
@@ -120,6 +123,7 @@ map_refused x y Jobs text f r = absurd r
 map_refused x y (Mark n) text f r = absurd r
 map_refused x y (Back n) text f r = absurd r
 map_refused x y Help text f r = absurd r
+map_refused x y (Held c) text f r = absurd r
 map_refused x y (Break c p) text f r = absurd r
 map_refused x y (Delete c p) text f r = absurd r
 map_refused x y (Step c) text f r = absurd r
@@ -140,6 +144,7 @@ turns_refused x y Maps text f r = absurd r
 turns_refused x y Jobs text f r = absurd r
 turns_refused x y (Mark n) text f r = absurd r
 turns_refused x y Help text f r = absurd r
+turns_refused x y (Held c) text f r = absurd r
 turns_refused x y (Break c p) text f r = absurd r
 turns_refused x y (Delete c p) text f r = absurd r
 turns_refused x y (Step c) text f r = absurd r
@@ -195,6 +200,7 @@ module _ (cpus : ℕ) (programs : List Loaded) (names : List (List ℕ)) (count 
   cpu_or_pc (Mark n) a b = absurd b
   cpu_or_pc (Back n) a b = absurd b
   cpu_or_pc Help a b = absurd b
+  cpu_or_pc (Held c) a b = absurd b
   cpu_or_pc (Delete c p) a b = b.0 a
 
   cpu_or_map : (order : Order) → RefusesOrder cpus programs names count order error.NoCpu → RefusesOrder cpus programs names count order error.NoMap → ⊥
@@ -215,6 +221,7 @@ module _ (cpus : ℕ) (programs : List Loaded) (names : List (List ℕ)) (count 
   cpu_or_map (Mark n) a b = absurd b
   cpu_or_map (Back n) a b = absurd b
   cpu_or_map Help a b = absurd b
+  cpu_or_map (Held c) a b = absurd b
   cpu_or_map (Delete c p) a b = absurd b
 
   pc_or_map : (order : Order) → RefusesOrder cpus programs names count order error.NoPc → RefusesOrder cpus programs names count order error.NoMap → ⊥
@@ -235,6 +242,7 @@ module _ (cpus : ℕ) (programs : List Loaded) (names : List (List ℕ)) (count 
   pc_or_map (Mark n) a b = absurd b
   pc_or_map (Back n) a b = absurd b
   pc_or_map Help a b = absurd b
+  pc_or_map (Held c) a b = absurd b
   pc_or_map (Delete c p) a b = absurd b
 
   cpu_or_turns : (order : Order) → RefusesOrder cpus programs names count order error.NoCpu → RefusesOrder cpus programs names count order error.NoTurns → ⊥
@@ -255,6 +263,7 @@ module _ (cpus : ℕ) (programs : List Loaded) (names : List (List ℕ)) (count 
   cpu_or_turns Jobs a b = absurd b
   cpu_or_turns (Mark n) a b = absurd b
   cpu_or_turns Help a b = absurd b
+  cpu_or_turns (Held c) a b = absurd b
   cpu_or_turns (Delete c p) a b = absurd b
 
   pc_or_turns : (order : Order) → RefusesOrder cpus programs names count order error.NoPc → RefusesOrder cpus programs names count order error.NoTurns → ⊥
@@ -275,6 +284,7 @@ module _ (cpus : ℕ) (programs : List Loaded) (names : List (List ℕ)) (count 
   pc_or_turns Jobs a b = absurd b
   pc_or_turns (Mark n) a b = absurd b
   pc_or_turns Help a b = absurd b
+  pc_or_turns (Held c) a b = absurd b
   pc_or_turns (Delete c p) a b = absurd b
 
   map_or_turns : (order : Order) → RefusesOrder cpus programs names count order error.NoMap → RefusesOrder cpus programs names count order error.NoTurns → ⊥
@@ -295,6 +305,7 @@ module _ (cpus : ℕ) (programs : List Loaded) (names : List (List ℕ)) (count 
   map_or_turns Jobs a b = absurd b
   map_or_turns (Mark n) a b = absurd b
   map_or_turns Help a b = absurd b
+  map_or_turns (Held c) a b = absurd b
   map_or_turns (Delete c p) a b = absurd b
 
   module _ (fields : List (List ℕ)) where
@@ -455,6 +466,8 @@ module _ (law : WritesAreDetermined) (begins : OneInstructionBegins) (replies : 
   one_answer_to x Jobs text other world a b = a ∙ sym b
   one_answer_to x (Mark n) text other world a b = a ∙ sym b
   one_answer_to x Help text other world a b = a ∙ sym b
+  one_answer_to x (Held (Some c)) text other world a b = one_held_text x.world world x.names c text other a.1 b.1
+  one_answer_to x (Held None) text other world a b = absurd a
   one_answer_to x (Back n) text other world a b = absurd a
   one_answer_to x (GoTo c p) text other world a b = absurd a
   one_answer_to x (Break c p) text other world a b = absurd a
@@ -553,6 +566,7 @@ module _ (law : WritesAreDetermined) (begins : OneInstructionBegins) (replies : 
         first = subst (λ (s : Scene). IsWorld s.first) (sym u.3) first;
       }
   one_follow x y z Help text other world first a b = asked x y z Help text other world first a b
+  one_follow x y z (Held c) text other world first a b = asked x y z (Held c) text other world first a b
   one_follow x y z Maps text other world first a b = asked x y z Maps text other world first a b
   one_follow x y z Jobs text other world first a b = asked x y z Jobs text other world first a b
   one_follow x y z (Mark n) text other world first a b = asked x y z (Mark n) text other world first a b

@@ -1,5 +1,5 @@
 -- What a question is answered is one text.
-use Rattle.std.proofs.Common.{◌≡◌, ℕ, ◌+◌, true, false, List, ◌++◌, length, get_or, Option, Some, None, inl, inr, sym, ap, subst, ◌∙◌, arith}
+use Rattle.std.proofs.Common.{◌≡◌, ℕ, zero, suc, ◌+◌, true, false, List, ◌++◌, length, get_or, Option, Some, None, inl, inr, sym, ap, subst, ◌∙◌, arith}
 use Rattle.std.specs.Prelude.{codes, slice_get, slice_index}
 use Rattle.std.proofs.lemmas.Bool.{cases_order}
 use Rattle.std.proofs.lemmas.List.{ext_get_or}
@@ -15,6 +15,7 @@ use Rattle.bpf_machine.proofs.DeterminedTurns.{IsWorld}
 use Rattle.bpf_machine.specs.Schedule.{World}
 use Rattle.bpf_debug.specs.Answer.{IsWhere, IsOff, IsRegisters, in_hand_line, waiting_line, register_lines}
 use Rattle.bpf_debug.specs.Go.{StandsAt}
+use Rattle.bpf_debug.specs.Held.{IsHeldText, TellsHeld, held_line, span_of}
 use Rattle.bpf_debug.specs.Read.{MayRead, MayNotRead, AreBytesAt, IsUnreadable, ShowsBytes, IsMemoryText, IsNamed, IsMapText, IsKeysText, pair_lines, key_lines}
 
 -- ---- where a CPU stands
@@ -116,6 +117,23 @@ module _ (w : World) (world : IsWorld w) where
   one_memory c at n text other (inl a) (inr b) = absurd (off_free w.jobs c other b a.0 a.1 a.2 a.3 a.4)
   one_memory c at n text other (inr a) (inl b) = absurd (off_free w.jobs c text a b.0 b.1 b.2 b.3 b.4)
   one_memory c at n text other (inr a) (inr b) = one_off w.jobs c text other a b
+
+  one_held_lines : (names : List (List ℕ)) (state : Cpu) (n : ℕ) (text other : List ℕ) → TellsHeld names w.store state n text → TellsHeld names w.store state n other → text ≡ other
+  one_held_lines names state zero text other a b = a ∙ sym b
+  one_held_lines names state (suc n) text other a b =
+      let p = span_of state.held n in
+      let before = one_held_lines names state n a.0 b.0 a.2 b.2 in
+      let shown = one_shown w.store state (Some p.at) p.size a.1 b.1 a.3 b.3 in
+      a.4 ∙ ap (λ (t : List ℕ). t ++ held_line names p a.1) before ∙ ap (λ (t : List ℕ). b.0 ++ held_line names p t) shown ∙ sym b.4
+
+  pub one_held_text : (names : List (List ℕ)) (c : ℕ) (text other : List ℕ) → IsHeldText names w.store w.jobs c text → IsHeldText names w.store w.jobs c other → text ≡ other
+  one_held_text names c text other (inl a) (inl b) =
+      let one = one_hand c a.0 b.0 a.1 b.1 a.2 b.2 a.3 b.3 a.4 b.4 in
+      let P : Cpu → Type 0 = λ s. TellsHeld names w.store s (length s.held) other in
+      one_held_lines names a.2 (length a.2.held) text other a.5 (subst P (sym one.states) b.5)
+  one_held_text names c text other (inl a) (inr b) = absurd (off_free w.jobs c other b a.0 a.1 a.2 a.3 a.4)
+  one_held_text names c text other (inr a) (inl b) = absurd (off_free w.jobs c text a b.0 b.1 b.2 b.3 b.4)
+  one_held_text names c text other (inr a) (inr b) = one_off w.jobs c text other a b
 
 -- ---- maps
 pub one_name : (names : List (List ℕ)) (name : List ℕ) (m n : ℕ) → IsNamed names name m → IsNamed names name n → m ≡ n

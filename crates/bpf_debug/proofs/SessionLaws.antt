@@ -18,10 +18,11 @@ use Rattle.bpf_machine.specs.Questions.{open_in, open_jobs}
 use Rattle.bpf_machine.specs.Work.{IsState}
 use Rattle.bpf_cpu.specs.declared.cpu.Cpu.{Cpu}
 use Rattle.bpf_debug.specs.declared.breakpoint.Breakpoint.{Breakpoint}
-use Rattle.bpf_debug.specs.Command.{Order, Break, Delete, Step, StepTimes, Steps, Go, Registers, Where, Memory, Map, Keys, Schedule, GoTo, Maps, Jobs, Mark, Back, Help, order_of}
+use Rattle.bpf_debug.specs.Command.{Order, Break, Delete, Step, StepTimes, Steps, Go, Registers, Where, Memory, Map, Keys, Schedule, GoTo, Maps, Jobs, Mark, Back, Help, Held, order_of}
 use Rattle.bpf_debug.specs.declared.error.DebugError.{DebugError}
 use Rattle.bpf_debug.specs.declared.error.DebugError.TheVariants as error
 use Rattle.bpf_debug.specs.Answer.{IsWhere, IsRegisters, IsOff, ended_text, break_line, deleted_line}
+use Rattle.bpf_debug.specs.Held.{IsHeldText, ShowsHeld, TellsHeld}
 use Rattle.bpf_debug.specs.Read.{IsMemoryText, IsNamed, TellsBytes, TellsKeys, TellsMap}
 use Rattle.bpf_debug.specs.Go.{Goes, has_break, without_break}
 use Rattle.bpf_debug.specs.Told.{shape_lines, told_jobs, mark_line}
@@ -238,6 +239,22 @@ told_off s c at n room last has empty place x shown =
     let same = alone room last place.0 empty place.2 in
     (x, ((is_cpu s.machine x.world c has shown.world, subst J (sym shown.world.jobs) (subst T (sym same) (inr place.1))), refl), shown)
 
+pub told_held : (s : SessionState) (c : ℕ) (last : List ℕ) (state : Cpu) → has_cpu s.machine.store c ≡ true
+    → IsState s.machine.jobs c state → ShowsHeld s.names s.machine.store state (length state.held) last → Leaves s (Held (Some c)) last s
+told_held s c last state has hand tells x shown =
+    let shows = tells x.world.store shown.world.sound shown.world.store in
+    let N : List (List ℕ) → Type 0 = λ names. TellsHeld names x.world.store state (length state.held) last in
+    let J : List Task → Type 0 = λ jobs. IsHeldText x.names x.world.store jobs c last in
+    (x, ((is_cpu s.machine x.world c has shown.world, subst J (sym shown.world.jobs) (inl (hand.0, hand.1, state, hand.2, hand.3, subst N (sym shown.names) shows))), refl), shown)
+
+pub told_no_held : (s : SessionState) (c : ℕ) (room last : List ℕ) → has_cpu s.machine.store c ≡ true → room ≡ []
+    → ((text : List ℕ) × IsOff s.machine.jobs c text × (last ≡ room ++ text)) → Leaves s (Held (Some c)) last s
+told_no_held s c room last has empty place x shown =
+    let J : List Task → Type 0 = λ jobs. IsHeldText x.names x.world.store jobs c last in
+    let T : List ℕ → Type 0 = λ text. IsHeldText x.names x.world.store s.machine.jobs c text in
+    let same = alone room last place.0 empty place.2 in
+    (x, ((is_cpu s.machine x.world c has shown.world, subst J (sym shown.world.jobs) (subst T (sym same) (inr place.1))), refl), shown)
+
 pub told_map : (s : SessionState) (name : List ℕ) (m : ℕ) (last : List ℕ) → IsNamed s.names name m → TellsMap s.machine.store m last → Leaves s (Map name) last s
 told_map s name m last named tells x shown =
     let N : List (List ℕ) → Type 0 = λ names. IsNamed names name m in
@@ -303,6 +320,7 @@ follows_on x Maps text y f course = stays x y f.1 course
 follows_on x Jobs text y f course = stays x y f.1 course
 follows_on x (Mark n) text y f course = stays x y f.1 course
 follows_on x Help text y f course = stays x y f.1 course
+follows_on x (Held c) text y f course = stays x y f.1 course
 follows_on x (Back n) text y f course =
     (subst IsCourse (sym f.1.3) f.1.1, ap (λ (z : Scene). z.first) f.1.3)
 follows_on x (Break None p) text y f course = absurd f
@@ -351,6 +369,7 @@ few_turns kept turns Maps is few = absurd few
 few_turns kept turns Jobs is few = absurd few
 few_turns kept turns (Mark n) is few = absurd few
 few_turns kept turns Help is few = absurd few
+few_turns kept turns (Held c) is few = absurd few
 
 counted : (cpus : ℕ) (programs : List Loaded) (names : List (List ℕ)) (kept : Option (List (ℕ × ℕ))) (turns : List ℕ) (order : Order) (e : DebugError) → IsKept kept turns
     → RefusesOrder cpus programs names (count_of kept) order e → RefusesOrder cpus programs names (Some (length turns)) order e

@@ -45,6 +45,8 @@ pub data Order : Type 0 where
   Mark : ℕ → Order
   -- `help`
   Help : Order
+  -- `held C`
+  Held : Option ℕ → Order
 
 -- a word is a number of any size, and this one where it is below the limit
 abbrev pub number_below : ℕ → List ℕ → Option (Option ℕ)
@@ -104,7 +106,8 @@ two_words w a =
     else (if bytes_eq (codes "keys") w then (if is_name a then Some (Keys a) else None)
     else (if bytes_eq (codes "mark") w then option_map Mark (mark_in a)
     else (if bytes_eq (codes "back") w then option_map Back (turns_in a)
-    else None))))))
+    else (if bytes_eq (codes "held") w then option_map Held (cpu_in a)
+    else None)))))))
 
 abbrev pub three_words : List ℕ → List ℕ → List ℕ → Option Order
 three_words w a b =
@@ -175,3 +178,4 @@ command_order command.Jobs = Jobs
 command_order (command.Mark n) = Mark n
 command_order (command.Back n) = Back n
 command_order command.Help = Help
+command_order (command.Held c) = Held c

@@ -13,6 +13,7 @@ help_text =
     ++ codes "delete C P     no more\n"
     ++ codes "where C        where CPU C stands\n"
     ++ codes "regs C         its registers\n"
+    ++ codes "held C         the values that its run holds, as addresses and bytes\n"
     ++ codes "mem C A N      N bytes from address A on, as its program may read them\n"
     ++ codes "map NAME       the keys of a map with their values\n"
     ++ codes "keys NAME      the keys alone\n"

@@ -6,7 +6,7 @@ use Rattle.std.specs.Fmt.{decimal}
 use Rattle.bpf_machine.specs.Laws.{IsFresh}
 use Rattle.bpf_machine.specs.Schedule.{World, RunsSchedule, unrolled}
 use Rattle.bpf_debug.specs.declared.error.DebugError.TheVariants as error
-use Rattle.bpf_debug.specs.Command.{Order, Break, Delete, Step, StepTimes, Steps, Go, Registers, Where, Memory, Map, Keys, Schedule, GoTo, Maps, Jobs, Mark, Back, Help, is_short}
+use Rattle.bpf_debug.specs.Command.{Order, Break, Delete, Step, StepTimes, Steps, Go, Registers, Where, Memory, Map, Keys, Schedule, GoTo, Maps, Jobs, Mark, Back, Help, Held, is_short}
 use Rattle.bpf_debug.specs.Course.{runs_of}
 use Rattle.bpf_debug.specs.Session.{Scene, IsCpu, IsCourse, CarriesOut, behind}
 use Rattle.bpf_debug.specs.Script.{Answer, RunsScript}
@@ -64,6 +64,7 @@ IsQuestion Maps = Unit {0}
 IsQuestion Jobs = Unit {0}
 IsQuestion (Mark n) = Unit {0}
 IsQuestion Help = Unit {0}
+IsQuestion (Held c) = Unit {0}
 IsQuestion (Back n) = ⊥
 IsQuestion (Delete c p) = ⊥
 IsQuestion (Break c p) = ⊥

@@ -5,6 +5,7 @@ pub mod Turns
 pub mod Course
 pub mod Origin
 pub mod Read
+pub mod Held
 pub mod Told
 pub mod Help
 pub mod Session

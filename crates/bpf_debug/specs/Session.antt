@@ -10,13 +10,14 @@ use Rattle.bpf_machine.specs.Machine.{MachineState, Shows}
 use Rattle.bpf_debug.specs.declared.breakpoint.Breakpoint.{Breakpoint}
 use Rattle.bpf_debug.specs.declared.error.DebugError.{DebugError}
 use Rattle.bpf_debug.specs.declared.error.DebugError.TheVariants as error
-use Rattle.bpf_debug.specs.Command.{Order, Break, Delete, Step, StepTimes, Steps, Go, Registers, Where, Memory, Map, Keys, Schedule, GoTo, Maps, Jobs, Mark, Back, Help, order_of}
+use Rattle.bpf_debug.specs.Command.{Order, Break, Delete, Step, StepTimes, Steps, Go, Registers, Where, Memory, Map, Keys, Schedule, GoTo, Maps, Jobs, Mark, Back, Help, Held, order_of}
 use Rattle.bpf_debug.specs.Answer.{IsWhere, IsRegisters, ended_text, break_line, deleted_line}
 use Rattle.bpf_debug.specs.Turns.{MakesTurns, MakesRuns, last_cpu}
 use Rattle.bpf_debug.specs.Course.{AreFewer, IsKept, count_of, course_line, cpu_before, turns_before}
 use Rattle.bpf_debug.specs.Go.{Goes, has_break, without_break}
 use Rattle.bpf_debug.specs.Told.{shape_lines, told_jobs, mark_line}
 use Rattle.bpf_debug.specs.Help.{help_text}
+use Rattle.bpf_debug.specs.Held.{IsHeldText}
 use Rattle.bpf_debug.specs.Read.{IsMemoryText, IsNamed, IsNoName, IsMapText, IsKeysText}
 
 -- what callers see of a session: its machine, the same before the first turn, the names of the maps
@@ -130,6 +131,8 @@ Answers x (Registers (Some c)) text = IsCpu x c × IsRegisters x.world.jobs c te
 Answers x (Where (Some c)) text = IsCpu x c × IsWhere x.world.jobs c text
 Answers x (Memory (Some c) at n) text =
     IsCpu x c × IsMemoryText x.world.store x.world.jobs c at n text
+Answers x (Held (Some c)) text =
+    IsCpu x c × IsHeldText x.names x.world.store x.world.jobs c text
 Answers x (Map name) text = (m : ℕ) × IsNamed x.names name m × IsMapText x.world.store m text
 Answers x (Keys name) text = (m : ℕ) × IsNamed x.names name m × IsKeysText x.world.store m text
 Answers x Schedule text = text ≡ course_line x.turns
@@ -208,6 +211,7 @@ NamesNoCpu cpus Jobs = ⊥
 NamesNoCpu cpus (Mark n) = ⊥
 NamesNoCpu cpus (Back n) = ⊥
 NamesNoCpu cpus Help = ⊥
+NamesNoCpu cpus (Held c) = IsNoCpu cpus c
 
 abbrev pub NamesNoPc : ℕ → List Loaded → Order → Type 0
 NamesNoPc cpus programs (Break c p) = (IsNoCpu cpus c → ⊥) × IsNoPc programs p

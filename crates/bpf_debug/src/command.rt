@@ -43,6 +43,8 @@ pub enum Command<'a> {
     Back(u64),
     /// The commands.
     Help,
+    /// The values that a CPU's run holds.
+    Held(Option<u8>),
 }
 
 /// Whether a word is this one.
@@ -170,6 +172,9 @@ fn two_words<'a>(word: &[u8], first: &'a [u8]) -> Option<Command<'a>>
     } else if is(word, "back") {
         let count = turns_in(first)?;
         Some(Command::Back(count))
+    } else if is(word, "held") {
+        let cpu = cpu_in(first)?;
+        Some(Command::Held(cpu))
     } else {
         None
     }

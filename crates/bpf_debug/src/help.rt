@@ -17,6 +17,7 @@ break C P      go stops CPU C before pc P
 delete C P     no more
 where C        where CPU C stands
 regs C         its registers
+held C         the values that its run holds, as addresses and bytes
 mem C A N      N bytes from address A on, as its program may read them
 map NAME       the keys of a map with their values
 keys NAME      the keys alone

@@ -6,6 +6,7 @@ pub mod command;
 mod course;
 pub mod error;
 mod going;
+mod held;
 mod help;
 pub mod laws;
 mod lines;

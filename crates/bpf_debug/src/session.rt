@@ -16,6 +16,7 @@ use crate::command::{Command, command_of};
 use crate::course::{Course, course_line, has_turns};
 use crate::error::DebugError;
 use crate::going;
+use crate::held::held_lines;
 use crate::help::help_text;
 use crate::lines::{
     LINE, put_break, put_deleted, put_ended, put_jobs, put_mark, put_off, put_registers, put_where,
@@ -704,6 +705,47 @@ impl Session {
         Ok(out)
     }
 
+    /// What `held` answers of a CPU that has no job in hand.
+    fn holds_nothing(&self, alloc: Global, cpu: u8) -> Result<String, DebugError>
+        requires served { has_cpu self.now.machine.store cpu ≡ true }
+        requires free { IsFree self.now.machine.jobs cpu }
+        ensures answered { IfOk result (λ text.
+            Leaves self.now (Order.Held (Some cpu)) (string_bytes text) self.now) }
+        ensures refused { IfErr result (λ e. e ≡ DebugError.OutOfMemory) }
+    {
+        let Some(mut out) = make_room(alloc, 1) else {
+            return Err(DebugError::OutOfMemory);
+        };
+        put_off(&mut out, &self.machine, cpu);
+        Ok(out)
+    }
+
+    fn held_at(&self, alloc: Global, cpu: u8) -> Result<String, DebugError>
+        requires { has_cpu self.now.machine.store cpu ≡ true }
+        ensures answered { IfOk result (λ text.
+            Leaves self.now (Order.Held (Some cpu)) (string_bytes text) self.now) }
+        ensures refused { IfErr result (λ e. e ≡ DebugError.OutOfMemory) }
+    {
+        let Some(state) = self.machine.cpu(cpu) else {
+            return self.holds_nothing(alloc, cpu);
+        };
+        match held_lines(alloc, self.machine.store(), state, &self.names) {
+            Ok(text) => Ok(text),
+            Err(_) => Err(DebugError::OutOfMemory),
+        }
+    }
+
+    fn held(&self, alloc: Global, number: Option<u8>) -> Result<String, DebugError>
+        ensures answered { IfOk result
+            (λ text. Leaves self.now (Order.Held number) (string_bytes text) self.now) }
+        ensures refused { IfErr result (λ e. RefusesHere self.now (Order.Held number) e) }
+    {
+        let Some(cpu) = self.cpu(number) else {
+            return Err(DebugError::NoCpu);
+        };
+        self.held_at(alloc, cpu)
+    }
+
     fn help(&self, alloc: Global) -> Result<String, DebugError>
         ensures answered { IfOk result
             (λ text. Leaves self.now Order.Help (string_bytes text) self.now) }
@@ -739,6 +781,7 @@ impl Session {
             Command::Mark(number) => self.mark(alloc, number),
             Command::Back(count) => self.back(alloc, count),
             Command::Help => self.help(alloc),
+            Command::Held(cpu) => self.held(alloc, cpu),
         }
     }
 

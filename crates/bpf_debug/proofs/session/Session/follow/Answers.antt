@@ -89,3 +89,8 @@ pub returns-in-Help-clause-answered : goal.returns-in-Help-clause-answered
 returns-in-Help-clause-answered c =
     let P : Command → Type 0 = λ o. IfOk c.help.result (λ text. Leaves c.args.self.now (command_order o) (string_bytes text) c.args.self.now) in
     subst P (sym c.in-Help.is) c.help.ensures.answered
+
+pub returns-in-Held-clause-answered : goal.returns-in-Held-clause-answered
+returns-in-Held-clause-answered c =
+    let P : Command → Type 0 = λ o. IfOk c.held.result (λ text. Leaves c.args.self.now (command_order o) (string_bytes text) c.args.self.now) in
+    subst P (sym c.in-Held.is) c.held.ensures.answered

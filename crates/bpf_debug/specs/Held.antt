@@ -1,0 +1,45 @@
+-- What `held` shows: the values that a CPU's run holds, as its program may read them (our own choice).
+use Rattle.std.specs.Prelude.{◌≡◌, ℕ, zero, suc, ◌-◌, ◌/◌, ◌⊎◌, List, [], ◌++◌, Some, codes, length, slice_index_or}
+use Rattle.std.specs.Fmt.{decimal}
+use Rattle.bpf_shared.specs.declared.events.Span.{Span}
+use Rattle.bpf_shared.specs.Shape.{first_value, map_area}
+use Rattle.bpf_shared.specs.Sound.{IsSoundStore}
+use Rattle.bpf_shared.specs.Store.{Plain}
+use Rattle.bpf_plain.specs.PlainStore.{Contents, StandsFor}
+use Rattle.bpf_cpu.specs.declared.cpu.Cpu.{Cpu}
+use Rattle.bpf_cpu.specs.Task.{Task, InHand}
+use Rattle.bpf_machine.specs.Hands.{IsAt}
+use Rattle.bpf_debug.specs.Answer.{IsOff}
+use Rattle.bpf_debug.specs.Read.{ShowsBytes}
+
+-- the number of the map among whose values the address is
+abbrev pub map_at : ℕ → ℕ
+map_at a = (a - first_value) / map_area
+
+-- the map's name, the value's address, and its bytes
+abbrev pub held_line : List (List ℕ) → Span → List ℕ → List ℕ
+held_line names p shown =
+    slice_index_or names (map_at p.at) [] ++ codes " " ++ decimal p.at ++ codes " " ++ shown
+
+abbrev pub span_of : List Span → ℕ → Span
+span_of spans n = slice_index_or spans n (record { at = 0; size = 0 })
+
+-- a line a value, of the first n, in the order of their first lookups
+abbrev pub TellsHeld : List (List ℕ) → Plain → Cpu → ℕ → List ℕ → Type 0
+TellsHeld names s state zero text = text ≡ []
+TellsHeld names s state (suc n) text =
+    (before : List ℕ) × (shown : List ℕ) × TellsHeld names s state n before
+    × ShowsBytes s state (Some (span_of state.held n).at) (span_of state.held n).size shown
+    × (text ≡ before ++ held_line names (span_of state.held n) shown)
+
+-- those of a CPU with a job in hand, or where it stands
+abbrev pub IsHeldText : List (List ℕ) → Plain → List Task → ℕ → List ℕ → Type 0
+IsHeldText names s jobs c text =
+    ((j : ℕ) × (task : Task) × (state : Cpu) × (left : ℕ) × IsAt jobs c j task (InHand state left)
+    × TellsHeld names s state (length state.held) text)
+    ⊎ IsOff jobs c text
+
+-- of each plain store that the machine's shows
+abbrev pub ShowsHeld : List (List ℕ) → Contents → Cpu → ℕ → List ℕ → Type 0
+ShowsHeld names p state n text =
+    (s : Plain) → IsSoundStore s → StandsFor p s → TellsHeld names s state n text
