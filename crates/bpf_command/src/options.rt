@@ -114,12 +114,15 @@ The commands, one a line, with a CPU C, a pc P, an address A and a number N of b
   regs C      the registers
   where C     the job in hand, the pc and the depth of calls
   mem C A N   bytes in hex, as C's program may read them, or 'unreadable'
+  held C      the values that C's run holds: map, address and bytes
   map NAME    the keys of a map with their values, KEY=VALUE in hex
   keys NAME   the keys alone
   schedule    the turns made so far, as the 'steps' that makes them
   maps        the maps with their sizes, as the run file has them
   jobs        the jobs, with how each ended, or 'open'
   mark N      prints 'mark N', the end of the answers before it
+  back N      undoes the last N turns, 1 to 1000000; breakpoints stay
+  help        the commands, a line each
 
 A job that ends prints its line. A command that is refused prints 'refused' and a code, changes
 nothing, and the next one is read. The input is a run file, a line '---' and the commands, as in
