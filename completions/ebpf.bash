@@ -11,7 +11,7 @@ _ebpf() {
     esac
     [ "$COMP_CWORD" -gt 1 ] && case ${COMP_WORDS[1]} in
         hex) words='--explain --budget --ctx -h --help' files=1 ;;
-        asm) words='--explain --listing -h --help' files=1 ;;
+        asm) words='--explain --listing --run --budget --ctx -h --help' files=1 ;;
         disasm) words='--explain --pc -h --help' files=1 ;;
         run) words='--explain --keys --maps --events --check --by --workers -h --help' files=1 ;;
         explore) words='--explain --patient --limit --show -h --help' files=1 ;;

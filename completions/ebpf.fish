@@ -17,6 +17,9 @@ complete -c ebpf -n '__fish_seen_subcommand_from hex' -s h -l help -f -d 'Print 
 complete -c ebpf -n '__fish_seen_subcommand_from hex' -F
 complete -c ebpf -n '__fish_seen_subcommand_from asm' -l explain -f -d 'Explains a refusal or a fault on standard error'
 complete -c ebpf -n '__fish_seen_subcommand_from asm' -l listing -f -d 'Prints the text with the pc and the words of each line behind it, as a comment'
+complete -c ebpf -n '__fish_seen_subcommand_from asm' -l run -f -d 'Runs the words in place of printing them, as '\''ebpf hex'\'' does'
+complete -c ebpf -n '__fish_seen_subcommand_from asm' -l budget -x -d 'The greatest number of steps, 0 to 1000000000'
+complete -c ebpf -n '__fish_seen_subcommand_from asm' -l ctx -x -d 'The bytes of the context, at most 4096, two digits a byte'
 complete -c ebpf -n '__fish_seen_subcommand_from asm' -s h -l help -f -d 'Print help'
 complete -c ebpf -n '__fish_seen_subcommand_from asm' -F
 complete -c ebpf -n '__fish_seen_subcommand_from disasm' -l explain -f -d 'Explains a refusal or a fault on standard error'

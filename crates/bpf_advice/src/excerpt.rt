@@ -119,6 +119,7 @@ fn insns_of_job(alloc: Global, file: &str, job: usize) -> Option<Vec<Insn>> {
 fn insn_of(alloc: Global, language: Language, input: &str, finding: &Finding) -> Option<Insn> {
     let pc = finding.pc?;
     match (language, finding.line, finding.job) {
+        (Language::Assembly, ..) => insn_at(&assemble(alloc, input).ok()?, pc),
         (Language::Words, ..) => insn_at(&insns_of_words(alloc, input)?, pc),
         (Language::RunFile, Some(line), _) => insn_at(&insns_of_program(alloc, input, line)?, pc),
         (Language::RunFile, None, Some(job)) => insn_at(&insns_of_job(alloc, input, job)?, pc),

@@ -1,5 +1,5 @@
 -- Where `clap` finds no fault, an option that takes a count has one of its range, if it is given.
-use Rattle.std.proofs.Common.{◌≡◌, ℕ, List, [], ◌∷◌, false, Option, Some, None, refl}
+use Rattle.std.proofs.Common.{ℕ, List, [], ◌∷◌, false, Option, Some, None, refl}
 use Rattle.std.specs.Prelude.{length, option_and_then, IfSome, IsSomeAnd, find}
 use Rattle.std.specs.Str.{bytes_eq}
 use Rattle.clap.specs.Kinds.{range_kinds, or_else}
@@ -8,7 +8,7 @@ use Rattle.clap.specs.Faults.{repeat_fault, values_fault}
 use Rattle.clap.specs.Walk.{row_text, Row, Text}
 use Rattle.bpf_command.specs.CommandLine.{HasCount, counted}
 use Rattle.bpf_command.proofs.Ranges as range
-use Rattle.bpf_command.proofs.Walks.{Keeps, first_free, last_free}
+use Rattle.bpf_command.proofs.Walks.{Keeps, last_free}
 
 module _ (id : Text) (most : ℕ) where
   abbrev pub AreFine : List Row → Type 0

@@ -8,3 +8,4 @@ pub mod Limit
 pub mod Counted
 pub mod Workers
 pub mod Shown
+pub mod Flags

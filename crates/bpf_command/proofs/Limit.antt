@@ -1,5 +1,5 @@
 -- Where `clap` finds no fault, the options of `explore` and `check` have a limit in its range.
-use Rattle.std.proofs.Common.{unwrap_or, ◌∙◌, sym, subst, true≢false, ap, ◌≡◌, List, [], ◌∷◌, false, codes, Option, inl, inr, refl}
+use Rattle.std.proofs.Common.{unwrap_or, ◌∙◌, sym, subst, ◌≡◌, List, [], ◌∷◌, false, codes, inl, inr, refl}
 use Rattle.std.specs.Prelude.{IfSome, find}
 use Rattle.std.specs.Str.{bytes_eq}
 use Rattle.clap.specs.Simple.{filled, Shape, built, label_of}

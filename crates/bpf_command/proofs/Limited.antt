@@ -1,5 +1,5 @@
 -- Where `clap` finds no fault, an option that takes a number has one of its range, or its default.
-use Rattle.std.proofs.Common.{◌∙◌, sym, subst, true≢false, ◌≡◌, ℕ, List, [], ◌∷◌, Bool, true, false, cond, codes, Option, Some, None, refl}
+use Rattle.std.proofs.Common.{sym, subst, true≢false, ◌≡◌, ℕ, List, [], ◌∷◌, Bool, true, false, cond, codes, Option, Some, None, refl}
 use Rattle.std.specs.Prelude.{length, option_and_then, IsSomeAnd, find}
 use Rattle.std.specs.Option.{option_map_or}
 use Rattle.std.specs.Str.{bytes_eq}
@@ -16,7 +16,7 @@ use Rattle.clap.proofs.ValueTestLemmas.{accepts-Accepts}
 use Rattle.bpf_command.specs.CommandLine.{HasLimited, limited}
 use Rattle.bpf_command.proofs.Ranges as range
 use Rattle.bpf_command.proofs.Ranges.{find_missing}
-use Rattle.bpf_command.proofs.Walks.{Keeps, first_free, last_free}
+use Rattle.bpf_command.proofs.Walks.{Keeps, last_free}
 
 module _ (id : Text) (most : ℕ) (same : bytes_eq id id ≡ true) (fits : accepts false (Unsigned 0 most) (codes "1000000") ≡ true) where
   abbrev pub AreFine : List Row → Type 0

@@ -1,5 +1,5 @@
 -- An option's values among the rows that a parse found are those that the matches' getters give.
-use Rattle.std.proofs.Common.{cond, true, false, ◌≡◌, ◌<◌, ◌≤◌, ◌^◌, ◌∙◌, List, ℕ, Option, Some, None, Result, Ok, Err, codes, refl, arith, subst, ap, sym}
+use Rattle.std.proofs.Common.{cond, true, false, ◌≡◌, ◌<◌, ◌≤◌, ◌^◌, ◌∙◌, List, ℕ, Option, Some, None, Result, Ok, Err, codes, inr, refl, arith, subst, ap, sym}
 use Rattle.std.specs.Prelude.{IfSome, IsSomeAnd, option_and_then}
 use Rattle.bpf_codes.specs.Code.{code_of}
 use Rattle.bpf_codes.specs.declared.code.Code.{Code}
@@ -14,14 +14,24 @@ use Rattle.clap.specs.Takes.{is_given}
 use Rattle.clap.proofs.TakesLemmas.{present_row}
 use Rattle.clap.proofs.WalkLemmas.{first_value-rows, one_text-rows}
 use Rattle.bpf_command.specs.CommandLine.{HasCount, HasLimited, IsCount, IsLimited, NamesCount, NamesLimited}
-use Rattle.bpf_command.specs.Names.{IsContext, IsSchedule, RefusesContext, RefusesSchedule, file_in, file_named}
+use Rattle.bpf_command.specs.Names.{IsContext, IsSchedule, RefusesContext, RefusesFound, RefusesSchedule, file_in, file_named}
 use Rattle.bpf_command.specs.declared.command_line.CommandError.{CommandError}
+use Rattle.bpf_command.specs.declared.command_line.CommandError.TheVariants as error
 
 pub context_in_rows : (f : Found) (bytes : List ℕ) → IsContext (first_value f (codes "ctx")) bytes → IsContext (first_of (codes "ctx") (rows_of f)) bytes
 context_in_rows f bytes h = rw (← first_value-rows f (codes "ctx")) h
 
 pub no_context_in_rows : (f : Found) (e : CommandError) → RefusesContext (first_value f (codes "ctx")) e → RefusesContext (first_of (codes "ctx") (rows_of f)) e
 no_context_in_rows f e h = rw (← first_value-rows f (codes "ctx")) h
+
+pub asm_refused : (rows : List Row) (e : CommandError) → RefusesContext (first_of (codes "ctx") rows) e → RefusesFound (codes "asm", rows) e
+asm_refused rows e h = by_text (first_of (codes "ctx") rows) e refl h
+  where
+    by_text : (text : Option Text) (e : CommandError) → first_of (codes "ctx") rows ≡ text → RefusesContext text e → RefusesFound (codes "asm", rows) e
+    by_text text error.NotHex same h = (inr refl, subst (λ (t : Option Text). RefusesContext t error.NotHex) (sym same) h)
+    by_text text error.OutOfMemory same h = tt
+    by_text None e same h = absurd h
+    by_text (Some t) e same h = absurd h
 
 pub schedule_in_rows : (f : Found) (runs : List (ℕ × ℕ)) → IsSchedule (first_value f (codes "by")) runs → IsSchedule (first_of (codes "by") (rows_of f)) runs
 schedule_in_rows f runs h = rw (← first_value-rows f (codes "by")) h

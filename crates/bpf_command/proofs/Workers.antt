@@ -1,7 +1,6 @@
 -- Where `clap` finds no fault, a number of workers that `run` is given is in its range.
-use Rattle.std.proofs.Common.{unwrap_or, ◌∙◌, sym, subst, true≢false, ap, ◌≡◌, List, [], ◌∷◌, Bool, false, codes, Option, Some, None, refl}
+use Rattle.std.proofs.Common.{unwrap_or, ◌∙◌, sym, subst, ◌≡◌, List, [], ◌∷◌, false, codes, refl}
 use Rattle.std.specs.Prelude.{IfSome, find}
-use Rattle.std.specs.Str.{bytes_eq}
 use Rattle.clap.specs.Simple.{filled, Shape, built, label_of}
 use Rattle.clap.specs.Faults.{level_fault}
 use Rattle.clap.specs.Walk.{with_default, values_or_missing, Held, Row, Rule, Text, answers_to, finished, has_row, nothing_held, rows_after, settled, walk}

@@ -1,5 +1,5 @@
 -- The command line of `ebpf`, in clap's terms, and the numbers that its words name. Our own choice.
-use Rattle.std.specs.Prelude.{◌≡◌, ◌⊎◌, ℕ, List, Option, Some, None, IfSome, IsSomeAnd, codes, [], ◌∷◌, Bool, ◌&&◌, ◌||◌, true, false}
+use Rattle.std.specs.Prelude.{◌≡◌, ◌⊎◌, ℕ, List, Option, Some, None, IfSome, IsSomeAnd, codes, [], ◌∷◌, Bool, ◌&&◌, ◌||◌, if◌then◌else◌, true, false}
 use Rattle.std.specs.Str.Parse.{digits_value, without_leading_plus}
 use Rattle.clap.specs.Simple.{new_shape}
 use Rattle.clap.specs.Takes.{is_given}
@@ -51,8 +51,15 @@ listing = record (new_rule (codes "listing")) {
   action = Some SetTrue;
 }
 
+-- `--run`
+abbrev pub runs : Rule
+runs = record (new_rule (codes "run")) { long = Some (codes "run"); action = Some SetTrue }
+
+abbrev pub asm_shows : App
+asm_shows = with_rule (with_rule (with_rule (new_app (codes "asm")) explained) listing) runs
+
 abbrev pub asm : App
-asm = with_rule (with_rule (with_rule (new_app (codes "asm")) explained) listing) file
+asm = with_rule (with_rule (with_rule asm_shows budget) context) file
 
 -- `--pc`
 abbrev pub pc : Rule
@@ -174,6 +181,10 @@ IsWorkName name = (name ≡ codes "hex") ⊎ ((name ≡ codes "asm") ⊎ ((name 
     ⊎ ((name ≡ codes "run") ⊎ ((name ≡ codes "explore") ⊎ ((name ≡ codes "check")
     ⊎ (name ≡ codes "debug"))))))
 
+-- the name of one of those that run one program
+abbrev pub IsRunnerName : Text → Type 0
+IsRunnerName name = (name ≡ codes "hex") ⊎ (name ≡ codes "asm")
+
 -- the name of one of those that search
 abbrev pub IsSearchName : Text → Type 0
 IsSearchName name = (name ≡ codes "explore") ⊎ (name ≡ codes "check")
@@ -251,3 +262,8 @@ wants_turns rows = is_given (codes "by") rows
 abbrev pub do_clash : List Row → Bool
 do_clash rows = (is_given (codes "workers") rows && wants_turns rows)
     || (is_given (codes "events") rows && is_given (codes "check") rows)
+
+-- what is asked of a run without `--run`, or the listing beside it
+abbrev pub do_part : List Row → Bool
+do_part rows = if is_given (codes "run") rows then is_given (codes "listing") rows
+    else (is_given (codes "budget") rows || is_given (codes "ctx") rows)

@@ -1,5 +1,5 @@
 -- The command that words name, or why they name none. Our own choice.
-use Rattle.std.specs.Prelude.{◌≡◌, ◌<◌, ◌≤◌, ℕ, List, true, false, Option, Some, None, Ok, IfOk, IsSomeAnd, codes, [], cond, length, option_and_then, option_map, string_bytes}
+use Rattle.std.specs.Prelude.{◌≡◌, ◌<◌, ◌≤◌, ℕ, List, true, false, Option, Some, None, Ok, IfOk, IsSomeAnd, codes, [], ◌∷◌, cond, if◌then◌else◌, length, option_and_then, option_map, string_bytes}
 use Rattle.std.specs.Str.{bytes_eq}
 use Rattle.bpf_codes.specs.Code.{code_of}
 use Rattle.bpf_lines.specs.Lines.{fields_of}
@@ -9,7 +9,8 @@ use Rattle.hex.specs.Hex.{decode_of}
 use Rattle.clap.specs.Kinds.{IsAmong}
 use Rattle.clap.specs.Takes.{is_given}
 use Rattle.clap.specs.Words.{Row, Text, fault_of, first_of, kind_of, subcommand_of}
-use Rattle.bpf_command.specs.CommandLine.{NamesBudget, NamesLimit, NamesShown, NamesWorkers, do_clash, ebpf}
+use Rattle.bpf_command.specs.CommandLine.{NamesBudget, NamesLimit, NamesShown, NamesWorkers, IsRunnerName, do_clash, do_part, ebpf}
+use Rattle.bpf_command.specs.declared.command.RunOptions.{RunOptions}
 use Rattle.bpf_command.specs.declared.command.SearchOptions.{SearchOptions}
 use Rattle.bpf_command.specs.declared.command.Command.{Command}
 use Rattle.bpf_command.specs.declared.command.Command.TheVariants as command
@@ -41,6 +42,11 @@ RefusesSchedule (Some text) error.NoSchedule = SpellNone (fields_of text)
 RefusesSchedule _ error.OutOfMemory = Unit {0}
 RefusesSchedule _ _ = ⊥
 
+-- the options of a run of one program
+abbrev pub NamesRun : List Row → RunOptions → Type 0
+NamesRun rows options = NamesBudget rows options.budget
+    × IsContext (first_of (codes "ctx") rows) options.context.items
+
 -- the options of a search
 abbrev pub NamesSearch : List Row → SearchOptions → Type 0
 NamesSearch rows options = NamesLimit rows options.limit
@@ -49,11 +55,12 @@ NamesSearch rows options = NamesLimit rows options.limit
 -- the command that `clap` finds in the words: a subcommand's name, and what is found of its options
 abbrev pub Names : Option (Text × List Row) → Command → Type 0
 Names None _ = ⊥
-Names (Some found) (command.Hex options) = (found.0 ≡ codes "hex")
-    × NamesBudget found.1 options.budget
-    × IsContext (first_of (codes "ctx") found.1) options.context.items
+Names (Some found) (command.Hex options) = (found.0 ≡ codes "hex") × NamesRun found.1 options
 Names (Some found) (command.Asm listing) = (found.0 ≡ codes "asm")
     × (listing ≡ is_given (codes "listing") found.1)
+    × (do_part found.1 ≡ false) × (is_given (codes "run") found.1 ≡ false)
+Names (Some found) (command.AsmRun options) = (found.0 ≡ codes "asm") × NamesRun found.1 options
+    × (do_part found.1 ≡ false) × (is_given (codes "run") found.1 ≡ true)
 Names (Some found) (command.Disasm pc) = (found.0 ≡ codes "disasm")
     × (pc ≡ is_given (codes "pc") found.1)
 Names (Some found) (command.Run options) = (found.0 ≡ codes "run")
@@ -99,19 +106,39 @@ Asks (Some found) (request.Page code) = (found.0 ≡ codes "explain")
 -- why what `clap` finds can't be done: a context or a schedule that is none, options of which one
 -- rules out the other, or a code that isn't printed
 abbrev pub RefusesFound : Text × List Row → CommandError → Type 0
-RefusesFound found error.NotHex = (found.0 ≡ codes "hex")
+RefusesFound found error.NotHex = IsRunnerName found.0
     × RefusesContext (first_of (codes "ctx") found.1) error.NotHex
 RefusesFound found error.NoSchedule = (found.0 ≡ codes "run") × (do_clash found.1 ≡ false)
     × RefusesSchedule (first_of (codes "by") found.1) error.NoSchedule
 RefusesFound found error.TwoWays = (found.0 ≡ codes "run") × (do_clash found.1 ≡ true)
+RefusesFound found error.NoRun = (found.0 ≡ codes "asm") × (do_part found.1 ≡ true)
 RefusesFound found error.NoCode = (found.0 ≡ codes "explain")
     × (option_and_then code_of (first_of (codes "code") found.1) ≡ None)
 RefusesFound found error.OutOfMemory = Unit {0}
 RefusesFound found (error.Shown shown) = ⊥
 
--- why words ask for nothing that can be done: a fault that `clap` finds, or what it finds
-abbrev pub Refuses : List Text → CommandError → Type 0
-Refuses words (error.Shown shown) = IsAmong (kind_of shown) (fault_of ebpf words)
-Refuses words error.OutOfMemory = Unit {0}
-Refuses words e = (fault_of ebpf words ≡ [])
+-- the words as `clap` reads them: `help` and `version` are the options of these names
+abbrev pub flag_of : Text → Text
+flag_of word = if bytes_eq word (codes "help") then codes "--help"
+    else if bytes_eq word (codes "version") then codes "--version" else word
+
+abbrev pub as_flags : List Text → List Text
+as_flags (program ∷ word ∷ []) = program ∷ flag_of word ∷ []
+as_flags (program ∷ word ∷ name ∷ []) =
+    if bytes_eq word (codes "help") then program ∷ name ∷ codes "--help" ∷ []
+    else program ∷ word ∷ name ∷ []
+as_flags words = words
+
+-- what the words ask for
+abbrev pub AsksBy : List Text → Request → Type 0
+AsksBy words request = Asks (subcommand_of ebpf (as_flags words)) request
+
+-- why they ask for nothing that can be done: a fault that `clap` finds, or what it finds
+abbrev pub RefusesFlags : List Text → CommandError → Type 0
+RefusesFlags words (error.Shown shown) = IsAmong (kind_of shown) (fault_of ebpf words)
+RefusesFlags words error.OutOfMemory = Unit {0}
+RefusesFlags words e = (fault_of ebpf words ≡ [])
     × IsSomeAnd (subcommand_of ebpf words) (λ found. RefusesFound found e)
+
+abbrev pub Refuses : List Text → CommandError → Type 0
+Refuses words e = RefusesFlags (as_flags words) e

@@ -15,7 +15,7 @@ pub const MAX_WORKERS: u8 = 16;
 /// The greatest limit that may be asked for.
 pub const MAX_LIMIT: u64 = 1_000_000_000;
 
-/// The options of `hex`, in their ranges.
+/// The options of a run of one program, in their ranges.
 #[derive(PartialEq, Eq, Debug, Drop)]
 pub struct RunOptions {
     /// The greatest number of steps.
@@ -87,6 +87,8 @@ pub enum Command {
     Hex(RunOptions),
     /// Assembly text to words in hex digits, or to itself with the pcs and words of its lines.
     Asm { listing: bool },
+    /// Assembly text to words, and run those.
+    AsmRun(RunOptions),
     /// Words in hex digits to assembly text, with the pcs and words of its lines where that is
     /// asked for.
     Disasm { pc: bool },

@@ -5,8 +5,8 @@ ghost use Rattle.bpf_codes.specs.Code.{code_of};
 ghost use Rattle.clap.specs.Kinds.{FailsBy};
 ghost use Rattle.clap.specs.Takes.{is_given};
 ghost use Rattle.clap.specs.Words.{fault_of, first_of, first_value, found_of, rows_of, subcommand_name_of, subcommand_of, subcommand_rows_of};
-ghost use Rattle.bpf_command.specs.CommandLine.{ebpf, do_clash, HasBudget, HasLimit, HasShown, HasWorkers, IsCommandName, IsSearchName, IsWorkName, NamesBudget, NamesLimit, NamesShown, NamesWorkers};
-ghost use Rattle.bpf_command.specs.Names.{Asks, file_in, IsContext, IsSchedule, Names, NamesSearch, Refuses, RefusesContext, RefusesFound, RefusesSchedule};
+ghost use Rattle.bpf_command.specs.CommandLine.{ebpf, do_clash, do_part, HasBudget, HasLimit, HasShown, HasWorkers, IsCommandName, IsRunnerName, IsSearchName, IsWorkName, NamesBudget, NamesLimit, NamesShown, NamesWorkers};
+ghost use Rattle.bpf_command.specs.Names.{Asks, AsksBy, file_in, IsContext, IsSchedule, Names, NamesRun, NamesSearch, Refuses, RefusesContext, RefusesFlags, RefusesFound, RefusesSchedule, as_flags, flag_of};
 
 use crate::command::{
     Command, FileOptions, HistoryOptions, JudgeOptions, MAX_LIMIT, MAX_WORKERS, Request,
@@ -35,6 +35,8 @@ pub enum CommandError {
     /// Options stand there of which one rules out the other: a schedule, events or a check beside
     /// a number of workers, whose CPUs take no turns; or events beside a check.
     TwoWays,
+    /// What is asked of a run stands without `--run`, or the listing beside it.
+    NoRun,
     /// The page is asked for of a code that the program doesn't print.
     NoCode,
     OutOfMemory,
@@ -46,7 +48,7 @@ fn matches_of<'a, S: AsStr>(alloc: Global, words: &'a [S]) -> Result<ArgMatches<
         ≡ subcommand_of ebpf (map S.text words.entry.now)) }
     ensures known { IfOk result (λ m. IsSomeAnd (subcommand_name_of m) IsCommandName) }
     ensures checked { IfOk result (λ m. IfSome (subcommand_rows_of m)
-        (λ found. found.0 ≡ codes "hex" → HasBudget found.1)) }
+        (λ found. IsRunnerName found.0 → HasBudget found.1)) }
     ensures counted { IfOk result (λ m. IfSome (subcommand_rows_of m)
         (λ found. found.0 ≡ codes "run" → HasWorkers found.1)) }
     ensures limited { IfOk result (λ m. IfSome (subcommand_rows_of m)
@@ -106,16 +108,27 @@ fn context_of(alloc: Global, options: &ArgMatches) -> Result<Vec<u8>, CommandErr
     }
 }
 
+/// The options of a run of one program.
 #[tactic(auto, using(crate::proofs::OptionRows::context_in_rows, crate::proofs::OptionRows::no_context_in_rows))]
+fn program_run_of(alloc: Global, options: &ArgMatches) -> Result<RunOptions, CommandError>
+    requires checked { HasBudget (rows_of (found_of options.now)) }
+    ensures named { IfOk result (NamesRun (rows_of (found_of options.now))) }
+    ensures refused { IfErr result
+        (RefusesContext (first_of (codes "ctx") (rows_of (found_of options.now)))) }
+{
+    let context = context_of(alloc, options)?;
+    let budget = budget_of(options);
+    Ok(RunOptions { budget, context })
+}
+
 fn hex_of(alloc: Global, options: &ArgMatches) -> Result<Command, CommandError>
     requires checked { HasBudget (rows_of (found_of options.now)) }
     ensures named { IfOk result (Names (Some (codes "hex", rows_of (found_of options.now)))) }
     ensures refused { IfErr result
         (RefusesContext (first_of (codes "ctx") (rows_of (found_of options.now)))) }
 {
-    let context = context_of(alloc, options)?;
-    let budget = budget_of(options);
-    Ok(Command::Hex(RunOptions { budget, context }))
+    let run = program_run_of(alloc, options)?;
+    Ok(Command::Hex(run))
 }
 
 /// What `clap` reads of `--workers`, if it is given.
@@ -163,6 +176,35 @@ fn is_given(options: &ArgMatches, id: &str) -> bool
     ensures { result ≡ is_given id.now (rows_of (found_of options.now)) }
 {
     options.contains_id(id) && options.value_source(id) != Some(ValueSource::DefaultValue)
+}
+
+/// Whether what is asked of a run stands without `--run`, or the listing beside it.
+fn do_part(options: &ArgMatches) -> bool
+    ensures { result ≡ do_part (rows_of (found_of options.now)) }
+{
+    if is_given(options, "run") {
+        is_given(options, "listing")
+    } else {
+        is_given(options, "budget") || is_given(options, "ctx")
+    }
+}
+
+#[tactic(auto, using(crate::proofs::OptionRows::asm_refused))]
+fn asm_of(alloc: Global, options: &ArgMatches) -> Result<Command, CommandError>
+    requires checked { HasBudget (rows_of (found_of options.now)) }
+    ensures named { IfOk result (Names (Some (codes "asm", rows_of (found_of options.now)))) }
+    ensures refused { IfErr result (RefusesFound (codes "asm", rows_of (found_of options.now))) }
+{
+    if do_part(options) {
+        return Err(CommandError::NoRun);
+    }
+    if is_given(options, "run") {
+        let run = program_run_of(alloc, options)?;
+        return Ok(Command::AsmRun(run));
+    }
+    Ok(Command::Asm {
+        listing: is_given(options, "listing"),
+    })
 }
 
 /// The schedule that `--by` spells, of no turns where it isn't given.
@@ -243,7 +285,7 @@ fn explore_of(options: &ArgMatches) -> Command
 
 fn named(alloc: Global, name: &str, options: &ArgMatches) -> Result<Command, CommandError>
     requires known { IsWorkName name.now }
-    requires checked { name.now ≡ codes "hex" → HasBudget (rows_of (found_of options.now)) }
+    requires checked { IsRunnerName name.now → HasBudget (rows_of (found_of options.now)) }
     requires counted { name.now ≡ codes "run" → HasWorkers (rows_of (found_of options.now)) }
     requires limited { IsSearchName name.now → HasLimit (rows_of (found_of options.now)) }
     requires shown { name.now ≡ codes "explore" → HasShown (rows_of (found_of options.now)) }
@@ -252,9 +294,7 @@ fn named(alloc: Global, name: &str, options: &ArgMatches) -> Result<Command, Com
 {
     match name {
         "hex" => hex_of(alloc, options),
-        "asm" => Ok(Command::Asm {
-            listing: is_given(options, "listing"),
-        }),
+        "asm" => asm_of(alloc, options),
         "disasm" => Ok(Command::Disasm {
             pc: is_given(options, "pc"),
         }),
@@ -297,7 +337,7 @@ fn asked_file(alloc: Global, options: &ArgMatches) -> Result<Option<String>, Com
 
 fn requested(alloc: Global, name: &str, options: &ArgMatches) -> Result<Request, CommandError>
     requires known { IsCommandName name.now }
-    requires checked { name.now ≡ codes "hex" → HasBudget (rows_of (found_of options.now)) }
+    requires checked { IsRunnerName name.now → HasBudget (rows_of (found_of options.now)) }
     requires counted { name.now ≡ codes "run" → HasWorkers (rows_of (found_of options.now)) }
     requires limited { IsSearchName name.now → HasLimit (rows_of (found_of options.now)) }
     requires shown { name.now ≡ codes "explore" → HasShown (rows_of (found_of options.now)) }
@@ -320,11 +360,66 @@ fn requested(alloc: Global, name: &str, options: &ArgMatches) -> Result<Request,
     })
 }
 
-/// What the words ask for, of which the first is the program's name.
-pub fn request_of<'a, S: AsStr>(alloc: Global, words: &'a [S]) -> Result<Request, CommandError>
-    ensures accepted { OnOk result (fault_of ebpf (map S.text words.entry.now) ≡ []) }
-    ensures asked { IfOk result (Asks (subcommand_of ebpf (map S.text words.entry.now))) }
-    ensures refused { IfErr result (Refuses (map S.text words.entry.now)) }
+/// The texts of the words.
+fn texts_of<'a, S: AsStr>(alloc: Global, words: &'a [S]) -> Result<Vec<&'a str>, CommandError>
+    ensures same { IfOk result (λ v. map (λ w. w.now) v.items ≡ map S.text words.entry.now) }
+    ensures memory { IsOkUnless result CommandError.OutOfMemory }
+{
+    let mut texts = Vec::new(alloc);
+    for word in words {
+        if texts.push(word.as_str()).is_err() {
+            return Err(CommandError::OutOfMemory);
+        }
+    }
+    Ok(texts)
+}
+
+/// The option that a word stands for.
+fn flag_of<'a>(word: &'a str) -> &'a str
+    ensures { result.now ≡ flag_of word.now }
+{
+    match word {
+        "help" => "--help",
+        "version" => "--version",
+        _ => word,
+    }
+}
+
+fn copied<'a>(alloc: Global, words: &[&'a str]) -> Result<Vec<&'a str>, CommandError>
+    ensures same { IfOk result (λ v. v.items ≡ words.entry.now) }
+    ensures memory { IsOkUnless result CommandError.OutOfMemory }
+{
+    match Vec::from_slice(alloc, words) {
+        Ok(copied) => Ok(copied),
+        Err(_) => Err(CommandError::OutOfMemory),
+    }
+}
+
+/// The words as `clap` reads them: `help` and `version` are the options of these names.
+#[tactic(auto, using(crate::proofs::Flags::other_flags))]
+fn as_flags<'a>(alloc: Global, words: &[&'a str]) -> Result<Vec<&'a str>, CommandError>
+    ensures same { IfOk result (λ v. map (λ w. w.now) v.items
+        ≡ as_flags (map (λ w. w.now) words.entry.now)) }
+    ensures memory { IsOkUnless result CommandError.OutOfMemory }
+{
+    match words {
+        [program, word] => copied(alloc, &[*program, flag_of(word)]),
+        [program, word, name] => {
+            if *word == "help" {
+                copied(alloc, &[*program, *name, "--help"])
+            } else {
+                copied(alloc, words)
+            }
+        }
+        _ => copied(alloc, words),
+    }
+}
+
+/// What words ask for as `clap` reads them.
+fn request_by(alloc: Global, words: &[&str]) -> Result<Request, CommandError>
+    ensures accepted { OnOk result (fault_of ebpf (map (λ w. w.now) words.now) ≡ []) }
+    ensures asked { IfOk result (Asks (subcommand_of ebpf (map (λ w. w.now) words.now))) }
+    ensures refused { IfErr result (RefusesFlags (map (λ w. w.now) words.now)) }
 {
     let matches = match matches_of(alloc, words) {
         Ok(matches) => matches,
@@ -337,4 +432,15 @@ pub fn request_of<'a, S: AsStr>(alloc: Global, words: &'a [S]) -> Result<Request
         unreachable!();
     };
     requested(alloc, name, options)
+}
+
+/// What the words ask for, of which the first is the program's name.
+pub fn request_of<'a, S: AsStr>(alloc: Global, words: &'a [S]) -> Result<Request, CommandError>
+    ensures accepted { OnOk result (fault_of ebpf (as_flags (map S.text words.entry.now)) ≡ []) }
+    ensures asked { IfOk result (AsksBy (map S.text words.entry.now)) }
+    ensures refused { IfErr result (Refuses (map S.text words.entry.now)) }
+{
+    let texts = texts_of(alloc, words)?;
+    let flags = as_flags(alloc, &texts)?;
+    request_by(alloc, &flags)
 }

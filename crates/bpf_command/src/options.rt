@@ -3,7 +3,7 @@
 ghost use Rattle.std.specs.Prelude.{◌≡◌, false, IfOk};
 ghost use Rattle.clap.specs.Words.{app_of, rule_of, shape_of};
 ghost use Rattle.clap.specs.declared.builder.command.Command.TheViews.{out-Command as fields_of};
-ghost use Rattle.bpf_command.specs.CommandLine.{asm, bare, budget, check, code_rule, context, debug, disasm, ebpf, events, explain, explained, explore, file, for_files, hex, hex_options, judged, keys, limit, listing, maps, one_program, patient, pc, run, run_lists, run_options, run_shows, schedule, searching, show, workers, working};
+ghost use Rattle.bpf_command.specs.CommandLine.{asm, asm_shows, bare, budget, check, code_rule, context, debug, disasm, ebpf, events, explain, explained, explore, file, for_files, hex, hex_options, judged, keys, limit, listing, maps, one_program, patient, pc, run, run_lists, run_options, run_shows, runs, schedule, searching, show, workers, working};
 
 use crate::command::{MAX_LIMIT, MAX_WORKERS};
 use bpf_base::MAX_BUDGET;
@@ -26,8 +26,12 @@ For example
   $ printf 'r0 = 5\\nexit\\n' | ebpf asm --listing
   r0 = 5 ; 0: b700000005000000
   exit ; 1: 9500000000000000
+  $ printf 'r0 = 5\\nexit\\n' | ebpf asm --run
+  r0=5
 
-What --listing and 'ebpf disasm --pc' print is assembly text again. A pc counts words from 0.";
+What --listing and 'ebpf disasm --pc' print is assembly text again. A pc counts words from 0. With
+--run the answer is that of 'ebpf hex' to the words; --budget and --ctx go beside it alone, and
+--listing doesn't.";
 
 const DISASM_NOTES: &str = "\
 For example
@@ -135,6 +139,7 @@ const EBPF_NOTES: &str = "\
 Input is a FILE or standard input, read whole first, and all answers go to standard output, as in
   $ echo 'b700000005000000 9500000000000000' | ebpf hex
   r0=5
+'ebpf help COMMAND' is 'ebpf COMMAND --help', and 'ebpf version' is 'ebpf --version'.
 
 Exit status:
   0  the answer is printed
@@ -224,8 +229,19 @@ fn pc_option<'a>(alloc: Global) -> Arg<'a>
         .help("Prints the pc and the words of each line behind it, as a comment")
 }
 
-fn asm_command<'a>(alloc: Global) -> Result<Command<'a>, AllocError>
-    ensures shape { IfOk result (λ c. shape_of c ≡ asm.top) }
+fn runs_option<'a>(alloc: Global) -> Arg<'a>
+    ensures rule { rule_of result ≡ runs }
+    ensures own { result.global ≡ false }
+{
+    Arg::new(alloc, "run")
+        .long("run")
+        .action(ArgAction::SetTrue)
+        .help("Runs the words in place of printing them, as 'ebpf hex' does")
+}
+
+/// The command `asm` with what it is to print.
+fn asm_shows<'a>(alloc: Global) -> Result<Command<'a>, AllocError>
+    ensures shape { IfOk result (λ c. shape_of c ≡ asm_shows.top) }
     ensures own { IfOk result (λ c. (fields_of c).has_globals ≡ false) }
 {
     Command::new(alloc, "asm")
@@ -233,6 +249,16 @@ fn asm_command<'a>(alloc: Global) -> Result<Command<'a>, AllocError>
         .after_help(ASM_NOTES)
         .arg(explain_option(alloc))?
         .arg(listing_option(alloc))?
+        .arg(runs_option(alloc))
+}
+
+fn asm_command<'a>(alloc: Global) -> Result<Command<'a>, AllocError>
+    ensures shape { IfOk result (λ c. shape_of c ≡ asm.top) }
+    ensures own { IfOk result (λ c. (fields_of c).has_globals ≡ false) }
+{
+    asm_shows(alloc)?
+        .arg(budget_option(alloc))?
+        .arg(context_option(alloc))?
         .arg(file_argument(alloc))
 }
 

@@ -38,7 +38,7 @@ use Rattle.bpf_debug.specs.Laws.{ScriptsAreDetermined}
 use Rattle.bpf_run.proofs.FreshFiles.{fresh_asked}
 use Rattle.bpf_run.proofs.OneDebug.{PrintsAs, one_debug}
 use Rattle.bpf_run.specs.Answer.{jobs_status, status_of, reply_text}
-use Rattle.bpf_run.specs.Commands.{IsAnswer, IsAssembled, IsDisassembled, IsForOneSchedule, IsForOneThread, IsReply, IsRun, IsWordsOf, RefusesAssembly, RefusesInput, RefusesProgram, RefusesWords, ShowsWords, shown_program}
+use Rattle.bpf_run.specs.Commands.{IsAnswer, IsAssembled, IsAssembledRun, IsDisassembled, IsForOneSchedule, IsForOneThread, IsReply, IsRun, IsWordsOf, RefusesAssembly, RefusesInput, RefusesProgram, RefusesWords, ShowsWords, shown_program}
 use Rattle.bpf_run.specs.Running.{IsHistoryBy, IsJudgedBy, IsOfFile, IsRunBy, IsToldBy}
 use Rattle.bpf_run.specs.Script.{asked_world_of}
 use Rattle.bpf_run.specs.declared.input.TheConstants.{MAX_INPUT}
@@ -50,7 +50,9 @@ use Rattle.bpf_command.specs.declared.command.Command.TheVariants as command
 use Rattle.bpf_run.specs.declared.input.InputError.TheVariants as input_error
 use Rattle.bpf_run.specs.declared.refusal.Refusal.{Refusal}
 use Rattle.bpf_run.specs.declared.refusal.Refusal.TheVariants as refusal
+use Rattle.bpf_mem.specs.Limits.{max_context}
 use Rattle.bpf_run.specs.declared.reply.Reply.{Reply}
+use Rattle.bpf_run.specs.declared.reply.Status.TheVariants as status
 use Rattle.bpf_run.specs.declared.reply.Reply.TheVariants as reply
 
 -- they print the same
@@ -125,6 +127,12 @@ of_assembly listing text (reply.Jobs printed stopped) h n = absurd h
 of_assembly listing text (reply.Script answers stopped) h n = absurd h
 of_assembly listing text (reply.Outcomes printed stopped all) h n = absurd h
 of_assembly listing text (reply.NoOutcome printed all) h n = absurd h
+
+refused_assembly : (text : List ℕ) (e : Refusal) → RefusesAssembly text e → IsOfInput (reply.Refused e) → OfAssembly false text (reply.Refused e)
+refused_assembly text e h n = of_assembly false text (reply.Refused e) h n
+
+not_both : status.Refused ≡ status.Done → ⊥
+not_both e = cc
 
 of_listing : (pc : Bool) (text : List ℕ) (r : Reply) → IsDisassembled pc text r → IsOfInput r → OfListing pc text r
 of_listing pc text (reply.Text printed) h n = Listed printed h
@@ -253,6 +261,23 @@ module _ (words : WordsAreDetermined) (encodings : EncodingsAreDetermined) (refu
   one_assembly listing text r s (NoAssembly e b) (Assembled p a) = let both : Ok a.0 ≡ Err e = texts text (Ok a.0) (Err e) a.2 b in absurd cc
   one_assembly listing text r s (NoAssembly e a) (NoAssembly f b) = let both = texts text (Err e) (Err f) a b in let same : e ≡ f = cc in prints r s (ap (λ error. reply.Refused (refusal.Text error)) same)
 
+  -- `asm` followed by `hex`
+  one_assembled_run : (budget : ℕ) (context text : List ℕ) (r s : Reply) → length context ≤ max_context → IsAssembledRun budget context text r → IsAssembledRun budget context text s → IsOfInput r → IsOfInput s → PrintsAs r s
+  one_assembled_run budget context text r s h (inl (e, same, a)) (inl (f, other, b)) n m =
+      let first = refused_assembly text e a (subst IsOfInput same n) in
+      let second = refused_assembly text f b (subst IsOfInput other m) in
+      let both = one_assembly false text (reply.Refused e) (reply.Refused f) first second in
+      (ap reply_text same ∙ both.0 ∙ sym (ap reply_text other), ap status_of same ∙ both.1 ∙ sym (ap status_of other))
+  one_assembled_run budget context text r s h (inl (e, same, a)) (inr (q, b, run)) n m =
+      absurd (not_both (one_assembly false text (reply.Refused e) (reply.Text q) (refused_assembly text e a (subst IsOfInput same n)) (of_assembly false text (reply.Text q) b tt)).1)
+  one_assembled_run budget context text r s h (inr (p, a, run)) (inl (f, other, b)) n m =
+      absurd (not_both (sym (one_assembly false text (reply.Text p) (reply.Refused f) (of_assembly false text (reply.Text p) a tt) (refused_assembly text f b (subst IsOfInput other m))).1))
+  one_assembled_run budget context text r s h (inr (p, a, run)) (inr (q, b, other)) n m =
+      let same : string_bytes p ≡ string_bytes q = (one_assembly false text (reply.Text p) (reply.Text q) (of_assembly false text (reply.Text p) a tt) (of_assembly false text (reply.Text q) b tt)).0 in
+      let P : List ℕ → Type 0 = λ bytes. IsRun budget context bytes s in
+      let again = subst P (sym same) other in
+      prints r s (one_run budget context (string_bytes p) r s h (of_run budget context (string_bytes p) r run n) (of_run budget context (string_bytes p) s again m))
+
   one_told : (by : List (ℕ × ℕ)) (keys maps : Bool) → IsOne (IsToldBy by keys maps)
   one_told by keys maps f can p q x y a b = reports (asked_world_of keys f) by f.names maps p q x y (fresh_asked keys f can) a b
 
@@ -285,6 +310,7 @@ module _ (words : WordsAreDetermined) (encodings : EncodingsAreDetermined) (refu
   one_answer (command.Hex options) text r s h t o a b n m =
       prints r s (one_run options.budget options.context.items text r s h (of_run options.budget options.context.items text r a n) (of_run options.budget options.context.items text s b m))
   one_answer (command.Asm listing) text r s h t o a b n m = one_assembly listing text r s (of_assembly listing text r a n) (of_assembly listing text s b m)
+  one_answer (command.AsmRun options) text r s h t o a b n m = one_assembled_run options.budget options.context.items text r s h a b n m
   one_answer (command.Disasm pc) text r s h t o a b n m = one_listing pc text r s (of_listing pc text r a n) (of_listing pc text s b m)
   one_answer (command.Run options) text r s h t o a b n m =
       let by = options.by.items in

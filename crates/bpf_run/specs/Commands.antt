@@ -1,5 +1,6 @@
 -- What each command replies to the text that it read.
-use Rattle.std.specs.Prelude.{◌≡◌, ◌≢◌, ◌≤◌, ◌<◌, ◌⊎◌, ◌/◌, ℕ, Bool, true, false, List, [], All, None, Err, Ok, IsUtf8, length, string_bytes}
+use Rattle.std.specs.Prelude.{◌≡◌, ◌≢◌, ◌≤◌, ◌<◌, ◌⊎◌, ◌/◌, ℕ, Bool, true, false, List, [], All, None, Err, Ok, IsUtf8, length, string_bytes, String}
+use Rattle.std.specs.declared.alloc.Global.{Global}
 use Rattle.bpf_insn.specs.declared.instruction.Insn.{Insn}
 use Rattle.bpf_insn.specs.Encoding.{IsEncodedAs}
 use Rattle.bpf_insn.specs.Refusal.{IsRefused, IsSized}
@@ -87,6 +88,13 @@ IsAssembled listing text (reply.Script answers stopped) = ⊥
 IsAssembled listing text (reply.Outcomes printed stopped all) = ⊥
 IsAssembled listing text (reply.NoOutcome printed all) = ⊥
 
+-- `asm --run`: what `hex` replies to the words that `asm` prints, or why it prints none
+abbrev pub IsAssembledRun : ℕ → List ℕ → List ℕ → Reply → Type 0
+IsAssembledRun budget context text r =
+    ((e : Refusal) × (r ≡ reply.Refused e) × RefusesAssembly text e)
+    ⊎ ((printed : String Global) × IsAssembled false text (reply.Text printed)
+    × IsRun budget context (string_bytes printed) r)
+
 -- `disasm`: the canonical text of the instructions, and with `--pc` each line with its pc and its
 -- words behind it
 abbrev pub shown_program : (pc : Bool) → (bytes : List ℕ) → List Insn → List ℕ
@@ -108,6 +116,8 @@ IsDisassembled pc text (reply.NoOutcome printed all) = ⊥
 abbrev pub IsAnswer : Command → List ℕ → Reply → Type 0
 IsAnswer (command.Hex options) text r = IsRun options.budget options.context.items text r
 IsAnswer (command.Asm listing) text r = IsAssembled listing text r
+IsAnswer (command.AsmRun options) text r =
+    IsAssembledRun options.budget options.context.items text r
 IsAnswer (command.Disasm pc) text r = IsDisassembled pc text r
 IsAnswer (command.Run options) text r =
     IsRunBy options.workers options.by.items options.keys options.maps text r

@@ -45,6 +45,7 @@ IsOfInput _ = Unit {0}
 -- the context has its greatest length at most
 abbrev pub HasShortContext : Command → Type 0
 HasShortContext (command.Hex options) = length options.context.items ≤ max_context
+HasShortContext (command.AsmRun options) = length options.context.items ≤ max_context
 HasShortContext _ = Unit {0}
 
 -- replies of one input print one text, with one exit status, where no workers are asked for, and no

@@ -1,11 +1,11 @@
 -- What a command does between its reading and its writing, and what the words of a command line ask
 -- for.
 use Rattle.std.specs.Prelude.{◌≡◌, ℕ, Bool, List, Option, Some, None, IfSome, [], option_map, string_bytes}
-use Rattle.clap.specs.Words.{Text, fault_of, subcommand_of}
+use Rattle.clap.specs.Words.{Text, fault_of}
 use Rattle.clap.specs.declared.error.Error.{Error}
 use Rattle.bpf_lines.specs.declared.hex_text.HexError.TheVariants as hex_error
 use Rattle.bpf_command.specs.CommandLine.{ebpf}
-use Rattle.bpf_command.specs.Names.{Asks}
+use Rattle.bpf_command.specs.Names.{AsksBy, as_flags}
 use Rattle.bpf_command.specs.declared.command.Command.{Command}
 use Rattle.bpf_command.specs.declared.command.Request.{Request}
 use Rattle.bpf_command.specs.declared.command.Request.TheVariants as request
@@ -49,7 +49,7 @@ Follows (request.Page code) unread standard files read_failed old new write_fail
 
 -- the words ask for this, and `clap` finds no fault in them
 abbrev pub IsAsked : List Text → Request → Type 0
-IsAsked words request = (fault_of ebpf words ≡ []) × Asks (subcommand_of ebpf words) request
+IsAsked words request = (fault_of ebpf (as_flags words) ≡ []) × AsksBy words request
 
 -- the refusal that is printed where words name no command; what `clap` says is shown and isn't
 -- printed as one
@@ -60,12 +60,14 @@ IsPrintedAs (command_error.Shown _) r = ⊥
 IsPrintedAs command_error.NoCode r = ⊥
 IsPrintedAs command_error.NoSchedule r = ⊥
 IsPrintedAs command_error.TwoWays r = ⊥
+IsPrintedAs command_error.NoRun r = ⊥
 
 -- what is wrong with words in which `clap` finds no fault
 abbrev pub error_of : Misuse → CommandError
 error_of misuse.Code = command_error.NoCode
 error_of misuse.Schedule = command_error.NoSchedule
 error_of misuse.TwoWays = command_error.TwoWays
+error_of misuse.Run = command_error.NoRun
 
 -- ---- what is left to do
 

@@ -1,6 +1,6 @@
 //! What is said of a command's answer on standard error, after it is printed.
 
-use crate::fault::{details_of_file, details_of_program};
+use crate::fault::{details_of_assembly, details_of_file, details_of_program};
 use crate::perform::{Performed, answer_text};
 use crate::reply::{Reply, Status};
 use bpf_advice::{Detail, Details, Input, Language, advise};
@@ -32,6 +32,8 @@ pub enum Subject {
     Words,
     /// The run of a program that is given as words.
     Program { budget: u64, context: Vec<u8> },
+    /// The same of one that is given as assembly text.
+    AssembledProgram { budget: u64, context: Vec<u8> },
     /// The jobs of a run file, in rounds.
     Rounds,
     /// The same behind turns that are given.
@@ -68,6 +70,13 @@ impl Subject {
                 },
                 Err(_) => Subject::Words,
             },
+            Command::AsmRun(options) => match options.context.clone() {
+                Ok(context) => Subject::AssembledProgram {
+                    budget: options.budget,
+                    context,
+                },
+                Err(_) => Subject::Assembly,
+            },
             Command::Run(
                 FileOptions {
                     workers: Some(_),
@@ -88,7 +97,7 @@ impl Subject {
 
     fn language(&self) -> Language {
         match self {
-            Subject::Assembly => Language::Assembly,
+            Subject::Assembly | Subject::AssembledProgram { .. } => Language::Assembly,
             Subject::Words | Subject::Program { .. } => Language::Words,
             Subject::Rounds
             | Subject::Turns
@@ -137,6 +146,9 @@ fn details(alloc: Global, subject: &Subject, reply: &Reply, input: &str) -> Vec<
     let known = match (subject, reply) {
         (Subject::Program { budget, context }, Reply::Ended(Outcome::Fault(..))) => {
             details_of_program(alloc, *budget, context, input)
+        }
+        (Subject::AssembledProgram { budget, context }, Reply::Ended(Outcome::Fault(..))) => {
+            details_of_assembly(alloc, *budget, context, input)
         }
         (Subject::Rounds, Reply::Jobs(_, true)) => details_of_file(alloc, input),
         _ => None,

@@ -13,9 +13,7 @@ use crate::refusal::Refusal;
 use crate::reply::Reply;
 use crate::running::{file_in, run_file_with_history};
 use bpf_command::SearchOptions;
-use bpf_explore::{
-    Explored, explore_jobs, explore_patiently, is_any_stopped, list_explored,
-};
+use bpf_explore::{Explored, explore_jobs, explore_patiently, is_any_stopped, list_explored};
 use bpf_file::RunFile;
 use std::alloc::{AllocError, Global};
 
@@ -52,12 +50,7 @@ fn explore_patient(alloc: Global, file: RunFile, limit: usize) -> Result<Explore
 }
 
 /// By either search.
-fn search(
-    alloc: Global,
-    file: RunFile,
-    patient: bool,
-    limit: usize,
-) -> Result<Explored, AllocError>
+fn search(alloc: Global, file: RunFile, patient: bool, limit: usize) -> Result<Explored, AllocError>
     requires { IsRunnable file }
     ensures { IfOk result (λ e. AreFoundOf patient (file_of file) e.answers.items e.all limit
         e.states) }

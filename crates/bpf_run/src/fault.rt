@@ -4,9 +4,10 @@ use bpf_advice::Detail;
 use bpf_cpu::Job;
 use bpf_faults::{Evidence, Maps, describe, evidence_of};
 use bpf_file::{RunFile, read_file};
-use bpf_insn::Insn;
+use bpf_insn::{Insn, encode};
 use bpf_lines::{from_hex, to_hex};
 use bpf_machine::Machine;
+use bpf_text::assemble;
 use std::alloc::{AllocError, Global};
 
 /// The instruction at which a fault came, by the number of each job's program.
@@ -66,10 +67,9 @@ pub fn details_of_file(alloc: Global, text: &str) -> Option<Vec<Detail>> {
     details_of(alloc, &machine, &evidence, &numbers, &maps).ok()
 }
 
-/// The run file whose only job runs the program that the text has as hex digits.
-fn file_of_program(alloc: Global, budget: u64, context: &[u8], text: &str) -> Option<String> {
-    let bytes = from_hex(alloc, text).ok()?;
-    let words = to_hex(alloc, &bytes).ok()?;
+/// The run file whose only job runs the program of these bytes.
+fn file_of_program(alloc: Global, budget: u64, context: &[u8], bytes: &[u8]) -> Option<String> {
+    let words = to_hex(alloc, bytes).ok()?;
     let context = to_hex(alloc, context).ok()?;
     let before = if context.is_empty() { "" } else { " ctx " };
     let file = format!(in alloc;
@@ -85,6 +85,20 @@ pub fn details_of_program(
     context: &[u8],
     text: &str,
 ) -> Option<Vec<Detail>> {
-    let file = file_of_program(alloc, budget, context, text)?;
+    let bytes = from_hex(alloc, text).ok()?;
+    let file = file_of_program(alloc, budget, context, &bytes)?;
+    details_of_file(alloc, file.as_str())
+}
+
+/// What is known of the fault of the program that the text is.
+pub fn details_of_assembly(
+    alloc: Global,
+    budget: u64,
+    context: &[u8],
+    text: &str,
+) -> Option<Vec<Detail>> {
+    let insns = assemble(alloc, text).ok()?;
+    let bytes = encode(alloc, &insns).ok()?;
+    let file = file_of_program(alloc, budget, context, &bytes)?;
     details_of_file(alloc, file.as_str())
 }

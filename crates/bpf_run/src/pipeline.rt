@@ -5,7 +5,8 @@ ghost use Rattle.bpf_insn.specs.Encoding.{IsEncodedAs};
 ghost use Rattle.bpf_insn.specs.declared.instruction.Insn.{Insn};
 ghost use Rattle.bpf_loader.specs.Sound.{IsSound};
 ghost use Rattle.bpf_plain.specs.PlainStore.{has_cpu, is_running, shapes_of};
-ghost use Rattle.bpf_run.specs.Commands.{IsAnswer, IsAssembled, IsDisassembled, IsForOneThread, IsRun, IsWordsOf, RefusesProgram, RefusesWords, ShowsWords, shown_program};
+ghost use Rattle.bpf_run.specs.Commands.{IsAnswer, IsAssembled, IsAssembledRun, IsDisassembled, IsForOneThread, IsRun, IsWordsOf, RefusesAssembly, RefusesProgram, RefusesWords, ShowsWords, shown_program};
+ghost use Rattle.bpf_run.specs.declared.reply.Reply.{Reply};
 
 use crate::checking::check_file;
 use crate::exploring::{explore_file, show_file};
@@ -14,9 +15,7 @@ use crate::refusal::Refusal;
 use crate::reply::Reply;
 use crate::running::{judge_file, run_file, run_file_by_workers, run_file_with_history};
 use crate::script::debug_file;
-use bpf_command::{
-    Command, FileOptions, HistoryOptions, JudgeOptions, RunOptions, ShowOptions,
-};
+use bpf_command::{Command, FileOptions, HistoryOptions, JudgeOptions, RunOptions, ShowOptions};
 use bpf_cpu::Cpu;
 use bpf_disassembly::{disassemble, program_lines, source_lines};
 use bpf_insn::{Insn, decode, encode};
@@ -91,21 +90,42 @@ fn shown_words(alloc: Global, listing: bool, text: &str, bytes: &[u8]) -> Result
     }
 }
 
+/// What `ebpf asm` prints of a text, or why it prints nothing.
+fn assembly(alloc: Global, listing: bool, text: &str) -> Result<String, Refusal>
+    ensures shown { IfOk result (λ printed. IsAssembled listing text.now (Reply.Text printed)) }
+    ensures refused { IfErr result (RefusesAssembly text.now) }
+{
+    let insns = match assemble(alloc, text) {
+        Ok(insns) => insns,
+        Err(error) => return Err(Refusal::Text(error)),
+    };
+    let bytes = match encode(alloc, &insns) {
+        Ok(bytes) => bytes,
+        Err(error) => return Err(Refusal::Insn(error)),
+    };
+    match shown_words(alloc, listing, text, &bytes) {
+        Ok(lines) => Ok(lines),
+        Err(error) => Err(Refusal::Text(error)),
+    }
+}
+
 /// `ebpf asm`.
 fn assembled(alloc: Global, listing: bool, text: &str) -> Reply
     ensures { IsAssembled listing text.now result }
 {
-    let insns = match assemble(alloc, text) {
-        Ok(insns) => insns,
-        Err(error) => return Reply::Refused(Refusal::Text(error)),
-    };
-    let bytes = match encode(alloc, &insns) {
-        Ok(bytes) => bytes,
-        Err(error) => return Reply::Refused(Refusal::Insn(error)),
-    };
-    match shown_words(alloc, listing, text, &bytes) {
+    match assembly(alloc, listing, text) {
         Ok(lines) => Reply::Text(lines),
-        Err(error) => Reply::Refused(Refusal::Text(error)),
+        Err(refusal) => Reply::Refused(refusal),
+    }
+}
+
+/// `ebpf asm --run`: what `ebpf hex` replies to the words that `ebpf asm` prints.
+fn assembled_run(alloc: Global, options: RunOptions, text: &str) -> Reply
+    ensures { IsAssembledRun options.budget options.context.items text.now result }
+{
+    match assembly(alloc, false, text) {
+        Ok(words) => run(alloc, options, words.as_str()),
+        Err(refusal) => Reply::Refused(refusal),
     }
 }
 
@@ -158,6 +178,7 @@ pub fn reply(alloc: Global, command: Command, text: &str) -> Reply
     match command {
         Command::Hex(options) => run(alloc, options, text),
         Command::Asm { listing } => assembled(alloc, listing, text),
+        Command::AsmRun(options) => assembled_run(alloc, options, text),
         Command::Disasm { pc } => disassembled(alloc, pc, text),
         Command::Run(
             FileOptions {

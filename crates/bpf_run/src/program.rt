@@ -34,6 +34,8 @@ pub enum Misuse {
     Schedule,
     /// Options stand there of which one rules out the other, as a schedule and workers.
     TwoWays,
+    /// What is asked of a run stands without `--run`, or the listing beside it.
+    Run,
 }
 
 impl Misuse {
@@ -43,6 +45,7 @@ impl Misuse {
             Misuse::Code => NO_CODE,
             Misuse::Schedule => NO_SCHEDULE,
             Misuse::TwoWays => TWO_WAYS,
+            Misuse::Run => NO_RUN,
         }
     }
 }
@@ -76,6 +79,11 @@ const TWO_WAYS: &str = "\
 '--workers' goes with none of '--by', '--events' and '--check', nor '--events' with '--check'
 
 For more information, try 'ebpf run --help'.";
+
+const NO_RUN: &str = "\
+'--budget' and '--ctx' go beside '--run' alone, and '--listing' doesn't
+
+For more information, try 'ebpf asm --help'.";
 
 /// The exit status after a fault of the command line.
 pub const USAGE: u8 = 2;
@@ -151,6 +159,7 @@ fn follow<T: Threads + Wait + Sync, R: Source, W: Sink>(
         Err(CommandError::NoCode) => return Ending::Misused(Misuse::Code),
         Err(CommandError::NoSchedule) => return Ending::Misused(Misuse::Schedule),
         Err(CommandError::TwoWays) => return Ending::Misused(Misuse::TwoWays),
+        Err(CommandError::NoRun) => return Ending::Misused(Misuse::Run),
         Err(CommandError::NotHex) => Refusal::Hex(HexError::NotHex),
         Err(CommandError::OutOfMemory) => Refusal::OutOfMemory,
     };
