@@ -330,8 +330,15 @@ function draw_stack(state, table, cpu) {
 
 // ---- The timeline: the turns that are in sight, a row a CPU; those behind the shown one are pale.
 
+// An event as the program tells it, with values' addresses by name.
+function event_text({ text }, file) {
+    return text.replace(/\b0x[0-9a-f]+/, (number) => address_text(number, file) ?? number);
+}
+
 function draw_timeline(state, { width, scrolled }) {
     const { file, turns, shown, known } = state;
+    const event = known[shown - 1]?.event;
+    write(at('event'), event ? `The store saw: ${event_text(event, file)}` : '');
     write(at('count'), turns.length ? `${shown} of ${turns.length}` : '');
     Object.assign(at('at'), { max: turns.length, value: shown, disabled: !turns.length });
     at('track').style.minWidth = `${Math.max(turns.length * CELL + CELL, 100)}px`;
@@ -345,7 +352,7 @@ function draw_timeline(state, { width, scrolled }) {
         return lane;
     });
     for (let turn = first; turn < last; turn++) {
-        const cell = make_turn(turns[turn], turn, shown, known[turn] ?? {});
+        const cell = make_turn(turns[turn], turn, shown, known[turn] ?? {}, file);
         cell.style.top = `${turns[turn] * height}px`;
         cells.push(cell);
     }
@@ -374,12 +381,18 @@ function scrolled_to({ width, scrolled }, shown) {
     return { width, scrolled: is_seen ? scrolled : Math.max(0, left - width * 0.7) };
 }
 
-function make_turn(cpu, turn, shown, { pc, is_none, ended }) {
+function make_turn(cpu, turn, shown, { pc, is_none, ended, event }, file) {
     const cell = make('div', `turn ${colour_of(cpu)}`, is_none ? '–' : (pc ?? ''));
+    if (event) {
+        cell.classList.add('seen');
+        cell.append(make('span', 'kind', kind_of(event).mark));
+    }
+    if (pc > 999) cell.classList.add('long');
     if (ended) cell.classList.add(ended.is_good ? 'ended' : 'failed');
     if (turn >= shown) cell.classList.add('ahead');
     if (turn === shown - 1) cell.classList.add('last');
-    cell.title = `Turn ${turn + 1}: CPU ${cpu}, ${is_none ? 'no work' : `pc ${pc}`}${ended ? `; ${ended.line}` : ''}`;
+    const what = [is_none ? 'no work' : `pc ${pc}`, event && event_text(event, file), ended?.line];
+    cell.title = `Turn ${turn + 1}: CPU ${cpu}, ${what.filter((it) => it).join('; ')}`;
     cell.dataset.turn = turn + 1;
     cell.style.left = `${turn * CELL}px`;
     return cell;
@@ -420,21 +433,52 @@ function map_row(key, value, before, { shown, base }) {
     return row;
 }
 
+// Which CPUs hold an element, and what has come of its key.
+function held_cell(held) {
+    const cell = make('td', 'held');
+    for (const { cpu } of held) cell.append(make('span', colour_of(cpu), `CPU ${cpu}`), ' ');
+    if (held[0]?.gone) cell.append(`${held[0].gone} meanwhile`);
+    return cell;
+}
+
+// The values of a map that CPUs hold, and that no key is known to lead to: those of keys that were deleted or got
+// another value, and where no events are told, all.
+function kept_rows(held, state) {
+    const addresses = [...new Set(held.map(({ address }) => address))];
+    return addresses.map((address) => {
+        const holders = held.filter((it) => it.address === address);
+        const { cpu, key, bytes } = holders[0];
+        const before = state.views.before.held[cpu].find((it) => it.address === address)?.bytes;
+        const row = map_row(key ?? '', bytes, before ?? bytes, state);
+        row.className = key ? 'kept' : '';
+        if (!key) row.cells[0].textContent = address_text(address, state.file);
+        row.append(held_cell(holders));
+        return row;
+    });
+}
+
 function map_table(name, before, after, state) {
     const table = make('table');
     table.append(make('caption', '', `${name} · ${counted(after.size, 'key')}`));
     const keys = [...new Set([...before.keys(), ...after.keys()])].sort();
-    if (!keys.length) return table;
+    const held = state.held.filter(({ map }) => map === name);
+    const kept = held.filter(({ key, gone }) => gone || (!key && are_told(state)));
+    if (!keys.length && !kept.length) return table;
     const head = make('tr');
-    for (const title of ['key', 'value, byte by byte', 'as numbers']) {
+    for (const title of ['key', 'value, byte by byte', 'as numbers', 'held by']) {
         const cell = make('th', '', title);
         cell.scope = 'col';
         head.append(cell);
     }
-    table.append(head, ...keys.slice(0, MOST_KEYS).map((key) => map_row(key, after.get(key), before.get(key), state)));
+    const rows = keys.slice(0, MOST_KEYS).map((key) => {
+        const row = map_row(key, after.get(key), before.get(key), state);
+        row.append(held_cell(after.has(key) ? held.filter((it) => it.key === key && !it.gone) : []));
+        return row;
+    });
+    table.append(head, ...rows, ...kept_rows(kept, state));
     if (keys.length > MOST_KEYS) {
         const cell = make('td', '', `and ${keys.length - MOST_KEYS} keys more`);
-        cell.colSpan = 3;
+        cell.colSpan = 4;
         const row = make('tr');
         row.append(cell);
         table.append(row);
@@ -445,8 +489,15 @@ function map_table(name, before, after, state) {
 function draw_maps(state) {
     const { file, views } = state;
     const { before, after } = views;
-    const tables = file.maps.map(({ name }) => map_table(name, before.maps.get(name), after.maps.get(name), state));
+    const told = { ...state, held: held_values(state) };
+    const tables = file.maps.map(({ name }) => map_table(name, before.maps.get(name), after.maps.get(name), told));
     at('tables').replaceChildren(...(tables.length ? tables : [make('p', 'empty', 'The run file has no map.')]));
+}
+
+// What is told behind a click: what the store saw, and who holds what.
+function draw_told(state) {
+    draw_timeline(state, seen_of_timeline());
+    draw_maps(state);
 }
 
 // ---- The whole

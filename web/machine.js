@@ -33,6 +33,12 @@ function read_end(line) {
     return { line, job: Number(job), how: how.join(' '), code, is_good: how[0].startsWith('r0=') };
 }
 
+// `NAME ADDRESS BYTES` of a value that a run holds; null of another answer.
+function read_held(line) {
+    const [, map, address, bytes] = /^(\w+) (\d+) ([0-9a-f]+)$/.exec(line) ?? [];
+    return bytes ? { map, address, bytes } : null;
+}
+
 // Turns in run lengths, as the program writes and takes them: `0*2 1*1` is two turns of CPU 0 and one of CPU 1.
 function schedule_of(turns) {
     const runs = [];
@@ -114,6 +120,7 @@ class Answers {
             registers: list_of(file.cpus, () => this.registers()),
             frames: list_of(file.cpus, () => list_of(file.frames, () => this.frame())),
             maps: new Map(file.maps.map(({ name }) => [name, this.map()])),
+            held: list_of(file.cpus, () => this.until_mark().map(read_held).filter((it) => it)),
         };
     }
 }
@@ -128,6 +135,7 @@ function questions(file) {
         ...list_of(file.cpus, (cpu) => `regs ${cpu}`),
         ...list_of(file.cpus, (cpu) => list_of(file.frames, (frame) => frame_asks(cpu, frame))).flat(2),
         ...file.maps.flatMap(({ name }) => [`map ${name}`, MARK]),
+        ...list_of(file.cpus, (cpu) => [`held ${cpu}`, MARK]).flat(),
     ];
 }
 
@@ -145,7 +153,8 @@ class Machine {
     // Makes turns (CPU numbers) of a run file that the program takes. Gives the machine before and after
     // turn `shown`, and what each turn came to: those of `known` were told before and aren't read again.
     async make(file, turns, shown, known = []) {
-        const asks = questions(file);
+        const asked_of = { ...file }; // more frames may be asked for meanwhile
+        const asks = questions(asked_of);
         const before = Math.max(shown - 1, 0);
         // The turns before the last one that is shown, that one, and those behind it.
         const parts = [[0, before], [before, shown], [shown, turns.length]].map(([from, to]) => ({
@@ -158,13 +167,13 @@ class Machine {
         const answers = new Answers(text_of(stdout));
         const read = (part) => answers.turns(part.turns.length, part.known);
         const made = { turns: read(parts[0]), views: {}, asked, answers: answers.lines, time };
-        made.views.before = answers.view(file);
+        made.views.before = answers.view(asked_of);
         made.turns.push(...read(parts[1]));
-        made.views.after = shown ? answers.view(file) : made.views.before;
+        made.views.after = shown ? answers.view(asked_of) : made.views.before;
         made.turns.push(...read(parts[2]));
         add_starts(file, turns, made.turns);
         const deepest = Math.max(...Object.values(made.views).flatMap(({ places }) => places.map(({ depth }) => depth ?? 0)));
-        if (deepest <= file.frames) return made;
+        if (deepest <= asked_of.frames) return made;
         // So many frames are asked for as were ever live: here more.
         file.frames = deepest;
         return this.make(file, turns, shown, known);

@@ -79,6 +79,7 @@ async function ask() {
     draw(state);
     keep_link();
     check_lesson(state);
+    learn_events(state, () => draw_told(state));
 }
 
 // Asks what the faults mean that some job ended in.
@@ -243,7 +244,7 @@ async function explore() {
     const text = state.file?.text;
     if (text === undefined) return;
     try {
-        await search_all(text, draw_every);
+        await search_all(text, at('patient').checked, draw_every);
     } catch (error) {
         if (error.name !== 'Stopped') {
             search.is_on = false;
@@ -268,7 +269,7 @@ function forget_search() {
 // Sets the turns to a schedule that leads to an outcome.
 function show_outcome(number) {
     const { file } = state;
-    const turns = turns_of_schedule(search.came.found[number].schedule, MOST_TURNS);
+    const turns = turns_of_schedule(rows_of(search.came)[number].schedule, MOST_TURNS);
     if (!file) return;
     if (turns === null) {
         tell(`${MOST_TURNS} turns are the most that this page makes.`, true);
