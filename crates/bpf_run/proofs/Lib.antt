@@ -1,3 +1,4 @@
+mod FreshJudged
 mod ShownReplies
 pub mod KnownBytes
 pub mod ReplyLemmas
