@@ -18,6 +18,7 @@ use Rattle.bpf_machine.specs.Machine.{MachineState, Shows}
 use Rattle.bpf_machine.specs.Parts.{CanStand, IsSameHost, chosen, made_of, no_task}
 use Rattle.bpf_machine.specs.Schedule.{World}
 use Rattle.bpf_machine.specs.Cover.{TurnsTo, IsKeptAs}
+use Rattle.bpf_explore.specs.Album.{IsKeptAt}
 use Rattle.bpf_explore.specs.Search.{IsTurned, IsIdleAt, Extends}
 use Rattle.bpf_explore.specs.Stores.{IsOfShape, no_store}
 use Rattle.bpf_explore.specs.Tuples.{TupleList, tuple_at, with_tuple}
@@ -64,13 +65,15 @@ module _ (h : Shape) (s : Shelf) (m : MachineState) (tuple bytes : List ℕ) (fi
 
 -- a machine is kept under the number of its state
 pub kept_as : (s : Shelf) (m : MachineState) (n : ℕ) (tuple : List ℕ) → n < s.states.count → tuple_at s.states n ≡ tuple
-    → ((w : World) → Shows m w → Shows (machine_of s tuple) w) → IsKeptAs (machines s s.states.count) m
+    → ((w : World) → Shows m w → Shows (machine_of s tuple) w) → IsKeptAt (machines s s.states.count) n m
 kept_as s m n tuple less at shows = (
-  n,
   machine_at s n,
   machines_at s s.states.count n less,
   λ w here. subst (λ (t : List ℕ). Shows (machine_of s t) w) (sym at) (shows w here),
 )
+
+pub kept_somewhere : (kept : List MachineState) (n : ℕ) (m : MachineState) → IsKeptAt kept n m → IsKeptAs kept m
+kept_somewhere kept n m is = (n, is.0, is.1, is.2)
 
 -- ---- another machine of the same programs to work with
 abbrev pub shelf_of : List Loaded → List Contents → List Task → TupleList → Shelf
@@ -175,7 +178,7 @@ module _ (h : Shape) (s : Shelf) (m : MachineState) (stores : List Contents) (pa
     state_there states width =
         is_state h (with_states states) m tuple under.bytes (fits_grown states width) (shapes_there states) under.stored under.saved under.alike under.jobs.0 under.jobs.1 stands
 
-    pub kept_there : (states : TupleList) (n : ℕ) → states.width ≡ s.states.width → (n < states.count) × (tuple_at states n ≡ tuple) → IsKeptAs (machines (with_states states) states.count) m
+    pub kept_there : (states : TupleList) (n : ℕ) → states.width ≡ s.states.width → (n < states.count) × (tuple_at states n ≡ tuple) → IsKeptAt (machines (with_states states) states.count) n m
     kept_there states n width found =
         kept_as (with_states states) m n tuple found.0 found.1 (shown_there h (with_states states) m tuple under.bytes (fits_grown states width) (shapes_there states) under.stored under.saved under.alike under.jobs.0 under.jobs.1)
 
@@ -183,7 +186,7 @@ module _ (h : Shape) (s : Shelf) (m : MachineState) (stores : List Contents) (pa
     width_after states (inl e) = ap (λ (t : TupleList). t.width) e
     width_after states (inr e) = ap (λ (t : TupleList). t.width) e
 
-    pub kept_after : (states : TupleList) (n : ℕ) → (states ≡ s.states) ⊎ (states ≡ with_tuple s.states tuple) → (n < states.count) × (tuple_at states n ≡ tuple) → IsKeptAs (machines (with_states states) states.count) m
+    pub kept_after : (states : TupleList) (n : ℕ) → (states ≡ s.states) ⊎ (states ≡ with_tuple s.states tuple) → (n < states.count) × (tuple_at states n ≡ tuple) → IsKeptAt (machines (with_states states) states.count) n m
     kept_after states n now found = kept_there states n (width_after states now) found
 
     pub invariant_after : (states : TupleList) → length tuple ≡ s.states.width → (states ≡ s.states) ⊎ (states ≡ with_tuple s.states tuple) → IsShelf h (with_states states) × FitsShelf h (with_states states) m

@@ -55,6 +55,10 @@ pub still_first : (old new : List MachineState) (m : MachineState) (w : World) �
 still_first old new m w (one, at, shows) more here =
     (one, ap (λ (ms : List MachineState). slice_get ms 0) more.1 ∙ (slice_get-front old more.0 0 (slice_get_within old 0 one at) ∙ at), shows w here)
 
+pub still_there : (old new : List MachineState) (m : MachineState) → ShowsFirst old m → Extends old new → 0 < length new
+still_there old new m (one, at, shows) more =
+    slice_get_within new 0 one (ap (λ (ms : List MachineState). slice_get ms 0) more.1 ∙ (slice_get-front old more.0 0 (slice_get_within old 0 one at) ∙ at))
+
 pub explored : CoverTellsAll → (kept : List MachineState) (w : World) (names : List (List ℕ)) (maps : Bool) (answers : List Found) (all : Bool) (limit : ℕ) → IsFresh w → IsFirst kept w
     → (all ≡ true → CoversAll false kept) → ((u : World) → IsFirst kept u → AreOutcomes u names maps answers) → ((i : ℕ) → IsAnsweredAt kept names maps answers i)
     → (all ≡ false → limit < length kept) → AreLed kept → AreApart kept → IsExplored w names maps answers all limit (length kept)

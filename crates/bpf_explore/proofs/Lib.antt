@@ -12,6 +12,11 @@ pub mod StopLaws
 pub mod TrailLaws
 pub mod AnswerLaws
 pub mod TellLaws
+pub mod EachLaws
 pub mod RichLaws
+pub mod EdgeLaws
+pub mod TurnedLaws
+pub mod MarkLaws
+pub mod HungLaws
 pub mod PatienceLaws
 pub mod ExploreLaws

@@ -1,5 +1,5 @@
 -- Answers of a patient search.
-use Rattle.std.proofs.Common.{◌≡◌, ◌∙◌, ℕ, ◌+◌, ◌<◌, ◌≤◌, Bool, true, List, [], Option, Some, None, inl, inr, length, refl, sym, ap, subst, arith}
+use Rattle.std.proofs.Common.{◌≡◌, ◌∙◌, ℕ, ◌+◌, ◌<◌, ◌≤◌, ◌⊎◌, Bool, true, false, List, [], Option, Some, None, inl, inr, length, refl, sym, ap, subst, arith}
 use Rattle.std.specs.Prelude.{slice_get, insert, option_and_then, IfSome}
 use Rattle.std.proofs.lemmas.Bool.{cases_lt}
 use Rattle.std.proofs.lemmas.Option.{slice_get_within}
@@ -7,15 +7,22 @@ use Rattle.bpf_cpu.specs.declared.outcome.Outcome.{Outcome}
 use Rattle.bpf_cpu.specs.declared.outcome.Outcome.TheVariants.{OutOfBudget}
 use Rattle.bpf_cpu.specs.Task.{Stage, Task, Waiting, InHand, Ended, ended, outcome_at}
 use Rattle.bpf_machine.specs.Machine.{MachineState, Shows}
-use Rattle.bpf_machine.specs.Patient.{NoneRanOut}
+use Rattle.bpf_machine.specs.Patient.{NoneRanOut, IsClosedRichly}
 use Rattle.bpf_machine.specs.Rounds.{HaveEnded}
-use Rattle.bpf_machine.specs.Schedule.{World, RunsSchedule, unrolled}
+use Rattle.bpf_machine.specs.Schedule.{World, unrolled}
 use Rattle.bpf_jobs.specs.Printed.{lines_of_lists, TellsWith}
 use Rattle.bpf_explore.specs.Outcomes.{Found}
 use Rattle.bpf_machine.specs.Laws.{IsFresh}
 use Rattle.bpf_machine.specs.Cover.{IsShown}
 use Rattle.bpf_explore.specs.Search.{CoversAll}
+use Rattle.bpf_machine.specs.Ends.{AllCanEnd}
+use Rattle.bpf_explore.specs.declared.budgets.Budgets.{Budgets}
+use Rattle.bpf_explore.specs.declared.budgets.Budgets.TheVariants.{Suffice, RunOut}
+use Rattle.bpf_explore.specs.Album.{AreLedFreely, AreApart}
 use Rattle.bpf_explore.specs.Patient.{EndsPatiently, ArePatient, IsExploredPatiently, PatientTellAll}
+use Rattle.bpf_explore.specs.Private.Hung.{Hangs, AllHang, AllLead}
+use Rattle.bpf_explore.specs.Private.Replays.{SomeRanOut, IsReplayed, CanRunOut, NoneRunsOut}
+use Rattle.bpf_explore.proofs.TrailLaws.{are_reached_freely}
 use Rattle.bpf_explore.specs.Private.Answers.{AreSorted, IsFirst, KeepsAll, IsAnsweredAt}
 use Rattle.bpf_explore.specs.Private.Patience.{AllEndPatiently}
 use Rattle.bpf_explore.proofs.AnswerLaws.{Before, Here, Behind, origin, answered_still}
@@ -32,19 +39,19 @@ all_end_patiently xs i x within w names maps one all k y at = elim (origin xs i 
 pub some_by : (P : Found → Type 0) (o : Option Found) (x : Found) → o ≡ Some x → IfSome o P → P x
 some_by P o x e h = subst (λ (s : Option Found). IfSome s P) e h
 
+pub some_hung : (kept : List MachineState) (o : Option (List (ℕ × ℕ))) (x : List (ℕ × ℕ)) → o ≡ Some x → IfSome o (Hangs kept) → Hangs kept x
+some_hung kept o x e h = subst (λ (s : Option (List (ℕ × ℕ))). IfSome s (Hangs kept)) e h
+
 pub ends_still : (old new : List MachineState) (names : List (List ℕ)) (maps : Bool) (x : Found) → new ≡ old → ((w : World) → IsFirst new w → EndsPatiently w names maps x) → (w : World) → IsFirst old w → EndsPatiently w names maps x
 ends_still old new names maps x same ends w first = ends w (subst (λ (kept : List MachineState). IsFirst kept w) (sym same) first)
 
--- ---- the end of a schedule from the first machine
-pub ends_patiently : (kept : List MachineState) (first last : MachineState) (names : List (List ℕ)) (maps : Bool) (found : Found) → slice_get kept 0 ≡ Some first → last.lists ≡ None → HaveEnded last.jobs → NoneRanOut last.jobs
-    → ((w : World) → Shows first w → (z : World) × RunsSchedule w (unrolled found.by) z × Shows last z)
+-- ---- the end of a schedule that was tried
+pub ends_replayed : (kept : List MachineState) (last : MachineState) (names : List (List ℕ)) (maps : Bool) (found : Found) → last.lists ≡ None → HaveEnded last.jobs → NoneRanOut last.jobs → IsReplayed kept (unrolled found.by) last
     → ((w : World) → Shows last w → TellsWith (lines_of_lists w names) w.store w.jobs names maps found.text found.stopped)
     → (w : World) → IsFirst kept w → EndsPatiently w names maps found
-ends_patiently kept first last names maps found at none over well runs told w (m, there, shows) =
-    let two : Some m ≡ Some first = sym there ∙ at in
-    let one : m ≡ first = cc in
-    let run = runs w (subst (λ (n : MachineState). Shows n w) one shows) in
-    (run.0, run.1, subst HaveEnded (sym run.2.jobs) over, subst NoneRanOut (sym run.2.jobs) well, tells_none last run.0 names maps found.text found.stopped none run.2 (told run.0 run.2))
+ends_replayed kept last names maps found none over well tried told w first =
+    let r = tried w first in
+    (r.0, r.1, subst HaveEnded (sym r.2.jobs) over, subst NoneRanOut (sym r.2.jobs) well, tells_none last r.0 names maps found.text found.stopped none r.2 (told r.0 r.2))
 
 -- ---- jobs that have ended
 stage_ended : (stage : Stage) (o : Outcome) → Some o ≡ ended stage → (outcome : Outcome) × (stage ≡ Ended outcome)
@@ -87,29 +94,57 @@ all_ended_well jobs n past far = (
       r.2 pc one),
 )
 
+-- ---- jobs of which none is out of budget
+abbrev pub NoneOutBelow : List Task → ℕ → Type 0
+NoneOutBelow jobs n = (j : ℕ) (task : Task) (pc : ℕ) → j < n → slice_get jobs j ≡ Some task → task.stage ≡ Ended (OutOfBudget pc) → ⊥
+
+pub next_none_out : (jobs : List Task) (n : ℕ) → NoneOutBelow jobs n → ((pc : ℕ) → outcome_at jobs n ≡ Some (OutOfBudget pc) → ⊥) → NoneOutBelow jobs (n + 1)
+next_none_out jobs n far here j task pc less at out = elim (cases_lt j n) [
+  | inl below ↦ far j task pc below at out
+  | inr past ↦
+      let same : n ≡ j = omega arith in
+      here pc (ap (outcome_at jobs) same ∙ (read_outcome jobs j task at ∙ ap ended out))
+]
+
+pub all_none_out : (jobs : List Task) (n : ℕ) → length jobs ≤ n → NoneOutBelow jobs n → NoneRanOut jobs
+all_none_out jobs n past far j task pc at out = let inside = slice_get_within jobs j task at in far j task pc (omega arith) at out
+
+-- an outcome that is told
+pub told_out : (jobs : List Task) (n pc : ℕ) → Some (OutOfBudget pc) ≡ outcome_at jobs n → SomeRanOut jobs
+told_out jobs n pc e = go (slice_get jobs n) refl
+  where
+    go : (o : Option Task) → slice_get jobs n ≡ o → SomeRanOut jobs
+    go None at = let no : Some (OutOfBudget pc) ≡ None = e ∙ ap (λ (t : Option Task). option_and_then (λ task. ended task.stage) t) at in cc
+    go (Some task) at =
+        let there : Some (OutOfBudget pc) ≡ ended task.stage = e ∙ read_outcome jobs n task at in
+        (n, task, pc, at, stage_is task.stage (OutOfBudget pc) there)
+
 -- ---- what is gathered of the kept machines below a number
 pub record Gathered (kept : List MachineState) (names : List (List ℕ)) (maps : Bool) (place : ℕ) (whole : Bool) (answers : List Found) : Type 0 where
   pub sorted : AreSorted answers
   pub ends : (w : World) → IsFirst kept w → AllEndPatiently w names maps answers
   pub answered : whole ≡ true → (i : ℕ) → i < place → IsAnsweredAt kept names maps answers i
+  pub out : whole ≡ false → CanRunOut kept
 
 pub none_gathered : (kept : List MachineState) (names : List (List ℕ)) (maps : Bool) → Gathered kept names maps 0 true []
 none_gathered kept names maps = record {
   sorted = λ i j found later less at there. cc;
   ends = λ w first i found at. cc;
   answered = λ whole i less. absurd (omega arith);
+  out = λ is. cc;
 }
 
 pub more_gathered : (kept : List MachineState) (names : List (List ℕ)) (maps : Bool) (place : ℕ) (whole answered now : Bool) (old new : List Found) → Gathered kept names maps place whole old → AreSorted new → KeepsAll old new
-    → ((w : World) → IsFirst kept w → AllEndPatiently w names maps old → AllEndPatiently w names maps new) → (answered ≡ true → IsAnsweredAt kept names maps new place) → (now ≡ true → (whole ≡ true) × (answered ≡ true))
+    → ((w : World) → IsFirst kept w → AllEndPatiently w names maps old → AllEndPatiently w names maps new) → (answered ≡ true → IsAnsweredAt kept names maps new place) → (answered ≡ false → CanRunOut kept) → (now ≡ true → (whole ≡ true) × (answered ≡ true)) → (now ≡ false → (whole ≡ false) ⊎ (answered ≡ false))
     → Gathered kept names maps (place + 1) now new
-more_gathered kept names maps place whole answered now old new far sorted keeps ends here both = record {
+more_gathered kept names maps place whole answered now old new far sorted keeps ends here out both not = record {
   sorted = sorted;
   ends = λ w first. ends w first (far.ends w first);
   answered = λ is i less. (let b = both is in elim (cases_lt i place) [
     | inl below ↦ answered_still kept names maps old new i keeps (far.answered b.0 i below)
     | inr past ↦ let e : place ≡ i = omega arith in subst (λ (k : ℕ). IsAnsweredAt kept names maps new k) e (here b.1)
   ]);
+  out = λ is. elim (not is) [ inl a ↦ far.out a | inr a ↦ out a ];
 }
 
 pub all_gathered : (kept : List MachineState) (names : List (List ℕ)) (maps : Bool) (place : ℕ) (whole : Bool) (answers : List Found) → length kept ≤ place → Gathered kept names maps place whole answers → whole ≡ true → (i : ℕ) → IsAnsweredAt kept names maps answers i
@@ -117,12 +152,23 @@ all_gathered kept names maps place whole answers past far is i m at ended =
     let inside = slice_get_within kept i m at in
     far.answered is i (omega arith) m at ended
 
-pub explored_patiently : PatientTellAll → (kept : List MachineState) (w : World) (names : List (List ℕ)) (maps : Bool) (answers : List Found) (whole told all : Bool) → IsFresh w → IsFirst kept w
-    → (whole ≡ true → CoversAll true kept) → ((u : World) → IsFirst kept u → ArePatient u names maps answers) → (told ≡ true → (i : ℕ) → IsAnsweredAt kept names maps answers i)
-    → (all ≡ true → (whole ≡ true) × (told ≡ true)) → IsExploredPatiently w names maps answers all
-explored_patiently law kept w names maps answers whole told all fresh first covers outcomes answered both = record {
-  outcomes = outcomes w first;
-  complete = λ is. (let b = both is in
-      let shown : IsShown kept w = (0, first.0, first.1, first.2) in
-      law kept w names maps answers (covers b.0) fresh shown (λ i m at ended. answered b.1 i m at ended));
-}
+pub explored_patiently : PatientTellAll → AllCanEnd → (kept : List MachineState) (w : World) (names : List (List ℕ)) (maps : Bool) (answers : List Found) (whole told fit both all : Bool) (limit : ℕ) (hung : List (List (ℕ × ℕ))) (budgets : Budgets) → IsFresh w → IsFirst kept w
+    → (whole ≡ true → IsClosedRichly kept) → (whole ≡ true → CoversAll true kept) → (whole ≡ false → limit < length kept)
+    → ((u : World) → IsFirst kept u → ArePatient u names maps answers) → (told ≡ true → (i : ℕ) → IsAnsweredAt kept names maps answers i) → (told ≡ false → CanRunOut kept)
+    → AllHang kept hung → (whole ≡ true → fit ≡ true → hung ≡ [] → AllLead kept) → (fit ≡ false → CanRunOut kept)
+    → (both ≡ true → (told ≡ true) × (fit ≡ true)) → (both ≡ false → (told ≡ false) ⊎ (fit ≡ false)) → (all ≡ true → (whole ≡ true) × (both ≡ true)) → (all ≡ false → (whole ≡ false) ⊎ (both ≡ false))
+    → (budgets ≡ Suffice → NoneRunsOut kept) → (budgets ≡ RunOut → CanRunOut kept)
+    → AreLedFreely kept → AreApart kept → IsExploredPatiently w names maps answers all limit (length kept) hung budgets
+explored_patiently law ends kept w names maps answers whole told fit both all limit hung budgets fresh first closed covers met outcomes answered untold hangs leads unfit two two_not every every_not suffice out led apart =
+    let shown : IsShown kept w = (0, first.0, first.1, first.2) in
+    let no_fit : both ≡ false → CanRunOut kept = λ is. elim (two_not is) [ inl a ↦ untold a | inr a ↦ unfit a ] in
+    record {
+      outcomes = outcomes w first;
+      complete = λ is. (let a = every is in law kept w names maps answers (covers a.0) fresh shown (λ i m at ended. answered (two a.1).0 i m at ended));
+      counted = are_reached_freely kept w first led apart;
+      met = λ is. elim (every_not is) [ inl a ↦ inl (met a) | inr a ↦ inr (no_fit a w first) ];
+      are_hung = λ i by at. hangs i by at w fresh first;
+      none_hangs = λ is none schedule z runs well. (let a = every is in ends kept w z schedule (closed a.0) (λ i m at. leads a.0 (two a.1).1 none i m at) fresh shown runs well);
+      suffice = λ is may. suffice is w fresh first may;
+      run_out = λ is. out is w first;
+    }

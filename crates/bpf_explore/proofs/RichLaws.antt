@@ -6,9 +6,12 @@ use Rattle.bpf_cpu.specs.Task.{Stage, Task, InHand}
 use Rattle.bpf_machine.specs.Hands.{with_stage}
 use Rattle.bpf_machine.specs.Headways.{with_jobs}
 use Rattle.bpf_machine.specs.Machine.{MachineState, Shows}
-use Rattle.bpf_machine.specs.Cover.{TurnsTo, IsKeptAs}
-use Rattle.bpf_machine.specs.Patient.{IsRicher, AsRich, IsRefilled, IsKeptRichly}
+use Rattle.bpf_machine.specs.Schedule.{World, RunsSchedule}
+use Rattle.bpf_machine.specs.Cover.{TurnsTo}
+use Rattle.bpf_machine.specs.Ends.{RunsFreely, IsKeptRichlyAt}
+use Rattle.bpf_machine.specs.Patient.{IsRicher, AsRich, IsRefilled}
 use Rattle.bpf_machine.proofs.PatientLaws.{all_same}
+use Rattle.bpf_explore.specs.Album.{IsKeptAt}
 use Rattle.bpf_explore.specs.Search.{IsTurned, Extends}
 use Rattle.bpf_explore.proofs.AlbumLaws.{still_at}
 
@@ -20,25 +23,47 @@ rich_set (x ∷ xs) zero task state left more at is =
     (subst P (sym same) (inr (state, left, more, is, refl)), all_same xs)
 rich_set (x ∷ xs) (suc j) task state left more at is = (inl refl, rich_set xs j task state left more at is)
 
-richly_kept : (kept : List MachineState) (m new : MachineState) (c : ℕ) → IsRefilled m c new → IsKeptAs kept new → IsKeptRichly kept m
-richly_kept kept m new c (inl (free, same)) is w shows =
-    (w.jobs, all_same w.jobs, (is.0, is.1, is.2, is.3 w (subst (λ (x : MachineState). Shows x w) (sym same) shows)))
-richly_kept kept m new c (inr (j, (task, state, left, more, at, enough, e))) is w shows =
+-- what is shown before is shown after, but for richer jobs
+pub refilled_shows : (m new : MachineState) (c : ℕ) → IsRefilled m c new → (w : World) → Shows m w → (jobs : List Task) × AsRich w.jobs jobs × Shows new (with_jobs w jobs)
+refilled_shows m new c (inl (free, same)) w shows = (w.jobs, all_same w.jobs, subst (λ (x : MachineState). Shows x w) (sym same) shows)
+refilled_shows m new c (inr (j, (task, state, left, more, at, enough, e))) w shows =
     let stage : Stage = InHand state (left + more) in
     let jobs = with_stage w.jobs j task stage in
-    let there : slice_get w.jobs j ≡ Some task = ap (λ (ts : List Task). slice_get ts j) shows.jobs ∙ at.listed in
-    let shown : Shows new (with_jobs w jobs) = subst (λ (x : MachineState). Shows x (with_jobs w jobs)) (sym e) (record {
-      store = shows.store;
-      sound = shows.sound;
-      programs = shows.programs;
-      jobs = ap (λ (ts : List Task). with_stage ts j task stage) shows.jobs;
-      lists = shows.lists;
-    }) in
-    (jobs, rich_set w.jobs j task state left more there at.at, (is.0, is.1, is.2, is.3 (with_jobs w jobs) shown))
+    let there : slice_get w.jobs j ≡ Some task = ap (λ (ts : List Task). slice_get ts j) shows.jobs ∙ at.listed in (
+      jobs,
+      rich_set w.jobs j task state left more there at.at,
+      subst (λ (x : MachineState). Shows x (with_jobs w jobs)) (sym e) (record {
+        store = shows.store;
+        sound = shows.sound;
+        programs = shows.programs;
+        jobs = ap (λ (ts : List Task). with_stage ts j task stage) shows.jobs;
+        lists = shows.lists;
+      }),
+    )
+
+pub richly_kept : (kept : List MachineState) (m new : MachineState) (c n : ℕ) → IsRefilled m c new → IsKeptAt kept n new → IsKeptRichlyAt kept n m
+richly_kept kept m new c n refills is w shows =
+    let r = refilled_shows m new c refills w shows in
+    (r.0, is.0, r.1, is.1, is.2 (with_jobs w r.0) r.2)
 
 -- ---- a turn from a kept machine
-pub turned_richly : (old new : List MachineState) (place cpu : ℕ) (m after refilled : MachineState) → slice_get old place ≡ Some m → Extends old new → TurnsTo m cpu after → IsRefilled after cpu refilled → IsKeptAs new refilled → IsTurned true new place cpu
-turned_richly old new place cpu m after refilled at more turns refills kept other there =
+pub turned_richly : (old new : List MachineState) (place cpu n : ℕ) (m after refilled : MachineState) → slice_get old place ≡ Some m → Extends old new → TurnsTo m cpu after → IsRefilled after cpu refilled → IsKeptAt new n refilled → IsTurned true new place cpu
+turned_richly old new place cpu n m after refilled at more turns refills kept other there =
     let two : Some m ≡ Some other = sym (still_at old new place m at more) ∙ there in
-    let same : m ≡ other = cc in
-    (after, subst (λ (n : MachineState). TurnsTo n cpu after) same turns, richly_kept new after refilled cpu refills kept)
+    let same : m ≡ other = cc in (
+      after,
+      subst (λ (x : MachineState). TurnsTo x cpu after) same turns,
+      λ w shows. (let r = richly_kept new after refilled cpu n refills kept w shows in (r.0, r.2, (n, r.1, r.3, r.4))),
+    )
+
+-- its turns, and steps that are given behind them
+gift_last : (cs : List ℕ) (w y : World) (jobs : List Task) → RunsSchedule w cs y → AsRich y.jobs jobs → RunsFreely w cs (with_jobs y jobs)
+gift_last [] w y jobs runs rich = (jobs, subst (λ (x : World). AsRich x.jobs jobs) runs rich, ap (λ (x : World). with_jobs x jobs) runs)
+gift_last (c ∷ cs) w y jobs (answer, m, progress, runs) rich = (w.jobs, answer, m, all_same w.jobs, progress, gift_last cs m y jobs runs rich)
+
+pub led_freely : (restored after refilled : MachineState) (cpu : ℕ) (cs : List ℕ) → ((w : World) → Shows restored w → (z : World) × RunsSchedule w cs z × Shows after z) → IsRefilled after cpu refilled
+    → (w : World) → Shows restored w → (z : World) × RunsFreely w cs z × Shows refilled z
+led_freely restored after refilled cpu cs runs refills w shows =
+    let r = runs w shows in
+    let s = refilled_shows after refilled cpu refills r.0 r.2 in
+    (with_jobs r.0 s.0, gift_last cs w r.0 s.0 r.1 s.1, s.2)

@@ -98,7 +98,7 @@ module _ (kept : List MachineState) (m : MachineState) (names : List (List ℕ))
       same_stop z.store r.0.store z.jobs r.0.jobs names maps text found.stopped stopped count other.2 (ended_in r.0 shows) tells (tells_in r.0 shows)
 
 -- ---- jobs that have ended
-this_part : (parts : List Task) (numbers : List ℕ) (n : ℕ) (part : Task) → n < length numbers → slice_index_or numbers n 0 < length parts → part ≡ slice_index_or parts (slice_index_or numbers n 0) part → (task : Task) → slice_get (chosen parts numbers) n ≡ Some task → part ≡ task
+pub this_part : (parts : List Task) (numbers : List ℕ) (n : ℕ) (part : Task) → n < length numbers → slice_index_or numbers n 0 < length parts → part ≡ slice_index_or parts (slice_index_or numbers n 0) part → (task : Task) → slice_get (chosen parts numbers) n ≡ Some task → part ≡ task
 this_part parts numbers n part inside within read task at =
     let two : Some (chosen_at parts numbers n) ≡ Some task = sym (chosen_is parts numbers n inside) ∙ at in
     let one : chosen_at parts numbers n ≡ task = cc in

@@ -1,8 +1,11 @@
 -- Machines that a search keeps.
-use Rattle.std.specs.Prelude.{◌≡◌, ℕ, ◌<◌, List, Some, length, slice_get}
+use Rattle.std.specs.Prelude.{◌≡◌, ℕ, ◌<◌, ◌≤◌, List, Some, length, slice_get}
+use Rattle.bpf_cpu.specs.Task.{Task}
 use Rattle.bpf_machine.specs.Schedule.{World, RunsSchedule}
 use Rattle.bpf_machine.specs.Rounds.{HaveEnded}
 use Rattle.bpf_machine.specs.Machine.{MachineState, Shows}
+use Rattle.bpf_machine.specs.Patient.{NoneRanOut}
+use Rattle.bpf_machine.specs.Ends.{RunsFreely}
 
 -- a machine to work with, and the kept ones
 pub record AlbumState : Type 0 where
@@ -18,19 +21,47 @@ ShowsFirst kept m = (one : MachineState) × (slice_get kept 0 ≡ Some one)
 abbrev pub IsShownAt : List MachineState → ℕ → World → Type 0
 IsShownAt kept i w = (m : MachineState) × (slice_get kept i ≡ Some m) × Shows m w
 
+-- all that the machine shows, the i-th kept machine shows
+abbrev pub IsKeptAt : List MachineState → ℕ → MachineState → Type 0
+IsKeptAt kept i m = (one : MachineState) × (slice_get kept i ≡ Some one)
+    × ((w : World) → Shows m w → Shows one w)
+
 -- no world is shown by two of them
 abbrev pub AreApart : List MachineState → Type 0
 AreApart kept = (i j : ℕ) (w : World) → IsShownAt kept i w → IsShownAt kept j w → i ≡ j
+
+-- runs of this kind lead by the schedule from what the i-th shows to what the j-th shows
+abbrev pub LeadsThrough : (World → List ℕ → World → Type 0) → List MachineState → ℕ → List ℕ → ℕ
+    → Type 0
+LeadsThrough runs kept i schedule j = (w : World) → IsShownAt kept i w
+    → (z : World) × runs w schedule z × IsShownAt kept j z
 
 -- the schedule leads from what the i-th shows to what the j-th shows
 abbrev pub LeadsFrom : List MachineState → ℕ → List ℕ → ℕ → Type 0
 LeadsFrom kept i schedule j = (w : World) → IsShownAt kept i w
     → (z : World) × RunsSchedule w schedule z × IsShownAt kept j z
 
+-- so it does where jobs in hand may be given more steps on the way
+abbrev pub LeadsFreely : List MachineState → ℕ → List ℕ → ℕ → Type 0
+LeadsFreely kept i schedule j = LeadsThrough RunsFreely kept i schedule j
+
 -- some schedule leads to each from the first
 abbrev pub AreLed : List MachineState → Type 0
 AreLed kept = (i : ℕ) → i < length kept → (schedule : List ℕ) × LeadsFrom kept 0 schedule i
 
+-- so it does where jobs are given steps
+abbrev pub AreLedFreely : List MachineState → Type 0
+AreLedFreely kept = (i : ℕ) → i < length kept → (schedule : List ℕ) × LeadsFreely kept 0 schedule i
+
 -- each job of the i-th has an outcome
 abbrev pub HaveEndedAt : List MachineState → ℕ → Type 0
 HaveEndedAt kept i = (m : MachineState) → slice_get kept i ≡ Some m → HaveEnded m.jobs
+
+-- none of its jobs has ended out of budget
+abbrev pub NoneRanOutAt : List MachineState → ℕ → Type 0
+NoneRanOutAt kept i = (m : MachineState) → slice_get kept i ≡ Some m → NoneRanOut m.jobs
+
+-- each job of the kept machines has so many steps in its budget
+abbrev pub HaveBudgets : List MachineState → ℕ → Type 0
+HaveBudgets kept least = (i j : ℕ) (m : MachineState) (task : Task) → slice_get kept i ≡ Some m
+    → slice_get m.jobs j ≡ Some task → least ≤ task.budget

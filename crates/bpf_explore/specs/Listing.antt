@@ -2,6 +2,8 @@
 use Rattle.std.specs.Prelude.{ℕ, zero, suc, ◌++◌, Bool, List, [], codes, length, slice_index_or, if◌then◌else◌, false}
 use Rattle.std.specs.Fmt.{decimal}
 use Rattle.bpf_schedule.specs.Spelling.{runs_text}
+use Rattle.bpf_explore.specs.declared.budgets.Budgets.{Budgets}
+use Rattle.bpf_explore.specs.declared.budgets.Budgets.TheVariants.{Suffice, RunOut, Unknown}
 use Rattle.bpf_explore.specs.Outcomes.{Found}
 
 -- the schedule on a line, and then what is told
@@ -33,3 +35,23 @@ last_line all outcomes states = all_text all ++ counts_text outcomes states
 abbrev pub explored_text : List Found → Bool → ℕ → List ℕ
 explored_text answers all states =
     answers_text (length answers) answers ++ last_line all (length answers) states
+
+-- ---- after a patient search
+abbrev pub hung_text : List (ℕ × ℕ) → List ℕ
+hung_text by = codes "hung by" ++ runs_text (length by) by ++ codes "\n"
+
+-- the first n of them
+abbrev pub hung_lines : ℕ → List (List (ℕ × ℕ)) → List ℕ
+hung_lines zero hung = []
+hung_lines (suc n) hung = hung_lines n hung ++ hung_text (slice_index_or hung n [])
+
+-- whether some schedule uses a budget up
+abbrev pub budgets_text : Budgets → List ℕ
+budgets_text Suffice = []
+budgets_text RunOut = codes "budgets can run out\n"
+budgets_text Unknown = codes "budgets may run out\n"
+
+abbrev pub patient_text : List Found → List (List (ℕ × ℕ)) → Budgets → Bool → ℕ → List ℕ
+patient_text answers hung budgets all states =
+    ((answers_text (length answers) answers ++ hung_lines (length hung) hung)
+    ++ budgets_text budgets) ++ last_line all (length answers) states

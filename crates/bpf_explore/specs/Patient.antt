@@ -1,5 +1,5 @@
 -- Outcomes in which no job is out of budget.
-use Rattle.std.specs.Prelude.{◌≡◌, ℕ, ◌<◌, Bool, true, List, Some, slice_get}
+use Rattle.std.specs.Prelude.{◌≡◌, ℕ, ◌<◌, ◌⊎◌, Bool, true, false, List, [], Some, length, slice_get}
 use Rattle.std.specs.declared.cmp.Ordering.TheVariants.{Less}
 use Rattle.std.specs.Ordering.{nat_cmp}
 use Rattle.std.specs.Cmp.Lexicographic.{slice_cmp}
@@ -9,7 +9,11 @@ use Rattle.bpf_machine.specs.Laws.{IsFresh}
 use Rattle.bpf_machine.specs.Machine.{MachineState}
 use Rattle.bpf_machine.specs.Cover.{IsShown}
 use Rattle.bpf_machine.specs.Patient.{NoneRanOut}
+use Rattle.bpf_machine.specs.Ends.{RunsFreely, CanEnd, IsHung}
+use Rattle.bpf_machine.specs.Budgets.{MayRunOut}
 use Rattle.bpf_jobs.specs.Printed.{Tells}
+use Rattle.bpf_explore.specs.declared.budgets.Budgets.{Budgets}
+use Rattle.bpf_explore.specs.declared.budgets.Budgets.TheVariants.{Suffice, RunOut}
 use Rattle.bpf_explore.specs.Outcomes.{Found, IsTold}
 use Rattle.bpf_explore.specs.Search.{CoversAll}
 use Rattle.bpf_explore.specs.Laws.{IsAnswered}
@@ -40,11 +44,43 @@ pub record ArePatient (w : World) (names : List (List ℕ)) (maps : Bool) (answe
   pub sorted : (i j : ℕ) (found later : Found) → i < j → slice_get answers i ≡ Some found
       → slice_get answers j ≡ Some later → slice_cmp nat_cmp found.text later.text ≡ Less
 
--- the answers of a patient search, and whether they are all
+-- schedules lead to so many machines, of which no two are the same, where jobs in hand are given steps
+-- on the way
+pub record AreReachedFreely (w : World) (states : ℕ) : Type 0 where
+  pub worlds : List World
+  pub count : length worlds ≡ states
+  pub reached : (i : ℕ) (z : World) → slice_get worlds i ≡ Some z
+      → (schedule : List ℕ) × RunsFreely w schedule z
+  pub apart : (i j : ℕ) (z : World) → slice_get worlds i ≡ Some z → slice_get worlds j ≡ Some z
+      → i ≡ j
+
+-- ---- states from which no end can be reached
+-- the schedule leads to one, and no job has run out of budget there
+abbrev pub HangsBy : World → List (ℕ × ℕ) → Type 0
+HangsBy w by = (z : World) × RunsSchedule w (unrolled by) z × NoneRanOut z.jobs × IsHung z
+
+abbrev pub AreHung : World → List (List (ℕ × ℕ)) → Type 0
+AreHung w hung = (i : ℕ) (by : List (ℕ × ℕ)) → slice_get hung i ≡ Some by → HangsBy w by
+
+-- from all that schedules lead to before some job runs out of budget an end can be reached
+abbrev pub NoneHangs : World → Type 0
+NoneHangs w = (schedule : List ℕ) (z : World) → RunsSchedule w schedule z → NoneRanOut z.jobs
+    → CanEnd z
+
+-- ---- the result of a patient search: the answers, whether they are all, how many states were kept,
+-- hung states, and whether some schedule uses a budget up. Not all are told only where the states are
+-- more than the limit, or some schedule does
 pub record IsExploredPatiently (w : World) (names : List (List ℕ)) (maps : Bool)
-    (answers : List Found) (all : Bool) : Type 0 where
+    (answers : List Found) (all : Bool) (limit states : ℕ) (hung : List (List (ℕ × ℕ)))
+    (budgets : Budgets) : Type 0 where
   pub outcomes : ArePatient w names maps answers
   pub complete : all ≡ true → HaveAllPatient w names maps answers
+  pub counted : AreReachedFreely w states
+  pub met : all ≡ false → (limit < states) ⊎ MayRunOut w
+  pub are_hung : AreHung w hung
+  pub none_hangs : all ≡ true → hung ≡ [] → NoneHangs w
+  pub suffice : budgets ≡ Suffice → MayRunOut w → ⊥
+  pub run_out : budgets ≡ RunOut → MayRunOut w
 
 -- where kept machines cover all schedules in which no job runs out of budget, and what is told of each
 -- of them that has no work is an answer, no outcome in which no job is out of budget is left out

@@ -5,3 +5,8 @@ pub mod Album
 pub mod Trail
 pub mod Answers
 pub mod Patience
+pub mod Edges
+pub mod Replays
+pub mod Ends
+pub mod Hung
+pub mod Depths

@@ -1,12 +1,14 @@
 //! Machines that a search keeps: each store and each job once, and of each machine their numbers.
 
-ghost use Rattle.std.specs.Prelude.{◌≡◌, ◌<◌, ◌≤◌, ◌++◌, ◌∷◌, ◌⊎◌, List, [], ℕ, true, false, All, IfOk, OnOk, drop, length, slice_index_or};
+ghost use Rattle.std.specs.Prelude.{◌≡◌, ◌<◌, ◌≤◌, ◌++◌, ◌∷◌, ◌⊎◌, List, [], ℕ, true, false, Some, All, IfOk, OnOk, drop, length, slice_get, slice_index_or};
 ghost use Rattle.bpf_cpu.specs.Task.{Task};
 ghost use Rattle.bpf_plain.specs.PlainStore.{IsSavedAs};
 ghost use Rattle.bpf_machine.specs.Parts.{chosen};
 ghost use Rattle.bpf_machine.specs.Rounds.{HaveEnded};
+ghost use Rattle.bpf_machine.specs.Hands.{IsFree, NoneWaits};
+ghost use Rattle.bpf_machine.specs.Patient.{NoneRanOut};
 ghost use Rattle.bpf_explore.specs.Stores.{IsOfShape, no_store};
-ghost use Rattle.bpf_explore.specs.Private.Album.{AreKeptUnder, AreNumbersOf, IsNumberOf};
+ghost use Rattle.bpf_explore.specs.Private.Album.{AreKeptUnder, AreNumbersOf, HasEndedOn, IsNumberOf};
 
 use crate::parts::Parts;
 use crate::stores::Stores;
@@ -142,6 +144,51 @@ fn have_ended(parts: &[KeptJob], numbers: &[u32]) -> bool
     true
 }
 
+/// Whether none of the jobs that have these numbers has ended out of budget.
+fn none_ran_out(parts: &[KeptJob], numbers: &[u32]) -> bool
+    requires { All (λ n. n < length parts.now) numbers.now }
+    ensures { result ≡ true → NoneRanOut (chosen parts.now numbers.now) }
+{
+    for job in 0..numbers.len() {
+        if parts[numbers[job] as usize].is_out_of_budget() {
+            return false;
+        }
+    }
+    true
+}
+
+/// Whether a job is a CPU's, and hasn't ended.
+fn is_open(part: &KeptJob, cpu: u8) -> bool
+    ensures { result ≡ false → HasEndedOn cpu part.now }
+{
+    part.cpu() == cpu && !part.has_ended()
+}
+
+/// Whether some of the jobs that have these numbers is.
+fn has_work(parts: &[KeptJob], numbers: &[u32], cpu: u8) -> bool
+    requires { All (λ n. n < length parts.now) numbers.now }
+    ensures { result ≡ false → IsFree (chosen parts.now numbers.now) cpu
+        × NoneWaits (chosen parts.now numbers.now) cpu }
+{
+    for job in 0..numbers.len() {
+        if is_open(&parts[numbers[job] as usize], cpu) {
+            return true;
+        }
+    }
+    false
+}
+
+/// The least budget of these jobs, if there are any.
+fn least_budget(parts: &[KeptJob]) -> u64
+    ensures { (n : ℕ) (task : Task) → slice_get parts.now n ≡ Some task → result ≤ task.budget }
+{
+    let mut least = u64::MAX;
+    for part in parts {
+        least = least.min(part.budget());
+    }
+    least
+}
+
 /// Machines of one host, each under its number, in the order in which they came, and one to work
 /// with.
 #[derive(Drop)]
@@ -186,11 +233,11 @@ impl Album {
     ghost use Rattle.std.specs.Prelude.{◌≡◌, ◌<◌, ◌≤◌, ◌∷◌, ℕ, [], true, false, IfOk, OnOk, Some, None, length, replicate, slice_get};
     ghost use Rattle.bpf_machine.specs.Machine.{Shows};
     ghost use Rattle.bpf_machine.specs.Schedule.{World, RunsSchedule, unrolled};
-    ghost use Rattle.bpf_machine.specs.Cover.{TurnsTo, IsKeptAs};
+    ghost use Rattle.bpf_machine.specs.Cover.{TurnsTo, TurnsAhead};
     ghost use Rattle.bpf_machine.specs.Patient.{IsRefilled};
     ghost use Rattle.bpf_explore.specs.Search.{IsIdleAt};
     ghost use Rattle.bpf_explore.specs.Stores.{IsOfShape};
-    ghost use Rattle.bpf_explore.specs.Album.{ShowsFirst, AreApart, HaveEndedAt};
+    ghost use Rattle.bpf_explore.specs.Album.{ShowsFirst, IsKeptAt, AreApart, HaveEndedAt, NoneRanOutAt, HaveBudgets};
     ghost use Rattle.bpf_explore.specs.Private.Album.{AddsOne};
 
     /// Nothing is kept yet.
@@ -245,6 +292,7 @@ impl Album {
     /// One turn of a CPU, and then its turns that no store sees. How many of these.
     pub fn turn_ahead(&mut self, cpu: u8) -> u64
         ensures turns { TurnsTo self.old.machine cpu self.new.machine }
+        ensures ahead { TurnsAhead self.old.machine cpu result self.new.machine }
         ensures runs { (w : World) → Shows self.old.machine w → (z : World)
             × RunsSchedule w (cpu ∷ replicate result cpu) z × Shows self.new.machine z }
         ensures same { self.new.kept ≡ self.old.kept }
@@ -270,9 +318,9 @@ impl Album {
         self.machine.turns_by(runs)
     }
 
-    /// Keeps the machine, unless one that shows all that it shows is found.
-    pub(crate) fn keep(&mut self) -> Result<(), AllocError>
-        ensures kept { OnOk result (IsKeptAs self.new.kept self.new.machine) }
+    /// Keeps the machine, unless one that shows all that it shows is found. Under which number.
+    pub(crate) fn keep(&mut self) -> Result<usize, AllocError>
+        ensures kept { IfOk result (λ n. IsKeptAt self.new.kept n self.new.machine) }
         ensures adds { AddsOne self.old.kept self.old.machine self.new.kept }
         ensures same { self.new.machine ≡ self.old.machine }
     {
@@ -286,8 +334,8 @@ impl Album {
             &mut self.bytes,
             &mut self.numbers,
         )?;
-        self.states.keep(self.alloc, &self.numbers)?;
-        Ok(())
+        let number = self.states.keep(self.alloc, &self.numbers)?;
+        Ok(number)
     }
 
     /// How many CPUs there are: those of the numbers below it.
@@ -304,6 +352,33 @@ impl Album {
         ensures works { result ≡ false → HaveEndedAt self.now.kept place → ⊥ }
     {
         have_ended(self.parts.jobs(), behind_first(self.states.tuple(place)))
+    }
+
+    /// Whether no job of a kept machine has ended out of budget.
+    pub fn none_ran_out(&self, place: usize) -> bool
+        requires { place < length self.now.kept }
+        ensures { result ≡ true → NoneRanOutAt self.now.kept place }
+    {
+        none_ran_out(self.parts.jobs(), behind_first(self.states.tuple(place)))
+    }
+
+    /// Whether a CPU has work in a kept machine.
+    pub fn has_work(&self, place: usize, cpu: u8) -> bool
+        requires { place < length self.now.kept }
+        ensures { result ≡ false → IsIdleAt self.now.kept place cpu }
+    {
+        has_work(
+            self.parts.jobs(),
+            behind_first(self.states.tuple(place)),
+            cpu,
+        )
+    }
+
+    /// A number of steps that each job of a kept machine has in its budget.
+    pub fn least_budget(&self) -> u64
+        ensures { HaveBudgets self.now.kept result }
+    {
+        least_budget(self.parts.jobs())
     }
 
     /// No world is shown by two of the kept machines.

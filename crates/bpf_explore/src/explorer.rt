@@ -56,6 +56,7 @@ pub struct Explorer {
 }
 
 impl Model for Explorer {
+    ghost use Rattle.bpf_machine.specs.Schedule.{RunsSchedule};
     ghost use Rattle.bpf_explore.specs.Album.{AlbumState};
     ghost use Rattle.bpf_explore.specs.Private.Trail.{AreOrigins};
 
@@ -63,7 +64,7 @@ impl Model for Explorer {
 
     ghost view = { λ e. e.album };
 
-    ghost invariant = { λ e. AreOrigins e.album.kept e.origins.items };
+    ghost invariant = { λ e. AreOrigins RunsSchedule e.album.kept e.origins.items };
 }
 
 impl Explorer {

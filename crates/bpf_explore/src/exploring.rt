@@ -1,15 +1,19 @@
 //! Every outcome of jobs: the search from a shape and its jobs to the answers.
 
-ghost use Rattle.std.specs.Prelude.{◌<◌, ◌≤◌, All, IfOk, map, string_bytes, vec_len};
+ghost use Rattle.std.specs.Prelude.{◌≡◌, ◌<◌, ◌≤◌, [], true, false, All, IfOk, length, map, string_bytes, vec_len};
 ghost use Rattle.bpf_mem.specs.Limits.{max_context};
 ghost use Rattle.bpf_cpu.specs.Task.{waiting};
 ghost use Rattle.bpf_jobs.specs.Printed.{first_world};
 ghost use Rattle.bpf_explore.specs.Outcomes.{IsExplored};
 ghost use Rattle.bpf_explore.specs.Patient.{IsExploredPatiently};
+ghost use Rattle.bpf_explore.specs.Private.Hung.{AllHang, AllLead};
+ghost use Rattle.bpf_explore.specs.Private.Replays.{CanRunOut, NoneRunsOut};
 
 use crate::answers::{Answer, gather};
+use crate::budgets::{Budgets, judge_budgets};
 use crate::explorer::Explorer;
 use crate::frontier::explore;
+use crate::hung::{Hung, gather_hung};
 use crate::patience::{both, gather_patiently};
 use crate::patient::PatientExplorer;
 use crate::stores::copy_shape;
@@ -64,9 +68,69 @@ pub fn explore_jobs(
     })
 }
 
+/// What jobs may come to, but for how many steps are left of budgets.
+#[derive(Drop)]
+pub struct ExploredPatiently {
+    /// Outcomes in which no job is out of budget, in the order of their texts' bytes, none twice.
+    pub answers: Vec<Answer>,
+    /// Whether none of them is left out.
+    pub all: bool,
+    /// How many states were kept, no two of them the same.
+    pub states: usize,
+    /// States from which no end can be reached, each but for those that it leads to.
+    pub hung: Vec<Hung>,
+    /// Whether some schedule uses a budget up.
+    pub budgets: Budgets,
+}
+
+/// What is hung, and whether a schedule to it uses a budget up: nothing is told where states are
+/// left out.
+fn find_hung(
+    alloc: Global,
+    explorer: &mut PatientExplorer,
+    whole: bool,
+) -> Result<(Vec<Hung>, bool), AllocError>
+    ensures same { explorer.new.kept ≡ explorer.old.kept }
+    ensures hung { IfOk result (λ r. AllHang explorer.old.kept r.0.items) }
+    ensures ends { IfOk result (λ r. whole ≡ true → r.1 ≡ true → r.0.items ≡ []
+        → AllLead explorer.old.kept) }
+    ensures out { IfOk result (λ r. r.1 ≡ false → CanRunOut explorer.old.kept) }
+{
+    if whole {
+        gather_hung(alloc, explorer)
+    } else {
+        Ok((Vec::new(alloc), true))
+    }
+}
+
+/// Whether some schedule uses a budget up, where it is known that one does, or that no states are
+/// left out.
+fn find_budgets(
+    alloc: Global,
+    explorer: &mut PatientExplorer,
+    whole: bool,
+    fit: bool,
+) -> Result<Budgets, AllocError>
+    requires first { 0 < length explorer.old.kept }
+    requires out { fit ≡ false → CanRunOut explorer.old.kept }
+    ensures same { explorer.new.kept ≡ explorer.old.kept }
+    ensures suffice { IfOk result (λ b. b ≡ Budgets.Suffice → NoneRunsOut explorer.old.kept) }
+    ensures out { IfOk result (λ b. b ≡ Budgets.RunOut → CanRunOut explorer.old.kept) }
+{
+    if !fit {
+        return Ok(Budgets::RunOut);
+    }
+    if whole {
+        judge_budgets(alloc, explorer)
+    } else {
+        Ok(Budgets::Unknown)
+    }
+}
+
 /// The same of outcomes in which no job is out of budget: machines that differ only in how many
-/// steps are left of budgets count as one. Where a schedule that was found for an outcome doesn't
-/// lead there with the budgets that jobs have, the outcomes aren't all.
+/// steps are left of budgets count as one. The outcomes aren't all where more than `limit` are
+/// kept, or where a schedule that was found uses a budget up. Besides, states from which no end can
+/// be reached, however many steps jobs are given, and whether some schedule uses a budget up.
 pub fn explore_patiently(
     alloc: Global,
     shape: StoreShape,
@@ -75,25 +139,34 @@ pub fn explore_patiently(
     jobs: Vec<Job>,
     maps: bool,
     limit: usize,
-) -> Result<Explored, AllocError>
+) -> Result<ExploredPatiently, AllocError>
     requires cpus { All (λ job. job.cpu < shape.cpus) jobs.items }
     requires programs { All (λ job. job.program < vec_len programs) jobs.items }
     requires contexts { All (λ job. vec_len job.context ≤ max_context) jobs.items }
     ensures { IfOk result (λ e. IsExploredPatiently
         (first_world shape programs.items (map waiting jobs.items))
-        (map string_bytes names.now) maps e.answers.items e.all) }
+        (map string_bytes names.now) maps e.answers.items e.all limit e.states
+        e.hung.items e.budgets) }
 {
     crate::laws::patient_tell_all();
+    bpf_machine::laws::all_can_end();
     let copy = copy_shape(alloc, &shape)?;
     let machine = make_machine(alloc, copy, programs, jobs)?;
     let mut explorer = PatientExplorer::new(alloc, shape, machine)?;
     let whole = explore(&mut explorer, limit)?;
+    explorer.leads();
+    explorer.apart();
     let (answers, told) = gather_patiently(alloc, &mut explorer, names, maps)?;
+    let (hung, fit) = find_hung(alloc, &mut explorer, whole)?;
+    let all_fit = both(told, fit);
+    let budgets = find_budgets(alloc, &mut explorer, whole, all_fit)?;
+    let all = both(whole, all_fit);
     let states = explorer.len();
-    let all = both(whole, told);
-    Ok(Explored {
+    Ok(ExploredPatiently {
         answers,
         all,
         states,
+        hung,
+        budgets,
     })
 }

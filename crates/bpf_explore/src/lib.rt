@@ -3,24 +3,32 @@
 
 mod album;
 mod answers;
+mod budgets;
+mod depths;
+mod ends;
 mod explorer;
 mod exploring;
 mod frontier;
+mod hung;
 pub mod laws;
 mod listing;
 mod parts;
 mod patience;
 mod patient;
+mod replays;
+mod rounds;
 mod slots;
 mod stores;
 mod tuples;
 
 pub use album::Album;
 pub use answers::{Answer, is_any_stopped};
+pub use budgets::Budgets;
 pub use explorer::Explorer;
-pub use exploring::{Explored, explore_jobs, explore_patiently};
+pub use exploring::{Explored, ExploredPatiently, explore_jobs, explore_patiently};
 pub use frontier::{Frontier, explore};
-pub use listing::list_explored;
+pub use hung::Hung;
+pub use listing::{list_explored, list_patient};
 pub use parts::Parts;
 pub use patient::PatientExplorer;
 pub use stores::{Stores, copy_shape};

@@ -1,10 +1,12 @@
 //! Answers as they are printed.
 
-ghost use Rattle.std.specs.Prelude.{◌≡◌, ◌++◌, IfOk, OnOk, string_bytes};
-ghost use Rattle.bpf_explore.specs.Listing.{all_text, answer_text, counts_text, explored_text, last_line};
+ghost use Rattle.std.specs.Prelude.{◌≡◌, ◌++◌, IfOk, OnOk, length, string_bytes};
+ghost use Rattle.bpf_explore.specs.Listing.{all_text, answer_text, answers_text, budgets_text, counts_text, explored_text, hung_lines, hung_text, last_line, patient_text};
 
 use crate::answers::Answer;
-use crate::exploring::Explored;
+use crate::budgets::Budgets;
+use crate::exploring::{Explored, ExploredPatiently};
+use crate::hung::Hung;
 use bpf_schedule::push_runs;
 use std::alloc::{AllocError, Global};
 
@@ -57,15 +59,78 @@ fn push_last(
     Ok(())
 }
 
+/// Puts answers, each behind its schedule, behind the text.
+fn push_answers(alloc: Global, text: &mut String, answers: &[Answer]) -> Result<(), AllocError>
+    ensures { OnOk result (string_bytes text.new
+        ≡ string_bytes text.old ++ answers_text (length answers.now) answers.now) }
+{
+    for answer in answers {
+        push_answer(alloc, text, answer)?;
+    }
+    Ok(())
+}
+
 /// The answers, each behind its schedule, and a line that says whether they are all.
 pub fn list_explored(alloc: Global, explored: &Explored) -> Result<String, AllocError>
     ensures { IfOk result (λ text. string_bytes text ≡ explored_text explored.now.answers.items
         explored.now.all explored.now.states) }
 {
     let mut text = String::new(alloc);
-    for answer in &explored.answers {
-        push_answer(alloc, &mut text, answer)?;
+    push_answers(alloc, &mut text, &explored.answers)?;
+    let outcomes = explored.answers.len();
+    push_last(alloc, &mut text, explored.all, outcomes, explored.states)?;
+    Ok(text)
+}
+
+/// Puts the schedule to a hung state behind the text.
+fn push_hung(alloc: Global, text: &mut String, hung: &Hung) -> Result<(), AllocError>
+    ensures { OnOk result (string_bytes text.new ≡ string_bytes text.old ++ hung_text hung.now) }
+{
+    text.push_str("hung by")?;
+    push_runs(alloc, text, hung.by())?;
+    text.push_str("\n")
+}
+
+/// The same of each.
+fn push_all_hung(alloc: Global, text: &mut String, hung: &[Hung]) -> Result<(), AllocError>
+    ensures { OnOk result (string_bytes text.new
+        ≡ string_bytes text.old ++ hung_lines (length hung.now) hung.now) }
+{
+    for found in hung {
+        push_hung(alloc, text, found)?;
     }
+    Ok(())
+}
+
+/// Whether some schedule uses a budget up.
+fn budgets_text(budgets: Budgets) -> &'static str
+    ensures { result.now ≡ budgets_text budgets }
+{
+    match budgets {
+        Budgets::Suffice => "",
+        Budgets::RunOut => "budgets can run out\n",
+        Budgets::Unknown => "budgets may run out\n",
+    }
+}
+
+/// Puts that behind the text.
+fn push_budgets(text: &mut String, budgets: Budgets) -> Result<(), AllocError>
+    ensures { OnOk result (string_bytes text.new
+        ≡ string_bytes text.old ++ budgets_text budgets) }
+{
+    text.push_str(budgets_text(budgets))
+}
+
+/// The answers of a patient search, each behind its schedule, a line for each hung state, one where
+/// budgets run out, and one that says whether the answers are all.
+pub fn list_patient(alloc: Global, explored: &ExploredPatiently) -> Result<String, AllocError>
+    ensures { IfOk result (λ text. string_bytes text ≡ patient_text explored.now.answers.items
+        explored.now.hung.items explored.now.budgets explored.now.all explored.now.states) }
+{
+    let mut text = String::new(alloc);
+    push_answers(alloc, &mut text, &explored.answers)?;
+    push_all_hung(alloc, &mut text, &explored.hung)?;
+    push_budgets(&mut text, explored.budgets)?;
     let outcomes = explored.answers.len();
     push_last(alloc, &mut text, explored.all, outcomes, explored.states)?;
     Ok(text)

@@ -1,15 +1,17 @@
 //! Answers of a patient search, each tried by its schedule, with the budgets that jobs have.
 
-ghost use Rattle.std.specs.Prelude.{◌≡◌, ◌<◌, ℕ, Bool, List, true, Some, IfOk, IfSome, OnOk, length, map, slice_get, string_bytes};
+ghost use Rattle.std.specs.Prelude.{◌≡◌, ◌<◌, ◌⊎◌, ℕ, Bool, List, true, false, Some, IfOk, IfSome, IfNone, OnOk, length, map, slice_get, string_bytes};
 ghost use Rattle.bpf_machine.specs.Patient.{NoneRanOut};
 ghost use Rattle.bpf_machine.specs.Rounds.{HaveEnded};
 ghost use Rattle.bpf_machine.specs.Schedule.{World};
 ghost use Rattle.bpf_explore.specs.Patient.{ArePatient, EndsPatiently};
 ghost use Rattle.bpf_explore.specs.Private.Answers.{AreSorted, IsFirst, KeepsAll, IsPlaceOf, IsAnsweredAt};
 ghost use Rattle.bpf_explore.specs.Private.Patience.{AllEndPatiently, TellsAt};
+ghost use Rattle.bpf_explore.specs.Private.Replays.{CanRunOut};
 
 use crate::answers::{Answer, place_of};
 use crate::patient::PatientExplorer;
+use crate::replays::replay;
 use bpf_cpu::Outcome;
 use bpf_jobs::{Report, tell};
 use bpf_machine::Machine;
@@ -29,8 +31,9 @@ fn have_ended_well(machine: &Machine) -> bool
     true
 }
 
-/// What a schedule leads to from the first machine, if no work is left there.
-fn replay(
+/// What a schedule leads to from the first machine; `None` where it uses a budget up. One that
+/// leaves work counts as want of memory.
+fn tell_replayed(
     alloc: Global,
     explorer: &mut PatientExplorer,
     names: &[String],
@@ -42,11 +45,13 @@ fn replay(
     ensures ends { IfOk result (λ found. IfSome found (λ answer.
         (w : World) → IsFirst explorer.old.kept w
         → EndsPatiently w (map string_bytes names.now) maps answer)) }
+    ensures out { IfOk result (λ found. IfNone found (CanRunOut explorer.old.kept)) }
 {
-    explorer.restore(0)?;
-    explorer.turns_by(&by);
-    if !have_ended_well(explorer.machine()) {
+    if replay(explorer, &by)? {
         return Ok(None);
+    }
+    if !have_ended_well(explorer.machine()) {
+        return Err(AllocError);
     }
     let Report { text, stopped } = tell(alloc, explorer.machine(), names, maps)?;
     Ok(Some(Answer::new(text, stopped, by)))
@@ -85,7 +90,8 @@ fn put_patiently(answers: &mut Vec<Answer>, at: usize, answer: Answer) -> Result
     Ok(())
 }
 
-/// The answer that tells what a report tells, if the schedule that leads to a kept machine does.
+/// The answer that tells what a report tells, by the schedule that leads to a kept machine; `None`
+/// where it uses a budget up. Where it tells something else, that counts as want of memory.
 fn witness(
     alloc: Global,
     explorer: &mut PatientExplorer,
@@ -94,27 +100,28 @@ fn witness(
     place: usize,
     report: &Report,
 ) -> Result<Option<Answer>, AllocError>
-    requires { 0 < length explorer.old.kept }
+    requires { place < length explorer.old.kept }
     ensures same { explorer.new.kept ≡ explorer.old.kept }
     ensures tells { IfOk result (λ found. IfSome found (λ answer.
         (answer.text ≡ string_bytes report.now.text) × (answer.stopped ≡ report.now.stopped))) }
     ensures ends { IfOk result (λ found. IfSome found (λ answer.
         (w : World) → IsFirst explorer.old.kept w
         → EndsPatiently w (map string_bytes names.now) maps answer)) }
+    ensures out { IfOk result (λ found. IfNone found (CanRunOut explorer.old.kept)) }
 {
     let by = explorer.way(place)?;
-    let Some(answer) = replay(alloc, explorer, names, maps, by)? else {
+    let Some(answer) = tell_replayed(alloc, explorer, names, maps, by)? else {
         return Ok(None);
     };
     if tells_same(&answer, report) {
         Ok(Some(answer))
     } else {
-        Ok(None)
+        Err(AllocError)
     }
 }
 
 /// Puts what is told of a kept machine among the answers, if it has no work and if that isn't one
-/// of them yet. Whether it is one then.
+/// of them yet. Whether it is one then: not where the schedule to it uses a budget up.
 fn answer_at(
     alloc: Global,
     explorer: &mut PatientExplorer,
@@ -133,6 +140,7 @@ fn answer_at(
         → AllEndPatiently w (map string_bytes names.now) maps answers.new.items }
     ensures answered { IfOk result (λ answered. answered ≡ true → IsAnsweredAt explorer.old.kept
         (map string_bytes names.now) maps answers.new.items place) }
+    ensures out { IfOk result (λ answered. answered ≡ false → CanRunOut explorer.old.kept) }
 {
     if !explorer.has_ended(place) {
         return Ok(true);
@@ -140,7 +148,13 @@ fn answer_at(
     explorer.restore(place)?;
     let report = tell(alloc, explorer.machine(), names, maps)?;
     match place_of(answers, report.text.as_str()) {
-        Ok(at) => Ok(is_told_at(answers, at, &report)),
+        Ok(at) => {
+            if is_told_at(answers, at, &report) {
+                Ok(true)
+            } else {
+                Err(AllocError)
+            }
+        }
         Err(at) => {
             let Some(answer) = witness(alloc, explorer, names, maps, place, &report)? else {
                 return Ok(false);
@@ -153,7 +167,8 @@ fn answer_at(
 
 /// Whether both hold.
 pub(crate) fn both(first: bool, second: bool) -> bool
-    ensures { result ≡ true → (first ≡ true) × (second ≡ true) }
+    ensures both { result ≡ true → (first ≡ true) × (second ≡ true) }
+    ensures not { result ≡ false → (first ≡ false) ⊎ (second ≡ false) }
 {
     first && second
 }
@@ -170,6 +185,7 @@ pub(crate) fn gather_patiently(
         → ArePatient w (map string_bytes names.now) maps r.0.items) }
     ensures answered { IfOk result (λ r. r.1 ≡ true → (i : ℕ) → IsAnsweredAt explorer.old.kept
         (map string_bytes names.now) maps r.0.items i) }
+    ensures out { IfOk result (λ r. r.1 ≡ false → CanRunOut explorer.old.kept) }
 {
     let mut answers = Vec::new(alloc);
     let mut whole = true;

@@ -4,7 +4,8 @@ use Rattle.std.specs.Prelude.{◌≡◌, ℕ, zero, suc, ◌+◌, ◌<◌, ◌�
 use Rattle.bpf_shared.specs.Shape.{Shape}
 use Rattle.bpf_plain.specs.PlainStore.{Contents, IsSavedAs}
 use Rattle.bpf_loader.specs.Loaded.{Loaded}
-use Rattle.bpf_cpu.specs.Task.{Task}
+use Rattle.bpf_cpu.specs.declared.outcome.Outcome.{Outcome}
+use Rattle.bpf_cpu.specs.Task.{Task, Ended}
 use Rattle.bpf_machine.specs.Schedule.{World}
 use Rattle.bpf_machine.specs.Machine.{MachineState, Shows}
 use Rattle.bpf_machine.specs.Parts.{CanStand, chosen, made_of, no_task}
@@ -81,3 +82,7 @@ pub record FitsShelf (h : Shape) (s : Shelf) (m : MachineState) : Type 0 where
   pub programs : s.programs ≡ m.programs
   pub width : s.states.width ≡ length m.jobs + 1
   pub lists : m.lists ≡ None
+
+-- a job of the CPU has ended
+abbrev pub HasEndedOn : ℕ → Task → Type 0
+HasEndedOn c task = task.cpu ≡ c → (outcome : Outcome) × (task.stage ≡ Ended outcome)

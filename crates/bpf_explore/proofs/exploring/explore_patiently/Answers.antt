@@ -1,13 +1,16 @@
-use Rattle.std.proofs.Common.{◌≡◌, ◌<◌, map, string_bytes, sym, subst}
+use Rattle.std.proofs.Common.{◌≡◌, ◌∙◌, ◌<◌, ℕ, List, inl, inr, length, map, string_bytes, sym, ap, subst}
 use Rattle.std.specs.Prelude.{All}
 use Rattle.bpf_shared.specs.Shape.{Shape}
 use Rattle.bpf_cpu.specs.declared.job.Job.{Job}
 use Rattle.bpf_cpu.specs.Task.{waiting}
-use Rattle.bpf_machine.specs.Machine.{Shows}
+use Rattle.bpf_machine.specs.Machine.{MachineState, Shows}
 use Rattle.bpf_machine.specs.Schedule.{World}
 use Rattle.bpf_jobs.specs.Printed.{first_world}
+use Rattle.bpf_explore.specs.Patient.{IsExploredPatiently}
 use Rattle.bpf_explore.specs.Stores.{IsOfShape}
-use Rattle.bpf_explore.proofs.ExploreLaws.{first_shape, first_lists_none, first_fresh, still_first}
+use Rattle.bpf_explore.specs.Private.Hung.{AllHang, AllLead}
+use Rattle.bpf_explore.specs.Private.Replays.{CanRunOut, NoneRunsOut}
+use Rattle.bpf_explore.proofs.ExploreLaws.{first_shape, first_lists_none, first_fresh, still_first, still_there}
 use Rattle.bpf_explore.proofs.PatienceLaws.{explored_patiently}
 use Rattle.bpf_explore.proofs.exploring.explore_patiently.Goals as goal
 
@@ -32,16 +35,45 @@ pub new-requires-clause-lists : goal.new-requires-clause-lists
 new-requires-clause-lists c =
     first_lists_none c.in_ok-copy.copy c.in_ok-machine.machine c.args.programs.items (map waiting c.args.jobs.items) c.in_ok-machine.ensures
 
+pub find_budgets-requires-clause-first : goal.find_budgets-requires-clause-first
+find_budgets-requires-clause-first c =
+    let kept = c.explore.new.frontier.kept in
+    let m = c.in_ok-machine.machine in
+    let one = still_there c.in_ok-explorer.explorer.kept kept m c.in_ok-explorer.ensures c.explore.ensures.extends in
+    subst (λ (ms : List MachineState). 0 < length ms) (sym (c.find_hung.ensures.same ∙ c.gather_patiently.ensures.same)) one
+
+pub find_budgets-requires-clause-out : goal.find_budgets-requires-clause-out
+find_budgets-requires-clause-out c is =
+    let gathered = c.gather_patiently.ensures.same in
+    subst CanRunOut (sym (c.find_hung.ensures.same ∙ gathered)) (elim (c.both-all_fit.ensures.not is) [
+      | inl a ↦ c.in_ok-answers.ensures.out a
+      | inr a ↦ subst CanRunOut gathered (c.in_ok-hung.ensures.out a)
+    ])
+
 pub returns : goal.returns
 returns c =
     let same : c.in_ok-copy.copy ≡ c.args.shape = c.in_ok-copy.ensures in
     let m = c.in_ok-machine.machine in
     let programs = c.args.programs.items in
     let jobs = c.args.jobs.items in
+    let names = map string_bytes c.args.names.now in
     let w : World = first_world c.args.shape programs (map waiting jobs) in
     let shows = subst (λ (h : Shape). Shows m (first_world h programs (map waiting jobs))) same c.in_ok-machine.ensures in
     let kept = c.explore.new.frontier.kept in
-    explored_patiently c.patient_tell_all.ensures kept w (map string_bytes c.args.names.now) c.args.maps c.in_ok-answers.answers.items c.in_ok-whole.whole c.in_ok-answers.told c.both-all.result
+    let gathered = c.gather_patiently.ensures.same in
+    let found = c.find_hung.ensures.same ∙ gathered in
+    let hung = c.in_ok-hung.hung.items in
+    let count : c.len-states.result ≡ length kept = c.len-states.ensures ∙ ap (λ (ms : List MachineState). length ms) (c.find_budgets.ensures.same ∙ found) in
+    subst (λ (n : ℕ). IsExploredPatiently w names c.args.maps c.in_ok-answers.answers.items c.both-all.result c.args.limit n hung c.in_ok-budgets.budgets) (sym count)
+    (explored_patiently c.patient_tell_all.ensures c.all_can_end.ensures kept w names c.args.maps c.in_ok-answers.answers.items c.in_ok-whole.whole c.in_ok-answers.told c.in_ok-hung.fit c.both-all_fit.result c.both-all.result c.args.limit hung c.in_ok-budgets.budgets
     (first_fresh c.args.shape m programs jobs c.requires.contexts shows)
     (still_first c.in_ok-explorer.explorer.kept kept m w c.in_ok-explorer.ensures c.explore.ensures.extends shows)
-    c.in_ok-whole.ensures.covers c.in_ok-answers.ensures.outcomes c.in_ok-answers.ensures.answered c.both-all.ensures
+    c.in_ok-whole.ensures.whole c.in_ok-whole.ensures.covers c.in_ok-whole.ensures.met
+    c.in_ok-answers.ensures.outcomes c.in_ok-answers.ensures.answered c.in_ok-answers.ensures.out
+    (subst (λ (ms : List MachineState). AllHang ms hung) gathered c.in_ok-hung.ensures.hung)
+    (λ is fits none. subst AllLead gathered (c.in_ok-hung.ensures.ends is fits none))
+    (λ is. subst CanRunOut gathered (c.in_ok-hung.ensures.out is))
+    c.both-all_fit.ensures.both c.both-all_fit.ensures.not c.both-all.ensures.both c.both-all.ensures.not
+    (λ is. subst NoneRunsOut found (c.in_ok-budgets.ensures.suffice is))
+    (λ is. subst CanRunOut found (c.in_ok-budgets.ensures.out is))
+    c.leads.ensures c.apart.ensures)

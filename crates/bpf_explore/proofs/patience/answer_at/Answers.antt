@@ -1,4 +1,4 @@
-use Rattle.std.proofs.Common.{ℕ, ◌≡◌, ◌∙◌, ◌<◌, List, length, map, string_bytes, refl, sym, subst, arith}
+use Rattle.std.proofs.Common.{ℕ, ◌≡◌, ◌∙◌, ◌<◌, List, length, map, string_bytes, refl, sym, subst}
 use Rattle.std.proofs.lemmas.Option.{slice_get_within}
 use Rattle.bpf_machine.specs.Machine.{MachineState, Shows}
 use Rattle.bpf_machine.specs.Schedule.{World}
@@ -25,15 +25,15 @@ is_told_at-requires c =
     let found = c.in-Ok.ensures.found in
     subst (λ (xs : List Found). c.in-Ok.at < length xs) (c.deref.ensures.value ∙ sym c.deref-in-Ok.ensures.value) (slice_get_within c.deref.result.now c.in-Ok.at found.0 found.1)
 
-pub returns-in-Ok-clause-answered : goal.returns-in-Ok-clause-answered
-returns-in-Ok-clause-answered c is =
+pub returns-then-is_told_at-clause-answered : goal.returns-then-is_told_at-clause-answered
+returns-then-is_told_at-clause-answered c is =
     let report = c.in_ok-report.report in
-    let there = subst (λ (xs : List Found). TellsAt xs c.in-Ok.at (string_bytes report.text) report.stopped) c.deref-in-Ok.ensures.value (c.is_told_at.ensures is) in
+    let there = subst (λ (xs : List Found). TellsAt xs c.in-Ok.at (string_bytes report.text) report.stopped) c.deref-in-Ok.ensures.value (c.if-is_told_at.ensures refl) in
     answered_by c.args.explorer.now.kept c.restore.new.self.machine (map string_bytes c.args.names.now) c.args.maps c.args.answers.now.items c.args.place c.in-Ok.at there.0 (string_bytes report.text) report.stopped c.in_ok-restore.ensures.ok c.machine.ensures.lists
     (λ w shows. c.in_ok-report.ensures w (subst (λ (m : MachineState). Shows m w) (sym c.machine.ensures.machine) shows)) there.1 there.2 there.3
 
 pub witness-requires : goal.witness-requires
-witness-requires c = subst (λ (kept : List MachineState). 0 < length kept) (sym c.restore.ensures.same) (omega arith)
+witness-requires c = subst (λ (kept : List MachineState). c.args.place < length kept) (sym c.restore.ensures.same) c.requires.place
 
 pub put_patiently-requires-clause-place : goal.put_patiently-requires-clause-place
 put_patiently-requires-clause-place c =
@@ -93,14 +93,14 @@ returns-in_err-report-clause-ends c w first all = all
 pub returns-in_err-report-clause-sorted : goal.returns-in_err-report-clause-sorted
 returns-in_err-report-clause-sorted c = c.requires.sorted
 
-pub returns-in-Ok-clause-keeps : goal.returns-in-Ok-clause-keeps
-returns-in-Ok-clause-keeps c i found at = (i, at)
+pub returns-then-is_told_at-clause-keeps : goal.returns-then-is_told_at-clause-keeps
+returns-then-is_told_at-clause-keeps c i found at = (i, at)
 
-pub returns-in-Ok-clause-ends : goal.returns-in-Ok-clause-ends
-returns-in-Ok-clause-ends c w first all = all
+pub returns-then-is_told_at-clause-ends : goal.returns-then-is_told_at-clause-ends
+returns-then-is_told_at-clause-ends c w first all = all
 
-pub returns-in-Ok-clause-sorted : goal.returns-in-Ok-clause-sorted
-returns-in-Ok-clause-sorted c = c.requires.sorted
+pub returns-then-is_told_at-clause-sorted : goal.returns-then-is_told_at-clause-sorted
+returns-then-is_told_at-clause-sorted c = c.requires.sorted
 
 pub returns-in_err-answer-in-Err-clause-keeps : goal.returns-in_err-answer-in-Err-clause-keeps
 returns-in_err-answer-in-Err-clause-keeps c i found at = (i, at)
@@ -126,8 +126,8 @@ returns-in_err-restore-clause-same c = c.restore.ensures.same
 pub returns-in_err-report-clause-same : goal.returns-in_err-report-clause-same
 returns-in_err-report-clause-same c = c.restore.ensures.same
 
-pub returns-in-Ok-clause-same : goal.returns-in-Ok-clause-same
-returns-in-Ok-clause-same c = c.restore.ensures.same
+pub returns-then-is_told_at-clause-same : goal.returns-then-is_told_at-clause-same
+returns-then-is_told_at-clause-same c = c.restore.ensures.same
 
 pub returns-in_err-answer-in-Err-clause-same : goal.returns-in_err-answer-in-Err-clause-same
 returns-in_err-answer-in-Err-clause-same c = c.witness.ensures.same ∙ c.restore.ensures.same

@@ -2,6 +2,7 @@ use Rattle.std.proofs.Common.{◌∙◌, ◌<◌, List, true, length, map, strin
 use Rattle.bpf_machine.specs.Machine.{MachineState}
 use Rattle.bpf_explore.specs.Outcomes.{Found}
 use Rattle.bpf_explore.specs.Private.Answers.{IsFirst, IsAnsweredAt}
+use Rattle.bpf_explore.specs.Private.Replays.{CanRunOut}
 use Rattle.bpf_explore.proofs.PatienceLaws.{Gathered, none_gathered, more_gathered, all_gathered}
 use Rattle.bpf_explore.proofs.patience.gather_patiently.Goals as goal
 
@@ -30,7 +31,9 @@ loop-place-preserved c =
       more_gathered kept names c.args.maps c.loop-place.place c.loop-place.whole c.in_ok-answered.answered c.both-whole.result c.loop-place.answers.items c.answer_at.new.answers.items far c.answer_at.ensures.sorted c.answer_at.ensures.keeps
           (λ w first all. c.answer_at.ensures.ends w (subst (λ (ms : List MachineState). IsFirst ms w) (sym same) first) all)
           (λ is. subst (λ (ms : List MachineState). IsAnsweredAt ms names c.args.maps c.answer_at.new.answers.items c.loop-place.place) same (c.in_ok-answered.ensures.answered is))
-          c.both-whole.ensures,
+          (λ is. subst CanRunOut same (c.in_ok-answered.ensures.out is))
+          c.both-whole.ensures.both
+          c.both-whole.ensures.not,
     )
 
 pub returns-clause-same : goal.returns-clause-same
@@ -42,3 +45,6 @@ returns-clause-outcomes c w first = record { each = c.loop-place.invariant.1.end
 pub returns-clause-answered : goal.returns-clause-answered
 returns-clause-answered c =
     all_gathered c.args.explorer.now.kept (map string_bytes c.args.names.now) c.args.maps c.loop-place.place c.loop-place.whole c.loop-place.answers.items (omega arith) c.loop-place.invariant.1
+
+pub returns-clause-out : goal.returns-clause-out
+returns-clause-out c is = c.loop-place.invariant.1.out is

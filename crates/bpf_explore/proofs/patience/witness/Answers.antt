@@ -1,4 +1,4 @@
-use Rattle.std.proofs.Common.{map, string_bytes, refl}
+use Rattle.std.proofs.Common.{arith, map, string_bytes, refl}
 use Rattle.bpf_machine.specs.Schedule.{World}
 use Rattle.bpf_explore.specs.Outcomes.{Found}
 use Rattle.bpf_explore.specs.Patient.{EndsPatiently}
@@ -6,20 +6,20 @@ use Rattle.bpf_explore.specs.Private.Answers.{IsFirst}
 use Rattle.bpf_explore.proofs.PatienceLaws.{some_by}
 use Rattle.bpf_explore.proofs.patience.witness.Goals as goal
 
-pub replay-requires : goal.replay-requires
-replay-requires c = c.requires
+pub tell_replayed-requires : goal.tell_replayed-requires
+tell_replayed-requires c = omega arith
 
 pub returns-in_err-answer-clause-same : goal.returns-in_err-answer-clause-same
-returns-in_err-answer-clause-same c = c.replay.ensures.same
+returns-in_err-answer-clause-same c = c.tell_replayed.ensures.same
 
 pub returns-in_default-clause-same : goal.returns-in_default-clause-same
-returns-in_default-clause-same c = c.replay.ensures.same
+returns-in_default-clause-same c = c.tell_replayed.ensures.same
 
 pub returns-then-tells_same-clause-same : goal.returns-then-tells_same-clause-same
-returns-then-tells_same-clause-same c = c.replay.ensures.same
+returns-then-tells_same-clause-same c = c.tell_replayed.ensures.same
 
 pub returns-else-tells_same-clause-same : goal.returns-else-tells_same-clause-same
-returns-else-tells_same-clause-same c = c.replay.ensures.same
+returns-else-tells_same-clause-same c = c.tell_replayed.ensures.same
 
 pub returns-then-tells_same-clause-tells : goal.returns-then-tells_same-clause-tells
 returns-then-tells_same-clause-tells c = c.if-tells_same.ensures refl

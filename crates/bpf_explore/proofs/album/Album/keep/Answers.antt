@@ -16,8 +16,8 @@ returns-in_err-keep_machine-clause-adds c =
     let kept = machines (shelf_of m.machine.programs c.keep_machine.new.stores c.keep_machine.new.parts m.states) m.states.count in
     subst (λ (a : AlbumState). AddsOne a.kept a.machine kept) c.self.view_is (same_adds m.shape shelf m.machine c.keep_machine.new.stores c.keep_machine.new.parts c.self.invariant.0 c.self.invariant.1 c.keep_machine.ensures.adds c.keep_machine.ensures.grows)
 
-pub invariant_of-self-in_err-keep : goal.invariant_of-self-in_err-keep
-invariant_of-self-in_err-keep c =
+pub invariant_of-self-in_err-number : goal.invariant_of-self-in_err-number
+invariant_of-self-in_err-number c =
     let m = c.self.inside in
     let shelf = shelf_of m.machine.programs m.stores m.parts m.states in
     let under = subst (AreKeptUnder c.keep_machine.new.stores c.keep_machine.new.parts m.machine) (sym c.deref.ensures.value) c.in_ok-keep_machine.ensures.numbers in
@@ -32,8 +32,8 @@ invariant_of-self-2 c =
     let size = under.size ∙ sym c.self.invariant.1.width in
     invariant_after m.shape shelf m.machine c.keep_machine.new.stores c.keep_machine.new.parts c.self.invariant.0 c.self.invariant.1 c.keep_machine.ensures.adds c.keep_machine.ensures.grows c.deref.result.now under c.stands.ensures c.keep.new.self size c.keep.ensures.adds
 
-pub returns-in_err-keep-clause-adds : goal.returns-in_err-keep-clause-adds
-returns-in_err-keep-clause-adds c =
+pub returns-in_err-number-clause-adds : goal.returns-in_err-number-clause-adds
+returns-in_err-number-clause-adds c =
     let m = c.self.inside in
     let shelf = shelf_of m.machine.programs m.stores m.parts m.states in
     let under = subst (AreKeptUnder c.keep_machine.new.stores c.keep_machine.new.parts m.machine) (sym c.deref.ensures.value) c.in_ok-keep_machine.ensures.numbers in
@@ -55,4 +55,4 @@ returns-clause-kept c =
     let m = c.self.inside in
     let shelf = shelf_of m.machine.programs m.stores m.parts m.states in
     let under = subst (AreKeptUnder c.keep_machine.new.stores c.keep_machine.new.parts m.machine) (sym c.deref.ensures.value) c.in_ok-keep_machine.ensures.numbers in
-    kept_after m.shape shelf m.machine c.keep_machine.new.stores c.keep_machine.new.parts c.self.invariant.0 c.self.invariant.1 c.keep_machine.ensures.adds c.keep_machine.ensures.grows c.deref.result.now under c.stands.ensures c.keep.new.self c.in_ok-keep.field-0 c.keep.ensures.adds c.in_ok-keep.ensures.found
+    kept_after m.shape shelf m.machine c.keep_machine.new.stores c.keep_machine.new.parts c.self.invariant.0 c.self.invariant.1 c.keep_machine.ensures.adds c.keep_machine.ensures.grows c.deref.result.now under c.stands.ensures c.keep.new.self c.in_ok-number.number c.keep.ensures.adds c.in_ok-number.ensures.found

@@ -1,6 +1,6 @@
 use Rattle.std.proofs.Common.{◌∙◌, ap, sym, subst}
 use Rattle.bpf_machine.specs.Machine.{MachineState, Shows}
-use Rattle.bpf_machine.specs.Cover.{TurnsTo}
+use Rattle.bpf_machine.specs.Cover.{TurnsTo, TurnsAhead}
 use Rattle.bpf_explore.specs.Private.Album.{AlbumState}
 use Rattle.bpf_explore.proofs.AlbumLaws.{fits_after, kept_with}
 use Rattle.bpf_explore.proofs.album.Album.turn_ahead.Goals as goal
@@ -24,3 +24,8 @@ pub returns-clause-runs : goal.returns-clause-runs
 returns-clause-runs c w shows =
     let machine = ap (λ (a : AlbumState). a.machine) c.self.view_is in
     c.turn_ahead.ensures.runs w (subst (λ (m : MachineState). Shows m w) (sym machine) shows)
+
+pub returns-clause-ahead : goal.returns-clause-ahead
+returns-clause-ahead c =
+    let machine = ap (λ (a : AlbumState). a.machine) c.self.view_is in
+    subst (λ (old : MachineState). TurnsAhead old c.args.cpu c.turn_ahead.result c.turn_ahead.new.self) machine c.turn_ahead.ensures.ahead

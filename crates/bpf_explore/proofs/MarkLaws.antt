@@ -1,0 +1,106 @@
+-- From which kept machines an end can be reached.
+use Rattle.std.proofs.Common.{◌≡◌, ◌∙◌, ℕ, zero, suc, ◌+◌, ◌-◌, ◌<◌, ◌≤◌, Bool, true, false, List, [], ◌∷◌, Some, inl, inr, length, replicate, refl, sym, ap, subst, arith}
+use Rattle.std.specs.Prelude.{slice_get, slice_set}
+use Rattle.std.proofs.lemmas.Bool.{cases_lt}
+use Rattle.bpf_base.proofs.Lists.{slice_get-set_other}
+use Rattle.bpf_shared.proofs.Puts.{equal_or_not}
+use Rattle.bpf_machine.specs.Machine.{MachineState}
+use Rattle.bpf_machine.specs.Rounds.{HaveEnded}
+use Rattle.bpf_machine.specs.Cover.{TurnsTo, TurnsAhead}
+use Rattle.bpf_machine.specs.Ends.{LeadsTo, IsStuck, AreStuck}
+use Rattle.bpf_machine.proofs.CoverLaws.{idle_turns_to}
+use Rattle.bpf_machine.proofs.PatientLaws.{all_same}
+use Rattle.bpf_explore.specs.declared.patient.Edge.{Edge}
+use Rattle.bpf_explore.specs.Album.{HaveEndedAt, NoneRanOutAt}
+use Rattle.bpf_explore.specs.Search.{IsIdleAt}
+use Rattle.bpf_explore.specs.Private.Edges.{IsEdgeOf}
+use Rattle.bpf_explore.specs.Private.Ends.{LeadsToEnd, LeadToEnds}
+
+pub here : (kept : List MachineState) (i : ℕ) → i < length kept → (m : MachineState) × (slice_get kept i ≡ Some m)
+here [] i less = absurd (omega arith)
+here (m ∷ ms) zero less = (m, refl)
+here (m ∷ ms) (suc i) less = here ms i (omega arith)
+
+-- ---- turns
+turns_to : (old : MachineState) (c n : ℕ) (new : MachineState) → TurnsAhead old c n new → TurnsTo old c new
+turns_to old c n new t = (t.0, t.1, t.2, t.3, t.4)
+
+pub edge_leads : (kept : List MachineState) (i c : ℕ) (e : Edge) → IsEdgeOf kept i c e → LeadsTo kept i c e.to
+edge_leads kept i c e (from, own, is) = (
+  is.old,
+  is.new,
+  subst (λ (k : ℕ). slice_get kept k ≡ Some is.old) from is.there,
+  subst (λ (k : ℕ). TurnsTo is.old k is.new) own (turns_to is.old e.cpu e.ahead is.new is.turns),
+  is.is_kept,
+)
+
+pub idle_leads : (kept : List MachineState) (i c : ℕ) → i < length kept → IsIdleAt kept i c → LeadsTo kept i c i
+idle_leads kept i c inside idle =
+    let h = here kept i inside in
+    let none = idle h.0 h.1 in
+    (h.0, h.0, h.1, idle_turns_to h.0 c none.0 none.1, λ w shows. (w.jobs, h.0, all_same w.jobs, h.1, shows))
+
+-- ---- a kept machine
+pub ended_leads : (kept : List MachineState) (i : ℕ) → i < length kept → HaveEndedAt kept i → NoneRanOutAt kept i → LeadsToEnd kept i
+ended_leads kept i inside ended none =
+    let h = here kept i inside in
+    (0, (h.0, h.1, ended h.0 h.1, none h.0 h.1))
+
+pub next_leads : (kept : List MachineState) (marks : List Bool) (i c k : ℕ) → LeadsTo kept i c k → LeadToEnds kept marks → slice_get marks k ≡ Some true → LeadsToEnd kept i
+next_leads kept marks i c k leads all at =
+    let r = all k at in
+    (suc r.0, (c, k, leads, r.1))
+
+-- the turns of the CPUs below a number lead to no end
+abbrev pub StuckBelow : List MachineState → List Bool → ℕ → ℕ → Type 0
+StuckBelow kept marks i n = (c : ℕ) → c < n → (k : ℕ) × LeadsTo kept i c k × (slice_get marks k ≡ Some false)
+
+pub next_stuck : (kept : List MachineState) (marks : List Bool) (i n k : ℕ) → StuckBelow kept marks i n → LeadsTo kept i n k → slice_get marks k ≡ Some false → StuckBelow kept marks i (n + 1)
+next_stuck kept marks i n k far leads at c less = elim (cases_lt c n) [
+  | inl below ↦ far c below
+  | inr past ↦ let e : n ≡ c = omega arith in subst (λ (d : ℕ). (j : ℕ) × LeadsTo kept i d j × (slice_get marks j ≡ Some false)) e (k, leads, at)
+]
+
+pub is_stuck : (kept : List MachineState) (marks : List Bool) (i n cpus : ℕ) → i < length kept → (HaveEndedAt kept i → ⊥) → NoneRanOutAt kept i → ((j c : ℕ) → cpus ≤ c → IsIdleAt kept j c) → cpus ≤ n → StuckBelow kept marks i n → slice_get marks i ≡ Some false → IsStuck kept marks i
+is_stuck kept marks i n cpus inside works none idle past far off = record {
+  works = λ m at ended. works (λ other there. (
+      let two : Some m ≡ Some other = sym at ∙ there in
+      let one : m ≡ other = cc in
+      subst (λ (x : MachineState). HaveEnded x.jobs) one ended));
+  none = none;
+  turns = λ c. elim (cases_lt c n) [
+    | inl below ↦ far c below
+    | inr above ↦ (i, idle_leads kept i c inside (idle i c (omega arith)), off)
+  ];
+}
+
+-- ---- marks
+pub none_marked : (kept : List MachineState) (n : ℕ) → LeadToEnds kept (replicate n false)
+none_marked kept n i at = absurd (never n i at)
+  where
+    never : (n i : ℕ) → slice_get (replicate n false) i ≡ Some true → ⊥
+    never zero i at = cc
+    never (suc n) zero at = cc
+    never (suc n) (suc i) at = never n i at
+
+pub one_more_marked : (kept : List MachineState) (marks : List Bool) (i : ℕ) (was : Bool) → slice_get marks i ≡ Some was → LeadToEnds kept marks → LeadsToEnd kept i → LeadToEnds kept (slice_set marks i true)
+one_more_marked kept marks i was there all leads k at = elim (equal_or_not k i) [
+  | inl e ↦ subst (LeadsToEnd kept) (sym e) leads
+  | inr ne ↦ all k (sym (slice_get-set_other marks i k true ne) ∙ at)
+]
+
+-- those from a place on
+abbrev pub StuckFrom : List MachineState → List Bool → ℕ → Type 0
+StuckFrom kept marks n = (i : ℕ) → n ≤ i → slice_get marks i ≡ Some false → IsStuck kept marks i
+
+pub next_stuck_from : (kept : List MachineState) (old new : List Bool) (count step place : ℕ) → step < count → place ≡ count - 1 - step → StuckFrom kept old (count - step) → new ≡ old → (slice_get old place ≡ Some false → IsStuck kept old place)
+    → StuckFrom kept new (count - (step + 1))
+next_stuck_from kept old new count step place less here far same one = subst (λ (marks : List Bool). StuckFrom kept marks (count - (step + 1))) (sym same) (λ i past off. elim (cases_lt i (count - step)) [
+  | inl below ↦
+      let e : place ≡ i = omega arith in
+      subst (IsStuck kept old) e (one (ap (slice_get old) e ∙ off))
+  | inr above ↦ far i above off
+])
+
+pub all_stuck : (kept : List MachineState) (marks : List Bool) (count step : ℕ) → count ≤ step → StuckFrom kept marks (count - step) → AreStuck kept marks
+all_stuck kept marks count step past far i off = far i (omega arith) off

@@ -1,0 +1,12 @@
+use Rattle.std.proofs.Common.{◌+◌, ◌≤◌, ℕ, inr, subst}
+use Rattle.bpf_machine.specs.Budgets.{depth_at}
+use Rattle.bpf_explore.proofs.HungLaws.{edge_deeper}
+use Rattle.bpf_explore.proofs.depths.leads_deeper.Goals as goal
+
+pub returns : goal.returns
+returns c is =
+    let depths = c.args.depths.now in
+    let e = c.in-Ok.edge in
+    let sum = c.is_deeper.ensures is in
+    let deeper : depth_at depths c.args.place + e.ahead + 1 ≤ depth_at depths e.to = subst (λ (n : ℕ). n + e.ahead + 1 ≤ depth_at depths e.to) c.depth_of-depth.ensures (subst (λ (n : ℕ). c.depth_of-depth.result + e.ahead + 1 ≤ n) c.depth_of-next.ensures sum) in
+    inr (edge_deeper c.args.explorer.now.kept depths c.args.place c.args.cpu e c.in-Ok.ensures deeper)

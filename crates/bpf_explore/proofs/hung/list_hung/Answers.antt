@@ -1,0 +1,26 @@
+use Rattle.std.proofs.Common.{◌∙◌, List, inl, inr, refl, sym, subst}
+use Rattle.bpf_machine.specs.Machine.{MachineState}
+use Rattle.bpf_explore.specs.Private.Ends.{AreMarked}
+use Rattle.bpf_explore.specs.Private.Hung.{AllHang}
+use Rattle.bpf_explore.specs.Private.Replays.{CanRunOut}
+use Rattle.bpf_explore.proofs.HungLaws.{none_hung}
+use Rattle.bpf_explore.proofs.hung.list_hung.Goals as goal
+
+pub loop-place-init : goal.loop-place-init
+loop-place-init c = record {
+  same = refl;
+  hung = subst (AllHang c.args.explorer.now.kept) (sym c.new-hung.ensures.items) (none_hung c.args.explorer.now.kept);
+  out = λ is. cc;
+}
+
+pub add_hung-requires-clause-marked : goal.add_hung-requires-clause-marked
+add_hung-requires-clause-marked c = subst (λ (kept : List MachineState). AreMarked kept c.args.marks.now) (sym c.loop-place.invariant.same) c.requires
+
+pub loop-place-preserved : goal.loop-place-preserved
+loop-place-preserved c =
+    let same = c.loop-place.invariant.same in
+    record {
+      same = c.add_hung.ensures.same ∙ same;
+      hung = subst (λ (kept : List MachineState). AllHang kept c.loop-place.hung.items → AllHang kept c.add_hung.new.hung.items) same c.in_ok-fits.ensures.hung c.loop-place.invariant.hung;
+      out = λ is. elim (c.both-fit.ensures.not is) [ inl a ↦ c.loop-place.invariant.out a | inr a ↦ subst CanRunOut same (c.in_ok-fits.ensures.out a) ];
+    }

@@ -1,0 +1,23 @@
+-- From which kept machines an end can be reached, while it is found.
+use Rattle.std.specs.Prelude.{◌≡◌, ℕ, Bool, true, List, Some, length, slice_get}
+use Rattle.bpf_machine.specs.Machine.{MachineState}
+use Rattle.bpf_machine.specs.Ends.{EndsIn, AreStuck}
+use Rattle.bpf_explore.specs.Album.{NoneRanOutAt}
+
+-- no job of any has ended out of budget
+abbrev pub AllGoOn : List MachineState → Type 0
+AllGoOn kept = (i : ℕ) → NoneRanOutAt kept i
+
+-- turns lead from it to an end
+abbrev pub LeadsToEnd : List MachineState → ℕ → Type 0
+LeadsToEnd kept i = (n : ℕ) × EndsIn kept n i
+
+-- so they do from each that is marked
+abbrev pub LeadToEnds : List MachineState → List Bool → Type 0
+LeadToEnds kept marks = (i : ℕ) → slice_get marks i ≡ Some true → LeadsToEnd kept i
+
+-- and from none of the others
+pub record AreMarked (kept : List MachineState) (marks : List Bool) : Type 0 where
+  pub count : length marks ≡ length kept
+  pub lead : LeadToEnds kept marks
+  pub stuck : AreStuck kept marks

@@ -1,0 +1,183 @@
+//! States of a patient search from which no end can be reached.
+
+ghost use Rattle.std.specs.Prelude.{◌≡◌, ◌<◌, ◌≤◌, ℕ, [], true, false, Some, IfOk, IfSome, IfNone, OnOk, length, slice_get};
+ghost use Rattle.bpf_machine.specs.Ends.{AreStuck};
+ghost use Rattle.bpf_explore.specs.Private.Ends.{AllGoOn, AreMarked, LeadToEnds};
+ghost use Rattle.bpf_explore.specs.Private.Hung.{AllLead, Hangs, AllHang};
+ghost use Rattle.bpf_explore.specs.Private.Replays.{CanRunOut};
+
+use crate::ends::{all_marked, mark_ends};
+use crate::patience::both;
+use crate::patient::PatientExplorer;
+use crate::replays::replay;
+use std::alloc::{AllocError, Global};
+use std::marker::Model;
+
+/// A state from which no end can be reached: a schedule that leads there.
+#[derive(Drop)]
+pub struct Hung {
+    by: Vec<(u8, u64)>,
+}
+
+impl Model for Hung {
+    ghost use Rattle.std.specs.Prelude.{ℕ, List};
+
+    ghost Value = { List (ℕ × ℕ) };
+
+    ghost view = { λ h. h.by.items };
+}
+
+impl Hung {
+    /// The schedule: CPUs, each with how many turns it makes before the next.
+    pub fn by(&self) -> &[(u8, u64)]
+        ensures { result.now ≡ self.now }
+    {
+        &self.by
+    }
+}
+
+/// Whether no kept machine has a job that ended out of budget. Where some has, the schedule to it
+/// does use a budget up; one that doesn't counts as want of memory.
+fn all_go_on(explorer: &mut PatientExplorer) -> Result<bool, AllocError>
+    ensures same { explorer.new.kept ≡ explorer.old.kept }
+    ensures on { IfOk result (λ on. on ≡ true → AllGoOn explorer.old.kept) }
+    ensures out { IfOk result (λ on. on ≡ false → CanRunOut explorer.old.kept) }
+{
+    for place in 0..explorer.len() {
+        if !explorer.none_ran_out(place) {
+            let by = explorer.way(place)?;
+            if replay(explorer, &by)? {
+                return Ok(false);
+            }
+            return Err(AllocError);
+        }
+    }
+    Ok(true)
+}
+
+/// Whether an end can be reached from this kept machine.
+fn is_marked(marks: &[bool], place: usize) -> bool {
+    match marks.get(place) {
+        Some(mark) => *mark,
+        None => true,
+    }
+}
+
+/// Whether no end can be reached from a kept machine, but from the one before it on its way.
+fn is_first_hung(explorer: &PatientExplorer, marks: &[bool], place: usize) -> bool
+    requires { place < length marks.now }
+    ensures { result ≡ true → slice_get marks.now place ≡ Some false }
+{
+    if marks[place] {
+        return false;
+    }
+    let before = explorer.came_from(place);
+    before == place || is_marked(marks, before)
+}
+
+/// What is told of a kept machine from which no end can be reached; `None` where the schedule to it
+/// uses a budget up.
+fn hung_at(
+    explorer: &mut PatientExplorer,
+    marks: &[bool],
+    place: usize,
+) -> Result<Option<Hung>, AllocError>
+    requires place { place < length explorer.old.kept }
+    requires stuck { AreStuck explorer.old.kept marks.now }
+    requires unmarked { slice_get marks.now place ≡ Some false }
+    ensures same { explorer.new.kept ≡ explorer.old.kept }
+    ensures hung { IfOk result (λ found. IfSome found (Hangs explorer.old.kept)) }
+    ensures out { IfOk result (λ found. IfNone found (CanRunOut explorer.old.kept)) }
+{
+    bpf_machine::laws::stuck_are_hung();
+    bpf_machine::laws::free_runs_agree();
+    let _ = marks.len();
+    let by = explorer.way(place)?;
+    if replay(explorer, &by)? {
+        return Ok(None);
+    }
+    Ok(Some(Hung { by }))
+}
+
+/// Puts what is told of a kept machine behind the others, if it is the first on its way. Whether
+/// that can be: not where the schedule to it uses a budget up.
+fn add_hung(
+    explorer: &mut PatientExplorer,
+    marks: &[bool],
+    place: usize,
+    hung: &mut Vec<Hung>,
+) -> Result<bool, AllocError>
+    requires marked { AreMarked explorer.old.kept marks.now }
+    requires place { place < length marks.now }
+    ensures same { explorer.new.kept ≡ explorer.old.kept }
+    ensures hung { OnOk result (AllHang explorer.old.kept hung.old.items
+        → AllHang explorer.old.kept hung.new.items) }
+    ensures out { IfOk result (λ fits. fits ≡ false → CanRunOut explorer.old.kept) }
+{
+    if !is_first_hung(explorer, marks, place) {
+        return Ok(true);
+    }
+    let Some(found) = hung_at(explorer, marks, place)? else {
+        return Ok(false);
+    };
+    hung.push(found)?;
+    Ok(true)
+}
+
+/// Those that are the first on their ways, in the order in which the search came to them, and
+/// whether all schedules to them fit the budgets.
+fn list_hung(
+    alloc: Global,
+    explorer: &mut PatientExplorer,
+    marks: &[bool],
+) -> Result<(Vec<Hung>, bool), AllocError>
+    requires { AreMarked explorer.old.kept marks.now }
+    ensures same { explorer.new.kept ≡ explorer.old.kept }
+    ensures hung { IfOk result (λ r. AllHang explorer.old.kept r.0.items) }
+    ensures out { IfOk result (λ r. r.1 ≡ false → CanRunOut explorer.old.kept) }
+{
+    let mut hung = Vec::new(alloc);
+    let mut fit = true;
+    for place in 0..marks.len() {
+        let fits = add_hung(explorer, marks, place, &mut hung)?;
+        fit = both(fit, fits);
+    }
+    Ok((hung, fit))
+}
+
+/// Whether each kept machine is marked, where nothing hung is told and all schedules fit.
+fn is_settled(marks: &[bool], hung: &[Hung], fit: bool) -> bool
+    ensures { result ≡ true → fit ≡ true → hung.now ≡ [] → (i : ℕ) → i < length marks.now
+        → slice_get marks.now i ≡ Some true }
+{
+    if !fit {
+        return true;
+    }
+    if !hung.is_empty() {
+        return true;
+    }
+    all_marked(marks)
+}
+
+/// The same, where no kept machine has a job that is out of budget. Where none is told and all
+/// schedules fit, each kept machine leads to an end.
+pub(crate) fn gather_hung(
+    alloc: Global,
+    explorer: &mut PatientExplorer,
+) -> Result<(Vec<Hung>, bool), AllocError>
+    ensures same { explorer.new.kept ≡ explorer.old.kept }
+    ensures hung { IfOk result (λ r. AllHang explorer.old.kept r.0.items) }
+    ensures ends { IfOk result (λ r. r.1 ≡ true → r.0.items ≡ [] → AllLead explorer.old.kept) }
+    ensures out { IfOk result (λ r. r.1 ≡ false → CanRunOut explorer.old.kept) }
+{
+    if !all_go_on(explorer)? {
+        return Ok((Vec::new(alloc), false));
+    }
+    let marks = mark_ends(alloc, explorer)?;
+    let (hung, fit) = list_hung(alloc, explorer, &marks)?;
+    if !is_settled(&marks, &hung, fit) {
+        // Some one that isn't marked is the first on its way.
+        return Err(AllocError);
+    }
+    Ok((hung, fit))
+}

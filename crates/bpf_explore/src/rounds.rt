@@ -1,0 +1,145 @@
+//! Circles of kept machines in a patient search: who goes round uses budgets up.
+
+ghost use Rattle.std.specs.Prelude.{◌≡◌, ◌<◌, true, IfOk, length};
+ghost use Rattle.bpf_explore.specs.Private.Replays.{CanRunOut, IsReached};
+
+use crate::depths::working_edge;
+use crate::explorer::push_turns;
+use crate::patient::{Edge, PatientExplorer};
+use crate::replays::some_ran_out;
+use std::alloc::{AllocError, Global};
+
+/// How often a circle is gone round before it is given up.
+const ROUNDS: u32 = 4_000_000;
+
+/// A circle of kept machines: one of them, and the turns that lead round to it.
+#[derive(Drop)]
+struct Circle {
+    place: usize,
+    by: Vec<(u8, u64)>,
+}
+
+/// Whether turns lead to this kept machine from one that is in a circle, or behind one.
+fn waits_at(waits: &[u32], place: usize) -> bool {
+    match waits.get(place) {
+        Some(count) => *count > 0,
+        None => false,
+    }
+}
+
+/// Of each kept machine a turn that leads to it from one that is in a circle, or behind one.
+fn turns_before(
+    alloc: Global,
+    explorer: &PatientExplorer,
+    waits: &[u32],
+) -> Result<Vec<Option<Edge>>, AllocError> {
+    let mut turns = vec![in alloc; None; explorer.len()]?;
+    for place in 0..explorer.len() {
+        if !waits_at(waits, place) {
+            continue;
+        }
+        for cpu in 0..explorer.cpus() {
+            if let Some(edge) = working_edge(explorer, place, cpu)
+                && let Some(turn) = turns.get_mut(edge.to as usize)
+            {
+                *turn = Some(edge);
+            }
+        }
+    }
+    Ok(turns)
+}
+
+/// The turn that leads to a kept machine so.
+fn turn_before(turns: &[Option<Edge>], place: usize) -> Option<Edge> {
+    match turns.get(place) {
+        Some(turn) => *turn,
+        None => None,
+    }
+}
+
+/// A kept machine in a circle, if there is one: who goes back far enough is in it.
+fn find_in_circle(turns: &[Option<Edge>], waits: &[u32]) -> Option<usize> {
+    let mut place = waits.iter().position(|count| *count > 0)?;
+    for _ in 0..turns.len() {
+        place = turn_before(turns, place)?.from as usize;
+    }
+    Some(place)
+}
+
+/// The turns that lead round to a kept machine in a circle.
+fn go_round(
+    alloc: Global,
+    turns: &[Option<Edge>],
+    place: usize,
+) -> Result<Vec<(u8, u64)>, AllocError> {
+    let mut by = Vec::new(alloc);
+    let mut state = place;
+    for _ in 0..turns.len() {
+        let Some(edge) = turn_before(turns, state) else {
+            break;
+        };
+        push_turns(&mut by, edge.cpu, edge.ahead as u64 + 1)?;
+        state = edge.from as usize;
+        if state == place {
+            break;
+        }
+    }
+    by.reverse();
+    Ok(by)
+}
+
+/// A circle of kept machines, if there is one.
+fn find_circle(
+    alloc: Global,
+    explorer: &PatientExplorer,
+    waits: &[u32],
+) -> Result<Option<Circle>, AllocError> {
+    let turns = turns_before(alloc, explorer, waits)?;
+    let Some(place) = find_in_circle(&turns, waits) else {
+        return Ok(None);
+    };
+    let by = go_round(alloc, &turns, place)?;
+    Ok(Some(Circle { place, by }))
+}
+
+/// Makes the turns of a schedule from the first machine, and then those of another, again and
+/// again. Whether some job is out of budget after some of them.
+fn goes_round(
+    explorer: &mut PatientExplorer,
+    way: &[(u8, u64)],
+    circle: &[(u8, u64)],
+) -> Result<bool, AllocError>
+    requires { 0 < length explorer.old.kept }
+    ensures same { explorer.new.kept ≡ explorer.old.kept }
+    ensures out { IfOk result (λ out. out ≡ true → CanRunOut explorer.old.kept) }
+{
+    explorer.restore(0)?;
+    explorer.turns_by(way);
+    for _ in 0..ROUNDS {
+        if some_ran_out(explorer.machine()) {
+            return Ok(true);
+        }
+        explorer.turns_by(circle);
+    }
+    Ok(false)
+}
+
+/// Whether a budget is used up by who goes round in a circle of kept machines.
+pub(crate) fn wears_out(
+    alloc: Global,
+    explorer: &mut PatientExplorer,
+    waits: &[u32],
+) -> Result<bool, AllocError>
+    requires { 0 < length explorer.old.kept }
+    ensures same { explorer.new.kept ≡ explorer.old.kept }
+    ensures out { IfOk result (λ out. out ≡ true → CanRunOut explorer.old.kept) }
+{
+    let Some(circle) = find_circle(alloc, explorer, waits)? else {
+        return Ok(false);
+    };
+    if circle.place >= explorer.len() {
+        return Ok(false);
+    }
+    let way = explorer.way(circle.place)?;
+    goes_round(explorer, &way, &circle.by)
+}
