@@ -19,7 +19,7 @@ use Rattle.bpf_machine.specs.Ends.{AllCanEnd}
 use Rattle.bpf_explore.specs.declared.budgets.Budgets.{Budgets}
 use Rattle.bpf_explore.specs.declared.budgets.Budgets.TheVariants.{Suffice, RunOut}
 use Rattle.bpf_explore.specs.Album.{AreLedFreely, AreApart}
-use Rattle.bpf_explore.specs.Patient.{EndsPatiently, ArePatient, IsExploredPatiently, PatientTellAll}
+use Rattle.bpf_explore.specs.Patient.{EndsPatiently, ArePatient, IsSearchedPatiently, PatientTellAll}
 use Rattle.bpf_explore.specs.Private.Hung.{Hangs, AllHang, AllLead}
 use Rattle.bpf_explore.specs.Private.Replays.{SomeRanOut, IsReplayed, CanRunOut, NoneRunsOut}
 use Rattle.bpf_explore.proofs.TrailLaws.{are_reached_freely}
@@ -158,7 +158,7 @@ pub explored_patiently : PatientTellAll → AllCanEnd → (kept : List MachineSt
     → AllHang kept hung → (whole ≡ true → fit ≡ true → hung ≡ [] → AllLead kept) → (fit ≡ false → CanRunOut kept)
     → (both ≡ true → (told ≡ true) × (fit ≡ true)) → (both ≡ false → (told ≡ false) ⊎ (fit ≡ false)) → (all ≡ true → (whole ≡ true) × (both ≡ true)) → (all ≡ false → (whole ≡ false) ⊎ (both ≡ false))
     → (budgets ≡ Suffice → NoneRunsOut kept) → (budgets ≡ RunOut → CanRunOut kept)
-    → AreLedFreely kept → AreApart kept → IsExploredPatiently w names maps answers all limit (length kept) hung budgets
+    → AreLedFreely kept → AreApart kept → IsSearchedPatiently w names maps answers all limit (length kept) hung budgets
 explored_patiently law ends kept w names maps answers whole told fit both all limit hung budgets fresh first closed covers met outcomes answered untold hangs leads unfit two two_not every every_not suffice out led apart =
     let shown : IsShown kept w = (0, first.0, first.1, first.2) in
     let no_fit : both ≡ false → CanRunOut kept = λ is. elim (two_not is) [ inl a ↦ untold a | inr a ↦ unfit a ] in

@@ -5,7 +5,7 @@ ghost use Rattle.bpf_mem.specs.Limits.{max_context};
 ghost use Rattle.bpf_cpu.specs.Task.{waiting};
 ghost use Rattle.bpf_jobs.specs.Printed.{first_world};
 ghost use Rattle.bpf_explore.specs.Outcomes.{IsExplored};
-ghost use Rattle.bpf_explore.specs.Patient.{IsExploredPatiently};
+ghost use Rattle.bpf_explore.specs.Patient.{IsExploredPatiently, IsSearchedPatiently};
 ghost use Rattle.bpf_explore.specs.Private.Hung.{AllHang, AllLead};
 ghost use Rattle.bpf_explore.specs.Private.Replays.{CanRunOut, NoneRunsOut};
 
@@ -131,7 +131,7 @@ fn find_budgets(
 /// steps are left of budgets count as one. The outcomes aren't all where more than `limit` are
 /// kept, or where a schedule that was found uses a budget up. Besides, states from which no end can
 /// be reached, however many steps jobs are given, and whether some schedule uses a budget up.
-pub fn explore_patiently(
+pub fn search_patiently(
     alloc: Global,
     shape: StoreShape,
     names: &[String],
@@ -143,7 +143,7 @@ pub fn explore_patiently(
     requires cpus { All (λ job. job.cpu < shape.cpus) jobs.items }
     requires programs { All (λ job. job.program < vec_len programs) jobs.items }
     requires contexts { All (λ job. vec_len job.context ≤ max_context) jobs.items }
-    ensures { IfOk result (λ e. IsExploredPatiently
+    ensures { IfOk result (λ e. IsSearchedPatiently
         (first_world shape programs.items (map waiting jobs.items))
         (map string_bytes names.now) maps e.answers.items e.all limit e.states
         e.hung.items e.budgets) }
@@ -168,5 +168,35 @@ pub fn explore_patiently(
         states,
         hung,
         budgets,
+    })
+}
+
+/// The outcomes alone of such a search.
+pub fn explore_patiently(
+    alloc: Global,
+    shape: StoreShape,
+    names: &[String],
+    programs: Vec<Program>,
+    jobs: Vec<Job>,
+    maps: bool,
+    limit: usize,
+) -> Result<Explored, AllocError>
+    requires cpus { All (λ job. job.cpu < shape.cpus) jobs.items }
+    requires programs { All (λ job. job.program < vec_len programs) jobs.items }
+    requires contexts { All (λ job. vec_len job.context ≤ max_context) jobs.items }
+    ensures { IfOk result (λ e. IsExploredPatiently
+        (first_world shape programs.items (map waiting jobs.items))
+        (map string_bytes names.now) maps e.answers.items e.all) }
+{
+    let ExploredPatiently {
+        answers,
+        all,
+        states,
+        ..
+    } = search_patiently(alloc, shape, names, programs, jobs, maps, limit)?;
+    Ok(Explored {
+        answers,
+        all,
+        states,
     })
 }

@@ -6,13 +6,13 @@ use Rattle.bpf_cpu.specs.Task.{waiting}
 use Rattle.bpf_machine.specs.Machine.{MachineState, Shows}
 use Rattle.bpf_machine.specs.Schedule.{World}
 use Rattle.bpf_jobs.specs.Printed.{first_world}
-use Rattle.bpf_explore.specs.Patient.{IsExploredPatiently}
+use Rattle.bpf_explore.specs.Patient.{IsSearchedPatiently}
 use Rattle.bpf_explore.specs.Stores.{IsOfShape}
 use Rattle.bpf_explore.specs.Private.Hung.{AllHang, AllLead}
 use Rattle.bpf_explore.specs.Private.Replays.{CanRunOut, NoneRunsOut}
 use Rattle.bpf_explore.proofs.ExploreLaws.{first_shape, first_lists_none, first_fresh, still_first, still_there}
 use Rattle.bpf_explore.proofs.PatienceLaws.{explored_patiently}
-use Rattle.bpf_explore.proofs.exploring.explore_patiently.Goals as goal
+use Rattle.bpf_explore.proofs.exploring.search_patiently.Goals as goal
 
 pub make_machine-requires-clause-cpus : goal.make_machine-requires-clause-cpus
 make_machine-requires-clause-cpus c =
@@ -64,7 +64,7 @@ returns c =
     let found = c.find_hung.ensures.same ∙ gathered in
     let hung = c.in_ok-hung.hung.items in
     let count : c.len-states.result ≡ length kept = c.len-states.ensures ∙ ap (λ (ms : List MachineState). length ms) (c.find_budgets.ensures.same ∙ found) in
-    subst (λ (n : ℕ). IsExploredPatiently w names c.args.maps c.in_ok-answers.answers.items c.both-all.result c.args.limit n hung c.in_ok-budgets.budgets) (sym count)
+    subst (λ (n : ℕ). IsSearchedPatiently w names c.args.maps c.in_ok-answers.answers.items c.both-all.result c.args.limit n hung c.in_ok-budgets.budgets) (sym count)
     (explored_patiently c.patient_tell_all.ensures c.all_can_end.ensures kept w names c.args.maps c.in_ok-answers.answers.items c.in_ok-whole.whole c.in_ok-answers.told c.in_ok-hung.fit c.both-all_fit.result c.both-all.result c.args.limit hung c.in_ok-budgets.budgets
     (first_fresh c.args.shape m programs jobs c.requires.contexts shows)
     (still_first c.in_ok-explorer.explorer.kept kept m w c.in_ok-explorer.ensures c.explore.ensures.extends shows)
