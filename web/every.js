@@ -65,9 +65,9 @@ const in_thousands = (number) => number.toLocaleString('en');
 function every_text({ came, is_on, is_patient, stage }) {
     const goes_on = is_on ? `Searching up to ${in_thousands(LIMITS[stage])} states…` : '';
     if (!came) return goes_on;
-    const hung = came.hung.length ? `, of which ${in_thousands(came.hung.length)} hang` : '';
+    const hung = came.hung.length ? `, of which ${in_thousands(came.hung.length)} hang${came.hung.length === 1 ? 's' : ''}` : '';
     const what = `${counted(came.found.length, 'outcome')}, ${in_thousands(came.states)} states${hung}`;
-    const budgets = came.budgets && ` The ${came.budgets}.`;
+    const budgets = came.budgets.replace(/^b(.*)$/, ' B$1.');
     if (!came.is_all) return is_on ? `So far: ${what}. ${goes_on}` : `Not all: ${what}, and there may be more.${budgets}`;
     const no_other = is_patient ? 'No order of turns that uses no budget up has another.' : 'No order of turns has another.';
     return `All: ${what}. ${no_other}${budgets}`;
