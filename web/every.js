@@ -7,27 +7,18 @@
 const LIMITS = [1000, 10000, 100000, 1000000]; // of states
 const MOST_OUTCOMES = 200; // that are listed
 
-const HUNG = 'hung: no order of turns comes to an end from here';
-
-// What `explore` prints: a line `by` before the lines of each outcome; with --patient a line for each state from which
-// no end can be reached, and whether budgets can run out; and a last line.
+// What `explore` prints: a line `by` before the lines of each outcome, and a last line.
 function read_explored(printed) {
     const lines = printed.trimEnd().split('\n');
     const last = /^(all|not all): (\d+) outcomes, (\d+) states$/.exec(lines.pop());
     if (!last) throw new Error(printed.trim());
-    const [found, hung] = [[], []];
-    let budgets = '';
+    const found = [];
     for (const line of lines) {
         if (/^by( |$)/.test(line)) found.push({ schedule: line.slice(3), lines: [] });
-        else if (/^hung by( |$)/.test(line)) hung.push({ schedule: line.slice(8), lines: [HUNG], is_hung: true });
-        else if (line.startsWith('budgets ')) budgets = line;
         else found.at(-1).lines.push(line);
     }
-    return { found, hung, budgets, is_all: last[1] === 'all', states: Number(last[3]) };
+    return { found, is_all: last[1] === 'all', states: Number(last[3]) };
 }
-
-// All that is listed, in its order.
-const rows_of = ({ found, hung }) => [...hung.slice(0, MOST_OUTCOMES), ...found.slice(0, MOST_OUTCOMES)];
 
 // `stage` counts the limits that are searched through.
 const search = { engine: null, number: 0, is_on: false, is_patient: false, stage: 0, came: null };
@@ -65,17 +56,15 @@ const in_thousands = (number) => number.toLocaleString('en');
 function every_text({ came, is_on, is_patient, stage }) {
     const goes_on = is_on ? `Searching up to ${in_thousands(LIMITS[stage])} states…` : '';
     if (!came) return goes_on;
-    const hung = came.hung.length ? `, of which ${in_thousands(came.hung.length)} hang${came.hung.length === 1 ? 's' : ''}` : '';
-    const what = `${counted(came.found.length, 'outcome')}, ${in_thousands(came.states)} states${hung}`;
-    const budgets = came.budgets.replace(/^b(.*)$/, ' B$1.');
-    if (!came.is_all) return is_on ? `So far: ${what}. ${goes_on}` : `Not all: ${what}, and there may be more.${budgets}`;
+    const what = `${counted(came.found.length, 'outcome')}, ${in_thousands(came.states)} states`;
+    if (!came.is_all) return is_on ? `So far: ${what}. ${goes_on}` : `Not all: ${what}, and there may be more.`;
     const no_other = is_patient ? 'No order of turns that uses no budget up has another.' : 'No order of turns has another.';
-    return `All: ${what}. ${no_other}${budgets}`;
+    return `All: ${what}. ${no_other}`;
 }
 
-// An outcome, in which the lines that not all of them have stand out, or a state that hangs.
-function outcome_row({ schedule, lines, is_hung }, number, is_shared) {
-    const row = make('li', is_hung ? 'hung' : '');
+// An outcome, in which the lines that not all of them have stand out.
+function outcome_row({ schedule, lines }, number, is_shared) {
+    const row = make('li');
     const said = make('pre');
     for (const line of lines) said.append(make('span', is_shared(line) ? 'shared' : '', line), '\n');
     const by = make('code', 'by', schedule ? `by ${schedule}` : 'by no turn');
@@ -96,13 +85,11 @@ function draw_every(state) {
     at('explore').disabled = is_on;
     if (at('found').drawn === came) return;
     at('found').drawn = came;
-    const { found, hung } = came ?? { found: [], hung: [] };
+    const found = came?.found ?? [];
     const counts = new Map();
     for (const line of found.flatMap(({ lines }) => lines)) counts.set(line, (counts.get(line) ?? 0) + 1);
-    const listed = rows_of({ found, hung });
-    const rows = listed.map((it, number) => outcome_row(it, number, (line) => counts.get(line) === found.length));
-    const more = found.length + hung.length - listed.length;
-    if (more) rows.push(make('li', 'empty', `and ${more} more`));
+    const rows = found.slice(0, MOST_OUTCOMES).map((it, number) => outcome_row(it, number, (line) => counts.get(line) === found.length));
+    if (found.length > MOST_OUTCOMES) rows.push(make('li', 'empty', `and ${found.length - MOST_OUTCOMES} more`));
     at('found').replaceChildren(...rows);
 }
 
@@ -110,7 +97,7 @@ function draw_every(state) {
 function mark_outcome({ turns }) {
     if (!search.came) return;
     const by = schedule_of(turns);
-    rows_of(search.came).forEach(({ schedule }, number) => {
+    search.came.found.slice(0, MOST_OUTCOMES).forEach(({ schedule }, number) => {
         const row = at('found').children[number];
         const is_shown = schedule === by && turns.length > 0;
         row.classList.toggle('shown', is_shown);

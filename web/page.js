@@ -269,7 +269,7 @@ function forget_search() {
 // Sets the turns to a schedule that leads to an outcome.
 function show_outcome(number) {
     const { file } = state;
-    const turns = turns_of_schedule(rows_of(search.came)[number].schedule, MOST_TURNS);
+    const turns = turns_of_schedule(search.came.found[number].schedule, MOST_TURNS);
     if (!file) return;
     if (turns === null) {
         tell(`${MOST_TURNS} turns are the most that this page makes.`, true);
