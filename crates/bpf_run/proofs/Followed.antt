@@ -1,9 +1,9 @@
 -- What the words ask for, and what is done of it, put together.
 use Rattle.std.proofs.Common.{◌≡◌, ◌⊎◌, List, [], Result, Ok, Err, inl, inr, map, subst, sym}
 use Rattle.std.specs.Prelude.{IfErr, IfOk, IsOkAnd, OnOk}
-use Rattle.clap.specs.Words.{Text, fault_of, subcommand_of}
+use Rattle.clap.specs.Words.{Text, fault_of}
 use Rattle.bpf_command.specs.CommandLine.{ebpf}
-use Rattle.bpf_command.specs.Names.{Asks, Refuses}
+use Rattle.bpf_command.specs.Names.{AsksBy, Refuses, as_flags}
 use Rattle.bpf_command.specs.declared.command.Request.{Request}
 use Rattle.bpf_command.specs.declared.command_line.CommandError.{CommandError}
 use Rattle.bpf_command.specs.declared.command_line.CommandError.TheVariants as error
@@ -19,7 +19,7 @@ Exits words end P U R = IfExit end (λ status. ((request : Request) × IsAsked w
 
 exits : (words : List Text) (asked : Result Request CommandError) (end : Ending)
     (P : Request → Status → Type 0) (U : Type 0) (R : CommandError → Status → Type 0)
-    → OnOk asked (fault_of ebpf words ≡ []) → IfOk asked (Asks (subcommand_of ebpf words)) → IfErr asked (Refuses words)
+    → OnOk asked (fault_of ebpf (as_flags words) ≡ []) → IfOk asked (AsksBy words) → IfErr asked (Refuses words)
     → IfExit end (λ status. IfOk asked (λ request. P request status)) → IfExit end (λ status. IfErr asked (λ e. U × R e status))
     → Exits words end P U R
 exits words (Ok request) (ending.Exit status) P U R accepted named refused performed printed = inl (request, (accepted, named), performed)
@@ -51,7 +51,7 @@ lacks words asked (ending.Misused misuse) U V refused lacking =
 module _ (X A E : Type 0) (text : X → Text) (items_of : A → List X) (words : Result A E) (v : A) (is : words ≡ Ok v)
     (given : List X) (same : given ≡ items_of v) (asked : Result Request CommandError) (end : Ending) where
   pub followed : (P : Request → Status → Type 0) (U : Type 0) (R : CommandError → Status → Type 0)
-      → OnOk asked (fault_of ebpf (map text given) ≡ []) → IfOk asked (Asks (subcommand_of ebpf (map text given)))
+      → OnOk asked (fault_of ebpf (as_flags (map text given)) ≡ []) → IfOk asked (AsksBy (map text given))
       → IfErr asked (Refuses (map text given)) → IfExit end (λ status. IfOk asked (λ request. P request status))
       → IfExit end (λ status. IfErr asked (λ e. U × R e status))
       → IfExit end (λ status. IfOk words (λ w. ((request : Request) × IsAsked (map text (items_of w)) request × P request status)
