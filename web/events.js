@@ -129,8 +129,9 @@ function held_values({ file, turns, shown, known, views }) {
 function learn_events(state, show) {
     clearTimeout(telling.timer);
     const mine = ++telling.number;
-    const { file, shown, known } = state;
-    const own = known.slice(0, shown);
+    // As it is now: another file may be opened before the events are told.
+    const asked = { ...state, known: state.known.slice(0, state.shown) };
+    const { file, known: own } = asked;
     if (are_told(state)) return;
     telling.timer = setTimeout(async () => {
         if (telling.is_on) telling.engine.stop();
@@ -141,7 +142,7 @@ function learn_events(state, show) {
             telling.engine.stop();
         }, PATIENCE);
         try {
-            const beside = await tell_events({ ...state, known: own });
+            const beside = await tell_events(asked);
             if (mine !== telling.number) return;
             own.forEach((turn, nth) => (turn.event = beside[nth] ?? null));
         } catch (error) {
@@ -150,6 +151,6 @@ function learn_events(state, show) {
             clearTimeout(slow);
             if (mine === telling.call) telling.is_on = false;
         }
-        if (mine === telling.number) show();
+        if (mine === telling.number && state.file === file && state.views) show();
     }, PAUSE);
 }
