@@ -29,6 +29,7 @@ pub enum Spot {
 /// It reads the places that the home bucket's hop information shows, then the overflow list, up to
 /// as many links as there are elements: at most two words, and for each of 32 places and each
 /// element one and those of a key.
+#[inline(always)]
 pub fn find<S: SegReads>(words: &mut S, key: &[u8], home: u32) -> Option<u32>
     ensures found { (w : Words) → S.agrees words.new w → Sound w → home ≡ w.fixed.home key.now →
         MatchOption result (IsAbsent w key.now) (HasPair w key.now) }
@@ -42,6 +43,7 @@ pub fn find<S: SegReads>(words: &mut S, key: &[u8], home: u32) -> Option<u32>
 }
 
 /// Where the words lead to the element of this key, if the segment has it. The home is the key's.
+#[inline(always)]
 pub fn locate<S: SegReads>(words: &mut S, key: &[u8], home: u32) -> Option<Spot>
     ensures found { (w : Words) → S.agrees words.new w → Sound w → home ≡ w.fixed.home key.now →
         MatchOption result (IsAbsent w key.now) (IsSpot w key.now) }
@@ -56,6 +58,7 @@ pub fn locate<S: SegReads>(words: &mut S, key: &[u8], home: u32) -> Option<Spot>
 }
 
 /// Looks through the places that the home bucket's hop information shows, nearest first.
+#[inline(always)]
 fn locate_near<S: SegReads>(words: &mut S, key: &[u8], bucket: usize) -> Option<Spot>
     requires { bucket < 64 }
     ensures found { (w : Words) → S.agrees words.new w → Sound w → bucket ≡ bucket_for w key.now →
@@ -76,6 +79,7 @@ fn locate_near<S: SegReads>(words: &mut S, key: &[u8], bucket: usize) -> Option<
 }
 
 /// The item so far after the bucket, if it has the key.
+#[inline(always)]
 fn keyed_item<S: SegReads>(words: &mut S, key: &[u8], bucket: usize, distance: usize) -> Option<u32>
     requires bucket { bucket < 64 }
     requires distance { distance < 32 }
