@@ -6,13 +6,13 @@ use Rattle.bpf_plain.specs.declared.plain.Reach.{Reach}
 use Rattle.bpf_shared.specs.Shape.{IsIn, element_stride, elements}
 use Rattle.bpf_shared.specs.Store.{Plain, Value, Finds}
 use Rattle.bpf_shared.specs.Sound.{IsSoundStore}
-use Rattle.bpf_plain.specs.Private.Rows.{Rows, no_rows, key_of, bytes_of, IsTakenRow}
+use Rattle.bpf_plain.specs.Private.Rows.{Rows, no_rows, key_of, bytes_of, IsLinked, IsTakenRow}
 use Rattle.bpf_plain.specs.Private.Contents.{Contents, rows, element_count, span_at, IsUsed, StandsFor, IsStore}
 use Rattle.bpf_plain.specs.Private.Changes.{IsAtValue, IsReach}
 use Rattle.bpf_shared.specs.Laws.{byte_at}
 use Rattle.bpf_shared.specs.Listing.{Pair, IsByteAt}
 use Rattle.bpf_plain.specs.Private.Pairs.{AreRowPairs}
-use Rattle.bpf_plain.specs.Shows.{Lists, ShowsByte, ShowsNoByte}
+use Rattle.bpf_plain.specs.Shows.{Lists, ShowsByte, ShowsKey, ShowsNoByte, ShowsNoKey, LeadsTo}
 use Rattle.bpf_shared.proofs.Places.{reached}
 use Rattle.bpf_plain.proofs.Places.{sized_map, linked_size, one_at, span-number, keeps_cpu}
 use Rattle.bpf_plain.proofs.Accessing.{reach_facts}
@@ -52,6 +52,18 @@ module _ (p : Contents) (is : IsStore p) where
         let f = h.kept k.0 v k.1 in
         (f.0, f.1, f.2, inr (k.0, keeps_cpu p k.0 f.0 f.1 f.3, f.3), subst (IsIn a) (ap (λ (z : ℕ). (s.value z).span) f.4 ∙ span-number p is s so h f.0 f.1 f.2 (inr (k.0, inl f.3))) inside, e ∙ byte_of v f.0 f.1 a f.2 (inr (k.0, inl f.3)) f.4)
 
+  -- in which element of its map the value of a key lies
+  led_to : (s : Plain) → IsSoundStore s → (h : StandsFor p s) → (a : ℕ) (key : List ℕ) → LeadsTo s a key → (m : ℕ) × (i : ℕ) × (i < element_count p m) × IsLinked (rows p m) i × IsIn a (span_at p m i)
+  led_to s so h a key (m, v, finds, inside) =
+      let f = h.found m key v finds in
+      let l = linked_size p is m f.0 f.1 in
+      (m, f.0, l, f.1, subst (IsIn a) (ap (λ (z : ℕ). (s.value z).span) f.3 ∙ span-number p is s so h m f.0 l (inl f.1)) inside)
+
+  pub no_key_anywhere : (a : ℕ) → (IsAtValue p a → ⊥) → ShowsNoKey p a
+  no_key_anywhere a no_value s so h key leads =
+      let f = led_to s so h a key leads in
+      no_value (f.0, f.1, sized_map p f.0 f.1 f.2, f.2, f.4)
+
   pub nothing_there : (a : ℕ) → (IsAtValue p a → ⊥) → ShowsNoByte p a
   nothing_there a no_value s so h b at =
       let f = stands_at s so h a b at in
@@ -69,6 +81,18 @@ module _ (p : Contents) (is : IsStore p) where
         let f = stands_at s so h a b at in
         let same = one_at p is f.0 r.map f.1 r.element a f.2 reach.element f.4 is_in in
         free (subst (λ (m : ℕ). IsTakenRow p.runs (rows p m) r.element) same.0 (subst (IsTakenRow p.runs (rows p f.0)) same.1 f.3))
+
+    pub key_there : (key : List ℕ) → IsLinked row r.element × (key ≡ key_of row r.element) → ShowsKey p a key
+    key_there key (linked, e) s so h =
+        (r.map, h.number r.map r.element,
+        subst (λ (k : List ℕ). Finds s r.map k (h.number r.map r.element)) (sym e) (h.leads r.map r.element linked),
+        subst (IsIn a) (sym (span-number p is s so h r.map r.element reach.element (inl linked))) is_in)
+
+    pub no_key_there : (IsLinked row r.element → ⊥) → ShowsNoKey p a
+    no_key_there free s so h key leads =
+        let f = led_to s so h a key leads in
+        let same = one_at p is f.0 r.map f.1 r.element a f.2 reach.element f.4 is_in in
+        free (subst (λ (m : ℕ). IsLinked (rows p m) r.element) same.0 (subst (IsLinked (rows p f.0)) same.1 f.3))
 
     far : r.offset ≡ a - (span_at p r.map r.element).at
     far = let at = reach.at in omega arith

@@ -1,6 +1,7 @@
 -- What a `PlainStore` tells of each plain store that it shows.
 use Rattle.std.specs.Prelude.{ℕ, List}
-use Rattle.bpf_shared.specs.Store.{Plain}
+use Rattle.bpf_shared.specs.Shape.{IsIn}
+use Rattle.bpf_shared.specs.Store.{Plain, Finds}
 use Rattle.bpf_shared.specs.Sound.{IsSoundStore}
 use Rattle.bpf_plain.specs.PlainStore.{Contents, StandsFor}
 use Rattle.bpf_shared.specs.Listing.{Pair, IsListing, IsByteAt, IsOnlyByteAt}
@@ -16,3 +17,15 @@ ShowsByte p a b = (s : Plain) → IsSoundStore s → StandsFor p s → IsOnlyByt
 -- at the address no value has a byte that is in a map or kept
 abbrev pub ShowsNoByte : Contents → ℕ → Type 0
 ShowsNoByte p a = (s : Plain) → IsSoundStore s → StandsFor p s → (b : ℕ) → IsByteAt s a b → ⊥
+
+-- the key leads to a value that has a byte at the address
+abbrev pub LeadsTo : Plain → ℕ → List ℕ → Type 0
+LeadsTo s a key = (m : ℕ) × (v : ℕ) × Finds s m key v × IsIn a (s.value v).span
+
+abbrev pub ShowsKey : Contents → ℕ → List ℕ → Type 0
+ShowsKey p a key = (s : Plain) → IsSoundStore s → StandsFor p s → LeadsTo s a key
+
+-- no key does
+abbrev pub ShowsNoKey : Contents → ℕ → Type 0
+ShowsNoKey p a =
+    (s : Plain) → IsSoundStore s → StandsFor p s → (key : List ℕ) → LeadsTo s a key → ⊥

@@ -81,7 +81,7 @@ impl PlainStore {
     ghost use Rattle.bpf_plain.specs.Private.Contents.{IsMade, has_cpu, is_running, runs_of, element_count, span_at};
     ghost use Rattle.bpf_plain.specs.Private.Changes.{IsAtValue, IsAlike, IsReach};
     ghost use Rattle.bpf_shared.specs.Listing.{listed};
-    ghost use Rattle.bpf_plain.specs.Shows.{Lists, ShowsByte, ShowsNoByte};
+    ghost use Rattle.bpf_plain.specs.Shows.{Lists, ShowsByte, ShowsKey, ShowsNoByte, ShowsNoKey};
 
     /// A store with no keys, and no CPU in a run. Want of memory is its only refusal.
     pub fn new(alloc: Global, shape: StoreShape) -> Result<PlainStore, ShapeError>
@@ -119,6 +119,17 @@ impl PlainStore {
         self.tables[reach.map].byte(reach.element, reach.offset, runs)
     }
 
+    /// The key that leads to the value at an address. None where no map has a value there, as of a
+    /// value that is only held.
+    pub fn key_at(&self, address: u64) -> Option<&[u8]>
+        ensures found { IfSome result (λ key. ShowsKey self.now address key.now) }
+        ensures none { IfNone result (ShowsNoKey self.now address) }
+    {
+        let tables = self.tables.as_slice();
+        let reach = self.place(address)?;
+        tables[reach.map].linked_key(reach.element)
+    }
+
     fn allocate(alloc: Global, shape: &StoreShape) -> Result<PlainStore, AllocError>
         ensures { IfOk result (IsMade shape.now) }
     {
@@ -128,15 +139,15 @@ impl PlainStore {
         })
     }
 
-    /// Makes sure that the CPU's runs can be counted up once more. After 2^64 - 1 runs that takes a
+    /// Makes sure that the CPU's runs can be counted up once more. After 2^32 - 1 runs that takes a
     /// new count, from 0 on, and every run of the old one is forgotten.
     fn make_countable(&mut self, cpu: u8)
         requires serves { has_cpu self.old cpu ≡ true }
         requires idle { is_running self.old cpu ≡ false }
-        ensures countable { (runs_of self.new cpu).count < u64.MAX }
+        ensures countable { (runs_of self.new cpu).count < u32.MAX }
         ensures alike { IsAlike self.old self.new }
     {
-        if self.runs[cpu as usize].count < u64::MAX {
+        if self.runs[cpu as usize].count < u32::MAX {
             return;
         }
         self.runs[cpu as usize].count = 0;

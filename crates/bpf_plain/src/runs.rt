@@ -3,6 +3,6 @@
 /// How many runs a CPU of a `PlainStore` began, and whether it is in the last of them.
 #[derive(Clone, Copy)]
 pub struct Runs {
-    pub count: u64,
+    pub count: u32,
     pub running: bool,
 }

@@ -48,9 +48,9 @@ pub struct Table {
     /// The values of the elements, one behind the other.
     values: Vec<u8>,
     /// By element and CPU, the run that looked the value up; 0 is no run.
-    looked_up: Vec<u64>,
+    looked_up: Vec<u32>,
     /// By element and CPU, the last run that had begun when the value left the map; 0 is no run.
-    left: Vec<u64>,
+    left: Vec<u32>,
 }
 
 impl Model for Table {
@@ -83,7 +83,7 @@ const IDLE: Runs = Runs {
 };
 
 /// Some CPU is still in the run that is noted for it.
-fn has_current(notes: &[u64], runs: &[Runs]) -> bool
+fn has_current(notes: &[u32], runs: &[Runs]) -> bool
     requires { length notes.now ≡ length runs.now }
     ensures { IsTrue result ↔ HasCurrent notes.now runs.now }
 {
@@ -96,7 +96,7 @@ fn has_current(notes: &[u64], runs: &[Runs]) -> bool
 }
 
 /// How far elements stay passed when one of them leaves the map, whose notes begin here.
-fn passed_without(passed: usize, element: usize, left: &[u64], first: usize, seen: &[Runs]) -> usize
+fn passed_without(passed: usize, element: usize, left: &[u32], first: usize, seen: &[Runs]) -> usize
     requires { first + length seen.now ≤ length left.now }
     ensures below { result ≤ passed }
     ensures kept { element < result → HasCurrentAt left.now first seen.now }
@@ -144,7 +144,7 @@ fn see(seen: &mut [Runs], runs: &[Runs], passed: usize, element: usize)
 }
 
 /// Notes for each CPU the run that it began last.
-fn note_runs(notes: &mut [u64], runs: &[Runs])
+fn note_runs(notes: &mut [u32], runs: &[Runs])
     requires { length notes.old ≡ length runs.now }
     ensures { notes.new ≡ map count_of runs.now }
 {
@@ -158,7 +158,7 @@ fn note_runs(notes: &mut [u64], runs: &[Runs])
 }
 
 /// The same from one of the notes on.
-fn note_runs_at(notes: &mut [u64], first: usize, runs: &[Runs])
+fn note_runs_at(notes: &mut [u32], first: usize, runs: &[Runs])
     requires { first + length runs.now ≤ length notes.old }
     ensures { notes.new ≡ with_part notes.old first (map count_of runs.now) }
 {
@@ -180,7 +180,7 @@ fn put_part(bytes: &mut [u8], first: usize, others: &[u8])
 
 /// Takes out the notes of one CPU in so many elements.
 #[tactic(auto, using(crate::proofs::Blocks::in_block))]
-fn erase(notes: &mut [u64], elements: usize, cpus: usize, cpu: usize)
+fn erase(notes: &mut [u32], elements: usize, cpus: usize, cpu: usize)
     requires notes { length notes.old ≡ elements * cpus }
     requires cpu { cpu < cpus }
     ensures { Erases cpus cpu notes.old notes.new }
@@ -264,7 +264,7 @@ impl Table {
 
     /// The CPU's run of this number looked the element up.
     #[tactic(auto, using(crate::proofs::Blocks::block_fits, crate::proofs::Blocks::in_block))]
-    pub fn look_up(&mut self, element: usize, cpu: u8, run: u64)
+    pub fn look_up(&mut self, element: usize, cpu: u8, run: u32)
         requires element { element < elements self.old.shape }
         requires cpu { cpu < self.old.cpus }
         ensures noted { self.new ≡ noted_row element cpu run self.old }
@@ -514,6 +514,20 @@ impl Table {
     {
         if self.is_taken(element, runs) {
             Some(self.value(element)[offset])
+        } else {
+            None
+        }
+    }
+
+    /// The key in an element that is in the map.
+    pub fn linked_key(&self, element: usize) -> Option<&[u8]>
+        requires { element < elements self.now.shape }
+        ensures linked { IfSome result
+            (λ key. IsLinked self.now element × (key.now ≡ key_of self.now element)) }
+        ensures free { IfNone result (IsLinked self.now element → ⊥) }
+    {
+        if self.linked[element] {
+            Some(self.key(element))
         } else {
             None
         }

@@ -23,8 +23,8 @@ pub(crate) struct Parts {
     linked: Vec<bool>,
     keys: Vec<u8>,
     values: Vec<u8>,
-    looked_up: Vec<u64>,
-    left: Vec<u64>,
+    looked_up: Vec<u32>,
+    left: Vec<u32>,
 }
 
 /// Puts so many bytes behind: the first of these where they are there, else zeros.
@@ -46,8 +46,8 @@ fn push_part(out: &mut Vec<u8>, present: bool, size: usize, rest: &[u8]) -> Resu
 /// Puts the notes of an element behind. Whether some CPU has anything to do with it.
 fn push_notes(
     notes: &[u8],
-    looked_up: &mut Vec<u64>,
-    left: &mut Vec<u64>,
+    looked_up: &mut Vec<u32>,
+    left: &mut Vec<u32>,
 ) -> Result<bool, AllocError>
     ensures held { OnOk result
         (looked_up.new.items ≡ looked_up.old.items ++ map low_bit notes.now) }
@@ -57,8 +57,8 @@ fn push_notes(
 {
     let mut noted = false;
     for note in notes {
-        looked_up.push(u64::from(*note % 2))?;
-        left.push(u64::from(*note / 2))?;
+        looked_up.push(u32::from(*note % 2))?;
+        left.push(u32::from(*note / 2))?;
         noted = *note != 0 || noted;
     }
     Ok(noted)

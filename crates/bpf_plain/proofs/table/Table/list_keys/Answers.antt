@@ -1,9 +1,9 @@
-use Rattle.std.proofs.Common.{◌≡◌, ℕ, ◌+◌, ◌<◌, Bool, true, false, List, [], ◌∷◌, ◌++◌, length, slice_index_or, sym, ap, subst, ◌∙◌, arith}
+use Rattle.std.proofs.Common.{◌≡◌, ℕ, ◌+◌, ◌<◌, Bool, false, List, [], ◌∷◌, ◌++◌, length, slice_index_or, sym, ap, subst, ◌∙◌, arith}
 use Rattle.std.proofs.lemmas.List.{get_or_read}
 use Rattle.bpf_shared.specs.declared.shapes.MapShape.{MapShape}
 use Rattle.bpf_plain.specs.Private.Rows.{Rows, IsTable, IsLinked}
 use Rattle.bpf_plain.specs.Private.Pairs.{AreKeysBelow}
-use Rattle.bpf_plain.proofs.KeyRows.{keys_none, keys_past, keys_room, keys_more, key_size}
+use Rattle.bpf_plain.proofs.KeyRows.{keys_none, keys_room, keys_more, key_size}
 use Rattle.bpf_plain.proofs.table.Table.list_keys.Goals as goal
 
 pub elements-init : goal.elements-init
