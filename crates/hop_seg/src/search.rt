@@ -99,6 +99,7 @@ fn keyed_item<S: SegReads>(words: &mut S, key: &[u8], bucket: usize, distance: u
 
 /// Looks through the overflow list, from its head on. Of sound words it is no longer than there
 /// are elements.
+#[inline(always)]
 fn locate_listed<S: SegReads>(words: &mut S, key: &[u8]) -> Option<Spot>
     ensures found { (w : Words) → S.agrees words.new w → Sound w →
         MatchOption result (NoneListed w key.now) (IsSpot w key.now) }
