@@ -1,20 +1,22 @@
 //! Lookups.
-ghost use Rattle.std.specs.Prelude.{◌≡◌, ◌<◌, ◌%◌, true, length, []};
+ghost use Rattle.std.specs.Prelude.{◌≡◌, ◌≢◌, ◌<◌, ◌%◌, true, length, []};
 ghost use Rattle.hop_words.specs.declared.known.Known.{Known};
 ghost use Rattle.bpf_shared.specs.declared.events.Event.TheVariants.{Lookup};
 ghost use Rattle.hop_layout.specs.Home.{home_of};
+ghost use Rattle.hop_words.specs.Content.{item};
 ghost use Rattle.hop_words.specs.Ghost.{shape_at};
 ghost use Rattle.hop_words.specs.Kinds.{LookedUp, found_span};
 ghost use Rattle.hop_words.specs.Locking.{lock_of};
 ghost use Rattle.hop_map.specs.Private.UnderLock.{LockShows};
-ghost use Rattle.hop_map.specs.Finding.{AsksForKey, Looked, OnceEnds, TakesLock, LooksAtMost, most_loads};
-ghost use Rattle.hop_map.specs.Private.Finding.{AsksHere, IsHomed, Approaching, Walked};
 ghost use Rattle.hop_map.specs.Noting.{CallNotes};
+ghost use Rattle.hop_map.specs.Finding.{AsksForKey, Looked, OnceEnds, TakesLock, Disturbs, LooksAtMost, most_loads, home_in};
+ghost use Rattle.hop_map.specs.Private.Finding.{AsksHere, IsHomed, Approaching, Walked, ReadsFound, TryEnds, SeesDisturbances, LooksUp};
 ghost use Rattle.hop_words.specs.Depths.{stamp_depth};
 
 use crate::counts::MapCounts;
-use crate::homing::{KeyHome, homing, shape_of};
+use crate::homing::{KeyHome, homed, homing, shape_of};
 use crate::locked::LockedWords;
+use crate::numbers::{item, link_word};
 use crate::once::Once;
 use crate::peeked::PeekedWords;
 use crate::waiting::lock_home;
@@ -58,6 +60,29 @@ pub(crate) fn find_here<'a>(
     (words.unlock_lookup(stamp, key, found), found)
 }
 
+// The key's element, found under the lock of the key's segment. The CPU waits for it.
+fn locate_locked<R: Wait>(
+    rt: &R,
+    table: &HopTable,
+    lane: Lane,
+    map: u8,
+    key: &[u8],
+) -> (Lane, Option<u32>)
+    requires table { lane.table ≡ table.now.id }
+    requires asks { AsksForKey table.now.about lane.known map key.now }
+    ensures table { result.0.table ≡ table.now.id }
+    ensures found { Looked table.now.about lane.known map key.now
+        (found_span table.now.about map result.1) result.0.known }
+    ensures readings { result.0.known.readings ≡ [] }
+    ensures locked { TakesLock table.now.about lane.known map key.now result.0.known }
+{
+    let at = homing(table, map, key);
+    let mut lane = lane;
+    let taken = lock_home(rt, table, &mut lane, map, at.home);
+    let words = LockedWords::new(table, lane, map, taken.segment, at.key_size, at.elements);
+    find_here(words, taken.stamp, at.home, key)
+}
+
 /// Where the key's value lies, found under the lock of the key's segment. The CPU waits for it.
 pub fn find_locked<R: Wait>(
     rt: &R,
@@ -73,11 +98,7 @@ pub fn find_locked<R: Wait>(
     ensures readings { result.0.known.readings ≡ [] }
     ensures locked { TakesLock table.now.about lane.known map key.now result.0.known }
 {
-    let at = homing(table, map, key);
-    let mut lane = lane;
-    let taken = lock_home(rt, table, &mut lane, map, at.home);
-    let words = LockedWords::new(table, lane, map, taken.segment, at.key_size, at.elements);
-    let (lane, found) = find_here(words, taken.stamp, at.home, key);
+    let (lane, found) = locate_locked(rt, table, lane, map, key);
     (lane, span_of(table, map, found))
 }
 
@@ -118,8 +139,16 @@ fn walk(table: &HopTable, lane: Lane, map: u8, home: u32, way: Way, stamp: u64) 
     unreachable!()
 }
 
-// From the first stamp of the key's segment, which was unlocked, to its last: that answers the lookup,
-// or is another.
+/// What a reading of a segment came to: the key's element, if its words show one, and the stamp that
+/// was seen last.
+#[derive(Clone, Copy)]
+pub(crate) struct SegmentRead {
+    pub(crate) found: Option<u32>,
+    pub(crate) last: u64,
+}
+
+// From the first stamp of the key's segment, which was unlocked, to its last: where that is the same
+// stamp, the lookup is answered.
 #[inline(always)]
 fn read_segment(
     table: &HopTable,
@@ -129,63 +158,102 @@ fn read_segment(
     first: u64,
     at: KeyHome,
     key: &[u8],
-) -> (Lane, Once)
+) -> (Lane, SegmentRead)
     requires table { lane.table ≡ table.now.id }
     requires homed { IsHomed table.now.about map key.now at }
     requires even { first % 2 ≡ 0 }
     requires begins { (l : Known) × AsksForKey table.now.about l map key.now
         × Walked table.now.about l map at.home segment first lane.known }
     ensures table { result.0.table ≡ table.now.id }
-    ensures ends { (l : Known) → AsksForKey table.now.about l map key.now
+    ensures same { (l : Known) → AsksForKey table.now.about l map key.now
         → Walked table.now.about l map at.home segment first lane.known
-        → OnceEnds table.now.about l map key.now result.1 result.0.known }
+        → result.1.last ≡ first
+        → ReadsFound table.now.about l map key.now result.1.found result.0.known }
+    ensures other { (l : Known) → AsksForKey table.now.about l map key.now
+        → Walked table.now.about l map at.home segment first lane.known
+        → result.1.last ≢ first
+        → Disturbs table.now.about l map key.now first result.1.last result.0.known }
     ensures loads { (l : Known) → AsksForKey table.now.about l map key.now
         → Walked table.now.about l map at.home segment first lane.known
         → LooksAtMost (most_loads table.now.about map) l result.0.known }
 {
+    let _first = first;
     let mut words = PeekedWords::new(table, lane, map, segment, at.key_size, at.elements);
     let found = find(&mut words, key, at.home);
     let (lane, last) = words.see_again(key, found);
-    if last != first {
-        return (lane, Once::Disturbed(first, last));
-    }
-    match span_of(table, map, found) {
-        Some(span) => (lane, Once::Found(span)),
-        None => (lane, Once::Absent),
-    }
+    (lane, SegmentRead { found, last })
 }
 
-// A lookup without a lock from the first segment on, which isn't the key's: only in a map that grows
-// are there others on the way. It stands out of line, so that a map that doesn't grow doesn't pay.
+/// What one reading came to: the key's element, if there is one; or, where it was disturbed, the
+/// stamp as it was read first and last.
+#[derive(Clone, Copy)]
+pub(crate) enum Tried {
+    Read(Option<u32>),
+    Disturbed(u64, u64),
+}
+
+// A reading from the first segment on, which isn't the key's: only in a map that grows are there
+// others on the way. It stands out of line, so that a map that doesn't grow doesn't pay.
 #[inline(never)]
-fn find_on_way(
+fn try_on_way(
     table: &HopTable,
     lane: Lane,
     map: u8,
     way: Way,
     first: u64,
-    at: KeyHome,
+    home: u32,
     key: &[u8],
-) -> (Lane, Once)
+) -> (Lane, Tried)
     requires table { lane.table ≡ table.now.id }
     requires map { map < length table.now.about.shape.maps }
-    requires homed { IsHomed table.now.about map key.now at }
+    requires home { home ≡ home_in table.now.about map key.now }
     requires grows { (shape_at table.now.about map).grow ≡ true }
     requires begins { (l : Known) × AsksForKey table.now.about l map key.now
-        × Approaching table.now.about l map at.home way first [] lane.known }
+        × Approaching table.now.about l map home way first [] lane.known }
     ensures table { result.0.table ≡ table.now.id }
     ensures ends { (l : Known) → AsksForKey table.now.about l map key.now
-        → Approaching table.now.about l map at.home way first [] lane.known
-        → OnceEnds table.now.about l map key.now result.1 result.0.known }
+        → Approaching table.now.about l map home way first [] lane.known
+        → TryEnds table.now.about l map key.now result.1 result.0.known }
     ensures loads { (l : Known) → AsksForKey table.now.about l map key.now
-        → Approaching table.now.about l map at.home way first [] lane.known
+        → Approaching table.now.about l map home way first [] lane.known
         → LooksAtMost (most_loads table.now.about map) l result.0.known }
 {
-    let (lane, segment, stamp) = walk(table, lane, map, at.home, way, first);
+    let at = homed(table, map, home);
+    let (lane, segment, stamp) = walk(table, lane, map, home, way, first);
     if stamp % 2 == 1 {
-        return (lane, Once::Disturbed(stamp, stamp));
+        return (lane, Tried::Disturbed(stamp, stamp));
     }
-    read_segment(table, lane, map, segment, stamp, at, key)
+    let (lane, read) = read_segment(table, lane, map, segment, stamp, at, key);
+    if read.last != stamp {
+        return (lane, Tried::Disturbed(stamp, read.last));
+    }
+    (lane, Tried::Read(read.found))
+}
+
+// One reading.
+fn try_once(table: &HopTable, lane: Lane, map: u8, key: &[u8]) -> (Lane, Tried)
+    requires table { lane.table ≡ table.now.id }
+    requires asks { AsksForKey table.now.about lane.known map key.now }
+    ensures table { result.0.table ≡ table.now.id }
+    ensures ends { TryEnds table.now.about lane.known map key.now result.1 result.0.known }
+    ensures loads { LooksAtMost (most_loads table.now.about map) lane.known result.0.known }
+{
+    let mut lane = lane;
+    let at = homing(table, map, key);
+    let way = table.first_way(map, at.home);
+    let first = lane.see_stamp(table, map, way.segment);
+    // Unlocked, and of this depth: the segment is the key's.
+    if first % 64 == 2 * u64::from(way.level) {
+        let (lane, read) = read_segment(table, lane, map, way.segment, first, at, key);
+        if read.last != first {
+            return (lane, Tried::Disturbed(first, read.last));
+        }
+        return (lane, Tried::Read(read.found));
+    }
+    if first % 2 == 1 {
+        return (lane, Tried::Disturbed(first, first));
+    }
+    try_on_way(table, lane, map, way, first, at.home, key)
 }
 
 /// Where the key's value lies, by one reading of the key's segment, which takes no lock and writes
@@ -198,22 +266,122 @@ pub fn find_once(table: &HopTable, lane: Lane, map: u8, key: &[u8]) -> (Lane, On
     ensures ends { OnceEnds table.now.about lane.known map key.now result.1 result.0.known }
     ensures loads { LooksAtMost (most_loads table.now.about map) lane.known result.0.known }
 {
+    let (lane, tried) = try_once(table, lane, map, key);
+    match tried {
+        Tried::Read(found) => match span_of(table, map, found) {
+            Some(span) => (lane, Once::Found(span)),
+            None => (lane, Once::Absent),
+        },
+        Tried::Disturbed(first, last) => (lane, Once::Disturbed(first, last)),
+    }
+}
+
+// Further readings of a lookup, after one that was disturbed: up to seven. Where each of them was
+// too, the CPU waits for the lock. It is rare, and so stands out of line. Answers the word that
+// leads to the element, which goes by a register.
+#[cold]
+fn look_again<R: Wait>(
+    rt: &R,
+    table: &HopTable,
+    lane: Lane,
+    counts: &mut MapCounts,
+    map: u8,
+    key: &[u8],
+) -> (Lane, u64)
+    requires table { lane.table ≡ table.now.id }
+    requires begins { (l : Known) × AsksForKey table.now.about l map key.now
+        × SeesDisturbances table.now.about l map key.now 1 lane.known }
+    ensures table { result.0.table ≡ table.now.id }
+    ensures found { (l : Known) → AsksForKey table.now.about l map key.now
+        → SeesDisturbances table.now.about l map key.now 1 lane.known
+        → LooksUp table.now.about l map key.now (item result.1) result.0.known }
+{
+    let mut lane = lane;
+    counts.disturbed(map);
+    'tries: for _tried in 1..8u32 {
+        let (after, tried) = try_once(table, lane, map, key);
+        lane = after;
+        match tried {
+            Tried::Read(found) => return (lane, link_word(found)),
+            Tried::Disturbed(_, _) => counts.disturbed(map),
+        }
+    }
+    counts.locked(map);
+    let (lane, found) = locate_locked(rt, table, lane, map, key);
+    (lane, link_word(found))
+}
+
+// A lookup from the first segment on, which isn't the key's, as `try_on_way` and then `look_again`.
+#[inline(never)]
+fn look_on_way<R: Wait>(
+    rt: &R,
+    table: &HopTable,
+    lane: Lane,
+    counts: &mut MapCounts,
+    map: u8,
+    way: Way,
+    first: u64,
+    home: u32,
+    key: &[u8],
+) -> (Lane, u64)
+    requires table { lane.table ≡ table.now.id }
+    requires map { map < length table.now.about.shape.maps }
+    requires home { home ≡ home_in table.now.about map key.now }
+    requires grows { (shape_at table.now.about map).grow ≡ true }
+    requires begins { (l : Known) × AsksForKey table.now.about l map key.now
+        × Approaching table.now.about l map home way first [] lane.known }
+    ensures table { result.0.table ≡ table.now.id }
+    ensures found { (l : Known) → AsksForKey table.now.about l map key.now
+        → Approaching table.now.about l map home way first [] lane.known
+        → LooksUp table.now.about l map key.now (item result.1) result.0.known }
+{
+    let (lane, tried) = try_on_way(table, lane, map, way, first, home, key);
+    match tried {
+        Tried::Read(found) => (lane, link_word(found)),
+        Tried::Disturbed(_, _) => look_again(rt, table, lane, counts, map, key),
+    }
+}
+
+// The key's element, if there is one. Up to eight readings take no lock; where each was disturbed,
+// the CPU waits for the lock.
+#[inline(always)]
+fn locate<R: Wait>(
+    rt: &R,
+    table: &HopTable,
+    lane: Lane,
+    counts: &mut MapCounts,
+    map: u8,
+    key: &[u8],
+) -> (Lane, Option<u32>)
+    requires table { lane.table ≡ table.now.id }
+    requires asks { AsksForKey table.now.about lane.known map key.now }
+    ensures table { result.0.table ≡ table.now.id }
+    ensures found { LooksUp table.now.about lane.known map key.now result.1 result.0.known }
+{
     let mut lane = lane;
     let at = homing(table, map, key);
     let way = table.first_way(map, at.home);
     let first = lane.see_stamp(table, map, way.segment);
-    // Unlocked, and of this depth: the segment is the key's.
+    // As in `try_once`; what is rare is called.
     if first % 64 == 2 * u64::from(way.level) {
-        return read_segment(table, lane, map, way.segment, first, at, key);
+        let (lane, read) = read_segment(table, lane, map, way.segment, first, at, key);
+        if read.last == first {
+            return (lane, read.found);
+        }
+        let (lane, word) = look_again(rt, table, lane, counts, map, key);
+        return (lane, item(word));
     }
     if first % 2 == 1 {
-        return (lane, Once::Disturbed(first, first));
+        let (lane, word) = look_again(rt, table, lane, counts, map, key);
+        return (lane, item(word));
     }
-    find_on_way(table, lane, map, way, first, at, key)
+    let (lane, word) = look_on_way(rt, table, lane, counts, map, way, first, at.home, key);
+    (lane, item(word))
 }
 
 /// Where the key's value lies. Up to eight readings take no lock; where each was disturbed, the CPU
 /// waits for the lock. The counts tell of both.
+#[inline(always)]
 pub(crate) fn lookup<R: Wait>(
     rt: &R,
     table: &HopTable,
@@ -229,16 +397,6 @@ pub(crate) fn lookup<R: Wait>(
     ensures spares { CallNotes table.now.about (Lookup map key.now result.1)
         lane.known result.0.known }
 {
-    let mut lane = lane;
-    'tries: for _tried in 0..8u32 {
-        let (after, once) = find_once(table, lane, map, key);
-        lane = after;
-        match once {
-            Once::Found(span) => return (lane, Some(span)),
-            Once::Absent => return (lane, None),
-            Once::Disturbed(_, _) => counts.disturbed(map),
-        }
-    }
-    counts.locked(map);
-    find_locked(rt, table, lane, map, key)
+    let (lane, found) = locate(rt, table, lane, counts, map, key);
+    (lane, span_of(table, map, found))
 }

@@ -26,7 +26,25 @@ pub(crate) fn shape_of(table: &HopTable, map: u8) -> MapShape
     table.about().shape.maps()[usize::from(map)]
 }
 
+/// This home, with the sizes of the map.
+#[inline(always)]
+pub(crate) fn homed(table: &HopTable, map: u8, home: u32) -> KeyHome
+    requires map { map < length table.now.about.shape.maps }
+    ensures home { result.home ≡ home }
+    ensures key { result.key_size ≡ (shape_at table.now.about map).key }
+    ensures small { result.key_size ≤ 64 }
+    ensures elements { result.elements ≡ elements_of (shape_at table.now.about map) }
+{
+    let shape = shape_of(table, map);
+    KeyHome {
+        home,
+        key_size: shape.key as usize,
+        elements: elements(&shape),
+    }
+}
+
 /// Where a key of a map is at home.
+#[inline(always)]
 pub(crate) fn homing(table: &HopTable, map: u8, key: &[u8]) -> KeyHome
     requires map { map < length table.now.about.shape.maps }
     ensures home { result.home ≡ home_of key.now table.now.about.seed
@@ -35,11 +53,6 @@ pub(crate) fn homing(table: &HopTable, map: u8, key: &[u8]) -> KeyHome
     ensures small { result.key_size ≤ 64 }
     ensures elements { result.elements ≡ elements_of (shape_at table.now.about map) }
 {
-    let shape = shape_of(table, map);
-    let home = home(key, table.about().seed, shape.mask);
-    KeyHome {
-        home,
-        key_size: shape.key as usize,
-        elements: elements(&shape),
-    }
+    let mask = shape_of(table, map).mask;
+    homed(table, map, home(key, table.about().seed, mask))
 }

@@ -1,6 +1,7 @@
 -- What a lookup asks of its key.
-use Rattle.std.specs.Prelude.{◌≡◌, ℕ, ◌%◌, ◌≤◌, true, List, ◌∷◌, ◌++◌, length}
+use Rattle.std.specs.Prelude.{◌≡◌, ℕ, ◌%◌, ◌≤◌, true, List, ◌∷◌, ◌++◌, Option, length}
 use Rattle.bpf_shared.specs.History.{events_of}
+use Rattle.bpf_shared.specs.declared.events.Event.TheVariants.{Lookup}
 use Rattle.bpf_shared.specs.Shape.{elements as elements_of}
 use Rattle.hop_layout.specs.declared.about.About.{About}
 use Rattle.hop_layout.specs.declared.place.Place.TheVariants.{Stamp}
@@ -11,12 +12,15 @@ use Rattle.hop_words.specs.declared.known.Sight.{Sight}
 use Rattle.hop_words.specs.declared.walking.Way.{Way}
 use Rattle.hop_words.specs.Depths.{stamp_depth, home_by}
 use Rattle.hop_words.specs.Ghost.{shape_at, IsSegment, Each}
-use Rattle.hop_words.specs.Kinds.{SaysDepth, noting}
+use Rattle.hop_words.specs.Kinds.{SaysDepth, found_span, noting}
 use Rattle.hop_words.specs.Sights.{look}
 use Rattle.hop_words.specs.Walking.{IsOnWay}
 use Rattle.bpf_shared.specs.Own.{in_run}
+use Rattle.hop_map.specs.declared.finding.Tried.{Tried}
+use Rattle.hop_map.specs.declared.finding.Tried.TheVariants.{Read, Disturbed}
 use Rattle.hop_map.specs.declared.homing.KeyHome.{KeyHome}
-use Rattle.hop_map.specs.Finding.{IsWay, IsDisturbedTry, all_sights}
+use Rattle.hop_map.specs.Finding.{IsWay, IsDisturbedTry, all_sights, Looked, ReadsOnce, Disturbs}
+use Rattle.hop_map.specs.Noting.{CallNotes}
 
 -- the key is at home in the segment of this depth
 pub record AsksHere (a : About) (l : Known) (m s d : ℕ) (key : List ℕ) : Type 0 where
@@ -68,3 +72,18 @@ pub record Walked (a : About) (l : Known) (m home s n : ℕ) (l' : Known) : Type
     readings = l'.readings;
     tally = look (Stamp m s) n ∷ (way ++ l.tally);
   }
+
+-- a reading that wasn't disturbed, by the element that it found
+abbrev pub ReadsFound : About → Known → ℕ → List ℕ → Option ℕ → Known → Type 0
+ReadsFound a l m key found l' =
+    Looked a l m key (found_span a m found) l' × ReadsOnce a l m key l'
+
+-- how one reading ends
+abbrev pub TryEnds : About → Known → ℕ → List ℕ → Tried → Known → Type 0
+TryEnds a l m key (Read found) l' = ReadsFound a l m key found l'
+TryEnds a l m key (Disturbed first last) l' = Disturbs a l m key first last l'
+
+-- a whole lookup, by the element that it found
+abbrev pub LooksUp : About → Known → ℕ → List ℕ → Option ℕ → Known → Type 0
+LooksUp a l m key found l' = Looked a l m key (found_span a m found) l'
+    × CallNotes a (Lookup m key (found_span a m found)) l l'

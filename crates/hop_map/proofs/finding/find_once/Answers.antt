@@ -1,61 +1,33 @@
-use Rattle.std.proofs.Common.{arith}
-use Rattle.hop_map.proofs.Onces.{disturbed_first, way_of}
-use Rattle.hop_map.proofs.Loads.{loads_stopped}
-use Rattle.hop_map.proofs.Ways.{first_stopped, first_there, first_near, first_grows}
+use Rattle.std.proofs.Common.{Option, sym, subst, ◌∙◌}
+use Rattle.bpf_shared.specs.declared.events.Span.{Span}
+use Rattle.hop_map.specs.declared.finding.Tried.{Tried}
+use Rattle.hop_map.specs.Finding.{Looked}
+use Rattle.hop_map.specs.Private.Finding.{TryEnds}
 use Rattle.hop_map.proofs.finding.find_once.Goals as goal
 
-pub read_segment-requires-clause-homed : goal.read_segment-requires-clause-homed
-read_segment-requires-clause-homed c = record {
-  home = c.homing-at.ensures.home;
-  key_size = c.homing-at.ensures.key;
-  small = c.homing-at.ensures.small;
-  elements = c.homing-at.ensures.elements;
-}
-
-pub read_segment-requires-clause-even : goal.read_segment-requires-clause-even
-read_segment-requires-clause-even c = let z = c.if-first-from.true in let l = c.from.ensures in omega arith
-
-pub read_segment-requires-clause-begins : goal.read_segment-requires-clause-begins
-read_segment-requires-clause-begins c = (c.args.lane.known, c.requires.asks, first_there c.args.table.now.about c.args.lane.known c.args.map c.homing-at.result.home c.see_stamp-first.result c.first_way-way.result c.see_stamp-first.new.self.known c.first_way-way.ensures.inside c.first_way-way.ensures.way c.first_way-way.ensures.level c.first_way-way.ensures.few c.see_stamp-first.ensures.seen (let z = c.if-first-from.true in let l = c.from.ensures in omega arith) (let z = c.if-first-from.true in let l = c.from.ensures in let f = c.first_way-way.ensures.few in omega arith))
-
-pub returns-then-first-from-clause-ends : goal.returns-then-first-from-clause-ends
-returns-then-first-from-clause-ends c = c.read_segment.ensures.ends c.args.lane.known c.requires.asks (first_there c.args.table.now.about c.args.lane.known c.args.map c.homing-at.result.home c.see_stamp-first.result c.first_way-way.result c.see_stamp-first.new.self.known c.first_way-way.ensures.inside c.first_way-way.ensures.way c.first_way-way.ensures.level c.first_way-way.ensures.few c.see_stamp-first.ensures.seen (let z = c.if-first-from.true in let l = c.from.ensures in omega arith) (let z = c.if-first-from.true in let l = c.from.ensures in let f = c.first_way-way.ensures.few in omega arith))
-
-pub returns-then-first-eq1-clause-ends : goal.returns-then-first-eq1-clause-ends
-returns-then-first-eq1-clause-ends c =
+pub returns-in-Some-clause-ends : goal.returns-in-Some-clause-ends
+returns-in-Some-clause-ends c =
     let a = c.args.table.now.about in
     let m = c.args.map in
     let key = c.args.key.now in
-    let odd = c.if-first-eq1.true in
-    let walked = first_stopped c.args.table.now.about c.args.lane.known c.args.map c.homing-at.result.home c.see_stamp-first.result c.first_way-way.result c.see_stamp-first.new.self.known c.first_way-way.ensures.inside c.first_way-way.ensures.way c.first_way-way.ensures.level c.first_way-way.ensures.few c.see_stamp-first.ensures.seen odd in
-    let way = way_of a m c.first_way-way.result.segment c.homing-at.result.home key walked.way c.homing-at.ensures.home walked.is_way in
-    disturbed_first a c.args.lane.known m c.first_way-way.result.segment c.see_stamp-first.result key c.requires.asks walked.way way c.see_stamp-first.new.self.known odd (walked.locked odd)
+    let l = c.args.lane.known in
+    let y = c.try_once-lane.result.0.known in
+    let e = subst (λ (t : Tried). TryEnds a l m key t y) c.in-Read.is c.try_once-lane.ensures.ends in
+    (subst (λ (o : Option Span). Looked a l m key o y) (sym c.span_of.ensures ∙ c.in-Some.is) e.0, e.1)
 
-pub find_on_way-requires-clause-homed : goal.find_on_way-requires-clause-homed
-find_on_way-requires-clause-homed c = record {
-  home = c.homing-at.ensures.home;
-  key_size = c.homing-at.ensures.key;
-  small = c.homing-at.ensures.small;
-  elements = c.homing-at.ensures.elements;
-}
+pub returns-in-None-clause-ends : goal.returns-in-None-clause-ends
+returns-in-None-clause-ends c =
+    let a = c.args.table.now.about in
+    let m = c.args.map in
+    let key = c.args.key.now in
+    let l = c.args.lane.known in
+    let y = c.try_once-lane.result.0.known in
+    let e = subst (λ (t : Tried). TryEnds a l m key t y) c.in-Read.is c.try_once-lane.ensures.ends in
+    (subst (λ (o : Option Span). Looked a l m key o y) (sym c.span_of.ensures ∙ c.in-None.is) e.0, e.1)
 
-pub find_on_way-requires-clause-grows : goal.find_on_way-requires-clause-grows
-find_on_way-requires-clause-grows c = first_grows c.args.table.now.about c.args.lane.known c.args.map c.homing-at.result.home c.see_stamp-first.result c.first_way-way.result c.see_stamp-first.new.self.known c.first_way-way.ensures.inside c.first_way-way.ensures.way c.first_way-way.ensures.level c.first_way-way.ensures.few c.see_stamp-first.ensures.seen (λ e. c.if-first-from.false (let z = c.if-first-eq1.false in let l = c.from.ensures in omega (arith, e)))
-
-pub find_on_way-requires-clause-begins : goal.find_on_way-requires-clause-begins
-find_on_way-requires-clause-begins c = (c.args.lane.known, c.requires.asks, first_near c.args.table.now.about c.args.lane.known c.args.map c.homing-at.result.home c.see_stamp-first.result c.first_way-way.result c.see_stamp-first.new.self.known c.first_way-way.ensures.inside c.first_way-way.ensures.way c.first_way-way.ensures.level c.first_way-way.ensures.few c.see_stamp-first.ensures.seen (let z = c.if-first-eq1.false in omega arith))
-
-pub returns-clause-ends : goal.returns-clause-ends
-returns-clause-ends c = c.find_on_way.ensures.ends c.args.lane.known c.requires.asks (first_near c.args.table.now.about c.args.lane.known c.args.map c.homing-at.result.home c.see_stamp-first.result c.first_way-way.result c.see_stamp-first.new.self.known c.first_way-way.ensures.inside c.first_way-way.ensures.way c.first_way-way.ensures.level c.first_way-way.ensures.few c.see_stamp-first.ensures.seen (let z = c.if-first-eq1.false in omega arith))
-
-pub returns-then-first-from-clause-loads : goal.returns-then-first-from-clause-loads
-returns-then-first-from-clause-loads c = c.read_segment.ensures.loads c.args.lane.known c.requires.asks (first_there c.args.table.now.about c.args.lane.known c.args.map c.homing-at.result.home c.see_stamp-first.result c.first_way-way.result c.see_stamp-first.new.self.known c.first_way-way.ensures.inside c.first_way-way.ensures.way c.first_way-way.ensures.level c.first_way-way.ensures.few c.see_stamp-first.ensures.seen (let z = c.if-first-from.true in let l = c.from.ensures in omega arith) (let z = c.if-first-from.true in let l = c.from.ensures in let f = c.first_way-way.ensures.few in omega arith))
-
-pub returns-clause-loads : goal.returns-clause-loads
-returns-clause-loads c = c.find_on_way.ensures.loads c.args.lane.known c.requires.asks (first_near c.args.table.now.about c.args.lane.known c.args.map c.homing-at.result.home c.see_stamp-first.result c.first_way-way.result c.see_stamp-first.new.self.known c.first_way-way.ensures.inside c.first_way-way.ensures.way c.first_way-way.ensures.level c.first_way-way.ensures.few c.see_stamp-first.ensures.seen (let z = c.if-first-eq1.false in omega arith))
-
-pub returns-then-first-eq1-clause-loads : goal.returns-then-first-eq1-clause-loads
-returns-then-first-eq1-clause-loads c =
-    let odd = c.if-first-eq1.true in
-    loads_stopped c.args.table.now.about c.args.lane.known c.args.map c.homing-at.result.home c.first_way-way.result.segment c.see_stamp-first.result c.see_stamp-first.new.self.known
-    (first_stopped c.args.table.now.about c.args.lane.known c.args.map c.homing-at.result.home c.see_stamp-first.result c.first_way-way.result c.see_stamp-first.new.self.known c.first_way-way.ensures.inside c.first_way-way.ensures.way c.first_way-way.ensures.level c.first_way-way.ensures.few c.see_stamp-first.ensures.seen odd) odd
+pub returns-in-Disturbed-clause-ends : goal.returns-in-Disturbed-clause-ends
+returns-in-Disturbed-clause-ends c =
+    let a = c.args.table.now.about in
+    let m = c.args.map in
+    let key = c.args.key.now in
+    subst (λ (t : Tried). TryEnds a c.args.lane.known m key t c.try_once-lane.result.0.known) c.in-Disturbed.is c.try_once-lane.ensures.ends

@@ -1,6 +1,5 @@
-use Rattle.std.proofs.Common.{sym, subst, ◌∙◌, Option}
-use Rattle.bpf_shared.specs.declared.events.Span.{Span}
-use Rattle.hop_map.specs.Finding.{Looked}
+use Rattle.std.proofs.Common.{◌≡◌, sym, ◌∙◌, ⊎_elim}
+use Rattle.hop_words.proofs.Small.{equal}
 use Rattle.hop_map.proofs.Peeking.{finds}
 use Rattle.hop_map.proofs.Onces.{asks_there, begun, home_there, disturbed_last, found_once, read_stamp, reads_once, walked_home, way_of}
 use Rattle.hop_map.proofs.Loads.{loads_found, loads_last}
@@ -48,8 +47,8 @@ see_again-lane-requires c =
     let i = home_there a l m s n key asks walked.way way home c.args.lane.known free.0 x.result y x.ensures.about x.ensures.known x.ensures.map x.ensures.segment c.find-found.ensures.rests h is in
     record { finds = finds y key c.find-found.result b h i c.find-found.ensures.found }
 
-pub returns-in-Some-clause-ends : goal.returns-in-Some-clause-ends
-returns-in-Some-clause-ends c = λ l asks walked.
+pub returns-clause-same : goal.returns-clause-same
+returns-clause-same c = λ l asks walked same.
     let a = c.args.table.now.about in
     let m = c.args.map in
     let key = c.args.key.now in
@@ -63,13 +62,12 @@ returns-in-Some-clause-ends c = λ l asks walked.
     let x = c.new-words in
     let y = c.find-found.new.words in
     let l3 = c.see_again-lane.result.0.known in (
-      subst (λ (o : Option Span). Looked a l m key o l3) (sym c.span_of.ensures ∙ c.in-Some.is)
-          (found_once a l m s n key asks walked.way way home c.args.lane.known free.0 x.result y x.ensures.about x.ensures.known x.ensures.map x.ensures.segment c.find-found.ensures.rests c.find-found.result c.see_again-lane.result.1 l3 c.see_again-lane.ensures.seen c.if-last-first.false),
-      reads_once a l m s n key asks walked.way way home c.args.lane.known free.0 x.result y x.ensures.about x.ensures.known x.ensures.map x.ensures.segment c.find-found.ensures.rests c.find-found.result c.see_again-lane.result.1 l3 c.see_again-lane.ensures.seen c.if-last-first.false c.requires.even,
+      found_once a l m s n key asks walked.way way home c.args.lane.known free.0 x.result y x.ensures.about x.ensures.known x.ensures.map x.ensures.segment c.find-found.ensures.rests c.find-found.result c.see_again-lane.result.1 l3 c.see_again-lane.ensures.seen same,
+      reads_once a l m s n key asks walked.way way home c.args.lane.known free.0 x.result y x.ensures.about x.ensures.known x.ensures.map x.ensures.segment c.find-found.ensures.rests c.find-found.result c.see_again-lane.result.1 l3 c.see_again-lane.ensures.seen same c.requires.even,
     )
 
-pub returns-in-None-clause-ends : goal.returns-in-None-clause-ends
-returns-in-None-clause-ends c = λ l asks walked.
+pub returns-clause-other : goal.returns-clause-other
+returns-clause-other c = λ l asks walked ne.
     let a = c.args.table.now.about in
     let m = c.args.map in
     let key = c.args.key.now in
@@ -82,30 +80,11 @@ returns-in-None-clause-ends c = λ l asks walked.
     let home = walked_home a m s n h key is free.1 in
     let x = c.new-words in
     let y = c.find-found.new.words in
-    let l3 = c.see_again-lane.result.0.known in (
-      subst (λ (o : Option Span). Looked a l m key o l3) (sym c.span_of.ensures ∙ c.in-None.is)
-          (found_once a l m s n key asks walked.way way home c.args.lane.known free.0 x.result y x.ensures.about x.ensures.known x.ensures.map x.ensures.segment c.find-found.ensures.rests c.find-found.result c.see_again-lane.result.1 l3 c.see_again-lane.ensures.seen c.if-last-first.false),
-      reads_once a l m s n key asks walked.way way home c.args.lane.known free.0 x.result y x.ensures.about x.ensures.known x.ensures.map x.ensures.segment c.find-found.ensures.rests c.find-found.result c.see_again-lane.result.1 l3 c.see_again-lane.ensures.seen c.if-last-first.false c.requires.even,
-    )
+    let l3 = c.see_again-lane.result.0.known in
+    disturbed_last a l m s n key asks walked.way way home c.args.lane.known free.0 x.result y x.ensures.about x.ensures.known x.ensures.map x.ensures.segment c.find-found.ensures.rests c.find-found.result c.see_again-lane.result.1 l3 c.see_again-lane.ensures.seen ne
 
-pub returns-then-last-first-clause-ends : goal.returns-then-last-first-clause-ends
-returns-then-last-first-clause-ends c = λ l asks walked.
-    let a = c.args.table.now.about in
-    let m = c.args.map in
-    let key = c.args.key.now in
-    let h = c.args.at.home in
-    let s = c.args.segment in
-    let n = c.args.first in
-    let is = c.requires.homed.home in
-    let way = way_of a m s h key walked.way is walked.is_way in
-    let free = walked.free c.requires.even in
-    let home = walked_home a m s n h key is free.1 in
-    let x = c.new-words in
-    let y = c.find-found.new.words in
-    disturbed_last a l m s n key asks walked.way way home c.args.lane.known free.0 x.result y x.ensures.about x.ensures.known x.ensures.map x.ensures.segment c.find-found.ensures.rests c.find-found.result c.see_again-lane.result.1 c.see_again-lane.result.0.known c.see_again-lane.ensures.seen c.if-last-first.true
-
-pub returns-in-Some-clause-loads : goal.returns-in-Some-clause-loads
-returns-in-Some-clause-loads c = λ l asks walked.
+pub returns-clause-loads : goal.returns-clause-loads
+returns-clause-loads c = λ l asks walked.
     let a = c.args.table.now.about in
     let m = c.args.map in
     let key = c.args.key.now in
@@ -120,40 +99,7 @@ returns-in-Some-clause-loads c = λ l asks walked.
     let y = c.find-found.new.words in
     let l3 = c.see_again-lane.result.0.known in
     let stamp = read_stamp a l m s n key asks walked.way way home c.args.lane.known free.0 x.result y x.ensures.about x.ensures.known x.ensures.map x.ensures.segment c.find-found.ensures.rests in
-    loads_found a l m h s n c.args.lane.known walked c.requires.even x.result y x.ensures.about x.ensures.known x.ensures.map c.find-found.ensures.rests c.find-found.ensures.reads key c.find-found.result c.see_again-lane.result.1 l3 c.see_again-lane.ensures.seen (c.if-last-first.false ∙ sym stamp)
-
-pub returns-in-None-clause-loads : goal.returns-in-None-clause-loads
-returns-in-None-clause-loads c = λ l asks walked.
-    let a = c.args.table.now.about in
-    let m = c.args.map in
-    let key = c.args.key.now in
-    let h = c.args.at.home in
-    let s = c.args.segment in
-    let n = c.args.first in
-    let is = c.requires.homed.home in
-    let way = way_of a m s h key walked.way is walked.is_way in
-    let free = walked.free c.requires.even in
-    let home = walked_home a m s n h key is free.1 in
-    let x = c.new-words in
-    let y = c.find-found.new.words in
-    let l3 = c.see_again-lane.result.0.known in
-    let stamp = read_stamp a l m s n key asks walked.way way home c.args.lane.known free.0 x.result y x.ensures.about x.ensures.known x.ensures.map x.ensures.segment c.find-found.ensures.rests in
-    loads_found a l m h s n c.args.lane.known walked c.requires.even x.result y x.ensures.about x.ensures.known x.ensures.map c.find-found.ensures.rests c.find-found.ensures.reads key c.find-found.result c.see_again-lane.result.1 l3 c.see_again-lane.ensures.seen (c.if-last-first.false ∙ sym stamp)
-
-pub returns-then-last-first-clause-loads : goal.returns-then-last-first-clause-loads
-returns-then-last-first-clause-loads c = λ l asks walked.
-    let a = c.args.table.now.about in
-    let m = c.args.map in
-    let key = c.args.key.now in
-    let h = c.args.at.home in
-    let s = c.args.segment in
-    let n = c.args.first in
-    let is = c.requires.homed.home in
-    let way = way_of a m s h key walked.way is walked.is_way in
-    let free = walked.free c.requires.even in
-    let home = walked_home a m s n h key is free.1 in
-    let x = c.new-words in
-    let y = c.find-found.new.words in
-    let l3 = c.see_again-lane.result.0.known in
-    let stamp = read_stamp a l m s n key asks walked.way way home c.args.lane.known free.0 x.result y x.ensures.about x.ensures.known x.ensures.map x.ensures.segment c.find-found.ensures.rests in
-    loads_last a l m h s n c.args.lane.known walked c.requires.even x.result y x.ensures.about x.ensures.known x.ensures.map c.find-found.ensures.rests c.find-found.ensures.reads key c.find-found.result c.see_again-lane.result.1 l3 c.see_again-lane.ensures.seen (λ e. c.if-last-first.true (e ∙ stamp))
+    ⊎_elim
+    (λ (same : c.see_again-lane.result.1 ≡ n). loads_found a l m h s n c.args.lane.known walked c.requires.even x.result y x.ensures.about x.ensures.known x.ensures.map c.find-found.ensures.rests c.find-found.ensures.reads key c.find-found.result c.see_again-lane.result.1 l3 c.see_again-lane.ensures.seen (same ∙ sym stamp))
+    (λ ne. loads_last a l m h s n c.args.lane.known walked c.requires.even x.result y x.ensures.about x.ensures.known x.ensures.map c.find-found.ensures.rests c.find-found.ensures.reads key c.find-found.result c.see_again-lane.result.1 l3 c.see_again-lane.ensures.seen (λ e. ne (e ∙ stamp)))
+    (equal c.see_again-lane.result.1 n)
