@@ -1,4 +1,5 @@
 pub mod Lines
 pub mod Reports
+pub mod Watched
 pub mod Lemmas
 pub mod Private

@@ -10,3 +10,6 @@ mod telling;
 mod watching;
 
 pub use history::run_with_history;
+pub use note::Note;
+pub use recorder::Recorder;
+pub use watching::watch;

@@ -9,7 +9,7 @@ use std::alloc::{AllocError, Global};
 
 /// A call of a store with its reply.
 #[derive(Drop)]
-pub(crate) enum Note {
+pub enum Note {
     Begin,
     End,
     Lookup {

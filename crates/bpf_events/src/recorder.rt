@@ -8,7 +8,7 @@ use std::marker::Model;
 
 /// A plain store, and notes of the calls of one CPU.
 #[derive(Drop)]
-pub(crate) struct Recorder {
+pub struct Recorder {
     alloc: Global,
     store: PlainStore,
     cpu: u8,
@@ -37,7 +37,7 @@ impl Recorder {
     ghost use Rattle.bpf_events.specs.Private.Recording.{event_of};
 
     /// A recorder over a store.
-    pub(crate) fn new(alloc: Global, store: PlainStore) -> Recorder
+    pub fn new(alloc: Global, store: PlainStore) -> Recorder
         ensures { result.store ≡ store }
     {
         Recorder {
@@ -69,7 +69,7 @@ impl Recorder {
     }
 
     /// Its notes.
-    pub(crate) fn notes(&self) -> &[Note]
+    pub fn notes(&self) -> &[Note]
         ensures { map event_of result.now ≡ self.now.events }
     {
         &self.notes

@@ -101,7 +101,7 @@ fn make_quiet_step(program: &Program, stage: &mut KeptStage) -> Option<u32>
 /// Notes what a CPU's next turn does at the store, but for the end of its job. The job, and the pc
 /// at which the CPU stands; `None` of a CPU without work. The store is copied only for steps that it
 /// sees.
-pub(crate) fn watch(
+pub fn watch(
     alloc: Global,
     machine: &Machine,
     recorder: &mut Recorder,

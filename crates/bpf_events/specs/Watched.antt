@@ -1,0 +1,8 @@
+-- What a `Recorder` is to its callers, and what is noted of a turn before it is made.
+
+-- a plain store and the calls that one CPU has made of it; one over a store of this shape; the call
+-- that a note is of
+pub use Rattle.bpf_events.specs.Private.Recording.{Recording, IsRecorderOf, event_of}
+-- what happens in a turn that comes to this, where these events were noted; whatever the CPU's next
+-- turn comes to, this happens in it
+pub use Rattle.bpf_events.specs.Private.Watching.{noted, IsWatched}
