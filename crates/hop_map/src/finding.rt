@@ -32,7 +32,8 @@ pub(crate) fn span_of(table: &HopTable, map: u8, found: Option<u32>) -> Option<S
 {
     let element = found?;
     let size = shape_of(table, map).value;
-    let stride = size.div_ceil(8) * 8;
+    // `div_ceil` would test the remainder.
+    let stride = (size + 7) / 8 * 8;
     Some(Span {
         at: FIRST_VALUE + MAP_AREA * u64::from(map) + u64::from(element) * stride,
         size,

@@ -181,6 +181,7 @@ impl HopPort {
 
     /// Where the value of the key lies, found without a lock or, after eight disturbed readings,
     /// under one; the CPU holds that value until its run ends.
+    #[inline(always)]
     pub fn lookup<R: Wait>(&mut self, rt: &R, table: &HopTable, map: u8, key: &[u8]) -> Option<Span>
         requires fits { IsPortOf table.now self.old }
         requires in_run { runs self.old ≡ true }
