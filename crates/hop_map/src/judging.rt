@@ -24,6 +24,7 @@ pub(crate) enum Finding {
 }
 
 /// Whether an update is refused, and if not, whether the key is there.
+#[inline(always)]
 pub(crate) fn judge<'a>(
     words: &mut LockedWords<'a>,
     stamp: u64,
