@@ -1,14 +1,12 @@
 //! Lookups.
 ghost use Rattle.std.specs.Prelude.{◌≡◌, ◌≢◌, ◌<◌, ◌%◌, true, length, []};
 ghost use Rattle.hop_words.specs.declared.known.Known.{Known};
-ghost use Rattle.bpf_shared.specs.declared.events.Event.TheVariants.{Lookup};
 ghost use Rattle.hop_layout.specs.Home.{home_of};
 ghost use Rattle.hop_words.specs.Content.{item};
 ghost use Rattle.hop_words.specs.Ghost.{shape_at};
 ghost use Rattle.hop_words.specs.Kinds.{LookedUp, found_span};
 ghost use Rattle.hop_words.specs.Locking.{lock_of};
 ghost use Rattle.hop_map.specs.Private.UnderLock.{LockShows};
-ghost use Rattle.hop_map.specs.Noting.{CallNotes};
 ghost use Rattle.hop_map.specs.Finding.{AsksForKey, Looked, OnceEnds, TakesLock, Disturbs, LooksAtMost, most_loads, home_in};
 ghost use Rattle.hop_map.specs.Private.Finding.{AsksHere, IsHomed, Approaching, Walked, ReadsFound, TryEnds, SeesDisturbances, LooksUp};
 ghost use Rattle.hop_words.specs.Depths.{stamp_depth};
@@ -343,10 +341,10 @@ fn look_on_way<R: Wait>(
     }
 }
 
-// The key's element, if there is one. Up to eight readings take no lock; where each was disturbed,
-// the CPU waits for the lock.
+/// The key's element, if there is one. Up to eight readings take no lock; where each was disturbed,
+/// the CPU waits for the lock. The counts tell of both.
 #[inline(always)]
-fn locate<R: Wait>(
+pub(crate) fn locate<R: Wait>(
     rt: &R,
     table: &HopTable,
     lane: Lane,
@@ -378,26 +376,4 @@ fn locate<R: Wait>(
     }
     let (lane, word) = look_on_way(rt, table, lane, counts, map, way, first, at.home, key);
     (lane, item(word))
-}
-
-/// Where the key's value lies. Up to eight readings take no lock; where each was disturbed, the CPU
-/// waits for the lock. The counts tell of both.
-#[inline(always)]
-pub(crate) fn lookup<R: Wait>(
-    rt: &R,
-    table: &HopTable,
-    lane: Lane,
-    counts: &mut MapCounts,
-    map: u8,
-    key: &[u8],
-) -> (Lane, Option<Span>)
-    requires table { lane.table ≡ table.now.id }
-    requires asks { AsksForKey table.now.about lane.known map key.now }
-    ensures table { result.0.table ≡ table.now.id }
-    ensures found { Looked table.now.about lane.known map key.now result.1 result.0.known }
-    ensures spares { CallNotes table.now.about (Lookup map key.now result.1)
-        lane.known result.0.known }
-{
-    let (lane, found) = locate(rt, table, lane, counts, map, key);
-    (lane, span_of(table, map, found))
 }

@@ -12,7 +12,7 @@ ghost use Rattle.hop_map.specs.Splitting.{SplitEnds};
 
 use crate::counts::MapCounts;
 use crate::deleting::delete;
-use crate::finding::{find_locked, find_once, lookup};
+use crate::finding::{find_locked, find_once, locate, span_of};
 use crate::growth::Growth;
 use crate::listing::list_keys;
 use crate::once::Once;
@@ -198,9 +198,9 @@ impl HopPort {
         let Some(lane) = self.lane.take() else {
             unreachable!()
         };
-        let (lane, found) = lookup(rt, table, lane, &mut self.counts, map, key);
+        let (lane, found) = locate(rt, table, lane, &mut self.counts, map, key);
         self.lane = Some(lane);
-        found
+        span_of(table, map, found)
     }
 
     /// A value of these bytes is to stand under the key: always for the flags 0, where the key
