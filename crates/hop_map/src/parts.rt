@@ -23,7 +23,8 @@ pub(crate) fn part_at(table: &HopTable, at: ValuePlace, size: Size) -> ValuePart
     let above = at.at - FIRST_VALUE;
     let map = (above / MAP_AREA) as u8;
     let within = above % MAP_AREA;
-    let stride = shape_of(table, map).value.div_ceil(8) * 8;
+    // `div_ceil` would test the remainder.
+    let stride = (shape_of(table, map).value + 7) / 8 * 8;
     let offset = within % stride;
     ValuePart {
         map,

@@ -1,4 +1,4 @@
-use Rattle.std.proofs.Common.{◌*◌, subst, arith}
+use Rattle.std.proofs.Common.{◌+◌, ◌*◌, ◌/◌, subst, arith}
 use Rattle.bpf_shared.specs.Shape.{IsShape}
 use Rattle.hop_layout.specs.declared.about.About.{About}
 use Rattle.hop_map.proofs.Touching.{map_there, touches}
@@ -22,4 +22,4 @@ pub returns-clause-touches : goal.returns-clause-touches
 returns-clause-touches c =
     let a = c.args.table.now.about in
     let s = subst (λ (x : About). IsShape x.shape) c.about.ensures c.cpus-cpus.ensures.in_range in
-    touches a s c.args.at.at c.args.size c.shape_of.result (c.div_ceil-stride.result * 8) c.shape_of.ensures.shape (let e = c.div_ceil-stride.ensures in omega arith)
+    touches a s c.args.at.at c.args.size c.shape_of.result ((c.shape_of.result.value + 7) / 8 * 8) c.shape_of.ensures.shape (omega arith)
