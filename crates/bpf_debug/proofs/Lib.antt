@@ -7,6 +7,9 @@ pub mod Weaker
 pub mod SessionLaws
 pub mod ReadLaws
 pub mod HeldLaws
+pub mod RecallLaws
+pub mod NearbyLaws
+pub mod ShowLaws
 pub mod ScheduleLaws
 pub mod ToldLaws
 pub mod ScriptLaws

@@ -1,6 +1,6 @@
 -- Over a machine whose jobs all wait, a script has one list of answers.
-use Rattle.std.proofs.Common.{◌≡◌, ◌≢◌, ℕ, zero, suc, ◌+◌, ◌<◌, ◌≤◌, true, false, List, [], ◌∷◌, ◌++◌, length, Option, Some, None, ◌⊎◌, inl, inr, refl, sym, ap, subst, ◌∙◌, arith, replicate}
-use Rattle.std.specs.Prelude.{nat_lt, Ok, Err}
+use Rattle.std.proofs.Common.{◌≡◌, ◌≢◌, ℕ, zero, suc, ◌+◌, ◌<◌, ◌≤◌, Bool, true, false, ◌&&◌, if◌then◌else◌, List, [], ◌∷◌, ◌++◌, length, Option, Some, None, ◌⊎◌, inl, inr, refl, sym, ap, subst, ◌∙◌, arith, replicate}
+use Rattle.std.specs.Prelude.{◌==◌, nat_lt, Ok, Err}
 use Rattle.std.proofs.lemmas.Bool.{cases_order, lt-ltb}
 use Rattle.bpf_shared.specs.Laws.{CallsHaveOneReply}
 use Rattle.bpf_mem.specs.Laws.{WritesAreDetermined}
@@ -14,17 +14,23 @@ use Rattle.bpf_machine.proofs.DeterminedTurns.{IsWorld, one_turn, one_run, runs_
 use Rattle.bpf_debug.specs.declared.breakpoint.Breakpoint.{Breakpoint}
 use Rattle.bpf_debug.specs.declared.error.DebugError.{DebugError}
 use Rattle.bpf_debug.specs.declared.error.DebugError.TheVariants as error
+use Rattle.bpf_debug.specs.declared.recall.Kind.{Kind}
+use Rattle.bpf_debug.specs.declared.recall.Kind.TheVariants as kind
+use Rattle.bpf_debug.specs.Recall.{Past, Recalls, IsLastText, is_of, past_after}
+use Rattle.bpf_debug.specs.Show.{IsShownText}
+use Rattle.bpf_debug.proofs.RecallLaws.{recalls_run}
 use Rattle.bpf_debug.specs.Answer.{IsWhere, ended_text, stop_line}
-use Rattle.bpf_debug.specs.Command.{Order, Break, Delete, Step, StepTimes, Steps, Go, Registers, Where, Memory, Map, Keys, Schedule, GoTo, Maps, Jobs, Mark, Back, Help, Held, order_of}
+use Rattle.bpf_debug.specs.Command.{Order, Break, Delete, Step, StepTimes, Steps, Go, Registers, Where, Memory, Map, Keys, Schedule, GoTo, Maps, Jobs, Mark, Back, Help, Held, Nearby, Last, Show, order_of}
 use Rattle.bpf_debug.specs.Turns.{MakesTurns, MakesRuns, last_cpu}
 use Rattle.bpf_debug.specs.Go.{HasWork, AreIdle, IsUp, StandsAt, Goes, Done, Stops, Turns, has_break, has_gone}
 use Rattle.bpf_debug.specs.Read.{IsMapText, IsKeysText}
 use Rattle.bpf_debug.specs.Course.{cpu_before, turns_before}
-use Rattle.bpf_debug.specs.Session.{Scene, Answers, CarriesOut, Obeys, behind, undone, RefusesOrder, RefusesFields, IsLineRefused}
+use Rattle.bpf_machine.specs.Laws.{IsFresh}
+use Rattle.bpf_debug.specs.Session.{Scene, IsCourse, Answers, CarriesOut, Obeys, behind, undone, RefusesOrder, RefusesFields, IsLineRefused}
 use Rattle.bpf_debug.specs.Script.{Answer, AnswersLine, RunsScript}
-use Rattle.bpf_debug.specs.Laws.{HadMemory, ScriptsAreDetermined}
+use Rattle.bpf_debug.specs.Laws.{HadMemory, RecallsChangeNothing, ScriptsAreDetermined}
 use Rattle.bpf_debug.proofs.GoLaws.{free_has_no_work}
-use Rattle.bpf_debug.proofs.OneText.{one_place, one_where, one_registers, one_memory, one_held_text, one_name, one_map, one_keys}
+use Rattle.bpf_debug.proofs.OneText.{one_place, IsSoundPast, off_free, one_off, one_where, one_registers, one_stand_text, one_shown_text, one_memory, one_held_text, one_nearby, one_name, one_map, one_keys}
 
 -- ---- who is up
 idle_not_up : (jobs : List Task) (a b c : ℕ) → AreIdle jobs a b → HasWork jobs c → a ≤ c → c < b → ⊥
@@ -58,7 +64,11 @@ cpu_refused x y (Break (Some c) (Some p)) text f r = no_cpu c x.world.store.shap
 cpu_refused x y (Break (Some c) None) text f r = absurd f
 cpu_refused x y (Break None p) text f r = absurd f
 cpu_refused x y (Step (Some c)) text f r = no_cpu c x.world.store.shape.cpus f.0 r
+cpu_refused x y (Show (Some c)) text f r = no_cpu c x.world.store.shape.cpus f.0 r
+cpu_refused x y (Last (Some c)) text f r = no_cpu c x.world.store.shape.cpus f.0 r
 cpu_refused x y (Step None) text f r = absurd f
+cpu_refused x y (Show None) text f r = absurd f
+cpu_refused x y (Last None) text f r = absurd f
 cpu_refused x y (StepTimes (Some c) n) text f r = no_cpu c x.world.store.shape.cpus f.0 r
 cpu_refused x y (StepTimes None n) text f r = absurd f
 cpu_refused x y (Steps runs) text f r = let both : true ≡ false = sym f.0 ∙ r in cc
@@ -81,7 +91,9 @@ cpu_refused x y (Mark n) text f r = r
 cpu_refused x y (Back n) text f r = r
 cpu_refused x y Help text f r = r
 cpu_refused x y (Held (Some c)) text f r = no_cpu c x.world.store.shape.cpus f.0.0 r
+cpu_refused x y (Nearby (Some c)) text f r = no_cpu c x.world.store.shape.cpus f.0.0 r
 cpu_refused x y (Held None) text f r = absurd f.0
+cpu_refused x y (Nearby None) text f r = absurd f.0
 cpu_refused x y (Delete (Some c) (Some p)) text f r = no_cpu c x.world.store.shape.cpus f.0 r
 cpu_refused x y (Delete (Some c) None) text f r = absurd f
 cpu_refused x y (Delete None p) text f r = absurd f
@@ -91,6 +103,8 @@ pc_refused x y (Break (Some c) (Some p)) text f r = r.1 f.1.0
 pc_refused x y (Break (Some c) None) text f r = absurd f
 pc_refused x y (Break None p) text f r = absurd f
 pc_refused x y (Step c) text f r = absurd r
+pc_refused x y (Show c) text f r = absurd r
+pc_refused x y (Last c) text f r = absurd r
 pc_refused x y (StepTimes c n) text f r = absurd r
 pc_refused x y (Steps runs) text f r = absurd r
 pc_refused x y Go text f r = absurd r
@@ -109,6 +123,7 @@ pc_refused x y (Mark n) text f r = absurd r
 pc_refused x y (Back n) text f r = absurd r
 pc_refused x y Help text f r = absurd r
 pc_refused x y (Held c) text f r = absurd r
+pc_refused x y (Nearby c) text f r = absurd r
 pc_refused x y (Delete (Some c) (Some p)) text f r = r.1 f.1.0
 pc_refused x y (Delete (Some c) None) text f r = absurd f
 pc_refused x y (Delete None p) text f r = absurd f
@@ -124,9 +139,12 @@ map_refused x y (Mark n) text f r = absurd r
 map_refused x y (Back n) text f r = absurd r
 map_refused x y Help text f r = absurd r
 map_refused x y (Held c) text f r = absurd r
+map_refused x y (Nearby c) text f r = absurd r
 map_refused x y (Break c p) text f r = absurd r
 map_refused x y (Delete c p) text f r = absurd r
 map_refused x y (Step c) text f r = absurd r
+map_refused x y (Show c) text f r = absurd r
+map_refused x y (Last c) text f r = absurd r
 map_refused x y (StepTimes c n) text f r = absurd r
 map_refused x y (Steps runs) text f r = absurd r
 map_refused x y Go text f r = absurd r
@@ -145,9 +163,12 @@ turns_refused x y Jobs text f r = absurd r
 turns_refused x y (Mark n) text f r = absurd r
 turns_refused x y Help text f r = absurd r
 turns_refused x y (Held c) text f r = absurd r
+turns_refused x y (Nearby c) text f r = absurd r
 turns_refused x y (Break c p) text f r = absurd r
 turns_refused x y (Delete c p) text f r = absurd r
 turns_refused x y (Step c) text f r = absurd r
+turns_refused x y (Show c) text f r = absurd r
+turns_refused x y (Last c) text f r = absurd r
 turns_refused x y (StepTimes c n) text f r = absurd r
 turns_refused x y (Steps runs) text f r = absurd r
 turns_refused x y Go text f r = absurd r
@@ -185,6 +206,8 @@ module _ (cpus : ℕ) (programs : List Loaded) (names : List (List ℕ)) (count 
   cpu_or_pc : (order : Order) → RefusesOrder cpus programs names count order error.NoCpu → RefusesOrder cpus programs names count order error.NoPc → ⊥
   cpu_or_pc (Break c p) a b = b.0 a
   cpu_or_pc (Step c) a b = absurd b
+  cpu_or_pc (Show c) a b = absurd b
+  cpu_or_pc (Last c) a b = absurd b
   cpu_or_pc Go a b = absurd b
   cpu_or_pc (Steps runs) a b = absurd b
   cpu_or_pc (StepTimes c n) a b = absurd b
@@ -201,11 +224,14 @@ module _ (cpus : ℕ) (programs : List Loaded) (names : List (List ℕ)) (count 
   cpu_or_pc (Back n) a b = absurd b
   cpu_or_pc Help a b = absurd b
   cpu_or_pc (Held c) a b = absurd b
+  cpu_or_pc (Nearby c) a b = absurd b
   cpu_or_pc (Delete c p) a b = b.0 a
 
   cpu_or_map : (order : Order) → RefusesOrder cpus programs names count order error.NoCpu → RefusesOrder cpus programs names count order error.NoMap → ⊥
   cpu_or_map (Break c p) a b = absurd b
   cpu_or_map (Step c) a b = absurd b
+  cpu_or_map (Show c) a b = absurd b
+  cpu_or_map (Last c) a b = absurd b
   cpu_or_map Go a b = absurd b
   cpu_or_map (Steps runs) a b = absurd b
   cpu_or_map (StepTimes c n) a b = absurd b
@@ -222,11 +248,14 @@ module _ (cpus : ℕ) (programs : List Loaded) (names : List (List ℕ)) (count 
   cpu_or_map (Back n) a b = absurd b
   cpu_or_map Help a b = absurd b
   cpu_or_map (Held c) a b = absurd b
+  cpu_or_map (Nearby c) a b = absurd b
   cpu_or_map (Delete c p) a b = absurd b
 
   pc_or_map : (order : Order) → RefusesOrder cpus programs names count order error.NoPc → RefusesOrder cpus programs names count order error.NoMap → ⊥
   pc_or_map (Break c p) a b = absurd b
   pc_or_map (Step c) a b = absurd b
+  pc_or_map (Show c) a b = absurd b
+  pc_or_map (Last c) a b = absurd b
   pc_or_map Go a b = absurd b
   pc_or_map (Steps runs) a b = absurd b
   pc_or_map (StepTimes c n) a b = absurd b
@@ -243,12 +272,15 @@ module _ (cpus : ℕ) (programs : List Loaded) (names : List (List ℕ)) (count 
   pc_or_map (Back n) a b = absurd b
   pc_or_map Help a b = absurd b
   pc_or_map (Held c) a b = absurd b
+  pc_or_map (Nearby c) a b = absurd b
   pc_or_map (Delete c p) a b = absurd b
 
   cpu_or_turns : (order : Order) → RefusesOrder cpus programs names count order error.NoCpu → RefusesOrder cpus programs names count order error.NoTurns → ⊥
   cpu_or_turns (Back n) a b = absurd a
   cpu_or_turns (Break c p) a b = absurd b
   cpu_or_turns (Step c) a b = absurd b
+  cpu_or_turns (Show c) a b = absurd b
+  cpu_or_turns (Last c) a b = absurd b
   cpu_or_turns Go a b = absurd b
   cpu_or_turns (Steps runs) a b = absurd b
   cpu_or_turns (StepTimes c n) a b = absurd b
@@ -264,12 +296,15 @@ module _ (cpus : ℕ) (programs : List Loaded) (names : List (List ℕ)) (count 
   cpu_or_turns (Mark n) a b = absurd b
   cpu_or_turns Help a b = absurd b
   cpu_or_turns (Held c) a b = absurd b
+  cpu_or_turns (Nearby c) a b = absurd b
   cpu_or_turns (Delete c p) a b = absurd b
 
   pc_or_turns : (order : Order) → RefusesOrder cpus programs names count order error.NoPc → RefusesOrder cpus programs names count order error.NoTurns → ⊥
   pc_or_turns (Back n) a b = absurd a
   pc_or_turns (Break c p) a b = absurd b
   pc_or_turns (Step c) a b = absurd b
+  pc_or_turns (Show c) a b = absurd b
+  pc_or_turns (Last c) a b = absurd b
   pc_or_turns Go a b = absurd b
   pc_or_turns (Steps runs) a b = absurd b
   pc_or_turns (StepTimes c n) a b = absurd b
@@ -285,12 +320,15 @@ module _ (cpus : ℕ) (programs : List Loaded) (names : List (List ℕ)) (count 
   pc_or_turns (Mark n) a b = absurd b
   pc_or_turns Help a b = absurd b
   pc_or_turns (Held c) a b = absurd b
+  pc_or_turns (Nearby c) a b = absurd b
   pc_or_turns (Delete c p) a b = absurd b
 
   map_or_turns : (order : Order) → RefusesOrder cpus programs names count order error.NoMap → RefusesOrder cpus programs names count order error.NoTurns → ⊥
   map_or_turns (Back n) a b = absurd a
   map_or_turns (Break c p) a b = absurd b
   map_or_turns (Step c) a b = absurd b
+  map_or_turns (Show c) a b = absurd b
+  map_or_turns (Last c) a b = absurd b
   map_or_turns Go a b = absurd b
   map_or_turns (Steps runs) a b = absurd b
   map_or_turns (StepTimes c n) a b = absurd b
@@ -306,6 +344,7 @@ module _ (cpus : ℕ) (programs : List Loaded) (names : List (List ℕ)) (count 
   map_or_turns (Mark n) a b = absurd b
   map_or_turns Help a b = absurd b
   map_or_turns (Held c) a b = absurd b
+  map_or_turns (Nearby c) a b = absurd b
   map_or_turns (Delete c p) a b = absurd b
 
   module _ (fields : List (List ℕ)) where
@@ -438,6 +477,50 @@ module _ (law : WritesAreDetermined) (begins : OneInstructionBegins) (replies : 
         world = rest.world;
       }
 
+  -- ---- turns made again
+  record OneRecall (past other : Option Past) (y z : World) : Type 0 where
+    pasts : past ≡ other
+    worlds : y ≡ z
+    world : IsWorld y
+    sound : IsSoundPast past
+
+  sound_after : (b : Bool) (w : World) (answer : Turn) (old : Option Past) → IsWorld w → IsSoundPast old → IsSoundPast (if b then Some (record { before = w; answer = answer }) else old)
+  sound_after true w answer old world sound = world
+  sound_after false w answer old world sound = sound
+
+  one_recall : (k : Kind) (c : ℕ) (w : World) (old : Option Past) (turns : List ℕ) (past other : Option Past) (y z : World) → IsWorld w → IsSoundPast old
+      → Recalls k c w old turns past y → Recalls k c w old turns other z → OneRecall past other y z
+  one_recall k c w old [] past other y z world sound a b = record {
+    pasts = a.0 ∙ sym b.0;
+    worlds = a.1 ∙ sym b.1;
+    world = subst (λ (v : World). IsWorld v) (sym a.1) world;
+    sound = subst (λ (p : Option Past). IsSoundPast p) (sym a.0) sound;
+  }
+  one_recall k c w old (d ∷ turns) past other y z world sound a b =
+      let one = one_turn law begins replies w d a.0 b.0 a.1 b.1 world a.2 b.2 in
+      let P : World → Type 0 = λ m. Recalls k c m (past_after k c w d b.0 old) turns other z in
+      let Q : Turn → Type 0 = λ answer. Recalls k c a.1 (past_after k c w d answer old) turns other z in
+      one_recall k c a.1 (past_after k c w d a.0 old) turns past other y z one.world (sound_after ((d == c) && is_of k a.0) w a.0 old world sound) a.3
+      (subst Q (sym one.answers) (subst P (sym one.worlds) b.3))
+
+  one_last : (c : ℕ) (past : Option Past) (w : World) (text other : List ℕ) → IsWorld w → IsSoundPast past → IsLastText c past w.jobs text → IsLastText c past w.jobs other → text ≡ other
+  one_last c None w text other world sound a b = one_where w world c text other a b
+  one_last c (Some past) w text other world sound a b =
+      a.2 ∙ ap (λ (t : List ℕ). ended_text c past.answer ++ t) (one_stand_text past.before sound c a.0 b.0 a.1 b.1) ∙ sym b.2
+
+  same_again : (k : Kind) (c : ℕ) (x y : Scene) (past : Option Past) (m : World) → IsFresh x.first → IsCourse x → Recalls k c x.first None x.turns past m → y ≡ record x { world = m } → y ≡ x
+  same_again k c x y past m fresh course again is =
+      let first = fresh_world law begins replies x.first fresh in
+      is ∙ ap (λ (w : World). record x { world = w })
+      (one_run law begins replies x.turns x.first m x.world first (recalls_run k c x.first None x.turns past m again) course)
+
+  pub recalls_change_nothing : RecallsChangeNothing
+  recalls_change_nothing x y (Some c) text fresh course (inl (has, a)) = same_again kind.Ends c x y a.0 a.1 fresh course a.2 a.4
+  recalls_change_nothing x y (Some c) text fresh course (inr (has, inl off)) = off.1
+  recalls_change_nothing x y (Some c) text fresh course (inr (has, inr a)) = same_again kind.Works c x y a.0 a.1 fresh course a.2 a.4
+  recalls_change_nothing x y None text fresh course (inl f) = absurd f
+  recalls_change_nothing x y None text fresh course (inr f) = absurd f
+
   -- ---- a command, and a line
   record OneEnd (text other : List ℕ) (y z : Scene) : Type 0 where
     texts : text ≡ other
@@ -467,12 +550,16 @@ module _ (law : WritesAreDetermined) (begins : OneInstructionBegins) (replies : 
   one_answer_to x (Mark n) text other world a b = a ∙ sym b
   one_answer_to x Help text other world a b = a ∙ sym b
   one_answer_to x (Held (Some c)) text other world a b = one_held_text x.world world x.names c text other a.1 b.1
+  one_answer_to x (Nearby (Some c)) text other world a b = one_nearby x.world world begins c text other a.1 b.1
   one_answer_to x (Held None) text other world a b = absurd a
+  one_answer_to x (Nearby None) text other world a b = absurd a
   one_answer_to x (Back n) text other world a b = absurd a
   one_answer_to x (GoTo c p) text other world a b = absurd a
   one_answer_to x (Break c p) text other world a b = absurd a
   one_answer_to x (Delete c p) text other world a b = absurd a
   one_answer_to x (Step c) text other world a b = absurd a
+  one_answer_to x (Show c) text other world a b = absurd a
+  one_answer_to x (Last c) text other world a b = absurd a
   one_answer_to x (StepTimes c n) text other world a b = absurd a
   one_answer_to x (Steps runs) text other world a b = absurd a
   one_answer_to x Go text other world a b = absurd a
@@ -542,6 +629,8 @@ module _ (law : WritesAreDetermined) (begins : OneInstructionBegins) (replies : 
       }
   one_follow x y z (StepTimes None n) text other world first a b = absurd a
   one_follow x y z (Step None) text other world first a b = absurd a
+  one_follow x y z (Show None) text other world first a b = absurd a
+  one_follow x y z (Last None) text other world first a b = absurd a
   one_follow x y z Go text other world first a b =
       let both = one_go x.breaks 0 x.world.store.shape.cpus x.world 0 [] a.1 b.1 text other a.0 b.0 world a.2 b.2 in
       went_alike x y z a.1 b.1 text other a.0 b.0 first both a.3 b.3
@@ -565,8 +654,36 @@ module _ (law : WritesAreDetermined) (begins : OneInstructionBegins) (replies : 
         world = subst (λ (s : Scene). IsWorld s.world) (sym u.3) there;
         first = subst (λ (s : Scene). IsWorld s.first) (sym u.3) first;
       }
+  one_follow x y z (Last (Some c)) text other world first (has, a) (had, b) =
+      let one = one_recall kind.Ends c x.first None x.turns a.0 b.0 a.1 b.1 first tt a.2 b.2 in
+      let P : World → Type 0 = λ w. IsLastText c a.0 w.jobs other in
+      let Q : Option Past → Type 0 = λ p. IsLastText c p b.1.jobs other in
+      record {
+        texts = one_last c a.0 a.1 text other one.world one.sound a.3 (subst P (sym one.worlds) (subst Q (sym one.pasts) b.3));
+        scenes = a.4 ∙ ap (λ (w : World). record x { world = w }) one.worlds ∙ sym b.4;
+        world = subst (λ (s : Scene). IsWorld s.world) (sym a.4) one.world;
+        first = subst (λ (s : Scene). IsWorld s.first) (sym a.4) first;
+      }
+  one_follow x y z (Show (Some c)) text other world first (has, inl a) (had, inl b) = record {
+    texts = one_off x.world.jobs c text other a.0 b.0;
+    scenes = a.1 ∙ sym b.1;
+    world = subst (λ (s : Scene). IsWorld s.world) (sym a.1) world;
+    first = subst (λ (s : Scene). IsWorld s.first) (sym a.1) first;
+  }
+  one_follow x y z (Show (Some c)) text other world first (has, inl a) (had, inr b) = absurd (off_free x.world.jobs c text a.0 b.3.0 b.3.1 b.3.2 b.3.3 b.3.5)
+  one_follow x y z (Show (Some c)) text other world first (has, inr a) (had, inl b) = absurd (off_free x.world.jobs c other b.0 a.3.0 a.3.1 a.3.2 a.3.3 a.3.5)
+  one_follow x y z (Show (Some c)) text other world first (has, inr a) (had, inr b) =
+      let one = one_recall kind.Works c x.first None x.turns a.0 b.0 a.1 b.1 first tt a.2 b.2 in
+      let Q : Option Past → Type 0 = λ p. IsShownText c x.names p x.world.jobs other in
+      record {
+        texts = one_shown_text x.world world c x.names a.0 text other one.sound a.3 (subst Q (sym one.pasts) b.3);
+        scenes = a.4 ∙ ap (λ (w : World). record x { world = w }) one.worlds ∙ sym b.4;
+        world = subst (λ (s : Scene). IsWorld s.world) (sym a.4) one.world;
+        first = subst (λ (s : Scene). IsWorld s.first) (sym a.4) first;
+      }
   one_follow x y z Help text other world first a b = asked x y z Help text other world first a b
   one_follow x y z (Held c) text other world first a b = asked x y z (Held c) text other world first a b
+  one_follow x y z (Nearby c) text other world first a b = asked x y z (Nearby c) text other world first a b
   one_follow x y z Maps text other world first a b = asked x y z Maps text other world first a b
   one_follow x y z Jobs text other world first a b = asked x y z Jobs text other world first a b
   one_follow x y z (Mark n) text other world first a b = asked x y z (Mark n) text other world first a b

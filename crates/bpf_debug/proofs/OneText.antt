@@ -11,10 +11,15 @@ use Rattle.bpf_cpu.specs.declared.cpu.Cpu.{Cpu}
 use Rattle.bpf_cpu.specs.Task.{Task, InHand}
 use Rattle.bpf_machine.specs.Hands.{IsAt, IsFree}
 use Rattle.bpf_machine.specs.Work.{IsNext}
+use Rattle.bpf_loader.specs.Laws.{OneInstructionBegins}
+use Rattle.bpf_loader.specs.Loaded.{Loaded}
 use Rattle.bpf_machine.proofs.DeterminedTurns.{IsWorld}
 use Rattle.bpf_machine.specs.Schedule.{World}
 use Rattle.bpf_debug.specs.Answer.{IsWhere, IsOff, IsRegisters, in_hand_line, waiting_line, register_lines}
 use Rattle.bpf_debug.specs.Go.{StandsAt}
+use Rattle.bpf_debug.specs.Recall.{IsStandText, Past}
+use Rattle.bpf_debug.specs.Show.{IsBefore, IsShownText, changed_text, shown_lines}
+use Rattle.bpf_debug.specs.Nearby.{IsLineAt, IsNearbyText, TellsLines, count_shown, first_shown, nearby_line}
 use Rattle.bpf_debug.specs.Held.{IsHeldText, TellsHeld, held_line, span_of}
 use Rattle.bpf_debug.specs.Read.{MayRead, MayNotRead, AreBytesAt, IsUnreadable, ShowsBytes, IsMemoryText, IsNamed, IsMapText, IsKeysText, pair_lines, key_lines}
 
@@ -30,7 +35,7 @@ one_next jobs c j k a b = elim (cases_order j k) [
   ]
 ]
 
-off_free : (jobs : List Task) (c : ℕ) (text : List ℕ) → IsOff jobs c text → IsFree jobs c
+pub off_free : (jobs : List Task) (c : ℕ) (text : List ℕ) → IsOff jobs c text → IsFree jobs c
 off_free jobs c text (inl a) = a.1.0
 off_free jobs c text (inr a) = a.0
 
@@ -68,6 +73,21 @@ one_shown s state (Some at) n text other (inl a) (inl b) =
 one_shown s state (Some at) n text other (inl a) (inr b) = absurd (unreadable_not s state at n a.0 a.1 b.0)
 one_shown s state (Some at) n text other (inr a) (inl b) = absurd (unreadable_not s state at n b.0 b.1 a.0)
 one_shown s state (Some at) n text other (inr a) (inr b) = a.1 ∙ sym b.1
+
+-- ---- instructions
+one_line_at : OneInstructionBegins → (program : Loaded) (here pc : ℕ) (text other : List ℕ) → IsLineAt program here pc text → IsLineAt program here pc other → text ≡ other
+one_line_at begins program here pc text other (inl a) (inl b) =
+    a.2 ∙ ap (nearby_line here pc) (begins program.instructions pc a.0 b.0 a.1 b.1) ∙ sym b.2
+one_line_at begins program here pc text other (inl a) (inr b) = absurd (b.0 (a.0, a.1))
+one_line_at begins program here pc text other (inr a) (inl b) = absurd (a.0 (b.0, b.1))
+one_line_at begins program here pc text other (inr a) (inr b) = a.1 ∙ sym b.1
+
+one_program_lines : OneInstructionBegins → (program : Loaded) (here first n : ℕ) (text other : List ℕ) → TellsLines program here first n text → TellsLines program here first n other → text ≡ other
+one_program_lines begins program here first zero text other a b = a ∙ sym b
+one_program_lines begins program here first (suc n) text other a b =
+    let before = one_program_lines begins program here first n a.0 b.0 a.2 b.2 in
+    let line = one_line_at begins program here (first + n) a.1 b.1 a.3 b.3 in
+    a.4 ∙ ap (λ (t : List ℕ). t ++ a.1) before ∙ ap (λ (t : List ℕ). b.0 ++ t) line ∙ sym b.4
 
 -- ---- of a machine's CPUs
 module _ (w : World) (world : IsWorld w) where
@@ -109,6 +129,15 @@ module _ (w : World) (world : IsWorld w) where
   one_registers c text other (inr a) (inl b) = absurd (off_free w.jobs c text a b.0 b.1 b.2 b.3 b.4)
   one_registers c text other (inr a) (inr b) = one_off w.jobs c text other a b
 
+  pub one_stand_text : (c : ℕ) (text other : List ℕ) → IsStandText w.jobs c text → IsStandText w.jobs c other → text ≡ other
+  one_stand_text c text other (inl a) (inl b) =
+      let one = one_hand c a.0 b.0 a.1 b.1 a.2 b.2 a.3 b.3 a.4 b.4 in
+      a.5 ∙ ap (λ (j : ℕ). in_hand_line c j a.2 ++ register_lines 0 a.2.registers) one.job
+      ∙ ap (λ (s : Cpu). in_hand_line c b.0 s ++ register_lines 0 s.registers) one.states ∙ sym b.5
+  one_stand_text c text other (inl a) (inr b) = absurd (off_free w.jobs c other b a.0 a.1 a.2 a.3 a.4)
+  one_stand_text c text other (inr a) (inl b) = absurd (off_free w.jobs c text a b.0 b.1 b.2 b.3 b.4)
+  one_stand_text c text other (inr a) (inr b) = one_off w.jobs c text other a b
+
   pub one_memory : (c : ℕ) (at : Option ℕ) (n : ℕ) (text other : List ℕ) → IsMemoryText w.store w.jobs c at n text → IsMemoryText w.store w.jobs c at n other → text ≡ other
   one_memory c at n text other (inl a) (inl b) =
       let one = one_hand c a.0 b.0 a.1 b.1 a.2 b.2 a.3 b.3 a.4 b.4 in
@@ -134,6 +163,46 @@ module _ (w : World) (world : IsWorld w) where
   one_held_text names c text other (inl a) (inr b) = absurd (off_free w.jobs c other b a.0 a.1 a.2 a.3 a.4)
   one_held_text names c text other (inr a) (inl b) = absurd (off_free w.jobs c text a b.0 b.1 b.2 b.3 b.4)
   one_held_text names c text other (inr a) (inr b) = one_off w.jobs c text other a b
+
+  one_task : (c j k : ℕ) (task other : Task) (state now : Cpu) (left rest : ℕ) → IsAt w.jobs c j task (InHand state left) → IsAt w.jobs c k other (InHand now rest) → task ≡ other
+  one_task c j k task other state now left rest a b =
+      let P : ℕ → Type 0 = λ i. slice_get w.jobs i ≡ Some other in
+      let listed : Some task ≡ Some other = sym a.listed ∙ subst P (sym (world.one c j k task other state now left rest a b)) b.listed in cc
+
+  pub one_nearby : OneInstructionBegins → (c : ℕ) (text other : List ℕ) → IsNearbyText w.programs w.jobs c text → IsNearbyText w.programs w.jobs c other → text ≡ other
+  one_nearby begins c text other (inl a) (inl b) =
+      let one = one_hand c a.0 b.0 a.1 b.1 a.2 b.2 a.3 b.3 a.5 b.5 in
+      let tasks : a.1 ≡ b.1 = one_task c a.0 b.0 a.1 b.1 a.2 b.2 a.3 b.3 a.5 b.5 in
+      let loaded : Some a.4 ≡ Some b.4 = sym a.6 ∙ ap (λ (t : Task). slice_get w.programs t.program) tasks ∙ b.6 in
+      let programs : a.4 ≡ b.4 = cc in
+      let P : Cpu → Type 0 = λ s. TellsLines b.4 s.pc (first_shown s.pc) (count_shown s.pc) other in
+      let Q : Loaded → Type 0 = λ p. TellsLines p a.2.pc (first_shown a.2.pc) (count_shown a.2.pc) other in
+      one_program_lines begins a.4 a.2.pc (first_shown a.2.pc) (count_shown a.2.pc) text other a.7 (subst Q (sym programs) (subst P (sym one.states) b.7))
+  one_nearby begins c text other (inl a) (inr b) = absurd (off_free w.jobs c other b a.0 a.1 a.2 a.3 a.5)
+  one_nearby begins c text other (inr a) (inl b) = absurd (off_free w.jobs c text a b.0 b.1 b.2 b.3 b.5)
+  one_nearby begins c text other (inr a) (inr b) = one_off w.jobs c text other a b
+
+-- ---- before a turn
+abbrev pub IsSoundPast : Option Past → Type 0
+IsSoundPast None = Unit {0}
+IsSoundPast (Some past) = IsWorld past.before
+
+one_before : (c : ℕ) (past : Option Past) (before other : List ℕ) → IsSoundPast past → IsBefore c past before → IsBefore c past other → before ≡ other
+one_before c None before other sound a b = a ∙ sym b
+one_before c (Some past) before other sound (inl a) (inl b) =
+    let one = one_hand past.before sound c a.0 b.0 a.1 b.1 a.2 b.2 a.3 b.3 a.4 b.4 in
+    a.5 ∙ ap (λ (s : Cpu). s.registers) one.states ∙ sym b.5
+one_before c (Some past) before other sound (inl a) (inr b) = absurd (b.0 a.0 a.1 a.2 a.3 a.4)
+one_before c (Some past) before other sound (inr a) (inl b) = absurd (a.0 b.0 b.1 b.2 b.3 b.4)
+one_before c (Some past) before other sound (inr a) (inr b) = a.1 ∙ sym b.1
+
+pub one_shown_text : (w : World) → IsWorld w → (c : ℕ) (names : List (List ℕ)) (past : Option Past) (text other : List ℕ) → IsSoundPast past
+    → IsShownText c names past w.jobs text → IsShownText c names past w.jobs other → text ≡ other
+one_shown_text w world c names past text other sound a b =
+    let one = one_hand w world c a.0 b.0 a.1 b.1 a.2 b.2 a.3 b.3 a.5 b.5 in
+    let befores : a.4 ≡ b.4 = one_before c past a.4 b.4 sound a.6 b.6 in
+    let F : List ℕ → Cpu → List ℕ = λ bs s. changed_text bs 0 s.registers (shown_lines names s.held 0 s.registers) in
+    a.7 ∙ ap (λ (bs : List ℕ). F bs a.2) befores ∙ ap (λ (s : Cpu). F b.4 s) one.states ∙ sym b.7
 
 -- ---- maps
 pub one_name : (names : List (List ℕ)) (name : List ℕ) (m n : ℕ) → IsNamed names name m → IsNamed names name n → m ≡ n

@@ -1,6 +1,6 @@
 -- Questions change nothing.
 use Rattle.std.proofs.Common.{◌≡◌, ℕ, List, Option, Some, None, ap}
-use Rattle.bpf_debug.specs.Command.{Order, Break, Delete, Step, StepTimes, Steps, Go, Registers, Where, Memory, Map, Keys, Schedule, GoTo, Maps, Jobs, Mark, Back, Help, Held}
+use Rattle.bpf_debug.specs.Command.{Order, Break, Delete, Step, StepTimes, Steps, Go, Registers, Where, Memory, Map, Keys, Schedule, GoTo, Maps, Jobs, Mark, Back, Help, Held, Nearby, Last, Show}
 use Rattle.bpf_debug.specs.Session.{Scene, CarriesOut}
 use Rattle.bpf_debug.specs.Laws.{IsQuestion, QuestionsChangeNothing}
 
@@ -16,10 +16,13 @@ asks x y Jobs text q f = f.1
 asks x y (Mark n) text q f = f.1
 asks x y Help text q f = f.1
 asks x y (Held c) text q f = f.1
+asks x y (Nearby c) text q f = f.1
 asks x y (Back n) text q f = absurd q
 asks x y (Delete c p) text q f = absurd q
 asks x y (Break c p) text q f = absurd q
 asks x y (Step c) text q f = absurd q
+asks x y (Show c) text q f = absurd q
+asks x y (Last c) text q f = absurd q
 asks x y (StepTimes c n) text q f = absurd q
 asks x y (Steps runs) text q f = absurd q
 asks x y Go text q f = absurd q

@@ -18,11 +18,17 @@ use Rattle.bpf_machine.specs.Questions.{open_in, open_jobs}
 use Rattle.bpf_machine.specs.Work.{IsState}
 use Rattle.bpf_cpu.specs.declared.cpu.Cpu.{Cpu}
 use Rattle.bpf_debug.specs.declared.breakpoint.Breakpoint.{Breakpoint}
-use Rattle.bpf_debug.specs.Command.{Order, Break, Delete, Step, StepTimes, Steps, Go, Registers, Where, Memory, Map, Keys, Schedule, GoTo, Maps, Jobs, Mark, Back, Help, Held, order_of}
+use Rattle.bpf_debug.specs.Command.{Order, Break, Delete, Step, StepTimes, Steps, Go, Registers, Where, Memory, Map, Keys, Schedule, GoTo, Maps, Jobs, Mark, Back, Help, Held, Nearby, Last, Show, order_of}
 use Rattle.bpf_debug.specs.declared.error.DebugError.{DebugError}
 use Rattle.bpf_debug.specs.declared.error.DebugError.TheVariants as error
 use Rattle.bpf_debug.specs.Answer.{IsWhere, IsRegisters, IsOff, ended_text, break_line, deleted_line}
 use Rattle.bpf_debug.specs.Held.{IsHeldText, ShowsHeld, TellsHeld}
+use Rattle.bpf_debug.specs.Nearby.{IsNearbyText}
+use Rattle.bpf_debug.specs.Recall.{Past, Recalls, IsLastText, IsRecall}
+use Rattle.bpf_debug.specs.declared.recall.Kind.TheVariants as kind
+use Rattle.bpf_debug.specs.declared.recall.Recall.{Recall}
+use Rattle.bpf_debug.specs.Show.{IsBefore, IsShownText, changed_text, shown_lines}
+use Rattle.bpf_debug.proofs.RecallLaws.{recalls_run}
 use Rattle.bpf_debug.specs.Read.{IsMemoryText, IsNamed, TellsBytes, TellsKeys, TellsMap}
 use Rattle.bpf_debug.specs.Go.{Goes, has_break, without_break}
 use Rattle.bpf_debug.specs.Told.{shape_lines, told_jobs, mark_line}
@@ -200,6 +206,55 @@ module _ (m : MachineState) (o : OriginState) (names : List (List ℕ)) (breaks 
         },
       )
 
+  pub told_last : (rewound n : MachineState) (runs : List (ℕ × ℕ)) (c : ℕ) (recall : Option Recall) (room last : List ℕ) → has_cpu m.store c ≡ true → kept ≡ Some runs → rewound ≡ first_of o m.programs
+      → ((w : World) → Shows rewound w → (z : World) × (past : Option Past) × Recalls kind.Ends c w None (unrolled runs) past z × Shows n z × IsRecall c recall past) → IsSameHost rewound n
+      → room ≡ [] → ((past : Option Past) → IsRecall c recall past → (text : List ℕ) × IsLastText c past n.jobs text × (last ≡ room ++ text)) → Leaves session (Last (Some c)) last (moved_on n kept)
+  told_last rewound n runs c recall room last has is again turns same empty put x shown =
+      let told : runs ≡ runs_of x.turns = subst (λ (h : Option (List (ℕ × ℕ))). IsKept h x.turns) is shown.turns in
+      let led : unrolled runs ≡ x.turns = ap (λ (rs : List (ℕ × ℕ)). unrolled rs) told ∙ (runs_tell_turns x.turns).0 in
+      let z = turns x.first (subst (λ (r : MachineState). Shows r x.first) (sym again) shown.first) in
+      let t = put z.1 z.4 in
+      let text : last ≡ t.0 = alone room last t.0 empty t.2 in
+      let T : List ℕ → Type 0 = λ s. IsLastText c z.1 n.jobs s in
+      let J : List Task → Type 0 = λ jobs. IsLastText c z.1 jobs last in
+      let R : List ℕ → Type 0 = λ cs. Recalls kind.Ends c x.first None cs z.1 z.0 in
+      let programs : n.programs ≡ m.programs = same.programs ∙ ap (λ (r : MachineState). r.programs) again in (
+        record x { world = z.0 },
+        (is_cpu m x.world c has shown.world, (z.1, z.0, subst R led z.2, subst J (sym z.3.jobs) (subst T (sym text) t.1), refl)),
+        record {
+          world = z.3;
+          first = subst (λ (ps : List Loaded). Shows (first_of o ps) x.first) (sym programs) shown.first;
+          names = shown.names;
+          breaks = shown.breaks;
+          turns = shown.turns;
+        },
+      )
+
+  pub told_shown : (rewound n : MachineState) (runs : List (ℕ × ℕ)) (c : ℕ) (recall : Option Recall) (state : Cpu) (last : List ℕ) → has_cpu m.store c ≡ true → kept ≡ Some runs → rewound ≡ first_of o m.programs
+      → ((w : World) → Shows rewound w → (z : World) × (past : Option Past) × Recalls kind.Works c w None (unrolled runs) past z × Shows n z × IsRecall c recall past) → IsSameHost rewound n → IsState m.jobs c state
+      → ((past : Option Past) → IsRecall c recall past → (before : List ℕ) × IsBefore c past before × (last ≡ changed_text before 0 state.registers (shown_lines names state.held 0 state.registers)))
+      → Leaves session (Show (Some c)) last (moved_on n kept)
+  told_shown rewound n runs c recall state last has is again turns same hand put x shown =
+      let told : runs ≡ runs_of x.turns = subst (λ (h : Option (List (ℕ × ℕ))). IsKept h x.turns) is shown.turns in
+      let led : unrolled runs ≡ x.turns = ap (λ (rs : List (ℕ × ℕ)). unrolled rs) told ∙ (runs_tell_turns x.turns).0 in
+      let z = turns x.first (subst (λ (r : MachineState). Shows r x.first) (sym again) shown.first) in
+      let t = put z.1 z.4 in
+      let text : IsShownText c names z.1 m.jobs last = (hand.0, hand.1, state, hand.2, t.0, hand.3, t.1, t.2) in
+      let J : List Task → Type 0 = λ jobs. IsShownText c x.names z.1 jobs last in
+      let N : List (List ℕ) → Type 0 = λ ns. IsShownText c ns z.1 m.jobs last in
+      let R : List ℕ → Type 0 = λ cs. Recalls kind.Works c x.first None cs z.1 z.0 in
+      let programs : n.programs ≡ m.programs = same.programs ∙ ap (λ (r : MachineState). r.programs) again in (
+        record x { world = z.0 },
+        (is_cpu m x.world c has shown.world, inr (z.1, z.0, subst R led z.2, subst J (sym shown.world.jobs) (subst N (sym shown.names) text), refl)),
+        record {
+          world = z.3;
+          first = subst (λ (ps : List Loaded). Shows (first_of o ps) x.first) (sym programs) shown.first;
+          names = shown.names;
+          breaks = shown.breaks;
+          turns = shown.turns;
+        },
+      )
+
 -- a breakpoint that is there, and one more
 pub is_kept : (breaks : List Breakpoint) (c p : ℕ) → true ≡ has_break breaks c p → breaks ≡ with_break breaks c p
 is_kept breaks c p e = ap (λ (b : Bool). if b then breaks else breaks ++ record { cpu = c; pc = p } ∷ []) e
@@ -254,6 +309,20 @@ told_no_held s c room last has empty place x shown =
     let T : List ℕ → Type 0 = λ text. IsHeldText x.names x.world.store s.machine.jobs c text in
     let same = alone room last place.0 empty place.2 in
     (x, ((is_cpu s.machine x.world c has shown.world, subst J (sym shown.world.jobs) (subst T (sym same) (inr place.1))), refl), shown)
+
+pub told_no_shown : (s : SessionState) (c : ℕ) (room last : List ℕ) → has_cpu s.machine.store c ≡ true → room ≡ []
+    → ((text : List ℕ) × IsOff s.machine.jobs c text × (last ≡ room ++ text)) → Leaves s (Show (Some c)) last s
+told_no_shown s c room last has empty place x shown =
+    let J : List Task → Type 0 = λ jobs. IsOff jobs c last in
+    let T : List ℕ → Type 0 = λ text. IsOff s.machine.jobs c text in
+    let same = alone room last place.0 empty place.2 in
+    (x, (is_cpu s.machine x.world c has shown.world, inl (subst J (sym shown.world.jobs) (subst T (sym same) place.1), refl)), shown)
+
+pub told_nearby : (s : SessionState) (c : ℕ) (last : List ℕ) → has_cpu s.machine.store c ≡ true → IsNearbyText s.machine.programs s.machine.jobs c last → Leaves s (Nearby (Some c)) last s
+told_nearby s c last has tells x shown =
+    let J : List Task → Type 0 = λ jobs. IsNearbyText x.world.programs jobs c last in
+    let P : List Loaded → Type 0 = λ ps. IsNearbyText ps s.machine.jobs c last in
+    (x, ((is_cpu s.machine x.world c has shown.world, subst J (sym shown.world.jobs) (subst P (sym shown.world.programs) tells)), refl), shown)
 
 pub told_map : (s : SessionState) (name : List ℕ) (m : ℕ) (last : List ℕ) → IsNamed s.names name m → TellsMap s.machine.store m last → Leaves s (Map name) last s
 told_map s name m last named tells x shown =
@@ -321,6 +390,12 @@ follows_on x Jobs text y f course = stays x y f.1 course
 follows_on x (Mark n) text y f course = stays x y f.1 course
 follows_on x Help text y f course = stays x y f.1 course
 follows_on x (Held c) text y f course = stays x y f.1 course
+follows_on x (Nearby c) text y f course = stays x y f.1 course
+follows_on x (Show (Some c)) text y (has, inl f) course = stays x y f.1 course
+follows_on x (Show (Some c)) text y (has, inr f) course =
+    (subst IsCourse (sym f.4) (recalls_run kind.Works c x.first None x.turns f.0 f.1 f.2), ap (λ (z : Scene). z.first) f.4)
+follows_on x (Last (Some c)) text y f course =
+    (subst IsCourse (sym f.1.4) (recalls_run kind.Ends c x.first None x.turns f.1.0 f.1.1 f.1.2), ap (λ (z : Scene). z.first) f.1.4)
 follows_on x (Back n) text y f course =
     (subst IsCourse (sym f.1.3) f.1.1, ap (λ (z : Scene). z.first) f.1.3)
 follows_on x (Break None p) text y f course = absurd f
@@ -328,6 +403,8 @@ follows_on x (Break (Some c) None) text y f course = absurd f
 follows_on x (Delete None p) text y f course = absurd f
 follows_on x (Delete (Some c) None) text y f course = absurd f
 follows_on x (Step None) text y f course = absurd f
+follows_on x (Show None) text y f course = absurd f
+follows_on x (Last None) text y f course = absurd f
 follows_on x (StepTimes None n) text y f course = absurd f
 
 -- ---- lines
@@ -355,6 +432,8 @@ few_turns kept turns (Back n) is few = fewer kept turns n is few
 few_turns kept turns (Break c p) is few = absurd few
 few_turns kept turns (Delete c p) is few = absurd few
 few_turns kept turns (Step c) is few = absurd few
+few_turns kept turns (Show c) is few = absurd few
+few_turns kept turns (Last c) is few = absurd few
 few_turns kept turns (StepTimes c n) is few = absurd few
 few_turns kept turns (Steps runs) is few = absurd few
 few_turns kept turns Go is few = absurd few
@@ -370,6 +449,7 @@ few_turns kept turns Jobs is few = absurd few
 few_turns kept turns (Mark n) is few = absurd few
 few_turns kept turns Help is few = absurd few
 few_turns kept turns (Held c) is few = absurd few
+few_turns kept turns (Nearby c) is few = absurd few
 
 counted : (cpus : ℕ) (programs : List Loaded) (names : List (List ℕ)) (kept : Option (List (ℕ × ℕ))) (turns : List ℕ) (order : Order) (e : DebugError) → IsKept kept turns
     → RefusesOrder cpus programs names (count_of kept) order e → RefusesOrder cpus programs names (Some (length turns)) order e

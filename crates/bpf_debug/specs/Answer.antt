@@ -14,10 +14,13 @@ use Rattle.bpf_cpu.specs.Lines.{job_line}
 abbrev pub cpu_words : ℕ → List ℕ
 cpu_words c = codes "cpu " ++ decimal c
 
+abbrev pub place_line : ℕ → ℕ → ℕ → ℕ → List ℕ
+place_line c j pc depth =
+    cpu_words c ++ codes " job " ++ decimal j ++ codes " pc " ++ decimal pc
+    ++ codes " depth " ++ decimal depth ++ codes "\n"
+
 abbrev pub in_hand_line : ℕ → ℕ → Cpu → List ℕ
-in_hand_line c j state =
-    cpu_words c ++ codes " job " ++ decimal j ++ codes " pc " ++ decimal state.pc
-    ++ codes " depth " ++ decimal (length state.memory.frames.live) ++ codes "\n"
+in_hand_line c j state = place_line c j state.pc (length state.memory.frames.live)
 
 abbrev pub waiting_line : ℕ → ℕ → List ℕ
 waiting_line c j = cpu_words c ++ codes " job " ++ decimal j ++ codes " waiting\n"

@@ -47,6 +47,12 @@ pub data Order : Type 0 where
   Help : Order
   -- `held C`
   Held : Option ℕ → Order
+  -- `list C`
+  Nearby : Option ℕ → Order
+  -- `last C`
+  Last : Option ℕ → Order
+  -- `show C`
+  Show : Option ℕ → Order
 
 -- a word is a number of any size, and this one where it is below the limit
 abbrev pub number_below : ℕ → List ℕ → Option (Option ℕ)
@@ -107,7 +113,10 @@ two_words w a =
     else (if bytes_eq (codes "mark") w then option_map Mark (mark_in a)
     else (if bytes_eq (codes "back") w then option_map Back (turns_in a)
     else (if bytes_eq (codes "held") w then option_map Held (cpu_in a)
-    else None)))))))
+    else (if bytes_eq (codes "list") w then option_map Nearby (cpu_in a)
+    else (if bytes_eq (codes "last") w then option_map Last (cpu_in a)
+    else (if bytes_eq (codes "show") w then option_map Show (cpu_in a)
+    else None))))))))))
 
 abbrev pub three_words : List ℕ → List ℕ → List ℕ → Option Order
 three_words w a b =
@@ -179,3 +188,6 @@ command_order (command.Mark n) = Mark n
 command_order (command.Back n) = Back n
 command_order command.Help = Help
 command_order (command.Held c) = Held c
+command_order (command.Nearby c) = Nearby c
+command_order (command.Last c) = Last c
+command_order (command.Show c) = Show c

@@ -1,12 +1,12 @@
 -- What follows from the definitions of commands and scripts: any order of turns is spelled by
 -- `step` commands, questions change nothing, and a script has one list of answers.
-use Rattle.std.specs.Prelude.{◌≡◌, ◌≢◌, ℕ, ◌≤◌, true, List, [], ◌∷◌, ◌++◌, Option, All, Err, codes, map}
+use Rattle.std.specs.Prelude.{◌≡◌, ◌≢◌, ℕ, ◌≤◌, true, List, [], ◌∷◌, ◌++◌, Option, ◌⊎◌, All, Err, codes, map}
 use Rattle.std.specs.List.{list_all}
 use Rattle.std.specs.Fmt.{decimal}
 use Rattle.bpf_machine.specs.Laws.{IsFresh}
 use Rattle.bpf_machine.specs.Schedule.{World, RunsSchedule, unrolled}
 use Rattle.bpf_debug.specs.declared.error.DebugError.TheVariants as error
-use Rattle.bpf_debug.specs.Command.{Order, Break, Delete, Step, StepTimes, Steps, Go, Registers, Where, Memory, Map, Keys, Schedule, GoTo, Maps, Jobs, Mark, Back, Help, Held, is_short}
+use Rattle.bpf_debug.specs.Command.{Order, Break, Delete, Step, StepTimes, Steps, Go, Registers, Where, Memory, Map, Keys, Schedule, GoTo, Maps, Jobs, Mark, Back, Help, Held, Nearby, Last, Show, is_short}
 use Rattle.bpf_debug.specs.Course.{runs_of}
 use Rattle.bpf_debug.specs.Session.{Scene, IsCpu, IsCourse, CarriesOut, behind}
 use Rattle.bpf_debug.specs.Script.{Answer, RunsScript}
@@ -65,10 +65,13 @@ IsQuestion Jobs = Unit {0}
 IsQuestion (Mark n) = Unit {0}
 IsQuestion Help = Unit {0}
 IsQuestion (Held c) = Unit {0}
+IsQuestion (Nearby c) = Unit {0}
 IsQuestion (Back n) = ⊥
 IsQuestion (Delete c p) = ⊥
 IsQuestion (Break c p) = ⊥
 IsQuestion (Step c) = ⊥
+IsQuestion (Show c) = ⊥
+IsQuestion (Last c) = ⊥
 IsQuestion (StepTimes c n) = ⊥
 IsQuestion (Steps runs) = ⊥
 IsQuestion Go = ⊥
@@ -83,6 +86,13 @@ QuestionsChangeNothing =
     → (y.turns ≡ x.turns) × (y.world ≡ x.world))
     × ((x y : Scene) (c p : Option ℕ) (text : List ℕ) → CarriesOut x (Delete c p) text y
     → (y.turns ≡ x.turns) × (y.world ≡ x.world))
+
+-- over a machine that was made by the scene's turns of one whose jobs all wait, what makes the turns
+-- again changes nothing either
+abbrev pub RecallsChangeNothing : Type 0
+RecallsChangeNothing =
+    (x y : Scene) (c : Option ℕ) (text : List ℕ) → IsFresh x.first → IsCourse x
+    → CarriesOut x (Last c) text y ⊎ CarriesOut x (Show c) text y → y ≡ x
 
 -- ---- one list of answers
 

@@ -6,9 +6,13 @@ pub mod Course
 pub mod Origin
 pub mod Read
 pub mod Held
+pub mod Nearby
+pub mod Recall
+pub mod Show
 pub mod Told
 pub mod Help
 pub mod Session
 pub mod Codes
 pub mod Script
 pub mod Laws
+pub mod Private

@@ -1,6 +1,6 @@
 -- What commands do: the turns that each makes, what it answers, and why one is refused (our own
 -- choice).
-use Rattle.std.specs.Prelude.{◌≡◌, ℕ, ◌+◌, ◌<◌, ◌≤◌, replicate, Bool, true, false, nat_lt, if◌then◌else◌, List, [], ◌∷◌, ◌++◌, Option, Some, None, length, slice_get}
+use Rattle.std.specs.Prelude.{◌≡◌, ℕ, ◌+◌, ◌<◌, ◌≤◌, replicate, Bool, true, false, nat_lt, if◌then◌else◌, ◌⊎◌, List, [], ◌∷◌, ◌++◌, Option, Some, None, length, slice_get}
 use Rattle.std.specs.List.{list_all}
 use Rattle.bpf_loader.specs.Loaded.{Loaded}
 use Rattle.bpf_loader.specs.Places.{IsStart}
@@ -10,14 +10,18 @@ use Rattle.bpf_machine.specs.Machine.{MachineState, Shows}
 use Rattle.bpf_debug.specs.declared.breakpoint.Breakpoint.{Breakpoint}
 use Rattle.bpf_debug.specs.declared.error.DebugError.{DebugError}
 use Rattle.bpf_debug.specs.declared.error.DebugError.TheVariants as error
-use Rattle.bpf_debug.specs.Command.{Order, Break, Delete, Step, StepTimes, Steps, Go, Registers, Where, Memory, Map, Keys, Schedule, GoTo, Maps, Jobs, Mark, Back, Help, Held, order_of}
-use Rattle.bpf_debug.specs.Answer.{IsWhere, IsRegisters, ended_text, break_line, deleted_line}
+use Rattle.bpf_debug.specs.declared.recall.Kind.TheVariants as kind
+use Rattle.bpf_debug.specs.Command.{Order, Break, Delete, Step, StepTimes, Steps, Go, Registers, Where, Memory, Map, Keys, Schedule, GoTo, Maps, Jobs, Mark, Back, Help, Held, Nearby, Last, Show, order_of}
+use Rattle.bpf_debug.specs.Answer.{IsOff, IsWhere, IsRegisters, ended_text, break_line, deleted_line}
 use Rattle.bpf_debug.specs.Turns.{MakesTurns, MakesRuns, last_cpu}
 use Rattle.bpf_debug.specs.Course.{AreFewer, IsKept, count_of, course_line, cpu_before, turns_before}
 use Rattle.bpf_debug.specs.Go.{Goes, has_break, without_break}
 use Rattle.bpf_debug.specs.Told.{shape_lines, told_jobs, mark_line}
 use Rattle.bpf_debug.specs.Help.{help_text}
 use Rattle.bpf_debug.specs.Held.{IsHeldText}
+use Rattle.bpf_debug.specs.Nearby.{IsNearbyText}
+use Rattle.bpf_debug.specs.Recall.{Past, Recalls, IsLastText}
+use Rattle.bpf_debug.specs.Show.{IsShownText}
 use Rattle.bpf_debug.specs.Read.{IsMemoryText, IsNamed, IsNoName, IsMapText, IsKeysText}
 
 -- what callers see of a session: its machine, the same before the first turn, the names of the maps
@@ -118,6 +122,22 @@ GoesBack x n text y =
     (n ≤ length x.turns) × ((m : World) × RunsSchedule x.first (turns_before x.turns n) m
     × IsWhere m.jobs (cpu_before x.turns n) text × (y ≡ undone x n m))
 
+-- the turns are made again, and what the last of the CPU's that ended a job left is told
+abbrev pub TellsLast : Scene → ℕ → List ℕ → Scene → Type 0
+TellsLast x c text y =
+    (past : Option Past) × (m : World) × Recalls kind.Ends c x.first None x.turns past m
+    × IsLastText c past m.jobs text × (y ≡ record x { world = m })
+
+-- the same, and what the last of the CPU's changed is told
+abbrev pub ShowsTurn : Scene → ℕ → List ℕ → Scene → Type 0
+ShowsTurn x c text y =
+    (past : Option Past) × (m : World) × Recalls kind.Works c x.first None x.turns past m
+    × IsShownText c x.names past x.world.jobs text × (y ≡ record x { world = m })
+
+-- of a CPU with a job in hand, or where it stands
+abbrev pub ShowsCpu : Scene → ℕ → List ℕ → Scene → Type 0
+ShowsCpu x c text y = (IsOff x.world.jobs c text × (y ≡ x)) ⊎ ShowsTurn x c text y
+
 abbrev pub IsCpu : Scene → ℕ → Type 0
 IsCpu x c = c < x.world.store.shape.cpus
 
@@ -133,6 +153,8 @@ Answers x (Memory (Some c) at n) text =
     IsCpu x c × IsMemoryText x.world.store x.world.jobs c at n text
 Answers x (Held (Some c)) text =
     IsCpu x c × IsHeldText x.names x.world.store x.world.jobs c text
+Answers x (Nearby (Some c)) text =
+    IsCpu x c × IsNearbyText x.world.programs x.world.jobs c text
 Answers x (Map name) text = (m : ℕ) × IsNamed x.names name m × IsMapText x.world.store m text
 Answers x (Keys name) text = (m : ℕ) × IsNamed x.names name m × IsKeysText x.world.store m text
 Answers x Schedule text = text ≡ course_line x.turns
@@ -153,9 +175,13 @@ CarriesOut x (Steps runs) text y =
 CarriesOut x Go text y = RunsOn x text y
 CarriesOut x (GoTo (Some c) (Some p)) text y = IsCpu x c × RunsTo x c p text y
 CarriesOut x (Back n) text y = GoesBack x n text y
+CarriesOut x (Last (Some c)) text y = IsCpu x c × TellsLast x c text y
+CarriesOut x (Show (Some c)) text y = IsCpu x c × ShowsCpu x c text y
 CarriesOut x (Break c p) text y = ⊥
 CarriesOut x (Delete c p) text y = ⊥
 CarriesOut x (Step None) text y = ⊥
+CarriesOut x (Show None) text y = ⊥
+CarriesOut x (Last None) text y = ⊥
 CarriesOut x (StepTimes None n) text y = ⊥
 CarriesOut x (GoTo c p) text y = ⊥
 CarriesOut x order text y = Answers x order text × (y ≡ x)
@@ -196,6 +222,8 @@ abbrev pub NamesNoCpu : ℕ → Order → Type 0
 NamesNoCpu cpus (Break c p) = IsNoCpu cpus c
 NamesNoCpu cpus (Delete c p) = IsNoCpu cpus c
 NamesNoCpu cpus (Step c) = IsNoCpu cpus c
+NamesNoCpu cpus (Show c) = IsNoCpu cpus c
+NamesNoCpu cpus (Last c) = IsNoCpu cpus c
 NamesNoCpu cpus (StepTimes c n) = IsNoCpu cpus c
 NamesNoCpu cpus (Steps runs) = are_cpus cpus runs ≡ false
 NamesNoCpu cpus Go = ⊥
@@ -212,6 +240,7 @@ NamesNoCpu cpus (Mark n) = ⊥
 NamesNoCpu cpus (Back n) = ⊥
 NamesNoCpu cpus Help = ⊥
 NamesNoCpu cpus (Held c) = IsNoCpu cpus c
+NamesNoCpu cpus (Nearby c) = IsNoCpu cpus c
 
 abbrev pub NamesNoPc : ℕ → List Loaded → Order → Type 0
 NamesNoPc cpus programs (Break c p) = (IsNoCpu cpus c → ⊥) × IsNoPc programs p

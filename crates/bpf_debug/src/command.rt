@@ -45,6 +45,12 @@ pub enum Command<'a> {
     Help,
     /// The values that a CPU's run holds.
     Held(Option<u8>),
+    /// The instructions near a CPU's pc.
+    Nearby(Option<u8>),
+    /// What the last job that ended on a CPU left.
+    Last(Option<u8>),
+    /// The registers that a CPU's last turn changed.
+    Show(Option<u8>),
 }
 
 /// Whether a word is this one.
@@ -175,6 +181,15 @@ fn two_words<'a>(word: &[u8], first: &'a [u8]) -> Option<Command<'a>>
     } else if is(word, "held") {
         let cpu = cpu_in(first)?;
         Some(Command::Held(cpu))
+    } else if is(word, "list") {
+        let cpu = cpu_in(first)?;
+        Some(Command::Nearby(cpu))
+    } else if is(word, "last") {
+        let cpu = cpu_in(first)?;
+        Some(Command::Last(cpu))
+    } else if is(word, "show") {
+        let cpu = cpu_in(first)?;
+        Some(Command::Show(cpu))
     } else {
         None
     }

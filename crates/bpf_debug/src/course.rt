@@ -7,6 +7,7 @@ ghost use Rattle.bpf_machine.specs.Schedule.{unrolled};
 ghost use Rattle.bpf_debug.specs.Course.{DropsTurn, TakesBack, with_turn};
 
 use crate::command::MOST_TURNS;
+use crate::recall::{Kind, Recall, recall_runs};
 use bpf_machine::Machine;
 use bpf_schedule::push_runs;
 use std::alloc::{AllocError, Global};
@@ -116,11 +117,12 @@ pub fn course_line(alloc: Global, runs: &[(u8, u64)]) -> Result<String, AllocErr
 }
 
 impl Course {
-    ghost use Rattle.std.specs.Prelude.{◌≡◌, ℕ, List, [], ◌∷◌, Some, None, IfSome, IfNone, replicate};
+    ghost use Rattle.std.specs.Prelude.{◌≡◌, ℕ, List, [], ◌∷◌, Option, Some, None, IfSome, IfNone, replicate};
     ghost use Rattle.bpf_machine.specs.Schedule.{World, RunsSchedule, unrolled};
     ghost use Rattle.bpf_machine.specs.Machine.{Shows};
     ghost use Rattle.bpf_machine.specs.Parts.{IsSameHost};
     ghost use Rattle.bpf_debug.specs.Course.{KeepsOn, TakesBack};
+    ghost use Rattle.bpf_debug.specs.Recall.{IsRecall, Past, Recalls};
 
     /// No turn has been made.
     pub fn new(alloc: Global) -> Course
@@ -202,6 +204,18 @@ impl Course {
         ensures same { IsSameHost machine.old machine.new }
     {
         machine.turns_by(&self.runs);
+    }
+
+    /// Makes all turns, where they are told, and says how a CPU stood before the last of its turns
+    /// of a kind.
+    pub fn recall(&self, machine: &mut Machine, cpu: u8, kind: Kind) -> Option<Recall>
+        ensures turns { (runs : List (ℕ × ℕ)) → self.now ≡ Some runs
+            → (w : World) → Shows machine.old w → (z : World) × (new : Option Past)
+            × Recalls kind cpu w None (unrolled runs) new z × Shows machine.new z
+            × IsRecall cpu result new }
+        ensures same { IsSameHost machine.old machine.new }
+    {
+        recall_runs(machine, &self.runs, cpu, kind)
     }
 
     /// The turns of a schedule have been made.

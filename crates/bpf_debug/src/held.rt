@@ -15,14 +15,14 @@ use bpf_shared::{FIRST_VALUE, MAP_AREA, Span};
 use std::alloc::{AllocError, Global};
 
 /// The number of the map among whose values an address is.
-fn map_at(address: u64) -> usize
+pub fn map_at(address: u64) -> usize
     ensures { result ≡ map_at address }
 {
     (address.saturating_sub(FIRST_VALUE) / MAP_AREA) as usize
 }
 
 /// The name of a map by its number; none for no map's.
-fn name_at(names: &[String], number: usize) -> &str
+pub fn name_at(names: &[String], number: usize) -> &str
     ensures { result.now ≡ slice_index_or (map string_bytes names.now) number [] }
 {
     match names.get(number) {

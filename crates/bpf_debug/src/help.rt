@@ -17,6 +17,9 @@ break C P      go stops CPU C before pc P
 delete C P     no more
 where C        where CPU C stands
 regs C         its registers
+show C         those that its last turn changed, and what each is as an address
+list C         the instructions near its pc
+last C         the last job that ended on it, and its registers before its last step
 held C         the values that its run holds, as addresses and bytes
 mem C A N      N bytes from address A on, as its program may read them
 map NAME       the keys of a map with their values

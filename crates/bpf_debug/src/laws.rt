@@ -1,7 +1,7 @@
 //! What follows from the definitions of commands and scripts, as promises to the crates above.
 //!
 //! These functions do nothing: their contracts are the laws.
-ghost use Rattle.bpf_debug.specs.Laws.{BeginningsComeFirst, QuestionsChangeNothing, RunsTellTurns, SchedulesAreSteps, ScriptsAreDetermined, ScriptsMakeTurns, StepsSpellSchedules};
+ghost use Rattle.bpf_debug.specs.Laws.{BeginningsComeFirst, QuestionsChangeNothing, RecallsChangeNothing, RunsTellTurns, SchedulesAreSteps, ScriptsAreDetermined, ScriptsMakeTurns, StepsSpellSchedules};
 
 /// Any schedule is spelled by `step` commands.
 pub fn steps_spell_schedules()
@@ -32,6 +32,15 @@ pub fn beginnings_come_first()
 pub fn questions_change_nothing()
     ensures { QuestionsChangeNothing }
 {}
+
+/// Nor does what makes the turns again, over a machine that they led to.
+pub fn recalls_change_nothing()
+    ensures { RecallsChangeNothing }
+{
+    bpf_mem::laws::writes_are_determined();
+    bpf_loader::laws::one_instruction_begins();
+    bpf_shared::laws::calls_have_one_reply();
+}
 
 /// Over a machine whose jobs all wait, a script has one list of answers, want of memory aside.
 pub fn scripts_are_determined()

@@ -4,7 +4,7 @@ ghost use Rattle.std.specs.Prelude.{◌≡◌, ◌+◌, ◌*◌, ◌≤◌, ◌+
 ghost use Rattle.bpf_cpu.specs.Lines.{outcome_text, job_line};
 ghost use Rattle.bpf_machine.specs.Hands.{IsFree};
 ghost use Rattle.bpf_debug.specs.Told.{mark_line, open_line, told_job, told_jobs};
-ghost use Rattle.bpf_debug.specs.Answer.{cpu_words, in_hand_line, waiting_line, idle_line, register_line, register_lines, break_line, deleted_line, stop_line, ended_text, IsWhere, IsRegisters, IsOff};
+ghost use Rattle.bpf_debug.specs.Answer.{cpu_words, in_hand_line, place_line, waiting_line, idle_line, register_line, register_lines, break_line, deleted_line, stop_line, ended_text, IsWhere, IsRegisters, IsOff};
 
 use crate::text::{put, put_number};
 use bpf_cpu::{Cpu, Fault, Outcome};
@@ -23,9 +23,10 @@ fn put_cpu(out: &mut String, cpu: u8)
     put_number(out, cpu as u64);
 }
 
-fn put_in_hand(out: &mut String, cpu: u8, job: usize, state: &Cpu)
+/// Puts the line of a CPU that has a job in hand.
+pub fn put_place(out: &mut String, cpu: u8, job: usize, pc: u32, depth: usize)
     requires { string_len out.old + 128 ≤ string_capacity out.old }
-    ensures text { string_bytes out.new ≡ string_bytes out.old ++ in_hand_line cpu job state.now }
+    ensures text { string_bytes out.new ≡ string_bytes out.old ++ place_line cpu job pc depth }
     ensures size { string_len out.new ≤ string_len out.old + 128 }
     ensures room { string_capacity out.old ≤ string_capacity out.new }
 {
@@ -33,13 +34,23 @@ fn put_in_hand(out: &mut String, cpu: u8, job: usize, state: &Cpu)
     put(out, " job ");
     put_number(out, job as u64);
     put(out, " pc ");
-    put_number(out, state.pc as u64);
+    put_number(out, pc as u64);
     put(out, " depth ");
-    put_number(out, state.memory.frames.depth() as u64);
+    put_number(out, depth as u64);
     put(out, "\n");
 }
 
-fn put_waiting(out: &mut String, cpu: u8, job: usize)
+fn put_in_hand(out: &mut String, cpu: u8, job: usize, state: &Cpu)
+    requires { string_len out.old + 128 ≤ string_capacity out.old }
+    ensures text { string_bytes out.new ≡ string_bytes out.old ++ in_hand_line cpu job state.now }
+    ensures size { string_len out.new ≤ string_len out.old + 128 }
+    ensures room { string_capacity out.old ≤ string_capacity out.new }
+{
+    put_place(out, cpu, job, state.pc, state.memory.frames.depth());
+}
+
+/// Puts the line of a CPU that is to begin this job next.
+pub fn put_waiting(out: &mut String, cpu: u8, job: usize)
     requires { string_len out.old + 128 ≤ string_capacity out.old }
     ensures text { string_bytes out.new ≡ string_bytes out.old ++ waiting_line cpu job }
     ensures size { string_len out.new ≤ string_len out.old + 128 }
@@ -51,7 +62,8 @@ fn put_waiting(out: &mut String, cpu: u8, job: usize)
     put(out, " waiting\n");
 }
 
-fn put_idle(out: &mut String, cpu: u8)
+/// Puts the line of a CPU without work.
+pub fn put_idle(out: &mut String, cpu: u8)
     requires { string_len out.old + 128 ≤ string_capacity out.old }
     ensures text { string_bytes out.new ≡ string_bytes out.old ++ idle_line cpu }
     ensures size { string_len out.new ≤ string_len out.old + 128 }
@@ -90,7 +102,7 @@ fn put_register(out: &mut String, number: usize, value: u64)
 }
 
 /// Puts the lines of a CPU's registers.
-fn put_values(out: &mut String, values: &[u64])
+pub fn put_values(out: &mut String, values: &[u64])
     requires { string_len out.old + 64 * length values.now ≤ string_capacity out.old }
     ensures text { string_bytes out.new ≡ string_bytes out.old ++ register_lines 0 values.now }
 {

@@ -11,21 +11,17 @@ ghost use Rattle.bpf_debug.specs.Command.{Order, command_order, few_words, order
 ghost use Rattle.bpf_debug.specs.Origin.{IsOfShape};
 ghost use Rattle.bpf_debug.specs.Session.{IsPc, are_cpus};
 
+mod again;
+mod questions;
+
 use crate::breakpoint::{Breakpoint, has_break, remove_break};
 use crate::command::{Command, command_of};
-use crate::course::{Course, course_line, has_turns};
+use crate::course::Course;
 use crate::error::DebugError;
 use crate::going;
-use crate::held::held_lines;
-use crate::help::help_text;
-use crate::lines::{
-    LINE, put_break, put_deleted, put_ended, put_jobs, put_mark, put_off, put_registers, put_where,
-};
-use crate::maps::{key_lines_of, map_lines, map_named};
+use crate::lines::{LINE, put_break, put_deleted, put_ended, put_where};
 use crate::origin::Origin;
-use crate::reading::bytes_line;
 use crate::schedule::{is_schedule, schedule_in};
-use crate::told::shape_lines;
 use crate::turns::{take_runs, take_turns};
 use bpf_lines::lines;
 use bpf_loader::Program;
@@ -128,7 +124,6 @@ fn take_turn(machine: &mut Machine, cpu: u8, out: &mut String)
 impl Session {
     ghost use Rattle.bpf_machine.specs.Schedule.{World};
     ghost use Rattle.bpf_machine.specs.Machine.{Shows};
-    ghost use Rattle.bpf_machine.specs.Hands.{IsFree};
     ghost use Rattle.bpf_debug.specs.Session.{IsNoCpu, Leaves, LeavesLine, RefusesHere, RefusesLine};
 
     /// A session without breakpoints, with the maps' names by their numbers, over a machine whose
@@ -376,43 +371,6 @@ impl Session {
         self.go_to_at(alloc, cpu, pc)
     }
 
-    /// Undoes so many turns, which there are.
-    fn back_by(&mut self, alloc: Global, count: u64) -> Result<String, DebugError>
-        requires { (runs : List (ℕ × ℕ)) × (self.old.course ≡ Some runs)
-            × (count ≤ length (unrolled runs)) }
-        ensures answered { IfOk result
-            (λ text. Leaves self.old (Order.Back count) (string_bytes text) self.new) }
-        ensures refused { IfErr result (λ e. e ≡ DebugError.OutOfMemory) }
-        ensures unchanged { OnErr result (self.new ≡ self.old) }
-    {
-        let Some(mut out) = make_room(alloc, 1) else {
-            return Err(DebugError::OutOfMemory);
-        };
-        let Ok(()) = self.origin.rewind(alloc, &mut self.machine) else {
-            return Err(DebugError::OutOfMemory);
-        };
-        let cpu = self.course.take_back(count);
-        self.course.repeat(&mut self.machine);
-        put_where(&mut out, &self.machine, cpu);
-        Ok(out)
-    }
-
-    fn back(&mut self, alloc: Global, count: u64) -> Result<String, DebugError>
-        ensures answered { IfOk result
-            (λ text. Leaves self.old (Order.Back count) (string_bytes text) self.new) }
-        ensures refused { IfErr result (λ e. RefusesHere self.old (Order.Back count) e) }
-        ensures unchanged { OnErr result (self.new ≡ self.old) }
-    {
-        let Some(runs) = self.course.runs() else {
-            return Err(DebugError::OutOfMemory);
-        };
-        if has_turns(runs, count) {
-            self.back_by(alloc, count)
-        } else {
-            Err(DebugError::NoTurns)
-        }
-    }
-
     /// A breakpoint of a CPU, at a pc of some program.
     fn set_break(&mut self, alloc: Global, cpu: u8, pc: u32) -> Result<String, DebugError>
         requires served { has_cpu self.old.machine.store cpu ≡ true }
@@ -520,243 +478,6 @@ impl Session {
         self.delete_at(alloc, cpu, pc)
     }
 
-    fn registers_at(&self, alloc: Global, cpu: u8) -> Result<String, DebugError>
-        requires { has_cpu self.now.machine.store cpu ≡ true }
-        ensures answered { IfOk result (λ text.
-            Leaves self.now (Order.Registers (Some cpu)) (string_bytes text) self.now) }
-        ensures refused { IfErr result (λ e. e ≡ DebugError.OutOfMemory) }
-    {
-        let Some(mut out) = make_room(alloc, 0) else {
-            return Err(DebugError::OutOfMemory);
-        };
-        put_registers(&mut out, &self.machine, cpu);
-        Ok(out)
-    }
-
-    fn registers(&self, alloc: Global, number: Option<u8>) -> Result<String, DebugError>
-        ensures answered { IfOk result (λ text.
-            Leaves self.now (Order.Registers number) (string_bytes text) self.now) }
-        ensures refused { IfErr result (λ e. RefusesHere self.now (Order.Registers number) e) }
-    {
-        let Some(cpu) = self.cpu(number) else {
-            return Err(DebugError::NoCpu);
-        };
-        self.registers_at(alloc, cpu)
-    }
-
-    fn standing_at(&self, alloc: Global, cpu: u8) -> Result<String, DebugError>
-        requires { has_cpu self.now.machine.store cpu ≡ true }
-        ensures answered { IfOk result (λ text.
-            Leaves self.now (Order.Where (Some cpu)) (string_bytes text) self.now) }
-        ensures refused { IfErr result (λ e. e ≡ DebugError.OutOfMemory) }
-    {
-        let Some(mut out) = make_room(alloc, 1) else {
-            return Err(DebugError::OutOfMemory);
-        };
-        put_where(&mut out, &self.machine, cpu);
-        Ok(out)
-    }
-
-    fn standing(&self, alloc: Global, number: Option<u8>) -> Result<String, DebugError>
-        ensures answered { IfOk result (λ text.
-            Leaves self.now (Order.Where number) (string_bytes text) self.now) }
-        ensures refused { IfErr result (λ e. RefusesHere self.now (Order.Where number) e) }
-    {
-        let Some(cpu) = self.cpu(number) else {
-            return Err(DebugError::NoCpu);
-        };
-        self.standing_at(alloc, cpu)
-    }
-
-    /// What `mem` answers of a CPU that has no job in hand.
-    fn off_at(
-        &self,
-        alloc: Global,
-        cpu: u8,
-        address: Option<u64>,
-        count: usize,
-    ) -> Result<String, DebugError>
-        requires served { has_cpu self.now.machine.store cpu ≡ true }
-        requires free { IsFree self.now.machine.jobs cpu }
-        ensures answered { IfOk result (λ text.
-            Leaves self.now (Order.Memory (Some cpu) address count) (string_bytes text) self.now) }
-        ensures refused { IfErr result (λ e. e ≡ DebugError.OutOfMemory) }
-    {
-        let Some(mut out) = make_room(alloc, 1) else {
-            return Err(DebugError::OutOfMemory);
-        };
-        put_off(&mut out, &self.machine, cpu);
-        Ok(out)
-    }
-
-    fn memory_at(
-        &self,
-        alloc: Global,
-        cpu: u8,
-        address: Option<u64>,
-        count: usize,
-    ) -> Result<String, DebugError>
-        requires { has_cpu self.now.machine.store cpu ≡ true }
-        ensures answered { IfOk result (λ text.
-            Leaves self.now (Order.Memory (Some cpu) address count) (string_bytes text) self.now) }
-        ensures refused { IfErr result (λ e. e ≡ DebugError.OutOfMemory) }
-    {
-        let Some(state) = self.machine.cpu(cpu) else {
-            return self.off_at(alloc, cpu, address, count);
-        };
-        match bytes_line(alloc, self.machine.store(), state, address, count) {
-            Ok(text) => Ok(text),
-            Err(_) => Err(DebugError::OutOfMemory),
-        }
-    }
-
-    fn memory(
-        &self,
-        alloc: Global,
-        number: Option<u8>,
-        address: Option<u64>,
-        count: usize,
-    ) -> Result<String, DebugError>
-        ensures answered { IfOk result (λ text.
-            Leaves self.now (Order.Memory number address count) (string_bytes text) self.now) }
-        ensures refused { IfErr result
-            (λ e. RefusesHere self.now (Order.Memory number address count) e) }
-    {
-        let Some(cpu) = self.cpu(number) else {
-            return Err(DebugError::NoCpu);
-        };
-        self.memory_at(alloc, cpu, address, count)
-    }
-
-    fn map(&self, alloc: Global, name: &[u8]) -> Result<String, DebugError>
-        ensures answered { IfOk result
-            (λ text. Leaves self.now (Order.Map name.now) (string_bytes text) self.now) }
-        ensures refused { IfErr result (λ e. RefusesHere self.now (Order.Map name.now) e) }
-    {
-        let Some(map) = map_named(&self.names, name) else {
-            return Err(DebugError::NoMap);
-        };
-        match map_lines(alloc, self.machine.store(), map) {
-            Ok(text) => Ok(text),
-            Err(_) => Err(DebugError::OutOfMemory),
-        }
-    }
-
-    fn keys(&self, alloc: Global, name: &[u8]) -> Result<String, DebugError>
-        ensures answered { IfOk result
-            (λ text. Leaves self.now (Order.Keys name.now) (string_bytes text) self.now) }
-        ensures refused { IfErr result (λ e. RefusesHere self.now (Order.Keys name.now) e) }
-    {
-        let Some(map) = map_named(&self.names, name) else {
-            return Err(DebugError::NoMap);
-        };
-        match key_lines_of(alloc, self.machine.store(), map) {
-            Ok(text) => Ok(text),
-            Err(_) => Err(DebugError::OutOfMemory),
-        }
-    }
-
-    fn schedule(&self, alloc: Global) -> Result<String, DebugError>
-        ensures answered { IfOk result
-            (λ text. Leaves self.now Order.Schedule (string_bytes text) self.now) }
-        ensures refused { IfErr result (λ e. RefusesHere self.now Order.Schedule e) }
-    {
-        let Some(runs) = self.course.runs() else {
-            return Err(DebugError::OutOfMemory);
-        };
-        match course_line(alloc, runs) {
-            Ok(text) => Ok(text),
-            Err(_) => Err(DebugError::OutOfMemory),
-        }
-    }
-
-    fn maps(&self, alloc: Global) -> Result<String, DebugError>
-        ensures answered { IfOk result
-            (λ text. Leaves self.now Order.Maps (string_bytes text) self.now) }
-        ensures refused { IfErr result (λ e. RefusesHere self.now Order.Maps e) }
-    {
-        match shape_lines(alloc, self.machine.store(), &self.names) {
-            Ok(text) => Ok(text),
-            Err(_) => Err(DebugError::OutOfMemory),
-        }
-    }
-
-    fn jobs(&self, alloc: Global) -> Result<String, DebugError>
-        ensures answered { IfOk result
-            (λ text. Leaves self.now Order.Jobs (string_bytes text) self.now) }
-        ensures refused { IfErr result (λ e. RefusesHere self.now Order.Jobs e) }
-    {
-        let Some(mut out) = make_room(alloc, self.machine.jobs()) else {
-            return Err(DebugError::OutOfMemory);
-        };
-        put_jobs(&mut out, &self.machine);
-        Ok(out)
-    }
-
-    fn mark(&self, alloc: Global, number: u64) -> Result<String, DebugError>
-        ensures answered { IfOk result
-            (λ text. Leaves self.now (Order.Mark number) (string_bytes text) self.now) }
-        ensures refused { IfErr result (λ e. RefusesHere self.now (Order.Mark number) e) }
-    {
-        let Some(mut out) = make_room(alloc, 1) else {
-            return Err(DebugError::OutOfMemory);
-        };
-        put_mark(&mut out, number);
-        Ok(out)
-    }
-
-    /// What `held` answers of a CPU that has no job in hand.
-    fn holds_nothing(&self, alloc: Global, cpu: u8) -> Result<String, DebugError>
-        requires served { has_cpu self.now.machine.store cpu ≡ true }
-        requires free { IsFree self.now.machine.jobs cpu }
-        ensures answered { IfOk result (λ text.
-            Leaves self.now (Order.Held (Some cpu)) (string_bytes text) self.now) }
-        ensures refused { IfErr result (λ e. e ≡ DebugError.OutOfMemory) }
-    {
-        let Some(mut out) = make_room(alloc, 1) else {
-            return Err(DebugError::OutOfMemory);
-        };
-        put_off(&mut out, &self.machine, cpu);
-        Ok(out)
-    }
-
-    fn held_at(&self, alloc: Global, cpu: u8) -> Result<String, DebugError>
-        requires { has_cpu self.now.machine.store cpu ≡ true }
-        ensures answered { IfOk result (λ text.
-            Leaves self.now (Order.Held (Some cpu)) (string_bytes text) self.now) }
-        ensures refused { IfErr result (λ e. e ≡ DebugError.OutOfMemory) }
-    {
-        let Some(state) = self.machine.cpu(cpu) else {
-            return self.holds_nothing(alloc, cpu);
-        };
-        match held_lines(alloc, self.machine.store(), state, &self.names) {
-            Ok(text) => Ok(text),
-            Err(_) => Err(DebugError::OutOfMemory),
-        }
-    }
-
-    fn held(&self, alloc: Global, number: Option<u8>) -> Result<String, DebugError>
-        ensures answered { IfOk result
-            (λ text. Leaves self.now (Order.Held number) (string_bytes text) self.now) }
-        ensures refused { IfErr result (λ e. RefusesHere self.now (Order.Held number) e) }
-    {
-        let Some(cpu) = self.cpu(number) else {
-            return Err(DebugError::NoCpu);
-        };
-        self.held_at(alloc, cpu)
-    }
-
-    fn help(&self, alloc: Global) -> Result<String, DebugError>
-        ensures answered { IfOk result
-            (λ text. Leaves self.now Order.Help (string_bytes text) self.now) }
-        ensures refused { IfErr result (λ e. RefusesHere self.now Order.Help e) }
-    {
-        match help_text(alloc) {
-            Ok(text) => Ok(text),
-            Err(_) => Err(DebugError::OutOfMemory),
-        }
-    }
-
     fn follow<'a>(&mut self, alloc: Global, command: Command<'a>) -> Result<String, DebugError>
         ensures answered { IfOk result
             (λ text. Leaves self.old (command_order command.entry) (string_bytes text) self.new) }
@@ -782,6 +503,9 @@ impl Session {
             Command::Back(count) => self.back(alloc, count),
             Command::Help => self.help(alloc),
             Command::Held(cpu) => self.held(alloc, cpu),
+            Command::Nearby(cpu) => self.nearby(alloc, cpu),
+            Command::Last(cpu) => self.last(alloc, cpu),
+            Command::Show(cpu) => self.show(alloc, cpu),
         }
     }
 

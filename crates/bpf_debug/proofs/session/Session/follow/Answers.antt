@@ -94,3 +94,18 @@ pub returns-in-Held-clause-answered : goal.returns-in-Held-clause-answered
 returns-in-Held-clause-answered c =
     let P : Command → Type 0 = λ o. IfOk c.held.result (λ text. Leaves c.args.self.now (command_order o) (string_bytes text) c.args.self.now) in
     subst P (sym c.in-Held.is) c.held.ensures.answered
+
+pub returns-in-Nearby-clause-answered : goal.returns-in-Nearby-clause-answered
+returns-in-Nearby-clause-answered c =
+    let P : Command → Type 0 = λ o. IfOk c.nearby.result (λ text. Leaves c.args.self.now (command_order o) (string_bytes text) c.args.self.now) in
+    subst P (sym c.in-Nearby.is) c.nearby.ensures.answered
+
+pub returns-in-Last-clause-answered : goal.returns-in-Last-clause-answered
+returns-in-Last-clause-answered c =
+    let P : Command → Type 0 = λ o. IfOk c.last.result (λ text. Leaves c.args.self.now (command_order o) (string_bytes text) c.last.new.self) in
+    subst P (sym c.in-Last.is) c.last.ensures.answered
+
+pub returns-in-Show-clause-answered : goal.returns-in-Show-clause-answered
+returns-in-Show-clause-answered c =
+    let P : Command → Type 0 = λ o. IfOk c.show.result (λ text. Leaves c.args.self.now (command_order o) (string_bytes text) c.show.new.self) in
+    subst P (sym c.in-Show.is) c.show.ensures.answered

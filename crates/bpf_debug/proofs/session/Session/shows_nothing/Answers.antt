@@ -1,0 +1,18 @@
+use Rattle.std.proofs.Common.{◌≡◌, ℕ, List, Some, sym, subst, map}
+use Rattle.std.specs.Prelude.{true, string_bytes}
+use Rattle.bpf_plain.specs.PlainStore.{has_cpu}
+use Rattle.bpf_debug.specs.Origin.{first_of}
+use Rattle.bpf_debug.specs.Command.{Show}
+use Rattle.bpf_debug.specs.Session.{SessionState, Leaves}
+use Rattle.bpf_debug.proofs.SessionLaws.{told_no_shown}
+use Rattle.bpf_debug.proofs.session.Session.shows_nothing.Goals as goal
+
+pub returns-clause-answered : goal.returns-clause-answered
+returns-clause-answered c =
+    let m = c.self.inside in
+    let names : List (List ℕ) = map (λ n. string_bytes n) m.names.items in
+    let s : SessionState = record { machine = m.machine; first = first_of m.origin m.machine.programs; names = names; breaks = m.breakpoints.items; course = m.course } in
+    let last = string_bytes c.put_off.new.out in
+    let P : SessionState → Type 0 = λ t. Leaves t (Show (Some c.args.cpu)) last t in
+    let H : SessionState → Type 0 = λ t. has_cpu t.machine.store c.args.cpu ≡ true in
+    subst P c.self.view_is (told_no_shown s c.args.cpu (string_bytes c.in-Some.out) last (subst H (sym c.self.view_is) c.requires.served) c.in-Some.ensures.empty c.put_off.ensures)

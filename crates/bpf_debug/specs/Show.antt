@@ -1,0 +1,98 @@
+-- What `show` shows: the registers that a CPU's last turn changed, each number also as what it is
+-- where it is an address (our own choice).
+use Rattle.std.specs.Prelude.{◌≡◌, ℕ, suc, ◌+◌, ◌-◌, ◌/◌, ◌%◌, ◌==◌, Bool, false, ◌&&◌, nat_le, nat_lt, if◌then◌else◌, ◌⊎◌, List, [], ◌∷◌, ◌++◌, Option, Some, None, codes, length, slice_get, slice_index_or}
+use Rattle.std.specs.Fmt.{decimal, digits}
+use Rattle.bpf_shared.specs.declared.events.Span.{Span}
+use Rattle.bpf_mem.specs.Addresses.{context_base, frame_base}
+use Rattle.bpf_helpers.specs.Held.{is_in}
+use Rattle.bpf_cpu.specs.declared.cpu.Cpu.{Cpu}
+use Rattle.bpf_cpu.specs.Task.{Task, InHand}
+use Rattle.bpf_machine.specs.Hands.{IsAt, IsFree}
+use Rattle.bpf_debug.specs.Answer.{IsOff}
+use Rattle.bpf_debug.specs.Held.{map_at}
+use Rattle.bpf_debug.specs.Recall.{Past}
+
+-- ---- addresses
+
+-- the first of these values that an address is in
+abbrev pub value_at : List Span → ℕ → Option Span
+value_at [] a = None
+value_at (p ∷ held) a = if is_in a p then Some p else value_at held a
+
+-- the map's name, the value's address, and how far behind that
+abbrev pub place_words : List ℕ → ℕ → ℕ → List ℕ
+place_words name at behind =
+    codes " " ++ name ++ codes "[" ++ decimal at ++ codes "]+" ++ decimal behind
+
+abbrev pub value_words : List (List ℕ) → Span → ℕ → List ℕ
+value_words names p a = place_words (slice_index_or names (map_at p.at) []) p.at (a - p.at)
+
+-- the frame, and how far before its end: of 8 frames, each of 512 bytes
+abbrev pub below_words : ℕ → ℕ → List ℕ
+below_words frame below = codes " frame " ++ decimal frame ++ codes " - " ++ decimal below
+
+abbrev pub frame_words : ℕ → ℕ → List ℕ
+frame_words frame at =
+    if nat_lt frame 8 then (if nat_le at 512 then below_words frame (512 - at) else []) else []
+
+-- how far behind the context's beginning: it has 4,096 bytes at most
+abbrev pub context_words : ℕ → List ℕ
+context_words at = if nat_le at 4096 then codes " context + " ++ decimal at else []
+
+abbrev pub own_words : ℕ → List ℕ
+own_words a =
+    if nat_le (frame_base 0) a
+    then frame_words ((a - frame_base 0) / 0x1000) ((a - frame_base 0) % 0x1000)
+    else (if nat_le context_base a then context_words (a - context_base) else [])
+
+abbrev pub value_or_own : List (List ℕ) → ℕ → Option Span → List ℕ
+value_or_own names a (Some p) = value_words names p a
+value_or_own names a None = own_words a
+
+-- what a number is, where it is an address in a value that the run holds, in a frame or in the
+-- context
+abbrev pub meaning : List (List ℕ) → List Span → ℕ → List ℕ
+meaning names held a = value_or_own names a (value_at held a)
+
+-- ---- registers
+
+abbrev pub shown_line : List (List ℕ) → List Span → ℕ → ℕ → List ℕ
+shown_line names held k n =
+    codes "r" ++ decimal k ++ codes " " ++ decimal n ++ codes " 0x" ++ digits 16 false n
+    ++ meaning names held n ++ codes "\n"
+
+-- a line each, from the k-th on
+abbrev pub shown_lines : List (List ℕ) → List Span → ℕ → List ℕ → List (List ℕ)
+shown_lines names held k [] = []
+shown_lines names held k (n ∷ ns) =
+    shown_line names held k n ∷ shown_lines names held (suc k) ns
+
+-- whether the k-th was this number
+abbrev pub is_same : List ℕ → ℕ → ℕ → Bool
+is_same before k n = nat_lt k (length before) && (slice_index_or before k 0 == n)
+
+-- the lines of those that were other numbers before, or none
+abbrev pub changed_text : List ℕ → ℕ → List ℕ → List (List ℕ) → List ℕ
+changed_text before k (n ∷ ns) (line ∷ lines) =
+    (if is_same before k n then [] else line) ++ changed_text before (suc k) ns lines
+changed_text before k ns lines = []
+
+-- the registers of a CPU; none where it has no job in hand
+abbrev pub HasRegisters : List Task → ℕ → List ℕ → Type 0
+HasRegisters jobs c registers =
+    ((j : ℕ) × (task : Task) × (state : Cpu) × (left : ℕ) × IsAt jobs c j task (InHand state left)
+    × (registers ≡ state.registers))
+    ⊎ (IsFree jobs c × (registers ≡ []))
+
+-- those before the turn
+abbrev pub IsBefore : ℕ → Option Past → List ℕ → Type 0
+IsBefore c None before = before ≡ []
+IsBefore c (Some past) before = HasRegisters past.before.jobs c before
+
+-- of a CPU with a job in hand
+abbrev pub IsShownText : ℕ → List (List ℕ) → Option Past → List Task → List ℕ → Type 0
+IsShownText c names past jobs text =
+    (j : ℕ) × (task : Task) × (state : Cpu) × (left : ℕ) × (before : List ℕ)
+    × IsAt jobs c j task (InHand state left) × IsBefore c past before
+    × (text ≡ changed_text before 0 state.registers
+    (shown_lines names state.held 0 state.registers))

@@ -1,0 +1,273 @@
+//! The registers that a turn changed, each number also as what it is where it is an address.
+
+ghost use Rattle.std.specs.Prelude.{◌≡◌, ◌+◌, ◌-◌, ◌≤◌, ◌++◌, [], codes, false, IfOk, IfSome, List, Option, length, map, string_bytes, string_capacity, string_len, ℕ};
+ghost use Rattle.std.specs.Fmt.{decimal, digits};
+ghost use Rattle.bpf_cpu.specs.Task.{Task};
+ghost use Rattle.bpf_debug.specs.Recall.{IsRecall, IsStand, Past};
+ghost use Rattle.bpf_debug.specs.Show.{HasRegisters, IsBefore, below_words, changed_text, context_words, frame_words, is_same, meaning, own_words, place_words, shown_line, shown_lines, value_at, value_words};
+ghost use Rattle.bpf_debug.specs.Private.Room.{HasRoom, total};
+
+use crate::held::{map_at, name_at};
+use crate::recall::{Recall, Stand};
+use crate::text::put;
+use bpf_cpu::Cpu;
+use bpf_mem::addresses::{CONTEXT_BASE, FRAME_STRIDE, STACK_BASE};
+use bpf_mem::context::MAX_CONTEXT;
+use bpf_mem::frames::{FRAME_BYTES, MAX_FRAMES};
+use bpf_shared::Span;
+use std::alloc::{AllocError, Global};
+
+/// The first of some values that an address is in.
+fn value_at(held: &[Span], address: u64) -> Option<Span>
+    ensures { result ≡ value_at held.now address }
+{
+    for span in held {
+        if address >= span.at && address - span.at < span.size {
+            return Some(*span);
+        }
+    }
+    None
+}
+
+/// A number in decimal.
+fn number_text(alloc: Global, number: u64) -> Result<String, AllocError>
+    ensures { IfOk result (λ text. string_bytes text ≡ decimal number) }
+{
+    format!(in alloc; "{number}")
+}
+
+/// A number in hex digits.
+fn hex_text(alloc: Global, number: u64) -> Result<String, AllocError>
+    ensures { IfOk result (λ text. string_bytes text ≡ codes "0x" ++ digits 16 false number) }
+{
+    let text = format!(in alloc; "0x{number:x}")?;
+    Ok(text)
+}
+
+/// A map's name, a value's address, and how far behind that.
+fn place_words(alloc: Global, name: &str, at: u64, behind: u64) -> Result<String, AllocError>
+    ensures { IfOk result (λ text. string_bytes text ≡ place_words name.now at behind) }
+{
+    let behind = number_text(alloc, behind)?;
+    let words = format!(in alloc; " {name}[{at}]+{behind}")?;
+    Ok(words)
+}
+
+/// How far an address is behind the beginning of a value.
+fn behind(span: Span, address: u64) -> u64
+    ensures { result ≡ address - span.at }
+{
+    address.saturating_sub(span.at)
+}
+
+/// An address in a value.
+fn value_words(
+    alloc: Global,
+    names: &[String],
+    span: Span,
+    address: u64,
+) -> Result<String, AllocError>
+    ensures { IfOk result (λ text. string_bytes text
+        ≡ value_words (map string_bytes names.now) span address) }
+{
+    let name = name_at(names, map_at(span.at));
+    place_words(alloc, name, span.at, behind(span, address))
+}
+
+/// A frame, and how far before its end.
+fn below_words(alloc: Global, frame: u64, below: u64) -> Result<String, AllocError>
+    ensures { IfOk result (λ text. string_bytes text ≡ below_words frame below) }
+{
+    let below = number_text(alloc, below)?;
+    let words = format!(in alloc; " frame {frame} - {below}")?;
+    Ok(words)
+}
+
+/// An address in a frame, by how far it is behind its beginning.
+fn frame_words(alloc: Global, frame: u64, at: u64) -> Result<String, AllocError>
+    ensures { IfOk result (λ text. string_bytes text ≡ frame_words frame at) }
+{
+    if frame >= MAX_FRAMES as u64 {
+        return Ok(String::new(alloc));
+    }
+    if at > FRAME_BYTES as u64 {
+        return Ok(String::new(alloc));
+    }
+    below_words(alloc, frame, FRAME_BYTES as u64 - at)
+}
+
+/// An address in the context: how far behind its beginning.
+fn context_words(alloc: Global, at: u64) -> Result<String, AllocError>
+    ensures { IfOk result (λ text. string_bytes text ≡ context_words at) }
+{
+    if at <= MAX_CONTEXT as u64 {
+        format!(in alloc; " context + {at}")
+    } else {
+        Ok(String::new(alloc))
+    }
+}
+
+/// An address in a frame or in the context.
+fn own_words(alloc: Global, address: u64) -> Result<String, AllocError>
+    ensures { IfOk result (λ text. string_bytes text ≡ own_words address) }
+{
+    if address >= STACK_BASE {
+        let above = address - STACK_BASE;
+        frame_words(alloc, above / FRAME_STRIDE, above % FRAME_STRIDE)
+    } else if address >= CONTEXT_BASE {
+        context_words(alloc, address - CONTEXT_BASE)
+    } else {
+        Ok(String::new(alloc))
+    }
+}
+
+/// What a number is, where it is an address.
+fn meaning(
+    alloc: Global,
+    names: &[String],
+    held: &[Span],
+    number: u64,
+) -> Result<String, AllocError>
+    ensures { IfOk result (λ text. string_bytes text
+        ≡ meaning (map string_bytes names.now) held.now number) }
+{
+    match value_at(held, number) {
+        Some(span) => value_words(alloc, names, span, number),
+        None => own_words(alloc, number),
+    }
+}
+
+/// The line of a register.
+fn shown_line(
+    alloc: Global,
+    names: &[String],
+    held: &[Span],
+    register: usize,
+    number: u64,
+) -> Result<String, AllocError>
+    ensures { IfOk result (λ text. string_bytes text
+        ≡ shown_line (map string_bytes names.now) held.now register number) }
+{
+    let hex = hex_text(alloc, number)?;
+    let meaning = meaning(alloc, names, held, number)?;
+    let line = format!(in alloc; "r{register} {number} {hex}{meaning}\n")?;
+    Ok(line)
+}
+
+/// A line a register.
+fn shown_lines(
+    alloc: Global,
+    names: &[String],
+    held: &[Span],
+    registers: &[u64],
+) -> Result<Vec<String>, AllocError>
+    ensures { IfOk result (λ lines. map string_bytes lines.items
+        ≡ shown_lines (map string_bytes names.now) held.now 0 registers.now) }
+{
+    let mut lines = Vec::with_capacity(alloc, registers.len())?;
+    for (register, number) in registers.iter().enumerate() {
+        lines.push(shown_line(alloc, names, held, register, *number)?)?;
+    }
+    Ok(lines)
+}
+
+/// How many bytes some lines have.
+fn total(lines: &[String]) -> Option<usize>
+    ensures { IfSome result (λ n. n ≡ total (map string_bytes lines.now)) }
+{
+    let mut sum: usize = 0;
+    for line in lines {
+        sum = sum.checked_add(line.len())?;
+    }
+    Some(sum)
+}
+
+/// The registers of a CPU that stood so; none where it had no job in hand.
+fn registers_of(stand: &Stand) -> &[u64]
+    ensures { (jobs : List Task) (cpu : ℕ) → IsStand jobs cpu stand.now
+        → HasRegisters jobs cpu result.now }
+{
+    match stand {
+        Stand::InHand(hand) => &hand.registers,
+        Stand::Waiting(_) => &[],
+        Stand::Idle => &[],
+    }
+}
+
+/// The registers before a turn; none where no job was in hand.
+fn registers_before(recall: &Option<Recall>) -> &[u64]
+    ensures { (cpu : ℕ) (past : Option Past) → IsRecall cpu recall.now past
+        → IsBefore cpu past result.now }
+{
+    match recall {
+        Some(kept) => registers_of(&kept.stand),
+        None => &[],
+    }
+}
+
+/// Whether a register was this number.
+fn is_same(before: &[u64], register: usize, number: u64) -> bool
+    ensures { result ≡ is_same before.now register number }
+{
+    register < before.len() && before[register] == number
+}
+
+/// Puts the lines of the registers that were other numbers before.
+fn put_changed(out: &mut String, before: &[u64], now: &[u64], lines: &[String])
+    requires room { string_len out.old + total (map string_bytes lines.now)
+        ≤ string_capacity out.old }
+    requires lines { length lines.now ≡ length now.now }
+    ensures { string_bytes out.new ≡ string_bytes out.old
+        ++ changed_text before.now 0 now.now (map string_bytes lines.now) }
+{
+    for (register, line) in lines.iter().enumerate() {
+        if !is_same(before, register, now[register]) {
+            put(out, line.as_str());
+        }
+    }
+}
+
+/// A CPU's registers with their lines, and room for these.
+#[derive(Drop)]
+pub struct Shown {
+    registers: [u64; 11],
+    lines: Vec<String>,
+    room: String,
+}
+
+/// What there is to be shown of a CPU.
+pub fn shown_of(alloc: Global, names: &[String], state: &Cpu) -> Result<Shown, AllocError>
+    ensures registers { IfOk result (λ s. s.registers ≡ state.now.registers) }
+    ensures lines { IfOk result (λ s. map string_bytes s.lines.items
+        ≡ shown_lines (map string_bytes names.now) state.now.held 0 state.now.registers) }
+    ensures empty { IfOk result (λ s. string_bytes s.room ≡ []) }
+    ensures room { IfOk result HasRoom }
+{
+    let lines = shown_lines(alloc, names, state.held.spans(), &state.registers)?;
+    let Some(bytes) = total(&lines) else {
+        return Err(AllocError);
+    };
+    let room = String::with_capacity(alloc, bytes)?;
+    Ok(Shown {
+        registers: state.registers,
+        lines,
+        room,
+    })
+}
+
+/// The lines of the registers that a turn changed.
+pub fn changed(shown: Shown, recall: &Option<Recall>) -> String
+    requires { HasRoom shown }
+    ensures { (cpu : ℕ) (past : Option Past) → IsRecall cpu recall.now past → (before : List ℕ)
+        × IsBefore cpu past before × (string_bytes result ≡ string_bytes shown.room
+        ++ changed_text before 0 shown.registers (map string_bytes shown.lines.items)) }
+{
+    let mut out = shown.room;
+    put_changed(
+        &mut out,
+        registers_before(recall),
+        &shown.registers,
+        &shown.lines,
+    );
+    out
+}
