@@ -1,0 +1,8 @@
+pub mod Lists
+pub mod Clashing
+pub mod Accesses
+pub mod Touching
+pub mod Texts
+pub mod Nexts
+pub mod GatherLaws
+pub mod Searching

@@ -1,0 +1,19 @@
+use Rattle.std.proofs.Common.{refl, sym, subst}
+use Rattle.std.specs.Prelude.{option_map}
+use Rattle.bpf_machine.specs.Machine.{MachineState}
+use Rattle.bpf_machine.specs.Schedule.{unrolled}
+use Rattle.bpf_races.specs.Races.{RaceFound}
+use Rattle.bpf_races.specs.Searched.{IsLedTo}
+use Rattle.bpf_races.proofs.GatherLaws.{races_by}
+use Rattle.bpf_races.proofs.gathering.race_by.Goals as goal
+
+pub returns-clause-races : goal.returns-clause-races
+returns-clause-races g c =
+    let kept = g.S.Searched.kept in
+    let by = c.in_ok-by.by.items in
+    let race : RaceFound =
+    record { cpu = c.args.cpu; pc = c.args.pc; other = c.args.other; other_pc = c.args.other_pc; at = c.in-Some.at; key = option_map (λ key. key.items) c.in_ok-key.key; by = by }
+    in
+    races_by (kept c.args.search.now) c.current-machine.result.now c.args.sync.now race c.in_ok-first.first c.in_ok-second.second c.requires.order
+    (subst (λ (x : MachineState). IsLedTo (kept c.args.search.now) (unrolled by) x) (sym c.current-machine.ensures) c.in_ok-by.ensures.leads)
+    c.in_ok-first.ensures c.in_ok-second.ensures (c.if-not-stands_at.ensures refl) (c.if-not-stands_at-2.ensures refl) c.in-Some.ensures.found c.in-Some.ensures.counts c.in_ok-key.ensures

@@ -1,0 +1,6 @@
+pub mod Touch
+pub mod Next
+pub mod Searched
+pub mod Races
+pub mod Lines
+pub mod Private

@@ -1,0 +1,50 @@
+-- How races are printed. Our own choice.
+use Rattle.std.specs.Prelude.{ℕ, zero, suc, ◌++◌, Bool, List, [], Option, Some, None, codes, length, slice_index_or, if◌then◌else◌}
+use Rattle.std.specs.Fmt.{decimal}
+use Rattle.hex.specs.Hex.{encode_lower}
+use Rattle.bpf_schedule.specs.Spelling.{runs_text}
+use Rattle.bpf_races.specs.Races.{RaceFound, map_at}
+
+-- two CPUs, and where they stand
+abbrev pub places_text : RaceFound → List ℕ
+places_text race =
+    codes "race cpu " ++ (decimal race.cpu ++ (codes " pc " ++ (decimal race.pc
+    ++ (codes " cpu " ++ (decimal race.other ++ (codes " pc " ++ decimal race.other_pc))))))
+
+-- a key in lower case hex
+abbrev pub key_text : Option (List ℕ) → List ℕ
+key_text None = codes "deleted"
+key_text (Some key) = encode_lower key
+
+-- the map's name and the key
+abbrev pub value_text : List (List ℕ) → RaceFound → List ℕ
+value_text names race =
+    codes " map " ++ (slice_index_or names (map_at race.at) []
+    ++ (codes " " ++ key_text race.key))
+
+abbrev pub race_text : List (List ℕ) → RaceFound → List ℕ
+race_text names race =
+    ((places_text race ++ value_text names race) ++ codes " by")
+    ++ (runs_text (length race.by) race.by ++ codes "\n")
+
+abbrev pub no_race : RaceFound
+no_race = record {
+  cpu = 0;
+  pc = 0;
+  other = 0;
+  other_pc = 0;
+  at = 0;
+  key = None;
+  by = [];
+}
+
+-- the first n of them
+abbrev pub race_lines : List (List ℕ) → ℕ → List RaceFound → List ℕ
+race_lines names zero races = []
+race_lines names (suc n) races =
+    race_lines names n races ++ race_text names (slice_index_or races n no_race)
+
+-- and a line where they aren't all
+abbrev pub races_text : List (List ℕ) → List RaceFound → Bool → List ℕ
+races_text names races all =
+    race_lines names (length races) races ++ (if all then [] else codes "not all races\n")

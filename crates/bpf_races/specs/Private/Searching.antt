@@ -1,0 +1,40 @@
+-- Races while they are gathered.
+use Rattle.std.specs.Prelude.{◌≡◌, ℕ, ◌<◌, ◌≤◌, ◌⊎◌, List, Some, length, slice_get}
+use Rattle.bpf_machine.specs.Hands.{IsFree}
+use Rattle.bpf_machine.specs.Machine.{MachineState, Shows}
+use Rattle.bpf_machine.specs.Race.{IsRace}
+use Rattle.bpf_machine.specs.Schedule.{World}
+use Rattle.bpf_explore.specs.Album.{IsShownAt}
+use Rattle.bpf_races.specs.Touch.{IsAmong}
+use Rattle.bpf_races.specs.Next.{NextStep, IsNextIn}
+use Rattle.bpf_races.specs.Races.{RaceFound, RacesBy, AreOnce, IsListed, IsLeftOut}
+
+-- the next steps of the CPUs, by their numbers; those beyond have no job in hand
+pub record AreNexts (m : MachineState) (nexts : List NextStep) : Type 0 where
+  pub each : (c : ℕ) (next : NextStep) → slice_get nexts c ≡ Some next → IsNextIn m c next
+  pub none : (c : ℕ) → length nexts ≤ c → IsFree m.jobs c
+
+-- each is a race by its own schedule, and none is listed twice
+pub record Gathered (kept : List MachineState) (sync : List ℕ) (races : List RaceFound) : Type 0
+  where
+    pub each : (race : RaceFound) → IsAmong races race → (w : World) → IsShownAt kept 0 w
+        → RacesBy w sync race
+    pub once : AreOnce races
+
+-- none is lost
+abbrev pub Keeps : List RaceFound → List RaceFound → Type 0
+Keeps old new = (race : RaceFound) → IsAmong old race → IsAmong new race
+
+-- each race of these CPUs in what the machine shows is listed
+abbrev pub AreListedOf : List RaceFound → List ℕ → MachineState → ℕ → ℕ → Type 0
+AreListedOf races sync m c d = (w : World) → Shows m w → (pc qc b : ℕ) → IsRace w c pc d qc b
+    → IsListed races c pc d qc ⊎ IsLeftOut sync b
+
+-- so is each race in what it shows
+abbrev pub AreListedIn : List RaceFound → List ℕ → MachineState → Type 0
+AreListedIn races sync m = (c d : ℕ) → c < d → AreListedOf races sync m c d
+
+-- and in what the i-th kept machine shows
+abbrev pub AreListedAt : List MachineState → List RaceFound → List ℕ → ℕ → Type 0
+AreListedAt kept races sync i = (m : MachineState) → slice_get kept i ≡ Some m
+    → AreListedIn races sync m

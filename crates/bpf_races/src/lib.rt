@@ -1,0 +1,20 @@
+//! The data races of jobs, whatever the order of the CPUs' turns.
+#![tactic(auto)]
+
+mod access;
+mod clash;
+mod found;
+mod gathering;
+mod listing;
+mod next;
+mod search;
+mod searched;
+mod shape;
+
+pub use access::Access;
+pub use found::Race;
+pub use gathering::gather_races;
+pub use listing::list_races;
+pub use next::{Next, Watcher};
+pub use search::{Races, find_races, find_races_patiently};
+pub use searched::Searched;

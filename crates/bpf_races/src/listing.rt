@@ -1,0 +1,99 @@
+//! Races as they are printed.
+
+ghost use Rattle.std.specs.Prelude.{◌≡◌, ◌++◌, [], IfOk, OnOk, codes, if◌then◌else◌, length, map, option_map, slice_index_or, string_bytes};
+ghost use Rattle.bpf_races.specs.Lines.{key_text, places_text, race_lines, race_text, races_text, value_text};
+
+use crate::clash::map_at;
+use crate::found::Race;
+use crate::search::Races;
+use bpf_schedule::push_runs;
+use std::alloc::{AllocError, Global};
+
+/// The name of a map by its number; none for no map's.
+fn name_at(names: &[String], number: usize) -> &str
+    ensures { result.now ≡ slice_index_or (map string_bytes names.now) number [] }
+{
+    match names.get(number) {
+        Some(name) => name.as_str(),
+        None => "",
+    }
+}
+
+/// A key in hex, if there is one.
+fn key_text(alloc: Global, key: &Option<Vec<u8>>) -> Result<String, AllocError>
+    ensures { IfOk result (λ text. string_bytes text
+        ≡ key_text (option_map (λ bytes. bytes.items) key.now)) }
+{
+    match key {
+        Some(key) => hex::encode(alloc, key),
+        None => format!(in alloc; "deleted"),
+    }
+}
+
+/// Two CPUs, and where they stand.
+fn places_text(alloc: Global, race: &Race) -> Result<String, AllocError>
+    ensures { IfOk result (λ text. string_bytes text ≡ places_text race.now) }
+{
+    let cpu = race.cpu;
+    let pc = race.pc;
+    let other = race.other;
+    let other_pc = race.other_pc;
+    format!(in alloc; "race cpu {cpu} pc {pc} cpu {other} pc {other_pc}")
+}
+
+/// The map's name and the key.
+fn value_text(alloc: Global, names: &[String], race: &Race) -> Result<String, AllocError>
+    ensures { IfOk result (λ text. string_bytes text
+        ≡ value_text (map string_bytes names.now) race.now) }
+{
+    let name = name_at(names, map_at(race.at));
+    let key = key_text(alloc, &race.key)?;
+    format!(in alloc; " map {name} {key}")
+}
+
+/// Its schedule.
+fn way_of(race: &Race) -> &[(u8, u64)]
+    ensures { result.now ≡ race.now.by }
+{
+    &race.by
+}
+
+/// Puts the line of a race behind the text.
+fn push_race(
+    alloc: Global,
+    text: &mut String,
+    names: &[String],
+    race: &Race,
+) -> Result<(), AllocError>
+    ensures { OnOk result (string_bytes text.new
+        ≡ string_bytes text.old ++ race_text (map string_bytes names.now) race.now) }
+{
+    let places = places_text(alloc, race)?;
+    let value = value_text(alloc, names, race)?;
+    text.push_str(places.as_str())?;
+    text.push_str(value.as_str())?;
+    text.push_str(" by")?;
+    push_runs(alloc, text, way_of(race))?;
+    text.push_str("\n")?;
+    Ok(())
+}
+
+/// What is said of races that aren't all.
+fn whether_all(all: bool) -> &'static str
+    ensures { result.now ≡ (if all then [] else codes "not all races\n") }
+{
+    if all { "" } else { "not all races\n" }
+}
+
+/// A line a race, and one where they aren't all.
+pub fn list_races(alloc: Global, names: &[String], races: &Races) -> Result<String, AllocError>
+    ensures { IfOk result (λ text. string_bytes text
+        ≡ races_text (map string_bytes names.now) races.now.list.items races.now.all) }
+{
+    let mut text = String::new(alloc);
+    for race in &races.list {
+        push_race(alloc, &mut text, names, race)?;
+    }
+    text.push_str(whether_all(races.all))?;
+    Ok(text)
+}
