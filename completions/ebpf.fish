@@ -33,6 +33,7 @@ complete -c ebpf -n '__fish_seen_subcommand_from run' -l events -f -d 'Prints al
 complete -c ebpf -n '__fish_seen_subcommand_from run' -l check -f -d 'Prints whether the outcome is as the file'\''s comments expect, as '\''ebpf check'\'' does'
 complete -c ebpf -n '__fish_seen_subcommand_from run' -l by -x -d 'Makes the turns of a schedule before the rounds, as '\''0*9 1*10 0*2'\'''
 complete -c ebpf -n '__fish_seen_subcommand_from run' -l workers -x -d 'Runs the CPUs at once, by 1 to 16 threads, over a store that they share'
+complete -c ebpf -n '__fish_seen_subcommand_from run' -l stats -f -d 'Tells on standard error what workers came to at the maps, a line a map'
 complete -c ebpf -n '__fish_seen_subcommand_from run' -s h -l help -f -d 'Print help'
 complete -c ebpf -n '__fish_seen_subcommand_from run' -F
 complete -c ebpf -n '__fish_seen_subcommand_from explore' -l explain -f -d 'Explains a refusal or a fault on standard error'
@@ -47,6 +48,8 @@ complete -c ebpf -n '__fish_seen_subcommand_from check' -l limit -x -d 'Ends the
 complete -c ebpf -n '__fish_seen_subcommand_from check' -s h -l help -f -d 'Print help'
 complete -c ebpf -n '__fish_seen_subcommand_from check' -F
 complete -c ebpf -n '__fish_seen_subcommand_from debug' -l explain -f -d 'Explains a refusal or a fault on standard error'
+complete -c ebpf -n '__fish_seen_subcommand_from debug' -l echo -f -d 'Prints each line of commands before its answer, behind '\''> '\'''
+complete -c ebpf -n '__fish_seen_subcommand_from debug' -l strict -f -d 'Exits with status 1 where a command is refused'
 complete -c ebpf -n '__fish_seen_subcommand_from debug' -s h -l help -f -d 'Print help'
 complete -c ebpf -n '__fish_seen_subcommand_from debug' -F
 complete -c ebpf -n '__fish_seen_subcommand_from explain' -s h -l help -f -d 'Print help'

@@ -1,5 +1,5 @@
 -- The command line of `ebpf`, in clap's terms, and the numbers that its words name. Our own choice.
-use Rattle.std.specs.Prelude.{◌≡◌, ◌⊎◌, ℕ, List, Option, Some, None, IfSome, IsSomeAnd, codes, [], ◌∷◌, Bool, ◌&&◌, ◌||◌, if◌then◌else◌, true, false}
+use Rattle.std.specs.Prelude.{◌≡◌, ◌⊎◌, ℕ, List, Option, Some, None, IfSome, IsSomeAnd, codes, [], ◌∷◌, Bool, ◌&&◌, ◌||◌, if◌then◌else◌, not, true, false}
 use Rattle.std.specs.Str.Parse.{digits_value, without_leading_plus}
 use Rattle.clap.specs.Simple.{new_shape}
 use Rattle.clap.specs.Takes.{is_given}
@@ -106,8 +106,12 @@ run_shows = with_rule (with_rule run_lists events) judged
 abbrev pub schedule : Rule
 schedule = record (new_rule (codes "by")) { long = Some (codes "by"); value_names = 1 }
 
+-- `--stats`
+abbrev pub stats : Rule
+stats = record (new_rule (codes "stats")) { long = Some (codes "stats"); action = Some SetTrue }
+
 abbrev pub run_options : App
-run_options = with_rule (with_rule run_shows schedule) workers
+run_options = with_rule (with_rule (with_rule run_shows schedule) workers) stats
 
 abbrev pub run : App
 run = with_rule run_options file
@@ -144,8 +148,19 @@ code_rule = record (new_rule (codes "code")) { value_names = 1; required = true 
 abbrev pub explain : App
 explain = with_rule (new_app (codes "explain")) code_rule
 
+-- `--echo`
+abbrev pub echo : Rule
+echo = record (new_rule (codes "echo")) { long = Some (codes "echo"); action = Some SetTrue }
+
+-- `--strict`
+abbrev pub strict : Rule
+strict = record (new_rule (codes "strict")) { long = Some (codes "strict"); action = Some SetTrue }
+
+abbrev pub debug_options : App
+debug_options = with_rule (with_rule (with_rule (new_app (codes "debug")) explained) echo) strict
+
 abbrev pub debug : App
-debug = with_rule (with_rule (new_app (codes "debug")) explained) file
+debug = with_rule debug_options file
 
 -- the program, before its commands are added
 abbrev pub bare : App
@@ -262,6 +277,10 @@ wants_turns rows = is_given (codes "by") rows
 abbrev pub do_clash : List Row → Bool
 do_clash rows = (is_given (codes "workers") rows && wants_turns rows)
     || (is_given (codes "events") rows && is_given (codes "check") rows)
+
+-- what is counted of a run by workers is asked for without workers
+abbrev pub counts_alone : List Row → Bool
+counts_alone rows = is_given (codes "stats") rows && not (is_given (codes "workers") rows)
 
 -- what is asked of a run without `--run`, or the listing beside it
 abbrev pub do_part : List Row → Bool

@@ -9,7 +9,7 @@ use Rattle.hex.specs.Hex.{decode_of}
 use Rattle.clap.specs.Kinds.{IsAmong}
 use Rattle.clap.specs.Takes.{is_given}
 use Rattle.clap.specs.Words.{Row, Text, fault_of, first_of, kind_of, subcommand_of}
-use Rattle.bpf_command.specs.CommandLine.{NamesBudget, NamesLimit, NamesShown, NamesWorkers, IsRunnerName, do_clash, do_part, ebpf}
+use Rattle.bpf_command.specs.CommandLine.{NamesBudget, NamesLimit, NamesShown, NamesWorkers, IsRunnerName, counts_alone, do_clash, do_part, ebpf}
 use Rattle.bpf_command.specs.declared.command.RunOptions.{RunOptions}
 use Rattle.bpf_command.specs.declared.command.SearchOptions.{SearchOptions}
 use Rattle.bpf_command.specs.declared.command.Command.{Command}
@@ -67,24 +67,29 @@ Names (Some found) (command.Run options) = (found.0 ≡ codes "run")
     × (options.keys ≡ is_given (codes "keys") found.1)
     × (options.maps ≡ is_given (codes "maps") found.1)
     × IsSchedule (first_of (codes "by") found.1) options.by.items
-    × NamesWorkers found.1 options.workers × (do_clash found.1 ≡ false)
+    × NamesWorkers found.1 options.workers
+    × (options.stats ≡ is_given (codes "stats") found.1)
+    × (do_clash found.1 ≡ false) × (counts_alone found.1 ≡ false)
     × (is_given (codes "events") found.1 ≡ false) × (is_given (codes "check") found.1 ≡ false)
 Names (Some found) (command.History options) = (found.0 ≡ codes "run")
     × (options.keys ≡ is_given (codes "keys") found.1)
     × (options.maps ≡ is_given (codes "maps") found.1)
     × IsSchedule (first_of (codes "by") found.1) options.by.items
-    × (do_clash found.1 ≡ false) × (is_given (codes "events") found.1 ≡ true)
+    × (do_clash found.1 ≡ false) × (counts_alone found.1 ≡ false)
+    × (is_given (codes "events") found.1 ≡ true)
 Names (Some found) (command.Judge options) = (found.0 ≡ codes "run")
     × (options.keys ≡ is_given (codes "keys") found.1)
     × IsSchedule (first_of (codes "by") found.1) options.by.items
-    × (do_clash found.1 ≡ false) × (is_given (codes "check") found.1 ≡ true)
+    × (do_clash found.1 ≡ false) × (counts_alone found.1 ≡ false)
+    × (is_given (codes "check") found.1 ≡ true)
 Names (Some found) (command.Explore options) = (found.0 ≡ codes "explore")
     × NamesSearch found.1 options × NamesShown found.1 None
 Names (Some found) (command.Show options) = (found.0 ≡ codes "explore")
     × NamesSearch found.1 options.search × NamesShown found.1 (Some options.outcome)
 Names (Some found) (command.Check options) = (found.0 ≡ codes "check")
     × NamesSearch found.1 options
-Names (Some found) command.Debug = found.0 ≡ codes "debug"
+Names (Some found) (command.Debug echo strict) = (found.0 ≡ codes "debug")
+    × (echo ≡ is_given (codes "echo") found.1) × (strict ≡ is_given (codes "strict") found.1)
 
 -- the file that is read in place of standard input, which `-` names too
 abbrev pub file_named : Text → Option Text
@@ -104,13 +109,16 @@ Asks (Some found) (request.Page code) = (found.0 ≡ codes "explain")
     × (option_and_then code_of (first_of (codes "code") found.1) ≡ Some code)
 
 -- why what `clap` finds can't be done: a context or a schedule that is none, options of which one
--- rules out the other, or a code that isn't printed
+-- rules out the other or wants another, or a code that isn't printed
 abbrev pub RefusesFound : Text × List Row → CommandError → Type 0
 RefusesFound found error.NotHex = IsRunnerName found.0
     × RefusesContext (first_of (codes "ctx") found.1) error.NotHex
 RefusesFound found error.NoSchedule = (found.0 ≡ codes "run") × (do_clash found.1 ≡ false)
+    × (counts_alone found.1 ≡ false)
     × RefusesSchedule (first_of (codes "by") found.1) error.NoSchedule
 RefusesFound found error.TwoWays = (found.0 ≡ codes "run") × (do_clash found.1 ≡ true)
+RefusesFound found error.NoWorkers = (found.0 ≡ codes "run") × (do_clash found.1 ≡ false)
+    × (counts_alone found.1 ≡ true)
 RefusesFound found error.NoRun = (found.0 ≡ codes "asm") × (do_part found.1 ≡ true)
 RefusesFound found error.NoCode = (found.0 ≡ codes "explain")
     × (option_and_then code_of (first_of (codes "code") found.1) ≡ None)

@@ -36,6 +36,9 @@ pub struct FileOptions {
     pub by: Vec<(u8, u64)>,
     /// The number of worker threads; without one the CPUs take turns on one thread.
     pub workers: Option<u8>,
+    /// To tell what workers came to at the maps, a line a map. Without workers there is nothing to
+    /// tell.
+    pub stats: bool,
     ghost some: { IfSome workers (λ n. 0 < n) } by { some-prop workers },
     ghost few: { IfSome workers (λ n. n ≤ MAX_WORKERS) } by { few-prop workers MAX_WORKERS },
 }
@@ -105,7 +108,12 @@ pub enum Command {
     /// Tell by every schedule whether a run file's outcomes are as its comments expect.
     Check(SearchOptions),
     /// Run the jobs of a run file by commands, and show what they ask for.
-    Debug,
+    Debug {
+        /// To print each line before its answer.
+        echo: bool,
+        /// To take a command that is refused for a refusal of all.
+        strict: bool,
+    },
 }
 
 /// What a command line asks for.

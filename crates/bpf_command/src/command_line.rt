@@ -5,7 +5,7 @@ ghost use Rattle.bpf_codes.specs.Code.{code_of};
 ghost use Rattle.clap.specs.Kinds.{FailsBy};
 ghost use Rattle.clap.specs.Takes.{is_given};
 ghost use Rattle.clap.specs.Words.{fault_of, first_of, first_value, found_of, rows_of, subcommand_name_of, subcommand_of, subcommand_rows_of};
-ghost use Rattle.bpf_command.specs.CommandLine.{ebpf, do_clash, do_part, HasBudget, HasLimit, HasShown, HasWorkers, IsCommandName, IsRunnerName, IsSearchName, IsWorkName, NamesBudget, NamesLimit, NamesShown, NamesWorkers};
+ghost use Rattle.bpf_command.specs.CommandLine.{ebpf, counts_alone, do_clash, do_part, HasBudget, HasLimit, HasShown, HasWorkers, IsCommandName, IsRunnerName, IsSearchName, IsWorkName, NamesBudget, NamesLimit, NamesShown, NamesWorkers};
 ghost use Rattle.bpf_command.specs.Names.{Asks, AsksBy, file_in, IsContext, IsSchedule, Names, NamesRun, NamesSearch, Refuses, RefusesContext, RefusesFlags, RefusesFound, RefusesSchedule, as_flags, flag_of};
 
 use crate::command::{
@@ -35,6 +35,8 @@ pub enum CommandError {
     /// Options stand there of which one rules out the other: a schedule, events or a check beside
     /// a number of workers, whose CPUs take no turns; or events beside a check.
     TwoWays,
+    /// What is counted of a run by workers is asked for without workers.
+    NoWorkers,
     /// What is asked of a run stands without `--run`, or the listing beside it.
     NoRun,
     /// The page is asked for of a code that the program doesn't print.
@@ -234,6 +236,13 @@ fn do_clash(options: &ArgMatches) -> bool
     is_given(options, "workers") && turns || events && check
 }
 
+/// Whether what is counted of a run by workers is asked for without workers.
+fn counts_alone(options: &ArgMatches) -> bool
+    ensures { result ≡ counts_alone (rows_of (found_of options.now)) }
+{
+    is_given(options, "stats") && !is_given(options, "workers")
+}
+
 #[tactic(auto, using(crate::proofs::OptionRows::schedule_in_rows, crate::proofs::OptionRows::no_schedule_in_rows))]
 fn run_of(alloc: Global, options: &ArgMatches) -> Result<Command, CommandError>
     requires counted { HasWorkers (rows_of (found_of options.now)) }
@@ -242,6 +251,9 @@ fn run_of(alloc: Global, options: &ArgMatches) -> Result<Command, CommandError>
 {
     if do_clash(options) {
         return Err(CommandError::TwoWays);
+    }
+    if counts_alone(options) {
+        return Err(CommandError::NoWorkers);
     }
     let by = schedule_of(alloc, options)?;
     let keys = is_given(options, "keys");
@@ -257,6 +269,7 @@ fn run_of(alloc: Global, options: &ArgMatches) -> Result<Command, CommandError>
         maps,
         by,
         workers: workers_of(options),
+        stats: is_given(options, "stats"),
     }))
 }
 
@@ -301,7 +314,10 @@ fn named(alloc: Global, name: &str, options: &ArgMatches) -> Result<Command, Com
         "run" => run_of(alloc, options),
         "explore" => Ok(explore_of(options)),
         "check" => Ok(Command::Check(search_of(options))),
-        _ => Ok(Command::Debug),
+        _ => Ok(Command::Debug {
+            echo: is_given(options, "echo"),
+            strict: is_given(options, "strict"),
+        }),
     }
 }
 

@@ -3,7 +3,7 @@
 ghost use Rattle.std.specs.Prelude.{◌≡◌, false, IfOk};
 ghost use Rattle.clap.specs.Words.{app_of, rule_of, shape_of};
 ghost use Rattle.clap.specs.declared.builder.command.Command.TheViews.{out-Command as fields_of};
-ghost use Rattle.bpf_command.specs.CommandLine.{asm, asm_shows, bare, budget, check, code_rule, context, debug, disasm, ebpf, events, explain, explained, explore, file, for_files, hex, hex_options, judged, keys, limit, listing, maps, one_program, patient, pc, run, run_lists, run_options, run_shows, runs, schedule, searching, show, workers, working};
+ghost use Rattle.bpf_command.specs.CommandLine.{asm, asm_shows, bare, budget, check, code_rule, context, debug, debug_options, disasm, ebpf, echo, events, explain, explained, explore, file, for_files, hex, hex_options, judged, keys, limit, listing, maps, one_program, patient, pc, run, run_lists, run_options, run_shows, runs, schedule, searching, show, stats, strict, workers, working};
 
 use crate::command::{MAX_LIMIT, MAX_WORKERS};
 use bpf_base::MAX_BUDGET;
@@ -16,7 +16,13 @@ R1 holds the address of the context. Blanks and line ends between digits are pas
 
 For example
   $ echo 'b700000005000000 9500000000000000' | ebpf hex
-  r0=5";
+  r0=5
+
+Exit status:
+  0  r0 is printed
+  1  the digits or the program are refused, or the output failed
+  2  the command line is at fault
+  3  the program ended in a fault or out of budget";
 
 const ASM_NOTES: &str = "\
 For example
@@ -31,7 +37,13 @@ For example
 
 What --listing and 'ebpf disasm --pc' print is assembly text again. A pc counts words from 0. With
 --run the answer is that of 'ebpf hex' to the words; --budget and --ctx go beside it alone, and
---listing doesn't.";
+--listing doesn't.
+
+Exit status:
+  0  the words or the text are printed, or with --run r0 is
+  1  the text is refused, or the output failed
+  2  the command line is at fault
+  3  with --run: the program ended in a fault or out of budget";
 
 const DISASM_NOTES: &str = "\
 For example
@@ -42,7 +54,12 @@ For example
   r0 = 5 ; 0: b700000005000000
   exit ; 1: 9500000000000000
 
-A pc counts words of 8 bytes from 0.";
+A pc counts words of 8 bytes from 0.
+
+Exit status:
+  0  the text is printed
+  1  the digits or the words are refused, or the output failed
+  2  the command line is at fault";
 
 const RUN_NOTES: &str = "\
 Each CPU that has work makes one turn, in rising order, until none has work. With --by the turns of
@@ -55,12 +72,22 @@ With --events all that CPUs do at the maps comes first, a line an event: cpu C j
 done, and behind = the answer. With --check the answer is that of 'ebpf check', for this order of
 turns alone. Neither goes beside --workers.
 
+With --workers and --stats a line a map is told on standard error: its segments, its keys, those on
+overflow lists and its free elements, as it is left; and how many segments were split, readings were
+disturbed and lookups took a lock. Standard output stays the same.
+
 For example
   $ printf 'ebpf-run 1\\nprog a\\nr0 = 5\\nexit\\nend\\njob 0 a\\n' | ebpf run
   job 0 cpu 0 r0=5
   $ ebpf run --by '1*10' examples/first-insert.run
   job 0 cpu 0 r0=18446744073709551599
-  job 1 cpu 1 r0=0";
+  job 1 cpu 1 r0=0
+
+Exit status:
+  0  the jobs are printed, and all ended with an r0; with --check: all tests are ok
+  1  the run file is refused, or the output failed
+  2  the command line is at fault
+  3  a job ended in a fault or out of budget; with --check: a test isn't ok";
 
 const EXPLORE_NOTES: &str = "\
 Prints each outcome once, in the order of its bytes: what 'run --maps' prints, behind a line 'by'
@@ -81,7 +108,14 @@ For example
   job 0 cpu 0 r0=18446744073709551599
   job 1 cpu 1 r0=0
   map winner 00000000=0100000000000000
-  all: 2 outcomes, 20 states";
+  all: 2 outcomes, 20 states
+
+Exit status:
+  0  all outcomes are printed, and in each all jobs ended with an r0
+  1  the run file is refused, there is no outcome of that number, or the output failed
+  2  the command line is at fault
+  3  all outcomes are printed, and in one a job ended in a fault or out of budget
+  4  the search met its limit: not all outcomes are printed";
 
 const CHECK_NOTES: &str = "\
 A comment of the run file says what is expected: '; always LINE', '; sometimes LINE' or '; never
@@ -94,7 +128,14 @@ budget is used up.
 For example
   $ printf '; never job 0 cpu 0 r0=1\\nebpf-run 1\\nprog a\\nr0 = 5\\nexit\\nend\\njob 0 a\\n' | ebpf check
   1..1
-  ok 1 - never job 0 cpu 0 r0=1";
+  ok 1 - never job 0 cpu 0 r0=1
+
+Exit status:
+  0  all tests are ok
+  1  the run file is refused, or the output failed
+  2  the command line is at fault
+  3  a test isn't ok
+  4  the search met its limit: not all tests could be told, and those that could are ok";
 
 const EXPLAIN_NOTES: &str = "\
 Nothing is read. The code is what stands behind 'refused' or 'fault', as in
@@ -104,7 +145,12 @@ Nothing is read. The code is what stands behind 'refused' or 'fault', as in
       $ printf '' | ebpf hex
       refused E1
 
-  A program has 1 to 65,536 words. In a run file: lines of assembly before `end`.";
+  A program has 1 to 65,536 words. In a run file: lines of assembly before `end`.
+
+Exit status:
+  0  the page is printed
+  1  the output failed, or there was no memory for the page
+  2  the command line is at fault, or there is no such code";
 
 const DEBUG_NOTES: &str = "\
 The commands, one a line, with a CPU C, a pc P, an address A and a number N of bytes (1 to 256):
@@ -133,7 +179,14 @@ nothing, and the next one is read. The input is a run file, a line '---' and the
   $ printf 'ebpf-run 1\\nprog a\\nr0 = 5\\nexit\\nend\\njob 0 a\\n---\\nstep 0\\ngo\\n' | ebpf debug
   cpu 0 job 0 pc 1 depth 1
   job 0 cpu 0 r0=5
-  done";
+  done
+With --echo each line that isn't empty stands before its answer, behind '> ': > step 0
+
+Exit status:
+  0  the answers are printed, and no job has ended in a fault or out of budget
+  1  the run file is refused, with --strict also where a command is, or the output failed
+  2  the command line is at fault
+  3  a job has ended in a fault or out of budget";
 
 const EBPF_NOTES: &str = "\
 Input is a FILE or standard input, read whole first, and all answers go to standard output, as in
@@ -314,6 +367,16 @@ fn workers_option<'a>(alloc: Global) -> Arg<'a>
         .help("Runs the CPUs at once, by 1 to 16 threads, over a store that they share")
 }
 
+fn stats_option<'a>(alloc: Global) -> Arg<'a>
+    ensures rule { rule_of result ≡ stats }
+    ensures own { result.global ≡ false }
+{
+    Arg::new(alloc, "stats")
+        .long("stats")
+        .action(ArgAction::SetTrue)
+        .help("Tells on standard error what workers came to at the maps, a line a map")
+}
+
 fn events_option<'a>(alloc: Global) -> Arg<'a>
     ensures rule { rule_of result ≡ events }
     ensures own { result.global ≡ false }
@@ -364,7 +427,8 @@ fn run_options<'a>(alloc: Global) -> Result<Command<'a>, AllocError>
 {
     run_shows(alloc)?
         .arg(schedule_option(alloc))?
-        .arg(workers_option(alloc))
+        .arg(workers_option(alloc))?
+        .arg(stats_option(alloc))
 }
 
 fn run_command<'a>(alloc: Global) -> Result<Command<'a>, AllocError>
@@ -439,15 +503,44 @@ fn check_command<'a>(alloc: Global) -> Result<Command<'a>, AllocError>
         .arg(file_argument(alloc))
 }
 
-fn debug_command<'a>(alloc: Global) -> Result<Command<'a>, AllocError>
-    ensures shape { IfOk result (λ c. shape_of c ≡ debug.top) }
+fn echo_option<'a>(alloc: Global) -> Arg<'a>
+    ensures rule { rule_of result ≡ echo }
+    ensures own { result.global ≡ false }
+{
+    Arg::new(alloc, "echo")
+        .long("echo")
+        .action(ArgAction::SetTrue)
+        .help("Prints each line of commands before its answer, behind '> '")
+}
+
+fn strict_option<'a>(alloc: Global) -> Arg<'a>
+    ensures rule { rule_of result ≡ strict }
+    ensures own { result.global ≡ false }
+{
+    Arg::new(alloc, "strict")
+        .long("strict")
+        .action(ArgAction::SetTrue)
+        .help("Exits with status 1 where a command is refused")
+}
+
+/// The command `debug` before its file.
+fn debug_options<'a>(alloc: Global) -> Result<Command<'a>, AllocError>
+    ensures shape { IfOk result (λ c. shape_of c ≡ debug_options.top) }
     ensures own { IfOk result (λ c. (fields_of c).has_globals ≡ false) }
 {
     Command::new(alloc, "debug")
         .about("Runs the jobs of a run file by commands, and shows what they ask for")
         .after_help(DEBUG_NOTES)
         .arg(explain_option(alloc))?
-        .arg(file_argument(alloc))
+        .arg(echo_option(alloc))?
+        .arg(strict_option(alloc))
+}
+
+fn debug_command<'a>(alloc: Global) -> Result<Command<'a>, AllocError>
+    ensures shape { IfOk result (λ c. shape_of c ≡ debug.top) }
+    ensures own { IfOk result (λ c. (fields_of c).has_globals ≡ false) }
+{
+    debug_options(alloc)?.arg(file_argument(alloc))
 }
 
 fn code_argument<'a>(alloc: Global) -> Arg<'a>

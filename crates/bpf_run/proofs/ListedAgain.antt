@@ -33,7 +33,8 @@ moved a b alike (reply.Refused (refusal.Insn error)) h = h
 moved a b alike (reply.Refused r) h = absurd h
 moved a b alike (reply.Ended outcome) h = absurd h
 moved a b alike (reply.Jobs printed stopped) h = absurd h
-moved a b alike (reply.Script answers stopped) h = absurd h
+moved a b alike (reply.Counted printed stopped stats) h = absurd h
+moved a b alike (reply.Script answers lines stopped refused) h = absurd h
 moved a b alike (reply.Outcomes printed stopped all) h = absurd h
 moved a b alike (reply.NoOutcome printed all) h = absurd h
 

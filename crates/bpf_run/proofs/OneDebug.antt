@@ -1,5 +1,7 @@
 -- The replies of `debug` to one input print one text.
-use Rattle.std.proofs.Common.{◌≡◌, Bool, true, false, ℕ, List, [], ◌∷◌, ◌++◌, length, inl, inr, refl, sym, ap, subst, ◌∙◌, Ok, Err, map}
+use Rattle.std.proofs.Common.{◌≡◌, Bool, true, false, ℕ, List, [], ◌∷◌, ◌++◌, length, Option, option_map, Global, inl, inr, refl, sym, ap, subst, ◌∙◌, Ok, Err, map}
+use Rattle.std.specs.Prelude.{◌&&◌, Vec}
+use Rattle.bpf_lines.specs.Lines.{lines_behind}
 use Rattle.bpf_jobs.specs.Printed.{any_stopped}
 use Rattle.bpf_file.specs.declared.error.FileError.TheVariants as FileError
 use Rattle.bpf_file.specs.declared.error.Reason.{Reason}
@@ -8,11 +10,11 @@ use Rattle.bpf_file.specs.Laws.{FilesAreDetermined, FilesCanRun}
 use Rattle.bpf_file.specs.Programs.{text_of_lines}
 use Rattle.bpf_file.specs.Reading.{IsRunFile}
 use Rattle.bpf_debug.specs.Laws.{HadMemory, ScriptsAreDetermined}
-use Rattle.bpf_debug.specs.Script.{RunsScript, answer_of, answers_text}
+use Rattle.bpf_debug.specs.Script.{Answer, RunsScript, answer_of}
 use Rattle.bpf_debug.specs.Session.{Scene}
-use Rattle.bpf_run.specs.Answer.{jobs_status, status_of, reply_text}
+use Rattle.bpf_run.specs.Answer.{script_status, shown_text, status_of, reply_text}
 use Rattle.bpf_run.specs.Laws.{IsOfInput}
-use Rattle.bpf_run.specs.Script.{ends_file, NoneEnds, IsCut, IsScriptOfFile, scene_of}
+use Rattle.bpf_run.specs.Script.{AreShown, any_refused, ends_file, NoneEnds, IsCut, IsScriptOfFile, scene_of}
 use Rattle.bpf_run.specs.declared.refusal.Refusal.TheVariants as refusal
 use Rattle.bpf_run.specs.declared.reply.Reply.{Reply}
 use Rattle.bpf_run.specs.declared.reply.Reply.TheVariants as reply
@@ -45,20 +47,29 @@ one_cut input f g cs ds (inr a) (inl b) = absurd (none_there b.0 b.1 ds (subst N
 one_cut input f g cs ds (inr a) (inr b) = (a.1 ∙ sym b.1, a.2 ∙ sym b.2)
 
 -- ---- what a reply says of the input
-data OfDebug (input : List ℕ) : Reply → Type 0 where
-  Scripted : (answers : _) (stopped : Bool) → IsScriptOfFile input (reply.Script answers stopped) → HadMemory (map answer_of answers.items) → OfDebug input (reply.Script answers stopped)
-  NoScript : (line : ℕ) (why : Reason) → IsScriptOfFile input (reply.Refused (refusal.File line why)) → OfDebug input (reply.Refused (refusal.File line why))
+data OfDebug (echo strict : Bool) (input : List ℕ) : Reply → Type 0 where
+  Scripted : (answers : _) (lines : _) (stopped refused : Bool) → IsScriptOfFile echo strict input (reply.Script answers lines stopped refused)
+      → HadMemory (map answer_of answers.items) → OfDebug echo strict input (reply.Script answers lines stopped refused)
+  NoScript : (line : ℕ) (why : Reason) → IsScriptOfFile echo strict input (reply.Refused (refusal.File line why))
+      → OfDebug echo strict input (reply.Refused (refusal.File line why))
 
-of_debug : (input : List ℕ) (r : Reply) → IsScriptOfFile input r → IsOfInput r → OfDebug input r
-of_debug input (reply.Script answers stopped) h n = Scripted answers stopped h n
-of_debug input (reply.Refused refusal.OutOfMemory) h n = absurd (n tt)
-of_debug input (reply.Refused (refusal.File line why)) h n = NoScript line why h
-of_debug input (reply.Refused r) h n = absurd h
-of_debug input (reply.Ended outcome) h n = absurd h
-of_debug input (reply.Text text) h n = absurd h
-of_debug input (reply.Jobs text stopped) h n = absurd h
-of_debug input (reply.Outcomes text stopped all) h n = absurd h
-of_debug input (reply.NoOutcome text all) h n = absurd h
+of_debug : (echo strict : Bool) (input : List ℕ) (r : Reply) → IsScriptOfFile echo strict input r → IsOfInput r → OfDebug echo strict input r
+of_debug echo strict input (reply.Script answers lines stopped refused) h n = Scripted answers lines stopped refused h n
+of_debug echo strict input (reply.Refused refusal.OutOfMemory) h n = absurd (n tt)
+of_debug echo strict input (reply.Refused (refusal.File line why)) h n = NoScript line why h
+of_debug echo strict input (reply.Refused r) h n = absurd h
+of_debug echo strict input (reply.Ended outcome) h n = absurd h
+of_debug echo strict input (reply.Text text) h n = absurd h
+of_debug echo strict input (reply.Jobs text stopped) h n = absurd h
+of_debug echo strict input (reply.Counted text stopped stats) h n = absurd h
+of_debug echo strict input (reply.Outcomes text stopped all) h n = absurd h
+of_debug echo strict input (reply.NoOutcome text all) h n = absurd h
+
+-- of one list of commands one list of lines is shown
+one_showing : (echo : Bool) (commands : List (List ℕ)) (xs ys : Option (Vec ℕ Global)) → AreShown echo commands xs → AreShown echo commands ys
+    → lines_behind (option_map (λ (v : Vec ℕ Global). v.items) xs) ≡ lines_behind (option_map (λ (v : Vec ℕ Global). v.items) ys)
+one_showing true commands xs ys a b = a ∙ sym b
+one_showing false commands xs ys a b = ap (λ (o : Option (Vec ℕ Global)). lines_behind (option_map (λ (v : Vec ℕ Global). v.items) o)) (a ∙ sym b)
 
 abbrev pub PrintsAs : Reply → Reply → Type 0
 PrintsAs r s = (reply_text r ≡ reply_text s) × (status_of r ≡ status_of s)
@@ -72,8 +83,8 @@ module _ (files : FilesAreDetermined) (runs : FilesCanRun) (scripts : ScriptsAre
       let both : Ok f ≡ Err (FileError.Refused line why) = files file (Ok f) (Err (FileError.Refused line why)) said (subst P (sym one.0) refused) in
       cc
 
-  one_reply : (input : List ℕ) (r s : Reply) → OfDebug input r → OfDebug input s → PrintsAs r s
-  one_reply input r s (Scripted answers stopped a had) (Scripted others halted b held) =
+  one_reply : (echo strict : Bool) (input : List ℕ) (r s : Reply) → OfDebug echo strict input r → OfDebug echo strict input s → PrintsAs r s
+  one_reply echo strict input r s (Scripted answers lines stopped refused a had) (Scripted others more halted denied b held) =
       let cut = one_cut input a.0 b.0 a.1 b.1 a.4 b.4 in
       let P : List ℕ → Type 0 = λ text. IsRunFile text (Ok b.2) in
       let both : Ok a.2 ≡ Ok b.2 = files a.0 (Ok a.2) (Ok b.2) a.5 (subst P (sym cut.0) b.5) in
@@ -84,15 +95,21 @@ module _ (files : FilesAreDetermined) (runs : FilesCanRun) (scripts : ScriptsAre
       (subst R (sym file) (subst Q (sym cut.1) b.6)) had held in
       let told : any_stopped (length a.3.world.jobs) a.3.world.jobs ≡ any_stopped (length b.3.world.jobs) b.3.world.jobs =
       ap (λ (y : Scene). any_stopped (length y.world.jobs) y.world.jobs) one.1 in
-      (ap answers_text one.0, ap jobs_status (a.7 ∙ told ∙ sym b.7))
-  one_reply input r s (Scripted answers stopped a had) (NoScript line why b) = absurd (not_both input a.0 b.0 a.1 b.1 a.2 line why a.4 a.5 b.2 b.3)
-  one_reply input r s (NoScript line why b) (Scripted answers stopped a had) = absurd (not_both input a.0 b.0 a.1 b.1 a.2 line why a.4 a.5 b.2 b.3)
-  one_reply input r s (NoScript line why a) (NoScript place reason b) =
+      let ended : stopped ≡ halted = a.8 ∙ told ∙ sym b.8 in
+      let denies : refused ≡ denied = a.9 ∙ ap (λ (xs : List Answer). strict && any_refused xs) one.0 ∙ sym b.9 in
+      let shown = one_showing echo a.1 lines more a.7 (subst (λ (cs : List (List ℕ)). AreShown echo cs more) (sym cut.1) b.7) in (
+        ap (λ (ls : List (List ℕ)). shown_text ls (map answer_of answers.items)) shown
+        ∙ ap (shown_text (lines_behind (option_map (λ (v : Vec ℕ Global). v.items) more))) one.0,
+        ap (λ (x : Bool). script_status x refused) ended ∙ ap (script_status halted) denies,
+      )
+  one_reply echo strict input r s (Scripted answers lines stopped refused a had) (NoScript line why b) = absurd (not_both input a.0 b.0 a.1 b.1 a.2 line why a.4 a.5 b.2 b.3)
+  one_reply echo strict input r s (NoScript line why b) (Scripted answers lines stopped refused a had) = absurd (not_both input a.0 b.0 a.1 b.1 a.2 line why a.4 a.5 b.2 b.3)
+  one_reply echo strict input r s (NoScript line why a) (NoScript place reason b) =
       let cut = one_cut input a.0 b.0 a.1 b.1 a.2 b.2 in
       let P : List ℕ → Type 0 = λ text. IsRunFile text (Err (FileError.Refused place reason)) in
       let both = files a.0 (Err (FileError.Refused line why)) (Err (FileError.Refused place reason)) a.3 (subst P (sym cut.0) b.3) in
       let same : reply.Refused (refusal.File line why) ≡ reply.Refused (refusal.File place reason) = cc in
       (ap reply_text same, ap status_of same)
 
-  pub one_debug : (input : List ℕ) (r s : Reply) → IsScriptOfFile input r → IsScriptOfFile input s → IsOfInput r → IsOfInput s → PrintsAs r s
-  one_debug input r s a b n m = one_reply input r s (of_debug input r a n) (of_debug input s b m)
+  pub one_debug : (echo strict : Bool) (input : List ℕ) (r s : Reply) → IsScriptOfFile echo strict input r → IsScriptOfFile echo strict input s → IsOfInput r → IsOfInput s → PrintsAs r s
+  one_debug echo strict input r s a b n m = one_reply echo strict input r s (of_debug echo strict input r a n) (of_debug echo strict input s b m)

@@ -109,7 +109,8 @@ of_run budget context text (reply.Refused refusal.OutOfMemory) h n = absurd (n t
 of_run budget context text (reply.Refused r) h n = of_program budget context text r h n
 of_run budget context text (reply.Text printed) h n = absurd h
 of_run budget context text (reply.Jobs printed stopped) h n = absurd h
-of_run budget context text (reply.Script answers stopped) h n = absurd h
+of_run budget context text (reply.Counted printed stopped stats) h n = absurd h
+of_run budget context text (reply.Script answers lines stopped refused) h n = absurd h
 of_run budget context text (reply.Outcomes printed stopped all) h n = absurd h
 of_run budget context text (reply.NoOutcome printed all) h n = absurd h
 
@@ -124,7 +125,8 @@ of_assembly listing text (reply.Refused (refusal.Insn error)) h n = absurd (n (s
 of_assembly listing text (reply.Refused r) h n = absurd h
 of_assembly listing text (reply.Ended outcome) h n = absurd h
 of_assembly listing text (reply.Jobs printed stopped) h n = absurd h
-of_assembly listing text (reply.Script answers stopped) h n = absurd h
+of_assembly listing text (reply.Counted printed stopped stats) h n = absurd h
+of_assembly listing text (reply.Script answers lines stopped refused) h n = absurd h
 of_assembly listing text (reply.Outcomes printed stopped all) h n = absurd h
 of_assembly listing text (reply.NoOutcome printed all) h n = absurd h
 
@@ -139,7 +141,8 @@ of_listing pc text (reply.Text printed) h n = Listed printed h
 of_listing pc text (reply.Refused r) h n = Unlisted r (of_words text r h n)
 of_listing pc text (reply.Ended outcome) h n = absurd h
 of_listing pc text (reply.Jobs printed stopped) h n = absurd h
-of_listing pc text (reply.Script answers stopped) h n = absurd h
+of_listing pc text (reply.Counted printed stopped stats) h n = absurd h
+of_listing pc text (reply.Script answers lines stopped refused) h n = absurd h
 of_listing pc text (reply.Outcomes printed stopped all) h n = absurd h
 of_listing pc text (reply.NoOutcome printed all) h n = absurd h
 
@@ -161,7 +164,8 @@ of_file Told text (reply.Jobs printed stopped) h n = Told_of printed stopped h
 of_file Told text (reply.Refused r) h n = of_refused_file Told text r h n
 of_file Told text (reply.Ended outcome) h n = absurd h
 of_file Told text (reply.Text printed) h n = absurd h
-of_file Told text (reply.Script answers stopped) h n = absurd h
+of_file Told text (reply.Counted printed stopped stats) h n = absurd h
+of_file Told text (reply.Script answers lines stopped refused) h n = absurd h
 of_file Told text (reply.Outcomes printed stopped all) h n = absurd h
 of_file Told text (reply.NoOutcome printed all) h n = absurd h
 
@@ -316,8 +320,8 @@ module _ (words : WordsAreDetermined) (encodings : EncodingsAreDetermined) (refu
       let by = options.by.items in
       let keys = options.keys in
       let maps = options.maps in
-      let one = subst (λ (w : Option ℕ). IsRunBy w by keys maps text r) t a in
-      let other = subst (λ (w : Option ℕ). IsRunBy w by keys maps text s) t b in
+      let one = subst (λ (w : Option ℕ). IsRunBy w options.stats by keys maps text r) t a in
+      let other = subst (λ (w : Option ℕ). IsRunBy w options.stats by keys maps text s) t b in
       one_of_file (IsToldBy by keys maps) (one_told by keys maps) text r s one other n m
   one_answer (command.History options) text r s h t o a b n m =
       let by = options.by.items in
@@ -325,7 +329,7 @@ module _ (words : WordsAreDetermined) (encodings : EncodingsAreDetermined) (refu
   one_answer (command.Judge options) text r s h t o a b n m =
       let by = options.by.items in
       one_of_file (IsJudgedBy by options.keys text) (one_judged by options.keys text) text r s a b n m
-  one_answer command.Debug text r s h t o a b n m = one_debug files runs scripts text r s a b n m
+  one_answer (command.Debug echo strict) text r s h t o a b n m = one_debug files runs scripts echo strict text r s a b n m
   one_answer (command.Explore options) text r s h t o a b n m = absurd o
   one_answer (command.Show options) text r s h t o a b n m = absurd o
   one_answer (command.Check options) text r s h t o a b n m = absurd o

@@ -15,6 +15,7 @@ shown patient limit number text answers all states found (reply.Jobs printed sto
 shown patient limit number text answers all states found (reply.Refused r) are at h = h
 shown patient limit number text answers all states found (reply.Ended outcome) are at h = absurd h
 shown patient limit number text answers all states found (reply.Text printed) are at h = absurd h
-shown patient limit number text answers all states found (reply.Script lines stopped) are at h = absurd h
+shown patient limit number text answers all states found (reply.Counted printed stopped stats) are at h = absurd h
+shown patient limit number text answers all states found (reply.Script answered lines stopped refused) are at h = absurd h
 shown patient limit number text answers all states found (reply.Outcomes printed stopped whole) are at h = absurd h
 shown patient limit number text answers all states found (reply.NoOutcome printed whole) are at h = absurd h

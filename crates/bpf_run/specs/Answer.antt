@@ -1,5 +1,5 @@
 -- What is printed of a reply, and the exit status. Our own choice.
-use Rattle.std.specs.Prelude.{◌≡◌, ℕ, ◌++◌, ◌⊎◌, List, Option, Bool, true, false, codes, map, string_bytes, take}
+use Rattle.std.specs.Prelude.{◌≡◌, ℕ, ◌++◌, ◌⊎◌, List, [], ◌∷◌, Option, Bool, true, false, codes, map, option_map, string_bytes, take}
 use Rattle.std.specs.Io.KnownBytes.{Appends}
 use Rattle.bpf_explain.specs.Page.{page_text}
 use Rattle.bpf_codes.specs.declared.code.Code.{Code}
@@ -7,12 +7,38 @@ use Rattle.bpf_explain.specs.declared.page.Page.{Page}
 use Rattle.bpf_cpu.specs.declared.outcome.Outcome.{Outcome}
 use Rattle.bpf_cpu.specs.declared.outcome.Outcome.TheVariants as outcome
 use Rattle.bpf_cpu.specs.Lines.{outcome_text}
-use Rattle.bpf_debug.specs.Script.{answer_of, answers_text}
+use Rattle.bpf_lines.specs.Lines.{lines_behind}
+use Rattle.bpf_debug.specs.Script.{Answer, answer_of, answer_text}
 use Rattle.bpf_run.specs.declared.reply.Reply.{Reply}
 use Rattle.bpf_run.specs.declared.reply.Reply.TheVariants as reply
 use Rattle.bpf_run.specs.declared.reply.Status.{Status}
 use Rattle.bpf_run.specs.declared.reply.Status.TheVariants as status
 use Rattle.bpf_run.specs.Diagnostic.{refusal_text}
+
+-- some texts, one behind the other
+abbrev pub all_of : List (List ℕ) → List ℕ
+all_of [] = []
+all_of (text ∷ texts) = text ++ all_of texts
+
+-- a line of commands as it is shown before its answer; an empty one isn't shown
+abbrev pub shown_line : List ℕ → List ℕ
+shown_line [] = []
+shown_line (b ∷ bs) = codes "> " ++ (b ∷ bs) ++ codes "\n"
+
+-- what an answer prints, behind the first of some lines where there is one
+abbrev pub first_shown : (lines : List (List ℕ)) → Answer → List ℕ
+first_shown [] answer = answer_text answer
+first_shown (line ∷ lines) answer = shown_line line ++ answer_text answer
+
+abbrev pub other_lines : List (List ℕ) → List (List ℕ)
+other_lines [] = []
+other_lines (line ∷ lines) = lines
+
+-- what some answers print, each behind its line where lines are shown
+abbrev pub shown_text : (lines : List (List ℕ)) → List Answer → List ℕ
+shown_text lines [] = []
+shown_text lines (answer ∷ answers) =
+    first_shown lines answer ++ shown_text (other_lines lines) answers
 
 -- the text that a reply prints
 abbrev pub reply_text : Reply → List ℕ
@@ -21,7 +47,9 @@ reply_text (reply.Text text) = string_bytes text
 reply_text (reply.Jobs text stopped) = string_bytes text
 reply_text (reply.Outcomes text stopped all) = string_bytes text
 reply_text (reply.NoOutcome text all) = string_bytes text
-reply_text (reply.Script answers stopped) = answers_text (map answer_of answers.items)
+reply_text (reply.Counted text stopped stats) = string_bytes text
+reply_text (reply.Script answers lines stopped refused) =
+    shown_text (lines_behind (option_map (λ v. v.items) lines)) (map answer_of answers.items)
 reply_text (reply.Refused refusal) = codes "refused " ++ refusal_text refusal ++ codes "\n"
 
 -- how a program ends after it
@@ -34,6 +62,11 @@ ended_status (outcome.OutOfBudget pc) = status.Stopped
 abbrev pub jobs_status : Bool → Status
 jobs_status true = status.Stopped
 jobs_status false = status.Done
+
+-- of a script: whether such a job is there, or a command is refused for which all are
+abbrev pub script_status : (stopped refused : Bool) → Status
+script_status stopped true = status.Refused
+script_status stopped false = jobs_status stopped
 
 -- of outcomes: whether one of them has such a job, and whether they are all
 abbrev pub outcomes_status : (stopped all : Bool) → Status
@@ -49,10 +82,16 @@ abbrev pub status_of : Reply → Status
 status_of (reply.Ended outcome) = ended_status outcome
 status_of (reply.Text text) = status.Done
 status_of (reply.Jobs text stopped) = jobs_status stopped
-status_of (reply.Script answers stopped) = jobs_status stopped
+status_of (reply.Counted text stopped stats) = jobs_status stopped
+status_of (reply.Script answers lines stopped refused) = script_status stopped refused
 status_of (reply.Outcomes text stopped all) = outcomes_status stopped all
 status_of (reply.NoOutcome text all) = missing_status all
 status_of (reply.Refused refusal) = status.Refused
+
+-- what is told beside it, on standard error
+abbrev pub stats_of : Reply → List ℕ
+stats_of (reply.Counted text stopped stats) = string_bytes stats
+stats_of _ = []
 
 abbrev pub exit_status : Status → ℕ
 exit_status status.Done = 0
@@ -80,9 +119,12 @@ Prints (reply.Outcomes text stopped all) old new failed answered =
     IsPrinted (string_bytes text) (outcomes_status stopped all) old new failed answered
 Prints (reply.NoOutcome text all) old new failed answered =
     IsPrinted (string_bytes text) (missing_status all) old new failed answered
-Prints (reply.Script answers stopped) old new failed answered =
-    IsPrinted (answers_text (map answer_of answers.items))
-    (jobs_status stopped) old new failed answered
+Prints (reply.Counted text stopped stats) old new failed answered =
+    IsPrinted (string_bytes text) (jobs_status stopped) old new failed answered
+Prints (reply.Script answers lines stopped refused) old new failed answered =
+    IsPrinted
+    (shown_text (lines_behind (option_map (λ v. v.items) lines)) (map answer_of answers.items))
+    (script_status stopped refused) old new failed answered
 Prints r old new failed answered = IsPrinted (reply_text r) (status_of r) old new failed answered
     ⊎ IsPrinted (codes "refused L9\n") status.Refused old new failed answered
 

@@ -61,7 +61,8 @@ IsRun budget context text (reply.Refused refusal.OutOfMemory) = Unit {0}
 IsRun budget context text (reply.Refused r) = RefusesProgram text r
 IsRun budget context text (reply.Text printed) = ⊥
 IsRun budget context text (reply.Jobs printed stopped) = ⊥
-IsRun budget context text (reply.Script answers stopped) = ⊥
+IsRun budget context text (reply.Counted printed stopped stats) = ⊥
+IsRun budget context text (reply.Script answers lines stopped refused) = ⊥
 IsRun budget context text (reply.Outcomes printed stopped all) = ⊥
 IsRun budget context text (reply.NoOutcome printed all) = ⊥
 
@@ -84,7 +85,8 @@ IsAssembled listing text (reply.Text printed) = (is : List Insn) × (bytes : Lis
 IsAssembled listing text (reply.Refused r) = RefusesAssembly text r
 IsAssembled listing text (reply.Ended outcome) = ⊥
 IsAssembled listing text (reply.Jobs printed stopped) = ⊥
-IsAssembled listing text (reply.Script answers stopped) = ⊥
+IsAssembled listing text (reply.Counted printed stopped stats) = ⊥
+IsAssembled listing text (reply.Script answers lines stopped refused) = ⊥
 IsAssembled listing text (reply.Outcomes printed stopped all) = ⊥
 IsAssembled listing text (reply.NoOutcome printed all) = ⊥
 
@@ -108,7 +110,8 @@ IsDisassembled pc text (reply.Text printed) =
 IsDisassembled pc text (reply.Refused r) = RefusesWords text r
 IsDisassembled pc text (reply.Ended outcome) = ⊥
 IsDisassembled pc text (reply.Jobs printed stopped) = ⊥
-IsDisassembled pc text (reply.Script answers stopped) = ⊥
+IsDisassembled pc text (reply.Counted printed stopped stats) = ⊥
+IsDisassembled pc text (reply.Script answers lines stopped refused) = ⊥
 IsDisassembled pc text (reply.Outcomes printed stopped all) = ⊥
 IsDisassembled pc text (reply.NoOutcome printed all) = ⊥
 
@@ -120,8 +123,8 @@ IsAnswer (command.AsmRun options) text r =
     IsAssembledRun options.budget options.context.items text r
 IsAnswer (command.Disasm pc) text r = IsDisassembled pc text r
 IsAnswer (command.Run options) text r =
-    IsRunBy options.workers options.by.items options.keys options.maps text r
-IsAnswer command.Debug text r = IsScriptOfFile text r
+    IsRunBy options.workers options.stats options.by.items options.keys options.maps text r
+IsAnswer (command.Debug echo strict) text r = IsScriptOfFile echo strict text r
 IsAnswer (command.History options) text r =
     IsHistoryOfFile options.by.items options.keys options.maps text r
 IsAnswer (command.Judge options) text r = IsJudgedOfFile options.by.items options.keys text r

@@ -39,7 +39,7 @@ IsForAnyInput _ = ⊥
 -- the reply is of the input: no read failed, and memory was refused for no part of it
 abbrev pub IsOfInput : Reply → Type 0
 IsOfInput (reply.Refused r) = ¬ IsForAnyInput r
-IsOfInput (reply.Script answers stopped) = HadMemory (map answer_of answers.items)
+IsOfInput (reply.Script answers lines stopped refused) = HadMemory (map answer_of answers.items)
 IsOfInput _ = Unit {0}
 
 -- the context has its greatest length at most

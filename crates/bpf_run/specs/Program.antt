@@ -11,7 +11,7 @@ use Rattle.bpf_command.specs.declared.command.Request.{Request}
 use Rattle.bpf_command.specs.declared.command.Request.TheVariants as request
 use Rattle.bpf_command.specs.declared.command_line.CommandError.{CommandError}
 use Rattle.bpf_command.specs.declared.command_line.CommandError.TheVariants as command_error
-use Rattle.bpf_run.specs.Answer.{Prints, PrintsPage}
+use Rattle.bpf_run.specs.Answer.{Prints, PrintsPage, stats_of}
 use Rattle.bpf_run.specs.Commands.{IsReply, is_unread}
 use Rattle.bpf_run.specs.declared.program.Ending.{Ending}
 use Rattle.bpf_run.specs.declared.program.Ending.TheVariants as ending
@@ -22,12 +22,12 @@ use Rattle.bpf_run.specs.declared.refusal.Refusal.TheVariants as refusal
 use Rattle.bpf_run.specs.declared.reply.Reply.{Reply}
 use Rattle.bpf_run.specs.declared.reply.Status.{Status}
 
--- a reply to the input is answered: 'unread' exactly where a read failed
+-- a reply to the input is answered: 'unread' exactly where a read failed; and what is told beside it
 abbrev pub Performs : Command → (input : Option (List ℕ)) → (read_failed : Bool)
-    → (old new : Option (List ℕ)) → (write_failed : Bool) → Status → Type 0
-Performs command input read_failed old new write_failed status = (r : Reply)
+    → (old new : Option (List ℕ)) → (write_failed : Bool) → Status → (stats : List ℕ) → Type 0
+Performs command input read_failed old new write_failed status stats = (r : Reply)
     × (read_failed ≡ is_unread r) × IfSome input (λ bytes. IsReply command bytes r)
-    × Prints r old new write_failed status
+    × Prints r old new write_failed status × (stats ≡ stats_of r)
 
 -- the bytes that are read: those of the file that is named, or of standard input
 abbrev pub input_of : (standard : Option (List ℕ)) → (files : Text → Option (List ℕ))
@@ -39,13 +39,13 @@ input_of standard files (Some name) = files name
 -- that is asked for nothing is read
 abbrev pub Follows : Request → (unread : Type 0) → (standard : Option (List ℕ))
     → (files : Text → Option (List ℕ)) → (read_failed : Bool)
-    → (old new : Option (List ℕ)) → (write_failed : Bool) → Status → Type 0
+    → (old new : Option (List ℕ)) → (write_failed : Bool) → Status → (stats : List ℕ) → Type 0
 Follows (request.Perform command file explain) unread standard files read_failed old new
-    write_failed status =
+    write_failed status stats =
     Performs command (input_of standard files (option_map string_bytes file)) read_failed old new
-    write_failed status
-Follows (request.Page code) unread standard files read_failed old new write_failed status =
-    unread × PrintsPage code old new write_failed status
+    write_failed status stats
+Follows (request.Page code) unread standard files read_failed old new write_failed status stats =
+    unread × PrintsPage code old new write_failed status × (stats ≡ [])
 
 -- the words ask for this, and `clap` finds no fault in them
 abbrev pub IsAsked : List Text → Request → Type 0
@@ -60,6 +60,7 @@ IsPrintedAs (command_error.Shown _) r = ⊥
 IsPrintedAs command_error.NoCode r = ⊥
 IsPrintedAs command_error.NoSchedule r = ⊥
 IsPrintedAs command_error.TwoWays r = ⊥
+IsPrintedAs command_error.NoWorkers r = ⊥
 IsPrintedAs command_error.NoRun r = ⊥
 
 -- what is wrong with words in which `clap` finds no fault
@@ -67,13 +68,16 @@ abbrev pub error_of : Misuse → CommandError
 error_of misuse.Code = command_error.NoCode
 error_of misuse.Schedule = command_error.NoSchedule
 error_of misuse.TwoWays = command_error.TwoWays
+error_of misuse.Workers = command_error.NoWorkers
 error_of misuse.Run = command_error.NoRun
 
 -- ---- what is left to do
 
-abbrev pub IfExit : Ending → (Status → Type 0) → Type 0
-IfExit (ending.Exit status) P = P status
-IfExit (ending.Explained subject done) P = P done.status
+-- to exit with a status, once this is told on standard error
+abbrev pub IfExit : Ending → (Status → List ℕ → Type 0) → Type 0
+IfExit (ending.Exit status) P = P status []
+IfExit (ending.Performed done) P = P done.status (stats_of done.reply)
+IfExit (ending.Explained subject done) P = P done.status (stats_of done.reply)
 IfExit _ P = Unit {0}
 
 abbrev pub IfShown : Ending → (Error → Type 0) → Type 0

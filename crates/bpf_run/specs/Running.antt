@@ -5,6 +5,7 @@ use Rattle.bpf_events.specs.Reports.{IsHistory}
 use Rattle.bpf_check.specs.Expectation.{expectations_of}
 use Rattle.bpf_check.specs.Single.{is_any_refuted, judged_text}
 use Rattle.bpf_workers.specs.Printed.{IsWorkersReport}
+use Rattle.bpf_workers.specs.Stats.{TellsStats}
 use Rattle.bpf_file.specs.declared.error.FileError.TheVariants as FileError
 use Rattle.bpf_file.specs.File.{File}
 use Rattle.bpf_file.specs.Reading.{IsRunFile}
@@ -61,16 +62,20 @@ IsJudgedOfFile by keys text = IsOfFile (IsJudgedBy by keys text) text
 -- `run --workers`: the lines of the jobs that the file says, ended as one history of a new store of
 -- its maps explains; then, where they are asked for, those of the keys that each CPU lists in this
 -- history behind its jobs, and those of the maps that it leaves; or the file's first refusal; or, of
--- a file that is accepted, want of memory for its jobs and lists
-abbrev pub IsRunByWorkers : (keys maps : Bool) → List ℕ → Reply → Type 0
-IsRunByWorkers keys maps text (reply.Jobs printed stopped) = (f : File) × IsRunFile text (Ok f)
-    × IsWorkersReport f keys maps (string_bytes printed) stopped
-IsRunByWorkers keys maps text (reply.Refused refusal.JobsOutOfMemory) =
+-- a file that is accepted, want of memory for its jobs and lists; and beside them what is counted
+-- of a store of its maps, where that is asked for
+abbrev pub IsRunByWorkers : (stats keys maps : Bool) → List ℕ → Reply → Type 0
+IsRunByWorkers stats keys maps text (reply.Counted printed stopped counts) =
     (f : File) × IsRunFile text (Ok f)
-IsRunByWorkers keys maps text (reply.Refused r) = RefusesFile text r
-IsRunByWorkers keys maps text _ = ⊥
+    × IsWorkersReport f keys maps (string_bytes printed) stopped
+    × TellsStats stats f (string_bytes counts)
+IsRunByWorkers stats keys maps text (reply.Refused refusal.JobsOutOfMemory) =
+    (f : File) × IsRunFile text (Ok f)
+IsRunByWorkers stats keys maps text (reply.Refused r) = RefusesFile text r
+IsRunByWorkers stats keys maps text _ = ⊥
 
 -- by workers where they are asked for, and else by turns
-abbrev pub IsRunBy : Option ℕ → (by : List (ℕ × ℕ)) → (keys maps : Bool) → List ℕ → Reply → Type 0
-IsRunBy None by keys maps text r = IsRunOfFile by keys maps text r
-IsRunBy (Some workers) by keys maps text r = IsRunByWorkers keys maps text r
+abbrev pub IsRunBy : Option ℕ → (stats : Bool) → (by : List (ℕ × ℕ)) → (keys maps : Bool)
+    → List ℕ → Reply → Type 0
+IsRunBy None stats by keys maps text r = IsRunOfFile by keys maps text r
+IsRunBy (Some workers) stats by keys maps text r = IsRunByWorkers stats keys maps text r

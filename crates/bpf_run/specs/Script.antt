@@ -1,7 +1,9 @@
 -- What `debug` replies: a run file, a line `---`, and commands behind it.
-use Rattle.std.specs.Prelude.{◌≡◌, ◌⊎◌, ℕ, Bool, true, false, List, [], ◌∷◌, ◌++◌, Ok, Err, codes, length, map}
+use Rattle.std.specs.Prelude.{◌≡◌, ◌⊎◌, ◌&&◌, ℕ, Bool, true, false, List, [], ◌∷◌, ◌++◌, Option, None, Ok, Err, Vec, codes, is_err, length, map, option_map}
+use Rattle.std.specs.List.{list_any}
+use Rattle.std.specs.declared.alloc.Global.{Global}
 use Rattle.std.specs.Str.{bytes_eq}
-use Rattle.bpf_lines.specs.Lines.{lines_of, fields_of}
+use Rattle.bpf_lines.specs.Lines.{lines_behind, lines_of, fields_of}
 use Rattle.bpf_machine.specs.Schedule.{World}
 use Rattle.bpf_jobs.specs.Printed.{any_stopped, asked_world, first_world}
 use Rattle.bpf_file.specs.declared.error.FileError.TheVariants as FileError
@@ -10,7 +12,7 @@ use Rattle.bpf_file.specs.File.{File, file_of}
 use Rattle.bpf_file.specs.Programs.{text_of_lines}
 use Rattle.bpf_file.specs.Reading.{IsRunFile}
 use Rattle.bpf_debug.specs.Session.{Scene}
-use Rattle.bpf_debug.specs.Script.{RunsScript, answer_of}
+use Rattle.bpf_debug.specs.Script.{Answer, RunsScript, answer_of}
 use Rattle.bpf_run.specs.declared.refusal.Refusal.TheVariants as refusal
 use Rattle.bpf_run.specs.declared.reply.Reply.{Reply}
 use Rattle.bpf_run.specs.declared.reply.Reply.TheVariants as reply
@@ -59,24 +61,38 @@ scene_of f = record {
   turns = [];
 }
 
--- the commands' answers, one after the other, over the machine of the file, and whether some job
--- of it then has ended in a fault or out of budget; or the file's first refusal
-abbrev pub IsScriptOfFile : List ℕ → Reply → Type 0
-IsScriptOfFile input (reply.Script answers stopped) =
+-- with `--echo` the commands' lines are shown, and else none
+abbrev pub AreShown : (echo : Bool) → List (List ℕ) → Option (Vec ℕ Global) → Type 0
+AreShown true commands lines = lines_behind (option_map (λ v. v.items) lines) ≡ commands
+AreShown false commands lines = lines ≡ None
+
+-- some command is refused
+abbrev pub any_refused : List Answer → Bool
+any_refused answers = list_any is_err answers
+
+-- the commands' answers, one after the other, over the machine of the file, with the lines where they
+-- are shown; whether some job of it then has ended in a fault or out of budget, and, with `--strict`,
+-- whether a command is refused; or the file's first refusal
+abbrev pub IsScriptOfFile : (echo strict : Bool) → List ℕ → Reply → Type 0
+IsScriptOfFile echo strict input (reply.Script answers lines stopped refused) =
     (file : List ℕ) × (commands : List (List ℕ)) × (f : File) × (y : Scene)
     × IsCut input file commands × IsRunFile file (Ok f)
     × RunsScript (scene_of f) commands (map answer_of answers.items) y
+    × AreShown echo commands lines
     × (stopped ≡ any_stopped (length y.world.jobs) y.world.jobs)
-IsScriptOfFile input (reply.Refused refusal.OutOfMemory) = Unit {0}
-IsScriptOfFile input (reply.Refused (refusal.File line why)) =
+    × (refused ≡ (strict && any_refused (map answer_of answers.items)))
+IsScriptOfFile echo strict input (reply.Refused refusal.OutOfMemory) = Unit {0}
+IsScriptOfFile echo strict input (reply.Refused (refusal.File line why)) =
     (file : List ℕ) × (commands : List (List ℕ)) × IsCut input file commands
     × IsRunFile file (Err (FileError.Refused line why))
-IsScriptOfFile input _ = ⊥
+IsScriptOfFile echo strict input _ = ⊥
 
 -- the same of a file that was read
-abbrev pub IsDebugReply : RunFile → List (List ℕ) → Reply → Type 0
-IsDebugReply f commands (reply.Script answers stopped) =
+abbrev pub IsDebugReply : (echo strict : Bool) → RunFile → List (List ℕ) → Reply → Type 0
+IsDebugReply echo strict f commands (reply.Script answers lines stopped refused) =
     (y : Scene) × RunsScript (scene_of (file_of f)) commands (map answer_of answers.items) y
+    × AreShown echo commands lines
     × (stopped ≡ any_stopped (length y.world.jobs) y.world.jobs)
-IsDebugReply f commands (reply.Refused refusal.OutOfMemory) = Unit {0}
-IsDebugReply f commands _ = ⊥
+    × (refused ≡ (strict && any_refused (map answer_of answers.items)))
+IsDebugReply echo strict f commands (reply.Refused refusal.OutOfMemory) = Unit {0}
+IsDebugReply echo strict f commands _ = ⊥

@@ -89,7 +89,7 @@ impl Subject {
             Command::History(_) => Subject::Turns,
             Command::Show(_) => Subject::Shown,
             Command::Judge(_) => Subject::Tests,
-            Command::Debug => Subject::Script,
+            Command::Debug { .. } => Subject::Script,
             Command::Explore(_) => Subject::Schedules,
             Command::Check(_) => Subject::Tests,
         }
@@ -127,9 +127,10 @@ fn printed(alloc: Global, reply: &Reply) -> Result<String, AllocError> {
     match reply {
         Reply::Text(text)
         | Reply::Jobs(text, _)
+        | Reply::Counted { text, .. }
         | Reply::Outcomes { text, .. }
         | Reply::NoOutcome { text, .. } => text.as_str().to_string(alloc),
-        Reply::Script(answers, _) => {
+        Reply::Script { answers, .. } => {
             let mut text = String::new(alloc);
             for answer in answers {
                 text.push_str(answer_text(answer))?;

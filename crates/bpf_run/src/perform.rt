@@ -1,9 +1,11 @@
 //! A whole command: what it reads, does and writes.
 
-ghost use Rattle.std.specs.Prelude.{◌≡◌, ◌≤◌, ◌≢◌, ◌+◌, codes, false, map, option_map, IfOk, IfSome, OnErr, List, length, string_bytes, ℕ};
-ghost use Rattle.std.specs.Io.KnownBytes.{Consumes};
-ghost use Rattle.bpf_debug.specs.Script.{answer_of, answer_text, answers_text};
-ghost use Rattle.bpf_run.specs.Answer.{Prints, PrintsPage, IsPrinted};
+ghost use Rattle.std.specs.Prelude.{◌≡◌, ◌≤◌, ◌≢◌, ◌+◌, ◌++◌, codes, false, is_err, map, option_map, take, IfOk, IfSome, OnErr, OnOk, List, length, string_bytes, ℕ};
+ghost use Rattle.std.specs.Io.KnownBytes.{Appends, Consumes};
+ghost use Rattle.std.specs.Option.{option_copied};
+ghost use Rattle.bpf_debug.specs.Script.{answer_of, answer_text};
+ghost use Rattle.bpf_lines.specs.Lines.{lines_behind};
+ghost use Rattle.bpf_run.specs.Answer.{Prints, PrintsPage, IsPrinted, all_of, first_shown, other_lines, shown_line, shown_text, stats_of};
 ghost use Rattle.bpf_run.specs.Commands.{IsForOneThread, IsReply, is_unread};
 ghost use Rattle.bpf_run.specs.Program.{input_of, Performs};
 ghost use Rattle.bpf_run.specs.declared.reply.Reply.{Reply};
@@ -19,7 +21,9 @@ use bpf_command::Command;
 use bpf_debug::Answer;
 use bpf_explain::page_of;
 use bpf_jobs::OutcomeText;
+use bpf_lines::lines::first_line;
 use std::alloc::{AllocError, Global};
+use std::io;
 use std::sync::Wait;
 use std::thread::Threads;
 
@@ -67,16 +71,83 @@ pub fn answer_text<'a>(answer: &'a Answer) -> &'a str
     }
 }
 
-/// Prints what the lines of a script are answered, one after the other.
-fn write_answers<W: Sink>(answers: &[Answer], status: Status, sink: &mut W) -> Status
+/// Writes some texts, one after the other.
+fn write_all<W: Sink>(texts: &[&[u8]], sink: &mut W) -> io::Result<()>
     requires { W.has_failed sink.old ≡ false }
-    ensures { IsPrinted (answers_text (map answer_of answers.now)) status
+    ensures written { OnOk result
+        (Appends (W.contents sink.old) (W.contents sink.new)
+        (all_of (map (λ t. t.now) texts.now))) }
+    ensures begun { OnErr result ((k : ℕ) × Appends (W.contents sink.old) (W.contents sink.new)
+        (take k (all_of (map (λ t. t.now) texts.now)))) }
+    ensures told { W.has_failed sink.new ≡ is_err result }
+{
+    for text in texts {
+        write_whole(sink, text)?;
+    }
+    Ok(())
+}
+
+/// Prints a line of a script and what it is answered.
+fn write_pair<W: Sink>(line: &[u8], answer: &Answer, sink: &mut W) -> io::Result<()>
+    requires { W.has_failed sink.old ≡ false }
+    ensures written { OnOk result (Appends (W.contents sink.old) (W.contents sink.new)
+        (shown_line line.now ++ answer_text (answer_of answer.now))) }
+    ensures begun { OnErr result ((k : ℕ) × Appends (W.contents sink.old) (W.contents sink.new)
+        (take k (shown_line line.now ++ answer_text (answer_of answer.now)))) }
+    ensures told { W.has_failed sink.new ≡ is_err result }
+{
+    let answer = answer_text(answer).as_bytes();
+    if line.is_empty() {
+        write_whole(sink, answer)
+    } else {
+        write_all(&["> ".as_bytes(), line, "\n".as_bytes(), answer], sink)
+    }
+}
+
+/// Prints an answer, behind the first of the lines where there are any, and gives what stands behind
+/// that.
+fn write_next<'a, W: Sink>(
+    lines: Option<&'a [u8]>,
+    answer: &Answer,
+    sink: &mut W,
+) -> io::Result<Option<&'a [u8]>>
+    requires { W.has_failed sink.old ≡ false }
+    ensures written { OnOk result (Appends (W.contents sink.old) (W.contents sink.new)
+        (first_shown (lines_behind (option_copied lines.entry)) (answer_of answer.now))) }
+    ensures behind { IfOk result (λ behind. lines_behind (option_copied behind)
+        ≡ other_lines (lines_behind (option_copied lines.entry))) }
+    ensures begun { OnErr result ((k : ℕ) × Appends (W.contents sink.old) (W.contents sink.new)
+        (take k (first_shown (lines_behind (option_copied lines.entry)) (answer_of answer.now)))) }
+    ensures told { W.has_failed sink.new ≡ is_err result }
+{
+    let Some(text) = lines else {
+        write_whole(sink, answer_text(answer).as_bytes())?;
+        return Ok(None);
+    };
+    let (line, behind) = first_line(text);
+    write_pair(line, answer, sink)?;
+    Ok(behind)
+}
+
+/// Prints what the lines of a script are answered, one after the other, each behind its line where
+/// the lines are given.
+fn write_answers<W: Sink>(
+    lines: Option<&[u8]>,
+    answers: &[Answer],
+    status: Status,
+    sink: &mut W,
+) -> Status
+    requires { W.has_failed sink.old ≡ false }
+    ensures { IsPrinted
+        (shown_text (lines_behind (option_copied lines.entry)) (map answer_of answers.now)) status
         (W.contents sink.old) (W.contents sink.new) (W.has_failed sink.new) result }
 {
+    let mut rest = lines;
     for answer in answers {
-        if write_whole(sink, answer_text(answer).as_bytes()).is_err() {
+        let Ok(behind) = write_next(rest, answer, sink) else {
             return Status::Failed;
-        }
+        };
+        rest = behind;
     }
     status
 }
@@ -90,9 +161,13 @@ pub fn answer<W: Sink>(alloc: Global, reply: &Reply, sink: &mut W) -> Status
     match reply {
         Reply::Text(text)
         | Reply::Jobs(text, _)
+        | Reply::Counted { text, .. }
         | Reply::Outcomes { text, .. }
         | Reply::NoOutcome { text, .. } => write_text(sink, text.as_str(), reply.status()),
-        Reply::Script(answers, _) => write_answers(answers, reply.status(), sink),
+        Reply::Script { answers, lines, .. } => {
+            let shown = lines.as_ref().map(Vec::as_slice);
+            write_answers(shown, answers, reply.status(), sink)
+        }
         Reply::Ended(outcome) => {
             let line = format!(in alloc; "{}\n", OutcomeText(*outcome));
             write_line(line, reply.status(), sink)
@@ -167,7 +242,8 @@ fn perform_by<E: Engine, R: Source, W: Sink>(
     requires readable { R.has_failed source.old ≡ false }
     requires writable { W.has_failed sink.old ≡ false }
     ensures replies { Performs command (R.remaining source.old) (R.has_failed source.new)
-        (W.contents sink.old) (W.contents sink.new) (W.has_failed sink.new) result.status }
+        (W.contents sink.old) (W.contents sink.new) (W.has_failed sink.new) result.status
+        (stats_of result.reply) }
     ensures taken { (bytes : List ℕ)
         × Consumes (R.remaining source.old) (R.remaining source.new) bytes
         × (length bytes ≤ MAX_INPUT + 1) }
@@ -193,7 +269,8 @@ pub fn perform<R: Source, W: Sink>(
     requires readable { R.has_failed source.old ≡ false }
     requires writable { W.has_failed sink.old ≡ false }
     ensures replies { Performs command (R.remaining source.old) (R.has_failed source.new)
-        (W.contents sink.old) (W.contents sink.new) (W.has_failed sink.new) result.status }
+        (W.contents sink.old) (W.contents sink.new) (W.has_failed sink.new) result.status
+        (stats_of result.reply) }
     ensures taken { (bytes : List ℕ)
         × Consumes (R.remaining source.old) (R.remaining source.new) bytes
         × (length bytes ≤ MAX_INPUT + 1) }
@@ -213,7 +290,8 @@ pub fn perform_threads<T: Threads + Wait + Sync, R: Source, W: Sink>(
     requires readable { R.has_failed source.old ≡ false }
     requires writable { W.has_failed sink.old ≡ false }
     ensures replies { Performs command (R.remaining source.old) (R.has_failed source.new)
-        (W.contents sink.old) (W.contents sink.new) (W.has_failed sink.new) result.status }
+        (W.contents sink.old) (W.contents sink.new) (W.has_failed sink.new) result.status
+        (stats_of result.reply) }
     ensures taken { (bytes : List ℕ)
         × Consumes (R.remaining source.old) (R.remaining source.new) bytes
         × (length bytes ≤ MAX_INPUT + 1) }
@@ -234,7 +312,8 @@ fn perform_file<T: Threads + Wait + Sync, R: Source, W: Sink>(
     requires readable { R.has_failed source.old ≡ false }
     requires writable { W.has_failed sink.old ≡ false }
     ensures replies { Performs command (R.file source.old name.now) (R.has_failed source.new)
-        (W.contents sink.old) (W.contents sink.new) (W.has_failed sink.new) result.status }
+        (W.contents sink.old) (W.contents sink.new) (W.has_failed sink.new) result.status
+        (stats_of result.reply) }
     ensures reads { R.reads source.new ≤ R.reads source.old + (MAX_INPUT + 1) }
 {
     match source.open(name) {
@@ -265,7 +344,7 @@ pub fn perform_of<T: Threads + Wait + Sync, R: Source, W: Sink>(
     ensures replies { Performs command
         (input_of (R.remaining source.old) (R.file source.old) (option_map (λ s. s.now) file.entry))
         (R.has_failed source.new) (W.contents sink.old) (W.contents sink.new)
-        (W.has_failed sink.new) result.status }
+        (W.has_failed sink.new) result.status (stats_of result.reply) }
     ensures reads { R.reads source.new ≤ R.reads source.old + (MAX_INPUT + 1) }
 {
     match file {

@@ -186,6 +186,7 @@ pub fn reply(alloc: Global, command: Command, text: &str) -> Reply
                 keys,
                 maps,
                 workers: None,
+                ..
             },
         ) => run_file(alloc, &by, keys, maps, text),
         Command::Run(
@@ -194,7 +195,7 @@ pub fn reply(alloc: Global, command: Command, text: &str) -> Reply
                 ..
             },
         ) => unreachable!(),
-        Command::Debug => debug_file(alloc, text),
+        Command::Debug { echo, strict } => debug_file(alloc, echo, strict, text),
         Command::History(HistoryOptions { by, keys, maps }) => {
             run_file_with_history(alloc, &by, keys, maps, text)
         }
@@ -220,9 +221,10 @@ pub fn reply_by_workers<T: Threads + Wait + Sync>(
                 keys,
                 maps,
                 workers: Some(workers),
+                stats,
                 ..
             },
-        ) => run_file_by_workers(rt, alloc, workers, keys, maps, text),
+        ) => run_file_by_workers(rt, alloc, workers, stats, keys, maps, text),
         command => reply(alloc, command, text),
     }
 }

@@ -1,6 +1,6 @@
 //! The whole program: from its words, a source and a sink to its exit status.
 
-ghost use Rattle.std.specs.Prelude.{◌≡◌, ◌≢◌, ◌≤◌, ◌⊎◌, false, map, option_map, string_bytes, IfErr, IfOk, IsErr, IsOkAnd};
+ghost use Rattle.std.specs.Prelude.{◌≡◌, ◌≢◌, ◌≤◌, ◌⊎◌, [], false, map, option_map, string_bytes, IfErr, IfOk, IsErr, IsOkAnd};
 ghost use Rattle.clap.specs.Words.{kind_of};
 ghost use Rattle.clap.specs.declared.error.kind.ErrorKind.TheVariants as kind;
 ghost use Rattle.bpf_command.specs.Names.{Refuses};
@@ -34,6 +34,8 @@ pub enum Misuse {
     Schedule,
     /// Options stand there of which one rules out the other, as a schedule and workers.
     TwoWays,
+    /// What is counted of a run by workers is asked for without workers.
+    Workers,
     /// What is asked of a run stands without `--run`, or the listing beside it.
     Run,
 }
@@ -45,6 +47,7 @@ impl Misuse {
             Misuse::Code => NO_CODE,
             Misuse::Schedule => NO_SCHEDULE,
             Misuse::TwoWays => TWO_WAYS,
+            Misuse::Workers => NO_WORKERS,
             Misuse::Run => NO_RUN,
         }
     }
@@ -55,7 +58,9 @@ impl Misuse {
 pub enum Ending {
     /// To exit with this status.
     Exit(Status),
-    /// The same, and to explain what came of the command on standard error.
+    /// The same, once what is told beside a command's answer is on standard error.
+    Performed(Performed),
+    /// The same, and to explain what came of the command there.
     Explained(Question, Performed),
     /// To show what `clap` says: a fault of the words, help or the version.
     Shown(clap::Error),
@@ -80,6 +85,11 @@ const TWO_WAYS: &str = "\
 
 For more information, try 'ebpf run --help'.";
 
+const NO_WORKERS: &str = "\
+'--stats' goes beside '--workers' alone
+
+For more information, try 'ebpf run --help'.";
+
 const NO_RUN: &str = "\
 '--budget' and '--ctx' go beside '--run' alone, and '--listing' doesn't
 
@@ -100,10 +110,10 @@ fn perform_for<T: Threads + Wait + Sync, R: Source, W: Sink>(
 ) -> Ending
     requires readable { R.has_failed source.old ≡ false }
     requires writable { W.has_failed sink.old ≡ false }
-    ensures performed { IfExit result (λ status. Performs command
+    ensures performed { IfExit result (λ status stats. Performs command
         (input_of (R.remaining source.old) (R.file source.old) (option_map string_bytes file))
         (R.has_failed source.new) (W.contents sink.old) (W.contents sink.new)
-        (W.has_failed sink.new) status) }
+        (W.has_failed sink.new) status stats) }
     ensures shown { IfShown result (λ e. ⊥) }
     ensures text { IfNotText result ⊥ }
     ensures misused { IfMisused result (λ _. ⊥) }
@@ -117,7 +127,7 @@ fn perform_for<T: Threads + Wait + Sync, R: Source, W: Sink>(
     let done = perform_of(rt, alloc, command, name, source, sink);
     match subject {
         Some(subject) => Ending::Explained(Question { subject, file }, done),
-        None => Ending::Exit(done.status),
+        None => Ending::Performed(done),
     }
 }
 
@@ -131,12 +141,12 @@ fn follow<T: Threads + Wait + Sync, R: Source, W: Sink>(
 ) -> Ending
     requires readable { R.has_failed source.old ≡ false }
     requires writable { W.has_failed sink.old ≡ false }
-    ensures performed { IfExit result (λ status. IfOk asked (λ request.
+    ensures performed { IfExit result (λ status stats. IfOk asked (λ request.
         Follows request (source.new ≡ source.old) (R.remaining source.old) (R.file source.old)
         (R.has_failed source.new) (W.contents sink.old) (W.contents sink.new)
-        (W.has_failed sink.new) status)) }
-    ensures refused { IfExit result (λ status. IfErr asked (λ e. (source.new ≡ source.old)
-        × ((r : Refusal) × IsPrintedAs e r × Prints (Reply.Refused r)
+        (W.has_failed sink.new) status stats)) }
+    ensures refused { IfExit result (λ status stats. IfErr asked (λ e. (source.new ≡ source.old)
+        × (stats ≡ []) × ((r : Refusal) × IsPrintedAs e r × Prints (Reply.Refused r)
         (W.contents sink.old) (W.contents sink.new) (W.has_failed sink.new) status))) }
     ensures shown { IfShown result (λ e. (asked ≡ Err (CommandError.Shown e))
         × (source.new ≡ source.old) × (sink.new ≡ sink.old)) }
@@ -159,6 +169,7 @@ fn follow<T: Threads + Wait + Sync, R: Source, W: Sink>(
         Err(CommandError::NoCode) => return Ending::Misused(Misuse::Code),
         Err(CommandError::NoSchedule) => return Ending::Misused(Misuse::Schedule),
         Err(CommandError::TwoWays) => return Ending::Misused(Misuse::TwoWays),
+        Err(CommandError::NoWorkers) => return Ending::Misused(Misuse::Workers),
         Err(CommandError::NoRun) => return Ending::Misused(Misuse::Run),
         Err(CommandError::NotHex) => Refusal::Hex(HexError::NotHex),
         Err(CommandError::OutOfMemory) => Refusal::OutOfMemory,
@@ -177,17 +188,17 @@ pub fn program<T: Threads + Wait + Sync, R: Source, W: Sink>(
 ) -> Ending
     requires readable { R.has_failed source.old ≡ false }
     requires writable { W.has_failed sink.old ≡ false }
-    ensures followed { IfExit result (λ status. IfOk words (λ words.
+    ensures followed { IfExit result (λ status stats. IfOk words (λ words.
         ((request : Request) × IsAsked (map string_bytes words.items) request
         × Follows request (source.new ≡ source.old) (R.remaining source.old) (R.file source.old)
         (R.has_failed source.new) (W.contents sink.old) (W.contents sink.new)
-        (W.has_failed sink.new) status)
+        (W.has_failed sink.new) status stats)
         ⊎ ((e : CommandError) × Refuses (map string_bytes words.items) e
-        × (source.new ≡ source.old) × ((r : Refusal) × IsPrintedAs e r
+        × (source.new ≡ source.old) × (stats ≡ []) × ((r : Refusal) × IsPrintedAs e r
         × Prints (Reply.Refused r) (W.contents sink.old) (W.contents sink.new)
         (W.has_failed sink.new) status)))) }
-    ensures memory { IfExit result (λ status. IfErr words (λ _. (source.new ≡ source.old)
-        × Prints (Reply.Refused Refusal.OutOfMemory) (W.contents sink.old)
+    ensures memory { IfExit result (λ status stats. IfErr words (λ _. (source.new ≡ source.old)
+        × (stats ≡ []) × Prints (Reply.Refused Refusal.OutOfMemory) (W.contents sink.old)
         (W.contents sink.new) (W.has_failed sink.new) status)) }
     ensures shown { IfShown result (λ e. IsOkAnd words (λ words.
         Refuses (map string_bytes words.items) (CommandError.Shown e))
@@ -235,6 +246,16 @@ fn exit<P: Eprint>(rt: &P, status: Status) -> u8
     status.code()
 }
 
+/// Tells what workers came to at the maps, where that is asked for and the answer could be printed.
+fn tell_stats<P: Eprint>(rt: &P, done: &Performed) {
+    if done.status == Status::Failed {
+        return;
+    }
+    if let Reply::Counted { stats, .. } = &done.reply {
+        let _ = eprint!(rt; "{}", stats.as_str());
+    }
+}
+
 /// Does what is left to do, and gives the exit status as a number. `failure` is why the input
 /// couldn't be read, if it couldn't.
 pub fn end<P: Print + Eprint>(
@@ -243,7 +264,7 @@ pub fn end<P: Print + Eprint>(
     ending: Ending,
     failure: Option<&io::Error>,
 ) -> u8
-    ensures exit { IfExit ending (λ status. result ≡ exit_status status) }
+    ensures exit { IfExit ending (λ status stats. result ≡ exit_status status) }
     ensures fault { IfShown ending (λ e. kind_of e ≢ kind.DisplayHelp
         → kind_of e ≢ kind.DisplayVersion → result ≡ USAGE) }
     ensures help { IfShown ending (λ e. kind_of e ≡ kind.DisplayHelp → result ≤ 1) }
@@ -253,7 +274,12 @@ pub fn end<P: Print + Eprint>(
 {
     match ending {
         Ending::Exit(status) => exit(rt, status),
+        Ending::Performed(done) => {
+            tell_stats(rt, &done);
+            exit(rt, done.status)
+        }
         Ending::Explained(question, done) => {
+            tell_stats(rt, &done);
             explain(rt, alloc, &question, &done, failure);
             exit(rt, done.status)
         }

@@ -46,9 +46,24 @@ pub enum Reply {
     /// The lines of jobs, and whether one of them ended in a fault or out of budget; or those of
     /// tests of them, and whether one isn't ok.
     Jobs(String, bool),
-    /// What the lines of a script are answered, and whether some job ended in a fault or out of
-    /// budget.
-    Script(Vec<Answer>, bool),
+    /// The lines of jobs that workers ran.
+    Counted {
+        text: String,
+        /// Whether one of the jobs ended in a fault or out of budget.
+        stopped: bool,
+        /// What workers came to at the maps, a line a map, where that is asked for.
+        stats: String,
+    },
+    /// What the lines of a script are answered.
+    Script {
+        answers: Vec<Answer>,
+        /// The lines, where each is printed before its answer.
+        lines: Option<Vec<u8>>,
+        /// Whether some job ended in a fault or out of budget.
+        stopped: bool,
+        /// Whether a command is refused, where that is asked for.
+        refused: bool,
+    },
     /// The lines of outcomes, or of tests of them.
     Outcomes {
         text: String,
@@ -75,8 +90,14 @@ impl Reply {
     {
         match self {
             Reply::Ended(Outcome::Exit(_)) | Reply::Text(_) => Status::Done,
-            Reply::Jobs(_, false) | Reply::Script(_, false) => Status::Done,
-            Reply::Ended(_) | Reply::Jobs(_, true) | Reply::Script(_, true) => Status::Stopped,
+            Reply::Script { refused: true, .. } => Status::Refused,
+            Reply::Jobs(_, false)
+            | Reply::Counted { stopped: false, .. }
+            | Reply::Script { stopped: false, .. } => Status::Done,
+            Reply::Ended(_)
+            | Reply::Jobs(_, true)
+            | Reply::Counted { .. }
+            | Reply::Script { .. } => Status::Stopped,
             Reply::Outcomes { all: false, .. } => Status::Incomplete,
             Reply::Outcomes { stopped: true, .. } => Status::Stopped,
             Reply::Outcomes { .. } => Status::Done,

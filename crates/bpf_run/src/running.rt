@@ -13,7 +13,7 @@ use bpf_check::{Judged, check_printed};
 use bpf_events::run_with_history;
 use bpf_file::{FileError, RunFile, read_file};
 use bpf_jobs::{Report, run_jobs_by};
-use bpf_workers::{WorkError, run_by_workers};
+use bpf_workers::{Counted, WorkError, run_counted};
 use std::alloc::Global;
 use std::sync::Wait;
 use std::thread::Threads;
@@ -110,24 +110,34 @@ pub fn run_file_with_history(
     }
 }
 
-/// `ebpf run --workers`.
+/// `ebpf run --workers`, and what workers came to at the maps, where that is asked for.
 pub fn run_file_by_workers<T: Threads + Wait + Sync>(
     rt: &T,
     alloc: Global,
     workers: u8,
+    stats: bool,
     keys: bool,
     maps: bool,
     text: &str,
 ) -> Reply
     requires { AreWorkers workers }
-    ensures { IsRunByWorkers keys maps text.now result }
+    ensures { IsRunByWorkers stats keys maps text.now result }
 {
     let file = match file_in(alloc, text) {
         Ok(file) => file,
         Err(reason) => return Reply::Refused(reason),
     };
-    match run_by_workers(rt, alloc, file, workers, keys, maps) {
-        Ok(Report { text, stopped }) => Reply::Jobs(text, stopped),
+    match run_counted(rt, alloc, file, workers, keys, maps, stats) {
+        Ok(
+            Counted {
+                report: Report { text, stopped },
+                stats,
+            },
+        ) => Reply::Counted {
+            text,
+            stopped,
+            stats,
+        },
         Err(WorkError::Jobs) => Reply::Refused(Refusal::JobsOutOfMemory),
         Err(WorkError::OutOfMemory) => Reply::Refused(Refusal::OutOfMemory),
     }

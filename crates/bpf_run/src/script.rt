@@ -1,6 +1,7 @@
 //! `ebpf debug`: a run file, and commands behind it.
 
-ghost use Rattle.std.specs.Prelude.{◌≡◌, ◌<◌, ◌≤◌, All, IfOk, IsOkUnless, Some, [], map, string_bytes, vec_len};
+ghost use Rattle.std.specs.Prelude.{◌≡◌, ◌&&◌, ◌<◌, ◌≤◌, All, IfOk, IsOkUnless, Some, [], is_err, map, string_bytes, vec_len};
+ghost use Rattle.std.specs.List.{list_any};
 ghost use Rattle.std.specs.Option.{option_copied};
 ghost use Rattle.bpf_lines.specs.Lines.{lines_behind};
 ghost use Rattle.bpf_mem.specs.Limits.{max_context};
@@ -8,12 +9,13 @@ ghost use Rattle.bpf_cpu.specs.Task.{waiting};
 ghost use Rattle.bpf_machine.specs.Machine.{Shows};
 ghost use Rattle.bpf_jobs.specs.Printed.{first_world};
 ghost use Rattle.bpf_file.specs.Runnable.{IsRunnable};
-ghost use Rattle.bpf_run.specs.Script.{IsDebugReply, IsCut, IsScriptOfFile, ends_file};
+ghost use Rattle.bpf_debug.specs.Script.{answer_of};
+ghost use Rattle.bpf_run.specs.Script.{AreShown, IsDebugReply, IsCut, IsScriptOfFile, any_refused, ends_file};
 
 use crate::refusal::Refusal;
 use crate::reply::Reply;
 use bpf_cpu::Job;
-use bpf_debug::{Session, run_script};
+use bpf_debug::{Answer, Session, run_script};
 use bpf_explore::copy_shape;
 use bpf_file::{FileError, RunFile, read_file};
 use bpf_jobs::{has_any_stopped, make_machine};
@@ -67,14 +69,14 @@ fn cut<'a>(alloc: Global, input: &'a [u8]) -> Result<Parts<'a>, AllocError>
 }
 
 /// What `debug` replies to an input.
-pub fn debug_file(alloc: Global, input: &str) -> Reply
-    ensures { IsScriptOfFile input.now result }
+pub fn debug_file(alloc: Global, echo: bool, strict: bool, input: &str) -> Reply
+    ensures { IsScriptOfFile echo strict input.now result }
 {
     let Ok(parts) = cut(alloc, input.as_bytes()) else {
         return Reply::Refused(Refusal::OutOfMemory);
     };
     match read_file(alloc, parts.file) {
-        Ok(file) => debug(alloc, file, parts.commands),
+        Ok(file) => debug(alloc, echo, strict, file, parts.commands),
         Err(FileError::Refused(line, reason)) => Reply::Refused(Refusal::File(line, reason)),
         Err(FileError::OutOfMemory) => Reply::Refused(Refusal::OutOfMemory),
     }
@@ -105,10 +107,45 @@ fn make_session(
     Ok(session)
 }
 
+/// Whether a command is refused.
+fn is_any_refused(answers: &[Answer]) -> bool
+    ensures { result ≡ list_any is_err answers.now }
+{
+    answers.iter().any(|answer| answer.is_err())
+}
+
+/// Whether a command is refused, where that is asked for.
+#[tactic(auto, using(crate::proofs::ScriptReplies::refused_alike))]
+fn is_refused(strict: bool, answers: &[Answer]) -> bool
+    ensures { result ≡ (strict && any_refused (map answer_of answers.now)) }
+{
+    strict && is_any_refused(answers)
+}
+
+/// The lines of commands, where they are to be printed.
+fn shown_lines(
+    alloc: Global,
+    echo: bool,
+    commands: Option<&[u8]>,
+) -> Result<Option<Vec<u8>>, AllocError>
+    ensures { IfOk result (AreShown echo (lines_behind (option_copied commands.entry))) }
+{
+    match commands {
+        Some(text) if echo => Ok(Some(Vec::from_slice(alloc, text)?)),
+        _ => Ok(None),
+    }
+}
+
 /// What commands are answered over the machine of a run file.
-fn debug(alloc: Global, file: RunFile, commands: Option<&[u8]>) -> Reply
+fn debug(
+    alloc: Global,
+    echo: bool,
+    strict: bool,
+    file: RunFile,
+    commands: Option<&[u8]>,
+) -> Reply
     requires { IsRunnable file }
-    ensures { IsDebugReply file (lines_behind (option_copied commands.entry)) result }
+    ensures { IsDebugReply echo strict file (lines_behind (option_copied commands.entry)) result }
 {
     let RunFile {
         shape,
@@ -120,8 +157,19 @@ fn debug(alloc: Global, file: RunFile, commands: Option<&[u8]>) -> Reply
     let Ok(mut session) = make_session(alloc, shape, names, programs, jobs) else {
         return Reply::Refused(Refusal::OutOfMemory);
     };
+    let Ok(lines) = shown_lines(alloc, echo, commands) else {
+        return Reply::Refused(Refusal::OutOfMemory);
+    };
     match run_script(alloc, &mut session, commands) {
-        Ok(answers) => Reply::Script(answers, has_any_stopped(session.machine())),
+        Ok(answers) => {
+            let refused = is_refused(strict, &answers);
+            Reply::Script {
+                answers,
+                lines,
+                stopped: has_any_stopped(session.machine()),
+                refused,
+            }
+        }
         Err(_) => Reply::Refused(Refusal::OutOfMemory),
     }
 }

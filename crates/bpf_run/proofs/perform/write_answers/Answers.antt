@@ -1,36 +1,40 @@
-use Rattle.std.proofs.Common.{◌≡◌, List, ℕ, take, inr, refl, sym, subst, ◌∙◌}
-use Rattle.std.specs.Io.KnownBytes.{Appends}
-use Rattle.bpf_debug.specs.Script.{answer_of, answer_text}
-use Rattle.bpf_run.proofs.KnownBytes.{appended}
-use Rattle.bpf_run.proofs.WrittenAnswers.{beginning, one_more, on_err, on_ok, written}
+use Rattle.std.proofs.Common.{◌+◌, map, inr, refl}
+use Rattle.std.specs.Option.{option_copied}
+use Rattle.bpf_lines.specs.Lines.{lines_behind}
+use Rattle.bpf_debug.specs.Script.{answer_of}
+use Rattle.bpf_run.specs.Answer.{first_shown, other_lines, shown_text}
+use Rattle.bpf_run.proofs.WrittenAnswers.{answers_left, next_answer, wrote_more, wrote_some}
 use Rattle.bpf_run.proofs.perform.write_answers.Goals as goal
 
-pub returns-then-is_err : goal.returns-then-is_err
-returns-then-is_err g c =
+pub returns-in_default : goal.returns-in_default
+returns-in_default g c =
     let old = g.W.Sink.contents c.args.sink.now in
     let mid = g.W.Sink.contents c.loop-answer.sink in
-    let new = g.W.Sink.contents c.write_whole.new.sink in
+    let new = g.W.Sink.contents c.write_next.new.sink in
+    let all = shown_text (lines_behind (option_copied c.args.lines)) (map answer_of c.args.answers.now) in
+    let lines = lines_behind (option_copied c.loop-answer.rest) in
     let answers = c.args.answers.now in
     let i = c.loop-answer.answer-index in
-    let text = answer_text (answer_of c.answer-item.result) in
-    let bytes : c.as_bytes.result.now ≡ text = c.as_bytes.ensures.value ∙ c.answer_text.ensures in
-    let P : List ℕ → Type 0 = λ bs. (k : ℕ) × Appends mid new (take k bs) in
-    let begun = subst P bytes (on_err c.write_whole.result (P c.as_bytes.result.now) c.if-is_err.ensures.value c.write_whole.ensures.begun) in
-    let all = beginning answers i begun.0 c.answer-item.result c.loop-answer-test.true c.answer-item.is in
-    let joined = appended old mid new (written answers i) (take begun.0 text) c.loop-answer.invariant.0 begun.1 in
-    inr (all.0, subst (Appends old new) all.1 joined, c.write_whole.ensures.told ∙ sym c.if-is_err.ensures.value, refl)
+    let a = c.answer-item.result in
+    let next = next_answer lines answers i a c.loop-answer-test.true c.answer-item.is in
+    let begun = wrote_some old mid new all (answers_left lines answers i) (first_shown lines (answer_of a)) (answers_left (other_lines lines) answers (i + 1))
+    c.loop-answer.invariant.wrote next c.in_default.ensures.begun in
+    inr (begun.0, begun.1, c.in_default.ensures.told, refl)
 
 pub loop-answer-preserved : goal.loop-answer-preserved
 loop-answer-preserved g c =
     let old = g.W.Sink.contents c.args.sink.now in
     let mid = g.W.Sink.contents c.loop-answer.sink in
-    let new = g.W.Sink.contents c.write_whole.new.sink in
+    let new = g.W.Sink.contents c.write_next.new.sink in
+    let all = shown_text (lines_behind (option_copied c.args.lines)) (map answer_of c.args.answers.now) in
+    let lines = lines_behind (option_copied c.loop-answer.rest) in
     let answers = c.args.answers.now in
     let i = c.loop-answer.answer-index in
-    let text = answer_text (answer_of c.answer-item.result) in
-    let bytes : c.as_bytes.result.now ≡ text = c.as_bytes.ensures.value ∙ c.answer_text.ensures in
-    let put = subst (Appends mid new) bytes (on_ok c.write_whole.result (Appends mid new c.as_bytes.result.now) c.if-is_err.ensures.value c.write_whole.ensures.written) in
-    let joined = appended old mid new (written answers i) text c.loop-answer.invariant.0 put in (
-      subst (Appends old new) (one_more answers i c.answer-item.result c.loop-answer-test.true c.answer-item.is) joined,
-      c.write_whole.ensures.told ∙ sym c.if-is_err.ensures.value,
-    )
+    let a = c.answer-item.result in
+    let next = next_answer lines answers i a c.loop-answer-test.true c.answer-item.is in
+    let more = wrote_more old mid new all (answers_left lines answers i) (first_shown lines (answer_of a)) (answers_left (other_lines lines) answers (i + 1))
+    c.loop-answer.invariant.wrote next c.in-Ok.ensures.written in
+    record {
+      wrote = rw c.in-Ok.ensures.behind more;
+      works = c.in-Ok.ensures.told;
+    }

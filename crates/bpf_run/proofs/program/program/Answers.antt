@@ -1,4 +1,4 @@
-use Rattle.std.proofs.Common.{◌≡◌, string_bytes}
+use Rattle.std.proofs.Common.{◌≡◌, ℕ, List, string_bytes}
 use Rattle.bpf_command.specs.declared.command.Request.{Request}
 use Rattle.bpf_command.specs.declared.command_line.CommandError.{CommandError}
 use Rattle.bpf_run.specs.Answer.{Prints}
@@ -16,7 +16,7 @@ returns-in-Ok-clause-followed g c =
     let before = g.W.Sink.contents c.args.sink.now in
     let after = g.W.Sink.contents c.follow.new.sink in
     let lost = g.W.Sink.has_failed c.follow.new.sink in
-    let P : Request → Status → Type 0 = λ request status. Follows request (new ≡ old) (g.R.Source.remaining old) (g.R.Source.file old) (g.R.Source.has_failed new) before after lost status in
+    let P : Request → Status → List ℕ → Type 0 = λ request status stats. Follows request (new ≡ old) (g.R.Source.remaining old) (g.R.Source.file old) (g.R.Source.has_failed new) before after lost status stats in
     let R : CommandError → Status → Type 0 = λ e status. (r : Refusal) × IsPrintedAs e r × Prints (reply.Refused r) before after lost status in
     followed _ _ _ string_bytes (λ v. v.items) c.args.words c.in-Ok.words c.in-Ok.is c.deref.result.now c.deref.ensures.value c.request_of.result c.follow.result
     P (new ≡ old) R c.request_of.ensures.accepted c.request_of.ensures.asked c.request_of.ensures.refused c.follow.ensures.performed c.follow.ensures.refused

@@ -10,4 +10,4 @@ returns-in-Ok-read_file c =
     let parts = c.in-Ok.parts in
     let commands = lines_behind (option_copied parts.commands) in
     let C : List ℕ → Type 0 = λ input. IsCut input parts.file.now commands in
-    of_file c.args.input.now parts.file.now commands c.in-Ok-read_file.file c.debug.result (subst C c.as_bytes.ensures.value c.in-Ok.ensures) c.in-Ok-read_file.ensures.said c.debug.ensures
+    of_file c.args.echo c.args.strict c.args.input.now parts.file.now commands c.in-Ok-read_file.file c.debug.result (subst C c.as_bytes.ensures.value c.in-Ok.ensures) c.in-Ok-read_file.ensures.said c.debug.ensures
