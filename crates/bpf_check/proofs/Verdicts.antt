@@ -1,9 +1,9 @@
 -- Verdicts by answers are true.
-use Rattle.std.proofs.Common.{◌≡◌, ℕ, zero, suc, ◌+◌, Bool, true, false, not, cond, List, [], ◌∷◌, Option, Some, None, refl, sym, ap, subst, arith}
+use Rattle.std.proofs.Common.{◌≡◌, ℕ, zero, suc, ◌+◌, Bool, true, false, not, cond, List, [], ◌∷◌, Option, Some, None, refl, sym, subst, arith}
 use Rattle.std.specs.Prelude.{slice_get}
 use Rattle.std.specs.List.{position, position_from}
 use Rattle.std.proofs.lemmas.Iterator.Adapters.{position_from-zero}
-use Rattle.bpf_machine.specs.Schedule.{World, unrolled}
+use Rattle.bpf_machine.specs.Schedule.{unrolled}
 use Rattle.bpf_explore.specs.Outcomes.{EndsBy, Found}
 use Rattle.bpf_explore.specs.Patient.{EndsPatiently}
 use Rattle.bpf_check.specs.declared.expectation.Often.{Often}

@@ -61,6 +61,28 @@ tests_text answers (suc n) expected verdicts =
     ++ test_text answers (n + 1) (slice_index_or expected n no_expectation)
     (slice_index_or verdicts n verdict.Untold)
 
+-- ---- among the tests of several files
+
+-- how a test of this number begins, of a file that has this name
+abbrev pub named_head : (name : List ℕ) → ℕ → Verdict → List ℕ
+named_head name n v = ok_text v ++ number_text n ++ name ++ codes ": "
+
+-- a test of this number, behind so many of the files before it
+abbrev pub named_test : (name : List ℕ) → (before : ℕ) → List Found → ℕ → Expected → Verdict → List ℕ
+named_test name before answers n e v =
+    named_head name (before + n) v ++ expected_text e ++ codes "\n" ++ reason_text answers v
+
+-- the first n of them
+abbrev pub named_tests : (name : List ℕ) → (before : ℕ) → List Found → ℕ → List Expected
+    → List Verdict → List ℕ
+named_tests name before answers zero expected verdicts = []
+named_tests name before answers (suc n) expected verdicts =
+    named_tests name before answers n expected verdicts
+    ++ named_test name before answers (n + 1) (slice_index_or expected n no_expectation)
+    (slice_index_or verdicts n verdict.Untold)
+
+-- ---- all of one file
+
 -- how many tests there are
 abbrev pub plan_text : ℕ → List ℕ
 plan_text count = codes "1.." ++ (decimal count ++ codes "\n")

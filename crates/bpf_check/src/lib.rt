@@ -9,8 +9,8 @@ mod lines;
 mod listing;
 mod single;
 
-pub use checking::{Checked, check_explored};
+pub use checking::{Checked, CheckedPart, check_explored, check_named};
 pub use expectation::{Expectation, Often, expectations};
 pub use judging::{Conclusion, Verdict, conclusion_of, judge};
-pub use listing::list_checked;
+pub use listing::{list_checked, list_named, plan};
 pub use single::{Judged, check_printed};

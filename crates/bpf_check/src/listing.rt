@@ -1,7 +1,7 @@
 //! Verdicts as they are printed, in the form of TAP.
 
-ghost use Rattle.std.specs.Prelude.{◌≡◌, ◌<◌, ◌++◌, IfOk, OnOk, Some, length, map, string_bytes};
-ghost use Rattle.bpf_check.specs.Listing.{checked_text, expected_text, is_line_byte, number_text, ok_text, plan_text, reason_text, schedule_text, shown_byte, test_text};
+ghost use Rattle.std.specs.Prelude.{◌≡◌, ◌<◌, ◌+◌, ◌^◌, ◌++◌, IfOk, OnOk, Some, length, map, string_bytes};
+ghost use Rattle.bpf_check.specs.Listing.{checked_text, expected_text, is_line_byte, named_head, named_test, named_tests, number_text, ok_text, plan_text, reason_text, schedule_text, shown_byte, test_text};
 
 use crate::expectation::Expectation;
 use crate::judging::Verdict;
@@ -114,11 +114,82 @@ fn push_test(
     push_reason(alloc, text, answers, verdict)
 }
 
+/// Puts behind the text how a test of a file among several begins.
+fn push_named_head(
+    alloc: Global,
+    text: &mut String,
+    name: &str,
+    number: usize,
+    verdict: Verdict,
+) -> Result<(), AllocError>
+    ensures { OnOk result (string_bytes text.new
+        ≡ string_bytes text.old ++ named_head name.now number verdict) }
+{
+    text.push_str(ok_text(verdict))?;
+    push_number(alloc, text, number)?;
+    text.push_str(name)?;
+    text.push_str(": ")
+}
+
+/// Puts a test of a file among several behind the text: its number, and the name of the file.
+fn push_named_test(
+    alloc: Global,
+    text: &mut String,
+    name: &str,
+    answers: &[Answer],
+    before: usize,
+    number: usize,
+    expectation: &Expectation,
+    verdict: Verdict,
+) -> Result<(), AllocError>
+    requires { before + number < 2 ^ 64 }
+    ensures { OnOk result (string_bytes text.new ≡ string_bytes text.old
+        ++ named_test name.now before answers.now number expectation.now verdict) }
+{
+    push_named_head(alloc, text, name, before + number, verdict)?;
+    push_expected(text, expectation)?;
+    text.push_str("\n")?;
+    push_reason(alloc, text, answers, verdict)
+}
+
 /// The line that says how many tests there are.
-pub(crate) fn plan(alloc: Global, count: usize) -> Result<String, AllocError>
+pub fn plan(alloc: Global, count: usize) -> Result<String, AllocError>
     ensures { IfOk result (λ text. string_bytes text ≡ plan_text count) }
 {
     format!(in alloc; "1..{count}\n")
+}
+
+/// The text of all tests of a file among several: their numbers go on behind those of the files before
+/// it, and each names its file.
+pub fn list_named(
+    alloc: Global,
+    name: &str,
+    before: usize,
+    answers: &[Answer],
+    expectations: &[Expectation],
+    verdicts: &[Verdict],
+) -> Result<String, AllocError>
+    requires same { length verdicts.now ≡ length expectations.now }
+    requires room { before + length expectations.now < 2 ^ 64 }
+    ensures { IfOk result (λ text. string_bytes text ≡ named_tests name.now before answers.now
+        (length expectations.now) expectations.now verdicts.now) }
+{
+    let mut text = String::new(alloc);
+    for place in 0..expectations.len() {
+        let expectation = &expectations[place];
+        let number = place + 1;
+        push_named_test(
+            alloc,
+            &mut text,
+            name,
+            answers,
+            before,
+            number,
+            expectation,
+            verdicts[place],
+        )?;
+    }
+    Ok(text)
 }
 
 /// The text of all tests: an expectation a test, each with its verdict by these answers.

@@ -1,4 +1,5 @@
 pub mod OptionRows
+pub mod GivenTexts
 pub mod Walks
 pub mod Subcommands
 pub mod Ranges

@@ -7,7 +7,7 @@ use Rattle.clap.specs.Faults.{level_fault}
 use Rattle.clap.specs.Walk.{with_default, values_or_missing, Held, Row, Rule, Text, answers_to, finished, has_row, nothing_held, rows_after, settled, walk}
 use Rattle.clap.specs.Words.{fault_of, subcommand_of}
 use Rattle.bpf_command.specs.declared.command.TheConstants.{MAX_LIMIT}
-use Rattle.bpf_command.specs.CommandLine.{HasLimit, IsSearchName, check, ebpf, explained, explore, file, limit, patient, show}
+use Rattle.bpf_command.specs.CommandLine.{HasLimit, IsSearchName, check, ebpf, explained, explore, file, files, limit, patient, show}
 use Rattle.bpf_command.proofs.Limited.{limited_keeps, with_limited}
 use Rattle.bpf_command.proofs.Ranges as range
 use Rattle.bpf_command.proofs.Ranges.{no_default}
@@ -49,6 +49,10 @@ file_keeps : Keeps AreFine false (filled file)
 file_keeps values rows e fine =
     range.other_used_fine (codes "limit") 0 MAX_LIMIT (codes "file") (values_or_missing (filled file) values) rows refl fine
 
+files_keep : Keeps AreFine false (filled files)
+files_keep values rows e fine =
+    range.more_used_fine (codes "limit") 0 MAX_LIMIT (codes "file") (values_or_missing (filled files) values) rows refl fine
+
 explained_keeps : Keeps AreFine false (filled explained)
 explained_keeps values rows e fine =
     range.other_used_fine (codes "limit") 0 MAX_LIMIT (codes "explain") (values_or_missing (filled explained) values) rows refl fine
@@ -59,7 +63,7 @@ explore_keeps =
 
 check_keeps : range.AllKeep (codes "limit") 0 MAX_LIMIT check_rules
 check_keeps =
-    (explained_keeps, (patient_keeps, (limit_keeps, (file_keeps, ((λ values rows e fine. fine), tt)))))
+    (explained_keeps, (patient_keeps, (limit_keeps, (files_keep, ((λ values rows e fine. fine), tt)))))
 
 -- ---- the rows
 
@@ -91,7 +95,7 @@ finished_check : (h : Held) → AreFine (settled check_rules h).rows → HasLimi
 finished_check h fine =
     let rows = (settled check_rules h).rows in
     let first = with_default (with_default (with_default rows (filled explained)) (filled patient)) (filled limit) in
-    let second = with_default first (filled file) in
+    let second = with_default first (filled files) in
     let same = no_default (has_row (codes "help") second) second ∙ no_default (has_row (codes "file") first) first in
     subst HasLimit (sym same) (limited_fine rows fine)
 

@@ -83,6 +83,12 @@ module _ (id : Text) (low high : ℕ) where
       → AreFine (with_values other AsWritten CommandLine values (without other rows))
   other_used_fine other values rows is fine = used_fine other values rows (λ same. absurd (true≢false (sym same ∙ is))) fine
 
+  -- and one more use, of an option that may have several
+  pub more_used_fine : (other : Text) (values : List Text) (rows : List Row) → bytes_eq other id ≡ false → AreFine rows
+      → AreFine (with_values other AsWritten CommandLine values rows)
+  more_used_fine other values rows is fine =
+      at_row_fine other (more_values CommandLine values) _ rows (more_fine CommandLine values) ((λ same. absurd (true≢false (sym same ∙ is))), tt) fine
+
   pub default_fine : (other : Text) (values : List Text) (rows : List Row) → bytes_eq other id ≡ false → AreFine rows
       → AreFine (cond (has_row other rows) rows (with_values other AsWritten DefaultValue values rows))
   default_fine other values rows is fine =

@@ -1,11 +1,13 @@
 -- The command line of `ebpf`, in clap's terms, and the numbers that its words name. Our own choice.
-use Rattle.std.specs.Prelude.{◌≡◌, ◌⊎◌, ℕ, List, Option, Some, None, IfSome, IsSomeAnd, codes, [], ◌∷◌, Bool, ◌&&◌, ◌||◌, if◌then◌else◌, not, true, false}
+use Rattle.std.specs.Prelude.{◌≡◌, ◌⊎◌, ℕ, List, Option, Some, None, IfSome, IsSomeAnd, codes, [], ◌∷◌, Bool, ◌&&◌, ◌||◌, if◌then◌else◌, length, nat_lt, not, true, false, unwrap_or}
+use Rattle.std.specs.List.{list_any}
+use Rattle.std.specs.Str.{bytes_eq}
 use Rattle.std.specs.Str.Parse.{digits_value, without_leading_plus}
 use Rattle.clap.specs.Simple.{new_shape}
 use Rattle.clap.specs.Takes.{is_given}
 use Rattle.clap.specs.Values.{IsUnsignedIn}
-use Rattle.clap.specs.Words.{App, Row, Rule, Text, new_app, new_rule, one_of, with_rule, with_subcommand}
-use Rattle.clap.specs.declared.builder.action.ArgAction.TheVariants.{SetTrue}
+use Rattle.clap.specs.Words.{App, Row, Rule, Text, all_of, new_app, new_rule, one_of, with_rule, with_subcommand}
+use Rattle.clap.specs.declared.builder.action.ArgAction.TheVariants.{Append, SetTrue}
 use Rattle.clap.specs.declared.builder.value_parser.ValueParser.TheVariants.{Unsigned}
 use Rattle.bpf_command.specs.declared.command.TheConstants.{MAX_LIMIT, MAX_WORKERS}
 use Rattle.bpf_base.specs.declared.budget.TheConstants.{MAX_BUDGET}
@@ -37,6 +39,10 @@ explained = record (new_rule (codes "explain")) {
 -- `FILE`
 abbrev pub file : Rule
 file = record (new_rule (codes "file")) { value_names = 1 }
+
+-- `FILE..`
+abbrev pub files : Rule
+files = record (new_rule (codes "file")) { value_names = 1; action = Some Append }
 
 abbrev pub hex_options : App
 hex_options = with_rule (with_rule (with_rule (new_app (codes "hex")) explained) budget) context
@@ -139,7 +145,7 @@ abbrev pub explore : App
 explore = with_rule (with_rule (searching (codes "explore")) show) file
 
 abbrev pub check : App
-check = with_rule (searching (codes "check")) file
+check = with_rule (searching (codes "check")) files
 
 -- the code that `explain` is asked for
 abbrev pub code_rule : Rule
@@ -277,6 +283,22 @@ wants_turns rows = is_given (codes "by") rows
 abbrev pub do_clash : List Row → Bool
 do_clash rows = (is_given (codes "workers") rows && wants_turns rows)
     || (is_given (codes "events") rows && is_given (codes "check") rows)
+
+-- the texts that an option or an argument is given
+abbrev pub given_texts : Text → List Row → List Text
+given_texts id rows = unwrap_or (all_of id rows) []
+
+-- several files are named
+abbrev pub names_several : List Row → Bool
+names_several rows = nat_lt 1 (length (given_texts (codes "file") rows))
+
+-- standard input is named among the files
+abbrev pub names_input : List Row → Bool
+names_input rows = list_any (λ name. bytes_eq name (codes "-")) (given_texts (codes "file") rows)
+
+-- several files are named, and what goes with one alone: standard input, or to explain
+abbrev pub wants_one : List Row → Bool
+wants_one rows = names_several rows && (names_input rows || is_given (codes "explain") rows)
 
 -- what is counted of a run by workers is asked for without workers
 abbrev pub counts_alone : List Row → Bool

@@ -1,5 +1,5 @@
 -- The command that words name, or why they name none. Our own choice.
-use Rattle.std.specs.Prelude.{◌≡◌, ◌<◌, ◌≤◌, ℕ, List, true, false, Option, Some, None, Ok, IfOk, IsSomeAnd, codes, [], ◌∷◌, cond, if◌then◌else◌, length, option_and_then, option_map, string_bytes}
+use Rattle.std.specs.Prelude.{◌≡◌, ◌<◌, ◌≤◌, ℕ, List, true, false, Option, Some, None, Ok, IfOk, IsSomeAnd, codes, [], ◌∷◌, cond, if◌then◌else◌, length, map, option_and_then, option_map, string_bytes}
 use Rattle.std.specs.Str.{bytes_eq}
 use Rattle.bpf_codes.specs.Code.{code_of}
 use Rattle.bpf_lines.specs.Lines.{fields_of}
@@ -9,7 +9,7 @@ use Rattle.hex.specs.Hex.{decode_of}
 use Rattle.clap.specs.Kinds.{IsAmong}
 use Rattle.clap.specs.Takes.{is_given}
 use Rattle.clap.specs.Words.{Row, Text, fault_of, first_of, kind_of, subcommand_of}
-use Rattle.bpf_command.specs.CommandLine.{NamesBudget, NamesLimit, NamesShown, NamesWorkers, IsRunnerName, counts_alone, do_clash, do_part, ebpf}
+use Rattle.bpf_command.specs.CommandLine.{NamesBudget, NamesLimit, NamesShown, NamesWorkers, IsRunnerName, counts_alone, do_clash, do_part, ebpf, given_texts, names_several, wants_one}
 use Rattle.bpf_command.specs.declared.command.RunOptions.{RunOptions}
 use Rattle.bpf_command.specs.declared.command.SearchOptions.{SearchOptions}
 use Rattle.bpf_command.specs.declared.command.Command.{Command}
@@ -98,18 +98,23 @@ file_named word = cond (bytes_eq word (codes "-")) None (Some word)
 abbrev pub file_in : List Row → Option Text
 file_in rows = option_and_then file_named (first_of (codes "file") rows)
 
--- what is asked for: a command of a file or of standard input, perhaps with `--explain`, or the
--- page of a code
+-- what is asked for: a command of a file or of standard input, perhaps with `--explain`; the check
+-- of several files; or the page of a code
 abbrev pub Asks : Option (Text × List Row) → Request → Type 0
 Asks None _ = ⊥
 Asks (Some found) (request.Perform command file explain) = Names (Some found) command
     × (option_map string_bytes file ≡ file_in found.1)
+    × (found.0 ≡ codes "check" → names_several found.1 ≡ false)
     × (explain ≡ is_given (codes "explain") found.1)
+Asks (Some found) (request.CheckAll search files) = (found.0 ≡ codes "check")
+    × NamesSearch found.1 search
+    × (map string_bytes files.items ≡ given_texts (codes "file") found.1)
+    × (names_several found.1 ≡ true) × (wants_one found.1 ≡ false)
 Asks (Some found) (request.Page code) = (found.0 ≡ codes "explain")
     × (option_and_then code_of (first_of (codes "code") found.1) ≡ Some code)
 
 -- why what `clap` finds can't be done: a context or a schedule that is none, options of which one
--- rules out the other or wants another, or a code that isn't printed
+-- rules out the other or wants another or one file alone, or a code that isn't printed
 abbrev pub RefusesFound : Text × List Row → CommandError → Type 0
 RefusesFound found error.NotHex = IsRunnerName found.0
     × RefusesContext (first_of (codes "ctx") found.1) error.NotHex
@@ -119,6 +124,7 @@ RefusesFound found error.NoSchedule = (found.0 ≡ codes "run") × (do_clash fou
 RefusesFound found error.TwoWays = (found.0 ≡ codes "run") × (do_clash found.1 ≡ true)
 RefusesFound found error.NoWorkers = (found.0 ≡ codes "run") × (do_clash found.1 ≡ false)
     × (counts_alone found.1 ≡ true)
+RefusesFound found error.OneFile = (found.0 ≡ codes "check") × (wants_one found.1 ≡ true)
 RefusesFound found error.NoRun = (found.0 ≡ codes "asm") × (do_part found.1 ≡ true)
 RefusesFound found error.NoCode = (found.0 ≡ codes "explain")
     × (option_and_then code_of (first_of (codes "code") found.1) ≡ None)

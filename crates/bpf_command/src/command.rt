@@ -127,6 +127,11 @@ pub enum Request {
         file: Option<String>,
         explain: bool,
     },
+    /// To check several files, one after the other.
+    CheckAll {
+        search: SearchOptions,
+        files: Vec<String>,
+    },
     /// To print the page of a code.
     Page(Code),
 }

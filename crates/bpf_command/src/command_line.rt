@@ -1,17 +1,18 @@
 //! The command that words name: what `clap` finds in them, and what its options stand for.
 
-ghost use Rattle.std.specs.Prelude.{◌≡◌, ◌<◌, ◌≤◌, [], codes, IfErr, IfOk, IfSome, IsOkUnless, IsSomeAnd, map, OnOk, option_and_then, option_map, Some, string_bytes};
+ghost use Rattle.std.specs.Prelude.{◌≡◌, ◌<◌, ◌≤◌, [], codes, IfErr, IfOk, IfSome, IsOkUnless, IsSomeAnd, map, OnOk, option_and_then, option_map, Some, string_bytes, true};
 ghost use Rattle.bpf_codes.specs.Code.{code_of};
 ghost use Rattle.clap.specs.Kinds.{FailsBy};
 ghost use Rattle.clap.specs.Takes.{is_given};
 ghost use Rattle.clap.specs.Words.{fault_of, first_of, first_value, found_of, rows_of, subcommand_name_of, subcommand_of, subcommand_rows_of};
-ghost use Rattle.bpf_command.specs.CommandLine.{ebpf, counts_alone, do_clash, do_part, HasBudget, HasLimit, HasShown, HasWorkers, IsCommandName, IsRunnerName, IsSearchName, IsWorkName, NamesBudget, NamesLimit, NamesShown, NamesWorkers};
+ghost use Rattle.bpf_command.specs.CommandLine.{ebpf, counts_alone, do_clash, do_part, HasBudget, HasLimit, HasShown, HasWorkers, IsCommandName, IsRunnerName, IsSearchName, IsWorkName, names_several, NamesBudget, NamesLimit, NamesShown, NamesWorkers, wants_one};
 ghost use Rattle.bpf_command.specs.Names.{Asks, AsksBy, file_in, IsContext, IsSchedule, Names, NamesRun, NamesSearch, Refuses, RefusesContext, RefusesFlags, RefusesFound, RefusesSchedule, as_flags, flag_of};
 
 use crate::command::{
     Command, FileOptions, HistoryOptions, JudgeOptions, MAX_LIMIT, MAX_WORKERS, Request,
     RunOptions, SearchOptions, ShowOptions,
 };
+use crate::given::{given_texts, names_input, names_several};
 use crate::options::ebpf_command;
 use bpf_base::MAX_BUDGET;
 use bpf_codes::{Code, code_named};
@@ -37,6 +38,8 @@ pub enum CommandError {
     TwoWays,
     /// What is counted of a run by workers is asked for without workers.
     NoWorkers,
+    /// Several files are named, and what goes with one alone: standard input, or to explain.
+    OneFile,
     /// What is asked of a run stands without `--run`, or the listing beside it.
     NoRun,
     /// The page is asked for of a code that the program doesn't print.
@@ -351,6 +354,30 @@ fn asked_file(alloc: Global, options: &ArgMatches) -> Result<Option<String>, Com
     }
 }
 
+/// Whether several files are named, and what goes with one alone.
+fn wants_one(options: &ArgMatches) -> bool
+    ensures { result ≡ wants_one (rows_of (found_of options.now)) }
+{
+    names_several(options) && (names_input(options) || is_given(options, "explain"))
+}
+
+/// The check of several files.
+fn check_all_of(alloc: Global, options: &ArgMatches) -> Result<Request, CommandError>
+    requires limited { HasLimit (rows_of (found_of options.now)) }
+    requires several { names_several (rows_of (found_of options.now)) ≡ true }
+    ensures asked { IfOk result (Asks (Some (codes "check", rows_of (found_of options.now)))) }
+    ensures refused { IfErr result (RefusesFound (codes "check", rows_of (found_of options.now))) }
+{
+    if wants_one(options) {
+        return Err(CommandError::OneFile);
+    }
+    let files = given_texts(alloc, options, "file")?;
+    Ok(Request::CheckAll {
+        search: search_of(options),
+        files,
+    })
+}
+
 fn requested(alloc: Global, name: &str, options: &ArgMatches) -> Result<Request, CommandError>
     requires known { IsCommandName name.now }
     requires checked { IsRunnerName name.now → HasBudget (rows_of (found_of options.now)) }
@@ -365,6 +392,9 @@ fn requested(alloc: Global, name: &str, options: &ArgMatches) -> Result<Request,
             Some(code) => Ok(Request::Page(code)),
             None => Err(CommandError::NoCode),
         };
+    }
+    if name == "check" && names_several(options) {
+        return check_all_of(alloc, options);
     }
     let command = named(alloc, name, options)?;
     let file = asked_file(alloc, options)?;

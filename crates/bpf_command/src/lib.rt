@@ -3,6 +3,7 @@
 
 pub mod command;
 pub mod command_line;
+mod given;
 mod options;
 
 pub use command::{

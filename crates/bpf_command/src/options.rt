@@ -3,7 +3,7 @@
 ghost use Rattle.std.specs.Prelude.{◌≡◌, false, IfOk};
 ghost use Rattle.clap.specs.Words.{app_of, rule_of, shape_of};
 ghost use Rattle.clap.specs.declared.builder.command.Command.TheViews.{out-Command as fields_of};
-ghost use Rattle.bpf_command.specs.CommandLine.{asm, asm_shows, bare, budget, check, code_rule, context, debug, debug_options, disasm, ebpf, echo, events, explain, explained, explore, file, for_files, hex, hex_options, judged, keys, limit, listing, maps, one_program, patient, pc, run, run_lists, run_options, run_shows, runs, schedule, searching, show, stats, strict, workers, working};
+ghost use Rattle.bpf_command.specs.CommandLine.{asm, asm_shows, bare, budget, check, code_rule, context, debug, debug_options, disasm, ebpf, echo, events, explain, explained, explore, file, files, for_files, hex, hex_options, judged, keys, limit, listing, maps, one_program, patient, pc, run, run_lists, run_options, run_shows, runs, schedule, searching, show, stats, strict, workers, working};
 
 use crate::command::{MAX_LIMIT, MAX_WORKERS};
 use bpf_base::MAX_BUDGET;
@@ -125,6 +125,10 @@ told. The form is TAP; the exit status is 3 where an outcome isn't as expected, 
 was told is, but more than --limit states were kept. With --patient outcomes are those in which no
 budget is used up.
 
+The tests of several files are one list: their numbers go on, and each names its file. A file that is
+refused has a line 'refused CODE - FILE' and no test. The exit status is that of the worst file, where
+1 is worse than 4, 4 than 3, and 3 than 0. '-' and --explain go with one FILE alone.
+
 For example
   $ printf '; never job 0 cpu 0 r0=1\\nebpf-run 1\\nprog a\\nr0 = 5\\nexit\\nend\\njob 0 a\\n' | ebpf check
   1..1
@@ -209,6 +213,17 @@ fn file_argument<'a>(alloc: Global) -> Arg<'a>
     Arg::new(alloc, "file").value_name("FILE").help(
         "The file to read; without one, or where it is -, standard input",
     )
+}
+
+/// Where a command's input is read from that may be asked of several.
+fn files_argument<'a>(alloc: Global) -> Arg<'a>
+    ensures rule { rule_of result ≡ files }
+    ensures own { result.global ≡ false }
+{
+    Arg::new(alloc, "file")
+        .value_name("FILE")
+        .action(ArgAction::Append)
+        .help("The files to read; without one, or where it is -, standard input")
 }
 
 fn budget_option<'a>(alloc: Global) -> Arg<'a>
@@ -500,7 +515,7 @@ fn check_command<'a>(alloc: Global) -> Result<Command<'a>, AllocError>
     searching(alloc, "check")?
         .about("Tells whether all that a run file's jobs can come to is as its comments expect")
         .after_help(CHECK_NOTES)
-        .arg(file_argument(alloc))
+        .arg(files_argument(alloc))
 }
 
 fn echo_option<'a>(alloc: Global) -> Arg<'a>

@@ -1,5 +1,6 @@
 mod FreshJudged
 mod ShownReplies
+mod SeveralFiles
 pub mod KnownBytes
 pub mod ReplyLemmas
 pub mod OneReply

@@ -37,6 +37,7 @@ moved a b alike (reply.Counted printed stopped stats) h = absurd h
 moved a b alike (reply.Script answers lines stopped refused) h = absurd h
 moved a b alike (reply.Outcomes printed stopped all) h = absurd h
 moved a b alike (reply.NoOutcome printed all) h = absurd h
+moved a b alike (reply.Several printed refused unmet told) h = absurd h
 
 pub listing_answered : TextsAreDetermined → ListingsAssembleAlike → ListingsAreAnsweredAlike
 listing_answered texts listings text listing r h =

@@ -64,6 +64,7 @@ of_debug echo strict input (reply.Jobs text stopped) h n = absurd h
 of_debug echo strict input (reply.Counted text stopped stats) h n = absurd h
 of_debug echo strict input (reply.Outcomes text stopped all) h n = absurd h
 of_debug echo strict input (reply.NoOutcome text all) h n = absurd h
+of_debug echo strict input (reply.Several text refused unmet told) h n = absurd h
 
 -- of one list of commands one list of lines is shown
 one_showing : (echo : Bool) (commands : List (List ℕ)) (xs ys : Option (Vec ℕ Global)) → AreShown echo commands xs → AreShown echo commands ys

@@ -113,6 +113,7 @@ of_run budget context text (reply.Counted printed stopped stats) h n = absurd h
 of_run budget context text (reply.Script answers lines stopped refused) h n = absurd h
 of_run budget context text (reply.Outcomes printed stopped all) h n = absurd h
 of_run budget context text (reply.NoOutcome printed all) h n = absurd h
+of_run budget context text (reply.Several printed refused unmet told) h n = absurd h
 
 of_refused_text : (listing : Bool) (text : List ℕ) (error : TextError) → RefusesAssembly text (refusal.Text error) → ¬ IsForAnyInput (refusal.Text error) → OfAssembly listing text (reply.Refused (refusal.Text error))
 of_refused_text listing text error (inl memory) n = absurd (n (subst (λ (e : TextError). IsForAnyInput (refusal.Text e)) (sym memory) tt))
@@ -129,6 +130,7 @@ of_assembly listing text (reply.Counted printed stopped stats) h n = absurd h
 of_assembly listing text (reply.Script answers lines stopped refused) h n = absurd h
 of_assembly listing text (reply.Outcomes printed stopped all) h n = absurd h
 of_assembly listing text (reply.NoOutcome printed all) h n = absurd h
+of_assembly listing text (reply.Several printed refused unmet told) h n = absurd h
 
 refused_assembly : (text : List ℕ) (e : Refusal) → RefusesAssembly text e → IsOfInput (reply.Refused e) → OfAssembly false text (reply.Refused e)
 refused_assembly text e h n = of_assembly false text (reply.Refused e) h n
@@ -145,6 +147,7 @@ of_listing pc text (reply.Counted printed stopped stats) h n = absurd h
 of_listing pc text (reply.Script answers lines stopped refused) h n = absurd h
 of_listing pc text (reply.Outcomes printed stopped all) h n = absurd h
 of_listing pc text (reply.NoOutcome printed all) h n = absurd h
+of_listing pc text (reply.Several printed refused unmet told) h n = absurd h
 
 data OfFile (Told : File → List ℕ → Bool → Type 0) (text : List ℕ) : Reply → Type 0 where
   Told_of : (printed : _) (stopped : Bool) → IsOfFile Told text (reply.Jobs printed stopped)
@@ -168,6 +171,7 @@ of_file Told text (reply.Counted printed stopped stats) h n = absurd h
 of_file Told text (reply.Script answers lines stopped refused) h n = absurd h
 of_file Told text (reply.Outcomes printed stopped all) h n = absurd h
 of_file Told text (reply.NoOutcome printed all) h n = absurd h
+of_file Told text (reply.Several printed refused unmet told) h n = absurd h
 
 -- of a file that can run one text is told
 abbrev IsOne : (File → List ℕ → Bool → Type 0) → Type 0

@@ -29,6 +29,7 @@ of_file echo strict input file commands f (reply.Jobs text stopped) cut said h =
 of_file echo strict input file commands f (reply.Counted text stopped stats) cut said h = absurd h
 of_file echo strict input file commands f (reply.Outcomes text stopped all) cut said h = absurd h
 of_file echo strict input file commands f (reply.NoOutcome text all) cut said h = absurd h
+of_file echo strict input file commands f (reply.Several text refused unmet told) cut said h = absurd h
 
 -- refusals are those of the answers as they are read
 pub refused_alike : (answers : List (Result (String Global) DebugError)) → list_any is_err answers ≡ any_refused (map answer_of answers)

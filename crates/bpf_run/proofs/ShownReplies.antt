@@ -19,3 +19,4 @@ shown patient limit number text answers all states found (reply.Counted printed 
 shown patient limit number text answers all states found (reply.Script answered lines stopped refused) are at h = absurd h
 shown patient limit number text answers all states found (reply.Outcomes printed stopped whole) are at h = absurd h
 shown patient limit number text answers all states found (reply.NoOutcome printed whole) are at h = absurd h
+shown patient limit number text answers all states found (reply.Several printed refused unmet told) are at h = absurd h

@@ -47,6 +47,7 @@ reply_text (reply.Text text) = string_bytes text
 reply_text (reply.Jobs text stopped) = string_bytes text
 reply_text (reply.Outcomes text stopped all) = string_bytes text
 reply_text (reply.NoOutcome text all) = string_bytes text
+reply_text (reply.Several text refused unmet told) = string_bytes text
 reply_text (reply.Counted text stopped stats) = string_bytes text
 reply_text (reply.Script answers lines stopped refused) =
     shown_text (lines_behind (option_map (λ v. v.items) lines)) (map answer_of answers.items)
@@ -73,6 +74,12 @@ abbrev pub outcomes_status : (stopped all : Bool) → Status
 outcomes_status stopped true = jobs_status stopped
 outcomes_status stopped false = status.Incomplete
 
+-- of several files: the worst of them, where 1 is worse than 4, 4 than 3, and 3 than 0
+abbrev pub several_status : (refused unmet told : Bool) → Status
+several_status true unmet told = status.Refused
+several_status false unmet false = status.Incomplete
+several_status false unmet true = jobs_status unmet
+
 -- of an outcome that there isn't: whether those that were found are all
 abbrev pub missing_status : (all : Bool) → Status
 missing_status true = status.Refused
@@ -86,6 +93,7 @@ status_of (reply.Counted text stopped stats) = jobs_status stopped
 status_of (reply.Script answers lines stopped refused) = script_status stopped refused
 status_of (reply.Outcomes text stopped all) = outcomes_status stopped all
 status_of (reply.NoOutcome text all) = missing_status all
+status_of (reply.Several text refused unmet told) = several_status refused unmet told
 status_of (reply.Refused refusal) = status.Refused
 
 -- what is told beside it, on standard error
@@ -117,6 +125,8 @@ Prints (reply.Jobs text stopped) old new failed answered =
     IsPrinted (string_bytes text) (jobs_status stopped) old new failed answered
 Prints (reply.Outcomes text stopped all) old new failed answered =
     IsPrinted (string_bytes text) (outcomes_status stopped all) old new failed answered
+Prints (reply.Several text refused unmet told) old new failed answered =
+    IsPrinted (string_bytes text) (several_status refused unmet told) old new failed answered
 Prints (reply.NoOutcome text all) old new failed answered =
     IsPrinted (string_bytes text) (missing_status all) old new failed answered
 Prints (reply.Counted text stopped stats) old new failed answered =

@@ -65,6 +65,7 @@ IsRun budget context text (reply.Counted printed stopped stats) = ⊥
 IsRun budget context text (reply.Script answers lines stopped refused) = ⊥
 IsRun budget context text (reply.Outcomes printed stopped all) = ⊥
 IsRun budget context text (reply.NoOutcome printed all) = ⊥
+IsRun budget context text (reply.Several printed refused unmet told) = ⊥
 
 -- `asm`: the words of the instructions that the text stands for, a line of 16 hex digits each
 abbrev pub RefusesAssembly : List ℕ → Refusal → Type 0
@@ -89,6 +90,7 @@ IsAssembled listing text (reply.Counted printed stopped stats) = ⊥
 IsAssembled listing text (reply.Script answers lines stopped refused) = ⊥
 IsAssembled listing text (reply.Outcomes printed stopped all) = ⊥
 IsAssembled listing text (reply.NoOutcome printed all) = ⊥
+IsAssembled listing text (reply.Several printed refused unmet told) = ⊥
 
 -- `asm --run`: what `hex` replies to the words that `asm` prints, or why it prints none
 abbrev pub IsAssembledRun : ℕ → List ℕ → List ℕ → Reply → Type 0
@@ -114,6 +116,7 @@ IsDisassembled pc text (reply.Counted printed stopped stats) = ⊥
 IsDisassembled pc text (reply.Script answers lines stopped refused) = ⊥
 IsDisassembled pc text (reply.Outcomes printed stopped all) = ⊥
 IsDisassembled pc text (reply.NoOutcome printed all) = ⊥
+IsDisassembled pc text (reply.Several printed refused unmet told) = ⊥
 
 -- what a command replies to the text
 abbrev pub IsAnswer : Command → List ℕ → Reply → Type 0

@@ -3,6 +3,7 @@ pub mod Commands
 pub mod Running
 pub mod Exploring
 pub mod Checking
+pub mod Several
 pub mod Script
 pub mod Listing
 pub mod Input

@@ -1,6 +1,6 @@
 -- What a command does between its reading and its writing, and what the words of a command line ask
 -- for.
-use Rattle.std.specs.Prelude.{◌≡◌, ℕ, Bool, List, Option, Some, None, IfSome, [], option_map, string_bytes}
+use Rattle.std.specs.Prelude.{◌≡◌, ℕ, Bool, List, Option, Some, None, IfSome, [], map, option_map, string_bytes}
 use Rattle.clap.specs.Words.{Text, fault_of}
 use Rattle.clap.specs.declared.error.Error.{Error}
 use Rattle.bpf_lines.specs.declared.hex_text.HexError.TheVariants as hex_error
@@ -13,6 +13,7 @@ use Rattle.bpf_command.specs.declared.command_line.CommandError.{CommandError}
 use Rattle.bpf_command.specs.declared.command_line.CommandError.TheVariants as command_error
 use Rattle.bpf_run.specs.Answer.{Prints, PrintsPage, stats_of}
 use Rattle.bpf_run.specs.Commands.{IsReply, is_unread}
+use Rattle.bpf_run.specs.Several.{AreChecked}
 use Rattle.bpf_run.specs.declared.program.Ending.{Ending}
 use Rattle.bpf_run.specs.declared.program.Ending.TheVariants as ending
 use Rattle.bpf_run.specs.declared.program.Misuse.{Misuse}
@@ -35,8 +36,8 @@ abbrev pub input_of : (standard : Option (List ℕ)) → (files : Text → Optio
 input_of standard files None = standard
 input_of standard files (Some name) = files name
 
--- a command that is asked for is performed of its input, with `--explain` as without it; of a page
--- that is asked for nothing is read
+-- a command that is asked for is performed of its input, with `--explain` as without it; several
+-- files are checked; of a page that is asked for nothing is read
 abbrev pub Follows : Request → (unread : Type 0) → (standard : Option (List ℕ))
     → (files : Text → Option (List ℕ)) → (read_failed : Bool)
     → (old new : Option (List ℕ)) → (write_failed : Bool) → Status → (stats : List ℕ) → Type 0
@@ -44,6 +45,11 @@ Follows (request.Perform command file explain) unread standard files read_failed
     write_failed status stats =
     Performs command (input_of standard files (option_map string_bytes file)) read_failed old new
     write_failed status stats
+Follows (request.CheckAll search names) unread standard files read_failed old new write_failed
+    status stats =
+    (r : Reply)
+    × AreChecked search.patient search.limit files (map string_bytes names.items) r
+    × Prints r old new write_failed status × (stats ≡ [])
 Follows (request.Page code) unread standard files read_failed old new write_failed status stats =
     unread × PrintsPage code old new write_failed status × (stats ≡ [])
 
@@ -61,6 +67,7 @@ IsPrintedAs command_error.NoCode r = ⊥
 IsPrintedAs command_error.NoSchedule r = ⊥
 IsPrintedAs command_error.TwoWays r = ⊥
 IsPrintedAs command_error.NoWorkers r = ⊥
+IsPrintedAs command_error.OneFile r = ⊥
 IsPrintedAs command_error.NoRun r = ⊥
 
 -- what is wrong with words in which `clap` finds no fault
@@ -69,6 +76,7 @@ error_of misuse.Code = command_error.NoCode
 error_of misuse.Schedule = command_error.NoSchedule
 error_of misuse.TwoWays = command_error.TwoWays
 error_of misuse.Workers = command_error.NoWorkers
+error_of misuse.OneFile = command_error.OneFile
 error_of misuse.Run = command_error.NoRun
 
 -- ---- what is left to do

@@ -11,13 +11,13 @@ use bpf_check::{Checked, Conclusion, check_explored};
 use bpf_command::SearchOptions;
 use std::alloc::Global;
 
-fn is_unmet(conclusion: Conclusion) -> bool
+pub(crate) fn is_unmet(conclusion: Conclusion) -> bool
     ensures { result ≡ is_unmet conclusion }
 {
     matches!(conclusion, Conclusion::Unmet)
 }
 
-fn is_told(conclusion: Conclusion) -> bool
+pub(crate) fn is_told(conclusion: Conclusion) -> bool
     ensures { result ≡ is_told conclusion }
 {
     !matches!(conclusion, Conclusion::Untold)

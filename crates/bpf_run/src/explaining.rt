@@ -129,6 +129,7 @@ fn printed(alloc: Global, reply: &Reply) -> Result<String, AllocError> {
         | Reply::Jobs(text, _)
         | Reply::Counted { text, .. }
         | Reply::Outcomes { text, .. }
+        | Reply::Several { text, .. }
         | Reply::NoOutcome { text, .. } => text.as_str().to_string(alloc),
         Reply::Script { answers, .. } => {
             let mut text = String::new(alloc);

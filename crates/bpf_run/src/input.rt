@@ -52,6 +52,7 @@ fn read_more<R: Source>(
         × Consumes (R.remaining source.old) (R.remaining source.new) bytes
         × (length bytes ≤ length room.old) }
     ensures end { 0 < length room.old → result ≡ Ok 0 → IsAtEnd (R.remaining source.new) }
+    ensures files { R.file source.new ≡ R.file source.old }
     ensures own { IfErr result (λ e. e ≢ InputError.TooLong) }
     ensures unread { R.has_failed source.new ≡ is_failed_read result }
     ensures reads { R.reads source.new ≤ R.reads source.old + 1 }
@@ -70,6 +71,7 @@ pub fn read_whole<R: Source>(alloc: Global, source: &mut R) -> Result<Vec<u8>, I
         IfSome (R.remaining source.old) (λ input. v.items ≡ input)) }
     ensures end { OnOk result (IsAtEnd (R.remaining source.new)) }
     ensures short { IfOk result (λ v. length v.items ≤ MAX_INPUT) }
+    ensures files { R.file source.new ≡ R.file source.old }
     ensures too_long { result ≡ Err InputError.TooLong
         → IfSome (R.remaining source.old) (λ input. MAX_INPUT < length input) }
     ensures taken { (bytes : List ℕ)

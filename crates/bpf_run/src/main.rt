@@ -19,6 +19,7 @@ pub mod refusal;
 pub mod reply;
 pub mod running;
 pub mod script;
+pub mod several;
 pub mod stream;
 
 use program::{end, program};

@@ -163,6 +163,7 @@ pub fn answer<W: Sink>(alloc: Global, reply: &Reply, sink: &mut W) -> Status
         | Reply::Jobs(text, _)
         | Reply::Counted { text, .. }
         | Reply::Outcomes { text, .. }
+        | Reply::Several { text, .. }
         | Reply::NoOutcome { text, .. } => write_text(sink, text.as_str(), reply.status()),
         Reply::Script { answers, lines, .. } => {
             let shown = lines.as_ref().map(Vec::as_slice);

@@ -15,6 +15,7 @@ use crate::explaining::{Question, Subject, explain};
 use crate::perform::{Performed, answer, perform_of, print_page};
 use crate::refusal::Refusal;
 use crate::reply::{Reply, Status};
+use crate::several::check_files;
 use crate::stream::{Sink, Source};
 use bpf_command::{Command, CommandError, Request, request_of};
 use bpf_lines::HexError;
@@ -36,6 +37,8 @@ pub enum Misuse {
     TwoWays,
     /// What is counted of a run by workers is asked for without workers.
     Workers,
+    /// Several files are named, and what goes with one alone.
+    OneFile,
     /// What is asked of a run stands without `--run`, or the listing beside it.
     Run,
 }
@@ -48,6 +51,7 @@ impl Misuse {
             Misuse::Schedule => NO_SCHEDULE,
             Misuse::TwoWays => TWO_WAYS,
             Misuse::Workers => NO_WORKERS,
+            Misuse::OneFile => ONE_FILE,
             Misuse::Run => NO_RUN,
         }
     }
@@ -89,6 +93,11 @@ const NO_WORKERS: &str = "\
 '--stats' goes beside '--workers' alone
 
 For more information, try 'ebpf run --help'.";
+
+const ONE_FILE: &str = "\
+'-' and '--explain' go with one FILE alone
+
+For more information, try 'ebpf check --help'.";
 
 const NO_RUN: &str = "\
 '--budget' and '--ctx' go beside '--run' alone, and '--listing' doesn't
@@ -164,12 +173,17 @@ fn follow<T: Threads + Wait + Sync, R: Source, W: Sink>(
         ) => {
             return perform_for(rt, alloc, command, file, explain, source, sink);
         }
+        Ok(Request::CheckAll { search, files }) => {
+            let reply = check_files(alloc, &search, &files, source);
+            return Ending::Exit(answer(alloc, &reply, sink));
+        }
         Ok(Request::Page(code)) => return Ending::Exit(print_page(alloc, code, sink)),
         Err(CommandError::Shown(error)) => return Ending::Shown(error),
         Err(CommandError::NoCode) => return Ending::Misused(Misuse::Code),
         Err(CommandError::NoSchedule) => return Ending::Misused(Misuse::Schedule),
         Err(CommandError::TwoWays) => return Ending::Misused(Misuse::TwoWays),
         Err(CommandError::NoWorkers) => return Ending::Misused(Misuse::Workers),
+        Err(CommandError::OneFile) => return Ending::Misused(Misuse::OneFile),
         Err(CommandError::NoRun) => return Ending::Misused(Misuse::Run),
         Err(CommandError::NotHex) => Refusal::Hex(HexError::NotHex),
         Err(CommandError::OutOfMemory) => Refusal::OutOfMemory,

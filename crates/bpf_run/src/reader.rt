@@ -55,6 +55,7 @@ impl<F: Files<File = T>, R: Read, T: Read> Source for Reader<'_, F, R, T> {
         match File::open(self.files, name) {
             Ok(file) => {
                 self.file = Some(file);
+                self.failure = None;
                 Ok(())
             }
             Err(error) => {

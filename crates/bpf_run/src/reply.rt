@@ -72,6 +72,16 @@ pub enum Reply {
         /// Whether they are all, or all that tests ask was told.
         all: bool,
     },
+    /// The tests of several files.
+    Several {
+        text: String,
+        /// Whether one of the files is refused.
+        refused: bool,
+        /// Whether something isn't as expected.
+        unmet: bool,
+        /// Whether all that is expected could be told.
+        told: bool,
+    },
     /// A search found no outcome of the number that was asked for.
     NoOutcome {
         text: String,
@@ -98,6 +108,10 @@ impl Reply {
             | Reply::Jobs(_, true)
             | Reply::Counted { .. }
             | Reply::Script { .. } => Status::Stopped,
+            Reply::Several { refused: true, .. } => Status::Refused,
+            Reply::Several { told: false, .. } => Status::Incomplete,
+            Reply::Several { unmet: true, .. } => Status::Stopped,
+            Reply::Several { .. } => Status::Done,
             Reply::Outcomes { all: false, .. } => Status::Incomplete,
             Reply::Outcomes { stopped: true, .. } => Status::Stopped,
             Reply::Outcomes { .. } => Status::Done,

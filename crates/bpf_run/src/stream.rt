@@ -21,9 +21,9 @@ pub trait Source {
     /// How many reads were made, counted up to the greatest `u64`.
     ghost reads: { Self → ℕ };
 
-    /// Opens the file of this name: what is read from here on is the file.
+    /// Opens the file of this name: what is read from here on is the file, whatever failed before.
     fn open(&mut self, name: &str) -> io::Result<()>
-        requires { has_failed self.old ≡ false }
+        ensures files { file self.new ≡ file self.old }
         ensures opened { OnOk result (IfSome (file self.old name.now)
             (λ bytes. remaining self.new ≡ Some bytes)) }
         ensures told { has_failed self.new ≡ is_err result }
@@ -32,6 +32,7 @@ pub trait Source {
     /// One read.
     fn read(&mut self, room: &mut [u8]) -> io::Result<usize>
         requires { has_failed self.old ≡ false }
+        ensures files { file self.new ≡ file self.old }
         ensures bound { ReadsAtMost result room.new }
         ensures bytes { ReadConsumes (remaining self.old) (remaining self.new) result room.new }
         ensures told { has_failed self.new ≡ is_err result }

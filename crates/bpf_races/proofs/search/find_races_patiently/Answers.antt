@@ -44,5 +44,5 @@ returns c =
     let kept = c.explore.new.frontier.kept in
     are_races_patiently kept w c.args.sync.now c.in_ok-list.list.items c.in_ok-whole.whole c.in_ok-list.listed c.both-all.result
     (first_fresh c.args.shape m programs jobs c.requires.contexts shows)
-    (still_first c.in_ok-explorer.explorer.kept kept m w c.in_ok-explorer.ensures c.explore.ensures.extends shows)
+    (still_first c.in_ok-explorer.explorer.kept kept m w c.in_ok-explorer.ensures.first c.explore.ensures.extends shows)
     c.in_ok-list.ensures.gathered c.in_ok-list.ensures.listed c.both-all.ensures c.patient_races_are_kept.ensures c.in_ok-whole.ensures.whole

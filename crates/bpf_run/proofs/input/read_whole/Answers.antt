@@ -1,4 +1,4 @@
-use Rattle.std.proofs.Common.{arith, ◌<◌, ap, length, length-append, length-drop, length-take, drop, take}
+use Rattle.std.proofs.Common.{arith, ◌<◌, ◌∙◌, ap, length, length-append, length-drop, length-take, drop, take}
 use Rattle.bpf_run.proofs.KnownBytes.{consumed_more, longer, taken_more}
 use Rattle.bpf_run.proofs.input.read_whole.Goals as goal
 
@@ -40,4 +40,5 @@ loop-preserved g c =
       consumed_more _ _ _ c.loop.input.items c.read_more.new.input.items more.0 c.loop.invariant.3 more.1 more.3,
       c.in_ok-read_more.ensures.unread,
       (let counted = c.read_more.ensures.reads in omega arith),
+      c.read_more.ensures.files ∙ c.loop.invariant.6,
     )

@@ -8,3 +8,4 @@ invariant-loop g l = (l.counter ≤ length l.input.items) × (length l.input.ite
     × Consumes (g.R.Source.remaining l.initial.source) (g.R.Source.remaining l.source) l.input.items
     × (g.R.Source.has_failed l.source ≡ false)
     × (g.R.Source.reads l.source ≤ g.R.Source.reads l.initial.source + l.counter)
+    × (g.R.Source.file l.source ≡ g.R.Source.file l.initial.source)

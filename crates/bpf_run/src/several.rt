@@ -1,0 +1,213 @@
+//! `ebpf check` of several files: one list of tests over all of them.
+
+ghost use Rattle.std.specs.Prelude.{◌≡◌, ◌≤◌, ◌++◌, IfErr, IfOk, IfSome, OnOk, length, map, string_bytes};
+ghost use Rattle.bpf_check.specs.Listing.{plan_text};
+ghost use Rattle.bpf_run.specs.Commands.{RefusesInput};
+ghost use Rattle.bpf_run.specs.Several.{AreChecked, AreTold, IsPart, IsTextPart, counted, no_part, refused_part, seen, with_part};
+
+use crate::checking::{is_told, is_unmet};
+use crate::exploring::found_in;
+use crate::input::{InputError, MAX_INPUT, read_whole};
+use crate::refusal::Refusal;
+use crate::reply::Reply;
+use crate::stream::Source;
+use bpf_check::{CheckedPart, check_named, plan};
+use bpf_command::SearchOptions;
+use std::alloc::{AllocError, Global};
+
+/// What is told of a file among several.
+#[derive(Drop)]
+struct FilePart {
+    text: String,
+    tests: usize,
+    refused: bool,
+    /// Whether something isn't as expected.
+    unmet: bool,
+    /// Whether all that is expected could be told.
+    told: bool,
+}
+
+/// That a file is refused.
+fn refused_part(alloc: Global, name: &str, refusal: Refusal) -> Result<FilePart, AllocError>
+    ensures { IfOk result (λ p. seen p ≡ refused_part name.now refusal) }
+{
+    let text = format!(in alloc; "refused {refusal} - {name}\n")?;
+    Ok(FilePart {
+        text,
+        tests: 0,
+        refused: true,
+        unmet: false,
+        told: true,
+    })
+}
+
+/// The tests of a text, behind so many of the files before it, or its first refusal.
+fn text_part(
+    alloc: Global,
+    options: SearchOptions,
+    name: &str,
+    before: usize,
+    text: &str,
+) -> Result<FilePart, AllocError>
+    ensures { IfOk result (λ p.
+        IsTextPart options.patient options.limit name.now before text.now (seen p)) }
+{
+    let explored = match found_in(alloc, options, text) {
+        Ok(explored) => explored,
+        Err(refusal) => return refused_part(alloc, name, refusal),
+    };
+    let CheckedPart {
+        text,
+        tests,
+        conclusion,
+    } = check_named(alloc, name, before, text.as_bytes(), &explored)?;
+    Ok(FilePart {
+        text,
+        tests,
+        refused: false,
+        unmet: is_unmet(conclusion),
+        told: is_told(conclusion),
+    })
+}
+
+/// What is told of a file of these bytes.
+fn bytes_part(
+    alloc: Global,
+    options: SearchOptions,
+    name: &str,
+    before: usize,
+    bytes: &[u8],
+) -> Result<FilePart, AllocError>
+    requires { length bytes.now ≤ MAX_INPUT }
+    ensures { IfOk result (λ p.
+        IsPart options.patient options.limit name.now before bytes.now (seen p)) }
+{
+    match str::from_utf8(bytes) {
+        Ok(text) => text_part(alloc, options, name, before, text),
+        Err(_) => refused_part(alloc, name, Refusal::NotText),
+    }
+}
+
+/// All bytes of a file.
+fn bytes_of<R: Source>(
+    alloc: Global,
+    name: &str,
+    source: &mut R,
+) -> Result<Vec<u8>, InputError>
+    ensures whole { IfOk result (λ v.
+        IfSome (R.file source.old name.now) (λ bytes. v.items ≡ bytes)) }
+    ensures short { IfOk result (λ v. length v.items ≤ MAX_INPUT) }
+    ensures refused { IfErr result (λ e.
+        IfSome (R.file source.old name.now) (λ bytes. RefusesInput bytes (Refusal.Input e))) }
+    ensures files { R.file source.new ≡ R.file source.old }
+{
+    match source.open(name) {
+        Ok(()) => read_whole(alloc, source),
+        Err(_) => Err(InputError::Unread),
+    }
+}
+
+/// What is told of a file, behind so many tests of the files before it.
+fn part_of<R: Source>(
+    alloc: Global,
+    options: SearchOptions,
+    name: &str,
+    before: usize,
+    source: &mut R,
+) -> Result<FilePart, AllocError>
+    ensures part { IfOk result (λ p. IfSome (R.file source.old name.now)
+        (λ bytes. IsPart options.patient options.limit name.now before bytes (seen p))) }
+    ensures files { R.file source.new ≡ R.file source.old }
+{
+    match bytes_of(alloc, name, source) {
+        Ok(bytes) => bytes_part(alloc, options, name, before, &bytes),
+        Err(error) => refused_part(alloc, name, Refusal::Input(error)),
+    }
+}
+
+/// What is told of some files.
+#[derive(Drop)]
+struct Tally {
+    text: String,
+    tests: usize,
+    refused: bool,
+    unmet: bool,
+    told: bool,
+}
+
+impl Tally {
+    /// Puts what is told of one more behind it.
+    fn add(&mut self, part: &FilePart) -> Result<(), AllocError>
+        ensures { OnOk result (counted self.new ≡ with_part (counted self.old) (seen part.now)) }
+    {
+        let tests = self.tests.checked_add(part.tests).ok_or(AllocError)?;
+        self.text.push_str(part.text.as_str())?;
+        self.tests = tests;
+        self.refused |= part.refused;
+        self.unmet |= part.unmet;
+        self.told &= part.told;
+        Ok(())
+    }
+}
+
+/// What is told of all files.
+fn tell_all<R: Source>(
+    alloc: Global,
+    options: &SearchOptions,
+    names: &[String],
+    source: &mut R,
+) -> Result<Tally, AllocError>
+    ensures { IfOk result (λ t. AreTold options.now.patient options.now.limit (R.file source.old)
+        (map string_bytes names.now) no_part (counted t)) }
+{
+    let mut tally = Tally {
+        text: String::new(alloc),
+        tests: 0,
+        refused: false,
+        unmet: false,
+        told: true,
+    };
+    for name in names {
+        let options = SearchOptions {
+            limit: options.limit,
+            patient: options.patient,
+        };
+        let part = part_of(alloc, options, name.as_str(), tally.tests, source)?;
+        tally.add(&part)?;
+    }
+    Ok(tally)
+}
+
+/// The plan of all tests, and the tests.
+fn planned(alloc: Global, tally: &Tally) -> Result<String, AllocError>
+    ensures { IfOk result (λ text. string_bytes text
+        ≡ plan_text tally.now.tests ++ string_bytes tally.now.text) }
+{
+    let mut text = plan(alloc, tally.tests)?;
+    text.push_str(tally.text.as_str())?;
+    Ok(text)
+}
+
+/// `ebpf check` of several files.
+pub fn check_files<R: Source>(
+    alloc: Global,
+    options: &SearchOptions,
+    names: &[String],
+    source: &mut R,
+) -> Reply
+    ensures { AreChecked options.now.patient options.now.limit (R.file source.old)
+        (map string_bytes names.now) result }
+{
+    let Ok(tally) = tell_all(alloc, options, names, source) else {
+        return Reply::Refused(Refusal::OutOfMemory);
+    };
+    match planned(alloc, &tally) {
+        Ok(text) => Reply::Several {
+            text,
+            refused: tally.refused,
+            unmet: tally.unmet,
+            told: tally.told,
+        },
+        Err(_) => Reply::Refused(Refusal::OutOfMemory),
+    }
+}
