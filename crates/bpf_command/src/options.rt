@@ -169,6 +169,9 @@ The commands, one a line, with a CPU C, a pc P, an address A and a number N of b
   where C     the job in hand, the pc and the depth of calls
   mem C A N   bytes in hex, as C's program may read them, or 'unreadable'
   held C      the values that C's run holds: map, address and bytes
+  show C      the registers that C's last turn changed, and what each is as an address
+  list C      the instructions near the pc of C
+  last C      the last job that ended on C, and its registers before its last step
   map NAME    the keys of a map with their values, KEY=VALUE in hex
   keys NAME   the keys alone
   schedule    the turns made so far, as the 'steps' that makes them
