@@ -8,7 +8,7 @@ use Rattle.bpf_machine.specs.Machine.{MachineState}
 use Rattle.bpf_machine.specs.Cover.{TurnsAhead}
 use Rattle.bpf_machine.specs.Ends.{IsKeptRichlyAt}
 use Rattle.bpf_machine.specs.Patient.{IsRefilled}
-use Rattle.bpf_explore.specs.declared.patient.Edge.{Edge}
+use Rattle.bpf_explore.specs.declared.turns.Edge.{Edge}
 use Rattle.bpf_explore.specs.Album.{IsKeptAt}
 use Rattle.bpf_explore.specs.Search.{Extends}
 use Rattle.bpf_explore.specs.Private.Edges.{IsEdge, AreEdges}

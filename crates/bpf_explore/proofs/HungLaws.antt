@@ -11,14 +11,15 @@ use Rattle.bpf_machine.specs.Cover.{TurnsAhead}
 use Rattle.bpf_machine.specs.Patient.{NoneRanOut}
 use Rattle.bpf_machine.specs.Ends.{AreStuck, StuckAreHung, FreeRunsAgree}
 use Rattle.bpf_machine.specs.Budgets.{depth_at, AreSparing, BudgetsSuffice}
-use Rattle.bpf_explore.specs.declared.patient.Edge.{Edge}
+use Rattle.bpf_explore.specs.declared.turns.Edge.{Edge}
 use Rattle.bpf_explore.specs.Album.{LeadsFreely, HaveBudgets}
 use Rattle.bpf_explore.specs.Search.{IsIdleAt}
 use Rattle.bpf_explore.specs.Private.Edges.{IsEdgeOf}
 use Rattle.bpf_explore.specs.Private.Depths.{LeadsDeeperAt, IsSparingAt}
 use Rattle.bpf_explore.specs.Private.Ends.{AreMarked}
-use Rattle.bpf_explore.specs.Private.Hung.{Hangs, AllHang, AllLead}
+use Rattle.bpf_explore.specs.Private.Hung.{Hangs, AllHang, AllLead, AllMarkedBelow}
 use Rattle.bpf_explore.specs.Private.Replays.{SomeRanOut, IsReplayed, IsReached, CanRunOut, NoneRunsOut}
+use Rattle.bpf_explore.proofs.WayLaws.{agrees}
 
 -- ---- schedules that are tried
 pub replayed : (kept : List MachineState) (first last : MachineState) (schedule : List ℕ) → slice_get kept 0 ≡ Some first → ((w : World) → Shows first w → (z : World) × RunsSchedule w schedule z × Shows last z) → IsReplayed kept schedule last
@@ -49,15 +50,8 @@ can_run_out kept m is (j, task, pc, at, ended) w first =
 pub hangs : StuckAreHung → FreeRunsAgree → (kept : List MachineState) (marks : List Bool) (place : ℕ) (by : List (ℕ × ℕ)) (m : MachineState) → AreStuck kept marks → slice_get marks place ≡ Some false
     → LeadsFreely kept 0 (unrolled by) place → IsReplayed kept (unrolled by) m → NoneRanOut m.jobs → Hangs kept by
 hangs hung agree kept marks place by m stuck off leads tried none w fresh first =
-    let r = tried w first in
-    let z = r.0 in
-    let none_there = subst NoneRanOut (sym r.2.jobs) none in
-    let f = leads w first in
-    let y = f.0 in
-    let a = agree w z y (unrolled by) fresh r.1 none_there f.1 in
-    let shown = f.2 in
-    let there = subst (λ (x : World). Shows shown.0 x) (sym a.1) shown.2 in
-    (z, r.1, none_there, hung kept marks w z (unrolled by) place stuck fresh r.1 off (y.jobs, shown.0, a.0, shown.1, there))
+    let a = agrees agree kept by place m leads tried none w fresh first in
+    (a.z, a.runs, a.none, hung kept marks w a.z (unrolled by) place stuck fresh a.runs off (a.jobs, a.shown.0, a.rich, a.shown.1, a.shown.2))
 
 pub none_hung : (kept : List MachineState) → AllHang kept []
 none_hung kept i by at = cc
@@ -80,6 +74,22 @@ one_more_hung kept hung pushed by all is same k x at = elim (cases_lt k (length 
   where
     there : slice_get (hung ++ by ∷ []) k ≡ Some x
     there = ap (λ (hs : List (List (ℕ × ℕ))). slice_get hs k) (sym same) ∙ at
+
+pub never_none : (hung pushed : List (List (ℕ × ℕ))) (by : List (ℕ × ℕ)) → pushed ≡ hung ++ by ∷ [] → pushed ≡ [] → ⊥
+never_none hung pushed by same none =
+    let both = length-append hung (by ∷ []) in
+    let size : length (hung ++ by ∷ []) ≡ 0 = ap (λ (hs : List (List (ℕ × ℕ))). length hs) (sym same ∙ none) in
+    absurd (omega arith)
+
+pub one_of_marked : (marks : List Bool) (place : ℕ) → (slice_get marks place ≡ Some true) ⊎ ((i : ℕ) × (i < place) × (slice_get marks i ≡ Some false)) → AllMarkedBelow marks place → slice_get marks place ≡ Some true
+one_of_marked marks place (inl at) all = at
+one_of_marked marks place (inr (i, less, off)) all = let two : Some true ≡ Some false = sym (all i less) ∙ off in cc
+
+pub next_marked : (marks : List Bool) (n : ℕ) → AllMarkedBelow marks n → slice_get marks n ≡ Some true → AllMarkedBelow marks (n + 1)
+next_marked marks n far one i less = elim (cases_lt i n) [
+  | inl below ↦ far i below
+  | inr past ↦ let e : n ≡ i = omega arith in subst (λ (k : ℕ). slice_get marks k ≡ Some true) e one
+]
 
 -- ---- depths
 pub edge_deeper : (kept : List MachineState) (depths : List ℕ) (i c : ℕ) (e : Edge) → IsEdgeOf kept i c e → depth_at depths i + e.ahead + 1 ≤ depth_at depths e.to → LeadsDeeperAt kept depths i c

@@ -1,6 +1,7 @@
 pub mod SlotLaws
 pub mod KeptLaws
 pub mod SearchLaws
+pub mod RowLaws
 pub mod OutcomeLaws
 pub mod StandAlike
 pub mod ShelfLaws
@@ -9,6 +10,7 @@ pub mod AlbumLaws
 pub mod OneStore
 pub mod ApartLaws
 pub mod StopLaws
+pub mod WayLaws
 pub mod TrailLaws
 pub mod AnswerLaws
 pub mod TellLaws

@@ -1,5 +1,5 @@
 -- From which kept machines an end can be reached.
-use Rattle.std.proofs.Common.{◌≡◌, ◌∙◌, ℕ, zero, suc, ◌+◌, ◌-◌, ◌<◌, ◌≤◌, Bool, true, false, List, [], ◌∷◌, Some, inl, inr, length, replicate, refl, sym, ap, subst, arith}
+use Rattle.std.proofs.Common.{◌≡◌, ◌∙◌, ℕ, zero, suc, ◌+◌, ◌-◌, ◌<◌, ◌≤◌, ◌⊎◌, Bool, true, false, List, [], ◌∷◌, Some, inl, inr, length, replicate, refl, sym, ap, subst, arith}
 use Rattle.std.specs.Prelude.{slice_get, slice_set}
 use Rattle.std.proofs.lemmas.Bool.{cases_lt}
 use Rattle.bpf_base.proofs.Lists.{slice_get-set_other}
@@ -10,11 +10,11 @@ use Rattle.bpf_machine.specs.Cover.{TurnsTo, TurnsAhead}
 use Rattle.bpf_machine.specs.Ends.{LeadsTo, IsStuck, AreStuck}
 use Rattle.bpf_machine.proofs.CoverLaws.{idle_turns_to}
 use Rattle.bpf_machine.proofs.PatientLaws.{all_same}
-use Rattle.bpf_explore.specs.declared.patient.Edge.{Edge}
+use Rattle.bpf_explore.specs.declared.turns.Edge.{Edge}
 use Rattle.bpf_explore.specs.Album.{HaveEndedAt, NoneRanOutAt}
 use Rattle.bpf_explore.specs.Search.{IsIdleAt}
 use Rattle.bpf_explore.specs.Private.Edges.{IsEdgeOf}
-use Rattle.bpf_explore.specs.Private.Ends.{LeadsToEnd, LeadToEnds}
+use Rattle.bpf_explore.specs.Private.Ends.{LeadsToEnd, LeadToEnds, unmarked}
 
 pub here : (kept : List MachineState) (i : ℕ) → i < length kept → (m : MachineState) × (slice_get kept i ≡ Some m)
 here [] i less = absurd (omega arith)
@@ -88,6 +88,36 @@ one_more_marked kept marks i was there all leads k at = elim (equal_or_not k i) 
   | inl e ↦ subst (LeadsToEnd kept) (sym e) leads
   | inr ne ↦ all k (sym (slice_get-set_other marks i k true ne) ∙ at)
 ]
+
+pub fewer_unmarked : (marks : List Bool) (i : ℕ) → slice_get marks i ≡ Some false → unmarked (slice_set marks i true) < unmarked marks
+fewer_unmarked [] i at = cc
+fewer_unmarked (true ∷ marks) zero at = cc
+fewer_unmarked (false ∷ marks) zero at = omega arith
+fewer_unmarked (true ∷ marks) (suc i) at = fewer_unmarked marks i at
+fewer_unmarked (false ∷ marks) (suc i) at = let far = fewer_unmarked marks i at in omega arith
+
+-- what a round marks
+pub record Counted (old new : List Bool) (more : Bool) : Type 0 where
+  pub fewer : more ≡ true → unmarked new < unmarked old
+  pub no_more : unmarked new ≤ unmarked old
+
+pub none_counted : (marks : List Bool) → Counted marks marks false
+none_counted marks = record { fewer = λ is. cc; no_more = omega arith }
+
+pub next_counted : (old mid new : List Bool) (more marked now : Bool) → Counted old mid more → (marked ≡ true → unmarked new < unmarked mid) → (marked ≡ false → new ≡ mid) → (now ≡ true → (more ≡ true) ⊎ (marked ≡ true)) → Counted old new now
+next_counted old mid new more true now far fewer same some =
+    let one = fewer refl in
+    let least = far.no_more in
+    record { fewer = λ is. omega arith; no_more = omega arith }
+next_counted old mid new more false now far fewer same some =
+    let one : unmarked new ≡ unmarked mid = ap unmarked (same refl) in
+    let least = far.no_more in record {
+      fewer = λ is. elim (some is) [ inl before ↦ let less = far.fewer before in omega arith | inr same_too ↦ absurd (never same_too) ];
+      no_more = omega arith;
+    }
+  where
+    never : false ≡ true → ⊥
+    never e = cc
 
 -- those from a place on
 abbrev pub StuckFrom : List MachineState → List Bool → ℕ → Type 0

@@ -6,11 +6,9 @@ use Rattle.std.proofs.lemmas.Option.{slice_get_within}
 use Rattle.bpf_cpu.specs.declared.outcome.Outcome.{Outcome}
 use Rattle.bpf_cpu.specs.declared.outcome.Outcome.TheVariants.{OutOfBudget}
 use Rattle.bpf_cpu.specs.Task.{Stage, Task, Waiting, InHand, Ended, ended, outcome_at}
-use Rattle.bpf_machine.specs.Machine.{MachineState, Shows}
+use Rattle.bpf_machine.specs.Machine.{MachineState}
 use Rattle.bpf_machine.specs.Patient.{NoneRanOut, IsClosedRichly}
-use Rattle.bpf_machine.specs.Rounds.{HaveEnded}
-use Rattle.bpf_machine.specs.Schedule.{World, unrolled}
-use Rattle.bpf_jobs.specs.Printed.{lines_of_lists, TellsWith}
+use Rattle.bpf_machine.specs.Schedule.{World}
 use Rattle.bpf_explore.specs.Outcomes.{Found}
 use Rattle.bpf_machine.specs.Laws.{IsFresh}
 use Rattle.bpf_machine.specs.Cover.{IsShown}
@@ -21,12 +19,11 @@ use Rattle.bpf_explore.specs.declared.budgets.Budgets.TheVariants.{Suffice, RunO
 use Rattle.bpf_explore.specs.Album.{AreLedFreely, AreApart}
 use Rattle.bpf_explore.specs.Patient.{EndsPatiently, ArePatient, IsSearchedPatiently, PatientTellAll}
 use Rattle.bpf_explore.specs.Private.Hung.{Hangs, AllHang, AllLead}
-use Rattle.bpf_explore.specs.Private.Replays.{SomeRanOut, IsReplayed, CanRunOut, NoneRunsOut}
+use Rattle.bpf_explore.specs.Private.Replays.{SomeRanOut, CanRunOut, NoneRunsOut}
 use Rattle.bpf_explore.proofs.TrailLaws.{are_reached_freely}
 use Rattle.bpf_explore.specs.Private.Answers.{AreSorted, IsFirst, KeepsAll, IsAnsweredAt}
 use Rattle.bpf_explore.specs.Private.Patience.{AllEndPatiently}
 use Rattle.bpf_explore.proofs.AnswerLaws.{Before, Here, Behind, origin, answered_still}
-use Rattle.bpf_explore.proofs.TellLaws.{tells_none}
 
 pub all_end_patiently : (xs : List Found) (i : ℕ) (x : Found) (within : i ≤ length xs) (w : World) (names : List (List ℕ)) (maps : Bool) → EndsPatiently w names maps x → AllEndPatiently w names maps xs → AllEndPatiently w names maps (insert xs i x)
 all_end_patiently xs i x within w names maps one all k y at = elim (origin xs i x within k y at) [
@@ -42,57 +39,14 @@ some_by P o x e h = subst (λ (s : Option Found). IfSome s P) e h
 pub some_hung : (kept : List MachineState) (o : Option (List (ℕ × ℕ))) (x : List (ℕ × ℕ)) → o ≡ Some x → IfSome o (Hangs kept) → Hangs kept x
 some_hung kept o x e h = subst (λ (s : Option (List (ℕ × ℕ))). IfSome s (Hangs kept)) e h
 
-pub ends_still : (old new : List MachineState) (names : List (List ℕ)) (maps : Bool) (x : Found) → new ≡ old → ((w : World) → IsFirst new w → EndsPatiently w names maps x) → (w : World) → IsFirst old w → EndsPatiently w names maps x
-ends_still old new names maps x same ends w first = ends w (subst (λ (kept : List MachineState). IsFirst kept w) (sym same) first)
-
--- ---- the end of a schedule that was tried
-pub ends_replayed : (kept : List MachineState) (last : MachineState) (names : List (List ℕ)) (maps : Bool) (found : Found) → last.lists ≡ None → HaveEnded last.jobs → NoneRanOut last.jobs → IsReplayed kept (unrolled found.by) last
-    → ((w : World) → Shows last w → TellsWith (lines_of_lists w names) w.store w.jobs names maps found.text found.stopped)
-    → (w : World) → IsFirst kept w → EndsPatiently w names maps found
-ends_replayed kept last names maps found none over well tried told w first =
-    let r = tried w first in
-    (r.0, r.1, subst HaveEnded (sym r.2.jobs) over, subst NoneRanOut (sym r.2.jobs) well, tells_none last r.0 names maps found.text found.stopped none r.2 (told r.0 r.2))
-
 -- ---- jobs that have ended
-stage_ended : (stage : Stage) (o : Outcome) → Some o ≡ ended stage → (outcome : Outcome) × (stage ≡ Ended outcome)
-stage_ended (Waiting context) o e = cc
-stage_ended (InHand state left) o e = cc
-stage_ended (Ended outcome) o e = (outcome, refl)
-
 read_outcome : (jobs : List Task) (j : ℕ) (task : Task) → slice_get jobs j ≡ Some task → outcome_at jobs j ≡ ended task.stage
 read_outcome jobs j task at = ap (λ (o : Option Task). option_and_then (λ t. ended t.stage) o) at
-
-job_ended : (jobs : List Task) (j : ℕ) (o : Outcome) → Some o ≡ outcome_at jobs j → (task : Task) → slice_get jobs j ≡ Some task → (outcome : Outcome) × (task.stage ≡ Ended outcome)
-job_ended jobs j o e task at = stage_ended task.stage o (e ∙ read_outcome jobs j task at)
 
 stage_is : (stage : Stage) (o : Outcome) → Some o ≡ ended stage → stage ≡ Ended o
 stage_is (Waiting context) o e = cc
 stage_is (InHand state left) o e = cc
 stage_is (Ended outcome) o e = let one : o ≡ outcome = cc in ap Ended (sym one)
-
--- ---- jobs that have ended, none out of budget
-abbrev pub EndedWellBelow : List Task → ℕ → Type 0
-EndedWellBelow jobs n = (j : ℕ) (task : Task) → j < n → slice_get jobs j ≡ Some task → (outcome : Outcome) × (task.stage ≡ Ended outcome) × ((pc : ℕ) → outcome ≡ OutOfBudget pc → ⊥)
-
-pub next_ended_well : (jobs : List Task) (n : ℕ) (o : Outcome) → EndedWellBelow jobs n → Some o ≡ outcome_at jobs n → ((pc : ℕ) → o ≡ OutOfBudget pc → ⊥) → EndedWellBelow jobs (n + 1)
-next_ended_well jobs n o far e well j task less at = elim (cases_lt j n) [
-  | inl below ↦ far j task below at
-  | inr past ↦
-      let same : n ≡ j = omega arith in
-      let there : Some o ≡ ended task.stage = e ∙ (ap (outcome_at jobs) same ∙ read_outcome jobs j task at) in
-      (o, stage_is task.stage o there, well)
-]
-
-pub all_ended_well : (jobs : List Task) (n : ℕ) → length jobs ≤ n → EndedWellBelow jobs n → HaveEnded jobs × NoneRanOut jobs
-all_ended_well jobs n past far = (
-  λ j task at. (let inside = slice_get_within jobs j task at in let r = far j task (omega arith) at in (r.0, r.1)),
-  λ j task pc at out. (
-      let inside = slice_get_within jobs j task at in
-      let r = far j task (omega arith) at in
-      let same : Ended r.0 ≡ Ended (OutOfBudget pc) = sym r.1 ∙ out in
-      let one : r.0 ≡ OutOfBudget pc = cc in
-      r.2 pc one),
-)
 
 -- ---- jobs of which none is out of budget
 abbrev pub NoneOutBelow : List Task → ℕ → Type 0

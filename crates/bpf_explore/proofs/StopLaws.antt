@@ -140,7 +140,7 @@ goes_length w c j task old left answer z (program, end, s, new, rest, loaded, ad
     settled (Some outcome) (t, allowed, is, inl lists) = ap (λ (v : World). length v.jobs) lists.1 ∙ length-set w.jobs j (record task { stage = Ended outcome })
     settled (Some outcome) (t, allowed, is, inr lists) = ap (λ (v : World). length v.jobs) lists.1 ∙ length-set w.jobs j (record task { stage = Ended outcome })
 
-turn_length : (w : World) (c : ℕ) (answer : Turn) (z : World) → TakesTurn w c answer z → length z.jobs ≡ length w.jobs
+pub turn_length : (w : World) (c : ℕ) (answer : Turn) (z : World) → TakesTurn w c answer z → length z.jobs ≡ length w.jobs
 turn_length w c answer z (inl (j, task, state, left, at, goes)) = goes_length w c j task state left answer z goes
 turn_length w c answer z (inr (inl (free, (j, task, context, s, at, none, begins, goes)))) = goes_length (record w { store = s }) c j task _ task.budget answer z goes
 turn_length w c answer z (inr (inr (free, none, is, same))) = ap (λ (v : World). length v.jobs) same

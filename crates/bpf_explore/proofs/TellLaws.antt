@@ -7,16 +7,21 @@ use Rattle.bpf_shared.specs.Store.{Plain}
 use Rattle.bpf_shared.specs.Sound.{IsSoundStore}
 use Rattle.bpf_plain.specs.PlainStore.{StandsFor}
 use Rattle.bpf_cpu.specs.declared.outcome.Outcome.{Outcome}
+use Rattle.bpf_cpu.specs.declared.outcome.Outcome.TheVariants.{OutOfBudget}
 use Rattle.bpf_cpu.specs.Task.{Task, Ended}
 use Rattle.bpf_machine.specs.Listings.{Listing, listing_at, made_keys}
 use Rattle.bpf_machine.specs.Machine.{MachineState, Shows}
 use Rattle.bpf_machine.specs.Parts.{chosen, chosen_at, no_task}
 use Rattle.bpf_machine.proofs.PartLaws.{chosen_is, chosen_count}
+use Rattle.bpf_machine.specs.Patient.{NoneRanOut}
 use Rattle.bpf_machine.specs.Rounds.{HaveEnded}
 use Rattle.bpf_machine.specs.Schedule.{World, unrolled}
-use Rattle.bpf_explore.specs.Album.{LeadsFrom, HaveEndedAt, AreLed}
+use Rattle.bpf_explore.specs.Album.{LeadsFrom, HaveEndedAt, AreLed, AreLedFreely}
+use Rattle.bpf_explore.specs.Patient.{EndsPatiently}
 use Rattle.bpf_explore.specs.Private.Answers.{AllEnd}
+use Rattle.bpf_explore.specs.Private.Patience.{AllEndPatiently, LeadsInBudget}
 use Rattle.bpf_explore.proofs.StopLaws.{same_stop, runs_length}
+use Rattle.bpf_explore.proofs.WayLaws.{freely_length}
 use Rattle.bpf_jobs.specs.Printed.{list_lines, lines_of_lists, Tells, TellsWith}
 use Rattle.bpf_explore.specs.Laws.{IsAnswered}
 use Rattle.bpf_explore.specs.Outcomes.{Found, EndsBy}
@@ -97,6 +102,24 @@ module _ (kept : List MachineState) (m : MachineState) (names : List (List ℕ))
       let tells : Tells z.store z.jobs names maps text found.stopped = subst (λ (t : List ℕ). Tells z.store z.jobs names maps t found.stopped) same other.3 in
       same_stop z.store r.0.store z.jobs r.0.jobs names maps text found.stopped stopped count other.2 (ended_in r.0 shows) tells (tells_in r.0 shows)
 
+  -- the same where no budget is used up
+  pub ends_in_budget : (by : List (ℕ × ℕ)) → LeadsInBudget kept by place → (w : World) → IsFirst kept w → EndsPatiently w names maps (record { text = text; stopped = stopped; by = by })
+  ends_in_budget by leads w first =
+      let r = leads w first in
+      let shows = shown_is r.0 r.3.0 r.3.1 r.3.2 in
+      (r.0, r.1, ended_in r.0 shows, r.2, tells_in r.0 shows)
+
+  pub stopped_same_in_budget : (answers : List Found) (i : ℕ) (found : Found) (w : World) → AreLedFreely kept → place < length kept → IsFirst kept w → AllEndPatiently w names maps answers → slice_get answers i ≡ Some found → found.text ≡ text → found.stopped ≡ stopped
+  stopped_same_in_budget answers i found w led inside first all there same =
+      let other = all i found there in
+      let way = led place inside in
+      let r = way.1 w first in
+      let shows = shown_is r.0 r.2.0 r.2.1 r.2.2 in
+      let z = other.0 in
+      let count : length z.jobs ≡ length r.0.jobs = runs_length (unrolled found.by) w z other.1 ∙ sym (freely_length way.0 w r.0 r.1) in
+      let tells : Tells z.store z.jobs names maps text found.stopped = subst (λ (t : List ℕ). Tells z.store z.jobs names maps t found.stopped) same other.4 in
+      same_stop z.store r.0.store z.jobs r.0.jobs names maps text found.stopped stopped count other.2 (ended_in r.0 shows) tells (tells_in r.0 shows)
+
 -- ---- jobs that have ended
 pub this_part : (parts : List Task) (numbers : List ℕ) (n : ℕ) (part : Task) → n < length numbers → slice_index_or numbers n 0 < length parts → part ≡ slice_index_or parts (slice_index_or numbers n 0) part → (task : Task) → slice_get (chosen parts numbers) n ≡ Some task → part ≡ task
 this_part parts numbers n part inside within read task at =
@@ -122,6 +145,11 @@ goes_on parts numbers n part inside within read going all =
     let at = chosen_is parts numbers n inside in
     let end = all n (chosen_at parts numbers n) at in
     going end.0 (ap (λ (t : Task). t.stage) (this_part parts numbers n part inside within read (chosen_at parts numbers n) at) ∙ end.1)
+
+pub ran_out : (parts : List Task) (numbers : List ℕ) (n : ℕ) (part : Task) → n < length numbers → slice_index_or numbers n 0 < length parts → part ≡ slice_index_or parts (slice_index_or numbers n 0) part → ((pc : ℕ) × (part.stage ≡ Ended (OutOfBudget pc))) → NoneRanOut (chosen parts numbers) → ⊥
+ran_out parts numbers n part inside within read out none =
+    let at = chosen_is parts numbers n inside in
+    none n (chosen_at parts numbers n) out.0 at (ap (λ (t : Task). t.stage) (sym (this_part parts numbers n part inside within read (chosen_at parts numbers n) at)) ∙ out.1)
 
 pub all_ended : (parts : List Task) (numbers : List ℕ) (n : ℕ) → length numbers ≤ n → HaveEndedBelow (chosen parts numbers) n → HaveEnded (chosen parts numbers)
 all_ended parts numbers n past far j task at =

@@ -6,7 +6,7 @@ use Rattle.bpf_machine.specs.Schedule.{World, RunsSchedule}
 use Rattle.bpf_machine.specs.Patient.{IsRefilled}
 use Rattle.bpf_machine.specs.Ends.{RunsFreely}
 use Rattle.bpf_explore.specs.declared.explorer.Origin.{Origin}
-use Rattle.bpf_explore.specs.declared.patient.Edge.{Edge}
+use Rattle.bpf_explore.specs.declared.turns.Edge.{Edge}
 use Rattle.bpf_explore.specs.Private.Album.{AddsOne}
 use Rattle.bpf_explore.specs.Private.Edges.{AreEdges}
 use Rattle.bpf_explore.specs.Private.Trail.{AreOrigins}

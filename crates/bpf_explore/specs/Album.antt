@@ -7,10 +7,19 @@ use Rattle.bpf_machine.specs.Machine.{MachineState, Shows}
 use Rattle.bpf_machine.specs.Patient.{NoneRanOut}
 use Rattle.bpf_machine.specs.Ends.{RunsFreely}
 
--- a machine to work with, and the kept ones
+-- a machine to work with, the kept ones, and how many CPUs their host has
 pub record AlbumState : Type 0 where
   pub machine : MachineState
   pub kept : List MachineState
+  pub cpus : ℕ
+
+-- the same of a patient search, and the turns that were made, in their order: from which kept machine,
+-- and by which CPU
+pub record PatientState : Type 0 where
+  pub machine : MachineState
+  pub kept : List MachineState
+  pub cpus : ℕ
+  pub made : List (ℕ × ℕ)
 
 -- the first of them shows all that the machine shows
 abbrev pub ShowsFirst : List MachineState → MachineState → Type 0

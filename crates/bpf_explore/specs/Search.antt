@@ -1,5 +1,5 @@
 -- The search through the machines that turns lead to: exact, or but for budgets.
-use Rattle.std.specs.Prelude.{◌≡◌, ℕ, Bool, true, false, List, ◌++◌, Some, slice_get}
+use Rattle.std.specs.Prelude.{◌≡◌, ℕ, zero, suc, Bool, true, false, List, [], ◌∷◌, ◌++◌, Some, slice_get}
 use Rattle.bpf_machine.specs.Schedule.{World, RunsSchedule}
 use Rattle.bpf_machine.specs.Rounds.{HaveEnded}
 use Rattle.bpf_machine.specs.Laws.{IsFresh}
@@ -26,6 +26,16 @@ IsExpanded patient kept i = (c : ℕ) → IsTurned patient kept i c
 abbrev pub IsIdleAt : List MachineState → ℕ → ℕ → Type 0
 IsIdleAt kept i c = (m : MachineState) → slice_get kept i ≡ Some m
     → IsFree m.jobs c × NoneWaits m.jobs c
+
+-- the turns of the first n CPUs from the i-th kept machine
+abbrev pub row_of : ℕ → ℕ → List (ℕ × ℕ)
+row_of i zero = []
+row_of i (suc n) = row_of i n ++ (i, n) ∷ []
+
+-- those of so many CPUs from each of the first n
+abbrev pub rows_of : ℕ → ℕ → List (ℕ × ℕ)
+rows_of cpus zero = []
+rows_of cpus (suc n) = rows_of cpus n ++ row_of n cpus
 
 -- more machines stand behind those that were there
 abbrev pub Extends : List MachineState → List MachineState → Type 0

@@ -147,7 +147,8 @@ fn have_ended(parts: &[KeptJob], numbers: &[u32]) -> bool
 /// Whether none of the jobs that have these numbers has ended out of budget.
 fn none_ran_out(parts: &[KeptJob], numbers: &[u32]) -> bool
     requires { All (λ n. n < length parts.now) numbers.now }
-    ensures { result ≡ true → NoneRanOut (chosen parts.now numbers.now) }
+    ensures none { result ≡ true → NoneRanOut (chosen parts.now numbers.now) }
+    ensures out { result ≡ false → NoneRanOut (chosen parts.now numbers.now) → ⊥ }
 {
     for job in 0..numbers.len() {
         if parts[numbers[job] as usize].is_out_of_budget() {
@@ -218,7 +219,7 @@ impl Model for Album {
       parts = a.parts;
       states = a.states;
     } in
-        record { machine = a.machine; kept = machines shelf a.states.count } };
+        record { machine = a.machine; kept = machines shelf a.states.count; cpus = a.shape.cpus } };
 
     ghost invariant = { λ a. let shelf : Shelf = record {
       programs = a.machine.programs;
@@ -280,6 +281,7 @@ impl Album {
         requires { place < length self.old.kept }
         ensures ok { OnOk result (slice_get self.old.kept place ≡ Some self.new.machine) }
         ensures same { self.new.kept ≡ self.old.kept }
+        ensures cpus { self.new.cpus ≡ self.old.cpus }
     {
         let tuple = self.states.tuple(place);
         let store = self.stores.store(tuple[0] as usize);
@@ -296,6 +298,7 @@ impl Album {
         ensures runs { (w : World) → Shows self.old.machine w → (z : World)
             × RunsSchedule w (cpu ∷ replicate result cpu) z × Shows self.new.machine z }
         ensures same { self.new.kept ≡ self.old.kept }
+        ensures cpus { self.new.cpus ≡ self.old.cpus }
     {
         self.machine.turn_ahead(cpu)
     }
@@ -304,6 +307,7 @@ impl Album {
     pub fn refill(&mut self, cpu: u8)
         ensures refills { IsRefilled self.old.machine cpu self.new.machine }
         ensures same { self.new.kept ≡ self.old.kept }
+        ensures cpus { self.new.cpus ≡ self.old.cpus }
     {
         self.machine.refill(cpu);
     }
@@ -323,6 +327,7 @@ impl Album {
         ensures kept { IfOk result (λ n. IsKeptAt self.new.kept n self.new.machine) }
         ensures adds { AddsOne self.old.kept self.old.machine self.new.kept }
         ensures same { self.new.machine ≡ self.old.machine }
+        ensures cpus { self.new.cpus ≡ self.old.cpus }
     {
         self.machine.stands();
         keep_machine(
@@ -340,7 +345,8 @@ impl Album {
 
     /// How many CPUs there are: those of the numbers below it.
     pub fn cpus(&self) -> u8
-        ensures { (i c : ℕ) → result ≤ c → IsIdleAt self.now.kept i c }
+        ensures cpus { result ≡ self.now.cpus }
+        ensures idle { (i c : ℕ) → result ≤ c → IsIdleAt self.now.kept i c }
     {
         self.shape.cpus()
     }
@@ -357,7 +363,8 @@ impl Album {
     /// Whether no job of a kept machine has ended out of budget.
     pub fn none_ran_out(&self, place: usize) -> bool
         requires { place < length self.now.kept }
-        ensures { result ≡ true → NoneRanOutAt self.now.kept place }
+        ensures none { result ≡ true → NoneRanOutAt self.now.kept place }
+        ensures out { result ≡ false → NoneRanOutAt self.now.kept place → ⊥ }
     {
         none_ran_out(self.parts.jobs(), behind_first(self.states.tuple(place)))
     }

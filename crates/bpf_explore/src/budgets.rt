@@ -4,11 +4,13 @@ ghost use Rattle.std.specs.Prelude.{◌≡◌, ◌<◌, ◌≤◌, ◌+◌, ◌�
 ghost use Rattle.bpf_machine.specs.Budgets.{depth_at, LeadsDeeper, IsSparing, AreSparing};
 ghost use Rattle.bpf_machine.specs.Machine.{MachineState};
 ghost use Rattle.bpf_explore.specs.Search.{IsIdleAt};
+ghost use Rattle.bpf_explore.specs.Private.Edges.{AreTurns};
 ghost use Rattle.bpf_explore.specs.Private.Replays.{CanRunOut, NoneRunsOut};
 
 use crate::depths::{find_depths, is_sparing};
 use crate::patient::PatientExplorer;
 use crate::rounds::wears_out;
+use crate::turns::Turns;
 use std::alloc::{AllocError, Global};
 
 /// Whether some schedule uses a budget up.
@@ -27,18 +29,20 @@ pub enum Budgets {
 pub(crate) fn judge_budgets(
     alloc: Global,
     explorer: &mut PatientExplorer,
+    turns: &Turns,
 ) -> Result<Budgets, AllocError>
-    requires { 0 < length explorer.old.kept }
+    requires first { 0 < length explorer.old.kept }
+    requires turns { AreTurns explorer.old.kept turns.now }
     ensures same { explorer.new.kept ≡ explorer.old.kept }
     ensures suffice { IfOk result (λ b. b ≡ Budgets.Suffice → NoneRunsOut explorer.old.kept) }
     ensures out { IfOk result (λ b. b ≡ Budgets.RunOut → CanRunOut explorer.old.kept) }
 {
     bpf_machine::laws::budgets_suffice();
-    let depths = find_depths(alloc, explorer)?;
-    if is_sparing(explorer, &depths.steps) {
+    let depths = find_depths(alloc, explorer, turns)?;
+    if is_sparing(explorer, turns, &depths.steps) {
         return Ok(Budgets::Suffice);
     }
-    if wears_out(alloc, explorer, &depths.waits)? {
+    if wears_out(alloc, explorer, turns, &depths.waits)? {
         return Ok(Budgets::RunOut);
     }
     Ok(Budgets::Unknown)

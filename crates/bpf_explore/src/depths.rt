@@ -5,8 +5,10 @@ ghost use Rattle.bpf_machine.specs.Budgets.{depth_at, AreSparing};
 ghost use Rattle.bpf_explore.specs.Album.{HaveBudgets};
 ghost use Rattle.bpf_explore.specs.Search.{IsIdleAt};
 ghost use Rattle.bpf_explore.specs.Private.Depths.{IsSparingAt, LeadsDeeperAt};
+ghost use Rattle.bpf_explore.specs.Private.Edges.{AreTurns};
 
-use crate::patient::{Edge, PatientExplorer};
+use crate::patient::PatientExplorer;
+use crate::turns::{Edge, Turns};
 use std::alloc::{AllocError, Global};
 
 /// Depths of kept machines.
@@ -29,20 +31,35 @@ fn depth_of(depths: &[u64], place: usize) -> u64
 }
 
 /// The turn of a CPU that has work in a kept machine.
-pub(crate) fn working_edge(explorer: &PatientExplorer, place: usize, cpu: u8) -> Option<Edge> {
-    if place < explorer.len() && explorer.has_work(place, cpu) {
-        explorer.edge(place, cpu).ok()
+pub(crate) fn working_edge(
+    explorer: &PatientExplorer,
+    turns: &Turns,
+    place: usize,
+    cpu: u8,
+) -> Option<Edge>
+    requires turns { AreTurns explorer.now.kept turns.now }
+    requires place { place < length explorer.now.kept }
+    requires cpu { cpu < turns.now.cpus }
+{
+    if explorer.has_work(place, cpu) {
+        Some(turns.edge(place, cpu))
     } else {
         None
     }
 }
 
 /// How many turns lead to each kept machine.
-fn count_turns(alloc: Global, explorer: &PatientExplorer) -> Result<Vec<u32>, AllocError> {
+fn count_turns(
+    alloc: Global,
+    explorer: &PatientExplorer,
+    turns: &Turns,
+) -> Result<Vec<u32>, AllocError>
+    requires { AreTurns explorer.now.kept turns.now }
+{
     let mut counts = vec![in alloc; 0u32; explorer.len()]?;
     for place in 0..explorer.len() {
-        for cpu in 0..explorer.cpus() {
-            if let Some(edge) = working_edge(explorer, place, cpu)
+        for cpu in 0..turns.cpus {
+            if let Some(edge) = working_edge(explorer, turns, place, cpu)
                 && let Some(count) = counts.get_mut(edge.to as usize)
             {
                 *count = count.saturating_add(1);
@@ -75,13 +92,17 @@ fn deepen(depths: &mut Vec<u64>, place: usize, depth: u64) {
 /// can be passed next.
 fn pass(
     explorer: &PatientExplorer,
+    turns: &Turns,
     place: usize,
     depths: &mut Depths,
     order: &mut Vec<usize>,
-) -> Result<(), AllocError> {
+) -> Result<(), AllocError>
+    requires turns { AreTurns explorer.now.kept turns.now }
+    requires place { place < length explorer.now.kept }
+{
     let depth = depth_of(&depths.steps, place);
-    for cpu in 0..explorer.cpus() {
-        if let Some(edge) = working_edge(explorer, place, cpu) {
+    for cpu in 0..turns.cpus {
+        if let Some(edge) = working_edge(explorer, turns, place, cpu) {
             let to = edge.to as usize;
             let more = depth.saturating_add(edge.ahead as u64 + 1);
             deepen(&mut depths.steps, to, more);
@@ -94,8 +115,14 @@ fn pass(
 }
 
 /// How deep kept machines are, from the first on.
-pub(crate) fn find_depths(alloc: Global, explorer: &PatientExplorer) -> Result<Depths, AllocError> {
-    let waits = count_turns(alloc, explorer)?;
+pub(crate) fn find_depths(
+    alloc: Global,
+    explorer: &PatientExplorer,
+    turns: &Turns,
+) -> Result<Depths, AllocError>
+    requires { AreTurns explorer.now.kept turns.now }
+{
+    let waits = count_turns(alloc, explorer, turns)?;
     let steps = vec![in alloc; 0u64; explorer.len()]?;
     let mut depths = Depths { steps, waits };
     let mut order = Vec::new(alloc);
@@ -104,7 +131,9 @@ pub(crate) fn find_depths(alloc: Global, explorer: &PatientExplorer) -> Result<D
         let Some(place) = order.get(next).copied() else {
             break;
         };
-        pass(explorer, place, &mut depths, &mut order)?;
+        if place < explorer.len() {
+            pass(explorer, turns, place, &mut depths, &mut order)?;
+        }
     }
     Ok(depths)
 }
@@ -120,32 +149,45 @@ fn is_deeper(depth: u64, ahead: u32, next: u64) -> bool
 }
 
 /// Whether a CPU has no work in a kept machine, or its turn leads deeper.
-fn leads_deeper(explorer: &PatientExplorer, depths: &[u64], place: usize, cpu: u8) -> bool
-    requires { place < length explorer.now.kept }
+fn leads_deeper(
+    explorer: &PatientExplorer,
+    turns: &Turns,
+    depths: &[u64],
+    place: usize,
+    cpu: u8,
+) -> bool
+    requires turns { AreTurns explorer.now.kept turns.now }
+    requires place { place < length explorer.now.kept }
+    requires cpu { cpu < turns.now.cpus }
     ensures { result ≡ true → IsIdleAt explorer.now.kept place cpu
         ⊎ LeadsDeeperAt explorer.now.kept depths.now place cpu }
 {
     if !explorer.has_work(place, cpu) {
         return true;
     }
-    let Ok(edge) = explorer.edge(place, cpu) else {
-        return false;
-    };
+    let edge = turns.edge(place, cpu);
     let depth = depth_of(depths, place);
     let next = depth_of(depths, edge.to as usize);
     is_deeper(depth, edge.ahead, next)
 }
 
 /// Whether a kept machine is less deep than the least budget, and all turns from it lead deeper.
-fn is_sparing_at(explorer: &PatientExplorer, depths: &[u64], least: u64, place: usize) -> bool
-    requires { place < length explorer.now.kept }
+fn is_sparing_at(
+    explorer: &PatientExplorer,
+    turns: &Turns,
+    depths: &[u64],
+    least: u64,
+    place: usize,
+) -> bool
+    requires turns { AreTurns explorer.now.kept turns.now }
+    requires place { place < length explorer.now.kept }
     ensures { result ≡ true → IsSparingAt explorer.now.kept depths.now least place }
 {
     if depth_of(depths, place) >= least {
         return false;
     }
-    for cpu in 0..explorer.cpus() {
-        if !leads_deeper(explorer, depths, place, cpu) {
+    for cpu in 0..turns.cpus {
+        if !leads_deeper(explorer, turns, depths, place, cpu) {
             return false;
         }
     }
@@ -153,12 +195,13 @@ fn is_sparing_at(explorer: &PatientExplorer, depths: &[u64], least: u64, place: 
 }
 
 /// Whether turns lead ever deeper, and no kept machine is as deep as a budget.
-pub(crate) fn is_sparing(explorer: &PatientExplorer, depths: &[u64]) -> bool
+pub(crate) fn is_sparing(explorer: &PatientExplorer, turns: &Turns, depths: &[u64]) -> bool
+    requires { AreTurns explorer.now.kept turns.now }
     ensures { result ≡ true → (least : ℕ) × AreSparing explorer.now.kept depths.now least }
 {
     let least = explorer.least_budget();
     for place in 0..explorer.len() {
-        if !is_sparing_at(explorer, depths, least, place) {
+        if !is_sparing_at(explorer, turns, depths, least, place) {
             return false;
         }
     }

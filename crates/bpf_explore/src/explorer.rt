@@ -165,6 +165,10 @@ impl Frontier for Explorer {
 
     ghost is_patient = { λ e. false };
 
+    ghost width = { λ e. e.cpus };
+
+    ghost has_made = { λ e turns. Unit {0} };
+
     fn count(&self) -> usize {
         self.len()
     }

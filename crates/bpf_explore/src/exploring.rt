@@ -6,6 +6,8 @@ ghost use Rattle.bpf_cpu.specs.Task.{waiting};
 ghost use Rattle.bpf_jobs.specs.Printed.{first_world};
 ghost use Rattle.bpf_explore.specs.Outcomes.{IsExplored};
 ghost use Rattle.bpf_explore.specs.Patient.{IsExploredPatiently, IsSearchedPatiently};
+ghost use Rattle.bpf_explore.specs.Private.Answers.{StartsFresh};
+ghost use Rattle.bpf_explore.specs.Private.Edges.{AreTurns};
 ghost use Rattle.bpf_explore.specs.Private.Hung.{AllHang, AllLead};
 ghost use Rattle.bpf_explore.specs.Private.Replays.{CanRunOut, NoneRunsOut};
 
@@ -17,6 +19,7 @@ use crate::hung::{Hung, gather_hung};
 use crate::patience::{both, gather_patiently};
 use crate::patient::PatientExplorer;
 use crate::stores::copy_shape;
+use crate::turns::Turns;
 use bpf_cpu::Job;
 use bpf_jobs::make_machine;
 use bpf_loader::Program;
@@ -88,8 +91,11 @@ pub struct ExploredPatiently {
 fn find_hung(
     alloc: Global,
     explorer: &mut PatientExplorer,
+    turns: &Turns,
     whole: bool,
 ) -> Result<(Vec<Hung>, bool), AllocError>
+    requires fresh { StartsFresh explorer.old.kept }
+    requires turns { whole ≡ true → AreTurns explorer.old.kept turns.now }
     ensures same { explorer.new.kept ≡ explorer.old.kept }
     ensures hung { IfOk result (λ r. AllHang explorer.old.kept r.0.items) }
     ensures ends { IfOk result (λ r. whole ≡ true → r.1 ≡ true → r.0.items ≡ []
@@ -97,7 +103,7 @@ fn find_hung(
     ensures out { IfOk result (λ r. r.1 ≡ false → CanRunOut explorer.old.kept) }
 {
     if whole {
-        gather_hung(alloc, explorer)
+        gather_hung(alloc, explorer, turns)
     } else {
         Ok((Vec::new(alloc), true))
     }
@@ -108,10 +114,12 @@ fn find_hung(
 fn find_budgets(
     alloc: Global,
     explorer: &mut PatientExplorer,
+    turns: &Turns,
     whole: bool,
     fit: bool,
 ) -> Result<Budgets, AllocError>
     requires first { 0 < length explorer.old.kept }
+    requires turns { whole ≡ true → AreTurns explorer.old.kept turns.now }
     requires out { fit ≡ false → CanRunOut explorer.old.kept }
     ensures same { explorer.new.kept ≡ explorer.old.kept }
     ensures suffice { IfOk result (λ b. b ≡ Budgets.Suffice → NoneRunsOut explorer.old.kept) }
@@ -121,7 +129,7 @@ fn find_budgets(
         return Ok(Budgets::RunOut);
     }
     if whole {
-        judge_budgets(alloc, explorer)
+        judge_budgets(alloc, explorer, turns)
     } else {
         Ok(Budgets::Unknown)
     }
@@ -130,7 +138,8 @@ fn find_budgets(
 /// The same of outcomes in which no job is out of budget: machines that differ only in how many
 /// steps are left of budgets count as one. The outcomes aren't all where more than `limit` are
 /// kept, or where a schedule that was found uses a budget up. Besides, states from which no end can
-/// be reached, however many steps jobs are given, and whether some schedule uses a budget up.
+/// be reached, however many steps jobs are given, and whether some schedule uses a budget up. Want of
+/// memory is the only refusal.
 pub fn search_patiently(
     alloc: Global,
     shape: StoreShape,
@@ -156,10 +165,11 @@ pub fn search_patiently(
     let whole = explore(&mut explorer, limit)?;
     explorer.leads();
     explorer.apart();
+    let turns = explorer.take_turns();
     let (answers, told) = gather_patiently(alloc, &mut explorer, names, maps)?;
-    let (hung, fit) = find_hung(alloc, &mut explorer, whole)?;
+    let (hung, fit) = find_hung(alloc, &mut explorer, &turns, whole)?;
     let all_fit = both(told, fit);
-    let budgets = find_budgets(alloc, &mut explorer, whole, all_fit)?;
+    let budgets = find_budgets(alloc, &mut explorer, &turns, whole, all_fit)?;
     let all = both(whole, all_fit);
     let states = explorer.len();
     Ok(ExploredPatiently {

@@ -1,8 +1,8 @@
 //! The search: turns are made from each kept machine, and what is new is kept.
 
-ghost use Rattle.std.specs.Prelude.{◌≡◌, ◌<◌, ◌≤◌, ℕ, Bool, List, true, false, IfOk, OnOk, length};
+ghost use Rattle.std.specs.Prelude.{◌≡◌, ◌<◌, ◌≤◌, ◌++◌, ◌∷◌, [], ℕ, Bool, List, true, false, IfOk, OnOk, length};
 ghost use Rattle.bpf_machine.specs.Machine.{MachineState};
-ghost use Rattle.bpf_explore.specs.Search.{IsTurned, IsExpanded, IsIdleAt, Extends, IsWhole, CoversAll};
+ghost use Rattle.bpf_explore.specs.Search.{IsTurned, IsExpanded, IsIdleAt, Extends, IsWhole, CoversAll, row_of, rows_of};
 
 use std::alloc::AllocError;
 
@@ -15,6 +15,12 @@ pub trait Frontier {
     /// steps left of its budgets.
     ghost is_patient: { Self → Bool };
 
+    /// How many CPUs there are.
+    ghost width: { Self → ℕ };
+
+    /// These turns were made, in this order: from which kept machine each, and by which CPU.
+    ghost has_made: { Self → List (ℕ × ℕ) → Type 0 };
+
     /// How many are kept.
     fn count(&self) -> usize
         ensures { result ≡ length (kept self.now) };
@@ -22,14 +28,18 @@ pub trait Frontier {
     /// How many CPUs there are: those of the numbers below it. Others have no work in any kept
     /// machine.
     fn cpus(&self) -> u8
-        ensures { (i c : ℕ) → result ≤ c → IsIdleAt (kept self.now) i c };
+        ensures width { result ≡ width self.now }
+        ensures idle { (i c : ℕ) → result ≤ c → IsIdleAt (kept self.now) i c };
 
     /// Makes a CPU's turn from a kept machine, and then the turns of it that no store sees. Keeps
     /// the machine that they lead to, unless it is kept already.
     fn turn(&mut self, place: usize, cpu: u8) -> Result<(), AllocError>
         requires { place < length (kept self.old) }
         ensures turned { OnOk result (IsTurned (is_patient self.new) (kept self.new) place cpu) }
+        ensures made { OnOk result ((turns : List (ℕ × ℕ)) → has_made self.old turns
+            → has_made self.new (turns ++ (place, cpu) ∷ [])) }
         ensures extends { Extends (kept self.old) (kept self.new) }
+        ensures width { width self.new ≡ width self.old }
         ensures same { is_patient self.new ≡ is_patient self.old };
 }
 
@@ -38,7 +48,10 @@ fn expand<F: Frontier>(frontier: &mut F, place: usize) -> Result<(), AllocError>
     requires { place < length (F.kept frontier.old) }
     ensures expanded { OnOk result
         (IsExpanded (F.is_patient frontier.new) (F.kept frontier.new) place) }
+    ensures made { OnOk result ((turns : List (ℕ × ℕ)) → F.has_made frontier.old turns
+        → F.has_made frontier.new (turns ++ row_of place (F.width frontier.old))) }
     ensures extends { Extends (F.kept frontier.old) (F.kept frontier.new) }
+    ensures width { F.width frontier.new ≡ F.width frontier.old }
     ensures same { F.is_patient frontier.new ≡ F.is_patient frontier.old }
 {
     for cpu in 0..frontier.cpus() {
@@ -54,6 +67,8 @@ pub fn explore<F: Frontier>(frontier: &mut F, limit: usize) -> Result<bool, Allo
         → IsWhole (F.is_patient frontier.new) (F.kept frontier.new)) }
     ensures covers { IfOk result (λ all. all ≡ true
         → CoversAll (F.is_patient frontier.new) (F.kept frontier.new)) }
+    ensures made { IfOk result (λ all. all ≡ true → F.has_made frontier.old []
+        → F.has_made frontier.new (rows_of (F.width frontier.new) (length (F.kept frontier.new)))) }
     ensures met { IfOk result (λ all. all ≡ false → limit < length (F.kept frontier.new)) }
     ensures extends { Extends (F.kept frontier.old) (F.kept frontier.new) }
     ensures same { F.is_patient frontier.new ≡ F.is_patient frontier.old }

@@ -1,15 +1,19 @@
 //! States of a patient search from which no end can be reached.
 
-ghost use Rattle.std.specs.Prelude.{◌≡◌, ◌<◌, ◌≤◌, ℕ, [], true, false, Some, IfOk, IfSome, IfNone, OnOk, length, slice_get};
+ghost use Rattle.std.specs.Prelude.{◌≡◌, ◌<◌, ◌⊎◌, ℕ, [], true, false, Some, IfOk, IfSome, IfNone, OnOk, length, slice_get};
 ghost use Rattle.bpf_machine.specs.Ends.{AreStuck};
-ghost use Rattle.bpf_explore.specs.Private.Ends.{AllGoOn, AreMarked, LeadToEnds};
-ghost use Rattle.bpf_explore.specs.Private.Hung.{AllLead, Hangs, AllHang};
+ghost use Rattle.bpf_explore.specs.Album.{NoneRanOutAt};
+ghost use Rattle.bpf_explore.specs.Private.Answers.{StartsFresh};
+ghost use Rattle.bpf_explore.specs.Private.Edges.{AreTurns};
+ghost use Rattle.bpf_explore.specs.Private.Ends.{AllGoOn, AreMarked};
+ghost use Rattle.bpf_explore.specs.Private.Hung.{AllLead, AllMarkedBelow, Hangs, AllHang};
 ghost use Rattle.bpf_explore.specs.Private.Replays.{CanRunOut};
 
-use crate::ends::{all_marked, mark_ends};
+use crate::ends::{mark_ends, mark_of};
 use crate::patience::both;
 use crate::patient::PatientExplorer;
 use crate::replays::replay;
+use crate::turns::Turns;
 use std::alloc::{AllocError, Global};
 use std::marker::Model;
 
@@ -36,43 +40,53 @@ impl Hung {
     }
 }
 
+/// Tries the schedule to a kept machine in which a job has ended out of budget: it uses a budget
+/// up.
+fn show_run_out(explorer: &mut PatientExplorer, place: usize) -> Result<(), AllocError>
+    requires place { place < length explorer.old.kept }
+    requires fresh { StartsFresh explorer.old.kept }
+    requires out { NoneRanOutAt explorer.old.kept place → ⊥ }
+    ensures same { explorer.new.kept ≡ explorer.old.kept }
+    ensures out { OnOk result (CanRunOut explorer.old.kept) }
+{
+    bpf_machine::laws::free_runs_agree();
+    let by = explorer.way(place)?;
+    let _ = replay(explorer, &by)?;
+    Ok(())
+}
+
 /// Whether no kept machine has a job that ended out of budget. Where some has, the schedule to it
-/// does use a budget up; one that doesn't counts as want of memory.
+/// uses a budget up.
 fn all_go_on(explorer: &mut PatientExplorer) -> Result<bool, AllocError>
+    requires { StartsFresh explorer.old.kept }
     ensures same { explorer.new.kept ≡ explorer.old.kept }
     ensures on { IfOk result (λ on. on ≡ true → AllGoOn explorer.old.kept) }
     ensures out { IfOk result (λ on. on ≡ false → CanRunOut explorer.old.kept) }
 {
     for place in 0..explorer.len() {
         if !explorer.none_ran_out(place) {
-            let by = explorer.way(place)?;
-            if replay(explorer, &by)? {
-                return Ok(false);
-            }
-            return Err(AllocError);
+            show_run_out(explorer, place)?;
+            return Ok(false);
         }
     }
     Ok(true)
 }
 
-/// Whether an end can be reached from this kept machine.
-fn is_marked(marks: &[bool], place: usize) -> bool {
-    match marks.get(place) {
-        Some(mark) => *mark,
-        None => true,
-    }
-}
-
 /// Whether no end can be reached from a kept machine, but from the one before it on its way.
 fn is_first_hung(explorer: &PatientExplorer, marks: &[bool], place: usize) -> bool
-    requires { place < length marks.now }
-    ensures { result ≡ true → slice_get marks.now place ≡ Some false }
+    requires place { place < length marks.now }
+    requires count { length marks.now ≡ length explorer.now.kept }
+    ensures first { result ≡ true → slice_get marks.now place ≡ Some false }
+    ensures later { result ≡ false → (slice_get marks.now place ≡ Some true)
+        ⊎ ((i : ℕ) × (i < place) × (slice_get marks.now i ≡ Some false)) }
 {
-    if marks[place] {
+    if mark_of(marks, place) {
         return false;
     }
-    let before = explorer.came_from(place);
-    before == place || is_marked(marks, before)
+    if place == 0 {
+        return true;
+    }
+    mark_of(marks, explorer.came_from(place))
 }
 
 /// What is told of a kept machine from which no end can be reached; `None` where the schedule to it
@@ -112,6 +126,9 @@ fn add_hung(
     ensures same { explorer.new.kept ≡ explorer.old.kept }
     ensures hung { OnOk result (AllHang explorer.old.kept hung.old.items
         → AllHang explorer.old.kept hung.new.items) }
+    ensures listed { IfOk result (λ fits. fits ≡ true → hung.new.items ≡ []
+        → (hung.old.items ≡ []) × (AllMarkedBelow marks.now place
+        → slice_get marks.now place ≡ Some true)) }
     ensures out { IfOk result (λ fits. fits ≡ false → CanRunOut explorer.old.kept) }
 {
     if !is_first_hung(explorer, marks, place) {
@@ -134,6 +151,8 @@ fn list_hung(
     requires { AreMarked explorer.old.kept marks.now }
     ensures same { explorer.new.kept ≡ explorer.old.kept }
     ensures hung { IfOk result (λ r. AllHang explorer.old.kept r.0.items) }
+    ensures listed { IfOk result (λ r. r.1 ≡ true → r.0.items ≡ []
+        → AllMarkedBelow marks.now (length marks.now)) }
     ensures out { IfOk result (λ r. r.1 ≡ false → CanRunOut explorer.old.kept) }
 {
     let mut hung = Vec::new(alloc);
@@ -145,26 +164,15 @@ fn list_hung(
     Ok((hung, fit))
 }
 
-/// Whether each kept machine is marked, where nothing hung is told and all schedules fit.
-fn is_settled(marks: &[bool], hung: &[Hung], fit: bool) -> bool
-    ensures { result ≡ true → fit ≡ true → hung.now ≡ [] → (i : ℕ) → i < length marks.now
-        → slice_get marks.now i ≡ Some true }
-{
-    if !fit {
-        return true;
-    }
-    if !hung.is_empty() {
-        return true;
-    }
-    all_marked(marks)
-}
-
 /// The same, where no kept machine has a job that is out of budget. Where none is told and all
 /// schedules fit, each kept machine leads to an end.
 pub(crate) fn gather_hung(
     alloc: Global,
     explorer: &mut PatientExplorer,
+    turns: &Turns,
 ) -> Result<(Vec<Hung>, bool), AllocError>
+    requires fresh { StartsFresh explorer.old.kept }
+    requires turns { AreTurns explorer.old.kept turns.now }
     ensures same { explorer.new.kept ≡ explorer.old.kept }
     ensures hung { IfOk result (λ r. AllHang explorer.old.kept r.0.items) }
     ensures ends { IfOk result (λ r. r.1 ≡ true → r.0.items ≡ [] → AllLead explorer.old.kept) }
@@ -173,11 +181,7 @@ pub(crate) fn gather_hung(
     if !all_go_on(explorer)? {
         return Ok((Vec::new(alloc), false));
     }
-    let marks = mark_ends(alloc, explorer)?;
+    let marks = mark_ends(alloc, explorer, turns)?;
     let (hung, fit) = list_hung(alloc, explorer, &marks)?;
-    if !is_settled(&marks, &hung, fit) {
-        // Some one that isn't marked is the first on its way.
-        return Err(AllocError);
-    }
     Ok((hung, fit))
 }

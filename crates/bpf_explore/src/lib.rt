@@ -20,6 +20,7 @@ mod rounds;
 mod slots;
 mod stores;
 mod tuples;
+mod turns;
 
 pub use album::Album;
 pub use answers::{Answer, is_any_stopped};

@@ -1,78 +1,39 @@
 //! Answers of a patient search, each tried by its schedule, with the budgets that jobs have.
 
 ghost use Rattle.std.specs.Prelude.{◌≡◌, ◌<◌, ◌⊎◌, ℕ, Bool, List, true, false, Some, IfOk, IfSome, IfNone, OnOk, length, map, slice_get, string_bytes};
-ghost use Rattle.bpf_machine.specs.Patient.{NoneRanOut};
-ghost use Rattle.bpf_machine.specs.Rounds.{HaveEnded};
 ghost use Rattle.bpf_machine.specs.Schedule.{World};
+ghost use Rattle.bpf_explore.specs.Album.{HaveEndedAt};
 ghost use Rattle.bpf_explore.specs.Patient.{ArePatient, EndsPatiently};
-ghost use Rattle.bpf_explore.specs.Private.Answers.{AreSorted, IsFirst, KeepsAll, IsPlaceOf, IsAnsweredAt};
-ghost use Rattle.bpf_explore.specs.Private.Patience.{AllEndPatiently, TellsAt};
+ghost use Rattle.bpf_explore.specs.Private.Answers.{AreSorted, IsFirst, KeepsAll, IsPlaceOf, IsAnsweredAt, StartsFresh};
+ghost use Rattle.bpf_explore.specs.Private.Patience.{AllEndPatiently, LeadsInBudget};
 ghost use Rattle.bpf_explore.specs.Private.Replays.{CanRunOut};
 
 use crate::answers::{Answer, place_of};
 use crate::patient::PatientExplorer;
 use crate::replays::replay;
-use bpf_cpu::Outcome;
 use bpf_jobs::{Report, tell};
-use bpf_machine::Machine;
 use std::alloc::{AllocError, Global};
 
-/// Whether each job has ended, and none out of budget.
-fn have_ended_well(machine: &Machine) -> bool
-    ensures ended { result ≡ true → HaveEnded machine.now.jobs }
-    ensures well { result ≡ true → NoneRanOut machine.now.jobs }
-{
-    for job in 0..machine.jobs() {
-        match machine.outcome(job) {
-            Some(Outcome::Exit(_) | Outcome::Fault(_, _)) => {}
-            Some(Outcome::OutOfBudget(_)) | None => return false,
-        }
-    }
-    true
-}
-
-/// What a schedule leads to from the first machine; `None` where it uses a budget up. One that
-/// leaves work counts as want of memory.
-fn tell_replayed(
-    alloc: Global,
+/// The schedule that leads to a kept machine without work, with the budgets that jobs have; `None`
+/// where it uses a budget up.
+fn way_in_budget(
     explorer: &mut PatientExplorer,
-    names: &[String],
-    maps: bool,
-    by: Vec<(u8, u64)>,
-) -> Result<Option<Answer>, AllocError>
-    requires { 0 < length explorer.old.kept }
+    place: usize,
+) -> Result<Option<Vec<(u8, u64)>>, AllocError>
+    requires place { place < length explorer.old.kept }
+    requires fresh { StartsFresh explorer.old.kept }
+    requires ended { HaveEndedAt explorer.old.kept place }
     ensures same { explorer.new.kept ≡ explorer.old.kept }
-    ensures ends { IfOk result (λ found. IfSome found (λ answer.
-        (w : World) → IsFirst explorer.old.kept w
-        → EndsPatiently w (map string_bytes names.now) maps answer)) }
-    ensures out { IfOk result (λ found. IfNone found (CanRunOut explorer.old.kept)) }
+    ensures leads { IfOk result (λ way. IfSome way (λ by.
+        LeadsInBudget explorer.old.kept by.items place)) }
+    ensures out { IfOk result (λ way. IfNone way (CanRunOut explorer.old.kept)) }
 {
+    bpf_machine::laws::free_runs_agree();
+    let by = explorer.way(place)?;
     if replay(explorer, &by)? {
         return Ok(None);
     }
-    if !have_ended_well(explorer.machine()) {
-        return Err(AllocError);
-    }
-    let Report { text, stopped } = tell(alloc, explorer.machine(), names, maps)?;
-    Ok(Some(Answer::new(text, stopped, by)))
-}
-
-/// Whether an answer tells what a report tells.
-fn tells_same(answer: &Answer, report: &Report) -> bool
-    ensures { result ≡ true → (answer.now.text ≡ string_bytes report.now.text)
-        × (answer.now.stopped ≡ report.now.stopped) }
-{
-    let same = answer.text().as_bytes() == report.text.as_bytes();
-    same && answer.stopped() == report.stopped
-}
-
-/// Whether the answer at a place tells what a report tells.
-fn is_told_at(answers: &[Answer], at: usize, report: &Report) -> bool
-    requires { at < length answers.now }
-    ensures { result ≡ true → TellsAt answers.now at (string_bytes report.now.text)
-        report.now.stopped }
-{
-    tells_same(&answers[at], report)
+    Ok(Some(by))
 }
 
 /// Puts an answer in its place.
@@ -90,39 +51,9 @@ fn put_patiently(answers: &mut Vec<Answer>, at: usize, answer: Answer) -> Result
     Ok(())
 }
 
-/// The answer that tells what a report tells, by the schedule that leads to a kept machine; `None`
-/// where it uses a budget up. Where it tells something else, that counts as want of memory.
-fn witness(
-    alloc: Global,
-    explorer: &mut PatientExplorer,
-    names: &[String],
-    maps: bool,
-    place: usize,
-    report: &Report,
-) -> Result<Option<Answer>, AllocError>
-    requires { place < length explorer.old.kept }
-    ensures same { explorer.new.kept ≡ explorer.old.kept }
-    ensures tells { IfOk result (λ found. IfSome found (λ answer.
-        (answer.text ≡ string_bytes report.now.text) × (answer.stopped ≡ report.now.stopped))) }
-    ensures ends { IfOk result (λ found. IfSome found (λ answer.
-        (w : World) → IsFirst explorer.old.kept w
-        → EndsPatiently w (map string_bytes names.now) maps answer)) }
-    ensures out { IfOk result (λ found. IfNone found (CanRunOut explorer.old.kept)) }
-{
-    let by = explorer.way(place)?;
-    let Some(answer) = tell_replayed(alloc, explorer, names, maps, by)? else {
-        return Ok(None);
-    };
-    if tells_same(&answer, report) {
-        Ok(Some(answer))
-    } else {
-        Err(AllocError)
-    }
-}
-
-/// Puts what is told of a kept machine among the answers, if it has no work and if that isn't one
-/// of them yet. Whether it is one then: not where the schedule to it uses a budget up.
-fn answer_at(
+/// Puts what is told of a kept machine without work among the answers, if that isn't one of them
+/// yet. Whether it is one then: not where the schedule to it uses a budget up.
+fn tell_ended(
     alloc: Global,
     explorer: &mut PatientExplorer,
     names: &[String],
@@ -131,12 +62,53 @@ fn answer_at(
     place: usize,
 ) -> Result<bool, AllocError>
     requires place { place < length explorer.old.kept }
+    requires fresh { StartsFresh explorer.old.kept }
+    requires ended { HaveEndedAt explorer.old.kept place }
     requires sorted { AreSorted answers.old.items }
+    requires ends { (w : World) → IsFirst explorer.old.kept w
+        → AllEndPatiently w (map string_bytes names.now) maps answers.old.items }
     ensures same { explorer.new.kept ≡ explorer.old.kept }
     ensures sorted { AreSorted answers.new.items }
     ensures keeps { KeepsAll answers.old.items answers.new.items }
     ensures ends { (w : World) → IsFirst explorer.old.kept w
-        → AllEndPatiently w (map string_bytes names.now) maps answers.old.items
+        → AllEndPatiently w (map string_bytes names.now) maps answers.new.items }
+    ensures answered { IfOk result (λ answered. answered ≡ true → IsAnsweredAt explorer.old.kept
+        (map string_bytes names.now) maps answers.new.items place) }
+    ensures out { IfOk result (λ answered. answered ≡ false → CanRunOut explorer.old.kept) }
+{
+    explorer.leads();
+    explorer.restore(place)?;
+    let Report { text, stopped } = tell(alloc, explorer.machine(), names, maps)?;
+    match place_of(answers, text.as_str()) {
+        Ok(_) => Ok(true),
+        Err(at) => {
+            let Some(by) = way_in_budget(explorer, place)? else {
+                return Ok(false);
+            };
+            put_patiently(answers, at, Answer::new(text, stopped, by))?;
+            Ok(true)
+        }
+    }
+}
+
+/// The same of a kept machine, if it has no work.
+fn tell_at(
+    alloc: Global,
+    explorer: &mut PatientExplorer,
+    names: &[String],
+    maps: bool,
+    answers: &mut Vec<Answer>,
+    place: usize,
+) -> Result<bool, AllocError>
+    requires place { place < length explorer.old.kept }
+    requires fresh { StartsFresh explorer.old.kept }
+    requires sorted { AreSorted answers.old.items }
+    requires ends { (w : World) → IsFirst explorer.old.kept w
+        → AllEndPatiently w (map string_bytes names.now) maps answers.old.items }
+    ensures same { explorer.new.kept ≡ explorer.old.kept }
+    ensures sorted { AreSorted answers.new.items }
+    ensures keeps { KeepsAll answers.old.items answers.new.items }
+    ensures ends { (w : World) → IsFirst explorer.old.kept w
         → AllEndPatiently w (map string_bytes names.now) maps answers.new.items }
     ensures answered { IfOk result (λ answered. answered ≡ true → IsAnsweredAt explorer.old.kept
         (map string_bytes names.now) maps answers.new.items place) }
@@ -145,24 +117,7 @@ fn answer_at(
     if !explorer.has_ended(place) {
         return Ok(true);
     }
-    explorer.restore(place)?;
-    let report = tell(alloc, explorer.machine(), names, maps)?;
-    match place_of(answers, report.text.as_str()) {
-        Ok(at) => {
-            if is_told_at(answers, at, &report) {
-                Ok(true)
-            } else {
-                Err(AllocError)
-            }
-        }
-        Err(at) => {
-            let Some(answer) = witness(alloc, explorer, names, maps, place, &report)? else {
-                return Ok(false);
-            };
-            put_patiently(answers, at, answer)?;
-            Ok(true)
-        }
-    }
+    tell_ended(alloc, explorer, names, maps, answers, place)
 }
 
 /// Whether both hold.
@@ -180,6 +135,7 @@ pub(crate) fn gather_patiently(
     names: &[String],
     maps: bool,
 ) -> Result<(Vec<Answer>, bool), AllocError>
+    requires { StartsFresh explorer.old.kept }
     ensures same { explorer.new.kept ≡ explorer.old.kept }
     ensures outcomes { IfOk result (λ r. (w : World) → IsFirst explorer.old.kept w
         → ArePatient w (map string_bytes names.now) maps r.0.items) }
@@ -190,7 +146,7 @@ pub(crate) fn gather_patiently(
     let mut answers = Vec::new(alloc);
     let mut whole = true;
     for place in 0..explorer.len() {
-        let answered = answer_at(alloc, explorer, names, maps, &mut answers, place)?;
+        let answered = tell_at(alloc, explorer, names, maps, &mut answers, place)?;
         whole = both(whole, answered);
     }
     Ok((answers, whole))

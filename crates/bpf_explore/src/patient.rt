@@ -1,32 +1,15 @@
 //! The patient search: machines that differ only in how many steps are left of budgets count as
 //! one, which has them all.
 
-ghost use Rattle.std.specs.Prelude.{◌≡◌, true};
-
 use crate::album::{Album, number_of};
 use crate::explorer::{Origin, push_turns, turns_of};
 use crate::frontier::Frontier;
+use crate::turns::{Edge, Turns};
 use bpf_machine::Machine;
 use bpf_shared::StoreShape;
 use std::alloc::{AllocError, Global};
 use std::marker::Model;
-
-/// A CPU's turn from a kept machine, with so many turns of it behind that no store sees, and the
-/// kept machine that it led to.
-#[derive(Clone, Copy)]
-pub(crate) struct Edge {
-    pub from: u32,
-    pub to: u32,
-    pub ahead: u32,
-    pub cpu: u8,
-}
-
-/// Whether it is that of this CPU from this kept machine.
-fn is_of(edge: Edge, place: usize, cpu: u8) -> bool
-    ensures { result ≡ true → (edge.«from» ≡ place) × (edge.cpu ≡ cpu) }
-{
-    edge.from as usize == place && edge.cpu == cpu
-}
+use std::mem;
 
 /// An album of machines whose jobs in hand have their whole budgets left, how each came about, and
 /// where each CPU's turn leads from it.
@@ -41,27 +24,33 @@ pub struct PatientExplorer {
 }
 
 impl Model for PatientExplorer {
+    ghost use Rattle.std.specs.Prelude.{map};
     ghost use Rattle.bpf_machine.specs.Ends.{RunsFreely};
-    ghost use Rattle.bpf_explore.specs.Album.{AlbumState};
+    ghost use Rattle.bpf_explore.specs.Album.{PatientState};
     ghost use Rattle.bpf_explore.specs.Private.Trail.{AreOrigins};
-    ghost use Rattle.bpf_explore.specs.Private.Edges.{AreEdges};
+    ghost use Rattle.bpf_explore.specs.Private.Edges.{AreEdges, turn_of};
 
-    ghost Value = { AlbumState };
+    ghost Value = { PatientState };
 
-    ghost view = { λ e. e.album };
+    ghost view = { λ e. record {
+      machine = e.album.machine;
+      kept = e.album.kept;
+      cpus = e.album.cpus;
+      made = map turn_of e.edges.items;
+    } };
 
     ghost invariant = { λ e. AreOrigins RunsFreely e.album.kept e.origins.items
         × AreEdges e.album.kept e.edges.items };
 }
 
 impl PatientExplorer {
-    ghost use Rattle.std.specs.Prelude.{◌≡◌, ◌<◌, ◌≤◌, ℕ, true, false, IfOk, IfSome, OnOk, Some, None, length, slice_get};
+    ghost use Rattle.std.specs.Prelude.{◌≡◌, ◌<◌, ◌≤◌, ℕ, true, false, [], IfOk, OnOk, Some, None, length, slice_get};
     ghost use Rattle.bpf_machine.specs.Machine.{Shows};
     ghost use Rattle.bpf_machine.specs.Schedule.{World, RunsSchedule, unrolled};
-    ghost use Rattle.bpf_explore.specs.Search.{IsIdleAt};
+    ghost use Rattle.bpf_explore.specs.Search.{IsIdleAt, rows_of};
     ghost use Rattle.bpf_explore.specs.Stores.{IsOfShape};
     ghost use Rattle.bpf_explore.specs.Album.{ShowsFirst, AreApart, AreLedFreely, LeadsFreely, HaveEndedAt, NoneRanOutAt, HaveBudgets};
-    ghost use Rattle.bpf_explore.specs.Private.Edges.{IsEdgeOf};
+    ghost use Rattle.bpf_explore.specs.Private.Edges.{AreTurns};
 
     /// A search of which the first machine is kept.
     pub fn new(
@@ -71,7 +60,8 @@ impl PatientExplorer {
     ) -> Result<PatientExplorer, AllocError>
         requires shape { IsOfShape shape machine.store }
         requires lists { machine.lists ≡ None }
-        ensures { IfOk result (λ e. ShowsFirst e.kept machine) }
+        ensures first { IfOk result (λ e. ShowsFirst e.kept machine) }
+        ensures none { IfOk result (λ e. e.made ≡ []) }
     {
         let album = Album::new(alloc, shape, machine)?;
         let mut origins = Vec::new(alloc);
@@ -103,13 +93,6 @@ impl PatientExplorer {
         self.album.len()
     }
 
-    /// How many CPUs there are: those of the numbers below it.
-    pub fn cpus(&self) -> u8
-        ensures { (i c : ℕ) → result ≤ c → IsIdleAt self.now.kept i c }
-    {
-        self.album.cpus()
-    }
-
     /// Whether each job of a kept machine has ended.
     pub fn has_ended(&self, place: usize) -> bool
         requires { place < length self.now.kept }
@@ -122,7 +105,8 @@ impl PatientExplorer {
     /// Whether no job of a kept machine has ended out of budget.
     pub fn none_ran_out(&self, place: usize) -> bool
         requires { place < length self.now.kept }
-        ensures { result ≡ true → NoneRanOutAt self.now.kept place }
+        ensures none { result ≡ true → NoneRanOutAt self.now.kept place }
+        ensures out { result ≡ false → NoneRanOutAt self.now.kept place → ⊥ }
     {
         self.album.none_ran_out(place)
     }
@@ -178,30 +162,24 @@ impl PatientExplorer {
         Ok(by)
     }
 
-    /// The kept machine from which the search came to this one; itself of the first.
-    pub(crate) fn came_from(&self, place: usize) -> usize {
-        match self.origins.get(place) {
-            Some(origin) => origin.from as usize,
-            None => place,
-        }
+    /// The kept machine from which the search came to this one.
+    pub(crate) fn came_from(&self, place: usize) -> usize
+        requires { (0 < place) × (place < length self.now.kept) }
+        ensures { result < place }
+    {
+        self.origins[place].from as usize
     }
 
-    /// Where a CPU's turn from a kept machine led. One that the search hasn't made counts as want of
-    /// memory.
-    pub(crate) fn edge(&self, place: usize, cpu: u8) -> Result<Edge, AllocError>
-        ensures { IfOk result (λ e. IsEdgeOf self.now.kept place cpu e) }
+    /// Takes out where turns led. They are all, if the turns that were made are those of each CPU
+    /// from each kept machine.
+    pub(crate) fn take_turns(&mut self) -> Turns
+        ensures same { self.new.kept ≡ self.old.kept }
+        ensures turns { self.old.made ≡ rows_of self.old.cpus (length self.old.kept)
+            → AreTurns self.old.kept result }
     {
-        let cpus = self.album.cpus() as usize;
-        let at = place.saturating_mul(cpus).saturating_add(cpu as usize);
-        if at >= self.edges.len() {
-            return Err(AllocError);
-        }
-        let edge = self.edges[at];
-        if is_of(edge, place, cpu) {
-            Ok(edge)
-        } else {
-            Err(AllocError)
-        }
+        let cpus = self.album.cpus();
+        let edges = mem::replace(&mut self.edges, Vec::new(self.alloc));
+        Turns { cpus, edges }
     }
 
     /// A schedule leads to each of them, where jobs are given steps on the way.
@@ -220,11 +198,15 @@ impl PatientExplorer {
 }
 
 impl Frontier for PatientExplorer {
-    ghost use Rattle.std.specs.Prelude.{true};
+    ghost use Rattle.std.specs.Prelude.{◌≡◌, true};
 
     ghost kept = { λ e. e.kept };
 
     ghost is_patient = { λ e. true };
+
+    ghost width = { λ e. e.cpus };
+
+    ghost has_made = { λ e turns. e.made ≡ turns };
 
     fn count(&self) -> usize {
         self.len()

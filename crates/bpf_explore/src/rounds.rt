@@ -1,12 +1,14 @@
 //! Circles of kept machines in a patient search: who goes round uses budgets up.
 
 ghost use Rattle.std.specs.Prelude.{◌≡◌, ◌<◌, true, IfOk, length};
+ghost use Rattle.bpf_explore.specs.Private.Edges.{AreTurns};
 ghost use Rattle.bpf_explore.specs.Private.Replays.{CanRunOut, IsReached};
 
 use crate::depths::working_edge;
 use crate::explorer::push_turns;
-use crate::patient::{Edge, PatientExplorer};
+use crate::patient::PatientExplorer;
 use crate::replays::some_ran_out;
+use crate::turns::{Edge, Turns};
 use std::alloc::{AllocError, Global};
 
 /// How often a circle is gone round before it is given up.
@@ -31,37 +33,40 @@ fn waits_at(waits: &[u32], place: usize) -> bool {
 fn turns_before(
     alloc: Global,
     explorer: &PatientExplorer,
+    turns: &Turns,
     waits: &[u32],
-) -> Result<Vec<Option<Edge>>, AllocError> {
-    let mut turns = vec![in alloc; None; explorer.len()]?;
+) -> Result<Vec<Option<Edge>>, AllocError>
+    requires { AreTurns explorer.now.kept turns.now }
+{
+    let mut before = vec![in alloc; None; explorer.len()]?;
     for place in 0..explorer.len() {
         if !waits_at(waits, place) {
             continue;
         }
-        for cpu in 0..explorer.cpus() {
-            if let Some(edge) = working_edge(explorer, place, cpu)
-                && let Some(turn) = turns.get_mut(edge.to as usize)
+        for cpu in 0..turns.cpus {
+            if let Some(edge) = working_edge(explorer, turns, place, cpu)
+                && let Some(turn) = before.get_mut(edge.to as usize)
             {
                 *turn = Some(edge);
             }
         }
     }
-    Ok(turns)
+    Ok(before)
 }
 
 /// The turn that leads to a kept machine so.
-fn turn_before(turns: &[Option<Edge>], place: usize) -> Option<Edge> {
-    match turns.get(place) {
+fn turn_before(before: &[Option<Edge>], place: usize) -> Option<Edge> {
+    match before.get(place) {
         Some(turn) => *turn,
         None => None,
     }
 }
 
 /// A kept machine in a circle, if there is one: who goes back far enough is in it.
-fn find_in_circle(turns: &[Option<Edge>], waits: &[u32]) -> Option<usize> {
+fn find_in_circle(before: &[Option<Edge>], waits: &[u32]) -> Option<usize> {
     let mut place = waits.iter().position(|count| *count > 0)?;
-    for _ in 0..turns.len() {
-        place = turn_before(turns, place)?.from as usize;
+    for _ in 0..before.len() {
+        place = turn_before(before, place)?.from as usize;
     }
     Some(place)
 }
@@ -69,13 +74,13 @@ fn find_in_circle(turns: &[Option<Edge>], waits: &[u32]) -> Option<usize> {
 /// The turns that lead round to a kept machine in a circle.
 fn go_round(
     alloc: Global,
-    turns: &[Option<Edge>],
+    before: &[Option<Edge>],
     place: usize,
 ) -> Result<Vec<(u8, u64)>, AllocError> {
     let mut by = Vec::new(alloc);
     let mut state = place;
-    for _ in 0..turns.len() {
-        let Some(edge) = turn_before(turns, state) else {
+    for _ in 0..before.len() {
+        let Some(edge) = turn_before(before, state) else {
             break;
         };
         push_turns(&mut by, edge.cpu, edge.ahead as u64 + 1)?;
@@ -92,13 +97,16 @@ fn go_round(
 fn find_circle(
     alloc: Global,
     explorer: &PatientExplorer,
+    turns: &Turns,
     waits: &[u32],
-) -> Result<Option<Circle>, AllocError> {
-    let turns = turns_before(alloc, explorer, waits)?;
-    let Some(place) = find_in_circle(&turns, waits) else {
+) -> Result<Option<Circle>, AllocError>
+    requires { AreTurns explorer.now.kept turns.now }
+{
+    let before = turns_before(alloc, explorer, turns, waits)?;
+    let Some(place) = find_in_circle(&before, waits) else {
         return Ok(None);
     };
-    let by = go_round(alloc, &turns, place)?;
+    let by = go_round(alloc, &before, place)?;
     Ok(Some(Circle { place, by }))
 }
 
@@ -128,13 +136,15 @@ fn goes_round(
 pub(crate) fn wears_out(
     alloc: Global,
     explorer: &mut PatientExplorer,
+    turns: &Turns,
     waits: &[u32],
 ) -> Result<bool, AllocError>
-    requires { 0 < length explorer.old.kept }
+    requires first { 0 < length explorer.old.kept }
+    requires turns { AreTurns explorer.old.kept turns.now }
     ensures same { explorer.new.kept ≡ explorer.old.kept }
     ensures out { IfOk result (λ out. out ≡ true → CanRunOut explorer.old.kept) }
 {
-    let Some(circle) = find_circle(alloc, explorer, waits)? else {
+    let Some(circle) = find_circle(alloc, explorer, turns, waits)? else {
         return Ok(false);
     };
     if circle.place >= explorer.len() {

@@ -5,6 +5,7 @@ use Rattle.std.specs.Ordering.{nat_cmp}
 use Rattle.std.specs.Cmp.Lexicographic.{slice_cmp}
 use Rattle.bpf_machine.specs.Schedule.{World}
 use Rattle.bpf_machine.specs.Rounds.{HaveEnded}
+use Rattle.bpf_machine.specs.Laws.{IsFresh}
 use Rattle.bpf_machine.specs.Machine.{MachineState, Shows}
 use Rattle.bpf_explore.specs.Outcomes.{Found, EndsBy}
 use Rattle.bpf_explore.specs.Laws.{IsAnswered}
@@ -12,6 +13,10 @@ use Rattle.bpf_explore.specs.Laws.{IsAnswered}
 -- the first kept machine shows the world
 abbrev pub IsFirst : List MachineState → World → Type 0
 IsFirst kept w = (m : MachineState) × (slice_get kept 0 ≡ Some m) × Shows m w
+
+-- before its first turn
+abbrev pub StartsFresh : List MachineState → Type 0
+StartsFresh kept = (w : World) × IsFresh w × IsFirst kept w
 
 -- in the order of their texts' bytes, none twice
 abbrev pub AreSorted : List Found → Type 0

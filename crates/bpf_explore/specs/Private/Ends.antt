@@ -1,5 +1,5 @@
 -- From which kept machines an end can be reached, while it is found.
-use Rattle.std.specs.Prelude.{◌≡◌, ℕ, Bool, true, List, Some, length, slice_get}
+use Rattle.std.specs.Prelude.{◌≡◌, ℕ, zero, suc, Bool, true, false, List, [], ◌∷◌, Some, length, slice_get}
 use Rattle.bpf_machine.specs.Machine.{MachineState}
 use Rattle.bpf_machine.specs.Ends.{EndsIn, AreStuck}
 use Rattle.bpf_explore.specs.Album.{NoneRanOutAt}
@@ -11,6 +11,12 @@ AllGoOn kept = (i : ℕ) → NoneRanOutAt kept i
 -- turns lead from it to an end
 abbrev pub LeadsToEnd : List MachineState → ℕ → Type 0
 LeadsToEnd kept i = (n : ℕ) × EndsIn kept n i
+
+-- how many aren't marked
+abbrev pub unmarked : List Bool → ℕ
+unmarked [] = zero
+unmarked (true ∷ marks) = unmarked marks
+unmarked (false ∷ marks) = suc (unmarked marks)
 
 -- so they do from each that is marked
 abbrev pub LeadToEnds : List MachineState → List Bool → Type 0

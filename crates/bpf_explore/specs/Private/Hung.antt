@@ -1,5 +1,5 @@
 -- States from which no end can be reached, while they are found.
-use Rattle.std.specs.Prelude.{◌≡◌, ℕ, List, Some, slice_get}
+use Rattle.std.specs.Prelude.{◌≡◌, ℕ, ◌<◌, Bool, true, List, Some, slice_get}
 use Rattle.bpf_machine.specs.Laws.{IsFresh}
 use Rattle.bpf_machine.specs.Machine.{MachineState}
 use Rattle.bpf_machine.specs.Schedule.{World}
@@ -10,6 +10,10 @@ use Rattle.bpf_explore.specs.Private.Ends.{LeadsToEnd}
 -- each kept machine leads to an end
 abbrev pub AllLead : List MachineState → Type 0
 AllLead kept = (i : ℕ) (m : MachineState) → slice_get kept i ≡ Some m → LeadsToEnd kept i
+
+-- each of the first n is marked
+abbrev pub AllMarkedBelow : List Bool → ℕ → Type 0
+AllMarkedBelow marks n = (i : ℕ) → i < n → slice_get marks i ≡ Some true
 
 -- the schedule leads from the first to one from which no end can be reached
 abbrev pub Hangs : List MachineState → List (ℕ × ℕ) → Type 0

@@ -8,5 +8,5 @@ loop-cpu-preserved c = next_deeper c.args.explorer.now.kept c.args.depths.now c.
 pub returns : goal.returns
 returns c is = (
   subst (λ (n : ℕ). n < c.args.least) c.depth_of.ensures (omega arith),
-  all_deeper c.args.explorer.now.kept c.args.depths.now c.args.place c.loop-cpu.cpu c.cpus-cpu-end.result c.cpus-cpu-end.ensures (omega arith) c.loop-cpu.invariant,
+  all_deeper c.args.explorer.now.kept c.args.depths.now c.args.place c.loop-cpu.cpu c.args.turns.now.cpus c.requires.turns.idle (omega arith) c.loop-cpu.invariant,
 )

@@ -1,6 +1,15 @@
-use Rattle.std.proofs.Common.{◌≡◌, length}
-use Rattle.bpf_explore.specs.Private.Ends.{LeadToEnds}
+use Rattle.std.proofs.Common.{◌≡◌, ◌+◌, false, if◌then◌else◌, length}
+use Rattle.bpf_machine.specs.Ends.{AreStuck}
+use Rattle.bpf_explore.specs.Private.Ends.{LeadToEnds, unmarked}
 use Rattle.bpf_explore.proofs.ends.mark_ends.Given as goal
 
-abbrev pub invariant-loop : goal.invariant-loop
-invariant-loop l = (length l.marks.items ≡ length l.explorer.kept) × LeadToEnds l.explorer.kept l.marks.items
+abbrev pub invariant-loop-more : goal.invariant-loop-more
+invariant-loop-more l = record {
+  count : length l.marks.items ≡ length l.explorer.kept;
+  lead : LeadToEnds l.explorer.kept l.marks.items;
+  stuck : l.more ≡ false → AreStuck l.explorer.kept l.marks.items;
+}
+
+-- each time but the last more are marked
+abbrev pub decreases-loop-more : goal.decreases-loop-more
+decreases-loop-more l = unmarked l.marks.items + (if l.more then 1 else 0)

@@ -1,5 +1,5 @@
 use Rattle.std.proofs.Common.{◌-◌, length, arith}
-use Rattle.bpf_explore.proofs.MarkLaws.{next_stuck_from, all_stuck}
+use Rattle.bpf_explore.proofs.MarkLaws.{next_counted, next_stuck_from, all_stuck}
 use Rattle.bpf_explore.proofs.ends.mark_more.Goals as goal
 
 pub loop-step-preserved : goal.loop-step-preserved
@@ -7,10 +7,11 @@ loop-step-preserved c =
     let inv = c.loop-step.invariant in
     let kept = c.args.explorer.now.kept in
     record {
-      count = c.mark_at.ensures.marks;
-      lead = c.mark_at.ensures.lead;
-      stuck = λ is. (let two = c.either-more.ensures is in next_stuck_from kept c.loop-step.marks.items c.mark_at.new.marks.items (length kept) c.loop-step.step (c.len-count.result - 1 - c.loop-step.step) (omega arith) (omega arith)
-          (inv.stuck two.0) (c.in_ok-marked.ensures.same two.1) (c.in_ok-marked.ensures.stuck two.1));
+      count = c.mark_at-marked.ensures.marks;
+      lead = c.mark_at-marked.ensures.lead;
+      counted = next_counted c.args.marks.now.items c.loop-step.marks.items c.mark_at-marked.new.marks.items c.loop-step.more c.mark_at-marked.result c.either-more.result inv.counted c.mark_at-marked.ensures.fewer c.mark_at-marked.ensures.same c.either-more.ensures.some;
+      stuck = λ is. (let two = c.either-more.ensures.none is in next_stuck_from kept c.loop-step.marks.items c.mark_at-marked.new.marks.items (length kept) c.loop-step.step (c.len-count.result - 1 - c.loop-step.step) (omega arith) (omega arith)
+          (inv.stuck two.0) (c.mark_at-marked.ensures.same two.1) (c.mark_at-marked.ensures.stuck two.1));
     }
 
 pub returns-clause-stuck : goal.returns-clause-stuck

@@ -6,10 +6,12 @@ use Rattle.bpf_cpu.specs.Task.{waiting}
 use Rattle.bpf_machine.specs.Machine.{MachineState, Shows}
 use Rattle.bpf_machine.specs.Schedule.{World}
 use Rattle.bpf_jobs.specs.Printed.{first_world}
-use Rattle.bpf_explore.specs.Patient.{IsSearchedPatiently}
+use Rattle.bpf_explore.specs.Patient.{ArePatient, IsSearchedPatiently}
 use Rattle.bpf_explore.specs.Stores.{IsOfShape}
 use Rattle.bpf_explore.specs.Private.Hung.{AllHang, AllLead}
 use Rattle.bpf_explore.specs.Private.Replays.{CanRunOut, NoneRunsOut}
+use Rattle.bpf_explore.specs.Private.Answers.{IsAnsweredAt, IsFirst, StartsFresh}
+use Rattle.bpf_explore.specs.Private.Edges.{AreTurns}
 use Rattle.bpf_explore.proofs.ExploreLaws.{first_shape, first_lists_none, first_fresh, still_first, still_there}
 use Rattle.bpf_explore.proofs.PatienceLaws.{explored_patiently}
 use Rattle.bpf_explore.proofs.exploring.search_patiently.Goals as goal
@@ -35,12 +37,52 @@ pub new-requires-clause-lists : goal.new-requires-clause-lists
 new-requires-clause-lists c =
     first_lists_none c.in_ok-copy.copy c.in_ok-machine.machine c.args.programs.items (map waiting c.args.jobs.items) c.in_ok-machine.ensures
 
+-- ---- after the search
+-- what was kept first, before its first turn
+pub gather_patiently-requires : goal.gather_patiently-requires
+gather_patiently-requires c =
+    let same : c.in_ok-copy.copy ≡ c.args.shape = c.in_ok-copy.ensures in
+    let m = c.in_ok-machine.machine in
+    let programs = c.args.programs.items in
+    let jobs = c.args.jobs.items in
+    let w : World = first_world c.args.shape programs (map waiting jobs) in
+    let shows = subst (λ (h : Shape). Shows m (first_world h programs (map waiting jobs))) same c.in_ok-machine.ensures in
+    subst StartsFresh (sym c.take_turns-turns.ensures.same) (
+      w,
+      first_fresh c.args.shape m programs jobs c.requires.contexts shows,
+      still_first c.in_ok-explorer.explorer.kept c.explore.new.frontier.kept m w c.in_ok-explorer.ensures.first c.explore.ensures.extends shows,
+    )
+
+pub find_hung-requires-clause-fresh : goal.find_hung-requires-clause-fresh
+find_hung-requires-clause-fresh c =
+    let same : c.in_ok-copy.copy ≡ c.args.shape = c.in_ok-copy.ensures in
+    let m = c.in_ok-machine.machine in
+    let programs = c.args.programs.items in
+    let jobs = c.args.jobs.items in
+    let w : World = first_world c.args.shape programs (map waiting jobs) in
+    let shows = subst (λ (h : Shape). Shows m (first_world h programs (map waiting jobs))) same c.in_ok-machine.ensures in
+    subst StartsFresh (sym (c.gather_patiently.ensures.same ∙ c.take_turns-turns.ensures.same)) (
+      w,
+      first_fresh c.args.shape m programs jobs c.requires.contexts shows,
+      still_first c.in_ok-explorer.explorer.kept c.explore.new.frontier.kept m w c.in_ok-explorer.ensures.first c.explore.ensures.extends shows,
+    )
+
+pub find_hung-requires-clause-turns : goal.find_hung-requires-clause-turns
+find_hung-requires-clause-turns c is =
+    subst (λ (ms : List MachineState). AreTurns ms c.take_turns-turns.result) (sym (c.gather_patiently.ensures.same ∙ c.take_turns-turns.ensures.same))
+    (c.take_turns-turns.ensures.turns (c.in_ok-whole.ensures.made is c.in_ok-explorer.ensures.none))
+
+pub find_budgets-requires-clause-turns : goal.find_budgets-requires-clause-turns
+find_budgets-requires-clause-turns c is =
+    subst (λ (ms : List MachineState). AreTurns ms c.take_turns-turns.result) (sym (c.find_hung.ensures.same ∙ (c.gather_patiently.ensures.same ∙ c.take_turns-turns.ensures.same)))
+    (c.take_turns-turns.ensures.turns (c.in_ok-whole.ensures.made is c.in_ok-explorer.ensures.none))
+
 pub find_budgets-requires-clause-first : goal.find_budgets-requires-clause-first
 find_budgets-requires-clause-first c =
     let kept = c.explore.new.frontier.kept in
     let m = c.in_ok-machine.machine in
-    let one = still_there c.in_ok-explorer.explorer.kept kept m c.in_ok-explorer.ensures c.explore.ensures.extends in
-    subst (λ (ms : List MachineState). 0 < length ms) (sym (c.find_hung.ensures.same ∙ c.gather_patiently.ensures.same)) one
+    let one = still_there c.in_ok-explorer.explorer.kept kept m c.in_ok-explorer.ensures.first c.explore.ensures.extends in
+    subst (λ (ms : List MachineState). 0 < length ms) (sym (c.find_hung.ensures.same ∙ (c.gather_patiently.ensures.same ∙ c.take_turns-turns.ensures.same))) one
 
 pub find_budgets-requires-clause-out : goal.find_budgets-requires-clause-out
 find_budgets-requires-clause-out c is =
@@ -57,19 +99,23 @@ returns c =
     let programs = c.args.programs.items in
     let jobs = c.args.jobs.items in
     let names = map string_bytes c.args.names.now in
+    let answers = c.in_ok-answers.answers.items in
     let w : World = first_world c.args.shape programs (map waiting jobs) in
     let shows = subst (λ (h : Shape). Shows m (first_world h programs (map waiting jobs))) same c.in_ok-machine.ensures in
     let kept = c.explore.new.frontier.kept in
-    let gathered = c.gather_patiently.ensures.same in
+    let taken = c.take_turns-turns.ensures.same in
+    let gathered = c.gather_patiently.ensures.same ∙ taken in
     let found = c.find_hung.ensures.same ∙ gathered in
     let hung = c.in_ok-hung.hung.items in
     let count : c.len-states.result ≡ length kept = c.len-states.ensures ∙ ap (λ (ms : List MachineState). length ms) (c.find_budgets.ensures.same ∙ found) in
-    subst (λ (n : ℕ). IsSearchedPatiently w names c.args.maps c.in_ok-answers.answers.items c.both-all.result c.args.limit n hung c.in_ok-budgets.budgets) (sym count)
-    (explored_patiently c.patient_tell_all.ensures c.all_can_end.ensures kept w names c.args.maps c.in_ok-answers.answers.items c.in_ok-whole.whole c.in_ok-answers.told c.in_ok-hung.fit c.both-all_fit.result c.both-all.result c.args.limit hung c.in_ok-budgets.budgets
+    subst (λ (n : ℕ). IsSearchedPatiently w names c.args.maps answers c.both-all.result c.args.limit n hung c.in_ok-budgets.budgets) (sym count)
+    (explored_patiently c.patient_tell_all.ensures c.all_can_end.ensures kept w names c.args.maps answers c.in_ok-whole.whole c.in_ok-answers.told c.in_ok-hung.fit c.both-all_fit.result c.both-all.result c.args.limit hung c.in_ok-budgets.budgets
     (first_fresh c.args.shape m programs jobs c.requires.contexts shows)
-    (still_first c.in_ok-explorer.explorer.kept kept m w c.in_ok-explorer.ensures c.explore.ensures.extends shows)
+    (still_first c.in_ok-explorer.explorer.kept kept m w c.in_ok-explorer.ensures.first c.explore.ensures.extends shows)
     c.in_ok-whole.ensures.whole c.in_ok-whole.ensures.covers c.in_ok-whole.ensures.met
-    c.in_ok-answers.ensures.outcomes c.in_ok-answers.ensures.answered c.in_ok-answers.ensures.out
+    (subst (λ (ms : List MachineState). (u : World) → IsFirst ms u → ArePatient u names c.args.maps answers) taken c.in_ok-answers.ensures.outcomes)
+    (λ is. subst (λ (ms : List MachineState). (i : ℕ) → IsAnsweredAt ms names c.args.maps answers i) taken (c.in_ok-answers.ensures.answered is))
+    (λ is. subst CanRunOut taken (c.in_ok-answers.ensures.out is))
     (subst (λ (ms : List MachineState). AllHang ms hung) gathered c.in_ok-hung.ensures.hung)
     (λ is fits none. subst AllLead gathered (c.in_ok-hung.ensures.ends is fits none))
     (λ is. subst CanRunOut gathered (c.in_ok-hung.ensures.out is))

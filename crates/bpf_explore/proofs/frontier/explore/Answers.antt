@@ -1,22 +1,51 @@
-use Rattle.std.proofs.Common.{arith}
-use Rattle.bpf_explore.proofs.SearchLaws.{next_expanded, all_expanded, covers_all}
+use Rattle.std.proofs.Common.{◌≡◌, ◌∙◌, ◌++◌, ℕ, length, refl, sym, subst, arith}
+use Rattle.bpf_explore.specs.Search.{row_of, rows_of}
+use Rattle.bpf_explore.proofs.RowLaws.{one_more_row}
+use Rattle.bpf_explore.proofs.SearchLaws.{none_expanded, next_expanded, all_expanded, covers_all}
 use Rattle.bpf_explore.proofs.frontier.explore.Goals as goal
+
+pub loop-next-init : goal.loop-next-init
+loop-next-init g c =
+    let frontier = c.args.frontier.now in record {
+      far = none_expanded (g.F.Frontier.is_patient frontier) (g.F.Frontier.kept frontier);
+      made = λ is. is;
+      width = refl;
+    }
 
 pub loop-next-preserved : goal.loop-next-preserved
 loop-next-preserved g c =
     let kept = g.F.Frontier.kept in
     let is_patient = g.F.Frontier.is_patient in
-    next_expanded (is_patient c.args.frontier.now) (is_patient c.loop-next.frontier) (is_patient c.expand.new.frontier) (kept c.args.frontier.now) (kept c.loop-next.frontier) (kept c.expand.new.frontier) c.loop-next.next c.loop-next.invariant (omega arith) c.expand.ensures.extends c.expand.ensures.same c.in_ok-expand.ensures.expanded
+    let has_made = g.F.Frontier.has_made in
+    let width = g.F.Frontier.width in
+    let inv = c.loop-next.invariant in
+    let first = c.args.frontier.now in
+    let next = c.loop-next.next in
+    let new = c.expand.new.frontier in record {
+      far = next_expanded (is_patient first) (is_patient c.loop-next.frontier) (is_patient new) (kept first) (kept c.loop-next.frontier) (kept new) next inv.far (omega arith) c.expand.ensures.extends c.expand.ensures.same c.in_ok-expand.ensures.expanded;
+      made = λ is. subst (has_made new) (one_more_row (width first) next) (subst (λ (n : ℕ). has_made new (rows_of (width first) next ++ row_of next n)) inv.width (c.in_ok-expand.ensures.made (rows_of (width first) next) (inv.made is)));
+      width = c.expand.ensures.width ∙ inv.width;
+    }
 
 pub returns-clause-whole : goal.returns-clause-whole
 returns-clause-whole g c all =
     let kept = g.F.Frontier.kept in
     let is_patient = g.F.Frontier.is_patient in
-    all_expanded (is_patient c.args.frontier.now) (is_patient c.loop-next.frontier) (kept c.args.frontier.now) (kept c.loop-next.frontier) c.loop-next.next (omega arith) c.loop-next.invariant
+    all_expanded (is_patient c.args.frontier.now) (is_patient c.loop-next.frontier) (kept c.args.frontier.now) (kept c.loop-next.frontier) c.loop-next.next (omega arith) c.loop-next.invariant.far
 
 pub returns-clause-covers : goal.returns-clause-covers
 returns-clause-covers g c all =
     let kept = g.F.Frontier.kept in
     let is_patient = g.F.Frontier.is_patient in
     covers_all c.closed_sets_cover.ensures c.patient_sets_cover.ensures (is_patient c.loop-next.frontier) (kept c.loop-next.frontier)
-    (all_expanded (is_patient c.args.frontier.now) (is_patient c.loop-next.frontier) (kept c.args.frontier.now) (kept c.loop-next.frontier) c.loop-next.next (omega arith) c.loop-next.invariant)
+    (all_expanded (is_patient c.args.frontier.now) (is_patient c.loop-next.frontier) (kept c.args.frontier.now) (kept c.loop-next.frontier) c.loop-next.next (omega arith) c.loop-next.invariant.far)
+
+pub returns-clause-made : goal.returns-clause-made
+returns-clause-made g c all is =
+    let has_made = g.F.Frontier.has_made in
+    let width = g.F.Frontier.width in
+    let inv = c.loop-next.invariant in
+    let frontier = c.loop-next.frontier in
+    let inside = inv.far.inside in
+    let last : c.loop-next.next ≡ length (g.F.Frontier.kept frontier) = omega arith in
+    subst (λ (n : ℕ). has_made frontier (rows_of (width frontier) n)) last (subst (λ (n : ℕ). has_made frontier (rows_of n c.loop-next.next)) (sym inv.width) (inv.made is))

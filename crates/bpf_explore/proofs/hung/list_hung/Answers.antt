@@ -1,15 +1,16 @@
-use Rattle.std.proofs.Common.{◌∙◌, List, inl, inr, refl, sym, subst}
+use Rattle.std.proofs.Common.{◌∙◌, List, inl, inr, refl, sym, subst, arith}
 use Rattle.bpf_machine.specs.Machine.{MachineState}
 use Rattle.bpf_explore.specs.Private.Ends.{AreMarked}
 use Rattle.bpf_explore.specs.Private.Hung.{AllHang}
 use Rattle.bpf_explore.specs.Private.Replays.{CanRunOut}
-use Rattle.bpf_explore.proofs.HungLaws.{none_hung}
+use Rattle.bpf_explore.proofs.HungLaws.{none_hung, next_marked}
 use Rattle.bpf_explore.proofs.hung.list_hung.Goals as goal
 
 pub loop-place-init : goal.loop-place-init
 loop-place-init c = record {
   same = refl;
   hung = subst (AllHang c.args.explorer.now.kept) (sym c.new-hung.ensures.items) (none_hung c.args.explorer.now.kept);
+  listed = λ fits none i less. absurd (omega arith);
   out = λ is. cc;
 }
 
@@ -22,5 +23,13 @@ loop-place-preserved c =
     record {
       same = c.add_hung.ensures.same ∙ same;
       hung = subst (λ (kept : List MachineState). AllHang kept c.loop-place.hung.items → AllHang kept c.add_hung.new.hung.items) same c.in_ok-fits.ensures.hung c.loop-place.invariant.hung;
+      listed = λ is none. (
+          let two = c.both-fit.ensures.both is in
+          let one = c.in_ok-fits.ensures.listed two.1 none in
+          let far = c.loop-place.invariant.listed two.0 one.0 in
+          next_marked c.args.marks.now c.loop-place.place far (one.1 far));
       out = λ is. elim (c.both-fit.ensures.not is) [ inl a ↦ c.loop-place.invariant.out a | inr a ↦ subst CanRunOut same (c.in_ok-fits.ensures.out a) ];
     }
+
+pub returns-clause-listed : goal.returns-clause-listed
+returns-clause-listed c fits none i less = c.loop-place.invariant.listed fits none i (omega arith)

@@ -1,4 +1,4 @@
-use Rattle.std.proofs.Common.{◌∙◌, sym, subst}
+use Rattle.std.proofs.Common.{◌∙◌, ap, sym, subst}
 use Rattle.bpf_explore.specs.Private.Album.{AddsOne, AlbumState, AreKeptUnder, machines}
 use Rattle.bpf_explore.proofs.AlbumLaws.{shelf_of, same_invariant, same_adds, invariant_after, adds_after, kept_after}
 use Rattle.bpf_explore.proofs.album.Album.keep.Goals as goal
@@ -56,3 +56,6 @@ returns-clause-kept c =
     let shelf = shelf_of m.machine.programs m.stores m.parts m.states in
     let under = subst (AreKeptUnder c.keep_machine.new.stores c.keep_machine.new.parts m.machine) (sym c.deref.ensures.value) c.in_ok-keep_machine.ensures.numbers in
     kept_after m.shape shelf m.machine c.keep_machine.new.stores c.keep_machine.new.parts c.self.invariant.0 c.self.invariant.1 c.keep_machine.ensures.adds c.keep_machine.ensures.grows c.deref.result.now under c.stands.ensures c.keep.new.self c.in_ok-number.number c.keep.ensures.adds c.in_ok-number.ensures.found
+
+pub returns-clause-cpus : goal.returns-clause-cpus
+returns-clause-cpus c = ap (λ (a : AlbumState). a.cpus) c.self.view_is

@@ -19,3 +19,6 @@ pub returns-clause-same : goal.returns-clause-same
 returns-clause-same c =
     let m = c.self.inside in
     kept_with m.shape m.stores m.parts m.states m.machine c.refill.new.self c.refill.ensures.same.programs ∙ ap (λ (a : AlbumState). a.kept) c.self.view_is
+
+pub returns-clause-cpus : goal.returns-clause-cpus
+returns-clause-cpus c = ap (λ (a : AlbumState). a.cpus) c.self.view_is

@@ -37,3 +37,6 @@ returns-clause-ok c =
     let ready = readable m.shape shelf m.machine c.args.place tuple c.store-store.result.now c.jobs.result.now c.behind_first-numbers.result.now c.self.invariant.0 c.self.invariant.1 less c.tuple-tuple.ensures.tuple.1 c.tuple-tuple.ensures.width c.tuple-tuple.ensures.some c.store-store.ensures c.jobs.ensures c.behind_first-numbers.ensures in
     ap (λ (a : AlbumState). slice_get a.kept c.args.place) (sym c.self.view_is)
     ∙ (machines_at shelf m.states.count c.args.place less ∙ ap (λ (n : MachineState). Some n) (sym (c.in_ok-restore.ensures.ok ∙ ready.is)))
+
+pub returns-clause-cpus : goal.returns-clause-cpus
+returns-clause-cpus c = ap (λ (a : AlbumState). a.cpus) c.self.view_is

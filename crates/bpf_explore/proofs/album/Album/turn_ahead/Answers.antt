@@ -29,3 +29,6 @@ pub returns-clause-ahead : goal.returns-clause-ahead
 returns-clause-ahead c =
     let machine = ap (λ (a : AlbumState). a.machine) c.self.view_is in
     subst (λ (old : MachineState). TurnsAhead old c.args.cpu c.turn_ahead.result c.turn_ahead.new.self) machine c.turn_ahead.ensures.ahead
+
+pub returns-clause-cpus : goal.returns-clause-cpus
+returns-clause-cpus c = ap (λ (a : AlbumState). a.cpus) c.self.view_is

@@ -1,7 +1,10 @@
-use Rattle.std.proofs.Common.{subst}
+use Rattle.std.proofs.Common.{◌∙◌, ap, subst}
 use Rattle.bpf_explore.specs.Album.{AlbumState}
 use Rattle.bpf_explore.specs.Search.{IsIdleAt}
 use Rattle.bpf_explore.proofs.explorer.ExplorerFrontier.cpus.Goals as goal
 
-pub returns : goal.returns
-returns c i k above = subst (λ (a : AlbumState). IsIdleAt a.kept i k) c.self.view_is (c.cpus.ensures i k above)
+pub returns-clause-width : goal.returns-clause-width
+returns-clause-width c = c.cpus.ensures.cpus ∙ ap (λ (a : AlbumState). a.cpus) c.self.view_is
+
+pub returns-clause-idle : goal.returns-clause-idle
+returns-clause-idle c i k above = subst (λ (a : AlbumState). IsIdleAt a.kept i k) c.self.view_is (c.cpus.ensures.idle i k above)

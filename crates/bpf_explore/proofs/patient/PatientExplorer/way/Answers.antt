@@ -1,7 +1,7 @@
 use Rattle.std.proofs.Common.{◌≡◌, ◌<◌, ℕ, List, length, reverse, sym, subst, arith}
 use Rattle.bpf_machine.specs.Schedule.{unrolled}
 use Rattle.bpf_machine.specs.Ends.{RunsFreely}
-use Rattle.bpf_explore.specs.Album.{AlbumState, LeadsFreely}
+use Rattle.bpf_explore.specs.Album.{PatientState, LeadsFreely}
 use Rattle.bpf_explore.proofs.TrailLaws.{free_runs_join, leads_nowhere, read_origin, one_back_more}
 use Rattle.bpf_explore.proofs.patient.PatientExplorer.way.Goals as goal
 
@@ -9,7 +9,7 @@ pub loop-state-init : goal.loop-state-init
 loop-state-init c =
     let m = c.self.inside in
     record {
-      inside = subst (λ (a : AlbumState). c.args.place < length a.kept) (sym c.self.view_is) c.requires;
+      inside = subst (λ (a : PatientState). c.args.place < length a.kept) (sym c.self.view_is) c.requires;
       leads = subst (λ (by : List (ℕ × ℕ)). LeadsFreely m.album.kept c.args.place (unrolled (reverse by)) c.args.place) (sym c.new-by.ensures.items) (leads_nowhere RunsFreely free_runs_join m.album.kept c.args.place);
     }
 
@@ -26,5 +26,5 @@ pub returns : goal.returns
 returns c =
     let m = c.self.inside in
     let first : c.loop-state.state ≡ 0 = omega arith in
-    subst (λ (a : AlbumState). LeadsFreely a.kept 0 (unrolled c.reverse.new.self.items) c.args.place) c.self.view_is
+    subst (λ (a : PatientState). LeadsFreely a.kept 0 (unrolled c.reverse.new.self.items) c.args.place) c.self.view_is
     (subst (λ (by : List (ℕ × ℕ)). LeadsFreely m.album.kept 0 (unrolled by) c.args.place) (sym c.reverse.ensures.items) (subst (λ (k : ℕ). LeadsFreely m.album.kept k (unrolled (reverse c.loop-state.by.items)) c.args.place) first c.loop-state.invariant.leads))

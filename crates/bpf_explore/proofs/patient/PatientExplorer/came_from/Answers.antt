@@ -1,0 +1,20 @@
+use Rattle.std.proofs.Common.{◌<◌, length, sym, subst, arith}
+use Rattle.bpf_machine.specs.Ends.{RunsFreely}
+use Rattle.bpf_explore.specs.declared.explorer.Origin.{Origin}
+use Rattle.bpf_explore.specs.Album.{PatientState}
+use Rattle.bpf_explore.proofs.TrailLaws.{free_runs_join, read_origin}
+use Rattle.bpf_explore.proofs.patient.PatientExplorer.came_from.Goals as goal
+
+pub index-requires : goal.index-requires
+index-requires c =
+    let inside = subst (λ (a : PatientState). c.args.place < length a.kept) (sym c.self.view_is) c.requires.1 in
+    let count = c.self.invariant.0.count in
+    omega arith
+
+pub returns : goal.returns
+returns c =
+    let origins = c.self.inside.origins.items in
+    let inside = subst (λ (a : PatientState). c.args.place < length a.kept) (sym c.self.view_is) c.requires.1 in
+    let count = c.self.invariant.0.count in
+    let at = read_origin RunsFreely free_runs_join origins c.args.place c.index.result.now (omega arith) c.index.ensures in
+    subst (λ (o : Origin). o.«from» < c.args.place) at (c.self.invariant.0.each c.args.place c.requires.0 inside).before
