@@ -6,16 +6,19 @@
 
 const LIMITS = [1000, 10000, 100000, 1000000]; // of states
 const MOST_OUTCOMES = 200; // that are listed
+const HUNG = 'hung: no end can be reached from here'; // whatever turns are made
 
-// What `explore` prints: a line `by` before the lines of each outcome, and a last line.
+// What `explore` prints: a line `by` before the lines of each outcome, with --patient a line `hung by` for each
+// state from which no end can be reached and one on budgets, and a last line.
 function read_explored(printed) {
     const lines = printed.trimEnd().split('\n');
     const last = /^(all|not all): (\d+) outcomes, (\d+) states$/.exec(lines.pop());
     if (!last) throw new Error(printed.trim());
     const found = [];
     for (const line of lines) {
-        if (/^by( |$)/.test(line)) found.push({ schedule: line.slice(3), lines: [] });
-        else found.at(-1).lines.push(line);
+        if (/^by( |$)/.test(line)) found.push({ schedule: line.slice(3), lines: [], is_hung: false });
+        else if (/^hung by( |$)/.test(line)) found.push({ schedule: line.slice(8), lines: [HUNG], is_hung: true });
+        else if (!/^budgets /.test(line)) found.at(-1).lines.push(line);
     }
     return { found, is_all: last[1] === 'all', states: Number(last[3]) };
 }
@@ -51,19 +54,24 @@ function stop_search() {
 
 // ---- Drawing
 
+const outcomes_of = ({ found }) => found.filter(({ is_hung }) => !is_hung);
+
 const in_thousands = (number) => number.toLocaleString('en');
 
 function every_text({ came, is_on, is_patient, stage }) {
     const goes_on = is_on ? `Searching up to ${in_thousands(LIMITS[stage])} states…` : '';
     if (!came) return goes_on;
-    const what = `${counted(came.found.length, 'outcome')}, ${in_thousands(came.states)} states`;
+    const outcomes = outcomes_of(came).length;
+    const hung = came.found.length - outcomes;
+    const found = counted(outcomes, 'outcome') + (hung ? `, ${counted(hung, 'hung state')}` : '');
+    const what = `${found}, ${in_thousands(came.states)} states`;
     if (!came.is_all) return is_on ? `So far: ${what}. ${goes_on}` : `Not all: ${what}, and there may be more.`;
     const no_other = is_patient ? 'No order of turns that uses no budget up has another.' : 'No order of turns has another.';
     return `All: ${what}. ${no_other}`;
 }
 
 // An outcome, in which the lines that not all of them have stand out.
-function outcome_row({ schedule, lines }, number, is_shared) {
+function outcome_row({ schedule, lines, is_hung }, number, is_shared) {
     const row = make('li');
     const said = make('pre');
     for (const line of lines) said.append(make('span', is_shared(line) ? 'shared' : '', line), '\n');
@@ -72,7 +80,7 @@ function outcome_row({ schedule, lines }, number, is_shared) {
     const button = make('button', '', 'Show me');
     button.type = 'button';
     button.dataset.outcome = number;
-    button.setAttribute('aria-label', `Show me outcome ${number + 1}`);
+    button.setAttribute('aria-label', is_hung ? `Show me hung state ${number + 1}` : `Show me outcome ${number + 1}`);
     row.append(button, said, by);
     return row;
 }
@@ -86,9 +94,10 @@ function draw_every(state) {
     if (at('found').drawn === came) return;
     at('found').drawn = came;
     const found = came?.found ?? [];
+    const outcomes = came ? outcomes_of(came) : [];
     const counts = new Map();
-    for (const line of found.flatMap(({ lines }) => lines)) counts.set(line, (counts.get(line) ?? 0) + 1);
-    const rows = found.slice(0, MOST_OUTCOMES).map((it, number) => outcome_row(it, number, (line) => counts.get(line) === found.length));
+    for (const line of outcomes.flatMap(({ lines }) => lines)) counts.set(line, (counts.get(line) ?? 0) + 1);
+    const rows = found.slice(0, MOST_OUTCOMES).map((it, number) => outcome_row(it, number, (line) => counts.get(line) === outcomes.length));
     if (found.length > MOST_OUTCOMES) rows.push(make('li', 'empty', `and ${found.length - MOST_OUTCOMES} more`));
     at('found').replaceChildren(...rows);
 }

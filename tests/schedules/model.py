@@ -13,6 +13,8 @@ EEXIST, ENOENT, E2BIG, ENOMEM = WORD - 17, WORD - 2, WORD - 7, WORD - 12
 ANSWERS = {0: "done", EEXIST: "EEXIST", ENOENT: "ENOENT", E2BIG: "E2BIG", ENOMEM: "ENOMEM"}
 KEY, VALUE = "key", "value"
 NO_CPU = frozenset()
+# Steps that are left in a job's budget before each turn, where none is ever used up.
+ENOUGH = 2
 
 # An instruction is its text, its words, and what it does: a tuple of a name and operands.
 
@@ -250,6 +252,43 @@ class File:
                 reports.add(self.report(state))
             waiting += [after for after in new if after is not None]
         return reports
+
+    def after(self, state, cpu):
+        """The state after the CPU's turn, where no budget is ever used up, or none where it has no work."""
+        hands = tuple(hand and (*hand[:4], ENOUGH, hand[5]) for hand in state[1])
+        new = self.turn((state[0], hands, state[2]), cpu)
+        return new and (new[0], tuple(hand and (*hand[:4], ENOUGH, hand[5]) for hand in new[1]), new[2])
+
+    def endings(self, most):
+        """All reports where no budget is ever used up, and of each state whether an end can be reached from it; or
+        none where there are more states than so many."""
+        before, reports, waiting, ending = {self.first(): set()}, set(), [self.first()], []
+        while waiting:
+            state = waiting.pop()
+            new = [after for cpu in range(self.cpus) if (after := self.after(state, cpu)) is not None]
+            if not new:
+                reports.add(self.report(state))
+                ending.append(state)
+            for after in new:
+                if after not in before:
+                    waiting.append(after)
+                before.setdefault(after, set()).add(state)
+            if len(before) > most:
+                return None
+        ends = dict.fromkeys(before, False)
+        while ending:
+            state = ending.pop()
+            if not ends[state]:
+                ends[state] = True
+                ending += before[state]
+        return reports, ends
+
+    def state_by(self, schedule):
+        """The state after the turns of a list of CPUs, where no budget is ever used up."""
+        state = self.first()
+        for cpu in schedule:
+            state = self.after(state, cpu) or state
+        return state
 
     def events(self, state, cpu):
         """What the CPU does at the map in its next turn, a line each, and whether its job ends."""

@@ -68,14 +68,8 @@ NoneHangs w = (schedule : List ℕ) (z : World) → RunsSchedule w schedule z �
     → CanEnd z
 
 -- ---- the result of a patient search
--- the answers, and whether they are all
-pub record IsExploredPatiently (w : World) (names : List (List ℕ)) (maps : Bool)
-    (answers : List Found) (all : Bool) : Type 0 where
-  pub outcomes : ArePatient w names maps answers
-  pub complete : all ≡ true → HaveAllPatient w names maps answers
-
--- besides, how many states were kept, hung states, and whether some schedule uses a budget up. Not all
--- are told only where the states are more than the limit, or some schedule does
+-- the answers, whether they are all, how many states were kept, hung states, and whether some schedule
+-- uses a budget up. Not all are told only where the states are more than the limit, or some schedule does
 pub record IsSearchedPatiently (w : World) (names : List (List ℕ)) (maps : Bool)
     (answers : List Found) (all : Bool) (limit states : ℕ) (hung : List (List (ℕ × ℕ)))
     (budgets : Budgets) : Type 0 where

@@ -5,7 +5,7 @@ ghost use Rattle.bpf_mem.specs.Limits.{max_context};
 ghost use Rattle.bpf_cpu.specs.Task.{waiting};
 ghost use Rattle.bpf_jobs.specs.Printed.{first_world};
 ghost use Rattle.bpf_explore.specs.Outcomes.{IsExplored};
-ghost use Rattle.bpf_explore.specs.Patient.{IsExploredPatiently, IsSearchedPatiently};
+ghost use Rattle.bpf_explore.specs.Patient.{IsSearchedPatiently};
 ghost use Rattle.bpf_explore.specs.Private.Answers.{StartsFresh};
 ghost use Rattle.bpf_explore.specs.Private.Edges.{AreTurns};
 ghost use Rattle.bpf_explore.specs.Private.Hung.{AllHang, AllLead};
@@ -178,35 +178,5 @@ pub fn search_patiently(
         states,
         hung,
         budgets,
-    })
-}
-
-/// The outcomes alone of such a search.
-pub fn explore_patiently(
-    alloc: Global,
-    shape: StoreShape,
-    names: &[String],
-    programs: Vec<Program>,
-    jobs: Vec<Job>,
-    maps: bool,
-    limit: usize,
-) -> Result<Explored, AllocError>
-    requires cpus { All (λ job. job.cpu < shape.cpus) jobs.items }
-    requires programs { All (λ job. job.program < vec_len programs) jobs.items }
-    requires contexts { All (λ job. vec_len job.context ≤ max_context) jobs.items }
-    ensures { IfOk result (λ e. IsExploredPatiently
-        (first_world shape programs.items (map waiting jobs.items))
-        (map string_bytes names.now) maps e.answers.items e.all) }
-{
-    let ExploredPatiently {
-        answers,
-        all,
-        states,
-        ..
-    } = search_patiently(alloc, shape, names, programs, jobs, maps, limit)?;
-    Ok(Explored {
-        answers,
-        all,
-        states,
     })
 }

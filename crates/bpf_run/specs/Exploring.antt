@@ -1,10 +1,11 @@
 -- What `explore` replies: every outcome of a run file's jobs, whatever the order of the CPUs' turns.
-use Rattle.std.specs.Prelude.{◌≡◌, ◌<◌, ◌-◌, ◌++◌, ℕ, Bool, true, false, List, Ok, Some, codes, length, slice_get, string_bytes}
+use Rattle.std.specs.Prelude.{◌≡◌, ◌<◌, ◌-◌, ◌++◌, ◌||◌, ◌==◌, ℕ, Bool, true, false, not, List, Ok, Some, codes, length, slice_get, string_bytes}
 use Rattle.std.specs.Fmt.{decimal}
 use Rattle.std.specs.List.{list_any}
-use Rattle.bpf_explore.specs.Listing.{explored_text}
+use Rattle.bpf_explore.specs.declared.budgets.Budgets.{Budgets}
+use Rattle.bpf_explore.specs.Listing.{explored_text, patient_text}
 use Rattle.bpf_explore.specs.Outcomes.{Found, IsExplored}
-use Rattle.bpf_explore.specs.Patient.{IsExploredPatiently}
+use Rattle.bpf_explore.specs.Patient.{IsSearchedPatiently}
 use Rattle.bpf_file.specs.File.{File}
 use Rattle.bpf_file.specs.Reading.{IsRunFile}
 use Rattle.bpf_run.specs.Running.{IsHistoryOfFile, RefusesFile}
@@ -28,26 +29,42 @@ abbrev pub AreAnswersTo : List ℕ → List Found → (all : Bool) → (limit st
 AreAnswersTo text answers all limit states = (f : File) × IsRunFile text (Ok f)
     × IsExplored (first_world_of f) f.names true answers all limit states
 
--- those of this search or of a patient one: outcomes in which no budget is used up
-abbrev pub AreFoundOf : (patient : Bool) → File → List Found → (all : Bool) → (limit states : ℕ)
-    → Type 0
-AreFoundOf false f answers all limit states =
-    IsExplored (first_world_of f) f.names true answers all limit states
-AreFoundOf true f answers all limit states =
-    IsExploredPatiently (first_world_of f) f.names true answers all
+-- those of a patient search, outcomes in which no budget is used up; besides, schedules to states that
+-- are hung, and whether some schedule uses a budget up
+abbrev pub ArePatientAnswersTo : List ℕ → List Found → (all : Bool) → (limit states : ℕ)
+    → List (List (ℕ × ℕ)) → Budgets → Type 0
+ArePatientAnswersTo text answers all limit states hung budgets = (f : File)
+    × IsRunFile text (Ok f)
+    × IsSearchedPatiently (first_world_of f) f.names true answers all limit states hung budgets
 
+-- the answers of either search
 abbrev pub AreFoundBy : (patient : Bool) → List ℕ → List Found → (all : Bool)
     → (limit states : ℕ) → Type 0
-AreFoundBy patient text answers all limit states = (f : File) × IsRunFile text (Ok f)
-    × AreFoundOf patient f answers all limit states
+AreFoundBy false text answers all limit states = AreAnswersTo text answers all limit states
+AreFoundBy true text answers all limit states = (hung : List (List (ℕ × ℕ))) × (budgets : Budgets)
+    × ArePatientAnswersTo text answers all limit states hung budgets
 
--- `explore`: the answers, a schedule before each, whether they are all, and after how many states;
--- or the file's first refusal
+-- whether some state is hung
+abbrev pub is_any_hung : List (List (ℕ × ℕ)) → Bool
+is_any_hung hung = not (length hung == 0)
+
+-- what is printed of either search
+abbrev pub IsFoundText : (patient : Bool) → (limit : ℕ) → (text printed : List ℕ)
+    → (stopped all : Bool) → Type 0
+IsFoundText false limit text printed stopped all =
+    (answers : List Found) × (states : ℕ) × AreAnswersTo text answers all limit states
+    × (printed ≡ explored_text answers all states) × (stopped ≡ any_stopped_of answers)
+IsFoundText true limit text printed stopped all =
+    (answers : List Found) × (states : ℕ) × (hung : List (List (ℕ × ℕ))) × (budgets : Budgets)
+    × ArePatientAnswersTo text answers all limit states hung budgets
+    × (printed ≡ patient_text answers hung budgets all states)
+    × (stopped ≡ (any_stopped_of answers || is_any_hung hung))
+
+-- `explore`: the answers, a schedule before each, of a patient search what is hung and whether budgets
+-- suffice, whether the answers are all, and after how many states; or the file's first refusal
 abbrev pub IsExploredFile : (patient : Bool) → (limit : ℕ) → List ℕ → Reply → Type 0
 IsExploredFile patient limit text (reply.Outcomes printed stopped all) =
-    (answers : List Found) × (states : ℕ) × AreFoundBy patient text answers all limit states
-    × (string_bytes printed ≡ explored_text answers all states)
-    × (stopped ≡ any_stopped_of answers)
+    IsFoundText patient limit text (string_bytes printed) stopped all
 IsExploredFile patient limit text (reply.Refused r) = RefusesFile text r
 IsExploredFile patient limit text _ = ⊥
 

@@ -1,11 +1,11 @@
 //! `ebpf explore`: every outcome of a run file's jobs, whatever the order of the CPUs' turns.
 
-ghost use Rattle.std.specs.Prelude.{◌≡◌, ◌<◌, false, true, Bool, IfErr, IfOk, length, ℕ};
+ghost use Rattle.std.specs.Prelude.{◌≡◌, ◌<◌, ◌||◌, false, true, Bool, IfErr, IfOk, length, ℕ};
 ghost use Rattle.bpf_explore.specs.Outcomes.{IsExplored};
-ghost use Rattle.bpf_explore.specs.Patient.{IsExploredPatiently};
+ghost use Rattle.bpf_explore.specs.Patient.{IsSearchedPatiently};
 ghost use Rattle.bpf_file.specs.File.{file_of};
 ghost use Rattle.bpf_file.specs.Runnable.{IsRunnable};
-ghost use Rattle.bpf_run.specs.Exploring.{AreFoundBy, AreFoundOf, IsExploredFile, IsMissing, IsShownFile};
+ghost use Rattle.bpf_run.specs.Exploring.{AreAnswersTo, AreFoundBy, ArePatientAnswersTo, IsExploredFile, IsMissing, IsShownFile, any_stopped_of, is_any_hung};
 ghost use Rattle.bpf_run.specs.Running.{RefusesFile};
 ghost use Rattle.bpf_run.specs.Script.{first_world_of};
 
@@ -13,7 +13,10 @@ use crate::refusal::Refusal;
 use crate::reply::Reply;
 use crate::running::{file_in, run_file_with_history};
 use bpf_command::SearchOptions;
-use bpf_explore::{Explored, explore_jobs, explore_patiently, is_any_stopped, list_explored};
+use bpf_explore::{
+    Explored, ExploredPatiently, Hung, explore_jobs, is_any_stopped, list_explored, list_patient,
+    search_patiently,
+};
 use bpf_file::RunFile;
 use std::alloc::{AllocError, Global};
 
@@ -33,11 +36,15 @@ fn explore(alloc: Global, file: RunFile, limit: usize) -> Result<Explored, Alloc
     explore_jobs(alloc, shape, &names, programs, jobs, true, limit)
 }
 
-/// The same for outcomes in which no budget is used up.
-fn explore_patient(alloc: Global, file: RunFile, limit: usize) -> Result<Explored, AllocError>
+/// The same but for how many steps are left of budgets.
+fn explore_patient(
+    alloc: Global,
+    file: RunFile,
+    limit: usize,
+) -> Result<ExploredPatiently, AllocError>
     requires { IsRunnable file }
-    ensures { IfOk result (λ e. IsExploredPatiently (first_world_of (file_of file))
-        (file_of file).names true e.answers.items e.all) }
+    ensures { IfOk result (λ e. IsSearchedPatiently (first_world_of (file_of file))
+        (file_of file).names true e.answers.items e.all limit e.states e.hung.items e.budgets) }
 {
     let RunFile {
         shape,
@@ -46,23 +53,35 @@ fn explore_patient(alloc: Global, file: RunFile, limit: usize) -> Result<Explore
         jobs,
         ..
     } = file;
-    explore_patiently(alloc, shape, &names, programs, jobs, true, limit)
-}
-
-/// By either search.
-fn search(alloc: Global, file: RunFile, patient: bool, limit: usize) -> Result<Explored, AllocError>
-    requires { IsRunnable file }
-    ensures { IfOk result (λ e. AreFoundOf patient (file_of file) e.answers.items e.all limit
-        e.states) }
-{
-    if patient {
-        explore_patient(alloc, file, limit)
-    } else {
-        explore(alloc, file, limit)
-    }
+    search_patiently(alloc, shape, &names, programs, jobs, true, limit)
 }
 
 /// What a search through all schedules of the jobs that a text says finds.
+fn explored_in(alloc: Global, limit: u64, text: &str) -> Result<Explored, Refusal>
+    ensures found { IfOk result (λ e. AreAnswersTo text.now e.answers.items e.all limit e.states) }
+    ensures refused { IfErr result (RefusesFile text.now) }
+{
+    let file = file_in(alloc, text)?;
+    match explore(alloc, file, limit as usize) {
+        Ok(explored) => Ok(explored),
+        Err(_) => Err(Refusal::OutOfMemory),
+    }
+}
+
+/// What a patient search finds.
+fn patient_in(alloc: Global, limit: u64, text: &str) -> Result<ExploredPatiently, Refusal>
+    ensures found { IfOk result (λ e. ArePatientAnswersTo text.now e.answers.items e.all limit
+        e.states e.hung.items e.budgets) }
+    ensures refused { IfErr result (RefusesFile text.now) }
+{
+    let file = file_in(alloc, text)?;
+    match explore_patient(alloc, file, limit as usize) {
+        Ok(explored) => Ok(explored),
+        Err(_) => Err(Refusal::OutOfMemory),
+    }
+}
+
+/// The outcomes of either search.
 pub(crate) fn found_in(
     alloc: Global,
     options: SearchOptions,
@@ -72,18 +91,27 @@ pub(crate) fn found_in(
         options.limit e.states) }
     ensures refused { IfErr result (RefusesFile text.now) }
 {
-    let file = file_in(alloc, text)?;
-    match search(alloc, file, options.patient, options.limit as usize) {
-        Ok(explored) => Ok(explored),
-        Err(_) => Err(Refusal::OutOfMemory),
+    if !options.patient {
+        return explored_in(alloc, options.limit, text);
     }
+    let ExploredPatiently {
+        answers,
+        all,
+        states,
+        ..
+    } = patient_in(alloc, options.limit, text)?;
+    Ok(Explored {
+        answers,
+        all,
+        states,
+    })
 }
 
-/// `ebpf explore`.
-pub fn explore_file(alloc: Global, options: SearchOptions, text: &str) -> Reply
-    ensures { IsExploredFile options.patient options.limit text.now result }
+/// `ebpf explore` of all outcomes.
+fn explore_all(alloc: Global, limit: u64, text: &str) -> Reply
+    ensures { IsExploredFile false limit text.now result }
 {
-    let explored = match found_in(alloc, options, text) {
+    let explored = match explored_in(alloc, limit, text) {
         Ok(explored) => explored,
         Err(refusal) => return Reply::Refused(refusal),
     };
@@ -94,6 +122,48 @@ pub fn explore_file(alloc: Global, options: SearchOptions, text: &str) -> Reply
             all: explored.all,
         },
         Err(_) => Reply::Refused(Refusal::OutOfMemory),
+    }
+}
+
+/// Whether some state is hung.
+fn is_any_hung(hung: &[Hung]) -> bool
+    ensures { result ≡ is_any_hung hung.now }
+{
+    !hung.is_empty()
+}
+
+/// Whether some outcome has a job that ended in a fault, or some state is hung.
+fn is_stopped(explored: &ExploredPatiently) -> bool
+    ensures { result ≡ (any_stopped_of explored.now.answers.items
+        || is_any_hung explored.now.hung.items) }
+{
+    is_any_stopped(&explored.answers) || is_any_hung(&explored.hung)
+}
+
+/// `ebpf explore --patient`.
+fn explore_patiently(alloc: Global, limit: u64, text: &str) -> Reply
+    ensures { IsExploredFile true limit text.now result }
+{
+    let explored = match patient_in(alloc, limit, text) {
+        Ok(explored) => explored,
+        Err(refusal) => return Reply::Refused(refusal),
+    };
+    let stopped = is_stopped(&explored);
+    let all = explored.all;
+    match list_patient(alloc, &explored) {
+        Ok(text) => Reply::Outcomes { text, stopped, all },
+        Err(_) => Reply::Refused(Refusal::OutOfMemory),
+    }
+}
+
+/// `ebpf explore`.
+pub fn explore_file(alloc: Global, options: SearchOptions, text: &str) -> Reply
+    ensures { IsExploredFile options.patient options.limit text.now result }
+{
+    if options.patient {
+        explore_patiently(alloc, options.limit, text)
+    } else {
+        explore_all(alloc, options.limit, text)
     }
 }
 
