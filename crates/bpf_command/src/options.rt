@@ -97,6 +97,9 @@ more than --limit were kept. With --show K the K-th of them is printed alone, by
 'run --events --maps --by' does; where there are fewer, that is said with status 1.
 
 With --patient outcomes are those in which no budget is used up: for CPUs that wait for each other.
+Behind them stands a line 'hung by' for each state from which no turns lead to an outcome, the first
+on its way, with a schedule that leads there; and 'budgets can run out' where some schedule uses a
+budget up, or 'budgets may run out' where that couldn't be told.
 
 For example
   $ ebpf explore examples/first-insert.run
