@@ -4,14 +4,14 @@ use crate::caret::caret;
 use crate::comments::push_warnings;
 use crate::excerpt::{Language, instruction_text, line_of};
 use crate::expected::expected;
-use crate::finding::{Finding, finding_in};
+use crate::finding::{Finding, Told, finding_in};
 use crate::hints::hint_of;
 use crate::inputs::push_input;
 use bpf_codes::Code;
 use bpf_explain::page_of;
 use std::alloc::{AllocError, Global};
 
-/// What is known of a job's fault beside its place.
+/// What is known of a job's fault, or of its last steps, beside the place.
 #[derive(Drop)]
 pub struct Detail {
     pub job: usize,
@@ -28,11 +28,11 @@ pub struct Input<'a> {
     pub text: &'a str,
 }
 
-/// What is known of the faults of an answer.
+/// What is known of the faults of an answer, and of its jobs that are out of budget.
 #[derive(Clone, Copy)]
 pub struct Details<'a> {
     pub known: &'a [Detail],
-    /// A line for faults of which nothing is known, with its end.
+    /// A line for those of which nothing is known, with its end.
     pub otherwise: &'a str,
 }
 
@@ -68,36 +68,48 @@ fn push_found_line(
     text: &mut String,
     input: &str,
     number: usize,
-    finding: &Finding,
+    code: Code,
 ) -> Result<(), AllocError> {
     let Some(line) = line_of(input, number) else {
         return Ok(());
     };
-    if let Some(expected) = expected(alloc, finding.code, input, line)? {
+    if let Some(expected) = expected(alloc, code, input, line)? {
         let place = expected.place.min(line.len());
         push_line(alloc, text, number, line, Some(place))?;
         return write!(text, "  hint: {}\n", expected.text.as_str());
     }
-    let place = caret(alloc, finding.code, line.as_bytes());
+    let place = caret(alloc, code, line.as_bytes());
     push_line(alloc, text, number, line, place)?;
-    match hint_of(finding.code, line, place) {
+    match hint_of(code, line, place) {
         Some(hint) => write!(text, "  hint: {hint}\n"),
         None => Ok(()),
     }
 }
 
-/// What the input has at the finding, and what may be meant.
+/// What the input has at a refusal or a fault, and what may be meant.
 fn push_place(
+    alloc: Global,
+    text: &mut String,
+    input: &Input<'_>,
+    code: Code,
+    line: Option<usize>,
+) -> Result<(), AllocError> {
+    if let Some(number) = line {
+        push_found_line(alloc, text, input.text, number, code)
+    } else if input.language != Language::RunFile || code == Code::L8 {
+        push_input(text, code, input.text, input.bytes)
+    } else {
+        Ok(())
+    }
+}
+
+/// The instruction that a finding is of, where the input has it.
+fn push_instruction(
     alloc: Global,
     text: &mut String,
     input: &Input<'_>,
     finding: &Finding,
 ) -> Result<(), AllocError> {
-    if let Some(number) = finding.line {
-        push_found_line(alloc, text, input.text, number, finding)?;
-    } else if input.language != Language::RunFile || finding.code == Code::L8 {
-        push_input(text, finding.code, input.text, input.bytes)?;
-    }
     if let Some(pc) = finding.pc
         && let Some(insn) = instruction_text(alloc, input.language, input.text, finding)
     {
@@ -114,15 +126,12 @@ fn is_fault(code: Code) -> bool {
     )
 }
 
-/// What is known of a fault. The only job of `hex` has no number.
+/// What is known of a job's fault, or of its last steps. The only job of `hex` has no number.
 fn push_details(
     text: &mut String,
     finding: &Finding,
     details: &Details<'_>,
 ) -> Result<(), AllocError> {
-    if !is_fault(finding.code) {
-        return Ok(());
-    }
     let job = finding.job.unwrap_or(0);
     match details.known.iter().find(|detail| detail.job == job) {
         Some(detail) => text.push_str(detail.text.as_str()),
@@ -130,8 +139,40 @@ fn push_details(
     }
 }
 
-/// What there is to say of each refusal and fault in what was printed: the line or the instruction,
-/// what the code means, and what may be meant; and warnings of instructions in comments.
+/// What there is to say of a refusal or a fault.
+fn push_coded(
+    alloc: Global,
+    text: &mut String,
+    input: &Input<'_>,
+    finding: &Finding,
+    code: Code,
+    details: &Details<'_>,
+) -> Result<(), AllocError> {
+    write!(text, "{}\n", page_of(code).meaning)?;
+    push_place(alloc, text, input, code, finding.line)?;
+    push_instruction(alloc, text, input, finding)?;
+    if is_fault(code) {
+        push_details(text, finding, details)?;
+    }
+    write!(text, "  see: ebpf explain {}\n", code.text())
+}
+
+/// What there is to say of a job that is out of budget.
+fn push_out_of_budget(
+    alloc: Global,
+    text: &mut String,
+    input: &Input<'_>,
+    finding: &Finding,
+    details: &Details<'_>,
+) -> Result<(), AllocError> {
+    text.push_str("the steps of the budget are made, and this instruction would be the next\n")?;
+    push_instruction(alloc, text, input, finding)?;
+    push_details(text, finding, details)
+}
+
+/// What there is to say of each refusal and fault in what was printed, and of each job that is out
+/// of budget: the line or the instruction, what the code means, and what may be meant; and warnings
+/// of instructions in comments.
 pub fn advise(
     alloc: Global,
     input: &Input<'_>,
@@ -140,12 +181,13 @@ pub fn advise(
 ) -> Result<String, AllocError> {
     let mut text = String::new(alloc);
     for line in printed.split('\n') {
-        if let Some(finding) = finding_in(line) {
-            let page = page_of(finding.code);
-            write!(text, "{line}: {}\n", page.meaning)?;
-            push_place(alloc, &mut text, input, &finding)?;
-            push_details(&mut text, &finding, details)?;
-            write!(text, "  see: ebpf explain {}\n", finding.code.text())?;
+        let Some(finding) = finding_in(line) else {
+            continue;
+        };
+        write!(text, "{line}: ")?;
+        match finding.told {
+            Told::Coded(code) => push_coded(alloc, &mut text, input, &finding, code, details)?,
+            Told::OutOfBudget => push_out_of_budget(alloc, &mut text, input, &finding, details)?,
         }
     }
     if input.language != Language::Words {

@@ -1,11 +1,19 @@
-//! The refusals and faults in what is printed.
+//! The refusals and faults in what is printed, and the budgets that were used up.
 
 use bpf_codes::{Code, code_named};
 
-/// A refusal or a fault, and where it is.
+/// What a printed line tells.
+#[derive(Clone, Copy)]
+pub enum Told {
+    /// A refusal or a fault.
+    Coded(Code),
+    OutOfBudget,
+}
+
+/// What a printed line tells, and where that is.
 #[derive(Clone, Copy)]
 pub struct Finding {
-    pub code: Code,
+    pub told: Told,
     /// The line of the text, from 1.
     pub line: Option<usize>,
     /// The place in words of the instruction, from 0.
@@ -62,8 +70,17 @@ impl Numbers {
     }
 }
 
-/// The refusal or the fault that a printed line tells of, if it does.
-pub fn finding_in(line: &str) -> Option<Finding> {
+/// What a line tells that has this code, or none.
+fn told_by(line: &str, code: Option<Code>) -> Option<Told> {
+    match code {
+        Some(code) => Some(Told::Coded(code)),
+        None if line.contains("out of budget at ") => Some(Told::OutOfBudget),
+        None => None,
+    }
+}
+
+/// The refusal, the fault or the end of a budget that a printed line tells of, if it does.
+pub fn finding_in(text: &str) -> Option<Finding> {
     let mut numbers = Numbers {
         line: None,
         pc: None,
@@ -72,7 +89,7 @@ pub fn finding_in(line: &str) -> Option<Finding> {
     let mut code = None;
     let mut tells = false;
     let mut before = "";
-    for word in line.split(' ') {
+    for word in text.split(' ') {
         if word == "refused" || word == "fault" {
             tells = true;
         } else if let Ok(number) = word.parse::<usize>() {
@@ -82,14 +99,12 @@ pub fn finding_in(line: &str) -> Option<Finding> {
         }
         before = word;
     }
+    let told = told_by(text, code)?;
     let Numbers { line, pc, job } = numbers;
-    match code {
-        Some(code) => Some(Finding {
-            code,
-            line,
-            pc,
-            job,
-        }),
-        None => None,
-    }
+    Some(Finding {
+        told,
+        line,
+        pc,
+        job,
+    })
 }

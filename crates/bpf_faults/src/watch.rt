@@ -15,6 +15,7 @@ ghost use Rattle.bpf_faults.specs.Evidence.{AreSizes, HasEvidence, IsEvidenceIn,
 ghost use Rattle.bpf_faults.specs.Private.{AddsEvidence, AreWatched, HasNoWork, HaveOneInHand, IsEvidenceOfTurn, SeesNext, Watches, works};
 
 use crate::evidence::{Evidence, Seen};
+use crate::looping::{Loop, Loops};
 use bpf_cpu::{Fault, Job, Outcome};
 use bpf_jobs::make_machine;
 use bpf_loader::Program;
@@ -134,6 +135,7 @@ fn watch_turn(
     cpu: u8,
     contexts: &[usize],
     seen: &mut Seen,
+    loops: &mut Loops,
     evidence: &mut Vec<Evidence>,
 ) -> Result<bool, AllocError>
     requires shown { (w : World) × Shows machine.old w }
@@ -143,8 +145,10 @@ fn watch_turn(
         machine.new evidence.new.items) }
 {
     let job = see_next(alloc, machine, cpu, contexts, seen)?;
+    loops.note(alloc, machine, cpu);
     let turn = machine.turn(cpu);
     add_evidence(alloc, cpu, job, turn, seen, evidence)?;
+    loops.add(alloc, cpu, turn)?;
     Ok(works(turn))
 }
 
@@ -154,6 +158,7 @@ fn watch_round(
     machine: &mut Machine,
     contexts: &[usize],
     seen: &mut Seen,
+    loops: &mut Loops,
     evidence: &mut Vec<Evidence>,
 ) -> Result<bool, AllocError>
     requires shown { (w : World) × Shows machine.old w }
@@ -171,7 +176,7 @@ fn watch_round(
     let mut worked = false;
     let end = machine.cpus();
     for cpu in 0..end {
-        let busy = watch_turn(alloc, machine, cpu, contexts, seen, evidence)?;
+        let busy = watch_turn(alloc, machine, cpu, contexts, seen, loops, evidence)?;
         worked |= busy;
     }
     Ok(worked)
@@ -182,6 +187,7 @@ fn watch(
     alloc: Global,
     machine: &mut Machine,
     contexts: &[usize],
+    loops: &mut Loops,
 ) -> Result<Vec<Evidence>, AllocError>
     requires shown { (w : World) × Shows machine.old w }
     requires watched { AreWatched machine.old.jobs contexts.now [] }
@@ -193,7 +199,7 @@ fn watch(
     let mut evidence = Vec::new(alloc);
     let mut seen = Seen::nothing(alloc);
     'watching: loop {
-        let worked = watch_round(alloc, machine, contexts, &mut seen, &mut evidence)?;
+        let worked = watch_round(alloc, machine, contexts, &mut seen, loops, &mut evidence)?;
         if !worked {
             // Nothing is left to do, which is to say that each job has ended.
             machine.rounds();
@@ -203,13 +209,14 @@ fn watch(
 }
 
 /// Runs jobs in rounds over a new store, until each has ended: the machine that they leave, and of
-/// each job that ended in a fault what its CPU had before that step. Want of memory is the only
-/// refusal.
+/// each job that ended in a fault what its CPU had before that step; and put behind the loops, of
+/// each that ended out of budget, its last steps. Want of memory is the only refusal.
 pub fn evidence_of(
     alloc: Global,
     shape: StoreShape,
     programs: Vec<Program>,
     jobs: Vec<Job>,
+    loops: &mut Vec<Loop>,
 ) -> Result<(Machine, Vec<Evidence>), AllocError>
     requires cpus { All (λ job. job.cpu < shape.cpus) jobs.items }
     requires programs { All (λ job. job.program < vec_len programs) jobs.items }
@@ -221,6 +228,8 @@ pub fn evidence_of(
 {
     let sizes = context_sizes(alloc, &jobs)?;
     let mut machine = make_machine(alloc, shape, programs, jobs)?;
-    let evidence = watch(alloc, &mut machine, &sizes)?;
+    let mut found = Loops::new(alloc, machine.cpus())?;
+    let evidence = watch(alloc, &mut machine, &sizes, &mut found)?;
+    loops.append(&mut found.found)?;
     Ok((machine, evidence))
 }

@@ -20,10 +20,10 @@ const BY_COMMANDS: &str =
     "  hint: 'break CPU PC' stops there; then 'regs' and 'mem' show what the CPU has\n";
 
 const BY_SCHEDULES: &str =
-    "  hint: the line 'by' above the outcome is a schedule that leads to this fault\n";
+    "  hint: the line 'by' above the outcome is a schedule that leads to this\n";
 
 const BY_ONE_SCHEDULE: &str =
-    "  hint: 'ebpf explore' prints the turns that lead to this fault, and 'steps' of 'ebpf debug' makes them\n";
+    "  hint: 'ebpf explore' prints the turns that lead to this, and 'steps' of 'ebpf debug' makes them\n";
 
 /// What is to be explained: of which command an answer is, as far as that matters.
 #[derive(Drop)]
@@ -109,7 +109,7 @@ impl Subject {
         }
     }
 
-    /// What is said of a fault of which nothing more is known.
+    /// What is said of a fault, or of a job out of budget, of which nothing more is known.
     fn otherwise(&self) -> &'static str {
         match self {
             Subject::Turns => BY_TURNS,
@@ -146,12 +146,14 @@ fn printed(alloc: Global, reply: &Reply) -> Result<String, AllocError> {
 /// What is known of the faults of an answer; nothing where there is no memory for it.
 fn details(alloc: Global, subject: &Subject, reply: &Reply, input: &str) -> Vec<Detail> {
     let known = match (subject, reply) {
-        (Subject::Program { budget, context }, Reply::Ended(Outcome::Fault(..))) => {
-            details_of_program(alloc, *budget, context, input)
-        }
-        (Subject::AssembledProgram { budget, context }, Reply::Ended(Outcome::Fault(..))) => {
-            details_of_assembly(alloc, *budget, context, input)
-        }
+        (
+            Subject::Program { budget, context },
+            Reply::Ended(Outcome::Fault(..) | Outcome::OutOfBudget(_)),
+        ) => details_of_program(alloc, *budget, context, input),
+        (
+            Subject::AssembledProgram { budget, context },
+            Reply::Ended(Outcome::Fault(..) | Outcome::OutOfBudget(_)),
+        ) => details_of_assembly(alloc, *budget, context, input),
         (Subject::Rounds, Reply::Jobs(_, true)) => details_of_file(alloc, input),
         _ => None,
     };

@@ -1,8 +1,9 @@
-//! What is known of the faults in which jobs ended. They are run once more for it.
+//! What is known of the faults in which jobs ended, and of the last steps of those that ended out of
+//! budget. They are run once more for it.
 
 use bpf_advice::Detail;
 use bpf_cpu::Job;
-use bpf_faults::{Evidence, Maps, describe, evidence_of};
+use bpf_faults::{Evidence, Loop, Maps, describe, describe_loop, evidence_of};
 use bpf_file::{RunFile, read_file};
 use bpf_insn::{Insn, encode};
 use bpf_lines::{from_hex, to_hex};
@@ -39,6 +40,15 @@ fn details_of(
     Ok(details)
 }
 
+/// Puts behind the details those of each job that ended out of budget.
+fn add_loops(alloc: Global, details: &mut Vec<Detail>, loops: &[Loop]) -> Result<(), AllocError> {
+    for one in loops {
+        let text = describe_loop(alloc, one)?;
+        details.push(Detail { job: one.job, text })?;
+    }
+    Ok(())
+}
+
 /// The numbers of the jobs' programs.
 fn programs_of(alloc: Global, jobs: &[Job]) -> Result<Vec<usize>, AllocError> {
     let mut programs = Vec::new(alloc);
@@ -48,7 +58,7 @@ fn programs_of(alloc: Global, jobs: &[Job]) -> Result<Vec<usize>, AllocError> {
     Ok(programs)
 }
 
-/// What is known of the faults of a run file's jobs.
+/// What is known of the jobs of a run file that ended in a fault or out of budget.
 pub fn details_of_file(alloc: Global, text: &str) -> Option<Vec<Detail>> {
     let RunFile {
         shape,
@@ -59,12 +69,15 @@ pub fn details_of_file(alloc: Global, text: &str) -> Option<Vec<Detail>> {
     } = read_file(alloc, text.as_bytes()).ok()?;
     let shapes = Vec::from_slice(alloc, shape.maps()).ok()?;
     let numbers = programs_of(alloc, &jobs).ok()?;
-    let (machine, evidence) = evidence_of(alloc, shape, programs, jobs).ok()?;
+    let mut loops = Vec::new(alloc);
+    let (machine, evidence) = evidence_of(alloc, shape, programs, jobs, &mut loops).ok()?;
     let maps = Maps {
         shapes: &shapes,
         names: &names,
     };
-    details_of(alloc, &machine, &evidence, &numbers, &maps).ok()
+    let mut details = details_of(alloc, &machine, &evidence, &numbers, &maps).ok()?;
+    add_loops(alloc, &mut details, &loops).ok()?;
+    Some(details)
 }
 
 /// The run file whose only job runs the program of these bytes.
@@ -78,7 +91,7 @@ fn file_of_program(alloc: Global, budget: u64, context: &[u8], bytes: &[u8]) -> 
     file.ok()
 }
 
-/// What is known of the fault of the program whose words the text has as hex digits.
+/// What is known of the end of the program whose words the text has as hex digits.
 pub fn details_of_program(
     alloc: Global,
     budget: u64,
@@ -90,7 +103,7 @@ pub fn details_of_program(
     details_of_file(alloc, file.as_str())
 }
 
-/// What is known of the fault of the program that the text is.
+/// What is known of the end of the program that the text is.
 pub fn details_of_assembly(
     alloc: Global,
     budget: u64,
