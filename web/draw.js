@@ -528,7 +528,7 @@ function draw(state) {
     draw_stands(state, height);
     draw_maps(state);
     draw_raw(state);
-    mark_outcome(state);
+    mark_found(state);
     tell(turn_text(state));
     draw_timeline(state, wanted);
     if (wanted.scrolled !== seen.scrolled) at('turns').scrollLeft = wanted.scrolled;

@@ -1,26 +1,42 @@
 'use strict';
 
-// Every schedule: the outcomes that `ebpf explore` finds of a run file, each with a schedule that leads
-// there and that the timeline can show. The search has an engine of its own, so that CPUs can be stepped
+// Every schedule: the outcomes and deadlocks that `ebpf explore` finds of a run file, each with a schedule that
+// leads there and that the timeline can show. The search has an engine of its own, so that CPUs can be stepped
 // meanwhile, and is made with greater and greater limits, so that what is found is seen before its end.
 
 const LIMITS = [1000, 10000, 100000, 1000000]; // of states
-const MOST_OUTCOMES = 200; // that are listed
-const HUNG = 'hung: no end can be reached from here'; // whatever turns are made
+const MOST_FOUND = 200; // that are listed
 
-// What `explore` prints: a line `by` before the lines of each outcome, with --patient a line `hung by` for each
-// state from which no end can be reached and one on budgets, and a last line.
+const DEADLOCK = 'a deadlock: no order of turns leads from here to an end';
+
+// What `explore` prints: a line `by` before the lines of each outcome; behind them, of a patient search, a line a
+// state from which no order of turns leads to an end, and whether budgets can be used up; and a last line.
+const FOUND = [
+    ['outcome', /^by(?: (.*))?$/],
+    ['deadlock', /^hung by(?: (.*))?$/],
+];
+
+function found_in(line) {
+    for (const [kind, form] of FOUND) {
+        const match = form.exec(line);
+        if (match) return { kind, schedule: match[1] ?? '', lines: kind === 'deadlock' ? [DEADLOCK] : [] };
+    }
+    return null;
+}
+
 function read_explored(printed) {
     const lines = printed.trimEnd().split('\n');
     const last = /^(all|not all): (\d+) outcomes, (\d+) states$/.exec(lines.pop());
     if (!last) throw new Error(printed.trim());
     const found = [];
+    let budgets = '';
     for (const line of lines) {
-        if (/^by( |$)/.test(line)) found.push({ schedule: line.slice(3), lines: [], is_hung: false });
-        else if (/^hung by( |$)/.test(line)) found.push({ schedule: line.slice(8), lines: [HUNG], is_hung: true });
-        else if (!/^budgets /.test(line)) found.at(-1).lines.push(line);
+        const one = found_in(line);
+        if (one) found.push(one);
+        else if (line.startsWith('budgets ')) budgets = line;
+        else found.at(-1).lines.push(line);
     }
-    return { found, is_all: last[1] === 'all', states: Number(last[3]) };
+    return { found, budgets, is_all: last[1] === 'all', states: Number(last[3]) };
 }
 
 // `stage` counts the limits that are searched through.
@@ -54,33 +70,42 @@ function stop_search() {
 
 // ---- Drawing
 
-const outcomes_of = ({ found }) => found.filter(({ is_hung }) => !is_hung);
-
 const in_thousands = (number) => number.toLocaleString('en');
+
+// How many of each kind were found: outcomes in any case, others where there are some.
+function counts_text({ found, states }) {
+    const count = (kind) => found.filter((it) => it.kind === kind).length;
+    const deadlocks = count('deadlock') ? `, ${counted(count('deadlock'), 'deadlock')}` : '';
+    return `${counted(count('outcome'), 'outcome')}${deadlocks}, ${in_thousands(states)} states`;
+}
+
+// What a whole search says of the orders of turns that aren't listed.
+function no_other_text(is_patient, { budgets }) {
+    if (!is_patient) return 'No order of turns has another.';
+    if (!budgets) return 'No order of turns has another, and none uses a budget up.';
+    const some = budgets === 'budgets can run out' ? 'Some order uses' : 'Some order may use';
+    return `No order of turns that uses no budget up has another. ${some} one up.`;
+}
 
 function every_text({ came, is_on, is_patient, stage }) {
     const goes_on = is_on ? `Searching up to ${in_thousands(LIMITS[stage])} states…` : '';
     if (!came) return goes_on;
-    const outcomes = outcomes_of(came).length;
-    const hung = came.found.length - outcomes;
-    const found = counted(outcomes, 'outcome') + (hung ? `, ${counted(hung, 'hung state')}` : '');
-    const what = `${found}, ${in_thousands(came.states)} states`;
+    const what = counts_text(came);
     if (!came.is_all) return is_on ? `So far: ${what}. ${goes_on}` : `Not all: ${what}, and there may be more.`;
-    const no_other = is_patient ? 'No order of turns that uses no budget up has another.' : 'No order of turns has another.';
-    return `All: ${what}. ${no_other}`;
+    return `All: ${what}. ${no_other_text(is_patient, came)}`;
 }
 
-// An outcome, in which the lines that not all of them have stand out.
-function outcome_row({ schedule, lines, is_hung }, number, is_shared) {
-    const row = make('li');
+// What was found. In an outcome, the lines that not all of them have stand out.
+function found_row({ kind, schedule, lines }, number, is_shared) {
+    const row = make('li', kind);
     const said = make('pre');
     for (const line of lines) said.append(make('span', is_shared(line) ? 'shared' : '', line), '\n');
     const by = make('code', 'by', schedule ? `by ${schedule}` : 'by no turn');
     by.title = 'A schedule that leads there: N turns of CPU C are C*N';
     const button = make('button', '', 'Show me');
     button.type = 'button';
-    button.dataset.outcome = number;
-    button.setAttribute('aria-label', is_hung ? `Show me hung state ${number + 1}` : `Show me outcome ${number + 1}`);
+    button.dataset.found = number;
+    button.setAttribute('aria-label', `Show me number ${number + 1}: ${kind === 'outcome' ? 'an' : 'a'} ${kind}`);
     row.append(button, said, by);
     return row;
 }
@@ -94,19 +119,19 @@ function draw_every(state) {
     if (at('found').drawn === came) return;
     at('found').drawn = came;
     const found = came?.found ?? [];
-    const outcomes = came ? outcomes_of(came) : [];
+    const outcomes = found.filter(({ kind }) => kind === 'outcome');
     const counts = new Map();
     for (const line of outcomes.flatMap(({ lines }) => lines)) counts.set(line, (counts.get(line) ?? 0) + 1);
-    const rows = found.slice(0, MOST_OUTCOMES).map((it, number) => outcome_row(it, number, (line) => counts.get(line) === outcomes.length));
-    if (found.length > MOST_OUTCOMES) rows.push(make('li', 'empty', `and ${found.length - MOST_OUTCOMES} more`));
+    const rows = found.slice(0, MOST_FOUND).map((it, number) => found_row(it, number, (line) => counts.get(line) === outcomes.length));
+    if (found.length > MOST_FOUND) rows.push(make('li', 'empty', `and ${found.length - MOST_FOUND} more`));
     at('found').replaceChildren(...rows);
 }
 
-// Marks the outcome whose schedule the turns are.
-function mark_outcome({ turns }) {
+// Marks what was found by the schedule that the turns are.
+function mark_found({ turns }) {
     if (!search.came) return;
     const by = schedule_of(turns);
-    search.came.found.slice(0, MOST_OUTCOMES).forEach(({ schedule }, number) => {
+    search.came.found.slice(0, MOST_FOUND).forEach(({ schedule }, number) => {
         const row = at('found').children[number];
         const is_shown = schedule === by && turns.length > 0;
         row.classList.toggle('shown', is_shown);

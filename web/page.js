@@ -266,8 +266,8 @@ function forget_search() {
     draw_every(search);
 }
 
-// Sets the turns to a schedule that leads to an outcome.
-function show_outcome(number) {
+// Sets the turns to a schedule that leads to what was found.
+function show_found(number) {
     const { file } = state;
     const turns = turns_of_schedule(search.came.found[number].schedule, MOST_TURNS);
     if (!file) return;
@@ -471,8 +471,8 @@ function listen_to_every() {
     at('explore').addEventListener('click', explore);
     at('every-stop').addEventListener('click', end_search);
     at('found').addEventListener('click', ({ target }) => {
-        const number = target.closest('button')?.dataset.outcome;
-        if (number !== undefined) show_outcome(Number(number));
+        const number = target.closest('button')?.dataset.found;
+        if (number !== undefined) show_found(Number(number));
     });
 }
 
