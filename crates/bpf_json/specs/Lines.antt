@@ -1,0 +1,128 @@
+-- What printed lines are as JSON (RFC 8259): an object a line. Our own choice.
+use Rattle.std.specs.Prelude.{◌≡◌, ℕ, Bool, List, [], ◌++◌, ◌⊎◌, All, Option, Some, None, codes, flat_map, string_bytes, if◌then◌else◌}
+use Rattle.std.specs.Fmt.{decimal}
+use Rattle.json.specs.Print.{quoted}
+use Rattle.bpf_base.specs.Bytes.{little_endian}
+use Rattle.bpf_lines.specs.HexText.{IsHexOf}
+use Rattle.bpf_json.specs.declared.digits.Digits.{Digits}
+use Rattle.bpf_json.specs.declared.line.Line.{Line}
+use Rattle.bpf_json.specs.declared.line.Line.TheVariants as line
+
+-- ---- numbers
+
+-- the bytes that the digits spell read as the number, the lowest byte first
+abbrev pub IsNumberOf : List ℕ → ℕ → Type 0
+IsNumberOf digits n = (bytes : List ℕ) × IsHexOf digits bytes × (n ≡ little_endian bytes)
+
+abbrev pub IsRightNumber : Digits → Type 0
+IsRightNumber d = (n : ℕ) → d.number ≡ Some n → IsNumberOf (string_bytes d.hex) n
+
+-- numbers stand there beside digits that spell them
+abbrev pub IsRight : Line → Type 0
+IsRight (line.Pair name key value) = IsRightNumber key × IsRightNumber value
+IsRight _ = Unit {0}
+
+-- ---- as it is printed
+
+abbrev pub verdict : Bool → List ℕ
+verdict ok = if ok then codes "ok" else codes "not ok"
+
+abbrev pub all_text : Bool → List ℕ
+all_text all = if all then codes "all" else codes "not all"
+
+abbrev pub by_text : List ℕ → List ℕ
+by_text [] = codes "by"
+by_text schedule = codes "by " ++ schedule
+
+abbrev pub job_text : ℕ → ℕ → List ℕ → List ℕ
+job_text j c end = codes "job " ++ (decimal j ++ (codes " cpu " ++ (decimal c ++ (codes " " ++ end))))
+
+abbrev pub budget_text : ℕ → List ℕ
+budget_text pc = codes "out of budget at " ++ decimal pc
+
+-- the line, without its end
+abbrev pub plain : Line → List ℕ
+plain (line.Exit j c r0) = job_text j c (codes "r0=" ++ decimal r0)
+plain (line.Fault j c code pc) =
+    job_text j c (codes "fault " ++ (string_bytes code ++ (codes " at " ++ decimal pc)))
+plain (line.OutOfBudget j c pc) = job_text j c (budget_text pc)
+plain (line.Pair name key value) =
+    codes "map " ++ (string_bytes name ++ (codes " " ++ (string_bytes key.hex ++ (codes "="
+    ++ string_bytes value.hex))))
+plain (line.By schedule) = by_text (string_bytes schedule)
+plain (line.Hung schedule) = codes "hung " ++ by_text (string_bytes schedule)
+plain (line.Counts all outcomes states) =
+    all_text all ++ (codes ": " ++ (decimal outcomes ++ (codes " outcomes, " ++ (decimal states
+    ++ codes " states"))))
+plain (line.Plan count) = codes "1.." ++ decimal count
+plain (line.Test ok number name) =
+    verdict ok ++ (codes " " ++ (decimal number ++ (codes " - " ++ string_bytes name)))
+plain (line.Note text) = codes "# " ++ string_bytes text
+plain (line.Refused why) = codes "refused " ++ string_bytes why
+plain (line.Other text) = string_bytes text
+
+-- ---- as JSON
+
+abbrev pub truth : Bool → List ℕ
+truth test = if test then codes "true" else codes "false"
+
+-- an object of one text
+abbrev pub member : List ℕ → List ℕ → List ℕ
+member name text = codes "{\"" ++ (name ++ (codes "\":" ++ (quoted text ++ codes "}")))
+
+-- the member for the number, behind a comma
+abbrev pub number_member : List ℕ → Option ℕ → List ℕ
+number_member name None = []
+number_member name (Some n) = codes ",\"" ++ (name ++ (codes "_number\":" ++ decimal n))
+
+abbrev pub digits_members : List ℕ → Digits → List ℕ
+digits_members name d =
+    codes "\"" ++ (name ++ (codes "\":" ++ (quoted (string_bytes d.hex)
+    ++ number_member name d.number)))
+
+abbrev pub object : Line → List ℕ
+object (line.Exit j c r0) =
+    codes "{\"job\":" ++ (decimal j ++ (codes ",\"cpu\":" ++ (decimal c ++ (codes ",\"r0\":"
+    ++ (decimal r0 ++ codes "}")))))
+object (line.Fault j c code pc) =
+    codes "{\"job\":" ++ (decimal j ++ (codes ",\"cpu\":" ++ (decimal c ++ (codes ",\"fault\":"
+    ++ (quoted (string_bytes code) ++ (codes ",\"pc\":" ++ (decimal pc ++ codes "}")))))))
+object (line.OutOfBudget j c pc) =
+    codes "{\"job\":" ++ (decimal j ++ (codes ",\"cpu\":" ++ (decimal c
+    ++ (codes ",\"out_of_budget\":true,\"pc\":" ++ (decimal pc ++ codes "}")))))
+object (line.Pair name key value) =
+    codes "{\"map\":" ++ (quoted (string_bytes name) ++ (codes ","
+    ++ (digits_members (codes "key") key ++ (codes "," ++ (digits_members (codes "value") value
+    ++ codes "}")))))
+object (line.By schedule) = member (codes "by") (string_bytes schedule)
+object (line.Hung schedule) = member (codes "hung_by") (string_bytes schedule)
+object (line.Counts all outcomes states) =
+    codes "{\"all\":" ++ (truth all ++ (codes ",\"outcomes\":" ++ (decimal outcomes
+    ++ (codes ",\"states\":" ++ (decimal states ++ codes "}")))))
+object (line.Plan count) = codes "{\"tests\":" ++ (decimal count ++ codes "}")
+object (line.Test ok number name) =
+    codes "{\"test\":" ++ (decimal number ++ (codes ",\"ok\":" ++ (truth ok ++ (codes ",\"name\":"
+    ++ (quoted (string_bytes name) ++ codes "}")))))
+object (line.Note text) = member (codes "note") (string_bytes text)
+object (line.Refused why) = member (codes "refused") (string_bytes why)
+object (line.Other text) = member (codes "line") (string_bytes text)
+
+-- ---- a text
+
+-- of what the line says
+abbrev pub IsObjectOf : (text made : List ℕ) → Type 0
+IsObjectOf text made = (l : Line) × IsRight l × (plain l ≡ text) × (made ≡ object l)
+
+-- it is put behind
+abbrev pub IsLineOf : (text old new : List ℕ) → Type 0
+IsLineOf text old new = (made : List ℕ) × IsObjectOf text made × (new ≡ old ++ (made ++ codes "\n"))
+
+-- so written, each on a line
+abbrev pub lines_of : (Line → List ℕ) → List Line → List ℕ
+lines_of write lines = flat_map (λ l. write l ++ codes "\n") lines
+
+-- the text is that of these lines, and the last of them may lack its end; their objects are these
+abbrev pub AreObjectsOf : (text objects : List ℕ) → Type 0
+AreObjectsOf text objects = (lines : List Line) × All IsRight lines
+    × ((text ≡ lines_of plain lines) ⊎ (text ++ codes "\n" ≡ lines_of plain lines))
+    × (objects ≡ lines_of object lines)

@@ -1,0 +1,11 @@
+//! What `ebpf` prints as lines, as JSON: an object a line.
+#![tactic(auto)]
+
+mod digits;
+mod line;
+mod objects;
+mod reading;
+
+pub use digits::Digits;
+pub use line::Line;
+pub use objects::objects_of;

@@ -1,0 +1,214 @@
+//! What a printed line says.
+
+ghost use Rattle.std.specs.Prelude.{◌≡◌, ◌++◌, IfOk, OnOk, string_bytes};
+ghost use Rattle.json.specs.Print.{quoted};
+ghost use Rattle.bpf_json.specs.Lines.{budget_text, by_text, digits_members, job_text, member, number_member, object, plain, truth, verdict};
+
+use crate::digits::Digits;
+use serde_json::Value;
+use std::alloc::{AllocError, Global};
+
+/// A line that `run --maps`, `explore` or `check` prints.
+#[derive(PartialEq, Eq, Debug, Drop)]
+pub enum Line {
+    /// A job that exited, by its number and its CPU's.
+    Exit { job: u64, cpu: u64, r0: u64 },
+    /// A job that ended in a fault of this code.
+    Fault {
+        job: u64,
+        cpu: u64,
+        code: String,
+        pc: u64,
+    },
+    OutOfBudget { job: u64, cpu: u64, pc: u64 },
+    /// A key of a map with its value.
+    Pair {
+        map: String,
+        key: Digits,
+        value: Digits,
+    },
+    /// The schedule of the outcome whose lines follow, of no words where that is one of no turns.
+    By(String),
+    /// The schedule of a state from which no end can be reached.
+    Hung(String),
+    /// How many outcomes were found among how many states, and whether they are all.
+    Counts {
+        all: bool,
+        outcomes: u64,
+        states: u64,
+    },
+    /// How many tests follow.
+    Plan(u64),
+    Test {
+        ok: bool,
+        number: u64,
+        name: String,
+    },
+    /// What is said of the test before.
+    Note(String),
+    /// Why nothing was done.
+    Refused(String),
+    /// Any other.
+    Other(String),
+}
+
+fn truth(test: bool) -> &'static str
+    ensures { result.now ≡ truth test }
+{
+    if test { "true" } else { "false" }
+}
+
+fn verdict(ok: bool) -> &'static str
+    ensures { result.now ≡ verdict ok }
+{
+    if ok { "ok" } else { "not ok" }
+}
+
+/// A text between quotes.
+fn quoted(alloc: Global, text: &str) -> Result<String, AllocError>
+    ensures { IfOk result (λ s. string_bytes s ≡ quoted text.now) }
+{
+    let value = Value::String(text.to_string(alloc)?);
+    value.to_string(alloc)
+}
+
+/// The member for a number, where there is one.
+fn number_member(alloc: Global, name: &str, number: Option<u64>) -> Result<String, AllocError>
+    ensures { IfOk result (λ s. string_bytes s ≡ number_member name.now number) }
+{
+    match number {
+        Some(number) => format!(in alloc; ",\"{name}_number\":{number}"),
+        None => Ok(String::new(alloc)),
+    }
+}
+
+/// The members for bytes: their digits, and their number where there is one.
+fn digits_members(alloc: Global, name: &str, digits: &Digits) -> Result<String, AllocError>
+    ensures { IfOk result (λ s. string_bytes s ≡ digits_members name.now digits.now) }
+{
+    let hex = quoted(alloc, digits.hex.as_str())?;
+    let number = number_member(alloc, name, digits.number)?;
+    format!(in alloc; "\"{name}\":{hex}{number}")
+}
+
+/// The line of a schedule.
+fn by_text(alloc: Global, schedule: &str) -> Result<String, AllocError>
+    ensures { IfOk result (λ s. string_bytes s ≡ by_text schedule.now) }
+{
+    if schedule.is_empty() {
+        "by".to_string(alloc)
+    } else {
+        format!(in alloc; "by {schedule}")
+    }
+}
+
+fn out_of_budget(alloc: Global, pc: u64) -> Result<String, AllocError>
+    ensures { IfOk result (λ s. string_bytes s ≡ budget_text pc) }
+{
+    format!(in alloc; "out of budget at {pc}")
+}
+
+/// The line of a job that has ended so.
+fn job_text(alloc: Global, job: u64, cpu: u64, end: &str) -> Result<String, AllocError>
+    ensures { IfOk result (λ s. string_bytes s ≡ job_text job cpu end.now) }
+{
+    format!(in alloc; "job {job} cpu {cpu} {end}")
+}
+
+impl Line {
+    /// The line as it is printed, without its end.
+    pub(crate) fn plain(&self, alloc: Global) -> Result<String, AllocError>
+        ensures { IfOk result (λ s. string_bytes s ≡ plain self.now) }
+    {
+        match self {
+            Line::Exit { job, cpu, r0 } => {
+                let end = format!(in alloc; "r0={r0}")?;
+                job_text(alloc, *job, *cpu, end.as_str())
+            }
+            Line::Fault { job, cpu, code, pc } => {
+                let end = format!(in alloc; "fault {code} at {pc}")?;
+                job_text(alloc, *job, *cpu, end.as_str())
+            }
+            Line::OutOfBudget { job, cpu, pc } => {
+                let end = out_of_budget(alloc, *pc)?;
+                job_text(alloc, *job, *cpu, end.as_str())
+            }
+            Line::Pair { map, key, value } => {
+                let (key, value) = (key.hex.as_str(), value.hex.as_str());
+                format!(in alloc; "map {map} {key}={value}")
+            }
+            Line::By(schedule) => by_text(alloc, schedule.as_str()),
+            Line::Hung(schedule) => {
+                let by = by_text(alloc, schedule.as_str())?;
+                format!(in alloc; "hung {by}")
+            }
+            Line::Counts {
+                all,
+                outcomes,
+                states,
+            } => {
+                let head = if *all { "all" } else { "not all" };
+                format!(in alloc; "{head}: {outcomes} outcomes, {states} states")
+            }
+            Line::Plan(count) => format!(in alloc; "1..{count}"),
+            Line::Test { ok, number, name } => {
+                let verdict = verdict(*ok);
+                format!(in alloc; "{verdict} {number} - {name}")
+            }
+            Line::Note(text) => format!(in alloc; "# {text}"),
+            Line::Refused(why) => format!(in alloc; "refused {why}"),
+            Line::Other(text) => text.as_str().to_string(alloc),
+        }
+    }
+
+    /// The same as a JSON object.
+    pub(crate) fn object(&self, alloc: Global) -> Result<String, AllocError>
+        ensures { IfOk result (λ s. string_bytes s ≡ object self.now) }
+    {
+        match self {
+            Line::Exit { job, cpu, r0 } => {
+                format!(in alloc; "{{\"job\":{job},\"cpu\":{cpu},\"r0\":{r0}}}")
+            }
+            Line::Fault { job, cpu, code, pc } => {
+                let code = quoted(alloc, code.as_str())?;
+                format!(in alloc; "{{\"job\":{job},\"cpu\":{cpu},\"fault\":{code},\"pc\":{pc}}}")
+            }
+            Line::OutOfBudget { job, cpu, pc } => {
+                format!(in alloc; "{{\"job\":{job},\"cpu\":{cpu},\"out_of_budget\":true,\"pc\":{pc}}}")
+            }
+            Line::Pair { map, key, value } => {
+                let map = quoted(alloc, map.as_str())?;
+                let key = digits_members(alloc, "key", key)?;
+                let value = digits_members(alloc, "value", value)?;
+                format!(in alloc; "{{\"map\":{map},{key},{value}}}")
+            }
+            Line::By(schedule) => member(alloc, "by", schedule.as_str()),
+            Line::Hung(schedule) => member(alloc, "hung_by", schedule.as_str()),
+            Line::Counts {
+                all,
+                outcomes,
+                states,
+            } => {
+                let all = truth(*all);
+                format!(in alloc; "{{\"all\":{all},\"outcomes\":{outcomes},\"states\":{states}}}")
+            }
+            Line::Plan(count) => format!(in alloc; "{{\"tests\":{count}}}"),
+            Line::Test { ok, number, name } => {
+                let ok = truth(*ok);
+                let name = quoted(alloc, name.as_str())?;
+                format!(in alloc; "{{\"test\":{number},\"ok\":{ok},\"name\":{name}}}")
+            }
+            Line::Note(text) => member(alloc, "note", text.as_str()),
+            Line::Refused(why) => member(alloc, "refused", why.as_str()),
+            Line::Other(text) => member(alloc, "line", text.as_str()),
+        }
+    }
+}
+
+/// An object of one text.
+fn member(alloc: Global, name: &str, text: &str) -> Result<String, AllocError>
+    ensures { IfOk result (λ s. string_bytes s ≡ member name.now text.now) }
+{
+    let text = quoted(alloc, text)?;
+    format!(in alloc; "{{\"{name}\":{text}}}")
+}
