@@ -30,6 +30,7 @@ test: ## The whole gate: every proof, every must-fail edit, every test, then the
 	tests/orders ./ebpf
 	tests/explore ./ebpf
 	tests/check ./ebpf
+	tests/json ./ebpf
 	tests/campaign ./ebpf
 	tests/docs ./ebpf
 	tests/docs --self-test ./ebpf

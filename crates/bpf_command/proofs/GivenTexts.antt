@@ -1,5 +1,5 @@
 -- The texts that the matches' getters give are those that stand among the rows.
-use Rattle.std.proofs.Common.{◌≡◌, ◌∙◌, ap, sym, List, [], ◌∷◌, Bool, ◌||◌, codes, map, refl, false, Option, Some, None, option_map, unwrap_or}
+use Rattle.std.proofs.Common.{◌≡◌, ◌∙◌, ap, List, [], ◌∷◌, Bool, ◌||◌, codes, map, refl, false, Option, Some, None, option_map, unwrap_or}
 use Rattle.clap.specs.Words.{Row, Text, all_of, matched_of, raw_values, rows_of}
 use Rattle.clap.specs.declared.parser.matches.Found.{Found}
 use Rattle.clap.proofs.WalkLemmas.{raw_values-rows}

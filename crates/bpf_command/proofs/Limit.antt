@@ -7,7 +7,7 @@ use Rattle.clap.specs.Faults.{level_fault}
 use Rattle.clap.specs.Walk.{with_default, values_or_missing, Held, Row, Rule, Text, answers_to, finished, has_row, nothing_held, rows_after, settled, walk}
 use Rattle.clap.specs.Words.{fault_of, subcommand_of}
 use Rattle.bpf_command.specs.declared.command.TheConstants.{MAX_LIMIT}
-use Rattle.bpf_command.specs.CommandLine.{HasLimit, IsSearchName, check, ebpf, explained, explore, file, files, limit, patient, show}
+use Rattle.bpf_command.specs.CommandLine.{HasLimit, IsSearchName, check, ebpf, explained, explore, file, files, json, limit, patient, show}
 use Rattle.bpf_command.proofs.Limited.{limited_keeps, with_limited}
 use Rattle.bpf_command.proofs.Ranges as range
 use Rattle.bpf_command.proofs.Ranges.{no_default}
@@ -45,6 +45,10 @@ patient_keeps : Keeps AreFine false (filled patient)
 patient_keeps values rows e fine =
     range.other_used_fine (codes "limit") 0 MAX_LIMIT (codes "patient") (values_or_missing (filled patient) values) rows refl fine
 
+json_keeps : Keeps AreFine false (filled json)
+json_keeps values rows e fine =
+    range.other_used_fine (codes "limit") 0 MAX_LIMIT (codes "json") (values_or_missing (filled json) values) rows refl fine
+
 file_keeps : Keeps AreFine false (filled file)
 file_keeps values rows e fine =
     range.other_used_fine (codes "limit") 0 MAX_LIMIT (codes "file") (values_or_missing (filled file) values) rows refl fine
@@ -59,30 +63,33 @@ explained_keeps values rows e fine =
 
 explore_keeps : range.AllKeep (codes "limit") 0 MAX_LIMIT explore_rules
 explore_keeps =
-    (explained_keeps, (patient_keeps, (limit_keeps, (show_keeps, (file_keeps, ((λ values rows e fine. fine), tt))))))
+    (explained_keeps, (patient_keeps, (json_keeps, (limit_keeps, (show_keeps, (file_keeps, ((λ values rows e fine. fine), tt)))))))
 
 check_keeps : range.AllKeep (codes "limit") 0 MAX_LIMIT check_rules
 check_keeps =
-    (explained_keeps, (patient_keeps, (limit_keeps, (files_keep, ((λ values rows e fine. fine), tt)))))
+    (explained_keeps, (patient_keeps, (json_keeps, (limit_keeps, (files_keep, ((λ values rows e fine. fine), tt))))))
 
 -- ---- the rows
 
 -- the flags have defaults, and the limit
-waiting_fine : (rows : List Row) → AreFine rows → AreFine (with_default (with_default rows (filled explained)) (filled patient))
+abbrev waiting : List Row → List Row
+waiting rows = with_default (with_default (with_default rows (filled explained)) (filled patient)) (filled json)
+
+waiting_fine : (rows : List Row) → AreFine rows → AreFine (waiting rows)
 waiting_fine rows fine =
     let start = with_default rows (filled explained) in
+    let waits = with_default start (filled patient) in
     let started = range.default_fine (codes "limit") 0 MAX_LIMIT (codes "explain") (codes "false" ∷ []) rows refl fine in
-    range.default_fine (codes "limit") 0 MAX_LIMIT (codes "patient") (codes "false" ∷ []) start refl started
+    let waited = range.default_fine (codes "limit") 0 MAX_LIMIT (codes "patient") (codes "false" ∷ []) start refl started in
+    range.default_fine (codes "limit") 0 MAX_LIMIT (codes "json") (codes "false" ∷ []) waits refl waited
 
-limited_fine : (rows : List Row) → AreFine rows
-    → HasLimit (with_default (with_default (with_default rows (filled explained)) (filled patient)) (filled limit))
-limited_fine rows fine =
-    with_limited (codes "limit") MAX_LIMIT refl refl (with_default (with_default rows (filled explained)) (filled patient)) (waiting_fine rows fine)
+limited_fine : (rows : List Row) → AreFine rows → HasLimit (with_default (waiting rows) (filled limit))
+limited_fine rows fine = with_limited (codes "limit") MAX_LIMIT refl refl (waiting rows) (waiting_fine rows fine)
 
 finished_explore : (h : Held) → AreFine (settled explore_rules h).rows → HasLimit (finished explore_rules h)
 finished_explore h fine =
     let rows = (settled explore_rules h).rows in
-    let first = with_default (with_default (with_default rows (filled explained)) (filled patient)) (filled limit) in
+    let first = with_default (waiting rows) (filled limit) in
     let second = with_default first (filled show) in
     let third = with_default second (filled file) in
     let same =
@@ -94,7 +101,7 @@ finished_explore h fine =
 finished_check : (h : Held) → AreFine (settled check_rules h).rows → HasLimit (finished check_rules h)
 finished_check h fine =
     let rows = (settled check_rules h).rows in
-    let first = with_default (with_default (with_default rows (filled explained)) (filled patient)) (filled limit) in
+    let first = with_default (waiting rows) (filled limit) in
     let second = with_default first (filled files) in
     let same = no_default (has_row (codes "help") second) second ∙ no_default (has_row (codes "file") first) first in
     subst HasLimit (sym same) (limited_fine rows fine)

@@ -6,7 +6,7 @@ use Rattle.clap.specs.Faults.{level_fault}
 use Rattle.clap.specs.Walk.{with_default, values_or_missing, Held, Row, Rule, Text, answers_to, finished, has_row, nothing_held, rows_after, settled, walk}
 use Rattle.clap.specs.Words.{fault_of, subcommand_of}
 use Rattle.bpf_command.specs.declared.command.TheConstants.{MAX_LIMIT}
-use Rattle.bpf_command.specs.CommandLine.{HasShown, ebpf, explained, explore, file, limit, patient, show}
+use Rattle.bpf_command.specs.CommandLine.{HasShown, ebpf, explained, explore, file, json, limit, patient, show}
 use Rattle.bpf_command.proofs.Counted.{counted_keeps, has_count}
 use Rattle.bpf_command.proofs.Ranges as range
 use Rattle.bpf_command.proofs.Ranges.{no_default}
@@ -37,6 +37,10 @@ limit_keeps : Keeps AreFine false (filled limit)
 limit_keeps values rows e fine =
     range.other_used_fine (codes "show") 1 MAX_LIMIT (codes "limit") (values_or_missing (filled limit) values) rows refl fine
 
+json_keeps : Keeps AreFine false (filled json)
+json_keeps values rows e fine =
+    range.other_used_fine (codes "show") 1 MAX_LIMIT (codes "json") (values_or_missing (filled json) values) rows refl fine
+
 file_keeps : Keeps AreFine false (filled file)
 file_keeps values rows e fine =
     range.other_used_fine (codes "show") 1 MAX_LIMIT (codes "file") (values_or_missing (filled file) values) rows refl fine
@@ -47,7 +51,7 @@ explained_keeps values rows e fine =
 
 rules_keep : range.AllKeep (codes "show") 1 MAX_LIMIT rules
 rules_keep =
-    (explained_keeps, (patient_keeps, (limit_keeps, (show_keeps, (file_keeps, ((λ values rows e fine. fine), tt))))))
+    (explained_keeps, (patient_keeps, (json_keeps, (limit_keeps, (show_keeps, (file_keeps, ((λ values rows e fine. fine), tt)))))))
 
 -- ---- the rows
 
@@ -56,12 +60,14 @@ finished_shown : (h : Held) → AreFine (settled rules h).rows → HasShown (fin
 finished_shown h fine =
     let start = with_default (settled rules h).rows (filled explained) in
     let waits = with_default start (filled patient) in
-    let bounded = with_default waits (filled limit) in
+    let written = with_default waits (filled json) in
+    let bounded = with_default written (filled limit) in
     let first = with_default bounded (filled show) in
     let second = with_default first (filled file) in
     let started = range.default_fine (codes "show") 1 MAX_LIMIT (codes "explain") (codes "false" ∷ []) (settled rules h).rows refl fine in
     let waited = range.default_fine (codes "show") 1 MAX_LIMIT (codes "patient") (codes "false" ∷ []) start refl started in
-    let all = range.default_fine (codes "show") 1 MAX_LIMIT (codes "limit") (codes "1000000" ∷ []) waits refl waited in
+    let told = range.default_fine (codes "show") 1 MAX_LIMIT (codes "json") (codes "false" ∷ []) waits refl waited in
+    let all = range.default_fine (codes "show") 1 MAX_LIMIT (codes "limit") (codes "1000000" ∷ []) written refl told in
     let same =
     no_default (has_row (codes "help") second) second ∙ (no_default (has_row (codes "file") first) first
     ∙ no_default (has_row (codes "show") bounded) bounded)

@@ -36,6 +36,10 @@ explained = record (new_rule (codes "explain")) {
   action = Some SetTrue;
 }
 
+-- `--json`
+abbrev pub json : Rule
+json = record (new_rule (codes "json")) { long = Some (codes "json"); action = Some SetTrue }
+
 -- `FILE`
 abbrev pub file : Rule
 file = record (new_rule (codes "file")) { value_names = 1 }
@@ -120,7 +124,7 @@ abbrev pub run_options : App
 run_options = with_rule (with_rule (with_rule run_shows schedule) workers) stats
 
 abbrev pub run : App
-run = with_rule run_options file
+run = with_rule (with_rule run_options json) file
 
 -- `--limit N`
 abbrev pub limit : Rule
@@ -135,17 +139,17 @@ patient = record (new_rule (codes "patient")) {
 
 -- a command that searches through all schedules
 abbrev pub searching : Text → App
-searching name = with_rule (with_rule (with_rule (new_app name) explained) patient) limit
+searching name = with_rule (with_rule (with_rule (new_app name) explained) patient) json
 
 -- `--show K`
 abbrev pub show : Rule
 show = counted (codes "show") MAX_LIMIT
 
 abbrev pub explore : App
-explore = with_rule (with_rule (searching (codes "explore")) show) file
+explore = with_rule (with_rule (with_rule (searching (codes "explore")) limit) show) file
 
 abbrev pub check : App
-check = with_rule (searching (codes "check")) files
+check = with_rule (with_rule (searching (codes "check")) limit) files
 
 -- the code that `explain` is asked for
 abbrev pub code_rule : Rule

@@ -102,14 +102,16 @@ file_in rows = option_and_then file_named (first_of (codes "file") rows)
 -- of several files; or the page of a code
 abbrev pub Asks : Option (Text × List Row) → Request → Type 0
 Asks None _ = ⊥
-Asks (Some found) (request.Perform command file explain) = Names (Some found) command
+Asks (Some found) (request.Perform command file explain json) = Names (Some found) command
     × (option_map string_bytes file ≡ file_in found.1)
     × (found.0 ≡ codes "check" → names_several found.1 ≡ false)
     × (explain ≡ is_given (codes "explain") found.1)
-Asks (Some found) (request.CheckAll search files) = (found.0 ≡ codes "check")
+    × (json ≡ is_given (codes "json") found.1)
+Asks (Some found) (request.CheckAll search files json) = (found.0 ≡ codes "check")
     × NamesSearch found.1 search
     × (map string_bytes files.items ≡ given_texts (codes "file") found.1)
     × (names_several found.1 ≡ true) × (wants_one found.1 ≡ false)
+    × (json ≡ is_given (codes "json") found.1)
 Asks (Some found) (request.Page code) = (found.0 ≡ codes "explain")
     × (option_and_then code_of (first_of (codes "code") found.1) ≡ Some code)
 

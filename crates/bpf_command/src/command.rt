@@ -126,11 +126,15 @@ pub enum Request {
         /// What is read in place of standard input.
         file: Option<String>,
         explain: bool,
+        /// To write JSON objects in place of lines.
+        json: bool,
     },
     /// To check several files, one after the other.
     CheckAll {
         search: SearchOptions,
         files: Vec<String>,
+        /// To write JSON objects in place of lines.
+        json: bool,
     },
     /// To print the page of a code.
     Page(Code),

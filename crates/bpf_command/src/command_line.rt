@@ -375,6 +375,7 @@ fn check_all_of(alloc: Global, options: &ArgMatches) -> Result<Request, CommandE
     Ok(Request::CheckAll {
         search: search_of(options),
         files,
+        json: is_given(options, "json"),
     })
 }
 
@@ -403,6 +404,7 @@ fn requested(alloc: Global, name: &str, options: &ArgMatches) -> Result<Request,
         command,
         file,
         explain,
+        json: is_given(options, "json"),
     })
 }
 

@@ -3,7 +3,7 @@
 ghost use Rattle.std.specs.Prelude.{◌≡◌, false, IfOk};
 ghost use Rattle.clap.specs.Words.{app_of, rule_of, shape_of};
 ghost use Rattle.clap.specs.declared.builder.command.Command.TheViews.{out-Command as fields_of};
-ghost use Rattle.bpf_command.specs.CommandLine.{asm, asm_shows, bare, budget, check, code_rule, context, debug, debug_options, disasm, ebpf, echo, events, explain, explained, explore, file, files, for_files, hex, hex_options, judged, keys, limit, listing, maps, one_program, patient, pc, run, run_lists, run_options, run_shows, runs, schedule, searching, show, stats, strict, workers, working};
+ghost use Rattle.bpf_command.specs.CommandLine.{asm, asm_shows, bare, budget, check, code_rule, context, debug, debug_options, disasm, ebpf, echo, events, explain, explained, explore, file, files, for_files, hex, hex_options, judged, json, keys, limit, listing, maps, one_program, patient, pc, run, run_lists, run_options, run_shows, runs, schedule, searching, show, stats, strict, workers, working};
 
 use crate::command::{MAX_LIMIT, MAX_WORKERS};
 use bpf_base::MAX_BUDGET;
@@ -456,7 +456,19 @@ fn run_command<'a>(alloc: Global) -> Result<Command<'a>, AllocError>
     ensures shape { IfOk result (λ c. shape_of c ≡ run.top) }
     ensures own { IfOk result (λ c. (fields_of c).has_globals ≡ false) }
 {
-    run_options(alloc)?.arg(file_argument(alloc))
+    run_options(alloc)?
+        .arg(json_option(alloc))?
+        .arg(file_argument(alloc))
+}
+
+fn json_option<'a>(alloc: Global) -> Arg<'a>
+    ensures rule { rule_of result ≡ json }
+    ensures own { result.global ≡ false }
+{
+    Arg::new(alloc, "json")
+        .long("json")
+        .action(ArgAction::SetTrue)
+        .help("Prints a JSON object in place of each line")
 }
 
 fn limit_option<'a>(alloc: Global) -> Arg<'a>
@@ -500,7 +512,7 @@ fn searching<'a>(alloc: Global, name: &'static str) -> Result<Command<'a>, Alloc
     Command::new(alloc, name)
         .arg(explain_option(alloc))?
         .arg(patient_option(alloc))?
-        .arg(limit_option(alloc))
+        .arg(json_option(alloc))
 }
 
 fn explore_command<'a>(alloc: Global) -> Result<Command<'a>, AllocError>
@@ -510,6 +522,7 @@ fn explore_command<'a>(alloc: Global) -> Result<Command<'a>, AllocError>
     searching(alloc, "explore")?
         .about("Finds all that the jobs of a run file can come to, by every order of turns")
         .after_help(EXPLORE_NOTES)
+        .arg(limit_option(alloc))?
         .arg(show_option(alloc))?
         .arg(file_argument(alloc))
 }
@@ -521,6 +534,7 @@ fn check_command<'a>(alloc: Global) -> Result<Command<'a>, AllocError>
     searching(alloc, "check")?
         .about("Tells whether all that a run file's jobs can come to is as its comments expect")
         .after_help(CHECK_NOTES)
+        .arg(limit_option(alloc))?
         .arg(files_argument(alloc))
 }
 

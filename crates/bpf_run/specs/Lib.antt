@@ -9,4 +9,5 @@ pub mod Listing
 pub mod Input
 pub mod Diagnostic
 pub mod Laws
+pub mod Objects
 pub mod Program

@@ -13,6 +13,7 @@ use Rattle.bpf_command.specs.declared.command_line.CommandError.{CommandError}
 use Rattle.bpf_command.specs.declared.command_line.CommandError.TheVariants as command_error
 use Rattle.bpf_run.specs.Answer.{Prints, PrintsPage, stats_of}
 use Rattle.bpf_run.specs.Commands.{IsReply, is_unread}
+use Rattle.bpf_run.specs.Objects.{IsShown}
 use Rattle.bpf_run.specs.Several.{AreChecked}
 use Rattle.bpf_run.specs.declared.program.Ending.{Ending}
 use Rattle.bpf_run.specs.declared.program.Ending.TheVariants as ending
@@ -37,19 +38,21 @@ input_of standard files None = standard
 input_of standard files (Some name) = files name
 
 -- a command that is asked for is performed of its input, with `--explain` as without it; several
--- files are checked; of a page that is asked for nothing is read
+-- files are checked; of either, with `--json` the objects of what is printed are written; of a page
+-- that is asked for nothing is read
 abbrev pub Follows : Request → (unread : Type 0) → (standard : Option (List ℕ))
     → (files : Text → Option (List ℕ)) → (read_failed : Bool)
     → (old new : Option (List ℕ)) → (write_failed : Bool) → Status → (stats : List ℕ) → Type 0
-Follows (request.Perform command file explain) unread standard files read_failed old new
+Follows (request.Perform command file explain json) unread standard files read_failed old new
     write_failed status stats =
-    Performs command (input_of standard files (option_map string_bytes file)) read_failed old new
-    write_failed status stats
-Follows (request.CheckAll search names) unread standard files read_failed old new write_failed
-    status stats =
+    IsShown json (λ before after cut answered.
+    Performs command (input_of standard files (option_map string_bytes file)) read_failed before
+    after cut answered stats) old new write_failed status
+Follows (request.CheckAll search names json) unread standard files read_failed old new
+    write_failed status stats =
     (r : Reply)
     × AreChecked search.patient search.limit files (map string_bytes names.items) r
-    × Prints r old new write_failed status × (stats ≡ [])
+    × IsShown json (Prints r) old new write_failed status × (stats ≡ [])
 Follows (request.Page code) unread standard files read_failed old new write_failed status stats =
     unread × PrintsPage code old new write_failed status × (stats ≡ [])
 

@@ -9,6 +9,7 @@ mod fault;
 pub mod input;
 pub mod laws;
 pub mod listing;
+pub mod objects;
 pub mod output;
 pub mod perform;
 pub mod pipeline;

@@ -36,7 +36,7 @@ pub struct Performed {
     pub input: Vec<u8>,
 }
 
-fn write_text<W: Sink>(sink: &mut W, text: &str, status: Status) -> Status
+pub fn write_text<W: Sink>(sink: &mut W, text: &str, status: Status) -> Status
     requires { W.has_failed sink.old ≡ false }
     ensures { IsPrinted text.now status (W.contents sink.old) (W.contents sink.new)
         (W.has_failed sink.new) result }

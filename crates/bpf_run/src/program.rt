@@ -6,13 +6,15 @@ ghost use Rattle.clap.specs.declared.error.kind.ErrorKind.TheVariants as kind;
 ghost use Rattle.bpf_command.specs.Names.{Refuses};
 ghost use Rattle.bpf_command.specs.declared.command.Request.{Request};
 ghost use Rattle.bpf_command.specs.declared.command_line.CommandError.{CommandError};
+ghost use Rattle.bpf_run.specs.Objects.{IsShown};
 ghost use Rattle.bpf_run.specs.Answer.{Prints, exit_status};
 ghost use Rattle.bpf_run.specs.Program.{Follows, error_of, IfExit, IfNotText, IfShown, IfMisused, IsAsked, input_of, IsPrintedAs, Performs};
 ghost use Rattle.bpf_run.specs.declared.program.Misuse.{Misuse};
 ghost use Rattle.bpf_run.specs.declared.refusal.Refusal.{Refusal};
 
 use crate::explaining::{Question, Subject, explain};
-use crate::perform::{Performed, answer, perform_of, print_page};
+use crate::objects::{answer_as, perform_as};
+use crate::perform::{Performed, answer, print_page};
 use crate::refusal::Refusal;
 use crate::reply::{Reply, Status};
 use crate::several::check_files;
@@ -114,15 +116,17 @@ fn perform_for<T: Threads + Wait + Sync, R: Source, W: Sink>(
     command: Command,
     file: Option<String>,
     explain: bool,
+    json: bool,
     source: &mut R,
     sink: &mut W,
 ) -> Ending
     requires readable { R.has_failed source.old ≡ false }
     requires writable { W.has_failed sink.old ≡ false }
-    ensures performed { IfExit result (λ status stats. Performs command
+    ensures performed { IfExit result (λ status stats. IsShown json
+        (λ old new failed answered. Performs command
         (input_of (R.remaining source.old) (R.file source.old) (option_map string_bytes file))
-        (R.has_failed source.new) (W.contents sink.old) (W.contents sink.new)
-        (W.has_failed sink.new) status stats) }
+        (R.has_failed source.new) old new failed answered stats)
+        (W.contents sink.old) (W.contents sink.new) (W.has_failed sink.new) status) }
     ensures shown { IfShown result (λ e. ⊥) }
     ensures text { IfNotText result ⊥ }
     ensures misused { IfMisused result (λ _. ⊥) }
@@ -133,7 +137,7 @@ fn perform_for<T: Threads + Wait + Sync, R: Source, W: Sink>(
         None
     };
     let name = file.as_ref().map(String::as_str);
-    let done = perform_of(rt, alloc, command, name, source, sink);
+    let done = perform_as(json, rt, alloc, command, name, source, sink);
     match subject {
         Some(subject) => Ending::Explained(Question { subject, file }, done),
         None => Ending::Performed(done),
@@ -169,13 +173,20 @@ fn follow<T: Threads + Wait + Sync, R: Source, W: Sink>(
                 command,
                 file,
                 explain,
+                json,
             },
         ) => {
-            return perform_for(rt, alloc, command, file, explain, source, sink);
+            return perform_for(rt, alloc, command, file, explain, json, source, sink);
         }
-        Ok(Request::CheckAll { search, files }) => {
+        Ok(
+            Request::CheckAll {
+                search,
+                files,
+                json,
+            },
+        ) => {
             let reply = check_files(alloc, &search, &files, source);
-            return Ending::Exit(answer(alloc, &reply, sink));
+            return Ending::Exit(answer_as(json, alloc, &reply, sink));
         }
         Ok(Request::Page(code)) => return Ending::Exit(print_page(alloc, code, sink)),
         Err(CommandError::Shown(error)) => return Ending::Shown(error),
