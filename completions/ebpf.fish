@@ -34,16 +34,19 @@ complete -c ebpf -n '__fish_seen_subcommand_from run' -l check -f -d 'Prints whe
 complete -c ebpf -n '__fish_seen_subcommand_from run' -l by -x -d 'Makes the turns of a schedule before the rounds, as '\''0*9 1*10 0*2'\'''
 complete -c ebpf -n '__fish_seen_subcommand_from run' -l workers -x -d 'Runs the CPUs at once, by 1 to 16 threads, over a store that they share'
 complete -c ebpf -n '__fish_seen_subcommand_from run' -l stats -f -d 'Tells on standard error what workers came to at the maps, a line a map'
+complete -c ebpf -n '__fish_seen_subcommand_from run' -l json -f -d 'Prints a JSON object in place of each line'
 complete -c ebpf -n '__fish_seen_subcommand_from run' -s h -l help -f -d 'Print help'
 complete -c ebpf -n '__fish_seen_subcommand_from run' -F
 complete -c ebpf -n '__fish_seen_subcommand_from explore' -l explain -f -d 'Explains a refusal or a fault on standard error'
 complete -c ebpf -n '__fish_seen_subcommand_from explore' -l patient -f -d 'Looks for outcomes in which no budget is used up, as where CPUs wait for others'
+complete -c ebpf -n '__fish_seen_subcommand_from explore' -l json -f -d 'Prints a JSON object in place of each line'
 complete -c ebpf -n '__fish_seen_subcommand_from explore' -l limit -x -d 'Ends the search once more states than this are kept, 0 to 1000000000'
 complete -c ebpf -n '__fish_seen_subcommand_from explore' -l show -x -d 'Prints what happens on the way to the K-th outcome, and no other outcome'
 complete -c ebpf -n '__fish_seen_subcommand_from explore' -s h -l help -f -d 'Print help'
 complete -c ebpf -n '__fish_seen_subcommand_from explore' -F
 complete -c ebpf -n '__fish_seen_subcommand_from check' -l explain -f -d 'Explains a refusal or a fault on standard error'
 complete -c ebpf -n '__fish_seen_subcommand_from check' -l patient -f -d 'Looks for outcomes in which no budget is used up, as where CPUs wait for others'
+complete -c ebpf -n '__fish_seen_subcommand_from check' -l json -f -d 'Prints a JSON object in place of each line'
 complete -c ebpf -n '__fish_seen_subcommand_from check' -l limit -x -d 'Ends the search once more states than this are kept, 0 to 1000000000'
 complete -c ebpf -n '__fish_seen_subcommand_from check' -s h -l help -f -d 'Print help'
 complete -c ebpf -n '__fish_seen_subcommand_from check' -F
