@@ -89,12 +89,16 @@ pub enum Command {
     /// Run a program given as hex digits.
     Hex(RunOptions),
     /// Assembly text to words in hex digits, or to itself with the pcs and words of its lines.
-    Asm { listing: bool },
+    Asm {
+        listing: bool,
+    },
     /// Assembly text to words, and run those.
     AsmRun(RunOptions),
     /// Words in hex digits to assembly text, with the pcs and words of its lines where that is
     /// asked for.
-    Disasm { pc: bool },
+    Disasm {
+        pc: bool,
+    },
     /// Run the jobs of a run file.
     Run(FileOptions),
     /// Run them in turns, and tell all that happens.

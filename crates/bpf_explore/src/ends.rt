@@ -50,12 +50,7 @@ fn set_mark(marks: &mut Vec<bool>, place: usize)
 }
 
 /// Marks a kept machine if an end is seen to be reached from it now. Whether it is, and wasn't.
-fn mark_at(
-    explorer: &PatientExplorer,
-    turns: &Turns,
-    marks: &mut Vec<bool>,
-    place: usize,
-) -> bool
+fn mark_at(explorer: &PatientExplorer, turns: &Turns, marks: &mut Vec<bool>, place: usize) -> bool
     requires place { place < length explorer.now.kept }
     requires turns { AreTurns explorer.now.kept turns.now }
     requires marks { length marks.old.items ≡ length explorer.now.kept }

@@ -151,7 +151,9 @@ fn push_changed(text: &mut String, changed: &[bool; REGISTERS]) -> Result<(), Al
     if head == ", " {
         text.push('\n')
     } else {
-        text.push_str("  changed in them: no register, so the job waits for other CPUs, or for nothing\n")
+        text.push_str(
+            "  changed in them: no register, so the job waits for other CPUs, or for nothing\n",
+        )
     }
 }
 
@@ -170,7 +172,9 @@ pub fn describe_loop(alloc: Global, found: &Loop) -> Result<String, AllocError> 
     text.push('\n')?;
     push_changed(&mut text, &found.changed)?;
     if found.pcs.len() == found.steps {
-        text.push_str("  hint: none of them was at a place of another, so this may be no loop: give the job a greater budget\n")?;
+        text.push_str(
+            "  hint: none of them was at a place of another, so this may be no loop: give the job a greater budget\n",
+        )?;
     }
     Ok(text)
 }

@@ -28,10 +28,10 @@ told_so write lines l behind =
 
 pub told_more : (text rest line behind old new : List ℕ) → Told text rest old → rest ≡ line ++ (10 ∷ behind) → IsLineOf line old new → Told text behind new
 told_more text rest line behind old new (lines, right, is, are) cut (made, (l, r, same, of), more) = (
-    lines ++ l ∷ [],
-    All-push IsRight lines l right r,
-    is ∙ (ap (λ (x : List ℕ). lines_of plain lines ++ x) (cut ∙ ap (λ (x : List ℕ). x ++ (10 ∷ behind)) (sym same)) ∙ told_so plain lines l behind),
-    more ∙ (ap (λ (x : List ℕ). x ++ (made ++ codes "\n")) are ∙ (ap (λ (x : List ℕ). lines_of object lines ++ (x ++ codes "\n")) of ∙ sym (one_more object lines l))),
+  lines ++ l ∷ [],
+  All-push IsRight lines l right r,
+  is ∙ (ap (λ (x : List ℕ). lines_of plain lines ++ x) (cut ∙ ap (λ (x : List ℕ). x ++ (10 ∷ behind)) (sym same)) ∙ told_so plain lines l behind),
+  more ∙ (ap (λ (x : List ℕ). x ++ (made ++ codes "\n")) are ∙ (ap (λ (x : List ℕ). lines_of object lines ++ (x ++ codes "\n")) of ∙ sym (one_more object lines l))),
 )
 
 pub told_all : (text rest objects : List ℕ) → Told text rest objects → rest ≡ [] → AreObjectsOf text objects
@@ -40,11 +40,11 @@ told_all text rest objects (lines, right, is, are) e =
 
 pub told_last : (text rest old new : List ℕ) → Told text rest old → IsLineOf rest old new → AreObjectsOf text new
 told_last text rest old new (lines, right, is, are) (made, (l, r, same, of), more) = (
-    lines ++ l ∷ [],
-    All-push IsRight lines l right r,
-    inr (ap (λ (x : List ℕ). x ++ codes "\n") (is ∙ ap (λ (x : List ℕ). lines_of plain lines ++ x) (sym same))
-    ∙ (append_assoc (lines_of plain lines) (plain l) (codes "\n") ∙ sym (one_more plain lines l))),
-    more ∙ (ap (λ (x : List ℕ). x ++ (made ++ codes "\n")) are ∙ (ap (λ (x : List ℕ). lines_of object lines ++ (x ++ codes "\n")) of ∙ sym (one_more object lines l))),
+  lines ++ l ∷ [],
+  All-push IsRight lines l right r,
+  inr (ap (λ (x : List ℕ). x ++ codes "\n") (is ∙ ap (λ (x : List ℕ). lines_of plain lines ++ x) (sym same))
+      ∙ (append_assoc (lines_of plain lines) (plain l) (codes "\n") ∙ sym (one_more plain lines l))),
+  more ∙ (ap (λ (x : List ℕ). x ++ (made ++ codes "\n")) are ∙ (ap (λ (x : List ℕ). lines_of object lines ++ (x ++ codes "\n")) of ∙ sym (one_more object lines l))),
 )
 
 pub none_left : (rest : List ℕ) → (length rest == 0) ≡ true → rest ≡ []

@@ -12,7 +12,11 @@ use std::alloc::{AllocError, Global};
 #[derive(PartialEq, Eq, Debug, Drop)]
 pub enum Line {
     /// A job that exited, by its number and its CPU's.
-    Exit { job: u64, cpu: u64, r0: u64 },
+    Exit {
+        job: u64,
+        cpu: u64,
+        r0: u64,
+    },
     /// A job that ended in a fault of this code.
     Fault {
         job: u64,
@@ -20,7 +24,11 @@ pub enum Line {
         code: String,
         pc: u64,
     },
-    OutOfBudget { job: u64, cpu: u64, pc: u64 },
+    OutOfBudget {
+        job: u64,
+        cpu: u64,
+        pc: u64,
+    },
     /// A key of a map with its value.
     Pair {
         map: String,
@@ -174,7 +182,9 @@ impl Line {
                 format!(in alloc; "{{\"job\":{job},\"cpu\":{cpu},\"fault\":{code},\"pc\":{pc}}}")
             }
             Line::OutOfBudget { job, cpu, pc } => {
-                format!(in alloc; "{{\"job\":{job},\"cpu\":{cpu},\"out_of_budget\":true,\"pc\":{pc}}}")
+                format!(in alloc;
+                    "{{\"job\":{job},\"cpu\":{cpu},\"out_of_budget\":true,\"pc\":{pc}}}"
+                )
             }
             Line::Pair { map, key, value } => {
                 let map = quoted(alloc, map.as_str())?;

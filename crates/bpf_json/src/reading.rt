@@ -23,13 +23,7 @@ fn word_in(text: &str) -> Option<(&str, &str)> {
     text.split_once(' ')
 }
 
-fn fault(
-    alloc: Global,
-    job: u64,
-    cpu: u64,
-    code: &str,
-    pc: u64,
-) -> Result<Line, AllocError>
+fn fault(alloc: Global, job: u64, cpu: u64, code: &str, pc: u64) -> Result<Line, AllocError>
     ensures { IfOk result IsRight }
 {
     let code = code.to_string(alloc)?;

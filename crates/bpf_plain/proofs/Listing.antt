@@ -83,10 +83,12 @@ module _ (p : Contents) (is : IsStore p) where
         free (subst (λ (m : ℕ). IsTakenRow p.runs (rows p m) r.element) same.0 (subst (IsTakenRow p.runs (rows p f.0)) same.1 f.3))
 
     pub key_there : (key : List ℕ) → IsLinked row r.element × (key ≡ key_of row r.element) → ShowsKey p a key
-    key_there key (linked, e) s so h =
-        (r.map, h.number r.map r.element,
-        subst (λ (k : List ℕ). Finds s r.map k (h.number r.map r.element)) (sym e) (h.leads r.map r.element linked),
-        subst (IsIn a) (sym (span-number p is s so h r.map r.element reach.element (inl linked))) is_in)
+    key_there key (linked, e) s so h = (
+      r.map,
+      h.number r.map r.element,
+      subst (λ (k : List ℕ). Finds s r.map k (h.number r.map r.element)) (sym e) (h.leads r.map r.element linked),
+      subst (IsIn a) (sym (span-number p is s so h r.map r.element reach.element (inl linked))) is_in,
+    )
 
     pub no_key_there : (IsLinked row r.element → ⊥) → ShowsNoKey p a
     no_key_there free s so h key leads =

@@ -100,7 +100,7 @@ module _ (files : FilesAreDetermined) (runs : FilesCanRun) (scripts : ScriptsAre
       let denies : refused ≡ denied = a.9 ∙ ap (λ (xs : List Answer). strict && any_refused xs) one.0 ∙ sym b.9 in
       let shown = one_showing echo a.1 lines more a.7 (subst (λ (cs : List (List ℕ)). AreShown echo cs more) (sym cut.1) b.7) in (
         ap (λ (ls : List (List ℕ)). shown_text ls (map answer_of answers.items)) shown
-        ∙ ap (shown_text (lines_behind (option_map (λ (v : Vec ℕ Global). v.items) more))) one.0,
+            ∙ ap (shown_text (lines_behind (option_map (λ (v : Vec ℕ Global). v.items) more))) one.0,
         ap (λ (x : Bool). script_status x refused) ended ∙ ap (script_status halted) denies,
       )
   one_reply echo strict input r s (Scripted answers lines stopped refused a had) (NoScript line why b) = absurd (not_both input a.0 b.0 a.1 b.1 a.2 line why a.4 a.5 b.2 b.3)

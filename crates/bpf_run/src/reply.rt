@@ -104,10 +104,8 @@ impl Reply {
             Reply::Jobs(_, false)
             | Reply::Counted { stopped: false, .. }
             | Reply::Script { stopped: false, .. } => Status::Done,
-            Reply::Ended(_)
-            | Reply::Jobs(_, true)
-            | Reply::Counted { .. }
-            | Reply::Script { .. } => Status::Stopped,
+            Reply::Ended(_) | Reply::Jobs(_, true) | Reply::Counted { .. } | Reply::Script { .. } =>
+                Status::Stopped,
             Reply::Several { refused: true, .. } => Status::Refused,
             Reply::Several { told: false, .. } => Status::Incomplete,
             Reply::Several { unmet: true, .. } => Status::Stopped,

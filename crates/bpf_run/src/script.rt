@@ -137,13 +137,7 @@ fn shown_lines(
 }
 
 /// What commands are answered over the machine of a run file.
-fn debug(
-    alloc: Global,
-    echo: bool,
-    strict: bool,
-    file: RunFile,
-    commands: Option<&[u8]>,
-) -> Reply
+fn debug(alloc: Global, echo: bool, strict: bool, file: RunFile, commands: Option<&[u8]>) -> Reply
     requires { IsRunnable file }
     ensures { IsDebugReply echo strict file (lines_behind (option_copied commands.entry)) result }
 {

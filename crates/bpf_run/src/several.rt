@@ -89,11 +89,7 @@ fn bytes_part(
 }
 
 /// All bytes of a file.
-fn bytes_of<R: Source>(
-    alloc: Global,
-    name: &str,
-    source: &mut R,
-) -> Result<Vec<u8>, InputError>
+fn bytes_of<R: Source>(alloc: Global, name: &str, source: &mut R) -> Result<Vec<u8>, InputError>
     ensures whole { IfOk result (λ v.
         IfSome (R.file source.old name.now) (λ bytes. v.items ≡ bytes)) }
     ensures short { IfOk result (λ v. length v.items ≤ MAX_INPUT) }

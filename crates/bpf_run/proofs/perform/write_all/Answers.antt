@@ -24,6 +24,6 @@ loop-text-preserved g c =
     let i = c.loop-text.text-index in
     record {
       wrote = wrote_more old mid new (all_of (map (λ t. t.now) texts)) (texts_left texts i) _ (texts_left texts (i + 1)) c.loop-text.invariant.wrote
-      (next_text texts i _ c.loop-text-test.true) c.in_ok-write_whole.ensures.written;
+          (next_text texts i _ c.loop-text-test.true) c.in_ok-write_whole.ensures.written;
       works = c.in_ok-write_whole.ensures.told;
     }

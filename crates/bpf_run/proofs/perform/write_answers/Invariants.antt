@@ -9,6 +9,6 @@ use Rattle.bpf_run.proofs.perform.write_answers.Given as goal
 abbrev pub invariant-loop-answer : goal.invariant-loop-answer
 invariant-loop-answer g l = record {
   wrote : Wrote (g.W.Sink.contents l.initial.sink) (g.W.Sink.contents l.sink) (shown_text (lines_behind (option_copied l.lines)) (map answer_of l.answers))
-  (answers_left (lines_behind (option_copied l.rest)) l.answers l.answer-index);
+      (answers_left (lines_behind (option_copied l.rest)) l.answers l.answer-index);
   works : g.W.Sink.has_failed l.sink ≡ false;
 }

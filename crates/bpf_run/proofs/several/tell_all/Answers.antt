@@ -13,7 +13,7 @@ loop-name-preserved g c =
     let Q : List ℕ → Type 0 = λ name. IfSome (g.R.Source.file c.loop-name.source name) (λ bytes. IsPart patient limit name old.tests bytes part) in
     record {
       follows = one_more patient limit (g.R.Source.file c.args.source.now) (g.R.Source.file c.loop-name.source) c.args.names.now c.loop-name.name-index c.name-item.result
-      no_part (counted old) (counted c.add.new.self) part c.loop-name-test.true c.name-item.is c.loop-name.invariant.same
-      (subst Q c.as_str.ensures.value c.in_ok-part.ensures.part) c.in_ok-add.ensures c.loop-name.invariant.follows;
+          no_part (counted old) (counted c.add.new.self) part c.loop-name-test.true c.name-item.is c.loop-name.invariant.same
+          (subst Q c.as_str.ensures.value c.in_ok-part.ensures.part) c.in_ok-add.ensures c.loop-name.invariant.follows;
       same = c.part_of.ensures.files ∙ c.loop-name.invariant.same;
     }
