@@ -1,7 +1,6 @@
 -- What printed lines are as JSON (RFC 8259): an object a line. Our own choice.
-use Rattle.std.specs.Prelude.{◌≡◌, ℕ, Bool, List, [], ◌++◌, ◌⊎◌, All, Option, Some, None, codes, flat_map, string_bytes, if◌then◌else◌}
+use Rattle.std.specs.Prelude.{◌≡◌, ℕ, Bool, List, [], ◌++◌, ◌⊎◌, All, Option, Some, None, codes, flat_map, map, nat_lt, not, ◌==◌, ◌&&◌, string_bytes, if◌then◌else◌}
 use Rattle.std.specs.Fmt.{decimal}
-use Rattle.json.specs.Print.{quoted}
 use Rattle.bpf_base.specs.Bytes.{little_endian}
 use Rattle.bpf_lines.specs.HexText.{IsHexOf}
 use Rattle.bpf_json.specs.declared.digits.Digits.{Digits}
@@ -62,6 +61,17 @@ plain (line.Refused why) = codes "refused " ++ string_bytes why
 plain (line.Other text) = string_bytes text
 
 -- ---- as JSON
+
+-- a byte that stands between quotes as it is
+abbrev pub is_plain : ℕ → Bool
+is_plain b = nat_lt 31 b && (nat_lt b 127 && (not (b == 34) && not (b == 92)))
+
+-- any other, which no printed line has, is shown as `?`
+abbrev pub shown_byte : ℕ → ℕ
+shown_byte b = if is_plain b then b else 63
+
+abbrev pub quoted : List ℕ → List ℕ
+quoted text = codes "\"" ++ (map shown_byte text ++ codes "\"")
 
 abbrev pub truth : Bool → List ℕ
 truth test = if test then codes "true" else codes "false"

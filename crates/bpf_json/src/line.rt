@@ -1,11 +1,9 @@
 //! What a printed line says.
 
-ghost use Rattle.std.specs.Prelude.{◌≡◌, ◌++◌, IfOk, OnOk, string_bytes};
-ghost use Rattle.json.specs.Print.{quoted};
-ghost use Rattle.bpf_json.specs.Lines.{budget_text, by_text, digits_members, job_text, member, number_member, object, plain, truth, verdict};
+ghost use Rattle.std.specs.Prelude.{◌≡◌, ◌<◌, ◌++◌, IfOk, OnOk, map, string_bytes};
+ghost use Rattle.bpf_json.specs.Lines.{budget_text, by_text, digits_members, job_text, is_plain, member, number_member, object, plain, quoted, shown_byte, truth, verdict};
 
 use crate::digits::Digits;
-use serde_json::Value;
 use std::alloc::{AllocError, Global};
 
 /// A line that `run --maps`, `explore` or `check` prints.
@@ -72,12 +70,41 @@ fn verdict(ok: bool) -> &'static str
     if ok { "ok" } else { "not ok" }
 }
 
+/// Whether a byte stands in JSON text as it is.
+fn is_plain(byte: u8) -> bool
+    ensures { result ≡ is_plain byte }
+{
+    31 < byte && byte < 127 && byte != b'"' && byte != b'\\'
+}
+
+/// A byte of a printed line as it is shown between quotes.
+fn shown_byte(byte: u8) -> u8
+    ensures shown { result ≡ shown_byte byte }
+    ensures ascii { result < 128 }
+{
+    if is_plain(byte) { byte } else { b'?' }
+}
+
+/// Puts bytes behind the text as they are shown.
+fn push_shown(text: &mut String, bytes: &[u8]) -> Result<(), AllocError>
+    ensures { OnOk result (string_bytes text.new
+        ≡ string_bytes text.old ++ map shown_byte bytes.now) }
+{
+    for byte in bytes {
+        text.push(char::from(shown_byte(*byte)))?;
+    }
+    Ok(())
+}
+
 /// A text between quotes.
 fn quoted(alloc: Global, text: &str) -> Result<String, AllocError>
     ensures { IfOk result (λ s. string_bytes s ≡ quoted text.now) }
 {
-    let value = Value::String(text.to_string(alloc)?);
-    value.to_string(alloc)
+    let mut shown = String::new(alloc);
+    push_shown(&mut shown, text.as_bytes())?;
+    let shown = shown.as_str();
+    let quoted = format!(in alloc; "\"{shown}\"")?;
+    Ok(quoted)
 }
 
 /// The member for a number, where there is one.
