@@ -33,8 +33,8 @@ fn make_watcher(alloc: Global, shape: &StoreShape) -> Result<Watcher, AllocError
 }
 
 /// Searches through all schedules of jobs over a new store, until no state is new or more than
-/// `limit` are kept, for races at values of maps that aren't left out. Want of memory is the only
-/// refusal.
+/// `limit` are kept, for races at values of maps that aren't left out. Refused is want of memory;
+/// cases that never come count as such, but no contract rules them out.
 pub fn find_races(
     alloc: Global,
     shape: StoreShape,
