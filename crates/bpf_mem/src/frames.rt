@@ -59,11 +59,26 @@ fn empty() -> [u8; FRAME_BYTES]
     [0; FRAME_BYTES]
 }
 
+/// Whether bytes are the same. Slices of bytes are compared many at once, arrays one by one.
+fn same_bytes(bytes: &[u8], others: &[u8]) -> bool
+    ensures { IsTrue result ↔ (bytes.now ≡ others.now) }
+{
+    bytes == others
+}
+
 /// Whether frames have the same bytes.
 fn same_frames(frames: &[[u8; FRAME_BYTES]], others: &[[u8; FRAME_BYTES]]) -> bool
     ensures { IsTrue result ↔ (frames.now ≡ others.now) }
 {
-    frames == others
+    if frames.len() != others.len() {
+        return false;
+    }
+    for depth in 0..frames.len() {
+        if !same_bytes(&frames[depth], &others[depth]) {
+            return false;
+        }
+    }
+    true
 }
 
 /// Whether callers get the same back.

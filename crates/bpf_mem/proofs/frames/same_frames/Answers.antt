@@ -1,7 +1,10 @@
-use Rattle.std.proofs.Common.{refl}
-use Rattle.std.proofs.lemmas.Bool.Decides.{Decides-eqb}
-use Rattle.std.proofs.lemmas.Slice.Eq.{slice_eq-Decides}
+use Rattle.std.proofs.Common.{◌≡◌, [], length, refl, arith}
+use Rattle.bpf_base.proofs.Lists.{same_elements}
 use Rattle.bpf_mem.proofs.frames.same_frames.Goals as goal
 
 pub returns : goal.returns
-returns c = slice_eq-Decides (λ a b. slice_eq-Decides Decides-eqb a b _ refl) c.args.frames.now c.args.others.now c.eq.result c.eq.ensures
+returns c =
+    let frames = c.args.frames.now in
+    let others = c.args.others.now in
+    let size : length frames ≡ length others = omega arith in
+    (λ is. same_elements [] frames others size (λ k less. c.loop-depth.invariant k (omega arith)), λ is. refl)
