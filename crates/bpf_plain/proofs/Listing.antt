@@ -1,18 +1,21 @@
 -- A listing of a map, and the byte at an address.
-use Rattle.std.proofs.Common.{◌≡◌, ℕ, ◌+◌, ◌-◌, ◌*◌, ◌/◌, ◌%◌, ◌<◌, ◌≤◌, true, false, List, [], Option, Some, None, length, slice_index, inl, inr, refl, ap, sym, ◌∙◌, subst, arith}
+use Rattle.std.proofs.Common.{◌≡◌, ℕ, ◌+◌, ◌-◌, ◌*◌, ◌/◌, ◌%◌, ◌<◌, ◌≤◌, true, false, List, [], Option, Some, None, option_map, length, slice_index, inl, inr, refl, ap, sym, ◌∙◌, subst, arith}
 use Rattle.std.proofs.lemmas.Nat.{div-add-mod'}
 use Rattle.std.specs.Option.{IfNone}
+use Rattle.std.specs.Prelude.{IfSome}
+use Rattle.std.specs.FinMap.{get}
+use denote.Ref.{Bor}
 use Rattle.bpf_plain.specs.declared.plain.Reach.{Reach}
 use Rattle.bpf_shared.specs.Shape.{IsIn, element_stride, elements}
 use Rattle.bpf_shared.specs.Store.{Plain, Value, Finds}
 use Rattle.bpf_shared.specs.Sound.{IsSoundStore}
-use Rattle.bpf_plain.specs.Private.Rows.{Rows, no_rows, key_of, bytes_of, IsLinked, IsTakenRow}
+use Rattle.bpf_plain.specs.Private.Rows.{Rows, no_rows, key_of, bytes_of, IsKeyAt, IsLinked, IsMissing, IsTakenRow}
 use Rattle.bpf_plain.specs.Private.Contents.{Contents, rows, element_count, span_at, IsUsed, StandsFor, IsStore}
 use Rattle.bpf_plain.specs.Private.Changes.{IsAtValue, IsReach}
 use Rattle.bpf_shared.specs.Laws.{byte_at}
 use Rattle.bpf_shared.specs.Listing.{Pair, IsByteAt}
 use Rattle.bpf_plain.specs.Private.Pairs.{AreRowPairs}
-use Rattle.bpf_plain.specs.Shows.{Lists, ShowsByte, ShowsKey, ShowsNoByte, ShowsNoKey, LeadsTo}
+use Rattle.bpf_plain.specs.Shows.{Lists, ShowsByte, ShowsKey, ShowsNoByte, ShowsNoKey, ShowsValue, LeadsTo}
 use Rattle.bpf_shared.proofs.Places.{reached}
 use Rattle.bpf_plain.proofs.Places.{sized_map, linked_size, one_at, span-number, keeps_cpu}
 use Rattle.bpf_plain.proofs.Accessing.{reach_facts}
@@ -32,6 +35,30 @@ module _ (p : Contents) (is : IsStore p) where
         let a = are.all f.0 f.1 in
         (a.0, a.1, ap (λ (x : Pair). x.0) a.2 ∙ f.2));
   }
+
+  -- the value of a key that a map has
+  pub value_there : (m i : ℕ) (key bytes : List ℕ) → IsKeyAt (rows p m) key i → bytes ≡ bytes_of (rows p m) i → ShowsValue p m key (Some bytes)
+  value_there m i key bytes at e s so h =
+      let v = h.number m i in
+      let leads : get (s.maps m) key ≡ Some v = subst (λ (k : List ℕ). Finds s m k v) at.is (h.leads m i at.linked) in
+      let value : s.value v ≡ record { bytes = bytes_of (rows p m) i; span = span_at p m i } = h.values m i (linked_size p is m i at.linked) (inl at.linked) in
+      ap (option_map (λ w. (s.value w).bytes)) leads ∙ ap (λ (x : Value). Some x.bytes) value ∙ ap (λ (b : List ℕ). Some b) (sym e)
+
+  -- and of one that it doesn't have
+  pub no_value_there : (m : ℕ) (key : List ℕ) → IsMissing (rows p m) key → ShowsValue p m key None
+  no_value_there m key missing s so h = ap (option_map (λ w. (s.value w).bytes)) (nowhere (get (s.maps m) key) refl)
+    where
+      nowhere : (o : Option ℕ) → get (s.maps m) key ≡ o → get (s.maps m) key ≡ None
+      nowhere None e = e
+      nowhere (Some v) e = let f = h.found m key v e in absurd (missing f.0 f.1 f.2)
+
+  -- what a look at the map's table finds
+  pub value_found : (m : ℕ) (key : List ℕ) (t : Rows) (o : Option (Bor (List ℕ))) → t ≡ rows p m
+      → IfSome o (λ value. (i : ℕ) × IsKeyAt t key i × (value.now ≡ bytes_of t i)) → IfNone o (IsMissing t key)
+      → ShowsValue p m key (option_map (λ value. value.now) o)
+  value_found m key t None row found absent = no_value_there m key (subst (λ (x : Rows). IsMissing x key) row absent)
+  value_found m key t (Some value) row found absent =
+      value_there m found.0 key value.now (subst (λ (x : Rows). IsKeyAt x key found.0) row found.1) (found.2 ∙ ap (λ (x : Rows). bytes_of x found.0) row)
 
   -- the byte at an address in an element
   abbrev byte_in : ℕ → ℕ → ℕ → ℕ
@@ -148,6 +175,9 @@ no_pairs pairs e =
       each = λ k l. absurd (omega arith);
       all = λ i linked. absurd (let none : false ≡ true = linked in cc);
     }
+
+pub no_keys_of_none : (key : List ℕ) → IsMissing no_rows key
+no_keys_of_none key i linked = absurd (let none : false ≡ true = linked in cc)
 
 pub if_none : {X P Q : Type 0} (o : Option X) → IfNone o P → (P → Q) → IfNone o Q
 if_none None p f = f p

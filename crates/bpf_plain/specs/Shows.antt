@@ -1,5 +1,6 @@
 -- What a `PlainStore` tells of each plain store that it shows.
-use Rattle.std.specs.Prelude.{ℕ, List}
+use Rattle.std.specs.Prelude.{◌≡◌, ℕ, List, Option, option_map}
+use Rattle.std.specs.FinMap.{get}
 use Rattle.bpf_shared.specs.Shape.{IsIn}
 use Rattle.bpf_shared.specs.Store.{Plain, Finds}
 use Rattle.bpf_shared.specs.Sound.{IsSoundStore}
@@ -17,6 +18,14 @@ ShowsByte p a b = (s : Plain) → IsSoundStore s → StandsFor p s → IsOnlyByt
 -- at the address no value has a byte that is in a map or kept
 abbrev pub ShowsNoByte : Contents → ℕ → Type 0
 ShowsNoByte p a = (s : Plain) → IsSoundStore s → StandsFor p s → (b : ℕ) → IsByteAt s a b → ⊥
+
+-- the bytes of the value that the key leads to in the map, if it leads to one
+abbrev pub value_of : Plain → ℕ → List ℕ → Option (List ℕ)
+value_of s m key = option_map (λ v. (s.value v).bytes) (get (s.maps m) key)
+
+-- these are they
+abbrev pub ShowsValue : Contents → ℕ → List ℕ → Option (List ℕ) → Type 0
+ShowsValue p m key value = (s : Plain) → IsSoundStore s → StandsFor p s → value_of s m key ≡ value
 
 -- the key leads to a value that has a byte at the address
 abbrev pub LeadsTo : Plain → ℕ → List ℕ → Type 0

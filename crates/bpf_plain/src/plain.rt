@@ -1,5 +1,5 @@
 //! The plain store: the shared store of one thread.
-ghost use Rattle.std.specs.Prelude.{◌≡◌, ◌+◌, ◌<◌, ◌≤◌, ℕ, true, false, IfOk, IfErr, IfSome, IfNone, length, map, nat_lt, slice_index_or};
+ghost use Rattle.std.specs.Prelude.{◌≡◌, ◌+◌, ◌<◌, ◌≤◌, ℕ, true, false, IfOk, IfErr, IfSome, IfNone, length, map, nat_lt, option_map, slice_index_or};
 ghost use Rattle.bpf_shared.specs.Shape.{IsMap, IsMapShape};
 ghost use Rattle.bpf_plain.specs.Private.Rows.{no_rows, shape_of, IsBlank, IsTable};
 ghost use Rattle.bpf_plain.specs.Private.Runs.{no_runs};
@@ -81,7 +81,7 @@ impl PlainStore {
     ghost use Rattle.bpf_plain.specs.Private.Contents.{IsMade, has_cpu, is_running, runs_of, element_count, span_at};
     ghost use Rattle.bpf_plain.specs.Private.Changes.{IsAtValue, IsAlike, IsReach};
     ghost use Rattle.bpf_shared.specs.Listing.{listed};
-    ghost use Rattle.bpf_plain.specs.Shows.{Lists, ShowsByte, ShowsKey, ShowsNoByte, ShowsNoKey};
+    ghost use Rattle.bpf_plain.specs.Shows.{Lists, ShowsByte, ShowsKey, ShowsNoByte, ShowsNoKey, ShowsValue};
 
     /// A store with no keys, and no CPU in a run. Want of memory is its only refusal.
     pub fn new(alloc: Global, shape: StoreShape) -> Result<PlainStore, ShapeError>
@@ -128,6 +128,16 @@ impl PlainStore {
         let tables = self.tables.as_slice();
         let reach = self.place(address)?;
         tables[reach.map].linked_key(reach.element)
+    }
+
+    /// The value of a key of a map. None where the map doesn't have the key, or there is no such map.
+    pub fn value(&self, map: u64, key: &[u8]) -> Option<&[u8]>
+        ensures { ShowsValue self.now map key.now (option_map (λ value. value.now) result) }
+    {
+        match self.tables.get(map as usize) {
+            Some(table) => table.value_of(key),
+            None => None,
+        }
     }
 
     fn allocate(alloc: Global, shape: &StoreShape) -> Result<PlainStore, AllocError>

@@ -462,6 +462,18 @@ impl Table {
         &self.values[element * size..element * size + size]
     }
 
+    /// The value of a key, if the map has it.
+    pub fn value_of(&self, key: &[u8]) -> Option<&[u8]>
+        ensures found { IfSome result (λ value. (i : ℕ) × IsKeyAt self.now key.now i
+            × (value.now ≡ bytes_of self.now i)) }
+        ensures absent { IfNone result (IsMissing self.now key.now) }
+    {
+        match self.find(key) {
+            Some(element) => Some(self.value(element)),
+            None => None,
+        }
+    }
+
     /// The keys of the map with their values.
     fn unsorted_pairs(&self, alloc: Global) -> Result<Vec<(Vec<u8>, Vec<u8>)>, AllocError>
         ensures { IfOk result
