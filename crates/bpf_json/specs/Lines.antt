@@ -1,5 +1,5 @@
 -- What printed lines are as JSON (RFC 8259): an object a line. Our own choice.
-use Rattle.std.specs.Prelude.{◌≡◌, ℕ, Bool, List, [], ◌++◌, ◌⊎◌, All, Option, Some, None, codes, flat_map, map, nat_lt, not, ◌==◌, ◌&&◌, string_bytes, if◌then◌else◌}
+use Rattle.std.specs.Prelude.{◌≡◌, ℕ, Bool, List, [], ◌++◌, ◌⊎◌, All, Option, Some, None, IfSome, codes, flat_map, map, nat_lt, not, ◌==◌, ◌&&◌, string_bytes, if◌then◌else◌}
 use Rattle.std.specs.Fmt.{decimal}
 use Rattle.bpf_base.specs.Bytes.{little_endian}
 use Rattle.bpf_lines.specs.HexText.{IsHexOf}
@@ -19,6 +19,7 @@ IsRightNumber d = (n : ℕ) → d.number ≡ Some n → IsNumberOf (string_bytes
 -- numbers stand there beside digits that spell them
 abbrev pub IsRight : Line → Type 0
 IsRight (line.Pair name key value) = IsRightNumber key × IsRightNumber value
+IsRight (line.Race cpu pc other other_pc map key by) = IfSome key IsRightNumber
 IsRight _ = Unit {0}
 
 -- ---- as it is printed
@@ -39,6 +40,20 @@ job_text j c end = codes "job " ++ (decimal j ++ (codes " cpu " ++ (decimal c ++
 abbrev pub budget_text : ℕ → List ℕ
 budget_text pc = codes "out of budget at " ++ decimal pc
 
+-- a CPU, and where it stands
+abbrev pub place_text : ℕ → ℕ → List ℕ
+place_text cpu pc = codes "cpu " ++ (decimal cpu ++ (codes " pc " ++ decimal pc))
+
+-- a key in hex, or that none leads to the value any more
+abbrev pub key_text : Option Digits → List ℕ
+key_text None = codes "deleted"
+key_text (Some key) = string_bytes key.hex
+
+-- a map's name and a key, and a schedule
+abbrev pub value_text : List ℕ → Option Digits → List ℕ → List ℕ
+value_text name key schedule =
+    codes "map " ++ (name ++ (codes " " ++ (key_text key ++ (codes " " ++ by_text schedule))))
+
 -- the line, without its end
 abbrev pub plain : Line → List ℕ
 plain (line.Exit j c r0) = job_text j c (codes "r0=" ++ decimal r0)
@@ -53,6 +68,11 @@ plain (line.Hung schedule) = codes "hung " ++ by_text (string_bytes schedule)
 plain (line.Counts all outcomes states) =
     all_text all ++ (codes ": " ++ (decimal outcomes ++ (codes " outcomes, " ++ (decimal states
     ++ codes " states"))))
+plain (line.Race cpu pc other other_pc name key schedule) =
+    codes "race " ++ (place_text cpu pc ++ (codes " " ++ (place_text other other_pc ++ (codes " "
+    ++ value_text (string_bytes name) key (string_bytes schedule)))))
+plain (line.Races all races) =
+    all_text all ++ (codes ": " ++ (decimal races ++ codes " races"))
 plain (line.Plan count) = codes "1.." ++ decimal count
 plain (line.Test ok number name) =
     verdict ok ++ (codes " " ++ (decimal number ++ (codes " - " ++ string_bytes name)))
@@ -90,6 +110,16 @@ digits_members name d =
     codes "\"" ++ (name ++ (codes "\":" ++ (quoted (string_bytes d.hex)
     ++ number_member name d.number)))
 
+-- a CPU, and where it stands
+abbrev pub place_object : ℕ → ℕ → List ℕ
+place_object cpu pc =
+    codes "{\"cpu\":" ++ (decimal cpu ++ (codes ",\"pc\":" ++ (decimal pc ++ codes "}")))
+
+-- the members for a key, if one leads to the value
+abbrev pub key_members : Option Digits → List ℕ
+key_members None = codes "\"key\":null"
+key_members (Some key) = digits_members (codes "key") key
+
 abbrev pub object : Line → List ℕ
 object (line.Exit j c r0) =
     codes "{\"job\":" ++ (decimal j ++ (codes ",\"cpu\":" ++ (decimal c ++ (codes ",\"r0\":"
@@ -109,6 +139,12 @@ object (line.Hung schedule) = member (codes "hung_by") (string_bytes schedule)
 object (line.Counts all outcomes states) =
     codes "{\"all\":" ++ (truth all ++ (codes ",\"outcomes\":" ++ (decimal outcomes
     ++ (codes ",\"states\":" ++ (decimal states ++ codes "}")))))
+object (line.Race cpu pc other other_pc name key schedule) =
+    codes "{\"race\":[" ++ (place_object cpu pc ++ (codes "," ++ (place_object other other_pc
+    ++ (codes "],\"map\":" ++ (quoted (string_bytes name) ++ (codes "," ++ (key_members key
+    ++ (codes ",\"by\":" ++ (quoted (string_bytes schedule) ++ codes "}")))))))))
+object (line.Races all races) =
+    codes "{\"all\":" ++ (truth all ++ (codes ",\"races\":" ++ (decimal races ++ codes "}")))
 object (line.Plan count) = codes "{\"tests\":" ++ (decimal count ++ codes "}")
 object (line.Test ok number name) =
     codes "{\"test\":" ++ (decimal number ++ (codes ",\"ok\":" ++ (truth ok ++ (codes ",\"name\":"

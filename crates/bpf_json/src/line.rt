@@ -1,7 +1,7 @@
 //! What a printed line says.
 
 ghost use Rattle.std.specs.Prelude.{◌≡◌, ◌<◌, ◌++◌, IfOk, OnOk, map, string_bytes};
-ghost use Rattle.bpf_json.specs.Lines.{budget_text, by_text, digits_members, job_text, is_plain, member, number_member, object, plain, quoted, shown_byte, truth, verdict};
+ghost use Rattle.bpf_json.specs.Lines.{all_text, budget_text, by_text, digits_members, job_text, is_plain, key_members, key_text, member, number_member, object, place_object, place_text, plain, quoted, shown_byte, truth, value_text, verdict};
 
 use crate::digits::Digits;
 use std::alloc::{AllocError, Global};
@@ -43,6 +43,22 @@ pub enum Line {
         outcomes: u64,
         states: u64,
     },
+    /// Two CPUs that race where they stand at these pcs, the map and the key of the value for which
+    /// they do, if one leads to it, and a schedule that leads there.
+    Race {
+        cpu: u64,
+        pc: u64,
+        other: u64,
+        other_pc: u64,
+        map: String,
+        key: Option<Digits>,
+        by: String,
+    },
+    /// How many races were found, and whether they are all.
+    Races {
+        all: bool,
+        races: u64,
+    },
     /// How many tests follow.
     Plan(u64),
     Test {
@@ -68,6 +84,12 @@ fn verdict(ok: bool) -> &'static str
     ensures { result.now ≡ verdict ok }
 {
     if ok { "ok" } else { "not ok" }
+}
+
+fn all_text(all: bool) -> &'static str
+    ensures { result.now ≡ all_text all }
+{
+    if all { "all" } else { "not all" }
 }
 
 /// Whether a byte stands in JSON text as it is.
@@ -150,6 +172,54 @@ fn job_text(alloc: Global, job: u64, cpu: u64, end: &str) -> Result<String, Allo
     format!(in alloc; "job {job} cpu {cpu} {end}")
 }
 
+/// A CPU, and where it stands.
+fn place_text(alloc: Global, cpu: u64, pc: u64) -> Result<String, AllocError>
+    ensures { IfOk result (λ s. string_bytes s ≡ place_text cpu pc) }
+{
+    format!(in alloc; "cpu {cpu} pc {pc}")
+}
+
+/// The same as a JSON object.
+fn place_object(alloc: Global, cpu: u64, pc: u64) -> Result<String, AllocError>
+    ensures { IfOk result (λ s. string_bytes s ≡ place_object cpu pc) }
+{
+    format!(in alloc; "{{\"cpu\":{cpu},\"pc\":{pc}}}")
+}
+
+/// A key in hex, or that none leads to the value any more.
+fn key_text(key: &Option<Digits>) -> &str
+    ensures { result.now ≡ key_text key.now }
+{
+    match key {
+        Some(key) => key.hex.as_str(),
+        None => "deleted",
+    }
+}
+
+/// The members for a key, if one leads to the value.
+fn key_members(alloc: Global, key: &Option<Digits>) -> Result<String, AllocError>
+    ensures { IfOk result (λ s. string_bytes s ≡ key_members key.now) }
+{
+    match key {
+        Some(key) => digits_members(alloc, "key", key),
+        None => "\"key\":null".to_string(alloc),
+    }
+}
+
+/// A map's name and a key, and a schedule.
+fn value_text(
+    alloc: Global,
+    name: &str,
+    key: &Option<Digits>,
+    schedule: &str,
+) -> Result<String, AllocError>
+    ensures { IfOk result (λ s. string_bytes s ≡ value_text name.now key.now schedule.now) }
+{
+    let key = key_text(key);
+    let by = by_text(alloc, schedule)?;
+    format!(in alloc; "map {name} {key} {by}")
+}
+
 impl Line {
     /// The line as it is printed, without its end.
     pub(crate) fn plain(&self, alloc: Global) -> Result<String, AllocError>
@@ -182,8 +252,26 @@ impl Line {
                 outcomes,
                 states,
             } => {
-                let head = if *all { "all" } else { "not all" };
+                let head = all_text(*all);
                 format!(in alloc; "{head}: {outcomes} outcomes, {states} states")
+            }
+            Line::Race {
+                cpu,
+                pc,
+                other,
+                other_pc,
+                map,
+                key,
+                by,
+            } => {
+                let one = place_text(alloc, *cpu, *pc)?;
+                let other = place_text(alloc, *other, *other_pc)?;
+                let value = value_text(alloc, map.as_str(), key, by.as_str())?;
+                format!(in alloc; "race {one} {other} {value}")
+            }
+            Line::Races { all, races } => {
+                let head = all_text(*all);
+                format!(in alloc; "{head}: {races} races")
             }
             Line::Plan(count) => format!(in alloc; "1..{count}"),
             Line::Test { ok, number, name } => {
@@ -228,6 +316,26 @@ impl Line {
             } => {
                 let all = truth(*all);
                 format!(in alloc; "{{\"all\":{all},\"outcomes\":{outcomes},\"states\":{states}}}")
+            }
+            Line::Race {
+                cpu,
+                pc,
+                other,
+                other_pc,
+                map,
+                key,
+                by,
+            } => {
+                let one = place_object(alloc, *cpu, *pc)?;
+                let other = place_object(alloc, *other, *other_pc)?;
+                let map = quoted(alloc, map.as_str())?;
+                let key = key_members(alloc, key)?;
+                let by = quoted(alloc, by.as_str())?;
+                format!(in alloc; "{{\"race\":[{one},{other}],\"map\":{map},{key},\"by\":{by}}}")
+            }
+            Line::Races { all, races } => {
+                let all = truth(*all);
+                format!(in alloc; "{{\"all\":{all},\"races\":{races}}}")
             }
             Line::Plan(count) => format!(in alloc; "{{\"tests\":{count}}}"),
             Line::Test { ok, number, name } => {

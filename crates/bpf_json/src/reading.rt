@@ -1,7 +1,7 @@
 //! What a printed line says, read from it. It is taken where it prints as that line again.
 
 ghost use Rattle.std.specs.Prelude.{◌≡◌, IfOk, IfSome};
-ghost use Rattle.bpf_json.specs.Lines.{IsRight, plain};
+ghost use Rattle.bpf_json.specs.Lines.{IsRight, IsRightNumber, plain};
 
 use crate::digits::Digits;
 use crate::line::Line;
@@ -88,6 +88,72 @@ fn counts_in(text: &str) -> Option<Result<Line, AllocError>>
     }))
 }
 
+/// The last line of a search for races.
+fn races_in(text: &str) -> Option<Result<Line, AllocError>>
+    ensures { IfSome result (λ made. IfOk made IsRight) }
+{
+    let (head, rest) = text.split_once(": ")?;
+    let (races, _) = number_in(rest)?;
+    Some(Ok(Line::Races {
+        all: head == "all",
+        races,
+    }))
+}
+
+/// A CPU and where it stands, and what stands behind it.
+fn place_in(text: &str) -> Option<((u64, u64), &str)> {
+    let (cpu, rest) = number_in(text.strip_prefix("cpu ")?)?;
+    let (pc, rest) = number_in(rest.strip_prefix(" pc ")?)?;
+    Some(((cpu, pc), rest.strip_prefix(" ")?))
+}
+
+/// The key of a value, if one leads to it.
+fn key_of(alloc: Global, key: &str) -> Result<Option<Digits>, AllocError>
+    ensures { IfOk result (λ key. IfSome key IsRightNumber) }
+{
+    if key == "deleted" {
+        return Ok(None);
+    }
+    let key = Digits::new(alloc, key)?;
+    Ok(Some(key))
+}
+
+fn race(
+    alloc: Global,
+    places: ((u64, u64), (u64, u64)),
+    map: &str,
+    key: &str,
+    by: &str,
+) -> Result<Line, AllocError>
+    ensures { IfOk result IsRight }
+{
+    let ((cpu, pc), (other, other_pc)) = places;
+    let map = map.to_string(alloc)?;
+    let key = key_of(alloc, key)?;
+    let by = by.to_string(alloc)?;
+    Ok(Line::Race {
+        cpu,
+        pc,
+        other,
+        other_pc,
+        map,
+        key,
+        by,
+    })
+}
+
+/// Two CPUs that race.
+fn race_in(alloc: Global, text: &str) -> Option<Result<Line, AllocError>>
+    ensures { IfSome result (λ made. IfOk made IsRight) }
+{
+    let (one, rest) = place_in(text.strip_prefix("race ")?)?;
+    let (other, rest) = place_in(rest)?;
+    let (map, rest) = word_in(rest.strip_prefix("map ")?)?;
+    let (key, rest) = word_in(rest)?;
+    let by = without_blank(rest.strip_prefix("by")?);
+    Some(race(alloc, (one, other), map, key, by))
+}
+
 /// A test, and whether it is ok.
 fn test_in(alloc: Global, text: &str) -> Option<Result<Line, AllocError>>
     ensures { IfSome result (λ made. IfOk made IsRight) }
@@ -139,6 +205,8 @@ fn guess(alloc: Global, text: &str) -> Result<Line, AllocError>
         .or_else(|| pair_in(alloc, text))
         .or_else(|| test_in(alloc, text))
         .or_else(|| counts_in(text))
+        .or_else(|| race_in(alloc, text))
+        .or_else(|| races_in(text))
         .or_else(|| plan_in(text));
     match made {
         Some(made) => made,
