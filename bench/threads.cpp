@@ -1,5 +1,7 @@
 // The yardsticks of a store's calls by threads: the same mixes of calls as crates/hop_bench, of the same keys drawn in the
-// same way. usage: threads STORE MIX KEYS RUN THREADS MILLISECONDS; prints each thread's calls, 0 and nanoseconds.
+// same way. usage: threads STORE MIX KEYS RUN THREADS MILLISECONDS; prints each thread's calls, 0 and nanoseconds. Of MIX
+// growth it prints two lines for each: before the table grows, and meanwhile; the first thread makes it grow, and tells of that
+// twice.
 //
 // shards: 64 std::unordered_map, each under a mutex. tbb: oneTBB's concurrent_hash_map. urcu: liburcu's cds_lfht over
 // its qsbr flavour; a run is the time between two quiescent states.
@@ -27,8 +29,15 @@ struct Plan {
     uint64_t keys, run, threads, milliseconds;
 
     bool is(const char *name) const { return !strcmp(mix, name); }
+    bool fills() const { return is("fill") || is("grow"); }
+    bool grows() const { return is("grow") || is("growth"); }
+    uint64_t first_keys() const { return keys / 64; }
     bool is_there(uint64_t number) const {
-        return is("own") ? number / threads % 2 == 0 : is("shared") ? number % 2 == 0 : true;
+        return is("own")      ? number / threads % 2 == 0
+               : is("shared") ? number % 2 == 0
+               : fills()      ? false
+               : is("growth") ? number < first_keys()
+                              : true;
     }
 };
 
@@ -113,7 +122,9 @@ struct Urcu {
     cds_lfht *table;
 
     explicit Urcu(uint64_t keys) {
-        table = cds_lfht_new_flavor(keys, keys, keys, 0, &urcu_qsbr_flavor, nullptr);
+        // one that begins with one bucket grows by a thread of its own
+        table = keys == 1 ? cds_lfht_new_flavor(1, 1, 0, CDS_LFHT_AUTO_RESIZE | CDS_LFHT_ACCOUNTING, &urcu_qsbr_flavor, nullptr)
+                          : cds_lfht_new_flavor(keys, keys, keys, 0, &urcu_qsbr_flavor, nullptr);
     }
     static uint64_t hash_of(uint64_t key) { return key ^ key >> 32; }
     static int is_key(cds_lfht_node *node, const void *key) {
@@ -202,8 +213,77 @@ template <typename Store> static void work(Store &store, const Plan &plan, uint6
     line[0] = calls, line[1] = spent.count(), line[2] = found;
 }
 
+static uint64_t nanoseconds_from(std::chrono::steady_clock::time_point start) {
+    return std::chrono::duration_cast<std::chrono::nanoseconds>(std::chrono::steady_clock::now() - start).count();
+}
+
+// Adds the keys of all numbers from this one on, so far apart.
+template <typename Store> static void put_all(Store &store, const Plan &plan, uint64_t from, uint64_t apart, uint64_t *line) {
+    auto start = std::chrono::steady_clock::now();
+    uint64_t calls = 0;
+    for (uint64_t number = from; number < plan.keys;) {
+        store.begin();
+        for (uint64_t at = 0; at < plan.run && number < plan.keys; at++, number += apart, calls++)
+            store.put(key_of(number));
+        store.end();
+    }
+    line[0] = calls, line[1] = nanoseconds_from(start);
+}
+
+template <typename Store> static bool has(Store &store, uint64_t number) {
+    store.begin();
+    bool found = store.look(key_of(number)) != 0;
+    store.end();
+    return found;
+}
+
+// Looks up until so many nanoseconds have passed or the last key is there, which is looked for behind some 256 calls.
+template <typename Store> static void look_until(Store &store, const Plan &plan, uint64_t thread, uint64_t most, uint64_t *line) {
+    uint64_t runs_a_look = plan.run > 256 ? 1 : 256 / plan.run, calls = 0, found = 0, passed = 0;
+    uint64_t bits = (thread + 1) * 0x2545f4914f6cdd1du;
+    auto start = std::chrono::steady_clock::now();
+    do {
+        for (uint64_t run = 0; run < runs_a_look; run++) {
+            store.begin();
+            for (uint64_t at = 0; at < plan.run; at++) {
+                bits = next(bits);
+                found += call(store, Mix::Looks, key_of((bits >> 32) * plan.first_keys() >> 32), bits);
+            }
+            store.end();
+        }
+        calls += runs_a_look * plan.run;
+        passed = nanoseconds_from(start);
+    } while (passed < most && !has(store, plan.keys - 1));
+    line[0] = calls, line[1] = passed, line[2] = found;
+}
+
+// Thread 0 waits for so long and then makes the table grow; the others look keys up: for so long, and then meanwhile.
+template <typename Store> static void grow_or_look(Store &store, const Plan &plan, uint64_t thread, uint64_t *line, uint64_t *second) {
+    uint64_t most = plan.milliseconds * 1000000;
+    auto start = std::chrono::steady_clock::now();
+    store.enter();
+    if (thread == 0) {
+        while (nanoseconds_from(start) < most + 5000000)
+            store.begin(), store.end();
+        put_all(store, plan, plan.first_keys(), 1, line);
+        memcpy(second, line, 3 * sizeof(uint64_t));
+    } else {
+        look_until(store, plan, thread, most, line);
+        while (!has(store, plan.first_keys()) && nanoseconds_from(start) < 1000000000)
+            ;
+        look_until(store, plan, thread, 1000000000, second);
+    }
+    store.leave();
+}
+
+template <typename Store> static void fill(Store &store, const Plan &plan, uint64_t thread, uint64_t *line) {
+    store.enter();
+    put_all(store, plan, thread, plan.threads, line);
+    store.leave();
+}
+
 template <typename Store> static void measure(const Plan &plan) {
-    Store store(plan.keys);
+    Store store(plan.grows() ? 1 : plan.keys);
     store.enter();
     for (uint64_t number = 0; number < plan.keys; number++)
         if (plan.is_there(number))
@@ -212,10 +292,18 @@ template <typename Store> static void measure(const Plan &plan) {
     struct alignas(64) Line {
         uint64_t words[8];
     };
-    std::vector<Line> lines(plan.threads);
+    bool twice = plan.is("growth");
+    std::vector<Line> lines(twice ? 2 * plan.threads : plan.threads);
     std::vector<std::thread> threads;
     for (uint64_t thread = 0; thread < plan.threads; thread++)
-        threads.emplace_back([&, thread] { work(store, plan, thread, lines[thread].words); });
+        threads.emplace_back([&, thread] {
+            if (twice)
+                grow_or_look(store, plan, thread, lines[2 * thread].words, lines[2 * thread + 1].words);
+            else if (plan.fills())
+                fill(store, plan, thread, lines[thread].words);
+            else
+                work(store, plan, thread, lines[thread].words);
+        });
     for (std::thread &thread : threads)
         thread.join();
     for (Line &line : lines)

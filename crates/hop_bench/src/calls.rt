@@ -22,7 +22,7 @@ fn word_in(span: Span) -> Option<ValuePlace>
 }
 
 /// Looks a key up, and reads its value.
-#[inline]
+#[inline(always)]
 fn look<R: Wait>(rt: &R, table: &HopTable, port: &mut HopPort, key: &[u8; 8]) -> u64
     requires fits { IsPortOf table.now port.old }
     requires trial { IsTrial table.now.about }
@@ -40,7 +40,7 @@ fn look<R: Wait>(rt: &R, table: &HopTable, port: &mut HopPort, key: &[u8; 8]) ->
 }
 
 /// Looks a key up, and adds to its value.
-#[inline]
+#[inline(always)]
 fn count<R: Wait>(rt: &R, table: &HopTable, port: &mut HopPort, key: &[u8; 8]) -> u64
     requires fits { IsPortOf table.now port.old }
     requires trial { IsTrial table.now.about }
@@ -69,7 +69,31 @@ pub fn put<R: Wait>(rt: &R, table: &HopTable, port: &mut HopPort, key: &[u8; 8])
     matches!(port.update(rt, table, 0, key, key, 0), MapAnswer::NoMemory)
 }
 
-#[inline]
+/// Adds or replaces a key, of a map that may grow: behind an insertion that went to an overflow list
+/// one split is tried, as CPUs of programs do. Answers whether no element was to be had.
+pub fn put_growing<R: Wait>(
+    rt: &R,
+    table: &HopTable,
+    port: &mut HopPort,
+    key: &[u8; 8],
+    grows: bool,
+) -> bool
+    requires fits { IsPortOf table.now port.old }
+    requires trial { IsTrial table.now.about }
+    requires in_run { runs port.old ≡ true }
+    ensures fits { IsPortOf table.now port.new }
+    ensures in_run { runs port.new ≡ true }
+{
+    let refused = put(rt, table, port, key);
+    if grows {
+        if let Some(segment) = port.spilled() {
+            let _growth = port.split(rt, table, 0, segment);
+        }
+    }
+    refused
+}
+
+#[inline(always)]
 fn take<R: Wait>(rt: &R, table: &HopTable, port: &mut HopPort, key: &[u8; 8])
     requires fits { IsPortOf table.now port.old }
     requires trial { IsTrial table.now.about }
@@ -88,7 +112,7 @@ pub struct Tally {
 }
 
 /// Makes the call that these bits draw.
-#[inline]
+#[inline(always)]
 pub fn call<R: Wait>(
     rt: &R,
     table: &HopTable,
@@ -106,7 +130,7 @@ pub fn call<R: Wait>(
 {
     let key = &key_of(keys.number(bits));
     let kind = match mix {
-        Mix::Hits | Mix::Misses => 0,
+        Mix::Hits | Mix::Misses | Mix::Fill | Mix::Grow | Mix::Growth => 0,
         Mix::Counts => 100,
         Mix::Most => bits % 100,
         Mix::Own | Mix::Shared => 90 + bits % 2 * 9,

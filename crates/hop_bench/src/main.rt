@@ -3,11 +3,13 @@
 //! usage: hop_bench MIX KEYS MAX SPARE RUN THREADS MILLISECONDS MOST
 //!
 //! A line for each thread tells its calls, those refused for want of an element, and nanoseconds.
-//! Without words it does nothing.
+//! Of MIX growth there are two for each: before the map grows, and meanwhile; the first thread makes
+//! it grow, and tells of that twice. Without words it does nothing.
 #![tactic(auto)]
 
 mod calls;
 mod crew;
+mod growing;
 mod plan;
 mod working;
 

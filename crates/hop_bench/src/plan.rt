@@ -17,6 +17,12 @@ pub enum Mix {
     Own,
     /// Updates and deletions of keys of all threads, of which half are there.
     Shared,
+    /// Updates that fill a map which has all its segments from the first on.
+    Fill,
+    /// Updates that fill a map which grows from one segment.
+    Grow,
+    /// Lookups of keys that are there, before and while one thread makes the map grow.
+    Growth,
 }
 
 impl Mix {
@@ -29,6 +35,9 @@ impl Mix {
             "most" => Some(Mix::Most),
             "own" => Some(Mix::Own),
             "shared" => Some(Mix::Shared),
+            "fill" => Some(Mix::Fill),
+            "grow" => Some(Mix::Grow),
+            "growth" => Some(Mix::Growth),
             _ => None,
         }
     }
@@ -70,6 +79,11 @@ impl Plan {
                 apart: 1,
                 from: self.keys,
             },
+            Mix::Growth => Keys {
+                count: self.first_keys(),
+                apart: 1,
+                from: 0,
+            },
             _ => Keys {
                 count: self.keys,
                 apart: 1,
@@ -83,8 +97,20 @@ impl Plan {
         match self.mix {
             Mix::Own => number / self.threads.max(1) % 2 == 0,
             Mix::Shared => number % 2 == 0,
+            Mix::Fill | Mix::Grow => false,
+            Mix::Growth => number < self.first_keys(),
             _ => true,
         }
+    }
+
+    /// Whether the map grows from one segment.
+    pub fn grows(&self) -> bool {
+        matches!(self.mix, Mix::Grow | Mix::Growth)
+    }
+
+    /// How many keys are there before the map is made to grow.
+    pub fn first_keys(&self) -> u64 {
+        self.keys / 64
     }
 }
 

@@ -4,7 +4,7 @@ ghost use Rattle.hop_words.specs.Trial.{IsTrial};
 ghost use Rattle.hop_map.specs.Port.{IsPortOf, runs};
 ghost use Rattle.hop_bench.specs.Trial.{IsNewPort};
 
-use crate::calls::{Tally, call, put};
+use crate::calls::{Tally, call, put_growing};
 use crate::plan::{Keys, Plan, key_of};
 use hop_map::HopPort;
 use hop_words::HopTable;
@@ -32,7 +32,7 @@ fn put_part<R: Wait>(rt: &R, table: &HopTable, port: &mut HopPort, plan: Plan)
     let thread = u64::from(port.cpu());
     'keys: for number in 0..plan.keys {
         if number % plan.threads.max(1) == thread && plan.is_there(number) {
-            put(rt, table, port, &key_of(number));
+            put_growing(rt, table, port, &key_of(number), plan.grows());
         }
     }
 }
@@ -59,7 +59,8 @@ fn next(bits: u64) -> u64 {
 }
 
 // Makes so many calls in one run, and answers the last bits drawn.
-fn make_run<R: Wait>(
+#[inline(always)]
+pub(crate) fn make_run<R: Wait>(
     rt: &R,
     table: &HopTable,
     port: &mut HopPort,
