@@ -5,7 +5,7 @@ ghost use Rattle.hop_layout.specs.Layout.{words_for};
 ghost use Rattle.hop_words.specs.Owning.{IsInHand, key_filled, value_filled};
 ghost use Rattle.hop_arena.specs.Filling.{with_words, word_list};
 
-use hop_layout::word_of;
+use crate::word::word_at;
 use hop_words::{HopTable, Lane};
 
 /// An element in hand, which nobody else has seen: its words may be filled, and then it is linked
@@ -56,7 +56,7 @@ impl Element {
                 self.map,
                 self.number,
                 word as u32,
-                word_of(key, word),
+                word_at(key, word),
             );
         }
         'value: for word in 0..value.len().div_ceil(8) {
@@ -65,7 +65,7 @@ impl Element {
                 self.map,
                 self.number,
                 word as u32,
-                word_of(value, word),
+                word_at(value, word),
             );
         }
     }

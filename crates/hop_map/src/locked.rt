@@ -24,7 +24,8 @@ use crate::numbers::{hop_bits, item, link_word};
 use crate::words::{head_place, hop_place, link_place, slot_place};
 use bpf_shared::{MapAnswer, MapShape};
 use crossbeam_utils::Backoff;
-use hop_layout::{Place, home, word_of};
+use hop_arena::word_at;
+use hop_layout::{Place, home};
 use hop_seg::{SegReads, SegWords};
 use hop_words::{HopTable, Lane};
 use std::marker::Model;
@@ -449,6 +450,7 @@ impl<'a> LockedWords<'a> {
 
 impl<'a> LockedWords<'a> {
     /// Whether an element's words are the key's.
+    #[inline(always)]
     fn spells(&mut self, element: u32, key: &[u8]) -> bool
         requires inside { element < elements_of (shape_at self.old.about self.old.map) }
         requires size { length key.now ≡ (shape_at self.old.about self.old.map).key }
@@ -463,7 +465,7 @@ impl<'a> LockedWords<'a> {
                 element,
                 word: word as u32,
             };
-            if self.read(place) != word_of(key, word) {
+            if self.read(place) != word_at(key, word) {
                 return false;
             }
         }
@@ -555,6 +557,7 @@ impl<'a> SegReads for LockedWords<'a> {
         item(self.read(link_place(self.map, element)))
     }
 
+    #[inline(always)]
     fn has_key(&mut self, element: u32, key: &[u8]) -> bool {
         if element >= self.elements {
             return false;

@@ -10,7 +10,8 @@ ghost use Rattle.hop_map.specs.Private.Peeks.{FitsPeeks, peeked, HavePeeks, Spel
 
 use crate::numbers::{hop_bits, item};
 use crate::words::{head_place, hop_place, link_place, slot_place};
-use hop_layout::{Place, word_of};
+use hop_arena::word_at;
+use hop_layout::Place;
 use hop_seg::SegReads;
 use hop_words::{HopTable, Lane};
 use std::marker::Model;
@@ -101,6 +102,7 @@ impl<'a> PeekedWords<'a> {
     }
 
     /// Whether an element's words are the key's, of all words that were read.
+    #[inline(always)]
     fn spells(&mut self, element: u32, key: &[u8]) -> bool
         requires inside { element < elements_of (shape_at self.old.about self.old.map) }
         requires size { length key.now ≡ (shape_at self.old.about self.old.map).key }
@@ -117,7 +119,7 @@ impl<'a> PeekedWords<'a> {
                 element,
                 word: word as u32,
             };
-            if self.read(place) != word_of(key, word) {
+            if self.read(place) != word_at(key, word) {
                 return false;
             }
         }
@@ -170,6 +172,7 @@ impl<'a> SegReads for PeekedWords<'a> {
         item(self.read(link_place(self.map, element)))
     }
 
+    #[inline(always)]
     fn has_key(&mut self, element: u32, key: &[u8]) -> bool {
         if element >= self.elements {
             return false;

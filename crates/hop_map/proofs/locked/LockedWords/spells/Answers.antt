@@ -10,8 +10,8 @@ use Rattle.hop_map.specs.LockedSegment.{Locked, knows}
 use Rattle.hop_map.proofs.Written.{mine}
 use Rattle.hop_map.proofs.locked.LockedWords.spells.Goals as goal
 
-pub returns-then-read-word_of-clause-value : goal.returns-then-read-word_of-clause-value
-returns-then-read-word_of-clause-value c = λ k.
+pub returns-then-read-word_at-clause-value : goal.returns-then-read-word_at-clause-value
+returns-then-read-word_at-clause-value c = λ k.
     let i = c.self.inside in
     let p : Place = KeyWord i.map c.args.element c.words.word in
     let x = c.args.self.now in
@@ -22,8 +22,8 @@ returns-then-read-word_of-clause-value c = λ k.
     ∙ (ap (λ (m : ℕ). mem c.words.self.about.shape (lock_of c.words.self.known).copy (KeyWord m c.args.element c.words.word)) (ap (λ (x : Locked). x.map) c.self.view_is)
     ∙ ap (λ (x : Locked). mem x.about.shape (lock_of x.known).copy (KeyWord x.map c.args.element c.words.word)) c.words.invariant.same) in (
       λ h. cc,
-      λ s. absurd (c.if-read-word_of.true
-          (word ∙ (s c.words.word (let t = c.words-test.true in let e = c.div_ceil-word-end.ensures in let z = c.requires.size in omega arith) ∙ sym c.word_of.ensures))),
+      λ s. absurd (c.if-read-word_at.true
+          (word ∙ (s c.words.word (let t = c.words-test.true in let e = c.div_ceil-word-end.ensures in let z = c.requires.size in omega arith) ∙ sym c.word_at.ensures))),
     )
 
 pub words-preserved : goal.words-preserved
@@ -41,7 +41,7 @@ words-preserved c = record {
       ∙ ap (λ (x : Locked). mem x.about.shape (lock_of x.known).copy (KeyWord x.map c.args.element c.words.word)) c.words.invariant.same) in
       λ j l. ⊎_elim
       (λ (e : j ≡ c.words.word). subst (λ (i : ℕ). mem x.about.shape (lock_of x.known).copy (KeyWord x.map c.args.element i) ≡ word_of c.args.key.now i) (sym e)
-      (sym word ∙ (c.if-read-word_of.false ∙ c.word_of.ensures)))
+      (sym word ∙ (c.if-read-word_at.false ∙ c.word_at.ensures)))
       (λ ne. c.words.invariant.spelled k j (omega arith))
       (equal j c.words.word);
 }
