@@ -5,7 +5,7 @@ use crate::comments::push_warnings;
 use crate::excerpt::{Language, instruction_text, line_of};
 use crate::expected::expected;
 use crate::finding::{Finding, Told, finding_in};
-use crate::hints::hint_of;
+use crate::hints::{hint_of, hint_of_fault};
 use crate::inputs::push_input;
 use bpf_codes::Code;
 use bpf_explain::page_of;
@@ -127,15 +127,26 @@ fn is_fault(code: Code) -> bool {
 }
 
 /// What is known of a job's fault, or of its last steps. The only job of `hex` has no number.
-fn push_details(
-    text: &mut String,
-    finding: &Finding,
-    details: &Details<'_>,
-) -> Result<(), AllocError> {
+fn known_of<'a>(finding: &Finding, details: &Details<'a>) -> &'a str {
     let job = finding.job.unwrap_or(0);
     match details.known.iter().find(|detail| detail.job == job) {
-        Some(detail) => text.push_str(detail.text.as_str()),
-        None => text.push_str(details.otherwise),
+        Some(detail) => detail.text.as_str(),
+        None => details.otherwise,
+    }
+}
+
+/// What is known of a fault, and what may be meant.
+fn push_fault(
+    text: &mut String,
+    finding: &Finding,
+    code: Code,
+    details: &Details<'_>,
+) -> Result<(), AllocError> {
+    let known = known_of(finding, details);
+    text.push_str(known)?;
+    match hint_of_fault(code, known) {
+        Some(hint) => write!(text, "  hint: {hint}\n"),
+        None => Ok(()),
     }
 }
 
@@ -152,7 +163,7 @@ fn push_coded(
     push_place(alloc, text, input, code, finding.line)?;
     push_instruction(alloc, text, input, finding)?;
     if is_fault(code) {
-        push_details(text, finding, details)?;
+        push_fault(text, finding, code, details)?;
     }
     write!(text, "  see: ebpf explain {}\n", code.text())
 }
@@ -167,7 +178,7 @@ fn push_out_of_budget(
 ) -> Result<(), AllocError> {
     text.push_str("the steps of the budget are made, and this instruction would be the next\n")?;
     push_instruction(alloc, text, input, finding)?;
-    push_details(text, finding, details)
+    text.push_str(known_of(finding, details))
 }
 
 /// What there is to say of each refusal and fault in what was printed, and of each job that is out

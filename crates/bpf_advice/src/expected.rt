@@ -143,6 +143,9 @@ fn order_of_lines(first: &str) -> &'static str {
     }
 }
 
+/// The line behind which a file of the debugger has commands.
+const COMMANDS: &str = "behind `---` stand commands, which `ebpf debug` alone takes";
+
 /// What is said of a line that has no form there (L2).
 fn of_form(
     alloc: Global,
@@ -150,6 +153,12 @@ fn of_form(
     words: &[&str],
     places: &[usize],
 ) -> Result<Expectation, AllocError> {
+    if let ["---"] = words {
+        return Ok(Expectation {
+            place: places.first().copied().unwrap_or(0),
+            text: COMMANDS.to_string(alloc)?,
+        });
+    }
     match pieces_expected(alloc, forms, words)? {
         Some((count, pieces)) => Ok(Expectation {
             place: places.get(count).copied().unwrap_or(usize::MAX),

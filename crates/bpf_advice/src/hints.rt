@@ -1,5 +1,6 @@
 //! What may be meant, where a line is spelled as LLVM or the kernel spell it.
 
+use crate::inputs::is_objdump;
 use bpf_codes::Code;
 
 const MNEMONICS: [&str; 26] = [
@@ -35,11 +36,18 @@ fn swaps_bytes(line: &str) -> bool {
     line.contains("= be") || line.contains("= le") || line.contains("= bswap")
 }
 
+/// Whether a line has an address before its bytes, as objdump prints them. A label begins with no digit.
+fn has_address(line: &str) -> bool {
+    line.trim()
+        .starts_with(|letter: char| letter.is_ascii_digit())
+        && is_objdump(line)
+}
+
 /// Hints that a line's spelling gives, and what is left of it where no form goes on.
 fn spelling_hint(line: &str, left: &str) -> Option<&'static str> {
     if left.starts_with('#') && line.trim().starts_with("call") {
         Some("a helper is called by its number alone: `call 1`")
-    } else if line.trim().starts_with('.') || line.contains("file format") {
+    } else if line.trim().starts_with('.') || line.contains("file format") || has_address(line) {
         Some(
             "text of clang or objdump: `llvm-objcopy -O binary --only-section=.text` takes words out of the object, and `xxd -p` makes hex digits of them",
         )
@@ -77,6 +85,18 @@ pub fn hint_of(code: Code, line: &str, place: Option<usize>) -> Option<&'static 
         }
         Code::A3 if line.contains("pc") => {
             Some("a jump's distance stands alone: `goto +3`, `goto -3`")
+        }
+        _ => None,
+    }
+}
+
+/// What may be meant by a call at a fault of this code, of which this is known.
+pub fn hint_of_fault(code: Code, known: &str) -> Option<&'static str> {
+    match code {
+        Code::F4 if known.contains("r1, which holds 0x0\n") => {
+            Some(
+                "words taken out of an object have lost which map they name: in C, map N is `(void *)(0x100000000ull + N)`",
+            )
         }
         _ => None,
     }

@@ -98,11 +98,11 @@ fn push_hint(
                 "  hint: the context lies there, but the job has none\n"
             )
         }
-        Region::Context => write!(
-            text,
-            "  hint: the context lies there, but it has {} bytes\n",
-            seen.context
-        ),
+        Region::Context => {
+            text.push_str("  hint: the context lies there, but it has ")?;
+            push_count(text, seen.context as u64)?;
+            text.push_str("\n")
+        }
         _ => Ok(()),
     }
 }

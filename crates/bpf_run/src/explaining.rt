@@ -1,11 +1,12 @@
 //! What is said of a command's answer on standard error, after it is printed.
 
 use crate::fault::{details_of_assembly, details_of_file, details_of_program};
-use crate::perform::{Performed, answer_text};
+use crate::perform::Performed;
 use crate::reply::{Reply, Status};
 use bpf_advice::{Detail, Details, Input, Language, advise};
 use bpf_command::{Command, FileOptions, HistoryOptions};
 use bpf_cpu::Outcome;
+use bpf_debug::Answer;
 use bpf_jobs::OutcomeText;
 use std::alloc::{AllocError, Global};
 use std::io;
@@ -122,8 +123,28 @@ impl Subject {
     }
 }
 
-/// What a reply prints.
-fn printed(alloc: Global, reply: &Reply) -> Result<String, AllocError> {
+/// The number of a script's first line in the input: that behind the line `---`.
+fn first_line_of_script(input: &str) -> usize {
+    let ends = input.split('\n').position(|line| {
+        let words = line.split(';').next().unwrap_or("");
+        words.trim() == "---"
+    });
+    ends.map_or(1, |place| place.saturating_add(2))
+}
+
+/// Puts what a line of a script is answered behind the text. A refusal is told with its line.
+fn push_answer(text: &mut String, number: usize, answer: &Answer) -> Result<(), AllocError> {
+    match answer {
+        Ok(answer) => text.push_str(answer.as_str()),
+        Err(error) => match error.line().strip_prefix("refused ") {
+            Some(code) => write!(text, "refused line {number} {code}"),
+            None => text.push_str(error.line()),
+        },
+    }
+}
+
+/// What a reply prints, where refused lines of a script have their numbers.
+fn printed(alloc: Global, reply: &Reply, input: &str) -> Result<String, AllocError> {
     match reply {
         Reply::Text(text)
         | Reply::Jobs(text, _)
@@ -132,9 +153,10 @@ fn printed(alloc: Global, reply: &Reply) -> Result<String, AllocError> {
         | Reply::Several { text, .. }
         | Reply::NoOutcome { text, .. } => text.as_str().to_string(alloc),
         Reply::Script { answers, .. } => {
+            let first = first_line_of_script(input);
             let mut text = String::new(alloc);
-            for answer in answers {
-                text.push_str(answer_text(answer))?;
+            for (place, answer) in answers.iter().enumerate() {
+                push_answer(&mut text, first.saturating_add(place), answer)?;
             }
             Ok(text)
         }
@@ -162,8 +184,8 @@ fn details(alloc: Global, subject: &Subject, reply: &Reply, input: &str) -> Vec<
 
 /// What there is to say of an answer, from what was read and what was printed.
 fn explanation(alloc: Global, subject: &Subject, done: &Performed) -> Result<String, AllocError> {
-    let printed = printed(alloc, &done.reply)?;
     let text = str::from_utf8(&done.input).unwrap_or("");
+    let printed = printed(alloc, &done.reply, text)?;
     let known = details(alloc, subject, &done.reply, text);
     let input = Input {
         language: subject.language(),
