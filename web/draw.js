@@ -450,7 +450,7 @@ function kept_rows(held, state) {
         const { cpu, key, bytes } = holders[0];
         const before = state.views.before.held[cpu].find((it) => it.address === address)?.bytes;
         const row = map_row(key ?? '', bytes, before ?? bytes, state);
-        row.className = key ? 'kept' : '';
+        row.className = key ? 'kept' : 'keyless';
         if (!key) row.cells[0].textContent = address_text(address, state.file);
         row.append(held_cell(holders));
         return row;
