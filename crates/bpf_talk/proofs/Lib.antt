@@ -1,0 +1,5 @@
+mod LinesRead
+mod TerminalLaws
+mod Texts
+mod TalkLaws
+pub mod Alike
