@@ -86,6 +86,7 @@ Names (Some found) (command.Explore options) = (found.0 ≡ codes "explore")
     × NamesSearch found.1 options × NamesShown found.1 None
 Names (Some found) (command.Show options) = (found.0 ≡ codes "explore")
     × NamesSearch found.1 options.search × NamesShown found.1 (Some options.outcome)
+Names (Some found) (command.Races options) = ⊥
 Names (Some found) (command.Check options) = (found.0 ≡ codes "check")
     × NamesSearch found.1 options
 Names (Some found) (command.Debug echo strict) = (found.0 ≡ codes "debug")

@@ -83,6 +83,14 @@ pub struct ShowOptions {
     ghost counted: { 0 < outcome },
 }
 
+/// The options of a search for data races.
+#[derive(PartialEq, Eq, Debug, Drop)]
+pub struct RaceOptions {
+    pub search: SearchOptions,
+    /// Names of maps whose values are locks or the like: races for them are left out.
+    pub sync: Vec<String>,
+}
+
 /// A command with its options.
 #[derive(PartialEq, Eq, Debug, Drop)]
 pub enum Command {
@@ -109,6 +117,8 @@ pub enum Command {
     Explore(SearchOptions),
     /// Tell all that happens on the way to one of these outcomes.
     Show(ShowOptions),
+    /// Find the data races of all schedules.
+    Races(RaceOptions),
     /// Tell by every schedule whether a run file's outcomes are as its comments expect.
     Check(SearchOptions),
     /// Run the jobs of a run file by commands, and show what they ask for.
