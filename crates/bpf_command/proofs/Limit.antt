@@ -7,7 +7,7 @@ use Rattle.clap.specs.Faults.{level_fault}
 use Rattle.clap.specs.Walk.{with_default, values_or_missing, Held, Row, Rule, Text, answers_to, finished, has_row, nothing_held, rows_after, settled, walk}
 use Rattle.clap.specs.Words.{fault_of, subcommand_of}
 use Rattle.bpf_command.specs.declared.command.TheConstants.{MAX_LIMIT}
-use Rattle.bpf_command.specs.CommandLine.{HasLimit, IsSearchName, check, ebpf, explained, explore, file, files, json, limit, patient, show}
+use Rattle.bpf_command.specs.CommandLine.{HasLimit, IsSearchName, check, ebpf, explained, explore, file, files, json, limit, patient, races, show, sync}
 use Rattle.bpf_command.proofs.Limited.{limited_keeps, with_limited}
 use Rattle.bpf_command.proofs.Ranges as range
 use Rattle.bpf_command.proofs.Ranges.{no_default}
@@ -57,13 +57,21 @@ files_keep : Keeps AreFine false (filled files)
 files_keep values rows e fine =
     range.more_used_fine (codes "limit") 0 MAX_LIMIT (codes "file") (values_or_missing (filled files) values) rows refl fine
 
+races_keep : Keeps AreFine false (filled races)
+races_keep values rows e fine =
+    range.other_used_fine (codes "limit") 0 MAX_LIMIT (codes "races") (values_or_missing (filled races) values) rows refl fine
+
+sync_keeps : Keeps AreFine false (filled sync)
+sync_keeps values rows e fine =
+    range.more_used_fine (codes "limit") 0 MAX_LIMIT (codes "sync") (values_or_missing (filled sync) values) rows refl fine
+
 explained_keeps : Keeps AreFine false (filled explained)
 explained_keeps values rows e fine =
     range.other_used_fine (codes "limit") 0 MAX_LIMIT (codes "explain") (values_or_missing (filled explained) values) rows refl fine
 
 explore_keeps : range.AllKeep (codes "limit") 0 MAX_LIMIT explore_rules
 explore_keeps =
-    (explained_keeps, (patient_keeps, (json_keeps, (limit_keeps, (show_keeps, (file_keeps, ((λ values rows e fine. fine), tt)))))))
+    (explained_keeps, (patient_keeps, (json_keeps, (races_keep, (sync_keeps, (limit_keeps, (show_keeps, (file_keeps, ((λ values rows e fine. fine), tt)))))))))
 
 check_keeps : range.AllKeep (codes "limit") 0 MAX_LIMIT check_rules
 check_keeps =
@@ -83,20 +91,34 @@ waiting_fine rows fine =
     let waited = range.default_fine (codes "limit") 0 MAX_LIMIT (codes "patient") (codes "false" ∷ []) start refl started in
     range.default_fine (codes "limit") 0 MAX_LIMIT (codes "json") (codes "false" ∷ []) waits refl waited
 
+-- and `--races`, but not `--sync`
+abbrev asking : List Row → List Row
+asking rows = with_default (with_default (waiting rows) (filled races)) (filled sync)
+
+asking_fine : (rows : List Row) → AreFine rows → AreFine (asking rows)
+asking_fine rows fine =
+    let waits = waiting rows in
+    let asks = with_default waits (filled races) in
+    let asked = range.default_fine (codes "limit") 0 MAX_LIMIT (codes "races") (codes "false" ∷ []) waits refl (waiting_fine rows fine) in
+    subst AreFine (sym (no_default (has_row (codes "sync") asks) asks)) asked
+
+limited_asking : (rows : List Row) → AreFine rows → HasLimit (with_default (asking rows) (filled limit))
+limited_asking rows fine = with_limited (codes "limit") MAX_LIMIT refl refl (asking rows) (asking_fine rows fine)
+
 limited_fine : (rows : List Row) → AreFine rows → HasLimit (with_default (waiting rows) (filled limit))
 limited_fine rows fine = with_limited (codes "limit") MAX_LIMIT refl refl (waiting rows) (waiting_fine rows fine)
 
 finished_explore : (h : Held) → AreFine (settled explore_rules h).rows → HasLimit (finished explore_rules h)
 finished_explore h fine =
     let rows = (settled explore_rules h).rows in
-    let first = with_default (waiting rows) (filled limit) in
+    let first = with_default (asking rows) (filled limit) in
     let second = with_default first (filled show) in
     let third = with_default second (filled file) in
     let same =
     no_default (has_row (codes "help") third) third ∙ (no_default (has_row (codes "file") second) second
     ∙ no_default (has_row (codes "show") first) first)
     in
-    subst HasLimit (sym same) (limited_fine rows fine)
+    subst HasLimit (sym same) (limited_asking rows fine)
 
 finished_check : (h : Held) → AreFine (settled check_rules h).rows → HasLimit (finished check_rules h)
 finished_check h fine =

@@ -145,8 +145,23 @@ searching name = with_rule (with_rule (with_rule (new_app name) explained) patie
 abbrev pub show : Rule
 show = counted (codes "show") MAX_LIMIT
 
+-- `--races`
+abbrev pub races : Rule
+races = record (new_rule (codes "races")) { long = Some (codes "races"); action = Some SetTrue }
+
+-- `--sync NAME`, which may stand several times
+abbrev pub sync : Rule
+sync = record (new_rule (codes "sync")) {
+  long = Some (codes "sync");
+  value_names = 1;
+  action = Some Append;
+}
+
+abbrev pub explore_options : App
+explore_options = with_rule (with_rule (with_rule (searching (codes "explore")) races) sync) limit
+
 abbrev pub explore : App
-explore = with_rule (with_rule (with_rule (searching (codes "explore")) limit) show) file
+explore = with_rule (with_rule explore_options show) file
 
 abbrev pub check : App
 check = with_rule (with_rule (searching (codes "check")) limit) files
@@ -307,6 +322,11 @@ wants_one rows = names_several rows && (names_input rows || is_given (codes "exp
 -- what is counted of a run by workers is asked for without workers
 abbrev pub counts_alone : List Row → Bool
 counts_alone rows = is_given (codes "stats") rows && not (is_given (codes "workers") rows)
+
+-- maps of locks are named without `--races`, or an outcome is asked for beside it
+abbrev pub do_part_races : List Row → Bool
+do_part_races rows = if is_given (codes "races") rows then is_given (codes "show") rows
+    else is_given (codes "sync") rows
 
 -- what is asked of a run without `--run`, or the listing beside it
 abbrev pub do_part : List Row → Bool

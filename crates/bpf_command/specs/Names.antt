@@ -9,9 +9,10 @@ use Rattle.hex.specs.Hex.{decode_of}
 use Rattle.clap.specs.Kinds.{IsAmong}
 use Rattle.clap.specs.Takes.{is_given}
 use Rattle.clap.specs.Words.{Row, Text, fault_of, first_of, kind_of, subcommand_of}
-use Rattle.bpf_command.specs.CommandLine.{NamesBudget, NamesLimit, NamesShown, NamesWorkers, IsRunnerName, counts_alone, do_clash, do_part, ebpf, given_texts, names_several, wants_one}
+use Rattle.bpf_command.specs.CommandLine.{NamesBudget, NamesLimit, NamesShown, NamesWorkers, IsRunnerName, counts_alone, do_clash, do_part, do_part_races, ebpf, given_texts, names_several, wants_one}
 use Rattle.bpf_command.specs.declared.command.RunOptions.{RunOptions}
 use Rattle.bpf_command.specs.declared.command.SearchOptions.{SearchOptions}
+use Rattle.bpf_command.specs.declared.command.RaceOptions.{RaceOptions}
 use Rattle.bpf_command.specs.declared.command.Command.{Command}
 use Rattle.bpf_command.specs.declared.command.Command.TheVariants as command
 use Rattle.bpf_command.specs.declared.command.Request.{Request}
@@ -52,6 +53,11 @@ abbrev pub NamesSearch : List Row → SearchOptions → Type 0
 NamesSearch rows options = NamesLimit rows options.limit
     × (options.patient ≡ is_given (codes "patient") rows)
 
+-- the options of a search for races
+abbrev pub NamesRaces : List Row → RaceOptions → Type 0
+NamesRaces rows options = NamesSearch rows options.search
+    × (map string_bytes options.sync.items ≡ given_texts (codes "sync") rows)
+
 -- the command that `clap` finds in the words: a subcommand's name, and what is found of its options
 abbrev pub Names : Option (Text × List Row) → Command → Type 0
 Names None _ = ⊥
@@ -84,9 +90,13 @@ Names (Some found) (command.Judge options) = (found.0 ≡ codes "run")
     × (is_given (codes "check") found.1 ≡ true)
 Names (Some found) (command.Explore options) = (found.0 ≡ codes "explore")
     × NamesSearch found.1 options × NamesShown found.1 None
+    × (do_part_races found.1 ≡ false) × (is_given (codes "races") found.1 ≡ false)
 Names (Some found) (command.Show options) = (found.0 ≡ codes "explore")
     × NamesSearch found.1 options.search × NamesShown found.1 (Some options.outcome)
-Names (Some found) (command.Races options) = ⊥
+    × (do_part_races found.1 ≡ false) × (is_given (codes "races") found.1 ≡ false)
+Names (Some found) (command.Races options) = (found.0 ≡ codes "explore")
+    × NamesRaces found.1 options
+    × (do_part_races found.1 ≡ false) × (is_given (codes "races") found.1 ≡ true)
 Names (Some found) (command.Check options) = (found.0 ≡ codes "check")
     × NamesSearch found.1 options
 Names (Some found) (command.Debug echo strict) = (found.0 ≡ codes "debug")
@@ -129,6 +139,7 @@ RefusesFound found error.NoWorkers = (found.0 ≡ codes "run") × (do_clash foun
     × (counts_alone found.1 ≡ true)
 RefusesFound found error.OneFile = (found.0 ≡ codes "check") × (wants_one found.1 ≡ true)
 RefusesFound found error.NoRun = (found.0 ≡ codes "asm") × (do_part found.1 ≡ true)
+RefusesFound found error.NoRaces = (found.0 ≡ codes "explore") × (do_part_races found.1 ≡ true)
 RefusesFound found error.NoCode = (found.0 ≡ codes "explain")
     × (option_and_then code_of (first_of (codes "code") found.1) ≡ None)
 RefusesFound found error.OutOfMemory = Unit {0}

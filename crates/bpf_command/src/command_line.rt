@@ -5,12 +5,12 @@ ghost use Rattle.bpf_codes.specs.Code.{code_of};
 ghost use Rattle.clap.specs.Kinds.{FailsBy};
 ghost use Rattle.clap.specs.Takes.{is_given};
 ghost use Rattle.clap.specs.Words.{fault_of, first_of, first_value, found_of, rows_of, subcommand_name_of, subcommand_of, subcommand_rows_of};
-ghost use Rattle.bpf_command.specs.CommandLine.{ebpf, counts_alone, do_clash, do_part, HasBudget, HasLimit, HasShown, HasWorkers, IsCommandName, IsRunnerName, IsSearchName, IsWorkName, names_several, NamesBudget, NamesLimit, NamesShown, NamesWorkers, wants_one};
-ghost use Rattle.bpf_command.specs.Names.{Asks, AsksBy, file_in, IsContext, IsSchedule, Names, NamesRun, NamesSearch, Refuses, RefusesContext, RefusesFlags, RefusesFound, RefusesSchedule, as_flags, flag_of};
+ghost use Rattle.bpf_command.specs.CommandLine.{ebpf, counts_alone, do_clash, do_part, do_part_races, HasBudget, HasLimit, HasShown, HasWorkers, IsCommandName, IsRunnerName, IsSearchName, IsWorkName, names_several, NamesBudget, NamesLimit, NamesShown, NamesWorkers, wants_one};
+ghost use Rattle.bpf_command.specs.Names.{Asks, AsksBy, file_in, IsContext, IsSchedule, Names, NamesRaces, NamesRun, NamesSearch, Refuses, RefusesContext, RefusesFlags, RefusesFound, RefusesSchedule, as_flags, flag_of};
 
 use crate::command::{
-    Command, FileOptions, HistoryOptions, JudgeOptions, MAX_LIMIT, MAX_WORKERS, Request,
-    RunOptions, SearchOptions, ShowOptions,
+    Command, FileOptions, HistoryOptions, JudgeOptions, MAX_LIMIT, MAX_WORKERS, RaceOptions,
+    Request, RunOptions, SearchOptions, ShowOptions,
 };
 use crate::given::{given_texts, names_input, names_several};
 use crate::options::ebpf_command;
@@ -42,6 +42,8 @@ pub enum CommandError {
     OneFile,
     /// What is asked of a run stands without `--run`, or the listing beside it.
     NoRun,
+    /// Maps of locks are named without `--races`, or an outcome is asked for beside it.
+    NoRaces,
     /// The page is asked for of a code that the program doesn't print.
     NoCode,
     OutOfMemory,
@@ -287,15 +289,48 @@ fn search_of(options: &ArgMatches) -> SearchOptions
     }
 }
 
-fn explore_of(options: &ArgMatches) -> Command
+/// The options of a search for races.
+fn races_of(alloc: Global, options: &ArgMatches) -> Result<RaceOptions, CommandError>
+    requires limited { HasLimit (rows_of (found_of options.now)) }
+    ensures named { IfOk result (NamesRaces (rows_of (found_of options.now))) }
+    ensures memory { IsOkUnless result CommandError.OutOfMemory }
+{
+    let sync = given_texts(alloc, options, "sync")?;
+    Ok(RaceOptions {
+        search: search_of(options),
+        sync,
+    })
+}
+
+/// Whether maps of locks are named without `--races`, or an outcome is asked for beside it.
+fn do_part_races(options: &ArgMatches) -> bool
+    ensures { result ≡ do_part_races (rows_of (found_of options.now)) }
+{
+    if is_given(options, "races") {
+        is_given(options, "show")
+    } else {
+        is_given(options, "sync")
+    }
+}
+
+fn explore_of(alloc: Global, options: &ArgMatches) -> Result<Command, CommandError>
     requires limited { HasLimit (rows_of (found_of options.now)) }
     requires shown { HasShown (rows_of (found_of options.now)) }
-    ensures { Names (Some (codes "explore", rows_of (found_of options.now))) result }
+    ensures named { IfOk result (Names (Some (codes "explore", rows_of (found_of options.now)))) }
+    ensures refused { IfErr result
+        (RefusesFound (codes "explore", rows_of (found_of options.now))) }
 {
+    if do_part_races(options) {
+        return Err(CommandError::NoRaces);
+    }
+    if is_given(options, "races") {
+        let races = races_of(alloc, options)?;
+        return Ok(Command::Races(races));
+    }
     let search = search_of(options);
     match shown_of(options) {
-        Some(outcome) => Command::Show(ShowOptions { outcome, search }),
-        None => Command::Explore(search),
+        Some(outcome) => Ok(Command::Show(ShowOptions { outcome, search })),
+        None => Ok(Command::Explore(search)),
     }
 }
 
@@ -315,7 +350,7 @@ fn named(alloc: Global, name: &str, options: &ArgMatches) -> Result<Command, Com
             pc: is_given(options, "pc"),
         }),
         "run" => run_of(alloc, options),
-        "explore" => Ok(explore_of(options)),
+        "explore" => explore_of(alloc, options),
         "check" => Ok(Command::Check(search_of(options))),
         _ => Ok(Command::Debug {
             echo: is_given(options, "echo"),

@@ -3,7 +3,7 @@
 ghost use Rattle.std.specs.Prelude.{◌≡◌, false, IfOk};
 ghost use Rattle.clap.specs.Words.{app_of, rule_of, shape_of};
 ghost use Rattle.clap.specs.declared.builder.command.Command.TheViews.{out-Command as fields_of};
-ghost use Rattle.bpf_command.specs.CommandLine.{asm, asm_shows, bare, budget, check, code_rule, context, debug, debug_options, disasm, ebpf, echo, events, explain, explained, explore, file, files, for_files, hex, hex_options, judged, json, keys, limit, listing, maps, one_program, patient, pc, run, run_lists, run_options, run_shows, runs, schedule, searching, show, stats, strict, workers, working};
+ghost use Rattle.bpf_command.specs.CommandLine.{asm, asm_shows, bare, budget, check, code_rule, context, debug, debug_options, disasm, ebpf, echo, events, explain, explained, explore, explore_options, file, files, for_files, hex, hex_options, judged, json, keys, limit, listing, maps, one_program, patient, pc, races, run, run_lists, run_options, run_shows, runs, schedule, searching, show, stats, strict, sync, workers, working};
 
 use crate::command::{MAX_LIMIT, MAX_WORKERS};
 use bpf_base::MAX_BUDGET;
@@ -515,14 +515,45 @@ fn searching<'a>(alloc: Global, name: &'static str) -> Result<Command<'a>, Alloc
         .arg(json_option(alloc))
 }
 
-fn explore_command<'a>(alloc: Global) -> Result<Command<'a>, AllocError>
-    ensures shape { IfOk result (λ c. shape_of c ≡ explore.top) }
+fn races_option<'a>(alloc: Global) -> Arg<'a>
+    ensures rule { rule_of result ≡ races }
+    ensures own { result.global ≡ false }
+{
+    Arg::new(alloc, "races")
+        .long("races")
+        .action(ArgAction::SetTrue)
+        .help("Prints the data races of all orders of turns in place of the outcomes")
+}
+
+fn sync_option<'a>(alloc: Global) -> Arg<'a>
+    ensures rule { rule_of result ≡ sync }
+    ensures own { result.global ≡ false }
+{
+    Arg::new(alloc, "sync")
+        .long("sync")
+        .value_name("NAME")
+        .action(ArgAction::Append)
+        .help("With --races: the map's values are locks or the like, no race for them is printed")
+}
+
+/// The command `explore` before the outcome that is shown and its file.
+fn explore_options<'a>(alloc: Global) -> Result<Command<'a>, AllocError>
+    ensures shape { IfOk result (λ c. shape_of c ≡ explore_options.top) }
     ensures own { IfOk result (λ c. (fields_of c).has_globals ≡ false) }
 {
     searching(alloc, "explore")?
         .about("Finds all that the jobs of a run file can come to, by every order of turns")
         .after_help(EXPLORE_NOTES)
-        .arg(limit_option(alloc))?
+        .arg(races_option(alloc))?
+        .arg(sync_option(alloc))?
+        .arg(limit_option(alloc))
+}
+
+fn explore_command<'a>(alloc: Global) -> Result<Command<'a>, AllocError>
+    ensures shape { IfOk result (λ c. shape_of c ≡ explore.top) }
+    ensures own { IfOk result (λ c. (fields_of c).has_globals ≡ false) }
+{
+    explore_options(alloc)?
         .arg(show_option(alloc))?
         .arg(file_argument(alloc))
 }
