@@ -101,6 +101,12 @@ Behind them stands a line 'hung by' for each state from which no turns lead to a
 on its way, with a schedule that leads there; and 'budgets can run out' where some schedule uses a
 budget up, or 'budgets may run out' where that couldn't be told.
 
+With --races the data races of all these orders are printed in place of outcomes: two CPUs whose
+next steps touch one byte of a value, at least one to write it, and not both by an atomic operation.
+A line has the CPUs with their pcs, the map and the key ('deleted' where none leads to the value),
+and a schedule that leads there; the last one says whether these are all. Races for values of a map
+that --sync names are left out. --sync goes beside --races alone, and --show doesn't.
+
 For example
   $ ebpf explore examples/first-insert.run
   by 0*11 1*11
@@ -112,13 +118,19 @@ For example
   job 1 cpu 1 r0=0
   map winner 00000000=0100000000000000
   all: 2 outcomes, 20 states
+  $ ebpf explore --races examples/lost-update.run
+  race cpu 0 pc 18 cpu 1 pc 16 map counter 00000000 by 0*16 1*14
+  race cpu 0 pc 16 cpu 1 pc 18 map counter 00000000 by 0*14 1*16
+  race cpu 0 pc 18 cpu 1 pc 18 map counter 00000000 by 0*16 1*16
+  all: 3 races
 
 Exit status:
-  0  all outcomes are printed, and in each all jobs ended with an r0
+  0  all outcomes are printed, and in each all jobs ended with an r0; with --races: there is no race
   1  the run file is refused, there is no outcome of that number, or the output failed
   2  the command line is at fault
-  3  all outcomes are printed, and in one a job ended in a fault or out of budget
-  4  the search met its limit: not all outcomes are printed";
+  3  all outcomes are printed, and in one a job ended in a fault or out of budget; with --races:
+     all races are printed, and there is one
+  4  the search met its limit: not all outcomes are printed, or not all races";
 
 const CHECK_NOTES: &str = "\
 A comment of the run file says what is expected: '; always LINE', '; sometimes LINE' or '; never
@@ -209,7 +221,7 @@ Exit status:
   1  the input is refused, and the refusal printed, or the output failed
   2  the command line is at fault
   3  the program, or a job, ended in a fault or out of budget; of check: a test isn't ok
-  4  the search met its limit: not all outcomes are printed, or not all tests could be told";
+  4  the search met its limit: not all outcomes or races are printed, or not all tests could be told";
 
 /// Where a command's input is read from.
 fn file_argument<'a>(alloc: Global) -> Arg<'a>
@@ -533,7 +545,9 @@ fn sync_option<'a>(alloc: Global) -> Arg<'a>
         .long("sync")
         .value_name("NAME")
         .action(ArgAction::Append)
-        .help("With --races: the map's values are locks or the like, no race for them is printed")
+        .help(
+            "With --races: leaves out races for this map's values, as locks; may stand several times",
+        )
 }
 
 /// The command `explore` before the outcome that is shown and its file.
