@@ -3,6 +3,7 @@ pub mod Clashing
 pub mod Accesses
 pub mod Touching
 pub mod Texts
+pub mod Syncs
 pub mod Nexts
 pub mod GatherLaws
 pub mod Searching

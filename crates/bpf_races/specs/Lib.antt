@@ -3,4 +3,5 @@ pub mod Next
 pub mod Searched
 pub mod Races
 pub mod Lines
+pub mod Sync
 pub mod Private

@@ -44,7 +44,17 @@ race_lines names zero races = []
 race_lines names (suc n) races =
     race_lines names n races ++ race_text names (slice_index_or races n no_race)
 
--- and a line where they aren't all
+-- whether they are all, and how many they are
+abbrev pub all_text : Bool → List ℕ
+all_text all = if all then codes "all" else codes "not all"
+
+abbrev pub count_text : ℕ → List ℕ
+count_text count = codes ": " ++ (decimal count ++ codes " races\n")
+
+abbrev pub last_line : Bool → ℕ → List ℕ
+last_line all count = all_text all ++ count_text count
+
+-- a line a race, and the last one behind them
 abbrev pub races_text : List (List ℕ) → List RaceFound → Bool → List ℕ
 races_text names races all =
-    race_lines names (length races) races ++ (if all then [] else codes "not all races\n")
+    race_lines names (length races) races ++ last_line all (length races)

@@ -10,6 +10,7 @@ mod next;
 mod search;
 mod searched;
 mod shape;
+mod sync;
 
 pub use access::Access;
 pub use found::Race;
@@ -18,3 +19,4 @@ pub use listing::list_races;
 pub use next::{Next, Watcher};
 pub use search::{Races, find_races, find_races_patiently};
 pub use searched::Searched;
+pub use sync::synced_maps;

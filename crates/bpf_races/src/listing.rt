@@ -1,7 +1,7 @@
 //! Races as they are printed.
 
-ghost use Rattle.std.specs.Prelude.{◌≡◌, ◌++◌, [], IfOk, OnOk, codes, if◌then◌else◌, length, map, option_map, slice_index_or, string_bytes};
-ghost use Rattle.bpf_races.specs.Lines.{key_text, places_text, race_lines, race_text, races_text, value_text};
+ghost use Rattle.std.specs.Prelude.{◌≡◌, ◌++◌, [], IfOk, OnOk, map, option_map, slice_index_or, string_bytes};
+ghost use Rattle.bpf_races.specs.Lines.{all_text, count_text, key_text, last_line, places_text, race_lines, race_text, races_text, value_text};
 
 use crate::clash::map_at;
 use crate::found::Race;
@@ -78,14 +78,32 @@ fn push_race(
     Ok(())
 }
 
-/// What is said of races that aren't all.
+/// Whether the races are all.
 fn whether_all(all: bool) -> &'static str
-    ensures { result.now ≡ (if all then [] else codes "not all races\n") }
+    ensures { result.now ≡ all_text all }
 {
-    if all { "" } else { "not all races\n" }
+    if all { "all" } else { "not all" }
 }
 
-/// A line a race, and one where they aren't all.
+/// Puts the end of the last line behind the text.
+fn push_count(alloc: Global, text: &mut String, count: usize) -> Result<(), AllocError>
+    ensures { OnOk result (string_bytes text.new ≡ string_bytes text.old ++ count_text count) }
+{
+    let line = format!(in alloc; ": {count} races\n")?;
+    text.push_str(line.as_str())?;
+    Ok(())
+}
+
+/// Puts the last line behind the text.
+fn push_last(alloc: Global, text: &mut String, all: bool, count: usize) -> Result<(), AllocError>
+    ensures { OnOk result (string_bytes text.new ≡ string_bytes text.old ++ last_line all count) }
+{
+    text.push_str(whether_all(all))?;
+    push_count(alloc, text, count)?;
+    Ok(())
+}
+
+/// A line a race, and one that says whether they are all, and how many they are.
 pub fn list_races(alloc: Global, names: &[String], races: &Races) -> Result<String, AllocError>
     ensures { IfOk result (λ text. string_bytes text
         ≡ races_text (map string_bytes names.now) races.now.list.items races.now.all) }
@@ -94,6 +112,6 @@ pub fn list_races(alloc: Global, names: &[String], races: &Races) -> Result<Stri
     for race in &races.list {
         push_race(alloc, &mut text, names, race)?;
     }
-    text.push_str(whether_all(races.all))?;
+    push_last(alloc, &mut text, races.all, races.list.len())?;
     Ok(text)
 }
