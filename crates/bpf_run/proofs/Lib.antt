@@ -6,6 +6,7 @@ pub mod ReplyLemmas
 pub mod OneReply
 pub mod OneExplored
 pub mod SeenAgain
+pub mod Raced
 pub mod OneDebug
 pub mod Followed
 pub mod FreshFiles

@@ -1,5 +1,5 @@
 -- What each command replies to the text that it read.
-use Rattle.std.specs.Prelude.{◌≡◌, ◌≢◌, ◌≤◌, ◌<◌, ◌⊎◌, ◌/◌, ℕ, Bool, true, false, List, [], All, None, Err, Ok, IsUtf8, length, string_bytes, String}
+use Rattle.std.specs.Prelude.{◌≡◌, ◌≢◌, ◌≤◌, ◌<◌, ◌⊎◌, ◌/◌, ℕ, Bool, true, false, List, [], All, None, Err, Ok, IsUtf8, length, map, string_bytes, String}
 use Rattle.std.specs.declared.alloc.Global.{Global}
 use Rattle.bpf_insn.specs.declared.instruction.Insn.{Insn}
 use Rattle.bpf_insn.specs.Encoding.{IsEncodedAs}
@@ -11,6 +11,7 @@ use Rattle.bpf_cpu.specs.State.{start}
 use Rattle.bpf_cpu.specs.Step.{Explains}
 use Rattle.bpf_run.specs.Checking.{IsCheckedFile}
 use Rattle.bpf_run.specs.Exploring.{IsExploredFile, IsShownFile}
+use Rattle.bpf_run.specs.Racing.{IsRacesFile}
 use Rattle.bpf_run.specs.Running.{IsHistoryOfFile, IsJudgedOfFile, IsRunBy}
 use Rattle.bpf_run.specs.Script.{IsScriptOfFile}
 use Rattle.bpf_insn.specs.declared.error.InsnError.TheVariants as insn_error
@@ -134,6 +135,8 @@ IsAnswer (command.Judge options) text r = IsJudgedOfFile options.by.items option
 IsAnswer (command.Explore options) text r = IsExploredFile options.patient options.limit text r
 IsAnswer (command.Show options) text r =
     IsShownFile options.search.patient options.search.limit options.outcome text r
+IsAnswer (command.Races options) text r =
+    IsRacesFile options.search.patient (map string_bytes options.sync.items) text r
 IsAnswer (command.Check options) text r = IsCheckedFile options.patient options.limit text r
 
 -- it asks for no workers
@@ -145,6 +148,7 @@ IsForOneThread _ = Unit {0}
 abbrev pub IsForOneSchedule : Command → Type 0
 IsForOneSchedule (command.Explore options) = ⊥
 IsForOneSchedule (command.Show options) = ⊥
+IsForOneSchedule (command.Races options) = ⊥
 IsForOneSchedule (command.Check options) = ⊥
 IsForOneSchedule _ = Unit {0}
 

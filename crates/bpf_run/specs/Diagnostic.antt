@@ -29,6 +29,7 @@ refusal_diagnostic (refusal.Text error) = text_diagnostic error
 refusal_diagnostic (refusal.Insn error) = insn_diagnostic error
 refusal_diagnostic (refusal.Load error) = load_diagnostic error
 refusal_diagnostic (refusal.File line why) = reason_diagnostic why
+refusal_diagnostic refusal.NoMap = nowhere code.G3
 refusal_diagnostic refusal.JobsOutOfMemory = nowhere code.J4
 refusal_diagnostic refusal.OutOfMemory = nowhere code.L9
 

@@ -2,6 +2,7 @@ pub mod Answer
 pub mod Commands
 pub mod Running
 pub mod Exploring
+pub mod Racing
 pub mod Checking
 pub mod Several
 pub mod Script

@@ -72,6 +72,7 @@ IsPrintedAs command_error.TwoWays r = ⊥
 IsPrintedAs command_error.NoWorkers r = ⊥
 IsPrintedAs command_error.OneFile r = ⊥
 IsPrintedAs command_error.NoRun r = ⊥
+IsPrintedAs command_error.NoRaces r = ⊥
 
 -- what is wrong with words in which `clap` finds no fault
 abbrev pub error_of : Misuse → CommandError
@@ -81,6 +82,7 @@ error_of misuse.TwoWays = command_error.TwoWays
 error_of misuse.Workers = command_error.NoWorkers
 error_of misuse.OneFile = command_error.OneFile
 error_of misuse.Run = command_error.NoRun
+error_of misuse.Races = command_error.NoRaces
 
 -- ---- what is left to do
 

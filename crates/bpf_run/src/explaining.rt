@@ -47,6 +47,8 @@ pub enum Subject {
     Schedules,
     /// One outcome of these.
     Shown,
+    /// The data races of them.
+    Races,
     /// What a run file expects of them.
     Tests,
 }
@@ -92,6 +94,7 @@ impl Subject {
             Command::Judge(_) => Subject::Tests,
             Command::Debug { .. } => Subject::Script,
             Command::Explore(_) => Subject::Schedules,
+            Command::Races(_) => Subject::Races,
             Command::Check(_) => Subject::Tests,
         }
     }
@@ -106,6 +109,7 @@ impl Subject {
             | Subject::Script
             | Subject::Schedules
             | Subject::Shown
+            | Subject::Races
             | Subject::Tests => Language::RunFile,
         }
     }

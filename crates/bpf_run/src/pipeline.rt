@@ -11,6 +11,7 @@ ghost use Rattle.bpf_run.specs.declared.reply.Reply.{Reply};
 use crate::checking::check_file;
 use crate::exploring::{explore_file, show_file};
 use crate::listing::word_lines;
+use crate::racing::race_file;
 use crate::refusal::Refusal;
 use crate::reply::Reply;
 use crate::running::{judge_file, run_file, run_file_by_workers, run_file_with_history};
@@ -202,6 +203,7 @@ pub fn reply(alloc: Global, command: Command, text: &str) -> Reply
         Command::Judge(JudgeOptions { by, keys }) => judge_file(alloc, &by, keys, text),
         Command::Explore(search) => explore_file(alloc, search, text),
         Command::Show(ShowOptions { outcome, search }) => show_file(alloc, search, outcome, text),
+        Command::Races(options) => race_file(alloc, options, text),
         Command::Check(search) => check_file(alloc, search, text),
     }
 }

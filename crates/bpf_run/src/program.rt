@@ -43,6 +43,8 @@ pub enum Misuse {
     OneFile,
     /// What is asked of a run stands without `--run`, or the listing beside it.
     Run,
+    /// Maps of locks are named without `--races`, or an outcome is asked for beside it.
+    Races,
 }
 
 impl Misuse {
@@ -55,6 +57,7 @@ impl Misuse {
             Misuse::Workers => NO_WORKERS,
             Misuse::OneFile => ONE_FILE,
             Misuse::Run => NO_RUN,
+            Misuse::Races => NO_RACES,
         }
     }
 }
@@ -105,6 +108,11 @@ const NO_RUN: &str = "\
 '--budget' and '--ctx' go beside '--run' alone, and '--listing' doesn't
 
 For more information, try 'ebpf asm --help'.";
+
+const NO_RACES: &str = "\
+'--sync' goes beside '--races' alone, and '--show' doesn't
+
+For more information, try 'ebpf explore --help'.";
 
 /// The exit status after a fault of the command line.
 pub const USAGE: u8 = 2;
@@ -196,6 +204,7 @@ fn follow<T: Threads + Wait + Sync, R: Source, W: Sink>(
         Err(CommandError::NoWorkers) => return Ending::Misused(Misuse::Workers),
         Err(CommandError::OneFile) => return Ending::Misused(Misuse::OneFile),
         Err(CommandError::NoRun) => return Ending::Misused(Misuse::Run),
+        Err(CommandError::NoRaces) => return Ending::Misused(Misuse::Races),
         Err(CommandError::NotHex) => Refusal::Hex(HexError::NotHex),
         Err(CommandError::OutOfMemory) => Refusal::OutOfMemory,
     };

@@ -27,6 +27,8 @@ pub enum Refusal {
     Load(LoadError),
     /// A line of a run file, counted from 1.
     File(usize, Reason),
+    /// No map of the run file has a name that was given.
+    NoMap,
     /// The jobs that workers were to run found no memory before the first of them began.
     JobsOutOfMemory,
     /// The command line, the output or the CPU found no memory.
@@ -48,6 +50,7 @@ impl Refusal {
             Refusal::Insn(error) => error.diagnostic(),
             Refusal::Load(error) => error.diagnostic(),
             Refusal::File(_, reason) => reason.diagnostic(),
+            Refusal::NoMap => Diagnostic::new(Code::G3),
             Refusal::JobsOutOfMemory => Diagnostic::new(Code::J4),
             Refusal::OutOfMemory => Diagnostic::new(Code::L9),
         }

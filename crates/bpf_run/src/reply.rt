@@ -13,9 +13,9 @@ pub enum Status {
     Refused,
     /// The output couldn't be written.
     Failed,
-    /// A program was run to a fault, or out of its budget; or a test isn't ok.
+    /// A program was run to a fault, or out of its budget; a test isn't ok; or a data race is there.
     Stopped,
-    /// Not all outcomes were found, or not all tests could be told.
+    /// Not all outcomes or races were found, or not all tests could be told.
     Incomplete,
 }
 
@@ -64,10 +64,11 @@ pub enum Reply {
         /// Whether a command is refused, where that is asked for.
         refused: bool,
     },
-    /// The lines of outcomes, or of tests of them.
+    /// The lines of outcomes, of tests of them, or of data races.
     Outcomes {
         text: String,
-        /// Whether in one of them a job ended in a fault or out of budget, or a test isn't ok.
+        /// Whether in one of them a job ended in a fault or out of budget, or a test isn't ok; of
+        /// races whether there is one.
         stopped: bool,
         /// Whether they are all, or all that tests ask was told.
         all: bool,

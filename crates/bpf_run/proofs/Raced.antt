@@ -1,0 +1,14 @@
+-- What is told of races is told of the file that the text says.
+use Rattle.std.proofs.Common.{Bool, ℕ, List, Ok, map, string_bytes, String}
+use Rattle.std.specs.declared.alloc.Global.{Global}
+use Rattle.bpf_file.specs.declared.file.RunFile.{RunFile}
+use Rattle.bpf_file.specs.File.{file_of}
+use Rattle.bpf_file.specs.Reading.{IsRunFile}
+use Rattle.bpf_races.specs.Sync.{AreMapsOf}
+use Rattle.bpf_run.specs.Racing.{IsRacesFile, TellsRaces}
+use Rattle.bpf_run.specs.declared.reply.Reply.TheVariants as reply
+
+pub raced : (patient : Bool) (sync : List (List ℕ)) (text : List ℕ) (file : RunFile) (numbers : List ℕ) (printed : String Global) (any all : Bool)
+    → IsRunFile text (Ok (file_of file)) → AreMapsOf (map string_bytes file.names.items) sync numbers → TellsRaces patient (file_of file) numbers (string_bytes printed) any all
+    → IsRacesFile patient sync text (reply.Outcomes printed any all)
+raced patient sync text file numbers printed any all said maps told = (file_of file, numbers, said, maps, told)

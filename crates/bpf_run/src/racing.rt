@@ -1,0 +1,110 @@
+//! `ebpf explore --races`: every data race of a run file's jobs, whatever the order of the CPUs' turns.
+
+ghost use Rattle.std.specs.Prelude.{◌≡◌, ◌<◌, ◌≤◌, All, IfOk, map, string_bytes, vec_len};
+ghost use Rattle.bpf_mem.specs.Limits.{max_context};
+ghost use Rattle.bpf_cpu.specs.Task.{waiting};
+ghost use Rattle.bpf_file.specs.File.{file_of};
+ghost use Rattle.bpf_file.specs.Runnable.{IsRunnable};
+ghost use Rattle.bpf_jobs.specs.Printed.{first_world};
+ghost use Rattle.bpf_races.specs.Races.{AreRaces};
+ghost use Rattle.bpf_run.specs.Racing.{IsRacesFile, TellsRaces, is_any_race};
+
+use crate::refusal::Refusal;
+use crate::reply::Reply;
+use crate::running::file_in;
+use bpf_command::{RaceOptions, SearchOptions};
+use bpf_cpu::Job;
+use bpf_file::RunFile;
+use bpf_loader::Program;
+use bpf_races::{Races, find_races, find_races_patiently, list_races, synced_maps};
+use bpf_shared::StoreShape;
+use std::alloc::{AllocError, Global};
+
+/// What is told of races.
+struct Told {
+    text: String,
+    /// Whether there is one.
+    raced: bool,
+    /// Whether they are all.
+    all: bool,
+}
+
+/// Whether there is some race.
+fn is_any_race(races: &Races) -> bool
+    ensures { result ≡ is_any_race races.now.list.items }
+{
+    !races.list.is_empty()
+}
+
+/// The races of jobs, by either search.
+fn races_of(
+    alloc: Global,
+    options: SearchOptions,
+    shape: StoreShape,
+    programs: Vec<Program>,
+    jobs: Vec<Job>,
+    sync: &[usize],
+) -> Result<Races, AllocError>
+    requires cpus { All (λ job. job.cpu < shape.cpus) jobs.items }
+    requires programs { All (λ job. job.program < vec_len programs) jobs.items }
+    requires contexts { All (λ job. vec_len job.context ≤ max_context) jobs.items }
+    ensures { IfOk result (λ r. AreRaces options.patient
+        (first_world shape programs.items (map waiting jobs.items)) sync.now r.list.items r.all) }
+{
+    let limit = options.limit as usize;
+    if options.patient {
+        find_races_patiently(alloc, shape, programs, jobs, sync, limit)
+    } else {
+        find_races(alloc, shape, programs, jobs, sync, limit)
+    }
+}
+
+/// What is told of the races of a file's jobs, but for those at values of these maps.
+fn tell_races(
+    alloc: Global,
+    options: SearchOptions,
+    sync: &[usize],
+    file: RunFile,
+) -> Result<Told, AllocError>
+    requires { IsRunnable file }
+    ensures { IfOk result (λ told. TellsRaces options.patient (file_of file) sync.now
+        (string_bytes told.text) told.raced told.all) }
+{
+    let RunFile {
+        shape,
+        names,
+        programs,
+        jobs,
+        ..
+    } = file;
+    let races = races_of(alloc, options, shape, programs, jobs, sync)?;
+    let text = list_races(alloc, &names, &races)?;
+    let raced = is_any_race(&races);
+    let all = races.all;
+    Ok(Told { text, raced, all })
+}
+
+/// `ebpf explore --races`.
+#[tactic(auto, using(crate::proofs::Raced::raced))]
+pub fn race_file(alloc: Global, options: RaceOptions, text: &str) -> Reply
+    ensures { IsRacesFile options.search.patient (map string_bytes options.sync.items) text.now
+        result }
+{
+    let file = match file_in(alloc, text) {
+        Ok(file) => file,
+        Err(refusal) => return Reply::Refused(refusal),
+    };
+    let numbers = match synced_maps(alloc, &file.names, &options.sync) {
+        Ok(Some(numbers)) => numbers,
+        Ok(None) => return Reply::Refused(Refusal::NoMap),
+        Err(_) => return Reply::Refused(Refusal::OutOfMemory),
+    };
+    match tell_races(alloc, options.search, &numbers, file) {
+        Ok(Told { text, raced, all }) => Reply::Outcomes {
+            text,
+            stopped: raced,
+            all,
+        },
+        Err(_) => Reply::Refused(Refusal::OutOfMemory),
+    }
+}
