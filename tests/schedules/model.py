@@ -7,12 +7,14 @@ written down here after docs/reference/machine.md.
 """
 
 import random
+from itertools import combinations
 
 WORD = 2**64
 EEXIST, ENOENT, E2BIG, ENOMEM = WORD - 17, WORD - 2, WORD - 7, WORD - 12
 ANSWERS = {0: "done", EEXIST: "EEXIST", ENOENT: "ENOENT", E2BIG: "E2BIG", ENOMEM: "ENOMEM"}
 KEY, VALUE = "key", "value"
 NO_CPU = frozenset()
+ACCESSES = ("load", "store", "add", "fetch_add", "exchange", "compare")
 # Steps that are left in a job's budget before each turn, where none is ever used up.
 ENOUGH = 2
 
@@ -290,6 +292,46 @@ class File:
             state = self.after(state, cpu) or state
         return state
 
+    def access(self, state, cpu):
+        """The pc at which the CPU stands, the element that its next step touches, whether it writes that, and whether
+        it is atomic; or none where it touches none."""
+        hand = state[1][cpu]
+        if hand is None or not hand[4]:
+            return None
+        job, pc, registers, _, _, held = hand
+        kind, *operands = self.jobs[job][1].at[pc]
+        if kind not in ACCESSES:
+            return None
+        values = {f"r{n}": number for n, number in enumerate(registers)}
+        pointer = values[operands[1] if kind == "load" else operands[0]]
+        if not isinstance(pointer, tuple) or pointer[1] not in held:
+            return None
+        return pc, pointer[1], kind != "load", kind not in ("load", "store")
+
+    def races_in(self, state):
+        """The races in a state: two CPUs, each with its pc, and the key of the value for which they race."""
+        keys = {place: key.to_bytes(4, "little").hex() for key, place in state[0][0]}
+        touched = [(cpu, *access) for cpu in range(self.cpus) if (access := self.access(state, cpu))]
+        return {
+            (cpu, pc, other, other_pc): keys.get(place, "deleted")
+            for (cpu, pc, place, writes, atomic), (other, other_pc, its, writes_too, atomic_too) in combinations(touched, 2)
+            if place == its and (writes or writes_too) and not (atomic and atomic_too)
+        }
+
+    def races(self, turn, most):
+        """The races in all states that such turns lead to, or none where there are more states than so many."""
+        seen, races, waiting = set(), set(), [self.first()]
+        while waiting:
+            state = waiting.pop()
+            if state in seen:
+                continue
+            seen.add(state)
+            if len(seen) > most:
+                return None
+            races |= self.races_in(state).keys()
+            waiting += [after for cpu in range(self.cpus) if (after := turn(state, cpu)) is not None]
+        return races
+
     def events(self, state, cpu):
         """What the CPU does at the map in its next turn, a line each, and whether its job ends."""
         (keys, elements, running), hands, _ = state
@@ -322,7 +364,7 @@ class File:
                 value = frame[1].to_bytes(8, "little").hex()
                 return [f"update m {key} {value} flags {registers[4]} = {ANSWERS[answer]}"]
             return [f"delete m {key} = {ANSWERS[answer]}"] if operands[0] == 3 else []
-        if kind not in ("load", "store", "add", "fetch_add", "exchange", "compare"):
+        if kind not in ACCESSES:
             return []
         values = {f"r{n}": number for n, number in enumerate(registers)}
         element = values[operands[1] if kind == "load" else operands[0]][1]
