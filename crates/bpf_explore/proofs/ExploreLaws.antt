@@ -17,7 +17,9 @@ use Rattle.bpf_machine.specs.Cover.{IsShown}
 use Rattle.bpf_jobs.specs.Printed.{first_world}
 use Rattle.bpf_explore.specs.Laws.{CoverTellsAll}
 use Rattle.bpf_explore.specs.Outcomes.{Found, AreOutcomes, IsExplored}
-use Rattle.bpf_explore.specs.Search.{CoversAll, Extends}
+use Rattle.bpf_explore.specs.Search.{CoversAll, Extends, is_whole, is_refused}
+use Rattle.bpf_explore.specs.declared.frontier.Extent.{Extent}
+use Rattle.bpf_explore.specs.declared.frontier.Extent.TheVariants.{Whole, Limited, Refused}
 use Rattle.bpf_explore.specs.Stores.{IsOfShape}
 use Rattle.bpf_explore.specs.Album.{ShowsFirst, AreApart, AreLed}
 use Rattle.bpf_explore.proofs.TrailLaws.{are_reached}
@@ -59,13 +61,35 @@ pub still_there : (old new : List MachineState) (m : MachineState) → ShowsFirs
 still_there old new m (one, at, shows) more =
     slice_get_within new 0 one (ap (λ (ms : List MachineState). slice_get ms 0) more.1 ∙ (slice_get-front old more.0 0 (slice_get_within old 0 one at) ∙ at))
 
-pub explored : CoverTellsAll → (kept : List MachineState) (w : World) (names : List (List ℕ)) (maps : Bool) (answers : List Found) (all : Bool) (limit : ℕ) → IsFresh w → IsFirst kept w
-    → (all ≡ true → CoversAll false kept) → ((u : World) → IsFirst kept u → AreOutcomes u names maps answers) → ((i : ℕ) → IsAnsweredAt kept names maps answers i)
-    → (all ≡ false → limit < length kept) → AreLed kept → AreApart kept → IsExplored w names maps answers all limit (length kept)
-explored law kept w names maps answers all limit fresh first covers outcomes answered met led apart = record {
+-- ---- how far the search came
+pub whole_of : (e : Extent) → is_whole e ≡ true → e ≡ Whole
+whole_of Whole h = refl
+whole_of Limited h = cc
+whole_of Refused h = cc
+
+pub limited_of : (e : Extent) → is_whole e ≡ false → is_refused e ≡ false → e ≡ Limited
+limited_of Whole h n = cc
+limited_of Limited h n = refl
+limited_of Refused h n = cc
+
+pub refused_of : (e : Extent) → is_refused e ≡ true → e ≡ Refused
+refused_of Whole h = cc
+refused_of Limited h = cc
+refused_of Refused h = refl
+
+pub not_whole : (e : Extent) → is_refused e ≡ true → is_whole e ≡ false
+not_whole Whole h = cc
+not_whole Limited h = refl
+not_whole Refused h = refl
+
+pub explored : CoverTellsAll → (kept : List MachineState) (w : World) (names : List (List ℕ)) (maps : Bool) (answers : List Found) (extent : Extent) (limit : ℕ) → IsFresh w → IsFirst kept w
+    → (extent ≡ Whole → CoversAll false kept) → ((u : World) → IsFirst kept u → AreOutcomes u names maps answers) → ((i : ℕ) → IsAnsweredAt kept names maps answers i)
+    → (extent ≡ Limited → limit < length kept) → (extent ≡ Refused → length kept ≤ limit) → AreLed kept → AreApart kept → IsExplored w names maps answers (is_whole extent) (is_refused extent) limit (length kept)
+explored law kept w names maps answers extent limit fresh first covers outcomes answered met short led apart = record {
   outcomes = outcomes w first;
   complete = λ is. (let shown : IsShown kept w = (0, first.0, first.1, first.2) in
-      law kept w names maps answers (covers is) fresh shown (λ i m at ended. answered i m at ended));
+      law kept w names maps answers (covers (whole_of extent is)) fresh shown (λ i m at ended. answered i m at ended));
   counted = are_reached kept w first led apart;
-  met = met;
+  met = λ is not. met (limited_of extent is not);
+  short = λ is. (not_whole extent is, short (refused_of extent is));
 }

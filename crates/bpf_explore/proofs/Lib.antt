@@ -20,5 +20,5 @@ pub mod EdgeLaws
 pub mod TurnedLaws
 pub mod MarkLaws
 pub mod HungLaws
-pub mod PatienceLaws
 pub mod ExploreLaws
+pub mod PatienceLaws

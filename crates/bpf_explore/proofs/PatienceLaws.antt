@@ -12,7 +12,10 @@ use Rattle.bpf_machine.specs.Schedule.{World}
 use Rattle.bpf_explore.specs.Outcomes.{Found}
 use Rattle.bpf_machine.specs.Laws.{IsFresh}
 use Rattle.bpf_machine.specs.Cover.{IsShown}
-use Rattle.bpf_explore.specs.Search.{CoversAll}
+use Rattle.bpf_explore.specs.Search.{CoversAll, is_whole, is_refused}
+use Rattle.bpf_explore.specs.declared.frontier.Extent.{Extent}
+use Rattle.bpf_explore.specs.declared.frontier.Extent.TheVariants.{Whole, Limited, Refused}
+use Rattle.bpf_explore.proofs.ExploreLaws.{whole_of, limited_of, refused_of, not_whole}
 use Rattle.bpf_machine.specs.Ends.{AllCanEnd}
 use Rattle.bpf_explore.specs.declared.budgets.Budgets.{Budgets}
 use Rattle.bpf_explore.specs.declared.budgets.Budgets.TheVariants.{Suffice, RunOut}
@@ -106,23 +109,30 @@ all_gathered kept names maps place whole answers past far is i m at ended =
     let inside = slice_get_within kept i m at in
     far.answered is i (omega arith) m at ended
 
-pub explored_patiently : PatientTellAll → AllCanEnd → (kept : List MachineState) (w : World) (names : List (List ℕ)) (maps : Bool) (answers : List Found) (whole told fit both all : Bool) (limit : ℕ) (hung : List (List (ℕ × ℕ))) (budgets : Budgets) → IsFresh w → IsFirst kept w
-    → (whole ≡ true → IsClosedRichly kept) → (whole ≡ true → CoversAll true kept) → (whole ≡ false → limit < length kept)
+none_of_all : (all : Bool) → (all ≡ true → ⊥) → all ≡ false
+none_of_all true no = absurd (no refl)
+none_of_all false no = refl
+
+pub explored_patiently : PatientTellAll → AllCanEnd → (kept : List MachineState) (w : World) (names : List (List ℕ)) (maps : Bool) (answers : List Found) (extent : Extent) (whole told fit both all refused : Bool) (limit : ℕ) (hung : List (List (ℕ × ℕ))) (budgets : Budgets) → IsFresh w → IsFirst kept w
+    → whole ≡ is_whole extent → refused ≡ is_refused extent → (extent ≡ Whole → IsClosedRichly kept) → (extent ≡ Whole → CoversAll true kept) → (extent ≡ Limited → limit < length kept) → (extent ≡ Refused → length kept ≤ limit)
     → ((u : World) → IsFirst kept u → ArePatient u names maps answers) → (told ≡ true → (i : ℕ) → IsAnsweredAt kept names maps answers i) → (told ≡ false → CanRunOut kept)
     → AllHang kept hung → (whole ≡ true → fit ≡ true → hung ≡ [] → AllLead kept) → (fit ≡ false → CanRunOut kept)
     → (both ≡ true → (told ≡ true) × (fit ≡ true)) → (both ≡ false → (told ≡ false) ⊎ (fit ≡ false)) → (all ≡ true → (whole ≡ true) × (both ≡ true)) → (all ≡ false → (whole ≡ false) ⊎ (both ≡ false))
     → (budgets ≡ Suffice → NoneRunsOut kept) → (budgets ≡ RunOut → CanRunOut kept)
-    → AreLedFreely kept → AreApart kept → IsSearchedPatiently w names maps answers all limit (length kept) hung budgets
-explored_patiently law ends kept w names maps answers whole told fit both all limit hung budgets fresh first closed covers met outcomes answered untold hangs leads unfit two two_not every every_not suffice out led apart =
+    → AreLedFreely kept → AreApart kept → IsSearchedPatiently w names maps answers all refused limit (length kept) hung budgets
+explored_patiently law ends kept w names maps answers extent whole told fit both all refused limit hung budgets fresh first is_all is_cut closed covers met short outcomes answered untold hangs leads unfit two two_not every every_not suffice out led apart =
     let shown : IsShown kept w = (0, first.0, first.1, first.2) in
+    let whole_then : whole ≡ true → extent ≡ Whole = λ is. whole_of extent (sym is_all ∙ is) in
+    let not_then : refused ≡ true → whole ≡ false = λ is. is_all ∙ not_whole extent (sym is_cut ∙ is) in
     let no_fit : both ≡ false → CanRunOut kept = λ is. elim (two_not is) [ inl a ↦ untold a | inr a ↦ unfit a ] in
     record {
       outcomes = outcomes w first;
-      complete = λ is. (let a = every is in law kept w names maps answers (covers a.0) fresh shown (λ i m at ended. answered (two a.1).0 i m at ended));
+      complete = λ is. (let a = every is in law kept w names maps answers (covers (whole_then a.0)) fresh shown (λ i m at ended. answered (two a.1).0 i m at ended));
       counted = are_reached_freely kept w first led apart;
-      met = λ is. elim (every_not is) [ inl a ↦ inl (met a) | inr a ↦ inr (no_fit a w first) ];
+      met = λ is not. elim (every_not is) [ inl a ↦ inl (met (limited_of extent (sym is_all ∙ a) (sym is_cut ∙ not))) | inr a ↦ inr (no_fit a w first) ];
+      short = λ is. (none_of_all all (λ yes. (let a = every yes in let b = not_then is in cc)), short (refused_of extent (sym is_cut ∙ is)));
       are_hung = λ i by at. hangs i by at w fresh first;
-      none_hangs = λ is none schedule z runs well. (let a = every is in ends kept w z schedule (closed a.0) (λ i m at. leads a.0 (two a.1).1 none i m at) fresh shown runs well);
+      none_hangs = λ is none schedule z runs well. (let a = every is in ends kept w z schedule (closed (whole_then a.0)) (λ i m at. leads a.0 (two a.1).1 none i m at) fresh shown runs well);
       suffice = λ is may. suffice is w fresh first may;
       run_out = λ is. out is w first;
     }

@@ -1,5 +1,5 @@
 -- What jobs may come to, whatever the order of the CPUs' turns.
-use Rattle.std.specs.Prelude.{◌≡◌, ℕ, ◌<◌, Bool, true, false, List, Some, length, slice_get}
+use Rattle.std.specs.Prelude.{◌≡◌, ℕ, ◌<◌, ◌≤◌, Bool, true, false, List, Some, length, slice_get}
 use Rattle.std.specs.declared.cmp.Ordering.TheVariants.{Less}
 use Rattle.std.specs.Ordering.{nat_cmp}
 use Rattle.std.specs.Cmp.Lexicographic.{slice_cmp}
@@ -57,11 +57,12 @@ pub record AreReached (w : World) (states : ℕ) : Type 0 where
   pub apart : (i j : ℕ) (z : World) → slice_get worlds i ≡ Some z → slice_get worlds j ≡ Some z
       → i ≡ j
 
--- the answers, whether they are all, and how many states were kept: not all are told only where
--- these are more than the limit
+-- the answers, whether they are all, whether memory was refused to the search, and how many states were
+-- kept: not all are told only where these are more than the limit, or where memory was refused before
 pub record IsExplored (w : World) (names : List (List ℕ)) (maps : Bool) (answers : List Found)
-    (all : Bool) (limit states : ℕ) : Type 0 where
+    (all refused : Bool) (limit states : ℕ) : Type 0 where
   pub outcomes : AreOutcomes w names maps answers
   pub complete : all ≡ true → HaveAll w names maps answers
   pub counted : AreReached w states
-  pub met : all ≡ false → limit < states
+  pub met : all ≡ false → refused ≡ false → limit < states
+  pub short : refused ≡ true → (all ≡ false) × (states ≤ limit)

@@ -1,5 +1,5 @@
 -- Outcomes in which no job is out of budget.
-use Rattle.std.specs.Prelude.{◌≡◌, ℕ, ◌<◌, ◌⊎◌, Bool, true, false, List, [], Some, length, slice_get}
+use Rattle.std.specs.Prelude.{◌≡◌, ℕ, ◌<◌, ◌≤◌, ◌⊎◌, Bool, true, false, List, [], Some, length, slice_get}
 use Rattle.std.specs.declared.cmp.Ordering.TheVariants.{Less}
 use Rattle.std.specs.Ordering.{nat_cmp}
 use Rattle.std.specs.Cmp.Lexicographic.{slice_cmp}
@@ -68,15 +68,17 @@ NoneHangs w = (schedule : List ℕ) (z : World) → RunsSchedule w schedule z �
     → CanEnd z
 
 -- ---- the result of a patient search
--- the answers, whether they are all, how many states were kept, hung states, and whether some schedule
--- uses a budget up. Not all are told only where the states are more than the limit, or some schedule does
+-- the answers, whether they are all, whether memory was refused to the search, how many states were kept,
+-- hung states, and whether some schedule uses a budget up. Not all are told only where the states are more
+-- than the limit, where memory was refused before, or where some schedule does
 pub record IsSearchedPatiently (w : World) (names : List (List ℕ)) (maps : Bool)
-    (answers : List Found) (all : Bool) (limit states : ℕ) (hung : List (List (ℕ × ℕ)))
+    (answers : List Found) (all refused : Bool) (limit states : ℕ) (hung : List (List (ℕ × ℕ)))
     (budgets : Budgets) : Type 0 where
   pub outcomes : ArePatient w names maps answers
   pub complete : all ≡ true → HaveAllPatient w names maps answers
   pub counted : AreReachedFreely w states
-  pub met : all ≡ false → (limit < states) ⊎ MayRunOut w
+  pub met : all ≡ false → refused ≡ false → (limit < states) ⊎ MayRunOut w
+  pub short : refused ≡ true → (all ≡ false) × (states ≤ limit)
   pub are_hung : AreHung w hung
   pub none_hangs : all ≡ true → hung ≡ [] → NoneHangs w
   pub suffice : budgets ≡ Suffice → MayRunOut w → ⊥

@@ -7,6 +7,20 @@ use Rattle.bpf_machine.specs.Machine.{MachineState}
 use Rattle.bpf_machine.specs.Hands.{IsFree, NoneWaits}
 use Rattle.bpf_machine.specs.Cover.{TurnsTo, IsKeptAs, IsClosed, IsShown, IsCovered}
 use Rattle.bpf_machine.specs.Patient.{NoneRanOut, IsKeptRichly, IsClosedRichly, IsCoveredRichly}
+use Rattle.bpf_explore.specs.declared.frontier.Extent.{Extent}
+use Rattle.bpf_explore.specs.declared.frontier.Extent.TheVariants.{Whole, Limited, Refused}
+
+-- how far a search came: nothing is left to be kept
+abbrev pub is_whole : Extent → Bool
+is_whole Whole = true
+is_whole Limited = false
+is_whole Refused = false
+
+-- memory was refused to it
+abbrev pub is_refused : Extent → Bool
+is_refused Whole = false
+is_refused Limited = false
+is_refused Refused = true
 
 -- all that the machine shows, a kept one shows; of a patient search, but for richer jobs
 abbrev pub IsKept : Bool → List MachineState → MachineState → Type 0

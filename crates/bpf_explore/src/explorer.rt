@@ -169,6 +169,8 @@ impl Frontier for Explorer {
 
     ghost has_made = { λ e turns. Unit {0} };
 
+    ghost was_refused = { λ e. Unit {0} };
+
     fn count(&self) -> usize {
         self.len()
     }

@@ -33,12 +33,15 @@ pub struct Explored {
     pub answers: Vec<Answer>,
     /// Whether no outcome is left out.
     pub all: bool,
+    /// Whether the search ended for want of memory.
+    pub refused: bool,
     /// How many states were kept: machines that schedules lead to, no two of them the same.
     pub states: usize,
 }
 
 /// Searches through all schedules of jobs over a new store whose maps have these names, until no
-/// state is new or more than `limit` are kept. Want of memory is the only refusal.
+/// state is new, more than `limit` are kept, or memory is refused to the search. Want of memory
+/// before or behind it is the only refusal.
 pub fn explore_jobs(
     alloc: Global,
     shape: StoreShape,
@@ -53,20 +56,21 @@ pub fn explore_jobs(
     requires contexts { All (λ job. vec_len job.context ≤ max_context) jobs.items }
     ensures { IfOk result (λ e. IsExplored
         (first_world shape programs.items (map waiting jobs.items))
-        (map string_bytes names.now) maps e.answers.items e.all limit e.states) }
+        (map string_bytes names.now) maps e.answers.items e.all e.refused limit e.states) }
 {
     crate::laws::cover_tells_all();
     let copy = copy_shape(alloc, &shape)?;
     let machine = make_machine(alloc, copy, programs, jobs)?;
     let mut explorer = Explorer::new(alloc, shape, machine)?;
-    let all = explore(&mut explorer, limit)?;
+    let extent = explore(&mut explorer, limit);
     explorer.leads();
     explorer.apart();
     let answers = gather(alloc, &mut explorer, names, maps)?;
     let states = explorer.len();
     Ok(Explored {
         answers,
-        all,
+        all: extent.is_whole(),
+        refused: extent.is_refused(),
         states,
     })
 }
@@ -78,6 +82,8 @@ pub struct ExploredPatiently {
     pub answers: Vec<Answer>,
     /// Whether none of them is left out.
     pub all: bool,
+    /// Whether the search ended for want of memory.
+    pub refused: bool,
     /// How many states were kept, no two of them the same.
     pub states: usize,
     /// States from which no end can be reached, each but for those that it leads to.
@@ -137,9 +143,10 @@ fn find_budgets(
 
 /// The same of outcomes in which no job is out of budget: machines that differ only in how many
 /// steps are left of budgets count as one. The outcomes aren't all where more than `limit` are
-/// kept, or where a schedule that was found uses a budget up. Besides, states from which no end can
+/// kept, where memory is refused to the search, or where a schedule that was found uses a budget up.
+/// Besides, states from which no end can
 /// be reached, however many steps jobs are given, and whether some schedule uses a budget up. Want of
-/// memory is the only refusal.
+/// memory before or behind the search is the only refusal.
 pub fn search_patiently(
     alloc: Global,
     shape: StoreShape,
@@ -154,7 +161,7 @@ pub fn search_patiently(
     requires contexts { All (λ job. vec_len job.context ≤ max_context) jobs.items }
     ensures { IfOk result (λ e. IsSearchedPatiently
         (first_world shape programs.items (map waiting jobs.items))
-        (map string_bytes names.now) maps e.answers.items e.all limit e.states
+        (map string_bytes names.now) maps e.answers.items e.all e.refused limit e.states
         e.hung.items e.budgets) }
 {
     crate::laws::patient_tell_all();
@@ -162,7 +169,8 @@ pub fn search_patiently(
     let copy = copy_shape(alloc, &shape)?;
     let machine = make_machine(alloc, copy, programs, jobs)?;
     let mut explorer = PatientExplorer::new(alloc, shape, machine)?;
-    let whole = explore(&mut explorer, limit)?;
+    let extent = explore(&mut explorer, limit);
+    let whole = extent.is_whole();
     explorer.leads();
     explorer.apart();
     let turns = explorer.take_turns();
@@ -175,6 +183,7 @@ pub fn search_patiently(
     Ok(ExploredPatiently {
         answers,
         all,
+        refused: extent.is_refused(),
         states,
         hung,
         budgets,

@@ -1,10 +1,39 @@
 //! The search: turns are made from each kept machine, and what is new is kept.
 
-ghost use Rattle.std.specs.Prelude.{◌≡◌, ◌<◌, ◌≤◌, ◌++◌, ◌∷◌, [], ℕ, Bool, List, true, false, IfOk, OnOk, length};
+ghost use Rattle.std.specs.Prelude.{◌≡◌, ◌<◌, ◌≤◌, ◌++◌, ◌∷◌, [], ℕ, Bool, List, true, false, OnOk, OnErr, length};
 ghost use Rattle.bpf_machine.specs.Machine.{MachineState};
 ghost use Rattle.bpf_explore.specs.Search.{IsTurned, IsExpanded, IsIdleAt, Extends, IsWhole, CoversAll, row_of, rows_of};
 
 use std::alloc::AllocError;
+
+/// How far a search came.
+#[derive(Clone, Copy, PartialEq, Eq, Debug)]
+pub enum Extent {
+    /// Nothing is left to be kept.
+    Whole,
+    /// More are kept than the limit.
+    Limited,
+    /// Memory was refused before.
+    Refused,
+}
+
+impl Extent {
+    ghost use Rattle.bpf_explore.specs.Search.{is_whole, is_refused};
+
+    /// Whether nothing is left to be kept.
+    pub fn is_whole(self) -> bool
+        ensures { result ≡ is_whole self }
+    {
+        matches!(self, Extent::Whole)
+    }
+
+    /// Whether it ended for want of memory.
+    pub fn is_refused(self) -> bool
+        ensures { result ≡ is_refused self }
+    {
+        matches!(self, Extent::Refused)
+    }
+}
 
 /// Machines that are kept, each under its number. They stay as they are.
 pub trait Frontier {
@@ -20,6 +49,9 @@ pub trait Frontier {
 
     /// These turns were made, in this order: from which kept machine each, and by which CPU.
     ghost has_made: { Self → List (ℕ × ℕ) → Type 0 };
+
+    /// A turn was refused memory.
+    ghost was_refused: { Self → Type 0 };
 
     /// How many are kept.
     fn count(&self) -> usize
@@ -38,6 +70,7 @@ pub trait Frontier {
         ensures turned { OnOk result (IsTurned (is_patient self.new) (kept self.new) place cpu) }
         ensures made { OnOk result ((turns : List (ℕ × ℕ)) → has_made self.old turns
             → has_made self.new (turns ++ (place, cpu) ∷ [])) }
+        ensures refused { OnErr result (was_refused self.new) }
         ensures extends { Extends (kept self.old) (kept self.new) }
         ensures width { width self.new ≡ width self.old }
         ensures same { is_patient self.new ≡ is_patient self.old };
@@ -50,6 +83,7 @@ fn expand<F: Frontier>(frontier: &mut F, place: usize) -> Result<(), AllocError>
         (IsExpanded (F.is_patient frontier.new) (F.kept frontier.new) place) }
     ensures made { OnOk result ((turns : List (ℕ × ℕ)) → F.has_made frontier.old turns
         → F.has_made frontier.new (turns ++ row_of place (F.width frontier.old))) }
+    ensures refused { OnErr result (F.was_refused frontier.new) }
     ensures extends { Extends (F.kept frontier.old) (F.kept frontier.new) }
     ensures width { F.width frontier.new ≡ F.width frontier.old }
     ensures same { F.is_patient frontier.new ≡ F.is_patient frontier.old }
@@ -60,16 +94,31 @@ fn expand<F: Frontier>(frontier: &mut F, place: usize) -> Result<(), AllocError>
     Ok(())
 }
 
-/// Makes the turn of each CPU from each kept machine, until nothing is new or more than `limit` are
-/// kept. Whether they are all.
-pub fn explore<F: Frontier>(frontier: &mut F, limit: usize) -> Result<bool, AllocError>
-    ensures whole { IfOk result (λ all. all ≡ true
-        → IsWhole (F.is_patient frontier.new) (F.kept frontier.new)) }
-    ensures covers { IfOk result (λ all. all ≡ true
-        → CoversAll (F.is_patient frontier.new) (F.kept frontier.new)) }
-    ensures made { IfOk result (λ all. all ≡ true → F.has_made frontier.old []
-        → F.has_made frontier.new (rows_of (F.width frontier.new) (length (F.kept frontier.new)))) }
-    ensures met { IfOk result (λ all. all ≡ false → limit < length (F.kept frontier.new)) }
+/// How far a search came that was refused memory, where so many are kept.
+fn cut_short(count: usize, limit: usize) -> Extent
+    ensures part { result ≡ Extent.Whole → ⊥ }
+    ensures met { result ≡ Extent.Limited → limit < count }
+    ensures short { result ≡ Extent.Refused → count ≤ limit }
+{
+    if count > limit {
+        Extent::Limited
+    } else {
+        Extent::Refused
+    }
+}
+
+/// Makes the turn of each CPU from each kept machine, until nothing is new, more than `limit` are
+/// kept, or memory is refused. How far it came: what is kept so far stays.
+pub fn explore<F: Frontier>(frontier: &mut F, limit: usize) -> Extent
+    ensures whole { result ≡ Extent.Whole
+        → IsWhole (F.is_patient frontier.new) (F.kept frontier.new) }
+    ensures covers { result ≡ Extent.Whole
+        → CoversAll (F.is_patient frontier.new) (F.kept frontier.new) }
+    ensures made { result ≡ Extent.Whole → F.has_made frontier.old []
+        → F.has_made frontier.new (rows_of (F.width frontier.new) (length (F.kept frontier.new))) }
+    ensures met { result ≡ Extent.Limited → limit < length (F.kept frontier.new) }
+    ensures refused { result ≡ Extent.Refused → F.was_refused frontier.new }
+    ensures short { result ≡ Extent.Refused → length (F.kept frontier.new) ≤ limit }
     ensures extends { Extends (F.kept frontier.old) (F.kept frontier.new) }
     ensures same { F.is_patient frontier.new ≡ F.is_patient frontier.old }
 {
@@ -78,10 +127,12 @@ pub fn explore<F: Frontier>(frontier: &mut F, limit: usize) -> Result<bool, Allo
     let mut next = 0;
     while next < frontier.count() {
         if frontier.count() > limit {
-            return Ok(false);
+            return Extent::Limited;
         }
-        expand(frontier, next)?;
+        let Ok(()) = expand(frontier, next) else {
+            return cut_short(frontier.count(), limit);
+        };
         next += 1;
     }
-    Ok(true)
+    Extent::Whole
 }

@@ -27,7 +27,7 @@ pub use answers::{Answer, is_any_stopped};
 pub use budgets::Budgets;
 pub use explorer::Explorer;
 pub use exploring::{Explored, ExploredPatiently, explore_jobs, search_patiently};
-pub use frontier::{Frontier, explore};
+pub use frontier::{Extent, Frontier, explore};
 pub use hung::Hung;
 pub use listing::{list_explored, list_patient};
 pub use parts::Parts;

@@ -208,6 +208,8 @@ impl Frontier for PatientExplorer {
 
     ghost has_made = { λ e turns. e.made ≡ turns };
 
+    ghost was_refused = { λ e. Unit {0} };
+
     fn count(&self) -> usize {
         self.len()
     }

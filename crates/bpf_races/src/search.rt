@@ -32,9 +32,10 @@ fn make_watcher(alloc: Global, shape: &StoreShape) -> Result<Watcher, AllocError
     Ok(watcher)
 }
 
-/// Searches through all schedules of jobs over a new store, until no state is new or more than
-/// `limit` are kept, for races at values of maps that aren't left out. Refused is want of memory;
-/// cases that never come count as such, but no contract rules them out.
+/// Searches through all schedules of jobs over a new store, until no state is new, more than `limit`
+/// are kept or memory is refused to the search, for races at values of maps that aren't left out.
+/// Refused is want of memory before or behind it; cases that never come count as such, but no
+/// contract rules them out.
 pub fn find_races(
     alloc: Global,
     shape: StoreShape,
@@ -54,7 +55,8 @@ pub fn find_races(
     let copy = copy_shape(alloc, &shape)?;
     let machine = make_machine(alloc, copy, programs, jobs)?;
     let mut explorer = Explorer::new(alloc, shape, machine)?;
-    let whole = explore(&mut explorer, limit)?;
+    let extent = explore(&mut explorer, limit);
+    let whole = extent.is_whole();
     let (list, listed) = gather_races(alloc, &mut explorer, &mut watcher, sync)?;
     let all = both(whole, listed);
     Ok(Races { list, all })
@@ -81,7 +83,8 @@ pub fn find_races_patiently(
     let copy = copy_shape(alloc, &shape)?;
     let machine = make_machine(alloc, copy, programs, jobs)?;
     let mut explorer = PatientExplorer::new(alloc, shape, machine)?;
-    let whole = explore(&mut explorer, limit)?;
+    let extent = explore(&mut explorer, limit);
+    let whole = extent.is_whole();
     let (list, listed) = gather_races(alloc, &mut explorer, &mut watcher, sync)?;
     let all = both(whole, listed);
     Ok(Races { list, all })

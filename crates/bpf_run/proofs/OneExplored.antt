@@ -92,10 +92,10 @@ stopped_told [] = refl
 stopped_told (x ∷ xs) = ap (λ (b : Bool). x.stopped || b) (stopped_told xs)
 
 -- what one search tells, the other does
-all_told : (w : World) (names : List (List ℕ)) (xs ys : List Found) (limit states more others : ℕ)
-    → IsExplored w names true xs true limit states → IsExplored w names true ys true more others
+all_told : (w : World) (names : List (List ℕ)) (xs ys : List Found) (cut short : Bool) (limit states more others : ℕ)
+    → IsExplored w names true xs true cut limit states → IsExplored w names true ys true short more others
     → AreTold xs ys
-all_told w names xs ys limit states more others a b i found at =
+all_told w names xs ys cut short limit states more others a b i found at =
     b.complete refl found.text found.stopped (unrolled found.by, a.outcomes.each i found at)
 
 pub outcomes_are_determined : FilesAreDetermined → OutcomesAreDetermined
@@ -104,6 +104,6 @@ outcomes_are_determined files text xs ys limit states more others a b =
     let same : a.0 ≡ b.0 = cc in
     let w = first_world_of a.0 in
     let names = a.0.names in
-    let other = subst (λ (f : File). IsExplored (first_world_of f) f.names true ys true more others) (sym same) b.2 in
-    let told = same_told xs ys a.2.outcomes.sorted other.outcomes.sorted (all_told w names xs ys limit states more others a.2 other) (all_told w names ys xs more others limit states other a.2) in
+    let other = subst (λ (f : File). IsExplored (first_world_of f) f.names true ys true b.2 more others) (sym same) b.3 in
+    let told = same_told xs ys a.3.outcomes.sorted other.outcomes.sorted (all_told w names xs ys a.2 b.2 limit states more others a.3 other) (all_told w names ys xs b.2 a.2 more others limit states other a.3) in
     (told, stopped_told xs ∙ ap (list_any (λ (p : List ℕ × Bool). p.1)) told ∙ sym (stopped_told ys))

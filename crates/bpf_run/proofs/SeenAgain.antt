@@ -82,8 +82,8 @@ IsFoundIn text found = (f : File) × IsRunFile text (Ok f) × EndsBy (first_worl
 
 is_found : (patient : Bool) (text : List ℕ) (answers : List Found) (all : Bool) (limit states i : ℕ) (found : Found)
     → AreFoundBy patient text answers all limit states → slice_get answers i ≡ Some found → IsFoundIn text found
-is_found false text answers all limit states i found (f, said, explored) at = (f, said, explored.outcomes.each i found at)
-is_found true text answers all limit states i found (hung, budgets, (f, said, explored)) at =
+is_found false text answers all limit states i found (f, said, refused, explored) at = (f, said, explored.outcomes.each i found at)
+is_found true text answers all limit states i found (hung, budgets, (f, said, refused, explored)) at =
     let (z, leads, ended, none, tells) = explored.outcomes.each i found at in
     (f, said, (z, leads, ended, tells))
 

@@ -23,11 +23,11 @@ abbrev pub any_stopped_of : List Found → Bool
 any_stopped_of answers = list_any (λ found. found.stopped) answers
 
 -- the answers of a search through all schedules of the jobs that the text says, over a new store of
--- its maps, of which the maps are told too; whether they are all, by this limit, and how many states
--- were kept
+-- its maps, of which the maps are told too; whether they are all, by this limit or where memory was
+-- refused to the search, and how many states were kept
 abbrev pub AreAnswersTo : List ℕ → List Found → (all : Bool) → (limit states : ℕ) → Type 0
 AreAnswersTo text answers all limit states = (f : File) × IsRunFile text (Ok f)
-    × IsExplored (first_world_of f) f.names true answers all limit states
+    × (refused : Bool) × IsExplored (first_world_of f) f.names true answers all refused limit states
 
 -- those of a patient search, outcomes in which no budget is used up; besides, schedules to states that
 -- are hung, and whether some schedule uses a budget up
@@ -35,7 +35,8 @@ abbrev pub ArePatientAnswersTo : List ℕ → List Found → (all : Bool) → (l
     → List (List (ℕ × ℕ)) → Budgets → Type 0
 ArePatientAnswersTo text answers all limit states hung budgets = (f : File)
     × IsRunFile text (Ok f)
-    × IsSearchedPatiently (first_world_of f) f.names true answers all limit states hung budgets
+    × (refused : Bool)
+    × IsSearchedPatiently (first_world_of f) f.names true answers all refused limit states hung budgets
 
 -- the answers of either search
 abbrev pub AreFoundBy : (patient : Bool) → List ℕ → List Found → (all : Bool)

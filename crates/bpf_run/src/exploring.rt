@@ -24,7 +24,7 @@ use std::alloc::{AllocError, Global};
 fn explore(alloc: Global, file: RunFile, limit: usize) -> Result<Explored, AllocError>
     requires { IsRunnable file }
     ensures { IfOk result (λ e. IsExplored (first_world_of (file_of file)) (file_of file).names true
-        e.answers.items e.all limit e.states) }
+        e.answers.items e.all e.refused limit e.states) }
 {
     let RunFile {
         shape,
@@ -44,7 +44,8 @@ fn explore_patient(
 ) -> Result<ExploredPatiently, AllocError>
     requires { IsRunnable file }
     ensures { IfOk result (λ e. IsSearchedPatiently (first_world_of (file_of file))
-        (file_of file).names true e.answers.items e.all limit e.states e.hung.items e.budgets) }
+        (file_of file).names true e.answers.items e.all e.refused limit e.states e.hung.items
+        e.budgets) }
 {
     let RunFile {
         shape,
@@ -97,12 +98,14 @@ pub(crate) fn found_in(
     let ExploredPatiently {
         answers,
         all,
+        refused,
         states,
         ..
     } = patient_in(alloc, options.limit, text)?;
     Ok(Explored {
         answers,
         all,
+        refused,
         states,
     })
 }
@@ -180,6 +183,7 @@ fn missing(alloc: Global, outcome: u64, explored: &Explored) -> Reply
 }
 
 /// `ebpf explore --show`: all that happens on the way to the outcome of this number, counted from 1.
+/// Where memory was refused to the search the number may be another outcome's, so that is a refusal.
 pub fn show_file(alloc: Global, options: SearchOptions, outcome: u64, text: &str) -> Reply
     requires { 0 < outcome }
     ensures { IsShownFile options.patient options.limit outcome text.now result }
@@ -188,6 +192,9 @@ pub fn show_file(alloc: Global, options: SearchOptions, outcome: u64, text: &str
         Ok(explored) => explored,
         Err(refusal) => return Reply::Refused(refusal),
     };
+    if explored.refused {
+        return Reply::Refused(Refusal::OutOfMemory);
+    }
     match explored.answers.get(outcome as usize - 1) {
         Some(answer) => run_file_with_history(alloc, answer.by(), false, true, text),
         None => missing(alloc, outcome, &explored),

@@ -1,4 +1,4 @@
-use Rattle.std.proofs.Common.{◌≡◌, ◌∙◌, ◌<◌, List, length, map, string_bytes, sym, ap, subst}
+use Rattle.std.proofs.Common.{◌≡◌, ◌∙◌, ◌<◌, Bool, List, length, map, string_bytes, sym, ap, subst}
 use Rattle.std.specs.Prelude.{All}
 use Rattle.bpf_shared.specs.Shape.{Shape}
 use Rattle.bpf_cpu.specs.declared.job.Job.{Job}
@@ -7,6 +7,7 @@ use Rattle.bpf_machine.specs.Machine.{MachineState, Shows}
 use Rattle.bpf_machine.specs.Schedule.{World}
 use Rattle.bpf_jobs.specs.Printed.{first_world}
 use Rattle.bpf_explore.specs.Outcomes.{IsExplored}
+use Rattle.bpf_explore.specs.Search.{is_whole, is_refused}
 use Rattle.bpf_explore.specs.Stores.{IsOfShape}
 use Rattle.bpf_explore.proofs.ExploreLaws.{first_shape, first_lists_none, first_fresh, still_first, explored}
 use Rattle.bpf_explore.proofs.exploring.explore_jobs.Goals as goal
@@ -54,8 +55,13 @@ returns c =
     let kept = c.explore.new.frontier.kept in
     let answers = c.in_ok-answers.answers.items in
     let count : c.len-states.result ≡ length kept = c.len-states.ensures ∙ ap (λ (ms : List MachineState). length ms) c.gather.ensures.same in
-    subst (IsExplored w names c.args.maps answers c.in_ok-all.all c.args.limit) (sym count)
-    (explored c.cover_tells_all.ensures kept w names c.args.maps answers c.in_ok-all.all c.args.limit
+    let extent = c.explore.result in
+    let all : c.is_whole.result ≡ is_whole extent = c.is_whole.ensures in
+    let refused : c.is_refused.result ≡ is_refused extent = c.is_refused.ensures in
+    subst (λ (b : Bool). IsExplored w names c.args.maps answers b c.is_refused.result c.args.limit c.len-states.result) (sym all)
+    (subst (λ (b : Bool). IsExplored w names c.args.maps answers (is_whole extent) b c.args.limit c.len-states.result) (sym refused)
+    (subst (IsExplored w names c.args.maps answers (is_whole extent) (is_refused extent) c.args.limit) (sym count)
+    (explored c.cover_tells_all.ensures kept w names c.args.maps answers extent c.args.limit
     (first_fresh c.args.shape m programs jobs c.requires.contexts shows)
     (still_first c.in_ok-explorer.explorer.kept kept m w c.in_ok-explorer.ensures c.explore.ensures.extends shows)
-    c.in_ok-all.ensures.covers c.in_ok-answers.ensures.outcomes c.in_ok-answers.ensures.answered c.in_ok-all.ensures.met c.leads.ensures c.apart.ensures)
+    c.explore.ensures.covers c.in_ok-answers.ensures.outcomes c.in_ok-answers.ensures.answered c.explore.ensures.met c.explore.ensures.short c.leads.ensures c.apart.ensures)))

@@ -12,7 +12,7 @@ use Rattle.bpf_explore.specs.Private.Hung.{AllHang, AllLead}
 use Rattle.bpf_explore.specs.Private.Replays.{CanRunOut, NoneRunsOut}
 use Rattle.bpf_explore.specs.Private.Answers.{IsAnsweredAt, IsFirst, StartsFresh}
 use Rattle.bpf_explore.specs.Private.Edges.{AreTurns}
-use Rattle.bpf_explore.proofs.ExploreLaws.{first_shape, first_lists_none, first_fresh, still_first, still_there}
+use Rattle.bpf_explore.proofs.ExploreLaws.{whole_of, first_shape, first_lists_none, first_fresh, still_first, still_there}
 use Rattle.bpf_explore.proofs.PatienceLaws.{explored_patiently}
 use Rattle.bpf_explore.proofs.exploring.search_patiently.Goals as goal
 
@@ -70,12 +70,12 @@ find_hung-requires-clause-fresh c =
 pub find_hung-requires-clause-turns : goal.find_hung-requires-clause-turns
 find_hung-requires-clause-turns c is =
     subst (λ (ms : List MachineState). AreTurns ms c.take_turns-turns.result) (sym (c.gather_patiently.ensures.same ∙ c.take_turns-turns.ensures.same))
-    (c.take_turns-turns.ensures.turns (c.in_ok-whole.ensures.made is c.in_ok-explorer.ensures.none))
+    (c.take_turns-turns.ensures.turns (c.explore.ensures.made (whole_of c.explore.result (sym c.is_whole-whole.ensures ∙ is)) c.in_ok-explorer.ensures.none))
 
 pub find_budgets-requires-clause-turns : goal.find_budgets-requires-clause-turns
 find_budgets-requires-clause-turns c is =
     subst (λ (ms : List MachineState). AreTurns ms c.take_turns-turns.result) (sym (c.find_hung.ensures.same ∙ (c.gather_patiently.ensures.same ∙ c.take_turns-turns.ensures.same)))
-    (c.take_turns-turns.ensures.turns (c.in_ok-whole.ensures.made is c.in_ok-explorer.ensures.none))
+    (c.take_turns-turns.ensures.turns (c.explore.ensures.made (whole_of c.explore.result (sym c.is_whole-whole.ensures ∙ is)) c.in_ok-explorer.ensures.none))
 
 pub find_budgets-requires-clause-first : goal.find_budgets-requires-clause-first
 find_budgets-requires-clause-first c =
@@ -108,11 +108,11 @@ returns c =
     let found = c.find_hung.ensures.same ∙ gathered in
     let hung = c.in_ok-hung.hung.items in
     let count : c.len-states.result ≡ length kept = c.len-states.ensures ∙ ap (λ (ms : List MachineState). length ms) (c.find_budgets.ensures.same ∙ found) in
-    subst (λ (n : ℕ). IsSearchedPatiently w names c.args.maps answers c.both-all.result c.args.limit n hung c.in_ok-budgets.budgets) (sym count)
-    (explored_patiently c.patient_tell_all.ensures c.all_can_end.ensures kept w names c.args.maps answers c.in_ok-whole.whole c.in_ok-answers.told c.in_ok-hung.fit c.both-all_fit.result c.both-all.result c.args.limit hung c.in_ok-budgets.budgets
+    subst (λ (n : ℕ). IsSearchedPatiently w names c.args.maps answers c.both-all.result c.is_refused.result c.args.limit n hung c.in_ok-budgets.budgets) (sym count)
+    (explored_patiently c.patient_tell_all.ensures c.all_can_end.ensures kept w names c.args.maps answers c.explore.result c.is_whole-whole.result c.in_ok-answers.told c.in_ok-hung.fit c.both-all_fit.result c.both-all.result c.is_refused.result c.args.limit hung c.in_ok-budgets.budgets
     (first_fresh c.args.shape m programs jobs c.requires.contexts shows)
     (still_first c.in_ok-explorer.explorer.kept kept m w c.in_ok-explorer.ensures.first c.explore.ensures.extends shows)
-    c.in_ok-whole.ensures.whole c.in_ok-whole.ensures.covers c.in_ok-whole.ensures.met
+    c.is_whole-whole.ensures c.is_refused.ensures c.explore.ensures.whole c.explore.ensures.covers c.explore.ensures.met c.explore.ensures.short
     (subst (λ (ms : List MachineState). (u : World) → IsFirst ms u → ArePatient u names c.args.maps answers) taken c.in_ok-answers.ensures.outcomes)
     (λ is. subst (λ (ms : List MachineState). (i : ℕ) → IsAnsweredAt ms names c.args.maps answers i) taken (c.in_ok-answers.ensures.answered is))
     (λ is. subst CanRunOut taken (c.in_ok-answers.ensures.out is))

@@ -22,8 +22,8 @@ loop-next-preserved g c =
     let first = c.args.frontier.now in
     let next = c.loop-next.next in
     let new = c.expand.new.frontier in record {
-      far = next_expanded (is_patient first) (is_patient c.loop-next.frontier) (is_patient new) (kept first) (kept c.loop-next.frontier) (kept new) next inv.far (omega arith) c.expand.ensures.extends c.expand.ensures.same c.in_ok-expand.ensures.expanded;
-      made = λ is. subst (has_made new) (one_more_row (width first) next) (subst (λ (n : ℕ). has_made new (rows_of (width first) next ++ row_of next n)) inv.width (c.in_ok-expand.ensures.made (rows_of (width first) next) (inv.made is)));
+      far = next_expanded (is_patient first) (is_patient c.loop-next.frontier) (is_patient new) (kept first) (kept c.loop-next.frontier) (kept new) next inv.far (omega arith) c.expand.ensures.extends c.expand.ensures.same c.in-Ok.ensures.expanded;
+      made = λ is. subst (has_made new) (one_more_row (width first) next) (subst (λ (n : ℕ). has_made new (rows_of (width first) next ++ row_of next n)) inv.width (c.in-Ok.ensures.made (rows_of (width first) next) (inv.made is)));
       width = c.expand.ensures.width ∙ inv.width;
     }
 

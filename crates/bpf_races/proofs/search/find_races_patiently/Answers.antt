@@ -7,7 +7,7 @@ use Rattle.bpf_machine.specs.Machine.{MachineState, Shows}
 use Rattle.bpf_machine.specs.Schedule.{World}
 use Rattle.bpf_jobs.specs.Printed.{first_world}
 use Rattle.bpf_explore.specs.Stores.{IsOfShape}
-use Rattle.bpf_explore.proofs.ExploreLaws.{first_shape, first_lists_none, first_fresh, still_first}
+use Rattle.bpf_explore.proofs.ExploreLaws.{whole_of, first_shape, first_lists_none, first_fresh, still_first}
 use Rattle.bpf_races.specs.Private.Searching.{Gathered, AreListedAt}
 use Rattle.bpf_races.proofs.Searching.{are_races_patiently}
 use Rattle.bpf_races.proofs.search.find_races_patiently.Goals as goal
@@ -41,8 +41,8 @@ returns c =
     let jobs = c.args.jobs.items in
     let w : World = first_world c.args.shape programs (map waiting jobs) in
     let shows = subst (λ (h : Shape). Shows m (first_world h programs (map waiting jobs))) same c.in_ok-machine.ensures in
-    let kept = c.explore.new.frontier.kept in
-    are_races_patiently kept w c.args.sync.now c.in_ok-list.list.items c.in_ok-whole.whole c.in_ok-list.listed c.both-all.result
+    let kept = c.explore-extent.new.frontier.kept in
+    are_races_patiently kept w c.args.sync.now c.in_ok-list.list.items c.is_whole-whole.result c.in_ok-list.listed c.both-all.result
     (first_fresh c.args.shape m programs jobs c.requires.contexts shows)
-    (still_first c.in_ok-explorer.explorer.kept kept m w c.in_ok-explorer.ensures.first c.explore.ensures.extends shows)
-    c.in_ok-list.ensures.gathered c.in_ok-list.ensures.listed c.both-all.ensures c.patient_races_are_kept.ensures c.in_ok-whole.ensures.whole
+    (still_first c.in_ok-explorer.explorer.kept kept m w c.in_ok-explorer.ensures.first c.explore-extent.ensures.extends shows)
+    c.in_ok-list.ensures.gathered c.in_ok-list.ensures.listed c.both-all.ensures c.patient_races_are_kept.ensures (λ is. c.explore-extent.ensures.whole (whole_of c.explore-extent.result (sym c.is_whole-whole.ensures ∙ is)))
