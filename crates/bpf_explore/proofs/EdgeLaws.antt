@@ -1,5 +1,5 @@
 -- Turns from kept machines, while more are kept.
-use Rattle.std.proofs.Common.{◌≡◌, ◌∙◌, ℕ, ◌<◌, List, [], ◌∷◌, ◌++◌, Some, inl, inr, length, refl, sym, ap, subst, length-append, arith}
+use Rattle.std.proofs.Common.{◌≡◌, ◌∙◌, ℕ, zero, suc, ◌+◌, ◌/◌, ◌%◌, ◌<◌, List, [], ◌∷◌, ◌++◌, Some, inl, inr, length, refl, sym, ap, subst, length-append, arith}
 use Rattle.std.specs.Prelude.{slice_get}
 use Rattle.std.proofs.lemmas.Bool.{cases_lt}
 use Rattle.std.proofs.lemmas.Option.{slice_get_within}
@@ -8,10 +8,11 @@ use Rattle.bpf_machine.specs.Machine.{MachineState}
 use Rattle.bpf_machine.specs.Cover.{TurnsAhead}
 use Rattle.bpf_machine.specs.Ends.{IsKeptRichlyAt}
 use Rattle.bpf_machine.specs.Patient.{IsRefilled}
+use Rattle.bpf_explore.specs.declared.turns.Arrival.{Arrival}
 use Rattle.bpf_explore.specs.declared.turns.Edge.{Edge}
 use Rattle.bpf_explore.specs.Album.{IsKeptAt}
 use Rattle.bpf_explore.specs.Search.{Extends}
-use Rattle.bpf_explore.specs.Private.Edges.{IsEdge, AreEdges}
+use Rattle.bpf_explore.specs.Private.Edges.{IsEdge, AreEdges, IsEdgeOf, edge_of, edges_from}
 use Rattle.bpf_explore.proofs.AlbumLaws.{still_at}
 use Rattle.bpf_explore.proofs.RichLaws.{richly_kept}
 
@@ -35,6 +36,56 @@ edges_still old new edges more are k e at =
       turns = is.turns;
       is_kept = λ w shows. (let r = is.is_kept w shows in (r.0, r.1, r.2, still_at old new e.to r.1 r.3 more, r.4));
     }
+
+-- ---- turns by their numbers
+pub one_more_arrival : (cpus n : ℕ) (xs : List Arrival) (a : Arrival) → edges_from cpus n (xs ++ a ∷ []) ≡ edges_from cpus n xs ++ edge_of cpus (n + length xs) a ∷ []
+one_more_arrival cpus n [] a =
+    let here : n ≡ n + 0 = omega arith in
+    ap (λ (k : ℕ). edge_of cpus k a ∷ []) here
+one_more_arrival cpus n (x ∷ xs) a =
+    let far = one_more_arrival cpus (suc n) xs a in
+    let next : suc n + length xs ≡ n + suc (length xs) = omega arith in
+    ap (λ (es : List Edge). edge_of cpus n x ∷ es) (far ∙ ap (λ (k : ℕ). edges_from cpus (suc n) xs ++ edge_of cpus k a ∷ []) next)
+
+-- the same where the first is 0
+pub one_more_first : (cpus : ℕ) (xs : List Arrival) (a : Arrival) → edges_from cpus 0 (xs ++ a ∷ []) ≡ edges_from cpus 0 xs ++ edge_of cpus (length xs) a ∷ []
+one_more_first cpus xs a =
+    let next : 0 + length xs ≡ length xs = omega arith in
+    one_more_arrival cpus 0 xs a ∙ ap (λ (k : ℕ). edges_from cpus 0 xs ++ edge_of cpus k a ∷ []) next
+
+pub count_edges : (cpus n : ℕ) (xs : List Arrival) → length (edges_from cpus n xs) ≡ length xs
+count_edges cpus n [] = refl
+count_edges cpus n (x ∷ xs) = ap suc (count_edges cpus (suc n) xs)
+
+pub read_edge : (cpus n : ℕ) (xs : List Arrival) (k : ℕ) (a : Arrival) → slice_get xs k ≡ Some a → slice_get (edges_from cpus n xs) k ≡ Some (edge_of cpus (n + k) a)
+read_edge cpus n [] k a at = cc
+read_edge cpus n (x ∷ xs) zero a at =
+    let same : x ≡ a = cc in
+    let here : n ≡ n + zero = omega arith in
+    ap (λ (y : Arrival). Some (edge_of cpus n y)) same ∙ ap (λ (m : ℕ). Some (edge_of cpus m a)) here
+read_edge cpus n (x ∷ xs) (suc k) a at =
+    let next : suc n + k ≡ n + suc k = omega arith in
+    read_edge cpus (suc n) xs k a at ∙ ap (λ (m : ℕ). Some (edge_of cpus m a)) next
+
+-- the turn of a number is this one
+pub this_edge : (cpus n place cpu to ahead : ℕ) → n / cpus ≡ place → n % cpus ≡ cpu → (P : Edge → Type 0) → P (record { «from» = place; to = to; ahead = ahead; cpu = cpu }) → P (edge_of cpus n (record { to = to; ahead = ahead }))
+this_edge cpus n place cpu to ahead here own P is =
+    subst (λ (i : ℕ). P (record { «from» = i; to = to; ahead = ahead; cpu = n % cpus })) (sym here) (subst (λ (c : ℕ). P (record { «from» = place; to = to; ahead = ahead; cpu = c })) (sym own) is)
+
+-- the turn by a CPU from a machine, with these told
+pub placed_edge : (kept : List MachineState) (i c : ℕ) (e : Edge) → IsEdgeOf kept i c e → IsEdgeOf kept i c (record { «from» = i; to = e.to; ahead = e.ahead; cpu = c })
+placed_edge kept i c e (from, own, is) = (
+  refl,
+  refl,
+  record {
+    inside = is.inside;
+    old = is.old;
+    new = is.new;
+    there = subst (λ (k : ℕ). slice_get kept k ≡ Some is.old) from is.there;
+    turns = subst (λ (d : ℕ). TurnsAhead is.old d e.ahead is.new) own is.turns;
+    is_kept = is.is_kept;
+  },
+)
 
 at_end : (edges : List Edge) (e : Edge) → slice_get (edges ++ e ∷ []) (length edges) ≡ Some e
 at_end [] e = refl
@@ -66,3 +117,11 @@ edge_made old new restored after refilled place cpu made n e at more turns refil
       turns = subst (λ (k : ℕ). TurnsAhead restored e.cpu k after) (sym ahead) (subst (λ (k : ℕ). TurnsAhead restored k made after) (sym own) turns);
       is_kept = subst (λ (k : ℕ). IsKeptRichlyAt new k after) (sym to) (richly_kept new after refilled cpu n refills is);
     }
+
+-- one more where it is the next in the order
+pub one_more_placed : (kept : List MachineState) (cpus now : ℕ) (xs pushed : List Arrival) (place cpu to ahead : ℕ) → length xs / cpus ≡ place → length xs % cpus ≡ cpu → now ≡ cpus → AreEdges kept (edges_from now 0 xs) → IsEdge kept (record { «from» = place; to = to; ahead = ahead; cpu = cpu }) → pushed ≡ xs ++ record { to = to; ahead = ahead } ∷ [] → AreEdges kept (edges_from now 0 pushed)
+one_more_placed kept cpus now xs pushed place cpu to ahead here own width are is push =
+    let a : Arrival = record { to = to; ahead = ahead } in
+    let P : Edge → Type 0 = IsEdge kept in
+    let e = this_edge now (length xs) place cpu to ahead (ap (λ (n : ℕ). length xs / n) width ∙ here) (ap (λ (n : ℕ). length xs % n) width ∙ own) P is in
+    one_more_edge kept (edges_from now 0 xs) (edges_from now 0 pushed) (edge_of now (length xs) a) are e (ap (edges_from now 0) push ∙ one_more_first now xs a)

@@ -90,6 +90,6 @@ explored law kept w names maps answers extent limit fresh first covers outcomes 
   complete = λ is. (let shown : IsShown kept w = (0, first.0, first.1, first.2) in
       law kept w names maps answers (covers (whole_of extent is)) fresh shown (λ i m at ended. answered i m at ended));
   counted = are_reached kept w first led apart;
-  met = λ is not. met (limited_of extent is not);
+  met = λ is uncut. met (limited_of extent is uncut);
   short = λ is. (not_whole extent is, short (refused_of extent is));
 }

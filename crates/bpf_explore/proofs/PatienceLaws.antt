@@ -110,8 +110,8 @@ all_gathered kept names maps place whole answers past far is i m at ended =
     far.answered is i (omega arith) m at ended
 
 none_of_all : (all : Bool) → (all ≡ true → ⊥) → all ≡ false
-none_of_all true no = absurd (no refl)
-none_of_all false no = refl
+none_of_all true never = absurd (never refl)
+none_of_all false never = refl
 
 pub explored_patiently : PatientTellAll → AllCanEnd → (kept : List MachineState) (w : World) (names : List (List ℕ)) (maps : Bool) (answers : List Found) (extent : Extent) (whole told fit both all refused : Bool) (limit : ℕ) (hung : List (List (ℕ × ℕ))) (budgets : Budgets) → IsFresh w → IsFirst kept w
     → whole ≡ is_whole extent → refused ≡ is_refused extent → (extent ≡ Whole → IsClosedRichly kept) → (extent ≡ Whole → CoversAll true kept) → (extent ≡ Limited → limit < length kept) → (extent ≡ Refused → length kept ≤ limit)
@@ -129,8 +129,8 @@ explored_patiently law ends kept w names maps answers extent whole told fit both
       outcomes = outcomes w first;
       complete = λ is. (let a = every is in law kept w names maps answers (covers (whole_then a.0)) fresh shown (λ i m at ended. answered (two a.1).0 i m at ended));
       counted = are_reached_freely kept w first led apart;
-      met = λ is not. elim (every_not is) [ inl a ↦ inl (met (limited_of extent (sym is_all ∙ a) (sym is_cut ∙ not))) | inr a ↦ inr (no_fit a w first) ];
-      short = λ is. (none_of_all all (λ yes. (let a = every yes in let b = not_then is in cc)), short (refused_of extent (sym is_cut ∙ is)));
+      met = λ is uncut. elim (every_not is) [ inl a ↦ inl (met (limited_of extent (sym is_all ∙ a) (sym is_cut ∙ uncut))) | inr a ↦ inr (no_fit a w first) ];
+      short = λ is. (none_of_all all (λ yes. (let a : whole ≡ true = (every yes).0 in let b : whole ≡ false = not_then is in cc)), short (refused_of extent (sym is_cut ∙ is)));
       are_hung = λ i by at. hangs i by at w fresh first;
       none_hangs = λ is none schedule z runs well. (let a = every is in ends kept w z schedule (closed (whole_then a.0)) (λ i m at. leads a.0 (two a.1).1 none i m at) fresh shown runs well);
       suffice = λ is may. suffice is w fresh first may;

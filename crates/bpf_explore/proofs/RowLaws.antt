@@ -1,5 +1,5 @@
 -- The turns of each CPU from each kept machine, in their order.
-use Rattle.std.proofs.Common.{◌≡◌, ◌∙◌, ℕ, zero, suc, ◌+◌, ◌*◌, ◌<◌, ◌≤◌, List, [], ◌∷◌, ◌++◌, Option, Some, inl, inr, length, map, refl, sym, ap, subst, append_assoc, length-append, add-one, arith}
+use Rattle.std.proofs.Common.{◌≡◌, ◌∙◌, ℕ, zero, suc, ◌+◌, ◌*◌, ◌/◌, ◌%◌, ◌<◌, ◌≤◌, List, [], ◌∷◌, ◌++◌, Option, Some, inl, inr, length, map, refl, sym, ap, subst, append_assoc, length-append, add-one, arith}
 use Rattle.std.specs.Prelude.{option_map, slice_get}
 use Rattle.std.proofs.Math.Nat.{suc-mul}
 use Rattle.std.proofs.lemmas.Bool.{cases_lt}
@@ -7,10 +7,12 @@ use Rattle.std.proofs.lemmas.List.{length-map, map-append}
 use Rattle.std.proofs.lemmas.Option.{slice_get-map}
 use Rattle.bpf_base.proofs.Lists.{slice_get-append, slice_get-front}
 use Rattle.bpf_machine.specs.Machine.{MachineState}
+use Rattle.bpf_explore.specs.declared.turns.Arrival.{Arrival}
 use Rattle.bpf_explore.specs.declared.turns.Edge.{Edge}
 use Rattle.bpf_explore.specs.declared.turns.Turns.{Turns}
 use Rattle.bpf_explore.specs.Search.{IsIdleAt, row_of, rows_of}
-use Rattle.bpf_explore.specs.Private.Edges.{AreEdges, AreTurns, turn_of}
+use Rattle.bpf_explore.specs.Private.Edges.{AreEdges, AreTurns, edge_of, edges_of, turn_of}
+use Rattle.bpf_explore.proofs.EdgeLaws.{count_edges, one_more_first}
 
 -- ---- while they are made
 pub one_more_turn : (first : List (ℕ × ℕ)) (place n : ℕ) → (first ++ row_of place n) ++ (place, n) ∷ [] ≡ first ++ row_of place (n + 1)
@@ -69,10 +71,10 @@ rows_at cpus (suc n) i c less own =
     ]
 
 -- ---- all of them
-pub are_turns : (kept : List MachineState) (turns : Turns) → AreEdges kept turns.edges.items → map turn_of turns.edges.items ≡ rows_of turns.cpus (length kept) → ((i c : ℕ) → turns.cpus ≤ c → IsIdleAt kept i c) → AreTurns kept turns
+pub are_turns : (kept : List MachineState) (turns : Turns) → AreEdges kept (edges_of turns.cpus turns.arrivals.items) → map turn_of (edges_of turns.cpus turns.arrivals.items) ≡ rows_of turns.cpus (length kept) → ((i c : ℕ) → turns.cpus ≤ c → IsIdleAt kept i c) → AreTurns kept turns
 are_turns kept turns are made idle =
-    let edges = turns.edges.items in record {
-      count = sym (length-map edges turn_of) ∙ (ap (λ (ts : List (ℕ × ℕ)). length ts) made ∙ rows_length turns.cpus (length kept));
+    let edges = edges_of turns.cpus turns.arrivals.items in record {
+      count = sym (count_edges turns.cpus 0 turns.arrivals.items) ∙ (sym (length-map edges turn_of) ∙ (ap (λ (ts : List (ℕ × ℕ)). length ts) made ∙ rows_length turns.cpus (length kept)));
       each = λ i c e less own at. (
           let here : slice_get (map turn_of edges) (i * turns.cpus + c) ≡ Some (turn_of e) = slice_get-map turn_of edges (i * turns.cpus + c) ∙ ap (λ (o : Option Edge). option_map turn_of o) at in
           let there = rows_at turns.cpus (length kept) i c less own in
@@ -82,9 +84,18 @@ are_turns kept turns are made idle =
       idle = idle;
     }
 
-pub turn_inside : (kept : List MachineState) (turns : Turns) (i c : ℕ) → AreTurns kept turns → i < length kept → c < turns.cpus → i * turns.cpus + c < length turns.edges.items
+pub turn_inside : (kept : List MachineState) (turns : Turns) (i c : ℕ) → AreTurns kept turns → i < length kept → c < turns.cpus → i * turns.cpus + c < length turns.arrivals.items
 turn_inside kept turns i c are less own = subst (λ (n : ℕ). i * turns.cpus + c < n) (sym are.count) (inside_rows i c (length kept) turns.cpus less own)
 
 pub one_more_made : (edges pushed : List Edge) (e : Edge) (turns : List (ℕ × ℕ)) → pushed ≡ edges ++ e ∷ [] → map turn_of edges ≡ turns → map turn_of pushed ≡ turns ++ turn_of e ∷ []
 one_more_made edges pushed e turns push made =
     ap (map turn_of) push ∙ (map-append turn_of edges (e ∷ []) ∙ ap (λ (ts : List (ℕ × ℕ)). ts ++ turn_of e ∷ []) made)
+
+-- one more where it is the next in the order
+pub one_more_made_next : (cpus now : ℕ) (xs pushed : List Arrival) (place cpu to ahead : ℕ) (turns : List (ℕ × ℕ)) → length xs / cpus ≡ place → length xs % cpus ≡ cpu → now ≡ cpus → map turn_of (edges_of cpus xs) ≡ turns → pushed ≡ xs ++ record { to = to; ahead = ahead } ∷ [] → map turn_of (edges_of now pushed) ≡ turns ++ (place, cpu) ∷ []
+one_more_made_next cpus now xs pushed place cpu to ahead turns here own width made push =
+    let a : Arrival = record { to = to; ahead = ahead } in
+    let e = edge_of cpus (length xs) a in
+    let both : turn_of e ≡ (place, cpu) = ap (λ (i : ℕ). (i, length xs % cpus)) here ∙ ap (λ (c : ℕ). (place, c)) own in
+    let more = one_more_made (edges_of cpus xs) (edges_of cpus pushed) e turns (ap (edges_of cpus) push ∙ one_more_first cpus xs a) made in
+    ap (λ (n : ℕ). map turn_of (edges_of n pushed)) width ∙ (more ∙ ap (λ (t : ℕ × ℕ). turns ++ t ∷ []) both)

@@ -318,6 +318,7 @@ impl Album {
         ensures runs { (w : World) → Shows self.old.machine w → (z : World)
             × RunsSchedule w (unrolled runs.now) z × Shows self.new.machine z }
         ensures same { self.new.kept ≡ self.old.kept }
+        ensures cpus { self.new.cpus ≡ self.old.cpus }
     {
         self.machine.turns_by(runs)
     }

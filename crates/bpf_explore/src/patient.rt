@@ -4,7 +4,7 @@
 use crate::album::{Album, number_of};
 use crate::explorer::{Origin, push_turns, turns_of};
 use crate::frontier::Frontier;
-use crate::turns::{Edge, Turns};
+use crate::turns::{Arrival, Turns, is_next};
 use bpf_machine::Machine;
 use bpf_shared::StoreShape;
 use std::alloc::{AllocError, Global};
@@ -12,7 +12,8 @@ use std::marker::Model;
 use std::mem;
 
 /// An album of machines whose jobs in hand have their whole budgets left, how each came about, and
-/// where each CPU's turn leads from it.
+/// where each CPU's turn leads from it: those of the first machine, CPU by CPU, and then those of the
+/// next. A turn out of this order is refused, as where memory lacks; no search makes one.
 #[derive(Drop)]
 pub struct PatientExplorer {
     alloc: Global,
@@ -20,7 +21,7 @@ pub struct PatientExplorer {
     /// Of each machine; that of the first isn't read.
     origins: Vec<Origin>,
     /// In the order of their turns.
-    edges: Vec<Edge>,
+    arrivals: Vec<Arrival>,
 }
 
 impl Model for PatientExplorer {
@@ -28,7 +29,7 @@ impl Model for PatientExplorer {
     ghost use Rattle.bpf_machine.specs.Ends.{RunsFreely};
     ghost use Rattle.bpf_explore.specs.Album.{PatientState};
     ghost use Rattle.bpf_explore.specs.Private.Trail.{AreOrigins};
-    ghost use Rattle.bpf_explore.specs.Private.Edges.{AreEdges, turn_of};
+    ghost use Rattle.bpf_explore.specs.Private.Edges.{AreEdges, edges_of, turn_of};
 
     ghost Value = { PatientState };
 
@@ -36,11 +37,11 @@ impl Model for PatientExplorer {
       machine = e.album.machine;
       kept = e.album.kept;
       cpus = e.album.cpus;
-      made = map turn_of e.edges.items;
+      made = map turn_of (edges_of e.album.cpus e.arrivals.items);
     } };
 
     ghost invariant = { λ e. AreOrigins RunsFreely e.album.kept e.origins.items
-        × AreEdges e.album.kept e.edges.items };
+        × AreEdges e.album.kept (edges_of e.album.cpus e.arrivals.items) };
 }
 
 impl PatientExplorer {
@@ -74,7 +75,7 @@ impl PatientExplorer {
             alloc,
             album,
             origins,
-            edges: Vec::new(alloc),
+            arrivals: Vec::new(alloc),
         })
     }
 
@@ -178,8 +179,8 @@ impl PatientExplorer {
             → AreTurns self.old.kept result }
     {
         let cpus = self.album.cpus();
-        let edges = mem::replace(&mut self.edges, Vec::new(self.alloc));
-        Turns { cpus, edges }
+        let arrivals = mem::replace(&mut self.arrivals, Vec::new(self.alloc));
+        Turns { cpus, arrivals }
     }
 
     /// A schedule leads to each of them, where jobs are given steps on the way.
@@ -219,6 +220,11 @@ impl Frontier for PatientExplorer {
     }
 
     fn turn(&mut self, place: usize, cpu: u8) -> Result<(), AllocError> {
+        let number = self.arrivals.len();
+        let cpus = self.album.cpus();
+        if !is_next(number, cpus, place, cpu) {
+            return Err(AllocError);
+        }
         let from = number_of(place)?;
         self.album.restore(place)?;
         let made = self.album.turn_ahead(cpu);
@@ -229,12 +235,7 @@ impl Frontier for PatientExplorer {
         self.origins.truncate(self.album.len());
         let number = kept?;
         let to = number_of(number)?;
-        self.edges.push(Edge {
-            from,
-            to,
-            ahead,
-            cpu,
-        })?;
+        self.arrivals.push(Arrival { to, ahead })?;
         Ok(())
     }
 }

@@ -4,11 +4,12 @@ ghost use Rattle.std.specs.Prelude.{◌≡◌, ◌<◌, true, IfOk, length};
 ghost use Rattle.bpf_explore.specs.Private.Edges.{AreTurns};
 ghost use Rattle.bpf_explore.specs.Private.Replays.{CanRunOut, IsReached};
 
+use crate::album::number_of;
 use crate::depths::working_edge;
-use crate::explorer::push_turns;
+use crate::explorer::{Origin, push_turns};
 use crate::patient::PatientExplorer;
 use crate::replays::some_ran_out;
-use crate::turns::{Edge, Turns};
+use crate::turns::Turns;
 use std::alloc::{AllocError, Global};
 
 /// How often a circle is gone round before it is given up.
@@ -35,7 +36,7 @@ fn turns_before(
     explorer: &PatientExplorer,
     turns: &Turns,
     waits: &[u32],
-) -> Result<Vec<Option<Edge>>, AllocError>
+) -> Result<Vec<Option<Origin>>, AllocError>
     requires { AreTurns explorer.now.kept turns.now }
 {
     let mut before = vec![in alloc; None; explorer.len()]?;
@@ -43,11 +44,13 @@ fn turns_before(
         if !waits_at(waits, place) {
             continue;
         }
+        let from = number_of(place)?;
         for cpu in 0..turns.cpus {
             if let Some(edge) = working_edge(explorer, turns, place, cpu)
                 && let Some(turn) = before.get_mut(edge.to as usize)
             {
-                *turn = Some(edge);
+                let ahead = edge.ahead;
+                *turn = Some(Origin { from, ahead, cpu });
             }
         }
     }
@@ -55,7 +58,7 @@ fn turns_before(
 }
 
 /// The turn that leads to a kept machine so.
-fn turn_before(before: &[Option<Edge>], place: usize) -> Option<Edge> {
+fn turn_before(before: &[Option<Origin>], place: usize) -> Option<Origin> {
     match before.get(place) {
         Some(turn) => *turn,
         None => None,
@@ -63,7 +66,7 @@ fn turn_before(before: &[Option<Edge>], place: usize) -> Option<Edge> {
 }
 
 /// A kept machine in a circle, if there is one: who goes back far enough is in it.
-fn find_in_circle(before: &[Option<Edge>], waits: &[u32]) -> Option<usize> {
+fn find_in_circle(before: &[Option<Origin>], waits: &[u32]) -> Option<usize> {
     let mut place = waits.iter().position(|count| *count > 0)?;
     for _ in 0..before.len() {
         place = turn_before(before, place)?.from as usize;
@@ -74,17 +77,17 @@ fn find_in_circle(before: &[Option<Edge>], waits: &[u32]) -> Option<usize> {
 /// The turns that lead round to a kept machine in a circle.
 fn go_round(
     alloc: Global,
-    before: &[Option<Edge>],
+    before: &[Option<Origin>],
     place: usize,
 ) -> Result<Vec<(u8, u64)>, AllocError> {
     let mut by = Vec::new(alloc);
     let mut state = place;
     for _ in 0..before.len() {
-        let Some(edge) = turn_before(before, state) else {
+        let Some(turn) = turn_before(before, state) else {
             break;
         };
-        push_turns(&mut by, edge.cpu, edge.ahead as u64 + 1)?;
-        state = edge.from as usize;
+        push_turns(&mut by, turn.cpu, turn.ahead as u64 + 1)?;
+        state = turn.from as usize;
         if state == place {
             break;
         }

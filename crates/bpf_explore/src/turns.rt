@@ -1,14 +1,22 @@
 //! Where turns led in a patient search that has made all of them.
 
-ghost use Rattle.std.specs.Prelude.{◌≡◌, ◌<◌, List, length};
+ghost use Rattle.std.specs.Prelude.{◌≡◌, ◌<◌, ◌/◌, ◌%◌, List, length, true};
 ghost use Rattle.bpf_machine.specs.Machine.{MachineState};
 ghost use Rattle.bpf_explore.specs.Private.Edges.{AreTurns, IsEdgeOf};
+
+/// The kept machine that a turn led to, with so many turns behind it that no store sees. From which
+/// machine, and by which CPU, its place among the others tells.
+#[derive(Clone, Copy)]
+pub(crate) struct Arrival {
+    pub to: u32,
+    pub ahead: u32,
+}
 
 /// A CPU's turn from a kept machine, with so many turns of it behind that no store sees, and the
 /// kept machine that it led to.
 #[derive(Clone, Copy)]
 pub(crate) struct Edge {
-    pub from: u32,
+    pub from: usize,
     pub to: u32,
     pub ahead: u32,
     pub cpu: u8,
@@ -19,7 +27,16 @@ pub(crate) struct Edge {
 pub(crate) struct Turns {
     pub cpus: u8,
     /// Those of the first machine, CPU by CPU, and then those of the next.
-    pub edges: Vec<Edge>,
+    pub arrivals: Vec<Arrival>,
+}
+
+/// Whether a CPU's turn from a kept machine is the next in this order, where so many were made.
+pub(crate) fn is_next(made: usize, cpus: u8, place: usize, cpu: u8) -> bool
+    ensures place { result ≡ true → made / cpus ≡ place }
+    ensures cpu { result ≡ true → made % cpus ≡ cpu }
+{
+    let width = usize::from(cpus);
+    width > 0 && made / width == place && made % width == usize::from(cpu)
 }
 
 impl Turns {
@@ -30,6 +47,12 @@ impl Turns {
         ensures { (kept : List MachineState) → AreTurns kept self.now → place < length kept
             → IsEdgeOf kept place cpu result }
     {
-        self.edges[place * self.cpus as usize + cpu as usize]
+        let Arrival { to, ahead } = self.arrivals[place * self.cpus as usize + cpu as usize];
+        Edge {
+            from: place,
+            to,
+            ahead,
+            cpu,
+        }
     }
 }

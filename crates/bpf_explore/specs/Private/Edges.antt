@@ -1,8 +1,9 @@
 -- Where turns from kept machines led, in a patient search.
-use Rattle.std.specs.Prelude.{◌≡◌, ℕ, ◌+◌, ◌*◌, ◌<◌, ◌≤◌, List, Some, length, slice_get}
+use Rattle.std.specs.Prelude.{◌≡◌, ℕ, zero, suc, ◌+◌, ◌*◌, ◌/◌, ◌%◌, ◌<◌, ◌≤◌, List, [], ◌∷◌, Some, length, slice_get}
 use Rattle.bpf_machine.specs.Machine.{MachineState}
 use Rattle.bpf_machine.specs.Cover.{TurnsAhead}
 use Rattle.bpf_machine.specs.Ends.{IsKeptRichlyAt}
+use Rattle.bpf_explore.specs.declared.turns.Arrival.{Arrival}
 use Rattle.bpf_explore.specs.declared.turns.Edge.{Edge}
 use Rattle.bpf_explore.specs.declared.turns.Turns.{Turns}
 use Rattle.bpf_explore.specs.Search.{IsIdleAt}
@@ -27,9 +28,22 @@ IsEdgeOf kept i c e = (e.«from» ≡ i) × (e.cpu ≡ c) × IsEdge kept e
 abbrev pub turn_of : Edge → ℕ × ℕ
 turn_of e = (e.«from», e.cpu)
 
+-- the turn of this number, of so many CPUs, that led there
+abbrev pub edge_of : ℕ → ℕ → Arrival → Edge
+edge_of cpus n a = record { «from» = n / cpus; to = a.to; ahead = a.ahead; cpu = n % cpus }
+
+-- the turns that led there, of which the first has this number
+abbrev pub edges_from : ℕ → ℕ → List Arrival → List Edge
+edges_from cpus n [] = []
+edges_from cpus n (a ∷ rest) = edge_of cpus n a ∷ edges_from cpus (suc n) rest
+
+-- those of so many CPUs from the first machine, and then those from the next
+abbrev pub edges_of : ℕ → List Arrival → List Edge
+edges_of cpus arrivals = edges_from cpus zero arrivals
+
 -- these are the turns of each CPU from each kept machine, in their order; no CPU behind them has work
 pub record AreTurns (kept : List MachineState) (turns : Turns) : Type 0 where
-  pub count : length turns.edges.items ≡ length kept * turns.cpus
+  pub count : length turns.arrivals.items ≡ length kept * turns.cpus
   pub each : (i c : ℕ) (e : Edge) → i < length kept → c < turns.cpus
-      → slice_get turns.edges.items (i * turns.cpus + c) ≡ Some e → IsEdgeOf kept i c e
+      → slice_get (edges_of turns.cpus turns.arrivals.items) (i * turns.cpus + c) ≡ Some e → IsEdgeOf kept i c e
   pub idle : (i c : ℕ) → turns.cpus ≤ c → IsIdleAt kept i c

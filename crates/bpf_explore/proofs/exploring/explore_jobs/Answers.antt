@@ -41,7 +41,7 @@ gather-requires c =
     let jobs = c.args.jobs.items in
     let w : World = first_world c.args.shape programs (map waiting jobs) in
     let shows = subst (λ (h : Shape). Shows m (first_world h programs (map waiting jobs))) same c.in_ok-machine.ensures in
-    (w, still_first c.in_ok-explorer.explorer.kept c.explore.new.frontier.kept m w c.in_ok-explorer.ensures c.explore.ensures.extends shows)
+    (w, still_first c.in_ok-explorer.explorer.kept c.explore-extent.new.frontier.kept m w c.in_ok-explorer.ensures c.explore-extent.ensures.extends shows)
 
 pub returns : goal.returns
 returns c =
@@ -52,10 +52,10 @@ returns c =
     let names = map string_bytes c.args.names.now in
     let w : World = first_world c.args.shape programs (map waiting jobs) in
     let shows = subst (λ (h : Shape). Shows m (first_world h programs (map waiting jobs))) same c.in_ok-machine.ensures in
-    let kept = c.explore.new.frontier.kept in
+    let kept = c.explore-extent.new.frontier.kept in
     let answers = c.in_ok-answers.answers.items in
     let count : c.len-states.result ≡ length kept = c.len-states.ensures ∙ ap (λ (ms : List MachineState). length ms) c.gather.ensures.same in
-    let extent = c.explore.result in
+    let extent = c.explore-extent.result in
     let all : c.is_whole.result ≡ is_whole extent = c.is_whole.ensures in
     let refused : c.is_refused.result ≡ is_refused extent = c.is_refused.ensures in
     subst (λ (b : Bool). IsExplored w names c.args.maps answers b c.is_refused.result c.args.limit c.len-states.result) (sym all)
@@ -63,5 +63,5 @@ returns c =
     (subst (IsExplored w names c.args.maps answers (is_whole extent) (is_refused extent) c.args.limit) (sym count)
     (explored c.cover_tells_all.ensures kept w names c.args.maps answers extent c.args.limit
     (first_fresh c.args.shape m programs jobs c.requires.contexts shows)
-    (still_first c.in_ok-explorer.explorer.kept kept m w c.in_ok-explorer.ensures c.explore.ensures.extends shows)
-    c.explore.ensures.covers c.in_ok-answers.ensures.outcomes c.in_ok-answers.ensures.answered c.explore.ensures.met c.explore.ensures.short c.leads.ensures c.apart.ensures)))
+    (still_first c.in_ok-explorer.explorer.kept kept m w c.in_ok-explorer.ensures c.explore-extent.ensures.extends shows)
+    c.explore-extent.ensures.covers c.in_ok-answers.ensures.outcomes c.in_ok-answers.ensures.answered c.explore-extent.ensures.met c.explore-extent.ensures.short c.leads.ensures c.apart.ensures)))

@@ -50,7 +50,7 @@ gather_patiently-requires c =
     subst StartsFresh (sym c.take_turns-turns.ensures.same) (
       w,
       first_fresh c.args.shape m programs jobs c.requires.contexts shows,
-      still_first c.in_ok-explorer.explorer.kept c.explore.new.frontier.kept m w c.in_ok-explorer.ensures.first c.explore.ensures.extends shows,
+      still_first c.in_ok-explorer.explorer.kept c.explore-extent.new.frontier.kept m w c.in_ok-explorer.ensures.first c.explore-extent.ensures.extends shows,
     )
 
 pub find_hung-requires-clause-fresh : goal.find_hung-requires-clause-fresh
@@ -64,24 +64,24 @@ find_hung-requires-clause-fresh c =
     subst StartsFresh (sym (c.gather_patiently.ensures.same ∙ c.take_turns-turns.ensures.same)) (
       w,
       first_fresh c.args.shape m programs jobs c.requires.contexts shows,
-      still_first c.in_ok-explorer.explorer.kept c.explore.new.frontier.kept m w c.in_ok-explorer.ensures.first c.explore.ensures.extends shows,
+      still_first c.in_ok-explorer.explorer.kept c.explore-extent.new.frontier.kept m w c.in_ok-explorer.ensures.first c.explore-extent.ensures.extends shows,
     )
 
 pub find_hung-requires-clause-turns : goal.find_hung-requires-clause-turns
 find_hung-requires-clause-turns c is =
     subst (λ (ms : List MachineState). AreTurns ms c.take_turns-turns.result) (sym (c.gather_patiently.ensures.same ∙ c.take_turns-turns.ensures.same))
-    (c.take_turns-turns.ensures.turns (c.explore.ensures.made (whole_of c.explore.result (sym c.is_whole-whole.ensures ∙ is)) c.in_ok-explorer.ensures.none))
+    (c.take_turns-turns.ensures.turns (c.explore-extent.ensures.made (whole_of c.explore-extent.result (sym c.is_whole-whole.ensures ∙ is)) c.in_ok-explorer.ensures.none))
 
 pub find_budgets-requires-clause-turns : goal.find_budgets-requires-clause-turns
 find_budgets-requires-clause-turns c is =
     subst (λ (ms : List MachineState). AreTurns ms c.take_turns-turns.result) (sym (c.find_hung.ensures.same ∙ (c.gather_patiently.ensures.same ∙ c.take_turns-turns.ensures.same)))
-    (c.take_turns-turns.ensures.turns (c.explore.ensures.made (whole_of c.explore.result (sym c.is_whole-whole.ensures ∙ is)) c.in_ok-explorer.ensures.none))
+    (c.take_turns-turns.ensures.turns (c.explore-extent.ensures.made (whole_of c.explore-extent.result (sym c.is_whole-whole.ensures ∙ is)) c.in_ok-explorer.ensures.none))
 
 pub find_budgets-requires-clause-first : goal.find_budgets-requires-clause-first
 find_budgets-requires-clause-first c =
-    let kept = c.explore.new.frontier.kept in
+    let kept = c.explore-extent.new.frontier.kept in
     let m = c.in_ok-machine.machine in
-    let one = still_there c.in_ok-explorer.explorer.kept kept m c.in_ok-explorer.ensures.first c.explore.ensures.extends in
+    let one = still_there c.in_ok-explorer.explorer.kept kept m c.in_ok-explorer.ensures.first c.explore-extent.ensures.extends in
     subst (λ (ms : List MachineState). 0 < length ms) (sym (c.find_hung.ensures.same ∙ (c.gather_patiently.ensures.same ∙ c.take_turns-turns.ensures.same))) one
 
 pub find_budgets-requires-clause-out : goal.find_budgets-requires-clause-out
@@ -102,17 +102,17 @@ returns c =
     let answers = c.in_ok-answers.answers.items in
     let w : World = first_world c.args.shape programs (map waiting jobs) in
     let shows = subst (λ (h : Shape). Shows m (first_world h programs (map waiting jobs))) same c.in_ok-machine.ensures in
-    let kept = c.explore.new.frontier.kept in
+    let kept = c.explore-extent.new.frontier.kept in
     let taken = c.take_turns-turns.ensures.same in
     let gathered = c.gather_patiently.ensures.same ∙ taken in
     let found = c.find_hung.ensures.same ∙ gathered in
     let hung = c.in_ok-hung.hung.items in
     let count : c.len-states.result ≡ length kept = c.len-states.ensures ∙ ap (λ (ms : List MachineState). length ms) (c.find_budgets.ensures.same ∙ found) in
     subst (λ (n : ℕ). IsSearchedPatiently w names c.args.maps answers c.both-all.result c.is_refused.result c.args.limit n hung c.in_ok-budgets.budgets) (sym count)
-    (explored_patiently c.patient_tell_all.ensures c.all_can_end.ensures kept w names c.args.maps answers c.explore.result c.is_whole-whole.result c.in_ok-answers.told c.in_ok-hung.fit c.both-all_fit.result c.both-all.result c.is_refused.result c.args.limit hung c.in_ok-budgets.budgets
+    (explored_patiently c.patient_tell_all.ensures c.all_can_end.ensures kept w names c.args.maps answers c.explore-extent.result c.is_whole-whole.result c.in_ok-answers.told c.in_ok-hung.fit c.both-all_fit.result c.both-all.result c.is_refused.result c.args.limit hung c.in_ok-budgets.budgets
     (first_fresh c.args.shape m programs jobs c.requires.contexts shows)
-    (still_first c.in_ok-explorer.explorer.kept kept m w c.in_ok-explorer.ensures.first c.explore.ensures.extends shows)
-    c.is_whole-whole.ensures c.is_refused.ensures c.explore.ensures.whole c.explore.ensures.covers c.explore.ensures.met c.explore.ensures.short
+    (still_first c.in_ok-explorer.explorer.kept kept m w c.in_ok-explorer.ensures.first c.explore-extent.ensures.extends shows)
+    c.is_whole-whole.ensures c.is_refused.ensures c.explore-extent.ensures.whole c.explore-extent.ensures.covers c.explore-extent.ensures.met c.explore-extent.ensures.short
     (subst (λ (ms : List MachineState). (u : World) → IsFirst ms u → ArePatient u names c.args.maps answers) taken c.in_ok-answers.ensures.outcomes)
     (λ is. subst (λ (ms : List MachineState). (i : ℕ) → IsAnsweredAt ms names c.args.maps answers i) taken (c.in_ok-answers.ensures.answered is))
     (λ is. subst CanRunOut taken (c.in_ok-answers.ensures.out is))

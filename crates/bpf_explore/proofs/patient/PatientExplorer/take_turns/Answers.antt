@@ -1,24 +1,27 @@
-use Rattle.std.proofs.Common.{◌≡◌, ◌∙◌, ℕ, Vec, Global, length, map, sym, ap, subst}
-use Rattle.bpf_explore.specs.declared.turns.Edge.{Edge}
+use Rattle.std.proofs.Common.{◌≡◌, ◌∙◌, ℕ, List, Vec, Global, length, map, sym, ap, subst}
+use Rattle.bpf_explore.specs.declared.turns.Arrival.{Arrival}
 use Rattle.bpf_explore.specs.declared.turns.Turns.{Turns}
 use Rattle.bpf_explore.specs.Album.{PatientState}
 use Rattle.bpf_explore.specs.Search.{rows_of}
-use Rattle.bpf_explore.specs.Private.Edges.{AreEdges, AreTurns, turn_of}
+use Rattle.bpf_explore.specs.Private.Edges.{AreEdges, AreTurns, edges_of, turn_of}
 use Rattle.bpf_explore.proofs.EdgeLaws.{no_edges}
 use Rattle.bpf_explore.proofs.RowLaws.{are_turns}
 use Rattle.bpf_explore.proofs.patient.PatientExplorer.take_turns.Goals as goal
 
 pub invariant_of-self : goal.invariant_of-self
 invariant_of-self c =
-    let kept = c.self.inside.album.kept in
-    (c.self.invariant.0, subst (AreEdges kept) (sym (ap (λ (es : Vec Edge Global). es.items) c.replace-edges.ensures.after ∙ c.new.ensures.items)) (no_edges kept))
+    let album = c.self.inside.album in
+    (c.self.invariant.0, subst (λ (xs : List Arrival). AreEdges album.kept (edges_of album.cpus xs)) (sym (ap (λ (v : Vec Arrival Global). v.items) c.replace-arrivals.ensures.after ∙ c.new.ensures.items)) (no_edges album.kept))
 
 pub returns-clause-turns : goal.returns-clause-turns
 returns-clause-turns c made =
     let m = c.self.inside in
-    let turns : Turns = record { cpus = c.cpus-cpus.result; edges = c.replace-edges.result } in
-    let edges : turns.edges.items ≡ m.edges.items = ap (λ (es : Vec Edge Global). es.items) c.replace-edges.ensures.value in
+    let kept = m.album.kept in
+    let turns : Turns = record { cpus = c.cpus-cpus.result; arrivals = c.replace-arrivals.result } in
+    let width : turns.cpus ≡ m.album.cpus = c.cpus-cpus.ensures.cpus in
+    let items : turns.arrivals.items ≡ m.arrivals.items = ap (λ (v : Vec Arrival Global). v.items) c.replace-arrivals.ensures.value in
+    let edges : edges_of turns.cpus turns.arrivals.items ≡ edges_of m.album.cpus m.arrivals.items = ap (λ (n : ℕ). edges_of n turns.arrivals.items) width ∙ ap (edges_of m.album.cpus) items in
     let here = subst (λ (a : PatientState). a.made ≡ rows_of a.cpus (length a.kept)) (sym c.self.view_is) made in
-    let there : map turn_of turns.edges.items ≡ rows_of turns.cpus (length m.album.kept) = ap (map turn_of) edges ∙ (here ∙ ap (λ (n : ℕ). rows_of n (length m.album.kept)) (sym c.cpus-cpus.ensures.cpus)) in
+    let there : map turn_of (edges_of turns.cpus turns.arrivals.items) ≡ rows_of turns.cpus (length kept) = ap (map turn_of) edges ∙ (here ∙ ap (λ (n : ℕ). rows_of n (length kept)) (sym width)) in
     subst (λ (a : PatientState). AreTurns a.kept turns) c.self.view_is
-    (are_turns m.album.kept turns (subst (AreEdges m.album.kept) (sym edges) c.self.invariant.1) there c.cpus-cpus.ensures.idle)
+    (are_turns kept turns (subst (AreEdges kept) (sym edges) c.self.invariant.1) there c.cpus-cpus.ensures.idle)

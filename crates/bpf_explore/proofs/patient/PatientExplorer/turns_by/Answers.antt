@@ -1,9 +1,7 @@
-use Rattle.std.proofs.Common.{List, sym, subst}
-use Rattle.bpf_machine.specs.Ends.{RunsFreely}
-use Rattle.bpf_machine.specs.Machine.{MachineState, Shows}
+use Rattle.std.proofs.Common.{sym, subst}
+use Rattle.bpf_machine.specs.Machine.{Shows}
 use Rattle.bpf_explore.specs.Album.{PatientState}
-use Rattle.bpf_explore.specs.Private.Edges.{AreEdges}
-use Rattle.bpf_explore.specs.Private.Trail.{AreOrigins}
+use Rattle.bpf_explore.proofs.TurnedLaws.{tracked_still}
 use Rattle.bpf_explore.proofs.patient.PatientExplorer.turns_by.Goals as goal
 
 pub returns-clause-runs : goal.returns-clause-runs
@@ -12,4 +10,4 @@ returns-clause-runs c w shows = c.turns_by.ensures.runs w (subst (λ (a : Patien
 pub invariant_of-self : goal.invariant_of-self
 invariant_of-self c =
     let m = c.self.inside in
-    subst (λ (kept : List MachineState). AreOrigins RunsFreely kept m.origins.items × AreEdges kept m.edges.items) (sym c.turns_by.ensures.same) c.self.invariant
+    tracked_still m.album.kept c.turns_by.new.self.kept m.album.cpus c.turns_by.new.self.cpus m.origins.items m.arrivals.items c.turns_by.ensures.same c.turns_by.ensures.cpus c.self.invariant

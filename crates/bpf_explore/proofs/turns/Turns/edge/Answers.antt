@@ -1,5 +1,7 @@
 use Rattle.std.proofs.Common.{◌+◌, ◌*◌, length, refl, arith}
 use Rattle.std.proofs.lemmas.Option.{slice_get_read}
+use Rattle.bpf_explore.specs.Private.Edges.{edge_of}
+use Rattle.bpf_explore.proofs.EdgeLaws.{placed_edge, read_edge}
 use Rattle.bpf_explore.proofs.RowLaws.{turn_inside}
 use Rattle.bpf_explore.proofs.turns.Turns.edge.Goals as goal
 
@@ -23,7 +25,12 @@ index-requires c =
 
 pub returns : goal.returns
 returns c kept are less =
-    let edges = c.args.self.now.edges.items in
+    let turns = c.args.self.now in
+    let arrivals = turns.arrivals.items in
+    let number = c.args.place * turns.cpus + c.args.cpu in
+    let a = c.index.result.now in
     let own = c.requires.3 in
-    let inside = turn_inside kept c.args.self.now c.args.place c.args.cpu are less own in
-    are.each c.args.place c.args.cpu c.index.result.now less own (slice_get_read edges (length edges) (c.args.place * c.args.self.now.cpus + c.args.cpu) c.index.result.now refl inside c.index.ensures)
+    let inside = turn_inside kept turns c.args.place c.args.cpu are less own in
+    let read = slice_get_read arrivals (length arrivals) number a refl inside c.index.ensures in
+    let e = edge_of turns.cpus (0 + number) a in
+    placed_edge kept c.args.place c.args.cpu e (are.each c.args.place c.args.cpu e less own (read_edge turns.cpus 0 arrivals number a read))
