@@ -126,6 +126,34 @@ impl Parts {
         Ok(number)
     }
 
+    /// Keeps a machine's job as it stands, where none that stood so is kept. Its number. It stands
+    /// alone, or each call of `keep` would clear room on the stack for all of a job.
+    #[cold]
+    #[inline(never)]
+    fn keep_new(
+        &mut self,
+        alloc: Global,
+        hash: u64,
+        machine: &Machine,
+        job: usize,
+    ) -> Result<usize, AllocError>
+        requires job { job < length machine.now.jobs }
+        requires hash { (task : Task) → slice_get machine.now.jobs job ≡ Some task
+            → hash ≡ task_hash task }
+        requires new { (n : ℕ) → n < length self.old → slice_get machine.now.jobs job
+            ≡ Some (part_at self.old n) → ⊥ }
+        ensures within { IfOk result (λ n. n < length self.new) }
+        ensures same { IfOk result (λ n. slice_get machine.now.jobs job
+            ≡ Some (slice_index_or self.new n no_task)) }
+        ensures adds { (self.new ≡ self.old)
+            ⊎ ((task : Task) × (self.new ≡ self.old ++ task ∷ [])) }
+    {
+        self.widen(alloc)?;
+        let kept = machine.kept_job(alloc, job)?;
+        let number = self.add(hash, kept)?;
+        Ok(number)
+    }
+
     /// Keeps a machine's job as it stands, unless one that stood so is kept. Its number.
     pub fn keep(
         &mut self,
@@ -144,9 +172,7 @@ impl Parts {
         if let Some(number) = self.find(hash, machine, job) {
             return Ok(number);
         }
-        self.widen(alloc)?;
-        let kept = machine.kept_job(alloc, job)?;
-        let number = self.add(hash, kept)?;
+        let number = self.keep_new(alloc, hash, machine, job)?;
         Ok(number)
     }
 }

@@ -223,6 +223,34 @@ impl Stores {
         Ok(number)
     }
 
+    /// Keeps a store that is saved as these bytes, where none that is saved so is kept. Its number.
+    /// It stands alone, or each call of `keep` would clear room on the stack for a store.
+    #[cold]
+    #[inline(never)]
+    fn keep_new(
+        &mut self,
+        alloc: Global,
+        hash: u64,
+        shape: &StoreShape,
+        store: &PlainStore,
+        bytes: &[u8],
+    ) -> Result<usize, AllocError>
+        requires shape { IsOfShape shape.now store.now }
+        requires saved { IsSavedAs store.now bytes.now }
+        requires hash { hash ≡ hash_of bytes.now }
+        requires new { (n : ℕ) → n < length self.old → IsSavedAs (store_at self.old n) bytes.now
+            → ⊥ }
+        ensures within { IfOk result (λ n. n < length self.new) }
+        ensures alike { IfOk result
+            (λ n. IsSavedAs (slice_index_or self.new n no_store) bytes.now) }
+        ensures adds { (self.new ≡ self.old) ⊎ (self.new ≡ self.old ++ store.now ∷ []) }
+    {
+        self.widen(alloc)?;
+        let saved = save(alloc, shape, store, bytes)?;
+        let number = self.add(hash, bytes, saved)?;
+        Ok(number)
+    }
+
     /// Keeps a store that is saved as these bytes, unless one that is saved so is kept. Its number.
     pub fn keep(
         &mut self,
@@ -242,9 +270,7 @@ impl Stores {
         if let Some(number) = self.find(hash, bytes) {
             return Ok(number);
         }
-        self.widen(alloc)?;
-        let saved = save(alloc, shape, store, bytes)?;
-        let number = self.add(hash, bytes, saved)?;
+        let number = self.keep_new(alloc, hash, shape, store, bytes)?;
         Ok(number)
     }
 }
