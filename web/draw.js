@@ -62,7 +62,7 @@ function draw_numbers() {
 // Puts numbers, places and the refusal where the text is scrolled to.
 function place_lines(refusal) {
     const { scrollTop, scrollLeft } = at('text');
-    at('numbers').style.transform = at('stands').style.transform = `translateY(${-scrollTop}px)`;
+    for (const name of ['numbers', 'stands', 'races']) at(name).style.transform = `translateY(${-scrollTop}px)`;
     if (!refusal?.line) return;
     const top = EDGE + (refusal.line - 1) * row_height() - scrollTop;
     at('refused-line').style.top = `${top}px`;
@@ -529,6 +529,7 @@ function draw(state) {
     draw_maps(state);
     draw_raw(state);
     mark_found(state);
+    mark_races(state);
     tell(turn_text(state));
     draw_timeline(state, wanted);
     if (wanted.scrolled !== seen.scrolled) at('turns').scrollLeft = wanted.scrolled;

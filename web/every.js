@@ -1,6 +1,6 @@
 'use strict';
 
-// Every schedule: the outcomes and deadlocks that `ebpf explore` finds of a run file, each with a schedule that
+// Every schedule: the outcomes, deadlocks and races that `ebpf explore` finds of a run file, each with a schedule that
 // leads there and that the timeline can show. The search has an engine of its own, so that CPUs can be stepped
 // meanwhile, and is made with greater and greater limits, so that what is found is seen before its end.
 
@@ -10,23 +10,38 @@ const MOST_FOUND = 200; // that are listed
 const DEADLOCK = 'a deadlock: no order of turns leads from here to an end';
 
 // What `explore` prints: a line `by` before the lines of each outcome; behind them, of a patient search, a line a
-// state from which no order of turns leads to an end, and whether budgets can be used up; and a last line.
+// state from which no order of turns leads to an end, and whether budgets can be used up; or, with `--races`, a line a
+// race; and a last line.
 const FOUND = [
-    ['outcome', /^by(?: (.*))?$/],
-    ['deadlock', /^hung by(?: (.*))?$/],
+    ['outcome', /^by(?: (?<by>.*))?$/],
+    ['deadlock', /^hung by(?: (?<by>.*))?$/],
+    ['race', /^race cpu (?<cpu>\d+) pc (?<pc>\d+) cpu (?<other>\d+) pc (?<other_pc>\d+) map (?<map>\S+) (?<key>\S+) by(?: (?<by>.*))?$/],
 ];
+const LAST = /^(?<all>all|not all): (?:\d+ outcomes, (?<states>\d+) states|\d+ races)$/;
+
+const SAID_OF = {
+    outcome: () => [],
+    deadlock: () => [DEADLOCK],
+    race: ({ cpu, pc, other, other_pc, map, key }) => [`CPU ${cpu} at pc ${pc}, CPU ${other} at pc ${other_pc}: ${map} ${key}`],
+};
+
+// Where the CPUs of a race stand.
+const places_in = ({ cpu, pc, other, other_pc }) =>
+    [[cpu, pc], [other, other_pc]].map(([who, where]) => ({ cpu: Number(who), pc: Number(where) }));
 
 function found_in(line) {
     for (const [kind, form] of FOUND) {
-        const match = form.exec(line);
-        if (match) return { kind, schedule: match[1] ?? '', lines: kind === 'deadlock' ? [DEADLOCK] : [] };
+        const parts = form.exec(line)?.groups;
+        if (!parts) continue;
+        const places = kind === 'race' ? places_in(parts) : [];
+        return { kind, schedule: parts.by ?? '', lines: SAID_OF[kind](parts), places };
     }
     return null;
 }
 
 function read_explored(printed) {
     const lines = printed.trimEnd().split('\n');
-    const last = /^(all|not all): (\d+) outcomes, (\d+) states$/.exec(lines.pop());
+    const last = LAST.exec(lines.pop())?.groups;
     if (!last) throw new Error(printed.trim());
     const found = [];
     let budgets = '';
@@ -36,21 +51,24 @@ function read_explored(printed) {
         else if (line.startsWith('budgets ')) budgets = line;
         else found.at(-1).lines.push(line);
     }
-    return { found, budgets, is_all: last[1] === 'all', states: Number(last[3]) };
+    return { found, budgets, is_all: last.all === 'all', states: last.states && Number(last.states) };
 }
 
 // `stage` counts the limits that are searched through.
-const search = { engine: null, number: 0, is_on: false, is_patient: false, stage: 0, came: null };
+const search = { engine: null, number: 0, is_on: false, is_patient: false, is_of_races: false, stage: 0, came: null };
 
-// Searches a file's schedules, and shows what is found so far. Another search, or `stop_search`, ends this one.
-async function search_all(text, is_patient, show) {
+// Searches a file's schedules for outcomes, or for races but for those at values of the maps that are left out, and
+// shows what is found so far. Another search, or `stop_search`, ends this one.
+async function search_all(text, { is_patient, is_of_races, locks }, show) {
     stop_search();
     const mine = search.number;
     search.engine ??= new Engine(engine);
-    Object.assign(search, { is_on: true, is_patient, stage: 0, came: null });
+    Object.assign(search, { is_on: true, is_patient, is_of_races, stage: 0, came: null });
+    const asked = is_of_races ? ['--races', ...locks.flatMap((name) => ['--sync', name])] : [];
+    if (is_patient) asked.push('--patient');
     for (const limit of LIMITS) {
         show(search);
-        const words = ['explore', '--limit', String(limit), ...(is_patient ? ['--patient'] : [])];
+        const words = ['explore', '--limit', String(limit), ...asked];
         const { stdout } = await search.engine.call(words, text);
         if (mine !== search.number) return;
         search.came = read_explored(text_of(stdout));
@@ -72,27 +90,29 @@ function stop_search() {
 
 const in_thousands = (number) => number.toLocaleString('en');
 
-// How many of each kind were found: outcomes in any case, others where there are some.
-function counts_text({ found, states }) {
+// How many of each kind were found: what was looked for in any case, others where there are some.
+function counts_text({ found, states }, is_of_races) {
     const count = (kind) => found.filter((it) => it.kind === kind).length;
+    if (is_of_races) return counted(count('race'), 'race');
     const deadlocks = count('deadlock') ? `, ${counted(count('deadlock'), 'deadlock')}` : '';
     return `${counted(count('outcome'), 'outcome')}${deadlocks}, ${in_thousands(states)} states`;
 }
 
 // What a whole search says of the orders of turns that aren't listed.
-function no_other_text(is_patient, { budgets }) {
+function no_other_text(is_patient, is_of_races, { budgets }) {
     if (!is_patient) return 'No order of turns has another.';
+    if (is_of_races) return 'No order of turns that uses no budget up has another.';
     if (!budgets) return 'No order of turns has another, and none uses a budget up.';
     const some = budgets === 'budgets can run out' ? 'Some order uses' : 'Some order may use';
     return `No order of turns that uses no budget up has another. ${some} one up.`;
 }
 
-function every_text({ came, is_on, is_patient, stage }) {
+function every_text({ came, is_on, is_patient, is_of_races, stage }) {
     const goes_on = is_on ? `Searching up to ${in_thousands(LIMITS[stage])} states…` : '';
     if (!came) return goes_on;
-    const what = counts_text(came);
+    const what = counts_text(came, is_of_races);
     if (!came.is_all) return is_on ? `So far: ${what}. ${goes_on}` : `Not all: ${what}, and there may be more.`;
-    return `All: ${what}. ${no_other_text(is_patient, came)}`;
+    return `All: ${what}. ${no_other_text(is_patient, is_of_races, came)}`;
 }
 
 // What was found. In an outcome, the lines that not all of them have stand out.
@@ -115,7 +135,7 @@ function draw_every(state) {
     write(at('every-said'), every_text(state));
     at('every-stop').hidden = at('every-bar').hidden = !is_on;
     Object.assign(at('every-bar'), { max: LIMITS.length, value: state.stage });
-    at('explore').disabled = is_on;
+    at('explore').disabled = at('find-races').disabled = is_on;
     if (at('found').drawn === came) return;
     at('found').drawn = came;
     const found = came?.found ?? [];
@@ -138,4 +158,45 @@ function mark_found({ turns }) {
         if (is_shown) row.setAttribute('aria-current', 'true');
         else row.removeAttribute('aria-current');
     });
+}
+
+// By program, the pcs at which CPUs race. A race says the CPU and not the job: of one that runs several programs,
+// nothing is marked.
+function raced_pcs(file) {
+    const pcs = new Map();
+    for (const { cpu, pc } of (search.came?.found ?? []).flatMap(({ places }) => places)) {
+        const programs = [...new Set(file.jobs.filter((job) => job.cpu === cpu).map(({ program }) => program))];
+        if (programs.length !== 1) continue;
+        const [program] = programs;
+        pcs.set(program, (pcs.get(program) ?? new Set()).add(pc));
+    }
+    return pcs;
+}
+
+// Marks the lines at which CPUs race, in the listings and in the run file.
+function mark_races({ file }) {
+    const pcs = file ? raced_pcs(file) : new Map();
+    for (const list of document.querySelectorAll('.listing')) mark_raced_rows(list, pcs.get(list.program));
+    const marks = [...pcs].flatMap(([program, those]) =>
+        file.listings.get(program).filter(({ pc, row }) => those.has(pc) && row !== undefined).map(({ row }) => row),
+    );
+    const drawn = marks.join();
+    if (at('races').drawn === drawn) return;
+    at('races').drawn = drawn;
+    const height = row_height();
+    at('races').replaceChildren(...marks.map((row) => {
+        const mark = make('div', 'raced-line');
+        mark.style.top = `${EDGE + row * height}px`;
+        return mark;
+    }));
+}
+
+function mark_raced_rows(list, pcs) {
+    if (list.raced === search.came && list.marked === list.firstChild) return;
+    Object.assign(list, { raced: search.came, marked: list.firstChild });
+    for (const row of list.querySelectorAll('[data-pc]')) {
+        const is_raced = Boolean(pcs?.has(Number(row.dataset.pc)));
+        row.classList.toggle('raced', is_raced);
+        row.title = is_raced ? 'A race: another CPU may be about to touch the same bytes' : '';
+    }
 }

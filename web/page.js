@@ -240,30 +240,37 @@ function toggle_breakpoint(cpu, pc) {
 
 // ---- Every schedule
 
-async function explore() {
+async function explore(is_of_races) {
     const text = state.file?.text;
     if (text === undefined) return;
+    const locks = at('locks').value.split(/[\s,]+/).filter((name) => name);
     try {
-        await search_all(text, at('patient').checked, draw_every);
+        await search_all(text, { is_patient: at('patient').checked, is_of_races, locks }, draw_search);
     } catch (error) {
         if (error.name !== 'Stopped') {
             search.is_on = false;
-            draw_every(search);
+            draw_search(search);
             tell(`The search gave no answer: ${error.message}`, true);
         }
     }
 }
 
+// What is found, and at which lines CPUs race.
+function draw_search(search) {
+    draw_every(search);
+    mark_races(state);
+}
+
 function end_search() {
     stop_search();
-    draw_every(search);
+    draw_search(search);
 }
 
 // What was found is of a text that stands no more.
 function forget_search() {
     stop_search();
     search.came = null;
-    draw_every(search);
+    draw_search(search);
 }
 
 // Sets the turns to a schedule that leads to what was found.
@@ -468,7 +475,8 @@ function listen_to_timeline() {
 }
 
 function listen_to_every() {
-    at('explore').addEventListener('click', explore);
+    at('explore').addEventListener('click', () => explore(false));
+    at('find-races').addEventListener('click', () => explore(true));
     at('every-stop').addEventListener('click', end_search);
     at('found').addEventListener('click', ({ target }) => {
         const number = target.closest('button')?.dataset.found;
