@@ -3,7 +3,7 @@ _ebpf() {
     local word=${COMP_WORDS[COMP_CWORD]} before=${COMP_WORDS[COMP_CWORD - 1]} words files
     COMPREPLY=()
     case $before in
-        --budget|--by|--ctx|--limit|--show|--workers) return ;;
+        --budget|--by|--ctx|--limit|--show|--sync|--workers) return ;;
     esac
     case ${COMP_CWORD}:${COMP_WORDS[1]} in
         1:*) words='hex asm disasm run explore check debug explain -h --help -V --version' ;;
@@ -14,7 +14,7 @@ _ebpf() {
         asm) words='--explain --listing --run --budget --ctx -h --help' files=1 ;;
         disasm) words='--explain --pc -h --help' files=1 ;;
         run) words='--explain --keys --maps --events --check --by --workers --stats --json -h --help' files=1 ;;
-        explore) words='--explain --patient --json --limit --show -h --help' files=1 ;;
+        explore) words='--explain --patient --json --races --sync --limit --show -h --help' files=1 ;;
         check) words='--explain --patient --json --limit -h --help' files=1 ;;
         debug) words='--explain --echo --strict -h --help' files=1 ;;
         explain) words='-h --help' ;;
