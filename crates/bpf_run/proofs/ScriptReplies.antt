@@ -1,5 +1,5 @@
 -- What `debug` replies, put together.
-use Rattle.std.proofs.Common.{Ok, Err, Result, String, Global, ◌≡◌, ℕ, List, [], ◌∷◌, length, map, Bool, Option, Some, refl, sym, subst}
+use Rattle.std.proofs.Common.{Ok, Err, Result, String, Global, ◌≡◌, ℕ, List, [], ◌∷◌, length, map, Bool, Option, Some, None, refl, sym, subst}
 use Rattle.std.specs.Prelude.{◌&&◌, Vec, is_err}
 use Rattle.std.specs.List.{list_any}
 use Rattle.bpf_cpu.specs.Task.{Task}
@@ -39,16 +39,16 @@ refused_alike (Err e ∷ answers) = refl
 
 -- the session that was made of a file, and what its machine tells in the end
 pub ended : (echo strict : Bool) (f : RunFile) (commands : List (List ℕ)) (s t : SessionState) (answers : List Answer) (lines : Option (Vec ℕ Global)) (stopped refused : Bool)
-    → Shows s.machine (first_world_of (file_of f)) → Shows s.first (first_world_of (file_of f)) → s.names ≡ (file_of f).names → s.breaks ≡ [] → s.course ≡ Some []
+    → Shows s.machine (first_world_of (file_of f)) → Shows s.first (first_world_of (file_of f)) → s.names ≡ (file_of f).names → s.breaks ≡ [] → s.watch ≡ None → s.course ≡ Some []
     → ((x : Scene) → IsShown s x → (y : Scene) × RunsScript x commands answers y × IsShown t y)
     → AreShown echo commands lines → stopped ≡ any_stopped (length t.machine.jobs) t.machine.jobs
     → refused ≡ (strict && any_refused answers)
     → (y : Scene) × RunsScript (scene_of (file_of f)) commands answers y × AreShown echo commands lines
     × (stopped ≡ any_stopped (length y.world.jobs) y.world.jobs)
     × (refused ≡ (strict && any_refused answers))
-ended echo strict f commands s t answers lines stopped refused shows first names breaks course follows shown tells denies =
+ended echo strict f commands s t answers lines stopped refused shows first names breaks watch course follows shown tells denies =
     let kept : IsKept s.course [] = subst (λ (o : Option (List (ℕ × ℕ))). IsKept o []) (sym course) refl in
-    let done = follows (scene_of (file_of f)) (record { world = shows; first = first; names = sym names; breaks = sym breaks; turns = kept }) in
+    let done = follows (scene_of (file_of f)) (record { world = shows; first = first; names = sym names; breaks = sym breaks; watch = sym watch; turns = kept }) in
     let P : List Task → Type 0 = λ jobs. stopped ≡ any_stopped (length jobs) jobs in (
       done.0,
       done.1,

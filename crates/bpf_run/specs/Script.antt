@@ -51,12 +51,13 @@ abbrev pub asked_world_of : Bool → File → World
 asked_world_of keys f =
     asked_world keys (record { cpus = f.cpus; maps = f.maps }) f.programs f.jobs
 
--- the first of these, without breakpoints or turns
+-- the first of these, without breakpoints, a watch or turns
 abbrev pub scene_of : File → Scene
 scene_of f = record {
   world = first_world_of f;
   names = f.names;
   breaks = [];
+  watch = None;
   first = first_world_of f;
   turns = [];
 }

@@ -1,6 +1,6 @@
 //! `ebpf debug`: a run file, and commands behind it.
 
-ghost use Rattle.std.specs.Prelude.{◌≡◌, ◌&&◌, ◌<◌, ◌≤◌, All, IfOk, IsOkUnless, Some, [], is_err, map, string_bytes, vec_len};
+ghost use Rattle.std.specs.Prelude.{◌≡◌, ◌&&◌, ◌<◌, ◌≤◌, All, IfOk, IsOkUnless, None, Some, [], is_err, map, string_bytes, vec_len};
 ghost use Rattle.std.specs.List.{list_any};
 ghost use Rattle.std.specs.Option.{option_copied};
 ghost use Rattle.bpf_lines.specs.Lines.{lines_behind};
@@ -99,6 +99,7 @@ fn make_session(
     ensures first { IfOk result (λ s. s.first ≡ s.machine) }
     ensures names { IfOk result (λ s. s.names ≡ map (λ n. string_bytes n) names.items) }
     ensures breaks { IfOk result (λ s. s.breaks ≡ []) }
+    ensures watch { IfOk result (λ s. s.watch ≡ None) }
     ensures course { IfOk result (λ s. s.course ≡ Some []) }
 {
     let copy = copy_shape(alloc, &shape)?;

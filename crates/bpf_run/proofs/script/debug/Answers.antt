@@ -20,5 +20,5 @@ returns-in-Ok-run_script c =
     let R : List (Result (String Global) DebugError) → Type 0 = λ answers. c.is_refused-refused.result ≡ (c.args.strict && any_refused (map answer_of answers)) in
     ended c.args.echo c.args.strict f (lines_behind (option_copied c.args.commands)) c.in-Ok.session c.run_script.new.session (map answer_of c.in-Ok-run_script.answers.items)
     c.in-Ok-shown_lines.lines c.has_any_stopped.result c.is_refused-refused.result
-    made.machine (subst S (sym made.first) made.machine) made.names made.breaks made.course c.in-Ok-run_script.ensures.answered
+    made.machine (subst S (sym made.first) made.machine) made.names made.breaks made.watch made.course c.in-Ok-run_script.ensures.answered
     c.in-Ok-shown_lines.ensures (subst T c.machine.ensures c.has_any_stopped.ensures) (subst R c.deref.ensures.value c.is_refused-refused.ensures)
