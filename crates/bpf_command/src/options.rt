@@ -180,6 +180,8 @@ The commands, one a line, with a CPU C, a pc P, an address A and a number N of b
   steps C*N ..  the turns of a schedule: N turns of C, then those of the next word
   go          rounds of turns, up to a breakpoint or until no CPU has work
   go C until P  turns of C alone, up to the pc P or until it has no work; step C until P is the same
+  watch NAME KEY  'go' also stops after a turn that changed that value, and says whose it was
+  watch       no more
   regs C      the registers
   where C     the job in hand, the pc and the depth of calls
   mem C A N   bytes in hex, as C's program may read them, or 'unreadable'

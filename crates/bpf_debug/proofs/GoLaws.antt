@@ -15,10 +15,10 @@ use Rattle.bpf_machine.specs.Schedule.{World, Settles, TakesTurn, RunsSchedule}
 use Rattle.bpf_machine.specs.Machine.{MachineState, Shows}
 use Rattle.bpf_machine.specs.Questions.{turns_left, open_jobs, Falls, TurnsFall}
 use Rattle.bpf_debug.specs.declared.breakpoint.Breakpoint.{Breakpoint}
-use Rattle.bpf_debug.specs.Answer.{ended_text, stop_line}
+use Rattle.bpf_debug.specs.Answer.{ended_text, changed_line, stop_line}
 use Rattle.bpf_debug.specs.Course.{KeepsOn}
 use Rattle.bpf_debug.proofs.CourseLaws.{keeps_none, keeps_more}
-use Rattle.bpf_debug.specs.Go.{HasWork, AreIdle, IsUp, StandsAt, has_break, has_gone, Goes, Done, Stops, Turns}
+use Rattle.bpf_debug.specs.Go.{HasWork, AreIdle, IsUp, StandsAt, has_break, has_gone, Goes, Done, Stops, Changes, Turns, ShowsOther, ShowsWatched, Watched, watched_value}
 
 -- ---- a CPU with work makes a turn
 settles_works : (w : World) (c j : ℕ) (task : Task) (new : Cpu) (left : ℕ) (end : Option Outcome) (answer : Turn) (z : World)
@@ -87,7 +87,7 @@ none_is A (Some n) h never = absurd (never n refl)
 abbrev pub Notes : Type 0
 Notes = Option (List (ℕ × ℕ))
 
-pub record Reached (breaks : List Breakpoint) (low high : ℕ) (noted : Notes) (w : World) (before : List ℕ)
+pub record Reached (breaks : List Breakpoint) (watch : Option Watched) (low high : ℕ) (noted : Notes) (w : World) (before : List ℕ)
     (new : MachineState) («from» : ℕ) (marks : List Bool) (notes : Notes) (after : List ℕ) : Type 0
   where
     pub here : World
@@ -98,15 +98,15 @@ pub record Reached (breaks : List Breakpoint) (low high : ℕ) (noted : Notes) (
     pub keeps : KeepsOn noted turns notes
     pub put : after ≡ before ++ text
     pub marked : (c : ℕ) → c < 256 → get_or marks c false ≡ has_gone gone c
-    pub onward : (rest more : List ℕ) (z : World) → Goes breaks low high here «from» gone rest more z
-        → Goes breaks low high w low [] (turns ++ rest) (text ++ more) z
+    pub onward : (rest more : List ℕ) (z : World) → Goes breaks watch low high here «from» gone rest more z
+        → Goes breaks watch low high w low [] (turns ++ rest) (text ++ more) z
 
-abbrev pub Comes : List Breakpoint → ℕ → ℕ → Notes → MachineState → List ℕ → MachineState → ℕ → List Bool → Notes → List ℕ → Type 0
-Comes breaks low high noted old before new «from» marks notes after =
-    (w : World) → Shows old w → Reached breaks low high noted w before new «from» marks notes after
+abbrev pub Comes : List Breakpoint → Option Watched → ℕ → ℕ → Notes → MachineState → List ℕ → MachineState → ℕ → List Bool → Notes → List ℕ → Type 0
+Comes breaks watch low high noted old before new «from» marks notes after =
+    (w : World) → Shows old w → Reached breaks watch low high noted w before new «from» marks notes after
 
-pub starts : (breaks : List Breakpoint) (low high : ℕ) (noted : Notes) (old : MachineState) (before : List ℕ) → Comes breaks low high noted old before old low (replicate 256 false) noted before
-starts breaks low high noted old before w shows = record {
+pub starts : (breaks : List Breakpoint) (watch : Option Watched) (low high : ℕ) (noted : Notes) (old : MachineState) (before : List ℕ) → Comes breaks watch low high noted old before old low (replicate 256 false) noted before
+starts breaks watch low high noted old before w shows = record {
   here = w;
   turns = [];
   text = [];
@@ -134,15 +134,25 @@ marked_more marks gone c inside was d small = elim (equal_or_not d c) [
       get_or-set_other marks c d true false ne ∙ was d small ∙ sym others
 ]
 
-module _ (breaks : List Breakpoint) (low high : ℕ) (noted : Notes) (old new : MachineState) (before : List ℕ) («from» : ℕ) (marks : List Bool) (notes : Notes) (after : List ℕ) (comes : Comes breaks low high noted old before new «from» marks notes after) where
-  -- the CPU that is up makes its turn
+module _ (breaks : List Breakpoint) (watch : Option Watched) (low high : ℕ) (noted : Notes) (old new : MachineState) (before : List ℕ) («from» : ℕ) (marks : List Bool) (notes : Notes) (after : List ℕ) (comes : Comes breaks watch low high noted old before new «from» marks notes after) where
+  -- it may make a turn
+  free : (c : ℕ) → c < 256 → ((get_or marks c false ≡ false) ⊎ ((p : ℕ) × StandsAt new.jobs c p × (has_break breaks c p ≡ false)))
+      → (gone : List ℕ) (here : World) → Shows new here → ((d : ℕ) → d < 256 → get_or marks d false ≡ has_gone gone d)
+      → (has_gone gone c ≡ false) ⊎ ((p : ℕ) × StandsAt here.jobs c p × (has_break breaks c p ≡ false))
+  free c small may gone here shown marked = elim may [
+    | inl never ↦ inl (sym (marked c small) ∙ never)
+    | inr at ↦ (let P : List Task → Type 0 = λ jobs. StandsAt jobs c at.0 in inr (at.0, subst P (sym shown.jobs) at.1, at.2))
+  ]
+
+  -- the CPU that is up makes its turn, which leaves the watched value as it was
   pub turned : (next : MachineState) (c : ℕ) (answer : Turn) (more : Notes) → c < 256 → c < length marks
       → IsUp new.jobs low high «from» c
       → ((get_or marks c false ≡ false) ⊎ ((p : ℕ) × StandsAt new.jobs c p × (has_break breaks c p ≡ false)))
       → ((w : World) → Shows new w → (z : World) × TakesTurn w c answer z × Shows next z)
       → KeepsOn notes (c ∷ []) more
-      → Comes breaks low high noted old before next (c + 1) (slice_set marks c true) more (after ++ ended_text c answer)
-  turned next c answer more small inside up may turns keeps w shows =
+      → (value : Option (List ℕ)) → ShowsWatched new.store watch value → ShowsWatched next.store watch value
+      → Comes breaks watch low high noted old before next (c + 1) (slice_set marks c true) more (after ++ ended_text c answer)
+  turned next c answer more small inside up may turns keeps value was is w shows =
       let r = comes w shows in
       let t = turns r.here r.shows in
       let J : List Task → Type 0 = λ jobs. IsUp jobs low high «from» c in
@@ -157,23 +167,45 @@ module _ (breaks : List Breakpoint) (low high : ℕ) (noted : Notes) (old new : 
         put = ap (λ (s : List ℕ). s ++ ended_text c answer) r.put ∙ append_assoc before r.text (ended_text c answer);
         marked = marked_more marks r.gone c inside r.marked;
         onward = λ rest more z goes. (
-            let one = Turns is_up (free r.gone r.here r.shows r.marked) t.1 goes in
+            let still = is t.0.store t.2.sound t.2.store ∙ sym (was r.here.store r.shows.sound r.shows.store) in
+            let one = Turns is_up (free c small may r.gone r.here r.shows r.marked) t.1 still goes in
             let all = r.onward (c ∷ rest) (ended_text c answer ++ more) z one in
-            let P : List ℕ → Type 0 = λ xs. Goes breaks low high w low [] xs (r.text ++ (ended_text c answer ++ more)) z in
-            let Q : List ℕ → Type 0 = λ xs. Goes breaks low high w low [] ((r.turns ++ c ∷ []) ++ rest) xs z in
+            let P : List ℕ → Type 0 = λ xs. Goes breaks watch low high w low [] xs (r.text ++ (ended_text c answer ++ more)) z in
+            let Q : List ℕ → Type 0 = λ xs. Goes breaks watch low high w low [] ((r.turns ++ c ∷ []) ++ rest) xs z in
             subst Q (sym (append_assoc r.text (ended_text c answer) more)) (subst P (sym (append_assoc r.turns (c ∷ []) rest)) all));
       }
-    where
-      free : (gone : List ℕ) (here : World) → Shows new here → ((d : ℕ) → d < 256 → get_or marks d false ≡ has_gone gone d)
-          → (has_gone gone c ≡ false) ⊎ ((p : ℕ) × StandsAt here.jobs c p × (has_break breaks c p ≡ false))
-      free gone here shown marked = elim may [
-        | inl never ↦ inl (sym (marked c small) ∙ never)
-        | inr at ↦ (let P : List Task → Type 0 = λ jobs. StandsAt jobs c at.0 in inr (at.0, subst P (sym shown.jobs) at.1, at.2))
-      ]
+
+  -- what a `go` has made of the machine and the notes, and its text
+  abbrev pub Leads : MachineState → Notes → List ℕ → Type 0
+  Leads final kept last =
+      (w : World) → Shows old w → (z : World) × (turns : List ℕ) × (text : List ℕ) × Goes breaks watch low high w low [] turns text z × Shows final z × KeepsOn noted turns kept × (last ≡ before ++ text)
 
   abbrev pub Ends : List ℕ → Type 0
-  Ends last =
-      (w : World) → Shows old w → (z : World) × (turns : List ℕ) × (text : List ℕ) × Goes breaks low high w low [] turns text z × Shows new z × KeepsOn noted turns notes × (last ≡ before ++ text)
+  Ends last = Leads new notes last
+
+  -- it makes its turn, which changes the watched value
+  pub changed : (next : MachineState) (c : ℕ) (answer : Turn) (more : Notes) → c < 256
+      → IsUp new.jobs low high «from» c
+      → ((get_or marks c false ≡ false) ⊎ ((p : ℕ) × StandsAt new.jobs c p × (has_break breaks c p ≡ false)))
+      → ((w : World) → Shows new w → (z : World) × TakesTurn w c answer z × Shows next z)
+      → KeepsOn notes (c ∷ []) more
+      → (value : Option (List ℕ)) → ShowsWatched new.store watch value → ShowsOther next.store watch value
+      → Leads next more ((after ++ ended_text c answer) ++ changed_line c)
+  changed next c answer more small up may turns keeps value was other w shows =
+      let r = comes w shows in
+      let t = turns r.here r.shows in
+      let J : List Task → Type 0 = λ jobs. IsUp jobs low high «from» c in
+      let is_up = subst J (sym r.shows.jobs) up in
+      let line = ended_text c answer ++ changed_line c in
+      let differs : watched_value watch t.0.store ≡ watched_value watch r.here.store → ⊥ = λ e. other t.0.store t.2.sound t.2.store (e ∙ was r.here.store r.shows.sound r.shows.store) in (
+        t.0,
+        r.turns ++ c ∷ [],
+        r.text ++ line,
+        r.onward (c ∷ []) line t.0 (Changes is_up (free c small may r.gone r.here r.shows r.marked) t.1 differs),
+        t.2,
+        keeps_more noted notes more r.turns (c ∷ []) r.keeps keeps,
+        append_assoc after (ended_text c answer) (changed_line c) ∙ ap (λ (s : List ℕ). s ++ line) r.put ∙ append_assoc before r.text line,
+      )
 
   pub ended : AreIdle new.jobs low high → Ends (after ++ codes "done\n")
   ended idle w shows =
@@ -206,11 +238,11 @@ module _ (breaks : List Breakpoint) (low high : ℕ) (noted : Notes) (old new : 
       )
 
 -- ---- the measure, and the room
-pub falls : TurnsFall → (breaks : List Breakpoint) (low high : ℕ) (noted notes : Notes) (old new next : MachineState) (before after : List ℕ) («from» : ℕ) (marks : List Bool) (c : ℕ) (answer : Turn)
-    → (w : World) → Shows old w → Comes breaks low high noted old before new «from» marks notes after
+pub falls : TurnsFall → (breaks : List Breakpoint) (watch : Option Watched) (low high : ℕ) (noted notes : Notes) (old new next : MachineState) (before after : List ℕ) («from» : ℕ) (marks : List Bool) (c : ℕ) (answer : Turn)
+    → (w : World) → Shows old w → Comes breaks watch low high noted old before new «from» marks notes after
     → ((w : World) → Shows new w → (z : World) × TakesTurn w c answer z × Shows next z)
     → Falls answer new.jobs next.jobs
-falls law breaks low high noted notes old new next before after «from» marks c answer w shows comes turns =
+falls law breaks watch low high noted notes old new next before after «from» marks c answer w shows comes turns =
     let r = comes w shows in
     let t = turns r.here r.shows in
     let f = (law r.here t.0 c answer t.1).0 in
@@ -218,11 +250,11 @@ falls law breaks low high noted notes old new next before after «from» marks c
     let Q : List Task → Type 0 = λ jobs. Falls answer new.jobs jobs in
     subst Q t.2.jobs (subst P r.shows.jobs f)
 
-pub not_idle : (breaks : List Breakpoint) (low high : ℕ) (noted notes : Notes) (old new next : MachineState) (before after : List ℕ) («from» : ℕ) (marks : List Bool) (c : ℕ) (answer : Turn)
-    → (w : World) → Shows old w → Comes breaks low high noted old before new «from» marks notes after → HasWork new.jobs c
+pub not_idle : (breaks : List Breakpoint) (watch : Option Watched) (low high : ℕ) (noted notes : Notes) (old new next : MachineState) (before after : List ℕ) («from» : ℕ) (marks : List Bool) (c : ℕ) (answer : Turn)
+    → (w : World) → Shows old w → Comes breaks watch low high noted old before new «from» marks notes after → HasWork new.jobs c
     → ((w : World) → Shows new w → (z : World) × TakesTurn w c answer z × Shows next z)
     → answer ≡ turn.Idle → ⊥
-not_idle breaks low high noted notes old new next before after «from» marks c answer w shows comes has turns idle =
+not_idle breaks watch low high noted notes old new next before after «from» marks c answer w shows comes has turns idle =
     let r = comes w shows in
     let t = turns r.here r.shows in
     let P : List Task → Type 0 = λ jobs. HasWork jobs c in
@@ -250,7 +282,8 @@ room_left (turn.Ended j end) old new size more room wide f works fits grows most
 room_left turn.Idle old new size more room wide f works fits grows most none = absurd (works refl)
 
 -- ---- the turns of a `go` are a schedule
-pub goes_runs : (breaks : List Breakpoint) (low high : ℕ) (w : World) («from» : ℕ) (gone turns text : List ℕ) (z : World) → Goes breaks low high w «from» gone turns text z → RunsSchedule w turns z
-goes_runs breaks low high w «from» gone turns text z (Done idle) = refl
-goes_runs breaks low high w «from» gone turns text z (Stops up went stands break) = refl
-goes_runs breaks low high w «from» gone turns text z (Turns {answer = answer} {m = m} up may takes goes) = (answer, m, takes, goes_runs breaks low high m _ _ _ _ z goes)
+pub goes_runs : (breaks : List Breakpoint) (watch : Option Watched) (low high : ℕ) (w : World) («from» : ℕ) (gone turns text : List ℕ) (z : World) → Goes breaks watch low high w «from» gone turns text z → RunsSchedule w turns z
+goes_runs breaks watch low high w «from» gone turns text z (Done idle) = refl
+goes_runs breaks watch low high w «from» gone turns text z (Stops up went stands break) = refl
+goes_runs breaks watch low high w «from» gone turns text z (Turns {answer = answer} {m = m} up may takes still goes) = (answer, m, takes, goes_runs breaks watch low high m _ _ _ _ z goes)
+goes_runs breaks watch low high w «from» gone turns text z (Changes {answer = answer} {m = m} up may takes differs) = (answer, m, takes, refl)

@@ -1,6 +1,8 @@
 -- Over a machine whose jobs all wait, a script has one list of answers.
 use Rattle.std.proofs.Common.{◌≡◌, ◌≢◌, ℕ, zero, suc, ◌+◌, ◌<◌, ◌≤◌, Bool, true, false, ◌&&◌, if◌then◌else◌, List, [], ◌∷◌, ◌++◌, length, Option, Some, None, ◌⊎◌, inl, inr, refl, sym, ap, subst, ◌∙◌, arith, replicate}
-use Rattle.std.specs.Prelude.{◌==◌, nat_lt, Ok, Err}
+use Rattle.std.specs.Prelude.{◌==◌, nat_lt, Result, Ok, Err, IsOk, IsErr, is_ok, is_err}
+use Rattle.hex.specs.declared.error.FromHexError.{FromHexError}
+use Rattle.hex.specs.Hex.{decode_of}
 use Rattle.std.proofs.lemmas.Bool.{cases_order, lt-ltb}
 use Rattle.bpf_shared.specs.Laws.{CallsHaveOneReply}
 use Rattle.bpf_mem.specs.Laws.{WritesAreDetermined}
@@ -19,10 +21,10 @@ use Rattle.bpf_debug.specs.declared.recall.Kind.TheVariants as kind
 use Rattle.bpf_debug.specs.Recall.{Past, Recalls, IsLastText, is_of, past_after}
 use Rattle.bpf_debug.specs.Show.{IsShownText}
 use Rattle.bpf_debug.proofs.RecallLaws.{recalls_run}
-use Rattle.bpf_debug.specs.Answer.{IsWhere, ended_text, stop_line}
-use Rattle.bpf_debug.specs.Command.{Order, Break, Delete, Step, StepTimes, Steps, Go, Registers, Where, Memory, Map, Keys, Schedule, GoTo, Maps, Jobs, Mark, Back, Help, Held, Nearby, Last, Show, order_of}
+use Rattle.bpf_debug.specs.Answer.{IsWhere, changed_line, ended_text, stop_line, watch_line}
+use Rattle.bpf_debug.specs.Command.{Order, Break, Delete, Step, StepTimes, Steps, Go, Registers, Where, Memory, Map, Keys, Schedule, GoTo, Maps, Jobs, Mark, Back, Help, Held, Nearby, Last, Show, Watch, Unwatch, order_of}
 use Rattle.bpf_debug.specs.Turns.{MakesTurns, MakesRuns, last_cpu}
-use Rattle.bpf_debug.specs.Go.{HasWork, AreIdle, IsUp, StandsAt, Goes, Done, Stops, Turns, has_break, has_gone}
+use Rattle.bpf_debug.specs.Go.{HasWork, AreIdle, IsUp, StandsAt, Goes, Done, Stops, Changes, Turns, Watched, has_break, has_gone, watched_value}
 use Rattle.bpf_debug.specs.Read.{IsMapText, IsKeysText}
 use Rattle.bpf_debug.specs.Course.{cpu_before, turns_before}
 use Rattle.bpf_machine.specs.Laws.{IsFresh}
@@ -87,6 +89,8 @@ cpu_refused x y (GoTo (Some c) None) text f r = absurd f
 cpu_refused x y (GoTo None p) text f r = absurd f
 cpu_refused x y Maps text f r = r
 cpu_refused x y Jobs text f r = r
+cpu_refused x y (Watch name digits) text f r = absurd r
+cpu_refused x y Unwatch text f r = absurd r
 cpu_refused x y (Mark n) text f r = r
 cpu_refused x y (Back n) text f r = r
 cpu_refused x y Help text f r = r
@@ -119,6 +123,8 @@ pc_refused x y (GoTo (Some c) None) text f r = absurd f
 pc_refused x y (GoTo None p) text f r = absurd f
 pc_refused x y Maps text f r = absurd r
 pc_refused x y Jobs text f r = absurd r
+pc_refused x y (Watch name digits) text f r = absurd r
+pc_refused x y Unwatch text f r = absurd r
 pc_refused x y (Mark n) text f r = absurd r
 pc_refused x y (Back n) text f r = absurd r
 pc_refused x y Help text f r = absurd r
@@ -135,6 +141,8 @@ map_refused x y Schedule text f r = absurd r
 map_refused x y (GoTo c p) text f r = absurd r
 map_refused x y Maps text f r = absurd r
 map_refused x y Jobs text f r = absurd r
+map_refused x y (Watch name digits) text f r = r.0 f.0 f.2.0
+map_refused x y Unwatch text f r = absurd r
 map_refused x y (Mark n) text f r = absurd r
 map_refused x y (Back n) text f r = absurd r
 map_refused x y Help text f r = absurd r
@@ -152,7 +160,17 @@ map_refused x y (Registers c) text f r = absurd r
 map_refused x y (Where c) text f r = absurd r
 map_refused x y (Memory c at n) text f r = absurd r
 
-turns_refused : (x y : Scene) (order : Order) (text : List ℕ) → CarriesOut x order text y → RefusesOrder x.world.store.shape.cpus x.world.programs x.names (Some (length x.turns)) order error.NoTurns → ⊥
+not_bytes : (digits key : List ℕ) → decode_of digits ≡ Ok key → IsErr (decode_of digits) → ⊥
+not_bytes digits key is none = let both : true ≡ false = sym none ∙ ap is_err is in cc
+
+not_both_bytes : (digits : List ℕ) → IsOk (decode_of digits) → IsErr (decode_of digits) → ⊥
+not_both_bytes digits some none = by_result (decode_of digits) some none
+  where
+    by_result : (r : Result (List ℕ) FromHexError) → is_ok r ≡ true → is_err r ≡ true → ⊥
+    by_result (Ok key) some none = let both : false ≡ true = none in cc
+    by_result (Err e) some none = let both : false ≡ true = some in cc
+
+turns_refused : (x y : Scene) (order : Order) (text : List ℕ) → CarriesOut x order text y → RefusesOrder x.world.store.shape.cpus x.world.programs x.names (Some (length x.turns)) order error.BadOperand → ⊥
 turns_refused x y (Back n) text f r = omega (arith, f.0, r)
 turns_refused x y (Map name) text f r = absurd r
 turns_refused x y (Keys name) text f r = absurd r
@@ -160,6 +178,8 @@ turns_refused x y Schedule text f r = absurd r
 turns_refused x y (GoTo c p) text f r = absurd r
 turns_refused x y Maps text f r = absurd r
 turns_refused x y Jobs text f r = absurd r
+turns_refused x y (Watch name digits) text f r = not_bytes digits f.1 f.3 r
+turns_refused x y Unwatch text f r = absurd r
 turns_refused x y (Mark n) text f r = absurd r
 turns_refused x y Help text f r = absurd r
 turns_refused x y (Held c) text f r = absurd r
@@ -185,7 +205,7 @@ line_refused x y [] text error.OutOfMemory o memory r = memory refl
 line_refused x y [] text error.NoCpu o memory r = let both : None ≡ Some r.0 = r.1 in cc
 line_refused x y [] text error.NoPc o memory r = let both : None ≡ Some r.0 = r.1 in cc
 line_refused x y [] text error.NoMap o memory r = let both : None ≡ Some r.0 = r.1 in cc
-line_refused x y [] text error.NoTurns o memory r = let both : None ≡ Some r.0 = r.1 in cc
+line_refused x y [] text error.BadOperand o memory r = let both : None ≡ Some r.0 = r.1 in cc
 line_refused x y (f ∷ fs) text error.BadCommand o memory r = let both : Some o.0 ≡ None = sym o.1 ∙ r.1 in cc
 line_refused x y (f ∷ fs) text error.OutOfMemory o memory r = memory refl
 line_refused x y (f ∷ fs) text error.NoCpu o memory r =
@@ -197,7 +217,7 @@ line_refused x y (f ∷ fs) text error.NoPc o memory r =
 line_refused x y (f ∷ fs) text error.NoMap o memory r =
     let P : Order → Type 0 = λ order. CarriesOut x order text y in
     map_refused x y r.0 text (subst P (same_order (f ∷ fs) o.0 r.0 o.1 r.1) o.2) r.2
-line_refused x y (f ∷ fs) text error.NoTurns o memory r =
+line_refused x y (f ∷ fs) text error.BadOperand o memory r =
     let P : Order → Type 0 = λ order. CarriesOut x order text y in
     turns_refused x y r.0 text (subst P (same_order (f ∷ fs) o.0 r.0 o.1 r.1) o.2) r.2
 
@@ -220,6 +240,8 @@ module _ (cpus : ℕ) (programs : List Loaded) (names : List (List ℕ)) (count 
   cpu_or_pc (GoTo c p) a b = b.0 a
   cpu_or_pc Maps a b = absurd b
   cpu_or_pc Jobs a b = absurd b
+  cpu_or_pc (Watch name digits) a b = absurd b
+  cpu_or_pc Unwatch a b = absurd b
   cpu_or_pc (Mark n) a b = absurd b
   cpu_or_pc (Back n) a b = absurd b
   cpu_or_pc Help a b = absurd b
@@ -244,6 +266,8 @@ module _ (cpus : ℕ) (programs : List Loaded) (names : List (List ℕ)) (count 
   cpu_or_map (GoTo c p) a b = absurd b
   cpu_or_map Maps a b = absurd b
   cpu_or_map Jobs a b = absurd b
+  cpu_or_map (Watch name digits) a b = absurd a
+  cpu_or_map Unwatch a b = absurd b
   cpu_or_map (Mark n) a b = absurd b
   cpu_or_map (Back n) a b = absurd b
   cpu_or_map Help a b = absurd b
@@ -268,6 +292,8 @@ module _ (cpus : ℕ) (programs : List Loaded) (names : List (List ℕ)) (count 
   pc_or_map (GoTo c p) a b = absurd b
   pc_or_map Maps a b = absurd b
   pc_or_map Jobs a b = absurd b
+  pc_or_map (Watch name digits) a b = absurd a
+  pc_or_map Unwatch a b = absurd b
   pc_or_map (Mark n) a b = absurd b
   pc_or_map (Back n) a b = absurd b
   pc_or_map Help a b = absurd b
@@ -275,7 +301,7 @@ module _ (cpus : ℕ) (programs : List Loaded) (names : List (List ℕ)) (count 
   pc_or_map (Nearby c) a b = absurd b
   pc_or_map (Delete c p) a b = absurd b
 
-  cpu_or_turns : (order : Order) → RefusesOrder cpus programs names count order error.NoCpu → RefusesOrder cpus programs names count order error.NoTurns → ⊥
+  cpu_or_turns : (order : Order) → RefusesOrder cpus programs names count order error.NoCpu → RefusesOrder cpus programs names count order error.BadOperand → ⊥
   cpu_or_turns (Back n) a b = absurd a
   cpu_or_turns (Break c p) a b = absurd b
   cpu_or_turns (Step c) a b = absurd b
@@ -293,13 +319,15 @@ module _ (cpus : ℕ) (programs : List Loaded) (names : List (List ℕ)) (count 
   cpu_or_turns (GoTo c p) a b = absurd b
   cpu_or_turns Maps a b = absurd b
   cpu_or_turns Jobs a b = absurd b
+  cpu_or_turns (Watch name digits) a b = absurd a
+  cpu_or_turns Unwatch a b = absurd b
   cpu_or_turns (Mark n) a b = absurd b
   cpu_or_turns Help a b = absurd b
   cpu_or_turns (Held c) a b = absurd b
   cpu_or_turns (Nearby c) a b = absurd b
   cpu_or_turns (Delete c p) a b = absurd b
 
-  pc_or_turns : (order : Order) → RefusesOrder cpus programs names count order error.NoPc → RefusesOrder cpus programs names count order error.NoTurns → ⊥
+  pc_or_turns : (order : Order) → RefusesOrder cpus programs names count order error.NoPc → RefusesOrder cpus programs names count order error.BadOperand → ⊥
   pc_or_turns (Back n) a b = absurd a
   pc_or_turns (Break c p) a b = absurd b
   pc_or_turns (Step c) a b = absurd b
@@ -317,13 +345,15 @@ module _ (cpus : ℕ) (programs : List Loaded) (names : List (List ℕ)) (count 
   pc_or_turns (GoTo c p) a b = absurd b
   pc_or_turns Maps a b = absurd b
   pc_or_turns Jobs a b = absurd b
+  pc_or_turns (Watch name digits) a b = absurd a
+  pc_or_turns Unwatch a b = absurd b
   pc_or_turns (Mark n) a b = absurd b
   pc_or_turns Help a b = absurd b
   pc_or_turns (Held c) a b = absurd b
   pc_or_turns (Nearby c) a b = absurd b
   pc_or_turns (Delete c p) a b = absurd b
 
-  map_or_turns : (order : Order) → RefusesOrder cpus programs names count order error.NoMap → RefusesOrder cpus programs names count order error.NoTurns → ⊥
+  map_or_turns : (order : Order) → RefusesOrder cpus programs names count order error.NoMap → RefusesOrder cpus programs names count order error.BadOperand → ⊥
   map_or_turns (Back n) a b = absurd a
   map_or_turns (Break c p) a b = absurd b
   map_or_turns (Step c) a b = absurd b
@@ -341,6 +371,8 @@ module _ (cpus : ℕ) (programs : List Loaded) (names : List (List ℕ)) (count 
   map_or_turns (GoTo c p) a b = absurd b
   map_or_turns Maps a b = absurd b
   map_or_turns Jobs a b = absurd b
+  map_or_turns (Watch name digits) a b = not_both_bytes digits a.1 b
+  map_or_turns Unwatch a b = absurd b
   map_or_turns (Mark n) a b = absurd b
   map_or_turns Help a b = absurd b
   map_or_turns (Held c) a b = absurd b
@@ -360,13 +392,13 @@ module _ (cpus : ℕ) (programs : List Loaded) (names : List (List ℕ)) (count 
     both_pc_map : Why error.NoPc → Why error.NoMap → ⊥
     both_pc_map a b = pc_or_map b.0 (subst (λ (o : Order). RefusesOrder cpus programs names count o error.NoPc) (same_order fields a.0 b.0 a.1 b.1) a.2) b.2
 
-    both_cpu_turns : Why error.NoCpu → Why error.NoTurns → ⊥
+    both_cpu_turns : Why error.NoCpu → Why error.BadOperand → ⊥
     both_cpu_turns a b = cpu_or_turns b.0 (subst (λ (o : Order). RefusesOrder cpus programs names count o error.NoCpu) (same_order fields a.0 b.0 a.1 b.1) a.2) b.2
 
-    both_pc_turns : Why error.NoPc → Why error.NoTurns → ⊥
+    both_pc_turns : Why error.NoPc → Why error.BadOperand → ⊥
     both_pc_turns a b = pc_or_turns b.0 (subst (λ (o : Order). RefusesOrder cpus programs names count o error.NoPc) (same_order fields a.0 b.0 a.1 b.1) a.2) b.2
 
-    both_map_turns : Why error.NoMap → Why error.NoTurns → ⊥
+    both_map_turns : Why error.NoMap → Why error.BadOperand → ⊥
     both_map_turns a b = map_or_turns b.0 (subst (λ (o : Order). RefusesOrder cpus programs names count o error.NoMap) (same_order fields a.0 b.0 a.1 b.1) a.2) b.2
 
     bad : Why error.BadCommand → (order : Order) → order_of fields ≡ Some order → ⊥
@@ -389,15 +421,15 @@ module _ (cpus : ℕ) (programs : List Loaded) (names : List (List ℕ)) (count 
     one_reason error.BadCommand error.NoPc n m a b = absurd (bad a b.0 b.1)
     one_reason error.BadCommand error.NoMap n m a b = absurd (bad a b.0 b.1)
     one_reason error.BadCommand error.BadCommand n m a b = refl
-    one_reason error.NoCpu error.NoTurns n m a b = absurd (both_cpu_turns a b)
-    one_reason error.NoPc error.NoTurns n m a b = absurd (both_pc_turns a b)
-    one_reason error.NoMap error.NoTurns n m a b = absurd (both_map_turns a b)
-    one_reason error.BadCommand error.NoTurns n m a b = absurd (bad a b.0 b.1)
-    one_reason error.NoTurns error.NoCpu n m a b = absurd (both_cpu_turns b a)
-    one_reason error.NoTurns error.NoPc n m a b = absurd (both_pc_turns b a)
-    one_reason error.NoTurns error.NoMap n m a b = absurd (both_map_turns b a)
-    one_reason error.NoTurns error.BadCommand n m a b = absurd (bad b a.0 a.1)
-    one_reason error.NoTurns error.NoTurns n m a b = refl
+    one_reason error.NoCpu error.BadOperand n m a b = absurd (both_cpu_turns a b)
+    one_reason error.NoPc error.BadOperand n m a b = absurd (both_pc_turns a b)
+    one_reason error.NoMap error.BadOperand n m a b = absurd (both_map_turns a b)
+    one_reason error.BadCommand error.BadOperand n m a b = absurd (bad a b.0 b.1)
+    one_reason error.BadOperand error.NoCpu n m a b = absurd (both_cpu_turns b a)
+    one_reason error.BadOperand error.NoPc n m a b = absurd (both_pc_turns b a)
+    one_reason error.BadOperand error.NoMap n m a b = absurd (both_map_turns b a)
+    one_reason error.BadOperand error.BadCommand n m a b = absurd (bad b a.0 a.1)
+    one_reason error.BadOperand error.BadOperand n m a b = refl
     one_reason error.OutOfMemory f n m a b = absurd (n refl)
     one_reason e error.OutOfMemory n m a b = absurd (m refl)
 
@@ -418,29 +450,29 @@ module _ (law : WritesAreDetermined) (begins : OneInstructionBegins) (replies : 
     worlds : y ≡ z
     world : IsWorld y
 
-  one_go : (breaks : List Breakpoint) (low high : ℕ) (w : World) («from» : ℕ) (gone turns others text other : List ℕ) (y z : World) → IsWorld w
-      → Goes breaks low high w «from» gone turns text y → Goes breaks low high w «from» gone others other z → (turns ≡ others) × OneGo text other y z
-  one_go breaks low high w «from» gone turns others text other y z world (Done idle) (Done still) = (refl, record { texts = refl; worlds = refl; world = world })
-  one_go breaks low high w «from» gone turns others text other y z world (Done idle) (Stops {c = c} up went stands break) = absurd (idle_not_up w.jobs low high c idle up.works up.above up.within)
-  one_go breaks low high w «from» gone turns others text other y z world (Done idle) (Turns {c = c} up may takes goes) = absurd (idle_not_up w.jobs low high c idle up.works up.above up.within)
-  one_go breaks low high w «from» gone turns others text other y z world (Stops {c = c} up went stands break) (Done idle) = absurd (idle_not_up w.jobs low high c idle up.works up.above up.within)
-  one_go breaks low high w «from» gone turns others text other y z world (Stops {c = c} {p = p} up went stands break) (Stops {c = d} {p = q} up' went' stands' break') =
+  one_go : (breaks : List Breakpoint) (watch : Option Watched) (low high : ℕ) (w : World) («from» : ℕ) (gone turns others text other : List ℕ) (y z : World) → IsWorld w
+      → Goes breaks watch low high w «from» gone turns text y → Goes breaks watch low high w «from» gone others other z → (turns ≡ others) × OneGo text other y z
+  one_go breaks watch low high w «from» gone turns others text other y z world (Done idle) (Done still) = (refl, record { texts = refl; worlds = refl; world = world })
+  one_go breaks watch low high w «from» gone turns others text other y z world (Done idle) (Stops {c = c} up went stands break) = absurd (idle_not_up w.jobs low high c idle up.works up.above up.within)
+  one_go breaks watch low high w «from» gone turns others text other y z world (Done idle) (Turns {c = c} up may takes still goes) = absurd (idle_not_up w.jobs low high c idle up.works up.above up.within)
+  one_go breaks watch low high w «from» gone turns others text other y z world (Stops {c = c} up went stands break) (Done idle) = absurd (idle_not_up w.jobs low high c idle up.works up.above up.within)
+  one_go breaks watch low high w «from» gone turns others text other y z world (Stops {c = c} {p = p} up went stands break) (Stops {c = d} {p = q} up' went' stands' break') =
       let same : c ≡ d = one_up w.jobs low high «from» c d up up' in
       let P : ℕ → Type 0 = λ n. StandsAt w.jobs n q in
       let place : p ≡ q = one_place w world c p q stands (subst P (sym same) stands') in
       (refl, record { texts = ap (λ (n : ℕ). stop_line n p) same ∙ ap (stop_line d) place; worlds = refl; world = world })
-  one_go breaks low high w «from» gone turns others text other y z world (Stops {c = c} {p = p} up went stands break) (Turns {c = d} up' may takes goes) =
+  one_go breaks watch low high w «from» gone turns others text other y z world (Stops {c = c} {p = p} up went stands break) (Turns {c = d} up' may takes still goes) =
       absurd (stops_here breaks w gone c d p world (one_up w.jobs low high «from» c d up up') went stands break may)
-  one_go breaks low high w «from» gone turns others text other y z world (Turns {c = c} up may takes goes) (Done idle) = absurd (idle_not_up w.jobs low high c idle up.works up.above up.within)
-  one_go breaks low high w «from» gone turns others text other y z world (Turns {c = d} up' may takes goes) (Stops {c = c} {p = p} up went stands break) =
+  one_go breaks watch low high w «from» gone turns others text other y z world (Turns {c = c} up may takes still goes) (Done idle) = absurd (idle_not_up w.jobs low high c idle up.works up.above up.within)
+  one_go breaks watch low high w «from» gone turns others text other y z world (Turns {c = d} up' may takes still goes) (Stops {c = c} {p = p} up went stands break) =
       absurd (stops_here breaks w gone c d p world (one_up w.jobs low high «from» c d up up') went stands break may)
-  one_go breaks low high w «from» gone turns others text other y z world (Turns {c = c} {answer = answer} {m = m} {turns = ts} {text = more} up may takes goes) (Turns {c = d} {answer = reply} {m = n} {turns = us} {text = rest} up' may' takes' goes') =
+  one_go breaks watch low high w «from» gone turns others text other y z world (Turns {c = c} {answer = answer} {m = m} {turns = ts} {text = more} up may takes still goes) (Turns {c = d} {answer = reply} {m = n} {turns = us} {text = rest} up' may' takes' still' goes') =
       let same : d ≡ c = one_up w.jobs low high «from» d c up' up in
       let P : ℕ → Type 0 = λ e. TakesTurn w e reply n in
       let one = one_turn law begins replies w c answer reply m n world takes (subst P same takes') in
-      let Q : ℕ → Type 0 = λ e. Goes breaks low high n (e + 1) (e ∷ gone) us rest z in
-      let R : World → Type 0 = λ x. Goes breaks low high x (c + 1) (c ∷ gone) us rest z in
-      let go = one_go breaks low high m (c + 1) (c ∷ gone) ts us more rest y z one.world goes (subst R (sym one.worlds) (subst Q same goes')) in (
+      let Q : ℕ → Type 0 = λ e. Goes breaks watch low high n (e + 1) (e ∷ gone) us rest z in
+      let R : World → Type 0 = λ x. Goes breaks watch low high x (c + 1) (c ∷ gone) us rest z in
+      let go = one_go breaks watch low high m (c + 1) (c ∷ gone) ts us more rest y z one.world goes (subst R (sym one.worlds) (subst Q same goes')) in (
         ap (λ (e : ℕ). e ∷ ts) (sym same) ∙ ap (λ (cs : List ℕ). d ∷ cs) go.0,
         record {
           texts = ap (λ (t : Turn). ended_text c t ++ more) one.answers
@@ -450,6 +482,33 @@ module _ (law : WritesAreDetermined) (begins : OneInstructionBegins) (replies : 
           world = go.1.world;
         },
       )
+  one_go breaks watch low high w «from» gone turns others text other y z world (Done idle) (Changes {c = c} up may takes differs) = absurd (idle_not_up w.jobs low high c idle up.works up.above up.within)
+  one_go breaks watch low high w «from» gone turns others text other y z world (Changes {c = c} up may takes differs) (Done idle) = absurd (idle_not_up w.jobs low high c idle up.works up.above up.within)
+  one_go breaks watch low high w «from» gone turns others text other y z world (Stops {c = c} {p = p} up went stands break) (Changes {c = d} up' may takes differs) =
+      absurd (stops_here breaks w gone c d p world (one_up w.jobs low high «from» c d up up') went stands break may)
+  one_go breaks watch low high w «from» gone turns others text other y z world (Changes {c = d} up' may takes differs) (Stops {c = c} {p = p} up went stands break) =
+      absurd (stops_here breaks w gone c d p world (one_up w.jobs low high «from» c d up up') went stands break may)
+  one_go breaks watch low high w «from» gone turns others text other y z world (Changes {c = c} {answer = answer} {m = m} up may takes differs) (Changes {c = d} {answer = reply} {m = n} up' may' takes' differs') =
+      let same : d ≡ c = one_up w.jobs low high «from» d c up' up in
+      let P : ℕ → Type 0 = λ e. TakesTurn w e reply n in
+      let one = one_turn law begins replies w c answer reply m n world takes (subst P same takes') in (
+        ap (λ (e : ℕ). e ∷ []) (sym same),
+        record {
+          texts = ap (λ (t : Turn). ended_text c t ++ changed_line c) one.answers ∙ ap (λ (e : ℕ). ended_text e reply ++ changed_line e) (sym same);
+          worlds = one.worlds;
+          world = one.world;
+        },
+      )
+  one_go breaks watch low high w «from» gone turns others text other y z world (Changes {c = c} {answer = answer} {m = m} up may takes differs) (Turns {c = d} {answer = reply} {m = n} up' may' takes' still' goes') =
+      let same : d ≡ c = one_up w.jobs low high «from» d c up' up in
+      let P : ℕ → Type 0 = λ e. TakesTurn w e reply n in
+      let one = one_turn law begins replies w c answer reply m n world takes (subst P same takes') in
+      absurd (differs (ap (λ (x : World). watched_value watch x.store) one.worlds ∙ still'))
+  one_go breaks watch low high w «from» gone turns others text other y z world (Turns {c = c} {answer = answer} {m = m} up may takes still goes) (Changes {c = d} {answer = reply} {m = n} up' may' takes' differs') =
+      let same : d ≡ c = one_up w.jobs low high «from» d c up' up in
+      let P : ℕ → Type 0 = λ e. TakesTurn w e reply n in
+      let one = one_turn law begins replies w c answer reply m n world takes (subst P same takes') in
+      absurd (differs' (ap (λ (x : World). watched_value watch x.store) (sym one.worlds) ∙ still))
 
   one_turns : (w : World) (c n : ℕ) (text other : List ℕ) (y z : World) → IsWorld w → MakesTurns w c n text y → MakesTurns w c n other z → OneGo text other y z
   one_turns w c zero text other y z world a b =
@@ -547,6 +606,8 @@ module _ (law : WritesAreDetermined) (begins : OneInstructionBegins) (replies : 
   one_answer_to x Schedule text other world a b = a ∙ sym b
   one_answer_to x Maps text other world a b = a ∙ sym b
   one_answer_to x Jobs text other world a b = a ∙ sym b
+  one_answer_to x (Watch name digits) text other world a b = absurd a
+  one_answer_to x Unwatch text other world a b = absurd a
   one_answer_to x (Mark n) text other world a b = a ∙ sym b
   one_answer_to x Help text other world a b = a ∙ sym b
   one_answer_to x (Held (Some c)) text other world a b = one_held_text x.world world x.names c text other a.1 b.1
@@ -597,6 +658,22 @@ module _ (law : WritesAreDetermined) (begins : OneInstructionBegins) (replies : 
   one_follow x y z (Delete None p) text other world first a b = absurd a
   one_follow x y z (Break (Some c) None) text other world first a b = absurd a
   one_follow x y z (Break None p) text other world first a b = absurd a
+  one_follow x y z (Watch name digits) text other world first a b =
+      let map : a.0 ≡ b.0 = one_name x.names name a.0 b.0 a.2 b.2 in
+      let both : Ok a.1 ≡ Ok b.1 = sym a.3 ∙ b.3 in
+      let key : a.1 ≡ b.1 = cc in
+      record {
+        texts = a.4 ∙ ap (λ (k : List ℕ). watch_line name k) key ∙ sym b.4;
+        scenes = a.5 ∙ ap (λ (m : ℕ). record x { watch = Some (m, a.1) }) map ∙ ap (λ (k : List ℕ). record x { watch = Some (b.0, k) }) key ∙ sym b.5;
+        world = subst (λ (s : Scene). IsWorld s.world) (sym a.5) world;
+        first = subst (λ (s : Scene). IsWorld s.first) (sym a.5) first;
+      }
+  one_follow x y z Unwatch text other world first a b = record {
+    texts = a.0 ∙ sym b.0;
+    scenes = a.1 ∙ sym b.1;
+    world = subst (λ (s : Scene). IsWorld s.world) (sym a.1) world;
+    first = subst (λ (s : Scene). IsWorld s.first) (sym a.1) first;
+  }
   one_follow x y z (Step (Some c)) text other world first (has, a) (had, b) =
       let one = one_turn law begins replies x.world c a.0 b.0 a.1 b.1 world a.3 b.3 in
       let P : World → Type 0 = λ w. IsWhere w.jobs c b.2 in
@@ -632,12 +709,12 @@ module _ (law : WritesAreDetermined) (begins : OneInstructionBegins) (replies : 
   one_follow x y z (Show None) text other world first a b = absurd a
   one_follow x y z (Last None) text other world first a b = absurd a
   one_follow x y z Go text other world first a b =
-      let both = one_go x.breaks 0 x.world.store.shape.cpus x.world 0 [] a.1 b.1 text other a.0 b.0 world a.2 b.2 in
+      let both = one_go x.breaks x.watch 0 x.world.store.shape.cpus x.world 0 [] a.1 b.1 text other a.0 b.0 world a.2 b.2 in
       went_alike x y z a.1 b.1 text other a.0 b.0 first both a.3 b.3
   one_follow x y z (GoTo (Some c) (Some p)) text other world first (has, a) (had, b) =
       let u = a.1 in
       let v = b.1 in
-      let both = one_go (record { cpu = c; pc = p } ∷ []) c (c + 1) x.world c [] u.1 v.1 text other u.0 v.0 world u.2 v.2 in
+      let both = one_go (record { cpu = c; pc = p } ∷ []) x.watch c (c + 1) x.world c [] u.1 v.1 text other u.0 v.0 world u.2 v.2 in
       went_alike x y z u.1 v.1 text other u.0 v.0 first both u.3 v.3
   one_follow x y z (GoTo (Some c) None) text other world first a b = absurd a
   one_follow x y z (GoTo None p) text other world first a b = absurd a

@@ -1,6 +1,6 @@
 -- Questions change nothing.
-use Rattle.std.proofs.Common.{◌≡◌, ℕ, List, Option, Some, None, ap}
-use Rattle.bpf_debug.specs.Command.{Order, Break, Delete, Step, StepTimes, Steps, Go, Registers, Where, Memory, Map, Keys, Schedule, GoTo, Maps, Jobs, Mark, Back, Help, Held, Nearby, Last, Show}
+use Rattle.std.proofs.Common.{◌≡◌, ℕ, List, Option, Some, None, ◌⊎◌, inl, inr, ap}
+use Rattle.bpf_debug.specs.Command.{Order, Break, Delete, Step, StepTimes, Steps, Go, Registers, Where, Memory, Map, Keys, Schedule, GoTo, Maps, Jobs, Mark, Back, Help, Held, Nearby, Last, Show, Watch, Unwatch}
 use Rattle.bpf_debug.specs.Session.{Scene, CarriesOut}
 use Rattle.bpf_debug.specs.Laws.{IsQuestion, QuestionsChangeNothing}
 
@@ -20,6 +20,8 @@ asks x y (Nearby c) text q f = f.1
 asks x y (Back n) text q f = absurd q
 asks x y (Delete c p) text q f = absurd q
 asks x y (Break c p) text q f = absurd q
+asks x y (Watch name digits) text q f = absurd q
+asks x y Unwatch text q f = absurd q
 asks x y (Step c) text q f = absurd q
 asks x y (Show c) text q f = absurd q
 asks x y (Last c) text q f = absurd q
@@ -38,5 +40,9 @@ deletes x y (Some c) (Some p) text f = (ap (λ (z : Scene). z.turns) f.1.2, ap (
 deletes x y (Some c) None text f = absurd f
 deletes x y None p text f = absurd f
 
+watches : (x y : Scene) (name digits text : List ℕ) → CarriesOut x (Watch name digits) text y ⊎ CarriesOut x Unwatch text y → (y.turns ≡ x.turns) × (y.world ≡ x.world)
+watches x y name digits text (inl f) = (ap (λ (z : Scene). z.turns) f.5, ap (λ (z : Scene). z.world) f.5)
+watches x y name digits text (inr f) = (ap (λ (z : Scene). z.turns) f.1, ap (λ (z : Scene). z.world) f.1)
+
 pub questions_change_nothing : QuestionsChangeNothing
-questions_change_nothing = (asks, breaks, deletes)
+questions_change_nothing = (asks, breaks, deletes, watches)

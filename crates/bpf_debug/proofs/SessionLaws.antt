@@ -4,7 +4,8 @@ use Rattle.std.proofs.lemmas.Bool.{ltb-true}
 use Rattle.std.proofs.lemmas.List.{get_or-drop, length-drop, take-append-drop}
 use Rattle.std.proofs.lemmas.List.Sums.{sum_by-le}
 use Rattle.std.proofs.Math.Nat.{mul-le-mul_left}
-use Rattle.std.specs.Prelude.{codes}
+use Rattle.std.specs.Prelude.{codes, Ok}
+use Rattle.hex.specs.Hex.{decode_of}
 use Rattle.bpf_schedule.specs.Spelling.{runs_text}
 use Rattle.bpf_loader.specs.Loaded.{Loaded}
 use Rattle.bpf_shared.specs.declared.shapes.MapShape.{MapShape}
@@ -18,10 +19,10 @@ use Rattle.bpf_machine.specs.Questions.{open_in, open_jobs}
 use Rattle.bpf_machine.specs.Work.{IsState}
 use Rattle.bpf_cpu.specs.declared.cpu.Cpu.{Cpu}
 use Rattle.bpf_debug.specs.declared.breakpoint.Breakpoint.{Breakpoint}
-use Rattle.bpf_debug.specs.Command.{Order, Break, Delete, Step, StepTimes, Steps, Go, Registers, Where, Memory, Map, Keys, Schedule, GoTo, Maps, Jobs, Mark, Back, Help, Held, Nearby, Last, Show, order_of}
+use Rattle.bpf_debug.specs.Command.{Order, Break, Delete, Step, StepTimes, Steps, Go, Registers, Where, Memory, Map, Keys, Schedule, GoTo, Maps, Jobs, Mark, Back, Help, Held, Nearby, Last, Show, Watch, Unwatch, order_of}
 use Rattle.bpf_debug.specs.declared.error.DebugError.{DebugError}
 use Rattle.bpf_debug.specs.declared.error.DebugError.TheVariants as error
-use Rattle.bpf_debug.specs.Answer.{IsWhere, IsRegisters, IsOff, ended_text, break_line, deleted_line}
+use Rattle.bpf_debug.specs.Answer.{IsWhere, IsRegisters, IsOff, ended_text, break_line, deleted_line, watch_line, unwatched_line}
 use Rattle.bpf_debug.specs.Held.{IsHeldText, ShowsHeld, TellsHeld}
 use Rattle.bpf_debug.specs.Nearby.{IsNearbyText}
 use Rattle.bpf_debug.specs.Recall.{Past, Recalls, IsLastText, IsRecall}
@@ -30,12 +31,12 @@ use Rattle.bpf_debug.specs.declared.recall.Recall.{Recall}
 use Rattle.bpf_debug.specs.Show.{IsBefore, IsShownText, changed_text, shown_lines}
 use Rattle.bpf_debug.proofs.RecallLaws.{recalls_run}
 use Rattle.bpf_debug.specs.Read.{IsMemoryText, IsNamed, TellsBytes, TellsKeys, TellsMap}
-use Rattle.bpf_debug.specs.Go.{Goes, has_break, without_break}
+use Rattle.bpf_debug.specs.Go.{Goes, Watched, has_break, without_break}
 use Rattle.bpf_debug.specs.Told.{shape_lines, told_jobs, mark_line}
 use Rattle.bpf_debug.specs.Course.{AreFewer, IsKept, KeepsOn, TakesBack, count_of, cpu_before, runs_of, turns_before}
 use Rattle.bpf_debug.specs.Origin.{OriginState, CanRewind, first_of}
 use Rattle.bpf_debug.specs.Help.{help_text}
-use Rattle.bpf_debug.specs.Session.{SessionState, Scene, IsShown, IsCourse, IsPc, are_cpus, behind, undone, with_break, CarriesOut, Obeys, Leaves, LeavesLine, NamesNoTurns, RefusesOrder, RefusesHere, RefusesLine}
+use Rattle.bpf_debug.specs.Session.{SessionState, Scene, IsShown, IsCourse, IsPc, are_cpus, behind, undone, with_break, CarriesOut, Obeys, Leaves, LeavesLine, HasBadOperand, RefusesOrder, RefusesHere, RefusesLine}
 use Rattle.bpf_debug.specs.Turns.{MakesTurns, MakesRuns, last_cpu}
 use Rattle.bpf_debug.proofs.CourseLaws.{runs_tell_turns}
 use Rattle.bpf_debug.proofs.GoLaws.{goes_runs}
@@ -80,13 +81,13 @@ can_rewound o m n is can =
 pub alone : (room last text : List ℕ) → room ≡ [] → last ≡ room ++ text → last ≡ text
 alone room last text empty e = e ∙ ap (λ (s : List ℕ). s ++ text) empty
 
-module _ (m : MachineState) (o : OriginState) (names : List (List ℕ)) (breaks : List Breakpoint) (kept : Option (List (ℕ × ℕ))) where
+module _ (m : MachineState) (o : OriginState) (names : List (List ℕ)) (breaks : List Breakpoint) (watch : Option Watched) (kept : Option (List (ℕ × ℕ))) where
   -- a session of these, and what it is with another machine and turns more
   abbrev session : SessionState
-  session = record { machine = m; first = first_of o m.programs; names = names; breaks = breaks; course = kept }
+  session = record { machine = m; first = first_of o m.programs; names = names; breaks = breaks; watch = watch; course = kept }
 
   abbrev moved_on : MachineState → Option (List (ℕ × ℕ)) → SessionState
-  moved_on n more = record { machine = n; first = first_of o n.programs; names = names; breaks = breaks; course = more }
+  moved_on n more = record { machine = n; first = first_of o n.programs; names = names; breaks = breaks; watch = watch; course = more }
 
   still_first : (n : MachineState) (w : World) → IsSameHost m n → Shows (first_of o m.programs) w → Shows (first_of o n.programs) w
   still_first n w same shows = subst (λ (ps : List Loaded). Shows (first_of o ps) w) (sym same.programs) shows
@@ -101,7 +102,7 @@ module _ (m : MachineState) (o : OriginState) (names : List (List ℕ)) (breaks 
       let whole : last ≡ ended_text c answer ++ place = put ∙ ap (λ (s : List ℕ). (s ++ ended_text c answer) ++ place) empty in (
         behind x (c ∷ []) t.0,
         (is_cpu m x.world c has shown.world, (answer, t.0, place, t.1, subst J (sym t.2.jobs) stands, whole, refl)),
-        record { world = t.2; first = still_first n x.first same shown.first; names = shown.names; breaks = shown.breaks; turns = keeps x.turns shown.turns },
+        record { world = t.2; first = still_first n x.first same shown.first; names = shown.names; breaks = shown.breaks; watch = shown.watch; turns = keeps x.turns shown.turns },
       )
 
   pub stepped_times : (n : MachineState) (more : Option (List (ℕ × ℕ))) (c count : ℕ) (room place last : List ℕ) → has_cpu m.store c ≡ true → room ≡ [] → IsWhere n.jobs c place
@@ -113,7 +114,7 @@ module _ (m : MachineState) (o : OriginState) (names : List (List ℕ)) (breaks 
       let whole : last ≡ t.1 ++ place = t.4 ∙ ap (λ (s : List ℕ). (s ++ t.1) ++ place) empty in (
         behind x (replicate count c) t.0,
         (is_cpu m x.world c has shown.world, (t.0, t.1, place, t.2, subst J (sym t.3.jobs) stands, whole, refl)),
-        record { world = t.3; first = still_first n x.first same shown.first; names = shown.names; breaks = shown.breaks; turns = keeps x.turns shown.turns },
+        record { world = t.3; first = still_first n x.first same shown.first; names = shown.names; breaks = shown.breaks; watch = shown.watch; turns = keeps x.turns shown.turns },
       )
 
   pub stepped_runs : (n : MachineState) (more : Option (List (ℕ × ℕ))) (runs : List (ℕ × ℕ)) (room place last : List ℕ) → are_cpus (length m.store.runs) runs ≡ true → room ≡ [] → IsWhere n.jobs (last_cpu runs) place
@@ -126,53 +127,55 @@ module _ (m : MachineState) (o : OriginState) (names : List (List ℕ)) (breaks 
       let whole : last ≡ t.1 ++ place = t.4 ∙ ap (λ (s : List ℕ). (s ++ t.1) ++ place) empty in (
         behind x (unrolled runs) t.0,
         (subst H (sym shown.world.store.cpus) has, (t.0, t.1, place, t.2, subst J (sym t.3.jobs) stands, whole, refl)),
-        record { world = t.3; first = still_first n x.first same shown.first; names = shown.names; breaks = shown.breaks; turns = keeps x.turns shown.turns },
+        record { world = t.3; first = still_first n x.first same shown.first; names = shown.names; breaks = shown.breaks; watch = shown.watch; turns = keeps x.turns shown.turns },
       )
 
   pub went : (n : MachineState) (more : Option (List (ℕ × ℕ))) (cpus : ℕ) (room last : List ℕ) → room ≡ [] → cpus ≡ length m.store.runs
-      → ((w : World) → Shows m w → (z : World) × (turns : List ℕ) × (text : List ℕ) × Goes breaks 0 cpus w 0 [] turns text z × Shows n z × KeepsOn kept turns more × (last ≡ room ++ text))
+      → ((w : World) → Shows m w → (z : World) × (turns : List ℕ) × (text : List ℕ) × Goes breaks watch 0 cpus w 0 [] turns text z × Shows n z × KeepsOn kept turns more × (last ≡ room ++ text))
       → IsSameHost m n → Leaves session Go last (moved_on n more)
   went n more cpus room last empty count goes same x shown =
       let g = goes x.world shown.world in
-      let B : List Breakpoint → Type 0 = λ bs. Goes bs 0 x.world.store.shape.cpus x.world 0 [] g.1 last g.0 in
-      let C : ℕ → Type 0 = λ h. Goes breaks 0 h x.world 0 [] g.1 last g.0 in
-      let T : List ℕ → Type 0 = λ text. Goes breaks 0 cpus x.world 0 [] g.1 text g.0 in
-      let all = subst B (sym shown.breaks) (subst C (count ∙ sym shown.world.store.cpus) (subst T (sym (alone room last g.2 empty g.6)) g.3)) in
-      (behind x g.1 g.0, (g.0, g.1, all, refl), record { world = g.4; first = still_first n x.first same shown.first; names = shown.names; breaks = shown.breaks; turns = g.5 x.turns shown.turns })
+      let W : Option Watched → Type 0 = λ v. Goes x.breaks v 0 x.world.store.shape.cpus x.world 0 [] g.1 last g.0 in
+      let B : List Breakpoint → Type 0 = λ bs. Goes bs watch 0 x.world.store.shape.cpus x.world 0 [] g.1 last g.0 in
+      let C : ℕ → Type 0 = λ h. Goes breaks watch 0 h x.world 0 [] g.1 last g.0 in
+      let T : List ℕ → Type 0 = λ text. Goes breaks watch 0 cpus x.world 0 [] g.1 text g.0 in
+      let all = subst W (sym shown.watch) (subst B (sym shown.breaks) (subst C (count ∙ sym shown.world.store.cpus) (subst T (sym (alone room last g.2 empty g.6)) g.3))) in
+      (behind x g.1 g.0, (g.0, g.1, all, refl), record { world = g.4; first = still_first n x.first same shown.first; names = shown.names; breaks = shown.breaks; watch = shown.watch; turns = g.5 x.turns shown.turns })
 
   pub went_to : (n : MachineState) (more : Option (List (ℕ × ℕ))) (c p : ℕ) (room last : List ℕ) → room ≡ [] → has_cpu m.store c ≡ true → IsPc m.programs p
-      → ((w : World) → Shows m w → (z : World) × (turns : List ℕ) × (text : List ℕ) × Goes (record { cpu = c; pc = p } ∷ []) c (c + 1) w c [] turns text z × Shows n z × KeepsOn kept turns more × (last ≡ room ++ text))
+      → ((w : World) → Shows m w → (z : World) × (turns : List ℕ) × (text : List ℕ) × Goes (record { cpu = c; pc = p } ∷ []) watch c (c + 1) w c [] turns text z × Shows n z × KeepsOn kept turns more × (last ≡ room ++ text))
       → IsSameHost m n → Leaves session (GoTo (Some c) (Some p)) last (moved_on n more)
   went_to n more c p room last empty has begins goes same x shown =
       let g = goes x.world shown.world in
-      let T : List ℕ → Type 0 = λ text. Goes (record { cpu = c; pc = p } ∷ []) c (c + 1) x.world c [] g.1 text g.0 in
+      let W : Option Watched → Type 0 = λ v. Goes (record { cpu = c; pc = p } ∷ []) v c (c + 1) x.world c [] g.1 last g.0 in
+      let T : List ℕ → Type 0 = λ text. Goes (record { cpu = c; pc = p } ∷ []) watch c (c + 1) x.world c [] g.1 text g.0 in
       let P : List Loaded → Type 0 = λ ps. IsPc ps p in
-      let all = subst T (sym (alone room last g.2 empty g.6)) g.3 in (
+      let all = subst W (sym shown.watch) (subst T (sym (alone room last g.2 empty g.6)) g.3) in (
         behind x g.1 g.0,
         (is_cpu m x.world c has shown.world, (subst P (sym shown.world.programs) begins, (g.0, g.1, all, refl))),
-        record { world = g.4; first = still_first n x.first same shown.first; names = shown.names; breaks = shown.breaks; turns = g.5 x.turns shown.turns },
+        record { world = g.4; first = still_first n x.first same shown.first; names = shown.names; breaks = shown.breaks; watch = shown.watch; turns = g.5 x.turns shown.turns },
       )
 
   pub broken : (c p : ℕ) (more : List Breakpoint) (room last : List ℕ) → has_cpu m.store c ≡ true → IsPc m.programs p
       → more ≡ with_break breaks c p → room ≡ [] → last ≡ room ++ break_line c p
-      → Leaves session (Break (Some c) (Some p)) last (record { machine = m; first = first_of o m.programs; names = names; breaks = more; course = kept })
+      → Leaves session (Break (Some c) (Some p)) last (record { machine = m; first = first_of o m.programs; names = names; breaks = more; watch = watch; course = kept })
   broken c p more room last has begins same empty put x shown =
       let y : Scene = record x { breaks = with_break x.breaks c p } in
       let P : List Loaded → Type 0 = λ ps. IsPc ps p in (
         y,
         (is_cpu m x.world c has shown.world, (subst P (sym shown.world.programs) begins, alone room last (break_line c p) empty put, refl)),
-        record { world = shown.world; first = shown.first; names = shown.names; breaks = ap (λ (bs : List Breakpoint). with_break bs c p) shown.breaks ∙ sym same; turns = shown.turns },
+        record { world = shown.world; first = shown.first; names = shown.names; breaks = ap (λ (bs : List Breakpoint). with_break bs c p) shown.breaks ∙ sym same; watch = shown.watch; turns = shown.turns },
       )
 
   pub unbroken : (c p : ℕ) (fewer : List Breakpoint) (room last : List ℕ) → has_cpu m.store c ≡ true → IsPc m.programs p
       → fewer ≡ without_break breaks c p → room ≡ [] → last ≡ room ++ deleted_line c p
-      → Leaves session (Delete (Some c) (Some p)) last (record { machine = m; first = first_of o m.programs; names = names; breaks = fewer; course = kept })
+      → Leaves session (Delete (Some c) (Some p)) last (record { machine = m; first = first_of o m.programs; names = names; breaks = fewer; watch = watch; course = kept })
   unbroken c p fewer room last has begins same empty put x shown =
       let y : Scene = record x { breaks = without_break x.breaks c p } in
       let P : List Loaded → Type 0 = λ ps. IsPc ps p in (
         y,
         (is_cpu m x.world c has shown.world, (subst P (sym shown.world.programs) begins, alone room last (deleted_line c p) empty put, refl)),
-        record { world = shown.world; first = shown.first; names = shown.names; breaks = ap (λ (bs : List Breakpoint). without_break bs c p) shown.breaks ∙ sym same; turns = shown.turns },
+        record { world = shown.world; first = shown.first; names = shown.names; breaks = ap (λ (bs : List Breakpoint). without_break bs c p) shown.breaks ∙ sym same; watch = shown.watch; turns = shown.turns },
       )
 
   pub went_back : (rewound n : MachineState) (runs fewer : List (ℕ × ℕ)) (count c : ℕ) (room last : List ℕ) → kept ≡ Some runs → count ≤ length (unrolled runs) → rewound ≡ first_of o m.programs → TakesBack runs count fewer c
@@ -202,6 +205,7 @@ module _ (m : MachineState) (o : OriginState) (names : List (List ℕ)) (breaks 
           first = subst (λ (ps : List Loaded). Shows (first_of o ps) x.first) (sym programs) shown.first;
           names = shown.names;
           breaks = shown.breaks;
+          watch = shown.watch;
           turns = t.0;
         },
       )
@@ -226,6 +230,7 @@ module _ (m : MachineState) (o : OriginState) (names : List (List ℕ)) (breaks 
           first = subst (λ (ps : List Loaded). Shows (first_of o ps) x.first) (sym programs) shown.first;
           names = shown.names;
           breaks = shown.breaks;
+          watch = shown.watch;
           turns = shown.turns;
         },
       )
@@ -251,9 +256,27 @@ module _ (m : MachineState) (o : OriginState) (names : List (List ℕ)) (breaks 
           first = subst (λ (ps : List Loaded). Shows (first_of o ps) x.first) (sym programs) shown.first;
           names = shown.names;
           breaks = shown.breaks;
+          watch = shown.watch;
           turns = shown.turns;
         },
       )
+
+  pub set_watch : (name digits key : List ℕ) (n : ℕ) (more : Option Watched) (last : List ℕ) → IsNamed names name n → decode_of digits ≡ Ok key → more ≡ Some (n, key) → last ≡ watch_line name key
+      → Leaves session (Watch name digits) last (record { machine = m; first = first_of o m.programs; names = names; breaks = breaks; watch = more; course = kept })
+  set_watch name digits key n more last named decoded same put x shown =
+      let N : List (List ℕ) → Type 0 = λ ns. IsNamed ns name n in (
+        record x { watch = Some (n, key) },
+        (n, key, subst N (sym shown.names) named, decoded, put, refl),
+        record { world = shown.world; first = shown.first; names = shown.names; breaks = shown.breaks; watch = sym same; turns = shown.turns },
+      )
+
+  pub no_watch : (last : List ℕ) → last ≡ unwatched_line
+      → Leaves session Unwatch last (record { machine = m; first = first_of o m.programs; names = names; breaks = breaks; watch = None; course = kept })
+  no_watch last put x shown = (
+    record x { watch = None },
+    (put, refl),
+    record { world = shown.world; first = shown.first; names = shown.names; breaks = shown.breaks; watch = refl; turns = shown.turns },
+  )
 
 -- a breakpoint that is there, and one more
 pub is_kept : (breaks : List Breakpoint) (c p : ℕ) → true ≡ has_break breaks c p → breaks ≡ with_break breaks c p
@@ -370,13 +393,15 @@ stays x y is course = (subst IsCourse (sym is) course, ap (λ (z : Scene). z.fir
 pub follows_on : (x : Scene) (order : Order) (text : List ℕ) (y : Scene) → CarriesOut x order text y → IsCourse x → IsCourse y × (y.first ≡ x.first)
 follows_on x (Break (Some c) (Some p)) text y f course = (subst IsCourse (sym f.1.2) course, ap (λ (z : Scene). z.first) f.1.2)
 follows_on x (Delete (Some c) (Some p)) text y f course = (subst IsCourse (sym f.1.2) course, ap (λ (z : Scene). z.first) f.1.2)
+follows_on x (Watch name digits) text y f course = (subst IsCourse (sym f.5) course, ap (λ (z : Scene). z.first) f.5)
+follows_on x Unwatch text y f course = (subst IsCourse (sym f.1) course, ap (λ (z : Scene). z.first) f.1)
 follows_on x (Step (Some c)) text y f course = led_on x y (c ∷ []) f.1.1 (f.1.0, f.1.1, f.1.3, refl) f.1.6 course
 follows_on x (StepTimes (Some c) n) text y f course = led_on x y (replicate n c) f.1.0 (made_runs x.world c n f.1.1 f.1.0 f.1.3) f.1.6 course
 follows_on x (Steps runs) text y f course = led_on x y (unrolled runs) f.1.0 (all_runs x.world runs f.1.1 f.1.0 f.1.3) f.1.6 course
-follows_on x Go text y f course = led_on x y f.1 f.0 (goes_runs x.breaks 0 x.world.store.shape.cpus x.world 0 [] f.1 text f.0 f.2) f.3 course
+follows_on x Go text y f course = led_on x y f.1 f.0 (goes_runs x.breaks x.watch 0 x.world.store.shape.cpus x.world 0 [] f.1 text f.0 f.2) f.3 course
 follows_on x (GoTo (Some c) (Some p)) text y f course =
     let went = f.1.1 in
-    led_on x y went.1 went.0 (goes_runs (record { cpu = c; pc = p } ∷ []) c (c + 1) x.world c [] went.1 text went.0 went.2) went.3 course
+    led_on x y went.1 went.0 (goes_runs (record { cpu = c; pc = p } ∷ []) x.watch c (c + 1) x.world c [] went.1 text went.0 went.2) went.3 course
 follows_on x (GoTo (Some c) None) text y f course = absurd f
 follows_on x (GoTo None p) text y f course = absurd f
 follows_on x (Registers c) text y f course = stays x y f.1 course
@@ -427,8 +452,10 @@ fewer (Some runs) turns n is less =
     let sized : length (unrolled runs) ≡ length turns = ap (λ (rs : List (ℕ × ℕ)). length (unrolled rs)) is ∙ ap (λ (cs : List ℕ). length cs) (runs_tell_turns turns).0 in
     omega (arith, sized, less)
 
-few_turns : (kept : Option (List (ℕ × ℕ))) (turns : List ℕ) (order : Order) → IsKept kept turns → NamesNoTurns (count_of kept) order → NamesNoTurns (Some (length turns)) order
+few_turns : (kept : Option (List (ℕ × ℕ))) (turns : List ℕ) (order : Order) → IsKept kept turns → HasBadOperand (count_of kept) order → HasBadOperand (Some (length turns)) order
 few_turns kept turns (Back n) is few = fewer kept turns n is few
+few_turns kept turns (Watch name digits) is few = few
+few_turns kept turns Unwatch is few = absurd few
 few_turns kept turns (Break c p) is few = absurd few
 few_turns kept turns (Delete c p) is few = absurd few
 few_turns kept turns (Step c) is few = absurd few
@@ -458,7 +485,7 @@ counted cpus programs names kept turns order error.NoPc is here = here
 counted cpus programs names kept turns order error.NoMap is here = here
 counted cpus programs names kept turns order error.BadCommand is here = here
 counted cpus programs names kept turns order error.OutOfMemory is here = here
-counted cpus programs names kept turns order error.NoTurns is here = few_turns kept turns order is here
+counted cpus programs names kept turns order error.BadOperand is here = few_turns kept turns order is here
 
 module _ (s : SessionState) (x : Scene) (shown : IsShown s x) where
   -- what a session refuses, its scenes refuse
@@ -473,6 +500,6 @@ pub line_refused : (s : SessionState) (fields : List (List ℕ)) (order : Order)
 line_refused s fields order error.NoCpu is here x shown = (order, sym is, moved s x shown order error.NoCpu here)
 line_refused s fields order error.NoPc is here x shown = (order, sym is, moved s x shown order error.NoPc here)
 line_refused s fields order error.NoMap is here x shown = (order, sym is, moved s x shown order error.NoMap here)
-line_refused s fields order error.NoTurns is here x shown = (order, sym is, moved s x shown order error.NoTurns here)
+line_refused s fields order error.BadOperand is here x shown = (order, sym is, moved s x shown order error.BadOperand here)
 line_refused s fields order error.BadCommand is here x shown = absurd here
 line_refused s fields order error.OutOfMemory is here x shown = tt

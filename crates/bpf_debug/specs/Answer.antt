@@ -1,5 +1,6 @@
 -- The lines that answer commands (our own choice).
 use Rattle.std.specs.Prelude.{◌≡◌, ℕ, suc, ◌⊎◌, List, [], ◌∷◌, ◌++◌, length, codes}
+use Rattle.hex.specs.Hex.{encode_lower}
 use Rattle.std.specs.Fmt.{decimal}
 use Rattle.bpf_cpu.specs.declared.cpu.Cpu.{Cpu}
 use Rattle.bpf_machine.specs.declared.machine.Turn.{Turn}
@@ -72,6 +73,18 @@ break_line c p = codes "break " ++ decimal c ++ codes " " ++ decimal p ++ codes 
 
 abbrev pub deleted_line : ℕ → ℕ → List ℕ
 deleted_line c p = codes "break " ++ decimal c ++ codes " " ++ decimal p ++ codes " deleted\n"
+
+-- a value is watched, by the name of its map and its key
+abbrev pub watch_line : List ℕ → List ℕ → List ℕ
+watch_line name key =
+    codes "watch " ++ (name ++ (codes " " ++ (encode_lower key ++ codes " set\n")))
+
+abbrev pub unwatched_line : List ℕ
+unwatched_line = codes "watch deleted\n"
+
+-- it was changed by a turn of this CPU
+abbrev pub changed_line : ℕ → List ℕ
+changed_line c = codes "changed by " ++ decimal c ++ codes "\n"
 
 abbrev pub stop_line : ℕ → ℕ → List ℕ
 stop_line c p = codes "stop " ++ decimal c ++ codes " " ++ decimal p ++ codes "\n"

@@ -13,7 +13,7 @@ refusal_code error.NoPc = code.G2
 refusal_code error.NoMap = code.G3
 refusal_code error.BadCommand = code.G4
 refusal_code error.OutOfMemory = code.G5
-refusal_code error.NoTurns = code.G4
+refusal_code error.BadOperand = code.G4
 
 -- the line of one
 abbrev pub refusal_line : DebugError → List ℕ

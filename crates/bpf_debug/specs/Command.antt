@@ -53,6 +53,10 @@ pub data Order : Type 0 where
   Last : Option ℕ → Order
   -- `show C`
   Show : Option ℕ → Order
+  -- `watch NAME KEY`: the value of a key of a map is watched, its bytes as they are written
+  Watch : List ℕ → List ℕ → Order
+  -- `watch`: no value is watched any more
+  Unwatch : Order
 
 -- a word is a number of any size, and this one where it is below the limit
 abbrev pub number_below : ℕ → List ℕ → Option (Option ℕ)
@@ -101,7 +105,8 @@ one_word w =
     else (if bytes_eq (codes "maps") w then Some Maps
     else (if bytes_eq (codes "jobs") w then Some Jobs
     else (if bytes_eq (codes "help") w then Some Help
-    else None))))
+    else (if bytes_eq (codes "watch") w then Some Unwatch
+    else None)))))
 
 abbrev pub two_words : List ℕ → List ℕ → Option Order
 two_words w a =
@@ -126,7 +131,8 @@ three_words w a b =
     then option_and_then (λ c. option_map (Delete c) (pc_in b)) (cpu_in a)
     else (if bytes_eq (codes "step") w
     then option_and_then (λ c. option_map (StepTimes c) (turns_in b)) (cpu_in a)
-    else None))
+    else (if bytes_eq (codes "watch") w then (if is_name a then Some (Watch a b) else None)
+    else None)))
 
 abbrev pub four_words : List ℕ → List ℕ → List ℕ → List ℕ → Option Order
 four_words w a b c =
@@ -191,3 +197,5 @@ command_order (command.Held c) = Held c
 command_order (command.Nearby c) = Nearby c
 command_order (command.Last c) = Last c
 command_order (command.Show c) = Show c
+command_order (command.Watch name digits) = Watch name.now digits.now
+command_order command.Unwatch = Unwatch

@@ -11,6 +11,8 @@ help_text =
     ++ codes "back N         undoes the last N turns\n"
     ++ codes "break C P      go stops CPU C before pc P\n"
     ++ codes "delete C P     no more\n"
+    ++ codes "watch NAME KEY go stops after a turn that changed the value of a map's key\n"
+    ++ codes "watch          no more\n"
     ++ codes "where C        where CPU C stands\n"
     ++ codes "regs C         its registers\n"
     ++ codes "show C         those that its last turn changed, and what each is as an address\n"

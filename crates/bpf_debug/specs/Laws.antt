@@ -6,7 +6,7 @@ use Rattle.std.specs.Fmt.{decimal}
 use Rattle.bpf_machine.specs.Laws.{IsFresh}
 use Rattle.bpf_machine.specs.Schedule.{World, RunsSchedule, unrolled}
 use Rattle.bpf_debug.specs.declared.error.DebugError.TheVariants as error
-use Rattle.bpf_debug.specs.Command.{Order, Break, Delete, Step, StepTimes, Steps, Go, Registers, Where, Memory, Map, Keys, Schedule, GoTo, Maps, Jobs, Mark, Back, Help, Held, Nearby, Last, Show, is_short}
+use Rattle.bpf_debug.specs.Command.{Order, Break, Delete, Step, StepTimes, Steps, Go, Registers, Where, Memory, Map, Keys, Schedule, GoTo, Maps, Jobs, Mark, Back, Help, Held, Nearby, Last, Show, Watch, Unwatch, is_short}
 use Rattle.bpf_debug.specs.Course.{runs_of}
 use Rattle.bpf_debug.specs.Session.{Scene, IsCpu, IsCourse, CarriesOut, behind}
 use Rattle.bpf_debug.specs.Script.{Answer, RunsScript}
@@ -69,6 +69,8 @@ IsQuestion (Nearby c) = Unit {0}
 IsQuestion (Back n) = ⊥
 IsQuestion (Delete c p) = ⊥
 IsQuestion (Break c p) = ⊥
+IsQuestion (Watch name digits) = ⊥
+IsQuestion Unwatch = ⊥
 IsQuestion (Step c) = ⊥
 IsQuestion (Show c) = ⊥
 IsQuestion (Last c) = ⊥
@@ -77,7 +79,7 @@ IsQuestion (Steps runs) = ⊥
 IsQuestion Go = ⊥
 IsQuestion (GoTo c p) = ⊥
 
--- a question changes nothing; a breakpoint makes no turn, and leaves the machine
+-- a question changes nothing; a breakpoint makes no turn, and leaves the machine, and so does a watch
 abbrev pub QuestionsChangeNothing : Type 0
 QuestionsChangeNothing =
     ((x y : Scene) (order : Order) (text : List ℕ) → IsQuestion order → CarriesOut x order text y
@@ -85,6 +87,9 @@ QuestionsChangeNothing =
     × ((x y : Scene) (c p : Option ℕ) (text : List ℕ) → CarriesOut x (Break c p) text y
     → (y.turns ≡ x.turns) × (y.world ≡ x.world))
     × ((x y : Scene) (c p : Option ℕ) (text : List ℕ) → CarriesOut x (Delete c p) text y
+    → (y.turns ≡ x.turns) × (y.world ≡ x.world))
+    × ((x y : Scene) (name digits text : List ℕ)
+    → CarriesOut x (Watch name digits) text y ⊎ CarriesOut x Unwatch text y
     → (y.turns ≡ x.turns) × (y.world ≡ x.world))
 
 -- over a machine that was made by the scene's turns of one whose jobs all wait, what makes the turns

@@ -1,6 +1,7 @@
 -- What commands do: the turns that each makes, what it answers, and why one is refused (our own
 -- choice).
-use Rattle.std.specs.Prelude.{◌≡◌, ℕ, ◌+◌, ◌<◌, ◌≤◌, replicate, Bool, true, false, nat_lt, if◌then◌else◌, ◌⊎◌, List, [], ◌∷◌, ◌++◌, Option, Some, None, length, slice_get}
+use Rattle.std.specs.Prelude.{◌≡◌, ℕ, ◌+◌, ◌<◌, ◌≤◌, replicate, Bool, true, false, nat_lt, if◌then◌else◌, ◌⊎◌, List, [], ◌∷◌, ◌++◌, Option, Some, None, length, slice_get, Ok, IsOk, IsErr}
+use Rattle.hex.specs.Hex.{decode_of}
 use Rattle.std.specs.List.{list_all}
 use Rattle.bpf_loader.specs.Loaded.{Loaded}
 use Rattle.bpf_loader.specs.Places.{IsStart}
@@ -11,11 +12,11 @@ use Rattle.bpf_debug.specs.declared.breakpoint.Breakpoint.{Breakpoint}
 use Rattle.bpf_debug.specs.declared.error.DebugError.{DebugError}
 use Rattle.bpf_debug.specs.declared.error.DebugError.TheVariants as error
 use Rattle.bpf_debug.specs.declared.recall.Kind.TheVariants as kind
-use Rattle.bpf_debug.specs.Command.{Order, Break, Delete, Step, StepTimes, Steps, Go, Registers, Where, Memory, Map, Keys, Schedule, GoTo, Maps, Jobs, Mark, Back, Help, Held, Nearby, Last, Show, order_of}
-use Rattle.bpf_debug.specs.Answer.{IsOff, IsWhere, IsRegisters, ended_text, break_line, deleted_line}
+use Rattle.bpf_debug.specs.Command.{Order, Break, Delete, Step, StepTimes, Steps, Go, Registers, Where, Memory, Map, Keys, Schedule, GoTo, Maps, Jobs, Mark, Back, Help, Held, Nearby, Last, Show, Watch, Unwatch, order_of}
+use Rattle.bpf_debug.specs.Answer.{IsOff, IsWhere, IsRegisters, ended_text, break_line, deleted_line, watch_line, unwatched_line}
 use Rattle.bpf_debug.specs.Turns.{MakesTurns, MakesRuns, last_cpu}
 use Rattle.bpf_debug.specs.Course.{AreFewer, IsKept, count_of, course_line, cpu_before, turns_before}
-use Rattle.bpf_debug.specs.Go.{Goes, has_break, without_break}
+use Rattle.bpf_debug.specs.Go.{Goes, Watched, has_break, without_break}
 use Rattle.bpf_debug.specs.Told.{shape_lines, told_jobs, mark_line}
 use Rattle.bpf_debug.specs.Help.{help_text}
 use Rattle.bpf_debug.specs.Held.{IsHeldText}
@@ -25,13 +26,14 @@ use Rattle.bpf_debug.specs.Show.{IsShownText}
 use Rattle.bpf_debug.specs.Read.{IsMemoryText, IsNamed, IsNoName, IsMapText, IsKeysText}
 
 -- what callers see of a session: its machine, the same before the first turn, the names of the maps
--- by their numbers, the breakpoints, and the turns made so far in run lengths, where there was room
--- for them
+-- by their numbers, the breakpoints, the value that is watched, and the turns made so far in run
+-- lengths, where there was room for them
 pub record SessionState : Type 0 where
   pub machine : MachineState
   pub first : MachineState
   pub names : List (List ℕ)
   pub breaks : List Breakpoint
+  pub watch : Option Watched
   pub course : Option (List (ℕ × ℕ))
 
 -- a plain machine with those, that before the first turn, and the turns that were made since
@@ -39,6 +41,7 @@ pub record Scene : Type 0 where
   pub world : World
   pub names : List (List ℕ)
   pub breaks : List Breakpoint
+  pub watch : Option Watched
   pub first : World
   pub turns : List ℕ
 
@@ -47,6 +50,7 @@ pub record IsShown (s : SessionState) (x : Scene) : Type 0 where
   pub first : Shows s.first x.first
   pub names : x.names ≡ s.names
   pub breaks : x.breaks ≡ s.breaks
+  pub watch : x.watch ≡ s.watch
   pub turns : IsKept s.course x.turns
 
 -- the turns lead from the first machine to this one
@@ -84,6 +88,12 @@ DeletesBreak x c p text y =
     IsPc x.world.programs p × (text ≡ deleted_line c p)
     × (y ≡ record x { breaks = without_break x.breaks c p })
 
+-- the digits are a key in hex, and the map is the first of its name; one value is watched at a time
+abbrev pub SetsWatch : Scene → List ℕ → List ℕ → List ℕ → Scene → Type 0
+SetsWatch x name digits text y =
+    (m : ℕ) × (key : List ℕ) × IsNamed x.names name m × (decode_of digits ≡ Ok key)
+    × (text ≡ watch_line name key) × (y ≡ record x { watch = Some (m, key) })
+
 abbrev pub StepsCpu : Scene → ℕ → List ℕ → Scene → Type 0
 StepsCpu x c text y =
     (answer : Turn) × (m : World) × (where_text : List ℕ) × TakesTurn x.world c answer m
@@ -103,17 +113,18 @@ StepsRuns x runs text y =
     × IsWhere m.jobs (last_cpu runs) where_text × (text ≡ before ++ where_text)
     × (y ≡ behind x (unrolled runs) m)
 
--- rounds of all CPUs, up to a breakpoint
+-- rounds of all CPUs, up to a breakpoint or to a turn that changes the watched value
 abbrev pub RunsOn : Scene → List ℕ → Scene → Type 0
 RunsOn x text y =
     (m : World) × (turns : List ℕ)
-    × Goes x.breaks 0 x.world.store.shape.cpus x.world 0 [] turns text m × (y ≡ behind x turns m)
+    × Goes x.breaks x.watch 0 x.world.store.shape.cpus x.world 0 [] turns text m
+    × (y ≡ behind x turns m)
 
 -- the same of one CPU alone, up to one pc, whatever the breakpoints are
 abbrev pub RunsTo : Scene → ℕ → ℕ → List ℕ → Scene → Type 0
 RunsTo x c p text y =
     IsPc x.world.programs p × ((m : World) × (turns : List ℕ)
-    × Goes (record { cpu = c; pc = p } ∷ []) c (c + 1) x.world c [] turns text m
+    × Goes (record { cpu = c; pc = p } ∷ []) x.watch c (c + 1) x.world c [] turns text m
     × (y ≡ behind x turns m))
 
 -- the last turns are undone, this many, and where the CPU of the first of them stands again
@@ -168,6 +179,8 @@ Answers x order text = ⊥
 abbrev pub CarriesOut : Scene → Order → List ℕ → Scene → Type 0
 CarriesOut x (Break (Some c) (Some p)) text y = IsCpu x c × SetsBreak x c p text y
 CarriesOut x (Delete (Some c) (Some p)) text y = IsCpu x c × DeletesBreak x c p text y
+CarriesOut x (Watch name digits) text y = SetsWatch x name digits text y
+CarriesOut x Unwatch text y = (text ≡ unwatched_line) × (y ≡ record x { watch = None })
 CarriesOut x (Step (Some c)) text y = IsCpu x c × StepsCpu x c text y
 CarriesOut x (StepTimes (Some c) n) text y = IsCpu x c × StepsTimes x c n text y
 CarriesOut x (Steps runs) text y =
@@ -241,6 +254,8 @@ NamesNoCpu cpus (Back n) = ⊥
 NamesNoCpu cpus Help = ⊥
 NamesNoCpu cpus (Held c) = IsNoCpu cpus c
 NamesNoCpu cpus (Nearby c) = IsNoCpu cpus c
+NamesNoCpu cpus (Watch name digits) = ⊥
+NamesNoCpu cpus Unwatch = ⊥
 
 abbrev pub NamesNoPc : ℕ → List Loaded → Order → Type 0
 NamesNoPc cpus programs (Break c p) = (IsNoCpu cpus c → ⊥) × IsNoPc programs p
@@ -251,11 +266,14 @@ NamesNoPc cpus programs order = ⊥
 abbrev pub NamesNoMap : List (List ℕ) → Order → Type 0
 NamesNoMap names (Map name) = IsNoName names name
 NamesNoMap names (Keys name) = IsNoName names name
+NamesNoMap names (Watch name digits) = IsNoName names name × IsOk (decode_of digits)
 NamesNoMap names order = ⊥
 
-abbrev pub NamesNoTurns : Option ℕ → Order → Type 0
-NamesNoTurns count (Back n) = AreFewer count n
-NamesNoTurns count order = ⊥
+-- there are not so many turns, or the digits are no bytes
+abbrev pub HasBadOperand : Option ℕ → Order → Type 0
+HasBadOperand count (Back n) = AreFewer count n
+HasBadOperand count (Watch name digits) = IsErr (decode_of digits)
+HasBadOperand count order = ⊥
 
 -- why an order is refused
 abbrev pub RefusesOrder
@@ -265,7 +283,7 @@ RefusesOrder cpus programs names count order error.NoPc = NamesNoPc cpus program
 RefusesOrder cpus programs names count order error.NoMap = NamesNoMap names order
 RefusesOrder cpus programs names count order error.BadCommand = ⊥
 RefusesOrder cpus programs names count order error.OutOfMemory = Unit {0}
-RefusesOrder cpus programs names count order error.NoTurns = NamesNoTurns count order
+RefusesOrder cpus programs names count order error.BadOperand = HasBadOperand count order
 
 -- the same of what a session shows
 abbrev pub RefusesHere : SessionState → Order → DebugError → Type 0

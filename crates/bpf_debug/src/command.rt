@@ -51,6 +51,10 @@ pub enum Command<'a> {
     Last(Option<u8>),
     /// The registers that a CPU's last turn changed.
     Show(Option<u8>),
+    /// The value of a key of the map of this name is watched.
+    Watch(&'a [u8], &'a [u8]),
+    /// No value is.
+    Unwatch,
 }
 
 /// Whether a word is this one.
@@ -151,6 +155,8 @@ fn one_word<'a>(word: &[u8]) -> Option<Command<'a>>
         Some(Command::Jobs)
     } else if is(word, "help") {
         Some(Command::Help)
+    } else if is(word, "watch") {
+        Some(Command::Unwatch)
     } else {
         None
     }
@@ -195,7 +201,7 @@ fn two_words<'a>(word: &[u8], first: &'a [u8]) -> Option<Command<'a>>
     }
 }
 
-fn three_words<'a>(word: &[u8], first: &[u8], second: &[u8]) -> Option<Command<'a>>
+fn three_words<'a>(word: &[u8], first: &'a [u8], second: &'a [u8]) -> Option<Command<'a>>
     ensures { option_map command_order result ≡ three_words word.now first.now second.now }
 {
     if is(word, "break") {
@@ -210,6 +216,8 @@ fn three_words<'a>(word: &[u8], first: &[u8], second: &[u8]) -> Option<Command<'
         let cpu = cpu_in(first)?;
         let count = turns_in(second)?;
         Some(Command::StepTimes(cpu, count))
+    } else if is(word, "watch") && words::is_name(first) {
+        Some(Command::Watch(first, second))
     } else {
         None
     }

@@ -22,8 +22,8 @@ pub enum DebugError {
     #[error("out of memory")]
     OutOfMemory,
     /// G4
-    #[error("so many turns were not made")]
-    NoTurns,
+    #[error("so many turns were not made, or the digits are no key")]
+    BadOperand,
 }
 
 impl DebugError {
@@ -40,7 +40,7 @@ impl DebugError {
             DebugError::NoMap => Code::G3,
             DebugError::BadCommand => Code::G4,
             DebugError::OutOfMemory => Code::G5,
-            DebugError::NoTurns => Code::G4,
+            DebugError::BadOperand => Code::G4,
         }
     }
 
@@ -54,7 +54,7 @@ impl DebugError {
             DebugError::NoMap => "refused G3\n",
             DebugError::BadCommand => "refused G4\n",
             DebugError::OutOfMemory => "refused G5\n",
-            DebugError::NoTurns => "refused G4\n",
+            DebugError::BadOperand => "refused G4\n",
         }
     }
 }

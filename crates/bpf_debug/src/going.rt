@@ -1,17 +1,19 @@
-//! What `go` does: rounds of turns, up to a breakpoint or until no work is left.
+//! What `go` does: rounds of turns, up to a breakpoint, to a turn that changes a watched value, or
+//! until no work is left.
 
-ghost use Rattle.std.specs.Prelude.{◌≡◌, ◌+◌, ◌*◌, ◌≤◌, ◌<◌, ◌++◌, ◌⊎◌, IfSome, IfNone, List, ℕ, [], true, false, length, slice_index_or, string_bytes, string_capacity, string_len};
+ghost use Rattle.std.specs.Prelude.{◌≡◌, ◌+◌, ◌*◌, ◌≤◌, ◌<◌, ◌++◌, ◌⊎◌, IfSome, IfNone, List, ℕ, [], true, false, length, option_map, slice_index_or, string_bytes, string_capacity, string_len};
 ghost use Rattle.bpf_machine.specs.Schedule.{World};
 ghost use Rattle.bpf_machine.specs.Machine.{Shows};
 ghost use Rattle.bpf_machine.specs.Parts.{IsSameHost};
 ghost use Rattle.bpf_machine.specs.Questions.{open_jobs};
 ghost use Rattle.bpf_debug.specs.Course.{KeepsOn};
-ghost use Rattle.bpf_debug.specs.Go.{Goes, HasWork, AreIdle, IsUp, StandsAt, has_break};
+ghost use Rattle.bpf_debug.specs.Go.{Goes, HasWork, AreIdle, IsUp, ShowsWatched, StandsAt, has_break, watched};
 
 use crate::breakpoint::{Breakpoint, has_break};
 use crate::course::Course;
-use crate::lines::{put_ended, put_stop};
+use crate::lines::{put_changed, put_ended, put_stop};
 use crate::text::put;
+use crate::watch::{Watch, has_changed};
 use bpf_machine::{Machine, Standing};
 
 /// The first of some CPUs that has work: of those from a number on and below another.
@@ -85,10 +87,12 @@ fn stop_before(
 }
 
 /// All turns of a `go` of the CPUs from a number on and below another, with the lines of the jobs
-/// that end and the last line.
+/// that end and the last line. The watched value is told as it is before them.
 pub fn go(
     machine: &mut Machine,
     breakpoints: &[Breakpoint],
+    watch: &Option<Watch>,
+    before: &Option<Vec<u8>>,
     low: u8,
     high: u8,
     course: &mut Course,
@@ -97,9 +101,12 @@ pub fn go(
     requires shown { (w : World) × Shows machine.old w }
     requires room { string_len out.old + 128 * open_jobs machine.old.jobs + 128
         ≤ string_capacity out.old }
+    requires watched { ShowsWatched machine.old.store (option_map watched watch.now)
+        (option_map (λ bytes. bytes.items) before.now) }
     ensures goes { (w : World) → Shows machine.old w → (z : World) × (turns : List ℕ)
         × (text : List ℕ)
-        × Goes breakpoints.now low high w low [] turns text z × Shows machine.new z
+        × Goes breakpoints.now (option_map watched watch.now) low high w low [] turns text z
+        × Shows machine.new z
         × KeepsOn course.old turns course.new
         × (string_bytes out.new ≡ string_bytes out.old ++ text) }
     ensures same { IsSameHost machine.old machine.new }
@@ -115,6 +122,10 @@ pub fn go(
         let turn = machine.turn(cpu);
         put_ended(out, cpu, turn);
         course.add(cpu);
+        if has_changed(machine.store(), watch, before) {
+            put_changed(out, cpu);
+            return;
+        }
         gone[cpu as usize] = true;
         from = cpu + 1;
     }

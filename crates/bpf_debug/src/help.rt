@@ -15,6 +15,8 @@ go C until P   turns of CPU C, up to pc P
 back N         undoes the last N turns
 break C P      go stops CPU C before pc P
 delete C P     no more
+watch NAME KEY go stops after a turn that changed the value of a map's key
+watch          no more
 where C        where CPU C stands
 regs C         its registers
 show C         those that its last turn changed, and what each is as an address

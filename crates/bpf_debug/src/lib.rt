@@ -22,6 +22,7 @@ mod show;
 mod text;
 mod told;
 mod turns;
+mod watch;
 
 pub use command::Command;
 pub use error::DebugError;

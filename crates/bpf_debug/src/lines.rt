@@ -4,7 +4,7 @@ ghost use Rattle.std.specs.Prelude.{◌≡◌, ◌+◌, ◌*◌, ◌≤◌, ◌+
 ghost use Rattle.bpf_cpu.specs.Lines.{outcome_text, job_line};
 ghost use Rattle.bpf_machine.specs.Hands.{IsFree};
 ghost use Rattle.bpf_debug.specs.Told.{mark_line, open_line, told_job, told_jobs};
-ghost use Rattle.bpf_debug.specs.Answer.{cpu_words, in_hand_line, place_line, waiting_line, idle_line, register_line, register_lines, break_line, deleted_line, stop_line, ended_text, IsWhere, IsRegisters, IsOff};
+ghost use Rattle.bpf_debug.specs.Answer.{IsOff, IsRegisters, IsWhere, break_line, changed_line, cpu_words, deleted_line, ended_text, idle_line, in_hand_line, place_line, register_line, register_lines, stop_line, waiting_line};
 
 use crate::text::{put, put_number};
 use bpf_cpu::{Cpu, Fault, Outcome};
@@ -231,6 +231,16 @@ pub fn put_deleted(out: &mut String, cpu: u8, pc: u32)
     put(out, " ");
     put_number(out, pc as u64);
     put(out, " deleted\n");
+}
+
+/// Puts that a turn of a CPU changed the watched value.
+pub fn put_changed(out: &mut String, cpu: u8)
+    requires { string_len out.old + 128 ≤ string_capacity out.old }
+    ensures { string_bytes out.new ≡ string_bytes out.old ++ changed_line cpu }
+{
+    put(out, "changed by ");
+    put_number(out, cpu as u64);
+    put(out, "\n");
 }
 
 /// Puts that a CPU is at a breakpoint.

@@ -13,6 +13,7 @@ ghost use Rattle.bpf_debug.specs.Session.{IsPc, are_cpus};
 
 mod again;
 mod questions;
+mod watching;
 
 use crate::breakpoint::{Breakpoint, has_break, remove_break};
 use crate::command::{Command, command_of};
@@ -23,6 +24,7 @@ use crate::lines::{LINE, put_break, put_deleted, put_ended, put_where};
 use crate::origin::Origin;
 use crate::schedule::{is_schedule, schedule_in};
 use crate::turns::{take_runs, take_turns};
+use crate::watch::{Watch, watched_value};
 use bpf_lines::lines;
 use bpf_loader::Program;
 use bpf_machine::{Machine, Turn};
@@ -39,12 +41,15 @@ pub struct Session {
     /// The maps' names, by their numbers.
     names: Vec<String>,
     breakpoints: Vec<Breakpoint>,
+    /// The value that is watched.
+    watch: Option<Watch>,
     /// The turns made so far.
     course: Course,
 }
 
 impl Model for Session {
-    ghost use Rattle.std.specs.Prelude.{map, string_bytes};
+    ghost use Rattle.std.specs.Prelude.{map, option_map, string_bytes};
+    ghost use Rattle.bpf_debug.specs.Go.{watched};
     ghost use Rattle.bpf_machine.specs.Schedule.{World};
     ghost use Rattle.bpf_machine.specs.Machine.{Shows};
     ghost use Rattle.bpf_debug.specs.Origin.{CanRewind, first_of};
@@ -57,6 +62,7 @@ impl Model for Session {
       first = first_of s.origin s.machine.programs;
       names = map (λ n. string_bytes n) s.names.items;
       breaks = s.breakpoints.items;
+      watch = option_map watched s.watch;
       course = s.course;
     } };
 
@@ -142,6 +148,7 @@ impl Session {
         ensures first { IfOk result (λ s. s.first ≡ machine) }
         ensures names { IfOk result (λ s. s.names ≡ map (λ n. string_bytes n) names.items) }
         ensures breaks { IfOk result (λ s. s.breaks ≡ []) }
+        ensures watch { IfOk result (λ s. s.watch ≡ None) }
         ensures course { IfOk result (λ s. s.course ≡ Some []) }
     {
         let origin = Origin::new(alloc, shape, &machine)?;
@@ -150,6 +157,7 @@ impl Session {
             origin,
             names,
             breakpoints: Vec::new(alloc),
+            watch: None,
             course: Course::new(alloc),
         })
     }
@@ -297,10 +305,15 @@ impl Session {
         if !self.course.reserve(usize::MAX) {
             return Err(DebugError::OutOfMemory);
         }
+        let Ok(before) = watched_value(alloc, self.machine.store(), &self.watch) else {
+            return Err(DebugError::OutOfMemory);
+        };
         let cpus = self.machine.cpus();
         going::go(
             &mut self.machine,
             &self.breakpoints,
+            &self.watch,
+            &before,
             0,
             cpus,
             &mut self.course,
@@ -324,11 +337,16 @@ impl Session {
         if !self.course.reserve(usize::MAX) {
             return Err(DebugError::OutOfMemory);
         }
+        let Ok(before) = watched_value(alloc, self.machine.store(), &self.watch) else {
+            return Err(DebugError::OutOfMemory);
+        };
         let place = [Breakpoint { cpu, pc }];
         let next = next_cpu(&self.machine, cpu);
         going::go(
             &mut self.machine,
             &place,
+            &self.watch,
+            &before,
             cpu,
             next,
             &mut self.course,
@@ -506,6 +524,8 @@ impl Session {
             Command::Nearby(cpu) => self.nearby(alloc, cpu),
             Command::Last(cpu) => self.last(alloc, cpu),
             Command::Show(cpu) => self.show(alloc, cpu),
+            Command::Watch(name, digits) => self.watch(alloc, name, digits),
+            Command::Unwatch => self.unwatch(alloc),
         }
     }
 

@@ -50,7 +50,7 @@ impl Session {
         if has_turns(runs, count) {
             self.back_by(alloc, count)
         } else {
-            Err(DebugError::NoTurns)
+            Err(DebugError::BadOperand)
         }
     }
 

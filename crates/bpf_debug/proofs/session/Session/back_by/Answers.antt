@@ -1,9 +1,10 @@
 use Rattle.std.proofs.Common.{◌≡◌, ℕ, List, Some, Option, sym, subst, map}
 use Rattle.bpf_machine.specs.Machine.{MachineState, Shows}
 use Rattle.bpf_machine.specs.Schedule.{World}
-use Rattle.std.specs.Prelude.{string_bytes}
+use Rattle.std.specs.Prelude.{string_bytes, option_map}
 use Rattle.bpf_debug.specs.Command.{Back}
 use Rattle.bpf_debug.specs.Origin.{CanRewind, first_of}
+use Rattle.bpf_debug.specs.Go.{watched}
 use Rattle.bpf_debug.specs.Session.{SessionState, Leaves}
 use Rattle.bpf_debug.proofs.SessionLaws.{can_rewound, can_still, went_back}
 use Rattle.bpf_debug.proofs.session.Session.back_by.Goals as goal
@@ -35,9 +36,9 @@ returns-clause-answered c =
     let C : SessionState → Type 0 = λ s. s.course ≡ Some runs in
     let is : m.course ≡ Some runs = subst C (sym c.self.view_is) c.requires.1 in
     let taken = c.take_back-cpu.ensures runs is in
-    let after : Option (List (ℕ × ℕ)) → SessionState = λ h. record { machine = n; first = first_of m.origin n.programs; names = names; breaks = m.breakpoints.items; course = h } in
-    let H : Option (List (ℕ × ℕ)) → Type 0 = λ h. Leaves (record { machine = m.machine; first = first_of m.origin m.machine.programs; names = names; breaks = m.breakpoints.items; course = m.course }) (Back c.args.count) last (after h) in
+    let after : Option (List (ℕ × ℕ)) → SessionState = λ h. record { machine = n; first = first_of m.origin n.programs; names = names; breaks = m.breakpoints.items; watch = option_map watched m.watch; course = h } in
+    let H : Option (List (ℕ × ℕ)) → Type 0 = λ h. Leaves (record { machine = m.machine; first = first_of m.origin m.machine.programs; names = names; breaks = m.breakpoints.items; watch = option_map watched m.watch; course = m.course }) (Back c.args.count) last (after h) in
     let P : SessionState → Type 0 = λ s. Leaves s (Back c.args.count) last (after c.take_back-cpu.new.self) in
     subst P c.self.view_is (subst H (sym taken.1)
-    (went_back m.machine m.origin names m.breakpoints.items m.course rewound n runs taken.0 c.args.count c.take_back-cpu.result (string_bytes c.in-Some.out) last is c.requires.2 c.in-Ok.ensures.ok taken.2
+    (went_back m.machine m.origin names m.breakpoints.items (option_map watched m.watch) m.course rewound n runs taken.0 c.args.count c.take_back-cpu.result (string_bytes c.in-Some.out) last is c.requires.2 c.in-Ok.ensures.ok taken.2
     (c.repeat.ensures.turns taken.0 taken.1) c.repeat.ensures.same c.in-Some.ensures.empty c.put_where.ensures.text))

@@ -109,3 +109,13 @@ pub returns-in-Show-clause-answered : goal.returns-in-Show-clause-answered
 returns-in-Show-clause-answered c =
     let P : Command → Type 0 = λ o. IfOk c.show.result (λ text. Leaves c.args.self.now (command_order o) (string_bytes text) c.show.new.self) in
     subst P (sym c.in-Show.is) c.show.ensures.answered
+
+pub returns-in-Watch-clause-answered : goal.returns-in-Watch-clause-answered
+returns-in-Watch-clause-answered c =
+    let P : Command → Type 0 = λ o. IfOk c.watch.result (λ text. Leaves c.args.self.now (command_order o) (string_bytes text) c.watch.new.self) in
+    subst P (sym c.in-Watch.is) c.watch.ensures.answered
+
+pub returns-in-Unwatch-clause-answered : goal.returns-in-Unwatch-clause-answered
+returns-in-Unwatch-clause-answered c =
+    let P : Command → Type 0 = λ o. IfOk c.unwatch.result (λ text. Leaves c.args.self.now (command_order o) (string_bytes text) c.unwatch.new.self) in
+    subst P (sym c.in-Unwatch.is) c.unwatch.ensures.answered

@@ -1,5 +1,5 @@
 use Rattle.std.proofs.Common.{◌≡◌, ℕ, ◌++◌, [], List, Option, subst, map}
-use Rattle.std.specs.Prelude.{string_bytes}
+use Rattle.std.specs.Prelude.{string_bytes, option_map}
 use Rattle.bpf_debug.specs.Origin.{first_of}
 use Rattle.bpf_debug.specs.Command.{Go}
 use Rattle.bpf_debug.specs.Course.{KeepsOn}
@@ -8,7 +8,7 @@ use Rattle.std.proofs.Common.{arith}
 use Rattle.bpf_debug.specs.declared.breakpoint.Breakpoint.{Breakpoint}
 use Rattle.bpf_machine.specs.Schedule.{World}
 use Rattle.bpf_machine.specs.Machine.{Shows}
-use Rattle.bpf_debug.specs.Go.{Goes}
+use Rattle.bpf_debug.specs.Go.{Goes, watched}
 use Rattle.bpf_debug.proofs.GoLaws.{count_is}
 use Rattle.bpf_debug.proofs.SessionLaws.{can_still, went, enough}
 use Rattle.bpf_debug.proofs.session.Session.go.Goals as goal
@@ -30,7 +30,7 @@ returns-clause-answered c =
     let cpus = c.cpus-cpus.result in
     let last = string_bytes c.go.new.out in
     let room = string_bytes c.in-Some.out in
-    let P : SessionState → Type 0 = λ s. Leaves s Go last (record { machine = n; first = first_of m.origin n.programs; names = names; breaks = m.breakpoints.items; course = k }) in
-    let G : List Breakpoint → Option (List (ℕ × ℕ)) → Type 0 = λ bs h. (w : World) → Shows m.machine w → (z : World) × (turns : List ℕ) × (text : List ℕ) × Goes bs 0 cpus w 0 [] turns text z × Shows n z × KeepsOn h turns k × (last ≡ room ++ text) in
+    let P : SessionState → Type 0 = λ s. Leaves s Go last (record { machine = n; first = first_of m.origin n.programs; names = names; breaks = m.breakpoints.items; watch = option_map watched m.watch; course = k }) in
+    let G : List Breakpoint → Option (List (ℕ × ℕ)) → Type 0 = λ bs h. (w : World) → Shows m.machine w → (z : World) × (turns : List ℕ) × (text : List ℕ) × Goes bs (option_map watched m.watch) 0 cpus w 0 [] turns text z × Shows n z × KeepsOn h turns k × (last ≡ room ++ text) in
     let F : List Breakpoint → Type 0 = λ bs. G bs m.course in
-    subst P c.self.view_is (went m.machine m.origin names m.breakpoints.items m.course n k cpus room last c.in-Some.ensures.empty (count_is m.machine cpus c.cpus-cpus.ensures) (subst F c.deref.ensures.value (subst (G c.deref.result.now) c.reserve.ensures c.go.ensures.goes)) c.go.ensures.same)
+    subst P c.self.view_is (went m.machine m.origin names m.breakpoints.items (option_map watched m.watch) m.course n k cpus room last c.in-Some.ensures.empty (count_is m.machine cpus c.cpus-cpus.ensures) (subst F c.deref.ensures.value (subst (G c.deref.result.now) c.reserve.ensures c.go.ensures.goes)) c.go.ensures.same)

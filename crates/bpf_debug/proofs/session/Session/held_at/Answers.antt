@@ -1,9 +1,10 @@
 use Rattle.std.proofs.Common.{◌≡◌, ℕ, List, Some, length, sym, subst, map, String, Global}
-use Rattle.std.specs.Prelude.{true, string_bytes}
+use Rattle.std.specs.Prelude.{true, string_bytes, option_map}
 use Rattle.bpf_plain.specs.PlainStore.{Contents, has_cpu}
 use Rattle.bpf_debug.specs.Origin.{first_of}
 use Rattle.bpf_debug.specs.Held.{ShowsHeld}
 use Rattle.bpf_debug.specs.Command.{Held}
+use Rattle.bpf_debug.specs.Go.{watched}
 use Rattle.bpf_debug.specs.Session.{SessionState, Leaves}
 use Rattle.bpf_debug.proofs.SessionLaws.{told_held}
 use Rattle.bpf_debug.proofs.session.Session.held_at.Goals as goal
@@ -12,7 +13,7 @@ pub returns-in-Ok-clause-answered : goal.returns-in-Ok-clause-answered
 returns-in-Ok-clause-answered c =
     let m = c.self.inside in
     let names : List (List ℕ) = map (λ n. string_bytes n) m.names.items in
-    let s : SessionState = record { machine = m.machine; first = first_of m.origin m.machine.programs; names = names; breaks = m.breakpoints.items; course = m.course } in
+    let s : SessionState = record { machine = m.machine; first = first_of m.origin m.machine.programs; names = names; breaks = m.breakpoints.items; watch = option_map watched m.watch; course = m.course } in
     let last = string_bytes c.in-Ok.text in
     let state = c.in-Some.state.now in
     let P : SessionState → Type 0 = λ t. Leaves t (Held (Some c.args.cpu)) last t in

@@ -1,7 +1,8 @@
 use Rattle.std.proofs.Common.{ℕ, List, subst, map}
-use Rattle.std.specs.Prelude.{string_bytes}
+use Rattle.std.specs.Prelude.{string_bytes, option_map}
 use Rattle.bpf_debug.specs.Origin.{first_of}
 use Rattle.bpf_debug.specs.Command.{Jobs}
+use Rattle.bpf_debug.specs.Go.{watched}
 use Rattle.bpf_debug.specs.Session.{SessionState, Leaves}
 use Rattle.bpf_debug.proofs.SessionLaws.{told_of_jobs}
 use Rattle.bpf_debug.proofs.session.Session.jobs.Goals as goal
@@ -10,7 +11,7 @@ pub returns-clause-answered : goal.returns-clause-answered
 returns-clause-answered c =
     let m = c.self.inside in
     let names : List (List ℕ) = map (λ n. string_bytes n) m.names.items in
-    let s : SessionState = record { machine = m.machine; first = first_of m.origin m.machine.programs; names = names; breaks = m.breakpoints.items; course = m.course } in
+    let s : SessionState = record { machine = m.machine; first = first_of m.origin m.machine.programs; names = names; breaks = m.breakpoints.items; watch = option_map watched m.watch; course = m.course } in
     let last = string_bytes c.put_jobs.new.out in
     let P : SessionState → Type 0 = λ t. Leaves t Jobs last t in
     subst P c.self.view_is (told_of_jobs s (string_bytes c.in-Some.out) last c.in-Some.ensures.empty c.put_jobs.ensures)

@@ -1,10 +1,11 @@
 use Rattle.std.proofs.Common.{◌≡◌, ℕ, List, Some, Option, sym, subst, map}
-use Rattle.std.specs.Prelude.{true, string_bytes}
+use Rattle.std.specs.Prelude.{true, string_bytes, option_map}
 use Rattle.bpf_plain.specs.PlainStore.{has_cpu}
 use Rattle.bpf_machine.specs.Machine.{MachineState, Shows}
 use Rattle.bpf_machine.specs.Schedule.{World}
 use Rattle.bpf_debug.specs.Command.{Last}
 use Rattle.bpf_debug.specs.Origin.{CanRewind, first_of}
+use Rattle.bpf_debug.specs.Go.{watched}
 use Rattle.bpf_debug.specs.Session.{SessionState, Leaves}
 use Rattle.bpf_debug.proofs.SessionLaws.{can_rewound, can_still, told_last}
 use Rattle.bpf_debug.proofs.session.Session.last_at.Goals as goal
@@ -35,8 +36,8 @@ returns-clause-answered c =
     let C : SessionState → Type 0 = λ s. s.course ≡ Some runs in
     let H : SessionState → Type 0 = λ t. has_cpu t.machine.store c.args.cpu ≡ true in
     let is : m.course ≡ Some runs = subst C (sym c.self.view_is) c.requires.told.1 in
-    let after : SessionState = record { machine = n; first = first_of m.origin n.programs; names = names; breaks = m.breakpoints.items; course = m.course } in
+    let after : SessionState = record { machine = n; first = first_of m.origin n.programs; names = names; breaks = m.breakpoints.items; watch = option_map watched m.watch; course = m.course } in
     let P : SessionState → Type 0 = λ s. Leaves s (Last (Some c.args.cpu)) last after in
     subst P c.self.view_is
-    (told_last m.machine m.origin names m.breakpoints.items m.course rewound n runs c.args.cpu c.recall-recall.result (string_bytes c.in-Some.out) last (subst H (sym c.self.view_is) c.requires.served) is c.in-Ok.ensures.ok
+    (told_last m.machine m.origin names m.breakpoints.items (option_map watched m.watch) m.course rewound n runs c.args.cpu c.recall-recall.result (string_bytes c.in-Some.out) last (subst H (sym c.self.view_is) c.requires.served) is c.in-Ok.ensures.ok
     (c.recall-recall.ensures.turns runs is) c.recall-recall.ensures.same c.in-Some.ensures.empty c.put_last.ensures)

@@ -1,7 +1,8 @@
 use Rattle.std.proofs.Common.{ℕ, List, subst, map}
-use Rattle.std.specs.Prelude.{string_bytes}
+use Rattle.std.specs.Prelude.{string_bytes, option_map}
 use Rattle.bpf_debug.specs.Origin.{first_of}
 use Rattle.bpf_debug.specs.Command.{Schedule}
+use Rattle.bpf_debug.specs.Go.{watched}
 use Rattle.bpf_debug.specs.Session.{SessionState, Leaves}
 use Rattle.bpf_debug.proofs.SessionLaws.{told_course}
 use Rattle.bpf_debug.proofs.session.Session.schedule.Goals as goal
@@ -10,6 +11,6 @@ pub returns-in-Ok-clause-answered : goal.returns-in-Ok-clause-answered
 returns-in-Ok-clause-answered c =
     let m = c.self.inside in
     let names : List (List ℕ) = map (λ n. string_bytes n) m.names.items in
-    let s : SessionState = record { machine = m.machine; first = first_of m.origin m.machine.programs; names = names; breaks = m.breakpoints.items; course = m.course } in
+    let s : SessionState = record { machine = m.machine; first = first_of m.origin m.machine.programs; names = names; breaks = m.breakpoints.items; watch = option_map watched m.watch; course = m.course } in
     let P : SessionState → Type 0 = λ t. Leaves t Schedule (string_bytes c.in-Ok.text) t in
     subst P c.self.view_is (told_course s c.in-Some.runs.now (string_bytes c.in-Ok.text) c.in-Some.ensures.kept c.in-Ok.ensures)

@@ -1,10 +1,11 @@
 use Rattle.std.proofs.Common.{◌≡◌, ℕ, List, Some, Option, sym, ap, subst, ◌∙◌, map, String, Global}
-use Rattle.std.specs.Prelude.{true, string_bytes}
+use Rattle.std.specs.Prelude.{true, string_bytes, option_map}
 use Rattle.bpf_plain.specs.PlainStore.{has_cpu}
 use Rattle.bpf_machine.specs.Machine.{MachineState, Shows}
 use Rattle.bpf_machine.specs.Schedule.{World}
 use Rattle.bpf_debug.specs.Command.{Show}
 use Rattle.bpf_debug.specs.Origin.{CanRewind, first_of}
+use Rattle.bpf_debug.specs.Go.{watched}
 use Rattle.bpf_debug.specs.Session.{SessionState, Leaves}
 use Rattle.bpf_debug.specs.Recall.{IsRecall, Past}
 use Rattle.bpf_debug.specs.Show.{IsBefore, changed_text, shown_lines}
@@ -38,7 +39,7 @@ returns-clause-answered c =
     let C : SessionState → Type 0 = λ s. s.course ≡ Some runs in
     let H : SessionState → Type 0 = λ t. has_cpu t.machine.store c.args.cpu ≡ true in
     let is : m.course ≡ Some runs = subst C (sym c.self.view_is) c.requires.told.1 in
-    let after : SessionState = record { machine = n; first = first_of m.origin n.programs; names = names; breaks = m.breakpoints.items; course = m.course } in
+    let after : SessionState = record { machine = n; first = first_of m.origin n.programs; names = names; breaks = m.breakpoints.items; watch = option_map watched m.watch; course = m.course } in
     let P : SessionState → Type 0 = λ s. Leaves s (Show (Some c.args.cpu)) last after in
     let shown = c.in-Ok.shown in
     let sure = c.in-Ok.ensures in
@@ -54,5 +55,5 @@ returns-clause-answered c =
           ∙ ap (λ (ls : List (List ℕ)). changed_text p.0 0 state.registers ls) lines,
     ) in
     subst P c.self.view_is
-    (told_shown m.machine m.origin names m.breakpoints.items m.course rewound n runs c.args.cpu c.recall-recall.result state last (subst H (sym c.self.view_is) c.requires.served) is c.in-Ok-rewind.ensures.ok
+    (told_shown m.machine m.origin names m.breakpoints.items (option_map watched m.watch) m.course rewound n runs c.args.cpu c.recall-recall.result state last (subst H (sym c.self.view_is) c.requires.served) is c.in-Ok-rewind.ensures.ok
     (c.recall-recall.ensures.turns runs is) c.recall-recall.ensures.same c.in-Some.ensures.state put)

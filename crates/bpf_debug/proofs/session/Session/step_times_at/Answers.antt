@@ -1,9 +1,10 @@
 use Rattle.std.proofs.Common.{◌≡◌, ℕ, List, Option, Some, sym, subst, map, arith, replicate}
-use Rattle.std.specs.Prelude.{true, string_bytes}
+use Rattle.std.specs.Prelude.{true, string_bytes, option_map}
 use Rattle.bpf_plain.specs.PlainStore.{has_cpu}
 use Rattle.bpf_debug.specs.Origin.{first_of}
 use Rattle.bpf_debug.specs.Command.{StepTimes}
 use Rattle.bpf_debug.specs.Course.{KeepsOn}
+use Rattle.bpf_debug.specs.Go.{watched}
 use Rattle.bpf_debug.specs.Session.{SessionState, Leaves}
 use Rattle.bpf_debug.proofs.SessionLaws.{can_still, enough, stepped_times}
 use Rattle.bpf_debug.proofs.session.Session.step_times_at.Goals as goal
@@ -25,6 +26,6 @@ returns-clause-answered c =
     let k = c.add_times.new.self in
     let N : Option (List (ℕ × ℕ)) → Type 0 = λ h. KeepsOn h (replicate c.args.count c.args.cpu) k in
     let last = string_bytes c.take_turns.new.out in
-    let P : SessionState → Type 0 = λ s. Leaves s (StepTimes (Some c.args.cpu) c.args.count) last (record { machine = n; first = first_of m.origin n.programs; names = names; breaks = m.breakpoints.items; course = k }) in
+    let P : SessionState → Type 0 = λ s. Leaves s (StepTimes (Some c.args.cpu) c.args.count) last (record { machine = n; first = first_of m.origin n.programs; names = names; breaks = m.breakpoints.items; watch = option_map watched m.watch; course = k }) in
     let H : SessionState → Type 0 = λ s. has_cpu s.machine.store c.args.cpu ≡ true in
-    subst P c.self.view_is (stepped_times m.machine m.origin names m.breakpoints.items m.course n k c.args.cpu c.args.count (string_bytes c.in-Some.out) t.0 last (subst H (sym c.self.view_is) c.requires) c.in-Some.ensures.empty t.1 t.2 (subst N c.reserve.ensures c.add_times.ensures) c.take_turns.ensures.same)
+    subst P c.self.view_is (stepped_times m.machine m.origin names m.breakpoints.items (option_map watched m.watch) m.course n k c.args.cpu c.args.count (string_bytes c.in-Some.out) t.0 last (subst H (sym c.self.view_is) c.requires) c.in-Some.ensures.empty t.1 t.2 (subst N c.reserve.ensures c.add_times.ensures) c.take_turns.ensures.same)

@@ -1,9 +1,10 @@
 use Rattle.std.proofs.Common.{◌≡◌, ℕ, List, length, map, Option, sym, subst, arith}
-use Rattle.std.specs.Prelude.{true, string_bytes}
+use Rattle.std.specs.Prelude.{true, string_bytes, option_map}
 use Rattle.bpf_debug.specs.Origin.{first_of}
 use Rattle.bpf_debug.specs.Command.{Steps}
 use Rattle.bpf_machine.specs.Schedule.{unrolled}
 use Rattle.bpf_debug.specs.Course.{KeepsOn}
+use Rattle.bpf_debug.specs.Go.{watched}
 use Rattle.bpf_debug.specs.Session.{SessionState, Leaves, are_cpus}
 use Rattle.bpf_debug.proofs.SessionLaws.{can_still, enough, stepped_runs}
 use Rattle.bpf_debug.proofs.session.Session.steps_at.Goals as goal
@@ -25,6 +26,6 @@ returns-clause-answered c =
     let k = c.add_runs.new.self in
     let N : Option (List (ℕ × ℕ)) → Type 0 = λ h. KeepsOn h (unrolled c.args.runs.now) k in
     let last = string_bytes c.take_runs.new.out in
-    let P : SessionState → Type 0 = λ s. Leaves s (Steps c.args.runs.now) last (record { machine = n; first = first_of m.origin n.programs; names = names; breaks = m.breakpoints.items; course = k }) in
+    let P : SessionState → Type 0 = λ s. Leaves s (Steps c.args.runs.now) last (record { machine = n; first = first_of m.origin n.programs; names = names; breaks = m.breakpoints.items; watch = option_map watched m.watch; course = k }) in
     let H : SessionState → Type 0 = λ s. are_cpus (length s.machine.store.runs) c.args.runs.now ≡ true in
-    subst P c.self.view_is (stepped_runs m.machine m.origin names m.breakpoints.items m.course n k c.args.runs.now (string_bytes c.in-Some.out) t.0 last (subst H (sym c.self.view_is) c.requires.served) c.in-Some.ensures.empty t.1 t.2 (subst N c.reserve.ensures c.add_runs.ensures) c.take_runs.ensures.same)
+    subst P c.self.view_is (stepped_runs m.machine m.origin names m.breakpoints.items (option_map watched m.watch) m.course n k c.args.runs.now (string_bytes c.in-Some.out) t.0 last (subst H (sym c.self.view_is) c.requires.served) c.in-Some.ensures.empty t.1 t.2 (subst N c.reserve.ensures c.add_runs.ensures) c.take_runs.ensures.same)
