@@ -239,21 +239,23 @@ class File:
         )
         return "".join(line + "\n" for line in lines)
 
-    def outcomes(self, most):
-        """All reports, or none where there are more states than so many."""
-        seen, reports, waiting = set(), set(), [self.first()]
+    def reached(self, turn, most):
+        """Each state that such turns lead to, with those that its own turns lead to; or none where there are more than so many."""
+        seen, waiting = {}, [self.first()]
         while waiting:
             state = waiting.pop()
             if state in seen:
                 continue
-            seen.add(state)
+            seen[state] = [after for cpu in range(self.cpus) if (after := turn(state, cpu)) is not None]
             if len(seen) > most:
                 return None
-            new = [self.turn(state, cpu) for cpu in range(self.cpus)]
-            if all(after is None for after in new):
-                reports.add(self.report(state))
-            waiting += [after for after in new if after is not None]
-        return reports
+            waiting += seen[state]
+        return seen
+
+    def outcomes(self, most):
+        """All reports, or none where there are more states than so many."""
+        seen = self.reached(self.turn, most)
+        return None if seen is None else {self.report(state) for state, new in seen.items() if not new}
 
     def after(self, state, cpu):
         """The state after the CPU's turn, where no budget is ever used up, or none where it has no work."""
@@ -264,19 +266,15 @@ class File:
     def endings(self, most):
         """All reports where no budget is ever used up, and of each state whether an end can be reached from it; or
         none where there are more states than so many."""
-        before, reports, waiting, ending = {self.first(): set()}, set(), [self.first()], []
-        while waiting:
-            state = waiting.pop()
-            new = [after for cpu in range(self.cpus) if (after := self.after(state, cpu)) is not None]
-            if not new:
-                reports.add(self.report(state))
-                ending.append(state)
+        seen = self.reached(self.after, most)
+        if seen is None:
+            return None
+        before = {state: set() for state in seen}
+        for state, new in seen.items():
             for after in new:
-                if after not in before:
-                    waiting.append(after)
-                before.setdefault(after, set()).add(state)
-            if len(before) > most:
-                return None
+                before[after].add(state)
+        ending = [state for state, new in seen.items() if not new]
+        reports = {self.report(state) for state in ending}
         ends = dict.fromkeys(before, False)
         while ending:
             state = ending.pop()
@@ -320,17 +318,8 @@ class File:
 
     def races(self, turn, most):
         """The races in all states that such turns lead to, or none where there are more states than so many."""
-        seen, races, waiting = set(), set(), [self.first()]
-        while waiting:
-            state = waiting.pop()
-            if state in seen:
-                continue
-            seen.add(state)
-            if len(seen) > most:
-                return None
-            races |= self.races_in(state).keys()
-            waiting += [after for cpu in range(self.cpus) if (after := turn(state, cpu)) is not None]
-        return races
+        seen = self.reached(turn, most)
+        return None if seen is None else {race for state in seen for race in self.races_in(state)}
 
     def events(self, state, cpu):
         """What the CPU does at the map in its next turn, a line each, and whether its job ends."""
