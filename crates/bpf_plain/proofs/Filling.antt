@@ -1,6 +1,7 @@
 -- Elements are read one by one, and come to their homes.
-use Rattle.std.proofs.Common.{◌≡◌, ◌∙◌, ℕ, suc, ◌+◌, ◌*◌, ◌<◌, ◌≤◌, true, false, Bool, List, [], ◌∷◌, ◌++◌, length, length-append, take, drop, inl, inr, refl, sym, ap, subst, append_assoc, arith}
+use Rattle.std.proofs.Common.{◌≡◌, ◌≢◌, ◌∙◌, ℕ, suc, ◌+◌, ◌*◌, ◌<◌, ◌≤◌, true, false, Bool, List, [], ◌∷◌, ◌++◌, length, length-append, take, drop, inl, inr, refl, sym, ap, subst, append_assoc, arith}
 use Rattle.std.specs.Prelude.{slice_index_or}
+use Rattle.std.specs.List.{count_by}
 use Rattle.std.proofs.lemmas.Bool.{cases_lt}
 use Rattle.std.proofs.lemmas.List.{take_more, take_all}
 use Rattle.bpf_base.specs.Bytes.{part}
@@ -12,6 +13,8 @@ use Rattle.bpf_plain.specs.Private.Chains.{Links, IsChainedAt, GetsChained}
 use Rattle.bpf_plain.specs.Private.Home.{home_of}
 use Rattle.bpf_plain.specs.Private.Saved.{all_below, is_linked, block_of}
 use Rattle.bpf_plain.specs.Private.Normal.{normal_key, normal_value, normal_held, normal_left, normal_rows, IsBlockAt, IsSavedRows, AreRead, IsFilled}
+use Rattle.bpf_plain.specs.Private.Sized.{AreApart}
+use Rattle.bpf_plain.proofs.Blocks.{below_or_same}
 use Rattle.bpf_shared.proofs.Puts.{equal_or_not, true_or_false}
 use Rattle.bpf_plain.specs.Private.Index.{IsIndexed}
 use Rattle.bpf_plain.proofs.Linking.{linked_inside}
@@ -110,6 +113,34 @@ module _ (homes size : ℕ) (linked : List Bool) (keys : List ℕ) where
     })
   ]
 
+-- ---- keys that aren't there yet
+module _ (homes size : ℕ) (linked : List Bool) (keys : List ℕ) (i : ℕ) (old : Links) (here : Bool) (key : List ℕ) (here_is : here ≡ slice_index_or linked i false) (key_is : key ≡ part keys (i * size) size) (far : IsFilled homes size linked keys i old) where
+  pub one_apart : AreApart size linked keys i → (here ≡ true → (j : ℕ) → IsChainedAt old (home_of homes key) j → part keys (j * size) size ≢ key) → AreApart size linked keys (i + 1)
+  one_apart apart alone j k below low is too e = elim (equal_or_not j i) [
+    | inl same ↦ elim (equal_or_not k i) [
+      | inl also ↦ same ∙ sym also
+      | inr ne ↦ absurd (clash k (below_or_same k i low ne) too (sym e ∙ (ap (λ (n : ℕ). part keys (n * size) size) same ∙ sym key_is)) (subst (λ (n : ℕ). slice_index_or linked n false ≡ true) same is))
+    ]
+    | inr other ↦ elim (equal_or_not k i) [
+      | inl also ↦ absurd (clash j (below_or_same j i below other) is (e ∙ (ap (λ (n : ℕ). part keys (n * size) size) also ∙ sym key_is)) (subst (λ (n : ℕ). slice_index_or linked n false ≡ true) also too))
+      | inr ne ↦ apart j k (below_or_same j i below other) (below_or_same k i low ne) is too e
+    ]
+  ]
+    where
+      clash : (n : ℕ) → n < i → slice_index_or linked n false ≡ true → part keys (n * size) size ≡ key → slice_index_or linked i false ≡ true → ⊥
+      clash n l marked same linked_here = alone (here_is ∙ linked_here) n (subst (λ (b : ℕ). IsChainedAt old b n) (ap (home_of homes) same) (far.found n l marked)) same
+
+  pub not_apart : i < length linked → (j : ℕ) (b : ℕ) → IsChainedAt old b j → part keys (j * size) size ≡ key → here ≡ true → AreApart size linked keys (length linked) → ⊥
+  not_apart inside j b at same is apart =
+      let w = far.was b j at in
+      let less = w.0 in
+      let e : j ≡ i = apart j i (omega arith) inside w.1 (sym here_is ∙ is) (same ∙ key_is) in
+      absurd (omega arith)
+
+-- keys of a table's elements are distinct
+pub table_apart : (t : Rows) → IsTable t → AreApart t.shape.key t.linked t.keys (length t.linked)
+table_apart t is i j l m a b e = is.distinct i j a b e
+
 -- ---- all elements are read
 module _ (shape : MapShape) (cpus : ℕ) (bytes : List ℕ) (runs : List Runs) (t : Rows) (more : List ℕ) (saved : IsSavedRows shape cpus bytes runs t more)
     (at : ℕ) (linked : List Bool) (keys values held left : List ℕ) (far : AreRead runs t (elements shape) at linked keys values held left) where
@@ -129,6 +160,10 @@ module _ (shape : MapShape) (cpus : ℕ) (bytes : List ℕ) (runs : List Runs) (
 
   pub rows_table : IsTable read_rows
   rows_table = subst IsTable (sym rows_are) (normal_table runs t saved.table (saved.served ∙ sym saved.noted) (λ i is. linked_inside t saved.table i is))
+
+  -- so they are few enough, and their keys distinct
+  pub index_there : (count_by (λ b. b) linked ≤ shape.max → AreApart shape.key linked keys (length linked) → ⊥) → ⊥
+  index_there none = none rows_table.count (table_apart read_rows rows_table)
 
 -- the index finds what is in the map
 pub filled_indexed : (t : Rows) (x : Links) → IsTable t → IsFilled t.shape.max t.shape.key t.linked t.keys (length t.linked) x → IsIndexed t x

@@ -20,6 +20,9 @@ pub mod Fronts
 pub mod Normal
 pub mod Reading
 pub mod Filling
+pub mod Sizing
+pub mod Options
+pub mod SavedNormal
 pub mod Storing
 pub mod Accessing
 pub mod Updating

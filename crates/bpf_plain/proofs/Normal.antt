@@ -84,7 +84,7 @@ single_is x (suc n) c l =
 abbrev zeros_of : ℕ → List ℕ
 zeros_of n = replicate n 0
 
-zeros : (n : ℕ) → length (zeros_of n) ≡ n
+pub zeros : (n : ℕ) → length (zeros_of n) ≡ n
 zeros zero = refl
 zeros (suc n) = let more = zeros n in omega arith
 
@@ -143,7 +143,7 @@ module _ (runs : List Runs) (t : Rows) (is : IsTable t) (cpus : length runs ≡ 
   }
 
 -- ---- runs and tables
-first_run_of : (runs : List Runs) (c : ℕ) → c < length runs → run_of (map first_run runs) c ≡ first_run (run_of runs c)
+pub first_run_of : (runs : List Runs) (c : ℕ) → c < length runs → run_of (map first_run runs) c ≡ first_run (run_of runs c)
 first_run_of [] c l = absurd (omega arith)
 first_run_of (r ∷ rs) zero l = refl
 first_run_of (r ∷ rs) (suc c) l = first_run_of rs c (omega arith)
@@ -153,7 +153,7 @@ first_running [] c = refl
 first_running (r ∷ rs) zero = refl
 first_running (r ∷ rs) (suc c) = first_running rs c
 
-normal_row : (runs : List Runs) (ts : List Rows) (m : ℕ) → m < length ts → slice_index_or (map (normal_rows runs) ts) m no_rows ≡ normal_rows runs (slice_index_or ts m no_rows)
+pub normal_row : (runs : List Runs) (ts : List Rows) (m : ℕ) → m < length ts → slice_index_or (map (normal_rows runs) ts) m no_rows ≡ normal_rows runs (slice_index_or ts m no_rows)
 normal_row runs [] m l = absurd (omega arith)
 normal_row runs (t ∷ ts) zero l = refl
 normal_row runs (t ∷ ts) (suc m) l = normal_row runs ts m (omega arith)
@@ -163,7 +163,7 @@ normal_shapes runs [] = refl
 normal_shapes runs (t ∷ ts) = ap (λ (hs : List MapShape). t.shape ∷ hs) (normal_shapes runs ts)
 
 -- the first run is noted where the CPU's run was
-same_run : (r : Runs) (x : ℕ) → is_run (first_run r) (bit 1 (is_run r x)) ≡ is_run r x
+pub same_run : (r : Runs) (x : ℕ) → is_run (first_run r) (bit 1 (is_run r x)) ≡ is_run r x
 same_run r x = go r.running refl (is_run r x) refl
   where
     go : (b : Bool) → r.running ≡ b → (h : Bool) → is_run r x ≡ h → is_run (first_run r) (bit 1 (is_run r x)) ≡ is_run r x

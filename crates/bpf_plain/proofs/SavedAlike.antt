@@ -70,7 +70,7 @@ same_front f g (suc n) ends rest more e =
     each zero_same others zero l = zero_same
     each zero_same others (suc i) l = others i (omega arith)
 
-any_below_some : (n : ℕ) (f : ℕ → Bool) (c : ℕ) → c < n → f c ≡ true → any_below n f ≡ true
+pub any_below_some : (n : ℕ) (f : ℕ → Bool) (c : ℕ) → c < n → f c ≡ true → any_below n f ≡ true
 any_below_some zero f c l e = absurd (omega arith)
 any_below_some (suc n) f c l e = elim (equal_or_not c n) [
   | inl q ↦ ap (λ (b : Bool). b || any_below n f) (ap f (sym q) ∙ e)
@@ -140,7 +140,7 @@ used_in_use p m i (inr (c, either)) = or_right (is_linked (rows p m) i) (is_note
     ]
 
 -- equal lists, one behind the other
-below_same : (f g : ℕ → List ℕ) (n : ℕ) → ((i : ℕ) → i < n → f i ≡ g i) → all_below f n ≡ all_below g n
+pub below_same : (f g : ℕ → List ℕ) (n : ℕ) → ((i : ℕ) → i < n → f i ≡ g i) → all_below f n ≡ all_below g n
 below_same f g zero same = refl
 below_same f g (suc n) same = ap (λ (bs : List ℕ). bs ++ f n) (below_same f g n (λ i l. same i (omega arith))) ∙ ap (λ (bs : List ℕ). all_below g n ++ bs) (same n (omega arith))
 

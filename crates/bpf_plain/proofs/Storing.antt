@@ -1,7 +1,9 @@
 -- A store's tables are read one by one.
-use Rattle.std.proofs.Common.{◌≡◌, ◌∙◌, ℕ, suc, ◌+◌, ◌<◌, ◌≤◌, Bool, List, [], ◌∷◌, ◌++◌, length, length-append, take, drop, refl, sym, ap, arith}
-use Rattle.std.specs.Prelude.{map, slice_index_or}
-use Rattle.std.proofs.lemmas.List.{take_more, take_all, length-map, map-append}
+use Rattle.std.proofs.Common.{◌≡◌, ◌∙◌, ℕ, suc, ◌+◌, ◌-◌, ◌<◌, ◌≤◌, Bool, true, false, List, [], ◌∷◌, ◌++◌, length, length-append, take, drop, inl, inr, refl, sym, ap, subst, append_assoc, arith}
+use Rattle.std.specs.Prelude.{map, nat_lt, slice_index_or}
+use Rattle.std.proofs.lemmas.Bool.{cases_lt}
+use Rattle.std.proofs.lemmas.List.{take_more, take_all, length-map, map-append, take-append-drop, get_or-append_right}
+use Rattle.std.proofs.Math.ListN.{get_or-append}
 use Rattle.bpf_plain.specs.declared.runs.Runs.{Runs}
 use Rattle.bpf_shared.specs.declared.shapes.MapShape.{MapShape}
 use Rattle.bpf_shared.specs.Shape.{elements}
@@ -10,6 +12,7 @@ use Rattle.bpf_plain.specs.Private.Contents.{Contents, rows, shapes_of}
 use Rattle.bpf_plain.specs.Private.Saved.{all_below, block_of, map_block, is_in_run, IsSavedAs}
 use Rattle.bpf_plain.specs.Private.Normal.{first_run, normal_rows, normal, run_read, IsSavedRows, AreSavedTables, AreReadTables}
 use Rattle.bpf_plain.specs.Alike.{IsSameShape}
+use Rattle.bpf_plain.specs.Read.{IsSavedFirst}
 use Rattle.bpf_plain.proofs.Alike.{shape_or}
 use Rattle.bpf_plain.proofs.SavedAlike.{same_cpus}
 use Rattle.bpf_plain.proofs.Normal.{behind}
@@ -21,12 +24,16 @@ same_shapes xs ys e m = sym (shape_or xs m) ∙ (ap (λ (hs : List MapShape). sl
 pub as_many : (xs ys : List Rows) → map shape_of xs ≡ map shape_of ys → length xs ≡ length ys
 as_many xs ys e = sym (length-map xs shape_of) ∙ (ap (λ (hs : List MapShape). length hs) e ∙ length-map ys shape_of)
 
-module _ (shapes : List MapShape) (cpus : ℕ) (bytes : List ℕ) (p : Contents) (saved_so : AreSavedTables shapes cpus bytes p) (m at : ℕ) (inside : m < length p.tables) (at_is : at ≡ length (all_below (map_block p) m)) where
+module _ (shapes : List MapShape) (cpus : ℕ) (bytes : List ℕ) (p : Contents) (behind_all : List ℕ) (saved_so : AreSavedTables shapes cpus bytes p behind_all) (m at : ℕ) (inside : m < length p.tables) (at_is : at ≡ length (all_below (map_block p) m)) where
   abbrev pub tables_behind : List ℕ
-  tables_behind = (behind (map_block p) (length p.tables) m inside).0
+  tables_behind = (behind (map_block p) (length p.tables) m inside).0 ++ behind_all
 
   whole : bytes ≡ all_below (map_block p) m ++ (map_block p m ++ tables_behind)
-  whole = saved_so.begins ∙ (behind (map_block p) (length p.tables) m inside).1
+  whole =
+      let r = behind (map_block p) (length p.tables) m inside in
+      saved_so.begins
+      ∙ (ap (λ (bs : List ℕ). bs ++ behind_all) r.1
+      ∙ (append_assoc (all_below (map_block p) m) (map_block p m ++ r.0) behind_all ∙ ap (λ (bs : List ℕ). all_below (map_block p) m ++ bs) (append_assoc (map_block p m) r.0 behind_all)))
 
   pub table_inside : at + length (map_block p m) ≤ length bytes
   table_inside =
@@ -69,36 +76,87 @@ no_tables p = record { at_is = refl; tables_are = refl }
 pub all_tables : (p : Contents) (n at : ℕ) (tables : List Rows) → length p.tables ≤ n → AreReadTables p n at tables → tables ≡ map (normal_rows p.runs) p.tables
 all_tables p n at tables past far = far.tables_are ∙ ap (map (normal_rows p.runs)) (take_all n p.tables past)
 
+-- ---- tables of any bytes
+pub one_shape : (old tables tables' : List Rows) (m : ℕ) (t : Rows) → m < length old → map shape_of tables ≡ map shape_of (take m old) → tables' ≡ tables ++ t ∷ [] → t.shape ≡ (slice_index_or old m no_rows).shape
+    → map shape_of tables' ≡ map shape_of (take (m + 1) old)
+one_shape old tables tables' m t inside before e same =
+    ap (map shape_of) e
+    ∙ (map-append shape_of tables (t ∷ [])
+    ∙ (ap (λ (hs : List MapShape). hs ++ t.shape ∷ []) before
+    ∙ (ap (λ (h : MapShape). map shape_of (take m old) ++ h ∷ []) same
+    ∙ (sym (map-append shape_of (take m old) (slice_index_or old m no_rows ∷ [])) ∙ ap (map shape_of) (sym (take_more old m no_rows inside))))))
+
+pub all_shapes : (old tables : List Rows) (n : ℕ) → length old ≤ n → map shape_of tables ≡ map shape_of (take n old) → map shape_of tables ≡ map shape_of old
+all_shapes old tables n past e = e ∙ ap (map shape_of) (take_all n old past)
+
+module _ (P : Rows → Type 0) (tables : List Rows) (t : Rows) (each : (m : ℕ) → m < length tables → P (slice_index_or tables m no_rows)) (here : P t) where
+  with_one : (m : ℕ) → m < length (tables ++ t ∷ []) → P (slice_index_or (tables ++ t ∷ []) m no_rows)
+  with_one m l = elim (cases_lt m (length tables)) [
+    | inl before ↦ subst P (sym (get_or-append tables (t ∷ []) no_rows m before)) (each m before)
+    | inr past ↦
+        let sum = length-append tables (t ∷ []) in
+        let at : m - length tables ≡ 0 = omega (arith, sum, l) in
+        subst P (sym (get_or-append_right tables (t ∷ []) (length tables) m no_rows refl past ∙ ap (λ (k : ℕ). slice_index_or (t ∷ []) k no_rows) at)) here
+  ]
+
+  pub one_table : (tables' : List Rows) → tables' ≡ tables ++ t ∷ [] → (m : ℕ) → m < length tables' → P (slice_index_or tables' m no_rows)
+  one_table tables' e = subst (λ (ts : List Rows). (m : ℕ) → m < length ts → P (slice_index_or ts m no_rows)) (sym e) with_one
+
 -- ---- the runs
 runs_read : (rs : List Runs) → map run_read (map is_in_run rs) ≡ map first_run rs
 runs_read [] = refl
 runs_read (r ∷ rs) =
     ap (λ (b : Bool). let x : Runs = record { count = 1; running = b } in x ∷ map run_read (map is_in_run rs)) (bit_is r.running) ∙ ap (λ (xs : List Runs). first_run r ∷ xs) (runs_read rs)
 
-module _ (p q : Contents) (bytes : List ℕ) (shape : IsSameShape p q) (is : IsSavedAs p bytes) (n : ℕ) (counted : n ≡ length q.runs) where
+module _ (p q : Contents) (bytes : List ℕ) (k : ℕ) (is : IsSavedFirst q bytes k p) (n : ℕ) (counted : n ≡ length q.runs) where
   cpus : n ≡ length (map is_in_run p.runs)
-  cpus = counted ∙ (same_cpus p q shape ∙ sym (length-map p.runs is_in_run))
+  cpus = counted ∙ (same_cpus p q is.shape ∙ sym (length-map p.runs is_in_run))
+
+  abbrev pub blocks : List ℕ
+  blocks = all_below (map_block p) (length p.tables)
+
+  split : bytes ≡ map is_in_run p.runs ++ (blocks ++ drop k bytes)
+  split =
+      sym (take-append-drop k bytes)
+      ∙ (ap (λ (bs : List ℕ). bs ++ drop k bytes) is.saved.1 ∙ append_assoc (map is_in_run p.runs) blocks (drop k bytes))
 
   pub runs_inside : n ≤ length bytes
   runs_inside =
-      let sum = length-append (map is_in_run p.runs) (all_below (map_block p) (length p.tables)) in
-      let e = ap (λ (bs : List ℕ). length bs) is.1 in
+      let sum = length-append (map is_in_run p.runs) (blocks ++ drop k bytes) in
+      let e = ap (λ (bs : List ℕ). length bs) split in
       let c = cpus in
       omega (arith, sum, e, c)
 
-  pub tables_saved : (shapes : List MapShape) (rest : List ℕ) → shapes ≡ shapes_of q → rest ≡ drop n bytes → AreSavedTables shapes n rest p
+  pub tables_saved : (shapes : List MapShape) (rest : List ℕ) → shapes ≡ shapes_of q → rest ≡ drop n bytes → AreSavedTables shapes n rest p (drop k bytes)
   tables_saved shapes rest shaped e = record {
-    store = is.0;
-    shaped = sym (shaped ∙ shape.1);
-    served = sym (counted ∙ same_cpus p q shape);
-    begins = e ∙ (ap (drop n) is.1 ∙ drop_seam (map is_in_run p.runs) (all_below (map_block p) (length p.tables)) n cpus);
+    store = is.saved.0;
+    shaped = sym (shaped ∙ is.shape.1);
+    served = sym (counted ∙ same_cpus p q is.shape);
+    begins = e ∙ (ap (drop n) split ∙ drop_seam (map is_in_run p.runs) (blocks ++ drop k bytes) n cpus);
   }
 
   pub is_normal : (runs : List Runs) (tables : List Rows) → runs ≡ map run_read (take n bytes) → tables ≡ map (normal_rows p.runs) p.tables → ◌≡◌ {A = Contents} (record { runs = runs; tables = tables }) (normal p)
   is_normal runs tables read made =
       let first =
       read
-      ∙ (ap (λ (bs : List ℕ). map run_read (take n bs)) is.1
-      ∙ (ap (map run_read) (take_seam (map is_in_run p.runs) (all_below (map_block p) (length p.tables)) n cpus) ∙ runs_read p.runs))
+      ∙ (ap (λ (bs : List ℕ). map run_read (take n bs)) split
+      ∙ (ap (map run_read) (take_seam (map is_in_run p.runs) (blocks ++ drop k bytes) n cpus) ∙ runs_read p.runs))
       in
       λ j. record { runs = first j; tables = made j }
+
+-- what is read is of the same shape
+pub read_shape : (p : Contents) (runs : List Runs) (tables : List Rows) → length runs ≡ length p.runs → map shape_of tables ≡ shapes_of p → IsSameShape (record { runs = runs; tables = tables }) p
+read_shape p runs tables many shapes = (λ c. ap (λ (n : ℕ). nat_lt c n) (sym many), sym shapes)
+
+-- ---- bytes that start with what a store is saved as, or don't
+pub starts_first : (p : Contents) (bytes out : List ℕ) → bytes ≡ out ++ drop (length out) bytes → IsSavedAs p out → (length out ≤ length bytes) × IsSavedAs p (take (length out) bytes)
+starts_first p bytes out starts is =
+    let sum = length-append out (drop (length out) bytes) in
+    let e = ap (λ (bs : List ℕ). length bs) starts in
+    (omega (arith, sum, e), subst (IsSavedAs p) (sym (ap (take (length out)) starts ∙ take_seam out (drop (length out) bytes) (length out) refl)) is)
+
+pub starts_otherwise : (p : Contents) (bytes out : List ℕ) (starts : Bool) → starts ≡ false → ((rest : List ℕ) → bytes ≡ out ++ rest → starts ≡ true) → IsSavedAs p out → (k : ℕ) → IsSavedAs p (take k bytes) → ⊥
+starts_otherwise p bytes out starts not each is k first =
+    let whole : bytes ≡ out ++ drop k bytes = sym (take-append-drop k bytes) ∙ ap (λ (bs : List ℕ). bs ++ drop k bytes) (first.1 ∙ sym is.1) in
+    let no : false ≡ true = sym not ∙ each (drop k bytes) whole in
+    cc

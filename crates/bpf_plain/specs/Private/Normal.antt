@@ -54,7 +54,7 @@ abbrev pub low_bit : ℕ → ℕ
 low_bit note = note % 2
 
 abbrev pub high_bit : ℕ → ℕ
-high_bit note = note / 2
+high_bit note = note / 2 % 2
 
 abbrev pub is_note : ℕ → Bool
 is_note note = not (note == 0)
@@ -102,13 +102,13 @@ pub record IsFilled (homes size : ℕ) (linked : List Bool) (keys : List ℕ) (n
 abbrev pub run_read : ℕ → Runs
 run_read byte = record { count = 1; running = byte == 1 }
 
--- the bytes are all elements of all maps, which have these shapes, for so many CPUs
+-- the bytes begin with all elements of all maps, which have these shapes, for so many CPUs
 pub record AreSavedTables (shapes : List MapShape) (cpus : ℕ) (bytes : List ℕ) (p : Contents)
-    : Type 0 where
+    (more : List ℕ) : Type 0 where
   pub store : IsStore p
   pub shaped : map shape_of p.tables ≡ shapes
   pub served : length p.runs ≡ cpus
-  pub begins : bytes ≡ all_below (map_block p) (length p.tables)
+  pub begins : bytes ≡ all_below (map_block p) (length p.tables) ++ more
 
 -- the first tables are read
 pub record AreReadTables (p : Contents) (n at : ℕ) (tables : List Rows) : Type 0 where

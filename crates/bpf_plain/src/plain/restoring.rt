@@ -1,10 +1,12 @@
 //! A store from the bytes that it was saved as.
-ghost use Rattle.std.specs.Prelude.{◌≡◌, ◌<◌, ◌≤◌, ℕ, List, OnOk, OnErr, IfOk, length, map, take};
-ghost use Rattle.bpf_plain.specs.Private.Rows.{shape_of};
+ghost use Rattle.std.specs.Prelude.{◌≡◌, ◌<◌, ◌≤◌, ℕ, List, OnOk, OnErr, IfOk, IfSome, IfNone, length, map, take, slice_index_or};
+ghost use Rattle.bpf_plain.specs.Private.Rows.{no_rows, shape_of};
 ghost use Rattle.bpf_plain.specs.Private.Contents.{Contents};
 ghost use Rattle.bpf_plain.specs.Private.Saved.{IsSavedAs};
 ghost use Rattle.bpf_plain.specs.Private.Normal.{normal, normal_rows, run_read, AreSavedTables};
+ghost use Rattle.bpf_plain.specs.Private.Sized.{IsReadTable};
 ghost use Rattle.bpf_plain.specs.Alike.{IsSameShape};
+ghost use Rattle.bpf_plain.specs.Read.{IsRead, IsSavedFirst, SavesNone};
 
 use super::PlainStore;
 use crate::runs::Runs;
@@ -25,28 +27,36 @@ fn read_runs(alloc: Global, count: usize, bytes: &[u8]) -> Result<Vec<Runs>, All
     Ok(runs)
 }
 
-/// Tables of these shapes, from the bytes that they were saved as.
+/// Tables of these shapes, which are what the bytes begin with, in their normal form. None where
+/// there are no such.
 fn read_tables(
     alloc: Global,
     old: &[Table],
     cpus: u8,
     bytes: &[u8],
-) -> Result<Vec<Table>, AllocError>
+) -> Result<Option<Vec<Table>>, AllocError>
     requires cpus { cpus ≤ 16 }
-    requires saved { (p : Contents) × AreSavedTables (map shape_of old.now) cpus bytes.now p }
-    ensures { IfOk result (λ v. (p : Contents)
-        → AreSavedTables (map shape_of old.now) cpus bytes.now p
-        → v.items ≡ map (normal_rows p.runs) p.tables) }
+    ensures read { IfOk result (λ found. IfSome found (λ v. (p : Contents) (more : List ℕ)
+        → AreSavedTables (map shape_of old.now) cpus bytes.now p more
+        → v.items ≡ map (normal_rows p.runs) p.tables)) }
+    ensures none { IfOk result (λ found. IfNone found ((p : Contents) (more : List ℕ)
+        → AreSavedTables (map shape_of old.now) cpus bytes.now p more → ⊥)) }
+    ensures shaped { IfOk result (λ found. IfSome found
+        (λ v. map shape_of v.items ≡ map shape_of old.now)) }
+    ensures tables { IfOk result (λ found. IfSome found (λ v. (m : ℕ) → m < length v.items
+        → IsReadTable cpus (slice_index_or v.items m no_rows))) }
 {
     let mut tables = Vec::new(alloc);
     let mut at = 0;
     for map in 0..old.len() {
         let shape = old[map].shape();
-        let (table, count) = Table::restored(alloc, shape, cpus, past(bytes, at))?;
+        let Some((table, count)) = Table::restored(alloc, shape, cpus, past(bytes, at))? else {
+            return Ok(None);
+        };
         tables.push(table)?;
         at += count;
     }
-    Ok(tables)
+    Ok(Some(tables))
 }
 
 impl PlainStore {
@@ -58,21 +68,65 @@ impl PlainStore {
     }
 
     fn tables(&self) -> &[Table]
-        ensures { result.now ≡ self.now.tables }
+        ensures same { result.now ≡ self.now.tables }
+        ensures few { length result.now ≤ 16 }
     {
         &self.tables
     }
 
-    /// The store of the same shape that was saved as these bytes, in its normal form.
-    fn restored(&self, alloc: Global, bytes: &[u8]) -> Result<PlainStore, AllocError>
-        requires { (p : Contents) × IsSameShape p self.now × IsSavedAs p bytes.now }
-        ensures { IfOk result (λ new. (p : Contents) → IsSameShape p self.now
-            → IsSavedAs p bytes.now → new ≡ normal p) }
+    /// A store of the same shape, which is the normal form of any that the bytes begin with. None
+    /// where they begin with none.
+    fn restored(&self, alloc: Global, bytes: &[u8]) -> Result<Option<PlainStore>, AllocError>
+        ensures shape { IfOk result (λ found. IfSome found (λ new. IsSameShape new self.now)) }
+        ensures read { IfOk result (λ found. IfSome found (λ new. (k : ℕ) (p : Contents)
+            → IsSavedFirst self.now bytes.now k p → new ≡ normal p)) }
+        ensures none { IfOk result (λ found. IfNone found (SavesNone self.now bytes.now)) }
     {
         let cpus = self.count_cpus();
+        if bytes.len() < cpus {
+            return Ok(None);
+        }
         let runs = read_runs(alloc, cpus, bytes)?;
-        let tables = read_tables(alloc, self.tables(), cpus as u8, past(bytes, cpus))?;
-        Ok(PlainStore { runs, tables })
+        match read_tables(alloc, self.tables(), cpus as u8, past(bytes, cpus))? {
+            Some(tables) => Ok(Some(PlainStore { runs, tables })),
+            None => Ok(None),
+        }
+    }
+
+    /// How many of the bytes the store is saved as, if they begin so.
+    fn count_saved(&self, alloc: Global, bytes: &[u8]) -> Result<Option<usize>, AllocError>
+        ensures some { IfOk result (λ found. IfSome found
+            (λ n. (n ≤ length bytes.now) × IsSavedAs self.now (take n bytes.now))) }
+        ensures none { IfOk result (λ found. IfNone found
+            ((k : ℕ) → IsSavedAs self.now (take k bytes.now) → ⊥)) }
+    {
+        let mut saved = Vec::new(alloc);
+        self.save(&mut saved)?;
+        if bytes.starts_with(&saved) {
+            Ok(Some(saved.len()))
+        } else {
+            Ok(None)
+        }
+    }
+
+    /// Becomes the store of the same shape that was saved as the first of these bytes, in its
+    /// normal form, with how many these are. None, and unchanged, where they begin with no such
+    /// store, whoever wrote them; unchanged too where there is no memory.
+    pub fn read(&mut self, alloc: Global, bytes: &[u8]) -> Result<Option<usize>, AllocError>
+        ensures read { IfOk result (λ found. IfSome found
+            (λ n. IsRead self.old bytes.now n self.new)) }
+        ensures none { IfOk result (λ found. IfNone found (SavesNone self.old bytes.now)) }
+        ensures stays { IfOk result (λ found. IfNone found (self.new ≡ self.old)) }
+        ensures err { OnErr result (self.new ≡ self.old) }
+    {
+        let Some(new) = self.restored(alloc, bytes)? else {
+            return Ok(None);
+        };
+        let Some(count) = new.count_saved(alloc, bytes)? else {
+            return Ok(None);
+        };
+        *self = new;
+        Ok(Some(count))
     }
 
     /// Becomes the store that was saved as these bytes, in its normal form. Unchanged where there
@@ -83,7 +137,7 @@ impl PlainStore {
             → self.new ≡ normal p) }
         ensures err { OnErr result (self.new ≡ self.old) }
     {
-        *self = self.restored(alloc, bytes)?;
+        self.read(alloc, bytes)?;
         Ok(())
     }
 }

@@ -1,38 +1,31 @@
-use Rattle.std.proofs.Common.{rules, ◌+◌, ◌<◌, ◌≤◌, length, arith}
+use Rattle.std.proofs.Common.{◌<◌, ◌≤◌, List, ℕ, length, length-drop, ap, arith}
 use Rattle.bpf_shared.specs.Shape.{elements}
-use Rattle.bpf_plain.proofs.Filling.{within, at_inside, block_here, more_read}
+use Rattle.bpf_plain.proofs.Filling.{within, block_here, more_read}
+use Rattle.bpf_plain.proofs.Options.{at_some, at_none}
 use Rattle.bpf_plain.proofs.table.restoring.read_parts.Goals as goal
 
-pub past-requires : goal.past-requires
-past-requires c =
-    let r = c.requires.saved in
-    let far = c.loop-element.invariant r.0 r.1 r.2 r.3 in
-    let h = at_inside c.args.shape c.args.cpus c.args.bytes.now r.0 r.1 r.2 r.3 c.loop-element.element c.loop-element.at (omega arith) far.at_is in
-    omega (arith, h)
-
-pub push_element-requires : goal.push_element-requires
-push_element-requires c =
-    let r = c.requires.saved in
-    let far = c.loop-element.invariant r.0 r.1 r.2 r.3 in
-    (r.0, r.1, c.loop-element.element, _, block_here c.args.shape c.args.cpus c.args.bytes.now r.0 r.1 r.2 r.3 c.loop-element.element c.loop-element.at (omega arith) far.at_is c.past.result.now c.past.ensures)
-
-pub overflow_add-at : goal.overflow_add-at
-overflow_add-at c =
-    let r = c.requires.saved in
-    let far = c.loop-element.invariant r.0 r.1 r.2 r.3 in
-    let i = c.loop-element.element in
-    let inside : i < elements c.args.shape = omega arith in
-    let h = at_inside c.args.shape c.args.cpus c.args.bytes.now r.0 r.1 r.2 r.3 i c.loop-element.at inside far.at_is in
-    let b = block_here c.args.shape c.args.cpus c.args.bytes.now r.0 r.1 r.2 r.3 i c.loop-element.at inside far.at_is c.past.result.now c.past.ensures in
-    let count = (c.in_ok-count.ensures r.0 r.1 i _ b).0 in
-    let most : c.loop-element.at + c.in_ok-count.count ≤ length c.args.bytes.now = omega (arith, h, count) in
-    search rules
-
 pub loop-element-preserved : goal.loop-element-preserved
-loop-element-preserved c runs t more saved =
-    let far = c.loop-element.invariant runs t more saved in
+loop-element-preserved c =
     let i = c.loop-element.element in
-    let inside : i < elements c.args.shape = omega arith in
-    let b = block_here c.args.shape c.args.cpus c.args.bytes.now runs t more saved i c.loop-element.at inside far.at_is c.past.result.now c.past.ensures in
-    let within_t = within c.args.shape c.args.cpus c.args.bytes.now runs t more saved i c.loop-element.at inside far.at_is in
-    more_read runs t i c.loop-element.at c.in_ok-count.count _ _ _ _ _ _ _ _ _ _ saved.table within_t far (c.in_ok-count.ensures runs t i _ b)
+    let below : i < elements c.args.shape = omega arith in record {
+      read = λ runs t more saved.
+          (let far = c.loop-element.invariant.read runs t more saved in
+          let b = block_here c.args.shape c.args.cpus c.args.bytes.now runs t more saved i c.loop-element.at below far.at_is c.past.result.now c.past.ensures in
+          let inside = within c.args.shape c.args.cpus c.args.bytes.now runs t more saved i c.loop-element.at below far.at_is in
+          more_read runs t i c.loop-element.at c.in-Some.count _ _ _ _ _ _ _ _ _ _ saved.table inside far (at_some _ _ _ c.in-Some.is c.in_ok-count.ensures.read runs t i _ b));
+      inside =
+          (let most : c.in-Some.count ≤ length c.past.result.now = at_some _ _ _ c.in-Some.is c.in_ok-count.ensures.inside in
+          let rest = ap (λ (bs : List ℕ). length bs) c.past.ensures in
+          let size = length-drop c.loop-element.at c.args.bytes.now in
+          let before = c.loop-element.invariant.inside in
+          omega (arith, most, rest, size, before));
+      sized = at_some _ _ _ c.in-Some.is c.in_ok-count.ensures.sized i c.loop-element.invariant.sized;
+    }
+
+pub returns-in_default-clause-none : goal.returns-in_default-clause-none
+returns-in_default-clause-none c runs t more saved =
+    let i = c.loop-element.element in
+    let below : i < elements c.args.shape = omega arith in
+    let far = c.loop-element.invariant.read runs t more saved in
+    let b = block_here c.args.shape c.args.cpus c.args.bytes.now runs t more saved i c.loop-element.at below far.at_is c.past.result.now c.past.ensures in
+    at_none _ _ c.in_default.is c.in_ok-count.ensures.none runs t i _ b
