@@ -32,5 +32,6 @@ pub mod Writing
 pub mod LookingUp
 mod Listing
 pub mod Served
+pub mod Holding
 pub mod Elements
 pub mod KeyRows

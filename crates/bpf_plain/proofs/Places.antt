@@ -74,7 +74,7 @@ module _ (p : Contents) (is : IsStore p) where
       let here : IsIn a (span_at p m j) = subst (λ (k : ℕ). IsIn a (span_at p k j)) (sym map) y in
       (map, one_element m i j (rows p m).shape a (shape_is m i li) x here)
 
-  first_in : (m i : ℕ) → i < element_count p m → IsIn (span_at p m i).at (span_at p m i)
+  pub first_in : (m i : ℕ) → i < element_count p m → IsIn (span_at p m i).at (span_at p m i)
   first_in m i l = let v = (shape_is m i l).value.0 in (omega arith, omega arith)
 
   pub one_span : (m n i j : ℕ) → i < element_count p m → j < element_count p n → span_at p m i ≡ span_at p n j → (m ≡ n) × (i ≡ j)

@@ -1,6 +1,6 @@
 //! The plain store: the shared store of one thread.
-ghost use Rattle.std.specs.Prelude.{◌≡◌, ◌+◌, ◌<◌, ◌≤◌, ℕ, true, false, IfOk, IfErr, IfSome, IfNone, length, map, nat_lt, option_map, slice_index_or};
-ghost use Rattle.bpf_shared.specs.Shape.{IsMap, IsMapShape};
+ghost use Rattle.std.specs.Prelude.{◌≡◌, ◌+◌, ◌<◌, ◌≤◌, ℕ, true, false, IsTrue, IfOk, IfErr, IfSome, IfNone, length, map, nat_lt, option_map, slice_index_or};
+ghost use Rattle.bpf_shared.specs.Shape.{IsMap, IsMapShape, IsValueSpan};
 ghost use Rattle.bpf_plain.specs.Private.Rows.{no_rows, shape_of, IsBlank, IsTable};
 ghost use Rattle.bpf_plain.specs.Private.Runs.{no_runs};
 
@@ -78,7 +78,8 @@ struct Reach {
 }
 
 impl PlainStore {
-    ghost use Rattle.bpf_plain.specs.Private.Contents.{IsMade, has_cpu, is_running, runs_of, element_count, span_at};
+    ghost use Rattle.bpf_plain.specs.Private.Contents.{IsMade, has_cpu, is_running, held_spans, holds, runs_of, element_count, span_at};
+    ghost use Rattle.bpf_shared.specs.Passage.{same_span};
     ghost use Rattle.bpf_plain.specs.Private.Changes.{IsAtValue, IsAlike, IsReach};
     ghost use Rattle.bpf_shared.specs.Listing.{listed};
     ghost use Rattle.bpf_plain.specs.Shows.{Lists, ShowsByte, ShowsKey, ShowsNoByte, ShowsNoKey, ShowsValue};
@@ -96,6 +97,29 @@ impl PlainStore {
         ensures { (c : ℕ) → has_cpu self.now c ≡ nat_lt c result }
     {
         self.runs.len() as u8
+    }
+
+    /// The CPU of this number is in a run. None is that the store doesn't have.
+    pub fn is_running(&self, cpu: u8) -> bool
+        ensures running { result ≡ is_running self.now cpu }
+        ensures served { (c : ℕ) → is_running self.now c ≡ true → has_cpu self.now c ≡ true }
+    {
+        match self.runs.get(cpu as usize) {
+            Some(runs) => runs.running,
+            None => false,
+        }
+    }
+
+    /// The run of the CPU of this number holds the value of a span.
+    pub fn holds(&self, cpu: u8, span: Span) -> bool
+        ensures holds { result ≡ held_spans self.now cpu span }
+        ensures value { IsTrue result → IsValueSpan span }
+    {
+        let _ = &self.runs;
+        match self.place(span.at) {
+            Some(reach) => self.holds_element(cpu, reach) && self.is_span(reach, span),
+            None => false,
+        }
     }
 
     /// The keys of a map with their values, in the keys' order; of no map there are none. Want of
@@ -164,6 +188,26 @@ impl PlainStore {
         for table in self.tables.iter_mut() {
             table.forget(cpu);
         }
+    }
+
+    /// The CPU's run looked the element of a place up.
+    fn holds_element(&self, cpu: u8, reach: Reach) -> bool
+        requires map { reach.map < length self.now.tables }
+        requires element { reach.element < element_count self.now reach.map }
+        ensures { result ≡ holds self.now cpu reach.map reach.element }
+    {
+        match self.runs.get(cpu as usize) {
+            Some(runs) => self.tables[reach.map].is_held_by(reach.element, cpu as usize, *runs),
+            None => false,
+        }
+    }
+
+    /// A span is that of the element of a place.
+    fn is_span(&self, reach: Reach, span: Span) -> bool
+        requires { IsReach self.now span.at reach }
+        ensures { result ≡ same_span span (span_at self.now reach.map reach.element) }
+    {
+        reach.offset == 0 && span.size == self.tables[reach.map].shape().value
     }
 
     /// Where the byte at an address is, if it is one of an element's value.

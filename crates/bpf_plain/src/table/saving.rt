@@ -26,7 +26,7 @@ impl Table {
 
     /// The CPU is in this run, and its run looked the element up.
     #[tactic(auto, using(crate::proofs::Blocks::block_fits, crate::proofs::Blocks::in_block))]
-    fn is_held_by(&self, element: usize, cpu: usize, run: Runs) -> bool
+    pub fn is_held_by(&self, element: usize, cpu: usize, run: Runs) -> bool
         requires element { element < elements self.now.shape }
         requires cpu { cpu < self.now.cpus }
         ensures { result ≡ holds_row self.now element cpu run }
