@@ -173,7 +173,7 @@ impl Frames {
     }
 
     /// What the callers of all but the oldest get back.
-    fn live_callers(&self) -> &[Caller]
+    pub fn callers(&self) -> &[Caller]
         ensures { result.now ≡ self.now.callers }
     {
         &self.callers[..self.live - 1]
@@ -184,7 +184,7 @@ impl Frames {
         ensures { IsTrue result ↔ (self.now ≡ other.now) }
     {
         same_frames(self.live_frames(), other.live_frames())
-            && same_callers(self.live_callers(), other.live_callers())
+            && same_callers(self.callers(), other.callers())
     }
 
     /// A new frame, zeroed, for a function that `caller` calls.
