@@ -99,10 +99,16 @@ impl PlainStore {
         self.runs.len() as u8
     }
 
-    /// The CPU of this number is in a run. None is that the store doesn't have.
+    /// Only CPUs that the store has are in a run: says so, and does nothing.
+    pub fn runs_are_served(&self)
+        ensures { (c : ℕ) → is_running self.now c ≡ true → has_cpu self.now c ≡ true }
+    {
+        let _ = &self.runs;
+    }
+
+    /// The CPU of this number is in a run.
     pub fn is_running(&self, cpu: u8) -> bool
-        ensures running { result ≡ is_running self.now cpu }
-        ensures served { (c : ℕ) → is_running self.now c ≡ true → has_cpu self.now c ≡ true }
+        ensures { result ≡ is_running self.now cpu }
     {
         match self.runs.get(cpu as usize) {
             Some(runs) => runs.running,

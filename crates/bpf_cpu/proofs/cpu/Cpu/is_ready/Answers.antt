@@ -1,4 +1,4 @@
-use Rattle.std.proofs.Common.{◌≡◌, ◌∙◌, All, Bool, true, false, true≢false, List, sym, subst}
+use Rattle.std.proofs.Common.{◌∙◌, All, true≢false, List, sym, subst}
 use Rattle.bpf_mem.specs.declared.frames.Caller.{Caller}
 use Rattle.bpf_loader.specs.Places.{IsStart}
 use Rattle.bpf_cpu.proofs.cpu.Cpu.is_ready.Goals as goal
