@@ -28,3 +28,4 @@ pub mod HostLaws
 pub mod StandLaws
 mod FillLaws
 pub mod PartLaws
+pub mod FitLaws

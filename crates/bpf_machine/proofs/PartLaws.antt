@@ -31,7 +31,7 @@ pub chosen_count : (parts : List Task) (numbers : List ℕ) → length (chosen p
 chosen_count parts [] = refl
 chosen_count parts (n ∷ ns) = ap suc (chosen_count parts ns)
 
-waiting_or_not : (s : Stage) → waits s ≡ true → (context : List ℕ) × (s ≡ Waiting context)
+pub waiting_or_not : (s : Stage) → waits s ≡ true → (context : List ℕ) × (s ≡ Waiting context)
 waiting_or_not (Waiting context) is = (context, refl)
 waiting_or_not (InHand state left) is = cc
 waiting_or_not (Ended outcome) is = cc

@@ -4,3 +4,4 @@ pub mod Turns
 pub mod Headways
 pub mod KeyLists
 pub mod Parts
+pub mod Standing

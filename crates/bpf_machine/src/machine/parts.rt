@@ -9,8 +9,11 @@ ghost use Rattle.bpf_machine.specs.Private.Lanes.{lane_of, stage_of};
 ghost use Rattle.bpf_machine.specs.Kept.{kept_stage};
 ghost use Rattle.bpf_machine.specs.Private.Parts.{IsReadAs, in_hand, waits, entry_at, IsEntryOf, IsHandOf, IsFirstWaiting, IsLaneOf, FitsIn, CanFill};
 
+mod fitting;
+
 use super::Machine;
 use crate::machine::lane::{Hand, Lane, Listed, Phase, put_down};
+use crate::machine::parts::fitting::can_stand;
 use bpf_base::spread;
 use bpf_cpu::{Cpu, Outcome};
 use bpf_plain::PlainStore;
@@ -511,7 +514,7 @@ fn hash_of_stage(first: u64, lane: &Lane, phase: &Phase) -> u64
 }
 
 impl Machine {
-    ghost use Rattle.std.specs.Prelude.{◌≡◌, ◌<◌, ℕ, true, false, All, IfOk, OnOk, OnErr, Some, None, length, slice_get};
+    ghost use Rattle.std.specs.Prelude.{◌≡◌, ◌<◌, ◌↔◌, ℕ, true, false, All, IfOk, OnOk, OnErr, IsTrue, Some, None, length, slice_get};
     ghost use Rattle.bpf_plain.specs.Alike.{IsSameShape};
     ghost use Rattle.bpf_cpu.specs.Task.{Task};
     ghost use Rattle.bpf_machine.specs.Parts.{CanStand, made_of};
@@ -558,6 +561,15 @@ impl Machine {
         ensures { CanStand self.now }
     {
         let _ = &self.store;
+    }
+
+    /// The machine's programs fit a store and the kept jobs that have these numbers.
+    pub fn can_restore(&self, store: &PlainStore, parts: &[KeptJob], numbers: &[u32]) -> bool
+        requires { All (λ n. n < length parts.now) numbers.now }
+        ensures { IsTrue result
+            ↔ CanStand (made_of store.now self.now.programs parts.now numbers.now) }
+    {
+        can_stand(store, &self.programs, parts, numbers)
     }
 
     /// Becomes the machine of a store and of the kept jobs that have these numbers, where no lists
