@@ -1,4 +1,4 @@
-//! A store from the bytes that it was saved as.
+//! A store from the bytes that it was saved as, or from any.
 ghost use Rattle.std.specs.Prelude.{◌≡◌, ◌<◌, ◌≤◌, ℕ, List, OnOk, OnErr, IfOk, IfSome, IfNone, length, map, take, slice_index_or};
 ghost use Rattle.bpf_plain.specs.Private.Rows.{no_rows, shape_of};
 ghost use Rattle.bpf_plain.specs.Private.Contents.{Contents};
@@ -27,8 +27,8 @@ fn read_runs(alloc: Global, count: usize, bytes: &[u8]) -> Result<Vec<Runs>, All
     Ok(runs)
 }
 
-/// Tables of these shapes, which are what the bytes begin with, in their normal form. None where
-/// there are no such.
+/// Tables of these shapes, which are the normal form of any that the bytes begin with. None only
+/// where they begin with none.
 fn read_tables(
     alloc: Global,
     old: &[Table],
@@ -75,7 +75,7 @@ impl PlainStore {
     }
 
     /// A store of the same shape, which is the normal form of any that the bytes begin with. None
-    /// where they begin with none.
+    /// only where they begin with none.
     fn restored(&self, alloc: Global, bytes: &[u8]) -> Result<Option<PlainStore>, AllocError>
         ensures shape { IfOk result (λ found. IfSome found (λ new. IsSameShape new self.now)) }
         ensures read { IfOk result (λ found. IfSome found (λ new. (k : ℕ) (p : Contents)

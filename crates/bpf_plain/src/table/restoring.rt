@@ -1,4 +1,4 @@
-//! A table from the bytes that it was saved as.
+//! A table from the bytes that it was saved as, or from any.
 ghost use Rattle.std.specs.Prelude.{◌≡◌, ◌≢◌, ◌<◌, ◌≤◌, ◌+◌, ◌*◌, ◌%◌, ◌/◌, ◌++◌, ◌==◌, ◌||◌, ℕ, List, [], ◌∷◌, true, false, not, OnOk, IfOk, IfSome, IfNone, length, map, take, drop, replicate, slice_index, slice_index_or, if◌then◌else◌};
 ghost use Rattle.bpf_base.specs.Bytes.{part};
 ghost use Rattle.bpf_plain.specs.declared.runs.Runs.{Runs};
@@ -95,7 +95,7 @@ fn either(first: bool, second: bool) -> bool
     first || second
 }
 
-/// Reads an element. How many bytes it took; none where it doesn't end in these.
+/// Reads an element. How many bytes it took; none where these end before it does.
 fn push_element(
     parts: &mut Parts,
     shape: MapShape,
@@ -141,8 +141,8 @@ fn push_element(
     Ok(Some(1 + cpus + key + value))
 }
 
-/// Reads all elements of a table. With how many bytes they took; none where they don't end in
-/// these.
+/// Reads all elements of a table. With how many bytes they took; none where these end before they
+/// do.
 fn read_parts(
     alloc: Global,
     shape: MapShape,
@@ -287,8 +287,8 @@ fn index_of(
 }
 
 impl Table {
-    /// The table of this shape that one was saved as, in its normal form, with how many of the
-    /// bytes that are. None where there is no such.
+    /// A table of this shape, which is the normal form of any that the bytes begin with, with how
+    /// many of them it took. None only where they begin with none.
     pub fn restored(
         alloc: Global,
         shape: MapShape,
