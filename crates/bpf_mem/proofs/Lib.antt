@@ -1,5 +1,10 @@
 pub mod Apart
 pub mod AreaLemmas
+pub mod CodeLemmas
 pub mod Determined
+pub mod FrameLemmas
+pub mod Fronts
 pub mod ReachLemmas
+pub mod WordLemmas
+pub mod WordReading
 pub mod WriteLemmas

@@ -6,4 +6,5 @@ pub mod Limits
 pub mod Memory
 pub mod Place
 pub mod Private
+pub mod Saved
 pub mod Stack

@@ -7,6 +7,8 @@ ghost use Rattle.bpf_mem.specs.Bytes.{length_of};
 ghost use Rattle.bpf_mem.specs.Limits.{max_frames, frame_bytes};
 ghost use Rattle.bpf_mem.specs.Stack.{IsStack, zeroed};
 
+mod saving;
+
 use crate::addresses::{FRAME_STRIDE, STACK_BASE};
 use crate::bytes;
 use bpf_insn::operation::Size;

@@ -1,10 +1,10 @@
-//! What follows from the definitions of areas and of a write, as promises to the crates above.
+//! What follows from the definitions of areas, of a write and of what is saved, as promises to the crates above.
 //!
 //! These functions do nothing: their contracts are the laws, which a proof cites.
 ghost use Rattle.std.specs.Prelude.{◌≡◌, ◌+◌};
 ghost use Rattle.bpf_mem.specs.Addresses.{context_base, frame_base};
 ghost use Rattle.bpf_mem.specs.Limits.{max_context, max_frames, frame_bytes};
-ghost use Rattle.bpf_mem.specs.Laws.{AreasAreApart, WritesAreDetermined};
+ghost use Rattle.bpf_mem.specs.Laws.{AreasAreApart, SavedTellsFrames, SavedTellsWords, WritesAreDetermined};
 
 use crate::addresses::{CONTEXT_BASE, FRAME_STRIDE, STACK_BASE};
 use crate::context::MAX_CONTEXT;
@@ -28,4 +28,14 @@ pub fn areas_are_apart()
 /// A write to the memory of a CPU leaves one memory alone, and it is the memory of a CPU again.
 pub fn writes_are_determined()
     ensures { WritesAreDetermined }
+{}
+
+/// What so many words are saved as tells them, and where it ends.
+pub fn saved_tells_words()
+    ensures { SavedTellsWords }
+{}
+
+/// What frames are saved as tells them, and where it ends.
+pub fn saved_tells_frames()
+    ensures { SavedTellsFrames }
 {}

@@ -9,6 +9,7 @@ pub mod frames;
 pub mod laws;
 pub mod memory;
 pub mod place;
+pub mod words;
 
 pub use addresses::is_aligned;
 pub use bytes::{length, size_of_width};
@@ -16,3 +17,4 @@ pub use context::Context;
 pub use frames::{Caller, Frames};
 pub use memory::PrivateMemory;
 pub use place::Place;
+pub use words::{read_words, save_words};
