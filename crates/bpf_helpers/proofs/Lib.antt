@@ -7,3 +7,4 @@ pub mod Noting
 pub mod OnGrid
 pub mod Reaching
 pub mod Sized
+pub mod SpanLemmas

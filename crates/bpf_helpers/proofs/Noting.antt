@@ -23,3 +23,12 @@ module _ (old new : List ℕ) (spans : List Span) (s : Span)
   all_sized maps are all =
       let parts = All-pop (IsElement maps) (spans ++ s ∷ []) spans (Some s) refl all in
       (noted maps parts.1.0 are (sized maps are parts.0) parts.1.1).0
+
+  pub now_on : All (IsOnGrid old) spans → IsOnGrid new s → All (IsOnGrid new) (spans ++ s ∷ [])
+  now_on were on = All-push (IsOnGrid new) spans s (All-weaker (IsOnGrid old) (IsOnGrid new) kept spans were) on
+
+  -- what may be held besides is on the grid then
+  pub on_then : AreElements (spans ++ s ∷ []) → IsOnGrid new s
+  on_then (maps, are, all) =
+      let parts = All-pop (IsElement maps) (spans ++ s ∷ []) spans (Some s) refl all in
+      (noted maps parts.1.0 are (sized maps are parts.0) parts.1.1).1

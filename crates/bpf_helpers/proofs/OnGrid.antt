@@ -1,5 +1,5 @@
 -- Spans on the grid, and the addresses in them.
-use Rattle.std.proofs.Common.{◌≡◌, ℕ, ◌+◌, ◌-◌, ◌*◌, ◌/◌, ◌%◌, ◌<◌, ◌≤◌, List, slice_index, ap, ◌∙◌, arith}
+use Rattle.std.proofs.Common.{◌≡◌, ℕ, ◌+◌, ◌-◌, ◌*◌, ◌/◌, ◌%◌, ◌<◌, ◌≤◌, List, slice_index, sym, ap, ◌∙◌, arith}
 use Rattle.std.proofs.lemmas.Nat.{div-add-mod', mod-mul-add}
 use Rattle.bpf_shared.specs.declared.events.Span.{Span}
 use Rattle.bpf_shared.specs.Shape.{IsIn}
@@ -55,3 +55,14 @@ whole sizes p m o on offset =
     let at : o ≡ on.element * stride_of p.size + 0 = let e = same.1 in omega arith in
     let wide : 0 < stride_of p.size = omega arith in
     (ap (λ (k : ℕ). k % stride_of p.size) at ∙ mod-mul-add on.element (stride_of p.size) 0 wide, let e = same.1 in omega arith)
+
+-- what the tests of a span say
+module _ (sizes : List ℕ) (p : Span) (m o size stride : ℕ) (offset : IsOffset p.at m o) (noted : size ≡ slice_index sizes m) (same : size ≡ p.size) (some : size ≡ 0 → ⊥) (long : stride ≡ stride_of size) where
+  wide : stride ≡ stride_of p.size
+  wide = long ∙ ap stride_of same
+
+  pub passes : o % stride ≡ 0 → o + p.size ≤ 0x1000_0000 → IsOnGrid sizes p
+  passes on room = laid sizes p m o offset (sym noted ∙ same) (omega arith) (ap (λ (k : ℕ). o % k) (sym wide) ∙ on) room
+
+  pub passed : IsOnGrid sizes p → (o % stride ≡ 0) × (o + p.size ≤ 0x1000_0000)
+  passed on = let is = whole sizes p m o on offset in (ap (λ (k : ℕ). o % k) wide ∙ is.0, is.1)

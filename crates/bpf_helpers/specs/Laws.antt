@@ -1,4 +1,4 @@
--- What follows from the definition of a call.
+-- What follows from the definitions of a call and of what is saved.
 use Rattle.std.specs.Prelude.{◌≡◌, ℕ, ◌++◌, List, [], ◌∷◌, Option, Some, None, Result}
 use Rattle.bpf_mem.specs.declared.memory.PrivateMemory.{PrivateMemory}
 use Rattle.bpf_shared.specs.Laws.{asked}
@@ -7,6 +7,7 @@ use Rattle.bpf_shared.specs.declared.events.Span.{Span}
 use Rattle.bpf_shared.specs.declared.shapes.MapShape.{MapShape}
 use Rattle.bpf_helpers.specs.declared.fault.HelperFault.{HelperFault}
 use Rattle.bpf_helpers.specs.Calls.{CallsHelper}
+use Rattle.bpf_helpers.specs.Saved.{AreSavable, spans_saved}
 
 -- the call of the store that the first of these events answers, if there is one
 abbrev pub first_call : List Event → Option Event
@@ -28,3 +29,10 @@ CallsAreDetermined =
     → CallsHelper shapes n cpu registers memory held events result after
     → CallsHelper shapes n cpu registers memory held others end other
     → AreAskedAlike events others × (events ≡ others → (result ≡ end) × (after ≡ other))
+
+-- what spans are saved as tells them, and where it ends
+abbrev pub SavedTellsSpans : Type 0
+SavedTellsSpans =
+    (spans others : List Span) (rest more : List ℕ) → AreSavable spans → AreSavable others
+    → spans_saved spans ++ rest ≡ spans_saved others ++ more
+    → (spans ≡ others) × (rest ≡ more)

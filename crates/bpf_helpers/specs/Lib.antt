@@ -3,3 +3,4 @@ pub mod Held
 pub mod Laws
 pub mod Private
 pub mod Reads
+pub mod Saved

@@ -1,6 +1,6 @@
 //! Which element of a map lies at an address.
 
-ghost use Rattle.std.specs.Prelude.{◌≡◌, ◌<◌, ℕ, IfSome, IfNone, List, Some};
+ghost use Rattle.std.specs.Prelude.{◌≡◌, ◌<◌, ◌↔◌, ℕ, IfSome, IfNone, IsTrue, List, Some};
 ghost use Rattle.bpf_shared.specs.declared.events.Span.{Span};
 ghost use Rattle.bpf_shared.specs.declared.shapes.MapShape.{MapShape};
 ghost use Rattle.bpf_shared.specs.Shape.{AreMaps, IsElementSpan, IsIn};
@@ -83,5 +83,32 @@ impl Grid {
         if self.sizes[map] == 0 {
             self.sizes[map] = u16::try_from(span.size).unwrap_or(0);
         }
+    }
+
+    /// The grid once a span's size is noted.
+    pub(crate) fn noted(&self, span: Span) -> Grid
+        ensures kept { (p : Span) → IsOnGrid self.now.sizes p → IsOnGrid result.sizes p }
+        ensures elements { (maps : List MapShape) (m : ℕ) → AreMaps maps
+            → AreSizesOf maps self.now.sizes → IsElementSpan maps m span
+            → AreSizesOf maps result.sizes × IsOnGrid result.sizes span }
+    {
+        let mut grid = Grid { sizes: self.sizes };
+        grid.note(span);
+        grid
+    }
+
+    /// Whether a span is one of those on the grid.
+    pub(crate) fn has(&self, span: Span) -> bool
+        ensures { IsTrue result ↔ IsOnGrid self.now.sizes span }
+    {
+        let Some((map, offset)) = offset_of(span.at) else {
+            return false;
+        };
+        let size = self.sizes[map];
+        if size == 0 || u64::from(size) != span.size {
+            return false;
+        }
+        let stride = u64::from(stride_of(size));
+        offset % stride == 0 && offset + span.size <= MAP_AREA
     }
 }

@@ -1,8 +1,10 @@
 //! The values that a CPU's run holds.
 
-ghost use Rattle.std.specs.Prelude.{◌≡◌, ◌<◌, ◌≤◌, [], ◌∷◌, ◌↔◌, All, length, IsTrue, true, false};
+ghost use Rattle.std.specs.Prelude.{◌≡◌, ◌<◌, ◌≤◌, [], ◌∷◌, ◌++◌, ◌↔◌, All, length, IsTrue, true, false};
 ghost use Rattle.bpf_shared.specs.Shape.{IsValueSpan};
 ghost use Rattle.bpf_helpers.specs.Held.{AreElements, AreReached, covers, has_span, is_covered, max_held, reaches, with_span};
+
+mod saving;
 
 use crate::bins::Bins;
 use crate::grid::Grid;
@@ -179,5 +181,26 @@ impl HeldSpans {
             self.grid.note(span);
             self.spans.push(span);
         }
+    }
+
+    /// Holds this span behind the others, where it is none of them, there is room, and all may be
+    /// elements of the maps of one store. Whether it does.
+    fn take_in(&mut self, span: Span) -> bool
+        ensures held { result ≡ true → self.new ≡ self.old ++ span ∷ [] }
+        ensures fresh { result ≡ true → has_span self.old span ≡ false }
+        ensures refused { result ≡ false → length self.old < max_held
+            → has_span self.old span ≡ false → AreElements (self.old ++ span ∷ []) → ⊥ }
+    {
+        if self.is_full() || self.has(span) {
+            return false;
+        }
+        let grid = self.grid.noted(span);
+        if !grid.has(span) {
+            return false;
+        }
+        self.bins.put(span, self.spans.len() as u8);
+        self.grid = grid;
+        self.spans.push(span);
+        true
     }
 }

@@ -1,0 +1,91 @@
+//! Held spans as bytes, and from such bytes.
+
+ghost use Rattle.std.specs.Prelude.{◌≡◌, ◌++◌, ℕ, List, OnOk, OnErr, IfSome, IfNone, length};
+ghost use Rattle.std.specs.List.{flat_map};
+ghost use Rattle.std.specs.Io.{StartsWith};
+ghost use Rattle.bpf_shared.specs.declared.events.Span.{Span};
+ghost use Rattle.bpf_helpers.specs.Saved.{span_saved, spans_saved, AreOnce, AreSavable, IsWide};
+
+use super::{HeldSpans, MAX_HELD};
+use bpf_base::bytes::load_half;
+use bpf_mem::{read_words, save_words};
+use bpf_shared::Span;
+use std::alloc::AllocError;
+
+/// Puts behind the bytes what spans are saved as.
+fn save_spans(spans: &[Span], out: &mut Vec<u8>) -> Result<(), AllocError>
+    ensures ok { OnOk result (out.new.items ≡ out.old.items ++ flat_map span_saved spans.now) }
+    ensures err { OnErr result (StartsWith out.new.items out.old.items) }
+{
+    for span in spans {
+        save_words(&[span.at, span.size], out)?;
+    }
+    Ok(())
+}
+
+/// The span whose saved form the bytes begin with; what comes behind it.
+fn read_span(bytes: &[u8]) -> Option<(Span, &[u8])>
+    ensures some { IfSome result (λ r. bytes.now ≡ span_saved r.0 ++ r.1.now) }
+    ensures wide { IfSome result (λ r. IsWide r.0) }
+    ensures none { IfNone result ((other : Span) (more : List ℕ) → IsWide other
+        → bytes.now ≡ span_saved other ++ more → ⊥) }
+{
+    let mut words = [0; 2];
+    let rest = read_words(&mut words, bytes)?;
+    let span = Span {
+        at: words[0],
+        size: words[1],
+    };
+    Some((span, rest))
+}
+
+impl HeldSpans {
+    /// Puts behind the bytes what the spans are saved as.
+    pub fn save(&self, out: &mut Vec<u8>) -> Result<(), AllocError>
+        ensures ok { OnOk result (out.new.items ≡ out.old.items ++ spans_saved self.now) }
+        ensures err { OnErr result (StartsWith out.new.items out.old.items) }
+    {
+        out.extend_from_slice(&(self.spans.len() as u16).to_le_bytes())?;
+        save_spans(self.spans(), out)
+    }
+
+    /// Become so many spans whose saved forms the bytes begin with; what comes behind them.
+    fn read_spans<'a>(&mut self, count: usize, bytes: &'a [u8]) -> Option<&'a [u8]>
+        ensures some { IfSome result
+            (λ rest. bytes.now ≡ flat_map span_saved self.new ++ rest.now) }
+        ensures count { IfSome result (λ rest. length self.new ≡ count) }
+        ensures once { IfSome result (λ rest. AreOnce self.new) }
+        ensures none { IfNone result ((others : List Span) (more : List ℕ)
+            → length others ≡ count → AreSavable others
+            → bytes.now ≡ flat_map span_saved others ++ more → ⊥) }
+    {
+        *self = HeldSpans::new();
+        let mut rest = bytes;
+        for _number in 0..count {
+            let (span, behind) = read_span(rest)?;
+            if !self.take_in(span) {
+                return None;
+            }
+            rest = behind;
+        }
+        Some(rest)
+    }
+
+    /// Become those whose saved form the bytes begin with; what comes behind it. `None` where no
+    /// spans that a run may hold have such a form, and then they may be any.
+    pub fn restore<'a>(&mut self, bytes: &'a [u8]) -> Option<&'a [u8]>
+        ensures some { IfSome result (λ rest. bytes.now ≡ spans_saved self.new ++ rest.now) }
+        ensures once { IfSome result (λ rest. AreOnce self.new) }
+        ensures none { IfNone result ((others : List Span) (more : List ℕ)
+            → AreSavable others → bytes.now ≡ spans_saved others ++ more → ⊥) }
+    {
+        if bytes.len() < 2 {
+            return None;
+        }
+        let count = usize::from(load_half(bytes, 0));
+        if count > MAX_HELD {
+            return None;
+        }
+        self.read_spans(count, &bytes[2..])
+    }
+}
