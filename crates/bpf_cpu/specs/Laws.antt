@@ -1,6 +1,6 @@
 -- What follows from the definitions of steps and runs: what a store replies determines a run, and
--- on one thread a run has one outcome.
-use Rattle.std.specs.Prelude.{◌≡◌, ℕ, ◌≤◌, List, [], ◌∷◌, length, map}
+-- on one thread a run has one outcome; and from those of what is saved.
+use Rattle.std.specs.Prelude.{◌≡◌, ℕ, ◌≤◌, List, [], ◌∷◌, ◌++◌, length, map}
 use Rattle.bpf_shared.specs.declared.events.Event.{Event}
 use Rattle.bpf_shared.specs.declared.events.Event.TheVariants.{Begin, End}
 use Rattle.bpf_shared.specs.declared.shapes.MapShape.{MapShape}
@@ -14,6 +14,7 @@ use Rattle.bpf_mem.specs.Laws.{IsMemory}
 use Rattle.bpf_cpu.specs.declared.cpu.Cpu.{Cpu}
 use Rattle.bpf_cpu.specs.declared.outcome.Progress.{Progress}
 use Rattle.bpf_cpu.specs.declared.outcome.Outcome.{Outcome}
+use Rattle.bpf_cpu.specs.Saved.{IsSavableOutcome, IsSavableState, cpu_saved, outcome_saved}
 use Rattle.bpf_cpu.specs.State.{start}
 use Rattle.bpf_cpu.specs.Step.{Step, MakesSteps, Explains}
 
@@ -50,3 +51,20 @@ PlainStepsAreDetermined =
     → MakesSteps shapes program budget old others last other
     → PlainlyLegal s (map (entry c) others) u
     → (events ≡ others) × (end ≡ last) × (new ≡ other) × (t ≡ u)
+
+-- what a state is saved as tells it, among those of one CPU whose contexts are equally long, and
+-- where it ends
+abbrev pub SavedTellsStates : Type 0
+SavedTellsStates =
+    (cpu other : Cpu) (rest more : List ℕ) → IsSavableState cpu → IsSavableState other
+    → cpu.number ≡ other.number → length cpu.memory.context ≡ length other.memory.context
+    → cpu_saved cpu ++ rest ≡ cpu_saved other ++ more
+    → (cpu ≡ other) × (rest ≡ more)
+
+-- what an outcome is saved as tells it, and where it ends
+abbrev pub SavedTellsOutcomes : Type 0
+SavedTellsOutcomes =
+    (outcome other : Outcome) (rest more : List ℕ)
+    → IsSavableOutcome outcome → IsSavableOutcome other
+    → outcome_saved outcome ++ rest ≡ outcome_saved other ++ more
+    → (outcome ≡ other) × (rest ≡ more)

@@ -1,7 +1,8 @@
-//! What follows from the definitions of steps and runs, as promises to the crates above.
+//! What follows from the definitions of steps and runs, and of what is saved, as promises to the
+//! crates above.
 //!
 //! These functions do nothing: their contracts are the laws, which a proof cites.
-ghost use Rattle.bpf_cpu.specs.Laws.{NoMapsNoEvents, OutcomesAreDetermined, PlainStepsAreDetermined, StepsAreDetermined};
+ghost use Rattle.bpf_cpu.specs.Laws.{NoMapsNoEvents, OutcomesAreDetermined, PlainStepsAreDetermined, SavedTellsOutcomes, SavedTellsStates, StepsAreDetermined};
 
 /// The replies to a step's calls determine its next call, and all of them the state that it leaves.
 pub fn steps_are_determined()
@@ -32,3 +33,13 @@ pub fn plain_steps_are_determined()
     bpf_loader::laws::one_instruction_begins();
     bpf_shared::laws::calls_have_one_reply();
 }
+
+/// What a state is saved as tells it, among those of one CPU whose contexts are equally long.
+pub fn saved_tells_states()
+    ensures { SavedTellsStates }
+{}
+
+/// What an outcome is saved as tells it.
+pub fn saved_tells_outcomes()
+    ensures { SavedTellsOutcomes }
+{}

@@ -19,7 +19,7 @@ use Rattle.bpf_mem.proofs.CodeLemmas.{flat_prefix, goes_on}
 use Rattle.bpf_shared.specs.declared.events.Span.{Span}
 use Rattle.bpf_shared.specs.Shape.{IsElement}
 use Rattle.bpf_helpers.specs.Held.{AreElements, has_span, max_held}
-use Rattle.bpf_helpers.specs.Saved.{span_saved, spans_saved, AreOnce, AreSavable, IsWide}
+use Rattle.bpf_helpers.specs.Saved.{span_saved, spans_saved, AreOnce, AreSavable, IsWide, MayBeHeld}
 
 pub no_span : Span
 no_span = record { at = 0; size = 0 }
@@ -76,25 +76,25 @@ front_elements done back p (maps, are, all) =
     (maps, are, subst (λ (l : List Span). All (IsElement maps) l) (take-append_seam (done ++ p ∷ []) back) (All-take (IsElement maps) (length (done ++ p ∷ [])) ((done ++ p ∷ []) ++ back) each))
 
 module _ (bytes : List ℕ) (done : List Span) (rest : List ℕ) (wide : All IsWide done) (read : bytes ≡ flat_map span_saved done ++ rest)
-    (others : List Span) (more : List ℕ) (inside : length done < length others) (savable : AreSavable others) (e : bytes ≡ flat_map span_saved others ++ more) where
+    (others : List Span) (more : List ℕ) (inside : length done < length others) (may : MayBeHeld others) (e : bytes ≡ flat_map span_saved others ++ more) where
   -- where no span can be read
   pub none_next : ((other : Span) (more : List ℕ) → IsWide other → rest ≡ span_saved other ++ more → ⊥) → ⊥
   none_next none =
-      let on = goes_on IsWide span_saved no_span span_told bytes done rest wide read others more inside savable.wide e in
-      none (get_or others (length done) no_span) (flat_map span_saved (drop (suc (length done)) others) ++ more) (All-get_or IsWide others (length done) no_span inside savable.wide) on.1
+      let on = goes_on IsWide span_saved no_span span_told bytes done rest wide read others more inside may.savable.wide e in
+      none (get_or others (length done) no_span) (flat_map span_saved (drop (suc (length done)) others) ++ more) (All-get_or IsWide others (length done) no_span inside may.savable.wide) on.1
 
   -- where the one that is read can't be held
   pub none_held : (p : Span) (behind : List ℕ) → IsWide p → rest ≡ span_saved p ++ behind
       → (length done < max_held → has_span done p ≡ false → AreElements (done ++ p ∷ []) → ⊥) → ⊥
   none_held p behind fit here refused =
-      let on = goes_on IsWide span_saved no_span span_told bytes done rest wide read others more inside savable.wide e in
+      let on = goes_on IsWide span_saved no_span span_told bytes done rest wide read others more inside may.savable.wide e in
       let x = get_or others (length done) no_span in
       let back = drop (suc (length done)) others in
-      let same = span_told x p (flat_map span_saved back ++ more) behind (All-get_or IsWide others (length done) no_span inside savable.wide) fit (sym on.1 ∙ here) in
-      let few = savable.few in
+      let same = span_told x p (flat_map span_saved back ++ more) behind (All-get_or IsWide others (length done) no_span inside may.savable.wide) fit (sym on.1 ∙ here) in
+      let few = may.savable.few in
       let front : take (length done) others ≡ done = ap (take (length done)) on.0 ∙ take-append_seam done (x ∷ back) in
-      let once : has_span done x ≡ false = ap (λ (l : List Span). has_span l x) (sym front) ∙ savable.once (length done) x (slice_get-get_or others (length done) no_span inside) in
-      let elements : AreElements (done ++ x ∷ []) = front_elements done back x (subst AreElements on.0 savable.elements) in
+      let once : has_span done x ≡ false = ap (λ (l : List Span). has_span l x) (sym front) ∙ may.once (length done) x (slice_get-get_or others (length done) no_span inside) in
+      let elements : AreElements (done ++ x ∷ []) = front_elements done back x (subst AreElements on.0 may.elements) in
       refused (omega arith) (subst (λ (q : Span). has_span done q ≡ false) same.0 once) (subst (λ (q : Span). AreElements (done ++ q ∷ [])) same.0 elements)
 
 -- each is still once

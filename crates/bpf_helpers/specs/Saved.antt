@@ -18,14 +18,17 @@ spans_saved spans = low_bytes 2 (length spans) ++ flat_map span_saved spans
 abbrev pub IsWide : Span → Type 0
 IsWide p = IsWord p.at × IsWord p.size
 
+pub record AreSavable (spans : List Span) : Type 0 where
+  pub few : length spans ≤ max_held
+  pub wide : All IsWide spans
+
 -- none is among those before it
 abbrev pub AreOnce : List Span → Type 0
 AreOnce spans =
     (k : ℕ) (p : Span) → slice_get spans k ≡ Some p → has_span (take k spans) p ≡ false
 
--- spans that a run may hold, each once
-pub record AreSavable (spans : List Span) : Type 0 where
-  pub few : length spans ≤ max_held
-  pub wide : All IsWide spans
+-- spans that a run may hold
+pub record MayBeHeld (spans : List Span) : Type 0 where
+  pub savable : AreSavable spans
   pub elements : AreElements spans
   pub once : AreOnce spans

@@ -1,6 +1,6 @@
 //! The context: the bytes that a program is given when it starts.
 
-ghost use Rattle.std.specs.Prelude.{◌≡◌, ◌+◌, ◌≤◌, ◌↔◌, IsTrue, length, vec_len};
+ghost use Rattle.std.specs.Prelude.{◌≡◌, ◌+◌, ◌<◌, ◌≤◌, ◌↔◌, ◌++◌, IfSome, IfNone, IsTrue, length, vec_len};
 ghost use Rattle.bpf_base.specs.Bytes.{low_bytes, with_part};
 ghost use Rattle.bpf_mem.specs.Bytes.{length_of};
 ghost use Rattle.bpf_mem.specs.Limits.{max_context};
@@ -60,6 +60,22 @@ impl Context {
         ensures { IsTrue result ↔ (self.now ≡ other.now) }
     {
         self.bytes.as_slice() == other.bytes.as_slice()
+    }
+
+    /// Becomes the bytes that others begin with, as many as it has; what comes behind them. `None`
+    /// where there are fewer.
+    pub fn restore<'a>(&mut self, bytes: &'a [u8]) -> Option<&'a [u8]>
+        ensures some { IfSome result (λ rest. bytes.now ≡ self.new ++ rest.now) }
+        ensures long { length self.new ≡ length self.old }
+        ensures none { IfNone result (length bytes.now < length self.old) }
+    {
+        let long = self.bytes.len();
+        if bytes.len() < long {
+            return None;
+        }
+        let (front, rest) = bytes.split_at(long);
+        self.bytes.copy_from_slice(front);
+        Some(rest)
     }
 
     /// Sets the bytes at an offset to the low bytes of a number.

@@ -1,10 +1,10 @@
 //! Held spans as bytes, and from such bytes.
 
-ghost use Rattle.std.specs.Prelude.{◌≡◌, ◌++◌, ℕ, List, OnOk, OnErr, IfSome, IfNone, length};
+ghost use Rattle.std.specs.Prelude.{◌≡◌, ◌++◌, ℕ, List, OnOk, OnErr, IfSome, IfNone, All, length};
 ghost use Rattle.std.specs.List.{flat_map};
 ghost use Rattle.std.specs.Io.{StartsWith};
 ghost use Rattle.bpf_shared.specs.declared.events.Span.{Span};
-ghost use Rattle.bpf_helpers.specs.Saved.{span_saved, spans_saved, AreOnce, AreSavable, IsWide};
+ghost use Rattle.bpf_helpers.specs.Saved.{span_saved, spans_saved, AreOnce, AreSavable, IsWide, MayBeHeld};
 
 use super::{HeldSpans, MAX_HELD};
 use bpf_base::bytes::load_half;
@@ -54,9 +54,10 @@ impl HeldSpans {
         ensures some { IfSome result
             (λ rest. bytes.now ≡ flat_map span_saved self.new ++ rest.now) }
         ensures count { IfSome result (λ rest. length self.new ≡ count) }
+        ensures wide { IfSome result (λ rest. All IsWide self.new) }
         ensures once { IfSome result (λ rest. AreOnce self.new) }
         ensures none { IfNone result ((others : List Span) (more : List ℕ)
-            → length others ≡ count → AreSavable others
+            → length others ≡ count → MayBeHeld others
             → bytes.now ≡ flat_map span_saved others ++ more → ⊥) }
     {
         *self = HeldSpans::new();
@@ -75,9 +76,10 @@ impl HeldSpans {
     /// spans that a run may hold have such a form, and then they may be any.
     pub fn restore<'a>(&mut self, bytes: &'a [u8]) -> Option<&'a [u8]>
         ensures some { IfSome result (λ rest. bytes.now ≡ spans_saved self.new ++ rest.now) }
+        ensures savable { IfSome result (λ rest. AreSavable self.new) }
         ensures once { IfSome result (λ rest. AreOnce self.new) }
         ensures none { IfNone result ((others : List Span) (more : List ℕ)
-            → AreSavable others → bytes.now ≡ spans_saved others ++ more → ⊥) }
+            → MayBeHeld others → bytes.now ≡ spans_saved others ++ more → ⊥) }
     {
         if bytes.len() < 2 {
             return None;

@@ -144,6 +144,7 @@ fn read_callers<'a>(callers: &mut [Caller], count: usize, bytes: &'a [u8]) -> Op
     requires { count ≤ length callers.old }
     ensures some { IfSome result
         (λ rest. bytes.now ≡ flat_map caller_saved (take count callers.new) ++ rest.now) }
+    ensures are_callers { IfSome result (λ _. All IsCaller (take count callers.new)) }
     ensures none { IfNone result ((others : List Caller) (more : List ℕ)
         → length others ≡ count → All IsCaller others
         → bytes.now ≡ flat_map caller_saved others ++ more → ⊥) }
@@ -172,6 +173,7 @@ impl Frames {
     /// frames have such a form, and then they may be any.
     pub fn restore<'a>(&mut self, bytes: &'a [u8]) -> Option<&'a [u8]>
         ensures some { IfSome result (λ rest. bytes.now ≡ frames_saved self.new ++ rest.now) }
+        ensures savable { IfSome result (λ _. IsSavable self.new) }
         ensures none { IfNone result ((other : Stack) (more : List ℕ) → IsSavable other
             → bytes.now ≡ frames_saved other ++ more → ⊥) }
     {

@@ -1,0 +1,76 @@
+//! A CPU's state as bytes, and from such bytes.
+
+ghost use Rattle.std.specs.Prelude.{◌≡◌, ◌^◌, ◌<◌, ◌++◌, ℕ, List, OnOk, OnErr, IfSome, IfNone, length};
+ghost use Rattle.std.specs.Io.{StartsWith};
+ghost use Rattle.bpf_base.specs.Bytes.{low_bytes};
+ghost use Rattle.bpf_helpers.specs.Saved.{MayBeHeld};
+ghost use Rattle.bpf_cpu.specs.declared.cpu.Cpu.{Cpu};
+ghost use Rattle.bpf_cpu.specs.Saved.{cpu_saved, IsSavableState};
+
+use crate::cpu::Cpu;
+use bpf_base::bytes::load_word;
+use bpf_mem::{read_words, save_words};
+use std::alloc::AllocError;
+
+/// Puts bytes behind others.
+fn save_bytes(bytes: &[u8], out: &mut Vec<u8>) -> Result<(), AllocError>
+    ensures ok { OnOk result (out.new.items ≡ out.old.items ++ bytes.now) }
+    ensures err { OnErr result (StartsWith out.new.items out.old.items) }
+{
+    out.extend_from_slice(bytes)
+}
+
+/// Puts a pc's bytes behind others.
+fn save_pc(pc: u32, out: &mut Vec<u8>) -> Result<(), AllocError>
+    ensures ok { OnOk result (out.new.items ≡ out.old.items ++ low_bytes 4 pc) }
+    ensures err { OnErr result (StartsWith out.new.items out.old.items) }
+{
+    save_bytes(&pc.to_le_bytes(), out)
+}
+
+/// The pc that the bytes begin with; what comes behind it.
+fn read_pc(bytes: &[u8]) -> Option<(u32, &[u8])>
+    ensures some { IfSome result (λ r. bytes.now ≡ low_bytes 4 r.0 ++ r.1.now) }
+    ensures near { IfSome result (λ r. r.0 < 2 ^ 32) }
+    ensures none { IfNone result (length bytes.now < 4) }
+{
+    if bytes.len() < 4 {
+        return None;
+    }
+    Some((load_word(bytes, 0), &bytes[4..]))
+}
+
+impl Cpu {
+    /// Puts behind the bytes what the state is saved as. The CPU's number isn't in it.
+    pub fn save(&self, out: &mut Vec<u8>) -> Result<(), AllocError>
+        ensures ok { OnOk result (out.new.items ≡ out.old.items ++ cpu_saved self.now) }
+        ensures err { OnErr result (StartsWith out.new.items out.old.items) }
+    {
+        save_pc(self.pc, out)?;
+        save_words(&self.registers, out)?;
+        self.memory.frames.save(out)?;
+        self.held.save(out)?;
+        save_bytes(self.memory.context.bytes(), out)
+    }
+
+    /// Becomes the state whose saved form the bytes begin with, of those whose context is as long;
+    /// what comes behind it. `None` where no state has such a form, and then it may be any. It
+    /// takes no memory.
+    pub fn restore<'a>(&mut self, bytes: &'a [u8]) -> Option<&'a [u8]>
+        ensures some { IfSome result (λ rest. bytes.now ≡ cpu_saved self.new ++ rest.now) }
+        ensures savable { IfSome result (λ _. IsSavableState self.new) }
+        ensures number { self.new.number ≡ self.old.number }
+        ensures context { length self.new.memory.context ≡ length self.old.memory.context }
+        ensures none { IfNone result ((other : Cpu) (more : List ℕ) → IsSavableState other
+            → MayBeHeld other.held
+            → length other.memory.context ≡ length self.old.memory.context
+            → bytes.now ≡ cpu_saved other ++ more → ⊥) }
+    {
+        let (pc, rest) = read_pc(bytes)?;
+        self.pc = pc;
+        let rest = read_words(&mut self.registers, rest)?;
+        let rest = self.memory.frames.restore(rest)?;
+        let rest = self.held.restore(rest)?;
+        self.memory.context.restore(rest)
+    }
+}
