@@ -29,3 +29,4 @@ pub mod StandLaws
 mod FillLaws
 pub mod PartLaws
 pub mod FitLaws
+pub mod StageLemmas

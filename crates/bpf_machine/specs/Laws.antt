@@ -1,10 +1,12 @@
--- What follows from the definitions of turns and schedules: on one thread they have one course.
-use Rattle.std.specs.Prelude.{◌≡◌, ℕ, ◌≤◌, List, Some, length, slice_get}
+-- What follows from the definitions of turns and schedules: on one thread they have one course; and
+-- from those of what is saved.
+use Rattle.std.specs.Prelude.{◌≡◌, ℕ, ◌≤◌, List, ◌++◌, Some, length, slice_get}
 use Rattle.bpf_shared.specs.Sound.{IsSoundStore}
 use Rattle.bpf_mem.specs.Limits.{max_context}
-use Rattle.bpf_cpu.specs.Task.{Task, Waiting}
+use Rattle.bpf_cpu.specs.Task.{Stage, Task, Waiting}
 use Rattle.bpf_machine.specs.Schedule.{World, RunsSchedule}
 use Rattle.bpf_machine.specs.Rounds.{RunsBy, RunsToEnd}
+use Rattle.bpf_machine.specs.Saved.{IsSavableStage, stage_saved}
 use Rattle.bpf_machine.specs.Happenings.{Happening, RunsByWith}
 
 -- a plain machine before its first turn: each job waits, with a context of at most 4,096 bytes
@@ -34,3 +36,11 @@ abbrev pub HappeningsAreDetermined : Type 0
 HappeningsAreDetermined =
     (w y z : World) (schedule : List ℕ) (log other : List Happening) → IsFresh w
     → RunsByWith w schedule log y → RunsByWith w schedule other z → (log ≡ other) × (y ≡ z)
+
+-- what a stage is saved as tells it, of a job whose CPU and context are known, and where it ends
+abbrev pub SavedTellsStages : Type 0
+SavedTellsStages =
+    (cpu : ℕ) (context : List ℕ) (stage other : Stage) (rest more : List ℕ)
+    → IsSavableStage cpu context stage → IsSavableStage cpu context other
+    → stage_saved stage ++ rest ≡ stage_saved other ++ more
+    → (stage ≡ other) × (rest ≡ more)

@@ -14,6 +14,7 @@ pub mod Ends
 pub mod Budgets
 pub mod Kept
 pub mod Parts
+pub mod Saved
 pub mod Hashes
 pub mod Laws
 pub mod Private

@@ -1,9 +1,10 @@
-//! What follows from the definitions of turns and schedules, as promises to the crates above.
+//! What follows from the definitions of turns and schedules, and of what is saved, as promises to
+//! the crates above.
 //!
 //! These functions do nothing: their contracts are the laws, which a proof cites.
 ghost use Rattle.bpf_machine.specs.Questions.{TurnsFall};
 ghost use Rattle.bpf_machine.specs.Happenings.{HappeningsAreOfRuns};
-ghost use Rattle.bpf_machine.specs.Laws.{HappeningsAreDetermined, RoundsAreDetermined, RunsByAreDetermined, SchedulesAreDetermined};
+ghost use Rattle.bpf_machine.specs.Laws.{HappeningsAreDetermined, RoundsAreDetermined, RunsByAreDetermined, SavedTellsStages, SchedulesAreDetermined};
 ghost use Rattle.bpf_machine.specs.Cover.{ClosedSetsCover};
 ghost use Rattle.bpf_machine.specs.Race.{RacesAreKept};
 ghost use Rattle.bpf_machine.specs.Patient.{PatientSetsCover, PatientRacesAreKept};
@@ -130,3 +131,8 @@ pub fn budgets_suffice()
     bpf_loader::laws::one_instruction_begins();
     bpf_shared::laws::calls_have_one_reply();
 }
+
+/// What a stage is saved as tells it, of a job whose CPU and context are known.
+pub fn saved_tells_stages()
+    ensures { SavedTellsStages }
+{}

@@ -7,6 +7,7 @@ mod lengths;
 mod listing;
 mod parts;
 mod rounds;
+mod saving;
 
 use bpf_cpu::{Cpu, Job, Outcome};
 use bpf_loader::Program;
@@ -17,6 +18,7 @@ use lane::{
 };
 use listing::{KeyLists, make_asked};
 pub use parts::{KeptJob, KeptStage};
+pub use saving::read_stage;
 use std::alloc::Global;
 use std::marker::Model;
 use std::mem;
