@@ -14,8 +14,8 @@ _ebpf() {
         asm) words='--explain --listing --run --budget --ctx -h --help' files=1 ;;
         disasm) words='--explain --pc -h --help' files=1 ;;
         run) words='--explain --keys --maps --events --check --by --workers --stats --json -h --help' files=1 ;;
-        explore) words='--explain --patient --json --races --sync --limit --show -h --help' files=1 ;;
-        check) words='--explain --patient --json --limit -h --help' files=1 ;;
+        explore) words='--explain --patient --json --progress --races --sync --limit --show -h --help' files=1 ;;
+        check) words='--explain --patient --json --progress --limit -h --help' files=1 ;;
         debug) words='--explain --echo --strict -h --help' files=1 ;;
         explain) words='-h --help' ;;
     esac

@@ -40,6 +40,7 @@ complete -c ebpf -n '__fish_seen_subcommand_from run' -F
 complete -c ebpf -n '__fish_seen_subcommand_from explore' -l explain -f -d 'Explains a refusal or a fault on standard error'
 complete -c ebpf -n '__fish_seen_subcommand_from explore' -l patient -f -d 'Looks for outcomes in which no budget is used up, as where CPUs wait for others'
 complete -c ebpf -n '__fish_seen_subcommand_from explore' -l json -f -d 'Prints a JSON object in place of each line'
+complete -c ebpf -n '__fish_seen_subcommand_from explore' -l progress -f -d 'Tells how far the search is on standard error, also where that is no terminal'
 complete -c ebpf -n '__fish_seen_subcommand_from explore' -l races -f -d 'Prints the data races of all orders of turns in place of the outcomes'
 complete -c ebpf -n '__fish_seen_subcommand_from explore' -l sync -x -d 'With --races: leaves out races for this map'\''s values, as locks; may stand several times'
 complete -c ebpf -n '__fish_seen_subcommand_from explore' -l limit -x -d 'Ends the search once more states than this are kept, 0 to 1000000000'
@@ -49,6 +50,7 @@ complete -c ebpf -n '__fish_seen_subcommand_from explore' -F
 complete -c ebpf -n '__fish_seen_subcommand_from check' -l explain -f -d 'Explains a refusal or a fault on standard error'
 complete -c ebpf -n '__fish_seen_subcommand_from check' -l patient -f -d 'Looks for outcomes in which no budget is used up, as where CPUs wait for others'
 complete -c ebpf -n '__fish_seen_subcommand_from check' -l json -f -d 'Prints a JSON object in place of each line'
+complete -c ebpf -n '__fish_seen_subcommand_from check' -l progress -f -d 'Tells how far the search is on standard error, also where that is no terminal'
 complete -c ebpf -n '__fish_seen_subcommand_from check' -l limit -x -d 'Ends the search once more states than this are kept, 0 to 1000000000'
 complete -c ebpf -n '__fish_seen_subcommand_from check' -s h -l help -f -d 'Print help'
 complete -c ebpf -n '__fish_seen_subcommand_from check' -F

@@ -7,7 +7,7 @@ use Rattle.clap.specs.Faults.{level_fault}
 use Rattle.clap.specs.Walk.{with_default, values_or_missing, Held, Row, Rule, Text, answers_to, finished, has_row, nothing_held, rows_after, settled, walk}
 use Rattle.clap.specs.Words.{fault_of, subcommand_of}
 use Rattle.bpf_command.specs.declared.command.TheConstants.{MAX_LIMIT}
-use Rattle.bpf_command.specs.CommandLine.{HasLimit, IsSearchName, check, ebpf, explained, explore, file, files, json, limit, patient, races, show, sync}
+use Rattle.bpf_command.specs.CommandLine.{HasLimit, IsSearchName, check, ebpf, explained, explore, file, files, json, limit, patient, progress, races, show, sync}
 use Rattle.bpf_command.proofs.Limited.{limited_keeps, with_limited}
 use Rattle.bpf_command.proofs.Ranges as range
 use Rattle.bpf_command.proofs.Ranges.{no_default}
@@ -49,6 +49,10 @@ json_keeps : Keeps AreFine false (filled json)
 json_keeps values rows e fine =
     range.other_used_fine (codes "limit") 0 MAX_LIMIT (codes "json") (values_or_missing (filled json) values) rows refl fine
 
+progress_keeps : Keeps AreFine false (filled progress)
+progress_keeps values rows e fine =
+    range.other_used_fine (codes "limit") 0 MAX_LIMIT (codes "progress") (values_or_missing (filled progress) values) rows refl fine
+
 file_keeps : Keeps AreFine false (filled file)
 file_keeps values rows e fine =
     range.other_used_fine (codes "limit") 0 MAX_LIMIT (codes "file") (values_or_missing (filled file) values) rows refl fine
@@ -71,17 +75,18 @@ explained_keeps values rows e fine =
 
 explore_keeps : range.AllKeep (codes "limit") 0 MAX_LIMIT explore_rules
 explore_keeps =
-    (explained_keeps, (patient_keeps, (json_keeps, (races_keep, (sync_keeps, (limit_keeps, (show_keeps, (file_keeps, ((λ values rows e fine. fine), tt)))))))))
+    (explained_keeps, (patient_keeps, (json_keeps, (progress_keeps, (races_keep, (sync_keeps, (limit_keeps, (show_keeps, (file_keeps, ((λ values rows e fine. fine), tt))))))))))
 
 check_keeps : range.AllKeep (codes "limit") 0 MAX_LIMIT check_rules
 check_keeps =
-    (explained_keeps, (patient_keeps, (json_keeps, (limit_keeps, (files_keep, ((λ values rows e fine. fine), tt))))))
+    (explained_keeps, (patient_keeps, (json_keeps, (progress_keeps, (limit_keeps, (files_keep, ((λ values rows e fine. fine), tt)))))))
 
 -- ---- the rows
 
 -- the flags have defaults, and the limit
 abbrev waiting : List Row → List Row
-waiting rows = with_default (with_default (with_default rows (filled explained)) (filled patient)) (filled json)
+waiting rows =
+    with_default (with_default (with_default (with_default rows (filled explained)) (filled patient)) (filled json)) (filled progress)
 
 waiting_fine : (rows : List Row) → AreFine rows → AreFine (waiting rows)
 waiting_fine rows fine =
@@ -89,7 +94,9 @@ waiting_fine rows fine =
     let waits = with_default start (filled patient) in
     let started = range.default_fine (codes "limit") 0 MAX_LIMIT (codes "explain") (codes "false" ∷ []) rows refl fine in
     let waited = range.default_fine (codes "limit") 0 MAX_LIMIT (codes "patient") (codes "false" ∷ []) start refl started in
-    range.default_fine (codes "limit") 0 MAX_LIMIT (codes "json") (codes "false" ∷ []) waits refl waited
+    let written = with_default waits (filled json) in
+    let shaped = range.default_fine (codes "limit") 0 MAX_LIMIT (codes "json") (codes "false" ∷ []) waits refl waited in
+    range.default_fine (codes "limit") 0 MAX_LIMIT (codes "progress") (codes "false" ∷ []) written refl shaped
 
 -- and `--races`, but not `--sync`
 abbrev asking : List Row → List Row

@@ -137,9 +137,17 @@ patient = record (new_rule (codes "patient")) {
   action = Some SetTrue;
 }
 
+-- `--progress`
+abbrev pub progress : Rule
+progress = record (new_rule (codes "progress")) {
+  long = Some (codes "progress");
+  action = Some SetTrue;
+}
+
 -- a command that searches through all schedules
 abbrev pub searching : Text → App
-searching name = with_rule (with_rule (with_rule (new_app name) explained) patient) json
+searching name =
+    with_rule (with_rule (with_rule (with_rule (new_app name) explained) patient) json) progress
 
 -- `--show K`
 abbrev pub show : Rule

@@ -52,6 +52,7 @@ NamesRun rows options = NamesBudget rows options.budget
 abbrev pub NamesSearch : List Row → SearchOptions → Type 0
 NamesSearch rows options = NamesLimit rows options.limit
     × (options.patient ≡ is_given (codes "patient") rows)
+    × (options.progress ≡ is_given (codes "progress") rows)
 
 -- the options of a search for races
 abbrev pub NamesRaces : List Row → RaceOptions → Type 0

@@ -71,6 +71,8 @@ pub struct SearchOptions {
     pub limit: u64,
     /// To look for outcomes in which no budget is used up.
     pub patient: bool,
+    /// To tell on standard error how far the search is. What is found doesn't depend on it.
+    pub progress: bool,
     ghost limited: { limit ≤ MAX_LIMIT },
 }
 

@@ -286,6 +286,7 @@ fn search_of(options: &ArgMatches) -> SearchOptions
     SearchOptions {
         limit: limit_of(options),
         patient: is_given(options, "patient"),
+        progress: is_given(options, "progress"),
     }
 }
 

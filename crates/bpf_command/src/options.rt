@@ -3,7 +3,7 @@
 ghost use Rattle.std.specs.Prelude.{◌≡◌, false, IfOk};
 ghost use Rattle.clap.specs.Words.{app_of, rule_of, shape_of};
 ghost use Rattle.clap.specs.declared.builder.command.Command.TheViews.{out-Command as fields_of};
-ghost use Rattle.bpf_command.specs.CommandLine.{asm, asm_shows, bare, budget, check, code_rule, context, debug, debug_options, disasm, ebpf, echo, events, explain, explained, explore, explore_options, file, files, for_files, hex, hex_options, judged, json, keys, limit, listing, maps, one_program, patient, pc, races, run, run_lists, run_options, run_shows, runs, schedule, searching, show, stats, strict, sync, workers, working};
+ghost use Rattle.bpf_command.specs.CommandLine.{asm, asm_shows, bare, budget, check, code_rule, context, debug, debug_options, disasm, ebpf, echo, events, explain, explained, explore, explore_options, file, files, for_files, hex, hex_options, judged, json, keys, limit, listing, maps, one_program, patient, pc, progress, races, run, run_lists, run_options, run_shows, runs, schedule, searching, show, stats, strict, sync, workers, working};
 
 use crate::command::{MAX_LIMIT, MAX_WORKERS};
 use bpf_base::MAX_BUDGET;
@@ -107,6 +107,10 @@ A line has the CPUs with their pcs, the map and the key ('deleted' where none le
 and a schedule that leads there; the last one says whether these are all. Races for values of a map
 that --sync names are left out. --sync goes beside --races alone, and --show doesn't.
 
+Each time that 131072 more states are done a line on standard error tells how far the search is, where
+that is a terminal or with --progress: 'N states, N to go, N MB', how many are kept, from how many of
+them turns are still to be made, and about how much memory they take. Standard output stays the same.
+
 For example
   $ ebpf explore examples/first-insert.run
   by 0*11 1*11
@@ -142,7 +146,8 @@ budget is used up.
 
 The tests of several files are one list: their numbers go on, and each names its file. A file that is
 refused has a line 'refused CODE - FILE' and no test. The exit status is that of the worst file, where
-1 is worse than 4, 4 than 3, and 3 than 0. '-' and --explain go with one FILE alone.
+1 is worse than 4, 4 than 3, and 3 than 0. '-' and --explain go with one FILE alone. How far a search
+is, is told as by 'ebpf explore'.
 
 For example
   $ printf '; never job 0 cpu 0 r0=1\\nebpf-run 1\\nprog a\\nr0 = 5\\nexit\\nend\\njob 0 a\\n' | ebpf check
@@ -518,6 +523,16 @@ fn show_option<'a>(alloc: Global) -> Arg<'a>
         .help("Prints what happens on the way to the K-th outcome, and no other outcome")
 }
 
+fn progress_option<'a>(alloc: Global) -> Arg<'a>
+    ensures rule { rule_of result ≡ progress }
+    ensures own { result.global ≡ false }
+{
+    Arg::new(alloc, "progress")
+        .long("progress")
+        .action(ArgAction::SetTrue)
+        .help("Tells how far the search is on standard error, also where that is no terminal")
+}
+
 /// A command that searches, with the options of a search.
 fn searching<'a>(alloc: Global, name: &'static str) -> Result<Command<'a>, AllocError>
     ensures shape { IfOk result (λ c. shape_of c ≡ (searching name.now).top) }
@@ -526,7 +541,8 @@ fn searching<'a>(alloc: Global, name: &'static str) -> Result<Command<'a>, Alloc
     Command::new(alloc, name)
         .arg(explain_option(alloc))?
         .arg(patient_option(alloc))?
-        .arg(json_option(alloc))
+        .arg(json_option(alloc))?
+        .arg(progress_option(alloc))
 }
 
 fn races_option<'a>(alloc: Global) -> Arg<'a>

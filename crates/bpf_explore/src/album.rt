@@ -276,6 +276,12 @@ impl Album {
         self.states.count()
     }
 
+    /// About how many bytes of memory they take.
+    pub fn bytes(&self) -> usize {
+        let parts = self.parts.bytes().saturating_add(self.states.bytes());
+        self.stores.bytes(&self.shape).saturating_add(parts)
+    }
+
     /// Takes a kept machine to work with.
     pub fn restore(&mut self, place: usize) -> Result<(), AllocError>
         requires { place < length self.old.kept }

@@ -5,6 +5,7 @@ ghost use Rattle.bpf_machine.specs.Schedule.{unrolled};
 
 use crate::album::{Album, number_of};
 use crate::frontier::Frontier;
+use crate::room::bytes_of;
 use bpf_machine::Machine;
 use bpf_shared::StoreShape;
 use std::alloc::{AllocError, Global};
@@ -173,6 +174,10 @@ impl Frontier for Explorer {
 
     fn count(&self) -> usize {
         self.len()
+    }
+
+    fn bytes(&self) -> usize {
+        self.album.bytes().saturating_add(bytes_of(&self.origins))
     }
 
     fn cpus(&self) -> u8 {

@@ -16,6 +16,7 @@ use crate::budgets::{Budgets, judge_budgets};
 use crate::explorer::Explorer;
 use crate::frontier::explore;
 use crate::hung::{Hung, gather_hung};
+use crate::observer::Observer;
 use crate::patience::{both, gather_patiently};
 use crate::patient::PatientExplorer;
 use crate::stores::copy_shape;
@@ -41,8 +42,8 @@ pub struct Explored {
 
 /// Searches through all schedules of jobs over a new store whose maps have these names, until no
 /// state is new, more than `limit` are kept, or memory is refused to the search. Want of memory
-/// before or behind it is the only refusal.
-pub fn explore_jobs(
+/// before or behind it is the only refusal. The observer is told meanwhile how far it is.
+pub fn explore_jobs<O: Observer>(
     alloc: Global,
     shape: StoreShape,
     names: &[String],
@@ -50,6 +51,7 @@ pub fn explore_jobs(
     jobs: Vec<Job>,
     maps: bool,
     limit: usize,
+    observer: &mut O,
 ) -> Result<Explored, AllocError>
     requires cpus { All (λ job. job.cpu < shape.cpus) jobs.items }
     requires programs { All (λ job. job.program < vec_len programs) jobs.items }
@@ -62,7 +64,7 @@ pub fn explore_jobs(
     let copy = copy_shape(alloc, &shape)?;
     let machine = make_machine(alloc, copy, programs, jobs)?;
     let mut explorer = Explorer::new(alloc, shape, machine)?;
-    let extent = explore(&mut explorer, limit);
+    let extent = explore(&mut explorer, limit, observer);
     explorer.leads();
     explorer.apart();
     let answers = gather(alloc, &mut explorer, names, maps)?;
@@ -147,7 +149,7 @@ fn find_budgets(
 /// Besides, states from which no end can
 /// be reached, however many steps jobs are given, and whether some schedule uses a budget up. Want of
 /// memory before or behind the search is the only refusal.
-pub fn search_patiently(
+pub fn search_patiently<O: Observer>(
     alloc: Global,
     shape: StoreShape,
     names: &[String],
@@ -155,6 +157,7 @@ pub fn search_patiently(
     jobs: Vec<Job>,
     maps: bool,
     limit: usize,
+    observer: &mut O,
 ) -> Result<ExploredPatiently, AllocError>
     requires cpus { All (λ job. job.cpu < shape.cpus) jobs.items }
     requires programs { All (λ job. job.program < vec_len programs) jobs.items }
@@ -169,7 +172,7 @@ pub fn search_patiently(
     let copy = copy_shape(alloc, &shape)?;
     let machine = make_machine(alloc, copy, programs, jobs)?;
     let mut explorer = PatientExplorer::new(alloc, shape, machine)?;
-    let extent = explore(&mut explorer, limit);
+    let extent = explore(&mut explorer, limit, observer);
     let whole = extent.is_whole();
     explorer.leads();
     explorer.apart();

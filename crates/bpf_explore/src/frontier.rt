@@ -4,6 +4,7 @@ ghost use Rattle.std.specs.Prelude.{◌≡◌, ◌<◌, ◌≤◌, ◌++◌, ◌
 ghost use Rattle.bpf_machine.specs.Machine.{MachineState};
 ghost use Rattle.bpf_explore.specs.Search.{IsTurned, IsExpanded, IsIdleAt, Extends, IsWhole, CoversAll, row_of, rows_of};
 
+use crate::observer::{Observer, tell};
 use std::alloc::AllocError;
 
 /// How far a search came.
@@ -57,6 +58,9 @@ pub trait Frontier {
     fn count(&self) -> usize
         ensures { result ≡ length (kept self.now) };
 
+    /// About how many bytes of memory they take.
+    fn bytes(&self) -> usize;
+
     /// How many CPUs there are: those of the numbers below it. Others have no work in any kept
     /// machine.
     fn cpus(&self) -> u8
@@ -108,8 +112,9 @@ fn cut_short(count: usize, limit: usize) -> Extent
 }
 
 /// Makes the turn of each CPU from each kept machine, until nothing is new, more than `limit` are
-/// kept, or memory is refused. How far it came: what is kept so far stays.
-pub fn explore<F: Frontier>(frontier: &mut F, limit: usize) -> Extent
+/// kept, or memory is refused. How far it came: what is kept so far stays. The observer is told of it
+/// meanwhile.
+pub fn explore<F: Frontier, O: Observer>(frontier: &mut F, limit: usize, observer: &mut O) -> Extent
     ensures whole { result ≡ Extent.Whole
         → IsWhole (F.is_patient frontier.new) (F.kept frontier.new) }
     ensures covers { result ≡ Extent.Whole
@@ -133,6 +138,7 @@ pub fn explore<F: Frontier>(frontier: &mut F, limit: usize) -> Extent
             return cut_short(frontier.count(), limit);
         };
         next += 1;
+        tell(frontier, next, observer);
     }
     Extent::Whole
 }

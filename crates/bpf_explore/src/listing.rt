@@ -21,8 +21,8 @@ fn push_answer(alloc: Global, text: &mut String, answer: &Answer) -> Result<(), 
     text.push_str(answer.text())
 }
 
-/// Whether the outcomes are all.
-fn whether_all(all: bool) -> &'static str
+/// Whether what is printed is all.
+pub fn whether_all(all: bool) -> &'static str
     ensures { result.now ≡ all_text all }
 {
     if all { "all" } else { "not all" }

@@ -6,6 +6,7 @@ ghost use Rattle.bpf_machine.specs.Hashes.{task_hash};
 ghost use Rattle.bpf_machine.specs.Parts.{no_task};
 ghost use Rattle.bpf_explore.specs.Private.Kept.{part_at, ArePartsApart};
 
+use crate::room::bytes_of;
 use crate::slots::{note, room_for, slot_of};
 use bpf_machine::{KeptJob, Machine};
 use std::alloc::{AllocError, Global};
@@ -48,6 +49,11 @@ impl Parts {
         ensures { result.now ≡ self.now }
     {
         &self.kept
+    }
+
+    /// How many bytes of memory they take, but for contexts.
+    pub fn bytes(&self) -> usize {
+        bytes_of(&self.kept).saturating_add(bytes_of(&self.slots))
     }
 
     /// No job is kept twice.

@@ -4,6 +4,7 @@
 use crate::album::{Album, number_of};
 use crate::explorer::{Origin, push_turns, turns_of};
 use crate::frontier::Frontier;
+use crate::room::bytes_of;
 use crate::turns::{Arrival, Turns, is_next};
 use bpf_machine::Machine;
 use bpf_shared::StoreShape;
@@ -213,6 +214,11 @@ impl Frontier for PatientExplorer {
 
     fn count(&self) -> usize {
         self.len()
+    }
+
+    fn bytes(&self) -> usize {
+        let turns = bytes_of(&self.origins).saturating_add(bytes_of(&self.arrivals));
+        self.album.bytes().saturating_add(turns)
     }
 
     fn cpus(&self) -> u8 {

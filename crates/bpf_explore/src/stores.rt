@@ -6,6 +6,7 @@ ghost use Rattle.bpf_explore.specs.Stores.{IsOfShape, no_store};
 ghost use Rattle.bpf_explore.specs.Private.Slots.{hash_of};
 ghost use Rattle.bpf_explore.specs.Private.Kept.{store_at, AreStoresApart, HoldsStores};
 
+use crate::room::{bytes_of, store_bytes};
 use crate::slots::{note, room_for, slot_of};
 use bpf_base::spread;
 use bpf_plain::PlainStore;
@@ -101,6 +102,11 @@ impl Saved {
         hash_of(&self.bytes)
     }
 
+    /// How many bytes it is saved as.
+    fn bytes(&self) -> usize {
+        self.bytes.len()
+    }
+
     /// The store.
     fn store(&self) -> &PlainStore
         ensures { result.now ≡ self.now }
@@ -143,6 +149,14 @@ impl Stores {
         ensures { result.now ≡ slice_index_or self.now number no_store }
     {
         self.kept[number].store()
+    }
+
+    /// About how many bytes of memory they take: each as much as the last.
+    pub fn bytes(&self, shape: &StoreShape) -> usize {
+        let saved = self.kept.last().map_or(0, Saved::bytes);
+        let each = saved.saturating_add(store_bytes(shape) as usize);
+        let lists = bytes_of(&self.kept).saturating_add(bytes_of(&self.slots));
+        lists.saturating_add(self.kept.len().saturating_mul(each))
     }
 
     /// Whether the store of this number is saved as these bytes.

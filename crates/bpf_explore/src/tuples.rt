@@ -5,6 +5,7 @@ ghost use Rattle.bpf_explore.specs.Tuples.{TupleList, IsTuple, AreWhole, with_tu
 ghost use Rattle.bpf_explore.specs.Private.Slots.{hash_of};
 ghost use Rattle.bpf_explore.specs.Private.Kept.{AreTuplesApart};
 
+use crate::room::bytes_of;
 use crate::slots::{note, room_for, slot_of};
 use bpf_base::spread;
 use std::alloc::{AllocError, Global};
@@ -65,6 +66,11 @@ impl Tuples {
         ensures whole { AreWhole self.now }
     {
         self.count
+    }
+
+    /// How many bytes of memory they take.
+    pub fn bytes(&self) -> usize {
+        bytes_of(&self.numbers).saturating_add(bytes_of(&self.slots))
     }
 
     /// The tuple of a number.

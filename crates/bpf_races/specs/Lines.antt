@@ -1,8 +1,9 @@
 -- How races are printed. Our own choice.
-use Rattle.std.specs.Prelude.{ℕ, zero, suc, ◌++◌, Bool, List, [], Option, Some, None, codes, length, slice_index_or, if◌then◌else◌}
+use Rattle.std.specs.Prelude.{ℕ, zero, suc, ◌++◌, Bool, List, [], Option, Some, None, codes, length, slice_index_or}
 use Rattle.std.specs.Fmt.{decimal}
 use Rattle.hex.specs.Hex.{encode_lower}
 use Rattle.bpf_schedule.specs.Spelling.{runs_text}
+use Rattle.bpf_explore.specs.Listing.{all_text}
 use Rattle.bpf_races.specs.Races.{RaceFound, map_at}
 
 -- two CPUs, and where they stand
@@ -45,9 +46,6 @@ race_lines names (suc n) races =
     race_lines names n races ++ race_text names (slice_index_or races n no_race)
 
 -- whether they are all, and how many they are
-abbrev pub all_text : Bool → List ℕ
-all_text all = if all then codes "all" else codes "not all"
-
 abbrev pub count_text : ℕ → List ℕ
 count_text count = codes ": " ++ (decimal count ++ codes " races\n")
 

@@ -1,11 +1,12 @@
 //! Races as they are printed.
 
 ghost use Rattle.std.specs.Prelude.{◌≡◌, ◌++◌, [], IfOk, OnOk, map, option_map, slice_index_or, string_bytes};
-ghost use Rattle.bpf_races.specs.Lines.{all_text, count_text, key_text, last_line, places_text, race_lines, race_text, races_text, value_text};
+ghost use Rattle.bpf_races.specs.Lines.{count_text, key_text, last_line, places_text, race_lines, race_text, races_text, value_text};
 
 use crate::clash::map_at;
 use crate::found::Race;
 use crate::search::Races;
+use bpf_explore::whether_all;
 use bpf_schedule::push_runs;
 use std::alloc::{AllocError, Global};
 
@@ -76,13 +77,6 @@ fn push_race(
     push_runs(alloc, text, way_of(race))?;
     text.push_str("\n")?;
     Ok(())
-}
-
-/// Whether the races are all.
-fn whether_all(all: bool) -> &'static str
-    ensures { result.now ≡ all_text all }
-{
-    if all { "all" } else { "not all" }
 }
 
 /// Puts the end of the last line behind the text.

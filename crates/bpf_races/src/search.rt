@@ -10,7 +10,7 @@ use crate::found::Race;
 use crate::gathering::{both, gather_races};
 use crate::next::Watcher;
 use bpf_cpu::Job;
-use bpf_explore::{Explorer, PatientExplorer, copy_shape, explore};
+use bpf_explore::{Explorer, Observer, PatientExplorer, copy_shape, explore};
 use bpf_jobs::make_machine;
 use bpf_loader::Program;
 use bpf_shared::StoreShape;
@@ -35,14 +35,15 @@ fn make_watcher(alloc: Global, shape: &StoreShape) -> Result<Watcher, AllocError
 /// Searches through all schedules of jobs over a new store, until no state is new, more than `limit`
 /// are kept or memory is refused to the search, for races at values of maps that aren't left out.
 /// Refused is want of memory before or behind it; cases that never come count as such, but no
-/// contract rules them out.
-pub fn find_races(
+/// contract rules them out. The observer is told meanwhile how far the search is.
+pub fn find_races<O: Observer>(
     alloc: Global,
     shape: StoreShape,
     programs: Vec<Program>,
     jobs: Vec<Job>,
     sync: &[usize],
     limit: usize,
+    observer: &mut O,
 ) -> Result<Races, AllocError>
     requires cpus { All (λ job. job.cpu < shape.cpus) jobs.items }
     requires programs { All (λ job. job.program < vec_len programs) jobs.items }
@@ -55,7 +56,7 @@ pub fn find_races(
     let copy = copy_shape(alloc, &shape)?;
     let machine = make_machine(alloc, copy, programs, jobs)?;
     let mut explorer = Explorer::new(alloc, shape, machine)?;
-    let extent = explore(&mut explorer, limit);
+    let extent = explore(&mut explorer, limit, observer);
     let whole = extent.is_whole();
     let (list, listed) = gather_races(alloc, &mut explorer, &mut watcher, sync)?;
     let all = both(whole, listed);
@@ -64,13 +65,14 @@ pub fn find_races(
 
 /// The same of what schedules lead to while no job runs out of budget: machines that differ only in
 /// how many steps are left of budgets count as one.
-pub fn find_races_patiently(
+pub fn find_races_patiently<O: Observer>(
     alloc: Global,
     shape: StoreShape,
     programs: Vec<Program>,
     jobs: Vec<Job>,
     sync: &[usize],
     limit: usize,
+    observer: &mut O,
 ) -> Result<Races, AllocError>
     requires cpus { All (λ job. job.cpu < shape.cpus) jobs.items }
     requires programs { All (λ job. job.program < vec_len programs) jobs.items }
@@ -83,7 +85,7 @@ pub fn find_races_patiently(
     let copy = copy_shape(alloc, &shape)?;
     let machine = make_machine(alloc, copy, programs, jobs)?;
     let mut explorer = PatientExplorer::new(alloc, shape, machine)?;
-    let extent = explore(&mut explorer, limit);
+    let extent = explore(&mut explorer, limit, observer);
     let whole = extent.is_whole();
     let (list, listed) = gather_races(alloc, &mut explorer, &mut watcher, sync)?;
     let all = both(whole, listed);

@@ -9,6 +9,7 @@ use crate::refusal::Refusal;
 use crate::reply::Reply;
 use bpf_check::{Checked, Conclusion, check_explored};
 use bpf_command::SearchOptions;
+use bpf_explore::Observer;
 use std::alloc::Global;
 
 pub(crate) fn is_unmet(conclusion: Conclusion) -> bool
@@ -24,10 +25,15 @@ pub(crate) fn is_told(conclusion: Conclusion) -> bool
 }
 
 /// `ebpf check`.
-pub fn check_file(alloc: Global, options: SearchOptions, text: &str) -> Reply
+pub fn check_file<O: Observer>(
+    alloc: Global,
+    options: SearchOptions,
+    text: &str,
+    observer: &mut O,
+) -> Reply
     ensures { IsCheckedFile options.patient options.limit text.now result }
 {
-    let explored = match found_in(alloc, options, text) {
+    let explored = match found_in(alloc, options, text, observer) {
         Ok(explored) => explored,
         Err(refusal) => return Reply::Refused(refusal),
     };

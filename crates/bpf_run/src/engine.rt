@@ -4,8 +4,10 @@ ghost use Rattle.bpf_command.specs.declared.command.Command.{Command};
 ghost use Rattle.bpf_run.specs.Commands.{IsAnswer, IsForOneThread};
 
 use crate::pipeline::{reply, reply_by_workers};
+use crate::progress::Aside;
 use crate::reply::Reply;
 use bpf_command::Command;
+use bpf_explore::Silent;
 use std::alloc::Global;
 use std::sync::Wait;
 use std::thread::Threads;
@@ -29,15 +31,15 @@ impl Engine for OneThread {
     ghost does = { IsForOneThread };
 
     fn reply(&self, alloc: Global, command: Command, text: &str) -> Reply {
-        reply(alloc, command, text)
+        reply(alloc, command, text, &mut Silent)
     }
 }
 
 /// Runs the jobs of a run file by workers, where a command asks for them.
 #[derive(Drop)]
-pub struct WithWorkers<'a, T: Threads + Wait + Sync>(pub &'a T);
+pub struct WithWorkers<'a, T: Threads + Wait + Sync + Aside>(pub &'a T);
 
-impl<T: Threads + Wait + Sync> Engine for WithWorkers<'_, T> {
+impl<T: Threads + Wait + Sync + Aside> Engine for WithWorkers<'_, T> {
     ghost use Rattle.std.specs.Thread.{IsSync};
 
     ghost does = { λ command. IsSync T.row };

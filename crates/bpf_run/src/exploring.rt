@@ -14,14 +14,19 @@ use crate::reply::Reply;
 use crate::running::{file_in, run_file_with_history};
 use bpf_command::SearchOptions;
 use bpf_explore::{
-    Explored, ExploredPatiently, Hung, explore_jobs, is_any_stopped, list_explored, list_patient,
-    search_patiently,
+    Explored, ExploredPatiently, Hung, Observer, explore_jobs, is_any_stopped, list_explored,
+    list_patient, search_patiently,
 };
 use bpf_file::RunFile;
 use std::alloc::{AllocError, Global};
 
 /// Searches through all schedules of a file's jobs, and tells of the maps too.
-fn explore(alloc: Global, file: RunFile, limit: usize) -> Result<Explored, AllocError>
+fn explore<O: Observer>(
+    alloc: Global,
+    file: RunFile,
+    limit: usize,
+    observer: &mut O,
+) -> Result<Explored, AllocError>
     requires { IsRunnable file }
     ensures { IfOk result (λ e. IsExplored (first_world_of (file_of file)) (file_of file).names true
         e.answers.items e.all e.refused limit e.states) }
@@ -33,14 +38,15 @@ fn explore(alloc: Global, file: RunFile, limit: usize) -> Result<Explored, Alloc
         jobs,
         ..
     } = file;
-    explore_jobs(alloc, shape, &names, programs, jobs, true, limit)
+    explore_jobs(alloc, shape, &names, programs, jobs, true, limit, observer)
 }
 
 /// The same but for how many steps are left of budgets.
-fn explore_patient(
+fn explore_patient<O: Observer>(
     alloc: Global,
     file: RunFile,
     limit: usize,
+    observer: &mut O,
 ) -> Result<ExploredPatiently, AllocError>
     requires { IsRunnable file }
     ensures { IfOk result (λ e. IsSearchedPatiently (first_world_of (file_of file))
@@ -54,46 +60,57 @@ fn explore_patient(
         jobs,
         ..
     } = file;
-    search_patiently(alloc, shape, &names, programs, jobs, true, limit)
+    search_patiently(alloc, shape, &names, programs, jobs, true, limit, observer)
 }
 
 /// What a search through all schedules of the jobs that a text says finds.
-fn explored_in(alloc: Global, limit: u64, text: &str) -> Result<Explored, Refusal>
+fn explored_in<O: Observer>(
+    alloc: Global,
+    limit: u64,
+    text: &str,
+    observer: &mut O,
+) -> Result<Explored, Refusal>
     ensures found { IfOk result (λ e. AreAnswersTo text.now e.answers.items e.all limit e.states) }
     ensures refused { IfErr result (RefusesFile text.now) }
 {
     let file = file_in(alloc, text)?;
-    match explore(alloc, file, limit as usize) {
+    match explore(alloc, file, limit as usize, observer) {
         Ok(explored) => Ok(explored),
         Err(_) => Err(Refusal::OutOfMemory),
     }
 }
 
 /// What a patient search finds.
-fn patient_in(alloc: Global, limit: u64, text: &str) -> Result<ExploredPatiently, Refusal>
+fn patient_in<O: Observer>(
+    alloc: Global,
+    limit: u64,
+    text: &str,
+    observer: &mut O,
+) -> Result<ExploredPatiently, Refusal>
     ensures found { IfOk result (λ e. ArePatientAnswersTo text.now e.answers.items e.all limit
         e.states e.hung.items e.budgets) }
     ensures refused { IfErr result (RefusesFile text.now) }
 {
     let file = file_in(alloc, text)?;
-    match explore_patient(alloc, file, limit as usize) {
+    match explore_patient(alloc, file, limit as usize, observer) {
         Ok(explored) => Ok(explored),
         Err(_) => Err(Refusal::OutOfMemory),
     }
 }
 
 /// The outcomes of either search.
-pub(crate) fn found_in(
+pub(crate) fn found_in<O: Observer>(
     alloc: Global,
     options: SearchOptions,
     text: &str,
+    observer: &mut O,
 ) -> Result<Explored, Refusal>
     ensures found { IfOk result (λ e. AreFoundBy options.patient text.now e.answers.items e.all
         options.limit e.states) }
     ensures refused { IfErr result (RefusesFile text.now) }
 {
     if !options.patient {
-        return explored_in(alloc, options.limit, text);
+        return explored_in(alloc, options.limit, text, observer);
     }
     let ExploredPatiently {
         answers,
@@ -101,7 +118,7 @@ pub(crate) fn found_in(
         refused,
         states,
         ..
-    } = patient_in(alloc, options.limit, text)?;
+    } = patient_in(alloc, options.limit, text, observer)?;
     Ok(Explored {
         answers,
         all,
@@ -111,10 +128,10 @@ pub(crate) fn found_in(
 }
 
 /// `ebpf explore` of all outcomes.
-fn explore_all(alloc: Global, limit: u64, text: &str) -> Reply
+fn explore_all<O: Observer>(alloc: Global, limit: u64, text: &str, observer: &mut O) -> Reply
     ensures { IsExploredFile false limit text.now result }
 {
-    let explored = match explored_in(alloc, limit, text) {
+    let explored = match explored_in(alloc, limit, text, observer) {
         Ok(explored) => explored,
         Err(refusal) => return Reply::Refused(refusal),
     };
@@ -144,10 +161,10 @@ fn is_stopped(explored: &ExploredPatiently) -> bool
 }
 
 /// `ebpf explore --patient`.
-fn explore_patiently(alloc: Global, limit: u64, text: &str) -> Reply
+fn explore_patiently<O: Observer>(alloc: Global, limit: u64, text: &str, observer: &mut O) -> Reply
     ensures { IsExploredFile true limit text.now result }
 {
-    let explored = match patient_in(alloc, limit, text) {
+    let explored = match patient_in(alloc, limit, text, observer) {
         Ok(explored) => explored,
         Err(refusal) => return Reply::Refused(refusal),
     };
@@ -160,13 +177,18 @@ fn explore_patiently(alloc: Global, limit: u64, text: &str) -> Reply
 }
 
 /// `ebpf explore`.
-pub fn explore_file(alloc: Global, options: SearchOptions, text: &str) -> Reply
+pub fn explore_file<O: Observer>(
+    alloc: Global,
+    options: SearchOptions,
+    text: &str,
+    observer: &mut O,
+) -> Reply
     ensures { IsExploredFile options.patient options.limit text.now result }
 {
     if options.patient {
-        explore_patiently(alloc, options.limit, text)
+        explore_patiently(alloc, options.limit, text, observer)
     } else {
-        explore_all(alloc, options.limit, text)
+        explore_all(alloc, options.limit, text, observer)
     }
 }
 
@@ -184,11 +206,17 @@ fn missing(alloc: Global, outcome: u64, explored: &Explored) -> Reply
 
 /// `ebpf explore --show`: all that happens on the way to the outcome of this number, counted from 1.
 /// Where memory was refused to the search the number may be another outcome's, so that is a refusal.
-pub fn show_file(alloc: Global, options: SearchOptions, outcome: u64, text: &str) -> Reply
+pub fn show_file<O: Observer>(
+    alloc: Global,
+    options: SearchOptions,
+    outcome: u64,
+    text: &str,
+    observer: &mut O,
+) -> Reply
     requires { 0 < outcome }
     ensures { IsShownFile options.patient options.limit outcome text.now result }
 {
-    let explored = match found_in(alloc, options, text) {
+    let explored = match found_in(alloc, options, text, observer) {
         Ok(explored) => explored,
         Err(refusal) => return Reply::Refused(refusal),
     };

@@ -14,6 +14,7 @@ pub mod output;
 pub mod perform;
 pub mod pipeline;
 pub mod program;
+pub mod progress;
 pub mod racing;
 pub mod reader;
 pub mod recorder;

@@ -7,6 +7,7 @@ ghost use Rattle.bpf_run.specs.Objects.{AreWritten, IsShown};
 ghost use Rattle.bpf_run.specs.Program.{input_of, Performs};
 
 use crate::perform::{Performed, answer, perform_of, write_text};
+use crate::progress::Aside;
 use crate::reply::{Reply, Status};
 use crate::stream::{Sink, Source};
 use bpf_command::Command;
@@ -101,7 +102,7 @@ pub fn answer_as<W: Sink>(json: bool, alloc: Global, reply: &Reply, sink: &mut W
 }
 
 /// The whole command, of the file where one is named, whose objects are written.
-fn perform_objects<T: Threads + Wait + Sync, R: Source, W: Sink>(
+fn perform_objects<T: Threads + Wait + Sync + Aside, R: Source, W: Sink>(
     rt: &T,
     alloc: Global,
     command: Command,
@@ -132,7 +133,7 @@ fn perform_objects<T: Threads + Wait + Sync, R: Source, W: Sink>(
 
 /// The whole command, of the file where one is named; its objects are written in place of lines where
 /// that is asked for.
-pub fn perform_as<T: Threads + Wait + Sync, R: Source, W: Sink>(
+pub fn perform_as<T: Threads + Wait + Sync + Aside, R: Source, W: Sink>(
     json: bool,
     rt: &T,
     alloc: Global,

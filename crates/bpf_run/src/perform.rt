@@ -13,6 +13,7 @@ ghost use Rattle.bpf_run.specs.declared.reply.Reply.{Reply};
 use crate::engine::{Engine, OneThread, WithWorkers};
 use crate::input::{InputError, MAX_INPUT, read_whole};
 use crate::output::write_whole;
+use crate::progress::Aside;
 use crate::refusal::Refusal;
 use crate::reply::{Reply, Status};
 use crate::stream::{Sink, Source};
@@ -281,7 +282,7 @@ pub fn perform<R: Source, W: Sink>(
 }
 
 /// The whole command, by workers where it asks for them: reads all input, and writes the reply.
-pub fn perform_threads<T: Threads + Wait + Sync, R: Source, W: Sink>(
+pub fn perform_threads<T: Threads + Wait + Sync + Aside, R: Source, W: Sink>(
     rt: &T,
     alloc: Global,
     command: Command,
@@ -302,7 +303,7 @@ pub fn perform_threads<T: Threads + Wait + Sync, R: Source, W: Sink>(
 }
 
 /// The whole command, of a file: opens it, reads all of it, and writes the reply.
-fn perform_file<T: Threads + Wait + Sync, R: Source, W: Sink>(
+fn perform_file<T: Threads + Wait + Sync + Aside, R: Source, W: Sink>(
     rt: &T,
     alloc: Global,
     command: Command,
@@ -332,7 +333,7 @@ fn perform_file<T: Threads + Wait + Sync, R: Source, W: Sink>(
 }
 
 /// The whole command, of the file where one is named.
-pub fn perform_of<T: Threads + Wait + Sync, R: Source, W: Sink>(
+pub fn perform_of<T: Threads + Wait + Sync + Aside, R: Source, W: Sink>(
     rt: &T,
     alloc: Global,
     command: Command,

@@ -11,6 +11,7 @@ ghost use Rattle.bpf_run.specs.declared.reply.Reply.{Reply};
 use crate::checking::check_file;
 use crate::exploring::{explore_file, show_file};
 use crate::listing::word_lines;
+use crate::progress::{Aside, Teller, asks_progress};
 use crate::racing::race_file;
 use crate::refusal::Refusal;
 use crate::reply::Reply;
@@ -19,6 +20,7 @@ use crate::script::debug_file;
 use bpf_command::{Command, FileOptions, HistoryOptions, JudgeOptions, RunOptions, ShowOptions};
 use bpf_cpu::Cpu;
 use bpf_disassembly::{disassemble, program_lines, source_lines};
+use bpf_explore::Observer;
 use bpf_insn::{Insn, decode, encode};
 use bpf_lines::from_hex;
 use bpf_loader::{Program, load};
@@ -171,8 +173,9 @@ fn disassembled(alloc: Global, pc: bool, text: &str) -> Reply
     }
 }
 
-/// What a command replies to the text that it read, on the thread that calls.
-pub fn reply(alloc: Global, command: Command, text: &str) -> Reply
+/// What a command replies to the text that it read, on the thread that calls. The observer is told
+/// how far a search is.
+pub fn reply<O: Observer>(alloc: Global, command: Command, text: &str, observer: &mut O) -> Reply
     requires { IsForOneThread command }
     ensures { IsAnswer command text.now result }
 {
@@ -201,15 +204,17 @@ pub fn reply(alloc: Global, command: Command, text: &str) -> Reply
             run_file_with_history(alloc, &by, keys, maps, text)
         }
         Command::Judge(JudgeOptions { by, keys }) => judge_file(alloc, &by, keys, text),
-        Command::Explore(search) => explore_file(alloc, search, text),
-        Command::Show(ShowOptions { outcome, search }) => show_file(alloc, search, outcome, text),
-        Command::Races(options) => race_file(alloc, options, text),
-        Command::Check(search) => check_file(alloc, search, text),
+        Command::Explore(search) => explore_file(alloc, search, text, observer),
+        Command::Show(ShowOptions { outcome, search }) => {
+            show_file(alloc, search, outcome, text, observer)
+        }
+        Command::Races(options) => race_file(alloc, options, text, observer),
+        Command::Check(search) => check_file(alloc, search, text, observer),
     }
 }
 
 /// What a command replies to the text that it read, by workers where it asks for them.
-pub fn reply_by_workers<T: Threads + Wait + Sync>(
+pub fn reply_by_workers<T: Threads + Wait + Sync + Aside>(
     rt: &T,
     alloc: Global,
     command: Command,
@@ -227,6 +232,9 @@ pub fn reply_by_workers<T: Threads + Wait + Sync>(
                 ..
             },
         ) => run_file_by_workers(rt, alloc, workers, stats, keys, maps, text),
-        command => reply(alloc, command, text),
+        command => {
+            let mut teller = Teller::new(rt, asks_progress(&command));
+            reply(alloc, command, text, &mut teller)
+        }
     }
 }

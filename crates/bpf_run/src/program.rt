@@ -15,6 +15,7 @@ ghost use Rattle.bpf_run.specs.declared.refusal.Refusal.{Refusal};
 use crate::explaining::{Question, Subject, explain};
 use crate::objects::{answer_as, perform_as};
 use crate::perform::{Performed, answer, print_page};
+use crate::progress::{Aside, Teller};
 use crate::refusal::Refusal;
 use crate::reply::{Reply, Status};
 use crate::several::check_files;
@@ -118,7 +119,7 @@ For more information, try 'ebpf explore --help'.";
 pub const USAGE: u8 = 2;
 
 /// Performs a command. What it writes and its status don't depend on whether it is explained.
-fn perform_for<T: Threads + Wait + Sync, R: Source, W: Sink>(
+fn perform_for<T: Threads + Wait + Sync + Aside, R: Source, W: Sink>(
     rt: &T,
     alloc: Global,
     command: Command,
@@ -153,7 +154,7 @@ fn perform_for<T: Threads + Wait + Sync, R: Source, W: Sink>(
 }
 
 /// Does what is asked, or prints why nothing can be done.
-fn follow<T: Threads + Wait + Sync, R: Source, W: Sink>(
+fn follow<T: Threads + Wait + Sync + Aside, R: Source, W: Sink>(
     rt: &T,
     alloc: Global,
     asked: Result<Request, CommandError>,
@@ -193,7 +194,8 @@ fn follow<T: Threads + Wait + Sync, R: Source, W: Sink>(
                 json,
             },
         ) => {
-            let reply = check_files(alloc, &search, &files, source);
+            let mut teller = Teller::new(rt, search.progress);
+            let reply = check_files(alloc, &search, &files, source, &mut teller);
             return Ending::Exit(answer_as(json, alloc, &reply, sink));
         }
         Ok(Request::Page(code)) => return Ending::Exit(print_page(alloc, code, sink)),
@@ -213,7 +215,7 @@ fn follow<T: Threads + Wait + Sync, R: Source, W: Sink>(
 
 /// Does what the words ask for, of which the first is the program's name. What is wrong with them
 /// is said before anything is read.
-pub fn program<T: Threads + Wait + Sync, R: Source, W: Sink>(
+pub fn program<T: Threads + Wait + Sync + Aside, R: Source, W: Sink>(
     rt: &T,
     alloc: Global,
     words: io::Result<Vec<String>>,

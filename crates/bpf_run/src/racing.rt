@@ -14,6 +14,7 @@ use crate::reply::Reply;
 use crate::running::file_in;
 use bpf_command::{RaceOptions, SearchOptions};
 use bpf_cpu::Job;
+use bpf_explore::Observer;
 use bpf_file::RunFile;
 use bpf_loader::Program;
 use bpf_races::{Races, find_races, find_races_patiently, list_races, synced_maps};
@@ -37,13 +38,14 @@ fn is_any_race(races: &Races) -> bool
 }
 
 /// The races of jobs, by either search.
-fn races_of(
+fn races_of<O: Observer>(
     alloc: Global,
     options: SearchOptions,
     shape: StoreShape,
     programs: Vec<Program>,
     jobs: Vec<Job>,
     sync: &[usize],
+    observer: &mut O,
 ) -> Result<Races, AllocError>
     requires cpus { All (λ job. job.cpu < shape.cpus) jobs.items }
     requires programs { All (λ job. job.program < vec_len programs) jobs.items }
@@ -53,18 +55,19 @@ fn races_of(
 {
     let limit = options.limit as usize;
     if options.patient {
-        find_races_patiently(alloc, shape, programs, jobs, sync, limit)
+        find_races_patiently(alloc, shape, programs, jobs, sync, limit, observer)
     } else {
-        find_races(alloc, shape, programs, jobs, sync, limit)
+        find_races(alloc, shape, programs, jobs, sync, limit, observer)
     }
 }
 
 /// What is told of the races of a file's jobs, but for those at values of these maps.
-fn tell_races(
+fn tell_races<O: Observer>(
     alloc: Global,
     options: SearchOptions,
     sync: &[usize],
     file: RunFile,
+    observer: &mut O,
 ) -> Result<Told, AllocError>
     requires { IsRunnable file }
     ensures { IfOk result (λ told. TellsRaces options.patient (file_of file) sync.now
@@ -77,7 +80,7 @@ fn tell_races(
         jobs,
         ..
     } = file;
-    let races = races_of(alloc, options, shape, programs, jobs, sync)?;
+    let races = races_of(alloc, options, shape, programs, jobs, sync, observer)?;
     let text = list_races(alloc, &names, &races)?;
     let raced = is_any_race(&races);
     let all = races.all;
@@ -86,7 +89,12 @@ fn tell_races(
 
 /// `ebpf explore --races`.
 #[tactic(auto, using(crate::proofs::Raced::raced))]
-pub fn race_file(alloc: Global, options: RaceOptions, text: &str) -> Reply
+pub fn race_file<O: Observer>(
+    alloc: Global,
+    options: RaceOptions,
+    text: &str,
+    observer: &mut O,
+) -> Reply
     ensures { IsRacesFile options.search.patient (map string_bytes options.sync.items) text.now
         result }
 {
@@ -99,7 +107,7 @@ pub fn race_file(alloc: Global, options: RaceOptions, text: &str) -> Reply
         Ok(None) => return Reply::Refused(Refusal::NoMap),
         Err(_) => return Reply::Refused(Refusal::OutOfMemory),
     };
-    match tell_races(alloc, options.search, &numbers, file) {
+    match tell_races(alloc, options.search, &numbers, file, observer) {
         Ok(Told { text, raced, all }) => Reply::Outcomes {
             text,
             stopped: raced,

@@ -13,6 +13,7 @@ use crate::reply::Reply;
 use crate::stream::Source;
 use bpf_check::{CheckedPart, check_named, plan};
 use bpf_command::SearchOptions;
+use bpf_explore::Observer;
 use std::alloc::{AllocError, Global};
 
 /// What is told of a file among several.
@@ -42,17 +43,18 @@ fn refused_part(alloc: Global, name: &str, refusal: Refusal) -> Result<FilePart,
 }
 
 /// The tests of a text, behind so many of the files before it, or its first refusal.
-fn text_part(
+fn text_part<O: Observer>(
     alloc: Global,
     options: SearchOptions,
     name: &str,
     before: usize,
     text: &str,
+    observer: &mut O,
 ) -> Result<FilePart, AllocError>
     ensures { IfOk result (λ p.
         IsTextPart options.patient options.limit name.now before text.now (seen p)) }
 {
-    let explored = match found_in(alloc, options, text) {
+    let explored = match found_in(alloc, options, text, observer) {
         Ok(explored) => explored,
         Err(refusal) => return refused_part(alloc, name, refusal),
     };
@@ -71,19 +73,20 @@ fn text_part(
 }
 
 /// What is told of a file of these bytes.
-fn bytes_part(
+fn bytes_part<O: Observer>(
     alloc: Global,
     options: SearchOptions,
     name: &str,
     before: usize,
     bytes: &[u8],
+    observer: &mut O,
 ) -> Result<FilePart, AllocError>
     requires { length bytes.now ≤ MAX_INPUT }
     ensures { IfOk result (λ p.
         IsPart options.patient options.limit name.now before bytes.now (seen p)) }
 {
     match str::from_utf8(bytes) {
-        Ok(text) => text_part(alloc, options, name, before, text),
+        Ok(text) => text_part(alloc, options, name, before, text, observer),
         Err(_) => refused_part(alloc, name, Refusal::NotText),
     }
 }
@@ -104,19 +107,20 @@ fn bytes_of<R: Source>(alloc: Global, name: &str, source: &mut R) -> Result<Vec<
 }
 
 /// What is told of a file, behind so many tests of the files before it.
-fn part_of<R: Source>(
+fn part_of<R: Source, O: Observer>(
     alloc: Global,
     options: SearchOptions,
     name: &str,
     before: usize,
     source: &mut R,
+    observer: &mut O,
 ) -> Result<FilePart, AllocError>
     ensures part { IfOk result (λ p. IfSome (R.file source.old name.now)
         (λ bytes. IsPart options.patient options.limit name.now before bytes (seen p))) }
     ensures files { R.file source.new ≡ R.file source.old }
 {
     match bytes_of(alloc, name, source) {
-        Ok(bytes) => bytes_part(alloc, options, name, before, &bytes),
+        Ok(bytes) => bytes_part(alloc, options, name, before, &bytes, observer),
         Err(error) => refused_part(alloc, name, Refusal::Input(error)),
     }
 }
@@ -147,11 +151,12 @@ impl Tally {
 }
 
 /// What is told of all files.
-fn tell_all<R: Source>(
+fn tell_all<R: Source, O: Observer>(
     alloc: Global,
     options: &SearchOptions,
     names: &[String],
     source: &mut R,
+    observer: &mut O,
 ) -> Result<Tally, AllocError>
     ensures { IfOk result (λ t. AreTold options.now.patient options.now.limit (R.file source.old)
         (map string_bytes names.now) no_part (counted t)) }
@@ -167,8 +172,9 @@ fn tell_all<R: Source>(
         let options = SearchOptions {
             limit: options.limit,
             patient: options.patient,
+            progress: options.progress,
         };
-        let part = part_of(alloc, options, name.as_str(), tally.tests, source)?;
+        let part = part_of(alloc, options, name.as_str(), tally.tests, source, observer)?;
         tally.add(&part)?;
     }
     Ok(tally)
@@ -185,16 +191,17 @@ fn planned(alloc: Global, tally: &Tally) -> Result<String, AllocError>
 }
 
 /// `ebpf check` of several files.
-pub fn check_files<R: Source>(
+pub fn check_files<R: Source, O: Observer>(
     alloc: Global,
     options: &SearchOptions,
     names: &[String],
     source: &mut R,
+    observer: &mut O,
 ) -> Reply
     ensures { AreChecked options.now.patient options.now.limit (R.file source.old)
         (map string_bytes names.now) result }
 {
-    let Ok(tally) = tell_all(alloc, options, names, source) else {
+    let Ok(tally) = tell_all(alloc, options, names, source, observer) else {
         return Reply::Refused(Refusal::OutOfMemory);
     };
     match planned(alloc, &tally) {

@@ -17,30 +17,30 @@ use Rattle.bpf_explore.proofs.PatienceLaws.{explored_patiently}
 use Rattle.bpf_explore.proofs.exploring.search_patiently.Goals as goal
 
 pub make_machine-requires-clause-cpus : goal.make_machine-requires-clause-cpus
-make_machine-requires-clause-cpus c =
+make_machine-requires-clause-cpus g c =
     let same : c.in_ok-copy.copy ≡ c.args.shape = c.in_ok-copy.ensures in
     subst (λ (h : Shape). All (λ (job : Job). job.cpu < h.cpus) c.args.jobs.items) (sym same) c.requires.cpus
 
 pub make_machine-requires-clause-programs : goal.make_machine-requires-clause-programs
-make_machine-requires-clause-programs c = c.requires.programs
+make_machine-requires-clause-programs g c = c.requires.programs
 
 pub make_machine-requires-clause-contexts : goal.make_machine-requires-clause-contexts
-make_machine-requires-clause-contexts c = c.requires.contexts
+make_machine-requires-clause-contexts g c = c.requires.contexts
 
 pub new-requires-clause-shape : goal.new-requires-clause-shape
-new-requires-clause-shape c =
+new-requires-clause-shape g c =
     let same : c.in_ok-copy.copy ≡ c.args.shape = c.in_ok-copy.ensures in
     let m = c.in_ok-machine.machine in
     subst (λ (h : Shape). IsOfShape h m.store) same (first_shape c.in_ok-copy.copy m c.args.programs.items (map waiting c.args.jobs.items) c.in_ok-machine.ensures)
 
 pub new-requires-clause-lists : goal.new-requires-clause-lists
-new-requires-clause-lists c =
+new-requires-clause-lists g c =
     first_lists_none c.in_ok-copy.copy c.in_ok-machine.machine c.args.programs.items (map waiting c.args.jobs.items) c.in_ok-machine.ensures
 
 -- ---- after the search
 -- what was kept first, before its first turn
 pub gather_patiently-requires : goal.gather_patiently-requires
-gather_patiently-requires c =
+gather_patiently-requires g c =
     let same : c.in_ok-copy.copy ≡ c.args.shape = c.in_ok-copy.ensures in
     let m = c.in_ok-machine.machine in
     let programs = c.args.programs.items in
@@ -54,7 +54,7 @@ gather_patiently-requires c =
     )
 
 pub find_hung-requires-clause-fresh : goal.find_hung-requires-clause-fresh
-find_hung-requires-clause-fresh c =
+find_hung-requires-clause-fresh g c =
     let same : c.in_ok-copy.copy ≡ c.args.shape = c.in_ok-copy.ensures in
     let m = c.in_ok-machine.machine in
     let programs = c.args.programs.items in
@@ -68,24 +68,24 @@ find_hung-requires-clause-fresh c =
     )
 
 pub find_hung-requires-clause-turns : goal.find_hung-requires-clause-turns
-find_hung-requires-clause-turns c is =
+find_hung-requires-clause-turns g c is =
     subst (λ (ms : List MachineState). AreTurns ms c.take_turns-turns.result) (sym (c.gather_patiently.ensures.same ∙ c.take_turns-turns.ensures.same))
     (c.take_turns-turns.ensures.turns (c.explore-extent.ensures.made (whole_of c.explore-extent.result (sym c.is_whole-whole.ensures ∙ is)) c.in_ok-explorer.ensures.none))
 
 pub find_budgets-requires-clause-turns : goal.find_budgets-requires-clause-turns
-find_budgets-requires-clause-turns c is =
+find_budgets-requires-clause-turns g c is =
     subst (λ (ms : List MachineState). AreTurns ms c.take_turns-turns.result) (sym (c.find_hung.ensures.same ∙ (c.gather_patiently.ensures.same ∙ c.take_turns-turns.ensures.same)))
     (c.take_turns-turns.ensures.turns (c.explore-extent.ensures.made (whole_of c.explore-extent.result (sym c.is_whole-whole.ensures ∙ is)) c.in_ok-explorer.ensures.none))
 
 pub find_budgets-requires-clause-first : goal.find_budgets-requires-clause-first
-find_budgets-requires-clause-first c =
+find_budgets-requires-clause-first g c =
     let kept = c.explore-extent.new.frontier.kept in
     let m = c.in_ok-machine.machine in
     let one = still_there c.in_ok-explorer.explorer.kept kept m c.in_ok-explorer.ensures.first c.explore-extent.ensures.extends in
     subst (λ (ms : List MachineState). 0 < length ms) (sym (c.find_hung.ensures.same ∙ (c.gather_patiently.ensures.same ∙ c.take_turns-turns.ensures.same))) one
 
 pub find_budgets-requires-clause-out : goal.find_budgets-requires-clause-out
-find_budgets-requires-clause-out c is =
+find_budgets-requires-clause-out g c is =
     let gathered = c.gather_patiently.ensures.same in
     subst CanRunOut (sym (c.find_hung.ensures.same ∙ gathered)) (elim (c.both-all_fit.ensures.not is) [
       | inl a ↦ c.in_ok-answers.ensures.out a
@@ -93,7 +93,7 @@ find_budgets-requires-clause-out c is =
     ])
 
 pub returns : goal.returns
-returns c =
+returns g c =
     let same : c.in_ok-copy.copy ≡ c.args.shape = c.in_ok-copy.ensures in
     let m = c.in_ok-machine.machine in
     let programs = c.args.programs.items in

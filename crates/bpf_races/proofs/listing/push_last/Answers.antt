@@ -1,5 +1,6 @@
 use Rattle.std.proofs.Common.{◌∙◌, ◌++◌, ℕ, List, ap, append_assoc, string_bytes}
-use Rattle.bpf_races.specs.Lines.{all_text, count_text}
+use Rattle.bpf_explore.specs.Listing.{all_text}
+use Rattle.bpf_races.specs.Lines.{count_text}
 use Rattle.bpf_races.proofs.listing.push_last.Goals as goal
 
 pub returns : goal.returns

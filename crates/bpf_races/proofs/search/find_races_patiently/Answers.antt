@@ -13,28 +13,28 @@ use Rattle.bpf_races.proofs.Searching.{are_races_patiently}
 use Rattle.bpf_races.proofs.search.find_races_patiently.Goals as goal
 
 pub make_machine-requires-clause-cpus : goal.make_machine-requires-clause-cpus
-make_machine-requires-clause-cpus c =
+make_machine-requires-clause-cpus g c =
     let same : c.in_ok-copy.copy ≡ c.args.shape = c.in_ok-copy.ensures in
     subst (λ (h : Shape). All (λ (job : Job). job.cpu < h.cpus) c.args.jobs.items) (sym same) c.requires.cpus
 
 pub make_machine-requires-clause-programs : goal.make_machine-requires-clause-programs
-make_machine-requires-clause-programs c = c.requires.programs
+make_machine-requires-clause-programs g c = c.requires.programs
 
 pub make_machine-requires-clause-contexts : goal.make_machine-requires-clause-contexts
-make_machine-requires-clause-contexts c = c.requires.contexts
+make_machine-requires-clause-contexts g c = c.requires.contexts
 
 pub new-requires-clause-shape : goal.new-requires-clause-shape
-new-requires-clause-shape c =
+new-requires-clause-shape g c =
     let same : c.in_ok-copy.copy ≡ c.args.shape = c.in_ok-copy.ensures in
     let m = c.in_ok-machine.machine in
     subst (λ (h : Shape). IsOfShape h m.store) same (first_shape c.in_ok-copy.copy m c.args.programs.items (map waiting c.args.jobs.items) c.in_ok-machine.ensures)
 
 pub new-requires-clause-lists : goal.new-requires-clause-lists
-new-requires-clause-lists c =
+new-requires-clause-lists g c =
     first_lists_none c.in_ok-copy.copy c.in_ok-machine.machine c.args.programs.items (map waiting c.args.jobs.items) c.in_ok-machine.ensures
 
 pub returns : goal.returns
-returns c =
+returns g c =
     let same : c.in_ok-copy.copy ≡ c.args.shape = c.in_ok-copy.ensures in
     let m = c.in_ok-machine.machine in
     let programs = c.args.programs.items in

@@ -11,6 +11,6 @@ answers_alone true text answers all limit states hung budgets is found = (hung, 
 answers_alone false text answers all limit states hung budgets is found = cc
 
 pub returns-clause-found : goal.returns-clause-found
-returns-clause-found c =
+returns-clause-found g c =
     let found = c.in_ok-answers.field-0 in
     answers_alone c.args.options.patient c.args.text.now found.answers.items found.all c.args.options.limit found.states found.hung.items found.budgets c.if-not-options.false c.in_ok-answers.ensures.found

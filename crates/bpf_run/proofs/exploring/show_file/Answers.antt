@@ -9,7 +9,7 @@ use Rattle.bpf_run.proofs.ShownReplies.{shown}
 use Rattle.bpf_run.proofs.exploring.show_file.Goals as goal
 
 pub returns-in-Some : goal.returns-in-Some
-returns-in-Some c =
+returns-in-Some g c =
     let explored = c.in-Ok.explored in
     let text = c.args.text.now in
     let found = c.in-Some.answer.now in

@@ -1,0 +1,29 @@
+//! About how much memory things take: what is told of a search while it works, and no more.
+
+use bpf_shared::{MapShape, StoreShape};
+
+/// About how many bytes the vectors of a map take beside what it has of its elements.
+const MAP_ITSELF: u64 = 512;
+
+/// How many bytes a vector's room takes.
+pub(crate) fn bytes_of<T>(room: &Vec<T>) -> usize {
+    room.capacity().saturating_mul(size_of::<T>())
+}
+
+/// About how many bytes a map of this shape takes in a plain store: of each element the key, the
+/// value, a note of each CPU's run that looked it up and one of its run when it left, and a few links.
+fn map_bytes(map: &MapShape, cpus: u8) -> u64 {
+    let notes = u64::from(cpus) * 8;
+    let element = map.key.saturating_add(map.value).saturating_add(notes + 9);
+    let elements = map.max.saturating_add(map.spare);
+    elements.saturating_mul(element).saturating_add(MAP_ITSELF)
+}
+
+/// About how many bytes a plain store of this shape takes.
+pub(crate) fn store_bytes(shape: &StoreShape) -> u64 {
+    let mut bytes = 0u64;
+    for map in shape.maps() {
+        bytes = bytes.saturating_add(map_bytes(map, shape.cpus()));
+    }
+    bytes
+}
