@@ -177,7 +177,8 @@ impl Frontier for Explorer {
     }
 
     fn bytes(&self) -> usize {
-        self.album.bytes().saturating_add(bytes_of(&self.origins))
+        let origins = bytes_of(&self.origins, size_of::<Origin>());
+        self.album.bytes().saturating_add(origins)
     }
 
     fn cpus(&self) -> u8 {

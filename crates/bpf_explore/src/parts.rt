@@ -53,7 +53,8 @@ impl Parts {
 
     /// How many bytes of memory they take, but for contexts.
     pub fn bytes(&self) -> usize {
-        bytes_of(&self.kept).saturating_add(bytes_of(&self.slots))
+        let slots = bytes_of(&self.slots, size_of::<u32>());
+        bytes_of(&self.kept, size_of::<KeptJob>()).saturating_add(slots)
     }
 
     /// No job is kept twice.

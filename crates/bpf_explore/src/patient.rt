@@ -217,8 +217,12 @@ impl Frontier for PatientExplorer {
     }
 
     fn bytes(&self) -> usize {
-        let turns = bytes_of(&self.origins).saturating_add(bytes_of(&self.arrivals));
-        self.album.bytes().saturating_add(turns)
+        let origins = bytes_of(&self.origins, size_of::<Origin>());
+        let arrivals = bytes_of(&self.arrivals, size_of::<Arrival>());
+        self.album
+            .bytes()
+            .saturating_add(origins)
+            .saturating_add(arrivals)
     }
 
     fn cpus(&self) -> u8 {

@@ -5,9 +5,9 @@ use bpf_shared::{MapShape, StoreShape};
 /// About how many bytes the vectors of a map take beside what it has of its elements.
 const MAP_ITSELF: u64 = 512;
 
-/// How many bytes a vector's room takes.
-pub(crate) fn bytes_of<T>(room: &Vec<T>) -> usize {
-    room.capacity().saturating_mul(size_of::<T>())
+/// How many bytes a vector's room takes, of which each place has this size.
+pub(crate) fn bytes_of<T>(room: &Vec<T>, size: usize) -> usize {
+    room.capacity().saturating_mul(size)
 }
 
 /// About how many bytes a map of this shape takes in a plain store: of each element the key, the

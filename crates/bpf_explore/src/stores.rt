@@ -155,8 +155,10 @@ impl Stores {
     pub fn bytes(&self, shape: &StoreShape) -> usize {
         let saved = self.kept.last().map_or(0, Saved::bytes);
         let each = saved.saturating_add(store_bytes(shape) as usize);
-        let lists = bytes_of(&self.kept).saturating_add(bytes_of(&self.slots));
-        lists.saturating_add(self.kept.len().saturating_mul(each))
+        let slots = bytes_of(&self.slots, size_of::<u32>());
+        let kept = bytes_of(&self.kept, size_of::<Saved>());
+        let stores = self.kept.len().saturating_mul(each);
+        slots.saturating_add(kept).saturating_add(stores)
     }
 
     /// Whether the store of this number is saved as these bytes.

@@ -70,7 +70,8 @@ impl Tuples {
 
     /// How many bytes of memory they take.
     pub fn bytes(&self) -> usize {
-        bytes_of(&self.numbers).saturating_add(bytes_of(&self.slots))
+        let slots = bytes_of(&self.slots, size_of::<u32>());
+        bytes_of(&self.numbers, size_of::<u32>()).saturating_add(slots)
     }
 
     /// The tuple of a number.

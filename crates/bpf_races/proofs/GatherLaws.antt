@@ -1,6 +1,6 @@
 -- Races that are gathered of kept machines.
 use Rattle.std.proofs.Common.{◌≡◌, ◌≢◌, ◌∙◌, ℕ, suc, ◌+◌, ◌<◌, ◌≤◌, ◌⊎◌, Bool, true, false, List, [], ◌∷◌, ◌++◌, Option, Some, None, length, get_or, inl, inr, refl, sym, ap, subst, arith}
-use Rattle.std.specs.Prelude.{IfSome, slice_get}
+use Rattle.std.specs.Prelude.{IfNone, IfSome, is_none, slice_get}
 use Rattle.std.proofs.lemmas.Bool.{cases_lt}
 use Rattle.std.proofs.lemmas.Option.{slice_get_read, slice_get_within}
 use Rattle.bpf_plain.specs.PlainStore.{Contents, StandsFor}
@@ -10,12 +10,12 @@ use Rattle.bpf_machine.specs.Hands.{IsAt, IsFree}
 use Rattle.bpf_machine.specs.Machine.{MachineState, Shows}
 use Rattle.bpf_machine.specs.Race.{HasNext, IsRace}
 use Rattle.bpf_machine.specs.Schedule.{World, RunsSchedule, unrolled}
-use Rattle.bpf_explore.specs.Album.{IsShownAt, LeadsFrom}
+use Rattle.bpf_explore.specs.Album.{AreLed, IsShownAt, LeadsFrom}
 use Rattle.bpf_races.specs.Touch.{IsAmong, Clash}
 use Rattle.bpf_races.specs.Next.{NextStep, IsNextIn}
 use Rattle.bpf_races.specs.Searched.{IsLedTo}
 use Rattle.bpf_races.specs.Races.{RaceFound, RacesBy, IsBetween, IsListed, IsLeftOut, IsKeyAt, AreOnce}
-use Rattle.bpf_races.specs.Private.Searching.{AreNexts, Gathered, Keeps, AreListedOf, AreListedIn, AreListedAt}
+use Rattle.bpf_races.specs.Private.Searching.{AreNexts, AreNextsAt, AreRacing, AreShown, Gathered, IsUnshown, Keeps, AreListedOf, AreListedIn, AreListedAt}
 use Rattle.bpf_races.proofs.Lists.{at_cases, in_front, in_last, in_cases}
 use Rattle.bpf_races.proofs.Touching.{clash_race, race_clash}
 
@@ -129,19 +129,31 @@ none_of_free m races sync c d free w shows pc qc b race =
 abbrev pub BehindListed : List NextStep → List RaceFound → List ℕ → ℕ → ℕ → Type 0
 BehindListed nexts races sync c n = (m : MachineState) → AreNexts m nexts → (d : ℕ) → c < d → d < n → AreListedOf races sync m c d
 
-pub record OneSoFar (kept : List MachineState) (sync : List ℕ) (nexts : List NextStep) (old : List RaceFound) (c n : ℕ) (now : List MachineState) (races : List RaceFound) (all : Bool) : Type 0 where
+pub record OneSoFar (exact : Type 0) (kept : List MachineState) (sync : List ℕ) (place : ℕ) (nexts : List NextStep) (old : List RaceFound) (c n : ℕ) (now : List MachineState) (races : List RaceFound) (all : Bool) : Type 0 where
   pub same : now ≡ kept
   pub gathered : Gathered kept sync races
   pub keeps : Keeps old races
   pub listed : all ≡ true → BehindListed nexts races sync c n
+  pub missed : exact → all ≡ false → AreNextsAt kept place nexts → IsUnshown kept place
 
-pub one_begins : (kept : List MachineState) (sync : List ℕ) (nexts : List NextStep) (old : List RaceFound) (c : ℕ) → Gathered kept sync old → OneSoFar kept sync nexts old c (c + 1) kept old true
-one_begins kept sync nexts old c gathered = record { same = refl; gathered = gathered; keeps = keeps_same old; listed = λ is m are d above below. absurd (omega arith) }
+pub one_begins : (exact : Type 0) (kept : List MachineState) (sync : List ℕ) (place : ℕ) (nexts : List NextStep) (old : List RaceFound) (c : ℕ) → Gathered kept sync old → OneSoFar exact kept sync place nexts old c (c + 1) kept old true
+one_begins exact kept sync place nexts old c gathered = record { same = refl; gathered = gathered; keeps = keeps_same old; listed = λ is m are d above below. absurd (omega arith); missed = λ e is. cc }
 
-pub one_goes_on : (kept now later : List MachineState) (sync : List ℕ) (nexts : List NextStep) (old mid new : List RaceFound) (c n : ℕ) (all listed both : Bool) → OneSoFar kept sync nexts old c n now mid all
+-- what was missed is told of what is kept now, which is the same
+missed_still : (kept now : List MachineState) (place : ℕ) (nexts : List NextStep) → now ≡ kept → (AreNextsAt now place nexts → IsUnshown now place) → AreNextsAt kept place nexts → IsUnshown kept place
+missed_still kept now place nexts same missed =
+    let P : List MachineState → Type 0 = λ ms. AreNextsAt ms place nexts → IsUnshown ms place in
+    subst P same missed
+
+pub one_goes_on : (exact : Type 0) (kept now later : List MachineState) (sync : List ℕ) (place : ℕ) (nexts : List NextStep) (old mid new : List RaceFound) (c n : ℕ) (all listed both : Bool) → OneSoFar exact kept sync place nexts old c n now mid all
     → later ≡ now → Gathered now sync new → Keeps mid new → (listed ≡ true → (m : MachineState) → AreNexts m nexts → AreListedOf new sync m c n) → (both ≡ true → (all ≡ true) × (listed ≡ true))
-    → OneSoFar kept sync nexts old c (n + 1) later new both
-one_goes_on kept now later sync nexts old mid new c n all listed both far same gathered keeps one joined = record {
+    → (exact → listed ≡ false → AreNextsAt now place nexts → IsUnshown now place) → (both ≡ false → (all ≡ false) ⊎ (listed ≡ false))
+    → OneSoFar exact kept sync place nexts old c (n + 1) later new both
+one_goes_on exact kept now later sync place nexts old mid new c n all listed both far same gathered keeps one joined missed split = record {
+  missed = λ e is. elim (split is) [
+    | inl first ↦ far.missed e first
+    | inr second ↦ missed_still kept now place nexts far.same (missed e second)
+  ];
   same = same ∙ far.same;
   gathered = subst (λ (ms : List MachineState). Gathered ms sync new) far.same gathered;
   keeps = keeps_more old mid new far.keeps keeps;
@@ -155,19 +167,25 @@ one_goes_on kept now later sync nexts old mid new c n all listed both far same g
 abbrev pub BelowListed : List NextStep → List RaceFound → List ℕ → ℕ → Type 0
 BelowListed nexts races sync n = (m : MachineState) → AreNexts m nexts → (c d : ℕ) → c < n → c < d → d < length nexts → AreListedOf races sync m c d
 
-pub record AllSoFar (kept : List MachineState) (sync : List ℕ) (nexts : List NextStep) (old : List RaceFound) (n : ℕ) (now : List MachineState) (races : List RaceFound) (all : Bool) : Type 0 where
+pub record AllSoFar (exact : Type 0) (kept : List MachineState) (sync : List ℕ) (place : ℕ) (nexts : List NextStep) (old : List RaceFound) (n : ℕ) (now : List MachineState) (races : List RaceFound) (all : Bool) : Type 0 where
   pub same : now ≡ kept
   pub gathered : Gathered kept sync races
   pub keeps : Keeps old races
   pub listed : all ≡ true → BelowListed nexts races sync n
+  pub missed : exact → all ≡ false → AreNextsAt kept place nexts → IsUnshown kept place
 
-pub all_begins : (kept : List MachineState) (sync : List ℕ) (nexts : List NextStep) (old : List RaceFound) → Gathered kept sync old → AllSoFar kept sync nexts old 0 kept old true
-all_begins kept sync nexts old gathered = record { same = refl; gathered = gathered; keeps = keeps_same old; listed = λ is m are c d below above inside. absurd (omega arith) }
+pub all_begins : (exact : Type 0) (kept : List MachineState) (sync : List ℕ) (place : ℕ) (nexts : List NextStep) (old : List RaceFound) → Gathered kept sync old → AllSoFar exact kept sync place nexts old 0 kept old true
+all_begins exact kept sync place nexts old gathered = record { same = refl; gathered = gathered; keeps = keeps_same old; listed = λ is m are c d below above inside. absurd (omega arith); missed = λ e is. cc }
 
-pub all_goes_on : (kept now later : List MachineState) (sync : List ℕ) (nexts : List NextStep) (old mid new : List RaceFound) (n : ℕ) (all listed both : Bool) → AllSoFar kept sync nexts old n now mid all
+pub all_goes_on : (exact : Type 0) (kept now later : List MachineState) (sync : List ℕ) (place : ℕ) (nexts : List NextStep) (old mid new : List RaceFound) (n : ℕ) (all listed both : Bool) → AllSoFar exact kept sync place nexts old n now mid all
     → later ≡ now → Gathered now sync new → Keeps mid new → (listed ≡ true → BehindListed nexts new sync n (length nexts)) → (both ≡ true → (all ≡ true) × (listed ≡ true))
-    → AllSoFar kept sync nexts old (n + 1) later new both
-all_goes_on kept now later sync nexts old mid new n all listed both far same gathered keeps one joined = record {
+    → (exact → listed ≡ false → AreNextsAt now place nexts → IsUnshown now place) → (both ≡ false → (all ≡ false) ⊎ (listed ≡ false))
+    → AllSoFar exact kept sync place nexts old (n + 1) later new both
+all_goes_on exact kept now later sync place nexts old mid new n all listed both far same gathered keeps one joined missed split = record {
+  missed = λ e is. elim (split is) [
+    | inl first ↦ far.missed e first
+    | inr second ↦ missed_still kept now place nexts far.same (missed e second)
+  ];
   same = same ∙ far.same;
   gathered = subst (λ (ms : List MachineState). Gathered ms sync new) far.same gathered;
   keeps = keeps_more old mid new far.keeps keeps;
@@ -193,21 +211,29 @@ nexts_at kept races sync place m working nexts at same are listed other there =
     listed other (subst (λ (x : MachineState). AreNexts x nexts) (same ∙ one) are)
 
 -- ---- all kept machines
-pub record KeptSoFar (kept : List MachineState) (sync : List ℕ) (n : ℕ) (now : List MachineState) (races : List RaceFound) (all : Bool) : Type 0 where
+pub record KeptSoFar (exact : Type 0) (kept : List MachineState) (sync : List ℕ) (n : ℕ) (now : List MachineState) (races : List RaceFound) (all : Bool) : Type 0 where
   pub same : now ≡ kept
   pub gathered : Gathered kept sync races
   pub listed : all ≡ true → (i : ℕ) → i < n → AreListedAt kept races sync i
+  pub missed : exact → all ≡ false → AreShown kept → ⊥
 
-pub kept_begins : (kept : List MachineState) (sync : List ℕ) → KeptSoFar kept sync 0 kept [] true
-kept_begins kept sync = record { same = refl; gathered = none_gathered kept sync; listed = λ is i less. absurd (omega arith) }
+pub kept_begins : (exact : Type 0) (kept : List MachineState) (sync : List ℕ) → KeptSoFar exact kept sync 0 kept [] true
+kept_begins exact kept sync = record { same = refl; gathered = none_gathered kept sync; listed = λ is i less. absurd (omega arith); missed = λ e is. cc }
 
 at_still : (kept : List MachineState) (old new : List RaceFound) (sync : List ℕ) (i : ℕ) → Keeps old new → AreListedAt kept old sync i → AreListedAt kept new sync i
 at_still kept old new sync i keeps listed m at c d order = of_still old new sync m c d keeps (listed m at c d order)
 
-pub kept_goes_on : (kept now later : List MachineState) (sync : List ℕ) (mid new : List RaceFound) (n : ℕ) (all listed both : Bool) → KeptSoFar kept sync n now mid all
+pub kept_goes_on : (exact : Type 0) (kept now later : List MachineState) (sync : List ℕ) (mid new : List RaceFound) (n : ℕ) (all listed both : Bool) → KeptSoFar exact kept sync n now mid all
     → later ≡ now → Gathered now sync new → Keeps mid new → (listed ≡ true → AreListedAt now new sync n) → (both ≡ true → (all ≡ true) × (listed ≡ true))
-    → KeptSoFar kept sync (n + 1) later new both
-kept_goes_on kept now later sync mid new n all listed both far same gathered keeps one joined = record {
+    → n < length now → (exact → listed ≡ false → IsUnshown now n) → (both ≡ false → (all ≡ false) ⊎ (listed ≡ false))
+    → KeptSoFar exact kept sync (n + 1) later new both
+kept_goes_on exact kept now later sync mid new n all listed both far same gathered keeps one joined inside missed split = record {
+  missed = λ e is shown. elim (split is) [
+    | inl first ↦ far.missed e first shown
+    | inr second ↦
+        let here = subst AreShown (sym far.same) shown n inside in
+        missed e second here.0 here.1
+  ];
   same = same ∙ far.same;
   gathered = subst (λ (ms : List MachineState). Gathered ms sync new) far.same gathered;
   listed = λ is i below. elim (cases_lt i n) [
@@ -243,3 +269,64 @@ led_again kept schedule first last at runs w (m, there, shows) =
     let two : Some m ≡ Some first = sym there ∙ at in
     let one : m ≡ first = cc in
     runs w (subst (λ (x : MachineState). Shows x w) one shows)
+
+-- ---- what a search that isn't patient misses
+-- a race in what a kept machine shows is one of what the next steps touch that are known of it
+race_at : (kept : List MachineState) (sync : List ℕ) (i : ℕ) (m : MachineState) (c pc d qc : ℕ) (first second : NextStep) → slice_get kept i ≡ Some m → IsNextIn m c first → IsNextIn m d second → AreRacing kept sync i c pc d qc
+    → (pc ≡ first.pc) × (qc ≡ second.pc) × ((b : ℕ) × Clash first.accesses second.accesses b × (IsLeftOut sync b → ⊥))
+race_at kept sync i m c pc d qc first second at next next_too (w, shown, found) =
+    let two : Some shown.0 ≡ Some m = sym shown.1 ∙ at in
+    let one : shown.0 ≡ m = cc in
+    let shows : Shows m w = subst (λ (x : MachineState). Shows x w) one shown.2 in
+    let r = race_clash w c d first second found.0 (next w shows) (next_too w shows) pc qc found.1 in
+    (r.0, r.1, (found.0, r.2, found.2))
+
+pub not_at_first : (kept : List MachineState) (sync : List ℕ) (i : ℕ) (m : MachineState) (c pc d qc : ℕ) (first second : NextStep) → slice_get kept i ≡ Some m → IsNextIn m c first → IsNextIn m d second
+    → (first.pc ≡ pc → ⊥) → AreRacing kept sync i c pc d qc → ⊥
+not_at_first kept sync i m c pc d qc first second at next next_too not racing = not (sym (race_at kept sync i m c pc d qc first second at next next_too racing).0)
+
+pub not_at_second : (kept : List MachineState) (sync : List ℕ) (i : ℕ) (m : MachineState) (c pc d qc : ℕ) (first second : NextStep) → slice_get kept i ≡ Some m → IsNextIn m c first → IsNextIn m d second
+    → (second.pc ≡ qc → ⊥) → AreRacing kept sync i c pc d qc → ⊥
+not_at_second kept sync i m c pc d qc first second at next next_too not racing = not (sym (race_at kept sync i m c pc d qc first second at next next_too racing).1)
+
+pub no_byte : (kept : List MachineState) (sync : List ℕ) (i : ℕ) (m : MachineState) (c pc d qc : ℕ) (first second : NextStep) → slice_get kept i ≡ Some m → IsNextIn m c first → IsNextIn m d second
+    → ((b : ℕ) → Clash first.accesses second.accesses b → IsLeftOut sync b) → AreRacing kept sync i c pc d qc → ⊥
+no_byte kept sync i m c pc d qc first second at next next_too none racing =
+    let byte = (race_at kept sync i m c pc d qc first second at next next_too racing).2 in
+    byte.2 (none byte.0 byte.1)
+
+-- a byte for which two next steps race that isn't left out is a race of a kept machine
+pub missed_pair : (kept : List MachineState) (sync : List ℕ) (i : ℕ) (nexts : List NextStep) (c d : ℕ) (first second : NextStep) (cpu pc other other_pc : ℕ) → c < d → slice_get nexts c ≡ Some first → slice_get nexts d ≡ Some second
+    → cpu ≡ c → pc ≡ first.pc → other ≡ d → other_pc ≡ second.pc → ((b : ℕ) × Clash first.accesses second.accesses b × (IsLeftOut sync b → ⊥))
+    → (AreRacing kept sync i cpu pc other other_pc → ⊥) → AreNextsAt kept i nexts → IsUnshown kept i
+missed_pair kept sync i nexts c d first second cpu pc other other_pc order at at_too is_cpu is_pc is_other is_other_pc close none are w (m, there, shows) =
+    let all = are m there in
+    let race : IsRace w c first.pc d second.pc close.0 = clash_race w c d first second close.0 (all.each c first at w shows) (all.each d second at_too w shows) (less_apart c d order) close.1 in
+    let one = subst (λ (x : ℕ). IsRace w x first.pc d second.pc close.0) (sym is_cpu) race in
+    let two = subst (λ (x : ℕ). IsRace w cpu x d second.pc close.0) (sym is_pc) one in
+    let three = subst (λ (x : ℕ). IsRace w cpu pc x second.pc close.0) (sym is_other) two in
+    let four : IsRace w cpu pc other other_pc close.0 = subst (λ (x : ℕ). IsRace w cpu pc other x close.0) (sym is_other_pc) three in
+    none (w, (m, there, shows), (close.0, four, close.2))
+
+-- what is told where no race is found, or one is
+pub none_found : (o : Option RaceFound) (P : Type 0) → o ≡ None → IfNone o P → P
+none_found None P e h = h
+none_found (Some race) P e h = cc
+
+pub some_byte : (o : Option ℕ) (P : ℕ → Type 0) (Q : ℕ → Type 0) → is_none o ≡ false → IfSome o P → IfSome o Q → (b : ℕ) × P b × Q b
+some_byte None P Q e p q = cc
+some_byte (Some b) P Q e p q = (b, p, q)
+
+-- the next steps are those of the kept machine
+pub nexts_there : (kept : List MachineState) (i : ℕ) (m working : MachineState) (nexts : List NextStep) → slice_get kept i ≡ Some working → m ≡ working → AreNexts m nexts → AreNextsAt kept i nexts
+nexts_there kept i m working nexts at same are other there =
+    let two : Some working ≡ Some other = sym at ∙ there in
+    let one : working ≡ other = cc in
+    subst (λ (x : MachineState). AreNexts x nexts) (same ∙ one) are
+
+-- a schedule leads to each of them, so each shows a world
+pub led_are_shown : (kept : List MachineState) (w : World) → IsShownAt kept 0 w → AreLed kept → AreShown kept
+led_are_shown kept w first led i inside =
+    let way = led i inside in
+    let end = way.1 w first in
+    (end.0, end.2)

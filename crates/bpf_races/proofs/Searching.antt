@@ -1,5 +1,5 @@
 -- From a shape and its jobs to the races.
-use Rattle.std.proofs.Common.{◌≡◌, ◌∙◌, ℕ, ◌<◌, ◌⊎◌, Bool, true, false, List, Some, inl, inr, refl, sym, ap, subst}
+use Rattle.std.proofs.Common.{◌≡◌, ◌∙◌, ℕ, ◌<◌, ◌⊎◌, Bool, true, false, List, Some, length, inl, inr, refl, sym, ap, subst}
 use Rattle.std.specs.Prelude.{slice_get}
 use Rattle.bpf_machine.specs.Cover.{IsClosed}
 use Rattle.bpf_machine.specs.Laws.{IsFresh}
@@ -9,25 +9,47 @@ use Rattle.bpf_machine.specs.Race.{IsRace, RacesAreKept}
 use Rattle.bpf_machine.specs.Schedule.{World}
 use Rattle.bpf_explore.specs.Album.{IsShownAt}
 use Rattle.bpf_races.specs.Races.{RaceFound, AreListed, AreRaces, HaveAllRaces, IsListed, IsLeftOut}
-use Rattle.bpf_races.specs.Private.Searching.{Gathered, AreListedAt}
+use Rattle.bpf_explore.specs.Album.{AreApart, AreLed}
+use Rattle.bpf_explore.specs.Search.{is_whole, is_refused}
+use Rattle.bpf_explore.specs.declared.frontier.Extent.{Extent}
+use Rattle.bpf_explore.specs.declared.frontier.Extent.TheVariants.{Limited}
+use Rattle.bpf_explore.proofs.ExploreLaws.{limited_of, not_whole}
+use Rattle.bpf_explore.proofs.TrailLaws.{are_reached}
+use Rattle.bpf_races.specs.Private.Searching.{Gathered, AreListedAt, AreShown}
+use Rattle.bpf_races.proofs.GatherLaws.{led_are_shown}
 
 -- a race in what a kept machine shows is listed
 kept_listed : (kept : List MachineState) (races : List RaceFound) (sync : List ℕ) → ((i : ℕ) → AreListedAt kept races sync i) → (c pc d qc b : ℕ) → c < d
     → ((v : World) × ((i : ℕ) × (m : MachineState) × (slice_get kept i ≡ Some m) × Shows m v) × IsRace v c pc d qc b) → IsListed races c pc d qc ⊎ IsLeftOut sync b
 kept_listed kept races sync listed c pc d qc b order (v, (i, m, at, shows), race) = listed i m at c d order v shows pc qc b race
 
-module _ (kept : List MachineState) (w : World) (sync : List ℕ) (races : List RaceFound) (whole told all : Bool) (fresh : IsFresh w) (first : IsShownAt kept 0 w) (gathered : Gathered kept sync races)
-    (listed : told ≡ true → (i : ℕ) → AreListedAt kept races sync i) (joined : all ≡ true → (whole ≡ true) × (told ≡ true)) where
-  pub are_races : RacesAreKept → (whole ≡ true → IsClosed kept) → AreRaces false w sync races all
-  are_races law closed = record {
+module _ (kept : List MachineState) (w : World) (sync : List ℕ) (races : List RaceFound) (extent : Extent) (limit : ℕ) (whole refused told all : Bool) (fresh : IsFresh w) (first : IsShownAt kept 0 w) (gathered : Gathered kept sync races)
+    (listed : told ≡ true → (i : ℕ) → AreListedAt kept races sync i) (joined : all ≡ true → (whole ≡ true) × (told ≡ true)) (is_so : whole ≡ is_whole extent) (cut : refused ≡ is_refused extent) where
+  -- where memory was refused, they aren't all
+  cut_short : (b : Bool) → (b ≡ true → whole ≡ true) → refused ≡ true → b ≡ false
+  cut_short true h is =
+      let two : true ≡ false = sym (h refl) ∙ (is_so ∙ not_whole extent (sym cut ∙ is)) in
+      cc
+  cut_short false h is = refl
+
+  pub are_races : RacesAreKept → (whole ≡ true → IsClosed kept) → AreLed kept → AreApart kept → (told ≡ false → AreShown kept → ⊥) → (all ≡ false → (whole ≡ false) ⊎ (told ≡ false)) → (extent ≡ Limited → limit < length kept)
+      → AreRaces false w sync races all refused limit
+  are_races law closed led apart missed split met = record {
+    met = λ exact is uncut. (length kept, are_reached kept w first led apart, elim (split is) [
+      | inl part ↦ met (limited_of extent (sym is_so ∙ part) (sym cut ∙ uncut))
+      | inr lacking ↦ absurd (missed lacking (led_are_shown kept w first led))
+    ]);
+    short = cut_short all (λ is. (joined is).0);
     each = λ race there. gathered.each race there w first;
     once = gathered.once;
     complete = λ is schedule z runs c pc d qc b order race.
         kept_listed kept races sync (listed (joined is).1) c pc d qc b order (law kept w z schedule (closed (joined is).0) fresh (0, first.0, first.1, first.2) runs c pc d qc b race);
   }
 
-  pub are_races_patiently : PatientRacesAreKept → (whole ≡ true → IsClosedRichly kept) → AreRaces true w sync races all
+  pub are_races_patiently : PatientRacesAreKept → (whole ≡ true → IsClosedRichly kept) → AreRaces true w sync races all refused limit
   are_races_patiently law closed = record {
+    met = λ exact. cc;
+    short = cut_short all (λ is. (joined is).0);
     each = λ race there. gathered.each race there w first;
     once = gathered.once;
     complete = λ is schedule z runs none c pc d qc b order race.

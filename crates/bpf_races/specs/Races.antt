@@ -6,6 +6,7 @@ use Rattle.bpf_plain.specs.Shows.{LeadsTo}
 use Rattle.bpf_machine.specs.Schedule.{World, RunsSchedule, unrolled}
 use Rattle.bpf_machine.specs.Patient.{NoneRanOut}
 use Rattle.bpf_machine.specs.Race.{IsRace}
+use Rattle.bpf_explore.specs.Outcomes.{AreReached}
 use Rattle.bpf_races.specs.Touch.{IsAmong}
 
 -- the number of the map among whose values the address is
@@ -71,9 +72,14 @@ HaveAllRaces true w sync races =
     (schedule : List ℕ) (z : World) → RunsSchedule w schedule z → NoneRanOut z.jobs
     → AreListed races sync z
 
--- the races, and whether they are all
+-- the races, whether they are all, and whether memory was refused to the search. Of a search that isn't
+-- patient not all are told only where schedules lead to more machines than the limit, or where memory was
+-- refused before
 pub record AreRaces (patient : Bool) (w : World) (sync : List ℕ) (races : List RaceFound)
-    (all : Bool) : Type 0 where
+    (all refused : Bool) (limit : ℕ) : Type 0 where
   pub each : (race : RaceFound) → IsAmong races race → RacesBy w sync race
   pub once : AreOnce races
   pub complete : all ≡ true → HaveAllRaces patient w sync races
+  pub met : patient ≡ false → all ≡ false → refused ≡ false
+      → (states : ℕ) × AreReached w states × (limit < states)
+  pub short : refused ≡ true → all ≡ false

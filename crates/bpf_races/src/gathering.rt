@@ -1,12 +1,12 @@
 //! The races of the machines that a search keeps.
 
-ghost use Rattle.std.specs.Prelude.{◌≡◌, ◌<◌, ℕ, true, IfNone, IfOk, IfSome, OnOk, length};
+ghost use Rattle.std.specs.Prelude.{◌≡◌, ◌⊎◌, ◌<◌, ℕ, false, true, IfNone, IfOk, IfSome, OnOk, length};
 ghost use Rattle.bpf_machine.specs.Machine.{MachineState};
 ghost use Rattle.bpf_machine.specs.Schedule.{World};
 ghost use Rattle.bpf_explore.specs.Album.{IsShownAt};
 ghost use Rattle.bpf_races.specs.Touch.{Clash};
 ghost use Rattle.bpf_races.specs.Races.{IsBetween, IsLeftOut, IsListed, RacesBy};
-ghost use Rattle.bpf_races.specs.Private.Searching.{AreListedAt, AreListedIn, AreListedOf, AreNexts, Gathered, Keeps};
+ghost use Rattle.bpf_races.specs.Private.Searching.{AreListedAt, AreListedIn, AreListedOf, AreNexts, AreNextsAt, AreRacing, AreShown, Gathered, IsUnshown, Keeps};
 
 use crate::clash::racing_byte;
 use crate::found::{Race, is_listed};
@@ -16,7 +16,8 @@ use std::alloc::{AllocError, Global};
 
 /// Whether a CPU stands at this pc.
 fn stands_at(next: &Next, pc: u32) -> bool
-    ensures { result ≡ true → next.now.pc ≡ pc }
+    ensures there { result ≡ true → next.now.pc ≡ pc }
+    ensures elsewhere { result ≡ false → next.now.pc ≡ pc → ⊥ }
 {
     next.pc() == pc
 }
@@ -33,8 +34,10 @@ fn byte_between(first: &Next, second: &Next, sync: &[usize]) -> Option<u64>
 
 /// Whether they race for no byte, but for values of these maps.
 fn is_apart(first: &Next, second: &Next, sync: &[usize]) -> bool
-    ensures { result ≡ true → (b : ℕ) → Clash first.now.accesses second.now.accesses b
+    ensures apart { result ≡ true → (b : ℕ) → Clash first.now.accesses second.now.accesses b
         → IsLeftOut sync.now b }
+    ensures close { result ≡ false → (b : ℕ) × Clash first.now.accesses second.now.accesses b
+        × (IsLeftOut sync.now b → ⊥) }
 {
     byte_between(first, second, sync).is_none()
 }
@@ -57,6 +60,8 @@ fn race_by<S: Searched>(
     ensures between { IfOk result (λ found. IfSome found (IsBetween cpu pc other other_pc)) }
     ensures races { IfOk result (λ found. IfSome found (λ race. (w : World)
         → IsShownAt (S.kept search.old) 0 w → RacesBy w sync.now race)) }
+    ensures none { S.patient ≡ false → IfOk result (λ found. IfNone found
+        (AreRacing (S.kept search.old) sync.now place cpu pc other other_pc → ⊥)) }
 {
     let by = search.witness(place)?;
     let machine = search.current();
@@ -104,6 +109,8 @@ fn add_race<S: Searched>(
     ensures keeps { OnOk result (Keeps races.old.items races.new.items) }
     ensures listed { IfOk result (λ listed. listed ≡ true
         → IsListed races.new.items cpu pc other other_pc) }
+    ensures missed { S.patient ≡ false → IfOk result (λ listed. listed ≡ false
+        → AreRacing (S.kept search.old) sync.now place cpu pc other other_pc → ⊥) }
 {
     if is_listed(races, cpu, pc, other, other_pc) {
         return Ok(true);
@@ -144,6 +151,8 @@ fn add_pair<S: Searched>(
     ensures keeps { OnOk result (Keeps races.old.items races.new.items) }
     ensures listed { IfOk result (λ listed. listed ≡ true → (m : MachineState)
         → AreNexts m nexts.now → AreListedOf races.new.items sync.now m cpu other) }
+    ensures missed { S.patient ≡ false → IfOk result (λ listed. listed ≡ false
+        → AreNextsAt (S.kept search.old) place nexts.now → IsUnshown (S.kept search.old) place) }
 {
     let first = &nexts[cpu];
     let second = &nexts[other];
@@ -162,7 +171,8 @@ fn add_pair<S: Searched>(
 
 /// Whether both hold.
 pub(crate) fn both(first: bool, second: bool) -> bool
-    ensures { result ≡ true → (first ≡ true) × (second ≡ true) }
+    ensures both { result ≡ true → (first ≡ true) × (second ≡ true) }
+    ensures not { result ≡ false → (first ≡ false) ⊎ (second ≡ false) }
 {
     first && second
 }
@@ -186,6 +196,8 @@ fn add_races_of<S: Searched>(
     ensures listed { IfOk result (λ listed. listed ≡ true → (m : MachineState)
         → AreNexts m nexts.now → (d : ℕ) → cpu < d → d < length nexts.now
         → AreListedOf races.new.items sync.now m cpu d) }
+    ensures missed { S.patient ≡ false → IfOk result (λ listed. listed ≡ false
+        → AreNextsAt (S.kept search.old) place nexts.now → IsUnshown (S.kept search.old) place) }
 {
     let mut all = true;
     for other in cpu + 1..nexts.len() {
@@ -211,6 +223,8 @@ fn add_all<S: Searched>(
     ensures keeps { OnOk result (Keeps races.old.items races.new.items) }
     ensures listed { IfOk result (λ listed. listed ≡ true → (m : MachineState)
         → AreNexts m nexts.now → AreListedIn races.new.items sync.now m) }
+    ensures missed { S.patient ≡ false → IfOk result (λ listed. listed ≡ false
+        → AreNextsAt (S.kept search.old) place nexts.now → IsUnshown (S.kept search.old) place) }
 {
     let mut all = true;
     for cpu in 0..nexts.len() {
@@ -235,6 +249,8 @@ fn add_at<S: Searched>(
     ensures keeps { OnOk result (Keeps races.old.items races.new.items) }
     ensures listed { IfOk result (λ listed. listed ≡ true
         → AreListedAt (S.kept search.old) races.new.items sync.now place) }
+    ensures missed { S.patient ≡ false → IfOk result (λ listed. listed ≡ false
+        → IsUnshown (S.kept search.old) place) }
 {
     search.take(place)?;
     let nexts = watcher.nexts(search.current())?;
@@ -243,7 +259,7 @@ fn add_at<S: Searched>(
 }
 
 /// The races of all kept machines, and whether they are all: not where the way to one is longer than
-/// the budgets that jobs have.
+/// the budgets that jobs have, as only that of a patient search can be.
 pub fn gather_races<S: Searched>(
     alloc: Global,
     search: &mut S,
@@ -254,6 +270,8 @@ pub fn gather_races<S: Searched>(
     ensures gathered { IfOk result (λ r. Gathered (S.kept search.old) sync.now r.0.items) }
     ensures listed { IfOk result (λ r. r.1 ≡ true → (i : ℕ)
         → AreListedAt (S.kept search.old) r.0.items sync.now i) }
+    ensures missed { S.patient ≡ false → IfOk result (λ r. r.1 ≡ false
+        → AreShown (S.kept search.old) → ⊥) }
 {
     let mut races = Vec::new(alloc);
     let mut all = true;

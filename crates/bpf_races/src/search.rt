@@ -23,6 +23,8 @@ pub struct Races {
     pub list: Vec<Race>,
     /// Whether none is left out.
     pub all: bool,
+    /// Whether the search ended for want of memory.
+    pub refused: bool,
 }
 
 /// One for machines over stores of this shape.
@@ -49,7 +51,8 @@ pub fn find_races<O: Observer>(
     requires programs { All (λ job. job.program < vec_len programs) jobs.items }
     requires contexts { All (λ job. vec_len job.context ≤ max_context) jobs.items }
     ensures { IfOk result (λ r. AreRaces false
-        (first_world shape programs.items (map waiting jobs.items)) sync.now r.list.items r.all) }
+        (first_world shape programs.items (map waiting jobs.items)) sync.now r.list.items r.all
+        r.refused limit) }
 {
     bpf_machine::laws::races_are_kept();
     let mut watcher = make_watcher(alloc, &shape)?;
@@ -58,9 +61,12 @@ pub fn find_races<O: Observer>(
     let mut explorer = Explorer::new(alloc, shape, machine)?;
     let extent = explore(&mut explorer, limit, observer);
     let whole = extent.is_whole();
+    let refused = extent.is_refused();
+    explorer.leads();
+    explorer.apart();
     let (list, listed) = gather_races(alloc, &mut explorer, &mut watcher, sync)?;
     let all = both(whole, listed);
-    Ok(Races { list, all })
+    Ok(Races { list, all, refused })
 }
 
 /// The same of what schedules lead to while no job runs out of budget: machines that differ only in
@@ -78,7 +84,8 @@ pub fn find_races_patiently<O: Observer>(
     requires programs { All (λ job. job.program < vec_len programs) jobs.items }
     requires contexts { All (λ job. vec_len job.context ≤ max_context) jobs.items }
     ensures { IfOk result (λ r. AreRaces true
-        (first_world shape programs.items (map waiting jobs.items)) sync.now r.list.items r.all) }
+        (first_world shape programs.items (map waiting jobs.items)) sync.now r.list.items r.all
+        r.refused limit) }
 {
     bpf_machine::laws::patient_races_are_kept();
     let mut watcher = make_watcher(alloc, &shape)?;
@@ -87,7 +94,8 @@ pub fn find_races_patiently<O: Observer>(
     let mut explorer = PatientExplorer::new(alloc, shape, machine)?;
     let extent = explore(&mut explorer, limit, observer);
     let whole = extent.is_whole();
+    let refused = extent.is_refused();
     let (list, listed) = gather_races(alloc, &mut explorer, &mut watcher, sync)?;
     let all = both(whole, listed);
-    Ok(Races { list, all })
+    Ok(Races { list, all, refused })
 }

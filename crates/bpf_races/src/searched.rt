@@ -1,6 +1,6 @@
 //! Searches whose kept machines are gone through.
 
-ghost use Rattle.std.specs.Prelude.{◌≡◌, ◌<◌, Some, IfOk, List, OnOk, length, slice_get};
+ghost use Rattle.std.specs.Prelude.{◌≡◌, ◌<◌, Bool, false, Some, IfOk, List, OnOk, length, slice_get};
 ghost use Rattle.bpf_machine.specs.Machine.{MachineState};
 ghost use Rattle.bpf_machine.specs.Schedule.{unrolled};
 ghost use Rattle.bpf_races.specs.Searched.{IsLedTo};
@@ -16,6 +16,9 @@ pub trait Searched {
 
     /// The one to work with.
     ghost working: { Self → MachineState };
+
+    /// The search is patient: what schedules lead to may have fewer steps left than what is kept.
+    ghost patient: { Bool };
 
     /// How many are kept.
     fn count(&self) -> usize
@@ -37,13 +40,19 @@ pub trait Searched {
         requires { place < length (kept self.old) }
         ensures leads { IfOk result
             (λ by. IsLedTo (kept self.old) (unrolled by.items) (working self.new)) }
+        ensures there { patient ≡ false
+            → OnOk result (slice_get (kept self.old) place ≡ Some (working self.new)) }
         ensures same { kept self.new ≡ kept self.old };
 }
 
 impl Searched for Explorer {
+    ghost use Rattle.std.specs.Prelude.{false};
+
     ghost kept = { λ e. e.kept };
 
     ghost working = { λ e. e.machine };
+
+    ghost patient = { false };
 
     fn count(&self) -> usize {
         self.len()
@@ -65,9 +74,13 @@ impl Searched for Explorer {
 }
 
 impl Searched for PatientExplorer {
+    ghost use Rattle.std.specs.Prelude.{true};
+
     ghost kept = { λ e. e.kept };
 
     ghost working = { λ e. e.machine };
+
+    ghost patient = { true };
 
     fn count(&self) -> usize {
         self.len()

@@ -8,7 +8,7 @@ use Rattle.bpf_races.specs.Sync.{AreMapsOf}
 use Rattle.bpf_run.specs.Racing.{IsRacesFile, TellsRaces}
 use Rattle.bpf_run.specs.declared.reply.Reply.TheVariants as reply
 
-pub raced : (patient : Bool) (sync : List (List ℕ)) (text : List ℕ) (file : RunFile) (numbers : List ℕ) (printed : String Global) (any all : Bool)
-    → IsRunFile text (Ok (file_of file)) → AreMapsOf (map string_bytes file.names.items) sync numbers → TellsRaces patient (file_of file) numbers (string_bytes printed) any all
-    → IsRacesFile patient sync text (reply.Outcomes printed any all)
-raced patient sync text file numbers printed any all said maps told = (file_of file, numbers, said, maps, told)
+pub raced : (patient : Bool) (limit : ℕ) (sync : List (List ℕ)) (text : List ℕ) (file : RunFile) (numbers : List ℕ) (printed : String Global) (any all : Bool)
+    → IsRunFile text (Ok (file_of file)) → AreMapsOf (map string_bytes file.names.items) sync numbers → TellsRaces patient limit (file_of file) numbers (string_bytes printed) any all
+    → IsRacesFile patient limit sync text (reply.Outcomes printed any all)
+raced patient limit sync text file numbers printed any all said maps told = (file_of file, numbers, said, maps, told)

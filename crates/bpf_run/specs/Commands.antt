@@ -136,7 +136,7 @@ IsAnswer (command.Explore options) text r = IsExploredFile options.patient optio
 IsAnswer (command.Show options) text r =
     IsShownFile options.search.patient options.search.limit options.outcome text r
 IsAnswer (command.Races options) text r =
-    IsRacesFile options.search.patient (map string_bytes options.sync.items) text r
+    IsRacesFile options.search.patient options.search.limit (map string_bytes options.sync.items) text r
 IsAnswer (command.Check options) text r = IsCheckedFile options.patient options.limit text r
 
 -- it asks for no workers

@@ -17,20 +17,22 @@ abbrev pub is_any_race : List RaceFound → Bool
 is_any_race races = not (length races == 0)
 
 -- what is told of the races of the file's jobs, run over a new store of its maps, but for those at
--- values of the maps of these numbers: the races and whether they are all, and whether there is one
-abbrev pub TellsRaces : (patient : Bool) → File → (numbers printed : List ℕ) → (raced all : Bool)
-    → Type 0
-TellsRaces patient f numbers printed raced all = (races : List RaceFound)
-    × AreRaces patient (first_world_of f) numbers races all
+-- values of the maps of these numbers: the races and whether they are all, by this limit or where memory
+-- was refused to the search, and whether there is one
+abbrev pub TellsRaces : (patient : Bool) → (limit : ℕ) → File → (numbers printed : List ℕ)
+    → (raced all : Bool) → Type 0
+TellsRaces patient limit f numbers printed raced all = (races : List RaceFound) × (refused : Bool)
+    × AreRaces patient (first_world_of f) numbers races all refused limit
     × (printed ≡ races_text f.names races all) × (raced ≡ is_any_race races)
 
 -- `explore --races`: those of the jobs that the text says, but for values of the maps that are named;
 -- or the file's first refusal; or that one of the names is no map's
-abbrev pub IsRacesFile : (patient : Bool) → (sync : List (List ℕ)) → List ℕ → Reply → Type 0
-IsRacesFile patient sync text (reply.Outcomes printed raced all) = (f : File) × (numbers : List ℕ)
+abbrev pub IsRacesFile : (patient : Bool) → (limit : ℕ) → (sync : List (List ℕ)) → List ℕ → Reply
+    → Type 0
+IsRacesFile patient limit sync text (reply.Outcomes printed raced all) = (f : File) × (numbers : List ℕ)
     × IsRunFile text (Ok f) × AreMapsOf f.names sync numbers
-    × TellsRaces patient f numbers (string_bytes printed) raced all
-IsRacesFile patient sync text (reply.Refused refusal.NoMap) =
+    × TellsRaces patient limit f numbers (string_bytes printed) raced all
+IsRacesFile patient limit sync text (reply.Refused refusal.NoMap) =
     (f : File) × IsRunFile text (Ok f) × IsAnyUnknown f.names sync
-IsRacesFile patient sync text (reply.Refused r) = RefusesFile text r
-IsRacesFile patient sync text _ = ⊥
+IsRacesFile patient limit sync text (reply.Refused r) = RefusesFile text r
+IsRacesFile patient limit sync text _ = ⊥

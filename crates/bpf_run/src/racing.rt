@@ -51,7 +51,8 @@ fn races_of<O: Observer>(
     requires programs { All (λ job. job.program < vec_len programs) jobs.items }
     requires contexts { All (λ job. vec_len job.context ≤ max_context) jobs.items }
     ensures { IfOk result (λ r. AreRaces options.patient
-        (first_world shape programs.items (map waiting jobs.items)) sync.now r.list.items r.all) }
+        (first_world shape programs.items (map waiting jobs.items)) sync.now r.list.items r.all
+        r.refused options.limit) }
 {
     let limit = options.limit as usize;
     if options.patient {
@@ -70,8 +71,8 @@ fn tell_races<O: Observer>(
     observer: &mut O,
 ) -> Result<Told, AllocError>
     requires { IsRunnable file }
-    ensures { IfOk result (λ told. TellsRaces options.patient (file_of file) sync.now
-        (string_bytes told.text) told.raced told.all) }
+    ensures { IfOk result (λ told. TellsRaces options.patient options.limit (file_of file)
+        sync.now (string_bytes told.text) told.raced told.all) }
 {
     let RunFile {
         shape,
@@ -95,8 +96,8 @@ pub fn race_file<O: Observer>(
     text: &str,
     observer: &mut O,
 ) -> Reply
-    ensures { IsRacesFile options.search.patient (map string_bytes options.sync.items) text.now
-        result }
+    ensures { IsRacesFile options.search.patient options.search.limit
+        (map string_bytes options.sync.items) text.now result }
 {
     let file = match file_in(alloc, text) {
         Ok(file) => file,

@@ -21,6 +21,24 @@ pub record Gathered (kept : List MachineState) (sync : List ℕ) (races : List R
         → RacesBy w sync race
     pub once : AreOnce races
 
+-- the next steps of the two CPUs at these pcs race in what the i-th kept machine shows, at a byte that
+-- isn't left out
+abbrev pub AreRacing : List MachineState → List ℕ → ℕ → ℕ → ℕ → ℕ → ℕ → Type 0
+AreRacing kept sync i c pc d qc = (w : World) × IsShownAt kept i w
+    × ((b : ℕ) × IsRace w c pc d qc b × (IsLeftOut sync b → ⊥))
+
+-- these are the next steps of the CPUs of the i-th kept machine
+abbrev pub AreNextsAt : List MachineState → ℕ → List NextStep → Type 0
+AreNextsAt kept i nexts = (m : MachineState) → slice_get kept i ≡ Some m → AreNexts m nexts
+
+-- the i-th kept machine shows no world
+abbrev pub IsUnshown : List MachineState → ℕ → Type 0
+IsUnshown kept i = (w : World) → IsShownAt kept i w → ⊥
+
+-- each shows one
+abbrev pub AreShown : List MachineState → Type 0
+AreShown kept = (i : ℕ) → i < length kept → (w : World) × IsShownAt kept i w
+
 -- none is lost
 abbrev pub Keeps : List RaceFound → List RaceFound → Type 0
 Keeps old new = (race : RaceFound) → IsAmong old race → IsAmong new race

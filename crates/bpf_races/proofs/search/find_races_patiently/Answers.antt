@@ -42,7 +42,7 @@ returns g c =
     let w : World = first_world c.args.shape programs (map waiting jobs) in
     let shows = subst (λ (h : Shape). Shows m (first_world h programs (map waiting jobs))) same c.in_ok-machine.ensures in
     let kept = c.explore-extent.new.frontier.kept in
-    are_races_patiently kept w c.args.sync.now c.in_ok-list.list.items c.is_whole-whole.result c.in_ok-list.listed c.both-all.result
+    are_races_patiently kept w c.args.sync.now c.in_ok-list.list.items c.explore-extent.result c.args.limit c.is_whole-whole.result c.is_refused-refused.result c.in_ok-list.listed c.both-all.result
     (first_fresh c.args.shape m programs jobs c.requires.contexts shows)
     (still_first c.in_ok-explorer.explorer.kept kept m w c.in_ok-explorer.ensures.first c.explore-extent.ensures.extends shows)
-    c.in_ok-list.ensures.gathered c.in_ok-list.ensures.listed c.both-all.ensures c.patient_races_are_kept.ensures (λ is. c.explore-extent.ensures.whole (whole_of c.explore-extent.result (sym c.is_whole-whole.ensures ∙ is)))
+    c.in_ok-list.ensures.gathered c.in_ok-list.ensures.listed c.both-all.ensures.both c.is_whole-whole.ensures c.is_refused-refused.ensures c.patient_races_are_kept.ensures (λ is. c.explore-extent.ensures.whole (whole_of c.explore-extent.result (sym c.is_whole-whole.ensures ∙ is)))
