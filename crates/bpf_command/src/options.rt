@@ -177,6 +177,9 @@ Exit status:
   2  the command line is at fault, or there is no such code";
 
 const DEBUG_NOTES: &str = "\
+Commands stand behind the run file and a line '---'. A FILE without that line has them from standard
+input, each answered before more is read.
+
 The commands, one a line, with a CPU C, a pc P, an address A and a number N of bytes (1 to 256):
   break C P   'go' stops before C executes the instruction at P
   delete C P  takes that breakpoint back

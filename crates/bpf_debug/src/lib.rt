@@ -26,5 +26,5 @@ mod watch;
 
 pub use command::Command;
 pub use error::DebugError;
-pub use script::{Answer, run_script};
+pub use script::{Answer, answer, run_script};
 pub use session::Session;

@@ -24,7 +24,7 @@ fn fitted(text: String) -> String
 }
 
 /// What a line is answered, in no more memory than its text needs.
-fn answer(alloc: Global, session: &mut Session, line: &[u8]) -> Answer
+pub fn answer(alloc: Global, session: &mut Session, line: &[u8]) -> Answer
     ensures { (x : Scene) → IsShown session.old x
         → (y : Scene) × AnswersLine x line.now (answer_of result) y × IsShown session.new y }
 {

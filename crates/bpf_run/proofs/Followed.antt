@@ -33,24 +33,24 @@ exits words asked (ending.Shown e) P U R accepted named refused performed printe
 exits words asked ending.NotText P U R accepted named refused performed printed = tt
 exits words asked (ending.Misused misuse) P U R accepted named refused performed printed = tt
 
-shows : (words : List Text) (asked : Result Request CommandError) (end : Ending) (U V : Type 0) → IfErr asked (Refuses words)
-    → IfShown end (λ e. (asked ≡ Err (error.Shown e)) × U × V) → IfShown end (λ e. Refuses words (error.Shown e) × U × V)
-shows words asked (ending.Exit status) U V refused shown = tt
-shows words asked (ending.Shown e) U V refused shown = (subst (λ (a : Result Request CommandError). IfErr a (Refuses words)) shown.0 refused, shown.1, shown.2)
-shows words asked ending.NotText U V refused shown = tt
-shows words asked (ending.Performed done) U V refused shown = tt
-shows words asked (ending.Explained language done) U V refused shown = tt
-shows words asked (ending.Misused misuse) U V refused shown = tt
+shows : (words : List Text) (asked : Result Request CommandError) (end : Ending) (U V W : Type 0) → IfErr asked (Refuses words)
+    → IfShown end (λ e. (asked ≡ Err (error.Shown e)) × U × V × W) → IfShown end (λ e. Refuses words (error.Shown e) × U × V × W)
+shows words asked (ending.Exit status) U V W refused shown = tt
+shows words asked (ending.Shown e) U V W refused shown = (subst (λ (a : Result Request CommandError). IfErr a (Refuses words)) shown.0 refused, shown.1, shown.2, shown.3)
+shows words asked ending.NotText U V W refused shown = tt
+shows words asked (ending.Performed done) U V W refused shown = tt
+shows words asked (ending.Explained language done) U V W refused shown = tt
+shows words asked (ending.Misused misuse) U V W refused shown = tt
 
-lacks : (words : List Text) (asked : Result Request CommandError) (end : Ending) (U V : Type 0) → IfErr asked (Refuses words)
-    → IfMisused end (λ u. (asked ≡ Err (error_of u)) × U × V) → IfMisused end (λ u. Refuses words (error_of u) × U × V)
-lacks words asked (ending.Exit status) U V refused lacking = tt
-lacks words asked (ending.Performed done) U V refused lacking = tt
-lacks words asked (ending.Explained language done) U V refused lacking = tt
-lacks words asked (ending.Shown e) U V refused lacking = tt
-lacks words asked ending.NotText U V refused lacking = tt
-lacks words asked (ending.Misused misuse) U V refused lacking =
-    (subst (λ (a : Result Request CommandError). IfErr a (Refuses words)) lacking.0 refused, lacking.1, lacking.2)
+lacks : (words : List Text) (asked : Result Request CommandError) (end : Ending) (U V W : Type 0) → IfErr asked (Refuses words)
+    → IfMisused end (λ u. (asked ≡ Err (error_of u)) × U × V × W) → IfMisused end (λ u. Refuses words (error_of u) × U × V × W)
+lacks words asked (ending.Exit status) U V W refused lacking = tt
+lacks words asked (ending.Performed done) U V W refused lacking = tt
+lacks words asked (ending.Explained language done) U V W refused lacking = tt
+lacks words asked (ending.Shown e) U V W refused lacking = tt
+lacks words asked ending.NotText U V W refused lacking = tt
+lacks words asked (ending.Misused misuse) U V W refused lacking =
+    (subst (λ (a : Result Request CommandError). IfErr a (Refuses words)) lacking.0 refused, lacking.1, lacking.2, lacking.3)
 
 -- the words are the texts of some values, and `asked` is what the command line answers to them
 module _ (X A E : Type 0) (text : X → Text) (items_of : A → List X) (words : Result A E) (v : A) (is : words ≡ Ok v)
@@ -67,16 +67,16 @@ module _ (X A E : Type 0) (text : X → Text) (items_of : A → List X) (words :
       subst (λ (w : Result A E). IfExit end (λ status stats. IfOk w (λ w. ((request : Request) × IsAsked (map text (items_of w)) request × P request status stats)
       ⊎ ((e : CommandError) × Refuses (map text (items_of w)) e × U × (stats ≡ []) × R e status)))) (sym is) known
 
-  pub shown_of : (U V : Type 0) → IfErr asked (Refuses (map text given)) → IfShown end (λ e. (asked ≡ Err (error.Shown e)) × U × V)
-      → IfShown end (λ e. IsOkAnd words (λ w. Refuses (map text (items_of w)) (error.Shown e)) × U × V)
-  shown_of U V refused shown =
-      let known = subst (λ (xs : List X). IfShown end (λ e. Refuses (map text xs) (error.Shown e) × U × V)) same
-      (shows (map text given) asked end U V refused shown) in
-      subst (λ (w : Result A E). IfShown end (λ e. IsOkAnd w (λ w. Refuses (map text (items_of w)) (error.Shown e)) × U × V)) (sym is) known
+  pub shown_of : (U V W : Type 0) → IfErr asked (Refuses (map text given)) → IfShown end (λ e. (asked ≡ Err (error.Shown e)) × U × V × W)
+      → IfShown end (λ e. IsOkAnd words (λ w. Refuses (map text (items_of w)) (error.Shown e)) × U × V × W)
+  shown_of U V W refused shown =
+      let known = subst (λ (xs : List X). IfShown end (λ e. Refuses (map text xs) (error.Shown e) × U × V × W)) same
+      (shows (map text given) asked end U V W refused shown) in
+      subst (λ (w : Result A E). IfShown end (λ e. IsOkAnd w (λ w. Refuses (map text (items_of w)) (error.Shown e)) × U × V × W)) (sym is) known
 
-  pub lacked : (U V : Type 0) → IfErr asked (Refuses (map text given)) → IfMisused end (λ u. (asked ≡ Err (error_of u)) × U × V)
-      → IfMisused end (λ u. IsOkAnd words (λ w. Refuses (map text (items_of w)) (error_of u)) × U × V)
-  lacked U V refused lacking =
-      let known = subst (λ (xs : List X). IfMisused end (λ u. Refuses (map text xs) (error_of u) × U × V)) same
-      (lacks (map text given) asked end U V refused lacking) in
-      subst (λ (w : Result A E). IfMisused end (λ u. IsOkAnd w (λ w. Refuses (map text (items_of w)) (error_of u)) × U × V)) (sym is) known
+  pub lacked : (U V W : Type 0) → IfErr asked (Refuses (map text given)) → IfMisused end (λ u. (asked ≡ Err (error_of u)) × U × V × W)
+      → IfMisused end (λ u. IsOkAnd words (λ w. Refuses (map text (items_of w)) (error_of u)) × U × V × W)
+  lacked U V W refused lacking =
+      let known = subst (λ (xs : List X). IfMisused end (λ u. Refuses (map text xs) (error_of u) × U × V × W)) same
+      (lacks (map text given) asked end U V W refused lacking) in
+      subst (λ (w : Result A E). IfMisused end (λ u. IsOkAnd w (λ w. Refuses (map text (items_of w)) (error_of u)) × U × V × W)) (sym is) known

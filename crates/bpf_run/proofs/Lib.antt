@@ -14,3 +14,5 @@ pub mod Cutting
 pub mod ScriptReplies
 pub mod WrittenAnswers
 pub mod ListedAgain
+mod Opened
+mod Talked

@@ -12,3 +12,5 @@ pub mod Diagnostic
 pub mod Laws
 pub mod Objects
 pub mod Program
+pub mod Answering
+pub mod Debugging

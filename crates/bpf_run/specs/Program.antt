@@ -4,6 +4,7 @@ use Rattle.std.specs.Prelude.{◌≡◌, ℕ, Bool, List, Option, Some, None, If
 use Rattle.clap.specs.Words.{Text, fault_of}
 use Rattle.clap.specs.declared.error.Error.{Error}
 use Rattle.bpf_lines.specs.declared.hex_text.HexError.TheVariants as hex_error
+use Rattle.bpf_debug.specs.Session.{Scene}
 use Rattle.bpf_command.specs.CommandLine.{ebpf}
 use Rattle.bpf_command.specs.Names.{AsksBy, as_flags}
 use Rattle.bpf_command.specs.declared.command.Command.{Command}
@@ -13,6 +14,7 @@ use Rattle.bpf_command.specs.declared.command_line.CommandError.{CommandError}
 use Rattle.bpf_command.specs.declared.command_line.CommandError.TheVariants as command_error
 use Rattle.bpf_run.specs.Answer.{Prints, PrintsPage, stats_of}
 use Rattle.bpf_run.specs.Commands.{IsReply, is_unread}
+use Rattle.bpf_run.specs.Debugging.{Debugs, asked_talk}
 use Rattle.bpf_run.specs.Objects.{IsShown}
 use Rattle.bpf_run.specs.Several.{AreChecked}
 use Rattle.bpf_run.specs.declared.program.Ending.{Ending}
@@ -37,24 +39,42 @@ abbrev pub input_of : (standard : Option (List ℕ)) → (files : Text → Optio
 input_of standard files None = standard
 input_of standard files (Some name) = files name
 
--- a command that is asked for is performed of its input, with `--explain` as without it; several
--- files are checked; of either, with `--json` the objects of what is printed are written; of a page
--- that is asked for nothing is read
-abbrev pub Follows : Request → (unread : Type 0) → (standard : Option (List ℕ))
+-- `debug` of a FILE may hold a conversation; each other command is performed of its input, with
+-- `--json` the objects of what is printed are written, and the terminal is left alone
+abbrev pub Does : Command → (json : Bool) → Option Text → (talk : Option (Bool × Bool × Text))
+    → (silent : Type 0) → (talks : (echo strict : Bool) → Scene → Status → Type 0)
+    → (standard : Option (List ℕ)) → (files : Text → Option (List ℕ)) → (read_failed : Bool)
+    → (old new : Option (List ℕ)) → (write_failed : Bool) → Status → (stats : List ℕ) → Type 0
+Does command json file (Some (echo, strict, name)) silent talks standard files read_failed old new
+    write_failed status stats =
+    Debugs echo strict (files name) silent (talks echo strict) read_failed old new write_failed
+    status stats
+Does command json file None silent talks standard files read_failed old new write_failed status
+    stats =
+    silent × IsShown json (λ before after cut answered.
+    Performs command (input_of standard files file) read_failed before after cut answered stats)
+    old new write_failed status
+
+-- a command that is asked for is done, with `--explain` as without it; several files are checked,
+-- and with `--json` the objects of what is printed are written; of a page that is asked for nothing
+-- is read
+abbrev pub Follows : Request → (unread silent : Type 0)
+    → (talks : (echo strict : Bool) → Scene → Status → Type 0) → (standard : Option (List ℕ))
     → (files : Text → Option (List ℕ)) → (read_failed : Bool)
     → (old new : Option (List ℕ)) → (write_failed : Bool) → Status → (stats : List ℕ) → Type 0
-Follows (request.Perform command file explain json) unread standard files read_failed old new
+Follows (request.Perform command file explain json) unread silent talks standard files read_failed
+    old new write_failed status stats =
+    Does command json (option_map string_bytes file)
+    (asked_talk command (option_map string_bytes file) json) silent talks standard files read_failed
+    old new write_failed status stats
+Follows (request.CheckAll search names json) unread silent talks standard files read_failed old new
     write_failed status stats =
-    IsShown json (λ before after cut answered.
-    Performs command (input_of standard files (option_map string_bytes file)) read_failed before
-    after cut answered stats) old new write_failed status
-Follows (request.CheckAll search names json) unread standard files read_failed old new
-    write_failed status stats =
-    (r : Reply)
+    silent × ((r : Reply)
     × AreChecked search.patient search.limit files (map string_bytes names.items) r
-    × IsShown json (Prints r) old new write_failed status × (stats ≡ [])
-Follows (request.Page code) unread standard files read_failed old new write_failed status stats =
-    unread × PrintsPage code old new write_failed status × (stats ≡ [])
+    × IsShown json (Prints r) old new write_failed status × (stats ≡ []))
+Follows (request.Page code) unread silent talks standard files read_failed old new write_failed
+    status stats =
+    silent × unread × PrintsPage code old new write_failed status × (stats ≡ [])
 
 -- the words ask for this, and `clap` finds no fault in them
 abbrev pub IsAsked : List Text → Request → Type 0

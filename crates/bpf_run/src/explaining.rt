@@ -203,6 +203,15 @@ fn explanation(alloc: Global, subject: &Subject, done: &Performed) -> Result<Str
     advise(alloc, &input, printed.as_str(), &details)
 }
 
+/// Why reads failed, of those that did.
+#[derive(Clone, Copy)]
+pub struct Failures<'a> {
+    /// Of standard input, or of the file in its place.
+    pub source: Option<&'a io::Error>,
+    /// Of the commands of a conversation.
+    pub terminal: Option<&'a io::Error>,
+}
+
 /// Explains the refusals and faults of an answer, unless it couldn't be printed: first why the input
 /// couldn't be read, if it couldn't.
 pub fn explain<P: Eprint>(
@@ -210,12 +219,15 @@ pub fn explain<P: Eprint>(
     alloc: Global,
     question: &Question,
     done: &Performed,
-    failure: Option<&io::Error>,
+    failures: Failures,
 ) {
     if done.status == Status::Failed {
         return;
     }
-    if let Some(failure) = failure {
+    if let Some(failure) = failures.terminal {
+        let _ = eprintln!(rt; "standard input: {failure}");
+    }
+    if let Some(failure) = failures.source {
         let name = question
             .file
             .as_ref()

@@ -1,7 +1,9 @@
 //! The program `ebpf`: reads its words, does what they name, and nothing more.
 #![tactic(auto)]
 
+pub mod answering;
 pub mod checking;
+pub mod debugging;
 pub mod engine;
 mod explaining;
 pub mod exploring;
@@ -25,10 +27,13 @@ pub mod script;
 pub mod several;
 pub mod stream;
 
+use bpf_talk::Console;
+use explaining::Failures;
 use program::{end, program};
 use reader::Reader;
 use recorder::Recorder;
 use std::env::Env;
+use std::io::IsTerminal;
 use std::process::ExitCode;
 use std::{env, io};
 
@@ -41,6 +46,20 @@ fn words(rt: &(impl Env + AllocGlobal)) -> io::Result<Vec<String>> {
 fn main(rt: HostRuntime) -> ExitCode {
     let mut source = Reader::new(&rt, rt.stdin());
     let mut sink = Recorder::new(rt.stdout());
-    let ending = program(&rt, rt.alloc(), words(&rt), &mut source, &mut sink);
-    ExitCode::from(end(&rt, rt.alloc(), ending, source.failure()))
+    let input = rt.stdin();
+    let prompts = input.is_terminal();
+    let mut terminal = Console::new(&rt, input, rt.stdout(), prompts);
+    let ending = program(
+        &rt,
+        rt.alloc(),
+        words(&rt),
+        &mut source,
+        &mut sink,
+        &mut terminal,
+    );
+    let failures = Failures {
+        source: source.failure(),
+        terminal: terminal.failure(),
+    };
+    ExitCode::from(end(&rt, rt.alloc(), ending, failures))
 }

@@ -7,12 +7,14 @@ ghost use Rattle.bpf_command.specs.Names.{Refuses};
 ghost use Rattle.bpf_command.specs.declared.command.Request.{Request};
 ghost use Rattle.bpf_command.specs.declared.command_line.CommandError.{CommandError};
 ghost use Rattle.bpf_run.specs.Objects.{IsShown};
-ghost use Rattle.bpf_run.specs.Answer.{Prints, exit_status};
-ghost use Rattle.bpf_run.specs.Program.{Follows, error_of, IfExit, IfNotText, IfShown, IfMisused, IsAsked, input_of, IsPrintedAs, Performs};
+ghost use Rattle.bpf_run.specs.Answer.{Prints, exit_status, stats_of};
+ghost use Rattle.bpf_run.specs.Debugging.{Converses, asked_talk};
+ghost use Rattle.bpf_run.specs.Program.{Does, Follows, error_of, IfExit, IfNotText, IfShown, IfMisused, IsAsked, IsPrintedAs};
 ghost use Rattle.bpf_run.specs.declared.program.Misuse.{Misuse};
 ghost use Rattle.bpf_run.specs.declared.refusal.Refusal.{Refusal};
 
-use crate::explaining::{Question, Subject, explain};
+use crate::debugging::{asked_talk, debug_named};
+use crate::explaining::{Failures, Question, Subject, explain};
 use crate::objects::{answer_as, perform_as};
 use crate::perform::{Performed, answer, print_page};
 use crate::progress::{Aside, Teller};
@@ -22,6 +24,7 @@ use crate::several::check_files;
 use crate::stream::{Sink, Source};
 use bpf_command::{Command, CommandError, Request, request_of};
 use bpf_lines::HexError;
+use bpf_talk::Terminal;
 use clap::error;
 use std::alloc::Global;
 use std::io;
@@ -118,8 +121,37 @@ For more information, try 'ebpf explore --help'.";
 /// The exit status after a fault of the command line.
 pub const USAGE: u8 = 2;
 
+/// Performs a command, in a conversation where one is asked for.
+fn perform_command<T: Threads + Wait + Sync + Aside, R: Source, W: Sink, D: Terminal>(
+    rt: &T,
+    alloc: Global,
+    command: Command,
+    file: Option<&str>,
+    json: bool,
+    source: &mut R,
+    sink: &mut W,
+    terminal: &mut D,
+) -> Performed
+    requires readable { R.has_failed source.old ≡ false }
+    requires writable { W.has_failed sink.old ≡ false }
+    requires hears { D.is_unread terminal.old ≡ false }
+    requires tells { D.has_failed terminal.old ≡ false }
+    ensures { Does command json (option_map (λ s. s.now) file.entry)
+        (asked_talk command (option_map (λ s. s.now) file.entry) json)
+        (terminal.new ≡ terminal.old) (Converses (D.passes terminal.old terminal.new)
+        (D.is_unread terminal.new) (D.has_failed terminal.new))
+        (R.remaining source.old) (R.file source.old) (R.has_failed source.new)
+        (W.contents sink.old) (W.contents sink.new) (W.has_failed sink.new) result.status
+        (stats_of result.reply) }
+{
+    match asked_talk(&command, file, json) {
+        Some(asked) => debug_named(alloc, asked, source, sink, terminal),
+        None => perform_as(json, rt, alloc, command, file, source, sink),
+    }
+}
+
 /// Performs a command. What it writes and its status don't depend on whether it is explained.
-fn perform_for<T: Threads + Wait + Sync + Aside, R: Source, W: Sink>(
+fn perform_for<T: Threads + Wait + Sync + Aside, R: Source, W: Sink, D: Terminal>(
     rt: &T,
     alloc: Global,
     command: Command,
@@ -128,14 +160,18 @@ fn perform_for<T: Threads + Wait + Sync + Aside, R: Source, W: Sink>(
     json: bool,
     source: &mut R,
     sink: &mut W,
+    terminal: &mut D,
 ) -> Ending
     requires readable { R.has_failed source.old ≡ false }
     requires writable { W.has_failed sink.old ≡ false }
-    ensures performed { IfExit result (λ status stats. IsShown json
-        (λ old new failed answered. Performs command
-        (input_of (R.remaining source.old) (R.file source.old) (option_map string_bytes file))
-        (R.has_failed source.new) old new failed answered stats)
-        (W.contents sink.old) (W.contents sink.new) (W.has_failed sink.new) status) }
+    requires hears { D.is_unread terminal.old ≡ false }
+    requires tells { D.has_failed terminal.old ≡ false }
+    ensures performed { IfExit result (λ status stats. Does command json
+        (option_map string_bytes file) (asked_talk command (option_map string_bytes file) json)
+        (terminal.new ≡ terminal.old) (Converses (D.passes terminal.old terminal.new)
+        (D.is_unread terminal.new) (D.has_failed terminal.new))
+        (R.remaining source.old) (R.file source.old) (R.has_failed source.new)
+        (W.contents sink.old) (W.contents sink.new) (W.has_failed sink.new) status stats) }
     ensures shown { IfShown result (λ e. ⊥) }
     ensures text { IfNotText result ⊥ }
     ensures misused { IfMisused result (λ _. ⊥) }
@@ -146,7 +182,7 @@ fn perform_for<T: Threads + Wait + Sync + Aside, R: Source, W: Sink>(
         None
     };
     let name = file.as_ref().map(String::as_str);
-    let done = perform_as(json, rt, alloc, command, name, source, sink);
+    let done = perform_command(rt, alloc, command, name, json, source, sink, terminal);
     match subject {
         Some(subject) => Ending::Explained(Question { subject, file }, done),
         None => Ending::Performed(done),
@@ -154,27 +190,34 @@ fn perform_for<T: Threads + Wait + Sync + Aside, R: Source, W: Sink>(
 }
 
 /// Does what is asked, or prints why nothing can be done.
-fn follow<T: Threads + Wait + Sync + Aside, R: Source, W: Sink>(
+fn follow<T: Threads + Wait + Sync + Aside, R: Source, W: Sink, D: Terminal>(
     rt: &T,
     alloc: Global,
     asked: Result<Request, CommandError>,
     source: &mut R,
     sink: &mut W,
+    terminal: &mut D,
 ) -> Ending
     requires readable { R.has_failed source.old ≡ false }
     requires writable { W.has_failed sink.old ≡ false }
+    requires hears { D.is_unread terminal.old ≡ false }
+    requires tells { D.has_failed terminal.old ≡ false }
     ensures performed { IfExit result (λ status stats. IfOk asked (λ request.
-        Follows request (source.new ≡ source.old) (R.remaining source.old) (R.file source.old)
+        Follows request (source.new ≡ source.old) (terminal.new ≡ terminal.old)
+        (Converses (D.passes terminal.old terminal.new) (D.is_unread terminal.new)
+        (D.has_failed terminal.new))
+        (R.remaining source.old) (R.file source.old)
         (R.has_failed source.new) (W.contents sink.old) (W.contents sink.new)
         (W.has_failed sink.new) status stats)) }
-    ensures refused { IfExit result (λ status stats. IfErr asked (λ e. (source.new ≡ source.old)
-        × (stats ≡ []) × ((r : Refusal) × IsPrintedAs e r × Prints (Reply.Refused r)
-        (W.contents sink.old) (W.contents sink.new) (W.has_failed sink.new) status))) }
+    ensures refused { IfExit result (λ status stats. IfErr asked (λ e. ((source.new ≡ source.old)
+        × (terminal.new ≡ terminal.old)) × (stats ≡ []) × ((r : Refusal) × IsPrintedAs e r
+        × Prints (Reply.Refused r) (W.contents sink.old) (W.contents sink.new)
+        (W.has_failed sink.new) status))) }
     ensures shown { IfShown result (λ e. (asked ≡ Err (CommandError.Shown e))
-        × (source.new ≡ source.old) × (sink.new ≡ sink.old)) }
+        × (source.new ≡ source.old) × (sink.new ≡ sink.old) × (terminal.new ≡ terminal.old)) }
     ensures text { IfNotText result ⊥ }
     ensures misused { IfMisused result (λ misuse. (asked ≡ Err (error_of misuse))
-        × (source.new ≡ source.old) × (sink.new ≡ sink.old)) }
+        × (source.new ≡ source.old) × (sink.new ≡ sink.old) × (terminal.new ≡ terminal.old)) }
 {
     let refusal = match asked {
         Ok(
@@ -185,7 +228,9 @@ fn follow<T: Threads + Wait + Sync + Aside, R: Source, W: Sink>(
                 json,
             },
         ) => {
-            return perform_for(rt, alloc, command, file, explain, json, source, sink);
+            return perform_for(
+                rt, alloc, command, file, explain, json, source, sink, terminal,
+            );
         }
         Ok(
             Request::CheckAll {
@@ -215,38 +260,46 @@ fn follow<T: Threads + Wait + Sync + Aside, R: Source, W: Sink>(
 
 /// Does what the words ask for, of which the first is the program's name. What is wrong with them
 /// is said before anything is read.
-pub fn program<T: Threads + Wait + Sync + Aside, R: Source, W: Sink>(
+pub fn program<T: Threads + Wait + Sync + Aside, R: Source, W: Sink, D: Terminal>(
     rt: &T,
     alloc: Global,
     words: io::Result<Vec<String>>,
     source: &mut R,
     sink: &mut W,
+    terminal: &mut D,
 ) -> Ending
     requires readable { R.has_failed source.old ≡ false }
     requires writable { W.has_failed sink.old ≡ false }
+    requires hears { D.is_unread terminal.old ≡ false }
+    requires tells { D.has_failed terminal.old ≡ false }
     ensures followed { IfExit result (λ status stats. IfOk words (λ words.
         ((request : Request) × IsAsked (map string_bytes words.items) request
-        × Follows request (source.new ≡ source.old) (R.remaining source.old) (R.file source.old)
+        × Follows request (source.new ≡ source.old) (terminal.new ≡ terminal.old)
+        (Converses (D.passes terminal.old terminal.new) (D.is_unread terminal.new)
+        (D.has_failed terminal.new))
+        (R.remaining source.old) (R.file source.old)
         (R.has_failed source.new) (W.contents sink.old) (W.contents sink.new)
         (W.has_failed sink.new) status stats)
         ⊎ ((e : CommandError) × Refuses (map string_bytes words.items) e
-        × (source.new ≡ source.old) × (stats ≡ []) × ((r : Refusal) × IsPrintedAs e r
+        × ((source.new ≡ source.old) × (terminal.new ≡ terminal.old)) × (stats ≡ [])
+        × ((r : Refusal) × IsPrintedAs e r
         × Prints (Reply.Refused r) (W.contents sink.old) (W.contents sink.new)
         (W.has_failed sink.new) status)))) }
     ensures memory { IfExit result (λ status stats. IfErr words (λ _. (source.new ≡ source.old)
-        × (stats ≡ []) × Prints (Reply.Refused Refusal.OutOfMemory) (W.contents sink.old)
+        × (terminal.new ≡ terminal.old) × (stats ≡ [])
+        × Prints (Reply.Refused Refusal.OutOfMemory) (W.contents sink.old)
         (W.contents sink.new) (W.has_failed sink.new) status)) }
     ensures shown { IfShown result (λ e. IsOkAnd words (λ words.
         Refuses (map string_bytes words.items) (CommandError.Shown e))
-        × (source.new ≡ source.old) × (sink.new ≡ sink.old)) }
+        × (source.new ≡ source.old) × (sink.new ≡ sink.old) × (terminal.new ≡ terminal.old)) }
     ensures not_text { IfNotText result (IsErr words
-        × (source.new ≡ source.old) × (sink.new ≡ sink.old)) }
+        × (source.new ≡ source.old) × (sink.new ≡ sink.old) × (terminal.new ≡ terminal.old)) }
     ensures misused { IfMisused result (λ misuse. IsOkAnd words (λ words.
         Refuses (map string_bytes words.items) (error_of misuse))
-        × (source.new ≡ source.old) × (sink.new ≡ sink.old)) }
+        × (source.new ≡ source.old) × (sink.new ≡ sink.old) × (terminal.new ≡ terminal.old)) }
 {
     match words {
-        Ok(words) => follow(rt, alloc, request_of(alloc, &words), source, sink),
+        Ok(words) => follow(rt, alloc, request_of(alloc, &words), source, sink, terminal),
         Err(error) if error.kind() == ErrorKind::OutOfMemory => {
             Ending::Exit(answer(alloc, &Reply::Refused(Refusal::OutOfMemory), sink))
         }
@@ -292,14 +345,8 @@ fn tell_stats<P: Eprint>(rt: &P, done: &Performed) {
     }
 }
 
-/// Does what is left to do, and gives the exit status as a number. `failure` is why the input
-/// couldn't be read, if it couldn't.
-pub fn end<P: Print + Eprint>(
-    rt: &P,
-    alloc: Global,
-    ending: Ending,
-    failure: Option<&io::Error>,
-) -> u8
+/// Does what is left to do, and gives the exit status as a number.
+pub fn end<P: Print + Eprint>(rt: &P, alloc: Global, ending: Ending, failures: Failures) -> u8
     ensures exit { IfExit ending (λ status stats. result ≡ exit_status status) }
     ensures fault { IfShown ending (λ e. kind_of e ≢ kind.DisplayHelp
         → kind_of e ≢ kind.DisplayVersion → result ≡ USAGE) }
@@ -316,7 +363,7 @@ pub fn end<P: Print + Eprint>(
         }
         Ending::Explained(question, done) => {
             tell_stats(rt, &done);
-            explain(rt, alloc, &question, &done, failure);
+            explain(rt, alloc, &question, &done, failures);
             exit(rt, done.status)
         }
         Ending::Shown(error) => show(rt, &error),

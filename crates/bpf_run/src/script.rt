@@ -10,7 +10,9 @@ ghost use Rattle.bpf_machine.specs.Machine.{Shows};
 ghost use Rattle.bpf_jobs.specs.Printed.{first_world};
 ghost use Rattle.bpf_file.specs.Runnable.{IsRunnable};
 ghost use Rattle.bpf_debug.specs.Script.{answer_of};
-ghost use Rattle.bpf_run.specs.Script.{AreShown, IsDebugReply, IsCut, IsScriptOfFile, any_refused, ends_file};
+ghost use Rattle.bpf_file.specs.File.{file_of};
+ghost use Rattle.bpf_debug.specs.Session.{IsShown};
+ghost use Rattle.bpf_run.specs.Script.{AreShown, IsDebugReply, IsCut, IsScriptOfFile, any_refused, ends_file, scene_of};
 
 use crate::refusal::Refusal;
 use crate::reply::Reply;
@@ -33,7 +35,7 @@ struct Parts<'a> {
 }
 
 /// Whether a line ends the run file: its only word is `---`.
-fn ends_file(alloc: Global, line: &[u8]) -> Result<bool, AllocError>
+pub fn ends_file(alloc: Global, line: &[u8]) -> Result<bool, AllocError>
     ensures { IfOk result (λ b. b ≡ ends_file line.now) }
 {
     let words = fields(alloc, line)?;
@@ -105,6 +107,22 @@ fn make_session(
     let copy = copy_shape(alloc, &shape)?;
     let machine = make_machine(alloc, copy, programs, jobs)?;
     let session = Session::new(alloc, shape, machine, names)?;
+    Ok(session)
+}
+
+/// The session over the machine of a run file, at its beginning. Want of memory is the only refusal.
+pub fn open_session(alloc: Global, file: RunFile) -> Result<Session, AllocError>
+    requires { IsRunnable file }
+    ensures { IfOk result (λ s. IsShown s (scene_of (file_of file))) }
+{
+    let RunFile {
+        shape,
+        names,
+        programs,
+        jobs,
+        ..
+    } = file;
+    let session = make_session(alloc, shape, names, programs, jobs)?;
     Ok(session)
 }
 

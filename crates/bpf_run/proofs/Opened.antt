@@ -1,0 +1,132 @@
+-- What the text of a file comes to, and what is done of it.
+use Rattle.std.proofs.Common.{◌≡◌, ◌⊎◌, ◌≤◌, ◌<◌, ◌∙◌, inl, inr, Bool, true, false, ℕ, List, [], ◌∷◌, Option, Some, None, length, refl, sym, subst, ap, true≢false}
+use Rattle.std.specs.Prelude.{IfSome, IsUtf8, Vec, Ok, Err, ◌||◌}
+use Rattle.std.specs.List.{list_any}
+use Rattle.std.specs.declared.alloc.Global.{Global}
+use Rattle.bpf_lines.specs.Lines.{lines_of}
+use Rattle.bpf_file.specs.File.{File}
+use Rattle.bpf_file.specs.Reading.{IsRunFile}
+use Rattle.bpf_file.specs.declared.error.FileError.{FileError}
+use Rattle.bpf_file.specs.declared.error.FileError.TheVariants as file_error
+use Rattle.bpf_file.specs.declared.error.Reason.{Reason}
+use Rattle.bpf_debug.specs.Session.{Scene, SessionState, IsShown}
+use Rattle.bpf_command.specs.declared.command.Command.TheVariants as command
+use Rattle.bpf_run.specs.Answer.{Prints, stats_of}
+use Rattle.bpf_run.specs.Commands.{IsReply, is_unread}
+use Rattle.bpf_run.specs.Input.{is_failed_read}
+use Rattle.bpf_run.specs.Script.{IsCut, IsScriptOfFile, NoneEnds, ends_file, scene_of}
+use Rattle.bpf_run.specs.Debugging.{Debugs, IsOpened, IsRefusal}
+use Rattle.bpf_run.specs.declared.debugging.Opening.TheVariants as opening
+use Rattle.bpf_run.specs.declared.input.InputError.{InputError}
+use Rattle.bpf_run.specs.declared.input.InputError.TheVariants as input_error
+use Rattle.bpf_run.specs.declared.input.TheConstants.{MAX_INPUT}
+use Rattle.bpf_run.specs.declared.refusal.Refusal.TheVariants as refusal
+use Rattle.bpf_run.specs.declared.reply.Reply.{Reply}
+use Rattle.bpf_run.specs.declared.reply.Reply.TheVariants as reply
+use Rattle.bpf_run.specs.declared.reply.Status.{Status}
+use Rattle.bpf_run.proofs.ReplyLemmas.{unread}
+
+-- ---- whether a line ends the file
+
+or_false : (a b : Bool) → (a || b) ≡ false → (a ≡ false) × (b ≡ false)
+or_false true b e = absurd (true≢false e)
+or_false false b e = (refl, e)
+
+or_true : (a b : Bool) → a ≡ false → (a || b) ≡ true → b ≡ true
+or_true true b off e = absurd (true≢false off)
+or_true false b off e = e
+
+pub none_ends : (lines : List (List ℕ)) → list_any ends_file lines ≡ false → NoneEnds lines
+none_ends [] e = tt
+none_ends (line ∷ lines) e =
+    let both = or_false (ends_file line) (list_any ends_file lines) e in
+    (both.0, none_ends lines both.1)
+
+pub some_ends : (lines : List (List ℕ)) → list_any ends_file lines ≡ true → NoneEnds lines → ⊥
+some_ends [] e none = true≢false (sym e)
+some_ends (line ∷ lines) e none = some_ends lines (or_true (ends_file line) (list_any ends_file lines) none.0 e) none.1
+
+-- ---- what a text comes to
+
+pub opened_script : (echo strict : Bool) (text : List ℕ) (r : Reply) → list_any ends_file (lines_of text) ≡ true → IsScriptOfFile echo strict text r → IsOpened echo strict text (opening.Reply r)
+opened_script echo strict text r ends said = (said, λ none. absurd (some_ends (lines_of text) ends none))
+
+pub opened_refusal : (echo strict : Bool) (text bytes : List ℕ) (e : FileError) (line : ℕ) (why : Reason) → list_any ends_file (lines_of text) ≡ false → bytes ≡ text → e ≡ file_error.Refused line why
+    → (e ≡ file_error.OutOfMemory) ⊎ IsRunFile bytes (Err e) → IsOpened echo strict text (opening.Reply (reply.Refused (refusal.File line why)))
+opened_refusal echo strict text bytes e line why none same is (inl lacks) = absurd (let wrong : ⊥ = cc in wrong)
+opened_refusal echo strict text bytes e line why none same is (inr said) =
+    let told = subst (λ (t : List ℕ). IsRunFile t (Err (file_error.Refused line why))) same (subst (λ (e : FileError). IsRunFile bytes (Err e)) is said) in
+    ((text, [], inr (none_ends (lines_of text) none, refl, refl), told), λ n. tt)
+
+pub opened_talk : (echo strict : Bool) (text bytes : List ℕ) (s : SessionState) (f : File) → list_any ends_file (lines_of text) ≡ false → bytes ≡ text → IsRunFile bytes (Ok f) → IsShown s (scene_of f)
+    → IsOpened echo strict text (opening.Talk s)
+opened_talk echo strict text bytes s f none same said shown =
+    (none_ends (lines_of text) none, (f, subst (λ (t : List ℕ). IsRunFile t (Ok f)) same said, shown))
+
+-- ---- what is done
+
+script_read : (echo strict : Bool) (text : List ℕ) (r : Reply) → IsScriptOfFile echo strict text r → is_unread r ≡ false
+script_read echo strict text (reply.Refused (refusal.Input e)) said = absurd said
+script_read echo strict text (reply.Refused why) said = refl
+script_read echo strict text r said = refl
+
+-- a reply to a text
+pub replied : (echo strict : Bool) (text : List ℕ) (r : Reply) (silent : Type 0) (talks : Scene → Status → Type 0) (old new : Option (List ℕ)) (lost : Bool) (s : Status)
+    → length text ≤ MAX_INPUT → IsUtf8 text → silent → IsOpened echo strict text (opening.Reply r) → Prints r old new lost s
+    → Debugs echo strict (Some text) silent talks false old new lost s (stats_of r)
+replied echo strict text r silent talks old new lost s short utf8 quiet opened printed =
+    inl (quiet, (r, sym (script_read echo strict text r opened.0), (inr (short, utf8, opened.0), opened.1), printed, refl))
+
+-- a conversation
+pub talked : (echo strict : Bool) (text : List ℕ) (session : SessionState) (silent : Type 0) (talks : Scene → Status → Type 0) (kept : Option (List ℕ)) (lost : Bool) (s : Status) (stats : List ℕ)
+    → length text ≤ MAX_INPUT → IsUtf8 text → lost ≡ false → stats ≡ [] → IsOpened echo strict text (opening.Talk session) → ((x : Scene) → IsShown session x → talks x s)
+    → Debugs echo strict (Some text) silent talks false kept kept lost s stats
+talked echo strict text session silent talks kept lost s stats short utf8 works counts opened held =
+    inr (refl, refl, works, counts, (opened.1.0, (short, utf8, opened.0, opened.1.1), held (scene_of opened.1.0) opened.1.2))
+
+-- bytes that are no text
+pub not_text : (echo strict : Bool) (bytes : List ℕ) (silent : Type 0) (talks : Scene → Status → Type 0) (old new : Option (List ℕ)) (lost : Bool) (s : Status)
+    → length bytes ≤ MAX_INPUT → (IsUtf8 bytes → ⊥) → silent → Prints (reply.Refused refusal.NotText) old new lost s
+    → Debugs echo strict (Some bytes) silent talks false old new lost s []
+not_text echo strict bytes silent talks old new lost s short bad quiet printed =
+    inl (quiet, (reply.Refused refusal.NotText, refl, (inl (refusal.NotText, refl, (short, bad)), λ none. tt), printed, refl))
+
+-- a file whose bytes may not be known
+known : (echo strict : Bool) (input : Option (List ℕ)) (bytes : List ℕ) (silent : Type 0) (talks : Scene → Status → Type 0) (failed : Bool) (old new : Option (List ℕ)) (lost : Bool) (s : Status) (stats : List ℕ)
+    → IfSome input (λ whole. bytes ≡ whole) → Debugs echo strict (Some bytes) silent talks failed old new lost s stats → Debugs echo strict input silent talks failed old new lost s stats
+known echo strict None bytes silent talks failed old new lost s stats same (inl (quiet, (r, reads, told, printed, counts))) = inl (quiet, (r, reads, tt, printed, counts))
+known echo strict None bytes silent talks failed old new lost s stats same (inr (reads, kept, works, counts, (f, said, held))) = inr (reads, kept, works, counts, (f, tt, held))
+known echo strict (Some input) bytes silent talks failed old new lost s stats same done =
+    subst (λ (t : List ℕ). Debugs echo strict (Some t) silent talks failed old new lost s stats) same done
+
+pub was_read : (echo strict : Bool) (input : Option (List ℕ)) (bytes : List ℕ) (silent : Type 0) (talks : Scene → Status → Type 0) (failed : Bool) (old new : Option (List ℕ)) (lost : Bool) (s : Status) (stats : List ℕ)
+    → failed ≡ false → IfSome input (λ whole. bytes ≡ whole) → Debugs echo strict (Some bytes) silent talks false old new lost s stats → Debugs echo strict input silent talks failed old new lost s stats
+was_read echo strict input bytes silent talks failed old new lost s stats reads same done =
+    subst (λ (b : Bool). Debugs echo strict input silent talks b old new lost s stats) (sym reads) (known echo strict input bytes silent talks false old new lost s stats same done)
+
+-- a file that wasn't read
+failed_alike : (e : InputError) → is_failed_read {T = Vec ℕ Global} (Err e) ≡ is_unread (reply.Refused (refusal.Input e))
+failed_alike input_error.Unread = refl
+failed_alike input_error.TooLong = refl
+failed_alike input_error.OutOfMemory = refl
+
+refused_read : (echo strict : Bool) (input : Option (List ℕ)) (e : InputError) → IfSome input (λ bytes. IsReply (command.Debug echo strict) bytes (reply.Refused (refusal.Input e)))
+    → IfSome input (λ bytes. IsReply (command.Debug echo strict) bytes (reply.Refused (refusal.Input e)) × (NoneEnds (lines_of bytes) → IsRefusal (reply.Refused (refusal.Input e))))
+refused_read echo strict None e h = tt
+refused_read echo strict (Some bytes) e h = (h, λ none. tt)
+
+pub not_read : (echo strict : Bool) (input : Option (List ℕ)) (e : InputError) (r : Reply) (silent : Type 0) (talks : Scene → Status → Type 0) (failed : Bool) (old new : Option (List ℕ)) (lost : Bool) (s : Status)
+    → (e ≡ input_error.TooLong → IfSome input (λ bytes. MAX_INPUT < length bytes)) → failed ≡ is_failed_read {T = Vec ℕ Global} (Err e) → silent
+    → r ≡ reply.Refused (refusal.Input e) → Prints (reply.Refused (refusal.Input e)) old new lost s
+    → Debugs echo strict input silent talks failed old new lost s (stats_of r)
+not_read echo strict input e r silent talks failed old new lost s long fails quiet same printed =
+    inl (
+      quiet,
+      (
+        reply.Refused (refusal.Input e),
+        fails ∙ failed_alike e,
+        refused_read echo strict input e (unread input (command.Debug echo strict) e long),
+        printed,
+        ap stats_of same,
+      ),
+    )

@@ -1,0 +1,51 @@
+//! A session of the debugger, as a conversation asks it.
+
+ghost use Rattle.std.specs.Prelude.{◌≡◌};
+
+use crate::perform::answer_text;
+use bpf_debug::{Answer, Session, answer};
+use bpf_talk::Respond;
+use std::alloc::Global;
+
+/// A session, and what it answered last.
+#[derive(Drop)]
+pub struct Answering {
+    session: Session,
+    last: Answer,
+}
+
+impl Answering {
+    /// A session that has answered nothing.
+    pub fn new(alloc: Global, session: Session) -> Answering
+        ensures { result.session ≡ session }
+    {
+        Answering {
+            session,
+            last: Ok(String::new(alloc)),
+        }
+    }
+
+    pub fn session(&self) -> &Session
+        ensures { result.now ≡ self.now.session }
+    {
+        &self.session
+    }
+}
+
+impl Respond for Answering {
+    ghost use Rattle.bpf_debug.specs.Script.{answer_of, answer_text};
+    ghost use Rattle.bpf_run.specs.Answering.{SessionAnswers};
+
+    ghost answers = { λ old new. SessionAnswers old.session new.session };
+
+    ghost text = { λ s. answer_text (answer_of s.last) };
+
+    fn answer(&mut self, alloc: Global, line: &[u8]) -> bool {
+        self.last = answer(alloc, &mut self.session, line);
+        self.last.is_err()
+    }
+
+    fn told(&self) -> &str {
+        answer_text(&self.last)
+    }
+}
