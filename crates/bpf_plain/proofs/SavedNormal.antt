@@ -1,7 +1,7 @@
 -- The normal form of contents is saved as the same bytes.
-use Rattle.std.proofs.Common.{◌≡◌, ◌∙◌, Option, Some, None, ℕ, ◌+◌, ◌<◌, Bool, true, false, ◌||◌, if◌then◌else◌, List, [], ◌∷◌, ◌++◌, ◌≤◌, length, take, map, refl, sym, ap, subst}
+use Rattle.std.proofs.Common.{◌≡◌, ◌∙◌, Option, Some, None, ℕ, ◌+◌, ◌<◌, Bool, true, false, ◌||◌, if◌then◌else◌, List, [], ◌∷◌, ◌++◌, ◌≤◌, length, take, map, refl, sym, ap, subst, arith}
 use Rattle.std.specs.Prelude.{IfSome, IfNone}
-use Rattle.std.proofs.lemmas.List.{length-map}
+use Rattle.std.proofs.lemmas.List.{length-map, length-take-le}
 use Rattle.bpf_plain.specs.declared.runs.Runs.{Runs}
 use Rattle.bpf_shared.specs.Shape.{elements}
 use Rattle.bpf_plain.specs.Private.Runs.{run_of, is_run}
@@ -107,3 +107,11 @@ pub read_or_none : (old new : Contents) (bytes : List ℕ) (found : Option ℕ) 
     → (k : ℕ) (p : Contents) → IsSavedFirst old bytes k p → new ≡ normal p
 read_or_none old kept bytes (Some n) read none k p first = read.only k p first
 read_or_none old kept bytes None read none k p first = absurd (none k p first)
+
+-- both are the normal form of either
+pub one_reading : (old kept other : Contents) (bytes : List ℕ) (n k : ℕ) → IsRead old bytes n kept → IsRead old bytes k other → (k ≡ n) × (other ≡ kept)
+one_reading old kept other bytes n k one two =
+    let same = ap (λ (bs : List ℕ). length bs) (one.ends k other two.saved) in
+    let first = length-take-le n bytes one.inside in
+    let second = length-take-le k bytes two.inside in
+    (omega (arith, same, first, second), two.only k other two.saved ∙ sym (one.only k other two.saved))

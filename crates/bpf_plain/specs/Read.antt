@@ -19,3 +19,13 @@ pub record IsRead (old : Contents) (bytes : List ℕ) (n : ℕ) (new : Contents)
 -- the bytes begin with none that contents of this shape are saved as
 abbrev pub SavesNone : Contents → List ℕ → Type 0
 SavesNone old bytes = (k : ℕ) (p : Contents) → IsSavedFirst old bytes k p → ⊥
+
+-- bytes are read in one way
+abbrev pub ReadingsAreDetermined : Type 0
+ReadingsAreDetermined = (old new other : Contents) (bytes : List ℕ) (n k : ℕ)
+    → IsRead old bytes n new → IsRead old bytes k other → (k ≡ n) × (other ≡ new)
+
+-- what contents are restored to is saved as the same bytes
+abbrev pub RestoredIsSavedAlike : Type 0
+RestoredIsSavedAlike = (p : Contents) (bytes : List ℕ) → IsSavedAs p bytes
+    → IsSavedAs (normal p) bytes

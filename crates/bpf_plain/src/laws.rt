@@ -3,6 +3,7 @@
 //! These functions do nothing: their contracts are the laws, which a proof cites.
 ghost use Rattle.bpf_plain.specs.Alike.{AlikeStandAlike, RestoredLooksAlike, SavedAlikeLookAlike};
 ghost use Rattle.bpf_plain.specs.Legality.{PassagesAreLegal};
+ghost use Rattle.bpf_plain.specs.Read.{ReadingsAreDetermined, RestoredIsSavedAlike};
 
 /// A passage from a store as made is a legal history.
 pub fn passages_are_legal()
@@ -22,4 +23,14 @@ pub fn saved_alike_look_alike()
 /// What is restored looks like what was saved.
 pub fn restored_looks_alike()
     ensures { RestoredLooksAlike }
+{}
+
+/// What is restored is saved as the same bytes.
+pub fn restored_is_saved_alike()
+    ensures { RestoredIsSavedAlike }
+{}
+
+/// Bytes are read in one way.
+pub fn readings_are_determined()
+    ensures { ReadingsAreDetermined }
 {}
