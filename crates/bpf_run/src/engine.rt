@@ -4,7 +4,7 @@ ghost use Rattle.bpf_command.specs.declared.command.Command.{Command};
 ghost use Rattle.bpf_run.specs.Commands.{IsAnswer, IsForOneThread};
 
 use crate::pipeline::{reply, reply_by_workers};
-use crate::progress::Aside;
+use crate::progress::{Aside, Teller, asks_progress};
 use crate::reply::Reply;
 use bpf_command::Command;
 use bpf_explore::Silent;
@@ -45,6 +45,7 @@ impl<T: Threads + Wait + Sync + Aside> Engine for WithWorkers<'_, T> {
     ghost does = { λ command. IsSync T.row };
 
     fn reply(&self, alloc: Global, command: Command, text: &str) -> Reply {
-        reply_by_workers(self.0, alloc, command, text)
+        let mut teller = Teller::new(self.0, asks_progress(&command));
+        reply_by_workers(self.0, alloc, command, text, &mut teller)
     }
 }

@@ -11,7 +11,6 @@ ghost use Rattle.bpf_run.specs.declared.reply.Reply.{Reply};
 use crate::checking::check_file;
 use crate::exploring::{explore_file, show_file};
 use crate::listing::word_lines;
-use crate::progress::{Aside, Teller, asks_progress};
 use crate::racing::race_file;
 use crate::refusal::Refusal;
 use crate::reply::Reply;
@@ -214,11 +213,12 @@ pub fn reply<O: Observer>(alloc: Global, command: Command, text: &str, observer:
 }
 
 /// What a command replies to the text that it read, by workers where it asks for them.
-pub fn reply_by_workers<T: Threads + Wait + Sync + Aside>(
+pub fn reply_by_workers<T: Threads + Wait + Sync, O: Observer>(
     rt: &T,
     alloc: Global,
     command: Command,
     text: &str,
+    observer: &mut O,
 ) -> Reply
     ensures { IsAnswer command text.now result }
 {
@@ -232,9 +232,6 @@ pub fn reply_by_workers<T: Threads + Wait + Sync + Aside>(
                 ..
             },
         ) => run_file_by_workers(rt, alloc, workers, stats, keys, maps, text),
-        command => {
-            let mut teller = Teller::new(rt, asks_progress(&command));
-            reply(alloc, command, text, &mut teller)
-        }
+        command => reply(alloc, command, text, observer),
     }
 }
