@@ -30,3 +30,4 @@ mod FillLaws
 pub mod PartLaws
 pub mod FitLaws
 pub mod StageLemmas
+pub mod JobLemmas

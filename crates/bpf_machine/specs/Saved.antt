@@ -3,7 +3,7 @@ use Rattle.std.specs.Prelude.{◌≡◌, ℕ, List, [], ◌∷◌, ◌++◌, len
 use Rattle.bpf_mem.specs.Saved.{IsWord, words_saved}
 use Rattle.bpf_helpers.specs.Saved.{MayBeHeld}
 use Rattle.bpf_cpu.specs.Saved.{IsSavableOutcome, IsSavableState, cpu_saved, outcome_saved}
-use Rattle.bpf_cpu.specs.Task.{Stage, Waiting, InHand, Ended}
+use Rattle.bpf_cpu.specs.Task.{Stage, Task, Waiting, InHand, Ended}
 
 -- it waits; it is in hand, with so many steps left; it has ended
 abbrev pub stage_saved : Stage → List ℕ
@@ -24,3 +24,33 @@ abbrev pub HoldsWhatMayBe : Stage → Type 0
 HoldsWhatMayBe (Waiting context) = Unit {0}
 HoldsWhatMayBe (InHand state left) = MayBeHeld state.held
 HoldsWhatMayBe (Ended outcome) = Unit {0}
+
+-- ---- all jobs of a machine
+-- one after the other
+abbrev pub jobs_saved : List Task → List ℕ
+jobs_saved [] = []
+jobs_saved (task ∷ jobs) = stage_saved task.stage ++ jobs_saved jobs
+
+-- the context of a job that waits
+abbrev pub context_of : Stage → List ℕ
+context_of (Waiting context) = context
+context_of (InHand state left) = []
+context_of (Ended outcome) = []
+
+-- the job is one that waited first, in some stage of it
+pub record IsLater (first task : Task) : Type 0 where
+  pub cpu : task.cpu ≡ first.cpu
+  pub program : task.program ≡ first.program
+  pub budget : task.budget ≡ first.budget
+  pub stage : IsSavableStage first.cpu (context_of first.stage) task.stage
+
+-- each is, of jobs in the same order
+abbrev pub AreLater : List Task → List Task → Type 0
+AreLater [] [] = Unit {0}
+AreLater (first ∷ firsts) (task ∷ jobs) = IsLater first task × AreLater firsts jobs
+AreLater _ _ = ⊥
+
+-- each holds, where it is in hand, what a run may hold
+abbrev pub HoldWhatMayBe : List Task → Type 0
+HoldWhatMayBe [] = Unit {0}
+HoldWhatMayBe (task ∷ jobs) = HoldsWhatMayBe task.stage × HoldWhatMayBe jobs

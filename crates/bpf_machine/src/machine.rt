@@ -18,7 +18,7 @@ use lane::{
 };
 use listing::{KeyLists, make_asked};
 pub use parts::{KeptJob, KeptStage};
-pub use saving::read_stage;
+pub use saving::{read_jobs, read_stage};
 use std::alloc::Global;
 use std::marker::Model;
 use std::mem;

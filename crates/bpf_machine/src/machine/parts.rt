@@ -7,6 +7,7 @@ ghost use Rattle.bpf_machine.specs.Hashes.{mix, stage_hash, task_hash};
 ghost use Rattle.bpf_machine.specs.Parts.{chosen_at};
 ghost use Rattle.bpf_machine.specs.Private.Lanes.{lane_of, stage_of};
 ghost use Rattle.bpf_machine.specs.Kept.{kept_stage};
+ghost use Rattle.bpf_machine.specs.Saved.{context_of};
 ghost use Rattle.bpf_machine.specs.Private.Parts.{IsReadAs, in_hand, waits, entry_at, IsEntryOf, IsHandOf, IsFirstWaiting, IsLaneOf, FitsIn, CanFill};
 
 mod fitting;
@@ -138,6 +139,31 @@ impl KeptJob {
         ensures { result ≡ self.now.budget }
     {
         self.budget
+    }
+
+    /// The context that it waits with; none where it doesn't wait.
+    pub(crate) fn context(&self) -> &[u8]
+        ensures { result.now ≡ context_of self.now.stage }
+    {
+        match &self.stage {
+            KeptStage::Waiting(context) => context,
+            KeptStage::InHand(_, _) | KeptStage::Ended(_) => &[],
+        }
+    }
+
+    /// The same job in this stage.
+    pub(crate) fn in_stage(&self, stage: KeptStage) -> KeptJob
+        ensures cpu { result.cpu ≡ self.now.cpu }
+        ensures program { result.program ≡ self.now.program }
+        ensures budget { result.budget ≡ self.now.budget }
+        ensures stage { result.stage ≡ kept_stage stage }
+    {
+        KeptJob {
+            cpu: self.cpu,
+            program: self.program,
+            budget: self.budget,
+            stage,
+        }
     }
 
     /// How far it is, with what it goes on from.

@@ -1,17 +1,17 @@
-//! A job's stage as bytes, and from such bytes.
+//! Jobs' stages as bytes, and from such bytes.
 
-ghost use Rattle.std.specs.Prelude.{◌≡◌, ◌≤◌, [], ◌∷◌, ◌++◌, ℕ, List, OnOk, OnErr, IfOk, IfSome, IfNone, length};
+ghost use Rattle.std.specs.Prelude.{◌≡◌, ◌≤◌, All, [], ◌∷◌, ◌++◌, ℕ, List, OnOk, OnErr, IfOk, IfSome, IfNone, length};
 ghost use Rattle.std.specs.Io.{StartsWith};
 ghost use Rattle.bpf_mem.specs.Limits.{max_context};
 ghost use Rattle.bpf_cpu.specs.declared.outcome.Outcome.{Outcome};
-ghost use Rattle.bpf_cpu.specs.Task.{Stage, Waiting, InHand, Ended};
+ghost use Rattle.bpf_cpu.specs.Task.{Stage, Task, Waiting, InHand, Ended};
 ghost use Rattle.bpf_machine.specs.Kept.{kept_stage};
 ghost use Rattle.bpf_machine.specs.Private.Lanes.{stage_of};
-ghost use Rattle.bpf_machine.specs.Saved.{stage_saved, HoldsWhatMayBe, IsSavableStage};
+ghost use Rattle.bpf_machine.specs.Saved.{context_of, jobs_saved, stage_saved, AreLater, HoldWhatMayBe, HoldsWhatMayBe, IsLater, IsSavableStage};
 
 use super::Machine;
 use crate::machine::lane::{Hand, Lane, Phase};
-use crate::machine::parts::{KeptStage, copy_bytes};
+use crate::machine::parts::{KeptJob, KeptStage, copy_bytes};
 use bpf_cpu::{Cpu, Outcome, read_outcome, save_outcome};
 use bpf_mem::{read_words, save_words};
 use std::alloc::{AllocError, Global};
@@ -121,6 +121,53 @@ pub fn read_stage<'a>(
         },
         _ => Ok(None),
     }
+}
+
+/// The job that one which waited is, whose saved form the bytes begin with; what comes behind it.
+fn read_job<'a>(
+    alloc: Global,
+    first: &KeptJob,
+    bytes: &'a [u8],
+) -> Result<Option<(KeptJob, &'a [u8])>, AllocError>
+    requires { length (context_of first.now.stage) ≤ max_context }
+    ensures some { IfOk result (λ o. IfSome o (λ r.
+        bytes.now ≡ stage_saved r.0.stage ++ r.1.now)) }
+    ensures later { IfOk result (λ o. IfSome o (λ r. IsLater first.now r.0)) }
+    ensures none { IfOk result (λ o. IfNone o ((task : Task) (more : List ℕ)
+        → IsLater first.now task → HoldsWhatMayBe task.stage
+        → bytes.now ≡ stage_saved task.stage ++ more → ⊥)) }
+{
+    match read_stage(alloc, first.cpu(), first.context(), bytes)? {
+        Some((stage, rest)) => Ok(Some((first.in_stage(stage), rest))),
+        None => Ok(None),
+    }
+}
+
+/// The jobs that those which waited are, whose saved forms the bytes begin with, one after the
+/// other; what comes behind them. `None` where none of their stages have such forms.
+pub fn read_jobs<'a>(
+    alloc: Global,
+    first: &[KeptJob],
+    bytes: &'a [u8],
+) -> Result<Option<(Vec<KeptJob>, &'a [u8])>, AllocError>
+    requires { All (λ task. length (context_of task.stage) ≤ max_context) first.now }
+    ensures some { IfOk result (λ o. IfSome o (λ r.
+        bytes.now ≡ jobs_saved r.0.items ++ r.1.now)) }
+    ensures later { IfOk result (λ o. IfSome o (λ r. AreLater first.now r.0.items)) }
+    ensures none { IfOk result (λ o. IfNone o ((jobs : List Task) (more : List ℕ)
+        → AreLater first.now jobs → HoldWhatMayBe jobs
+        → bytes.now ≡ jobs_saved jobs ++ more → ⊥)) }
+{
+    let mut jobs = Vec::with_capacity(alloc, first.len())?;
+    let mut rest = bytes;
+    for job in 0..first.len() {
+        let Some((read, behind)) = read_job(alloc, &first[job], rest)? else {
+            return Ok(None);
+        };
+        jobs.push(read)?;
+        rest = behind;
+    }
+    Ok(Some((jobs, rest)))
 }
 
 impl Machine {
