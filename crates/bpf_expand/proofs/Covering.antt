@@ -1,0 +1,87 @@
+-- Closed sets of states cover all that schedules lead to.
+use Rattle.std.proofs.Common.{◌≡◌, ◌⊎◌, ℕ, zero, suc, List, [], ◌∷◌, Some, inl, inr, refl, subst}
+use Rattle.std.specs.Prelude.{slice_get}
+use Rattle.bpf_plain.specs.Alike.{AlikeStandAlike, SavedAlikeLookAlike}
+use Rattle.bpf_machine.specs.Schedule.{World}
+use Rattle.bpf_machine.specs.Machine.{MachineState, Shows}
+use Rattle.bpf_machine.specs.Cover.{ClosedSetsCover, IsClosed, IsKeptAs, IsShown, TurnsTo}
+use Rattle.bpf_machine.proofs.CoverLaws.{idle_turns_to}
+use Rattle.bpf_expand.specs.State.{Host, IsStateOf, IsIdleIn, IsSuccessor}
+use Rattle.bpf_expand.specs.Laws.{AreClosed, AreOf, IsAmong, StatesCover}
+use Rattle.bpf_expand.proofs.Alike.{same_jobs, shows_too, turns_too, free_too, waits_too}
+
+-- ---- a machine of each state
+abbrev Of : Host → List ℕ → Type 0
+Of h bytes = (m : MachineState) × IsStateOf h m bytes
+
+abbrev EachOf : Host → List (List ℕ) → Type 0
+EachOf h states = (i : ℕ) (bytes : List ℕ) → slice_get states i ≡ Some bytes → Of h bytes
+
+machines : (h : Host) (states : List (List ℕ)) → EachOf h states → List MachineState
+machines h [] each = []
+machines h (b ∷ bs) each = (each 0 b refl).0 ∷ machines h bs (λ i c at. each (suc i) c at)
+
+machine_of : (h : Host) (states : List (List ℕ)) (each : EachOf h states) (i : ℕ) (m : MachineState) → slice_get (machines h states each) i ≡ Some m
+    → (bytes : List ℕ) × (slice_get states i ≡ Some bytes) × IsStateOf h m bytes
+unfolding machines
+machine_of h [] each i m at = cc
+machine_of h (b ∷ bs) each zero m at =
+    let same : (each 0 b refl).0 ≡ m = cc in
+    (b, refl, subst (λ (x : MachineState). IsStateOf h x b) same (each 0 b refl).1)
+machine_of h (b ∷ bs) each (suc i) m at = machine_of h bs (λ i c at. each (suc i) c at) i m at
+
+state_at : (h : Host) (states : List (List ℕ)) (each : EachOf h states) (i : ℕ) (bytes : List ℕ) → slice_get states i ≡ Some bytes
+    → (m : MachineState) × (slice_get (machines h states each) i ≡ Some m) × IsStateOf h m bytes
+unfolding machines
+state_at h [] each i bytes at = cc
+state_at h (b ∷ bs) each zero bytes at =
+    let same : b ≡ bytes = cc in
+    ((each 0 b refl).0, refl, subst (λ (l : List ℕ). IsStateOf h (each 0 b refl).0 l) same (each 0 b refl).1)
+state_at h (b ∷ bs) each (suc i) bytes at = state_at h bs (λ i c at. each (suc i) c at) i bytes at
+
+-- ---- they are closed
+module _ (look : SavedAlikeLookAlike) (stand : AlikeStandAlike) (h : Host) (states : List (List ℕ)) (closed : AreClosed h states) where
+  one_of : (bytes : List ℕ) → (IsIdleIn h bytes 0 ⊎ ((next : List ℕ) × IsSuccessor h bytes 0 next × IsAmong states next)) → Of h bytes
+  one_of bytes (inl (m, is, free, none)) = (m, is)
+  one_of bytes (inr (next, (m, new, is, turns, then), among)) = (m, is)
+
+  each : EachOf h states
+  each i bytes at = one_of bytes (closed bytes 0 (i, at))
+
+  kept : List MachineState
+  kept = machines h states each
+
+  is_kept : (new : MachineState) (next : List ℕ) → IsStateOf h new next → IsAmong states next → IsKeptAs kept new
+  unfolding kept
+  is_kept new next is (j, at) =
+      let s = state_at h states each j next at in
+      (j, s.0, s.1, λ w shown. shows_too look stand h new s.0 next is s.2 w shown)
+
+  turned : (i : ℕ) (m : MachineState) → slice_get kept i ≡ Some m → (bytes : List ℕ) → IsStateOf h m bytes → (c : ℕ)
+      → (IsIdleIn h bytes c ⊎ ((next : List ℕ) × IsSuccessor h bytes c next × IsAmong states next))
+      → (new : MachineState) × TurnsTo m c new × IsKeptAs kept new
+  turned i m at bytes is c (inl (x, isx, free, none)) =
+      let same = same_jobs h x m bytes isx is in
+      (m, idle_turns_to m c (free_too x.jobs m.jobs c same free) (waits_too x.jobs m.jobs c same none), (i, m, at, λ w shown. shown))
+  turned i m at bytes is c (inr (next, (x, new, isx, turns, then), among)) =
+      (new, turns_too x m c new (λ w shown. shows_too look stand h m x bytes is isx w shown) turns, is_kept new next then among)
+
+  are_closed : IsClosed kept
+  unfolding kept
+  are_closed i m at = λ c. (let b = machine_of h states each i m at in turned i m at b.0 b.2 c (closed b.0 c (i, b.1)))
+
+  are_of : AreOf h states kept
+  unfolding kept
+  are_of i m at = let b = machine_of h states each i m at in (b.0, (i, b.1), b.2)
+
+  is_shown : (first : MachineState) (bytes : List ℕ) (w : World) → IsStateOf h first bytes → IsAmong states bytes → Shows first w → IsShown kept w
+  is_shown first bytes w is among shown = shown_by (is_kept first bytes is among)
+    where
+      shown_by : IsKeptAs kept first → IsShown kept w
+      shown_by (i, one, at, too) = (i, one, at, too w shown)
+
+pub states_cover : SavedAlikeLookAlike → AlikeStandAlike → ClosedSetsCover → StatesCover
+states_cover look stand cover h states first bytes w z schedule closed is among fresh shown runs =
+    let all = kept look stand h states closed in
+    let covers = cover all w z schedule (are_closed look stand h states closed) fresh (is_shown look stand h states closed first bytes w is among shown) runs in
+    (all, are_of look stand h states closed, covers.0, covers.1)

@@ -1,0 +1,5 @@
+pub mod Lists
+pub mod Alike
+pub mod Covering
+pub mod Taking
+pub mod Turning

@@ -1,0 +1,71 @@
+-- What the turns of CPUs lead to, CPU by CPU.
+use Rattle.std.proofs.Common.{◌≡◌, ◌∙◌, ℕ, ◌+◌, ◌<◌, ◌≤◌, ◌⊎◌, true, inl, inr, List, [], ◌∷◌, ◌++◌, Some, length, refl, sym, subst, arith}
+use Rattle.std.specs.Prelude.{All, nat_lt, slice_get}
+use Rattle.std.proofs.lemmas.Bool.{cases_lt, ltb-true}
+use Rattle.std.proofs.lemmas.Option.{slice_get_within}
+use Rattle.std.proofs.lemmas.List.Elements.{All-nil, All-push}
+use Rattle.bpf_base.proofs.Lists.{slice_get-front}
+use Rattle.bpf_plain.specs.PlainStore.{has_cpu}
+use Rattle.bpf_cpu.specs.Task.{Stage, Task, Waiting, InHand}
+use Rattle.bpf_machine.specs.Hands.{IsAt}
+use Rattle.bpf_machine.specs.Machine.{MachineState}
+use Rattle.bpf_expand.specs.declared.successor.Successor.{Successor}
+use Rattle.bpf_expand.specs.State.{Host, IsStateOf, IsIdleIn, IsSuccessor, HasSuccessor, AreSuccessors}
+
+-- what the turns of the CPUs below a number lead to
+pub record AreBelow (h : Host) (bytes : List ℕ) (found : List Successor) (n : ℕ) : Type 0 where
+  pub each : All (λ s. IsSuccessor h bytes s.cpu s.bytes.items) found
+  pub all : (c : ℕ) → c < n → IsIdleIn h bytes c ⊎ HasSuccessor h bytes found c
+
+-- the CPUs from a number on have no work
+abbrev pub IdleBeyond : Host → List ℕ → ℕ → Type 0
+IdleBeyond h bytes n = (c : ℕ) → n ≤ c → IsIdleIn h bytes c
+
+pub idle_beyond : (h : Host) (m : MachineState) (bytes : List ℕ) (n : ℕ) → IsStateOf h m bytes → ((c : ℕ) → has_cpu m.store c ≡ nat_lt c n) → IdleBeyond h bytes n
+idle_beyond h m bytes n is serves c beyond =
+    let nobody : (j : ℕ) (task : Task) (stage : Stage) → IsAt m.jobs c j task stage → ⊥ = λ j task stage here. (
+    let there : nat_lt c n ≡ true = sym (serves c) ∙ subst (λ (d : ℕ). has_cpu m.store d ≡ true) here.of (is.of.stands.served j task here.listed) in
+    let less = ltb-true c n there in
+    omega arith) in
+    (m, is, λ j task state left here. nobody j task (InHand state left) here, λ j task context here. nobody j task (Waiting context) here)
+
+pub none_below : (h : Host) (bytes : List ℕ) → AreBelow h bytes [] 0
+none_below h bytes = record { each = All-nil (λ s. IsSuccessor h bytes s.cpu s.bytes.items); all = λ c less. absurd (omega arith) }
+
+pub idle_below : (h : Host) (bytes : List ℕ) (found : List Successor) (n : ℕ) → AreBelow h bytes found n → IsIdleIn h bytes n → AreBelow h bytes found (n + 1)
+idle_below h bytes found n are idle = record {
+  each = are.each;
+  all = λ c less. elim (cases_lt c n) [
+    | inl below ↦ are.all c below
+    | inr past ↦ let same : n ≡ c = omega arith in inl (subst (λ (k : ℕ). IsIdleIn h bytes k) same idle)
+  ];
+}
+
+still_has : (h : Host) (bytes : List ℕ) (found : List Successor) (more : List Successor) (c : ℕ) → HasSuccessor h bytes found c → HasSuccessor h bytes (found ++ more) c
+still_has h bytes found more c (i, s, at, of, is) = (i, s, slice_get-front found more i (slice_get_within found i s at) ∙ at, of, is)
+
+slice_get-end : (found : List Successor) (s : Successor) → slice_get (found ++ s ∷ []) (length found) ≡ Some s
+slice_get-end [] s = refl
+slice_get-end (x ∷ xs) s = slice_get-end xs s
+
+pub next_below : (h : Host) (bytes : List ℕ) (found : List Successor) (n : ℕ) (s : Successor) → AreBelow h bytes found n → s.cpu ≡ n → IsSuccessor h bytes n s.bytes.items → AreBelow h bytes (found ++ s ∷ []) (n + 1)
+next_below h bytes found n s are of is = record {
+  each = All-push (λ s. IsSuccessor h bytes s.cpu s.bytes.items) found s are.each (subst (λ (c : ℕ). IsSuccessor h bytes c s.bytes.items) (sym of) is);
+  all = λ c less. elim (cases_lt c n) [
+    | inl below ↦ still below (are.all c below)
+    | inr past ↦ let same : n ≡ c = omega arith in inr (subst (λ (k : ℕ). HasSuccessor h bytes (found ++ s ∷ []) k) same (length found, s, slice_get-end found s, of, is))
+  ];
+}
+  where
+    still : {c : ℕ} → c < n → (IsIdleIn h bytes c ⊎ HasSuccessor h bytes found c) → IsIdleIn h bytes c ⊎ HasSuccessor h bytes (found ++ s ∷ []) c
+    still {c} less (inl idle) = inl idle
+    still {c} less (inr has) = inr (still_has h bytes found (s ∷ []) c has)
+
+pub all_below : (h : Host) (bytes : List ℕ) (found : List Successor) (n end : ℕ) → AreBelow h bytes found n → end ≤ n → IdleBeyond h bytes end → AreSuccessors h bytes found
+all_below h bytes found n end are past beyond = record {
+  each = are.each;
+  all = λ c. elim (cases_lt c n) [
+    | inl below ↦ are.all c below
+    | inr far ↦ inl (beyond c (omega arith))
+  ];
+}

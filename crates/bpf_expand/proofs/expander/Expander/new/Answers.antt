@@ -1,0 +1,14 @@
+use Rattle.std.proofs.Common.{◌∙◌, ℕ, List, length, sym, ap, subst}
+use Rattle.bpf_cpu.specs.Task.{Task}
+use Rattle.bpf_expand.specs.Private.Home.{AreShort, CountUp}
+use Rattle.bpf_expand.proofs.Lists.{are_short}
+use Rattle.bpf_expand.proofs.expander.Expander.new.Goals as goal
+
+pub invariant_of-result : goal.invariant_of-result
+invariant_of-result c = record {
+  shape = c.requires.shape;
+  spare = c.in_ok-room.ensures;
+  lists = c.requires.lists;
+  short = subst (λ (l : List Task). AreShort l) (sym c.in_ok-first.ensures) (are_short c.args.machine c.stands.ensures);
+  numbered = subst (λ (n : ℕ). CountUp c.in_ok-numbers.numbers.items n) (c.jobs.ensures ∙ ap (length {A = Task}) (sym c.in_ok-first.ensures)) c.in_ok-numbers.ensures;
+}

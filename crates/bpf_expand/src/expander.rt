@@ -1,0 +1,188 @@
+//! A host whose states are read and made.
+
+ghost use Rattle.std.specs.Prelude.{◌≡◌, IfOk, None};
+ghost use Rattle.bpf_explore.specs.Stores.{IsOfShape};
+
+use crate::jobs::{are_told, count_up, keep_jobs, save_jobs};
+use crate::successor::{Next, Successor};
+use bpf_explore::copy_shape;
+use bpf_machine::{KeptJob, Machine, read_jobs};
+use bpf_plain::PlainStore;
+use bpf_shared::StoreShape;
+use std::alloc::{AllocError, Global};
+use std::marker::Model;
+
+/// A store of this shape.
+fn make_room(alloc: Global, shape: &StoreShape) -> Result<PlainStore, AllocError>
+    ensures { IfOk result (λ store. IsOfShape shape.now store) }
+{
+    let shape = copy_shape(alloc, shape)?;
+    PlainStore::new(alloc, shape).map_err(|_| AllocError)
+}
+
+/// A machine of a host, which any state of it can be read into.
+#[derive(Drop)]
+pub struct Expander {
+    alloc: Global,
+    shape: StoreShape,
+    machine: Machine,
+    /// A store of the same shape, to read one into.
+    room: PlainStore,
+    /// The jobs of the first machine.
+    first: Vec<KeptJob>,
+    /// Their numbers.
+    numbers: Vec<u32>,
+}
+
+impl Model for Expander {
+    ghost use Rattle.bpf_expand.specs.State.{ExpanderState, Host};
+    ghost use Rattle.bpf_expand.specs.Private.Home.{IsHome};
+
+    ghost Value = { ExpanderState };
+
+    ghost view = { λ e. record {
+      host = record { shape = e.shape; programs = e.machine.programs; jobs = e.first.items };
+      machine = e.machine;
+    } };
+
+    ghost invariant = { λ e. IsHome e.shape e.machine e.room e.first.items e.numbers.items };
+}
+
+impl Expander {
+    ghost use Rattle.std.specs.Prelude.{◌≡◌, true, false, IfOk, IfSome, None};
+    ghost use Rattle.bpf_machine.specs.Cover.{TurnsTo};
+    ghost use Rattle.bpf_machine.specs.Hands.{IsFree, NoneWaits};
+    ghost use Rattle.bpf_expand.specs.State.{AreSuccessors, IsNext, IsNoState, IsSavedState, IsStateOf};
+
+    /// The host of a machine, which is the one to work with.
+    pub fn new(alloc: Global, shape: StoreShape, machine: Machine) -> Result<Expander, AllocError>
+        requires shape { IsOfShape shape machine.store }
+        requires lists { machine.lists ≡ None }
+        ensures machine { IfOk result (λ e. e.machine ≡ machine) }
+        ensures shape { IfOk result (λ e. e.host.shape ≡ shape) }
+        ensures programs { IfOk result (λ e. e.host.programs ≡ machine.programs) }
+        ensures jobs { IfOk result (λ e. e.host.jobs ≡ machine.jobs) }
+    {
+        machine.stands();
+        let first = keep_jobs(alloc, &machine)?;
+        let numbers = count_up(alloc, machine.jobs())?;
+        let room = make_room(alloc, &shape)?;
+        Ok(Expander {
+            alloc,
+            shape,
+            machine,
+            room,
+            first,
+            numbers,
+        })
+    }
+
+    /// The machine to work with.
+    pub fn machine(&self) -> &Machine
+        ensures { result.now ≡ self.now.machine }
+    {
+        &self.machine
+    }
+
+    /// What the machine is saved as.
+    fn save(&self) -> Result<Vec<u8>, AllocError>
+        ensures { IfOk result (λ v. IsSavedState self.now.machine v.items) }
+    {
+        let mut bytes = Vec::new(self.alloc);
+        save_jobs(&self.machine, &mut bytes)?;
+        self.machine.store().save(&mut bytes)?;
+        Ok(bytes)
+    }
+
+    /// The state of the machine. `None` where its bytes don't tell the machine.
+    pub fn state(&self) -> Result<Option<Vec<u8>>, AllocError>
+        ensures { IfOk result (λ o. IfSome o
+            (λ v. IsStateOf self.now.host self.now.machine v.items)) }
+    {
+        self.machine.stands();
+        let bytes = self.save()?;
+        if are_told(self.alloc, &self.machine, &self.first, &bytes)? {
+            Ok(Some(bytes))
+        } else {
+            Ok(None)
+        }
+    }
+
+    /// Takes the machine to work with that is saved as all of these bytes, if there is one of this
+    /// host.
+    pub fn take(&mut self, bytes: &[u8]) -> Result<bool, AllocError>
+        ensures taken { IfOk result (λ is. is ≡ true
+            → IsStateOf self.new.host self.new.machine bytes.now) }
+        ensures none { IfOk result (λ is. is ≡ false → IsNoState self.new.host bytes.now) }
+        ensures same { self.new.host ≡ self.old.host }
+    {
+        let Some((jobs, rest)) = read_jobs(self.alloc, &self.first, bytes)? else {
+            return Ok(false);
+        };
+        let Some(count) = self.room.read(self.alloc, rest)? else {
+            return Ok(false);
+        };
+        if count < rest.len() || !self.machine.can_restore(&self.room, &jobs, &self.numbers) {
+            return Ok(false);
+        }
+        self.machine
+            .restore(self.alloc, &self.room, &jobs, &self.numbers)?;
+        Ok(true)
+    }
+
+    /// One turn of a CPU, and then its turns that no store sees.
+    pub fn turn_ahead(&mut self, cpu: u8)
+        ensures turns { TurnsTo self.old.machine cpu self.new.machine }
+        ensures same { self.new.host ≡ self.old.host }
+    {
+        self.machine.turn_ahead(cpu);
+    }
+
+    /// Whether a CPU has work.
+    pub fn has_work(&self, cpu: u8) -> bool
+        ensures { result ≡ false
+            → IsFree self.now.machine.jobs cpu × NoneWaits self.now.machine.jobs cpu }
+    {
+        self.machine.job(cpu).is_some()
+    }
+
+    /// What a CPU's turn leads to from the state of these bytes.
+    pub fn next(&mut self, bytes: &[u8], cpu: u8) -> Result<Next, AllocError>
+        ensures next { IfOk result (λ n. IsNext self.new.host bytes.now cpu n) }
+        ensures same { self.new.host ≡ self.old.host }
+    {
+        if !self.take(bytes)? {
+            return Ok(Next::Refused);
+        }
+        if !self.has_work(cpu) {
+            return Ok(Next::Idle);
+        }
+        self.turn_ahead(cpu);
+        match self.state()? {
+            Some(state) => Ok(Next::State(state)),
+            None => Ok(Next::Untold),
+        }
+    }
+
+    /// What the turns of all CPUs with work lead to from the state of these bytes, by rising CPU.
+    /// `None` where they are no state of the host, or one of those isn't told by its bytes.
+    pub fn successors(&mut self, bytes: &[u8]) -> Result<Option<Vec<Successor>>, AllocError>
+        ensures some { IfOk result (λ o. IfSome o
+            (λ found. AreSuccessors self.new.host bytes.now found.items)) }
+        ensures same { self.new.host ≡ self.old.host }
+    {
+        let mut found = Vec::new(self.alloc);
+        if !self.take(bytes)? {
+            return Ok(None);
+        }
+        let cpus = self.machine.cpus();
+        for cpu in 0..cpus {
+            match self.next(bytes, cpu)? {
+                Next::Idle => {}
+                Next::State(bytes) => found.push(Successor { cpu, bytes })?,
+                Next::Refused | Next::Untold => return Ok(None),
+            }
+        }
+        Ok(Some(found))
+    }
+}
