@@ -125,8 +125,16 @@ void *memcpy(void *to, const void *from, size length) { return __builtin_memcpy(
 void *memmove(void *to, const void *from, size length) { return __builtin_memmove(to, from, length); }
 void *memset(void *to, int value, size length) { return __builtin_memset(to, value, length); }
 
+static size word_at(const byte *place) {
+    size word;
+    __builtin_memcpy(&word, place, sizeof word);
+    return word;
+}
+
+/* Words first, as long as they are the same: a search through every schedule compares much. */
 int memcmp(const void *left, const void *right, size length) {
     const byte *a = left, *b = right;
+    for (; length >= sizeof(size) && word_at(a) == word_at(b); length -= sizeof(size)) a += sizeof(size), b += sizeof(size);
     for (; length; length--, a++, b++)
         if (*a != *b) return *a - *b;
     return 0;
@@ -184,6 +192,7 @@ int open(const char *name, int how, ...) {
 }
 
 int close(int file) { return 0; }
+int isatty(int file) { return 0; }
 
 int __xpg_strerror_r(int number, char *to, size room) {
     const char *text = number == 2 ? "No such file or directory" : number == 21 ? "Is a directory" : "Unknown error";
