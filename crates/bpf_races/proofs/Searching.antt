@@ -35,10 +35,14 @@ module _ (kept : List MachineState) (w : World) (sync : List ℕ) (races : List 
   pub are_races : RacesAreKept → (whole ≡ true → IsClosed kept) → AreLed kept → AreApart kept → (told ≡ false → AreShown kept → ⊥) → (all ≡ false → (whole ≡ false) ⊎ (told ≡ false)) → (extent ≡ Limited → limit < length kept)
       → AreRaces false w sync races all refused limit
   are_races law closed led apart missed split met = record {
-    met = λ exact is uncut. (length kept, are_reached kept w first led apart, elim (split is) [
-      | inl part ↦ met (limited_of extent (sym is_so ∙ part) (sym cut ∙ uncut))
-      | inr lacking ↦ absurd (missed lacking (led_are_shown kept w first led))
-    ]);
+    met = λ exact is uncut. (
+      length kept,
+      are_reached kept w first led apart,
+      elim (split is) [
+        | inl part ↦ met (limited_of extent (sym is_so ∙ part) (sym cut ∙ uncut))
+        | inr lacking ↦ absurd (missed lacking (led_are_shown kept w first led))
+      ],
+    );
     short = cut_short all (λ is. (joined is).0);
     each = λ race there. gathered.each race there w first;
     once = gathered.once;
