@@ -71,7 +71,7 @@ abbrev pub HasSuccessor : Host → List ℕ → List Successor → ℕ → Type 
 HasSuccessor h bytes found c = (i : ℕ) × (s : Successor) × (slice_get found i ≡ Some s)
     × (s.cpu ≡ c) × IsSuccessor h bytes c s.bytes.items
 
--- they are what the turns of the CPUs lead to that have work, and none is left out
+-- each is what its CPU's turn leads to, and none is left out of a CPU that has work
 pub record AreSuccessors (h : Host) (bytes : List ℕ) (found : List Successor) : Type 0 where
   pub each : All (λ s. IsSuccessor h bytes s.cpu s.bytes.items) found
   pub all : (c : ℕ) → IsIdleIn h bytes c ⊎ HasSuccessor h bytes found c

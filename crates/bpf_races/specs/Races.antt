@@ -72,9 +72,9 @@ HaveAllRaces true w sync races =
     (schedule : List ℕ) (z : World) → RunsSchedule w schedule z → NoneRanOut z.jobs
     → AreListed races sync z
 
--- the races, whether they are all, and whether memory was refused to the search. Of a search that isn't
--- patient not all are told only where schedules lead to more machines than the limit, or where memory was
--- refused before
+-- the races, whether they are all, and whether the search counts as refused memory, which is its own to
+-- say. Else, of a search that isn't patient, not all are told only where schedules lead to more machines
+-- than the limit
 pub record AreRaces (patient : Bool) (w : World) (sync : List ℕ) (races : List RaceFound)
     (all refused : Bool) (limit : ℕ) : Type 0 where
   pub each : (race : RaceFound) → IsAmong races race → RacesBy w sync race
