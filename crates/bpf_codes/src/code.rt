@@ -59,10 +59,11 @@ pub enum Code {
     S5,
     S6,
     S7,
+    X1,
 }
 
 /// All codes.
-pub const CODES: [Code; 53] = [
+pub const CODES: [Code; 54] = [
     Code::A1,
     Code::A2,
     Code::A3,
@@ -116,6 +117,7 @@ pub const CODES: [Code; 53] = [
     Code::S5,
     Code::S6,
     Code::S7,
+    Code::X1,
 ];
 
 impl Code {
@@ -180,6 +182,7 @@ impl Code {
             Code::S5 => "S5",
             Code::S6 => "S6",
             Code::S7 => "S7",
+            Code::X1 => "X1",
         }
     }
 }

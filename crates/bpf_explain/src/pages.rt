@@ -4,5 +4,6 @@ pub mod debugger;
 pub mod files;
 pub mod program;
 pub mod running;
+pub mod states;
 pub mod text;
 pub mod workers;

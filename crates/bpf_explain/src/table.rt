@@ -3,7 +3,7 @@
 ghost use Rattle.std.specs.Prelude.{◌≡◌};
 
 use crate::page::Page;
-use crate::pages::{debugger, files, program, running, text, workers};
+use crate::pages::{debugger, files, program, running, states, text, workers};
 use bpf_codes::Code;
 
 /// The page of a code.
@@ -64,5 +64,6 @@ pub fn page_of(code: Code) -> Page
         Code::S5 => files::S5,
         Code::S6 => files::S6,
         Code::S7 => files::S7,
+        Code::X1 => states::X1,
     }
 }

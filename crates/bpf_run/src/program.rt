@@ -84,7 +84,7 @@ pub enum Ending {
 }
 
 const NO_CODE: &str = "\
-no such code is printed: there are A1 to A6, E1 to E14, F1 to F6, G1 to G5, H1, J1 to J4, L1 to L10 and S1 to S7
+no such code is printed: there are A1 to A6, E1 to E14, F1 to F6, G1 to G5, H1, J1 to J4, L1 to L10, S1 to S7 and X1
 
 For more information, try 'ebpf explain --help'.";
 
