@@ -1,9 +1,9 @@
 -- A conversation with states that stand for others is one with those.
-use Rattle.std.proofs.Common.{◌≡◌, Bool, ℕ, List, [], ◌∷◌, refl, sym, subst}
+use Rattle.std.proofs.Common.{Bool, ℕ, List, [], ◌∷◌, refl, sym, subst}
 use Rattle.std.specs.Prelude.{All}
 use Rattle.std.proofs.lemmas.List.Elements.{All-cons, All-head, All-nil, All-tail}
 use Rattle.bpf_talk.specs.Terminal.{Call, before_reads}
-use Rattle.bpf_talk.specs.Talking.{Told, Answering, AnswersLines, AreTold, Ends, IsCaughtUp, Talks}
+use Rattle.bpf_talk.specs.Talking.{Told, Answering, AnswersLines, IsCaughtUp, Talks}
 use Rattle.bpf_talk.specs.declared.talking.Talked.{Talked}
 use Rattle.bpf_talk.specs.declared.talking.Talked.TheVariants as talked
 

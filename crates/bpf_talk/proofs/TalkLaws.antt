@@ -1,12 +1,11 @@
 -- Where a conversation stands, line by line and read by read.
-use Rattle.std.proofs.Common.{◌≡◌, ◌∙◌, ℕ, ◌+◌, ◌<◌, ◌⊎◌, inl, inr, Bool, true, false, List, [], ◌∷◌, ◌++◌, length, length-append, take, ap, refl, sym, subst, append_assoc, append-nil, arith}
+use Rattle.std.proofs.Common.{◌≡◌, ◌∙◌, ℕ, ◌+◌, ◌^◌, ◌≤◌, ◌⊎◌, inl, inr, Bool, true, false, List, [], ◌∷◌, ◌++◌, length, length-append, take, ap, refl, sym, subst, append_assoc, append-nil, arith}
 use Rattle.std.specs.Prelude.{◌||◌, All, IsUtf8}
 use Rattle.std.proofs.lemmas.List.{take_all}
 use Rattle.std.proofs.lemmas.List.Elements.{All-cons, All-nil, All-push}
 use Rattle.bpf_lines.specs.Lines.{lines_of}
-use Rattle.bpf_talk.specs.Terminal.{Call, Read, Wrote, Flushed, AreWrites, IsPut, IsSaid, before_reads, bytes_read, bytes_written, is_ended, is_flushed, is_none}
-use Rattle.bpf_talk.specs.Talking.{Told, Answering, AnswersLines, AreAnswered, AreTold, EndsEarly, IsAt, IsCaughtUp, IsSaidWhy, IsStopped, Talks, any_refused, is_unread, is_unwritten, line_text, said, stop_line}
-use Rattle.bpf_talk.specs.declared.talking.TheConstants.{MAX_TALK}
+use Rattle.bpf_talk.specs.Terminal.{Call, Read, AreWrites, IsPut, IsSaid, before_reads, bytes_read, bytes_written, is_none}
+use Rattle.bpf_talk.specs.Talking.{Told, Answering, AnswersLines, AreTold, EndsEarly, IsAt, IsCaughtUp, IsSaidWhy, IsStopped, Talks, any_refused, is_unread, is_unwritten, line_text, said, stop_line}
 use Rattle.bpf_talk.specs.declared.talking.Stop.{Stop}
 use Rattle.bpf_talk.specs.declared.talking.Stop.TheVariants as stop
 use Rattle.bpf_talk.specs.declared.talking.Talked.{Talked}
@@ -42,7 +41,9 @@ no_bytes (b ∷ bytes) e = absurd (omega arith)
 
 keeps_any : (why : Stop) → (calls more : List Call) (left : List (List ℕ)) → AreWrites more → EndsEarly why left calls → EndsEarly why left (more ++ calls)
 keeps_any stop.Unread calls more left w e = tt
-keeps_any stop.TooLong calls more left w e = subst (λ (bytes : List ℕ). MAX_TALK < length bytes) (sym (read_same more calls w)) e
+keeps_any stop.TooLong calls more [] w e = absurd e
+keeps_any stop.TooLong calls more (line ∷ left) w (inl long) = inl long
+keeps_any stop.TooLong calls more (line ∷ left) w (inr many) = inr (subst (λ (bytes : List ℕ). 2 ^ 64 ≤ length bytes + 1) (sym (read_same more calls w)) many)
 keeps_any stop.NotText calls more [] w e = absurd e
 keeps_any stop.NotText calls more (line ∷ left) w e = e
 keeps_any stop.OutOfMemory calls more left w e = tt

@@ -1,8 +1,8 @@
 -- Calls of a terminal that only write.
-use Rattle.std.proofs.Common.{◌≡◌, ◌∙◌, ℕ, ◌+◌, ◌-◌, ◌≤◌, Bool, true, false, List, [], ◌∷◌, ◌++◌, drop, length, take, ap, refl, sym, subst, append_assoc, append-nil, arith, length-drop}
+use Rattle.std.proofs.Common.{◌≡◌, ◌∙◌, ℕ, ◌+◌, ◌-◌, ◌≤◌, true, List, [], ◌∷◌, ◌++◌, drop, length, take, ap, refl, sym, subst, append_assoc, append-nil, arith, length-drop}
 use Rattle.std.proofs.lemmas.List.{take_all, take-append-drop}
 use Rattle.std.proofs.Math.Seq.{take-add, take-append_seam}
-use Rattle.bpf_talk.specs.Terminal.{Call, Read, Wrote, Flushed, AreWrites, IsPut, IsSaid, before_reads, bytes_read, bytes_written, is_ended, is_flushed}
+use Rattle.bpf_talk.specs.Terminal.{Call, Read, Wrote, Flushed, AreWrites, IsPut, before_reads, bytes_read, bytes_written, is_ended, is_flushed}
 
 pub writes_more : (more calls : List Call) → AreWrites more → AreWrites calls → AreWrites (more ++ calls)
 writes_more [] calls p q = q

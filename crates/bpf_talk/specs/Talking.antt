@@ -1,8 +1,8 @@
 -- A conversation: lines that are read, answered and flushed, one after the other.
-use Rattle.std.specs.Prelude.{◌≡◌, ◌⊎◌, ◌<◌, ◌||◌, ℕ, Bool, true, false, All, IsUtf8, List, [], ◌∷◌, ◌++◌, Result, Ok, Err, codes, length, take}
+use Rattle.std.specs.Prelude.{◌≡◌, ◌⊎◌, ◌<◌, ◌≤◌, ◌+◌, ◌^◌, ◌||◌, ℕ, Bool, true, false, All, IsUtf8, List, [], ◌∷◌, ◌++◌, Result, Ok, Err, codes, length, take}
 use Rattle.bpf_lines.specs.Lines.{lines_of}
 use Rattle.bpf_talk.specs.Terminal.{Call, bytes_read, bytes_written, before_reads, is_ended, is_flushed, IsPut, IsSaid}
-use Rattle.bpf_talk.specs.declared.talking.TheConstants.{MAX_TALK}
+use Rattle.bpf_talk.specs.declared.talking.TheConstants.{MAX_LINE}
 use Rattle.bpf_talk.specs.declared.talking.Stop.{Stop}
 use Rattle.bpf_talk.specs.declared.talking.Stop.TheVariants as stop
 use Rattle.bpf_talk.specs.declared.talking.Talked.{Talked}
@@ -77,7 +77,9 @@ IsAt answers Reached echo first now left size ended refused = (calls : List Call
 -- why it ends before what is read does; of the lines that are left
 abbrev pub EndsEarly : Stop → (left : List (List ℕ)) → List Call → Type 0
 EndsEarly stop.Unread left calls = Unit {0}
-EndsEarly stop.TooLong left calls = MAX_TALK < length (bytes_read calls)
+EndsEarly stop.TooLong [] calls = ⊥
+EndsEarly stop.TooLong (line ∷ left) calls =
+    (MAX_LINE < length line) ⊎ (2 ^ 64 ≤ length (bytes_read calls) + 1)
 EndsEarly stop.NotText [] calls = ⊥
 EndsEarly stop.NotText (line ∷ left) calls = ¬ IsUtf8 line
 EndsEarly stop.OutOfMemory left calls = Unit {0}

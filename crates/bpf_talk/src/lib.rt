@@ -7,5 +7,5 @@ pub mod talking;
 pub mod terminal;
 
 pub use respond::Respond;
-pub use talking::{MAX_TALK, Stop, Talked, talk};
+pub use talking::{MAX_LINE, Stop, Talked, talk};
 pub use terminal::{Console, Terminal};

@@ -13,8 +13,8 @@ use bpf_lines::lines::first_line;
 use std::alloc::Global;
 use std::io;
 
-/// The greatest number of bytes that are read in a conversation: as many as a script may have.
-pub const MAX_TALK: usize = 16_777_216;
+/// The greatest number of bytes of a line: as many as a script may have.
+pub const MAX_LINE: usize = 16_777_216;
 
 const CHUNK: usize = 65_536;
 
@@ -23,7 +23,7 @@ const CHUNK: usize = 65_536;
 pub enum Stop {
     /// A read failed.
     Unread,
-    /// There are more than `MAX_TALK` bytes.
+    /// A line has more than `MAX_LINE` bytes; or `u64::MAX` reads were made.
     TooLong,
     /// A line isn't UTF-8.
     NotText,
@@ -268,23 +268,20 @@ fn answer_all<S: Respond, D: Terminal>(
 {
     let mut held = Vec::new(alloc);
     let mut chunk = [0; CHUNK];
-    let mut size = 0;
     let mut refused = false;
-    for _ in 0..MAX_TALK + 1 {
-        let most = CHUNK.min(MAX_TALK + 1 - size);
-        let count = hear(terminal, &mut held, &mut chunk[..most])?;
+    for _ in 0..u64::MAX {
+        let count = hear(terminal, &mut held, &mut chunk)?;
         if count == 0 {
             let last = answer_line(alloc, echo, session, &held, terminal)?;
             return Ok(either(refused, last));
         }
-        size += count;
-        if size > MAX_TALK {
-            return Err(Stop::TooLong);
-        }
         let one = answer_held(alloc, echo, session, &mut held, terminal)?;
         refused = either(refused, one);
+        if held.len() > MAX_LINE {
+            return Err(Stop::TooLong);
+        }
     }
-    unreachable!()
+    Err(Stop::TooLong)
 }
 
 /// Says why no more is answered.

@@ -1,4 +1,4 @@
-use Rattle.std.proofs.Common.{◌≡◌, ◌∷◌, ℕ, List, Bool, false}
+use Rattle.std.proofs.Common.{◌≡◌, ◌∷◌, ℕ, Bool, false}
 use Rattle.std.specs.Prelude.{◌||◌}
 use Rattle.std.specs.Option.{option_copied}
 use Rattle.bpf_lines.specs.Lines.{lines_of, lines_behind, rest_size}

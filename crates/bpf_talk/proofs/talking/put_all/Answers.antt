@@ -1,6 +1,6 @@
-use Rattle.std.proofs.Common.{◌+◌, ◌∙◌, [], List, map, refl}
+use Rattle.std.proofs.Common.{◌+◌, ◌∙◌, [], map, refl}
 use Rattle.std.specs.List.{concat}
-use Rattle.bpf_talk.proofs.Texts.{far_cut, far_end, for_err, far_more, next_text, texts_left}
+use Rattle.bpf_talk.proofs.Texts.{far_cut, for_err, far_more, next_text, texts_left}
 use Rattle.bpf_talk.proofs.talking.put_all.Goals as goal
 
 pub loop-text-init : goal.loop-text-init
