@@ -6,7 +6,7 @@ _ebpf() {
         --budget|--by|--ctx|--limit|--show|--sync|--workers) return ;;
     esac
     case ${COMP_CWORD}:${COMP_WORDS[1]} in
-        1:*) words='hex asm disasm run explore check debug explain -h --help -V --version' ;;
+        1:*) words='hex asm disasm run explore check expand debug explain -h --help -V --version' ;;
         *) words= ;;
     esac
     [ "$COMP_CWORD" -gt 1 ] && case ${COMP_WORDS[1]} in
@@ -16,6 +16,7 @@ _ebpf() {
         run) words='--explain --keys --maps --events --check --by --workers --stats --json -h --help' files=1 ;;
         explore) words='--explain --patient --json --progress --races --sync --limit --show -h --help' files=1 ;;
         check) words='--explain --patient --json --progress --limit -h --help' files=1 ;;
+        expand) words='--explain --first --patient -h --help' files=1 ;;
         debug) words='--explain --echo --strict -h --help' files=1 ;;
         explain) words='-h --help' ;;
     esac

@@ -8,6 +8,7 @@ complete -c ebpf -n '__fish_use_subcommand' -a disasm -d 'Turns words given as h
 complete -c ebpf -n '__fish_use_subcommand' -a run -d 'Runs the jobs of a run file, over its maps'
 complete -c ebpf -n '__fish_use_subcommand' -a explore -d 'Finds all that the jobs of a run file can come to, by every order of turns'
 complete -c ebpf -n '__fish_use_subcommand' -a check -d 'Tells whether all that a run file'\''s jobs can come to is as its comments expect'
+complete -c ebpf -n '__fish_use_subcommand' -a expand -d 'Tells what each CPU'\''s turn leads to from states that are read, for searches by other programs'
 complete -c ebpf -n '__fish_use_subcommand' -a debug -d 'Runs the jobs of a run file by commands, and shows what they ask for'
 complete -c ebpf -n '__fish_use_subcommand' -a explain -d 'Prints what a code means, an input that gives it, and what to do'
 complete -c ebpf -n '__fish_seen_subcommand_from hex' -l explain -f -d 'Explains a refusal or a fault on standard error'
@@ -54,6 +55,11 @@ complete -c ebpf -n '__fish_seen_subcommand_from check' -l progress -f -d 'Tells
 complete -c ebpf -n '__fish_seen_subcommand_from check' -l limit -x -d 'Ends the search once more states than this are kept, 0 to 1000000000'
 complete -c ebpf -n '__fish_seen_subcommand_from check' -s h -l help -f -d 'Print help'
 complete -c ebpf -n '__fish_seen_subcommand_from check' -F
+complete -c ebpf -n '__fish_seen_subcommand_from expand' -l explain -f -d 'Explains a refusal or a fault on standard error'
+complete -c ebpf -n '__fish_seen_subcommand_from expand' -l first -f -d 'Prints the first state, and reads none'
+complete -c ebpf -n '__fish_seen_subcommand_from expand' -l patient -f -d 'Takes states for one that differ only in the steps that are left of budgets'
+complete -c ebpf -n '__fish_seen_subcommand_from expand' -s h -l help -f -d 'Print help'
+complete -c ebpf -n '__fish_seen_subcommand_from expand' -F
 complete -c ebpf -n '__fish_seen_subcommand_from debug' -l explain -f -d 'Explains a refusal or a fault on standard error'
 complete -c ebpf -n '__fish_seen_subcommand_from debug' -l echo -f -d 'Prints each line of commands before its answer, behind '\''> '\'''
 complete -c ebpf -n '__fish_seen_subcommand_from debug' -l strict -f -d 'Exits with status 1 where a command is refused'

@@ -132,8 +132,11 @@ all_known = (
           (
             (λ words e is. absurd (no_runner (codes "check") refl refl is)),
             (
-              (λ words e is. absurd (no_runner (codes "debug") refl refl is)),
-              ((λ words e is. absurd (no_runner (codes "explain") refl refl is)), tt),
+              (λ words e is. absurd (no_runner (codes "expand") refl refl is)),
+              (
+                (λ words e is. absurd (no_runner (codes "debug") refl refl is)),
+                ((λ words e is. absurd (no_runner (codes "explain") refl refl is)), tt),
+              ),
             ),
           ),
         ),

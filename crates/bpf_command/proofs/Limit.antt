@@ -168,8 +168,11 @@ all_known = (
           (
             (λ words e is. check_limit words e),
             (
-              (λ words e is. absurd (no_search (codes "debug") refl refl is)),
-              ((λ words e is. absurd (no_search (codes "explain") refl refl is)), tt),
+              (λ words e is. absurd (no_search (codes "expand") refl refl is)),
+              (
+                (λ words e is. absurd (no_search (codes "debug") refl refl is)),
+                ((λ words e is. absurd (no_search (codes "explain") refl refl is)), tt),
+              ),
             ),
           ),
         ),

@@ -117,8 +117,11 @@ all_known = (
           (
             (λ words e is. absurd (other_name (codes "explore") (codes "check") refl is)),
             (
-              (λ words e is. absurd (other_name (codes "explore") (codes "debug") refl is)),
-              ((λ words e is. absurd (other_name (codes "explore") (codes "explain") refl is)), tt),
+              (λ words e is. absurd (other_name (codes "explore") (codes "expand") refl is)),
+              (
+                (λ words e is. absurd (other_name (codes "explore") (codes "debug") refl is)),
+                ((λ words e is. absurd (other_name (codes "explore") (codes "explain") refl is)), tt),
+              ),
             ),
           ),
         ),

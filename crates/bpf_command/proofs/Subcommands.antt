@@ -47,7 +47,13 @@ entered_known (Some p) e = find_known p.1 (λ s. answers_to p.0 (label_of s)) (b
         inr (inr (inr (inr (inl refl)))),
         (
           inr (inr (inr (inr (inr (inl refl))))),
-          (inr (inr (inr (inr (inr (inr (inl refl)))))), (inr (inr (inr (inr (inr (inr (inr refl)))))), (inl refl, tt))),
+          (
+            inr (inr (inr (inr (inr (inr (inl refl)))))),
+            (
+              inr (inr (inr (inr (inr (inr (inr (inl refl))))))),
+              (inr (inr (inr (inr (inr (inr (inr (inr refl))))))), (inl refl, tt)),
+            ),
+          ),
         ),
       ),
     ),

@@ -119,8 +119,11 @@ all_known = (
           (
             (λ words e is. absurd (other_name (codes "run") (codes "check") refl is)),
             (
-              (λ words e is. absurd (other_name (codes "run") (codes "debug") refl is)),
-              ((λ words e is. absurd (other_name (codes "run") (codes "explain") refl is)), tt),
+              (λ words e is. absurd (other_name (codes "run") (codes "expand") refl is)),
+              (
+                (λ words e is. absurd (other_name (codes "run") (codes "debug") refl is)),
+                ((λ words e is. absurd (other_name (codes "run") (codes "explain") refl is)), tt),
+              ),
             ),
           ),
         ),

@@ -174,6 +174,16 @@ explore = with_rule (with_rule explore_options show) file
 abbrev pub check : App
 check = with_rule (with_rule (searching (codes "check")) limit) files
 
+-- `--first`
+abbrev pub first : Rule
+first = record (new_rule (codes "first")) { long = Some (codes "first"); action = Some SetTrue }
+
+abbrev pub expand_options : App
+expand_options = with_rule (with_rule (with_rule (new_app (codes "expand")) explained) first) patient
+
+abbrev pub expand : App
+expand = with_rule expand_options file
+
 -- the code that `explain` is asked for
 abbrev pub code_rule : Rule
 code_rule = record (new_rule (codes "code")) { value_names = 1; required = true }
@@ -215,9 +225,9 @@ abbrev pub for_files : App
 for_files = with_subcommand (with_subcommand (with_subcommand one_program run.top) explore.top)
     check.top
 
--- and `ebpf debug` for one with commands behind it
+-- and `ebpf expand` for one with states beside it, and `ebpf debug` for one with commands behind it
 abbrev pub working : App
-working = with_subcommand for_files debug.top
+working = with_subcommand (with_subcommand for_files expand.top) debug.top
 
 -- and `ebpf explain`, with `--help` and `--version`
 abbrev pub ebpf : App
@@ -227,7 +237,7 @@ ebpf = with_subcommand working explain.top
 abbrev pub IsWorkName : Text → Type 0
 IsWorkName name = (name ≡ codes "hex") ⊎ ((name ≡ codes "asm") ⊎ ((name ≡ codes "disasm")
     ⊎ ((name ≡ codes "run") ⊎ ((name ≡ codes "explore") ⊎ ((name ≡ codes "check")
-    ⊎ (name ≡ codes "debug"))))))
+    ⊎ ((name ≡ codes "expand") ⊎ (name ≡ codes "debug")))))))
 
 -- the name of one of those that run one program
 abbrev pub IsRunnerName : Text → Type 0
@@ -237,7 +247,7 @@ IsRunnerName name = (name ≡ codes "hex") ⊎ (name ≡ codes "asm")
 abbrev pub IsSearchName : Text → Type 0
 IsSearchName name = (name ≡ codes "explore") ⊎ (name ≡ codes "check")
 
--- the name of one of the eight
+-- the name of one of the nine
 abbrev pub IsCommandName : Text → Type 0
 IsCommandName name = (name ≡ codes "explain") ⊎ IsWorkName name
 

@@ -123,6 +123,13 @@ pub enum Command {
     Races(RaceOptions),
     /// Tell by every schedule whether a run file's outcomes are as its comments expect.
     Check(SearchOptions),
+    /// Tell what each CPU's turn leads to from states that are read, each a line.
+    Expand {
+        /// To tell the first state in place of those that others lead to.
+        first: bool,
+        /// To pass over how many steps are left of budgets.
+        patient: bool,
+    },
     /// Run the jobs of a run file by commands, and show what they ask for.
     Debug {
         /// To print each line before its answer.

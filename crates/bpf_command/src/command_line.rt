@@ -335,6 +335,15 @@ fn explore_of(alloc: Global, options: &ArgMatches) -> Result<Command, CommandErr
     }
 }
 
+/// The command `expand` with what it is to tell.
+fn expand_of(options: &ArgMatches) -> Command
+    ensures { Names (Some (codes "expand", rows_of (found_of options.now))) result }
+{
+    let first = is_given(options, "first");
+    let patient = is_given(options, "patient");
+    Command::Expand { first, patient }
+}
+
 fn named(alloc: Global, name: &str, options: &ArgMatches) -> Result<Command, CommandError>
     requires known { IsWorkName name.now }
     requires checked { IsRunnerName name.now → HasBudget (rows_of (found_of options.now)) }
@@ -353,6 +362,7 @@ fn named(alloc: Global, name: &str, options: &ArgMatches) -> Result<Command, Com
         "run" => run_of(alloc, options),
         "explore" => explore_of(alloc, options),
         "check" => Ok(Command::Check(search_of(options))),
+        "expand" => Ok(expand_of(options)),
         _ => Ok(Command::Debug {
             echo: is_given(options, "echo"),
             strict: is_given(options, "strict"),

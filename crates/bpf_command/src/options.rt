@@ -3,7 +3,7 @@
 ghost use Rattle.std.specs.Prelude.{◌≡◌, false, IfOk};
 ghost use Rattle.clap.specs.Words.{app_of, rule_of, shape_of};
 ghost use Rattle.clap.specs.declared.builder.command.Command.TheViews.{out-Command as fields_of};
-ghost use Rattle.bpf_command.specs.CommandLine.{asm, asm_shows, bare, budget, check, code_rule, context, debug, debug_options, disasm, ebpf, echo, events, explain, explained, explore, explore_options, file, files, for_files, hex, hex_options, judged, json, keys, limit, listing, maps, one_program, patient, pc, progress, races, run, run_lists, run_options, run_shows, runs, schedule, searching, show, stats, strict, sync, workers, working};
+ghost use Rattle.bpf_command.specs.CommandLine.{asm, asm_shows, bare, budget, check, code_rule, context, debug, debug_options, disasm, ebpf, echo, events, expand, expand_options, explain, explained, explore, explore_options, file, files, first, for_files, hex, hex_options, judged, json, keys, limit, listing, maps, one_program, patient, pc, progress, races, run, run_lists, run_options, run_shows, runs, schedule, searching, show, stats, strict, sync, workers, working};
 
 use crate::command::{MAX_LIMIT, MAX_WORKERS};
 use bpf_base::MAX_BUDGET;
@@ -160,6 +160,29 @@ Exit status:
   2  the command line is at fault
   3  a test isn't ok
   4  the search met its limit: not all tests could be told, and those that could are ok";
+
+const EXPAND_NOTES: &str = "\
+Each line of standard input is a state, in lower case hex as --first prints the first one; an empty
+line is passed over. The states that the CPUs' turns lead to from it are printed by rising CPU, a line
+each: 'state HEX by C*N', where CPU C made N turns, as 'run --by' takes them. Where no CPU has work a
+line 'report HEX' is printed: the bytes of the lines that 'run --maps' prints. A line that is no state
+of FILE is answered 'refused X1 LINE', LINE counted from 1, and the next one is read. Each line is
+answered before more is read. Where standard input is the run file itself, --first alone is of use.
+
+With --patient states that differ only in the steps that are left of budgets count as one.
+
+For example
+  $ ebpf expand --first examples/first-insert.run > first
+  $ ebpf expand examples/first-insert.run < first | cut -d ' ' -f 1
+  state
+  state
+  $ echo 00 | ebpf expand examples/lost-update.run
+  refused X1 1
+
+Exit status:
+  0  every line is answered
+  1  the run file or a line is refused, or the output failed
+  2  the command line is at fault";
 
 const EXPLAIN_NOTES: &str = "\
 Nothing is read. The code is what stands behind 'refused' or 'fault', as in
@@ -624,6 +647,49 @@ fn strict_option<'a>(alloc: Global) -> Arg<'a>
         .help("Exits with status 1 where a command is refused")
 }
 
+fn first_option<'a>(alloc: Global) -> Arg<'a>
+    ensures rule { rule_of result ≡ first }
+    ensures own { result.global ≡ false }
+{
+    Arg::new(alloc, "first")
+        .long("first")
+        .action(ArgAction::SetTrue)
+        .help("Prints the first state, and reads none")
+}
+
+/// The option `--patient` of a command that makes no search of its own.
+fn alike_option<'a>(alloc: Global) -> Arg<'a>
+    ensures rule { rule_of result ≡ patient }
+    ensures own { result.global ≡ false }
+{
+    Arg::new(alloc, "patient")
+        .long("patient")
+        .action(ArgAction::SetTrue)
+        .help("Takes states for one that differ only in the steps that are left of budgets")
+}
+
+/// The command `expand` before its file.
+fn expand_options<'a>(alloc: Global) -> Result<Command<'a>, AllocError>
+    ensures shape { IfOk result (λ c. shape_of c ≡ expand_options.top) }
+    ensures own { IfOk result (λ c. (fields_of c).has_globals ≡ false) }
+{
+    Command::new(alloc, "expand")
+        .about(
+            "Tells what each CPU's turn leads to from states that are read, for searches by other programs",
+        )
+        .after_help(EXPAND_NOTES)
+        .arg(explain_option(alloc))?
+        .arg(first_option(alloc))?
+        .arg(alike_option(alloc))
+}
+
+fn expand_command<'a>(alloc: Global) -> Result<Command<'a>, AllocError>
+    ensures shape { IfOk result (λ c. shape_of c ≡ expand.top) }
+    ensures own { IfOk result (λ c. (fields_of c).has_globals ≡ false) }
+{
+    expand_options(alloc)?.arg(file_argument(alloc))
+}
+
 /// The command `debug` before its file.
 fn debug_options<'a>(alloc: Global) -> Result<Command<'a>, AllocError>
     ensures shape { IfOk result (λ c. shape_of c ≡ debug_options.top) }
@@ -698,8 +764,8 @@ fn file_commands<'a>(alloc: Global) -> Result<Command<'a>, AllocError>
 fn working_commands<'a>(alloc: Global) -> Result<Command<'a>, AllocError>
     ensures app { IfOk result (λ c. app_of c ≡ working) }
 {
-    let with_files = file_commands(alloc)?;
-    with_files.subcommand(debug_command(alloc)?)
+    let with_expand = file_commands(alloc)?.subcommand(expand_command(alloc)?)?;
+    with_expand.subcommand(debug_command(alloc)?)
 }
 
 /// The command line of the whole program.
