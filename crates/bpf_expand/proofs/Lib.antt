@@ -3,3 +3,5 @@ pub mod Alike
 pub mod Covering
 pub mod Taking
 pub mod Turning
+pub mod Reporting
+pub mod Answered

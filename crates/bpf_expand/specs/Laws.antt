@@ -1,11 +1,16 @@
 -- Sets of states that cover all that schedules lead to.
-use Rattle.std.specs.Prelude.{◌≡◌, ℕ, ◌⊎◌, List, Some, slice_get}
+use Rattle.std.specs.Prelude.{◌≡◌, ◌≢◌, ℕ, ◌⊎◌, All, Bool, false, true, List, [], Ok, Some, slice_get}
+use Rattle.hex.specs.Hex.{decode_of}
 use Rattle.bpf_machine.specs.Schedule.{World, RunsSchedule}
 use Rattle.bpf_machine.specs.Rounds.{HaveEnded}
 use Rattle.bpf_machine.specs.Machine.{MachineState, Shows}
 use Rattle.bpf_machine.specs.Laws.{IsFresh}
+use Rattle.bpf_machine.specs.Patient.{IsCoveredRichly, NoneRanOut}
 use Rattle.bpf_machine.specs.Cover.{IsShown, IsCovered}
-use Rattle.bpf_expand.specs.State.{Host, IsStateOf, IsIdleIn, IsSuccessor}
+use Rattle.bpf_jobs.specs.Printed.{Tells}
+use Rattle.bpf_expand.specs.declared.successor.Successor.{Successor}
+use Rattle.bpf_expand.specs.Filter.{IsReportIn}
+use Rattle.bpf_expand.specs.State.{Host, AreSuccessors, IsStateOf, IsIdleIn, IsSuccessor}
 
 -- the bytes are among these
 abbrev pub IsAmong : List (List ℕ) → List ℕ → Type 0
@@ -14,7 +19,8 @@ IsAmong states bytes = (i : ℕ) × (slice_get states i ≡ Some bytes)
 -- of each of them, what each CPU's turn leads to is among them
 abbrev pub AreClosed : Host → List (List ℕ) → Type 0
 AreClosed h states = (bytes : List ℕ) (c : ℕ) → IsAmong states bytes
-    → IsIdleIn h bytes c ⊎ ((next : List ℕ) × IsSuccessor h bytes c next × IsAmong states next)
+    → IsIdleIn h bytes c
+    ⊎ ((n : ℕ) × (next : List ℕ) × IsSuccessor h bytes c n next × IsAmong states next)
 
 -- each of these machines is saved as one of them
 abbrev pub AreOf : Host → List (List ℕ) → List MachineState → Type 0
@@ -27,7 +33,48 @@ abbrev pub StatesCover : Type 0
 StatesCover =
     (h : Host) (states : List (List ℕ)) (first : MachineState) (bytes : List ℕ) (w z : World)
     (schedule : List ℕ)
-    → AreClosed h states → IsStateOf h first bytes → IsAmong states bytes
+    → h.patient ≡ false → AreClosed h states → IsStateOf h first bytes → IsAmong states bytes
     → IsFresh w → Shows first w → RunsSchedule w schedule z
     → (machines : List MachineState) × AreOf h states machines × IsCovered machines z
     × (HaveEnded z.jobs → IsShown machines z)
+
+-- where budgets are passed over: the same of schedules in which no job runs out of budget
+abbrev pub PatientStatesCover : Type 0
+PatientStatesCover =
+    (h : Host) (states : List (List ℕ)) (first : MachineState) (bytes : List ℕ) (w z : World)
+    (schedule : List ℕ)
+    → h.patient ≡ true → AreClosed h states → IsStateOf h first bytes → IsAmong states bytes
+    → IsFresh w → Shows first w → RunsSchedule w schedule z → NoneRanOut z.jobs
+    → (machines : List MachineState) × AreOf h states machines × IsCoveredRichly machines z
+    × (HaveEnded z.jobs → IsShown machines z)
+
+-- ---- lines
+-- the bytes are those of one of the lines
+abbrev pub HasLine : List (List ℕ) → List ℕ → Type 0
+HasLine lines bytes = (line : List ℕ) × IsAmong lines line × (decode_of line ≡ Ok bytes)
+
+-- the line is told, and each state that it leads to has a line
+abbrev pub IsAnswered : Host → List (List ℕ) → List (List ℕ) → List ℕ → Type 0
+IsAnswered h names lines line = (bytes : List ℕ) × (decode_of line ≡ Ok bytes)
+    × (((found : List Successor) × AreSuccessors h bytes found × (found ≢ [])
+    × All (λ s. HasLine lines s.bytes.items) found)
+    ⊎ ((report : List ℕ) × IsReportIn h names bytes report))
+
+-- so is each of them
+abbrev pub AreAnswered : Host → List (List ℕ) → List (List ℕ) → Type 0
+AreAnswered h names lines = (line : List ℕ) → IsAmong lines line → IsAnswered h names lines line
+
+-- what is told of a world is the report of one of the lines
+abbrev pub IsReported : Host → List (List ℕ) → List (List ℕ) → World → Type 0
+IsReported h names lines z = (bytes report : List ℕ) × (stopped : Bool) × HasLine lines bytes
+    × IsReportIn h names bytes report × Tells z.store z.jobs names true report stopped
+
+-- lines that are closed so, the first state's among them, have all outcomes: whatever schedule leads
+-- to an end from what a machine shows before its first turn, a line's report is told of it
+abbrev pub LinesCover : Type 0
+LinesCover =
+    (h : Host) (names lines : List (List ℕ)) (first : MachineState) (bytes : List ℕ) (w z : World)
+    (schedule : List ℕ)
+    → h.patient ≡ false → AreAnswered h names lines → IsStateOf h first bytes → HasLine lines bytes
+    → IsFresh w → Shows first w → RunsSchedule w schedule z → HaveEnded z.jobs
+    → IsReported h names lines z

@@ -1,3 +1,5 @@
 pub mod State
+pub mod Lines
+pub mod Filter
 pub mod Laws
 pub mod Private

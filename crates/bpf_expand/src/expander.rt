@@ -1,11 +1,14 @@
 //! A host whose states are read and made.
 
-ghost use Rattle.std.specs.Prelude.{◌≡◌, IfOk, None};
+ghost use Rattle.std.specs.Prelude.{◌≡◌, IfOk, None, map, string_bytes};
 ghost use Rattle.bpf_explore.specs.Stores.{IsOfShape};
+ghost use Rattle.bpf_machine.specs.Parts.{IsSameHost};
+ghost use Rattle.bpf_expand.specs.State.{Fills, IsTold};
 
 use crate::jobs::{are_told, count_up, keep_jobs, save_jobs};
-use crate::successor::{Next, Successor};
+use crate::successor::Successor;
 use bpf_explore::copy_shape;
+use bpf_jobs::tell;
 use bpf_machine::{KeptJob, Machine, read_jobs};
 use bpf_plain::PlainStore;
 use bpf_shared::StoreShape;
@@ -20,10 +23,41 @@ fn make_room(alloc: Global, shape: &StoreShape) -> Result<PlainStore, AllocError
     PlainStore::new(alloc, shape).map_err(|_| AllocError)
 }
 
+/// Gives a CPU's job in hand its whole budget back, where budgets are passed over.
+fn fill(machine: &mut Machine, patient: bool, cpu: u8)
+    ensures fills { Fills patient machine.old cpu machine.new }
+    ensures same { IsSameHost machine.old machine.new }
+{
+    if patient {
+        machine.refill(cpu);
+    }
+}
+
+/// What is told of a machine's jobs and maps, which have these names.
+fn report(alloc: Global, machine: &Machine, names: &[String]) -> Result<String, AllocError>
+    requires { machine.now.lists ≡ None }
+    ensures { IfOk result (λ text. IsTold machine.now (map string_bytes names.now)
+        (string_bytes text)) }
+{
+    let report = tell(alloc, machine, names, true)?;
+    Ok(report.text)
+}
+
+/// What a CPU's turn leads to from some bytes.
+enum Next {
+    /// They are no state of the host.
+    Refused,
+    /// The CPU has no work.
+    Idle,
+    State(Successor),
+}
+
 /// A machine of a host, which any state of it can be read into.
 #[derive(Drop)]
 pub struct Expander {
     alloc: Global,
+    /// How many steps are left of budgets is passed over.
+    patient: bool,
     shape: StoreShape,
     machine: Machine,
     /// A store of the same shape, to read one into.
@@ -41,7 +75,12 @@ impl Model for Expander {
     ghost Value = { ExpanderState };
 
     ghost view = { λ e. record {
-      host = record { shape = e.shape; programs = e.machine.programs; jobs = e.first.items };
+      host = record {
+        shape = e.shape;
+        programs = e.machine.programs;
+        jobs = e.first.items;
+        patient = e.patient;
+      };
       machine = e.machine;
     } };
 
@@ -49,16 +88,22 @@ impl Model for Expander {
 }
 
 impl Expander {
-    ghost use Rattle.std.specs.Prelude.{◌≡◌, true, false, IfOk, IfSome, None};
-    ghost use Rattle.bpf_machine.specs.Cover.{TurnsTo};
+    ghost use Rattle.std.specs.Prelude.{◌≡◌, true, false, IfNone, IfOk, IfSome, None, map, string_bytes};
     ghost use Rattle.bpf_machine.specs.Hands.{IsFree, NoneWaits};
-    ghost use Rattle.bpf_expand.specs.State.{AreSuccessors, IsNext, IsNoState, IsSavedState, IsStateOf};
+    ghost use Rattle.bpf_expand.specs.State.{AreSuccessors, HasWork, IsNoState, IsSavedState, IsStateOf, IsTold, Leads};
+    ghost use Rattle.bpf_expand.specs.Private.Next.{IsNext};
 
     /// The host of a machine, which is the one to work with.
-    pub fn new(alloc: Global, shape: StoreShape, machine: Machine) -> Result<Expander, AllocError>
+    pub fn new(
+        alloc: Global,
+        patient: bool,
+        shape: StoreShape,
+        machine: Machine,
+    ) -> Result<Expander, AllocError>
         requires shape { IsOfShape shape machine.store }
         requires lists { machine.lists ≡ None }
         ensures machine { IfOk result (λ e. e.machine ≡ machine) }
+        ensures patient { IfOk result (λ e. e.host.patient ≡ patient) }
         ensures shape { IfOk result (λ e. e.host.shape ≡ shape) }
         ensures programs { IfOk result (λ e. e.host.programs ≡ machine.programs) }
         ensures jobs { IfOk result (λ e. e.host.jobs ≡ machine.jobs) }
@@ -69,6 +114,7 @@ impl Expander {
         let room = make_room(alloc, &shape)?;
         Ok(Expander {
             alloc,
+            patient,
             shape,
             machine,
             room,
@@ -94,17 +140,17 @@ impl Expander {
         Ok(bytes)
     }
 
-    /// The state of the machine. `None` where its bytes don't tell the machine.
-    pub fn state(&self) -> Result<Option<Vec<u8>>, AllocError>
-        ensures { IfOk result (λ o. IfSome o
-            (λ v. IsStateOf self.now.host self.now.machine v.items)) }
+    /// The state of the machine. That its bytes don't tell the machine counts as want of memory; no
+    /// such machine is known.
+    pub fn state(&self) -> Result<Vec<u8>, AllocError>
+        ensures { IfOk result (λ v. IsStateOf self.now.host self.now.machine v.items) }
     {
         self.machine.stands();
         let bytes = self.save()?;
         if are_told(self.alloc, &self.machine, &self.first, &bytes)? {
-            Ok(Some(bytes))
+            Ok(bytes)
         } else {
-            Ok(None)
+            Err(AllocError)
         }
     }
 
@@ -130,24 +176,30 @@ impl Expander {
         Ok(true)
     }
 
-    /// One turn of a CPU, and then its turns that no store sees.
-    pub fn turn_ahead(&mut self, cpu: u8)
-        ensures turns { TurnsTo self.old.machine cpu self.new.machine }
+    /// One turn of a CPU, and then its turns that no store sees: how many of these.
+    pub fn turn_ahead(&mut self, cpu: u8) -> u64
+        ensures turns { Leads self.old.host self.old.machine cpu result self.new.machine }
         ensures same { self.new.host ≡ self.old.host }
     {
-        self.machine.turn_ahead(cpu);
+        let ahead = self.machine.turn_ahead(cpu);
+        fill(&mut self.machine, self.patient, cpu);
+        ahead
     }
 
     /// Whether a CPU has work.
     pub fn has_work(&self, cpu: u8) -> bool
-        ensures { result ≡ false
+        ensures work { result ≡ true → HasWork self.now.machine cpu }
+        ensures idle { result ≡ false
             → IsFree self.now.machine.jobs cpu × NoneWaits self.now.machine.jobs cpu }
     {
-        self.machine.job(cpu).is_some()
+        match self.machine.job(cpu) {
+            Some(_) => true,
+            None => false,
+        }
     }
 
     /// What a CPU's turn leads to from the state of these bytes.
-    pub fn next(&mut self, bytes: &[u8], cpu: u8) -> Result<Next, AllocError>
+    fn next(&mut self, bytes: &[u8], cpu: u8) -> Result<Next, AllocError>
         ensures next { IfOk result (λ n. IsNext self.new.host bytes.now cpu n) }
         ensures same { self.new.host ≡ self.old.host }
     {
@@ -157,18 +209,17 @@ impl Expander {
         if !self.has_work(cpu) {
             return Ok(Next::Idle);
         }
-        self.turn_ahead(cpu);
-        match self.state()? {
-            Some(state) => Ok(Next::State(state)),
-            None => Ok(Next::Untold),
-        }
+        let ahead = self.turn_ahead(cpu);
+        let bytes = self.state()?;
+        Ok(Next::State(Successor { cpu, ahead, bytes }))
     }
 
     /// What the turns of all CPUs with work lead to from the state of these bytes, by rising CPU.
-    /// `None` where they are no state of the host, or one of those isn't told by its bytes.
+    /// `None` where they are no state of the host.
     pub fn successors(&mut self, bytes: &[u8]) -> Result<Option<Vec<Successor>>, AllocError>
         ensures some { IfOk result (λ o. IfSome o
             (λ found. AreSuccessors self.new.host bytes.now found.items)) }
+        ensures none { IfOk result (λ o. IfNone o (IsNoState self.new.host bytes.now)) }
         ensures same { self.new.host ≡ self.old.host }
     {
         let mut found = Vec::new(self.alloc);
@@ -179,10 +230,18 @@ impl Expander {
         for cpu in 0..cpus {
             match self.next(bytes, cpu)? {
                 Next::Idle => {}
-                Next::State(bytes) => found.push(Successor { cpu, bytes })?,
-                Next::Refused | Next::Untold => return Ok(None),
+                Next::State(successor) => found.push(successor)?,
+                Next::Refused => return Ok(None),
             }
         }
         Ok(Some(found))
+    }
+
+    /// What is told of the machine's jobs and maps, which have these names.
+    pub fn report(&self, names: &[String]) -> Result<String, AllocError>
+        ensures { IfOk result (λ text. IsTold self.now.machine (map string_bytes names.now)
+            (string_bytes text)) }
+    {
+        report(self.alloc, &self.machine, names)
     }
 }

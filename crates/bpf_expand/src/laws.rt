@@ -1,7 +1,7 @@
 //! What follows from the definition of a state, as promises to the crates above.
 //!
 //! These functions do nothing: their contracts are the laws, which a proof cites.
-ghost use Rattle.bpf_expand.specs.Laws.{StatesCover};
+ghost use Rattle.bpf_expand.specs.Laws.{LinesCover, PatientStatesCover, StatesCover};
 
 /// States of which each CPU's turn leads to one of them cover all that schedules lead to.
 pub fn states_cover()
@@ -10,4 +10,23 @@ pub fn states_cover()
     bpf_plain::laws::saved_alike_look_alike();
     bpf_plain::laws::alike_stand_alike();
     bpf_machine::laws::closed_sets_cover();
+}
+
+/// The same of schedules in which no job runs out of budget, where how many steps are left of budgets
+/// is passed over.
+pub fn patient_states_cover()
+    ensures { PatientStatesCover }
+{
+    bpf_plain::laws::saved_alike_look_alike();
+    bpf_plain::laws::alike_stand_alike();
+    bpf_machine::laws::patient_sets_cover();
+}
+
+/// Lines of states that are closed under what they are answered have the report of each end.
+pub fn lines_cover()
+    ensures { LinesCover }
+{
+    states_cover();
+    bpf_plain::laws::saved_alike_look_alike();
+    bpf_plain::laws::alike_stand_alike();
 }

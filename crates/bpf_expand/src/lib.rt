@@ -2,9 +2,12 @@
 #![tactic(auto)]
 
 mod expander;
+mod filter;
 mod jobs;
 pub mod laws;
+mod lines;
 mod successor;
 
 pub use expander::Expander;
-pub use successor::{Next, Successor};
+pub use filter::{Filter, first_line};
+pub use successor::Successor;

@@ -1,10 +1,11 @@
-use Rattle.std.proofs.Common.{◌≡◌, ◌∙◌, ◌+◌, ◌≤◌, ℕ, List, sym, ap, subst, refl, arith}
+use Rattle.std.proofs.Common.{◌≡◌, ◌∙◌, ◌+◌, ◌≤◌, ℕ, List, sym, ap, subst, arith}
 use Rattle.std.specs.Prelude.{nat_lt}
 use Rattle.bpf_plain.specs.PlainStore.{has_cpu}
 use Rattle.bpf_machine.specs.Machine.{MachineState}
 use Rattle.bpf_expand.specs.declared.successor.Successor.{Successor}
-use Rattle.bpf_expand.specs.declared.successor.Next.{Next}
-use Rattle.bpf_expand.specs.State.{ExpanderState, Host, IsNext}
+use Rattle.bpf_expand.specs.declared.expander.Next.{Next}
+use Rattle.bpf_expand.specs.State.{ExpanderState, Host}
+use Rattle.bpf_expand.specs.Private.Next.{IsNext}
 use Rattle.bpf_expand.proofs.Turning.{AreBelow, IdleBeyond, none_below, idle_below, next_below, all_below, idle_beyond}
 use Rattle.bpf_expand.proofs.expander.Expander.successors.Goals as goal
 use Rattle.bpf_expand.proofs.expander.Expander.successors.Goals.{in-Idle, in-State+in_ok-push-in-State}
@@ -35,11 +36,11 @@ loop-cpu-preserved c =
             let found : c.match-branch-3.found.items ≡ was = cc (w.found-is) in
             subst (λ (l : List Successor). AreBelow h bytes l (cpu + 1)) (sym found) (idle_below h bytes was cpu before (subst (λ (n : Next). IsNext h bytes cpu n) w.in-Idle.is c.in_ok-next.ensures.next))
         | in-State+in_ok-push-in-State w ↦
-            let s : Successor = record { cpu = cpu; bytes = w.in-State.bytes } in
+            let s : Successor = w.in-State.successor in
             let is = subst (λ (n : Next). IsNext h bytes cpu n) w.in-State.is c.in_ok-next.ensures.next in
             let pushed = w.in_ok-push-in-State.ensures.items in
             let found : c.match-branch-3.found.items ≡ w.push.new.self.items = cc (w.found-is) in
-            subst (λ (l : List Successor). AreBelow h bytes l (cpu + 1)) (sym (found ∙ pushed)) (next_below h bytes was cpu s before refl is)
+            subst (λ (l : List Successor). AreBelow h bytes l (cpu + 1)) (sym (found ∙ pushed)) (next_below h bytes was cpu s before is)
       ];
       beyond = subst (λ (x : Host). IdleBeyond x bytes c.cpus-cpus.result) (sym same) c.loop-cpu.invariant.beyond;
     }

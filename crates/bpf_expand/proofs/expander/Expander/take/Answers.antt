@@ -13,7 +13,7 @@ use Rattle.bpf_expand.proofs.expander.Expander.take.Goals.{then-count-rest-via-t
 pub returns-in_default-2-clause-none : goal.returns-in_default-2-clause-none
 returns-in_default-2-clause-none c = λ no m is may.
     let here = c.self.inside in
-    let h : Host = record { shape = here.shape; programs = here.machine.programs; jobs = here.first.items } in
+    let h : Host = record { shape = here.shape; programs = here.machine.programs; jobs = here.first.items; patient = here.patient } in
     let jobs : List Task = c.in-Some.jobs.items in
     let later : AreLater h.jobs jobs = subst (λ (l : List Task). AreLater l jobs) c.deref.ensures.value (at_some _ _ _ c.in-Some.is c.in_ok-jobs.ensures.later) in
     let read : c.args.bytes.now ≡ jobs_saved jobs ++ c.in-Some.rest.now = at_some _ _ _ c.in-Some.is c.in_ok-jobs.ensures.some in
@@ -22,7 +22,7 @@ returns-in_default-2-clause-none c = λ no m is may.
 pub can_restore-requires : goal.can_restore-requires
 can_restore-requires c =
     let here = c.self.inside in
-    let h : Host = record { shape = here.shape; programs = here.machine.programs; jobs = here.first.items } in
+    let h : Host = record { shape = here.shape; programs = here.machine.programs; jobs = here.first.items; patient = here.patient } in
     let jobs : List Task = c.in-Some.jobs.items in
     let later : AreLater h.jobs jobs = subst (λ (l : List Task). AreLater l jobs) c.deref.ensures.value (at_some _ _ _ c.in-Some.is c.in_ok-jobs.ensures.later) in
     let read : c.args.bytes.now ≡ jobs_saved jobs ++ c.in-Some.rest.now = at_some _ _ _ c.in-Some.is c.in_ok-jobs.ensures.some in
@@ -32,7 +32,7 @@ can_restore-requires c =
 pub restore-requires-clause-within : goal.restore-requires-clause-within
 restore-requires-clause-within c =
     let here = c.self.inside in
-    let h : Host = record { shape = here.shape; programs = here.machine.programs; jobs = here.first.items } in
+    let h : Host = record { shape = here.shape; programs = here.machine.programs; jobs = here.first.items; patient = here.patient } in
     let jobs : List Task = c.in-Some.jobs.items in
     let later : AreLater h.jobs jobs = subst (λ (l : List Task). AreLater l jobs) c.deref.ensures.value (at_some _ _ _ c.in-Some.is c.in_ok-jobs.ensures.later) in
     let read : c.args.bytes.now ≡ jobs_saved jobs ++ c.in-Some.rest.now = at_some _ _ _ c.in-Some.is c.in_ok-jobs.ensures.some in
@@ -42,7 +42,7 @@ restore-requires-clause-within c =
 pub returns-then-count-rest-clause-none : goal.returns-then-count-rest-clause-none
 returns-then-count-rest-clause-none c = λ no m is may.
     let here = c.self.inside in
-    let h : Host = record { shape = here.shape; programs = here.machine.programs; jobs = here.first.items } in
+    let h : Host = record { shape = here.shape; programs = here.machine.programs; jobs = here.first.items; patient = here.patient } in
     let jobs : List Task = c.in-Some.jobs.items in
     let numbers : List ℕ = here.numbers.items in
     let room = c.read.new.self in
@@ -69,7 +69,7 @@ returns-then-count-rest-clause-none c = λ no m is may.
 pub returns-clause-taken : goal.returns-clause-taken
 returns-clause-taken c = λ yes.
     let here = c.self.inside in
-    let h : Host = record { shape = here.shape; programs = here.machine.programs; jobs = here.first.items } in
+    let h : Host = record { shape = here.shape; programs = here.machine.programs; jobs = here.first.items; patient = here.patient } in
     let jobs : List Task = c.in-Some.jobs.items in
     let numbers : List ℕ = here.numbers.items in
     let room = c.read.new.self in
@@ -84,5 +84,5 @@ returns-clause-taken c = λ yes.
     let made : c.restore.new.self ≡ made_of room h.programs jobs numbers =
     c.in_ok-restore.ensures.ok
     ∙ (ap (λ (l : List Task). made_of room h.programs l c.deref-3.result.now) c.deref-2.ensures.value ∙ ap (λ (ns : List ℕ). made_of room h.programs jobs ns) c.deref-3.ensures.value) in
-    subst (λ (m : MachineState). IsStateOf (record { shape = here.shape; programs = m.programs; jobs = here.first.items }) m c.args.bytes.now) (sym made)
+    subst (λ (m : MachineState). IsStateOf (record { shape = here.shape; programs = m.programs; jobs = here.first.items; patient = here.patient }) m c.args.bytes.now) (sym made)
     (is_state h jobs c.args.bytes.now rest later read here.room room c.in-Some-2.count c.self.invariant.spare stored numbers c.self.invariant.numbered whole stands)

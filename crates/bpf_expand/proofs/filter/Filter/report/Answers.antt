@@ -1,0 +1,18 @@
+use Rattle.std.proofs.Common.{◌∙◌, List, String, Global, [], inr, ap, map, string_bytes, subst, sym}
+use Rattle.bpf_expand.specs.State.{AreSuccessors, Host, IsTold}
+use Rattle.bpf_expand.specs.Filter.{FilterState}
+use Rattle.bpf_expand.specs.Lines.{report_line}
+use Rattle.bpf_expand.proofs.Reporting.{all_ended}
+use Rattle.bpf_expand.proofs.filter.Filter.report.Goals as goal
+
+pub returns-clause-some : goal.returns-clause-some
+returns-clause-some c =
+    let h : Host = c.take.new.self.host in
+    let m = c.take.new.self.machine in
+    let bytes = c.args.bytes.now in
+    let report = string_bytes c.in_ok-report.report in
+    let host = ap (λ (x : FilterState). x.host) c.self.view_is in
+    let ended = subst (λ (x : Host). AreSuccessors x bytes []) (sym (c.take.ensures.same ∙ host)) c.requires.ended in
+    let is = c.in_ok-take.ensures.taken c.if-not-branch.false in
+    let told = subst (λ (names : List (String Global)). IsTold m (map string_bytes names) report) c.deref.ensures.value c.in_ok-report.ensures in
+    inr (report, (m, is, all_ended h bytes m is ended, told), c.in_ok-report_line.ensures ∙ ap report_line c.as_str.ensures.value)

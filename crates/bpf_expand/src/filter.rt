@@ -1,0 +1,245 @@
+//! A filter of lines: each is a state, and answered by what CPUs' turns lead to from it.
+
+ghost use Rattle.std.specs.Prelude.{◌≡◌, ◌<◌, ◌≤◌, ℕ, List, All, IfNone, IfOk, IfSome, Ok, false, map, string_bytes, true, vec_len};
+ghost use Rattle.hex.specs.Hex.{decode_of};
+ghost use Rattle.bpf_mem.specs.Limits.{max_context};
+ghost use Rattle.bpf_cpu.specs.Task.{waiting};
+ghost use Rattle.bpf_machine.specs.Machine.{Shows};
+ghost use Rattle.bpf_jobs.specs.Printed.{first_world};
+ghost use Rattle.bpf_expand.specs.Filter.{IsFirstLine, host_of, new_filter};
+ghost use Rattle.bpf_expand.specs.Lines.{no_state_line};
+
+use crate::expander::Expander;
+use crate::lines::{no_state_line, report_line, state_line, successor_lines};
+use bpf_cpu::Job;
+use bpf_explore::copy_shape;
+use bpf_jobs::make_machine;
+use bpf_loader::Program;
+use bpf_shared::StoreShape;
+use bpf_talk::Respond;
+use hex::FromHexError;
+use std::alloc::{AllocError, Global};
+use std::marker::Model;
+
+/// What is answered where there is no memory.
+const NO_MEMORY: &str = "refused L9\n";
+
+/// The jobs of a host, whose states are read from lines and told.
+#[derive(Drop)]
+pub struct Filter {
+    expander: Expander,
+    names: Vec<String>,
+    /// How many lines were answered, counted up to the greatest `u64`.
+    lines: u64,
+    told: Result<String, AllocError>,
+}
+
+impl Model for Filter {
+    ghost use Rattle.std.specs.Prelude.{map, string_bytes};
+    ghost use Rattle.bpf_expand.specs.Filter.{FilterState, told_text};
+
+    ghost Value = { FilterState };
+
+    ghost view = { λ f. record {
+      host = f.expander.host;
+      names = map string_bytes f.names.items;
+      lines = f.lines;
+      told = told_text f.told;
+    } };
+}
+
+/// The bytes that a line has as hex digits.
+fn line_bytes(alloc: Global, line: &[u8]) -> Result<Option<Vec<u8>>, AllocError>
+    ensures some { IfOk result (λ o. IfSome o (λ bytes. decode_of line.now ≡ Ok bytes.items)) }
+    ensures none { IfOk result (λ o. IfNone o ((bytes : List ℕ) → decode_of line.now ≡ Ok bytes
+        → ⊥)) }
+{
+    match hex::decode(alloc, line) {
+        Ok(bytes) => Ok(Some(bytes)),
+        Err(FromHexError::OutOfMemory) => Err(AllocError),
+        Err(_) => Ok(None),
+    }
+}
+
+/// What is printed of a line that is told, or that is no state; whether it is refused.
+fn shown(alloc: Global, told: Option<String>, line: u64) -> Result<(String, bool), AllocError>
+    ensures some { IfOk result (λ r. IfSome told (λ text. (r.0 ≡ text) × (r.1 ≡ false))) }
+    ensures none { IfOk result (λ r. IfNone told
+        ((string_bytes r.0 ≡ no_state_line line) × (r.1 ≡ true))) }
+{
+    match told {
+        Some(text) => Ok((text, false)),
+        None => Ok((no_state_line(alloc, line)?, true)),
+    }
+}
+
+/// The machine of jobs over a new store, to work with.
+fn open(
+    alloc: Global,
+    patient: bool,
+    shape: StoreShape,
+    programs: Vec<Program>,
+    jobs: Vec<Job>,
+) -> Result<Expander, AllocError>
+    requires cpus { All (λ job. job.cpu < shape.cpus) jobs.items }
+    requires programs { All (λ job. job.program < vec_len programs) jobs.items }
+    requires contexts { All (λ job. vec_len job.context ≤ max_context) jobs.items }
+    ensures host { IfOk result (λ e. e.host ≡ host_of patient shape programs.items
+        (map waiting jobs.items)) }
+    ensures machine { IfOk result (λ e. Shows e.machine
+        (first_world shape programs.items (map waiting jobs.items))) }
+{
+    let copy = copy_shape(alloc, &shape)?;
+    let machine = make_machine(alloc, copy, programs, jobs)?;
+    Expander::new(alloc, patient, shape, machine)
+}
+
+impl Filter {
+    ghost use Rattle.std.specs.Prelude.{◌≡◌, ◌≢◌, ℕ, [], codes, false, true, IfNone, IfOk, IfSome, OnErr, string_bytes};
+    ghost use Rattle.bpf_expand.specs.State.{AreSuccessors, IsNoState};
+    ghost use Rattle.bpf_expand.specs.Filter.{IsLineTold, IsNoStateLine, IsToldOf};
+
+    /// The filter of jobs over a new store whose maps have these names.
+    pub fn new(
+        alloc: Global,
+        patient: bool,
+        shape: StoreShape,
+        names: Vec<String>,
+        programs: Vec<Program>,
+        jobs: Vec<Job>,
+    ) -> Result<Filter, AllocError>
+        requires cpus { All (λ job. job.cpu < shape.cpus) jobs.items }
+        requires programs { All (λ job. job.program < vec_len programs) jobs.items }
+        requires contexts { All (λ job. vec_len job.context ≤ max_context) jobs.items }
+        ensures { IfOk result (λ f. f ≡ new_filter patient shape (map string_bytes names.items)
+            programs.items (map waiting jobs.items)) }
+    {
+        let expander = open(alloc, patient, shape, programs, jobs)?;
+        Ok(Filter {
+            expander,
+            names,
+            lines: 0,
+            told: Ok(String::new(alloc)),
+        })
+    }
+
+    /// The report of a state from which no CPU's turn leads on. `None` where the bytes are none.
+    fn report(&mut self, alloc: Global, bytes: &[u8]) -> Result<Option<String>, AllocError>
+        requires ended { AreSuccessors self.old.host bytes.now [] }
+        ensures some { IfOk result (λ o. IfSome o
+            (λ text. IsToldOf self.new.host self.new.names bytes.now (string_bytes text))) }
+        ensures none { IfOk result (λ o. IfNone o (IsNoState self.new.host bytes.now)) }
+        ensures same { (self.new.host ≡ self.old.host) × (self.new.names ≡ self.old.names)
+            × (self.new.lines ≡ self.old.lines) }
+    {
+        if !self.expander.take(bytes)? {
+            return Ok(None);
+        }
+        let report = self.expander.report(&self.names)?;
+        Ok(Some(report_line(alloc, report.as_str())?))
+    }
+
+    /// What is told of a state. `None` where the bytes are none.
+    fn tell(&mut self, alloc: Global, bytes: &[u8]) -> Result<Option<String>, AllocError>
+        ensures some { IfOk result (λ o. IfSome o
+            (λ text. IsToldOf self.new.host self.new.names bytes.now (string_bytes text))) }
+        ensures none { IfOk result (λ o. IfNone o (IsNoState self.new.host bytes.now)) }
+        ensures same { (self.new.host ≡ self.old.host) × (self.new.names ≡ self.old.names)
+            × (self.new.lines ≡ self.old.lines) }
+    {
+        let Some(found) = self.expander.successors(bytes)? else {
+            return Ok(None);
+        };
+        if found.is_empty() {
+            return self.report(alloc, bytes);
+        }
+        Ok(Some(successor_lines(alloc, &found)?))
+    }
+
+    /// What is told of the state that a line is. `None` where it is none.
+    fn tell_line(&mut self, alloc: Global, line: &[u8]) -> Result<Option<String>, AllocError>
+        requires { line.now ≢ [] }
+        ensures some { IfOk result (λ o. IfSome o (λ text. (number : ℕ)
+            → IsLineTold self.new.host self.new.names number line.now (string_bytes text) false)) }
+        ensures none { IfOk result (λ o. IfNone o (IsNoStateLine self.new.host line.now)) }
+        ensures same { (self.new.host ≡ self.old.host) × (self.new.names ≡ self.old.names)
+            × (self.new.lines ≡ self.old.lines) }
+    {
+        match line_bytes(alloc, line)? {
+            Some(bytes) => self.tell(alloc, &bytes),
+            None => Ok(None),
+        }
+    }
+
+    /// What a line is answered, and whether it is refused.
+    fn answer_line(&mut self, alloc: Global, line: &[u8]) -> Result<(String, bool), AllocError>
+        ensures told { IfOk result (λ r. IsLineTold self.new.host self.new.names self.new.lines
+            line.now (string_bytes r.0) r.1) }
+        ensures same { (self.new.host ≡ self.old.host) × (self.new.names ≡ self.old.names)
+            × (self.new.lines ≡ self.old.lines) }
+    {
+        if line.is_empty() {
+            return Ok((String::new(alloc), false));
+        }
+        let told = self.tell_line(alloc, line)?;
+        shown(alloc, told, self.lines)
+    }
+
+    /// Keeps an answer; whether it is a refusal.
+    fn keep(&mut self, answer: Result<(String, bool), AllocError>) -> bool
+        ensures ok { IfOk answer (λ r. (result ≡ r.1) × (self.new.told ≡ string_bytes r.0)) }
+        ensures err { OnErr answer ((result ≡ true) × (self.new.told ≡ codes "refused L9\n")) }
+        ensures same { (self.new.host ≡ self.old.host) × (self.new.names ≡ self.old.names)
+            × (self.new.lines ≡ self.old.lines) }
+    {
+        match answer {
+            Ok((text, refused)) => {
+                self.told = Ok(text);
+                refused
+            }
+            Err(_) => {
+                self.told = Err(AllocError);
+                true
+            }
+        }
+    }
+}
+
+/// The line of the first state of jobs over a new store.
+pub fn first_line(
+    alloc: Global,
+    shape: StoreShape,
+    programs: Vec<Program>,
+    jobs: Vec<Job>,
+) -> Result<String, AllocError>
+    requires cpus { All (λ job. job.cpu < shape.cpus) jobs.items }
+    requires programs { All (λ job. job.program < vec_len programs) jobs.items }
+    requires contexts { All (λ job. vec_len job.context ≤ max_context) jobs.items }
+    ensures { IfOk result (λ text. IsFirstLine shape programs.items (map waiting jobs.items)
+        (string_bytes text)) }
+{
+    let expander = open(alloc, false, shape, programs, jobs)?;
+    let bytes = expander.state()?;
+    state_line(alloc, &bytes)
+}
+
+impl Respond for Filter {
+    ghost use Rattle.bpf_expand.specs.Filter.{AnswersState};
+
+    ghost answers = { AnswersState };
+
+    ghost text = { λ s. s.told };
+
+    fn answer(&mut self, alloc: Global, line: &[u8]) -> bool {
+        self.lines = self.lines.saturating_add(1);
+        let answer = self.answer_line(alloc, line);
+        self.keep(answer)
+    }
+
+    fn told(&self) -> &str {
+        match &self.told {
+            Ok(text) => text.as_str(),
+            Err(_) => NO_MEMORY,
+        }
+    }
+}
