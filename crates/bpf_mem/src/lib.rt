@@ -17,4 +17,4 @@ pub use context::Context;
 pub use frames::{Caller, Frames};
 pub use memory::PrivateMemory;
 pub use place::Place;
-pub use words::{read_words, save_words};
+pub use words::{are_words, read_words, save_words};

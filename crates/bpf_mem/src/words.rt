@@ -23,6 +23,13 @@ fn first_word(bytes: &[u8]) -> u64
     load_double(bytes, 0)
 }
 
+/// Each number of 64 bits is a word: says so, and does nothing.
+pub fn are_words(words: &[u64])
+    ensures { All IsWord words.now }
+{
+    let _ = words;
+}
+
 /// Puts behind the bytes what the words are saved as.
 pub fn save_words(words: &[u64], out: &mut Vec<u8>) -> Result<(), AllocError>
     requires { length words.now < 256 }

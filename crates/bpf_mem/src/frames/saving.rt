@@ -1,6 +1,6 @@
 //! Frames as bytes, and from such bytes.
 
-ghost use Rattle.std.specs.Prelude.{◌≡◌, ◌≤◌, ◌∷◌, ◌++◌, ℕ, List, OnOk, OnErr, IfSome, IfNone, All, length, take};
+ghost use Rattle.std.specs.Prelude.{◌≡◌, ◌<◌, ◌≤◌, ◌∷◌, ◌++◌, ℕ, List, OnOk, OnErr, IfSome, IfNone, All, length, take};
 ghost use Rattle.std.specs.List.{flat_map};
 ghost use Rattle.std.specs.Io.{StartsWith};
 ghost use Rattle.bpf_mem.specs.declared.frames.Caller.{Caller};
@@ -9,7 +9,7 @@ ghost use Rattle.bpf_mem.specs.Stack.{Stack};
 ghost use Rattle.bpf_mem.specs.Saved.{caller_saved, frame_saved, frames_saved, word_bytes, words_of, IsCaller, IsFrame, IsSavable};
 
 use super::{Caller, FRAME_BYTES, Frames, MAX_FRAMES};
-use crate::words::{read_words, save_words};
+use crate::words::{are_words, read_words, save_words};
 use bpf_base::bytes::{load_double, store_double};
 use std::alloc::AllocError;
 
@@ -158,7 +158,56 @@ fn read_callers<'a>(callers: &mut [Caller], count: usize, bytes: &'a [u8]) -> Op
     Some(rest)
 }
 
+/// Each byte of the code is one: says so, and does nothing.
+fn are_bytes(bytes: &[u8])
+    ensures { All (λ byte. byte < 256) bytes.now }
+{
+    let _ = bytes;
+}
+
+/// A frame of the code is one: says so.
+fn is_frame(frame: &[u8; FRAME_BYTES])
+    ensures { IsFrame frame.now }
+{
+    are_bytes(frame);
+}
+
+/// Each of these is: says so.
+fn are_frames(frames: &[[u8; FRAME_BYTES]])
+    ensures { All IsFrame frames.now }
+{
+    for frame in frames {
+        is_frame(frame);
+    }
+}
+
+/// A caller of the code is one: says so.
+fn is_caller(caller: &Caller)
+    ensures { IsCaller caller.now }
+{
+    let _pc = caller.return_pc;
+    are_words(&caller.saved);
+}
+
+/// Each of these is: says so.
+fn are_callers(callers: &[Caller])
+    ensures { All IsCaller callers.now }
+{
+    for caller in callers {
+        is_caller(caller);
+    }
+}
+
 impl Frames {
+    /// The frames are told by what they are saved as: says so, and does nothing.
+    pub fn are_savable(&self)
+        ensures { IsSavable self.now }
+    {
+        let _depth = self.depth();
+        are_frames(self.live_frames());
+        are_callers(self.callers());
+    }
+
     /// Puts behind the bytes what the frames are saved as.
     pub fn save(&self, out: &mut Vec<u8>) -> Result<(), AllocError>
         ensures ok { OnOk result (out.new.items ≡ out.old.items ++ frames_saved self.now) }
