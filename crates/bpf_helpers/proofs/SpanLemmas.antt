@@ -97,6 +97,9 @@ module _ (bytes : List ℕ) (done : List Span) (rest : List ℕ) (wide : All IsW
       let elements : AreElements (done ++ x ∷ []) = front_elements done back x (subst AreElements on.0 may.elements) in
       refused (omega arith) (subst (λ (q : Span). has_span done q ≡ false) same.0 once) (subst (λ (q : Span). AreElements (done ++ q ∷ [])) same.0 elements)
 
+pub none_once : AreOnce []
+none_once k p e = let none = slice_get_within [] k p e in absurd (omega (arith, none))
+
 -- each is still once
 pub once_more : (done : List Span) (p : Span) → AreOnce done → has_span done p ≡ false → AreOnce (done ++ p ∷ [])
 once_more done p once fresh k q e =

@@ -8,10 +8,12 @@ use Rattle.bpf_helpers.specs.declared.grid.Grid.{Grid}
 use Rattle.bpf_helpers.specs.Private.Bins.{AreBinned}
 use Rattle.bpf_helpers.specs.Private.Grid.{IsOnGrid}
 use Rattle.bpf_helpers.specs.Private.Sizes.{AreSizesOf}
+use Rattle.bpf_helpers.specs.Saved.{AreOnce}
 
--- bins and a grid lead to the spans: their numbers are in the bins, and each is on the grid, whose
--- sizes are those of whatever maps have them all
+-- bins and a grid lead to the spans, each of which is held once: their numbers are in the bins, and
+-- each is on the grid, whose sizes are those of whatever maps have them all
 pub record LeadToSpans (bins : Bins) (grid : Grid) (spans : List Span) : Type 0 where
+  pub once : AreOnce spans
   pub binned : AreBinned bins.latest bins.earlier spans
   pub on_grid : All (IsOnGrid grid.sizes) spans
   pub sized : (maps : List MapShape) → AreMaps maps → All (IsElement maps) spans

@@ -8,7 +8,7 @@ ghost use Rattle.bpf_helpers.specs.Saved.{span_saved, spans_saved, AreOnce, AreS
 
 use super::{HeldSpans, MAX_HELD};
 use bpf_base::bytes::load_half;
-use bpf_mem::{read_words, save_words};
+use bpf_mem::{are_words, read_words, save_words};
 use bpf_shared::Span;
 use std::alloc::AllocError;
 
@@ -39,7 +39,33 @@ fn read_span(bytes: &[u8]) -> Option<(Span, &[u8])>
     Some((span, rest))
 }
 
+/// A span of the code is made of words: says so, and does nothing.
+fn is_wide(span: Span)
+    ensures { IsWide span }
+{
+    are_words(&[span.at, span.size]);
+}
+
+/// Each of these is: says so.
+fn are_wide(spans: &[Span])
+    ensures { All IsWide spans.now }
+{
+    for span in spans {
+        is_wide(*span);
+    }
+}
+
 impl HeldSpans {
+    /// The spans are told by what they are saved as, and each is held once: says so, and does
+    /// nothing.
+    pub fn are_savable(&self)
+        ensures savable { AreSavable self.now }
+        ensures once { AreOnce self.now }
+    {
+        let _few = self.spans.len();
+        are_wide(self.spans());
+    }
+
     /// Puts behind the bytes what the spans are saved as.
     pub fn save(&self, out: &mut Vec<u8>) -> Result<(), AllocError>
         ensures ok { OnOk result (out.new.items ≡ out.old.items ++ spans_saved self.now) }

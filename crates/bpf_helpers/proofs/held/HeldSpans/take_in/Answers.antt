@@ -1,8 +1,9 @@
-use Rattle.std.proofs.Common.{◌≡◌, true, List, [], ◌∷◌, ◌++◌, sym, subst}
+use Rattle.std.proofs.Common.{◌≡◌, ◌∙◌, true, false, List, [], ◌∷◌, ◌++◌, sym, ap, subst}
 use Rattle.bpf_shared.specs.declared.events.Span.{Span}
-use Rattle.bpf_helpers.specs.Held.{AreElements}
+use Rattle.bpf_helpers.specs.Held.{AreElements, has_span}
 use Rattle.bpf_helpers.specs.Private.Found.{LeadToSpans}
 use Rattle.bpf_helpers.proofs.Noting.{now_on, on_then, all_sized}
+use Rattle.bpf_helpers.proofs.SpanLemmas.{once_more}
 use Rattle.bpf_helpers.proofs.held.HeldSpans.take_in.Goals as goal
 
 pub returns-then-not-has-clause-refused : goal.returns-then-not-has-clause-refused
@@ -18,7 +19,9 @@ invariant_of-self c =
     let spans = c.self.inside.spans.items in
     let old = c.self.invariant in
     let on = c.has-2.ensures.0 c.if-not-has.false in
+    let fresh : has_span spans c.args.span ≡ false = ap (λ (held : List Span). has_span held c.args.span) c.self.view_is ∙ (sym c.has.ensures ∙ c.if-has.false) in
     subst (λ (held : List Span). LeadToSpans c.put.new.self c.noted-grid.result held) (sym c.push.ensures.items) (record {
+      once = once_more spans c.args.span old.once fresh;
       binned = c.put.ensures spans (sym c.len.ensures.value) old.binned;
       on_grid = now_on c.self.inside.grid.sizes c.noted-grid.result.sizes spans c.args.span c.noted-grid.ensures.kept c.noted-grid.ensures.elements old.sized old.on_grid on;
       sized = all_sized c.self.inside.grid.sizes c.noted-grid.result.sizes spans c.args.span c.noted-grid.ensures.kept c.noted-grid.ensures.elements old.sized;
