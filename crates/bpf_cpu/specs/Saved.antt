@@ -24,6 +24,11 @@ pub record IsSavableState (cpu : Cpu) : Type 0 where
   pub frames : IsSavable cpu.memory.frames
   pub held : AreSavable cpu.held
 
+-- the states may be those of one job: the CPU and the length of the context are the same
+abbrev pub IsOfOneJob : Cpu → Cpu → Type 0
+IsOfOneJob first later = (later.number ≡ first.number)
+    × (length later.memory.context ≡ length first.memory.context)
+
 -- ---- how a job ended
 abbrev pub fault_number : Reason → ℕ
 fault_number BadAddress = 1

@@ -72,6 +72,17 @@ fn outcome_of(kind: u64, number: u64) -> Option<Outcome>
     Some(Outcome::Fault(fault, pc))
 }
 
+/// An outcome is told by what it is saved as: says so, and does nothing.
+pub fn is_savable_outcome(outcome: Outcome)
+    ensures { IsSavableOutcome outcome }
+{
+    match outcome {
+        Outcome::Exit(_number) => {}
+        Outcome::Fault(_, _pc) => {}
+        Outcome::OutOfBudget(_pc) => {}
+    }
+}
+
 /// Puts behind the bytes what an outcome is saved as.
 pub fn save_outcome(outcome: Outcome, out: &mut Vec<u8>) -> Result<(), AllocError>
     ensures ok { OnOk result (out.new.items ≡ out.old.items ++ outcome_saved outcome) }

@@ -3,13 +3,13 @@
 ghost use Rattle.std.specs.Prelude.{◌≡◌, ◌^◌, ◌<◌, ◌++◌, ℕ, List, OnOk, OnErr, IfSome, IfNone, length};
 ghost use Rattle.std.specs.Io.{StartsWith};
 ghost use Rattle.bpf_base.specs.Bytes.{low_bytes};
-ghost use Rattle.bpf_helpers.specs.Saved.{MayBeHeld};
+ghost use Rattle.bpf_helpers.specs.Saved.{AreOnce, MayBeHeld};
 ghost use Rattle.bpf_cpu.specs.declared.cpu.Cpu.{Cpu};
 ghost use Rattle.bpf_cpu.specs.Saved.{cpu_saved, IsSavableState};
 
 use crate::cpu::Cpu;
 use bpf_base::bytes::load_word;
-use bpf_mem::{read_words, save_words};
+use bpf_mem::{are_words, read_words, save_words};
 use std::alloc::AllocError;
 
 /// Puts bytes behind others.
@@ -41,6 +41,18 @@ fn read_pc(bytes: &[u8]) -> Option<(u32, &[u8])>
 }
 
 impl Cpu {
+    /// The state is told by what it is saved as, and its run holds each value once: says so, and
+    /// does nothing.
+    pub fn is_savable(&self)
+        ensures savable { IsSavableState self.now }
+        ensures once { AreOnce self.now.held }
+    {
+        let _pc = self.pc;
+        are_words(&self.registers);
+        self.memory.frames.are_savable();
+        self.held.are_savable();
+    }
+
     /// Puts behind the bytes what the state is saved as. The CPU's number isn't in it.
     pub fn save(&self, out: &mut Vec<u8>) -> Result<(), AllocError>
         ensures ok { OnOk result (out.new.items ≡ out.old.items ++ cpu_saved self.now) }
