@@ -31,3 +31,4 @@ pub mod PartLaws
 pub mod FitLaws
 pub mod StageLemmas
 pub mod JobLemmas
+pub mod ComingFrom

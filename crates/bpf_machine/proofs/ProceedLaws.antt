@@ -1,5 +1,5 @@
 -- The job in a CPU's hand goes on, or ends.
-use Rattle.std.proofs.Common.{◌≡◌, ◌≢◌, ℕ, suc, ◌+◌, ◌<◌, ◌≤◌, arith, Bool, true, false, List, Option, Some, None, is_some, length, refl, sym, ap, subst, ◌∙◌}
+use Rattle.std.proofs.Common.{◌≡◌, ◌≢◌, inl, inr, ℕ, suc, ◌+◌, ◌<◌, ◌≤◌, arith, Bool, true, false, List, Option, Some, None, is_some, length, refl, sym, ap, subst, ◌∙◌}
 use Rattle.std.specs.Prelude.{slice_get, slice_set, slice_index_or}
 use Rattle.std.proofs.lemmas.Bool.{ltb-true}
 use Rattle.std.proofs.lemmas.Option.{slice_get_within, slice_get_read, get_or_from_slice_get}
@@ -21,6 +21,7 @@ use Rattle.bpf_machine.specs.declared.machine.lane.Phase.TheVariants as phase
 use Rattle.bpf_machine.specs.declared.machine.lane.Hand.{Hand}
 use Rattle.bpf_machine.specs.declared.machine.lane.Lane.{Lane}
 use Rattle.bpf_helpers.specs.Held.{AreHeld}
+use Rattle.bpf_cpu.specs.Saved.{IsOfOneJob}
 use Rattle.bpf_cpu.specs.Step.{IsReady}
 use Rattle.bpf_cpu.specs.Task.{Stage, Task, InHand, Ended}
 use Rattle.bpf_machine.specs.Hands.{with_stage, IsAt, IsFree}
@@ -33,7 +34,7 @@ use Rattle.bpf_machine.specs.Machine.{MachineState, Shows}
 use Rattle.bpf_machine.specs.Work.{HasInHand}
 use Rattle.bpf_machine.specs.Rounds.{RunsRounds}
 use Rattle.bpf_machine.specs.Questions.{turns_before_end, turns_left}
-use Rattle.bpf_machine.specs.Private.Turns.{IsAlone, Lasts}
+use Rattle.bpf_machine.specs.Private.Turns.{IsAlone, Lasts, StaysOrEnds}
 use Rattle.bpf_machine.specs.Private.KeyLists.{HasJob}
 use Rattle.bpf_machine.specs.Patient.{Refills}
 use Rattle.bpf_machine.specs.Headways.{TakesQuietTurns, GoesAhead, IsOnlyOne}
@@ -185,6 +186,9 @@ module _ (store : Contents) (programs : List Loaded) (jobs : List Listed) (lanes
                 ∙ (ap (λ (p : Phase). with_stage (tasks_of lanes jobs) j (task_of lanes e) (stage_of (Some h') p)) phase_was
                 ∙ ap (λ (t : Task). with_stage (tasks_of lanes jobs) j t (InHand h'.cpu h'.left)) (sym shown))
 
+            pub kept_stays : IsOfOneJob h.cpu h'.cpu → StaysOrEnds (tasks_of lanes jobs) c j (tasks_of (slice_set lanes c l') (slice_set jobs j e))
+            kept_stays one = (task, state, left, in_hand, inl (h'.cpu, h'.left, subst (λ (x : Cpu). IsOfOneJob x h'.cpu) state_is one, kept_tasks))
+
             pub kept_board : (after : Contents) → has_cpu after ≡ has_cpu store → is_running after ≡ is_running store → ((d : ℕ) → d ≢ c → held_spans after d ≡ held_spans store d) → AreHeld (held_spans after c) h'.cpu.held → IsBoard (has_cpu after) (is_running after) (held_spans after) programs (slice_set jobs j e) (slice_set lanes c l')
             kept_board after serves_same running_same unreached held_still =
                 board_changed (has_cpu store) (has_cpu after) (is_running store) (is_running after) (held_spans store) (held_spans after) programs jobs lanes c j e e l l' board listed of was refl refl refl alone (λ k x ne there own. (λ a. a, λ b. b))
@@ -311,6 +315,9 @@ module _ (store : Contents) (programs : List Loaded) (jobs : List Listed) (lanes
                 ap (λ (x : Lane). tasks_of (slice_set lanes c x) (slice_set jobs j e'')) down
                 ∙ tasks_changed (has_cpu store) (has_cpu store) (is_running store) (is_running store) (held_spans store) (held_spans store) programs jobs lanes c j e e'' l l'' board listed of was refl refl refl alone (λ k x ne there own. (λ a. a, λ b. b))
                 ∙ ap (λ (t : Task). with_stage (tasks_of lanes jobs) j t (Ended outcome)) (sym shown)
+
+            pub ended_stays : (last : List Task) → last ≡ tasks_of (slice_set lanes c k) (slice_set jobs j e'') → StaysOrEnds (tasks_of lanes jobs) c j last
+            ended_stays last is = (task, state, left, in_hand, inr (outcome, is ∙ ended_tasks))
 
             pub ended_board : (after : Contents) → has_cpu after ≡ has_cpu store → is_running after ≡ put (is_running store) c false → ((d : ℕ) → d ≢ c → held_spans after d ≡ held_spans store d) → IsBoard (has_cpu after) (is_running after) (held_spans after) programs (slice_set jobs j e'') (slice_set lanes c k)
             ended_board after serves_same stopped unreached =

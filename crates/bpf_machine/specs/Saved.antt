@@ -1,7 +1,7 @@
 -- What a job's stage is saved as: bytes that tell it of a job whose CPU and context are known.
 use Rattle.std.specs.Prelude.{◌≡◌, ℕ, List, [], ◌∷◌, ◌++◌, length}
 use Rattle.bpf_mem.specs.Saved.{IsWord, words_saved}
-use Rattle.bpf_helpers.specs.Saved.{MayBeHeld}
+use Rattle.bpf_helpers.specs.Saved.{AreOnce, MayBeHeld}
 use Rattle.bpf_cpu.specs.Saved.{IsSavableOutcome, IsSavableState, cpu_saved, outcome_saved}
 use Rattle.bpf_cpu.specs.Task.{Stage, Task, Waiting, InHand, Ended}
 
@@ -24,6 +24,19 @@ abbrev pub HoldsWhatMayBe : Stage → Type 0
 HoldsWhatMayBe (Waiting context) = Unit {0}
 HoldsWhatMayBe (InHand state left) = MayBeHeld state.held
 HoldsWhatMayBe (Ended outcome) = Unit {0}
+
+-- the stage is one of a job on this CPU that first had this context
+abbrev pub IsStageOf : ℕ → List ℕ → Stage → Type 0
+IsStageOf cpu context (Waiting own) = own ≡ context
+IsStageOf cpu context (InHand state left) =
+    (state.number ≡ cpu) × (length state.memory.context ≡ length context)
+IsStageOf cpu context (Ended outcome) = Unit {0}
+
+-- its numbers are words, and where it is in hand, its run holds each value once
+abbrev pub FitsBytes : Stage → Type 0
+FitsBytes (Waiting context) = Unit {0}
+FitsBytes (InHand state left) = IsWord left × IsSavableState state × AreOnce state.held
+FitsBytes (Ended outcome) = IsSavableOutcome outcome
 
 -- ---- all jobs of a machine
 -- one after the other
@@ -49,6 +62,23 @@ abbrev pub AreLater : List Task → List Task → Type 0
 AreLater [] [] = Unit {0}
 AreLater (first ∷ firsts) (task ∷ jobs) = IsLater first task × AreLater firsts jobs
 AreLater _ _ = ⊥
+
+-- the job is one that waited first, whether its numbers are words or not
+pub record ComesFrom (first task : Task) : Type 0 where
+  pub cpu : task.cpu ≡ first.cpu
+  pub program : task.program ≡ first.program
+  pub budget : task.budget ≡ first.budget
+  pub stage : IsStageOf first.cpu (context_of first.stage) task.stage
+
+-- each is, of jobs in the same order
+abbrev pub ComeFrom : List Task → List Task → Type 0
+ComeFrom [] [] = Unit {0}
+ComeFrom (first ∷ firsts) (task ∷ jobs) = ComesFrom first task × ComeFrom firsts jobs
+ComeFrom _ _ = ⊥
+
+-- whatever jobs they come from, these come from the same
+abbrev pub ComeFromSame : List Task → List Task → Type 0
+ComeFromSame old new = (first : List Task) → ComeFrom first old → ComeFrom first new
 
 -- each holds, where it is in hand, what a run may hold
 abbrev pub HoldWhatMayBe : List Task → Type 0

@@ -108,7 +108,8 @@ impl Machine {
     ghost use Rattle.bpf_machine.specs.Questions.{IsStanding, turns_left};
     ghost use Rattle.bpf_machine.specs.Rounds.{RunsRounds};
     ghost use Rattle.bpf_machine.specs.Parts.{IsSameHost};
-    ghost use Rattle.bpf_machine.specs.Private.Turns.{IsAlone};
+    ghost use Rattle.bpf_machine.specs.Saved.{ComeFromSame};
+    ghost use Rattle.bpf_machine.specs.Private.Turns.{IsAlone, StaysOrEnds};
 
     /// A machine whose jobs all wait. It makes all the room that they will ever need.
     pub fn new(
@@ -203,6 +204,7 @@ impl Machine {
             → (z : World) × TakesTurn w cpu result z × Shows self.new z }
         ensures idle { result ≡ Turn.Idle → self.new ≡ self.old }
         ensures same { IsSameHost self.old self.new }
+        ensures jobs { ComeFromSame self.old.jobs self.new.jobs }
     {
         match self.work(cpu) {
             Work::InHand(job) => self.proceed(cpu, job),
@@ -351,6 +353,7 @@ impl Machine {
         requires { HasInHand self.old.jobs cpu job }
         ensures proceeds { Proceeds self.old cpu job result self.new }
         ensures works { result ≢ Turn.Idle }
+        ensures stays { StaysOrEnds self.old.jobs cpu job self.new.jobs }
         ensures same { IsSameHost self.old self.new }
     {
         let lane = &mut self.lanes[cpu as usize];

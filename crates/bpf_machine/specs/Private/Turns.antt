@@ -1,13 +1,14 @@
 -- Turns of the one CPU that has work.
-use Rattle.std.specs.Prelude.{◌≢◌, ℕ, zero, suc, List, Some, None}
+use Rattle.std.specs.Prelude.{◌≡◌, ◌≢◌, ℕ, zero, suc, List, ◌⊎◌, Some, None}
 use Rattle.bpf_shared.specs.Store.{Plain}
 use Rattle.bpf_loader.specs.Loaded.{Loaded}
 use Rattle.bpf_cpu.specs.declared.cpu.Cpu.{Cpu}
 use Rattle.bpf_cpu.specs.declared.outcome.Outcome.{Outcome}
 use Rattle.bpf_machine.specs.declared.machine.rounds.Worked.{Worked}
 use Rattle.bpf_machine.specs.declared.machine.rounds.Worked.TheVariants.{Nobody, One, More}
-use Rattle.bpf_cpu.specs.Task.{Task}
-use Rattle.bpf_machine.specs.Hands.{IsFree, NoneWaits}
+use Rattle.bpf_cpu.specs.Saved.{IsOfOneJob}
+use Rattle.bpf_cpu.specs.Task.{Task, InHand, Ended}
+use Rattle.bpf_machine.specs.Hands.{IsAt, IsFree, NoneWaits, with_stage}
 use Rattle.bpf_machine.specs.Schedule.{Advances}
 
 -- no other CPU has work
@@ -27,3 +28,11 @@ Lasts program c zero s old left end t =
 Lasts program c (suc n) s old left end t =
     (m : Plain) × (mid : Cpu) × (rest : ℕ) × Advances program c s old left None m mid rest
     × Lasts program c n m mid rest end t
+
+-- the job in the CPU's hand stays there, or has ended
+abbrev pub StaysOrEnds : List Task → ℕ → ℕ → List Task → Type 0
+StaysOrEnds old c j new =
+    (task : Task) × (state : Cpu) × (left : ℕ) × IsAt old c j task (InHand state left)
+    × (((later : Cpu) × (rest : ℕ) × IsOfOneJob state later
+    × (new ≡ with_stage old j task (InHand later rest)))
+    ⊎ ((end : Outcome) × (new ≡ with_stage old j task (Ended end))))

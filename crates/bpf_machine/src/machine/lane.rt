@@ -163,6 +163,8 @@ impl Hand {
             IsSoundStore t × plain_store.StandsFor store.new t }
         ensures ready { IsReady program.now self.new.cpu }
         ensures same { (self.new.job ≡ self.old.job) × (self.new.cpu.number ≡ self.old.cpu.number) }
+        ensures context { length self.new.cpu.memory.context
+            ≡ length self.old.cpu.memory.context }
         ensures held { AreHeld (held_spans store.new self.old.cpu.number) self.new.cpu.held }
         ensures keeps { KeepsRun shapes_of is_running held_spans self.old.cpu.number store.old
             store.new }

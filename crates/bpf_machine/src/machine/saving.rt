@@ -7,12 +7,12 @@ ghost use Rattle.bpf_cpu.specs.declared.outcome.Outcome.{Outcome};
 ghost use Rattle.bpf_cpu.specs.Task.{Stage, Task, Waiting, InHand, Ended};
 ghost use Rattle.bpf_machine.specs.Kept.{kept_stage};
 ghost use Rattle.bpf_machine.specs.Private.Lanes.{stage_of};
-ghost use Rattle.bpf_machine.specs.Saved.{context_of, jobs_saved, stage_saved, AreLater, HoldWhatMayBe, HoldsWhatMayBe, IsLater, IsSavableStage};
+ghost use Rattle.bpf_machine.specs.Saved.{context_of, jobs_saved, stage_saved, AreLater, FitsBytes, HoldWhatMayBe, HoldsWhatMayBe, IsLater, IsSavableStage};
 
 use super::Machine;
 use crate::machine::lane::{Hand, Lane, Phase};
 use crate::machine::parts::{KeptJob, KeptStage, copy_bytes};
-use bpf_cpu::{Cpu, Outcome, read_outcome, save_outcome};
+use bpf_cpu::{Cpu, Outcome, is_savable_outcome, read_outcome, save_outcome};
 use bpf_mem::{read_words, save_words};
 use std::alloc::{AllocError, Global};
 
@@ -58,6 +58,28 @@ fn save_stage(lane: &Lane, phase: &Phase, out: &mut Vec<u8>) -> Result<(), Alloc
         Phase::InHand => match &lane.hand {
             Some(hand) => save_hand(hand, out),
             None => save_waiting(out),
+        },
+    }
+}
+
+/// A job in hand fits into bytes: says so, and does nothing.
+fn hand_fits_bytes(hand: &Hand)
+    ensures { FitsBytes (InHand hand.now.cpu hand.now.left) }
+{
+    let _left = hand.left;
+    hand.cpu.is_savable();
+}
+
+/// So does a job in this phase on the CPU of this lane: says so.
+fn stage_fits_bytes(lane: &Lane, phase: &Phase)
+    ensures { FitsBytes (stage_of lane.now.hand phase.now) }
+{
+    match phase {
+        Phase::Waiting(_) => {}
+        Phase::Ended(outcome) => is_savable_outcome(*outcome),
+        Phase::InHand => match &lane.hand {
+            Some(hand) => hand_fits_bytes(hand),
+            None => {}
         },
     }
 }
@@ -173,7 +195,16 @@ pub fn read_jobs<'a>(
 impl Machine {
     ghost use Rattle.std.specs.Prelude.{◌≡◌, ◌<◌, ◌++◌, OnOk, OnErr, Some, length, slice_get};
     ghost use Rattle.bpf_cpu.specs.Task.{Task};
-    ghost use Rattle.bpf_machine.specs.Saved.{stage_saved};
+    ghost use Rattle.bpf_machine.specs.Saved.{stage_saved, FitsBytes};
+
+    /// A job's stage fits into bytes: says so, and does nothing.
+    pub fn job_fits_bytes(&self, job: usize)
+        requires { job < length self.now.jobs }
+        ensures { (task : Task) → slice_get self.now.jobs job ≡ Some task → FitsBytes task.stage }
+    {
+        let listed = &self.jobs[job];
+        stage_fits_bytes(&self.lanes[listed.cpu as usize], &listed.phase);
+    }
 
     /// Puts behind the bytes what a job's stage is saved as.
     pub fn save_job(&self, job: usize, out: &mut Vec<u8>) -> Result<(), AllocError>

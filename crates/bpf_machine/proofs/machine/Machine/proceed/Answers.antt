@@ -1,4 +1,4 @@
-use Rattle.std.proofs.Common.{◌≡◌, ℕ, Some, refl, sym, ap, subst, ◌∙◌, Bool, true, false, arith}
+use Rattle.std.proofs.Common.{◌≡◌, ℕ, Some, refl, sym, ap, subst, ◌∙◌, Bool, true, false, List, arith}
 use Rattle.std.specs.Prelude.{slice_set}
 use Rattle.bpf_shared.specs.Store.{put}
 use Rattle.bpf_shared.specs.declared.events.Span.{Span}
@@ -14,11 +14,13 @@ use Rattle.bpf_machine.specs.Private.Lanes.{tasks_of}
 use Rattle.bpf_machine.specs.Private.KeyLists.{listings}
 use Rattle.bpf_machine.proofs.KeyListLaws.{still_fit}
 use Rattle.bpf_machine.specs.Work.{Proceeds}
+use Rattle.bpf_machine.specs.Private.Turns.{StaysOrEnds}
+use Rattle.bpf_cpu.specs.Task.{Task}
 use Rattle.bpf_machine.specs.Parts.{IsSameHost}
 use Rattle.bpf_machine.proofs.HostLaws.{same_count, same_host_still}
 use Rattle.bpf_cpu.proofs.HeldLaws.{others_without}
 use Rattle.bpf_machine.proofs.OwnEvents.{call_leads}
-use Rattle.bpf_machine.proofs.ProceedLaws.{job_in_hand, lane_within, job_within, serves, running, never_empty, number, program_within, listed, held_now, ready, kept_board, ended_board, ended_job, ended_free, proceeds_kept, proceeds_ended}
+use Rattle.bpf_machine.proofs.ProceedLaws.{job_in_hand, lane_within, job_within, serves, running, never_empty, number, program_within, listed, held_now, ready, kept_board, ended_board, ended_job, ended_free, proceeds_kept, proceeds_ended, kept_stays, ended_stays}
 use Rattle.bpf_machine.proofs.machine.Machine.proceed.Goals as goal
 
 pub index_mut-lane-requires : goal.index_mut-lane-requires
@@ -171,3 +173,24 @@ returns-in-Some-advance-clause-same c =
       lists = λ none. none;
     }))
     c.list_at_end.ensures.same
+
+pub returns-in-None-clause-stays : goal.returns-in-None-clause-stays
+returns-in-None-clause-stays c =
+    let m = c.self.inside in
+    let has = job_in_hand _ _ c.args.cpu c.args.job c.self.view_is c.requires in
+    let l = c.index_mut-lane.result.now in
+    let e = c.index_mut-listed.result.now in
+    let new : List Task = tasks_of (slice_set m.lanes.items c.args.cpu (record { hand = Some c.advance.new.self; next = l.next })) (slice_set m.jobs.items c.args.job e) in
+    let S : MachineState → Type 0 = λ s. StaysOrEnds s.jobs c.args.cpu c.args.job new in
+    subst S c.self.view_is
+    (kept_stays m.store m.programs.items m.jobs.items m.lanes.items c.self.invariant.0 c.args.cpu c.args.job has _ c.index_mut-lane.ensures.value _ c.in-Some.is _ c.index_mut-listed.ensures.value _ c.index.ensures c.advance.new.self c.advance.ensures.same.0 c.advance.ensures.same.1 c.advance.ensures.ready
+    (c.advance.ensures.same.1, c.advance.ensures.context))
+
+pub returns-in-Some-advance-clause-stays : goal.returns-in-Some-advance-clause-stays
+returns-in-Some-advance-clause-stays c =
+    let m = c.self.inside in
+    let has = job_in_hand _ _ c.args.cpu c.args.job c.self.view_is c.requires in
+    let last = c.list_at_end.new.self.jobs in
+    let S : MachineState → Type 0 = λ s. StaysOrEnds s.jobs c.args.cpu c.args.job last in
+    subst S c.self.view_is
+    (ended_stays m.store m.programs.items m.jobs.items m.lanes.items c.self.invariant.0 c.args.cpu c.args.job has _ c.index_mut-lane.ensures.value _ c.in-Some.is _ c.index_mut-listed.ensures.value _ c.index.ensures c.in-Some-advance.outcome _ c.put_down.ensures last c.list_at_end.ensures.jobs)
