@@ -21,9 +21,10 @@ fn word_in(span: Span) -> Option<ValuePlace>
     }
 }
 
-/// Looks a key up, and reads its value.
+/// Looks a key up, and reads its value or adds to it. One place looks up for both, so that a call is
+/// small enough to stand in line in a run.
 #[inline(always)]
-fn look<R: Wait>(rt: &R, table: &HopTable, port: &mut HopPort, key: &[u8; 8]) -> u64
+fn look<R: Wait>(rt: &R, table: &HopTable, port: &mut HopPort, key: &[u8; 8], adds: bool) -> u64
     requires fits { IsPortOf table.now port.old }
     requires trial { IsTrial table.now.about }
     requires in_run { runs port.old ≡ true }
@@ -34,25 +35,8 @@ fn look<R: Wait>(rt: &R, table: &HopTable, port: &mut HopPort, key: &[u8; 8]) ->
         return 0;
     };
     match word_in(span) {
+        Some(at) if adds => port.atomic_word(table, at, AtomicOp::Add, 1, 0),
         Some(at) => port.value_load(table, at, Size::Double),
-        None => 0,
-    }
-}
-
-/// Looks a key up, and adds to its value.
-#[inline(always)]
-fn count<R: Wait>(rt: &R, table: &HopTable, port: &mut HopPort, key: &[u8; 8]) -> u64
-    requires fits { IsPortOf table.now port.old }
-    requires trial { IsTrial table.now.about }
-    requires in_run { runs port.old ≡ true }
-    ensures fits { IsPortOf table.now port.new }
-    ensures in_run { runs port.new ≡ true }
-{
-    let Some(span) = port.lookup(rt, table, 0, key) else {
-        return 0;
-    };
-    match word_in(span) {
-        Some(at) => port.atomic_word(table, at, AtomicOp::Add, 1, 0),
         None => 0,
     }
 }
@@ -136,13 +120,15 @@ pub fn call<R: Wait>(
         Mix::Own | Mix::Shared => 90 + bits % 2 * 9,
     };
     match kind {
-        0..=89 => tally.found = tally.found.wrapping_add(look(rt, table, port, key)),
         90..=98 => {
             if put(rt, table, port, key) {
                 tally.refused = tally.refused.wrapping_add(1);
             }
         }
         99 => take(rt, table, port, key),
-        _ => tally.found = tally.found.wrapping_add(count(rt, table, port, key)),
+        _ => {
+            let found = look(rt, table, port, key, kind == 100);
+            tally.found = tally.found.wrapping_add(found);
+        }
     }
 }
