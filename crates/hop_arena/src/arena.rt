@@ -83,6 +83,7 @@ impl Arena {
     /// One pass over the free bits, in a run, with one fetch-and for each bit that was seen set: an
     /// element of its own, or none where each element of the map was seen not free, at a moment of
     /// its own.
+    #[inline(always)]
     pub fn claim(&mut self, lane: &mut Lane, table: &HopTable) -> Option<Element>
         requires table { lane.old.table ≡ table.now.id }
         requires map { self.old.map < length table.now.about.shape.maps }
@@ -96,7 +97,9 @@ impl Arena {
         ensures arena { (self.new.map ≡ self.old.map) × (self.new.elements ≡ self.old.elements)
             × IsArena table.now.about self.new.map self.new.elements self.new.start }
     {
-        let words = self.elements.div_ceil(64);
+        let _sizes = table.about().shape.maps()[usize::from(self.map)];
+        // `div_ceil` would test the remainder.
+        let words = (self.elements + 63) / 64;
         'after: for word in self.start..words {
             if let Some(element) = claim_in(lane, table, self.map, word, self.elements) {
                 self.start = word;

@@ -87,6 +87,7 @@ fn lock_and_refuse<R: Wait>(
 }
 
 // One pass over the free bits, from the element on that the CPU gave back last.
+#[inline(always)]
 fn claim_near(
     table: &HopTable,
     lane: &mut Lane,
@@ -117,6 +118,7 @@ fn claim_near(
 const PATIENCE: u32 = 24;
 
 // A free element of the map, after the CPU's own batches were looked at.
+#[inline(never)]
 fn reclaim_and_claim(
     table: &HopTable,
     lane: &mut Lane,
