@@ -56,7 +56,7 @@ STRESS = maps/fullest-map maps/keys-that-differ-in-the-last-byte maps/sixteen-ma
 soak: build ## Run each file of stress 1,000 times by 16 workers: minutes
 	for file in $(STRESS); do tests/run --times $(SOAK) ./ebpf "$$file.toml, 16 workers" || exit 1; done
 
-bench: build ## Time fixed programs beside other interpreters, map calls beside other maps, also by threads, and by workers beside the kernel, maps that grow, every schedule beside SPIN, thousands of files beside xargs, texts of 16 MiB, and the largest run file
+bench: build ## Time fixed programs beside other interpreters, map calls beside other maps, also by threads, and by workers beside the kernel, maps that grow, every schedule beside SPIN, thousands of files beside xargs, one search by many processes, texts of 16 MiB, and the largest run file
 	cd crates/hop_bench && rt run </dev/null
 	bench/run ./ebpf
 	bench/maps ./ebpf
@@ -64,6 +64,7 @@ bench: build ## Time fixed programs beside other interpreters, map calls beside 
 	bench/workers ./ebpf
 	bench/explore ./ebpf
 	bench/campaign ./ebpf
+	bench/explore-far ./ebpf
 	bench/texts ./ebpf
 	bench/largest ./ebpf
 	tests/page ./ebpf speed
