@@ -1,5 +1,5 @@
 -- Whatever jobs a machine's come from, those after a turn come from the same.
-use Rattle.std.proofs.Common.{◌≡◌, ℕ, zero, suc, List, [], ◌∷◌, ◌⊎◌, Some, None, inl, inr, length, refl, sym, ap, subst, ◌∙◌}
+use Rattle.std.proofs.Common.{◌≡◌, ℕ, zero, suc, List, [], ◌∷◌, ◌⊎◌, Some, None, inl, inr, length, refl, sym, ap, subst, ◌∙◌, ◌+◌}
 use Rattle.std.specs.Prelude.{slice_get}
 use Rattle.bpf_shared.specs.Store.{Plain, as_made}
 use Rattle.bpf_loader.specs.Loaded.{Loaded}
@@ -15,6 +15,7 @@ use Rattle.bpf_machine.specs.Schedule.{Advances}
 use Rattle.bpf_machine.specs.Machine.{MachineState}
 use Rattle.bpf_machine.specs.Work.{BeginsJob}
 use Rattle.bpf_machine.specs.Headways.{TakesQuietTurns, RunsAhead}
+use Rattle.bpf_machine.specs.Patient.{IsRefilled}
 use Rattle.bpf_machine.specs.Saved.{context_of, AreLater, ComeFrom, ComeFromSame, ComesFrom, FitsBytes, IsLater, IsSavableStage, IsStageOf}
 use Rattle.bpf_machine.specs.Private.Turns.{StaysOrEnds}
 
@@ -111,3 +112,10 @@ waiting_come (t ∷ ts) wait = (record { cpu = refl; program = refl; budget = re
     own (Waiting c) context is = refl
     own (InHand state left) context is = cc
     own (Ended end) context is = tt
+
+-- and those whose budgets are whole again
+pub refilled_same : (old new : MachineState) (c : ℕ) → IsRefilled old c new → ComeFromSame old.jobs new.jobs
+refilled_same old new c (inl (free, same)) first come = subst (λ (m : MachineState). ComeFrom first m.jobs) (sym same) come
+refilled_same old new c (inr (j, (task, state, left, more, at, enough, is))) first come =
+    subst (λ (m : MachineState). ComeFrom first m.jobs) (sym is)
+    (with_one first old.jobs j task (InHand state (left + more)) at.listed (λ f from. gone_on f task state state left (left + more) at.at (refl, refl) from) come)
