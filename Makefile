@@ -29,6 +29,7 @@ test: ## The whole gate: every proof, every must-fail edit, every test, then the
 	tests/hostile ./ebpf
 	tests/orders ./ebpf
 	tests/explore ./ebpf
+	tests/expand ./ebpf
 	tests/check ./ebpf
 	tests/json ./ebpf
 	tests/campaign ./ebpf

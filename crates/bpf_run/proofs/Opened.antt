@@ -9,17 +9,21 @@ use Rattle.bpf_file.specs.Reading.{IsRunFile}
 use Rattle.bpf_file.specs.declared.error.FileError.{FileError}
 use Rattle.bpf_file.specs.declared.error.FileError.TheVariants as file_error
 use Rattle.bpf_file.specs.declared.error.Reason.{Reason}
-use Rattle.bpf_debug.specs.Session.{Scene, SessionState, IsShown}
-use Rattle.bpf_command.specs.declared.command.Command.TheVariants as command
+use Rattle.bpf_debug.specs.Session.{SessionState, IsShown}
 use Rattle.bpf_run.specs.Answer.{Prints, stats_of}
 use Rattle.bpf_run.specs.Commands.{IsReply, is_unread}
 use Rattle.bpf_run.specs.Input.{is_failed_read}
 use Rattle.bpf_run.specs.Script.{IsCut, IsScriptOfFile, NoneEnds, ends_file, scene_of}
-use Rattle.bpf_run.specs.Debugging.{Debugs, IsOpened, IsRefusal}
+use Rattle.bpf_run.specs.Conversing.{Holds, IsRefusal, LeavesLines, command_of}
+use Rattle.bpf_run.specs.Debugging.{IsOpened}
+use Rattle.bpf_run.specs.declared.conversing.Partner.{Partner}
+use Rattle.bpf_run.specs.declared.conversing.Partner.TheVariants as partner
 use Rattle.bpf_run.specs.declared.debugging.Opening.TheVariants as opening
 use Rattle.bpf_run.specs.declared.input.InputError.{InputError}
 use Rattle.bpf_run.specs.declared.input.InputError.TheVariants as input_error
 use Rattle.bpf_run.specs.declared.input.TheConstants.{MAX_INPUT}
+use Rattle.bpf_run.specs.Running.{RefusesFile}
+use Rattle.bpf_run.specs.declared.refusal.Refusal.{Refusal}
 use Rattle.bpf_run.specs.declared.refusal.Refusal.TheVariants as refusal
 use Rattle.bpf_run.specs.declared.reply.Reply.{Reply}
 use Rattle.bpf_run.specs.declared.reply.Reply.TheVariants as reply
@@ -71,38 +75,55 @@ script_read echo strict text (reply.Refused why) said = refl
 script_read echo strict text r said = refl
 
 -- a reply to a text
-pub replied : (echo strict : Bool) (text : List ℕ) (r : Reply) (silent : Type 0) (talks : Scene → Status → Type 0) (old new : Option (List ℕ)) (lost : Bool) (s : Status)
+pub replied : (echo strict : Bool) (text : List ℕ) (r : Reply) (silent : Type 0) (talks : File → Status → Type 0) (old new : Option (List ℕ)) (lost : Bool) (s : Status)
     → length text ≤ MAX_INPUT → IsUtf8 text → silent → IsOpened echo strict text (opening.Reply r) → Prints r old new lost s
-    → Debugs echo strict (Some text) silent talks false old new lost s (stats_of r)
+    → Holds (partner.Debugger echo strict) (Some text) silent talks false old new lost s (stats_of r)
 replied echo strict text r silent talks old new lost s short utf8 quiet opened printed =
     inl (quiet, (r, sym (script_read echo strict text r opened.0), (inr (short, utf8, opened.0), opened.1), printed, refl))
 
 -- a conversation
-pub talked : (echo strict : Bool) (text : List ℕ) (session : SessionState) (silent : Type 0) (talks : Scene → Status → Type 0) (kept : Option (List ℕ)) (lost : Bool) (s : Status) (stats : List ℕ)
-    → length text ≤ MAX_INPUT → IsUtf8 text → lost ≡ false → stats ≡ [] → IsOpened echo strict text (opening.Talk session) → ((x : Scene) → IsShown session x → talks x s)
-    → Debugs echo strict (Some text) silent talks false kept kept lost s stats
+pub talked : (echo strict : Bool) (text : List ℕ) (session : SessionState) (silent : Type 0) (talks : File → Status → Type 0) (kept : Option (List ℕ)) (lost : Bool) (s : Status) (stats : List ℕ)
+    → length text ≤ MAX_INPUT → IsUtf8 text → lost ≡ false → stats ≡ [] → IsOpened echo strict text (opening.Talk session) → ((f : File) → IsShown session (scene_of f) → talks f s)
+    → Holds (partner.Debugger echo strict) (Some text) silent talks false kept kept lost s stats
 talked echo strict text session silent talks kept lost s stats short utf8 works counts opened held =
-    inr (refl, refl, works, counts, (opened.1.0, (short, utf8, opened.0, opened.1.1), held (scene_of opened.1.0) opened.1.2))
+    inr (refl, refl, works, counts, (opened.1.0, (short, utf8, opened.0, opened.1.1), held opened.1.0 opened.1.2))
+
+-- states of a file
+pub states_talked : (patient : Bool) (text : List ℕ) (f : File) (silent : Type 0) (talks : File → Status → Type 0) (kept : Option (List ℕ)) (lost : Bool) (s : Status) (stats : List ℕ)
+    → length text ≤ MAX_INPUT → IsUtf8 text → lost ≡ false → stats ≡ [] → IsRunFile text (Ok f) → talks f s
+    → Holds (partner.States patient) (Some text) silent talks false kept kept lost s stats
+states_talked patient text f silent talks kept lost s stats short utf8 works counts said held =
+    inr (refl, refl, works, counts, (f, (short, utf8, tt, said), held))
+
+file_read : (text : List ℕ) (r : Refusal) → RefusesFile text r → is_unread (reply.Refused r) ≡ false
+file_read text (refusal.Input e) said = absurd said
+file_read text r said = refl
+
+pub states_refused : (patient : Bool) (text : List ℕ) (r : Refusal) (silent : Type 0) (talks : File → Status → Type 0) (old new : Option (List ℕ)) (lost : Bool) (s : Status)
+    → length text ≤ MAX_INPUT → IsUtf8 text → silent → RefusesFile text r → Prints (reply.Refused r) old new lost s
+    → Holds (partner.States patient) (Some text) silent talks false old new lost s (stats_of (reply.Refused r))
+states_refused patient text r silent talks old new lost s short utf8 quiet refused printed =
+    inl (quiet, (reply.Refused r, sym (file_read text r refused), (inr (short, utf8, refused), λ some. tt), printed, refl))
 
 -- bytes that are no text
-pub not_text : (echo strict : Bool) (bytes : List ℕ) (silent : Type 0) (talks : Scene → Status → Type 0) (old new : Option (List ℕ)) (lost : Bool) (s : Status)
+pub not_text : (p : Partner) (bytes : List ℕ) (silent : Type 0) (talks : File → Status → Type 0) (old new : Option (List ℕ)) (lost : Bool) (s : Status)
     → length bytes ≤ MAX_INPUT → (IsUtf8 bytes → ⊥) → silent → Prints (reply.Refused refusal.NotText) old new lost s
-    → Debugs echo strict (Some bytes) silent talks false old new lost s []
-not_text echo strict bytes silent talks old new lost s short bad quiet printed =
+    → Holds p (Some bytes) silent talks false old new lost s []
+not_text p bytes silent talks old new lost s short bad quiet printed =
     inl (quiet, (reply.Refused refusal.NotText, refl, (inl (refusal.NotText, refl, (short, bad)), λ none. tt), printed, refl))
 
 -- a file whose bytes may not be known
-known : (echo strict : Bool) (input : Option (List ℕ)) (bytes : List ℕ) (silent : Type 0) (talks : Scene → Status → Type 0) (failed : Bool) (old new : Option (List ℕ)) (lost : Bool) (s : Status) (stats : List ℕ)
-    → IfSome input (λ whole. bytes ≡ whole) → Debugs echo strict (Some bytes) silent talks failed old new lost s stats → Debugs echo strict input silent talks failed old new lost s stats
-known echo strict None bytes silent talks failed old new lost s stats same (inl (quiet, (r, reads, told, printed, counts))) = inl (quiet, (r, reads, tt, printed, counts))
-known echo strict None bytes silent talks failed old new lost s stats same (inr (reads, kept, works, counts, (f, said, held))) = inr (reads, kept, works, counts, (f, tt, held))
-known echo strict (Some input) bytes silent talks failed old new lost s stats same done =
-    subst (λ (t : List ℕ). Debugs echo strict (Some t) silent talks failed old new lost s stats) same done
+known : (p : Partner) (input : Option (List ℕ)) (bytes : List ℕ) (silent : Type 0) (talks : File → Status → Type 0) (failed : Bool) (old new : Option (List ℕ)) (lost : Bool) (s : Status) (stats : List ℕ)
+    → IfSome input (λ whole. bytes ≡ whole) → Holds p (Some bytes) silent talks failed old new lost s stats → Holds p input silent talks failed old new lost s stats
+known p None bytes silent talks failed old new lost s stats same (inl (quiet, (r, reads, told, printed, counts))) = inl (quiet, (r, reads, tt, printed, counts))
+known p None bytes silent talks failed old new lost s stats same (inr (reads, kept, works, counts, (f, said, held))) = inr (reads, kept, works, counts, (f, tt, held))
+known p (Some input) bytes silent talks failed old new lost s stats same done =
+    subst (λ (t : List ℕ). Holds p (Some t) silent talks failed old new lost s stats) same done
 
-pub was_read : (echo strict : Bool) (input : Option (List ℕ)) (bytes : List ℕ) (silent : Type 0) (talks : Scene → Status → Type 0) (failed : Bool) (old new : Option (List ℕ)) (lost : Bool) (s : Status) (stats : List ℕ)
-    → failed ≡ false → IfSome input (λ whole. bytes ≡ whole) → Debugs echo strict (Some bytes) silent talks false old new lost s stats → Debugs echo strict input silent talks failed old new lost s stats
-was_read echo strict input bytes silent talks failed old new lost s stats reads same done =
-    subst (λ (b : Bool). Debugs echo strict input silent talks b old new lost s stats) (sym reads) (known echo strict input bytes silent talks false old new lost s stats same done)
+pub was_read : (p : Partner) (input : Option (List ℕ)) (bytes : List ℕ) (silent : Type 0) (talks : File → Status → Type 0) (failed : Bool) (old new : Option (List ℕ)) (lost : Bool) (s : Status) (stats : List ℕ)
+    → failed ≡ false → IfSome input (λ whole. bytes ≡ whole) → Holds p (Some bytes) silent talks false old new lost s stats → Holds p input silent talks failed old new lost s stats
+was_read p input bytes silent talks failed old new lost s stats reads same done =
+    subst (λ (b : Bool). Holds p input silent talks b old new lost s stats) (sym reads) (known p input bytes silent talks false old new lost s stats same done)
 
 -- a file that wasn't read
 failed_alike : (e : InputError) → is_failed_read {T = Vec ℕ Global} (Err e) ≡ is_unread (reply.Refused (refusal.Input e))
@@ -110,22 +131,22 @@ failed_alike input_error.Unread = refl
 failed_alike input_error.TooLong = refl
 failed_alike input_error.OutOfMemory = refl
 
-refused_read : (echo strict : Bool) (input : Option (List ℕ)) (e : InputError) → IfSome input (λ bytes. IsReply (command.Debug echo strict) bytes (reply.Refused (refusal.Input e)))
-    → IfSome input (λ bytes. IsReply (command.Debug echo strict) bytes (reply.Refused (refusal.Input e)) × (NoneEnds (lines_of bytes) → IsRefusal (reply.Refused (refusal.Input e))))
-refused_read echo strict None e h = tt
-refused_read echo strict (Some bytes) e h = (h, λ none. tt)
+refused_read : (p : Partner) (input : Option (List ℕ)) (e : InputError) → IfSome input (λ bytes. IsReply (command_of p) bytes (reply.Refused (refusal.Input e)))
+    → IfSome input (λ bytes. IsReply (command_of p) bytes (reply.Refused (refusal.Input e)) × (LeavesLines p bytes → IsRefusal (reply.Refused (refusal.Input e))))
+refused_read p None e h = tt
+refused_read p (Some bytes) e h = (h, λ none. tt)
 
-pub not_read : (echo strict : Bool) (input : Option (List ℕ)) (e : InputError) (r : Reply) (silent : Type 0) (talks : Scene → Status → Type 0) (failed : Bool) (old new : Option (List ℕ)) (lost : Bool) (s : Status)
+pub not_read : (p : Partner) (input : Option (List ℕ)) (e : InputError) (r : Reply) (silent : Type 0) (talks : File → Status → Type 0) (failed : Bool) (old new : Option (List ℕ)) (lost : Bool) (s : Status)
     → (e ≡ input_error.TooLong → IfSome input (λ bytes. MAX_INPUT < length bytes)) → failed ≡ is_failed_read {T = Vec ℕ Global} (Err e) → silent
     → r ≡ reply.Refused (refusal.Input e) → Prints (reply.Refused (refusal.Input e)) old new lost s
-    → Debugs echo strict input silent talks failed old new lost s (stats_of r)
-not_read echo strict input e r silent talks failed old new lost s long fails quiet same printed =
+    → Holds p input silent talks failed old new lost s (stats_of r)
+not_read p input e r silent talks failed old new lost s long fails quiet same printed =
     inl (
       quiet,
       (
         reply.Refused (refusal.Input e),
         fails ∙ failed_alike e,
-        refused_read echo strict input e (unread input (command.Debug echo strict) e long),
+        refused_read p input e (unread input (command_of p) e long),
         printed,
         ap stats_of same,
       ),

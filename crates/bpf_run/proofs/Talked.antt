@@ -16,7 +16,9 @@ use Rattle.bpf_talk.specs.declared.talking.Talked.TheVariants as talked
 use Rattle.bpf_talk.proofs.Alike.{Left, talks_alike}
 use Rattle.bpf_run.specs.Answer.{script_status}
 use Rattle.bpf_run.specs.Answering.{AnswersText, SessionAnswers}
-use Rattle.bpf_run.specs.Debugging.{Converses, Debugs, asked_talk, talk_status}
+use Rattle.bpf_file.specs.File.{File}
+use Rattle.bpf_run.specs.Conversing.{DebugsFrom, Holds, asked_talk, talk_status}
+use Rattle.bpf_run.specs.declared.conversing.Partner.{Partner}
 use Rattle.bpf_run.specs.Objects.{IsShown as IsShownAs}
 use Rattle.bpf_run.specs.Program.{Does, Performs, input_of}
 use Rattle.bpf_run.specs.declared.answering.Answering.{Answering}
@@ -47,29 +49,29 @@ status_alike talked.CutOff strict stopped t y tells shown = refl
 pub converses : (passes : List Call → Type 0) (echo strict : Bool) (s t : Answering) (session : SessionState) (unread unwritten stopped : Bool) (told : Talked) (answered : Status)
     → s.session ≡ session → stopped ≡ any_stopped (length t.session.machine.jobs) t.session.machine.jobs → answered ≡ talk_status strict stopped told
     → ((calls : List Call) × passes calls × Talks Asks echo s t calls unread unwritten told)
-    → (x : Scene) → IsShown session x → Converses passes unread unwritten echo strict x answered
+    → (x : Scene) → IsShown session x → DebugsFrom passes unread unwritten echo strict x answered
 converses passes echo strict s t session unread unwritten stopped told answered same tells means (calls, made, talks) x shown =
     let alike = talks_alike Asks AnswersText Shows follows echo s t x calls unread unwritten told (subst (λ (u : SessionState). IsShown u x) (sym same) shown) talks in
     (calls, told, alike.0, made, alike.1, means ∙ status_alike told strict stopped t alike.0 tells alike.2)
 
 -- ---- what is asked for
 
-pub does_talk : (command : Command) (json : Bool) (file : Option Text) (asked : Option (Bool × Bool × Text)) (echo strict : Bool) (name : Text) (silent : Type 0)
-    (talks : (echo strict : Bool) → Scene → Status → Type 0) (standard : Option (List ℕ)) (files : Text → Option (List ℕ)) (failed : Bool) (old new : Option (List ℕ)) (lost : Bool) (s : Status) (stats : List ℕ)
-    → Some (echo, strict, name) ≡ asked → Debugs echo strict (files name) silent (talks echo strict) failed old new lost s stats
+pub does_talk : (command : Command) (json : Bool) (file : Option Text) (asked : Option (Partner × Text)) (p : Partner) (name : Text) (silent : Type 0)
+    (talks : Partner → File → Status → Type 0) (standard : Option (List ℕ)) (files : Text → Option (List ℕ)) (failed : Bool) (old new : Option (List ℕ)) (lost : Bool) (s : Status) (stats : List ℕ)
+    → Some (p, name) ≡ asked → Holds p (files name) silent (talks p) failed old new lost s stats
     → Does command json file asked silent talks standard files failed old new lost s stats
-does_talk command json file asked echo strict name silent talks standard files failed old new lost s stats is done =
-    subst (λ (a : Option (Bool × Bool × Text)). Does command json file a silent talks standard files failed old new lost s stats) is done
+does_talk command json file asked p name silent talks standard files failed old new lost s stats is done =
+    subst (λ (a : Option (Partner × Text)). Does command json file a silent talks standard files failed old new lost s stats) is done
 
-pub does_else : (command : Command) (json : Bool) (file : Option Text) (asked : Option (Bool × Bool × Text)) (silent : Type 0)
-    (talks : (echo strict : Bool) → Scene → Status → Type 0) (standard : Option (List ℕ)) (files : Text → Option (List ℕ)) (failed : Bool) (old new : Option (List ℕ)) (lost : Bool) (s : Status) (stats : List ℕ)
+pub does_else : (command : Command) (json : Bool) (file : Option Text) (asked : Option (Partner × Text)) (silent : Type 0)
+    (talks : Partner → File → Status → Type 0) (standard : Option (List ℕ)) (files : Text → Option (List ℕ)) (failed : Bool) (old new : Option (List ℕ)) (lost : Bool) (s : Status) (stats : List ℕ)
     → None ≡ asked → silent → IsShownAs json (λ before after cut answered. Performs command (input_of standard files file) failed before after cut answered stats) old new lost s
     → Does command json file asked silent talks standard files failed old new lost s stats
 does_else command json file asked silent talks standard files failed old new lost s stats is quiet done =
-    subst (λ (a : Option (Bool × Bool × Text)). Does command json file a silent talks standard files failed old new lost s stats) is (quiet, done)
+    subst (λ (a : Option (Partner × Text)). Does command json file a silent talks standard files failed old new lost s stats) is (quiet, done)
 
 -- of a file by either of its names
-pub renamed : (command : Command) (json : Bool) (one other : Option Text) (silent : Type 0) (talks : (echo strict : Bool) → Scene → Status → Type 0)
+pub renamed : (command : Command) (json : Bool) (one other : Option Text) (silent : Type 0) (talks : Partner → File → Status → Type 0)
     (standard : Option (List ℕ)) (files : Text → Option (List ℕ)) (failed : Bool) (old new : Option (List ℕ)) (lost : Bool) (s : Status) (stats : List ℕ)
     → one ≡ other → Does command json one (asked_talk command one json) silent talks standard files failed old new lost s stats
     → Does command json other (asked_talk command other json) silent talks standard files failed old new lost s stats

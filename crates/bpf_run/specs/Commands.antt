@@ -10,6 +10,7 @@ use Rattle.bpf_shared.specs.declared.events.Event.{Event}
 use Rattle.bpf_cpu.specs.State.{start}
 use Rattle.bpf_cpu.specs.Step.{Explains}
 use Rattle.bpf_run.specs.Checking.{IsCheckedFile}
+use Rattle.bpf_run.specs.Expanding.{IsExpandedFile}
 use Rattle.bpf_run.specs.Exploring.{IsExploredFile, IsShownFile}
 use Rattle.bpf_run.specs.Racing.{IsRacesFile}
 use Rattle.bpf_run.specs.Running.{IsHistoryOfFile, IsJudgedOfFile, IsRunBy}
@@ -138,18 +139,20 @@ IsAnswer (command.Show options) text r =
 IsAnswer (command.Races options) text r =
     IsRacesFile options.search.patient options.search.limit (map string_bytes options.sync.items) text r
 IsAnswer (command.Check options) text r = IsCheckedFile options.patient options.limit text r
+IsAnswer (command.Expand first patient) text r = IsExpandedFile first text r
 
 -- it asks for no workers
 abbrev pub IsForOneThread : Command → Type 0
 IsForOneThread (command.Run options) = options.workers ≡ None
 IsForOneThread _ = Unit {0}
 
--- it doesn't choose among schedules
+-- it doesn't choose among schedules, nor tell of states
 abbrev pub IsForOneSchedule : Command → Type 0
 IsForOneSchedule (command.Explore options) = ⊥
 IsForOneSchedule (command.Show options) = ⊥
 IsForOneSchedule (command.Races options) = ⊥
 IsForOneSchedule (command.Check options) = ⊥
+IsForOneSchedule (command.Expand first patient) = ⊥
 IsForOneSchedule _ = Unit {0}
 
 -- ---- input

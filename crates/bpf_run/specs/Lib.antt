@@ -13,4 +13,6 @@ pub mod Laws
 pub mod Objects
 pub mod Program
 pub mod Answering
+pub mod Conversing
 pub mod Debugging
+pub mod Expanding

@@ -4,7 +4,7 @@ use Rattle.std.specs.Prelude.{◌≡◌, ℕ, Bool, List, Option, Some, None, If
 use Rattle.clap.specs.Words.{Text, fault_of}
 use Rattle.clap.specs.declared.error.Error.{Error}
 use Rattle.bpf_lines.specs.declared.hex_text.HexError.TheVariants as hex_error
-use Rattle.bpf_debug.specs.Session.{Scene}
+use Rattle.bpf_file.specs.File.{File}
 use Rattle.bpf_command.specs.CommandLine.{ebpf}
 use Rattle.bpf_command.specs.Names.{AsksBy, as_flags}
 use Rattle.bpf_command.specs.declared.command.Command.{Command}
@@ -14,7 +14,8 @@ use Rattle.bpf_command.specs.declared.command_line.CommandError.{CommandError}
 use Rattle.bpf_command.specs.declared.command_line.CommandError.TheVariants as command_error
 use Rattle.bpf_run.specs.Answer.{Prints, PrintsPage, stats_of}
 use Rattle.bpf_run.specs.Commands.{IsReply, is_unread}
-use Rattle.bpf_run.specs.Debugging.{Debugs, asked_talk}
+use Rattle.bpf_run.specs.Conversing.{Holds, asked_talk}
+use Rattle.bpf_run.specs.declared.conversing.Partner.{Partner}
 use Rattle.bpf_run.specs.Objects.{IsShown}
 use Rattle.bpf_run.specs.Several.{AreChecked}
 use Rattle.bpf_run.specs.declared.program.Ending.{Ending}
@@ -39,16 +40,15 @@ abbrev pub input_of : (standard : Option (List ℕ)) → (files : Text → Optio
 input_of standard files None = standard
 input_of standard files (Some name) = files name
 
--- `debug` of a FILE may hold a conversation; each other command is performed of its input, with
+-- `debug` or `expand` of a FILE may hold a conversation; each other command is performed of its input, with
 -- `--json` the objects of what is printed are written, and the terminal is left alone
-abbrev pub Does : Command → (json : Bool) → Option Text → (talk : Option (Bool × Bool × Text))
-    → (silent : Type 0) → (talks : (echo strict : Bool) → Scene → Status → Type 0)
+abbrev pub Does : Command → (json : Bool) → Option Text → (talk : Option (Partner × Text))
+    → (silent : Type 0) → (talks : Partner → File → Status → Type 0)
     → (standard : Option (List ℕ)) → (files : Text → Option (List ℕ)) → (read_failed : Bool)
     → (old new : Option (List ℕ)) → (write_failed : Bool) → Status → (stats : List ℕ) → Type 0
-Does command json file (Some (echo, strict, name)) silent talks standard files read_failed old new
+Does command json file (Some (partner, name)) silent talks standard files read_failed old new
     write_failed status stats =
-    Debugs echo strict (files name) silent (talks echo strict) read_failed old new write_failed
-    status stats
+    Holds partner (files name) silent (talks partner) read_failed old new write_failed status stats
 Does command json file None silent talks standard files read_failed old new write_failed status
     stats =
     silent × IsShown json (λ before after cut answered.
@@ -59,7 +59,7 @@ Does command json file None silent talks standard files read_failed old new writ
 -- and with `--json` the objects of what is printed are written; of a page that is asked for nothing
 -- is read
 abbrev pub Follows : Request → (unread silent : Type 0)
-    → (talks : (echo strict : Bool) → Scene → Status → Type 0) → (standard : Option (List ℕ))
+    → (talks : Partner → File → Status → Type 0) → (standard : Option (List ℕ))
     → (files : Text → Option (List ℕ)) → (read_failed : Bool)
     → (old new : Option (List ℕ)) → (write_failed : Bool) → Status → (stats : List ℕ) → Type 0
 Follows (request.Perform command file explain json) unread silent talks standard files read_failed

@@ -96,6 +96,7 @@ impl Subject {
             Command::Explore(_) => Subject::Schedules,
             Command::Races(_) => Subject::Races,
             Command::Check(_) => Subject::Tests,
+            Command::Expand { .. } => Subject::Schedules,
         }
     }
 

@@ -3,8 +3,10 @@
 
 pub mod answering;
 pub mod checking;
+pub mod conversing;
 pub mod debugging;
 pub mod engine;
+pub mod expanding;
 mod explaining;
 pub mod exploring;
 mod fault;

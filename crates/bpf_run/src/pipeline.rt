@@ -9,6 +9,7 @@ ghost use Rattle.bpf_run.specs.Commands.{IsAnswer, IsAssembled, IsAssembledRun, 
 ghost use Rattle.bpf_run.specs.declared.reply.Reply.{Reply};
 
 use crate::checking::check_file;
+use crate::expanding::expand_file;
 use crate::exploring::{explore_file, show_file};
 use crate::listing::word_lines;
 use crate::racing::race_file;
@@ -209,6 +210,7 @@ pub fn reply<O: Observer>(alloc: Global, command: Command, text: &str, observer:
         }
         Command::Races(options) => race_file(alloc, options, text, observer),
         Command::Check(search) => check_file(alloc, search, text, observer),
+        Command::Expand { first, .. } => expand_file(alloc, first, text),
     }
 }
 

@@ -8,12 +8,12 @@ ghost use Rattle.bpf_command.specs.declared.command.Request.{Request};
 ghost use Rattle.bpf_command.specs.declared.command_line.CommandError.{CommandError};
 ghost use Rattle.bpf_run.specs.Objects.{IsShown};
 ghost use Rattle.bpf_run.specs.Answer.{Prints, exit_status, stats_of};
-ghost use Rattle.bpf_run.specs.Debugging.{Converses, asked_talk};
+ghost use Rattle.bpf_run.specs.Conversing.{Converses, asked_talk};
 ghost use Rattle.bpf_run.specs.Program.{Does, Follows, error_of, IfExit, IfNotText, IfShown, IfMisused, IsAsked, IsPrintedAs};
 ghost use Rattle.bpf_run.specs.declared.program.Misuse.{Misuse};
 ghost use Rattle.bpf_run.specs.declared.refusal.Refusal.{Refusal};
 
-use crate::debugging::{asked_talk, debug_named};
+use crate::conversing::{asked_talk, talk_named};
 use crate::explaining::{Failures, Question, Subject, explain};
 use crate::objects::{answer_as, perform_as};
 use crate::perform::{Performed, answer, print_page};
@@ -145,7 +145,7 @@ fn perform_command<T: Threads + Wait + Sync + Aside, R: Source, W: Sink, D: Term
         (stats_of result.reply) }
 {
     match asked_talk(&command, file, json) {
-        Some(asked) => debug_named(alloc, asked, source, sink, terminal),
+        Some(asked) => talk_named(alloc, asked, source, sink, terminal),
         None => perform_as(json, rt, alloc, command, file, source, sink),
     }
 }

@@ -1,6 +1,6 @@
 use Rattle.std.proofs.Common.{◌≡◌, Option, option_map, rules, string_bytes}
 use Rattle.bpf_run.specs.Answer.{stats_of}
-use Rattle.bpf_run.specs.Debugging.{Converses}
+use Rattle.bpf_run.specs.Conversing.{Converses}
 use Rattle.bpf_run.proofs.Talked.{renamed}
 use Rattle.bpf_run.proofs.program.perform_for.Goals as goal
 

@@ -3,7 +3,7 @@ use Rattle.bpf_command.specs.declared.command.Request.{Request}
 use Rattle.bpf_command.specs.declared.command_line.CommandError.{CommandError}
 use Rattle.bpf_run.specs.Answer.{Prints}
 use Rattle.bpf_run.specs.Program.{Follows, IsPrintedAs}
-use Rattle.bpf_run.specs.Debugging.{Converses}
+use Rattle.bpf_run.specs.Conversing.{Converses}
 use Rattle.bpf_run.specs.declared.refusal.Refusal.{Refusal}
 use Rattle.bpf_run.specs.declared.reply.Reply.TheVariants as reply
 use Rattle.bpf_run.specs.declared.reply.Status.{Status}

@@ -1,0 +1,133 @@
+//! `ebpf expand`: states of a run file's jobs, and what CPUs' turns lead to from them.
+
+ghost use Rattle.std.specs.Prelude.{◌≡◌, ◌≤◌, Ok, Some, [], false, true, IfErr, IfOk, IsUtf8, length, string_bytes};
+ghost use Rattle.bpf_file.specs.File.{File, file_of};
+ghost use Rattle.bpf_file.specs.Reading.{IsRunFile};
+ghost use Rattle.bpf_file.specs.Runnable.{IsRunnable};
+ghost use Rattle.bpf_run.specs.Answer.{stats_of};
+ghost use Rattle.bpf_run.specs.Conversing.{Converses, Holds, StatesFrom};
+ghost use Rattle.bpf_run.specs.Expanding.{IsExpandedFile, IsExpandedText, IsFilterOf};
+ghost use Rattle.bpf_run.specs.Running.{RefusesFile};
+ghost use Rattle.bpf_run.specs.declared.conversing.Partner.{Partner};
+
+use crate::conversing::come_to;
+use crate::input::MAX_INPUT;
+use crate::perform::answer;
+use crate::refusal::Refusal;
+use crate::reply::{Reply, Status};
+use crate::running::file_in;
+use crate::stream::Sink;
+use bpf_expand::{Filter, first_line};
+use bpf_file::RunFile;
+use bpf_talk::{Terminal, talk};
+use std::alloc::{AllocError, Global};
+
+/// The filter of the states of a run file's jobs. Want of memory is the only refusal.
+fn open_filter(alloc: Global, patient: bool, file: RunFile) -> Result<Filter, AllocError>
+    requires { IsRunnable file }
+    ensures { IfOk result (IsFilterOf patient (file_of file)) }
+{
+    let RunFile {
+        shape,
+        names,
+        programs,
+        jobs,
+        ..
+    } = file;
+    Filter::new(alloc, patient, shape, names, programs, jobs)
+}
+
+/// The same of the run file that a text says.
+fn filter_in(alloc: Global, patient: bool, text: &str) -> Result<Filter, Refusal>
+    ensures opened { IfOk result (λ x. (f : File) × IsRunFile text.now (Ok f)
+        × IsFilterOf patient f x) }
+    ensures refused { IfErr result (RefusesFile text.now) }
+{
+    let file = file_in(alloc, text)?;
+    match open_filter(alloc, patient, file) {
+        Ok(filter) => Ok(filter),
+        Err(_) => Err(Refusal::OutOfMemory),
+    }
+}
+
+/// The line of the first state of a run file's jobs. Want of memory is the only refusal.
+fn first_of(alloc: Global, file: RunFile) -> Result<String, AllocError>
+    requires { IsRunnable file }
+    ensures { IfOk result (λ line. IsExpandedText true (file_of file) (string_bytes line)) }
+{
+    let RunFile {
+        shape,
+        programs,
+        jobs,
+        ..
+    } = file;
+    first_line(alloc, shape, programs, jobs)
+}
+
+/// `ebpf expand --first`.
+fn expand_first(alloc: Global, text: &str) -> Reply
+    ensures { IsExpandedFile true text.now result }
+{
+    let file = match file_in(alloc, text) {
+        Ok(file) => file,
+        Err(refusal) => return Reply::Refused(refusal),
+    };
+    match first_of(alloc, file) {
+        Ok(line) => Reply::Text(line),
+        Err(_) => Reply::Refused(Refusal::OutOfMemory),
+    }
+}
+
+/// `ebpf expand` where no states are read: the first one, where that is asked for, or nothing.
+pub fn expand_file(alloc: Global, first: bool, text: &str) -> Reply
+    ensures { IsExpandedFile first text.now result }
+{
+    if first {
+        return expand_first(alloc, text);
+    }
+    match file_in(alloc, text) {
+        Ok(_) => Reply::Text(String::new(alloc)),
+        Err(refusal) => Reply::Refused(refusal),
+    }
+}
+
+/// A conversation with a filter of states.
+fn answer_states<D: Terminal>(alloc: Global, filter: Filter, terminal: &mut D) -> (Status, Reply)
+    requires hears { D.is_unread terminal.old ≡ false }
+    requires tells { D.has_failed terminal.old ≡ false }
+    ensures talks { StatesFrom (D.passes terminal.old terminal.new) (D.is_unread terminal.new)
+        (D.has_failed terminal.new) filter result.0 }
+    ensures stats { stats_of result.1 ≡ [] }
+{
+    let mut filter = filter;
+    let talked = talk(alloc, false, &mut filter, terminal);
+    come_to(alloc, true, false, talked)
+}
+
+/// What is done of the text of a file.
+pub(crate) fn expand_text<W: Sink, D: Terminal>(
+    alloc: Global,
+    patient: bool,
+    text: &str,
+    sink: &mut W,
+    terminal: &mut D,
+) -> (Status, Reply)
+    requires writable { W.has_failed sink.old ≡ false }
+    requires hears { D.is_unread terminal.old ≡ false }
+    requires tells { D.has_failed terminal.old ≡ false }
+    requires short { length text.now ≤ MAX_INPUT }
+    requires utf8 { IsUtf8 text.now }
+    ensures { Holds (Partner.States patient) (Some text.now) (terminal.new ≡ terminal.old)
+        (Converses (D.passes terminal.old terminal.new) (D.is_unread terminal.new)
+        (D.has_failed terminal.new) (Partner.States patient))
+        false (W.contents sink.old) (W.contents sink.new) (W.has_failed sink.new) result.0
+        (stats_of result.1) }
+{
+    match filter_in(alloc, patient, text) {
+        Ok(filter) => answer_states(alloc, filter, terminal),
+        Err(refusal) => {
+            let reply = Reply::Refused(refusal);
+            (answer(alloc, &reply, sink), reply)
+        }
+    }
+}
