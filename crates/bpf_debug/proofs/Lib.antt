@@ -13,6 +13,8 @@ pub mod ShowLaws
 pub mod ScheduleLaws
 pub mod ToldLaws
 pub mod ScriptLaws
+pub mod OwnValues
+pub mod OwnScenes
 pub mod OneText
 pub mod OneScript
 pub mod Spelled

@@ -30,8 +30,9 @@ use Rattle.bpf_debug.specs.Course.{cpu_before, turns_before}
 use Rattle.bpf_machine.specs.Laws.{IsFresh}
 use Rattle.bpf_debug.specs.Session.{Scene, IsCourse, Answers, CarriesOut, Obeys, behind, undone, RefusesOrder, RefusesFields, IsLineRefused}
 use Rattle.bpf_debug.specs.Script.{Answer, AnswersLine, RunsScript}
-use Rattle.bpf_debug.specs.Laws.{HadMemory, RecallsChangeNothing, ScriptsAreDetermined}
+use Rattle.bpf_debug.specs.Laws.{HadMemory, KeysHaveOwnValues, RecallsChangeNothing, ScriptsAreDetermined}
 use Rattle.bpf_debug.proofs.GoLaws.{free_has_no_work}
+use Rattle.bpf_debug.proofs.OwnScenes.{AreOwn, answer_keeps}
 use Rattle.bpf_debug.proofs.OneText.{one_place, IsSoundPast, off_free, one_off, one_where, one_registers, one_stand_text, one_shown_text, one_memory, one_held_text, one_nearby, one_name, one_map, one_keys}
 
 -- ---- who is up
@@ -588,46 +589,46 @@ module _ (law : WritesAreDetermined) (begins : OneInstructionBegins) (replies : 
     first : IsWorld y.first
 
   -- a question has one answer
-  one_answer_to : (x : Scene) (order : Order) (text other : List ℕ) → IsWorld x.world → Answers x order text → Answers x order other → text ≡ other
-  one_answer_to x (Registers (Some c)) text other world a b = one_registers x.world world c text other a.1 b.1
-  one_answer_to x (Registers None) text other world a b = absurd a
-  one_answer_to x (Where (Some c)) text other world a b = one_where x.world world c text other a.1 b.1
-  one_answer_to x (Where None) text other world a b = absurd a
-  one_answer_to x (Memory (Some c) at n) text other world a b = one_memory x.world world c at n text other a.1 b.1
-  one_answer_to x (Memory None at n) text other world a b = absurd a
-  one_answer_to x (Map name) text other world a b =
+  one_answer_to : (x : Scene) (order : Order) (text other : List ℕ) → IsWorld x.world → KeysHaveOwnValues x.world.store → Answers x order text → Answers x order other → text ≡ other
+  one_answer_to x (Registers (Some c)) text other world own a b = one_registers x.world world c text other a.1 b.1
+  one_answer_to x (Registers None) text other world own a b = absurd a
+  one_answer_to x (Where (Some c)) text other world own a b = one_where x.world world c text other a.1 b.1
+  one_answer_to x (Where None) text other world own a b = absurd a
+  one_answer_to x (Memory (Some c) at n) text other world own a b = one_memory x.world world c at n text other a.1 b.1
+  one_answer_to x (Memory None at n) text other world own a b = absurd a
+  one_answer_to x (Map name) text other world own a b =
       let same = one_name x.names name a.0 b.0 a.1 b.1 in
       let P : ℕ → Type 0 = λ m. IsMapText x.world.store m other in
       one_map x.world.store a.0 text other a.2 (subst P (sym same) b.2)
-  one_answer_to x (Keys name) text other world a b =
+  one_answer_to x (Keys name) text other world own a b =
       let same = one_name x.names name a.0 b.0 a.1 b.1 in
       let P : ℕ → Type 0 = λ m. IsKeysText x.world.store m other in
       one_keys x.world.store a.0 text other a.2 (subst P (sym same) b.2)
-  one_answer_to x Schedule text other world a b = a ∙ sym b
-  one_answer_to x Maps text other world a b = a ∙ sym b
-  one_answer_to x Jobs text other world a b = a ∙ sym b
-  one_answer_to x (Watch name digits) text other world a b = absurd a
-  one_answer_to x Unwatch text other world a b = absurd a
-  one_answer_to x (Mark n) text other world a b = a ∙ sym b
-  one_answer_to x Help text other world a b = a ∙ sym b
-  one_answer_to x (Held (Some c)) text other world a b = one_held_text x.world world x.names c text other a.1 b.1
-  one_answer_to x (Nearby (Some c)) text other world a b = one_nearby x.world world begins c text other a.1 b.1
-  one_answer_to x (Held None) text other world a b = absurd a
-  one_answer_to x (Nearby None) text other world a b = absurd a
-  one_answer_to x (Back n) text other world a b = absurd a
-  one_answer_to x (GoTo c p) text other world a b = absurd a
-  one_answer_to x (Break c p) text other world a b = absurd a
-  one_answer_to x (Delete c p) text other world a b = absurd a
-  one_answer_to x (Step c) text other world a b = absurd a
-  one_answer_to x (Show c) text other world a b = absurd a
-  one_answer_to x (Last c) text other world a b = absurd a
-  one_answer_to x (StepTimes c n) text other world a b = absurd a
-  one_answer_to x (Steps runs) text other world a b = absurd a
-  one_answer_to x Go text other world a b = absurd a
+  one_answer_to x Schedule text other world own a b = a ∙ sym b
+  one_answer_to x Maps text other world own a b = a ∙ sym b
+  one_answer_to x Jobs text other world own a b = a ∙ sym b
+  one_answer_to x (Watch name digits) text other world own a b = absurd a
+  one_answer_to x Unwatch text other world own a b = absurd a
+  one_answer_to x (Mark n) text other world own a b = a ∙ sym b
+  one_answer_to x Help text other world own a b = a ∙ sym b
+  one_answer_to x (Held (Some c)) text other world own a b = one_held_text x.world world own x.names c text other a.1 b.1
+  one_answer_to x (Nearby (Some c)) text other world own a b = one_nearby x.world world begins c text other a.1 b.1
+  one_answer_to x (Held None) text other world own a b = absurd a
+  one_answer_to x (Nearby None) text other world own a b = absurd a
+  one_answer_to x (Back n) text other world own a b = absurd a
+  one_answer_to x (GoTo c p) text other world own a b = absurd a
+  one_answer_to x (Break c p) text other world own a b = absurd a
+  one_answer_to x (Delete c p) text other world own a b = absurd a
+  one_answer_to x (Step c) text other world own a b = absurd a
+  one_answer_to x (Show c) text other world own a b = absurd a
+  one_answer_to x (Last c) text other world own a b = absurd a
+  one_answer_to x (StepTimes c n) text other world own a b = absurd a
+  one_answer_to x (Steps runs) text other world own a b = absurd a
+  one_answer_to x Go text other world own a b = absurd a
 
-  asked : (x y z : Scene) (order : Order) (text other : List ℕ) → IsWorld x.world → IsWorld x.first → Answers x order text × (y ≡ x) → Answers x order other × (z ≡ x) → OneEnd text other y z
-  asked x y z order text other world first a b = record {
-    texts = one_answer_to x order text other world a.0 b.0;
+  asked : (x y z : Scene) (order : Order) (text other : List ℕ) → IsWorld x.world → IsWorld x.first → KeysHaveOwnValues x.world.store → Answers x order text × (y ≡ x) → Answers x order other × (z ≡ x) → OneEnd text other y z
+  asked x y z order text other world first own a b = record {
+    texts = one_answer_to x order text other world own a.0 b.0;
     scenes = a.1 ∙ sym b.1;
     world = subst (λ (s : Scene). IsWorld s.world) (sym a.1) world;
     first = subst (λ (s : Scene). IsWorld s.first) (sym a.1) first;
@@ -641,24 +642,24 @@ module _ (law : WritesAreDetermined) (begins : OneInstructionBegins) (replies : 
     first = subst (λ (s : Scene). IsWorld s.first) (sym a) first;
   }
 
-  one_follow : (x y z : Scene) (order : Order) (text other : List ℕ) → IsWorld x.world → IsWorld x.first → CarriesOut x order text y → CarriesOut x order other z → OneEnd text other y z
-  one_follow x y z (Break (Some c) (Some p)) text other world first a b = record {
+  one_follow : (x y z : Scene) (order : Order) (text other : List ℕ) → IsWorld x.world → IsWorld x.first → KeysHaveOwnValues x.world.store → CarriesOut x order text y → CarriesOut x order other z → OneEnd text other y z
+  one_follow x y z (Break (Some c) (Some p)) text other world first own a b = record {
     texts = a.1.1 ∙ sym b.1.1;
     scenes = a.1.2 ∙ sym b.1.2;
     world = subst (λ (s : Scene). IsWorld s.world) (sym a.1.2) world;
     first = subst (λ (s : Scene). IsWorld s.first) (sym a.1.2) first;
   }
-  one_follow x y z (Delete (Some c) (Some p)) text other world first a b = record {
+  one_follow x y z (Delete (Some c) (Some p)) text other world first own a b = record {
     texts = a.1.1 ∙ sym b.1.1;
     scenes = a.1.2 ∙ sym b.1.2;
     world = subst (λ (s : Scene). IsWorld s.world) (sym a.1.2) world;
     first = subst (λ (s : Scene). IsWorld s.first) (sym a.1.2) first;
   }
-  one_follow x y z (Delete (Some c) None) text other world first a b = absurd a
-  one_follow x y z (Delete None p) text other world first a b = absurd a
-  one_follow x y z (Break (Some c) None) text other world first a b = absurd a
-  one_follow x y z (Break None p) text other world first a b = absurd a
-  one_follow x y z (Watch name digits) text other world first a b =
+  one_follow x y z (Delete (Some c) None) text other world first own a b = absurd a
+  one_follow x y z (Delete None p) text other world first own a b = absurd a
+  one_follow x y z (Break (Some c) None) text other world first own a b = absurd a
+  one_follow x y z (Break None p) text other world first own a b = absurd a
+  one_follow x y z (Watch name digits) text other world first own a b =
       let map : a.0 ≡ b.0 = one_name x.names name a.0 b.0 a.2 b.2 in
       let both : Ok a.1 ≡ Ok b.1 = sym a.3 ∙ b.3 in
       let key : a.1 ≡ b.1 = cc in
@@ -668,13 +669,13 @@ module _ (law : WritesAreDetermined) (begins : OneInstructionBegins) (replies : 
         world = subst (λ (s : Scene). IsWorld s.world) (sym a.5) world;
         first = subst (λ (s : Scene). IsWorld s.first) (sym a.5) first;
       }
-  one_follow x y z Unwatch text other world first a b = record {
+  one_follow x y z Unwatch text other world first own a b = record {
     texts = a.0 ∙ sym b.0;
     scenes = a.1 ∙ sym b.1;
     world = subst (λ (s : Scene). IsWorld s.world) (sym a.1) world;
     first = subst (λ (s : Scene). IsWorld s.first) (sym a.1) first;
   }
-  one_follow x y z (Step (Some c)) text other world first (has, a) (had, b) =
+  one_follow x y z (Step (Some c)) text other world first own (has, a) (had, b) =
       let one = one_turn law begins replies x.world c a.0 b.0 a.1 b.1 world a.3 b.3 in
       let P : World → Type 0 = λ w. IsWhere w.jobs c b.2 in
       let place = one_where a.1 one.world c a.2 b.2 a.4 (subst P (sym one.worlds) b.4) in
@@ -684,7 +685,7 @@ module _ (law : WritesAreDetermined) (begins : OneInstructionBegins) (replies : 
         world = subst (λ (s : Scene). IsWorld s.world) (sym a.6) one.world;
         first = subst (λ (s : Scene). IsWorld s.first) (sym a.6) first;
       }
-  one_follow x y z (StepTimes (Some c) n) text other world first (has, a) (had, b) =
+  one_follow x y z (StepTimes (Some c) n) text other world first own (has, a) (had, b) =
       let one = one_turns x.world c n a.1 b.1 a.0 b.0 world a.3 b.3 in
       let P : World → Type 0 = λ w. IsWhere w.jobs c b.2 in
       let place = one_where a.0 one.world c a.2 b.2 a.4 (subst P (sym one.worlds) b.4) in
@@ -694,7 +695,7 @@ module _ (law : WritesAreDetermined) (begins : OneInstructionBegins) (replies : 
         world = subst (λ (s : Scene). IsWorld s.world) (sym a.6) one.world;
         first = subst (λ (s : Scene). IsWorld s.first) (sym a.6) first;
       }
-  one_follow x y z (Steps runs) text other world first (has, a) (had, b) =
+  one_follow x y z (Steps runs) text other world first own (has, a) (had, b) =
       let one = one_schedule x.world runs a.1 b.1 a.0 b.0 world a.3 b.3 in
       let P : World → Type 0 = λ w. IsWhere w.jobs (last_cpu runs) b.2 in
       let place = one_where a.0 one.world (last_cpu runs) a.2 b.2 a.4 (subst P (sym one.worlds) b.4) in
@@ -704,21 +705,21 @@ module _ (law : WritesAreDetermined) (begins : OneInstructionBegins) (replies : 
         world = subst (λ (s : Scene). IsWorld s.world) (sym a.6) one.world;
         first = subst (λ (s : Scene). IsWorld s.first) (sym a.6) first;
       }
-  one_follow x y z (StepTimes None n) text other world first a b = absurd a
-  one_follow x y z (Step None) text other world first a b = absurd a
-  one_follow x y z (Show None) text other world first a b = absurd a
-  one_follow x y z (Last None) text other world first a b = absurd a
-  one_follow x y z Go text other world first a b =
+  one_follow x y z (StepTimes None n) text other world first own a b = absurd a
+  one_follow x y z (Step None) text other world first own a b = absurd a
+  one_follow x y z (Show None) text other world first own a b = absurd a
+  one_follow x y z (Last None) text other world first own a b = absurd a
+  one_follow x y z Go text other world first own a b =
       let both = one_go x.breaks x.watch 0 x.world.store.shape.cpus x.world 0 [] a.1 b.1 text other a.0 b.0 world a.2 b.2 in
       went_alike x y z a.1 b.1 text other a.0 b.0 first both a.3 b.3
-  one_follow x y z (GoTo (Some c) (Some p)) text other world first (has, a) (had, b) =
+  one_follow x y z (GoTo (Some c) (Some p)) text other world first own (has, a) (had, b) =
       let u = a.1 in
       let v = b.1 in
       let both = one_go (record { cpu = c; pc = p } ∷ []) x.watch c (c + 1) x.world c [] u.1 v.1 text other u.0 v.0 world u.2 v.2 in
       went_alike x y z u.1 v.1 text other u.0 v.0 first both u.3 v.3
-  one_follow x y z (GoTo (Some c) None) text other world first a b = absurd a
-  one_follow x y z (GoTo None p) text other world first a b = absurd a
-  one_follow x y z (Back n) text other world first a b =
+  one_follow x y z (GoTo (Some c) None) text other world first own a b = absurd a
+  one_follow x y z (GoTo None p) text other world first own a b = absurd a
+  one_follow x y z (Back n) text other world first own a b =
       let back = turns_before x.turns n in
       let u = a.1 in
       let v = b.1 in
@@ -731,7 +732,7 @@ module _ (law : WritesAreDetermined) (begins : OneInstructionBegins) (replies : 
         world = subst (λ (s : Scene). IsWorld s.world) (sym u.3) there;
         first = subst (λ (s : Scene). IsWorld s.first) (sym u.3) first;
       }
-  one_follow x y z (Last (Some c)) text other world first (has, a) (had, b) =
+  one_follow x y z (Last (Some c)) text other world first own (has, a) (had, b) =
       let one = one_recall kind.Ends c x.first None x.turns a.0 b.0 a.1 b.1 first tt a.2 b.2 in
       let P : World → Type 0 = λ w. IsLastText c a.0 w.jobs other in
       let Q : Option Past → Type 0 = λ p. IsLastText c p b.1.jobs other in
@@ -741,46 +742,46 @@ module _ (law : WritesAreDetermined) (begins : OneInstructionBegins) (replies : 
         world = subst (λ (s : Scene). IsWorld s.world) (sym a.4) one.world;
         first = subst (λ (s : Scene). IsWorld s.first) (sym a.4) first;
       }
-  one_follow x y z (Show (Some c)) text other world first (has, inl a) (had, inl b) = record {
+  one_follow x y z (Show (Some c)) text other world first own (has, inl a) (had, inl b) = record {
     texts = one_off x.world.jobs c text other a.0 b.0;
     scenes = a.1 ∙ sym b.1;
     world = subst (λ (s : Scene). IsWorld s.world) (sym a.1) world;
     first = subst (λ (s : Scene). IsWorld s.first) (sym a.1) first;
   }
-  one_follow x y z (Show (Some c)) text other world first (has, inl a) (had, inr b) = absurd (off_free x.world.jobs c text a.0 b.3.0 b.3.1 b.3.2 b.3.3 b.3.5)
-  one_follow x y z (Show (Some c)) text other world first (has, inr a) (had, inl b) = absurd (off_free x.world.jobs c other b.0 a.3.0 a.3.1 a.3.2 a.3.3 a.3.5)
-  one_follow x y z (Show (Some c)) text other world first (has, inr a) (had, inr b) =
+  one_follow x y z (Show (Some c)) text other world first own (has, inl a) (had, inr b) = absurd (off_free x.world.jobs c text a.0 b.3.0 b.3.1 b.3.2 b.3.3 b.3.6)
+  one_follow x y z (Show (Some c)) text other world first own (has, inr a) (had, inl b) = absurd (off_free x.world.jobs c other b.0 a.3.0 a.3.1 a.3.2 a.3.3 a.3.6)
+  one_follow x y z (Show (Some c)) text other world first own (has, inr a) (had, inr b) =
       let one = one_recall kind.Works c x.first None x.turns a.0 b.0 a.1 b.1 first tt a.2 b.2 in
-      let Q : Option Past → Type 0 = λ p. IsShownText c x.names p x.world.jobs other in
+      let Q : Option Past → Type 0 = λ p. IsShownText c x.names p x.world other in
       record {
-        texts = one_shown_text x.world world c x.names a.0 text other one.sound a.3 (subst Q (sym one.pasts) b.3);
+        texts = one_shown_text x.world world own c x.names a.0 text other one.sound a.3 (subst Q (sym one.pasts) b.3);
         scenes = a.4 ∙ ap (λ (w : World). record x { world = w }) one.worlds ∙ sym b.4;
         world = subst (λ (s : Scene). IsWorld s.world) (sym a.4) one.world;
         first = subst (λ (s : Scene). IsWorld s.first) (sym a.4) first;
       }
-  one_follow x y z Help text other world first a b = asked x y z Help text other world first a b
-  one_follow x y z (Held c) text other world first a b = asked x y z (Held c) text other world first a b
-  one_follow x y z (Nearby c) text other world first a b = asked x y z (Nearby c) text other world first a b
-  one_follow x y z Maps text other world first a b = asked x y z Maps text other world first a b
-  one_follow x y z Jobs text other world first a b = asked x y z Jobs text other world first a b
-  one_follow x y z (Mark n) text other world first a b = asked x y z (Mark n) text other world first a b
-  one_follow x y z (Registers c) text other world first a b = asked x y z (Registers c) text other world first a b
-  one_follow x y z (Where c) text other world first a b = asked x y z (Where c) text other world first a b
-  one_follow x y z (Memory c at n) text other world first a b = asked x y z (Memory c at n) text other world first a b
-  one_follow x y z (Map name) text other world first a b = asked x y z (Map name) text other world first a b
-  one_follow x y z (Keys name) text other world first a b = asked x y z (Keys name) text other world first a b
-  one_follow x y z Schedule text other world first a b = asked x y z Schedule text other world first a b
+  one_follow x y z Help text other world first own a b = asked x y z Help text other world first own a b
+  one_follow x y z (Held c) text other world first own a b = asked x y z (Held c) text other world first own a b
+  one_follow x y z (Nearby c) text other world first own a b = asked x y z (Nearby c) text other world first own a b
+  one_follow x y z Maps text other world first own a b = asked x y z Maps text other world first own a b
+  one_follow x y z Jobs text other world first own a b = asked x y z Jobs text other world first own a b
+  one_follow x y z (Mark n) text other world first own a b = asked x y z (Mark n) text other world first own a b
+  one_follow x y z (Registers c) text other world first own a b = asked x y z (Registers c) text other world first own a b
+  one_follow x y z (Where c) text other world first own a b = asked x y z (Where c) text other world first own a b
+  one_follow x y z (Memory c at n) text other world first own a b = asked x y z (Memory c at n) text other world first own a b
+  one_follow x y z (Map name) text other world first own a b = asked x y z (Map name) text other world first own a b
+  one_follow x y z (Keys name) text other world first own a b = asked x y z (Keys name) text other world first own a b
+  one_follow x y z Schedule text other world first own a b = asked x y z Schedule text other world first own a b
 
-  one_line : (x y z : Scene) (fields : List (List ℕ)) (text other : List ℕ) → IsWorld x.world → IsWorld x.first → Obeys x fields text y → Obeys x fields other z → OneEnd text other y z
-  one_line x y z [] text other world first a b = record {
+  one_line : (x y z : Scene) (fields : List (List ℕ)) (text other : List ℕ) → IsWorld x.world → IsWorld x.first → KeysHaveOwnValues x.world.store → Obeys x fields text y → Obeys x fields other z → OneEnd text other y z
+  one_line x y z [] text other world first own a b = record {
     texts = a.0 ∙ sym b.0;
     scenes = a.1 ∙ sym b.1;
     world = subst (λ (s : Scene). IsWorld s.world) (sym a.1) world;
     first = subst (λ (s : Scene). IsWorld s.first) (sym a.1) first;
   }
-  one_line x y z (f ∷ fs) text other world first a b =
+  one_line x y z (f ∷ fs) text other world first own a b =
       let P : Order → Type 0 = λ order. CarriesOut x order other z in
-      one_follow x y z a.0 text other world first a.2 (subst P (same_order (f ∷ fs) b.0 a.0 b.1 a.1) b.2)
+      one_follow x y z a.0 text other world first own a.2 (subst P (same_order (f ∷ fs) b.0 a.0 b.1 a.1) b.2)
 
   -- ---- a script
   record OneAnswer (answer other : Answer) (y z : Scene) : Type 0 where
@@ -789,14 +790,14 @@ module _ (law : WritesAreDetermined) (begins : OneInstructionBegins) (replies : 
     world : IsWorld y.world
     first : IsWorld y.first
 
-  one_answer : (x y z : Scene) (line : List ℕ) (answer other : Answer) → IsWorld x.world → IsWorld x.first → AnswersLine x line answer y → AnswersLine x line other z
+  one_answer : (x y z : Scene) (line : List ℕ) (answer other : Answer) → IsWorld x.world → IsWorld x.first → KeysHaveOwnValues x.world.store → AnswersLine x line answer y → AnswersLine x line other z
       → answer ≢ Err error.OutOfMemory → other ≢ Err error.OutOfMemory → OneAnswer answer other y z
-  one_answer x y z line (Ok text) (Ok other) world first a b n m =
-      let one = one_line x y z (fields_of line) text other world first a b in
+  one_answer x y z line (Ok text) (Ok other) world first own a b n m =
+      let one = one_line x y z (fields_of line) text other world first own a b in
       record { answers = ap (λ (t : List ℕ). Ok t) one.texts; scenes = one.scenes; world = one.world; first = one.first }
-  one_answer x y z line (Ok text) (Err e) world first a b n m = absurd (line_refused x y (fields_of line) text e a (λ is. m (ap (λ (f : DebugError). Err f) is)) b.0)
-  one_answer x y z line (Err e) (Ok text) world first a b n m = absurd (line_refused x z (fields_of line) text e b (λ is. n (ap (λ (f : DebugError). Err f) is)) a.0)
-  one_answer x y z line (Err e) (Err f) world first a b n m =
+  one_answer x y z line (Ok text) (Err e) world first own a b n m = absurd (line_refused x y (fields_of line) text e a (λ is. m (ap (λ (f : DebugError). Err f) is)) b.0)
+  one_answer x y z line (Err e) (Ok text) world first own a b n m = absurd (line_refused x z (fields_of line) text e b (λ is. n (ap (λ (f : DebugError). Err f) is)) a.0)
+  one_answer x y z line (Err e) (Err f) world first own a b n m =
       let same = one_reason x.world.store.shape.cpus x.world.programs x.names (Some (length x.turns)) (fields_of line) e f (λ is. n (ap (λ (g : DebugError). Err g) is)) (λ is. m (ap (λ (g : DebugError). Err g) is)) a.0 b.0 in
       record {
         answers = ap (λ (g : DebugError). Err g) same;
@@ -805,19 +806,20 @@ module _ (law : WritesAreDetermined) (begins : OneInstructionBegins) (replies : 
         first = subst (λ (s : Scene). IsWorld s.first) (sym a.1) first;
       }
 
-  one_script : (x y z : Scene) (lines : List (List ℕ)) (answers others : List Answer) → IsWorld x.world → IsWorld x.first → RunsScript x lines answers y → RunsScript x lines others z
+  one_script : (x y z : Scene) (lines : List (List ℕ)) (answers others : List Answer) → IsWorld x.world → IsWorld x.first → AreOwn x → RunsScript x lines answers y → RunsScript x lines others z
       → HadMemory answers → HadMemory others → (answers ≡ others) × (y ≡ z)
-  one_script x y z [] [] [] world first a b n m = (refl, a ∙ sym b)
-  one_script x y z [] [] (c ∷ cs) world first a b n m = absurd b
-  one_script x y z [] (c ∷ cs) others world first a b n m = absurd a
-  one_script x y z (l ∷ ls) [] others world first a b n m = absurd a
-  one_script x y z (l ∷ ls) (c ∷ cs) [] world first a b n m = absurd b
-  one_script x y z (l ∷ ls) (c ∷ cs) (d ∷ ds) world first a b n m =
-      let one = one_answer x a.0 b.0 l c d world first a.1 b.1 n.0 m.0 in
+  one_script x y z [] [] [] world first own a b n m = (refl, a ∙ sym b)
+  one_script x y z [] [] (c ∷ cs) world first own a b n m = absurd b
+  one_script x y z [] (c ∷ cs) others world first own a b n m = absurd a
+  one_script x y z (l ∷ ls) [] others world first own a b n m = absurd a
+  one_script x y z (l ∷ ls) (c ∷ cs) [] world first own a b n m = absurd b
+  one_script x y z (l ∷ ls) (c ∷ cs) (d ∷ ds) world first own a b n m =
+      let one = one_answer x a.0 b.0 l c d world first own.world.1 a.1 b.1 n.0 m.0 in
       let P : Scene → Type 0 = λ s. RunsScript s ls ds z in
-      let rest = one_script a.0 y z ls cs ds one.world one.first a.2 (subst P (sym one.scenes) b.2) n.1 m.1 in
+      let rest = one_script a.0 y z ls cs ds one.world one.first (answer_keeps x a.0 l c own a.1) a.2 (subst P (sym one.scenes) b.2) n.1 m.1 in
       (ap (λ (e : Answer). e ∷ cs) one.answers ∙ ap (λ (es : List Answer). d ∷ es) rest.0, rest.1)
 
   pub scripts_are_determined : ScriptsAreDetermined
-  scripts_are_determined x y z lines answers others fresh before a b n m =
-      one_script x y z lines answers others (fresh_world law begins replies x.world fresh) (fresh_world law begins replies x.first before) a b n m
+  scripts_are_determined x y z lines answers others now before a b n m =
+      let own : AreOwn x = record { world = (now.fresh.store, now.own); first = (before.fresh.store, before.own) } in
+      one_script x y z lines answers others (fresh_world law begins replies x.world now.fresh) (fresh_world law begins replies x.first before.fresh) own a b n m

@@ -1,9 +1,11 @@
 -- What a question is answered is one text.
-use Rattle.std.proofs.Common.{◌≡◌, ℕ, zero, suc, ◌+◌, true, false, List, ◌++◌, length, get_or, Option, Some, None, inl, inr, sym, ap, subst, ◌∙◌, arith}
+use Rattle.std.proofs.Common.{◌≡◌, ℕ, zero, suc, ◌+◌, ◌-◌, true, false, List, [], ◌∷◌, ◌++◌, length, get_or, Option, Some, None, inl, inr, refl, sym, ap, subst, ◌∙◌, arith}
 use Rattle.std.specs.Prelude.{codes, slice_get, slice_index}
 use Rattle.std.proofs.lemmas.Bool.{cases_order}
 use Rattle.std.proofs.lemmas.List.{ext_get_or}
 use Rattle.hex.specs.Hex.{encode_lower}
+use Rattle.bpf_shared.specs.declared.events.Span.{Span}
+use Rattle.bpf_shared.specs.Sound.{IsSoundStore}
 use Rattle.bpf_shared.specs.Store.{Plain}
 use Rattle.bpf_shared.specs.Listing.{Pair}
 use Rattle.bpf_shared.proofs.OneListing.{one_listing}
@@ -18,10 +20,12 @@ use Rattle.bpf_machine.specs.Schedule.{World}
 use Rattle.bpf_debug.specs.Answer.{IsWhere, IsOff, IsRegisters, in_hand_line, waiting_line, register_lines}
 use Rattle.bpf_debug.specs.Go.{StandsAt}
 use Rattle.bpf_debug.specs.Recall.{IsStandText, Past}
-use Rattle.bpf_debug.specs.Show.{IsBefore, IsShownText, changed_text, shown_lines}
+use Rattle.bpf_debug.specs.Show.{AreShownLines, IsBefore, IsShownLine, IsShownText, IsWordsIn, changed_text, place_words, shown_line, value_at}
 use Rattle.bpf_debug.specs.Nearby.{IsLineAt, IsNearbyText, TellsLines, count_shown, first_shown, nearby_line}
-use Rattle.bpf_debug.specs.Held.{IsHeldText, TellsHeld, held_line, span_of}
+use Rattle.bpf_debug.specs.Held.{IsHeldLine, IsHeldText, IsPlace, IsValueName, TellsHeld, held_line, span_of, value_name}
+use Rattle.bpf_debug.specs.Laws.{KeysHaveOwnValues}
 use Rattle.bpf_debug.specs.Read.{MayRead, MayNotRead, AreBytesAt, IsUnreadable, ShowsBytes, IsMemoryText, IsNamed, IsMapText, IsKeysText, pair_lines, key_lines}
+use Rattle.bpf_debug.proofs.OwnValues.{one_key}
 
 -- ---- where a CPU stands
 
@@ -73,6 +77,49 @@ one_shown s state (Some at) n text other (inl a) (inl b) =
 one_shown s state (Some at) n text other (inl a) (inr b) = absurd (unreadable_not s state at n a.0 a.1 b.0)
 one_shown s state (Some at) n text other (inr a) (inl b) = absurd (unreadable_not s state at n b.0 b.1 a.0)
 one_shown s state (Some at) n text other (inr a) (inr b) = a.1 ∙ sym b.1
+
+-- ---- values by name
+module _ (s : Plain) (sound : IsSoundStore s) (own : KeysHaveOwnValues s) where
+  one_place_text : (at : ℕ) (text other : List ℕ) → IsPlace s at text → IsPlace s at other → text ≡ other
+  one_place_text at text other (inl a) (inl b) = a.2 ∙ ap encode_lower (one_key s sound own at a.0 b.0 a.1 b.1) ∙ sym b.2
+  one_place_text at text other (inl a) (inr b) = absurd (b.0 a.0 a.1)
+  one_place_text at text other (inr a) (inl b) = absurd (a.0 b.0 b.1)
+  one_place_text at text other (inr a) (inr b) = a.1 ∙ sym b.1
+
+  one_value_name : (names : List (List ℕ)) (at : ℕ) (name other : List ℕ) → IsValueName names s at name → IsValueName names s at other → name ≡ other
+  one_value_name names at name other a b = a.2 ∙ ap (value_name names at) (one_place_text at a.0 b.0 a.1 b.1) ∙ sym b.2
+
+  one_held_line : (names : List (List ℕ)) (state : Cpu) (p : Span) (line other : List ℕ) → IsHeldLine names s state p line → IsHeldLine names s state p other → line ≡ other
+  one_held_line names state p line other a b =
+      a.4 ∙ ap (λ (t : List ℕ). held_line t p.at a.1) (one_value_name names p.at a.0 b.0 a.2 b.2)
+      ∙ ap (held_line b.0 p.at) (one_shown s state (Some p.at) p.size a.1 b.1 a.3 b.3) ∙ sym b.4
+
+  one_held_lines : (names : List (List ℕ)) (state : Cpu) (n : ℕ) (text other : List ℕ) → TellsHeld names s state n text → TellsHeld names s state n other → text ≡ other
+  one_held_lines names state zero text other a b = a ∙ sym b
+  one_held_lines names state (suc n) text other a b =
+      let before = one_held_lines names state n a.0 b.0 a.2 b.2 in
+      let line = one_held_line names state (span_of state.held n) a.1 b.1 a.3 b.3 in
+      a.4 ∙ ap (λ (t : List ℕ). t ++ a.1) before ∙ ap (λ (t : List ℕ). b.0 ++ t) line ∙ sym b.4
+
+  one_words : (names : List (List ℕ)) (n : ℕ) (found : Option Span) (text other : List ℕ) → IsWordsIn names s n found text → IsWordsIn names s n found other → text ≡ other
+  one_words names n None text other a b = a ∙ sym b
+  one_words names n (Some p) text other a b =
+      a.2 ∙ ap (λ (t : List ℕ). place_words t (n - p.at)) (one_value_name names p.at a.0 b.0 a.1 b.1) ∙ sym b.2
+
+  one_shown_line : (names : List (List ℕ)) (held : List Span) (k n : ℕ) (line other : List ℕ) → IsShownLine names s held k n line → IsShownLine names s held k n other → line ≡ other
+  one_shown_line names held k n line other a b =
+      a.2 ∙ ap (shown_line k n) (one_words names n (value_at held n) a.0 b.0 a.1 b.1) ∙ sym b.2
+
+  pub one_shown_lines : (names : List (List ℕ)) (held : List Span) (k : ℕ) (ns : List ℕ) (lines others : List (List ℕ)) → AreShownLines names s held k ns lines → AreShownLines names s held k ns others
+      → lines ≡ others
+  one_shown_lines names held k [] [] [] a b = refl
+  one_shown_lines names held k [] [] (m ∷ ms) a b = absurd b
+  one_shown_lines names held k [] (l ∷ ls) others a b = absurd a
+  one_shown_lines names held k (n ∷ ns) [] others a b = absurd a
+  one_shown_lines names held k (n ∷ ns) (l ∷ ls) [] a b = absurd b
+  one_shown_lines names held k (n ∷ ns) (l ∷ ls) (m ∷ ms) a b =
+      ap (λ (t : List ℕ). t ∷ ls) (one_shown_line names held k n l m a.0 b.0)
+      ∙ ap (λ (ts : List (List ℕ)). m ∷ ts) (one_shown_lines names held (suc k) ns ls ms a.1 b.1)
 
 -- ---- instructions
 one_line_at : OneInstructionBegins → (program : Loaded) (here pc : ℕ) (text other : List ℕ) → IsLineAt program here pc text → IsLineAt program here pc other → text ≡ other
@@ -147,22 +194,14 @@ module _ (w : World) (world : IsWorld w) where
   one_memory c at n text other (inr a) (inl b) = absurd (off_free w.jobs c text a b.0 b.1 b.2 b.3 b.4)
   one_memory c at n text other (inr a) (inr b) = one_off w.jobs c text other a b
 
-  one_held_lines : (names : List (List ℕ)) (state : Cpu) (n : ℕ) (text other : List ℕ) → TellsHeld names w.store state n text → TellsHeld names w.store state n other → text ≡ other
-  one_held_lines names state zero text other a b = a ∙ sym b
-  one_held_lines names state (suc n) text other a b =
-      let p = span_of state.held n in
-      let before = one_held_lines names state n a.0 b.0 a.2 b.2 in
-      let shown = one_shown w.store state (Some p.at) p.size a.1 b.1 a.3 b.3 in
-      a.4 ∙ ap (λ (t : List ℕ). t ++ held_line names p a.1) before ∙ ap (λ (t : List ℕ). b.0 ++ held_line names p t) shown ∙ sym b.4
-
-  pub one_held_text : (names : List (List ℕ)) (c : ℕ) (text other : List ℕ) → IsHeldText names w.store w.jobs c text → IsHeldText names w.store w.jobs c other → text ≡ other
-  one_held_text names c text other (inl a) (inl b) =
+  pub one_held_text : KeysHaveOwnValues w.store → (names : List (List ℕ)) (c : ℕ) (text other : List ℕ) → IsHeldText names w.store w.jobs c text → IsHeldText names w.store w.jobs c other → text ≡ other
+  one_held_text own names c text other (inl a) (inl b) =
       let one = one_hand c a.0 b.0 a.1 b.1 a.2 b.2 a.3 b.3 a.4 b.4 in
       let P : Cpu → Type 0 = λ s. TellsHeld names w.store s (length s.held) other in
-      one_held_lines names a.2 (length a.2.held) text other a.5 (subst P (sym one.states) b.5)
-  one_held_text names c text other (inl a) (inr b) = absurd (off_free w.jobs c other b a.0 a.1 a.2 a.3 a.4)
-  one_held_text names c text other (inr a) (inl b) = absurd (off_free w.jobs c text a b.0 b.1 b.2 b.3 b.4)
-  one_held_text names c text other (inr a) (inr b) = one_off w.jobs c text other a b
+      one_held_lines w.store world.store own names a.2 (length a.2.held) text other a.5 (subst P (sym one.states) b.5)
+  one_held_text own names c text other (inl a) (inr b) = absurd (off_free w.jobs c other b a.0 a.1 a.2 a.3 a.4)
+  one_held_text own names c text other (inr a) (inl b) = absurd (off_free w.jobs c text a b.0 b.1 b.2 b.3 b.4)
+  one_held_text own names c text other (inr a) (inr b) = one_off w.jobs c text other a b
 
   one_task : (c j k : ℕ) (task other : Task) (state now : Cpu) (left rest : ℕ) → IsAt w.jobs c j task (InHand state left) → IsAt w.jobs c k other (InHand now rest) → task ≡ other
   one_task c j k task other state now left rest a b =
@@ -196,13 +235,15 @@ one_before c (Some past) before other sound (inl a) (inr b) = absurd (b.0 a.0 a.
 one_before c (Some past) before other sound (inr a) (inl b) = absurd (a.0 b.0 b.1 b.2 b.3 b.4)
 one_before c (Some past) before other sound (inr a) (inr b) = a.1 ∙ sym b.1
 
-pub one_shown_text : (w : World) → IsWorld w → (c : ℕ) (names : List (List ℕ)) (past : Option Past) (text other : List ℕ) → IsSoundPast past
-    → IsShownText c names past w.jobs text → IsShownText c names past w.jobs other → text ≡ other
-one_shown_text w world c names past text other sound a b =
-    let one = one_hand w world c a.0 b.0 a.1 b.1 a.2 b.2 a.3 b.3 a.5 b.5 in
-    let befores : a.4 ≡ b.4 = one_before c past a.4 b.4 sound a.6 b.6 in
-    let F : List ℕ → Cpu → List ℕ = λ bs s. changed_text bs 0 s.registers (shown_lines names s.held 0 s.registers) in
-    a.7 ∙ ap (λ (bs : List ℕ). F bs a.2) befores ∙ ap (λ (s : Cpu). F b.4 s) one.states ∙ sym b.7
+pub one_shown_text : (w : World) → IsWorld w → KeysHaveOwnValues w.store → (c : ℕ) (names : List (List ℕ)) (past : Option Past) (text other : List ℕ) → IsSoundPast past
+    → IsShownText c names past w text → IsShownText c names past w other → text ≡ other
+one_shown_text w world own c names past text other sound a b =
+    let one = one_hand w world c a.0 b.0 a.1 b.1 a.2 b.2 a.3 b.3 a.6 b.6 in
+    let befores : a.4 ≡ b.4 = one_before c past a.4 b.4 sound a.7 b.7 in
+    let P : Cpu → Type 0 = λ s. AreShownLines names w.store s.held 0 s.registers b.5 in
+    let lines : a.5 ≡ b.5 = one_shown_lines w.store world.store own names a.2.held 0 a.2.registers a.5 b.5 a.8 (subst P (sym one.states) b.8) in
+    a.9 ∙ ap (λ (bs : List ℕ). changed_text bs 0 a.2.registers a.5) befores ∙ ap (λ (s : Cpu). changed_text b.4 0 s.registers a.5) one.states
+    ∙ ap (λ (ls : List (List ℕ)). changed_text b.4 0 b.2.registers ls) lines ∙ sym b.9
 
 -- ---- maps
 pub one_name : (names : List (List ℕ)) (name : List ℕ) (m n : ℕ) → IsNamed names name m → IsNamed names name n → m ≡ n

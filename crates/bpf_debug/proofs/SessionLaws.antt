@@ -16,6 +16,7 @@ use Rattle.bpf_machine.specs.Schedule.{World, TakesTurn, RunsSchedule, unrolled}
 use Rattle.bpf_machine.specs.Machine.{MachineState, Shows}
 use Rattle.bpf_machine.specs.Parts.{CanStand, IsSameHost}
 use Rattle.bpf_machine.specs.Questions.{open_in, open_jobs}
+use Rattle.bpf_machine.specs.Hands.{IsAt}
 use Rattle.bpf_machine.specs.Work.{IsState}
 use Rattle.bpf_cpu.specs.declared.cpu.Cpu.{Cpu}
 use Rattle.bpf_debug.specs.declared.breakpoint.Breakpoint.{Breakpoint}
@@ -28,7 +29,8 @@ use Rattle.bpf_debug.specs.Nearby.{IsNearbyText}
 use Rattle.bpf_debug.specs.Recall.{Past, Recalls, IsLastText, IsRecall}
 use Rattle.bpf_debug.specs.declared.recall.Kind.TheVariants as kind
 use Rattle.bpf_debug.specs.declared.recall.Recall.{Recall}
-use Rattle.bpf_debug.specs.Show.{IsBefore, IsShownText, changed_text, shown_lines}
+use Rattle.bpf_debug.specs.Show.{AreShownLines, IsBefore, IsShownText, changed_text}
+use Rattle.bpf_debug.specs.Private.Naming.{ShowsLines}
 use Rattle.bpf_debug.proofs.RecallLaws.{recalls_run}
 use Rattle.bpf_debug.specs.Read.{IsMemoryText, IsNamed, TellsBytes, TellsKeys, TellsMap}
 use Rattle.bpf_debug.specs.Go.{Goes, Watched, has_break, without_break}
@@ -235,22 +237,24 @@ module _ (m : MachineState) (o : OriginState) (names : List (List ℕ)) (breaks 
         },
       )
 
-  pub told_shown : (rewound n : MachineState) (runs : List (ℕ × ℕ)) (c : ℕ) (recall : Option Recall) (state : Cpu) (last : List ℕ) → has_cpu m.store c ≡ true → kept ≡ Some runs → rewound ≡ first_of o m.programs
+  pub told_shown : (rewound n : MachineState) (runs : List (ℕ × ℕ)) (c : ℕ) (recall : Option Recall) (state : Cpu) (lines : List (List ℕ)) (last : List ℕ) → has_cpu m.store c ≡ true → kept ≡ Some runs → rewound ≡ first_of o m.programs
       → ((w : World) → Shows rewound w → (z : World) × (past : Option Past) × Recalls kind.Works c w None (unrolled runs) past z × Shows n z × IsRecall c recall past) → IsSameHost rewound n → IsState m.jobs c state
-      → ((past : Option Past) → IsRecall c recall past → (before : List ℕ) × IsBefore c past before × (last ≡ changed_text before 0 state.registers (shown_lines names state.held 0 state.registers)))
+      → ShowsLines names m.store state.held 0 state.registers lines
+      → ((past : Option Past) → IsRecall c recall past → (before : List ℕ) × IsBefore c past before × (last ≡ changed_text before 0 state.registers lines))
       → Leaves session (Show (Some c)) last (moved_on n kept)
-  told_shown rewound n runs c recall state last has is again turns same hand put x shown =
+  told_shown rewound n runs c recall state lines last has is again turns same hand shows put x shown =
       let told : runs ≡ runs_of x.turns = subst (λ (h : Option (List (ℕ × ℕ))). IsKept h x.turns) is shown.turns in
       let led : unrolled runs ≡ x.turns = ap (λ (rs : List (ℕ × ℕ)). unrolled rs) told ∙ (runs_tell_turns x.turns).0 in
       let z = turns x.first (subst (λ (r : MachineState). Shows r x.first) (sym again) shown.first) in
       let t = put z.1 z.4 in
-      let text : IsShownText c names z.1 m.jobs last = (hand.0, hand.1, state, hand.2, t.0, hand.3, t.1, t.2) in
-      let J : List Task → Type 0 = λ jobs. IsShownText c x.names z.1 jobs last in
-      let N : List (List ℕ) → Type 0 = λ ns. IsShownText c ns z.1 m.jobs last in
+      let J : List Task → Type 0 = λ jobs. IsAt jobs c hand.0 hand.1 (InHand state hand.2) in
+      let N : List (List ℕ) → Type 0 = λ ns. AreShownLines ns x.world.store state.held 0 state.registers lines in
+      let are = subst N (sym shown.names) (shows x.world.store shown.world.sound shown.world.store) in
+      let text : IsShownText c x.names z.1 x.world last = (hand.0, hand.1, state, hand.2, t.0, lines, subst J (sym shown.world.jobs) hand.3, t.1, are, t.2) in
       let R : List ℕ → Type 0 = λ cs. Recalls kind.Works c x.first None cs z.1 z.0 in
       let programs : n.programs ≡ m.programs = same.programs ∙ ap (λ (r : MachineState). r.programs) again in (
         record x { world = z.0 },
-        (is_cpu m x.world c has shown.world, inr (z.1, z.0, subst R led z.2, subst J (sym shown.world.jobs) (subst N (sym shown.names) text), refl)),
+        (is_cpu m x.world c has shown.world, inr (z.1, z.0, subst R led z.2, text, refl)),
         record {
           world = z.3;
           first = subst (λ (ps : List Loaded). Shows (first_of o ps) x.first) (sym programs) shown.first;

@@ -18,7 +18,7 @@ help_text =
     ++ codes "show C         those that its last turn changed, and what each is as an address\n"
     ++ codes "list C         the instructions near its pc\n"
     ++ codes "last C         the last job that ended on it, and its registers before its last step\n"
-    ++ codes "held C         the values that its run holds, as addresses and bytes\n"
+    ++ codes "held C         the values that its run holds: key, address and bytes\n"
     ++ codes "mem C A N      N bytes from address A on, as its program may read them\n"
     ++ codes "map NAME       the keys of a map with their values\n"
     ++ codes "keys NAME      the keys alone\n"

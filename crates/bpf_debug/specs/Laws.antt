@@ -3,6 +3,7 @@
 use Rattle.std.specs.Prelude.{◌≡◌, ◌≢◌, ℕ, ◌≤◌, true, List, [], ◌∷◌, ◌++◌, Option, ◌⊎◌, All, Err, codes, map}
 use Rattle.std.specs.List.{list_all}
 use Rattle.std.specs.Fmt.{decimal}
+use Rattle.bpf_shared.specs.Store.{Plain, Finds}
 use Rattle.bpf_machine.specs.Laws.{IsFresh}
 use Rattle.bpf_machine.specs.Schedule.{World, RunsSchedule, unrolled}
 use Rattle.bpf_debug.specs.declared.error.DebugError.TheVariants as error
@@ -106,10 +107,20 @@ abbrev pub HadMemory : List Answer → Type 0
 HadMemory [] = Unit {0}
 HadMemory (answer ∷ answers) = (answer ≢ Err error.OutOfMemory) × HadMemory answers
 
--- over a machine whose jobs all wait, and that was such a one before its first turn, a script has one
--- list of answers, and leaves one machine, with the same breakpoints
+-- no two keys lead to one value: so it is in a store as made, and calls keep it so
+abbrev pub KeysHaveOwnValues : Plain → Type 0
+KeysHaveOwnValues s =
+    (m n v : ℕ) (key other : List ℕ) → Finds s m key v → Finds s n other v → key ≡ other
+
+-- what a script may begin with: all jobs wait, and each value has one key at most
+pub record IsNew (w : World) : Type 0 where
+  pub fresh : IsFresh w
+  pub own : KeysHaveOwnValues w.store
+
+-- over such a machine, that was such a one before its first turn, a script has one list of answers,
+-- and leaves one machine, with the same breakpoints
 abbrev pub ScriptsAreDetermined : Type 0
 ScriptsAreDetermined =
-    (x y z : Scene) (lines : List (List ℕ)) (answers others : List Answer) → IsFresh x.world
-    → IsFresh x.first → RunsScript x lines answers y → RunsScript x lines others z
+    (x y z : Scene) (lines : List (List ℕ)) (answers others : List Answer) → IsNew x.world
+    → IsNew x.first → RunsScript x lines answers y → RunsScript x lines others z
     → HadMemory answers → HadMemory others → (answers ≡ others) × (y ≡ z)

@@ -1,15 +1,16 @@
 -- What `show` shows: the registers that a CPU's last turn changed, each number also as what it is
 -- where it is an address (our own choice).
-use Rattle.std.specs.Prelude.{◌≡◌, ℕ, suc, ◌+◌, ◌-◌, ◌/◌, ◌%◌, ◌==◌, Bool, false, ◌&&◌, nat_le, nat_lt, if◌then◌else◌, ◌⊎◌, List, [], ◌∷◌, ◌++◌, Option, Some, None, codes, length, slice_get, slice_index_or}
+use Rattle.std.specs.Prelude.{◌≡◌, ℕ, suc, ◌-◌, ◌/◌, ◌%◌, ◌==◌, Bool, false, ◌&&◌, nat_le, nat_lt, if◌then◌else◌, ◌⊎◌, List, [], ◌∷◌, ◌++◌, Option, Some, None, codes, length, slice_index_or}
 use Rattle.std.specs.Fmt.{decimal, digits}
 use Rattle.bpf_shared.specs.declared.events.Span.{Span}
+use Rattle.bpf_shared.specs.Store.{Plain}
 use Rattle.bpf_mem.specs.Addresses.{context_base, frame_base}
 use Rattle.bpf_helpers.specs.Held.{is_in}
 use Rattle.bpf_cpu.specs.declared.cpu.Cpu.{Cpu}
 use Rattle.bpf_cpu.specs.Task.{Task, InHand}
 use Rattle.bpf_machine.specs.Hands.{IsAt, IsFree}
-use Rattle.bpf_debug.specs.Answer.{IsOff}
-use Rattle.bpf_debug.specs.Held.{map_at}
+use Rattle.bpf_machine.specs.Schedule.{World}
+use Rattle.bpf_debug.specs.Held.{IsValueName}
 use Rattle.bpf_debug.specs.Recall.{Past}
 
 -- ---- addresses
@@ -19,13 +20,9 @@ abbrev pub value_at : List Span → ℕ → Option Span
 value_at [] a = None
 value_at (p ∷ held) a = if is_in a p then Some p else value_at held a
 
--- the map's name, the value's address, and how far behind that
-abbrev pub place_words : List ℕ → ℕ → ℕ → List ℕ
-place_words name at behind =
-    codes " " ++ name ++ codes "[" ++ decimal at ++ codes "]+" ++ decimal behind
-
-abbrev pub value_words : List (List ℕ) → Span → ℕ → List ℕ
-value_words names p a = place_words (slice_index_or names (map_at p.at) []) p.at (a - p.at)
+-- a value's name, and how far behind its beginning
+abbrev pub place_words : List ℕ → ℕ → List ℕ
+place_words name behind = codes " " ++ name ++ codes "+" ++ decimal behind
 
 -- the frame, and how far before its end: of 8 frames, each of 512 bytes
 abbrev pub below_words : ℕ → ℕ → List ℕ
@@ -45,27 +42,34 @@ own_words a =
     then frame_words ((a - frame_base 0) / 0x1000) ((a - frame_base 0) % 0x1000)
     else (if nat_le context_base a then context_words (a - context_base) else [])
 
-abbrev pub value_or_own : List (List ℕ) → ℕ → Option Span → List ℕ
-value_or_own names a (Some p) = value_words names p a
-value_or_own names a None = own_words a
+-- what an address in this value is, or in none
+abbrev pub IsWordsIn : List (List ℕ) → Plain → ℕ → Option Span → List ℕ → Type 0
+IsWordsIn names s a (Some p) text =
+    (name : List ℕ) × IsValueName names s p.at name × (text ≡ place_words name (a - p.at))
+IsWordsIn names s a None text = text ≡ own_words a
 
 -- what a number is, where it is an address in a value that the run holds, in a frame or in the
 -- context
-abbrev pub meaning : List (List ℕ) → List Span → ℕ → List ℕ
-meaning names held a = value_or_own names a (value_at held a)
+abbrev pub IsMeaning : List (List ℕ) → Plain → List Span → ℕ → List ℕ → Type 0
+IsMeaning names s held a text = IsWordsIn names s a (value_at held a) text
 
 -- ---- registers
 
-abbrev pub shown_line : List (List ℕ) → List Span → ℕ → ℕ → List ℕ
-shown_line names held k n =
-    codes "r" ++ decimal k ++ codes " " ++ decimal n ++ codes " 0x" ++ digits 16 false n
-    ++ meaning names held n ++ codes "\n"
+abbrev pub shown_line : ℕ → ℕ → List ℕ → List ℕ
+shown_line k n meaning =
+    codes "r" ++ decimal k ++ codes " " ++ decimal n ++ codes " 0x" ++ digits 16 false n ++ meaning
+    ++ codes "\n"
+
+abbrev pub IsShownLine : List (List ℕ) → Plain → List Span → ℕ → ℕ → List ℕ → Type 0
+IsShownLine names s held k n line =
+    (meaning : List ℕ) × IsMeaning names s held n meaning × (line ≡ shown_line k n meaning)
 
 -- a line each, from the k-th on
-abbrev pub shown_lines : List (List ℕ) → List Span → ℕ → List ℕ → List (List ℕ)
-shown_lines names held k [] = []
-shown_lines names held k (n ∷ ns) =
-    shown_line names held k n ∷ shown_lines names held (suc k) ns
+abbrev pub AreShownLines : List (List ℕ) → Plain → List Span → ℕ → List ℕ → List (List ℕ) → Type 0
+AreShownLines names s held k [] [] = Unit {0}
+AreShownLines names s held k (n ∷ ns) (line ∷ lines) =
+    IsShownLine names s held k n line × AreShownLines names s held (suc k) ns lines
+AreShownLines names s held k ns lines = ⊥
 
 -- whether the k-th was this number
 abbrev pub is_same : List ℕ → ℕ → ℕ → Bool
@@ -90,9 +94,9 @@ IsBefore c None before = before ≡ []
 IsBefore c (Some past) before = HasRegisters past.before.jobs c before
 
 -- of a CPU with a job in hand
-abbrev pub IsShownText : ℕ → List (List ℕ) → Option Past → List Task → List ℕ → Type 0
-IsShownText c names past jobs text =
+abbrev pub IsShownText : ℕ → List (List ℕ) → Option Past → World → List ℕ → Type 0
+IsShownText c names past w text =
     (j : ℕ) × (task : Task) × (state : Cpu) × (left : ℕ) × (before : List ℕ)
-    × IsAt jobs c j task (InHand state left) × IsBefore c past before
-    × (text ≡ changed_text before 0 state.registers
-    (shown_lines names state.held 0 state.registers))
+    × (lines : List (List ℕ)) × IsAt w.jobs c j task (InHand state left) × IsBefore c past before
+    × AreShownLines names w.store state.held 0 state.registers lines
+    × (text ≡ changed_text before 0 state.registers lines)

@@ -1,12 +1,9 @@
 //! The values that a CPU's run holds.
 
-ghost use Rattle.std.specs.Prelude.{◌≡◌, ◌++◌, IfOk, List, OnOk, Some, [], codes, length, map, slice_index_or, string_bytes, ℕ};
+ghost use Rattle.std.specs.Prelude.{◌≡◌, ◌++◌, IfOk, [], codes, length, map, slice_index_or, string_bytes};
 ghost use Rattle.std.specs.Fmt.{decimal};
-ghost use Rattle.bpf_shared.specs.Sound.{IsSoundStore};
-ghost use Rattle.bpf_shared.specs.Store.{Plain};
-ghost use Rattle.bpf_plain.specs.PlainStore.{StandsFor};
-ghost use Rattle.bpf_debug.specs.Held.{ShowsHeld, held_line, map_at};
-ghost use Rattle.bpf_debug.specs.Read.{ShowsBytes};
+ghost use Rattle.bpf_debug.specs.Held.{ShowsHeld, held_line, map_at, value_name};
+ghost use Rattle.bpf_debug.specs.Private.Naming.{ShowsHeldLine, ShowsName, ShowsPlace};
 
 use crate::reading::bytes_line;
 use bpf_cpu::Cpu;
@@ -31,39 +28,79 @@ pub fn name_at(names: &[String], number: usize) -> &str
     }
 }
 
-/// Puts a line of these behind the text.
-fn push_line(
-    alloc: Global,
-    text: &mut String,
-    name: &str,
-    at: u64,
-    shown: &str,
-) -> Result<(), AllocError>
-    ensures { OnOk result (string_bytes text.new ≡ string_bytes text.old
-        ++ (name.now ++ codes " " ++ decimal at ++ codes " " ++ shown.now)) }
+/// An address in decimal, in a form that no key has.
+fn address_text(alloc: Global, at: u64) -> Result<String, AllocError>
+    ensures { IfOk result (λ text. string_bytes text ≡ codes "at " ++ decimal at) }
 {
-    let line = format!(in alloc; "{name} {at} {shown}")?;
-    text.push_str(line.as_str())
+    format!(in alloc; "at {at}")
 }
 
-/// Puts the line of a value behind the text.
-fn push_value(
+/// Where in its map the value at an address is: the key that leads to it in hex, or its address.
+fn place_text(alloc: Global, store: &PlainStore, at: u64) -> Result<String, AllocError>
+    ensures { IfOk result (λ text. ShowsPlace store.now at (string_bytes text)) }
+{
+    match store.key_at(at) {
+        Some(key) => hex::encode(alloc, key),
+        None => address_text(alloc, at),
+    }
+}
+
+/// A map's name, and a place behind it.
+fn bracketed(alloc: Global, name: &str, place: &str) -> Result<String, AllocError>
+    ensures { IfOk result (λ text. string_bytes text
+        ≡ name.now ++ (codes "[" ++ (place.now ++ codes "]"))) }
+{
+    let text = format!(in alloc; "{name}[{place}]")?;
+    Ok(text)
+}
+
+/// A map's name, and where in it a value is.
+fn name_text(alloc: Global, names: &[String], at: u64, place: &str) -> Result<String, AllocError>
+    ensures { IfOk result (λ text. string_bytes text
+        ≡ value_name (map string_bytes names.now) at place.now) }
+{
+    let name = name_at(names, map_at(at));
+    bracketed(alloc, name, place)
+}
+
+/// The name of the value at an address.
+pub fn value_name(
     alloc: Global,
-    text: &mut String,
+    store: &PlainStore,
+    names: &[String],
+    at: u64,
+) -> Result<String, AllocError>
+    ensures { IfOk result (λ text.
+        ShowsName (map string_bytes names.now) store.now at (string_bytes text)) }
+{
+    let place = place_text(alloc, store, at)?;
+    let name = name_text(alloc, names, at, place.as_str())?;
+    Ok(name)
+}
+
+/// A line of these.
+fn line_text(alloc: Global, name: &str, at: u64, shown: &str) -> Result<String, AllocError>
+    ensures { IfOk result (λ text. string_bytes text ≡ held_line name.now at shown.now) }
+{
+    let line = format!(in alloc; "{name} {at} {shown}")?;
+    Ok(line)
+}
+
+/// The line of a value.
+fn held_line(
+    alloc: Global,
     store: &PlainStore,
     state: &Cpu,
     names: &[String],
     span: Span,
-) -> Result<(), AllocError>
-    ensures { OnOk result ((s : Plain) → IsSoundStore s → StandsFor store.now s → (shown : List ℕ)
-        × ShowsBytes s state.now (Some span.at) span.size shown
-        × (string_bytes text.new
-        ≡ string_bytes text.old ++ held_line (map string_bytes names.now) span shown)) }
+) -> Result<String, AllocError>
+    ensures { IfOk result (λ line. ShowsHeldLine (map string_bytes names.now) store.now state.now
+        span (string_bytes line)) }
 {
+    let name = value_name(alloc, store, names, span.at)?;
     let shown = bytes_line(alloc, store, state, Some(span.at), span.size as usize)?;
-    let name = name_at(names, map_at(span.at));
-    push_line(alloc, text, name, span.at, shown.as_str())?;
-    Ok(())
+    let line = line_text(alloc, name.as_str(), span.at, shown.as_str())?;
+    Ok(line)
 }
 
 /// A line a value that a CPU's run holds, in the order of their first lookups.
@@ -78,7 +115,8 @@ pub fn held_lines(
 {
     let mut text = String::new(alloc);
     for span in state.held.spans() {
-        push_value(alloc, &mut text, store, state, names, *span)?;
+        let line = held_line(alloc, store, state, names, *span)?;
+        text.push_str(line.as_str())?;
     }
     Ok(text)
 }

@@ -22,7 +22,7 @@ regs C         its registers
 show C         those that its last turn changed, and what each is as an address
 list C         the instructions near its pc
 last C         the last job that ended on it, and its registers before its last step
-held C         the values that its run holds, as addresses and bytes
+held C         the values that its run holds: key, address and bytes
 mem C A N      N bytes from address A on, as its program may read them
 map NAME       the keys of a map with their values
 keys NAME      the keys alone

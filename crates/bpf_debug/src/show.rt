@@ -4,16 +4,18 @@ ghost use Rattle.std.specs.Prelude.{◌≡◌, ◌+◌, ◌-◌, ◌≤◌, ◌+
 ghost use Rattle.std.specs.Fmt.{decimal, digits};
 ghost use Rattle.bpf_cpu.specs.Task.{Task};
 ghost use Rattle.bpf_debug.specs.Recall.{IsRecall, IsStand, Past};
-ghost use Rattle.bpf_debug.specs.Show.{HasRegisters, IsBefore, below_words, changed_text, context_words, frame_words, is_same, meaning, own_words, place_words, shown_line, shown_lines, value_at, value_words};
+ghost use Rattle.bpf_debug.specs.Show.{HasRegisters, IsBefore, below_words, changed_text, context_words, frame_words, is_same, own_words, place_words, shown_line, value_at};
+ghost use Rattle.bpf_debug.specs.Private.Naming.{ShowsLine, ShowsLines, ShowsMeaning, ShowsWords};
 ghost use Rattle.bpf_debug.specs.Private.Room.{HasRoom, total};
 
-use crate::held::{map_at, name_at};
+use crate::held::value_name;
 use crate::recall::{Recall, Stand};
 use crate::text::put;
 use bpf_cpu::Cpu;
 use bpf_mem::addresses::{CONTEXT_BASE, FRAME_STRIDE, STACK_BASE};
 use bpf_mem::context::MAX_CONTEXT;
 use bpf_mem::frames::{FRAME_BYTES, MAX_FRAMES};
+use bpf_plain::PlainStore;
 use bpf_shared::Span;
 use std::alloc::{AllocError, Global};
 
@@ -44,12 +46,12 @@ fn hex_text(alloc: Global, number: u64) -> Result<String, AllocError>
     Ok(text)
 }
 
-/// A map's name, a value's address, and how far behind that.
-fn place_words(alloc: Global, name: &str, at: u64, behind: u64) -> Result<String, AllocError>
-    ensures { IfOk result (λ text. string_bytes text ≡ place_words name.now at behind) }
+/// A value's name, and how far behind its beginning.
+fn place_words(alloc: Global, name: &str, behind: u64) -> Result<String, AllocError>
+    ensures { IfOk result (λ text. string_bytes text ≡ place_words name.now behind) }
 {
     let behind = number_text(alloc, behind)?;
-    let words = format!(in alloc; " {name}[{at}]+{behind}")?;
+    let words = format!(in alloc; " {name}+{behind}")?;
     Ok(words)
 }
 
@@ -63,15 +65,17 @@ fn behind(span: Span, address: u64) -> u64
 /// An address in a value.
 fn value_words(
     alloc: Global,
+    store: &PlainStore,
     names: &[String],
     span: Span,
     address: u64,
 ) -> Result<String, AllocError>
-    ensures { IfOk result (λ text. string_bytes text
-        ≡ value_words (map string_bytes names.now) span address) }
+    ensures { IfOk result (λ text. ShowsWords (map string_bytes names.now) store.now address
+        (Some span) (string_bytes text)) }
 {
-    let name = name_at(names, map_at(span.at));
-    place_words(alloc, name, span.at, behind(span, address))
+    let name = value_name(alloc, store, names, span.at)?;
+    let words = place_words(alloc, name.as_str(), behind(span, address))?;
+    Ok(words)
 }
 
 /// A frame, and how far before its end.
@@ -124,49 +128,66 @@ fn own_words(alloc: Global, address: u64) -> Result<String, AllocError>
 /// What a number is, where it is an address.
 fn meaning(
     alloc: Global,
+    store: &PlainStore,
     names: &[String],
     held: &[Span],
     number: u64,
 ) -> Result<String, AllocError>
-    ensures { IfOk result (λ text. string_bytes text
-        ≡ meaning (map string_bytes names.now) held.now number) }
+    ensures { IfOk result (λ text.
+        ShowsMeaning (map string_bytes names.now) store.now held.now number (string_bytes text)) }
 {
     match value_at(held, number) {
-        Some(span) => value_words(alloc, names, span, number),
+        Some(span) => value_words(alloc, store, names, span, number),
         None => own_words(alloc, number),
     }
+}
+
+/// A line of these.
+fn line_text(
+    alloc: Global,
+    register: usize,
+    number: u64,
+    meaning: &str,
+) -> Result<String, AllocError>
+    ensures { IfOk result (λ text. string_bytes text ≡ shown_line register number meaning.now) }
+{
+    let hex = hex_text(alloc, number)?;
+    let line = format!(in alloc; "r{register} {number} {hex}{meaning}\n")?;
+    Ok(line)
 }
 
 /// The line of a register.
 fn shown_line(
     alloc: Global,
+    store: &PlainStore,
     names: &[String],
     held: &[Span],
     register: usize,
     number: u64,
 ) -> Result<String, AllocError>
-    ensures { IfOk result (λ text. string_bytes text
-        ≡ shown_line (map string_bytes names.now) held.now register number) }
+    ensures { IfOk result (λ text. ShowsLine (map string_bytes names.now) store.now held.now register
+        number (string_bytes text)) }
 {
-    let hex = hex_text(alloc, number)?;
-    let meaning = meaning(alloc, names, held, number)?;
-    let line = format!(in alloc; "r{register} {number} {hex}{meaning}\n")?;
+    let meaning = meaning(alloc, store, names, held, number)?;
+    let line = line_text(alloc, register, number, meaning.as_str())?;
     Ok(line)
 }
 
 /// A line a register.
 fn shown_lines(
     alloc: Global,
+    store: &PlainStore,
     names: &[String],
     held: &[Span],
     registers: &[u64],
 ) -> Result<Vec<String>, AllocError>
-    ensures { IfOk result (λ lines. map string_bytes lines.items
-        ≡ shown_lines (map string_bytes names.now) held.now 0 registers.now) }
+    ensures count { IfOk result (λ lines. length lines.items ≡ length registers.now) }
+    ensures lines { IfOk result (λ lines. ShowsLines (map string_bytes names.now) store.now held.now
+        0 registers.now (map string_bytes lines.items)) }
 {
     let mut lines = Vec::with_capacity(alloc, registers.len())?;
     for (register, number) in registers.iter().enumerate() {
-        lines.push(shown_line(alloc, names, held, register, *number)?)?;
+        lines.push(shown_line(alloc, store, names, held, register, *number)?)?;
     }
     Ok(lines)
 }
@@ -236,14 +257,19 @@ pub struct Shown {
 }
 
 /// What there is to be shown of a CPU.
-pub fn shown_of(alloc: Global, names: &[String], state: &Cpu) -> Result<Shown, AllocError>
+pub fn shown_of(
+    alloc: Global,
+    store: &PlainStore,
+    names: &[String],
+    state: &Cpu,
+) -> Result<Shown, AllocError>
     ensures registers { IfOk result (λ s. s.registers ≡ state.now.registers) }
-    ensures lines { IfOk result (λ s. map string_bytes s.lines.items
-        ≡ shown_lines (map string_bytes names.now) state.now.held 0 state.now.registers) }
+    ensures lines { IfOk result (λ s. ShowsLines (map string_bytes names.now) store.now state.now.held
+        0 state.now.registers (map string_bytes s.lines.items)) }
     ensures empty { IfOk result (λ s. string_bytes s.room ≡ []) }
     ensures room { IfOk result HasRoom }
 {
-    let lines = shown_lines(alloc, names, state.held.spans(), &state.registers)?;
+    let lines = shown_lines(alloc, store, names, state.held.spans(), &state.registers)?;
     let Some(bytes) = total(&lines) else {
         return Err(AllocError);
     };

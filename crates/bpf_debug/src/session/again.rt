@@ -116,7 +116,7 @@ impl Session {
         let Some(state) = self.machine.cpu(cpu) else {
             return self.shows_nothing(alloc, cpu);
         };
-        let Ok(shown) = shown_of(alloc, &self.names, state) else {
+        let Ok(shown) = shown_of(alloc, self.machine.store(), &self.names, state) else {
             return Err(DebugError::OutOfMemory);
         };
         let Ok(()) = self.origin.rewind(alloc, &mut self.machine) else {

@@ -1,6 +1,6 @@
 use Rattle.std.proofs.Common.{◌≡◌, ℕ, List, Some, Option, sym, ap, subst, ◌∙◌, map, String, Global}
 use Rattle.std.specs.Prelude.{true, string_bytes, option_map}
-use Rattle.bpf_plain.specs.PlainStore.{has_cpu}
+use Rattle.bpf_plain.specs.PlainStore.{Contents, has_cpu}
 use Rattle.bpf_machine.specs.Machine.{MachineState, Shows}
 use Rattle.bpf_machine.specs.Schedule.{World}
 use Rattle.bpf_debug.specs.Command.{Show}
@@ -8,7 +8,8 @@ use Rattle.bpf_debug.specs.Origin.{CanRewind, first_of}
 use Rattle.bpf_debug.specs.Go.{watched}
 use Rattle.bpf_debug.specs.Session.{SessionState, Leaves}
 use Rattle.bpf_debug.specs.Recall.{IsRecall, Past}
-use Rattle.bpf_debug.specs.Show.{IsBefore, changed_text, shown_lines}
+use Rattle.bpf_debug.specs.Private.Naming.{ShowsLines}
+use Rattle.bpf_debug.specs.Show.{IsBefore, changed_text}
 use Rattle.bpf_debug.proofs.SessionLaws.{alone, can_rewound, can_still, told_shown}
 use Rattle.bpf_debug.proofs.session.Session.show_at.Goals as goal
 
@@ -43,17 +44,18 @@ returns-clause-answered c =
     let P : SessionState → Type 0 = λ s. Leaves s (Show (Some c.args.cpu)) last after in
     let shown = c.in-Ok.shown in
     let sure = c.in-Ok.ensures in
-    let N : List (String Global) → Type 0 = λ ns. map string_bytes shown.lines.items ≡ shown_lines (map string_bytes ns) state.held 0 state.registers in
-    let lines = subst N c.deref.ensures.value sure.lines in
+    let lines = map string_bytes shown.lines.items in
+    let N : List (String Global) → Type 0 = λ ns. ShowsLines (map string_bytes ns) c.store.result.now state.held 0 state.registers lines in
+    let T : Contents → Type 0 = λ p. ShowsLines names p state.held 0 state.registers lines in
+    let shows = subst T c.store.ensures (subst N c.deref.ensures.value sure.lines) in
     let put : (past : Option Past) → IsRecall c.args.cpu c.recall-recall.result past → (before : List ℕ) × IsBefore c.args.cpu past before
-    × (last ≡ changed_text before 0 state.registers (shown_lines names state.held 0 state.registers)) = λ past is.
+    × (last ≡ changed_text before 0 state.registers lines) = λ past is.
     let p = c.changed.ensures c.args.cpu past is in (
       p.0,
       p.1,
-      alone (string_bytes shown.room) last (changed_text p.0 0 shown.registers (map string_bytes shown.lines.items)) sure.empty p.2
-          ∙ ap (λ (rs : List ℕ). changed_text p.0 0 rs (map string_bytes shown.lines.items)) sure.registers
-          ∙ ap (λ (ls : List (List ℕ)). changed_text p.0 0 state.registers ls) lines,
+      alone (string_bytes shown.room) last (changed_text p.0 0 shown.registers lines) sure.empty p.2
+          ∙ ap (λ (rs : List ℕ). changed_text p.0 0 rs lines) sure.registers,
     ) in
     subst P c.self.view_is
-    (told_shown m.machine m.origin names m.breakpoints.items (option_map watched m.watch) m.course rewound n runs c.args.cpu c.recall-recall.result state last (subst H (sym c.self.view_is) c.requires.served) is c.in-Ok-rewind.ensures.ok
-    (c.recall-recall.ensures.turns runs is) c.recall-recall.ensures.same c.in-Some.ensures.state put)
+    (told_shown m.machine m.origin names m.breakpoints.items (option_map watched m.watch) m.course rewound n runs c.args.cpu c.recall-recall.result state lines last (subst H (sym c.self.view_is) c.requires.served) is c.in-Ok-rewind.ensures.ok
+    (c.recall-recall.ensures.turns runs is) c.recall-recall.ensures.same c.in-Some.ensures.state shows put)
