@@ -8,6 +8,8 @@ use Rattle.bpf_machine.specs.Laws.{IsFresh}
 use Rattle.bpf_jobs.specs.declared.rounds.Report.{Report}
 use Rattle.bpf_jobs.specs.Printed.{asked_world, IsReportBy}
 use Rattle.bpf_events.specs.Reports.{IsHistory}
+use Rattle.bpf_debug.specs.Laws.{IsNew}
+use Rattle.bpf_debug.proofs.OwnValues.{made_own}
 use Rattle.bpf_file.specs.declared.file.RunFile.{RunFile}
 use Rattle.bpf_file.specs.File.{File, file_of}
 use Rattle.bpf_file.specs.Reading.{IsRunFile}
@@ -38,6 +40,10 @@ fresh f can = record {
       each (IsJobFor f.cpus (length f.programs)) f.jobs can.jobs j task at in
       waits task task.stage refl job.stage;
 }
+
+-- and no two keys lead to one value
+pub is_new : (f : File) → CanRun f → IsNew (first_world_of f)
+is_new f can = record { fresh = fresh f can; own = made_own (record { cpus = f.cpus; maps = f.maps }) }
 
 pub fresh_asked : (keys : Bool) (f : File) → CanRun f → IsFresh (asked_world_of keys f)
 fresh_asked keys f can = record { store = (fresh f can).store; waits = (fresh f can).waits }
