@@ -441,8 +441,8 @@ function held_cell(held) {
     return cell;
 }
 
-// The values of a map that CPUs hold, and that no key is known to lead to: those of keys that were deleted or got
-// another value, and where no events are told, all.
+// The values of a map that CPUs hold, and that no key leads to any more: by the keys that were deleted or got another
+// value, and where no events are told, by their addresses.
 function kept_rows(held, state) {
     const addresses = [...new Set(held.map(({ address }) => address))];
     return addresses.map((address) => {

@@ -108,8 +108,8 @@ function are_told({ file, shown, known }) {
     return file.is_slow || shown > MOST_TOLD || known.slice(0, shown).every((turn) => turn.event !== undefined);
 }
 
-// The values that the runs hold, each with its key and with what has come of that since, where the events tell it: a
-// value is held since a lookup of the job in hand found it.
+// The values that the runs hold, each with its key; of a value that no key leads to any more, the events tell the one
+// that did, and what has come of it: a value is held since a lookup of the job in hand found it.
 function held_values({ file, turns, shown, known, views }) {
     const looked = list_of(file.cpus, () => new Map());
     known.slice(0, shown).forEach(({ event, ended }, turn) => {

@@ -33,10 +33,12 @@ function read_end(line) {
     return { line, job: Number(job), how: how.join(' '), code, is_good: how[0].startsWith('r0=') };
 }
 
-// `NAME ADDRESS BYTES` of a value that a run holds; null of another answer.
+// `NAME[KEY] ADDRESS BYTES` of a value that a run holds; where no key leads to it any more, `at ADDRESS` stands in the
+// key's place. Null of another answer.
 function read_held(line) {
-    const [, map, address, bytes] = /^(\w+) (\d+) ([0-9a-f]+)$/.exec(line) ?? [];
-    return bytes ? { map, address, bytes } : null;
+    const [, map, key, address, bytes] = /^(\w+)\[([0-9a-f]+|at \d+)\] (\d+) ([0-9a-f]+)$/.exec(line) ?? [];
+    if (!bytes) return null;
+    return key.startsWith('at ') ? { map, address, bytes } : { map, key, address, bytes };
 }
 
 // Turns in run lengths, as the program writes and takes them: `0*2 1*1` is two turns of CPU 0 and one of CPU 1.
