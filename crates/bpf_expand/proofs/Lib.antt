@@ -5,3 +5,4 @@ pub mod Taking
 pub mod Turning
 pub mod Reporting
 pub mod Answered
+pub mod Fitting

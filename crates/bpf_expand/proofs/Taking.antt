@@ -12,13 +12,15 @@ use Rattle.bpf_loader.specs.Loaded.{Loaded}
 use Rattle.bpf_cpu.specs.Task.{Task}
 use Rattle.bpf_machine.specs.Machine.{MachineState}
 use Rattle.bpf_machine.specs.Parts.{CanStand, chosen, made_of}
-use Rattle.bpf_machine.specs.Saved.{jobs_saved, AreLater, HoldWhatMayBe}
+use Rattle.bpf_machine.specs.Saved.{jobs_saved, AreLater, ComeFrom, HoldWhatMayBe}
 use Rattle.bpf_machine.proofs.JobLemmas.{jobs_told}
+use Rattle.bpf_machine.proofs.ComingFrom.{later_come}
 use Rattle.bpf_explore.specs.Stores.{IsOfShape}
 use Rattle.bpf_explore.proofs.StandAlike.{can_stand}
 use Rattle.bpf_expand.specs.State.{Host, IsStateOf}
 use Rattle.bpf_expand.specs.Private.Home.{CountUp}
 use Rattle.bpf_expand.proofs.Lists.{chosen_all, all_within}
+use Rattle.bpf_expand.proofs.Fitting.{hold, FitInBytes}
 
 pub later_count : (firsts jobs : List Task) → AreLater firsts jobs → length jobs ≡ length firsts
 later_count [] [] are = refl
@@ -78,21 +80,25 @@ module _ (h : Host) (jobs : List Task) (bytes rest : List ℕ) (later : AreLater
           (subst (λ (ps : List Loaded). CanStand (record { store = room; programs = ps; jobs = m.jobs; lists = None })) is.of.programs there))
 
       -- it is what the bytes are of
-      pub is_state : CanStand (made_of room h.programs jobs numbers) → IsStateOf h (made_of room h.programs jobs numbers) bytes
-      is_state stands = record {
+      pub is_state : CanStand (made_of room h.programs jobs numbers) → FitInBytes (chosen jobs numbers) → IsStateOf h (made_of room h.programs jobs numbers) bytes
+      is_state stands fit = record {
         of = record {
           shape = shape_read h.shape old room rest count of stored;
           programs = refl;
           jobs = subst (λ (ts : List Task). AreLater h.jobs ts) (sym jobs_are) later;
+          held = hold (made_of room h.programs jobs numbers) rest stands room_saved fit;
           lists = refl;
           stands = stands;
         };
         saved = (rest, room_saved, subst (λ (ts : List Task). bytes ≡ jobs_saved ts ++ rest) (sym jobs_are) read);
       }
 
+      pub come : ComeFrom h.jobs (chosen jobs numbers)
+      come = subst (λ (ts : List Task). ComeFrom h.jobs ts) (sym jobs_are) (later_come h.jobs jobs later)
+
   pub all_numbered : (numbers : List ℕ) → CountUp numbers (length h.jobs) → All (λ n. n < length jobs) numbers
   all_numbered numbers up = all_within numbers (length jobs) (subst (λ (n : ℕ). CountUp numbers n) (sym (later_count h.jobs jobs later)) up)
 
 -- no jobs are at the beginning
-pub no_jobs : (h : Host) (bytes : List ℕ) → ((jobs : List Task) (more : List ℕ) → AreLater h.jobs jobs → HoldWhatMayBe jobs → bytes ≡ jobs_saved jobs ++ more → ⊥) → (m : MachineState) → IsStateOf h m bytes → HoldWhatMayBe m.jobs → ⊥
-no_jobs h bytes none m is may = none m.jobs is.saved.0 is.of.jobs may is.saved.2
+pub no_jobs : (h : Host) (bytes : List ℕ) → ((jobs : List Task) (more : List ℕ) → AreLater h.jobs jobs → HoldWhatMayBe jobs → bytes ≡ jobs_saved jobs ++ more → ⊥) → (m : MachineState) → IsStateOf h m bytes → ⊥
+no_jobs h bytes none m is = none m.jobs is.saved.0 is.of.jobs is.of.held is.saved.2

@@ -6,7 +6,7 @@ use Rattle.bpf_shared.specs.Sound.{IsSoundStore}
 use Rattle.bpf_plain.specs.PlainStore.{IsSavedAs, StandsFor}
 use Rattle.bpf_jobs.specs.Printed.{Tells}
 use Rattle.bpf_loader.specs.Loaded.{Loaded}
-use Rattle.bpf_cpu.specs.Task.{Task}
+use Rattle.bpf_cpu.specs.Task.{Task, Waiting}
 use Rattle.bpf_machine.specs.Hands.{IsFree, NoneWaits}
 use Rattle.bpf_machine.specs.Machine.{MachineState}
 use Rattle.bpf_machine.specs.Parts.{CanStand}
@@ -30,11 +30,17 @@ pub record ExpanderState : Type 0 where
   pub host : Host
   pub machine : MachineState
 
--- a machine of the host, which asks for no lists
+-- each of the jobs waits
+abbrev pub AllWait : List Task → Type 0
+AllWait jobs = (j : ℕ) (task : Task) → slice_get jobs j ≡ Some task
+    → (context : List ℕ) × (task.stage ≡ Waiting context)
+
+-- a machine of the host, whose runs hold what a run may hold, and which asks for no lists
 pub record IsOf (h : Host) (m : MachineState) : Type 0 where
   pub shape : IsOfShape h.shape m.store
   pub programs : m.programs ≡ h.programs
   pub jobs : AreLater h.jobs m.jobs
+  pub held : HoldWhatMayBe m.jobs
   pub lists : m.lists ≡ None
   pub stands : CanStand m
 
@@ -74,9 +80,9 @@ abbrev pub IsSuccessor : Host → List ℕ → ℕ → ℕ → List ℕ → Type
 IsSuccessor h bytes c n next =
     (m new : MachineState) × IsStateOf h m bytes × Leads h m c n new × IsStateOf h new next
 
--- no machine of the host is saved so that holds, where a job is in hand, what a run may hold
+-- no machine of the host is saved so
 abbrev pub IsNoState : Host → List ℕ → Type 0
-IsNoState h bytes = (m : MachineState) → IsStateOf h m bytes → HoldWhatMayBe m.jobs → ⊥
+IsNoState h bytes = (m : MachineState) → IsStateOf h m bytes → ⊥
 
 -- this is told of the machine's jobs and maps, which have these names, whatever its store stands for
 abbrev pub IsTold : MachineState → List (List ℕ) → List ℕ → Type 0

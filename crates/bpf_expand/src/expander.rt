@@ -3,9 +3,10 @@
 ghost use Rattle.std.specs.Prelude.{◌≡◌, IfOk, None, map, string_bytes};
 ghost use Rattle.bpf_explore.specs.Stores.{IsOfShape};
 ghost use Rattle.bpf_machine.specs.Parts.{IsSameHost};
+ghost use Rattle.bpf_machine.specs.Saved.{ComeFromSame};
 ghost use Rattle.bpf_expand.specs.State.{Fills, IsTold};
 
-use crate::jobs::{are_told, count_up, keep_jobs, save_jobs};
+use crate::jobs::{count_up, jobs_fit_bytes, keep_jobs, save_jobs};
 use crate::successor::Successor;
 use bpf_explore::copy_shape;
 use bpf_jobs::tell;
@@ -27,10 +28,12 @@ fn make_room(alloc: Global, shape: &StoreShape) -> Result<PlainStore, AllocError
 fn fill(machine: &mut Machine, patient: bool, cpu: u8)
     ensures fills { Fills patient machine.old cpu machine.new }
     ensures same { IsSameHost machine.old machine.new }
+    ensures jobs { ComeFromSame machine.old.jobs machine.new.jobs }
 {
-    if patient {
-        machine.refill(cpu);
+    if !patient {
+        return;
     }
+    machine.refill(cpu);
 }
 
 /// What is told of a machine's jobs and maps, which have these names.
@@ -90,10 +93,10 @@ impl Model for Expander {
 impl Expander {
     ghost use Rattle.std.specs.Prelude.{◌≡◌, true, false, IfNone, IfOk, IfSome, None, map, string_bytes};
     ghost use Rattle.bpf_machine.specs.Hands.{IsFree, NoneWaits};
-    ghost use Rattle.bpf_expand.specs.State.{AreSuccessors, HasWork, IsNoState, IsSavedState, IsStateOf, IsTold, Leads};
+    ghost use Rattle.bpf_expand.specs.State.{AllWait, AreSuccessors, HasWork, IsNoState, IsSavedState, IsStateOf, IsTold, Leads};
     ghost use Rattle.bpf_expand.specs.Private.Next.{IsNext};
 
-    /// The host of a machine, which is the one to work with.
+    /// The host of a machine whose jobs all wait, which is the one to work with.
     pub fn new(
         alloc: Global,
         patient: bool,
@@ -102,6 +105,7 @@ impl Expander {
     ) -> Result<Expander, AllocError>
         requires shape { IsOfShape shape machine.store }
         requires lists { machine.lists ≡ None }
+        requires waits { AllWait machine.jobs }
         ensures machine { IfOk result (λ e. e.machine ≡ machine) }
         ensures patient { IfOk result (λ e. e.host.patient ≡ patient) }
         ensures shape { IfOk result (λ e. e.host.shape ≡ shape) }
@@ -140,18 +144,13 @@ impl Expander {
         Ok(bytes)
     }
 
-    /// The state of the machine. That its bytes don't tell the machine counts as want of memory; no
-    /// such machine is known.
+    /// The state of the machine.
     pub fn state(&self) -> Result<Vec<u8>, AllocError>
         ensures { IfOk result (λ v. IsStateOf self.now.host self.now.machine v.items) }
     {
         self.machine.stands();
-        let bytes = self.save()?;
-        if are_told(self.alloc, &self.machine, &self.first, &bytes)? {
-            Ok(bytes)
-        } else {
-            Err(AllocError)
-        }
+        jobs_fit_bytes(&self.machine);
+        self.save()
     }
 
     /// Takes the machine to work with that is saved as all of these bytes, if there is one of this
@@ -173,6 +172,7 @@ impl Expander {
         }
         self.machine
             .restore(self.alloc, &self.room, &jobs, &self.numbers)?;
+        jobs_fit_bytes(&self.machine);
         Ok(true)
     }
 

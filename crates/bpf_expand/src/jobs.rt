@@ -1,10 +1,11 @@
 //! The jobs of a machine as a list, and as bytes.
 
-ghost use Rattle.std.specs.Prelude.{◌≡◌, ◌<◌, ◌++◌, true, IfOk, OnOk, length};
-ghost use Rattle.bpf_machine.specs.Saved.{jobs_saved, AreLater};
-ghost use Rattle.bpf_expand.specs.Private.Home.{AreShort, CountUp};
+ghost use Rattle.std.specs.Prelude.{◌≡◌, ◌<◌, ◌++◌, ℕ, IfOk, OnOk, Some, length, slice_get};
+ghost use Rattle.bpf_cpu.specs.Task.{Task};
+ghost use Rattle.bpf_machine.specs.Saved.{jobs_saved, FitsBytes};
+ghost use Rattle.bpf_expand.specs.Private.Home.{CountUp};
 
-use bpf_machine::{KeptJob, Machine, read_jobs};
+use bpf_machine::{KeptJob, Machine};
 use std::alloc::{AllocError, Global};
 
 /// The numbers below this one.
@@ -41,34 +42,12 @@ pub(crate) fn save_jobs(machine: &Machine, out: &mut Vec<u8>) -> Result<(), Allo
     Ok(())
 }
 
-/// Whether a machine's jobs stand as these do.
-fn are_kept(machine: &Machine, jobs: &[KeptJob]) -> bool
-    ensures { result ≡ true → jobs.now ≡ machine.now.jobs }
+/// Each job's stage fits into bytes: says so, and does nothing.
+pub(crate) fn jobs_fit_bytes(machine: &Machine)
+    ensures { (j : ℕ) (task : Task) → slice_get machine.now.jobs j ≡ Some task
+        → FitsBytes task.stage }
 {
-    if jobs.len() != machine.jobs() {
-        return false;
-    }
-    for job in 0..jobs.len() {
-        if !machine.is_kept_job(job, &jobs[job]) {
-            return false;
-        }
-    }
-    true
-}
-
-/// Whether the bytes that a machine's jobs are saved as tell them, of jobs that first waited so: what
-/// is read from them is what stands there.
-pub(crate) fn are_told(
-    alloc: Global,
-    machine: &Machine,
-    first: &[KeptJob],
-    bytes: &[u8],
-) -> Result<bool, AllocError>
-    requires { AreShort first.now }
-    ensures { IfOk result (λ told. told ≡ true → AreLater first.now machine.now.jobs) }
-{
-    match read_jobs(alloc, first, bytes)? {
-        Some((jobs, _)) => Ok(are_kept(machine, &jobs)),
-        None => Ok(false),
+    for job in 0..machine.jobs() {
+        machine.job_fits_bytes(job);
     }
 }

@@ -5,7 +5,7 @@ use Rattle.bpf_shared.specs.Shape.{Shape}
 use Rattle.bpf_plain.specs.PlainStore.{Contents}
 use Rattle.bpf_cpu.specs.Task.{Task}
 use Rattle.bpf_machine.specs.Machine.{MachineState}
-use Rattle.bpf_machine.specs.Saved.{context_of}
+use Rattle.bpf_machine.specs.Saved.{context_of, ComeFrom}
 use Rattle.bpf_explore.specs.Stores.{IsOfShape}
 
 -- the numbers below this one, in order
@@ -24,4 +24,5 @@ pub record IsHome (h : Shape) (m : MachineState) (room : Contents) (first : List
   pub spare : IsOfShape h room
   pub lists : m.lists ≡ None
   pub short : AreShort first
+  pub come : ComeFrom first m.jobs
   pub numbered : CountUp numbers (length first)

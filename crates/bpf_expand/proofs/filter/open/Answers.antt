@@ -5,6 +5,8 @@ use Rattle.bpf_cpu.specs.declared.job.Job.{Job}
 use Rattle.bpf_cpu.specs.Task.{waiting}
 use Rattle.bpf_explore.specs.Stores.{IsOfShape}
 use Rattle.bpf_explore.proofs.ExploreLaws.{first_shape, first_lists_none}
+use Rattle.bpf_expand.specs.State.{AllWait}
+use Rattle.bpf_expand.proofs.Fitting.{first_wait}
 use Rattle.bpf_expand.proofs.filter.open.Goals as goal
 
 pub make_machine-requires-clause-cpus : goal.make_machine-requires-clause-cpus
@@ -27,3 +29,6 @@ new-requires-clause-shape c =
 pub new-requires-clause-lists : goal.new-requires-clause-lists
 new-requires-clause-lists c =
     first_lists_none c.in_ok-copy.copy c.in_ok-machine.machine c.args.programs.items (map waiting c.args.jobs.items) c.in_ok-machine.ensures
+
+pub new-requires-clause-waits : goal.new-requires-clause-waits
+new-requires-clause-waits c = subst AllWait c.in_ok-machine.ensures.jobs (first_wait c.args.jobs.items)
