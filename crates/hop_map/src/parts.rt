@@ -1,5 +1,5 @@
 //! The bytes of a value as part of one of its words.
-ghost use Rattle.std.specs.Prelude.{◌≡◌, ◌+◌, ◌<◌, ◌≤◌};
+ghost use Rattle.std.specs.Prelude.{◌≡◌, ◌+◌, ◌/◌, ◌%◌, ◌<◌, ◌≤◌};
 ghost use Rattle.bpf_base.specs.Bytes.{low_bytes, modulus, with_part};
 ghost use Rattle.bpf_shared.specs.Access.{bytes_in};
 ghost use Rattle.hop_words.specs.declared.known.Known.{Known};
@@ -10,6 +10,20 @@ use crate::homing::shape_of;
 use bpf_shared::bytes::{load, store};
 use bpf_shared::{FIRST_VALUE, MAP_AREA, Size, ValuePlace};
 use hop_words::{HopTable, ValuePart};
+
+// Which value of so many bytes each a byte lies in, and where in it. Values of one word need no
+// division.
+fn divided(within: u64, stride: u64) -> (u64, u64)
+    requires { 0 < stride }
+    ensures value { result.0 ≡ within / stride }
+    ensures place { result.1 ≡ within % stride }
+{
+    if stride == 8 {
+        (within / 8, within % 8)
+    } else {
+        (within / stride, within % stride)
+    }
+}
 
 /// The word that the bytes lie in, and their place there.
 pub(crate) fn part_at(table: &HopTable, at: ValuePlace, size: Size) -> ValuePart
@@ -25,12 +39,13 @@ pub(crate) fn part_at(table: &HopTable, at: ValuePlace, size: Size) -> ValuePart
     let within = above % MAP_AREA;
     // `div_ceil` would test the remainder.
     let stride = (shape_of(table, map).value + 7) / 8 * 8;
-    let offset = within % stride;
+    let (element, place) = divided(within, stride);
     ValuePart {
         map,
-        element: (within / stride) as u32,
-        word: (offset / 8) as u32,
-        offset: (offset % 8) as u32,
+        element: element as u32,
+        word: (place / 8) as u32,
+        // Strides are whole words. So a caller that knows the address knows this too.
+        offset: (within % 8) as u32,
         size,
     }
 }
