@@ -33,6 +33,7 @@ test: ## The whole gate: every proof, every must-fail edit, every test, then the
 	tests/check ./ebpf
 	tests/json ./ebpf
 	tests/campaign ./ebpf
+	tests/explore-far ./ebpf
 	tests/docs ./ebpf
 	tests/docs --self-test ./ebpf
 	tests/completions ./ebpf
