@@ -18,7 +18,7 @@ use Rattle.bpf_machine.proofs.ComingFrom.{later_come}
 use Rattle.bpf_explore.specs.Stores.{IsOfShape}
 use Rattle.bpf_explore.proofs.StandAlike.{can_stand}
 use Rattle.bpf_expand.specs.State.{Host, IsStateOf}
-use Rattle.bpf_expand.specs.Private.Home.{CountUp}
+use Rattle.bpf_expand.specs.Private.Home.{CountUp, IsRead as IsReadAs}
 use Rattle.bpf_expand.proofs.Lists.{chosen_all, all_within}
 use Rattle.bpf_expand.proofs.Fitting.{hold, FitInBytes}
 
@@ -79,22 +79,9 @@ module _ (h : Host) (jobs : List Task) (bytes rest : List ℕ) (later : AreLater
           none (subst (λ (ts : List Task). CanStand (record { store = room; programs = h.programs; jobs = ts; lists = None })) (sym t.0 ∙ sym jobs_are)
           (subst (λ (ps : List Loaded). CanStand (record { store = room; programs = ps; jobs = m.jobs; lists = None })) is.of.programs there))
 
-      -- it is what the bytes are of
-      pub is_state : CanStand (made_of room h.programs jobs numbers) → FitInBytes (chosen jobs numbers) → IsStateOf h (made_of room h.programs jobs numbers) bytes
-      is_state stands fit = record {
-        of = record {
-          shape = shape_read h.shape old room rest count of stored;
-          programs = refl;
-          jobs = subst (λ (ts : List Task). AreLater h.jobs ts) (sym jobs_are) later;
-          held = hold (made_of room h.programs jobs numbers) rest stands room_saved fit;
-          lists = refl;
-          stands = stands;
-        };
-        saved = (rest, room_saved, subst (λ (ts : List Task). bytes ≡ jobs_saved ts ++ rest) (sym jobs_are) read);
-      }
-
-      pub come : ComeFrom h.jobs (chosen jobs numbers)
-      come = subst (λ (ts : List Task). ComeFrom h.jobs ts) (sym jobs_are) (later_come h.jobs jobs later)
+      -- it is read
+      pub is_read : CanStand (made_of room h.programs jobs numbers) → IsReadAs h.programs room h.jobs numbers jobs bytes
+      is_read stands = record { later = later; stands = stands; saved = (rest, room_saved, read) }
 
   pub all_numbered : (numbers : List ℕ) → CountUp numbers (length h.jobs) → All (λ n. n < length jobs) numbers
   all_numbered numbers up = all_within numbers (length jobs) (subst (λ (n : ℕ). CountUp numbers n) (sym (later_count h.jobs jobs later)) up)
@@ -102,3 +89,28 @@ module _ (h : Host) (jobs : List Task) (bytes rest : List ℕ) (later : AreLater
 -- no jobs are at the beginning
 pub no_jobs : (h : Host) (bytes : List ℕ) → ((jobs : List Task) (more : List ℕ) → AreLater h.jobs jobs → HoldWhatMayBe jobs → bytes ≡ jobs_saved jobs ++ more → ⊥) → (m : MachineState) → IsStateOf h m bytes → ⊥
 no_jobs h bytes none m is = none m.jobs is.saved.0 is.of.jobs is.of.held is.saved.2
+
+-- ---- the machine of what was read
+module _ (h : Host) (room : Contents) (numbers : List ℕ) (jobs : List Task) (bytes : List ℕ) (up : CountUp numbers (length h.jobs)) (is : IsReadAs h.programs room h.jobs numbers jobs bytes) where
+  they_are : chosen jobs numbers ≡ jobs
+  they_are = chosen_all jobs numbers (subst (λ (n : ℕ). CountUp numbers n) (sym (later_count h.jobs jobs is.later)) up)
+
+  -- it is what the bytes are of
+  pub is_state : IsOfShape h.shape room → FitInBytes (chosen jobs numbers) → IsStateOf h (made_of room h.programs jobs numbers) bytes
+  is_state shape fit = record {
+    of = record {
+      shape = shape;
+      programs = refl;
+      jobs = subst (λ (ts : List Task). AreLater h.jobs ts) (sym they_are) is.later;
+      held = hold (made_of room h.programs jobs numbers) is.saved.0 is.stands is.saved.1 fit;
+      lists = refl;
+      stands = is.stands;
+    };
+    saved = (is.saved.0, is.saved.1, subst (λ (ts : List Task). bytes ≡ jobs_saved ts ++ is.saved.0) (sym they_are) is.saved.2);
+  }
+
+  pub come : ComeFrom h.jobs (chosen jobs numbers)
+  come = subst (λ (ts : List Task). ComeFrom h.jobs ts) (sym they_are) (later_come h.jobs jobs is.later)
+
+  pub within : All (λ n. n < length jobs) numbers
+  within = all_within numbers (length jobs) (subst (λ (n : ℕ). CountUp numbers n) (sym (later_count h.jobs jobs is.later)) up)

@@ -1,5 +1,5 @@
 -- The states of a host, each as bytes.
-use Rattle.std.specs.Prelude.{◌≡◌, ◌<◌, ℕ, Bool, false, true, ◌++◌, ◌⊎◌, All, List, None, Some, slice_get}
+use Rattle.std.specs.Prelude.{◌≡◌, ◌<◌, ℕ, Bool, false, true, ◌++◌, ◌⊎◌, All, List, None, Option, Some, slice_get}
 use Rattle.bpf_shared.specs.Shape.{Shape}
 use Rattle.bpf_shared.specs.Store.{Plain}
 use Rattle.bpf_shared.specs.Sound.{IsSoundStore}
@@ -25,10 +25,11 @@ pub record Host : Type 0 where
   pub jobs : List Task
   pub patient : Bool
 
--- a host, and a machine of it to work with
+-- a host, and a machine of it to work with; and the bytes that were read last, if they were a state
 pub record ExpanderState : Type 0 where
   pub host : Host
   pub machine : MachineState
+  pub read : Option (List ℕ)
 
 -- each of the jobs waits
 abbrev pub AllWait : List Task → Type 0

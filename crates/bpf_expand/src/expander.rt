@@ -63,7 +63,11 @@ pub struct Expander {
     patient: bool,
     shape: StoreShape,
     machine: Machine,
-    /// A store of the same shape, to read one into.
+    /// The bytes of the state that was read last: of what it leads to the next is mostly asked too.
+    read: Option<Vec<u8>>,
+    /// Its jobs.
+    jobs: Vec<KeptJob>,
+    /// Its store; where none was read, one of the same shape.
     room: PlainStore,
     /// The jobs of the first machine.
     first: Vec<KeptJob>,
@@ -72,6 +76,7 @@ pub struct Expander {
 }
 
 impl Model for Expander {
+    ghost use Rattle.std.specs.Prelude.{option_map};
     ghost use Rattle.bpf_expand.specs.State.{ExpanderState, Host};
     ghost use Rattle.bpf_expand.specs.Private.Home.{IsHome};
 
@@ -85,13 +90,15 @@ impl Model for Expander {
         patient = e.patient;
       };
       machine = e.machine;
+      read = option_map (λ v. v.items) e.read;
     } };
 
-    ghost invariant = { λ e. IsHome e.shape e.machine e.room e.first.items e.numbers.items };
+    ghost invariant = { λ e. IsHome e.shape e.machine e.room e.first.items e.numbers.items
+        e.jobs.items (option_map (λ v. v.items) e.read) };
 }
 
 impl Expander {
-    ghost use Rattle.std.specs.Prelude.{◌≡◌, true, false, IfNone, IfOk, IfSome, None, map, string_bytes};
+    ghost use Rattle.std.specs.Prelude.{◌≡◌, true, false, IfNone, IfOk, IfSome, None, OnOk, Some, map, string_bytes};
     ghost use Rattle.bpf_machine.specs.Hands.{IsFree, NoneWaits};
     ghost use Rattle.bpf_expand.specs.State.{AllWait, AreSuccessors, HasWork, IsNoState, IsSavedState, IsStateOf, IsTold, Leads};
     ghost use Rattle.bpf_expand.specs.Private.Next.{IsNext};
@@ -121,6 +128,8 @@ impl Expander {
             patient,
             shape,
             machine,
+            read: None,
+            jobs: Vec::new(alloc),
             room,
             first,
             numbers,
@@ -153,14 +162,23 @@ impl Expander {
         self.save()
     }
 
-    /// Takes the machine to work with that is saved as all of these bytes, if there is one of this
-    /// host.
-    pub fn take(&mut self, bytes: &[u8]) -> Result<bool, AllocError>
-        ensures taken { IfOk result (λ is. is ≡ true
-            → IsStateOf self.new.host self.new.machine bytes.now) }
+    /// Whether these bytes are the state that was read last.
+    fn is_read(&self, bytes: &[u8]) -> bool
+        ensures { result ≡ true → self.now.read ≡ Some bytes.now }
+    {
+        match &self.read {
+            Some(read) => read.as_slice() == bytes,
+            None => false,
+        }
+    }
+
+    /// Reads these bytes, if they are a state of this host.
+    fn read(&mut self, bytes: &[u8]) -> Result<bool, AllocError>
+        ensures read { IfOk result (λ is. is ≡ true → self.new.read ≡ Some bytes.now) }
         ensures none { IfOk result (λ is. is ≡ false → IsNoState self.new.host bytes.now) }
         ensures same { self.new.host ≡ self.old.host }
     {
+        self.read = None;
         let Some((jobs, rest)) = read_jobs(self.alloc, &self.first, bytes)? else {
             return Ok(false);
         };
@@ -170,9 +188,48 @@ impl Expander {
         if count < rest.len() || !self.machine.can_restore(&self.room, &jobs, &self.numbers) {
             return Ok(false);
         }
+        let read = Vec::from_slice(self.alloc, bytes)?;
+        self.jobs = jobs;
+        self.read = Some(read);
+        Ok(true)
+    }
+
+    /// Reads these bytes, if they are a state of this host and weren't read last.
+    fn has_read(&mut self, bytes: &[u8]) -> Result<bool, AllocError>
+        ensures read { IfOk result (λ is. is ≡ true → self.new.read ≡ Some bytes.now) }
+        ensures none { IfOk result (λ is. is ≡ false → IsNoState self.new.host bytes.now) }
+        ensures same { self.new.host ≡ self.old.host }
+    {
+        if self.is_read(bytes) {
+            return Ok(true);
+        }
+        self.read(bytes)
+    }
+
+    /// Makes the machine of the state that was read last.
+    fn place(&mut self, bytes: &[u8]) -> Result<(), AllocError>
+        requires { self.old.read ≡ Some bytes.now }
+        ensures placed { OnOk result (IsStateOf self.new.host self.new.machine bytes.now) }
+        ensures same { self.new.host ≡ self.old.host }
+    {
         self.machine
-            .restore(self.alloc, &self.room, &jobs, &self.numbers)?;
+            .restore(self.alloc, &self.room, &self.jobs, &self.numbers)?;
         jobs_fit_bytes(&self.machine);
+        Ok(())
+    }
+
+    /// Takes the machine to work with that is saved as all of these bytes, if there is one of this
+    /// host.
+    pub fn take(&mut self, bytes: &[u8]) -> Result<bool, AllocError>
+        ensures taken { IfOk result (λ is. is ≡ true
+            → IsStateOf self.new.host self.new.machine bytes.now) }
+        ensures none { IfOk result (λ is. is ≡ false → IsNoState self.new.host bytes.now) }
+        ensures same { self.new.host ≡ self.old.host }
+    {
+        if !self.has_read(bytes)? {
+            return Ok(false);
+        }
+        self.place(bytes)?;
         Ok(true)
     }
 
