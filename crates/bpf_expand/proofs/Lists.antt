@@ -23,6 +23,12 @@ take_more xs n x at = (let more : n + 1 ≡ suc n = omega arith in ap (λ (k : �
 pub take_whole : {A : Type 0} (xs : List A) (n : ℕ) → n ≡ length xs → take n xs ≡ xs
 take_whole xs n e = ap (λ (k : ℕ). take k xs) e ∙ take-length xs
 
+pub take_front : {A : Type 0} (n : ℕ) (xs ys : List A) → n ≡ length xs → take n (xs ++ ys) ≡ xs
+take_front zero [] ys e = refl
+take_front (suc n) [] ys e = absurd (omega arith)
+take_front zero (x ∷ xs) ys e = absurd (omega arith)
+take_front (suc n) (x ∷ xs) ys e = ap (λ (l : List _). x ∷ l) (take_front n xs ys (omega arith))
+
 -- one more job is saved
 pub saved_next : (mid new before : List ℕ) (jobs : List Task) (n : ℕ) (task : Task) → slice_get jobs n ≡ Some task → mid ≡ before ++ jobs_saved (take n jobs) → new ≡ mid ++ stage_saved task.stage → new ≡ before ++ jobs_saved (take (n + 1) jobs)
 saved_next mid new before jobs n task at so_far more =

@@ -114,3 +114,14 @@ module _ (h : Host) (room : Contents) (numbers : List ℕ) (jobs : List Task) (b
 
   pub within : All (λ n. n < length jobs) numbers
   within = all_within numbers (length jobs) (subst (λ (n : ℕ). CountUp numbers n) (sym (later_count h.jobs jobs is.later)) up)
+
+-- ---- a machine that was made of what was read
+pub made_again : (m : MachineState) (room : Contents) (programs : List Loaded) (jobs : List Task) (numbers : List ℕ) → m ≡ made_of room programs jobs numbers → m ≡ made_of room m.programs jobs numbers
+made_again m room programs jobs numbers e = e ∙ ap (λ (ps : List Loaded). made_of room ps jobs numbers) (sym (ap (λ (x : MachineState). x.programs) e))
+
+-- it is what the bytes are of
+pub placed_state : (h : Host) (m : MachineState) (room : Contents) (numbers : List ℕ) (jobs : List Task) (bytes : List ℕ) → CountUp numbers (length h.jobs) → IsReadAs h.programs room h.jobs numbers jobs bytes → IsOfShape h.shape room
+    → m ≡ made_of room h.programs jobs numbers → FitInBytes m.jobs → IsStateOf (record { shape = h.shape; programs = m.programs; jobs = h.jobs; patient = h.patient }) m bytes
+placed_state h m room numbers jobs bytes up is shape made fit =
+    subst (λ (x : MachineState). IsStateOf (record { shape = h.shape; programs = x.programs; jobs = h.jobs; patient = h.patient }) x bytes) (sym made)
+    (is_state h room numbers jobs bytes up is shape (subst (λ (x : MachineState). FitInBytes x.jobs) made fit))

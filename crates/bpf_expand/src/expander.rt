@@ -16,6 +16,9 @@ use bpf_shared::StoreShape;
 use std::alloc::{AllocError, Global};
 use std::marker::Model;
 
+/// By how many bytes a state may be longer than the one that led to it before more room is made.
+const SPARE: usize = 128;
+
 /// A store of this shape.
 fn make_room(alloc: Global, shape: &StoreShape) -> Result<PlainStore, AllocError>
     ensures { IfOk result (λ store. IsOfShape shape.now store) }
@@ -65,7 +68,9 @@ pub struct Expander {
     machine: Machine,
     /// The bytes of the state that was read last: of what it leads to the next is mostly asked too.
     read: Option<Vec<u8>>,
-    /// Its jobs.
+    /// Whether the machine is the one of that state, with no turn made since.
+    is_placed: bool,
+    /// Its jobs. They are read in place, so where none was read they may be any.
     jobs: Vec<KeptJob>,
     /// Its store; where none was read, one of the same shape.
     room: PlainStore,
@@ -94,7 +99,7 @@ impl Model for Expander {
     } };
 
     ghost invariant = { λ e. IsHome e.shape e.machine e.room e.first.items e.numbers.items
-        e.jobs.items (option_map (λ v. v.items) e.read) };
+        e.jobs.items (option_map (λ v. v.items) e.read) e.is_placed };
 }
 
 impl Expander {
@@ -121,6 +126,7 @@ impl Expander {
     {
         machine.stands();
         let first = keep_jobs(alloc, &machine)?;
+        let jobs = keep_jobs(alloc, &machine)?;
         let numbers = count_up(alloc, machine.jobs())?;
         let room = make_room(alloc, &shape)?;
         Ok(Expander {
@@ -129,7 +135,8 @@ impl Expander {
             shape,
             machine,
             read: None,
-            jobs: Vec::new(alloc),
+            is_placed: false,
+            jobs,
             room,
             first,
             numbers,
@@ -143,11 +150,19 @@ impl Expander {
         &self.machine
     }
 
+    /// How many bytes to make room for: a state is about as long as the one that led to it.
+    fn likely_size(&self) -> usize {
+        match &self.read {
+            Some(read) => read.len().saturating_add(SPARE),
+            None => SPARE,
+        }
+    }
+
     /// What the machine is saved as.
     fn save(&self) -> Result<Vec<u8>, AllocError>
         ensures { IfOk result (λ v. IsSavedState self.now.machine v.items) }
     {
-        let mut bytes = Vec::new(self.alloc);
+        let mut bytes = Vec::with_capacity(self.alloc, self.likely_size())?;
         save_jobs(&self.machine, &mut bytes)?;
         self.machine.store().save(&mut bytes)?;
         Ok(bytes)
@@ -179,17 +194,21 @@ impl Expander {
         ensures same { self.new.host ≡ self.old.host }
     {
         self.read = None;
-        let Some((jobs, rest)) = read_jobs(self.alloc, &self.first, bytes)? else {
+        self.is_placed = false;
+        let Some(rest) = read_jobs(self.alloc, &self.first, &mut self.jobs, bytes)? else {
             return Ok(false);
         };
         let Some(count) = self.room.read(self.alloc, rest)? else {
             return Ok(false);
         };
-        if count < rest.len() || !self.machine.can_restore(&self.room, &jobs, &self.numbers) {
+        if count < rest.len()
+            || !self
+                .machine
+                .can_restore(&self.room, &self.jobs, &self.numbers)
+        {
             return Ok(false);
         }
         let read = Vec::from_slice(self.alloc, bytes)?;
-        self.jobs = jobs;
         self.read = Some(read);
         Ok(true)
     }
@@ -212,8 +231,13 @@ impl Expander {
         ensures placed { OnOk result (IsStateOf self.new.host self.new.machine bytes.now) }
         ensures same { self.new.host ≡ self.old.host }
     {
+        if self.is_placed {
+            jobs_fit_bytes(&self.machine);
+            return Ok(());
+        }
         self.machine
             .restore(self.alloc, &self.room, &self.jobs, &self.numbers)?;
+        self.is_placed = true;
         jobs_fit_bytes(&self.machine);
         Ok(())
     }
@@ -238,6 +262,7 @@ impl Expander {
         ensures turns { Leads self.old.host self.old.machine cpu result self.new.machine }
         ensures same { self.new.host ≡ self.old.host }
     {
+        self.is_placed = false;
         let ahead = self.machine.turn_ahead(cpu);
         fill(&mut self.machine, self.patient, cpu);
         ahead

@@ -1,7 +1,8 @@
 -- Jobs' stages one after the other, and what they are saved as.
 use Rattle.std.proofs.Common.{◌≡◌, ℕ, suc, ◌+◌, ◌<◌, List, [], ◌∷◌, ◌++◌, length, take, drop, get_or, refl, sym, ap, subst, ◌∙◌, arith, append_assoc}
 use Rattle.std.proofs.Math.Seq.{take-suc, drop-cons}
-use Rattle.std.proofs.lemmas.List.{append-nil, take-append-drop}
+use Rattle.std.specs.Prelude.{slice_set}
+use Rattle.std.proofs.lemmas.List.{append-nil, take-append-drop, take_more_set}
 use Rattle.bpf_cpu.specs.Task.{Stage, Task}
 use Rattle.bpf_machine.specs.Saved.{jobs_saved, context_of, stage_saved, AreLater, HoldWhatMayBe, HoldsWhatMayBe, IsLater}
 use Rattle.bpf_machine.proofs.StageLemmas.{stages_told}
@@ -13,20 +14,31 @@ later_last [] (t ∷ ts) first task are is = absurd are
 later_last (f ∷ fs) [] first task are is = absurd are
 later_last (f ∷ fs) (t ∷ ts) first task are is = (are.0, later_last fs ts first task are.1 is)
 
-pub later_more : (all jobs : List Task) (n : ℕ) (d task : Task) → n < length all → AreLater (take n all) jobs → IsLater (get_or all n d) task → AreLater (take (n + 1) all) (jobs ++ task ∷ [])
+later_more : (all jobs : List Task) (n : ℕ) (d task : Task) → n < length all → AreLater (take n all) jobs → IsLater (get_or all n d) task → AreLater (take (n + 1) all) (jobs ++ task ∷ [])
 later_more all jobs n d task inside are is =
     let more : n + 1 ≡ suc n = omega arith in
     let whole : take (n + 1) all ≡ take n all ++ get_or all n d ∷ [] = ap (λ (k : ℕ). take k all) more ∙ take-suc all n d inside in
     subst (λ (l : List Task). AreLater l (jobs ++ task ∷ [])) (sym whole) (later_last (take n all) jobs (get_or all n d) task are is)
 
+-- the same in place
+pub later_set : (all jobs : List Task) (n : ℕ) (d task : Task) → n < length all → n < length jobs → AreLater (take n all) (take n jobs) → IsLater (get_or all n d) task
+    → AreLater (take (n + 1) all) (take (n + 1) (slice_set jobs n task))
+later_set all jobs n d task inside within are is =
+    subst (λ (l : List Task). AreLater (take (n + 1) all) l) (sym (take_more_set jobs n task within)) (later_more all (take n jobs) n d task inside are is)
+
 pub saved_last : (jobs : List Task) (task : Task) → jobs_saved (jobs ++ task ∷ []) ≡ jobs_saved jobs ++ stage_saved task.stage
 saved_last [] task = append-nil (stage_saved task.stage)
 saved_last (t ∷ ts) task = ap (λ (l : List ℕ). stage_saved t.stage ++ l) (saved_last ts task) ∙ sym (append_assoc (stage_saved t.stage) (jobs_saved ts) (stage_saved task.stage))
 
-pub saved_more : (bytes rest behind : List ℕ) (jobs : List Task) (task : Task) → bytes ≡ jobs_saved jobs ++ rest → rest ≡ stage_saved task.stage ++ behind → bytes ≡ jobs_saved (jobs ++ task ∷ []) ++ behind
+saved_more : (bytes rest behind : List ℕ) (jobs : List Task) (task : Task) → bytes ≡ jobs_saved jobs ++ rest → rest ≡ stage_saved task.stage ++ behind → bytes ≡ jobs_saved (jobs ++ task ∷ []) ++ behind
 saved_more bytes rest behind jobs task read more =
     read ∙ (ap (λ (l : List ℕ). jobs_saved jobs ++ l) more
     ∙ (sym (append_assoc (jobs_saved jobs) (stage_saved task.stage) behind) ∙ ap (λ (l : List ℕ). l ++ behind) (sym (saved_last jobs task))))
+
+pub saved_set : (bytes rest behind : List ℕ) (jobs : List Task) (n : ℕ) (task : Task) → n < length jobs → bytes ≡ jobs_saved (take n jobs) ++ rest → rest ≡ stage_saved task.stage ++ behind
+    → bytes ≡ jobs_saved (take (n + 1) (slice_set jobs n task)) ++ behind
+saved_set bytes rest behind jobs n task within read more =
+    subst (λ (l : List Task). bytes ≡ jobs_saved l ++ behind) (sym (take_more_set jobs n task within)) (saved_more bytes rest behind (take n jobs) task read more)
 
 -- ---- equal bytes are those of equal jobs
 -- what comes behind the jobs that were read, of other jobs that are saved so

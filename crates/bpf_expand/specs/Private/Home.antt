@@ -1,5 +1,5 @@
 -- What stands in an expander fits each other.
-use Rattle.std.specs.Prelude.{◌≡◌, ℕ, ◌<◌, ◌≤◌, ◌++◌, All, IfSome, List, None, Option, length, slice_index_or}
+use Rattle.std.specs.Prelude.{◌≡◌, ℕ, Bool, true, ◌<◌, ◌≤◌, ◌++◌, All, IfSome, List, None, Option, length, slice_index_or}
 use Rattle.bpf_mem.specs.Limits.{max_context}
 use Rattle.bpf_shared.specs.Shape.{Shape}
 use Rattle.bpf_plain.specs.PlainStore.{Contents, IsSavedAs}
@@ -26,14 +26,16 @@ pub record IsRead (programs : List Loaded) (room : Contents) (first : List Task)
   pub stands : CanStand (made_of room programs jobs numbers)
   pub saved : (rest : List ℕ) × IsSavedAs room rest × (bytes ≡ jobs_saved jobs ++ rest)
 
--- a machine and a store of this shape, the jobs that wait at first, and a number for each; and the jobs
--- of the state that was read
+-- a machine and a store of this shape, the jobs that wait at first, and a number for each; as many
+-- jobs, which are those of the state that was read; and where it is so, the machine of that state
 pub record IsHome (h : Shape) (m : MachineState) (room : Contents) (first : List Task)
-    (numbers : List ℕ) (jobs : List Task) (last : Option (List ℕ)) : Type 0 where
+    (numbers : List ℕ) (jobs : List Task) (last : Option (List ℕ)) (is_placed : Bool) : Type 0 where
   pub shape : IsOfShape h m.store
   pub spare : IsOfShape h room
   pub lists : m.lists ≡ None
   pub short : AreShort first
   pub come : ComeFrom first m.jobs
   pub numbered : CountUp numbers (length first)
+  pub count : length jobs ≡ length first
   pub read : IfSome last (IsRead m.programs room first numbers jobs)
+  pub placed : is_placed ≡ true → m ≡ made_of room m.programs jobs numbers

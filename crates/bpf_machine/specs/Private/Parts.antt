@@ -26,6 +26,13 @@ pub record IsReadAs (l : Lane) (x : Listed) (task : Task) : Type 0 where
   pub budget : x.budget ≡ task.budget
   pub stage : task.stage ≡ stage_of l.hand x.phase
 
+-- ---- jobs that are read
+-- the job is in hand, with a context as long as this one
+abbrev pub HasRoom : List ℕ → Stage → Type 0
+HasRoom context (InHand state left) = length state.memory.context ≡ length context
+HasRoom context (Waiting own) = ⊥
+HasRoom context (Ended outcome) = ⊥
+
 -- ---- entries
 abbrev pub no_entry : Listed
 no_entry = record { cpu = 0; program = 0; budget = 0; phase = phase.InHand }

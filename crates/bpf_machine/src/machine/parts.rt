@@ -11,6 +11,7 @@ ghost use Rattle.bpf_machine.specs.Saved.{context_of};
 ghost use Rattle.bpf_machine.specs.Private.Parts.{IsReadAs, in_hand, waits, entry_at, IsEntryOf, IsHandOf, IsFirstWaiting, IsLaneOf, FitsIn, CanFill};
 
 mod fitting;
+mod reading;
 
 use super::Machine;
 use crate::machine::lane::{Hand, Lane, Listed, Phase, put_down};
@@ -18,6 +19,7 @@ use crate::machine::parts::fitting::can_stand;
 use bpf_base::spread;
 use bpf_cpu::{Cpu, Outcome};
 use bpf_plain::PlainStore;
+pub use reading::read_jobs;
 use std::alloc::{AllocError, Global};
 use std::marker::Model;
 
@@ -55,7 +57,7 @@ impl Model for KeptJob {
 }
 
 /// The same bytes.
-pub(crate) fn copy_bytes(alloc: Global, bytes: &[u8]) -> Result<Vec<u8>, AllocError>
+fn copy_bytes(alloc: Global, bytes: &[u8]) -> Result<Vec<u8>, AllocError>
     ensures { IfOk result (λ v. v.items ≡ bytes.now) }
 {
     let mut copy = Vec::with_capacity(alloc, bytes.len())?;
@@ -142,27 +144,12 @@ impl KeptJob {
     }
 
     /// The context that it waits with; none where it doesn't wait.
-    pub(crate) fn context(&self) -> &[u8]
+    fn context(&self) -> &[u8]
         ensures { result.now ≡ context_of self.now.stage }
     {
         match &self.stage {
             KeptStage::Waiting(context) => context,
             KeptStage::InHand(_, _) | KeptStage::Ended(_) => &[],
-        }
-    }
-
-    /// The same job in this stage.
-    pub(crate) fn in_stage(&self, stage: KeptStage) -> KeptJob
-        ensures cpu { result.cpu ≡ self.now.cpu }
-        ensures program { result.program ≡ self.now.program }
-        ensures budget { result.budget ≡ self.now.budget }
-        ensures stage { result.stage ≡ kept_stage stage }
-    {
-        KeptJob {
-            cpu: self.cpu,
-            program: self.program,
-            budget: self.budget,
-            stage,
         }
     }
 

@@ -1,0 +1,17 @@
+use Rattle.std.proofs.Common.{◌≡◌, ◌∙◌, length, subst, sym, arith}
+use Rattle.bpf_machine.specs.declared.machine.parts.KeptStage.{KeptStage}
+use Rattle.bpf_machine.specs.Kept.{kept_stage}
+use Rattle.bpf_machine.specs.Private.Parts.{HasRoom}
+use Rattle.bpf_machine.proofs.StageLemmas.{hand_no_word, hand_no_state}
+use Rattle.bpf_machine.proofs.machine.parts.reading.read_hand.Goals as goal
+
+pub returns-in_default-clause-none : goal.returns-in_default-clause-none
+returns-in_default-clause-none c = λ state left more is may e.
+    hand_no_word c.args.cpu c.args.context.now c.args.bytes.now state left more is may e c.in_default.ensures.none
+
+pub returns-in-None-clause-none : goal.returns-in-None-clause-none
+returns-in-None-clause-none c = λ state left more is may e.
+    let size : length c.read_words.new.words ≡ 1 = omega (arith, c.read_words.auto.words) in
+    let own : length c.in-InHand.state.memory.context ≡ length c.args.context.now = subst (λ (s : KeptStage). HasRoom c.args.context.now (kept_stage s)) c.in-InHand.is c.in_ok-make_room.ensures in
+    hand_no_state c.args.cpu c.args.context.now c.args.bytes.now state left more is may e c.read_words.new.words c.in-Some.rest.now size c.in-Some.ensures.fit c.in-Some.ensures.some
+    (λ other later good held long f. c.in-None.ensures.none other later good held (long ∙ sym own) f)

@@ -1,0 +1,212 @@
+//! Kept jobs from bytes. Each is read into the one that stands in its place, so that a state that
+//! is in hand there is written over: to make one costs more than to read it.
+
+ghost use Rattle.std.specs.Prelude.{◌≡◌, ◌≤◌, true, List, ◌∷◌, ◌++◌, ℕ, All, OnOk, IfOk, IfSome, IfNone, length};
+ghost use Rattle.bpf_mem.specs.Limits.{max_context};
+ghost use Rattle.bpf_cpu.specs.declared.cpu.Cpu.{Cpu};
+ghost use Rattle.bpf_cpu.specs.Task.{Stage, Task, Waiting, InHand};
+ghost use Rattle.bpf_machine.specs.Kept.{kept_stage};
+ghost use Rattle.bpf_machine.specs.Private.Parts.{HasRoom};
+ghost use Rattle.bpf_machine.specs.Saved.{context_of, jobs_saved, stage_saved, AreLater, HoldWhatMayBe, HoldsWhatMayBe, IsLater, IsSavableStage};
+
+use super::{KeptJob, KeptStage, copy_bytes};
+use bpf_cpu::{Cpu, read_outcome};
+use bpf_mem::read_words;
+use std::alloc::{AllocError, Global};
+
+/// Whether a job is in hand, with a context as long as this one.
+fn has_room(stage: &KeptStage, context: &[u8]) -> bool
+    ensures { result ≡ true → HasRoom context.now (kept_stage stage.now) }
+{
+    match stage {
+        KeptStage::InHand(state, _) => state.memory.context.bytes().len() == context.len(),
+        KeptStage::Waiting(_) | KeptStage::Ended(_) => false,
+    }
+}
+
+/// Puts a job in hand. It stands alone, or each call that reads one would clear room on the stack
+/// for the state.
+#[cold]
+#[inline(never)]
+fn put_in_hand(
+    alloc: Global,
+    cpu: u8,
+    context: &[u8],
+    stage: &mut KeptStage,
+) -> Result<(), AllocError>
+    requires { length context.now ≤ max_context }
+    ensures { OnOk result (HasRoom context.now (kept_stage stage.new)) }
+{
+    let state = Cpu::new(cpu, copy_bytes(alloc, context)?);
+    *stage = KeptStage::InHand(state, 0);
+    Ok(())
+}
+
+/// A job is in hand, with a context as long as this one.
+fn make_room(
+    alloc: Global,
+    cpu: u8,
+    context: &[u8],
+    stage: &mut KeptStage,
+) -> Result<(), AllocError>
+    requires { length context.now ≤ max_context }
+    ensures { OnOk result (HasRoom context.now (kept_stage stage.new)) }
+{
+    if has_room(stage, context) {
+        return Ok(());
+    }
+    put_in_hand(alloc, cpu, context, stage)
+}
+
+/// A stage becomes that of the job in hand, with its steps left, whose saved form the bytes begin
+/// with behind their first; what comes behind it.
+fn read_hand<'a>(
+    alloc: Global,
+    cpu: u8,
+    context: &[u8],
+    stage: &mut KeptStage,
+    bytes: &'a [u8],
+) -> Result<Option<&'a [u8]>, AllocError>
+    requires { length context.now ≤ max_context }
+    ensures some { IfOk result (λ o. IfSome o (λ rest.
+        1 ∷ bytes.now ≡ stage_saved (kept_stage stage.new) ++ rest.now)) }
+    ensures savable { IfOk result (λ o. IfSome o (λ rest.
+        IsSavableStage cpu context.now (kept_stage stage.new))) }
+    ensures none { IfOk result (λ o. IfNone o ((state : Cpu) (left : ℕ) (more : List ℕ)
+        → IsSavableStage cpu context.now (InHand state left)
+        → HoldsWhatMayBe (InHand state left)
+        → 1 ∷ bytes.now ≡ stage_saved (InHand state left) ++ more → ⊥)) }
+{
+    let mut words = [0; 1];
+    let Some(rest) = read_words(&mut words, bytes) else {
+        return Ok(None);
+    };
+    make_room(alloc, cpu, context, stage)?;
+    match stage {
+        KeptStage::InHand(state, left) => {
+            state.number = cpu;
+            *left = words[0];
+            match state.restore(rest) {
+                Some(rest) => Ok(Some(rest)),
+                None => Ok(None),
+            }
+        }
+        KeptStage::Waiting(_) | KeptStage::Ended(_) => unreachable!(),
+    }
+}
+
+/// Whether a job waits with this context.
+fn waits_with(stage: &KeptStage, context: &[u8]) -> bool
+    ensures { result ≡ true → kept_stage stage.now ≡ Waiting context.now }
+{
+    match stage {
+        KeptStage::Waiting(own) => own.as_slice() == context,
+        KeptStage::InHand(_, _) | KeptStage::Ended(_) => false,
+    }
+}
+
+/// A stage becomes that of a job that waits with this context.
+fn wait_with(alloc: Global, context: &[u8], stage: &mut KeptStage) -> Result<(), AllocError>
+    ensures { OnOk result (kept_stage stage.new ≡ Waiting context.now) }
+{
+    if waits_with(stage, context) {
+        return Ok(());
+    }
+    *stage = KeptStage::Waiting(copy_bytes(alloc, context)?);
+    Ok(())
+}
+
+/// A stage becomes the one whose saved form the bytes begin with, of a job on this CPU that has
+/// this context; what comes behind it. `None` where no stage of such a job has such a form, and
+/// then it may be any.
+fn read_stage<'a>(
+    alloc: Global,
+    cpu: u8,
+    context: &[u8],
+    stage: &mut KeptStage,
+    bytes: &'a [u8],
+) -> Result<Option<&'a [u8]>, AllocError>
+    requires { length context.now ≤ max_context }
+    ensures some { IfOk result (λ o. IfSome o (λ rest.
+        bytes.now ≡ stage_saved (kept_stage stage.new) ++ rest.now)) }
+    ensures savable { IfOk result (λ o. IfSome o (λ rest.
+        IsSavableStage cpu context.now (kept_stage stage.new))) }
+    ensures none { IfOk result (λ o. IfNone o ((other : Stage) (more : List ℕ)
+        → IsSavableStage cpu context.now other → HoldsWhatMayBe other
+        → bytes.now ≡ stage_saved other ++ more → ⊥)) }
+{
+    if bytes.is_empty() {
+        return Ok(None);
+    }
+    let rest = &bytes[1..];
+    match bytes[0] {
+        0 => {
+            wait_with(alloc, context, stage)?;
+            Ok(Some(rest))
+        }
+        1 => read_hand(alloc, cpu, context, stage, rest),
+        2 => match read_outcome(rest) {
+            Some((outcome, rest)) => {
+                *stage = KeptStage::Ended(outcome);
+                Ok(Some(rest))
+            }
+            None => Ok(None),
+        },
+        _ => Ok(None),
+    }
+}
+
+impl KeptJob {
+    /// Becomes the job that one which waited is, whose saved form the bytes begin with; what comes
+    /// behind it. `None` where it has no stage of such a form, and then it may be any.
+    fn read<'a>(
+        &mut self,
+        alloc: Global,
+        first: &KeptJob,
+        bytes: &'a [u8],
+    ) -> Result<Option<&'a [u8]>, AllocError>
+        requires { length (context_of first.now.stage) ≤ max_context }
+        ensures some { IfOk result (λ o. IfSome o (λ rest.
+            bytes.now ≡ stage_saved self.new.stage ++ rest.now)) }
+        ensures later { IfOk result (λ o. IfSome o (λ rest. IsLater first.now self.new)) }
+        ensures none { IfOk result (λ o. IfNone o ((task : Task) (more : List ℕ)
+            → IsLater first.now task → HoldsWhatMayBe task.stage
+            → bytes.now ≡ stage_saved task.stage ++ more → ⊥)) }
+    {
+        self.cpu = first.cpu;
+        self.program = first.program;
+        self.budget = first.budget;
+        match read_stage(alloc, first.cpu, first.context(), &mut self.stage, bytes)? {
+            Some(rest) => Ok(Some(rest)),
+            None => Ok(None),
+        }
+    }
+}
+
+/// Jobs become those that these which waited are, whose saved forms the bytes begin with, one
+/// after the other; what comes behind them. `None` where none of their stages have such forms, and
+/// then they may be any. No memory is taken where each that is to be in hand is so already.
+pub fn read_jobs<'a>(
+    alloc: Global,
+    first: &[KeptJob],
+    jobs: &mut [KeptJob],
+    bytes: &'a [u8],
+) -> Result<Option<&'a [u8]>, AllocError>
+    requires count { length jobs.old ≡ length first.now }
+    requires short { All (λ task. length (context_of task.stage) ≤ max_context) first.now }
+    ensures some { IfOk result (λ o. IfSome o (λ rest.
+        bytes.now ≡ jobs_saved jobs.new ++ rest.now)) }
+    ensures later { IfOk result (λ o. IfSome o (λ rest. AreLater first.now jobs.new)) }
+    ensures none { IfOk result (λ o. IfNone o ((others : List Task) (more : List ℕ)
+        → AreLater first.now others → HoldWhatMayBe others
+        → bytes.now ≡ jobs_saved others ++ more → ⊥)) }
+{
+    let mut rest = bytes;
+    for job in 0..first.len() {
+        let Some(behind) = jobs[job].read(alloc, &first[job], rest)? else {
+            return Ok(None);
+        };
+        rest = behind;
+    }
+    Ok(Some(rest))
+}
