@@ -8,6 +8,9 @@ use bpf_codes::Code;
 use bpf_lines::to_hex;
 use std::alloc::{AllocError, Global};
 
+/// How many bytes mostly stand round a state's digits in its line.
+const AROUND: usize = 24;
+
 /// The CPU, and how many turns it made.
 fn by_text(alloc: Global, successor: &Successor) -> Result<String, AllocError>
     ensures { IfOk result (λ text. string_bytes text ≡ by_text successor.now) }
@@ -29,12 +32,23 @@ fn push_successor(alloc: Global, text: &mut String, successor: &Successor) -> Re
     text.push_str(by.as_str())
 }
 
+/// How many bytes to make room for: two digits for each of the states' bytes, and what stands round
+/// them.
+fn likely_size(found: &[Successor]) -> usize {
+    let mut size: usize = 0;
+    for successor in found {
+        let digits = successor.bytes.len().saturating_mul(2);
+        size = size.saturating_add(digits).saturating_add(AROUND);
+    }
+    size
+}
+
 /// The lines of states.
 pub(crate) fn successor_lines(alloc: Global, found: &[Successor]) -> Result<String, AllocError>
     ensures { IfOk result (λ text. string_bytes text
         ≡ successor_lines (length found.now) found.now) }
 {
-    let mut text = String::new(alloc);
+    let mut text = String::with_capacity(alloc, likely_size(found))?;
     for successor in found {
         push_successor(alloc, &mut text, successor)?;
     }
