@@ -6,3 +6,4 @@ pub mod Turning
 pub mod Reporting
 pub mod Answered
 pub mod Fitting
+pub mod DigitLemmas

@@ -1,2 +1,3 @@
 pub mod Home
 pub mod Next
+pub mod Digits

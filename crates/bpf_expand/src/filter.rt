@@ -1,7 +1,6 @@
 //! A filter of lines: each is a state, and answered by what CPUs' turns lead to from it.
 
-ghost use Rattle.std.specs.Prelude.{◌≡◌, ◌<◌, ◌≤◌, ℕ, List, All, IfNone, IfOk, IfSome, Ok, false, map, string_bytes, true, vec_len};
-ghost use Rattle.hex.specs.Hex.{decode_of};
+ghost use Rattle.std.specs.Prelude.{◌≡◌, ◌<◌, ◌≤◌, All, IfNone, IfOk, IfSome, false, map, string_bytes, true, vec_len};
 ghost use Rattle.bpf_mem.specs.Limits.{max_context};
 ghost use Rattle.bpf_cpu.specs.Task.{waiting};
 ghost use Rattle.bpf_machine.specs.Machine.{Shows};
@@ -9,6 +8,7 @@ ghost use Rattle.bpf_jobs.specs.Printed.{first_world};
 ghost use Rattle.bpf_expand.specs.Filter.{IsFirstLine, host_of, new_filter};
 ghost use Rattle.bpf_expand.specs.Lines.{no_state_line};
 
+use crate::digits::line_bytes;
 use crate::expander::Expander;
 use crate::lines::{no_state_line, report_line, state_line, successor_lines};
 use bpf_cpu::Job;
@@ -17,7 +17,6 @@ use bpf_jobs::make_machine;
 use bpf_loader::Program;
 use bpf_shared::StoreShape;
 use bpf_talk::Respond;
-use hex::FromHexError;
 use std::alloc::{AllocError, Global};
 use std::marker::Model;
 
@@ -46,19 +45,6 @@ impl Model for Filter {
       lines = f.lines;
       told = told_text f.told;
     } };
-}
-
-/// The bytes that a line has as hex digits.
-fn line_bytes(alloc: Global, line: &[u8]) -> Result<Option<Vec<u8>>, AllocError>
-    ensures some { IfOk result (λ o. IfSome o (λ bytes. decode_of line.now ≡ Ok bytes.items)) }
-    ensures none { IfOk result (λ o. IfNone o ((bytes : List ℕ) → decode_of line.now ≡ Ok bytes
-        → ⊥)) }
-{
-    match hex::decode(alloc, line) {
-        Ok(bytes) => Ok(Some(bytes)),
-        Err(FromHexError::OutOfMemory) => Err(AllocError),
-        Err(_) => Ok(None),
-    }
 }
 
 /// What is printed of a line that is told, or that is no state; whether it is refused.

@@ -1,6 +1,7 @@
 //! States of a search as bytes, and what the CPUs' turns lead to from such bytes.
 #![tactic(auto)]
 
+mod digits;
 mod expander;
 mod filter;
 mod jobs;
