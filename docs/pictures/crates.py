@@ -104,10 +104,14 @@ def drawn(points):
 def main():
     lines = ways()
     rows, x = laid_out(lines)
+    # A level of many crates is wider than what was aimed at.
+    left, right = min(0, min(x.values()) - WIDE / 2 - 4), max(x.values()) + WIDE / 2 + 4
+    width = max(WIDTH, round(right - left))
+    x = {it: at - left for it, at in x.items()}
     height = FOOT + (len(rows) - 1) * HIGH + TALL + 8
     named = [[it for it in row if isinstance(it, str)] for row in rows]
     shows = "; ".join(f"level {at}: {', '.join(row)}" for at, row in enumerate(named))
-    picture = Picture(WIDTH, height, "The crates by level", shows)
+    picture = Picture(width, height, "The crates by level", shows)
     y = {it: height - FOOT - at * HIGH - TALL for at, row in enumerate(rows) for it in row}
     for one, *between, under in lines:
         points = [(x[one], y[one] + TALL, 0), *((x[it], y[it], TALL) for it in between), (x[under], y[under], 0)]

@@ -182,7 +182,7 @@ abbrev pub expand_options : App
 expand_options = with_rule (with_rule (with_rule (new_app (codes "expand")) explained) first) patient
 
 abbrev pub expand : App
-expand = with_rule expand_options file
+expand = with_rule (with_rule expand_options races) file
 
 -- the code that `explain` is asked for
 abbrev pub code_rule : Rule

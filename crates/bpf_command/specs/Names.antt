@@ -100,8 +100,9 @@ Names (Some found) (command.Races options) = (found.0 ≡ codes "explore")
     × (do_part_races found.1 ≡ false) × (is_given (codes "races") found.1 ≡ true)
 Names (Some found) (command.Check options) = (found.0 ≡ codes "check")
     × NamesSearch found.1 options
-Names (Some found) (command.Expand first patient) = (found.0 ≡ codes "expand")
+Names (Some found) (command.Expand first patient races) = (found.0 ≡ codes "expand")
     × (first ≡ is_given (codes "first") found.1) × (patient ≡ is_given (codes "patient") found.1)
+    × (races ≡ is_given (codes "races") found.1)
 Names (Some found) (command.Debug echo strict) = (found.0 ≡ codes "debug")
     × (echo ≡ is_given (codes "echo") found.1) × (strict ≡ is_given (codes "strict") found.1)
 

@@ -129,6 +129,8 @@ pub enum Command {
         first: bool,
         /// To pass over how many steps are left of budgets.
         patient: bool,
+        /// To tell the data races of each state before what it leads to.
+        races: bool,
     },
     /// Run the jobs of a run file by commands, and show what they ask for.
     Debug {

@@ -341,7 +341,12 @@ fn expand_of(options: &ArgMatches) -> Command
 {
     let first = is_given(options, "first");
     let patient = is_given(options, "patient");
-    Command::Expand { first, patient }
+    let races = is_given(options, "races");
+    Command::Expand {
+        first,
+        patient,
+        races,
+    }
 }
 
 fn named(alloc: Global, name: &str, options: &ArgMatches) -> Result<Command, CommandError>

@@ -169,7 +169,10 @@ line 'report HEX' is printed: the bytes of the lines that 'run --maps' prints. A
 of FILE is answered 'refused X1 LINE', LINE counted from 1, and the next one is read. Each line is
 answered before more is read. Where standard input is the run file itself, --first alone is of use.
 
-With --patient states that differ only in the steps that are left of budgets count as one.
+With --patient states that differ only in the steps that are left of budgets count as one. With
+--races, lines 'race cpu C pc P cpu D pc Q map NAME KEY' stand before a state's others, by rising pair
+of CPUs: the next steps of the two touch one byte of that value, one of them writes it, and not both
+are atomic. KEY is 'deleted' where the value has left its map.
 
 For example
   $ ebpf expand --first examples/first-insert.run > first
@@ -668,7 +671,18 @@ fn alike_option<'a>(alloc: Global) -> Arg<'a>
         .help("Takes states for one that differ only in the steps that are left of budgets")
 }
 
-/// The command `expand` before its file.
+/// The option `--races` of a command that makes no search of its own.
+fn state_races_option<'a>(alloc: Global) -> Arg<'a>
+    ensures rule { rule_of result ≡ races }
+    ensures own { result.global ≡ false }
+{
+    Arg::new(alloc, "races")
+        .long("races")
+        .action(ArgAction::SetTrue)
+        .help("Prints the data races of each state before what it leads to")
+}
+
+/// The command `expand` before its last option and its file.
 fn expand_options<'a>(alloc: Global) -> Result<Command<'a>, AllocError>
     ensures shape { IfOk result (λ c. shape_of c ≡ expand_options.top) }
     ensures own { IfOk result (λ c. (fields_of c).has_globals ≡ false) }
@@ -687,7 +701,9 @@ fn expand_command<'a>(alloc: Global) -> Result<Command<'a>, AllocError>
     ensures shape { IfOk result (λ c. shape_of c ≡ expand.top) }
     ensures own { IfOk result (λ c. (fields_of c).has_globals ≡ false) }
 {
-    expand_options(alloc)?.arg(file_argument(alloc))
+    expand_options(alloc)?
+        .arg(state_races_option(alloc))?
+        .arg(file_argument(alloc))
 }
 
 /// The command `debug` before its file.

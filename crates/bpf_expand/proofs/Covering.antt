@@ -2,16 +2,18 @@
 use Rattle.std.proofs.Common.{◌≡◌, ◌⊎◌, Bool, true, false, ℕ, zero, suc, List, [], ◌∷◌, Some, inl, inr, refl, subst}
 use Rattle.std.specs.Prelude.{slice_get}
 use Rattle.bpf_plain.specs.Alike.{AlikeStandAlike, SavedAlikeLookAlike}
-use Rattle.bpf_machine.specs.Schedule.{World}
+use Rattle.bpf_machine.specs.Schedule.{World, RunsSchedule}
+use Rattle.bpf_machine.specs.Laws.{IsFresh}
+use Rattle.bpf_machine.specs.Race.{IsRace, RacesAreKept}
 use Rattle.bpf_machine.specs.Machine.{MachineState, Shows}
 use Rattle.bpf_machine.specs.Hands.{IsFree}
 use Rattle.bpf_machine.specs.Headways.{with_jobs}
 use Rattle.bpf_machine.specs.Cover.{ClosedSetsCover, IsClosed, IsKeptAs, IsShown, TurnsAhead, TurnsTo}
-use Rattle.bpf_machine.specs.Patient.{IsClosedRichly, IsKeptRichly, PatientSetsCover}
+use Rattle.bpf_machine.specs.Patient.{IsClosedRichly, IsKeptRichly, PatientRacesAreKept, PatientSetsCover}
 use Rattle.bpf_machine.proofs.CoverLaws.{idle_turns_to}
 use Rattle.bpf_explore.proofs.RichLaws.{refilled_shows}
 use Rattle.bpf_expand.specs.State.{Fills, Host, IsStateOf, IsIdleIn, IsSuccessor}
-use Rattle.bpf_expand.specs.Laws.{AreClosed, AreOf, IsAmong, PatientStatesCover, StatesCover}
+use Rattle.bpf_expand.specs.Laws.{AreClosed, AreOf, FitBudgets, IsAmong, PatientStatesCover, StatesCover}
 use Rattle.bpf_expand.proofs.Alike.{same_jobs, shows_too, turns_too, free_too, waits_too}
 
 -- ---- a machine of each state
@@ -49,6 +51,10 @@ turns_to m c n new (answer, mid, headway, turn, ahead, count) = (answer, mid, he
 fills_nothing : (patient : Bool) (m : MachineState) (c : ℕ) → IsFree m.jobs c → Fills patient m c m
 fills_nothing false m c free = refl
 fills_nothing true m c free = inl (free, refl)
+
+-- the race is one in what a machine of one of the states shows
+abbrev pub IsRaceOf : Host → List (List ℕ) → ℕ → ℕ → ℕ → ℕ → ℕ → Type 0
+IsRaceOf h states c p d q b = (v : World) × (m : MachineState) × (bytes : List ℕ) × IsAmong states bytes × IsStateOf h m bytes × Shows m v × IsRace v c p d q b
 
 -- ---- they are closed
 module _ (look : SavedAlikeLookAlike) (stand : AlikeStandAlike) (h : Host) (states : List (List ℕ)) (closed : AreClosed h states) where
@@ -108,6 +114,10 @@ module _ (look : SavedAlikeLookAlike) (stand : AlikeStandAlike) (h : Host) (stat
       shown_by : IsKeptAs kept first → IsShown kept w
       shown_by (i, one, at, too) = (i, one, at, too w shown)
 
+  of_race : (c p d q b : ℕ) → ((v : World) × IsShown kept v × IsRace v c p d q b) → IsRaceOf h states c p d q b
+  unfolding kept
+  of_race c p d q b (v, (i, m, at, shows), race) = let s = machine_of h states each i m at in (v, m, s.0, (i, s.1), s.2, shows, race)
+
 pub states_cover : SavedAlikeLookAlike → AlikeStandAlike → ClosedSetsCover → StatesCover
 states_cover look stand cover h states first bytes w z schedule exact closed is among fresh shown runs =
     let all = kept look stand h states closed in
@@ -119,3 +129,13 @@ patient_states_cover look stand cover h states first bytes w z schedule passes c
     let all = kept look stand h states closed in
     let covers = cover all w z schedule (are_closed_richly look stand h states closed passes) fresh (is_shown look stand h states closed first bytes w is among shown) runs fit in
     (all, are_of look stand h states closed, covers.0, covers.1)
+
+-- each race that schedules lead to is such a one
+pub race_of_state : SavedAlikeLookAlike → AlikeStandAlike → RacesAreKept → PatientRacesAreKept → (h : Host) (states : List (List ℕ)) (first : MachineState) (bytes : List ℕ) (w z : World) (schedule : List ℕ) (patient : Bool) → h.patient ≡ patient
+    → AreClosed h states → IsStateOf h first bytes → IsAmong states bytes → IsFresh w → Shows first w → RunsSchedule w schedule z → FitBudgets h.patient z.jobs → (c p d q b : ℕ) → IsRace z c p d q b → IsRaceOf h states c p d q b
+race_of_state look stand law patiently h states first bytes w z schedule false exact closed is among fresh shown runs fit c p d q b race =
+    of_race look stand h states closed c p d q b
+    (law (kept look stand h states closed) w z schedule (are_closed look stand h states closed exact) fresh (is_shown look stand h states closed first bytes w is among shown) runs c p d q b race)
+race_of_state look stand law patiently h states first bytes w z schedule true passes closed is among fresh shown runs fit c p d q b race =
+    of_race look stand h states closed c p d q b
+    (patiently (kept look stand h states closed) w z schedule (are_closed_richly look stand h states closed passes) fresh (is_shown look stand h states closed first bytes w is among shown) runs (fit passes) c p d q b race)

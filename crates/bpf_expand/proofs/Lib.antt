@@ -4,6 +4,7 @@ pub mod Covering
 pub mod Taking
 pub mod Turning
 pub mod Reporting
+pub mod Racing
 pub mod Answered
 pub mod Fitting
 pub mod DigitLemmas

@@ -1,5 +1,5 @@
 -- Lines that are closed under what they are answered have the report of each end.
-use Rattle.std.proofs.Common.{◌≡◌, ◌∙◌, ◌⊎◌, Bool, true, ℕ, zero, suc, List, [], ◌∷◌, Some, inl, inr, refl, sym, ap, subst}
+use Rattle.std.proofs.Common.{◌≡◌, ◌∙◌, ◌⊎◌, Bool, true, false, ℕ, zero, suc, List, [], ◌∷◌, Some, inl, inr, refl, sym, ap, subst}
 use Rattle.std.specs.Prelude.{◌≢◌, All, Ok, slice_get}
 use Rattle.std.proofs.lemmas.List.Elements.{All-head, All-tail}
 use Rattle.hex.specs.Hex.{decode_of}
@@ -7,8 +7,9 @@ use Rattle.bpf_plain.specs.Alike.{AlikeStandAlike, SavedAlikeLookAlike}
 use Rattle.bpf_cpu.specs.declared.outcome.Outcome.{Outcome}
 use Rattle.bpf_cpu.specs.Task.{Stage, Task, Waiting, InHand, Ended}
 use Rattle.bpf_machine.specs.Hands.{IsAt}
-use Rattle.bpf_machine.specs.Schedule.{World}
+use Rattle.bpf_machine.specs.Schedule.{World, RunsSchedule}
 use Rattle.bpf_machine.specs.Rounds.{HaveEnded}
+use Rattle.bpf_machine.specs.Laws.{IsFresh}
 use Rattle.bpf_machine.specs.Machine.{MachineState, Shows}
 use Rattle.bpf_machine.specs.Cover.{IsShown}
 use Rattle.bpf_jobs.specs.Printed.{Tells}
@@ -17,7 +18,7 @@ use Rattle.bpf_expand.specs.State.{Host, AreSuccessors, HasSuccessor, HasWork, H
 use Rattle.bpf_shared.specs.Shape.{Shape}
 use Rattle.bpf_loader.specs.Loaded.{Loaded}
 use Rattle.bpf_expand.specs.Filter.{IsReportIn, host_of}
-use Rattle.bpf_expand.specs.Laws.{AreAnswered, AreClosed, AreOf, HasLine, IsAmong, IsAnswered, IsReported, LinesCover, StatesCover}
+use Rattle.bpf_expand.specs.Laws.{AreAnswered, AreClosed, AreOf, HasLine, IsAmong, IsAnswered, IsReported, FitBudgets, LinesCover, PatientStatesCover, StatesCover}
 use Rattle.bpf_expand.proofs.Alike.{same_jobs, shows_too}
 
 -- ---- the states that lines are
@@ -89,18 +90,18 @@ module _ (h : Host) (bytes : List ℕ) where
   all_ended m is are j task at = has_ended m j task task.stage is at refl (idle_of task.cpu (are.all task.cpu))
 
 -- ---- what is reported
-module _ (look : SavedAlikeLookAlike) (stand : AlikeStandAlike) (cover : StatesCover) (h : Host) (names lines : List (List ℕ)) (answered : AreAnswered h names lines) where
+module _ (look : SavedAlikeLookAlike) (stand : AlikeStandAlike) (h : Host) (names lines : List (List ℕ)) (answered : AreAnswered h names lines) where
   each : Decoded lines
   each i line at = let a = answered line (i, at) in (a.0, a.1)
 
-  all : List (List ℕ)
+  pub all : List (List ℕ)
   all = states lines each
 
-  has_line : (bytes : List ℕ) → IsAmong all bytes → HasLine lines bytes
+  pub has_line : (bytes : List ℕ) → IsAmong all bytes → HasLine lines bytes
   unfolding all
   has_line bytes (i, at) = let l = line_at lines each i bytes at in (l.0, (i, l.1), l.2)
 
-  is_among : (bytes : List ℕ) → HasLine lines bytes → IsAmong all bytes
+  pub is_among : (bytes : List ℕ) → HasLine lines bytes → IsAmong all bytes
   unfolding all
   is_among bytes (line, (i, at), is) = (i, bytes_at lines each i line bytes at is)
 
@@ -138,7 +139,7 @@ module _ (look : SavedAlikeLookAlike) (stand : AlikeStandAlike) (cover : StatesC
       let one : b ≡ bytes = cc (sym same ∙ is) in
       inl (idle_end bytes report c (subst (λ (b : List ℕ). IsReportIn h names b report) one told))
 
-  are_closed : AreClosed h all
+  pub are_closed : AreClosed h all
   are_closed bytes c among = let l = has_line bytes among in closed_by l.0 bytes c l.2 (answered l.0 l.1)
 
   -- the line of an end is answered by its report
@@ -161,16 +162,27 @@ module _ (look : SavedAlikeLookAlike) (stand : AlikeStandAlike) (cover : StatesC
           let there = shows_too look stand h m x bytes state isx z shows in
           subst (λ (ts : List Task). Tells z.store ts names true report stopped) (sym there.jobs) (told z.store there.sound there.store)
 
-pub lines_cover : SavedAlikeLookAlike → AlikeStandAlike → StatesCover → LinesCover
-lines_cover look stand cover h names lines first bytes w z schedule exact answered is has fresh shown runs ended =
-    let all = all look stand cover h names lines answered in
-    let covered = cover h all first bytes w z schedule exact (are_closed look stand cover h names lines answered) is (is_among look stand cover h names lines answered bytes has) fresh shown runs in
-    at_end covered.0 covered.1 (covered.3 ended)
+-- a machine of a line shows the end of a schedule
+abbrev IsShownAtEnd : Host → List (List ℕ) → World → Type 0
+IsShownAtEnd h states z = (machines : List MachineState) × AreOf h states machines × IsShown machines z
+
+shown_at_end : StatesCover → PatientStatesCover → (h : Host) (states : List (List ℕ)) (first : MachineState) (bytes : List ℕ) (w z : World) (schedule : List ℕ) (patient : Bool) → h.patient ≡ patient
+    → AreClosed h states → IsStateOf h first bytes → IsAmong states bytes → IsFresh w → Shows first w → RunsSchedule w schedule z → FitBudgets h.patient z.jobs → HaveEnded z.jobs → IsShownAtEnd h states z
+shown_at_end cover patiently h states first bytes w z schedule false exact closed is among fresh shown runs fit ended =
+    let covered = cover h states first bytes w z schedule exact closed is among fresh shown runs in
+    (covered.0, covered.1, covered.3 ended)
+shown_at_end cover patiently h states first bytes w z schedule true passes closed is among fresh shown runs fit ended =
+    let covered = patiently h states first bytes w z schedule passes closed is among fresh shown runs (fit passes) in
+    (covered.0, covered.1, covered.3 ended)
+
+pub lines_cover : SavedAlikeLookAlike → AlikeStandAlike → StatesCover → PatientStatesCover → LinesCover
+lines_cover look stand cover patiently h names lines first bytes w z schedule answered is has fresh shown runs fit ended =
+    at_end (shown_at_end cover patiently h (all look stand h names lines answered) first bytes w z schedule h.patient refl (are_closed look stand h names lines answered) is (is_among look stand h names lines answered bytes has) fresh shown runs fit ended)
   where
-    at_end : (machines : List MachineState) → AreOf h (all look stand cover h names lines answered) machines → IsShown machines z → IsReported h names lines z
-    at_end machines of (i, m, at, shows) =
+    at_end : IsShownAtEnd h (all look stand h names lines answered) z → IsReported h names lines z
+    at_end (machines, of, (i, m, at, shows)) =
         let b = of i m at in
-        reported look stand cover h names lines answered z b.0 m ended (has_line look stand cover h names lines answered b.0 b.1) b.2 shows
+        reported look stand h names lines answered z b.0 m ended (has_line look stand h names lines answered b.0 b.1) b.2 shows
 
 -- ---- what is made
 pub host_is : (h : Host) (patient : Bool) (shape : Shape) (programs : List Loaded) (jobs : List Task) → h.patient ≡ patient → h.shape ≡ shape → h.programs ≡ programs → h.jobs ≡ jobs

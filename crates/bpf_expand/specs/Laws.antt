@@ -1,7 +1,9 @@
 -- Sets of states that cover all that schedules lead to.
-use Rattle.std.specs.Prelude.{◌≡◌, ◌≢◌, ℕ, ◌⊎◌, All, Bool, false, true, List, [], Ok, Some, slice_get}
+use Rattle.std.specs.Prelude.{◌≡◌, ◌≢◌, ℕ, ◌<◌, ◌⊎◌, All, Bool, false, true, List, [], Ok, Some, slice_get}
 use Rattle.hex.specs.Hex.{decode_of}
+use Rattle.bpf_cpu.specs.Task.{Task}
 use Rattle.bpf_machine.specs.Schedule.{World, RunsSchedule}
+use Rattle.bpf_machine.specs.Race.{IsRace}
 use Rattle.bpf_machine.specs.Rounds.{HaveEnded}
 use Rattle.bpf_machine.specs.Machine.{MachineState, Shows}
 use Rattle.bpf_machine.specs.Laws.{IsFresh}
@@ -9,7 +11,8 @@ use Rattle.bpf_machine.specs.Patient.{IsCoveredRichly, NoneRanOut}
 use Rattle.bpf_machine.specs.Cover.{IsShown, IsCovered}
 use Rattle.bpf_jobs.specs.Printed.{Tells}
 use Rattle.bpf_expand.specs.declared.successor.Successor.{Successor}
-use Rattle.bpf_expand.specs.Filter.{IsReportIn}
+use Rattle.bpf_races.specs.Races.{RaceFound, IsListed}
+use Rattle.bpf_expand.specs.Filter.{AreRacesOf, IsReportIn}
 use Rattle.bpf_expand.specs.State.{Host, AreSuccessors, IsStateOf, IsIdleIn, IsSuccessor}
 
 -- the bytes are among these
@@ -69,12 +72,38 @@ abbrev pub IsReported : Host → List (List ℕ) → List (List ℕ) → World �
 IsReported h names lines z = (bytes report : List ℕ) × (stopped : Bool) × HasLine lines bytes
     × IsReportIn h names bytes report × Tells z.store z.jobs names true report stopped
 
+-- where budgets are passed over, no job has run out of its own
+abbrev pub FitBudgets : (patient : Bool) → List Task → Type 0
+FitBudgets patient jobs = patient ≡ true → NoneRanOut jobs
+
 -- lines that are closed so, the first state's among them, have all outcomes: whatever schedule leads
--- to an end from what a machine shows before its first turn, a line's report is told of it
+-- to an end from what a machine shows before its first turn, a line's report is told of it; of a
+-- patient host, whatever schedule in which no job runs out of budget
 abbrev pub LinesCover : Type 0
 LinesCover =
     (h : Host) (names lines : List (List ℕ)) (first : MachineState) (bytes : List ℕ) (w z : World)
     (schedule : List ℕ)
-    → h.patient ≡ false → AreAnswered h names lines → IsStateOf h first bytes → HasLine lines bytes
-    → IsFresh w → Shows first w → RunsSchedule w schedule z → HaveEnded z.jobs
-    → IsReported h names lines z
+    → AreAnswered h names lines → IsStateOf h first bytes → HasLine lines bytes
+    → IsFresh w → Shows first w → RunsSchedule w schedule z → FitBudgets h.patient z.jobs
+    → HaveEnded z.jobs → IsReported h names lines z
+
+-- each of the lines is answered by these races
+abbrev pub AreTold : Host → List (List ℕ) → (List ℕ → List RaceFound) → Type 0
+AreTold h lines told = (line : List ℕ) → IsAmong lines line
+    → (bytes : List ℕ) × (decode_of line ≡ Ok bytes) × AreRacesOf h bytes (told line)
+
+-- one of the lines is answered by a race of these CPUs at these pcs
+abbrev pub IsToldAmong : List (List ℕ) → (List ℕ → List RaceFound) → ℕ → ℕ → ℕ → ℕ → Type 0
+IsToldAmong lines told c p d q =
+    (line : List ℕ) × IsAmong lines line × IsListed (told line) c p d q
+
+-- if races are told, such lines have all of them: whatever CPUs race at whatever pcs, wherever such a
+-- schedule leads, the answer of one of the lines has it
+abbrev pub LinesHaveRaces : Type 0
+LinesHaveRaces =
+    (h : Host) (names lines : List (List ℕ)) (told : List ℕ → List RaceFound)
+    (first : MachineState) (bytes : List ℕ) (w z : World) (schedule : List ℕ)
+    → AreAnswered h names lines → AreTold h lines told → IsStateOf h first bytes
+    → HasLine lines bytes → IsFresh w → Shows first w → RunsSchedule w schedule z
+    → FitBudgets h.patient z.jobs → (c p d q b : ℕ) → c < d → IsRace z c p d q b
+    → IsToldAmong lines told c p d q

@@ -1,3 +1,4 @@
 pub mod Home
 pub mod Next
 pub mod Digits
+pub mod Races

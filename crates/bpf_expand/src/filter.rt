@@ -1,12 +1,13 @@
 //! A filter of lines: each is a state, and answered by what CPUs' turns lead to from it.
 
-ghost use Rattle.std.specs.Prelude.{◌≡◌, ◌<◌, ◌≤◌, All, IfNone, IfOk, IfSome, false, map, string_bytes, true, vec_len};
+ghost use Rattle.std.specs.Prelude.{◌≡◌, ◌<◌, ◌≤◌, ◌++◌, All, IfNone, IfOk, IfSome, false, is_some, map, string_bytes, true, vec_len};
 ghost use Rattle.bpf_mem.specs.Limits.{max_context};
 ghost use Rattle.bpf_cpu.specs.Task.{waiting};
 ghost use Rattle.bpf_machine.specs.Machine.{Shows};
 ghost use Rattle.bpf_jobs.specs.Printed.{first_world};
 ghost use Rattle.bpf_expand.specs.Filter.{IsFirstLine, host_of, new_filter};
 ghost use Rattle.bpf_expand.specs.Lines.{no_state_line};
+ghost use Rattle.bpf_expand.specs.Private.Races.{TellsRaces};
 
 use crate::digits::line_bytes;
 use crate::expander::Expander;
@@ -15,6 +16,8 @@ use bpf_cpu::Job;
 use bpf_explore::copy_shape;
 use bpf_jobs::make_machine;
 use bpf_loader::Program;
+use bpf_machine::Machine;
+use bpf_races::{Watcher, list_races_in, races_in};
 use bpf_shared::StoreShape;
 use bpf_talk::Respond;
 use std::alloc::{AllocError, Global};
@@ -28,13 +31,15 @@ const NO_MEMORY: &str = "refused L9\n";
 pub struct Filter {
     expander: Expander,
     names: Vec<String>,
+    /// Where races are told: what tells them.
+    watcher: Option<Watcher>,
     /// How many lines were answered, counted up to the greatest `u64`.
     lines: u64,
     told: Result<String, AllocError>,
 }
 
 impl Model for Filter {
-    ghost use Rattle.std.specs.Prelude.{map, string_bytes};
+    ghost use Rattle.std.specs.Prelude.{is_some, map, string_bytes};
     ghost use Rattle.bpf_expand.specs.Filter.{FilterState, told_text};
 
     ghost Value = { FilterState };
@@ -42,6 +47,7 @@ impl Model for Filter {
     ghost view = { λ f. record {
       host = f.expander.host;
       names = map string_bytes f.names.items;
+      races = is_some f.watcher;
       lines = f.lines;
       told = told_text f.told;
     } };
@@ -80,15 +86,72 @@ fn open(
     Expander::new(alloc, patient, shape, machine)
 }
 
+/// What tells races over stores of this shape, if they are to be told.
+fn watcher_of(alloc: Global, races: bool, shape: &StoreShape) -> Result<Option<Watcher>, AllocError>
+    ensures { IfOk result (λ o. is_some o ≡ races) }
+{
+    if !races {
+        return Ok(None);
+    }
+    let copy = copy_shape(alloc, shape)?;
+    let watcher = Watcher::new(alloc, copy)?;
+    Ok(Some(watcher))
+}
+
+/// The lines of the races of a machine, whose maps have these names.
+fn race_lines(
+    alloc: Global,
+    watcher: &mut Watcher,
+    machine: &Machine,
+    names: &[String],
+) -> Result<String, AllocError>
+    ensures { IfOk result (λ text. TellsRaces true machine.now (map string_bytes names.now)
+        (string_bytes text)) }
+{
+    let races = races_in(alloc, watcher, machine, &[])?;
+    let text = list_races_in(alloc, names, &races)?;
+    Ok(text)
+}
+
+/// The same where they are to be told.
+fn told_races(
+    alloc: Global,
+    watcher: &mut Option<Watcher>,
+    machine: &Machine,
+    names: &[String],
+) -> Result<String, AllocError>
+    ensures told { IfOk result (λ text. TellsRaces (is_some watcher.old) machine.now
+        (map string_bytes names.now) (string_bytes text)) }
+    ensures same { is_some watcher.new ≡ is_some watcher.old }
+{
+    match watcher {
+        Some(watcher) => race_lines(alloc, watcher, machine, names),
+        None => Ok(String::new(alloc)),
+    }
+}
+
+/// One text behind another.
+fn joined(before: String, rest: String) -> Result<String, AllocError>
+    ensures { IfOk result (λ text. string_bytes text ≡ string_bytes before ++ string_bytes rest) }
+{
+    if before.is_empty() {
+        return Ok(rest);
+    }
+    let mut text = before;
+    text.push_str(rest.as_str())?;
+    Ok(text)
+}
+
 impl Filter {
     ghost use Rattle.std.specs.Prelude.{◌≡◌, ◌≢◌, ℕ, [], codes, false, true, IfNone, IfOk, IfSome, OnErr, string_bytes};
     ghost use Rattle.bpf_expand.specs.State.{AreSuccessors, IsNoState};
-    ghost use Rattle.bpf_expand.specs.Filter.{IsLineTold, IsNoStateLine, IsToldOf};
+    ghost use Rattle.bpf_expand.specs.Filter.{AreRacesTold, IsLineTold, IsNoStateLine, IsToldOf, IsToldWith};
 
-    /// The filter of jobs over a new store whose maps have these names.
+    /// The filter of jobs over a new store whose maps have these names, which tells races or not.
     pub fn new(
         alloc: Global,
         patient: bool,
+        races: bool,
         shape: StoreShape,
         names: Vec<String>,
         programs: Vec<Program>,
@@ -97,13 +160,15 @@ impl Filter {
         requires cpus { All (λ job. job.cpu < shape.cpus) jobs.items }
         requires programs { All (λ job. job.program < vec_len programs) jobs.items }
         requires contexts { All (λ job. vec_len job.context ≤ max_context) jobs.items }
-        ensures { IfOk result (λ f. f ≡ new_filter patient shape (map string_bytes names.items)
-            programs.items (map waiting jobs.items)) }
+        ensures { IfOk result (λ f. f ≡ new_filter patient races shape
+            (map string_bytes names.items) programs.items (map waiting jobs.items)) }
     {
+        let watcher = watcher_of(alloc, races, &shape)?;
         let expander = open(alloc, patient, shape, programs, jobs)?;
         Ok(Filter {
             expander,
             names,
+            watcher,
             lines: 0,
             told: Ok(String::new(alloc)),
         })
@@ -116,7 +181,7 @@ impl Filter {
             (λ text. IsToldOf self.new.host self.new.names bytes.now (string_bytes text))) }
         ensures none { IfOk result (λ o. IfNone o (IsNoState self.new.host bytes.now)) }
         ensures same { (self.new.host ≡ self.old.host) × (self.new.names ≡ self.old.names)
-            × (self.new.lines ≡ self.old.lines) }
+            × (self.new.races ≡ self.old.races) × (self.new.lines ≡ self.old.lines) }
     {
         if !self.expander.take(bytes)? {
             return Ok(None);
@@ -125,13 +190,13 @@ impl Filter {
         Ok(Some(report_line(alloc, report.as_str())?))
     }
 
-    /// What is told of a state. `None` where the bytes are none.
-    fn tell(&mut self, alloc: Global, bytes: &[u8]) -> Result<Option<String>, AllocError>
+    /// What is told of a state but for its races. `None` where the bytes are none.
+    fn tell_turns(&mut self, alloc: Global, bytes: &[u8]) -> Result<Option<String>, AllocError>
         ensures some { IfOk result (λ o. IfSome o
             (λ text. IsToldOf self.new.host self.new.names bytes.now (string_bytes text))) }
         ensures none { IfOk result (λ o. IfNone o (IsNoState self.new.host bytes.now)) }
         ensures same { (self.new.host ≡ self.old.host) × (self.new.names ≡ self.old.names)
-            × (self.new.lines ≡ self.old.lines) }
+            × (self.new.races ≡ self.old.races) × (self.new.lines ≡ self.old.lines) }
     {
         let Some(found) = self.expander.successors(bytes)? else {
             return Ok(None);
@@ -142,14 +207,56 @@ impl Filter {
         Ok(Some(successor_lines(alloc, &found)?))
     }
 
+    /// What is told of the races of a state. `None` where the bytes are none.
+    fn tell_races(&mut self, alloc: Global, bytes: &[u8]) -> Result<Option<String>, AllocError>
+        ensures some { IfOk result (λ o. IfSome o (λ text. AreRacesTold self.new.races
+            self.new.host self.new.names bytes.now (string_bytes text))) }
+        ensures none { IfOk result (λ o. IfNone o (IsNoState self.new.host bytes.now)) }
+        ensures same { (self.new.host ≡ self.old.host) × (self.new.names ≡ self.old.names)
+            × (self.new.races ≡ self.old.races) × (self.new.lines ≡ self.old.lines) }
+    {
+        if self.watcher.is_none() {
+            return Ok(Some(String::new(alloc)));
+        }
+        if !self.expander.take(bytes)? {
+            return Ok(None);
+        }
+        let text = told_races(
+            alloc,
+            &mut self.watcher,
+            self.expander.machine(),
+            &self.names,
+        )?;
+        Ok(Some(text))
+    }
+
+    /// What is told of a state. `None` where the bytes are none.
+    fn tell(&mut self, alloc: Global, bytes: &[u8]) -> Result<Option<String>, AllocError>
+        ensures some { IfOk result (λ o. IfSome o (λ text. IsToldWith self.new.races
+            self.new.host self.new.names bytes.now (string_bytes text))) }
+        ensures none { IfOk result (λ o. IfNone o (IsNoState self.new.host bytes.now)) }
+        ensures same { (self.new.host ≡ self.old.host) × (self.new.names ≡ self.old.names)
+            × (self.new.races ≡ self.old.races) × (self.new.lines ≡ self.old.lines) }
+    {
+        let Some(before) = self.tell_races(alloc, bytes)? else {
+            return Ok(None);
+        };
+        let Some(rest) = self.tell_turns(alloc, bytes)? else {
+            return Ok(None);
+        };
+        let text = joined(before, rest)?;
+        Ok(Some(text))
+    }
+
     /// What is told of the state that a line is. `None` where it is none.
     fn tell_line(&mut self, alloc: Global, line: &[u8]) -> Result<Option<String>, AllocError>
         requires { line.now ≢ [] }
         ensures some { IfOk result (λ o. IfSome o (λ text. (number : ℕ)
-            → IsLineTold self.new.host self.new.names number line.now (string_bytes text) false)) }
+            → IsLineTold self.new.races self.new.host self.new.names number line.now
+            (string_bytes text) false)) }
         ensures none { IfOk result (λ o. IfNone o (IsNoStateLine self.new.host line.now)) }
         ensures same { (self.new.host ≡ self.old.host) × (self.new.names ≡ self.old.names)
-            × (self.new.lines ≡ self.old.lines) }
+            × (self.new.races ≡ self.old.races) × (self.new.lines ≡ self.old.lines) }
     {
         match line_bytes(alloc, line)? {
             Some(bytes) => self.tell(alloc, &bytes),
@@ -159,10 +266,10 @@ impl Filter {
 
     /// What a line is answered, and whether it is refused.
     fn answer_line(&mut self, alloc: Global, line: &[u8]) -> Result<(String, bool), AllocError>
-        ensures told { IfOk result (λ r. IsLineTold self.new.host self.new.names self.new.lines
-            line.now (string_bytes r.0) r.1) }
+        ensures told { IfOk result (λ r. IsLineTold self.new.races self.new.host self.new.names
+            self.new.lines line.now (string_bytes r.0) r.1) }
         ensures same { (self.new.host ≡ self.old.host) × (self.new.names ≡ self.old.names)
-            × (self.new.lines ≡ self.old.lines) }
+            × (self.new.races ≡ self.old.races) × (self.new.lines ≡ self.old.lines) }
     {
         if line.is_empty() {
             return Ok((String::new(alloc), false));
@@ -176,7 +283,7 @@ impl Filter {
         ensures ok { IfOk answer (λ r. (result ≡ r.1) × (self.new.told ≡ string_bytes r.0)) }
         ensures err { OnErr answer ((result ≡ true) × (self.new.told ≡ codes "refused L9\n")) }
         ensures same { (self.new.host ≡ self.old.host) × (self.new.names ≡ self.old.names)
-            × (self.new.lines ≡ self.old.lines) }
+            × (self.new.races ≡ self.old.races) × (self.new.lines ≡ self.old.lines) }
     {
         match answer {
             Ok((text, refused)) => {

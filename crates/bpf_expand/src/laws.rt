@@ -1,7 +1,7 @@
 //! What follows from the definition of a state, as promises to the crates above.
 //!
 //! These functions do nothing: their contracts are the laws, which a proof cites.
-ghost use Rattle.bpf_expand.specs.Laws.{LinesCover, PatientStatesCover, StatesCover};
+ghost use Rattle.bpf_expand.specs.Laws.{LinesCover, LinesHaveRaces, PatientStatesCover, StatesCover};
 
 /// States of which each CPU's turn leads to one of them cover all that schedules lead to.
 pub fn states_cover()
@@ -22,11 +22,23 @@ pub fn patient_states_cover()
     bpf_machine::laws::patient_sets_cover();
 }
 
-/// Lines of states that are closed under what they are answered have the report of each end.
+/// Lines of states that are closed under what they are answered have the report of each end; where how
+/// many steps are left of budgets is passed over, of each to which no job runs out of budget.
 pub fn lines_cover()
     ensures { LinesCover }
 {
     states_cover();
+    patient_states_cover();
     bpf_plain::laws::saved_alike_look_alike();
     bpf_plain::laws::alike_stand_alike();
+}
+
+/// Where the races of such lines are told, these are all to which those schedules lead.
+pub fn lines_have_races()
+    ensures { LinesHaveRaces }
+{
+    bpf_plain::laws::saved_alike_look_alike();
+    bpf_plain::laws::alike_stand_alike();
+    bpf_machine::laws::races_are_kept();
+    bpf_machine::laws::patient_races_are_kept();
 }

@@ -1,10 +1,10 @@
 -- Bytes that are passed, none of which counts.
-use Rattle.std.proofs.Common.{◌≡◌, ◌∙◌, ℕ, ◌+◌, ◌<◌, ◌≤◌, List, Some, length, get_or, false, inl, inr, refl, sym, ap, subst, arith}
+use Rattle.std.proofs.Common.{◌≡◌, ◌∙◌, ℕ, ◌+◌, ◌<◌, ◌≤◌, List, Some, length, get_or, false, inl, inr, sym, ap, subst, arith}
 use Rattle.std.specs.Prelude.{slice_get}
 use Rattle.std.proofs.lemmas.Bool.{cases_lt}
 use Rattle.std.proofs.lemmas.Option.{slice_get-get_or, slice_get_within}
 use Rattle.bpf_races.specs.declared.access.Access.{Access}
-use Rattle.bpf_races.specs.Touch.{AreAtOdds, Clash, IsAmong}
+use Rattle.bpf_races.specs.Touch.{IsAmong}
 use Rattle.bpf_races.specs.Races.{IsLeftOut}
 
 pub next_byte : (sync : List ℕ) (low n : ℕ) → ((b : ℕ) → low ≤ b → b < n → IsLeftOut sync b) → IsLeftOut sync n → (b : ℕ) → low ≤ b → b < n + 1 → IsLeftOut sync b

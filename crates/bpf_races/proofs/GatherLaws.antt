@@ -1,6 +1,6 @@
 -- Races that are gathered of kept machines.
-use Rattle.std.proofs.Common.{◌≡◌, ◌≢◌, ◌∙◌, ℕ, suc, ◌+◌, ◌<◌, ◌≤◌, ◌⊎◌, Bool, true, false, List, [], ◌∷◌, ◌++◌, Option, Some, None, length, get_or, inl, inr, refl, sym, ap, subst, arith}
-use Rattle.std.specs.Prelude.{IfNone, IfSome, is_none, slice_get}
+use Rattle.std.proofs.Common.{◌≡◌, ◌≢◌, ◌∙◌, ℕ, ◌+◌, ◌<◌, ◌≤◌, ◌⊎◌, Bool, true, false, List, [], ◌∷◌, ◌++◌, Option, Some, None, length, get_or, inl, inr, refl, sym, ap, subst, arith}
+use Rattle.std.specs.Prelude.{IfNone, IfSome, slice_get}
 use Rattle.std.proofs.lemmas.Bool.{cases_lt}
 use Rattle.std.proofs.lemmas.Option.{slice_get_read, slice_get_within}
 use Rattle.bpf_plain.specs.PlainStore.{Contents, StandsFor}
@@ -8,14 +8,14 @@ use Rattle.bpf_plain.specs.Shows.{LeadsTo, ShowsKey, ShowsNoKey}
 use Rattle.bpf_cpu.specs.Task.{Task, InHand}
 use Rattle.bpf_machine.specs.Hands.{IsAt, IsFree}
 use Rattle.bpf_machine.specs.Machine.{MachineState, Shows}
-use Rattle.bpf_machine.specs.Race.{HasNext, IsRace}
+use Rattle.bpf_machine.specs.Race.{IsRace}
 use Rattle.bpf_machine.specs.Schedule.{World, RunsSchedule, unrolled}
 use Rattle.bpf_explore.specs.Album.{AreLed, IsShownAt, LeadsFrom}
 use Rattle.bpf_races.specs.Touch.{IsAmong, Clash}
 use Rattle.bpf_races.specs.Next.{NextStep, IsNextIn}
 use Rattle.bpf_races.specs.Searched.{IsLedTo}
-use Rattle.bpf_races.specs.Races.{RaceFound, RacesBy, IsBetween, IsListed, IsLeftOut, IsKeyAt, AreOnce}
-use Rattle.bpf_races.specs.Private.Searching.{AreNexts, AreNextsAt, AreRacing, AreShown, Gathered, IsUnshown, Keeps, AreListedOf, AreListedIn, AreListedAt}
+use Rattle.bpf_races.specs.Races.{RaceFound, RacesBy, RacesIn, IsBetween, IsListed, IsLeftOut, IsKeyAt, AreOnce, AreRacesIn}
+use Rattle.bpf_races.specs.Private.Searching.{AreNexts, AreAllListed, AreRacing, AreRacesAt, AreShown, Gathered, IsUnshown, Keeps, AreListedOf, AreListedAt}
 use Rattle.bpf_races.proofs.Lists.{at_cases, in_front, in_last, in_cases}
 use Rattle.bpf_races.proofs.Touching.{clash_race, race_clash}
 
@@ -23,20 +23,48 @@ use Rattle.bpf_races.proofs.Touching.{clash_race, race_clash}
 less_apart : (c d : ℕ) → c < d → c ≢ d
 less_apart c d less same = absurd (omega arith)
 
-pub races_by : (kept : List MachineState) (m : MachineState) (sync : List ℕ) (race : RaceFound) (first second : NextStep) → race.cpu < race.other → IsLedTo kept (unrolled race.by) m
-    → IsNextIn m race.cpu first → IsNextIn m race.other second → first.pc ≡ race.pc → second.pc ≡ race.other_pc → Clash first.accesses second.accesses race.at → (IsLeftOut sync race.at → ⊥)
-    → ((w : World) → Shows m w → IsKeyAt w.store race.at race.key) → (w : World) → IsShownAt kept 0 w → RacesBy w sync race
-races_by kept m sync race first second order led next next_too pc other_pc clash counts keyed w shown =
+-- a byte for which two next steps are at odds is a race in what the machine shows
+pub races_here : (m : MachineState) (sync : List ℕ) (race : RaceFound) (first second : NextStep) → race.cpu < race.other → IsNextIn m race.cpu first → IsNextIn m race.other second → first.pc ≡ race.pc → second.pc ≡ race.other_pc
+    → Clash first.accesses second.accesses race.at → (IsLeftOut sync race.at → ⊥) → ((w : World) → Shows m w → IsKeyAt w.store race.at race.key) → (w : World) → Shows m w → RacesIn w sync race
+races_here m sync race first second order next next_too pc other_pc clash counts keyed w shown =
+    let here : IsRace w race.cpu first.pc race.other second.pc race.at = clash_race w race.cpu race.other first second race.at (next w shown) (next_too w shown) (less_apart race.cpu race.other order) clash in
+    record {
+      counts = counts;
+      race = subst (λ (p : ℕ). IsRace w race.cpu p race.other race.other_pc race.at) pc (subst (λ (q : ℕ). IsRace w race.cpu first.pc race.other q race.at) other_pc here);
+      key = keyed w shown;
+    }
+
+-- where a schedule leads to the machine, it is a race by that
+races_led : (kept : List MachineState) (m : MachineState) (sync : List ℕ) (by : List (ℕ × ℕ)) (race : RaceFound) → race.cpu < race.other → race.by ≡ by → IsLedTo kept (unrolled by) m → ((w : World) → Shows m w → RacesIn w sync race)
+    → (w : World) → IsShownAt kept 0 w → RacesBy w sync race
+races_led kept m sync by race order same led races w shown =
     let z = led w shown in
-    let here : IsRace z.0 race.cpu first.pc race.other second.pc race.at = clash_race z.0 race.cpu race.other first second race.at (next z.0 z.2) (next_too z.0 z.2) (less_apart race.cpu race.other order) clash in
+    let here = races z.0 z.2 in
     record {
       order = order;
-      counts = counts;
+      counts = here.counts;
       last = z.0;
-      runs = z.1;
-      race = subst (λ (p : ℕ). IsRace z.0 race.cpu p race.other race.other_pc race.at) pc (subst (λ (q : ℕ). IsRace z.0 race.cpu first.pc race.other q race.at) other_pc here);
-      key = keyed z.0 z.2;
+      runs = subst (λ (bs : List (ℕ × ℕ)). RunsSchedule w (unrolled bs) z.0) (sym same) z.1;
+      race = here.race;
+      key = here.key;
     }
+
+between_order : (c p d q : ℕ) (race : RaceFound) → c < d → IsBetween c p d q race → race.cpu < race.other
+between_order c p d q race order between = subst (λ (x : ℕ). x < race.other) (sym between.cpu) (subst (λ (y : ℕ). c < y) (sym between.other) order)
+
+pub all_led : (kept : List MachineState) (m : MachineState) (sync : List ℕ) (by : List (ℕ × ℕ)) (c p d q : ℕ) (o : Option RaceFound) → c < d → IsLedTo kept (unrolled by) m
+    → IfSome o (IsBetween c p d q) → IfSome o (λ race. race.by ≡ by) → IfSome o (λ race. (w : World) → Shows m w → RacesIn w sync race) → IfSome o (λ race. (w : World) → IsShownAt kept 0 w → RacesBy w sync race)
+all_led kept m sync by c p d q None order led between same races = tt
+all_led kept m sync by c p d q (Some race) order led between same races = races_led kept m sync by race (between_order c p d q race order between) same led races
+
+-- the pcs are those that were asked for
+pub between_same : (c p d q r s : ℕ) (o : Option RaceFound) → p ≡ r → q ≡ s → IfSome o (IsBetween c p d q) → IfSome o (IsBetween c r d s)
+between_same c p d q r s None pc other_pc between = tt
+between_same c p d q r s (Some race) pc other_pc between = record { cpu = between.cpu; pc = between.pc ∙ pc; other = between.other; other_pc = between.other_pc ∙ other_pc }
+
+pub none_too : (o : Option RaceFound) (P Q : Type 0) → (P → Q) → IfNone o P → IfNone o Q
+none_too None P Q so h = so h
+none_too (Some race) P Q so h = tt
 
 -- ---- what is listed
 pub listed_still : (old new : List RaceFound) (c pc d qc : ℕ) → Keeps old new → IsListed old c pc d qc → IsListed new c pc d qc
@@ -125,90 +153,73 @@ pub none_of_free : (m : MachineState) (races : List RaceFound) (sync : List ℕ)
 none_of_free m races sync c d free w shows pc qc b race =
     absurd (free race.other.job race.other.task race.other.state race.other.left (subst (λ (jobs : List Task). IsAt jobs d race.other.job race.other.task (InHand race.other.state race.other.left)) shows.jobs race.other.at))
 
--- ---- one CPU and those behind it
-abbrev pub BehindListed : List NextStep → List RaceFound → List ℕ → ℕ → ℕ → Type 0
-BehindListed nexts races sync c n = (m : MachineState) → AreNexts m nexts → (d : ℕ) → c < d → d < n → AreListedOf races sync m c d
-
-pub record OneSoFar (exact : Type 0) (kept : List MachineState) (sync : List ℕ) (place : ℕ) (nexts : List NextStep) (old : List RaceFound) (c n : ℕ) (now : List MachineState) (races : List RaceFound) (all : Bool) : Type 0 where
+-- ---- races of a kept machine
+-- those before the n-th
+pub record FoundSoFar (exact : Type 0) (kept : List MachineState) (sync : List ℕ) (place : ℕ) (found old : List RaceFound) (n : ℕ) (now : List MachineState) (races : List RaceFound) (all : Bool) : Type 0 where
   pub same : now ≡ kept
   pub gathered : Gathered kept sync races
   pub keeps : Keeps old races
-  pub listed : all ≡ true → BehindListed nexts races sync c n
-  pub missed : exact → all ≡ false → AreNextsAt kept place nexts → IsUnshown kept place
+  pub listed : all ≡ true → (i : ℕ) (race : RaceFound) → i < n → slice_get found i ≡ Some race → IsListed races race.cpu race.pc race.other race.other_pc
+  pub missed : exact → all ≡ false → AreRacesAt kept sync place found → IsUnshown kept place
 
-pub one_begins : (exact : Type 0) (kept : List MachineState) (sync : List ℕ) (place : ℕ) (nexts : List NextStep) (old : List RaceFound) (c : ℕ) → Gathered kept sync old → OneSoFar exact kept sync place nexts old c (c + 1) kept old true
-one_begins exact kept sync place nexts old c gathered = record { same = refl; gathered = gathered; keeps = keeps_same old; listed = λ is m are d above below. absurd (omega arith); missed = λ e is. cc }
+pub found_begins : (exact : Type 0) (kept : List MachineState) (sync : List ℕ) (place : ℕ) (found old : List RaceFound) → Gathered kept sync old → FoundSoFar exact kept sync place found old 0 kept old true
+found_begins exact kept sync place found old gathered = record { same = refl; gathered = gathered; keeps = keeps_same old; listed = λ is i race less at. absurd (omega arith); missed = λ e is. cc }
 
--- what was missed is told of what is kept now, which is the same
-missed_still : (kept now : List MachineState) (place : ℕ) (nexts : List NextStep) → now ≡ kept → (AreNextsAt now place nexts → IsUnshown now place) → AreNextsAt kept place nexts → IsUnshown kept place
-missed_still kept now place nexts same missed =
-    let P : List MachineState → Type 0 = λ ms. AreNextsAt ms place nexts → IsUnshown ms place in
-    subst P same missed
+pub race_read : (found : List RaceFound) (n : ℕ) (race : RaceFound) → n < length found → race ≡ get_or found n race → slice_get found n ≡ Some race
+race_read found n race inside read = slice_get_read found (length found) n race refl inside read
 
-pub one_goes_on : (exact : Type 0) (kept now later : List MachineState) (sync : List ℕ) (place : ℕ) (nexts : List NextStep) (old mid new : List RaceFound) (c n : ℕ) (all listed both : Bool) → OneSoFar exact kept sync place nexts old c n now mid all
-    → later ≡ now → Gathered now sync new → Keeps mid new → (listed ≡ true → (m : MachineState) → AreNexts m nexts → AreListedOf new sync m c n) → (both ≡ true → (all ≡ true) × (listed ≡ true))
-    → (exact → listed ≡ false → AreNextsAt now place nexts → IsUnshown now place) → (both ≡ false → (all ≡ false) ⊎ (listed ≡ false))
-    → OneSoFar exact kept sync place nexts old c (n + 1) later new both
-one_goes_on exact kept now later sync place nexts old mid new c n all listed both far same gathered keeps one joined missed split = record {
+-- a race of the machine that wasn't there again
+missed_one : (kept : List MachineState) (sync : List ℕ) (place n : ℕ) (found : List RaceFound) (race : RaceFound) → slice_get found n ≡ Some race
+    → (AreRacing kept sync place race.cpu race.pc race.other race.other_pc → ⊥) → AreRacesAt kept sync place found → IsUnshown kept place
+missed_one kept sync place n found race at none are w shown =
+    let here = are race (n, at) w shown in
+    none (w, shown, (race.at, here.race, here.counts))
+
+pub found_goes_on : (exact : Type 0) (kept now later : List MachineState) (sync : List ℕ) (place : ℕ) (found old mid new : List RaceFound) (n : ℕ) (race : RaceFound) (all listed both : Bool) → FoundSoFar exact kept sync place found old n now mid all
+    → slice_get found n ≡ Some race → later ≡ now → Gathered now sync new → Keeps mid new → (listed ≡ true → IsListed new race.cpu race.pc race.other race.other_pc) → (both ≡ true → (all ≡ true) × (listed ≡ true))
+    → (exact → listed ≡ false → AreRacing now sync place race.cpu race.pc race.other race.other_pc → ⊥) → (both ≡ false → (all ≡ false) ⊎ (listed ≡ false))
+    → FoundSoFar exact kept sync place found old (n + 1) later new both
+found_goes_on exact kept now later sync place found old mid new n race all listed both far at same gathered keeps one joined missed split = record {
   missed = λ e is. elim (split is) [
     | inl first ↦ far.missed e first
-    | inr second ↦ missed_still kept now place nexts far.same (missed e second)
+    | inr second ↦
+        let none : AreRacing kept sync place race.cpu race.pc race.other race.other_pc → ⊥ = subst (λ (ms : List MachineState). AreRacing ms sync place race.cpu race.pc race.other race.other_pc → ⊥) far.same (missed e second) in
+        missed_one kept sync place n found race at none
   ];
   same = same ∙ far.same;
   gathered = subst (λ (ms : List MachineState). Gathered ms sync new) far.same gathered;
   keeps = keeps_more old mid new far.keeps keeps;
-  listed = λ is m are d above below. elim (cases_lt d n) [
-    | inl less ↦ of_still mid new sync m c d keeps (far.listed (joined is).0 m are d above less)
-    | inr past ↦ let e : n ≡ d = omega arith in subst (λ (k : ℕ). AreListedOf new sync m c k) e (one (joined is).1 m are)
-  ];
-}
-
--- ---- all CPUs of a machine
-abbrev pub BelowListed : List NextStep → List RaceFound → List ℕ → ℕ → Type 0
-BelowListed nexts races sync n = (m : MachineState) → AreNexts m nexts → (c d : ℕ) → c < n → c < d → d < length nexts → AreListedOf races sync m c d
-
-pub record AllSoFar (exact : Type 0) (kept : List MachineState) (sync : List ℕ) (place : ℕ) (nexts : List NextStep) (old : List RaceFound) (n : ℕ) (now : List MachineState) (races : List RaceFound) (all : Bool) : Type 0 where
-  pub same : now ≡ kept
-  pub gathered : Gathered kept sync races
-  pub keeps : Keeps old races
-  pub listed : all ≡ true → BelowListed nexts races sync n
-  pub missed : exact → all ≡ false → AreNextsAt kept place nexts → IsUnshown kept place
-
-pub all_begins : (exact : Type 0) (kept : List MachineState) (sync : List ℕ) (place : ℕ) (nexts : List NextStep) (old : List RaceFound) → Gathered kept sync old → AllSoFar exact kept sync place nexts old 0 kept old true
-all_begins exact kept sync place nexts old gathered = record { same = refl; gathered = gathered; keeps = keeps_same old; listed = λ is m are c d below above inside. absurd (omega arith); missed = λ e is. cc }
-
-pub all_goes_on : (exact : Type 0) (kept now later : List MachineState) (sync : List ℕ) (place : ℕ) (nexts : List NextStep) (old mid new : List RaceFound) (n : ℕ) (all listed both : Bool) → AllSoFar exact kept sync place nexts old n now mid all
-    → later ≡ now → Gathered now sync new → Keeps mid new → (listed ≡ true → BehindListed nexts new sync n (length nexts)) → (both ≡ true → (all ≡ true) × (listed ≡ true))
-    → (exact → listed ≡ false → AreNextsAt now place nexts → IsUnshown now place) → (both ≡ false → (all ≡ false) ⊎ (listed ≡ false))
-    → AllSoFar exact kept sync place nexts old (n + 1) later new both
-all_goes_on exact kept now later sync place nexts old mid new n all listed both far same gathered keeps one joined missed split = record {
-  missed = λ e is. elim (split is) [
-    | inl first ↦ far.missed e first
-    | inr second ↦ missed_still kept now place nexts far.same (missed e second)
-  ];
-  same = same ∙ far.same;
-  gathered = subst (λ (ms : List MachineState). Gathered ms sync new) far.same gathered;
-  keeps = keeps_more old mid new far.keeps keeps;
-  listed = λ is m are c d below above inside. elim (cases_lt c n) [
-    | inl less ↦ of_still mid new sync m c d keeps (far.listed (joined is).0 m are c d less above inside)
+  listed = λ is i this below there. elim (cases_lt i n) [
+    | inl less ↦ listed_still mid new this.cpu this.pc this.other this.other_pc keeps (far.listed (joined is).0 i this less there)
     | inr past ↦
-        let e : n ≡ c = omega arith in
-        subst (λ (k : ℕ). AreListedOf new sync m k d) e (one (joined is).1 m are d (omega arith) inside)
+        let e : n ≡ i = omega arith in
+        let two : Some race ≡ Some this = sym at ∙ (ap (λ (k : ℕ). slice_get found k) e ∙ there) in
+        let it : race ≡ this = cc in
+        subst (λ (x : RaceFound). IsListed new x.cpu x.pc x.other x.other_pc) it (one (joined is).1)
   ];
 }
 
-pub all_listed : (nexts : List NextStep) (races : List RaceFound) (sync : List ℕ) (n : ℕ) → length nexts ≤ n → BelowListed nexts races sync n → (m : MachineState) → AreNexts m nexts → AreListedIn races sync m
-all_listed nexts races sync n past below m are c d order = elim (cases_lt d (length nexts)) [
-  | inl inside ↦ below m are c d (omega arith) order inside
-  | inr beyond ↦ none_of_free m races sync c d (are.none d (omega arith))
-]
+pub all_found : (found races : List RaceFound) (n : ℕ) → length found ≤ n → ((i : ℕ) (race : RaceFound) → i < n → slice_get found i ≡ Some race → IsListed races race.cpu race.pc race.other race.other_pc) → AreAllListed races found
+all_found found races n past far race (i, there) = let inside = slice_get_within found i race there in far i race (omega arith) there
 
-pub nexts_at : (kept : List MachineState) (races : List RaceFound) (sync : List ℕ) (place : ℕ) (m working : MachineState) (nexts : List NextStep) → slice_get kept place ≡ Some working → m ≡ working → AreNexts m nexts
-    → ((x : MachineState) → AreNexts x nexts → AreListedIn races sync x) → AreListedAt kept races sync place
-nexts_at kept races sync place m working nexts at same are listed other there =
+listed_of : (found races : List RaceFound) (sync : List ℕ) (c pc d qc b : ℕ) → AreAllListed races found → (IsListed found c pc d qc ⊎ IsLeftOut sync b) → IsListed races c pc d qc ⊎ IsLeftOut sync b
+listed_of found races sync c pc d qc b listed (inr out) = inr out
+listed_of found races sync c pc d qc b listed (inl (race, there, between)) =
+    inl (listed_same races race.cpu race.pc race.other race.other_pc c pc d qc between.cpu between.pc between.other between.other_pc (listed race there))
+
+-- all races of the kept machine are listed where those that were found are
+pub found_at : (kept : List MachineState) (races found : List RaceFound) (sync : List ℕ) (place : ℕ) (m working : MachineState) → slice_get kept place ≡ Some working → m ≡ working → AreRacesIn m sync found → AreAllListed races found → AreListedAt kept races sync place
+found_at kept races found sync place m working at same are listed other there c d order w shows pc qc b race =
     let two : Some working ≡ Some other = sym at ∙ there in
     let one : working ≡ other = cc in
-    listed other (subst (λ (x : MachineState). AreNexts x nexts) (same ∙ one) are)
+    let shown : Shows m w = subst (λ (x : MachineState). Shows x w) (sym (same ∙ one)) shows in
+    listed_of found races sync c pc d qc b listed (are.all w shown c pc d qc b order race)
+
+pub found_there : (kept : List MachineState) (found : List RaceFound) (sync : List ℕ) (place : ℕ) (m working : MachineState) → slice_get kept place ≡ Some working → m ≡ working → AreRacesIn m sync found → AreRacesAt kept sync place found
+found_there kept found sync place m working at same are race among w (other, there, shows) =
+    let two : Some working ≡ Some other = sym at ∙ there in
+    let one : working ≡ other = cc in
+    are.each race among w (subst (λ (x : MachineState). Shows x w) (sym (same ∙ one)) shows)
 
 -- ---- all kept machines
 pub record KeptSoFar (exact : Type 0) (kept : List MachineState) (sync : List ℕ) (n : ℕ) (now : List MachineState) (races : List RaceFound) (all : Bool) : Type 0 where
@@ -294,35 +305,6 @@ pub no_byte : (kept : List MachineState) (sync : List ℕ) (i : ℕ) (m : Machin
 no_byte kept sync i m c pc d qc first second at next next_too none racing =
     let byte = (race_at kept sync i m c pc d qc first second at next next_too racing).2 in
     byte.2 (none byte.0 byte.1)
-
--- a byte for which two next steps race that isn't left out is a race of a kept machine
-pub missed_pair : (kept : List MachineState) (sync : List ℕ) (i : ℕ) (nexts : List NextStep) (c d : ℕ) (first second : NextStep) (cpu pc other other_pc : ℕ) → c < d → slice_get nexts c ≡ Some first → slice_get nexts d ≡ Some second
-    → cpu ≡ c → pc ≡ first.pc → other ≡ d → other_pc ≡ second.pc → ((b : ℕ) × Clash first.accesses second.accesses b × (IsLeftOut sync b → ⊥))
-    → (AreRacing kept sync i cpu pc other other_pc → ⊥) → AreNextsAt kept i nexts → IsUnshown kept i
-missed_pair kept sync i nexts c d first second cpu pc other other_pc order at at_too is_cpu is_pc is_other is_other_pc close none are w (m, there, shows) =
-    let all = are m there in
-    let race : IsRace w c first.pc d second.pc close.0 = clash_race w c d first second close.0 (all.each c first at w shows) (all.each d second at_too w shows) (less_apart c d order) close.1 in
-    let one = subst (λ (x : ℕ). IsRace w x first.pc d second.pc close.0) (sym is_cpu) race in
-    let two = subst (λ (x : ℕ). IsRace w cpu x d second.pc close.0) (sym is_pc) one in
-    let three = subst (λ (x : ℕ). IsRace w cpu pc x second.pc close.0) (sym is_other) two in
-    let four : IsRace w cpu pc other other_pc close.0 = subst (λ (x : ℕ). IsRace w cpu pc other x close.0) (sym is_other_pc) three in
-    none (w, (m, there, shows), (close.0, four, close.2))
-
--- what is told where no race is found, or one is
-pub none_found : (o : Option RaceFound) (P : Type 0) → o ≡ None → IfNone o P → P
-none_found None P e h = h
-none_found (Some race) P e h = cc
-
-pub some_byte : (o : Option ℕ) (P : ℕ → Type 0) (Q : ℕ → Type 0) → is_none o ≡ false → IfSome o P → IfSome o Q → (b : ℕ) × P b × Q b
-some_byte None P Q e p q = cc
-some_byte (Some b) P Q e p q = (b, p, q)
-
--- the next steps are those of the kept machine
-pub nexts_there : (kept : List MachineState) (i : ℕ) (m working : MachineState) (nexts : List NextStep) → slice_get kept i ≡ Some working → m ≡ working → AreNexts m nexts → AreNextsAt kept i nexts
-nexts_there kept i m working nexts at same are other there =
-    let two : Some working ≡ Some other = sym at ∙ there in
-    let one : working ≡ other = cc in
-    subst (λ (x : MachineState). AreNexts x nexts) (same ∙ one) are
 
 -- a schedule leads to each of them, so each shows a world
 pub led_are_shown : (kept : List MachineState) (w : World) → IsShownAt kept 0 w → AreLed kept → AreShown kept

@@ -6,4 +6,5 @@ pub mod Texts
 pub mod Syncs
 pub mod Nexts
 pub mod GatherLaws
+pub mod WithinLaws
 pub mod Searching

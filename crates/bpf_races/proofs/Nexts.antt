@@ -1,5 +1,5 @@
 -- The next step of a CPU that was watched.
-use Rattle.std.proofs.Common.{◌≡◌, ◌∙◌, ℕ, zero, suc, ◌<◌, ◌≤◌, Bool, true, false, List, [], ◌∷◌, ◌++◌, Option, Some, None, map, length, length-append, ◌+◌, inl, inr, refl, sym, ap, subst, arith}
+use Rattle.std.proofs.Common.{◌≡◌, ◌∙◌, ℕ, zero, suc, ◌<◌, ◌≤◌, true, false, List, [], ◌∷◌, ◌++◌, Option, Some, None, map, length, length-append, ◌+◌, inl, inr, refl, sym, ap, subst, arith}
 use Rattle.std.specs.Prelude.{nat_lt, slice_get}
 use Rattle.std.proofs.lemmas.Bool.{le-ltb}
 use Rattle.bpf_shared.specs.Laws.{CallsHaveOneReply}
@@ -18,10 +18,9 @@ use Rattle.bpf_cpu.specs.declared.outcome.Progress.{Progress}
 use Rattle.bpf_cpu.specs.Step.{Step}
 use Rattle.bpf_cpu.specs.Task.{Task, InHand}
 use Rattle.bpf_cpu.proofs.DeterminedRuns.{step_agrees, same_replies}
-use Rattle.bpf_machine.specs.declared.machine.Turn.{Turn}
 use Rattle.bpf_machine.specs.declared.machine.Turn.TheVariants.{Ran}
 use Rattle.bpf_machine.specs.Hands.{IsAt, IsFree}
-use Rattle.bpf_machine.specs.Happenings.{Happening, happening, end_events, HasEvents}
+use Rattle.bpf_machine.specs.Happenings.{Happening, happening, HasEvents}
 use Rattle.bpf_machine.specs.Machine.{MachineState, Shows}
 use Rattle.bpf_machine.specs.Parts.{CanStand}
 use Rattle.bpf_machine.specs.Race.{HasNext}
@@ -32,8 +31,8 @@ use Rattle.bpf_events.specs.Watched.{Recording, IsRecorderOf}
 use Rattle.bpf_events.specs.Watched.{IsWatched, noted}
 use Rattle.bpf_explore.specs.Stores.{IsOfShape}
 use Rattle.bpf_races.specs.declared.access.Access.{Access}
-use Rattle.bpf_races.specs.Touch.{access_of, IsAmong}
-use Rattle.bpf_races.specs.Next.{NextStep, IsNext, IsNextIn}
+use Rattle.bpf_races.specs.Touch.{IsAmong}
+use Rattle.bpf_races.specs.Next.{NextStep, IsNextIn}
 use Rattle.bpf_races.specs.Private.Accesses.{AreAccesses, seen}
 use Rattle.bpf_races.specs.Private.Searching.{AreNexts}
 use Rattle.bpf_races.proofs.Lists.{at_cases}

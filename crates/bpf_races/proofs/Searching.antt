@@ -1,5 +1,5 @@
 -- From a shape and its jobs to the races.
-use Rattle.std.proofs.Common.{◌≡◌, ◌∙◌, ℕ, ◌<◌, ◌⊎◌, Bool, true, false, List, Some, length, inl, inr, refl, sym, ap, subst}
+use Rattle.std.proofs.Common.{◌≡◌, ◌∙◌, ℕ, ◌<◌, ◌⊎◌, Bool, true, false, List, Some, length, inl, inr, refl, sym}
 use Rattle.std.specs.Prelude.{slice_get}
 use Rattle.bpf_machine.specs.Cover.{IsClosed}
 use Rattle.bpf_machine.specs.Laws.{IsFresh}
@@ -8,7 +8,7 @@ use Rattle.bpf_machine.specs.Patient.{IsClosedRichly, PatientRacesAreKept}
 use Rattle.bpf_machine.specs.Race.{IsRace, RacesAreKept}
 use Rattle.bpf_machine.specs.Schedule.{World}
 use Rattle.bpf_explore.specs.Album.{IsShownAt}
-use Rattle.bpf_races.specs.Races.{RaceFound, AreListed, AreRaces, HaveAllRaces, IsListed, IsLeftOut}
+use Rattle.bpf_races.specs.Races.{RaceFound, AreRaces, IsListed, IsLeftOut}
 use Rattle.bpf_explore.specs.Album.{AreApart, AreLed}
 use Rattle.bpf_explore.specs.Search.{is_whole, is_refused}
 use Rattle.bpf_explore.specs.declared.frontier.Extent.{Extent}

@@ -1,12 +1,12 @@
 -- What events touch, byte by byte and as accesses; and races as accesses at odds.
-use Rattle.std.proofs.Common.{◌≡◌, ◌≢◌, ℕ, Bool, true, false, Some, None, refl, sym, subst}
+use Rattle.std.proofs.Common.{◌≡◌, ◌≢◌, ℕ, Bool, true, false, Some, refl, sym, subst}
 use Rattle.std.specs.Prelude.{◌||◌, ◌&&◌}
 use Rattle.bpf_shared.specs.declared.events.Event.{Event}
 use Rattle.bpf_shared.specs.declared.events.Event.TheVariants.{Begin, End, Lookup, Update, Delete, Keys, Load, Store, Atomic}
 use Rattle.bpf_machine.specs.Schedule.{World}
-use Rattle.bpf_machine.specs.Race.{Touches, HasNext, IsRace}
+use Rattle.bpf_machine.specs.Race.{Touches, IsRace}
 use Rattle.bpf_races.specs.declared.access.Access.{Access}
-use Rattle.bpf_races.specs.Touch.{access_at, access_of, Hits, AreAtOdds, IsAmong, Clash}
+use Rattle.bpf_races.specs.Touch.{access_at, access_of, Hits, AreAtOdds, Clash}
 use Rattle.bpf_races.specs.Next.{NextStep, IsNext}
 
 pub touches_access : (event : Event) (b : ℕ) (writes atomic : Bool) → Touches event b writes atomic → (a : Access) × (access_of event ≡ Some a) × Hits a b × (writes ≡ a.writes) × (atomic ≡ a.atomic)

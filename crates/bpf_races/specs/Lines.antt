@@ -28,6 +28,10 @@ race_text names race =
     ((places_text race ++ value_text names race) ++ codes " by")
     ++ (runs_text (length race.by) race.by ++ codes "\n")
 
+-- of one in a machine as it stands
+abbrev pub here_text : List (List ℕ) → RaceFound → List ℕ
+here_text names race = (places_text race ++ value_text names race) ++ codes "\n"
+
 abbrev pub no_race : RaceFound
 no_race = record {
   cpu = 0;
@@ -44,6 +48,11 @@ abbrev pub race_lines : List (List ℕ) → ℕ → List RaceFound → List ℕ
 race_lines names zero races = []
 race_lines names (suc n) races =
     race_lines names n races ++ race_text names (slice_index_or races n no_race)
+
+abbrev pub here_lines : List (List ℕ) → ℕ → List RaceFound → List ℕ
+here_lines names zero races = []
+here_lines names (suc n) races =
+    here_lines names n races ++ here_text names (slice_index_or races n no_race)
 
 -- whether they are all, and how many they are
 abbrev pub count_text : ℕ → List ℕ

@@ -1,3 +1,4 @@
 -- What private functions promise each other: no public clause speaks of it.
 pub mod Accesses
 pub mod Searching
+pub mod Within

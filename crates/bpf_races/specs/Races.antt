@@ -1,8 +1,9 @@
 -- The data races that schedules lead to.
-use Rattle.std.specs.Prelude.{◌≡◌, ℕ, ◌-◌, ◌/◌, ◌<◌, ◌⊎◌, Bool, true, false, List, Option, Some, None, slice_get}
+use Rattle.std.specs.Prelude.{◌≡◌, ℕ, ◌-◌, ◌/◌, ◌<◌, ◌⊎◌, Bool, true, false, List, [], Option, Some, None, slice_get}
 use Rattle.bpf_shared.specs.Shape.{first_value, map_area}
 use Rattle.bpf_shared.specs.Store.{Plain}
 use Rattle.bpf_plain.specs.Shows.{LeadsTo}
+use Rattle.bpf_machine.specs.Machine.{MachineState, Shows}
 use Rattle.bpf_machine.specs.Schedule.{World, RunsSchedule, unrolled}
 use Rattle.bpf_machine.specs.Patient.{NoneRanOut}
 use Rattle.bpf_machine.specs.Race.{IsRace}
@@ -43,6 +44,12 @@ pub record RacesBy (w : World) (sync : List ℕ) (found : RaceFound) : Type 0 wh
   pub race : IsRace last found.cpu found.pc found.other found.other_pc found.at
   pub key : IsKeyAt last.store found.at found.key
 
+-- the same of a machine as it stands
+pub record RacesIn (w : World) (sync : List ℕ) (found : RaceFound) : Type 0 where
+  pub counts : IsLeftOut sync found.at → ⊥
+  pub race : IsRace w found.cpu found.pc found.other found.other_pc found.at
+  pub key : IsKeyAt w.store found.at found.key
+
 -- it is one of these CPUs at these pcs
 pub record IsBetween (c p d q : ℕ) (race : RaceFound) : Type 0 where
   pub cpu : race.cpu ≡ c
@@ -63,6 +70,25 @@ AreOnce races = (i j : ℕ) (one two : RaceFound) → slice_get races i ≡ Some
 abbrev pub AreListed : List RaceFound → List ℕ → World → Type 0
 AreListed races sync z = (c pc d qc b : ℕ) → c < d → IsRace z c pc d qc b
     → IsListed races c pc d qc ⊎ IsLeftOut sync b
+
+-- its CPUs are a lesser pair
+abbrev pub IsBefore : RaceFound → RaceFound → Type 0
+IsBefore one two = (one.cpu < two.cpu) ⊎ ((one.cpu ≡ two.cpu) × (one.other < two.other))
+
+-- they stand by rising pair of CPUs
+abbrev pub AreRising : List RaceFound → Type 0
+AreRising races = (i j : ℕ) (one two : RaceFound) → i < j → slice_get races i ≡ Some one
+    → slice_get races j ≡ Some two → IsBefore one two
+
+-- the races in what a machine shows, one of two CPUs, and with no schedule; none is left out, but for
+-- those at values of the maps that are
+pub record AreRacesIn (m : MachineState) (sync : List ℕ) (races : List RaceFound) : Type 0 where
+  pub each : (race : RaceFound) → IsAmong races race → (w : World) → Shows m w
+      → RacesIn w sync race
+  pub ordered : (race : RaceFound) → IsAmong races race → race.cpu < race.other
+  pub here : (race : RaceFound) → IsAmong races race → race.by ≡ []
+  pub rising : AreRising races
+  pub all : (w : World) → Shows m w → AreListed races sync w
 
 -- so is each in all that schedules lead to; of a patient search, while no job runs out of budget
 abbrev pub HaveAllRaces : Bool → World → List ℕ → List RaceFound → Type 0

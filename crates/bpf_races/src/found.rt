@@ -1,6 +1,6 @@
 //! Races, each between two places once.
 
-ghost use Rattle.std.specs.Prelude.{◌≡◌, ◌<◌, ℕ, true, false, Some, OnOk, slice_get};
+ghost use Rattle.std.specs.Prelude.{◌≡◌, ◌<◌, true, false};
 ghost use Rattle.bpf_races.specs.Races.{IsBetween, IsListed};
 
 use std::marker::Model;

@@ -1,17 +1,15 @@
 //! The races of the machines that a search keeps.
 
 ghost use Rattle.std.specs.Prelude.{◌≡◌, ◌⊎◌, ◌<◌, ℕ, false, true, IfNone, IfOk, IfSome, OnOk, length};
-ghost use Rattle.bpf_machine.specs.Machine.{MachineState};
 ghost use Rattle.bpf_machine.specs.Schedule.{World};
 ghost use Rattle.bpf_explore.specs.Album.{IsShownAt};
-ghost use Rattle.bpf_races.specs.Touch.{Clash};
-ghost use Rattle.bpf_races.specs.Races.{IsBetween, IsLeftOut, IsListed, RacesBy};
-ghost use Rattle.bpf_races.specs.Private.Searching.{AreListedAt, AreListedIn, AreListedOf, AreNexts, AreNextsAt, AreRacing, AreShown, Gathered, IsUnshown, Keeps};
+ghost use Rattle.bpf_races.specs.Races.{IsBetween, IsListed, RacesBy};
+ghost use Rattle.bpf_races.specs.Private.Searching.{AreAllListed, AreListedAt, AreOrdered, AreRacesAt, AreRacing, AreShown, Gathered, IsUnshown, Keeps};
 
-use crate::clash::racing_byte;
 use crate::found::{Race, is_listed};
 use crate::next::{Next, Watcher};
 use crate::searched::Searched;
+use crate::within::{race_between, races_in};
 use std::alloc::{AllocError, Global};
 
 /// Whether a CPU stands at this pc.
@@ -20,26 +18,6 @@ fn stands_at(next: &Next, pc: u32) -> bool
     ensures elsewhere { result ≡ false → next.now.pc ≡ pc → ⊥ }
 {
     next.pc() == pc
-}
-
-/// A byte for which two next steps race, but for values of these maps.
-fn byte_between(first: &Next, second: &Next, sync: &[usize]) -> Option<u64>
-    ensures found { IfSome result (Clash first.now.accesses second.now.accesses) }
-    ensures counts { IfSome result (λ b. IsLeftOut sync.now b → ⊥) }
-    ensures none { IfNone result ((b : ℕ) → Clash first.now.accesses second.now.accesses b
-        → IsLeftOut sync.now b) }
-{
-    racing_byte(first.accesses(), second.accesses(), sync)
-}
-
-/// Whether they race for no byte, but for values of these maps.
-fn is_apart(first: &Next, second: &Next, sync: &[usize]) -> bool
-    ensures apart { result ≡ true → (b : ℕ) → Clash first.now.accesses second.now.accesses b
-        → IsLeftOut sync.now b }
-    ensures close { result ≡ false → (b : ℕ) × Clash first.now.accesses second.now.accesses b
-        × (IsLeftOut sync.now b → ⊥) }
-{
-    byte_between(first, second, sync).is_none()
 }
 
 /// A race between these CPUs at these pcs, where the way to a kept machine leads; `None` where there
@@ -73,19 +51,8 @@ fn race_by<S: Searched>(
     if !stands_at(&second, other_pc) {
         return Ok(None);
     }
-    let Some(at) = byte_between(&first, &second, sync) else {
-        return Ok(None);
-    };
-    let key = watcher.key_at(machine, at)?;
-    Ok(Some(Race {
-        cpu,
-        pc,
-        other,
-        other_pc,
-        at,
-        key,
-        by,
-    }))
+    let found = race_between(watcher, machine, sync, cpu, &first, other, &second, by)?;
+    Ok(found)
 }
 
 /// Puts such a race behind the others, unless one between the same places is listed. Whether one is
@@ -124,45 +91,31 @@ fn add_race<S: Searched>(
     }
 }
 
-/// The CPU of a number. One that is too great counts as want of memory.
-fn cpu_of(number: usize) -> Result<u8, AllocError>
-    ensures { IfOk result (λ cpu. cpu ≡ number) }
-{
-    u8::try_from(number).map_err(|_| AllocError)
-}
-
-/// Lists the race of two CPUs of a kept machine, if they have one. Whether it is listed then.
-fn add_pair<S: Searched>(
+/// Lists a race of a kept machine, unless one between the same places is listed. Whether one is then.
+fn add_found<S: Searched>(
     search: &mut S,
     watcher: &mut Watcher,
     sync: &[usize],
     place: usize,
-    nexts: &[Next],
-    cpu: usize,
-    other: usize,
+    found: &Race,
     races: &mut Vec<Race>,
 ) -> Result<bool, AllocError>
     requires place { place < length (S.kept search.old) }
-    requires order { cpu < other }
-    requires within { other < length nexts.now }
+    requires order { found.now.cpu < found.now.other }
     requires gathered { Gathered (S.kept search.old) sync.now races.old.items }
     ensures same { S.kept search.new ≡ S.kept search.old }
     ensures gathered { OnOk result (Gathered (S.kept search.old) sync.now races.new.items) }
     ensures keeps { OnOk result (Keeps races.old.items races.new.items) }
-    ensures listed { IfOk result (λ listed. listed ≡ true → (m : MachineState)
-        → AreNexts m nexts.now → AreListedOf races.new.items sync.now m cpu other) }
+    ensures listed { IfOk result (λ listed. listed ≡ true
+        → IsListed races.new.items found.now.cpu found.now.pc found.now.other found.now.other_pc) }
     ensures missed { S.patient ≡ false → IfOk result (λ listed. listed ≡ false
-        → AreNextsAt (S.kept search.old) place nexts.now → IsUnshown (S.kept search.old) place) }
+        → AreRacing (S.kept search.old) sync.now place found.now.cpu found.now.pc found.now.other
+        found.now.other_pc → ⊥) }
 {
-    let first = &nexts[cpu];
-    let second = &nexts[other];
-    let pc = first.pc();
-    let other_pc = second.pc();
-    let cpu = cpu_of(cpu)?;
-    let other = cpu_of(other)?;
-    if is_apart(first, second, sync) {
-        return Ok(true);
-    }
+    let cpu = found.cpu;
+    let pc = found.pc;
+    let other = found.other;
+    let other_pc = found.other_pc;
     let listed = add_race(
         search, watcher, sync, place, cpu, pc, other, other_pc, races,
     )?;
@@ -177,58 +130,30 @@ pub(crate) fn both(first: bool, second: bool) -> bool
     first && second
 }
 
-/// Lists the races of a CPU of a kept machine and those behind it. Whether all are listed then.
-fn add_races_of<S: Searched>(
-    search: &mut S,
-    watcher: &mut Watcher,
-    sync: &[usize],
-    place: usize,
-    nexts: &[Next],
-    cpu: usize,
-    races: &mut Vec<Race>,
-) -> Result<bool, AllocError>
-    requires place { place < length (S.kept search.old) }
-    requires within { cpu < length nexts.now }
-    requires gathered { Gathered (S.kept search.old) sync.now races.old.items }
-    ensures same { S.kept search.new ≡ S.kept search.old }
-    ensures gathered { OnOk result (Gathered (S.kept search.old) sync.now races.new.items) }
-    ensures keeps { OnOk result (Keeps races.old.items races.new.items) }
-    ensures listed { IfOk result (λ listed. listed ≡ true → (m : MachineState)
-        → AreNexts m nexts.now → (d : ℕ) → cpu < d → d < length nexts.now
-        → AreListedOf races.new.items sync.now m cpu d) }
-    ensures missed { S.patient ≡ false → IfOk result (λ listed. listed ≡ false
-        → AreNextsAt (S.kept search.old) place nexts.now → IsUnshown (S.kept search.old) place) }
-{
-    let mut all = true;
-    for other in cpu + 1..nexts.len() {
-        let listed = add_pair(search, watcher, sync, place, nexts, cpu, other, races)?;
-        all = both(all, listed);
-    }
-    Ok(all)
-}
-
-/// Lists the races of a kept machine, whose CPUs' next steps are these.
+/// Lists races of a kept machine. Whether all are listed then.
 fn add_all<S: Searched>(
     search: &mut S,
     watcher: &mut Watcher,
     sync: &[usize],
     place: usize,
-    nexts: &[Next],
+    found: &[Race],
     races: &mut Vec<Race>,
 ) -> Result<bool, AllocError>
     requires place { place < length (S.kept search.old) }
+    requires order { AreOrdered found.now }
     requires gathered { Gathered (S.kept search.old) sync.now races.old.items }
     ensures same { S.kept search.new ≡ S.kept search.old }
     ensures gathered { OnOk result (Gathered (S.kept search.old) sync.now races.new.items) }
     ensures keeps { OnOk result (Keeps races.old.items races.new.items) }
-    ensures listed { IfOk result (λ listed. listed ≡ true → (m : MachineState)
-        → AreNexts m nexts.now → AreListedIn races.new.items sync.now m) }
+    ensures listed { IfOk result (λ listed. listed ≡ true
+        → AreAllListed races.new.items found.now) }
     ensures missed { S.patient ≡ false → IfOk result (λ listed. listed ≡ false
-        → AreNextsAt (S.kept search.old) place nexts.now → IsUnshown (S.kept search.old) place) }
+        → AreRacesAt (S.kept search.old) sync.now place found.now
+        → IsUnshown (S.kept search.old) place) }
 {
     let mut all = true;
-    for cpu in 0..nexts.len() {
-        let listed = add_races_of(search, watcher, sync, place, nexts, cpu, races)?;
+    for k in 0..found.len() {
+        let listed = add_found(search, watcher, sync, place, &found[k], races)?;
         all = both(all, listed);
     }
     Ok(all)
@@ -236,6 +161,7 @@ fn add_all<S: Searched>(
 
 /// Lists the races of a kept machine. Whether all are listed then.
 fn add_at<S: Searched>(
+    alloc: Global,
     search: &mut S,
     watcher: &mut Watcher,
     sync: &[usize],
@@ -253,8 +179,8 @@ fn add_at<S: Searched>(
         → IsUnshown (S.kept search.old) place) }
 {
     search.take(place)?;
-    let nexts = watcher.nexts(search.current())?;
-    let listed = add_all(search, watcher, sync, place, &nexts, races)?;
+    let found = races_in(alloc, watcher, search.current(), sync)?;
+    let listed = add_all(search, watcher, sync, place, &found, races)?;
     Ok(listed)
 }
 
@@ -276,7 +202,7 @@ pub fn gather_races<S: Searched>(
     let mut races = Vec::new(alloc);
     let mut all = true;
     for place in 0..search.count() {
-        let listed = add_at(search, watcher, sync, place, &mut races)?;
+        let listed = add_at(alloc, search, watcher, sync, place, &mut races)?;
         all = both(all, listed);
     }
     Ok((races, all))

@@ -1,7 +1,7 @@
 //! Races as they are printed.
 
-ghost use Rattle.std.specs.Prelude.{◌≡◌, ◌++◌, [], IfOk, OnOk, map, option_map, slice_index_or, string_bytes};
-ghost use Rattle.bpf_races.specs.Lines.{count_text, key_text, last_line, places_text, race_lines, race_text, races_text, value_text};
+ghost use Rattle.std.specs.Prelude.{◌≡◌, ◌++◌, [], IfOk, OnOk, length, map, option_map, slice_index_or, string_bytes};
+ghost use Rattle.bpf_races.specs.Lines.{count_text, here_lines, here_text, key_text, last_line, places_text, race_text, races_text, value_text};
 
 use crate::clash::map_at;
 use crate::found::Race;
@@ -52,6 +52,23 @@ fn value_text(alloc: Global, names: &[String], race: &Race) -> Result<String, Al
     format!(in alloc; " map {name} {key}")
 }
 
+/// Puts the places of a race and its value behind the text.
+fn push_places(
+    alloc: Global,
+    text: &mut String,
+    names: &[String],
+    race: &Race,
+) -> Result<(), AllocError>
+    ensures { OnOk result (string_bytes text.new ≡ string_bytes text.old
+        ++ (places_text race.now ++ value_text (map string_bytes names.now) race.now)) }
+{
+    let places = places_text(alloc, race)?;
+    let value = value_text(alloc, names, race)?;
+    text.push_str(places.as_str())?;
+    text.push_str(value.as_str())?;
+    Ok(())
+}
+
 /// Its schedule.
 fn way_of(race: &Race) -> &[(u8, u64)]
     ensures { result.now ≡ race.now.by }
@@ -69,10 +86,7 @@ fn push_race(
     ensures { OnOk result (string_bytes text.new
         ≡ string_bytes text.old ++ race_text (map string_bytes names.now) race.now) }
 {
-    let places = places_text(alloc, race)?;
-    let value = value_text(alloc, names, race)?;
-    text.push_str(places.as_str())?;
-    text.push_str(value.as_str())?;
+    push_places(alloc, text, names, race)?;
     text.push_str(" by")?;
     push_runs(alloc, text, way_of(race))?;
     text.push_str("\n")?;
@@ -107,5 +121,32 @@ pub fn list_races(alloc: Global, names: &[String], races: &Races) -> Result<Stri
         push_race(alloc, &mut text, names, race)?;
     }
     push_last(alloc, &mut text, races.all, races.list.len())?;
+    Ok(text)
+}
+
+/// Puts the line of a race behind the text, but for its schedule.
+fn push_here(
+    alloc: Global,
+    text: &mut String,
+    names: &[String],
+    race: &Race,
+) -> Result<(), AllocError>
+    ensures { OnOk result (string_bytes text.new
+        ≡ string_bytes text.old ++ here_text (map string_bytes names.now) race.now) }
+{
+    push_places(alloc, text, names, race)?;
+    text.push_str("\n")?;
+    Ok(())
+}
+
+/// A line a race, without its schedule.
+pub fn list_races_in(alloc: Global, names: &[String], races: &[Race]) -> Result<String, AllocError>
+    ensures { IfOk result (λ text. string_bytes text
+        ≡ here_lines (map string_bytes names.now) (length races.now) races.now) }
+{
+    let mut text = String::new(alloc);
+    for race in races {
+        push_here(alloc, &mut text, names, race)?;
+    }
     Ok(text)
 }

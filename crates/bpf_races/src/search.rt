@@ -1,6 +1,6 @@
 //! Every race of jobs: the search from a shape and its jobs.
 
-ghost use Rattle.std.specs.Prelude.{◌≡◌, ◌<◌, ◌≤◌, true, false, All, IfOk, map, vec_len};
+ghost use Rattle.std.specs.Prelude.{◌<◌, ◌≤◌, true, false, All, IfOk, map, vec_len};
 ghost use Rattle.bpf_mem.specs.Limits.{max_context};
 ghost use Rattle.bpf_cpu.specs.Task.{waiting};
 ghost use Rattle.bpf_jobs.specs.Printed.{first_world};

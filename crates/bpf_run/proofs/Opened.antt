@@ -89,20 +89,20 @@ talked echo strict text session silent talks kept lost s stats short utf8 works 
     inr (refl, refl, works, counts, (opened.1.0, (short, utf8, opened.0, opened.1.1), held opened.1.0 opened.1.2))
 
 -- states of a file
-pub states_talked : (patient : Bool) (text : List ℕ) (f : File) (silent : Type 0) (talks : File → Status → Type 0) (kept : Option (List ℕ)) (lost : Bool) (s : Status) (stats : List ℕ)
+pub states_talked : (patient races : Bool) (text : List ℕ) (f : File) (silent : Type 0) (talks : File → Status → Type 0) (kept : Option (List ℕ)) (lost : Bool) (s : Status) (stats : List ℕ)
     → length text ≤ MAX_INPUT → IsUtf8 text → lost ≡ false → stats ≡ [] → IsRunFile text (Ok f) → talks f s
-    → Holds (partner.States patient) (Some text) silent talks false kept kept lost s stats
-states_talked patient text f silent talks kept lost s stats short utf8 works counts said held =
+    → Holds (partner.States patient races) (Some text) silent talks false kept kept lost s stats
+states_talked patient races text f silent talks kept lost s stats short utf8 works counts said held =
     inr (refl, refl, works, counts, (f, (short, utf8, tt, said), held))
 
 file_read : (text : List ℕ) (r : Refusal) → RefusesFile text r → is_unread (reply.Refused r) ≡ false
 file_read text (refusal.Input e) said = absurd said
 file_read text r said = refl
 
-pub states_refused : (patient : Bool) (text : List ℕ) (r : Refusal) (silent : Type 0) (talks : File → Status → Type 0) (old new : Option (List ℕ)) (lost : Bool) (s : Status)
+pub states_refused : (patient races : Bool) (text : List ℕ) (r : Refusal) (silent : Type 0) (talks : File → Status → Type 0) (old new : Option (List ℕ)) (lost : Bool) (s : Status)
     → length text ≤ MAX_INPUT → IsUtf8 text → silent → RefusesFile text r → Prints (reply.Refused r) old new lost s
-    → Holds (partner.States patient) (Some text) silent talks false old new lost s (stats_of (reply.Refused r))
-states_refused patient text r silent talks old new lost s short utf8 quiet refused printed =
+    → Holds (partner.States patient races) (Some text) silent talks false old new lost s (stats_of (reply.Refused r))
+states_refused patient races text r silent talks old new lost s short utf8 quiet refused printed =
     inl (quiet, (reply.Refused r, sym (file_read text r refused), (inr (short, utf8, refused), λ some. tt), printed, refl))
 
 -- bytes that are no text

@@ -139,7 +139,7 @@ IsAnswer (command.Show options) text r =
 IsAnswer (command.Races options) text r =
     IsRacesFile options.search.patient options.search.limit (map string_bytes options.sync.items) text r
 IsAnswer (command.Check options) text r = IsCheckedFile options.patient options.limit text r
-IsAnswer (command.Expand first patient) text r = IsExpandedFile first text r
+IsAnswer (command.Expand first patient races) text r = IsExpandedFile first text r
 
 -- it asks for no workers
 abbrev pub IsForOneThread : Command → Type 0
@@ -152,7 +152,7 @@ IsForOneSchedule (command.Explore options) = ⊥
 IsForOneSchedule (command.Show options) = ⊥
 IsForOneSchedule (command.Races options) = ⊥
 IsForOneSchedule (command.Check options) = ⊥
-IsForOneSchedule (command.Expand first patient) = ⊥
+IsForOneSchedule (command.Expand first patient races) = ⊥
 IsForOneSchedule _ = Unit {0}
 
 -- ---- input

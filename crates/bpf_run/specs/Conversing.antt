@@ -31,18 +31,19 @@ use Rattle.bpf_run.specs.declared.reply.Status.TheVariants as status
 abbrev pub asked_talk : Command → Option Text → (json : Bool) → Option (Partner × Text)
 asked_talk (command.Debug echo strict) (Some name) false =
     Some (partner.Debugger echo strict, name)
-asked_talk (command.Expand false patient) (Some name) false = Some (partner.States patient, name)
+asked_talk (command.Expand false patient races) (Some name) false =
+    Some (partner.States patient races, name)
 asked_talk _ _ _ = None
 
 -- the command
 abbrev pub command_of : Partner → Command
 command_of (partner.Debugger echo strict) = command.Debug echo strict
-command_of (partner.States patient) = command.Expand false patient
+command_of (partner.States patient races) = command.Expand false patient races
 
 -- a file of this text leaves lines to be read: those of the debugger unless it has its own
 abbrev pub LeavesLines : Partner → List ℕ → Type 0
 LeavesLines (partner.Debugger echo strict) bytes = NoneEnds (lines_of bytes)
-LeavesLines (partner.States patient) bytes = Unit {0}
+LeavesLines (partner.States patient races) bytes = Unit {0}
 
 abbrev pub IsRefusal : Reply → Type 0
 IsRefusal (reply.Refused refusal) = Unit {0}
@@ -73,8 +74,8 @@ abbrev pub Converses : (passes : List Call → Type 0) → (unread unwritten : B
     → File → Status → Type 0
 Converses passes unread unwritten (partner.Debugger echo strict) f answered =
     DebugsFrom passes unread unwritten echo strict (scene_of f) answered
-Converses passes unread unwritten (partner.States patient) f answered =
-    StatesFrom passes unread unwritten (filter_of patient f) answered
+Converses passes unread unwritten (partner.States patient races) f answered =
+    StatesFrom passes unread unwritten (filter_of patient races f) answered
 
 -- what the file alone comes to is printed, and the terminal is left alone; or it is a run file that
 -- leaves lines, and a conversation over its jobs is held, and nothing else written

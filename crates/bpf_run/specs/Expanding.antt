@@ -12,11 +12,11 @@ abbrev pub shape_of : File → Shape
 shape_of f = record { cpus = f.cpus; maps = f.maps }
 
 -- the filter of the states of a file's jobs, that has answered nothing
-abbrev pub filter_of : (patient : Bool) → File → FilterState
-filter_of patient f = new_filter patient (shape_of f) f.names f.programs f.jobs
+abbrev pub filter_of : (patient races : Bool) → File → FilterState
+filter_of patient races f = new_filter patient races (shape_of f) f.names f.programs f.jobs
 
-abbrev pub IsFilterOf : (patient : Bool) → File → FilterState → Type 0
-IsFilterOf patient f x = x ≡ filter_of patient f
+abbrev pub IsFilterOf : (patient races : Bool) → File → FilterState → Type 0
+IsFilterOf patient races f x = x ≡ filter_of patient races f
 
 -- the first state, where that is asked for; else nothing, where no line is read
 abbrev pub IsExpandedText : (first : Bool) → File → List ℕ → Type 0

@@ -30,6 +30,8 @@ pub enum Partner {
     States {
         /// How many steps are left of budgets is passed over.
         patient: bool,
+        /// The data races of each are told.
+        races: bool,
     },
 }
 
@@ -60,7 +62,11 @@ pub fn asked_talk<'a>(command: &Command, file: Option<&'a str>, json: bool) -> O
         Command::Expand {
             first: false,
             patient,
-        } => Partner::States { patient: *patient },
+            races,
+        } => Partner::States {
+            patient: *patient,
+            races: *races,
+        },
         _ => return None,
     };
     Some(Asked { partner, name })
@@ -148,7 +154,9 @@ fn talk_text<W: Sink, D: Terminal>(
 {
     match partner {
         Partner::Debugger { echo, strict } => debug_text(alloc, echo, strict, text, sink, terminal),
-        Partner::States { patient } => expand_text(alloc, patient, text, sink, terminal),
+        Partner::States { patient, races } => expand_text(
+            alloc, patient, races, text, sink, terminal,
+        ),
     }
 }
 

@@ -23,9 +23,14 @@ use bpf_talk::{Terminal, talk};
 use std::alloc::{AllocError, Global};
 
 /// The filter of the states of a run file's jobs. Want of memory is the only refusal.
-fn open_filter(alloc: Global, patient: bool, file: RunFile) -> Result<Filter, AllocError>
+fn open_filter(
+    alloc: Global,
+    patient: bool,
+    races: bool,
+    file: RunFile,
+) -> Result<Filter, AllocError>
     requires { IsRunnable file }
-    ensures { IfOk result (IsFilterOf patient (file_of file)) }
+    ensures { IfOk result (IsFilterOf patient races (file_of file)) }
 {
     let RunFile {
         shape,
@@ -34,17 +39,17 @@ fn open_filter(alloc: Global, patient: bool, file: RunFile) -> Result<Filter, Al
         jobs,
         ..
     } = file;
-    Filter::new(alloc, patient, shape, names, programs, jobs)
+    Filter::new(alloc, patient, races, shape, names, programs, jobs)
 }
 
 /// The same of the run file that a text says.
-fn filter_in(alloc: Global, patient: bool, text: &str) -> Result<Filter, Refusal>
+fn filter_in(alloc: Global, patient: bool, races: bool, text: &str) -> Result<Filter, Refusal>
     ensures opened { IfOk result (λ x. (f : File) × IsRunFile text.now (Ok f)
-        × IsFilterOf patient f x) }
+        × IsFilterOf patient races f x) }
     ensures refused { IfErr result (RefusesFile text.now) }
 {
     let file = file_in(alloc, text)?;
-    match open_filter(alloc, patient, file) {
+    match open_filter(alloc, patient, races, file) {
         Ok(filter) => Ok(filter),
         Err(_) => Err(Refusal::OutOfMemory),
     }
@@ -108,6 +113,7 @@ fn answer_states<D: Terminal>(alloc: Global, filter: Filter, terminal: &mut D) -
 pub(crate) fn expand_text<W: Sink, D: Terminal>(
     alloc: Global,
     patient: bool,
+    races: bool,
     text: &str,
     sink: &mut W,
     terminal: &mut D,
@@ -117,13 +123,13 @@ pub(crate) fn expand_text<W: Sink, D: Terminal>(
     requires tells { D.has_failed terminal.old ≡ false }
     requires short { length text.now ≤ MAX_INPUT }
     requires utf8 { IsUtf8 text.now }
-    ensures { Holds (Partner.States patient) (Some text.now) (terminal.new ≡ terminal.old)
+    ensures { Holds (Partner.States patient races) (Some text.now) (terminal.new ≡ terminal.old)
         (Converses (D.passes terminal.old terminal.new) (D.is_unread terminal.new)
-        (D.has_failed terminal.new) (Partner.States patient))
+        (D.has_failed terminal.new) (Partner.States patient races))
         false (W.contents sink.old) (W.contents sink.new) (W.has_failed sink.new) result.0
         (stats_of result.1) }
 {
-    match filter_in(alloc, patient, text) {
+    match filter_in(alloc, patient, races, text) {
         Ok(filter) => answer_states(alloc, filter, terminal),
         Err(refusal) => {
             let reply = Reply::Refused(refusal);

@@ -7,7 +7,7 @@ use Rattle.bpf_machine.specs.Schedule.{World}
 use Rattle.bpf_explore.specs.Album.{IsShownAt}
 use Rattle.bpf_races.specs.Touch.{IsAmong}
 use Rattle.bpf_races.specs.Next.{NextStep, IsNextIn}
-use Rattle.bpf_races.specs.Races.{RaceFound, RacesBy, AreOnce, IsListed, IsLeftOut}
+use Rattle.bpf_races.specs.Races.{RaceFound, RacesBy, RacesIn, AreOnce, IsListed, IsLeftOut}
 
 -- the next steps of the CPUs, by their numbers; those beyond have no job in hand
 pub record AreNexts (m : MachineState) (nexts : List NextStep) : Type 0 where
@@ -27,9 +27,19 @@ abbrev pub AreRacing : List MachineState → List ℕ → ℕ → ℕ → ℕ �
 AreRacing kept sync i c pc d qc = (w : World) × IsShownAt kept i w
     × ((b : ℕ) × IsRace w c pc d qc b × (IsLeftOut sync b → ⊥))
 
--- these are the next steps of the CPUs of the i-th kept machine
-abbrev pub AreNextsAt : List MachineState → ℕ → List NextStep → Type 0
-AreNextsAt kept i nexts = (m : MachineState) → slice_get kept i ≡ Some m → AreNexts m nexts
+-- each of these is between two CPUs, the lesser first
+abbrev pub AreOrdered : List RaceFound → Type 0
+AreOrdered found = (race : RaceFound) → IsAmong found race → race.cpu < race.other
+
+-- each is a race in what the i-th kept machine shows
+abbrev pub AreRacesAt : List MachineState → List ℕ → ℕ → List RaceFound → Type 0
+AreRacesAt kept sync i found = (race : RaceFound) → IsAmong found race → (w : World)
+    → IsShownAt kept i w → RacesIn w sync race
+
+-- one between the same places is listed of each
+abbrev pub AreAllListed : List RaceFound → List RaceFound → Type 0
+AreAllListed races found = (race : RaceFound) → IsAmong found race
+    → IsListed races race.cpu race.pc race.other race.other_pc
 
 -- the i-th kept machine shows no world
 abbrev pub IsUnshown : List MachineState → ℕ → Type 0

@@ -2,4 +2,4 @@ use Rattle.bpf_expand.proofs.Reporting.{lines_cover}
 use Rattle.bpf_expand.proofs.laws.lines_cover.Goals as goal
 
 pub returns : goal.returns
-returns c = lines_cover c.saved_alike_look_alike.ensures c.alike_stand_alike.ensures c.states_cover.ensures
+returns c = lines_cover c.saved_alike_look_alike.ensures c.alike_stand_alike.ensures c.states_cover.ensures c.patient_states_cover.ensures

@@ -1,4 +1,4 @@
-use Rattle.std.proofs.Common.{◌≡◌, ◌∙◌, List, length, arith, ap, subst, sym, false, true}
+use Rattle.std.proofs.Common.{◌≡◌, List, length, arith, ap, subst, sym, false, true}
 use Rattle.bpf_machine.specs.Machine.{MachineState}
 use Rattle.bpf_races.specs.Races.{RaceFound}
 use Rattle.bpf_races.proofs.GatherLaws.{KeptSoFar, kept_begins, kept_goes_on, all_kept}

@@ -1,14 +1,13 @@
-use Rattle.std.proofs.Common.{◌≡◌, ◌<◌, ◌∙◌, Bool, true, List, ℕ, map, refl, sym, subst}
+use Rattle.std.proofs.Common.{◌≡◌, ◌<◌, ◌∙◌, map, refl, sym, subst}
 use Rattle.std.specs.Prelude.{All}
 use Rattle.bpf_shared.specs.Shape.{Shape}
 use Rattle.bpf_cpu.specs.declared.job.Job.{Job}
 use Rattle.bpf_cpu.specs.Task.{waiting}
-use Rattle.bpf_machine.specs.Machine.{MachineState, Shows}
+use Rattle.bpf_machine.specs.Machine.{Shows}
 use Rattle.bpf_machine.specs.Schedule.{World}
 use Rattle.bpf_jobs.specs.Printed.{first_world}
 use Rattle.bpf_explore.specs.Stores.{IsOfShape}
 use Rattle.bpf_explore.proofs.ExploreLaws.{whole_of, first_shape, first_lists_none, first_fresh, still_first}
-use Rattle.bpf_races.specs.Private.Searching.{Gathered, AreListedAt}
 use Rattle.bpf_races.proofs.Searching.{are_races}
 use Rattle.bpf_races.proofs.search.find_races.Goals as goal
 

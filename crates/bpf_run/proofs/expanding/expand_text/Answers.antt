@@ -12,15 +12,15 @@ returns-in-Ok g c =
     let heard = c.answer_states.new.terminal in
     let said = c.in-Ok.ensures.opened in
     let talks = subst (λ (x : FilterState). StatesFrom (g.D.Terminal.passes hears heard) (g.D.Terminal.is_unread heard) (g.D.Terminal.has_failed heard) x c.answer_states.result.0) said.2 c.answer_states.ensures.talks in
-    states_talked c.args.patient c.args.text.now said.0 (heard ≡ hears)
-    (Converses (g.D.Terminal.passes hears heard) (g.D.Terminal.is_unread heard) (g.D.Terminal.has_failed heard) (partner.States c.args.patient))
+    states_talked c.args.patient c.args.races c.args.text.now said.0 (heard ≡ hears)
+    (Converses (g.D.Terminal.passes hears heard) (g.D.Terminal.is_unread heard) (g.D.Terminal.has_failed heard) (partner.States c.args.patient c.args.races))
     (g.W.Sink.contents c.args.sink.now) (g.W.Sink.has_failed c.args.sink.now) c.answer_states.result.0 (stats_of c.answer_states.result.1)
     c.requires.short c.requires.utf8 c.requires.writable c.answer_states.ensures.stats said.1 talks
 
 pub returns-in-Err : goal.returns-in-Err
 returns-in-Err g c =
     let hears = c.args.terminal.now in
-    states_refused c.args.patient c.args.text.now c.in-Err.refusal (hears ≡ hears)
-    (Converses (g.D.Terminal.passes hears hears) (g.D.Terminal.is_unread hears) (g.D.Terminal.has_failed hears) (partner.States c.args.patient))
+    states_refused c.args.patient c.args.races c.args.text.now c.in-Err.refusal (hears ≡ hears)
+    (Converses (g.D.Terminal.passes hears hears) (g.D.Terminal.is_unread hears) (g.D.Terminal.has_failed hears) (partner.States c.args.patient c.args.races))
     (g.W.Sink.contents c.args.sink.now) (g.W.Sink.contents c.answer.new.sink) (g.W.Sink.has_failed c.answer.new.sink) c.answer.result
     c.requires.short c.requires.utf8 refl c.in-Err.ensures.refused c.answer.ensures

@@ -1,4 +1,4 @@
-use Rattle.std.proofs.Common.{◌∙◌, ◌+◌, ℕ, List, ap, min, subst, sym}
+use Rattle.std.proofs.Common.{◌∙◌, ◌+◌, Bool, ℕ, List, ap, min, subst, sym}
 use Rattle.bpf_expand.specs.State.{Host}
 use Rattle.bpf_expand.specs.Filter.{FilterState, IsLineTold}
 use Rattle.bpf_expand.proofs.Answered.{kept_told}
@@ -14,10 +14,13 @@ returns c =
     let before = c.answer_line-answer.ensures.same in
     let host = before.0 ∙ ap (λ (x : FilterState). x.host) view in
     let names = before.1 ∙ ap (λ (x : FilterState). x.names) view in
-    let told = kept_told asked.host asked.names asked.lines line c.answer_line-answer.result kept.told c.keep.result c.answer_line-answer.ensures.told c.keep.ensures.ok c.keep.ensures.err in
-    let lines = subst (λ (n : ℕ). IsLineTold asked.host asked.names n line kept.told c.keep.result) (sym same.2) told in (
+    let races = before.2 ∙ ap (λ (x : FilterState). x.races) view in
+    let told = kept_told asked.races asked.host asked.names asked.lines line c.answer_line-answer.result kept.told c.keep.result c.answer_line-answer.ensures.told c.keep.ensures.ok c.keep.ensures.err in
+    let lines = subst (λ (n : ℕ). IsLineTold asked.races asked.host asked.names n line kept.told c.keep.result) (sym same.3) told in (
       same.0 ∙ host,
       same.1 ∙ names,
-      same.2 ∙ (before.2 ∙ (c.saturating_add-self-inside.ensures ∙ ap (λ (x : FilterState). min (x.lines + 1) 18446744073709551615) view)),
-      subst (λ (h : Host). IsLineTold h c.args.self.now.names kept.lines line kept.told c.keep.result) host (subst (λ (ns : List (List ℕ)). IsLineTold asked.host ns kept.lines line kept.told c.keep.result) names lines),
+      same.2 ∙ races,
+      same.3 ∙ (before.3 ∙ (c.saturating_add-self-inside.ensures ∙ ap (λ (x : FilterState). min (x.lines + 1) 18446744073709551615) view)),
+      subst (λ (rs : Bool). IsLineTold rs c.args.self.now.host c.args.self.now.names kept.lines line kept.told c.keep.result) races
+          (subst (λ (h : Host). IsLineTold asked.races h c.args.self.now.names kept.lines line kept.told c.keep.result) host (subst (λ (ns : List (List ℕ)). IsLineTold asked.races asked.host ns kept.lines line kept.told c.keep.result) names lines)),
     )
