@@ -13,7 +13,7 @@ STEPS = [
     (0, "lock the stamp", ("lock",), None),
     (0, "read the segment: k isn't there", ("read_guarded",), None),
     (1, "read hop word, slots: k isn't there", ("peek",), None),
-    (0, "load the key count: 3 of 8", ("see_count",), None),
+    (0, "raise the key count from 2: it is 3", ("count_up",), None),
     (0, "raise it: 3 to 4", ("count_up",), "Update k .. Done"),
     (0, "write slot word and hop word", ("write_guarded",), None),
     (1, "load the stamp again: locked, the reading is void", ("see_stamp_again",), None),

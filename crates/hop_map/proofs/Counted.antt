@@ -1,5 +1,5 @@
 -- The count goes up, and the words remain to be written.
-use Rattle.std.proofs.Common.{◌≡◌, ℕ, ◌<◌, ◌==◌, ◌||◌, Bool, true, false, true≢false, if◌then◌else◌, List, [], ◌∷◌, Some, None, slice_index_or, IsTrue, IsFalse, refl, ap, sym, subst, ◌∙◌, arith, ⊎_elim, inr}
+use Rattle.std.proofs.Common.{◌≡◌, ℕ, ◌<◌, ◌==◌, ◌||◌, Bool, true, false, true≢false, if◌then◌else◌, List, [], ◌∷◌, Some, None, slice_index_or, Result, Ok, Err, IsOk, IsErr, refl, ap, sym, subst, ◌∙◌, arith, ⊎_elim, inr}
 use Rattle.bpf_shared.specs.Shape.{elements}
 use Rattle.bpf_shared.specs.declared.events.Entry.{Entry}
 use Rattle.hop_layout.specs.declared.about.About.{About}
@@ -26,9 +26,9 @@ pub or_false : (x : Bool) → (x || false) ≡ true → x ≡ true
 or_false true is = refl
 or_false false is = is
 
-pub by_answer : (b : Bool) (P : Type 0) → (IsTrue b → P) → (IsFalse b → P) → P
-by_answer true P said unsaid = said refl
-by_answer false P said unsaid = unsaid refl
+pub by_answer : {A E : Type 0} (r : Result A E) (P : Type 0) → (IsOk r → P) → (IsErr r → P) → P
+by_answer (Ok x) P said unsaid = said refl
+by_answer (Err e) P said unsaid = unsaid refl
 
 module _ (a : About) (l : Known) (m s : ℕ) (r : Ready a l m s) where
   abbrev k : Lock

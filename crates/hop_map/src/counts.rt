@@ -1,9 +1,10 @@
-//! How often ports went rare ways. Nothing rests on these numbers: they are told to whoever sizes a
-//! map, and no contract speaks of them.
+//! Numbers that a port keeps of each map for itself: how often it went rare ways, which is told to
+//! whoever sizes a map, and the key count that it left, which its next insertion tries first. Nothing
+//! rests on these numbers, and no contract speaks of them.
 
 use crate::growth::Growth;
 
-/// How often a port did so at one map.
+/// The numbers of one map.
 #[derive(Clone, Copy)]
 pub(crate) struct Counts {
     /// Segments that it split.
@@ -12,6 +13,8 @@ pub(crate) struct Counts {
     pub(crate) disturbed: u64,
     /// Lookups that took the lock.
     pub(crate) locks: u64,
+    /// The key count after the last insertion or deletion.
+    pub(crate) keys: u64,
 }
 
 /// The same by map, of which there are at most 16.
@@ -28,6 +31,7 @@ impl MapCounts {
                 splits: 0,
                 disturbed: 0,
                 locks: 0,
+                keys: 0,
             }; 16],
         }
     }
@@ -55,7 +59,14 @@ impl MapCounts {
         }
     }
 
-    /// Those of another port, too.
+    /// The map's key count, as it was left.
+    pub(crate) fn keys_left(&mut self, map: u8, keys: u64) {
+        if let Some(counts) = self.maps.get_mut(usize::from(map)) {
+            counts.keys = keys;
+        }
+    }
+
+    /// Those of another port, too. The key count stays.
     pub(crate) fn add(&mut self, others: &MapCounts) {
         for map in 0..16 {
             let more = others.maps[map];
@@ -64,6 +75,7 @@ impl MapCounts {
                 splits: counts.splits.wrapping_add(more.splits),
                 disturbed: counts.disturbed.wrapping_add(more.disturbed),
                 locks: counts.locks.wrapping_add(more.locks),
+                keys: counts.keys,
             };
         }
     }
@@ -76,6 +88,7 @@ impl MapCounts {
                 splits: 0,
                 disturbed: 0,
                 locks: 0,
+                keys: 0,
             },
         }
     }

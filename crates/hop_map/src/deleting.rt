@@ -25,6 +25,7 @@ fn lock_and_delete<R: Wait>(
     rt: &R,
     table: &HopTable,
     lane: Lane,
+    expected: &mut u64,
     map: u8,
     key: &[u8],
 ) -> (Lane, Deletion)
@@ -42,15 +43,17 @@ fn lock_and_delete<R: Wait>(
     let at = homing(table, map, key);
     let taken = lock_home(rt, table, &mut lane, map, at.home);
     let words = LockedWords::new(table, lane, map, taken.segment, at.key_size, at.elements);
-    delete_key(words, taken.stamp, at.home, key)
+    delete_key(words, expected, taken.stamp, at.home, key)
 }
 
 /// The key is to leave the map (bpf-helpers(7)). Its element goes to the CPU's young batch, since a
-/// CPU in a run may still hold its value.
+/// CPU in a run may still hold its value. The key count that is left is what this CPU's next
+/// insertion expects.
 pub fn delete<R: Wait>(
     rt: &R,
     table: &HopTable,
     lane: Lane,
+    expected: &mut u64,
     batches: &mut Batches,
     map: u8,
     key: &[u8],
@@ -68,7 +71,7 @@ pub fn delete<R: Wait>(
         lane.known result.0.known }
     ensures batches { AreBatchesOf table.now.about result.0.known map batches.new }
 {
-    let (mut lane, deletion) = lock_and_delete(rt, table, lane, map, key);
+    let (mut lane, deletion) = lock_and_delete(rt, table, lane, expected, map, key);
     match deletion {
         Deletion::Gone(old) => {
             let used = Used::new(&lane, map, old);

@@ -30,6 +30,7 @@ pub(crate) enum Deletion {
 /// in hand from now on.
 pub(crate) fn drop_key<'a>(
     words: LockedWords<'a>,
+    expected: &mut u64,
     stamp: u64,
     found: Spot,
     home: u32,
@@ -48,12 +49,13 @@ pub(crate) fn drop_key<'a>(
 {
     let mut words = words;
     let element = remove_at(&mut words, found, key, home);
-    (words.unlock_removed(stamp, key, element), element)
+    (words.unlock_removed(expected, stamp, key, element), element)
 }
 
 /// Takes out a key, if the segment has it, and gives the lock back.
 pub(crate) fn delete_key<'a>(
     words: LockedWords<'a>,
+    expected: &mut u64,
     stamp: u64,
     home: u32,
     key: &[u8],
@@ -80,7 +82,7 @@ pub(crate) fn delete_key<'a>(
             Deletion::Missing,
         ),
         Some(found) => {
-            let (lane, element) = drop_key(words, stamp, found, home, key);
+            let (lane, element) = drop_key(words, expected, stamp, found, home, key);
             (lane, Deletion::Gone(element))
         }
     }

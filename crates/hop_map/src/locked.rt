@@ -1,5 +1,5 @@
 //! The words of a locked segment.
-ghost use Rattle.std.specs.Prelude.{◌≡◌, ◌≢◌, ◌⊎◌, ◌<◌, ◌≤◌, ◌+◌, ◌%◌, ◌^◌, ◌↔◌, true, false, [], length, IsTrue, IsFalse, IfSome, None, take};
+ghost use Rattle.std.specs.Prelude.{◌≡◌, ◌≢◌, ◌⊎◌, ◌<◌, ◌≤◌, ◌+◌, ◌%◌, ◌^◌, ◌↔◌, true, false, [], length, IsTrue, IsFalse, IsOk, IsErr, IfSome, None, take};
 ghost use Rattle.bpf_shared.specs.Shape.{IsMapShape, elements as elements_of};
 ghost use Rattle.hop_layout.specs.Home.{home_of};
 ghost use Rattle.hop_words.specs.Rule.{image, owed};
@@ -23,7 +23,6 @@ use crate::listing::put_word;
 use crate::numbers::{hop_bits, item, link_word};
 use crate::words::{head_place, hop_place, link_place, slot_place};
 use bpf_shared::{MapAnswer, MapShape};
-use crossbeam_utils::Backoff;
 use hop_arena::word_at;
 use hop_layout::{Place, home};
 use hop_seg::{SegReads, SegWords};
@@ -89,7 +88,8 @@ impl<'a> LockedWords<'a> {
         words
     }
 
-    /// The new key counts, if the map has so many: from here on the element is the map's.
+    /// The new key counts, if the map has so many: from here on the element is the map's. If it
+    /// hasn't, answers how many it has.
     pub(crate) fn count_up(
         &mut self,
         element: u32,
@@ -97,7 +97,7 @@ impl<'a> LockedWords<'a> {
         value: &[u8],
         flags: u64,
         count: u64,
-    ) -> bool
+    ) -> Result<(), u64>
         requires contents { LockShows self.old.about self.old.known self.old.map self.old.segment }
         requires brings { OffersInsertion self.old.about self.old.known self.old.map self.old.segment
             key.now value.now flags element }
@@ -105,9 +105,9 @@ impl<'a> LockedWords<'a> {
         requires room { count < (shape_at self.old.about self.old.map).max }
         requires fits { count + 1 < 2 ^ 64 }
         ensures done { let l = self.old.known in
-            IsTrue result →
+            IsOk result →
             Inserted self.old.about l (lock_of l) (hand l) [] key.now value.now flags self.new.known }
-        ensures missed { IsFalse result → self.new ≡ self.old }
+        ensures missed { IsErr result → self.new ≡ self.old }
         ensures table { self.new.table ≡ self.old.table }
         ensures about { self.new.about ≡ self.old.about }
         ensures map { self.new.map ≡ self.old.map }
@@ -118,9 +118,10 @@ impl<'a> LockedWords<'a> {
             .count_up(self.table, self.map, count, key, value, flags)
     }
 
-    /// The key count, where the map has room for one key more. Where it hasn't, the update is
-    /// answered with `Full`.
-    fn see_room(&mut self, key: &[u8], value: &[u8], flags: u64) -> Option<u64>
+    /// The key count to try: the one that is expected, if the map would have room for one key more
+    /// by it, or else the one that stands there. If that leaves no room, the update is answered with
+    /// `Full`.
+    fn see_room(&mut self, expected: u64, key: &[u8], value: &[u8], flags: u64) -> Option<u64>
         requires contents { LockShows self.old.about self.old.known self.old.map self.old.segment }
         requires wants { Wants self.old.about self.old.known self.old.map self.old.segment
             key.now value.now flags }
@@ -138,15 +139,21 @@ impl<'a> LockedWords<'a> {
         ensures segment { self.new.segment ≡ self.old.segment }
     {
         let max = shape_of(self.table, self.map).max;
+        if expected < max {
+            return Some(expected);
+        }
         let count = self.lane.see_count(self.table, self.map, key, value, flags);
         if count == max { None } else { Some(count) }
     }
 
     /// Counts the new key: from then on the element is the map's, and the words remain to be
-    /// written. Or the update is answered with `Full`.
+    /// written. Or the update is answered with `Full`. The count that this CPU left is tried first,
+    /// then at once the one that was found: a try that missed has the count's cache line, which a
+    /// load before each try would fetch twice, and others would take it in a pause.
     pub(crate) fn count_in<R: Wait>(
         &mut self,
         rt: &R,
+        expected: &mut u64,
         element: u32,
         key: &[u8],
         value: &[u8],
@@ -168,15 +175,17 @@ impl<'a> LockedWords<'a> {
         ensures map { self.new.map ≡ self.old.map }
         ensures segment { self.new.segment ≡ self.old.segment }
     {
-        let pause = Backoff::new();
         for _ in rt.forever() {
-            let Some(count) = self.see_room(key, value, flags) else {
+            let Some(count) = self.see_room(*expected, key, value, flags) else {
                 return false;
             };
-            if self.count_up(element, key, value, flags, count) {
-                return true;
+            match self.count_up(element, key, value, flags, count) {
+                Ok(()) => {
+                    *expected = count + 1;
+                    return true;
+                }
+                Err(found) => *expected = found,
             }
-            pause.spin();
         }
         unreachable!()
     }
@@ -251,7 +260,7 @@ impl<'a> LockedWords<'a> {
 
     /// Counts a key off, whose element has been removed: the deletion takes effect. Then gives the
     /// lock back.
-    pub(crate) fn unlock_removed(self, stamp: u64, key: &[u8], old: u32) -> Lane
+    pub(crate) fn unlock_removed(self, expected: &mut u64, stamp: u64, key: &[u8], old: u32) -> Lane
         requires stamp { stamp ≡ (lock_of self.known).stamp }
         requires fits { stamp + 256 < 2 ^ 64 }
         requires removes { let l = self.known in
@@ -266,7 +275,7 @@ impl<'a> LockedWords<'a> {
     {
         let (table, map, segment) = (self.table, self.map, self.segment);
         let mut holder = self.lane;
-        holder.count_down(table, map, key, old);
+        *expected = holder.count_down(table, map, key, old);
         holder.unlock_written(table, map, segment, stamp);
         holder
     }

@@ -231,13 +231,15 @@ impl HopPort {
             unreachable!()
         };
         let place = usize::from(map);
+        let mut keys = self.counts.at(map).keys;
         let arena = &mut self.arenas[place];
         let batches = &mut self.batches[place];
         let (lane, answer, spilled) = update(
-            rt, table, lane, arena, batches, map, key, value, flags,
+            rt, table, lane, &mut keys, arena, batches, map, key, value, flags,
         );
         self.lane = Some(lane);
         self.spilled = spilled;
+        self.counts.keys_left(map, keys);
         answer
     }
 
@@ -256,9 +258,11 @@ impl HopPort {
         let Some(lane) = self.lane.take() else {
             unreachable!()
         };
+        let mut keys = self.counts.at(map).keys;
         let batches = &mut self.batches[usize::from(map)];
-        let (lane, answer) = delete(rt, table, lane, batches, map, key);
+        let (lane, answer) = delete(rt, table, lane, &mut keys, batches, map, key);
         self.lane = Some(lane);
+        self.counts.keys_left(map, keys);
         answer
     }
 

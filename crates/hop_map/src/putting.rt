@@ -38,6 +38,7 @@ fn spilled_to(landing: Landing, segment: u32) -> Option<u32>
 pub(crate) fn put_new<'a, R: Wait>(
     rt: &R,
     words: LockedWords<'a>,
+    expected: &mut u64,
     stamp: u64,
     element: u32,
     home: u32,
@@ -60,7 +61,7 @@ pub(crate) fn put_new<'a, R: Wait>(
     ensures spilled { SpillsTo words.entry.segment result.1 }
 {
     let mut words = words;
-    if !words.count_in(rt, element, key, value, flags) {
+    if !words.count_in(rt, expected, element, key, value, flags) {
         return (words.unlock_silent(stamp), Ending::Refused(MapAnswer::Full));
     }
     let segment = words.segment();
@@ -104,6 +105,7 @@ pub(crate) fn put_over<'a>(
 pub(crate) fn put<'a, R: Wait>(
     rt: &R,
     words: LockedWords<'a>,
+    expected: &mut u64,
     stamp: u64,
     element: u32,
     home: u32,
@@ -132,7 +134,7 @@ pub(crate) fn put<'a, R: Wait>(
             let (lane, old) = put_over(words, stamp, found, element, home, key, value, flags);
             (lane, Ending::Replaced(old))
         }
-        Finding::Missing => put_new(rt, words, stamp, element, home, key, value, flags),
+        Finding::Missing => put_new(rt, words, expected, stamp, element, home, key, value, flags),
     }
 }
 

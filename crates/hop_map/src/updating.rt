@@ -35,6 +35,7 @@ fn lock_and_put<R: Wait>(
     rt: &R,
     table: &HopTable,
     lane: Lane,
+    expected: &mut u64,
     map: u8,
     element: u32,
     key: &[u8],
@@ -54,7 +55,17 @@ fn lock_and_put<R: Wait>(
     let at = homing(table, map, key);
     let taken = lock_home(rt, table, &mut lane, map, at.home);
     let words = LockedWords::new(table, lane, map, taken.segment, at.key_size, at.elements);
-    put(rt, words, taken.stamp, element, at.home, key, value, flags)
+    put(
+        rt,
+        words,
+        expected,
+        taken.stamp,
+        element,
+        at.home,
+        key,
+        value,
+        flags,
+    )
 }
 
 // Locks the key's segment, and refuses an update for which no element is to be had.
@@ -188,6 +199,7 @@ fn fill_and_put<R: Wait>(
     rt: &R,
     table: &HopTable,
     lane: Lane,
+    expected: &mut u64,
     arena: &mut Arena,
     batches: &mut Batches,
     element: Element,
@@ -224,7 +236,9 @@ fn fill_and_put<R: Wait>(
     let _sizes = shape_of(table, map);
     element.fill(&mut lane, table, key, value);
     let number = element.number();
-    let (mut lane, ending) = lock_and_put(rt, table, lane, map, number, key, value, flags);
+    let (mut lane, ending) = lock_and_put(
+        rt, table, lane, expected, map, number, key, value, flags,
+    );
     match ending {
         Ending::Added(spilled) => {
             let _linked = element.into_number();
@@ -246,11 +260,13 @@ fn fill_and_put<R: Wait>(
 /// A value of these bytes is to stand under the key: always for the flags 0, where the key isn't
 /// there yet for 1, where it is there for 2 (bpf-helpers(7)). The value gets an element of its own,
 /// which is claimed and filled before the key's segment is locked, and given back where the update
-/// is refused. Answers too which segment's overflow list a new key went to.
+/// is refused. Answers too which segment's overflow list a new key went to. A new key is first
+/// counted by the key count that this CPU left; any number does, and the one left then stands there.
 pub fn update<R: Wait>(
     rt: &R,
     table: &HopTable,
     lane: Lane,
+    expected: &mut u64,
     arena: &mut Arena,
     batches: &mut Batches,
     map: u8,
@@ -287,7 +303,7 @@ pub fn update<R: Wait>(
             (lane, answer, None)
         }
         Some(element) => fill_and_put(
-            rt, table, lane, arena, batches, element, map, key, value, flags,
+            rt, table, lane, expected, arena, batches, element, map, key, value, flags,
         ),
     }
 }

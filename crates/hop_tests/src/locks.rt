@@ -74,11 +74,13 @@ fn first_update<R: Wait>(rt: &R, table: &HopTable, lane: Lane, key: u32) -> Opti
         Ok(()) => {}
         Err(_) => return None,
     }
+    let mut expected = 0;
     let key = key.to_le_bytes();
     let (_lane, answer, _spilled) = update(
         rt,
         table,
         lane,
+        &mut expected,
         &mut arena,
         &mut batches,
         0,

@@ -1,5 +1,5 @@
 //! The steps by which an update or a deletion takes effect: at the key count, or at the unlock.
-ghost use Rattle.std.specs.Prelude.{◌≡◌, ◌<◌, ◌+◌, ◌^◌, false, length, IsTrue, IsFalse};
+ghost use Rattle.std.specs.Prelude.{◌≡◌, ◌<◌, ◌+◌, ◌^◌, false, length, IsOk, IsErr};
 ghost use Rattle.bpf_shared.specs.declared.events.Event.TheVariants.{Update, Delete, Keys};
 ghost use Rattle.bpf_shared.specs.KeyOrder.{in_order};
 ghost use Rattle.hop_words.specs.Ghost.{IsSegment};
@@ -17,7 +17,7 @@ use std::marker::Brand;
 
 impl Lane {
     /// The new key counts if the count is this one: the update is done, and the element is the
-    /// map's.
+    /// map's. If it isn't, answers the count that is there.
     pub fn count_up(
         &mut self,
         table: &HopTable,
@@ -26,7 +26,7 @@ impl Lane {
         key: &[u8],
         value: &[u8],
         flags: u64,
-    ) -> bool
+    ) -> Result<(), u64>
         requires table { self.old.table ≡ table.now.id }
         requires inside { map < length table.now.about.shape.maps }
         requires map { (lock_of self.old.known).map ≡ map }
@@ -34,10 +34,10 @@ impl Lane {
         requires inserts { Inserts table.now.about self.old.known (lock_of self.old.known)
             (hand self.old.known) (tail_of self.old.known.fresh) key.now value.now flags count }
         ensures table { self.new.table ≡ self.old.table }
-        ensures done { IsTrue result
+        ensures done { IsOk result
             → Inserted table.now.about self.old.known (lock_of self.old.known) (hand self.old.known)
             (tail_of self.old.known.fresh) key.now value.now flags self.new.known }
-        ensures missed { IsFalse result → self.new.known ≡ self.old.known }
+        ensures missed { IsErr result → self.new.known ≡ self.old.known }
     {
         let place = Place::KeyCount { map };
         let found = self.exchange_by::<Brand, _>(
@@ -47,11 +47,12 @@ impl Lane {
             count + 1,
             (key, value, flags),
         );
-        found == count
+        if found == count { Ok(()) } else { Err(found) }
     }
 
     /// The key count goes down by one: the deletion is done, and the element is in hand, used.
-    pub fn count_down(&mut self, table: &HopTable, map: u8, key: &[u8], element: u32)
+    /// Answers the count that is left.
+    pub fn count_down(&mut self, table: &HopTable, map: u8, key: &[u8], element: u32) -> u64
         requires table { self.old.table ≡ table.now.id }
         requires inside { map < length table.now.about.shape.maps }
         requires map { (lock_of self.old.known).map ≡ map }
@@ -62,7 +63,8 @@ impl Lane {
             element self.new.known }
     {
         let place = Place::KeyCount { map };
-        self.add_by::<Brand, _>(table, place, u64::MAX, (key, element));
+        self.add_by::<Brand, _>(table, place, u64::MAX, (key, element))
+            .wrapping_sub(1)
     }
 
     /// The key count, where the key isn't in the map. At the map's most keys the update's answer is
