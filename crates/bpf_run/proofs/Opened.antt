@@ -13,7 +13,7 @@ use Rattle.bpf_debug.specs.Session.{SessionState, IsShown}
 use Rattle.bpf_run.specs.Answer.{Prints, stats_of}
 use Rattle.bpf_run.specs.Commands.{IsReply, is_unread}
 use Rattle.bpf_run.specs.Input.{is_failed_read}
-use Rattle.bpf_run.specs.Script.{IsCut, IsScriptOfFile, NoneEnds, ends_file, scene_of}
+use Rattle.bpf_run.specs.Script.{IsScriptOfFile, NoneEnds, ends_file, scene_of}
 use Rattle.bpf_run.specs.Conversing.{Holds, IsRefusal, LeavesLines, command_of}
 use Rattle.bpf_run.specs.Debugging.{IsOpened}
 use Rattle.bpf_run.specs.declared.conversing.Partner.{Partner}

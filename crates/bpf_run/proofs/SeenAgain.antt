@@ -1,12 +1,11 @@
 -- What a search shows of an outcome, its schedule and rounds behind it show again.
-use Rattle.std.proofs.Common.{◌≡◌, ◌∙◌, ℕ, zero, suc, ◌==◌, Bool, true, false, List, [], ◌∷◌, ◌++◌, Option, Some, None, Ok, inl, inr, cond, length, refl, sym, ap, subst, append-nil, string_bytes}
+use Rattle.std.proofs.Common.{◌≡◌, ◌∙◌, ℕ, zero, suc, ◌==◌, Bool, true, false, List, [], ◌∷◌, ◌++◌, Option, Some, None, Ok, inl, inr, cond, length, refl, sym, ap, subst, string_bytes}
 use Rattle.std.specs.Prelude.{slice_get}
 use Rattle.bpf_shared.specs.Store.{Plain, put}
 use Rattle.bpf_cpu.specs.declared.cpu.Cpu.{Cpu}
 use Rattle.bpf_cpu.specs.declared.outcome.Outcome.{Outcome}
 use Rattle.bpf_cpu.specs.Task.{Task}
 use Rattle.bpf_machine.specs.declared.machine.Turn.{Turn}
-use Rattle.bpf_machine.specs.Laws.{IsFresh}
 use Rattle.bpf_machine.specs.Listings.{Listing, Never, listed_now, made_keys}
 use Rattle.bpf_machine.specs.Schedule.{World, GoesOn, Lists, RunsSchedule, Settles, TakesTurn, unrolled}
 use Rattle.bpf_jobs.specs.Laws.{ReportsByAreDetermined}

@@ -4,7 +4,6 @@ use Rattle.std.specs.Prelude.{slice_get}
 use Rattle.bpf_explore.specs.Outcomes.{Found}
 use Rattle.bpf_run.specs.Exploring.{AreFoundBy, IsShownFile}
 use Rattle.bpf_run.specs.Running.{IsHistoryOfFile}
-use Rattle.bpf_run.specs.declared.refusal.Refusal.TheVariants as refusal
 use Rattle.bpf_run.specs.declared.reply.Reply.{Reply}
 use Rattle.bpf_run.specs.declared.reply.Reply.TheVariants as reply
 

@@ -14,7 +14,6 @@ use Rattle.bpf_talk.specs.Talking.{Talks}
 use Rattle.bpf_talk.specs.declared.talking.Talked.{Talked}
 use Rattle.bpf_talk.specs.declared.talking.Talked.TheVariants as talked
 use Rattle.bpf_talk.proofs.Alike.{Left, talks_alike}
-use Rattle.bpf_run.specs.Answer.{script_status}
 use Rattle.bpf_run.specs.Answering.{AnswersText, SessionAnswers}
 use Rattle.bpf_file.specs.File.{File}
 use Rattle.bpf_run.specs.Conversing.{DebugsFrom, Holds, asked_talk, talk_status}

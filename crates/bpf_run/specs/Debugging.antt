@@ -1,5 +1,5 @@
 -- What the text of a file comes to that `debug` is given.
-use Rattle.std.specs.Prelude.{◌≡◌, ℕ, Bool, List, Ok}
+use Rattle.std.specs.Prelude.{ℕ, Bool, List, Ok}
 use Rattle.bpf_lines.specs.Lines.{lines_of}
 use Rattle.bpf_file.specs.File.{File}
 use Rattle.bpf_file.specs.Reading.{IsRunFile}

@@ -1,4 +1,4 @@
-use Rattle.std.proofs.Common.{◌≡◌, refl, sym, subst}
+use Rattle.std.proofs.Common.{◌≡◌, refl, subst}
 use Rattle.bpf_expand.specs.Filter.{FilterState}
 use Rattle.bpf_run.specs.Answer.{stats_of}
 use Rattle.bpf_run.specs.Conversing.{Converses, StatesFrom}

@@ -1,4 +1,4 @@
-use Rattle.std.proofs.Common.{◌≡◌, Option, Some, None, option_map, refl, subst}
+use Rattle.std.proofs.Common.{◌≡◌, Option, option_map, refl, subst}
 use Rattle.bpf_run.specs.Conversing.{asked_talk}
 use Rattle.bpf_run.specs.declared.conversing.Asked.{Asked}
 use Rattle.bpf_run.proofs.Talked.{does_else, does_talk}

@@ -1,4 +1,4 @@
-use Rattle.std.proofs.Common.{◌≡◌, Option, option_map, rules, string_bytes}
+use Rattle.std.proofs.Common.{◌≡◌, option_map, rules, string_bytes}
 use Rattle.bpf_run.specs.Answer.{stats_of}
 use Rattle.bpf_run.specs.Conversing.{Converses}
 use Rattle.bpf_run.proofs.Talked.{renamed}

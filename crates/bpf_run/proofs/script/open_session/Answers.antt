@@ -1,4 +1,4 @@
-use Rattle.std.proofs.Common.{◌≡◌, ℕ, List, [], Option, Some, refl, sym, subst}
+use Rattle.std.proofs.Common.{ℕ, List, [], Option, refl, sym, subst}
 use Rattle.bpf_machine.specs.Machine.{MachineState, Shows}
 use Rattle.bpf_debug.specs.Course.{IsKept}
 use Rattle.bpf_file.specs.File.{file_of}

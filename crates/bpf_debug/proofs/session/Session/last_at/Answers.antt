@@ -1,4 +1,4 @@
-use Rattle.std.proofs.Common.{◌≡◌, ℕ, List, Some, Option, sym, subst, map}
+use Rattle.std.proofs.Common.{◌≡◌, ℕ, List, Some, sym, subst, map}
 use Rattle.std.specs.Prelude.{true, string_bytes, option_map}
 use Rattle.bpf_plain.specs.PlainStore.{has_cpu}
 use Rattle.bpf_machine.specs.Machine.{MachineState, Shows}
