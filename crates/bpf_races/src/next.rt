@@ -178,8 +178,7 @@ impl Watcher {
         if !has_shape(machine.store(), &self.shape) {
             return Err(AllocError);
         }
-        let next = next_of(self.alloc, machine, &mut self.recorder, cpu)?;
-        Ok(next)
+        next_of(self.alloc, machine, &mut self.recorder, cpu)
     }
 
     /// The key of the value at an address, if it is in its map.

@@ -30,8 +30,7 @@ pub struct Races {
 /// One for machines over stores of this shape.
 fn make_watcher(alloc: Global, shape: &StoreShape) -> Result<Watcher, AllocError> {
     let copy = copy_shape(alloc, shape)?;
-    let watcher = Watcher::new(alloc, copy)?;
-    Ok(watcher)
+    Watcher::new(alloc, copy)
 }
 
 /// Searches through all schedules of jobs over a new store, until no state is new, more than `limit`

@@ -154,6 +154,5 @@ pub fn races_in(
     ensures { IfOk result (λ races. AreRacesIn machine.now sync.now races.items) }
 {
     let nexts = watcher.nexts(machine)?;
-    let races = races_of(alloc, watcher, machine, sync, &nexts)?;
-    Ok(races)
+    races_of(alloc, watcher, machine, sync, &nexts)
 }
