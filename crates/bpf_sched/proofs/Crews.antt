@@ -26,7 +26,6 @@ use Rattle.hop_map.specs.Port.{Port, IsAllOf, IsPartOf, known_of, own_events}
 use Rattle.hop_map.specs.Stores.{ArePorts}
 use Rattle.bpf_sched.specs.declared.assignment.Assignment.{Assignment}
 use Rattle.bpf_sched.specs.declared.worker.Worker.{Worker}
-use Rattle.hop_words.specs.Shortage.{HaveCauses}
 use Rattle.bpf_sched.specs.Explained.{ExplainsJobs, IsExplained, IsWorn, waiting_context, jobs_of, ends_of, keys_events, listed_maps}
 use Rattle.bpf_sched.specs.Working.{AreListsFor, IsNew, RunsAndLists, assigned, outcome_of}
 use Rattle.bpf_sched.specs.Worked.{AreFor, IsReadyWorker, Worked, extends, found_in, listed_by}
@@ -189,7 +188,7 @@ module _ {keys : Bool} (t : Shown) (jobs : List Job) (programs : List Loaded) (p
           each = λ c inside. (c, get_or back c no_port, elem_at back c no_port (omega (arith, all_back)), cpu_at c inside);
         }
 
-        module _ (history : List Entry) (legal : IsLegal t.about.shape history) (causes : HaveCauses t.about.shape t.about.version history) (parts : All (IsPartOf history) back) (ends : List Outcome) (full : length ends ≡ length jobs)
+        module _ (history : List Entry) (legal : IsLegal t.about.shape history) (parts : All (IsPartOf history) back) (ends : List Outcome) (full : length ends ≡ length jobs)
             (noted : (c : ℕ) (d : Worker) → c < length vs → ends_of c tasks ends ≡ map outcome_of (get_or vs c d).workload.jobs.items)
             (here : All (λ (job : Job). job.cpu < cpus) jobs) where
           own_at : (c : ℕ) (d : Worker) (inside : c < cpus) → events_of c history ≡ (did c d inside).events
@@ -227,10 +226,9 @@ module _ {keys : Bool} (t : Shown) (jobs : List Job) (programs : List Loaded) (p
               (subst (λ (l : List Outcome). ExplainsJobs t.about.shape.maps t.about.count programs [] (jobs_of c tasks) l (keys_events 0 found) w.events) (sym (noted c d (omega (arith, long, size, for_jobs.size))))
               (explains_lists t.about.shape.maps t.about.count programs [] (own_events w.after) (jobs_of c tasks) news found w.events from_none)))
 
-          pub all_explained : IsExplained t.about.shape t.about.version t.about.count programs tasks keys ends (listed_by (map (λ (w : Worker). w.workload.lists) vs)) history
+          pub all_explained : IsExplained t.about.shape t.about.count programs tasks keys ends (listed_by (map (λ (w : Worker). w.workload.lists) vs)) history
           all_explained = record {
             legal = legal;
-            causes = causes;
             each_ended = full ∙ sym (length-map jobs waiting);
             each_has_cpu = λ task j is. cpu_below cpus jobs here task j is;
             each_listed = listed_at;

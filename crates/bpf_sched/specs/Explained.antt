@@ -5,9 +5,10 @@ use Rattle.bpf_shared.specs.declared.events.Event.TheVariants.{Keys}
 use Rattle.bpf_shared.specs.declared.events.Entry.{Entry}
 use Rattle.bpf_shared.specs.declared.shapes.MapShape.{MapShape}
 use Rattle.bpf_shared.specs.Shape.{Shape}
-use Rattle.bpf_shared.specs.History.{IsLegal, events_of}
-use Rattle.bpf_shared.specs.Own.{turns_of}
+use Rattle.bpf_shared.specs.Store.{Plain, as_made}
+use Rattle.bpf_shared.specs.History.{IsLegal, Legal, events_of}
 use Rattle.hop_words.specs.Shortage.{HaveCauses}
+use Rattle.bpf_shared.specs.Own.{turns_of}
 use Rattle.bpf_loader.specs.Loaded.{Loaded}
 use Rattle.bpf_cpu.specs.declared.outcome.Outcome.{Outcome}
 use Rattle.bpf_cpu.specs.State.{start}
@@ -75,19 +76,25 @@ ExplainsJobs shapes count programs before _ _ last events = ⊥
 
 -- ---- all jobs
 
--- of a store of this shape, whose segments' versions and run counters began with these: the history
--- is a legal one of it, whose answers of a shortage have their causes, and of each CPU it has the
--- events of that CPU's jobs, in the jobs' order, which explain how each job ended; then, where lists
--- are asked for and the CPU has a job, one listing of each map, in the maps' order; and no others.
--- `lists` says what each CPU has listed, by map
-pub record IsExplained (h : Shape) (version count : ℕ) (programs : List Loaded) (tasks : List Task)
+-- of a store of this shape, whose run counters began with this count: the history is a legal one of
+-- it, and of each CPU it has the events of that CPU's jobs, in the jobs' order, which explain how
+-- each job ended; then, where lists are asked for and the CPU has a job, one listing of each map, in
+-- the maps' order; and no others. `lists` says what each CPU has listed, by map
+pub record IsExplained (h : Shape) (count : ℕ) (programs : List Loaded) (tasks : List Task)
     (keys : Bool) (ends : List Outcome) (lists : ℕ → List (List (List ℕ))) (history : List Entry)
     : Type 0 where
   pub legal : IsLegal h history
-  pub causes : HaveCauses h version history
   pub each_ended : length ends ≡ length tasks
   pub each_has_cpu : (task : Task) (j : ℕ) → slice_get tasks j ≡ Some task → task.cpu < h.cpus
   pub each_listed : (c : ℕ) → c < h.cpus
       → length (lists c) ≡ length (listed_maps keys h.maps (jobs_of c tasks))
   pub explained : (c : ℕ) → c < h.cpus → ExplainsJobs h.maps count programs [] (jobs_of c tasks)
       (ends_of c tasks ends) (keys_events 0 (lists c)) (events_of c history)
+
+-- ---- the last store
+
+-- the history leads from a store of this shape, whose segments' versions began with this one, to the
+-- last; on the way there its answers of a shortage have their causes
+pub record LeadsTo (h : Shape) (version : ℕ) (history : List Entry) (last : Plain) : Type 0 where
+  pub legal : Legal (as_made h) history last
+  pub causes : HaveCauses h version history last

@@ -1,13 +1,12 @@
 //! All workers of a store.
 
 ghost use Rattle.std.specs.Prelude.{◌≡◌, ◌<◌, ◌≤◌, ℕ, [], All, IsSome, Some, length, map, slice_index_or, vec_capacity, vec_len};
-ghost use Rattle.bpf_shared.specs.History.{Legal};
-ghost use Rattle.bpf_shared.specs.Store.{Plain, as_made};
+ghost use Rattle.bpf_shared.specs.Store.{Plain};
 ghost use Rattle.bpf_cpu.specs.Task.{waiting};
 ghost use Rattle.hop_map.specs.Dumping.{IsLast};
 ghost use Rattle.hop_map.specs.Port.{Port};
 ghost use Rattle.hop_map.specs.Stores.{ArePorts};
-ghost use Rattle.bpf_sched.specs.Explained.{IsExplained};
+ghost use Rattle.bpf_sched.specs.Explained.{IsExplained, LeadsTo};
 ghost use Rattle.bpf_sched.specs.Worked.{AreFor, IsReadyWorker, listed_by, Worked};
 ghost use Rattle.bpf_sched.specs.declared.worker.Worker.{Worker};
 
@@ -120,11 +119,11 @@ pub fn run_ports<R: Threads + Wait + Sync, G: Gate + Sync>(
         × (table.about.shape.cpus ≤ vec_capacity room.lists) }
     requires ends { vec_len room.ends ≡ length jobs.now }
     ensures about { result.closed.about ≡ table.about }
-    ensures explained { IsExplained table.about.shape table.about.version table.about.count
+    ensures explained { IsExplained table.about.shape table.about.count
         programs.now (map waiting jobs.now) room.keys result.outcomes.items
         (listed_by result.lists.items) result.closed.history }
     ensures last { (last : Plain) × IsLast result.closed last
-        × Legal (as_made result.closed.about.shape) result.closed.history last }
+        × LeadsTo result.closed.about.shape result.closed.about.version result.closed.history last }
 {
     let _few = table.about().shape.cpus();
     let _maps = table.about().shape.maps();

@@ -2,11 +2,10 @@
 
 ghost use Rattle.std.specs.Prelude.{◌≡◌, ◌<◌, ◌≤◌, All, IfErr, IfOk, IsFalse, IsTrue, OnOk, length, map, vec_len};
 ghost use Rattle.bpf_mem.specs.Limits.{max_context};
-ghost use Rattle.bpf_shared.specs.History.{Legal};
-ghost use Rattle.bpf_shared.specs.Store.{Plain, as_made};
+ghost use Rattle.bpf_shared.specs.Store.{Plain};
 ghost use Rattle.bpf_cpu.specs.Task.{waiting};
 ghost use Rattle.hop_map.specs.Dumping.{IsLast};
-ghost use Rattle.bpf_sched.specs.Explained.{IsExplained};
+ghost use Rattle.bpf_sched.specs.Explained.{IsExplained, LeadsTo};
 ghost use Rattle.bpf_sched.specs.Refusing.{AreHere, AreWorkers, HasOutside, IsFirstSchedError};
 ghost use Rattle.bpf_sched.specs.Worked.{listed_by};
 
@@ -75,12 +74,11 @@ pub fn run_jobs<R: Threads + Wait + Sync, G: Gate + Sync>(
     ensures cpus { OnOk result (AreHere store.table.about.shape.cpus jobs.now) }
     ensures about { IfOk result (λ r. r.closed.about ≡ store.table.about) }
     ensures explained { IfOk result
-        (λ r. IsExplained store.table.about.shape
-        store.table.about.version store.table.about.count programs.now
+        (λ r. IsExplained store.table.about.shape store.table.about.count programs.now
         (map waiting jobs.now) keys r.outcomes.items (listed_by r.lists.items)
         r.closed.history) }
     ensures last { IfOk result (λ r. (last : Plain) × IsLast r.closed last
-        × Legal (as_made r.closed.about.shape) r.closed.history last) }
+        × LeadsTo r.closed.about.shape r.closed.about.version r.closed.history last) }
     ensures refused { IfErr result (λ r.
         IsFirstSchedError store.table.about.shape.cpus workers jobs.now r.error) }
     ensures store { IfErr result (λ r. r.store ≡ store) }

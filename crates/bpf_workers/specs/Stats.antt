@@ -1,8 +1,6 @@
 -- What `--stats` prints of maps. Our own choice.
 use Rattle.std.specs.Prelude.{◌≡◌, ℕ, zero, suc, ◌++◌, ◌≤◌, Bool, true, false, List, [], Option, Some, None, MatchOption, codes, length, slice_index_or}
 use Rattle.std.specs.Fmt.{decimal}
-use Rattle.bpf_file.specs.File.{File}
-use Rattle.bpf_workers.specs.Printed.{store_shape}
 use Rattle.hop_words.specs.Closing.{Ending}
 use Rattle.hop_map.specs.declared.stats.MapStats.{MapStats}
 use Rattle.hop_map.specs.Stats.{IsCounted}
@@ -43,8 +41,3 @@ AreStatsLines e names (suc m) text = (before : List ℕ) × (row : Option MapSta
 abbrev pub AreStatsAsked : Bool → Ending → List (List ℕ) → List ℕ → Type 0
 AreStatsAsked true e names text = AreStatsLines e names (length names) text
 AreStatsAsked false e names text = text ≡ []
-
--- they are told of a store of the file's shape
-abbrev pub TellsStats : Bool → File → List ℕ → Type 0
-TellsStats asked f text = (e : Ending) × (e.about.shape ≡ store_shape f)
-    × AreStatsAsked asked e f.names text

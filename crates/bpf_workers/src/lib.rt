@@ -7,4 +7,4 @@ mod telling;
 mod workers;
 
 pub use telling::Counted;
-pub use workers::{WorkError, run_by_workers, run_counted};
+pub use workers::{WorkError, run_counted};

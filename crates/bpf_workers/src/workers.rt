@@ -5,11 +5,9 @@ ghost use Rattle.bpf_file.specs.File.{file_of};
 ghost use Rattle.bpf_file.specs.Runnable.{IsRunnable};
 ghost use Rattle.bpf_sched.specs.Refusing.{AreWorkers};
 ghost use Rattle.bpf_workers.specs.Printed.{IsWorkersReport};
-ghost use Rattle.bpf_workers.specs.Stats.{TellsStats};
 
 use crate::telling::{Counted, tell_counted};
 use bpf_file::RunFile;
-use bpf_jobs::Report;
 use bpf_sched::{NoGate, Refused, SchedError, run_jobs};
 use hop_map::HopStore;
 use std::alloc::Global;
@@ -29,29 +27,13 @@ pub enum WorkError {
 }
 
 /// Runs the jobs of a run file by so many workers, over a new store, and makes what is printed of
-/// them. Where keys are asked for, each CPU with jobs lists those of all maps behind them. Want of
+/// them. Where keys are asked for, each CPU with jobs lists those of all maps after them. Out of
 /// memory is the only refusal; all that the jobs and the lists need is there before the first
 /// begins.
-pub fn run_by_workers<R: Threads + Wait + Sync>(
-    rt: &R,
-    alloc: Global,
-    file: RunFile,
-    workers: u8,
-    keys: bool,
-    maps: bool,
-) -> Result<Report, WorkError>
-    requires file { IsRunnable file }
-    requires workers { AreWorkers workers }
-    ensures { IfOk result (λ r. IsWorkersReport (file_of file) keys maps
-        (string_bytes r.text) r.stopped) }
-{
-    let Counted { report, stats: _ } = run_counted(rt, alloc, file, workers, keys, maps, false)?;
-    Ok(report)
-}
-
-/// The same, and beside it a line a map of its numbers, where they are asked for: its segments, keys,
-/// keys on overflow lists and free elements, as the store is left; splits, readings that were
-/// disturbed and lookups under a lock, as the ports counted them.
+///
+/// Beside it, where they are asked for, a line a map of its numbers: its segments, keys, keys on
+/// overflow lists and free elements, as the store is left; splits, readings that were disturbed and
+/// lookups under a lock, as the ports counted them.
 pub fn run_counted<R: Threads + Wait + Sync>(
     rt: &R,
     alloc: Global,
@@ -63,9 +45,13 @@ pub fn run_counted<R: Threads + Wait + Sync>(
 ) -> Result<Counted, WorkError>
     requires file { IsRunnable file }
     requires workers { AreWorkers workers }
-    ensures told { IfOk result (λ r. IsWorkersReport (file_of file) keys maps
-        (string_bytes r.report.text) r.report.stopped) }
-    ensures stats { IfOk result (λ r. TellsStats stats (file_of file) (string_bytes r.stats)) }
+    ensures { IfOk result (λ r. IsWorkersReport (file_of file)
+        (record { keys = keys; maps = maps; stats = stats })
+        (record {
+          text = string_bytes r.report.text;
+          stopped = r.report.stopped;
+          counts = string_bytes r.stats;
+        })) }
 {
     let RunFile {
         shape,

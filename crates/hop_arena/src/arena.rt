@@ -2,7 +2,7 @@
 ghost use Rattle.std.specs.Prelude.{ℕ, ◌≡◌, ◌⊎◌, ◌+◌, ◌*◌, ◌/◌, ◌<◌, true, [], length, MatchOption, IsTrue, IsFalse};
 ghost use Rattle.std.specs.Int.{bit_at};
 ghost use Rattle.hop_words.specs.Ghost.{shape_at, HasElement};
-ghost use Rattle.hop_words.specs.Owning.{IsInHand, GivesFresh};
+ghost use Rattle.hop_words.specs.Owning.{IsAnswered, IsInHand, GivesFresh};
 ghost use Rattle.bpf_shared.specs.Shape.{elements};
 ghost use Rattle.bpf_shared.specs.History.{events_of};
 ghost use Rattle.bpf_shared.specs.Own.{in_run};
@@ -62,13 +62,15 @@ impl Arena {
         }
     }
 
-    /// Gives back an element, whose word the next pass begins at.
+    /// Gives back an element, after the update that took it was answered. The next pass begins at its
+    /// word.
     pub fn give_back(&mut self, lane: &mut Lane, table: &HopTable, element: Element)
         requires table { lane.old.table ≡ table.now.id }
         requires arena { IsArena table.now.about self.old.map self.old.elements self.old.start }
         requires element { HasElement table.now.about element.map element.number }
         requires map { element.map ≡ self.old.map }
         requires hand { IsInHand lane.old.known element.map element.number }
+        requires answered { IsAnswered lane.old.known element.map }
         ensures table { lane.new.table ≡ lane.old.table }
         ensures given { (found : ℕ) × GivesFresh lane.old.known element.map element.number found
             lane.new.known }
@@ -80,7 +82,7 @@ impl Arena {
         self.start = number / 64;
     }
 
-    /// One pass over the free bits, in a run, with one fetch-and for each bit that was seen set: an
+    /// One pass over the free bits, in a run and with no element in hand, with one fetch-and for each bit that was seen set: an
     /// element of its own, or none where each element of the map was seen not free, at a moment of
     /// its own.
     #[inline(always)]
@@ -88,6 +90,7 @@ impl Arena {
         requires table { lane.old.table ≡ table.now.id }
         requires map { self.old.map < length table.now.about.shape.maps }
         requires arena { IsArena table.now.about self.old.map self.old.elements self.old.start }
+        requires empty { lane.old.known.fresh ≡ [] }
         requires unlocked { lane.old.known.locks ≡ [] }
         requires runs { in_run (events_of lane.old.known.cpu lane.old.known.seen) ≡ true }
         ensures table { lane.new.table ≡ lane.old.table }
@@ -132,6 +135,7 @@ fn claim_in(lane: &mut Lane, table: &HopTable, map: u8, word: u32, count: u32) -
     requires map { map < length table.now.about.shape.maps }
     requires count { count ≡ elements (shape_at table.now.about map) }
     requires inside { 64 * word < count }
+    requires empty { lane.old.known.fresh ≡ [] }
     requires unlocked { lane.old.known.locks ≡ [] }
     requires runs { in_run (events_of lane.old.known.cpu lane.old.known.seen) ≡ true }
     ensures table { lane.new.table ≡ lane.old.table }

@@ -149,6 +149,8 @@ impl Batches {
     pub fn waits_for_others(&self, lane: &mut Lane, table: &HopTable) -> bool
         requires table { lane.old.table ≡ table.now.id }
         requires inside { lane.old.known.cpu < table.now.about.shape.cpus }
+        requires tracks { Tracks table.now.about lane.old.known self.now.map self.now.young
+            self.now.aged self.now.noted }
         ensures table { lane.new.table ≡ lane.old.table }
         ensures same { lane.new.known ≡ lane.old.known }
         ensures waits { WaitsForOthers self.now.aged

@@ -1,5 +1,5 @@
 //! The begin and the end of a run.
-ghost use Rattle.std.specs.Prelude.{◌≡◌, ◌+◌, ◌-◌, ◌%◌, ◌<◌, ◌^◌, true, false, OnOk, OnErr};
+ghost use Rattle.std.specs.Prelude.{◌≡◌, ◌+◌, ◌-◌, ◌%◌, ◌<◌, ◌^◌, [], true, false, OnOk, OnErr};
 ghost use Rattle.bpf_shared.specs.History.{events_of};
 ghost use Rattle.bpf_shared.specs.declared.events.Event.TheVariants.{Begin, End};
 ghost use Rattle.hop_words.specs.Kinds.{run_count, Told};
@@ -30,10 +30,11 @@ pub fn begin_run(lane: &mut Lane, table: &HopTable) -> Result<(), Worn>
     Ok(())
 }
 
-/// The CPU leaves its run.
+/// The CPU leaves its run, with no element in hand.
 pub fn end_run(lane: &mut Lane, table: &HopTable)
     requires table { lane.old.table ≡ table.now.id }
     requires inside { lane.old.known.cpu < table.now.about.shape.cpus }
+    requires empty { lane.old.known.fresh ≡ [] }
     requires running { in_run (events_of lane.old.known.cpu lane.old.known.seen) ≡ true }
     requires room { run_count table.now.about lane.old.known + 1 < 2 ^ 64 }
     ensures table { lane.new.table ≡ lane.old.table }

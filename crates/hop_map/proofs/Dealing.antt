@@ -8,7 +8,7 @@ use lib.ListN.{get_elem?}
 use Rattle.atomic_table.specs.Seated.{TableId}
 use Rattle.atomic_table.proofs.Lists.{at_map}
 use Rattle.bpf_shared.specs.History.{IsLegal, Legal, events_of}
-use Rattle.bpf_shared.specs.Store.{as_made}
+use Rattle.bpf_shared.specs.Store.{Plain, as_made}
 use Rattle.bpf_shared.specs.declared.events.Entry.{Entry}
 use Rattle.hop_layout.specs.declared.about.About.{About}
 use Rattle.hop_words.specs.declared.known.Known.{Known}
@@ -17,14 +17,17 @@ use Rattle.hop_words.specs.Ghost.{Each, HasElement, limbo_at, no_limbo}
 use Rattle.hop_words.specs.Inside.{Shown}
 use Rattle.hop_words.specs.Opens.{no_limbos, new_lane, lanes_from}
 use Rattle.bpf_shared.specs.Own.{in_run}
-use Rattle.hop_words.specs.Shortage.{HaveCauses}
+use Rattle.hop_words.specs.Shortage.{updates_in, HaveCausesBy, HaveCauses}
+use Rattle.hop_words.specs.Rule.{begun_in, taken_at}
+use Rattle.hop_words.specs.Closing.{AreAllBack, Ending}
+use Rattle.hop_words.proofs.Shortages.{causes_made}
+use Rattle.hop_map.specs.Dumping.{IsLast}
 use Rattle.hop_words.specs.Seats.{view, KeepsWholeHistory}
-use Rattle.hop_words.specs.Closing.{AreAllBack}
 use Rattle.hop_arena.specs.declared.arena.Arena.{Arena}
 use Rattle.hop_epoch.specs.declared.batches.Batches.{Batches}
 use Rattle.hop_epoch.specs.Batch.{Tracks, front}
 use Rattle.hop_map.specs.Port.{Port, AreArenas, AreBatches, IsPortOf, IsAllOf, known_of, batches_at, no_batches}
-use Rattle.hop_map.specs.Private.Port.{HasNothing, IsUnlocked}
+use Rattle.hop_map.specs.Private.Port.{HasNothing, IsFree}
 use Rattle.hop_map.specs.Stores.{IsNewLane}
 use Rattle.hop_map.proofs.Ports.{by_equal}
 
@@ -114,19 +117,37 @@ map_snoc (q ∷ ps) p = ap (λ (ls : List Known). q.known ∷ ls) (map_snoc ps p
 pub legal_of : (a : About) (h : List Entry) (ws : List ℕ) → KeepsWholeHistory a (view [] h) ws → IsLegal a.shape h
 legal_of a h ws w = (w.ghost.last, subst (λ (log : List Entry). Legal (as_made a.shape) log w.ghost.last) (sym w.whole) w.rule.logged.legal)
 
-pub causes_of : (a : About) (h : List Entry) (ws : List ℕ) → KeepsWholeHistory a (view [] h) ws → HaveCauses a.shape a.version h
-causes_of a h ws w = subst (HaveCauses a.shape a.version) (sym w.whole) w.rule.logged.causes
+-- each update that was begun was made: no CPU has an element in hand any more
+pub causes_of : (a : About) (h : List Entry) (ws : List ℕ) (w : KeepsWholeHistory a (view [] h) ws) → HaveCauses a.shape a.version h w.ghost.last
+causes_of a h ws w = subst (λ (log : List Entry). HaveCausesBy a.shape a.version (updates_in log) log w.ghost.last) (sym w.whole)
+    (causes_made a.shape a.version (begun_in w.ghost.log w.ghost.lanes.fresh) (updates_in w.ghost.log) w.ghost.log w.ghost.last
+    (λ m c inside. let z : taken_at m (updates_in w.ghost.log m c) (w.ghost.lanes.fresh c) ≡ 0 = ap (taken_at m (updates_in w.ghost.log m c)) (w.empty c inside) in omega arith)
+    w.rule.shown.causes)
 
-unlocked_at : (ls : List Known) (k : ℕ) (l : Known) → All IsUnlocked ls → get_elem? ls k ≡ some l → l.locks ≡ []
+-- the last store, and the history that leads to it
+pub last_caused : (e : Ending) → KeepsWholeHistory e.about (view [] e.history) e.words → (last : Plain) × IsLast e last × Legal (as_made e.about.shape) e.history last × HaveCauses e.about.shape e.about.version e.history last
+last_caused e w = (
+  w.ghost.last,
+  (w, refl),
+  subst (λ (log : List Entry). Legal (as_made e.about.shape) log w.ghost.last) (sym w.whole) w.rule.logged.legal,
+  causes_of e.about e.history e.words w,
+)
+
+unlocked_at : (ls : List Known) (k : ℕ) (l : Known) → All IsFree ls → get_elem? ls k ≡ some l → l.locks ≡ []
 unlocked_at [] k l all e = absurd (some-ne-none l (sym e))
-unlocked_at (x ∷ ls) zero l all e = subst IsUnlocked (some-injective x l e) (All-head IsUnlocked x ls all)
-unlocked_at (x ∷ ls) (suc k) l all e = unlocked_at ls k l (All-tail IsUnlocked x ls all) e
+unlocked_at (x ∷ ls) zero l all e = (subst IsFree (some-injective x l e) (All-head IsFree x ls all)).0
+unlocked_at (x ∷ ls) (suc k) l all e = unlocked_at ls k l (All-tail IsFree x ls all) e
+
+empty_at : (ls : List Known) (k : ℕ) (l : Known) → All IsFree ls → get_elem? ls k ≡ some l → l.fresh ≡ []
+empty_at [] k l all e = absurd (some-ne-none l (sym e))
+empty_at (x ∷ ls) zero l all e = (subst IsFree (some-injective x l e) (All-head IsFree x ls all)).1
+empty_at (x ∷ ls) (suc k) l all e = empty_at ls k l (All-tail IsFree x ls all) e
 
 pub known_at : (ports : List Port) (ls : List Known) (k : ℕ) (p : Port) → ls ≡ map known_of ports → get_elem? ports k ≡ some p → get_elem? ls k ≡ some p.known
 known_at ports ls k p same e = ap (λ (l : List Known). get_elem? l k) same ∙ at_map known_of ports k p e
 
-pub all_back : (t : Shown) (ports : List Port) (ls : List Known) → IsAllOf t ports → ls ≡ map known_of ports → All IsUnlocked ls → AreAllBack t.about ls
+pub all_back : (t : Shown) (ports : List Port) (ls : List Known) → IsAllOf t ports → ls ≡ map known_of ports → All IsFree ls → AreAllBack t.about ls
 all_back t ports ls all same free = λ c inside.
     let e = all.each c inside in
     let at = known_at ports ls e.0 e.1 same e.2 in
-    (e.0, e.1.known, e.3, at, unlocked_at ls e.0 e.1.known free at)
+    (e.0, e.1.known, e.3, at, unlocked_at ls e.0 e.1.known free at, empty_at ls e.0 e.1.known free at)

@@ -13,7 +13,7 @@ use Rattle.hop_words.specs.Kinds.{StampSeenAgain}
 use Rattle.hop_words.specs.Peeking.{latest_reading}
 use Rattle.hop_words.specs.Sights.{look, IsLook}
 use Rattle.hop_words.proofs.Sighted.{each-append}
-use Rattle.hop_map.specs.Finding.{LooksAtMost, most_loads}
+use Rattle.hop_map.specs.Finding.{LeadsAlong, LooksAtMost, most_loads}
 use Rattle.hop_map.specs.Private.Finding.{Walked}
 use Rattle.hop_map.specs.Private.Peeks.{Peeked, OnlyReads, looks_of, looks_noted, key_words_of, elements_in}
 use Rattle.hop_map.proofs.Onces.{all_looks}
@@ -25,11 +25,11 @@ length_looks (p ∷ ps) = ap suc (length_looks ps)
 module _ (a : About) (l : Known) (m home s n : ℕ) (l1 : Known) (w : Walked a l m home s n l1) where
   -- the way has looks alone
   looks : Each IsLook w.way
-  looks = go w.way w.is_way.looks
+  looks = go s w.way w.is_way.leads
     where
-      go : (way : List Sight) → Each (λ (x : Sight). (t : ℕ) × (i : ℕ) × (x ≡ look (Stamp m t) i)) way → Each IsLook way
-      go [] all = tt
-      go (x ∷ xs) all = (subst IsLook (sym all.0.2) refl, go xs all.1)
+      go : (s : ℕ) (way : List Sight) → LeadsAlong a m home s way → Each IsLook way
+      go s [] leads = tt
+      go s (x ∷ xs) leads = (subst IsLook (sym leads.2) refl, go leads.0 xs leads.5)
 
   -- a locked stamp is the last load
   pub loads_stopped : n % 2 ≡ 1 → LooksAtMost (most_loads a m) l l1

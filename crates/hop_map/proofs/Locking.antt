@@ -22,7 +22,7 @@ use Rattle.bpf_shared.specs.declared.events.MapAnswer.TheVariants.{Done, Absent,
 use Rattle.hop_map.specs.declared.ending.Ending.{Ending}
 use Rattle.hop_map.specs.declared.ending.Ending.TheVariants.{Added, Replaced, Refused}
 use Rattle.hop_map.specs.Private.Updates.{Wants, Offers, UpdateEnds, Refusal}
-use Rattle.hop_map.specs.Finding.{MayOwn, home_in}
+use Rattle.hop_map.specs.Finding.{OwnsKey}
 use Rattle.hop_map.specs.Private.Locks.{CarriesKey, Readies, with_lock}
 use Rattle.hop_map.proofs.Keys.{spells}
 use Rattle.hop_map.specs.declared.dropping.Deletion.{Deletion}
@@ -193,5 +193,5 @@ alone_given l h = ap (λ (ks : List Lock). record l { locks = tail_of ks }) h
 pub taken_home : (a : About) (l : Known) (m s n h : ℕ) (key : List ℕ) (l2 : Known) → h ≡ home_of key a.seed (shape_at a m).mask → Taken a l m h s n l2 → home_by a m (stamp_depth n) key ≡ s
 taken_home a l m s n h key l2 is t = ap (λ (i : ℕ). i % power (stamp_depth n)) (sym is) ∙ t.here
 
-pub taken_own : (a : About) (l : Known) (m s n h : ℕ) (key : List ℕ) (l2 : Known) → h ≡ home_of key a.seed (shape_at a m).mask → Taken a l m h s n l2 → MayOwn a m key s
-taken_own a l m s n h key l2 same t fixed = ap (λ (i : ℕ). home_in a m key % power i) (sym (t.locked.deep.whole fixed)) ∙ taken_home a l m s n h key l2 same t
+pub taken_own : (a : About) (l : Known) (m s n h : ℕ) (key : List ℕ) (l2 : Known) → h ≡ home_of key a.seed (shape_at a m).mask → Taken a l m h s n l2 → OwnsKey a m key s n
+taken_own a l m s n h key l2 same t = (t.locked.deep, taken_home a l m s n h key l2 same t)

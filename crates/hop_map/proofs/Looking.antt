@@ -17,7 +17,7 @@ use Rattle.hop_map.specs.Private.LockedSegment.{seen_words}
 use Rattle.hop_map.specs.Private.UnderLock.{LockShows}
 use Rattle.hop_words.specs.Sights.{lock_taken}
 use Rattle.hop_map.specs.Private.Locks.{with_lock}
-use Rattle.hop_map.specs.Finding.{AsksForKey, Looked, TakesLock, MayOwn}
+use Rattle.hop_map.specs.Finding.{AsksForKey, Looked, TakesLock, OwnsKey}
 use Rattle.hop_map.specs.Private.Finding.{AsksHere}
 use Rattle.hop_map.proofs.Puts.{sound_with, absent_with, leads_with}
 use Rattle.hop_words.specs.Depths.{stamp_depth, home_by}
@@ -64,7 +64,7 @@ module _ (a : About) (l : Known) (m s n : ℕ) (key : List ℕ) (l2 : Known) (t 
     looked_tally : l3.tally ≡ lock_taken m s n ∷ l.tally
     looked_tally = ap (λ (z : Known). z.tally) after
 
-    pub takes_lock : MayOwn a m key s → TakesLock a l m key l3
+    pub takes_lock : OwnsKey a m key s n → TakesLock a l m key l3
     takes_lock own = (s, n, own, looked_tally)
 
     abbrev event : Event

@@ -1,9 +1,12 @@
 -- A new element that is filled, and what becomes of it.
-use Rattle.std.proofs.Common.{◌≡◌, ◌≢◌, ℕ, zero, suc, ◌<◌, ◌≤◌, true, List, [], ◌∷◌, length, slice_index, length-set, get_or-set_other, ⊎_elim, refl, ap, sym, subst, ◌∙◌, arith}
+use Rattle.std.proofs.Common.{◌≡◌, eq-eqb, ◌==◌, ◌++◌, ◌+◌, ◌≢◌, ℕ, zero, suc, ◌<◌, ◌≤◌, true, List, [], ◌∷◌, length, slice_index, length-set, get_or-set_other, ⊎_elim, refl, ap, sym, subst, ◌∙◌, arith}
 use Rattle.std.proofs.lemmas.List.{get_or_append_left}
 use Rattle.std.proofs.Math.Seq.{get_or-append_seam}
 use Rattle.bpf_shared.specs.Shape.{elements}
-use Rattle.bpf_shared.specs.History.{events_of}
+use Rattle.bpf_shared.specs.History.{events_of, entry}
+use Rattle.bpf_shared.proofs.Chains.{events_of-append, events_of-own}
+use Rattle.bpf_shared.specs.declared.events.Entry.{Entry}
+use Rattle.bpf_shared.specs.declared.events.Event.{Event}
 use Rattle.bpf_shared.specs.declared.events.Event.TheVariants.{Update}
 use Rattle.bpf_shared.specs.declared.events.MapAnswer.{MapAnswer}
 use Rattle.bpf_shared.specs.declared.events.MapAnswer.TheVariants.{Done}
@@ -16,9 +19,12 @@ use Rattle.hop_words.specs.Sights.{sighted}
 use Rattle.hop_layout.specs.Layout.{words_for}
 use Rattle.hop_layout.specs.Words.{word_of, AreBytes}
 use Rattle.hop_words.specs.Ghost.{shape_at, limbo_at, no_limbo}
-use Rattle.hop_words.specs.Kinds.{retiring, with_gone}
+use Rattle.hop_words.specs.Content.{one_if}
+use Rattle.hop_words.specs.Shortage.{updates_of}
+use Rattle.hop_words.specs.Kinds.{TakesEffect, retiring, with_gone}
+use Rattle.hop_words.proofs.Shortages.{updates_of-append}
 use Rattle.bpf_shared.specs.Own.{in_run}
-use Rattle.hop_words.specs.Owning.{tail_of, IsInHand}
+use Rattle.hop_words.specs.Owning.{tail_of, IsInHand, IsAnswered, update_in_hand}
 use Rattle.hop_words.proofs.Small.{equal}
 use Rattle.hop_arena.specs.Filling.{with_words, word_list}
 use Rattle.hop_arena.proofs.Filling.{word_count}
@@ -39,10 +45,21 @@ words_at (suc n) bs i less = ⊎_elim
     (λ (ne : i ≢ n). get_or_append_left (word_list n bs) (word_of bs n ∷ []) 0 i (let c = word_count n bs in omega arith) ∙ words_at n bs i (omega arith))
     (equal i n)
 
+-- an update that took effect is one more of the CPU's
+one_more : {a : About} (m : ℕ) (l : Known) (key bytes : List ℕ) (flags : ℕ) (r : MapAnswer) (seen : List Entry) → TakesEffect a l (Update m key bytes flags r) seen → updates_of m (events_of l.cpu l.seen) < updates_of m (events_of l.cpu seen)
+one_more m l key bytes flags r seen t =
+    let ev = Update m key bytes flags r in
+    let own : events_of l.cpu seen ≡ events_of l.cpu l.seen ++ ev ∷ [] = ap (events_of l.cpu) t.after
+    ∙ (events_of-append l.cpu l.seen (t.others ++ entry l.cpu ev ∷ []) ∙ ap (λ (es : List Event). events_of l.cpu l.seen ++ es)
+    (events_of-append l.cpu t.others (entry l.cpu ev ∷ []) ∙ (λ j. t.foreign j ++ events_of-own l.cpu ev j))) in
+    let n : updates_of m (events_of l.cpu seen) ≡ updates_of m (events_of l.cpu l.seen) + updates_of m (ev ∷ []) = ap (updates_of m) own ∙ updates_of-append m (events_of l.cpu l.seen) (ev ∷ []) in
+    let one : one_if (m == m) ≡ 1 = ap one_if (eq-eqb m m refl) in
+    omega arith
+
 module _ (a : About) (l : Known) (m e : ℕ) (new : HoldsNew l m e) (key bytes : List ℕ) (l1 : Known)
     (filled : l1 ≡ record l { fresh = with_words l.fresh (word_list (words_for (length key)) key) (word_list (words_for (length bytes)) bytes) }) where
   abbrev whole : Fresh
-  whole = record { map = m; element = e; key = word_list (words_for (length key)) key; value = word_list (words_for (length bytes)) bytes }
+  whole = record { map = m; element = e; update = updates_of m (events_of l.cpu l.seen); key = word_list (words_for (length key)) key; value = word_list (words_for (length bytes)) bytes }
 
   pub filled_is : l1 ≡ record l { fresh = whole ∷ [] }
   filled_is = filled ∙ ap (λ (fs : List Fresh). record l { fresh = with_words fs (word_list (words_for (length key)) key) (word_list (words_for (length bytes)) bytes) }) new
@@ -91,6 +108,14 @@ module _ (a : About) (l : Known) (m e : ℕ) (new : HoldsNew l m e) (key bytes :
 
       pub refused_hand : IsInHand l2 m e
       refused_hand = (whole, refused_fresh ∙ ap (λ (fs : List Fresh). whole ∷ fs) (sym (ap tail_of refused_fresh)), refl, refl)
+
+      -- the update that took it is answered
+      pub refused_answered : IsAnswered l2 m
+      refused_answered =
+          let s = saw_as a l (locked_with l1 k) (Update m key bytes flags r) l2.seen (ap (λ (q : Known). q.cpu) filled_is) (ap (λ (q : Known). q.seen) filled_is) p.seen in
+          let same : l2.cpu ≡ l.cpu = ap (λ (q : Known). q.cpu) p.after ∙ ap (λ (q : Known). q.cpu) filled_is in
+          subst (λ (fs : List Fresh). update_in_hand fs < updates_of m (events_of l2.cpu l2.seen)) (sym refused_fresh)
+          (subst (λ (c : ℕ). updates_of m (events_of l.cpu l.seen) < updates_of m (events_of c l2.seen)) (sym same) (one_more m l key bytes flags r l2.seen s))
 
       pub refused_limbo : (l3 : Known) (j : Sight) → l3 ≡ sighted (record l2 { fresh = tail_of l2.fresh }) j → l3.limbo ≡ l.limbo
       refused_limbo l3 j given = ap (λ (q : Known). q.limbo) given ∙ (ap (λ (q : Known). q.limbo) p.after ∙ ap (λ (q : Known). q.limbo) filled_is)

@@ -17,7 +17,7 @@ use Rattle.hop_words.specs.Ghost.{shape_at, IsSegment, Each}
 use Rattle.hop_words.specs.Sights.{look, sighted}
 use Rattle.hop_words.specs.Kinds.{SaysDepth, KnowsBorn, Seen, Child, noting, StampSeen, StampNoted, LocksSegment}
 use Rattle.hop_map.specs.Private.Locks.{Walking, Sought}
-use Rattle.hop_map.specs.Finding.{IsWay}
+use Rattle.hop_map.specs.Finding.{LeadsAlong, IsWay}
 use Rattle.hop_map.specs.Private.Finding.{Approaching, Walked}
 
 pub begins : (a : About) (l : Known) (m home : ℕ) (w : Way) → IsSegment a m w.segment → KnowsBorn a l m w.segment → IsOnWay home w → w.level ≤ 10 → Walking a l m home w 0 l
@@ -91,7 +91,7 @@ as_made g fixed = ap (λ (y : Bool). if y then 0 else depth g) fixed
 module _ (a : About) (l : Known) (m home n : ℕ) (w : Way) (y : Known) (at_w : IsSegment a m w.segment) (on_way : IsOnWay home w) (level : w.level ≡ first_depth (shape_at a m)) (few : w.level ≤ 10) (seen : StampSeen a l m w.segment n y) where
   -- the first segment is the home's own in a map that doesn't grow
   first_way : IsWay a m home w.segment []
-  first_way = record { looks = tt; at_once = λ fixed. (refl, (let e : depth (shape_at a m) ≡ w.level = sym (level ∙ as_made (shape_at a m) fixed) in ap (λ (i : ℕ). home % power i) e ∙ on_way.1)) }
+  first_way = record { leads = ap (λ (i : ℕ). home % power i) (sym level) ∙ on_way.1; at_once = λ fixed. (refl, (let e : depth (shape_at a m) ≡ w.level = sym (level ∙ as_made (shape_at a m) fixed) in ap (λ (i : ℕ). home % power i) e ∙ on_way.1)) }
 
   pub first_stopped : n % 2 ≡ 1 → Walked a l m home w.segment n y
   first_stopped odd = record {
@@ -114,7 +114,7 @@ module _ (a : About) (l : Known) (m home n : ℕ) (w : Way) (y : Known) (at_w : 
   }
 
   pub first_near : n % 2 ≡ 0 → Approaching a l m home w n [] y
-  first_near even = record { after = seen.1 even; looks = tt; inside = at_w; even = even; deep = seen.0; on_way = on_way; level = few; few = omega arith; short = omega arith }
+  first_near even = record { after = seen.1 even; leads = first_way.leads; inside = at_w; even = even; deep = seen.0; on_way = on_way; level = few; few = omega arith; short = omega arith }
 
   pub first_grows : stamp_depth n ≢ w.level → (shape_at a m).grow ≡ true
   first_grows ne = go (shape_at a m).grow refl
@@ -133,11 +133,11 @@ module _ (a : About) (l : Known) (m home n : ℕ) (w : Way) (way : List Sight) (
   pub near_locks : x.locks ≡ l.locks
   near_locks = ap (λ (z : Known). z.locks) t.after
 
-  grown : (shape_at a m).grow ≡ true → (s : ℕ) (more : List Sight) → Each (λ (z : Sight). (c : ℕ) × (i : ℕ) × (z ≡ look (Stamp m c) i)) more → IsWay a m home s more
-  grown grows s more looks = record { looks = looks; at_once = λ fixed. absurd (true≢false (sym grows ∙ fixed)) }
+  grown : (shape_at a m).grow ≡ true → (s : ℕ) (more : List Sight) → LeadsAlong a m home s more → IsWay a m home s more
+  grown grows s more leads = record { leads = leads; at_once = λ fixed. absurd (true≢false (sym grows ∙ fixed)) }
 
   pub near_there : (shape_at a m).grow ≡ true → home % power (stamp_depth n) ≡ w.segment → Walked a l m home w.segment n x
-  near_there grows here = record { way = way; is_way = grown grows w.segment way t.looks; short = t.short; inside = t.inside; free = λ _. (t.after, here); locked = λ odd. absurd (let z = t.even in omega arith) }
+  near_there grows here = record { way = way; is_way = grown grows w.segment way t.leads; short = t.short; inside = t.inside; free = λ _. (t.after, here); locked = λ odd. absurd (let z = t.even in omega arith) }
 
   module _ (next : Way) (on_way : IsOnWay home next) (e : IsNext w (stamp_depth n) next) where
     pub near_inside : IsSegment a m next.segment
@@ -145,6 +145,9 @@ module _ (a : About) (l : Known) (m home n : ℕ) (w : Way) (way : List Sight) (
 
     pub near_born : KnowsBorn a x m next.segment
     near_born = Child rn e.0 read_now refl e.4 e.2 e.5
+
+    leads_on : LeadsAlong a m home next.segment (look (Stamp m w.segment) n ∷ way)
+    leads_on = (w.segment, n, refl, t.even, (e.0, e.2, e.4, e.5, ap (λ (i : ℕ). home % power i) (sym e.1) ∙ on_way.1), t.leads)
 
     -- the way is no longer than the map is deep
     longer : length (look (Stamp m w.segment) n ∷ way) ≤ depth (shape_at a m)
@@ -154,7 +157,7 @@ module _ (a : About) (l : Known) (m home n : ℕ) (w : Way) (way : List Sight) (
       pub nearer : i % 2 ≡ 0 → Approaching a l m home next i (look (Stamp m w.segment) n ∷ way) y
       nearer even = record {
         after = seen.1 even ∙ ap (λ (z : Known). sighted (noting z m next.segment i) (look (Stamp m next.segment) i)) t.after;
-        looks = ((w.segment, n, refl), t.looks);
+        leads = leads_on;
         inside = near_inside;
         even = even;
         deep = seen.0;
@@ -167,7 +170,7 @@ module _ (a : About) (l : Known) (m home n : ℕ) (w : Way) (way : List Sight) (
       pub near_stopped : (shape_at a m).grow ≡ true → i % 2 ≡ 1 → Walked a l m home next.segment i y
       near_stopped grows odd = record {
         way = look (Stamp m w.segment) n ∷ way;
-        is_way = grown grows next.segment (look (Stamp m w.segment) n ∷ way) ((w.segment, n, refl), t.looks);
+        is_way = grown grows next.segment (look (Stamp m w.segment) n ∷ way) leads_on;
         short = longer;
         inside = near_inside;
         free = λ even. absurd (omega arith);

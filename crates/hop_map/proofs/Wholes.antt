@@ -10,13 +10,13 @@ use Rattle.bpf_shared.specs.declared.events.MapAnswer.{MapAnswer}
 use Rattle.bpf_shared.specs.declared.events.MapAnswer.TheVariants.{Done, Invalid, Busy, Exists, Absent, Full, NoMemory}
 use Rattle.hop_layout.specs.declared.about.About.{About}
 use Rattle.hop_words.specs.declared.known.Known.{Known}
-use Rattle.hop_words.specs.declared.known.Fresh.{Fresh}
 use Rattle.hop_words.specs.declared.known.Limbo.{Limbo}
 use Rattle.hop_words.specs.declared.known.Sight.{Sight}
 use Rattle.hop_layout.specs.declared.place.Place.TheVariants.{RunCount}
 use Rattle.hop_words.specs.Sights.{IsLook, LeavesLocks, LeavesElements, IsTakenSince, look, lock_taken}
 use Rattle.hop_words.specs.Ghost.{shape_at, limbo_at, no_limbo, Each}
-use Rattle.hop_words.specs.Shortage.{done_in}
+use Rattle.hop_words.specs.Shortage.{done_in, updates_of}
+use Rattle.hop_map.specs.Private.Call.{HoldsNew}
 use Rattle.hop_words.specs.Kinds.{TakesEffect, SawAllTaken, LocksSegment, holding, retiring, with_gone}
 use Rattle.bpf_shared.specs.Own.{in_run}
 use Rattle.hop_words.specs.Owning.{tail_of}
@@ -51,7 +51,11 @@ pub keeps_sees : (m : ℕ) (l l1 : Known) (more : List Sight) → Each LeavesLoc
 keeps_sees m l l1 more leave s = subst (Keeps m l) (sym s) (record { cpu = refl; seen = refl; fresh = refl; locks = refl; readings = refl; size = refl; others = λ n ne. refl; used = refl; sights = (more, refl, leave) })
 
 pub keeps_holding : (m e : ℕ) (l l1 : Known) → Keeps m l l1 → Keeps m (holding l m e) (holding l1 m e)
-keeps_holding m e l l1 p = record { cpu = p.cpu; seen = p.seen; fresh = ap (λ (fs : List Fresh). record { map = m; element = e; key = []; value = [] } ∷ fs) p.fresh; locks = p.locks; readings = p.readings; size = p.size; others = p.others; used = p.used; sights = p.sights }
+keeps_holding m e l l1 p = record { cpu = p.cpu; seen = p.seen; fresh = λ j. record { map = m; element = e; update = updates_of m (events_of (p.cpu j) (p.seen j)); key = []; value = [] } ∷ p.fresh j; locks = p.locks; readings = p.readings; size = p.size; others = p.others; used = p.used; sights = p.sights }
+
+-- what was claimed with an empty hand is for the next update
+pub holds_new : (l l' : Known) (m e : ℕ) → l.fresh ≡ [] → Keeps m (holding l m e) l' → HoldsNew l' m e
+holds_new l l' m e none p = p.fresh ∙ (λ j. record { map = m; element = e; update = updates_of m (events_of (sym p.cpu j) (sym p.seen j)); key = []; value = [] } ∷ none j)
 
 each_still : (m : ℕ) (ss : List Sight) → Each IsLook ss → Each (LeavesElements m) ss
 each_still m [] t = tt

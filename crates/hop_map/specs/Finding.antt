@@ -10,11 +10,12 @@ use Rattle.hop_map.specs.declared.once.Once.TheVariants.{Found, Absent, Disturbe
 use Rattle.hop_words.specs.declared.known.Sight.{Sight}
 use Rattle.hop_layout.specs.declared.place.Place.TheVariants.{Stamp}
 use Rattle.hop_layout.specs.Home.{home_of}
-use Rattle.hop_layout.specs.Layout.{power, depth, words_for}
+use Rattle.hop_layout.specs.Layout.{power, depth, first_depth, words_for}
 use Rattle.bpf_shared.specs.Shape.{elements}
 use Rattle.hop_words.specs.Sights.{look, lock_taken, IsLook}
 use Rattle.hop_words.specs.Ghost.{shape_at, Each}
-use Rattle.hop_words.specs.Kinds.{TakesEffect}
+use Rattle.hop_words.specs.Depths.{stamp_depth}
+use Rattle.hop_words.specs.Kinds.{SaysDepth, TakesEffect}
 use Rattle.bpf_shared.specs.Own.{in_run}
 
 -- a CPU in a run asks for a key of the map, with no element in hand and no lock
@@ -31,10 +32,23 @@ pub record Looked (a : About) (l : Known) (m : ℕ) (key : List ℕ) (found : Op
   pub seen : TakesEffect a l (Lookup m key found) l'.seen
   pub after : l' ≡ record l { seen = l'.seen; readings = l'.readings; tally = l'.tally }
 
+-- by this stamp of a segment, a segment comes next on the way of a home: it has the home's next bit
+-- above those that the first has, below the stamp's depth
+abbrev pub ComesNext : ℕ → ℕ → ℕ → ℕ → Type 0
+ComesNext home t n s = (u : ℕ) × (u < stamp_depth n) × (t < power u) × (s ≡ t + power u)
+    × (home % power (u + 1) ≡ s)
+
+-- the looks lead to the segment, the last first: the way begins at the first segment, and from each
+-- one, whose stamp was unlocked, it goes to the one that comes next
+abbrev pub LeadsAlong : About → ℕ → ℕ → ℕ → List Sight → Type 0
+LeadsAlong a m home s [] = home % power (first_depth (shape_at a m)) ≡ s
+LeadsAlong a m home s (x ∷ way) = (t : ℕ) × (n : ℕ) × (x ≡ look (Stamp m t) n) × (n % 2 ≡ 0)
+    × ComesNext home t n s × LeadsAlong a m home t way
+
 -- on its way to the segment of a home a reading looks at the stamps of others; in a map that
 -- doesn't grow at none, and the segment is the home's own at the map's depth
 pub record IsWay (a : About) (m home s : ℕ) (way : List Sight) : Type 0 where
-  pub looks : Each (λ (x : Sight). (t : ℕ) × (n : ℕ) × (x ≡ look (Stamp m t) n)) way
+  pub leads : LeadsAlong a m home s way
   pub at_once : (shape_at a m).grow ≡ false
       → (way ≡ []) × (home % power (depth (shape_at a m)) ≡ s)
 
@@ -98,14 +112,13 @@ abbrev pub all_sights : List (List Sight) → List Sight
 all_sights [] = []
 all_sights (x ∷ xs) = x ++ all_sights xs
 
--- a segment that may be the key's: in a map that doesn't grow the only one
-abbrev pub MayOwn : About → ℕ → List ℕ → ℕ → Type 0
-MayOwn a m key s = (shape_at a m).grow ≡ false
-    → home_in a m key % power (depth (shape_at a m)) ≡ s
+-- by this stamp the segment is the one that the key is at home in
+abbrev pub OwnsKey : About → ℕ → List ℕ → ℕ → ℕ → Type 0
+OwnsKey a m key s n = SaysDepth a m s n × (home_in a m key % power (stamp_depth n) ≡ s)
 
 -- the lock of the key's segment was taken, and nothing else was noted
 abbrev pub TakesLock : About → Known → ℕ → List ℕ → Known → Type 0
-TakesLock a l m key l' = (s : ℕ) × (n : ℕ) × MayOwn a m key s
+TakesLock a l m key l' = (s : ℕ) × (n : ℕ) × OwnsKey a m key s n
     × (l'.tally ≡ lock_taken m s n ∷ l.tally)
 
 -- what one reading noted that was disturbed, and what one that was not
@@ -127,4 +140,4 @@ pub record IsSparing (a : About) (m : ℕ) (key : List ℕ) (sights : List Sight
   pub all : sights ≡ last ++ all_sights tries
   pub ends : IsUndisturbedTry a m key last
       ⊎ ((length tries ≡ 8)
-      × ((s : ℕ) × (n : ℕ) × MayOwn a m key s × (last ≡ lock_taken m s n ∷ [])))
+      × ((s : ℕ) × (n : ℕ) × OwnsKey a m key s n × (last ≡ lock_taken m s n ∷ [])))

@@ -1,16 +1,17 @@
 -- What a CPU notes at a whole call.
-use Rattle.std.specs.Prelude.{◌≡◌, ◌⊎◌, ℕ, zero, suc, true, ◌-◌, ◌/◌, ◌^◌, ◌<◌, ◌≤◌, List, [], ◌∷◌, ◌++◌}
+use Rattle.std.specs.Prelude.{◌≡◌, ◌⊎◌, ℕ, zero, suc, true, ◌-◌, ◌/◌, ◌%◌, ◌^◌, ◌<◌, ◌≤◌, List, [], ◌∷◌, ◌++◌}
 use Rattle.bpf_shared.specs.declared.events.Event.{Event}
 use Rattle.bpf_shared.specs.declared.events.Event.TheVariants.{End, Lookup, Update, Delete, Keys}
 use Rattle.bpf_shared.specs.declared.events.MapAnswer.{MapAnswer}
-use Rattle.bpf_shared.specs.declared.events.MapAnswer.TheVariants.{Busy}
+use Rattle.bpf_shared.specs.declared.events.MapAnswer.TheVariants.{Done, Busy}
 use Rattle.hop_layout.specs.declared.about.About.{About}
 use Rattle.hop_words.specs.declared.known.Known.{Known}
 use Rattle.hop_words.specs.declared.known.Sight.{Sight}
 use Rattle.hop_words.specs.Sights.{LeavesLocks, lock_taken, split_made}
-use Rattle.hop_layout.specs.Layout.{segments}
+use Rattle.hop_layout.specs.Layout.{segments, power}
+use Rattle.hop_words.specs.Depths.{stamp_depth}
 use Rattle.hop_words.specs.Ghost.{shape_at, Each}
-use Rattle.hop_map.specs.Finding.{IsSparing, MayOwn}
+use Rattle.hop_map.specs.Finding.{IsSparing, OwnsKey}
 
 -- the answer is Busy where the stamp has the last version, and nowhere else: so Busy comes before
 -- Exists, Absent, Full and NoMemory
@@ -23,8 +24,8 @@ BusyFirst stamp answer = stamp / 256 < 2 ^ 56 - 1
 pub record IsUnderLock (a : About) (m : ℕ) (key : List ℕ) (answer : MapAnswer)
     (sights : List Sight) : Type 0 where
   pub segment : ℕ
-  pub own : MayOwn a m key segment
   pub stamp : ℕ
+  pub own : OwnsKey a m key segment stamp
   pub sooner : List Sight
   pub later : List Sight
   pub all : sights ≡ later ++ (lock_taken m segment stamp ∷ sooner)
@@ -57,24 +58,33 @@ abbrev pub CallNotes : About → Event → Known → Known → Type 0
 CallNotes a event l l' = (sights : List Sight) × (l'.tally ≡ sights ++ l.tally)
     × MayNote a event sights
 
--- of the locks that the CPU took the last is that of this segment
-abbrev pub LockedLast : ℕ → ℕ → Known → Type 0
-LockedLast m s l = (stamp : ℕ) × (later : List Sight) × (sooner : List Sight)
-    × (l.tally ≡ later ++ (lock_taken m s stamp ∷ sooner)) × Each LeavesLocks later
+-- of the locks that were taken the last is that of this segment
+abbrev pub LocksLast : ℕ → ℕ → List Sight → Type 0
+LocksLast m s sights = (stamp : ℕ) × (later : List Sight) × (sooner : List Sight)
+    × (sights ≡ later ++ (lock_taken m s stamp ∷ sooner)) × Each LeavesLocks later
 
--- a split that may come behind a call: behind an update of a map that grows. It took the lock of a
--- segment, and the segment split or didn't
-abbrev pub IsGrowth : About → Event → List Sight → Type 0
-IsGrowth a (Update m key bytes flags answer) sights = ((shape_at a m).grow ≡ true)
-    × ((s : ℕ) × (n : ℕ) × ((sights ≡ lock_taken m s n ∷ [])
-    ⊎ (sights ≡ split_made m s n ∷ (lock_taken m s n ∷ []))))
-IsGrowth a event sights = ⊥
+-- so it is of those that the CPU took in a call
+abbrev pub LockedLast : ℕ → ℕ → Known → Known → Type 0
+LockedLast m s l l' = (sights : List Sight) × (l'.tally ≡ sights ++ l.tally) × LocksLast m s sights
 
--- what a call may note, and a split behind it
+-- the segment that the number t belongs to was to split: by the stamp at which its lock was taken.
+-- It split or didn't
+abbrev pub TriesSplit : ℕ → ℕ → List Sight → Type 0
+TriesSplit m t sights = (s : ℕ) × (n : ℕ) × (t % power (stamp_depth n) ≡ s)
+    × ((sights ≡ lock_taken m s n ∷ []) ⊎ (sights ≡ split_made m s n ∷ (lock_taken m s n ∷ [])))
+
+-- a split that may come after a call: after an update that was done, of a map that grows. The
+-- segment whose lock the update took last was to split
+abbrev pub IsGrowth : About → Event → List Sight → List Sight → Type 0
+IsGrowth a (Update m key bytes flags Done) sooner sights = ((shape_at a m).grow ≡ true)
+    × ((t : ℕ) × LocksLast m t sooner × TriesSplit m t sights)
+IsGrowth a event sooner sights = ⊥
+
+-- what a call may note, and a split after it
 abbrev pub MayNoteGrowing : About → Event → List Sight → Type 0
 MayNoteGrowing a event sights = MayNote a event sights
     ⊎ ((later : List Sight) × (sooner : List Sight) × (sights ≡ later ++ sooner)
-    × IsGrowth a event later × MayNote a event sooner)
+    × IsGrowth a event sooner later × MayNote a event sooner)
 
 -- at each of some calls, one after the other, no more than it may
 abbrev pub MayNoteEach : About → List Event → List Sight → Type 0

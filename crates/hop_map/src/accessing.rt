@@ -52,7 +52,7 @@ pub(crate) fn store_part_at<R: Wait>(
     ensures stored { Told table.now.about lane.old.known (Store at.at size word) lane.new.known }
 {
     let part = part_at(table, at, size);
-    let mut old = lane.look_at_value(table, part);
+    let mut old = lane.look_at_value(rt, table, part);
     'tries: for _ in rt.forever() {
         let new = with_number(old, part, word);
         let found = lane.exchange_value(table, part, old, new, word);
@@ -103,7 +103,7 @@ pub(crate) fn change_part_at<R: Wait>(
     ensures small { result < modulus (bytes_in size) }
 {
     let part = part_at(table, at, size);
-    let mut old = lane.look_at_value(table, part);
+    let mut old = lane.look_at_value(rt, table, part);
     'tries: for _ in rt.forever() {
         let number = number_in(old, part);
         let left = change(op, size, number, operand, expected);

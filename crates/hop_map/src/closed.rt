@@ -27,15 +27,15 @@ impl Model for Closed {
 }
 
 /// Takes all ports of a store back. There is one legal history of the store, of which each port has
-/// seen its CPU's part. Its answers of a shortage have their causes in what came before. It leads
-/// to a store whose keys and values the words have.
+/// seen its CPU's part. It leads to a store whose keys and values the words have, and on the way
+/// there its answers of a shortage have their causes.
 pub fn gather(table: HopTable, ports: Vec<HopPort>) -> Closed
     requires all { IsAllOf table ports.items }
     ensures about { result.about ≡ table.about }
     ensures legal { IsLegal result.about.shape result.history }
-    ensures causes { HaveCauses result.about.shape result.about.version result.history }
     ensures last { (last : Plain) × IsLast result last
-        × Legal (as_made result.about.shape) result.history last }
+        × Legal (as_made result.about.shape) result.history last
+        × HaveCauses result.about.shape result.about.version result.history last }
     ensures parts { All (IsPartOf result.history) ports.items }
 {
     let mut back = Returned::new(&table);

@@ -5,7 +5,7 @@ ghost use Rattle.bpf_shared.specs.History.{events_of};
 ghost use Rattle.bpf_shared.specs.declared.events.Event.TheVariants.{Delete};
 ghost use Rattle.hop_words.specs.Ghost.{shape_at};
 ghost use Rattle.bpf_shared.specs.Own.{in_run};
-ghost use Rattle.hop_map.specs.Finding.{MayOwn};
+ghost use Rattle.hop_map.specs.Finding.{OwnsKey};
 ghost use Rattle.hop_map.specs.Private.Locks.{with_lock};
 ghost use Rattle.hop_map.specs.Noting.{BusyFirst, CallNotes};
 ghost use Rattle.hop_map.specs.Private.Removals.{NamesKeyOf, DeleteEnds, answer_to};
@@ -35,7 +35,7 @@ fn lock_and_delete<R: Wait>(
     requires empty { lane.known.fresh ≡ [] }
     requires idle { lane.known.locks ≡ [] }
     ensures table { result.0.table ≡ table.now.id }
-    ensures ends { (s : ℕ) × (n : ℕ) × MayOwn table.now.about map key.now s
+    ensures ends { (s : ℕ) × (n : ℕ) × OwnsKey table.now.about map key.now s n
         × DeleteEnds table.now.about (with_lock lane.known map s n) map key.now result.1
         result.0.known × BusyFirst n (answer_to result.1) }
 {

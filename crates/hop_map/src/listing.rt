@@ -133,7 +133,7 @@ fn list_segment<R: Wait>(
 }
 
 // Whether the segment of this number is locked, where none above it is any more.
-fn has_lock(table: &HopTable, lane: &mut Lane, map: u8, segment: u32) -> bool
+fn has_lock<R: Wait>(rt: &R, table: &HopTable, lane: &mut Lane, map: u8, segment: u32) -> bool
     requires table { lane.old.table ≡ table.now.id }
     requires inside { IsSegment table.now.about map segment }
     requires covers { Covers table.now.about map (segment + 1) lane.old.known.locks }
@@ -142,11 +142,11 @@ fn has_lock(table: &HopTable, lane: &mut Lane, map: u8, segment: u32) -> bool
     ensures last { IsTrue result → HasLastLock lane.new.known map segment }
     ensures none { IsFalse result → Covers table.now.about map segment lane.new.known.locks }
 {
-    seek(table, lane, map, segment).segment == segment
+    seek(rt, table, lane, map, segment).segment == segment
 }
 
 // The highest number of a locked segment.
-fn find_last(table: &HopTable, lane: &mut Lane, map: u8, count: u32) -> u32
+fn find_last<R: Wait>(rt: &R, table: &HopTable, lane: &mut Lane, map: u8, count: u32) -> u32
     requires table { lane.old.table ≡ table.now.id }
     requires map { map < length table.now.about.shape.maps }
     requires some { 0 < count }
@@ -160,7 +160,7 @@ fn find_last(table: &HopTable, lane: &mut Lane, map: u8, count: u32) -> u32
 {
     'down: for passed in 0..count {
         let segment = count - 1 - passed;
-        if has_lock(table, lane, map, segment) {
+        if has_lock(rt, table, lane, map, segment) {
             return segment;
         }
     }
@@ -203,12 +203,12 @@ pub(crate) fn list_keys<R: Wait>(
     'segments: for segment in 0..count {
         list_segment(rt, table, lane, map, segment, list);
     }
-    let last = find_last(table, lane, map, count);
+    let last = find_last(rt, table, lane, map, count);
     let stamp = lane.read_locked_stamp(table, map, last) - 1;
     lane.unlock_keys(table, map, last, stamp, list);
     'others: for left in 0..last {
         let segment = last - 1 - left;
-        if !has_lock(table, lane, map, segment) {
+        if !has_lock(rt, table, lane, map, segment) {
             continue;
         }
         unlock_last(table, lane, map, segment);

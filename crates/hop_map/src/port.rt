@@ -224,7 +224,7 @@ impl HopPort {
         ensures noted { CallNotes table.now.about (Update map key.now value.now flags result)
             self.old.known self.new.known }
         ensures spilled { IfSome self.new.spilled (λ s. (result ≡ Done)
-            × LockedLast map s self.new.known) }
+            × LockedLast map s self.old.known self.new.known) }
         ensures fits { IsPortOf table.now self.new }
     {
         let Some(lane) = self.lane.take() else {

@@ -10,7 +10,7 @@ ghost use Rattle.hop_words.specs.Kinds.{SawAllTaken, holding};
 ghost use Rattle.bpf_shared.specs.Own.{in_run};
 ghost use Rattle.hop_arena.specs.Claiming.{Claims, Misses, IsArena};
 ghost use Rattle.hop_epoch.specs.Batch.{Keeps};
-ghost use Rattle.hop_map.specs.Finding.{MayOwn};
+ghost use Rattle.hop_map.specs.Finding.{OwnsKey};
 ghost use Rattle.hop_map.specs.Private.Locks.{Readies, with_lock};
 ghost use Rattle.hop_map.specs.Noting.{BusyFirst, CallNotes, LockedLast};
 ghost use Rattle.hop_map.specs.Private.Updates.{Brought, Refusal, UpdateEnds, SpillsTo, ClaimsOrLacks, answer_of};
@@ -46,7 +46,7 @@ fn lock_and_put<R: Wait>(
     requires map { map < length table.now.about.shape.maps }
     requires readies { Readies table.now.about lane.known map key.now value.now flags element }
     ensures table { result.0.table ≡ table.now.id }
-    ensures ends { (s : ℕ) × (n : ℕ) × MayOwn table.now.about map key.now s
+    ensures ends { (s : ℕ) × (n : ℕ) × OwnsKey table.now.about map key.now s n
         × UpdateEnds table.now.about (with_lock lane.known map s n) map
         key.now value.now flags result.1 result.0.known
         × BusyFirst n (answer_of result.1) × SpillsTo s result.1 }
@@ -85,7 +85,7 @@ fn lock_and_refuse<R: Wait>(
     requires brought { Brought table.now.about lane.known map key.now value.now flags }
     requires lacks { SawAllTaken table.now.about lane.known map }
     ensures table { result.0.table ≡ table.now.id }
-    ensures refused { (s : ℕ) × (n : ℕ) × MayOwn table.now.about map key.now s
+    ensures refused { (s : ℕ) × (n : ℕ) × OwnsKey table.now.about map key.now s n
         × Refusal table.now.about (with_lock lane.known map s n) map
         key.now value.now flags result.1 result.0.known
         × BusyFirst n result.1 }
@@ -108,6 +108,7 @@ fn claim_near(
     requires table { lane.old.table ≡ table.now.id }
     requires map { arena.old.map < length table.now.about.shape.maps }
     requires arena { Searches table.now.about arena.old.map arena.old }
+    requires empty { lane.old.known.fresh ≡ [] }
     requires unlocked { lane.old.known.locks ≡ [] }
     requires runs { in_run (events_of lane.old.known.cpu lane.old.known.seen) ≡ true }
     ensures table { lane.new.table ≡ lane.old.table }
@@ -141,6 +142,7 @@ fn reclaim_and_claim(
     requires map { arena.old.map < length table.now.about.shape.maps }
     requires arena { Searches table.now.about arena.old.map arena.old }
     requires batches { AreBatchesOf table.now.about lane.old.known arena.old.map batches.old }
+    requires empty { lane.old.known.fresh ≡ [] }
     requires unlocked { lane.old.known.locks ≡ [] }
     requires runs { in_run (events_of lane.old.known.cpu lane.old.known.seen) ≡ true }
     ensures table { lane.new.table ≡ lane.old.table }
@@ -168,6 +170,7 @@ fn claim_free(
     requires map { arena.old.map < length table.now.about.shape.maps }
     requires arena { Searches table.now.about arena.old.map arena.old }
     requires batches { AreBatchesOf table.now.about lane.old.known arena.old.map batches.old }
+    requires empty { lane.old.known.fresh ≡ [] }
     requires unlocked { lane.old.known.locks ≡ [] }
     requires runs { in_run (events_of lane.old.known.cpu lane.old.known.seen) ≡ true }
     ensures table { lane.new.table ≡ lane.old.table }
@@ -228,7 +231,7 @@ fn fill_and_put<R: Wait>(
     ensures served { result.1 ≢ NoMemory }
     ensures noted { CallNotes table.now.about (Update map key.now value.now flags result.1)
         lane.known result.0.known }
-    ensures spilled { IfSome result.2 (λ s. (result.1 ≡ Done) × LockedLast map s result.0.known) }
+    ensures spilled { IfSome result.2 (λ s. (result.1 ≡ Done) × LockedLast map s lane.known result.0.known) }
     ensures arena { Searches table.now.about map arena.new }
     ensures batches { AreBatchesOf table.now.about result.0.known map batches.new }
 {
@@ -288,7 +291,7 @@ pub fn update<R: Wait>(
     ensures lacks { IsShortage table.now.about lane.known map result.1 result.0.known }
     ensures noted { CallNotes table.now.about (Update map key.now value.now flags result.1)
         lane.known result.0.known }
-    ensures spilled { IfSome result.2 (λ s. (result.1 ≡ Done) × LockedLast map s result.0.known) }
+    ensures spilled { IfSome result.2 (λ s. (result.1 ≡ Done) × LockedLast map s lane.known result.0.known) }
     ensures arena { Searches table.now.about map arena.new }
     ensures batches { AreBatchesOf table.now.about result.0.known map batches.new }
 {

@@ -1,5 +1,3 @@
 pub mod Fresh
 pub mod Passing
 pub mod Trials
-pub mod Lanes
-pub mod RunsMade

@@ -1,2 +1,1 @@
 pub mod Trial
-pub mod Ready

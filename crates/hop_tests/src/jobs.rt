@@ -32,7 +32,7 @@ const fn shape(spare: u64) -> MapShape {
 fn programs(alloc: Global, texts: &[&str]) -> Result<Vec<Program>, Fail> {
     let mut programs = Vec::new(alloc);
     for text in texts {
-        programs.push(load(alloc, assemble(alloc, text)?, &[shape(0), shape(0)])?)?;
+        programs.push(load(alloc, assemble(alloc, text)?, 2)?)?;
     }
     Ok(programs)
 }

@@ -4,8 +4,6 @@
 #[cfg(test)]
 mod asking;
 #[cfg(test)]
-mod claims;
-#[cfg(test)]
 mod crowds;
 #[cfg(test)]
 mod finds;

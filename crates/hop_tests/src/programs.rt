@@ -31,7 +31,7 @@ const MAP: MapShape = MapShape {
 };
 
 fn program(alloc: Global, text: &str) -> Result<Program, Fail> {
-    Ok(load(alloc, assemble(alloc, text)?, &[MAP])?)
+    Ok(load(alloc, assemble(alloc, text)?, 1)?)
 }
 
 // Runs a program as a job of CPU 0 with this number as its context.

@@ -28,4 +28,4 @@ pub ends : (a : About) (id : ℕ) (v : View) (lanes : List Known) (ws : List ℕ
     → ((k : ℕ) (l : Known) → get_elem? lanes k ≡ some l → HasSeenBeginning l v.kept) → KeepsWholeHistory a (view [] v.kept) ws
 ends a id v lanes ws xs same final all within =
     let w = closes a id v ws xs final (subst (AreAllBack a) (sym same) all) (λ k l e. within k l (ap (λ (ls : List Known). get_elem? ls k) (sym same) ∙ e)) in
-    record { ghost = w.ghost; whole = w.whole; rule = w.rule; shows = w.shows }
+    record { ghost = w.ghost; whole = w.whole; rule = w.rule; empty = w.empty; shows = w.shows }

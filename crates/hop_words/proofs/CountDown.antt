@@ -11,7 +11,8 @@ use Rattle.bpf_shared.specs.declared.events.Entry.{Entry}
 use Rattle.bpf_shared.specs.declared.events.MapAnswer.TheVariants.{Done}
 use Rattle.bpf_shared.specs.Store.{Plain, KeyMap, put}
 use Rattle.bpf_shared.specs.Events.{Allowed, after_delete}
-use Rattle.bpf_shared.specs.History.{entry}
+use Rattle.bpf_shared.specs.History.{entry, events_of}
+use Rattle.bpf_shared.specs.Own.{in_run}
 use Rattle.bpf_shared.proofs.Puts.{put-same}
 use Rattle.hop_layout.specs.declared.place.Place.{Place}
 use Rattle.hop_layout.specs.declared.place.Place.TheVariants.{RunCount, KeyCount, Stamp}
@@ -22,13 +23,13 @@ use Rattle.hop_words.specs.declared.known.Lock.{Lock}
 use Rattle.hop_words.specs.declared.known.Change.TheVariants.{Drops}
 use Rattle.hop_layout.specs.Layout.{mem, put_at}
 use Rattle.hop_words.specs.Content.{place_words}
-use Rattle.hop_words.specs.Ghost.{Holder, Leaving, Within, lane, Ghost, shape_at, HasElement, limbo_at, lock_home}
+use Rattle.hop_words.specs.Ghost.{Holder, Free, Leaving, Within, lane, Ghost, shape_at, HasElement, limbo_at, lock_home}
 use Rattle.hop_words.specs.Rule.{Rule, Minded, put_key, changed, Holds, numbered}
 use Rattle.hop_words.specs.Private.Step.{Next, Steps}
 use Rattle.hop_words.specs.Kinds.{Removes, Removed, with_gone}
 use Rattle.hop_words.proofs.Small.{equal_keys, equal, here_or, put2-same, put2-other, put_key-same, put_key-other}
 use Rattle.hop_words.proofs.Histories.{logged_event}
-use Rattle.hop_words.proofs.Shortages.{begun_more, shown_step, who_put}
+use Rattle.hop_words.proofs.Shortages.{begun_event, causes_on, run_quiet, settles_put, shown_step}
 use Rattle.hop_words.proofs.Goes.{with_used, owned_goes, cut_old, linked_goes, keyed_goes, batched_goes, valued_goes}
 use Rattle.hop_words.proofs.Locks.{holds}
 use Rattle.hop_words.proofs.Effects.{Effect, effect_segments, effect_locking, effect_reading, effect_held, effect_worn}
@@ -115,6 +116,7 @@ module _ (a : About) (l : Known) (k : Lock) (key : List ℕ) (e : ℕ) (i : Remo
     holder = holder';
     number = g.number;
     linked = linked';
+    taker = g.taker;
     depths = g.depths;
     eras = put g.eras m (put (g.eras m) s (record { era = w (Stamp m s); writer = l.cpu; dirty = true; credit = 1; old = (g.eras m s).old }));
   }
@@ -134,7 +136,7 @@ module _ (a : About) (l : Known) (k : Lock) (key : List ℕ) (e : ℕ) (i : Remo
   down_rule = record {
     shaped = r.shaped;
     deep = r.deep;
-    logged = logged_event a g.lanes.seen g.log g.last last' l.cpu event r.logged inside tt may;
+    logged = logged_event a g.lanes.seen g.log g.last last' l.cpu event r.logged inside may;
     keyed = keyed_goes a l.cpu m e s key g.holder was g.linked (λ j. w (KeyCount j)) g.last.maps g.number r.keyed there;
     worn = effect_worn a l k i.lock w g r is i.nothing (Drops key) linked' holder' effect event (eq-eqb m m refl);
     runs = runs_quiet a w g r l is inside (λ d. w (RunCount d)) event r.runs refl;
@@ -147,7 +149,12 @@ module _ (a : About) (l : Known) (k : Lock) (key : List ℕ) (e : ℕ) (i : Remo
     reading = effect_reading a l k i.lock w g r is i.nothing (Drops key) linked' holder' effect;
     held = effect_held a l k i.lock w g r is i.nothing (Drops key) linked' holder' effect inside;
     valued = valued_goes a l.cpu m e s key g.holder was _ g.last.made g.last.value g.last.held g.number r.valued;
-    shown = shown_step a g.log log' g.last last' g.lanes.fresh g.lanes.fresh g.lanes.tally g.holder holder' (λ d. begun_more d g.log (entry l.cpu event ∷ [])) (λ p h. h) (λ n d c at is. inl (who_put g.holder m e (Leaving l.cpu) (λ c q. cc) n d c is)) (λ c n d inb at h. inr h) r.shown;
+    shown = shown_step a g.log log' g.last last' g.lanes.fresh g.lanes.fresh g.lanes.tally g.holder holder' g.taker (begun_event g.log g.lanes.fresh l.cpu event)
+        (causes_on a g.log g.last last' g.lanes.fresh g.lanes.fresh l.cpu event (begun_event g.log g.lanes.fresh l.cpu event) r.logged.legal may r.shown.causes tt)
+        (λ d p. ⊎_elim (λ (none : g.lanes.fresh d ≡ []). inl none) (λ (run : in_run (events_of d g.log) ≡ true). inr (run_quiet l.cpu d event g.log refl run)) p)
+        (λ p h. h)
+        (settles_put g.holder m e (Leaving l.cpu) (λ _ free. let z : Within key ≡ Free = sym was ∙ free in cc) (λ c q. cc))
+        (λ c n d inb at h. inr h) r.shown;
   }
 
   down_lane : lane g'.lanes l.cpu ≡ record l { seen = log'; limbo = with_gone l m e; locks = lock' ∷ [] }

@@ -12,7 +12,8 @@ use Rattle.bpf_shared.specs.First.{first_of}
 use Rattle.bpf_shared.specs.Shape.{element_span}
 use Rattle.bpf_shared.specs.Store.{Plain, Value, put}
 use Rattle.bpf_shared.specs.Events.{Allowed, after_update}
-use Rattle.bpf_shared.specs.History.{entry}
+use Rattle.bpf_shared.specs.History.{entry, events_of}
+use Rattle.bpf_shared.specs.Own.{in_run}
 use Rattle.bpf_shared.proofs.Puts.{put-same}
 use Rattle.hop_layout.specs.declared.place.Place.{Place}
 use Rattle.hop_layout.specs.declared.place.Place.TheVariants.{RunCount, KeyCount, Stamp, ValueWord}
@@ -22,17 +23,17 @@ use Rattle.hop_words.specs.declared.known.Fresh.{Fresh}
 use Rattle.hop_words.specs.declared.known.Lock.{Lock}
 use Rattle.hop_words.specs.declared.known.Change.TheVariants.{Puts}
 use Rattle.hop_layout.specs.Layout.{mem, put_at, words_for}
-use Rattle.hop_words.specs.Shortage.{HasHadValue}
+use Rattle.hop_words.specs.Shortage.{is_update, HasHadValue}
 use Rattle.hop_layout.specs.Words.{bytes_of_words}
 use Rattle.hop_words.specs.Content.{place_words, one_if}
-use Rattle.hop_words.specs.Ghost.{Filling, Within, lane, Era, Ghost, shape_at, HasElement, Each, lock_home}
+use Rattle.hop_words.specs.Ghost.{Free, Filling, Within, lane, Era, Ghost, shape_at, HasElement, Each, lock_home}
 use Rattle.hop_words.specs.Rule.{times_fresh, Rule, Worn, Minded, put_key, changed, Holds, Segment, numbered, owed, Keyed, times_lock}
 use Rattle.hop_words.specs.Private.Step.{Next, Steps}
 use Rattle.hop_words.specs.Kinds.{Inserts, Inserted}
 use Rattle.hop_words.proofs.Small.{equal_keys, here_or, put2-same, put2-other, put_key-same, put_key-other}
 use Rattle.hop_words.proofs.Spelling.{value_spelled}
 use Rattle.hop_words.proofs.Histories.{logged_event, done_in-append}
-use Rattle.hop_words.proofs.Shortages.{begun_more, had_update, new_update, shown_step, who_put, hand_rest}
+use Rattle.hop_words.proofs.Shortages.{begun_answer, causes_on, empty_still, run_quiet, had_update, new_update, settles_put, shown_step, hand_held, hand_rest}
 use Rattle.hop_words.proofs.Comes.{in_hand, now_old, linked_comes, owned_comes, keyed_comes, batched_comes, filled_rest, valued_comes}
 use Rattle.hop_words.proofs.Segs.{Elsewhere, segments_step, locking_step, Upward, readings_step, held_step, lock_once, one_home}
 use Rattle.hop_words.proofs.Stays.{stay, next_as, saw, running_is, map_there, runs_quiet, place_for}
@@ -103,6 +104,7 @@ module _ (a : About) (l : Known) (k : Lock) (f : Fresh) (rest : List Fresh) (key
     holder = put g.holder m (put (g.holder m) e (Within key));
     number = put g.number m (put (g.number m) e g.last.made);
     linked = put g.linked m (put_key (g.linked m) key (Some e));
+    taker = g.taker;
     depths = g.depths;
     eras = put g.eras m (put (g.eras m) s era');
   }
@@ -241,11 +243,14 @@ module _ (a : About) (l : Known) (k : Lock) (f : Fresh) (rest : List Fresh) (key
   spelled_is = ap (λ (b : List ℕ). record { bytes = b; span = element_span m (shape_at a m) e })
       (sym (value_spelled a w f rest m bytes (g.lanes.fresh l.cpu) hand (r.filled l.cpu inside) i.filled.map i.filled.filled i.filled.value i.filled.size i.filled.are_bytes))
 
+  updates : is_update f.map event ≡ true
+  updates = eq-eqb m f.map (sym i.filled.map)
+
   rule' : w (KeyCount m) ≡ old → Rule a (put_at w (KeyCount m) (old + 1)) g'
   rule' found = record {
     shaped = r.shaped;
     deep = r.deep;
-    logged = logged_event a g.lanes.seen g.log g.last last' l.cpu event r.logged inside tt (may found);
+    logged = logged_event a g.lanes.seen g.log g.last last' l.cpu event r.logged inside (may found);
     keyed = subst (λ (n : ℕ). Keyed a (put (λ j. w (KeyCount j)) m (n + 1)) g'.last.maps g'.linked g'.number) found
         (keyed_comes a l.cpu m e s key g.holder was g.linked r.linked (λ j. w (KeyCount j)) g.last.maps g.number g.last.made r.keyed none);
     worn = worn;
@@ -260,10 +265,13 @@ module _ (a : About) (l : Known) (k : Lock) (f : Fresh) (rest : List Fresh) (key
     held = held_step a g.depths m s l.cpu _ _ g.eras g'.eras g.lanes.locks (k' ∷ []) inside r.held (λ odd. (ap (λ (y : Era). y.writer) now_era, (let z = lock_once k' in omega arith)))
         (λ n t _ ne. (refl, put2-other g.eras m s n t era' ne, ap (times_lock n t) (sym (ap (λ (z : Known). z.locks) is ∙ i.filled.lock))));
     valued = valued_comes a l.cpu m e s key g.holder was _ g.last.made g.last.value g.last.held g.number x r.valued spelled_is;
-    shown = shown_step a g.log log' g.last last' g.lanes.fresh g'.lanes.fresh g.lanes.tally g.holder g'.holder (λ d. begun_more d g.log (entry l.cpu event ∷ [])) (had_update g.last m key x)
-        (λ n d c at is. inl (who_put g.holder m e (Within key) (λ c q. cc) n d c is))
+    shown = shown_step a g.log log' g.last last' g.lanes.fresh g'.lanes.fresh g.lanes.tally g.holder g'.holder g.taker (begun_answer g.log g.lanes.fresh l.cpu f rest event hand updates)
+        (causes_on a g.log g.last last' g.lanes.fresh g'.lanes.fresh l.cpu event (begun_answer g.log g.lanes.fresh l.cpu f rest event hand updates) r.logged.legal (may found) r.shown.causes tt)
+        (λ d p. ⊎_elim (λ (none : g.lanes.fresh d ≡ []). inl (empty_still g.lanes.fresh l.cpu f rest rest hand d none)) (λ (run : in_run (events_of d g.log) ≡ true). inr (run_quiet l.cpu d event g.log refl run)) p)
+        (had_update g.last m key x)
+        (settles_put g.holder m e (Within key) (λ _ free. let z : Filling l.cpu ≡ Free = sym was ∙ free in cc) (λ c q. cc))
         (λ b n d inb at has. ⊎_elim
-        (λ (h : (n ≡ f.map) × (d ≡ f.element)). inl (subst (HasHadValue last') (λ j. element_span ((sym i.filled.map ∙ sym h.0) j) (shape_at a ((sym i.filled.map ∙ sym h.0) j)) (sym h.1 j)) (new_update g.last m key x)))
+        (λ (h : (n ≡ f.map) × (d ≡ f.element)). inl (subst (HasHadValue last') (λ j. element_span ((sym i.filled.map ∙ sym h.0) j) (shape_at a ((sym i.filled.map ∙ sym h.0) j)) (sym h.1 j)) (new_update g.last m key x), hand_held a w g r b n d inb at has))
         (λ (h : 1 ≤ times_fresh n d (g'.lanes.fresh b)). inr h)
         (hand_rest g.lanes.fresh l.cpu f rest hand b n d has)) r.shown;
   }

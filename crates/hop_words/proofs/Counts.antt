@@ -20,7 +20,7 @@ use Rattle.hop_words.specs.declared.known.Lock.{Lock}
 use Rattle.hop_layout.specs.Layout.{mem, put_at}
 use Rattle.hop_words.specs.Content.{place_words, IsShare}
 use Rattle.hop_words.specs.Ghost.{lane, Ghost, shape_at, lock_home, IsHomeIn}
-use Rattle.hop_words.specs.Rule.{Rule, Holds, changed, numbered, image, Minded}
+use Rattle.hop_words.specs.Rule.{begun_in, Rule, Holds, changed, numbered, image, Minded}
 use Rattle.bpf_shared.specs.Own.{turns_of}
 use Rattle.hop_words.specs.Shortage.{HasCause}
 use Rattle.hop_words.specs.Private.Step.{Next, Steps}
@@ -32,7 +32,7 @@ use Rattle.hop_words.proofs.Unlocks.{noted_event, event_rule}
 use Rattle.hop_words.proofs.Stays.{put_again, stay, next_as, saw, running_is, map_there}
 
 -- a load at which an event takes effect that leaves the store as it is
-pub event_next : (a : About) (w : Place → ℕ) (g : Ghost) (r : Rule a w g) (l : Known) (is : lane g.lanes l.cpu ≡ l) (inside : l.cpu < a.shape.cpus) (p : Place) (ev : Event) → turns_of (ev ∷ []) ≡ 0 → HasCause a.shape a.version g.log l.cpu ev → Allowed g.last l.cpu ev g.last
+pub event_next : (a : About) (w : Place → ℕ) (g : Ghost) (r : Rule a w g) (l : Known) (is : lane g.lanes l.cpu ≡ l) (inside : l.cpu < a.shape.cpus) (p : Place) (ev : Event) → turns_of (ev ∷ []) ≡ 0 → HasCause a.version (begun_in g.log g.lanes.fresh) (record { shape = a.shape; before = g.log; store = g.last; cpu = l.cpu }) ev → Allowed g.last l.cpu ev g.last
     → Next a (put_at w p (w p)) g l.cpu (Told a l ev)
 event_next a w g r l is inside p ev quiet cause may =
     let rule = event_rule a w g r l inside ev quiet cause may in
@@ -140,18 +140,3 @@ module _ (a : About) (l : Known) (k : Lock) {rest : List Lock} (held : l.locks �
 
   pub read_slot : (b : ℕ) → Steps a l (Slot k.map k.segment b) (λ n. n) (λ ws n l'. (n ≡ (image a k.copy).slot k.map k.segment b) × (l' ≡ l))
   read_slot b ws g sized r is inside fits = stay a (mem a.shape ws) g l.cpu (Slot k.map k.segment b) _ r ((holds a l k held (mem a.shape ws) g r is).copied.slot b, is)
-
-  -- of an element that a key leads to in the locked segment, by all that its words can show
-  pub read_link : (key : List ℕ) (e : ℕ) → ((before : List ℕ → Option ℕ) → IsShare a.seed (shape_at a k.map) (lock_home a k) (image a k.first) k.map k.segment before → changed k.change before key ≡ Some e)
-      → IsHomeIn a k key → Steps a l (Link k.map e) (λ n. n) (λ ws n l'. (n ≡ (image a k.copy).link k.map e) × (l' ≡ l))
-  read_link key e leads home ws g sized r is inside fits =
-      let h = holds a l k held (mem a.shape ws) g r is in
-      let there : g.linked k.map key ≡ Some e = h.due.2 key home ∙ leads h.due.0 h.due.1 in
-      stay a (mem a.shape ws) g l.cpu (Link k.map e) _ r (h.copied.link e (subst (Minded (lock_home a k) l.cpu k.segment) (sym (r.linked.within k.map key e there).1) home), is)
-
-  pub read_key : (key : List ℕ) (e j : ℕ) → ((before : List ℕ → Option ℕ) → IsShare a.seed (shape_at a k.map) (lock_home a k) (image a k.first) k.map k.segment before → changed k.change before key ≡ Some e)
-      → IsHomeIn a k key → Steps a l (KeyWord k.map e j) (λ n. n) (λ ws n l'. (n ≡ (image a k.copy).key k.map e j) × (l' ≡ l))
-  read_key key e j leads home ws g sized r is inside fits =
-      let h = holds a l k held (mem a.shape ws) g r is in
-      let there : g.linked k.map key ≡ Some e = h.due.2 key home ∙ leads h.due.0 h.due.1 in
-      stay a (mem a.shape ws) g l.cpu (KeyWord k.map e j) _ r (h.copied.key e j (subst (Minded (lock_home a k) l.cpu k.segment) (sym (r.linked.within k.map key e there).1) home), is)

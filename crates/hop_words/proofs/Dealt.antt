@@ -19,7 +19,7 @@ lane_count a c (suc n) = ap suc (lane_count a (c + 1) n)
 
 pub numbered : (a : About) (c n : ℕ) → AreNumbered c (lanes_from a c n)
 numbered a c zero = tt
-numbered a c (suc n) = (refl, numbered a (c + 1) n)
+numbered a c (suc n) = (refl, refl, numbered a (c + 1) n)
 
 pub deals_first : (a : About) (id : ℕ) (ls : List Known) → length ls ≢ 0 → Splits (Kept a) id (view ls []) (dealer (view ls [])) (dealt (view ls []))
 deals_first a id [] some = absurd (some refl)

@@ -2,7 +2,10 @@
 use Rattle.std.proofs.Common.{◌≡◌, ◌≢◌, ℕ, zero, suc, ◌+◌, ◌/◌, ◌%◌, ◌^◌, ◌<◌, ◌≤◌, Bool, true, false, ◌&&◌, List, [], ◌∷◌, ◌++◌, ◌==◌, length, take, slice_index, bit_or, refl, ap, sym, subst, ◌∙◌, arith, eq-eqb, ne_eqb, ⊎_elim, inl, inr, ◌⊎◌}
 use Rattle.std.proofs.lemmas.Nat.Bits.{bit_at_or, bit_at-lt, bit_at-pow_same, bit_at-pow_other}
 use Rattle.std.specs.Int.{bit_at}
+use Rattle.bpf_shared.specs.declared.events.Event.{Event}
 use Rattle.bpf_shared.specs.Store.{put}
+use Rattle.bpf_shared.specs.History.{events_of}
+use Rattle.bpf_shared.specs.Own.{in_run}
 use Rattle.bpf_shared.specs.Shape.{element_span}
 use Rattle.bpf_shared.proofs.Puts.{put-same, put-other}
 use Rattle.hop_layout.specs.declared.place.Place.{Place}
@@ -15,14 +18,14 @@ use Rattle.hop_layout.specs.Layout.{mem, put_at, words_for}
 use Rattle.hop_layout.specs.Words.{bytes_of_words}
 use Rattle.hop_words.specs.Content.{place_words, one_if}
 use Rattle.hop_words.specs.Ghost.{Holder, Free, Filling, Within, is_free, is_filling, is_leaving, Carries, lane, Ghost, shape_at, HasElement, Each}
-use Rattle.hop_words.specs.Rule.{Rule, times_fresh, StartsWith, Minded}
-use Rattle.hop_words.specs.Shortage.{MayBeTaken}
+use Rattle.hop_words.specs.Rule.{Rule, times_fresh, begun_in, StartsWith, Minded}
+use Rattle.hop_words.specs.Shortage.{updates_of}
 use Rattle.hop_words.specs.Sights.{LeavesElements, ShowsTaken, IsTakenSince, bit_set, sighted}
 use Rattle.hop_words.specs.Private.Step.{Next, Steps, Notes}
 use Rattle.hop_words.specs.Private.Kinds.{filling_key, filling_value}
 use Rattle.hop_words.proofs.Small.{equal, here_or, put2-same, put2-other}
 use Rattle.hop_words.proofs.Spelling.{IsFilled}
-use Rattle.hop_words.proofs.Shortages.{shown_step, who_put, hand_rest}
+use Rattle.hop_words.proofs.Shortages.{begun_fill, IsAnothers, begun_give, causes_made, empty_still, took_more, settled, settles_put, shown_step, hand_rest}
 use Rattle.hop_words.proofs.Histories.{prefix_refl}
 use Rattle.hop_words.proofs.Comes.{moved, in_hand, filling_most}
 use Rattle.hop_words.proofs.Locks.{put_here, put_else}
@@ -127,7 +130,10 @@ module _ (a : About) (l : Known) (f : Fresh) (rest : List Fresh) (hand : l.fresh
       reading = r.reading;
       held = r.held;
       valued = r.valued;
-      shown = shown_step a g.log g.log g.last g.last g.lanes.fresh (put g.lanes.fresh l.cpu (f2 ∷ rest)) g.lanes.tally g.holder g.holder (λ d h. h) (λ p h. h) (λ n d c at is. inl is)
+      shown = shown_step a g.log g.log g.last g.last g.lanes.fresh (put g.lanes.fresh l.cpu (f2 ∷ rest)) g.lanes.tally g.holder g.holder g.taker (begun_fill g.log g.lanes.fresh l.cpu f f2 rest mine refl refl)
+          (causes_made a.shape a.version (begun_in g.log g.lanes.fresh) (begun_in g.log (put g.lanes.fresh l.cpu (f2 ∷ rest))) g.log g.last (λ m d _. begun_fill g.log g.lanes.fresh l.cpu f f2 rest mine refl refl m d) r.shown.causes)
+          (λ d p. ⊎_elim (λ (none : g.lanes.fresh d ≡ []). inl (empty_still g.lanes.fresh l.cpu f rest (f2 ∷ rest) mine d none)) (λ (run : in_run (events_of d g.log) ≡ true). inr run) p)
+          (λ p h. h) (settled g.holder)
           (λ b m d inb at has. inr (let q = r.owned.fresh_is b m d inb at in let z : times_fresh m d (put g.lanes.fresh l.cpu (f2 ∷ rest) b) ≡ one_if (is_filling b (g.holder m d)) = fresh_on (f.key ++ n ∷ []) f.value b m d inb at in omega arith)) r.shown;
     };
     others = λ d ne. rw (ne_eqb d l.cpu ne) refl;
@@ -197,7 +203,10 @@ module _ (a : About) (l : Known) (f : Fresh) (rest : List Fresh) (hand : l.fresh
         older = r.valued.older;
         held_in = r.valued.held_in;
       };
-      shown = shown_step a g.log g.log g.last g.last g.lanes.fresh (put g.lanes.fresh l.cpu (f2 ∷ rest)) g.lanes.tally g.holder g.holder (λ d h. h) (λ p h. h) (λ n d c at is. inl is)
+      shown = shown_step a g.log g.log g.last g.last g.lanes.fresh (put g.lanes.fresh l.cpu (f2 ∷ rest)) g.lanes.tally g.holder g.holder g.taker (begun_fill g.log g.lanes.fresh l.cpu f f2 rest mine refl refl)
+          (causes_made a.shape a.version (begun_in g.log g.lanes.fresh) (begun_in g.log (put g.lanes.fresh l.cpu (f2 ∷ rest))) g.log g.last (λ m d _. begun_fill g.log g.lanes.fresh l.cpu f f2 rest mine refl refl m d) r.shown.causes)
+          (λ d p. ⊎_elim (λ (none : g.lanes.fresh d ≡ []). inl (empty_still g.lanes.fresh l.cpu f rest (f2 ∷ rest) mine d none)) (λ (run : in_run (events_of d g.log) ≡ true). inr run) p)
+          (λ p h. h) (settled g.holder)
           (λ b m d inb at has. inr (let q = r.owned.fresh_is b m d inb at in let z : times_fresh m d (put g.lanes.fresh l.cpu (f2 ∷ rest) b) ≡ one_if (is_filling b (g.holder m d)) = fresh_on f.key (f.value ++ n ∷ []) b m d inb at in omega arith)) r.shown;
     };
     others = λ d ne. rw (ne_eqb d l.cpu ne) refl;
@@ -248,9 +257,10 @@ pub fill_value : (a : About) (l : Known) (f : Fresh) (rest : List Fresh) (n : �
 fill_value a l f rest n hand at_e unlocked ws g sized r is inside fits = value_step a l f rest hand at_e unlocked n ws g r is inside
 
 -- ---- give bit of the element in hand
-pub give_fresh : (a : About) (l : Known) (f : Fresh) (rest : List Fresh) → l.fresh ≡ f ∷ rest → HasElement a f.map f.element
+pub give_fresh : (a : About) (l : Known) (f : Fresh) (rest : List Fresh) → l.fresh ≡ f ∷ rest → HasElement a f.map f.element → f.update < updates_of f.map (events_of l.cpu l.seen)
     → Notes a l (FreeBits f.map (f.element / 64)) (λ n. bit_or n (2 ^ (f.element % 64))) (λ ws n l'. l' ≡ sighted (record l { fresh = rest }) (bit_set f.map f.element n))
-give_fresh a l f rest hand at_e ws g sized r is inside fits = record {
+unfolding took_more
+give_fresh a l f rest hand at_e answered ws g sized r is inside fits = record {
   ghost = g2;
   rule = record {
     shaped = r.shaped;
@@ -282,7 +292,11 @@ give_fresh a l f rest hand at_e ws g sized r is inside fits = record {
     held = r.held;
     valued = valued_outside a g.holder f.map f.element (Filling l.cpu) Free filling _ g.last.made g.last.value g.last.held g.number (λ z. z) (λ c h z. z) r.valued;
     shown = record {
-      begun = λ n d c at_d q. r.shown.begun n d c at_d (who_put g.holder f.map f.element Free (λ c u. cc) n d c q);
+      causes = causes_made a.shape a.version (begun_in g.log g.lanes.fresh) (begun_in g.log (put g.lanes.fresh l.cpu rest)) g.log g.last (λ m d _. gives m d) r.shown.causes;
+      running = λ d. ⊎_elim (λ (none : g.lanes.fresh d ≡ []). inl (empty_still g.lanes.fresh l.cpu f rest rest mine d none)) (λ (run : in_run (events_of d g.log) ≡ true). inr run) (r.shown.running d);
+      took = λ n d at_d held.
+          let k = r.shown.took n d at_d ((settles_put g.holder f.map f.element Free (λ ne _. ne refl) (λ c u. cc) n d).0 held) in
+          (took_more a g.log g.log g.lanes.fresh (put g.lanes.fresh l.cpu rest) g.taker n d gives k.0, λ c q. k.1 c ((settles_put g.holder f.map f.element Free (λ ne _. ne refl) (λ c u. cc) n d).1 c q));
       taken = λ b n d inb at_d seen. ⊎_elim
           (λ (t : b ≡ l.cpu). still b n d inb at_d t (subst (λ (z : List Sight). IsTakenSince z n d) (put-same g.lanes.tally l.cpu b (given ∷ g.lanes.tally l.cpu) t) seen))
           (λ (ne : b ≢ l.cpu). kept b n d (λ q. absurd (ne q)) (r.shown.taken b n d inb at_d (subst (λ (z : List Sight). IsTakenSince z n d) (put-other g.lanes.tally l.cpu b (given ∷ g.lanes.tally l.cpu) ne) seen)))
@@ -327,10 +341,13 @@ give_fresh a l f rest hand at_e ws g sized r is inside fits = record {
     map_of (FreeBits m i) = m
     map_of p = 0
 
+    gives : (m d : ℕ) → begun_in g.log g.lanes.fresh m d ≤ begun_in g.log (put g.lanes.fresh l.cpu rest) m d
+    gives = begun_give g.log g.lanes.fresh l.cpu f rest mine (subst (λ (es : List Event). f.update < updates_of f.map es) (ap (events_of l.cpu) (sym (ap (λ (z : Known). z.seen) is)) ∙ r.logged.own l.cpu inside) answered)
+
     -- of another map, all is as it was
-    kept : (b n d : ℕ) → (b ≡ l.cpu → n ≢ f.map) → MayBeTaken a.shape g.log g.last b n d ⊎ (1 ≤ times_fresh n d (g.lanes.fresh b)) → MayBeTaken a.shape g.log g.last b n d ⊎ (1 ≤ times_fresh n d (put g.lanes.fresh l.cpu rest b))
+    kept : (b n d : ℕ) → (b ≡ l.cpu → n ≢ f.map) → IsAnothers a g g.lanes.fresh b n d ⊎ (1 ≤ times_fresh n d (g.lanes.fresh b)) → IsAnothers a g (put g.lanes.fresh l.cpu rest) b n d ⊎ (1 ≤ times_fresh n d (put g.lanes.fresh l.cpu rest b))
     kept b n d apart was_so = ⊎_elim
-        (λ (may : MayBeTaken a.shape g.log g.last b n d). inl may)
+        (λ (may : IsAnothers a g g.lanes.fresh b n d). inl (took_more a g.log g.log g.lanes.fresh (put g.lanes.fresh l.cpu rest) g.taker n d gives may.0, may.1))
         (λ (has : 1 ≤ times_fresh n d (g.lanes.fresh b)). ⊎_elim
         (λ (t : b ≡ l.cpu). ⊎_elim
         (λ (h : (n ≡ f.map) × (d ≡ f.element)). absurd (apart t h.0))
@@ -341,7 +358,7 @@ give_fresh a l f rest hand at_e ws g sized r is inside fits = record {
         was_so
 
     still : (b n d : ℕ) → b < a.shape.cpus → HasElement a n d → b ≡ l.cpu → LeavesElements n given × (ShowsTaken given n d ⊎ IsTakenSince (g.lanes.tally l.cpu) n d)
-        → MayBeTaken a.shape g.log g.last b n d ⊎ (1 ≤ times_fresh n d (put g.lanes.fresh l.cpu rest b))
+        → IsAnothers a g (put g.lanes.fresh l.cpu rest) b n d ⊎ (1 ≤ times_fresh n d (put g.lanes.fresh l.cpu rest b))
     still b n d inb at_d t seen = ⊎_elim
         (λ (shows : ShowsTaken given n d). absurd (at_f n (sym (ap map_of shows.0)) seen.0))
         (λ (before : IsTakenSince (g.lanes.tally l.cpu) n d). kept b n d (λ _ q. at_f n q seen.0) (r.shown.taken b n d inb at_d (subst (λ (i : ℕ). IsTakenSince (g.lanes.tally i) n d) (sym t) before)))

@@ -308,7 +308,7 @@ at_rest_shows a w g r idle m s at_s =
 
 -- where all lanes are in one seat that has learned the history, it is the whole, and the words keep the rule with it
 pub closes : (a : About) (id : ℕ) (v : View) (ws : List ℕ) (xs : List (Unit {0})) → Final (Seen (Kept a) id v) ws xs
-    → ((c : ℕ) → c < a.shape.cpus → (k : ℕ) × (l : Known) × (l.cpu ≡ c) × (get_elem? v.lanes k ≡ some l) × (l.locks ≡ []))
+    → ((c : ℕ) → c < a.shape.cpus → (k : ℕ) × (l : Known) × (l.cpu ≡ c) × (get_elem? v.lanes k ≡ some l) × (l.locks ≡ []) × (l.fresh ≡ []))
     → ((k : ℕ) (l : Known) → get_elem? v.lanes k ≡ some l → HasSeenBeginning l v.kept) → KeepsWholeHistory a v ws
 closes a id v ws xs final all within =
     let s' = final.0 in
@@ -331,9 +331,14 @@ closes a id v ws xs final all within =
     let m = all c inside in
     let b = k.seats.known id m.0 v m.1 at m.3 in
     subst (λ (d : ℕ). k.ghost.lanes.locks d ≡ []) m.2 (ap (λ (x : Known). x.locks) b.2 ∙ m.4) in
+    let empty : (c : ℕ) → c < a.shape.cpus → k.ghost.lanes.fresh c ≡ [] = λ c inside.
+    let m = all c inside in
+    let b = k.seats.known id m.0 v m.1 at m.3 in
+    subst (λ (d : ℕ). k.ghost.lanes.fresh d ≡ []) m.2 (ap (λ (x : Known). x.fresh) b.2 ∙ m.5) in
     record {
       ghost = k.ghost;
       whole = whole;
+      empty = empty;
       rule = subst (λ (w : List ℕ). Rule a (mem a.shape w) k.ghost) final.2 k.rule;
       shows = λ m s at_s. subst (λ (w : List ℕ). IsShare a.seed (shape_at a m) (home_by a m (k.ghost.depths m s)) (image a w) m s (k.ghost.linked m)) final.2 (at_rest_shows a (mem a.shape s'.words) k.ghost k.rule idle m s at_s);
     }

@@ -22,7 +22,7 @@ use Rattle.hop_words.specs.Private.Step.{Steps}
 use Rattle.hop_words.specs.Kinds.{retiring, Passed, giving_old}
 use Rattle.hop_words.proofs.Small.{equal, put2-same, put2-other}
 use Rattle.hop_words.proofs.Histories.{prefix_refl, runs_as_known}
-use Rattle.hop_words.proofs.Shortages.{shown_step, who_put}
+use Rattle.hop_words.proofs.Shortages.{settles_put, shown_step}
 use Rattle.hop_words.proofs.Comes.{moved, in_limbo}
 use Rattle.hop_words.proofs.Goes.{limbo_put}
 use Rattle.hop_words.proofs.Segs.{agrees_on}
@@ -109,7 +109,8 @@ give_old a l m e es even at_e room i ws g sized r is inside fits = record {
     reading = r.reading;
     held = r.held;
     valued = valued_outside a g.holder m e (Leaving l.cpu) Free was _ g.last.made g.last.value g.last.held g.number (λ z. z) (λ c h _. nobody c h) r.valued;
-    shown = shown_step a g.log g.log g.last g.last g.lanes.fresh g.lanes.fresh g.lanes.tally g.holder holder2 (λ d h. h) (λ p h. h) (λ n d c at_d q. inl (who_put g.holder m e Free (λ c u. cc) n d c q)) (λ c n d inb at_d h. inr h) r.shown;
+    shown = shown_step a g.log g.log g.last g.last g.lanes.fresh g.lanes.fresh g.lanes.tally g.holder holder2 g.taker (λ n d. omega arith) r.shown.causes (λ d p. p) (λ p h. h)
+        (settles_put g.holder m e Free (λ ne _. ne refl) (λ c u. cc)) (λ c n d inb at_d h. inr h) r.shown;
   };
   others = λ d ne. rw (ne_eqb d l.cpu ne) refl;
   longer = prefix_refl g.log;

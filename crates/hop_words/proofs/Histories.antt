@@ -6,7 +6,6 @@ use mathlib.Core.List.{IsPrefix}
 use native.Mathlib.Decide.{ℕ_discrete}
 use Rattle.bpf_shared.specs.declared.events.Event.{Event}
 use Rattle.bpf_shared.specs.declared.events.Entry.{Entry}
-use Rattle.bpf_shared.specs.Shape.{Shape}
 use Rattle.bpf_shared.specs.Store.{Plain, as_made, put}
 use Rattle.bpf_shared.specs.Events.{Allowed}
 use Rattle.bpf_shared.specs.History.{Legal, events_of, entry}
@@ -16,7 +15,7 @@ use Rattle.bpf_shared.proofs.Own.{own_events_tell}
 use Rattle.bpf_shared.proofs.Histories.{history-append}
 use Rattle.bpf_shared.proofs.Puts.{put-same, put-other}
 use Rattle.hop_layout.specs.declared.about.About.{About}
-use Rattle.hop_words.specs.Shortage.{done_in, HasCause, HaveCauses}
+use Rattle.hop_words.specs.Shortage.{done_in}
 use Rattle.hop_words.specs.Rule.{Logged}
 use Rattle.bpf_shared.specs.Own.{turns_of, in_run}
 
@@ -54,27 +53,10 @@ runs_as_known a c t log seen legal own = (own_events_tell a.shape c t log legal)
 pub shape_after : (s t : Plain) (log : List Entry) → Legal s log t → t.shape ≡ s.shape
 shape_after = history_shape Allowed (λ s t c e a. a)
 
--- ---- causes
--- what holds of each entry, behind those before it, holds with one entry more
-cuts_more : (P : List Entry → Entry → Type 0) (log : List Entry) (x : Entry) → ((before after : List Entry) (y : Entry) → log ≡ before ++ (y ∷ after) → P before y) → P log x
-    → (before after : List Entry) (y : Entry) → log ++ x ∷ [] ≡ before ++ (y ∷ after) → P before y
-cuts_more P [] x all here [] after y e = let z : x ≡ y = cc in subst (P []) z here
-cuts_more P [] x all here (b ∷ []) after y e = cc
-cuts_more P [] x all here (b ∷ c ∷ bs) after y e = cc
-cuts_more P (z ∷ zs) x all here [] after y e = let s : z ≡ y = cc in all [] zs y (ap (λ (q : Entry). q ∷ zs) s)
-cuts_more P (z ∷ zs) x all here (b ∷ bs) after y e =
-    let s : z ≡ b = cc in
-    let t : zs ++ x ∷ [] ≡ bs ++ (y ∷ after) = cc in
-    subst (λ (q : Entry). P (q ∷ bs) y) s
-    (cuts_more (λ before w. P (z ∷ before) w) zs x (λ before rest w f. all (z ∷ before) rest w (ap (λ (q : List Entry). z ∷ q) f)) here bs after y t)
-
-pub causes_more : (h : Shape) (version : ℕ) (log : List Entry) (c : ℕ) (e : Event) → HaveCauses h version log → HasCause h version log c e → HaveCauses h version (log ++ entry c e ∷ [])
-causes_more h version log c e = cuts_more (λ before x. HasCause h version before x.cpu x.event) log (entry c e)
-
 -- ---- the history after an event of the CPU c, which has seen all of it
-pub logged_event : (a : About) (seen : ℕ → List Entry) (log : List Entry) (last t : Plain) (c : ℕ) (e : Event) → Logged a seen log last → c < a.shape.cpus → HasCause a.shape a.version log c e → Allowed last c e t
+pub logged_event : (a : About) (seen : ℕ → List Entry) (log : List Entry) (last t : Plain) (c : ℕ) (e : Event) → Logged a seen log last → c < a.shape.cpus → Allowed last c e t
     → Logged a (put seen c (log ++ entry c e ∷ [])) (log ++ entry c e ∷ []) t
-logged_event a seen log last t c e p inside cause may = record {
+logged_event a seen log last t c e p inside may = record {
   legal = history-append Allowed (as_made a.shape) last t log (entry c e ∷ []) p.legal (t, may, refl);
   begins = λ d h. dite (ℕ_discrete d c)
       (λ s. subst (λ (x : List Entry). IsPrefix x now) (sym (put-same seen c d now s)) (prefix_refl now))
@@ -83,7 +65,6 @@ logged_event a seen log last t c e p inside cause may = record {
       (λ s. ap (events_of d) (put-same seen c d now s))
       (λ ne. ap (events_of d) (put-other seen c d now ne) ∙ (p.own d h ∙ sym (log_other c d e log ne)));
   others = λ d past. log_other c d e log (λ (s : d ≡ c). omega arith) ∙ p.others d past;
-  causes = causes_more a.shape a.version log c e p.causes cause;
 }
   where
     now : List Entry

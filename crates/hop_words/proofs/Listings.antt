@@ -53,7 +53,7 @@ module _ (a : About) (l : Known) (m : ℕ) (keys : List (List ℕ)) (i : ListsMa
     clean = subst (Each (λ (j : Lock). j.dirty ≡ false)) i.locks i.clean;
     elsewhere = i.elsewhere;
     quiet = refl;
-    uncaused = λ before. tt;
+    uncaused = λ made x. tt;
     allowed = λ s linked number shape inside shows leads. (
       subst (λ h. l.cpu < h.cpus) (sym shape) inside,
       subst (λ h. m < length h.maps) (sym shape) i.map,

@@ -10,7 +10,8 @@ use Rattle.std.specs.Cmp.Lexicographic.{slice_cmp}
 use Rattle.std.specs.FinMap.{len-empty}
 use Rattle.atomic_table.specs.Table.{opening}
 use Rattle.bpf_shared.specs.declared.events.Entry.{Entry}
-use Rattle.bpf_shared.specs.Store.{as_made}
+use Rattle.bpf_shared.specs.Store.{Plain, as_made}
+use Rattle.bpf_shared.specs.History.{Legal}
 use Rattle.hop_layout.specs.declared.place.Place.{Place}
 use Rattle.hop_layout.specs.declared.place.Place.TheVariants.{Stamp, Head, Hop, Link}
 use Rattle.hop_layout.specs.declared.about.About.{About}
@@ -20,7 +21,7 @@ use Rattle.hop_layout.specs.Layout.{mem, size, first_depth, depth, power}
 use Rattle.hop_words.specs.Content.{item, place_words, times, Reached, LinksThrough, IsShare}
 use Rattle.hop_words.specs.Ghost.{Free, Lanes, lane, Era, Ghost, shape_at, IsSegment, limbo_at, no_limbo}
 use Rattle.hop_words.specs.Shortage.{HasCause}
-use Rattle.hop_words.specs.Rule.{Rule, Kept, times_limbo, Chained}
+use Rattle.hop_words.specs.Rule.{Rule, Kept, begun_in, times_limbo, Chained}
 use Rattle.hop_words.specs.Private.Made.{AreNewWords}
 use Rattle.hop_words.specs.Opens.{no_limbos, new_lane, lanes_from, opens}
 use Rattle.hop_words.proofs.CountDown.{nothing_in}
@@ -68,6 +69,7 @@ module _ (a : About) (w : Place → ℕ) (i : AreNewWords a w) where
     lanes = record { seen = λ c. []; fresh = λ c. []; limbo = λ c. no_limbos (length a.shape.maps); locks = λ c. []; readings = λ c. []; tally = λ c. [] };
     holder = λ m e. Free;
     number = λ m e. 0;
+    taker = λ m c n. 0;
     linked = λ m key. None;
     depths = λ m s. first_depth (shape_at a m);
     eras = λ m s. record { era = w (Stamp m s); writer = 0; dirty = false; credit = 0; old = place_words w };
@@ -100,7 +102,8 @@ module _ (a : About) (w : Place → ℕ) (i : AreNewWords a w) where
     all = λ key e is home. cc;
   }
 
-  none_before : (before after : List Entry) (x : Entry) → [] ≡ before ++ (x ∷ after) → HasCause a.shape a.version before x.cpu x.event
+  none_before : (before after : List Entry) (x : Entry) → [] ≡ before ++ (x ∷ after)
+      → (s : Plain) × Legal (as_made a.shape) before s × Legal s (x ∷ after) (as_made a.shape) × HasCause a.version (begun_in [] (λ c. [])) (record { shape = a.shape; before = before; store = s; cpu = x.cpu }) x.event
   none_before [] after x e = cc
   none_before (y ∷ ys) after x e = cc
 
@@ -112,7 +115,7 @@ module _ (a : About) (w : Place → ℕ) (i : AreNewWords a w) where
       stamped = λ m s b. (i.stamps m s (b.0, b.1)).2;
       whole = λ m s in_m in_s no. ap (λ (y : Bool). if y then 0 else depth (shape_at a m)) no;
     };
-    logged = record { legal = refl; begins = λ c l. ([], refl); own = λ c l. refl; others = λ c l. refl; causes = λ before after x e. none_before before after x e };
+    logged = record { legal = refl; begins = λ c l. ([], refl); own = λ c l. refl; others = λ c l. refl };
     keyed = record { counted = λ m l. i.keys m l ∙ sym (len-empty (slice_cmp nat_cmp) ℕ); leads = λ m key. nothing_in key };
     worn = λ m s b. (let z = (i.stamps m s (b.0, b.1)).1 in omega arith);
     runs = λ c l. i.counts c l ∙ omega arith;
@@ -138,7 +141,7 @@ module _ (a : About) (w : Place → ℕ) (i : AreNewWords a w) where
     reading = λ c. tt;
     held = λ m s b odd. absurd (let z = (i.stamps m s (b.0, b.1)).0 in omega arith);
     valued = record { lies = λ m e l has. absurd has; older = λ m e l has. absurd has; held_in = λ c v h. absurd (true≢false (sym h)) };
-    shown = record { begun = λ m e c at_e q. cc; taken = λ c m e l at_e seen. absurd seen };
+    shown = record { causes = λ before after x e. none_before before after x e; running = λ c. inl refl; took = λ m e at_e held. absurd (held refl); taken = λ c m e l at_e seen. absurd seen };
   }
 
 -- each lane of the first seat is that of its CPU

@@ -1,5 +1,5 @@
 -- Claim bit, give bit, fill word, retire, see bits.
-use Rattle.std.proofs.Common.{◌≡◌, ◌≢◌, ℕ, ◌-◌, ◌/◌, ◌%◌, ◌^◌, ◌<◌, Bool, true, false, ◌&&◌, List, [], ◌∷◌, Option, ◌==◌, refl, ap, sym, subst, ◌∙◌, arith, eq-eqb, ne_eqb, ⊎_elim, inl, inr, ◌⊎◌, bit_and}
+use Rattle.std.proofs.Common.{◌≡◌, ◌≢◌, ℕ, ◌-◌, ◌/◌, ◌%◌, ◌^◌, ◌<◌, Bool, true, false, ◌&&◌, List, [], ◌∷◌, Option, ◌==◌, refl, ap, sym, subst, ◌∙◌, arith, eq-eqb, ne_eqb, ⊎_elim, inl, inr, ◌⊎◌, bit_and, ◌≤◌}
 use Rattle.std.proofs.lemmas.Nat.Bits.{bit_at_and, bit_at-lt, bit_at-pow_same, bit_at-pow_other, bit_at_not, bit_at_above, same_from_bits}
 use Rattle.std.proofs.Math.Pow.{pow-lt}
 use Rattle.std.specs.Int.{bit_at, w64}
@@ -7,6 +7,7 @@ use native.Mathlib.Decide.{ℕ_discrete, dec_lt}
 use mathlib.Core.Logic.{dite}
 use Rattle.bpf_shared.specs.declared.events.Event.{Event}
 use Rattle.bpf_shared.specs.Store.{Value, put}
+use Rattle.bpf_shared.specs.Shape.{element_span}
 use Rattle.bpf_shared.specs.History.{events_of}
 use Rattle.bpf_shared.specs.Own.{in_run}
 use Rattle.bpf_shared.proofs.Puts.{put-same, put-other}
@@ -18,14 +19,14 @@ use Rattle.hop_words.specs.declared.known.Fresh.{Fresh}
 use Rattle.hop_words.specs.declared.known.Lock.{Lock}
 use Rattle.hop_layout.specs.Layout.{mem, put_at}
 use Rattle.hop_words.specs.Content.{MapWords, place_words, one_if}
-use Rattle.hop_words.specs.Ghost.{Holder, Free, Filling, Leaving, Within, is_free, is_filling, is_leaving, Carries, lane, Era, Ghost, HasElement, Each, lock_home}
-use Rattle.hop_words.specs.Rule.{Rule, times_fresh, Linked, StartsWith, Minded, Holds, Locking, Valued}
-use Rattle.hop_words.specs.Shortage.{HasBegun}
+use Rattle.hop_words.specs.Ghost.{Holder, Free, Filling, Leaving, Within, is_free, is_filling, is_leaving, Carries, lane, Era, Ghost, shape_at, HasElement, Each, lock_home}
+use Rattle.hop_words.specs.Rule.{Rule, Took, times_fresh, taken_at, begun_in, Linked, StartsWith, Minded, Holds, Locking, Valued}
+use Rattle.hop_words.specs.Shortage.{updates_of, updates_in, HasHadValue}
 use Rattle.hop_words.specs.Private.Step.{Next, Steps}
 use Rattle.hop_words.specs.Kinds.{holding}
 use Rattle.hop_words.proofs.Small.{equal, here_or, put2-same, put2-other}
 use Rattle.hop_words.proofs.Histories.{prefix_refl}
-use Rattle.hop_words.proofs.Shortages.{runs_begun, shown_step, hand_more}
+use Rattle.hop_words.proofs.Shortages.{begun_take, causes_made, hand_more}
 use Rattle.hop_words.proofs.Stays.{next_as}
 use Rattle.hop_words.proofs.Comes.{moved}
 use Rattle.hop_words.proofs.Segs.{agrees_on}
@@ -148,12 +149,16 @@ module _ (a : About) (l : Known) (m e : ℕ) (at_e : HasElement a m e) (ws : Lis
   abbrev mask : ℕ
   mask = 2 ^ 64 - 1 - 2 ^ (e % 64)
 
+  -- the number of the update that takes it
+  abbrev at_update : ℕ
+  at_update = updates_of m (events_of l.cpu l.seen)
+
   abbrev new_fresh : Fresh
-  new_fresh = record { map = m; element = e; key = []; value = [] }
+  new_fresh = record { map = m; element = e; update = updates_of m (events_of l.cpu l.seen); key = []; value = [] }
 
   -- a free element becomes one that the lane fills
-  claim_next : l.locks ≡ [] → in_run (events_of l.cpu l.seen) ≡ true → g.holder m e ≡ Free → Next a (put_at cw (FreeBits m (e / 64)) (bit_and (cw (FreeBits m (e / 64))) mask)) g l.cpu (λ l'. l' ≡ holding l m e)
-  claim_next unlocked runs was = record {
+  claim_next : l.fresh ≡ [] → l.locks ≡ [] → in_run (events_of l.cpu l.seen) ≡ true → g.holder m e ≡ Free → Next a (put_at cw (FreeBits m (e / 64)) (bit_and (cw (FreeBits m (e / 64))) mask)) g l.cpu (λ l'. l' ≡ holding l m e)
+  claim_next none unlocked runs was = record {
     ghost = g2;
     rule = record {
       shaped = r.shaped;
@@ -185,12 +190,23 @@ module _ (a : About) (l : Known) (m e : ℕ) (at_e : HasElement a m e) (ws : Lis
       reading = r.reading;
       held = r.held;
       valued = valued_outside a g.holder m e Free (Filling l.cpu) was _ g.last.made g.last.value g.last.held g.number (λ z. z) (λ c h z. z) r.valued;
-      shown = shown_step a g.log g.log g.last g.last g.lanes.fresh (put g.lanes.fresh l.cpu fresh2) g.lanes.tally g.holder holder2 (λ d h. h) (λ p h. h)
-          (λ n d c at_d q. ⊎_elim
-          (λ (h : (n ≡ m) × (d ≡ e)). let who : Filling l.cpu ≡ Filling c = sym (put2-same g.holder m e n d (Filling l.cpu) h.0 h.1) ∙ q in let same : l.cpu ≡ c = cc in inr (subst (λ (i : ℕ). HasBegun i g.log) same begun))
-          (λ (ne : n ≡ m → d ≢ e). inl (sym (put2-other g.holder m e n d (Filling l.cpu) ne) ∙ q))
-          (here_or m n e d))
-          (λ b n d inb at_d has. inr (hand_more g.lanes.fresh l.cpu new_fresh b n d has)) r.shown;
+      shown = record {
+        causes = causes_made a.shape a.version (begun_in g.log g.lanes.fresh) (begun_in g.log fresh') g.log g.last (λ n d _. takes n d) r.shown.causes;
+        running = λ d. ⊎_elim
+            (λ (t : d ≡ l.cpu). inr (subst (λ (i : ℕ). in_run (events_of i g.log) ≡ true) (sym t) run))
+            (λ (ne : d ≢ l.cpu). subst (λ (fs : List Fresh). (fs ≡ []) ⊎ (in_run (events_of d g.log) ≡ true)) (sym (put-other g.lanes.fresh l.cpu d fresh2 ne)) (r.shown.running d))
+            (equal d l.cpu);
+        took = λ n d at_d held. ⊎_elim
+            (λ (h : (n ≡ m) × (d ≡ e)). (own_took n d h.0 h.1, λ c q. let who : Filling l.cpu ≡ Filling c = sym (put2-same g.holder m e n d (Filling l.cpu) h.0 h.1) ∙ q in let same : l.cpu ≡ c = cc in same))
+            (λ (ne : n ≡ m → d ≢ e).
+            let k = r.shown.took n d at_d (λ (free : g.holder n d ≡ Free). held (put2-other g.holder m e n d (Filling l.cpu) ne ∙ free)) in
+            (still n d k.0, λ c q. k.1 c (sym (put2-other g.holder m e n d (Filling l.cpu) ne) ∙ q)))
+            (here_or m n e d);
+        taken = λ b n d inb at_d seen. ⊎_elim
+            (λ (k : (t : Took a g.log g.lanes.fresh g.taker n d) × (HasHadValue g.last (element_span n (shape_at a n) d) ⊎ (t.cpu ≢ b))). inl (still n d k.0, k.1))
+            (λ (has : 1 ≤ times_fresh n d (g.lanes.fresh b)). inr (hand_more g.lanes.fresh l.cpu new_fresh b n d has))
+            (r.shown.taken b n d inb at_d seen);
+      };
     };
     others = λ d ne. rw (ne_eqb d l.cpu ne) refl;
     longer = prefix_refl g.log;
@@ -204,11 +220,62 @@ module _ (a : About) (l : Known) (m e : ℕ) (at_e : HasElement a m e) (ws : Lis
       holder2 : ℕ → ℕ → Holder
       holder2 = put g.holder m (put (g.holder m) e (Filling l.cpu))
 
-      g2 : Ghost
-      g2 = record g { lanes = record g.lanes { fresh = put g.lanes.fresh l.cpu fresh2 }; holder = holder2 }
+      taker2 : ℕ → ℕ → ℕ → ℕ
+      taker2 = put g.taker m (put (g.taker m) l.cpu (put (g.taker m l.cpu) at_update e))
 
-      begun : HasBegun l.cpu g.log
-      begun = runs_begun l.cpu g.log (subst (λ (es : List Event). in_run es ≡ true) (ap (events_of l.cpu) (sym (ap (λ (z : Known). z.seen) is)) ∙ r.logged.own l.cpu inside) runs)
+      g2 : Ghost
+      g2 = record g { lanes = record g.lanes { fresh = put g.lanes.fresh l.cpu fresh2 }; holder = holder2; taker = taker2 }
+
+      fresh' : ℕ → List Fresh
+      fresh' = put g.lanes.fresh l.cpu fresh2
+
+      own_log : events_of l.cpu l.seen ≡ events_of l.cpu g.log
+      own_log = ap (events_of l.cpu) (sym (ap (λ (z : Known). z.seen) is)) ∙ r.logged.own l.cpu inside
+
+      run : in_run (events_of l.cpu g.log) ≡ true
+      run = subst (λ (es : List Event). in_run es ≡ true) own_log runs
+
+      at_is : at_update ≡ updates_in g.log m l.cpu
+      at_is = ap (updates_of m) own_log
+
+      no_hand : g.lanes.fresh l.cpu ≡ []
+      no_hand = ap (λ (z : Known). z.fresh) is ∙ none
+
+      takes : (n d : ℕ) → begun_in g.log g.lanes.fresh n d ≤ begun_in g.log fresh' n d
+      takes = begun_take g.log g.lanes.fresh l.cpu fresh2 no_hand
+
+      own_took : (n d : ℕ) → n ≡ m → d ≡ e → Took a g.log fresh' taker2 n d
+      own_took n d at_m at_e2 = record {
+        cpu = l.cpu;
+        update = at_update;
+        inside = inside;
+        this = ap (λ (h : ℕ → ℕ). h at_update) (put2-same g.taker m l.cpu n l.cpu (put (g.taker m l.cpu) at_update e) at_m refl) ∙ (put-same (g.taker m l.cpu) at_update at_update e refl ∙ sym at_e2);
+        begun = subst (λ (i : ℕ). at_update < begun_in g.log fresh' i l.cpu) (sym at_m)
+            (let here : taken_at m (updates_in g.log m l.cpu) (fresh' l.cpu) ≡ 1 = ap (taken_at m (updates_in g.log m l.cpu)) (put-same g.lanes.fresh l.cpu l.cpu fresh2 refl) ∙ rw (eq-eqb m m refl, eq-eqb at_update (updates_in g.log m l.cpu) at_is) refl in
+            let s = at_is in omega arith);
+      }
+
+      -- what took another element before is another update
+      still : (n d : ℕ) → Took a g.log g.lanes.fresh g.taker n d → Took a g.log fresh' taker2 n d
+      still n d t = record {
+        cpu = t.cpu;
+        update = t.update;
+        inside = t.inside;
+        this = ⊎_elim
+            (λ (h : (n ≡ m) × (t.cpu ≡ l.cpu)).
+            ap (λ (f : ℕ → ℕ). f t.update) (put2-same g.taker m l.cpu n t.cpu (put (g.taker m l.cpu) at_update e) h.0 h.1)
+            ∙ (put-other (g.taker m l.cpu) at_update t.update e (λ (q : t.update ≡ at_update). later h.0 h.1 q) ∙ ((λ j. g.taker (sym h.0 j) (sym h.1 j) t.update) ∙ t.this)))
+            (λ (ne : n ≡ m → t.cpu ≢ l.cpu). ap (λ (f : ℕ → ℕ). f t.update) (put2-other g.taker m l.cpu n t.cpu (put (g.taker m l.cpu) at_update e) ne) ∙ t.this)
+            (here_or m n l.cpu t.cpu);
+        begun = (let b = t.begun in let k = takes n t.cpu in omega arith);
+      }
+        where
+          later : n ≡ m → t.cpu ≡ l.cpu → t.update ≡ at_update → ⊥
+          later at_m at_c q =
+              let b : t.update < begun_in g.log g.lanes.fresh m l.cpu = subst (λ (i : ℕ). t.update < begun_in g.log g.lanes.fresh i l.cpu) at_m (subst (λ (i : ℕ). t.update < begun_in g.log g.lanes.fresh n i) at_c t.begun) in
+              let z : taken_at m (updates_in g.log m l.cpu) (g.lanes.fresh l.cpu) ≡ 0 = ap (taken_at m (updates_in g.log m l.cpu)) no_hand in
+              let s = at_is in
+              omega arith
 
       Has : Fresh → Type 0
       Has y = StartsWith y.key (λ j. cw (KeyWord y.map y.element j)) × StartsWith y.value (λ j. cw (ValueWord y.map y.element j))
@@ -289,10 +356,10 @@ module _ (a : About) (l : Known) (m e : ℕ) (at_e : HasElement a m e) (ws : Lis
           (λ (ne : n ≡ m → d ≢ e). put2-other g.holder m e n d (g.holder m e) ne)
           (here_or m n e d) i
 
-pub claim_bit : (a : About) (l : Known) (m e : ℕ) → HasElement a m e → l.locks ≡ [] → in_run (events_of l.cpu l.seen) ≡ true → Steps a l (FreeBits m (e / 64)) (λ n. bit_and n (2 ^ 64 - 1 - 2 ^ (e % 64)))
+pub claim_bit : (a : About) (l : Known) (m e : ℕ) → HasElement a m e → l.fresh ≡ [] → l.locks ≡ [] → in_run (events_of l.cpu l.seen) ≡ true → Steps a l (FreeBits m (e / 64)) (λ n. bit_and n (2 ^ 64 - 1 - 2 ^ (e % 64)))
     (λ ws n l'. (bit_at n (e % 64) ≡ 1 → l' ≡ holding l m e) × (bit_at n (e % 64) ≡ 0 → l' ≡ l))
-claim_bit a l m e at_e unlocked runs ws g sized r is inside fits = dite (ℕ_discrete (bit_at (w (FreeBits m (e / 64))) (e % 64)) 1)
-    (λ one. next_as _ _ _ _ _ _ (λ q t. ((λ _. t), (λ z. absurd (omega arith)))) (claim_next a l m e at_e ws g r is inside unlocked runs (free_or a l m e at_e ws g r is inside one)))
+claim_bit a l m e at_e empty unlocked runs ws g sized r is inside fits = dite (ℕ_discrete (bit_at (w (FreeBits m (e / 64))) (e % 64)) 1)
+    (λ one. next_as _ _ _ _ _ _ (λ q t. ((λ _. t), (λ z. absurd (omega arith)))) (claim_next a l m e at_e ws g r is inside empty unlocked runs (free_or a l m e at_e ws g r is inside one)))
     (λ ne. miss_next a l m e at_e ws g r is inside (let z = bit_at-lt (w (FreeBits m (e / 64))) (e % 64) in grind arith) _ ((λ one. absurd (ne one)), (λ _. refl)))
   where
     w : Place → ℕ

@@ -231,7 +231,7 @@ module _ (a : About) (w : Place → ℕ) (g : Ghost) (r : Rule a w g) (c m : ℕ
   looked_rule o key inside is sp may = record {
     shaped = r.shaped;
     deep = r.deep;
-    logged = logged_event a g.lanes.seen g.log g.last (looking o) c (Lookup m key sp) r.logged inside tt may;
+    logged = logged_event a g.lanes.seen g.log g.last (looking o) c (Lookup m key sp) r.logged inside may;
     keyed = rw (maps_same o) r.keyed;
     worn = worn_more a g.depths _ g.eras g.log _ r.worn;
     runs = quiet_runs;
@@ -244,7 +244,7 @@ module _ (a : About) (w : Place → ℕ) (g : Ghost) (r : Rule a w g) (c m : ℕ
     reading = r.reading;
     held = r.held;
     valued = looked_valued o key is;
-    shown = shown_more a g.log (entry c (Lookup m key sp) ∷ []) g.last (looking o) g.lanes.fresh g.lanes.tally g.holder (looked_had o) r.shown;
+    shown = shown_more a g.log c (Lookup m key sp) g.last (looking o) g.lanes.fresh g.lanes.tally g.holder g.taker refl r.logged.legal may tt (looked_had o) r.shown;
   }
     where
       quiet_runs : Runs a (λ d. w (RunCount d)) (g.log ++ entry c (Lookup m key sp) ∷ [])

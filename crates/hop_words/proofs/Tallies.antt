@@ -17,7 +17,7 @@ use Rattle.hop_words.specs.Sights.{sight, look, lock_taken, split_made, bit_clea
 use Rattle.hop_words.specs.Private.Step.{Noted, Next, Steps, Notes, NotesTaken}
 use Rattle.hop_words.specs.Kinds.{holding, cleared, noting, peeking, giving_old, Passed, StampSeen, StampSeenAgain, FindsByPeeks, LocksSegment, SaysDepth, KnowsBorn, Splits, unlocking}
 use Rattle.hop_words.specs.Locking.{lock_of, HasLock}
-use Rattle.hop_words.specs.Owning.{ClaimsBit, GivesFresh, IsInHand, LooksAgain}
+use Rattle.hop_words.specs.Owning.{IsAnswered, ClaimsBit, GivesFresh, IsInHand, LooksAgain}
 use Rattle.hop_words.proofs.Small.{equal}
 use Rattle.hop_words.proofs.Shortages.{shown_noted}
 use Rattle.hop_words.proofs.Locks.{put_here, lock}
@@ -88,23 +88,23 @@ module _ (a : About) (l : Known) (p : Place) (old new : ℕ) (told said : List �
       (equal n old)
 
 -- ---- the kinds that are noted
-pub sees_bits : (a : About) (l : Known) (m i : ℕ) → Notes a l (FreeBits m i) (λ n. n) (λ ws n l'. l' ≡ sighted l (look (FreeBits m i) n))
-sees_bits a l m i = noted_as a l (FreeBits m i) (λ n. n) (λ ws n x. x ≡ l) (λ ws n l'. l' ≡ sighted l (look (FreeBits m i) n)) (λ ws n x fits t. ap (λ (y : Known). sighted y (look (FreeBits m i) n)) t)
-    (λ ws g sized r is inside fits. stay a (mem a.shape ws) g l.cpu (FreeBits m i) (λ x. x ≡ l) r is)
+pub looks_at : (a : About) (l : Known) (p : Place) → Notes a l p (λ n. n) (λ ws n l'. l' ≡ sighted l (look p n))
+looks_at a l p = noted_as a l p (λ n. n) (λ ws n x. x ≡ l) (λ ws n l'. l' ≡ sighted l (look p n)) (λ ws n x fits t. ap (λ (y : Known). sighted y (look p n)) t)
+    (λ ws g sized r is inside fits. stay a (mem a.shape ws) g l.cpu p (λ x. x ≡ l) r is)
 
-pub claims : (a : About) (l : Known) (m e : ℕ) → HasElement a m e → l.locks ≡ [] → in_run (events_of l.cpu l.seen) ≡ true → Notes a l (FreeBits m (e / 64)) (λ n. bit_and n (2 ^ 64 - 1 - 2 ^ (e % 64))) (λ ws n l'. ClaimsBit l m e n l')
-claims a l m e at_e unlocked runs = noted_as a l (FreeBits m (e / 64)) (λ n. bit_and n (2 ^ 64 - 1 - 2 ^ (e % 64))) (λ ws n x. Told n x) (λ ws n l'. ClaimsBit l m e n l')
+pub claims : (a : About) (l : Known) (m e : ℕ) → HasElement a m e → l.fresh ≡ [] → l.locks ≡ [] → in_run (events_of l.cpu l.seen) ≡ true → Notes a l (FreeBits m (e / 64)) (λ n. bit_and n (2 ^ 64 - 1 - 2 ^ (e % 64))) (λ ws n l'. ClaimsBit l m e n l')
+claims a l m e at_e empty unlocked runs = noted_as a l (FreeBits m (e / 64)) (λ n. bit_and n (2 ^ 64 - 1 - 2 ^ (e % 64))) (λ ws n x. Told n x) (λ ws n l'. ClaimsBit l m e n l')
     (λ ws n x fits t. (
       (λ one. ap (λ (y : Known). sighted y (bit_cleared m e n)) (t.0 one)),
       (λ none. (λ i. sighted (t.1 none i) (sight (FreeBits m (e / 64)) n (mask_kept n (e % 64) fits (omega arith) none i)))),
     ))
-    (claim_bit a l m e at_e unlocked runs)
+    (claim_bit a l m e at_e empty unlocked runs)
   where
     Told : ℕ → Known → Type 0
     Told n y = (bit_at n (e % 64) ≡ 1 → y ≡ holding l m e) × (bit_at n (e % 64) ≡ 0 → y ≡ l)
 
-pub gives_fresh : (a : About) (l : Known) (m e : ℕ) → HasElement a m e → IsInHand l m e → Notes a l (FreeBits m (e / 64)) (λ n. bit_or n (2 ^ (e % 64))) (λ ws n l'. GivesFresh l m e n l')
-gives_fresh a l m e at_e hand = gives a l m e at_e hand
+pub gives_fresh : (a : About) (l : Known) (m e : ℕ) → HasElement a m e → IsInHand l m e → IsAnswered l m → Notes a l (FreeBits m (e / 64)) (λ n. bit_or n (2 ^ (e % 64))) (λ ws n l'. GivesFresh l m e n l')
+gives_fresh a l m e at_e hand answered = gives a l m e at_e hand answered
 
 pub gives_old : (a : About) (l : Known) (m e : ℕ) (es : List ℕ) → a.count % 2 ≡ 0 → HasElement a m e → m < length l.limbo → Passed a l m e es → Notes a l (FreeBits m (e / 64)) (λ n. bit_or n (2 ^ (e % 64))) (λ ws n l'. l' ≡ sighted (giving_old l m es) (bit_set m e n))
 gives_old a l m e es even at_e room passed = noted_as a l (FreeBits m (e / 64)) (λ n. bit_or n (2 ^ (e % 64))) (λ ws n x. x ≡ giving_old l m es) (λ ws n l'. l' ≡ sighted (giving_old l m es) (bit_set m e n))

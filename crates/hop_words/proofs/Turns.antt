@@ -16,13 +16,13 @@ use Rattle.hop_words.specs.declared.known.Limbo.{Limbo}
 use Rattle.hop_layout.specs.Layout.{mem, put_at}
 use Rattle.hop_words.specs.Content.{one_if, times}
 use Rattle.hop_words.specs.Ghost.{is_leaving, lane, Ghost, HasElement, limbo_at}
-use Rattle.hop_words.specs.Rule.{Rule, Runs, Chained, times_limbo}
+use Rattle.hop_words.specs.Rule.{Rule, begun_in, Runs, Chained, times_limbo}
 use Rattle.bpf_shared.specs.Own.{turns_of, in_run}
 use Rattle.hop_words.specs.Shortage.{HasCause}
 use Rattle.hop_words.specs.Private.Step.{Next, Steps}
 use Rattle.hop_words.specs.Kinds.{run_count, Told, noting_next, ageing, cleared, limbo_set}
 use Rattle.hop_words.proofs.Small.{equal}
-use Rattle.hop_words.proofs.Shortages.{shown_more}
+use Rattle.hop_words.proofs.Shortages.{begun_event, causes_on, run_else, settled, shown_step}
 use Rattle.hop_words.proofs.Histories.{logged_event, runs_as_known, turns_own, turns_else, prefix_refl}
 use Rattle.hop_words.proofs.Goes.{limbo_put}
 use Rattle.hop_words.proofs.Locks.{put_here}
@@ -39,7 +39,7 @@ module _ (a : About) (l : Known) (w : Place → ℕ) (g : Ghost) (r : Rule a w g
   pub runs_now : g.last.running l.cpu ≡ in_run (events_of l.cpu l.seen)
   runs_now = runs_as_known a l.cpu g.last g.log l.seen r.logged.legal own
 
-  module _ (e : Event) (once : turns_of (e ∷ []) ≡ 1) (t : Plain) (may : Allowed g.last l.cpu e t) (cause : HasCause a.shape a.version g.log l.cpu e) (n : ℕ) (up : n ≡ w (RunCount l.cpu) + 1)
+  module _ (e : Event) (once : turns_of (e ∷ []) ≡ 1) (t : Plain) (may : Allowed g.last l.cpu e t) (cause : HasCause a.version (begun_in g.log g.lanes.fresh) (record { shape = a.shape; before = g.log; store = g.last; cpu = l.cpu }) e) (empty : g.lanes.fresh l.cpu ≡ []) (n : ℕ) (up : n ≡ w (RunCount l.cpu) + 1)
       (maps : t.maps ≡ g.last.maps) (made : t.made ≡ g.last.made) (value : t.value ≡ g.last.value) (holds : t.held ≡ put g.last.held l.cpu never) where
     abbrev g2 : Ghost
     g2 = record g { log = g.log ++ entry l.cpu e ∷ []; last = t; lanes = record g.lanes { seen = put g.lanes.seen l.cpu (g.log ++ entry l.cpu e ∷ []) } }
@@ -71,7 +71,7 @@ module _ (a : About) (l : Known) (w : Place → ℕ) (g : Ghost) (r : Rule a w g
     turn_rule = record {
       shaped = r.shaped;
       deep = r.deep;
-      logged = logged_event a g.lanes.seen g.log g.last t l.cpu e r.logged inside cause may;
+      logged = logged_event a g.lanes.seen g.log g.last t l.cpu e r.logged inside may;
       keyed = rw maps r.keyed;
       worn = worn_more a g.depths (λ m s. w (Stamp m s)) g.eras g.log (entry l.cpu e) r.worn;
       runs = runs2;
@@ -92,7 +92,12 @@ module _ (a : About) (l : Known) (w : Place → ℕ) (g : Ghost) (r : Rule a w g
         older = λ m x at_x has. subst (λ (k : ℕ). g.number m x < k) (sym made) (r.valued.older m x at_x has);
         held_in = λ d v h. r.valued.held_in d v (still d v h).1;
       };
-      shown = shown_more a g.log (entry l.cpu e ∷ []) g.last t g.lanes.fresh g.lanes.tally g.holder (λ p h. (h.0, subst (λ (k : ℕ). h.0 < k) (sym made) h.1, ap (λ (f : ℕ → Value). (f h.0).span) value ∙ h.2)) r.shown;
+      shown = shown_step a g.log (g.log ++ entry l.cpu e ∷ []) g.last t g.lanes.fresh g.lanes.fresh g.lanes.tally g.holder g.holder g.taker (begun_event g.log g.lanes.fresh l.cpu e)
+          (causes_on a g.log g.last t g.lanes.fresh g.lanes.fresh l.cpu e (begun_event g.log g.lanes.fresh l.cpu e) r.logged.legal may r.shown.causes cause)
+          (λ d p. ⊎_elim (λ (s : d ≡ l.cpu). inl (ap g.lanes.fresh s ∙ empty))
+          (λ (ne : d ≢ l.cpu). ⊎_elim (λ (none : g.lanes.fresh d ≡ []). inl none) (λ (run : in_run (events_of d g.log) ≡ true). inr (run_else l.cpu d e g.log ne run)) p)
+          (equal d l.cpu))
+          (λ p h. (h.0, subst (λ (k : ℕ). h.0 < k) (sym made) h.1, ap (λ (f : ℕ → Value). (f h.0).span) value ∙ h.2)) (settled g.holder) (λ c m x inb at_x h. inr h) r.shown;
     }
 
     pub turn_next : Next a (put_at w (RunCount l.cpu) n) g l.cpu (Told a l e)
@@ -110,13 +115,14 @@ count_begin a l idle room ws g sized r is inside fits =
     let w = mem a.shape ws in
     let c = own_count a l w g r is inside in
     turn_next a l w g r is inside Begin refl (after_begin g.last l.cpu) (subst (λ h. l.cpu < h.cpus) (sym (shape_is a w g r l is inside)) inside, runs_now a l w g r is inside ∙ idle, refl) tt
+    (⊎_elim (λ (none : g.lanes.fresh l.cpu ≡ []). none) (λ (run : in_run (events_of l.cpu g.log) ≡ true). absurd (true≢false (sym run ∙ (ap in_run (sym (own a l w g r is inside)) ∙ idle)))) (r.shown.running l.cpu))
     ((w (RunCount l.cpu) + 1) % 2 ^ 64) (omega arith) refl refl refl refl
 
-pub count_end : (a : About) (l : Known) → in_run (events_of l.cpu l.seen) ≡ true → run_count a l + 1 < 2 ^ 64 → Steps a l (RunCount l.cpu) (λ n. (n + 1) % 2 ^ 64) (λ ws n l'. Told a l End l')
-count_end a l running room ws g sized r is inside fits =
+pub count_end : (a : About) (l : Known) → l.fresh ≡ [] → in_run (events_of l.cpu l.seen) ≡ true → run_count a l + 1 < 2 ^ 64 → Steps a l (RunCount l.cpu) (λ n. (n + 1) % 2 ^ 64) (λ ws n l'. Told a l End l')
+count_end a l empty running room ws g sized r is inside fits =
     let w = mem a.shape ws in
     let c = own_count a l w g r is inside in
-    turn_next a l w g r is inside End refl (after_end g.last l.cpu) (runs_now a l w g r is inside ∙ running, refl) tt
+    turn_next a l w g r is inside End refl (after_end g.last l.cpu) (runs_now a l w g r is inside ∙ running, refl) tt (ap (λ (x : Known). x.fresh) is ∙ empty)
     ((w (RunCount l.cpu) + 1) % 2 ^ 64) (omega arith) refl refl refl refl
 
 -- a load of the own counter

@@ -10,7 +10,7 @@ use Rattle.bpf_shared.specs.declared.events.MapAnswer.TheVariants.{Done, Busy, N
 use Rattle.bpf_shared.specs.Shape.{element_span}
 use Rattle.bpf_shared.specs.Store.{Plain, KeyMap, Value, put}
 use Rattle.bpf_shared.specs.Events.{Allowed, after_update}
-use Rattle.bpf_shared.specs.History.{entry}
+use Rattle.bpf_shared.specs.History.{entry, events_of}
 use Rattle.bpf_shared.proofs.Puts.{put-same, put-other, insert_cases}
 use Rattle.hop_layout.specs.declared.place.Place.{Place}
 use Rattle.hop_layout.specs.declared.place.Place.TheVariants.{RunCount, KeyCount, FreeBits, Stamp, ValueWord}
@@ -23,16 +23,16 @@ use Rattle.hop_words.specs.declared.known.Change.TheVariants.{Puts}
 use Rattle.hop_layout.specs.Layout.{mem, put_at, words_for, depth, first_depth, gained}
 use Rattle.hop_layout.specs.Words.{bytes_of_words}
 use Rattle.hop_words.specs.Content.{place_words}
-use Rattle.hop_words.specs.Ghost.{Holder, Filling, Leaving, Within, lane, Era, Ghost, shape_at, HasElement, limbo_at, lock_home}
-use Rattle.hop_words.specs.Shortage.{done_in, HasHadValue, HasCause}
-use Rattle.hop_words.specs.Rule.{Rule, times_fresh, Minded, put_key, changed, owed, Holds, numbered, Keyed, Owned, Linked}
-use Rattle.bpf_shared.specs.Own.{turns_of}
+use Rattle.hop_words.specs.Ghost.{Holder, Free, Filling, Leaving, Within, lane, Era, Ghost, shape_at, HasElement, limbo_at, lock_home}
+use Rattle.hop_words.specs.Shortage.{done_in, is_update, HasHadValue, HasCause}
+use Rattle.hop_words.specs.Rule.{Rule, times_fresh, begun_in, Minded, put_key, changed, owed, Holds, numbered, Keyed, Owned, Linked}
+use Rattle.bpf_shared.specs.Own.{turns_of, in_run}
 use Rattle.hop_words.specs.Private.Step.{Next, Steps}
 use Rattle.hop_words.specs.Kinds.{AreElsewhere, AnswersAll, AnsweredAll, Replaces, Replaced, Answers, Answered, ShowsShortage, IsWritten, unlocking, with_gone, LooksUpLocked, LookedUp, found_span}
 use Rattle.hop_words.proofs.Small.{equal_keys, equal, here_or, put2-same, put2-other, put_key-same, put_key-other}
 use Rattle.hop_words.proofs.Spelling.{value_spelled}
 use Rattle.hop_words.proofs.Histories.{logged_event, prefix_refl, done_in-append}
-use Rattle.hop_words.proofs.Shortages.{begun_more, had_update, new_update, shown_step, shown_more, who_put, hand_rest, lack_cause}
+use Rattle.hop_words.proofs.Shortages.{begun_answer, causes_on, empty_still, run_quiet, had_update, new_update, settles_put, shown_step, shown_more, hand_held, hand_rest, lack_cause}
 use Rattle.hop_words.proofs.Comes.{leads_new, in_hand, now_old, now_new, linked_comes, owned_comes, batched_comes, filled_rest, valued_comes}
 use Rattle.hop_words.proofs.Goes.{with_used, owned_goes, cut_old, linked_goes, batched_goes, valued_goes}
 use Rattle.hop_words.proofs.Rooms.{shares_of}
@@ -84,11 +84,11 @@ unlock_silent a l k {rest} held elsewhere clean ws g sized r is inside fits =
 abbrev pub noted_event : Ghost → ℕ → Event → Ghost
 noted_event g c e = record g { log = g.log ++ entry c e ∷ []; lanes = record g.lanes { seen = put g.lanes.seen c (g.log ++ entry c e ∷ []) } }
 
-pub event_rule : (a : About) (w : Place → ℕ) (g : Ghost) (r : Rule a w g) (l : Known) (inside : l.cpu < a.shape.cpus) (e : Event) → turns_of (e ∷ []) ≡ 0 → HasCause a.shape a.version g.log l.cpu e → Allowed g.last l.cpu e g.last → Rule a w (noted_event g l.cpu e)
+pub event_rule : (a : About) (w : Place → ℕ) (g : Ghost) (r : Rule a w g) (l : Known) (inside : l.cpu < a.shape.cpus) (e : Event) → turns_of (e ∷ []) ≡ 0 → HasCause a.version (begun_in g.log g.lanes.fresh) (record { shape = a.shape; before = g.log; store = g.last; cpu = l.cpu }) e → Allowed g.last l.cpu e g.last → Rule a w (noted_event g l.cpu e)
 event_rule a w g r l inside e quiet cause may = record {
   shaped = r.shaped;
   deep = r.deep;
-  logged = logged_event a g.lanes.seen g.log g.last g.last l.cpu e r.logged inside cause may;
+  logged = logged_event a g.lanes.seen g.log g.last g.last l.cpu e r.logged inside may;
   keyed = r.keyed;
   worn = worn_more a g.depths _ g.eras g.log (entry l.cpu e) r.worn;
   runs = quiet_after a (λ c. w (RunCount c)) g.log l.cpu e r.runs quiet;
@@ -101,12 +101,12 @@ event_rule a w g r l inside e quiet cause may = record {
   reading = r.reading;
   held = r.held;
   valued = r.valued;
-  shown = shown_more a g.log (entry l.cpu e ∷ []) g.last g.last g.lanes.fresh g.lanes.tally g.holder (λ p h. h) r.shown;
+  shown = shown_more a g.log l.cpu e g.last g.last g.lanes.fresh g.lanes.tally g.holder g.taker quiet r.logged.legal may cause (λ p h. h) r.shown;
 }
 
 -- a version that is used up at the lock has been paid for, and an element that isn't to be had may be taken
 shortage_cause : (a : About) (w : Place → ℕ) (g : Ghost) → Rule a w g → (l : Known) (k : Lock) → lane g.lanes l.cpu ≡ l → l.cpu < a.shape.cpus → k.map < length a.shape.maps → k.stamp / 256 ≤ a.version + gained (shape_at a k.map) + done_in k.map g.log
-    → (e : Event) → ShowsShortage a l k e → HasCause a.shape a.version g.log l.cpu e
+    → (e : Event) → ShowsShortage a l k e → HasCause a.version (begun_in g.log g.lanes.fresh) (record { shape = a.shape; before = g.log; store = g.last; cpu = l.cpu }) e
 shortage_cause a w g r l k is inside in_map paid (Update m key bytes flags Busy) s = let d : gained (shape_at a m) + done_in m g.log ≡ gained (shape_at a k.map) + done_in k.map g.log = ap (λ (j : ℕ). gained (shape_at a j) + done_in j g.log) s.0 in let t = s.1 in omega arith
 shortage_cause a w g r l k is inside in_map paid (Update m key bytes flags NoMemory) s = lack_cause a w g r l m is inside (subst (λ (j : ℕ). j < length a.shape.maps) (sym s.0) in_map) s.1
 shortage_cause a w g r l k is inside in_map paid (Delete m key Busy) s = let d : gained (shape_at a m) + done_in m g.log ≡ gained (shape_at a k.map) + done_in k.map g.log = ap (λ (j : ℕ). gained (shape_at a j) + done_in j g.log) s.0 in let t = s.1 in omega arith
@@ -145,7 +145,7 @@ unlock_answer a l k e i ws g sized r is inside fits = record {
         let f = gains a w g r k.map k.segment h.inside in
         omega arith
 
-    cause : HasCause a.shape a.version g.log l.cpu e
+    cause : HasCause a.version (begun_in g.log g.lanes.fresh) (record { shape = a.shape; before = g.log; store = g.last; cpu = l.cpu }) e
     cause = shortage_cause a w g r l k is inside h.inside.0 paid e i.shortage
 
     worn_told : k.stamp / 256 ≤ a.version + gained (shape_at a k.map) + done_in k.map log'
@@ -191,7 +191,7 @@ module _ (a : About) (l : Known) (k : Lock) (rest : List Lock) (e : Event) (i : 
   several_lane = record l { seen = several_log }
 
   several_rule : Rule a (mem a.shape ws) (noted_event g l.cpu e)
-  several_rule = event_rule a (mem a.shape ws) g r l inside e i.quiet (i.uncaused g.log) several_may
+  several_rule = event_rule a (mem a.shape ws) g r l inside e i.quiet (i.uncaused (begun_in g.log g.lanes.fresh) (record { shape = a.shape; before = g.log; store = g.last; cpu = l.cpu })) several_may
 
   several_is : lane (noted_event g l.cpu e).lanes l.cpu ≡ several_lane
   several_is = rw (eq-eqb l.cpu l.cpu refl) (ap (λ (x : Known). record x { seen = several_log }) is)
@@ -424,6 +424,7 @@ module _ (a : About) (l : Known) (k : Lock) (f : Fresh) (rest : List Fresh) (key
     lanes = record g.lanes { seen = put g.lanes.seen l.cpu log'; fresh = put g.lanes.fresh l.cpu rest; limbo = limbo1; locks = put g.lanes.locks l.cpu (lock' ∷ []) };
     holder = holder2;
     number = number2;
+    taker = g.taker;
     linked = linked2;
     depths = g.depths;
     eras = put g.eras m (put (g.eras m) s (record { era = w (Stamp m s); writer = l.cpu; dirty = true; credit = 1; old = (g.eras m s).old }));
@@ -451,12 +452,15 @@ module _ (a : About) (l : Known) (k : Lock) (f : Fresh) (rest : List Fresh) (key
   spelled_is = ap (λ (b : List ℕ). record { bytes = b; span = element_span m (shape_at a m) e })
       (sym (value_spelled a w f rest m bytes (g.lanes.fresh l.cpu) hand (r.filled l.cpu inside) i.filled.map i.filled.filled i.filled.value i.filled.size i.filled.are_bytes))
 
+  updates : is_update f.map event ≡ true
+  updates = eq-eqb m f.map (sym i.filled.map)
+
   -- the event has taken effect, and the lock is still there
   swap_rule : Rule a w g'
   swap_rule = record {
     shaped = r.shaped;
     deep = r.deep;
-    logged = logged_event a g.lanes.seen g.log g.last last' l.cpu event r.logged inside tt may;
+    logged = logged_event a g.lanes.seen g.log g.last last' l.cpu event r.logged inside may;
     keyed = keyed2;
     worn = effect_worn a l k i.filled.lock w g r is i.filled.nothing (Puts key e) linked2 holder2 effect event (eq-eqb m m refl);
     runs = runs_quiet a w g r l is inside (λ d. w (RunCount d)) event r.runs refl;
@@ -471,10 +475,16 @@ module _ (a : About) (l : Known) (k : Lock) (f : Fresh) (rest : List Fresh) (key
     held = effect_held a l k i.filled.lock w g r is i.filled.nothing (Puts key e) linked2 holder2 effect inside;
     valued = valued_comes a l.cpu m e s key holder1 was1 _ g.last.made g.last.value g.last.held g.number x
         (valued_goes a l.cpu m o s key g.holder was_o _ g.last.made g.last.value g.last.held g.number r.valued) spelled_is;
-    shown = shown_step a g.log log' g.last last' g.lanes.fresh (put g.lanes.fresh l.cpu rest) g.lanes.tally g.holder holder2 (λ d. begun_more d g.log (entry l.cpu event ∷ [])) (had_update g.last m key x)
-        (λ n d c at is. inl (who_put g.holder m o (Leaving l.cpu) (λ c q. cc) n d c (who_put holder1 m e (Within key) (λ c q. cc) n d c is)))
+    shown = shown_step a g.log log' g.last last' g.lanes.fresh (put g.lanes.fresh l.cpu rest) g.lanes.tally g.holder holder2 g.taker (begun_answer g.log g.lanes.fresh l.cpu f rest event hand updates)
+        (causes_on a g.log g.last last' g.lanes.fresh (put g.lanes.fresh l.cpu rest) l.cpu event (begun_answer g.log g.lanes.fresh l.cpu f rest event hand updates) r.logged.legal may r.shown.causes tt)
+        (λ d p. ⊎_elim (λ (none : g.lanes.fresh d ≡ []). inl (empty_still g.lanes.fresh l.cpu f rest rest hand d none)) (λ (run : in_run (events_of d g.log) ≡ true). inr (run_quiet l.cpu d event g.log refl run)) p)
+        (had_update g.last m key x)
+        (λ n d. (
+          (λ now. (settles_put g.holder m o (Leaving l.cpu) (λ _ free. let z : Within key ≡ Free = sym was_o ∙ free in cc) (λ c q. cc) n d).0 ((settles_put holder1 m e (Within key) (λ _ free. let z : Filling l.cpu ≡ Free = sym was1 ∙ free in cc) (λ c q. cc) n d).0 now)),
+          (λ c is. (settles_put g.holder m o (Leaving l.cpu) (λ _ free. let z : Within key ≡ Free = sym was_o ∙ free in cc) (λ c q. cc) n d).1 c ((settles_put holder1 m e (Within key) (λ _ free. let z : Filling l.cpu ≡ Free = sym was1 ∙ free in cc) (λ c q. cc) n d).1 c is)),
+        ))
         (λ b n d inb at has. ⊎_elim
-        (λ (h : (n ≡ f.map) × (d ≡ f.element)). inl (subst (HasHadValue last') (λ j. element_span ((sym i.filled.map ∙ sym h.0) j) (shape_at a ((sym i.filled.map ∙ sym h.0) j)) (sym h.1 j)) (new_update g.last m key x)))
+        (λ (h : (n ≡ f.map) × (d ≡ f.element)). inl (subst (HasHadValue last') (λ j. element_span ((sym i.filled.map ∙ sym h.0) j) (shape_at a ((sym i.filled.map ∙ sym h.0) j)) (sym h.1 j)) (new_update g.last m key x), hand_held a w g r b n d inb at has))
         (λ (h : 1 ≤ times_fresh n d (put g.lanes.fresh l.cpu rest b)). inr h)
         (hand_rest g.lanes.fresh l.cpu f rest hand b n d has)) r.shown;
   }

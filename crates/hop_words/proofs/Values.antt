@@ -23,7 +23,7 @@ use Rattle.hop_layout.specs.Layout.{mem, put_at, words_for}
 use Rattle.hop_layout.specs.Words.{bytes_of_words}
 use Rattle.hop_words.specs.Content.{one_if}
 use Rattle.hop_words.specs.Ghost.{Carries, lane, Ghost, shape_at, HasElement, Each}
-use Rattle.hop_words.specs.Rule.{Rule, StartsWith, Filled, times_fresh, Valued}
+use Rattle.hop_words.specs.Rule.{begun_in, Rule, StartsWith, Filled, times_fresh, Valued}
 use Rattle.bpf_shared.specs.Own.{turns_of}
 use Rattle.hop_words.specs.Shortage.{HasCause}
 use Rattle.hop_words.specs.Private.Step.{Next, Steps}
@@ -154,11 +154,11 @@ module _ (a : About) (l : Known) (m e k o b : ℕ) (i : Touches a l m e k o b) (
     abbrev g2 : Event → Ghost
     g2 ev = record g { log = g.log ++ entry l.cpu ev ∷ []; last = last2; lanes = record g.lanes { seen = put g.lanes.seen l.cpu (g.log ++ entry l.cpu ev ∷ []) } }
 
-    write_rule : (ev : Event) → turns_of (ev ∷ []) ≡ 0 → HasCause a.shape a.version g.log l.cpu ev → Allowed g.last l.cpu ev last2 → Rule a w2 (g2 ev)
+    write_rule : (ev : Event) → turns_of (ev ∷ []) ≡ 0 → HasCause a.version (begun_in g.log g.lanes.fresh) (record { shape = a.shape; before = g.log; store = g.last; cpu = l.cpu }) ev → Allowed g.last l.cpu ev last2 → Rule a w2 (g2 ev)
     write_rule ev quiet cause may = record {
       shaped = r.shaped;
       deep = r.deep;
-      logged = logged_event a g.lanes.seen g.log g.last last2 l.cpu ev r.logged inside cause may;
+      logged = logged_event a g.lanes.seen g.log g.last last2 l.cpu ev r.logged inside may;
       keyed = r.keyed;
       worn = worn_more a g.depths (λ n t. w (Stamp n t)) g.eras g.log (entry l.cpu ev) r.worn;
       runs = quiet_after a (λ c. w (RunCount c)) g.log l.cpu ev r.runs quiet;
@@ -171,10 +171,10 @@ module _ (a : About) (l : Known) (m e k o b : ℕ) (i : Touches a l m e k o b) (
       reading = r.reading;
       held = r.held;
       valued = valued2;
-      shown = shown_more a g.log (entry l.cpu ev ∷ []) g.last last2 g.lanes.fresh g.lanes.tally g.holder (had_write g.last v (value_at a m e k o) b y) r.shown;
+      shown = shown_more a g.log l.cpu ev g.last last2 g.lanes.fresh g.lanes.tally g.holder g.taker quiet r.logged.legal may cause (had_write g.last v (value_at a m e k o) b y) r.shown;
     }
 
-    pub write_next : (ev : Event) → turns_of (ev ∷ []) ≡ 0 → HasCause a.shape a.version g.log l.cpu ev → Allowed g.last l.cpu ev last2 → Next a w2 g l.cpu (Told a l ev)
+    pub write_next : (ev : Event) → turns_of (ev ∷ []) ≡ 0 → HasCause a.version (begun_in g.log g.lanes.fresh) (record { shape = a.shape; before = g.log; store = g.last; cpu = l.cpu }) ev → Allowed g.last l.cpu ev last2 → Next a w2 g l.cpu (Told a l ev)
     write_next ev quiet cause may = record {
       ghost = g2 ev;
       rule = write_rule ev quiet cause may;

@@ -81,6 +81,8 @@ pub record Ghost : Type 0 where
   pub holder : ℕ → ℕ → Holder
   -- by map and element: the number of the value that lies in it
   pub number : ℕ → ℕ → ℕ
+  -- by map, CPU and number of an update of the map by it: the element that it took
+  pub taker : ℕ → ℕ → ℕ → ℕ
   -- by map and key: the element that the key leads to
   pub linked : ℕ → List ℕ → Option ℕ
   -- by map and segment: the depth of a born one

@@ -28,7 +28,7 @@ use Rattle.hop_words.specs.Sights.{IsTakenSince, look, lock_taken, sighted}
 use Rattle.hop_layout.specs.Words.{word_of, AreBytes}
 use Rattle.hop_words.specs.Content.{MapWords, IsShare}
 use Rattle.hop_words.specs.Ghost.{lock_home, IsHomeIn, child, shape_at, HasElement, Each, limbo_at}
-use Rattle.hop_words.specs.Shortage.{done_in, HasCause}
+use Rattle.hop_words.specs.Shortage.{done_in, updates_of, Moment, HasCause}
 use Rattle.hop_words.specs.Rule.{image, IsPeek, StartsWith, changed, numbered}
 use Rattle.bpf_shared.specs.Own.{turns_of, in_run}
 use Rattle.hop_words.specs.Depths.{stamp_depth, home_by}
@@ -375,7 +375,7 @@ pub record AnswersAll (a : About) (l : Known) (k : Lock) (rest : List Lock) (e :
     pub elsewhere : AreElsewhere k rest
     pub quiet : turns_of (e ∷ []) ≡ 0
     -- it tells of no shortage
-    pub uncaused : (before : List Entry) → HasCause a.shape a.version before l.cpu e
+    pub uncaused : (made : ℕ → ℕ → ℕ) (x : Moment) → HasCause a.version made x e
     pub allowed : (s : Plain) (linked : ℕ → List ℕ → Option ℕ) (number : ℕ → ℕ → ℕ)
         → s.shape ≡ a.shape → l.cpu < a.shape.cpus → Each (Shows a linked) (k ∷ rest)
         → ((m : ℕ) (q : List ℕ) → get (s.maps m) q ≡ numbered (number m) (linked m q))
@@ -483,7 +483,15 @@ giving_old l m es = limbo_set l m (record (limbo_at l.limbo m) { old = es })
 
 -- ---- claim bit, give bit of an element in hand, fill word
 abbrev pub holding : Known → ℕ → ℕ → Known
-holding l m e = record l { fresh = record { map = m; element = e; key = []; value = [] } ∷ l.fresh }
+holding l m e = record l {
+  fresh = record {
+    map = m;
+    element = e;
+    update = updates_of m (events_of l.cpu l.seen);
+    key = [];
+    value = [];
+  } ∷ l.fresh;
+}
 
 -- ---- see count, under the lock of a segment where the key isn't: at max the map is full
 pub record Counts (a : About) (l : Known) (k : Lock) (key bytes : List ℕ) (flags : ℕ) : Type 0 where

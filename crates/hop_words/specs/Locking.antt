@@ -7,9 +7,7 @@ use Rattle.hop_words.specs.declared.known.Known.{Known}
 use Rattle.hop_words.specs.declared.known.Fresh.{Fresh}
 use Rattle.hop_words.specs.declared.known.Lock.{Lock}
 use Rattle.hop_words.specs.declared.known.Change.TheVariants.{Nothing}
-use Rattle.hop_words.specs.Content.{MapWords}
 use Rattle.hop_words.specs.Ghost.{shape_at}
-use Rattle.hop_words.specs.Rule.{image}
 use Rattle.hop_words.specs.Kinds.{Told}
 use Rattle.hop_words.specs.Owning.{tail_of}
 
@@ -30,7 +28,7 @@ abbrev pub lock_of : Known → Lock
 lock_of l = slice_index_or l.locks 0 no_lock
 
 abbrev pub nothing_in_hand : Fresh
-nothing_in_hand = record { map = 0; element = 0; key = []; value = [] }
+nothing_in_hand = record { map = 0; element = 0; update = 0; key = []; value = [] }
 
 -- the first element in hand
 abbrev pub hand : Known → Fresh
@@ -52,10 +50,6 @@ HasLastLock l m s =
 -- it gives the lock back that it took last
 abbrev pub unlocking_last : Known → Known
 unlocking_last l = record l { locks = other_locks l }
-
--- the words of the locked segment by now
-abbrev pub locked_words : About → Known → MapWords
-locked_words a l = image a (lock_of l).copy
 
 -- a count at the map's most keys is the answer Full; else the map has room
 abbrev pub SeesRoom : About → Known → List ℕ → List ℕ → ℕ → ℕ → Known → Type 0

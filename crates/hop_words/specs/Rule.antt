@@ -1,6 +1,6 @@
 -- The rule that holds between any two steps: six parts, each over the words and the fields of
 -- lanes that it names.
-use Rattle.std.specs.Prelude.{◌≡◌, ℕ, ◌⊎◌, ◌+◌, ◌/◌, ◌%◌, ◌<◌, ◌≤◌, Bool, true, false, ◌&&◌, List, [], ◌∷◌, Option, Some, None, length, take, ◌==◌, if◌then◌else◌, slice_index}
+use Rattle.std.specs.Prelude.{◌≡◌, ◌≢◌, ℕ, ◌⊎◌, ◌+◌, ◌/◌, ◌%◌, ◌<◌, ◌≤◌, Bool, true, false, ◌&&◌, List, [], ◌∷◌, Option, Some, None, length, take, ◌==◌, if◌then◌else◌, slice_index}
 use Rattle.std.specs.Int.{bit_at}
 use Rattle.std.specs.FinMap.{get, len}
 use mathlib.Core.Option.{some}
@@ -11,7 +11,7 @@ use Rattle.bpf_shared.specs.declared.events.Entry.{Entry}
 use Rattle.bpf_shared.specs.Shape.{element_span, IsShape}
 use Rattle.bpf_shared.specs.Store.{KeyMap, Value, Plain, as_made}
 use Rattle.bpf_shared.specs.History.{Legal, events_of}
-use Rattle.bpf_shared.specs.Own.{turns_of}
+use Rattle.bpf_shared.specs.Own.{turns_of, in_run}
 use Rattle.hop_layout.specs.declared.place.Place.{Place}
 use Rattle.hop_layout.specs.declared.place.Place.TheVariants.{RunCount, KeyCount, FreeBits, Stamp, Head, Hop, Slot, Link, KeyWord, ValueWord}
 use Rattle.hop_layout.specs.declared.about.About.{About}
@@ -28,22 +28,20 @@ use Rattle.hop_words.specs.declared.known.Change.TheVariants.{Nothing, Puts, Dro
 use Rattle.hop_layout.specs.Layout.{size, mem, words_for, first_depth}
 use Rattle.hop_layout.specs.Words.{bytes_of_words}
 use Rattle.hop_words.specs.Content.{one_if, MapWords, place_words, times, Reached, IsShare, Agrees, AgreesFront}
-use Rattle.hop_words.specs.Shortage.{done_in, HasBegun, MayBeTaken, HaveCauses}
+use Rattle.hop_words.specs.Shortage.{done_in, updates_in, HasHadValue, HaveCausesBy}
 use Rattle.hop_words.specs.Sights.{IsTakenSince}
 use Rattle.hop_words.specs.Ghost.{Holder, Free, Filling, Leaving, Within, is_free, is_filling, is_leaving, Carries, lane, Era, Ghost, shape_at, HasElement, limbo_at, lock_home, IsHomeIn, child, Each}
 use Rattle.hop_words.specs.Depths.{stamp_depth, IsBorn, home_by, Deep}
 
 -- ======== history
 
--- the one history is legal, its answers of a shortage have their causes, and of it each CPU has
--- seen a beginning with all its own events
+-- the one history is legal, and of it each CPU has seen a beginning with all its own events
 pub record Logged (a : About) (seen : ℕ → List Entry) (log : List Entry) (last : Plain) : Type 0
   where
     pub legal : Legal (as_made a.shape) log last
     pub begins : (c : ℕ) → c < a.shape.cpus → IsPrefix (seen c) log
     pub own : (c : ℕ) → c < a.shape.cpus → events_of c (seen c) ≡ events_of c log
     pub others : (c : ℕ) → a.shape.cpus ≤ c → events_of c log ≡ []
-    pub causes : HaveCauses a.shape a.version log
 
 abbrev pub numbered : (ℕ → ℕ) → Option ℕ → Option ℕ
 numbered f None = None
@@ -253,13 +251,39 @@ pub record Valued (a : About) (words : ℕ → ℕ → ℕ → ℕ) (made : ℕ)
 
 -- ======== shortage
 
--- who fills an element has begun a run. An element that a CPU saw not free, since it last took one
--- of the map or gave one back, may be another's, or the CPU has it in hand itself
+-- 1 where the first element in hand was taken by the CPU's n-th update of the map
+abbrev pub taken_at : ℕ → ℕ → List Fresh → ℕ
+taken_at m n [] = 0
+taken_at m n (f ∷ fs) = one_if ((f.map == m) && (f.update == n))
+
+-- how many updates of the map a CPU has begun: those that it made, and one more where it has an
+-- element in hand that the next one took
+abbrev pub begun_in : List Entry → (ℕ → List Fresh) → ℕ → ℕ → ℕ
+begun_in log fresh m c = updates_in log m c + taken_at m (updates_in log m c) (fresh c)
+
+-- an update that was begun took the element
+pub record Took (a : About) (log : List Entry) (fresh : ℕ → List Fresh) (taker : ℕ → ℕ → ℕ → ℕ)
+    (m e : ℕ) : Type 0 where
+  pub cpu : ℕ
+  pub update : ℕ
+  pub inside : cpu < a.shape.cpus
+  pub this : taker m cpu update ≡ e
+  pub begun : update < begun_in log fresh m cpu
+
+-- the history's answers of a shortage have their causes. Who has an element in hand is in a run. An
+-- element that isn't free was taken by an update of its own; so was one that a CPU saw not free,
+-- since it last took one of the map or gave one back: where that update was its own, the element has
+-- had a value, or it is in its hand
 pub record Shown (a : About) (log : List Entry) (last : Plain) (fresh : ℕ → List Fresh)
-    (tally : ℕ → List Sight) (holder : ℕ → ℕ → Holder) : Type 0 where
-  pub begun : (m e c : ℕ) → HasElement a m e → holder m e ≡ Filling c → HasBegun c log
+    (tally : ℕ → List Sight) (holder : ℕ → ℕ → Holder) (taker : ℕ → ℕ → ℕ → ℕ) : Type 0 where
+  pub causes : HaveCausesBy a.shape a.version (begun_in log fresh) log last
+  pub running : (c : ℕ) → (fresh c ≡ []) ⊎ (in_run (events_of c log) ≡ true)
+  pub took : (m e : ℕ) → HasElement a m e → holder m e ≢ Free
+      → (t : Took a log fresh taker m e) × ((c : ℕ) → holder m e ≡ Filling c → t.cpu ≡ c)
   pub taken : (c m e : ℕ) → c < a.shape.cpus → HasElement a m e → IsTakenSince (tally c) m e
-      → MayBeTaken a.shape log last c m e ⊎ (1 ≤ times_fresh m e (fresh c))
+      → ((t : Took a log fresh taker m e)
+      × (HasHadValue last (element_span m (shape_at a m) e) ⊎ (t.cpu ≢ c)))
+      ⊎ (1 ≤ times_fresh m e (fresh c))
 
 -- ======== the rule
 
@@ -288,7 +312,7 @@ pub record Rule (a : About) (w : Place → ℕ) (g : Ghost) : Type 0 where
   pub valued : Valued a (λ m e k. w (ValueWord m e k)) g.last.made g.last.value g.last.held g.holder
       g.number
   -- shortage
-  pub shown : Shown a g.log g.last g.lanes.fresh g.lanes.tally g.holder
+  pub shown : Shown a g.log g.last g.lanes.fresh g.lanes.tally g.holder g.taker
 
 -- ======== seats
 

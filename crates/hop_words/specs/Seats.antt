@@ -1,5 +1,5 @@
 -- Cutting and joining seats, and the seat that knows the whole history.
-use Rattle.std.specs.Prelude.{◌≡◌, ℕ, List}
+use Rattle.std.specs.Prelude.{◌≡◌, ℕ, ◌<◌, List, []}
 use mathlib.Core.List.{IsPrefix}
 use Rattle.bpf_shared.specs.declared.events.Entry.{Entry}
 use Rattle.bpf_shared.specs.History.{events_of}
@@ -24,6 +24,8 @@ pub record KeepsWholeHistory (a : About) (v : View) (ws : List ℕ) : Type 0 whe
   pub ghost : Ghost
   pub whole : v.kept ≡ ghost.log
   pub rule : Rule a (mem a.shape ws) ghost
+  -- no lane has an element in hand
+  pub empty : (c : ℕ) → c < a.shape.cpus → ghost.lanes.fresh c ≡ []
   -- where no lane has a lock, each born segment's words are at rest, and show its share of the last
   -- store's keys
   pub shows : (m s : ℕ) → IsBorn a ghost.depths m s

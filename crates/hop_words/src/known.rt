@@ -3,10 +3,12 @@ use bpf_shared::Entry;
 use hop_layout::Place;
 use std::collections::LinkedList;
 
-/// An element that its owner fills: the words of its key and of its value so far.
+/// An element that its owner fills: which of the owner's updates of the map took it, counted from 0,
+/// and the words of its key and of its value so far.
 pub struct Fresh {
     pub map: u8,
     pub element: u32,
+    pub update: u64,
     pub key: LinkedList<u64>,
     pub value: LinkedList<u64>,
 }

@@ -32,10 +32,12 @@ impl Model for Lane {
 }
 
 impl Lane {
-    // The lane of the only CPU that this seat has.
+    // The lane of the only CPU that this seat has, which has noted nothing yet: so no lane that was
+    // taken apart is seated again with sights that no step of its own noted.
     pub(crate) fn seated(cpu: u8, seat: Seat<(), View>) -> Lane
         requires one { (seat.me ≡ (solo (first_lane nobody seat.me.0.lanes), []))
             × ((first_lane nobody seat.me.0.lanes).cpu ≡ cpu) }
+        requires new { (first_lane nobody seat.me.0.lanes).tally ≡ [] }
         ensures table { result.table ≡ seat.table_id }
         ensures known { result.known ≡ first_lane nobody seat.me.0.lanes }
     {
@@ -73,7 +75,9 @@ impl<E: Tell> Play<(), View> for Told<E> {
     ghost then = { tells E.told };
 }
 
-// Each takes what its kind says besides, which the choice of what it tells may name.
+// Each takes what its kind says besides, which the choice of what it tells may name. A load of these
+// isn't noted. A kind of it asks for a lock, an old batch, a CPU in no run or a caller that may wait,
+// or it is an event: so all that a lookup without a lock loads is noted.
 impl Lane {
     #[inline(always)]
     pub(crate) fn load_by<E: Tell, T: Copy>(

@@ -9,7 +9,7 @@ ghost use Rattle.hop_layout.specs.Layout.{words_for};
 ghost use Rattle.hop_words.specs.Ghost.{shape_at, HasElement, limbo_at};
 ghost use Rattle.hop_words.specs.Rule.{link_to};
 ghost use Rattle.hop_words.specs.Kinds.{Passed, retiring};
-ghost use Rattle.hop_words.specs.Owning.{IsFreeWord, ClaimsBit, GivesFresh, GivesOld, IsInHand, tail_of, key_filled, value_filled, with_key_word, with_value_word};
+ghost use Rattle.hop_words.specs.Owning.{IsAnswered, IsFreeWord, ClaimsBit, GivesFresh, GivesOld, IsInHand, tail_of, key_filled, value_filled, with_key_word, with_value_word};
 
 use crate::lane::Lane;
 use crate::table::HopTable;
@@ -41,10 +41,12 @@ impl Lane {
         self.load_noted::<Brand, _>(table, Place::FreeBits { map, word }, (map, word))
     }
 
-    /// In a run, takes an element if it is free, by one fetch-and, and answers the bits found.
+    /// In a run, with none in hand, takes an element if it is free, by one fetch-and, and answers
+    /// the bits found.
     pub fn claim_bit(&mut self, table: &HopTable, map: u8, element: u32) -> u64
         requires table { self.old.table ≡ table.now.id }
         requires element { HasElement table.now.about map element }
+        requires empty { self.old.known.fresh ≡ [] }
         requires unlocked { self.old.known.locks ≡ [] }
         requires runs { in_run (events_of self.old.known.cpu self.old.known.seen) ≡ true }
         ensures table { self.new.table ≡ self.old.table }
@@ -55,11 +57,13 @@ impl Lane {
         self.and_noted::<Brand, _>(table, Place::FreeBits { map, word }, mask, (map, element))
     }
 
-    /// Gives back the element in hand, which nobody else has seen.
+    /// Gives back the element in hand, which nobody else has seen, after the update that took it was
+    /// answered.
     pub fn give_bit(&mut self, table: &HopTable, map: u8, element: u32)
         requires table { self.old.table ≡ table.now.id }
         requires element { HasElement table.now.about map element }
         requires hand { IsInHand self.old.known map element }
+        requires answered { IsAnswered self.old.known map }
         ensures table { self.new.table ≡ self.old.table }
         ensures given { (found : ℕ) × GivesFresh self.old.known map element found self.new.known }
     {

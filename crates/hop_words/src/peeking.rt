@@ -9,6 +9,7 @@ use crate::lane::Lane;
 use crate::table::HopTable;
 use hop_layout::Place;
 use std::marker::Brand;
+use std::sync::Wait;
 
 impl Lane {
     /// A segment's stamp. An unlocked one begins a reading of the segment, a locked one is a
@@ -25,9 +26,9 @@ impl Lane {
         self.load_noted::<Brand, _>(table, Place::Stamp { map, segment }, (map, segment))
     }
 
-    /// A segment's stamp on the way to another, whether locked or not. Which of its children are
-    /// born is known from here on.
-    pub fn note_stamp(&mut self, table: &HopTable, map: u8, segment: u32) -> u64
+    /// A segment's stamp on the way to a lock, whether locked or not. Which of its children are born
+    /// is known from here on. It isn't noted: so only a caller that may wait can make it.
+    pub fn note_stamp<R: Wait>(&mut self, _rt: &R, table: &HopTable, map: u8, segment: u32) -> u64
         requires table { self.old.table ≡ table.now.id }
         requires inside { IsSegment table.now.about map segment }
         requires born { KnowsBorn table.now.about self.old.known map segment }

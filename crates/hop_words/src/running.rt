@@ -5,7 +5,7 @@ ghost use Rattle.bpf_shared.specs.declared.events.Event.TheVariants.{Begin, End}
 ghost use Rattle.hop_words.specs.Ghost.{limbo_at};
 ghost use Rattle.hop_words.specs.Kinds.{run_count, Told, noting_next, ageing};
 ghost use Rattle.bpf_shared.specs.Own.{in_run};
-ghost use Rattle.hop_words.specs.Owning.{LooksAgain};
+ghost use Rattle.hop_words.specs.Owning.{IsIdleOrKeeps, LooksAgain};
 
 use crate::lane::Lane;
 use crate::table::HopTable;
@@ -20,9 +20,11 @@ impl Lane {
         self.cpu
     }
 
-    /// The CPU's own counter.
+    /// The CPU's own counter. It isn't noted: so it is there only for a CPU that is in no run, or
+    /// that has an old batch.
     pub fn see_own_counter(&mut self, table: &HopTable) -> u64
         requires table { self.old.table ≡ table.now.id }
+        requires apart { IsIdleOrKeeps self.old.known }
         requires inside { self.old.known.cpu < table.now.about.shape.cpus }
         ensures table { self.new.table ≡ self.old.table }
         ensures count { result ≡ run_count table.now.about self.old.known }
@@ -45,9 +47,10 @@ impl Lane {
         self.add_by::<Brand, _>(table, Place::RunCount { cpu }, 1, ());
     }
 
-    /// The CPU leaves its run: its counter goes up by one fetch-add.
+    /// The CPU leaves its run, with no element in hand: its counter goes up by one fetch-add.
     pub fn count_end(&mut self, table: &HopTable)
         requires table { self.old.table ≡ table.now.id }
+        requires empty { self.old.known.fresh ≡ [] }
         requires inside { self.old.known.cpu < table.now.about.shape.cpus }
         requires running { in_run (events_of self.old.known.cpu self.old.known.seen) ≡ true }
         requires room { run_count table.now.about self.old.known + 1 < 2 ^ 64 }

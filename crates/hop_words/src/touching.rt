@@ -14,6 +14,7 @@ use crate::table::HopTable;
 use bpf_shared::{AtomicOp, Size};
 use hop_layout::Place;
 use std::marker::Brand;
+use std::sync::Wait;
 
 /// Bytes of a value that lie in one of its words: so far behind the word's first.
 #[derive(Clone, Copy, Drop)]
@@ -26,8 +27,9 @@ pub struct ValuePart {
 }
 
 impl Lane {
-    /// The word that the bytes lie in, of which nothing is known later. It is no event.
-    pub fn look_at_value(&mut self, table: &HopTable, part: ValuePart) -> u64
+    /// The word that the bytes lie in, of which nothing is known later. It is no event, and isn't
+    /// noted: so only a caller that may wait can make it.
+    pub fn look_at_value<R: Wait>(&mut self, _rt: &R, table: &HopTable, part: ValuePart) -> u64
         requires table { self.old.table ≡ table.now.id }
         requires touches { TouchesPart table.now.about self.old.known part }
         ensures table { self.new.table ≡ self.old.table }

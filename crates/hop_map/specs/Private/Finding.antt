@@ -19,7 +19,7 @@ use Rattle.bpf_shared.specs.Own.{in_run}
 use Rattle.hop_map.specs.declared.finding.Tried.{Tried}
 use Rattle.hop_map.specs.declared.finding.Tried.TheVariants.{Read, Disturbed}
 use Rattle.hop_map.specs.declared.homing.KeyHome.{KeyHome}
-use Rattle.hop_map.specs.Finding.{IsWay, IsDisturbedTry, all_sights, Looked, ReadsOnce, Disturbs}
+use Rattle.hop_map.specs.Finding.{LeadsAlong, IsWay, IsDisturbedTry, all_sights, Looked, ReadsOnce, Disturbs}
 use Rattle.hop_map.specs.Noting.{CallNotes}
 
 -- the key is at home in the segment of this depth
@@ -52,7 +52,7 @@ reading_at l m s n way =
 pub record Approaching (a : About) (l : Known) (m home : ℕ) (w : Way) (n : ℕ) (way : List Sight)
     (l' : Known) : Type 0 where
   pub after : l' ≡ reading_at l m w.segment n way
-  pub looks : Each (λ (x : Sight). (t : ℕ) × (i : ℕ) × (x ≡ look (Stamp m t) i)) way
+  pub leads : LeadsAlong a m home w.segment way
   pub inside : IsSegment a m w.segment
   pub even : n % 2 ≡ 0
   pub deep : SaysDepth a m w.segment n

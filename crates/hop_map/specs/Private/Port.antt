@@ -42,8 +42,9 @@ pub record HasNothing (l : Known) : Type 0 where
   pub locks : l.locks ≡ []
   pub used : (m : ℕ) → (limbo_at l.limbo m).used ≡ []
 
-abbrev pub IsUnlocked : Known → Type 0
-IsUnlocked l = l.locks ≡ []
+-- a CPU that is given back locks nothing, and has no element in hand
+abbrev pub IsFree : Known → Type 0
+IsFree l = (l.locks ≡ []) × (l.fresh ≡ [])
 
 -- between two calls the CPU's lane is there, and owns nothing
 abbrev pub IsPortIdle : InPort → Type 0

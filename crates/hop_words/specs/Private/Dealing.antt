@@ -8,10 +8,10 @@ use Rattle.hop_words.specs.Dealing.{Dealing}
 abbrev pub dealing : Inside → Dealing
 dealing s = record { table = s.seat.table_id; lanes = s.seat.me.0.lanes }
 
--- the CPUs have the numbers from this one on
+-- the CPUs have the numbers from this one on, and noted nothing yet
 abbrev pub AreNumbered : ℕ → List Known → Type 0
 AreNumbered c [] = Unit {0}
-AreNumbered c (l ∷ ls) = (l.cpu ≡ c) × AreNumbered (c + 1) ls
+AreNumbered c (l ∷ ls) = (l.cpu ≡ c) × (l.tally ≡ []) × AreNumbered (c + 1) ls
 
 abbrev pub IsDealing : Inside → Type 0
 IsDealing s = (s.seat.me ≡ (view s.seat.me.0.lanes [], [])) × (length s.seat.me.0.lanes ≡ s.left)

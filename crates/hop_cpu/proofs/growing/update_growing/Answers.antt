@@ -9,7 +9,7 @@ pub returns-clause-in_run : goal.returns-clause-in_run
 returns-clause-in_run g c = runs_on c.args.table.now.about c.args.map c.args.port.now c.update-answer.new.self c.grow.new.port c.grow.ensures.grows c.update-answer.ensures.in_run
 
 pub returns-clause-noted : goal.returns-clause-noted
-returns-clause-noted g c = notes_on c.args.table.now.about c.args.map c.args.port.now c.update-answer.new.self c.grow.new.port c.grow.ensures.grows c.args.key.now c.args.value.now c.args.flags c.update-answer.result c.update-answer.ensures.noted
+returns-clause-noted g c = notes_on c.args.table.now.about c.args.map c.args.port.now c.update-answer.new.self c.grow.new.port c.grow.ensures.grows c.args.key.now c.args.value.now c.args.flags c.update-answer.result c.update-answer.ensures.spilled c.update-answer.ensures.noted
 
 pub returns-clause-tried : goal.returns-clause-tried
 returns-clause-tried g c = tried_on c.args.table.now.about c.args.map c.args.port.now c.update-answer.new.self c.grow.new.port c.grow.ensures.grows

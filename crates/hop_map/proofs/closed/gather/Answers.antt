@@ -5,10 +5,10 @@ use Rattle.atomic_table.proofs.Lists.{at_index}
 use Rattle.hop_words.specs.declared.known.Known.{Known}
 use Rattle.hop_words.specs.Inside.{Standing}
 use Rattle.hop_map.specs.Port.{Port, known_of}
-use Rattle.hop_map.specs.Private.Port.{standing_in, IsUnlocked}
+use Rattle.hop_map.specs.Private.Port.{standing_in, IsFree}
 use Rattle.hop_map.proofs.Ports.{port_is}
-use Rattle.hop_map.proofs.Dealing.{map_snoc, legal_of, causes_of, known_at, all_back}
-use Rattle.hop_map.proofs.Dumps.{last_of}
+use Rattle.hop_map.proofs.Dealing.{map_snoc, legal_of, known_at, all_back}
+use Rattle.hop_map.proofs.Dealing.{last_caused}
 use Rattle.hop_map.proofs.closed.gather.Goals as goal
 
 pub ports-preserved : goal.ports-preserved
@@ -18,11 +18,11 @@ ports-preserved c =
     let port = c.in-Some.port in
     let rest = c.next.new.self.rest.items in
     let known : lane.known ≡ port.known = ap known_of (sym (port_is c.port.inside c.port.inside.lane lane refl c.in-Some-lane.is) ∙ c.port.view_is) in
-    let free : IsUnlocked lane.known = subst (λ (o : Option Standing). IsUnlocked (standing_in o).known) c.in-Some-lane.is c.port.invariant.1.locks in (
+    let free : IsFree lane.known = subst (λ (o : Option Standing). IsFree (standing_in o).known) c.in-Some-lane.is (c.port.invariant.1.locks, c.port.invariant.1.fresh) in (
       c.take.ensures.table ∙ i.0,
       append_assoc c.ports.yielded (port ∷ []) rest ∙ (ap (λ (l : List Port). c.ports.yielded ++ l) (sym c.in-Some.ensures.steps.0) ∙ i.1),
       c.take.ensures.taken ∙ (ap (λ (ls : List Known). ls ++ lane.known ∷ []) i.2 ∙ (ap (λ (k : Known). map known_of c.ports.yielded ++ k ∷ []) known ∙ sym (map_snoc c.ports.yielded port))),
-      subst (All IsUnlocked) (sym c.take.ensures.taken) (All-append IsUnlocked c.ports.back.lanes (lane.known ∷ []) i.3 (All-cons IsUnlocked lane.known [] free (All-nil IsUnlocked))),
+      subst (All IsFree) (sym c.take.ensures.taken) (All-append IsFree c.ports.back.lanes (lane.known ∷ []) i.3 (All-cons IsFree lane.known [] free (All-nil IsFree))),
     )
 
 pub close-rest-requires-clause-all : goal.close-rest-requires-clause-all
@@ -37,11 +37,8 @@ close-rest-requires-clause-all c =
 pub returns-clause-legal : goal.returns-clause-legal
 returns-clause-legal c = legal_of c.close-rest.result.about c.close-rest.result.history c.close-rest.result.words c.close-rest.ensures.whole
 
-pub returns-clause-causes : goal.returns-clause-causes
-returns-clause-causes c = causes_of c.close-rest.result.about c.close-rest.result.history c.close-rest.result.words c.close-rest.ensures.whole
-
 pub returns-clause-last : goal.returns-clause-last
-returns-clause-last c = last_of c.close-rest.result c.close-rest.ensures.whole
+returns-clause-last c = last_caused c.close-rest.result c.close-rest.ensures.whole
 
 pub returns-clause-parts : goal.returns-clause-parts
 returns-clause-parts c = λ k d inside.

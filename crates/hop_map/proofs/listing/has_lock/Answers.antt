@@ -5,7 +5,7 @@ use Rattle.hop_map.proofs.Gathering.{has_last, not_locked}
 use Rattle.hop_map.proofs.listing.has_lock.Goals as goal
 
 pub returns-clause-last : goal.returns-clause-last
-returns-clause-last c = λ t.
+returns-clause-last g c = λ t.
     let a = c.args.table.now.about in
     let l = c.args.lane.now.known in
     let y = c.seek.new.lane.known in
@@ -13,7 +13,7 @@ returns-clause-last c = λ t.
     has_last a l c.args.map c.args.segment c.seek.result.stamp y (subst (λ (i : ℕ). Sought a l c.args.map c.args.segment i c.seek.result.stamp y) same c.seek.ensures.sought) c.requires.covers
 
 pub returns-clause-none : goal.returns-clause-none
-returns-clause-none c = λ f.
+returns-clause-none g c = λ f.
     let a = c.args.table.now.about in
     let l = c.args.lane.now.known in
     let other : c.seek.result.segment ≢ c.args.segment = (λ e. (let z = e in grind (arith, nat_tests))) in

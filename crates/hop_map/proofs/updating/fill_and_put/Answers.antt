@@ -7,9 +7,10 @@ use Rattle.hop_words.specs.declared.known.Fresh.{Fresh}
 use Rattle.hop_words.specs.declared.known.Sight.{Sight}
 use Rattle.hop_layout.specs.Layout.{gained}
 use Rattle.hop_words.specs.Ghost.{shape_at, limbo_at}
-use Rattle.hop_words.specs.Shortage.{done_in}
+use Rattle.bpf_shared.specs.History.{events_of}
+use Rattle.hop_words.specs.Shortage.{done_in, updates_of}
 use Rattle.hop_words.specs.Kinds.{retiring}
-use Rattle.hop_words.specs.Owning.{tail_of, IsInHand}
+use Rattle.hop_words.specs.Owning.{tail_of, IsInHand, IsAnswered}
 use Rattle.hop_map.specs.declared.ending.Ending.{Ending}
 use Rattle.hop_map.specs.Private.Replacing.{IsReplacement}
 use Rattle.hop_words.specs.Sights.{lock_taken, bit_set}
@@ -22,13 +23,13 @@ use Rattle.hop_map.proofs.Keys.{are_bytes}
 use Rattle.hop_map.proofs.Wholes.{pair_at}
 use Rattle.hop_words.proofs.Sighted.{set_leaves}
 use Rattle.hop_map.proofs.Noted.{update_notes, spilled_last}
-use Rattle.hop_map.proofs.Settling.{filled_readies, refused_hand, refused_called, over_called}
+use Rattle.hop_map.proofs.Settling.{filled_readies, refused_answered, refused_hand, refused_called, over_called}
 use Rattle.hop_map.proofs.updating.fill_and_put.Goals as goal
 
 pub fill-requires-clause-hand : goal.fill-requires-clause-hand
 fill-requires-clause-hand g c =
     let new = c.requires.new in
-    let f : Fresh = record { map = c.args.map; element = c.args.element.number; key = []; value = [] } in
+    let f : Fresh = record { map = c.args.map; element = c.args.element.number; update = updates_of c.args.map (events_of c.args.lane.known.cpu c.args.lane.known.seen); key = []; value = [] } in
     (f, new ∙ ap (λ (fs : List Fresh). f ∷ fs) (sym (ap tail_of new)), sym c.requires.map, refl)
 
 pub fill-requires-clause-key : goal.fill-requires-clause-key
@@ -74,6 +75,19 @@ give_back-requires-clause-hand g c =
     let k = lock_taken m c.lock_and_put-lane.ensures.ends.0 c.lock_and_put-lane.ensures.ends.1 in
     let p : Refusal a (locked_with c.fill.new.lane.known k) m key bytes c.args.flags c.in-Refused.answer c.lock_and_put-lane.result.0.known × (c.in-Refused.answer ≢ NoMemory) = subst (λ (q : Ending). UpdateEnds a (locked_with c.fill.new.lane.known k) m key bytes c.args.flags q c.lock_and_put-lane.result.0.known) c.in-Refused.is c.lock_and_put-lane.ensures.ends.3 in
     subst (λ (i : ℕ). IsInHand c.lock_and_put-lane.result.0.known i e) (sym c.requires.map) (refused_hand a l m e c.requires.new key bytes c.fill.new.lane.known c.fill.ensures.filled c.requires.used room c.args.flags k c.lock_and_put-lane.result.0.known c.in-Refused.answer p.0)
+
+pub give_back-requires-clause-answered : goal.give_back-requires-clause-answered
+give_back-requires-clause-answered g c =
+    let a = c.args.table.now.about in
+    let l = c.args.lane.known in
+    let m = c.args.map in
+    let e = c.args.element.number in
+    let key = c.args.key.now in
+    let bytes = c.args.value.now in
+    let room : m < length l.limbo = subst (λ (i : ℕ). i < length l.limbo) c.requires.batches.0 c.requires.batches.1.room in
+    let k = lock_taken m c.lock_and_put-lane.ensures.ends.0 c.lock_and_put-lane.ensures.ends.1 in
+    let p : Refusal a (locked_with c.fill.new.lane.known k) m key bytes c.args.flags c.in-Refused.answer c.lock_and_put-lane.result.0.known × (c.in-Refused.answer ≢ NoMemory) = subst (λ (q : Ending). UpdateEnds a (locked_with c.fill.new.lane.known k) m key bytes c.args.flags q c.lock_and_put-lane.result.0.known) c.in-Refused.is c.lock_and_put-lane.ensures.ends.3 in
+    subst (λ (i : ℕ). IsAnswered c.lock_and_put-lane.result.0.known i) (sym c.requires.map) (refused_answered a l m e c.requires.new key bytes c.fill.new.lane.known c.fill.ensures.filled c.requires.used room c.args.flags k c.lock_and_put-lane.result.0.known c.in-Refused.answer p.0)
 
 pub returns-in-Replaced-clause-called : goal.returns-in-Replaced-clause-called
 returns-in-Replaced-clause-called g c =
@@ -184,4 +198,4 @@ returns-in-Added-clause-spilled g c =
     let l2 = c.lock_and_put-lane.result.0.known in
     let k = lock_taken m ends.0 ends.1 in
     let p : IsInsertion a (locked_with c.fill.new.lane.known k) m c.args.key.now c.args.value.now c.args.flags l2 = subst (λ (q : Ending). UpdateEnds a (locked_with c.fill.new.lane.known k) m c.args.key.now c.args.value.now c.args.flags q l2) c.in-Added.is ends.3 in
-    spilled_last m ends.0 ends.1 l2 c.fill.new.lane.known.tally c.in-Added.spilled (subst (λ (q : Ending). SpillsTo ends.0 q) c.in-Added.is ends.5) (ap (λ (q : Known). q.tally) p.after)
+    spilled_last m ends.0 ends.1 c.args.lane.known l2 c.in-Added.spilled (subst (λ (q : Ending). SpillsTo ends.0 q) c.in-Added.is ends.5) (ap (λ (q : Known). q.tally) p.after ∙ ap (λ (q : Known). k ∷ q.tally) c.fill.ensures.filled)

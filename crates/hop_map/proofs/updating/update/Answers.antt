@@ -2,9 +2,10 @@ use Rattle.std.proofs.Common.{ℕ, ◌<◌, [], length, refl, ap, subst, ◌∙�
 use Rattle.hop_words.specs.declared.known.Known.{Known}
 use Rattle.hop_words.specs.Sights.{lock_taken}
 use Rattle.hop_map.specs.Call.{SearchesInVain}
+use Rattle.hop_map.specs.Private.Call.{HoldsNew}
 use Rattle.hop_map.proofs.Keys.{are_bytes}
-use Rattle.hop_map.proofs.Wholes.{pair_at, kept_runs, lacks_of, searched_on, lock_leaves, saw_all}
-use Rattle.hop_map.proofs.Noted.{update_notes, notes_after}
+use Rattle.hop_map.proofs.Wholes.{holds_new, pair_at, kept_runs, lacks_of, searched_on, lock_leaves, saw_all}
+use Rattle.hop_map.proofs.Noted.{update_notes, notes_after, spilled_after}
 use Rattle.hop_map.proofs.updating.update.Goals as goal
 
 pub lock_and_refuse-lane-requires-clause-brought : goal.lock_and_refuse-lane-requires-clause-brought
@@ -69,3 +70,12 @@ pub lock_and_refuse-lane-requires-clause-lacks : goal.lock_and_refuse-lane-requi
 lock_and_refuse-lane-requires-clause-lacks g c =
     saw_all c.args.table.now.about c.args.lane.known c.args.map c.claim_free.new.lane.known (c.in-None.ensures.claimed.0.fresh ∙ c.requires.rests.fresh)
     (subst (λ (i : ℕ). SearchesInVain c.args.table.now.about c.args.lane.known i c.claim_free.new.lane.known) c.requires.arena.0 c.in-None.ensures.claimed.1)
+
+pub returns-in-Some-clause-spilled : goal.returns-in-Some-clause-spilled
+returns-in-Some-clause-spilled g c =
+    let kept = c.in-Some.ensures.claimed.0 in
+    spilled_after c.args.map c.args.lane.known c.claim_free.new.lane.known c.fill_and_put.result.0.known c.fill_and_put.result.1 kept.sights.0 c.fill_and_put.result.2 kept.sights.1 c.fill_and_put.ensures.spilled
+
+pub fill_and_put-requires-clause-new : goal.fill_and_put-requires-clause-new
+fill_and_put-requires-clause-new g c = subst (λ (i : ℕ). HoldsNew c.claim_free.new.lane.known i c.in-Some.element.number) c.requires.arena.0
+    (holds_new c.args.lane.known c.claim_free.new.lane.known c.args.arena.now.map c.in-Some.element.number c.requires.rests.fresh c.in-Some.ensures.claimed.0)

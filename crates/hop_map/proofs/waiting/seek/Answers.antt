@@ -3,15 +3,15 @@ use Rattle.hop_map.proofs.Ways.{begins, small, goes}
 use Rattle.hop_map.proofs.waiting.seek.Goals as goal
 
 pub way-init : goal.way-init
-way-init c =
+way-init g c =
     let w = c.first_way-way.ensures in
     record { table = refl; walking = begins c.args.table.now.about c.args.lane.now.known c.args.map c.args.home c.first_way-way.result w.inside (w.born c.args.lane.now.known) w.way w.few }
 
 pub towards-requires-clause-small : goal.towards-requires-clause-small
-towards-requires-clause-small c = small c.args.table.now.about c.args.map c.way.way.segment c.note_stamp-stamp.result c.note_stamp-stamp.ensures.noted.deep
+towards-requires-clause-small g c = small c.args.table.now.about c.args.map c.way.way.segment c.note_stamp-stamp.result c.note_stamp-stamp.ensures.noted.deep
 
 pub way-preserved : goal.way-preserved
-way-preserved c =
+way-preserved g c =
     let n = c.note_stamp-stamp in
     let e = c.in-Some.ensures.way in
     record {

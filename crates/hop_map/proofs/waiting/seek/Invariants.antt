@@ -3,7 +3,7 @@ use Rattle.hop_map.specs.Private.Locks.{Walking}
 use Rattle.hop_map.proofs.waiting.seek.Given as goal
 
 abbrev pub invariant-way : goal.invariant-way
-invariant-way l = record {
+invariant-way g l = record {
   table : l.lane.table ≡ l.fn.lane.table;
   walking : Walking l.table.about l.fn.lane.known l.map l.home l.way l._level l.lane.known;
 }

@@ -1,5 +1,8 @@
-use Rattle.std.proofs.Common.{◌≡◌, true, ℕ, length, get_or, set, refl, sym, subst, ◌∙◌}
+use Rattle.std.proofs.Common.{◌≡◌, true, ℕ, length, get_or, set, refl, ap, sym, subst, ◌∙◌, IfSome}
 use Rattle.bpf_shared.specs.declared.events.Event.TheVariants.{Update}
+use Rattle.bpf_shared.specs.declared.events.MapAnswer.TheVariants.{Done}
+use Rattle.hop_words.specs.declared.known.Known.{Known}
+use Rattle.hop_map.specs.Noting.{LockedLast}
 use Rattle.hop_map.specs.Port.{Port, runs, IsPortOf}
 use Rattle.hop_map.proofs.Ports.{still_runs, port_with, port_is, map_inside, follows_at, arenas_change, called_fits}
 use Rattle.hop_map.proofs.port.HopPort.update.Goals as goal
@@ -55,3 +58,10 @@ update-lane-requires-clause-inside g c =
     let is : port_with s i.arenas.items i.batches.items i.spilled ≡ c.args.self.now = sym (port_is i c.take.result s c.take.ensures.value c.in-Some.is) ∙ c.self.view_is in
     let h = subst (IsPortOf t) (sym is) c.requires.fits in
     h.cpu
+
+pub returns-clause-spilled : goal.returns-clause-spilled
+returns-clause-spilled g c =
+    let i = c.self.inside in
+    let s = c.in-Some.lane in
+    let is : port_with s i.arenas.items i.batches.items i.spilled ≡ c.args.self.now = sym (port_is i c.take.result s c.take.ensures.value c.in-Some.is) ∙ c.self.view_is in
+    subst (λ (k : Known). IfSome c.update-lane.result.2 (λ n. (c.update-lane.result.1 ≡ Done) × LockedLast c.args.map n k c.update-lane.result.0.known)) (ap (λ (q : Port). q.known) is) c.update-lane.ensures.spilled

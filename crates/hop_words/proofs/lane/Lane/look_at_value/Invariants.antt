@@ -2,4 +2,4 @@ use Rattle.std.specs.Prelude.{◌≡◌}
 use Rattle.hop_words.proofs.lane.Lane.look_at_value.Given as goal
 
 abbrev pub ghosts-load_by : goal.ghosts-load_by
-ghosts-load_by a = record { told = λ n l. l ≡ a.self.now.known }
+ghosts-load_by g a = record { told = λ n l. l ≡ a.self.now.known }

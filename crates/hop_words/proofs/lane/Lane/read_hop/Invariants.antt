@@ -1,6 +1,0 @@
-use Rattle.std.specs.Prelude.{◌≡◌}
-use Rattle.hop_words.specs.Locking.{locked_words}
-use Rattle.hop_words.proofs.lane.Lane.read_hop.Given as goal
-
-abbrev pub ghosts-load_by : goal.ghosts-load_by
-ghosts-load_by a = record { told = λ n l. (n ≡ (locked_words a.table.now.about a.self.now.known).hop a._said.0 a._said.1 a._said.2) × (l ≡ a.self.now.known) }
