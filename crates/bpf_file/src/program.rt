@@ -22,7 +22,7 @@ fn loaded(
 ) -> Result<Program, FileError>
     ensures { OrMemory (LoadsProgram line (length maps.now) insns.items) result }
 {
-    match load(alloc, insns, maps) {
+    match load(alloc, insns, maps.len()) {
         Ok(program) => Ok(program),
         Err(LoadError::OutOfMemory) => Err(FileError::OutOfMemory),
         Err(error) => Err(FileError::Refused(line, Reason::Load(error))),

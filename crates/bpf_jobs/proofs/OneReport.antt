@@ -1,15 +1,12 @@
 -- What is told of a run is one text.
-use Rattle.std.proofs.Common.{◌≡◌, ℕ, Bool, true, false, List, [], ◌++◌, length, Result, Ok, Err, sym, ap, subst, ◌∙◌}
-use Rattle.std.specs.declared.alloc.AllocError.{AllocError}
-use Rattle.std.specs.Prelude.{IfOk, string_bytes}
+use Rattle.std.proofs.Common.{◌≡◌, ℕ, Bool, true, false, List, ◌++◌, length, sym, ap, subst, ◌∙◌}
 use Rattle.bpf_shared.specs.Store.{Plain}
 use Rattle.bpf_machine.specs.Machine.{MachineState, Shows}
 use Rattle.bpf_machine.specs.Rounds.{RunsToEnd}
-use Rattle.bpf_machine.specs.Laws.{RoundsAreDetermined, RunsByAreDetermined}
+use Rattle.bpf_machine.specs.Laws.{RunsByAreDetermined}
 use Rattle.bpf_machine.specs.Schedule.{World, RunsSchedule, unrolled}
-use Rattle.bpf_jobs.specs.declared.rounds.Report.{Report}
-use Rattle.bpf_jobs.specs.Printed.{job_lines, lines_of_lists, AreMapsAsked, TellsWith, IsReport, IsReportBy}
-use Rattle.bpf_jobs.specs.Laws.{ReportsAreDetermined, ReportsByAreDetermined}
+use Rattle.bpf_jobs.specs.Printed.{job_lines, lines_of_lists, AreMapsAsked, TellsWith, IsReportBy}
+use Rattle.bpf_jobs.specs.Laws.{ReportsByAreDetermined}
 use Rattle.bpf_jobs.proofs.OneListing.{one_map_text}
 
 one_asked : (maps : Bool) (s : Plain) (names : List (List ℕ)) (text other : List ℕ) → AreMapsAsked maps s names text → AreMapsAsked maps s names other → text ≡ other
@@ -26,10 +23,6 @@ one_told z y names maps text other stopped halted same a b =
     let lines = one_asked maps z.store names a.0 there.0 a.1 there.1 in
     (a.2 ∙ ap (λ (x : List ℕ). job_lines (length z.jobs) z.jobs ++ (lines_of_lists z names ++ x)) lines ∙ sym there.2, a.3 ∙ sym there.3)
 
-pub reports_are_determined : RoundsAreDetermined → ReportsAreDetermined
-reports_are_determined law w names maps text other stopped halted fresh a b =
-    one_told a.0 b.0 names maps text other stopped halted (law w a.0 b.0 fresh a.1 b.1) a.2 b.2
-
 pub reports_by_are_determined : RunsByAreDetermined → ReportsByAreDetermined
 reports_by_are_determined law w runs names maps text other stopped halted fresh a b =
     one_told a.0 b.0 names maps text other stopped halted (law w a.0 b.0 (unrolled runs) fresh a.1 b.1) a.2 b.2
@@ -39,9 +32,3 @@ pub told : (w y : World) (runs : List (ℕ × ℕ)) → RunsSchedule w (unrolled
     → (m : MachineState) (names : List (List ℕ)) (maps : Bool) (text : List ℕ) (stopped : Bool) → ((z : World) × RunsToEnd y z × Shows m z)
     → ((z : World) → Shows m z → TellsWith (lines_of_lists z names) z.store z.jobs names maps text stopped) → IsReportBy w runs names maps text stopped
 told w y runs turned m names maps text stopped (z, ends, shows) tells = (z, (y, turned, ends), tells z shows)
-
--- no turns come before the rounds
-pub unscheduled : (w : World) (names : List (List ℕ)) (maps : Bool) (r : Result Report AllocError)
-    → IfOk r (λ r. IsReportBy w [] names maps (string_bytes r.text) r.stopped) → IfOk r (λ r. IsReport w names maps (string_bytes r.text) r.stopped)
-unscheduled w names maps (Ok r) (z, (y, none, ends), tells) = (z, subst (λ (x : World). RunsToEnd x z) none ends, tells)
-unscheduled w names maps (Err e) h = tt

@@ -12,7 +12,7 @@ use Rattle.bpf_cpu.specs.Lines.{job_line}
 use Rattle.bpf_cpu.specs.Task.{Task, ended, outcome_at}
 use Rattle.bpf_machine.specs.Listings.{first_lists, made_keys}
 use Rattle.bpf_machine.specs.Schedule.{World, unrolled}
-use Rattle.bpf_machine.specs.Rounds.{RunsBy, RunsToEnd}
+use Rattle.bpf_machine.specs.Rounds.{RunsBy}
 
 -- ---- jobs
 abbrev pub end_line : ℕ → Task → Option Outcome → List ℕ
@@ -120,11 +120,6 @@ Tells s jobs names maps text stopped = TellsWith [] s jobs names maps text stopp
 -- what the CPUs of a machine have listed
 abbrev pub lines_of_lists : World → List (List ℕ) → List ℕ
 lines_of_lists z names = list_lines (λ c. made_keys (z.lists c)) names z.store.shape.cpus
-
--- rounds lead to a last machine, of which this is told
-abbrev pub IsReport : World → List (List ℕ) → Bool → List ℕ → Bool → Type 0
-IsReport w names maps text stopped = (z : World) × RunsToEnd w z
-    × TellsWith (lines_of_lists z names) z.store z.jobs names maps text stopped
 
 -- the turns of a schedule, CPUs each with how many turns it takes before the next, and rounds behind
 -- them lead to a last machine, of which this is told

@@ -1,16 +1,10 @@
 //! What follows from the definition of what is printed.
 //!
 //! The function does nothing: its contract is the law.
-ghost use Rattle.bpf_jobs.specs.Laws.{ReportsAreDetermined, ReportsByAreDetermined};
+ghost use Rattle.bpf_jobs.specs.Laws.{ReportsByAreDetermined};
 
-/// What is printed is a function of the store's shape, the maps' names, the programs and the jobs.
-pub fn reports_are_determined()
-    ensures { ReportsAreDetermined }
-{
-    bpf_machine::laws::rounds_are_determined();
-}
-
-/// And of the schedule, where its turns come first.
+/// What is printed is a function of the store's shape, the maps' names, the programs, the jobs and the
+/// schedule.
 pub fn reports_by_are_determined()
     ensures { ReportsByAreDetermined }
 {

@@ -13,4 +13,4 @@ pub use line::{OutcomeText, is_stop, push_job};
 pub use listing::has_any_stopped;
 pub use lists::push_lists;
 pub use maps::push_map;
-pub use rounds::{Report, make_asked, make_machine, run_in_rounds, run_jobs, run_jobs_by, tell};
+pub use rounds::{Report, make_asked, make_machine, run_jobs_by, tell};

@@ -8,7 +8,7 @@ ghost use Rattle.bpf_plain.specs.PlainStore.{StandsFor};
 ghost use Rattle.bpf_cpu.specs.Task.{waiting};
 ghost use Rattle.bpf_machine.specs.Machine.{Shows};
 ghost use Rattle.bpf_machine.specs.Schedule.{World};
-ghost use Rattle.bpf_jobs.specs.Printed.{asked_world, first_world, AreMapsAsked, IsReport, IsReportBy, lines_of_lists, TellsWith};
+ghost use Rattle.bpf_jobs.specs.Printed.{asked_world, first_world, AreMapsAsked, IsReportBy, lines_of_lists, TellsWith};
 
 use crate::listing::{has_any_stopped, list_jobs};
 use crate::lists::list_keys;
@@ -113,30 +113,11 @@ pub fn tell(
     Ok(Report { text, stopped })
 }
 
-/// Runs jobs in rounds, until each has ended, over a new store whose maps have these names. Where
-/// keys are asked for, each CPU lists those of all maps with the end of its last job. Want of memory
-/// is the only refusal; all that the machine needs is there before its first turn.
-pub fn run_jobs(
-    alloc: Global,
-    shape: StoreShape,
-    names: &[String],
-    programs: Vec<Program>,
-    jobs: Vec<Job>,
-    keys: bool,
-    maps: bool,
-) -> Result<Report, AllocError>
-    requires cpus { All (λ job. job.cpu < shape.cpus) jobs.items }
-    requires programs { All (λ job. job.program < vec_len programs) jobs.items }
-    requires contexts { All (λ job. vec_len job.context ≤ max_context) jobs.items }
-    ensures { IfOk result (λ r. IsReport
-        (asked_world keys shape programs.items (map waiting jobs.items))
-        (map string_bytes names.now) maps (string_bytes r.text) r.stopped) }
-{
-    run_jobs_by(alloc, shape, names, programs, jobs, &[], keys, maps)
-}
-
-/// The same behind the turns of a schedule: CPUs, each with how many turns it takes before the next.
-/// Turns of a CPU without work change nothing, so those of one that the store hasn't do neither.
+/// Runs jobs over a new store whose maps have these names: first the turns of a schedule (CPUs, each
+/// with how many turns it takes before the next), then rounds until each job has ended. Turns of a CPU
+/// without work change nothing, and neither do those of a CPU that the store hasn't. Where keys are
+/// asked for, each CPU lists those of all maps with the end of its last job. The only refusal is out of
+/// memory; all that the machine needs is there before its first turn.
 pub fn run_jobs_by(
     alloc: Global,
     shape: StoreShape,
@@ -159,22 +140,4 @@ pub fn run_jobs_by(
     machine.rounds();
     let report = tell(alloc, &machine, names, maps)?;
     Ok(report)
-}
-
-/// Without a schedule and lists of keys.
-pub fn run_in_rounds(
-    alloc: Global,
-    shape: StoreShape,
-    names: &[String],
-    programs: Vec<Program>,
-    jobs: Vec<Job>,
-    maps: bool,
-) -> Result<Report, AllocError>
-    requires cpus { All (λ job. job.cpu < shape.cpus) jobs.items }
-    requires programs { All (λ job. job.program < vec_len programs) jobs.items }
-    requires contexts { All (λ job. vec_len job.context ≤ max_context) jobs.items }
-    ensures { IfOk result (λ r. IsReport (first_world shape programs.items (map waiting jobs.items))
-        (map string_bytes names.now) maps (string_bytes r.text) r.stopped) }
-{
-    run_jobs(alloc, shape, names, programs, jobs, false, maps)
 }

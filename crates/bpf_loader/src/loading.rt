@@ -1,6 +1,6 @@
 //! From a list of instructions to a program.
 
-ghost use Rattle.std.specs.Prelude.{◌≡◌, ◌≢◌, ◌≤◌, ◌<◌, [], length, IfOk, IfErr, OnOk, IfSome, IfNone, IsOkUnless};
+ghost use Rattle.std.specs.Prelude.{◌≡◌, ◌≢◌, ◌≤◌, ◌<◌, [], IfOk, IfErr, OnOk, IfSome, IfNone, IsOkUnless};
 ghost use Rattle.bpf_insn.specs.Refusal.{max_words};
 ghost use Rattle.bpf_insn.specs.Table.{word_length};
 ghost use Rattle.bpf_loader.specs.Sound.{IsSound, IsFirstRefusal};
@@ -10,7 +10,6 @@ use crate::loaded::Program;
 use crate::refusal::LoadError;
 use crate::slots::Slots;
 use bpf_insn::instruction::Insn;
-use bpf_shared::MapShape;
 use std::alloc::Global;
 
 const MAX_WORDS: usize = 65536;
@@ -31,14 +30,14 @@ fn word_count(insns: &[Insn]) -> Option<usize>
     Some(words)
 }
 
-/// The program of these instructions, which may name as many maps as there are shapes.
-pub fn load(alloc: Global, insns: Vec<Insn>, shapes: &[MapShape]) -> Result<Program, LoadError>
+/// The program of these instructions, which may name this many maps: those with the numbers below it.
+pub fn load(alloc: Global, insns: Vec<Insn>, maps: usize) -> Result<Program, LoadError>
     ensures instructions { IfOk result (λ p. p.instructions ≡ insns.items) }
-    ensures maps { IfOk result (λ p. p.maps ≡ length shapes.now) }
-    ensures sound { OnOk result (IsSound (length shapes.now) insns.items) }
+    ensures maps { IfOk result (λ p. p.maps ≡ maps) }
+    ensures sound { OnOk result (IsSound maps insns.items) }
     ensures refused { IfErr result
-        (λ e. e ≢ LoadError.OutOfMemory → IsFirstRefusal (length shapes.now) insns.items e) }
-    ensures accepted { IsSound (length shapes.now) insns.items
+        (λ e. e ≢ LoadError.OutOfMemory → IsFirstRefusal maps insns.items e) }
+    ensures accepted { IsSound maps insns.items
         → IsOkUnless result LoadError.OutOfMemory }
     // Memory is asked for where the list is neither empty nor too long.
     ensures memory { IfErr result (λ e. e ≡ LoadError.OutOfMemory
@@ -51,6 +50,6 @@ pub fn load(alloc: Global, insns: Vec<Insn>, shapes: &[MapShape]) -> Result<Prog
         return Err(LoadError::TooLong);
     };
     let slots = Slots::new(alloc, &insns, words).map_err(|_| LoadError::OutOfMemory)?;
-    check(&slots, shapes.len())?;
-    Ok(Program::new(slots, shapes.len()))
+    check(&slots, maps)?;
+    Ok(Program::new(slots, maps))
 }

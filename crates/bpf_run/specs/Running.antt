@@ -5,7 +5,6 @@ use Rattle.bpf_events.specs.Reports.{IsHistory}
 use Rattle.bpf_check.specs.Expectation.{expectations_of}
 use Rattle.bpf_check.specs.Single.{is_any_refuted, judged_text}
 use Rattle.bpf_workers.specs.Printed.{IsWorkersReport}
-use Rattle.bpf_workers.specs.Stats.{TellsStats}
 use Rattle.bpf_file.specs.declared.error.FileError.TheVariants as FileError
 use Rattle.bpf_file.specs.File.{File}
 use Rattle.bpf_file.specs.Reading.{IsRunFile}
@@ -62,13 +61,13 @@ IsJudgedOfFile by keys text = IsOfFile (IsJudgedBy by keys text) text
 -- `run --workers`: the lines of the jobs that the file says, ended as one history of a new store of
 -- its maps explains; then, where they are asked for, those of the keys that each CPU lists in this
 -- history behind its jobs, and those of the maps that it leaves; or the file's first refusal; or, of
--- a file that is accepted, want of memory for its jobs and lists; and beside them what is counted
--- of a store of its maps, where that is asked for
+-- a file that is accepted, out of memory for its jobs and lists; and beside them what is counted of
+-- the store that this history leaves, where that is asked for
 abbrev pub IsRunByWorkers : (stats keys maps : Bool) → List ℕ → Reply → Type 0
 IsRunByWorkers stats keys maps text (reply.Counted printed stopped counts) =
     (f : File) × IsRunFile text (Ok f)
-    × IsWorkersReport f keys maps (string_bytes printed) stopped
-    × TellsStats stats f (string_bytes counts)
+    × IsWorkersReport f (record { keys = keys; maps = maps; stats = stats })
+    (record { text = string_bytes printed; stopped = stopped; counts = string_bytes counts })
 IsRunByWorkers stats keys maps text (reply.Refused refusal.JobsOutOfMemory) =
     (f : File) × IsRunFile text (Ok f)
 IsRunByWorkers stats keys maps text (reply.Refused r) = RefusesFile text r

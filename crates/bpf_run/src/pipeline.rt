@@ -47,7 +47,7 @@ fn program(alloc: Global, text: &str) -> Result<Program, Refusal>
     ensures refused { IfErr result (RefusesProgram text.now) }
 {
     let insns = instructions(alloc, text)?;
-    load(alloc, insns, &[]).map_err(Refusal::Load)
+    load(alloc, insns, 0).map_err(Refusal::Load)
 }
 
 /// A store of no maps for one CPU.
