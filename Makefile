@@ -6,12 +6,12 @@ run: build ## Build the proved program as ./ebpf and run the first examples (the
 	echo 'b700000005000000 9500000000000000' | ./ebpf hex
 	./ebpf run --workers 2 --maps < examples/atomic-update.run
 
-build: ## Prove the program and build it as ./ebpf, saying meanwhile how far that is
+build: ## Prove the program and build it as ./ebpf, printing meanwhile how far that is
 	tools/prove bpf_run
 	cp crates/bpf_run/out/bpf_run ebpf
 
-try: ## Build ./ebpf-try in a minute: the same sources with the kit's checks on, of which nothing is proved
-	tools/try
+try: ## Build ./ebpf-try in minutes: the same sources without their proofs
+	tools/unproved
 
 web: build ## Make the page that steps the proved program in a browser: out/web/index.html
 	tools/web

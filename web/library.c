@@ -177,6 +177,28 @@ wide __lshrti3(wide number, int by) {
     return a.whole;
 }
 
+/* Long division, bit by bit: only numbers of 128 bits are printed by it. */
+static wide divided(wide number, wide by, wide *rest) {
+    wide quotient = 0;
+    *rest = 0;
+    for (int bit = 127; bit >= 0; bit--) {
+        *rest = __ashlti3(*rest, 1) | (__lshrti3(number, bit) & 1);
+        if (*rest >= by) *rest -= by, quotient |= __ashlti3(1, bit);
+    }
+    return quotient;
+}
+
+wide __udivti3(wide number, wide by) {
+    wide rest;
+    return divided(number, by, &rest);
+}
+
+wide __umodti3(wide number, wide by) {
+    wide rest;
+    divided(number, by, &rest);
+    return rest;
+}
+
 /* Files, arguments and the end. There is no environment and no signal. */
 
 static int error;
