@@ -39,6 +39,7 @@ test: ## The whole gate: every proof, every must-fail edit, every test, then the
 	tests/completions ./ebpf
 	tests/from-elf ./ebpf
 	tests/programs/compare ./ebpf
+	tests/dap ./ebpf
 	tests/page ./ebpf
 	$(MAKE) manual
 

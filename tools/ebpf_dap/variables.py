@@ -1,0 +1,167 @@
+"""What is shown of a CPU and of the maps: scopes, variables, and what a text in a watch or a hover names."""
+
+import re
+
+FRAMES, FRAME_STEP, FRAME_SIZE = 0x3_0000_0000, 0x1000, 512
+CONTEXT = 0x2_0000_0000
+VALUES = 0x10_0000_0000
+HELD = re.compile(r"(\w+)\[([^\]]*)\] (\d+) ([0-9a-f]*)")
+ELEMENT = re.compile(r"(\w+)\[(0x[0-9a-f]+|\d+|[0-9a-f]+)\]")
+# Linux's numbers of the errors that helpers return.
+ERRORS = {2: "ENOENT", 7: "E2BIG", 12: "ENOMEM", 16: "EBUSY", 17: "EEXIST", 22: "EINVAL"}
+
+
+def number_of(data):
+    """Returns bytes as text: as a number, too, where a program could load them at once."""
+    shown = data.hex()
+    return f"{int.from_bytes(data, 'little')} (0x{shown})" if len(data) in (1, 2, 4, 8) else shown
+
+
+class Variables:
+    """Scopes and variables of one stop. Each that has parts has a number, which is good until the next stop."""
+
+    def __init__(self, machine, run_file):
+        self.machine, self.run_file, self.parts = machine, run_file, []
+
+    def reference(self, make):
+        """Returns the number of variables that are made when they are asked for."""
+        self.parts.append(make)
+        return len(self.parts)
+
+    def made(self, reference):
+        """Returns the variables with this number, or None where there are none."""
+        return self.parts[reference - 1]() if 0 < reference <= len(self.parts) else None
+
+    def scopes(self, cpu):
+        """Returns the scopes of a CPU: registers, memory, held values; and the maps, which are everybody's."""
+        found = [
+            ("Registers", lambda: self.registers(cpu), "registers"),
+            ("Frames", lambda: self.frames(cpu), "locals"),
+            ("Context", lambda: self.context(cpu), "arguments"),
+            ("Held values", lambda: self.held(cpu), None),
+            ("Maps", self.maps, None),
+            ("Jobs", self.jobs, None),
+        ]
+        made = []
+        for name, make, hint in found:
+            scope = {"name": name, "variablesReference": self.reference(make), "expensive": False}
+            made.append({**scope, "presentationHint": hint} if hint else scope)
+        return made
+
+    def plain(self, name, value, **more):
+        return {"name": name, "value": value, "variablesReference": 0, **more}
+
+    def group(self, name, value, make):
+        return {"name": name, "value": value, "variablesReference": self.reference(make)}
+
+    def registers(self, cpu):
+        held = self.held_spans(cpu)
+        made = []
+        for number, value in enumerate(self.machine.registers(cpu)):
+            meaning = self.meaning(value, held)
+            more = {"memoryReference": f"{cpu}:{value:#x}"} if meaning else {}
+            text = f"{value} ({value:#x})" if value > 9 else str(value)
+            made.append(self.plain(f"r{number}", f"{text} {meaning}".rstrip(), evaluateName=f"r{number}", **more))
+        return made
+
+    def meaning(self, value, held):
+        """Says what a number is where it is an address, a map or an error's number."""
+        for name, address, data in held:
+            if address <= value < address + len(data):
+                return f"{name}+{value - address}"
+        frame, offset = divmod(value - FRAMES, FRAME_STEP)
+        if 0 <= frame < 8 and offset <= FRAME_SIZE:
+            return f"frame {frame}, {FRAME_SIZE - offset} bytes below its end"
+        if CONTEXT <= value <= CONTEXT + 4096:
+            return f"context+{value - CONTEXT}"
+        if 0 <= value - (1 << 32) < len(self.run_file.maps):
+            return f"map {self.run_file.maps[value - (1 << 32)].name}"
+        if 0 < 2**64 - value <= 4095:
+            return f"-{2**64 - value} {ERRORS.get(2**64 - value, '')}".rstrip()
+        return ""
+
+    def frames(self, cpu):
+        """The numbers of a CPU's live frames that aren't 0, the newest frame first."""
+        where, made = self.machine.where[cpu], []
+        if not where.has_work or where.is_waiting:
+            return made
+        for frame in reversed(range(where.depth)):
+            data = self.machine.bytes_at(cpu, FRAMES + FRAME_STEP * frame, FRAME_SIZE) or b""
+            words = [(at, data[at : at + 8]) for at in range(0, len(data), 8) if any(data[at : at + 8])]
+            for at, word in reversed(words):
+                name = f"r10 - {FRAME_SIZE - at}" + (f" of frame {frame}" if where.depth > 1 else "")
+                reference = f"{cpu}:{FRAMES + FRAME_STEP * frame + at:#x}"
+                made.append(self.plain(name, number_of(word), memoryReference=reference))
+        return made
+
+    def context(self, cpu):
+        """A CPU's context, sixteen bytes a line: as long as its program may read."""
+        where, made, at = self.machine.where[cpu], [], 0
+        if not where.has_work or where.is_waiting:
+            return made
+        while at < 4096:
+            count = next((it for it in range(16, 0, -1) if self.machine.bytes_at(cpu, CONTEXT + at, it) is not None), 0)
+            if not count:
+                break
+            data = self.machine.bytes_at(cpu, CONTEXT + at, count)
+            made.append(self.plain(f"context+{at}", data.hex(" "), memoryReference=f"{cpu}:{CONTEXT + at:#x}"))
+            at += count
+        return made
+
+    def held_spans(self, cpu):
+        """Returns the values that a CPU's job holds: name, address, bytes."""
+        found = (HELD.fullmatch(line) for line in self.machine.one(f"held {cpu}"))
+        return [(f"{it[1]}[{it[2]}]", int(it[3]), bytes.fromhex(it[4])) for it in found if it]
+
+    def held(self, cpu):
+        made = []
+        for name, address, data in self.held_spans(cpu):
+            made.append(self.plain(name, number_of(data), memoryReference=f"{cpu}:{address:#x}"))
+        return made
+
+    def maps(self):
+        return [self.group(it.name, self.counted(it), lambda it=it: self.pairs(it)) for it in self.run_file.maps]
+
+    def counted(self, it):
+        count = len(self.machine.one(f"keys {it.name}"))
+        return f"{count} key{'' if count == 1 else 's'}"
+
+    def pairs(self, it):
+        """The keys of a map with their values."""
+        made = []
+        for line in self.machine.one(f"map {it.name}"):
+            key, _, value = line.partition("=")
+            name = f"{it.name}[{key}]"
+            made.append(self.plain(name, number_of(bytes.fromhex(value)), evaluateName=name))
+        return made
+
+    def jobs(self):
+        return [self.job(line) for line in self.machine.one("jobs")]
+
+    def job(self, line):
+        """How a job ended, or that it is open, by the line that the debugger prints of it."""
+        words = line.split(" ", 4)
+        return self.plain(" ".join(words[:4]), words[4])
+
+    def named(self, cpu, text):
+        """Returns a variable by its name: `r3`, `counter`, `counter[00000000]`, `counter[0]`; None where none has it."""
+        text = text.strip()
+        if re.fullmatch(r"[rw]\d+", text):
+            found = [it for it in self.registers(cpu) if it["name"] == f"r{text[1:]}"]
+            return found[0] if found else None
+        for it in self.run_file.maps:
+            if it.name == text:
+                return self.group(it.name, self.counted(it), lambda it=it: self.pairs(it))
+            if (found := ELEMENT.fullmatch(text)) and found[1] == it.name:
+                return self.element(it, found[2])
+        return None
+
+    def element(self, it, key):
+        """Returns the value of a key, which is all its bytes in hex, or a number."""
+        if len(key) != 2 * it.key:
+            try:
+                key = int(key, 0).to_bytes(it.key, "little").hex()
+            except (ValueError, OverflowError):
+                return None
+        found = [pair for pair in self.pairs(it) if pair["name"] == f"{it.name}[{key}]"]
+        return found[0] if found else self.plain(f"{it.name}[{key}]", "no value")
