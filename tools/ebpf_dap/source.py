@@ -12,7 +12,6 @@ from pathlib import Path
 TOOLS = Path(__file__).resolve().parent.parent
 LISTED = re.compile(r"^(?P<text>.*) ; (?P<pc>\d+): [0-9a-f]+$")
 LABEL = re.compile(r"^\s*([A-Za-z_]\w*):")
-CLANG = ["-O2", "-g", "-target", "bpf", "-mcpu=v3"]
 
 
 class SourceError(Exception):
@@ -152,25 +151,11 @@ def read_run_file(ebpf, path, text):
     return made
 
 
-def compile_c(path, room):
-    """Compiles C for BPF; returns the object."""
-    clang = shutil.which("clang") or shutil.which("clang-14")
-    if clang is None:
-        raise SourceError(f"{path}: clang isn't installed, which compiles C for BPF")
-    include = [f"-I{it}" for it in Path("/usr/include").glob("*-linux-gnu")]
-    made = Path(room) / f"{Path(path).stem}.o"
-    done = subprocess.run([clang, *CLANG, *include, "-c", path, "-o", made], capture_output=True, text=True)
-    if done.returncode:
-        raise SourceError(done.stderr.strip())
-    return made
-
-
 def from_object(ebpf, path, jobs, cpus):
     """Makes a run file of an object, or of C, by tools/from-elf; returns its text and the lines of C by program and pc."""
     with tempfile.TemporaryDirectory() as room:
-        made = compile_c(path, room) if path.endswith(".c") else path
         lines = Path(room) / "lines.json"
-        words = [sys.executable, tool("from-elf"), made, "--ebpf", ebpf, "--lines", lines]
+        words = [sys.executable, tool("from-elf"), path, "--ebpf", ebpf, "--lines", lines]
         words += ["--cpus", str(cpus)] if cpus else []
         for job in jobs:
             words += ["--job", job]
