@@ -1,7 +1,7 @@
 'use strict';
 
-// Ten lessons. Each sets a run file and turns, asks for something, and tells by what the program answers
-// whether it is met. In texts, what stands between ` is code.
+// Twelve lessons. Each sets a run file and turns, asks for something, and says by what the program answers
+// whether it is met. In texts, what is between ` is code.
 
 const FIRST = `ebpf-run 1
 
@@ -117,6 +117,131 @@ end
 
 job 0 count
 job 1 count
+`;
+
+const TWO_LOCKS = `ebpf-run 1
+cpus 2
+map locks key 4 value 16 max 1 spare 1 ; two words, a lock each
+
+prog first
+        *(u32 *)(r10 - 4) = 0
+        *(u64 *)(r10 - 24) = 0
+        *(u64 *)(r10 - 16) = 0
+        r1 = map 0
+        r2 = r10
+        r2 += -4
+        r3 = r10
+        r3 += -24
+        r4 = 1
+        call 2
+        r1 = map 0
+        r2 = r10
+        r2 += -4
+        call 1
+        r7 = r0
+one:    r0 = 0
+        r1 = 1
+        r0 = cmpxchg_64(r7 + 0, r0, r1) ; takes the one lock,
+        if r0 != 0 goto one
+two:    r0 = 0
+        r1 = 1
+        r0 = cmpxchg_64(r7 + 8, r0, r1) ; and then the other
+        if r0 != 0 goto two
+        r1 = 0
+        r1 = xchg_64(r7 + 8, r1)        ; gives both back
+        r1 = 0
+        r1 = xchg_64(r7 + 0, r1)
+        r0 = 0
+        exit
+end
+
+prog second
+        *(u32 *)(r10 - 4) = 0
+        *(u64 *)(r10 - 24) = 0
+        *(u64 *)(r10 - 16) = 0
+        r1 = map 0
+        r2 = r10
+        r2 += -4
+        r3 = r10
+        r3 += -24
+        r4 = 1
+        call 2
+        r1 = map 0
+        r2 = r10
+        r2 += -4
+        call 1
+        r7 = r0
+one:    r0 = 0
+        r1 = 1
+        r0 = cmpxchg_64(r7 + 8, r0, r1) ; takes the other lock first
+        if r0 != 0 goto one
+two:    r0 = 0
+        r1 = 1
+        r0 = cmpxchg_64(r7 + 0, r0, r1)
+        if r0 != 0 goto two
+        r1 = 0
+        r1 = xchg_64(r7 + 0, r1)
+        r1 = 0
+        r1 = xchg_64(r7 + 8, r1)
+        r0 = 0
+        exit
+end
+
+job 0 first
+job 1 second
+`;
+
+const MESSAGE = `ebpf-run 1
+cpus 2
+map box key 4 value 16 max 1 spare 1 ; a message, and whether it is there
+
+prog send
+        *(u32 *)(r10 - 4) = 0
+        *(u64 *)(r10 - 24) = 0
+        *(u64 *)(r10 - 16) = 0
+        r1 = map 0
+        r2 = r10
+        r2 += -4
+        r3 = r10
+        r3 += -24
+        r4 = 1
+        call 2
+        r1 = map 0
+        r2 = r10
+        r2 += -4
+        call 1
+        r7 = r0
+        *(u64 *)(r7 + 8) = 1    ; it is there
+        *(u64 *)(r7 + 0) = 42   ; the message
+        r0 = 0
+        exit
+end
+
+prog receive
+        *(u32 *)(r10 - 4) = 0
+        *(u64 *)(r10 - 24) = 0
+        *(u64 *)(r10 - 16) = 0
+        r1 = map 0
+        r2 = r10
+        r2 += -4
+        r3 = r10
+        r3 += -24
+        r4 = 1
+        call 2
+        r1 = map 0
+        r2 = r10
+        r2 += -4
+        call 1
+        r7 = r0
+        r1 = *(u64 *)(r7 + 8)   ; is it there?
+        r0 = 42
+        if r1 == 0 goto done
+        r0 = *(u64 *)(r7 + 0)   ; the message
+done:   exit
+end
+
+job 0 send
+job 1 receive
 `;
 
 const HELD = `ebpf-run 1
@@ -246,6 +371,33 @@ async function every_order_counts({ file }, machine) {
     return met('Whatever the order of turns, the counter ends at 2.');
 }
 
+async function every_order_ends({ file }, machine) {
+    const { stdout } = await machine.engine.call(['explore', '--patient', '--limit', String(MOST_STATES)], file.text);
+    const lines = text_of(stdout).split('\n');
+    const hung = lines.find((line) => line.startsWith('hung by'));
+    if (hung) {
+        const turns = turns_of_schedule(hung.slice('hung by '.length), MOST_TURNS);
+        return { ...not_yet('In some order of turns each CPU waits for the other, for ever.'), turns };
+    }
+    if (!lines.some((line) => line.startsWith('all: '))) return not_yet(`There are more than ${MOST_STATES} states: it can be said shorter.`);
+    if (!lines.some((line) => line.startsWith('job 0 cpu 0 r0=0'))) return not_yet('Both jobs have to end with r0=0.');
+    const takes = file.text.split('\n').filter((line) => /cmpxchg_64/.test(line.split(';')[0])).length;
+    return takes < 4 ? not_yet('Each program has to take both locks.') : met('Whatever the order of turns, both jobs can end.');
+}
+
+async function every_message_arrives({ file }, machine) {
+    const { stdout } = await machine.engine.call(['explore', '--limit', String(MOST_STATES)], file.text);
+    const { found, is_all } = read_explored(text_of(stdout));
+    const wrong = found.find(({ lines }) => !lines.includes('job 1 cpu 1 r0=42'));
+    if (wrong) {
+        const bad = wrong.lines.find((line) => line.startsWith('job 1 ')) ?? 'job 1 has no end';
+        return { ...not_yet(`In some order of turns: ${bad}.`), turns: turns_of_schedule(wrong.schedule, MOST_TURNS) };
+    }
+    if (!is_all) return not_yet(`There are more than ${MOST_STATES} states: it can be said shorter.`);
+    const is_kept = /\(r7 \+ 8\) = 1/.test(file.text) && /\(r7 \+ 0\) = 42/.test(file.text) && /if r1 == 0/.test(file.text);
+    return is_kept ? met('Whoever sees that the message is there sees the message.') : not_yet('Both stores, and the question, have to stay.');
+}
+
 function tries_in_vain(state) {
     const { file, turns, shown, known, views } = state;
     const listing = file.listings.get(file.jobs[1]?.program) ?? [];
@@ -255,7 +407,7 @@ function tries_in_vain(state) {
     const is_kept = number_in(state, 'guarded') === 1n && !views.after.places[0].is_idle;
     if (!is_kept) return not_yet('CPU 0 has to keep the lock meanwhile.');
     const said = `CPU 1 has tried ${counted(tries, 'time')}`;
-    return tries < 2 ? not_yet(`${said}.`) : met(`${said}, and turns in its circle: the lock is still 1.`);
+    return tries < 2 ? not_yet(`${said}.`) : met(`${said}, and spins: the lock is still 1.`);
 }
 
 function inserts_while_held(state) {
@@ -264,7 +416,7 @@ function inserts_while_held(state) {
     if (end_of(state, 0)) return not_yet('CPU 0 has to hold its value meanwhile: set the lesson again.');
     if (end.how === 'r0=18446744073709551604') return not_yet('call 2 answered 2^64 - 12, which is -ENOMEM.');
     if (end.how !== 'r0=0') return not_yet(`CPU 1's job ended: ${end.how}.`);
-    return met('call 2 answered 0: the other value stands in the spare element, and CPU 0 still holds its own.');
+    return met('call 2 answered 0: the other value is in the spare element, and CPU 0 still holds its own.');
 }
 
 function key_is_there({ views, known, shown }) {
@@ -289,7 +441,7 @@ const LESSONS = [
     {
         title: 'Memory',
         text:
-            '`r10` points behind the last byte of the frame, 512 bytes that the program may use. A store ' +
+            '`r10` points past the last byte of the frame, 512 bytes that the program may use. A store ' +
             'of `u32` writes four bytes there, the lowest byte of the number first.',
         task: 'One of the four bytes is 1. Change the load of `u8`, not the store, so that the job ends with r0=1.',
         file: BYTES,
@@ -301,7 +453,7 @@ const LESSONS = [
         text:
             '`r1` is the address of the context: bytes that the job is given, here none. A load from ' +
             'where nothing is ends the job with a fault: its name, F1, and its pc.',
-        task: 'Give the job a byte: write `ctx 2a` behind its last line. It has to end with r0=42.',
+        task: 'Give the job a byte: write `ctx 2a` after its last line. It has to end with r0=42.',
         file: READ,
         turns: [0],
         check: (state) => ends_with(state, 0, 'r0=42'),
@@ -320,7 +472,7 @@ const LESSONS = [
         title: 'A lost update',
         text:
             'Both CPUs run the same program: load the counter, add 1, store it. Both have looked it up ' +
-            'and stand before the load; `0` and `1` say whose turn it is. One after the other, they ' +
+            'and are before the load; `0` and `1` say whose turn it is. One after the other, they ' +
             'count to 2. But between the load of one and its store, the other may load too.',
         task: 'Find an order in which both jobs end, and the counter is 1: an addition is lost.',
         file: ADD,
@@ -347,6 +499,28 @@ const LESSONS = [
         file: LOCK,
         turns: times(18, 0),
         check: tries_in_vain,
+    },
+    {
+        title: 'A deadlock',
+        text:
+            'Two locks, of which each program takes both, and gives both back. But they take them in ' +
+            'another order: when each CPU has one, each waits for the other\'s, for ever. The page has ' +
+            'the program go through every order of turns, and shows you one that can\'t end.',
+        task: 'Let `second` take the locks in the order of `first`.',
+        file: TWO_LOCKS,
+        turns: [...times(19, 0), ...times(19, 1)],
+        check: every_order_ends,
+    },
+    {
+        title: 'A message',
+        text:
+            'CPU 0 writes a message and a word that says it is there. CPU 1 looks at that word once, and ' +
+            'takes the message where it is there. In some order of turns it takes a message that nobody ' +
+            'has written yet. (On Arm, plain stores would not be enough even in the right order.)',
+        task: 'Swap the two stores of `send`, so that job 1 ends with r0=42 whatever the order of turns.',
+        file: MESSAGE,
+        turns: times(15, 0),
+        check: every_message_arrives,
     },
     {
         title: 'A pointer that outlives its run',
@@ -376,9 +550,9 @@ const LESSONS = [
         text:
             'On threads (`--workers`) a map is a hopscotch table: an item stands near its bucket, so that ' +
             'a lookup reads few places. Here a program plays it in 8 places, of which 4 are near: the ' +
-            'bucket\'s own and the 3 behind it. The free place 5 is too far from bucket 0, so an item ' +
+            'bucket\'s own and the 3 after it. The free place 5 is too far from bucket 0, so an item ' +
             'moves there, and the new one takes its place.',
-        task: 'Which item stays near its bucket at place 5? Name its place behind `ctx`: job 1 has to end with r0=3.',
+        task: 'Which item stays near its bucket at place 5? Name its place after `ctx`: job 1 has to end with r0=3.',
         file: SEGMENT,
         turns: times(11 + 8, 0),
         check: (state) => ends_with(state, 1, 'r0=3'),
