@@ -1,4 +1,5 @@
 pub mod Explained
+pub mod Laws
 pub mod Working
 pub mod Worked
 pub mod Refusing

@@ -5,6 +5,7 @@ pub mod assignment;
 pub mod crew;
 pub mod gate;
 pub mod jobs;
+pub mod laws;
 pub mod refusal;
 pub mod room;
 mod telling;

@@ -2,6 +2,7 @@
 //! them.
 #![tactic(auto)]
 
+pub mod laws;
 mod stats;
 mod telling;
 mod workers;

@@ -18,15 +18,15 @@ use Rattle.hop_layout.specs.Layout.{power, depth, segments}
 use Rattle.hop_layout.proofs.Births.{mod_small, mod_low, some_power}
 use Rattle.hop_words.specs.Depths.{stamp_depth, home_by}
 use Rattle.hop_words.specs.Ghost.{shape_at, IsHomeIn, IsSegment, Each}
-use Rattle.hop_words.specs.Kinds.{SaysDepth, LocksSegment, locking, ShowsIn, IsShownIn, AreElsewhere, AnsweredAll, TakesEffect}
+use Rattle.hop_words.specs.Kinds.{SaysDepth, LocksSegment, locking, ShowsIn, IsShownIn, AreElsewhere, TakesEffect}
 use Rattle.std.specs.Prelude.{slice_index_or}
 use Rattle.hop_words.specs.Locking.{lock_of, other_locks, unlocking_last, no_lock, HasLastLock}
 use Rattle.hop_words.specs.Owning.{tail_of}
-use Rattle.hop_words.specs.Listing.{ListsSegment, ListsMap, IsHomeAmong}
+use Rattle.hop_words.specs.Listing.{ListsSegment, ListsMap, IsHomeAmong, lock_given, AnswersGiving}
 use Rattle.hop_words.specs.declared.known.Sight.{Sight}
-use Rattle.hop_words.specs.Sights.{lock_taken}
-use Rattle.hop_map.specs.Noting.{TakesLocks, CallNotes}
-use Rattle.hop_map.specs.Private.Listing.{Falls, IsOwnedAmong, Covers, Gathers, Opens, Adds, NotesLock, LocksMore, ReadsMore, Listed}
+use Rattle.hop_words.specs.Sights.{sight, sighted, lock_taken}
+use Rattle.hop_map.specs.Noting.{undone, TakesLocks}
+use Rattle.hop_map.specs.Private.Listing.{Falls, IsOwnedAmong, Covers, Gathers, Opens, Adds, taken_by, given_back, NotesLock, NotesLocks, LocksMore, ReadsMore, Listed}
 use Rattle.hop_map.specs.Private.Locks.{Sought, IsUnborn}
 use Rattle.hop_map.proofs.Locking.{locked_contents}
 use Rattle.hop_map.proofs.Ports.{by_equal}
@@ -234,8 +234,8 @@ module _ (a : About) (l : Known) (m s : ℕ) (l2 : Known) (u : IsUnborn a l m s 
     distinct = g.distinct;
   })
 
-  pub passed_notes : s < segments (shape_at a m) → NotesLock a m s l.tally l2.tally
-  passed_notes inside = inr (unborn_grows inside, ap (λ (x : Known). x.tally) u.sought.noted.after)
+  pub passed_notes : s < segments (shape_at a m) → NotesLock a m s l l2
+  passed_notes inside = inr (unborn_grows inside, ap (λ (x : Known). x.tally) u.sought.noted.after, same_locks)
 
   pub passed_more : LocksMore l l2
   passed_more = u.sought.noted.after ∙ ap (λ (x : Known). record l { locks = x.locks; readings = x.readings; tally = x.tally }) (sym u.sought.noted.after)
@@ -285,33 +285,69 @@ covers_none a m [] c = refl
 covers_none a m (k ∷ ks) c = absurd (let z = c.falls.1 in omega arith)
 
 -- one lock more was taken, and noted
-pub takes_one : (a : About) (m s : ℕ) (before old new : List Sight) → (sights : List Sight) × (old ≡ sights ++ before) × TakesLocks a m s sights → NotesLock a m s old new
-    → (sights : List Sight) × (new ≡ sights ++ before) × TakesLocks a m (s + 1) sights
-takes_one a m s before old new (sights, is, takes) = ⊎_elim
-    (λ (more : (n : ℕ) × (new ≡ lock_taken m s n ∷ old)). (
-      lock_taken m s more.0 ∷ sights,
-      more.1 ∙ ap (λ (z : List Sight). lock_taken m s more.0 ∷ z) is,
-      subst (λ (i : ℕ). TakesLocks a m i (lock_taken m s more.0 ∷ sights)) (sym next) (inl (more.0, sights, refl, takes)),
-    ))
-    (λ (none : ((shape_at a m).grow ≡ true) × (new ≡ old)). (
-      sights,
-      none.1 ∙ is,
-      subst (λ (i : ℕ). TakesLocks a m i sights) (sym next) (inr (none.0, takes)),
-    ))
+pub takes_one : (a : About) (m s : ℕ) (l x y : Known) → NotesLocks a l m s x → NotesLock a m s x y → NotesLocks a l m (s + 1) y
+takes_one a m s l x y h = ⊎_elim
+    (λ (more : (n : ℕ) × (y.tally ≡ lock_taken m s n ∷ x.tally) × (taken_by y.locks ≡ lock_taken m s n ∷ taken_by x.locks)). record {
+      tally = more.1 ∙ (ap (λ (z : List Sight). lock_taken m s more.0 ∷ z) h.tally ∙ ap (λ (z : List Sight). z ++ l.tally) (sym more.2));
+      takes = subst (TakesLocks a m (s + 1)) (sym more.2) (subst (λ (i : ℕ). TakesLocks a m i (lock_taken m s more.0 ∷ taken_by x.locks)) (sym next) (inl (more.0, taken_by x.locks, refl, h.takes)));
+    })
+    (λ (none : ((shape_at a m).grow ≡ true) × (y.tally ≡ x.tally) × (y.locks ≡ x.locks)). record {
+      tally = none.1 ∙ (h.tally ∙ ap (λ (ks : List Lock). taken_by ks ++ l.tally) (sym none.2));
+      takes = subst (λ (i : ℕ). TakesLocks a m i (taken_by y.locks)) (sym next) (inr (none.0, subst (λ (ks : List Lock). TakesLocks a m s (taken_by ks)) (sym none.2) h.takes));
+    })
   where
     next : s + 1 ≡ suc s
     next = omega arith
 
--- from before the first lock to behind the last unlock
-pub listed_whole : (a : About) (l l1 l2 l3 : Known) (m : ℕ) (keys : List (List ℕ)) (rest : List Lock) → LocksMore l l1 → CallNotes a (Keys m keys) l l1 → AnsweredAll a l1 rest (Keys m keys) l2 → l3 ≡ record l2 { locks = l3.locks; readings = l3.readings } → l3.locks ≡ l.locks → Listed a l m keys l3
-listed_whole a l l1 l2 l3 m keys rest locked (sights, noted, may) p kept same = record {
-  seen = subst (TakesEffect a l (Keys m keys)) (sym (ap (λ (x : Known). x.seen) whole)) (let w = subst (λ (x : Known). TakesEffect a x (Keys m keys) l2.seen) locked p.seen in record { others = w.others; foreign = w.foreign; after = w.after; legal = w.legal });
-  noted = (sights, ap (λ (x : Known). x.tally) whole ∙ noted, may);
-  after = whole ∙ (λ j. record l { seen = sym (ap (λ (x : Known). x.seen) whole) j; locks = same j; readings = l3.readings; tally = sym (ap (λ (x : Known). x.tally) whole) j });
+pub notes_none : (a : About) (l : Known) (m : ℕ) → l.locks ≡ [] → NotesLocks a l m 0 l
+notes_none a l m idle = record { tally = ap (λ (ks : List Lock). taken_by ks ++ l.tally) (sym idle); takes = ap taken_by idle }
+
+pub notes_read : (a : About) (l : Known) (m n : ℕ) (x y : Known) → NotesLocks a l m n x → ReadsMore x y → NotesLocks a l m n y
+notes_read a l m n x y h q =
+    let locks : y.locks ≡ x.locks = ap (λ (u : Known). u.locks) q in
+    record {
+      tally = ap (λ (u : Known). u.tally) q ∙ (h.tally ∙ ap (λ (ks : List Lock). taken_by ks ++ l.tally) (sym locks));
+      takes = subst (λ (ks : List Lock). TakesLocks a m n (taken_by ks)) (sym locks) h.takes;
+    }
+
+undone-append : (xs ys zs : List Sight) → undone xs (ys ++ zs) ≡ undone xs ys ++ zs
+undone-append [] ys zs = refl
+undone-append (x ∷ xs) ys zs = undone-append xs (sight x.place x.left x.found ∷ ys) zs
+
+-- the locks are given back, each with the number at which it was taken
+given_undone : (ks : List Lock) (sights : List Sight) → given_back ks sights ≡ undone (taken_by ks) sights
+given_undone [] sights = refl
+given_undone (k ∷ ks) sights = given_undone ks (lock_given k ∷ sights)
+
+-- from before the first lock to after the last unlock
+pub listed_whole : (a : About) (l l1 l2 l3 : Known) (m : ℕ) (keys : List (List ℕ)) → l.locks ≡ [] → LocksMore l l1 → NotesLocks a l m (segments (shape_at a m)) l1 → l1.locks ≡ lock_of l1 ∷ other_locks l1 → AnswersGiving a l1 (Keys m keys) l2
+    → l3 ≡ record l2 { locks = l3.locks; readings = l3.readings; tally = l3.tally } → given_back l3.locks l3.tally ≡ given_back l2.locks l2.tally → l3.locks ≡ [] → Listed a l m keys l3
+listed_whole a l l1 l2 l3 m keys idle locked noted last (x, p, is) kept gives none = record {
+  seen = subst (TakesEffect a l (Keys m keys)) (sym (ap (λ (u : Known). u.seen) whole)) (let w = subst (λ (u : Known). TakesEffect a u (Keys m keys) x.seen) locked p.seen in record { others = w.others; foreign = w.foreign; after = w.after; legal = w.legal });
+  noted = (undone ts ts, tally, (ts, noted.takes, refl));
+  after = whole ∙ (λ j. record l { seen = sym (ap (λ (u : Known). u.seen) whole) j; locks = (none ∙ sym idle) j; readings = l3.readings; tally = l3.tally });
 }
   where
-    whole : l3 ≡ record l { seen = l2.seen; locks = l3.locks; readings = l3.readings; tally = l1.tally }
-    whole = kept ∙ (ap (λ (x : Known). record x { locks = l3.locks; readings = l3.readings }) p.after ∙ ap (λ (x : Known). record x { seen = l2.seen; locks = l3.locks; readings = l3.readings }) locked)
+    whole : l3 ≡ record l { seen = x.seen; locks = l3.locks; readings = l3.readings; tally = l3.tally }
+    whole = kept ∙ (ap (λ (u : Known). record u { locks = l3.locks; readings = l3.readings; tally = l3.tally }) is
+        ∙ (ap (λ (u : Known). record u { locks = l3.locks; readings = l3.readings; tally = l3.tally }) p.after
+        ∙ ap (λ (u : Known). record u { seen = x.seen; locks = l3.locks; readings = l3.readings; tally = l3.tally }) locked))
+
+    ts : List Sight
+    ts = taken_by l1.locks
+
+    -- the listing's own unlock comes first
+    first : given_back l2.locks l2.tally ≡ given_back l1.locks l1.tally
+    first =
+        ap (λ (u : Known). given_back u.locks u.tally) is
+        ∙ (ap (λ (u : Known). given_back u.locks (lock_given (lock_of l1) ∷ u.tally)) p.after
+        ∙ ap (λ (ks : List Lock). given_back ks l1.tally) (sym last))
+
+    tally : l3.tally ≡ undone ts ts ++ l.tally
+    tally =
+        ap (λ (ks : List Lock). given_back ks l3.tally) (sym none)
+        ∙ (gives ∙ (first ∙ (given_undone l1.locks l1.tally
+        ∙ (ap (undone ts) noted.tally ∙ undone-append ts ts l.tally))))
 
 pub locked_on : (l l1 l2 : Known) → LocksMore l l1 → LocksMore l1 l2 → LocksMore l l2
 locked_on l l1 l2 p q = q ∙ ap (λ (x : Known). record x { locks = l2.locks; readings = l2.readings; tally = l2.tally }) p
@@ -320,14 +356,21 @@ pub locked_read : (l l1 l2 : Known) → LocksMore l l1 → ReadsMore l1 l2 → L
 locked_read l l1 l2 p q = q ∙ (ap (λ (x : Known). record x { readings = l2.readings }) p ∙ (λ j. record l { locks = sym (ap (λ (x : Known). x.locks) q) j; readings = l2.readings; tally = sym (ap (λ (x : Known). x.tally) q) j }))
 
 -- one lock of the others is given back, or none
-pub unlocked_on : (l x y z : Known) → x ≡ record l { locks = x.locks; readings = x.readings } → ReadsMore x y → z ≡ unlocking_last y → z ≡ record l { locks = z.locks; readings = z.readings }
+pub unlocked_on : (l x y z : Known) → x ≡ record l { locks = x.locks; readings = x.readings; tally = x.tally } → ReadsMore x y → z ≡ sighted (unlocking_last y) (lock_given (lock_of y)) → z ≡ record l { locks = z.locks; readings = z.readings; tally = z.tally }
 unlocked_on l x y z p q given =
-    given ∙ (ap (λ (u : Known). record u { locks = other_locks y }) q
-    ∙ (ap (λ (u : Known). record u { locks = other_locks y; readings = y.readings }) p
-    ∙ (λ j. record l { locks = sym (ap (λ (u : Known). u.locks) given) j; readings = sym (ap (λ (u : Known). u.readings) given) j })))
+    given ∙ (ap (λ (u : Known). record u { locks = other_locks y; tally = lock_given (lock_of y) ∷ y.tally }) q
+    ∙ (ap (λ (u : Known). record u { locks = other_locks y; readings = y.readings; tally = lock_given (lock_of y) ∷ y.tally }) p
+    ∙ (λ j. record l { locks = sym (ap (λ (u : Known). u.locks) given) j; readings = sym (ap (λ (u : Known). u.readings) given) j; tally = sym (ap (λ (u : Known). u.tally) given) j })))
 
-pub passed_on : (l x y : Known) → x ≡ record l { locks = x.locks; readings = x.readings } → ReadsMore x y → y ≡ record l { locks = y.locks; readings = y.readings }
-passed_on l x y p q = q ∙ (ap (λ (u : Known). record u { readings = y.readings }) p ∙ (λ j. record l { locks = sym (ap (λ (u : Known). u.locks) q) j; readings = y.readings }))
+pub passed_on : (l x y : Known) → x ≡ record l { locks = x.locks; readings = x.readings; tally = x.tally } → ReadsMore x y → y ≡ record l { locks = y.locks; readings = y.readings; tally = y.tally }
+passed_on l x y p q = q ∙ (ap (λ (u : Known). record u { readings = y.readings }) p ∙ (λ j. record l { locks = sym (ap (λ (u : Known). u.locks) q) j; readings = y.readings; tally = sym (ap (λ (u : Known). u.tally) q) j }))
+
+-- what the tally is once all are given back stays
+pub passed_gives : (x y : Known) → ReadsMore x y → given_back y.locks y.tally ≡ given_back x.locks x.tally
+passed_gives x y q = ap (λ (u : Known). given_back u.locks u.tally) q
+
+pub gives_on : (x y z : Known) → ReadsMore x y → y.locks ≡ lock_of y ∷ other_locks y → z ≡ sighted (unlocking_last y) (lock_given (lock_of y)) → given_back z.locks z.tally ≡ given_back x.locks x.tally
+gives_on x y z q last given = ap (λ (u : Known). given_back u.locks u.tally) given ∙ (ap (λ (ks : List Lock). given_back ks y.tally) (sym last) ∙ passed_gives x y q)
 
 -- ---- the lock taken last
 module _ (a : About) (l : Known) (m n : ℕ) (last : HasLastLock l m n) (c : Covers a m (n + 1) l.locks) where

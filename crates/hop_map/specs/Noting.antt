@@ -7,7 +7,7 @@ use Rattle.bpf_shared.specs.declared.events.MapAnswer.TheVariants.{Done, Busy}
 use Rattle.hop_layout.specs.declared.about.About.{About}
 use Rattle.hop_words.specs.declared.known.Known.{Known}
 use Rattle.hop_words.specs.declared.known.Sight.{Sight}
-use Rattle.hop_words.specs.Sights.{LeavesLocks, lock_taken, split_made}
+use Rattle.hop_words.specs.Sights.{sight, LeavesLocks, lock_taken, split_made}
 use Rattle.hop_layout.specs.Layout.{segments, power}
 use Rattle.hop_words.specs.Depths.{stamp_depth}
 use Rattle.hop_words.specs.Ghost.{shape_at, Each}
@@ -41,6 +41,18 @@ TakesLocks a m (suc n) sights =
     × (sights ≡ lock_taken m n stamp ∷ sooner) × TakesLocks a m n sooner)
     ⊎ (((shape_at a m).grow ≡ true) × TakesLocks a m n sights)
 
+-- these steps, and then each undone, the last made first: each finds the number that it had left, and
+-- leaves the number that it had found
+abbrev pub undone : List Sight → List Sight → List Sight
+undone [] sights = sights
+undone (s ∷ ss) sights = undone ss (sight s.place s.left s.found ∷ sights)
+
+-- the locks of all born segments of the map were taken, and then given back, the last first, each
+-- with the number that it was taken at. A version never goes down: so none changed meanwhile
+abbrev pub HoldsLocks : About → ℕ → List Sight → Type 0
+HoldsLocks a m sights = (taken : List Sight) × TakesLocks a m (segments (shape_at a m)) taken
+    × (sights ≡ undone taken taken)
+
 -- what a call with this event may note, the last first. An update with flags that are none of those
 -- known notes nothing, nor does a beginning, or an access to a value; an end takes no lock, a
 -- listing those of all segments of the map that are born
@@ -49,7 +61,7 @@ MayNote a (Lookup m key found) sights = IsSparing a m key sights
 MayNote a (Update m key bytes flags answer) sights =
     (flags ≤ 2 → IsUnderLock a m key answer sights) × (2 < flags → sights ≡ [])
 MayNote a (Delete m key answer) sights = IsUnderLock a m key answer sights
-MayNote a (Keys m ks) sights = TakesLocks a m (segments (shape_at a m)) sights
+MayNote a (Keys m ks) sights = HoldsLocks a m sights
 MayNote a End sights = Each LeavesLocks sights
 MayNote a event sights = sights ≡ []
 

@@ -1,10 +1,12 @@
-//! A map's keys, listed as one step: the segments are locked one behind the other and read, and
+//! A map's keys, listed as one step: the segments are locked one after the other and read, and
 //! where all are locked the first unlock is the listing.
 ghost use Rattle.std.specs.Prelude.{◌≡◌, ◌<◌, ◌≤◌, ◌+◌, ◌*◌, ◌++◌, ◌∷◌, [], length, take, IsTrue, IsFalse};
 ghost use Rattle.bpf_base.specs.Bytes.{low_bytes};
 ghost use Rattle.hop_words.specs.Ghost.{HasElement, IsSegment, shape_at};
 ghost use Rattle.hop_words.specs.Kinds.{MayLink};
+ghost use Rattle.hop_words.specs.Listing.{lock_given};
 ghost use Rattle.hop_words.specs.Locking.{lock_of, other_locks, unlocking_last, HasLastLock};
+ghost use Rattle.hop_words.specs.Sights.{sighted};
 ghost use Rattle.hop_layout.specs.Layout.{segments};
 ghost use Rattle.hop_words.specs.Rule.{image};
 ghost use Rattle.hop_map.specs.Private.Listing.{Gathers, Covers, NotesLock, LocksMore, ReadsMore, Adds, Listed, Opens, Part, StandsBelow};
@@ -123,8 +125,7 @@ fn list_segment<R: Wait>(
     ensures table { lane.new.table ≡ lane.old.table }
     ensures list { list.new.shape ≡ list.old.shape }
     ensures locks { LocksMore lane.old.known lane.new.known }
-    ensures noted { NotesLock table.now.about map segment lane.old.known.tally
-        lane.new.known.tally }
+    ensures noted { NotesLock table.now.about map segment lane.old.known lane.new.known }
     ensures gathers { Gathers table.now.about lane.new.known map (segment + 1) list.new.keys }
 {
     if lock_number(rt, table, lane, map, segment) {
@@ -167,18 +168,19 @@ fn find_last<R: Wait>(rt: &R, table: &HopTable, lane: &mut Lane, map: u8, count:
     unreachable!()
 }
 
-// Gives the lock back that was taken last.
+// Gives the lock back that was taken last, at the stamp that it was taken at.
 fn unlock_last(table: &HopTable, lane: &mut Lane, map: u8, segment: u32)
     requires table { lane.old.table ≡ table.now.id }
     requires inside { IsSegment table.now.about map segment }
     requires last { HasLastLock lane.old.known map segment }
     requires covers { Covers table.now.about map (segment + 1) lane.old.known.locks }
     ensures table { lane.new.table ≡ lane.old.table }
-    ensures given { lane.new.known ≡ unlocking_last lane.old.known }
+    ensures given { lane.new.known
+        ≡ sighted (unlocking_last lane.old.known) (lock_given (lock_of lane.old.known)) }
     ensures covers { Covers table.now.about map segment lane.new.known.locks }
 {
     let stamp = lane.read_locked_stamp(table, map, segment) - 1;
-    lane.unlock_silent(table, map, segment, stamp);
+    lane.unlock_listed(table, map, segment, stamp);
 }
 
 /// Lists the keys of a map in the order of their bytes. The CPU waits for the locks of the map's

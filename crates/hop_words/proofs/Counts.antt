@@ -13,14 +13,14 @@ use Rattle.bpf_shared.specs.Events.{Allowed}
 use Rattle.bpf_shared.specs.History.{entry}
 use Rattle.bpf_shared.proofs.Soundness.{as_made_sound, legal_sound}
 use Rattle.hop_layout.specs.declared.place.Place.{Place}
-use Rattle.hop_layout.specs.declared.place.Place.TheVariants.{KeyCount, Stamp, Head, Hop, Slot, Link, KeyWord}
+use Rattle.hop_layout.specs.declared.place.Place.TheVariants.{KeyCount, Stamp, Head, Hop, Slot}
 use Rattle.hop_layout.specs.declared.about.About.{About}
 use Rattle.hop_words.specs.declared.known.Known.{Known}
 use Rattle.hop_words.specs.declared.known.Lock.{Lock}
 use Rattle.hop_layout.specs.Layout.{mem, put_at}
-use Rattle.hop_words.specs.Content.{place_words, IsShare}
-use Rattle.hop_words.specs.Ghost.{lane, Ghost, shape_at, lock_home, IsHomeIn}
-use Rattle.hop_words.specs.Rule.{begun_in, Rule, Holds, changed, numbered, image, Minded}
+use Rattle.hop_words.specs.Content.{place_words}
+use Rattle.hop_words.specs.Ghost.{lane, Ghost, shape_at}
+use Rattle.hop_words.specs.Rule.{begun_in, Rule, Holds, changed, numbered, image}
 use Rattle.bpf_shared.specs.Own.{turns_of}
 use Rattle.hop_words.specs.Shortage.{HasCause}
 use Rattle.hop_words.specs.Private.Step.{Next, Steps}

@@ -2,6 +2,7 @@ pub mod Content
 pub mod Depths
 pub mod Ghost
 pub mod Shortage
+pub mod Laws
 pub mod Rule
 pub mod Sights
 pub mod Kinds

@@ -4,9 +4,10 @@ ghost use Rattle.bpf_shared.specs.declared.events.Event.TheVariants.{Update, Del
 ghost use Rattle.bpf_shared.specs.KeyOrder.{in_order};
 ghost use Rattle.hop_words.specs.Ghost.{IsSegment};
 ghost use Rattle.hop_words.specs.Rule.{owed};
-ghost use Rattle.hop_words.specs.Kinds.{Inserts, Inserted, Removes, Removed, Counts, Misflagged, Told, IsWritten, unlocking, AreElsewhere, AnsweredAll, Answers, Answered, LooksUpLocked, LookedUp, Replaces, Replaced, SawAllTaken};
+ghost use Rattle.hop_words.specs.Kinds.{Inserts, Inserted, Removes, Removed, Counts, Misflagged, Told, IsWritten, unlocking, AreElsewhere, Answers, Answered, LooksUpLocked, LookedUp, Replaces, Replaced, SawAllTaken};
 ghost use Rattle.hop_words.specs.Owning.{tail_of};
-ghost use Rattle.hop_words.specs.Listing.{ListsMap};
+ghost use Rattle.hop_words.specs.Listing.{AnswersGiving, ListsMap, lock_given};
+ghost use Rattle.hop_words.specs.Sights.{sighted};
 ghost use Rattle.hop_words.specs.Locking.{lock_of, other_locks, unlocking_last, hand, HasLock, HasLastLock, SeesRoom, SeesLack};
 
 use crate::lane::Lane;
@@ -162,6 +163,7 @@ impl Lane {
 
     /// Unlocks the segment that was locked last, where this CPU has the locks of all segments of a
     /// map and none changed, and with it the map's keys are listed: those of the list, in order.
+    /// The unlock is noted.
     pub fn unlock_keys(
         &mut self,
         table: &HopTable,
@@ -176,10 +178,26 @@ impl Lane {
         requires stamp { stamp ≡ (lock_of self.old.known).stamp }
         requires lists { ListsMap table.now.about self.old.known map list.now.keys }
         ensures table { self.new.table ≡ self.old.table }
-        ensures listed { AnsweredAll table.now.about self.old.known (other_locks self.old.known)
+        ensures listed { AnswersGiving table.now.about self.old.known
             (Keys map (in_order list.now.keys)) self.new.known }
     {
-        self.unlock_by::<Brand, _>(table, Place::Stamp { map, segment }, stamp, (map, list));
+        self.unlock_noted::<Brand, _>(table, Place::Stamp { map, segment }, stamp, (map, list));
+    }
+
+    /// Unlocks the segment that was locked last, where it didn't change: one of those that were
+    /// listed. The unlock is noted, and other locks stay.
+    pub fn unlock_listed(&mut self, table: &HopTable, map: u8, segment: u32, stamp: u64)
+        requires table { self.old.table ≡ table.now.id }
+        requires inside { IsSegment table.now.about map segment }
+        requires lock { HasLastLock self.old.known map segment }
+        requires elsewhere { AreElsewhere (lock_of self.old.known) (other_locks self.old.known) }
+        requires stamp { stamp ≡ (lock_of self.old.known).stamp }
+        requires clean { (lock_of self.old.known).dirty ≡ false }
+        ensures table { self.new.table ≡ self.old.table }
+        ensures unlocked { self.new.known ≡ sighted (unlocking_last self.old.known)
+            (lock_given (lock_of self.old.known)) }
+    {
+        self.unlock_noted::<Brand, _>(table, Place::Stamp { map, segment }, stamp, ());
     }
 
     /// Unlocks a segment that didn't change, and with it an update is answered.

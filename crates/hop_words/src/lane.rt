@@ -397,6 +397,30 @@ impl Lane {
             .compare_exchange::<Told<E>>(&mut self.seat, word, old, new)
     }
 
+    // The unlock of a segment that was listed.
+    #[inline(always)]
+    pub(crate) fn unlock_noted<E: Tell, T: Copy>(
+        &mut self,
+        table: &HopTable,
+        place: Place,
+        new: u64,
+        _said: T,
+    )
+        requires table { self.old.table ≡ table.now.id }
+        requires place { is_place table.now.about.shape place ≡ true }
+        requires unlocks { Unlocks self.old.known place new }
+        requires step { Notes table.now.about self.old.known place (λ _. new)
+            (λ ws n l. E.told new l) }
+        ensures table { self.new.table ≡ self.old.table }
+        ensures told { E.told new self.new.known }
+    {
+        let word = table.word_of(place);
+        table
+            .table
+            .shared
+            .store::<Told<E>>(&mut self.seat, word, new);
+    }
+
     // The unlock by which a segment is born.
     #[inline(always)]
     pub(crate) fn split_noted<E: Tell, T: Copy>(

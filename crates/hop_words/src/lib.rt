@@ -7,6 +7,7 @@ mod dealing;
 mod guarded;
 mod known;
 mod lane;
+pub mod laws;
 mod locking;
 mod making;
 mod owning;

@@ -15,8 +15,8 @@ use Rattle.hop_words.specs.Ghost.{IsHomeIn, shape_at, Each}
 use Rattle.hop_words.specs.Rule.{image}
 use Rattle.hop_words.specs.Kinds.{TakesEffect, IsShownIn, HasRoom, SaysDepth}
 use Rattle.hop_words.specs.Locking.{lock_of, HasLastLock}
-use Rattle.hop_words.specs.Listing.{ListsSegment}
-use Rattle.hop_map.specs.Noting.{CallNotes}
+use Rattle.hop_words.specs.Listing.{ListsSegment, lock_given}
+use Rattle.hop_map.specs.Noting.{TakesLocks, CallNotes}
 use Rattle.hop_map.specs.Private.LockedSegment.{spelled_key}
 use Rattle.hop_map.specs.Private.UnderLock.{LockShows}
 
@@ -43,10 +43,26 @@ pub record Gathers (a : About) (l : Known) (m n : ℕ) (keys : List (List ℕ)) 
   pub shown : AllByRecursion (IsShownIn a m l.locks) keys
   pub distinct : AreDistinct keys
 
+-- what was noted when these locks were taken, and what their tally is once they are given back
+abbrev pub taken_by : List Lock → List Sight
+taken_by [] = []
+taken_by (k ∷ ks) = lock_taken k.map k.segment k.stamp ∷ taken_by ks
+
+abbrev pub given_back : List Lock → List Sight → List Sight
+given_back [] sights = sights
+given_back (k ∷ ks) sights = given_back ks (lock_given k ∷ sights)
+
 -- the segment's lock was taken; or the map grows, and none was
-abbrev pub NotesLock : About → ℕ → ℕ → List Sight → List Sight → Type 0
-NotesLock a m s old new = ((n : ℕ) × (new ≡ lock_taken m s n ∷ old))
-    ⊎ (((shape_at a m).grow ≡ true) × (new ≡ old))
+abbrev pub NotesLock : About → ℕ → ℕ → Known → Known → Type 0
+NotesLock a m s l l' =
+    ((n : ℕ) × (l'.tally ≡ lock_taken m s n ∷ l.tally)
+    × (taken_by l'.locks ≡ lock_taken m s n ∷ taken_by l.locks))
+    ⊎ (((shape_at a m).grow ≡ true) × (l'.tally ≡ l.tally) × (l'.locks ≡ l.locks))
+
+-- since it had no lock the CPU noted that it took those that it has, of the born segments below n
+pub record NotesLocks (a : About) (l : Known) (m n : ℕ) (l' : Known) : Type 0 where
+  pub tally : l'.tally ≡ taken_by l'.locks ++ l.tally
+  pub takes : TakesLocks a m n (taken_by l'.locks)
 
 -- what the keys of the segment that was locked last are added to: keys of other segments, each
 -- once, with room for all that the locks show

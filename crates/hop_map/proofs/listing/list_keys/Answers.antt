@@ -1,17 +1,14 @@
-use Rattle.std.proofs.Common.{◌≡◌, ℕ, ◌+◌, ◌-◌, ◌++◌, List, [], ap, sym, subst, ◌∙◌, refl, arith}
+use Rattle.std.proofs.Common.{◌≡◌, ℕ, ◌+◌, ◌-◌, List, ◌∷◌, ap, sym, subst, ◌∙◌, refl, arith}
 use Rattle.bpf_shared.specs.KeyOrder.{in_order}
-use Rattle.bpf_shared.specs.declared.events.Event.TheVariants.{Keys}
 use Rattle.hop_layout.specs.Layout.{depth, segments}
 use Rattle.hop_words.specs.declared.known.Known.{Known}
 use Rattle.hop_words.specs.declared.known.Lock.{Lock}
-use Rattle.hop_words.specs.declared.known.Sight.{Sight}
 use Rattle.hop_words.specs.Ghost.{shape_at, Each}
-use Rattle.hop_words.specs.Locking.{other_locks, HasLastLock}
+use Rattle.hop_words.specs.Locking.{lock_of, other_locks, HasLastLock}
 use Rattle.hop_words.specs.Listing.{ListsSegment, ListsMap}
-use Rattle.hop_map.specs.Private.Listing.{Gathers, Covers, IsOwnedAmong, LocksMore, Listed}
-use Rattle.hop_map.specs.Noting.{TakesLocks, CallNotes}
+use Rattle.hop_map.specs.Private.Listing.{Gathers, Covers, IsOwnedAmong, NotesLocks, LocksMore, Listed}
 use Rattle.hop_map.proofs.Homes.{some_power}
-use Rattle.hop_map.proofs.Gathering.{takes_one, locked_on, locked_read, gathers_none, covers_others, covers_none, lists_map, listed_whole, unlocked_on, passed_on}
+use Rattle.hop_map.proofs.Gathering.{takes_one, notes_none, notes_read, locked_on, locked_read, gathers_none, covers_others, covers_none, lists_map, listed_whole, unlocked_on, passed_on, passed_gives, gives_on}
 use Rattle.hop_map.proofs.listing.list_keys.Goals as goal
 
 pub segments-init : goal.segments-init
@@ -19,7 +16,7 @@ segments-init g c = record {
   table = refl;
   list = c.clear.ensures.shape;
   locks = refl;
-  noted = ([], refl, refl);
+  noted = notes_none c.args.table.now.about c.args.lane.now.known c.args.map c.requires.idle;
   gathers = subst (Gathers c.args.table.now.about c.args.lane.now.known c.args.map 0) (sym c.clear.ensures.keys) (gathers_none c.args.table.now.about c.args.lane.now.known c.args.map c.requires.idle);
 }
 
@@ -32,7 +29,7 @@ segments-preserved g c =
       table = c.list_segment.ensures.table ∙ i.table;
       list = c.list_segment.ensures.list ∙ i.list;
       locks = locked_on c.args.lane.now.known before after i.locks c.list_segment.ensures.locks;
-      noted = takes_one c.args.table.now.about c.args.map c.segments.segment c.args.lane.now.known.tally before.tally after.tally i.noted c.list_segment.ensures.noted;
+      noted = takes_one c.args.table.now.about c.args.map c.segments.segment c.args.lane.now.known before after i.noted c.list_segment.ensures.noted;
       gathers = c.list_segment.ensures.gathers;
     }
 
@@ -97,12 +94,14 @@ others-init g c =
     let m = c.args.map in
     let q = c.find_last-last in
     let l1 = q.new.lane.known in
-    let locks : c.unlock_keys.new.self.known.locks ≡ other_locks l1 = ap (λ (x : Known). x.locks) c.unlock_keys.ensures.listed.after ∙ ap (λ (x : Known). other_locks x) c.read_locked_stamp-stamp.ensures.same in
+    let given = c.unlock_keys.ensures.listed in
+    let locks : c.unlock_keys.new.self.known.locks ≡ other_locks l1 = ap (λ (x : Known). x.locks) given.2 ∙ (ap (λ (x : Known). x.locks) given.1.after ∙ ap (λ (x : Known). other_locks x) c.read_locked_stamp-stamp.ensures.same) in
     let none : q.result - 0 ≡ q.result = omega arith in
     record {
       table = refl;
       covers = subst (λ (i : ℕ). Covers a m i c.unlock_keys.new.self.known.locks) (sym none) (subst (Covers a m q.result) (sym locks) (covers_others a l1 m q.result q.ensures.last q.ensures.covers));
       kept = refl;
+      gives = refl;
     }
 
 pub has_lock-requires-clause-inside : goal.has_lock-requires-clause-inside
@@ -144,6 +143,7 @@ others-preserved g c =
       table = c.unlock_last.ensures.table ∙ (c.has_lock.ensures.table ∙ i.table);
       covers = subst (λ (j : ℕ). Covers a m j c.unlock_last.new.lane.known.locks) e c.unlock_last.ensures.covers;
       kept = unlocked_on c.unlock_keys.new.self.known c.others.lane.known c.has_lock.new.lane.known c.unlock_last.new.lane.known i.kept c.has_lock.ensures.kept c.unlock_last.ensures.given;
+      gives = gives_on c.others.lane.known c.has_lock.new.lane.known c.unlock_last.new.lane.known c.has_lock.ensures.kept (c.if-not-has_lock.ensures.last refl).0 c.unlock_last.ensures.given ∙ i.gives;
     }
 
 pub others-preserved-then-not-has_lock : goal.others-preserved-then-not-has_lock
@@ -157,6 +157,7 @@ others-preserved-then-not-has_lock g c =
       table = c.has_lock.ensures.table ∙ i.table;
       covers = subst (λ (j : ℕ). Covers a m j c.has_lock.new.lane.known.locks) e (c.if-not-has_lock.ensures.none refl);
       kept = passed_on c.unlock_keys.new.self.known c.others.lane.known c.has_lock.new.lane.known i.kept c.has_lock.ensures.kept;
+      gives = passed_gives c.others.lane.known c.has_lock.new.lane.known c.has_lock.ensures.kept ∙ i.gives;
     }
 
 pub returns-clause-listed : goal.returns-clause-listed
@@ -182,7 +183,7 @@ returns-clause-listed g c =
     let locked : LocksMore l l2 = subst (LocksMore l) (sym same) (locked_read l l0 l1 c.segments.invariant.locks q.ensures.kept) in
     let none : q.result - c.others.left ≡ 0 = omega arith in
     let empty = covers_none a m l3.locks (subst (λ (i : ℕ). Covers a m i l3.locks) none c.others.invariant.covers) in
-    let before = subst (λ (i : ℕ). (sights : List Sight) × (l0.tally ≡ sights ++ l.tally) × TakesLocks a m i sights) (all ∙ is) c.segments.invariant.noted in
-    let noted : CallNotes a (Keys m (in_order c.segments.list.keys)) l l2 = (before.0, ap (λ (x : Known). x.tally) same ∙ (ap (λ (x : Known). x.tally) q.ensures.kept ∙ before.1), before.2) in
+    let noted = subst (λ (x : Known). NotesLocks a l m (segments (shape_at a m)) x) (sym same) (notes_read a l m (segments (shape_at a m)) l0 l1 (subst (λ (i : ℕ). NotesLocks a l m i l0) (all ∙ is) c.segments.invariant.noted) q.ensures.kept) in
+    let last = subst (λ (x : Known). x.locks ≡ lock_of x ∷ other_locks x) (sym same) q.ensures.last.0 in
     subst (λ (keys : List (List ℕ)). Listed a l m keys l3) (sym c.sort.ensures.keys)
-    (listed_whole a l l2 c.unlock_keys.new.self.known l3 m (in_order c.segments.list.keys) (other_locks l2) locked noted c.unlock_keys.ensures.listed c.others.invariant.kept (empty ∙ sym c.requires.idle))
+    (listed_whole a l l2 c.unlock_keys.new.self.known l3 m (in_order c.segments.list.keys) c.requires.idle locked noted last c.unlock_keys.ensures.listed c.others.invariant.kept c.others.invariant.gives empty)

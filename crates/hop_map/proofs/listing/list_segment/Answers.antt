@@ -1,6 +1,6 @@
 use Rattle.std.proofs.Common.{◌+◌, inl, ap, sym, subst, ◌∙◌}
 use Rattle.hop_words.specs.declared.known.Known.{Known}
-use Rattle.hop_map.specs.Private.Listing.{Gathers, LocksMore}
+use Rattle.hop_map.specs.Private.Listing.{taken_by, Gathers, LocksMore}
 use Rattle.hop_map.proofs.Gathering.{opened, gathered, passed_over, passed_notes, passed_more}
 use Rattle.hop_map.proofs.listing.list_segment.Goals as goal
 
@@ -17,7 +17,7 @@ returns-then-lock_number-clause-locks g c =
 pub returns-then-lock_number-clause-noted : goal.returns-then-lock_number-clause-noted
 returns-then-lock_number-clause-noted g c =
     let t = c.if-lock_number.ensures.ends in
-    inl (t.0, ap (λ (x : Known). x.tally) c.add_segment.ensures.known ∙ ap (λ (x : Known). x.tally) t.1.after)
+    inl (t.0, ap (λ (x : Known). x.tally) c.add_segment.ensures.known ∙ ap (λ (x : Known). x.tally) t.1.after, ap (λ (x : Known). taken_by x.locks) c.add_segment.ensures.known ∙ ap (λ (x : Known). taken_by x.locks) t.1.after)
 
 pub returns-then-lock_number-clause-gathers : goal.returns-then-lock_number-clause-gathers
 returns-then-lock_number-clause-gathers g c =
